@@ -1,0 +1,47 @@
+-- Faces of a rotation system, and the numbers of Euler's sum.
+-- Each edge e has two darts: 2e leaves its first end, 2e + 1 its second. A face is an orbit of the step: leave v by e,
+-- arrive at w, leave w by the edge that follows e round w.
+use Rattle.std.specs.Prelude.{◌≡◌, ℕ, ◌+◌, ◌*◌, ◌/◌, ◌%◌, Bool, not, ◌==◌, if◌then◌else◌, List, length}
+use Rattle.permutations.specs.Count.{count, some}
+use Rattle.permutations.specs.Relation.{connected, class_count}
+use Rattle.permutations.specs.Permutation.{reaches}
+use Rattle.multigraph.specs.Graph.{Multigraph, edge_count, ends_of, other_end, incident_edges}
+use Rattle.permutations.specs.Cyclic.{successor}
+use Rattle.rotations.specs.Rotation.{order_at}
+
+-- the vertex that a dart leaves
+abbrev pub tail : Multigraph → ℕ → ℕ
+tail g d = (if d % 2 == 0 then (ends_of g (d / 2)).0 else (ends_of g (d / 2)).1)
+
+-- the dart of edge e that leaves v, one of its ends
+abbrev pub dart_from : Multigraph → ℕ → ℕ → ℕ
+dart_from g v e = (if (ends_of g e).0 == v then 2 * e else 2 * e + 1)
+
+-- the step along a face: arrive at the other end of the dart's edge, and leave it by the edge that follows there
+abbrev pub face_step : Multigraph → List (List ℕ) → ℕ → ℕ
+face_step g r d =
+    let w = other_end g (d / 2) (tail g d) in dart_from g w (successor (order_at r w) (d / 2))
+
+-- how many darts there are
+abbrev pub dart_count : Multigraph → ℕ
+dart_count g = 2 * edge_count g
+
+-- a dart begins its face: no smaller dart is in its orbit
+abbrev pub begins_face : Multigraph → List (List ℕ) → ℕ → Bool
+begins_face g r d = not (some d (λ c. reaches (dart_count g) (face_step g r) d c))
+
+-- whether v has no edge
+abbrev pub is_isolated : Multigraph → ℕ → Bool
+is_isolated g v = length (incident_edges g v) == 0
+
+-- the number of faces: an isolated vertex counts one
+abbrev pub face_count : Multigraph → List (List ℕ) → ℕ
+face_count g r = count (dart_count g) (begins_face g r) + count g.vertex_count (is_isolated g)
+
+-- the number of components: the classes of vertices that edges connect
+abbrev pub component_count : Multigraph → ℕ
+component_count g = class_count g.vertex_count (connected g.ends)
+
+-- a rotation system is plane where V + F = E + 2C
+abbrev pub IsPlane : Multigraph → List (List ℕ) → Type 0
+IsPlane g r = g.vertex_count + face_count g r ≡ edge_count g + 2 * component_count g

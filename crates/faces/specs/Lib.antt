@@ -1,0 +1,2 @@
+-- Faces of a rotation system, and Euler's sum.
+pub mod Euler

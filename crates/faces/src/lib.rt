@@ -1,0 +1,2 @@
+// Faces of rotation systems and Euler's sum.
+#![tactic(auto)]

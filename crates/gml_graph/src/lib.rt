@@ -1,0 +1,2 @@
+// The graph of a GML document.
+#![tactic(auto)]

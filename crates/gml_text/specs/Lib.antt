@@ -1,0 +1,2 @@
+-- GML documents and the bytes that spell them.
+pub mod Document

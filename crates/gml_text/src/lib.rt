@@ -1,0 +1,2 @@
+// GML, read and written.
+#![tactic(auto)]

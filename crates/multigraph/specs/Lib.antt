@@ -1,0 +1,2 @@
+-- Multigraphs: their vertices, edges and ends.
+pub mod Graph

@@ -1,0 +1,2 @@
+// Multigraphs without loops.
+#![tactic(auto)]

@@ -1,0 +1,29 @@
+-- Lists without repetition, read as cyclic orders: the first member follows the last.
+use Rattle.std.specs.Prelude.{ℕ, ◌==◌, if◌then◌else◌, List, [], ◌∷◌, ◌++◌, reverse}
+
+-- the first member of a list, or x where it is empty
+abbrev pub first_or : ℕ → List ℕ → ℕ
+first_or x [] = x
+first_or x (y ∷ ys) = y
+
+-- the member that follows x in the list, and `start` after the last one
+abbrev pub successor_from : ℕ → List ℕ → ℕ → ℕ
+successor_from start [] x = x
+successor_from start (y ∷ ys) x = (if y == x then first_or start ys else successor_from start ys x)
+
+-- the member that follows x in the cyclic order
+abbrev pub successor : List ℕ → ℕ → ℕ
+successor l x = successor_from (first_or x l) l x
+
+-- the member that x follows in the cyclic order
+abbrev pub predecessor : List ℕ → ℕ → ℕ
+predecessor l x = successor (reverse l) x
+
+-- the members from y on, then those before y, which are the ones passed so far and more
+abbrev pub turned_past : List ℕ → List ℕ → ℕ → List ℕ
+turned_past passed [] y = passed
+turned_past passed (x ∷ xs) y = (if x == y then (x ∷ xs) ++ passed else turned_past (passed ++ x ∷ []) xs y)
+
+-- the same cyclic order, written from y on
+abbrev pub turned : List ℕ → ℕ → List ℕ
+turned l y = turned_past [] l y

@@ -1,0 +1,5 @@
+-- Counting, relations and permutations of the numbers below a bound.
+pub mod Count
+pub mod Relation
+pub mod Permutation
+pub mod Cyclic

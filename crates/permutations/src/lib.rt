@@ -1,0 +1,2 @@
+// Counting, equivalences by links, permutations and their orbits: theory without code that runs.
+#![tactic(auto)]

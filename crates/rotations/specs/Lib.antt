@@ -1,0 +1,2 @@
+-- Rotation systems: a cyclic order of the edges at each vertex.
+pub mod Rotation

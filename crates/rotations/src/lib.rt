@@ -1,0 +1,2 @@
+// Rotation systems of multigraphs.
+#![tactic(auto)]

@@ -1,0 +1,2 @@
+// The script, and the texts that the program prints.
+#![tactic(auto)]
