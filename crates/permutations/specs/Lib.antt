@@ -3,3 +3,4 @@ pub mod Count
 pub mod Relation
 pub mod Permutation
 pub mod Cyclic
+pub mod Members
