@@ -1,0 +1,150 @@
+// Documents: pairs of a key and a value, which may be pairs again.
+
+ghost use Rattle.std.specs.Prelude.{◌≡◌};
+ghost use Rattle.gml_text.specs.Pairs.{document_of};
+ghost use Rattle.gml_text.specs.declared.document.GmlFault.TheVariants.{Memory};
+
+use std::alloc::{AllocError, AllocFailed};
+use std::marker::Model;
+
+/// A list of bytes. Contracts see the list.
+#[derive(Drop)]
+pub struct Bytes {
+    held: Vec<u8>,
+}
+
+impl Model for Bytes {
+    ghost use Rattle.std.specs.Prelude.{ℕ, List};
+
+    ghost Value = { List ℕ };
+
+    ghost view = { λ b. b.held.items };
+}
+
+impl Bytes {
+    /// The bytes of a vector.
+    pub fn of(held: Vec<u8>) -> Bytes
+        ensures { result ≡ held.items }
+    {
+        Bytes { held }
+    }
+
+    /// The bytes, in order.
+    pub fn as_slice(&self) -> &[u8]
+        ensures { result.now ≡ self.now }
+    {
+        self.held.as_slice()
+    }
+}
+
+/// A key and its value.
+#[cycle(document)]
+#[derive(Drop)]
+pub struct Pair {
+    pub key: Bytes,
+    pub value: Value,
+}
+
+/// A number as it is written, the bytes between the quotes of a string, or the pairs of a list.
+#[cycle(document)]
+#[derive(Drop)]
+pub enum Value {
+    Num(Bytes),
+    Str(Bytes),
+    List(Pairs),
+}
+
+/// Pairs in order. Contracts see the document that they are.
+#[cycle(document)]
+#[derive(Drop)]
+pub struct Pairs {
+    held: Vec<Pair>,
+}
+
+impl Model for Pairs {
+    ghost use Rattle.gml_text.specs.Document.{Document, pair_count};
+    ghost use Rattle.gml_text.specs.Code.{document_code};
+
+    ghost Value = { Document };
+
+    ghost coded = { document_code };
+
+    ghost use Rattle.gml_text.specs.Pairs.{document_of};
+
+    ghost view = { λ p. document_of p.held.items };
+
+    ghost size = { pair_count };
+
+    ghost use Rattle.std.proofs.Common.{arith};
+    ghost use Rattle.gml_text.specs.Smaller.{most_deep-le};
+
+    ghost size_decreases = { λ p h. omega (arith, most_deep-le p.held.items) };
+}
+
+impl Pairs {
+    /// The pairs of a vector.
+    pub fn of(held: Vec<Pair>) -> Pairs
+        ensures { result ≡ document_of held.items }
+    {
+        Pairs { held }
+    }
+
+    /// The pairs, in order.
+    pub fn as_slice(&self) -> &[Pair]
+        ensures { document_of result.now ≡ self.now }
+    {
+        self.held.as_slice()
+    }
+}
+
+/// A document: pairs, nested at most 32 lists deep.
+#[derive(Drop)]
+pub struct Doc {
+    top: Pairs,
+}
+
+impl Model for Doc {
+    ghost use Rattle.gml_text.specs.Document.{Document, IsWithinDepth};
+    ghost use Rattle.gml_text.specs.Code.{document_code};
+
+    ghost Value = { Document };
+
+    ghost coded = { document_code };
+
+    ghost view = { λ d. d.top };
+
+    ghost invariant = { λ d. IsWithinDepth d.top };
+}
+
+impl Doc {
+    /// The pairs of the document itself, in order.
+    pub fn pairs(&self) -> &[Pair]
+        ensures { document_of result.now ≡ self.now }
+    {
+        self.top.as_slice()
+    }
+}
+
+/// Why bytes are no document: at a byte, at their end, or because memory ran out.
+#[derive(Clone, Copy, Debug, PartialEq, Eq)]
+pub enum GmlFault {
+    Bad(usize),
+    End(usize),
+    Memory,
+}
+
+impl From<AllocError> for GmlFault {
+    ghost from_gives = { λ _ e. e ≡ Memory };
+
+    fn from(_error: AllocError) -> GmlFault {
+        GmlFault::Memory
+    }
+}
+
+impl<T: Drop> From<AllocFailed<T>> for GmlFault {
+    ghost from_gives = { λ _ e. e ≡ Memory };
+
+    fn from(_error: AllocFailed<T>) -> GmlFault {
+        GmlFault::Memory
+    }
+}
