@@ -1,2 +1,5 @@
 -- The graph of a GML document.
 pub mod Named
+pub mod Number
+pub mod Lists
+pub mod Answer

@@ -1,2 +1,7 @@
 // The graph of a GML document.
 #![tactic(auto)]
+
+mod fault;
+mod reading;
+
+pub use fault::GraphFault;

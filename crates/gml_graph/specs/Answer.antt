@@ -1,0 +1,103 @@
+-- The graph of a document, or the first refusal.
+use Rattle.std.specs.Prelude.{◌≡◌, ℕ, zero, suc, ℤ, Bool, false, nat_lt, ◌==◌, if◌then◌else◌, List, [], ◌∷◌, ◌++◌, length, take, position, slice_index_or, Option, Some, None, Result, Ok, Err, codes}
+use Rattle.std.specs.Ordering.{int_eq}
+use Rattle.std.specs.List.{list_any}
+use Rattle.multigraph.specs.Graph.{Multigraph, max_vertices, max_edges}
+use Rattle.gml_text.specs.Document.{Document, empty}
+use Rattle.gml_graph.specs.Named.{NamedGraph}
+use Rattle.gml_graph.specs.Lists.{lists_under, first_under}
+use Rattle.gml_graph.specs.declared.reading.Reading.{Reading}
+use Rattle.gml_graph.specs.declared.reading.Reading.TheVariants.{Missing, NotWhole, Whole}
+use Rattle.gml_graph.specs.declared.fault.GraphFault.{GraphFault}
+use Rattle.gml_graph.specs.declared.fault.GraphFault.TheVariants.{NoGraph, MoreGraphs, TooManyVertices, TooManyEdges, NodeNoId, NodeBadId, SameId, EdgeNoEnd, EdgeBadEnd, UnknownEnd, Loop, Memory}
+
+-- some values and one more, or the first refusal among them
+abbrev pub and_one_more : {A : Type 0} → Result (List A) GraphFault → Result A GraphFault → Result (List A) GraphFault
+and_one_more (Err e) r = Err e
+and_one_more (Ok xs) (Err e) = Err e
+and_one_more (Ok xs) (Ok x) = Ok (xs ++ x ∷ [])
+
+-- the values at 0, 1, .., n - 1, or the first refusal among them
+abbrev pub each_below : {A : Type 0} → ℕ → (ℕ → Result A GraphFault) → Result (List A) GraphFault
+each_below zero f = Ok []
+each_below (suc n) f = and_one_more (each_below n f) (f n)
+
+-- whether a node's list says this id
+abbrev pub says_id : ℤ → Reading → Bool
+says_id id Missing = false
+says_id id NotWhole = false
+says_id id (Whole z) = int_eq id z
+
+-- the id that node k has by what its list says, after the lists of the earlier nodes
+abbrev pub id_after : List Document → ℕ → Reading → Result ℤ GraphFault
+id_after earlier k Missing = Err (NodeNoId k)
+id_after earlier k NotWhole = Err (NodeBadId k)
+id_after earlier k (Whole id) = (if list_any (λ node. says_id id (first_under (codes "id") node)) earlier then Err (SameId k) else Ok id)
+
+-- the id of node k
+abbrev pub node_id : List Document → ℕ → Result ℤ GraphFault
+node_id nodes k = id_after (take k nodes) k (first_under (codes "id") (slice_index_or nodes k empty))
+
+-- the ids of the nodes
+abbrev pub node_ids : List Document → Result (List ℤ) GraphFault
+node_ids nodes = each_below (length nodes) (node_id nodes)
+
+-- the ends of edge k, where its source and its target are nodes, and not the same one
+abbrev pub ends_between : ℕ → Option ℕ → Option ℕ → Result (ℕ × ℕ) GraphFault
+ends_between k None target = Err (UnknownEnd k)
+ends_between k (Some v) None = Err (UnknownEnd k)
+ends_between k (Some v) (Some w) = (if v == w then Err (Loop k) else Ok (v, w))
+
+-- the ends that edge k has by what its list says of its source and its target
+abbrev pub ends_among : List ℤ → ℕ → Reading → Reading → Result (ℕ × ℕ) GraphFault
+ends_among ids k Missing target = Err (EdgeNoEnd k)
+ends_among ids k NotWhole Missing = Err (EdgeNoEnd k)
+ends_among ids k (Whole s) Missing = Err (EdgeNoEnd k)
+ends_among ids k NotWhole NotWhole = Err (EdgeBadEnd k)
+ends_among ids k NotWhole (Whole t) = Err (EdgeBadEnd k)
+ends_among ids k (Whole s) NotWhole = Err (EdgeBadEnd k)
+ends_among ids k (Whole s) (Whole t) = ends_between k (position (int_eq s) ids) (position (int_eq t) ids)
+
+-- the ends of an edge with this list
+abbrev pub ends_by : List ℤ → ℕ → Document → Result (ℕ × ℕ) GraphFault
+ends_by ids k edge = ends_among ids k (first_under (codes "source") edge) (first_under (codes "target") edge)
+
+-- the ends of the edges, as vertices
+abbrev pub edge_ends : List ℤ → List Document → Result (List (ℕ × ℕ)) GraphFault
+edge_ends ids edges = each_below (length edges) (λ k. ends_by ids k (slice_index_or edges k empty))
+
+-- the graph whose vertices have these ids and whose edges have these ends
+abbrev pub with_ends : List ℤ → Result (List (ℕ × ℕ)) GraphFault → Result NamedGraph GraphFault
+with_ends ids (Err e) = Err e
+with_ends ids (Ok ends) = Ok (record { graph = record { vertex_count = length ids; ends = ends }; ids = ids })
+
+abbrev pub with_ids : List Document → Result (List ℤ) GraphFault → Result NamedGraph GraphFault
+with_ids edges (Err e) = Err e
+with_ids edges (Ok ids) = with_ends ids (edge_ends ids edges)
+
+-- the graph of these nodes and edges
+abbrev pub graph_between : List Document → List Document → Result NamedGraph GraphFault
+graph_between nodes edges =
+    (if nat_lt max_vertices (length nodes) then Err (TooManyVertices (length nodes))
+    else if nat_lt max_edges (length edges) then Err (TooManyEdges (length edges))
+    else with_ids edges (node_ids nodes))
+
+-- the graph of a graph list
+abbrev pub graph_in : Document → Result NamedGraph GraphFault
+graph_in g = graph_between (lists_under (codes "node") g) (lists_under (codes "edge") g)
+
+-- the graph of the one graph list
+abbrev pub graph_among : List Document → Result NamedGraph GraphFault
+graph_among [] = Err NoGraph
+graph_among (g ∷ []) = graph_in g
+graph_among (g ∷ (h ∷ gs)) = Err MoreGraphs
+
+-- the graph of a document, or the first refusal
+abbrev pub graph_of_document : Document → Result NamedGraph GraphFault
+graph_of_document d = graph_among (lists_under (codes "graph") d)
+
+-- a result is the answer that is due, or want of memory
+abbrev pub Answers : {A B : Type 0} → (A → B) → Result A GraphFault → Result B GraphFault → Type 0
+Answers view (Ok x) due = due ≡ Ok (view x)
+Answers view (Err Memory) due = Unit {0}
+Answers view (Err e) due = due ≡ Err e
