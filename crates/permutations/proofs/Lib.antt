@@ -3,3 +3,4 @@ pub mod Count
 pub mod Search
 pub mod Injection
 pub mod Relation
+pub mod Members
