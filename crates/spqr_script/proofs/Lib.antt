@@ -1,0 +1,2 @@
+-- The texts and commands, worked out on small inputs; what reading needs to know of lists.
+mod TextExamples

@@ -1,0 +1,66 @@
+-- Printed texts, worked out on small numbers.
+use Rattle.std.proofs.Common.{◌≡◌, List, ℕ, [], ◌∷◌, pos, negsuc, true, false, codes, refl}
+use Rattle.std.specs.Fmt.{digits}
+use Rattle.spqr_script.specs.Head.{graph_text, vertex_text, cut_text, block_text}
+use Rattle.spqr_script.specs.Answer.{euler_text, list_text, document_text, error_text}
+use Rattle.spqr_script.specs.Refusal.{read_text, long_text, script_text}
+use Rattle.spqr_script.specs.declared.refusals.Which.TheVariants.{GraphFile, ScriptFile}
+
+k4 : graph_text 4 6 ≡ codes "graph 4 6\n"
+unfolding digits
+k4 = refl
+
+first_vertex : vertex_text 0 (pos 7) ≡ codes "vertex 0 7\n"
+unfolding digits
+first_vertex = refl
+
+negative_id : vertex_text 1 (negsuc 1) ≡ codes "vertex 1 -2\n"
+unfolding digits
+negative_id = refl
+
+triangle : block_text 1 (3 ∷ 4 ∷ 10 ∷ []) ≡ codes "block 1: 3 4 10\n"
+unfolding digits
+triangle = refl
+
+-- no space at the end of the line
+no_edge : block_text 1 [] ≡ codes "block 1:\n"
+unfolding digits
+no_edge = refl
+
+cut_vertex : cut_text 12 ≡ codes "cut 12\n"
+unfolding digits
+cut_vertex = refl
+
+plane_triangles : euler_text (record { v = 7; e = 7; f = 4; c = 2; plane = true }) ≡ codes "euler 7 7 4 2 plane\n"
+unfolding digits
+plane_triangles = refl
+
+crossed_triangles : euler_text (record { v = 7; e = 7; f = 2; c = 2; plane = false }) ≡ codes "euler 7 7 2 2 not-plane\n"
+unfolding digits
+crossed_triangles = refl
+
+wrong_genus : error_text 7 (4 ∷ 6 ∷ 2 ∷ []) ≡ codes "error 7 4 6 2\n"
+unfolding digits
+wrong_genus = refl
+
+nothing_to_undo : error_text 8 [] ≡ codes "error 8\n"
+unfolding digits
+nothing_to_undo = refl
+
+small_document : document_text (codes "a 1\n") ≡ codes "gml 4\na 1\n"
+unfolding digits
+small_document = refl
+
+empty_document : document_text [] ≡ codes "gml 0\n"
+unfolding digits
+empty_document = refl
+
+unread_graph : read_text GraphFile ≡ codes "refused read graph\n"
+unread_graph = refl
+
+long_script : long_text ScriptFile ≡ codes "refused long script\n"
+long_script = refl
+
+second_line : script_text 2 ≡ codes "refused script line 2\n"
+unfolding digits
+second_line = refl

@@ -1,0 +1,5 @@
+-- The script, and the texts that the program prints.
+pub mod Text
+pub mod Head
+pub mod Answer
+pub mod Refusal

@@ -1,0 +1,60 @@
+// The lines of the head.
+ghost use Rattle.std.specs.Prelude.{◌≡◌, ◌++◌, IfOk, OnOk};
+ghost use Rattle.spqr_script.specs.Head.{graph_text, vertex_text, cut_text, block_text};
+
+use crate::text::{push_id, push_number, push_spaced, push_word};
+use std::alloc::{AllocError, Global};
+
+/// The line `graph N M`: how many vertices and edges the graph has.
+pub fn graph_line(alloc: Global, n: u32, m: u32) -> Result<Vec<u8>, AllocError>
+    ensures { IfOk result (λ text. text.items ≡ graph_text n m) }
+{
+    let mut out = Vec::from_slice(alloc, b"graph ")?;
+    push_number(&mut out, u128::from(n))?;
+    push_word(&mut out, b" ")?;
+    push_number(&mut out, u128::from(m))?;
+    push_word(&mut out, b"\n")?;
+    Ok(out)
+}
+
+/// The line `vertex V ID`: a vertex and its id in the file.
+pub fn vertex_line(alloc: Global, v: u32, id: i64) -> Result<Vec<u8>, AllocError>
+    ensures { IfOk result (λ text. text.items ≡ vertex_text v id) }
+{
+    let mut out = Vec::new(alloc);
+    push_vertex_line(&mut out, v, id)?;
+    Ok(out)
+}
+
+/// Puts the line `vertex V ID` behind a text. After want of memory the text may end in a part of the line.
+pub fn push_vertex_line(out: &mut Vec<u8>, v: u32, id: i64) -> Result<(), AllocError>
+    ensures { OnOk result (out.new.items ≡ out.old.items ++ vertex_text v id) }
+{
+    push_word(out, b"vertex ")?;
+    push_number(out, u128::from(v))?;
+    push_word(out, b" ")?;
+    push_id(out, id)?;
+    push_word(out, b"\n")
+}
+
+/// The line `cut V`: a cut vertex.
+pub fn cut_line(alloc: Global, v: u32) -> Result<Vec<u8>, AllocError>
+    ensures { IfOk result (λ text. text.items ≡ cut_text v) }
+{
+    let mut out = Vec::from_slice(alloc, b"cut ")?;
+    push_number(&mut out, u128::from(v))?;
+    push_word(&mut out, b"\n")?;
+    Ok(out)
+}
+
+/// The line `block B: E E ..`: a block and its edges, in the order given.
+pub fn block_line(alloc: Global, b: u32, edges: &[u32]) -> Result<Vec<u8>, AllocError>
+    ensures { IfOk result (λ text. text.items ≡ block_text b edges.now) }
+{
+    let mut out = Vec::from_slice(alloc, b"block ")?;
+    push_number(&mut out, u128::from(b))?;
+    push_word(&mut out, b":")?;
+    push_spaced(&mut out, edges)?;
+    push_word(&mut out, b"\n")?;
+    Ok(out)
+}
