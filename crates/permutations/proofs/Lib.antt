@@ -4,3 +4,7 @@ pub mod Search
 pub mod Injection
 pub mod Relation
 pub mod Members
+pub mod Leaders
+pub mod Classes
+pub mod Sums
+pub mod ClassSizes

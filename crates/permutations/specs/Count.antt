@@ -15,3 +15,8 @@ some (suc n) p = some n p || p n
 abbrev pub least : ℕ → (ℕ → Bool) → ℕ
 least zero p = 0
 least (suc n) p = cond (some n p) (least n p) (cond (p n) n (n + 1))
+
+-- the sum of f over the numbers below n
+abbrev pub sum_below : ℕ → (ℕ → ℕ) → ℕ
+sum_below zero f = 0
+sum_below (suc n) f = sum_below n f + f n
