@@ -1,2 +1,4 @@
 -- Multigraphs: their vertices, edges and ends.
 pub mod Graph
+pub mod Build
+pub mod Incidence

@@ -1,2 +1,19 @@
 // Multigraphs without loops.
+//
+// A multigraph has vertices 0..n-1 and edges 0..m-1. Each edge has a first and a second end, two different vertices, and
+// several edges may have the same ends. A `Graph` is such a multigraph with the list of the edges at each vertex, rising, so
+// that the edges at a vertex are read without a look at the others. Contracts see a graph as its number of vertices and the
+// ends of its edges; that the ends are vertices, that no edge is a loop and that the graph is within the limits holds of every
+// `Graph`.
+//
+// `Numbers` and `NumberLists` are lists that contracts see as lists.
 #![tactic(auto)]
+
+mod faults;
+mod incidence;
+mod lists;
+mod structure;
+
+pub use faults::BuildFault;
+pub use lists::{NumberLists, Numbers};
+pub use structure::Graph;

@@ -1,0 +1,5 @@
+-- Lemmas on multigraphs.
+pub mod Below
+pub mod Incident
+pub mod OtherEnd
+mod Collecting

@@ -1,0 +1,127 @@
+// A multigraph with the edges at each vertex.
+
+ghost use Rattle.std.specs.Prelude.{◌≡◌, ◌<◌, length, IsTrue, IfOk, IfErr};
+ghost use Rattle.multigraph.specs.Graph.{Multigraph, edge_count, ends_of, is_end, incident_edges, other_end, IsGraph};
+ghost use Rattle.multigraph.specs.Build.{multigraph_of, IsFirstFault};
+
+use crate::faults::{BuildFault, check_ends};
+use crate::incidence::incident_lists;
+use crate::lists::Numbers;
+use std::alloc::Global;
+use std::marker::Model;
+
+const MAX_VERTICES: u32 = 20_000;
+
+const MAX_EDGES: usize = 50_000;
+
+/// A multigraph without loops, of at most 20,000 vertices and 50,000 edges.
+#[derive(Debug, Drop)]
+pub struct Graph {
+    vertices: u32,
+    ends: Vec<(u32, u32)>,
+    incident: Vec<Numbers>,
+}
+
+impl Model for Graph {
+    ghost use Rattle.multigraph.specs.Graph.{Multigraph, IsGraph};
+    ghost use Rattle.multigraph.specs.Build.{multigraph_of};
+    ghost use Rattle.multigraph.specs.Incidence.{ListsEdges};
+
+    ghost Value = { Multigraph };
+
+    ghost view = { λ g. multigraph_of g.vertices g.ends.items };
+
+    ghost invariant = { λ g. IsGraph (multigraph_of g.vertices g.ends.items) × ListsEdges (multigraph_of g.vertices g.ends.items) g.incident.items };
+}
+
+impl Graph {
+    /// The multigraph of `n` vertices whose edge e has the ends `ends[e]`.
+    ///
+    /// Refuses with the first fault in this order: more than 20,000 vertices, more than 50,000 edges, then the least edge
+    /// that has an end that is no vertex or whose ends are the same, the first of these two where both hold.
+    pub fn build(alloc: Global, n: u32, ends: &[(u32, u32)]) -> Result<Graph, BuildFault>
+        ensures built { IfOk result (λ g. g ≡ multigraph_of n ends.now) }
+        ensures graph { IfOk result IsGraph }
+        ensures refused { IfErr result (λ fault. IsFirstFault (multigraph_of n ends.now) fault) }
+    {
+        if n > MAX_VERTICES {
+            return Err(BuildFault::TooManyVertices(n));
+        }
+        if ends.len() > MAX_EDGES {
+            return Err(BuildFault::TooManyEdges(ends.len()));
+        }
+        check_ends(n, ends)?;
+        Graph::assemble(alloc, n, ends)
+    }
+
+    // The graph of ends that are known to be sound.
+    fn assemble(alloc: Global, n: u32, ends: &[(u32, u32)]) -> Result<Graph, BuildFault>
+        requires { IsGraph (multigraph_of n ends.now) }
+        ensures built { IfOk result (λ g. g ≡ multigraph_of n ends.now) }
+        ensures refused { IfErr result (λ fault. fault ≡ BuildFault.Memory) }
+    {
+        let Ok(incident) = incident_lists(alloc, n, ends) else {
+            return Err(BuildFault::Memory);
+        };
+        let Ok(ends) = Vec::from_slice(alloc, ends) else {
+            return Err(BuildFault::Memory);
+        };
+        Ok(Graph {
+            vertices: n,
+            ends,
+            incident,
+        })
+    }
+
+    /// The number of vertices.
+    pub fn vertex_count(&self) -> u32
+        ensures value { result ≡ self.now.vertex_count }
+        ensures graph { IsGraph self.now }
+    {
+        self.vertices
+    }
+
+    /// The number of edges.
+    pub fn edge_count(&self) -> u32
+        ensures value { result ≡ edge_count self.now }
+        ensures graph { IsGraph self.now }
+    {
+        self.ends.len() as u32
+    }
+
+    /// The first and the second end of edge `e`.
+    pub fn ends(&self, e: u32) -> (u32, u32)
+        requires { e < edge_count self.now }
+        ensures value { result ≡ ends_of self.now e }
+        ensures graph { IsGraph self.now }
+    {
+        self.ends[e as usize]
+    }
+
+    /// The number of edges at vertex `v`.
+    pub fn degree(&self, v: u32) -> u32
+        requires { v < self.now.vertex_count }
+        ensures { result ≡ length (incident_edges self.now v) }
+    {
+        self.incident(v).len() as u32
+    }
+
+    /// The edges at vertex `v`, rising.
+    pub fn incident(&self, v: u32) -> &[u32]
+        requires { v < self.now.vertex_count }
+        ensures value { result.now ≡ incident_edges self.now v }
+        ensures graph { IsGraph self.now }
+    {
+        self.incident[v as usize].as_slice()
+    }
+
+    /// The end of edge `e` that is not `v`, one of its ends.
+    pub fn other_end(&self, e: u32, v: u32) -> u32
+        requires edge { e < edge_count self.now }
+        requires end { IsTrue (is_end self.now v e) }
+        ensures { result ≡ other_end self.now e v }
+    {
+        let (first, second) = self.ends[e as usize];
+        if first == v { second } else { first }
+    }
+}
