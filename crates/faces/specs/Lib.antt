@@ -1,2 +1,3 @@
 -- Faces of a rotation system, and Euler's sum.
 pub mod Euler
+pub mod Marks

@@ -7,5 +7,6 @@
 #![tactic(auto)]
 
 mod numbers;
+mod orbits;
 
 pub use numbers::Euler;
