@@ -8,3 +8,5 @@ pub mod Leaders
 pub mod Classes
 pub mod Sums
 pub mod ClassSizes
+pub mod Successor
+pub mod Turned

@@ -1,5 +1,5 @@
 -- Lists without repetition, read as cyclic orders: the first member follows the last.
-use Rattle.std.specs.Prelude.{ℕ, ◌==◌, if◌then◌else◌, List, [], ◌∷◌, ◌++◌, reverse}
+use Rattle.std.specs.Prelude.{◌≡◌, ℕ, min, ◌==◌, if◌then◌else◌, List, [], ◌∷◌, ◌++◌, reverse}
 
 -- the first member of a list, or x where it is empty
 abbrev pub first_or : ℕ → List ℕ → ℕ
@@ -27,3 +27,23 @@ turned_past passed (x ∷ xs) y = (if x == y then (x ∷ xs) ++ passed else turn
 -- the same cyclic order, written from y on
 abbrev pub turned : List ℕ → ℕ → List ℕ
 turned l y = turned_past [] l y
+
+-- one list is the other written from another member on: the same cyclic order
+pub record IsTurn {X : Type 0} (l k : List X) : Type 0 where
+  pub front : List X
+  pub back : List X
+  pub before : l ≡ front ++ back
+  pub after : k ≡ back ++ front
+
+-- the last member of a list, or x where it is empty
+abbrev pub last_or : ℕ → List ℕ → ℕ
+last_or x l = first_or x (reverse l)
+
+-- the least of x and the members of a list
+abbrev pub least_or : ℕ → List ℕ → ℕ
+least_or x [] = x
+least_or x (y ∷ ys) = min x (least_or y ys)
+
+-- the cyclic order written from its least member on: one list for each cyclic order
+abbrev pub from_least : List ℕ → List ℕ
+from_least l = turned l (least_or (first_or 0 l) l)
