@@ -10,3 +10,7 @@ pub mod Sums
 pub mod ClassSizes
 pub mod Successor
 pub mod Turned
+pub mod Permutations
+pub mod Orbits
+pub mod Iterates
+pub mod Transpositions

@@ -4,3 +4,4 @@ pub mod Relation
 pub mod Permutation
 pub mod Cyclic
 pub mod Members
+pub mod Exchange

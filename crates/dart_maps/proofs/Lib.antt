@@ -1,0 +1,4 @@
+-- The lemmas on maps of darts.
+pub mod Darts
+pub mod Components
+pub mod Steps

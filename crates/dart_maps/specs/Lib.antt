@@ -1,0 +1,2 @@
+-- Maps of darts: faces, components, Euler's sum, and the changes that keep a map plane.
+pub mod Map
