@@ -1,2 +1,3 @@
 -- The texts and commands, worked out on small inputs; what reading needs to know of lists.
 mod TextExamples
+mod ScriptExamples

@@ -3,3 +3,7 @@ pub mod Text
 pub mod Head
 pub mod Answer
 pub mod Refusal
+pub mod Number
+pub mod Line
+pub mod Script
+pub mod Reading

@@ -1,0 +1,74 @@
+-- Reading as functions on lists: what the functions of the reader answer. proofs/ shows that it is what `Script` says.
+use Rattle.std.specs.Prelude.{◌≡◌, ℕ, ◌+◌, Bool, true, false, ◌&&◌, nat_le, if◌then◌else◌, List, [], ◌∷◌, Option, Some, None, option_map, Result, Ok, Err, Vec, bytes_eq, codes}
+use Rattle.std.specs.List.{slice_split}
+use Rattle.spqr_script.specs.Number.{number_below, index_limit}
+use Rattle.spqr_script.specs.Line.{lines_of, is_passed_over, tokens_of}
+use Rattle.spqr_script.specs.Script.{is_semicolon}
+use Rattle.spqr_script.specs.declared.command.Command.{Command}
+use Rattle.spqr_script.specs.declared.command.Command.TheVariants.{Euler, Gml}
+
+-- the number of a vertex, an edge, a block, a node or a key
+abbrev pub index_of : List ℕ → Option ℕ
+index_of token = number_below index_limit token
+
+-- a first value and others, where all are there
+abbrev pub with_first : {A : Type 0} → Option A → Option (List A) → Option (List A)
+with_first None others = None
+with_first (Some x) others = option_map (λ xs. x ∷ xs) others
+
+-- the numbers of tokens, where each is one
+unfoldable pub indices_of : List (List ℕ) → Option (List ℕ)
+indices_of [] = Some []
+indices_of (token ∷ tokens) = with_first (index_of token) (indices_of tokens)
+
+-- a pair, where both parts are there
+abbrev pub pair_of : Option ℕ → Option (List ℕ) → Option (ℕ × List ℕ)
+pair_of None edges = None
+pair_of (Some v) edges = option_map (λ es. (v, es)) edges
+
+-- an entry of a rotation
+unfoldable pub entry_of : List (List ℕ) → Option (ℕ × List ℕ)
+entry_of [] = None
+entry_of (v ∷ []) = None
+entry_of (v ∷ mark ∷ edges) = (if bytes_eq mark (codes ":") then pair_of (index_of v) (indices_of edges) else None)
+
+-- an entry whose vertex is at least `low`, and the entries that others gives for the vertices above it
+abbrev pub entry_and : ℕ → Option (ℕ × List ℕ) → (ℕ → Option (List (ℕ × List ℕ))) → Option (List (ℕ × List ℕ))
+entry_and low None others = None
+entry_and low (Some entry) others = (if nat_le low entry.0 then with_first (Some entry) (others (entry.0 + 1)) else None)
+
+-- entries with rising vertices, the first at least `low`
+unfoldable pub entries_from : ℕ → List (List (List ℕ)) → Option (List (ℕ × List ℕ))
+entries_from low [] = Some []
+entries_from low (part ∷ parts) = entry_and low (entry_of part) (λ above. entries_from above parts)
+
+-- a rotation
+unfoldable pub rotation_of : List (List ℕ) → Option (List (ℕ × List ℕ))
+rotation_of [] = Some []
+rotation_of (token ∷ tokens) = entries_from 0 (slice_split is_semicolon (token ∷ tokens))
+
+-- the command without arguments, where no token is left
+abbrev pub alone : Command → List (List ℕ) → Option Command
+alone command [] = Some command
+alone command (token ∷ tokens) = None
+
+-- a command
+unfoldable pub command_of : List (List ℕ) → Option Command
+command_of [] = None
+command_of (word ∷ tokens) =
+    (if bytes_eq word (codes "euler") then option_map (λ entries. Euler entries) (rotation_of tokens)
+    else if bytes_eq word (codes "gml") then alone Gml tokens
+    else None)
+
+-- a command and those after it, or the first line that is none
+abbrev pub command_and : ℕ → Option Command → Result (List Command) ℕ → Result (List Command) ℕ
+command_and line None others = Err line
+command_and line (Some command) (Ok commands) = Ok (command ∷ commands)
+command_and line (Some command) (Err bad) = Err bad
+
+-- the commands of lines that are numbered from `line` on, or the first that is neither passed over nor a command
+unfoldable pub commands_from : ℕ → List (List ℕ) → Result (List Command) ℕ
+commands_from line [] = Ok []
+commands_from line (text ∷ texts) =
+    (if is_passed_over text then commands_from (line + 1) texts
+    else command_and line (command_of (tokens_of text)) (commands_from (line + 1) texts))

@@ -1,0 +1,55 @@
+-- Which commands a script spells, and which line is the first that is none.
+use Rattle.std.specs.Prelude.{◌≡◌, ℕ, ◌+◌, ◌-◌, ◌<◌, ◌≤◌, Bool, true, false, not, ◌⊎◌, List, [], ◌∷◌, length, map, filter, slice_index_or, bytes_eq, codes}
+use Rattle.std.specs.List.{AllZip, slice_split}
+use Rattle.std.specs.List.Sorted.{IsStrictlyIncreasing}
+use Rattle.spqr_script.specs.Number.{SpellsNumber, index_limit}
+use Rattle.spqr_script.specs.Line.{lines_of, is_passed_over, tokens_of}
+use Rattle.spqr_script.specs.declared.command.Command.{Command}
+use Rattle.spqr_script.specs.declared.command.Command.TheVariants.{Euler, Gml}
+
+-- the number of a vertex, an edge, a block, a node or a key
+abbrev pub SpellsIndex : List ℕ → ℕ → Type 0
+SpellsIndex token n = SpellsNumber index_limit token n
+
+-- an entry of a rotation: a vertex, `:`, and zero or more edges
+abbrev pub SpellsEntry : List (List ℕ) → ℕ × List ℕ → Type 0
+SpellsEntry [] entry = ⊥
+SpellsEntry (v ∷ []) entry = ⊥
+SpellsEntry (v ∷ mark ∷ edges) entry = SpellsIndex v entry.0 × (mark ≡ codes ":") × AllZip SpellsIndex edges entry.1
+
+-- the token `;`, which stands between entries
+abbrev pub is_semicolon : List ℕ → Bool
+is_semicolon token = bytes_eq token (codes ";")
+
+-- a rotation: nothing, or one or more entries with `;` between them, their vertices strictly rising
+abbrev pub SpellsRotation : List (List ℕ) → List (ℕ × List ℕ) → Type 0
+SpellsRotation tokens entries =
+    ((tokens ≡ []) × (entries ≡ [])) ⊎ (AllZip SpellsEntry (slice_split is_semicolon tokens) entries × IsStrictlyIncreasing (map (λ entry. entry.0) entries))
+
+-- the tokens of a line are a command: `euler ROT` or `gml`
+abbrev pub SpellsCommand : List (List ℕ) → Command → Type 0
+SpellsCommand [] command = ⊥
+SpellsCommand (word ∷ tokens) (Euler entries) = (word ≡ codes "euler") × SpellsRotation tokens entries
+SpellsCommand (word ∷ tokens) Gml = (word ≡ codes "gml") × (tokens ≡ [])
+
+-- the lines that are not passed over
+abbrev pub command_lines : List (List ℕ) → List (List ℕ)
+command_lines lines = filter (λ line. not (is_passed_over line)) lines
+
+-- the bytes spell the commands: each line that is not passed over is one of them, in order
+unfoldable pub Commands : List ℕ → List Command → Type 0
+Commands bytes commands = AllZip (λ line command. SpellsCommand (tokens_of line) command) (command_lines (lines_of bytes)) commands
+
+-- a line that is passed over or a command
+abbrev pub IsAccepted : List ℕ → Type 0
+IsAccepted line = (is_passed_over line ≡ true) ⊎ ((command : Command) × SpellsCommand (tokens_of line) command)
+
+-- a line that is neither
+abbrev pub IsRefused : List ℕ → Type 0
+IsRefused line = (is_passed_over line ≡ false) × ((command : Command) → SpellsCommand (tokens_of line) command → ⊥)
+
+-- the line with this number is the first that is refused; lines are numbered from 1
+unfoldable pub IsFirstBadLine : List ℕ → ℕ → Type 0
+IsFirstBadLine bytes line =
+    (0 < line) × (line ≤ length (lines_of bytes)) × IsRefused (slice_index_or (lines_of bytes) (line - 1) [])
+    × ((k : ℕ) → k + 1 < line → IsAccepted (slice_index_or (lines_of bytes) k []))
