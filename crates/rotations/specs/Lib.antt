@@ -1,2 +1,3 @@
 -- Rotation systems: a cyclic order of the edges at each vertex.
 pub mod Rotation
+pub mod Entries

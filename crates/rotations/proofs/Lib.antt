@@ -1,0 +1,2 @@
+-- Lemmas on rotation systems.
+pub mod Rising

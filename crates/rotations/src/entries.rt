@@ -1,0 +1,91 @@
+// Lists of edges as they are given from outside, in order of the vertices.
+
+ghost use Rattle.std.specs.Prelude.{◌≡◌, ◌<◌, ◌∷◌, ◌++◌, ◌==◌, ◌↔◌, [], length, is_ok, if◌then◌else◌, IsTrue};
+ghost use Rattle.rotations.specs.Entries.{entry, IsRising, IsAbove};
+
+use multigraph::Numbers;
+use std::alloc::{AllocError, Global};
+use std::marker::Model;
+
+/// Entries of a vertex and a list of edges, their vertices strictly rising.
+#[derive(Debug, Drop)]
+pub struct Lists {
+    alloc: Global,
+    entries: Vec<(u32, Numbers)>,
+}
+
+impl Model for Lists {
+    ghost use Rattle.std.specs.Prelude.{List, ℕ};
+    ghost use Rattle.rotations.specs.Entries.{IsRising};
+
+    ghost Value = { List (ℕ × List ℕ) };
+
+    ghost view = { λ lists. lists.entries.items };
+
+    ghost invariant = { λ lists. IsRising lists.entries.items };
+}
+
+impl Lists {
+    /// No entries. Takes no memory.
+    pub fn new(alloc: Global) -> Lists
+        ensures { result ≡ [] }
+    {
+        Lists {
+            alloc,
+            entries: Vec::new(alloc),
+        }
+    }
+
+    /// Whether `v` is above the last vertex, or there is none.
+    pub fn is_above(&self, v: u32) -> bool
+        ensures { IsTrue result ↔ IsAbove self.now v }
+    {
+        match self.entries.last() {
+            Some((last, _)) => *last < v,
+            None => true,
+        }
+    }
+
+    /// Puts an entry of `v` and a copy of `edges` behind the last; without memory all stays as it was.
+    pub fn push(&mut self, v: u32, edges: &[u32]) -> Result<(), AllocError>
+        requires { IsAbove self.old v }
+        ensures { self.new ≡ (if is_ok result then self.old ++ (v, edges.now) ∷ [] else self.old) }
+    {
+        let edges = Numbers::of(Vec::from_slice(self.alloc, edges)?);
+        match self.entries.push((v, edges)) {
+            Ok(()) => Ok(()),
+            Err(_) => Err(AllocError),
+        }
+    }
+
+    /// The number of entries.
+    pub fn len(&self) -> usize
+        ensures value { result ≡ length self.now }
+        ensures rising { IsRising self.now }
+    {
+        self.entries.len()
+    }
+
+    /// Whether there is no entry.
+    pub fn is_empty(&self) -> bool
+        ensures { result ≡ (length self.now == 0) }
+    {
+        self.entries.is_empty()
+    }
+
+    /// The vertex of entry `i`, counted from 0.
+    pub fn vertex(&self, i: usize) -> u32
+        requires { i < length self.now }
+        ensures { result ≡ (entry self.now i).0 }
+    {
+        self.entries[i].0
+    }
+
+    /// The edges of entry `i`, counted from 0, in the order given.
+    pub fn edges(&self, i: usize) -> &[u32]
+        requires { i < length self.now }
+        ensures { result.now ≡ (entry self.now i).1 }
+    {
+        self.entries[i].1.as_slice()
+    }
+}
