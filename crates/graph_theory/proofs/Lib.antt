@@ -1,0 +1,8 @@
+-- The lemmas on walks, paths, cycles and blocks.
+pub mod Ends
+pub mod Walks
+pub mod Reversal
+pub mod Paths
+pub mod Cycles
+pub mod Arcs
+pub mod Exchange

@@ -1,0 +1,3 @@
+-- Walks, paths, cycles and blocks of a multigraph.
+pub mod Path
+pub mod Block
