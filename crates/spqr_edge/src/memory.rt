@@ -1,0 +1,258 @@
+// Devices in memory: some fail at chosen calls, some never do.
+ghost use Rattle.std.specs.Prelude.{◌≡◌, ◌↔◌, ◌<◌, ◌≤◌, ◌++◌, Some, None, IsTrue, IsSome, Contains, length, List, [], take as front};
+ghost use Rattle.std.specs.Option.{option_copied};
+ghost use Rattle.spqr_edge.specs.Device.{counted};
+ghost use Rattle.spqr_edge.specs.Memory.{bytes_of};
+
+use crate::faults::Faults;
+use crate::{Failed, Shelf, Sink};
+use std::alloc::Global;
+
+/// A file in memory: its name and its bytes.
+#[derive(Clone, Copy)]
+pub struct MemFile<'a> {
+    pub name: &'a str,
+    pub bytes: &'a [u8],
+}
+
+/// The bytes of the first file of this name.
+fn held<'a>(files: &'a [MemFile<'a>], name: &str) -> Option<&'a [u8]>
+    ensures { option_copied result ≡ bytes_of files.now name.now }
+{
+    files
+        .iter()
+        .find(|file| file.name == name)
+        .map(|file| file.bytes)
+}
+
+/// Takes bytes from the front of what is left into the buffer, as many as there are and fit.
+fn take(left: &mut &[u8], buf: &mut [u8]) -> usize
+    requires { 0 < length buf.old }
+    ensures count { result ≤ length buf.new }
+    ensures bytes { left.old.now ≡ front result buf.new ++ left.new.now }
+    ensures end { result ≡ 0 → left.new.now ≡ [] }
+{
+    let taken = buf.len().min(left.len());
+    let (first, rest) = left.split_at(taken);
+    buf[..taken].copy_from_slice(first);
+    *left = rest;
+    taken
+}
+
+/// A shelf in memory that never fails. A file that it doesn't hold is empty.
+#[derive(Drop)]
+pub struct SureShelf<'a> {
+    files: &'a [MemFile<'a>],
+    left: &'a [u8],
+    opens: u64,
+}
+
+impl<'a> SureShelf<'a> {
+    /// A shelf of these files, with none open.
+    pub fn new(files: &'a [MemFile<'a>]) -> Self
+        ensures files { result.files.now ≡ files.now }
+        ensures closed { result.left.now ≡ [] }
+        ensures opens { result.opens ≡ 0 }
+    {
+        SureShelf {
+            files,
+            left: &[],
+            opens: 0,
+        }
+    }
+
+    /// Whether it holds a file of this name.
+    pub fn holds(&self, name: &str) -> bool
+        ensures { IsTrue result ↔ IsSome (bytes_of self.now.files.now name.now) }
+    {
+        held(self.files, name).is_some()
+    }
+
+    /// Closes the open file.
+    fn close(&mut self)
+        ensures closed { self.new.left.now ≡ [] }
+        ensures files { self.new.files ≡ self.old.files }
+        ensures opens { self.new.opens ≡ self.old.opens }
+    {
+        self.left = &[];
+    }
+}
+
+impl<'a> Shelf for SureShelf<'a> {
+    ghost files = { λ s. Some (bytes_of s.files.now) };
+
+    ghost left = { λ s. Some s.left.now };
+
+    ghost opens = { λ s. Some s.opens };
+
+    ghost faults = { λ s. 0 };
+
+    ghost left_told = { λ s told. told };
+
+    fn open(&mut self, name: &str) -> Result<(), Failed> {
+        self.opens = self.opens.saturating_add(1);
+        self.left = held(self.files, name).unwrap_or(&[]);
+        Ok(())
+    }
+
+    fn read(&mut self, buf: &mut [u8]) -> Result<usize, Failed> {
+        Ok(take(&mut self.left, buf))
+    }
+}
+
+/// A shelf in memory whose calls of the given numbers fail. Calls of `open` and `read` are counted together, from 0. To
+/// open a file that it doesn't hold fails too.
+#[derive(Drop)]
+pub struct MemShelf<'a> {
+    shelf: SureShelf<'a>,
+    failing: &'a [u64],
+    calls: u64,
+    faults: Faults,
+}
+
+impl<'a> MemShelf<'a> {
+    /// A shelf of these files, with none open.
+    pub fn new(files: &'a [MemFile<'a>], failing: &'a [u64]) -> Self
+        ensures files { result.shelf.files.now ≡ files.now }
+        ensures failing { result.failing.now ≡ failing.now }
+        ensures calls { result.calls ≡ 0 }
+        ensures faults { result.faults ≡ 0 }
+    {
+        MemShelf {
+            shelf: SureShelf::new(files),
+            failing,
+            calls: 0,
+            faults: Faults::none(),
+        }
+    }
+
+    /// Whether the next call is to fail; it is counted.
+    fn fails_now(&mut self) -> bool
+        ensures fails { IsTrue result ↔ Contains self.old.failing.now self.old.calls }
+        ensures counted { self.new ≡ record self.old { calls = counted self.old.calls } }
+    {
+        let fails = self.failing.contains(&self.calls);
+        self.calls = self.calls.saturating_add(1);
+        fails
+    }
+}
+
+impl<'a> Shelf for MemShelf<'a> {
+    ghost files = { λ s. Some (bytes_of s.shelf.files.now) };
+
+    ghost left = { λ s. Some s.shelf.left.now };
+
+    ghost opens = { λ s. Some s.shelf.opens };
+
+    ghost faults = { λ s. s.faults };
+
+    ghost left_told = { λ s told. told };
+
+    fn open(&mut self, name: &str) -> Result<(), Failed> {
+        let opened = self.shelf.open(name);
+        if self.fails_now() || !self.shelf.holds(name) {
+            self.shelf.close();
+            return Err(self.faults.note());
+        }
+        opened
+    }
+
+    fn read(&mut self, buf: &mut [u8]) -> Result<usize, Failed> {
+        if self.fails_now() {
+            return Err(self.faults.note());
+        }
+        self.shelf.read(buf)
+    }
+}
+
+/// A sink in memory. Calls of the given numbers, counted from 0, fail, and so does one for which memory is wanting. No
+/// call takes more than the greatest piece.
+#[derive(Drop)]
+pub struct MemSink<'a> {
+    bytes: Vec<u8>,
+    failing: &'a [u64],
+    greatest: usize,
+    calls: u64,
+    faults: Faults,
+    ghost takes_some: { 0 < greatest },
+}
+
+impl<'a> MemSink<'a> {
+    /// An empty sink.
+    pub fn new(alloc: Global, failing: &'a [u64], greatest: usize) -> Self
+        requires { 0 < greatest }
+        ensures bytes { result.bytes.items ≡ [] }
+        ensures failing { result.failing.now ≡ failing.now }
+        ensures greatest { result.greatest ≡ greatest }
+        ensures calls { result.calls ≡ 0 }
+        ensures faults { result.faults ≡ 0 }
+    {
+        MemSink {
+            bytes: Vec::new(alloc),
+            failing,
+            greatest,
+            calls: 0,
+            faults: Faults::none(),
+        }
+    }
+
+    /// What it took.
+    pub fn bytes(&self) -> &[u8]
+        ensures { result.now ≡ self.now.bytes.items }
+    {
+        &self.bytes
+    }
+}
+
+impl<'a> Sink for MemSink<'a> {
+    ghost written = { λ s. Some s.bytes.items };
+
+    ghost faults = { λ s. s.faults };
+
+    fn put(&mut self, piece: &[u8]) -> Result<usize, Failed> {
+        let fails = self.failing.contains(&self.calls);
+        self.calls = self.calls.saturating_add(1);
+        let taken = self.greatest.min(piece.len());
+        if fails || self.bytes.extend_from_slice(&piece[..taken]).is_err() {
+            return Err(self.faults.note());
+        }
+        Ok(taken)
+    }
+}
+
+/// A sink that never fails. It keeps the first bytes, as many as its room holds, and drops the others; so it doesn't tell
+/// what was written.
+#[derive(Drop)]
+pub struct SureSink {
+    front: Vec<u8>,
+}
+
+impl SureSink {
+    /// A sink that keeps what this list has room for, behind what is in it.
+    pub fn new(room: Vec<u8>) -> Self
+        ensures { result.front ≡ room }
+    {
+        SureSink { front: room }
+    }
+
+    /// The bytes that it kept.
+    pub fn front(&self) -> &[u8]
+        ensures { result.now ≡ self.now.front.items }
+    {
+        &self.front
+    }
+}
+
+impl Sink for SureSink {
+    ghost written = { λ s. None };
+
+    ghost faults = { λ s. 0 };
+
+    fn put(&mut self, piece: &[u8]) -> Result<usize, Failed> {
+        let room = self.front.capacity() - self.front.len();
+        let _ = self
+            .front
+            .extend_from_slice(&piece[..room.min(piece.len())]);
+        Ok(piece.len())
+    }
+}
