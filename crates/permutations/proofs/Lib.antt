@@ -14,3 +14,5 @@ pub mod Permutations
 pub mod Orbits
 pub mod Iterates
 pub mod Transpositions
+pub mod CyclicSame
+pub mod NormalForm
