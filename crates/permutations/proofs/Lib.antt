@@ -4,6 +4,7 @@ pub mod Search
 pub mod Injection
 pub mod Relation
 pub mod Members
+pub mod Arrangements
 pub mod Leaders
 pub mod Classes
 pub mod Sums
