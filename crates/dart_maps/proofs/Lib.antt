@@ -2,3 +2,4 @@
 pub mod Darts
 pub mod Components
 pub mod Steps
+pub mod Euler

@@ -17,3 +17,6 @@ pub mod Iterates
 pub mod Transpositions
 pub mod CyclicSame
 pub mod NormalForm
+pub mod Unlinking
+pub mod TakenOut
+pub mod Renaming
