@@ -6,3 +6,6 @@ pub mod Paths
 pub mod Cycles
 pub mod Arcs
 pub mod Exchange
+pub mod Crossings
+pub mod Connection
+pub mod Examples

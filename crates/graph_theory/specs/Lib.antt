@@ -1,3 +1,5 @@
 -- Walks, paths, cycles and blocks of a multigraph.
 pub mod Path
 pub mod Block
+pub mod Side
+pub mod Laws

@@ -1,2 +1,41 @@
-// Walks, paths, cycles and connection in multigraphs: theory without code that runs.
+// Walks, paths, cycles, connection and blocks of multigraphs: theory without code that runs.
+//
+// A walk is a list of edges from a vertex on; a path is a walk that meets no vertex twice; a cycle is a walk of at least two
+// different edges that returns to where it began and else meets no vertex twice, so that two parallel edges are a cycle. A
+// block is a class of edges under "equal or on a common cycle" (Whitney 1932). The main theorem is that this is an
+// equivalence: of two cycles with a common edge, an ear of the one over the other and an arc of the other make a third.
+// Each law below is a function without a body, whose contract is the theorem.
+//
+// The lemmas that are used most (module of proofs/ in front):
+//   Ends        other-is_end, other-other, other-differs, end-cases: the two ends of an edge
+//   Walks       end-append, starts-append, vertices-append, walk-append, walk-left, walk-right: walks joined and cut
+//   Walks       edge-met, edge-entered, met-cases: what lies on a walk
+//   Walks       first_passing: a walk cut at the first vertex that passes a test
+//   Reversal    end-reverse, walk-reverse, vertices-reverse: walks in the other direction
+//   Paths       walk_to_path: a walk shortened to a path, along some of its edges; path-reverse
+//   Cycles      cycle-turn, cycle_from, cycle_of_paths: a cycle begun elsewhere, and made of two paths
+//   Arcs        cycle_arc: between two vertices of a cycle there is an arc with a given edge of it
+//   Exchange    ear_of_cycle, cycle_of_ear, block-transitive: in the same block is an equivalence
+//   Crossings   cycle-two_common, block-one_side: a cycle with edges on both sides of a division has two common vertices
+//   Connection  connected-path, path-connected: connection by links and by paths is the same
 #![tactic(auto)]
+
+ghost use Rattle.graph_theory.specs.Laws.{BlocksReflexive, BlocksSymmetric, BlocksTransitive, BlocksUndivided, ConnectedByPath, PathConnects};
+
+/// The law that "equal or on a common cycle" is an equivalence of the edges of a graph without loops.
+pub fn same_block_is_equivalence()
+    ensures reflexive { BlocksReflexive }
+    ensures symmetric { BlocksSymmetric }
+    ensures transitive { BlocksTransitive }
+{}
+
+/// The law that a division of the edges whose sides have at most one vertex in common divides no block.
+pub fn blocks_are_undivided()
+    ensures undivided { BlocksUndivided }
+{}
+
+/// The law that two vertices are connected by the ends of edges exactly where a path joins them.
+pub fn connection_is_by_paths()
+    ensures by_path { ConnectedByPath }
+    ensures by_links { PathConnects }
+{}

@@ -1,0 +1,31 @@
+-- What is proved of walks, paths, cycles and blocks, as statements.
+use Rattle.std.specs.Prelude.{◌≡◌, ℕ, Bool, true, List}
+use Rattle.permutations.specs.Relation.{connected}
+use Rattle.multigraph.specs.Graph.{Multigraph, IsGraph}
+use Rattle.graph_theory.specs.Path.{IsPath}
+use Rattle.graph_theory.specs.Block.{SameBlock}
+use Rattle.graph_theory.specs.Side.{IsCommon}
+
+-- each edge is in the block of itself
+abbrev pub BlocksReflexive : Type 0
+BlocksReflexive = (g : Multigraph) (e : ℕ) → SameBlock g e e
+
+-- where e is in the block of f, f is in the block of e
+abbrev pub BlocksSymmetric : Type 0
+BlocksSymmetric = (g : Multigraph) (e f : ℕ) → SameBlock g e f → SameBlock g f e
+
+-- where e is in the block of f, and f in that of h, e is in that of h
+abbrev pub BlocksTransitive : Type 0
+BlocksTransitive = (g : Multigraph) → IsGraph g → (e f h : ℕ) → SameBlock g e f → SameBlock g f h → SameBlock g e h
+
+-- a division of the edges whose sides have at most one vertex in common divides no block
+abbrev pub BlocksUndivided : Type 0
+BlocksUndivided = (g : Multigraph) (s : ℕ → Bool) → ((p q : ℕ) → IsCommon g s p → IsCommon g s q → p ≡ q) → (e f : ℕ) → SameBlock g e f → s e ≡ s f
+
+-- vertices that the ends of edges connect are joined by a path
+abbrev pub ConnectedByPath : Type 0
+ConnectedByPath = (g : Multigraph) (x y : ℕ) → connected g.ends x y ≡ true → (es : List ℕ) × IsPath g x es y
+
+-- vertices that are joined by a path are connected by the ends of edges
+abbrev pub PathConnects : Type 0
+PathConnects = (g : Multigraph) (x : ℕ) (es : List ℕ) (y : ℕ) → IsPath g x es y → connected g.ends x y ≡ true
