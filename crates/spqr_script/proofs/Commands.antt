@@ -1,0 +1,155 @@
+-- Reading a line's tokens and a script's lines gives what they spell, and all that they spell.
+use Rattle.std.proofs.Common.{◌≡◌, ℕ, zero, suc, ◌+◌, ◌≤◌, ◌<◌, Bool, true, false, not, cond, List, [], ◌∷◌, length, get_or, map, Option, Some, None, Result, Ok, Err, refl, sym, ap, subst, ◌∙◌, inl, inr, ◌⊎◌, codes, bytes_eq, arith}
+use Rattle.std.specs.Prelude.{filter}
+use Rattle.std.specs.Option.{option_map}
+use Rattle.std.specs.List.{AllZip}
+use Rattle.std.proofs.lemmas.Bool.{cond-true, cond-false, cases_Bool, both_ways}
+use Rattle.std.proofs.lemmas.Option.{same_Some, none-some}
+use Rattle.std.proofs.lemmas.Slice.Eq.{bytes_eq-Decides}
+use Rattle.spqr_script.specs.Line.{is_passed_over, tokens_of}
+use Rattle.spqr_script.specs.Script.{SpellsRotation, SpellsCommand, command_lines, IsAccepted, IsRefused}
+use Rattle.spqr_script.specs.Reading.{rotation_of, alone, command_of, command_and, commands_from}
+use Rattle.spqr_script.specs.declared.command.Command.{Command}
+use Rattle.spqr_script.specs.declared.command.Command.TheVariants.{Euler, Gml}
+use Rattle.spqr_script.proofs.Options.{cond_some_of, map_some}
+use Rattle.spqr_script.proofs.Entries.{rotation_spelled, rotation_read}
+
+-- ---- one command
+
+alone_is : (command : Command) (tokens : List (List ℕ)) (c : Command) → alone command tokens ≡ Some c → (tokens ≡ []) × (command ≡ c)
+alone_is command [] c e = (refl, same_Some command c e)
+alone_is command (token ∷ tokens) c e = absurd (none-some c e)
+
+-- what is chosen at one of two words
+abbrev chosen : Bool → Bool → Option Command → Option Command → Option Command
+chosen euler gml a b = cond euler a (cond gml b None)
+
+chosen_cases : (euler gml : Bool) (a b : Option Command) (c : Command) → chosen euler gml a b ≡ Some c → ((euler ≡ true) × (a ≡ Some c)) ⊎ ((gml ≡ true) × (b ≡ Some c))
+chosen_cases true gml a b c e = inl (refl, e)
+chosen_cases false true a b c e = inr (refl, e)
+chosen_cases false false a b c e = absurd (none-some c e)
+
+pub command_spelled : (tokens : List (List ℕ)) (c : Command) → command_of tokens ≡ Some c → SpellsCommand tokens c
+unfolding command_of
+command_spelled [] c e = absurd (none-some c e)
+command_spelled (word ∷ tokens) c e =
+    elim (chosen_cases (bytes_eq word (codes "euler")) (bytes_eq word (codes "gml")) (option_map (λ entries. Euler entries) (rotation_of tokens)) (alone Gml tokens) c e) [
+      | inl h ↦
+        let p = map_some (λ entries. Euler entries) (rotation_of tokens) c h.1 in
+        subst (λ (x : Command). SpellsCommand (word ∷ tokens) x) p.2 ((bytes_eq-Decides word (codes "euler")).0 h.0, rotation_spelled tokens p.0 p.1)
+      | inr h ↦
+        let p = alone_is Gml tokens c h.1 in
+        subst (λ (x : Command). SpellsCommand (word ∷ tokens) x) p.1 ((bytes_eq-Decides word (codes "gml")).0 h.0, p.0)
+    ]
+
+pub command_read : (tokens : List (List ℕ)) (c : Command) → SpellsCommand tokens c → command_of tokens ≡ Some c
+unfolding command_of
+command_read [] c s = absurd s
+command_read (word ∷ tokens) (Euler entries) s =
+    cond-true (bytes_eq word (codes "euler")) (option_map (λ x. Euler x) (rotation_of tokens)) (cond (bytes_eq word (codes "gml")) (alone Gml tokens) None) ((bytes_eq-Decides word (codes "euler")).1 s.0)
+    ∙ ap (λ (o : Option (List (ℕ × List ℕ))). option_map (λ x. Euler x) o) (rotation_read tokens entries s.1)
+command_read (word ∷ tokens) Gml s =
+    ap (λ (w : List ℕ). cond (bytes_eq w (codes "euler")) (option_map (λ x. Euler x) (rotation_of tokens)) (cond (bytes_eq w (codes "gml")) (alone Gml tokens) None)) s.0
+    ∙ ap (λ (ts : List (List ℕ)). alone Gml ts) s.1
+
+-- ---- the lines of a script
+
+-- a command on a line
+abbrev pub SpellsLine : List ℕ → Command → Type 0
+SpellsLine line command = SpellsCommand (tokens_of line) command
+
+and_ok : (line : ℕ) (o : Option Command) (others : Result (List Command) ℕ) (cs : List Command) → command_and line o others ≡ Ok cs
+    → (c : Command) × (rest : List Command) × (o ≡ Some c) × (others ≡ Ok rest) × (c ∷ rest ≡ cs)
+and_ok line None others cs e = absurd cc
+and_ok line (Some c) (Ok rest) cs e = (c, rest, refl, refl, cc)
+and_ok line (Some c) (Err bad) cs e = absurd cc
+
+ok_is : (xs ys : List Command) → ◌≡◌ {A = Result (List Command) ℕ} (Ok xs) (Ok ys) → xs ≡ ys
+ok_is xs ys e = cc
+
+err_is : (k l : ℕ) → ◌≡◌ {A = Result (List Command) ℕ} (Err k) (Err l) → k ≡ l
+err_is k l e = cc
+
+ok_err : (xs : List Command) (l : ℕ) → ◌≡◌ {A = Result (List Command) ℕ} (Ok xs) (Err l) → ⊥
+ok_err xs l e = cc
+
+-- the first line, and what the lines after it say
+pub commands_spelled : (k : ℕ) (lines : List (List ℕ)) (cs : List Command) → commands_from k lines ≡ Ok cs → AllZip SpellsLine (command_lines lines) cs
+unfolding commands_from
+commands_spelled k [] cs e = subst (λ (xs : List Command). AllZip SpellsLine [] xs) (ok_is [] cs e) tt
+commands_spelled k (line ∷ lines) cs e =
+    elim (cases_Bool (is_passed_over line)) [
+      | inl over ↦
+        let rest = commands_spelled (k + 1) lines cs (rw over at e) in
+        rw over rest
+      | inr not_over ↦
+        let p = and_ok k (command_of (tokens_of line)) (commands_from (k + 1) lines) cs (rw not_over at e) in
+        let rest = commands_spelled (k + 1) lines p.1 p.3 in
+        rw not_over (subst (λ (xs : List Command). AllZip SpellsLine (line ∷ command_lines lines) xs) p.4 (command_spelled (tokens_of line) p.0 p.2, rest))
+    ]
+
+first_read : (k : ℕ) (line : List ℕ) (lines : List (List ℕ)) (cs : List Command) → ((rest : List Command) → AllZip SpellsLine (command_lines lines) rest → commands_from (k + 1) lines ≡ Ok rest)
+    → AllZip SpellsLine (line ∷ command_lines lines) cs → command_and k (command_of (tokens_of line)) (commands_from (k + 1) lines) ≡ Ok cs
+first_read k line lines [] others s = absurd s
+first_read k line lines (c ∷ cs) others s =
+    ap (λ (o : Option Command). command_and k o (commands_from (k + 1) lines)) (command_read (tokens_of line) c s.0)
+    ∙ ap (λ (r : Result (List Command) ℕ). command_and k (Some c) r) (others cs s.1)
+
+pub commands_read : (k : ℕ) (lines : List (List ℕ)) (cs : List Command) → AllZip SpellsLine (command_lines lines) cs → commands_from k lines ≡ Ok cs
+unfolding commands_from
+commands_read k [] [] s = refl
+commands_read k [] (c ∷ cs) s = absurd s
+commands_read k (line ∷ lines) cs s =
+    elim (cases_Bool (is_passed_over line)) [
+      | inl over ↦ rw over (commands_read (k + 1) lines cs (rw over at s))
+      | inr not_over ↦ rw not_over (first_read k line lines cs (λ rest t. commands_read (k + 1) lines rest t) (rw not_over at s))
+    ]
+
+-- ---- the first line that is refused
+
+-- a line that no command reads spells none
+refused : (line : List ℕ) → is_passed_over line ≡ false → command_of (tokens_of line) ≡ None → IsRefused line
+refused line not_over e = (not_over, λ command s. none-some command (sym e ∙ command_read (tokens_of line) command s))
+
+accepted : (line : List ℕ) (c : Command) → command_of (tokens_of line) ≡ Some c → IsAccepted line
+accepted line c e = inr (c, command_spelled (tokens_of line) c e)
+
+and_err : (line : ℕ) (o : Option Command) (others : Result (List Command) ℕ) (bad : ℕ) → command_and line o others ≡ Err bad
+    → ((o ≡ None) × (line ≡ bad)) ⊎ ((c : Command) × (o ≡ Some c) × (others ≡ Err bad))
+and_err line None others bad e = inl (refl, err_is line bad e)
+and_err line (Some c) (Ok rest) bad e = absurd (ok_err (c ∷ rest) bad e)
+and_err line (Some c) (Err l) bad e = inr (c, refl, e)
+
+-- the i-th of the lines is refused, and each before it is accepted
+pub record StopsAt (lines : List (List ℕ)) (i : ℕ) : Type 0 where
+  pub within : i < length lines
+  pub bad : IsRefused (get_or lines i [])
+  pub earlier : (k : ℕ) → k < i → IsAccepted (get_or lines k [])
+
+stops_later : (line : List ℕ) (lines : List (List ℕ)) (i : ℕ) → IsAccepted line → StopsAt lines i → StopsAt (line ∷ lines) (suc i)
+stops_later line lines i good later = record {
+  within = omega (arith, later.within);
+  bad = later.bad;
+  earlier = before;
+}
+  where
+    before : (k : ℕ) → k < suc i → IsAccepted (get_or (line ∷ lines) k [])
+    before zero lt = good
+    before (suc k) lt = later.earlier k (omega arith)
+
+pub stops : (k : ℕ) (lines : List (List ℕ)) (bad : ℕ) → commands_from k lines ≡ Err bad → (i : ℕ) × (bad ≡ k + i) × StopsAt lines i
+unfolding commands_from
+stops k [] bad e = absurd (ok_err [] bad e)
+stops k (line ∷ lines) bad e =
+    elim (cases_Bool (is_passed_over line)) [
+      | inl over ↦
+        let p = stops (k + 1) lines bad (rw over at e) in
+        (suc p.0, omega (arith, p.1), stops_later line lines p.0 (inl over) p.2)
+      | inr not_over ↦
+        elim (and_err k (command_of (tokens_of line)) (commands_from (k + 1) lines) bad (rw not_over at e)) [
+          | inl h ↦ (0, omega (arith, h.1), record { within = omega arith; bad = refused line not_over h.0; earlier = λ j lt. absurd (omega arith) })
+          | inr h ↦
+            let p = stops (k + 1) lines bad h.2 in
+            (suc p.0, omega (arith, p.1), stops_later line lines p.0 (accepted line h.0 h.1) p.2)
+        ]
+    ]

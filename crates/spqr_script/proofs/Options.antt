@@ -1,0 +1,30 @@
+-- What an option that is `Some` says of the steps that made it.
+use Rattle.std.proofs.Common.{◌≡◌, ℕ, ◌+◌, ◌≤◌, Bool, true, false, cond, leb, List, [], ◌∷◌, Option, Some, None, refl, ap, ◌∙◌}
+use Rattle.std.specs.Option.{option_map}
+use Rattle.std.proofs.lemmas.Bool.{leb-true}
+use Rattle.std.proofs.lemmas.Option.{same_Some, none-some}
+use Rattle.spqr_script.specs.Reading.{with_first, pair_of, entry_and}
+
+-- a chosen option that is Some was chosen by the test
+pub cond_some_of : {A : Type 0} (b : Bool) (o : Option A) (y : A) → cond b o None ≡ Some y → (b ≡ true) × (o ≡ Some y)
+cond_some_of true o y e = (refl, e)
+cond_some_of false o y e = absurd (none-some y e)
+
+pub map_some : {A B : Type 0} (f : A → B) (o : Option A) (y : B) → option_map f o ≡ Some y → (x : A) × (o ≡ Some x) × (f x ≡ y)
+map_some f None y e = absurd (none-some y e)
+map_some f (Some x) y e = (x, refl, same_Some (f x) y e)
+
+pub first_some : {A : Type 0} (o : Option A) (others : Option (List A)) (ys : List A) → with_first o others ≡ Some ys → (x : A) × (xs : List A) × (o ≡ Some x) × (others ≡ Some xs) × (x ∷ xs ≡ ys)
+first_some None others ys e = absurd (none-some ys e)
+first_some (Some x) others ys e = let p = map_some (λ xs. x ∷ xs) others ys e in (x, p.0, refl, p.1, p.2)
+
+pub pair_some : (o : Option ℕ) (edges : Option (List ℕ)) (entry : ℕ × List ℕ) → pair_of o edges ≡ Some entry → (v : ℕ) × (es : List ℕ) × (o ≡ Some v) × (edges ≡ Some es) × ((v, es) ≡ entry)
+pair_some None edges entry e = absurd (none-some entry e)
+pair_some (Some v) edges entry e = let p = map_some (λ es. (v, es)) edges entry e in (v, p.0, refl, p.1, p.2)
+
+pub entry_some : (low : ℕ) (o : Option (ℕ × List ℕ)) (others : ℕ → Option (List (ℕ × List ℕ))) (ys : List (ℕ × List ℕ)) → entry_and low o others ≡ Some ys
+    → (entry : ℕ × List ℕ) × (xs : List (ℕ × List ℕ)) × (o ≡ Some entry) × (leb low entry.0 ≡ true) × (others (entry.0 + 1) ≡ Some xs) × (entry ∷ xs ≡ ys)
+entry_some low None others ys e = absurd (none-some ys e)
+entry_some low (Some entry) others ys e =
+    let p = cond_some_of (leb low entry.0) (with_first (Some entry) (others (entry.0 + 1))) ys e in
+    let q = map_some (λ xs. entry ∷ xs) (others (entry.0 + 1)) ys p.1 in (entry, q.0, refl, p.0, q.1, q.2)
