@@ -35,11 +35,11 @@ command_spelled [] c e = absurd (none-some c e)
 command_spelled (word ∷ tokens) c e =
     elim (chosen_cases (bytes_eq word (codes "euler")) (bytes_eq word (codes "gml")) (option_map (λ entries. Euler entries) (rotation_of tokens)) (alone Gml tokens) c e) [
       | inl h ↦
-        let p = map_some (λ entries. Euler entries) (rotation_of tokens) c h.1 in
-        subst (λ (x : Command). SpellsCommand (word ∷ tokens) x) p.2 ((bytes_eq-Decides word (codes "euler")).0 h.0, rotation_spelled tokens p.0 p.1)
+          let p = map_some (λ entries. Euler entries) (rotation_of tokens) c h.1 in
+          subst (λ (x : Command). SpellsCommand (word ∷ tokens) x) p.2 ((bytes_eq-Decides word (codes "euler")).0 h.0, rotation_spelled tokens p.0 p.1)
       | inr h ↦
-        let p = alone_is Gml tokens c h.1 in
-        subst (λ (x : Command). SpellsCommand (word ∷ tokens) x) p.1 ((bytes_eq-Decides word (codes "gml")).0 h.0, p.0)
+          let p = alone_is Gml tokens c h.1 in
+          subst (λ (x : Command). SpellsCommand (word ∷ tokens) x) p.1 ((bytes_eq-Decides word (codes "gml")).0 h.0, p.0)
     ]
 
 pub command_read : (tokens : List (List ℕ)) (c : Command) → SpellsCommand tokens c → command_of tokens ≡ Some c
@@ -80,12 +80,12 @@ commands_spelled k [] cs e = subst (λ (xs : List Command). AllZip SpellsLine []
 commands_spelled k (line ∷ lines) cs e =
     elim (cases_Bool (is_passed_over line)) [
       | inl over ↦
-        let rest = commands_spelled (k + 1) lines cs (rw over at e) in
-        rw over rest
+          let rest = commands_spelled (k + 1) lines cs (rw over at e) in
+          rw over rest
       | inr not_over ↦
-        let p = and_ok k (command_of (tokens_of line)) (commands_from (k + 1) lines) cs (rw not_over at e) in
-        let rest = commands_spelled (k + 1) lines p.1 p.3 in
-        rw not_over (subst (λ (xs : List Command). AllZip SpellsLine (line ∷ command_lines lines) xs) p.4 (command_spelled (tokens_of line) p.0 p.2, rest))
+          let p = and_ok k (command_of (tokens_of line)) (commands_from (k + 1) lines) cs (rw not_over at e) in
+          let rest = commands_spelled (k + 1) lines p.1 p.3 in
+          rw not_over (subst (λ (xs : List Command). AllZip SpellsLine (line ∷ command_lines lines) xs) p.4 (command_spelled (tokens_of line) p.0 p.2, rest))
     ]
 
 first_read : (k : ℕ) (line : List ℕ) (lines : List (List ℕ)) (cs : List Command) → ((rest : List Command) → AllZip SpellsLine (command_lines lines) rest → commands_from (k + 1) lines ≡ Ok rest)
@@ -143,13 +143,13 @@ stops k [] bad e = absurd (ok_err [] bad e)
 stops k (line ∷ lines) bad e =
     elim (cases_Bool (is_passed_over line)) [
       | inl over ↦
-        let p = stops (k + 1) lines bad (rw over at e) in
-        (suc p.0, omega (arith, p.1), stops_later line lines p.0 (inl over) p.2)
+          let p = stops (k + 1) lines bad (rw over at e) in
+          (suc p.0, omega (arith, p.1), stops_later line lines p.0 (inl over) p.2)
       | inr not_over ↦
-        elim (and_err k (command_of (tokens_of line)) (commands_from (k + 1) lines) bad (rw not_over at e)) [
-          | inl h ↦ (0, omega (arith, h.1), record { within = omega arith; bad = refused line not_over h.0; earlier = λ j lt. absurd (omega arith) })
-          | inr h ↦
-            let p = stops (k + 1) lines bad h.2 in
-            (suc p.0, omega (arith, p.1), stops_later line lines p.0 (accepted line h.0 h.1) p.2)
-        ]
+          elim (and_err k (command_of (tokens_of line)) (commands_from (k + 1) lines) bad (rw not_over at e)) [
+            | inl h ↦ (0, omega (arith, h.1), record { within = omega arith; bad = refused line not_over h.0; earlier = λ j lt. absurd (omega arith) })
+            | inr h ↦
+                let p = stops (k + 1) lines bad h.2 in
+                (suc p.0, omega (arith, p.1), stops_later line lines p.0 (accepted line h.0 h.1) p.2)
+          ]
     ]

@@ -1,16 +1,18 @@
 -- Reading numbers, entries and rotations gives what the tokens spell, and all that they spell.
-use Rattle.std.proofs.Common.{◌≡◌, ℕ, zero, suc, ◌+◌, ◌≤◌, ◌<◌, Bool, true, false, ◌&&◌, cond, leb, ltb, List, [], ◌∷◌, length, get_or, map, Option, Some, None, refl, sym, ap, subst, ◌∙◌, inl, inr, codes, bytes_eq, add-one, arith}
+use Rattle.std.proofs.Common.{◌≡◌, ℕ, zero, suc, ◌-◌, ◌<◌, ◌==◌, Bool, true, ◌&&◌, ltb, List, [], ◌∷◌, ◌++◌, append_assoc, length, get_or, map, Option, Some, None, refl, sym, ap, subst, ◌∙◌, inl, inr, codes, bytes_eq, add-one, arith}
 use Rattle.std.specs.Option.{option_map}
 use Rattle.std.specs.List.{AllZip, slice_split}
-use Rattle.std.specs.List.Sorted.{IsStrictlyIncreasing}
-use Rattle.std.proofs.lemmas.Bool.{and_parts, and_from, ltb-true, lt-ltb, leb-true, le-leb, cond-true}
+use Rattle.rotations.specs.Entries.{entry, IsRising, IsAbove}
+use Rattle.rotations.proofs.Rising.{rising-push}
+use Rattle.std.proofs.lemmas.List.{append-nil, length-append, get_or_append_left, get_or_at}
+use Rattle.std.proofs.lemmas.Bool.{and_parts, and_from, ltb-true, lt-ltb, eqb-true, or_cases, or_right, cond-true}
 use Rattle.std.proofs.lemmas.Option.{same_Some, none-some, cond_some}
 use Rattle.std.proofs.lemmas.Slice.Eq.{bytes_eq-Decides}
 use Rattle.gml_graph.specs.Number.{are_digits}
 use Rattle.spqr_script.specs.Number.{SpellsNumber, number_below, value_of, index_limit}
 use Rattle.spqr_script.specs.Script.{SpellsIndex, SpellsEntry, SpellsRotation, is_semicolon}
-use Rattle.spqr_script.specs.Reading.{index_of, with_first, indices_of, pair_of, entry_of, entry_and, entries_from, rotation_of}
-use Rattle.spqr_script.proofs.Options.{cond_some_of, map_some, first_some, pair_some, entry_some}
+use Rattle.spqr_script.specs.Reading.{index_of, with_first, indices_of, pair_of, entry_of, is_above, entry_then, entries_after, rotation_of}
+use Rattle.spqr_script.proofs.Options.{cond_some_of, first_some, pair_some, then_some}
 
 -- ---- numbers
 
@@ -63,66 +65,73 @@ entry_read (v ∷ mark ∷ edges) (n, ns) s =
 
 -- ---- rising vertices
 
--- the first is at least `low`, and each other is above the one before it
-abbrev pub rises_from : ℕ → List ℕ → Bool
-rises_from low [] = true
-rises_from low (v ∷ vs) = leb low v && rises_from (v + 1) vs
+pub above_is : (entries : List (ℕ × List ℕ)) (v : ℕ) → is_above entries v ≡ true → IsAbove entries v
+above_is entries v e some =
+    elim (or_cases (length entries == 0) (ltb (entry entries (length entries - 1)).0 v) e) [
+      | inl none ↦ let nothing : length entries ≡ 0 = eqb-true (length entries) 0 none in absurd (omega arith)
+      | inr above ↦ ltb-true (entry entries (length entries - 1)).0 v above
+    ]
 
-rising_rest : (v : ℕ) (vs : List ℕ) → IsStrictlyIncreasing (v ∷ vs) → IsStrictlyIncreasing vs
-rising_rest v vs rising = λ k lt. rw add-one (rw add-one at (rising (suc k) (omega arith)))
+pub above_from : (entries : List (ℕ × List ℕ)) (v : ℕ) → IsAbove entries v → is_above entries v ≡ true
+above_from [] v above = refl
+above_from (e ∷ es) v above = or_right (length (e ∷ es) == 0) (ltb (entry (e ∷ es) (length (e ∷ es) - 1)).0 v) (lt-ltb (entry (e ∷ es) (length (e ∷ es) - 1)).0 v (above (omega arith)))
 
-rising_more : (v w : ℕ) (vs : List ℕ) → v < w → IsStrictlyIncreasing (w ∷ vs) → IsStrictlyIncreasing (v ∷ w ∷ vs)
-rising_more v w vs above rising zero lt = above
-rising_more v w vs above rising (suc k) lt = rw add-one (rw add-one at (rising k (omega arith)))
+-- an entry that stands behind others in a rising list is above them
+above_in : (front : List (ℕ × List ℕ)) (next : ℕ × List ℕ) (back : List (ℕ × List ℕ)) → IsRising (front ++ next ∷ back) → IsAbove front next.0
+above_in front next back rising some =
+    let last_in : length front - 1 < length front = omega arith in
+    let long = length-append front (next ∷ back) in
+    let el : entry (front ++ next ∷ back) (length front - 1) ≡ entry front (length front - 1) = get_or_append_left front (next ∷ back) (0, []) (length front - 1) last_in in
+    let en : entry (front ++ next ∷ back) (length front) ≡ next = get_or_at front next back (0, []) (length front) refl in
+    let below : (entry (front ++ next ∷ back) (length front - 1)).0 < (entry (front ++ next ∷ back) (length front)).0 = rising (length front - 1) (length front) last_in (omega arith) in
+    subst (λ (p : ℕ × List ℕ). (entry front (length front - 1)).0 < p.0) en (subst (λ (p : ℕ × List ℕ). p.0 < (entry (front ++ next ∷ back) (length front)).0) el below)
 
-rising_read : (low : ℕ) (vs : List ℕ) → (0 < length vs → low ≤ get_or vs 0 0) → IsStrictlyIncreasing vs → rises_from low vs ≡ true
-rising_read low [] first rising = refl
-rising_read low (v ∷ []) first rising = and_from (leb low v) true (le-leb low v (first (omega arith))) refl
-rising_read low (v ∷ w ∷ vs) first rising =
-    and_from (leb low v) (rises_from (v + 1) (w ∷ vs)) (le-leb low v (first (omega arith)))
-    (rising_read (v + 1) (w ∷ vs) (λ some. let above : v < w = rising 0 (omega arith) in omega arith) (rising_rest v (w ∷ vs) rising))
+-- what was put behind the entries so far
+pub record PutsBehind (so_far entries : List (ℕ × List ℕ)) (parts : List (List (List ℕ))) : Type 0 where
+  pub rest : List (ℕ × List ℕ)
+  pub joined : entries ≡ so_far ++ rest
+  pub spelled : AllZip SpellsEntry parts rest
+  pub rising : IsRising entries
 
-rising_spelled : (low : ℕ) (vs : List ℕ) → rises_from low vs ≡ true → IsStrictlyIncreasing vs
-rising_spelled low [] e = λ k lt. absurd (omega arith)
-rising_spelled low (v ∷ []) e = λ k lt. absurd (omega arith)
-rising_spelled low (v ∷ w ∷ vs) e =
-    let p = and_parts (leb low v) (rises_from (v + 1) (w ∷ vs)) e in
-    let q = and_parts (leb (v + 1) w) (rises_from (w + 1) vs) p.1 in
-    let above : v + 1 ≤ w = leb-true (v + 1) w q.0 in
-    rising_more v w vs (omega arith) (rising_spelled (v + 1) (w ∷ vs) p.1)
+entries_spelled : (so_far : List (ℕ × List ℕ)) (parts : List (List (List ℕ))) (entries : List (ℕ × List ℕ)) → IsRising so_far → entries_after so_far parts ≡ Some entries → PutsBehind so_far entries parts
+unfolding entries_after
+entries_spelled so_far [] entries rising e =
+    let same : so_far ≡ entries = same_Some so_far entries e in
+    record { rest = []; joined = sym same ∙ sym (append-nil so_far); spelled = tt; rising = subst IsRising same rising }
+entries_spelled so_far (part ∷ parts) entries rising e =
+    let p = then_some so_far (entry_of part) (λ longer. entries_after longer parts) entries e in
+    let longer : IsRising (so_far ++ p.0 ∷ []) = rising-push so_far p.0.0 p.0.1 rising (above_is so_far p.0.0 p.2) in
+    let q = entries_spelled (so_far ++ p.0 ∷ []) parts entries longer p.3 in
+    record {
+      rest = p.0 ∷ q.rest;
+      joined = q.joined ∙ append_assoc so_far (p.0 ∷ []) q.rest;
+      spelled = (entry_spelled part p.0 p.1, q.spelled);
+      rising = q.rising;
+    }
 
-abbrev pub vertices : List (ℕ × List ℕ) → List ℕ
-vertices entries = map (λ entry. entry.0) entries
-
-entries_spelled : (low : ℕ) (parts : List (List (List ℕ))) (entries : List (ℕ × List ℕ)) → entries_from low parts ≡ Some entries → AllZip SpellsEntry parts entries × (rises_from low (vertices entries) ≡ true)
-unfolding entries_from
-entries_spelled low [] entries e =
-    subst (λ (xs : List (ℕ × List ℕ)). AllZip SpellsEntry [] xs × (rises_from low (vertices xs) ≡ true)) (same_Some [] entries e) (tt, refl)
-entries_spelled low (part ∷ parts) entries e =
-    let p = entry_some low (entry_of part) (λ above. entries_from above parts) entries e in
-    let rest = entries_spelled (p.0.0 + 1) parts p.1 p.4 in
-    subst (λ (xs : List (ℕ × List ℕ)). AllZip SpellsEntry (part ∷ parts) xs × (rises_from low (vertices xs) ≡ true)) p.5
-    ((entry_spelled part p.0 p.2, rest.0), and_from (leb low p.0.0) (rises_from (p.0.0 + 1) (vertices p.1)) p.3 rest.1)
-
-entries_read : (low : ℕ) (parts : List (List (List ℕ))) (entries : List (ℕ × List ℕ)) → AllZip SpellsEntry parts entries → rises_from low (vertices entries) ≡ true → entries_from low parts ≡ Some entries
-unfolding entries_from
-entries_read low [] [] s r = refl
-entries_read low [] (entry ∷ entries) s r = absurd s
-entries_read low (part ∷ parts) [] s r = absurd s
-entries_read low (part ∷ parts) (entry ∷ entries) s r =
-    let a = and_parts (leb low entry.0) (rises_from (entry.0 + 1) (vertices entries)) r in
-    ap (λ (o : Option (ℕ × List ℕ)). entry_and low o (λ above. entries_from above parts)) (entry_read part entry s.0)
-    ∙ cond-true (leb low entry.0) (with_first (Some entry) (entries_from (entry.0 + 1) parts)) None a.0
-    ∙ ap (λ (o : Option (List (ℕ × List ℕ))). option_map (λ xs. entry ∷ xs) o) (entries_read (entry.0 + 1) parts entries s.1 a.1)
+entries_read : (so_far : List (ℕ × List ℕ)) (parts : List (List (List ℕ))) (rest : List (ℕ × List ℕ)) → AllZip SpellsEntry parts rest → IsRising (so_far ++ rest) → entries_after so_far parts ≡ Some (so_far ++ rest)
+unfolding entries_after
+entries_read so_far [] [] s rising = ap (λ (xs : List (ℕ × List ℕ)). Some xs) (sym (append-nil so_far))
+entries_read so_far [] (next ∷ rest) s rising = absurd s
+entries_read so_far (part ∷ parts) [] s rising = absurd s
+entries_read so_far (part ∷ parts) (next ∷ rest) s rising =
+    let regrouped : (so_far ++ next ∷ []) ++ rest ≡ so_far ++ next ∷ rest = append_assoc so_far (next ∷ []) rest in
+    ap (λ (o : Option (ℕ × List ℕ)). entry_then so_far o (λ longer. entries_after longer parts)) (entry_read part next s.0)
+    ∙ cond-true (is_above so_far next.0) (entries_after (so_far ++ next ∷ []) parts) None (above_from so_far next.0 (above_in so_far next rest rising))
+    ∙ entries_read (so_far ++ next ∷ []) parts rest s.1 (subst IsRising (sym regrouped) rising)
+    ∙ ap (λ (xs : List (ℕ × List ℕ)). Some xs) regrouped
 
 -- ---- rotations
+
+none_rises : IsRising []
+none_rises i j below within = absurd (omega arith)
 
 pub rotation_spelled : (tokens : List (List ℕ)) (entries : List (ℕ × List ℕ)) → rotation_of tokens ≡ Some entries → SpellsRotation tokens entries
 unfolding rotation_of
 rotation_spelled [] entries e = inl (refl, sym (same_Some [] entries e))
 rotation_spelled (token ∷ tokens) entries e =
-    let p = entries_spelled 0 (slice_split is_semicolon (token ∷ tokens)) entries e in
-    inr (p.0, rising_spelled 0 (vertices entries) p.1)
+    let p = entries_spelled [] (slice_split is_semicolon (token ∷ tokens)) entries none_rises e in
+    inr (subst (λ (xs : List (ℕ × List ℕ)). AllZip SpellsEntry (slice_split is_semicolon (token ∷ tokens)) xs) (sym p.joined) p.spelled, p.rising)
 
 one_empty_part : (entries : List (ℕ × List ℕ)) → AllZip SpellsEntry ([] ∷ []) entries → ⊥
 one_empty_part [] s = s
@@ -134,4 +143,4 @@ rotation_read [] entries (inl s) = ap (λ (xs : List (ℕ × List ℕ)). Some xs
 rotation_read [] entries (inr s) = absurd (one_empty_part entries s.0)
 rotation_read (token ∷ tokens) entries (inl s) = absurd (cc (s.0))
 rotation_read (token ∷ tokens) entries (inr s) =
-    entries_read 0 (slice_split is_semicolon (token ∷ tokens)) entries s.0 (rising_read 0 (vertices entries) (λ some. omega arith) s.1)
+    entries_read [] (slice_split is_semicolon (token ∷ tokens)) entries s.0 s.1

@@ -1,9 +1,9 @@
 -- What an option that is `Some` says of the steps that made it.
-use Rattle.std.proofs.Common.{◌≡◌, ℕ, ◌+◌, ◌≤◌, Bool, true, false, cond, leb, List, [], ◌∷◌, Option, Some, None, refl, ap, ◌∙◌}
+use Rattle.std.proofs.Common.{◌≡◌, ℕ, ◌+◌, ◌≤◌, Bool, true, false, cond, leb, List, [], ◌∷◌, ◌++◌, Option, Some, None, refl, ap, ◌∙◌}
 use Rattle.std.specs.Option.{option_map}
 use Rattle.std.proofs.lemmas.Bool.{leb-true}
 use Rattle.std.proofs.lemmas.Option.{same_Some, none-some}
-use Rattle.spqr_script.specs.Reading.{with_first, pair_of, entry_and}
+use Rattle.spqr_script.specs.Reading.{with_first, pair_of, is_above, entry_then}
 
 -- a chosen option that is Some was chosen by the test
 pub cond_some_of : {A : Type 0} (b : Bool) (o : Option A) (y : A) → cond b o None ≡ Some y → (b ≡ true) × (o ≡ Some y)
@@ -22,9 +22,7 @@ pub pair_some : (o : Option ℕ) (edges : Option (List ℕ)) (entry : ℕ × Lis
 pair_some None edges entry e = absurd (none-some entry e)
 pair_some (Some v) edges entry e = let p = map_some (λ es. (v, es)) edges entry e in (v, p.0, refl, p.1, p.2)
 
-pub entry_some : (low : ℕ) (o : Option (ℕ × List ℕ)) (others : ℕ → Option (List (ℕ × List ℕ))) (ys : List (ℕ × List ℕ)) → entry_and low o others ≡ Some ys
-    → (entry : ℕ × List ℕ) × (xs : List (ℕ × List ℕ)) × (o ≡ Some entry) × (leb low entry.0 ≡ true) × (others (entry.0 + 1) ≡ Some xs) × (entry ∷ xs ≡ ys)
-entry_some low None others ys e = absurd (none-some ys e)
-entry_some low (Some entry) others ys e =
-    let p = cond_some_of (leb low entry.0) (with_first (Some entry) (others (entry.0 + 1))) ys e in
-    let q = map_some (λ xs. entry ∷ xs) (others (entry.0 + 1)) ys p.1 in (entry, q.0, refl, p.0, q.1, q.2)
+pub then_some : (so_far : List (ℕ × List ℕ)) (o : Option (ℕ × List ℕ)) (further : List (ℕ × List ℕ) → Option (List (ℕ × List ℕ))) (ys : List (ℕ × List ℕ)) → entry_then so_far o further ≡ Some ys
+    → (next : ℕ × List ℕ) × (o ≡ Some next) × (is_above so_far next.0 ≡ true) × (further (so_far ++ next ∷ []) ≡ Some ys)
+then_some so_far None further ys e = absurd (none-some ys e)
+then_some so_far (Some next) further ys e = let p = cond_some_of (is_above so_far next.0) (further (so_far ++ next ∷ [])) ys e in (next, refl, p.0, p.1)

@@ -2,7 +2,7 @@
 use Rattle.std.proofs.Common.{◌≡◌, ℕ, List, [], ◌∷◌, Option, Some, None, Result, Ok, Err, codes, true, false, refl}
 use Rattle.spqr_script.specs.Number.{number_below}
 use Rattle.spqr_script.specs.Line.{cut_lines, lines_of, is_passed_over, tokens_of}
-use Rattle.spqr_script.specs.Reading.{indices_of, entry_of, entries_from, rotation_of, command_of, commands_from}
+use Rattle.spqr_script.specs.Reading.{indices_of, entry_of, entries_after, rotation_of, command_of, commands_from}
 use Rattle.spqr_script.specs.declared.command.Command.{Command}
 use Rattle.spqr_script.specs.declared.command.Command.TheVariants.{Euler, Gml}
 
@@ -53,19 +53,19 @@ unfolding spelled tokens_of command_of rotation_of
 empty_rotation = refl
 
 path_of_two : spelled (codes "euler 0: 0; 1: 0 1; 2: 1") ≡ Some (Euler ((0, 0 ∷ []) ∷ (1, 0 ∷ 1 ∷ []) ∷ (2, 1 ∷ []) ∷ []))
-unfolding spelled tokens_of command_of rotation_of entries_from entry_of indices_of
+unfolding spelled tokens_of command_of rotation_of entries_after entry_of indices_of
 path_of_two = refl
 
 lone_vertices : spelled (codes "euler 0 : 1 ;2:") ≡ Some (Euler ((0, 1 ∷ []) ∷ (2, []) ∷ []))
-unfolding spelled tokens_of command_of rotation_of entries_from entry_of indices_of
+unfolding spelled tokens_of command_of rotation_of entries_after entry_of indices_of
 lone_vertices = refl
 
 last_semicolon : spelled (codes "euler 0: 0;") ≡ None
-unfolding spelled tokens_of command_of rotation_of entries_from entry_of indices_of
+unfolding spelled tokens_of command_of rotation_of entries_after entry_of indices_of
 last_semicolon = refl
 
 falling : spelled (codes "euler 1: 0; 0: 1") ≡ None
-unfolding spelled tokens_of command_of rotation_of entries_from entry_of indices_of
+unfolding spelled tokens_of command_of rotation_of entries_after entry_of indices_of
 falling = refl
 
 upper_case : spelled (codes "EULER") ≡ None

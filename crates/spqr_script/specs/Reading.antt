@@ -1,6 +1,7 @@
 -- Reading as functions on lists: what the functions of the reader answer. proofs/ shows that it is what `Script` says.
-use Rattle.std.specs.Prelude.{◌≡◌, ℕ, ◌+◌, Bool, true, false, ◌&&◌, nat_le, if◌then◌else◌, List, [], ◌∷◌, Option, Some, None, option_map, Result, Ok, Err, Vec, bytes_eq, codes}
+use Rattle.std.specs.Prelude.{◌≡◌, ℕ, ◌+◌, ◌-◌, Bool, ◌||◌, ◌==◌, nat_lt, if◌then◌else◌, List, [], ◌∷◌, ◌++◌, length, Option, Some, None, option_map, Result, Ok, Err, Vec, bytes_eq, codes}
 use Rattle.std.specs.List.{slice_split}
+use Rattle.rotations.specs.Entries.{entry}
 use Rattle.spqr_script.specs.Number.{number_below, index_limit}
 use Rattle.spqr_script.specs.Line.{lines_of, is_passed_over, tokens_of}
 use Rattle.spqr_script.specs.Script.{is_semicolon}
@@ -32,20 +33,24 @@ entry_of [] = None
 entry_of (v ∷ []) = None
 entry_of (v ∷ mark ∷ edges) = (if bytes_eq mark (codes ":") then pair_of (index_of v) (indices_of edges) else None)
 
--- an entry whose vertex is at least `low`, and the entries that others gives for the vertices above it
-abbrev pub entry_and : ℕ → Option (ℕ × List ℕ) → (ℕ → Option (List (ℕ × List ℕ))) → Option (List (ℕ × List ℕ))
-entry_and low None others = None
-entry_and low (Some entry) others = (if nat_le low entry.0 then with_first (Some entry) (others (entry.0 + 1)) else None)
+-- v is above the vertex of the last entry, if there is one
+abbrev pub is_above : List (ℕ × List ℕ) → ℕ → Bool
+is_above entries v = length entries == 0 || nat_lt (entry entries (length entries - 1)).0 v
 
--- entries with rising vertices, the first at least `low`
-unfoldable pub entries_from : ℕ → List (List (List ℕ)) → Option (List (ℕ × List ℕ))
-entries_from low [] = Some []
-entries_from low (part ∷ parts) = entry_and low (entry_of part) (λ above. entries_from above parts)
+-- the entries so far and one more, where its vertex is above them, and then those that `further` puts behind
+abbrev pub entry_then : List (ℕ × List ℕ) → Option (ℕ × List ℕ) → (List (ℕ × List ℕ) → Option (List (ℕ × List ℕ))) → Option (List (ℕ × List ℕ))
+entry_then so_far None further = None
+entry_then so_far (Some next) further = (if is_above so_far next.0 then further (so_far ++ next ∷ []) else None)
+
+-- the entries so far and one for each part, their vertices rising
+unfoldable pub entries_after : List (ℕ × List ℕ) → List (List (List ℕ)) → Option (List (ℕ × List ℕ))
+entries_after so_far [] = Some so_far
+entries_after so_far (part ∷ parts) = entry_then so_far (entry_of part) (λ longer. entries_after longer parts)
 
 -- a rotation
 unfoldable pub rotation_of : List (List ℕ) → Option (List (ℕ × List ℕ))
 rotation_of [] = Some []
-rotation_of (token ∷ tokens) = entries_from 0 (slice_split is_semicolon (token ∷ tokens))
+rotation_of (token ∷ tokens) = entries_after [] (slice_split is_semicolon (token ∷ tokens))
 
 -- the command without arguments, where no token is left
 abbrev pub alone : Command → List (List ℕ) → Option Command

@@ -1,7 +1,7 @@
 -- Which commands a script spells, and which line is the first that is none.
 use Rattle.std.specs.Prelude.{◌≡◌, ℕ, ◌+◌, ◌-◌, ◌<◌, ◌≤◌, Bool, true, false, not, ◌⊎◌, List, [], ◌∷◌, length, map, filter, slice_index_or, bytes_eq, codes}
 use Rattle.std.specs.List.{AllZip, slice_split}
-use Rattle.std.specs.List.Sorted.{IsStrictlyIncreasing}
+use Rattle.rotations.specs.Entries.{IsRising}
 use Rattle.spqr_script.specs.Number.{SpellsNumber, index_limit}
 use Rattle.spqr_script.specs.Line.{lines_of, is_passed_over, tokens_of}
 use Rattle.spqr_script.specs.declared.command.Command.{Command}
@@ -24,7 +24,7 @@ is_semicolon token = bytes_eq token (codes ";")
 -- a rotation: nothing, or one or more entries with `;` between them, their vertices strictly rising
 abbrev pub SpellsRotation : List (List ℕ) → List (ℕ × List ℕ) → Type 0
 SpellsRotation tokens entries =
-    ((tokens ≡ []) × (entries ≡ [])) ⊎ (AllZip SpellsEntry (slice_split is_semicolon tokens) entries × IsStrictlyIncreasing (map (λ entry. entry.0) entries))
+    ((tokens ≡ []) × (entries ≡ [])) ⊎ (AllZip SpellsEntry (slice_split is_semicolon tokens) entries × IsRising entries)
 
 -- the tokens of a line are a command: `euler ROT` or `gml`
 abbrev pub SpellsCommand : List (List ℕ) → Command → Type 0

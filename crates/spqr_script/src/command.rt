@@ -1,5 +1,5 @@
 // The commands of a script.
-use crate::stub::Lists;
+use rotations::Lists;
 
 /// A command.
 #[derive(Drop)]

@@ -5,7 +5,6 @@ mod answers;
 mod command;
 mod head;
 mod refusals;
-mod stub;
 mod text;
 
 pub use answers::{
