@@ -20,3 +20,5 @@ pub mod NormalForm
 pub mod Unlinking
 pub mod TakenOut
 pub mod Renaming
+pub mod Filter
+pub mod CyclicOrder

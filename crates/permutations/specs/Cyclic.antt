@@ -1,5 +1,6 @@
 -- Lists without repetition, read as cyclic orders: the first member follows the last.
-use Rattle.std.specs.Prelude.{◌≡◌, ℕ, min, ◌==◌, if◌then◌else◌, List, [], ◌∷◌, ◌++◌, reverse}
+use Rattle.std.specs.Prelude.{◌≡◌, ℕ, min, ◌==◌, if◌then◌else◌, List, [], ◌∷◌, ◌++◌, reverse, filter}
+use Rattle.permutations.specs.Members.{is_member}
 
 -- the first member of a list, or x where it is empty
 abbrev pub first_or : ℕ → List ℕ → ℕ
@@ -47,3 +48,11 @@ least_or x (y ∷ ys) = min x (least_or y ys)
 -- the cyclic order written from its least member on: one list for each cyclic order
 abbrev pub from_least : List ℕ → List ℕ
 from_least l = turned l (least_or (first_or 0 l) l)
+
+-- the members of k stand in l, in this order
+abbrev pub Follows : List ℕ → List ℕ → Type 0
+Follows l k = filter (λ x. is_member x k) l ≡ k
+
+-- the members of k are met in this order on the way round l
+abbrev pub FollowsAround : List ℕ → List ℕ → Type 0
+FollowsAround l k = IsTurn (filter (λ x. is_member x k) l) k
