@@ -1,4 +1,8 @@
 -- The lemmas behind the counts of faces and components.
 pub mod Reaching
 pub mod Walk
+pub mod Found
 pub mod Starts
+pub mod Looks
+pub mod Neighbours
+pub mod Searched

@@ -1,69 +1,26 @@
 -- The starts of orbits: going up the numbers, one is unmarked exactly where it begins its orbit.
-use Rattle.std.proofs.Common.{◌≡◌, ℕ, zero, suc, ◌+◌, ◌<◌, ◌≤◌, Bool, true, false, not, ◌||◌, List, replicate, refl, sym, ap, ◌∙◌, inl, inr, arith}
-use Rattle.std.proofs.Math.Bool.{or-false}
-use Rattle.std.proofs.lemmas.Bool.{cases_Bool}
-use Rattle.permutations.specs.Count.{count, some}
+use Rattle.std.proofs.Common.{◌≡◌, ℕ, ◌<◌, ◌≤◌, Bool, true, not, List, sym, ap, ◌∙◌, arith}
+use Rattle.permutations.specs.Count.{count}
+use Rattle.permutations.specs.Relation.{leads}
 use Rattle.permutations.specs.Permutation.{reaches}
-use Rattle.permutations.proofs.Search.{some-from, some-witness, some-more, some-ext}
-use Rattle.permutations.proofs.Count.{count-yes, count-no, count-ext, count-within}
+use Rattle.permutations.proofs.Search.{some-ext}
+use Rattle.permutations.proofs.Count.{count-ext}
 use Rattle.faces.specs.Marks.{IsInjectiveBelow, is_marked, begins_orbit}
 use Rattle.faces.proofs.Reaching.{reaches-sides, reaches-through, reaches-image, reaches-ext}
-
--- the numbers below d are done: what they reach is marked, and the starts among them are counted
-pub record MarkedBelow (n : ℕ) (f : ℕ → ℕ) (d : ℕ) (marks : List Bool) (orbits : ℕ) : Type 0 where
-  pub marked : (x : ℕ) → is_marked marks x ≡ some d (λ y. reaches n f y x)
-  pub counted : orbits ≡ count d (begins_orbit n f)
-
--- nothing is marked in a list of false
-pub unmarked-replicate : (n x : ℕ) → is_marked (replicate n false) x ≡ false
-unmarked-replicate zero x = refl
-unmarked-replicate (suc n) zero = refl
-unmarked-replicate (suc n) (suc x) = unmarked-replicate n x
-
--- at first
-pub below-none : (n : ℕ) (f : ℕ → ℕ) (marks : List Bool) → ((x : ℕ) → is_marked marks x ≡ false) → MarkedBelow n f 0 marks 0
-below-none n f marks e = record { marked = e; counted = refl }
+use Rattle.faces.proofs.Found.{FoundBelow}
 
 -- a number's image is marked exactly where it is
-pub below-whole : (n : ℕ) (f : ℕ → ℕ) → IsInjectiveBelow n f → (d : ℕ) (marks : List Bool) (orbits : ℕ) → MarkedBelow n f d marks orbits → d ≤ n → (x : ℕ) → x < n → is_marked marks (f x) ≡ is_marked marks x
-below-whole n f p d marks orbits m l x k =
+pub starts-whole : (n : ℕ) (f : ℕ → ℕ) → IsInjectiveBelow n f → (d : ℕ) (marks : List Bool) (orbits : ℕ) → FoundBelow (reaches n f) d marks orbits → d ≤ n → (x : ℕ) → x < n → is_marked marks (f x) ≡ is_marked marks x
+starts-whole n f p d marks orbits m l x k =
     m.marked (f x) ∙ some-ext d (λ y. reaches n f y (f x)) (λ y. reaches n f y x) (λ y h. reaches-image n f p y x (omega arith) k) ∙ sym (m.marked x)
 
--- the next number begins its orbit exactly where it is unmarked
-pub below-begins : (n : ℕ) (f : ℕ → ℕ) → IsInjectiveBelow n f → (d : ℕ) (marks : List Bool) (orbits : ℕ) → MarkedBelow n f d marks orbits → d < n → begins_orbit n f d ≡ not (is_marked marks d)
-below-begins n f p d marks orbits m l =
-    ap not (some-ext d (λ y. reaches n f d y) (λ y. reaches n f y d) (λ y h. reaches-sides n f p d y l (omega arith)) ∙ sym (m.marked d))
+-- what a smaller number reaches along with d, it reaches by way of d
+pub starts-through : (n : ℕ) (f : ℕ → ℕ) → IsInjectiveBelow n f → (d : ℕ) → d < n → (y x : ℕ) → y < d → reaches n f y d ≡ true → reaches n f d x ≡ true → reaches n f y x ≡ true
+starts-through n f p d l y x k = reaches-through n f p y d x (omega arith)
 
--- a marked number adds nothing
-pub below-skip : (n : ℕ) (f : ℕ → ℕ) → IsInjectiveBelow n f → (d : ℕ) (marks : List Bool) (orbits : ℕ) → MarkedBelow n f d marks orbits → d < n → is_marked marks d ≡ true → MarkedBelow n f (d + 1) marks orbits
-below-skip n f p d marks orbits m l e = record {
-  marked = λ x. m.marked x ∙ sym (some-more d (λ y. reaches n f y x) ∙ within x);
-  counted = m.counted ∙ sym (count-no d (begins_orbit n f) (below-begins n f p d marks orbits m l ∙ ap not e));
-}
-  where
-    earlier : (x : ℕ) → reaches n f d x ≡ true → some d (λ y. reaches n f y x) ≡ true
-    earlier x t =
-        let w : (y : ℕ) × (y < d) × (reaches n f y d ≡ true) = some-witness d (λ y. reaches n f y d) (sym (m.marked d) ∙ e) in
-        let below : w.0 < n = omega (arith, w.1) in
-        some-from d (λ y. reaches n f y x) w.0 w.1 (reaches-through n f p w.0 d x below w.2 t)
-
-    within : (x : ℕ) → (some d (λ y. reaches n f y x) || reaches n f d x) ≡ some d (λ y. reaches n f y x)
-    within x = elim (cases_Bool (reaches n f d x)) [
-      | inl t ↦ ap (λ b. b || reaches n f d x) (earlier x t) ∙ sym (earlier x t)
-      | inr t ↦ ap (λ b. some d (λ y. reaches n f y x) || b) t ∙ or-false (some d (λ y. reaches n f y x))
-    ]
-
--- an unmarked number begins an orbit, which is marked now
-pub below-more : (n : ℕ) (f : ℕ → ℕ) → IsInjectiveBelow n f → (d : ℕ) (before now : List Bool) (orbits : ℕ) → MarkedBelow n f d before orbits → d < n → is_marked before d ≡ false
-    → ((x : ℕ) → is_marked now x ≡ (is_marked before x || reaches n f d x)) → MarkedBelow n f (d + 1) now (orbits + 1)
-below-more n f p d before now orbits m l e h = record {
-  marked = λ x. h x ∙ ap (λ b. b || reaches n f d x) (m.marked x) ∙ sym (some-more d (λ y. reaches n f y x));
-  counted = ap (λ k. k + 1) m.counted ∙ sym (count-yes d (begins_orbit n f) (below-begins n f p d before orbits m l ∙ ap not e));
-}
-
--- so far there are at most as many orbits as numbers
-pub below-few : (n : ℕ) (f : ℕ → ℕ) (d : ℕ) (marks : List Bool) (orbits : ℕ) → MarkedBelow n f d marks orbits → orbits ≤ d
-below-few n f d marks orbits m = omega (arith, m.counted, count-within d (begins_orbit n f))
+-- a number that leads its class begins its orbit
+pub starts-lead : (n : ℕ) (f : ℕ → ℕ) → IsInjectiveBelow n f → count n (leads (reaches n f)) ≡ count n (begins_orbit n f)
+starts-lead n f p = count-ext n (leads (reaches n f)) (begins_orbit n f) (λ d l. ap not (some-ext d (λ y. reaches n f y d) (λ y. reaches n f d y) (λ y h. reaches-sides n f p y d (omega arith) l)))
 
 -- two functions that agree below n have the same starts
 pub begins-ext : (n : ℕ) (f h : ℕ → ℕ) → ((x : ℕ) → x < n → f x ≡ h x) → IsInjectiveBelow n f → (x : ℕ) → x < n → begins_orbit n f x ≡ begins_orbit n h x

@@ -1,5 +1,5 @@
 -- The walk that marks one orbit: along the images until a marked number is met.
-use Rattle.std.proofs.Common.{◌≡◌, ℕ, zero, suc, ◌+◌, ◌<◌, Bool, true, false, not, ◌||◌, ◌==◌, cond, List, length, get_or, refl, sym, ap, ◌∙◌, inl, inr, subst, arith, count_by}
+use Rattle.std.proofs.Common.{◌≡◌, ℕ, zero, suc, ◌+◌, ◌<◌, Bool, true, false, not, ◌||◌, ◌==◌, cond, List, length, get_or, refl, sym, ap, ◌∙◌, inl, inr, subst, arith}
 use Rattle.std.proofs.lemmas.Bool.{eqb-true, eq-eqb, ne_eqb, cases_eq, cases_lt}
 use Rattle.std.proofs.Math.Bool.{or-true, or-false, or_assoc}
 use Rattle.std.proofs.lemmas.List.{get_or-set_same, get_or-set_other}
@@ -10,11 +10,8 @@ use Rattle.permutations.specs.Permutation.{iterate, reaches}
 use Rattle.permutations.proofs.Search.{some-from, some-witness, some-more}
 use Rattle.permutations.proofs.Relation.{same-tests}
 use Rattle.faces.specs.Marks.{IsInjectiveBelow, is_marked}
+use Rattle.faces.specs.Search.{unmarked_count}
 use Rattle.faces.proofs.Reaching.{iterate-below, iterate-next, reaches-from, reaches-steps}
-
--- how many places are not marked
-abbrev pub unmarked_count : List Bool → ℕ
-unmarked_count marks = count_by not marks
 
 -- a mark that was not there: one place fewer is unmarked
 pub unmarked-less : (marks : List Bool) (x : ℕ) → x < length marks → is_marked marks x ≡ false → unmarked_count (set marks x true) + 1 ≡ unmarked_count marks

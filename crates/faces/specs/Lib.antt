@@ -1,3 +1,4 @@
 -- Faces of a rotation system, and Euler's sum.
 pub mod Euler
 pub mod Marks
+pub mod Search

@@ -6,6 +6,7 @@
 // plane where it is 2C. This crate counts the four numbers in linear time, with stacks of its own and no recursion.
 #![tactic(auto)]
 
+mod components;
 mod numbers;
 mod orbits;
 

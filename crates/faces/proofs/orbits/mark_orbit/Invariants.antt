@@ -1,6 +1,7 @@
 -- The walk so far, and how many places it can still mark.
 use Rattle.std.proofs.Common.{◌<◌, length, slice_index}
-use Rattle.faces.proofs.Walk.{Walked, unmarked_count}
+use Rattle.faces.proofs.Walk.{Walked}
+use Rattle.faces.specs.Search.{unmarked_count}
 use Rattle.faces.proofs.orbits.mark_orbit.Given as goal
 
 abbrev pub invariant-loop-marks : goal.invariant-loop-marks
