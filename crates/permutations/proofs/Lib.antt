@@ -22,3 +22,5 @@ pub mod TakenOut
 pub mod Renaming
 pub mod Filter
 pub mod CyclicOrder
+pub mod Chains
+pub mod Rings

@@ -5,3 +5,4 @@ pub mod Permutation
 pub mod Cyclic
 pub mod Members
 pub mod Exchange
+pub mod Ring

@@ -1,0 +1,17 @@
+-- The orbit of a permutation as a list, in the order of its steps.
+use Rattle.std.specs.Prelude.{ℕ, zero, suc, ◌+◌, ◌==◌, List, [], ◌∷◌}
+use Rattle.permutations.specs.Count.{least}
+use Rattle.permutations.specs.Permutation.{iterate}
+
+-- x and its images, k numbers in all
+abbrev pub images : (ℕ → ℕ) → ℕ → ℕ → List ℕ
+images f zero x = []
+images f (suc k) x = x ∷ images f k (f x)
+
+-- after how many steps of f, at most n, x comes back
+abbrev pub orbit_length : ℕ → (ℕ → ℕ) → ℕ → ℕ
+orbit_length n f x = least n (λ k. iterate f (k + 1) x == x) + 1
+
+-- the orbit of x as a cyclic order, written from x on
+abbrev pub ring : ℕ → (ℕ → ℕ) → ℕ → List ℕ
+ring n f x = images f (orbit_length n f x) x
