@@ -3,3 +3,7 @@ pub mod Darts
 pub mod Components
 pub mod Steps
 pub mod Euler
+pub mod Plane
+pub mod Drop
+pub mod Insert
+pub mod Mirror

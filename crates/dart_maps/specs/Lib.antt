@@ -1,2 +1,3 @@
 -- Maps of darts: faces, components, Euler's sum, and the changes that keep a map plane.
 pub mod Map
+pub mod Changes

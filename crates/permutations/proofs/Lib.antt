@@ -24,3 +24,4 @@ pub mod Filter
 pub mod CyclicOrder
 pub mod Chains
 pub mod Rings
+pub mod Restriction

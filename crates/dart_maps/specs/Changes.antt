@@ -1,0 +1,23 @@
+-- Changes of a map that leave all else in place: an edge dropped, inserted, contracted, or two edges glued.
+-- The darts of an edge that is gone stay, each alone at a vertex of its own, so that all darts keep their numbers.
+use Rattle.std.specs.Prelude.{ℕ, ◌||◌, ◌==◌, if◌then◌else◌}
+use Rattle.permutations.specs.Exchange.{exchange, unlink}
+use Rattle.dart_maps.specs.Map.{twin}
+
+-- the map without the edge of dart d: each of its two darts is taken out of its vertex
+abbrev pub dropped : ℕ → (ℕ → ℕ) → ℕ → ℕ
+dropped d next = unlink (twin d) (unlink d next)
+
+-- the map with the edge of dart d put in: d behind p at the one end, its twin behind q at the other
+abbrev pub inserted : ℕ → ℕ → ℕ → (ℕ → ℕ) → ℕ → ℕ
+inserted d p q next = exchange q (twin d) (exchange p d next)
+
+-- what follows c, and where c is alone what follows d
+abbrev pub follows : ℕ → ℕ → (ℕ → ℕ) → ℕ
+follows c d next = (if next c == c then next d else next c)
+
+-- the map with the edge of dart d contracted: at the one vertex that is left, the darts behind d are followed by
+-- those behind its twin
+unfoldable pub contracted : ℕ → (ℕ → ℕ) → ℕ → ℕ
+contracted d next x =
+    (if x == d || x == twin d then x else (if next x == d then follows (twin d) d next else (if next x == twin d then follows d (twin d) next else next x)))
