@@ -1,5 +1,5 @@
 -- The two ends of an edge.
-use Rattle.std.proofs.Common.{◌≡◌, ◌≢◌, ℕ, ◌<◌, ◌⊎◌, inl, inr, true, ◌||◌, ◌==◌, cond, refl, sym, ◌∙◌, arith}
+use Rattle.std.proofs.Common.{◌≡◌, ◌≢◌, ℕ, ◌<◌, ◌⊎◌, inl, inr, true, ◌||◌, ◌==◌, cond, refl, sym, subst, ◌∙◌, arith}
 use Rattle.std.proofs.lemmas.Bool.{cases_Bool, both_ways, or_cases, eq-eqb, eqb-true}
 use Rattle.multigraph.specs.Graph.{Multigraph, edge_count, ends_of, is_end, other_end, IsGraph}
 
@@ -53,3 +53,10 @@ end-cases g e x z h k = cases (ends_of g e).0 (ends_of g e).1 h k
             | inr bz ↦ inl (sym (eqb-true b z bz) ∙ elim (or_cases (a == x) (b == x) s) [ inl ax ↦ absurd (both_ways (a == x) nax ax) | inr bx ↦ eqb-true b x bx ])
           ]
         ]
+
+-- where every end of an edge is a vertex, an end of an edge is one
+pub end-in : (g : Multigraph) → IsGraph g → (e x : ℕ) → e < edge_count g → is_end g x e ≡ true → x < g.vertex_count
+end-in g i e x l h = elim (or_cases ((ends_of g e).0 == x) ((ends_of g e).1 == x) h) [
+  | inl a ↦ subst (λ (k : ℕ). k < g.vertex_count) (eqb-true (ends_of g e).0 x a) (i.first_in e l)
+  | inr b ↦ subst (λ (k : ℕ). k < g.vertex_count) (eqb-true (ends_of g e).1 x b) (i.second_in e l)
+]

@@ -9,3 +9,7 @@ pub mod Exchange
 pub mod Crossings
 pub mod Connection
 pub mod Examples
+pub mod Chains
+pub mod TreePaths
+pub mod SameLabel
+pub mod BlockLabel

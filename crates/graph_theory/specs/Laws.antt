@@ -1,10 +1,11 @@
 -- What is proved of walks, paths, cycles and blocks, as statements.
-use Rattle.std.specs.Prelude.{◌≡◌, ℕ, Bool, true, List}
+use Rattle.std.specs.Prelude.{◌≡◌, ℕ, ◌<◌, ◌↔◌, Bool, true, List}
 use Rattle.permutations.specs.Relation.{connected}
-use Rattle.multigraph.specs.Graph.{Multigraph, IsGraph}
+use Rattle.multigraph.specs.Graph.{Multigraph, edge_count, IsGraph}
 use Rattle.graph_theory.specs.Path.{IsPath}
 use Rattle.graph_theory.specs.Block.{SameBlock}
 use Rattle.graph_theory.specs.Side.{IsCommon}
+use Rattle.graph_theory.specs.SearchTree.{IsSearchForest, AreLowPoints, AreLabels}
 
 -- each edge is in the block of itself
 abbrev pub BlocksReflexive : Type 0
@@ -29,3 +30,10 @@ ConnectedByPath = (g : Multigraph) (x y : ℕ) → connected g.ends x y ≡ true
 -- vertices that are joined by a path are connected by the ends of edges
 abbrev pub PathConnects : Type 0
 PathConnects = (g : Multigraph) (x : ℕ) (es : List ℕ) (y : ℕ) → IsPath g x es y → connected g.ends x y ≡ true
+
+-- in a search forest two edges are in the same block exactly where their lower ends have the same label
+abbrev pub LabelsTellBlocks : Type 0
+LabelsTellBlocks =
+    (g : Multigraph) → IsGraph g → (parent depth parent_edge lower low label : ℕ → ℕ)
+    → IsSearchForest g parent depth parent_edge lower → AreLowPoints g parent depth parent_edge lower low → AreLabels g parent depth low label
+    → (e f : ℕ) → e < edge_count g → f < edge_count g → (label (lower e) ≡ label (lower f)) ↔ SameBlock g e f

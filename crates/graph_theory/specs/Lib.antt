@@ -2,4 +2,5 @@
 pub mod Path
 pub mod Block
 pub mod Side
+pub mod SearchTree
 pub mod Laws

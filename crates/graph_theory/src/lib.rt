@@ -18,9 +18,13 @@
 //   Exchange    ear_of_cycle, cycle_of_ear, block-transitive: in the same block is an equivalence
 //   Crossings   cycle-two_common, block-one_side: a cycle with edges on both sides of a division has two common vertices
 //   Connection  connected-path, path-connected: connection by links and by paths is the same
+//   Chains      chain-depth, below-transitive, below-between: ancestors in a search forest
+//   TreePaths   frond-cycle: an edge to an ancestor closes a cycle over the parent edges on the way
+//   SameLabel   same_label-block: edges whose lower ends have one label by low points are in one block
+//   BlockLabel  block-same_label: edges in one block have lower ends with one label
 #![tactic(auto)]
 
-ghost use Rattle.graph_theory.specs.Laws.{BlocksReflexive, BlocksSymmetric, BlocksTransitive, BlocksUndivided, ConnectedByPath, PathConnects};
+ghost use Rattle.graph_theory.specs.Laws.{BlocksReflexive, BlocksSymmetric, BlocksTransitive, BlocksUndivided, ConnectedByPath, PathConnects, LabelsTellBlocks};
 
 /// The law that "equal or on a common cycle" is an equivalence of the edges of a graph without loops.
 pub fn same_block_is_equivalence()
@@ -38,4 +42,10 @@ pub fn blocks_are_undivided()
 pub fn connection_is_by_paths()
     ensures by_path { ConnectedByPath }
     ensures by_links { PathConnects }
+{}
+
+/// The law that low points tell the blocks (Hopcroft and Tarjan 1973): in a search forest two edges are in the same block
+/// exactly where their lower ends have the same label.
+pub fn low_points_tell_blocks()
+    ensures told { LabelsTellBlocks }
 {}
