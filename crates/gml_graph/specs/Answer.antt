@@ -1,8 +1,8 @@
 -- The graph of a document, or the first refusal.
-use Rattle.std.specs.Prelude.{◌≡◌, ℕ, zero, suc, ℤ, Bool, false, nat_lt, ◌==◌, if◌then◌else◌, List, [], ◌∷◌, ◌++◌, length, take, position, slice_index_or, Option, Some, None, Result, Ok, Err, codes}
+use Rattle.std.specs.Prelude.{◌≡◌, ℕ, zero, suc, ℤ, nat_lt, ◌==◌, if◌then◌else◌, List, [], ◌∷◌, ◌++◌, length, take, position, slice_index_or, Option, Some, None, Result, Ok, Err, codes}
 use Rattle.std.specs.Ordering.{int_eq}
 use Rattle.std.specs.List.{list_any}
-use Rattle.multigraph.specs.Graph.{Multigraph, max_vertices, max_edges}
+use Rattle.multigraph.specs.Graph.{max_vertices, max_edges}
 use Rattle.gml_text.specs.Document.{Document, empty}
 use Rattle.gml_graph.specs.Named.{NamedGraph}
 use Rattle.gml_graph.specs.Lists.{lists_under, first_under}
@@ -22,21 +22,26 @@ abbrev pub each_below : {A : Type 0} → ℕ → (ℕ → Result A GraphFault) �
 each_below zero f = Ok []
 each_below (suc n) f = and_one_more (each_below n f) (f n)
 
--- whether a node's list says this id
-abbrev pub says_id : ℤ → Reading → Bool
-says_id id Missing = false
-says_id id NotWhole = false
-says_id id (Whole z) = int_eq id z
+-- the id that a list says, if it says one
+abbrev pub said_by : Reading → List ℤ
+said_by Missing = []
+said_by NotWhole = []
+said_by (Whole id) = id ∷ []
 
--- the id that node k has by what its list says, after the lists of the earlier nodes
-abbrev pub id_after : List Document → ℕ → Reading → Result ℤ GraphFault
-id_after earlier k Missing = Err (NodeNoId k)
-id_after earlier k NotWhole = Err (NodeBadId k)
-id_after earlier k (Whole id) = (if list_any (λ node. says_id id (first_under (codes "id") node)) earlier then Err (SameId k) else Ok id)
+-- the ids that lists say, in order
+abbrev pub said_ids : List Document → List ℤ
+said_ids [] = []
+said_ids (node ∷ nodes) = said_by (first_under (codes "id") node) ++ said_ids nodes
+
+-- the id of node k by what its list says, where the earlier nodes have these ids
+abbrev pub id_among : List ℤ → ℕ → Reading → Result ℤ GraphFault
+id_among ids k Missing = Err (NodeNoId k)
+id_among ids k NotWhole = Err (NodeBadId k)
+id_among ids k (Whole id) = (if list_any (int_eq id) ids then Err (SameId k) else Ok id)
 
 -- the id of node k
 abbrev pub node_id : List Document → ℕ → Result ℤ GraphFault
-node_id nodes k = id_after (take k nodes) k (first_under (codes "id") (slice_index_or nodes k empty))
+node_id nodes k = id_among (said_ids (take k nodes)) k (first_under (codes "id") (slice_index_or nodes k empty))
 
 -- the ids of the nodes
 abbrev pub node_ids : List Document → Result (List ℤ) GraphFault
@@ -96,8 +101,7 @@ graph_among (g ∷ (h ∷ gs)) = Err MoreGraphs
 abbrev pub graph_of_document : Document → Result NamedGraph GraphFault
 graph_of_document d = graph_among (lists_under (codes "graph") d)
 
--- a result is the answer that is due, or want of memory
-abbrev pub Answers : {A B : Type 0} → (A → B) → Result A GraphFault → Result B GraphFault → Type 0
-Answers view (Ok x) due = due ≡ Ok (view x)
-Answers view (Err Memory) due = Unit {0}
-Answers view (Err e) due = due ≡ Err e
+-- a fault is the refusal that is due, or want of memory, which may come at any
+abbrev pub Refuses : {A : Type 0} → Result A GraphFault → GraphFault → Type 0
+Refuses due Memory = Unit {0}
+Refuses due fault = due ≡ Err fault

@@ -1,5 +1,10 @@
 // Why a document has no graph.
 
+ghost use Rattle.std.specs.Prelude.{◌≡◌};
+ghost use Rattle.gml_graph.specs.declared.fault.GraphFault.TheVariants.{Memory};
+
+use std::alloc::{AllocError, AllocFailed};
+
 /// Why `graph_of` gives no graph: the first refusal, in the order in which they stand here but for those of nodes and of edges.
 /// The refusals of a node are tried together for node 0, then for node 1, and so on; after the last node those of an edge,
 /// together for edge 0, then for edge 1, and so on. Nodes and edges are numbered from 0, each kind by itself.
@@ -29,4 +34,20 @@ pub enum GraphFault {
     Loop(u32),
     /// Memory ran out.
     Memory,
+}
+
+impl From<AllocError> for GraphFault {
+    ghost from_gives = { λ _ fault. fault ≡ Memory };
+
+    fn from(_: AllocError) -> GraphFault {
+        GraphFault::Memory
+    }
+}
+
+impl<T: Drop> From<AllocFailed<T>> for GraphFault {
+    ghost from_gives = { λ _ fault. fault ≡ Memory };
+
+    fn from(_: AllocFailed<T>) -> GraphFault {
+        GraphFault::Memory
+    }
 }

@@ -1,0 +1,6 @@
+mod Instances
+pub mod Digits
+pub mod Each
+pub mod Steps
+pub mod Places
+pub mod Sound

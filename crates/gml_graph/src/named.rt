@@ -1,0 +1,130 @@
+// A graph whose vertices have ids, and the one of a document.
+
+ghost use Rattle.std.specs.Prelude.{◌≡◌, ◌≢◌, ◌↔◌, ◌<◌, ℕ, Some, Ok, IsNone, IfOk, MatchResult, length, map, slice_get};
+ghost use Rattle.multigraph.specs.Graph.{IsGraph};
+ghost use Rattle.multigraph.specs.Build.{multigraph_of};
+ghost use Rattle.gml_text.specs.Pairs.{document_of};
+ghost use Rattle.gml_graph.specs.Named.{IsNamed};
+ghost use Rattle.gml_graph.specs.Answer.{Refuses, graph_between, graph_in, graph_of_document};
+
+use crate::edges::edge_ends;
+use crate::fault::GraphFault;
+use crate::ids::Ids;
+use crate::lists::lists_under;
+use crate::nodes::node_ids;
+use gml_text::{Doc, Pair, Pairs};
+use multigraph::{BuildFault, Graph};
+use std::alloc::{AllocError, Global};
+use std::marker::Model;
+
+const MAX_VERTICES: usize = 20_000;
+
+const MAX_EDGES: usize = 50_000;
+
+/// A multigraph without loops whose vertices have ids, each its own. Contracts see the multigraph and the list of the ids.
+#[derive(Drop)]
+pub struct Named {
+    graph: Graph,
+    ids: Ids,
+}
+
+impl Model for Named {
+    ghost use Rattle.gml_graph.specs.Named.{NamedGraph, IsNamed};
+
+    ghost Value = { NamedGraph };
+
+    ghost view = { λ named. record { graph = named.graph; ids = named.ids } };
+
+    ghost invariant = { λ named. IsNamed (record { graph = named.graph; ids = named.ids }) };
+}
+
+impl Named {
+    /// The multigraph.
+    pub fn graph(&self) -> &Graph
+        ensures value { result.now ≡ self.now.graph }
+        ensures named { IsNamed self.now }
+    {
+        &self.graph
+    }
+
+    /// The ids of the vertices, in order.
+    pub fn ids(&self) -> &[i64]
+        ensures value { result.now ≡ self.now.ids }
+        ensures named { IsNamed self.now }
+    {
+        self.ids.as_slice()
+    }
+
+    /// The vertex with this id, or None where no vertex has it. Takes no memory.
+    pub fn vertex_of(&self, id: i64) -> Option<u32>
+        ensures vertex { (v : ℕ) → (result ≡ Some v) ↔ (slice_get self.now.ids v ≡ Some id) }
+        ensures none { IsNone result ↔ ((v : ℕ) → slice_get self.now.ids v ≢ Some id) }
+        ensures named { IsNamed self.now }
+    {
+        self.ids.position(id)
+    }
+}
+
+// The multigraph of `n` vertices and these ends, which are known to be sound.
+fn build(alloc: Global, n: u32, ends: &[(u32, u32)]) -> Result<Graph, AllocError>
+    requires { IsGraph (multigraph_of n ends.now) }
+    ensures { IfOk result (λ graph. graph ≡ multigraph_of n ends.now) }
+{
+    match Graph::build(alloc, n, ends) {
+        Ok(graph) => Ok(graph),
+        Err(fault) => match fault {
+            BuildFault::Memory => Err(AllocError),
+            BuildFault::TooManyVertices(_)
+            | BuildFault::TooManyEdges(_)
+            | BuildFault::EndOut(_)
+            | BuildFault::Loop(_) => unreachable!(),
+        },
+    }
+}
+
+// The graph of these nodes and edges, or the first refusal.
+fn graph_between(alloc: Global, nodes: &[&Pairs], edges: &[&Pairs]) -> Result<Named, GraphFault>
+    ensures { MatchResult result
+        (λ named. graph_between (map (λ node. node.now) nodes.now) (map (λ edge. edge.now) edges.now) ≡ Ok named)
+        (Refuses (graph_between (map (λ node. node.now) nodes.now) (map (λ edge. edge.now) edges.now))) }
+{
+    if nodes.len() > MAX_VERTICES {
+        return Err(GraphFault::TooManyVertices(nodes.len()));
+    }
+    if edges.len() > MAX_EDGES {
+        return Err(GraphFault::TooManyEdges(edges.len()));
+    }
+    let ids = node_ids(alloc, nodes)?;
+    let ends = edge_ends(alloc, &ids, edges)?;
+    let graph = build(alloc, ids.len(), ends.as_slice())?;
+    Ok(Named { graph, ids })
+}
+
+// The graph of the pairs of a graph list, or the first refusal.
+fn graph_in(alloc: Global, pairs: &[Pair]) -> Result<Named, GraphFault>
+    ensures { MatchResult result
+        (λ named. graph_in (document_of pairs.now) ≡ Ok named)
+        (Refuses (graph_in (document_of pairs.now))) }
+{
+    let nodes = lists_under(alloc, pairs, b"node")?;
+    let edges = lists_under(alloc, pairs, b"edge")?;
+    graph_between(alloc, nodes.as_slice(), edges.as_slice())
+}
+
+/// The graph of a document: that of its one graph list, or the first refusal.
+///
+/// A graph list is a list under the key `graph` in the document itself; its nodes and edges are the lists under `node` and
+/// `edge` in it. Of several pairs `id`, `source` or `target` in one of these the first counts. All else passes on unread.
+/// `GraphFault` has the refusals and their order; want of memory may come at any point.
+pub fn graph_of(alloc: Global, d: &Doc) -> Result<Named, GraphFault>
+    ensures { MatchResult result
+        (λ named. graph_of_document d.now ≡ Ok named)
+        (Refuses (graph_of_document d.now)) }
+{
+    let graphs = lists_under(alloc, d.pairs(), b"graph")?;
+    match graphs.as_slice() {
+        [] => Err(GraphFault::NoGraph),
+        [graph] => graph_in(alloc, graph.as_slice()),
+        [_, _, ..] => Err(GraphFault::MoreGraphs),
+    }
+}
