@@ -3,3 +3,11 @@ pub mod Document
 pub mod Code
 pub mod Pairs
 pub mod Smaller
+pub mod Bytes
+pub mod Number
+pub mod Recognised
+pub mod Grammar
+pub mod Reading
+pub mod Items
+pub mod Layout
+pub mod WellFormed

@@ -1,0 +1,38 @@
+-- What is left behind the gap tells the item.
+use Rattle.std.proofs.Common.{sym, ap, ◌∙◌, subst, List, ℕ, ◌∷◌}
+use Rattle.gml_text.specs.Reading.{after_gap, IsWord}
+use Rattle.gml_text.proofs.Gaps.{last-after_gap}
+use Rattle.gml_text.proofs.Words.{here_close, here_key}
+use Rattle.gml_text.proofs.NextItem.{stuck-word, stuck-value, empty_bytes, some_bytes}
+use Rattle.gml_text.proofs.item.next_item.Goals as goal
+
+pub returns-then-is_empty-clause-item : goal.returns-then-is_empty-clause-item
+returns-then-is_empty-clause-item c = last-after_gap c.args.bytes.now (sym c.after_gap-here.ensures.rest ∙ empty_bytes c.after_gap-here.result.now c.if-is_empty.ensures)
+
+pub returns-in-Some-clause-item : goal.returns-in-Some-clause-item
+returns-in-Some-clause-item c = here_close c.args.bytes.now c.in-Some.rest.now (sym c.after_gap-here.ensures.rest ∙ c.in-Some.ensures.rest)
+
+pub returns-in-Ok-clause-item : goal.returns-in-Ok-clause-item
+returns-in-Ok-clause-item c = (
+  c.split_word.result.1.now,
+  here_key c.split_word.result.0.now c.args.bytes.now c.split_word.result.1.now
+      (subst (λ (xs : List ℕ). IsWord c.split_word.result.0.now xs c.split_word.result.1.now) c.after_gap-here.ensures.rest c.split_word.ensures.word)
+      (sym c.in-None-key_fault.ensures.key),
+  c.in-Ok.ensures.found,
+)
+
+pub returns-in-Err-clause-item : goal.returns-in-Err-clause-item
+returns-in-Err-clause-item c =
+    stuck-value c.args.bytes.now c.split_word.result.0.now c.split_word.result.1.now
+    (here_key c.split_word.result.0.now c.args.bytes.now c.split_word.result.1.now
+    (subst (λ (xs : List ℕ). IsWord c.split_word.result.0.now xs c.split_word.result.1.now) c.after_gap-here.ensures.rest c.split_word.ensures.word)
+    (sym c.in-None-key_fault.ensures.key))
+    c.in-Err.ensures.found
+
+pub returns-in-Some-key_fault-clause-item : goal.returns-in-Some-key_fault-clause-item
+returns-in-Some-key_fault-clause-item c =
+    stuck-word c.args.bytes.now c.split_word.result.0.now c.split_word.result.1.now
+    (subst (λ (xs : List ℕ). IsWord c.split_word.result.0.now xs c.split_word.result.1.now) c.after_gap-here.ensures.rest c.split_word.ensures.word)
+    c.in-Some-key_fault.ensures.key
+    (λ e. some_bytes c.after_gap-here.result.now c.if-is_empty.ensures (c.after_gap-here.ensures.rest ∙ e))
+    (λ more e. c.in-None.ensures.rest more (c.after_gap-here.ensures.rest ∙ e))
