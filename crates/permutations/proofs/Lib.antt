@@ -25,3 +25,4 @@ pub mod CyclicOrder
 pub mod Chains
 pub mod Rings
 pub mod Restriction
+pub mod Removal
