@@ -7,3 +7,6 @@ pub mod Plane
 pub mod Drop
 pub mod Insert
 pub mod Mirror
+pub mod Contract
+pub mod FourDarts
+pub mod Noncrossing

@@ -1,3 +1,4 @@
 -- Maps of darts: faces, components, Euler's sum, and the changes that keep a map plane.
 pub mod Map
 pub mod Changes
+pub mod Order
