@@ -26,3 +26,4 @@ pub mod Chains
 pub mod Rings
 pub mod Restriction
 pub mod Removal
+pub mod RingExchange
