@@ -10,3 +10,5 @@ pub mod Mirror
 pub mod Contract
 pub mod FourDarts
 pub mod Noncrossing
+pub mod LinkNoncrossing
+pub mod Glue

@@ -3,6 +3,7 @@
 use Rattle.std.specs.Prelude.{ℕ, ◌||◌, ◌==◌, if◌then◌else◌}
 use Rattle.permutations.specs.Exchange.{exchange, unlink}
 use Rattle.dart_maps.specs.Map.{twin}
+use Rattle.dart_maps.specs.Order.{one_of_four}
 
 -- the map without the edge of dart d: each of its two darts is taken out of its vertex
 abbrev pub dropped : ℕ → (ℕ → ℕ) → ℕ → ℕ
@@ -21,3 +22,10 @@ follows c d next = (if next c == c then next d else next c)
 unfoldable pub contracted : ℕ → (ℕ → ℕ) → ℕ → ℕ
 contracted d next x =
     (if x == d || x == twin d then x else (if next x == d then follows (twin d) d next else (if next x == twin d then follows d (twin d) next else next x)))
+
+-- the map glued along the edges of darts d and e, which are used up: the darts behind d are followed by those behind e,
+-- and those behind d's twin by those behind e's twin. None of these four darts may be alone
+unfoldable pub glued : ℕ → ℕ → (ℕ → ℕ) → ℕ → ℕ
+glued d e next x =
+    (if one_of_four d (twin d) e (twin e) x then x else (if next x == d then next e else (if next x == e then next d else
+    (if next x == twin d then next (twin e) else (if next x == twin e then next (twin d) else next x)))))
