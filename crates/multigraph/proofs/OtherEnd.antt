@@ -70,3 +70,11 @@ other_end-twice g e v ok l h = elim (is_end-cases g v e h) [
   | inl a ↦ other_end-of_second g e (other_end g e v) (sym (other_end-of_first g e v a)) (ok.no_loop e l) ∙ a
   | inr b ↦ other_end-of_first g e (other_end g e v) (sym (other_end-of_second g e v b (ok.no_loop e l))) ∙ b
 ]
+
+-- a vertex that is the first end is an end
+pub is_end-from_first : (g : Multigraph) (v e : ℕ) → (ends_of g e).0 ≡ v → is_end g v e ≡ true
+is_end-from_first g v e h = subst (λ (w : ℕ). is_end g w e ≡ true) h (is_end-first g e)
+
+-- a vertex that is the second end is an end
+pub is_end-from_second : (g : Multigraph) (v e : ℕ) → (ends_of g e).1 ≡ v → is_end g v e ≡ true
+is_end-from_second g v e h = subst (λ (w : ℕ). is_end g w e ≡ true) h (is_end-second g e)

@@ -1,2 +1,11 @@
 -- Lemmas on rotation systems.
 pub mod Rising
+pub mod Membership
+pub mod Arrangements
+mod Cursor
+mod Marks
+mod Darts
+mod Links
+mod Turns
+mod Stages
+mod Steps

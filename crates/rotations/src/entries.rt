@@ -1,7 +1,7 @@
 // Lists of edges as they are given from outside, in order of the vertices.
 
-ghost use Rattle.std.specs.Prelude.{◌≡◌, ◌<◌, ◌∷◌, ◌++◌, ◌==◌, ◌↔◌, [], length, is_ok, if◌then◌else◌, IsTrue};
-ghost use Rattle.rotations.specs.Entries.{entry, IsRising, IsAbove};
+ghost use Rattle.std.specs.Prelude.{◌≡◌, ◌+◌, ◌<◌, ◌∷◌, ◌++◌, ◌==◌, ◌↔◌, [], length, is_ok, if◌then◌else◌, IsTrue};
+ghost use Rattle.rotations.specs.Entries.{entry, IsRising, IsAbove, IsReachedAt, list_at};
 
 use multigraph::Numbers;
 use std::alloc::{AllocError, Global};
@@ -87,5 +87,19 @@ impl Lists {
         ensures { result.now ≡ (entry self.now i).1 }
     {
         self.entries[i].1.as_slice()
+    }
+
+    // The list that is given for `v`, and the place of the first entry that is for a larger vertex, where `at` is the place of
+    // the first that is for no smaller one.
+    pub(crate) fn given(&self, at: usize, v: u32) -> (&[u32], usize)
+        requires { IsReachedAt self.now at v }
+        ensures list { result.0.now ≡ list_at self.now v }
+        ensures place { IsReachedAt self.now result.1 (v + 1) }
+    {
+        if at < self.entries.len() && self.entries[at].0 == v {
+            (self.entries[at].1.as_slice(), at + 1)
+        } else {
+            (&[], at)
+        }
     }
 }

@@ -1,0 +1,66 @@
+-- Membership as a test and as a place, and the edges at a vertex by that test.
+use Rattle.std.proofs.Common.{◌≡◌, ℕ, zero, suc, ◌<◌, Bool, true, false, cond, List, [], ◌∷◌, ◌++◌, length, get_or, refl, sym, ◌∙◌, subst, inl, inr, arith}
+use Rattle.std.specs.List.{filter, Contains}
+use Rattle.std.proofs.lemmas.List.Elements.{Contains-append_right}
+use Rattle.std.proofs.lemmas.Bool.{cases_Bool, false_from_ne_true}
+use Rattle.permutations.specs.Members.{is_member, is_distinct}
+use Rattle.permutations.proofs.Members.{member-head, member-tail, cut_at, distinct-append, no_member-cons}
+use Rattle.multigraph.specs.Graph.{Multigraph, edge_count, is_end, numbers_below, incident_edges}
+use Rattle.multigraph.proofs.Below.{filter_below-suc, filter_below-only}
+use Rattle.multigraph.proofs.Incident.{incident-has, incident-edge, incident-end}
+
+-- what stands at a place of a list is a member
+pub member-at : (xs : List ℕ) (i d : ℕ) → i < length xs → is_member (get_or xs i d) xs ≡ true
+member-at [] i d l = absurd (omega arith)
+member-at (x ∷ xs) zero d l = member-head x xs
+member-at (x ∷ xs) (suc i) d l = member-tail (get_or xs i d) x xs (member-at xs i d (omega arith))
+
+-- what a list contains is a member
+pub member-from_contains : (xs : List ℕ) (x : ℕ) → Contains xs x → is_member x xs ≡ true
+member-from_contains xs x c = subst (λ (y : ℕ). is_member y xs ≡ true) c.2 (member-at xs c.0 x c.1)
+
+-- a list contains its members
+pub contains-from_member : (xs : List ℕ) (x : ℕ) → is_member x xs ≡ true → Contains xs x
+contains-from_member xs x m =
+    let cut = cut_at x xs m in
+    subst (λ (l : List ℕ). Contains l x) (sym cut.is) (Contains-append_right cut.front (x ∷ cut.back) x (0, omega arith, refl))
+
+-- of the numbers below n that pass a test none stands there twice
+pub distinct-filter_below : (p : ℕ → Bool) (n : ℕ) → is_distinct (filter p (numbers_below n)) ≡ true
+distinct-filter_below p zero = refl
+distinct-filter_below p (suc n) = subst (λ (l : List ℕ). is_distinct l ≡ true) (sym (filter_below-suc p n)) (elim (cases_Bool (p n)) [
+  | inl e ↦ subst (λ (b : Bool). is_distinct (filter p (numbers_below n) ++ cond b (n ∷ []) []) ≡ true) (sym e)
+      (distinct-append (filter p (numbers_below n)) (n ∷ []) (distinct-filter_below p n) refl (λ z m. no_member-cons z n [] (apart z m) refl))
+  | inr e ↦ subst (λ (b : Bool). is_distinct (filter p (numbers_below n) ++ cond b (n ∷ []) []) ≡ true) (sym e)
+      (distinct-append (filter p (numbers_below n)) [] (distinct-filter_below p n) refl (λ z m. refl))
+])
+  where
+    apart : (z : ℕ) → is_member z (filter p (numbers_below n)) ≡ true → n ≡ z → ⊥
+    apart z m e = omega (arith, (filter_below-only p n z (contains-from_member (filter p (numbers_below n)) z m)).0)
+
+-- no edge stands twice among those at a vertex
+pub incident-distinct : (g : Multigraph) (v : ℕ) → is_distinct (incident_edges g v) ≡ true
+incident-distinct g v = distinct-filter_below (is_end g v) (edge_count g)
+
+-- an edge that has v as an end is a member of those at v
+pub incident-member : (g : Multigraph) (v e : ℕ) → e < edge_count g → is_end g v e ≡ true → is_member e (incident_edges g v) ≡ true
+incident-member g v e l h = member-from_contains (incident_edges g v) e (incident-has g v e l h)
+
+-- a member of the edges at v is an edge
+pub member-edge : (g : Multigraph) (v e : ℕ) → is_member e (incident_edges g v) ≡ true → e < edge_count g
+member-edge g v e m = incident-edge g v e (contains-from_member (incident_edges g v) e m)
+
+-- a member of the edges at v has v as an end
+pub member-end : (g : Multigraph) (v e : ℕ) → is_member e (incident_edges g v) ≡ true → is_end g v e ≡ true
+member-end g v e m = incident-end g v e (contains-from_member (incident_edges g v) e m)
+
+-- what is no edge is none of those at v
+pub incident-no_edge : (g : Multigraph) (v e : ℕ) → (e < edge_count g → ⊥) → is_member e (incident_edges g v) ≡ false
+incident-no_edge g v e out = false_from_ne_true (is_member e (incident_edges g v)) (λ m. out (member-edge g v e m))
+
+-- an edge that has not v as an end is none of those at v
+pub incident-no_end : (g : Multigraph) (v e : ℕ) → is_end g v e ≡ false → is_member e (incident_edges g v) ≡ false
+incident-no_end g v e h = false_from_ne_true (is_member e (incident_edges g v)) (λ m. absurd (apart (sym (member-end g v e m) ∙ h)))
+  where
+    apart : true ≡ false → ⊥
+    apart e = cc

@@ -1,0 +1,59 @@
+-- A rotation system as it is kept: for each dart the one that follows it round its vertex, and the one that it follows.
+-- Each edge e has two darts: 2e leaves its first end, 2e + 1 its second.
+use Rattle.std.specs.Prelude.{◌≡◌, ℕ, zero, suc, ◌+◌, ◌*◌, ◌/◌, ◌<◌, ◌≤◌, ◌==◌, if◌then◌else◌, true, List, [], ◌∷◌, length, map, slice_index}
+use Rattle.std.specs.List.{All}
+use Rattle.permutations.specs.Cyclic.{first_or, successor}
+use Rattle.permutations.specs.Members.{is_member, is_distinct}
+use Rattle.multigraph.specs.Graph.{Multigraph, max_vertices, edge_count, ends_of, incident_edges}
+use Rattle.rotations.specs.Rotation.{order_at}
+use Rattle.rotations.specs.declared.rings.Ring.{Ring}
+
+-- the most darts that a graph has
+abbrev pub max_darts : ℕ
+max_darts = 100000
+
+-- the dart of edge e that leaves v, one of its ends, by the vertices that the darts leave
+abbrev pub dart_at : List ℕ → ℕ → ℕ → ℕ
+dart_at tails v e = (if slice_index tails (2 * e) == v then 2 * e else 2 * e + 1)
+
+-- the edges of so many darts, from d on
+abbrev pub turns : List ℕ → ℕ → ℕ → List ℕ
+turns next d zero = []
+turns next d (suc k) = (d / 2) ∷ turns next (slice_index next d) k
+
+-- the edges of each ring, from its first dart on
+abbrev pub orders : List ℕ → List Ring → List (List ℕ)
+orders next rings = map (λ ring. turns next ring.first ring.degree) rings
+
+-- edges that stand round v: each once, with a dart that leaves v
+pub record StandRound (tails : List ℕ) (v : ℕ) (order : List ℕ) : Type 0 where
+  pub distinct : is_distinct order ≡ true
+  pub darts : (e : ℕ) → is_member e order ≡ true → 2 * e + 1 < length tails
+  pub tail : (e : ℕ) → is_member e order ≡ true → slice_index tails (dart_at tails v e) ≡ v
+
+-- the darts of the edges `some` of a cyclic order round v are linked to those that follow, and these back to them
+pub record AreLinked (tails next prev : List ℕ) (v : ℕ) (order some : List ℕ) : Type 0 where
+  pub forth : (e : ℕ) → is_member e some ≡ true → slice_index next (dart_at tails v e) ≡ dart_at tails v (successor order e)
+  pub back : (e : ℕ) → is_member e some ≡ true → slice_index prev (dart_at tails v (successor order e)) ≡ dart_at tails v e
+
+-- the vectors keep a rotation system
+pub record AreRings (tails next prev : List ℕ) (rings : List Ring) : Type 0 where
+  pub few : length tails ≤ max_darts
+  pub few_rings : length rings ≤ max_vertices
+  pub next_long : length next ≡ length tails
+  pub prev_long : length prev ≡ length tails
+  pub next_in : (d : ℕ) → d < length next → slice_index next d < length next
+  pub first_in : All (λ ring. 0 < ring.degree → ring.first < length next) rings
+  pub rounds : (v : ℕ) → v < length rings → StandRound tails v (order_at (orders next rings) v)
+  pub linked : (v : ℕ) → v < length rings → AreLinked tails next prev v (order_at (orders next rings) v) (order_at (orders next rings) v)
+
+-- the vertices that the darts of g leave
+pub record AreTails (g : Multigraph) (tails : List ℕ) : Type 0 where
+  pub long : length tails ≡ 2 * edge_count g
+  pub first : (e : ℕ) → e < edge_count g → slice_index tails (2 * e) ≡ (ends_of g e).0
+  pub second : (e : ℕ) → e < edge_count g → slice_index tails (2 * e + 1) ≡ (ends_of g e).1
+
+-- the ring of v in g: as many darts as v has edges, from the least edge on
+pub record IsRingOf (g : Multigraph) (tails : List ℕ) (v : ℕ) (ring : Ring) : Type 0 where
+  pub degree : ring.degree ≡ length (incident_edges g v)
+  pub first : 0 < ring.degree → ring.first ≡ dart_at tails v (first_or 0 (incident_edges g v))

@@ -1,0 +1,119 @@
+// Rotation systems, kept as cyclic successors and predecessors of darts.
+
+ghost use Rattle.std.specs.Prelude.{◌≡◌, ℕ, ◌<◌, length, IfOk, IfErr};
+ghost use Rattle.std.specs.List.{Contains};
+ghost use Rattle.permutations.specs.Cyclic.{successor, predecessor};
+ghost use Rattle.rotations.specs.Rotation.{order_at, IsRotationSystem};
+ghost use Rattle.rotations.specs.Given.{AreArranged, IsRefusal, given_order};
+
+use crate::arrangement::{check_lists, zeros};
+use crate::entries::Lists;
+use crate::faults::RotFault;
+use crate::linking::link;
+use crate::rings::{Ring, dart_at, ring_of, tails_of};
+use crate::round::RotIter;
+use multigraph::Graph;
+use std::alloc::{AllocError, Global};
+use std::marker::Model;
+
+/// A rotation system: for each vertex a cyclic order of the edges at it.
+///
+/// It is kept without the graph, as successors and predecessors of darts, so that each step round a vertex takes constant time.
+#[derive(Debug, Drop)]
+pub struct Rotation {
+    tails: Vec<u32>,
+    next: Vec<u32>,
+    prev: Vec<u32>,
+    rings: Vec<Ring>,
+}
+
+impl Model for Rotation {
+    ghost use Rattle.std.specs.Prelude.{List, ℕ};
+
+    ghost Value = { List (List ℕ) };
+
+    ghost use Rattle.rotations.specs.Rings.{orders, AreRings};
+
+    ghost view = { λ r. orders r.next.items r.rings.items };
+
+    ghost invariant = { λ r. AreRings r.tails.items r.next.items r.prev.items r.rings.items };
+}
+
+impl Rotation {
+    /// The rotation system that has at each vertex the cyclic order of the list given for it; a vertex that is not named has
+    /// the empty list.
+    ///
+    /// Refuses where the lists are no rotation system, with the least number that is a vertex whose list is no arrangement
+    /// of the edges at it, or that is named and no vertex.
+    pub fn from_lists(alloc: Global, g: &Graph, lists: &Lists) -> Result<Rotation, RotFault>
+        ensures arranged { IfOk result (λ _. AreArranged g.now lists.now) }
+        ensures orders { IfOk result (λ r. (v : ℕ) → v < g.now.vertex_count → order_at r v ≡ given_order g.now lists.now v) }
+        ensures system { IfOk result (IsRotationSystem g.now) }
+        ensures refused { IfErr result (λ fault. IsRefusal g.now lists.now fault) }
+    {
+        check_lists(alloc, g, lists)?;
+        match Rotation::of_arranged(alloc, g, lists) {
+            Ok(r) => Ok(r),
+            Err(_) => Err(RotFault::Memory),
+        }
+    }
+
+    // The rotation system of lists that are known to be one.
+    fn of_arranged(alloc: Global, g: &Graph, lists: &Lists) -> Result<Rotation, AllocError>
+        requires { AreArranged g.now lists.now }
+        ensures vertices { IfOk result (λ r. length r ≡ g.now.vertex_count) }
+        ensures orders { IfOk result (λ r. (v : ℕ) → v < g.now.vertex_count → order_at r v ≡ given_order g.now lists.now v) }
+    {
+        let tails = tails_of(alloc, g)?;
+        let mut next = zeros(alloc, tails.len())?;
+        let mut prev = zeros(alloc, tails.len())?;
+        let mut rings = Vec::with_capacity(alloc, g.vertex_count() as usize)?;
+        let mut at = 0;
+        for v in 0..g.vertex_count() {
+            let (list, after) = lists.given(at, v);
+            link(&tails, v, list, &mut next, &mut prev);
+            rings.push(ring_of(g, &tails, v))?;
+            at = after;
+        }
+        Ok(Rotation {
+            tails,
+            next,
+            prev,
+            rings,
+        })
+    }
+
+    /// The number of vertices.
+    pub fn vertex_count(&self) -> u32
+        ensures { result ≡ length self.now }
+    {
+        self.rings.len() as u32
+    }
+
+    /// The edge that follows edge `e` round `v`.
+    pub fn succ(&self, v: u32, e: u32) -> u32
+        requires { Contains (order_at self.now v) e }
+        ensures { result ≡ successor (order_at self.now v) e }
+    {
+        let dart = dart_at(&self.tails, v, e);
+        self.next[dart as usize] / 2
+    }
+
+    /// The edge that edge `e` follows round `v`.
+    pub fn pred(&self, v: u32, e: u32) -> u32
+        requires { Contains (order_at self.now v) e }
+        ensures { result ≡ predecessor (order_at self.now v) e }
+    {
+        let dart = dart_at(&self.tails, v, e);
+        self.prev[dart as usize] / 2
+    }
+
+    /// The edges round `v` in cyclic order, from the least on.
+    pub fn list(&self, v: u32) -> RotIter<'_>
+        requires { v < length self.now }
+        ensures { result ≡ order_at self.now v }
+    {
+        let ring = self.rings[v as usize];
+        RotIter::from(&self.next, ring.first, ring.degree)
+    }
+}
