@@ -27,3 +27,4 @@ pub mod Rings
 pub mod Restriction
 pub mod Removal
 pub mod RingExchange
+pub mod Runs

@@ -6,3 +6,4 @@ pub mod Cyclic
 pub mod Members
 pub mod Exchange
 pub mod Ring
+pub mod Runs
