@@ -28,3 +28,4 @@ pub mod Restriction
 pub mod Removal
 pub mod RingExchange
 pub mod Runs
+pub mod RunsFromOrder

@@ -16,12 +16,12 @@ use Rattle.permutations.proofs.CyclicSame.{append-split, IsTurn-trans, IsTurn-he
 use Rattle.permutations.proofs.Chains.{apart-front, successor-last}
 
 -- a list that is not empty has a first member
-first-of : (l : List ℕ) → 0 < length l → (x : ℕ) × (r : List ℕ) × (l ≡ x ∷ r)
+pub first-of : (l : List ℕ) → 0 < length l → (x : ℕ) × (r : List ℕ) × (l ≡ x ∷ r)
 first-of [] h = absurd (omega arith)
 first-of (x ∷ r) h = (x, r, refl)
 
 -- a list that is not empty has a last member
-last-of : (l : List ℕ) → 0 < length l → (c : List ℕ) × (q : ℕ) × (l ≡ c ++ q ∷ [])
+pub last-of : (l : List ℕ) → 0 < length l → (c : List ℕ) × (q : ℕ) × (l ≡ c ++ q ∷ [])
 last-of [] h = absurd (omega arith)
 last-of (x ∷ []) h = ([], x, refl)
 last-of (x ∷ y ∷ r) h = let w : (c : List ℕ) × (q : ℕ) × (y ∷ r ≡ c ++ q ∷ []) = last-of (y ∷ r) (omega arith) in (x ∷ w.0, w.1, ap (λ (v : List ℕ). x ∷ v) w.2)
