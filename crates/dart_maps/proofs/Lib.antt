@@ -12,3 +12,4 @@ pub mod FourDarts
 pub mod Noncrossing
 pub mod LinkNoncrossing
 pub mod Glue
+pub mod Renumber

@@ -2,3 +2,4 @@
 pub mod Map
 pub mod Changes
 pub mod Order
+pub mod Renumbering
