@@ -9,9 +9,10 @@ use Rattle.permutations.specs.Count.{some}
 use Rattle.permutations.specs.Permutation.{iterate, reaches}
 use Rattle.permutations.proofs.Search.{some-from, some-witness, some-more}
 use Rattle.permutations.proofs.Relation.{same-tests}
-use Rattle.faces.specs.Marks.{IsInjectiveBelow, is_marked}
+use Rattle.faces.specs.Marks.{IsPermutationBelow, is_marked}
 use Rattle.faces.specs.Search.{unmarked_count}
-use Rattle.faces.proofs.Reaching.{iterate-below, iterate-next, reaches-from, reaches-steps}
+use Rattle.permutations.proofs.Iterates.{iterate-more, reaches-steps}
+use Rattle.faces.proofs.Reaching.{steps-below, steps-reach}
 
 -- a mark that was not there: one place fewer is unmarked
 pub unmarked-less : (marks : List Bool) (x : ℕ) → x < length marks → is_marked marks x ≡ false → unmarked_count (set marks x true) + 1 ≡ unmarked_count marks
@@ -48,7 +49,7 @@ walked-none f before start = record { steps = 0; leads = refl; marks = λ x. sym
 pub walked-more : (f : ℕ → ℕ) (before now : List Bool) (start place : ℕ) → Walked f before now start place → place < length now → is_marked now place ≡ false → Walked f before (set now place true) start (f place)
 walked-more f before now start place w l e = record {
   steps = w.steps + 1;
-  leads = iterate-next f w.steps start ∙ ap f w.leads;
+  leads = iterate-more f w.steps start ∙ ap f w.leads;
   marks = λ x. marks-more x;
   rest = omega (arith, unmarked-less now place l e, w.rest);
 }
@@ -65,9 +66,9 @@ walked-more f before now start place w l e = record {
         ∙ ap (λ b. is_marked before x || b) (sym (some-more w.steps (λ k. iterate f k start == x)))
 
 -- a step back and forth keeps what is marked, so any number of steps does
-pub whole-steps : (n : ℕ) (f : ℕ → ℕ) → IsInjectiveBelow n f → (marks : List Bool) → ((x : ℕ) → x < n → is_marked marks (f x) ≡ is_marked marks x) → (k x : ℕ) → x < n → is_marked marks (iterate f k x) ≡ is_marked marks x
+pub whole-steps : (n : ℕ) (f : ℕ → ℕ) → IsPermutationBelow n f → (marks : List Bool) → ((x : ℕ) → x < n → is_marked marks (f x) ≡ is_marked marks x) → (k x : ℕ) → x < n → is_marked marks (iterate f k x) ≡ is_marked marks x
 whole-steps n f p marks whole zero x l = refl
-whole-steps n f p marks whole (suc k) x l = whole (iterate f k x) (iterate-below n f p k x l) ∙ whole-steps n f p marks whole k x l
+whole-steps n f p marks whole (suc k) x l = whole (iterate f k x) (steps-below n f p k x l) ∙ whole-steps n f p marks whole k x l
 
 -- once a walk is back among its first steps, each step leads to one of these
 pub steps-again : (f : ℕ → ℕ) (start s j : ℕ) → j < s → iterate f j start ≡ iterate f s start → (k : ℕ) → (i : ℕ) × (i < s) × (iterate f i start ≡ iterate f k start)
@@ -84,13 +85,13 @@ steps-again f start s j l e (suc k) =
     ]
 
 -- then the first steps lead to the whole orbit
-pub steps-orbit : (n : ℕ) (f : ℕ → ℕ) → IsInjectiveBelow n f → (start s j : ℕ) → start < n → j < s → iterate f j start ≡ iterate f s start → (x : ℕ) → some s (λ k. iterate f k start == x) ≡ reaches n f start x
+pub steps-orbit : (n : ℕ) (f : ℕ → ℕ) → IsPermutationBelow n f → (start s j : ℕ) → start < n → j < s → iterate f j start ≡ iterate f s start → (x : ℕ) → some s (λ k. iterate f k start == x) ≡ reaches n f start x
 steps-orbit n f p start s j l m e x = same-tests (some s (λ k. iterate f k start == x)) (reaches n f start x) forth back
   where
     forth : some s (λ k. iterate f k start == x) ≡ true → reaches n f start x ≡ true
     forth t =
         let w : (k : ℕ) × (k < s) × ((iterate f k start == x) ≡ true) = some-witness s (λ k. iterate f k start == x) t in
-        reaches-from n f p w.0 start x l (eqb-true (iterate f w.0 start) x w.2)
+        steps-reach n f p w.0 start x l (eqb-true (iterate f w.0 start) x w.2)
 
     back : reaches n f start x ≡ true → some s (λ k. iterate f k start == x) ≡ true
     back t =
@@ -99,7 +100,7 @@ steps-orbit n f p start s j l m e x = same-tests (some s (λ k. iterate f k star
         some-from s (λ k. iterate f k start == x) v.0 v.1 (eq-eqb (iterate f v.0 start) x (v.2 ∙ w.2))
 
 -- at a marked place: just the orbit of the start is marked anew
-pub walked-all : (n : ℕ) (f : ℕ → ℕ) → IsInjectiveBelow n f → (before now : List Bool) (start place : ℕ) → Walked f before now start place → start < n
+pub walked-all : (n : ℕ) (f : ℕ → ℕ) → IsPermutationBelow n f → (before now : List Bool) (start place : ℕ) → Walked f before now start place → start < n
     → ((x : ℕ) → x < n → is_marked before (f x) ≡ is_marked before x) → is_marked before start ≡ false → is_marked now place ≡ true
     → (x : ℕ) → is_marked now x ≡ (is_marked before x || reaches n f start x)
 walked-all n f p before now start place w l whole fresh met x = w.marks x ∙ ap (λ b. is_marked before x || b) (orbit again)

@@ -1,7 +1,7 @@
 -- Places that are marked, and the orbits that a walk marks.
 use Rattle.std.specs.Prelude.{◌≡◌, ℕ, ◌<◌, Bool, false, not, List, slice_index_or}
 use Rattle.permutations.specs.Count.{some}
-use Rattle.permutations.specs.Permutation.{reaches}
+use Rattle.permutations.specs.Permutation.{Permutes, reaches}
 
 -- whether a place is marked; none past the list's end is
 abbrev pub is_marked : List Bool → ℕ → Bool
@@ -11,7 +11,6 @@ is_marked marks x = slice_index_or marks x false
 abbrev pub begins_orbit : ℕ → (ℕ → ℕ) → ℕ → Bool
 begins_orbit n f x = not (some x (λ y. reaches n f x y))
 
--- f maps the numbers below n to numbers below n, no two of them to the same one, so it permutes them
-pub record IsInjectiveBelow (n : ℕ) (f : ℕ → ℕ) : Type 0 where
-  pub in_range : (x : ℕ) → x < n → f x < n
-  pub injective : (x y : ℕ) → x < n → y < n → f x ≡ f y → x ≡ y
+-- f permutes the numbers below n
+abbrev pub IsPermutationBelow : ℕ → (ℕ → ℕ) → Type 0
+IsPermutationBelow n f = (g : ℕ → ℕ) × Permutes n f g

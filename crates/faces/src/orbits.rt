@@ -1,5 +1,5 @@
 // Orbits of a permutation that is given by the image of each number.
-ghost use Rattle.faces.specs.Marks.{IsInjectiveBelow, begins_orbit, is_marked};
+ghost use Rattle.faces.specs.Marks.{IsPermutationBelow, begins_orbit, is_marked};
 ghost use Rattle.permutations.specs.Count.{count};
 ghost use Rattle.permutations.specs.Permutation.{reaches};
 ghost use Rattle.std.specs.Prelude.{
@@ -18,7 +18,7 @@ use std::alloc::{AllocError, Global};
 
 // Marks the orbit of `start`, of which nothing is marked yet: the walk along the images ends where it began.
 fn mark_orbit(images: &[u32], marks: &mut [bool], start: usize)
-    requires permutation { IsInjectiveBelow (length images.now) (slice_index images.now) }
+    requires permutation { IsPermutationBelow (length images.now) (slice_index images.now) }
     requires same_length { length marks.old ≡ length images.now }
     requires start_in { start < length images.now }
     requires whole_orbits { (x : ℕ) → x < length images.now → is_marked marks.old (slice_index images.now x) ≡ is_marked marks.old x }
@@ -34,7 +34,7 @@ fn mark_orbit(images: &[u32], marks: &mut [bool], start: usize)
 
 // Counts the orbits, where nothing is marked yet: each number that is met unmarked begins one.
 fn count_starts(images: &[u32], marks: &mut [bool]) -> u32
-    requires permutation { IsInjectiveBelow (length images.now) (slice_index images.now) }
+    requires permutation { IsPermutationBelow (length images.now) (slice_index images.now) }
     requires few { length images.now < 2 ^ 32 }
     requires same_length { length marks.old ≡ length images.now }
     requires unmarked { (x : ℕ) → is_marked marks.old x ≡ false }
@@ -52,7 +52,7 @@ fn count_starts(images: &[u32], marks: &mut [bool]) -> u32
 
 // How many orbits the permutation with these images has.
 pub(crate) fn count_orbits(alloc: Global, images: &[u32]) -> Result<u32, AllocError>
-    requires permutation { IsInjectiveBelow (length images.now) (slice_index images.now) }
+    requires permutation { IsPermutationBelow (length images.now) (slice_index images.now) }
     requires few { length images.now < 2 ^ 32 }
     ensures { IfOk result (λ orbits. orbits ≡ count (length images.now) (begins_orbit (length images.now) (slice_index images.now))) }
 {

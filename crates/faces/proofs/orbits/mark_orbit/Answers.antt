@@ -7,7 +7,7 @@ pub loop-marks-preserved : goal.loop-marks-preserved
 loop-marks-preserved c =
     let here : c.loop-marks.place < length c.loop-marks.marks = omega arith in (
       walked-more (slice_index c.args.images.now) c.args.marks.now c.loop-marks.marks c.args.start c.loop-marks.place c.loop-marks.invariant.0 here c.loop-marks-test.true,
-      c.requires.permutation.in_range c.loop-marks.place c.loop-marks.invariant.1,
+      c.requires.permutation.1.forth c.loop-marks.place c.loop-marks.invariant.1,
     )
 
 pub returns : goal.returns
