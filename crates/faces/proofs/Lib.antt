@@ -6,3 +6,5 @@ pub mod Starts
 pub mod Looks
 pub mod Neighbours
 pub mod Searched
+pub mod Darts
+mod Examples

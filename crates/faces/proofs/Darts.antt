@@ -1,0 +1,163 @@
+-- Darts, and the face step of a rotation system, which permutes them.
+use Rattle.std.proofs.Common.{◌≡◌, ℕ, ◌+◌, ◌*◌, ◌/◌, ◌%◌, ◌<◌, ◌≢◌, Bool, true, false, ◌==◌, if◌then◌else◌, List, inl, inr, refl, sym, ap, ap₂, ◌∙◌, arith}
+use Rattle.std.proofs.lemmas.Bool.{eq-eqb, ne_eqb, eqb-true, cases_eq}
+use Rattle.permutations.specs.Members.{is_member, is_distinct}
+use Rattle.permutations.specs.Cyclic.{successor, predecessor}
+use Rattle.permutations.specs.Permutation.{Permutes}
+use Rattle.permutations.proofs.Successor.{successor-member, predecessor-member, predecessor-successor, successor-predecessor}
+use Rattle.permutations.proofs.Arrangements.{permutation-member, permutation-distinct}
+use Rattle.multigraph.specs.Graph.{Multigraph, IsGraph, edge_count, ends_of, is_end, other_end, incident_edges}
+use Rattle.multigraph.proofs.OtherEnd.{is_end-first, is_end-second, is_end-cases, other_end-is_end, other_end-in, other_end-twice, end-in}
+use Rattle.rotations.specs.Rotation.{order_at, IsRotationSystem}
+use Rattle.rotations.proofs.Membership.{incident-distinct, incident-member, member-edge, member-end}
+use Rattle.faces.specs.Euler.{tail, dart_from, dart_count, face_step}
+
+-- the edge of a dart
+pub dart-edge : (g : Multigraph) (d : ℕ) → d < dart_count g → d / 2 < edge_count g
+dart-edge g d l = omega arith
+
+-- a dart leaves an end of its edge
+pub tail-end : (g : Multigraph) (d : ℕ) → is_end g (tail g d) (d / 2) ≡ true
+tail-end g d = elim (cases_eq (d % 2) 0) [
+  | inl e ↦ let t : (d % 2 == 0) ≡ true = eq-eqb (d % 2) 0 e in rw t (is_end-first g (d / 2))
+  | inr n ↦ let t : (d % 2 == 0) ≡ false = ne_eqb (d % 2) 0 n in rw t (is_end-second g (d / 2))
+]
+
+-- the dart of an edge from a vertex is a dart of this edge
+pub dart_from-edge : (g : Multigraph) (v e : ℕ) → dart_from g v e / 2 ≡ e
+dart_from-edge g v e = elim (cases_eq (ends_of g e).0 v) [
+  | inl s ↦ let t : ((ends_of g e).0 == v) ≡ true = eq-eqb (ends_of g e).0 v s in rw t (omega arith)
+  | inr n ↦ let t : ((ends_of g e).0 == v) ≡ false = ne_eqb (ends_of g e).0 v n in rw t (omega arith)
+]
+
+-- it is among the darts
+pub dart_from-below : (g : Multigraph) (v e : ℕ) → e < edge_count g → dart_from g v e < dart_count g
+dart_from-below g v e l = let h : dart_from g v e / 2 ≡ e = dart_from-edge g v e in omega arith
+
+-- it is the first of the edge's darts where the vertex is the first end, and the second else
+pub dart_from-first : (g : Multigraph) (v e : ℕ) → (ends_of g e).0 ≡ v → dart_from g v e ≡ 2 * e
+dart_from-first g v e s = let t : ((ends_of g e).0 == v) ≡ true = eq-eqb (ends_of g e).0 v s in rw t refl
+
+pub dart_from-second : (g : Multigraph) (v e : ℕ) → (ends_of g e).0 ≢ v → dart_from g v e ≡ 2 * e + 1
+dart_from-second g v e n = let t : ((ends_of g e).0 == v) ≡ false = ne_eqb (ends_of g e).0 v n in rw t refl
+
+-- the first of an edge's darts leaves its first end, the second its second end
+pub tail-even : (g : Multigraph) (d : ℕ) → d % 2 ≡ 0 → tail g d ≡ (ends_of g (d / 2)).0
+tail-even g d e = let t : (d % 2 == 0) ≡ true = eq-eqb (d % 2) 0 e in rw t refl
+
+pub tail-odd : (g : Multigraph) (d : ℕ) → d % 2 ≢ 0 → tail g d ≡ (ends_of g (d / 2)).1
+tail-odd g d n = let t : (d % 2 == 0) ≡ false = ne_eqb (d % 2) 0 n in rw t refl
+
+pub tail-first : (g : Multigraph) (e : ℕ) → tail g (2 * e) ≡ (ends_of g e).0
+tail-first g e = let h : (2 * e) / 2 ≡ e = omega arith in tail-even g (2 * e) (omega arith) ∙ ap (λ k. (ends_of g k).0) h
+
+pub tail-second : (g : Multigraph) (e : ℕ) → tail g (2 * e + 1) ≡ (ends_of g e).1
+tail-second g e = let h : (2 * e + 1) / 2 ≡ e = omega arith in tail-odd g (2 * e + 1) (λ z. omega arith) ∙ ap (λ k. (ends_of g k).1) h
+
+-- the dart of an edge from one of its ends leaves this end
+pub dart_from-tail : (g : Multigraph) (v e : ℕ) → is_end g v e ≡ true → tail g (dart_from g v e) ≡ v
+dart_from-tail g v e h = elim (cases_eq (ends_of g e).0 v) [
+  | inl s ↦ ap (tail g) (dart_from-first g v e s) ∙ tail-first g e ∙ s
+  | inr n ↦ ap (tail g) (dart_from-second g v e n) ∙ tail-second g e ∙ second n
+]
+  where
+    second : ((ends_of g e).0 ≡ v → ⊥) → (ends_of g e).1 ≡ v
+    second n = elim (is_end-cases g v e h) [
+      | inl a ↦ absurd (n a)
+      | inr b ↦ b
+    ]
+
+-- a dart is that of its edge from the vertex that it leaves
+pub dart_from-of_dart : (g : Multigraph) (d : ℕ) → IsGraph g → d < dart_count g → dart_from g (tail g d) (d / 2) ≡ d
+dart_from-of_dart g d ok l = elim (cases_eq (d % 2) 0) [
+  | inl e ↦ dart_from-first g (tail g d) (d / 2) (sym (tail-even g d e)) ∙ omega arith
+  | inr n ↦ dart_from-second g (tail g d) (d / 2) (λ s. ok.no_loop (d / 2) (dart-edge g d l) (s ∙ tail-odd g d n)) ∙ omega arith
+]
+
+-- the edges round a vertex are those at it, each once
+pub order-distinct : (g : Multigraph) (r : List (List ℕ)) (v : ℕ) → IsRotationSystem g r → v < g.vertex_count → is_distinct (order_at r v) ≡ true
+order-distinct g r v s l = permutation-distinct (incident_edges g v) (order_at r v) (s.orders v l).arranged (incident-distinct g v)
+
+pub order-member : (g : Multigraph) (r : List (List ℕ)) (v e : ℕ) → IsRotationSystem g r → v < g.vertex_count → e < edge_count g → is_end g v e ≡ true → is_member e (order_at r v) ≡ true
+order-member g r v e s l m h = permutation-member (incident_edges g v) (order_at r v) e (s.orders v l).arranged ∙ incident-member g v e m h
+
+pub member-incident : (g : Multigraph) (r : List (List ℕ)) (v e : ℕ) → IsRotationSystem g r → v < g.vertex_count → is_member e (order_at r v) ≡ true → is_member e (incident_edges g v) ≡ true
+member-incident g r v e s l m = sym (permutation-member (incident_edges g v) (order_at r v) e (s.orders v l).arranged) ∙ m
+
+-- the edge that follows an edge at v, and the one that comes before it, are edges at v
+pub following : (g : Multigraph) (r : List (List ℕ)) (v e : ℕ) → IsRotationSystem g r → v < g.vertex_count → e < edge_count g → is_end g v e ≡ true → (successor (order_at r v) e < edge_count g) × (is_end g v (successor (order_at r v) e) ≡ true)
+following g r v e s l m h =
+    let n : is_member (successor (order_at r v) e) (incident_edges g v) ≡ true = member-incident g r v (successor (order_at r v) e) s l (successor-member (order_at r v) e (order-member g r v e s l m h)) in
+    (member-edge g v (successor (order_at r v) e) n, member-end g v (successor (order_at r v) e) n)
+
+pub preceding : (g : Multigraph) (r : List (List ℕ)) (v e : ℕ) → IsRotationSystem g r → v < g.vertex_count → e < edge_count g → is_end g v e ≡ true → (predecessor (order_at r v) e < edge_count g) × (is_end g v (predecessor (order_at r v) e) ≡ true)
+preceding g r v e s l m h =
+    let n : is_member (predecessor (order_at r v) e) (incident_edges g v) ≡ true = member-incident g r v (predecessor (order_at r v) e) s l (predecessor-member (order_at r v) e (order-member g r v e s l m h)) in
+    (member-edge g v (predecessor (order_at r v) e) n, member-end g v (predecessor (order_at r v) e) n)
+
+-- the dart by which a face goes on that arrives at v by e
+abbrev pub onward : Multigraph → List (List ℕ) → ℕ → ℕ → ℕ
+onward g r v e = dart_from g v (successor (order_at r v) e)
+
+-- the dart by which a face comes that leaves v by e
+abbrev pub inward : Multigraph → List (List ℕ) → ℕ → ℕ → ℕ
+inward g r v e =
+    dart_from g (other_end g (predecessor (order_at r v) e) v) (predecessor (order_at r v) e)
+
+-- the step back along a face
+abbrev pub face_back : Multigraph → List (List ℕ) → ℕ → ℕ
+face_back g r d = inward g r (tail g d) (d / 2)
+
+-- the face step permutes the darts
+pub face_step-permutes : (g : Multigraph) (r : List (List ℕ)) → IsGraph g → IsRotationSystem g r → Permutes (dart_count g) (face_step g r) (face_back g r)
+face_step-permutes g r ok s = record {
+  forth = λ d l. forth d l;
+  back = λ d l. back d l;
+  back_forth = λ d l. back_forth d l;
+  forth_back = λ d l. forth_back d l;
+}
+  where
+    head : ℕ → ℕ
+    head d = other_end g (d / 2) (tail g d)
+
+    head_in : (d : ℕ) → d < dart_count g → head d < g.vertex_count
+    head_in d l = other_end-in g (d / 2) (tail g d) ok (dart-edge g d l)
+
+    tail_in : (d : ℕ) → d < dart_count g → tail g d < g.vertex_count
+    tail_in d l = end-in g (tail g d) (d / 2) ok (dart-edge g d l) (tail-end g d)
+
+    follows : (d : ℕ) → d < dart_count g → (successor (order_at r (head d)) (d / 2) < edge_count g) × (is_end g (head d) (successor (order_at r (head d)) (d / 2)) ≡ true)
+    follows d l = following g r (head d) (d / 2) s (head_in d l) (dart-edge g d l) (other_end-is_end g (d / 2) (tail g d))
+
+    precedes : (d : ℕ) → d < dart_count g → (predecessor (order_at r (tail g d)) (d / 2) < edge_count g) × (is_end g (tail g d) (predecessor (order_at r (tail g d)) (d / 2)) ≡ true)
+    precedes d l = preceding g r (tail g d) (d / 2) s (tail_in d l) (dart-edge g d l) (tail-end g d)
+
+    forth : (d : ℕ) → d < dart_count g → face_step g r d < dart_count g
+    forth d l = dart_from-below g (head d) (successor (order_at r (head d)) (d / 2)) (follows d l).0
+
+    back : (d : ℕ) → d < dart_count g → face_back g r d < dart_count g
+    back d l = dart_from-below g (other_end g (predecessor (order_at r (tail g d)) (d / 2)) (tail g d)) (predecessor (order_at r (tail g d)) (d / 2)) (precedes d l).0
+
+    back_forth : (d : ℕ) → d < dart_count g → face_back g r (face_step g r d) ≡ d
+    back_forth d l =
+        let leaves : tail g (dart_from g (head d) (successor (order_at r (head d)) (d / 2))) ≡ head d = dart_from-tail g (head d) (successor (order_at r (head d)) (d / 2)) (follows d l).1 in
+        let along : dart_from g (head d) (successor (order_at r (head d)) (d / 2)) / 2 ≡ successor (order_at r (head d)) (d / 2) = dart_from-edge g (head d) (successor (order_at r (head d)) (d / 2)) in
+        let before : predecessor (order_at r (head d)) (successor (order_at r (head d)) (d / 2)) ≡ d / 2 = predecessor-successor (order_at r (head d)) (d / 2) (order-distinct g r (head d) s (head_in d l)) in
+        let twice : other_end g (d / 2) (head d) ≡ tail g d = other_end-twice g (d / 2) (tail g d) ok (dart-edge g d l) (tail-end g d) in
+        ap₂ (inward g r) leaves along
+        ∙ ap (λ p. dart_from g (other_end g p (head d)) p) before
+        ∙ ap (λ z. dart_from g z (d / 2)) twice
+        ∙ dart_from-of_dart g d ok l
+
+    forth_back : (d : ℕ) → d < dart_count g → face_step g r (face_back g r d) ≡ d
+    forth_back d l =
+        let p : ℕ = predecessor (order_at r (tail g d)) (d / 2) in
+        let u : ℕ = other_end g p (tail g d) in
+        let leaves : tail g (dart_from g u p) ≡ u = dart_from-tail g u p (other_end-is_end g p (tail g d)) in
+        let along : dart_from g u p / 2 ≡ p = dart_from-edge g u p in
+        let twice : other_end g p u ≡ tail g d = other_end-twice g p (tail g d) ok (precedes d l).0 (precedes d l).1 in
+        let after : successor (order_at r (tail g d)) p ≡ d / 2 = successor-predecessor (order_at r (tail g d)) (d / 2) (order-distinct g r (tail g d) s (tail_in d l)) in
+        ap₂ (λ v e. onward g r (other_end g e v) e) leaves along
+        ∙ ap (λ v. onward g r v p) twice
+        ∙ ap (dart_from g (tail g d)) after
+        ∙ dart_from-of_dart g d ok l
