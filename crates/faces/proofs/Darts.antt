@@ -95,6 +95,10 @@ preceding g r v e s l m h =
     let n : is_member (predecessor (order_at r v) e) (incident_edges g v) ≡ true = member-incident g r v (predecessor (order_at r v) e) s l (predecessor-member (order_at r v) e (order-member g r v e s l m h)) in
     (member-edge g v (predecessor (order_at r v) e) n, member-end g v (predecessor (order_at r v) e) n)
 
+-- the edge by which a face goes on that arrives at v by e is an edge
+pub onward-edge : (g : Multigraph) (r : List (List ℕ)) (v e : ℕ) → IsGraph g → IsRotationSystem g r → e < edge_count g → is_end g v e ≡ true → successor (order_at r v) e < edge_count g
+onward-edge g r v e ok s m h = (following g r v e s (end-in g v e ok m h) m h).0
+
 -- the dart by which a face goes on that arrives at v by e
 abbrev pub onward : Multigraph → List (List ℕ) → ℕ → ℕ → ℕ
 onward g r v e = dart_from g v (successor (order_at r v) e)

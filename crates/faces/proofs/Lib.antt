@@ -8,3 +8,4 @@ pub mod Neighbours
 pub mod Searched
 pub mod Darts
 mod Examples
+pub mod FaceSteps

@@ -2,3 +2,4 @@
 pub mod Euler
 pub mod Marks
 pub mod Search
+pub mod Steps

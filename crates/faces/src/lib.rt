@@ -7,7 +7,10 @@
 #![tactic(auto)]
 
 mod components;
+mod counting;
 mod numbers;
 mod orbits;
+mod steps;
 
+pub use counting::euler;
 pub use numbers::Euler;

@@ -1,0 +1,47 @@
+// The face step of each dart.
+ghost use Rattle.faces.specs.Euler.{dart_from};
+ghost use Rattle.faces.specs.Steps.{AreFaceSteps};
+ghost use Rattle.multigraph.specs.Graph.{IsGraph, edge_count, is_end};
+ghost use Rattle.permutations.specs.Cyclic.{successor};
+ghost use Rattle.rotations.specs.Rotation.{IsRotationSystem, order_at};
+ghost use Rattle.std.specs.Prelude.{◌<◌, ◌≡◌, IfOk, IsTrue};
+
+use multigraph::Graph;
+use rotations::Rotation;
+use std::alloc::{AllocError, Global};
+
+// The dart by which a face goes on that arrives at `vertex` by `edge`.
+fn dart_onward(graph: &Graph, rotation: &Rotation, vertex: u32, edge: u32) -> u32
+    requires graph { IsGraph graph.now }
+    requires system { IsRotationSystem graph.now rotation.now }
+    requires edge_in { edge < edge_count graph.now }
+    requires end { IsTrue (is_end graph.now vertex edge) }
+    ensures { result ≡ dart_from graph.now vertex (successor (order_at rotation.now vertex) edge) }
+{
+    let next = rotation.succ(vertex, edge);
+    let (first, _) = graph.ends(next);
+    if first == vertex {
+        2 * next
+    } else {
+        2 * next + 1
+    }
+}
+
+// For each dart the next one of its face.
+pub(crate) fn face_steps(
+    alloc: Global,
+    graph: &Graph,
+    rotation: &Rotation,
+) -> Result<Vec<u32>, AllocError>
+    requires { IsRotationSystem graph.now rotation.now }
+    ensures { IfOk result (λ steps. AreFaceSteps graph.now rotation.now steps.items) }
+{
+    let edges = graph.edge_count();
+    let mut steps = Vec::with_capacity(alloc, 2 * edges as usize)?;
+    for edge in 0..edges {
+        let (first, second) = graph.ends(edge);
+        steps.push(dart_onward(graph, rotation, second, edge))?;
+        steps.push(dart_onward(graph, rotation, first, edge))?;
+    }
+    Ok(steps)
+}
