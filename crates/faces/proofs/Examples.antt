@@ -1,6 +1,6 @@
 -- Faces, components and planeness of small rotation systems, computed.
-use Rattle.std.proofs.Common.{◌≡◌, ◌≢◌, ℕ, ◌+◌, List, [], ◌∷◌, refl, arith}
-use Rattle.multigraph.specs.Graph.{Multigraph, edge_count}
+use Rattle.std.proofs.Common.{◌≡◌, ℕ, List, [], ◌∷◌, refl, arith}
+use Rattle.multigraph.specs.Graph.{Multigraph}
 use Rattle.faces.specs.Euler.{face_step, face_count, component_count, IsPlane}
 
 -- the complete graph of four vertices, drawn with one vertex inside the triangle of the others

@@ -1,6 +1,6 @@
 -- The list of the face steps: it grows by both darts of an edge at once, and its orbits are the faces.
-use Rattle.std.proofs.Common.{◌≡◌, ℕ, ◌+◌, ◌*◌, ◌/◌, ◌<◌, ◌≤◌, List, [], ◌∷◌, ◌++◌, length, get_or, slice_index, inl, inr, refl, sym, ap, ap₂, ◌∙◌, subst, arith, length-append}
-use Rattle.std.proofs.lemmas.Bool.{cases_lt, cases_eq}
+use Rattle.std.proofs.Common.{◌≡◌, ℕ, ◌+◌, ◌*◌, ◌/◌, ◌<◌, ◌≤◌, List, [], ◌∷◌, ◌++◌, length, slice_index, inl, inr, refl, sym, ap, ap₂, ◌∙◌, subst, arith, length-append}
+use Rattle.std.proofs.lemmas.Bool.{cases_lt}
 use Rattle.std.proofs.lemmas.List.{get_or_push, get_or_append_left}
 use Rattle.permutations.specs.Count.{count}
 use Rattle.permutations.specs.Permutation.{Permutes}
@@ -10,7 +10,7 @@ use Rattle.permutations.proofs.Count.{count-within}
 use Rattle.multigraph.specs.Graph.{Multigraph, IsGraph, edge_count, ends_of, other_end}
 use Rattle.multigraph.proofs.OtherEnd.{other_end-of_first, other_end-of_second}
 use Rattle.rotations.specs.Rotation.{IsRotationSystem}
-use Rattle.faces.specs.Euler.{tail, dart_count, face_step, begins_face, is_isolated, face_count, component_count}
+use Rattle.faces.specs.Euler.{dart_count, face_step, begins_face, is_isolated, face_count, component_count}
 use Rattle.faces.specs.Marks.{IsPermutationBelow, begins_orbit}
 use Rattle.faces.specs.Steps.{AreStepsBelow, AreFaceSteps}
 use Rattle.faces.proofs.Darts.{onward, face_back, face_step-permutes, tail-first, tail-second}
@@ -61,7 +61,7 @@ steps-more g r e s a b ok l all one two =
 pub steps-permutation : (g : Multigraph) (r : List (List ℕ)) (s : List ℕ) → IsGraph g → IsRotationSystem g r → AreFaceSteps g r s → IsPermutationBelow (length s) (slice_index s)
 steps-permutation g r s ok system all = (
   face_back g r,
-  subst (λ n. Permutes n (slice_index s) (face_back g r)) (sym all.darts) (permutes-ext (dart_count g) (face_step g r) (face_back g r) (slice_index s) (face_back g r) (face_step-permutes g r ok system) all.each (λ d l. refl))
+  subst (λ n. Permutes n (slice_index s) (face_back g r)) (sym all.darts) (permutes-ext (dart_count g) (face_step g r) (face_back g r) (slice_index s) (face_back g r) (face_step-permutes g r ok system) all.each (λ d l. refl)),
 )
 
 -- their orbits are the faces

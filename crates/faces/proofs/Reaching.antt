@@ -1,6 +1,6 @@
 -- What the steps of a permutation reach: an equivalence, that of its orbits.
-use Rattle.std.proofs.Common.{◌≡◌, ℕ, ◌<◌, Bool, true, ◌==◌, refl, sym, ap, ◌∙◌, subst}
-use Rattle.permutations.specs.Permutation.{Permutes, iterate, reaches, same_orbit}
+use Rattle.std.proofs.Common.{◌≡◌, ℕ, ◌<◌, true, ◌==◌, refl, sym, ap, ◌∙◌, subst}
+use Rattle.permutations.specs.Permutation.{iterate, reaches, same_orbit}
 use Rattle.permutations.proofs.Search.{some-ext}
 use Rattle.permutations.proofs.Relation.{same-tests}
 use Rattle.permutations.proofs.Iterates.{iterate-below, iterate-ext, iterate-orbit, reaches-steps, orbit-reaches}

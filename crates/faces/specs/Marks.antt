@@ -1,5 +1,5 @@
 -- Places that are marked, and the orbits that a walk marks.
-use Rattle.std.specs.Prelude.{◌≡◌, ℕ, ◌<◌, Bool, false, not, List, slice_index_or}
+use Rattle.std.specs.Prelude.{ℕ, Bool, false, not, List, slice_index_or}
 use Rattle.permutations.specs.Count.{some}
 use Rattle.permutations.specs.Permutation.{Permutes, reaches}
 

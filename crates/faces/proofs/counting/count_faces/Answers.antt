@@ -1,9 +1,6 @@
 -- The faces are the orbits of the face steps, and the isolated vertices.
-use Rattle.std.proofs.Common.{◌≡◌, ◌+◌, ◌<◌, ◌^◌, ◌*◌, length, slice_index, ap, ◌∙◌, sym, subst, arith}
-use Rattle.permutations.specs.Count.{count}
+use Rattle.std.proofs.Common.{◌≡◌, ◌*◌, length, ap, ◌∙◌, sym, subst, arith}
 use Rattle.multigraph.specs.Graph.{edge_count}
-use Rattle.faces.specs.Euler.{dart_count, begins_face}
-use Rattle.faces.specs.Marks.{IsPermutationBelow, begins_orbit}
 use Rattle.faces.specs.Steps.{AreFaceSteps}
 use Rattle.faces.proofs.FaceSteps.{steps-permutation, steps-faces, faces-few}
 use Rattle.faces.proofs.counting.count_faces.Goals as goal

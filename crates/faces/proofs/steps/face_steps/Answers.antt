@@ -1,5 +1,5 @@
 -- Both darts of an edge at once.
-use Rattle.std.proofs.Common.{◌≡◌, ◌∙◌, sym, ap, arith}
+use Rattle.std.proofs.Common.{◌≡◌, ◌∙◌, ap, arith}
 use Rattle.multigraph.specs.Graph.{ends_of}
 use Rattle.faces.proofs.Darts.{onward}
 use Rattle.faces.proofs.FaceSteps.{steps-more}
