@@ -1,7 +1,7 @@
 -- Equivalences as tests: one link more, and the equivalence that a list of links generates.
 use Rattle.std.proofs.Common.{◌≡◌, ℕ, ◌<◌, ◌≤◌, ◌⊎◌, inl, inr, Bool, true, false, ◌&&◌, ◌||◌, ◌==◌, List, [], ◌∷◌, refl, sym, ◌∙◌, subst, arith, All, Contains}
 use Rattle.std.proofs.lemmas.Bool.{cases_Bool, both_ways, false_from_ne_true, and_parts, or_cases, or_left, eq-eqb, eqb-true}
-use Rattle.std.proofs.lemmas.List.Elements.{All-head, All-tail, All-cons, All-weaker, All-contains}
+use Rattle.std.proofs.lemmas.List.Elements.{All-head, All-tail, All-cons, All-weaker, All-contains, All-contains_itself}
 use Rattle.permutations.specs.Relation.{IsEquivalence, join, connected}
 
 -- two tests with the same answer `true` are equal
@@ -133,6 +133,10 @@ connected-least-typed (link ∷ links) S r s t a x y h = join-least-typed (conne
 -- the least: an equivalence that contains each link contains `connected`
 pub connected-least : (links : List (ℕ × ℕ)) (s : ℕ → ℕ → Bool) → IsEquivalence s → All (λ link. s link.0 link.1 ≡ true) links → (x y : ℕ) → connected links x y ≡ true → s x y ≡ true
 connected-least links s e a x y h = connected-least-typed links (λ u v. s u v ≡ true) e.reflexive e.symmetric e.transitive a x y h
+
+-- the same, with the links named one by one
+pub connected-least_containing : (links : List (ℕ × ℕ)) (s : ℕ → ℕ → Bool) → IsEquivalence s → ((p q : ℕ) → Contains links (p, q) → s p q ≡ true) → (x y : ℕ) → connected links x y ≡ true → s x y ≡ true
+connected-least_containing links s e a x y h = connected-least links s e (All-weaker (Contains links) (λ link. s link.0 link.1 ≡ true) (λ link c. a link.0 link.1 c) links (All-contains_itself links)) x y h
 
 -- a value that the two ends of each link share is constant on classes
 pub connected-value : {X : Type 0} (links : List (ℕ × ℕ)) (f : ℕ → X) → All (λ link. f link.0 ≡ f link.1) links → (x y : ℕ) → connected links x y ≡ true → f x ≡ f y

@@ -7,3 +7,4 @@ pub mod Members
 pub mod Exchange
 pub mod Ring
 pub mod Runs
+pub mod Laws
