@@ -18,10 +18,10 @@ pub(crate) fn lists_under<'a>(
 {
     let mut found = Vec::new(alloc);
     for pair in pairs {
-        if pair.key.as_slice() == key {
-            if let Value::List(inner) = &pair.value {
-                found.push(inner)?;
-            }
+        if let Value::List(inner) = &pair.value
+            && pair.key.as_slice() == key
+        {
+            found.push(inner)?;
         }
     }
     Ok(found)
