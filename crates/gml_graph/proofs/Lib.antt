@@ -4,3 +4,4 @@ pub mod Each
 pub mod Steps
 pub mod Places
 pub mod Sound
+pub mod Law

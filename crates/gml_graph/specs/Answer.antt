@@ -2,9 +2,9 @@
 use Rattle.std.specs.Prelude.{◌≡◌, ℕ, zero, suc, ℤ, nat_lt, ◌==◌, if◌then◌else◌, List, [], ◌∷◌, ◌++◌, length, take, position, slice_index_or, Option, Some, None, Result, Ok, Err, codes}
 use Rattle.std.specs.Ordering.{int_eq}
 use Rattle.std.specs.List.{list_any}
-use Rattle.multigraph.specs.Graph.{max_vertices, max_edges}
+use Rattle.multigraph.specs.Graph.{IsGraph, max_vertices, max_edges}
 use Rattle.gml_text.specs.Document.{Document, empty}
-use Rattle.gml_graph.specs.Named.{NamedGraph}
+use Rattle.gml_graph.specs.Named.{NamedGraph, IsNamed}
 use Rattle.gml_graph.specs.Lists.{lists_under, first_under}
 use Rattle.gml_graph.specs.declared.reading.Reading.{Reading}
 use Rattle.gml_graph.specs.declared.reading.Reading.TheVariants.{Missing, NotWhole, Whole}
@@ -76,6 +76,7 @@ abbrev pub with_ends : List ℤ → Result (List (ℕ × ℕ)) GraphFault → Re
 with_ends ids (Err e) = Err e
 with_ends ids (Ok ends) = Ok (record { graph = record { vertex_count = length ids; ends = ends }; ids = ids })
 
+-- the graph whose vertices have these ids and whose edges have these lists
 abbrev pub with_ids : List Document → Result (List ℤ) GraphFault → Result NamedGraph GraphFault
 with_ids edges (Err e) = Err e
 with_ids edges (Ok ids) = with_ends ids (edge_ends ids edges)
@@ -100,6 +101,10 @@ graph_among (g ∷ (h ∷ gs)) = Err MoreGraphs
 -- the graph of a document, or the first refusal
 abbrev pub graph_of_document : Document → Result NamedGraph GraphFault
 graph_of_document d = graph_among (lists_under (codes "graph") d)
+
+-- a document's graph is within the limits and without loops, and each vertex has an id of its own
+abbrev pub HasSoundGraph : Document → Type 0
+HasSoundGraph d = (n : NamedGraph) → graph_of_document d ≡ Ok n → IsGraph n.graph × IsNamed n
 
 -- a fault is the refusal that is due, or want of memory, which may come at any
 abbrev pub Refuses : {A : Type 0} → Result A GraphFault → GraphFault → Type 0

@@ -14,6 +14,7 @@
 mod edges;
 mod fault;
 mod ids;
+pub mod laws;
 mod lists;
 mod named;
 mod nodes;
