@@ -13,3 +13,6 @@ pub mod Noncrossing
 pub mod LinkNoncrossing
 pub mod Glue
 pub mod Renumber
+pub mod Bond
+pub mod TurnOver
+pub mod Flip

@@ -3,3 +3,4 @@ pub mod Map
 pub mod Changes
 pub mod Order
 pub mod Renumbering
+pub mod Flip
