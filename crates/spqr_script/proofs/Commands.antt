@@ -1,17 +1,16 @@
 -- Reading a line's tokens and a script's lines gives what they spell, and all that they spell.
-use Rattle.std.proofs.Common.{◌≡◌, ℕ, zero, suc, ◌+◌, ◌≤◌, ◌<◌, Bool, true, false, not, cond, List, [], ◌∷◌, length, get_or, map, Option, Some, None, Result, Ok, Err, refl, sym, ap, subst, ◌∙◌, inl, inr, ◌⊎◌, codes, bytes_eq, arith}
-use Rattle.std.specs.Prelude.{filter}
+use Rattle.std.proofs.Common.{◌≡◌, ℕ, zero, suc, ◌+◌, ◌<◌, Bool, true, false, cond, List, [], ◌∷◌, length, get_or, Option, Some, None, Result, Ok, Err, refl, sym, ap, subst, ◌∙◌, inl, inr, ◌⊎◌, codes, bytes_eq, arith}
 use Rattle.std.specs.Option.{option_map}
 use Rattle.std.specs.List.{AllZip}
-use Rattle.std.proofs.lemmas.Bool.{cond-true, cond-false, cases_Bool, both_ways}
+use Rattle.std.proofs.lemmas.Bool.{cond-true, cases_Bool}
 use Rattle.std.proofs.lemmas.Option.{same_Some, none-some}
 use Rattle.std.proofs.lemmas.Slice.Eq.{bytes_eq-Decides}
 use Rattle.spqr_script.specs.Line.{is_passed_over, tokens_of}
-use Rattle.spqr_script.specs.Script.{SpellsRotation, SpellsCommand, command_lines, IsAccepted, IsRefused}
+use Rattle.spqr_script.specs.Script.{SpellsCommand, command_lines, IsAccepted, IsRefused}
 use Rattle.spqr_script.specs.Reading.{rotation_of, alone, command_of, command_and, commands_from}
 use Rattle.spqr_script.specs.declared.command.Command.{Command}
 use Rattle.spqr_script.specs.declared.command.Command.TheVariants.{Euler, Gml}
-use Rattle.spqr_script.proofs.Options.{cond_some_of, map_some}
+use Rattle.spqr_script.proofs.Options.{map_some}
 use Rattle.spqr_script.proofs.Entries.{rotation_spelled, rotation_read}
 
 -- ---- one command
@@ -64,13 +63,13 @@ and_ok line None others cs e = absurd cc
 and_ok line (Some c) (Ok rest) cs e = (c, rest, refl, refl, cc)
 and_ok line (Some c) (Err bad) cs e = absurd cc
 
-ok_is : (xs ys : List Command) → ◌≡◌ {A = Result (List Command) ℕ} (Ok xs) (Ok ys) → xs ≡ ys
+pub ok_is : (xs ys : List Command) → ◌≡◌ {A = Result (List Command) ℕ} (Ok xs) (Ok ys) → xs ≡ ys
 ok_is xs ys e = cc
 
 err_is : (k l : ℕ) → ◌≡◌ {A = Result (List Command) ℕ} (Err k) (Err l) → k ≡ l
 err_is k l e = cc
 
-ok_err : (xs : List Command) (l : ℕ) → ◌≡◌ {A = Result (List Command) ℕ} (Ok xs) (Err l) → ⊥
+pub ok_err : (xs : List Command) (l : ℕ) → ◌≡◌ {A = Result (List Command) ℕ} (Ok xs) (Err l) → ⊥
 ok_err xs l e = cc
 
 -- the first line, and what the lines after it say

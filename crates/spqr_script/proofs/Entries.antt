@@ -1,5 +1,5 @@
 -- Reading numbers, entries and rotations gives what the tokens spell, and all that they spell.
-use Rattle.std.proofs.Common.{◌≡◌, ℕ, zero, suc, ◌-◌, ◌<◌, ◌==◌, Bool, true, ◌&&◌, ltb, List, [], ◌∷◌, ◌++◌, append_assoc, length, get_or, map, Option, Some, None, refl, sym, ap, subst, ◌∙◌, inl, inr, codes, bytes_eq, add-one, arith}
+use Rattle.std.proofs.Common.{◌≡◌, ℕ, ◌-◌, ◌<◌, ◌==◌, true, ◌&&◌, ltb, List, [], ◌∷◌, ◌++◌, append_assoc, length, Option, Some, None, refl, sym, ap, subst, ◌∙◌, inl, inr, codes, bytes_eq, arith}
 use Rattle.std.specs.Option.{option_map}
 use Rattle.std.specs.List.{AllZip, slice_split}
 use Rattle.rotations.specs.Entries.{entry, IsRising, IsAbove}

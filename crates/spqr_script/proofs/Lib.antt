@@ -3,4 +3,11 @@ mod TextExamples
 mod ScriptExamples
 mod Options
 mod Entries
-mod Commands
+pub mod Commands
+mod Digits
+mod FromFront
+mod Parts
+mod Loops
+mod Steps
+mod Rotations
+pub mod Scripts

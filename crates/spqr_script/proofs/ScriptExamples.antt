@@ -1,5 +1,5 @@
 -- Lines, tokens and commands, worked out on small scripts.
-use Rattle.std.proofs.Common.{◌≡◌, ℕ, List, [], ◌∷◌, Option, Some, None, Result, Ok, Err, codes, true, false, refl}
+use Rattle.std.proofs.Common.{◌≡◌, ℕ, List, [], ◌∷◌, Option, Some, None, Ok, Err, codes, true, false, refl}
 use Rattle.spqr_script.specs.Number.{number_below}
 use Rattle.spqr_script.specs.Line.{cut_lines, lines_of, is_passed_over, tokens_of}
 use Rattle.spqr_script.specs.Reading.{indices_of, entry_of, entries_after, rotation_of, command_of, commands_from}

@@ -1,8 +1,8 @@
 -- Printed texts, worked out on small numbers.
-use Rattle.std.proofs.Common.{◌≡◌, List, ℕ, [], ◌∷◌, pos, negsuc, true, false, codes, refl}
+use Rattle.std.proofs.Common.{◌≡◌, [], ◌∷◌, pos, negsuc, true, false, codes, refl}
 use Rattle.std.specs.Fmt.{digits}
 use Rattle.spqr_script.specs.Head.{graph_text, vertex_text, cut_text, block_text}
-use Rattle.spqr_script.specs.Answer.{euler_text, list_text, document_text, error_text}
+use Rattle.spqr_script.specs.Answer.{euler_text, document_text, error_text}
 use Rattle.spqr_script.specs.Refusal.{read_text, long_text, script_text}
 use Rattle.spqr_script.specs.declared.refusals.Which.TheVariants.{GraphFile, ScriptFile}
 

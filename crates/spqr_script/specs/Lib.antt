@@ -7,3 +7,4 @@ pub mod Number
 pub mod Line
 pub mod Script
 pub mod Reading
+pub mod Outcome

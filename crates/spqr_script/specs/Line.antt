@@ -19,6 +19,11 @@ lines_of bytes = map without_return (cut_lines bytes)
 abbrev pub is_blank : ℕ → Bool
 is_blank b = b == 32 || b == 9
 
+-- a blank comes first
+abbrev pub begins_blank : List ℕ → Bool
+begins_blank [] = false
+begins_blank (b ∷ bs) = is_blank b
+
 -- a line is passed over: it has only blanks, or `#` is its first byte other than these
 unfoldable pub is_passed_over : List ℕ → Bool
 is_passed_over [] = true

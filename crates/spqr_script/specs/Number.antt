@@ -1,5 +1,5 @@
 -- Numbers as the script spells them.
-use Rattle.std.specs.Prelude.{◌≡◌, ℕ, ◌<◌, ◌^◌, Bool, ◌&&◌, nat_lt, if◌then◌else◌, List, Option, Some, None, IsTrue}
+use Rattle.std.specs.Prelude.{◌≡◌, ℕ, ◌<◌, ◌^◌, ◌&&◌, nat_lt, if◌then◌else◌, List, Option, Some, None, IsTrue}
 use Rattle.gml_graph.specs.Number.{are_digits, spelled_after}
 
 -- the number that decimal digits spell

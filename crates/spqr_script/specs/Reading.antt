@@ -1,12 +1,20 @@
 -- Reading as functions on lists: what the functions of the reader answer. proofs/ shows that it is what `Script` says.
-use Rattle.std.specs.Prelude.{◌≡◌, ℕ, ◌+◌, ◌-◌, Bool, ◌||◌, ◌==◌, nat_lt, if◌then◌else◌, List, [], ◌∷◌, ◌++◌, length, Option, Some, None, option_map, Result, Ok, Err, Vec, bytes_eq, codes}
+use Rattle.std.specs.Prelude.{◌≡◌, ℕ, ◌+◌, ◌-◌, ◌*◌, Bool, ◌&&◌, ◌||◌, ◌==◌, nat_lt, if◌then◌else◌, List, [], ◌∷◌, ◌++◌, length, Option, Some, None, option_map, Result, Ok, Err, bytes_eq, codes}
+use Rattle.std.specs.Char.{is_ascii_digit}
 use Rattle.std.specs.List.{slice_split}
 use Rattle.rotations.specs.Entries.{entry}
 use Rattle.spqr_script.specs.Number.{number_below, index_limit}
-use Rattle.spqr_script.specs.Line.{lines_of, is_passed_over, tokens_of}
+use Rattle.spqr_script.specs.Line.{is_passed_over, tokens_of}
 use Rattle.spqr_script.specs.Script.{is_semicolon}
+use Rattle.std.specs.Global.{Vec}
+use Rattle.spqr_script.specs.declared.command.ScriptFault.{ScriptFault}
+use Rattle.spqr_script.specs.declared.command.ScriptFault.TheVariants.{BadLine, Memory}
 use Rattle.spqr_script.specs.declared.command.Command.{Command}
 use Rattle.spqr_script.specs.declared.command.Command.TheVariants.{Euler, Gml}
+
+-- the number so far with one digit more behind it, where that is below the limit
+abbrev pub with_digit : ℕ → ℕ → ℕ → Option ℕ
+with_digit limit value digit = (if is_ascii_digit digit && nat_lt (value * 10 + (digit - 48)) limit then Some (value * 10 + (digit - 48)) else None)
 
 -- the number of a vertex, an edge, a block, a node or a key
 abbrev pub index_of : List ℕ → Option ℕ
@@ -21,6 +29,10 @@ with_first (Some x) others = option_map (λ xs. x ∷ xs) others
 unfoldable pub indices_of : List (List ℕ) → Option (List ℕ)
 indices_of [] = Some []
 indices_of (token ∷ tokens) = with_first (index_of token) (indices_of tokens)
+
+-- the numbers so far, and others where they are there
+abbrev pub put_behind : List ℕ → Option (List ℕ) → Option (List ℕ)
+put_behind front others = option_map (λ ns. front ++ ns) others
 
 -- a pair, where both parts are there
 abbrev pub pair_of : Option ℕ → Option (List ℕ) → Option (ℕ × List ℕ)
@@ -77,3 +89,9 @@ commands_from line [] = Ok []
 commands_from line (text ∷ texts) =
     (if is_passed_over text then commands_from (line + 1) texts
     else command_and line (command_of (tokens_of text)) (commands_from (line + 1) texts))
+
+-- a result is the reading that is due, or want of memory
+abbrev pub Gives : Result (Vec Command) ScriptFault → Result (List Command) ℕ → Type 0
+Gives (Ok commands) due = due ≡ Ok commands.items
+Gives (Err (BadLine line)) due = due ≡ Err line
+Gives (Err Memory) due = Unit {0}

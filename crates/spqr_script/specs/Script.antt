@@ -1,5 +1,5 @@
 -- Which commands a script spells, and which line is the first that is none.
-use Rattle.std.specs.Prelude.{◌≡◌, ℕ, ◌+◌, ◌-◌, ◌<◌, ◌≤◌, Bool, true, false, not, ◌⊎◌, List, [], ◌∷◌, length, map, filter, slice_index_or, bytes_eq, codes}
+use Rattle.std.specs.Prelude.{◌≡◌, ℕ, ◌+◌, ◌-◌, ◌<◌, ◌≤◌, Bool, true, false, not, ◌⊎◌, List, [], ◌∷◌, length, filter, slice_index_or, bytes_eq, codes}
 use Rattle.std.specs.List.{AllZip, slice_split}
 use Rattle.rotations.specs.Entries.{IsRising}
 use Rattle.spqr_script.specs.Number.{SpellsNumber, index_limit}
