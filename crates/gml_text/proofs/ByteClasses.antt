@@ -1,7 +1,7 @@
 -- Which classes of bytes have no byte in common.
-use Rattle.std.proofs.Common.{◌≡◌, ℕ, ◌+◌, ◌≤◌, Bool, true, false, cond, not, ◌&&◌, ◌||◌, eqb, leb, List, [], ◌∷◌, ◌++◌, refl, sym, ap, ◌∙◌, arith}
+use Rattle.std.proofs.Common.{◌≡◌, ℕ, true, false, eqb, arith}
 use Rattle.std.proofs.lemmas.Bool.Decides.{nat_tests}
-use Rattle.gml_text.specs.Bytes.{is_white, is_line_end, is_letter, is_digit, is_key_byte, is_sign, is_mark, is_either, ends_word, is_word_byte}
+use Rattle.gml_text.specs.Bytes.{is_white, is_letter, is_digit, is_key_byte, is_sign, is_mark, is_either, ends_word, is_word_byte}
 
 pub key_byte-word : (b : ℕ) → is_key_byte b ≡ true → is_word_byte b ≡ true
 key_byte-word b h = grind (arith, nat_tests)

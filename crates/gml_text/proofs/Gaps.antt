@@ -1,8 +1,8 @@
 -- What is left behind the longest gap is what stands behind any gap, where it begins with no whitespace and no `#`.
-use Rattle.std.proofs.Common.{◌≡◌, ℕ, ◌+◌, ◌≤◌, ◌<◌, Bool, true, false, cond, not, ◌&&◌, ◌||◌, eqb, List, [], ◌∷◌, ◌++◌, length, refl, sym, ap, subst, ◌∙◌, ◌⊎◌, inl, inr, arith}
+use Rattle.std.proofs.Common.{◌≡◌, ℕ, ◌<◌, Bool, true, false, cond, not, ◌&&◌, ◌||◌, eqb, List, [], ◌∷◌, ◌++◌, length, refl, sym, ap, subst, ◌∙◌, ◌⊎◌, inl, inr, arith}
 use Rattle.std.proofs.lemmas.Bool.{false≢true, cases_Bool}
 use Rattle.gml_text.specs.Bytes.{is_white, is_line_end}
-use Rattle.gml_text.specs.Grammar.{is_gap, is_comment, Stands}
+use Rattle.gml_text.specs.Grammar.{is_gap, is_comment}
 use Rattle.gml_text.specs.Reading.{after_gap, after_comment}
 
 -- whether bytes begin with a token's byte: with neither whitespace nor `#`

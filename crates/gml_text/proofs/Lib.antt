@@ -7,3 +7,8 @@ mod NumberPasses
 mod NumberWords
 mod NextItem
 mod PassesNumber
+mod Frames
+mod Completes
+mod Depth
+mod Steps
+mod ReadDocument

@@ -1,17 +1,16 @@
 -- What may stand next: at most one of a key, a closing bracket and the end, and at most one value.
-use Rattle.std.proofs.Common.{◌≡◌, ℕ, ◌+◌, ◌<◌, Bool, true, false, not, ◌&&◌, eqb, Some, List, [], ◌∷◌, ◌++◌, length, refl, sym, ap, subst, ◌∙◌, ◌⊎◌, inl, inr, arith}
+use Rattle.std.proofs.Common.{◌≡◌, ℕ, true, false, eqb, Some, List, [], ◌∷◌, ◌++◌, length, refl, sym, ap, subst, ◌∙◌, inl, inr, arith}
 use Rattle.std.specs.List.{list_all}
 use Rattle.std.proofs.lemmas.Bool.{false≢true, eqb-true}
 use Rattle.gml_text.specs.Bytes.{is_word_byte, is_no_quote}
-use Rattle.gml_text.specs.Number.{IsNumber}
 use Rattle.gml_text.specs.Recognised.{passes}
 use Rattle.gml_text.specs.declared.number.Part.TheVariants.{Nothing}
-use Rattle.gml_text.specs.Document.{Document, empty, number, string, list}
-use Rattle.gml_text.specs.Grammar.{is_gap, is_key, Stands, KeyStands, NumberStands, StringStands, OpenStands, CloseStands, PairsStand}
-use Rattle.gml_text.specs.Reading.{after_gap, IsWord, IsQuoted}
+use Rattle.gml_text.specs.Document.{empty, number, string, list}
+use Rattle.gml_text.specs.Grammar.{is_gap, is_key, KeyStands, NumberStands, StringStands, OpenStands, CloseStands}
+use Rattle.gml_text.specs.Reading.{after_gap, IsWord}
 use Rattle.gml_text.specs.Items.{NoValue, Stops, Stuck}
 use Rattle.gml_text.proofs.Gaps.{after_gap-last}
-use Rattle.gml_text.proofs.Words.{both_true, word_one, quoted_one, IsSome, key_word, key_here, here_key, here_word, word_here, string_here, open_here, close_here}
+use Rattle.gml_text.proofs.Words.{both_true, word_one, quoted_one, IsSome, key_word, key_here, string_here, open_here, close_here}
 use Rattle.gml_text.proofs.NumberWords.{number_word, number_here}
 
 -- the first byte of a word that isn't empty is a word's byte

@@ -1,11 +1,11 @@
 -- Each number is recognised.
-use Rattle.std.proofs.Common.{◌≡◌, ℕ, ◌+◌, ◌<◌, Bool, true, false, cond, not, ◌&&◌, Option, Some, None, List, [], ◌∷◌, ◌++◌, length, refl, sym, ap, subst, ◌∙◌, ◌⊎◌, inl, inr, arith, append_assoc, codes, nat_eq}
+use Rattle.std.proofs.Common.{◌≡◌, ℕ, ◌+◌, ◌<◌, Bool, true, false, cond, not, ◌&&◌, Option, Some, None, List, [], ◌∷◌, ◌++◌, length, refl, sym, ap, ◌∙◌, ◌⊎◌, inl, inr, arith, append_assoc, codes, nat_eq}
 use Rattle.std.proofs.lemmas.Bool.{not-true}
 use Rattle.std.proofs.lemmas.List.{append-nil}
 use Rattle.std.specs.List.{list_all}
 use Rattle.std.proofs.lemmas.Bool.{false≢true}
 use Rattle.gml_text.specs.Bytes.{is_digit, is_sign, is_mark, is_either}
-use Rattle.gml_text.specs.Number.{is_sign_text, is_name, IsDigits, IsInteger, IsPointed, IsExponent, IsReal, IsSpecial, IsNumber}
+use Rattle.gml_text.specs.Number.{is_sign_text, is_name, IsDigits, IsInteger, IsPointed, IsExponent, IsReal, IsNumber}
 use Rattle.gml_text.specs.Recognised.{on, begin, step, passes}
 use Rattle.gml_text.specs.declared.number.Part.{Part}
 use Rattle.gml_text.specs.declared.number.Part.TheVariants.{Nothing, Sign, Whole, Point, Fraction, Mark, MarkSign, Exponent, I, In, N, Na, Special}

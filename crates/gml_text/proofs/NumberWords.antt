@@ -1,5 +1,5 @@
 -- Numbers are words, and those words that are recognised.
-use Rattle.std.proofs.Common.{◌≡◌, ℕ, ◌+◌, ◌<◌, Bool, true, false, cond, not, ◌&&◌, Option, Some, None, List, [], ◌∷◌, ◌++◌, length, refl, sym, ap, subst, ◌∙◌, inl, inr, arith, nat_eq}
+use Rattle.std.proofs.Common.{◌≡◌, ℕ, ◌<◌, Bool, true, false, cond, not, ◌&&◌, Option, Some, None, List, [], ◌∷◌, ◌++◌, length, refl, sym, ap, ◌∙◌, inl, inr, arith, nat_eq}
 use Rattle.std.specs.List.{list_all}
 use Rattle.std.proofs.lemmas.Bool.{false≢true, cases_Bool}
 use Rattle.gml_text.specs.Bytes.{is_digit, is_sign, is_mark, is_either, ends_word, is_word_byte}
@@ -7,7 +7,7 @@ use Rattle.gml_text.specs.Number.{IsNumber}
 use Rattle.gml_text.specs.Recognised.{on, begin, step, passes}
 use Rattle.gml_text.specs.declared.number.Part.{Part}
 use Rattle.gml_text.specs.declared.number.Part.TheVariants.{Nothing, Sign, Whole, Point, Fraction, Mark, MarkSign, Exponent, I, In, N, Na, Special}
-use Rattle.gml_text.specs.Grammar.{Stands, NumberStands, is_behind_word}
+use Rattle.gml_text.specs.Grammar.{NumberStands}
 use Rattle.gml_text.specs.Reading.{after_gap, IsWord}
 use Rattle.gml_text.proofs.ByteClasses.{ends-digit, ends-point, ends-sign, ends-mark, ends-either_i, ends-either_n, ends-either_f, ends-either_a}
 use Rattle.gml_text.proofs.Numbers.{passes-none}

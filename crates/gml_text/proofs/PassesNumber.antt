@@ -1,10 +1,10 @@
 -- What is recognised is a number: what completes each part, from the last parts to the first.
-use Rattle.std.proofs.Common.{◌≡◌, ℕ, ◌+◌, ◌<◌, Bool, true, false, cond, not, ◌&&◌, Option, Some, None, List, [], ◌∷◌, ◌++◌, length, refl, sym, ap, subst, ◌∙◌, ◌⊎◌, inl, inr, arith, codes, nat_eq, append_assoc}
+use Rattle.std.proofs.Common.{◌≡◌, ℕ, Bool, true, false, cond, ◌&&◌, Option, Some, List, [], ◌∷◌, ◌++◌, refl, sym, ap, subst, ◌∙◌, ◌⊎◌, inl, inr, arith, codes, nat_eq, append_assoc}
 use Rattle.std.specs.List.{list_all}
 use Rattle.std.proofs.lemmas.Bool.{false≢true}
 use Rattle.gml_text.specs.Bytes.{is_digit, is_sign, is_mark, is_either}
-use Rattle.gml_text.specs.Number.{is_sign_text, is_name, IsDigits, IsInteger, IsPointed, IsExponent, IsReal, IsSpecial, IsNumber}
-use Rattle.gml_text.specs.Recognised.{on, begin, step, passes}
+use Rattle.gml_text.specs.Number.{is_sign_text, is_name, IsDigits, IsInteger, IsPointed, IsExponent, IsNumber}
+use Rattle.gml_text.specs.Recognised.{on, begin, passes}
 use Rattle.gml_text.specs.declared.number.Part.{Part}
 use Rattle.gml_text.specs.declared.number.Part.TheVariants.{Nothing, Sign, Whole, Point, Fraction, Mark, MarkSign, Exponent, I, In, N, Na, Special}
 use Rattle.std.proofs.lemmas.Bool.{eqb-true}

@@ -1,11 +1,10 @@
 -- What stands next, told by what is left behind the longest gap: keys and numbers are words, and bytes are split into a word
 -- and the rest in one way.
-use Rattle.std.proofs.Common.{◌≡◌, ℕ, ◌+◌, ◌≤◌, ◌<◌, Bool, true, false, not, ◌&&◌, ◌||◌, eqb, List, [], ◌∷◌, ◌++◌, length, refl, sym, ap, subst, ◌∙◌, ◌⊎◌, inl, inr, arith, append_assoc}
+use Rattle.std.proofs.Common.{◌≡◌, ℕ, ◌<◌, Bool, true, false, not, ◌&&◌, ◌||◌, eqb, List, [], ◌∷◌, ◌++◌, length, refl, sym, ap, subst, ◌∙◌, arith, append_assoc}
 use Rattle.std.specs.List.{list_all}
-use Rattle.std.proofs.lemmas.Bool.{false≢true, cases_Bool}
-use Rattle.gml_text.specs.Bytes.{is_white, is_letter, is_key_byte, ends_word, is_word_byte, is_no_quote}
-use Rattle.gml_text.specs.Number.{IsNumber}
-use Rattle.gml_text.specs.Grammar.{is_gap, is_key, is_behind_word, Stands, KeyStands, NumberStands, StringStands, OpenStands, CloseStands}
+use Rattle.std.proofs.lemmas.Bool.{false≢true}
+use Rattle.gml_text.specs.Bytes.{is_letter, is_key_byte, is_word_byte, is_no_quote}
+use Rattle.gml_text.specs.Grammar.{is_key, is_behind_word, Stands, KeyStands, StringStands, OpenStands, CloseStands}
 use Rattle.gml_text.specs.Reading.{after_gap, IsWord, IsQuoted}
 use Rattle.gml_text.proofs.ByteClasses.{key_byte-word, letter-key_byte, word-white, word-hash}
 use Rattle.gml_text.proofs.Gaps.{begins, after_gap-gap, gap_before}

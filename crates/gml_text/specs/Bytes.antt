@@ -1,5 +1,5 @@
 -- Classes of bytes, as tests.
-use Rattle.std.specs.Prelude.{ℕ, ◌+◌, Bool, true, false, not, ◌&&◌, ◌||◌, List, [], ◌∷◌, nat_le, ◌==◌}
+use Rattle.std.specs.Prelude.{ℕ, ◌+◌, Bool, not, ◌&&◌, ◌||◌, nat_le, ◌==◌}
 
 -- tab, line feed, vertical tab, form feed, carriage return and space
 abbrev pub is_white : ℕ → Bool

@@ -1,6 +1,6 @@
 -- The grammar of GML: which bytes spell a document. Each relation is between the bytes and the rest of them that stands behind
 -- what it speaks of.
-use Rattle.std.specs.Prelude.{◌≡◌, ℕ, Bool, true, false, cond, ◌&&◌, ◌||◌, ◌==◌, List, [], ◌∷◌, ◌++◌}
+use Rattle.std.specs.Prelude.{◌≡◌, ℕ, Bool, true, false, cond, ◌&&◌, ◌==◌, List, [], ◌∷◌, ◌++◌}
 use Rattle.std.specs.List.{list_all}
 use Rattle.gml_text.specs.Bytes.{is_white, is_line_end, is_letter, is_key_byte, ends_word, is_no_quote}
 use Rattle.gml_text.specs.Number.{IsNumber}

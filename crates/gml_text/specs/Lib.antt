@@ -9,5 +9,7 @@ pub mod Recognised
 pub mod Grammar
 pub mod Reading
 pub mod Items
+pub mod Partial
+pub mod Faults
 pub mod Layout
 pub mod WellFormed

@@ -1,5 +1,5 @@
 -- What stands next, as it is read.
-use Rattle.std.specs.Prelude.{◌≡◌, ℕ, Bool, true, false, cond, ◌==◌, List, [], ◌∷◌, ◌++◌}
+use Rattle.std.specs.Prelude.{◌≡◌, ℕ, true, cond, ◌==◌, List, [], ◌∷◌, ◌++◌}
 use Rattle.std.specs.List.{list_all}
 use Rattle.gml_text.specs.Bytes.{is_white, is_line_end, is_word_byte, is_no_quote}
 use Rattle.gml_text.specs.Grammar.{is_behind_word}

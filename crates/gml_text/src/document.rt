@@ -2,6 +2,7 @@
 
 ghost use Rattle.std.specs.Prelude.{◌≡◌};
 ghost use Rattle.gml_text.specs.Pairs.{document_of};
+ghost use Rattle.gml_text.specs.WellFormed.{IsWellFormed};
 ghost use Rattle.gml_text.specs.declared.document.GmlFault.TheVariants.{Memory};
 
 use std::alloc::{AllocError, AllocFailed};
@@ -97,14 +98,16 @@ impl Pairs {
     }
 }
 
-/// A document: pairs, nested at most 32 lists deep.
+/// A document that has a text: its keys and numbers are those of the grammar, no string has a quote in it, and lists are nested
+/// at most 32 deep.
 #[derive(Drop)]
 pub struct Doc {
     top: Pairs,
 }
 
 impl Model for Doc {
-    ghost use Rattle.gml_text.specs.Document.{Document, IsWithinDepth};
+    ghost use Rattle.gml_text.specs.Document.{Document};
+    ghost use Rattle.gml_text.specs.WellFormed.{IsWellFormed};
     ghost use Rattle.gml_text.specs.Code.{document_code};
 
     ghost Value = { Document };
@@ -113,10 +116,20 @@ impl Model for Doc {
 
     ghost view = { λ d. d.top };
 
-    ghost invariant = { λ d. IsWithinDepth d.top };
+    ghost invariant = { λ d. IsWellFormed d.top };
 }
 
 impl Doc {
+    /// The document of these pairs.
+    pub fn of(pairs: Vec<Pair>) -> Doc
+        requires { IsWellFormed (document_of pairs.items) }
+        ensures { result ≡ document_of pairs.items }
+    {
+        Doc {
+            top: Pairs::of(pairs),
+        }
+    }
+
     /// The pairs of the document itself, in order.
     pub fn pairs(&self) -> &[Pair]
         ensures { document_of result.now ≡ self.now }

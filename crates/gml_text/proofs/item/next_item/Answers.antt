@@ -1,6 +1,6 @@
 -- What is left behind the gap tells the item.
-use Rattle.std.proofs.Common.{sym, ap, ◌∙◌, subst, List, ℕ, ◌∷◌}
-use Rattle.gml_text.specs.Reading.{after_gap, IsWord}
+use Rattle.std.proofs.Common.{sym, ◌∙◌, subst, List, ℕ}
+use Rattle.gml_text.specs.Reading.{IsWord}
 use Rattle.gml_text.proofs.Gaps.{last-after_gap}
 use Rattle.gml_text.proofs.Words.{here_close, here_key}
 use Rattle.gml_text.proofs.NextItem.{stuck-word, stuck-value, empty_bytes, some_bytes}

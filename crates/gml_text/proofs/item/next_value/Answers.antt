@@ -1,6 +1,6 @@
 -- What is left behind the gap tells the value.
 use Rattle.std.proofs.Common.{sym, ap, ◌∙◌, subst, List, ℕ, ◌∷◌}
-use Rattle.gml_text.specs.Reading.{after_gap, IsWord}
+use Rattle.gml_text.specs.Reading.{IsWord}
 use Rattle.gml_text.proofs.Words.{here_open, here_string}
 use Rattle.gml_text.proofs.NumberWords.{here_number}
 use Rattle.gml_text.proofs.PassesNumber.{passes_number}
