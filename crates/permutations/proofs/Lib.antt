@@ -29,3 +29,4 @@ pub mod Removal
 pub mod RingExchange
 pub mod Runs
 pub mod RunsFromOrder
+mod Examples

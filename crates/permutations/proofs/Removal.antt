@@ -2,7 +2,7 @@
 use Rattle.std.proofs.Common.{◌≡◌, ◌≢◌, ℕ, zero, suc, ◌<◌, inl, inr, Bool, true, false, not, ◌&&◌, ◌||◌, ◌==◌, leb, List, [], ◌∷◌, ◌++◌, filter, refl, sym, ap, ◌∙◌, subst, subst₂, arith, le_refl}
 use Rattle.std.proofs.lemmas.Bool.{cases_Bool, cases_eq, cases_order, both_ways, eq-eqb, ne_eqb, not_from_false, not_from_true, le-leb, lt-leb}
 use Rattle.permutations.specs.Members.{is_member, is_distinct}
-use Rattle.permutations.specs.Cyclic.{first_or, successor, turned, IsTurn}
+use Rattle.permutations.specs.Cyclic.{first_or, successor, turned, IsTurn, FollowsAround}
 use Rattle.permutations.specs.Permutation.{Permutes}
 use Rattle.permutations.specs.Exchange.{unlink, taken_out}
 use Rattle.permutations.specs.Ring.{ring}
@@ -10,9 +10,10 @@ use Rattle.permutations.proofs.Members.{member-head, member-tail, member-append_
 use Rattle.permutations.proofs.Filter.{filter-yes, filter-no, filter-all, filter-ext, filter-filter, distinct-filter, filter-member, member-filter_parts}
 use Rattle.permutations.proofs.Successor.{first_or-append, successor-cut, successor-absent, successor-member}
 use Rattle.permutations.proofs.Turned.{turned-head, turned-turn, turned-distinct, turned-successor, turned-first, IsTurn-filter, IsTurn-successor}
+use Rattle.permutations.proofs.CyclicOrder.{around-member, around-successor}
 use Rattle.permutations.proofs.Unlinking.{unlink-alone, unlink-before, unlink-other, unlink-cases}
 use Rattle.permutations.proofs.TakenOut.{taken-out-one, taken-out-none, taken-out-permutes}
-use Rattle.permutations.proofs.Rings.{ring-distinct, ring-itself, ring-below, ring-successor, ring-from_list, ring-first}
+use Rattle.permutations.proofs.Rings.{ring-distinct, ring-itself, ring-below, ring-successor, ring-from_list, ring-first, ring-turn}
 
 -- the first of a cyclic order taken out
 without-first : (d : ℕ) (r : List ℕ) (x : ℕ) → is_distinct (d ∷ r) ≡ true → successor r x ≡ unlink d (successor (d ∷ r)) x
@@ -182,3 +183,18 @@ ring-taken_out n keep f g b x l t =
     begin w =
         let e : filter keep r ≡ x ∷ filter keep w.0 = ap (filter keep) w.1 ∙ filter-yes keep x w.0 t in
         ap (λ (v : List ℕ). turned v x) e ∙ turned-first x (filter keep w.0) ∙ sym e
+
+-- where those of a ring that pass are the ones met in a given order, what is left of the permutation follows this order
+pub taken_out-follows : (n : ℕ) (keep : ℕ → Bool) (f g : ℕ → ℕ) → Permutes n f g → (x : ℕ) → x < n → (k : List ℕ) → ((z : ℕ) → is_member z (ring n f x) ≡ true → keep z ≡ is_member z k) → FollowsAround (ring n f x) k
+    → (z : ℕ) → is_member z k ≡ true → taken_out keep n f z ≡ successor k z
+taken_out-follows n keep f g b x l k h a z m =
+    sym (ring-successor n (taken_out keep n f) (taken_out keep n g) (taken-out-permutes n keep f g b n (le_refl n)) z zn z (ring-itself n (taken_out keep n f) (taken_out keep n g) (taken-out-permutes n keep f g b n (le_refl n)) z zn))
+    ∙ ap (λ (r : List ℕ). successor r z) (ring-taken_out n keep f g b z zn (h z zr ∙ m))
+    ∙ IsTurn-successor (filter keep (ring n f x)) (filter keep (ring n f z)) z (IsTurn-filter keep (ring n f x) (ring n f z) (subst (IsTurn (ring n f x)) (sym (ring-turn n f g b x z l zr)) (turned-turn (ring n f x) z))) (distinct-filter keep (ring n f x) (ring-distinct n f g b x l))
+    ∙ around-successor keep (ring n f x) k z (ring-distinct n f g b x l) h a
+  where
+    zr : is_member z (ring n f x) ≡ true
+    zr = around-member (ring n f x) k z a m
+
+    zn : z < n
+    zn = ring-below n f g b x l z zr
