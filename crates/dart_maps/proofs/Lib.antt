@@ -16,3 +16,4 @@ pub mod Renumber
 pub mod Bond
 pub mod TurnOver
 pub mod Flip
+mod Examples

@@ -4,3 +4,4 @@ pub mod Changes
 pub mod Order
 pub mod Renumbering
 pub mod Flip
+pub mod Laws

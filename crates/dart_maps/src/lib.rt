@@ -1,2 +1,102 @@
 // Maps of darts: Euler's inequality, contraction, gluing and noncrossing: theory without code that runs.
+//
+// A map with m edges has 2m darts, two for each edge, one at each of its ends; `twin` goes from the one to the other, and a
+// permutation `next` goes round the vertices. Leaving by a dart, arriving at its twin and going on from there is the step
+// along a face. So vertices and faces are orbits, components are the classes that both kinds of steps generate, and a map is
+// plane where V + F = E + 2C. No topology is needed: one operation does everything, exchanging what follows two darts. It
+// splits a vertex or merges two, it splits a face or merges two, and the four cases of this decide all that is proved here.
+// In every map V + F is at most E + 2C; E + 2C - V - F, which is never written as a difference, is called the defect. What
+// keeps the defect carries plane both ways, and what never raises it keeps a map plane. At a vertex of a plane map
+// connections don't cross: this stands for the Jordan curve theorem.
+// An edge that is gone stays as two darts, each alone at a vertex of its own; this adds nothing to the defect.
+// Each law below is a function without a body, whose contract is the theorem.
+//
+// The lemmas that are used most (module of proofs/ in front):
+//   Darts        twin-twin, twin-below, twin-cases, face-permutes, face-exchange: a dart and its twin; faces after an exchange
+//   Components   component-next, component-twin, component-least, component-test, component-finer, vertex-component, face-component
+//   Steps        split-merge, merge-split, split-split, merge-merge, merge-apart: V, F and C after an exchange, case by case
+//   Euler        euler, counts-ext, plane-ext, still-plane: the inequality; maps that agree on all darts
+//   Plane        same-defect-plane, same-defect-over, split-plane, corner-cut, corner-keep, unlink-plane, restricted-plane
+//   Drop         drop-defect, unlink-end-defect, dead-edge-apart, dropped-map: an edge with two faces; a loose end
+//   Insert       insert-defect, insert-across: an edge between two corners of one face, or of two
+//   Contract     contracted-before, contracted-other, contract-plane, contract-plane-back, contracted-map, contracted-vertex
+//   Glue         glue-plane, glued-map, glued-vertex: the two-sum
+//   Mirror       mirror-counts, mirror-plane
+//   Renumber     renumber-plane, renumber-plane-back, paired-count: a map within another
+//   FourDarts    four-darts, frozen-here, frozen-elsewhere: the core of noncrossing, at a vertex of four darts
+//   Noncrossing  noncrossing, restricted-vertex, restricted-more; LinkNoncrossing link-noncrossing, turn-at
+//   Bond         bond-plane, bond-plane-back, involution-count, pairs-involution
+//   TurnOver     turned-faces, turned-orbit; Flip flip-vertex, flip-faces, flip-component, flip-defect
 #![tactic(auto)]
+
+ghost use Rattle.dart_maps.specs.Laws.{BondIsPlane, ContractionKeepsDefect, ContractionKeepsPlane, CornerCut, DropKeepsDefect, EulersInequality, FlipKeepsComponents, FlipKeepsDefect, FlipKeepsFaces, FlipKeepsVertices, GluingKeepsPlane, InsertAcrossFaces, InsertKeepsDefect, MirrorKeepsCounts, MirrorKeepsPlane, NoncrossingAlongEdge, NoncrossingAtVertex, RenumberingKeepsPlane, RestrictionIsMap, RestrictionKeepsPlane, RestrictionKeepsVertices, SplitKeepsPlane};
+
+/// Euler's inequality: in every map of darts, V + F is at most E + 2C.
+pub fn eulers_inequality()
+    ensures { EulersInequality }
+{}
+
+/// The law that a map stays plane when a vertex is split, or when darts or edges are taken out.
+pub fn plane_is_inherited()
+    ensures split { SplitKeepsPlane }
+    ensures restriction { RestrictionKeepsPlane }
+    ensures restriction_is_map { RestrictionIsMap }
+    ensures restriction_keeps_vertices { RestrictionKeepsVertices }
+{}
+
+/// The corner cut: a plane map that is split at two corners of one vertex and one face falls apart there.
+pub fn corner_cut()
+    ensures { CornerCut }
+{}
+
+/// The law on one edge more or less: dropping an edge that lies on two faces, or putting one into a face, keeps the defect;
+/// an edge between two faces of one component raises it by two.
+pub fn one_edge_more_or_less()
+    ensures dropped { DropKeepsDefect }
+    ensures inserted { InsertKeepsDefect }
+    ensures across { InsertAcrossFaces }
+{}
+
+/// The law that contracting an edge between two vertices keeps the defect: what comes of it is plane exactly where the map is.
+pub fn contraction_is_exact()
+    ensures defect { ContractionKeepsDefect }
+    ensures plane { ContractionKeepsPlane }
+{}
+
+/// The law that the two-sum of plane maps is plane: two components glued along an edge of each, which is used up.
+pub fn two_sum_is_plane()
+    ensures { GluingKeepsPlane }
+{}
+
+/// The law that the mirror image of a map has as many vertices, faces and components, and is plane where the map is.
+pub fn mirror_image()
+    ensures counts { MirrorKeepsCounts }
+    ensures plane { MirrorKeepsPlane }
+{}
+
+/// Noncrossing, which stands for the Jordan curve theorem: connections that avoid a vertex of a plane map don't alternate
+/// round it, and connections that avoid both ends of an edge don't cross along it.
+pub fn connections_do_not_cross()
+    ensures at_vertex { NoncrossingAtVertex }
+    ensures along_edge { NoncrossingAlongEdge }
+{}
+
+/// The law that a map under other numbers, beside edges that are dead, is plane exactly where the map is.
+pub fn renumbering_is_exact()
+    ensures { RenumberingKeepsPlane }
+{}
+
+/// The law that a bond, two vertices with all edges between them, is plane exactly where all its faces are pairs: the order
+/// at the one vertex is the opposite of that at the other.
+pub fn bond_is_plane()
+    ensures { BondIsPlane }
+{}
+
+/// The law that turning over a part of a map, which stands in one run at each of two vertices, keeps the vertices, the
+/// components and the number of faces.
+pub fn flip_keeps_faces()
+    ensures vertices { FlipKeepsVertices }
+    ensures components { FlipKeepsComponents }
+    ensures faces { FlipKeepsFaces }
+    ensures defect { FlipKeepsDefect }
+{}

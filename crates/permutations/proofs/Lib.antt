@@ -30,3 +30,4 @@ pub mod RingExchange
 pub mod Runs
 pub mod RunsFromOrder
 mod Examples
+pub mod Computed

@@ -1,0 +1,7 @@
+use Rattle.std.proofs.Common.{◌*◌}
+use Rattle.permutations.proofs.Restriction.{restricted-orbit, restricted-permutes}
+use Rattle.dart_maps.proofs.Plane.{restricted-plane, split-plane}
+use Rattle.dart_maps.proofs.plane_is_inherited.Goals as goal
+
+pub returns : goal.returns
+returns c = record { split = split-plane; restriction = restricted-plane; restriction_is_map = λ m. restricted-permutes (2 * m); restriction_keeps_vertices = λ m. restricted-orbit (2 * m) }

@@ -1,0 +1,5 @@
+use Rattle.dart_maps.proofs.Glue.{glue-plane}
+use Rattle.dart_maps.proofs.two_sum_is_plane.Goals as goal
+
+pub returns : goal.returns
+returns c = glue-plane

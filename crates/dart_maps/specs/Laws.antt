@@ -1,0 +1,117 @@
+-- What is proved of maps of darts, as statements.
+use Rattle.std.specs.Prelude.{◌≡◌, ℕ, ◌+◌, ◌*◌, ◌<◌, ◌≤◌, ◌↔◌, not, Bool, true, false}
+use Rattle.permutations.specs.Exchange.{exchange, restricted}
+use Rattle.dart_maps.specs.Map.{twin, face, IsMap, same_vertex, same_face, same_component, vertex_count, face_count, component_count, IsPlane, SameDefect}
+use Rattle.dart_maps.specs.Order.{MetInTurn, MetInOrder, connected_around, connected_past}
+use Rattle.dart_maps.specs.Changes.{dropped, inserted, contracted, glued}
+use Rattle.dart_maps.specs.Renumbering.{IsRenumbering}
+use Rattle.dart_maps.specs.Flip.{IsFlip}
+
+-- Euler's inequality: in every map V + F is at most E + 2C
+abbrev pub EulersInequality : Type 0
+EulersInequality = (m : ℕ) (next previous : ℕ → ℕ) → IsMap m next previous → vertex_count m next + face_count m next ≤ m + 2 * component_count m next
+
+-- a vertex of a plane map split in two: the map stays plane
+abbrev pub SplitKeepsPlane : Type 0
+SplitKeepsPlane = (m : ℕ) (next previous : ℕ → ℕ) → IsMap m next previous → IsPlane m next → (p q : ℕ) → p < 2 * m → q < 2 * m → (p ≡ q → ⊥) → same_vertex m next p q ≡ true → IsPlane m (exchange p q next)
+
+-- a plane map restricted to some of its darts, or of its edges, is plane
+abbrev pub RestrictionKeepsPlane : Type 0
+RestrictionKeepsPlane = (m : ℕ) (next previous : ℕ → ℕ) → IsMap m next previous → IsPlane m next → (keep : ℕ → Bool) → IsPlane m (restricted (2 * m) keep next)
+
+-- the restriction is a map, and its inverse is that of the inverse
+abbrev pub RestrictionIsMap : Type 0
+RestrictionIsMap = (m : ℕ) (keep : ℕ → Bool) (next previous : ℕ → ℕ) → IsMap m next previous → IsMap m (restricted (2 * m) keep next) (restricted (2 * m) keep previous)
+
+-- darts that are kept leave one vertex of the restriction exactly where they left one vertex
+abbrev pub RestrictionKeepsVertices : Type 0
+RestrictionKeepsVertices = (m : ℕ) (keep : ℕ → Bool) (next previous : ℕ → ℕ) → IsMap m next previous → (c d : ℕ) → keep c ≡ true → keep d ≡ true → same_vertex m (restricted (2 * m) keep next) c d ≡ same_vertex m next c d
+
+-- the corner cut: two corners of one vertex that lie in one face of a plane map. Split there, the map falls apart
+abbrev pub CornerCut : Type 0
+CornerCut = (m : ℕ) (next previous : ℕ → ℕ) → IsMap m next previous → IsPlane m next → (p q : ℕ) → p < 2 * m → q < 2 * m → (p ≡ q → ⊥)
+    → same_vertex m next p q ≡ true → same_face m next (twin p) (twin q) ≡ true → same_component m (exchange p q next) p q ≡ false
+
+-- an edge that lies on two faces is dropped: the defect stays
+abbrev pub DropKeepsDefect : Type 0
+DropKeepsDefect = (m : ℕ) (next previous : ℕ → ℕ) → IsMap m next previous → (d : ℕ) → d < 2 * m → same_face m next d (twin d) ≡ false → SameDefect m next (dropped d next)
+
+-- an edge put in between two corners of one face: the defect stays
+abbrev pub InsertKeepsDefect : Type 0
+InsertKeepsDefect = (m : ℕ) (next previous : ℕ → ℕ) → IsMap m next previous → (d : ℕ) → d < 2 * m → next d ≡ d → next (twin d) ≡ twin d
+    → (p q : ℕ) → p < 2 * m → q < 2 * m → (p ≡ d → ⊥) → (p ≡ twin d → ⊥) → (q ≡ d → ⊥) → (q ≡ twin d → ⊥)
+    → same_face m next (twin p) (twin q) ≡ true → SameDefect m next (inserted d p q next)
+
+-- an edge put in between corners of two faces of one component: the defect rises by two
+abbrev pub InsertAcrossFaces : Type 0
+InsertAcrossFaces = (m : ℕ) (next previous : ℕ → ℕ) → IsMap m next previous → (d : ℕ) → d < 2 * m → next d ≡ d → next (twin d) ≡ twin d
+    → (p q : ℕ) → p < 2 * m → q < 2 * m → (p ≡ d → ⊥) → (p ≡ twin d → ⊥) → (q ≡ d → ⊥) → (q ≡ twin d → ⊥)
+    → same_component m next p q ≡ true → same_face m next (twin p) (twin q) ≡ false
+    → vertex_count m next + face_count m next + 2 * component_count m (inserted d p q next) ≡ vertex_count m (inserted d p q next) + face_count m (inserted d p q next) + 2 * component_count m next + 2
+
+-- an edge that joins two vertices is contracted: the defect stays
+abbrev pub ContractionKeepsDefect : Type 0
+ContractionKeepsDefect = (m : ℕ) (next previous : ℕ → ℕ) → IsMap m next previous → (d : ℕ) → d < 2 * m → same_vertex m next d (twin d) ≡ false → SameDefect m next (contracted d next)
+
+-- so the contracted map is plane exactly where the map is
+abbrev pub ContractionKeepsPlane : Type 0
+ContractionKeepsPlane = (m : ℕ) (next previous : ℕ → ℕ) → IsMap m next previous → (d : ℕ) → d < 2 * m → same_vertex m next d (twin d) ≡ false → (IsPlane m next ↔ IsPlane m (contracted d next))
+
+-- two components glued along an edge of each: what comes of a plane map is plane
+abbrev pub GluingKeepsPlane : Type 0
+GluingKeepsPlane = (m : ℕ) (next previous : ℕ → ℕ) → IsMap m next previous → (d e : ℕ) → d < 2 * m → e < 2 * m → same_component m next d e ≡ false
+    → same_vertex m next d (twin d) ≡ false → same_vertex m next e (twin e) ≡ false
+    → (next d ≡ d → ⊥) → (next (twin d) ≡ twin d → ⊥) → (next e ≡ e → ⊥) → (next (twin e) ≡ twin e → ⊥)
+    → IsPlane m next → IsPlane m (glued d e next)
+
+-- the mirror image has as many vertices, faces and components
+abbrev pub MirrorKeepsCounts : Type 0
+MirrorKeepsCounts = (m : ℕ) (next previous : ℕ → ℕ) → IsMap m next previous → (vertex_count m previous ≡ vertex_count m next) × (face_count m previous ≡ face_count m next) × (component_count m previous ≡ component_count m next)
+
+-- and is plane where the map is
+abbrev pub MirrorKeepsPlane : Type 0
+MirrorKeepsPlane = (m : ℕ) (next previous : ℕ → ℕ) → IsMap m next previous → IsPlane m next → IsPlane m previous
+
+-- four darts met in the order a, b, c, d round a vertex of a plane map: if a is connected with c, and b with d, without
+-- passing that vertex, then a is connected with b
+abbrev pub NoncrossingAtVertex : Type 0
+NoncrossingAtVertex = (m : ℕ) (next previous : ℕ → ℕ) → IsMap m next previous → IsPlane m next → (a b c d : ℕ) → MetInOrder m next a b c d
+    → connected_around m next a a c ≡ true → connected_around m next a b d ≡ true → connected_around m next a a b ≡ true
+
+-- an edge d of a plane map that joins two vertices, darts a, b met in turn after d at the one, and x, y after its twin at
+-- the other: if a is connected with x, and b with y, without passing the two vertices, then a is connected with b
+abbrev pub NoncrossingAlongEdge : Type 0
+NoncrossingAlongEdge = (m : ℕ) (next previous : ℕ → ℕ) → IsMap m next previous → IsPlane m next → (d : ℕ) → same_vertex m next d (twin d) ≡ false
+    → (a b x y : ℕ) → MetInTurn m next d a b → MetInTurn m next (twin d) x y
+    → connected_past m next d (twin d) a x ≡ true → connected_past m next d (twin d) b y ≡ true → connected_past m next d (twin d) a b ≡ true
+
+-- a map and the same map under other numbers, beside dead edges, are plane together
+abbrev pub RenumberingKeepsPlane : Type 0
+RenumberingKeepsPlane = (k : ℕ) (inner inner_previous : ℕ → ℕ) → IsMap k inner inner_previous → (m : ℕ) (outer outer_previous : ℕ → ℕ) → IsMap m outer outer_previous
+    → (live : ℕ → Bool) (into back : ℕ → ℕ) → IsRenumbering k inner m outer live into back → (IsPlane k inner ↔ IsPlane m outer)
+
+-- a map with two vertices, told apart by a test, all edges of which join them: it is plane exactly where two steps along
+-- the face of each dart lead back to it
+abbrev pub BondIsPlane : Type 0
+BondIsPlane = (m : ℕ) (next previous : ℕ → ℕ) → IsMap m next previous → 0 < m → (t : ℕ → Bool) → ((d : ℕ) → d < 2 * m → t (twin d) ≡ not (t d)) → ((d : ℕ) → d < 2 * m → t (next d) ≡ t d)
+    → ((c d : ℕ) → c < 2 * m → d < 2 * m → t c ≡ t d → same_vertex m next c d ≡ true)
+    → (IsPlane m next ↔ ((d : ℕ) → d < 2 * m → face next (face next d) ≡ d))
+
+-- a part turned over at two vertices: the same darts leave each vertex
+abbrev pub FlipKeepsVertices : Type 0
+FlipKeepsVertices = (m : ℕ) (next previous flipped : ℕ → ℕ) → IsMap m next previous → (part : ℕ → Bool) (a b p q : ℕ) → IsFlip m next flipped part a b p q
+    → (c d : ℕ) → c < 2 * m → d < 2 * m → same_vertex m next c d ≡ same_vertex m flipped c d
+
+-- the components are the same
+abbrev pub FlipKeepsComponents : Type 0
+FlipKeepsComponents = (m : ℕ) (next previous flipped : ℕ → ℕ) → IsMap m next previous → (part : ℕ → Bool) (a b p q : ℕ) → IsFlip m next flipped part a b p q
+    → (c d : ℕ) → same_component m flipped c d ≡ same_component m next c d
+
+-- and there are as many faces
+abbrev pub FlipKeepsFaces : Type 0
+FlipKeepsFaces = (m : ℕ) (next previous flipped : ℕ → ℕ) → IsMap m next previous → (part : ℕ → Bool) (a b p q : ℕ) → IsFlip m next flipped part a b p q
+    → face_count m flipped ≡ face_count m next
+
+-- so the defect stays
+abbrev pub FlipKeepsDefect : Type 0
+FlipKeepsDefect = (m : ℕ) (next previous flipped : ℕ → ℕ) → IsMap m next previous → (part : ℕ → Bool) (a b p q : ℕ) → IsFlip m next flipped part a b p q → SameDefect m next flipped
