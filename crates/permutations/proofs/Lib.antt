@@ -28,6 +28,7 @@ pub mod Restriction
 pub mod Removal
 pub mod RingExchange
 pub mod Runs
+pub mod RunsByKey
 pub mod RunsFromOrder
 mod Examples
 pub mod Computed

@@ -1,5 +1,5 @@
 -- What is proved of counting, relations, permutations and cyclic orders, as statements.
-use Rattle.std.specs.Prelude.{◌≡◌, ◌≢◌, ℕ, ◌+◌, ◌<◌, ◌≤◌, ◌↔◌, Bool, true, false, cond, List, [], ◌∷◌, ◌++◌, reverse, length, filter, Contains, IsPermutation}
+use Rattle.std.specs.Prelude.{◌≡◌, ◌≢◌, ℕ, ◌+◌, ◌<◌, ◌≤◌, ◌↔◌, Bool, true, false, cond, List, [], ◌∷◌, ◌++◌, reverse, length, map, filter, ◌==◌, Contains, IsPermutation}
 use Rattle.permutations.specs.Count.{count, sum_below}
 use Rattle.permutations.specs.Relation.{IsEquivalence, join, connected, leads, class_count, class_count_in, class_size}
 use Rattle.permutations.specs.Permutation.{Permutes, same_orbit, reaches, orbit_count}
@@ -7,7 +7,7 @@ use Rattle.permutations.specs.Exchange.{exchange, taken_out}
 use Rattle.permutations.specs.Members.{is_member, is_distinct}
 use Rattle.permutations.specs.Cyclic.{first_or, successor, predecessor, turned, from_least, IsTurn}
 use Rattle.permutations.specs.Ring.{ring}
-use Rattle.permutations.specs.Runs.{InRuns, NothingCrosses}
+use Rattle.permutations.specs.Runs.{joined, group_keys, InRuns, NothingCrosses}
 
 -- of n + 1 numbers below n two are equal
 abbrev pub TwoShareAHole : Type 0
@@ -143,3 +143,7 @@ RunsWhereNothingCrosses = (key : ℕ → ℕ) (l : List ℕ) → is_distinct l �
 -- with at least two keys it does so in one way, but for the run that is begun with
 abbrev pub RunsAreUnique : Type 0
 RunsAreUnique = (key : ℕ → ℕ) (l : List ℕ) (gs hs : List (ℕ × List ℕ)) → is_distinct l ≡ true → InRuns key l gs → InRuns key l hs → 1 < length gs → IsTurn gs hs
+
+-- each run is what has its key, in the order of the whole
+abbrev pub RunsToldByKeys : Type 0
+RunsToldByKeys = (key : ℕ → ℕ) (l : List ℕ) (gs : List (ℕ × List ℕ)) → InRuns key l gs → map (λ k. (k, filter (λ x. key x == k) (joined gs))) (group_keys gs) ≡ gs

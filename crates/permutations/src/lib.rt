@@ -29,10 +29,11 @@
 //   Chains       chain, chain-typed: from each member to the next, so from each to each
 //   Rings        ring-member, ring-successor, ring-from_list, ring-turn: an orbit as a list, and a list as an orbit
 //   Removal      successor-without, ring-taken_out: members taken out of a cyclic order and out of a permutation
-//   Runs         runs-unique, runs-turn, runs-picked, cut-unique; RunsFromOrder runs-from_order: cut by keys
+//   Runs         runs-unique, runs-turn, runs-picked, cut-unique: cut by keys, in one way; RunsFromOrder runs-from_order: exactly
+//                where nothing crosses; RunsByKey group-of, groups-by_key: the run of a member, and of a key
 #![tactic(auto)]
 
-ghost use Rattle.permutations.specs.Laws.{ConnectionIsEquivalence, ConnectionIsLeast, ExchangeJoins, ExchangeParts, FinerHasMore, FinerIsSame, InjectionsCount, LinkBetweenClasses, LinkWithinAClass, LinksConnect, MirrorGoesBack, MirrorTwice, NormalFormsTellOrders, OrbitsAreReached, PredecessorOfSuccessor, RenumberingKeepsClasses, RingFollows, RingHoldsOrbit, RingIsDistinct, RingParted, RingTakenOut, RingsJoined, RunsAreUnique, RunsWhereNothingCrosses, SizesAddUp, SuccessorOfPredecessor, SuccessorStays, SuccessorsTellLists, TurnedBegins, TurnedKeepsSuccessors, TurnedRearranges, TwoShareAHole};
+ghost use Rattle.permutations.specs.Laws.{ConnectionIsEquivalence, ConnectionIsLeast, ExchangeJoins, ExchangeParts, FinerHasMore, FinerIsSame, InjectionsCount, LinkBetweenClasses, LinkWithinAClass, LinksConnect, MirrorGoesBack, MirrorTwice, NormalFormsTellOrders, OrbitsAreReached, PredecessorOfSuccessor, RenumberingKeepsClasses, RingFollows, RingHoldsOrbit, RingIsDistinct, RingParted, RingTakenOut, RingsJoined, RunsAreUnique, RunsToldByKeys, RunsWhereNothingCrosses, SizesAddUp, SuccessorOfPredecessor, SuccessorStays, SuccessorsTellLists, TurnedBegins, TurnedKeepsSuccessors, TurnedRearranges, TwoShareAHole};
 
 /// The pigeonhole principle: of n + 1 numbers below n two are equal; and what is carried one to one into a set is no more
 /// than the set.
@@ -109,4 +110,5 @@ pub fn rings_of_a_permutation()
 pub fn runs_where_nothing_crosses()
     ensures exact { RunsWhereNothingCrosses }
     ensures unique { RunsAreUnique }
+    ensures told { RunsToldByKeys }
 {}
