@@ -1,0 +1,190 @@
+-- An edge was seen that leads to an ancestor: what holds between turns is kept.
+use Rattle.std.proofs.Common.{◌≡◌, ◌≢◌, ℕ, zero, suc, ◌+◌, ◌-◌, ◌<◌, ◌≤◌, ◌⊎◌, inl, inr, Bool, true, false, min, List, length, get_or, set, refl, sym, ap, ◌∙◌, subst, arith, length-set}
+use Rattle.std.proofs.lemmas.Bool.{cases_eq, cases_lt}
+use Rattle.permutations.specs.Permutation.{iterate}
+use Rattle.multigraph.specs.Graph.{Multigraph, edge_count, is_end, other_end, incident_edges}
+use Rattle.graph_theory.specs.SearchTree.{IsBelow}
+use Rattle.blocks.specs.State.{SearchState, frond_noted}
+use Rattle.blocks.specs.Searching.{flag, degree, HasPlaces, IsOnPath, IsGrown, IsLooked, IsSeen, IsLow, OnPath, SeenLeadsTo, IsSearching}
+use Rattle.blocks.proofs.Writes.{number-same, number-other, flag-same, flag-other, flag-cases, flag-kept, flags-differ}
+use Rattle.blocks.proofs.Ancestors.{path-up}
+use Rattle.blocks.proofs.Leads.{leads-kept}
+
+-- edge e was seen for the first time at v, at place j + i + 1 of the path, and leads to the vertex at place j
+pub record IsFrond (g : Multigraph) (s : SearchState) (v e j i : ℕ) : Type 0 where
+  pub edge_in : e < edge_count g
+  pub unseen : flag s.seen e ≡ false
+  pub is_end : is_end g v e ≡ true
+  pub vertex_in : v < g.vertex_count
+  pub within : j + (i + 1) < length s.path
+  pub here : get_or s.path (j + (i + 1)) 0 ≡ v
+  pub there : get_or s.path j 0 ≡ other_end g e v
+
+module _ (g : Multigraph) (s : SearchState) (v e j i : ℕ) (k : IsSearching g s) (f : IsFrond g s v e j i) where
+
+  -- the depth that the edge leads to
+  reached : ℕ
+  reached = get_or s.depth (other_end g e v) 0
+
+  seen' : List Bool
+  seen' = set s.seen e true
+
+  lower' : List ℕ
+  lower' = set s.lower e v
+
+  low' : List ℕ
+  low' = set s.low v (min (get_or s.low v 0) reached)
+
+  e-in : e < length s.seen
+  e-in = omega (arith, f.edge_in, k.places.seen)
+
+  low-in : v < length s.low
+  low-in = omega (arith, f.vertex_in, k.places.low)
+
+  -- a seen edge is another one
+  other : (q : ℕ) → flag s.seen q ≡ true → q ≢ e
+  other q h = flags-differ s.seen q e h f.unseen
+
+  lower-kept : (q : ℕ) → flag s.seen q ≡ true → get_or lower' q 0 ≡ get_or s.lower q 0
+  unfolding lower'
+  lower-kept q h = number-other s.lower e q v (other q h)
+
+  lower-here : get_or lower' e 0 ≡ v
+  unfolding lower'
+  lower-here = number-same s.lower e v (omega (arith, f.edge_in, k.places.lower))
+
+  seen-kept : (q : ℕ) → flag s.seen q ≡ true → flag seen' q ≡ true
+  unfolding seen'
+  seen-kept q h = flag-kept s.seen e q e-in h
+
+  seen-cases : (q : ℕ) → flag seen' q ≡ true → (q ≡ e) ⊎ (flag s.seen q ≡ true)
+  unfolding seen'
+  seen-cases q h = flag-cases s.seen e q h
+
+  -- the depth of v is its place on the path
+  depth-here : get_or s.depth v 0 ≡ j + (i + 1)
+  depth-here = ap (λ (z : ℕ). get_or s.depth z 0) (sym f.here) ∙ k.on_path.deep (j + (i + 1)) f.within
+
+  visited-here : flag s.visited v ≡ true
+  visited-here = subst (λ (z : ℕ). flag s.visited z ≡ true) f.here (k.on_path.visits (j + (i + 1)) f.within)
+
+  -- the edge leads to a proper ancestor
+  upper-here : iterate (λ q. get_or s.parent q 0) (i + 1) v ≡ other_end g e v
+  upper-here = ap (iterate (λ q. get_or s.parent q 0) (i + 1)) (sym f.here) ∙ (path-up g s.visited s.parent s.depth s.path k.on_path (i + 1) j f.within ∙ f.there)
+
+  on-here : OnPath s.path v
+  on-here = record { place = j + (i + 1); within = f.within; is = f.here }
+
+  -- the low point of v fell, the others stay
+  low-here : get_or low' v 0 ≡ min (get_or s.low v 0) reached
+  unfolding low'
+  low-here = number-same s.low v (min (get_or s.low v 0) reached) low-in
+
+  low-other : (u : ℕ) → u ≢ v → get_or low' u 0 ≡ get_or s.low u 0
+  unfolding low'
+  low-other u n = number-other s.low v u (min (get_or s.low v 0) reached) n
+
+  low-falls : (u : ℕ) → get_or low' u 0 ≤ get_or s.low u 0
+  low-falls u = elim (cases_eq u v) [
+    | inl q ↦ subst (λ (z : ℕ). get_or low' z 0 ≤ get_or s.low z 0) (sym q) (omega (arith, low-here))
+    | inr n ↦ omega (arith, low-other u n)
+  ]
+
+  -- what led somewhere leads there still
+  kept-leads : (u d : ℕ) → SeenLeadsTo g s.parent s.depth s.parent_edge s.seen s.lower u d → SeenLeadsTo g s.parent s.depth s.parent_edge seen' lower' u d
+  kept-leads u d w = leads-kept g s.visited s.parent s.depth s.parent_edge s.seen s.lower k.grown k.edges s.parent s.depth s.parent_edge seen' lower'
+      (λ q h. refl) (λ q h. refl) (λ q h. refl) seen-kept lower-kept u d w
+
+  -- the new edge leads to the depth of its other end
+  new-leads : SeenLeadsTo g s.parent s.depth s.parent_edge seen' lower' v reached
+  unfolding reached seen'
+  new-leads = record {
+    edge = e;
+    is_seen = flag-same s.seen e e-in;
+    frond = λ q. other (get_or s.parent_edge v 0) (k.grown.edge_seen v visited-here (omega (arith, depth-here))) (ap (λ (z : ℕ). get_or s.parent_edge z 0) (sym lower-here) ∙ q);
+    below = record { steps = 0; within = omega arith; leads = lower-here };
+    reached = ap (λ (z : ℕ). get_or s.depth (other_end g e z) 0) lower-here;
+  }
+
+  grown : IsGrown g s.visited s.parent s.depth s.parent_edge seen' lower'
+  grown = record {
+    parent_in = k.grown.parent_in;
+    parent_visited = k.grown.parent_visited;
+    parent_depth = k.grown.parent_depth;
+    edge_in = k.grown.edge_in;
+    edge_end = k.grown.edge_end;
+    edge_leads = k.grown.edge_leads;
+    edge_seen = λ u h d. seen-kept (get_or s.parent_edge u 0) (k.grown.edge_seen u h d);
+    edge_lower = λ u h d. lower-kept (get_or s.parent_edge u 0) (k.grown.edge_seen u h d) ∙ k.grown.edge_lower u h d;
+  }
+
+  edges : IsSeen g s.visited s.parent s.depth seen' lower'
+  edges = record {
+    lower_end = λ q h. elim (seen-cases q h) [
+      | inl n ↦ subst (λ (z : ℕ). is_end g (get_or lower' z 0) z ≡ true) (sym n) (subst (λ (z : ℕ). is_end g z e ≡ true) (sym lower-here) f.is_end)
+      | inr o ↦ subst (λ (z : ℕ). is_end g z q ≡ true) (sym (lower-kept q o)) (k.edges.lower_end q o)
+    ];
+    lower_visited = λ q h. elim (seen-cases q h) [
+      | inl n ↦ subst (λ (z : ℕ). flag s.visited (get_or lower' z 0) ≡ true) (sym n) (subst (λ (z : ℕ). flag s.visited z ≡ true) (sym lower-here) visited-here)
+      | inr o ↦ subst (λ (z : ℕ). flag s.visited z ≡ true) (sym (lower-kept q o)) (k.edges.lower_visited q o)
+    ];
+    upper_above = λ q h. elim (seen-cases q h) [
+      | inl n ↦ subst (λ (z : ℕ). (c : ℕ) × (c < get_or s.depth (get_or lower' z 0) 0) × (iterate (λ r. get_or s.parent r 0) (c + 1) (get_or lower' z 0) ≡ other_end g z (get_or lower' z 0))) (sym n)
+        (subst (λ (z : ℕ). (c : ℕ) × (c < get_or s.depth z 0) × (iterate (λ r. get_or s.parent r 0) (c + 1) z ≡ other_end g e z)) (sym lower-here) (i, omega (arith, depth-here), upper-here))
+      | inr o ↦ subst (λ (z : ℕ). (c : ℕ) × (c < get_or s.depth z 0) × (iterate (λ r. get_or s.parent r 0) (c + 1) z ≡ other_end g q z)) (sym (lower-kept q o)) (k.edges.upper_above q o)
+    ];
+  }
+
+  low : IsLow g s.visited s.parent s.depth s.parent_edge low' seen' lower' s.path
+  unfolding reached
+  low = record {
+    at_most = λ u h. omega (arith, low-falls u, k.low.at_most u h);
+    at_frond = λ q h n. elim (seen-cases q h) [
+      | inl m ↦ subst (λ (z : ℕ). get_or low' (get_or lower' z 0) 0 ≤ get_or s.depth (other_end g z (get_or lower' z 0)) 0) (sym m)
+        (subst (λ (z : ℕ). get_or low' z 0 ≤ get_or s.depth (other_end g e z) 0) (sym lower-here) (omega (arith, low-here)))
+      | inr o ↦ subst (λ (z : ℕ). get_or low' z 0 ≤ get_or s.depth (other_end g q z) 0) (sym (lower-kept q o))
+        (omega (arith, low-falls (get_or s.lower q 0), k.low.at_frond q o (λ x. n (ap (λ (z : ℕ). get_or s.parent_edge z 0) (lower-kept q o) ∙ x))))
+    ];
+    at_parent = λ u h d. elim (cases_eq u v) [
+      | inl q ↦ inr (subst (OnPath s.path) (sym q) on-here)
+      | inr n ↦ elim (k.low.at_parent u h d) [ inl a ↦ inl (omega (arith, low-falls (get_or s.parent u 0), low-other u n)) | inr o ↦ inr o ]
+    ];
+    witness = λ u h. elim (cases_eq u v) [
+      | inl q ↦ subst (λ (z : ℕ). (get_or low' z 0 ≡ get_or s.depth z 0) ⊎ SeenLeadsTo g s.parent s.depth s.parent_edge seen' lower' z (get_or low' z 0)) (sym q) at-here
+      | inr n ↦ elim (k.low.witness u h) [
+        | inl a ↦ inl (low-other u n ∙ a)
+        | inr w ↦ inr (subst (SeenLeadsTo g s.parent s.depth s.parent_edge seen' lower' u) (sym (low-other u n)) (kept-leads u (get_or s.low u 0) w))
+      ]
+    ];
+  }
+    where
+      at-here : (get_or low' v 0 ≡ get_or s.depth v 0) ⊎ SeenLeadsTo g s.parent s.depth s.parent_edge seen' lower' v (get_or low' v 0)
+      at-here = elim (cases_lt reached (get_or s.low v 0)) [
+        | inl a ↦ let q : get_or low' v 0 ≡ reached = omega (arith, low-here) in inr (subst (SeenLeadsTo g s.parent s.depth s.parent_edge seen' lower' v) (sym q) new-leads)
+        | inr b ↦ let q : get_or low' v 0 ≡ get_or s.low v 0 = omega (arith, low-here) in elim (k.low.witness v visited-here) [
+          | inl a ↦ inl (q ∙ a)
+          | inr w ↦ inr (subst (SeenLeadsTo g s.parent s.depth s.parent_edge seen' lower' v) (sym q) (kept-leads v (get_or s.low v 0) w))
+        ]
+      ]
+
+  -- what holds between turns is kept
+  pub frond-kept : IsSearching g (frond_noted s v e (get_or s.depth (other_end g e v) 0))
+  unfolding reached seen' lower' low'
+  frond-kept = record {
+    places = record {
+      visited = k.places.visited;
+      parent = k.places.parent;
+      depth = k.places.depth;
+      parent_edge = k.places.parent_edge;
+      low = length-set s.low v (min (get_or s.low v 0) reached) ∙ k.places.low;
+      position = k.places.position;
+      seen = length-set s.seen e true ∙ k.places.seen;
+      lower = length-set s.lower e v ∙ k.places.lower;
+    };
+    on_path = k.on_path;
+    grown = grown;
+    looked = record { within = k.looked.within; looked = λ u l q h. seen-kept (get_or (incident_edges g u) q 0) (k.looked.looked u l q h); finished = k.looked.finished };
+    edges = edges;
+    low = low;
+    ordered = k.ordered;
+  }

@@ -1,0 +1,12 @@
+-- The lemmas on depth-first search.
+mod Writes
+mod Ancestors
+mod Further
+mod Leads
+mod Frond
+mod Child
+mod Root
+mod Left
+mod See
+mod Turns
+mod Fresh

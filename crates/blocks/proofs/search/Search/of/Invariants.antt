@@ -1,0 +1,6 @@
+use Rattle.std.proofs.Common.{◌≡◌, ℕ, ◌<◌, true, []}
+use Rattle.blocks.specs.Searching.{flag, IsSearching}
+use Rattle.blocks.proofs.search.Search.of.Given as goal
+
+abbrev pub invariant-loop-root : goal.invariant-loop-root
+invariant-loop-root l = IsSearching l.graph l.search × (l.search.path ≡ []) × ((u : ℕ) → u < l.root → flag l.search.visited u ≡ true)

@@ -1,0 +1,4 @@
+// Blocks, cut vertices and components of a multigraph.
+#![tactic(auto)]
+
+mod search;
