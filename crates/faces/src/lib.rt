@@ -11,6 +11,8 @@ mod counting;
 mod numbers;
 mod orbits;
 mod steps;
+#[cfg(test)]
+mod tests;
 
 pub use counting::euler;
 pub use numbers::Euler;
