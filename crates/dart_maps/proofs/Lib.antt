@@ -17,3 +17,6 @@ pub mod Bond
 pub mod TurnOver
 pub mod Flip
 mod Examples
+pub mod ContractComponents
+pub mod GlueCorners
+pub mod Smooth

@@ -1,11 +1,12 @@
 -- What is proved of maps of darts, as statements.
-use Rattle.std.specs.Prelude.{◌≡◌, ℕ, ◌+◌, ◌*◌, ◌<◌, ◌≤◌, ◌↔◌, not, Bool, true, false}
+use Rattle.std.specs.Prelude.{◌≡◌, ℕ, ◌+◌, ◌*◌, ◌<◌, ◌≤◌, ◌↔◌, not, ◌||◌, Bool, true, false, List}
 use Rattle.permutations.specs.Exchange.{exchange, restricted}
 use Rattle.dart_maps.specs.Map.{twin, face, IsMap, same_vertex, same_face, same_component, vertex_count, face_count, component_count, IsPlane, SameDefect}
 use Rattle.dart_maps.specs.Order.{MetInTurn, MetInOrder, connected_around, connected_past}
 use Rattle.dart_maps.specs.Changes.{dropped, inserted, contracted, glued}
 use Rattle.dart_maps.specs.Renumbering.{IsRenumbering}
 use Rattle.dart_maps.specs.Flip.{IsFlip}
+use Rattle.dart_maps.specs.Path.{IsThinPath, smoothed}
 
 -- Euler's inequality: in every map V + F is at most E + 2C
 abbrev pub EulersInequality : Type 0
@@ -56,6 +57,22 @@ ContractionKeepsDefect = (m : ℕ) (next previous : ℕ → ℕ) → IsMap m nex
 -- so the contracted map is plane exactly where the map is
 abbrev pub ContractionKeepsPlane : Type 0
 ContractionKeepsPlane = (m : ℕ) (next previous : ℕ → ℕ) → IsMap m next previous → (d : ℕ) → d < 2 * m → same_vertex m next d (twin d) ≡ false → (IsPlane m next ↔ IsPlane m (contracted d next))
+
+-- darts of other edges stay connected as they were, where some dart c is left at the vertex that is made
+abbrev pub ContractionKeepsComponents : Type 0
+ContractionKeepsComponents = (m : ℕ) (next previous : ℕ → ℕ) → IsMap m next previous → (d : ℕ) → d < 2 * m → same_vertex m next d (twin d) ≡ false
+    → (c : ℕ) → (c ≡ d → ⊥) → (c ≡ twin d → ⊥) → (same_vertex m next d c || same_vertex m next (twin d) c) ≡ true
+    → (x y : ℕ) → (x ≡ d → ⊥) → (x ≡ twin d → ⊥) → (y ≡ d → ⊥) → (y ≡ twin d → ⊥) → same_component m (contracted d next) x y ≡ same_component m next x y
+
+-- a thin path smoothed to its first edge: the map is plane exactly where the smoothed map is. So subdividing keeps plane
+abbrev pub SmoothingKeepsPlane : Type 0
+SmoothingKeepsPlane = (m : ℕ) (path : List ℕ) (next previous : ℕ → ℕ) → IsMap m next previous → (c : ℕ) → IsThinPath m next c path → (IsPlane m next ↔ IsPlane m (smoothed c path next))
+
+-- two components glued at corners a and b, p and q, where a and p lie in one face, and b and q: the defect stays
+abbrev pub GluingCornersKeepsDefect : Type 0
+GluingCornersKeepsDefect = (m : ℕ) (next previous : ℕ → ℕ) → IsMap m next previous → (a b p q : ℕ) → a < 2 * m → b < 2 * m → p < 2 * m → q < 2 * m
+    → same_component m next a b ≡ false → same_vertex m next a p ≡ false → same_face m next (twin a) (twin p) ≡ true → same_face m next (twin b) (twin q) ≡ true
+    → SameDefect m next (exchange p q (exchange a b next))
 
 -- two components glued along an edge of each: what comes of a plane map is plane
 abbrev pub GluingKeepsPlane : Type 0

@@ -5,3 +5,4 @@ pub mod Order
 pub mod Renumbering
 pub mod Flip
 pub mod Laws
+pub mod Path

@@ -20,7 +20,9 @@
 //   Drop         drop-defect, unlink-end-defect, dead-edge-apart, dropped-map: an edge with two faces; a loose end
 //   Insert       insert-defect, insert-across: an edge between two corners of one face, or of two
 //   Contract     contracted-before, contracted-other, contract-plane, contract-plane-back, contracted-map, contracted-vertex
-//   Glue         glue-plane, glued-map, glued-vertex: the two-sum
+//   ContractComponents contracted-component: what is connected stays so
+//   Smooth       smooth-path, smooth-plane, smooth-plane-back, smoothed-start, smoothed-end, smoothed-other
+//   Glue         glue-plane, glued-map, glued-vertex: the two-sum; GlueCorners glue-corners-defect, glue-corners-plane
 //   Mirror       mirror-counts, mirror-plane
 //   Renumber     renumber-plane, renumber-plane-back, paired-count: a map within another
 //   FourDarts    four-darts, frozen-here, frozen-elsewhere: the core of noncrossing, at a vertex of four darts
@@ -29,7 +31,7 @@
 //   TurnOver     turned-faces, turned-orbit; Flip flip-vertex, flip-faces, flip-component, flip-defect
 #![tactic(auto)]
 
-ghost use Rattle.dart_maps.specs.Laws.{BondIsPlane, ContractionKeepsDefect, ContractionKeepsPlane, CornerCut, DropKeepsDefect, EulersInequality, FlipKeepsComponents, FlipKeepsDefect, FlipKeepsFaces, FlipKeepsVertices, GluingKeepsPlane, InsertAcrossFaces, InsertKeepsDefect, MirrorKeepsCounts, MirrorKeepsPlane, NoncrossingAlongEdge, NoncrossingAtVertex, RenumberingKeepsPlane, RestrictionIsMap, RestrictionKeepsPlane, RestrictionKeepsVertices, SplitKeepsPlane};
+ghost use Rattle.dart_maps.specs.Laws.{BondIsPlane, ContractionKeepsComponents, ContractionKeepsDefect, ContractionKeepsPlane, CornerCut, DropKeepsDefect, EulersInequality, FlipKeepsComponents, FlipKeepsDefect, FlipKeepsFaces, FlipKeepsVertices, GluingCornersKeepsDefect, GluingKeepsPlane, InsertAcrossFaces, InsertKeepsDefect, MirrorKeepsCounts, MirrorKeepsPlane, NoncrossingAlongEdge, NoncrossingAtVertex, RenumberingKeepsPlane, RestrictionIsMap, RestrictionKeepsPlane, RestrictionKeepsVertices, SmoothingKeepsPlane, SplitKeepsPlane};
 
 /// Euler's inequality: in every map of darts, V + F is at most E + 2C.
 pub fn eulers_inequality()
@@ -61,11 +63,19 @@ pub fn one_edge_more_or_less()
 pub fn contraction_is_exact()
     ensures defect { ContractionKeepsDefect }
     ensures plane { ContractionKeepsPlane }
+    ensures components { ContractionKeepsComponents }
 {}
 
-/// The law that the two-sum of plane maps is plane: two components glued along an edge of each, which is used up.
+/// The law that smoothing a path whose inner vertices have two darts each is exact; read backwards, subdividing an edge is.
+pub fn smoothing_is_exact()
+    ensures { SmoothingKeepsPlane }
+{}
+
+/// The law that the two-sum of plane maps is plane: two components glued along an edge of each, which is used up; or at two
+/// corners of one face each, which keeps the defect.
 pub fn two_sum_is_plane()
-    ensures { GluingKeepsPlane }
+    ensures along_edges { GluingKeepsPlane }
+    ensures at_corners { GluingCornersKeepsDefect }
 {}
 
 /// The law that the mirror image of a map has as many vertices, faces and components, and is plane where the map is.

@@ -1,0 +1,42 @@
+-- Thin paths, whose inner vertices have two darts each, and what is left when one is smoothed to its first edge.
+use Rattle.std.specs.Prelude.{◌≡◌, ℕ, ◌*◌, ◌/◌, ◌<◌, Bool, false, ◌||◌, ◌==◌, if◌then◌else◌, List, [], ◌∷◌}
+use Rattle.dart_maps.specs.Map.{twin}
+
+-- at each inner vertex the dart that arrives and the one that goes on are all there is: c arrives at the first
+abbrev pub IsThin : (ℕ → ℕ) → ℕ → List ℕ → Type 0
+IsThin next c [] = Unit {0}
+IsThin next c (p ∷ path) = (next c ≡ p) × (next p ≡ c) × IsThin next (twin p) path
+
+-- none of the darts is of c's edge
+abbrev pub Avoids : ℕ → List ℕ → Type 0
+Avoids c [] = Unit {0}
+Avoids c (p ∷ path) = (p / 2 ≡ c / 2 → ⊥) × Avoids c path
+
+-- all darts are of different edges
+abbrev pub AllApart : List ℕ → Type 0
+AllApart [] = Unit {0}
+AllApart (p ∷ path) = Avoids p path × AllApart path
+
+-- the dart that arrives at the end of the path
+abbrev pub path_end : ℕ → List ℕ → ℕ
+path_end c [] = c
+path_end c (p ∷ path) = path_end (twin p) path
+
+-- a dart of one of the path's edges
+abbrev pub on_path : ℕ → List ℕ → Bool
+on_path x [] = false
+on_path x (p ∷ path) = (x / 2 == p / 2) || on_path x path
+
+-- a thin path: after an edge, by whose dart c it is left, the edges of the darts of `path`, one after the other; at its
+-- end there are other darts
+pub record IsThinPath (m : ℕ) (next : ℕ → ℕ) (c : ℕ) (path : List ℕ) : Type 0 where
+  pub starts : c < 2 * m
+  pub thin : IsThin next c path
+  pub off_start : Avoids c path
+  pub apart : AllApart path
+  pub ends : next (path_end c path) ≡ path_end c path → ⊥
+
+-- the map with the path smoothed: c takes the place of the dart that arrives at the end, and the path's edges are dead
+unfoldable pub smoothed : ℕ → List ℕ → (ℕ → ℕ) → ℕ → ℕ
+smoothed c path next x =
+    (if on_path x path then x else (if x == c then next (path_end c path) else (if next x == path_end c path then c else next x)))
