@@ -27,7 +27,7 @@ orbit-shift n s x y l k = same-tests (same_orbit n s (s x) (s y)) (same_orbit n 
     e = orbit-equivalence n s
 
 -- numbers of which one passes and one fails a test that the steps keep
-test-apart : (n : ℕ) (s : ℕ → ℕ) (t : ℕ → Bool) → ((d : ℕ) → d < n → t (s d) ≡ t d) → (x y : ℕ) → t x ≡ true → t y ≡ false → same_orbit n s x y ≡ false
+pub test-apart : (n : ℕ) (s : ℕ → ℕ) (t : ℕ → Bool) → ((d : ℕ) → d < n → t (s d) ≡ t d) → (x y : ℕ) → t x ≡ true → t y ≡ false → same_orbit n s x y ≡ false
 test-apart n s t keep x y a c = false_from_ne_true (same_orbit n s x y) (λ h. both_ways (t y) c (sym (orbit-test n s t keep x y h) ∙ a))
 
 -- a permutation whose steps keep a test, u and p that pass it, v and q that fail it

@@ -1,14 +1,15 @@
 -- Inserting an edge between two corners.
-use Rattle.std.proofs.Common.{◌≡◌, ℕ, ◌+◌, ◌*◌, ◌<◌, inl, inr, true, false, sym, ◌∙◌, subst, arith}
+use Rattle.std.proofs.Common.{◌≡◌, ℕ, ◌+◌, ◌*◌, ◌<◌, inl, inr, true, false, sym, ap, ◌∙◌, subst, arith}
 use Rattle.std.proofs.lemmas.Bool.{both_ways, false_from_ne_true}
 use Rattle.permutations.specs.Relation.{IsEquivalence}
+use Rattle.permutations.specs.Permutation.{same_orbit}
 use Rattle.permutations.specs.Exchange.{exchange}
 use Rattle.permutations.proofs.Relation.{join-cases, join-old}
 use Rattle.permutations.proofs.Permutations.{exchange-left, exchange-other}
 use Rattle.permutations.proofs.Orbits.{orbit-equivalence, orbit-step}
-use Rattle.permutations.proofs.Transpositions.{exchange-joins}
+use Rattle.permutations.proofs.Transpositions.{exchange-joins, exchange-splits}
 use Rattle.dart_maps.specs.Map.{twin, face, IsMap, same_vertex, same_face, same_component, vertex_count, face_count, component_count, SameDefect}
-use Rattle.dart_maps.proofs.Darts.{twin-twin, twin-other, twin-below, face-twin}
+use Rattle.dart_maps.proofs.Darts.{twin-twin, twin-other, twin-below, face-permutes, face-exchange, face-twin}
 use Rattle.dart_maps.proofs.Components.{component-equivalence, component-twin, vertex-component, face-component}
 use Rattle.permutations.proofs.Unlinking.{alone-orbit}
 use Rattle.dart_maps.specs.Changes.{inserted}
@@ -90,3 +91,26 @@ module _ (m : ℕ) (f g : ℕ → ℕ) (b : IsMap m f g) (d : ℕ) (l : d < 2 * 
 
       together : same_component m (exchange p d f) q (twin d) ≡ true
       together = c.transitive q p (twin d) (component-merge m f g b p d k l link q p ∙ join-old (same_component m f) p d q p ((component-equivalence m f).symmetric p q h)) (c.transitive p d (twin d) link (component-twin m (exchange p d f) d l))
+
+  -- the new edge's two darts lie on different faces: the face has fallen in two
+  pub insert-parts : same_face m f (twin p) (twin q) ≡ true → same_face m (inserted d p q f) d (twin d) ≡ false
+  insert-parts w = false_from_ne_true (same_face m (inserted d p q f) d (twin d)) (λ t. both_ways (same_face m (inserted d p q f) (twin q) d) parted (e.transitive (twin q) (twin d) d on (e.symmetric d (twin d) t)))
+    where
+      e : IsEquivalence (same_face m (inserted d p q f))
+      e = orbit-equivalence (2 * m) (face (inserted d p q f))
+
+      on : same_face m (inserted d p q f) (twin q) (twin d) ≡ true
+      on = subst (λ (z : ℕ). same_face m (inserted d p q f) (twin q) z ≡ true) (face-twin (inserted d p q f) q ∙ exchange-left q (twin d) (exchange p d f) ∙ still-alone) (orbit-step (2 * m) (face (inserted d p q f)) (twin q) (twin-below m q i))
+
+      one : same_face m (exchange p d f) (twin q) d ≡ true
+      one = (orbit-equivalence (2 * m) (face (exchange p d f))).transitive (twin q) (twin p) d ((orbit-equivalence (2 * m) (face (exchange p d f))).symmetric (twin p) (twin q) (old-faces (twin p) (twin q) w)) passes
+
+      split : same_orbit (2 * m) (exchange (twin q) d (face (exchange p d f))) (twin q) d ≡ false
+      split = exchange-splits (2 * m) (face (exchange p d f)) (λ z. twin (back_after p d g z)) (face-permutes m (exchange p d f) (back_after p d g) first-map) (twin q) d (twin-below m q i) l (λ s. qt (sym (twin-twin q) ∙ ap twin s)) one
+
+      parted : same_face m (inserted d p q f) (twin q) d ≡ false
+      parted = ap (λ (s : ℕ → ℕ). same_orbit (2 * m) s (twin q) d) (face-exchange q (twin d) (exchange p d f) ∙ ap (λ (z : ℕ). exchange (twin q) z (face (exchange p d f))) (twin-twin d)) ∙ split
+
+  -- it is a map
+  pub inserted-map : IsMap m (inserted d p q f) (back_after q (twin d) (back_after p d g))
+  inserted-map = step-map m (exchange p d f) (back_after p d g) first-map q (twin d) i (twin-below m d l)

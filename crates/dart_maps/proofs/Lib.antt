@@ -20,3 +20,5 @@ mod Examples
 pub mod ContractComponents
 pub mod GlueCorners
 pub mod Smooth
+pub mod FlipOne
+pub mod Rounds

@@ -27,3 +27,20 @@ pub record IsFlip (m : ℕ) (next flipped : ℕ → ℕ) (part : ℕ → Bool) (
   pub first_ends : flipped (next b) ≡ next a
   pub second_begins : flipped q ≡ p
   pub second_ends : flipped (next q) ≡ next p
+
+-- the same for a part that stands in one run at one vertex, and meets the rest nowhere else
+pub record IsFlipAtOne (m : ℕ) (next flipped : ℕ → ℕ) (part : ℕ → Bool) (a b : ℕ) : Type 0 where
+  pub run : IsRun m next part a b
+  pub whole_edges : (d : ℕ) → d < 2 * m → part (twin d) ≡ part d
+  pub no_other_runs : (d : ℕ) → d < 2 * m → (d ≡ a → ⊥) → (d ≡ b → ⊥) → part (next d) ≡ part d
+  pub outside_stays : (d : ℕ) → d < 2 * m → part d ≡ false → part (next d) ≡ false → flipped d ≡ next d
+  pub inside_turns : (d : ℕ) → d < 2 * m → part d ≡ true → part (next d) ≡ true → flipped (next d) ≡ d
+  pub begins : flipped b ≡ a
+  pub ends : flipped (next b) ≡ next a
+
+-- and for a part that is made of whole components
+pub record IsFlipAlone (m : ℕ) (next flipped : ℕ → ℕ) (part : ℕ → Bool) : Type 0 where
+  pub whole_edges : (d : ℕ) → d < 2 * m → part (twin d) ≡ part d
+  pub no_runs : (d : ℕ) → d < 2 * m → part (next d) ≡ part d
+  pub outside_stays : (d : ℕ) → d < 2 * m → part d ≡ false → flipped d ≡ next d
+  pub inside_turns : (d : ℕ) → d < 2 * m → part d ≡ true → flipped (next d) ≡ d

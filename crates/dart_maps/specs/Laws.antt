@@ -5,7 +5,7 @@ use Rattle.dart_maps.specs.Map.{twin, face, IsMap, same_vertex, same_face, same_
 use Rattle.dart_maps.specs.Order.{MetInTurn, MetInOrder, connected_around, connected_past}
 use Rattle.dart_maps.specs.Changes.{dropped, inserted, contracted, glued}
 use Rattle.dart_maps.specs.Renumbering.{IsRenumbering}
-use Rattle.dart_maps.specs.Flip.{IsFlip}
+use Rattle.dart_maps.specs.Flip.{IsFlip, IsFlipAtOne, IsFlipAlone}
 use Rattle.dart_maps.specs.Path.{IsThinPath, smoothed}
 
 -- Euler's inequality: in every map V + F is at most E + 2C
@@ -42,6 +42,12 @@ abbrev pub InsertKeepsDefect : Type 0
 InsertKeepsDefect = (m : ℕ) (next previous : ℕ → ℕ) → IsMap m next previous → (d : ℕ) → d < 2 * m → next d ≡ d → next (twin d) ≡ twin d
     → (p q : ℕ) → p < 2 * m → q < 2 * m → (p ≡ d → ⊥) → (p ≡ twin d → ⊥) → (q ≡ d → ⊥) → (q ≡ twin d → ⊥)
     → same_face m next (twin p) (twin q) ≡ true → SameDefect m next (inserted d p q next)
+
+-- and its two darts lie on different faces: the face has fallen in two
+abbrev pub InsertPartsFace : Type 0
+InsertPartsFace = (m : ℕ) (next previous : ℕ → ℕ) → IsMap m next previous → (d : ℕ) → d < 2 * m → next d ≡ d → next (twin d) ≡ twin d
+    → (p q : ℕ) → p < 2 * m → q < 2 * m → (p ≡ d → ⊥) → (p ≡ twin d → ⊥) → (q ≡ d → ⊥) → (q ≡ twin d → ⊥)
+    → same_face m next (twin p) (twin q) ≡ true → same_face m (inserted d p q next) d (twin d) ≡ false
 
 -- an edge put in between corners of two faces of one component: the defect rises by two
 abbrev pub InsertAcrossFaces : Type 0
@@ -132,3 +138,13 @@ FlipKeepsFaces = (m : ℕ) (next previous flipped : ℕ → ℕ) → IsMap m nex
 -- so the defect stays
 abbrev pub FlipKeepsDefect : Type 0
 FlipKeepsDefect = (m : ℕ) (next previous flipped : ℕ → ℕ) → IsMap m next previous → (part : ℕ → Bool) (a b p q : ℕ) → IsFlip m next flipped part a b p q → SameDefect m next flipped
+
+-- a part turned over at one vertex keeps vertices, components and the number of faces too
+abbrev pub FlipAtOneKeepsAll : Type 0
+FlipAtOneKeepsAll = (m : ℕ) (next previous flipped : ℕ → ℕ) → IsMap m next previous → (part : ℕ → Bool) (a b : ℕ) → IsFlipAtOne m next flipped part a b
+    → ((c d : ℕ) → c < 2 * m → d < 2 * m → same_vertex m next c d ≡ same_vertex m flipped c d) × ((c d : ℕ) → same_component m flipped c d ≡ same_component m next c d) × (face_count m flipped ≡ face_count m next)
+
+-- and so do whole components turned over
+abbrev pub FlipAloneKeepsAll : Type 0
+FlipAloneKeepsAll = (m : ℕ) (next previous flipped : ℕ → ℕ) → IsMap m next previous → (part : ℕ → Bool) → IsFlipAlone m next flipped part
+    → ((c d : ℕ) → same_vertex m flipped c d ≡ same_vertex m next c d) × ((c d : ℕ) → same_component m flipped c d ≡ same_component m next c d) × (face_count m flipped ≡ face_count m next)

@@ -18,7 +18,7 @@
 //   Euler        euler, counts-ext, plane-ext, still-plane: the inequality; maps that agree on all darts
 //   Plane        same-defect-plane, same-defect-over, split-plane, corner-cut, corner-keep, unlink-plane, restricted-plane
 //   Drop         drop-defect, unlink-end-defect, dead-edge-apart, dropped-map: an edge with two faces; a loose end
-//   Insert       insert-defect, insert-across: an edge between two corners of one face, or of two
+//   Insert       insert-defect, insert-parts, insert-across: an edge between two corners of one face, or of two
 //   Contract     contracted-before, contracted-other, contract-plane, contract-plane-back, contracted-map, contracted-vertex
 //   ContractComponents contracted-component: what is connected stays so
 //   Smooth       smooth-path, smooth-plane, smooth-plane-back, smoothed-start, smoothed-end, smoothed-other
@@ -28,10 +28,11 @@
 //   FourDarts    four-darts, frozen-here, frozen-elsewhere: the core of noncrossing, at a vertex of four darts
 //   Noncrossing  noncrossing, restricted-vertex, restricted-more; LinkNoncrossing link-noncrossing, turn-at
 //   Bond         bond-plane, bond-plane-back, involution-count, pairs-involution
-//   TurnOver     turned-faces, turned-orbit; Flip flip-vertex, flip-faces, flip-component, flip-defect
+//   TurnOver     turned-faces, turned-orbit; Flip flip-vertex, flip-faces, flip-component, flip-defect; FlipOne one-faces
+//   Rounds       ring-in-order, ring-in-turn: the order round a vertex, from its ring as a list
 #![tactic(auto)]
 
-ghost use Rattle.dart_maps.specs.Laws.{BondIsPlane, ContractionKeepsComponents, ContractionKeepsDefect, ContractionKeepsPlane, CornerCut, DropKeepsDefect, EulersInequality, FlipKeepsComponents, FlipKeepsDefect, FlipKeepsFaces, FlipKeepsVertices, GluingCornersKeepsDefect, GluingKeepsPlane, InsertAcrossFaces, InsertKeepsDefect, MirrorKeepsCounts, MirrorKeepsPlane, NoncrossingAlongEdge, NoncrossingAtVertex, RenumberingKeepsPlane, RestrictionIsMap, RestrictionKeepsPlane, RestrictionKeepsVertices, SmoothingKeepsPlane, SplitKeepsPlane};
+ghost use Rattle.dart_maps.specs.Laws.{BondIsPlane, ContractionKeepsComponents, ContractionKeepsDefect, ContractionKeepsPlane, CornerCut, DropKeepsDefect, EulersInequality, FlipAloneKeepsAll, FlipAtOneKeepsAll, FlipKeepsComponents, FlipKeepsDefect, FlipKeepsFaces, FlipKeepsVertices, GluingCornersKeepsDefect, GluingKeepsPlane, InsertAcrossFaces, InsertKeepsDefect, InsertPartsFace, MirrorKeepsCounts, MirrorKeepsPlane, NoncrossingAlongEdge, NoncrossingAtVertex, RenumberingKeepsPlane, RestrictionIsMap, RestrictionKeepsPlane, RestrictionKeepsVertices, SmoothingKeepsPlane, SplitKeepsPlane};
 
 /// Euler's inequality: in every map of darts, V + F is at most E + 2C.
 pub fn eulers_inequality()
@@ -56,6 +57,7 @@ pub fn corner_cut()
 pub fn one_edge_more_or_less()
     ensures dropped { DropKeepsDefect }
     ensures inserted { InsertKeepsDefect }
+    ensures face_parted { InsertPartsFace }
     ensures across { InsertAcrossFaces }
 {}
 
@@ -102,11 +104,13 @@ pub fn bond_is_plane()
     ensures { BondIsPlane }
 {}
 
-/// The law that turning over a part of a map, which stands in one run at each of two vertices, keeps the vertices, the
-/// components and the number of faces.
+/// The law that turning over a part of a map, which stands in one run at each of two vertices, or of one, or is made of whole
+/// components, keeps the vertices, the components and the number of faces.
 pub fn flip_keeps_faces()
     ensures vertices { FlipKeepsVertices }
     ensures components { FlipKeepsComponents }
     ensures faces { FlipKeepsFaces }
     ensures defect { FlipKeepsDefect }
+    ensures at_one_vertex { FlipAtOneKeepsAll }
+    ensures whole_components { FlipAloneKeepsAll }
 {}
