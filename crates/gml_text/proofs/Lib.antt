@@ -12,3 +12,6 @@ mod Completes
 mod Depth
 mod Steps
 mod ReadDocument
+mod Lines
+mod Written
+mod OneDocument

@@ -130,6 +130,14 @@ impl Doc {
         }
     }
 
+    // All pairs.
+    pub(crate) fn top(&self) -> &Pairs
+        ensures pairs { result.now ≡ self.now }
+        ensures well_formed { IsWellFormed self.now }
+    {
+        &self.top
+    }
+
     /// The pairs of the document itself, in order.
     pub fn pairs(&self) -> &[Pair]
         ensures { document_of result.now ≡ self.now }

@@ -2,7 +2,8 @@
 
 use crate::document::GmlFault;
 use crate::reader::read;
-use std::alloc::Global;
+use crate::writer::write;
+use std::alloc::{AllocError, Global};
 use std::test::Fail;
 
 // What reading answers: a letter for each answer, and the place of a fault.
@@ -69,5 +70,61 @@ fn faults_are_where_no_document_goes_on(rt: HostRuntime) -> Result<(), Fail> {
     for (bytes, expected) in rows {
         assert_eq!(rt; answer(rt.alloc(), bytes), expected);
     }
+    Ok(())
+}
+
+// A text within so many lists of the key `a`, which are closed.
+fn nested(alloc: Global, lists: usize) -> Result<Vec<u8>, AllocError> {
+    let mut text = Vec::new(alloc);
+    for _ in 0..lists {
+        text.extend_from_slice(b"a[")?;
+    }
+    for _ in 0..lists {
+        text.push(b']')?;
+    }
+    Ok(text)
+}
+
+#[test]
+fn long_and_deep_texts(rt: HostRuntime) -> Result<(), Fail> {
+    let deep = nested(rt.alloc(), 32)?;
+    assert_eq!(rt; answer(rt.alloc(), deep.as_slice()), ('o', 0));
+    let deeper = nested(rt.alloc(), 33)?;
+    assert_eq!(rt; answer(rt.alloc(), deeper.as_slice()), ('b', 65));
+    let mut digits = Vec::new(rt.alloc());
+    digits.extend_from_slice(b"a ")?;
+    digits.resize(10_002, b'7')?;
+    assert_eq!(rt; answer(rt.alloc(), digits.as_slice()), ('o', 0));
+    digits.push(b'x')?;
+    assert_eq!(rt; answer(rt.alloc(), digits.as_slice()), ('b', 10_002));
+    Ok(())
+}
+
+#[test]
+fn each_prefix_of_a_document(rt: HostRuntime) -> Result<(), Fail> {
+    let text = b"k [ x -1.5 y \"z\" ] #c\nq 2";
+    for n in 0..text.len() + 1 {
+        let whole = n == 0 || n >= 18 && n < 23 || n == 25;
+        let expected = if whole { ('o', 0) } else { ('e', n) };
+        assert_eq!(rt; answer(rt.alloc(), &text[..n]), expected);
+    }
+    Ok(())
+}
+
+#[test]
+fn what_is_read_is_written_in_the_layout(rt: HostRuntime) -> Result<(), Fail> {
+    let text =
+        "# x\nCreator \"yFiles\" graph [ directed 1 node [ id 7 label \"é &amp; b\" graphics [ x 1.5E+3 y -INF ] ] node [ id -2 ] edge [ source 7 target -2 w_2 .5 ] ]";
+    let expected =
+        "Creator \"yFiles\"\ngraph [\n  directed 1\n  node [\n    id 7\n    label \"é &amp; b\"\n    graphics [\n      x 1.5E+3\n      y -INF\n    ]\n  ]\n  node [\n    id -2\n  ]\n  edge [\n    source 7\n    target -2\n    w_2 .5\n  ]\n]\n";
+    assert_eq!(rt; expected.len(), 208);
+    let document = read(rt.alloc(), text.as_bytes())?;
+    assert_eq!(rt; document.pairs().len(), 2);
+    let written = write(rt.alloc(), &document)?;
+    assert_eq!(rt; written.as_slice(), expected.as_bytes());
+    let again = read(rt.alloc(), written.as_slice())?;
+    assert_eq!(rt; write(rt.alloc(), &again)?.as_slice(), expected.as_bytes());
+    let nothing = read(rt.alloc(), b"")?;
+    assert_eq!(rt; write(rt.alloc(), &nothing)?.len(), 0);
     Ok(())
 }

@@ -1,0 +1,111 @@
+// The writer of documents.
+
+ghost use Rattle.std.specs.Prelude.{◌≡◌, ◌+◌, ◌≤◌, ◌++◌, OnOk, IfOk};
+ghost use Rattle.gml_text.specs.Document.{empty, depth};
+ghost use Rattle.gml_text.specs.Pairs.{pair_before};
+ghost use Rattle.gml_text.specs.Grammar.{Spells};
+ghost use Rattle.gml_text.specs.Layout.{indent, number_line, string_line, open_line, close_line, lines, written};
+
+use crate::document::{Bytes, Doc, Pair, Pairs, Value};
+use std::alloc::{AllocError, Global};
+
+/// Writes a document in its one layout: each pair on lines of its own, with two spaces for each list round it, as `key number`,
+/// `key "string"`, or `key [`, the pairs of the list, and `]`. Reading what is written gives the document again.
+///
+/// # Errors
+///
+/// Fails only where memory runs out.
+pub fn write(alloc: Global, d: &Doc) -> Result<Vec<u8>, AllocError>
+    ensures layout { IfOk result (λ text. text.items ≡ written d.now) }
+    ensures spelled { IfOk result (λ text. Spells text.items d.now) }
+{
+    let mut out = Vec::new(alloc);
+    write_pairs(&mut out, 0, d.top())?;
+    Ok(out)
+}
+
+// Writes the lines of pairs within so many lists.
+#[cycle(lines)]
+fn write_pairs(out: &mut Vec<u8>, lists: usize, pairs: &Pairs) -> Result<(), AllocError>
+    requires { lists + depth pairs.now ≤ 32 }
+    ensures { OnOk result (out.new.items ≡ out.old.items ++ lines lists pairs.now) }
+{
+    for pair in pairs.as_slice() {
+        write_pair(out, lists, pair)?;
+    }
+    Ok(())
+}
+
+// Writes the lines of one pair within so many lists.
+#[cycle(lines)]
+fn write_pair(out: &mut Vec<u8>, lists: usize, pair: &Pair) -> Result<(), AllocError>
+    requires { lists + depth (pair_before pair.now.key pair.now.value empty) ≤ 32 }
+    ensures { OnOk result (out.new.items ≡ out.old.items ++ lines lists (pair_before pair.now.key pair.now.value empty)) }
+{
+    match &pair.value {
+        Value::Num(text) => number_line(out, lists, &pair.key, text),
+        Value::Str(text) => string_line(out, lists, &pair.key, text),
+        Value::List(inner) => {
+            open_line(out, lists, &pair.key)?;
+            write_pairs(out, lists + 1, inner)?;
+            close_line(out, lists)?;
+            Ok(())
+        }
+    }
+}
+
+// Writes two spaces for each list.
+fn indent(out: &mut Vec<u8>, lists: usize) -> Result<(), AllocError>
+    requires { lists ≤ 32 }
+    ensures { OnOk result (out.new.items ≡ out.old.items ++ indent lists) }
+{
+    out.resize(out.len() + 2 * lists, b' ')?;
+    Ok(())
+}
+
+// Writes the line of a number.
+fn number_line(out: &mut Vec<u8>, lists: usize, key: &Bytes, text: &Bytes) -> Result<(), AllocError>
+    requires { lists ≤ 32 }
+    ensures { OnOk result (out.new.items ≡ out.old.items ++ number_line lists key.now text.now) }
+{
+    indent(out, lists)?;
+    out.extend_from_slice(key.as_slice())?;
+    out.push(b' ')?;
+    out.extend_from_slice(text.as_slice())?;
+    out.push(b'\n')?;
+    Ok(())
+}
+
+// Writes the line of a string.
+fn string_line(out: &mut Vec<u8>, lists: usize, key: &Bytes, text: &Bytes) -> Result<(), AllocError>
+    requires { lists ≤ 32 }
+    ensures { OnOk result (out.new.items ≡ out.old.items ++ string_line lists key.now text.now) }
+{
+    indent(out, lists)?;
+    out.extend_from_slice(key.as_slice())?;
+    out.extend_from_slice(b" \"")?;
+    out.extend_from_slice(text.as_slice())?;
+    out.extend_from_slice(b"\"\n")?;
+    Ok(())
+}
+
+// Writes the first line of a list.
+fn open_line(out: &mut Vec<u8>, lists: usize, key: &Bytes) -> Result<(), AllocError>
+    requires { lists ≤ 32 }
+    ensures { OnOk result (out.new.items ≡ out.old.items ++ open_line lists key.now) }
+{
+    indent(out, lists)?;
+    out.extend_from_slice(key.as_slice())?;
+    out.extend_from_slice(b" [\n")?;
+    Ok(())
+}
+
+// Writes the last line of a list.
+fn close_line(out: &mut Vec<u8>, lists: usize) -> Result<(), AllocError>
+    requires { lists ≤ 32 }
+    ensures { OnOk result (out.new.items ≡ out.old.items ++ close_line lists) }
+{
+    indent(out, lists)?;
+    out.extend_from_slice(b"]\n")?;
+    Ok(())
+}
