@@ -2,7 +2,7 @@
 mod TextExamples
 mod ScriptExamples
 mod Options
-mod Entries
+pub mod Entries
 pub mod Commands
 mod Digits
 mod FromFront

@@ -1,14 +1,16 @@
 -- A reading answers what a script spells; a script has at most one reading, and one first bad line.
-use Rattle.std.proofs.Common.{◌≡◌, ℕ, ◌-◌, List, [], get_or, Result, Ok, Err, IfOk, IfErr, sym, subst, ◌∙◌, arith}
+use Rattle.std.proofs.Common.{◌≡◌, ℕ, ◌-◌, List, [], get_or, Result, Ok, Err, IfOk, IfErr, sym, subst, ◌∙◌, arith, zero, suc, inl, inr, ◌⊎◌, refl, ◌<◌, ◌∷◌, length, true, ap}
 use Rattle.std.specs.Global.{Vec}
-use Rattle.spqr_script.specs.Line.{lines_of}
-use Rattle.spqr_script.specs.Script.{Commands, IsRefused, IsFirstBadLine}
+use Rattle.std.specs.List.{AllZip}
+use Rattle.std.proofs.lemmas.Bool.{both_ways, cases_Bool, cases_order}
+use Rattle.spqr_script.specs.Line.{lines_of, is_passed_over}
+use Rattle.spqr_script.specs.Script.{Commands, command_lines, IsAccepted, IsRefused, IsFirstBadLine}
 use Rattle.spqr_script.specs.Reading.{commands_from, Gives}
 use Rattle.spqr_script.specs.Outcome.{IsReading, IsFault}
 use Rattle.spqr_script.specs.declared.command.Command.{Command}
 use Rattle.spqr_script.specs.declared.command.ScriptFault.{ScriptFault}
 use Rattle.spqr_script.specs.declared.command.ScriptFault.TheVariants.{BadLine, Memory}
-use Rattle.spqr_script.proofs.Commands.{ok_is, ok_err, commands_spelled, commands_read, stops}
+use Rattle.spqr_script.proofs.Commands.{SpellsLine, ok_is, ok_err, commands_spelled, commands_read, stops}
 
 pub script_read : (bytes : List ℕ) (commands : List Command) → Commands bytes commands → commands_from 1 (lines_of bytes) ≡ Ok commands
 unfolding Commands
@@ -45,3 +47,55 @@ fault_is bytes (Err Memory) given = tt
 
 pub one_reading : (bytes : List ℕ) (commands others : List Command) → Commands bytes commands → Commands bytes others → commands ≡ others
 one_reading bytes commands others s t = ok_is commands others (sym (script_read bytes commands s) ∙ script_read bytes others t)
+
+pub decided : (bytes : List ℕ) → ((commands : List Command) × Commands bytes commands) ⊎ ((line : ℕ) × IsFirstBadLine bytes line)
+decided bytes = go (commands_from 1 (lines_of bytes)) refl
+  where
+    go : (r : Result (List Command) ℕ) → commands_from 1 (lines_of bytes) ≡ r → ((commands : List Command) × Commands bytes commands) ⊎ ((line : ℕ) × IsFirstBadLine bytes line)
+    go (Ok commands) e = inl (commands, script_spelled bytes commands e)
+    go (Err line) e = inr (line, script_bad bytes line e)
+
+-- no line is both
+accepted_refused : (line : List ℕ) → IsAccepted line → IsRefused line → ⊥
+accepted_refused line (inl over) bad = both_ways (is_passed_over line) bad.0 over
+accepted_refused line (inr (command, s)) bad = bad.1 command s
+
+-- one line in front of lines that are accepted
+one_more : (line : List ℕ) (lines : List (List ℕ)) → IsAccepted line → ((k : ℕ) → k < length lines → IsAccepted (get_or lines k [])) → (k : ℕ) → k < length (line ∷ lines) → IsAccepted (get_or (line ∷ lines) k [])
+one_more line lines good others zero lt = good
+one_more line lines good others (suc k) lt = others k (omega arith)
+
+-- a line and its command, in front of others
+first_spelled : (line : List ℕ) (lines : List (List ℕ)) (commands : List Command) → AllZip SpellsLine (line ∷ command_lines lines) commands
+    → (c : Command) × (cs : List Command) × SpellsLine line c × AllZip SpellsLine (command_lines lines) cs
+first_spelled line lines [] s = absurd s
+first_spelled line lines (c ∷ cs) s = (c, cs, s.0, s.1)
+
+-- where commands are spelled, each line is accepted
+each_accepted : (lines : List (List ℕ)) (commands : List Command) → AllZip SpellsLine (command_lines lines) commands → (k : ℕ) → k < length lines → IsAccepted (get_or lines k [])
+each_accepted [] commands s = λ k lt. absurd (omega arith)
+each_accepted (line ∷ lines) commands s =
+    elim (cases_Bool (is_passed_over line)) [
+      | inl over ↦ one_more line lines (inl over) (each_accepted lines commands (rw over at s))
+      | inr not_over ↦
+          let p = first_spelled line lines commands (rw not_over at s) in
+          one_more line lines (inr (p.0, p.2)) (each_accepted lines p.1 p.3)
+    ]
+
+pub apart : (bytes : List ℕ) (commands : List Command) (line : ℕ) → Commands bytes commands → IsFirstBadLine bytes line → ⊥
+unfolding Commands IsFirstBadLine
+apart bytes commands line s bad =
+    accepted_refused (get_or (lines_of bytes) (line - 1) []) (each_accepted (lines_of bytes) commands s (line - 1) (omega (arith, bad.0, bad.1))) bad.2
+
+not_before : (bytes : List ℕ) (line other : ℕ) → IsFirstBadLine bytes line → IsFirstBadLine bytes other → line < other → ⊥
+unfolding IsFirstBadLine
+not_before bytes line other bad later lt =
+    accepted_refused (get_or (lines_of bytes) (line - 1) []) (later.3 (line - 1) (omega (arith, bad.0))) bad.2
+
+pub one_bad_line : (bytes : List ℕ) (line other : ℕ) → IsFirstBadLine bytes line → IsFirstBadLine bytes other → line ≡ other
+one_bad_line bytes line other bad also =
+    elim (cases_order line other) [
+      | inl same ↦ same
+      | inr (inl lt) ↦ absurd (not_before bytes line other bad also lt)
+      | inr (inr lt) ↦ absurd (not_before bytes other line also bad lt)
+    ]

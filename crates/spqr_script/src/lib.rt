@@ -1,9 +1,15 @@
-// The script, and the texts that the program prints.
+// The script that the program reads, and every text that it prints.
+//
+// A script is lines of commands. Which commands bytes spell is the relation `Commands`, over whole lines: each line is cut
+// into tokens, and each line that is not passed over has the tokens of one command. `read` gives the commands exactly where
+// there are some, and else the number of the first line that is none. Each text has one definition, its bytes, and one
+// function, which answers just these bytes or runs out of memory. Numbers are written in decimal by the crate `itoa`.
 #![tactic(auto)]
 
 mod answers;
 mod command;
 mod head;
+mod laws;
 mod numbers;
 mod reader;
 mod refusals;
@@ -17,6 +23,13 @@ pub use answers::{
 };
 pub use command::{Command, ScriptFault};
 pub use head::{block_line, cut_line, graph_line, push_vertex_line, vertex_line};
+pub use laws::script_laws;
 pub use numbers::number;
 pub use reader::read;
-pub use refusals::{Which, long_line, read_line, script_line, usage_line};
+pub use refusals::{
+    Which, gml_line, long_bytes, long_line, read_bytes, read_line, rule_line, script_line,
+    usage_bytes, usage_line,
+};
+
+#[cfg(test)]
+mod tests;

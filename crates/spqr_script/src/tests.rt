@@ -1,0 +1,266 @@
+// Scripts and texts, as a reader of the format would work them out.
+use super::*;
+use faces::Euler;
+use gml_graph::GraphFault;
+use gml_text::GmlFault;
+use std::alloc::{AllocError, Global};
+use std::test::*;
+
+// How many commands the script spells, and its first bad line, or 0.
+fn outcome(alloc: Global, script: &str) -> Result<(usize, u32), AllocError> {
+    let bytes = script.as_bytes();
+    if bytes.len() > 1000 {
+        return Ok((0, 0));
+    }
+    match read(alloc, bytes) {
+        Ok(commands) => Ok((commands.len(), 0)),
+        Err(ScriptFault::BadLine(line)) => Ok((0, line)),
+        Err(ScriptFault::Memory) => Err(AllocError),
+    }
+}
+
+#[test]
+fn lines_that_are_commands(rt: HostRuntime) -> Result<(), Fail> {
+    let rows = [
+        "euler",
+        "euler 0:",
+        "euler 0: 0 1 2; 1: 0 4 3; 2: 1 3 5; 3: 2 5 4",
+        "euler 0:0 1;1:0",
+        "euler 0: 4294967295",
+        "euler 00: 0004",
+        "euler 0 : 1 ;2:",
+        "\t euler\t0:\t1 \t",
+        "gml",
+        " gml\t\n",
+        "gml\r\n",
+        "gml \r",
+        "# c\ngml",
+        "\n \t\n\r\n#\n\t# euler 0\ngml\n",
+    ];
+    for row in rows.iter() {
+        assert_eq!(rt; outcome(rt.alloc(), row)?, (1, 0));
+    }
+    assert_eq!(rt; outcome(rt.alloc(), "")?, (0, 0));
+    assert_eq!(rt; outcome(rt.alloc(), "gml\neuler\n\ngml")?, (3, 0));
+    Ok(())
+}
+
+#[test]
+fn lines_that_are_none(rt: HostRuntime) -> Result<(), Fail> {
+    let rows = [
+        "EULER",
+        "eule",
+        "euler 0",
+        "euler 0: 0;",
+        "euler ;0: 0",
+        "euler 0: 0;; 1: 0",
+        "euler 1: 0; 0: 1",
+        "euler 0: 0; 0: 1",
+        "euler 0: 4294967296",
+        "euler 4294967296:",
+        "euler 0: -1",
+        "euler 0: +1",
+        "euler 0: 0: 1",
+        "euler: 0",
+        "euler0: 0",
+        "gml 1",
+        "gml;",
+        "\r\r",
+        "gml\r ",
+        "gml\r\r\n",
+        "gml\0",
+        "\0",
+        "shwo 0",
+    ];
+    for row in rows.iter() {
+        assert_eq!(rt; outcome(rt.alloc(), row)?, (0, 1));
+    }
+    assert_eq!(rt; outcome(rt.alloc(), "# c\nlist 0 10001")?, (0, 2));
+    assert_eq!(rt; outcome(rt.alloc(), "gml\n\n# c\r\ngml\nx\ny\n")?, (0, 5));
+    Ok(())
+}
+
+#[test]
+fn entries_in_order(rt: HostRuntime) -> Result<(), Fail> {
+    let commands = read(rt.alloc(), b"euler 3: 1 0; 007: ;9:2\ngml")
+        .ok()
+        .ok_or("the bytes are two commands")?;
+    assert_eq!(rt; commands.len(), 2);
+    if let Command::Euler(lists) = &commands[0] {
+        assert_eq!(rt; lists.len(), 3);
+        assert_eq!(rt; lists.vertex(0), 3);
+        assert_eq!(rt; lists.edges(0), [1, 0].as_slice());
+        assert_eq!(rt; lists.vertex(1), 7);
+        assert_eq!(rt; lists.edges(1).len(), 0);
+        assert_eq!(rt; lists.vertex(2), 9);
+        assert_eq!(rt; lists.edges(2), [2].as_slice());
+    } else {
+        return Err("the first is `euler`".into());
+    }
+    assert!(rt; matches!(commands[1], Command::Gml));
+    Ok(())
+}
+
+#[test]
+fn numbers(rt: HostRuntime) {
+    assert_eq!(rt; number(b"0"), Some(0));
+    assert_eq!(rt; number(b"0010"), Some(10));
+    assert_eq!(rt;
+        number(b"340282366920938463463374607431768211455"),
+        Some(u128::MAX)
+    );
+    assert_eq!(rt; number(b"340282366920938463463374607431768211456"), None);
+    assert_eq!(rt; number(b"3402823669209384634633746074317682114550"), None);
+    assert_eq!(rt; number(b""), None);
+    assert_eq!(rt; number(b"1a"), None);
+    assert_eq!(rt; number(b"-1"), None);
+}
+
+#[test]
+fn texts_of_the_head(rt: HostRuntime) -> Result<(), Fail> {
+    let alloc = rt.alloc();
+    assert_eq!(rt;
+        graph_line(alloc, 4, 6)?.as_slice(),
+        b"graph 4 6\n".as_slice()
+    );
+    assert_eq!(rt;
+        vertex_line(alloc, 1, -2)?.as_slice(),
+        b"vertex 1 -2\n".as_slice()
+    );
+    assert_eq!(rt; cut_line(alloc, 4)?.as_slice(), b"cut 4\n".as_slice());
+    assert_eq!(rt;
+        block_line(alloc, 1, &[3, 4, 5])?.as_slice(),
+        b"block 1: 3 4 5\n".as_slice()
+    );
+    let mut out = vec![in alloc; b'x']?;
+    push_vertex_line(&mut out, 0, i64::MIN)?;
+    assert_eq!(rt;
+        out.as_slice(),
+        b"xvertex 0 -9223372036854775808\n".as_slice()
+    );
+    Ok(())
+}
+
+#[test]
+fn texts_of_answers(rt: HostRuntime) -> Result<(), Fail> {
+    let alloc = rt.alloc();
+    let e = Euler {
+        v: 7,
+        e: 7,
+        f: 4,
+        c: 2,
+        plane: true,
+    };
+    assert_eq!(rt;
+        euler_line(alloc, &e)?.as_slice(),
+        b"euler 7 7 4 2 plane\n".as_slice()
+    );
+    let e = Euler {
+        v: 7,
+        e: 7,
+        f: 2,
+        c: 2,
+        plane: false,
+    };
+    assert_eq!(rt;
+        euler_line(alloc, &e)?.as_slice(),
+        b"euler 7 7 2 2 not-plane\n".as_slice()
+    );
+    assert_eq!(rt; ok_line(alloc)?.as_slice(), b"ok\n".as_slice());
+    assert_eq!(rt; end_line(alloc)?.as_slice(), b"end\n".as_slice());
+    assert_eq!(rt; more_line(alloc)?.as_slice(), b"more\n".as_slice());
+    assert_eq!(rt;
+        list_line(alloc, 0, 1)?.as_slice(),
+        b"list 0 1\n".as_slice()
+    );
+    assert_eq!(rt;
+        gml_lines(alloc, b"a 1\n")?.as_slice(),
+        b"gml 4\na 1\n".as_slice()
+    );
+    assert_eq!(rt;
+        error_line(alloc, 7, &[4, 6, 2])?.as_slice(),
+        b"error 7 4 6 2\n".as_slice()
+    );
+    Ok(())
+}
+
+#[test]
+fn texts_with_large_numbers(rt: HostRuntime) -> Result<(), Fail> {
+    let alloc = rt.alloc();
+    let count = count_line(alloc, 295232799039604140847618609643520000000)?;
+    assert_eq!(rt;
+        count.as_slice(),
+        b"count 295232799039604140847618609643520000000\n".as_slice()
+    );
+    let rank = rank_line(alloc, u128::MAX)?;
+    assert_eq!(rt;
+        rank.as_slice(),
+        b"rank 340282366920938463463374607431768211455\n".as_slice()
+    );
+    Ok(())
+}
+
+#[test]
+fn texts_of_refusals(rt: HostRuntime) -> Result<(), Fail> {
+    let alloc = rt.alloc();
+    assert_eq!(rt;
+        read_line(alloc, Which::GraphFile)?.as_slice(),
+        b"refused read graph\n".as_slice()
+    );
+    assert_eq!(rt;
+        read_line(alloc, Which::ScriptFile)?.as_slice(),
+        b"refused read script\n".as_slice()
+    );
+    assert_eq!(rt;
+        long_line(alloc, Which::GraphFile)?.as_slice(),
+        b"refused long graph\n".as_slice()
+    );
+    assert_eq!(rt;
+        long_line(alloc, Which::ScriptFile)?.as_slice(),
+        b"refused long script\n".as_slice()
+    );
+    assert_eq!(rt;
+        gml_line(alloc, &GmlFault::Bad(4))?.as_slice(),
+        b"refused gml bad 4\n".as_slice()
+    );
+    assert_eq!(rt;
+        gml_line(alloc, &GmlFault::End(19))?.as_slice(),
+        b"refused gml end 19\n".as_slice()
+    );
+    assert_eq!(rt;
+        script_line(alloc, 2)?.as_slice(),
+        b"refused script line 2\n".as_slice()
+    );
+    let usage = usage_line(alloc)?;
+    assert_eq!(rt;
+        usage.as_slice(),
+        b"usage: spqr run GRAPH SCRIPT | spqr make N SEED\n".as_slice()
+    );
+    Ok(())
+}
+
+#[test]
+fn texts_of_rules(rt: HostRuntime) -> Result<(), Fail> {
+    let alloc = rt.alloc();
+    assert_eq!(rt;
+        rule_line(alloc, &GraphFault::NoGraph)?.as_slice(),
+        b"refused graph none\n".as_slice()
+    );
+    assert_eq!(rt;
+        rule_line(alloc, &GraphFault::TooManyVertices(20001))?.as_slice(),
+        b"refused graph vertices 20001\n".as_slice()
+    );
+    assert_eq!(rt;
+        rule_line(alloc, &GraphFault::NodeNoId(0))?.as_slice(),
+        b"refused graph node-no-id 0\n".as_slice()
+    );
+    assert_eq!(rt;
+        rule_line(alloc, &GraphFault::SameId(1))?.as_slice(),
+        b"refused graph same-id 1\n".as_slice()
+    );
+    assert_eq!(rt;
+        rule_line(alloc, &GraphFault::Loop(2))?.as_slice(),
+        b"refused graph loop 2\n".as_slice()
+    );
+    Ok(())
+}
