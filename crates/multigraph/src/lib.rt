@@ -17,3 +17,6 @@ mod structure;
 pub use faults::BuildFault;
 pub use lists::{NumberLists, Numbers};
 pub use structure::Graph;
+
+#[cfg(test)]
+mod tests;
