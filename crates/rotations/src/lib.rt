@@ -20,3 +20,6 @@ pub use entries::Lists;
 pub use faults::RotFault;
 pub use round::RotIter;
 pub use system::Rotation;
+
+#[cfg(test)]
+mod tests;
