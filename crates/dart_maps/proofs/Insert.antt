@@ -24,7 +24,7 @@ module _ (m : ℕ) (f g : ℕ → ℕ) (b : IsMap m f g) (d : ℕ) (l : d < 2 * 
   first = exchange p d f
 
   -- its inverse
-  first-map : IsMap m (exchange p d f) (back_after p d g)
+  pub first-map : IsMap m (exchange p d f) (back_after p d g)
   first-map = step-map m f g b p d k l
 
   -- p and d are in different components
@@ -32,11 +32,11 @@ module _ (m : ℕ) (f g : ℕ → ℕ) (b : IsMap m f g) (d : ℕ) (l : d < 2 * 
   apart = dead-edge-apart m f g b d l alone twin-alone p pd pt
 
   -- putting the first dart in keeps the defect
-  first-defect : SameDefect m f (exchange p d f)
+  pub first-defect : SameDefect m f (exchange p d f)
   first-defect = merge-apart-defect m f g b p d k l apart
 
   -- the twin is still alone
-  still-alone : exchange p d f (twin d) ≡ twin d
+  pub still-alone : exchange p d f (twin d) ≡ twin d
   still-alone = exchange-other p d f (twin d) (λ e. pt (sym e)) (λ e. twin-other d e) ∙ twin-alone
 
   -- so q is at another vertex
@@ -44,16 +44,16 @@ module _ (m : ℕ) (f g : ℕ → ℕ) (b : IsMap m f g) (d : ℕ) (l : d < 2 * 
   vertices-apart = false_from_ne_true (same_vertex m (exchange p d f) q (twin d)) (λ t. qt (sym (alone-orbit (2 * m) (twin d) (exchange p d f) (back_after p d g) first-map (twin-below m d l) still-alone q ((orbit-equivalence (2 * m) (exchange p d f)).symmetric q (twin d) t))))
 
   -- the faces of the twins of p and d were different
-  faces-apart : same_face m f (twin p) (twin d) ≡ false
+  pub faces-apart : same_face m f (twin p) (twin d) ≡ false
   faces-apart = false_from_ne_true (same_face m f (twin p) (twin d)) (λ t. both_ways (same_component m f p d) apart (
       let c = component-equivalence m f in c.transitive p (twin p) d (component-twin m f p k) (c.transitive (twin p) (twin d) d (face-component m f (twin p) (twin d) t) (c.symmetric d (twin d) (component-twin m f d l)))))
 
   -- now the face of p's corner passes d
-  passes : same_face m (exchange p d f) (twin p) d ≡ true
+  pub passes : same_face m (exchange p d f) (twin p) d ≡ true
   passes = subst (λ (z : ℕ). same_face m (exchange p d f) (twin p) z ≡ true) (face-twin (exchange p d f) p ∙ exchange-left p d f ∙ alone) (orbit-step (2 * m) (face (exchange p d f)) (twin p) (twin-below m p k))
 
   -- faces of the old map lie within those of the new
-  old-faces : (x y : ℕ) → same_face m f x y ≡ true → same_face m (exchange p d f) x y ≡ true
+  pub old-faces : (x y : ℕ) → same_face m f x y ≡ true → same_face m (exchange p d f) x y ≡ true
   old-faces x y t = face-join m f g b p d k l faces-apart x y ∙ join-old (same_face m f) (twin p) (twin d) x y t
 
   -- a new edge between two corners of one face keeps the defect

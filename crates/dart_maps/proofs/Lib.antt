@@ -22,3 +22,4 @@ pub mod GlueCorners
 pub mod Smooth
 pub mod FlipOne
 pub mod Rounds
+pub mod InsertPath

@@ -1,12 +1,14 @@
 -- What is proved of maps of darts, as statements.
-use Rattle.std.specs.Prelude.{◌≡◌, ℕ, ◌+◌, ◌*◌, ◌<◌, ◌≤◌, ◌↔◌, not, ◌||◌, Bool, true, false, List}
+use Rattle.std.specs.Prelude.{◌≡◌, ℕ, ◌+◌, ◌*◌, ◌<◌, ◌≤◌, ◌↔◌, not, ◌||◌, Bool, true, false, List, [], ◌∷◌, ◌++◌}
+use Rattle.permutations.specs.Cyclic.{first_or}
 use Rattle.permutations.specs.Exchange.{exchange, restricted}
+use Rattle.permutations.specs.Ring.{ring}
 use Rattle.dart_maps.specs.Map.{twin, face, IsMap, same_vertex, same_face, same_component, vertex_count, face_count, component_count, IsPlane, SameDefect}
 use Rattle.dart_maps.specs.Order.{MetInTurn, MetInOrder, connected_around, connected_past}
 use Rattle.dart_maps.specs.Changes.{dropped, inserted, contracted, glued}
 use Rattle.dart_maps.specs.Renumbering.{IsRenumbering}
 use Rattle.dart_maps.specs.Flip.{IsFlip, IsFlipAtOne, IsFlipAlone}
-use Rattle.dart_maps.specs.Path.{IsThinPath, smoothed}
+use Rattle.dart_maps.specs.Path.{IsThinPath, smoothed, IsFreshPath, path_inserted, path_last, twins_behind}
 
 -- Euler's inequality: in every map V + F is at most E + 2C
 abbrev pub EulersInequality : Type 0
@@ -55,6 +57,19 @@ InsertAcrossFaces = (m : ℕ) (next previous : ℕ → ℕ) → IsMap m next pre
     → (p q : ℕ) → p < 2 * m → q < 2 * m → (p ≡ d → ⊥) → (p ≡ twin d → ⊥) → (q ≡ d → ⊥) → (q ≡ twin d → ⊥)
     → same_component m next p q ≡ true → same_face m next (twin p) (twin q) ≡ false
     → vertex_count m next + face_count m next + 2 * component_count m (inserted d p q next) ≡ vertex_count m (inserted d p q next) + face_count m (inserted d p q next) + 2 * component_count m next + 2
+
+-- a path of new vertices put in between two corners of one face: the defect stays
+abbrev pub PathKeepsDefect : Type 0
+PathKeepsDefect = (m : ℕ) (path : List ℕ) (next previous : ℕ → ℕ) → IsMap m next previous → (p d q : ℕ) → IsFreshPath m next p d path q
+    → same_face m next (twin p) (twin q) ≡ true → SameDefect m next (path_inserted p d path q next)
+
+-- the face, read from the corner p over the corner q to p again, falls in two: the one keeps the way from p to q and goes
+-- back along the path, the other keeps the way from q to p and goes on along the path
+abbrev pub PathPartsFace : Type 0
+PathPartsFace = (m : ℕ) (path : List ℕ) (next previous : ℕ → ℕ) → IsMap m next previous → (p d q : ℕ) → IsFreshPath m next p d path q
+    → (s r : List ℕ) → ring (2 * m) (face next) (next p) ≡ (s ++ twin q ∷ []) ++ (r ++ twin p ∷ [])
+    → (ring (2 * m) (face (path_inserted p d path q next)) (twin (path_last d path)) ≡ twins_behind (d ∷ path) s ++ twin q ∷ [])
+    × (ring (2 * m) (face (path_inserted p d path q next)) (first_or (twin p) r) ≡ (r ++ twin p ∷ []) ++ (d ∷ path))
 
 -- an edge that joins two vertices is contracted: the defect stays
 abbrev pub ContractionKeepsDefect : Type 0

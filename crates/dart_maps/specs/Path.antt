@@ -1,6 +1,8 @@
 -- Thin paths, whose inner vertices have two darts each, and what is left when one is smoothed to its first edge.
 use Rattle.std.specs.Prelude.{◌≡◌, ℕ, ◌*◌, ◌/◌, ◌<◌, Bool, false, ◌||◌, ◌==◌, if◌then◌else◌, List, [], ◌∷◌}
+use Rattle.permutations.specs.Exchange.{exchange}
 use Rattle.dart_maps.specs.Map.{twin}
+use Rattle.dart_maps.specs.Changes.{inserted}
 
 -- at each inner vertex the dart that arrives and the one that goes on are all there is: c arrives at the first
 abbrev pub IsThin : (ℕ → ℕ) → ℕ → List ℕ → Type 0
@@ -40,3 +42,32 @@ pub record IsThinPath (m : ℕ) (next : ℕ → ℕ) (c : ℕ) (path : List ℕ)
 unfoldable pub smoothed : ℕ → List ℕ → (ℕ → ℕ) → ℕ → ℕ
 smoothed c path next x =
     (if on_path x path then x else (if x == c then next (path_end c path) else (if next x == path_end c path then c else next x)))
+
+-- all these darts' edges are dead
+abbrev pub IsFresh : ℕ → (ℕ → ℕ) → List ℕ → Type 0
+IsFresh m next [] = Unit {0}
+IsFresh m next (d ∷ path) = (d < 2 * m) × (next d ≡ d) × (next (twin d) ≡ twin d) × IsFresh m next path
+
+-- a path of dead edges, which goes out by d and then by the darts of `path`, and two corners of other edges
+pub record IsFreshPath (m : ℕ) (next : ℕ → ℕ) (p d : ℕ) (path : List ℕ) (q : ℕ) : Type 0 where
+  pub first_corner : p < 2 * m
+  pub last_corner : q < 2 * m
+  pub fresh : IsFresh m next (d ∷ path)
+  pub apart : AllApart (d ∷ path)
+  pub off_first : Avoids p (d ∷ path)
+  pub off_last : Avoids q (d ∷ path)
+
+-- the map with the path put in: it leaves behind the corner p, passes new vertices, and arrives behind the corner q
+abbrev pub path_inserted : ℕ → ℕ → List ℕ → ℕ → (ℕ → ℕ) → ℕ → ℕ
+path_inserted p d [] q next = inserted d p q next
+path_inserted p d (c ∷ path) q next = path_inserted (twin d) c path q (exchange p d next)
+
+-- the last dart of a path that begins with d
+abbrev pub path_last : ℕ → List ℕ → ℕ
+path_last d [] = d
+path_last d (c ∷ path) = path_last c path
+
+-- the twins of the path's darts, backwards, and then the list s
+abbrev pub twins_behind : List ℕ → List ℕ → List ℕ
+twins_behind [] s = s
+twins_behind (d ∷ path) s = twins_behind path (twin d ∷ s)

@@ -1,6 +1,6 @@
 -- A permutation on the numbers that pass a test: each goes on to the next of them.
 use Rattle.std.proofs.Common.{◌≡◌, ℕ, zero, suc, ◌+◌, ◌-◌, ◌<◌, ◌≤◌, inl, inr, Bool, true, false, ◌||◌, leb, refl, sym, ap, ◌∙◌, subst, arith, le-leb, leb-true, leb-false}
-use Rattle.std.proofs.lemmas.Bool.{cases_Bool, cases_eq, cases_lt, cases_order, both_ways, true_from_ne_false, lt-leb, or_cases, or_parts}
+use Rattle.std.proofs.lemmas.Bool.{false_from_ne_true, cases_Bool, cases_eq, cases_lt, cases_order, both_ways, true_from_ne_false, lt-leb, or_cases, or_parts}
 use Rattle.permutations.specs.Count.{least}
 use Rattle.permutations.specs.Permutation.{Permutes, same_orbit, iterate}
 use Rattle.permutations.specs.Exchange.{unlink, taken_out, restricted}
@@ -8,7 +8,7 @@ use Rattle.permutations.proofs.Search.{least-is}
 use Rattle.permutations.proofs.Relation.{same-tests}
 use Rattle.permutations.proofs.Permutations.{permutes-inverse, permutes-ext, permutes-one-to-one}
 use Rattle.permutations.proofs.Orbits.{orbit-ext}
-use Rattle.permutations.proofs.Iterates.{iterate-sum, iterate-below, period}
+use Rattle.permutations.proofs.Iterates.{iterate-first, iterate-more, iterate-sum, iterate-below, period}
 use Rattle.permutations.proofs.Unlinking.{unlink-cases}
 use Rattle.permutations.proofs.TakenOut.{taken-out-one, taken-out-none, taken-out-permutes, taken-out-alone, taken-out-orbit}
 
@@ -161,3 +161,44 @@ restricted-next n keep f g b x l h k = goes-restricted n keep f g b x l h (f x) 
 -- numbers that pass are in one orbit of the restriction exactly where they were in one orbit
 pub restricted-orbit : (n : ℕ) (keep : ℕ → Bool) (f g : ℕ → ℕ) → Permutes n f g → (x y : ℕ) → keep x ≡ true → keep y ≡ true → same_orbit n (restricted n keep f) x y ≡ same_orbit n f x y
 restricted-orbit n keep f g b x y h k = orbit-ext n (restricted n keep f) (taken_out keep n f) (restricted-taken-out n keep f g b) x y ∙ taken-out-orbit n keep f g b x y h k n (omega arith)
+
+-- a walk to z, which fails the test, all between failing too, and a walk from z on
+goes-join : (keep : ℕ → Bool) (f : ℕ → ℕ) (x z y k : ℕ) → z ≡ iterate f (suc k) x → ((i : ℕ) → i < k → keep (iterate f (suc i) x) ≡ false) → keep z ≡ false → GoesOn keep f z y → GoesOn keep f x y
+goes-join keep f x z y k e none gone w = (suc (w.0) + k, w.1 ∙ ap (iterate f (suc (w.0))) e ∙ sym (iterate-sum f (suc (w.0)) (suc k) x) ∙ ap (λ (j : ℕ). iterate f j x) s, w.2, between)
+  where
+    s : suc (w.0) + suc k ≡ suc (suc (w.0) + k)
+    s = omega arith
+
+    later : (i : ℕ) → i < w.0 → keep (iterate f (suc i + suc k) x) ≡ false
+    later i l = subst (λ (v : ℕ). keep v ≡ false) (ap (iterate f (suc i)) e ∙ sym (iterate-sum f (suc i) (suc k) x)) (w.3 i l)
+
+    between : (i : ℕ) → i < suc (w.0) + k → keep (iterate f (suc i) x) ≡ false
+    between i l = elim (cases_order i k) [
+      | inl q ↦ subst (λ (v : ℕ). keep v ≡ false) (e ∙ ap (λ (j : ℕ). iterate f (suc j) x) (sym q)) gone
+      | inr r ↦ elim r [
+        | inl q ↦ none i q
+        | inr q ↦ let t : suc (i - suc k) + suc k ≡ suc i = omega arith in subst (λ (j : ℕ). keep (iterate f j x) ≡ false) t (later (i - suc k) (omega arith))
+      ]
+    ]
+
+-- a walk in the restriction to more numbers is a walk
+goes-through : (n : ℕ) (more keep : ℕ → Bool) (f g : ℕ → ℕ) → Permutes n f g → ((z : ℕ) → keep z ≡ true → more z ≡ true) → (j x : ℕ) → x < n → more x ≡ true → ((i : ℕ) → i < j → keep (iterate (restricted n more f) (suc i) x) ≡ false) → keep (iterate (restricted n more f) (suc j) x) ≡ true → GoesOn keep f x (iterate (restricted n more f) (suc j) x)
+goes-through n more keep f g b sub zero x l m none here = let w = restricted-goes n more f g b x l m in (w.0, w.1, here, λ i k. false_from_ne_true (keep (iterate f (suc i) x)) (λ t. both_ways (more (iterate f (suc i) x)) (w.3 i k) (sub (iterate f (suc i) x) t)))
+goes-through n more keep f g b sub (suc j) x l m none here = let w = restricted-goes n more f g b x l m in
+    let first : (k : ℕ) → iterate (restricted n more f) (suc k) x ≡ iterate (restricted n more f) k (restricted n more f x) = λ k. sym (iterate-more (restricted n more f) k x) ∙ iterate-first (restricted n more f) k x in
+    let step : (k : ℕ) → iterate (restricted n more f) (suc (suc k)) x ≡ iterate (restricted n more f) (suc k) (restricted n more f x) = λ k. ap (restricted n more f) (first k) in
+    goes-join keep f x (restricted n more f x) (iterate (restricted n more f) (suc (suc j)) x) (w.0) (w.1)
+    (λ i k. false_from_ne_true (keep (iterate f (suc i) x)) (λ t. both_ways (more (iterate f (suc i) x)) (w.3 i k) (sub (iterate f (suc i) x) t)))
+    (none 0 (omega arith))
+    (subst (GoesOn keep f (restricted n more f x)) (sym (step j))
+    (goes-through n more keep f g b sub j (restricted n more f x) ((restricted-permutes n more f g b).forth x l) (w.2)
+    (λ i k. ap keep (sym (step i)) ∙ none (suc i) (omega arith)) (ap keep (sym (step j)) ∙ here)))
+
+-- a restriction restricted further is the restriction to fewer
+pub restricted-twice : (n : ℕ) (more keep : ℕ → Bool) (f g : ℕ → ℕ) → Permutes n f g → ((z : ℕ) → keep z ≡ true → more z ≡ true) → (x : ℕ) → x < n → restricted n keep (restricted n more f) x ≡ restricted n keep f x
+restricted-twice n more keep f g b sub x l = elim (cases_Bool (keep x)) [
+  | inl t ↦ let w = restricted-goes n keep (restricted n more f) (restricted n more g) (restricted-permutes n more f g b) x l t in
+      sym (goes-restricted n keep f g b x l t (restricted n keep (restricted n more f) x)
+      (subst (GoesOn keep f x) (sym (w.1)) (goes-through n more keep f g b sub (w.0) x l (sub x t) (w.3) (ap keep (sym (w.1)) ∙ w.2))))
+  | inr u ↦ restricted-alone n keep (restricted n more f) x u ∙ sym (restricted-alone n keep f x u)
+]
