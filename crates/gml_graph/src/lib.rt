@@ -22,3 +22,6 @@ mod reading;
 
 pub use fault::GraphFault;
 pub use named::{Named, graph_of};
+
+#[cfg(test)]
+mod tests;
