@@ -1,68 +1,21 @@
 -- Turning over a part of a map that meets the rest at two vertices keeps vertices, components and the number of faces.
-use Rattle.std.proofs.Common.{◌≡◌, ℕ, ◌+◌, ◌*◌, ◌<◌, inl, inr, Bool, true, false, ◌&&◌, ◌||◌, sym, ap, ap₂, ◌∙◌, subst, subst₂, le_of_eq, arith}
-use Rattle.std.proofs.lemmas.Bool.{cases_Bool, cases_eq, both_ways, false_from_ne_true}
+use Rattle.std.proofs.Common.{◌≡◌, ℕ, ◌*◌, ◌<◌, inl, inr, Bool, true, false, ◌&&◌, sym, ap, ap₂, ◌∙◌, subst, subst₂, le_of_eq, arith}
+use Rattle.std.proofs.lemmas.Bool.{cases_Bool, cases_eq, both_ways}
 use Rattle.permutations.specs.Relation.{IsEquivalence}
-use Rattle.permutations.specs.Permutation.{Permutes, same_orbit, orbit_count}
-use Rattle.permutations.specs.Exchange.{swapped, exchange}
+use Rattle.permutations.specs.Permutation.{Permutes, orbit_count}
+use Rattle.permutations.specs.Exchange.{exchange}
 use Rattle.permutations.proofs.Relation.{same-tests}
 use Rattle.permutations.proofs.Classes.{class_count-ext}
-use Rattle.permutations.proofs.Permutations.{permutes-one-to-one, exchange-permutes, exchange-left, exchange-right, exchange-other, exchange-twice}
-use Rattle.permutations.proofs.Orbits.{orbit-least, orbit-equivalence, orbit-step, orbit-test, orbit-count-ext}
-use Rattle.permutations.proofs.Transpositions.{exchange-join, exchange-count-join, exchange-count-split}
+use Rattle.permutations.proofs.Permutations.{permutes-one-to-one, exchange-left, exchange-right, exchange-other, exchange-twice}
+use Rattle.permutations.proofs.Orbits.{orbit-least, orbit-equivalence, orbit-step, orbit-count-ext}
 use Rattle.dart_maps.specs.Map.{twin, face, IsMap, same_vertex, same_face, same_component, vertex_count, face_count, SameDefect}
 use Rattle.dart_maps.proofs.Darts.{twin-twin, twin-below, face-permutes, face-exchange, face-twin}
 use Rattle.dart_maps.proofs.Components.{vertex-component, component-finer}
 use Rattle.permutations.proofs.Classes.{class_count-same}
 use Rattle.dart_maps.specs.Flip.{IsRun, IsFlip}
 use Rattle.dart_maps.proofs.Steps.{back_after, step-map}
+use Rattle.dart_maps.proofs.FlipCounts.{orbit-shift, count-exchange-together, count-exchange-apart, count-exchange-both}
 use Rattle.dart_maps.proofs.TurnOver.{turned_over, turned-keeps, turned-outside, turned-inside, turned-permutes, turned-orbit, crossed, crossed-inside, crossed-outside, turned-face, turned-faces, turned-vertices}
-
--- images are in one orbit where the numbers are
-pub orbit-shift : (n : ℕ) (s : ℕ → ℕ) (x y : ℕ) → x < n → y < n → same_orbit n s (s x) (s y) ≡ same_orbit n s x y
-orbit-shift n s x y l k = same-tests (same_orbit n s (s x) (s y)) (same_orbit n s x y)
-    (λ h. e.transitive x (s x) y (orbit-step n s x l) (e.transitive (s x) (s y) y h (e.symmetric y (s y) (orbit-step n s y k))))
-    (λ h. e.transitive (s x) x (s y) (e.symmetric x (s x) (orbit-step n s x l)) (e.transitive x y (s y) h (orbit-step n s y k)))
-  where
-    e : IsEquivalence (same_orbit n s)
-    e = orbit-equivalence n s
-
--- numbers of which one passes and one fails a test that the steps keep
-pub test-apart : (n : ℕ) (s : ℕ → ℕ) (t : ℕ → Bool) → ((d : ℕ) → d < n → t (s d) ≡ t d) → (x y : ℕ) → t x ≡ true → t y ≡ false → same_orbit n s x y ≡ false
-test-apart n s t keep x y a c = false_from_ne_true (same_orbit n s x y) (λ h. both_ways (t y) c (sym (orbit-test n s t keep x y h) ∙ a))
-
--- a permutation whose steps keep a test, u and p that pass it, v and q that fail it
-module _ (n : ℕ) (s r : ℕ → ℕ) (b : Permutes n s r) (t : ℕ → Bool) (keep : (d : ℕ) → d < n → t (s d) ≡ t d) (u v p q : ℕ) (lu : u < n) (lv : v < n) (lp : p < n) (lq : q < n) (tu : t u ≡ true) (tv : t v ≡ false) (tp : t p ≡ true) (tq : t q ≡ false) where
-  -- one exchange makes one orbit fewer
-  pub count-exchange-once : orbit_count n (exchange u v s) + 1 ≡ orbit_count n s
-  count-exchange-once = exchange-count-join n s r b u v lu lv (test-apart n s t keep u v tu tv)
-
-  -- after it the other two are in one orbit where the insides are and the outsides are
-  once-together : same_orbit n (exchange u v s) p q ≡ (same_orbit n s u p && same_orbit n s v q)
-  once-together = exchange-join n s r b u v lu lv (test-apart n s t keep u v tu tv) p q
-      ∙ join-value (same_orbit n s p q) (same_orbit n s p u) (same_orbit n s v q) (same_orbit n s p v) (same_orbit n s u q) (same_orbit n s u p)
-      (test-apart n s t keep p q tp tq) (test-apart n s t keep p v tp tv) (same-tests (same_orbit n s p u) (same_orbit n s u p) ((orbit-equivalence n s).symmetric p u) ((orbit-equivalence n s).symmetric u p))
-    where
-      join-value : (i j k l w o : Bool) → i ≡ false → l ≡ false → j ≡ o → (i || ((j && k) || (l && w))) ≡ (o && k)
-      join-value i j k l w o a c e = grind (arith, cases_Bool j, cases_Bool k)
-
-  -- the map after the first exchange
-  once-permutes : Permutes n (exchange u v s) (λ w. swapped u v (r w))
-  once-permutes = exchange-permutes n u v s r lu lv b
-
-  -- both in one orbit: the second exchange makes one more
-  pub count-exchange-together : (same_orbit n s u p && same_orbit n s v q) ≡ true → orbit_count n (exchange p q (exchange u v s)) ≡ orbit_count n s
-  count-exchange-together h = exchange-count-split n (exchange u v s) (λ w. swapped u v (r w)) once-permutes p q lp lq (λ i. both_ways (t q) tq (subst (λ (z : ℕ). t z ≡ true) i tp)) (once-together ∙ h) ∙ count-exchange-once
-
-  -- else one fewer
-  pub count-exchange-apart : (same_orbit n s u p && same_orbit n s v q) ≡ false → orbit_count n (exchange p q (exchange u v s)) + 2 ≡ orbit_count n s
-  count-exchange-apart h = omega (arith, exchange-count-join n (exchange u v s) (λ w. swapped u v (r w)) once-permutes p q lp lq (once-together ∙ h), count-exchange-once)
-
--- what the two counts are together
-count-exchange-both : (k : Bool) (c d o w : ℕ) → (k ≡ true → c ≡ o) → (k ≡ false → c + 2 ≡ o) → (k ≡ true → d ≡ w) → (k ≡ false → d + 2 ≡ w) → o ≡ w → c ≡ d
-count-exchange-both k c d o w a e i j h = elim (cases_Bool k) [
-  | inl x ↦ a x ∙ h ∙ sym (i x)
-  | inr x ↦ let y : c + 2 ≡ o = e x in let z : d + 2 ≡ w = j x in omega arith
-]
 
 -- a map, a part of it, and the map with the part turned over
 module _ (m : ℕ) (f g h : ℕ → ℕ) (e : IsMap m f g) (t : ℕ → Bool) (a b p q : ℕ) (z : IsFlip m f h t a b p q) where
@@ -70,6 +23,7 @@ module _ (m : ℕ) (f g h : ℕ → ℕ) (e : IsMap m f g) (t : ℕ → Bool) (a
   abbrev x : IsRun m f t a b
   x = z.first_run
 
+  -- the second run
   abbrev y : IsRun m f t p q
   y = z.second_run
 
@@ -81,9 +35,11 @@ module _ (m : ℕ) (f g h : ℕ → ℕ) (e : IsMap m f g) (t : ℕ → Bool) (a
   v : IsEquivalence (same_vertex m f)
   v = orbit-equivalence (2 * m) f
 
+  -- so their last darts are different
   ap-differ : a ≡ p → ⊥
   ap-differ k = both_ways (same_vertex m f a p) (z.two_vertices) (subst (λ (w : ℕ). same_vertex m f a w ≡ true) k (v.reflexive a))
 
+  -- and the darts before them
   bq-differ : b ≡ q → ⊥
   bq-differ k = both_ways (same_vertex m f a p) (z.two_vertices) (v.transitive a b p (x.one_vertex) (subst (λ (w : ℕ). same_vertex m f w p ≡ true) (sym k) (v.symmetric p q (y.one_vertex))))
 
@@ -91,6 +47,7 @@ module _ (m : ℕ) (f g h : ℕ → ℕ) (e : IsMap m f g) (t : ℕ → Bool) (a
   abbrev cut : ℕ → ℕ
   cut = exchange a b (exchange p q f)
 
+  -- its inverse
   abbrev cut_back : ℕ → ℕ
   cut_back = back_after a b (back_after p q g)
 
@@ -102,12 +59,15 @@ module _ (m : ℕ) (f g h : ℕ → ℕ) (e : IsMap m f g) (t : ℕ → Bool) (a
   cut-a : cut a ≡ f b
   cut-a = exchange-left a b (exchange p q f) ∙ exchange-other p q f b (λ k. inside-outside p b (y.last_inside) (x.before_outside) (sym k)) bq-differ
 
+  -- at the dart before the first run
   cut-b : cut b ≡ f a
   cut-b = exchange-right a b (exchange p q f) ∙ exchange-other p q f a ap-differ (inside-outside a q (x.last_inside) (y.before_outside))
 
+  -- at the last dart of the second run
   cut-p : cut p ≡ f q
   cut-p = exchange-other a b (exchange p q f) p (λ k. ap-differ (sym k)) (inside-outside p b (y.last_inside) (x.before_outside)) ∙ exchange-left p q f
 
+  -- at the dart before it
   cut-q : cut q ≡ f p
   cut-q = exchange-other a b (exchange p q f) q (λ k. inside-outside a q (x.last_inside) (y.before_outside) (sym k)) (λ k. bq-differ (sym k)) ∙ exchange-right p q f
 
@@ -135,6 +95,7 @@ module _ (m : ℕ) (f g h : ℕ → ℕ) (e : IsMap m f g) (t : ℕ → Bool) (a
   abbrev over : ℕ → ℕ
   over = turned_over t (exchange a b (exchange p q f)) (back_after a b (back_after p q g))
 
+  -- its inverse
   abbrev over_back : ℕ → ℕ
   over_back = turned_over t (back_after a b (back_after p q g)) (exchange a b (exchange p q f))
 
@@ -142,6 +103,7 @@ module _ (m : ℕ) (f g h : ℕ → ℕ) (e : IsMap m f g) (t : ℕ → Bool) (a
   over-map : IsMap m over over_back
   over-map = turned-permutes (2 * m) cut cut_back cut-map t cut-keeps
 
+  -- its steps keep the part
   over-keeps : (d : ℕ) → d < 2 * m → t (over d) ≡ t d
   over-keeps = turned-keeps (2 * m) cut cut_back cut-map t cut-keeps
 
@@ -149,6 +111,7 @@ module _ (m : ℕ) (f g h : ℕ → ℕ) (e : IsMap m f g) (t : ℕ → Bool) (a
   first-x : f b < 2 * m
   first-x = e.forth b (x.dart_before)
 
+  -- of the second run
   first-y : f q < 2 * m
   first-y = e.forth q (y.dart_before)
 
@@ -156,12 +119,15 @@ module _ (m : ℕ) (f g h : ℕ → ℕ) (e : IsMap m f g) (t : ℕ → Bool) (a
   over-first-x : over (f b) ≡ a
   over-first-x = turned-inside t cut cut_back (f b) (x.enters) ∙ ap cut_back (sym cut-a) ∙ cut-map.back_forth a (x.last_dart)
 
+  -- at the first dart of the second run
   over-first-y : over (f q) ≡ p
   over-first-y = turned-inside t cut cut_back (f q) (y.enters) ∙ ap cut_back (sym cut-p) ∙ cut-map.back_forth p (y.last_dart)
 
+  -- at the dart before the first run
   over-b : over b ≡ f a
   over-b = turned-outside t cut cut_back b (x.before_outside) ∙ cut-b
 
+  -- at the dart before the second run
   over-q : over q ≡ f p
   over-q = turned-outside t cut cut_back q (y.before_outside) ∙ cut-q
 
@@ -175,6 +141,7 @@ module _ (m : ℕ) (f g h : ℕ → ℕ) (e : IsMap m f g) (t : ℕ → Bool) (a
 
   -- the dart before an inner dart of a run
   module _ (d : ℕ) (l : d < 2 * m) (i : d ≡ f b → ⊥) (j : d ≡ f q → ⊥) (k : t d ≡ true) where
+    -- the step from it leads to the dart
     there : f (g d) ≡ d
     there = e.forth_back d l
 
@@ -182,12 +149,15 @@ module _ (m : ℕ) (f g h : ℕ → ℕ) (e : IsMap m f g) (t : ℕ → Bool) (a
     na : g d ≡ a → ⊥
     na s = inside-outside d (f a) k (x.leaves) (sym there ∙ ap f s)
 
+    -- nor the dart before the first run
     nb : g d ≡ b → ⊥
     nb s = i (sym there ∙ ap f s)
 
+    -- nor the last dart of the second
     np : g d ≡ p → ⊥
     np s = inside-outside d (f p) k (y.leaves) (sym there ∙ ap f s)
 
+    -- nor the dart before that
     nq : g d ≡ q → ⊥
     nq s = j (sym there ∙ ap f s)
 
@@ -260,6 +230,7 @@ module _ (m : ℕ) (f g h : ℕ → ℕ) (e : IsMap m f g) (t : ℕ → Bool) (a
   cut-faces : Permutes (2 * m) (face cut) (λ d. twin (cut_back d))
   cut-faces = face-permutes m cut cut_back cut-map
 
+  -- and those of the map turned over
   over-faces : Permutes (2 * m) (face over) (λ d. twin (over_back d))
   over-faces = face-permutes m over over_back over-map
 
@@ -267,6 +238,7 @@ module _ (m : ℕ) (f g h : ℕ → ℕ) (e : IsMap m f g) (t : ℕ → Bool) (a
   cut-faces-keep : (d : ℕ) → d < 2 * m → t (face cut d) ≡ t d
   cut-faces-keep d l = cut-keeps (twin d) (twin-below m d l) ∙ z.whole_edges d l
 
+  -- the second of them
   over-faces-keep : (d : ℕ) → d < 2 * m → t (face over d) ≡ t d
   over-faces-keep d l = over-keeps (twin d) (twin-below m d l) ∙ z.whole_edges d l
 
@@ -274,6 +246,7 @@ module _ (m : ℕ) (f g h : ℕ → ℕ) (e : IsMap m f g) (t : ℕ → Bool) (a
   uncut-faces : exchange (twin p) (twin q) (exchange (twin a) (twin b) (face cut)) ≡ face f
   uncut-faces = ap (exchange (twin p) (twin q)) (sym (face-exchange a b cut)) ∙ sym (face-exchange p q (exchange a b cut)) ∙ ap face uncut
 
+  -- those of the flipped map
   again-faces : exchange (twin (f q)) (twin q) (exchange (twin (f b)) (twin b) (face over)) ≡ face again
   again-faces = ap (exchange (twin (f q)) (twin q)) (sym (face-exchange (f b) b over)) ∙ sym (face-exchange (f q) q (exchange (f b) b over))
 

@@ -16,7 +16,7 @@ use Rattle.permutations.proofs.Classes.{class_count-same}
 use Rattle.dart_maps.specs.Flip.{IsRun, IsFlipAtOne, IsFlipAlone}
 use Rattle.dart_maps.proofs.Steps.{back_after, step-map, faces-joined}
 use Rattle.dart_maps.proofs.TurnOver.{turned_over, turned-keeps, turned-outside, turned-inside, turned-permutes, turned-orbit, turned-faces, turned-vertices}
-use Rattle.dart_maps.proofs.Flip.{test-apart}
+use Rattle.dart_maps.proofs.FlipCounts.{test-apart}
 
 -- a map and the map with whole components turned over
 module _ (m : ℕ) (f g h : ℕ → ℕ) (e : IsMap m f g) (t : ℕ → Bool) (z : IsFlipAlone m f h t) where
@@ -63,6 +63,7 @@ module _ (m : ℕ) (f g h : ℕ → ℕ) (e : IsMap m f g) (t : ℕ → Bool) (a
   abbrev cut : ℕ → ℕ
   cut = exchange a b f
 
+  -- its inverse
   abbrev cut_back : ℕ → ℕ
   cut_back = back_after a b g
 
@@ -84,6 +85,7 @@ module _ (m : ℕ) (f g h : ℕ → ℕ) (e : IsMap m f g) (t : ℕ → Bool) (a
   abbrev over : ℕ → ℕ
   over = turned_over t (exchange a b f) (back_after a b g)
 
+  -- its inverse
   abbrev over_back : ℕ → ℕ
   over_back = turned_over t (back_after a b g) (exchange a b f)
 
@@ -91,6 +93,7 @@ module _ (m : ℕ) (f g h : ℕ → ℕ) (e : IsMap m f g) (t : ℕ → Bool) (a
   over-map : IsMap m over over_back
   over-map = turned-permutes (2 * m) cut cut_back cut-map t cut-keeps
 
+  -- its steps keep the part
   over-keeps : (d : ℕ) → d < 2 * m → t (over d) ≡ t d
   over-keeps = turned-keeps (2 * m) cut cut_back cut-map t cut-keeps
 
@@ -102,11 +105,13 @@ module _ (m : ℕ) (f g h : ℕ → ℕ) (e : IsMap m f g) (t : ℕ → Bool) (a
   over-first : over (f b) ≡ a
   over-first = turned-inside t cut cut_back (f b) (x.enters) ∙ ap cut_back (sym (exchange-left a b f)) ∙ cut-map.back_forth a (x.last_dart)
 
+  -- at the dart before the run
   over-b : over b ≡ f a
   over-b = turned-outside t cut cut_back b (x.before_outside) ∙ exchange-right a b f
 
   -- the dart before an inner dart of the run
   module _ (d : ℕ) (l : d < 2 * m) (i : d ≡ f b → ⊥) (k : t d ≡ true) where
+    -- the step from it leads to the dart
     there : f (g d) ≡ d
     there = e.forth_back d l
 
@@ -114,6 +119,7 @@ module _ (m : ℕ) (f g h : ℕ → ℕ) (e : IsMap m f g) (t : ℕ → Bool) (a
     na : g d ≡ a → ⊥
     na s = inside-outside d (f a) k (x.leaves) (sym there ∙ ap f s)
 
+    -- nor is it b
     nb : g d ≡ b → ⊥
     nb s = i (sym there ∙ ap f s)
 

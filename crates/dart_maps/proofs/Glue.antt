@@ -31,6 +31,7 @@ module _ (m : ℕ) (f g : ℕ → ℕ) (b : IsMap m f g) (d e : ℕ) (ld : d < 2
   abbrev p : ℕ
   p = g (twin d)
 
+  -- and the other
   abbrev q : ℕ
   q = g (twin e)
 
@@ -38,6 +39,7 @@ module _ (m : ℕ) (f g : ℕ → ℕ) (b : IsMap m f g) (d e : ℕ) (ld : d < 2
   lp : g (twin d) < 2 * m
   lp = b.back (twin d) (twin-below m d ld)
 
+  -- both of them
   lq : g (twin e) < 2 * m
   lq = b.back (twin e) (twin-below m e le)
 
@@ -45,6 +47,7 @@ module _ (m : ℕ) (f g : ℕ → ℕ) (b : IsMap m f g) (d e : ℕ) (ld : d < 2
   fp : f p ≡ twin d
   fp = b.forth_back (twin d) (twin-below m d ld)
 
+  -- the second twin
   fq : f q ≡ twin e
   fq = b.forth_back (twin e) (twin-below m e le)
 
@@ -52,6 +55,7 @@ module _ (m : ℕ) (f g : ℕ → ℕ) (b : IsMap m f g) (d e : ℕ) (ld : d < 2
   c : IsEquivalence (same_component m f)
   c = component-equivalence m f
 
+  -- the relation of vertices
   v : IsEquivalence (same_vertex m f)
   v = orbit-equivalence (2 * m) f
 
@@ -59,6 +63,7 @@ module _ (m : ℕ) (f g : ℕ → ℕ) (b : IsMap m f g) (d e : ℕ) (ld : d < 2
   near_d : ℕ → Type 0
   near_d x = same_component m f d x ≡ true
 
+  -- on the side of e
   near_e : ℕ → Type 0
   near_e x = same_component m f e x ≡ true
 
@@ -70,9 +75,11 @@ module _ (m : ℕ) (f g : ℕ → ℕ) (b : IsMap m f g) (d e : ℕ) (ld : d < 2
   side-d : same_component m f d d ≡ true
   side-d = c.reflexive d
 
+  -- its twin
   side-t : same_component m f d (twin d) ≡ true
   side-t = component-twin m f d ld
 
+  -- the dart before the twin
   side-p : same_component m f d (g (twin d)) ≡ true
   side-p = c.transitive d (twin d) (g (twin d)) side-t (c.symmetric (g (twin d)) (twin d) (vertex-component m f (g (twin d)) (twin d) (before-orbit (2 * m) (twin d) f g b (twin-below m d ld))))
 
@@ -80,9 +87,11 @@ module _ (m : ℕ) (f g : ℕ → ℕ) (b : IsMap m f g) (d e : ℕ) (ld : d < 2
   side-e : same_component m f e e ≡ true
   side-e = c.reflexive e
 
+  -- its twin
   side-w : same_component m f e (twin e) ≡ true
   side-w = component-twin m f e le
 
+  -- the dart before the twin
   side-q : same_component m f e (g (twin e)) ≡ true
   side-q = c.transitive e (twin e) (g (twin e)) side-w (c.symmetric (g (twin e)) (twin e) (vertex-component m f (g (twin e)) (twin e) (before-orbit (2 * m) (twin e) f g b (twin-below m e le))))
 
@@ -90,6 +99,7 @@ module _ (m : ℕ) (f g : ℕ → ℕ) (b : IsMap m f g) (d e : ℕ) (ld : d < 2
   pd : g (twin d) ≡ d → ⊥
   pd i = both_ways (same_vertex m f d (twin d)) vd (subst (λ (z : ℕ). same_vertex m f z (twin d) ≡ true) i (before-orbit (2 * m) (twin d) f g b (twin-below m d ld)))
 
+  -- the same of e
   qe : g (twin e) ≡ e → ⊥
   qe i = both_ways (same_vertex m f e (twin e)) ve (subst (λ (z : ℕ). same_vertex m f z (twin e) ≡ true) i (before-orbit (2 * m) (twin e) f g b (twin-below m e le)))
 
@@ -97,6 +107,7 @@ module _ (m : ℕ) (f g : ℕ → ℕ) (b : IsMap m f g) (d e : ℕ) (ld : d < 2
   pt : g (twin d) ≡ twin d → ⊥
   pt i = nt (ap f (sym i) ∙ fp)
 
+  -- the same of e
   qw : g (twin e) ≡ twin e → ⊥
   qw i = nw (ap f (sym i) ∙ fq)
 
@@ -135,6 +146,7 @@ module _ (m : ℕ) (f g : ℕ → ℕ) (b : IsMap m f g) (d e : ℕ) (ld : d < 2
   once-p : exchange d e f (g (twin d)) ≡ twin d
   once-p = exchange-other d e f p pd (sides p e side-p side-e) ∙ fp
 
+  -- the same of q
   once-q : exchange d e f (g (twin e)) ≡ twin e
   once-q = exchange-other d e f q (λ i. sides d q side-d side-q (sym i)) qe ∙ fq
 
@@ -161,6 +173,7 @@ module _ (m : ℕ) (f g : ℕ → ℕ) (b : IsMap m f g) (d e : ℕ) (ld : d < 2
   twice-p : twice p ≡ twin e
   twice-p = exchange-left p q once ∙ once-q
 
+  -- the same of q
   twice-q : twice q ≡ twin d
   twice-q = exchange-right p q once ∙ once-p
 
@@ -168,12 +181,15 @@ module _ (m : ℕ) (f g : ℕ → ℕ) (b : IsMap m f g) (d e : ℕ) (ld : d < 2
   twice-d : twice d ≡ f e
   twice-d = exchange-other p q once d (λ i. pd (sym i)) (sides d q side-d side-q) ∙ exchange-left d e f
 
+  -- at e
   twice-e : twice e ≡ f d
   twice-e = exchange-other p q once e (λ i. sides p e side-p side-e (sym i)) (λ i. qe (sym i)) ∙ exchange-right d e f
 
+  -- at d's twin
   twice-t : twice (twin d) ≡ f (twin d)
   twice-t = exchange-other p q once (twin d) (λ i. pt (sym i)) (sides (twin d) q side-t side-q) ∙ exchange-other d e f (twin d) (twin-other d) (sides (twin d) e side-t side-e)
 
+  -- at e's twin
   twice-w : twice (twin e) ≡ f (twin e)
   twice-w = exchange-other p q once (twin e) (λ i. sides p (twin e) side-p side-w (sym i)) (λ i. qw (sym i)) ∙ exchange-other d e f (twin e) (λ i. sides d (twin e) side-d side-w (sym i)) (twin-other e)
 
@@ -200,18 +216,21 @@ module _ (m : ℕ) (f g : ℕ → ℕ) (b : IsMap m f g) (d e : ℕ) (ld : d < 2
       near : same_component m f d (f d) ≡ true
       near = component-next m f d ld
 
+  -- what follows e
   after-e : keep (f e) ≡ true
   after-e = kept (f e) (four-not d (twin d) e (twin e) (f e) (λ i. sides d (f e) side-d near (sym i)) (λ i. sides (twin d) (f e) side-t near (sym i)) ne (λ i. both_ways (same_vertex m f e (twin e)) ve (subst (λ (z : ℕ). same_vertex m f e z ≡ true) i (orbit-step (2 * m) f e le))))
     where
       near : same_component m f e (f e) ≡ true
       near = component-next m f e le
 
+  -- what follows d's twin
   after-t : keep (f (twin d)) ≡ true
   after-t = kept (f (twin d)) (four-not d (twin d) e (twin e) (f (twin d)) (λ i. both_ways (same_vertex m f d (twin d)) vd (v.symmetric (twin d) d (subst (λ (z : ℕ). same_vertex m f (twin d) z ≡ true) i (orbit-step (2 * m) f (twin d) (twin-below m d ld))))) nt (sides (f (twin d)) e near side-e) (sides (f (twin d)) (twin e) near side-w))
     where
       near : same_component m f d (f (twin d)) ≡ true
       near = c.transitive d (twin d) (f (twin d)) side-t (component-next m f (twin d) (twin-below m d ld))
 
+  -- what follows e's twin
   after-w : keep (f (twin e)) ≡ true
   after-w = kept (f (twin e)) (four-not d (twin d) e (twin e) (f (twin e)) (λ i. sides d (f (twin e)) side-d near (sym i)) (λ i. sides (twin d) (f (twin e)) side-t near (sym i)) (λ i. both_ways (same_vertex m f e (twin e)) ve (v.symmetric (twin e) e (subst (λ (z : ℕ). same_vertex m f (twin e) z ≡ true) i (orbit-step (2 * m) f (twin e) (twin-below m e le))))) nw)
     where
@@ -230,6 +249,7 @@ module _ (m : ℕ) (f g : ℕ → ℕ) (b : IsMap m f g) (d e : ℕ) (ld : d < 2
   not-p : (x : ℕ) → x < 2 * m → (f x ≡ twin d → ⊥) → x ≡ p → ⊥
   not-p x l h i = h (ap f i ∙ fp)
 
+  -- the same of q
   not-q : (x : ℕ) → x < 2 * m → (f x ≡ twin e → ⊥) → x ≡ q → ⊥
   not-q x l h i = h (ap f i ∙ fq)
 

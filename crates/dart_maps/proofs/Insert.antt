@@ -64,7 +64,7 @@ module _ (m : ℕ) (f g : ℕ → ℕ) (b : IsMap m f g) (d : ℕ) (l : d < 2 * 
       (let e = orbit-equivalence (2 * m) (face (exchange p d f)) in e.transitive (twin q) (twin p) d (e.symmetric (twin p) (twin q) (old-faces (twin p) (twin q) w)) passes)))
 
   -- the corners of different faces: in the map with the first dart put in they are still apart
-  still-apart : same_face m f (twin p) (twin q) ≡ false → same_face m (exchange p d f) (twin q) (twin (twin d)) ≡ false
+  pub still-apart : same_face m f (twin p) (twin q) ≡ false → same_face m (exchange p d f) (twin q) (twin (twin d)) ≡ false
   still-apart w = false_from_ne_true (same_face m (exchange p d f) (twin q) (twin (twin d))) (λ t. elim (join-cases (same_face m f) (twin p) (twin d) (twin q) d (sym (face-join m f g b p d k l faces-apart (twin q) d) ∙ subst (λ (z : ℕ). same_face m (exchange p d f) (twin q) z ≡ true) (twin-twin d) t)) [
     | inl h ↦ both_ways (same_component m f q d) other (c.transitive q (twin q) d (component-twin m f q i) (face-component m f (twin q) d h))
     | inr r ↦ elim r [
@@ -79,9 +79,9 @@ module _ (m : ℕ) (f g : ℕ → ℕ) (b : IsMap m f g) (d : ℕ) (l : d < 2 * 
       other : same_component m f q d ≡ false
       other = dead-edge-apart m f g b d l alone twin-alone q qd qt
 
-  -- a new edge between corners of different faces of one component raises the defect by two
-  pub insert-across : same_component m f p q ≡ true → same_face m f (twin p) (twin q) ≡ false → vertex_count m f + face_count m f + 2 * component_count m (inserted d p q f) ≡ vertex_count m (inserted d p q f) + face_count m (inserted d p q f) + 2 * component_count m f + 2
-  insert-across h w = let s = merge-within-defect m (exchange p d f) (back_after p d g) first-map q (twin d) i (twin-below m d l) together vertices-apart (still-apart w) in omega (arith, s, first-defect)
+  -- corners of one component are still connected when the first dart is put in
+  pub still-together : same_component m f p q ≡ true → same_component m (exchange p d f) q (twin d) ≡ true
+  still-together h = c.transitive q p (twin d) (component-merge m f g b p d k l link q p ∙ join-old (same_component m f) p d q p ((component-equivalence m f).symmetric p q h)) (c.transitive p d (twin d) link (component-twin m (exchange p d f) d l))
     where
       c : IsEquivalence (same_component m (exchange p d f))
       c = component-equivalence m (exchange p d f)
@@ -89,8 +89,9 @@ module _ (m : ℕ) (f g : ℕ → ℕ) (b : IsMap m f g) (d : ℕ) (l : d < 2 * 
       link : same_component m (exchange p d f) p d ≡ true
       link = vertex-component m (exchange p d f) p d (exchange-joins (2 * m) f g b p d k l (false_from_ne_true (same_vertex m f p d) (λ t. both_ways (same_component m f p d) apart (vertex-component m f p d t))))
 
-      together : same_component m (exchange p d f) q (twin d) ≡ true
-      together = c.transitive q p (twin d) (component-merge m f g b p d k l link q p ∙ join-old (same_component m f) p d q p ((component-equivalence m f).symmetric p q h)) (c.transitive p d (twin d) link (component-twin m (exchange p d f) d l))
+  -- a new edge between corners of different faces of one component raises the defect by two
+  pub insert-across : same_component m f p q ≡ true → same_face m f (twin p) (twin q) ≡ false → vertex_count m f + face_count m f + 2 * component_count m (inserted d p q f) ≡ vertex_count m (inserted d p q f) + face_count m (inserted d p q f) + 2 * component_count m f + 2
+  insert-across h w = let s = merge-within-defect m (exchange p d f) (back_after p d g) first-map q (twin d) i (twin-below m d l) (still-together h) vertices-apart (still-apart w) in omega (arith, s, first-defect)
 
   -- the new edge's two darts lie on different faces: the face has fallen in two
   pub insert-parts : same_face m f (twin p) (twin q) ≡ true → same_face m (inserted d p q f) d (twin d) ≡ false

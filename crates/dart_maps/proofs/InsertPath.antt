@@ -1,12 +1,12 @@
 -- A path put into a face: the defect stays, and the face falls into the two that the path parts.
-use Rattle.std.proofs.Common.{◌≡◌, ℕ, ◌*◌, ◌/◌, ◌<◌, inl, inr, true, false, List, [], ◌∷◌, ◌++◌, append_assoc, refl, sym, ap, ap₂, ◌∙◌, subst, eq-eqb}
-use Rattle.std.proofs.lemmas.Bool.{both_ways, false≢true, false_from_ne_true, ne_eqb}
+use Rattle.std.proofs.Common.{◌≡◌, ℕ, ◌+◌, ◌*◌, ◌/◌, ◌<◌, inl, inr, true, false, List, [], ◌∷◌, ◌++◌, arith, append_assoc, refl, sym, ap, ap₂, ◌∙◌, subst, eq-eqb}
+use Rattle.std.proofs.lemmas.Bool.{both_ways, false≢true, false_from_ne_true, true_from_ne_false, ne_eqb}
 use Rattle.permutations.specs.Relation.{IsEquivalence}
 use Rattle.permutations.specs.Permutation.{Permutes}
 use Rattle.permutations.specs.Exchange.{exchange}
 use Rattle.permutations.proofs.Permutations.{exchange-other}
 use Rattle.permutations.proofs.Orbits.{orbit-equivalence}
-use Rattle.dart_maps.specs.Map.{twin, face, IsMap, same_face, IsPlane, SameDefect}
+use Rattle.dart_maps.specs.Map.{twin, face, IsMap, same_face, IsPlane, SameDefect, same_component, vertex_count, face_count, component_count}
 use Rattle.dart_maps.proofs.Darts.{twin-twin, twin-other, twin-below, twin-edge, face-permutes, face-exchange, face-twin}
 use Rattle.permutations.specs.Members.{is_member, is_distinct}
 use Rattle.permutations.specs.Cyclic.{first_or, successor, turned}
@@ -19,8 +19,10 @@ use Rattle.permutations.proofs.RingExchange.{ring-joined, ring-parted, ring-part
 use Rattle.dart_maps.specs.Changes.{inserted}
 use Rattle.dart_maps.specs.Path.{Avoids, IsFresh, IsFreshPath, path_inserted, path_last, twins_behind}
 use Rattle.dart_maps.proofs.Steps.{back_after}
+use Rattle.dart_maps.proofs.Components.{component-equivalence}
+use Rattle.dart_maps.proofs.Euler.{euler}
 use Rattle.dart_maps.proofs.Plane.{same-defect-over, same-defect-plane}
-use Rattle.dart_maps.proofs.Insert.{first-map, first-defect, faces-apart, still-alone, old-faces, passes, insert-defect}
+use Rattle.dart_maps.proofs.Insert.{still-apart, still-together, insert-across, first-map, first-defect, faces-apart, still-alone, old-faces, passes, insert-defect}
 
 -- a dart whose edge another dart's edge is not
 off-edge : (x d : ℕ) → (d / 2 ≡ x / 2 → ⊥) → (x ≡ d → ⊥) × (x ≡ twin d → ⊥)
@@ -58,15 +60,19 @@ module _ (m : ℕ) (f g : ℕ → ℕ) (b : IsMap m f g) (p d : ℕ) (path : Lis
   ld : d < 2 * m
   ld = (t.fresh).0
 
+  -- its dart is alone
   alone : f d ≡ d
   alone = (t.fresh).1
 
+  -- so is the twin
   twin-alone : f (twin d) ≡ twin d
   twin-alone = (t.fresh).2
 
+  -- p is of another edge
   po : (p ≡ d → ⊥) × (p ≡ twin d → ⊥)
   po = off-edge p d ((t.off_first).0)
 
+  -- so is q
   qo : (q ≡ d → ⊥) × (q ≡ twin d → ⊥)
   qo = off-edge q d ((t.off_last).0)
 
@@ -94,6 +100,19 @@ module _ (m : ℕ) (f g : ℕ → ℕ) (b : IsMap m f g) (p d : ℕ) (path : Lis
   -- the one edge alone
   loose-insert : same_face m f (twin p) (twin q) ≡ true → SameDefect m f (inserted d p q f)
   loose-insert = insert-defect m f g b d ld alone twin-alone p q (t.first_corner) (t.last_corner) po.0 po.1 qo.0 qo.1
+
+  -- and in different faces where those did
+  loose-apart : same_face m f (twin p) (twin q) ≡ false → same_face m (exchange p d f) (twin (twin d)) (twin q) ≡ false
+  loose-apart w = false_from_ne_true (same_face m (exchange p d f) (twin (twin d)) (twin q)) (λ h. both_ways (same_face m (exchange p d f) (twin q) (twin (twin d)))
+      (still-apart m f g b d ld alone twin-alone p q (t.first_corner) (t.last_corner) po.0 po.1 qo.0 qo.1 w) ((orbit-equivalence (2 * m) (face (exchange p d f))).symmetric (twin (twin d)) (twin q) h))
+
+  -- the twin and q are connected where p and q were
+  loose-together : same_component m f p q ≡ true → same_component m (exchange p d f) (twin d) q ≡ true
+  loose-together h = (component-equivalence m (exchange p d f)).symmetric q (twin d) (still-together m f g b d ld alone twin-alone p q (t.first_corner) (t.last_corner) po.0 po.1 qo.0 qo.1 h)
+
+  -- the one edge across two faces
+  loose-across : same_component m f p q ≡ true → same_face m f (twin p) (twin q) ≡ false → vertex_count m f + face_count m f + 2 * component_count m (inserted d p q f) ≡ vertex_count m (inserted d p q f) + face_count m (inserted d p q f) + 2 * component_count m f + 2
+  loose-across = insert-across m f g b d ld alone twin-alone p q (t.first_corner) (t.last_corner) po.0 po.1 qo.0 qo.1
 
   -- the face of a dead edge
   dead-face : ring (2 * m) (face f) d ≡ (d ∷ []) ++ twin d ∷ []
@@ -176,6 +195,17 @@ path-defect m (c ∷ path) f g b p d q t w = same-defect-over m f (exchange p d 
 -- so a plane map stays plane
 pub path-plane : (m : ℕ) (path : List ℕ) (f g : ℕ → ℕ) → IsMap m f g → (p d q : ℕ) → IsFreshPath m f p d path q → same_face m f (twin p) (twin q) ≡ true → IsPlane m f → IsPlane m (path_inserted p d path q f)
 path-plane m path f g b p d q t w h = same-defect-plane m f (path_inserted p d path q f) (path-defect m path f g b p d q t w) h
+
+-- a path put in between corners of different faces of one component raises the defect by two
+pub path-across : (m : ℕ) (path : List ℕ) (f g : ℕ → ℕ) → IsMap m f g → (p d q : ℕ) → IsFreshPath m f p d path q → same_component m f p q ≡ true → same_face m f (twin p) (twin q) ≡ false → vertex_count m f + face_count m f + 2 * component_count m (path_inserted p d path q f) ≡ vertex_count m (path_inserted p d path q f) + face_count m (path_inserted p d path q f) + 2 * component_count m f + 2
+path-across m [] f g b p d q t h w = loose-across m f g b p d [] q t h w
+path-across m (c ∷ path) f g b p d q t h w =
+    let s = path-across m path (exchange p d f) (back_after p d g) (loose-map m f g b p d (c ∷ path) q t) (twin d) c q (fresh-step m f p d c path q t) (loose-together m f g b p d (c ∷ path) q t h) (loose-apart m f g b p d (c ∷ path) q t w) in
+    omega (arith, s, loose-defect m f g b p d (c ∷ path) q t)
+
+-- so where the map with the path is plane, the path lies in one face
+pub path-face : (m : ℕ) (path : List ℕ) (f g : ℕ → ℕ) → IsMap m f g → (p d q : ℕ) → IsFreshPath m f p d path q → same_component m f p q ≡ true → IsPlane m (path_inserted p d path q f) → same_face m f (twin p) (twin q) ≡ true
+path-face m path f g b p d q t h k = true_from_ne_false (same_face m f (twin p) (twin q)) (λ w. let s = path-across m path f g b p d q t h w in absurd (omega (arith, s, k, euler m f g b)))
 
 -- the face from the corner p to the corner q and on to p again falls in two: the one keeps the way from p to q, and goes
 -- back along the path; the other keeps the way from q to p, and goes on along the path

@@ -15,6 +15,7 @@ pub mod Glue
 pub mod Renumber
 pub mod Bond
 pub mod TurnOver
+pub mod FlipCounts
 pub mod Flip
 mod Examples
 pub mod ContractComponents

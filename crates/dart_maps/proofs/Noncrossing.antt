@@ -59,15 +59,19 @@ module _ (m : ℕ) (f g : ℕ → ℕ) (e : IsMap m f g) (p : IsPlane m f) (a b 
   ab : a ≡ b → ⊥
   ab q = o.different (q ∙ sym (o.first) ∙ ap four q ∙ o.second)
 
+  -- c and d
   cd : c ≡ d → ⊥
   cd q = o.different (sym (q ∙ sym (o.third) ∙ ap four q ∙ o.fourth))
 
+  -- a and d
   ad : a ≡ d → ⊥
   ad q = ab (sym (o.fourth) ∙ ap four (sym q) ∙ o.first)
 
+  -- b and c
   bc : b ≡ c → ⊥
   bc q = cd (sym (o.second) ∙ ap four q ∙ o.third)
 
+  -- b and d
   bd : b ≡ d → ⊥
   bd q = o.different (sym (o.fourth) ∙ ap four (sym q) ∙ o.second)
 
@@ -75,15 +79,19 @@ module _ (m : ℕ) (f g : ℕ → ℕ) (e : IsMap m f g) (p : IsPlane m f) (a b 
   equivalence : IsEquivalence (same_vertex m f)
   equivalence = orbit-equivalence (2 * m) f
 
+  -- b is
   at-b : same_vertex m f a b ≡ true
   at-b = restricted-vertex m f g e (one_of_four a b c d) a b (o.darts.0) (four-members a b c d).0 (o.first)
 
+  -- so is c
   at-c : same_vertex m f a c ≡ true
   at-c = equivalence.transitive a b c at-b (restricted-vertex m f g e (one_of_four a b c d) b c (o.darts.1) (four-members a b c d).1 (o.second))
 
+  -- and d
   at-d : same_vertex m f a d ≡ true
   at-d = equivalence.transitive a c d at-c (restricted-vertex m f g e (one_of_four a b c d) c d (o.darts.2) (four-members a b c d).2 (o.third))
 
+  -- so each of the four is
   at-four : (x : ℕ) → one_of_four a b c d x ≡ true → same_vertex m f a x ≡ true
   at-four x t = elim (four-cases a b c d x t) [
     | inl i ↦ subst (λ (z : ℕ). same_vertex m f a z ≡ true) (sym i) (equivalence.reflexive a)

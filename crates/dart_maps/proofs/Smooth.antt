@@ -145,18 +145,23 @@ module _ (m : ℕ) (f g : ℕ → ℕ) (b : IsMap m f g) (c p q : ℕ) (path : L
   go : f c ≡ p
   go = (t.thin).0
 
+  -- and back to c
   back : f p ≡ c
   back = (t.thin).1
 
+  -- the next vertex's two darts
   next-go : f (twin p) ≡ q
   next-go = (t.thin).2.0
 
+  -- and back
   next-back : f q ≡ twin p
   next-back = (t.thin).2.1
 
+  -- p is of another edge than c
   first-apart : p / 2 ≡ c / 2 → ⊥
   first-apart = (t.off_start).0
 
+  -- the rest of the path is of other edges than p
   p-avoids : Avoids p (q ∷ path)
   p-avoids = (t.apart).0
 
@@ -168,9 +173,11 @@ module _ (m : ℕ) (f g : ℕ → ℕ) (b : IsMap m f g) (c p q : ℕ) (path : L
   last-p : path_end (twin q) path / 2 ≡ p / 2 → ⊥
   last-p = end-apart (twin q) p path (λ e. p-avoids.0 (sym (twin-edge q) ∙ e)) p-avoids.1
 
+  -- the same of c
   last-c : path_end (twin q) path / 2 ≡ c / 2 → ⊥
   last-c = end-apart (twin q) c path (λ e. (t.off_start).1.0 (sym (twin-edge q) ∙ e)) ((t.off_start).1.1)
 
+  -- the end is not q
   last-q : path_end (twin q) path ≡ q → ⊥
   last-q = not-q path ((t.apart).1.0)
     where

@@ -1,6 +1,6 @@
 -- What is proved of maps of darts, as statements.
 use Rattle.std.specs.Prelude.{◌≡◌, ℕ, ◌+◌, ◌*◌, ◌<◌, ◌≤◌, ◌↔◌, not, ◌||◌, Bool, true, false, List, [], ◌∷◌, ◌++◌}
-use Rattle.permutations.specs.Cyclic.{first_or}
+use Rattle.permutations.specs.Cyclic.{first_or, FollowsAround}
 use Rattle.permutations.specs.Exchange.{exchange, restricted}
 use Rattle.permutations.specs.Ring.{ring}
 use Rattle.dart_maps.specs.Map.{twin, face, IsMap, same_vertex, same_face, same_component, vertex_count, face_count, component_count, IsPlane, SameDefect}
@@ -63,6 +63,11 @@ abbrev pub PathKeepsDefect : Type 0
 PathKeepsDefect = (m : ℕ) (path : List ℕ) (next previous : ℕ → ℕ) → IsMap m next previous → (p d q : ℕ) → IsFreshPath m next p d path q
     → same_face m next (twin p) (twin q) ≡ true → SameDefect m next (path_inserted p d path q next)
 
+-- where the map with the path is plane, the path lies in one face, if it joins darts of one component
+abbrev pub PathLiesInFace : Type 0
+PathLiesInFace = (m : ℕ) (path : List ℕ) (next previous : ℕ → ℕ) → IsMap m next previous → (p d q : ℕ) → IsFreshPath m next p d path q
+    → same_component m next p q ≡ true → IsPlane m (path_inserted p d path q next) → same_face m next (twin p) (twin q) ≡ true
+
 -- the face, read from the corner p over the corner q to p again, falls in two: the one keeps the way from p to q and goes
 -- back along the path, the other keeps the way from q to p and goes on along the path
 abbrev pub PathPartsFace : Type 0
@@ -115,6 +120,11 @@ MirrorKeepsPlane = (m : ℕ) (next previous : ℕ → ℕ) → IsMap m next prev
 abbrev pub NoncrossingAtVertex : Type 0
 NoncrossingAtVertex = (m : ℕ) (next previous : ℕ → ℕ) → IsMap m next previous → IsPlane m next → (a b c d : ℕ) → MetInOrder m next a b c d
     → connected_around m next a a c ≡ true → connected_around m next a b d ≡ true → connected_around m next a a b ≡ true
+
+-- four different darts met in this order on the way round a vertex, as a list: so they are met in order
+abbrev pub RingTellsOrder : Type 0
+RingTellsOrder = (m : ℕ) (next previous : ℕ → ℕ) → IsMap m next previous → (v a b c d : ℕ) → v < 2 * m → (a < 2 * m) × (b < 2 * m) × (c < 2 * m) × (d < 2 * m)
+    → (a ≡ b → ⊥) → (a ≡ c → ⊥) → (a ≡ d → ⊥) → (b ≡ c → ⊥) → (b ≡ d → ⊥) → (c ≡ d → ⊥) → FollowsAround (ring (2 * m) next v) (a ∷ b ∷ c ∷ d ∷ []) → MetInOrder m next a b c d
 
 -- an edge d of a plane map that joins two vertices, darts a, b met in turn after d at the one, and x, y after its twin at
 -- the other: if a is connected with x, and b with y, without passing the two vertices, then a is connected with b

@@ -19,7 +19,7 @@
 //   Plane        same-defect-plane, same-defect-over, split-plane, corner-cut, corner-keep, unlink-plane, restricted-plane
 //   Drop         drop-defect, unlink-end-defect, dead-edge-apart, dropped-map: an edge with two faces; a loose end
 //   Insert       insert-defect, insert-parts, insert-across: an edge between two corners of one face, or of two
-//   InsertPath   path-defect, path-plane, path-rings: a path between two corners of one face
+//   InsertPath   path-defect, path-rings, path-across, path-face: a path between two corners of one face
 //   Contract     contracted-before, contracted-other, contract-plane, contract-plane-back, contracted-map, contracted-vertex
 //   ContractComponents contracted-component: what is connected stays so
 //   Smooth       smooth-path, smooth-plane, smooth-plane-back, smoothed-start, smoothed-end, smoothed-other
@@ -33,7 +33,7 @@
 //   Rounds       ring-in-order, ring-in-turn: the order round a vertex, from its ring as a list
 #![tactic(auto)]
 
-ghost use Rattle.dart_maps.specs.Laws.{BondIsPlane, ContractionKeepsComponents, ContractionKeepsDefect, ContractionKeepsPlane, CornerCut, DropKeepsDefect, EulersInequality, FlipAloneKeepsAll, FlipAtOneKeepsAll, FlipKeepsComponents, FlipKeepsDefect, FlipKeepsFaces, FlipKeepsVertices, GluingCornersKeepsDefect, GluingKeepsPlane, InsertAcrossFaces, InsertKeepsDefect, InsertPartsFace, MirrorKeepsCounts, MirrorKeepsPlane, NoncrossingAlongEdge, NoncrossingAtVertex, PathKeepsDefect, PathPartsFace, RenumberingKeepsPlane, RestrictionIsMap, RestrictionKeepsPlane, RestrictionKeepsVertices, SmoothingKeepsPlane, SplitKeepsPlane};
+ghost use Rattle.dart_maps.specs.Laws.{BondIsPlane, ContractionKeepsComponents, ContractionKeepsDefect, ContractionKeepsPlane, CornerCut, DropKeepsDefect, EulersInequality, FlipAloneKeepsAll, FlipAtOneKeepsAll, FlipKeepsComponents, FlipKeepsDefect, FlipKeepsFaces, FlipKeepsVertices, GluingCornersKeepsDefect, GluingKeepsPlane, InsertAcrossFaces, InsertKeepsDefect, InsertPartsFace, MirrorKeepsCounts, MirrorKeepsPlane, NoncrossingAlongEdge, NoncrossingAtVertex, PathKeepsDefect, PathLiesInFace, PathPartsFace, RenumberingKeepsPlane, RestrictionIsMap, RestrictionKeepsPlane, RestrictionKeepsVertices, RingTellsOrder, SmoothingKeepsPlane, SplitKeepsPlane};
 
 /// Euler's inequality: in every map of darts, V + F is at most E + 2C.
 pub fn eulers_inequality()
@@ -66,6 +66,7 @@ pub fn one_edge_more_or_less()
 pub fn path_into_a_face()
     ensures defect { PathKeepsDefect }
     ensures faces { PathPartsFace }
+    ensures in_one_face { PathLiesInFace }
 {}
 
 /// The law that contracting an edge between two vertices keeps the defect: what comes of it is plane exactly where the map is.
@@ -97,6 +98,7 @@ pub fn mirror_image()
 /// round it, and connections that avoid both ends of an edge don't cross along it.
 pub fn connections_do_not_cross()
     ensures at_vertex { NoncrossingAtVertex }
+    ensures order { RingTellsOrder }
     ensures along_edge { NoncrossingAlongEdge }
 {}
 
