@@ -2,6 +2,7 @@
 use Rattle.std.proofs.Common.{◌≡◌, ℕ, List, [], ◌∷◌, refl, arith}
 use Rattle.multigraph.specs.Graph.{Multigraph}
 use Rattle.faces.specs.Euler.{face_step, face_count, component_count, IsPlane}
+use Rattle.faces.specs.Trace.{face_lists}
 
 -- the complete graph of four vertices, drawn with one vertex inside the triangle of the others
 abbrev tetrahedron : Multigraph
@@ -32,6 +33,10 @@ tetrahedron_components = refl
 
 tetrahedron_plane : IsPlane tetrahedron tetrahedron_orders
 tetrahedron_plane = refl
+
+tetrahedron_lists : face_lists tetrahedron tetrahedron_orders
+    ≡ ((0, 0) ∷ (1, 4) ∷ (3, 2) ∷ []) ∷ ((0, 1) ∷ (2, 3) ∷ (1, 0) ∷ []) ∷ ((0, 2) ∷ (3, 5) ∷ (2, 1) ∷ []) ∷ ((1, 3) ∷ (2, 5) ∷ (3, 4) ∷ []) ∷ []
+tetrahedron_lists = refl
 
 -- no vertex, no edge
 abbrev nothing : Multigraph

@@ -13,7 +13,7 @@ use Rattle.rotations.specs.Rotation.{IsRotationSystem}
 use Rattle.faces.specs.Euler.{dart_count, face_step, begins_face, is_isolated, face_count, component_count}
 use Rattle.faces.specs.Marks.{IsPermutationBelow, begins_orbit}
 use Rattle.faces.specs.Steps.{AreStepsBelow, AreFaceSteps}
-use Rattle.faces.proofs.Darts.{onward, face_back, face_step-permutes, tail-first, tail-second}
+use Rattle.faces.proofs.DartLemmas.{onward, face_back, face_step-permutes, tail-first, tail-second}
 use Rattle.faces.proofs.Starts.{starts-ext}
 
 -- the first dart of an edge goes on from the edge's second end

@@ -6,6 +6,9 @@ pub mod Starts
 pub mod Looks
 pub mod Neighbours
 pub mod Searched
-pub mod Darts
+pub mod DartLemmas
 mod Examples
 pub mod FaceSteps
+pub mod Traced
+pub mod Order
+pub mod Listed

@@ -1,5 +1,5 @@
 -- The walk that marks one orbit: along the images until a marked number is met.
-use Rattle.std.proofs.Common.{◌≡◌, ℕ, zero, suc, ◌+◌, ◌<◌, Bool, true, false, not, ◌||◌, ◌==◌, cond, List, length, get_or, refl, sym, ap, ◌∙◌, inl, inr, subst, arith}
+use Rattle.std.proofs.Common.{◌≡◌, ℕ, zero, suc, ◌+◌, ◌<◌, Bool, true, false, not, ◌||◌, ◌==◌, cond, List, length, get_or, refl, sym, ap, ◌∙◌, inl, inr, add-zero, subst, arith}
 use Rattle.std.proofs.lemmas.Bool.{eqb-true, eq-eqb, ne_eqb, cases_eq, cases_lt}
 use Rattle.std.proofs.Math.Bool.{or-true, or-false, or_assoc}
 use Rattle.std.proofs.lemmas.List.{get_or-set_same, get_or-set_other}
@@ -42,28 +42,35 @@ pub record Walked (f : ℕ → ℕ) (before now : List Bool) (start place : ℕ)
   pub rest : unmarked_count now + steps ≡ unmarked_count before
 
 -- before the first step
-pub walked-none : (f : ℕ → ℕ) (before : List Bool) (start : ℕ) → Walked f before before start start
-walked-none f before start = record { steps = 0; leads = refl; marks = λ x. sym (or-false (is_marked before x)); rest = omega arith }
+abbrev pub walked-none : (f : ℕ → ℕ) (before : List Bool) (start : ℕ) → Walked f before before start start
+walked-none f before start = record {
+  steps = 0;
+  leads = refl;
+  marks = λ x. sym (or-false (is_marked before x));
+  rest = add-zero (unmarked_count before);
+}
+
+-- the marks after one step more, from the place where the walk is
+pub walked-marks : (f : ℕ → ℕ) (before now : List Bool) (start place : ℕ) (w : Walked f before now start place) → place < length now → (x : ℕ) → is_marked (set now place true) x ≡ (is_marked before x || some (w.steps + 1) (λ k. iterate f k start == x))
+walked-marks f before now start place w l x =
+    marked-set now place x l
+    ∙ ap (λ z. is_marked now x || (z == x)) (sym w.leads)
+    ∙ ap (λ b. b || (iterate f w.steps start == x)) (w.marks x)
+    ∙ or_assoc (is_marked before x) (some w.steps (λ k. iterate f k start == x)) (iterate f w.steps start == x)
+    ∙ ap (λ b. is_marked before x || b) (sym (some-more w.steps (λ k. iterate f k start == x)))
+
+-- and how many places are left
+pub walked-rest : (f : ℕ → ℕ) (before now : List Bool) (start place : ℕ) (w : Walked f before now start place) → place < length now → is_marked now place ≡ false → unmarked_count (set now place true) + (w.steps + 1) ≡ unmarked_count before
+walked-rest f before now start place w l e = omega (arith, unmarked-less now place l e, w.rest)
 
 -- one step more, from a place that is not marked
-pub walked-more : (f : ℕ → ℕ) (before now : List Bool) (start place : ℕ) → Walked f before now start place → place < length now → is_marked now place ≡ false → Walked f before (set now place true) start (f place)
+abbrev pub walked-more : (f : ℕ → ℕ) (before now : List Bool) (start place : ℕ) → Walked f before now start place → place < length now → is_marked now place ≡ false → Walked f before (set now place true) start (f place)
 walked-more f before now start place w l e = record {
   steps = w.steps + 1;
   leads = iterate-more f w.steps start ∙ ap f w.leads;
-  marks = λ x. marks-more x;
-  rest = omega (arith, unmarked-less now place l e, w.rest);
+  marks = walked-marks f before now start place w l;
+  rest = walked-rest f before now start place w l e;
 }
-  where
-    here : (x : ℕ) → (place == x) ≡ (iterate f w.steps start == x)
-    here x = ap (λ z. z == x) (sym w.leads)
-
-    marks-more : (x : ℕ) → is_marked (set now place true) x ≡ (is_marked before x || some (w.steps + 1) (λ k. iterate f k start == x))
-    marks-more x =
-        marked-set now place x l
-        ∙ ap (λ b. is_marked now x || b) (here x)
-        ∙ ap (λ b. b || (iterate f w.steps start == x)) (w.marks x)
-        ∙ or_assoc (is_marked before x) (some w.steps (λ k. iterate f k start == x)) (iterate f w.steps start == x)
-        ∙ ap (λ b. is_marked before x || b) (sym (some-more w.steps (λ k. iterate f k start == x)))
 
 -- a step back and forth keeps what is marked, so any number of steps does
 pub whole-steps : (n : ℕ) (f : ℕ → ℕ) → IsPermutationBelow n f → (marks : List Bool) → ((x : ℕ) → x < n → is_marked marks (f x) ≡ is_marked marks x) → (k x : ℕ) → x < n → is_marked marks (iterate f k x) ≡ is_marked marks x
@@ -99,19 +106,20 @@ steps-orbit n f p start s j l m e x = same-tests (some s (λ k. iterate f k star
         let v : (i : ℕ) × (i < s) × (iterate f i start ≡ iterate f w.0 start) = steps-again f start s j m e w.0 in
         some-from s (λ k. iterate f k start == x) v.0 v.1 (eq-eqb (iterate f v.0 start) x (v.2 ∙ w.2))
 
--- at a marked place: just the orbit of the start is marked anew
+-- at a marked place the walk is back among its first steps
+pub walked-back : (n : ℕ) (f : ℕ → ℕ) → IsPermutationBelow n f → (before now : List Bool) (start place : ℕ) (w : Walked f before now start place) → start < n
+    → ((x : ℕ) → x < n → is_marked before (f x) ≡ is_marked before x) → is_marked before start ≡ false → is_marked now place ≡ true
+    → (j : ℕ) × (j < w.steps) × (iterate f j start ≡ iterate f w.steps start)
+walked-back n f p before now start place w l whole fresh met =
+    let old : is_marked before place ≡ false = sym (ap (is_marked before) w.leads) ∙ whole-steps n f p before whole w.steps start l ∙ fresh in
+    let again : some w.steps (λ k. iterate f k start == place) ≡ true = sym (ap (λ b. b || some w.steps (λ k. iterate f k start == place)) old) ∙ sym (w.marks place) ∙ met in
+    let v : (k : ℕ) × (k < w.steps) × ((iterate f k start == place) ≡ true) = some-witness w.steps (λ k. iterate f k start == place) again in
+    (v.0, v.1, eqb-true (iterate f v.0 start) place v.2 ∙ sym w.leads)
+
+-- then just the orbit of the start is marked anew
 pub walked-all : (n : ℕ) (f : ℕ → ℕ) → IsPermutationBelow n f → (before now : List Bool) (start place : ℕ) → Walked f before now start place → start < n
     → ((x : ℕ) → x < n → is_marked before (f x) ≡ is_marked before x) → is_marked before start ≡ false → is_marked now place ≡ true
     → (x : ℕ) → is_marked now x ≡ (is_marked before x || reaches n f start x)
-walked-all n f p before now start place w l whole fresh met x = w.marks x ∙ ap (λ b. is_marked before x || b) (orbit again)
-  where
-    old : is_marked before place ≡ false
-    old = sym (ap (is_marked before) w.leads) ∙ whole-steps n f p before whole w.steps start l ∙ fresh
-
-    again : some w.steps (λ k. iterate f k start == place) ≡ true
-    again = sym (ap (λ b. b || some w.steps (λ k. iterate f k start == place)) old) ∙ sym (w.marks place) ∙ met
-
-    orbit : some w.steps (λ k. iterate f k start == place) ≡ true → some w.steps (λ k. iterate f k start == x) ≡ reaches n f start x
-    orbit t =
-        let v : (k : ℕ) × (k < w.steps) × ((iterate f k start == place) ≡ true) = some-witness w.steps (λ k. iterate f k start == place) t in
-        steps-orbit n f p start w.steps v.0 l v.1 (eqb-true (iterate f v.0 start) place v.2 ∙ sym w.leads) x
+walked-all n f p before now start place w l whole fresh met x =
+    let v : (j : ℕ) × (j < w.steps) × (iterate f j start ≡ iterate f w.steps start) = walked-back n f p before now start place w l whole fresh met in
+    w.marks x ∙ ap (λ b. is_marked before x || b) (steps-orbit n f p start w.steps v.0 l v.1 v.2 x)

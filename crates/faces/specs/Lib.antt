@@ -3,3 +3,4 @@ pub mod Euler
 pub mod Marks
 pub mod Search
 pub mod Steps
+pub mod Trace

@@ -8,11 +8,16 @@
 
 mod components;
 mod counting;
+mod darts;
+mod lists;
 mod numbers;
 mod orbits;
 mod steps;
 #[cfg(test)]
 mod tests;
+mod tracing;
 
 pub use counting::euler;
+pub use lists::{Face, Faces};
 pub use numbers::Euler;
+pub use tracing::trace;

@@ -6,6 +6,7 @@ ghost use Rattle.permutations.specs.Cyclic.{successor};
 ghost use Rattle.rotations.specs.Rotation.{IsRotationSystem, order_at};
 ghost use Rattle.std.specs.Prelude.{◌<◌, ◌≡◌, IfOk, IsTrue};
 
+use crate::darts::dart_from;
 use multigraph::Graph;
 use rotations::Rotation;
 use std::alloc::{AllocError, Global};
@@ -18,13 +19,7 @@ fn dart_onward(graph: &Graph, rotation: &Rotation, vertex: u32, edge: u32) -> u3
     requires end { IsTrue (is_end graph.now vertex edge) }
     ensures { result ≡ dart_from graph.now vertex (successor (order_at rotation.now vertex) edge) }
 {
-    let next = rotation.succ(vertex, edge);
-    let (first, _) = graph.ends(next);
-    if first == vertex {
-        2 * next
-    } else {
-        2 * next + 1
-    }
+    dart_from(graph, vertex, rotation.succ(vertex, edge))
 }
 
 // For each dart the next one of its face.

@@ -3,11 +3,11 @@ use Rattle.std.proofs.Common.{arith}
 use Rattle.permutations.proofs.Arrangements.{contains-from_member}
 use Rattle.multigraph.proofs.OtherEnd.{end-in}
 use Rattle.rotations.specs.Rotation.{order_at}
-use Rattle.faces.proofs.Darts.{order-member, onward-edge}
+use Rattle.faces.proofs.DartLemmas.{order-member, onward-edge}
 use Rattle.faces.proofs.steps.dart_onward.Goals as goal
 
-pub succ-next-requires : goal.succ-next-requires
-succ-next-requires c =
+pub succ-requires : goal.succ-requires
+succ-requires c =
     let g = c.args.graph.now in
     let r = c.args.rotation.now in
     let v = c.args.vertex in
@@ -15,22 +15,7 @@ succ-next-requires c =
     let vertex_in = end-in g v e c.requires.graph c.requires.edge_in c.requires.end in
     contains-from_member (order_at r v) e (order-member g r v e c.requires.system vertex_in c.requires.edge_in c.requires.end)
 
-pub ends-first-requires : goal.ends-first-requires
-ends-first-requires c =
-    let next_in = onward-edge c.args.graph.now c.args.rotation.now c.args.vertex c.args.edge c.requires.graph c.requires.system c.requires.edge_in c.requires.end in
-    omega arith
-
-pub overflow_mul-result : goal.overflow_mul-result
-overflow_mul-result c =
-    let next_in = onward-edge c.args.graph.now c.args.rotation.now c.args.vertex c.args.edge c.requires.graph c.requires.system c.requires.edge_in c.requires.end in
-    omega arith
-
-pub overflow_mul-result-else-first-vertex : goal.overflow_mul-result-else-first-vertex
-overflow_mul-result-else-first-vertex c =
-    let next_in = onward-edge c.args.graph.now c.args.rotation.now c.args.vertex c.args.edge c.requires.graph c.requires.system c.requires.edge_in c.requires.end in
-    omega arith
-
-pub overflow_add-result : goal.overflow_add-result
-overflow_add-result c =
+pub dart_from-requires-clause-edge_in : goal.dart_from-requires-clause-edge_in
+dart_from-requires-clause-edge_in c =
     let next_in = onward-edge c.args.graph.now c.args.rotation.now c.args.vertex c.args.edge c.requires.graph c.requires.system c.requires.edge_in c.requires.end in
     omega arith

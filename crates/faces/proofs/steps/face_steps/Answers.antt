@@ -1,7 +1,7 @@
 -- Both darts of an edge at once.
 use Rattle.std.proofs.Common.{◌≡◌, ◌∙◌, ap, arith}
 use Rattle.multigraph.specs.Graph.{ends_of}
-use Rattle.faces.proofs.Darts.{onward}
+use Rattle.faces.proofs.DartLemmas.{onward}
 use Rattle.faces.proofs.FaceSteps.{steps-more}
 use Rattle.faces.proofs.steps.face_steps.Goals as goal
 
