@@ -1,14 +1,13 @@
 -- The order of the darts: each once, rising by the vertex that it leaves and then by its edge.
-use Rattle.std.proofs.Common.{◌≡◌, ℕ, zero, suc, ◌+◌, ◌-◌, ◌/◌, ◌<◌, ◌≤◌, Bool, true, false, ◌&&◌, ◌||◌, ◌==◌, ◌⊎◌, nat_lt, List, [], ◌++◌, length, get_or, map, inl, inr, refl, sym, ap, ◌∙◌, subst, arith, length-append}
+use Rattle.std.proofs.Common.{◌≡◌, ℕ, zero, suc, ◌+◌, ◌-◌, ◌/◌, ◌<◌, ◌≤◌, true, ◌&&◌, ◌==◌, ◌⊎◌, nat_lt, List, [], ◌++◌, length, get_or, map, inl, inr, refl, sym, ap, ◌∙◌, subst, arith, length-append}
 use Rattle.std.proofs.lemmas.Bool.{eq-eqb, eqb-true, lt-ltb, ltb-true, cases_lt, cases_order, or_cases, or_left, or_right, and_parts}
 use Rattle.std.proofs.lemmas.List.{get_or-map, get_or-append_right, get_or_append_left, length-map}
 use Rattle.std.proofs.lemmas.List.Elements.{at_from_Contains}
 use Rattle.permutations.proofs.Count.{count-all, count-within}
 use Rattle.permutations.proofs.Injection.{count-injection}
 use Rattle.permutations.specs.Count.{count}
-use Rattle.multigraph.specs.Graph.{Multigraph, IsGraph, edge_count, is_end, incident_edges}
+use Rattle.multigraph.specs.Graph.{Multigraph, IsGraph, is_end, incident_edges}
 use Rattle.multigraph.proofs.Incident.{incident-has, incident_at-edge, incident_at-end, incident-rises}
-use Rattle.multigraph.proofs.OtherEnd.{end-in}
 use Rattle.faces.specs.Euler.{tail, dart_from, dart_count}
 use Rattle.faces.specs.Trace.{precedes, darts_from_below, darts_in_order}
 use Rattle.faces.proofs.DartLemmas.{dart-edge, tail-end, dart_from-edge, dart_from-below, dart_from-tail, dart_from-of_dart}

@@ -4,14 +4,13 @@ use Rattle.std.proofs.lemmas.Bool.{eq-eqb, ne_eqb, cases_eq, both_ways}
 use Rattle.std.proofs.Math.Bool.{or-true}
 use Rattle.std.proofs.Math.ListN.{set}
 use Rattle.std.proofs.lemmas.List.Sums.{count_by-le-length}
-use Rattle.permutations.specs.Count.{some, least}
-use Rattle.permutations.specs.Permutation.{iterate, reaches}
+use Rattle.permutations.specs.Count.{some}
+use Rattle.permutations.specs.Permutation.{iterate}
 use Rattle.permutations.proofs.Search.{some-from, least-is}
 use Rattle.permutations.proofs.Iterates.{iterate-between}
 use Rattle.multigraph.specs.Graph.{Multigraph}
 use Rattle.faces.specs.Marks.{IsPermutationBelow, is_marked}
-use Rattle.faces.specs.Search.{unmarked_count}
-use Rattle.faces.specs.Trace.{pair_of, pairs_along, orbit_length, orbit_pairs}
+use Rattle.faces.specs.Trace.{pair_of, pairs_along, orbit_length}
 use Rattle.faces.proofs.Walk.{Walked, walked-none, walked-more, walked-back}
 
 -- the walk so far, the pairs that it passed, and that it was not back at its start

@@ -3,7 +3,12 @@
 // Each edge of a multigraph has two darts, one from each end. A rotation system joins the darts into faces: from a vertex
 // along an edge to its other end, and on by the edge that follows there. With V vertices, E edges, F faces, an isolated
 // vertex counting one, and C components, V - E + F is at most 2C (Euler 1758, Heffter 1891), and the rotation system is
-// plane where it is 2C. This crate counts the four numbers in linear time, with stacks of its own and no recursion.
+// plane where it is 2C.
+//
+// `euler` counts the four numbers and says whether the rotation system is plane. `trace` lists the faces, each from its least
+// pair of a vertex and an edge on. Both take linear time, with vectors of their own and no recursion: they walk along each
+// face once and mark what they pass, and search each component once. Their contracts are exact; want of memory alone has no
+// cause in a clause.
 #![tactic(auto)]
 
 mod components;
@@ -18,6 +23,6 @@ mod tests;
 mod tracing;
 
 pub use counting::euler;
-pub use lists::{Face, Faces};
+pub use lists::Faces;
 pub use numbers::Euler;
 pub use tracing::trace;

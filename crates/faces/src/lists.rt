@@ -3,9 +3,9 @@ ghost use Rattle.std.specs.Prelude.{[], ◌<◌, ◌≤◌, ◌≡◌, length, s
 
 use std::marker::Model;
 
-/// The pairs of a vertex and an edge along a face: leave the vertex by the edge.
+// The pairs of a vertex and an edge along a face: leave the vertex by the edge.
 #[derive(Debug, Drop)]
-pub struct Face {
+pub(crate) struct Face {
     pairs: Vec<(u32, u32)>,
 }
 
@@ -18,22 +18,22 @@ impl Model for Face {
 }
 
 impl Face {
-    /// The face of these pairs. Takes no memory.
-    pub fn of(pairs: Vec<(u32, u32)>) -> Face
+    // The face of these pairs.
+    pub(crate) fn of(pairs: Vec<(u32, u32)>) -> Face
         ensures { result ≡ pairs.items }
     {
         Face { pairs }
     }
 
-    /// Its pairs, in order.
-    pub fn as_slice(&self) -> &[(u32, u32)]
+    // Its pairs, in order.
+    fn as_slice(&self) -> &[(u32, u32)]
         ensures { result.now ≡ self.now }
     {
         self.pairs.as_slice()
     }
 }
 
-/// Faces, numbered from 0: at most 100,000.
+/// The faces of a rotation system, numbered from 0: at most 100,000.
 #[derive(Debug, Drop)]
 pub struct Faces {
     faces: Vec<Face>,

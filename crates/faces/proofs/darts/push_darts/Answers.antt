@@ -1,5 +1,5 @@
 -- What is at a vertex is an edge.
-use Rattle.std.proofs.Common.{◌≡◌, ◌<◌, length, slice_index, sym, subst}
+use Rattle.std.proofs.Common.{◌<◌, length, slice_index, sym, subst}
 use Rattle.multigraph.specs.Graph.{edge_count, incident_edges}
 use Rattle.multigraph.proofs.Incident.{incident_at-edge}
 use Rattle.faces.proofs.darts.push_darts.Goals as goal

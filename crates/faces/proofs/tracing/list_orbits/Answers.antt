@@ -1,7 +1,6 @@
 -- Each dart of the order is the least of its orbit or marked.
-use Rattle.std.proofs.Common.{◌≡◌, ◌<◌, ◌≤◌, length, slice_index, ◌∙◌, sym, subst, arith}
+use Rattle.std.proofs.Common.{◌<◌, ◌≤◌, length, slice_index, sym, subst, arith}
 use Rattle.faces.specs.Euler.{dart_count}
-use Rattle.faces.specs.Trace.{darts_in_order}
 use Rattle.faces.proofs.Order.{InOrder, order-all}
 use Rattle.faces.proofs.Listed.{listed-whole, listed-skip, listed-more}
 use Rattle.faces.proofs.tracing.list_orbits.Goals as goal

@@ -1,5 +1,5 @@
 -- The faces are the orbits of the face steps, in order of the darts.
-use Rattle.std.proofs.Common.{◌≡◌, ◌≤◌, length, slice_index, ap, ◌∙◌, sym, subst, arith}
+use Rattle.std.proofs.Common.{◌≤◌, length, slice_index, ◌∙◌, sym, subst}
 use Rattle.faces.specs.Euler.{dart_count, face_step}
 use Rattle.faces.specs.Marks.{IsPermutationBelow}
 use Rattle.faces.specs.Steps.{AreFaceSteps}

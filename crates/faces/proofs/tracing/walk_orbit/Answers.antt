@@ -1,8 +1,8 @@
 -- A step of the walk, and its end.
-use Rattle.std.proofs.Common.{◌≡◌, ◌<◌, ◌∙◌, length, slice_index, arith}
+use Rattle.std.proofs.Common.{◌<◌, ◌∙◌, length, slice_index, arith}
 use Rattle.faces.specs.Euler.{dart_count}
 use Rattle.faces.proofs.Walk.{walked-all}
-use Rattle.faces.proofs.Traced.{Traced, traced-none, traced-more, traced-all}
+use Rattle.faces.proofs.Traced.{traced-none, traced-more, traced-all}
 use Rattle.faces.proofs.tracing.walk_orbit.Goals as goal
 
 pub loop-marks-init : goal.loop-marks-init
