@@ -13,7 +13,7 @@ use Rattle.dart_maps.proofs.Components.{component-equivalence, component-next, c
 use Rattle.dart_maps.proofs.Bond.{count-under}
 
 -- the function that a table tells
-abbrev table : List ℕ → ℕ → ℕ
+abbrev pub table : List ℕ → ℕ → ℕ
 table l x = get_or l x 0
 
 -- whether each of a list of darts is followed or has its twin as the next of the list
@@ -57,7 +57,7 @@ one-component m next l k t h = count-ext (2 * m) (leads (same_component m next))
 ]) ∙ count-under (2 * m) 1 (omega arith)
 
 -- the complete graph on four vertices: edges 0-1, 0-2, 0-3, 1-2, 1-3, 2-3, drawn without crossings
-k4 : ℕ → ℕ
+unfoldable pub k4 : ℕ → ℕ
 k4 = table (2 ∷ 8 ∷ 4 ∷ 7 ∷ 0 ∷ 11 ∷ 1 ∷ 10 ∷ 6 ∷ 5 ∷ 3 ∷ 9 ∷ [])
 
 -- its inverse

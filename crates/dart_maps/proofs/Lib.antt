@@ -17,7 +17,8 @@ pub mod Bond
 pub mod TurnOver
 pub mod FlipCounts
 pub mod Flip
-mod Examples
+pub mod Examples
+mod ExamplesOfChanges
 pub mod ContractComponents
 pub mod GlueCorners
 pub mod Smooth
