@@ -12,3 +12,10 @@ pub mod FaceSteps
 pub mod Traced
 pub mod Order
 pub mod Listed
+pub mod MapSteps
+pub mod MapVertices
+pub mod MapCounts
+pub mod MapMirror
+pub mod MapCorners
+pub mod MapBlocks
+mod MapExamples

@@ -4,3 +4,5 @@ pub mod Marks
 pub mod Search
 pub mod Steps
 pub mod Trace
+pub mod Maps
+pub mod Laws

@@ -14,6 +14,7 @@
 mod components;
 mod counting;
 mod darts;
+mod laws;
 mod lists;
 mod numbers;
 mod orbits;
@@ -23,6 +24,9 @@ mod tests;
 mod tracing;
 
 pub use counting::euler;
+pub use laws::{
+    eulers_inequality, faces_of_block_are_simple, mirror_image, rotation_system_is_map,
+};
 pub use lists::Faces;
 pub use numbers::Euler;
 pub use tracing::trace;

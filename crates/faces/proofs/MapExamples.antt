@@ -1,0 +1,70 @@
+-- The map of darts of the complete graph on four vertices, and its mirror image, computed.
+use Rattle.std.proofs.Common.{◌≡◌, ℕ, ◌+◌, List, [], ◌∷◌, refl, ◌∙◌, arith}
+use Rattle.permutations.specs.Count.{count}
+use Rattle.permutations.proofs.Computed.{permutes-computed, orbit-count-computed}
+use Rattle.multigraph.specs.Graph.{Multigraph}
+use Rattle.dart_maps.specs.Map.{twin, face, IsMap}
+use Rattle.dart_maps.specs.Map as maps
+use Rattle.dart_maps.proofs.Darts.{face-permutes}
+use Rattle.faces.specs.Euler.{is_isolated, face_count}
+use Rattle.faces.specs.Maps.{dart_after, dart_before, mirror_image}
+
+-- edges 0-1, 0-2, 0-3, 1-2, 1-3, 2-3, with one vertex inside the triangle of the others
+abbrev four_vertices : Multigraph
+four_vertices = record {
+  vertex_count = 4;
+  ends = (0, 1) ∷ (0, 2) ∷ (0, 3) ∷ (1, 2) ∷ (1, 3) ∷ (2, 3) ∷ [];
+}
+
+abbrev orders : List (List ℕ)
+orders =
+    (0 ∷ 1 ∷ 2 ∷ []) ∷ (0 ∷ 4 ∷ 3 ∷ []) ∷ (1 ∷ 3 ∷ 5 ∷ []) ∷ (2 ∷ 5 ∷ 4 ∷ []) ∷ []
+
+abbrev next : ℕ → ℕ
+next = dart_after four_vertices orders
+
+abbrev previous : ℕ → ℕ
+previous = dart_before four_vertices orders
+
+-- round vertex 0 stand the darts 0, 2, 4; round vertex 1 the darts 1, 8, 6
+round_0 : next 0 ≡ 2
+round_0 = refl
+
+round_0_last : next 4 ≡ 0
+round_0_last = refl
+
+round_1 : next 1 ≡ 8
+round_1 = refl
+
+round_1_last : next 6 ≡ 1
+round_1_last = refl
+
+-- the darts are a map
+is_map : IsMap 6 next previous
+is_map = permutes-computed 12 next previous refl
+
+-- with four vertices and four faces
+four : maps.vertex_count 6 next ≡ 4
+four = orbit-count-computed 12 next previous is_map ∙ refl
+
+four_faces : maps.face_count 6 next ≡ 4
+unfolding twin
+four_faces = orbit-count-computed 12 (face next) (λ d. twin (previous d)) (face-permutes 6 next previous is_map) ∙ refl
+
+-- as many faces as the rotation system has: no vertex is isolated
+as_many_faces : maps.face_count 6 next + count 4 (is_isolated four_vertices) ≡ face_count four_vertices orders
+as_many_faces = omega (arith, four_faces)
+
+-- the mirror image
+mirrored : mirror_image orders ≡ (0 ∷ 2 ∷ 1 ∷ []) ∷ (0 ∷ 3 ∷ 4 ∷ []) ∷ (1 ∷ 5 ∷ 3 ∷ []) ∷ (2 ∷ 4 ∷ 5 ∷ []) ∷ []
+mirrored = refl
+
+mirrored_faces : face_count four_vertices (mirror_image orders) ≡ 4
+mirrored_faces = refl
+
+-- where each vertex has at most two edges, a rotation system is its own mirror image
+abbrev triangle_orders : List (List ℕ)
+triangle_orders = (0 ∷ 2 ∷ []) ∷ (0 ∷ 1 ∷ []) ∷ (1 ∷ 2 ∷ []) ∷ []
+
+triangle_mirrored : mirror_image triangle_orders ≡ triangle_orders
+triangle_mirrored = refl

@@ -1,0 +1,5 @@
+use Rattle.faces.proofs.MapBlocks.{block-face_once}
+use Rattle.faces.proofs.laws.faces_of_block_are_simple.Goals as goal
+
+pub returns : goal.returns
+returns c = block-face_once

@@ -1,0 +1,28 @@
+-- A rotation system as a map of darts, and the mirror image of a rotation system.
+use Rattle.std.specs.Prelude.{ℕ, ◌/◌, ◌<◌, List, map, reverse}
+use Rattle.permutations.specs.Cyclic.{successor, predecessor, from_least}
+use Rattle.multigraph.specs.Graph.{Multigraph, edge_count}
+use Rattle.rotations.specs.Rotation.{order_at}
+use Rattle.graph_theory.specs.Block.{SameBlock}
+use Rattle.dart_maps.specs.Map as maps
+use Rattle.faces.specs.Euler.{tail, dart_from}
+
+-- the dart that follows d round the vertex that d leaves
+abbrev pub dart_after : Multigraph → List (List ℕ) → ℕ → ℕ
+dart_after g r d = dart_from g (tail g d) (successor (order_at r (tail g d)) (d / 2))
+
+-- the dart that d follows round this vertex
+abbrev pub dart_before : Multigraph → List (List ℕ) → ℕ → ℕ
+dart_before g r d = dart_from g (tail g d) (predecessor (order_at r (tail g d)) (d / 2))
+
+-- the map of darts of a rotation system is plane. The map has no isolated vertices
+abbrev pub IsPlaneMap : Multigraph → List (List ℕ) → Type 0
+IsPlaneMap g r = maps.IsPlane (edge_count g) (dart_after g r)
+
+-- the mirror image: each cyclic order is run through the other way, and written from its least edge on again
+abbrev pub mirror_image : List (List ℕ) → List (List ℕ)
+mirror_image r = map (λ order. from_least (reverse order)) r
+
+-- the edges of the graph are one block: each two of them are in the same block
+abbrev pub IsOneBlock : Multigraph → Type 0
+IsOneBlock g = (e f : ℕ) → e < edge_count g → f < edge_count g → SameBlock g e f

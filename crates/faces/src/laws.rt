@@ -1,0 +1,36 @@
+// The laws of rotation systems and their faces: each is a function without a body, whose contract is the theorem.
+
+ghost use Rattle.faces.specs.Laws.{EulersInequality, FacePassesOnce, IsolatedVerticesBesides, MapHasComponents, MapHasFaces, MapHasVertices, MirrorDiffers, MirrorGoesBack, MirrorIsRotationSystem, MirrorKeepsFaces, MirrorKeepsPlane, MirrorTwice, PlaneWhereMapIs, RotationSystemIsMap};
+
+/// Euler's inequality (Euler 1758, Heffter 1891): for every rotation system of every graph, V + F is at most E + 2C.
+pub fn eulers_inequality()
+    ensures { EulersInequality }
+{}
+
+/// The law that a rotation system is a map of darts, the vertices, faces and components of which are its own but for the
+/// isolated vertices; so it is plane exactly where the map is.
+pub fn rotation_system_is_map()
+    ensures is_map { RotationSystemIsMap }
+    ensures vertices { MapHasVertices }
+    ensures faces { MapHasFaces }
+    ensures components { MapHasComponents }
+    ensures isolated { IsolatedVerticesBesides }
+    ensures plane { PlaneWhereMapIs }
+{}
+
+/// The law that the mirror image of a rotation system, which goes round each vertex the other way, is a rotation system
+/// with as many faces, plane exactly where the first is; that mirroring twice changes nothing, and mirroring once does
+/// where some vertex has three edges or more.
+pub fn mirror_image()
+    ensures system { MirrorIsRotationSystem }
+    ensures backward { MirrorGoesBack }
+    ensures twice { MirrorTwice }
+    ensures faces { MirrorKeepsFaces }
+    ensures plane { MirrorKeepsPlane }
+    ensures differs { MirrorDiffers }
+{}
+
+/// The law that in a plane rotation system of a graph whose edges are one block each face passes each vertex at most once.
+pub fn faces_of_block_are_simple()
+    ensures { FacePassesOnce }
+{}
