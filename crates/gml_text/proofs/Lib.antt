@@ -15,3 +15,4 @@ mod ReadDocument
 mod Lines
 mod Written
 mod OneDocument
+mod Examples
