@@ -11,8 +11,8 @@ mod Frames
 mod Completes
 mod Depth
 mod Steps
-mod ReadDocument
+pub mod ReadDocument
 mod Lines
-mod Written
-mod OneDocument
+pub mod Written
+pub mod OneDocument
 mod Examples
