@@ -25,3 +25,5 @@ pub mod Smooth
 pub mod FlipOne
 pub mod Rounds
 pub mod InsertPath
+pub mod SmoothPaths
+pub mod Parts

@@ -19,11 +19,11 @@ use Rattle.permutations.proofs.Renaming.{equivalence-through}
 use Rattle.dart_maps.specs.Renumbering.{IsRenumbering}
 
 -- related where both are live and their images are, or where both are dead
-copied : (ℕ → Bool) → (ℕ → ℕ) → (ℕ → ℕ → Bool) → ℕ → ℕ → Bool
+pub copied : (ℕ → Bool) → (ℕ → ℕ) → (ℕ → ℕ → Bool) → ℕ → ℕ → Bool
 copied live back r u v = cond (live u) (live v && r (back u) (back v)) (not (live v))
 
 -- this is an equivalence
-copied-equivalence : (live : ℕ → Bool) (back : ℕ → ℕ) (r : ℕ → ℕ → Bool) → IsEquivalence r → IsEquivalence (copied live back r)
+pub copied-equivalence : (live : ℕ → Bool) (back : ℕ → ℕ) (r : ℕ → ℕ → Bool) → IsEquivalence r → IsEquivalence (copied live back r)
 unfolding copied
 copied-equivalence live back r e = record {
   reflexive = λ x. grind (arith, e.reflexive (back x), cases_Bool (live x));
@@ -32,17 +32,17 @@ copied-equivalence live back r e = record {
 }
 
 -- both live and related
-copied-live : (live : ℕ → Bool) (back : ℕ → ℕ) (r : ℕ → ℕ → Bool) (u v : ℕ) → live u ≡ true → live v ≡ true → r (back u) (back v) ≡ true → copied live back r u v ≡ true
+pub copied-live : (live : ℕ → Bool) (back : ℕ → ℕ) (r : ℕ → ℕ → Bool) (u v : ℕ) → live u ≡ true → live v ≡ true → r (back u) (back v) ≡ true → copied live back r u v ≡ true
 unfolding copied
 copied-live live back r u v a c h = rw (a, c, h) refl
 
 -- both dead
-copied-dead : (live : ℕ → Bool) (back : ℕ → ℕ) (r : ℕ → ℕ → Bool) (u v : ℕ) → live u ≡ false → live v ≡ false → copied live back r u v ≡ true
+pub copied-dead : (live : ℕ → Bool) (back : ℕ → ℕ) (r : ℕ → ℕ → Bool) (u v : ℕ) → live u ≡ false → live v ≡ false → copied live back r u v ≡ true
 unfolding copied
 copied-dead live back r u v a c = rw (a, c) refl
 
 -- what it says of live numbers
-copied-says : (live : ℕ → Bool) (back : ℕ → ℕ) (r : ℕ → ℕ → Bool) (u v : ℕ) → live u ≡ true → copied live back r u v ≡ true → r (back u) (back v) ≡ true
+pub copied-says : (live : ℕ → Bool) (back : ℕ → ℕ) (r : ℕ → ℕ → Bool) (u v : ℕ) → live u ≡ true → copied live back r u v ≡ true → r (back u) (back v) ≡ true
 unfolding copied
 copied-says live back r u v a h = (and_parts (live v) (r (back u) (back v)) (rw a at h)).1
 
@@ -65,7 +65,7 @@ paired-count (suc m) t h = paired-step m t (paired-count m t (λ d l. h d (omega
         ]
 
 -- dead darts of which each is related to its twin alone: half of them lead
-dead-classes : (m : ℕ) (t : ℕ → Bool) (r : ℕ → ℕ → Bool) → ((x y : ℕ) → t y ≡ true → r y x ≡ true → x / 2 ≡ y / 2) → ((d : ℕ) → d < 2 * m → t d ≡ true → r (twin d) d ≡ true) → ((d : ℕ) → d < 2 * m → t (twin d) ≡ t d) → class_count_in (2 * m) t r ≡ count (2 * m) (λ d. t d && (d % 2 == 0))
+pub dead-classes : (m : ℕ) (t : ℕ → Bool) (r : ℕ → ℕ → Bool) → ((x y : ℕ) → t y ≡ true → r y x ≡ true → x / 2 ≡ y / 2) → ((d : ℕ) → d < 2 * m → t d ≡ true → r (twin d) d ≡ true) → ((d : ℕ) → d < 2 * m → t (twin d) ≡ t d) → class_count_in (2 * m) t r ≡ count (2 * m) (λ d. t d && (d % 2 == 0))
 dead-classes m t r near pair whole = count-ext (2 * m) (leads_in t r) (λ d. t d && (d % 2 == 0)) first
   where
     first : (d : ℕ) → d < 2 * m → leads_in t r d ≡ (t d && (d % 2 == 0))
@@ -78,7 +78,7 @@ dead-classes m t r near pair whole = count-ext (2 * m) (leads_in t r) (λ d. t d
     ]
 
 -- darts that are alone and related to themselves only: each leads
-alone-classes : (n : ℕ) (t : ℕ → Bool) (r : ℕ → ℕ → Bool) → ((x y : ℕ) → y < n → t y ≡ true → r y x ≡ true → y ≡ x) → class_count_in n t r ≡ count n t
+pub alone-classes : (n : ℕ) (t : ℕ → Bool) (r : ℕ → ℕ → Bool) → ((x y : ℕ) → y < n → t y ≡ true → r y x ≡ true → y ≡ x) → class_count_in n t r ≡ count n t
 alone-classes n t r own = count-ext n (leads_in t r) t (λ d l. elim (cases_Bool (t d)) [
   | inl h ↦ leads_in-from t r d h (λ y k i. false_from_ne_true (r y d) (λ u. let q : y ≡ d = own d y (omega arith) i u in omega arith)) ∙ sym h
   | inr h ↦ false_from_ne_true (leads_in t r d) (λ u. both_ways (t d) h (leads_in-member t r d u)) ∙ sym h

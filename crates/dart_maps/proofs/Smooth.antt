@@ -33,7 +33,7 @@ unfolding smoothed
 smoothed-other c path f x h a e = rw (h, ne_eqb x c a, ne_eqb (f x) (path_end c path) e) refl
 
 -- a dart whose edge a list avoids is not on it
-avoids-off : (c x : ℕ) (path : List ℕ) → Avoids c path → x / 2 ≡ c / 2 → on_path x path ≡ false
+pub avoids-off : (c x : ℕ) (path : List ℕ) → Avoids c path → x / 2 ≡ c / 2 → on_path x path ≡ false
 avoids-off c x [] a e = refl
 avoids-off c x (p ∷ path) a e = or_from (x / 2 == p / 2) (on_path x path) (ne_eqb (x / 2) (p / 2) (λ i. a.0 (sym i ∙ e))) (avoids-off c x path a.1 e)
 
@@ -43,7 +43,7 @@ avoids-same c d [] e a = tt
 avoids-same c d (p ∷ path) e a = (λ i. a.0 (i ∙ sym e), avoids-same c d path e a.1)
 
 -- the end of a path is of another edge than a dart whose edge the path and its start avoid
-end-apart : (c d : ℕ) (path : List ℕ) → (c / 2 ≡ d / 2 → ⊥) → Avoids d path → path_end c path / 2 ≡ d / 2 → ⊥
+pub end-apart : (c d : ℕ) (path : List ℕ) → (c / 2 ≡ d / 2 → ⊥) → Avoids d path → path_end c path / 2 ≡ d / 2 → ⊥
 end-apart c d [] n a = n
 end-apart c d (p ∷ path) n a = end-apart (twin p) d path (λ e. a.0 (sym (twin-edge p) ∙ e)) a.1
 

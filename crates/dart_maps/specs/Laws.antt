@@ -8,7 +8,7 @@ use Rattle.dart_maps.specs.Order.{MetInTurn, MetInOrder, connected_around, conne
 use Rattle.dart_maps.specs.Changes.{dropped, inserted, contracted, glued}
 use Rattle.dart_maps.specs.Renumbering.{IsRenumbering}
 use Rattle.dart_maps.specs.Flip.{IsFlip, IsFlipAtOne, IsFlipAlone}
-use Rattle.dart_maps.specs.Path.{IsThinPath, smoothed, IsFreshPath, path_inserted, path_last, twins_behind}
+use Rattle.dart_maps.specs.Path.{IsThinPath, smoothed, AreThinPaths, all_smoothed, IsFreshPath, path_inserted, path_last, twins_behind}
 
 -- Euler's inequality: in every map V + F is at most E + 2C
 abbrev pub EulersInequality : Type 0
@@ -29,6 +29,11 @@ RestrictionIsMap = (m : ℕ) (keep : ℕ → Bool) (next previous : ℕ → ℕ)
 -- darts that are kept leave one vertex of the restriction exactly where they left one vertex
 abbrev pub RestrictionKeepsVertices : Type 0
 RestrictionKeepsVertices = (m : ℕ) (keep : ℕ → Bool) (next previous : ℕ → ℕ) → IsMap m next previous → (c d : ℕ) → keep c ≡ true → keep d ≡ true → same_vertex m (restricted (2 * m) keep next) c d ≡ same_vertex m next c d
+
+-- a map in two parts without connection, told apart by a test, is plane exactly where both parts are
+abbrev pub PlaneInParts : Type 0
+PlaneInParts = (m : ℕ) (next previous : ℕ → ℕ) → IsMap m next previous → (t : ℕ → Bool) → ((d : ℕ) → d < 2 * m → t (next d) ≡ t d) → ((d : ℕ) → d < 2 * m → t (twin d) ≡ t d)
+    → (IsPlane m next ↔ (IsPlane m (restricted (2 * m) t next) × IsPlane m (restricted (2 * m) (λ d. not (t d)) next)))
 
 -- the corner cut: two corners of one vertex that lie in one face of a plane map. Split there, the map falls apart
 abbrev pub CornerCut : Type 0
@@ -93,6 +98,10 @@ ContractionKeepsComponents = (m : ℕ) (next previous : ℕ → ℕ) → IsMap m
 -- a thin path smoothed to its first edge: the map is plane exactly where the smoothed map is. So subdividing keeps plane
 abbrev pub SmoothingKeepsPlane : Type 0
 SmoothingKeepsPlane = (m : ℕ) (path : List ℕ) (next previous : ℕ → ℕ) → IsMap m next previous → (c : ℕ) → IsThinPath m next c path → (IsPlane m next ↔ IsPlane m (smoothed c path next))
+
+-- and the same for several thin paths without common edges, smoothed one after the other
+abbrev pub SmoothingAllKeepsPlane : Type 0
+SmoothingAllKeepsPlane = (m : ℕ) (paths : List (ℕ × List ℕ)) (next previous : ℕ → ℕ) → IsMap m next previous → AreThinPaths m next paths → (IsPlane m next ↔ IsPlane m (all_smoothed paths next))
 
 -- two components glued at corners a and b, p and q, where a and p lie in one face, and b and q: the defect stays
 abbrev pub GluingCornersKeepsDefect : Type 0

@@ -71,3 +71,23 @@ path_last d (c ∷ path) = path_last c path
 abbrev pub twins_behind : List ℕ → List ℕ → List ℕ
 twins_behind [] s = s
 twins_behind (d ∷ path) s = twins_behind path (twin d ∷ s)
+
+-- no dart of the first list is of an edge of the second
+abbrev pub AllAvoid : List ℕ → List ℕ → Type 0
+AllAvoid [] l = Unit {0}
+AllAvoid (p ∷ k) l = Avoids p l × AllAvoid k l
+
+-- a path, with the dart before it, has no edge in common with any of the others
+abbrev pub ApartFrom : ℕ × List ℕ → List (ℕ × List ℕ) → Type 0
+ApartFrom w [] = Unit {0}
+ApartFrom w (v ∷ paths) = AllAvoid (v.0 ∷ v.1) (w.0 ∷ w.1) × ApartFrom w paths
+
+-- thin paths without common edges, each with the dart before it
+abbrev pub AreThinPaths : ℕ → (ℕ → ℕ) → List (ℕ × List ℕ) → Type 0
+AreThinPaths m next [] = Unit {0}
+AreThinPaths m next (w ∷ paths) = IsThinPath m next w.0 w.1 × ApartFrom w paths × AreThinPaths m next paths
+
+-- the map with each of the paths smoothed
+abbrev pub all_smoothed : List (ℕ × List ℕ) → (ℕ → ℕ) → ℕ → ℕ
+all_smoothed [] next = next
+all_smoothed (w ∷ paths) next = all_smoothed paths (smoothed w.0 w.1 next)

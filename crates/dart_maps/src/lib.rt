@@ -17,12 +17,14 @@
 //   Steps        split-merge, merge-split, split-split, merge-merge, merge-apart: V, F and C after an exchange, case by case
 //   Euler        euler, counts-ext, plane-ext, still-plane: the inequality; maps that agree on all darts
 //   Plane        same-defect-plane, same-defect-over, split-plane, corner-cut, corner-keep, unlink-plane, restricted-plane
+//   Parts        parts-plane, parts-vertices, parts-faces, parts-components: a map in two parts
 //   Drop         drop-defect, unlink-end-defect, dead-edge-apart, dropped-map: an edge with two faces; a loose end
 //   Insert       insert-defect, insert-parts, insert-across: an edge between two corners of one face, or of two
 //   InsertPath   path-defect, path-rings, path-across, path-face: a path between two corners of one face
 //   Contract     contracted-before, contracted-other, contract-plane, contract-plane-back, contracted-map, contracted-vertex
 //   ContractComponents contracted-component: what is connected stays so
 //   Smooth       smooth-path, smooth-plane, smooth-plane-back, smoothed-start, smoothed-end, smoothed-other
+//   SmoothPaths  smooth-paths, smooth-paths-plane, smooth-paths-plane-back, thin-path-stays: several paths
 //   Glue         glue-plane, glued-map, glued-vertex: the two-sum; GlueCorners glue-corners-defect, glue-corners-plane
 //   Mirror       mirror-counts, mirror-plane
 //   Renumber     renumber-plane, renumber-plane-back, paired-count: a map within another
@@ -33,19 +35,21 @@
 //   Rounds       ring-in-order, ring-in-turn: the order round a vertex, from its ring as a list
 #![tactic(auto)]
 
-ghost use Rattle.dart_maps.specs.Laws.{BondIsPlane, ContractionKeepsComponents, ContractionKeepsDefect, ContractionKeepsPlane, CornerCut, DropKeepsDefect, EulersInequality, FlipAloneKeepsAll, FlipAtOneKeepsAll, FlipKeepsComponents, FlipKeepsDefect, FlipKeepsFaces, FlipKeepsVertices, GluingCornersKeepsDefect, GluingKeepsPlane, InsertAcrossFaces, InsertKeepsDefect, InsertPartsFace, MirrorKeepsCounts, MirrorKeepsPlane, NoncrossingAlongEdge, NoncrossingAtVertex, PathKeepsDefect, PathLiesInFace, PathPartsFace, RenumberingKeepsPlane, RestrictionIsMap, RestrictionKeepsPlane, RestrictionKeepsVertices, RingTellsOrder, SmoothingKeepsPlane, SplitKeepsPlane};
+ghost use Rattle.dart_maps.specs.Laws.{BondIsPlane, ContractionKeepsComponents, ContractionKeepsDefect, ContractionKeepsPlane, CornerCut, DropKeepsDefect, EulersInequality, FlipAloneKeepsAll, FlipAtOneKeepsAll, FlipKeepsComponents, FlipKeepsDefect, FlipKeepsFaces, FlipKeepsVertices, GluingCornersKeepsDefect, GluingKeepsPlane, InsertAcrossFaces, InsertKeepsDefect, InsertPartsFace, MirrorKeepsCounts, MirrorKeepsPlane, NoncrossingAlongEdge, NoncrossingAtVertex, PathKeepsDefect, PathLiesInFace, PathPartsFace, PlaneInParts, RenumberingKeepsPlane, RestrictionIsMap, RestrictionKeepsPlane, RestrictionKeepsVertices, RingTellsOrder, SmoothingAllKeepsPlane, SmoothingKeepsPlane, SplitKeepsPlane};
 
 /// Euler's inequality: in every map of darts, V + F is at most E + 2C.
 pub fn eulers_inequality()
     ensures { EulersInequality }
 {}
 
-/// The law that a map stays plane when a vertex is split, or when darts or edges are taken out.
+/// The law that a map stays plane when a vertex is split, or when darts or edges are taken out; and that it is plane where its
+/// parts are.
 pub fn plane_is_inherited()
     ensures split { SplitKeepsPlane }
     ensures restriction { RestrictionKeepsPlane }
     ensures restriction_is_map { RestrictionIsMap }
     ensures restriction_keeps_vertices { RestrictionKeepsVertices }
+    ensures in_parts { PlaneInParts }
 {}
 
 /// The corner cut: a plane map that is split at two corners of one vertex and one face falls apart there.
@@ -78,7 +82,8 @@ pub fn contraction_is_exact()
 
 /// The law that smoothing a path whose inner vertices have two darts each is exact; read backwards, subdividing an edge is.
 pub fn smoothing_is_exact()
-    ensures { SmoothingKeepsPlane }
+    ensures one { SmoothingKeepsPlane }
+    ensures all { SmoothingAllKeepsPlane }
 {}
 
 /// The law that the two-sum of plane maps is plane: two components glued along an edge of each, which is used up; or at two
