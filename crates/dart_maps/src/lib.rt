@@ -2,7 +2,8 @@
 //
 // A map with m edges has 2m darts, two for each edge, one at each of its ends; `twin` goes from the one to the other, and a
 // permutation `next` goes round the vertices. Leaving by a dart, arriving at its twin and going on from there is the step
-// along a face. So vertices and faces are orbits, components are the classes that both kinds of steps generate, and a map is
+// along a face. The corner of a dart p lies between p and the dart that follows p; the face that passes it is that of p's
+// twin, so the corners p and q lie in one face where twin p and twin q do. So vertices and faces are orbits, components are the classes that both kinds of steps generate, and a map is
 // plane where V + F = E + 2C. No topology is needed: one operation does everything, exchanging what follows two darts. It
 // splits a vertex or merges two, it splits a face or merges two, and the four cases of this decide all that is proved here.
 // In every map V + F is at most E + 2C; E + 2C - V - F, which is never written as a difference, is called the defect. What
