@@ -3,3 +3,5 @@ pub mod Below
 pub mod Incident
 pub mod OtherEnd
 mod Collecting
+mod FirstFault
+mod Instances

@@ -11,6 +11,7 @@
 
 mod faults;
 mod incidence;
+pub mod laws;
 mod lists;
 mod structure;
 

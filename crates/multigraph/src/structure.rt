@@ -7,7 +7,7 @@ ghost use Rattle.multigraph.specs.Build.{multigraph_of, IsFirstFault};
 use crate::faults::{BuildFault, check_ends};
 use crate::incidence::incident_lists;
 use crate::lists::Numbers;
-use std::alloc::Global;
+use std::alloc::{AllocError, Global};
 use std::marker::Model;
 
 const MAX_VERTICES: u32 = 20_000;
@@ -71,6 +71,16 @@ impl Graph {
             ends,
             incident,
         })
+    }
+
+    /// The same graph once more.
+    pub fn copy(&self, alloc: Global) -> Result<Graph, AllocError>
+        ensures { IfOk result (λ g. g ≡ self.now) }
+    {
+        match Graph::assemble(alloc, self.vertices, &self.ends) {
+            Ok(g) => Ok(g),
+            Err(_) => Err(AllocError),
+        }
     }
 
     /// The number of vertices.

@@ -28,6 +28,9 @@ fn reads_back_a_graph(rt: HostRuntime) -> Result<(), Fail> {
     assert_eq!(rt; g.incident(2), [1, 3, 5].as_slice());
     assert_eq!(rt; g.incident(4), [].as_slice());
     assert_eq!(rt; g.other_end(4, 3), 1);
+    let again = g.copy(rt.alloc())?;
+    assert_eq!(rt; again.vertex_count(), 5);
+    assert_eq!(rt; again.edge_count(), 6);
     Ok(())
 }
 

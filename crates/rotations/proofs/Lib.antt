@@ -9,3 +9,5 @@ mod Links
 mod Turns
 mod Stages
 mod Steps
+mod FirstBad
+mod Instances

@@ -11,6 +11,7 @@
 mod arrangement;
 mod entries;
 mod faults;
+pub mod laws;
 mod linking;
 mod rings;
 mod round;

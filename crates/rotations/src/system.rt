@@ -1,6 +1,6 @@
 // Rotation systems, kept as cyclic successors and predecessors of darts.
 
-ghost use Rattle.std.specs.Prelude.{◌≡◌, ℕ, ◌<◌, length, IfOk, IfErr};
+ghost use Rattle.std.specs.Prelude.{◌≡◌, ℕ, ◌<◌, ◌↔◌, length, IfOk, IfErr, IsTrue};
 ghost use Rattle.std.specs.List.{Contains};
 ghost use Rattle.permutations.specs.Cyclic.{successor, predecessor};
 ghost use Rattle.rotations.specs.Rotation.{order_at, IsRotationSystem};
@@ -116,4 +116,52 @@ impl Rotation {
         let ring = self.rings[v as usize];
         RotIter::from(&self.next, ring.first, ring.degree)
     }
+
+    /// The same rotation system once more.
+    pub fn copy(&self, alloc: Global) -> Result<Rotation, AllocError>
+        ensures { IfOk result (λ r. r ≡ self.now) }
+    {
+        let tails = Vec::from_slice(alloc, &self.tails)?;
+        let next = Vec::from_slice(alloc, &self.next)?;
+        let prev = Vec::from_slice(alloc, &self.prev)?;
+        let rings = Vec::from_slice(alloc, &self.rings)?;
+        Ok(Rotation {
+            tails,
+            next,
+            prev,
+            rings,
+        })
+    }
+
+    /// Whether the other has as many vertices and the same cyclic order at each.
+    pub fn same(&self, other: &Rotation) -> bool
+        ensures { IsTrue result ↔ (self.now ≡ other.now) }
+    {
+        if self.vertex_count() != other.vertex_count() {
+            return false;
+        }
+        for v in 0..self.vertex_count() {
+            if !same_round(self.list(v), other.list(v)) {
+                return false;
+            }
+        }
+        true
+    }
+}
+
+// Whether two walks give the same edges in the same order.
+fn same_round(mut left: RotIter<'_>, mut right: RotIter<'_>) -> bool
+    ensures { IsTrue result ↔ (left.entry ≡ right.entry) }
+{
+    while let Some(e) = left.next() {
+        match right.next() {
+            Some(f) => {
+                if e != f {
+                    return false;
+                }
+            }
+            None => return false,
+        }
+    }
+    right.next().is_none()
 }

@@ -87,6 +87,17 @@ fn reads_round_each_vertex(rt: HostRuntime) -> Result<(), Fail> {
             assert_eq!(rt; found.as_slice(), expected);
         }
     }
+    assert!(rt; r.same(&r.copy(alloc)?));
+    let other = lists_of(
+        alloc,
+        &[
+            (0, &[0, 1, 2]),
+            (1, &[0, 4, 3]),
+            (2, &[1, 3, 5]),
+            (3, &[2, 4, 5]),
+        ],
+    )?;
+    assert!(rt; !r.same(&Rotation::from_lists(alloc, &g, &other)?));
     Ok(())
 }
 
