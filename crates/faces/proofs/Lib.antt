@@ -19,3 +19,7 @@ pub mod MapMirror
 pub mod MapCorners
 pub mod MapBlocks
 mod MapExamples
+pub mod MapLists
+pub mod MapRestricted
+pub mod MapParts
+pub mod MapPartOrders

@@ -9,6 +9,7 @@ use Rattle.permutations.proofs.Members.{member-head, member-cases, no_member-hea
 use Rattle.permutations.proofs.Orbits.{orbit-ext}
 use Rattle.permutations.proofs.Iterates.{orbit-reaches}
 use Rattle.permutations.proofs.Chains.{chain}
+use Rattle.permutations.proofs.Renaming.{equivalence-through}
 use Rattle.multigraph.specs.Graph.{Multigraph, IsGraph, edge_count, is_end, other_end}
 use Rattle.rotations.specs.Rotation.{order_at, IsRotationSystem}
 use Rattle.rotations.proofs.Membership.{member-edge, member-end}
@@ -26,7 +27,7 @@ use Rattle.faces.specs.Euler.{tail, dart_from, dart_count, face_step, IsPlane}
 use Rattle.faces.specs.Maps.{dart_after, dart_before, IsOneBlock}
 use Rattle.faces.proofs.DartLemmas.{dart-edge, tail-end, dart_from-edge, dart_from-below, dart_from-tail, dart_from-of_dart, order-distinct, member-incident, face_back, face_step-permutes}
 use Rattle.faces.proofs.MapSteps.{tail-in, tail-twin, map-face, map-permutes, after-dart_from}
-use Rattle.faces.proofs.MapVertices.{pulled-equivalence, vertex-tail, tail-vertex, tail-order}
+use Rattle.faces.proofs.MapVertices.{vertex-tail, tail-vertex, tail-order}
 use Rattle.faces.proofs.MapCounts.{plane-map}
 use Rattle.faces.proofs.MapCorners.{face-once}
 
@@ -66,7 +67,7 @@ module _ (g : Multigraph) (r : List (List ℕ)) (ok : IsGraph g) (s : IsRotation
 
   -- the darts of another vertex are linked
   linked-order : (w : ℕ) → w < g.vertex_count → tail g p ≢ w → (e f : ℕ) → is_member e (order_at r w) ≡ true → is_member f (order_at r w) ≡ true → linked (dart_from g w e) (dart_from g w f) ≡ true
-  linked-order w l n = chain (λ e f. linked (dart_from g w e) (dart_from g w f)) (pulled-equivalence linked (dart_from g w) linked-equivalence) (order_at r w) (order-distinct g r w s l) step
+  linked-order w l n = chain (λ e f. linked (dart_from g w e) (dart_from g w f)) (equivalence-through linked (dart_from g w) linked-equivalence) (order_at r w) (order-distinct g r w s l) step
     where
       step : (e : ℕ) → is_member e (order_at r w) ≡ true → linked (dart_from g w e) (dart_from g w (successor (order_at r w) e)) ≡ true
       step e m =

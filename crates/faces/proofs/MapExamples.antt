@@ -1,12 +1,14 @@
 -- The map of darts of the complete graph on four vertices, and its mirror image, computed.
-use Rattle.std.proofs.Common.{◌≡◌, ℕ, ◌+◌, List, [], ◌∷◌, refl, ◌∙◌, arith}
+use Rattle.std.proofs.Common.{zero, suc, ◌<◌, map, filter, ◌≡◌, ℕ, ◌+◌, List, [], ◌∷◌, refl, ◌∙◌, arith}
 use Rattle.permutations.specs.Count.{count}
 use Rattle.permutations.proofs.Computed.{permutes-computed, orbit-count-computed}
-use Rattle.multigraph.specs.Graph.{Multigraph}
+use Rattle.multigraph.specs.Graph.{Multigraph, ends_of}
+use Rattle.rotations.specs.Rotation.{order_at}
 use Rattle.dart_maps.specs.Map.{twin, face, IsMap}
 use Rattle.dart_maps.specs.Map as maps
 use Rattle.dart_maps.proofs.Darts.{face-permutes}
 use Rattle.faces.specs.Euler.{is_isolated, face_count}
+use Rattle.faces.specs.Subgraph.{IsSubgraph, is_kept}
 use Rattle.faces.specs.Maps.{dart_after, dart_before, mirror_image}
 
 -- edges 0-1, 0-2, 0-3, 1-2, 1-3, 2-3, with one vertex inside the triangle of the others
@@ -64,7 +66,37 @@ mirrored_faces = refl
 
 -- where each vertex has at most two edges, a rotation system is its own mirror image
 abbrev triangle_orders : List (List ℕ)
-triangle_orders = (0 ∷ 2 ∷ []) ∷ (0 ∷ 1 ∷ []) ∷ (1 ∷ 2 ∷ []) ∷ []
+triangle_orders = (0 ∷ 1 ∷ []) ∷ (0 ∷ 2 ∷ []) ∷ (1 ∷ 2 ∷ []) ∷ []
 
 triangle_mirrored : mirror_image triangle_orders ≡ triangle_orders
 triangle_mirrored = refl
+
+-- the triangle of the vertices 1, 2 and 3, with numbers of its own
+abbrev triangle : Multigraph
+triangle = record { vertex_count = 3; ends = (0, 1) ∷ (0, 2) ∷ (1, 2) ∷ [] }
+
+triangle_within : IsSubgraph triangle four_vertices (λ i. i + 3) (λ v. v + 1)
+triangle_within = record {
+  edges = λ i l. omega arith;
+  edges_once = λ i j l k e. omega arith;
+  vertices = λ v l. omega arith;
+  vertices_once = λ u v l k e. omega arith;
+  first_ends = first;
+  second_ends = second;
+}
+  where
+    first : (i : ℕ) → i < 3 → (ends_of four_vertices (i + 3)).0 ≡ (ends_of triangle i).0 + 1
+    first zero l = refl
+    first (suc zero) l = refl
+    first (suc (suc zero)) l = refl
+    first (suc (suc (suc i))) l = omega arith
+
+    second : (i : ℕ) → i < 3 → (ends_of four_vertices (i + 3)).1 ≡ (ends_of triangle i).1 + 1
+    second zero l = refl
+    second (suc zero) l = refl
+    second (suc (suc zero)) l = refl
+    second (suc (suc (suc i))) l = omega arith
+
+-- round vertex 2 are left the edges 3 and 5, which the triangle has as 0 and 2
+left_round_2 : filter (is_kept triangle (λ i. i + 3)) (order_at orders 2) ≡ map (λ i. i + 3) (order_at triangle_orders 1)
+left_round_2 = refl

@@ -32,19 +32,23 @@ first-at : (l : List ℕ) → first_or 0 l ≡ get_or l 0 0
 first-at [] = refl
 first-at (x ∷ xs) = refl
 
--- the first edge round a vertex is the least
-pub order-least : (g : Multigraph) (r : List (List ℕ)) (v : ℕ) → IsRotationSystem g r → v < g.vertex_count → (e : ℕ) → is_member e (order_at r v) ≡ true → first_or 0 (order_at r v) ≤ e
-order-least g r v s l e m =
-    let w = at_from_Contains (incident_edges g v) e (contains-from_member (incident_edges g v) e (member-incident g r v e s l m)) in
+-- the first edge at a vertex is the least
+pub incident-least : (g : Multigraph) (v e : ℕ) → is_member e (incident_edges g v) ≡ true → first_or 0 (incident_edges g v) ≤ e
+incident-least g v e m =
+    let w = at_from_Contains (incident_edges g v) e (contains-from_member (incident_edges g v) e m) in
     let here : get_or (incident_edges g v) w.0 0 ≡ e = w.2 0 in
     elim (cases_eq w.0 0) [
       | inl z ↦
           let first : get_or (incident_edges g v) 0 0 ≡ e = ap (λ k. get_or (incident_edges g v) k 0) (sym z) ∙ here in
-          omega (arith, (s.orders v l).least_first, first-at (incident_edges g v), first)
+          omega (arith, first-at (incident_edges g v), first)
       | inr n ↦
           let rises : get_or (incident_edges g v) 0 0 < get_or (incident_edges g v) w.0 0 = incident-rises g v 0 w.0 0 (omega (arith, n)) w.1 in
-          omega (arith, (s.orders v l).least_first, first-at (incident_edges g v), here, rises)
+          omega (arith, first-at (incident_edges g v), here, rises)
     ]
+
+-- so is the first edge round it
+pub order-least : (g : Multigraph) (r : List (List ℕ)) (v : ℕ) → IsRotationSystem g r → v < g.vertex_count → (e : ℕ) → is_member e (order_at r v) ≡ true → first_or 0 (order_at r v) ≤ e
+order-least g r v s l e m = omega (arith, (s.orders v l).least_first, incident-least g v e (member-incident g r v e s l m))
 
 -- the mirror of a cyclic order begins with the same edge
 mirror-first : (l : List ℕ) → is_distinct l ≡ true → ((e : ℕ) → is_member e l ≡ true → first_or 0 l ≤ e) → first_or 0 (from_least (reverse l)) ≡ first_or 0 l

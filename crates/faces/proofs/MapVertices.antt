@@ -1,5 +1,5 @@
 -- The vertices and components of the map of darts are those of the graph.
-use Rattle.std.proofs.Common.{◌≡◌, ℕ, ◌+◌, ◌*◌, ◌/◌, ◌<◌, Bool, true, ◌==◌, List, refl, sym, ap, ◌∙◌, subst, arith}
+use Rattle.std.proofs.Common.{◌≡◌, ℕ, ◌+◌, ◌*◌, ◌/◌, ◌<◌, true, ◌==◌, List, refl, sym, ap, ◌∙◌, subst, arith}
 use Rattle.std.proofs.lemmas.Bool.{eq-eqb, eqb-true}
 use Rattle.std.proofs.lemmas.List.Elements.{All-from_get_or}
 use Rattle.permutations.specs.Count.{some, least}
@@ -10,6 +10,7 @@ use Rattle.permutations.proofs.Search.{some-from, least-below, least-passes}
 use Rattle.permutations.proofs.Relation.{same-tests, kernel-equivalence, connected-equivalence, connected-least}
 use Rattle.permutations.proofs.Orbits.{orbit-equivalence, orbit-least, orbit-step}
 use Rattle.permutations.proofs.Chains.{chain}
+use Rattle.permutations.proofs.Renaming.{equivalence-through}
 use Rattle.multigraph.specs.Graph.{Multigraph, IsGraph, edge_count, ends_of, is_end, other_end}
 use Rattle.rotations.specs.Rotation.{order_at, IsRotationSystem}
 use Rattle.rotations.proofs.Membership.{member-edge, member-end}
@@ -21,14 +22,6 @@ use Rattle.faces.specs.Maps.{dart_after}
 use Rattle.faces.proofs.DartLemmas.{dart-edge, tail-end, tail-first, tail-second, dart_from-below, dart_from-of_dart, order-distinct, order-member, member-incident}
 use Rattle.faces.proofs.Neighbours.{edge-neighbour, neighbour-connected}
 use Rattle.faces.proofs.MapSteps.{tail-in, tail-twin, after-tail, after-dart_from}
-
--- an equivalence of the values of a function is one of the arguments
-pub pulled-equivalence : (r : ℕ → ℕ → Bool) (f : ℕ → ℕ) → IsEquivalence r → IsEquivalence (λ x y. r (f x) (f y))
-pulled-equivalence r f e = record {
-  reflexive = λ x. e.reflexive (f x);
-  symmetric = λ x y t. e.symmetric (f x) (f y) t;
-  transitive = λ x y z t u. e.transitive (f x) (f y) (f z) t u;
-}
 
 -- darts of one vertex of the map leave one vertex of the graph
 pub vertex-tail : (g : Multigraph) (r : List (List ℕ)) → IsGraph g → IsRotationSystem g r → (c d : ℕ) → same_vertex (edge_count g) (dart_after g r) c d ≡ true → tail g c ≡ tail g d
@@ -43,7 +36,7 @@ tail-order g r d ok s l = order-member g r (tail g d) (d / 2) s (tail-in g d ok 
 pub order-vertex : (g : Multigraph) (r : List (List ℕ)) (v : ℕ) → IsRotationSystem g r → v < g.vertex_count → (e f : ℕ) → is_member e (order_at r v) ≡ true → is_member f (order_at r v) ≡ true
     → same_vertex (edge_count g) (dart_after g r) (dart_from g v e) (dart_from g v f) ≡ true
 order-vertex g r v s l = chain (λ e f. same_vertex (edge_count g) (dart_after g r) (dart_from g v e) (dart_from g v f))
-    (pulled-equivalence (same_vertex (edge_count g) (dart_after g r)) (dart_from g v) (orbit-equivalence (dart_count g) (dart_after g r)))
+    (equivalence-through (same_vertex (edge_count g) (dart_after g r)) (dart_from g v) (orbit-equivalence (dart_count g) (dart_after g r)))
     (order_at r v) (order-distinct g r v s l) step
   where
     step : (e : ℕ) → is_member e (order_at r v) ≡ true → same_vertex (edge_count g) (dart_after g r) (dart_from g v e) (dart_from g v (successor (order_at r v) e)) ≡ true
@@ -76,7 +69,7 @@ twin-connected g d ok l = subst (λ v. connected g.ends (tail g d) v ≡ true) (
 
 -- darts of one component of the map leave connected vertices
 pub component-tail : (g : Multigraph) (r : List (List ℕ)) → IsGraph g → IsRotationSystem g r → (c d : ℕ) → same_component (edge_count g) (dart_after g r) c d ≡ true → connected g.ends (tail g c) (tail g d) ≡ true
-component-tail g r ok s c d t = component-least (edge_count g) (dart_after g r) (λ x y. connected g.ends (tail g x) (tail g y)) (pulled-equivalence (connected g.ends) (tail g) (connected-equivalence g.ends))
+component-tail g r ok s c d t = component-least (edge_count g) (dart_after g r) (λ x y. connected g.ends (tail g x) (tail g y)) (equivalence-through (connected g.ends) (tail g) (connected-equivalence g.ends))
     (λ z l. subst (λ v. connected g.ends (tail g z) v ≡ true) (sym (after-tail g r z ok s l)) ((connected-equivalence g.ends).reflexive (tail g z)))
     (λ z l. twin-connected g z ok l) c d t
 
@@ -114,7 +107,7 @@ tail-component g r ok s c d l k t =
 
     firsts : same_component (edge_count g) (dart_after g r) (first_dart g (tail g c)) (first_dart g (tail g d)) ≡ true
     firsts = connected-least g.ends (λ u v. same_component (edge_count g) (dart_after g r) (first_dart g u) (first_dart g v))
-        (pulled-equivalence (same_component (edge_count g) (dart_after g r)) (first_dart g) k_is)
+        (equivalence-through (same_component (edge_count g) (dart_after g r)) (first_dart g) k_is)
         (All-from_get_or (λ link. same_component (edge_count g) (dart_after g r) (first_dart g link.0) (first_dart g link.1) ≡ true) g.ends (0, 0) along)
         (tail g c) (tail g d) t
 

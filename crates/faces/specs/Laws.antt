@@ -7,6 +7,7 @@ use Rattle.multigraph.specs.Graph.{Multigraph, IsGraph, edge_count, incident_edg
 use Rattle.rotations.specs.Rotation.{IsRotationSystem}
 use Rattle.dart_maps.specs.Map as maps
 use Rattle.faces.specs.Euler.{tail, dart_count, face_step, is_isolated, face_count, component_count, IsPlane}
+use Rattle.faces.specs.Subgraph.{IsSubgraph, IsRestriction}
 use Rattle.faces.specs.Maps.{dart_after, dart_before, IsPlaneMap, IsOneBlock, mirror_image}
 
 -- Euler's inequality: for every rotation system of every graph, V + F is at most E + 2C
@@ -70,3 +71,13 @@ MirrorDiffers = (g : Multigraph) (r : List (List ℕ)) → IsRotationSystem g r 
 abbrev pub FacePassesOnce : Type 0
 FacePassesOnce = (g : Multigraph) (r : List (List ℕ)) → IsGraph g → IsRotationSystem g r → IsPlane g r → IsOneBlock g → (c d : ℕ) → c < dart_count g → d < dart_count g
     → reaches (dart_count g) (face_step g r) c d ≡ true → tail g c ≡ tail g d → c ≡ d
+
+-- what a rotation system leaves of itself on a subgraph: there is such a rotation system of the subgraph
+abbrev pub RestrictionExists : Type 0
+RestrictionExists = (part g : Multigraph) (edge vertex : ℕ → ℕ) (outer : List (List ℕ)) → IsGraph part → IsGraph g → IsSubgraph part g edge vertex → IsRotationSystem g outer
+    → (inner : List (List ℕ)) × IsRotationSystem part inner × IsRestriction part edge vertex outer inner
+
+-- and it is plane where the whole is
+abbrev pub RestrictionKeepsPlane : Type 0
+RestrictionKeepsPlane = (part g : Multigraph) (edge vertex : ℕ → ℕ) (outer inner : List (List ℕ)) → IsGraph part → IsGraph g → IsSubgraph part g edge vertex → IsRotationSystem g outer → IsRotationSystem part inner
+    → IsRestriction part edge vertex outer inner → IsPlane g outer → IsPlane part inner

@@ -6,3 +6,4 @@ pub mod Steps
 pub mod Trace
 pub mod Maps
 pub mod Laws
+pub mod Subgraph

@@ -1,6 +1,6 @@
 // The laws of rotation systems and their faces: each is a function without a body, whose contract is the theorem.
 
-ghost use Rattle.faces.specs.Laws.{EulersInequality, FacePassesOnce, IsolatedVerticesBesides, MapHasComponents, MapHasFaces, MapHasVertices, MirrorDiffers, MirrorGoesBack, MirrorIsRotationSystem, MirrorKeepsFaces, MirrorKeepsPlane, MirrorTwice, PlaneWhereMapIs, RotationSystemIsMap};
+ghost use Rattle.faces.specs.Laws.{EulersInequality, FacePassesOnce, IsolatedVerticesBesides, MapHasComponents, MapHasFaces, MapHasVertices, MirrorDiffers, MirrorGoesBack, MirrorIsRotationSystem, MirrorKeepsFaces, MirrorKeepsPlane, MirrorTwice, PlaneWhereMapIs, RestrictionExists, RestrictionKeepsPlane, RotationSystemIsMap};
 
 /// Euler's inequality (Euler 1758, Heffter 1891): for every rotation system of every graph, V + F is at most E + 2C.
 pub fn eulers_inequality()
@@ -33,4 +33,11 @@ pub fn mirror_image()
 /// The law that in a plane rotation system of a graph whose edges are one block each face passes each vertex at most once.
 pub fn faces_of_block_are_simple()
     ensures { FacePassesOnce }
+{}
+
+/// The law that a rotation system restricted to a subgraph, with numbers of its own, is a rotation system of the subgraph,
+/// and is plane where the whole is: so each subgraph of a graph with a plane rotation system has one.
+pub fn restriction_keeps_plane()
+    ensures exists { RestrictionExists }
+    ensures plane { RestrictionKeepsPlane }
 {}
