@@ -1,9 +1,9 @@
 -- Chains of parents among the visited vertices, and that they stay when something else is written.
-use Rattle.std.proofs.Common.{◌≡◌, ◌≢◌, ℕ, zero, suc, ◌+◌, ◌<◌, ◌≤◌, Bool, true, false, List, length, get_or, refl, sym, ap, ◌∙◌, subst, arith}
+use Rattle.std.proofs.Common.{◌≡◌, ℕ, zero, suc, ◌+◌, ◌<◌, ◌≤◌, Bool, true, List, length, get_or, refl, ap, ◌∙◌, arith}
 use Rattle.permutations.specs.Permutation.{iterate}
 use Rattle.multigraph.specs.Graph.{Multigraph}
 use Rattle.graph_theory.specs.SearchTree.{IsBelow}
-use Rattle.blocks.specs.Searching.{flag, IsOnPath, IsGrown, OnPath}
+use Rattle.blocks.specs.Searching.{flag, IsOnPath, IsGrown}
 
 -- steps to the parent stay among the visited vertices, and each goes up by one
 pub chain : (g : Multigraph) (visited : List Bool) (parent depth parent_edge : List ℕ) (seen : List Bool) (lower : List ℕ) → IsGrown g visited parent depth parent_edge seen lower → (i v : ℕ) → flag visited v ≡ true → i ≤ get_or depth v 0 → (flag visited (iterate (λ k. get_or parent k 0) i v) ≡ true) × (get_or depth (iterate (λ k. get_or parent k 0) i v) 0 + i ≡ get_or depth v 0)

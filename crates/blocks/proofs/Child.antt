@@ -1,17 +1,16 @@
 -- An edge was seen that leads to a vertex not visited before: what holds between turns is kept.
-use Rattle.std.proofs.Common.{◌≡◌, ◌≢◌, ℕ, zero, suc, ◌+◌, ◌-◌, ◌<◌, ◌≤◌, ◌⊎◌, inl, inr, Bool, true, false, not, ◌||◌, ◌==◌, List, [], ◌∷◌, ◌++◌, length, take, get_or, set, refl, sym, ap, ◌∙◌, subst, arith, length-set, length-append}
-use Rattle.std.proofs.lemmas.Bool.{cases_Bool, cases_eq, cases_lt, both_ways, false_from_ne_true, true≢false, eq-eqb, eqb-true}
+use Rattle.std.proofs.Common.{◌≡◌, ◌≢◌, ℕ, ◌+◌, ◌<◌, ◌≤◌, ◌⊎◌, inl, inr, Bool, true, false, ◌||◌, List, [], ◌∷◌, ◌++◌, length, take, get_or, set, refl, sym, ap, ◌∙◌, subst, arith, length-set, length-append}
+use Rattle.std.proofs.lemmas.Bool.{cases_Bool, cases_eq, cases_lt, true≢false}
 use Rattle.std.proofs.lemmas.List.{get_or_append_left, get_or_push, take-append-le}
 use Rattle.std.proofs.Math.Seq.{take-append_seam}
 use Rattle.permutations.specs.Members.{is_member, is_distinct}
 use Rattle.permutations.specs.Permutation.{iterate}
-use Rattle.permutations.proofs.Members.{member-head, member-append, member-append_left, member-append_right, no_member-cons, distinct-append}
+use Rattle.permutations.proofs.Members.{member-head, member-append, member-append_right, no_member-cons, distinct-append}
 use Rattle.permutations.proofs.Arrangements.{member-at}
 use Rattle.multigraph.specs.Graph.{Multigraph, edge_count, is_end, other_end, incident_edges}
-use Rattle.graph_theory.specs.SearchTree.{IsBelow}
 use Rattle.graph_theory.proofs.Ends.{other-is_end, other-other}
 use Rattle.blocks.specs.State.{SearchState, child_noted}
-use Rattle.blocks.specs.Searching.{flag, degree, HasPlaces, IsOnPath, IsGrown, IsLooked, IsSeen, IsLow, IsOrdered, OnPath, SeenLeadsTo, IsSearching}
+use Rattle.blocks.specs.Searching.{flag, IsOnPath, IsGrown, IsSeen, IsLow, IsOrdered, OnPath, SeenLeadsTo, IsSearching}
 use Rattle.blocks.proofs.Writes.{number-same, number-other, flag-same, flag-other, flag-cases, flag-kept, flags-differ}
 use Rattle.blocks.proofs.Ancestors.{iterate-kept}
 use Rattle.blocks.proofs.Leads.{upper-visited, leads-kept}
@@ -43,8 +42,8 @@ order-longer visited order w l f d m = (distinct-append order (w ∷ []) d refl 
     members v = elim (cases_eq v w) [
       | inl e ↦ subst (λ (z : ℕ). is_member z (order ++ w ∷ []) ≡ flag (set visited w true) z) (sym e) (member-append_right w order (w ∷ []) (member-head w []) ∙ sym (flag-same visited w l))
       | inr n ↦
-        let none : is_member v (w ∷ []) ≡ false = no_member-cons v w [] (λ e. n (sym e)) refl in
-        member-append v order (w ∷ []) ∙ (either (is_member v order) (is_member v (w ∷ [])) none ∙ (m v ∙ sym (flag-other visited w v n)))
+          let none : is_member v (w ∷ []) ≡ false = no_member-cons v w [] (λ e. n (sym e)) refl in
+          member-append v order (w ∷ []) ∙ (either (is_member v order) (is_member v (w ∷ [])) none ∙ (m v ∙ sym (flag-other visited w v n)))
     ]
       where
         either : (a b : Bool) → b ≡ false → (a || b) ≡ a
@@ -63,7 +62,6 @@ pub record IsChild (g : Multigraph) (s : SearchState) (v e w k : ℕ) : Type 0 w
   pub here : get_or s.path k 0 ≡ v
 
 module _ (g : Multigraph) (s : SearchState) (v e w k : ℕ) (b : IsSearching g s) (f : IsChild g s v e w k) where
-
   visited' : List Bool
   visited' = set s.visited w true
 
@@ -220,12 +218,12 @@ module _ (g : Multigraph) (s : SearchState) (v e w k : ℕ) (b : IsSearching g s
     ];
     from_parent = λ j l. elim (place-cases (j + 1) l) [
       | inl a ↦
-        ap (λ (z : ℕ). get_or parent' z 0) (path-kept (j + 1) a) ∙
-        (parent-kept (get_or s.path (j + 1) 0) (b.on_path.visits (j + 1) a) ∙ (b.on_path.from_parent j a ∙ sym (path-kept j (omega arith))))
+          ap (λ (z : ℕ). get_or parent' z 0) (path-kept (j + 1) a) ∙
+          (parent-kept (get_or s.path (j + 1) 0) (b.on_path.visits (j + 1) a) ∙ (b.on_path.from_parent j a ∙ sym (path-kept j (omega arith))))
       | inr c ↦
-        let q : j ≡ k = omega (arith, f.last) in
-        ap (λ (z : ℕ). get_or parent' z 0) (ap (λ (q : ℕ). get_or path' q 0) c ∙ path-last) ∙
-        (parent-child ∙ (sym f.here ∙ (ap (λ (z : ℕ). get_or s.path z 0) (sym q) ∙ sym (path-kept j (omega (arith, f.last))))))
+          let q : j ≡ k = omega (arith, f.last) in
+          ap (λ (z : ℕ). get_or parent' z 0) (ap (λ (q : ℕ). get_or path' q 0) c ∙ path-last) ∙
+          (parent-child ∙ (sym f.here ∙ (ap (λ (z : ℕ). get_or s.path z 0) (sym q) ∙ sym (path-kept j (omega (arith, f.last))))))
     ];
   }
 
@@ -243,8 +241,8 @@ module _ (g : Multigraph) (s : SearchState) (v e w k : ℕ) (b : IsSearching g s
     parent_depth = λ u h d. elim (visited-cases u h) [
       | inl q ↦ subst (λ (z : ℕ). get_or depth' (get_or parent' z 0) 0 + 1 ≡ get_or depth' z 0) (sym q) (subst (λ (z : ℕ). get_or depth' z 0 + 1 ≡ get_or depth' w 0) (sym parent-child) (omega (arith, depth-child, depth-kept v visited-here)))
       | inr o ↦
-        let x : 0 < get_or s.depth u 0 = omega (arith, depth-kept u o) in
-        subst (λ (z : ℕ). get_or depth' z 0 + 1 ≡ get_or depth' u 0) (sym (parent-kept u o)) (omega (arith, depth-kept u o, depth-kept (get_or s.parent u 0) (b.grown.parent_visited u o x), b.grown.parent_depth u o x))
+          let x : 0 < get_or s.depth u 0 = omega (arith, depth-kept u o) in
+          subst (λ (z : ℕ). get_or depth' z 0 + 1 ≡ get_or depth' u 0) (sym (parent-kept u o)) (omega (arith, depth-kept u o, depth-kept (get_or s.parent u 0) (b.grown.parent_visited u o x), b.grown.parent_depth u o x))
     ];
     edge_in = λ u h d. elim (visited-cases u h) [
       | inl q ↦ subst (λ (z : ℕ). get_or parent_edge' z 0 < edge_count g) (sym q) (subst (λ (z : ℕ). z < edge_count g) (sym edge-child) f.edge_in)
@@ -265,8 +263,8 @@ module _ (g : Multigraph) (s : SearchState) (v e w k : ℕ) (b : IsSearching g s
     edge_lower = λ u h d. elim (visited-cases u h) [
       | inl q ↦ subst (λ (z : ℕ). get_or lower' (get_or parent_edge' z 0) 0 ≡ z) (sym q) (ap (λ (z : ℕ). get_or lower' z 0) edge-child ∙ lower-here)
       | inr o ↦
-        let x : 0 < get_or s.depth u 0 = omega (arith, depth-kept u o) in
-        ap (λ (z : ℕ). get_or lower' z 0) (edge-kept u o) ∙ (lower-kept (get_or s.parent_edge u 0) (b.grown.edge_seen u o x) ∙ b.grown.edge_lower u o x)
+          let x : 0 < get_or s.depth u 0 = omega (arith, depth-kept u o) in
+          ap (λ (z : ℕ). get_or lower' z 0) (edge-kept u o) ∙ (lower-kept (get_or s.parent_edge u 0) (b.grown.edge_seen u o x) ∙ b.grown.edge_lower u o x)
     ];
   }
 
@@ -282,7 +280,7 @@ module _ (g : Multigraph) (s : SearchState) (v e w k : ℕ) (b : IsSearching g s
     ];
     upper_above = λ q h. elim (seen-cases q h) [
       | inl n ↦ subst (λ (z : ℕ). (c : ℕ) × (c < get_or depth' (get_or lower' z 0) 0) × (iterate (λ r. get_or parent' r 0) (c + 1) (get_or lower' z 0) ≡ other_end g z (get_or lower' z 0))) (sym n)
-        (subst (λ (z : ℕ). (c : ℕ) × (c < get_or depth' z 0) × (iterate (λ r. get_or parent' r 0) (c + 1) z ≡ other_end g e z)) (sym lower-here) (0, omega (arith, depth-child), parent-child ∙ sym child-leads))
+          (subst (λ (z : ℕ). (c : ℕ) × (c < get_or depth' z 0) × (iterate (λ r. get_or parent' r 0) (c + 1) z ≡ other_end g e z)) (sym lower-here) (0, omega (arith, depth-child), parent-child ∙ sym child-leads))
       | inr o ↦ subst (λ (z : ℕ). (c : ℕ) × (c < get_or depth' z 0) × (iterate (λ r. get_or parent' r 0) (c + 1) z ≡ other_end g q z)) (sym (lower-kept q o)) (upper q o)
     ];
   }
@@ -302,28 +300,28 @@ module _ (g : Multigraph) (s : SearchState) (v e w k : ℕ) (b : IsSearching g s
     at_frond = λ q h n. elim (seen-cases q h) [
       | inl m ↦ absurd (n (subst (λ (z : ℕ). get_or parent_edge' (get_or lower' z 0) 0 ≡ z) (sym m) (ap (λ (z : ℕ). get_or parent_edge' z 0) lower-here ∙ edge-child)))
       | inr o ↦
-        let z = get_or s.lower q 0 in
-        let zv = b.edges.lower_visited q o in
-        let yv = upper-visited g s.visited s.parent s.depth s.parent_edge s.seen s.lower b.grown b.edges q o in
-        let n' = λ (x : get_or s.parent_edge z 0 ≡ q). n (ap (λ (r : ℕ). get_or parent_edge' r 0) (lower-kept q o) ∙ (edge-kept z zv ∙ x)) in
-        subst (λ (r : ℕ). get_or low' r 0 ≤ get_or depth' (other_end g q r) 0) (sym (lower-kept q o))
-        (omega (arith, low-kept z zv, depth-kept (other_end g q z) yv, b.low.at_frond q o n'))
+          let z = get_or s.lower q 0 in
+          let zv = b.edges.lower_visited q o in
+          let yv = upper-visited g s.visited s.parent s.depth s.parent_edge s.seen s.lower b.grown b.edges q o in
+          let n' = λ (x : get_or s.parent_edge z 0 ≡ q). n (ap (λ (r : ℕ). get_or parent_edge' r 0) (lower-kept q o) ∙ (edge-kept z zv ∙ x)) in
+          subst (λ (r : ℕ). get_or low' r 0 ≤ get_or depth' (other_end g q r) 0) (sym (lower-kept q o))
+          (omega (arith, low-kept z zv, depth-kept (other_end g q z) yv, b.low.at_frond q o n'))
     ];
     at_parent = λ u h d. elim (visited-cases u h) [
       | inl q ↦ inr (subst (OnPath path') (sym q) on-child)
       | inr o ↦
-        let x : 0 < get_or s.depth u 0 = omega (arith, depth-kept u o) in
-        elim (b.low.at_parent u o x) [
-          | inl a ↦ inl (subst (λ (z : ℕ). get_or low' z 0 ≤ get_or low' u 0) (sym (parent-kept u o)) (omega (arith, low-kept u o, low-kept (get_or s.parent u 0) (b.grown.parent_visited u o x))))
-          | inr p ↦ inr (on-kept u p)
-        ]
+          let x : 0 < get_or s.depth u 0 = omega (arith, depth-kept u o) in
+          elim (b.low.at_parent u o x) [
+            | inl a ↦ inl (subst (λ (z : ℕ). get_or low' z 0 ≤ get_or low' u 0) (sym (parent-kept u o)) (omega (arith, low-kept u o, low-kept (get_or s.parent u 0) (b.grown.parent_visited u o x))))
+            | inr p ↦ inr (on-kept u p)
+          ]
     ];
     witness = λ u h. elim (visited-cases u h) [
       | inl q ↦ inl (subst (λ (z : ℕ). get_or low' z 0 ≡ get_or depth' z 0) (sym q) (low-child ∙ sym depth-child))
       | inr o ↦ elim (b.low.witness u o) [
         | inl a ↦ inl (low-kept u o ∙ (a ∙ sym (depth-kept u o)))
         | inr l ↦ inr (subst (SeenLeadsTo g parent' depth' parent_edge' seen' lower' u) (sym (low-kept u o))
-          (leads-kept g s.visited s.parent s.depth s.parent_edge s.seen s.lower b.grown b.edges parent' depth' parent_edge' seen' lower' parent-kept depth-kept edge-kept seen-kept lower-kept u (get_or s.low u 0) l))
+            (leads-kept g s.visited s.parent s.depth s.parent_edge s.seen s.lower b.grown b.edges parent' depth' parent_edge' seen' lower' parent-kept depth-kept edge-kept seen-kept lower-kept u (get_or s.low u 0) l))
       ]
     ];
   }

@@ -1,10 +1,10 @@
 -- Before anything was visited, what holds between turns holds.
-use Rattle.std.proofs.Common.{◌≡◌, ℕ, zero, suc, ◌+◌, ◌<◌, ◌≤◌, inl, inr, Bool, true, false, List, [], ◌∷◌, length, get_or, replicate, refl, sym, ap, ◌∙◌, arith}
+use Rattle.std.proofs.Common.{◌≡◌, ℕ, inl, inr, true, false, get_or, replicate, refl, sym, ◌∙◌, arith}
 use Rattle.std.proofs.lemmas.Bool.{true≢false, cases_lt}
 use Rattle.std.proofs.lemmas.List.{get_or-replicate, length-replicate, get_or_past}
 use Rattle.multigraph.specs.Graph.{Multigraph, edge_count}
 use Rattle.blocks.specs.State.{fresh}
-use Rattle.blocks.specs.Searching.{flag, degree, IsSearching}
+use Rattle.blocks.specs.Searching.{flag, IsSearching}
 
 -- a list of equal flags, none up
 flag-none : (n i : ℕ) → flag (replicate n false) i ≡ false

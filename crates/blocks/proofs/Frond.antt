@@ -1,12 +1,11 @@
 -- An edge was seen that leads to an ancestor: what holds between turns is kept.
-use Rattle.std.proofs.Common.{◌≡◌, ◌≢◌, ℕ, zero, suc, ◌+◌, ◌-◌, ◌<◌, ◌≤◌, ◌⊎◌, inl, inr, Bool, true, false, min, List, length, get_or, set, refl, sym, ap, ◌∙◌, subst, arith, length-set}
+use Rattle.std.proofs.Common.{◌≡◌, ◌≢◌, ℕ, ◌+◌, ◌<◌, ◌≤◌, ◌⊎◌, inl, inr, Bool, true, false, min, List, length, get_or, set, refl, sym, ap, ◌∙◌, subst, arith, length-set}
 use Rattle.std.proofs.lemmas.Bool.{cases_eq, cases_lt}
 use Rattle.permutations.specs.Permutation.{iterate}
 use Rattle.multigraph.specs.Graph.{Multigraph, edge_count, is_end, other_end, incident_edges}
-use Rattle.graph_theory.specs.SearchTree.{IsBelow}
 use Rattle.blocks.specs.State.{SearchState, frond_noted}
-use Rattle.blocks.specs.Searching.{flag, degree, HasPlaces, IsOnPath, IsGrown, IsLooked, IsSeen, IsLow, OnPath, SeenLeadsTo, IsSearching}
-use Rattle.blocks.proofs.Writes.{number-same, number-other, flag-same, flag-other, flag-cases, flag-kept, flags-differ}
+use Rattle.blocks.specs.Searching.{flag, IsGrown, IsSeen, IsLow, OnPath, SeenLeadsTo, IsSearching}
+use Rattle.blocks.proofs.Writes.{number-same, number-other, flag-same, flag-cases, flag-kept, flags-differ}
 use Rattle.blocks.proofs.Ancestors.{path-up}
 use Rattle.blocks.proofs.Leads.{leads-kept}
 
@@ -21,7 +20,6 @@ pub record IsFrond (g : Multigraph) (s : SearchState) (v e j i : ℕ) : Type 0 w
   pub there : get_or s.path j 0 ≡ other_end g e v
 
 module _ (g : Multigraph) (s : SearchState) (v e j i : ℕ) (k : IsSearching g s) (f : IsFrond g s v e j i) where
-
   -- the depth that the edge leads to
   reached : ℕ
   reached = get_or s.depth (other_end g e v) 0
@@ -130,7 +128,7 @@ module _ (g : Multigraph) (s : SearchState) (v e j i : ℕ) (k : IsSearching g s
     ];
     upper_above = λ q h. elim (seen-cases q h) [
       | inl n ↦ subst (λ (z : ℕ). (c : ℕ) × (c < get_or s.depth (get_or lower' z 0) 0) × (iterate (λ r. get_or s.parent r 0) (c + 1) (get_or lower' z 0) ≡ other_end g z (get_or lower' z 0))) (sym n)
-        (subst (λ (z : ℕ). (c : ℕ) × (c < get_or s.depth z 0) × (iterate (λ r. get_or s.parent r 0) (c + 1) z ≡ other_end g e z)) (sym lower-here) (i, omega (arith, depth-here), upper-here))
+          (subst (λ (z : ℕ). (c : ℕ) × (c < get_or s.depth z 0) × (iterate (λ r. get_or s.parent r 0) (c + 1) z ≡ other_end g e z)) (sym lower-here) (i, omega (arith, depth-here), upper-here))
       | inr o ↦ subst (λ (z : ℕ). (c : ℕ) × (c < get_or s.depth z 0) × (iterate (λ r. get_or s.parent r 0) (c + 1) z ≡ other_end g q z)) (sym (lower-kept q o)) (k.edges.upper_above q o)
     ];
   }
@@ -141,9 +139,9 @@ module _ (g : Multigraph) (s : SearchState) (v e j i : ℕ) (k : IsSearching g s
     at_most = λ u h. omega (arith, low-falls u, k.low.at_most u h);
     at_frond = λ q h n. elim (seen-cases q h) [
       | inl m ↦ subst (λ (z : ℕ). get_or low' (get_or lower' z 0) 0 ≤ get_or s.depth (other_end g z (get_or lower' z 0)) 0) (sym m)
-        (subst (λ (z : ℕ). get_or low' z 0 ≤ get_or s.depth (other_end g e z) 0) (sym lower-here) (omega (arith, low-here)))
+          (subst (λ (z : ℕ). get_or low' z 0 ≤ get_or s.depth (other_end g e z) 0) (sym lower-here) (omega (arith, low-here)))
       | inr o ↦ subst (λ (z : ℕ). get_or low' z 0 ≤ get_or s.depth (other_end g q z) 0) (sym (lower-kept q o))
-        (omega (arith, low-falls (get_or s.lower q 0), k.low.at_frond q o (λ x. n (ap (λ (z : ℕ). get_or s.parent_edge z 0) (lower-kept q o) ∙ x))))
+          (omega (arith, low-falls (get_or s.lower q 0), k.low.at_frond q o (λ x. n (ap (λ (z : ℕ). get_or s.parent_edge z 0) (lower-kept q o) ∙ x))))
     ];
     at_parent = λ u h d. elim (cases_eq u v) [
       | inl q ↦ inr (subst (OnPath s.path) (sym q) on-here)

@@ -1,9 +1,9 @@
 -- One more edge was looked at: what holds between turns is kept, and there is less to look at.
-use Rattle.std.proofs.Common.{◌≡◌, ◌≢◌, ℕ, zero, suc, ◌+◌, ◌-◌, ◌*◌, ◌<◌, ◌≤◌, ◌⊎◌, inl, inr, Bool, true, false, List, length, get_or, set, refl, sym, ap, ◌∙◌, subst, arith, length-set}
-use Rattle.std.proofs.lemmas.Bool.{cases_eq, cases_lt}
-use Rattle.multigraph.specs.Graph.{Multigraph, edge_count, incident_edges}
+use Rattle.std.proofs.Common.{◌≡◌, ◌≢◌, ℕ, zero, suc, ◌+◌, ◌<◌, ◌≤◌, inl, inr, true, List, length, get_or, set, refl, sym, ap, ◌∙◌, subst, arith, length-set}
+use Rattle.std.proofs.lemmas.Bool.{cases_eq}
+use Rattle.multigraph.specs.Graph.{Multigraph, incident_edges}
 use Rattle.blocks.specs.State.{SearchState, looked_further}
-use Rattle.blocks.specs.Searching.{flag, degree, HasPlaces, IsLooked, OnPath, IsSearching, looks_left, turns_left}
+use Rattle.blocks.specs.Searching.{flag, degree, HasPlaces, IsLooked, OnPath, IsSearching, looks_left}
 use Rattle.blocks.proofs.Writes.{number-same, number-other}
 
 -- the edges looked at, with one more at v, a vertex of the path
@@ -68,7 +68,7 @@ pub looks-fewer : (g : Multigraph) (position : List ℕ) (v n : ℕ) → v < n �
 looks-fewer g position v zero h l d = absurd (omega arith)
 looks-fewer g position v (suc n) h l d = elim (cases_eq n v) [
   | inl e ↦
-    let same : get_or (set position v (get_or position v 0 + 1)) n 0 ≡ get_or position v 0 + 1 = ap (λ (z : ℕ). get_or (set position v (get_or position v 0 + 1)) z 0) e ∙ number-same position v (get_or position v 0 + 1) l in
-    omega (arith, same, looks-other g position v (get_or position v 0 + 1) n (omega arith), ap (degree g) e, ap (λ (z : ℕ). get_or position z 0) e)
+      let same : get_or (set position v (get_or position v 0 + 1)) n 0 ≡ get_or position v 0 + 1 = ap (λ (z : ℕ). get_or (set position v (get_or position v 0 + 1)) z 0) e ∙ number-same position v (get_or position v 0 + 1) l in
+      omega (arith, same, looks-other g position v (get_or position v 0 + 1) n (omega arith), ap (degree g) e, ap (λ (z : ℕ). get_or position z 0) e)
   | inr ne ↦ omega (arith, looks-fewer g position v n (omega arith) l d, number-other position v n (get_or position v 0 + 1) ne)
 ]

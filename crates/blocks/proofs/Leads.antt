@@ -1,10 +1,9 @@
 -- What the seen edges lead to stays when more is written.
-use Rattle.std.proofs.Common.{◌≡◌, ◌≢◌, ℕ, zero, suc, ◌+◌, ◌<◌, ◌≤◌, Bool, true, false, List, length, get_or, refl, sym, ap, ◌∙◌, subst, arith}
-use Rattle.permutations.specs.Permutation.{iterate}
+use Rattle.std.proofs.Common.{◌≡◌, ℕ, ◌+◌, Bool, true, List, get_or, sym, ap, ◌∙◌, subst, arith}
 use Rattle.multigraph.specs.Graph.{Multigraph, other_end}
 use Rattle.graph_theory.specs.SearchTree.{IsBelow}
 use Rattle.blocks.specs.Searching.{flag, IsGrown, IsSeen, SeenLeadsTo}
-use Rattle.blocks.proofs.Ancestors.{chain, iterate-kept, below-kept}
+use Rattle.blocks.proofs.Ancestors.{chain, below-kept}
 
 -- the other end of a seen edge was visited
 pub upper-visited : (g : Multigraph) (visited : List Bool) (parent depth parent_edge : List ℕ) (seen : List Bool) (lower : List ℕ) → IsGrown g visited parent depth parent_edge seen lower → IsSeen g visited parent depth seen lower → (e : ℕ) → flag seen e ≡ true → flag visited (other_end g e (get_or lower e 0)) ≡ true
@@ -28,9 +27,9 @@ leads-kept g visited parent depth parent_edge seen lower t s parent' depth' pare
   is_seen = more w.edge w.is_seen;
   frond = λ q. w.frond (sym (edge z (s.lower_visited w.edge w.is_seen)) ∙ (ap (λ (k : ℕ). get_or parent_edge' k 0) (sym at) ∙ q));
   below = subst (IsBelow (λ k. get_or parent' k 0) (λ k. get_or depth' k 0) v) (sym at)
-    (below-kept g visited parent depth parent_edge seen lower t parent' depth' same deep v z (s.lower_visited w.edge w.is_seen) w.below);
+      (below-kept g visited parent depth parent_edge seen lower t parent' depth' same deep v z (s.lower_visited w.edge w.is_seen) w.below);
   reached = ap (λ (k : ℕ). get_or depth' (other_end g w.edge k) 0) at ∙
-    (deep (other_end g w.edge z) (upper-visited g visited parent depth parent_edge seen lower t s w.edge w.is_seen) ∙ w.reached);
+      (deep (other_end g w.edge z) (upper-visited g visited parent depth parent_edge seen lower t s w.edge w.is_seen) ∙ w.reached);
 }
   where
     z : ℕ

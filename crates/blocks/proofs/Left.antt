@@ -1,13 +1,11 @@
 -- The last vertex of the path was left: what holds between turns is kept.
-use Rattle.std.proofs.Common.{◌≡◌, ◌≢◌, ℕ, zero, suc, ◌+◌, ◌-◌, ◌<◌, ◌≤◌, ◌⊎◌, inl, inr, Bool, true, false, cond, min, ltb, List, [], length, take, get_or, set, refl, sym, ap, ◌∙◌, subst, arith, length-set}
+use Rattle.std.proofs.Common.{◌≡◌, ◌≢◌, ℕ, ◌+◌, ◌-◌, ◌<◌, ◌≤◌, ◌⊎◌, inl, inr, Bool, true, false, cond, min, ltb, List, length, take, get_or, set, sym, ap, ◌∙◌, subst, arith, length-set}
 use Rattle.std.proofs.lemmas.Bool.{cases_eq, cases_lt, cases_Bool}
 use Rattle.std.proofs.lemmas.List.{get_or-take, length-take-le}
-use Rattle.permutations.specs.Permutation.{iterate}
 use Rattle.permutations.proofs.Iterates.{iterate-sum}
-use Rattle.multigraph.specs.Graph.{Multigraph, edge_count, is_end, other_end, incident_edges}
-use Rattle.graph_theory.specs.SearchTree.{IsBelow}
+use Rattle.multigraph.specs.Graph.{Multigraph}
 use Rattle.blocks.specs.State.{SearchState, left}
-use Rattle.blocks.specs.Searching.{flag, degree, HasPlaces, IsOnPath, IsGrown, IsLooked, IsSeen, IsLow, IsOrdered, OnPath, SeenLeadsTo, IsSearching}
+use Rattle.blocks.specs.Searching.{flag, degree, IsOnPath, IsLooked, IsLow, OnPath, SeenLeadsTo, IsSearching}
 use Rattle.blocks.proofs.Writes.{number-same, number-other}
 use Rattle.blocks.proofs.Ancestors.{chain}
 
@@ -26,7 +24,6 @@ not_positive : (x : ℕ) → ltb 0 x ≡ false → x ≡ 0
 not_positive x h = grind arith
 
 module _ (g : Multigraph) (s : SearchState) (v k : ℕ) (b : IsSearching g s) (f : IsDone g s v k) where
-
   path' : List ℕ
   path' = take (length s.path - 1) s.path
 
@@ -61,8 +58,8 @@ module _ (g : Multigraph) (s : SearchState) (v k : ℕ) (b : IsSearching g s) (f
     visits = λ j l. let m : j < k = omega (arith, path-length) in subst (λ (z : ℕ). flag s.visited z ≡ true) (sym (path-at j m)) (b.on_path.visits j (omega (arith, f.last)));
     deep = λ j l. let m : j < k = omega (arith, path-length) in ap (λ (z : ℕ). get_or s.depth z 0) (path-at j m) ∙ b.on_path.deep j (omega (arith, f.last));
     from_parent = λ j l.
-      let m : j + 1 < k = omega (arith, path-length) in
-      ap (λ (z : ℕ). get_or s.parent z 0) (path-at (j + 1) m) ∙ (b.on_path.from_parent j (omega (arith, f.last)) ∙ sym (path-at j (omega arith)));
+        let m : j + 1 < k = omega (arith, path-length) in
+        ap (λ (z : ℕ). get_or s.parent z 0) (path-at (j + 1) m) ∙ (b.on_path.from_parent j (omega (arith, f.last)) ∙ sym (path-at j (omega arith)));
   }
 
   looked : IsLooked g s.visited s.position s.seen path'
@@ -157,12 +154,12 @@ module _ (g : Multigraph) (s : SearchState) (v k : ℕ) (b : IsSearching g s) (f
         is_seen = w.is_seen;
         frond = w.frond;
         below =
-          let r = chain g s.visited s.parent s.depth s.parent_edge s.seen s.lower b.grown w.below.steps (get_or s.lower w.edge 0) (b.edges.lower_visited w.edge w.is_seen) w.below.within in
-          record {
-            steps = 1 + w.below.steps;
-            within = omega (arith, r.1, ap (λ (z : ℕ). get_or s.depth z 0) w.below.leads);
-            leads = iterate-sum (λ z. get_or s.parent z 0) 1 w.below.steps (get_or s.lower w.edge 0) ∙ ap (λ (z : ℕ). get_or s.parent z 0) w.below.leads;
-          };
+            let r = chain g s.visited s.parent s.depth s.parent_edge s.seen s.lower b.grown w.below.steps (get_or s.lower w.edge 0) (b.edges.lower_visited w.edge w.is_seen) w.below.within in
+            record {
+              steps = 1 + w.below.steps;
+              within = omega (arith, r.1, ap (λ (z : ℕ). get_or s.depth z 0) w.below.leads);
+              leads = iterate-sum (λ z. get_or s.parent z 0) 1 w.below.steps (get_or s.lower w.edge 0) ∙ ap (λ (z : ℕ). get_or s.parent z 0) w.below.leads;
+            };
         reached = w.reached;
       }
 

@@ -10,3 +10,11 @@ mod Left
 mod See
 mod Turns
 mod Fresh
+mod Over
+mod Numbered
+mod Spreading
+mod Heads
+mod Found
+mod Places
+mod Meeting
+mod Collected

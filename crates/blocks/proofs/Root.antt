@@ -1,19 +1,17 @@
 -- A root was visited, while the path was empty: what holds between turns is kept.
-use Rattle.std.proofs.Common.{◌≡◌, ◌≢◌, ℕ, zero, suc, ◌+◌, ◌<◌, ◌≤◌, ◌⊎◌, inl, inr, Bool, true, false, List, [], ◌∷◌, ◌++◌, length, take, get_or, set, refl, sym, ap, ◌∙◌, subst, arith, length-set, length-append}
-use Rattle.std.proofs.lemmas.Bool.{cases_eq, cases_lt}
+use Rattle.std.proofs.Common.{◌≡◌, ◌≢◌, ℕ, ◌+◌, ◌<◌, ◌≤◌, ◌⊎◌, inl, inr, Bool, true, false, List, [], ◌∷◌, ◌++◌, length, take, get_or, set, refl, sym, ap, ◌∙◌, subst, arith, length-set, length-append}
+use Rattle.std.proofs.lemmas.Bool.{cases_lt}
 use Rattle.std.proofs.lemmas.List.{get_or_append_left, get_or_push, take-append-le}
 use Rattle.permutations.specs.Members.{is_member}
-use Rattle.permutations.specs.Permutation.{iterate}
 use Rattle.permutations.proofs.Arrangements.{member-at}
-use Rattle.multigraph.specs.Graph.{Multigraph, edge_count, is_end, other_end, incident_edges}
+use Rattle.multigraph.specs.Graph.{Multigraph, other_end}
 use Rattle.blocks.specs.State.{SearchState, root_noted}
-use Rattle.blocks.specs.Searching.{flag, HasPlaces, IsOnPath, IsGrown, IsLooked, IsSeen, IsLow, IsOrdered, OnPath, SeenLeadsTo, IsSearching}
-use Rattle.blocks.proofs.Writes.{number-same, number-other, flag-same, flag-other, flag-cases, flag-kept, flags-differ}
+use Rattle.blocks.specs.Searching.{flag, IsOnPath, IsGrown, IsSeen, IsLow, IsOrdered, OnPath, SeenLeadsTo, IsSearching}
+use Rattle.blocks.proofs.Writes.{number-same, number-other, flag-same, flag-cases, flag-kept, flags-differ}
 use Rattle.blocks.proofs.Leads.{upper-visited, leads-kept}
 use Rattle.blocks.proofs.Child.{on-last, order-longer}
 
 module _ (g : Multigraph) (s : SearchState) (r : ℕ) (b : IsSearching g s) (rl : r < g.vertex_count) (unvisited : flag s.visited r ≡ false) (empty : s.path ≡ []) where
-
   visited' : List Bool
   visited' = set s.visited r true
 
@@ -120,21 +118,21 @@ module _ (g : Multigraph) (s : SearchState) (r : ℕ) (b : IsSearching g s) (rl 
       | inr o ↦ omega (arith, low-kept u o, depth-kept u o, b.low.at_most u o)
     ];
     at_frond = λ e h n.
-      let z = get_or s.lower e 0 in
-      omega (arith, low-kept z (b.edges.lower_visited e h), depth-kept (other_end g e z) (upper-visited g s.visited s.parent s.depth s.parent_edge s.seen s.lower b.grown b.edges e h), b.low.at_frond e h n);
+        let z = get_or s.lower e 0 in
+        omega (arith, low-kept z (b.edges.lower_visited e h), depth-kept (other_end g e z) (upper-visited g s.visited s.parent s.depth s.parent_edge s.seen s.lower b.grown b.edges e h), b.low.at_frond e h n);
     at_parent = λ u h d.
-      let o = deep-visited u h d in
-      let x = deep-old u h d in
-      elim (b.low.at_parent u o x) [
-        | inl a ↦ inl (omega (arith, low-kept u o, low-kept (get_or s.parent u 0) (b.grown.parent_visited u o x)))
-        | inr p ↦ absurd (off u p)
-      ];
+        let o = deep-visited u h d in
+        let x = deep-old u h d in
+        elim (b.low.at_parent u o x) [
+          | inl a ↦ inl (omega (arith, low-kept u o, low-kept (get_or s.parent u 0) (b.grown.parent_visited u o x)))
+          | inr p ↦ absurd (off u p)
+        ];
     witness = λ u h. elim (visited-cases u h) [
       | inl q ↦ inl (subst (λ (z : ℕ). get_or low' z 0 ≡ get_or depth' z 0) (sym q) (low-root ∙ sym depth-root))
       | inr o ↦ elim (b.low.witness u o) [
         | inl a ↦ inl (low-kept u o ∙ (a ∙ sym (depth-kept u o)))
         | inr l ↦ inr (subst (SeenLeadsTo g s.parent depth' s.parent_edge s.seen s.lower u) (sym (low-kept u o))
-          (leads-kept g s.visited s.parent s.depth s.parent_edge s.seen s.lower b.grown b.edges s.parent depth' s.parent_edge s.seen s.lower (λ q m. refl) depth-kept (λ q m. refl) (λ q m. m) (λ q m. refl) u (get_or s.low u 0) l))
+            (leads-kept g s.visited s.parent s.depth s.parent_edge s.seen s.lower b.grown b.edges s.parent depth' s.parent_edge s.seen s.lower (λ q m. refl) depth-kept (λ q m. refl) (λ q m. m) (λ q m. refl) u (get_or s.low u 0) l))
       ]
     ];
   }

@@ -1,6 +1,6 @@
 -- An edge is seen at the last vertex of the path: the three cases, and what each leaves.
-use Rattle.std.proofs.Common.{◌≡◌, ◌≢◌, ℕ, zero, suc, ◌+◌, ◌-◌, ◌*◌, ◌<◌, ◌≤◌, ◌⊎◌, inl, inr, Bool, true, false, List, [], ◌∷◌, ◌++◌, length, get_or, set, refl, sym, ap, ◌∙◌, subst, arith, length-append}
-use Rattle.std.proofs.lemmas.Bool.{cases_eq, cases_lt, both_ways, true≢false}
+use Rattle.std.proofs.Common.{◌≡◌, ℕ, ◌+◌, ◌-◌, ◌<◌, inl, inr, true, false, [], ◌∷◌, length, get_or, refl, sym, ap, ◌∙◌, subst, arith, length-append}
+use Rattle.std.proofs.lemmas.Bool.{cases_lt, both_ways}
 use Rattle.std.proofs.lemmas.List.{get_or_default}
 use Rattle.multigraph.specs.Graph.{Multigraph, edge_count, is_end, other_end, incident_edges, IsGraph}
 use Rattle.multigraph.proofs.Incident.{incident-has}
@@ -8,8 +8,8 @@ use Rattle.graph_theory.proofs.Ends.{other-is_end, other-differs, end-in}
 use Rattle.blocks.specs.State.{SearchState, frond_noted, child_noted}
 use Rattle.blocks.specs.Searching.{flag, degree, IsSearching, IsLast, OnPath, IsSeenAt}
 use Rattle.blocks.proofs.Writes.{flag-same, flag-kept}
-use Rattle.blocks.proofs.Frond.{IsFrond, frond-kept}
-use Rattle.blocks.proofs.Child.{IsChild, child-kept, on-longer}
+use Rattle.blocks.proofs.Frond.{frond-kept}
+use Rattle.blocks.proofs.Child.{child-kept, on-longer}
 
 -- the last vertex of the path is on it
 pub last-on : (s : SearchState) (v : ℕ) → IsLast s v → OnPath s.path v

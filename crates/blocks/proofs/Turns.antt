@@ -1,14 +1,14 @@
 -- The turns of the search, as what the code has after them.
-use Rattle.std.proofs.Common.{◌≡◌, ◌≢◌, ℕ, zero, suc, ◌+◌, ◌-◌, ◌*◌, ◌<◌, ◌≤◌, ◌⊎◌, inl, inr, Bool, true, false, List, [], ◌∷◌, ◌++◌, length, take, get_or, set, refl, sym, ap, ◌∙◌, subst, arith, length-append, Some, None, Option}
-use Rattle.std.proofs.lemmas.Bool.{cases_eq, cases_lt, both_ways, true≢false}
+use Rattle.std.proofs.Common.{◌≡◌, ℕ, ◌+◌, ◌-◌, ◌<◌, ◌≤◌, inl, inr, Bool, true, false, List, length, get_or, sym, ap, ◌∙◌, subst, arith}
+use Rattle.std.proofs.lemmas.Bool.{cases_lt}
 use Rattle.std.proofs.lemmas.List.{length-take-le}
 use Rattle.permutations.proofs.Injection.{pigeonhole}
 use Rattle.multigraph.specs.Graph.{Multigraph, edge_count, is_end, other_end, incident_edges, IsGraph}
 use Rattle.multigraph.proofs.Incident.{length-incident, incident_at-edge, incident_at-end}
-use Rattle.blocks.specs.State.{SearchState, frond_noted, child_noted, looked_further, left, root_noted}
-use Rattle.blocks.specs.Searching.{flag, degree, IsOnPath, IsSearching, IsLast, OnPath, IsSeenAt, IsTurned, looks_left, turns_left}
+use Rattle.blocks.specs.State.{SearchState, frond_noted, child_noted, looked_further, left}
+use Rattle.blocks.specs.Searching.{flag, degree, IsOnPath, IsSearching, IsLast, IsSeenAt, IsTurned, looks_left}
 use Rattle.blocks.proofs.Further.{further-kept, looks-fewer}
-use Rattle.blocks.proofs.Left.{IsDone, left-kept}
+use Rattle.blocks.proofs.Left.{left-kept}
 use Rattle.blocks.proofs.See.{see-frond, see-child}
 
 -- the path has no more places than there are vertices
@@ -67,8 +67,8 @@ leave-turned g s new v k l d en = subst (IsTurned g s) (sym en) (record {
   searching = left-kept g s v l.place k (record { last = l.last; here = l.is; looked = omega (arith, d, k.looked.within v vl) });
   visited = λ u h. h;
   nearer =
-    let le : length s.path - 1 ≤ length s.path = omega arith in
-    omega (arith, length-take-le (length s.path - 1) s.path le, l.last);
+      let le : length s.path - 1 ≤ length s.path = omega arith in
+      omega (arith, length-take-le (length s.path - 1) s.path le, l.last);
 })
   where
     vl : v < g.vertex_count

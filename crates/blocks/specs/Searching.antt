@@ -3,7 +3,7 @@ use Rattle.std.specs.Prelude.{◌≡◌, ◌≢◌, ℕ, zero, suc, ◌+◌, ◌
 use Rattle.permutations.specs.Members.{is_member, is_distinct}
 use Rattle.permutations.specs.Permutation.{iterate}
 use Rattle.multigraph.specs.Graph.{Multigraph, edge_count, is_end, other_end, incident_edges}
-use Rattle.graph_theory.specs.SearchTree.{IsBelow, LeadsTo}
+use Rattle.graph_theory.specs.SearchTree.{IsBelow}
 use Rattle.blocks.specs.State.{SearchState}
 
 -- whether the list of flags has true at place i

@@ -1,9 +1,14 @@
 // Depth-first search with a stack of its own, and the low points of the vertices.
-ghost use Rattle.std.specs.Prelude.{◌≡◌, ◌+◌, ◌-◌, ◌<◌, true, false, [], length, IfOk, slice_index, slice_get};
+ghost use Rattle.std.specs.Prelude.{◌≡◌, ◌+◌, ◌-◌, ◌<◌, ◌≤◌, ◌⊎◌, ℕ, true, false, [], map, length, IfOk, slice_index, slice_get};
 ghost use Rattle.multigraph.specs.Graph.{edge_count, is_end, IsGraph};
 ghost use Rattle.blocks.specs.State.{SearchState, fresh, looked_further, frond_noted, root_noted, child_noted, left};
 ghost use Rattle.blocks.specs.Searching.{flag, degree, IsSearching, IsLast, IsSeenAt, IsTurned, IsExplored, IsOver};
+ghost use Rattle.blocks.specs.Spread.{IsSpreadOrder, IsSpread};
+ghost use Rattle.blocks.specs.Finding.{AreHeads, AreRoots, AreBlockNumbers};
+ghost use Rattle.blocks.specs.Blocks.{AreComponents};
 
+use crate::numbering::number_classes;
+use crate::spread::{labels_at, spread};
 use multigraph::Graph;
 use std::alloc::{AllocError, Global};
 use std::marker::Model;
@@ -265,7 +270,8 @@ impl Search {
 
     // Searches the whole graph, depth first (Tarjan 1972).
     pub(crate) fn of(alloc: Global, graph: &Graph) -> Result<Search, AllocError>
-        ensures { IfOk result (λ s. IsOver graph.now s) }
+        ensures over { IfOk result (λ s. IsOver graph.now s) }
+        ensures graph { IfOk result (λ _. IsGraph graph.now) }
     {
         let mut search = Search::new(alloc, graph)?;
         for root in 0..graph.vertex_count() {
@@ -273,4 +279,93 @@ impl Search {
         }
         Ok(search)
     }
+
+    // Whether the vertex is a root, or nothing leads from it or below it past its parent.
+    fn is_head(&self, vertex: u32) -> bool
+        requires depth_within { vertex < length self.now.depth }
+        requires parent_within { vertex < length self.now.parent }
+        requires low_within { vertex < length self.now.low }
+        requires grandparent_within { 0 < slice_index self.now.depth vertex → slice_index self.now.parent vertex < length self.now.depth }
+        ensures head { result ≡ true → (slice_index self.now.depth vertex ≡ 0) ⊎ (slice_index self.now.depth (slice_index self.now.parent vertex) ≤ slice_index self.now.low vertex) }
+        ensures other { result ≡ false → (0 < slice_index self.now.depth vertex) × (slice_index self.now.low vertex < slice_index self.now.depth (slice_index self.now.parent vertex)) }
+    {
+        if self.depth[vertex as usize] == 0 {
+            return true;
+        }
+        self.depth[self.parent[vertex as usize] as usize] <= self.low[vertex as usize]
+    }
+
+    // The flags of the vertices past whose parent nothing leads, and of the roots.
+    fn heads(&self, alloc: Global, graph: &Graph) -> Result<Vec<bool>, AllocError>
+        requires { IsOver graph.now self.now }
+        ensures { IfOk result (λ heads. AreHeads self.now graph.now.vertex_count heads.items) }
+    {
+        let mut heads = Vec::with_capacity(alloc, self.depth.len())?;
+        for vertex in 0..graph.vertex_count() {
+            heads.push(self.is_head(vertex))?;
+        }
+        Ok(heads)
+    }
+
+    // The flags of the roots.
+    fn roots(&self, alloc: Global, graph: &Graph) -> Result<Vec<bool>, AllocError>
+        requires { IsOver graph.now self.now }
+        ensures { IfOk result (λ roots. AreRoots self.now graph.now.vertex_count roots.items) }
+    {
+        let mut roots = Vec::with_capacity(alloc, self.depth.len())?;
+        for vertex in 0..graph.vertex_count() {
+            roots.push(self.depth_of(vertex) == 0)?;
+        }
+        Ok(roots)
+    }
+
+    // The label of each vertex: itself where it has a flag, else the label of its parent.
+    fn labels(&self, alloc: Global, own: &[bool]) -> Result<Vec<u32>, AllocError>
+        requires order { IsSpreadOrder (length self.now.parent) self.now.parent own.now self.now.order }
+        ensures labels { IfOk result (λ label. IsSpread self.now.parent own.now self.now.order label.items) }
+        ensures places { IfOk result (λ label. length label.items ≡ length self.now.parent) }
+    {
+        spread(alloc, &self.parent, own, &self.order)
+    }
+
+    // The label of the lower end of each edge.
+    fn edge_labels(&self, alloc: Global, label: &[u32]) -> Result<Vec<u32>, AllocError>
+        requires { (e : ℕ) → e < length self.now.lower → slice_index self.now.lower e < length label.now }
+        ensures { IfOk result (λ labels. labels.items ≡ map (slice_index label.now) self.now.lower) }
+    {
+        labels_at(alloc, &self.lower, label)
+    }
+}
+
+// The number of the block of each edge, blocks in order of their least edges, and how many blocks there are.
+pub(crate) fn number_blocks(
+    alloc: Global,
+    graph: &Graph,
+    search: &Search,
+) -> Result<(Vec<u32>, u32), AllocError>
+    requires graph { IsGraph graph.now }
+    requires over { IsOver graph.now search.now }
+    ensures { IfOk result (λ r. AreBlockNumbers graph.now r.0.items r.1) }
+{
+    let heads = search.heads(alloc, graph)?;
+    let label = search.labels(alloc, &heads)?;
+    let labels = search.edge_labels(alloc, &label)?;
+    let numbered = number_classes(alloc, &labels, graph.vertex_count() as usize)?;
+    Ok(numbered)
+}
+
+// The number of the component of each vertex, components in order of their least vertices, and how many there are.
+pub(crate) fn number_components(
+    alloc: Global,
+    graph: &Graph,
+    search: &Search,
+) -> Result<(Vec<u32>, u32), AllocError>
+    requires graph { IsGraph graph.now }
+    requires over { IsOver graph.now search.now }
+    ensures { IfOk result (λ r. AreComponents graph.now r.0.items r.1) }
+{
+    let roots = search.roots(alloc, graph)?;
+    let label = search.labels(alloc, &roots)?;
+    let numbered = number_classes(alloc, &label, graph.vertex_count() as usize)?;
+    Ok(numbered)
 }

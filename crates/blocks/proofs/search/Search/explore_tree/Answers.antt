@@ -1,5 +1,4 @@
 use Rattle.std.proofs.Common.{sym, subst}
-use Rattle.blocks.specs.State.{SearchState}
 use Rattle.blocks.specs.Searching.{IsSearching}
 use Rattle.blocks.proofs.Root.{root-kept}
 use Rattle.blocks.proofs.search.Search.explore_tree.Goals as goal

@@ -1,0 +1,26 @@
+-- Classes of equal labels, numbered in order of their first places.
+use Rattle.std.specs.Prelude.{◌≡◌, ℕ, ◌<◌, ◌==◌, Bool, true, List, length, slice_index}
+use Rattle.permutations.specs.Count.{count}
+use Rattle.permutations.specs.Relation.{leads}
+use Rattle.blocks.specs.Searching.{flag}
+
+-- whether two places have the same label
+abbrev pub same_label : List ℕ → ℕ → ℕ → Bool
+same_label labels i j = slice_index labels i == slice_index labels j
+
+-- each place has the number of its class: classes are numbered in order of their first places
+pub record IsNumbering (labels numbers : List ℕ) : Type 0 where
+  pub places : length numbers ≡ length labels
+  pub first : (i : ℕ) → i < length labels → leads (same_label labels) i ≡ true → slice_index numbers i ≡ count i (leads (same_label labels))
+  pub same : (i j : ℕ) → i < length labels → j < length labels → slice_index labels i ≡ slice_index labels j → slice_index numbers i ≡ slice_index numbers j
+  pub different : (i j : ℕ) → i < length labels → j < length labels → slice_index numbers i ≡ slice_index numbers j → slice_index labels i ≡ slice_index labels j
+
+-- the first i places were numbered: which labels were met, the number of each of them, and how many there are
+pub record IsNumbered (labels : List ℕ) (i : ℕ) (met : List Bool) (number_of numbers : List ℕ) (classes : ℕ) : Type 0 where
+  pub places : length numbers ≡ i
+  pub is_met : (j : ℕ) → j < i → flag met (slice_index labels j) ≡ true
+  pub is_number : (j : ℕ) → j < i → slice_index numbers j ≡ slice_index number_of (slice_index labels j)
+  pub first_place : (label : ℕ) → flag met label ≡ true → (j : ℕ) × (j < i) × (slice_index labels j ≡ label) × (leads (same_label labels) j ≡ true) × (slice_index number_of label ≡ count j (leads (same_label labels)))
+  pub below : (label : ℕ) → flag met label ≡ true → slice_index number_of label < classes
+  pub apart : (a b : ℕ) → flag met a ≡ true → flag met b ≡ true → slice_index number_of a ≡ slice_index number_of b → a ≡ b
+  pub total : classes ≡ count i (leads (same_label labels))
