@@ -1,5 +1,5 @@
 -- A reading answers what a script spells; a script has at most one reading, and one first bad line.
-use Rattle.std.proofs.Common.{◌≡◌, ℕ, ◌-◌, List, [], get_or, Result, Ok, Err, IfOk, IfErr, sym, subst, ◌∙◌, arith, zero, suc, inl, inr, ◌⊎◌, refl, ◌<◌, ◌∷◌, length, true, ap}
+use Rattle.std.proofs.Common.{◌≡◌, ℕ, ◌-◌, List, [], get_or, Result, Ok, Err, IfOk, IfErr, sym, subst, ◌∙◌, arith, zero, suc, inl, inr, ◌⊎◌, refl, ◌<◌, ◌∷◌, length}
 use Rattle.std.specs.Global.{Vec}
 use Rattle.std.specs.List.{AllZip}
 use Rattle.std.proofs.lemmas.Bool.{both_ways, cases_Bool, cases_order}
