@@ -27,3 +27,4 @@ pub mod Rounds
 pub mod InsertPath
 pub mod SmoothPaths
 pub mod Parts
+pub mod OneMore

@@ -33,6 +33,7 @@
 //   Noncrossing  noncrossing, restricted-vertex, restricted-more; LinkNoncrossing link-noncrossing, turn-at
 //   Bond         bond-plane, bond-plane-back, involution-count, pairs-involution
 //   TurnOver     turned-faces, turned-orbit; Flip flip-vertex, flip-faces, flip-component, flip-defect; FlipOne one-faces
+//   OneMore      one-more-behind, one-more-alone: a restriction with one dart more
 //   Rounds       ring-in-order, ring-in-turn: the order round a vertex, from its ring as a list
 #![tactic(auto)]
 
