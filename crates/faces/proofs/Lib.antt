@@ -23,3 +23,5 @@ pub mod MapLists
 pub mod MapRestricted
 pub mod MapParts
 pub mod MapPartOrders
+pub mod MapToLists
+pub mod MapTwins

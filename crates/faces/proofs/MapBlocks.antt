@@ -32,11 +32,11 @@ use Rattle.faces.proofs.MapCounts.{plane-map}
 use Rattle.faces.proofs.MapCorners.{face-once}
 
 -- a walk of no edges is no cycle
-cycle-some : (g : Multigraph) (x : ℕ) → IsCycle g x [] → ⊥
+pub cycle-some : (g : Multigraph) (x : ℕ) → IsCycle g x [] → ⊥
 cycle-some g x c = omega (arith, c.two)
 
 -- a vertex at an edge of a cycle is met where an edge of the cycle is entered
-cycle-meets : (g : Multigraph) (x : ℕ) (es : List ℕ) (e v : ℕ) → IsCycle g x es → is_member e es ≡ true → is_end g v e ≡ true → is_member v (walk_starts g x es) ≡ true
+pub cycle-meets : (g : Multigraph) (x : ℕ) (es : List ℕ) (e v : ℕ) → IsCycle g x es → is_member e es ≡ true → is_end g v e ≡ true → is_member v (walk_starts g x es) ≡ true
 cycle-meets g x [] e v c m i = absurd (cycle-some g x c)
 cycle-meets g x (h ∷ hs) e v c m i = elim (met-cases g x (h ∷ hs) v (edge-met g x (h ∷ hs) c.walk e v m i)) [
   | inl t ↦ t
@@ -154,13 +154,20 @@ module _ (g : Multigraph) (r : List (List ℕ)) (ok : IsGraph g) (s : IsRotation
       by_edges (inl z) = subst (λ x. linked (dart_from g (tail g p) (p / 2)) (dart_from g (tail g p) x) ≡ true) z (linked-equivalence.reflexive (dart_from g (tail g p) (p / 2)))
       by_edges (inr w) = on w (begun w)
 
--- in a plane rotation system of a graph of one block each face passes each vertex at most once
-pub block-face_once : (g : Multigraph) (r : List (List ℕ)) → IsGraph g → IsRotationSystem g r → IsPlane g r → IsOneBlock g → (c d : ℕ) → c < dart_count g → d < dart_count g
-    → reaches (dart_count g) (face_step g r) c d ≡ true → tail g c ≡ tail g d → c ≡ d
-block-face_once g r ok s plane block c d l k t e = elim (cases_eq c d) [
+-- so in a plane rotation system of one block no two darts of one face leave one vertex
+pub block-one_face : (g : Multigraph) (r : List (List ℕ)) → IsGraph g → IsRotationSystem g r → IsPlane g r → IsOneBlock g → (c d : ℕ) → c < dart_count g → d < dart_count g
+    → same_orbit (dart_count g) (face (dart_after g r)) c d ≡ true → tail g c ≡ tail g d → c ≡ d
+block-one_face g r ok s plane block c d l k t e = elim (cases_eq c d) [
   | inl q ↦ q
   | inr n ↦ absurd (both_ways (same_orbit (dart_count g) (face (dart_after g r)) c d)
       (face-once (edge_count g) (dart_after g r) (dart_before g r) (map-permutes g r ok s) (plane-map g r ok s plane) c d l k n (tail-vertex g r ok s c d l k e)
       (linked-block g r ok s c d l k e (block (c / 2) (d / 2) (dart-edge g c l) (dart-edge g d k))))
-      (orbit-ext (dart_count g) (face (dart_after g r)) (face_step g r) (λ x j. map-face g r x ok j) c d ∙ orbit-reaches (dart_count g) (face_step g r) (face_back g r) (face_step-permutes g r ok s) c d l ∙ t))
+      t)
 ]
+
+-- each face passes each vertex at most once
+pub block-face_once : (g : Multigraph) (r : List (List ℕ)) → IsGraph g → IsRotationSystem g r → IsPlane g r → IsOneBlock g → (c d : ℕ) → c < dart_count g → d < dart_count g
+    → reaches (dart_count g) (face_step g r) c d ≡ true → tail g c ≡ tail g d → c ≡ d
+block-face_once g r ok s plane block c d l k t e = block-one_face g r ok s plane block c d l k
+    (orbit-ext (dart_count g) (face (dart_after g r)) (face_step g r) (λ x j. map-face g r x ok j) c d ∙ orbit-reaches (dart_count g) (face_step g r) (face_back g r) (face_step-permutes g r ok s) c d l ∙ t)
+    e

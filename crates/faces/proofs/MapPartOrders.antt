@@ -20,7 +20,7 @@ use Rattle.faces.proofs.MapLists.{member-map, map-member, distinct-map, map-back
 use Rattle.faces.proofs.MapParts.{place, edge-kept, place-edge, edge-place}
 
 -- the first of a cyclic order in normal form is the least
-from_least-least : (l : List ℕ) (z : ℕ) → is_member z (from_least l) ≡ true → first_or 0 (from_least l) ≤ z
+pub from_least-least : (l : List ℕ) (z : ℕ) → is_member z (from_least l) ≡ true → first_or 0 (from_least l) ≤ z
 from_least-least l z m =
     let n : is_member z l ≡ true = sym (from_least-member l z) ∙ m in
     omega (arith, from_least-first_or l z n, least_or-le (first_or 0 l) z l n)

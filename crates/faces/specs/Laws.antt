@@ -1,5 +1,5 @@
 -- What is proved of rotation systems and their faces, as statements.
-use Rattle.std.specs.Prelude.{◌≡◌, ◌≢◌, ℕ, ◌+◌, ◌*◌, ◌<◌, ◌≤◌, ◌↔◌, ◌==◌, true, List, length}
+use Rattle.std.specs.Prelude.{◌≡◌, ◌≢◌, ℕ, ◌+◌, ◌*◌, ◌<◌, ◌≤◌, ◌↔◌, ◌==◌, true, false, List, length}
 use Rattle.permutations.specs.Count.{count}
 use Rattle.permutations.specs.Relation.{connected}
 use Rattle.permutations.specs.Permutation.{reaches}
@@ -81,3 +81,18 @@ RestrictionExists = (part g : Multigraph) (edge vertex : ℕ → ℕ) (outer : L
 abbrev pub RestrictionKeepsPlane : Type 0
 RestrictionKeepsPlane = (part g : Multigraph) (edge vertex : ℕ → ℕ) (outer inner : List (List ℕ)) → IsGraph part → IsGraph g → IsSubgraph part g edge vertex → IsRotationSystem g outer → IsRotationSystem part inner
     → IsRestriction part edge vertex outer inner → IsPlane g outer → IsPlane part inner
+
+-- with two edges or more the two darts of an edge lie on different faces
+abbrev pub EdgeOnTwoFaces : Type 0
+EdgeOnTwoFaces = (g : Multigraph) (r : List (List ℕ)) → IsGraph g → IsRotationSystem g r → IsPlane g r → IsOneBlock g → 2 ≤ edge_count g → (d : ℕ) → d < dart_count g
+    → reaches (dart_count g) (face_step g r) d (maps.twin d) ≡ false
+
+-- a map in which darts are of one vertex exactly where they leave one vertex of the graph is the map of a rotation system
+abbrev pub MapIsRotationSystem : Type 0
+MapIsRotationSystem = (g : Multigraph) → IsGraph g → (next previous : ℕ → ℕ) → maps.IsMap (edge_count g) next previous
+    → ((c d : ℕ) → c < dart_count g → d < dart_count g → maps.same_vertex (edge_count g) next c d ≡ (tail g c == tail g d))
+    → (r : List (List ℕ)) × IsRotationSystem g r × ((d : ℕ) → d < dart_count g → dart_after g r d ≡ next d)
+
+-- and of one only: rotation systems with one map are the same lists
+abbrev pub MapTellsRotationSystem : Type 0
+MapTellsRotationSystem = (g : Multigraph) (r q : List (List ℕ)) → IsRotationSystem g r → IsRotationSystem g q → ((d : ℕ) → d < dart_count g → dart_after g r d ≡ dart_after g q d) → r ≡ q

@@ -1,6 +1,6 @@
 // The laws of rotation systems and their faces: each is a function without a body, whose contract is the theorem.
 
-ghost use Rattle.faces.specs.Laws.{EulersInequality, FacePassesOnce, IsolatedVerticesBesides, MapHasComponents, MapHasFaces, MapHasVertices, MirrorDiffers, MirrorGoesBack, MirrorIsRotationSystem, MirrorKeepsFaces, MirrorKeepsPlane, MirrorTwice, PlaneWhereMapIs, RestrictionExists, RestrictionKeepsPlane, RotationSystemIsMap};
+ghost use Rattle.faces.specs.Laws.{EdgeOnTwoFaces, EulersInequality, FacePassesOnce, IsolatedVerticesBesides, MapHasComponents, MapHasFaces, MapHasVertices, MapIsRotationSystem, MapTellsRotationSystem, MirrorDiffers, MirrorGoesBack, MirrorIsRotationSystem, MirrorKeepsFaces, MirrorKeepsPlane, MirrorTwice, PlaneWhereMapIs, RestrictionExists, RestrictionKeepsPlane, RotationSystemIsMap};
 
 /// Euler's inequality (Euler 1758, Heffter 1891): for every rotation system of every graph, V + F is at most E + 2C.
 pub fn eulers_inequality()
@@ -30,9 +30,11 @@ pub fn mirror_image()
     ensures differs { MirrorDiffers }
 {}
 
-/// The law that in a plane rotation system of a graph whose edges are one block each face passes each vertex at most once.
+/// The law that in a plane rotation system of a graph whose edges are one block each face passes each vertex at most once,
+/// and with two edges or more each edge lies on two faces.
 pub fn faces_of_block_are_simple()
-    ensures { FacePassesOnce }
+    ensures once { FacePassesOnce }
+    ensures two_faces { EdgeOnTwoFaces }
 {}
 
 /// The law that a rotation system restricted to a subgraph, with numbers of its own, is a rotation system of the subgraph,
@@ -40,4 +42,10 @@ pub fn faces_of_block_are_simple()
 pub fn restriction_keeps_plane()
     ensures exists { RestrictionExists }
     ensures plane { RestrictionKeepsPlane }
+{}
+
+/// The law that a map of darts whose vertices are those of a graph is the map of one rotation system.
+pub fn maps_are_rotation_systems()
+    ensures exists { MapIsRotationSystem }
+    ensures unique { MapTellsRotationSystem }
 {}

@@ -25,8 +25,8 @@ mod tracing;
 
 pub use counting::euler;
 pub use laws::{
-    eulers_inequality, faces_of_block_are_simple, mirror_image, restriction_keeps_plane,
-    rotation_system_is_map,
+    eulers_inequality, faces_of_block_are_simple, maps_are_rotation_systems, mirror_image,
+    restriction_keeps_plane, rotation_system_is_map,
 };
 pub use lists::Faces;
 pub use numbers::Euler;
