@@ -1,5 +1,5 @@
 -- In a plane rotation system of a block of two edges or more each edge lies on two faces.
-use Rattle.std.proofs.Common.{◌≡◌, ◌≢◌, ℕ, ◌*◌, ◌/◌, ◌<◌, ◌≤◌, inl, inr, true, false, ◌==◌, List, [], ◌∷◌, refl, sym, ap, ap₂, ◌∙◌, subst, arith}
+use Rattle.std.proofs.Common.{◌≡◌, ◌≢◌, ℕ, ◌/◌, ◌<◌, ◌≤◌, inl, inr, true, false, ◌==◌, List, [], ◌∷◌, refl, sym, ap, ◌∙◌, subst, arith}
 use Rattle.std.proofs.lemmas.Bool.{cases_eq, eq-eqb, eqb-true, both_ways, false_from_ne_true}
 use Rattle.permutations.specs.Members.{is_member}
 use Rattle.permutations.specs.Cyclic.{successor}
@@ -10,14 +10,14 @@ use Rattle.permutations.proofs.Orbits.{orbit-equivalence, orbit-step, orbit-ext}
 use Rattle.permutations.proofs.Iterates.{orbit-reaches}
 use Rattle.permutations.proofs.Chains.{chain-test}
 use Rattle.multigraph.specs.Graph.{Multigraph, IsGraph, edge_count, is_end, other_end}
-use Rattle.multigraph.proofs.OtherEnd.{other_end-is_end, end-in}
+use Rattle.multigraph.proofs.OtherEnd.{other_end-is_end}
 use Rattle.rotations.specs.Rotation.{order_at, IsRotationSystem}
-use Rattle.graph_theory.specs.Path.{walk_end, IsWalk, IsCycle}
+use Rattle.graph_theory.specs.Path.{walk_end, IsCycle}
 use Rattle.graph_theory.specs.Block.{CommonCycle, SameBlock}
 use Rattle.graph_theory.proofs.Walks.{walk-edge}
 use Rattle.graph_theory.proofs.Cycles.{BegunAt, cycle_from}
 use Rattle.dart_maps.specs.Map.{twin, face}
-use Rattle.dart_maps.proofs.Darts.{twin-below, twin-edge}
+use Rattle.dart_maps.proofs.Darts.{twin-below}
 use Rattle.faces.specs.Euler.{tail, dart_count, face_step, IsPlane}
 use Rattle.faces.specs.Maps.{dart_after, IsOneBlock}
 use Rattle.faces.proofs.DartLemmas.{dart-edge, tail-end, order-distinct, order-member, face_back, face_step-permutes}

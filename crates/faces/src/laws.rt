@@ -1,4 +1,17 @@
 // The laws of rotation systems and their faces: each is a function without a body, whose contract is the theorem.
+//
+// The lemmas that are used most (module of proofs/ in front):
+//   MapSteps       tail-twin, map-permutes, map-face, after-tail, after-dart_from: next darts, round a vertex and along a face
+//   MapVertices    map-vertex, vertex-tail, tail-vertex, map-component: vertices and components of the map
+//   MapCounts      map-vertices, map-faces, map-components, plane-map, map-plane: V, F and C; plane here and there
+//   MapMirror      mirror-order, mirror-system, mirror-after, order-least: the mirror image; the first edge is the least
+//   MapCorners     face-once: darts of one vertex, connected without passing it, lie on different faces of a plane map
+//   MapBlocks      linked-block, block-one_face: darts of one vertex of a block are so connected
+//   MapTwins       block-other_edge, block-moves, block-two_faces: no dart of a block of two edges or more is alone
+//   MapLists       member-map, map-member, distinct-map, successor-map, filter-map, first-same: cyclic orders renumbered
+//   MapRestricted  restricted-order: the map restricted to edges follows the cyclic orders without the others
+//   MapParts       part-renumbering, part-plane; MapPartOrders part-orders: a subgraph with numbers of its own
+//   MapToLists     map-orders, orders-told: from a map to the lists
 
 ghost use Rattle.faces.specs.Laws.{EdgeOnTwoFaces, EulersInequality, FacePassesOnce, IsolatedVerticesBesides, MapHasComponents, MapHasFaces, MapHasVertices, MapIsRotationSystem, MapTellsRotationSystem, MirrorDiffers, MirrorGoesBack, MirrorIsRotationSystem, MirrorKeepsFaces, MirrorKeepsPlane, MirrorTwice, PlaneWhereMapIs, RestrictionExists, RestrictionKeepsPlane, RotationSystemIsMap};
 
