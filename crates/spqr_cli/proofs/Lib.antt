@@ -1,0 +1,7 @@
+pub mod Fronts
+pub mod Pieces
+pub mod Texts
+pub mod Agreement
+pub mod Complete
+pub mod Measures
+pub mod Vertices

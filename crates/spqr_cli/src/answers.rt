@@ -1,0 +1,72 @@
+// The head of the report, and the answer about lists of edges.
+ghost use Rattle.std.specs.Prelude.{◌≡◌, ◌≤◌, ◌++◌, Ok, Err, IfOk, OnOk, length};
+ghost use Rattle.multigraph.specs.Graph.{max_vertices};
+ghost use Rattle.rotations.specs.Rotation.{IsRotationSystem};
+ghost use Rattle.spqr_script.specs.Answer.{euler_text};
+ghost use Rattle.spqr_cli.specs.Outcome.{Answers};
+ghost use Rattle.spqr_cli.specs.Report.{head_text, vertex_texts, measured_text};
+ghost use Rattle.spqr_cli.specs.Measure.{rotation_of_lists, euler_numbers};
+
+use crate::halt::Halt;
+use gml_graph::Named;
+use multigraph::Graph;
+use rotations::{Lists, RotFault, Rotation};
+use spqr_script::{error_line, euler_line, graph_line, push_vertex_line};
+use std::alloc::{AllocError, Global};
+
+// Puts the lines of the vertices behind a text.
+fn push_vertices(out: &mut Vec<u8>, ids: &[i64]) -> Result<(), AllocError>
+    requires { length ids.now ≤ max_vertices }
+    ensures { OnOk result (out.new.items ≡ out.old.items ++ vertex_texts 0 ids.now) }
+{
+    for (v, id) in ids.iter().enumerate() {
+        push_vertex_line(out, v as u32, *id)?;
+    }
+    Ok(())
+}
+
+/// The head: the line of the graph, then a line for each vertex, rising.
+pub fn head_of(alloc: Global, named: &Named) -> Result<Vec<u8>, AllocError>
+    ensures { IfOk result (λ text. text.items ≡ head_text named.now) }
+{
+    let graph = named.graph();
+    let mut out = graph_line(alloc, graph.vertex_count(), graph.edge_count())?;
+    push_vertices(&mut out, named.ids())?;
+    Ok(out)
+}
+
+// The rotation system that the lists are, or the least number at which they are none.
+fn rotation_of(alloc: Global, g: &Graph, lists: &Lists) -> Result<Rotation, Halt<u32>>
+    ensures { Answers result
+        (λ r. (rotation_of_lists g.now lists.now ≡ Ok r) × IsRotationSystem g.now r)
+        (λ v. rotation_of_lists g.now lists.now ≡ Err v) }
+{
+    match Rotation::from_lists(alloc, g, lists) {
+        Ok(rotation) => Ok(rotation),
+        Err(fault) => match fault {
+            RotFault::BadRotation(v) => Err(Halt::Refused(v)),
+            RotFault::Memory => Err(Halt::Memory),
+        },
+    }
+}
+
+// The line with the numbers of a rotation system.
+fn numbers_line(alloc: Global, g: &Graph, r: &Rotation) -> Result<Vec<u8>, AllocError>
+    requires { IsRotationSystem g.now r.now }
+    ensures { IfOk result (λ text. text.items ≡ euler_text (euler_numbers g.now r.now)) }
+{
+    let numbers = faces::euler(alloc, g, r)?;
+    euler_line(alloc, &numbers)
+}
+
+/// The answer about lists of edges: the numbers of the rotation system that they are, or the error with the least number at
+/// which they are none.
+pub fn measured(alloc: Global, g: &Graph, lists: &Lists) -> Result<Vec<u8>, AllocError>
+    ensures { IfOk result (λ text. text.items ≡ measured_text g.now (rotation_of_lists g.now lists.now)) }
+{
+    match rotation_of(alloc, g, lists) {
+        Ok(rotation) => numbers_line(alloc, g, &rotation),
+        Err(Halt::Refused(v)) => error_line(alloc, 6, &[u128::from(v)]),
+        Err(Halt::Memory) => Err(AllocError),
+    }
+}

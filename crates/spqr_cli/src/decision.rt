@@ -1,0 +1,116 @@
+// What is decided before anything is written: the work to be done, or the first refusal.
+ghost use Rattle.std.specs.Prelude.{◌≡◌, ◌≤◌, IfSome, ⊤, length, map, string_bytes};
+ghost use Rattle.spqr_edge.specs.Device.{CountsCall, contents};
+ghost use Rattle.spqr_cli.specs.Outcome.{Answers};
+ghost use Rattle.spqr_cli.specs.Decision.{graph_limit, script_limit, SayGraph, SayCommands, IsGraphReason, IsScriptReason, HasLine};
+ghost use Rattle.spqr_cli.specs.Ending.{refusal_status, graph_status, script_status, CountsFaults, IsDecided, OnDecision};
+
+use crate::halt::Halt;
+use crate::reading::read_file;
+use crate::refusal::{GraphRefusal, Refusal, ScriptRefusal};
+use crate::session::Session;
+use crate::stages::{commands_of, document_of, graph_of};
+use crate::words::form_of;
+use spqr_edge::Shelf;
+use spqr_script::Command;
+use std::alloc::Global;
+
+// The greatest length of the graph file.
+const GRAPH_LIMIT: usize = 16_777_216;
+
+// The greatest length of the script file.
+const SCRIPT_LIMIT: usize = 1_048_576;
+
+/// The work to be done: a session on the graph file, and the commands of the script.
+#[derive(Drop)]
+pub struct Accepted {
+    pub session: Session,
+    pub commands: Vec<Command>,
+}
+
+// A session on what the bytes of the graph file say.
+fn session_on(alloc: Global, bytes: &[u8]) -> Result<Session, Halt<GraphRefusal>>
+    requires { length bytes.now ≤ graph_limit }
+    ensures said { Answers result (λ s. SayGraph bytes.now s.doc s.named) (λ r. IsGraphReason bytes.now r × HasLine r) }
+    ensures faults { CountsFaults graph_status 0 0 result }
+{
+    let doc = match document_of(alloc, bytes) {
+        Ok(doc) => doc,
+        Err(Halt::Refused(fault)) => return Err(Halt::Refused(GraphRefusal::Gml(fault))),
+        Err(Halt::Memory) => return Err(Halt::Memory),
+    };
+    match graph_of(alloc, &doc) {
+        Ok(named) => Ok(Session::start(doc, named)),
+        Err(Halt::Refused(fault)) => Err(Halt::Refused(GraphRefusal::Rule(fault))),
+        Err(Halt::Memory) => Err(Halt::Memory),
+    }
+}
+
+// Reads the graph file, and starts a session on it.
+fn accept_graph<S: Shelf>(
+    alloc: Global,
+    shelf: &mut S,
+    name: &str,
+) -> Result<Session, Halt<GraphRefusal>>
+    ensures said { IfSome (S.files shelf.old) (λ files. Answers result
+        (λ s. SayGraph (contents files name.now) s.doc s.named) (IsGraphReason (contents files name.now))) }
+    ensures line { Answers result (λ _. ⊤) HasLine }
+    ensures files { S.files shelf.new ≡ S.files shelf.old }
+    ensures opens { CountsCall (S.opens shelf.old) (S.opens shelf.new) }
+    ensures faults { CountsFaults graph_status (S.faults shelf.old) (S.faults shelf.new) result }
+{
+    match read_file(alloc, shelf, name, GRAPH_LIMIT) {
+        Ok(bytes) => session_on(alloc, &bytes),
+        Err(Halt::Refused(fault)) => Err(Halt::Refused(GraphRefusal::File(fault))),
+        Err(Halt::Memory) => Err(Halt::Memory),
+    }
+}
+
+// Reads the script file, and gives its commands.
+fn accept_script<S: Shelf>(
+    alloc: Global,
+    shelf: &mut S,
+    name: &str,
+) -> Result<Vec<Command>, Halt<ScriptRefusal>>
+    ensures said { IfSome (S.files shelf.old) (λ files. Answers result
+        (λ commands. SayCommands (contents files name.now) commands.items) (IsScriptReason (contents files name.now))) }
+    ensures files { S.files shelf.new ≡ S.files shelf.old }
+    ensures opens { CountsCall (S.opens shelf.old) (S.opens shelf.new) }
+    ensures faults { CountsFaults script_status (S.faults shelf.old) (S.faults shelf.new) result }
+{
+    match read_file(alloc, shelf, name, SCRIPT_LIMIT) {
+        Ok(bytes) => match commands_of(alloc, &bytes) {
+            Ok(commands) => Ok(commands),
+            Err(Halt::Refused(line)) => Err(Halt::Refused(ScriptRefusal::Line(line))),
+            Err(Halt::Memory) => Err(Halt::Memory),
+        },
+        Err(Halt::Refused(fault)) => Err(Halt::Refused(ScriptRefusal::File(fault))),
+        Err(Halt::Memory) => Err(Halt::Memory),
+    }
+}
+
+/// Decides on the words and the two files, in this order: the form of the words, the graph file, the script file. Each file
+/// is opened only where all before it is accepted.
+pub fn decide<S: Shelf>(
+    alloc: Global,
+    words: &[String],
+    shelf: &mut S,
+) -> Result<Accepted, Halt<Refusal>>
+    ensures decided { OnDecision result
+        (IsDecided (map string_bytes words.now) (S.files shelf.old) (S.opens shelf.old) (S.opens shelf.new)) }
+    ensures faults { CountsFaults refusal_status (S.faults shelf.old) (S.faults shelf.new) result }
+{
+    let Some(form) = form_of(words) else {
+        return Err(Halt::Refused(Refusal::Usage));
+    };
+    let session = match accept_graph(alloc, shelf, form.graph) {
+        Ok(session) => session,
+        Err(Halt::Refused(refusal)) => return Err(Halt::Refused(Refusal::OfGraph(refusal))),
+        Err(Halt::Memory) => return Err(Halt::Memory),
+    };
+    match accept_script(alloc, shelf, form.script) {
+        Ok(commands) => Ok(Accepted { session, commands }),
+        Err(Halt::Refused(refusal)) => Err(Halt::Refused(Refusal::OfScript(refusal))),
+        Err(Halt::Memory) => Err(Halt::Memory),
+    }
+}

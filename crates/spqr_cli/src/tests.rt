@@ -1,0 +1,232 @@
+// Worked runs, over devices in memory.
+ghost use Rattle.std.specs.Prelude.{◌<◌};
+
+use crate::run::run;
+use crate::status::Status;
+use spqr_edge::{MemFile, MemShelf, MemSink};
+use std::alloc::Global;
+use std::test::Fail;
+
+const K4: &[u8] = b"graph [ node [ id 0 ] node [ id 1 ] node [ id 2 ] node [ id 3 ] \
+    edge [ source 0 target 1 ] edge [ source 0 target 2 ] edge [ source 0 target 3 ] \
+    edge [ source 1 target 2 ] edge [ source 1 target 3 ] edge [ source 2 target 3 ] ]";
+
+const K4_PLANE: &[u8] = b"euler 0: 0 1 2; 1: 0 4 3; 2: 1 3 5; 3: 2 5 4\n";
+
+const K4_REPORT: &[u8] =
+    b"graph 4 6\nvertex 0 0\nvertex 1 1\nvertex 2 2\nvertex 3 3\neuler 4 6 4 1 plane\n";
+
+const K4_HEAD: &[u8] = b"graph 4 6\nvertex 0 0\nvertex 1 1\nvertex 2 2\nvertex 3 3\n";
+
+// What a run on the files `g` and `s` answers and writes. Calls of these numbers fail.
+fn answer(
+    alloc: Global,
+    files: (&[u8], &[u8]),
+    failing: (&[u64], &[u64]),
+    piece: usize,
+) -> Result<(Status, Vec<u8>), Fail>
+    requires { 0 < piece }
+{
+    let mut words = Vec::new(alloc);
+    words.push(String::from_str(alloc, "run")?)?;
+    words.push(String::from_str(alloc, "g")?)?;
+    words.push(String::from_str(alloc, "s")?)?;
+    let held = [
+        MemFile {
+            name: "g",
+            bytes: files.0,
+        },
+        MemFile {
+            name: "s",
+            bytes: files.1,
+        },
+    ];
+    let mut shelf = MemShelf::new(&held, failing.0);
+    let mut sink = MemSink::new(alloc, failing.1, piece);
+    let status = run(alloc, &words, &mut shelf, &mut sink);
+    Ok((status, sink.bytes().to_vec(alloc)?))
+}
+
+#[test]
+fn reports_and_refusals(rt: HostRuntime) -> Result<(), Fail> {
+    let rows: [(&[u8], &[u8], Status, &[u8]); 16] = [
+        (b"graph [ ]", b"", Status::Done, b"graph 0 0\n"),
+        (
+            b"graph [ ]",
+            b"euler",
+            Status::Done,
+            b"graph 0 0\neuler 0 0 0 0 plane\n",
+        ),
+        (K4, K4_PLANE, Status::Done, K4_REPORT),
+        (
+            K4,
+            b"euler 0: 0",
+            Status::Done,
+            b"graph 4 6\nvertex 0 0\nvertex 1 1\nvertex 2 2\nvertex 3 3\nerror 6 0\n",
+        ),
+        (TAIL, TAIL_SCRIPT, Status::Done, TAIL_REPORT),
+        (MANY_KINDS, b"gml", Status::Done, MANY_KINDS_REPORT),
+        (
+            b"graph [ node [ id 0 ] node [ id 1 ] node [ id 2 ] edge [ source 0 target 1 ] \
+            edge [ source 1 target 2 ] edge [ source 2 target 2 ] ]",
+            b"",
+            Status::GraphRefused,
+            b"refused graph loop 2\n",
+        ),
+        (
+            b"graph [ node [ id 0",
+            b"",
+            Status::GmlRefused,
+            b"refused gml end 19\n",
+        ),
+        (b"x 12a", b"", Status::GmlRefused, b"refused gml bad 4\n"),
+        (
+            b"a[a[a[a[a[a[a[a[a[a[a[a[a[a[a[a[a[a[a[a[a[a[a[a[a[a[a[a[a[a[a[a[a[",
+            b"",
+            Status::GmlRefused,
+            b"refused gml bad 65\n",
+        ),
+        (
+            b"graph [ node [ ] ]",
+            b"",
+            Status::GraphRefused,
+            b"refused graph node-no-id 0\n",
+        ),
+        (
+            b"graph [ node [ id 3 ] node [ id 3 ] ]",
+            b"",
+            Status::GraphRefused,
+            b"refused graph same-id 1\n",
+        ),
+        (b"a 1", b"", Status::GraphRefused, b"refused graph none\n"),
+        (
+            K4,
+            b"# c\nlist 0 10001\n",
+            Status::ScriptRefused,
+            b"refused script line 2\n",
+        ),
+        (
+            K4,
+            b"shwo 0",
+            Status::ScriptRefused,
+            b"refused script line 1\n",
+        ),
+        (
+            b"a b",
+            b"shwo 0",
+            Status::GmlRefused,
+            b"refused gml bad 2\n",
+        ),
+    ];
+    for (graph, script, status, text) in rows {
+        let (found, written) = answer(rt.alloc(), (graph, script), (&[], &[]), 1000)?;
+        assert_eq!(rt; found, status);
+        assert_eq!(rt; written.as_slice(), text);
+    }
+    Ok(())
+}
+
+// Two triangles, a tail and a lone vertex.
+const TAIL: &[u8] =
+    b"graph [ node [ id 0 ] node [ id 1 ] node [ id 2 ] node [ id 3 ] node [ id 4 ] \
+    node [ id 5 ] node [ id 6 ] edge [ source 0 target 1 ] edge [ source 1 target 2 ] \
+    edge [ source 0 target 2 ] edge [ source 0 target 3 ] edge [ source 3 target 4 ] \
+    edge [ source 0 target 4 ] edge [ source 4 target 5 ] ]";
+
+const TAIL_SCRIPT: &[u8] = b"euler 0: 0 2 3 5; 1: 0 1; 2: 1 2; 3: 3 4; 4: 4 5 6; 5: 6\n\
+    euler 0: 0 3 2 5; 1: 0 1; 2: 1 2; 3: 3 4; 4: 4 5 6; 5: 6\n";
+
+const TAIL_REPORT: &[u8] =
+    b"graph 7 7\nvertex 0 0\nvertex 1 1\nvertex 2 2\nvertex 3 3\nvertex 4 4\n\
+    vertex 5 5\nvertex 6 6\neuler 7 7 4 2 plane\neuler 7 7 2 2 not-plane\n";
+
+// A file of many kinds, and its document written back.
+const MANY_KINDS: &[u8] =
+    b"# x\nCreator \"yFiles\" graph [ directed 1 node [ id 7 label \"\xc3\xa9 &amp; b\" \
+    graphics [ x 1.5E+3 y -INF ] ] node [ id -2 ] edge [ source 7 target -2 w_2 .5 ] ]";
+
+const MANY_KINDS_REPORT: &[u8] =
+    b"graph 2 1\nvertex 0 7\nvertex 1 -2\ngml 208\nCreator \"yFiles\"\ngraph [\n  \
+    directed 1\n  node [\n    id 7\n    label \"\xc3\xa9 &amp; b\"\n    graphics [\n      x 1.5E+3\n      y -INF\n    \
+    ]\n  ]\n  node [\n    id -2\n  ]\n  edge [\n    source 7\n    target -2\n    w_2 .5\n  ]\n]\n";
+
+#[test]
+fn each_call_of_the_shelf_fails(rt: HostRuntime) -> Result<(), Fail> {
+    for (call, status, text) in [
+        (0, Status::ReadFault, b"refused read graph\n".as_slice()),
+        (1, Status::ReadFault, b"refused read graph\n"),
+        (2, Status::ReadFault, b"refused read graph\n"),
+        (3, Status::ReadFault, b"refused read script\n"),
+        (4, Status::ReadFault, b"refused read script\n"),
+        (5, Status::ReadFault, b"refused read script\n"),
+        (6, Status::Done, K4_REPORT),
+    ] {
+        let (found, written) = answer(rt.alloc(), (K4, K4_PLANE), (&[call], &[]), 1000)?;
+        assert_eq!(rt; found, status);
+        assert_eq!(rt; written.as_slice(), text);
+    }
+    Ok(())
+}
+
+#[test]
+fn each_call_of_the_sink_fails(rt: HostRuntime) -> Result<(), Fail> {
+    for (call, piece, status, text) in [
+        (0, 1000, Status::WriteFault, b"".as_slice()),
+        (1, 1000, Status::WriteFault, K4_HEAD),
+        (2, 1000, Status::Done, K4_REPORT),
+        (5, 1, Status::WriteFault, b"graph"),
+        (1000, 1, Status::Done, K4_REPORT),
+    ] {
+        let (found, written) = answer(rt.alloc(), (K4, K4_PLANE), (&[], &[call]), piece)?;
+        assert_eq!(rt; found, status);
+        assert_eq!(rt; written.as_slice(), text);
+    }
+    Ok(())
+}
+
+#[test]
+fn limits_are_kept(rt: HostRuntime) -> Result<(), Fail> {
+    let alloc = rt.alloc();
+    let spaces = vec![in alloc; b' '; 16_777_217]?;
+    let (found, written) = answer(alloc, (&spaces, b""), (&[], &[]), 1000)?;
+    assert_eq!(rt; found, Status::TooLong);
+    assert_eq!(rt; written.as_slice(), b"refused long graph\n".as_slice());
+    let (found, written) = answer(alloc, (K4, &spaces[..1_048_577]), (&[], &[]), 1000)?;
+    assert_eq!(rt; found, Status::TooLong);
+    assert_eq!(rt; written.as_slice(), b"refused long script\n".as_slice());
+    let mut nodes = Vec::from_slice(alloc, b"graph [ ")?;
+    for _ in 0..20_001 {
+        nodes.extend_from_slice(b"node [ ] ")?;
+    }
+    nodes.push(b']')?;
+    let (found, written) = answer(alloc, (&nodes, b""), (&[], &[]), 1000)?;
+    assert_eq!(rt; found, Status::GraphRefused);
+    assert_eq!(rt;
+        written.as_slice(),
+        b"refused graph vertices 20001\n".as_slice()
+    );
+    Ok(())
+}
+
+#[test]
+fn other_words_are_refused(rt: HostRuntime) -> Result<(), Fail> {
+    let alloc = rt.alloc();
+    let mut words = Vec::new(alloc);
+    words.push(String::from_str(alloc, "run")?)?;
+    words.push(String::from_str(alloc, "a")?)?;
+    let mut shelf = MemShelf::new(&[], &[]);
+    let mut sink = MemSink::new(alloc, &[], 1000);
+    assert_eq!(rt; run(alloc, &words, &mut shelf, &mut sink), Status::Usage);
+    assert_eq!(rt;
+        sink.bytes(),
+        b"usage: spqr run GRAPH SCRIPT | spqr make N SEED\n".as_slice()
+    );
+    words.push(String::from_str(alloc, "b")?)?;
+    let mut sink = MemSink::new(alloc, &[], 1000);
+    assert_eq!(rt;
+        run(alloc, &words, &mut shelf, &mut sink),
+        Status::ReadFault
+    );
+    assert_eq!(rt; sink.bytes(), b"refused read graph\n".as_slice());
+    Ok(())
+}
