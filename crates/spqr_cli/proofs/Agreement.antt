@@ -1,5 +1,5 @@
 -- Decisions that are due for the same words and files have one status, a read that failed aside.
-use Rattle.std.proofs.Common.{◌≡◌, ◌≢◌, ℕ, ◌<◌, ◌≤◌, List, length, Option, None, Some, Result, Ok, Err, refl, sym, ap, ◌∙◌, subst, arith}
+use Rattle.std.proofs.Common.{◌≡◌, ◌≢◌, ℕ, List, None, Some, Ok, Err, refl, sym, ap, ◌∙◌, subst, arith}
 use Rattle.gml_text.specs.Document.{Document}
 use Rattle.gml_graph.specs.Named.{NamedGraph}
 use Rattle.gml_graph.specs.Answer.{graph_of_document}
@@ -10,7 +10,7 @@ use Rattle.spqr_script.specs.declared.command.Command.{Command}
 use Rattle.spqr_edge.specs.Device.{Files, contents}
 use Rattle.spqr_script.proofs.Scripts.{apart}
 use Rattle.spqr_cli.specs.Words.{Names, form_of}
-use Rattle.spqr_cli.specs.Decision.{Work, Decision, SayGraph, SayCommands, AcceptsGraph, IsGmlReason, IsGraphReason, IsScriptReason, IsDue}
+use Rattle.spqr_cli.specs.Decision.{Decision, SayGraph, SayCommands, IsGmlReason, IsGraphReason, IsScriptReason, IsDue}
 use Rattle.spqr_cli.specs.Ending.{graph_status, script_status, status_of}
 use Rattle.spqr_cli.specs.declared.reading.FileFault.TheVariants.{Failed, Long}
 use Rattle.spqr_cli.specs.declared.refusal.Refusal.TheVariants.{Usage as NoForm, OfGraph, OfScript}
@@ -18,8 +18,7 @@ use Rattle.spqr_cli.specs.declared.refusal.GraphRefusal.{GraphRefusal}
 use Rattle.spqr_cli.specs.declared.refusal.GraphRefusal.TheVariants.{File, Gml, Rule}
 use Rattle.spqr_cli.specs.declared.refusal.ScriptRefusal.{ScriptRefusal}
 use Rattle.spqr_cli.specs.declared.refusal.ScriptRefusal.TheVariants.{File as Script, Line}
-use Rattle.spqr_cli.specs.declared.status.Status.{Status}
-use Rattle.spqr_cli.specs.declared.status.Status.TheVariants.{Done, ReadFault}
+use Rattle.spqr_cli.specs.declared.status.Status.TheVariants.{ReadFault}
 
 -- bytes spell at most one document
 abbrev pub OneDocument : Type 0

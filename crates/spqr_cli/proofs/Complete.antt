@@ -1,5 +1,5 @@
 -- Where the work is due and nothing failed, a run is not refused.
-use Rattle.std.proofs.Common.{◌≡◌, ◌≢◌, ℕ, ◌<◌, ◌≤◌, List, Option, None, Some, Ok, Err, IfSome, refl, sym, ◌∙◌, subst, arith}
+use Rattle.std.proofs.Common.{◌≡◌, ℕ, ◌<◌, List, Option, None, Some, Ok, Err, IfSome, sym, ◌∙◌, subst, arith}
 use Rattle.spqr_edge.specs.Device.{Files, counted}
 use Rattle.spqr_cli.specs.Decision.{Work, IsDue}
 use Rattle.spqr_cli.specs.Ending.{refusal_status, CountsFor, OneStatus, IsDecided}

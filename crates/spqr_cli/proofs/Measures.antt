@@ -1,5 +1,5 @@
 -- The rotation system of lists, and the least bad number, as the crates below say them.
-use Rattle.std.proofs.Common.{◌≡◌, ℕ, zero, suc, ◌+◌, ◌<◌, ◌≤◌, min, Bool, true, false, not, ◌&&◌, ◌⊎◌, IsTrue, ◌↔◌, List, [], ◌∷◌, length, map, get_or, Option, None, Some, IfSome, Ok, Err, nat_le, leb, ltb, eqb, if◌then◌else◌, refl, sym, ap, ◌∙◌, subst, inl, inr, arith}
+use Rattle.std.proofs.Common.{◌≡◌, ℕ, zero, suc, ◌<◌, ◌≤◌, min, Bool, true, false, not, ◌&&◌, ◌⊎◌, List, [], ◌∷◌, length, map, Option, None, Some, IfSome, Ok, Err, nat_le, leb, ltb, eqb, if◌then◌else◌, refl, sym, ap, ◌∙◌, subst, inl, inr, arith}
 use Rattle.std.specs.List.{list_all}
 use Rattle.std.specs.List.Sorted.{IsPermutation}
 use Rattle.std.proofs.lemmas.Bool.{cases_Bool, eq-eqb, eqb-true, true≢false, le-leb, lt-leb, leb-true, ltb-true, ltb-false}
@@ -9,11 +9,11 @@ use Rattle.permutations.specs.Count.{some, least}
 use Rattle.permutations.specs.Members.{is_member, is_distinct}
 use Rattle.permutations.proofs.Members.{member-head, member-tail, member-cases}
 use Rattle.permutations.proofs.Search.{some-from, none-some, least-is}
-use Rattle.multigraph.specs.Graph.{Multigraph, edge_count, incident_edges, numbers_below}
+use Rattle.multigraph.specs.Graph.{Multigraph, incident_edges, numbers_below}
 use Rattle.multigraph.proofs.Below.{length-numbers_below, get_or-numbers_below}
 use Rattle.rotations.specs.Entries.{entry, IsNamed, list_at}
 use Rattle.rotations.specs.Rotation.{order_at, IsRotationSystem}
-use Rattle.rotations.specs.Given.{IsArranged, AreArranged, IsBad, IsFirstBad, given_order}
+use Rattle.rotations.specs.Given.{IsArranged, AreArranged, IsFirstBad, given_order}
 use Rattle.rotations.proofs.Membership.{incident-distinct}
 use Rattle.rotations.proofs.Arrangements.{permutation-distinct, permutation-member_back, permutation-from_members}
 use Rattle.spqr_cli.specs.Measure.{is_arrangement, is_bad_vertex, lesser, least_outside, least_bad, given_orders, unless_bad, rotation_of_lists}

@@ -1,5 +1,5 @@
 -- What a run decides before it writes: the work to be done, or why it is refused; and what is due for the words and the files.
-use Rattle.std.specs.Prelude.{◌≡◌, ◌≢◌, ℕ, ◌≤◌, List, length, Option, None, Some, Result, Ok, Err, ⊤}
+use Rattle.std.specs.Prelude.{◌≡◌, ◌≢◌, ℕ, ◌≤◌, List, length, None, Some, Result, Ok, Err, ⊤}
 use Rattle.gml_text.specs.Document.{Document}
 use Rattle.gml_text.specs.Grammar.{Spells}
 use Rattle.gml_text.specs.Faults.{IsFault as IsGmlFault}

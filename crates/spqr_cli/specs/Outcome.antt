@@ -1,5 +1,5 @@
 -- Results with want of memory.
-use Rattle.std.specs.Prelude.{◌≡◌, Result, Ok, Err, ⊤}
+use Rattle.std.specs.Prelude.{Result, Ok, Err, ⊤}
 use Rattle.spqr_cli.specs.declared.halt.Halt.{Halt}
 use Rattle.spqr_cli.specs.declared.halt.Halt.TheVariants.{Refused, Memory}
 

@@ -1,5 +1,5 @@
 -- How a run may end: what was written, and which counts rose.
-use Rattle.std.specs.Prelude.{◌≡◌, ℕ, ◌≤◌, ◌⊎◌, ⊤, List, Option, None, IfSome, IsSome, Ok, Err, Result, take}
+use Rattle.std.specs.Prelude.{◌≡◌, ℕ, ◌≤◌, ◌⊎◌, ⊤, List, Option, None, IsSome, Ok, Err, Result, take}
 use Rattle.std.specs.List.{concat}
 use Rattle.std.specs.Io.KnownBytes.{Appends, Keeps}
 use Rattle.spqr_edge.specs.Device.{Files, Rose}
@@ -13,7 +13,7 @@ use Rattle.spqr_cli.specs.declared.refusal.Refusal.{Refusal}
 use Rattle.spqr_cli.specs.declared.halt.Halt.{Halt}
 use Rattle.spqr_cli.specs.declared.halt.Halt.TheVariants.{Refused, Memory as OutOfMemory}
 use Rattle.spqr_cli.specs.declared.status.Status.{Status}
-use Rattle.spqr_cli.specs.declared.status.Status.TheVariants.{Done, Usage, ReadFault, TooLong, GmlRefused, GraphRefused, ScriptRefused, WriteFault, Memory}
+use Rattle.spqr_cli.specs.declared.status.Status.TheVariants.{Done, Usage, ReadFault, WriteFault, Memory}
 
 -- the texts of a report, in order
 abbrev pub texts_of : Work → List (List ℕ)

@@ -2,7 +2,7 @@
 ghost use Rattle.std.specs.Prelude.{◌≡◌, ◌≤◌, IfSome, ⊤, length, map, string_bytes};
 ghost use Rattle.spqr_edge.specs.Device.{CountsCall, contents};
 ghost use Rattle.spqr_cli.specs.Outcome.{Answers};
-ghost use Rattle.spqr_cli.specs.Decision.{graph_limit, script_limit, SayGraph, SayCommands, IsGraphReason, IsScriptReason, HasLine};
+ghost use Rattle.spqr_cli.specs.Decision.{graph_limit, SayGraph, SayCommands, IsGraphReason, IsScriptReason, HasLine};
 ghost use Rattle.spqr_cli.specs.Ending.{refusal_status, graph_status, script_status, CountsFaults, IsDecided, OnDecision};
 
 use crate::halt::Halt;

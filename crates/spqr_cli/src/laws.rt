@@ -1,5 +1,8 @@
 // What the definitions of a run say of one another.
+ghost use Rattle.std.specs.Prelude.{◌≢◌};
 ghost use Rattle.spqr_cli.specs.Ending.{OneStatus};
+ghost use Rattle.spqr_cli.specs.Run.{CountsReads, CountsPuts};
+ghost use Rattle.spqr_cli.specs.declared.status.Status.{Status};
 
 /// Decisions that are due for the same words and files have one status, a read that failed aside. So each status of a run comes
 /// exactly where it is due.
@@ -8,3 +11,9 @@ pub fn decisions()
 {
     gml_text::laws::spelling();
 }
+
+/// A shelf whose count of faults stays at 0 is never the reason of a read fault, and such a sink never that of a write fault.
+pub fn sure_devices()
+    ensures reads { (status : Status) → CountsReads 0 0 status → status ≢ Status.ReadFault }
+    ensures puts { (status : Status) → CountsPuts 0 0 status → status ≢ Status.WriteFault }
+{}

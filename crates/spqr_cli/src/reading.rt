@@ -1,7 +1,6 @@
 // Reading a file to its end, within a limit.
-ghost use Rattle.std.specs.Prelude.{◌≡◌, ◌<◌, ◌≤◌, ◌^◌, IfOk, IfSome, length, vec_len, ⊤};
+ghost use Rattle.std.specs.Prelude.{◌≡◌, ◌<◌, ◌≤◌, ◌^◌, IfOk, IfSome, length, vec_len};
 ghost use Rattle.spqr_edge.specs.Device.{CountsCall, contents};
-ghost use Rattle.std.specs.Option.{option_map};
 ghost use Rattle.spqr_cli.specs.Ending.{file_status, CountsFaults};
 ghost use Rattle.spqr_cli.specs.Outcome.{Answers};
 ghost use Rattle.spqr_cli.specs.Reading.{TakesPiece, IsWhole, IsTooLong};
@@ -11,7 +10,7 @@ use spqr_edge::Shelf;
 use std::alloc::{AllocError, Global};
 
 /// Why a file was not read.
-#[derive(Clone, Copy, Debug, PartialEq, Eq)]
+#[derive(Clone, Copy)]
 pub enum FileFault {
     /// A call of the shelf failed.
     Failed,

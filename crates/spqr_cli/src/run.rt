@@ -1,6 +1,6 @@
 // The whole run, from the words to the status.
-ghost use Rattle.std.specs.Prelude.{◌≡◌, ◌<◌, IfSome, Ok, Err, map, string_bytes, take};
-ghost use Rattle.spqr_edge.specs.Device.{HasCause, counted};
+ghost use Rattle.std.specs.Prelude.{◌<◌, IfSome, Ok, Err, map, string_bytes};
+ghost use Rattle.spqr_edge.specs.Device.{counted};
 ghost use Rattle.spqr_cli.specs.Report.{report_texts, answer_text};
 ghost use Rattle.spqr_cli.specs.Decision.{Work, IsDue, DecisionHasLine};
 ghost use Rattle.spqr_cli.specs.Run.{WritesTexts, CountsPut, RefusesWith, Ends, WritesReport, OnDone, FitsWords, CountsReads, CountsPuts, IsDoneOrMemory};

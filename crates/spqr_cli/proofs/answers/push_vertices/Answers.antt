@@ -1,4 +1,4 @@
-use Rattle.std.proofs.Common.{◌≡◌, ℕ, ◌+◌, ◌++◌, ℤ, take, get_or, pos, sym, ap, ◌∙◌, append_assoc, rules}
+use Rattle.std.proofs.Common.{◌≡◌, ◌++◌, ℤ, take, get_or, pos, sym, ap, ◌∙◌, append_assoc, rules}
 use Rattle.std.proofs.lemmas.List.{get_or_default}
 use Rattle.std.proofs.lemmas.Int.{to_z-of_z}
 use Rattle.std.specs.Int.{w64}

@@ -1,4 +1,4 @@
-use Rattle.std.proofs.Common.{◌≡◌, ℕ, ◌+◌, ◌-◌, vec_len}
+use Rattle.std.proofs.Common.{◌≡◌, ◌+◌, ◌-◌, vec_len}
 use Rattle.spqr_cli.proofs.Pieces.{TakenSoFar}
 use Rattle.spqr_cli.proofs.reading.read_rest.Given as goal
 

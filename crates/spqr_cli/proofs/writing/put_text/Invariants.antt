@@ -1,4 +1,4 @@
-use Rattle.std.proofs.Common.{◌≡◌, ℕ, length}
+use Rattle.std.proofs.Common.{◌≡◌, length}
 use Rattle.spqr_cli.proofs.Fronts.{AppendsAllBut}
 use Rattle.spqr_cli.proofs.writing.put_text.Given as goal
 
