@@ -26,8 +26,8 @@ done_or_memory refusal before now k l GraphRefused e r c h = let f : GraphRefuse
 done_or_memory refusal before now k l ScriptRefused e r c h = let f : ScriptRefused ≡ Done = r.0 ∙ e in cc
 
 -- a run that refuses met something that failed, or the work was not due
-pub complete_refused : OneStatus → (words : List (List ℕ)) (told : Option Files) (o p : Option ℕ) (refusal : Refusal) (before now : Option (List ℕ)) (s t k l : ℕ) (status : Status) → IsDecided words told o p (Err refusal) → CountsFor (refusal_status refusal) s t → RefusesWith refusal before now status → CountsPuts k l status
+pub complete_refused : OneStatus → (words : List (List ℕ)) (told : Option Files) (o p : Option ℕ) (refusal : Refusal) (before now : Option (List ℕ)) (s t k l : ℕ) (status : Status) → IsDecided words told o p s t (Err refusal) → RefusesWith refusal before now status → CountsPuts k l status
     → IfSome told (λ files. (work : Work) → IsDue words files (Ok work) → t < counted s → l < counted k → IsDoneOrMemory status)
-complete_refused one words None o p refusal before now s t k l status d f r c = tt
-complete_refused one words (Some files) o p refusal before now s t k l status d f r c =
-    λ work due h i. done_or_memory refusal before now k l status (refused_done one words files work refusal s t due d.due f h) r c i
+complete_refused one words None o p refusal before now s t k l status d r c = tt
+complete_refused one words (Some files) o p refusal before now s t k l status d r c =
+    λ work due h i. done_or_memory refusal before now k l status (refused_done one words files work refusal s t due d.due d.reads h) r c i

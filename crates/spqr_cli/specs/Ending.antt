@@ -107,12 +107,14 @@ FitsForm words (Err NoForm) = form_of words ≡ None
 FitsForm words (Err (OfGraph refusal)) = IsSome (form_of words)
 FitsForm words (Err (OfScript refusal)) = IsSome (form_of words)
 
--- a decision was made on these words: it has a text, it is due by the files, where they are told, and so many files were opened
-pub record IsDecided (words : List (List ℕ)) (told : Option Files) (opens_before opens_after : Option ℕ) (decision : Decision) : Type 0 where
+-- a decision was made on these words: it has a text, it is due by the files, where they are told, so many files were opened, and
+-- a call of the shelf failed where the decision says so, and none else
+pub record IsDecided (words : List (List ℕ)) (told : Option Files) (opens_before opens_after : Option ℕ) (faults_before faults_after : ℕ) (decision : Decision) : Type 0 where
   pub form : FitsForm words decision
   pub line : DecisionHasLine decision
   pub due : IfSome told (λ files. IsDue words files decision)
   pub opens : CountsOpens opens_before opens_after decision
+  pub reads : CountsFor (status_of decision) faults_before faults_after
 
 -- the decision that a call answers, where memory suffices: the work on what was accepted, or the refusal
 abbrev pub work_of : Accepted → Work

@@ -38,31 +38,31 @@ RefusesWith refusal before now Memory = Keeps before now
 RefusesWith refusal before now status = (status ≡ refusal_status refusal) × Appends before now (refusal_text refusal)
 
 -- one decision was made, its text was written and nothing else, and its status is given
-pub record Finishes (words : List (List ℕ)) (told : Option Files) (opens_before opens_after : Option ℕ) (before now : Option (List ℕ)) (status : Status) : Type 0 where
+pub record Finishes (words : List (List ℕ)) (told : Option Files) (opens_before opens_after : Option ℕ) (faults_before faults_after : ℕ) (before now : Option (List ℕ)) (status : Status) : Type 0 where
   pub decision : Decision
-  pub decided : IsDecided words told opens_before opens_after decision
+  pub decided : IsDecided words told opens_before opens_after faults_before faults_after decision
   pub status_is : status ≡ status_of decision
   pub written : Appends before now (text_of decision)
 
 -- one decision was made, and a front of its text was written
-pub record StopsWriting (words : List (List ℕ)) (told : Option Files) (opens_before opens_after : Option ℕ) (before now : Option (List ℕ)) : Type 0 where
+pub record StopsWriting (words : List (List ℕ)) (told : Option Files) (opens_before opens_after : Option ℕ) (faults_before faults_after : ℕ) (before now : Option (List ℕ)) : Type 0 where
   pub decision : Decision
-  pub decided : IsDecided words told opens_before opens_after decision
+  pub decided : IsDecided words told opens_before opens_after faults_before faults_after decision
   pub written : AppendsFront before now (text_of decision)
 
 -- the work was accepted, and its first texts were written whole
-pub record RunsShort (words : List (List ℕ)) (told : Option Files) (opens_before opens_after : Option ℕ) (before now : Option (List ℕ)) : Type 0 where
+pub record RunsShort (words : List (List ℕ)) (told : Option Files) (opens_before opens_after : Option ℕ) (faults_before faults_after : ℕ) (before now : Option (List ℕ)) : Type 0 where
   pub work : Work
-  pub decided : IsDecided words told opens_before opens_after (Ok work)
+  pub decided : IsDecided words told opens_before opens_after faults_before faults_after (Ok work)
   pub count : ℕ
   pub written : Appends before now (concat (take count (texts_of work)))
 
 -- the end of a run by its status. After a failed put a front of the text that is due was written; for want of memory nothing,
 -- or the head and the answers of the first commands
-abbrev pub Ends : List (List ℕ) → Option Files → Option ℕ → Option ℕ → Option (List ℕ) → Option (List ℕ) → Status → Type 0
-Ends words told opens_before opens_after before now WriteFault = StopsWriting words told opens_before opens_after before now
-Ends words told opens_before opens_after before now Memory = Keeps before now ⊎ RunsShort words told opens_before opens_after before now
-Ends words told opens_before opens_after before now status = Finishes words told opens_before opens_after before now status
+abbrev pub Ends : List (List ℕ) → Option Files → Option ℕ → Option ℕ → ℕ → ℕ → Option (List ℕ) → Option (List ℕ) → Status → Type 0
+Ends words told opens_before opens_after faults_before faults_after before now WriteFault = StopsWriting words told opens_before opens_after faults_before faults_after before now
+Ends words told opens_before opens_after faults_before faults_after before now Memory = Keeps before now ⊎ RunsShort words told opens_before opens_after faults_before faults_after before now
+Ends words told opens_before opens_after faults_before faults_after before now status = Finishes words told opens_before opens_after faults_before faults_after before now status
 
 -- the report of the whole contents of both files was written
 pub record WritesReport (words : List (List ℕ)) (files : Files) (before now : Option (List ℕ)) : Type 0 where

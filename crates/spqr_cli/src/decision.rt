@@ -97,7 +97,8 @@ pub fn decide<S: Shelf>(
     shelf: &mut S,
 ) -> Result<Accepted, Halt<Refusal>>
     ensures decided { OnDecision result
-        (IsDecided (map string_bytes words.now) (S.files shelf.old) (S.opens shelf.old) (S.opens shelf.new)) }
+        (IsDecided (map string_bytes words.now) (S.files shelf.old) (S.opens shelf.old) (S.opens shelf.new)
+        (S.faults shelf.old) (S.faults shelf.new)) }
     ensures faults { CountsFaults refusal_status (S.faults shelf.old) (S.faults shelf.new) result }
 {
     let Some(form) = form_of(words) else {

@@ -78,7 +78,8 @@ pub fn run<S: Shelf, K: Sink>(
 ) -> Status
     // One decision is due and made, and its text is written.
     ensures ends { Ends (map string_bytes words.now) (S.files shelf.old)
-        (S.opens shelf.old) (S.opens shelf.new) (K.written sink.old) (K.written sink.new) result }
+        (S.opens shelf.old) (S.opens shelf.new) (S.faults shelf.old) (S.faults shelf.new)
+        (K.written sink.old) (K.written sink.new) result }
 
     // Done says that the report of the whole contents of both files was written.
     ensures done { OnDone result (IfSome (S.files shelf.old) (λ files.
