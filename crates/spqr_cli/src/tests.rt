@@ -191,7 +191,8 @@ fn limits_are_kept(rt: HostRuntime) -> Result<(), Fail> {
     let (found, written) = answer(alloc, (&spaces, b""), (&[], &[]), 1000)?;
     assert_eq!(rt; found, Status::TooLong);
     assert_eq!(rt; written.as_slice(), b"refused long graph\n".as_slice());
-    let (found, written) = answer(alloc, (K4, &spaces[..1_048_577]), (&[], &[]), 1000)?;
+    let blanks = vec![in alloc; b' '; 1_048_577]?;
+    let (found, written) = answer(alloc, (K4, &blanks), (&[], &[]), 1000)?;
     assert_eq!(rt; found, Status::TooLong);
     assert_eq!(rt; written.as_slice(), b"refused long script\n".as_slice());
     let mut nodes = Vec::from_slice(alloc, b"graph [ ")?;
