@@ -56,6 +56,10 @@ fn refusals(rt: HostRuntime) -> Result<(), Fail> {
             GraphFault::EdgeBadEnd(0),
         ),
         (
+            "graph [ node [ id 0 ] edge [ source \"0\" target 0 ] ]",
+            GraphFault::EdgeBadEnd(0),
+        ),
+        (
             "graph [ node [ id 0 ] edge [ source 0 target 5 ] edge [ ] ]",
             GraphFault::UnknownEnd(0),
         ),
