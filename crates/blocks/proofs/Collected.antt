@@ -160,7 +160,3 @@ collected g numbers total lists n p = record {
 -- there are as many numbers as edges, and few enough to count
 pub numbers-few : (g : Multigraph) → IsGraph g → (numbers : List ℕ) (total : ℕ) → AreBlockNumbers g numbers total → length numbers < 2147483648
 numbers-few g gg numbers total n = omega (arith, n.numbering.places, n.labelled, gg.few_edges)
-
--- there is a number for each edge
-pub numbers-places : (g : Multigraph) (numbers : List ℕ) (total : ℕ) → AreBlockNumbers g numbers total → length numbers ≡ edge_count g
-numbers-places g numbers total n = n.numbering.places ∙ n.labelled

@@ -1,10 +1,10 @@
 -- The flags by which labels are spread, for one vertex more.
-use Rattle.std.proofs.Common.{◌≡◌, ℕ, ◌+◌, ◌<◌, ◌≤◌, ◌⊎◌, inl, inr, Bool, true, false, List, [], ◌∷◌, ◌++◌, length, get_or, refl, sym, ◌∙◌, subst, arith, length-append}
+use Rattle.std.proofs.Common.{◌≡◌, ℕ, ◌+◌, ◌<◌, ◌≤◌, ◌⊎◌, inl, inr, Bool, true, false, List, [], ◌∷◌, ◌++◌, length, get_or, sym, ◌∙◌, subst, arith, length-append}
 use Rattle.std.proofs.lemmas.Bool.{cases_lt}
 use Rattle.std.proofs.lemmas.List.{get_or_append_left, get_or_push}
 use Rattle.blocks.specs.State.{SearchState}
 use Rattle.blocks.specs.Searching.{flag}
-use Rattle.blocks.specs.Finding.{AreHeads, AreRoots}
+use Rattle.blocks.specs.Finding.{AreHeads}
 
 -- a place of a list with one flag more
 flag-place : (flags : List Bool) (k : ℕ) (b : Bool) (v : ℕ) → length flags ≡ k → v < k + 1 → ((v < k) × (flag (flags ++ b ∷ []) v ≡ flag flags v)) ⊎ ((v ≡ k) × (flag (flags ++ b ∷ []) v ≡ b))
@@ -12,10 +12,6 @@ flag-place flags k b v e l = elim (cases_lt v k) [
   | inl a ↦ inl (a, get_or_append_left flags (b ∷ []) false v (omega arith))
   | inr c ↦ let q : v ≡ k = omega arith in inr (q, get_or_push flags b false v (e ∙ sym q))
 ]
-
--- before the first vertex
-pub heads-none : (s : SearchState) → AreHeads s 0 []
-heads-none s = record { places = refl; head = λ v l. absurd (omega arith); other = λ v l. absurd (omega arith) }
 
 -- one vertex more
 pub heads-more : (s : SearchState) (k : ℕ) (heads : List Bool) (b : Bool) → AreHeads s k heads
@@ -31,23 +27,5 @@ heads-more s k heads b h raised not_raised = record {
   other = λ v l t. elim (flag-place heads k b v h.places l) [
     | inl a ↦ h.other v a.0 (sym a.1 ∙ t)
     | inr c ↦ subst (λ (z : ℕ). (0 < get_or s.depth z 0) × (get_or s.low z 0 < get_or s.depth (get_or s.parent z 0) 0)) (sym c.0) (not_raised (sym c.1 ∙ t))
-  ];
-}
-
--- before the first vertex
-pub roots-none : (s : SearchState) → AreRoots s 0 []
-roots-none s = record { places = refl; root = λ v l. absurd (omega arith); other = λ v l. absurd (omega arith) }
-
--- one vertex more
-pub roots-more : (s : SearchState) (k : ℕ) (roots : List Bool) (b : Bool) → AreRoots s k roots → (b ≡ true → get_or s.depth k 0 ≡ 0) → (b ≡ false → 0 < get_or s.depth k 0) → AreRoots s (k + 1) (roots ++ b ∷ [])
-roots-more s k roots b h raised not_raised = record {
-  places = omega (arith, length-append roots (b ∷ []), h.places);
-  root = λ v l t. elim (flag-place roots k b v h.places l) [
-    | inl a ↦ h.root v a.0 (sym a.1 ∙ t)
-    | inr c ↦ subst (λ (z : ℕ). get_or s.depth z 0 ≡ 0) (sym c.0) (raised (sym c.1 ∙ t))
-  ];
-  other = λ v l t. elim (flag-place roots k b v h.places l) [
-    | inl a ↦ h.other v a.0 (sym a.1 ∙ t)
-    | inr c ↦ subst (λ (z : ℕ). 0 < get_or s.depth z 0) (sym c.0) (not_raised (sym c.1 ∙ t))
   ];
 }

@@ -1,5 +1,5 @@
 -- Numbering the classes of equal labels: one place more, and all places.
-use Rattle.std.proofs.Common.{◌≡◌, ◌≢◌, ℕ, ◌+◌, ◌<◌, ◌≤◌, ◌⊎◌, inl, inr, Bool, true, false, List, [], ◌∷◌, ◌++◌, length, get_or, set, refl, sym, ap, ◌∙◌, subst, arith, length-append}
+use Rattle.std.proofs.Common.{◌≡◌, ◌≢◌, ℕ, ◌+◌, ◌<◌, ◌≤◌, ◌⊎◌, inl, inr, Bool, true, false, List, [], ◌∷◌, ◌++◌, length, get_or, set, sym, ap, ◌∙◌, subst, arith, length-append}
 use Rattle.std.proofs.lemmas.Bool.{cases_Bool, cases_lt, true≢false, eq-eqb, eqb-true, false_from_ne_true}
 use Rattle.std.proofs.lemmas.List.{get_or_append_left, get_or_push}
 use Rattle.permutations.specs.Count.{count}
@@ -14,18 +14,6 @@ use Rattle.blocks.proofs.Writes.{number-same, number-other, flag-same, flag-case
 -- having the same label is an equivalence
 pub same-equivalence : (labels : List ℕ) → IsEquivalence (same_label labels)
 same-equivalence labels = kernel-equivalence (λ i. get_or labels i 0)
-
--- before the first place
-pub numbered-none : (labels : List ℕ) (met : List Bool) (number_of numbers : List ℕ) → ((label : ℕ) → flag met label ≡ false) → numbers ≡ [] → IsNumbered labels 0 met number_of numbers 0
-numbered-none labels met number_of numbers u e = record {
-  places = ap length e;
-  is_met = λ j l. absurd (omega arith);
-  is_number = λ j l. absurd (omega arith);
-  first_place = λ a h. absurd (true≢false (sym h ∙ u a));
-  below = λ a h. absurd (true≢false (sym h ∙ u a));
-  apart = λ a b h. absurd (true≢false (sym h ∙ u a));
-  total = refl;
-}
 
 -- a place of the longer list of numbers
 place-cases : (i j : ℕ) → j < i + 1 → (j < i) ⊎ (j ≡ i)

@@ -27,10 +27,6 @@ unseen-on g s w e k l h m i u = elim (k.looked.finished w h) [
         let f : get_or (incident_edges g w) c.0 0 ≡ e = get_or_default (incident_edges g w) c.0 0 e c.1 ∙ c.2 in
         both_ways (flag s.seen e) u (subst (λ (z : ℕ). flag s.seen z ≡ true) f (k.looked.looked w l c.0 (omega (arith, a, c.1))))
 
--- the edge was seen before
-pub see-seen : (g : Multigraph) (s : SearchState) (v e : ℕ) → IsSearching g s → IsLast s v → flag s.seen e ≡ true → IsSeenAt g s s v e
-see-seen g s v e k l h = record { searching = k; seen = h; position = refl; on_path = last-on s v l; longer = omega arith; visited = λ u t. t }
-
 -- the edge leads to a vertex that was visited
 pub see-frond : (g : Multigraph) → IsGraph g → (s : SearchState) (v e : ℕ) → IsSearching g s → IsLast s v → e < edge_count g → is_end g v e ≡ true → flag s.seen e ≡ false → flag s.visited (other_end g e v) ≡ true → IsSeenAt g s (frond_noted s v e (get_or s.depth (other_end g e v) 0)) v e
 see-frond g gg s v e k l m i u h = made (unseen-on g s w e k (end-in g gg e w m (other-is_end g e v)) h m (other-is_end g e v) u)

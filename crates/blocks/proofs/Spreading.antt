@@ -9,14 +9,6 @@ use Rattle.blocks.specs.Searching.{flag}
 use Rattle.blocks.specs.Spread.{IsSpreadOrder, IsSpread}
 use Rattle.blocks.proofs.Writes.{number-same, number-other}
 
--- before the first number
-pub spread-none : (parent : List ℕ) (own : List Bool) (label : List ℕ) → IsSpread parent own [] label
-spread-none parent own label = record {
-  of_own = λ v m. absurd (true≢false (sym m));
-  of_parent = λ v m. absurd (true≢false (sym m));
-  parent_done = λ v m. absurd (true≢false (sym m));
-}
-
 -- the number at a place of a list without repetition is none of those before it
 pub not_before : (order : List ℕ) (k : ℕ) → is_distinct order ≡ true → k < length order → is_member (get_or order k 0) (take k order) ≡ false
 not_before order k d l = false_from_ne_true (is_member (get_or order k 0) (take k order)) (λ m.
