@@ -52,13 +52,13 @@ nothing_plane : IsPlane nothing []
 nothing_plane = refl
 
 -- two triangles that share a vertex, and a tail and a lone vertex besides
-abbrev triangles : Multigraph
+abbrev pub triangles : Multigraph
 triangles = record {
   vertex_count = 7;
   ends = (0, 1) ∷ (1, 2) ∷ (0, 2) ∷ (0, 3) ∷ (3, 4) ∷ (0, 4) ∷ (4, 5) ∷ [];
 }
 
-abbrev triangles_apart : List (List ℕ)
+abbrev pub triangles_apart : List (List ℕ)
 triangles_apart =
     (0 ∷ 2 ∷ 3 ∷ 5 ∷ []) ∷ (0 ∷ 1 ∷ []) ∷ (1 ∷ 2 ∷ []) ∷ (3 ∷ 4 ∷ []) ∷ (4 ∷ 5 ∷ 6 ∷ []) ∷ (6 ∷ []) ∷ [] ∷ []
 

@@ -1,4 +1,4 @@
--- The map of darts of the complete graph on four vertices, and its mirror image, computed.
+-- The maps of darts of the complete graph on four vertices and of a graph with an isolated vertex, and a mirror image, computed.
 use Rattle.std.proofs.Common.{zero, suc, ◌<◌, map, filter, ◌≡◌, ℕ, ◌+◌, List, [], ◌∷◌, refl, ◌∙◌, arith}
 use Rattle.permutations.specs.Count.{count}
 use Rattle.permutations.proofs.Computed.{permutes-computed, orbit-count-computed}
@@ -8,6 +8,7 @@ use Rattle.dart_maps.specs.Map.{twin, face, IsMap}
 use Rattle.dart_maps.specs.Map as maps
 use Rattle.dart_maps.proofs.Darts.{face-permutes}
 use Rattle.faces.specs.Euler.{is_isolated, face_count}
+use Rattle.faces.proofs.Examples.{triangles, triangles_apart}
 use Rattle.faces.specs.Subgraph.{IsSubgraph, is_kept}
 use Rattle.faces.specs.Maps.{dart_after, dart_before, mirror_image}
 
@@ -56,6 +57,26 @@ four_faces = orbit-count-computed 12 (face next) (λ d. twin (previous d)) (face
 -- as many faces as the rotation system has: no vertex is isolated
 as_many_faces : maps.face_count 6 next + count 4 (is_isolated four_vertices) ≡ face_count four_vertices orders
 as_many_faces = omega (arith, four_faces)
+
+-- two triangles that share a vertex, a tail and a lone vertex: the map has one face and one vertex less than the rotation system
+abbrev next_apart : ℕ → ℕ
+next_apart = dart_after triangles triangles_apart
+
+abbrev previous_apart : ℕ → ℕ
+previous_apart = dart_before triangles triangles_apart
+
+is_map_apart : IsMap 7 next_apart previous_apart
+is_map_apart = permutes-computed 14 next_apart previous_apart refl
+
+six : maps.vertex_count 7 next_apart ≡ 6
+six = orbit-count-computed 14 next_apart previous_apart is_map_apart ∙ refl
+
+three_faces : maps.face_count 7 next_apart ≡ 3
+unfolding twin
+three_faces = orbit-count-computed 14 (face next_apart) (λ d. twin (previous_apart d)) (face-permutes 7 next_apart previous_apart is_map_apart) ∙ refl
+
+with_the_isolated_vertex : maps.face_count 7 next_apart + count 7 (is_isolated triangles) ≡ face_count triangles triangles_apart
+with_the_isolated_vertex = omega (arith, three_faces)
 
 -- the mirror image
 mirrored : mirror_image orders ≡ (0 ∷ 2 ∷ 1 ∷ []) ∷ (0 ∷ 3 ∷ 4 ∷ []) ∷ (1 ∷ 5 ∷ 3 ∷ []) ∷ (2 ∷ 4 ∷ 5 ∷ []) ∷ []
