@@ -2,5 +2,6 @@
 pub mod Path
 pub mod Block
 pub mod Side
+pub mod Triconnected
 pub mod SearchTree
 pub mod Laws

@@ -1,0 +1,37 @@
+-- A graph with an edge contracted: its two ends become one vertex, and of two edges that would become parallel one is kept.
+use Rattle.std.specs.Prelude.{◌≡◌, ◌≢◌, ℕ, ◌+◌, ◌<◌, ◌⊎◌, Bool, true, not, ◌&&◌, ◌==◌, [], ◌∷◌}
+use Rattle.permutations.specs.Count.{some}
+use Rattle.multigraph.specs.Graph.{Multigraph, edge_count, ends_of, is_end, other_end}
+use Rattle.graph_theory.specs.Triconnected.{IsConnectedWithout}
+
+-- whether some edge joins u and v
+abbrev pub are_joined : Multigraph → ℕ → ℕ → Bool
+are_joined g u v = some (edge_count g) (λ f. is_end g u f && (other_end g f u == v))
+
+-- the edge between x and y may be contracted: with any third vertex removed besides them, the others stay connected
+-- (Thomassen 1980)
+abbrev pub IsContractible : Multigraph → ℕ → ℕ → Type 0
+IsContractible g x y = (z : ℕ) → z ≢ x → z ≢ y → IsConnectedWithout g (x ∷ y ∷ z ∷ [])
+
+-- whether edge f stays when edge e between x and y is contracted: it is not e, and does not join y with a vertex that x is
+-- joined with too
+abbrev pub is_kept : Multigraph → ℕ → ℕ → ℕ → ℕ → Bool
+is_kept g e x y f = not (f == e) && not (is_end g y f && are_joined g x (other_end g f y))
+
+-- h is g with the edge e between x and y contracted. Edge i of h is the edge `edge i` of g; vertex v of g becomes the vertex
+-- `vertex v` of h; and the two ends of an edge keep their order
+pub record IsContraction (g h : Multigraph) (e x y : ℕ) (edge vertex : ℕ → ℕ) : Type 0 where
+  pub edge_in : e < edge_count g
+  pub first_end : is_end g x e ≡ true
+  pub second_end : other_end g e x ≡ y
+  pub fewer : h.vertex_count + 1 ≡ g.vertex_count
+  pub vertices : (v : ℕ) → v < g.vertex_count → vertex v < h.vertex_count
+  pub merged : vertex x ≡ vertex y
+  pub vertices_once : (u v : ℕ) → u < g.vertex_count → v < g.vertex_count → vertex u ≡ vertex v → (u ≡ v) ⊎ (((u ≡ x) × (v ≡ y)) ⊎ ((u ≡ y) × (v ≡ x)))
+  pub vertices_met : (w : ℕ) → w < h.vertex_count → (v : ℕ) × (v < g.vertex_count) × (v ≢ y) × (vertex v ≡ w)
+  pub edges : (i : ℕ) → i < edge_count h → edge i < edge_count g
+  pub edges_once : (i j : ℕ) → i < edge_count h → j < edge_count h → edge i ≡ edge j → i ≡ j
+  pub edges_kept : (i : ℕ) → i < edge_count h → is_kept g e x y (edge i) ≡ true
+  pub edges_met : (f : ℕ) → f < edge_count g → is_kept g e x y f ≡ true → (i : ℕ) × (i < edge_count h) × (edge i ≡ f)
+  pub first_ends : (i : ℕ) → i < edge_count h → (ends_of h i).0 ≡ vertex (ends_of g (edge i)).0
+  pub second_ends : (i : ℕ) → i < edge_count h → (ends_of h i).1 ≡ vertex (ends_of g (edge i)).1

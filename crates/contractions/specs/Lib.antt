@@ -1,0 +1,2 @@
+-- Contracting an edge of a graph.
+pub mod Contraction

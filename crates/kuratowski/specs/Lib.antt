@@ -1,0 +1,2 @@
+-- Subdivisions of K5 and K3,3.
+pub mod Subdivision

@@ -1,0 +1,1 @@
+-- Split components of a block, and its tree.

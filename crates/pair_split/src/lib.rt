@@ -1,0 +1,2 @@
+// Split components: a block falls into bonds, polygons and triconnected graphs.
+#![tactic(auto)]

@@ -1,0 +1,1 @@
+-- The lemmas on plane rotation systems of triconnected graphs.

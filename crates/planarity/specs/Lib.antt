@@ -1,0 +1,1 @@
+-- Plane rotation systems of triconnected graphs.
