@@ -1,1 +1,2 @@
 -- Split components of a block, and its tree.
+pub mod Family
