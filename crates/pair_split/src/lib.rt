@@ -1,2 +1,10 @@
 // Split components: a block falls into bonds, polygons and triconnected graphs.
 #![tactic(auto)]
+
+mod components;
+mod lists;
+mod splitter;
+
+pub use components::{Comp, Comps, Kind, Piece, What};
+pub use lists::{CompList, PieceList};
+pub use splitter::Splitter;

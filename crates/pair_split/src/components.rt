@@ -1,0 +1,52 @@
+// Components of a block, as data.
+
+use crate::lists::{CompList, PieceList};
+
+/// The kind of a component.
+#[derive(Clone, Copy, Debug, Drop, PartialEq, Eq)]
+pub enum Kind {
+    /// A polygon: connected, of at least three vertices, two pieces at each.
+    S,
+    /// A bond: two vertices and at least three pieces.
+    P,
+    /// A triconnected graph.
+    R,
+    /// One or two edges, alone.
+    B,
+}
+
+/// What a piece stands for.
+#[derive(Clone, Copy, Debug, Drop, PartialEq, Eq)]
+pub enum What {
+    /// This edge of the block.
+    Real(u32),
+    /// A link to the component of this number.
+    Link(u32),
+}
+
+/// An edge of a component, with its two ends.
+#[derive(Clone, Copy, Debug, Drop, PartialEq, Eq)]
+pub struct Piece {
+    /// One end.
+    pub a: u32,
+    /// The other end.
+    pub b: u32,
+    /// What it stands for.
+    pub what: What,
+}
+
+/// A component: its kind and its pieces.
+#[derive(Debug, Drop)]
+pub struct Comp {
+    /// The kind.
+    pub kind: Kind,
+    /// The pieces.
+    pub items: PieceList,
+}
+
+/// The components of a block, numbered from 0.
+#[derive(Debug, Drop)]
+pub struct Comps {
+    /// The components, in order of their numbers.
+    pub list: CompList,
+}
