@@ -1,1 +1,5 @@
 -- The lemmas on split components.
+pub mod Elements
+pub mod Sides
+pub mod Replaced
+pub mod Minimal
