@@ -1,1 +1,4 @@
--- The lemmas on contracting an edge.
+-- The lemmas on triconnected graphs and on contracting their edges.
+pub mod Removed
+pub mod Outside
+pub mod Neighbours
