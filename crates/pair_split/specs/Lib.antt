@@ -2,4 +2,6 @@
 pub mod Family
 pub mod OneBlock
 pub mod Skeleton
+pub mod Edges
 pub mod Split
+pub mod Tutte

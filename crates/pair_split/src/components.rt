@@ -35,6 +35,19 @@ pub struct Piece {
     pub what: What,
 }
 
+/// An edge of a node of the tree, with its two ends, the lesser first.
+#[derive(Clone, Copy, Debug, Drop, PartialEq, Eq)]
+pub struct Item {
+    /// The least edge of the block that it stands for.
+    pub key: u32,
+    /// The lesser end.
+    pub a: u32,
+    /// The greater end.
+    pub b: u32,
+    /// What it stands for.
+    pub what: What,
+}
+
 /// A component: its kind and its pieces.
 #[derive(Debug, Drop)]
 pub struct Comp {

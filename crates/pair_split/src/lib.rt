@@ -5,6 +5,6 @@ mod components;
 mod lists;
 mod splitter;
 
-pub use components::{Comp, Comps, Kind, Piece, What};
+pub use components::{Comp, Comps, Item, Kind, Piece, What};
 pub use lists::{CompList, PieceList};
 pub use splitter::Splitter;
