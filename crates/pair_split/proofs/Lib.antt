@@ -3,3 +3,7 @@ pub mod Elements
 pub mod Sides
 pub mod Replaced
 pub mod Minimal
+pub mod Names
+pub mod Degrees
+pub mod PrimeSimple
+pub mod PrimeRigid
