@@ -5,3 +5,4 @@ pub mod Skeleton
 pub mod Edges
 pub mod Split
 pub mod Tutte
+pub mod State
