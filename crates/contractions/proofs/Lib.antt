@@ -1,4 +1,8 @@
 -- The lemmas on triconnected graphs and on contracting their edges.
 pub mod Removed
 pub mod Outside
+pub mod Counting
 pub mod Neighbours
+pub mod Tests
+pub mod Growth
+pub mod ContractibleEdges

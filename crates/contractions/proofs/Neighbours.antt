@@ -1,4 +1,5 @@
--- The neighbours of a vertex of a triconnected graph: at least three.
+-- The neighbours of a vertex of a triconnected graph: at least three, and one in each component that is left without it and
+-- two others.
 use Rattle.std.proofs.Common.{◌≡◌, ◌≢◌, ℕ, ◌+◌, ◌<◌, ◌≤◌, inl, inr, Bool, true, false, not, ◌&&◌, ◌==◌, List, [], ◌∷◌, length, get_or, refl, sym, ap, ◌∙◌, subst, arith, Contains}
 use Rattle.std.proofs.lemmas.Bool.{cases_Bool, cases_eq, both_ways, and_parts, and_from, eq-eqb, eqb-true, not-true, not_from_false}
 use Rattle.std.proofs.lemmas.List.{get_or_default}
@@ -6,12 +7,13 @@ use Rattle.permutations.specs.Count.{some}
 use Rattle.permutations.specs.Members.{is_member}
 use Rattle.permutations.specs.Relation.{connected}
 use Rattle.permutations.proofs.Search.{some-witness, some-none}
+use Rattle.permutations.proofs.Relation.{connected-reflexive, connected-transitive}
 use Rattle.multigraph.specs.Graph.{Multigraph, edge_count, is_end, other_end, incident_edges, IsGraph}
-use Rattle.multigraph.proofs.OtherEnd.{other_end-differs}
+use Rattle.multigraph.proofs.OtherEnd.{other_end-differs, other_end-is_end, other_end-twice}
 use Rattle.multigraph.proofs.Incident.{incident-has}
 use Rattle.graph_theory.specs.Triconnected.{ends_without, IsTriconnected}
-use Rattle.contractions.proofs.Removed.{closed-without}
-use Rattle.contractions.proofs.Outside.{outside, out-two, two-out, three-out}
+use Rattle.contractions.proofs.Removed.{closed-without, kept-without, step-without}
+use Rattle.contractions.proofs.Outside.{outside, out-two, out-three, two-out, three-out}
 
 -- a vertex that is connected with another one has an edge to a vertex that is not removed
 pub edge-without : (g : Multigraph) (removed : List ℕ) (v w : ℕ) → connected (ends_without g removed) v w ≡ true → v ≢ w
@@ -104,3 +106,44 @@ incident-three g i t v l =
       places-apart (incident_edges g v) n.first n.third (λ s. n.first_third (ap (λ (e : ℕ). other_end g e v) s)) a c,
       places-apart (incident_edges g v) n.second n.third (λ s. n.second_third (ap (λ (e : ℕ). other_end g e v) s)) b c,
     )
+
+-- in a triconnected graph a third vertex has a neighbour in each component that is left without it and two others
+pub attach : (g : Multigraph) → IsGraph g → IsTriconnected g → (x y z u : ℕ) → z < g.vertex_count → u < g.vertex_count → z ≢ x → z ≢ y → is_member u (x ∷ y ∷ z ∷ []) ≡ false
+    → (f : ℕ) × (f < edge_count g) × (is_end g z f ≡ true) × (connected (ends_without g (x ∷ y ∷ z ∷ [])) u (other_end g f z) ≡ true)
+attach g i t x y z u lz lu zx zy uo = elim (cases_Bool (some (edge_count g) leads)) [
+  | inl y ↦
+      let r : (f : ℕ) × (f < edge_count g) × (leads f ≡ true) = some-witness (edge_count g) leads y in
+      let p = and_parts (is_end g z r.0) (reached (other_end g r.0 z)) r.2 in
+      (r.0, r.1, p.0, p.1)
+  | inr n ↦
+      let o = three-out x y z u uo in
+      absurd (left z (sym (closed-without g (x ∷ y ∷ []) reached (stays n) u z
+      (t.stays_connected x y u z lu lz (out-two x y u o.0 o.1) (out-two x y z (λ s. zx (sym s)) (λ s. zy (sym s)))))
+      ∙ connected-reflexive links u) refl)
+]
+  where
+    links : List (ℕ × ℕ)
+    links = ends_without g (x ∷ y ∷ z ∷ [])
+
+    reached : ℕ → Bool
+    reached = connected links u
+
+    leads : ℕ → Bool
+    leads f = is_end g z f && reached (other_end g f z)
+
+    left : (w : ℕ) → reached w ≡ true → w ≢ z
+    left w c s = let o = three-out x y z w (kept-without g (x ∷ y ∷ z ∷ []) u w uo c) in o.2 (sym s)
+
+    stays : some (edge_count g) leads ≡ false → (e p : ℕ) → e < edge_count g → is_end g p e ≡ true → is_member p (x ∷ y ∷ []) ≡ false → is_member (other_end g e p) (x ∷ y ∷ []) ≡ false
+        → reached p ≡ true → reached (other_end g e p) ≡ true
+    stays n e p l h a b c =
+        let oa = two-out x y p a in
+        let ob = two-out x y (other_end g e p) b in
+        elim (cases_eq (other_end g e p) z) [
+          | inl s ↦ absurd (both_ways (leads e) (some-none (edge_count g) leads n e l)
+              (and_from (is_end g z e) (reached (other_end g e z))
+              (subst (λ (q : ℕ). is_end g q e ≡ true) s (other_end-is_end g e p))
+              (subst (λ (q : ℕ). reached (other_end g e q) ≡ true) s (subst (λ (q : ℕ). reached q ≡ true) (sym (other_end-twice g e p i l h)) c))))
+          | inr s ↦ connected-transitive links u p (other_end g e p) c (step-without g (x ∷ y ∷ z ∷ []) e p l h
+              (out-three x y z p oa.0 oa.1 (λ d. left p c (sym d))) (out-three x y z (other_end g e p) ob.0 ob.1 (λ d. s (sym d))))
+        ]

@@ -39,7 +39,7 @@ other_end-of_last : (g : Multigraph) (e : ℕ) → other_end g e (ends_of g e).1
 other_end-of_last g e = elim (other_end-cases g e (ends_of g e).1) [ inl c ↦ c.1 ∙ sym c.0 | inr c ↦ c.1 ]
 
 -- an edge whose ends are not removed connects its first end with its second
-link-without : (g : Multigraph) (removed : List ℕ) (e : ℕ) → e < edge_count g
+pub link-without : (g : Multigraph) (removed : List ℕ) (e : ℕ) → e < edge_count g
     → is_member (ends_of g e).0 removed ≡ false → is_member (ends_of g e).1 removed ≡ false → connected (ends_without g removed) (ends_of g e).0 (ends_of g e).1 ≡ true
 link-without g removed e l a b =
     connected-link (ends_without g removed) (ends_of g e).0 (ends_of g e).1 (contains-filter (avoids removed) g.ends e (0, 0) l (avoids-from removed (ends_of g e) a b))

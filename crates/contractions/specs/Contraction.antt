@@ -1,8 +1,10 @@
 -- A graph with an edge contracted: its two ends become one vertex, and of two edges that would become parallel one is kept.
-use Rattle.std.specs.Prelude.{◌≡◌, ◌≢◌, ℕ, ◌+◌, ◌<◌, ◌⊎◌, Bool, true, not, ◌&&◌, ◌==◌, [], ◌∷◌}
+use Rattle.std.specs.Prelude.{◌≡◌, ◌≢◌, ℕ, ◌+◌, ◌<◌, ◌⊎◌, Bool, true, not, ◌&&◌, ◌==◌, List, [], ◌∷◌}
 use Rattle.permutations.specs.Count.{some}
+use Rattle.permutations.specs.Members.{is_member}
+use Rattle.permutations.specs.Relation.{connected}
 use Rattle.multigraph.specs.Graph.{Multigraph, edge_count, ends_of, is_end, other_end}
-use Rattle.graph_theory.specs.Triconnected.{IsConnectedWithout}
+use Rattle.graph_theory.specs.Triconnected.{ends_without, IsConnectedWithout}
 
 -- whether some edge joins u and v
 abbrev pub are_joined : Multigraph → ℕ → ℕ → Bool
@@ -12,6 +14,25 @@ are_joined g u v = some (edge_count g) (λ f. is_end g u f && (other_end g f u =
 -- (Thomassen 1980)
 abbrev pub IsContractible : Multigraph → ℕ → ℕ → Type 0
 IsContractible g x y = (z : ℕ) → z ≢ x → z ≢ y → IsConnectedWithout g (x ∷ y ∷ z ∷ [])
+
+-- whether the others stay connected when the vertices are removed: IsConnectedWithout as a test
+unfoldable pub is_connected_without : Multigraph → List ℕ → Bool
+is_connected_without g removed =
+    not (some g.vertex_count (λ u. some g.vertex_count (λ v. not (is_member u removed) && (not (is_member v removed) && not (connected (ends_without g removed) u v)))))
+
+-- whether the edge between x and y may be contracted: IsContractible as a test, that tries each vertex as the third
+unfoldable pub is_contractible : Multigraph → ℕ → ℕ → Bool
+is_contractible g x y = not (some g.vertex_count (λ z. not (z == x) && (not (z == y) && not (is_connected_without g (x ∷ y ∷ z ∷ [])))))
+
+-- an edge that may be contracted, with its ends
+pub record ContractibleEdge (g : Multigraph) : Type 0 where
+  pub edge : ℕ
+  pub first : ℕ
+  pub second : ℕ
+  pub edge_in : edge < edge_count g
+  pub first_end : is_end g first edge ≡ true
+  pub second_end : other_end g edge first ≡ second
+  pub contractible : IsContractible g first second
 
 -- whether edge f stays when edge e between x and y is contracted: it is not e, and does not join y with a vertex that x is
 -- joined with too

@@ -1,2 +1,3 @@
 -- Contracting an edge of a graph.
 pub mod Contraction
+pub mod Laws

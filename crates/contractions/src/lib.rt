@@ -1,5 +1,28 @@
 // Contracting an edge of a triconnected graph: theory without code that runs.
 //
-// A triconnected graph of at least five vertices has an edge whose contraction, of parallel edges one kept, is triconnected
-// (Thomassen 1980).
+// A triconnected graph has an edge that may be contracted: with any third vertex removed besides its two ends, the others
+// stay connected. If the graph has at least five vertices, what is left when such an edge is contracted, of parallel edges one
+// kept, is triconnected (Thomassen 1980). So each triconnected graph leads by contractions to the complete graph on four
+// vertices. Each law below is a function without a body, whose contract is the theorem.
+//
+// The lemmas that are used most (module of proofs/ in front):
+//   Removed     step-without, least-without, closed-without, kept-without: connection when vertices are removed
+//   Neighbours  neighbour, three_neighbours, incident-three: a third neighbour of each vertex of a triconnected graph
+//   Neighbours  attach: a vertex has a neighbour in each component that is left without it and two others
+//   Tests       connected_without-true, connected_without-from, contractible-true, contractible-from: the tests are exact
+//   Growth      grown: a component that gets greater, of an edge and a third vertex that part the graph
 #![tactic(auto)]
+
+ghost use Rattle.contractions.specs.Laws.{ContractibleEdgeExists, ContractibleEitherWay, ContractibleIsTested, DegreeThree};
+
+/// The law that each vertex of a triconnected graph has at least three edges.
+pub fn triconnected_degrees()
+    ensures three { DegreeThree }
+{}
+
+/// The law that a triconnected graph has an edge that may be contracted (Thomassen 1980), and that a test finds it.
+pub fn edges_may_be_contracted()
+    ensures some { ContractibleEdgeExists }
+    ensures tested { ContractibleIsTested }
+    ensures either_way { ContractibleEitherWay }
+{}
