@@ -1,1 +1,6 @@
 -- The lemmas on plane rotation systems of triconnected graphs.
+pub mod TriangleLoop
+pub mod ContractedVertices
+pub mod RestrictedConnection
+pub mod SimpleDarts
+pub mod Triangle
