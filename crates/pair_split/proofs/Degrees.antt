@@ -7,7 +7,7 @@ use Rattle.pair_split.proofs.Names.{same-name, one-name}
 use Rattle.pair_split.proofs.Replaced.{end-cases}
 
 -- of two numbers with two different values, each is one of the values
-one-of_two : (a b p q x : ℕ) → p ≢ q → (p ≡ a) ⊎ (p ≡ b) → (q ≡ a) ⊎ (q ≡ b) → (x ≡ a) ⊎ (x ≡ b) → (x ≡ p) ⊎ (x ≡ q)
+pub one-of_two : (a b p q x : ℕ) → p ≢ q → (p ≡ a) ⊎ (p ≡ b) → (q ≡ a) ⊎ (q ≡ b) → (x ≡ a) ⊎ (x ≡ b) → (x ≡ p) ⊎ (x ≡ q)
 one-of_two a b p q x n (inl i) (inl j) k = absurd (n (i ∙ sym j))
 one-of_two a b p q x n (inl i) (inr j) (inl k) = inl (k ∙ sym i)
 one-of_two a b p q x n (inl i) (inr j) (inr k) = inr (k ∙ sym j)

@@ -7,3 +7,4 @@ pub mod Names
 pub mod Degrees
 pub mod PrimeSimple
 pub mod PrimeRigid
+pub mod ThreeEntries

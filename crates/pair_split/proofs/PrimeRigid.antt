@@ -1,5 +1,5 @@
 -- A prime family of four or more entries is triconnected.
-use Rattle.std.proofs.Common.{◌≡◌, ◌≢◌, ℕ, ◌<◌, ◌≤◌, ◌⊎◌, inl, inr, Bool, true, false, not, ◌&&◌, ◌||◌, List, [], ◌∷◌, length, map, filter, slice_index_or, refl, sym, ap, ◌∙◌, subst, arith, Contains}
+use Rattle.std.proofs.Common.{◌≡◌, ◌≢◌, ℕ, ◌<◌, ◌≤◌, ◌⊎◌, inl, inr, Bool, true, false, not, ◌&&◌, ◌||◌, List, [], ◌∷◌, length, filter, slice_index_or, refl, sym, ap, ◌∙◌, subst, arith, Contains}
 use Rattle.std.proofs.lemmas.Bool.{cases_Bool, both_ways, ne_eqb, not-true, not_from_false, true≢false, or_cases, and_parts, and_from, or_left, or_right, cases_lt, false_from_ne_true, true_from_ne_false}
 use Rattle.std.proofs.lemmas.List.{get_or-map, length-map}
 use Rattle.std.proofs.lemmas.List.Elements.{All-contains, All-cons, All-nil, Contains-get_or}
@@ -9,20 +9,21 @@ use Rattle.permutations.proofs.Members.{member-cases}
 use Rattle.permutations.proofs.Relation.{connected-link, connected-reflexive, connected-symmetric, connected-transitive}
 use Rattle.graph_theory.specs.Triconnected.{avoids}
 use Rattle.pair_split.specs.Family.{Entry, has_end, IsFamily, touches, is_common, IsPrime}
+use Rattle.pair_split.specs.Edges.{entry_ends, family_skeleton}
 use Rattle.pair_split.specs.Skeleton.{SameEnds, is_vertex, HasVertices, StaysConnectedWithout, IsRigid}
 use Rattle.pair_split.proofs.Elements.{contains-here, contains-later, contains-cases, contains-none, contains-filter, two-pass, length-either, some-element, filter-contains, length-parts}
 use Rattle.pair_split.proofs.Sides.{touches-from, touching-entry, common-inside, common-outside, separation-from}
 use Rattle.pair_split.proofs.Names.{same-place, two-names, side_of, side_of-at}
 use Rattle.pair_split.proofs.Replaced.{end-cases, first-end, second-end}
 use Rattle.pair_split.proofs.Degrees.{tight-degree}
-use Rattle.pair_split.proofs.PrimeSimple.{ends, prime-simple, joins, joins-parallel, outside-end, other-end, touched-vertex}
+use Rattle.pair_split.proofs.PrimeSimple.{prime-simple, joins, joins-parallel, outside-end, other-end, touched-vertex}
 
 -- an entry's ends are among those of the entries
-pub contains-ends : (entries : List Entry) (e : Entry) → Contains entries e → Contains (map ends entries) (ends e)
+pub contains-ends : (entries : List Entry) (e : Entry) → Contains entries e → Contains (family_skeleton entries) (entry_ends e)
 contains-ends [] e c = absurd (contains-none e c)
 contains-ends (f ∷ entries) e c = elim (contains-cases e f entries c) [
-  | inl i ↦ subst (λ (z : Entry). Contains (map ends (f ∷ entries)) (ends z)) i (contains-here (ends f) (map ends entries))
-  | inr r ↦ contains-later (ends e) (ends f) (map ends entries) (contains-ends entries e r)
+  | inl i ↦ subst (λ (z : Entry). Contains (family_skeleton (f ∷ entries)) (entry_ends z)) i (contains-here (entry_ends f) (family_skeleton entries))
+  | inr r ↦ contains-later (entry_ends e) (entry_ends f) (family_skeleton entries) (contains-ends entries e r)
 ]
 
 module _ (entries : List Entry) (family : IsFamily entries) (prime : IsPrime entries) (four : 4 ≤ length entries) where
@@ -90,10 +91,10 @@ module _ (entries : List Entry) (family : IsFamily entries) (prime : IsPrime ent
       (w.0, c.0, not-true ((joins t.a t.b w.0 || joins t.b t.c w.0) || joins t.c t.a w.0) c.1)
 
   -- there are at least four vertices
-  pub prime-four : HasVertices 4 (map ends entries)
+  pub prime-four : HasVertices 4 (family_skeleton entries)
   prime-four = found three (fourth three)
     where
-      found : (t : Three) → (e : Entry) × Contains entries e × (((joins t.a t.b e || joins t.b t.c e) || joins t.c t.a e) ≡ false) → HasVertices 4 (map ends entries)
+      found : (t : Three) → (e : Entry) × Contains entries e × (((joins t.a t.b e || joins t.b t.c e) || joins t.c t.a e) ≡ false) → HasVertices 4 (family_skeleton entries)
       found t w = let d = outside-end t.a t.b t.c w.0 (no_loop w.0 w.1) w.2 in record {
         vertices = t.a ∷ t.b ∷ t.c ∷ d.0 ∷ [];
         enough = omega arith;
@@ -105,29 +106,29 @@ module _ (entries : List Entry) (family : IsFamily entries) (prime : IsPrime ent
       }
         where
           P : ℕ → Type 0
-          P v = is_vertex (map ends entries) v ≡ true
+          P v = is_vertex (family_skeleton entries) v ≡ true
 
   -- places with the same two ends are the same
-  pub prime-places : (i j : ℕ) → i < length (map ends entries) → j < length (map ends entries) → SameEnds (slice_index_or (map ends entries) i (0, 0)) (slice_index_or (map ends entries) j (0, 0)) → i ≡ j
+  pub prime-places : (i j : ℕ) → i < length (family_skeleton entries) → j < length (family_skeleton entries) → SameEnds (slice_index_or (family_skeleton entries) i (0, 0)) (slice_index_or (family_skeleton entries) j (0, 0)) → i ≡ j
   prime-places i j l m s =
       same-place entries family.names_once i j none l' m'
       (prime-simple entries family prime four (slice_index_or entries i none) (slice_index_or entries j none) (Contains-get_or entries i none l') (Contains-get_or entries j none m')
-      (subst (λ (z : ℕ × ℕ). SameEnds z (ends (slice_index_or entries j none))) (get_or-map ends entries i none (0, 0) l')
-      (subst (λ (z : ℕ × ℕ). SameEnds (slice_index_or (map ends entries) i (0, 0)) z) (get_or-map ends entries j none (0, 0) m') s)))
+      (subst (λ (z : ℕ × ℕ). SameEnds z (entry_ends (slice_index_or entries j none))) (get_or-map entry_ends entries i none (0, 0) l')
+      (subst (λ (z : ℕ × ℕ). SameEnds (slice_index_or (family_skeleton entries) i (0, 0)) z) (get_or-map entry_ends entries j none (0, 0) m') s)))
     where
       none : Entry
       none = record { name = 0; first = 0; second = 0 }
 
       l' : i < length entries
-      l' = omega (arith, l, length-map entries ends)
+      l' = omega (arith, l, length-map entries entry_ends)
 
       m' : j < length entries
-      m' = omega (arith, m, length-map entries ends)
+      m' = omega (arith, m, length-map entries entry_ends)
 
   module _ (a b : ℕ) where
     -- the links that have neither a nor b as an end
     abbrev links : List (ℕ × ℕ)
-    links = filter (avoids (a ∷ b ∷ [])) (map ends entries)
+    links = filter (avoids (a ∷ b ∷ [])) (family_skeleton entries)
 
     -- whether z is removed
     abbrev removed : ℕ → Bool
@@ -138,7 +139,7 @@ module _ (entries : List Entry) (family : IsFamily entries) (prime : IsPrime ent
     near e x z c h k m n = go (end-cases x e h) (end-cases z e k)
       where
         linked : removed e.first ≡ false → removed e.second ≡ false → connected links e.first e.second ≡ true
-        linked r s = connected-link links e.first e.second (contains-filter (avoids (a ∷ b ∷ [])) (ends e) (map ends entries) (contains-ends entries e c)
+        linked r s = connected-link links e.first e.second (contains-filter (avoids (a ∷ b ∷ [])) (entry_ends e) (family_skeleton entries) (contains-ends entries e c)
             (and_from (not (removed e.first)) (not (removed e.second)) (not_from_false (removed e.first) r) (not_from_false (removed e.second) s)))
 
         go : (x ≡ e.first) ⊎ (x ≡ e.second) → (z ≡ e.first) ⊎ (z ≡ e.second) → connected links x z ≡ true
@@ -204,10 +205,10 @@ module _ (entries : List Entry) (family : IsFamily entries) (prime : IsPrime ent
           leads-common)
 
     -- when two vertices or fewer are removed, the others stay connected
-    pub prime-stays_connected : StaysConnectedWithout (map ends entries) (a ∷ b ∷ [])
+    pub prime-stays_connected : StaysConnectedWithout (family_skeleton entries) (a ∷ b ∷ [])
     prime-stays_connected u v tu tv mu mv =
         true_from_ne_false (connected links u v) (not_apart u v (sym (touched-vertex entries u) ∙ tu) (sym (touched-vertex entries v) ∙ tv) mu mv)
 
   -- a prime family of four or more entries is triconnected
-  pub prime-rigid : IsRigid (map ends entries)
+  pub prime-rigid : IsRigid (family_skeleton entries)
   prime-rigid = record { simple = prime-places; four = prime-four; stays_connected = prime-stays_connected }

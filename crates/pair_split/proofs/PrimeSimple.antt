@@ -1,20 +1,17 @@
 -- A prime family of four or more entries is simple, and has at least four vertices.
-use Rattle.std.proofs.Common.{◌≡◌, ◌≢◌, ℕ, ◌≤◌, ◌⊎◌, inl, inr, Bool, true, false, ◌&&◌, ◌||◌, ◌==◌, List, [], ◌∷◌, length, map, refl, sym, ap, ◌∙◌, subst, arith, Contains}
+use Rattle.std.proofs.Common.{◌≡◌, ◌≢◌, ℕ, ◌≤◌, ◌⊎◌, inl, inr, Bool, true, false, ◌&&◌, ◌||◌, ◌==◌, List, [], ◌∷◌, length, refl, sym, ap, ◌∙◌, subst, arith, Contains}
 use Rattle.std.proofs.lemmas.Bool.{cases_Bool, both_ways, eq-eqb, eqb-true, or_cases, and_parts, and_from, or_left, or_right}
 use Rattle.permutations.specs.Members.{is_member}
 use Rattle.pair_split.specs.Family.{Entry, has_end, IsFamily, on_side, off_side, touches, is_common, IsPrime}
+use Rattle.pair_split.specs.Edges.{entry_ends, family_skeleton}
 use Rattle.pair_split.specs.Skeleton.{SameEnds, is_vertex}
 use Rattle.pair_split.proofs.Elements.{two-pass, length-either}
 use Rattle.pair_split.proofs.Sides.{common-inside, length-sides, separation-from}
 use Rattle.pair_split.proofs.Names.{same-name, one-name}
 use Rattle.pair_split.proofs.Replaced.{end-cases, first-end, second-end}
 
--- the two ends of an entry
-abbrev pub ends : Entry → ℕ × ℕ
-ends e = (e.first, e.second)
-
 -- an end of the one is an end of the other
-pub parallel-end : (e f : Entry) (x : ℕ) → SameEnds (ends e) (ends f) → has_end x f ≡ true → has_end x e ≡ true
+pub parallel-end : (e f : Entry) (x : ℕ) → SameEnds (entry_ends e) (entry_ends f) → has_end x f ≡ true → has_end x e ≡ true
 parallel-end e f x (inl s) h = elim (end-cases x f h) [ inl i ↦ first-end x e (i ∙ sym s.0) | inr i ↦ second-end x e (i ∙ sym s.1) ]
 parallel-end e f x (inr s) h = elim (end-cases x f h) [ inl i ↦ second-end x e (i ∙ sym s.1) | inr i ↦ first-end x e (i ∙ sym s.0) ]
 
@@ -23,7 +20,7 @@ abbrev pair : Entry → Entry → ℕ → Bool
 pair e f n = (n == e.name) || (n == f.name)
 
 -- in a prime family of four or more entries, entries with the same two ends are one
-pub prime-simple : (entries : List Entry) → IsFamily entries → IsPrime entries → 4 ≤ length entries → (e f : Entry) → Contains entries e → Contains entries f → SameEnds (ends e) (ends f) → e.name ≡ f.name
+pub prime-simple : (entries : List Entry) → IsFamily entries → IsPrime entries → 4 ≤ length entries → (e f : Entry) → Contains entries e → Contains entries f → SameEnds (entry_ends e) (entry_ends f) → e.name ≡ f.name
 prime-simple entries family prime four e f c k s = elim (cases_Bool (e.name == f.name)) [
   | inl i ↦ eqb-true e.name f.name i
   | inr n ↦ absurd (prime.none (pair e f) e.first e.second (separation-from entries (pair e f) e.first e.second prime.tight (two n) (others (two n)) only))
@@ -55,13 +52,13 @@ abbrev pub joins : ℕ → ℕ → Entry → Bool
 joins a b e = has_end a e && has_end b e
 
 -- entries that join the same two vertices have the same two ends
-pub joins-parallel : (a b : ℕ) (e f : Entry) → a ≢ b → joins a b e ≡ true → joins a b f ≡ true → SameEnds (ends e) (ends f)
+pub joins-parallel : (a b : ℕ) (e f : Entry) → a ≢ b → joins a b e ≡ true → joins a b f ≡ true → SameEnds (entry_ends e) (entry_ends f)
 joins-parallel a b e f n h k =
     let i = and_parts (has_end a e) (has_end b e) h in
     let j = and_parts (has_end a f) (has_end b f) k in
     both (end-cases a e i.0) (end-cases b e i.1) (end-cases a f j.0) (end-cases b f j.1)
   where
-    both : (a ≡ e.first) ⊎ (a ≡ e.second) → (b ≡ e.first) ⊎ (b ≡ e.second) → (a ≡ f.first) ⊎ (a ≡ f.second) → (b ≡ f.first) ⊎ (b ≡ f.second) → SameEnds (ends e) (ends f)
+    both : (a ≡ e.first) ⊎ (a ≡ e.second) → (b ≡ e.first) ⊎ (b ≡ e.second) → (a ≡ f.first) ⊎ (a ≡ f.second) → (b ≡ f.first) ⊎ (b ≡ f.second) → SameEnds (entry_ends e) (entry_ends f)
     both (inl p) (inl q) r s = absurd (n (p ∙ sym q))
     both (inr p) (inr q) r s = absurd (n (p ∙ sym q))
     both (inl p) (inr q) (inl r) (inl s) = absurd (n (r ∙ sym s))
@@ -91,6 +88,6 @@ other-end a e n h = elim (end-cases a e h) [
 ]
 
 -- a vertex that an entry touches is one of the skeleton's
-pub touched-vertex : (entries : List Entry) (x : ℕ) → is_vertex (map ends entries) x ≡ touches entries x
+pub touched-vertex : (entries : List Entry) (x : ℕ) → is_vertex (family_skeleton entries) x ≡ touches entries x
 touched-vertex [] x = refl
 touched-vertex (e ∷ entries) x = rw (touched-vertex entries x) refl
