@@ -1,1 +1,5 @@
 -- The lemmas on subdivisions.
+pub mod Marks
+pub mod FreePaths
+pub mod Checked
+mod Examples

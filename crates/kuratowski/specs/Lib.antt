@@ -1,2 +1,3 @@
 -- Subdivisions of K5 and K3,3.
 pub mod Subdivision
+pub mod Checking

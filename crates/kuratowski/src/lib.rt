@@ -6,6 +6,11 @@
 // has a subdivision of K5 or of K3,3.
 #![tactic(auto)]
 
+mod checking;
 mod subdivision;
 
+pub use checking::check;
 pub use subdivision::{Pattern, Subdivision};
+
+#[cfg(test)]
+mod tests;

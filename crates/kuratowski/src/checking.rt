@@ -1,0 +1,207 @@
+// The exact check of a subdivision, by marks on the vertices that were met.
+
+ghost use Rattle.std.specs.Prelude.{◌≡◌, ◌<◌, ◌↔◌, ◌&&◌, ℕ, true, false, not, length, IfOk, MatchOption, replicate, slice_set, slice_index_or};
+ghost use Rattle.multigraph.specs.Graph.{IsGraph, edge_count, other_end};
+ghost use Rattle.graph_theory.specs.Path.{walk_starts, walk_end};
+ghost use Rattle.kuratowski.specs.Subdivision.{branch_at, branch_count, pattern_edges, inner_vertices, IsWritten};
+ghost use Rattle.kuratowski.specs.Checking.{is_in_order, no_marks, is_taken, marked_also, are_free, is_edge_at, is_free_walk, is_free_path, are_free_paths};
+
+use crate::subdivision::{Pattern, Subdivision};
+use multigraph::{Graph, Numbers};
+use std::alloc::{AllocError, Global};
+
+const K5_EDGES: [(usize, usize); 10] = [
+    (0, 1),
+    (0, 2),
+    (0, 3),
+    (0, 4),
+    (1, 2),
+    (1, 3),
+    (1, 4),
+    (2, 3),
+    (2, 4),
+    (3, 4),
+];
+
+const K33_EDGES: [(usize, usize); 9] = [
+    (0, 3),
+    (0, 4),
+    (0, 5),
+    (1, 3),
+    (1, 4),
+    (1, 5),
+    (2, 3),
+    (2, 4),
+    (2, 5),
+];
+
+// The edges of the pattern, as pairs of its vertices.
+fn pattern_edges(kind: Pattern) -> &'static [(usize, usize)]
+    ensures { result.now ≡ pattern_edges kind }
+{
+    match kind {
+        Pattern::K5 => &K5_EDGES,
+        Pattern::K33 => &K33_EDGES,
+    }
+}
+
+// Whether there are as many branch vertices as the pattern has, in their written order.
+fn is_in_order(kind: Pattern, branch: &[u32]) -> bool
+    ensures many { result ≡ true → length branch.now ≡ branch_count kind }
+    ensures order { length branch.now ≡ branch_count kind → result ≡ is_in_order kind branch.now }
+{
+    match kind {
+        Pattern::K5 => {
+            branch.len() == 5
+                && branch[0] < branch[1]
+                && branch[1] < branch[2]
+                && branch[2] < branch[3]
+                && branch[3] < branch[4]
+        }
+        Pattern::K33 => {
+            branch.len() == 6
+                && branch[0] < branch[1]
+                && branch[1] < branch[2]
+                && branch[3] < branch[4]
+                && branch[4] < branch[5]
+                && branch[0] < branch[3]
+        }
+    }
+}
+
+// A place for the mark of each vertex, without a mark.
+fn no_marks(alloc: Global, g: &Graph) -> Result<Vec<bool>, AllocError>
+    ensures marks { IfOk result (λ marks. marks.items ≡ no_marks g.now) }
+    ensures graph { IfOk result (λ _. IsGraph g.now) }
+{
+    vec![in alloc; false; g.vertex_count() as usize]
+}
+
+// Marks a vertex that has no mark yet. Returns whether it did.
+fn mark(marks: &mut [bool], vertex: u32) -> bool
+    ensures free { result ≡ not (is_taken marks.old vertex) }
+    ensures marked { result ≡ true → marks.new ≡ slice_set marks.old vertex true }
+{
+    if vertex as usize >= marks.len() || marks[vertex as usize] {
+        return false;
+    }
+    marks[vertex as usize] = true;
+    true
+}
+
+// Marks each of the vertices, as long as they have no mark yet. Returns whether all were marked.
+fn mark_all(marks: &mut [bool], vertices: &[u32]) -> bool
+    ensures free { result ≡ are_free marks.old vertices.now }
+    ensures marked { result ≡ true → marks.new ≡ marked_also marks.old vertices.now }
+{
+    for vertex in vertices {
+        if !mark(marks, *vertex) {
+            return false;
+        }
+    }
+    true
+}
+
+// The other end of an edge at a vertex, or none where this is no edge at it.
+fn follow(g: &Graph, vertex: u32, edge: u32) -> Option<u32>
+    ensures { MatchOption result (is_edge_at g.now vertex edge ≡ false) (λ y. (is_edge_at g.now vertex edge ≡ true) × (y ≡ other_end g.now edge vertex)) }
+{
+    if edge >= g.edge_count() {
+        return None;
+    }
+    let (first, second) = g.ends(edge);
+    if first == vertex {
+        return Some(second);
+    }
+    if second == vertex {
+        return Some(first);
+    }
+    None
+}
+
+// Walks along the edges from a vertex and marks each vertex where an edge is entered, as long as they are a walk and the
+// vertex has no mark yet. Returns where they lead.
+fn walk(g: &Graph, marks: &mut [bool], from: u32, edges: &[u32]) -> Option<u32>
+    ensures { MatchOption result (is_free_walk g.now marks.old from edges.now ≡ false) (λ y. (is_free_walk g.now marks.old from edges.now ≡ true) × (y ≡ walk_end g.now from edges.now) × (marks.new ≡ marked_also marks.old (walk_starts g.now from edges.now))) }
+{
+    let mut at = from;
+    for edge in edges {
+        if !mark(marks, at) {
+            return None;
+        }
+        let Some(next) = follow(g, at, *edge) else {
+            return None;
+        };
+        at = next;
+    }
+    Some(at)
+}
+
+// Walks along a path and marks the vertices inside. Returns whether it is one between the two vertices and meets no mark.
+fn walk_path(g: &Graph, marks: &mut [bool], from: u32, path: &[u32], to: u32) -> bool
+    ensures free { result ≡ is_free_path g.now marks.old from path.now to }
+    ensures marked { result ≡ true → marks.new ≡ marked_also marks.old (inner_vertices g.now from path.now) }
+{
+    let Some((first, rest)) = path.split_first() else {
+        return false;
+    };
+    let Some(next) = follow(g, from, *first) else {
+        return false;
+    };
+    let Some(end) = walk(g, marks, next, rest) else {
+        return false;
+    };
+    end == to
+}
+
+// Walks along a path for each of the pairs of branch vertices.
+fn walk_paths(
+    g: &Graph,
+    marks: &mut [bool],
+    branch: &[u32],
+    pairs: &[(usize, usize)],
+    paths: &[Numbers],
+) -> bool
+    requires one_each { length paths.now ≡ length pairs.now }
+    requires within { (k : ℕ) → k < length pairs.now → ((slice_index_or pairs.now k (0, 0)).0 < length branch.now) × ((slice_index_or pairs.now k (0, 0)).1 < length branch.now) }
+    ensures { result ≡ are_free_paths g.now marks.old branch.now pairs.now paths.now }
+{
+    for (k, pair) in pairs.iter().enumerate() {
+        let from = branch[pair.0];
+        let to = branch[pair.1];
+        if !walk_path(g, marks, from, paths[k].as_slice(), to) {
+            return false;
+        }
+    }
+    true
+}
+
+// Whether the branch vertices and the vertices inside the paths have no mark yet and none is met twice, and the paths join the
+// pairs.
+fn meets_once(
+    g: &Graph,
+    marks: &mut [bool],
+    branch: &[u32],
+    pairs: &[(usize, usize)],
+    paths: &[Numbers],
+) -> bool
+    requires one_each { length paths.now ≡ length pairs.now }
+    requires within { (k : ℕ) → k < length pairs.now → ((slice_index_or pairs.now k (0, 0)).0 < length branch.now) × ((slice_index_or pairs.now k (0, 0)).1 < length branch.now) }
+    ensures { result ≡ (are_free marks.old branch.now && are_free_paths g.now (marked_also marks.old branch.now) branch.now pairs.now paths.now) }
+{
+    mark_all(marks, branch) && walk_paths(g, marks, branch, pairs, paths)
+}
+
+/// Whether `s` is a subdivision of its pattern in `g`, in its written form. In linear time.
+pub fn check(alloc: Global, g: &Graph, s: &Subdivision) -> Result<bool, AllocError>
+    ensures exact { IfOk result (λ held. (held ≡ true) ↔ IsWritten g.now s.now.kind s.now.branch s.now.paths) }
+{
+    let branch = s.branch.as_slice();
+    let paths = s.paths.as_slice();
+    let pairs = pattern_edges(s.kind);
+    if !is_in_order(s.kind, branch) || paths.len() != pairs.len() {
+        return Ok(false);
+    }
+    let mut marks = no_marks(alloc, g)?;
+    Ok(meets_once(g, &mut marks, branch, pairs, paths))
+}

@@ -1,0 +1,219 @@
+// Certificates of small graphs, right ones and near misses.
+
+use crate::{Pattern, Subdivision, check};
+use multigraph::{Graph, NumberLists, Numbers};
+use std::alloc::{AllocError, Global};
+use std::test::Fail;
+
+// A certificate, and whether it is one.
+struct Row {
+    kind: Pattern,
+    branch: &'static [u32],
+    paths: &'static [&'static [u32]],
+    held: bool,
+}
+
+// The complete graph on five vertices.
+const K5_ENDS: [(u32, u32); 10] = [
+    (0, 1),
+    (0, 2),
+    (0, 3),
+    (0, 4),
+    (1, 2),
+    (1, 3),
+    (1, 4),
+    (2, 3),
+    (2, 4),
+    (3, 4),
+];
+
+static K5_ROWS: [Row; 8] = [
+    // each edge a path
+    Row {
+        kind: Pattern::K5,
+        branch: &[0, 1, 2, 3, 4],
+        paths: &[&[0], &[1], &[2], &[3], &[4], &[5], &[6], &[7], &[8], &[9]],
+        held: true,
+    },
+    // two paths exchanged
+    Row {
+        kind: Pattern::K5,
+        branch: &[0, 1, 2, 3, 4],
+        paths: &[&[1], &[0], &[2], &[3], &[4], &[5], &[6], &[7], &[8], &[9]],
+        held: false,
+    },
+    // another order of the branch vertices, with the paths that it asks for
+    Row {
+        kind: Pattern::K5,
+        branch: &[1, 0, 2, 3, 4],
+        paths: &[&[0], &[4], &[5], &[6], &[1], &[2], &[3], &[7], &[8], &[9]],
+        held: false,
+    },
+    // no such edge
+    Row {
+        kind: Pattern::K5,
+        branch: &[0, 1, 2, 3, 4],
+        paths: &[
+            &[0],
+            &[1],
+            &[2],
+            &[3],
+            &[4],
+            &[5],
+            &[6],
+            &[7],
+            &[8],
+            &[4294967295],
+        ],
+        held: false,
+    },
+    // a path of no edges
+    Row {
+        kind: Pattern::K5,
+        branch: &[0, 1, 2, 3, 4],
+        paths: &[&[0], &[1], &[2], &[3], &[4], &[5], &[6], &[7], &[8], &[]],
+        held: false,
+    },
+    // no such vertex
+    Row {
+        kind: Pattern::K5,
+        branch: &[0, 1, 2, 3, 4294967295],
+        paths: &[&[0], &[1], &[2], &[3], &[4], &[5], &[6], &[7], &[8], &[9]],
+        held: false,
+    },
+    // four branch vertices
+    Row {
+        kind: Pattern::K5,
+        branch: &[0, 1, 2, 3],
+        paths: &[&[0], &[1], &[2], &[3], &[4], &[5], &[6], &[7], &[8], &[9]],
+        held: false,
+    },
+    // a path too many
+    Row {
+        kind: Pattern::K5,
+        branch: &[0, 1, 2, 3, 4],
+        paths: &[
+            &[0],
+            &[1],
+            &[2],
+            &[3],
+            &[4],
+            &[5],
+            &[6],
+            &[7],
+            &[8],
+            &[9],
+            &[],
+        ],
+        held: false,
+    },
+];
+
+// Three vertices joined with three others, where vertex 6 stands between 2 and 5; besides, edges from 1 to 6 and from 4 to 6,
+// and another one from 2 to 4.
+const K33_ENDS: [(u32, u32); 13] = [
+    (0, 3),
+    (0, 4),
+    (0, 5),
+    (1, 3),
+    (1, 4),
+    (1, 5),
+    (2, 3),
+    (2, 4),
+    (2, 6),
+    (6, 5),
+    (1, 6),
+    (4, 6),
+    (2, 4),
+];
+
+static K33_ROWS: [Row; 8] = [
+    Row {
+        kind: Pattern::K33,
+        branch: &[0, 1, 2, 3, 4, 5],
+        paths: &[&[0], &[1], &[2], &[3], &[4], &[5], &[6], &[7], &[8, 9]],
+        held: true,
+    },
+    // a parallel edge
+    Row {
+        kind: Pattern::K33,
+        branch: &[0, 1, 2, 3, 4, 5],
+        paths: &[&[0], &[1], &[2], &[3], &[4], &[5], &[6], &[12], &[8, 9]],
+        held: true,
+    },
+    // the last path ends at no branch vertex
+    Row {
+        kind: Pattern::K33,
+        branch: &[0, 1, 2, 3, 4, 5],
+        paths: &[&[0], &[1], &[2], &[3], &[4], &[5], &[6], &[7], &[8]],
+        held: false,
+    },
+    // the sides exchanged
+    Row {
+        kind: Pattern::K33,
+        branch: &[3, 4, 5, 0, 1, 2],
+        paths: &[&[0], &[3], &[6], &[1], &[4], &[7], &[2], &[5], &[9, 8]],
+        held: false,
+    },
+    // vertex 6 inside two paths
+    Row {
+        kind: Pattern::K33,
+        branch: &[0, 1, 2, 3, 4, 5],
+        paths: &[&[0], &[1], &[2], &[3], &[4], &[10, 9], &[6], &[7], &[8, 9]],
+        held: false,
+    },
+    // branch vertex 4 inside a path
+    Row {
+        kind: Pattern::K33,
+        branch: &[0, 1, 2, 3, 4, 5],
+        paths: &[&[0], &[1], &[2], &[3], &[4], &[5], &[6], &[7], &[7, 11, 9]],
+        held: false,
+    },
+    // the last path ends at branch vertex 4
+    Row {
+        kind: Pattern::K33,
+        branch: &[0, 1, 2, 3, 4, 5],
+        paths: &[&[0], &[1], &[2], &[3], &[4], &[5], &[6], &[7], &[12]],
+        held: false,
+    },
+    // a path too few
+    Row {
+        kind: Pattern::K33,
+        branch: &[0, 1, 2, 3, 4, 5],
+        paths: &[&[0], &[1], &[2], &[3], &[4], &[5], &[6], &[7]],
+        held: false,
+    },
+];
+
+// The certificate of a row.
+fn certificate(alloc: Global, row: &Row) -> Result<Subdivision, AllocError> {
+    let mut paths = Vec::new(alloc);
+    for path in row.paths {
+        paths.push(Numbers::of(Vec::from_slice(alloc, path)?))?;
+    }
+    Ok(Subdivision {
+        kind: row.kind,
+        branch: Numbers::of(Vec::from_slice(alloc, row.branch)?),
+        paths: NumberLists::of(paths),
+    })
+}
+
+#[test]
+fn tells_subdivisions(rt: HostRuntime) -> Result<(), Fail> {
+    let alloc = rt.alloc();
+    let complete = Graph::build(alloc, 5, &K5_ENDS)?;
+    for row in &K5_ROWS {
+        assert_eq!(rt;
+            check(alloc, &complete, &certificate(alloc, row)?)?,
+            row.held
+        );
+    }
+    let bipartite = Graph::build(alloc, 7, &K33_ENDS)?;
+    for row in &K33_ROWS {
+        assert_eq!(rt;
+            check(alloc, &bipartite, &certificate(alloc, row)?)?,
+            row.held
+        );
+    }
+    Ok(())
+}
