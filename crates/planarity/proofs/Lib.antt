@@ -4,3 +4,6 @@ pub mod ContractedVertices
 pub mod RestrictedConnection
 pub mod SimpleDarts
 pub mod Triangle
+pub mod ContractedDarts
+pub mod CarriedMaps
+pub mod ContractedSystem

@@ -1,1 +1,2 @@
 -- Plane rotation systems of triconnected graphs.
+pub mod Expansion
