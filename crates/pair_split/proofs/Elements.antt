@@ -1,5 +1,5 @@
 -- Elements of a list by name, and how many of them pass a test.
-use Rattle.std.proofs.Common.{◌≡◌, ◌≢◌, ℕ, zero, suc, ◌+◌, ◌<◌, ◌≤◌, ◌⊎◌, slice_index_or, inl, inr, Bool, true, not, ◌||◌, List, [], ◌∷◌, length, filter, refl, sym, ap, ◌∙◌, subst, arith, Contains}
+use Rattle.std.proofs.Common.{◌≡◌, ◌≢◌, ℕ, zero, suc, ◌+◌, ◌<◌, ◌≤◌, ◌⊎◌, slice_index_or, inl, inr, Bool, true, not, ◌||◌, List, [], ◌∷◌, length, filter, map, refl, sym, ap, ◌∙◌, subst, arith, Contains}
 use Rattle.std.proofs.lemmas.Bool.{cases_Bool}
 use Rattle.permutations.proofs.Filter.{filter-yes, filter-no}
 
@@ -95,4 +95,20 @@ two-pass p x y (z ∷ xs) n c d s t = elim (contains-cases x z xs c) [
     | inl f ↦ rw (ap p f ∙ t) (omega (arith, element-some x (filter p xs) (contains-filter p x xs e s)))
     | inr f ↦ elim (cases_Bool (p z)) [ inl u ↦ rw u (omega (arith, two-pass p x y xs n e f s t)) | inr u ↦ rw u (two-pass p x y xs n e f s t) ]
   ]
+]
+
+-- the image of an element is one of the images
+pub contains-map : {X Y : Type 0} (f : X → Y) (x : X) (xs : List X) → Contains xs x → Contains (map f xs) (f x)
+contains-map f x [] c = absurd (contains-none x c)
+contains-map f x (y ∷ xs) c = elim (contains-cases x y xs c) [
+  | inl e ↦ subst (λ z. Contains (map f (y ∷ xs)) (f z)) e (contains-here (f y) (map f xs))
+  | inr r ↦ contains-later (f x) (f y) (map f xs) (contains-map f x xs r)
+]
+
+-- each of the images is one of an element
+pub map-contains : {X Y : Type 0} (f : X → Y) (y : Y) (xs : List X) → Contains (map f xs) y → (x : X) × Contains xs x × (f x ≡ y)
+map-contains f y [] c = absurd (contains-none y c)
+map-contains f y (x ∷ xs) c = elim (contains-cases y (f x) (map f xs) c) [
+  | inl e ↦ (x, contains-here x xs, e)
+  | inr r ↦ let w = map-contains f y xs r in (w.0, contains-later w.0 x xs w.1, w.2)
 ]

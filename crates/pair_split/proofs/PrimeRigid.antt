@@ -1,30 +1,21 @@
 -- A prime family of four or more entries is triconnected.
-use Rattle.std.proofs.Common.{◌≡◌, ◌≢◌, ℕ, ◌<◌, ◌≤◌, ◌⊎◌, inl, inr, Bool, true, false, not, ◌&&◌, ◌||◌, List, [], ◌∷◌, length, filter, slice_index_or, refl, sym, ap, ◌∙◌, subst, arith, Contains}
-use Rattle.std.proofs.lemmas.Bool.{cases_Bool, both_ways, ne_eqb, not-true, not_from_false, true≢false, or_cases, and_parts, and_from, or_left, or_right, cases_lt, false_from_ne_true, true_from_ne_false}
+use Rattle.std.proofs.Common.{◌≡◌, ◌≢◌, ℕ, ◌<◌, ◌≤◌, inl, inr, Bool, true, false, not, ◌||◌, List, [], ◌∷◌, length, filter, slice_index_or, refl, sym, ap, ◌∙◌, subst, arith, Contains}
+use Rattle.std.proofs.lemmas.Bool.{both_ways, ne_eqb, not-true, not_from_false, and_parts, and_from, cases_lt, false_from_ne_true, true_from_ne_false}
 use Rattle.std.proofs.lemmas.List.{get_or-map, length-map}
 use Rattle.std.proofs.lemmas.List.Elements.{All-contains, All-cons, All-nil, Contains-get_or}
-use Rattle.permutations.specs.Members.{is_member}
 use Rattle.permutations.specs.Relation.{connected}
-use Rattle.permutations.proofs.Members.{member-cases}
-use Rattle.permutations.proofs.Relation.{connected-link, connected-reflexive, connected-symmetric, connected-transitive}
+use Rattle.permutations.proofs.Relation.{same-tests, connected-link, connected-reflexive, connected-symmetric, connected-transitive}
 use Rattle.graph_theory.specs.Triconnected.{avoids}
-use Rattle.pair_split.specs.Family.{Entry, has_end, IsFamily, touches, is_common, IsPrime}
+use Rattle.pair_split.specs.Family.{Entry, has_end, IsFamily, touches, IsPrime}
 use Rattle.pair_split.specs.Edges.{entry_ends, family_skeleton}
 use Rattle.pair_split.specs.Skeleton.{SameEnds, is_vertex, HasVertices, StaysConnectedWithout, IsRigid}
-use Rattle.pair_split.proofs.Elements.{contains-here, contains-later, contains-cases, contains-none, contains-filter, two-pass, length-either, some-element, filter-contains, length-parts}
-use Rattle.pair_split.proofs.Sides.{touches-from, touching-entry, common-inside, common-outside, separation-from}
+use Rattle.pair_split.proofs.Elements.{contains-map, contains-filter, two-pass, length-either, some-element, filter-contains, length-parts}
+use Rattle.pair_split.proofs.Sides.{touches-from, touching-entry, separation-from}
 use Rattle.pair_split.proofs.Names.{same-place, two-names, side_of, side_of-at}
-use Rattle.pair_split.proofs.Replaced.{end-cases, first-end, second-end}
+use Rattle.pair_split.proofs.Replaced.{first-end, second-end}
+use Rattle.pair_split.proofs.Lumps.{removed, IsClosed, in_lump, lump-from, lump-end, lump-common}
 use Rattle.pair_split.proofs.Degrees.{tight-degree}
 use Rattle.pair_split.proofs.PrimeSimple.{prime-simple, joins, joins-parallel, outside-end, other-end, touched-vertex}
-
--- an entry's ends are among those of the entries
-pub contains-ends : (entries : List Entry) (e : Entry) → Contains entries e → Contains (family_skeleton entries) (entry_ends e)
-contains-ends [] e c = absurd (contains-none e c)
-contains-ends (f ∷ entries) e c = elim (contains-cases e f entries c) [
-  | inl i ↦ subst (λ (z : Entry). Contains (family_skeleton (f ∷ entries)) (entry_ends z)) i (contains-here (entry_ends f) (family_skeleton entries))
-  | inr r ↦ contains-later (entry_ends e) (entry_ends f) (family_skeleton entries) (contains-ends entries e r)
-]
 
 module _ (entries : List Entry) (family : IsFamily entries) (prime : IsPrime entries) (four : 4 ≤ length entries) where
   -- at most one entry joins two vertices
@@ -130,79 +121,35 @@ module _ (entries : List Entry) (family : IsFamily entries) (prime : IsPrime ent
     abbrev links : List (ℕ × ℕ)
     links = filter (avoids (a ∷ b ∷ [])) (family_skeleton entries)
 
-    -- whether z is removed
-    abbrev removed : ℕ → Bool
-    removed z = is_member z (a ∷ b ∷ [])
-
-    -- the two ends of an entry, where neither is removed, are connected
-    near : (e : Entry) (x z : ℕ) → Contains entries e → has_end x e ≡ true → has_end z e ≡ true → removed x ≡ false → removed z ≡ false → connected links x z ≡ true
-    near e x z c h k m n = go (end-cases x e h) (end-cases z e k)
-      where
-        linked : removed e.first ≡ false → removed e.second ≡ false → connected links e.first e.second ≡ true
-        linked r s = connected-link links e.first e.second (contains-filter (avoids (a ∷ b ∷ [])) (entry_ends e) (family_skeleton entries) (contains-ends entries e c)
-            (and_from (not (removed e.first)) (not (removed e.second)) (not_from_false (removed e.first) r) (not_from_false (removed e.second) s)))
-
-        go : (x ≡ e.first) ⊎ (x ≡ e.second) → (z ≡ e.first) ⊎ (z ≡ e.second) → connected links x z ≡ true
-        go (inl i) (inl j) = subst (λ (w : ℕ). connected links x w ≡ true) (i ∙ sym j) (connected-reflexive links x)
-        go (inr i) (inr j) = subst (λ (w : ℕ). connected links x w ≡ true) (i ∙ sym j) (connected-reflexive links x)
-        go (inl i) (inr j) = subst (λ (w : ℕ). connected links w z ≡ true) (sym i) (subst (λ (w : ℕ). connected links e.first w ≡ true) (sym j)
-            (linked (subst (λ (w : ℕ). removed w ≡ false) i m) (subst (λ (w : ℕ). removed w ≡ false) j n)))
-        go (inr i) (inl j) = subst (λ (w : ℕ). connected links w z ≡ true) (sym i) (subst (λ (w : ℕ). connected links e.second w ≡ true) (sym j)
-            (connected-symmetric links e.first e.second (linked (subst (λ (w : ℕ). removed w ≡ false) j n) (subst (λ (w : ℕ). removed w ≡ false) i m))))
-
     module _ (u : ℕ) where
-      -- whether z is connected to u, and not removed
-      abbrev reached : ℕ → Bool
-      reached z = not (removed z) && connected links u z
+      -- the vertices that the links connect with u
+      abbrev class : ℕ → Bool
+      class z = connected links u z
 
-      -- whether an end of the entry is
-      abbrev leads : Entry → Bool
-      leads e = reached e.first || reached e.second
-
-      -- an end of such an entry that is not removed is connected to u
-      leads-end : (e : Entry) (x : ℕ) → Contains entries e → leads e ≡ true → has_end x e ≡ true → removed x ≡ false → connected links u x ≡ true
-      leads-end e x c t h m = elim (or_cases (reached e.first) (reached e.second) t) [ inl r ↦ go e.first (first-end e.first e refl) r | inr r ↦ go e.second (second-end e.second e refl) r ]
+      -- the two ends of a link are both connected with u or both not
+      class-closed : IsClosed entries a b class
+      class-closed e c m n = same-tests (connected links u e.first) (connected links u e.second)
+          (λ h. connected-transitive links u e.first e.second h linked)
+          (λ h. connected-transitive links u e.second e.first h (connected-symmetric links e.first e.second linked))
         where
-          go : (z : ℕ) → has_end z e ≡ true → reached z ≡ true → connected links u x ≡ true
-          go z k r = let w = and_parts (not (removed z)) (connected links u z) r in
-              connected-transitive links u z x w.1 (near e z x c k h (not-true (removed z) w.0) m)
+          linked : connected links e.first e.second ≡ true
+          linked = connected-link links e.first e.second (contains-filter (avoids (a ∷ b ∷ [])) (entry_ends e) (family_skeleton entries) (contains-map entry_ends e entries c)
+              (and_from (not (removed a b e.first)) (not (removed a b e.second)) (not_from_false (removed a b e.first) m) (not_from_false (removed a b e.second) n)))
 
-      -- an entry with an end that is connected to u and not removed
-      leads-from : (e : Entry) (x : ℕ) → has_end x e ≡ true → removed x ≡ false → connected links u x ≡ true → leads e ≡ true
-      leads-from e x h m k = elim (end-cases x e h) [
-        | inl i ↦ or_left (reached e.first) (reached e.second) (subst (λ (z : ℕ). reached z ≡ true) i r)
-        | inr i ↦ or_right (reached e.first) (reached e.second) (subst (λ (z : ℕ). reached z ≡ true) i r)
-      ]
-        where
-          r : reached x ≡ true
-          r = and_from (not (removed x)) (connected links u x) (not_from_false (removed x) m) k
-
-      -- the side of these entries and the other one have no vertices in common but those removed
-      leads-common : (x : ℕ) → is_common entries (side_of entries leads) x ≡ true → (x ≡ a) ⊎ (x ≡ b)
-      leads-common x h = elim (cases_Bool (removed x)) [
-        | inl m ↦ elim (member-cases x a (b ∷ []) m) [ inl i ↦ inl (sym i) | inr n ↦ elim (member-cases x b [] n) [ inl i ↦ inr (sym i) | inr o ↦ absurd (true≢false (sym o)) ] ]
-        | inr m ↦
-            let i = common-inside entries (side_of entries leads) x h in
-            let o = common-outside entries (side_of entries leads) x h in
-            absurd (both_ways (side_of entries leads o.entry.name) (not-true (side_of entries leads o.entry.name) o.side)
-            (side_of-at entries leads family.names_once o.entry o.within
-            ∙ leads-from o.entry x o.end m (leads-end i.entry x i.within (sym (side_of-at entries leads family.names_once i.entry i.within) ∙ i.side) i.end m)))
-      ]
-
-      -- the two entries at a vertex are on the side where they have an end connected to u
-      leads-two : (p : Entry → Bool) (x : ℕ) → touches entries x ≡ true → ((e : Entry) → Contains entries e → has_end x e ≡ true → p e ≡ true) → 2 ≤ length (filter p entries)
-      leads-two p x t h =
+      -- the two entries at a vertex, where all entries there pass a test
+      pass-two : (p : Entry → Bool) (x : ℕ) → touches entries x ≡ true → ((e : Entry) → Contains entries e → has_end x e ≡ true → p e ≡ true) → 2 ≤ length (filter p entries)
+      pass-two p x t h =
           let e = touching-entry entries x t in
           let f = tight-degree entries family prime.tight (omega (arith, four)) e.0 x e.1 e.2 in
           two-pass p e.0 f.entry entries (λ i. f.other (ap (λ (z : Entry). z.name) (sym i))) e.1 f.within (h e.0 e.1 e.2) (h f.entry f.within f.end)
 
       -- no vertex is apart from u
-      not_apart : (v : ℕ) → touches entries u ≡ true → touches entries v ≡ true → removed u ≡ false → removed v ≡ false → connected links u v ≡ false → ⊥
-      not_apart v tu tv mu mv n = prime.none (side_of entries leads) a b (separation-from entries (side_of entries leads) a b prime.tight
-          (leads-two (λ (e : Entry). side_of entries leads e.name) u tu (λ e c h. side_of-at entries leads family.names_once e c ∙ leads-from e u h mu (connected-reflexive links u)))
-          (leads-two (λ (e : Entry). not (side_of entries leads e.name)) v tv (λ e c h. not_from_false (side_of entries leads e.name)
-          (side_of-at entries leads family.names_once e c ∙ false_from_ne_true (leads e) (λ t. both_ways (connected links u v) n (leads-end e v c t h mv)))))
-          leads-common)
+      not_apart : (v : ℕ) → touches entries u ≡ true → touches entries v ≡ true → removed a b u ≡ false → removed a b v ≡ false → connected links u v ≡ false → ⊥
+      not_apart v tu tv mu mv n = prime.none (side_of entries (in_lump a b class)) a b (separation-from entries (side_of entries (in_lump a b class)) a b prime.tight
+          (pass-two (λ (e : Entry). side_of entries (in_lump a b class) e.name) u tu (λ e c h. side_of-at entries (in_lump a b class) family.names_once e c ∙ lump-from a b class e u h mu (connected-reflexive links u)))
+          (pass-two (λ (e : Entry). not (side_of entries (in_lump a b class) e.name)) v tv (λ e c h. not_from_false (side_of entries (in_lump a b class) e.name)
+          (side_of-at entries (in_lump a b class) family.names_once e c ∙ false_from_ne_true (in_lump a b class e) (λ t. both_ways (connected links u v) n (lump-end entries a b class class-closed e v c t h mv)))))
+          (lump-common entries family.names_once a b class class-closed))
 
     -- when two vertices or fewer are removed, the others stay connected
     pub prime-stays_connected : StaysConnectedWithout (family_skeleton entries) (a ∷ b ∷ [])

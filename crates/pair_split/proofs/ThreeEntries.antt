@@ -7,12 +7,11 @@ use Rattle.permutations.proofs.Relation.{connected-link, connected-reflexive, co
 use Rattle.pair_split.specs.Family.{Entry, has_end, IsFamily, IsTight}
 use Rattle.pair_split.specs.Edges.{entry_ends, family_skeleton}
 use Rattle.pair_split.specs.Skeleton.{SameEnds, is_vertex, degree, IsBond, IsPolygon}
-use Rattle.pair_split.proofs.Elements.{contains-here, contains-later, contains-cases, contains-none}
+use Rattle.pair_split.proofs.Elements.{contains-here, contains-later, contains-cases, contains-none, contains-map}
 use Rattle.pair_split.proofs.Sides.{touches-from, touching-entry}
 use Rattle.pair_split.proofs.Replaced.{end-cases, first-end, second-end}
 use Rattle.pair_split.proofs.Degrees.{Another, tight-degree, one-of_two}
 use Rattle.pair_split.proofs.PrimeSimple.{parallel-end, joins, joins-parallel, other-end, touched-vertex}
-use Rattle.pair_split.proofs.PrimeRigid.{contains-ends}
 
 -- an entry of three is the first, the second or the third
 of-three : (e f h g : Entry) → Contains (e ∷ f ∷ h ∷ []) g → (e ≡ g) ⊎ (f ≡ g) ⊎ (h ≡ g)
@@ -34,7 +33,7 @@ joins-connected : (entries : List Entry) (e : Entry) (x z : ℕ) → Contains en
 joins-connected entries e x z c n j = let w = and_parts (has_end x e) (has_end z e) j in go (end-cases x e w.0) (end-cases z e w.1)
   where
     linked : connected (family_skeleton entries) e.first e.second ≡ true
-    linked = connected-link (family_skeleton entries) e.first e.second (contains-ends entries e c)
+    linked = connected-link (family_skeleton entries) e.first e.second (contains-map entry_ends e entries c)
 
     go : (x ≡ e.first) ⊎ (x ≡ e.second) → (z ≡ e.first) ⊎ (z ≡ e.second) → connected (family_skeleton entries) x z ≡ true
     go (inl i) (inl k) = absurd (n (i ∙ sym k))

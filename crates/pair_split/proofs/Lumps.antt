@@ -1,0 +1,78 @@
+-- The lump of a class of vertices, when two vertices a and b are removed: the entries with an end in the class.
+use Rattle.std.proofs.Common.{◌≡◌, ℕ, ◌⊎◌, inl, inr, Bool, true, false, not, ◌&&◌, ◌||◌, List, [], ◌∷◌, filter, refl, sym, ap, ◌∙◌, subst, Contains}
+use Rattle.std.proofs.lemmas.Bool.{cases_Bool, both_ways, not-true, not_from_false, true≢false, or_cases, and_parts, and_from, or_left, or_right}
+use Rattle.permutations.specs.Members.{is_member, is_distinct}
+use Rattle.permutations.proofs.Members.{member-cases}
+use Rattle.pair_split.specs.Family.{Entry, has_end, names, on_side, is_common}
+use Rattle.pair_split.proofs.Elements.{filter-same}
+use Rattle.pair_split.proofs.Sides.{common-inside, common-outside}
+use Rattle.pair_split.proofs.Names.{side_of, side_of-at}
+use Rattle.pair_split.proofs.Replaced.{end-cases, first-end, second-end}
+
+-- whether z is one of the two vertices that are removed
+abbrev pub removed : ℕ → ℕ → ℕ → Bool
+removed a b z = is_member z (a ∷ b ∷ [])
+
+-- whether z is in the class and not removed
+abbrev pub reached : ℕ → ℕ → (ℕ → Bool) → ℕ → Bool
+reached a b class z = not (removed a b z) && class z
+
+-- whether the entry is in the lump of the class: it has an end in the class that is not removed
+abbrev pub in_lump : ℕ → ℕ → (ℕ → Bool) → Entry → Bool
+in_lump a b class e = reached a b class e.first || reached a b class e.second
+
+-- entries that have neither vertex as an end have both ends in the class or none
+abbrev pub IsClosed : List Entry → ℕ → ℕ → (ℕ → Bool) → Type 0
+IsClosed entries a b class = (e : Entry) → Contains entries e → removed a b e.first ≡ false → removed a b e.second ≡ false → class e.first ≡ class e.second
+
+-- an entry with an end in the class is in the lump
+pub lump-from : (a b : ℕ) (class : ℕ → Bool) (e : Entry) (x : ℕ) → has_end x e ≡ true → removed a b x ≡ false → class x ≡ true → in_lump a b class e ≡ true
+lump-from a b class e x h m k = elim (end-cases x e h) [
+  | inl i ↦ or_left (reached a b class e.first) (reached a b class e.second) (subst (λ (z : ℕ). reached a b class z ≡ true) i r)
+  | inr i ↦ or_right (reached a b class e.first) (reached a b class e.second) (subst (λ (z : ℕ). reached a b class z ≡ true) i r)
+]
+  where
+    r : reached a b class x ≡ true
+    r = and_from (not (removed a b x)) (class x) (not_from_false (removed a b x) m) k
+
+-- an entry of the lump has an end in the class that is not removed
+pub lump-witness : (a b : ℕ) (class : ℕ → Bool) (e : Entry) → in_lump a b class e ≡ true → (z : ℕ) × (has_end z e ≡ true) × (removed a b z ≡ false) × (class z ≡ true)
+lump-witness a b class e t = elim (or_cases (reached a b class e.first) (reached a b class e.second) t) [ inl r ↦ go e.first (first-end e.first e refl) r | inr r ↦ go e.second (second-end e.second e refl) r ]
+  where
+    go : (z : ℕ) → has_end z e ≡ true → reached a b class z ≡ true → (z : ℕ) × (has_end z e ≡ true) × (removed a b z ≡ false) × (class z ≡ true)
+    go z k r = let w = and_parts (not (removed a b z)) (class z) r in (z, k, not-true (removed a b z) w.0, w.1)
+
+-- a closed class tells the two ends of an entry not apart, where neither is removed
+pub closed-ends : (entries : List Entry) (a b : ℕ) (class : ℕ → Bool) → IsClosed entries a b class → (e : Entry) (x z : ℕ) → Contains entries e → has_end x e ≡ true → has_end z e ≡ true → removed a b x ≡ false → removed a b z ≡ false → class x ≡ class z
+closed-ends entries a b class closed e x z c h k m n = go (end-cases x e h) (end-cases z e k)
+  where
+    go : (x ≡ e.first) ⊎ (x ≡ e.second) → (z ≡ e.first) ⊎ (z ≡ e.second) → class x ≡ class z
+    go (inl i) (inl j) = ap class (i ∙ sym j)
+    go (inr i) (inr j) = ap class (i ∙ sym j)
+    go (inl i) (inr j) = ap class i ∙ (closed e c (subst (λ (w : ℕ). removed a b w ≡ false) i m) (subst (λ (w : ℕ). removed a b w ≡ false) j n) ∙ ap class (sym j))
+    go (inr i) (inl j) = ap class i ∙ (sym (closed e c (subst (λ (w : ℕ). removed a b w ≡ false) j n) (subst (λ (w : ℕ). removed a b w ≡ false) i m)) ∙ ap class (sym j))
+
+-- each end of an entry of the lump of a closed class is in the class, or removed
+pub lump-end : (entries : List Entry) (a b : ℕ) (class : ℕ → Bool) → IsClosed entries a b class → (e : Entry) (x : ℕ) → Contains entries e → in_lump a b class e ≡ true → has_end x e ≡ true → removed a b x ≡ false → class x ≡ true
+lump-end entries a b class closed e x c t h m =
+    let w = lump-witness a b class e t in closed-ends entries a b class closed e x w.0 c h w.1 m w.2 ∙ w.3
+
+-- who is removed is one of the two
+pub removed-cases : (a b x : ℕ) → removed a b x ≡ true → (x ≡ a) ⊎ (x ≡ b)
+removed-cases a b x m = elim (member-cases x a (b ∷ []) m) [ inl i ↦ inl (sym i) | inr n ↦ elim (member-cases x b [] n) [ inl i ↦ inr (sym i) | inr o ↦ absurd (true≢false (sym o)) ] ]
+
+-- the lump of a closed class, as a side, has no vertices in common with the other one but those removed
+pub lump-common : (entries : List Entry) → is_distinct (names entries) ≡ true → (a b : ℕ) (class : ℕ → Bool) → IsClosed entries a b class → (x : ℕ) → is_common entries (side_of entries (in_lump a b class)) x ≡ true → (x ≡ a) ⊎ (x ≡ b)
+lump-common entries once a b class closed x h = elim (cases_Bool (removed a b x)) [
+  | inl m ↦ removed-cases a b x m
+  | inr m ↦
+      let i = common-inside entries (side_of entries (in_lump a b class)) x h in
+      let o = common-outside entries (side_of entries (in_lump a b class)) x h in
+      absurd (both_ways (side_of entries (in_lump a b class) o.entry.name) (not-true (side_of entries (in_lump a b class) o.entry.name) o.side)
+      (side_of-at entries (in_lump a b class) once o.entry o.within
+      ∙ lump-from a b class o.entry x o.end m (lump-end entries a b class closed i.entry x i.within (sym (side_of-at entries (in_lump a b class) once i.entry i.within) ∙ i.side) i.end m)))
+]
+
+-- the entries that pass a test are those on its side
+pub side_of-filter : (entries : List Entry) (test : Entry → Bool) → is_distinct (names entries) ≡ true → on_side (side_of entries test) entries ≡ filter test entries
+side_of-filter entries test once = filter-same (λ (e : Entry). side_of entries test e.name) test entries (side_of-at entries test once)
