@@ -1,8 +1,9 @@
 -- Counts of numbers that pass one test and of those that pass another.
 use Rattle.std.proofs.Common.{◌≡◌, ◌≢◌, ℕ, ◌+◌, ◌<◌, ◌≤◌, ◌⊎◌, inl, inr, Bool, true, false, not, ◌&&◌, ◌||◌, ◌==◌, cond, refl, sym, ◌∙◌, subst, arith}
-use Rattle.std.proofs.lemmas.Bool.{cases_eq, both_ways, and_from, or_cases, or_left, or_right, eq-eqb, ne_eqb, eqb-true, not_from_false}
-use Rattle.permutations.specs.Count.{count}
-use Rattle.permutations.proofs.Count.{count-remove, count-subset}
+use Rattle.std.proofs.lemmas.Bool.{cases_Bool, cases_eq, both_ways, and_from, and_parts, or_cases, or_left, or_right, eq-eqb, ne_eqb, eqb-true, not_from_false}
+use Rattle.permutations.specs.Count.{count, some}
+use Rattle.permutations.proofs.Count.{count-remove, count-subset, count-zero}
+use Rattle.permutations.proofs.Search.{some-witness, some-none}
 use Rattle.permutations.proofs.Injection.{count-injection}
 
 -- all numbers that pass p but v pass q, and so do a, and b where it is not v; a and b fail p: so q counts one more
@@ -49,3 +50,35 @@ count-gained n p q a b v la lb pa pb ab av qa qb h = omega (arith, more, less, c
     less : count n p ≤ count n (λ w. with_a w && not (w == a))
     less = count-subset n p (λ w. with_a w && not (w == a)) (λ w l t. and_from (with_a w) (not (w == a)) (or_left (p w) (w == a) t)
         (not_from_false (w == a) (ne_eqb w a (λ s. both_ways (p a) pa (subst (λ (u : ℕ). p u ≡ true) s t)))))
+
+-- where at most one number passes, it is this one: the number passes, or is not below n
+count-one : (n : ℕ) (p : ℕ → Bool) → count n p ≤ 1 → (a : ℕ) × (a < n → p a ≡ true) × ((w : ℕ) → w < n → p w ≡ true → w ≡ a)
+count-one n p c = elim (cases_Bool (some n p)) [
+  | inr f ↦ (n, λ l. absurd (omega arith), λ w l t. absurd (both_ways (p w) (some-none n p f w l) t))
+  | inl t ↦
+      let a : (a : ℕ) × (a < n) × (p a ≡ true) = some-witness n p t in (
+        a.0,
+        λ l. a.2,
+        λ w l h. elim (cases_eq w a.0) [
+          | inl e ↦ e
+          | inr e ↦ absurd (both_ways (p w && not (w == a.0))
+              (count-zero n (λ u. p u && not (u == a.0)) (omega (arith, count-remove n p a.0 a.1 a.2)) w l)
+              (and_from (p w) (not (w == a.0)) h (not_from_false (w == a.0) (ne_eqb w a.0 e))))
+        ],
+      )
+]
+
+-- where at most two numbers pass, each that passes is one of these two: they pass, or are not below n
+pub count-two : (n : ℕ) (p : ℕ → Bool) → count n p ≤ 2 → (a b : ℕ) × (a < n → p a ≡ true) × (b < n → p b ≡ true) × ((w : ℕ) → w < n → p w ≡ true → (w ≡ a) ⊎ (w ≡ b))
+count-two n p c = elim (cases_Bool (some n p)) [
+  | inr f ↦ (n, n, λ l. absurd (omega arith), λ l. absurd (omega arith), λ w l t. absurd (both_ways (p w) (some-none n p f w l) t))
+  | inl t ↦
+      let a : (a : ℕ) × (a < n) × (p a ≡ true) = some-witness n p t in
+      let b = count-one n (λ w. p w && not (w == a.0)) (omega (arith, count-remove n p a.0 a.1 a.2)) in (
+        a.0,
+        b.0,
+        λ l. a.2,
+        λ l. (and_parts (p b.0) (not (b.0 == a.0)) (b.1 l)).0,
+        λ w l h. elim (cases_eq w a.0) [ inl e ↦ inl e | inr e ↦ inr (b.2 w l (and_from (p w) (not (w == a.0)) h (not_from_false (w == a.0) (ne_eqb w a.0 e)))) ],
+      )
+]

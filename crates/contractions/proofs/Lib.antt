@@ -6,3 +6,8 @@ pub mod Neighbours
 pub mod Tests
 pub mod Growth
 pub mod ContractibleEdges
+pub mod Joined
+pub mod PrivateNeighbours
+pub mod Contracted
+pub mod ContractedTriconnected
+pub mod ContractionMade

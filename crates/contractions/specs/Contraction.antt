@@ -1,6 +1,6 @@
 -- A graph with an edge contracted: its two ends become one vertex, and of two edges that would become parallel one is kept.
 use Rattle.std.specs.Prelude.{◌≡◌, ◌≢◌, ℕ, ◌+◌, ◌<◌, ◌⊎◌, Bool, true, not, ◌&&◌, ◌==◌, List, [], ◌∷◌}
-use Rattle.permutations.specs.Count.{some}
+use Rattle.permutations.specs.Count.{count, some}
 use Rattle.permutations.specs.Members.{is_member}
 use Rattle.permutations.specs.Relation.{connected}
 use Rattle.multigraph.specs.Graph.{Multigraph, edge_count, ends_of, is_end, other_end}
@@ -9,6 +9,19 @@ use Rattle.graph_theory.specs.Triconnected.{ends_without, IsConnectedWithout}
 -- whether some edge joins u and v
 abbrev pub are_joined : Multigraph → ℕ → ℕ → Bool
 are_joined g u v = some (edge_count g) (λ f. is_end g u f && (other_end g f u == v))
+
+-- whether vertex b is joined with both x and y
+abbrev pub is_common : Multigraph → ℕ → ℕ → ℕ → Bool
+is_common g x y b = are_joined g x b && are_joined g y b
+
+-- how many vertices are joined with both x and y
+abbrev pub common_count : Multigraph → ℕ → ℕ → ℕ
+common_count g x y = count g.vertex_count (is_common g x y)
+
+-- whether edge f is private to the end y of the edge e between x and y: it is at y, is not e, and leads to a vertex that x is
+-- not joined with
+abbrev pub is_private : Multigraph → ℕ → ℕ → ℕ → ℕ → Bool
+is_private g e x y f = is_end g y f && (not (f == e) && not (are_joined g x (other_end g f y)))
 
 -- the edge between x and y may be contracted: with any third vertex removed besides them, the others stay connected
 -- (Thomassen 1980)

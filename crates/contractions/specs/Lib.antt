@@ -1,3 +1,4 @@
 -- Contracting an edge of a graph.
 pub mod Contraction
+pub mod Contracted
 pub mod Laws

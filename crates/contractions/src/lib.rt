@@ -11,9 +11,12 @@
 //   Neighbours  attach: a vertex has a neighbour in each component that is left without it and two others
 //   Tests       connected_without-true, connected_without-from, contractible-true, contractible-from: the tests are exact
 //   Growth      grown: a component that gets greater, of an edge and a third vertex that part the graph
+//   Joined      joined-edge, joined-from, simple-same: vertices that an edge joins; kept-from, dropped-joined, private-parts
+//   Contracted  end-forth, other-forth, end-back: the ends of an edge of a contraction, from those that it had
+//   ContractedTriconnected  connected-contracted: what is connected stays so in a contraction
 #![tactic(auto)]
 
-ghost use Rattle.contractions.specs.Laws.{ContractibleEdgeExists, ContractibleEitherWay, ContractibleIsTested, DegreeThree};
+ghost use Rattle.contractions.specs.Laws.{ContractibleEdgeExists, ContractibleEitherWay, ContractibleIsTested, ContractionIsGraph, ContractionIsMade, ContractionIsTriconnected, DegreeThree, OneEndHasPrivate};
 
 /// The law that each vertex of a triconnected graph has at least three edges.
 pub fn triconnected_degrees()
@@ -25,4 +28,18 @@ pub fn edges_may_be_contracted()
     ensures some { ContractibleEdgeExists }
     ensures tested { ContractibleIsTested }
     ensures either_way { ContractibleEitherWay }
+{}
+
+/// The law that a contraction of a simple graph is a graph, and that of a triconnected one along an edge that may be
+/// contracted is triconnected; and that each edge has a contraction.
+pub fn contractions_are_triconnected()
+    ensures graph { ContractionIsGraph }
+    ensures triconnected { ContractionIsTriconnected }
+    ensures made { ContractionIsMade }
+{}
+
+/// The law that one end of an edge of a triconnected graph has a private neighbour, where the two have at most two common
+/// ones.
+pub fn ends_have_private_neighbours()
+    ensures one { OneEndHasPrivate }
 {}
