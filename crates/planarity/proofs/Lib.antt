@@ -7,3 +7,11 @@ pub mod Triangle
 pub mod ContractedDarts
 pub mod CarriedMaps
 pub mod ContractedSystem
+mod ObstructionCounts
+mod SubdivisionEdges
+mod SubdivisionPattern
+mod SubdivisionLists
+mod SubdivisionWays
+mod SubdivisionSteps
+mod SubdivisionFaces
+mod SubdivisionExcludes

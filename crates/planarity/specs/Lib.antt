@@ -1,2 +1,3 @@
 -- Plane rotation systems of triconnected graphs.
 pub mod Expansion
+pub mod Laws
