@@ -7,11 +7,11 @@ pub mod Triangle
 pub mod ContractedDarts
 pub mod CarriedMaps
 pub mod ContractedSystem
-mod ObstructionCounts
-mod SubdivisionEdges
-mod SubdivisionPattern
-mod SubdivisionLists
-mod SubdivisionWays
-mod SubdivisionSteps
-mod SubdivisionFaces
-mod SubdivisionExcludes
+pub mod ObstructionCounts
+pub mod SubdivisionEdges
+pub mod SubdivisionPattern
+pub mod SubdivisionLists
+pub mod SubdivisionWays
+pub mod SubdivisionSteps
+pub mod SubdivisionFaces
+pub mod SubdivisionExcludes
