@@ -1,6 +1,11 @@
 -- The lemmas on split components.
 pub mod Elements
 pub mod Sides
+pub mod GraphFamily
+pub mod Layers
+pub mod Places
+pub mod Start
+pub mod Eject
 pub mod Replaced
 pub mod Minimal
 pub mod Names
@@ -9,5 +14,5 @@ pub mod Lumps
 pub mod PrimeSimple
 pub mod PrimeRigid
 pub mod ThreeEntries
-pub mod GraphFamily
 pub mod SameEntries
+pub mod GraphSides

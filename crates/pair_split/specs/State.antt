@@ -4,9 +4,9 @@
 use Rattle.std.specs.Prelude.{◌≡◌, ◌≢◌, ℕ, ◌+◌, ◌<◌, ◌≤◌, ◌⊎◌, ◌↔◌, Bool, true, false, List, [], ◌∷◌, ◌++◌, length, map, slice_index_or, Contains}
 use Rattle.multigraph.specs.Graph.{Multigraph, edge_count}
 use Rattle.graph_theory.specs.Side.{IsCommon}
-use Rattle.pair_split.specs.Family.{Entry, has_end, IsFamily}
+use Rattle.pair_split.specs.Family.{Entry, has_end, on_side, off_side, IsFamily}
 use Rattle.pair_split.specs.Skeleton.{IsSkeleton}
-use Rattle.pair_split.specs.Edges.{graph_entry, entry_ends, family_skeleton}
+use Rattle.pair_split.specs.Edges.{graph_entry, graph_family, entry_ends, family_skeleton}
 use Rattle.pair_split.specs.Split.{piece_ends, component_at, items_of}
 use Rattle.pair_split.specs.declared.components.Kind.{Kind}
 use Rattle.pair_split.specs.declared.components.Kind.TheVariants.{B}
@@ -73,6 +73,15 @@ pub record IsSplitState (g : Multigraph) (state : SplitState) : Type 0 where
   pub place : ℕ → ℕ
   pub placed : IsPlaced (edge_count g) state place
   pub parted : (c : ℕ) → c < length state.parts → (t : ℕ → Bool) → IsBeyond (edge_count g) state c t → (v : ℕ) → IsCommon g t v ↔ (has_end v (own_at state c) ≡ true)
+
+-- at the start nothing is finished
+abbrev pub start_state : Multigraph → SplitState
+start_state g = record { parts = []; current = graph_family g }
+
+-- the entries of the current family that pass the test are made a finished component of this kind, with the virtual edge v
+-- in their place
+abbrev pub ejected : SplitState → (ℕ → Bool) → Kind → Entry → SplitState
+ejected state cut kind v = record { parts = state.parts ++ record { kind = kind; own = v; entries = on_side cut state.current } ∷ []; current = v ∷ off_side cut state.current }
 
 -- all entries of component k, where the current family is the last component
 abbrev pub family_at : SplitState → ℕ → List Entry
