@@ -11,3 +11,4 @@ pub mod PrivateNeighbours
 pub mod Contracted
 pub mod ContractedTriconnected
 pub mod ContractionMade
+mod Examples
