@@ -15,3 +15,4 @@ pub mod SubdivisionWays
 pub mod SubdivisionSteps
 pub mod SubdivisionFaces
 pub mod SubdivisionExcludes
+pub mod Alternation

@@ -1,3 +1,4 @@
 -- Plane rotation systems of triconnected graphs.
 pub mod Expansion
 pub mod Laws
+pub mod Alternation
