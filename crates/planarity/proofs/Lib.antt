@@ -16,3 +16,4 @@ pub mod SubdivisionSteps
 pub mod SubdivisionFaces
 pub mod SubdivisionExcludes
 pub mod Alternation
+mod SubdivisionExamples

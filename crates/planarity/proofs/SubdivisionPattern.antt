@@ -102,7 +102,7 @@ way-start_twin kind q = elim (twin-cases q) [
 pub way-finish_twin : (kind : Pattern) (q : ℕ) → way_finish kind (twin q) ≡ way_start kind q
 way-finish_twin kind q = sym (way-start_twin kind (twin q)) ∙ ap (way_start kind) (twin-twin q)
 
--- three ways of K5, each going on as the next, begin at three vertices
+-- three ways, each going on as the next, begin at three vertices
 pub three-starts : (kind : Pattern) (a b c : ℕ) → a < 2 * pair_count kind → b < 2 * pair_count kind → goes_on kind a b ≡ true → goes_on kind b c ≡ true
     → (way_start kind a ≢ way_start kind b) × (way_start kind a ≢ way_start kind c) × (way_start kind b ≢ way_start kind c)
 three-starts kind a b c l k h i = (
