@@ -17,3 +17,4 @@ pub mod SubdivisionFaces
 pub mod SubdivisionExcludes
 pub mod Alternation
 mod SubdivisionExamples
+pub mod LiftPath

@@ -2,3 +2,4 @@
 pub mod Expansion
 pub mod Laws
 pub mod Alternation
+pub mod Lift

@@ -1,0 +1,31 @@
+-- Paths of a graph with an edge contracted, lifted to the graph itself.
+use Rattle.std.specs.Prelude.{ℕ, Bool, false, ◌&&◌, ◌||◌, ◌==◌, if◌then◌else◌, List, [], ◌∷◌, reverse}
+use Rattle.multigraph.specs.Graph.{Multigraph, is_end, other_end}
+
+-- whether one of these edges has z as an end
+abbrev pub touches : Multigraph → ℕ → List ℕ → Bool
+touches g z [] = false
+touches g z (f ∷ fs) = is_end g z f || touches g z fs
+
+-- from p to q along these edges; where the next edge is not at the vertex that is reached, or the end is not q, the edge e
+-- comes between
+abbrev pub lifted : Multigraph → ℕ → ℕ → List ℕ → ℕ → List ℕ
+lifted g e p [] q = (if p == q then [] else e ∷ [])
+lifted g e p (f ∷ fs) q =
+    (if is_end g p f then f ∷ lifted g e (other_end g f p) fs q else e ∷ (f ∷ lifted g e (other_end g f (other_end g e p)) fs q))
+
+-- whether these are the two numbers of the pair, in either order
+abbrev pub is_pair : ℕ × ℕ → ℕ → ℕ → Bool
+is_pair pair i j = (pair.0 == i && pair.1 == j) || (pair.0 == j && pair.1 == i)
+
+-- whether two numbers are one of the pairs, in either order
+abbrev pub is_listed : List (ℕ × ℕ) → ℕ → ℕ → Bool
+is_listed [] i j = false
+is_listed (pair ∷ pairs) i j = is_pair pair i j || is_listed pairs i j
+
+-- the path from i to j, where there is one path for each of the pairs: it is turned round where the pair is (j, i)
+abbrev pub path_between : List (ℕ × ℕ) → List (List ℕ) → ℕ → ℕ → List ℕ
+path_between [] paths i j = []
+path_between (pair ∷ pairs) [] i j = []
+path_between (pair ∷ pairs) (path ∷ paths) i j =
+    (if pair.0 == i && pair.1 == j then path else (if pair.0 == j && pair.1 == i then reverse path else path_between pairs paths i j))
