@@ -18,3 +18,4 @@ pub mod SubdivisionExcludes
 pub mod Alternation
 mod SubdivisionExamples
 pub mod LiftPath
+pub mod LiftSystem
