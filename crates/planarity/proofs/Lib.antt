@@ -19,3 +19,4 @@ pub mod Alternation
 mod SubdivisionExamples
 pub mod LiftPath
 pub mod LiftSystem
+pub mod LiftPairs
