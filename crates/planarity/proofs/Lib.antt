@@ -20,3 +20,4 @@ mod SubdivisionExamples
 pub mod LiftPath
 pub mod LiftSystem
 pub mod LiftPairs
+pub mod LiftBack
