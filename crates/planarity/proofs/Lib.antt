@@ -21,3 +21,5 @@ pub mod LiftPath
 pub mod LiftSystem
 pub mod LiftPairs
 pub mod LiftBack
+pub mod LiftSpokes
+pub mod LiftFoot

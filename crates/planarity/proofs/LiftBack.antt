@@ -1,6 +1,6 @@
 -- A system of paths that joins the vertices of a pattern is a subdivision.
-use Rattle.std.proofs.Common.{◌≡◌, ◌≢◌, ℕ, zero, suc, ◌<◌, inl, inr, Bool, true, false, not, ◌&&◌, ◌==◌, List, [], ◌∷◌, length, map, get_or, refl, sym, ap, ◌∙◌, subst, arith}
-use Rattle.std.proofs.lemmas.Bool.{both_ways, false_from_ne_true, and_parts, and_from, or_cases, or_left, or_right, not-true, eq-eqb}
+use Rattle.std.proofs.Common.{◌≡◌, ◌≢◌, ℕ, zero, suc, ◌<◌, inl, inr, Bool, true, false, not, ◌&&◌, ◌==◌, ltb, List, [], ◌∷◌, length, map, get_or, refl, sym, ap, ◌∙◌, subst, arith}
+use Rattle.std.proofs.lemmas.Bool.{both_ways, false_from_ne_true, and_parts, ltb-true, and_from, or_left, or_right, not-true, eq-eqb}
 use Rattle.std.proofs.lemmas.List.{get_or_default, get_or-map, length-map}
 use Rattle.permutations.specs.Members.{is_member, is_distinct}
 use Rattle.permutations.proofs.Members.{member-append_cases, distinct-append}
@@ -12,7 +12,7 @@ use Rattle.kuratowski.specs.declared.subdivision.Pattern.TheVariants.{K5, K33}
 use Rattle.kuratowski.specs.Subdivision.{branch_count, pattern_edges, branch_at, pair_at, inner_vertices, all_inner, IsSubdivision}
 use Rattle.planarity.specs.Lift.{is_pair, is_listed}
 use Rattle.planarity.proofs.LiftSystem.{SamePair, IsPathSystem}
-use Rattle.planarity.proofs.LiftPairs.{places-distinct, inside-met, inside-distinct}
+use Rattle.planarity.proofs.LiftPairs.{listed-turned, places-distinct, inside-met, inside-distinct}
 
 -- whether no two of the pairs are the same, in either order
 abbrev pub listed_once : List (ℕ × ℕ) → Bool
@@ -23,17 +23,6 @@ listed_once (p ∷ ps) = not (is_listed ps p.0 p.1) && listed_once ps
 pub pattern-listed_once : (kind : Pattern) → listed_once (pattern_edges kind) ≡ true
 pattern-listed_once K5 = refl
 pattern-listed_once K33 = refl
-
--- the order of the two numbers does not matter
-pub listed-turned : (pairs : List (ℕ × ℕ)) (i j : ℕ) → is_listed pairs i j ≡ true → is_listed pairs j i ≡ true
-listed-turned [] i j t = t
-listed-turned (p ∷ ps) i j t = elim (or_cases (is_pair p i j) (is_listed ps i j) t) [
-  | inl u ↦ or_left (is_pair p j i) (is_listed ps j i) (elim (or_cases (p.0 == i && p.1 == j) (p.0 == j && p.1 == i) u) [
-    | inl v ↦ or_right (p.0 == j && p.1 == i) (p.0 == i && p.1 == j) v
-    | inr v ↦ or_left (p.0 == j && p.1 == i) (p.0 == i && p.1 == j) v
-  ])
-  | inr u ↦ or_right (is_pair p j i) (is_listed ps j i) (listed-turned ps i j u)
-]
 
 -- so what is the same pair is listed
 pub listed-same : (pairs : List (ℕ × ℕ)) (i j k l : ℕ) → SamePair i j k l → is_listed pairs k l ≡ true → is_listed pairs i j ≡ true
@@ -55,11 +44,25 @@ each-at P [] k a l = absurd (omega arith)
 each-at P (p ∷ ps) zero a l = a.0
 each-at P (p ∷ ps) (suc k) a l = each-at P ps k a.1 (omega arith)
 
-module _ (g : Multigraph) (n : ℕ) (joined : ℕ → ℕ → Bool) (branch : List ℕ) (path : ℕ → ℕ → List ℕ) (s : IsPathSystem g n joined (branch_at branch) path) where
-  -- the pair is of two of the vertices that are joined
-  abbrev pub AreJoined : ℕ × ℕ → Type 0
-  AreJoined p = (p.0 < n) × (p.1 < n) × (joined p.0 p.1 ≡ true)
+-- the pair is of two of n vertices that are joined
+abbrev pub AreJoined : ℕ → (ℕ → ℕ → Bool) → ℕ × ℕ → Type 0
+AreJoined n joined p = (p.0 < n) × (p.1 < n) × (joined p.0 p.1 ≡ true)
 
+-- whether each pair is of two of n vertices that are joined
+abbrev pub all_joined : ℕ → (ℕ → ℕ → Bool) → List (ℕ × ℕ) → Bool
+all_joined n joined [] = true
+all_joined n joined (p ∷ ps) = (ltb p.0 n && (ltb p.1 n && joined p.0 p.1)) && all_joined n joined ps
+
+-- then each is
+pub each-joined : (n : ℕ) (joined : ℕ → ℕ → Bool) (ps : List (ℕ × ℕ)) → all_joined n joined ps ≡ true → EachPair (AreJoined n joined) ps
+each-joined n joined [] t = tt
+each-joined n joined (p ∷ ps) t =
+    let w = and_parts (ltb p.0 n && (ltb p.1 n && joined p.0 p.1)) (all_joined n joined ps) t in
+    let v = and_parts (ltb p.0 n) (ltb p.1 n && joined p.0 p.1) w.0 in
+    let u = and_parts (ltb p.1 n) (joined p.0 p.1) v.1 in
+    ((ltb-true p.0 n v.0, ltb-true p.1 n u.0, u.1), each-joined n joined ps w.1)
+
+module _ (g : Multigraph) (n : ℕ) (joined : ℕ → ℕ → Bool) (branch : List ℕ) (path : ℕ → ℕ → List ℕ) (s : IsPathSystem g n joined (branch_at branch) path) where
   -- the paths of these pairs, one after the other
   abbrev paths_of : List (ℕ × ℕ) → List (List ℕ)
   paths_of pairs = map (λ p. path p.0 p.1) pairs
@@ -71,11 +74,11 @@ module _ (g : Multigraph) (n : ℕ) (joined : ℕ → ℕ → Bool) (branch : Li
   record Inside (pairs : List (ℕ × ℕ)) (z : ℕ) : Type 0 where
     first : ℕ
     second : ℕ
-    joins : AreJoined (first, second)
+    joins : AreJoined n joined (first, second)
     listed : is_listed pairs first second ≡ true
     on : is_member z (inner_vertices g (branch_at branch first) (path first second)) ≡ true
 
-  inside_one : (pairs : List (ℕ × ℕ)) (z : ℕ) → EachPair AreJoined pairs → is_member z (all_inner g branch pairs (paths_of pairs)) ≡ true → Inside pairs z
+  inside_one : (pairs : List (ℕ × ℕ)) (z : ℕ) → EachPair (AreJoined n joined) pairs → is_member z (all_inner g branch pairs (paths_of pairs)) ≡ true → Inside pairs z
   inside_one [] z a m = absurd (both_ways false refl m)
   inside_one (p ∷ ps) z a m = elim (member-append_cases z (inner p.0 p.1) (all_inner g branch ps (paths_of ps)) m) [
     | inl u ↦ record { first = p.0; second = p.1; joins = a.0; listed = listed-first p ps; on = u }
@@ -86,7 +89,7 @@ module _ (g : Multigraph) (n : ℕ) (joined : ℕ → ℕ → Bool) (branch : Li
       more w = record { first = w.first; second = w.second; joins = w.joins; listed = or_right (is_pair p (w.first) (w.second)) (is_listed ps (w.first) (w.second)) w.listed; on = w.on }
 
   -- it is none of the branch vertices
-  inside-no_branch : (i j m z : ℕ) → AreJoined (i, j) → is_member z (inner_vertices g (branch_at branch i) (path i j)) ≡ true → m < n → branch_at branch m ≢ z
+  inside-no_branch : (i j m z : ℕ) → AreJoined n joined (i, j) → is_member z (inner_vertices g (branch_at branch i) (path i j)) ≡ true → m < n → branch_at branch m ≢ z
   inside-no_branch i j m z a u l q =
       let w = inside-met g (branch_at branch i) (path i j) (branch_at branch j) z (s.are_paths i j a.0 a.1 a.2) u in
       elim (s.off_branch i j m a.0 a.1 l a.2 (subst (λ v. is_member v (walk_vertices g (branch_at branch i) (path i j)) ≡ true) (sym q) w.0)) [
@@ -95,7 +98,7 @@ module _ (g : Multigraph) (n : ℕ) (joined : ℕ → ℕ → Bool) (branch : Li
       ]
 
   -- the vertices inside the paths have no repetition
-  inner-distinct : (pairs : List (ℕ × ℕ)) → EachPair AreJoined pairs → listed_once pairs ≡ true → is_distinct (all_inner g branch pairs (paths_of pairs)) ≡ true
+  inner-distinct : (pairs : List (ℕ × ℕ)) → EachPair (AreJoined n joined) pairs → listed_once pairs ≡ true → is_distinct (all_inner g branch pairs (paths_of pairs)) ≡ true
   inner-distinct [] a t = refl
   inner-distinct (p ∷ ps) a t = distinct-append (inner p.0 p.1) (all_inner g branch ps (paths_of ps))
       (inside-distinct g (branch_at branch p.0) (path p.0 p.1) (branch_at branch p.1) (s.are_paths p.0 p.1 (a.0).0 (a.0).1 (a.0).2))
@@ -114,13 +117,13 @@ module _ (g : Multigraph) (n : ℕ) (joined : ℕ → ℕ → Bool) (branch : Li
           ]
 
   -- so if n vertices are joined as those of the pattern are, the paths are a subdivision of it
-  pub system-subdivision : (kind : Pattern) → branch_count kind ≡ n → length branch ≡ n → EachPair AreJoined (pattern_edges kind) → IsSubdivision g kind branch (paths_of (pattern_edges kind))
+  pub system-subdivision : (kind : Pattern) → branch_count kind ≡ n → length branch ≡ n → EachPair (AreJoined n joined) (pattern_edges kind) → IsSubdivision g kind branch (paths_of (pattern_edges kind))
   system-subdivision kind e l a = record {
     branches = l ∙ sym e;
     branch_in = λ i k. s.branch_in i (omega arith);
     one_each = length-map (pattern_edges kind) (λ p. path p.0 p.1);
     are_paths = λ k m.
-        let w : AreJoined (pair_at kind k) = each-at AreJoined (pattern_edges kind) k a m in
+        let w : AreJoined n joined (pair_at kind k) = each-at (AreJoined n joined) (pattern_edges kind) k a m in
         subst (λ u. IsPath g (branch_at branch (pair_at kind k).0) u (branch_at branch (pair_at kind k).1))
         (sym (get_or-map (λ p. path p.0 p.1) (pattern_edges kind) k (0, 0) [] m))
         (s.are_paths (pair_at kind k).0 (pair_at kind k).1 w.0 w.1 w.2);

@@ -1,6 +1,6 @@
 -- A subdivision is a system of paths, and back.
 use Rattle.std.proofs.Common.{◌≡◌, ◌≢◌, ℕ, zero, suc, ◌<◌, ◌⊎◌, inl, inr, Bool, true, false, not, ◌||◌, ◌&&◌, ◌==◌, List, [], ◌∷◌, length, reverse, get_or, refl, sym, ap, ◌∙◌, subst, arith}
-use Rattle.std.proofs.lemmas.Bool.{cases_Bool, cases_eq, both_ways, false_from_ne_true, and_parts, or_cases, not-true, eq-eqb, eqb-true}
+use Rattle.std.proofs.lemmas.Bool.{cases_Bool, cases_eq, both_ways, false_from_ne_true, and_parts, or_cases, or_left, or_right, not-true, eq-eqb, eqb-true}
 use Rattle.std.proofs.lemmas.List.{get_or_default}
 use Rattle.permutations.specs.Members.{is_member, is_distinct}
 use Rattle.permutations.proofs.Members.{member-head, member-tail, member-cases, member-append_left, member-append_right, distinct-cons, distinct-head, distinct-tail, distinct-append_left, distinct-append_right, distinct-append_apart}
@@ -142,9 +142,27 @@ pub pattern-no_loops : (kind : Pattern) → no_loops (pattern_edges kind) ≡ tr
 pattern-no_loops K5 = refl
 pattern-no_loops K33 = refl
 
+-- the order of the two numbers does not matter
+pub listed-turned : (pairs : List (ℕ × ℕ)) (i j : ℕ) → is_listed pairs i j ≡ true → is_listed pairs j i ≡ true
+listed-turned [] i j t = t
+listed-turned (p ∷ ps) i j t = elim (or_cases (is_pair p i j) (is_listed ps i j) t) [
+  | inl u ↦ or_left (is_pair p j i) (is_listed ps j i) (elim (or_cases (p.0 == i && p.1 == j) (p.0 == j && p.1 == i) u) [
+    | inl v ↦ or_right (p.0 == j && p.1 == i) (p.0 == i && p.1 == j) v
+    | inr v ↦ or_left (p.0 == j && p.1 == i) (p.0 == i && p.1 == j) v
+  ])
+  | inr u ↦ or_right (is_pair p j i) (is_listed ps j i) (listed-turned ps i j u)
+]
+
 -- two vertices of the pattern that are joined, or one vertex twice
 abbrev pub is_joined : Pattern → ℕ → ℕ → Bool
 is_joined kind i j = is_listed (pattern_edges kind) i j || (i == j)
+
+-- the order does not matter here either
+pub joined-turned : (kind : Pattern) (i j : ℕ) → is_joined kind i j ≡ true → is_joined kind j i ≡ true
+joined-turned kind i j t = elim (or_cases (is_listed (pattern_edges kind) i j) (i == j) t) [
+  | inl u ↦ or_left (is_listed (pattern_edges kind) j i) (j == i) (listed-turned (pattern_edges kind) i j u)
+  | inr u ↦ or_right (is_listed (pattern_edges kind) j i) (j == i) (eq-eqb j i (sym (eqb-true i j u)))
+]
 
 module _ (g : Multigraph) (kind : Pattern) (branch : List ℕ) (paths : List (List ℕ)) (s : IsSubdivision g kind branch paths) where
   abbrev pairs : List (ℕ × ℕ)

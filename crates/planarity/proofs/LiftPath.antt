@@ -11,7 +11,7 @@ use Rattle.planarity.specs.Lift.{touches, lifted}
 
 module _ (g h : Multigraph) (e x y : ℕ) (edge vertex : ℕ → ℕ) (og : IsGraph g) (oh : IsGraph h) (c : IsContraction g h e x y edge vertex) where
   -- the edge of g that an edge of h stands for joins vertices that become those which it joins in h
-  image-end : (i p : ℕ) → i < edge_count h → is_end g p (edge i) ≡ true → (is_end h (vertex p) i ≡ true) × (other_end h i (vertex p) ≡ vertex (other_end g (edge i) p))
+  pub image-end : (i p : ℕ) → i < edge_count h → is_end g p (edge i) ≡ true → (is_end h (vertex p) i ≡ true) × (other_end h i (vertex p) ≡ vertex (other_end g (edge i) p))
   image-end i p l t = elim (is_end-cases g p (edge i) t) [
     | inl a ↦
         let first : (ends_of h i).0 ≡ vertex p = c.first_ends i l ∙ ap vertex a in
