@@ -23,3 +23,4 @@ pub mod LiftPairs
 pub mod LiftBack
 pub mod LiftSpokes
 pub mod LiftFoot
+pub mod LiftSplit
