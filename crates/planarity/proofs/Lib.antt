@@ -24,3 +24,4 @@ pub mod LiftBack
 pub mod LiftSpokes
 pub mod LiftFoot
 pub mod LiftSplit
+pub mod LiftCases

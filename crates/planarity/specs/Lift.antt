@@ -1,6 +1,8 @@
 -- Paths of a graph with an edge contracted, lifted to the graph itself.
-use Rattle.std.specs.Prelude.{ℕ, Bool, false, ◌&&◌, ◌||◌, ◌==◌, if◌then◌else◌, List, [], ◌∷◌, reverse}
-use Rattle.multigraph.specs.Graph.{Multigraph, is_end, other_end}
+use Rattle.std.specs.Prelude.{ℕ, Bool, false, ◌&&◌, ◌||◌, ◌==◌, if◌then◌else◌, List, [], ◌∷◌, map, filter, reverse}
+use Rattle.multigraph.specs.Graph.{Multigraph, is_end, other_end, numbers_below}
+use Rattle.kuratowski.specs.declared.subdivision.Pattern.{Pattern}
+use Rattle.kuratowski.specs.Subdivision.{branch_count, pattern_edges}
 
 -- whether one of these edges has z as an end
 abbrev pub touches : Multigraph → ℕ → List ℕ → Bool
@@ -29,3 +31,11 @@ path_between [] paths i j = []
 path_between (pair ∷ pairs) [] i j = []
 path_between (pair ∷ pairs) (path ∷ paths) i j =
     (if pair.0 == i && pair.1 == j then path else (if pair.0 == j && pair.1 == i then reverse path else path_between pairs paths i j))
+
+-- the vertices of the pattern that are joined with its vertex m
+abbrev pub spokes : Pattern → ℕ → List ℕ
+spokes kind m = filter (is_listed (pattern_edges kind) m) (numbers_below (branch_count kind))
+
+-- whether the path from vertex m to vertex i of the pattern, in g, touches z
+abbrev pub leaves_by : Multigraph → (ℕ → ℕ) → Pattern → List (List ℕ) → ℕ → ℕ → ℕ → Bool
+leaves_by g edge kind paths z m i = touches g z (map edge (path_between (pattern_edges kind) paths m i))
