@@ -11,7 +11,9 @@ pub mod Minimal
 pub mod Names
 pub mod Degrees
 pub mod Lumps
+pub mod Labels
 pub mod PrimeSimple
+pub mod Candidates
 pub mod PrimeRigid
 pub mod ThreeEntries
 pub mod SameEntries

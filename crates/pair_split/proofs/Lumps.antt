@@ -1,29 +1,14 @@
 -- The lump of a class of vertices, when two vertices a and b are removed: the entries with an end in the class.
-use Rattle.std.proofs.Common.{◌≡◌, ℕ, ◌⊎◌, inl, inr, Bool, true, false, not, ◌&&◌, ◌||◌, List, [], ◌∷◌, filter, refl, sym, ap, ◌∙◌, subst, Contains}
+use Rattle.std.proofs.Common.{◌≡◌, ℕ, ◌⊎◌, inl, inr, Bool, true, false, not, List, [], ◌∷◌, filter, refl, sym, ap, ◌∙◌, subst, Contains}
 use Rattle.std.proofs.lemmas.Bool.{cases_Bool, both_ways, not-true, not_from_false, true≢false, or_cases, and_parts, and_from, or_left, or_right}
-use Rattle.permutations.specs.Members.{is_member, is_distinct}
+use Rattle.permutations.specs.Members.{is_distinct}
 use Rattle.permutations.proofs.Members.{member-cases}
+use Rattle.pair_split.specs.Lumps.{side_of, removed, reached, in_lump, IsClosed}
 use Rattle.pair_split.specs.Family.{Entry, has_end, names, on_side, is_common}
 use Rattle.pair_split.proofs.Elements.{filter-same}
 use Rattle.pair_split.proofs.Sides.{common-inside, common-outside}
-use Rattle.pair_split.proofs.Names.{side_of, side_of-at}
+use Rattle.pair_split.proofs.Names.{side_of-at}
 use Rattle.pair_split.proofs.Replaced.{end-cases, first-end, second-end}
-
--- whether z is one of the two vertices that are removed
-abbrev pub removed : ℕ → ℕ → ℕ → Bool
-removed a b z = is_member z (a ∷ b ∷ [])
-
--- whether z is in the class and not removed
-abbrev pub reached : ℕ → ℕ → (ℕ → Bool) → ℕ → Bool
-reached a b class z = not (removed a b z) && class z
-
--- whether the entry is in the lump of the class: it has an end in the class that is not removed
-abbrev pub in_lump : ℕ → ℕ → (ℕ → Bool) → Entry → Bool
-in_lump a b class e = reached a b class e.first || reached a b class e.second
-
--- entries that have neither vertex as an end have both ends in the class or none
-abbrev pub IsClosed : List Entry → ℕ → ℕ → (ℕ → Bool) → Type 0
-IsClosed entries a b class = (e : Entry) → Contains entries e → removed a b e.first ≡ false → removed a b e.second ≡ false → class e.first ≡ class e.second
 
 -- an entry with an end in the class is in the lump
 pub lump-from : (a b : ℕ) (class : ℕ → Bool) (e : Entry) (x : ℕ) → has_end x e ≡ true → removed a b x ≡ false → class x ≡ true → in_lump a b class e ≡ true

@@ -1,17 +1,10 @@
 -- A minimal side of a 2-separation, with one entry in place of the other side, is a prime family.
-use Rattle.std.proofs.Common.{◌≡◌, ℕ, ◌+◌, ◌≤◌, inl, inr, Bool, true, false, not, cond, List, [], ◌∷◌, length, refl, sym, ap, ◌∙◌, subst, arith, Contains}
+use Rattle.std.proofs.Common.{◌≡◌, ℕ, ◌+◌, ◌≤◌, inl, inr, Bool, false, not, cond, List, [], ◌∷◌, length, refl, sym, ap, ◌∙◌, subst, arith}
 use Rattle.std.proofs.lemmas.Bool.{cases_Bool, both_ways, not_from_true, not_from_false, true_from_ne_false}
+use Rattle.pair_split.specs.Minimal.{IsMinimal}
 use Rattle.pair_split.specs.Family.{Entry, on_side, off_side, IsTight, IsSeparation, IsPrime}
 use Rattle.pair_split.proofs.Sides.{on_side-ext, off_other, separation-other, length-sides}
 use Rattle.pair_split.proofs.Replaced.{replaced, lifted, lifted-not, lifted-inside, replaced-common, replaced-tight}
-
--- the side s lies inside the other one
-abbrev pub IsInside : List Entry → (ℕ → Bool) → (ℕ → Bool) → Type 0
-IsInside entries s cut = (entry : Entry) → Contains entries entry → s entry.name ≡ true → cut entry.name ≡ true
-
--- no side of a 2-separation lies inside this one and has fewer entries
-abbrev pub IsMinimal : List Entry → (ℕ → Bool) → Type 0
-IsMinimal entries cut = (s : ℕ → Bool) (p q : ℕ) → IsSeparation entries s p q → IsInside entries s cut → length (on_side cut entries) ≤ length (on_side s entries)
 
 -- how many entries a lifted side has
 lifted-count : (entries : List Entry) (cut : ℕ → Bool) (v : Entry) (s : ℕ → Bool)

@@ -1,11 +1,12 @@
 -- Entries of a family by their names: no two entries have one name.
-use Rattle.std.proofs.Common.{◌≡◌, ◌≢◌, ℕ, zero, suc, ◌<◌, ◌≤◌, inl, inr, Bool, true, false, ◌&&◌, ◌||◌, ◌==◌, List, [], ◌∷◌, length, filter, slice_index_or, refl, sym, ap, ◌∙◌, subst, arith, Contains}
+use Rattle.std.proofs.Common.{◌≡◌, ◌≢◌, ℕ, zero, suc, ◌<◌, ◌≤◌, inl, inr, Bool, true, false, ◌&&◌, ◌==◌, List, [], ◌∷◌, length, filter, slice_index_or, refl, sym, ap, ◌∙◌, subst, arith, Contains}
 use Rattle.std.proofs.lemmas.Bool.{cases_Bool, both_ways, true≢false, or_cases, eq-eqb, eqb-true, ne_eqb, cases_eq, cases_lt, and_parts, and_from, or_left, or_right}
 use Rattle.std.proofs.lemmas.List.Elements.{Contains-get_or}
 use Rattle.permutations.proofs.Relation.{same-tests}
 use Rattle.permutations.specs.Members.{is_member, is_distinct}
 use Rattle.permutations.proofs.Members.{member-head, member-tail, member-cases, distinct-head, distinct-tail}
 use Rattle.permutations.proofs.Filter.{filter-yes, filter-no}
+use Rattle.pair_split.specs.Lumps.{side_of}
 use Rattle.pair_split.specs.Family.{Entry, names, on_side}
 use Rattle.pair_split.proofs.Elements.{contains-here, contains-later, contains-cases, contains-none, some-element, filter-contains}
 
@@ -84,11 +85,6 @@ two-names (e ∷ entries) p d l = elim (cases_Bool (p e)) [
   | inr f ↦ let w = two-names entries p (distinct-tail e.name (names entries) d) (subst (λ (k : List Entry). 2 ≤ length k) (filter-no p e entries f) l) in
       (w.0, w.1, contains-later w.0 e entries w.2, contains-later w.1 e entries w.3, w.4, w.5, w.6)
 ]
-
--- the entries that pass a test, as a side: a test on names
-abbrev pub side_of : List Entry → (Entry → Bool) → ℕ → Bool
-side_of [] test n = false
-side_of (e ∷ entries) test n = ((e.name == n) && test e) || side_of entries test n
 
 -- a name on that side is the name of an entry that passes
 pub side_of-entry : (entries : List Entry) (test : Entry → Bool) (n : ℕ) → side_of entries test n ≡ true → (e : Entry) × Contains entries e × (e.name ≡ n) × (test e ≡ true)

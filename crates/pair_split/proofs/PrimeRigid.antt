@@ -6,14 +6,15 @@ use Rattle.std.proofs.lemmas.List.Elements.{All-contains, All-cons, All-nil, Con
 use Rattle.permutations.specs.Relation.{connected}
 use Rattle.permutations.proofs.Relation.{same-tests, connected-link, connected-reflexive, connected-symmetric, connected-transitive}
 use Rattle.graph_theory.specs.Triconnected.{avoids}
+use Rattle.pair_split.specs.Lumps.{side_of, removed, in_lump, IsClosed}
 use Rattle.pair_split.specs.Family.{Entry, has_end, IsFamily, touches, IsPrime}
 use Rattle.pair_split.specs.Edges.{entry_ends, family_skeleton}
 use Rattle.pair_split.specs.Skeleton.{SameEnds, is_vertex, HasVertices, StaysConnectedWithout, IsRigid}
 use Rattle.pair_split.proofs.Elements.{contains-map, contains-filter, two-pass, length-either, some-element, filter-contains, length-parts}
 use Rattle.pair_split.proofs.Sides.{touches-from, touching-entry, separation-from}
-use Rattle.pair_split.proofs.Names.{same-place, two-names, side_of, side_of-at}
+use Rattle.pair_split.proofs.Names.{same-place, two-names, side_of-at}
 use Rattle.pair_split.proofs.Replaced.{first-end, second-end}
-use Rattle.pair_split.proofs.Lumps.{removed, IsClosed, in_lump, lump-from, lump-end, lump-common}
+use Rattle.pair_split.proofs.Lumps.{lump-from, lump-end, lump-common}
 use Rattle.pair_split.proofs.Degrees.{tight-degree}
 use Rattle.pair_split.proofs.PrimeSimple.{prime-simple, joins, joins-parallel, outside-end, other-end, touched-vertex}
 

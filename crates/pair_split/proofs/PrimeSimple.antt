@@ -1,8 +1,8 @@
 -- A prime family of four or more entries is simple, and has at least four vertices.
 use Rattle.std.proofs.Common.{◌≡◌, ◌≢◌, ℕ, ◌≤◌, ◌⊎◌, inl, inr, Bool, true, false, ◌&&◌, ◌||◌, ◌==◌, List, [], ◌∷◌, length, refl, sym, ap, ◌∙◌, subst, arith, Contains}
-use Rattle.std.proofs.lemmas.Bool.{cases_Bool, both_ways, eq-eqb, eqb-true, or_cases, and_parts, and_from, or_left, or_right}
+use Rattle.std.proofs.lemmas.Bool.{cases_Bool, cases_eq, both_ways, eq-eqb, eqb-true, or_cases, and_parts, and_from, or_left, or_right}
 use Rattle.permutations.specs.Members.{is_member}
-use Rattle.pair_split.specs.Family.{Entry, has_end, IsFamily, on_side, off_side, touches, is_common, IsPrime}
+use Rattle.pair_split.specs.Family.{Entry, has_end, IsFamily, on_side, touches, is_common, IsTight, IsSeparation, IsPrime}
 use Rattle.pair_split.specs.Edges.{entry_ends, family_skeleton}
 use Rattle.pair_split.specs.Skeleton.{SameEnds, is_vertex}
 use Rattle.pair_split.proofs.Elements.{two-pass, length-either}
@@ -16,36 +16,39 @@ parallel-end e f x (inl s) h = elim (end-cases x f h) [ inl i ↦ first-end x e 
 parallel-end e f x (inr s) h = elim (end-cases x f h) [ inl i ↦ second-end x e (i ∙ sym s.1) | inr i ↦ first-end x e (i ∙ sym s.0) ]
 
 -- the side of two entries alone
-abbrev pair : Entry → Entry → ℕ → Bool
+abbrev pub pair : Entry → Entry → ℕ → Bool
 pair e f n = (n == e.name) || (n == f.name)
 
--- in a prime family of four or more entries, entries with the same two ends are one
-pub prime-simple : (entries : List Entry) → IsFamily entries → IsPrime entries → 4 ≤ length entries → (e f : Entry) → Contains entries e → Contains entries f → SameEnds (entry_ends e) (entry_ends f) → e.name ≡ f.name
-prime-simple entries family prime four e f c k s = elim (cases_Bool (e.name == f.name)) [
-  | inl i ↦ eqb-true e.name f.name i
-  | inr n ↦ absurd (prime.none (pair e f) e.first e.second (separation-from entries (pair e f) e.first e.second prime.tight (two n) (others (two n)) only))
-]
+-- at most two entries are on it
+pub pair-few : (entries : List Entry) → IsFamily entries → (e f : Entry) → length (on_side (pair e f) entries) ≤ 2
+pair-few entries family e f = omega (
+  arith,
+  one-name entries e.name family.names_once,
+  one-name entries f.name family.names_once,
+  length-either (λ (z : Entry). z.name == e.name) (λ (z : Entry). z.name == f.name) entries,
+)
+
+-- two parallel entries of a tight family of four or more are a side of a 2-separation
+pub parallel-separation : (entries : List Entry) → IsFamily entries → IsTight entries → 4 ≤ length entries → (e f : Entry) → Contains entries e → Contains entries f → e.name ≢ f.name → SameEnds (entry_ends e) (entry_ends f) → IsSeparation entries (pair e f) e.first e.second
+parallel-separation entries family tight four e f c k n s = separation-from entries (pair e f) e.first e.second tight two (omega (arith, pair-few entries family e f, four, length-sides entries (pair e f))) only
   where
-    two : (e.name == f.name) ≡ false → 2 ≤ length (on_side (pair e f) entries)
-    two n = two-pass (λ (z : Entry). pair e f z.name) e f entries (λ i. both_ways (e.name == f.name) n (eq-eqb e.name f.name (ap (λ (z : Entry). z.name) i))) c k
+    two : 2 ≤ length (on_side (pair e f) entries)
+    two = two-pass (λ (z : Entry). pair e f z.name) e f entries (λ i. n (ap (λ (z : Entry). z.name) i)) c k
         (or_left (e.name == e.name) (e.name == f.name) (eq-eqb e.name e.name refl))
         (or_right (f.name == e.name) (f.name == f.name) (eq-eqb f.name f.name refl))
-
-    others : 2 ≤ length (on_side (pair e f) entries) → 2 ≤ length (off_side (pair e f) entries)
-    others h = omega (
-      arith,
-      four,
-      length-sides entries (pair e f),
-      one-name entries e.name family.names_once,
-      one-name entries f.name family.names_once,
-      length-either (λ (z : Entry). z.name == e.name) (λ (z : Entry). z.name == f.name) entries,
-    )
 
     only : (x : ℕ) → is_common entries (pair e f) x ≡ true → (x ≡ e.first) ⊎ (x ≡ e.second)
     only x h = let w = common-inside entries (pair e f) x h in elim (or_cases (w.entry.name == e.name) (w.entry.name == f.name) w.side) [
       | inl i ↦ end-cases x e (subst (λ (z : Entry). has_end x z ≡ true) (same-name entries family.names_once w.entry e w.within c (eqb-true w.entry.name e.name i)) w.end)
       | inr i ↦ end-cases x e (parallel-end e f x s (subst (λ (z : Entry). has_end x z ≡ true) (same-name entries family.names_once w.entry f w.within k (eqb-true w.entry.name f.name i)) w.end))
     ]
+
+-- in a prime family of four or more entries, entries with the same two ends are one
+pub prime-simple : (entries : List Entry) → IsFamily entries → IsPrime entries → 4 ≤ length entries → (e f : Entry) → Contains entries e → Contains entries f → SameEnds (entry_ends e) (entry_ends f) → e.name ≡ f.name
+prime-simple entries family prime four e f c k s = elim (cases_eq e.name f.name) [
+  | inl i ↦ i
+  | inr n ↦ absurd (prime.none (pair e f) e.first e.second (parallel-separation entries family prime.tight four e f c k n s))
+]
 
 -- whether the entry joins these two vertices
 abbrev pub joins : ℕ → ℕ → Entry → Bool

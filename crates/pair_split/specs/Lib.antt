@@ -6,3 +6,6 @@ pub mod Edges
 pub mod Split
 pub mod Tutte
 pub mod State
+pub mod Minimal
+pub mod Lumps
+pub mod Search

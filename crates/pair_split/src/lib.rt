@@ -2,7 +2,9 @@
 #![tactic(auto)]
 
 mod components;
+mod family;
 mod lists;
+mod search;
 mod splitter;
 
 pub use components::{Comp, Comps, Item, Kind, Piece, What};
