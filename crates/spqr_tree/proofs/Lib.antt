@@ -1,0 +1,1 @@
+-- The lemmas on merging and rearranging split components.

@@ -1,0 +1,1 @@
+-- Split components put together to the tree of a block.
