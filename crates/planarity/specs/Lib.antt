@@ -3,3 +3,4 @@ pub mod Expansion
 pub mod Laws
 pub mod Alternation
 pub mod Lift
+pub mod Circle

@@ -1,0 +1,33 @@
+-- The circle round a vertex of a plane rotation system: the neighbours of the vertex, joined by what the faces at it leave.
+use Rattle.std.specs.Prelude.{◌≡◌, ℕ, ◌-◌, ◌/◌, ◌<◌, false, true, List, [], ◌∷◌, ◌++◌, length, map}
+use Rattle.permutations.specs.Members.{is_member, is_distinct}
+use Rattle.permutations.specs.Ring.{images, orbit_length}
+use Rattle.multigraph.specs.Graph.{Multigraph}
+use Rattle.graph_theory.specs.Path.{walk_end, walk_starts, IsWalk}
+use Rattle.faces.specs.Euler.{dart_count, face_step}
+
+-- a part is a vertex with edges from there on: all vertices at which edges of the parts are entered
+abbrev pub part_starts : Multigraph → List (ℕ × List ℕ) → List ℕ
+part_starts h [] = []
+part_starts h (part ∷ parts) = walk_starts h part.0 part.1 ++ part_starts h parts
+
+-- each part is a walk of at least one edge to where the next one begins, and the last one leads to `home`
+abbrev pub LeadOn : Multigraph → ℕ → List (ℕ × List ℕ) → Type 0
+LeadOn h home [] = Unit {0}
+LeadOn h home (part ∷ []) = (0 < length part.1) × IsWalk h part.0 part.1 × (walk_end h part.0 part.1 ≡ home)
+LeadOn h home (part ∷ (next ∷ parts)) = ((0 < length part.1) × IsWalk h part.0 part.1 × (walk_end h part.0 part.1 ≡ next.0)) × LeadOn h home (next ∷ parts)
+
+-- the parts are a cycle, which begins and ends at `home`, meets no vertex twice and does not meet w
+pub record IsCircle (h : Multigraph) (w home : ℕ) (parts : List (ℕ × List ℕ)) : Type 0 where
+  pub lead_on : LeadOn h home parts
+  pub once : is_distinct (part_starts h parts) ≡ true
+  pub avoids : is_member w (part_starts h parts) ≡ false
+
+-- the face of dart d, without d and without the dart before it
+abbrev pub face_arc : Multigraph → List (List ℕ) → ℕ → List ℕ
+face_arc h s d = images (face_step h s) (orbit_length (dart_count h) (face_step h s) d - 2) (face_step h s d)
+
+-- the edges of these arcs, one after the other
+abbrev pub arc_edges : Multigraph → List (List ℕ) → List ℕ → List ℕ
+arc_edges h s [] = []
+arc_edges h s (d ∷ ds) = map (λ c. c / 2) (face_arc h s d) ++ arc_edges h s ds
