@@ -1,6 +1,6 @@
 -- The darts of a graph with an edge contracted, as darts of the graph.
 use Rattle.std.proofs.Common.{◌≡◌, ℕ, ◌*◌, ◌/◌, ◌%◌, ◌<◌, ◌⊎◌, inl, inr, true, false, not, ◌||◌, ◌==◌, sym, ap, ◌∙◌, arith}
-use Rattle.std.proofs.lemmas.Bool.{cases_Bool, cases_eq, both_ways, and_parts, not-true, eq-eqb, ne_eqb, or_left, or_right, or_from}
+use Rattle.std.proofs.lemmas.Bool.{false_from_ne_true, cases_Bool, cases_eq, both_ways, and_parts, not-true, eq-eqb, ne_eqb, or_left, or_right, or_from}
 use Rattle.permutations.proofs.Search.{some-from}
 use Rattle.multigraph.specs.Graph.{Multigraph, IsGraph, edge_count, ends_of, other_end}
 use Rattle.contractions.specs.Contraction.{is_kept, IsContraction}
@@ -66,6 +66,18 @@ stays-off g e x y d h n = elim (cases_Bool (is_kept g e x y (d / 2))) [
   | inl t ↦ t
   | inr t ↦ absurd (both_ways ((d / 2 == e) || is_kept g e x y (d / 2)) (or_from (d / 2 == e) (is_kept g e x y (d / 2)) (ne_eqb (d / 2) e n) t) h)
 ]
+
+-- what does not stay is of another edge, which is not kept
+pub stays-gone : (g : Multigraph) (e x y d : ℕ) → stays g e x y d ≡ false → (d / 2 ≡ e → ⊥) × (is_kept g e x y (d / 2) ≡ false)
+stays-gone g e x y d h = (
+  λ q. both_ways (stays g e x y d) h (stays-edge g e x y d q),
+  false_from_ne_true (is_kept g e x y (d / 2)) (λ t. both_ways (stays g e x y d) h (stays-kept g e x y d t)),
+)
+
+-- both darts of an edge stay, or neither
+pub stays-twin : (g : Multigraph) (e x y d : ℕ) → stays g e x y (twin d) ≡ stays g e x y d
+unfolding stays
+stays-twin g e x y d = ap (λ f. (f == e) || is_kept g e x y f) (twin-edge d)
 
 -- the contracted edge itself is not kept
 pub contracted-not_kept : (g : Multigraph) (e x y f : ℕ) → is_kept g e x y f ≡ true → f ≡ e → ⊥

@@ -25,3 +25,7 @@ pub mod LiftSpokes
 pub mod LiftFoot
 pub mod LiftSplit
 pub mod LiftCases
+pub mod RestrictedSteps
+pub mod JoinedDarts
+pub mod CommonNeighbours
+pub mod ContractedUnique
