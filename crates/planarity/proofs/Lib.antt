@@ -29,3 +29,4 @@ pub mod RestrictedSteps
 pub mod JoinedDarts
 pub mod CommonNeighbours
 pub mod ContractedUnique
+pub mod CircleFaces
