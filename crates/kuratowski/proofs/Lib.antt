@@ -3,3 +3,4 @@ pub mod Marks
 pub mod FreePaths
 pub mod Checked
 mod Examples
+pub mod Meetings
