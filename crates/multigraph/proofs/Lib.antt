@@ -2,6 +2,8 @@
 pub mod Below
 pub mod Incident
 pub mod OtherEnd
+pub mod Places
 mod Collecting
+pub mod Ends
 mod FirstFault
 mod Instances

@@ -2,3 +2,4 @@
 pub mod Graph
 pub mod Build
 pub mod Incidence
+pub mod Part

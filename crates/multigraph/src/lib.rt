@@ -13,10 +13,12 @@ mod faults;
 mod incidence;
 pub mod laws;
 mod lists;
+mod parts;
 mod structure;
 
 pub use faults::BuildFault;
 pub use lists::{NumberLists, Numbers};
+pub use parts::Part;
 pub use structure::Graph;
 
 #[cfg(test)]

@@ -73,14 +73,22 @@ impl Graph {
         })
     }
 
+    // The graph of ends that are known to be sound, where only memory can run out.
+    pub(crate) fn of_ends(alloc: Global, n: u32, ends: &[(u32, u32)]) -> Result<Graph, AllocError>
+        requires { IsGraph (multigraph_of n ends.now) }
+        ensures { IfOk result (λ g. g ≡ multigraph_of n ends.now) }
+    {
+        match Graph::assemble(alloc, n, ends) {
+            Ok(g) => Ok(g),
+            Err(_) => Err(AllocError),
+        }
+    }
+
     /// The same graph once more.
     pub fn copy(&self, alloc: Global) -> Result<Graph, AllocError>
         ensures { IfOk result (λ g. g ≡ self.now) }
     {
-        match Graph::assemble(alloc, self.vertices, &self.ends) {
-            Ok(g) => Ok(g),
-            Err(_) => Err(AllocError),
-        }
+        Graph::of_ends(alloc, self.vertices, &self.ends)
     }
 
     /// The number of vertices.

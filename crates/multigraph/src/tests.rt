@@ -69,3 +69,51 @@ fn lists_show_what_they_are_made_of(rt: HostRuntime) -> Result<(), Fail> {
     assert_eq!(rt; lists.as_slice()[0].as_slice(), [3, 1, 2].as_slice());
     Ok(())
 }
+
+// The numbers that an answer holds, and 99 for none.
+fn number(answer: Option<u32>) -> u32 {
+    answer.unwrap_or(99)
+}
+
+#[test]
+fn part_of_two_triangles(rt: HostRuntime) -> Result<(), Fail> {
+    // Two triangles at vertex 2 with a tail, and a vertex without edges.
+    let ends = [(0, 1), (2, 1), (0, 2), (2, 3), (4, 3), (2, 4), (4, 5)];
+    let g = Graph::build(rt.alloc(), 7, &ends)?;
+    let part = g.part(rt.alloc(), &[3, 4, 6])?;
+    assert_eq!(rt; part.graph().vertex_count(), 4);
+    assert_eq!(rt; part.graph().edge_count(), 3);
+    // Each edge of the part: its ends there, its number in the whole graph, and back.
+    for (i, ends, outer) in [(0, (0, 1), 3), (1, (2, 1), 4), (2, (2, 3), 6)] {
+        assert_eq!(rt; part.graph().ends(i), ends);
+        assert_eq!(rt; part.edge(i), outer);
+        assert_eq!(rt; number(part.inner_edge(outer)), i);
+    }
+    for (i, outer) in [(0, 2), (1, 3), (2, 4), (3, 5)] {
+        assert_eq!(rt; part.vertex(i), outer);
+        assert_eq!(rt; number(part.inner_vertex(outer)), i);
+    }
+    for v in [0, 1, 6] {
+        assert_eq!(rt; number(part.inner_vertex(v)), 99);
+    }
+    for e in [0, 1, 2, 5] {
+        assert_eq!(rt; number(part.inner_edge(e)), 99);
+    }
+    Ok(())
+}
+
+#[test]
+fn parts_of_all_and_of_no_edges(rt: HostRuntime) -> Result<(), Fail> {
+    let g = Graph::build(rt.alloc(), 5, &K4)?;
+    let all = g.part(rt.alloc(), &[0, 1, 2, 3, 4, 5])?;
+    assert_eq!(rt; all.graph().vertex_count(), 4);
+    for e in 0..6 {
+        assert_eq!(rt; all.graph().ends(e), g.ends(e));
+    }
+    let none = g.part(rt.alloc(), &[])?;
+    assert_eq!(rt; none.graph().vertex_count(), 0);
+    assert_eq!(rt; none.graph().edge_count(), 0);
+    assert_eq!(rt; number(none.inner_vertex(0)), 99);
+    assert_eq!(rt; number(none.inner_edge(0)), 99);
+    Ok(())
+}
