@@ -30,3 +30,6 @@ pub mod JoinedDarts
 pub mod CommonNeighbours
 pub mod ContractedUnique
 pub mod CircleFaces
+pub mod FourVerticesDarts
+pub mod FourVerticesTetrahedron
+pub mod FourVertices
