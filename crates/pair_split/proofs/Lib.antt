@@ -6,6 +6,8 @@ pub mod Layers
 pub mod Places
 pub mod Start
 pub mod Eject
+pub mod Links
+pub mod Subtrees
 pub mod Replaced
 pub mod Minimal
 pub mod Names
