@@ -8,6 +8,7 @@ pub mod Start
 pub mod Eject
 pub mod Links
 pub mod Subtrees
+pub mod Written
 pub mod Replaced
 pub mod Minimal
 pub mod Names
