@@ -1,5 +1,5 @@
 -- Sides of a graph's edges, and of its family.
-use Rattle.std.proofs.Common.{◌≡◌, ℕ, ◌<◌, inl, inr, Bool, true, false, not, sym, ap, ◌∙◌, subst}
+use Rattle.std.proofs.Common.{◌≡◌, ℕ, ◌<◌, inl, inr, Bool, true, false, sym, ap, ◌∙◌, subst}
 use Rattle.std.proofs.lemmas.Bool.{both_ways, not-true}
 use Rattle.multigraph.specs.Graph.{Multigraph, edge_count}
 use Rattle.graph_theory.specs.Side.{IsCommon}

@@ -9,6 +9,8 @@ pub mod Eject
 pub mod Links
 pub mod Subtrees
 pub mod Written
+pub mod Finish
+pub mod SmallBlock
 pub mod Replaced
 pub mod Minimal
 pub mod Names

@@ -1,18 +1,16 @@
 -- The links of components, as a list of pairs, and the edges of components.
-use Rattle.std.proofs.Common.{◌≡◌, ◌≢◌, ℕ, zero, suc, ◌+◌, ◌<◌, ◌≤◌, ◌⊎◌, ◌==◌, ◌&&◌, ◌||◌, inl, inr, Bool, true, false, not, List, [], ◌∷◌, ◌++◌, length, map, filter, slice_index_or, refl, sym, ap, ap₂, ◌∙◌, subst, arith, Contains, All}
-use Rattle.std.proofs.lemmas.Bool.{cases_Bool, cases_eq, cases_lt, or_cases, or_left, or_right, and_parts, and_from, eq-eqb, eqb-true, both_ways, true≢false}
+use Rattle.std.proofs.Common.{◌≡◌, ℕ, zero, suc, ◌+◌, ◌<◌, ◌&&◌, inl, inr, true, List, [], ◌∷◌, length, map, slice_index_or, refl, sym, ap, subst, arith, Contains}
+use Rattle.std.proofs.lemmas.Bool.{cases_lt, or_cases, or_left, or_right, and_parts, and_from, eq-eqb, eqb-true, true≢false}
 use Rattle.std.proofs.lemmas.List.{get_or_past}
 use Rattle.std.proofs.lemmas.List.Elements.{Contains-append_left, Contains-append_right, Contains-append_cases}
-use Rattle.permutations.specs.Count.{some}
 use Rattle.permutations.proofs.Search.{some-from, some-witness}
 use Rattle.permutations.proofs.Relation.{same-tests}
-use Rattle.multigraph.specs.Graph.{Multigraph}
-use Rattle.pair_split.specs.Split.{component_at, items_of, item_at, StandsFor, target, links_from, all_links, LinksTo, is_edge, has_edge, is_beyond, side, CoversOnce}
+use Rattle.pair_split.specs.Split.{component_at, items_of, StandsFor, target, links_from, all_links, LinksTo, is_edge, has_edge, is_beyond, side}
 use Rattle.pair_split.specs.declared.components.What.{What}
 use Rattle.pair_split.specs.declared.components.What.TheVariants.{Real, Link}
 use Rattle.pair_split.specs.declared.components.Piece.{Piece}
 use Rattle.pair_split.specs.declared.components.Comp.{Comp}
-use Rattle.pair_split.proofs.Elements.{contains-here, contains-later, contains-cases, contains-none}
+use Rattle.pair_split.proofs.Elements.{contains-here, contains-cases, contains-none}
 
 -- an item where there is none
 abbrev pub no_piece : Piece
@@ -95,9 +93,9 @@ item-has_edge (piece ∷ pieces) e (suc i) l h = or_right (is_edge e piece.what)
 pub side-home : (comps : List Comp) (k j h i e : ℕ) → StandsFor comps h i (Real e) → ((d f : ℕ) → StandsFor comps d f (Real e) → d ≡ h) → side comps k j e ≡ is_beyond comps k j h
 side-home comps k j h i e s alone = same-tests (side comps k j e) (is_beyond comps k j h)
     (λ t.
-        let w = some-witness (length comps) (λ c. is_beyond comps k j c && has_edge (items_of comps c) e) t in
-        let p = and_parts (is_beyond comps k j w.0) (has_edge (items_of comps w.0) e) w.2 in
-        let f = has_edge-item (items_of comps w.0) e p.1 in
-        subst (λ z. is_beyond comps k j z ≡ true) (alone w.0 f.0 (f.1, f.2)) p.0)
+    let w = some-witness (length comps) (λ c. is_beyond comps k j c && has_edge (items_of comps c) e) t in
+    let p = and_parts (is_beyond comps k j w.0) (has_edge (items_of comps w.0) e) w.2 in
+    let f = has_edge-item (items_of comps w.0) e p.1 in
+    subst (λ z. is_beyond comps k j z ≡ true) (alone w.0 f.0 (f.1, f.2)) p.0)
     (λ t. some-from (length comps) (λ c. is_beyond comps k j c && has_edge (items_of comps c) e) h (stands-in comps h i (Real e) s)
-        (and_from (is_beyond comps k j h) (has_edge (items_of comps h) e) t (item-has_edge (items_of comps h) e i s.0 s.1)))
+    (and_from (is_beyond comps k j h) (has_edge (items_of comps h) e) t (item-has_edge (items_of comps h) e i s.0 s.1)))

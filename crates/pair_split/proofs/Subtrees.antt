@@ -1,6 +1,6 @@
 -- A component is on the far side of a link just where its chain of parents meets the component there.
-use Rattle.std.proofs.Common.{◌≡◌, ◌≢◌, ℕ, zero, suc, ◌+◌, ◌<◌, ◌≤◌, ◌⊎◌, ◌==◌, ◌&&◌, ◌||◌, inl, inr, Bool, true, false, not, List, [], ◌∷◌, length, filter, refl, sym, ap, ap₂, ◌∙◌, subst, arith, Contains, All}
-use Rattle.std.proofs.lemmas.Bool.{cases_Bool, cases_eq, cases_lt, or_cases, or_left, or_right, and_parts, and_from, eq-eqb, eqb-true, ne_eqb, both_ways, true≢false, not-true, not_from_true, not_from_false, false_from_ne_true}
+use Rattle.std.proofs.Common.{◌≡◌, ◌≢◌, ℕ, zero, suc, ◌<◌, ◌≤◌, ◌==◌, ◌&&◌, ◌||◌, inl, inr, Bool, true, false, not, List, length, filter, refl, sym, ap, ◌∙◌, subst, arith, Contains}
+use Rattle.std.proofs.lemmas.Bool.{cases_eq, or_cases, or_left, or_right, and_parts, and_from, eq-eqb, eqb-true, ne_eqb, both_ways, not-true, not_from_false, false_from_ne_true}
 use Rattle.permutations.specs.Relation.{connected}
 use Rattle.permutations.proofs.Relation.{same-tests, connected-reflexive, connected-symmetric, connected-transitive, connected-link, connected-closed}
 use Rattle.pair_split.specs.Split.{all_links, joins_others, is_beyond, LinksTo, IsTree, AreLinked}
@@ -129,10 +129,10 @@ module _ (comps : List Comp) (a : AreLinked comps) where
   parent-link c d l m n back = connected-link (others c) d (t.parent d)
       (contains-filter (joins_others (t.parent c) c) (d, t.parent d) (all_links 0 comps) (link-contained comps d (t.parent d) (t.to_parent d l m))
       (not_from_false (is_own c (d, t.parent d)) (false_from_ne_true (is_own c (d, t.parent d)) (λ h.
-        elim (or_cases ((d == t.parent c) && (t.parent d == c)) ((d == c) && (t.parent d == t.parent c)) h) [
-          | inl p ↦ let q = and_parts (d == t.parent c) (t.parent d == c) p in back (eqb-true d (t.parent c) q.0) (eqb-true (t.parent d) c q.1)
-          | inr p ↦ n (eqb-true d c (and_parts (d == c) (t.parent d == t.parent c) p).0)
-        ]))))
+      elim (or_cases ((d == t.parent c) && (t.parent d == c)) ((d == c) && (t.parent d == t.parent c)) h) [
+        | inl p ↦ let q = and_parts (d == t.parent c) (t.parent d == c) p in back (eqb-true d (t.parent c) q.0) (eqb-true (t.parent d) c q.1)
+        | inr p ↦ n (eqb-true d c (and_parts (d == c) (t.parent d == t.parent c) p).0)
+      ]))))
 
   -- what is below c is connected to it by the other links
   below-connected : (c : ℕ) → c < length comps → c ≢ t.root → (steps d : ℕ) → d < length comps → t.rank d < steps → is_below c d ≡ true → connected (others c) c d ≡ true
@@ -153,10 +153,10 @@ module _ (comps : List Comp) (a : AreLinked comps) where
   root-connected c (suc steps) d l k h = elim (cases_eq d t.root) [
     | inl e ↦ subst (λ z. connected (others c) z t.root ≡ true) (sym e) (connected-reflexive (others c) t.root)
     | inr m ↦
-      let n : d ≢ c = λ e. both_ways (is_below c d) h (ap (is_below c) e ∙ below-own c) in
-      let up : is_below c (t.parent d) ≡ false = sym (below-parent c d l n m) ∙ h in
-      connected-transitive (others c) d (t.parent d) t.root (parent-link c d l m n (λ e f. both_ways (is_below c (t.parent d)) up (ap (is_below c) f ∙ below-own c)))
-      (root-connected c steps (t.parent d) (t.parent_in d l m) (omega (arith, k, t.rank_falls d l m)) up)
+        let n : d ≢ c = λ e. both_ways (is_below c d) h (ap (is_below c) e ∙ below-own c) in
+        let up : is_below c (t.parent d) ≡ false = sym (below-parent c d l n m) ∙ h in
+        connected-transitive (others c) d (t.parent d) t.root (parent-link c d l m n (λ e f. both_ways (is_below c (t.parent d)) up (ap (is_below c) f ∙ below-own c)))
+        (root-connected c steps (t.parent d) (t.parent_in d l m) (omega (arith, k, t.rank_falls d l m)) up)
   ]
 
   -- the far side of the link from its parent to c is what is below c
@@ -180,5 +180,5 @@ module _ (comps : List Comp) (a : AreLinked comps) where
   side-above c d b r l = ap (λ (links : List (ℕ × ℕ)). connected links (t.parent c) d) (others-back c) ∙ same-tests (connected (others c) (t.parent c) d) (not (is_below c d))
       (λ h. not_from_false (is_below c d) (sym (connected-closed (others c) (is_below c) (all-from_contained (λ link. is_below c link.0 ≡ is_below c link.1) (others c) (other-same c)) (t.parent c) d h) ∙ parent-not_below c b r))
       (λ h. connected-transitive (others c) (t.parent c) t.root d
-        (root-connected c (suc (t.rank (t.parent c))) (t.parent c) (t.parent_in c b r) (omega arith) (parent-not_below c b r))
-        (connected-symmetric (others c) d t.root (root-connected c (suc (t.rank d)) d l (omega arith) (not-true (is_below c d) h))))
+      (root-connected c (suc (t.rank (t.parent c))) (t.parent c) (t.parent_in c b r) (omega arith) (parent-not_below c b r))
+      (connected-symmetric (others c) d t.root (root-connected c (suc (t.rank d)) d l (omega arith) (not-true (is_below c d) h))))

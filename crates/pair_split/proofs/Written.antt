@@ -1,25 +1,25 @@
 -- The components of a state, written as lists of pieces: their links form a tree.
 use Rattle.std.proofs.Common.{◌≡◌, ◌≢◌, ℕ, zero, suc, ◌+◌, ◌-◌, ◌<◌, ◌≤◌, ◌⊎◌, inl, inr, true, List, [], ◌∷◌, length, map, slice_index_or, refl, sym, ap, ap₂, ◌∙◌, subst, arith, Contains}
-use Rattle.std.proofs.lemmas.Bool.{cases_eq, cases_lt, false_from_ne_true}
+use Rattle.std.proofs.lemmas.Bool.{cases_lt, false_from_ne_true}
 use Rattle.std.proofs.lemmas.List.{get_or_past, get_or_default}
 use Rattle.std.proofs.lemmas.List.Elements.{Contains-get_or}
 use Rattle.permutations.specs.Members.{is_member, is_distinct}
 use Rattle.permutations.proofs.Members.{distinct-cons}
 use Rattle.multigraph.specs.Graph.{Multigraph, edge_count}
 use Rattle.pair_split.specs.Family.{Entry, names}
-use Rattle.pair_split.specs.Edges.{graph_entry, entry_ends, family_skeleton}
+use Rattle.pair_split.specs.Edges.{entry_ends, family_skeleton}
 use Rattle.pair_split.specs.Skeleton.{SameEnds}
-use Rattle.pair_split.specs.Split.{component_at, items_of, item_at, piece_ends, StandsFor, LinksTo, IsTree, AreLinked}
+use Rattle.pair_split.specs.Split.{component_at, items_of, item_at, piece_ends, StandsFor, IsTree, AreLinked}
 use Rattle.pair_split.specs.State.{SplitState, own_at, layer, family_at, IsWritten, AreWritten, AreComponents, IsSplitState}
 use Rattle.pair_split.specs.declared.components.Kind.{Kind}
 use Rattle.pair_split.specs.declared.components.What.{What}
 use Rattle.pair_split.specs.declared.components.What.TheVariants.{Real, Link}
 use Rattle.pair_split.specs.declared.components.Piece.{Piece}
 use Rattle.pair_split.specs.declared.components.Comp.{Comp}
-use Rattle.pair_split.proofs.Elements.{contains-here, contains-later, contains-cases, contains-none}
+use Rattle.pair_split.proofs.Elements.{contains-here, contains-later, contains-cases}
 use Rattle.pair_split.proofs.Names.{member-name, same-place}
-use Rattle.pair_split.proofs.Layers.{layer-in, layer-current, family-part, family-current, family-past}
-use Rattle.pair_split.proofs.Links.{no_piece, stands-in}
+use Rattle.pair_split.proofs.Layers.{layer-in, layer-current, family-part, family-current}
+use Rattle.pair_split.proofs.Links.{no_piece}
 
 -- an entry where there is none
 abbrev pub no_entry : Entry
@@ -49,7 +49,7 @@ written-skeleton m state k (entry ∷ entries) [] w = absurd w
 written-skeleton m state k (entry ∷ entries) (piece ∷ pieces) w = ap₂ (λ (x : ℕ × ℕ) (l : List (ℕ × ℕ)). x ∷ l) (w.0).0 (written-skeleton m state k entries pieces w.1)
 
 -- an edge is written as an edge
-written-edge : (m : ℕ) (state : SplitState) (k : ℕ) (entry : Entry) (what : What) → IsWritten m state k entry what → entry.name < m → what ≡ Real entry.name
+pub written-edge : (m : ℕ) (state : SplitState) (k : ℕ) (entry : Entry) (what : What) → IsWritten m state k entry what → entry.name < m → what ≡ Real entry.name
 written-edge m state k entry (Real e) w l = ap Real (sym w.1)
 written-edge m state k entry (Link j) w l = elim w [ inl h ↦ absurd (omega (arith, l, h.0)) | inr h ↦ absurd (omega (arith, l, h.0)) ]
 
@@ -87,15 +87,15 @@ module _ (g : Multigraph) (state : SplitState) (s : IsSplitState g state) (kind 
   pub item-ends : (k i : ℕ) → i < length (items_of comps k) → piece_ends (item_at comps k i) ≡ entry_ends (entry_at k i)
   item-ends k i l = (written-at (edge_count g) state k (family_at state k) (items_of comps k) (w.written k (item-in k i l)) i l).0
 
-  item-written : (k i : ℕ) → i < length (items_of comps k) → IsWritten (edge_count g) state k (entry_at k i) (item_at comps k i).what
+  pub item-written : (k i : ℕ) → i < length (items_of comps k) → IsWritten (edge_count g) state k (entry_at k i) (item_at comps k i).what
   item-written k i l = (written-at (edge_count g) state k (family_at state k) (items_of comps k) (w.written k (item-in k i l)) i l).1
 
   -- the virtual edge of a component stands in later layers only
-  listed-later : (c k : ℕ) → c < r → Contains (layer state k) (own_at state c) → c < k
+  pub listed-later : (c k : ℕ) → c < r → Contains (layer state k) (own_at state c) → c < k
   listed-later c k l b = let o = s.own_listed c l in omega (arith, o.1, s.once k o.0 (own_at state c) (own_at state c) b o.2 refl)
 
   -- an entry of a component: its own virtual edge at the first place, or one of its layer
-  entry-cases : (k i : ℕ) → i < length (items_of comps k) → ((k < r) × (entry_at k i ≡ own_at state k)) ⊎ Contains (layer state k) (entry_at k i)
+  pub entry-cases : (k i : ℕ) → i < length (items_of comps k) → ((k < r) × (entry_at k i ≡ own_at state k)) ⊎ Contains (layer state k) (entry_at k i)
   entry-cases k i l = elim (cases_lt k r) [
     | inl b ↦ elim (contains-cases (entry_at k i) (own_at state k) (layer state k) (subst (λ (z : List Entry). Contains z (entry_at k i)) (family-part state k b) within)) [ inl e ↦ inl (b, sym e) | inr c ↦ inr c ]
     | inr b ↦ let e : k ≡ r = omega (arith, b, item-in k i l) in
@@ -126,9 +126,9 @@ module _ (g : Multigraph) (state : SplitState) (s : IsSplitState g state) (kind 
   names-once k l = elim (cases_lt k r) [
     | inl b ↦ subst (λ (z : List Entry). is_distinct (names z) ≡ true) (sym (family-part state k b))
         (distinct-cons (own_at state k).name (names (layer state k)) (false_from_ne_true (is_member (own_at state k).name (names (layer state k))) (λ m.
-          let x = member-name (layer state k) (own_at state k).name m in
-          let o = s.own_listed k b in
-          omega (arith, o.1, s.once k o.0 x.0 (own_at state k) x.1 o.2 x.2))) (s.families k).names_once)
+        let x = member-name (layer state k) (own_at state k).name m in
+        let o = s.own_listed k b in
+        omega (arith, o.1, s.once k o.0 x.0 (own_at state k) x.1 o.2 x.2))) (s.families k).names_once)
     | inr b ↦ let e : k ≡ r = omega (arith, b, l) in
         subst (λ (z : List Entry). is_distinct (names z) ≡ true) (ap (layer state) e ∙ layer-current state ∙ sym (ap (family_at state) e ∙ family-current state)) (s.families k).names_once
   ]
@@ -174,14 +174,20 @@ module _ (g : Multigraph) (state : SplitState) (s : IsSplitState g state) (kind 
       let n : (entry_at k p.0).name ≡ edge_count g + c = ap (λ (z : Entry). z.name) p.2 ∙ s.own_names c l in
       (p.0, (p.1, written-other (edge_count g) state k (entry_at k p.0) (item_at comps k p.0).what c (item-written k p.0 p.1) n (λ e. omega (arith, e, listed-later c k l b))), p.2)
 
-  -- and in c itself one from c to k
+  -- the place of a component's own virtual edge
+  own-place : (c : ℕ) → c < r → (i : ℕ) × (i < length (items_of comps c)) × (entry_at c i ≡ own_at state c)
+  own-place c l = place-of c (own_at state c) (omega (arith, l)) (subst (λ (z : List Entry). Contains z (own_at state c)) (sym (family-part state c l)) (contains-here (own_at state c) (layer state c)))
+
+  -- it is written as a link to k
+  own-written : (c k i : ℕ) → c < r → Contains (layer state k) (own_at state c) → i < length (items_of comps c) → entry_at c i ≡ own_at state c → (item_at comps c i).what ≡ Link k
+  own-written c k i l b h e =
+      let n : (entry_at c i).name ≡ edge_count g + c = ap (λ (z : Entry). z.name) e ∙ s.own_names c l in
+      let o = written-own (edge_count g) state c (entry_at c i) (item_at comps c i).what (item-written c i h) n in
+      o.1 ∙ ap Link (s.once o.0 k (own_at state c) (own_at state c) (subst (Contains (layer state o.0)) e o.2) b refl)
+
+  -- in c itself it is a link from c to k
   pub own-link : (c k : ℕ) → c < r → Contains (layer state k) (own_at state c) → (i : ℕ) × StandsFor comps c i (Link k) × (entry_at c i ≡ own_at state c)
-  own-link c k l b =
-      let p = place-of c (own_at state c) (omega (arith, l)) (subst (λ (z : List Entry). Contains z (own_at state c)) (sym (family-part state c l)) (contains-here (own_at state c) (layer state c))) in
-      let n : (entry_at c p.0).name ≡ edge_count g + c = ap (λ (z : Entry). z.name) p.2 ∙ s.own_names c l in
-      let o = written-own (edge_count g) state c (entry_at c p.0) (item_at comps c p.0).what (item-written c p.0 p.1) n in
-      let q : o.0 ≡ k = s.once o.0 k (own_at state c) (own_at state c) (subst (Contains (layer state o.0)) p.2 o.2) b refl in
-      (p.0, (p.1, o.1 ∙ ap Link q), p.2)
+  own-link c k l b = let p = own-place c l in (p.0, (p.1, own-written c k p.0 l b p.1 p.2), p.2)
 
   -- the component in which the virtual edge of c stands as well
   up-at : (c : ℕ) → (c < r) ⊎ (r ≤ c) → ℕ
@@ -245,3 +251,13 @@ module _ (g : Multigraph) (state : SplitState) (s : IsSplitState g state) (kind 
   -- the components are linked as they should be
   pub state-linked : AreLinked comps
   state-linked = record { once = once; back = back; tree = tree }
+
+  -- the root is the current family
+  pub root-is : state-linked.tree.root ≡ r
+  unfolding state-linked tree
+  root-is = refl
+
+  -- the parent of c is the component in whose layer its virtual edge is
+  pub parent-is : (c k : ℕ) → c < r → Contains (layer state k) (own_at state c) → state-linked.tree.parent c ≡ k
+  unfolding state-linked tree
+  parent-is c k l b = up-only c k l b
