@@ -1,1 +1,2 @@
 -- Split components put together to the tree of a block.
+pub mod Merged
