@@ -1,17 +1,19 @@
 -- In a triconnected graph of at least five vertices the two ends of an edge with at most two common neighbours are not both
 -- without a private one: else the common neighbours would part the two from the rest.
-use Rattle.std.proofs.Common.{◌≡◌, ◌≢◌, ℕ, ◌<◌, ◌≤◌, ◌⊎◌, inl, inr, true, false, ◌||◌, ◌==◌, List, [], ◌∷◌, refl, sym, ap, ◌∙◌, subst, arith}
+use Rattle.std.proofs.Common.{◌≡◌, ◌≢◌, ℕ, ◌<◌, ◌≤◌, ◌⊎◌, inl, inr, Bool, true, false, ◌&&◌, ◌||◌, ◌==◌, List, [], ◌∷◌, refl, sym, ap, ◌∙◌, subst, arith}
 use Rattle.std.proofs.lemmas.Bool.{cases_Bool, cases_eq, both_ways, and_from, and_parts, false_from_ne_true, or_cases, or_left, or_right, or_from, eq-eqb, ne_eqb, eqb-true, true_from_ne_false}
 use Rattle.permutations.specs.Count.{some}
 use Rattle.permutations.specs.Members.{is_member}
 use Rattle.permutations.proofs.Members.{no_member-head, no_member-tail}
+use Rattle.permutations.proofs.Count.{count-ext}
 use Rattle.permutations.proofs.Search.{some-none}
 use Rattle.multigraph.specs.Graph.{Multigraph, edge_count, is_end, other_end, IsGraph}
-use Rattle.multigraph.proofs.OtherEnd.{other_end-twice, other_end-in, end-in}
+use Rattle.multigraph.proofs.OtherEnd.{other_end-is_end, other_end-twice, other_end-in, end-in}
 use Rattle.graph_theory.specs.Triconnected.{IsTriconnected}
-use Rattle.contractions.specs.Contraction.{are_joined, is_common, common_count, is_private}
+use Rattle.contractions.specs.Contraction.{IsContractible, ContractibleEdge, are_joined, is_common, common_count, is_private}
 use Rattle.contractions.proofs.Removed.{closed-without}
 use Rattle.contractions.proofs.Outside.{outside, out-two, two-out}
+use Rattle.contractions.proofs.Tests.{contractible-turned}
 use Rattle.contractions.proofs.Counting.{count-two}
 use Rattle.contractions.proofs.Joined.{joined-from, joined-apart, private-from}
 
@@ -77,3 +79,49 @@ orient g i t five e x y l h k c = elim (cases_Bool (some (edge_count g) (is_priv
         both_ways ((z.0 == x) || (z.0 == y))
         (or_from (z.0 == x) (z.0 == y) (ne_eqb z.0 x (λ s. o (sym s))) (ne_eqb z.0 y (λ s. no_member-head z.0 y removed r (sym s))))
         (sym same ∙ or_left (x == x) (x == y) (eq-eqb x x refl))
+
+-- the common neighbours are the same for the ends named the other way round
+pub common_count-turned : (g : Multigraph) (x y : ℕ) → common_count g x y ≡ common_count g y x
+common_count-turned g x y = count-ext g.vertex_count (is_common g x y) (is_common g y x) (λ b l. either (are_joined g x b) (are_joined g y b))
+  where
+    either : (a b : Bool) → (a && b) ≡ (b && a)
+    either a b = grind (arith, cases_Bool a, cases_Bool b)
+
+-- an edge that may be contracted, whose ends have at most two common neighbours, named such that the second has a private one
+pub record OrientedEdge (g : Multigraph) : Type 0 where
+  pub edge : ℕ
+  pub first : ℕ
+  pub second : ℕ
+  pub edge_in : edge < edge_count g
+  pub first_end : is_end g first edge ≡ true
+  pub second_end : other_end g edge first ≡ second
+  pub contractible : IsContractible g first second
+  pub few : common_count g first second ≤ 2
+  pub private : some (edge_count g) (is_private g edge first second) ≡ true
+
+-- each edge that may be contracted, whose ends have at most two common neighbours, can be named so
+pub oriented : (g : Multigraph) → IsGraph g → IsTriconnected g → 5 ≤ g.vertex_count → (c : ContractibleEdge g) → common_count g c.first c.second ≤ 2 → OrientedEdge g
+oriented g i t five c few = elim (orient g i t five c.edge c.first c.second c.edge_in c.first_end c.second_end few) [
+  | inl p ↦ record {
+    edge = c.edge;
+    first = c.first;
+    second = c.second;
+    edge_in = c.edge_in;
+    first_end = c.first_end;
+    second_end = c.second_end;
+    contractible = c.contractible;
+    few = few;
+    private = p;
+  }
+  | inr p ↦ record {
+    edge = c.edge;
+    first = c.second;
+    second = c.first;
+    edge_in = c.edge_in;
+    first_end = subst (λ (q : ℕ). is_end g q c.edge ≡ true) c.second_end (other_end-is_end g c.edge c.first);
+    second_end = ap (other_end g c.edge) (sym c.second_end) ∙ other_end-twice g c.edge c.first i c.edge_in c.first_end;
+    contractible = contractible-turned g c.first c.second c.contractible;
+    few = omega (arith, common_count-turned g c.first c.second);
+    private = p;
+  }
+]

@@ -11,6 +11,7 @@
 //   Neighbours  attach: a vertex has a neighbour in each component that is left without it and two others
 //   Tests       connected_without-true, connected_without-from, contractible-true, contractible-from: the tests are exact
 //   Growth      grown: a component that gets greater, of an edge and a third vertex that part the graph
+//   PrivateNeighbours orient, oriented: an edge named such that its second end has a private neighbour
 //   Joined      joined-edge, joined-from, simple-same: vertices that an edge joins; kept-from, dropped-joined, private-parts
 //   Contracted  end-forth, other-forth, end-back: the ends of an edge of a contraction, from those that it had
 //   ContractedTriconnected  connected-contracted: what is connected stays so in a contraction
