@@ -4,3 +4,4 @@ pub mod FreePaths
 pub mod Checked
 mod Examples
 pub mod Meetings
+pub mod Reordering

@@ -1,6 +1,6 @@
 -- A subdivision path by path: two paths meet only in branch vertices, and a path meets no branch vertex but its ends.
 use Rattle.std.proofs.Common.{◌≡◌, ◌≢◌, ℕ, zero, suc, ◌+◌, ◌<◌, ◌⊎◌, inl, inr, true, false, List, [], ◌∷◌, ◌++◌, length, get_or, refl, sym, ap, ◌∙◌, subst, arith}
-use Rattle.std.proofs.lemmas.Bool.{both_ways, false_from_ne_true, true≢false}
+use Rattle.std.proofs.lemmas.Bool.{both_ways, false_from_ne_true, cases_order, true≢false}
 use Rattle.permutations.specs.Members.{is_member, is_distinct}
 use Rattle.permutations.proofs.Members.{member-head, member-tail, member-cases, member-append_left, member-append_right, member-append_cases, distinct-head, distinct-tail, distinct-append, distinct-append_left, distinct-append_right, distinct-append_apart}
 use Rattle.permutations.proofs.Arrangements.{member-at}
@@ -101,3 +101,82 @@ pub record MeetAtBranches (g : Multigraph) (kind : Pattern) (branch : List ℕ) 
   pub branches : is_distinct branch ≡ true
   pub ends : (k : ℕ) → k < length (pattern_edges kind) → (z : ℕ) → is_member z (vertices_at g kind branch paths k) ≡ true → is_member z branch ≡ true → (branch_at branch (pair_at kind k).0 ≡ z) ⊎ (branch_at branch (pair_at kind k).1 ≡ z)
   pub common : (k j : ℕ) → k < length (pattern_edges kind) → j < length (pattern_edges kind) → k ≢ j → (z : ℕ) → is_member z (vertices_at g kind branch paths k) ≡ true → is_member z (vertices_at g kind branch paths j) ≡ true → is_member z branch ≡ true
+
+-- a branch vertex is a member of the list
+pub branch-member : (kind : Pattern) (branch : List ℕ) → length branch ≡ branch_count kind → (i : ℕ) → i < branch_count kind → is_member (branch_at branch i) branch ≡ true
+branch-member kind branch n i l = member-at branch i 0 (subst (λ (c : ℕ). i < c) (sym n) l)
+
+-- the two branch vertices of an edge of the pattern are members of the list
+pub ends-member : (kind : Pattern) (branch : List ℕ) → length branch ≡ branch_count kind → (k : ℕ) → k < length (pattern_edges kind) → (is_member (branch_at branch (pair_at kind k).0) branch ≡ true) × (is_member (branch_at branch (pair_at kind k).1) branch ≡ true)
+ends-member kind branch n k l =
+    let r = pair-rises kind k l in
+    let w : (pair_at kind k).0 < branch_count kind = omega arith in
+    (branch-member kind branch n (pair_at kind k).0 w, branch-member kind branch n (pair_at kind k).1 r.1)
+
+-- they are different
+pub ends-differ : (kind : Pattern) (branch : List ℕ) → length branch ≡ branch_count kind → is_distinct branch ≡ true → (k : ℕ) → k < length (pattern_edges kind) → branch_at branch (pair_at kind k).0 ≢ branch_at branch (pair_at kind k).1
+ends-differ kind branch n d k l =
+    let r = pair-rises kind k l in
+    distinct-places branch (pair_at kind k).0 (pair_at kind k).1 d r.0 (subst (λ (c : ℕ). (pair_at kind k).1 < c) (sym n) r.1)
+
+-- the paths of a subdivision meet only in branch vertices
+pub subdivision-meetings : (g : Multigraph) (kind : Pattern) (branch : List ℕ) (paths : List (List ℕ)) → IsSubdivision g kind branch paths → MeetAtBranches g kind branch paths
+subdivision-meetings g kind branch paths s = record {
+  branches = d;
+  ends = λ k l z m b. elim (parts k l z m) [
+    | inl e ↦ inl e
+    | inr (inl i) ↦ absurd (both_ways (is_member z all) (distinct-append_apart branch all s.apart z b) (inner-among g branch (pattern_edges kind) paths k s.one_each l z i))
+    | inr (inr e) ↦ inr e
+  ];
+  common = λ k j lk lj n z mk mj. elim (parts k lk z mk) [
+    | inl e ↦ subst (λ (w : ℕ). is_member w branch ≡ true) e (ends-member kind branch s.branches k lk).0
+    | inr (inl i) ↦ elim (parts j lj z mj) [
+      | inl e ↦ subst (λ (w : ℕ). is_member w branch ≡ true) e (ends-member kind branch s.branches j lj).0
+      | inr (inl h) ↦ absurd (twice k j lk lj n z i h)
+      | inr (inr e) ↦ subst (λ (w : ℕ). is_member w branch ≡ true) e (ends-member kind branch s.branches j lj).1
+    ]
+    | inr (inr e) ↦ subst (λ (w : ℕ). is_member w branch ≡ true) e (ends-member kind branch s.branches k lk).1
+  ];
+}
+  where
+    all : List ℕ
+    all = all_inner g branch (pattern_edges kind) paths
+
+    d : is_distinct branch ≡ true
+    d = distinct-append_left branch all s.apart
+
+    parts : (k : ℕ) → k < length (pattern_edges kind) → (z : ℕ) → is_member z (vertices_at g kind branch paths k) ≡ true → (branch_at branch (pair_at kind k).0 ≡ z) ⊎ (is_member z (inner_at g branch (pattern_edges kind) paths k) ≡ true) ⊎ (branch_at branch (pair_at kind k).1 ≡ z)
+    parts k l z m = met-parts g (branch_at branch (pair_at kind k).0) (path_at paths k) (branch_at branch (pair_at kind k).1) (s.are_paths k l) (ends-differ kind branch s.branches d k l) z m
+
+    twice : (k j : ℕ) → k < length (pattern_edges kind) → j < length (pattern_edges kind) → k ≢ j → (z : ℕ) → is_member z (inner_at g branch (pattern_edges kind) paths k) ≡ true → is_member z (inner_at g branch (pattern_edges kind) paths j) ≡ true → ⊥
+    twice k j lk lj n z a b = elim (cases_order k j) [
+      | inl e ↦ n e
+      | inr (inl w) ↦ inner-before g branch (pattern_edges kind) paths k j s.one_each (distinct-append_right branch all s.apart) w lj z a b
+      | inr (inr w) ↦ inner-before g branch (pattern_edges kind) paths j k s.one_each (distinct-append_right branch all s.apart) w lk z b a
+    ]
+
+-- paths between branch vertices that meet only there are a subdivision
+pub subdivision-from_meetings : (g : Multigraph) (kind : Pattern) (branch : List ℕ) (paths : List (List ℕ)) → length branch ≡ branch_count kind → ((i : ℕ) → i < branch_count kind → branch_at branch i < g.vertex_count) → length paths ≡ length (pattern_edges kind) → ((k : ℕ) → k < length (pattern_edges kind) → IsPath g (branch_at branch (pair_at kind k).0) (path_at paths k) (branch_at branch (pair_at kind k).1)) → MeetAtBranches g kind branch paths → IsSubdivision g kind branch paths
+subdivision-from_meetings g kind branch paths n w s p m = record {
+  branches = n;
+  branch_in = w;
+  one_each = s;
+  are_paths = p;
+  apart = distinct-append branch all m.branches
+      (inner-distinct g branch (pattern_edges kind) paths
+      (λ k l. inside-distinct g (branch_at branch (pair_at kind k).0) (path_at paths k) (branch_at branch (pair_at kind k).1) (p k l) (differ k l))
+      (λ k j o l z a b. let lk : k < length (pattern_edges kind) = omega arith in let kj : k ≢ j = omega arith in off k lk z a (m.common k j lk l kj z (inside k lk z a).0 (inside j l z b).0)))
+      (λ z b. false_from_ne_true (is_member z all) (λ t. let r = among-inner g branch (pattern_edges kind) paths z t in off r.0 r.1 z r.2 b));
+}
+  where
+    all : List ℕ
+    all = all_inner g branch (pattern_edges kind) paths
+
+    differ : (k : ℕ) → k < length (pattern_edges kind) → branch_at branch (pair_at kind k).0 ≢ branch_at branch (pair_at kind k).1
+    differ k l = ends-differ kind branch n m.branches k l
+
+    inside : (k : ℕ) → k < length (pattern_edges kind) → (z : ℕ) → is_member z (inner_at g branch (pattern_edges kind) paths k) ≡ true → (is_member z (vertices_at g kind branch paths k) ≡ true) × (z ≢ branch_at branch (pair_at kind k).0) × (z ≢ branch_at branch (pair_at kind k).1)
+    inside k l z a = inside-met g (branch_at branch (pair_at kind k).0) (path_at paths k) (branch_at branch (pair_at kind k).1) (p k l) (differ k l) z a
+
+    off : (k : ℕ) → k < length (pattern_edges kind) → (z : ℕ) → is_member z (inner_at g branch (pattern_edges kind) paths k) ≡ true → is_member z branch ≡ true → ⊥
+    off k l z a b = elim (m.ends k l z (inside k l z a).0 b) [ inl e ↦ (inside k l z a).1 (sym e) | inr e ↦ (inside k l z a).2 (sym e) ]
