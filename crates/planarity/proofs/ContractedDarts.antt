@@ -11,6 +11,7 @@ use Rattle.faces.proofs.DartLemmas.{dart-edge, tail-even, tail-odd, dart_from-ed
 use Rattle.faces.proofs.MapSteps.{tail-twin}
 use Rattle.faces.proofs.MapParts.{place, place-edge}
 use Rattle.planarity.specs.Expansion.{moved, stays}
+use Rattle.planarity.proofs.SimpleDarts.{tail-other}
 
 -- a dart keeps its side when its edge takes another number
 pub moved-edge : (edge : ℕ → ℕ) (d : ℕ) → moved edge d / 2 ≡ edge (d / 2)
@@ -108,6 +109,10 @@ module _ (g h : Multigraph) (e x y : ℕ) (edge vertex : ℕ → ℕ) (ok : IsGr
     λ q. n (ap (λ z. z / 2) q ∙ dart_from-edge g x e),
     λ q. n (ap (λ z. z / 2) q ∙ twin-edge (dart_from g x e) ∙ dart_from-edge g x e),
   )
+
+  -- and the ends of the edge are different
+  pub ends-differ : x ≡ y → ⊥
+  ends-differ q = tail-other g (dart_from g x e) ok middle-below (middle-twin ∙ sym q ∙ sym middle-tail)
 
   -- a dart of the contracted graph is one of a kept edge
   pub moved-in : (d : ℕ) → d < dart_count h → moved edge d < dart_count g

@@ -30,7 +30,7 @@ use Rattle.planarity.specs.Expansion.{moved, stays, IsContractedSystem}
 use Rattle.planarity.proofs.TriangleLoop.{two-orbit}
 use Rattle.planarity.proofs.SimpleDarts.{tail-other, simple-dart}
 use Rattle.planarity.proofs.ContractedVertices.{vertices-from}
-use Rattle.planarity.proofs.ContractedDarts.{stays-edge, stays-kept, stays-twin, stays-gone, contracted-not_kept, middle-below, middle-tail, middle-twin, middle-cases, placed-in, placed-back}
+use Rattle.planarity.proofs.ContractedDarts.{stays-edge, stays-kept, stays-twin, stays-gone, contracted-not_kept, middle-below, middle-tail, middle-twin, middle-cases, ends-differ, placed-in, placed-back}
 use Rattle.planarity.proofs.ContractedSystem.{left-vertices, small-alone}
 use Rattle.planarity.proofs.RestrictedSteps.{AreSingle, restriction-tells, contraction-tells}
 use Rattle.planarity.proofs.JoinedDarts.{kept-away, kept-private, joined-dart, DartFromTo, Dropped, dropped-dart}
@@ -57,9 +57,8 @@ module _ (g h : Multigraph) (e x y : ℕ) (edge vertex : ℕ → ℕ) (ok : IsGr
   abbrev kept : ℕ → Bool
   kept d = is_kept g e x y (d / 2)
 
-  -- the ends are different
-  ends-differ : x ≡ y → ⊥
-  ends-differ q = tail-other g middle ok (middle-below g h e x y edge vertex ok con) (middle-twin g h e x y edge vertex ok con ∙ sym q ∙ sym (middle-tail g h e x y edge vertex ok con))
+  differ : x ≡ y → ⊥
+  differ = ends-differ g h e x y edge vertex ok con
 
   middle-stays : stays g e x y middle ≡ true
   middle-stays = stays-edge g e x y middle (dart_from-edge g x e)
@@ -75,7 +74,7 @@ module _ (g h : Multigraph) (e x y : ℕ) (edge vertex : ℕ → ℕ) (ok : IsGr
   x-stays : (d : ℕ) → d < dart_count g → tail g d ≡ x → stays g e x y d ≡ true
   x-stays d l q = elim (cases_eq (d / 2) e) [
     | inl i ↦ stays-edge g e x y d i
-    | inr n ↦ stays-kept g e x y d (kept-away g ok e x y d l n (λ i. ends-differ (sym q ∙ i)) (λ i. n (ap (λ z. z / 2) (only-middle d l q i) ∙ dart_from-edge g x e)))
+    | inr n ↦ stays-kept g e x y d (kept-away g ok e x y d l n (λ i. differ (sym q ∙ i)) (λ i. n (ap (λ z. z / 2) (only-middle d l q i) ∙ dart_from-edge g x e)))
   ]
 
   -- x has another dart than that of the edge and a given one
@@ -243,7 +242,7 @@ module _ (g h : Multigraph) (e x y : ℕ) (edge vertex : ℕ → ℕ) (ok : IsGr
       one-left : (d : ℕ) → d < dart_count g → left_one d ≡ left_two d
       one-left = contraction-tells (edge_count g) left_one (restricted (dart_count g) (stays g e x y) (dart_before g r)) left_two (restricted (dart_count g) (stays g e x y) (dart_before g q))
           (left-map r s plane) (left-map q u plane_too) (tail g) (left-tail r s plane) (left-tail q u plane_too) middle (middle-below g h e x y edge vertex ok con)
-          (λ i. ends-differ (sym (middle-tail g h e x y edge vertex ok con) ∙ i ∙ middle-twin g h e x y edge vertex ok con))
+          (λ i. differ (sym (middle-tail g h e x y edge vertex ok con) ∙ i ∙ middle-twin g h e x y edge vertex ok con))
           (middle-moves r s plane) (twin-moves r s plane) (middle-moves q u plane_too) (twin-moves q u plane_too) one-small
 
       -- and each dart left out has its place

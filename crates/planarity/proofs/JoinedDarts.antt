@@ -1,7 +1,7 @@
 -- Vertices that are joined have a dart from the one to the other; and which darts are kept when an edge is contracted.
 use Rattle.std.proofs.Common.{◌≡◌, ℕ, ◌/◌, ◌<◌, ◌⊎◌, inl, inr, true, false, not, ◌&&◌, ◌==◌, refl, sym, ap, ◌∙◌, subst}
 use Rattle.std.proofs.lemmas.Bool.{cases_eq, both_ways, and_parts, and_from, not-true, not_from_false, eq-eqb, eqb-true, ne_eqb, false_from_ne_true, true_from_ne_false}
-use Rattle.permutations.specs.Count.{some}
+use Rattle.permutations.specs.Count.{some, least}
 use Rattle.permutations.proofs.Search.{some-from, some-witness, least-below, least-passes}
 use Rattle.multigraph.specs.Graph.{Multigraph, IsGraph, edge_count, is_end, other_end}
 use Rattle.multigraph.proofs.OtherEnd.{other_end-twice}
@@ -12,7 +12,6 @@ use Rattle.dart_maps.proofs.Darts.{twin-twin, twin-below, twin-edge}
 use Rattle.faces.specs.Euler.{tail, dart_from, dart_count}
 use Rattle.faces.proofs.DartLemmas.{dart-edge, tail-end, dart_from-edge, dart_from-below, dart_from-tail}
 use Rattle.faces.proofs.MapSteps.{tail-twin}
-use Rattle.planarity.specs.Expansion.{dart_between}
 
 -- a dart from u to v
 abbrev pub DartFromTo : Multigraph → ℕ → ℕ → Type 0
@@ -39,7 +38,11 @@ dart-joined g ok u v d l a b = some-from (edge_count g) (λ f. is_end g u f && (
     (and_from (is_end g u (d / 2)) (other_end g (d / 2) u == v) (subst (λ w. is_end g w (d / 2) ≡ true) a (tail-end g d))
     (eq-eqb (other_end g (d / 2) u) v (ap (other_end g (d / 2)) (sym a) ∙ sym (tail-twin g d ok l) ∙ b)))
 
--- the first dart between vertices that have one
+-- the first dart that leads from u to v
+abbrev pub dart_between : Multigraph → ℕ → ℕ → ℕ
+dart_between g u v = least (dart_count g) (λ d. (tail g d == u) && (tail g (twin d) == v))
+
+-- it does where there is one
 pub between-is : (g : Multigraph) (u v d : ℕ) → d < dart_count g → tail g d ≡ u → tail g (twin d) ≡ v → (dart_between g u v < dart_count g) × (tail g (dart_between g u v) ≡ u) × (tail g (twin (dart_between g u v)) ≡ v)
 between-is g u v d l a b =
     let found : some (dart_count g) (λ z. (tail g z == u) && (tail g (twin z) == v)) ≡ true = some-from (dart_count g) (λ z. (tail g z == u) && (tail g (twin z) == v)) d l (and_from (tail g d == u) (tail g (twin d) == v) (eq-eqb (tail g d) u a) (eq-eqb (tail g (twin d)) v b)) in

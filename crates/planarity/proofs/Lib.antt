@@ -33,3 +33,4 @@ pub mod CircleFaces
 pub mod FourVerticesDarts
 pub mod FourVerticesTetrahedron
 pub mod FourVertices
+pub mod ExpandedApart

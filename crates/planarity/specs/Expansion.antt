@@ -1,11 +1,10 @@
 -- Rotation systems of a graph and of the graph with an edge contracted: from the one to the other and back.
-use Rattle.std.specs.Prelude.{◌≡◌, ◌≢◌, ℕ, ◌+◌, ◌*◌, ◌/◌, ◌%◌, ◌<◌, ◌⊎◌, Bool, true, ◌&&◌, ◌||◌, ◌==◌, if◌then◌else◌, List}
-use Rattle.permutations.specs.Count.{least}
-use Rattle.permutations.specs.Exchange.{exchange, restricted}
+use Rattle.std.specs.Prelude.{◌≡◌, ◌≢◌, ℕ, ◌+◌, ◌*◌, ◌/◌, ◌%◌, ◌<◌, ◌⊎◌, Bool, true, ◌||◌, ◌==◌, List}
+use Rattle.permutations.specs.Exchange.{restricted}
 use Rattle.multigraph.specs.Graph.{Multigraph}
 use Rattle.contractions.specs.Contraction.{are_joined, is_kept}
 use Rattle.dart_maps.specs.Map.{twin}
-use Rattle.dart_maps.specs.Changes.{contracted, inserted}
+use Rattle.dart_maps.specs.Changes.{contracted}
 use Rattle.faces.specs.Euler.{tail, dart_from, dart_count}
 use Rattle.faces.specs.Maps.{dart_after, dart_before}
 
@@ -37,22 +36,3 @@ pub record FallsInRuns (g h : Multigraph) (x y : ℕ) (edge : ℕ → ℕ) (s : 
   pub run_of_x : (d : ℕ) → d < dart_count h → tail g (moved edge d) ≡ x → d ≢ last → tail g (moved edge (dart_after h s d)) ≡ x
   pub run_of_y : (d : ℕ) → d < dart_count h → tail g (moved edge d) ≡ y → dart_after h s d ≢ first → tail g (moved edge (dart_after h s d)) ≡ y
   pub common : (d : ℕ) → d < dart_count h → tail g (moved edge d) ≡ x → are_joined g y (tail g (twin (moved edge d))) ≡ true → (d ≡ first) ⊎ (d ≡ last)
-
--- the first dart that leads from u to v
-abbrev pub dart_between : Multigraph → ℕ → ℕ → ℕ
-dart_between g u v = least (dart_count g) (λ d. (tail g d == u) && (tail g (twin d) == v))
-
--- the steps of s, on the darts of g that are kept; `place` gives the edge of the contracted graph that an edge of g is
-abbrev pub carried : Multigraph → Multigraph → ℕ → ℕ → ℕ → (ℕ → ℕ) → (ℕ → ℕ) → List (List ℕ) → ℕ → ℕ
-carried g h e x y edge place s d = (if is_kept g e x y (d / 2) then moved edge (dart_after h s (moved place d)) else d)
-
--- the merged vertex parted at the runs, with the edge e between the parts again: at x behind the dart `last`, at y behind the
--- dart `end`
-abbrev pub parted : Multigraph → ℕ → ℕ → ℕ → ℕ → (ℕ → ℕ) → ℕ → ℕ
-parted g e x last end next = inserted (dart_from g x e) last end (exchange last end next)
-
--- the edge from y to the vertex where the dart d arrives, if there is one, put in behind the dart p at that vertex and behind
--- q at y
-abbrev pub joined_again : Multigraph → ℕ → ℕ → ℕ → ℕ → (ℕ → ℕ) → ℕ → ℕ
-joined_again g y d p q next z =
-    (if are_joined g y (tail g (twin d)) then inserted (dart_between g (tail g (twin d)) y) p q next z else next z)
