@@ -1,8 +1,7 @@
 -- From a rotation system of the graph with an edge contracted: the merged vertex parted, and the edge put in again.
-use Rattle.std.proofs.Common.{◌≡◌, ◌≢◌, ℕ, ◌*◌, ◌/◌, ◌<◌, ◌⊎◌, inl, inr, Bool, true, false, ◌||◌, ◌==◌, List, refl, sym, ap, ◌∙◌, subst, arith}
+use Rattle.std.proofs.Common.{◌≡◌, ℕ, ◌*◌, ◌/◌, ◌<◌, inl, inr, Bool, true, false, ◌||◌, ◌==◌, List, refl, sym, ap, ◌∙◌}
 use Rattle.std.proofs.lemmas.Bool.{cases_Bool, cases_eq, both_ways, eq-eqb, eqb-true, ne_eqb, or_left, or_right, or_from, false_from_ne_true}
-use Rattle.permutations.specs.Permutation.{Permutes, same_orbit}
-use Rattle.permutations.specs.Relation.{join}
+use Rattle.permutations.specs.Permutation.{same_orbit}
 use Rattle.permutations.specs.Exchange.{exchange}
 use Rattle.permutations.proofs.Relation.{same-tests, kernel-equivalence, join-cases}
 use Rattle.permutations.proofs.Permutations.{permutes-back, permutes-one-to-one, exchange-left, exchange-right, exchange-other, exchange-cases}
@@ -28,7 +27,7 @@ use Rattle.faces.proofs.MapCounts.{plane-map}
 use Rattle.faces.proofs.MapParts.{place}
 use Rattle.planarity.specs.Expansion.{moved, FallsInRuns}
 use Rattle.planarity.proofs.ContractedVertices.{AreVertices, vertices-apart, put-vertices}
-use Rattle.planarity.proofs.ContractedDarts.{contracted-not_kept, middle-below, middle-tail, middle-twin, ends-differ, moved-tail, placed-back, back-placed}
+use Rattle.planarity.proofs.ContractedDarts.{contracted-not_kept, middle-below, middle-tail, middle-twin, ends-differ, moved-tail, back-placed}
 use Rattle.planarity.proofs.CarriedMaps.{IsNumbering, outer, outer-live, outer-dead, outer-permutes, numbered-orbit}
 use Rattle.planarity.proofs.ContractedSystem.{kept-numbering, kept-renumbering}
 
@@ -213,12 +212,12 @@ module _ (g h : Multigraph) (e x y : ℕ) (edge vertex : ℕ → ℕ) (ok : IsGr
       behind : tail g c ≡ tail g d → same_vertex m split c d ≡ true
       behind q = elim (join-cases (same_vertex m split) a_last b_last c d
           (sym (exchange-split (2 * m) big big_back big-map a_last b_last a_last-below b_last-below ab together c d) ∙ big-vertex c d l k u w ∙ eq-eqb (vertex (tail g c)) (vertex (tail g d)) (ap vertex q))) [
-        | inl v ↦ v
-        | inr o ↦ elim o [
-          | inl v ↦ absurd (ends-differ g h e x y edge vertex ok con (sym runs.last_leaves ∙ sym (forth c a_last v.0) ∙ q ∙ sym (forth b_last d v.1) ∙ runs.before_first))
-          | inr v ↦ absurd (ends-differ g h e x y edge vertex ok con (sym runs.last_leaves ∙ forth a_last d v.1 ∙ sym q ∙ forth c b_last v.0 ∙ runs.before_first))
-        ]
-      ]
+            | inl v ↦ v
+            | inr o ↦ elim o [
+              | inl v ↦ absurd (ends-differ g h e x y edge vertex ok con (sym runs.last_leaves ∙ sym (forth c a_last v.0) ∙ q ∙ sym (forth b_last d v.1) ∙ runs.before_first))
+              | inr v ↦ absurd (ends-differ g h e x y edge vertex ok con (sym runs.last_leaves ∙ forth a_last d v.1 ∙ sym q ∙ forth c b_last v.0 ∙ runs.before_first))
+            ]
+          ]
         where
           together : same_orbit (2 * m) big a_last b_last ≡ true
           together = big-vertex a_last b_last a_last-below b_last-below a_last-kept b_last-kept

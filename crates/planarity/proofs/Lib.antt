@@ -34,3 +34,4 @@ pub mod FourVerticesDarts
 pub mod FourVerticesTetrahedron
 pub mod FourVertices
 pub mod ExpandedApart
+pub mod ExpandedPlane
