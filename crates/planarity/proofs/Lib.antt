@@ -35,3 +35,5 @@ pub mod FourVerticesTetrahedron
 pub mod FourVertices
 pub mod ExpandedApart
 pub mod ExpandedPlane
+pub mod CircleRuns
+pub mod CircleArcs
