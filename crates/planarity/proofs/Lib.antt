@@ -37,3 +37,4 @@ pub mod ExpandedApart
 pub mod ExpandedPlane
 pub mod CircleRuns
 pub mod CircleArcs
+pub mod CircleWalks
