@@ -21,14 +21,9 @@ use Rattle.faces.proofs.DartLemmas.{dart-edge, tail-end, face_step-permutes}
 use Rattle.faces.proofs.MapSteps.{tail-twin, map-permutes}
 use Rattle.faces.proofs.MapVertices.{vertex-tail}
 use Rattle.faces.proofs.MapLists.{map-member, distinct-map}
-use Rattle.planarity.specs.Circle.{face_arc, part_starts, LeadOn, IsCircle}
+use Rattle.planarity.specs.Circle.{face_arc, part_starts, LeadOn, IsCircle, spread}
 use Rattle.planarity.proofs.CircleRuns.{Runs, runs-cut, runs-orbit}
 use Rattle.planarity.proofs.CircleArcs.{away, away-tail, away-twin, step-tail, left, arc-filled, arcs, arcs-run, arcs-member, arcs-distinct}
-
--- a part is a dart with further darts: all darts of the parts
-abbrev pub spread : List (ℕ × List ℕ) → List ℕ
-spread [] = []
-spread (part ∷ parts) = (part.0 ∷ part.1) ++ spread parts
 
 module _ (h : Multigraph) (s : List (List ℕ)) (ok : IsGraph h) (rot : IsRotationSystem h s) (simple : IsSimple h) (w : ℕ)
     (apart : (p q : ℕ) → p < dart_count h → q < dart_count h → p ≢ q → tail h p ≡ tail h q → same_face (edge_count h) (dart_after h s) p q ≡ false)

@@ -38,3 +38,4 @@ pub mod ExpandedPlane
 pub mod CircleRuns
 pub mod CircleArcs
 pub mod CircleWalks
+pub mod Circle

@@ -2,9 +2,9 @@
 use Rattle.std.specs.Prelude.{◌≡◌, ℕ, ◌-◌, ◌/◌, ◌<◌, false, true, List, [], ◌∷◌, ◌++◌, length, map}
 use Rattle.permutations.specs.Members.{is_member, is_distinct}
 use Rattle.permutations.specs.Ring.{images, orbit_length}
-use Rattle.multigraph.specs.Graph.{Multigraph}
+use Rattle.multigraph.specs.Graph.{Multigraph, other_end}
 use Rattle.graph_theory.specs.Path.{walk_end, walk_starts, IsWalk}
-use Rattle.faces.specs.Euler.{dart_count, face_step}
+use Rattle.faces.specs.Euler.{dart_count, dart_from, face_step}
 
 -- a part is a vertex with edges from there on: all vertices at which edges of the parts are entered
 abbrev pub part_starts : Multigraph → List (ℕ × List ℕ) → List ℕ
@@ -31,3 +31,12 @@ face_arc h s d = images (face_step h s) (orbit_length (dart_count h) (face_step 
 abbrev pub arc_edges : Multigraph → List (List ℕ) → List ℕ → List ℕ
 arc_edges h s [] = []
 arc_edges h s (d ∷ ds) = map (λ c. c / 2) (face_arc h s d) ++ arc_edges h s ds
+
+-- a group is an edge at w with further edges at w: all edges of the groups
+abbrev pub spread : List (ℕ × List ℕ) → List ℕ
+spread [] = []
+spread (group ∷ groups) = (group.0 ∷ group.1) ++ spread groups
+
+-- the walk of each group: from the neighbour of w at its first edge, along the arcs of its edges
+abbrev pub circle_parts : Multigraph → List (List ℕ) → ℕ → List (ℕ × List ℕ) → List (ℕ × List ℕ)
+circle_parts h s w groups = map (λ group. (other_end h group.0 w, arc_edges h s (map (dart_from h w) (group.0 ∷ group.1)))) groups
