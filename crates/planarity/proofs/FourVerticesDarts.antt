@@ -21,7 +21,7 @@ use Rattle.faces.proofs.MapSteps.{tail-twin, map-permutes}
 use Rattle.faces.proofs.MapVertices.{map-vertex}
 use Rattle.faces.proofs.MapCounts.{plane-map, map-plane}
 use Rattle.faces.proofs.MapToLists.{map-orders}
-use Rattle.planarity.specs.Expansion.{dart_between}
+use Rattle.planarity.proofs.JoinedDarts.{dart_between}
 use Rattle.planarity.proofs.SimpleDarts.{simple-dart}
 use Rattle.planarity.proofs.CarriedMaps.{IsNumbering, numbered-orbit}
 
