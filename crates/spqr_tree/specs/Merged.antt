@@ -1,6 +1,6 @@
 -- Components merged into groups: the links between the components of a group go, those out of it lead to groups. Nothing is
 -- said of the order of the pieces, nor of the order of the two ends of a piece.
-use Rattle.std.specs.Prelude.{◌≡◌, ◌≢◌, ℕ, ◌+◌, ◌<◌, Bool, true, not, ◌&&◌, ◌==◌, cond, List, length, map, filter}
+use Rattle.std.specs.Prelude.{◌≡◌, ℕ, ◌<◌, Bool, true, not, ◌&&◌, ◌==◌, cond, List, length, map, filter}
 use Rattle.permutations.specs.Count.{sum_below}
 use Rattle.pair_split.specs.Skeleton.{IsSkeleton}
 use Rattle.pair_split.specs.Split.{component_at, items_of, piece_ends, LinksTo}

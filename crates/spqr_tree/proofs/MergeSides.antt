@@ -1,0 +1,119 @@
+-- The two sides of a link, by what tests on the components respect the links.
+use Rattle.std.proofs.Common.{◌≡◌, ℕ, zero, suc, ◌<◌, ◌⊎◌, ◌==◌, ◌&&◌, ◌||◌, inl, inr, Bool, true, false, not, List, length, filter, sym, ap, ◌∙◌, subst, arith}
+use Rattle.std.proofs.lemmas.Bool.{cases_Bool, cases_eq, or_cases, and_parts, eqb-true, not_from_false, false_from_ne_true}
+use Rattle.permutations.specs.Relation.{connected}
+use Rattle.permutations.proofs.Relation.{connected-reflexive, connected-symmetric, connected-transitive, connected-link, same-tests}
+use Rattle.pair_split.specs.Split.{all_links, joins_others, is_beyond, LinksTo, AreLinked}
+use Rattle.pair_split.specs.declared.components.Comp.{Comp}
+use Rattle.pair_split.proofs.Elements.{contains-filter}
+use Rattle.pair_split.proofs.Links.{link-contained, stands-in}
+use Rattle.pair_split.proofs.Subtrees.{link-in, side-below, side-above, below-own, parent-not_below}
+
+-- the link is not the one between k and j
+abbrev pub IsOther : ℕ → ℕ → ℕ → ℕ → Type 0
+IsOther k j x y = (x ≡ k → y ≡ j → ⊥) × (x ≡ j → y ≡ k → ⊥)
+
+-- so it is one of the links that join others
+joins-other : (k j x y : ℕ) → IsOther k j x y → joins_others k j (x, y) ≡ true
+joins-other k j x y n = not_from_false (((x == k) && (y == j)) || ((x == j) && (y == k))) (false_from_ne_true (((x == k) && (y == j)) || ((x == j) && (y == k))) (λ h.
+    elim (or_cases ((x == k) && (y == j)) ((x == j) && (y == k)) h) [
+      | inl a ↦ let p = and_parts (x == k) (y == j) a in n.0 (eqb-true x k p.0) (eqb-true y j p.1)
+      | inr a ↦ let p = and_parts (x == j) (y == k) a in n.1 (eqb-true x j p.0) (eqb-true y k p.1)
+    ]))
+
+-- a link is another one, or joins k and j
+other-cases : (k j x y : ℕ) → IsOther k j x y ⊎ ((x ≡ k) × (y ≡ j)) ⊎ ((x ≡ j) × (y ≡ k))
+other-cases k j x y = elim (cases_eq x k) [
+  | inl e ↦ elim (cases_eq y j) [
+    | inl i ↦ inr (inl (e, i))
+    | inr i ↦ elim (cases_eq x j) [
+      | inl f ↦ elim (cases_eq y k) [ inl h ↦ inr (inr (f, h)) | inr h ↦ inl ((λ p q. i q), (λ p q. h q)) ]
+      | inr f ↦ inl ((λ p q. i q), (λ p q. f p))
+    ]
+  ]
+  | inr e ↦ elim (cases_eq x j) [
+    | inl f ↦ elim (cases_eq y k) [ inl h ↦ inr (inr (f, h)) | inr h ↦ inl ((λ p q. e p), (λ p q. h q)) ]
+    | inr f ↦ inl ((λ p q. e p), (λ p q. f p))
+  ]
+]
+
+module _ (comps : List Comp) (a : AreLinked comps) where
+  -- a test that all links respect is the same on all components
+  pub whole : (t : ℕ → Bool) → ((x y : ℕ) → LinksTo comps x y → t x ≡ t y) → (x y : ℕ) → x < length comps → y < length comps → t x ≡ t y
+  whole t h x y l m = up (suc (a.tree.rank x)) x l (omega arith) ∙ sym (up (suc (a.tree.rank y)) y m (omega arith))
+    where
+      up : (steps z : ℕ) → z < length comps → a.tree.rank z < steps → t z ≡ t a.tree.root
+      up zero z l r = absurd (omega (arith, r))
+      up (suc steps) z l r = elim (cases_eq z a.tree.root) [
+        | inl e ↦ ap t e
+        | inr n ↦ h z (a.tree.parent z) (a.tree.to_parent z l n) ∙ up steps (a.tree.parent z) (a.tree.parent_in z l n) (omega (arith, r, a.tree.rank_falls z l n))
+      ]
+
+  -- so is one that agrees on k and j and that all other links respect
+  pub whole-but : (k j : ℕ) (t : ℕ → Bool) → t k ≡ t j → ((x y : ℕ) → LinksTo comps x y → IsOther k j x y → t x ≡ t y) → (x y : ℕ) → x < length comps → y < length comps → t x ≡ t y
+  whole-but k j t e h x y l m = whole t (λ u v s. elim (other-cases k j u v) [
+    | inl o ↦ h u v s o
+    | inr c ↦ elim c [ inl p ↦ ap t p.0 ∙ e ∙ sym (ap t p.1) | inr p ↦ ap t p.0 ∙ sym e ∙ sym (ap t p.1) ]
+  ]) x y l m
+
+  -- a component has a link only to another one
+  pub link-differs : (k : ℕ) → LinksTo comps k k → ⊥
+  link-differs k s = elim (a.tree.linked k k s) [
+    | inl h ↦ absurd (omega (arith, a.tree.rank_falls k (link-in comps a k k s) h.0, ap a.tree.rank h.1))
+    | inr h ↦ absurd (omega (arith, a.tree.rank_falls k (link-in comps a k k s) h.0, ap a.tree.rank h.1))
+  ]
+
+  -- the component from which a link leads
+  pub link-from : (k j : ℕ) → LinksTo comps k j → k < length comps
+  link-from k j s = stands-in comps k s.0 _ s.1
+
+  -- the far side of a link has its far component
+  pub beyond-far : (k j : ℕ) → is_beyond comps k j j ≡ true
+  beyond-far k j = connected-reflexive (filter (joins_others k j) (all_links 0 comps)) j
+
+  -- and not its near one
+  pub beyond-near : (k j : ℕ) → LinksTo comps k j → is_beyond comps k j k ≡ false
+  beyond-near k j s = elim (a.tree.linked k j s) [
+    | inl h ↦ subst (λ z. is_beyond comps k z k ≡ false) h.1 (side-above comps a k k (link-from k j s) h.0 (link-from k j s) ∙ ap not (below-own comps a k))
+    | inr h ↦ subst (λ z. is_beyond comps z j z ≡ false) h.1
+        (side-below comps a j (a.tree.parent j) (link-in comps a k j s) h.0 (a.tree.parent_in j (link-in comps a k j s) h.0) ∙ parent-not_below comps a j (link-in comps a k j s) h.0)
+  ]
+
+  -- any other link has both components on one side
+  pub beyond-other : (k j x y : ℕ) → LinksTo comps x y → IsOther k j x y → is_beyond comps k j x ≡ is_beyond comps k j y
+  beyond-other k j x y s n = same-tests (is_beyond comps k j x) (is_beyond comps k j y)
+      (λ h. connected-transitive others j x y h link)
+      (λ h. connected-transitive others j y x h (connected-symmetric others x y link))
+    where
+      others : List (ℕ × ℕ)
+      others = filter (joins_others k j) (all_links 0 comps)
+
+      link : connected others x y ≡ true
+      link = connected-link others x y (contains-filter (joins_others k j) (x, y) (all_links 0 comps) (link-contained comps x y s) (joins-other k j x y n))
+
+  -- a test that holds at the far component, not at the near one, and that all other links respect, tells the far side
+  pub beyond-is : (k j : ℕ) → LinksTo comps k j → (t : ℕ → Bool) → t j ≡ true → t k ≡ false → ((x y : ℕ) → LinksTo comps x y → IsOther k j x y → t x ≡ t y)
+      → (d : ℕ) → d < length comps → is_beyond comps k j d ≡ t d
+  beyond-is k j s t f n o d l = same (is_beyond comps k j d) (t d) (whole-but k j agree (at-near ∙ sym at-far) other d j l (link-in comps a k j s) ∙ at-far)
+    where
+      -- whether two tests agree
+      alike : Bool → Bool → Bool
+      alike b c = (b && c) || (not b && not c)
+
+      alike-same : (b c : Bool) → b ≡ c → alike b c ≡ true
+      alike-same b c e = grind (arith, e, cases_Bool b, cases_Bool c)
+
+      same : (b c : Bool) → alike b c ≡ true → b ≡ c
+      same b c h = grind (arith, h, cases_Bool b, cases_Bool c)
+
+      agree : ℕ → Bool
+      agree x = alike (is_beyond comps k j x) (t x)
+
+      at-far : agree j ≡ true
+      at-far = alike-same (is_beyond comps k j j) (t j) (beyond-far k j ∙ sym f)
+
+      at-near : agree k ≡ true
+      at-near = alike-same (is_beyond comps k j k) (t k) (beyond-near k j s ∙ sym n)
+
+      other : (x y : ℕ) → LinksTo comps x y → IsOther k j x y → agree x ≡ agree y
+      other x y w m = ap (λ (b : Bool). alike b (t x)) (beyond-other k j x y w m) ∙ ap (alike (is_beyond comps k j y)) (o x y w m)
