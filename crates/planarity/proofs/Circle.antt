@@ -1,26 +1,25 @@
 -- The circle round a vertex of a plane rotation system: its neighbours, in the opposite order of the edges to them.
-use Rattle.std.proofs.Common.{◌≡◌, ◌≢◌, ℕ, ◌/◌, ◌<◌, true, false, List, [], ◌∷◌, ◌++◌, map, reverse, refl, sym, ap, ap₂, ◌∙◌, subst, append_assoc, append-nil}
+use Rattle.std.proofs.Common.{◌≡◌, ℕ, ◌/◌, ◌<◌, true, List, [], ◌∷◌, ◌++◌, map, reverse, refl, sym, ap, ap₂, ◌∙◌, subst, append_assoc, append-nil}
 use Rattle.std.proofs.lemmas.List.{map-append, reverse-append}
 use Rattle.permutations.specs.Members.{is_member, is_distinct}
 use Rattle.permutations.specs.Cyclic.{successor, IsTurn}
-use Rattle.permutations.specs.Exchange.{restricted}
 use Rattle.permutations.proofs.Members.{member-head, member-append_right, member-reverse, distinct-reverse}
 use Rattle.permutations.proofs.Turned.{IsTurn-member, IsTurn-distinct, IsTurn-successor, IsTurn-reverse, IsTurn-swap}
 use Rattle.permutations.proofs.CyclicSame.{IsTurn-trans}
 use Rattle.multigraph.specs.Graph.{Multigraph, IsGraph, edge_count, is_end, other_end}
 use Rattle.rotations.specs.Rotation.{order_at, IsRotationSystem}
 use Rattle.rotations.proofs.Membership.{member-edge, member-end}
-use Rattle.graph_theory.specs.Triconnected.{IsSimple}
+use Rattle.graph_theory.specs.Triconnected.{IsTriconnected}
 use Rattle.graph_theory.proofs.Reversal.{reverse-cons}
-use Rattle.dart_maps.specs.Map.{twin, same_face}
-use Rattle.faces.specs.Euler.{tail, dart_from, dart_count}
-use Rattle.faces.specs.Maps.{dart_after, dart_before}
+use Rattle.dart_maps.specs.Map.{twin}
+use Rattle.faces.specs.Euler.{tail, dart_from, dart_count, IsPlane}
+use Rattle.faces.specs.Maps.{dart_before}
 use Rattle.faces.proofs.DartLemmas.{dart_from-edge, dart_from-below, dart_from-tail, order-distinct, member-incident}
 use Rattle.faces.proofs.MapSteps.{tail-twin, backward}
 use Rattle.faces.proofs.MapLists.{map-member, distinct-map}
 use Rattle.planarity.specs.Circle.{face_arc, arc_edges, IsCircle, spread, circle_parts}
 use Rattle.planarity.proofs.CircleRuns.{Runs, runs-around, runs-map}
-use Rattle.planarity.proofs.CircleArcs.{away, arcs}
+use Rattle.planarity.proofs.CircleArcs.{arcs}
 use Rattle.planarity.proofs.CircleWalks.{walk_from, AreAt, circle-of_darts}
 
 -- a list with a group in front, reversed
@@ -62,10 +61,7 @@ opposite-four u a b c d k l m o t = IsTurn-trans (reverse u) (reverse o ++ (d �
         ∙ ap (λ v. v ++ (reverse k ++ a ∷ [])) (reverse-group b l ((c ∷ m) ++ (d ∷ o)) ∙ ap (λ v. v ++ (reverse l ++ b ∷ [])) (reverse-group c m (d ∷ o) ∙ ap (λ v. v ++ (reverse m ++ c ∷ [])) (reverse-cons d o)))
         ∙ brackets-four a b c d (reverse k) (reverse l) (reverse m) (reverse o)
 
-module _ (h : Multigraph) (s : List (List ℕ)) (ok : IsGraph h) (rot : IsRotationSystem h s) (simple : IsSimple h) (w : ℕ) (w_in : w < h.vertex_count)
-    (apart : (p q : ℕ) → p < dart_count h → q < dart_count h → p ≢ q → tail h p ≡ tail h q → same_face (edge_count h) (dart_after h s) p q ≡ false)
-    (follows : (d : ℕ) → d < dart_count h → dart_after h s d ≢ d)
-    (once : (p q : ℕ) → p < dart_count h → q < dart_count h → p ≢ q → away h w p ≡ true → away h w q ≡ true → tail h p ≡ tail h q → same_face (edge_count h) (restricted (dart_count h) (away h w) (dart_after h s)) p q ≡ false) where
+module _ (h : Multigraph) (s : List (List ℕ)) (ok : IsGraph h) (rot : IsRotationSystem h s) (plane : IsPlane h s) (tri : IsTriconnected h) (w : ℕ) (w_in : w < h.vertex_count) where
   -- a group of darts for a group of edges
   abbrev darts_of : List (ℕ × List ℕ) → List (ℕ × List ℕ)
   darts_of groups = map (λ group. (dart_from h w group.0, map (dart_from h w) group.1)) groups
@@ -75,9 +71,9 @@ module _ (h : Multigraph) (s : List (List ℕ)) (ok : IsGraph h) (rot : IsRotati
   spread-darts (group ∷ groups) = ap (λ k. (dart_from h w group.0 ∷ map (dart_from h w) group.1) ++ k) (spread-darts groups) ∙ sym (map-append (dart_from h w) (group.0 ∷ group.1) (spread groups))
 
   -- the edges of arcs are those of the arcs' darts
-  arc_edges-map : (ds : List ℕ) → map (λ c. c / 2) (arcs h s ok rot simple w apart follows ds) ≡ arc_edges h s ds
+  arc_edges-map : (ds : List ℕ) → map (λ c. c / 2) (arcs h s ok rot plane tri w ds) ≡ arc_edges h s ds
   arc_edges-map [] = refl
-  arc_edges-map (d ∷ ds) = map-append (λ c. c / 2) (face_arc h s d) (arcs h s ok rot simple w apart follows ds) ∙ ap (λ k. map (λ c. c / 2) (face_arc h s d) ++ k) (arc_edges-map ds)
+  arc_edges-map (d ∷ ds) = map-append (λ c. c / 2) (face_arc h s d) (arcs h s ok rot plane tri w ds) ∙ ap (λ k. map (λ c. c / 2) (face_arc h s d) ++ k) (arc_edges-map ds)
 
   -- the dart at w of an edge leads to its other end
   across : (e : ℕ) → e < edge_count h → is_end h w e ≡ true → tail h (twin (dart_from h w e)) ≡ other_end h e w
@@ -87,7 +83,7 @@ module _ (h : Multigraph) (s : List (List ℕ)) (ok : IsGraph h) (rot : IsRotati
   abbrev AreEdges : List ℕ → Type 0
   AreEdges es = (e : ℕ) → is_member e es ≡ true → (e < edge_count h) × (is_end h w e ≡ true)
 
-  parts-same : (groups : List (ℕ × List ℕ)) → AreEdges (spread groups) → map (walk_from h s ok rot simple w apart follows) (darts_of groups) ≡ circle_parts h s w groups
+  parts-same : (groups : List (ℕ × List ℕ)) → AreEdges (spread groups) → map (walk_from h s ok rot plane tri w) (darts_of groups) ≡ circle_parts h s w groups
   parts-same [] a = refl
   parts-same (group ∷ groups) a =
       let o = a group.0 (member-head group.0 (group.1 ++ spread groups)) in
@@ -98,7 +94,7 @@ module _ (h : Multigraph) (s : List (List ℕ)) (ok : IsGraph h) (rot : IsRotati
   pub circle-back : (first : ℕ × List ℕ) (groups : List (ℕ × List ℕ)) → IsTurn (reverse (order_at s w)) (spread (first ∷ groups)) → IsCircle h w (other_end h first.0 w) (circle_parts h s w (first ∷ groups))
   circle-back first groups t = subst (λ u. IsCircle h w u (circle_parts h s w (first ∷ groups))) (across first.0 o.0 o.1)
       (subst (IsCircle h w (tail h (twin (dart_from h w first.0)))) (parts-same (first ∷ groups) edges)
-      (circle-of_darts h s ok rot simple w apart follows once (darts_of (first ∷ groups)) (dart_from h w first.0) (dart_from-below h w first.0 o.0) (dart_from-tail h w first.0 o.1) at distinct around))
+      (circle-of_darts h s ok rot plane tri w (darts_of (first ∷ groups)) (dart_from h w first.0) (dart_from-below h w first.0 o.0) (dart_from-tail h w first.0 o.1) at distinct around))
     where
       all : List ℕ
       all = spread (first ∷ groups)
@@ -117,7 +113,7 @@ module _ (h : Multigraph) (s : List (List ℕ)) (ok : IsGraph h) (rot : IsRotati
       o : (first.0 < edge_count h) × (is_end h w first.0 ≡ true)
       o = edges first.0 (member-head first.0 (first.1 ++ spread groups))
 
-      at : AreAt h s ok rot simple w apart follows (spread (darts_of (first ∷ groups)))
+      at : AreAt h s ok rot plane tri w (spread (darts_of (first ∷ groups)))
       at d m =
           let v = map-member (dart_from h w) all d (subst (λ (k : List ℕ). is_member d k ≡ true) (spread-darts (first ∷ groups)) m) in
           let e = edges v.0 v.1 in

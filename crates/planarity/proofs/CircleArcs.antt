@@ -1,6 +1,6 @@
 -- What the faces at a vertex leave when the vertex is taken away: arcs, which follow one another along one face.
-use Rattle.std.proofs.Common.{◌≡◌, ◌≢◌, ℕ, zero, suc, ◌+◌, ◌-◌, ◌<◌, ◌≤◌, inl, inr, Bool, true, false, not, ◌&&◌, ◌==◌, List, [], ◌∷◌, ◌++◌, length, refl, sym, ap, ◌∙◌, subst, arith}
-use Rattle.std.proofs.lemmas.Bool.{both_ways, false_from_ne_true, and_parts, and_from, not-true, not_from_false, eq-eqb, ne_eqb}
+use Rattle.std.proofs.Common.{◌≡◌, ◌≢◌, ℕ, zero, suc, ◌+◌, ◌-◌, ◌<◌, ◌≤◌, inl, inr, true, false, List, [], ◌∷◌, ◌++◌, length, refl, sym, ap, ◌∙◌, subst, arith}
+use Rattle.std.proofs.lemmas.Bool.{both_ways, false_from_ne_true}
 use Rattle.permutations.specs.Members.{is_member, is_distinct}
 use Rattle.permutations.specs.Permutation.{Permutes, iterate, same_orbit}
 use Rattle.permutations.specs.Exchange.{restricted}
@@ -13,24 +13,19 @@ use Rattle.permutations.proofs.Rings.{images-first, images-append, images-member
 use Rattle.permutations.proofs.Restriction.{goes-restricted, restricted-next}
 use Rattle.multigraph.specs.Graph.{Multigraph, IsGraph, edge_count}
 use Rattle.rotations.specs.Rotation.{IsRotationSystem}
-use Rattle.graph_theory.specs.Triconnected.{IsSimple}
+use Rattle.graph_theory.specs.Triconnected.{IsTriconnected}
 use Rattle.dart_maps.specs.Map.{twin, face, same_face}
 use Rattle.dart_maps.proofs.Darts.{twin-below, twin-twin}
-use Rattle.faces.specs.Euler.{tail, dart_count, face_step}
+use Rattle.faces.specs.Euler.{tail, dart_count, face_step, IsPlane}
 use Rattle.faces.specs.Maps.{dart_after, dart_before}
 use Rattle.faces.proofs.DartLemmas.{face_back, face_step-permutes}
 use Rattle.faces.proofs.MapSteps.{map-face, map-permutes, after-tail, before-tail}
 use Rattle.planarity.specs.Circle.{face_arc}
 use Rattle.planarity.proofs.SimpleDarts.{tail-other, simple-twin}
+use Rattle.planarity.proofs.CircleFaces.{off, off-arrives, off-from, off-twin, triconnected-face_once, triconnected-follows}
 use Rattle.planarity.proofs.CircleRuns.{Runs, runs-append}
 
--- whether the dart has no end at w
-abbrev pub away : Multigraph → ℕ → ℕ → Bool
-away h w d = not (tail h d == w) && not (tail h (twin d) == w)
-
-module _ (h : Multigraph) (s : List (List ℕ)) (ok : IsGraph h) (rot : IsRotationSystem h s) (simple : IsSimple h) (w : ℕ)
-    (apart : (p q : ℕ) → p < dart_count h → q < dart_count h → p ≢ q → tail h p ≡ tail h q → same_face (edge_count h) (dart_after h s) p q ≡ false)
-    (follows : (d : ℕ) → d < dart_count h → dart_after h s d ≢ d) where
+module _ (h : Multigraph) (s : List (List ℕ)) (ok : IsGraph h) (rot : IsRotationSystem h s) (plane : IsPlane h s) (tri : IsTriconnected h) (w : ℕ) where
   abbrev n : ℕ
   n = dart_count h
 
@@ -59,22 +54,9 @@ module _ (h : Multigraph) (s : List (List ℕ)) (ok : IsGraph h) (rot : IsRotati
   pub step-tail : (d : ℕ) → d < n → tail h (step d) ≡ tail h (twin d)
   step-tail d l = ap (tail h) (step-is d l) ∙ after-tail h s (twin d) ok rot (twin-below (edge_count h) d l)
 
-  -- a dart is away from w where both its ends are
-  away-from : (d : ℕ) → tail h d ≢ w → tail h (twin d) ≢ w → away h w d ≡ true
-  away-from d a b = and_from (not (tail h d == w)) (not (tail h (twin d) == w)) (not_from_false (tail h d == w) (ne_eqb (tail h d) w a)) (not_from_false (tail h (twin d) == w) (ne_eqb (tail h (twin d)) w b))
-
-  pub away-tail : (d : ℕ) → away h w d ≡ true → tail h d ≢ w
-  away-tail d t q = both_ways (tail h d == w) (not-true (tail h d == w) ((and_parts (not (tail h d == w)) (not (tail h (twin d) == w)) t).0)) (eq-eqb (tail h d) w q)
-
-  away-head : (d : ℕ) → away h w d ≡ true → tail h (twin d) ≢ w
-  away-head d t q = both_ways (tail h (twin d) == w) (not-true (tail h (twin d) == w) ((and_parts (not (tail h d == w)) (not (tail h (twin d) == w)) t).1)) (eq-eqb (tail h (twin d)) w q)
-
-  pub away-twin : (d : ℕ) → away h w d ≡ true → away h w (twin d) ≡ true
-  away-twin d t = away-from (twin d) (away-head d t) (λ q. away-tail d t (ap (tail h) (sym (twin-twin d)) ∙ q))
-
   -- the step along a face of what is left
   abbrev pub left : ℕ → ℕ
-  left d = restricted (dart_count h) (away h w) (dart_after h s) (twin d)
+  left d = restricted (dart_count h) (off h w) (dart_after h s) (twin d)
 
   -- a dart d at w
   module _ (d : ℕ) (l : d < dart_count h) (at : tail h d ≡ w) where
@@ -84,7 +66,7 @@ module _ (h : Multigraph) (s : List (List ℕ)) (ok : IsGraph h) (rot : IsRotati
     -- the face of d does not come to w before it comes back to d
     not-at : (k : ℕ) → 0 < k → k < long d → tail h (iterate step k d) ≢ w
     not-at k p q e = both_ways (same_face (edge_count h) next d (iterate step k d))
-        (apart d (iterate step k d) l (reach k) (λ r. orbit_length-least n step (face_back h s) step-map d l k p q (sym r)) (at ∙ sym e))
+        (triconnected-face_once h s ok rot plane tri d (iterate step k d) l (reach k) (λ r. orbit_length-least n step (face_back h s) step-map d l k p q (sym r)) (at ∙ sym e))
         (orbit-ext n (face next) step (λ x j. map-face h s x ok j) d (iterate step k d) ∙ iterate-orbit n step (face_back h s) step-map k d l)
 
     comes-back : iterate step (long d) d ≡ d
@@ -110,24 +92,24 @@ module _ (h : Multigraph) (s : List (List ℕ)) (ok : IsGraph h) (rot : IsRotati
         three : (k : ℕ) → long d ≡ k → 3 ≤ k
         three zero e = absurd (omega arith)
         three (suc zero) e = absurd (tail-other h d ok l (sym (step-tail d l) ∙ ap (tail h) (ap (λ j. iterate step j d) (sym e) ∙ comes-back)))
-        three (suc (suc zero)) e = absurd (follows (twin d) (twin-below (edge_count h) d l) (sym (step-is d l) ∙ simple-twin h ok simple (step d) d (step-map.forth d l) l (step-tail d l) (over ∙ sym at)))
+        three (suc (suc zero)) e = absurd (triconnected-follows h s ok rot tri (twin d) (twin-below (edge_count h) d l) (sym (step-is d l) ∙ simple-twin h ok tri.simple (step d) d (step-map.forth d l) l (step-tail d l) (over ∙ sym at)))
           where
             over : tail h (twin (step d)) ≡ w
             over = ap (λ z. tail h (twin z)) (last-is 1 (omega arith)) ∙ ap (tail h) (twin-twin (back d)) ∙ before-at
         three (suc (suc (suc k))) e = omega arith
 
     -- between d and the last dart the face is away from w
-    pub between-away : (k : ℕ) → 0 < k → k + 1 < long d → away h w (iterate step k d) ≡ true
-    between-away k p q = away-from (iterate step k d) (not-at k p (omega arith))
+    pub between-away : (k : ℕ) → 0 < k → k + 1 < long d → off h w (iterate step k d) ≡ true
+    between-away k p q = off-from h w (iterate step k d) (not-at k p (omega arith))
         (λ e. not-at (k + 1) (omega arith) q (ap (tail h) (iterate-more step k d) ∙ step-tail (iterate step k d) (reach k) ∙ e))
 
     -- a member of the arc
-    pub arc-member : (z : ℕ) → is_member z (face_arc h s d) ≡ true → (z < dart_count h) × (away h w z ≡ true) × (same_orbit (dart_count h) (face_step h s) d z ≡ true)
+    pub arc-member : (z : ℕ) → is_member z (face_arc h s d) ≡ true → (z < dart_count h) × (off h w z ≡ true) × (same_orbit (dart_count h) (face_step h s) d z ≡ true)
     arc-member z m =
         let v = images-member step (long d - 2) (step d) z m in
         let e : iterate step (v.0 + 1) d ≡ z = iterate-first step v.0 d ∙ v.2 in (
           subst (λ u. u < n) e (reach (v.0 + 1)),
-          subst (λ u. away h w u ≡ true) e (between-away (v.0 + 1) (omega arith) (omega (arith, v.1))),
+          subst (λ u. off h w u ≡ true) e (between-away (v.0 + 1) (omega arith) (omega (arith, v.1))),
           subst (λ u. same_orbit n step d u ≡ true) e (iterate-orbit n step (face_back h s) step-map (v.0 + 1) d l),
         )
 
@@ -149,16 +131,16 @@ module _ (h : Multigraph) (s : List (List ℕ)) (ok : IsGraph h) (rot : IsRotati
   inner-step : (d : ℕ) (l : d < dart_count h) (at : tail h d ≡ w) (k : ℕ) → 0 < k → k + 2 < long d → left (iterate step k d) ≡ step (iterate step k d)
   inner-step d l at k p q =
       let r : iterate step k d < n = reach d l at k in
-      restricted-next n (away h w) next back next-map (twin (iterate step k d)) (twin-below (edge_count h) (iterate step k d) r)
-      (away-twin (iterate step k d) (between-away d l at k p (omega arith)))
-      (subst (λ u. away h w u ≡ true) (iterate-more step k d ∙ step-is (iterate step k d) r) (between-away d l at (k + 1) (omega arith) (omega arith)))
+      restricted-next n (off h w) next back next-map (twin (iterate step k d)) (twin-below (edge_count h) (iterate step k d) r)
+      (off-twin h w (iterate step k d) (between-away d l at k p (omega arith)))
+      (subst (λ u. off h w u ≡ true) (iterate-more step k d ∙ step-is (iterate step k d) r) (between-away d l at (k + 1) (omega arith) (omega arith)))
       ∙ sym (step-is (iterate step k d) r)
 
   -- from its last dart it goes on to the first dart of the arc of the dart before d
   outer-step : (d : ℕ) (l : d < dart_count h) (at : tail h d ≡ w) (k : ℕ) → 0 < k → k + 2 ≡ long d → left (iterate step k d) ≡ step (back d)
   outer-step d l at k p q =
-      goes-restricted n (away h w) next back next-map (twin (iterate step k d)) (twin-below (edge_count h) (iterate step k d) r)
-      (away-twin (iterate step k d) (between-away d l at k p (omega arith)))
+      goes-restricted n (off h w) next back next-map (twin (iterate step k d)) (twin-below (edge_count h) (iterate step k d) r)
+      (off-twin h w (iterate step k d) (between-away d l at k p (omega arith)))
       (step (back d)) (1, arrives, between-away (back d) (before-in d l at) (before-at d l at) 1 (omega arith) (omega (arith, long-enough (back d) (before-in d l at) (before-at d l at))), passed)
     where
       r : iterate step k d < n
@@ -170,8 +152,8 @@ module _ (h : Multigraph) (s : List (List ℕ)) (ok : IsGraph h) (rot : IsRotati
       arrives : step (back d) ≡ next (next (twin (iterate step k d)))
       arrives = step-is (back d) (before-in d l at) ∙ ap next (sym to_w)
 
-      passed : (i : ℕ) → i < 1 → away h w (iterate next (suc i) (twin (iterate step k d))) ≡ false
-      passed zero m = subst (λ u. away h w u ≡ false) (sym to_w) (false_from_ne_true (away h w (twin (back d))) (λ t. away-head (twin (back d)) t (ap (tail h) (twin-twin (back d)) ∙ before-at d l at)))
+      passed : (i : ℕ) → i < 1 → off h w (iterate next (suc i) (twin (iterate step k d))) ≡ false
+      passed zero m = subst (λ u. off h w u ≡ false) (sym to_w) (false_from_ne_true (off h w (twin (back d))) (λ t. off-arrives h w (twin (back d)) t (ap (tail h) (twin-twin (back d)) ∙ before-at d l at)))
       passed (suc i) m = absurd (omega arith)
 
   -- so an arc, and after it the next one, follow a face of what is left
@@ -203,7 +185,7 @@ module _ (h : Multigraph) (s : List (List ℕ)) (ok : IsGraph h) (rot : IsRotati
 
   -- a dart of the arcs is on the face of one of the darts at w
   pub arcs-member : (ds : List ℕ) → ((e : ℕ) → is_member e ds ≡ true → (e < dart_count h) × (tail h e ≡ w)) → (z : ℕ) → is_member z (arcs ds) ≡ true
-      → (z < dart_count h) × (away h w z ≡ true) × ((e : ℕ) × (is_member e ds ≡ true) × (same_orbit (dart_count h) (face_step h s) e z ≡ true))
+      → (z < dart_count h) × (off h w z ≡ true) × ((e : ℕ) × (is_member e ds ≡ true) × (same_orbit (dart_count h) (face_step h s) e z ≡ true))
   arcs-member [] a z m = absurd (both_ways false refl m)
   arcs-member (d ∷ ds) a z m = elim (member-append_cases z (face_arc h s d) (arcs ds) m) [
     | inl u ↦ let o = a d (member-head d ds) in let v = arc-member d o.0 o.1 z u in (v.0, v.1, (d, member-head d ds, v.2))
@@ -228,5 +210,5 @@ module _ (h : Multigraph) (s : List (List ℕ)) (ok : IsGraph h) (rot : IsRotati
           let e = (q.2).0 in
           let there = rest e ((q.2).1) in
           both_ways (same_face (edge_count h) next d e)
-          (apart d e o.0 there.0 (λ r. both_ways (is_member d ds) (distinct-head d ds u) (subst (λ k. is_member k ds ≡ true) (sym r) ((q.2).1))) (o.1 ∙ sym there.1))
+          (triconnected-face_once h s ok rot plane tri d e o.0 there.0 (λ r. both_ways (is_member d ds) (distinct-head d ds u) (subst (λ k. is_member k ds ≡ true) (sym r) ((q.2).1))) (o.1 ∙ sym there.1))
           (orbit-ext n (face next) step (λ x j. map-face h s x ok j) d e ∙ (orbit-equivalence n step).transitive d z e p.2 ((orbit-equivalence n step).symmetric e z ((q.2).2)))
