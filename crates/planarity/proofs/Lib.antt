@@ -39,3 +39,4 @@ pub mod CircleRuns
 pub mod CircleArcs
 pub mod CircleWalks
 pub mod Circle
+pub mod TwoSystems

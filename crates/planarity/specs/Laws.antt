@@ -1,5 +1,5 @@
 -- What is proved of plane rotation systems, as statements.
-use Rattle.std.specs.Prelude.{◌≡◌, ℕ, ◌⊎◌, List}
+use Rattle.std.specs.Prelude.{◌≡◌, ◌≢◌, ℕ, ◌⊎◌, List}
 use Rattle.multigraph.specs.Graph.{Multigraph, IsGraph}
 use Rattle.rotations.specs.Rotation.{IsRotationSystem}
 use Rattle.graph_theory.specs.Triconnected.{IsTriconnected}
@@ -13,11 +13,12 @@ abbrev pub SubdivisionExcludesPlane : Type 0
 SubdivisionExcludesPlane = (g : Multigraph) (r : List (List ℕ)) → IsGraph g → IsRotationSystem g r → IsPlane g r
     → (kind : Pattern) (branch : List ℕ) (paths : List (List ℕ)) → IsSubdivision g kind branch paths → ⊥
 
--- a triconnected graph with four vertices has a plane rotation system
-abbrev pub FourVerticesPlane : Type 0
-FourVerticesPlane = (g : Multigraph) → IsGraph g → IsTriconnected g → g.vertex_count ≡ 4 → (r : List (List ℕ)) × IsRotationSystem g r × IsPlane g r
-
--- each two of its plane rotation systems are the same or mirror images
-abbrev pub FourVerticesTwo : Type 0
-FourVerticesTwo = (g : Multigraph) → IsGraph g → IsTriconnected g → g.vertex_count ≡ 4
+-- each two plane rotation systems of a triconnected graph are the same or mirror images
+abbrev pub TwoPlaneSystems : Type 0
+TwoPlaneSystems = (g : Multigraph) → IsGraph g → IsTriconnected g
     → (r q : List (List ℕ)) → IsRotationSystem g r → IsRotationSystem g q → IsPlane g r → IsPlane g q → (r ≡ q) ⊎ (r ≡ mirror_image q)
+
+-- the mirror image of a plane rotation system of a triconnected graph is another one: so there are exactly two, or none
+abbrev pub MirrorIsAnother : Type 0
+MirrorIsAnother = (g : Multigraph) → IsGraph g → IsTriconnected g → (r : List (List ℕ)) → IsRotationSystem g r → IsPlane g r
+    → IsRotationSystem g (mirror_image r) × IsPlane g (mirror_image r) × (mirror_image r ≢ r)

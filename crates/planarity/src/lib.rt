@@ -4,7 +4,7 @@
 // rotation system or such a subdivision, and its plane rotation systems are one and its mirror image (Whitney 1932).
 #![tactic(auto)]
 
-ghost use Rattle.planarity.specs.Laws.{FourVerticesPlane, FourVerticesTwo, SubdivisionExcludesPlane};
+ghost use Rattle.planarity.specs.Laws.{MirrorIsAnother, SubdivisionExcludesPlane, TwoPlaneSystems};
 
 /// The law that a graph with a subdivision of K5 or K3,3 has no plane rotation system. On the edges of the subdivision alone
 /// it would have at least seven faces, each of which runs along three of the twenty ways from branch vertex to branch vertex;
@@ -13,9 +13,9 @@ pub fn subdivision_excludes_plane()
     ensures { SubdivisionExcludesPlane }
 {}
 
-/// The law that a triconnected graph with four vertices, which is the complete graph, has a plane rotation system, and that its
-/// plane rotation systems are one and its mirror image.
-pub fn four_vertices_are_plane()
-    ensures some { FourVerticesPlane }
-    ensures two { FourVerticesTwo }
+/// The law that a triconnected graph has two plane rotation systems, mirror images of each other, or none (Whitney 1932). By
+/// induction: contracting an edge tells plane rotation systems apart, and with four vertices there are sixteen to look at.
+pub fn triconnected_graphs_have_two()
+    ensures two { TwoPlaneSystems }
+    ensures mirror { MirrorIsAnother }
 {}
