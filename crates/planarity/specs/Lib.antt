@@ -4,3 +4,4 @@ pub mod Laws
 pub mod Alternation
 pub mod Lift
 pub mod Circle
+pub mod Embedding

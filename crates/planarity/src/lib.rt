@@ -4,7 +4,11 @@
 // rotation system or such a subdivision, and its plane rotation systems are one and its mirror image (Whitney 1932).
 #![tactic(auto)]
 
+mod embedder;
+
 ghost use Rattle.planarity.specs.Laws.{MirrorIsAnother, SubdivisionExcludesPlane, TwoPlaneSystems};
+
+pub use embedder::{Embedded, Embedder};
 
 /// The law that a graph with a subdivision of K5 or K3,3 has no plane rotation system. On the edges of the subdivision alone
 /// it would have at least seven faces, each of which runs along three of the twenty ways from branch vertex to branch vertex;

@@ -1,0 +1,2 @@
+// Embedding triconnected graphs by contraction (Thomassen 1980).
+#![tactic(auto)]
