@@ -40,3 +40,5 @@ pub mod CircleArcs
 pub mod CircleWalks
 pub mod Circle
 pub mod TwoSystems
+pub mod RunSuccessors
+pub mod ExpandedRuns
