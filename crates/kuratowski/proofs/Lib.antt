@@ -5,3 +5,6 @@ pub mod Checked
 mod Examples
 pub mod Meetings
 pub mod Reordering
+pub mod Sorting
+pub mod WrittenOrder
+pub mod WrittenForm

@@ -1,9 +1,8 @@
 -- A subdivision with its branch vertices in another order is one.
-use Rattle.std.proofs.Common.{◌≡◌, ◌≢◌, ℕ, zero, suc, ◌<◌, ◌⊎◌, inl, inr, Bool, true, false, ◌&&◌, ◌||◌, ◌==◌, ltb, if◌then◌else◌, List, [], ◌∷◌, length, get_or, map, reverse, refl, sym, ap, ◌∙◌, subst, arith}
+use Rattle.std.proofs.Common.{◌≡◌, ℕ, zero, suc, ◌<◌, ◌⊎◌, inl, inr, Bool, true, ◌&&◌, ◌==◌, ltb, if◌then◌else◌, List, [], ◌∷◌, length, get_or, reverse, refl, sym, ap, ◌∙◌, subst, arith}
 use Rattle.std.proofs.lemmas.Bool.{cases_Bool, cases_order, cases_eq, and_parts, or_cases, ltb-true, lt-ltb, le-ltb, eqb-true, true≢false}
 use Rattle.std.proofs.lemmas.List.{length-map, get_or-map}
 use Rattle.permutations.specs.Members.{is_member, is_distinct}
-use Rattle.permutations.proofs.Members.{member-cases}
 use Rattle.multigraph.specs.Graph.{Multigraph}
 use Rattle.graph_theory.specs.Path.{walk_vertices, IsPath}
 use Rattle.graph_theory.proofs.Paths.{path-reverse, path-reverse-met}
@@ -12,7 +11,7 @@ use Rattle.kuratowski.specs.declared.subdivision.Pattern.TheVariants.{K5, K33}
 use Rattle.kuratowski.specs.Subdivision.{branch_count, pattern_edges, branch_at, path_at, pair_at, IsSubdivision}
 use Rattle.kuratowski.specs.Reordering.{place_of, pair_place, are_joined, path_between, reordered_paths, IsReordering}
 use Rattle.kuratowski.proofs.Checked.{distinct-places, pair-rises}
-use Rattle.kuratowski.proofs.Meetings.{vertices_at, MeetAtBranches, branch-member, ends-member, subdivision-meetings, subdivision-from_meetings}
+use Rattle.kuratowski.proofs.Meetings.{vertices_at, branch-member, subdivision-meetings, subdivision-from_meetings}
 
 -- the place of a member is one of the list
 pub place-in : (l : List ℕ) (v : ℕ) → is_member v l ≡ true → place_of l v < length l
@@ -47,12 +46,12 @@ pair-second (pair ∷ pairs) i j l = elim (cases_Bool ((pair.0 == i) && (pair.1 
 ]
 
 -- whether each number below n passes
-all_below : ℕ → (ℕ → Bool) → Bool
+unfoldable pub all_below : ℕ → (ℕ → Bool) → Bool
 all_below zero p = true
 all_below (suc n) p = p n && all_below n p
 
 -- where each passes, this one does
-below-passes : (n : ℕ) (p : ℕ → Bool) → all_below n p ≡ true → (k : ℕ) → k < n → p k ≡ true
+pub below-passes : (n : ℕ) (p : ℕ → Bool) → all_below n p ≡ true → (k : ℕ) → k < n → p k ≡ true
 unfolding all_below
 below-passes zero p h k l = absurd (omega arith)
 below-passes (suc n) p h k l = elim (cases_eq k n) [

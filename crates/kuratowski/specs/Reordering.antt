@@ -1,5 +1,7 @@
 -- The branch vertices of a subdivision in another order, and the paths that belong to it.
-use Rattle.std.specs.Prelude.{◌≡◌, ℕ, zero, suc, ◌<◌, Bool, true, false, ◌&&◌, ◌||◌, ◌==◌, nat_lt, if◌then◌else◌, List, [], ◌∷◌, map, reverse, length}
+use Rattle.std.specs.Prelude.{◌≡◌, ℕ, suc, ◌<◌, Bool, true, ◌&&◌, ◌||◌, ◌==◌, nat_lt, if◌then◌else◌, List, [], ◌∷◌, map, reverse, length}
+use Rattle.std.specs.List.Sorted.{IsPermutation}
+use Rattle.multigraph.specs.Part.{Rises}
 use Rattle.permutations.specs.Members.{is_member, is_distinct}
 use Rattle.kuratowski.specs.declared.subdivision.Pattern.{Pattern}
 use Rattle.kuratowski.specs.Subdivision.{branch_count, pattern_edges, branch_at, path_at, pair_at}
@@ -32,3 +34,8 @@ pub record IsReordering (kind : Pattern) (branch order : List ℕ) : Type 0 wher
   pub distinct : is_distinct order ≡ true
   pub members : (z : ℕ) → is_member z order ≡ is_member z branch
   pub joined : (k : ℕ) → k < length (pattern_edges kind) → are_joined kind (place_of branch (branch_at order (pair_at kind k).0)) (place_of branch (branch_at order (pair_at kind k).1)) ≡ true
+
+-- the same numbers in rising order
+pub record IsRisen (l rising : List ℕ) : Type 0 where
+  pub permuted : IsPermutation l rising
+  pub rises : Rises rising
