@@ -11,7 +11,7 @@ use Rattle.pair_split.proofs.Sides.{touches-from_side, touching-on_side, common-
 use Rattle.pair_split.proofs.Names.{two-names}
 use Rattle.pair_split.proofs.Replaced.{first-end, second-end}
 use Rattle.pair_split.proofs.Degrees.{tight-degree, one-of_two}
-use Rattle.pair_split.proofs.Lumps.{lump-from, lump-witness, lump-common, removed-cases, side_of-filter}
+use Rattle.pair_split.proofs.LumpSides.{lump-from, lump-witness, lump-common, removed-cases, side_of-filter}
 use Rattle.pair_split.proofs.PrimeSimple.{joins, joins-parallel}
 
 -- the lump of a closed class with two entries in it and two outside it is a side of a 2-separation

@@ -16,11 +16,13 @@ pub mod Replaced
 pub mod Minimal
 pub mod Names
 pub mod Degrees
-pub mod Lumps
-pub mod Labels
+pub mod LumpSides
+pub mod Labelling
 pub mod PrimeSimple
 pub mod Candidates
 pub mod PrimeRigid
 pub mod ThreeEntries
 pub mod SameEntries
 pub mod GraphSides
+pub mod Marking
+pub mod Searching

@@ -14,7 +14,7 @@ use Rattle.pair_split.proofs.Elements.{contains-map, contains-filter, two-pass, 
 use Rattle.pair_split.proofs.Sides.{touches-from, touching-entry, separation-from}
 use Rattle.pair_split.proofs.Names.{same-place, two-names, side_of-at}
 use Rattle.pair_split.proofs.Replaced.{first-end, second-end}
-use Rattle.pair_split.proofs.Lumps.{lump-from, lump-end, lump-common}
+use Rattle.pair_split.proofs.LumpSides.{lump-from, lump-end, lump-common}
 use Rattle.pair_split.proofs.Degrees.{tight-degree}
 use Rattle.pair_split.proofs.PrimeSimple.{prime-simple, joins, joins-parallel, outside-end, other-end, touched-vertex}
 

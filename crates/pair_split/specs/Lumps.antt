@@ -2,6 +2,8 @@
 use Rattle.std.specs.Prelude.{◌≡◌, ℕ, ◌<◌, Bool, false, not, cond, ◌&&◌, ◌||◌, ◌==◌, List, [], ◌∷◌, length, map, filter, slice_index_or, All, Contains}
 use Rattle.permutations.specs.Members.{is_member}
 use Rattle.pair_split.specs.Family.{Entry}
+use Rattle.pair_split.specs.Edges.{entry_ends}
+use Rattle.pair_split.specs.Skeleton.{SameEnds}
 use Rattle.pair_split.specs.declared.family.NamedEdge.{NamedEdge}
 
 -- an edge of the code, as an entry
@@ -52,6 +54,10 @@ pub record IsLabelling (entries : List Entry) (a b : ℕ) (label : ℕ → ℕ) 
   pub least : (class : ℕ → Bool) → IsClosed entries a b class → (x y : ℕ) → label x ≡ label y → class x ≡ class y
   pub own : (x : ℕ) → label (label x) ≡ label x
 
+-- the labels of the vertices below n are below n
+abbrev pub AreLabelsBelow : ℕ → List ℕ → Type 0
+AreLabelsBelow n labels = (x : ℕ) → x < n → label_at labels x < n
+
 -- a label, where one is replaced by another
 abbrev pub renamed : ℕ → ℕ → ℕ → ℕ
 renamed from to label = cond (label == from) to label
@@ -67,3 +73,8 @@ lump_size entries a b labels label = length (filter (in_lump a b (has_label labe
 -- whether a name is marked
 abbrev pub marked : List Bool → ℕ → Bool
 marked marks n = slice_index_or marks n false
+
+-- the edges at places i and j have the same two ends
+abbrev pub AreParallelAt : List NamedEdge → ℕ → ℕ → Type 0
+AreParallelAt edges i j =
+    SameEnds (entry_ends (entry_of (slice_index_or edges i (record { name = 0; first = 0; second = 0 })))) (entry_ends (entry_of (slice_index_or edges j (record { name = 0; first = 0; second = 0 }))))

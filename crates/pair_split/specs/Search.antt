@@ -1,9 +1,11 @@
 -- The search for a 2-separation of a family with the fewest entries on its side.
-use Rattle.std.specs.Prelude.{◌≡◌, ℕ, ◌<◌, ◌≤◌, ◌⊎◌, Bool, List, length, All, Contains}
+use Rattle.std.specs.Prelude.{◌≡◌, ℕ, ◌<◌, ◌≤◌, ◌⊎◌, Bool, List, length, All, Contains, Option, MatchOption}
 use Rattle.pair_split.specs.Family.{Entry, on_side, IsFamily, IsTight, IsSeparation}
 use Rattle.pair_split.specs.Edges.{entry_ends}
 use Rattle.pair_split.specs.Skeleton.{SameEnds}
-use Rattle.pair_split.specs.Lumps.{marked}
+use Rattle.pair_split.specs.Minimal.{IsMinimal}
+use Rattle.pair_split.specs.Lumps.{family_of, marked}
+use Rattle.pair_split.specs.declared.family.NamedEdge.{NamedEdge}
 use Rattle.pair_split.specs.declared.search.Side.{Side}
 
 -- a family that may have a 2-separation: tight, of at least four entries
@@ -34,3 +36,13 @@ IsLeastAt entries a b size = (s : ℕ → Bool) → IsSeparation entries s a b �
 -- nor any between two vertices b < a where a is below p, or is p and b is below q
 abbrev pub IsLeastBefore : List Entry → ℕ → ℕ → ℕ → Type 0
 IsLeastBefore entries p q size = (a b : ℕ) → b < a → (a < p) ⊎ ((a ≡ p) × (b < q)) → IsLeastAt entries a b size
+
+-- a minimal side of a 2-separation, with a mark for each entry's name to be looked up
+pub record IsMinimalSide (entries : List Entry) (side : Side) : Type 0 where
+  pub separates : IsSeparation entries (marked side.marks.items) side.first side.second
+  pub minimal : IsMinimal entries (marked side.marks.items)
+  pub named : All (λ entry. entry.name < length side.marks.items) entries
+
+-- what the search found: a minimal side of a 2-separation, or that there is no 2-separation
+abbrev pub IsSearched : List NamedEdge → Option Side → Type 0
+IsSearched edges result = MatchOption result ((s : ℕ → Bool) (a b : ℕ) → IsSeparation (family_of edges) s a b → ⊥) (IsMinimalSide (family_of edges))

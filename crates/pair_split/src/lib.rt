@@ -3,7 +3,9 @@
 
 mod components;
 mod family;
+mod labels;
 mod lists;
+mod lumps;
 mod search;
 mod splitter;
 
