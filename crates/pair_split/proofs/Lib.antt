@@ -11,6 +11,7 @@ pub mod Subtrees
 pub mod Written
 pub mod Finish
 pub mod SmallBlock
+pub mod TreeSides
 mod Examples
 pub mod Replaced
 pub mod Minimal
