@@ -12,6 +12,7 @@ pub mod Written
 pub mod Finish
 pub mod SmallBlock
 pub mod TreeSides
+pub mod Groups
 mod Examples
 pub mod Replaced
 pub mod Minimal

@@ -1,25 +1,25 @@
 -- The sides of links at one component: each other component is beyond exactly one of its links.
-use Rattle.std.proofs.Common.{◌≡◌, ◌≢◌, ℕ, zero, suc, ◌+◌, ◌<◌, ◌≤◌, ◌⊎◌, ◌==◌, ◌&&◌, ◌||◌, inl, inr, Bool, true, false, not, List, [], ◌∷◌, length, filter, refl, sym, ap, ap₂, ◌∙◌, subst, arith, Contains}
-use Rattle.std.proofs.lemmas.Bool.{cases_Bool, cases_eq, or_cases, or_left, or_right, and_parts, and_from, and_left, eq-eqb, eqb-true, ne_eqb, both_ways, true≢false, not-true, not-false, not_from_true, not_from_false, false_from_ne_true}
+use Rattle.std.proofs.Common.{◌≡◌, ◌≢◌, ℕ, zero, suc, ◌<◌, ◌==◌, ◌&&◌, ◌||◌, inl, inr, Bool, true, false, not, List, length, filter, refl, sym, ap, ap₂, ◌∙◌, subst, arith, Contains}
+use Rattle.std.proofs.lemmas.Bool.{cases_Bool, cases_eq, or_cases, or_left, or_right, and_parts, and_from, and_left, eq-eqb, eqb-true, ne_eqb, both_ways, true≢false, not-true, not_from_false}
 use Rattle.permutations.specs.Count.{some}
 use Rattle.permutations.specs.Relation.{connected}
-use Rattle.permutations.proofs.Search.{some-from, some-witness, some-ext}
-use Rattle.permutations.proofs.Relation.{same-tests, connected-reflexive, connected-symmetric, connected-transitive, connected-link, connected-closed, connected-equivalence}
-use Rattle.pair_split.specs.Split.{items_of, item_at, StandsFor, all_links, joins_others, is_beyond, LinksTo, IsTree, AreLinked}
+use Rattle.permutations.proofs.Search.{some-from, some-witness}
+use Rattle.permutations.proofs.Relation.{same-tests, connected-reflexive, connected-symmetric, connected-transitive, connected-link, connected-closed}
+use Rattle.pair_split.specs.Split.{items_of, item_at, all_links, joins_others, is_beyond, LinksTo, IsTree, AreLinked}
 use Rattle.pair_split.specs.declared.components.What.{What}
 use Rattle.pair_split.specs.declared.components.What.TheVariants.{Real, Link}
 use Rattle.pair_split.specs.declared.components.Comp.{Comp}
 use Rattle.pair_split.proofs.Elements.{contains-filter, filter-contains}
 use Rattle.pair_split.proofs.GraphFamily.{all-from_contained}
-use Rattle.pair_split.proofs.Links.{no_piece, link-contained, contained-link, stands-in}
-use Rattle.pair_split.proofs.Subtrees.{link-in, is_below, below-own, parent-not_below, side-below, side-above}
+use Rattle.pair_split.proofs.Links.{link-contained, contained-link, stands-in}
+use Rattle.pair_split.proofs.Subtrees.{link-in, is_below, side-below, side-above}
 
 module _ (comps : List Comp) (a : AreLinked comps) where
   abbrev t : IsTree comps
   t = a.tree
 
   -- the component from which a link comes
-  link-from : (k j : ℕ) → LinksTo comps k j → k < length comps
+  pub link-from : (k j : ℕ) → LinksTo comps k j → k < length comps
   link-from k j l = stands-in comps k l.0 (Link j) l.1
 
   -- links connect each component to the root
@@ -99,7 +99,7 @@ module _ (comps : List Comp) (a : AreLinked comps) where
   beyond-apart k j h d l i n b =
       let start : only k j h j ≡ true = and_from (is_beyond comps k j j) (not (is_beyond comps k h j)) (beyond-far k j) (not_from_false (is_beyond comps k h j) (beyond-neighbour k j h l i n)) in
       let closed : only k j h j ≡ only k j h d = connected-closed (filter (joins_others k j) (all_links 0 comps)) (only k j h)
-          (all-from_contained (λ link. only k j h link.0 ≡ only k j h link.1) (filter (joins_others k j) (all_links 0 comps)) (only-along k j h l)) j d b in
+      (all-from_contained (λ link. only k j h link.0 ≡ only k j h link.1) (filter (joins_others k j) (all_links 0 comps)) (only-along k j h l)) j d b in
       not-true (is_beyond comps k h d) (and_parts (is_beyond comps k j d) (not (is_beyond comps k h d)) (sym closed ∙ start)).1
 
   -- whether a component is beyond an item: the item is a link to its side
@@ -135,9 +135,9 @@ module _ (comps : List Comp) (a : AreLinked comps) where
   reached-beyond k x h n = elim (or_cases (x == k) (some (length (items_of comps k)) (λ i. beyond_item k (item_at comps k i).what x)) h) [
     | inl e ↦ absurd (n (eqb-true x k e))
     | inr s ↦
-      let i = some-witness (length (items_of comps k)) (λ i. beyond_item k (item_at comps k i).what x) s in
-      let b = beyond_item-cases k (item_at comps k i.0).what x i.2 in
-      (b.0, (i.0, (i.1, b.1)), b.2)
+        let i = some-witness (length (items_of comps k)) (λ i. beyond_item k (item_at comps k i).what x) s in
+        let b = beyond_item-cases k (item_at comps k i.0).what x i.2 in
+        (b.0, (i.0, (i.1, b.1)), b.2)
   ]
 
   beyond-reached : (k j x : ℕ) → LinksTo comps k j → is_beyond comps k j x ≡ true → reached k x ≡ true
@@ -146,7 +146,7 @@ module _ (comps : List Comp) (a : AreLinked comps) where
       (some-from (length (items_of comps k)) (λ i. beyond_item k (item_at comps k i).what x) l.0 (l.1).0 (beyond_item-link k (item_at comps k l.0).what j x (l.1).1 ∙ b))
 
   -- a link leads from a reached component to a reached one
-  link-back : (k j : ℕ) → LinksTo comps k j → LinksTo comps j k
+  pub link-back : (k j : ℕ) → LinksTo comps k j → LinksTo comps j k
   link-back k j l = let b = a.back k j l.0 l.1 in (b.0, b.1)
 
   reached-step : (k x y : ℕ) → LinksTo comps x y → reached k x ≡ true → reached k y ≡ true

@@ -40,10 +40,10 @@ abbrev pub key_of : Multigraph → List Node → ℕ → What → ℕ
 key_of g nodes k (Real e) = e
 key_of g nodes k (Link j) = least (edge_count g) (side (components nodes) k j)
 
--- whether what stands in node k is edge e, or a link with e on its side
-abbrev pub has_in_group : List Node → ℕ → ℕ → What → Bool
-has_in_group nodes k e (Real f) = f == e
-has_in_group nodes k e (Link j) = side (components nodes) k j e
+-- whether what stands in component k is edge e, or a link with e on its side
+abbrev pub has_in_group : List Comp → ℕ → ℕ → What → Bool
+has_in_group comps k e (Real f) = f == e
+has_in_group comps k e (Link j) = side comps k j e
 
 -- the key of the first of these items that passes the test
 abbrev pub first_key : (What → Bool) → List Item → ℕ
@@ -52,7 +52,7 @@ first_key passes (item ∷ items) = cond (passes item.what) item.key (first_key 
 
 -- the key of the item of node k that is edge e or has e on its side
 abbrev pub group : List Node → ℕ → ℕ → ℕ
-group nodes k e = first_key (has_in_group nodes k e) (node_at nodes k).items
+group nodes k e = first_key (has_in_group (components nodes) k e) (node_at nodes k).items
 
 -- each number is smaller than all that follow it
 abbrev pub Rises : List ℕ → Type 0
