@@ -42,3 +42,4 @@ pub mod Circle
 pub mod TwoSystems
 pub mod RunSuccessors
 pub mod ExpandedRuns
+pub mod FoundRim
