@@ -43,3 +43,6 @@ pub mod TwoSystems
 pub mod RunSuccessors
 pub mod ExpandedRuns
 pub mod FoundRim
+pub mod FoundSystem
+pub mod Found
+pub mod FoundAlternating
