@@ -1,3 +1,7 @@
 -- The lemmas on merging and rearranging split components.
 pub mod MergeCounts
 pub mod MergeSides
+pub mod MergeTouch
+pub mod JoinedBonds
+pub mod JoinedParity
+pub mod JoinedPolygons

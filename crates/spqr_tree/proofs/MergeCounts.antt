@@ -1,6 +1,6 @@
 -- How many pieces pass a test, and how many of a group.
-use Rattle.std.proofs.Common.{◌≡◌, ◌≢◌, ℕ, zero, suc, ◌+◌, ◌<◌, ◌≤◌, ◌==◌, ◌&&◌, inl, inr, Bool, true, cond, List, [], ◌∷◌, ◌++◌, length, slice_index_or, refl, sym, ap, ◌∙◌, arith, IsPermutation, sum_by}
-use Rattle.std.proofs.lemmas.Bool.{cases_Bool, cases_eq, cases_lt, and_parts, and_from, eq-eqb, eqb-true}
+use Rattle.std.proofs.Common.{◌≡◌, ◌≢◌, ℕ, zero, suc, ◌+◌, ◌<◌, ◌≤◌, ◌==◌, ◌&&◌, inl, inr, Bool, true, false, not, cond, List, [], ◌∷◌, ◌++◌, length, map, filter, slice_index_or, refl, sym, ap, ◌∙◌, subst, arith, IsPermutation, sum_by}
+use Rattle.std.proofs.lemmas.Bool.{cases_Bool, cases_eq, cases_lt, and_parts, and_from, both_ways, eq-eqb, eqb-true}
 use Rattle.std.proofs.lemmas.List.Sums.{sum_by-cons}
 use Rattle.std.proofs.lemmas.List.Sorted.{sum_by-IsPermutation}
 use Rattle.permutations.specs.Count.{sum_below}
@@ -11,48 +11,48 @@ use Rattle.pair_split.specs.declared.components.Comp.{Comp}
 use Rattle.pair_split.proofs.Links.{no_piece}
 use Rattle.spqr_tree.specs.Merged.{how_many, is_outer, gathered}
 
--- one piece more in front
-pub how_many-cons : (t : Piece → Bool) (piece : Piece) (pieces : List Piece) → how_many t (piece ∷ pieces) ≡ cond (t piece) 1 0 + how_many t pieces
-how_many-cons t piece pieces = elim (cases_Bool (t piece)) [ inl h ↦ rw h (omega arith) | inr h ↦ rw h (omega arith) ]
+-- one element more in front
+pub number-cons : {X : Type 0} (t : X → Bool) (x : X) (xs : List X) → length (filter t (x ∷ xs)) ≡ cond (t x) 1 0 + length (filter t xs)
+number-cons t x xs = elim (cases_Bool (t x)) [ inl h ↦ rw h (omega arith) | inr h ↦ rw h (omega arith) ]
 
 -- two lists one after the other
-pub how_many-append : (t : Piece → Bool) (pieces others : List Piece) → how_many t (pieces ++ others) ≡ how_many t pieces + how_many t others
-how_many-append t [] others = omega arith
-how_many-append t (piece ∷ pieces) others = omega (arith, how_many-cons t piece (pieces ++ others), how_many-cons t piece pieces, how_many-append t pieces others)
+pub number-append : {X : Type 0} (t : X → Bool) (xs others : List X) → length (filter t (xs ++ others)) ≡ length (filter t xs) + length (filter t others)
+number-append t [] others = omega arith
+number-append t (x ∷ xs) others = omega (arith, number-cons t x (xs ++ others), number-cons t x xs, number-append t xs others)
 
--- a piece that passes counts
-pub how_many-from : (t : Piece → Bool) (pieces : List Piece) (i : ℕ) → i < length pieces → t (slice_index_or pieces i no_piece) ≡ true → 1 ≤ how_many t pieces
-how_many-from t [] i l h = absurd (omega (arith, l))
-how_many-from t (piece ∷ pieces) zero l h = rw h (omega arith)
-how_many-from t (piece ∷ pieces) (suc i) l h = omega (arith, how_many-cons t piece pieces, how_many-from t pieces i (omega (arith, l)) h)
+-- an element that passes counts
+pub number-from : {X : Type 0} (o : X) (t : X → Bool) (xs : List X) (i : ℕ) → i < length xs → t (slice_index_or xs i o) ≡ true → 1 ≤ length (filter t xs)
+number-from o t [] i l h = absurd (omega (arith, l))
+number-from o t (x ∷ xs) zero l h = rw h (omega arith)
+number-from o t (x ∷ xs) (suc i) l h = omega (arith, number-cons t x xs, number-from o t xs i (omega (arith, l)) h)
 
 -- where one counts, there is one
-pub how_many-some : (t : Piece → Bool) (pieces : List Piece) → 1 ≤ how_many t pieces → (i : ℕ) × (i < length pieces) × (t (slice_index_or pieces i no_piece) ≡ true)
-how_many-some t [] l = absurd (omega (arith, l))
-how_many-some t (piece ∷ pieces) l = elim (cases_Bool (t piece)) [
+pub number-some : {X : Type 0} (o : X) (t : X → Bool) (xs : List X) → 1 ≤ length (filter t xs) → (i : ℕ) × (i < length xs) × (t (slice_index_or xs i o) ≡ true)
+number-some o t [] l = absurd (omega (arith, l))
+number-some o t (x ∷ xs) l = elim (cases_Bool (t x)) [
   | inl h ↦ (0, omega arith, h)
-  | inr h ↦ let w = how_many-some t pieces (rw h at l) in (suc w.0, omega (arith, w.1), w.2)
+  | inr h ↦ let w = number-some o t xs (rw h at l) in (suc w.0, omega (arith, w.1), w.2)
 ]
 
--- pieces at two places that pass are two
-pub how_many-two : (t : Piece → Bool) (pieces : List Piece) (i j : ℕ) → i < length pieces → j < length pieces → i ≢ j → t (slice_index_or pieces i no_piece) ≡ true → t (slice_index_or pieces j no_piece) ≡ true → 2 ≤ how_many t pieces
-how_many-two t [] i j l k n h m = absurd (omega (arith, l))
-how_many-two t (piece ∷ pieces) zero zero l k n h m = absurd (n refl)
-how_many-two t (piece ∷ pieces) zero (suc j) l k n h m = rw h (omega (arith, how_many-from t pieces j (omega (arith, k)) m))
-how_many-two t (piece ∷ pieces) (suc i) zero l k n h m = rw m (omega (arith, how_many-from t pieces i (omega (arith, l)) h))
-how_many-two t (piece ∷ pieces) (suc i) (suc j) l k n h m = omega (arith, how_many-cons t piece pieces, how_many-two t pieces i j (omega (arith, l)) (omega (arith, k)) (λ e. n (ap suc e)) h m)
+-- elements at two places that pass are two
+pub number-two : {X : Type 0} (o : X) (t : X → Bool) (xs : List X) (i j : ℕ) → i < length xs → j < length xs → i ≢ j → t (slice_index_or xs i o) ≡ true → t (slice_index_or xs j o) ≡ true → 2 ≤ length (filter t xs)
+number-two o t [] i j l k n h m = absurd (omega (arith, l))
+number-two o t (x ∷ xs) zero zero l k n h m = absurd (n refl)
+number-two o t (x ∷ xs) zero (suc j) l k n h m = rw h (omega (arith, number-from o t xs j (omega (arith, k)) m))
+number-two o t (x ∷ xs) (suc i) zero l k n h m = rw m (omega (arith, number-from o t xs i (omega (arith, l)) h))
+number-two o t (x ∷ xs) (suc i) (suc j) l k n h m = omega (arith, number-cons t x xs, number-two o t xs i j (omega (arith, l)) (omega (arith, k)) (λ e. n (ap suc e)) h m)
 
--- where at most one place has a piece that passes, at most one does
-pub how_many-once : (t : Piece → Bool) (pieces : List Piece)
-    → ((i j : ℕ) → i < length pieces → j < length pieces → t (slice_index_or pieces i no_piece) ≡ true → t (slice_index_or pieces j no_piece) ≡ true → i ≡ j)
-    → how_many t pieces ≤ 1
-how_many-once t [] u = omega arith
-how_many-once t (piece ∷ pieces) u = elim (cases_Bool (t piece)) [
-  | inl h ↦ elim (cases_lt 0 (how_many t pieces)) [
-    | inl l ↦ let w = how_many-some t pieces l in absurd (zero-suc w.0 (u 0 (suc w.0) (omega arith) (omega (arith, w.1)) h w.2))
+-- where at most one place has an element that passes, at most one does
+pub number-once : {X : Type 0} (o : X) (t : X → Bool) (xs : List X)
+    → ((i j : ℕ) → i < length xs → j < length xs → t (slice_index_or xs i o) ≡ true → t (slice_index_or xs j o) ≡ true → i ≡ j)
+    → length (filter t xs) ≤ 1
+number-once o t [] u = omega arith
+number-once o t (x ∷ xs) u = elim (cases_Bool (t x)) [
+  | inl h ↦ elim (cases_lt 0 (length (filter t xs))) [
+    | inl l ↦ let w = number-some o t xs l in absurd (zero-suc w.0 (u 0 (suc w.0) (omega arith) (omega (arith, w.1)) h w.2))
     | inr l ↦ rw h (omega (arith, l))
   ]
-  | inr h ↦ rw h (how_many-once t pieces (λ i j l k m n. same-suc i j (u (suc i) (suc j) (omega (arith, l)) (omega (arith, k)) m n)))
+  | inr h ↦ rw h (number-once o t xs (λ i j l k m n. same-suc i j (u (suc i) (suc j) (omega (arith, l)) (omega (arith, k)) m n)))
 ]
   where
     zero-suc : (i : ℕ) → 0 ≡ suc i → ⊥
@@ -62,17 +62,67 @@ how_many-once t (piece ∷ pieces) u = elim (cases_Bool (t piece)) [
     same-suc i j e = omega (arith, e)
 
 -- a weaker test passes no fewer
-pub how_many-weaker : (t u : Piece → Bool) (pieces : List Piece) → ((piece : Piece) → t piece ≡ true → u piece ≡ true) → how_many t pieces ≤ how_many u pieces
-how_many-weaker t u [] h = omega arith
-how_many-weaker t u (piece ∷ pieces) h = elim (cases_Bool (t piece)) [
-  | inl a ↦ rw (a, h piece a) (omega (arith, how_many-weaker t u pieces h))
-  | inr a ↦ rw a (omega (arith, how_many-cons u piece pieces, how_many-weaker t u pieces h))
+pub number-weaker : {X : Type 0} (t u : X → Bool) (xs : List X) → ((x : X) → t x ≡ true → u x ≡ true) → length (filter t xs) ≤ length (filter u xs)
+number-weaker t u [] h = omega arith
+number-weaker t u (x ∷ xs) h = elim (cases_Bool (t x)) [
+  | inl a ↦ rw (a, h x a) (omega (arith, number-weaker t u xs h))
+  | inr a ↦ rw a (omega (arith, number-cons u x xs, number-weaker t u xs h))
 ]
 
 -- tests that agree pass as many
-pub how_many-ext : (t u : Piece → Bool) (pieces : List Piece) → ((piece : Piece) → t piece ≡ u piece) → how_many t pieces ≡ how_many u pieces
-how_many-ext t u [] h = refl
-how_many-ext t u (piece ∷ pieces) h = rw (how_many-cons t piece pieces, how_many-cons u piece pieces, how_many-ext t u pieces h, h piece) refl
+pub number-ext : {X : Type 0} (t u : X → Bool) (xs : List X) → ((x : X) → t x ≡ u x) → length (filter t xs) ≡ length (filter u xs)
+number-ext t u [] h = refl
+number-ext t u (x ∷ xs) h = rw (number-cons t x xs, number-cons u x xs, number-ext t u xs h, h x) refl
+
+-- tests that agree on the elements pass as many
+pub number-within : {X : Type 0} (o : X) (t u : X → Bool) (xs : List X) → ((i : ℕ) → i < length xs → t (slice_index_or xs i o) ≡ u (slice_index_or xs i o)) → length (filter t xs) ≡ length (filter u xs)
+number-within o t u [] h = refl
+number-within o t u (x ∷ xs) h = rw (number-cons t x xs, number-cons u x xs, number-within o t u xs (λ i l. h (suc i) (omega (arith, l))), h 0 (omega arith)) refl
+
+-- where all pass, all count
+pub number-all : {X : Type 0} (o : X) (t : X → Bool) (xs : List X) → ((i : ℕ) → i < length xs → t (slice_index_or xs i o) ≡ true) → length (filter t xs) ≡ length xs
+number-all o t [] h = refl
+number-all o t (x ∷ xs) h = rw (number-cons t x xs, number-all o t xs (λ i l. h (suc i) (omega (arith, l))), h 0 (omega arith)) (omega arith)
+
+-- where none passes, none counts
+pub number-none : {X : Type 0} (o : X) (t : X → Bool) (xs : List X) → ((i : ℕ) → i < length xs → t (slice_index_or xs i o) ≡ false) → length (filter t xs) ≡ 0
+number-none o t [] h = refl
+number-none o t (x ∷ xs) h = rw (number-cons t x xs, number-none o t xs (λ i l. h (suc i) (omega (arith, l))), h 0 (omega arith)) (omega arith)
+
+-- the images that pass
+pub number-map : {X Y : Type 0} (f : X → Y) (t : Y → Bool) (xs : List X) → length (filter t (map f xs)) ≡ length (filter (λ x. t (f x)) xs)
+number-map f t [] = refl
+number-map f t (x ∷ xs) = number-cons t (f x) (map f xs) ∙ ap (λ z. cond (t (f x)) 1 0 + z) (number-map f t xs) ∙ sym (number-cons (λ y. t (f y)) x xs)
+
+-- those that pass, parted by another test
+pub number-parts : {X : Type 0} (a t : X → Bool) (xs : List X) → length (filter t xs) ≡ length (filter (λ x. not (a x) && t x) xs) + length (filter (λ x. a x && t x) xs)
+number-parts a t [] = refl
+number-parts a t (x ∷ xs) = rw (number-cons t x xs, number-cons (λ y. not (a y) && t y) x xs, number-cons (λ y. a y && t y) x xs) (omega (arith, number-parts a t xs, one (a x) (t x)))
+  where
+    one : (b c : Bool) → cond c 1 0 ≡ cond (not b && c) 1 0 + cond (b && c) 1 0
+    one true c = omega arith
+    one false c = omega arith
+
+-- where an element at one place alone passes a test, that one counts where it passes another one as well
+pub number-only : {X : Type 0} (o : X) (a t : X → Bool) (xs : List X) (i : ℕ) → i < length xs → a (slice_index_or xs i o) ≡ true → length (filter a xs) ≤ 1 → length (filter (λ x. a x && t x) xs) ≡ cond (t (slice_index_or xs i o)) 1 0
+number-only o a t xs i l h few = elim (cases_Bool (t (slice_index_or xs i o))) [
+  | inl p ↦ rw p (omega (
+    arith,
+    few,
+    number-weaker (λ x. a x && t x) a xs (λ x q. (and_parts (a x) (t x) q).0),
+    number-from o (λ x. a x && t x) xs i l (and_from (a (slice_index_or xs i o)) (t (slice_index_or xs i o)) h p),
+  ))
+  | inr p ↦ rw p (elim (cases_lt 0 (length (filter (λ x. a x && t x) xs))) [
+    | inl some ↦
+        let w = number-some o (λ x. a x && t x) xs some in
+        let q = and_parts (a (slice_index_or xs w.0 o)) (t (slice_index_or xs w.0 o)) w.2 in
+        elim (cases_eq w.0 i) [
+          | inl e ↦ absurd (both_ways (t (slice_index_or xs i o)) p (subst (λ j. t (slice_index_or xs j o) ≡ true) e q.1))
+          | inr n ↦ absurd (omega (arith, few, number-two o a xs w.0 i w.1 l n q.0 h))
+        ]
+    | inr none ↦ omega (arith, none)
+  ])
+]
 
 -- as many as pass a test count, in any order
 pub permutation-how_many : (t : Piece → Bool) (pieces others : List Piece) → IsPermutation pieces others → how_many t others ≡ how_many t pieces
@@ -80,7 +130,7 @@ permutation-how_many t pieces others p = as-sum others ∙ sum_by-IsPermutation 
   where
     as-sum : (l : List Piece) → how_many t l ≡ sum_by (λ piece. cond (t piece) 1 0) l
     as-sum [] = refl
-    as-sum (piece ∷ l) = how_many-cons t piece l ∙ ap (λ z. cond (t piece) 1 0 + z) (as-sum l) ∙ sym (sum_by-cons (λ q. cond (t q) 1 0) piece l)
+    as-sum (piece ∷ l) = number-cons t piece l ∙ ap (λ z. cond (t piece) 1 0 + z) (as-sum l) ∙ sym (sum_by-cons (λ q. cond (t q) 1 0) piece l)
 
 -- a sum that is not zero has such a term
 pub sum-some : (n : ℕ) (f : ℕ → ℕ) → 1 ≤ sum_below n f → (x : ℕ) × (x < n) × (1 ≤ f x)
@@ -117,7 +167,7 @@ module _ (comps : List Comp) (lead : ℕ → ℕ) (k : ℕ) (t : Piece → Bool)
   -- a piece of the group that passes counts
   pub gathered-from : (x i : ℕ) → x < length comps → lead x ≡ k → i < length (items_of comps x) → is_outer lead k (item_at comps x i).what ≡ true → t (item_at comps x i) ≡ true → 1 ≤ gathered comps lead k t
   gathered-from x i l e j o h =
-      let one = how_many-from (λ piece. is_outer lead k piece.what && t piece) (items_of comps x) i j (and_from (is_outer lead k (item_at comps x i).what) (t (item_at comps x i)) o h) in
+      let one = number-from no_piece (λ piece. is_outer lead k piece.what && t piece) (items_of comps x) i j (and_from (is_outer lead k (item_at comps x i).what) (t (item_at comps x i)) o h) in
       let s : share x ≡ how_many (λ piece. is_outer lead k piece.what && t piece) (items_of comps x) = rw (eq-eqb (lead x) k e) refl in
       omega (arith, one, s, sum_below-term (length comps) share x l)
 
@@ -125,7 +175,7 @@ module _ (comps : List Comp) (lead : ℕ → ℕ) (k : ℕ) (t : Piece → Bool)
   share-some : (x : ℕ) → 1 ≤ share x → (i : ℕ) × (i < length (items_of comps x)) × (lead x ≡ k) × (is_outer lead k (item_at comps x i).what ≡ true) × (t (item_at comps x i) ≡ true)
   share-some x h = elim (cases_Bool (lead x == k)) [
     | inl e ↦
-        let w = how_many-some (λ piece. is_outer lead k piece.what && t piece) (items_of comps x) (rw e at h) in
+        let w = number-some no_piece (λ piece. is_outer lead k piece.what && t piece) (items_of comps x) (rw e at h) in
         let p = and_parts (is_outer lead k (item_at comps x w.0).what) (t (item_at comps x w.0)) w.2 in
         (w.0, w.1, eqb-true (lead x) k e, p.0, p.1)
     | inr e ↦ absurd (omega (arith, h, ap (λ (b : Bool). cond b (how_many (λ piece. is_outer lead k piece.what && t piece) (items_of comps x)) 0) e))
@@ -156,7 +206,7 @@ module _ (comps : List Comp) (lead : ℕ → ℕ) (k : ℕ) (t : Piece → Bool)
     where
       few : (x : ℕ) → x < length comps → share x ≤ 1
       few x l = elim (cases_Bool (lead x == k)) [
-        | inl e ↦ rw e (how_many-once (λ piece. is_outer lead k piece.what && t piece) (items_of comps x) (λ i j a b p q.
+        | inl e ↦ rw e (number-once no_piece (λ piece. is_outer lead k piece.what && t piece) (items_of comps x) (λ i j a b p q.
             let v = and_parts (is_outer lead k (item_at comps x i).what) (t (item_at comps x i)) p in
             let w = and_parts (is_outer lead k (item_at comps x j).what) (t (item_at comps x j)) q in
             (u x i x j l l (eqb-true (lead x) k e) (eqb-true (lead x) k e) a b v.0 w.0 v.1 w.1).1))

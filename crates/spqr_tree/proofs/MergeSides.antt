@@ -1,5 +1,5 @@
 -- The two sides of a link, by what tests on the components respect the links.
-use Rattle.std.proofs.Common.{◌≡◌, ℕ, zero, suc, ◌<◌, ◌⊎◌, ◌==◌, ◌&&◌, ◌||◌, inl, inr, Bool, true, false, not, List, length, filter, sym, ap, ◌∙◌, subst, arith}
+use Rattle.std.proofs.Common.{◌≡◌, ℕ, zero, suc, ◌<◌, ◌⊎◌, ◌==◌, ◌&&◌, ◌||◌, inl, inr, Bool, true, false, not, List, length, filter, refl, sym, ap, ◌∙◌, subst, arith}
 use Rattle.std.proofs.lemmas.Bool.{cases_Bool, cases_eq, or_cases, and_parts, eqb-true, not_from_false, false_from_ne_true}
 use Rattle.permutations.specs.Relation.{connected}
 use Rattle.permutations.proofs.Relation.{connected-reflexive, connected-symmetric, connected-transitive, connected-link, same-tests}
@@ -22,7 +22,7 @@ joins-other k j x y n = not_from_false (((x == k) && (y == j)) || ((x == j) && (
     ]))
 
 -- a link is another one, or joins k and j
-other-cases : (k j x y : ℕ) → IsOther k j x y ⊎ ((x ≡ k) × (y ≡ j)) ⊎ ((x ≡ j) × (y ≡ k))
+pub other-cases : (k j x y : ℕ) → IsOther k j x y ⊎ ((x ≡ k) × (y ≡ j)) ⊎ ((x ≡ j) × (y ≡ k))
 other-cases k j x y = elim (cases_eq x k) [
   | inl e ↦ elim (cases_eq y j) [
     | inl i ↦ inr (inl (e, i))
@@ -117,3 +117,38 @@ module _ (comps : List Comp) (a : AreLinked comps) where
 
       other : (x y : ℕ) → LinksTo comps x y → IsOther k j x y → agree x ≡ agree y
       other x y w m = ap (λ (b : Bool). alike b (t x)) (beyond-other k j x y w m) ∙ ap (alike (is_beyond comps k j y)) (o x y w m)
+
+  -- the two sides of a link, seen from the one and from the other
+  pub beyond-opposite : (k j : ℕ) → LinksTo comps k j → LinksTo comps j k → (d : ℕ) → d < length comps → is_beyond comps k j d ≡ not (is_beyond comps j k d)
+  beyond-opposite k j s b d l = beyond-is k j s (λ x. not (is_beyond comps j k x)) (ap not (beyond-near j k b)) (ap not (beyond-far j k))
+      (λ x y w n. ap not (beyond-other j k x y w ((λ p q. n.1 p q), (λ p q. n.0 p q)))) d l
+
+  -- a test that is false at both ends of two links, and that all other links respect, is false everywhere
+  none-passes : (k j h i : ℕ) (u : ℕ → Bool) → k < length comps → u k ≡ false → u j ≡ false → u h ≡ false → u i ≡ false
+      → ((x y : ℕ) → LinksTo comps x y → IsOther k j x y → IsOther h i x y → u x ≡ u y) → (d : ℕ) → d < length comps → u d ≡ false
+  none-passes k j h i u kl uk uj uh ui o d l = whole-but k j u (uk ∙ sym uj) (λ x y s n. elim (other-cases h i x y) [
+    | inl m ↦ o x y s n m
+    | inr c ↦ elim c [ inl p ↦ ap u p.0 ∙ uh ∙ sym (ap u p.1 ∙ ui) | inr p ↦ ap u p.0 ∙ ui ∙ sym (ap u p.1 ∙ uh) ]
+  ]) d k l kl ∙ uk
+
+  -- a link between components on the far side of another one: a side of it without the near component lies on the far side
+  pub beyond-within : (k j h i : ℕ) → LinksTo comps k j → LinksTo comps h i → IsOther k j h i → is_beyond comps k j h ≡ true
+      → (t : ℕ → Bool) → ((x y : ℕ) → LinksTo comps x y → IsOther h i x y → t x ≡ t y) → t k ≡ false
+      → (d : ℕ) → d < length comps → t d ≡ true → is_beyond comps k j d ≡ true
+  beyond-within k j h i s w n bh t o f d l p = step (t d) (is_beyond comps k j d) p
+      (none-passes k j h i u (link-from k j s) (first-false (t k) (is_beyond comps k j k) f) (first-false (t j) (is_beyond comps k j j) (sym (o k j s ((λ a b. n.0 (sym a) (sym b)), (λ a b. n.1 (sym b) (sym a)))) ∙ f))
+      (second-true (t h) (is_beyond comps k j h) bh) (second-true (t i) (is_beyond comps k j i) (sym (beyond-other k j h i w n) ∙ bh))
+      (λ x y v a b. ap (λ (c : Bool). c && not (is_beyond comps k j x)) (o x y v b) ∙ ap (λ (c : Bool). t y && not c) (beyond-other k j x y v a)) d l)
+    where
+      -- in the side and not on the far side
+      u : ℕ → Bool
+      u x = t x && not (is_beyond comps k j x)
+
+      first-false : (a b : Bool) → a ≡ false → (a && not b) ≡ false
+      first-false a b e = rw e refl
+
+      second-true : (a b : Bool) → b ≡ true → (a && not b) ≡ false
+      second-true a b e = grind (arith, e, cases_Bool a)
+
+      step : (a b : Bool) → a ≡ true → (a && not b) ≡ false → b ≡ true
+      step a b e h = grind (arith, e, h, cases_Bool b)
