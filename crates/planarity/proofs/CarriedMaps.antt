@@ -29,10 +29,6 @@ module _ (n m : ℕ) (live : ℕ → Bool) (into back : ℕ → ℕ) (z : IsNumb
   pub alone-back : (d : ℕ) → d < m → live d ≡ false → g d ≡ d
   alone-back d l h = ap g (sym (alone d l h)) ∙ p.back_forth d l
 
-  -- so it is a permutation of the inner numbers
-  inner-forth : (d : ℕ) → d < n → (live (f (into d)) ≡ true) × (f (into d) < m)
-  inner-forth d l = (live-stays (into d) (z.numbers d l) (z.lives d l), p.forth (into d) (z.numbers d l))
-
 -- the inverse too
 live-back : (n m : ℕ) (live : ℕ → Bool) (into back : ℕ → ℕ) → IsNumbering n m live into back → (f g : ℕ → ℕ) → Permutes m f g → ((d : ℕ) → d < m → live d ≡ false → f d ≡ d) → (d : ℕ) → d < m → live d ≡ true → live (g d) ≡ true
 live-back n m live into back z f g p alone = live-stays n m live into back z g f (permutes-inverse m f g p) (alone-back n m live into back z f g p alone)

@@ -289,7 +289,7 @@ module _ (g h : Multigraph) (e x y : ℕ) (edge vertex : ℕ → ℕ) (ok : IsGr
   open-other z na nb nm nt = exchange-other b_last (twin middle) half z nb nt ∙ exchange-other a_last middle split z na nm ∙ exchange-other a_last b_last big z na nb
 
   -- contracting the edge leads back
-  open-contracted : (z : ℕ) → z < 2 * m → big z ≡ contracted middle wide z
+  pub open-contracted : (z : ℕ) → z < 2 * edge_count g → carried g h e x y edge (dart_after h t) z ≡ contracted (dart_from g x e) (opened (dart_from g x e) (moved edge last) (moved edge (dart_before h t first)) (carried g h e x y edge (dart_after h t))) z
   open-contracted z l = elim (cases_eq z middle) [
     | inl q ↦ ap big q ∙ big-alone middle middle-in middle-gone ∙ sym (ap (contracted middle wide) q ∙ contracted-here middle wide)
     | inr nm ↦ elim (cases_eq z (twin middle)) [

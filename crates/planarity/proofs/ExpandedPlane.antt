@@ -1,22 +1,18 @@
 -- A plane rotation system of the graph with an edge contracted, whose merged vertex falls in runs, expands to a plane rotation
 -- system of the graph.
-use Rattle.std.proofs.Common.{◌≡◌, ℕ, ◌/◌, ◌<◌, ◌⊎◌, inl, inr, Bool, true, false, cond, ◌||◌, ◌==◌, List, refl, sym, ap, ◌∙◌, subst}
-use Rattle.std.proofs.lemmas.Bool.{cases_Bool, cases_eq, both_ways, eq-eqb, ne_eqb, or_left, or_right, or_from}
+use Rattle.std.proofs.Common.{◌≡◌, ℕ, ◌/◌, ◌<◌, ◌⊎◌, inl, inr, Bool, true, false, ◌||◌, ◌==◌, List, refl, sym, ap, ◌∙◌, subst}
+use Rattle.std.proofs.lemmas.Bool.{cases_Bool, cases_eq, both_ways, eq-eqb, ne_eqb, or_left, or_right, or_from, false_from_ne_true}
 use Rattle.permutations.specs.Relation.{IsEquivalence}
-use Rattle.permutations.specs.Exchange.{exchange}
-use Rattle.permutations.proofs.Permutations.{exchange-other}
+use Rattle.permutations.specs.Exchange.{restricted}
+use Rattle.permutations.proofs.Permutations.{permutes-one-to-one}
 use Rattle.permutations.proofs.Orbits.{orbit-equivalence, orbit-step}
 use Rattle.multigraph.specs.Graph.{Multigraph, IsGraph, edge_count}
 use Rattle.rotations.specs.Rotation.{IsRotationSystem}
 use Rattle.graph_theory.specs.Triconnected.{IsSimple}
 use Rattle.contractions.specs.Contraction.{are_joined, is_kept, IsContraction}
 use Rattle.dart_maps.specs.Map.{twin, face, same_face, IsMap}
-use Rattle.dart_maps.specs.Changes.{inserted}
-use Rattle.dart_maps.proofs.Darts.{twin-twin, twin-below, twin-other, twin-edge, face-twin}
-use Rattle.dart_maps.proofs.Steps.{back_after, step-map}
-use Rattle.dart_maps.proofs.Plane.{same-defect-plane}
+use Rattle.dart_maps.proofs.Darts.{twin-twin, twin-below, twin-edge, face-twin}
 use Rattle.dart_maps.proofs.Euler.{plane-ext}
-use Rattle.dart_maps.proofs.Insert.{insert-defect, inserted-map}
 use Rattle.faces.specs.Euler.{tail, dart_from, dart_count, IsPlane}
 use Rattle.faces.specs.Maps.{dart_after, dart_before}
 use Rattle.faces.proofs.DartLemmas.{dart_from-edge}
@@ -24,79 +20,16 @@ use Rattle.faces.proofs.MapSteps.{tail-in, before-tail, map-permutes}
 use Rattle.faces.proofs.MapCounts.{map-plane}
 use Rattle.faces.proofs.MapToLists.{map-orders}
 use Rattle.faces.proofs.MapParts.{place}
-use Rattle.planarity.specs.Expansion.{moved, stays, FallsInRuns}
+use Rattle.planarity.specs.Expansion.{moved, stays, FallsInRuns, IsContractedSystem}
 use Rattle.planarity.proofs.SimpleDarts.{tail-other, simple-dart}
-use Rattle.planarity.proofs.ContractedVertices.{put-vertices}
-use Rattle.planarity.proofs.ContractedDarts.{stays-gone, stays-off, contracted-not_kept, middle-below, middle-tail, middle-twin, middle-cases, ends-differ, moved-tail, moved-twin}
+use Rattle.planarity.proofs.ContractedDarts.{stays-gone, stays-off, contracted-not_kept, middle-below, middle-tail, middle-twin, middle-cases, ends-differ, moved-tail, moved-twin, middle-not, stays-not, stays-kept, stays-edge}
 use Rattle.planarity.proofs.CarriedMaps.{IsNumbering}
 use Rattle.planarity.proofs.ContractedSystem.{kept-numbering}
 use Rattle.planarity.proofs.JoinedDarts.{joined-dart, dart-turned, dart-joined, dart_between, between-is, kept-away, dropped-from, Dropped, dropped-dart}
-use Rattle.planarity.proofs.ExpandedApart.{IsPart, carried, opened, opened_back, big-steps, big-alone, open-part, open-middle, open-last, open-end, open-other}
-
--- an edge put in between two corners of one face, at the vertices that its darts leave
-module _ (g : Multigraph) (f b : ℕ → ℕ) (live : ℕ → Bool) (part : IsPart g f b live) (u p q : ℕ) (lu : u < dart_count g) (lp : p < dart_count g) (lq : q < dart_count g)
-    (dead : live u ≡ false) (dead_twin : live (twin u) ≡ false) (lives : live p ≡ true) (lives_too : live q ≡ true) (alone : f u ≡ u) (alone_twin : f (twin u) ≡ twin u)
-    (goes : tail g u ≡ tail g p) (goes_twin : tail g (twin u) ≡ tail g q) (in_face : same_face (edge_count g) f (twin p) (twin q) ≡ true) where
-  part-differs : (c d : ℕ) → live c ≡ true → live d ≡ false → c ≡ d → ⊥
-  part-differs c d i j k = both_ways (live d) j (ap live (sym k) ∙ i)
-
-  lt : twin u < dart_count g
-  lt = twin-below (edge_count g) u lu
-
-  pub put-edge : IsPart g (inserted u p q f) (back_after q (twin u) (back_after p u b)) (λ z. (live z || (z == u)) || (z == twin u))
-  put-edge = record {
-    is_map = inserted-map (edge_count g) f b part.is_map u lu alone alone_twin p q lp lq (part-differs p u lives dead) (part-differs p (twin u) lives dead_twin) (part-differs q u lives_too dead) (part-differs q (twin u) lives_too dead_twin);
-    plane = same-defect-plane (edge_count g) f (inserted u p q f)
-        (insert-defect (edge_count g) f b part.is_map u lu alone alone_twin p q lp lq (part-differs p u lives dead) (part-differs p (twin u) lives dead_twin) (part-differs q u lives_too dead) (part-differs q (twin u) lives_too dead_twin) in_face)
-        part.plane;
-    vertices = put-vertices (edge_count g) (exchange p u f) (back_after p u b) (step-map (edge_count g) f b part.is_map p u lp lu) (λ z. live z || (z == u)) (tail g)
-        (put-vertices (edge_count g) f b part.is_map live (tail g) part.vertices p u lp lu lives dead alone goes)
-        q (twin u) lq lt (or_left (live q) (q == u) lives_too) (or_from (live (twin u)) (twin u == u) dead_twin (ne_eqb (twin u) u (twin-other u)))
-        (exchange-other p u f (twin u) (λ i. part-differs p (twin u) lives dead_twin (sym i)) (twin-other u) ∙ alone_twin)
-        goes_twin;
-  }
-
--- the map with the edge of u put in where there is one
-abbrev pub joined_again : Bool → ℕ → ℕ → ℕ → (ℕ → ℕ) → ℕ → ℕ
-joined_again t u p q f z = cond t (inserted u p q f z) (f z)
-
-abbrev joined_back : Bool → ℕ → ℕ → ℕ → (ℕ → ℕ) → ℕ → ℕ
-joined_back t u p q b z = cond t (back_after q (twin u) (back_after p u b) z) (b z)
-
-abbrev joined_live : Bool → ℕ → (ℕ → Bool) → ℕ → Bool
-joined_live t u live z = cond t ((live z || (z == u)) || (z == twin u)) (live z)
-
-joined-part : (g : Multigraph) (f b : ℕ → ℕ) (live : ℕ → Bool) (t : Bool) (u p q : ℕ) → IsPart g f b live
-    → (t ≡ true → IsPart g (inserted u p q f) (back_after q (twin u) (back_after p u b)) (λ z. (live z || (z == u)) || (z == twin u)))
-    → IsPart g (joined_again t u p q f) (joined_back t u p q b) (joined_live t u live)
-joined-part g f b live t u p q part more = elim (cases_Bool t) [
-  | inl h ↦ subst (λ v. IsPart g (joined_again v u p q f) (joined_back v u p q b) (joined_live v u live)) (sym h) (more h)
-  | inr h ↦ subst (λ v. IsPart g (joined_again v u p q f) (joined_back v u p q b) (joined_live v u live)) (sym h) part
-]
-
--- a dart that the put-in edge does not touch
-joined-other : (t : Bool) (u p q : ℕ) (f : ℕ → ℕ) (z : ℕ) → (t ≡ true → (z ≡ p → ⊥) × (z ≡ u → ⊥) × (z ≡ q → ⊥) × (z ≡ twin u → ⊥)) → joined_again t u p q f z ≡ f z
-joined-other t u p q f z off = elim (cases_Bool t) [
-  | inl h ↦ let w = off h in ap (λ v. joined_again v u p q f z) h ∙ exchange-other q (twin u) (exchange p u f) z w.2 w.3 ∙ exchange-other p u f z w.0 w.1
-  | inr h ↦ ap (λ v. joined_again v u p q f z) h
-]
-
--- what lived lives, and the edge where it is put in
-joined-old : (t : Bool) (u : ℕ) (live : ℕ → Bool) (z : ℕ) → live z ≡ true → joined_live t u live z ≡ true
-joined-old t u live z h = elim (cases_Bool t) [
-  | inl i ↦ ap (λ v. joined_live v u live z) i ∙ or_left (live z || (z == u)) (z == twin u) (or_left (live z) (z == u) h)
-  | inr i ↦ ap (λ v. joined_live v u live z) i ∙ h
-]
-
-joined-new : (t : Bool) (u : ℕ) (live : ℕ → Bool) (z : ℕ) → t ≡ true → (z ≡ u) ⊎ (z ≡ twin u) → joined_live t u live z ≡ true
-joined-new t u live z i (inl q) = ap (λ v. joined_live v u live z) i ∙ or_left (live z || (z == u)) (z == twin u) (or_right (live z) (z == u) (eq-eqb z u q))
-joined-new t u live z i (inr q) = ap (λ v. joined_live v u live z) i ∙ or_right (live z || (z == u)) (z == twin u) (eq-eqb z (twin u) q)
-
-joined-dead : (t : Bool) (u : ℕ) (live : ℕ → Bool) (z : ℕ) → live z ≡ false → (t ≡ true → (z ≡ u → ⊥) × (z ≡ twin u → ⊥)) → joined_live t u live z ≡ false
-joined-dead t u live z h off = elim (cases_Bool t) [
-  | inl i ↦ let w = off i in ap (λ v. joined_live v u live z) i ∙ or_from (live z || (z == u)) (z == twin u) (or_from (live z) (z == u) h (ne_eqb z u w.0)) (ne_eqb z (twin u) w.1)
-  | inr i ↦ ap (λ v. joined_live v u live z) i ∙ h
-]
+use Rattle.planarity.proofs.ExpandedApart.{IsPart, carried, opened, opened_back, big-steps, big-alone, open-part, open-middle, open-last, open-end, open-other, open-contracted}
+use Rattle.planarity.proofs.RestrictedSteps.{restricted-over, contracted-ext}
+use Rattle.permutations.proofs.Restriction.{restricted-next, restricted-alone}
+use Rattle.planarity.proofs.JoinedAgain.{put-edge, joined_again, joined_back, joined_live, joined-part, joined-other, joined-old, joined-new, joined-dead, joined-met}
 
 -- the steps of the expanded rotation system: the merged vertex parted at the ends of its runs, with the edge e put in again, and
 -- the edges from y to common neighbours put in beside the first and the last dart of x, where these lead to one
@@ -358,6 +291,19 @@ module _ (g h : Multigraph) (e x y : ℕ) (edge vertex : ℕ → ℕ) (ok : IsGr
         λ k. ends-apart (sym b.1 ∙ ap (tail g) (sym (twin-twin late_edge) ∙ ap twin (sym q ∙ k) ∙ twin-twin early_edge) ∙ a.1),
       )
 
+  -- it is alone before it is put in
+  late-alone : late ≡ true → (z : ℕ) → z < dart_count g → (z ≡ late_edge) ⊎ (z ≡ twin late_edge) → one z ≡ z
+  late-alone j z l o =
+      let half : z / 2 ≡ late_edge / 2 = elim o [ inl q ↦ ap (λ d. d / 2) q | inr q ↦ ap (λ d. d / 2) q ∙ twin-edge late_edge ] in
+      let gone : kept z ≡ false = ap (is_kept g e x y) half ∙ over-gone last runs.last_dart runs.last_leaves j in
+      joined-other early early_edge (twin (into first)) b_last wide z (λ i. (
+        λ q. differs (twin (into first)) z (ap (is_kept g e x y) (twin-edge (into first)) ∙ numbering.lives first runs.first_dart) gone (sym q),
+        (late-apart i j z o).0,
+        λ q. differs b_last z end-kept gone (sym q),
+        (late-apart i j z o).1,
+      ))
+      ∙ over-alone last runs.last_dart runs.last_leaves j z l half
+
   two-part : IsPart g two two_back two_live
   two-part = joined-part g one one_back one_live late late_edge behind (twin middle) one-part (λ j.
       let w = over-is last runs.last_dart runs.last_leaves j in
@@ -366,21 +312,9 @@ module _ (g h : Multigraph) (e x y : ℕ) (edge vertex : ℕ → ℕ) (ok : IsGr
       (joined-dead early early_edge wide_live (twin late_edge) (over-dead last runs.last_dart runs.last_leaves j (twin late_edge) (twin-edge late_edge)) (λ i. late-apart i j (twin late_edge) (inr refl)))
       (joined-old early early_edge wide_live behind (kept-lives behind behind-kept))
       (joined-old early early_edge wide_live (twin middle) (middle-lives (twin middle) (inr refl)))
-      (alone j late_edge w.0 (inl refl))
-      (alone j (twin late_edge) (twin-below (edge_count g) late_edge w.0) (inr refl))
+      (late-alone j late_edge w.0 (inl refl))
+      (late-alone j (twin late_edge) (twin-below (edge_count g) late_edge w.0) (inr refl))
       (w.1 ∙ sym behind-tail) (w.2 ∙ sym (middle-twin g h e x y edge vertex ok con)) one-face)
-    where
-      alone : late ≡ true → (z : ℕ) → z < dart_count g → (z ≡ late_edge) ⊎ (z ≡ twin late_edge) → one z ≡ z
-      alone j z l o =
-          let half : z / 2 ≡ late_edge / 2 = elim o [ inl q ↦ ap (λ d. d / 2) q | inr q ↦ ap (λ d. d / 2) q ∙ twin-edge late_edge ] in
-          let gone : kept z ≡ false = ap (is_kept g e x y) half ∙ over-gone last runs.last_dart runs.last_leaves j in
-          joined-other early early_edge (twin (into first)) b_last wide z (λ i. (
-            λ q. differs (twin (into first)) z (ap (is_kept g e x y) (twin-edge (into first)) ∙ numbering.lives first runs.first_dart) gone (sym q),
-            (late-apart i j z o).0,
-            λ q. differs b_last z end-kept gone (sym q),
-            (late-apart i j z o).1,
-          ))
-          ∙ over-alone last runs.last_dart runs.last_leaves j z l half
 
   -- now all darts live
   all-live : (z : ℕ) → z < dart_count g → two_live z ≡ true
@@ -439,3 +373,134 @@ module _ (g h : Multigraph) (e x y : ℕ) (edge vertex : ℕ → ℕ) (ok : IsGr
   -- each rotation system with these steps is plane
   pub expanded-plane : (r : List (List ℕ)) → IsRotationSystem g r → ((d : ℕ) → d < dart_count g → dart_after g r d ≡ expanded g h e x y edge t first last d) → IsPlane g r
   expanded-plane r s steps = map-plane g r ok s (plane-ext (edge_count g) two (dart_after g r) (λ d l. sym (steps d l)) two-part.plane)
+
+  -- the darts that do not stay are alone in the map without the edges to common neighbours
+  wide-gone : (z : ℕ) → z < dart_count g → stays g e x y z ≡ false → wide z ≡ z
+  wide-gone z l out =
+      let w = stays-gone g e x y z out in
+      let m = middle-not g h e x y edge vertex ok con z w.0 in
+      open-other g h e x y edge vertex ok okh con t st plane first last runs z
+      (λ i. differs (into last) z (numbering.lives last runs.last_dart) w.1 (sym i)) (λ i. differs b_last z end-kept w.1 (sym i)) m.0 m.1
+      ∙ big-alone g h e x y edge vertex ok okh con t st plane first last runs z l w.1
+
+  -- so the others go on to others there
+  wide-stays : (z : ℕ) → z < dart_count g → stays g e x y z ≡ true → stays g e x y (wide z) ≡ true
+  wide-stays z l in_ = elim (cases_Bool (stays g e x y (wide z))) [
+    | inl k ↦ k
+    | inr out ↦ absurd (both_ways (stays g e x y (wide z)) out (ap (stays g e x y) (permutes-one-to-one (dart_count g) wide wide_back wide-part.is_map (wide z) z (wide-part.is_map.forth z l) l (wide-gone (wide z) (wide-part.is_map.forth z l) out)) ∙ in_))
+  ]
+
+  -- a put-in edge does not stay
+  over-out : (d : ℕ) (l : d < dart_count h) (leaves : tail g (moved edge d) ≡ x) → are_joined g y (tail g (twin (moved edge d))) ≡ true → (z : ℕ) → z / 2 ≡ dart_between g (tail g (twin (moved edge d))) y / 2 → stays g e x y z ≡ false
+  over-out d l leaves j z q = stays-not g e x y z (λ i. over-edge d l leaves j (sym q ∙ i)) (ap (is_kept g e x y) q ∙ over-gone d l leaves j)
+
+  -- a dart that stays goes on as in that map, or passes one dart that does not stay before
+  abbrev Passes : ℕ → Type 0
+  Passes z = (two z ≡ wide z) ⊎ ((stays g e x y (two z) ≡ false) × (two (two z) ≡ wide z))
+
+  passes-one : (z : ℕ) → z < dart_count g → stays g e x y z ≡ true → two z ≡ one z → Passes z
+  passes-one z l in_ same = elim (cases_Bool early) [
+    | inr i ↦ inl (same ∙ ap (λ v. joined_again v early_edge (twin (into first)) b_last wide z) i)
+    | inl i ↦
+        let a = over-is first runs.first_dart runs.first_leaves i in
+        let met = joined-met early early_edge (twin (into first)) b_last wide i
+        (λ q. off-y first runs.first_dart runs.first_leaves (ap (tail g) q ∙ runs.before_first))
+        (λ q. off-y first runs.first_dart runs.first_leaves (ap (tail g) q ∙ a.2))
+        (differs b_last early_edge end-kept (over-gone first runs.first_dart runs.first_leaves i)) in
+        elim (cases_eq z (twin (into first))) [
+          | inl q ↦
+              let goes : two z ≡ early_edge = same ∙ ap one q ∙ met.0 ∙ over-alone first runs.first_dart runs.first_leaves i early_edge a.0 refl in
+              inr (ap (stays g e x y) goes ∙ over-out first runs.first_dart runs.first_leaves i early_edge refl, ap two goes ∙ over-one i early_edge (inl refl) ∙ met.1 ∙ ap wide (sym q))
+          | inr na ↦ elim (cases_eq z b_last) [
+            | inl q ↦
+                let goes : two z ≡ twin early_edge = same ∙ ap one q ∙ met.2 ∙ over-alone first runs.first_dart runs.first_leaves i (twin early_edge) (twin-below (edge_count g) early_edge a.0) (twin-edge early_edge) in
+                inr (ap (stays g e x y) goes ∙ over-out first runs.first_dart runs.first_leaves i (twin early_edge) (twin-edge early_edge), ap two goes ∙ over-one i (twin early_edge) (inr refl) ∙ met.3 ∙ ap wide (sym q))
+            | inr nb ↦ inl (same ∙ joined-other early early_edge (twin (into first)) b_last wide z (λ j. (na, off i z in_ early_edge refl, nb, off i z in_ (twin early_edge) (twin-edge early_edge))))
+          ]
+        ]
+  ]
+    where
+      off : early ≡ true → (c : ℕ) → stays g e x y c ≡ true → (d : ℕ) → d / 2 ≡ early_edge / 2 → c ≡ d → ⊥
+      off i c k d q j = both_ways (stays g e x y d) (over-out first runs.first_dart runs.first_leaves i d q) (ap (stays g e x y) (sym j) ∙ k)
+
+      -- the early edge is not touched by the late one
+      over-one : early ≡ true → (d : ℕ) → (d ≡ early_edge) ⊎ (d ≡ twin early_edge) → two d ≡ one d
+      over-one i d o = joined-other late late_edge behind (twin middle) one d (λ j. (
+        λ q. off i behind (stays-kept g e x y behind behind-kept) d (half o) (sym q),
+        λ q. apart j d late_edge (inl refl) o q,
+        λ q. off i (twin middle) (stays-edge g e x y (twin middle) (twin-edge middle ∙ dart_from-edge g x e)) d (half o) (sym q),
+        λ q. apart j d (twin late_edge) (inr refl) o q,
+      ))
+        where
+          half : (d ≡ early_edge) ⊎ (d ≡ twin early_edge) → d / 2 ≡ early_edge / 2
+          half (inl q) = ap (λ z. z / 2) q
+          half (inr q) = ap (λ z. z / 2) q ∙ twin-edge early_edge
+
+          apart : late ≡ true → (d c : ℕ) → (c ≡ late_edge) ⊎ (c ≡ twin late_edge) → (d ≡ early_edge) ⊎ (d ≡ twin early_edge) → d ≡ c → ⊥
+          apart j d c k (inl q) p = (late-apart i j c k).0 (sym p ∙ q)
+          apart j d c k (inr q) p = (late-apart i j c k).1 (sym p ∙ q)
+
+  passes : (z : ℕ) → z < dart_count g → stays g e x y z ≡ true → Passes z
+  passes z l in_ = elim (cases_Bool late) [
+    | inr j ↦ passes-one z l in_ (ap (λ v. joined_again v late_edge behind (twin middle) one z) j)
+    | inl j ↦
+        let b = over-is last runs.last_dart runs.last_leaves j in
+        let met = joined-met late late_edge behind (twin middle) one j
+        (λ q. last-off_y (sym behind-tail ∙ ap (tail g) q ∙ middle-twin g h e x y edge vertex ok con))
+        (differs behind (twin late_edge) behind-kept (twin-gone last runs.last_dart runs.last_leaves j))
+        (λ q. last-off_y (sym b.1 ∙ ap (tail g) (sym q) ∙ middle-twin g h e x y edge vertex ok con)) in
+        elim (cases_eq z behind) [
+          | inl q ↦
+              let goes : two z ≡ late_edge = ap two q ∙ met.0 ∙ late-alone j late_edge b.0 (inl refl) in
+              inr (ap (stays g e x y) goes ∙ over-out last runs.last_dart runs.last_leaves j late_edge refl, ap two goes ∙ met.1 ∙ one-wide_behind ∙ ap wide (sym q))
+          | inr nb ↦ elim (cases_eq z (twin middle)) [
+            | inl q ↦
+                let goes : two z ≡ twin late_edge = ap two q ∙ met.2 ∙ late-alone j (twin late_edge) (twin-below (edge_count g) late_edge b.0) (inr refl) in
+                inr (ap (stays g e x y) goes ∙ over-out last runs.last_dart runs.last_leaves j (twin late_edge) (twin-edge late_edge), ap two goes ∙ met.3 ∙ one-twin ∙ ap wide (sym q))
+            | inr nt ↦ passes-one z l in_ (joined-other late late_edge behind (twin middle) one z (λ k. (nb, off j late_edge refl, nt, off j (twin late_edge) (twin-edge late_edge))))
+          ]
+        ]
+  ]
+    where
+      off : late ≡ true → (d : ℕ) → d / 2 ≡ late_edge / 2 → z ≡ d → ⊥
+      off j d q k = both_ways (stays g e x y d) (over-out last runs.last_dart runs.last_leaves j d q) (ap (stays g e x y) (sym k) ∙ in_)
+
+      one-wide_behind : one behind ≡ wide behind
+      one-wide_behind = one-other behind behind-kept (λ q. ends-apart (sym behind-tail ∙ ap (tail g) q)) (λ q. last-off_y (sym behind-tail ∙ ap (tail g) q ∙ runs.before_first))
+
+      one-twin : one (twin middle) ≡ wide (twin middle)
+      one-twin = joined-other early early_edge (twin (into first)) b_last wide (twin middle) (λ i. (
+        λ q. differs (twin (into first)) (twin middle) (ap (is_kept g e x y) (twin-edge (into first)) ∙ numbering.lives first runs.first_dart) twin-middle-gone (sym q),
+        λ q. over-edge first runs.first_dart runs.first_leaves i (ap (λ d. d / 2) (sym q) ∙ twin-edge middle ∙ dart_from-edge g x e),
+        λ q. differs b_last (twin middle) end-kept twin-middle-gone (sym q),
+        λ q. over-edge first runs.first_dart runs.first_leaves i (sym (twin-edge early_edge) ∙ ap (λ d. d / 2) (sym q) ∙ twin-edge middle ∙ dart_from-edge g x e),
+      ))
+        where
+          twin-middle-gone : kept (twin middle) ≡ false
+          twin-middle-gone = false_from_ne_true (kept (twin middle)) (λ k. contracted-not_kept g e x y (twin middle / 2) k (twin-edge middle ∙ dart_from-edge g x e))
+
+  -- the rotation system with these steps contracts to the one that was expanded
+  pub expanded-contracts : (r : List (List ℕ)) → IsRotationSystem g r → ((d : ℕ) → d < dart_count g → dart_after g r d ≡ expanded g h e x y edge t first last d) → IsContractedSystem g h e x y edge r t
+  expanded-contracts r s steps d l =
+      big-steps g h e x y edge vertex ok okh con t st plane first last runs d l
+      ∙ open-contracted g h e x y edge vertex ok okh con t st plane first last runs (into d) (numbering.numbers d l)
+      ∙ sym (contracted-ext middle (restricted (dart_count g) (stays g e x y) (dart_after g r)) wide (into d) (left-wide (into d) (numbering.numbers d l)) (left-wide middle middle-in) (left-wide (twin middle) (twin-below (edge_count g) middle middle-in)))
+    where
+      left-wide : (z : ℕ) → z < dart_count g → restricted (dart_count g) (stays g e x y) (dart_after g r) z ≡ wide z
+      left-wide z k = elim (cases_Bool (stays g e x y z)) [
+        | inr out ↦ restricted-alone (dart_count g) (stays g e x y) (dart_after g r) z out ∙ sym (wide-gone z k out)
+        | inl in_ ↦ elim (passes z k in_) [
+          | inl q ↦ let goes : dart_after g r z ≡ wide z = steps z k ∙ q in
+              restricted-next (dart_count g) (stays g e x y) (dart_after g r) (dart_before g r) (map-permutes g r ok s) z k in_ (ap (stays g e x y) goes ∙ wide-stays z k in_) ∙ goes
+          | inr q ↦
+              let goes : dart_after g r (dart_after g r z) ≡ wide z = steps (dart_after g r z) ((map-permutes g r ok s).forth z k) ∙ ap two (steps z k) ∙ q.1 in
+              restricted-over (dart_count g) (stays g e x y) (dart_after g r) (dart_before g r) (map-permutes g r ok s) z k in_ (ap (stays g e x y) (steps z k) ∙ q.0) (ap (stays g e x y) goes ∙ wide-stays z k in_) ∙ goes
+        ]
+      ]
+
+-- so where it falls in runs it is made by a plane rotation system of g
+pub runs-expand : (g h : Multigraph) (e x y : ℕ) (edge vertex : ℕ → ℕ) → IsGraph g → IsGraph h → IsContraction g h e x y edge vertex → IsSimple g → (t : List (List ℕ)) → IsRotationSystem h t → IsPlane h t → (first last : ℕ) → FallsInRuns g h x y edge t first last
+    → (r : List (List ℕ)) × IsRotationSystem g r × IsPlane g r × IsContractedSystem g h e x y edge r t
+runs-expand g h e x y edge vertex ok okh con simple t st plane first last runs =
+    let w = expanded-system g h e x y edge vertex ok okh con simple t st plane first last runs in
+    (w.0, w.1, w.2, expanded-contracts g h e x y edge vertex ok okh con simple t st plane first last runs w.0 w.1 w.3)

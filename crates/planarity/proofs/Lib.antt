@@ -34,6 +34,7 @@ pub mod FourVerticesDarts
 pub mod FourVerticesTetrahedron
 pub mod FourVertices
 pub mod ExpandedApart
+pub mod JoinedAgain
 pub mod ExpandedPlane
 pub mod CircleRuns
 pub mod CircleArcs

@@ -64,6 +64,11 @@ module _ (n : ℕ) (keep : ℕ → Bool) (f g h k : ℕ → ℕ) (p : Permutes n
     ]
   ]
 
+-- contracting an edge looks at a dart and at the edge's own
+pub contracted-ext : (c : ℕ) (f h : ℕ → ℕ) (x : ℕ) → f x ≡ h x → f c ≡ h c → f (twin c) ≡ h (twin c) → contracted c f x ≡ contracted c h x
+unfolding contracted
+contracted-ext c f h x p q r = rw (p, q, r) refl
+
 -- two maps, the vertices of which a function keeps apart, and an edge between two vertices of more than one dart each; with
 -- the edge contracted they are the same
 module _ (m : ℕ) (f g h k : ℕ → ℕ) (p : IsMap m f g) (q : IsMap m h k) (at : ℕ → ℕ) (keeps : (d : ℕ) → d < 2 * m → at (f d) ≡ at d) (keeps_too : (d : ℕ) → d < 2 * m → at (h d) ≡ at d)

@@ -23,6 +23,7 @@ use Rattle.faces.specs.Maps.{dart_after, dart_before}
 use Rattle.faces.proofs.MapSteps.{tail-in, after-tail, map-permutes}
 use Rattle.faces.proofs.MapVertices.{map-vertex, tail-vertex}
 use Rattle.faces.proofs.MapCounts.{plane-map}
+use Rattle.planarity.specs.ContractionLaws.{IsTriangle, IsTriangularFace}
 use Rattle.planarity.proofs.TriangleLoop.{one_of_two, two-first, two-second, two-not, two-orbit, loop-parts}
 use Rattle.planarity.proofs.ContractedVertices.{AreVertices, SameBut, ends-apart, contracted-vertices}
 use Rattle.planarity.proofs.RestrictedConnection.{near-connected}
@@ -432,9 +433,18 @@ module _ (g : Multigraph) (r : List (List ℕ)) (ok : IsGraph g) (s : IsRotation
     ]
   ]
 
+-- in words of faces: a triangle is one, run through one way or the other
+pub triangle-face : (g : Multigraph) (r : List (List ℕ)) → IsGraph g → IsRotationSystem g r → IsPlane g r → IsSimple g → (a b c : ℕ) → IsTriangle g a b c → IsConnectedWithout g (tail g a ∷ tail g b ∷ tail g c ∷ [])
+    → IsTriangularFace g r a b c ⊎ IsTriangularFace g r (twin c) (twin b) (twin a)
+triangle-face g r ok s plane simple a b c t around = elim (triangle g r ok s plane simple a b c t.darts.0 t.darts.1 t.darts.2 t.first t.second t.third around) [
+  | inl w ↦ inl w
+  | inr w ↦ inr (ap (dart_after g r) (twin-twin a) ∙ w.0, ap (dart_after g r) (twin-twin c) ∙ w.2, ap (dart_after g r) (twin-twin b) ∙ w.1)
+]
+
 -- but not both ways, where its first vertex has a third dart
-pub triangle-once : (g : Multigraph) (r : List (List ℕ)) → IsGraph g → IsRotationSystem g r → (a c d : ℕ) → a < dart_count g → d < dart_count g → tail g d ≡ tail g a → (d ≡ a → ⊥) → (d ≡ twin c → ⊥) → dart_after g r (twin c) ≡ a → dart_after g r a ≡ twin c → ⊥
-triangle-once g r ok s a c d la ld q da dc back forth = elim (two-orbit (dart_count g) (dart_after g r) (dart_before g r) (map-permutes g r ok s) a (twin c) d forth back (tail-vertex g r ok s a d la ld (sym q))) [
+pub triangle-face_once : (g : Multigraph) (r : List (List ℕ)) → IsGraph g → IsRotationSystem g r → (a b c d : ℕ) → IsTriangle g a b c → d < dart_count g → tail g d ≡ tail g a → d ≢ a → d ≢ twin c
+    → IsTriangularFace g r a b c → IsTriangularFace g r (twin c) (twin b) (twin a) → ⊥
+triangle-face_once g r ok s a b c d t l q da dc back forth = elim (two-orbit (dart_count g) (dart_after g r) (dart_before g r) (map-permutes g r ok s) a (twin c) d (ap (dart_after g r) (sym (twin-twin a)) ∙ forth.0) back.0 (tail-vertex g r ok s a d t.darts.0 l (sym q))) [
   | inl i ↦ da i
   | inr i ↦ dc i
 ]

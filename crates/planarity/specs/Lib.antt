@@ -5,3 +5,4 @@ pub mod Alternation
 pub mod Lift
 pub mod Circle
 pub mod Embedding
+pub mod ContractionLaws

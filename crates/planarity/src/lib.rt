@@ -4,10 +4,14 @@
 // rotation system or such a subdivision, and its plane rotation systems are one and its mirror image (Whitney 1932).
 #![tactic(auto)]
 
+mod contracting;
 mod embedder;
 
 ghost use Rattle.planarity.specs.Laws.{MirrorIsAnother, SubdivisionExcludesPlane, TwoPlaneSystems};
 
+pub use contracting::{
+    plane_rotation_systems_are_expanded, rotation_systems_are_contracted, triangles_are_faces,
+};
 pub use embedder::{Embedded, Embedder};
 
 /// The law that a graph with a subdivision of K5 or K3,3 has no plane rotation system. On the edges of the subdivision alone
