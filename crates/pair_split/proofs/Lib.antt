@@ -13,6 +13,8 @@ pub mod Finish
 pub mod SmallBlock
 pub mod TreeSides
 pub mod Groups
+pub mod SkeletonFamily
+pub mod LargeSides
 mod Examples
 pub mod Replaced
 pub mod Minimal
