@@ -1,2 +1,9 @@
 // The tree of a block: split components put together, bonds with bonds and polygons with polygons, in a fixed numbering.
 #![tactic(auto)]
+
+mod lists;
+mod tree;
+
+pub use lists::ItemList;
+pub use pair_split::{Item, Kind, What};
+pub use tree::Tree;
