@@ -1,5 +1,5 @@
 -- A subdivision of a graph with an edge contracted is lifted to a subdivision of the graph.
-use Rattle.std.proofs.Common.{◌≡◌, ◌≢◌, ℕ, zero, suc, ◌+◌, ◌<◌, ◌≤◌, inl, inr, Bool, true, false, not, ◌==◌, List, [], ◌∷◌, length, map, filter, refl, sym, ◌∙◌, subst, arith}
+use Rattle.std.proofs.Common.{◌≡◌, ◌≢◌, ℕ, zero, suc, ◌+◌, ◌<◌, ◌≤◌, inl, inr, Bool, true, false, not, ◌==◌, List, [], ◌∷◌, length, map, refl, sym, ◌∙◌, subst, arith}
 use Rattle.std.proofs.lemmas.Bool.{cases_Bool, cases_lt, both_ways, false_from_ne_true, or_cases, not-true, not_from_false, eq-eqb, eqb-true}
 use Rattle.std.proofs.lemmas.List.{get_or_default}
 use Rattle.std.proofs.lemmas.List.Filters.{length-filter_both}
@@ -17,7 +17,7 @@ use Rattle.contractions.specs.Contraction.{IsContraction}
 use Rattle.kuratowski.specs.declared.subdivision.Pattern.{Pattern}
 use Rattle.kuratowski.specs.declared.subdivision.Pattern.TheVariants.{K5, K33}
 use Rattle.kuratowski.specs.Subdivision.{branch_count, pattern_edges, branch_at, IsSubdivision}
-use Rattle.planarity.specs.Lift.{touches, path_between, is_listed, spokes, leaves_by}
+use Rattle.planarity.specs.Lift.{touches, path_between, is_listed, spokes, leaves_by, spokes_on, spokes_off, lifted_branch, lifted_paths, split_branch, split_paths}
 use Rattle.planarity.proofs.LiftPath.{two_ends}
 use Rattle.planarity.proofs.LiftSystem.{IsPathSystem, IsMerged}
 use Rattle.planarity.proofs.LiftPairs.{is_joined, between-self, pattern-no_loops, subdivision-system}
@@ -94,13 +94,6 @@ module _ (g h : Multigraph) (e x y : ℕ) (edge vertex : ℕ → ℕ) (og : IsGr
   abbrev on : ℕ → ℕ → Bool
   on m i = leaves_by g edge kind paths y m i
 
-  -- the paths from vertex m that begin at y, and those that do not
-  abbrev pub spokes_on : ℕ → List ℕ
-  spokes_on m = filter (λ i. leaves_by g edge kind paths y m i) (spokes kind m)
-
-  abbrev pub spokes_off : ℕ → List ℕ
-  spokes_off m = filter (λ i. not (leaves_by g edge kind paths y m i)) (spokes kind m)
-
   system : IsPathSystem h (branch_count kind) (is_joined kind) (branch_at branch) (path_between (pattern_edges kind) paths)
   system = subdivision-system h kind branch paths s
 
@@ -115,22 +108,22 @@ module _ (g h : Multigraph) (e x y : ℕ) (edge vertex : ℕ → ℕ) (og : IsGr
   ]
 
   -- the edge's vertex is no branch vertex
-  pub lift-none : is_member (vertex x) branch ≡ false → HasSubdivision g
+  pub lift-none : is_member (vertex x) branch ≡ false → IsSubdivision g kind (lifted_branch (vertex x) x back branch) (lifted_paths g e edge kind paths (lifted_branch (vertex x) x back branch))
   lift-none n =
-      has (foot-subdivision g h e x y edge vertex og oh c kind branch paths s back back_in back_is x (merged_in x (inl refl)) (inl refl)
-      (λ m i j z l a k b t u o f v w. absurd (both_ways (is_member (vertex x) branch) n (subst (λ k. is_member k branch ≡ true) a (member-at branch m 0 (omega (arith, s.branches)))))))
+      foot-subdivision g h e x y edge vertex og oh c kind branch paths s back back_in back_is x (merged_in x (inl refl)) (inl refl)
+      (λ m i j z l a k b t u o f v w. absurd (both_ways (is_member (vertex x) branch) n (subst (λ k. is_member k branch ≡ true) a (member-at branch m 0 (omega (arith, s.branches))))))
 
   -- at most one path at it begins at y
-  pub lift-first : (m : ℕ) → m < branch_count kind → branch_at branch m ≡ vertex x → length (spokes_on m) ≤ 1 → HasSubdivision g
+  pub lift-first : (m : ℕ) → m < branch_count kind → branch_at branch m ≡ vertex x → length (spokes_on g edge kind paths y m) ≤ 1 → IsSubdivision g kind (lifted_branch (vertex x) x back branch) (lifted_paths g e edge kind paths (lifted_branch (vertex x) x back branch))
   lift-first m0 l0 a0 few =
-      has (foot-subdivision g h e x y edge vertex og oh c kind branch paths s back back_in back_is x (merged_in x (inl refl)) (inl refl) at_most)
+      foot-subdivision g h e x y edge vertex og oh c kind branch paths s back back_in back_is x (merged_in x (inl refl)) (inl refl) at_most
     where
       at_most : (m i j z : ℕ) → m < branch_count kind → branch_at branch m ≡ vertex x → i < branch_count kind → j < branch_count kind → is_joined kind m i ≡ true → is_joined kind m j ≡ true → IsMerged x y z → z ≢ x
           → leaves_by g edge kind paths z m i ≡ true → leaves_by g edge kind paths z m j ≡ true → i ≡ j
       at_most m i j z l a k b t u (inl o) f v w = absurd (f o)
-      at_most m i j z l a k b t u (inr o) f v w = one-member (spokes_on m) i j (subst (λ n. length (spokes_on n) ≤ 1) (system.branch_once m0 m l0 l (a0 ∙ sym a)) few) (found i k t v) (found j b u w)
+      at_most m i j z l a k b t u (inr o) f v w = one-member (spokes_on g edge kind paths y m) i j (subst (λ n. length (spokes_on g edge kind paths y n) ≤ 1) (system.branch_once m0 m l0 l (a0 ∙ sym a)) few) (found i k t v) (found j b u w)
         where
-          found : (i : ℕ) → i < branch_count kind → is_joined kind m i ≡ true → leaves_by g edge kind paths z m i ≡ true → is_member i (spokes_on m) ≡ true
+          found : (i : ℕ) → i < branch_count kind → is_joined kind m i ≡ true → leaves_by g edge kind paths z m i ≡ true → is_member i (spokes_on g edge kind paths y m) ≡ true
           found i k t v = filter-member (λ i. leaves_by g edge kind paths y m i) (spokes kind m) i (touched_spoke m i z k t v) (subst (λ q. leaves_by g edge kind paths q m i ≡ true) o v)
 
   -- a path at it begins at one of the two
@@ -138,33 +131,34 @@ module _ (g h : Multigraph) (e x y : ℕ) (edge vertex : ℕ → ℕ) (og : IsGr
   one_end m i l k a t u = not_from_false (on m i) (false_from_ne_true (on m i) (λ v. touches-one g h e x y edge vertex og oh c (branch_at branch m) (path_between (pattern_edges kind) paths m i) (branch_at branch i) (system.are_paths m i l k t) a u v))
 
   -- at most one path at it begins at x
-  pub lift-second : (m : ℕ) → m < branch_count kind → branch_at branch m ≡ vertex x → length (spokes_off m) ≤ 1 → HasSubdivision g
+  pub lift-second : (m : ℕ) → m < branch_count kind → branch_at branch m ≡ vertex x → length (spokes_off g edge kind paths y m) ≤ 1 → IsSubdivision g kind (lifted_branch (vertex x) y back branch) (lifted_paths g e edge kind paths (lifted_branch (vertex x) y back branch))
   lift-second m0 l0 a0 few =
-      has (foot-subdivision g h e x y edge vertex og oh c kind branch paths s back back_in back_is y (merged_in y (inr refl)) (inr refl) at_most)
+      foot-subdivision g h e x y edge vertex og oh c kind branch paths s back back_in back_is y (merged_in y (inr refl)) (inr refl) at_most
     where
       at_most : (m i j z : ℕ) → m < branch_count kind → branch_at branch m ≡ vertex x → i < branch_count kind → j < branch_count kind → is_joined kind m i ≡ true → is_joined kind m j ≡ true → IsMerged x y z → z ≢ y
           → leaves_by g edge kind paths z m i ≡ true → leaves_by g edge kind paths z m j ≡ true → i ≡ j
       at_most m i j z l a k b t u (inr o) f v w = absurd (f o)
-      at_most m i j z l a k b t u (inl o) f v w = one-member (spokes_off m) i j (subst (λ n. length (spokes_off n) ≤ 1) (system.branch_once m0 m l0 l (a0 ∙ sym a)) few) (found i k t v) (found j b u w)
+      at_most m i j z l a k b t u (inl o) f v w = one-member (spokes_off g edge kind paths y m) i j (subst (λ n. length (spokes_off g edge kind paths y n) ≤ 1) (system.branch_once m0 m l0 l (a0 ∙ sym a)) few) (found i k t v) (found j b u w)
         where
-          found : (i : ℕ) → i < branch_count kind → is_joined kind m i ≡ true → leaves_by g edge kind paths z m i ≡ true → is_member i (spokes_off m) ≡ true
+          found : (i : ℕ) → i < branch_count kind → is_joined kind m i ≡ true → leaves_by g edge kind paths z m i ≡ true → is_member i (spokes_off g edge kind paths y m) ≡ true
           found i k t v = filter-member (λ i. not (leaves_by g edge kind paths y m i)) (spokes kind m) i (touched_spoke m i z k t v) (one_end m i l k a t (subst (λ q. leaves_by g edge kind paths q m i ≡ true) o v))
 
   -- each path at it begins at y, or does not
-  pub spokes-both : (m : ℕ) → length (spokes_on m) + length (spokes_off m) ≡ length (spokes kind m)
+  pub spokes-both : (m : ℕ) → length (spokes_on g edge kind paths y m) + length (spokes_off g edge kind paths y m) ≡ length (spokes kind m)
   spokes-both m = length-filter_both (λ i. leaves_by g edge kind paths y m i) (λ i. not (leaves_by g edge kind paths y m i)) (λ i. refl) (spokes kind m)
 
 module _ (g h : Multigraph) (e x y : ℕ) (edge vertex : ℕ → ℕ) (og : IsGraph g) (oh : IsGraph h) (c : IsContraction g h e x y edge vertex)
     (back : ℕ → ℕ) (back_in : (v : ℕ) → v < h.vertex_count → back v < g.vertex_count) (back_is : (v : ℕ) → v < h.vertex_count → vertex (back v) ≡ v) where
   -- K5, two paths at the edge's vertex begin at y, and two at x
   pub lift-four : (branch : List ℕ) (paths : List (List ℕ)) (s : IsSubdivision h K5 branch paths) (m p q r t : ℕ) → m < 5 → branch_at branch m ≡ vertex x
-      → spokes_off g h e x y edge vertex og oh c back back_in back_is K5 branch paths s m ≡ p ∷ q ∷ [] → spokes_on g h e x y edge vertex og oh c back back_in back_is K5 branch paths s m ≡ r ∷ t ∷ [] → HasSubdivision g
+      → spokes_off g edge K5 paths y m ≡ p ∷ q ∷ [] → spokes_on g edge K5 paths y m ≡ r ∷ t ∷ []
+      → IsSubdivision g K33 (split_branch x y back branch p q r t) (split_paths g e edge paths m p q r t (split_branch x y back branch p q r t))
   lift-four branch paths s m p q r t l a miss hit =
-      has (split-subdivision g h e x y edge vertex og oh c branch paths s back back_in back_is m p q r t
+      split-subdivision g h e x y edge vertex og oh c branch paths s back back_in back_is m p q r t
       l (pp.0).0 (qq.0).0 (rr.0).0 (tt'.0).0 a (not_listed m p l (pp.0).1) (not_listed m q l (qq.0).1)
       (two_differ p q (subst (λ k. is_distinct k ≡ true) miss (distinct-filter (λ i. not (leaves_by g edge K5 paths y m i)) (spokes K5 m) (distinct-filter_below (is_listed (pattern_edges K5) m) 5))))
       (two_differ r t (subst (λ k. is_distinct k ≡ true) hit (distinct-filter (λ i. leaves_by g edge K5 paths y m i) (spokes K5 m) (distinct-filter_below (is_listed (pattern_edges K5) m) 5))))
-      (not-true (leaves_by g edge K5 paths y m p) pp.1) (not-true (leaves_by g edge K5 paths y m q) qq.1) rr.1 tt'.1)
+      (not-true (leaves_by g edge K5 paths y m p) pp.1) (not-true (leaves_by g edge K5 paths y m q) qq.1) rr.1 tt'.1
     where
       two_differ : (a b : ℕ) → is_distinct (a ∷ b ∷ []) ≡ true → a ≢ b
       two_differ a b d q = both_ways (is_member a (b ∷ [])) (distinct-head a (b ∷ []) d) (subst (λ k. is_member k (b ∷ []) ≡ true) (sym q) (member-head b []))
@@ -190,33 +184,35 @@ module _ (g h : Multigraph) (e x y : ℕ) (edge vertex : ℕ → ℕ) (og : IsGr
   -- the edge's vertex is a branch vertex
   lift-branch : (kind : Pattern) (branch : List ℕ) (paths : List (List ℕ)) → IsSubdivision h kind branch paths → (m : ℕ) → m < branch_count kind → branch_at branch m ≡ vertex x → HasSubdivision g
   lift-branch K33 branch paths s m l a = elim (cases_lt (length on) 2) [
-    | inl u ↦ lift-first g h e x y edge vertex og oh c back back_in back_is K33 branch paths s m l a (omega arith)
-    | inr u ↦ lift-second g h e x y edge vertex og oh c back back_in back_is K33 branch paths s m l a (omega (arith, spokes-both g h e x y edge vertex og oh c back back_in back_is K33 branch paths s m, spokes-three m l))
+    | inl u ↦ has (lift-first g h e x y edge vertex og oh c back back_in back_is K33 branch paths s m l a (omega arith))
+    | inr u ↦ has (lift-second g h e x y edge vertex og oh c back back_in back_is K33 branch paths s m l a (omega (arith, spokes-both g h e x y edge vertex og oh c back back_in back_is K33 branch paths s m, spokes-three m l)))
   ]
     where
       on : List ℕ
-      on = spokes_on g h e x y edge vertex og oh c back back_in back_is K33 branch paths s m
+      on = spokes_on g edge K33 paths y m
   lift-branch K5 branch paths s m l a = elim (cases_lt (length on) 2) [
-    | inl u ↦ lift-first g h e x y edge vertex og oh c back back_in back_is K5 branch paths s m l a (omega arith)
+    | inl u ↦ has (lift-first g h e x y edge vertex og oh c back back_in back_is K5 branch paths s m l a (omega arith))
     | inr u ↦ elim (cases_lt (length off) 2) [
-      | inl v ↦ lift-second g h e x y edge vertex og oh c back back_in back_is K5 branch paths s m l a (omega arith)
-      | inr v ↦
-          let two = two-members off (omega (arith, spokes-both g h e x y edge vertex og oh c back back_in back_is K5 branch paths s m, spokes-four m l)) in
-          let four = two-members on (omega (arith, spokes-both g h e x y edge vertex og oh c back back_in back_is K5 branch paths s m, spokes-four m l)) in
-          lift-four branch paths s m (two.0) (two.1) (four.0) (four.1) l a two.2 four.2
+      | inl v ↦ has (lift-second g h e x y edge vertex og oh c back back_in back_is K5 branch paths s m l a (omega arith))
+      | inr v ↦ four
+          (two-members off (omega (arith, spokes-both g h e x y edge vertex og oh c back back_in back_is K5 branch paths s m, spokes-four m l)))
+          (two-members on (omega (arith, spokes-both g h e x y edge vertex og oh c back back_in back_is K5 branch paths s m, spokes-four m l)))
     ]
   ]
     where
       on : List ℕ
-      on = spokes_on g h e x y edge vertex og oh c back back_in back_is K5 branch paths s m
+      on = spokes_on g edge K5 paths y m
 
       off : List ℕ
-      off = spokes_off g h e x y edge vertex og oh c back back_in back_is K5 branch paths s m
+      off = spokes_off g edge K5 paths y m
+
+      four : (p : ℕ) × (q : ℕ) × (spokes_off g edge K5 paths y m ≡ p ∷ q ∷ []) → (r : ℕ) × (t : ℕ) × (spokes_on g edge K5 paths y m ≡ r ∷ t ∷ []) → HasSubdivision g
+      four v w = has (lift-four branch paths s m v.0 v.1 w.0 w.1 l a v.2 w.2)
 
   -- a subdivision of the contracted graph gives one of the graph
   pub lift-with_back : (kind : Pattern) (branch : List ℕ) (paths : List (List ℕ)) → IsSubdivision h kind branch paths → HasSubdivision g
   lift-with_back kind branch paths s = elim (cases_Bool (is_member (vertex x) branch)) [
-    | inr n ↦ lift-none g h e x y edge vertex og oh c back back_in back_is kind branch paths s n
+    | inr n ↦ has (lift-none g h e x y edge vertex og oh c back back_in back_is kind branch paths s n)
     | inl n ↦ let w = contains-from_member branch (vertex x) n in lift-branch kind branch paths s (w.0) (omega (arith, w.1, s.branches)) (get_or_default branch (w.0) 0 (vertex x) w.1 ∙ w.2)
   ]
 

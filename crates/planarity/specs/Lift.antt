@@ -1,8 +1,9 @@
 -- Paths of a graph with an edge contracted, lifted to the graph itself.
-use Rattle.std.specs.Prelude.{ℕ, Bool, false, ◌&&◌, ◌||◌, ◌==◌, if◌then◌else◌, List, [], ◌∷◌, map, filter, reverse}
+use Rattle.std.specs.Prelude.{ℕ, Bool, false, not, ◌&&◌, ◌||◌, ◌==◌, if◌then◌else◌, List, [], ◌∷◌, map, filter, reverse, slice_index_or}
 use Rattle.multigraph.specs.Graph.{Multigraph, is_end, other_end, numbers_below}
 use Rattle.kuratowski.specs.declared.subdivision.Pattern.{Pattern}
-use Rattle.kuratowski.specs.Subdivision.{branch_count, pattern_edges}
+use Rattle.kuratowski.specs.declared.subdivision.Pattern.TheVariants.{K5, K33}
+use Rattle.kuratowski.specs.Subdivision.{branch_count, pattern_edges, branch_at}
 
 -- whether one of these edges has z as an end
 abbrev pub touches : Multigraph → ℕ → List ℕ → Bool
@@ -39,3 +40,32 @@ spokes kind m = filter (is_listed (pattern_edges kind) m) (numbers_below (branch
 -- whether the path from vertex m to vertex i of the pattern, in g, touches z
 abbrev pub leaves_by : Multigraph → (ℕ → ℕ) → Pattern → List (List ℕ) → ℕ → ℕ → ℕ → Bool
 leaves_by g edge kind paths z m i = touches g z (map edge (path_between (pattern_edges kind) paths m i))
+
+-- the vertices of the pattern to which the path from vertex m touches z, and those to which it does not
+abbrev pub spokes_on : Multigraph → (ℕ → ℕ) → Pattern → List (List ℕ) → ℕ → ℕ → List ℕ
+spokes_on g edge kind paths z m = filter (λ i. leaves_by g edge kind paths z m i) (spokes kind m)
+
+abbrev pub spokes_off : Multigraph → (ℕ → ℕ) → Pattern → List (List ℕ) → ℕ → ℕ → List ℕ
+spokes_off g edge kind paths z m = filter (λ i. not (leaves_by g edge kind paths z m i)) (spokes kind m)
+
+-- the branch vertices of h as vertices of g: `foot` for the merged vertex `top`, and what `back` gives for the others
+abbrev pub lifted_branch : ℕ → ℕ → (ℕ → ℕ) → List ℕ → List ℕ
+lifted_branch top foot back branch = map (λ v. if v == top then foot else back v) branch
+
+-- the paths lifted, each between the two vertices of g that stand for its branch vertices
+abbrev pub lifted_paths : Multigraph → ℕ → (ℕ → ℕ) → Pattern → List (List ℕ) → List ℕ → List (List ℕ)
+lifted_paths g e edge kind paths branch =
+    map (λ p. lifted g e (branch_at branch p.0) (map edge (path_between (pattern_edges kind) paths p.0 p.1)) (branch_at branch p.1)) (pattern_edges kind)
+
+-- K3,3 for K5, where the paths from vertex m of K5 to p and q begin at x, and those to r and t at y: its branch vertices
+abbrev pub split_branch : ℕ → ℕ → (ℕ → ℕ) → List ℕ → ℕ → ℕ → ℕ → ℕ → List ℕ
+split_branch x y back branch p q r t = x ∷ back (branch_at branch r) ∷ back (branch_at branch t) ∷ y ∷ back (branch_at branch p) ∷ back (branch_at branch q) ∷ []
+
+-- the vertex of K5 over which vertex i of this K3,3 stands
+abbrev pub split_over : ℕ → ℕ → ℕ → ℕ → ℕ → ℕ → ℕ
+split_over m p q r t i = slice_index_or (m ∷ r ∷ t ∷ m ∷ p ∷ q ∷ []) i 0
+
+-- and its paths: between x and y the edge e, all others lifted
+abbrev pub split_paths : Multigraph → ℕ → (ℕ → ℕ) → List (List ℕ) → ℕ → ℕ → ℕ → ℕ → ℕ → List ℕ → List (List ℕ)
+split_paths g e edge paths m p q r t branch =
+    map (λ k. lifted g e (branch_at branch k.0) (map edge (path_between (pattern_edges K5) paths (split_over m p q r t k.0) (split_over m p q r t k.1))) (branch_at branch k.1)) (pattern_edges K33)
