@@ -15,6 +15,7 @@ pub mod TreeSides
 pub mod Groups
 pub mod SkeletonFamily
 pub mod LargeSides
+pub mod Rerooted
 mod Examples
 pub mod Replaced
 pub mod Minimal
