@@ -31,3 +31,5 @@ pub mod SameEntries
 pub mod GraphSides
 pub mod Marking
 pub mod Searching
+pub mod KindOf
+pub mod SplitSteps

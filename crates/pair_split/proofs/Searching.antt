@@ -40,7 +40,7 @@ pub names-below : (edges : List NamedEdge) (bound : ℕ) (marks : List Bool) →
 names-below edges bound marks h e = All-map (λ (entry : Entry). entry.name < length marks) entry_of edges (λ k d l. subst (λ (b : ℕ). (slice_index_or edges k d).name < b) (sym e) (h k d l))
 
 -- an end of an entry is below the number of vertices
-end-below : (edges : List NamedEdge) (n : ℕ) → HaveEndsBelow n edges → (entry : Entry) (x : ℕ) → Contains (family_of edges) entry → has_end x entry ≡ true → x < n
+pub end-below : (edges : List NamedEdge) (n : ℕ) → HaveEndsBelow n edges → (entry : Entry) (x : ℕ) → Contains (family_of edges) entry → has_end x entry ≡ true → x < n
 end-below edges n ends entry x c h =
     let e = map-contains entry_of entry edges c in
     let b = All-contains (λ (edge : NamedEdge). (edge.first < n) × (edge.second < n)) edges e.0 ends e.1 in

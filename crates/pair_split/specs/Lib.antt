@@ -9,3 +9,4 @@ pub mod State
 pub mod Minimal
 pub mod Lumps
 pub mod Search
+pub mod Cuts

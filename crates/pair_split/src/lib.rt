@@ -2,6 +2,7 @@
 #![tactic(auto)]
 
 mod components;
+mod cuts;
 mod family;
 mod labels;
 mod lists;

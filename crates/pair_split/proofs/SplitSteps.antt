@@ -1,0 +1,149 @@
+-- The steps of splitting a block: the start, and a minimal side made a finished component.
+use Rattle.std.proofs.Common.{◌≡◌, ◌≢◌, ℕ, ◌+◌, ◌<◌, ◌≤◌, inl, inr, Bool, false, not, List, [], ◌∷◌, ◌++◌, length, map, sym, ap, ◌∙◌, subst, arith, Contains, All}
+use Rattle.std.proofs.lemmas.Bool.{false_from_ne_true}
+use Rattle.std.proofs.lemmas.List.{length-map, map-append, length-append}
+use Rattle.std.proofs.lemmas.List.Elements.{All-contains}
+use Rattle.permutations.specs.Members.{is_member}
+use Rattle.multigraph.specs.Graph.{Multigraph, edge_count, numbers_below, IsGraph}
+use Rattle.multigraph.proofs.Below.{length-numbers_below}
+use Rattle.pair_split.specs.Family.{Entry, names, on_side, off_side, IsFamily, IsTight, IsPrime}
+use Rattle.pair_split.specs.Edges.{graph_entry, graph_family, family_skeleton}
+use Rattle.pair_split.specs.OneBlock.{IsOneBlock}
+use Rattle.pair_split.specs.Skeleton.{IsSkeleton}
+use Rattle.pair_split.specs.Lumps.{entry_of, family_of, HaveEndsBelow, HaveNamesBelow, marked}
+use Rattle.pair_split.specs.Search.{IsSearchable, IsMinimalSide}
+use Rattle.pair_split.specs.State.{Part, SplitState, ejected, start_state, IsSplitState}
+use Rattle.pair_split.specs.Cuts.{part_of, state_of, IsSplitting}
+use Rattle.pair_split.specs.declared.family.NamedEdge.{NamedEdge}
+use Rattle.pair_split.specs.declared.search.Side.{Side}
+use Rattle.pair_split.specs.declared.cuts.Cut.{Cut}
+use Rattle.pair_split.specs.declared.components.Kind.TheVariants.{B}
+use Rattle.pair_split.proofs.Elements.{contains-cases, contains-map, map-contains, filter-contains}
+use Rattle.pair_split.proofs.Sides.{length-sides}
+use Rattle.pair_split.proofs.Names.{member-name}
+use Rattle.pair_split.proofs.GraphFamily.{all-from_contained, graph-entry, one_block-tight}
+use Rattle.pair_split.proofs.Minimal.{minimal-prime}
+use Rattle.pair_split.proofs.Layers.{layer-current, current-layer}
+use Rattle.pair_split.proofs.Start.{state-start}
+use Rattle.pair_split.proofs.Places.{state-tight}
+use Rattle.pair_split.proofs.Eject.{family-cons, kept-family, state-eject}
+use Rattle.pair_split.proofs.Searching.{separation-below}
+
+-- marks for the names of a family's entries are marks for the edges
+pub names-within : (edges : List NamedEdge) (bound : ℕ) → All (λ (entry : Entry). entry.name < bound) (family_of edges) → HaveNamesBelow bound edges
+names-within edges bound h = all-from_contained (λ (edge : NamedEdge). edge.name < bound) edges (λ edge c. All-contains (λ (entry : Entry). entry.name < bound) (family_of edges) (entry_of edge) h (contains-map entry_of edge edges c))
+
+-- ends of a family's entries are ends of the edges
+ends-within : (edges : List NamedEdge) (n : ℕ) → ((entry : Entry) → Contains (family_of edges) entry → (entry.first < n) × (entry.second < n)) → HaveEndsBelow n edges
+ends-within edges n h = all-from_contained (λ (edge : NamedEdge). (edge.first < n) × (edge.second < n)) edges (λ edge c. h (entry_of edge) (contains-map entry_of edge edges c))
+
+-- the first ends and the second ends of a family's entries are below n
+family-ends : (edges : List NamedEdge) (n : ℕ) → HaveEndsBelow n edges → (entry : Entry) → Contains (family_of edges) entry → (entry.first < n) × (entry.second < n)
+family-ends edges n h entry c = let e = map-contains entry_of entry edges c in
+    subst (λ (z : Entry). (z.first < n) × (z.second < n)) e.2 (All-contains (λ (edge : NamedEdge). (edge.first < n) × (edge.second < n)) edges e.0 h e.1)
+
+module _ (g : Multigraph) (graph : IsGraph g) (block : IsOneBlock g) (parts : List Cut) (current : List NamedEdge) (s : IsSplitting g parts current) where
+  abbrev state : SplitState
+  state = state_of parts current
+
+  -- the current family is a family
+  pub current-family : IsFamily (family_of current)
+  current-family = subst IsFamily (layer-current state) (s.state.families (length state.parts))
+
+  -- and tight
+  pub current-tight : IsTight (family_of current)
+  current-tight = state-tight g state s.state (one_block-tight g block)
+
+  -- a current family of four or more entries may have a 2-separation
+  pub current-searchable : 4 ≤ length current → IsSearchable (family_of current)
+  current-searchable l = record { family = current-family; tight = current-tight; four = subst (λ (k : ℕ). 4 ≤ k) (sym (length-map current entry_of)) l }
+
+  -- its names are those of edges and of finished components
+  current-name : (entry : Entry) → Contains (family_of current) entry → entry.name < edge_count g + length parts
+  current-name entry c = elim (s.state.nothing_else (length state.parts) entry (current-layer state entry c)) [
+    | inl e ↦ omega (arith, e.1, ap (λ (z : Entry). z.name) e.2)
+    | inr e ↦ omega (arith, e.1, ap (λ (z : Entry). z.name) e.2, s.state.own_names e.0 e.1, length-map parts part_of)
+  ]
+
+  -- so they are below this bound
+  pub current-names : (bound : ℕ) → edge_count g + length parts ≤ bound → HaveNamesBelow bound current
+  current-names bound l = names-within current bound (all-from_contained (λ (entry : Entry). entry.name < bound) (family_of current) (λ entry c. omega (arith, l, current-name entry c)))
+
+  module _ (side : Side) (minimal : IsMinimalSide (family_of current) side) where
+    abbrev cut : ℕ → Bool
+    cut n = marked side.marks.items n
+
+    -- the virtual edge in place of the side
+    abbrev own : Entry
+    own = record { name = edge_count g + length parts; first = side.first; second = side.second }
+
+    -- it and the side are a family
+    pub inside-family : IsFamily (own ∷ on_side cut (family_of current))
+    inside-family = family-cons own (on_side cut (family_of current)) minimal.separates.differ fresh (kept-family (λ (entry : Entry). cut entry.name) (family_of current) current-family)
+      where
+        fresh : is_member own.name (names (on_side cut (family_of current))) ≡ false
+        fresh = false_from_ne_true (is_member own.name (names (on_side cut (family_of current)))) (λ m.
+            let w = member-name (on_side cut (family_of current)) own.name m in
+            let c = filter-contains (λ (entry : Entry). cut entry.name) w.0 (family_of current) w.1 in
+            absurd (omega (arith, w.2, current-name w.0 c.0)))
+
+    -- a prime one
+    pub inside-prime : IsPrime (own ∷ on_side cut (family_of current))
+    inside-prime = minimal-prime (family_of current) cut own minimal.separates current-tight minimal.minimal
+
+    -- with the side made a finished component, the state is one of splitting the graph
+    pub eject-splitting : (new : Cut) (left : List NamedEdge) → entry_of new.own ≡ own → family_of new.edges ≡ on_side cut (family_of current) → family_of left ≡ own ∷ off_side cut (family_of current)
+        → IsSkeleton new.kind (family_skeleton (own ∷ on_side cut (family_of current))) → new.kind ≢ B → IsSplitting g (parts ++ new ∷ []) left
+    eject-splitting new left is inside outside skeleton large = record {
+      state = subst (IsSplitState g) (sym same) (state-eject g state s.state cut new.kind own (ap (λ (k : ℕ). edge_count g + k) (sym (length-map parts part_of))) minimal.separates skeleton large);
+      ends = ends-within left g.vertex_count (λ entry c. elim (contains-cases entry own (off_side cut (family_of current)) (subst (λ (l : List Entry). Contains l entry) outside c)) [
+        | inl e ↦ subst (λ (z : Entry). (z.first < g.vertex_count) × (z.second < g.vertex_count)) e (separation-below current g.vertex_count s.ends cut side.first side.second minimal.separates)
+        | inr o ↦ family-ends current g.vertex_count s.ends entry (filter-contains (λ (e : Entry). not (cut e.name)) entry (family_of current) o).0
+      ]);
+      three = omega (arith, sizes, minimal.separates.two_outside);
+      few = omega (arith, s.few, sizes, minimal.separates.two_inside, length-append parts (new ∷ []), length-map current entry_of, length-sides (family_of current) cut);
+    }
+      where
+        sizes : length left ≡ length (off_side cut (family_of current)) + 1
+        sizes = omega (arith, length-map left entry_of, ap length outside)
+
+        fresh-part : part_of new ≡ record { kind = new.kind; own = own; entries = on_side cut (family_of current) }
+        fresh-part = λ i. record { kind = new.kind; own = is i; entries = inside i }
+
+        same : state_of (parts ++ new ∷ []) left ≡ ejected state cut new.kind own
+        same = λ i. record { parts = (map-append part_of parts (new ∷ []) ∙ ap (λ (p : Part). map part_of parts ++ p ∷ []) fresh-part) i; current = outside i }
+
+    -- and fewer entries are left
+    pub eject-fewer : (left : List NamedEdge) → family_of left ≡ own ∷ off_side cut (family_of current) → length left < length current
+    eject-fewer left outside = omega (arith, length-map left entry_of, ap length outside, length-map current entry_of, length-sides (family_of current) cut, minimal.separates.two_inside)
+
+-- the start of splitting a block of three or more edges
+pub start-splitting : (g : Multigraph) → IsGraph g → (parts : List Cut) (current : List NamedEdge) → parts ≡ [] → family_of current ≡ graph_family g → 3 ≤ edge_count g → IsSplitting g parts current
+start-splitting g graph parts current none all l = record {
+  state = subst (IsSplitState g) (sym same) (state-start g graph);
+  ends = ends-within current g.vertex_count (λ entry c.
+      let e = graph-entry g entry (subst (λ (k : List Entry). Contains k entry) all c) in
+      subst (λ (z : Entry). (z.first < g.vertex_count) × (z.second < g.vertex_count)) e.2 (graph.first_in e.0 e.1, graph.second_in e.0 e.1));
+  three = omega (arith, l, sizes);
+  few = omega (arith, sizes, ap length none);
+}
+  where
+    sizes : length current ≡ edge_count g
+    sizes = sym (length-map current entry_of) ∙ (ap length all ∙ (length-map (numbers_below (edge_count g)) (graph_entry g) ∙ length-numbers_below (edge_count g)))
+
+    same : state_of parts current ≡ start_state g
+    same = λ i. record { parts = map part_of (none i); current = all i }
+
+-- the marked edges, where lists go by two names
+pub inside-is : (current given : List NamedEdge) (marks given-marks : List Bool) (inside made : List NamedEdge) → made ≡ inside → given ≡ current → given-marks ≡ marks
+    → family_of inside ≡ on_side (marked given-marks) (family_of given) → family_of made ≡ on_side (marked marks) (family_of current)
+inside-is current given marks given-marks inside made a b c h = ap family_of a ∙ (h ∙ (λ i. on_side (marked (c i)) (family_of (b i))))
+
+-- the other edges, where lists go by two names
+pub outside-is : (current given : List NamedEdge) (marks given-marks : List Bool) (left : List NamedEdge) (x y : Entry) → x ≡ y → given ≡ current → given-marks ≡ marks
+    → family_of left ≡ x ∷ off_side (marked given-marks) (family_of given) → family_of left ≡ y ∷ off_side (marked marks) (family_of current)
+outside-is current given marks given-marks left x y a b c h = h ∙ (λ i. a i ∷ off_side (marked (c i)) (family_of (b i)))
+
+-- a virtual edge with the sum of two numbers as its name
+pub own-is : (m r n k first second : ℕ) → n ≡ m → k ≡ r → entry_of (record { name = n + k; first = first; second = second }) ≡ record { name = m + r; first = first; second = second }
+own-is m r n k first second a b = λ i. record { name = a i + b i; first = first; second = second }
