@@ -1,6 +1,6 @@
 -- The two ends of a contracted edge and three neighbours in common, on a cycle that avoids the merged vertex: a subdivision of
 -- K5.
-use Rattle.std.proofs.Common.{◌≡◌, ◌≢◌, ℕ, zero, suc, ◌<◌, ◌⊎◌, inl, inr, Bool, true, false, ◌||◌, ◌&&◌, ◌==◌, List, [], ◌∷◌, length, map, reverse, get_or, refl, sym, ap, ◌∙◌, subst, arith}
+use Rattle.std.proofs.Common.{◌≡◌, ◌≢◌, ℕ, zero, suc, ◌<◌, ◌⊎◌, inl, inr, Bool, true, false, ◌||◌, ◌&&◌, ◌==◌, List, [], ◌∷◌, length, get_or, refl, sym, ap, ◌∙◌, subst, arith}
 use Rattle.std.proofs.lemmas.Bool.{both_ways, or_cases, and_parts, eqb-true}
 use Rattle.permutations.specs.Members.{is_member, is_distinct}
 use Rattle.permutations.proofs.Members.{no_member-cons, distinct-cons}
@@ -9,8 +9,8 @@ use Rattle.multigraph.proofs.OtherEnd.{end-in, other_end-is_end, other_end-twice
 use Rattle.contractions.specs.Contraction.{IsContraction}
 use Rattle.kuratowski.specs.declared.subdivision.Pattern.TheVariants.{K5}
 use Rattle.kuratowski.specs.Subdivision.{pattern_edges, branch_at, IsSubdivision}
-use Rattle.planarity.specs.Lift.{lifted, path_between}
-use Rattle.planarity.specs.Circle.{IsCircle}
+use Rattle.planarity.specs.Lift.{path_between}
+use Rattle.planarity.specs.Circle.{IsCircle, five_paths}
 use Rattle.planarity.proofs.LiftSystem.{IsBranch, IsMerged}
 use Rattle.planarity.proofs.LiftPath.{two_ends}
 use Rattle.planarity.proofs.LiftPairs.{distinct-places}
@@ -101,15 +101,14 @@ module _ (g h : Multigraph) (e x y : ℕ) (edge vertex : ℕ → ℕ) (og : IsGr
     two : 0 < length others
     two = omega arith
 
-    abbrev pub five_branch : List ℕ
+    abbrev five_branch : List ℕ
     five_branch = x ∷ y ∷ a ∷ b ∷ d ∷ []
 
-    abbrev pub five_paths : List (List ℕ)
-    five_paths =
-        (e ∷ []) ∷ (xa ∷ []) ∷ (xb ∷ []) ∷ (xd ∷ []) ∷ (ya ∷ []) ∷ (yb ∷ []) ∷ (yd ∷ []) ∷ lifted g e a (map edge k) b ∷ reverse (lifted g e d (map edge m) a) ∷ lifted g e b (map edge l) d ∷ []
+    abbrev all_paths : List (List ℕ)
+    all_paths = five_paths g e edge a b d xa xb xd ya yb yd k l m
 
     abbrev path : ℕ → ℕ → List ℕ
-    path = path_between (pattern_edges K5) five_paths
+    path = path_between (pattern_edges K5) all_paths
 
     apart : (i j : ℕ) → i < 3 → j < 3 → i ≢ j → spot i ≢ spot j
     apart = spot-differ g h e x y edge vertex og oh ic (vertex a, k) others c two spot spot_in spot_is
@@ -151,7 +150,7 @@ module _ (g h : Multigraph) (e x y : ℕ) (edge vertex : ℕ → ℕ) (og : IsGr
     five-each = (inl base, (inl (spoke-wire g x a xa sxa), (inl (spoke-wire g x b xb sxb), (inl (spoke-wire g x d xd sxd), (inl (spoke-wire g y a ya sya), (inl (spoke-wire g y b yb syb), (inl (spoke-wire g y d yd syd), (inr (arc-forth g h e x y edge vertex og oh ic (vertex a, k) others c two spot spot_in spot_is 0 (omega arith)), (inr (arc-back g h e x y edge vertex og oh ic (vertex a, k) others c two spot spot_in spot_is 2 (omega arith)), (inr (arc-forth g h e x y edge vertex og oh ic (vertex a, k) others c two spot spot_in spot_is 1 (omega arith)), tt))))))))))
 
     -- so the two ends and the three neighbours are the branch vertices of a subdivision of K5
-    pub k5_found : IsSubdivision g K5 five_branch five_paths
+    pub k5_found : IsSubdivision g K5 (x ∷ y ∷ a ∷ b ∷ d ∷ []) (five_paths g e edge a b d xa xb xd ya yb yd k l m)
     k5_found = system-subdivision g 5 (is_ordered (pattern_edges K5)) five_branch path
         (found-system g h e x y edge vertex og oh ic (vertex a, k) others c two spot spot_in spot_is 5 (is_ordered (pattern_edges K5)) (branch_at five_branch) path
         five-in (λ i j o u q. distinct-places five_branch i j five-distinct (omega arith) (omega arith) q) five-which five-spots

@@ -1,13 +1,13 @@
 -- The two ends of a contracted edge and four neighbours, of the one and of the other in turn, on a cycle that avoids the merged
 -- vertex: a subdivision of K3,3.
-use Rattle.std.proofs.Common.{◌≡◌, ◌≢◌, ℕ, zero, suc, ◌<◌, ◌⊎◌, inl, inr, true, List, [], ◌∷◌, length, map, reverse, get_or, refl, sym, arith}
+use Rattle.std.proofs.Common.{◌≡◌, ◌≢◌, ℕ, zero, suc, ◌<◌, ◌⊎◌, inl, inr, true, List, [], ◌∷◌, length, get_or, refl, sym, arith}
 use Rattle.permutations.specs.Members.{is_distinct}
 use Rattle.multigraph.specs.Graph.{Multigraph, IsGraph}
 use Rattle.contractions.specs.Contraction.{IsContraction}
 use Rattle.kuratowski.specs.declared.subdivision.Pattern.TheVariants.{K33}
 use Rattle.kuratowski.specs.Subdivision.{pattern_edges, branch_at, IsSubdivision}
-use Rattle.planarity.specs.Lift.{lifted, path_between}
-use Rattle.planarity.specs.Circle.{IsCircle}
+use Rattle.planarity.specs.Lift.{path_between}
+use Rattle.planarity.specs.Circle.{IsCircle, six_paths}
 use Rattle.planarity.proofs.LiftSystem.{IsBranch, IsMerged}
 use Rattle.planarity.proofs.LiftPairs.{distinct-places}
 use Rattle.planarity.proofs.LiftBack.{EachPair, each-joined, system-subdivision}
@@ -43,15 +43,14 @@ module _ (g h : Multigraph) (e x y : ℕ) (edge vertex : ℕ → ℕ) (og : IsGr
   two : 0 < length others
   two = omega arith
 
-  abbrev pub six_branch : List ℕ
+  abbrev six_branch : List ℕ
   six_branch = x ∷ p ∷ r ∷ y ∷ q ∷ t ∷ []
 
-  abbrev pub six_paths : List (List ℕ)
-  six_paths =
-      (e ∷ []) ∷ (xq ∷ []) ∷ (xt ∷ []) ∷ (yp ∷ []) ∷ lifted g e p (map edge k) q ∷ reverse (lifted g e t (map edge o) p) ∷ (yr ∷ []) ∷ reverse (lifted g e q (map edge l) r) ∷ lifted g e r (map edge m) t ∷ []
+  abbrev all_paths : List (List ℕ)
+  all_paths = six_paths g e edge p q r t yp xq yr xt k l m o
 
   abbrev path : ℕ → ℕ → List ℕ
-  path = path_between (pattern_edges K33) six_paths
+  path = path_between (pattern_edges K33) all_paths
 
   apart : (i j : ℕ) → i < 4 → j < 4 → i ≢ j → spot i ≢ spot j
   apart = spot-differ g h e x y edge vertex og oh ic (vertex p, k) others c two spot spot_in spot_is
@@ -96,7 +95,7 @@ module _ (g h : Multigraph) (e x y : ℕ) (edge vertex : ℕ → ℕ) (og : IsGr
   six-each = (inl (base g h e x y edge vertex og oh ic), (inl (spoke-wire g x q xq sxq), (inl (spoke-wire g x t xt sxt), (inl (spoke-back g og y p yp syp), (inr (arc-forth g h e x y edge vertex og oh ic (vertex p, k) others c two spot spot_in spot_is 0 (omega arith)), (inr (arc-back g h e x y edge vertex og oh ic (vertex p, k) others c two spot spot_in spot_is 3 (omega arith)), (inl (spoke-back g og y r yr syr), (inr (arc-back g h e x y edge vertex og oh ic (vertex p, k) others c two spot spot_in spot_is 1 (omega arith)), (inr (arc-forth g h e x y edge vertex og oh ic (vertex p, k) others c two spot spot_in spot_is 2 (omega arith)), tt)))))))))
 
   -- so the two ends and the four neighbours are the branch vertices of a subdivision of K3,3
-  pub k33_found : IsSubdivision g K33 six_branch six_paths
+  pub k33_found : IsSubdivision g K33 (x ∷ p ∷ r ∷ y ∷ q ∷ t ∷ []) (six_paths g e edge p q r t yp xq yr xt k l m o)
   k33_found = system-subdivision g 6 (is_ordered (pattern_edges K33)) six_branch path
       (found-system g h e x y edge vertex og oh ic (vertex p, k) others c two spot spot_in spot_is 6 (is_ordered (pattern_edges K33)) (branch_at six_branch) path
       six-in (λ i j o u q. distinct-places six_branch i j six-distinct (omega arith) (omega arith) q) six-which six-spots

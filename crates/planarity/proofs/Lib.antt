@@ -47,3 +47,4 @@ pub mod FoundRim
 pub mod FoundSystem
 pub mod Found
 pub mod FoundAlternating
+pub mod FoundCircle

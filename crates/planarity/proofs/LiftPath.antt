@@ -40,7 +40,7 @@ module _ (g h : Multigraph) (e x y : ℕ) (edge vertex : ℕ → ℕ) (og : IsGr
 
   -- an edge of h at the vertex that p becomes is at p in g, or p and the vertex that it is at are the ends of the contracted
   -- edge
-  image-back : (i p : ℕ) → i < edge_count h → p < g.vertex_count → is_end h (vertex p) i ≡ true → is_end g p (edge i) ≡ false
+  pub image-back : (i p : ℕ) → i < edge_count h → p < g.vertex_count → is_end h (vertex p) i ≡ true → is_end g p (edge i) ≡ false
       → (is_end g p e ≡ true) × (is_end g (other_end g e p) (edge i) ≡ true) × (vertex (other_end g e p) ≡ vertex p)
   image-back i p l k t n = elim (is_end-cases h (vertex p) i t) [
     | inl a ↦ at (ends_of g (edge i)).0 (og.first_in (edge i) (c.edges i l)) (is_end-from_first g (ends_of g (edge i)).0 (edge i) refl) (sym (c.first_ends i l) ∙ a)

@@ -1,10 +1,12 @@
 -- The circle round a vertex of a plane rotation system: the neighbours of the vertex, joined by what the faces at it leave.
-use Rattle.std.specs.Prelude.{◌≡◌, ℕ, ◌-◌, ◌/◌, ◌<◌, false, true, List, [], ◌∷◌, ◌++◌, length, map}
+use Rattle.std.specs.Prelude.{◌≡◌, ℕ, ◌-◌, ◌/◌, ◌<◌, Bool, false, true, ◌||◌, List, [], ◌∷◌, ◌++◌, length, map, reverse}
 use Rattle.permutations.specs.Members.{is_member, is_distinct}
 use Rattle.permutations.specs.Ring.{images, orbit_length}
-use Rattle.multigraph.specs.Graph.{Multigraph, other_end}
+use Rattle.multigraph.specs.Graph.{Multigraph, is_end, other_end}
 use Rattle.graph_theory.specs.Path.{walk_end, walk_starts, IsWalk}
+use Rattle.contractions.specs.Contraction.{are_joined}
 use Rattle.faces.specs.Euler.{dart_count, dart_from, face_step}
+use Rattle.planarity.specs.Lift.{lifted}
 
 -- a part is a vertex with edges from there on: all vertices at which edges of the parts are entered
 abbrev pub part_starts : Multigraph → List (ℕ × List ℕ) → List ℕ
@@ -40,3 +42,21 @@ spread (group ∷ groups) = (group.0 ∷ group.1) ++ spread groups
 -- the walk of each group: from the neighbour of w at its first edge, along the arcs of its edges
 abbrev pub circle_parts : Multigraph → List (List ℕ) → ℕ → List (ℕ × List ℕ) → List (ℕ × List ℕ)
 circle_parts h s w groups = map (λ group. (other_end h group.0 w, arc_edges h s (map (dart_from h w) (group.0 ∷ group.1)))) groups
+
+-- the paths of the K5 with branch vertices x, y, a, b and d: the edge e, edges from x and from y to the other three, and three
+-- parts of a circle, lifted
+abbrev pub five_paths : Multigraph → ℕ → (ℕ → ℕ) → ℕ → ℕ → ℕ → ℕ → ℕ → ℕ → ℕ → ℕ → ℕ → List ℕ → List ℕ → List ℕ → List (List ℕ)
+five_paths g e edge a b d xa xb xd ya yb yd k l m =
+    (e ∷ []) ∷ (xa ∷ []) ∷ (xb ∷ []) ∷ (xd ∷ []) ∷ (ya ∷ []) ∷ (yb ∷ []) ∷ (yd ∷ [])
+    ∷ lifted g e a (map edge k) b ∷ reverse (lifted g e d (map edge m) a) ∷ lifted g e b (map edge l) d ∷ []
+
+-- the paths of the K3,3 with the sides x, p, r and y, q, t: the edge e, edges from x to q and t and from y to p and r, and
+-- four parts of a circle, lifted
+abbrev pub six_paths : Multigraph → ℕ → (ℕ → ℕ) → ℕ → ℕ → ℕ → ℕ → ℕ → ℕ → ℕ → ℕ → List ℕ → List ℕ → List ℕ → List ℕ → List (List ℕ)
+six_paths g e edge p q r t yp xq yr xt k l m o =
+    (e ∷ []) ∷ (xq ∷ []) ∷ (xt ∷ []) ∷ (yp ∷ []) ∷ lifted g e p (map edge k) q ∷ reverse (lifted g e t (map edge o) p)
+    ∷ (yr ∷ []) ∷ reverse (lifted g e q (map edge l) r) ∷ lifted g e r (map edge m) t ∷ []
+
+-- whether edge i of h at the merged vertex leads to a neighbour of y: it is at y in g, or leads from x to one
+abbrev pub leads_near : Multigraph → ℕ → ℕ → (ℕ → ℕ) → ℕ → Bool
+leads_near g x y edge i = is_end g y (edge i) || are_joined g y (other_end g (edge i) x)
