@@ -1,6 +1,7 @@
 -- The script, and the texts that the program prints.
 pub mod Text
 pub mod Head
+pub mod Node
 pub mod Answer
 pub mod Refusal
 pub mod Number

@@ -10,6 +10,7 @@ mod answers;
 mod command;
 mod head;
 mod laws;
+mod node;
 mod numbers;
 mod reader;
 mod refusals;
@@ -24,6 +25,7 @@ pub use answers::{
 pub use command::{Command, ScriptFault};
 pub use head::{block_line, cut_line, graph_line, push_vertex_line, vertex_line};
 pub use laws::script_laws;
+pub use node::{node_line, push_node_line};
 pub use numbers::number;
 pub use reader::read;
 pub use refusals::{
