@@ -5,3 +5,5 @@ pub mod MergeTouch
 pub mod JoinedBonds
 pub mod JoinedParity
 pub mod JoinedPolygons
+pub mod JoinedFlood
+pub mod JoinedGrows

@@ -24,6 +24,12 @@ module _ (g : Multigraph) (comps : List Comp) (split : IsSplit g comps) where
   pub side-where : (k j x i e : ℕ) → StandsFor comps x i (Real e) → side comps k j e ≡ is_beyond comps k j x
   side-where k j x i e s = side-home comps k j x i e s (λ d f t. (split.covers.once e d f x i t s).0)
 
+  -- the two sides of a link, seen from the one and from the other
+  pub side-opposite : (k j e : ℕ) → LinksTo comps k j → LinksTo comps j k → e < edge_count g → side comps k j e ≡ not (side comps j k e)
+  side-opposite k j e s b l =
+      let h = split.covers.present e l in
+      side-where k j h.0 h.1 e h.2 ∙ beyond-opposite comps split.linked k j s b h.0 (stands-in comps h.0 h.1 (Real e) h.2) ∙ ap not (sym (side-where j k h.0 h.1 e h.2))
+
   -- an edge at v on the far side
   pub record Touches (k j v : ℕ) : Type 0 where
     pub edge : ℕ
