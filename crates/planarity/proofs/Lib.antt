@@ -48,3 +48,5 @@ pub mod FoundSystem
 pub mod Found
 pub mod FoundAlternating
 pub mod FoundCircle
+pub mod FoundTurn
+pub mod FoundCommon

@@ -32,8 +32,9 @@ pub record HasSubdivision (g : Multigraph) : Type 0 where
   pub paths : List (List ℕ)
   pub is : IsSubdivision g kind branch paths
 
-has : {g : Multigraph} {kind : Pattern} {branch : List ℕ} {paths : List (List ℕ)} → IsSubdivision g kind branch paths → HasSubdivision g
-has {g} {kind} {branch} {paths} s = record { kind = kind; branch = branch; paths = paths; is = s }
+-- the one given
+pub subdivided : {g : Multigraph} {kind : Pattern} {branch : List ℕ} {paths : List (List ℕ)} → IsSubdivision g kind branch paths → HasSubdivision g
+subdivided {g} {kind} {branch} {paths} s = record { kind = kind; branch = branch; paths = paths; is = s }
 
 -- members of a list of at most one are one
 pub one-member : (l : List ℕ) (i j : ℕ) → length l ≤ 1 → is_member i l ≡ true → is_member j l ≡ true → i ≡ j
@@ -184,16 +185,16 @@ module _ (g h : Multigraph) (e x y : ℕ) (edge vertex : ℕ → ℕ) (og : IsGr
   -- the edge's vertex is a branch vertex
   lift-branch : (kind : Pattern) (branch : List ℕ) (paths : List (List ℕ)) → IsSubdivision h kind branch paths → (m : ℕ) → m < branch_count kind → branch_at branch m ≡ vertex x → HasSubdivision g
   lift-branch K33 branch paths s m l a = elim (cases_lt (length on) 2) [
-    | inl u ↦ has (lift-first g h e x y edge vertex og oh c back back_in back_is K33 branch paths s m l a (omega arith))
-    | inr u ↦ has (lift-second g h e x y edge vertex og oh c back back_in back_is K33 branch paths s m l a (omega (arith, spokes-both g h e x y edge vertex og oh c back back_in back_is K33 branch paths s m, spokes-three m l)))
+    | inl u ↦ subdivided (lift-first g h e x y edge vertex og oh c back back_in back_is K33 branch paths s m l a (omega arith))
+    | inr u ↦ subdivided (lift-second g h e x y edge vertex og oh c back back_in back_is K33 branch paths s m l a (omega (arith, spokes-both g h e x y edge vertex og oh c back back_in back_is K33 branch paths s m, spokes-three m l)))
   ]
     where
       on : List ℕ
       on = spokes_on g edge K33 paths y m
   lift-branch K5 branch paths s m l a = elim (cases_lt (length on) 2) [
-    | inl u ↦ has (lift-first g h e x y edge vertex og oh c back back_in back_is K5 branch paths s m l a (omega arith))
+    | inl u ↦ subdivided (lift-first g h e x y edge vertex og oh c back back_in back_is K5 branch paths s m l a (omega arith))
     | inr u ↦ elim (cases_lt (length off) 2) [
-      | inl v ↦ has (lift-second g h e x y edge vertex og oh c back back_in back_is K5 branch paths s m l a (omega arith))
+      | inl v ↦ subdivided (lift-second g h e x y edge vertex og oh c back back_in back_is K5 branch paths s m l a (omega arith))
       | inr v ↦ four
           (two-members off (omega (arith, spokes-both g h e x y edge vertex og oh c back back_in back_is K5 branch paths s m, spokes-four m l)))
           (two-members on (omega (arith, spokes-both g h e x y edge vertex og oh c back back_in back_is K5 branch paths s m, spokes-four m l)))
@@ -207,12 +208,12 @@ module _ (g h : Multigraph) (e x y : ℕ) (edge vertex : ℕ → ℕ) (og : IsGr
       off = spokes_off g edge K5 paths y m
 
       four : (p : ℕ) × (q : ℕ) × (spokes_off g edge K5 paths y m ≡ p ∷ q ∷ []) → (r : ℕ) × (t : ℕ) × (spokes_on g edge K5 paths y m ≡ r ∷ t ∷ []) → HasSubdivision g
-      four v w = has (lift-four branch paths s m v.0 v.1 w.0 w.1 l a v.2 w.2)
+      four v w = subdivided (lift-four branch paths s m v.0 v.1 w.0 w.1 l a v.2 w.2)
 
   -- a subdivision of the contracted graph gives one of the graph
   pub lift-with_back : (kind : Pattern) (branch : List ℕ) (paths : List (List ℕ)) → IsSubdivision h kind branch paths → HasSubdivision g
   lift-with_back kind branch paths s = elim (cases_Bool (is_member (vertex x) branch)) [
-    | inr n ↦ has (lift-none g h e x y edge vertex og oh c back back_in back_is kind branch paths s n)
+    | inr n ↦ subdivided (lift-none g h e x y edge vertex og oh c back back_in back_is kind branch paths s n)
     | inl n ↦ let w = contains-from_member branch (vertex x) n in lift-branch kind branch paths s (w.0) (omega (arith, w.1, s.branches)) (get_or_default branch (w.0) 0 (vertex x) w.1 ∙ w.2)
   ]
 
