@@ -1,5 +1,5 @@
 -- The branch vertices of a subdivision in another order, and the paths that belong to it.
-use Rattle.std.specs.Prelude.{◌≡◌, ℕ, suc, ◌<◌, Bool, true, ◌&&◌, ◌||◌, ◌==◌, nat_lt, if◌then◌else◌, List, [], ◌∷◌, map, reverse, length}
+use Rattle.std.specs.Prelude.{◌≡◌, ℕ, suc, ◌<◌, ◌≤◌, Bool, true, ◌&&◌, ◌||◌, ◌==◌, nat_lt, if◌then◌else◌, List, [], ◌∷◌, ◌++◌, map, reverse, length, slice_index}
 use Rattle.std.specs.List.Sorted.{IsPermutation}
 use Rattle.multigraph.specs.Part.{Rises}
 use Rattle.permutations.specs.Members.{is_member, is_distinct}
@@ -24,9 +24,13 @@ are_joined kind i j = nat_lt (pair_place (pattern_edges kind) i j) (length (patt
 abbrev pub path_between : Pattern → List (List ℕ) → ℕ → ℕ → List ℕ
 path_between kind paths i j = (if nat_lt i j then path_at paths (pair_place (pattern_edges kind) i j) else reverse (path_at paths (pair_place (pattern_edges kind) j i)))
 
--- the paths for another order of the branch vertices
+-- in another order of the branch vertices, the path for a pair of their places
+abbrev pub reordered_path : Pattern → List ℕ → List (List ℕ) → List ℕ → ℕ × ℕ → List ℕ
+reordered_path kind branch paths order pair = path_between kind paths (place_of branch (branch_at order pair.0)) (place_of branch (branch_at order pair.1))
+
+-- in another order of the branch vertices, the paths for the edges of the pattern
 abbrev pub reordered_paths : Pattern → List ℕ → List (List ℕ) → List ℕ → List (List ℕ)
-reordered_paths kind branch paths order = map (λ pair. path_between kind paths (place_of branch (branch_at order pair.0)) (place_of branch (branch_at order pair.1))) (pattern_edges kind)
+reordered_paths kind branch paths order = map (reordered_path kind branch paths order) (pattern_edges kind)
 
 -- another order of the branch vertices, in which those are joined that the pattern joins
 pub record IsReordering (kind : Pattern) (branch order : List ℕ) : Type 0 where
@@ -39,3 +43,8 @@ pub record IsReordering (kind : Pattern) (branch order : List ℕ) : Type 0 wher
 pub record IsRisen (l rising : List ℕ) : Type 0 where
   pub permuted : IsPermutation l rising
   pub rises : Rises rising
+
+-- one list after the other, first the one that begins lower
+pub record IsLowerFirst (first second whole : List ℕ) : Type 0 where
+  pub straight : slice_index first 0 < slice_index second 0 → whole ≡ first ++ second
+  pub crossed : slice_index second 0 ≤ slice_index first 0 → whole ≡ second ++ first

@@ -6,44 +6,9 @@ ghost use Rattle.graph_theory.specs.Path.{walk_starts, walk_end};
 ghost use Rattle.kuratowski.specs.Subdivision.{branch_at, branch_count, pattern_edges, inner_vertices, IsWritten};
 ghost use Rattle.kuratowski.specs.Checking.{is_in_order, no_marks, is_taken, marked_also, are_free, is_edge_at, is_free_walk, is_free_path, are_free_paths};
 
-use crate::subdivision::{Pattern, Subdivision};
+use crate::subdivision::{Pattern, Subdivision, pattern_edges};
 use multigraph::{Graph, Numbers};
 use std::alloc::{AllocError, Global};
-
-const K5_EDGES: [(usize, usize); 10] = [
-    (0, 1),
-    (0, 2),
-    (0, 3),
-    (0, 4),
-    (1, 2),
-    (1, 3),
-    (1, 4),
-    (2, 3),
-    (2, 4),
-    (3, 4),
-];
-
-const K33_EDGES: [(usize, usize); 9] = [
-    (0, 3),
-    (0, 4),
-    (0, 5),
-    (1, 3),
-    (1, 4),
-    (1, 5),
-    (2, 3),
-    (2, 4),
-    (2, 5),
-];
-
-// The edges of the pattern, as pairs of its vertices.
-fn pattern_edges(kind: Pattern) -> &'static [(usize, usize)]
-    ensures { result.now ≡ pattern_edges kind }
-{
-    match kind {
-        Pattern::K5 => &K5_EDGES,
-        Pattern::K33 => &K33_EDGES,
-    }
-}
 
 // Whether there are as many branch vertices as the pattern has, in their written order.
 fn is_in_order(kind: Pattern, branch: &[u32]) -> bool

@@ -7,9 +7,11 @@
 #![tactic(auto)]
 
 mod checking;
+mod ordering;
 mod subdivision;
 
 pub use checking::check;
+pub use ordering::written;
 pub use subdivision::{Pattern, Subdivision};
 
 #[cfg(test)]

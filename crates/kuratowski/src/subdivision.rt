@@ -1,5 +1,8 @@
 // Patterns and subdivisions, as data.
 
+ghost use Rattle.std.specs.Prelude.{◌≡◌};
+ghost use Rattle.kuratowski.specs.Subdivision.{pattern_edges};
+
 use multigraph::{NumberLists, Numbers};
 
 /// The pattern that is subdivided.
@@ -21,4 +24,39 @@ pub struct Subdivision {
     /// The paths, in the order of the pattern's edges: first with second, first with third, and so on; for K3,3 the first of
     /// the one side with each of the other, then the second, then the third.
     pub paths: NumberLists,
+}
+
+const K5_EDGES: [(usize, usize); 10] = [
+    (0, 1),
+    (0, 2),
+    (0, 3),
+    (0, 4),
+    (1, 2),
+    (1, 3),
+    (1, 4),
+    (2, 3),
+    (2, 4),
+    (3, 4),
+];
+
+const K33_EDGES: [(usize, usize); 9] = [
+    (0, 3),
+    (0, 4),
+    (0, 5),
+    (1, 3),
+    (1, 4),
+    (1, 5),
+    (2, 3),
+    (2, 4),
+    (2, 5),
+];
+
+// The edges of the pattern, as pairs of its vertices.
+pub(crate) fn pattern_edges(kind: Pattern) -> &'static [(usize, usize)]
+    ensures { result.now ≡ pattern_edges kind }
+{
+    match kind {
+        Pattern::K5 => &K5_EDGES,
+        Pattern::K33 => &K33_EDGES,
+    }
 }
