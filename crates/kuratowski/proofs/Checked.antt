@@ -9,7 +9,7 @@ use Rattle.multigraph.proofs.OtherEnd.{other_end-in}
 use Rattle.graph_theory.specs.Path.{walk_starts, IsWalk}
 use Rattle.kuratowski.specs.declared.subdivision.Pattern.{Pattern}
 use Rattle.kuratowski.specs.declared.subdivision.Pattern.TheVariants.{K5, K33}
-use Rattle.kuratowski.specs.Subdivision.{branch_count, pattern_edges, branch_at, pair_at, inner_vertices, all_inner, IsWrittenOrder, IsWritten}
+use Rattle.kuratowski.specs.Subdivision.{branch_count, pattern_edges, branch_at, pair_at, inner_vertices, all_inner, IsSubdivision, IsWrittenOrder, IsWritten}
 use Rattle.kuratowski.specs.Checking.{is_in_order, is_less, no_marks, marked_also, are_free, are_free_paths}
 use Rattle.kuratowski.proofs.Marks.{taken-among, free-append, free-each, free-distinct, free-from, taken-at_first, taken-vertex}
 use Rattle.kuratowski.proofs.FreePaths.{HaveEnds, AreJoined, free_paths-free, free_paths-joined, free_paths-from}
@@ -132,50 +132,41 @@ branches-ends kind m branch n d = λ k l.
     let wi : i < length branch = omega arith in
     (taken-among m branch (branch_at branch i) (member-at branch i 0 wi), taken-among m branch (branch_at branch j) (member-at branch j 0 wj), distinct-places branch i j d r.0 wj)
 
--- what the check finds is a subdivision in its written form
-pub checked : (g : Multigraph) (kind : Pattern) (branch : List ℕ) (paths : List (List ℕ)) → length branch ≡ branch_count kind → is_in_order kind branch ≡ true → length paths ≡ length (pattern_edges kind) → are_free (no_marks g) branch ≡ true → are_free_paths g (marked_also (no_marks g) branch) branch (pattern_edges kind) paths ≡ true → IsWritten g kind branch paths
-checked g kind branch paths n o s f p = record {
-  subdivision = record {
-    branches = n;
-    branch_in = λ i l. taken-vertex g.vertex_count (branch_at branch i) (free-each (no_marks g) branch (branch_at branch i) f (member-at branch i 0 (subst (λ (c : ℕ). i < c) (sym n) l)));
-    one_each = s;
-    are_paths = free_paths-joined g (marked_also (no_marks g) branch) branch (pattern_edges kind) paths (branches-ends kind (no_marks g) branch n (free-distinct (no_marks g) branch f)) p;
-    apart = free-distinct (no_marks g) (branch ++ all_inner g branch (pattern_edges kind) paths)
-        (free-append (no_marks g) branch (all_inner g branch (pattern_edges kind) paths)
-        ∙ and_from (are_free (no_marks g) branch) (are_free (marked_also (no_marks g) branch) (all_inner g branch (pattern_edges kind) paths)) f (free_paths-free g (marked_also (no_marks g) branch) branch (pattern_edges kind) paths p));
-  };
-  order = order-holds kind branch o;
+-- what the check finds is a subdivision
+pub checked : (g : Multigraph) (kind : Pattern) (branch : List ℕ) (paths : List (List ℕ)) → length branch ≡ branch_count kind → length paths ≡ length (pattern_edges kind) → are_free (no_marks g) branch ≡ true → are_free_paths g (marked_also (no_marks g) branch) branch (pattern_edges kind) paths ≡ true → IsSubdivision g kind branch paths
+checked g kind branch paths n s f p = record {
+  branches = n;
+  branch_in = λ i l. taken-vertex g.vertex_count (branch_at branch i) (free-each (no_marks g) branch (branch_at branch i) f (member-at branch i 0 (subst (λ (c : ℕ). i < c) (sym n) l)));
+  one_each = s;
+  are_paths = free_paths-joined g (marked_also (no_marks g) branch) branch (pattern_edges kind) paths (branches-ends kind (no_marks g) branch n (free-distinct (no_marks g) branch f)) p;
+  apart = free-distinct (no_marks g) (branch ++ all_inner g branch (pattern_edges kind) paths)
+      (free-append (no_marks g) branch (all_inner g branch (pattern_edges kind) paths)
+      ∙ and_from (are_free (no_marks g) branch) (are_free (marked_also (no_marks g) branch) (all_inner g branch (pattern_edges kind) paths)) f (free_paths-free g (marked_also (no_marks g) branch) branch (pattern_edges kind) paths p));
 }
 
 -- the vertices of a subdivision have no marks at first
-written-free : (g : Multigraph) → IsGraph g → (kind : Pattern) (branch : List ℕ) (paths : List (List ℕ)) → IsWritten g kind branch paths → (are_free (no_marks g) branch && are_free (marked_also (no_marks g) branch) (all_inner g branch (pattern_edges kind) paths)) ≡ true
-written-free g o kind branch paths w =
+vertices-free : (g : Multigraph) → IsGraph g → (kind : Pattern) (branch : List ℕ) (paths : List (List ℕ)) → IsSubdivision g kind branch paths → (are_free (no_marks g) branch && are_free (marked_also (no_marks g) branch) (all_inner g branch (pattern_edges kind) paths)) ≡ true
+vertices-free g o kind branch paths s =
     sym (free-append (no_marks g) branch (all_inner g branch (pattern_edges kind) paths))
-    ∙ free-from (no_marks g) (branch ++ all_inner g branch (pattern_edges kind) paths) w.subdivision.apart (λ z m. taken-at_first g.vertex_count z (within z (member-append_cases z branch (all_inner g branch (pattern_edges kind) paths) m)))
+    ∙ free-from (no_marks g) (branch ++ all_inner g branch (pattern_edges kind) paths) s.apart (λ z m. taken-at_first g.vertex_count z (within z (member-append_cases z branch (all_inner g branch (pattern_edges kind) paths) m)))
   where
     within : (z : ℕ) → (is_member z branch ≡ true) ⊎ (is_member z (all_inner g branch (pattern_edges kind) paths) ≡ true) → z < g.vertex_count
-    within z (inl a) = members-within g.vertex_count branch (λ i l. w.subdivision.branch_in i (subst (λ (c : ℕ). i < c) w.subdivision.branches l)) z a
-    within z (inr b) = all-within g o branch (pattern_edges kind) paths w.subdivision.are_paths z b
+    within z (inl a) = members-within g.vertex_count branch (λ i l. s.branch_in i (subst (λ (c : ℕ). i < c) s.branches l)) z a
+    within z (inr b) = all-within g o branch (pattern_edges kind) paths s.are_paths z b
 
--- the check finds the branch vertices of a subdivision in its written form
-pub branches-found : (g : Multigraph) → IsGraph g → (kind : Pattern) (branch : List ℕ) (paths : List (List ℕ)) → IsWritten g kind branch paths → are_free (no_marks g) branch ≡ true
-branches-found g o kind branch paths w = (and_parts (are_free (no_marks g) branch) (are_free (marked_also (no_marks g) branch) (all_inner g branch (pattern_edges kind) paths)) (written-free g o kind branch paths w)).0
+-- the check finds each subdivision
+found : (g : Multigraph) → IsGraph g → (kind : Pattern) (branch : List ℕ) (paths : List (List ℕ)) → IsSubdivision g kind branch paths → (are_free (no_marks g) branch && are_free_paths g (marked_also (no_marks g) branch) branch (pattern_edges kind) paths) ≡ true
+found g o kind branch paths s =
+    let p = and_parts (are_free (no_marks g) branch) (are_free (marked_also (no_marks g) branch) (all_inner g branch (pattern_edges kind) paths)) (vertices-free g o kind branch paths s) in
+    and_from (are_free (no_marks g) branch) (are_free_paths g (marked_also (no_marks g) branch) branch (pattern_edges kind) paths) p.0
+    (free_paths-from g (marked_also (no_marks g) branch) branch (pattern_edges kind) paths s.one_each
+    (branches-ends kind (no_marks g) branch s.branches (distinct-append_left branch (all_inner g branch (pattern_edges kind) paths) s.apart)) s.are_paths p.1)
 
--- and its paths
-pub paths-found : (g : Multigraph) → IsGraph g → (kind : Pattern) (branch : List ℕ) (paths : List (List ℕ)) → IsWritten g kind branch paths → are_free_paths g (marked_also (no_marks g) branch) branch (pattern_edges kind) paths ≡ true
-paths-found g o kind branch paths w =
-    free_paths-from g (marked_also (no_marks g) branch) branch (pattern_edges kind) paths w.subdivision.one_each
-    (branches-ends kind (no_marks g) branch w.subdivision.branches (distinct-append_left branch (all_inner g branch (pattern_edges kind) paths) w.subdivision.apart))
-    w.subdivision.are_paths
-    (and_parts (are_free (no_marks g) branch) (are_free (marked_also (no_marks g) branch) (all_inner g branch (pattern_edges kind) paths)) (written-free g o kind branch paths w)).1
+-- with the right numbers of branch vertices and paths, the tests on marks hold exactly of a subdivision
+pub exactly : (g : Multigraph) → IsGraph g → (kind : Pattern) (branch : List ℕ) (paths : List (List ℕ)) → length branch ≡ branch_count kind → length paths ≡ length (pattern_edges kind) → ((are_free (no_marks g) branch && are_free_paths g (marked_also (no_marks g) branch) branch (pattern_edges kind) paths) ≡ true) ↔ IsSubdivision g kind branch paths
+exactly g o kind branch paths n s =
+    (λ h. let p = and_parts (are_free (no_marks g) branch) (are_free_paths g (marked_also (no_marks g) branch) branch (pattern_edges kind) paths) h in checked g kind branch paths n s p.0 p.1, found g o kind branch paths)
 
--- and their order
-pub order-found : (g : Multigraph) (kind : Pattern) (branch : List ℕ) (paths : List (List ℕ)) → IsWritten g kind branch paths → is_in_order kind branch ≡ true
-order-found g kind branch paths w = order-test kind branch w.order
-
--- the tests together hold exactly of a subdivision in its written form
-pub exactly : (g : Multigraph) → IsGraph g → (kind : Pattern) (branch : List ℕ) (paths : List (List ℕ)) → length branch ≡ branch_count kind → is_in_order kind branch ≡ true → length paths ≡ length (pattern_edges kind) → ((are_free (no_marks g) branch && are_free_paths g (marked_also (no_marks g) branch) branch (pattern_edges kind) paths) ≡ true) ↔ IsWritten g kind branch paths
-exactly g o kind branch paths n i s = (
-  λ h. let p = and_parts (are_free (no_marks g) branch) (are_free_paths g (marked_also (no_marks g) branch) branch (pattern_edges kind) paths) h in checked g kind branch paths n i s p.0 p.1,
-  λ w. and_from (are_free (no_marks g) branch) (are_free_paths g (marked_also (no_marks g) branch) branch (pattern_edges kind) paths) (branches-found g o kind branch paths w) (paths-found g o kind branch paths w),
-)
+-- a subdivision is in its written form exactly where the test of the order holds
+pub exactly_written : (g : Multigraph) (kind : Pattern) (branch : List ℕ) (paths : List (List ℕ)) → IsSubdivision g kind branch paths → (is_in_order kind branch ≡ true) ↔ IsWritten g kind branch paths
+exactly_written g kind branch paths s = (λ h. record { subdivision = s; order = order-holds kind branch h }, λ w. order-test kind branch w.order)

@@ -1,5 +1,5 @@
 -- A subdivision with its branch vertices in another order is one.
-use Rattle.std.proofs.Common.{◌≡◌, ◌≢◌, ◌||◌, ℕ, zero, suc, ◌<◌, ◌⊎◌, inl, inr, Bool, true, ◌&&◌, ◌==◌, ltb, if◌then◌else◌, List, [], ◌∷◌, length, get_or, reverse, refl, sym, ap, ◌∙◌, subst, arith}
+use Rattle.std.proofs.Common.{◌≡◌, ℕ, zero, suc, ◌<◌, ◌⊎◌, inl, inr, Bool, true, ◌&&◌, ◌==◌, ltb, if◌then◌else◌, List, [], ◌∷◌, length, get_or, reverse, refl, sym, ap, ◌∙◌, subst, arith}
 use Rattle.std.proofs.lemmas.Bool.{cases_Bool, cases_order, cases_eq, and_parts, or_cases, ltb-true, lt-ltb, le-ltb, eqb-true, true≢false}
 use Rattle.std.proofs.lemmas.List.{length-map, get_or-map}
 use Rattle.permutations.specs.Members.{is_member, is_distinct}
@@ -68,37 +68,6 @@ pair-place K33 k l = eqb-true (pair_place (pattern_edges K33) (pair_at K33 k).0 
 -- the pattern has each of its edges once
 pub pair-once : (kind : Pattern) (k j : ℕ) → k < length (pattern_edges kind) → j < length (pattern_edges kind) → (pair_at kind k).0 ≡ (pair_at kind j).0 → (pair_at kind k).1 ≡ (pair_at kind j).1 → k ≡ j
 pair-once kind k j lk lj a b = sym (pair-place kind k lk) ∙ (λ i. pair_place (pattern_edges kind) (a i) (b i)) ∙ pair-place kind j lj
-
--- of two vertices that the pattern joins, the lesser is the first of their edge
-pub joined-place : (kind : Pattern) (a b : ℕ) → are_joined kind a b ≡ true → a < b → pair_place (pattern_edges kind) a b < length (pattern_edges kind)
-joined-place kind a b j l = elim (or_cases (ltb (pair_place (pattern_edges kind) a b) (length (pattern_edges kind))) (ltb (pair_place (pattern_edges kind) b a) (length (pattern_edges kind))) j) [
-  | inl h ↦ ltb-true (pair_place (pattern_edges kind) a b) (length (pattern_edges kind)) h
-  | inr h ↦ absurd (omega (arith, turned (ltb-true (pair_place (pattern_edges kind) b a) (length (pattern_edges kind)) h)))
-]
-  where
-    turned : pair_place (pattern_edges kind) b a < length (pattern_edges kind) → b < a
-    turned w =
-        subst (λ (v : ℕ). v < a) (pair-first (pattern_edges kind) b a w)
-        (subst (λ (v : ℕ). (pair_at kind (pair_place (pattern_edges kind) b a)).0 < v) (pair-second (pattern_edges kind) b a w) (pair-rises kind (pair_place (pattern_edges kind) b a) w).0)
-
--- that the pattern joins two vertices is said in either order
-pub joined-turned : (kind : Pattern) (a b : ℕ) → are_joined kind a b ≡ true → are_joined kind b a ≡ true
-joined-turned kind a b j = exchanged (ltb (pair_place (pattern_edges kind) a b) (length (pattern_edges kind))) (ltb (pair_place (pattern_edges kind) b a) (length (pattern_edges kind))) j
-  where
-    exchanged : (p q : Bool) → (p || q) ≡ true → (q || p) ≡ true
-    exchanged p q h = grind (arith, cases_Bool p, cases_Bool q)
-
--- the pattern joins no vertex with itself
-pub joined-differ : (kind : Pattern) (a b : ℕ) → are_joined kind a b ≡ true → a ≢ b
-joined-differ kind a b j e = elim (or_cases (ltb (pair_place (pattern_edges kind) a b) (length (pattern_edges kind))) (ltb (pair_place (pattern_edges kind) b a) (length (pattern_edges kind))) j) [
-  | inl h ↦ same a b e (ltb-true (pair_place (pattern_edges kind) a b) (length (pattern_edges kind)) h)
-  | inr h ↦ same b a (sym e) (ltb-true (pair_place (pattern_edges kind) b a) (length (pattern_edges kind)) h)
-]
-  where
-    same : (p q : ℕ) → p ≡ q → pair_place (pattern_edges kind) p q < length (pattern_edges kind) → ⊥
-    same p q i w =
-        absurd (omega (arith, subst (λ (v : ℕ). v < q) (pair-first (pattern_edges kind) p q w)
-        (subst (λ (v : ℕ). (pair_at kind (pair_place (pattern_edges kind) p q)).0 < v) (pair-second (pattern_edges kind) p q w) (pair-rises kind (pair_place (pattern_edges kind) p q) w).0)))
 
 -- the path from the one to the other of two branch vertices that the pattern joins, as an edge of the pattern and its path
 record Between (g : Multigraph) (kind : Pattern) (branch : List ℕ) (paths : List (List ℕ)) (a b x y : ℕ) : Type 0 where

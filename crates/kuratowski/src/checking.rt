@@ -3,29 +3,27 @@
 ghost use Rattle.std.specs.Prelude.{◌≡◌, ◌<◌, ◌↔◌, ◌&&◌, ℕ, true, false, not, length, IfOk, MatchOption, replicate, slice_set, slice_index_or};
 ghost use Rattle.multigraph.specs.Graph.{IsGraph, edge_count, other_end};
 ghost use Rattle.graph_theory.specs.Path.{walk_starts, walk_end};
-ghost use Rattle.kuratowski.specs.Subdivision.{branch_at, branch_count, pattern_edges, inner_vertices, IsWritten};
+ghost use Rattle.kuratowski.specs.Subdivision.{branch_at, branch_count, pattern_edges, inner_vertices, IsSubdivision, IsWritten};
 ghost use Rattle.kuratowski.specs.Checking.{is_in_order, no_marks, is_taken, marked_also, are_free, is_edge_at, is_free_walk, is_free_path, are_free_paths};
 
-use crate::subdivision::{Pattern, Subdivision, pattern_edges};
+use crate::subdivision::{Pattern, Subdivision, branch_count, pattern_edges};
 use multigraph::{Graph, Numbers};
 use std::alloc::{AllocError, Global};
 
-// Whether there are as many branch vertices as the pattern has, in their written order.
+// Whether the branch vertices are in their written order.
 fn is_in_order(kind: Pattern, branch: &[u32]) -> bool
-    ensures many { result ≡ true → length branch.now ≡ branch_count kind }
-    ensures order { length branch.now ≡ branch_count kind → result ≡ is_in_order kind branch.now }
+    requires { length branch.now ≡ branch_count kind }
+    ensures { result ≡ is_in_order kind branch.now }
 {
     match kind {
         Pattern::K5 => {
-            branch.len() == 5
-                && branch[0] < branch[1]
+            branch[0] < branch[1]
                 && branch[1] < branch[2]
                 && branch[2] < branch[3]
                 && branch[3] < branch[4]
         }
         Pattern::K33 => {
-            branch.len() == 6
-                && branch[0] < branch[1]
+            branch[0] < branch[1]
                 && branch[1] < branch[2]
                 && branch[3] < branch[4]
                 && branch[4] < branch[5]
@@ -157,16 +155,26 @@ fn meets_once(
     mark_all(marks, branch) && walk_paths(g, marks, branch, pairs, paths)
 }
 
-/// Whether `s` is a subdivision of its pattern in `g`, in its written form. In linear time.
-pub fn check(alloc: Global, g: &Graph, s: &Subdivision) -> Result<bool, AllocError>
-    ensures exact { IfOk result (λ held. (held ≡ true) ↔ IsWritten g.now s.now.kind s.now.branch s.now.paths) }
+/// Whether `s` is a subdivision of its pattern in `g`. In linear time.
+pub fn is_subdivision(alloc: Global, g: &Graph, s: &Subdivision) -> Result<bool, AllocError>
+    ensures exact { IfOk result (λ held. (held ≡ true) ↔ IsSubdivision g.now s.now.kind s.now.branch s.now.paths) }
 {
     let branch = s.branch.as_slice();
     let paths = s.paths.as_slice();
     let pairs = pattern_edges(s.kind);
-    if !is_in_order(s.kind, branch) || paths.len() != pairs.len() {
+    if branch.len() != branch_count(s.kind) || paths.len() != pairs.len() {
         return Ok(false);
     }
     let mut marks = no_marks(alloc, g)?;
     Ok(meets_once(g, &mut marks, branch, pairs, paths))
+}
+
+/// Whether `s` is a subdivision of its pattern in `g`, in its written form. In linear time.
+pub fn check(alloc: Global, g: &Graph, s: &Subdivision) -> Result<bool, AllocError>
+    ensures exact { IfOk result (λ held. (held ≡ true) ↔ IsWritten g.now s.now.kind s.now.branch s.now.paths) }
+{
+    if !is_subdivision(alloc, g, s)? {
+        return Ok(false);
+    }
+    Ok(is_in_order(s.kind, s.branch.as_slice()))
 }

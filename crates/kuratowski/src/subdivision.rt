@@ -1,7 +1,7 @@
 // Patterns and subdivisions, as data.
 
 ghost use Rattle.std.specs.Prelude.{◌≡◌};
-ghost use Rattle.kuratowski.specs.Subdivision.{pattern_edges};
+ghost use Rattle.kuratowski.specs.Subdivision.{branch_count, pattern_edges};
 
 use multigraph::{NumberLists, Numbers};
 
@@ -24,6 +24,16 @@ pub struct Subdivision {
     /// The paths, in the order of the pattern's edges: first with second, first with third, and so on; for K3,3 the first of
     /// the one side with each of the other, then the second, then the third.
     pub paths: NumberLists,
+}
+
+// How many vertices the pattern has.
+pub(crate) fn branch_count(kind: Pattern) -> usize
+    ensures { result ≡ branch_count kind }
+{
+    match kind {
+        Pattern::K5 => 5,
+        Pattern::K33 => 6,
+    }
 }
 
 const K5_EDGES: [(usize, usize); 10] = [

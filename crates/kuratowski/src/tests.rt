@@ -1,11 +1,11 @@
-// Certificates of small graphs, right ones and near misses.
+// Certificates of small graphs, right ones and near misses, and their written form.
 
-use crate::{Pattern, Subdivision, check};
+use crate::{Pattern, Subdivision, check, is_subdivision, written};
 use multigraph::{Graph, NumberLists, Numbers};
 use std::alloc::{AllocError, Global};
 use std::test::Fail;
 
-// A certificate, and whether it is one.
+// A certificate, and whether it is one in its written form.
 struct Row {
     kind: Pattern,
     branch: &'static [u32],
@@ -185,6 +185,22 @@ static K33_ROWS: [Row; 8] = [
     },
 ];
 
+// The first certificate of K5 with its branch vertices in another order.
+static MIXED_FIVE: Row = Row {
+    kind: Pattern::K5,
+    branch: &[3, 1, 0, 4, 2],
+    paths: &[&[5], &[2], &[9], &[7], &[0], &[6], &[4], &[3], &[1], &[8]],
+    held: false,
+};
+
+// The first certificate of K3,3 with its sides exchanged and their vertices in another order.
+static MIXED_SIDES: Row = Row {
+    kind: Pattern::K33,
+    branch: &[5, 3, 4, 2, 0, 1],
+    paths: &[&[9, 8], &[2], &[5], &[6], &[0], &[3], &[7], &[1], &[4]],
+    held: false,
+};
+
 // The certificate of a row.
 fn certificate(alloc: Global, row: &Row) -> Result<Subdivision, AllocError> {
     let mut paths = Vec::new(alloc);
@@ -215,5 +231,39 @@ fn tells_subdivisions(rt: HostRuntime) -> Result<(), Fail> {
             row.held
         );
     }
+    Ok(())
+}
+
+// Whether the certificate has these branch vertices and paths.
+fn is_of(s: &Subdivision, branch: &[u32], paths: &[&[u32]]) -> bool {
+    if s.branch.as_slice() != branch || s.paths.as_slice().len() != paths.len() {
+        return false;
+    }
+    for (path, expected) in s.paths.as_slice().iter().zip(paths) {
+        if path.as_slice() != *expected {
+            return false;
+        }
+    }
+    true
+}
+
+// Whether the certificate is a subdivision whose written form is that of the other.
+fn is_written_as(alloc: Global, g: &Graph, row: &Row, form: &Row) -> Result<bool, AllocError> {
+    let s = certificate(alloc, row)?;
+    if !is_subdivision(alloc, g, &s)? {
+        return Ok(false);
+    }
+    let w = written(alloc, g, s)?;
+    Ok(is_of(&w, form.branch, form.paths))
+}
+
+#[test]
+fn writes_in_order(rt: HostRuntime) -> Result<(), Fail> {
+    let alloc = rt.alloc();
+    let complete = Graph::build(alloc, 5, &K5_ENDS)?;
+    assert!(rt; is_written_as(alloc, &complete, &MIXED_FIVE, &K5_ROWS[0])?);
+    let bipartite = Graph::build(alloc, 7, &K33_ENDS)?;
+    assert!(rt; is_written_as(alloc, &bipartite, &MIXED_SIDES, &K33_ROWS[0])?);
+    assert!(rt; !is_written_as(alloc, &bipartite, &K33_ROWS[2], &K33_ROWS[0])?);
     Ok(())
 }

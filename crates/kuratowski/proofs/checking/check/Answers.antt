@@ -1,19 +1,12 @@
-use Rattle.std.proofs.Common.{◌≡◌, ◌∙◌, ◌↔◌, ◌&&◌, ap, sym, subst, true, length, Bool, refl}
-use Rattle.kuratowski.specs.Subdivision.{pattern_edges, IsWritten}
-use Rattle.kuratowski.specs.Checking.{is_in_order, no_marks, marked_also, are_free, are_free_paths}
-use Rattle.kuratowski.proofs.Checked.{exactly}
+use Rattle.std.proofs.Common.{◌≡◌, ◌↔◌, ◌∙◌, ap, sym, subst, true, Bool}
+use Rattle.kuratowski.specs.Subdivision.{IsWritten}
+use Rattle.kuratowski.specs.Checking.{is_in_order}
+use Rattle.kuratowski.proofs.Checked.{exactly_written}
 use Rattle.kuratowski.proofs.checking.check.Goals as goal
 
+-- of a subdivision, the order tells the written form
 pub returns : goal.returns
-returns c =
-    let branch = c.as_slice-branch.ensures in
-    let paths = c.as_slice-paths.ensures in
-    let pairs = c.pattern_edges-pairs.ensures in
-    let marks = c.deref_mut.ensures.value ∙ c.in_ok-marks.ensures.marks in
-    let many = c.if-not-is_in_order.ensures.many refl in
-    let answer : c.meets_once.result ≡ (are_free (no_marks c.args.g.now) c.args.s.now.branch && are_free_paths c.args.g.now (marked_also (no_marks c.args.g.now) c.args.s.now.branch) c.args.s.now.branch (pattern_edges c.args.s.now.kind) c.args.s.now.paths) =
-    c.meets_once.ensures ∙ (λ i. are_free (marks i) (branch i) && are_free_paths c.args.g.now (marked_also (marks i) (branch i)) (branch i) (pairs i) (paths i)) in
-    record {
-      exact = subst (λ (b : Bool). (b ≡ true) ↔ IsWritten c.args.g.now c.args.s.now.kind c.args.s.now.branch c.args.s.now.paths) (sym answer)
-          (exactly c.args.g.now c.in_ok-marks.ensures.graph c.args.s.now.kind c.args.s.now.branch c.args.s.now.paths (ap length (sym branch) ∙ many) (ap (is_in_order c.args.s.now.kind) (sym branch) ∙ sym (c.if-not-is_in_order.ensures.order many)) (ap length (sym paths) ∙ c.if-paths-pairs.false ∙ ap length pairs));
-    }
+returns c = record {
+  exact = subst (λ (b : Bool). (b ≡ true) ↔ IsWritten c.args.g.now c.args.s.now.kind c.args.s.now.branch c.args.s.now.paths) (sym (c.is_in_order.ensures ∙ ap (is_in_order c.args.s.now.kind) c.as_slice.ensures))
+      (exactly_written c.args.g.now c.args.s.now.kind c.args.s.now.branch c.args.s.now.paths (c.in_ok-is_subdivision.ensures.exact.0 c.if-not-branch.false));
+}
