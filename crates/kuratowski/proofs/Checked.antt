@@ -132,9 +132,9 @@ branches-ends kind m branch n d = λ k l.
     let wi : i < length branch = omega arith in
     (taken-among m branch (branch_at branch i) (member-at branch i 0 wi), taken-among m branch (branch_at branch j) (member-at branch j 0 wj), distinct-places branch i j d r.0 wj)
 
--- what the check finds is a subdivision
-pub checked : (g : Multigraph) (kind : Pattern) (branch : List ℕ) (paths : List (List ℕ)) → length branch ≡ branch_count kind → length paths ≡ length (pattern_edges kind) → are_free (no_marks g) branch ≡ true → are_free_paths g (marked_also (no_marks g) branch) branch (pattern_edges kind) paths ≡ true → IsSubdivision g kind branch paths
-checked g kind branch paths n s f p = record {
+-- what the tests on marks find is a subdivision
+marked-subdivision : (g : Multigraph) (kind : Pattern) (branch : List ℕ) (paths : List (List ℕ)) → length branch ≡ branch_count kind → length paths ≡ length (pattern_edges kind) → are_free (no_marks g) branch ≡ true → are_free_paths g (marked_also (no_marks g) branch) branch (pattern_edges kind) paths ≡ true → IsSubdivision g kind branch paths
+marked-subdivision g kind branch paths n s f p = record {
   branches = n;
   branch_in = λ i l. taken-vertex g.vertex_count (branch_at branch i) (free-each (no_marks g) branch (branch_at branch i) f (member-at branch i 0 (subst (λ (c : ℕ). i < c) (sym n) l)));
   one_each = s;
@@ -165,8 +165,12 @@ found g o kind branch paths s =
 -- with the right numbers of branch vertices and paths, the tests on marks hold exactly of a subdivision
 pub exactly : (g : Multigraph) → IsGraph g → (kind : Pattern) (branch : List ℕ) (paths : List (List ℕ)) → length branch ≡ branch_count kind → length paths ≡ length (pattern_edges kind) → ((are_free (no_marks g) branch && are_free_paths g (marked_also (no_marks g) branch) branch (pattern_edges kind) paths) ≡ true) ↔ IsSubdivision g kind branch paths
 exactly g o kind branch paths n s =
-    (λ h. let p = and_parts (are_free (no_marks g) branch) (are_free_paths g (marked_also (no_marks g) branch) branch (pattern_edges kind) paths) h in checked g kind branch paths n s p.0 p.1, found g o kind branch paths)
+    (λ h. let p = and_parts (are_free (no_marks g) branch) (are_free_paths g (marked_also (no_marks g) branch) branch (pattern_edges kind) paths) h in marked-subdivision g kind branch paths n s p.0 p.1, found g o kind branch paths)
 
 -- a subdivision is in its written form exactly where the test of the order holds
 pub exactly_written : (g : Multigraph) (kind : Pattern) (branch : List ℕ) (paths : List (List ℕ)) → IsSubdivision g kind branch paths → (is_in_order kind branch ≡ true) ↔ IsWritten g kind branch paths
 exactly_written g kind branch paths s = (λ h. record { subdivision = s; order = order-holds kind branch h }, λ w. order-test kind branch w.order)
+
+-- what the check finds is a subdivision in its written form
+pub checked : (g : Multigraph) (kind : Pattern) (branch : List ℕ) (paths : List (List ℕ)) → length branch ≡ branch_count kind → is_in_order kind branch ≡ true → length paths ≡ length (pattern_edges kind) → are_free (no_marks g) branch ≡ true → are_free_paths g (marked_also (no_marks g) branch) branch (pattern_edges kind) paths ≡ true → IsWritten g kind branch paths
+checked g kind branch paths n o s f p = (exactly_written g kind branch paths (marked-subdivision g kind branch paths n s f p)).0 o

@@ -5,7 +5,7 @@ use Rattle.multigraph.specs.Graph.{Multigraph}
 use Rattle.kuratowski.specs.declared.subdivision.Pattern.TheVariants.{K5, K33}
 use Rattle.kuratowski.specs.Subdivision.{all_inner, pattern_edges, IsWritten}
 use Rattle.kuratowski.specs.Reordering.{reordered_paths}
-use Rattle.kuratowski.proofs.Checked.{checked, exactly_written}
+use Rattle.kuratowski.proofs.Checked.{checked}
 
 -- the complete graph on five vertices
 abbrev complete : Multigraph
@@ -21,7 +21,7 @@ edges = (0 ∷ []) ∷ (1 ∷ []) ∷ (2 ∷ []) ∷ (3 ∷ []) ∷ (4 ∷ []) �
 
 -- it is a subdivision of K5
 complete-written : IsWritten complete K5 five edges
-complete-written = (exactly_written complete K5 five edges (checked complete K5 five edges refl refl refl refl)).0 refl
+complete-written = checked complete K5 five edges refl refl refl refl refl
 
 -- with the first two paths exchanged it is none
 complete-exchanged : IsWritten complete K5 five ((1 ∷ []) ∷ (0 ∷ []) ∷ (2 ∷ []) ∷ (3 ∷ []) ∷ (4 ∷ []) ∷ (5 ∷ []) ∷ (6 ∷ []) ∷ (7 ∷ []) ∷ (8 ∷ []) ∷ (9 ∷ []) ∷ []) → ⊥
@@ -44,7 +44,7 @@ nine_paths = (0 ∷ []) ∷ (1 ∷ []) ∷ (2 ∷ []) ∷ (3 ∷ []) ∷ (4 ∷ 
 
 -- it is a subdivision of K3,3
 with_vertex-written : IsWritten with_vertex K33 six nine_paths
-with_vertex-written = (exactly_written with_vertex K33 six nine_paths (checked with_vertex K33 six nine_paths refl refl refl refl)).0 refl
+with_vertex-written = checked with_vertex K33 six nine_paths refl refl refl refl refl
 
 -- vertex 6 is the only one inside a path
 with_vertex-inner : all_inner with_vertex six (pattern_edges K33) nine_paths ≡ 6 ∷ []
