@@ -7,3 +7,4 @@ pub mod JoinedParity
 pub mod JoinedPolygons
 pub mod JoinedFlood
 pub mod JoinedGrows
+pub mod SameVertices
