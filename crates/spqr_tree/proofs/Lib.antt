@@ -8,3 +8,5 @@ pub mod JoinedPolygons
 pub mod JoinedFlood
 pub mod JoinedGrows
 pub mod SameVertices
+pub mod MergeItems
+pub mod MergeTree
