@@ -10,3 +10,4 @@ pub mod JoinedGrows
 pub mod SameVertices
 pub mod MergeItems
 pub mod MergeTree
+pub mod MergedSplit

@@ -73,14 +73,14 @@ module _ (comps : List Comp) (f : ℕ → ℕ) (others : List Comp) (c : IsContr
   arrives x j l m o =
       let p = redirect f (item_at comps x j) in
       let w = number-some no_piece (is_like p) (items_of others (f x)) (subst (λ z. 1 ≤ z) (sym (c.pieces (f x) (is_like p) (c.into x l) (like-symmetric p)))
-        (gathered-from comps f (f x) (λ q. is_like p (redirect f q)) x j l refl m o (like-own p))) in
+      (gathered-from comps f (f x) (λ q. is_like p (redirect f q)) x j l refl m o (like-own p))) in
       let v = like-parts p (item_at others (f x) w.0) w.2 in
       (w.0, (w.1, v.0), v.1)
 
   -- two places that stand for the same are one, where only one item of all components goes there
   pub arrives-once : (h i j : ℕ) (w : What)
       → ((x m y n : ℕ) → x < length comps → y < length comps → f x ≡ h → f y ≡ h → m < length (items_of comps x) → n < length (items_of comps y)
-        → is_outer f h (item_at comps x m).what ≡ true → is_outer f h (item_at comps y n).what ≡ true → renamed f (item_at comps x m).what ≡ w → renamed f (item_at comps y n).what ≡ w → (x ≡ y) × (m ≡ n))
+      → is_outer f h (item_at comps x m).what ≡ true → is_outer f h (item_at comps y n).what ≡ true → renamed f (item_at comps x m).what ≡ w → renamed f (item_at comps y n).what ≡ w → (x ≡ y) × (m ≡ n))
       → StandsFor others h i w → StandsFor others h j w → i ≡ j
   arrives-once h i j w u s t = elim (cases_eq i j) [
     | inl e ↦ e

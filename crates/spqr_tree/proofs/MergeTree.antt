@@ -68,16 +68,16 @@ module _ (comps : List Comp) (a : AreLinked comps) (f : ℕ → ℕ) (others : L
   top-once h x y hl l m e i = elim (cases_eq y x) [
     | inl z ↦ sym z
     | inr n ↦
-      let under = top-above h x y hl e l m (top-led h y i) in
-      elim (cases_eq y t.root) [
-        | inl r ↦ absurd (both_ways (is_below comps a x y) (ap (is_below comps a x) r ∙ below-root comps a x (λ z. n (r ∙ z))) under)
-        | inr r ↦ absurd (omega (
-          arith,
-          below-rank comps a x (t.parent y) (t.parent_in y m r) (sym (below-parent comps a x y m n r) ∙ under),
-          t.rank_falls y m r,
-          below-rank comps a y x l (top-above h y x hl i m l (top-led h x e)),
-        ))
-      ]
+        let under = top-above h x y hl e l m (top-led h y i) in
+        elim (cases_eq y t.root) [
+          | inl r ↦ absurd (both_ways (is_below comps a x y) (ap (is_below comps a x) r ∙ below-root comps a x (λ z. n (r ∙ z))) under)
+          | inr r ↦ absurd (omega (
+            arith,
+            below-rank comps a x (t.parent y) (t.parent_in y m r) (sym (below-parent comps a x y m n r) ∙ under),
+            t.rank_falls y m r,
+            below-rank comps a y x l (top-above h y x hl i m l (top-led h x e)),
+          ))
+        ]
   ]
 
   -- the top of group h
