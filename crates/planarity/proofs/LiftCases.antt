@@ -17,6 +17,7 @@ use Rattle.contractions.specs.Contraction.{IsContraction}
 use Rattle.kuratowski.specs.declared.subdivision.Pattern.{Pattern}
 use Rattle.kuratowski.specs.declared.subdivision.Pattern.TheVariants.{K5, K33}
 use Rattle.kuratowski.specs.Subdivision.{branch_count, pattern_edges, branch_at, IsSubdivision}
+pub use Rattle.planarity.specs.Lift.{HasSubdivision}
 use Rattle.planarity.specs.Lift.{touches, path_between, is_listed, spokes, leaves_by, spokes_on, spokes_off, lifted_branch, lifted_paths, split_branch, split_paths}
 use Rattle.planarity.proofs.LiftPath.{two_ends}
 use Rattle.planarity.proofs.LiftSystem.{IsPathSystem, IsMerged}
@@ -24,13 +25,6 @@ use Rattle.planarity.proofs.LiftPairs.{is_joined, between-self, pattern-no_loops
 use Rattle.planarity.proofs.LiftSpokes.{touches-one}
 use Rattle.planarity.proofs.LiftFoot.{foot-subdivision}
 use Rattle.planarity.proofs.LiftSplit.{split-subdivision}
-
--- a subdivision of K5 or K3,3 in g
-pub record HasSubdivision (g : Multigraph) : Type 0 where
-  pub kind : Pattern
-  pub branch : List ℕ
-  pub paths : List (List ℕ)
-  pub is : IsSubdivision g kind branch paths
 
 -- the one given
 pub subdivided : {g : Multigraph} {kind : Pattern} {branch : List ℕ} {paths : List (List ℕ)} → IsSubdivision g kind branch paths → HasSubdivision g

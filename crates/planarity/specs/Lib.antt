@@ -6,3 +6,4 @@ pub mod Lift
 pub mod Circle
 pub mod Embedding
 pub mod ContractionLaws
+pub mod ObstructionLaws

@@ -3,7 +3,7 @@ use Rattle.std.specs.Prelude.{ℕ, Bool, false, not, ◌&&◌, ◌||◌, ◌==�
 use Rattle.multigraph.specs.Graph.{Multigraph, is_end, other_end, numbers_below}
 use Rattle.kuratowski.specs.declared.subdivision.Pattern.{Pattern}
 use Rattle.kuratowski.specs.declared.subdivision.Pattern.TheVariants.{K5, K33}
-use Rattle.kuratowski.specs.Subdivision.{branch_count, pattern_edges, branch_at}
+use Rattle.kuratowski.specs.Subdivision.{branch_count, pattern_edges, branch_at, IsSubdivision}
 
 -- whether one of these edges has z as an end
 abbrev pub touches : Multigraph → ℕ → List ℕ → Bool
@@ -69,3 +69,10 @@ split_over m p q r t i = slice_index_or (m ∷ r ∷ t ∷ m ∷ p ∷ q ∷ [])
 abbrev pub split_paths : Multigraph → ℕ → (ℕ → ℕ) → List (List ℕ) → ℕ → ℕ → ℕ → ℕ → ℕ → List ℕ → List (List ℕ)
 split_paths g e edge paths m p q r t branch =
     map (λ k. lifted g e (branch_at branch k.0) (map edge (path_between (pattern_edges K5) paths (split_over m p q r t k.0) (split_over m p q r t k.1))) (branch_at branch k.1)) (pattern_edges K33)
+
+-- a subdivision of K5 or K3,3 in g
+pub record HasSubdivision (g : Multigraph) : Type 0 where
+  pub kind : Pattern
+  pub branch : List ℕ
+  pub paths : List (List ℕ)
+  pub is : IsSubdivision g kind branch paths

@@ -6,6 +6,7 @@
 
 mod contracting;
 mod embedder;
+mod obstructing;
 
 ghost use Rattle.planarity.specs.Laws.{MirrorIsAnother, SubdivisionExcludesPlane, TwoPlaneSystems};
 
@@ -13,6 +14,9 @@ pub use contracting::{
     plane_rotation_systems_are_expanded, rotation_systems_are_contracted, triangles_are_faces,
 };
 pub use embedder::{Embedded, Embedder};
+pub use obstructing::{
+    neighbours_lie_on_a_circle, neighbours_on_the_circle_obstruct, subdivisions_are_lifted,
+};
 
 /// The law that a graph with a subdivision of K5 or K3,3 has no plane rotation system. On the edges of the subdivision alone
 /// it would have at least seven faces, each of which runs along three of the twenty ways from branch vertex to branch vertex;
