@@ -50,3 +50,4 @@ pub mod FoundAlternating
 pub mod FoundCircle
 pub mod FoundTurn
 pub mod FoundCommon
+pub mod PlaneOrSubdivision

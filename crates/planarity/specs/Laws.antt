@@ -5,7 +5,7 @@ use Rattle.rotations.specs.Rotation.{IsRotationSystem}
 use Rattle.graph_theory.specs.Triconnected.{IsTriconnected}
 use Rattle.faces.specs.Euler.{IsPlane}
 use Rattle.faces.specs.Maps.{mirror_image}
-use Rattle.kuratowski.specs.Subdivision.{IsSubdivision}
+use Rattle.kuratowski.specs.Subdivision.{IsSubdivision, IsWritten}
 use Rattle.kuratowski.specs.declared.subdivision.Pattern.{Pattern}
 
 -- a graph with a subdivision of K5 or K3,3 has no plane rotation system
@@ -22,3 +22,8 @@ TwoPlaneSystems = (g : Multigraph) → IsGraph g → IsTriconnected g
 abbrev pub MirrorIsAnother : Type 0
 MirrorIsAnother = (g : Multigraph) → IsGraph g → IsTriconnected g → (r : List (List ℕ)) → IsRotationSystem g r → IsPlane g r
     → IsRotationSystem g (mirror_image r) × IsPlane g (mirror_image r) × (mirror_image r ≢ r)
+
+-- a triconnected graph has a plane rotation system, or a subdivision of K5 or K3,3 in its written form
+abbrev pub PlaneOrSubdivision : Type 0
+PlaneOrSubdivision = (g : Multigraph) → IsGraph g → IsTriconnected g
+    → ((r : List (List ℕ)) × IsRotationSystem g r × IsPlane g r) ⊎ ((kind : Pattern) × (branch : List ℕ) × (paths : List (List ℕ)) × IsWritten g kind branch paths)

@@ -8,7 +8,7 @@ mod contracting;
 mod embedder;
 mod obstructing;
 
-ghost use Rattle.planarity.specs.Laws.{MirrorIsAnother, SubdivisionExcludesPlane, TwoPlaneSystems};
+ghost use Rattle.planarity.specs.Laws.{MirrorIsAnother, PlaneOrSubdivision, SubdivisionExcludesPlane, TwoPlaneSystems};
 
 pub use contracting::{
     plane_rotation_systems_are_expanded, rotation_systems_are_contracted, triangles_are_faces,
@@ -30,4 +30,11 @@ pub fn subdivision_excludes_plane()
 pub fn triconnected_graphs_have_two()
     ensures two { TwoPlaneSystems }
     ensures mirror { MirrorIsAnother }
+{}
+
+/// The law that a triconnected graph has a plane rotation system, or a subdivision of K5 or K3,3 (Kuratowski 1930). By
+/// induction, after Thomassen (1980): an edge is contracted; a plane rotation system of what is left expands, or the circle
+/// round the merged vertex closes a subdivision; and a subdivision of what is left is lifted.
+pub fn triconnected_graphs_are_plane_or_obstructed()
+    ensures { PlaneOrSubdivision }
 {}
