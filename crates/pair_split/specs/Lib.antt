@@ -10,3 +10,4 @@ pub mod Minimal
 pub mod Lumps
 pub mod Search
 pub mod Cuts
+pub mod Laws

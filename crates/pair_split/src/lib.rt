@@ -5,6 +5,7 @@ mod components;
 mod cuts;
 mod family;
 mod labels;
+pub mod laws;
 mod lists;
 mod lumps;
 mod search;

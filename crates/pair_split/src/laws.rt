@@ -1,0 +1,39 @@
+// The laws of split components: each is a function without a body, whose contract is the theorem.
+//
+// The lemmas that are used most (module of proofs/ in front):
+//   Start, Eject, Finish state-start, state-eject, state-end: the state of splitting, from the graph to its split components
+//   Places          state-tight, common-current, current-common: the current family tells what two sides have in common
+//   SmallBlock      small-split: blocks of one or two edges
+//   Links           link-contained, contained-link, side-home: links as a list of pairs; where an edge is
+//   Subtrees        side-below, side-above: on the far side of a link just where the chain of parents meets the component
+//   TreeSides       all-linked, beyond-other, beyond-apart, beyond-some: the sides of the links of one component
+//   Rerooted        rerooted, rerooted-parent: the tree with another root
+//   Groups          group-some, group-once, group-common, end-touched: the groups of the items of a component
+//   SkeletonFamily  common-lift, lift-common, skeleton-tight: a skeleton as a family
+//   LargeSides      three-items, side-two, node-touch: how large components and sides are
+
+ghost use Rattle.pair_split.specs.Laws.{AnyRoot, BeyondALink, BeyondOneLink, GroupsMeetInEnds, InAGroup, InOneGroup, LinksConnect, OnOneSide, SidesHaveTwoEdges, VerticesOnOwnSide};
+
+/// The law that the links of components are a tree in the usual sense: they connect all components, and from each component
+/// each other one lies beyond exactly one link; so any component may be the root.
+pub fn links_are_a_tree()
+    ensures connect { LinksConnect }
+    ensures sides { OnOneSide }
+    ensures beyond { BeyondALink }
+    ensures once { BeyondOneLink }
+    ensures root { AnyRoot }
+{}
+
+/// The law that the groups of the items of a component part the edges of the graph, and meet only in ends of the items.
+pub fn groups_part_the_edges()
+    ensures some { InAGroup }
+    ensures once { InOneGroup }
+    ensures ends { GroupsMeetInEnds }
+{}
+
+/// The law that each link of split components of a block is a 2-separation: each side has at least two edges, and touches
+/// all vertices of the component on it.
+pub fn links_are_separations()
+    ensures large { SidesHaveTwoEdges }
+    ensures touched { VerticesOnOwnSide }
+{}
