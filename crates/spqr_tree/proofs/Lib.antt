@@ -11,3 +11,5 @@ pub mod SameVertices
 pub mod MergeItems
 pub mod MergeTree
 pub mod MergedSplit
+pub mod RearrangedKinds
+pub mod RearrangedSplit
