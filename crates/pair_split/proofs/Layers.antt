@@ -64,7 +64,3 @@ family-part state k l = rows-part part_family state.parts state.current k l ∙ 
 -- the family of the last component is the current family
 pub family-current : (state : SplitState) → family_at state (length state.parts) ≡ state.current
 family-current state = rows-last part_family state.parts state.current
-
--- there are no more components
-pub family-past : (state : SplitState) (k : ℕ) → length state.parts < k → family_at state k ≡ []
-family-past state k l = get_or_past (rows part_family state.parts state.current) k [] (omega (arith, l, rows-length part_family state.parts state.current))
