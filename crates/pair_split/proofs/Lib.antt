@@ -33,3 +33,4 @@ pub mod Marking
 pub mod Searching
 pub mod KindOf
 pub mod SplitSteps
+pub mod WritingSteps

@@ -1,7 +1,7 @@
 -- The steps of splitting a block: the start, and a minimal side made a finished component.
-use Rattle.std.proofs.Common.{◌≡◌, ◌≢◌, ℕ, ◌+◌, ◌<◌, ◌≤◌, inl, inr, Bool, false, not, List, [], ◌∷◌, ◌++◌, length, map, sym, ap, ◌∙◌, subst, arith, Contains, All}
+use Rattle.std.proofs.Common.{◌≡◌, ◌≢◌, ℕ, ◌+◌, ◌<◌, ◌≤◌, inl, inr, Bool, false, not, List, [], ◌∷◌, ◌++◌, length, map, sym, ap, ◌∙◌, subst, arith, Contains, All, take, drop, ◌-◌, slice_index_or}
 use Rattle.std.proofs.lemmas.Bool.{false_from_ne_true}
-use Rattle.std.proofs.lemmas.List.{length-map, map-append, length-append}
+use Rattle.std.proofs.lemmas.List.{length-map, map-append, length-append, drop_more, take_rest}
 use Rattle.std.proofs.lemmas.List.Elements.{All-contains}
 use Rattle.permutations.specs.Members.{is_member}
 use Rattle.multigraph.specs.Graph.{Multigraph, edge_count, numbers_below, IsGraph}
@@ -12,11 +12,13 @@ use Rattle.pair_split.specs.OneBlock.{IsOneBlock}
 use Rattle.pair_split.specs.Skeleton.{IsSkeleton}
 use Rattle.pair_split.specs.Lumps.{entry_of, family_of, HaveEndsBelow, HaveNamesBelow, marked}
 use Rattle.pair_split.specs.Search.{IsSearchable, IsMinimalSide}
-use Rattle.pair_split.specs.State.{Part, SplitState, ejected, start_state, IsSplitState}
+use Rattle.pair_split.specs.State.{Part, SplitState, ejected, start_state, IsSplitState, AreComponents}
+use Rattle.pair_split.specs.Split.{IsSplit}
 use Rattle.pair_split.specs.Cuts.{part_of, state_of, IsSplitting}
 use Rattle.pair_split.specs.declared.family.NamedEdge.{NamedEdge}
 use Rattle.pair_split.specs.declared.search.Side.{Side}
 use Rattle.pair_split.specs.declared.cuts.Cut.{Cut}
+use Rattle.pair_split.specs.declared.components.Comp.{Comp}
 use Rattle.pair_split.specs.declared.components.Kind.TheVariants.{B}
 use Rattle.pair_split.proofs.Elements.{contains-cases, contains-map, map-contains, filter-contains}
 use Rattle.pair_split.proofs.Sides.{length-sides}
@@ -27,6 +29,8 @@ use Rattle.pair_split.proofs.Layers.{layer-current, current-layer}
 use Rattle.pair_split.proofs.Start.{state-start}
 use Rattle.pair_split.proofs.Places.{state-tight}
 use Rattle.pair_split.proofs.Eject.{family-cons, kept-family, state-eject}
+use Rattle.pair_split.proofs.Marking.{nothing}
+use Rattle.pair_split.proofs.SmallBlock.{small-split}
 use Rattle.pair_split.proofs.Searching.{separation-below}
 
 -- marks for the names of a family's entries are marks for the edges
@@ -95,6 +99,7 @@ module _ (g : Multigraph) (graph : IsGraph g) (block : IsOneBlock g) (parts : Li
     pub eject-splitting : (new : Cut) (left : List NamedEdge) → entry_of new.own ≡ own → family_of new.edges ≡ on_side cut (family_of current) → family_of left ≡ own ∷ off_side cut (family_of current)
         → IsSkeleton new.kind (family_skeleton (own ∷ on_side cut (family_of current))) → new.kind ≢ B → IsSplitting g (parts ++ new ∷ []) left
     eject-splitting new left is inside outside skeleton large = record {
+      graph = graph;
       state = subst (IsSplitState g) (sym same) (state-eject g state s.state cut new.kind own (ap (λ (k : ℕ). edge_count g + k) (sym (length-map parts part_of))) minimal.separates skeleton large);
       ends = ends-within left g.vertex_count (λ entry c. elim (contains-cases entry own (off_side cut (family_of current)) (subst (λ (l : List Entry). Contains l entry) outside c)) [
         | inl e ↦ subst (λ (z : Entry). (z.first < g.vertex_count) × (z.second < g.vertex_count)) e (separation-below current g.vertex_count s.ends cut side.first side.second minimal.separates)
@@ -117,10 +122,18 @@ module _ (g : Multigraph) (graph : IsGraph g) (block : IsOneBlock g) (parts : Li
     pub eject-fewer : (left : List NamedEdge) → family_of left ≡ own ∷ off_side cut (family_of current) → length left < length current
     eject-fewer left outside = omega (arith, length-map left entry_of, ap length outside, length-map current entry_of, length-sides (family_of current) cut, minimal.separates.two_inside)
 
+-- at the start nothing is split
+pub start-state : (g : Multigraph) → IsGraph g → (parts : List Cut) (current : List NamedEdge) → parts ≡ [] → family_of current ≡ graph_family g → IsSplitState g (state_of parts current)
+start-state g graph parts current none all = subst (IsSplitState g) (sym same) (state-start g graph)
+  where
+    same : state_of parts current ≡ start_state g
+    same = λ i. record { parts = map part_of (none i); current = all i }
+
 -- the start of splitting a block of three or more edges
 pub start-splitting : (g : Multigraph) → IsGraph g → (parts : List Cut) (current : List NamedEdge) → parts ≡ [] → family_of current ≡ graph_family g → 3 ≤ edge_count g → IsSplitting g parts current
 start-splitting g graph parts current none all l = record {
-  state = subst (IsSplitState g) (sym same) (state-start g graph);
+  graph = graph;
+  state = start-state g graph parts current none all;
   ends = ends-within current g.vertex_count (λ entry c.
       let e = graph-entry g entry (subst (λ (k : List Entry). Contains k entry) all c) in
       subst (λ (z : Entry). (z.first < g.vertex_count) × (z.second < g.vertex_count)) e.2 (graph.first_in e.0 e.1, graph.second_in e.0 e.1));
@@ -131,8 +144,9 @@ start-splitting g graph parts current none all l = record {
     sizes : length current ≡ edge_count g
     sizes = sym (length-map current entry_of) ∙ (ap length all ∙ (length-map (numbers_below (edge_count g)) (graph_entry g) ∙ length-numbers_below (edge_count g)))
 
-    same : state_of parts current ≡ start_state g
-    same = λ i. record { parts = map part_of (none i); current = all i }
+-- a tight family of at most three entries is prime
+pub small-prime : (entries : List Entry) → IsTight entries → length entries ≤ 3 → IsPrime entries
+small-prime entries tight l = record { tight = tight; none = λ s p q c. absurd (omega (arith, l, c.two_inside, c.two_outside, length-sides entries s)) }
 
 -- the marked edges, where lists go by two names
 pub inside-is : (current given : List NamedEdge) (marks given-marks : List Bool) (inside made : List NamedEdge) → made ≡ inside → given ≡ current → given-marks ≡ marks
@@ -147,3 +161,15 @@ outside-is current given marks given-marks left x y a b c h = h ∙ (λ i. a i �
 -- a virtual edge with the sum of two numbers as its name
 pub own-is : (m r n k first second : ℕ) → n ≡ m → k ≡ r → entry_of (record { name = n + k; first = first; second = second }) ≡ record { name = m + r; first = first; second = second }
 own-is m r n k first second a b = λ i. record { name = a i + b i; first = first; second = second }
+
+-- a list in two parts: the first element and the rest
+pub first-rest : (edges : List NamedEdge) → 3 ≤ length edges → family_of edges ≡ entry_of (slice_index_or edges 0 nothing) ∷ family_of (take (length edges - 1) (drop 1 edges))
+first-rest edges l = ap family_of (drop_more edges 0 nothing (omega (arith, l)) ∙ ap (λ (es : List NamedEdge). slice_index_or edges 0 nothing ∷ es) (sym (take_rest edges 1)))
+
+-- how many the rest are
+pub rest-length : (edges : List NamedEdge) → 3 ≤ length edges → 2 ≤ length (take (length edges - 1) (drop 1 edges))
+rest-length edges l = omega (arith, l, ap length (first-rest edges l), length-map edges entry_of, length-map (take (length edges - 1) (drop 1 edges)) entry_of)
+
+-- the components of the start of a block of one edge or two are split components
+pub start-split : (g : Multigraph) → IsGraph g → IsOneBlock g → edge_count g ≤ 2 → (parts : List Cut) (current : List NamedEdge) → parts ≡ [] → family_of current ≡ graph_family g → (comps : List Comp) → AreComponents (edge_count g) (state_of parts current) B comps → IsSplit g comps
+start-split g graph block few parts current none all comps w = small-split g graph block few comps (subst (λ (st : SplitState). AreComponents (edge_count g) st B comps) (λ i. record { parts = map part_of (none i); current = all i }) w)

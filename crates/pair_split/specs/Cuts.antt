@@ -1,6 +1,6 @@
 -- The state of splitting as the code has it.
 use Rattle.std.specs.Prelude.{◌+◌, ◌≤◌, List, length, map}
-use Rattle.multigraph.specs.Graph.{Multigraph, edge_count}
+use Rattle.multigraph.specs.Graph.{Multigraph, edge_count, IsGraph}
 use Rattle.pair_split.specs.Lumps.{entry_of, family_of, HaveEndsBelow}
 use Rattle.pair_split.specs.State.{Part, SplitState, IsSplitState}
 use Rattle.pair_split.specs.declared.family.NamedEdge.{NamedEdge}
@@ -17,6 +17,7 @@ state_of parts current = record { parts = map part_of parts; current = family_of
 -- what holds while a block of three or more edges is split: the state is one of splitting this graph, the ends are vertices,
 -- three or more edges are left, and with the finished components they are no more than the graph's edges
 pub record IsSplitting (g : Multigraph) (parts : List Cut) (current : List NamedEdge) : Type 0 where
+  pub graph : IsGraph g
   pub state : IsSplitState g (state_of parts current)
   pub ends : HaveEndsBelow g.vertex_count current
   pub three : 3 ≤ length current

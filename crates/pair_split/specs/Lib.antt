@@ -11,3 +11,4 @@ pub mod Lumps
 pub mod Search
 pub mod Cuts
 pub mod Laws
+pub mod Writing

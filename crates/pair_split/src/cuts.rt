@@ -7,8 +7,9 @@ ghost use Rattle.pair_split.specs.Edges.{family_skeleton, graph_family};
 ghost use Rattle.pair_split.specs.OneBlock.{IsOneBlock};
 ghost use Rattle.pair_split.specs.Skeleton.{IsSkeleton};
 ghost use Rattle.pair_split.specs.Lumps.{entry_of, family_of, HaveEndsBelow, HaveNamesBelow, marked};
-ghost use Rattle.pair_split.specs.Search.{IsMinimalSide};
-ghost use Rattle.pair_split.specs.Cuts.{IsSplitting};
+ghost use Rattle.pair_split.specs.State.{IsSplitState};
+ghost use Rattle.pair_split.specs.Search.{IsMinimalSide, IsSearched};
+ghost use Rattle.pair_split.specs.Cuts.{state_of, IsSplitting};
 ghost use Rattle.pair_split.specs.declared.components.Kind.TheVariants.{B};
 
 use crate::components::Kind;
@@ -113,7 +114,7 @@ fn other_edges(
 }
 
 // The kind of a prime family of at least three entries, the first of which is given apart.
-pub(crate) fn kind_of(first: NamedEdge, rest: &[NamedEdge]) -> Kind
+fn kind_of(first: NamedEdge, rest: &[NamedEdge]) -> Kind
     requires family { IsFamily (entry_of first ∷ family_of rest.now) }
     requires prime { IsPrime (entry_of first ∷ family_of rest.now) }
     requires three { 2 ≤ length rest.now }
@@ -129,6 +130,17 @@ pub(crate) fn kind_of(first: NamedEdge, rest: &[NamedEdge]) -> Kind
     Kind::S
 }
 
+// The kind of a prime family of at least three entries.
+pub(crate) fn kind_of_all(edges: &[NamedEdge]) -> Kind
+    requires family { IsFamily (family_of edges.now) }
+    requires prime { IsPrime (family_of edges.now) }
+    requires three { 3 ≤ length edges.now }
+    ensures skeleton { IsSkeleton result (family_skeleton (family_of edges.now)) }
+    ensures large { result ≢ B }
+{
+    kind_of(edges[0], &edges[1..])
+}
+
 /// The components that are finished, and the family that is still to be split.
 #[derive(Drop)]
 pub(crate) struct Splitting {
@@ -141,6 +153,7 @@ impl Splitting {
     pub(crate) fn of(alloc: Global, g: &Graph) -> Result<Splitting, AllocError>
         ensures parts { IfOk result (λ s. s.parts.items ≡ []) }
         ensures current { IfOk result (λ s. family_of s.current.items ≡ graph_family g.now) }
+        ensures state { IfOk result (λ s. IsSplitState g.now (state_of s.parts.items s.current.items)) }
         ensures large { IsOneBlock g.now → 3 ≤ edge_count g.now → IfOk result (λ s. IsSplitting g.now s.parts.items s.current.items) }
     {
         let current = edges_of(alloc, g)?;
@@ -173,5 +186,33 @@ impl Splitting {
             edges: EdgeList::of(inside),
         })?;
         Ok(Splitting { parts, current })
+    }
+
+    // A minimal side of a 2-separation, if there is one.
+    fn find(&self, alloc: Global, g: &Graph) -> Result<Option<Side>, AllocError>
+        requires block { IsOneBlock g.now }
+        requires state { IsSplitting g.now self.now.parts.items self.now.current.items }
+        requires four { 4 ≤ length self.now.current.items }
+        ensures { IfOk result (IsSearched self.now.current.items) }
+    {
+        let bound = g.edge_count() as usize + self.parts.len();
+        minimal_side(alloc, &self.current, g.vertex_count(), bound)
+    }
+
+    /// Makes one minimal side after the other a finished component, until the family that is left is prime.
+    pub(crate) fn finish(self, alloc: Global, g: &Graph) -> Result<Splitting, AllocError>
+        requires block { IsOneBlock g.now }
+        requires state { IsSplitting g.now self.parts.items self.current.items }
+        ensures state { IfOk result (λ s. IsSplitting g.now s.parts.items s.current.items) }
+        ensures prime { IfOk result (λ s. IsPrime (family_of s.current.items)) }
+    {
+        let mut splitting = self;
+        while splitting.current.len() > 3 {
+            match splitting.find(alloc, g)? {
+                Some(side) => splitting = splitting.eject(alloc, g, side)?,
+                None => return Ok(splitting),
+            }
+        }
+        Ok(splitting)
     }
 }

@@ -8,9 +8,12 @@ mod labels;
 pub mod laws;
 mod lists;
 mod lumps;
+mod plain;
 mod search;
 mod splitter;
+mod writing;
 
 pub use components::{Comp, Comps, Item, Kind, Piece, What};
 pub use lists::{CompList, PieceList};
+pub use plain::PairSplitter;
 pub use splitter::Splitter;

@@ -1,0 +1,36 @@
+-- The components of a state of splitting, as the code writes them out.
+use Rattle.std.specs.Prelude.{◌≡◌, ℕ, ◌+◌, ◌<◌, List, ◌∷◌, [], length, slice_index_or, All, Contains}
+use Rattle.pair_split.specs.Family.{Entry}
+use Rattle.pair_split.specs.Lumps.{entry_of, family_of, HaveNamesBelow}
+use Rattle.pair_split.specs.Split.{component_at}
+use Rattle.pair_split.specs.State.{SplitState, layer, own_at, AreWritten}
+use Rattle.pair_split.specs.declared.cuts.Cut.{Cut}
+use Rattle.pair_split.specs.declared.components.Comp.{Comp}
+use Rattle.pair_split.specs.declared.components.Kind.TheVariants.{B}
+
+-- the virtual edges have their names, each stands in a layer, and no name stands in two
+pub record IsListed (m : ℕ) (state : SplitState) : Type 0 where
+  pub own_names : (c : ℕ) → c < length state.parts → (own_at state c).name ≡ m + c
+  pub own_listed : (c : ℕ) → c < length state.parts → (k : ℕ) × Contains (layer state k) (own_at state c)
+  pub below : (k : ℕ) (entry : Entry) → Contains (layer state k) entry → entry.name < m + length state.parts
+  pub once : (k j : ℕ) (x y : Entry) → Contains (layer state k) x → Contains (layer state j) y → x.name ≡ y.name → k ≡ j
+
+-- for each virtual edge, the layer in which it stands
+abbrev pub AreUps : ℕ → SplitState → List ℕ → Type 0
+AreUps m state ups = (k : ℕ) (entry : Entry) (c : ℕ) → Contains (layer state k) entry → entry.name ≡ m + c → slice_index_or ups c 0 ≡ k
+
+-- all names of finished components are below n
+abbrev pub HavePartNamesBelow : ℕ → List Cut → Type 0
+HavePartNamesBelow n parts = All (λ part. (part.own.name < n) × HaveNamesBelow n part.edges) parts
+
+-- finished component k
+abbrev pub cut_at : List Cut → ℕ → Cut
+cut_at parts k = slice_index_or parts k (record { kind = B; own = record { name = 0; first = 0; second = 0 }; edges = [] })
+
+-- the first n finished components are written out
+pub record ArePartsWritten (m : ℕ) (parts : List Cut) (ups : List ℕ) (n : ℕ) (comps : List Comp) : Type 0 where
+  pub number : length comps ≡ n
+  pub kinds : (k : ℕ) → k < n → (component_at comps k).kind ≡ (cut_at parts k).kind
+  pub written : (k : ℕ) → k < n → (state : SplitState)
+      → ((entry : Entry) → Contains (entry_of (cut_at parts k).own ∷ family_of (cut_at parts k).edges) entry → entry.name ≡ m + k → Contains (layer state (slice_index_or ups k 0)) entry)
+      → AreWritten m state k (entry_of (cut_at parts k).own ∷ family_of (cut_at parts k).edges) (component_at comps k).items

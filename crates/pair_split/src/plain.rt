@@ -1,0 +1,71 @@
+// The plain splitter: it looks for a smallest side of a 2-separation among all pairs of vertices.
+
+ghost use Rattle.std.specs.Prelude.{◌≡◌, ◌≤◌, length, IfOk};
+ghost use Rattle.multigraph.specs.Graph.{edge_count};
+ghost use Rattle.pair_split.specs.OneBlock.{IsOneBlock};
+ghost use Rattle.pair_split.specs.Family.{IsPrime};
+ghost use Rattle.pair_split.specs.Split.{IsSplit};
+ghost use Rattle.pair_split.specs.State.{IsSplitState, AreComponents};
+ghost use Rattle.pair_split.specs.Lumps.{family_of};
+ghost use Rattle.pair_split.specs.Cuts.{state_of, IsSplitting};
+
+use crate::components::{Comps, Kind};
+use crate::cuts::{Splitting, kind_of_all};
+use crate::splitter::Splitter;
+use crate::writing::write;
+use multigraph::Graph;
+use std::alloc::{AllocError, Global};
+
+/// The plain splitter. It splits off a smallest side of a 2-separation, found by trying all pairs of vertices, as long as
+/// there is one (about n * n * (n + m) steps a side, for n vertices and m edges).
+#[derive(Debug, Drop)]
+pub struct PairSplitter;
+
+impl PairSplitter {
+    /// A plain splitter.
+    pub fn new() -> PairSplitter {
+        PairSplitter
+    }
+}
+
+// The components of the state, the family that is left being one of this kind.
+fn write_state(
+    alloc: Global,
+    g: &Graph,
+    splitting: &Splitting,
+    kind: Kind,
+) -> Result<Comps, AllocError>
+    requires state { IsSplitState g.now (state_of splitting.now.parts.items splitting.now.current.items) }
+    requires few { length splitting.now.parts.items ≤ edge_count g.now }
+    ensures { IfOk result (λ comps. AreComponents (edge_count g.now) (state_of splitting.now.parts.items splitting.now.current.items) kind comps.list) }
+{
+    write(
+        alloc,
+        &splitting.parts,
+        &splitting.current,
+        kind,
+        g.edge_count(),
+    )
+}
+
+// The components at the end of splitting.
+fn write_end(alloc: Global, g: &Graph, end: &Splitting) -> Result<Comps, AllocError>
+    requires block { IsOneBlock g.now }
+    requires state { IsSplitting g.now end.now.parts.items end.now.current.items }
+    requires prime { IsPrime (family_of end.now.current.items) }
+    ensures { IfOk result (λ comps. IsSplit g.now comps.list) }
+{
+    let kind = kind_of_all(&end.current);
+    write_state(alloc, g, end, kind)
+}
+
+impl Splitter for PairSplitter {
+    fn split(&mut self, alloc: Global, g: &Graph) -> Result<Comps, AllocError> {
+        let start = Splitting::of(alloc, g)?;
+        if g.edge_count() < 3 {
+            return write_state(alloc, g, &start, Kind::B);
+        }
+        let end = start.finish(alloc, g)?;
+        write_end(alloc, g, &end)
+    }
+}
