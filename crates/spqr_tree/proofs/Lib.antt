@@ -13,3 +13,4 @@ pub mod MergeTree
 pub mod MergedSplit
 pub mod RearrangedKinds
 pub mod RearrangedSplit
+pub mod FewComponents
