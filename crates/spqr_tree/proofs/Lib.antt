@@ -14,3 +14,4 @@ pub mod MergedSplit
 pub mod RearrangedKinds
 pub mod RearrangedSplit
 pub mod FewComponents
+pub mod JoinedApart

@@ -54,7 +54,7 @@ module _ (g : Multigraph) (comps : List Comp) (split : IsSplit g comps) (f : ℕ
     pub differ : f near ≢ f far
     pub ends : SameEnds (piece_ends (item_at others h i)) (piece_ends (item_at comps near place))
 
-  link-origin : (h i j : ℕ) → StandsFor others h i (Link j) → LinkOrigin h i j
+  pub link-origin : (h i j : ℕ) → StandsFor others h i (Link j) → LinkOrigin h i j
   link-origin h i j s =
       let o = origin comps f others c h i s.0 in
       let r = renamed-link f (item_at comps o.home o.place).what j (o.what ∙ s.1) in

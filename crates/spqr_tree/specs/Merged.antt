@@ -1,10 +1,11 @@
 -- Components merged into groups: the links between the components of a group go, those out of it lead to groups. Nothing is
 -- said of the order of the pieces, nor of the order of the two ends of a piece.
-use Rattle.std.specs.Prelude.{◌≡◌, ℕ, ◌<◌, Bool, true, not, ◌&&◌, ◌==◌, cond, List, length, map, filter}
+use Rattle.std.specs.Prelude.{◌≡◌, ◌≢◌, ℕ, ◌<◌, ◌⊎◌, Bool, true, not, ◌&&◌, ◌==◌, cond, List, length, map, filter, slice_index_or}
 use Rattle.permutations.specs.Count.{sum_below}
 use Rattle.pair_split.specs.Skeleton.{IsSkeleton}
 use Rattle.pair_split.specs.Split.{component_at, items_of, piece_ends, LinksTo}
 use Rattle.pair_split.specs.declared.components.Kind.{Kind}
+use Rattle.pair_split.specs.declared.components.Kind.TheVariants.{S, P}
 use Rattle.pair_split.specs.declared.components.What.{What}
 use Rattle.pair_split.specs.declared.components.What.TheVariants.{Real, Link}
 use Rattle.pair_split.specs.declared.components.Piece.{Piece}
@@ -37,6 +38,11 @@ pub record IsGroup (comps : List Comp) (lead : ℕ → ℕ) (k : ℕ) (kind : Ki
   pub joined : IsJoined comps lead k
   pub gathers : (t : Piece → Bool) → how_many t pieces ≡ gathered comps lead k t
   pub of_kind : IsSkeleton kind (map piece_ends pieces)
+
+-- no piece of a group of polygons or of bonds is a link to a component of its kind: nothing more can be put into it
+abbrev pub NoneAlike : List Comp → Kind → List Piece → Type 0
+NoneAlike comps kind pieces =
+    (i d : ℕ) → i < length pieces → (slice_index_or pieces i (record { a = 0; b = 0; what = Real 0 })).what ≡ Link d → (kind ≡ S) ⊎ (kind ≡ P) → (component_at comps d).kind ≢ kind
 
 -- each component is in one of the groups
 pub record AreGroups (comps : List Comp) (lead : ℕ → ℕ) (groups : List Comp) : Type 0 where
