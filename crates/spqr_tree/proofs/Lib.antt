@@ -15,3 +15,4 @@ pub mod RearrangedKinds
 pub mod RearrangedSplit
 pub mod FewComponents
 pub mod JoinedApart
+pub mod KeysDiffer
