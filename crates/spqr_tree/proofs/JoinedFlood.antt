@@ -14,7 +14,8 @@ use Rattle.pair_split.proofs.Links.{no_piece}
 use Rattle.pair_split.proofs.Subtrees.{link-in}
 use Rattle.spqr_tree.specs.Merged.{how_many, is_outer, gathered, IsJoined, IsGroup}
 use Rattle.spqr_tree.proofs.MergeCounts.{number-ext, number-within, sum-changed, share}
-use Rattle.spqr_tree.proofs.MergeSides.{link-differs, link-from, beyond-far, beyond-near, beyond-other}
+use Rattle.pair_split.proofs.TreeSides.{link-differs, link-from, beyond-far, beyond-near}
+use Rattle.spqr_tree.proofs.MergeSides.{beyond-respects}
 
 -- whether it is a link to d
 abbrev pub is_link : ℕ → What → Bool
@@ -97,7 +98,7 @@ module _ (comps : List Comp) (a : AreLinked comps) where
       outer : (i : ℕ) → i < length (items_of comps c) → is_outer lead k (item_at comps c i).what ≡ true
       outer i m = true_from_ne_false (is_outer lead k (item_at comps c i).what) (λ f.
           let w = inner-link lead k (item_at comps c i).what f in
-          link-differs comps a c (subst (LinksTo comps c) (alone w.0 (link-in comps a c w.0 (i, (m, w.1))) w.2) (i, (m, w.1))))
+          link-differs comps a c c (subst (LinksTo comps c) (alone w.0 (link-in comps a c w.0 (i, (m, w.1))) w.2) (i, (m, w.1))) refl)
 
       own : (t : Piece → Bool) → share comps lead k t c ≡ how_many t (items_of comps c)
       own t = ap (λ (b : Bool). cond b (how_many (λ p. is_outer lead k p.what && t p) (items_of comps c)) 0) (eq-eqb (lead c) k e)
@@ -109,11 +110,11 @@ module _ (comps : List Comp) (a : AreLinked comps) where
     | inl e ↦ e
     | inr m ↦ absurd (both_ways (is_beyond comps d x d)
         (beyond-near comps a d x (back x s))
-        (sym (beyond-other comps a d x y d w ((λ p q. n (ap lead (sym p) ∙ i)), (λ p q. m (sym p)))) ∙ sym (beyond-group x y) ∙ beyond-far comps a d x))
+        (sym (beyond-respects comps a d x y d w ((λ p q. n (ap lead (sym p) ∙ i)), (λ p q. m (sym p)))) ∙ sym beyond-group ∙ beyond-far comps a d x))
   ]
     where
       back : (z : ℕ) → LinksTo comps z d → LinksTo comps d z
       back z v = let r = a.back z d v.0 v.1 in (r.0, r.1)
 
-      beyond-group : (u v : ℕ) → is_beyond comps d x x ≡ is_beyond comps d x y
-      beyond-group u v = joined (is_beyond comps d x) (λ p q v f r. beyond-other comps a d x p q v ((λ z b. n (ap lead (sym z) ∙ f)), (λ z b. n (ap lead (sym b) ∙ r)))) x y (link-from comps a x d s) (link-from comps a y d w) h i
+      beyond-group : is_beyond comps d x x ≡ is_beyond comps d x y
+      beyond-group = joined (is_beyond comps d x) (λ p q v f r. beyond-respects comps a d x p q v ((λ z b. n (ap lead (sym z) ∙ f)), (λ z b. n (ap lead (sym b) ∙ r)))) x y (link-from comps a x d s) (link-from comps a y d w) h i

@@ -14,7 +14,8 @@ use Rattle.pair_split.specs.declared.components.Comp.{Comp}
 use Rattle.pair_split.proofs.Links.{no_piece}
 use Rattle.spqr_tree.specs.Merged.{how_many, is_outer, IsGroup}
 use Rattle.spqr_tree.proofs.MergeCounts.{number-from, number-some, number-map, number-ext, number-within, number-only, number-parts, number-once, sum-changed, share, gathered-once, gathered-some, Gathered}
-use Rattle.spqr_tree.proofs.MergeSides.{link-differs, link-from, beyond-far, beyond-other}
+use Rattle.pair_split.proofs.TreeSides.{link-differs, link-from, beyond-far}
+use Rattle.spqr_tree.proofs.MergeSides.{beyond-respects}
 use Rattle.spqr_tree.proofs.MergeTouch.{ends-same, touches, side-opposite}
 use Rattle.spqr_tree.proofs.JoinedBonds.{same_ends, same_ends-from, same_ends-true, same-trans, AreJoined, joined-all, bonds-joined}
 use Rattle.spqr_tree.proofs.JoinedPolygons.{vertex-degree, polygons-joined}
@@ -144,12 +145,12 @@ module _ (g : Multigraph) (comps : List Comp) (split : IsSplit g comps) (lead : 
             inside_end = near.end;
             outside_end = far.end;
             inside_side = near.beyond;
-            outside_side = side-opposite g comps split d y far.edge from-back (from-d.place, link) far.below ∙ ap not far.beyond;
+            outside_side = side-opposite g comps split d y far.edge from-back far.below ∙ ap not far.beyond;
           })
         where
           -- all of the group is on one side of the link
           beyond : (x : ℕ) → x < length comps → lead x ≡ k → is_beyond comps d y x ≡ true
-          beyond x m h = sym (group.joined (is_beyond comps d y) (λ a b s f n. beyond-other comps split.linked d y a b s ((λ z w. out (ap lead (sym z) ∙ f)), (λ z w. out (ap lead (sym w) ∙ n))))
+          beyond x m h = sym (group.joined (is_beyond comps d y) (λ a b s f n. beyond-respects comps split.linked d y a b s ((λ z w. out (ap lead (sym z) ∙ f)), (λ z w. out (ap lead (sym w) ∙ n))))
               y x from-d.home_in m y-led h) ∙ beyond-far comps split.linked d y
 
       -- the new group is of the same kind
@@ -250,4 +251,4 @@ module _ (g : Multigraph) (comps : List Comp) (split : IsSplit g comps) (lead : 
 
             same-at : (m : ℕ) → m < length (items_of comps d) → is_outer other k (item_at comps d m).what ≡ is_outer lead k (item_at comps d m).what
             same-at m lm = outer-changed (item_at comps d m).what ∙ ap (λ b. is_outer lead k (item_at comps d m).what && not b) (false_from_ne_true (is_link d (item_at comps d m).what)
-                (λ z. link-differs comps split.linked d (m, (lm, is_link-true d (item_at comps d m).what z)))) ∙ unit (is_outer lead k (item_at comps d m).what)
+                (λ z. link-differs comps split.linked d d (m, (lm, is_link-true d (item_at comps d m).what z)) refl)) ∙ unit (is_outer lead k (item_at comps d m).what)

@@ -1,13 +1,14 @@
 -- The two sides of a link, by what tests on the components respect the links.
-use Rattle.std.proofs.Common.{◌≡◌, ℕ, zero, suc, ◌<◌, ◌⊎◌, ◌==◌, ◌&&◌, ◌||◌, inl, inr, Bool, true, false, not, List, length, filter, refl, sym, ap, ◌∙◌, subst, arith}
+use Rattle.std.proofs.Common.{◌≡◌, ℕ, zero, suc, ◌<◌, ◌⊎◌, ◌==◌, ◌&&◌, ◌||◌, inl, inr, Bool, true, false, not, List, length, filter, refl, sym, ap, ◌∙◌, arith}
 use Rattle.std.proofs.lemmas.Bool.{cases_Bool, cases_eq, or_cases, and_parts, eqb-true, not_from_false, false_from_ne_true}
 use Rattle.permutations.specs.Relation.{connected}
-use Rattle.permutations.proofs.Relation.{connected-reflexive, connected-symmetric, connected-transitive, connected-link, same-tests}
+use Rattle.permutations.proofs.Relation.{connected-symmetric, connected-transitive, connected-link, same-tests}
 use Rattle.pair_split.specs.Split.{all_links, joins_others, is_beyond, LinksTo, AreLinked}
 use Rattle.pair_split.specs.declared.components.Comp.{Comp}
 use Rattle.pair_split.proofs.Elements.{contains-filter}
-use Rattle.pair_split.proofs.Links.{link-contained, stands-in}
-use Rattle.pair_split.proofs.Subtrees.{link-in, side-below, side-above, below-own, parent-not_below}
+use Rattle.pair_split.proofs.Links.{link-contained}
+use Rattle.pair_split.proofs.Subtrees.{link-in}
+use Rattle.pair_split.proofs.TreeSides.{link-from, beyond-far, beyond-near}
 
 -- the link is not the one between k and j
 abbrev pub IsOther : ℕ → ℕ → ℕ → ℕ → Type 0
@@ -56,32 +57,9 @@ module _ (comps : List Comp) (a : AreLinked comps) where
     | inr c ↦ elim c [ inl p ↦ ap t p.0 ∙ e ∙ sym (ap t p.1) | inr p ↦ ap t p.0 ∙ sym e ∙ sym (ap t p.1) ]
   ]) x y l m
 
-  -- a component has a link only to another one
-  pub link-differs : (k : ℕ) → LinksTo comps k k → ⊥
-  link-differs k s = elim (a.tree.linked k k s) [
-    | inl h ↦ absurd (omega (arith, a.tree.rank_falls k (link-in comps a k k s) h.0, ap a.tree.rank h.1))
-    | inr h ↦ absurd (omega (arith, a.tree.rank_falls k (link-in comps a k k s) h.0, ap a.tree.rank h.1))
-  ]
-
-  -- the component from which a link leads
-  pub link-from : (k j : ℕ) → LinksTo comps k j → k < length comps
-  link-from k j s = stands-in comps k s.0 _ s.1
-
-  -- the far side of a link has its far component
-  pub beyond-far : (k j : ℕ) → is_beyond comps k j j ≡ true
-  beyond-far k j = connected-reflexive (filter (joins_others k j) (all_links 0 comps)) j
-
-  -- and not its near one
-  pub beyond-near : (k j : ℕ) → LinksTo comps k j → is_beyond comps k j k ≡ false
-  beyond-near k j s = elim (a.tree.linked k j s) [
-    | inl h ↦ subst (λ z. is_beyond comps k z k ≡ false) h.1 (side-above comps a k k (link-from k j s) h.0 (link-from k j s) ∙ ap not (below-own comps a k))
-    | inr h ↦ subst (λ z. is_beyond comps z j z ≡ false) h.1
-        (side-below comps a j (a.tree.parent j) (link-in comps a k j s) h.0 (a.tree.parent_in j (link-in comps a k j s) h.0) ∙ parent-not_below comps a j (link-in comps a k j s) h.0)
-  ]
-
   -- any other link has both components on one side
-  pub beyond-other : (k j x y : ℕ) → LinksTo comps x y → IsOther k j x y → is_beyond comps k j x ≡ is_beyond comps k j y
-  beyond-other k j x y s n = same-tests (is_beyond comps k j x) (is_beyond comps k j y)
+  pub beyond-respects : (k j x y : ℕ) → LinksTo comps x y → IsOther k j x y → is_beyond comps k j x ≡ is_beyond comps k j y
+  beyond-respects k j x y s n = same-tests (is_beyond comps k j x) (is_beyond comps k j y)
       (λ h. connected-transitive others j x y h link)
       (λ h. connected-transitive others j y x h (connected-symmetric others x y link))
     where
@@ -110,18 +88,13 @@ module _ (comps : List Comp) (a : AreLinked comps) where
       agree x = alike (is_beyond comps k j x) (t x)
 
       at-far : agree j ≡ true
-      at-far = alike-same (is_beyond comps k j j) (t j) (beyond-far k j ∙ sym f)
+      at-far = alike-same (is_beyond comps k j j) (t j) (beyond-far comps a k j ∙ sym f)
 
       at-near : agree k ≡ true
-      at-near = alike-same (is_beyond comps k j k) (t k) (beyond-near k j s ∙ sym n)
+      at-near = alike-same (is_beyond comps k j k) (t k) (beyond-near comps a k j s ∙ sym n)
 
       other : (x y : ℕ) → LinksTo comps x y → IsOther k j x y → agree x ≡ agree y
-      other x y w m = ap (λ (b : Bool). alike b (t x)) (beyond-other k j x y w m) ∙ ap (alike (is_beyond comps k j y)) (o x y w m)
-
-  -- the two sides of a link, seen from the one and from the other
-  pub beyond-opposite : (k j : ℕ) → LinksTo comps k j → LinksTo comps j k → (d : ℕ) → d < length comps → is_beyond comps k j d ≡ not (is_beyond comps j k d)
-  beyond-opposite k j s b d l = beyond-is k j s (λ x. not (is_beyond comps j k x)) (ap not (beyond-near j k b)) (ap not (beyond-far j k))
-      (λ x y w n. ap not (beyond-other j k x y w ((λ p q. n.1 p q), (λ p q. n.0 p q)))) d l
+      other x y w m = ap (λ (b : Bool). alike b (t x)) (beyond-respects k j x y w m) ∙ ap (alike (is_beyond comps k j y)) (o x y w m)
 
   -- a test that is false at both ends of two links, and that all other links respect, is false everywhere
   none-passes : (k j h i : ℕ) (u : ℕ → Bool) → k < length comps → u k ≡ false → u j ≡ false → u h ≡ false → u i ≡ false
@@ -136,9 +109,9 @@ module _ (comps : List Comp) (a : AreLinked comps) where
       → (t : ℕ → Bool) → ((x y : ℕ) → LinksTo comps x y → IsOther h i x y → t x ≡ t y) → t k ≡ false
       → (d : ℕ) → d < length comps → t d ≡ true → is_beyond comps k j d ≡ true
   beyond-within k j h i s w n bh t o f d l p = step (t d) (is_beyond comps k j d) p
-      (none-passes k j h i u (link-from k j s) (first-false (t k) (is_beyond comps k j k) f) (first-false (t j) (is_beyond comps k j j) (sym (o k j s ((λ a b. n.0 (sym a) (sym b)), (λ a b. n.1 (sym b) (sym a)))) ∙ f))
-      (second-true (t h) (is_beyond comps k j h) bh) (second-true (t i) (is_beyond comps k j i) (sym (beyond-other k j h i w n) ∙ bh))
-      (λ x y v a b. ap (λ (c : Bool). c && not (is_beyond comps k j x)) (o x y v b) ∙ ap (λ (c : Bool). t y && not c) (beyond-other k j x y v a)) d l)
+      (none-passes k j h i u (link-from comps a k j s) (first-false (t k) (is_beyond comps k j k) f) (first-false (t j) (is_beyond comps k j j) (sym (o k j s ((λ a b. n.0 (sym a) (sym b)), (λ a b. n.1 (sym b) (sym a)))) ∙ f))
+      (second-true (t h) (is_beyond comps k j h) bh) (second-true (t i) (is_beyond comps k j i) (sym (beyond-respects k j h i w n) ∙ bh))
+      (λ x y v a b. ap (λ (c : Bool). c && not (is_beyond comps k j x)) (o x y v b) ∙ ap (λ (c : Bool). t y && not c) (beyond-respects k j x y v a)) d l)
     where
       -- in the side and not on the far side
       u : ℕ → Bool

@@ -9,7 +9,8 @@ use Rattle.pair_split.specs.declared.components.What.{What}
 use Rattle.pair_split.specs.declared.components.What.TheVariants.{Real, Link}
 use Rattle.pair_split.specs.declared.components.Comp.{Comp}
 use Rattle.pair_split.proofs.Links.{side-home, stands-in}
-use Rattle.spqr_tree.proofs.MergeSides.{other-cases, beyond-near, beyond-other, beyond-opposite, beyond-within}
+use Rattle.pair_split.proofs.TreeSides.{beyond-near, beyond-other}
+use Rattle.spqr_tree.proofs.MergeSides.{other-cases, beyond-respects, beyond-within}
 
 -- the ends of one pair are those of another
 pub ends-same : (p q : ℕ × ℕ) (v : ℕ) → SameEnds p q → is_end_of v p ≡ is_end_of v q
@@ -25,10 +26,10 @@ module _ (g : Multigraph) (comps : List Comp) (split : IsSplit g comps) where
   side-where k j x i e s = side-home comps k j x i e s (λ d f t. (split.covers.once e d f x i t s).0)
 
   -- the two sides of a link, seen from the one and from the other
-  pub side-opposite : (k j e : ℕ) → LinksTo comps k j → LinksTo comps j k → e < edge_count g → side comps k j e ≡ not (side comps j k e)
-  side-opposite k j e s b l =
+  pub side-opposite : (k j e : ℕ) → LinksTo comps k j → e < edge_count g → side comps k j e ≡ not (side comps j k e)
+  side-opposite k j e s l =
       let h = split.covers.present e l in
-      side-where k j h.0 h.1 e h.2 ∙ beyond-opposite comps split.linked k j s b h.0 (stands-in comps h.0 h.1 (Real e) h.2) ∙ ap not (sym (side-where j k h.0 h.1 e h.2))
+      side-where k j h.0 h.1 e h.2 ∙ beyond-other comps split.linked k j h.0 s (stands-in comps h.0 h.1 (Real e) h.2) ∙ ap not (sym (side-where j k h.0 h.1 e h.2))
 
   -- an edge at v on the far side
   pub record Touches (k j v : ℕ) : Type 0 where
@@ -51,15 +52,14 @@ module _ (g : Multigraph) (comps : List Comp) (split : IsSplit g comps) where
       link-item : (y : ℕ) → StandsFor comps x i (Link y) → Touches k j v
       link-item y w = elim (other-cases k j x y) [
         | inl n ↦ elim (cases_Bool (is_beyond comps x y k)) [
-          | inr f ↦ touches-within k j v (is_beyond comps x y) (beyond-within comps split.linked k j x y s (i, w) n b (is_beyond comps x y) (beyond-other comps split.linked x y) f)
+          | inr f ↦ touches-within k j v (is_beyond comps x y) (beyond-within comps split.linked k j x y s (i, w) n b (is_beyond comps x y) (beyond-respects comps split.linked x y) f)
               common.inside common.inside_edge common.inside_end (λ d f t. sym (side-where x y d f common.inside t) ∙ common.inside_side)
-          | inl t ↦ touches-within k j v (λ d. not (is_beyond comps x y d)) (beyond-within comps split.linked k j x y s (i, w) n b (λ d. not (is_beyond comps x y d)) (λ a c u m. ap not (beyond-other comps split.linked x y a c u m)) (ap not t))
+          | inl t ↦ touches-within k j v (λ d. not (is_beyond comps x y d)) (beyond-within comps split.linked k j x y s (i, w) n b (λ d. not (is_beyond comps x y d)) (λ a c u m. ap not (beyond-respects comps split.linked x y a c u m)) (ap not t))
               common.outside common.outside_edge common.outside_end (λ d f t. ap not (sym (side-where x y d f common.outside t) ∙ common.outside_side))
         ]
         | inr c ↦ elim c [
           | inl p ↦ absurd (both_ways (is_beyond comps k j x) (ap (is_beyond comps k j) p.0 ∙ beyond-near comps split.linked k j s) b)
-          | inr p ↦ touches-within k j v (λ d. not (is_beyond comps x y d)) (λ d l t. let lk : LinksTo comps j k = subst (λ z. LinksTo comps z k) p.0 (subst (λ z. LinksTo comps x z) p.1 (i, w)) in
-              beyond-opposite comps split.linked k j s lk d l ∙ subst (λ z. not (is_beyond comps z k d) ≡ true) p.0 (subst (λ z. not (is_beyond comps x z d) ≡ true) p.1 t))
+          | inr p ↦ touches-within k j v (λ d. not (is_beyond comps x y d)) (λ d l t. beyond-other comps split.linked k j d s l ∙ subst (λ z. not (is_beyond comps z k d) ≡ true) p.0 (subst (λ z. not (is_beyond comps x z d) ≡ true) p.1 t))
               common.outside common.outside_edge common.outside_end (λ d f t. ap not (sym (side-where x y d f common.outside t) ∙ common.outside_side))
         ]
       ]

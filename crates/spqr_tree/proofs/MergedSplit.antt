@@ -15,7 +15,8 @@ use Rattle.pair_split.specs.declared.components.Comp.{Comp}
 use Rattle.pair_split.proofs.Links.{no_piece, stands-in, side-home}
 use Rattle.pair_split.proofs.Subtrees.{link-in}
 use Rattle.spqr_tree.specs.Merged.{is_outer, renamed}
-use Rattle.spqr_tree.proofs.MergeSides.{IsOther, other-cases, link-from, beyond-far, beyond-near, beyond-other, beyond-is}
+use Rattle.pair_split.proofs.TreeSides.{link-from, beyond-far, beyond-near}
+use Rattle.spqr_tree.proofs.MergeSides.{IsOther, other-cases, beyond-respects, beyond-is}
 use Rattle.spqr_tree.proofs.MergeTouch.{ends-same, side-where}
 use Rattle.spqr_tree.proofs.JoinedBonds.{same-trans}
 use Rattle.spqr_tree.proofs.JoinedPolygons.{end-vertex}
@@ -32,14 +33,14 @@ module _ (g : Multigraph) (comps : List Comp) (split : IsSplit g comps) (f : ℕ
   -- a link between two groups has all of a group on one side
   group-beyond : (x y u v : ℕ) → f x ≢ f y → u < length comps → v < length comps → f u ≡ f v → is_beyond comps x y u ≡ is_beyond comps x y v
   group-beyond x y u v n l m e = c.joined (f v) (c.into v m) (is_beyond comps x y)
-      (λ p q s fp fq. beyond-other comps a x y p q s ((λ i j. n (ap f (sym i) ∙ fp ∙ sym fq ∙ ap f j)), (λ i j. n (ap f (sym j) ∙ fq ∙ sym fp ∙ ap f i)))) u v l m e refl
+      (λ p q s fp fq. beyond-respects comps a x y p q s ((λ i j. n (ap f (sym i) ∙ fp ∙ sym fq ∙ ap f j)), (λ i j. n (ap f (sym j) ∙ fq ∙ sym fp ∙ ap f i)))) u v l m e refl
 
   -- two links between the same two groups are one
   links-same : (x y u v : ℕ) → LinksTo comps x y → LinksTo comps u v → f x ≢ f y → f u ≡ f x → f v ≡ f y → (u ≡ x) × (v ≡ y)
   links-same x y u v s w n e i = elim (other-cases x y u v) [
     | inl o ↦ absurd (both_ways (is_beyond comps x y u)
         (group-beyond x y u x n (link-from comps a u v w) (link-from comps a x y s) e ∙ beyond-near comps a x y s)
-        (beyond-other comps a x y u v w o ∙ group-beyond x y v y n (link-in comps a u v w) (link-in comps a x y s) i ∙ beyond-far comps a x y))
+        (beyond-respects comps a x y u v w o ∙ group-beyond x y v y n (link-in comps a u v w) (link-in comps a x y s) i ∙ beyond-far comps a x y))
     | inr r ↦ elim r [ inl p ↦ p | inr p ↦ absurd (n (sym e ∙ ap f p.0)) ]
   ]
 
@@ -190,7 +191,7 @@ module _ (g : Multigraph) (comps : List Comp) (split : IsSplit g comps) (f : ℕ
             let o = link-origin p w.0 q w.1 in
             let link : LinksTo comps o.near o.far = (o.place, o.stands) in
             ap sided (sym o.near_led) ∙ sided-of o.near (link-from comps a o.near o.far link)
-            ∙ beyond-other comps a from.near from.far o.near o.far link (
+            ∙ beyond-respects comps a from.near from.far o.near o.far link (
               (λ e h. n.0 (sym o.near_led ∙ ap f e ∙ from.near_led) (sym o.far_led ∙ ap f h ∙ from.far_led)),
               (λ e h. n.1 (sym o.near_led ∙ ap f e ∙ from.far_led) (sym o.far_led ∙ ap f h ∙ from.near_led)),
             )
