@@ -16,3 +16,5 @@ pub mod RearrangedSplit
 pub mod FewComponents
 pub mod JoinedApart
 pub mod KeysDiffer
+pub mod FloodSteps
+pub mod FloodGroups

@@ -1,2 +1,3 @@
 -- Split components put together to the tree of a block.
 pub mod Merged
+pub mod Flood

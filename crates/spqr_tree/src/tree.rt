@@ -1,11 +1,12 @@
 // The tree of a block, and its readers.
 
-ghost use Rattle.std.specs.Prelude.{◌≡◌, ◌<◌, length};
+ghost use Rattle.std.specs.Prelude.{◌≡◌, ◌<◌, ◌^◌, length, IfOk};
 ghost use Rattle.pair_split.specs.Tutte.{node_at};
 
 use crate::lists::ItemList;
 use multigraph::Numbers;
 use pair_split::{Item, Kind};
+use std::alloc::{AllocError, Global};
 use std::marker::Model;
 
 // A node of the tree: its kind, its vertices and its items.
@@ -71,5 +72,37 @@ impl Tree {
         ensures { result.now ≡ (node_at self.now k).items }
     {
         self.nodes[k as usize].items.as_slice()
+    }
+
+    // The tree of these nodes. Takes no memory.
+    pub(crate) fn of(nodes: Vec<TreeNode>) -> Tree
+        requires { length nodes.items < 2 ^ 32 }
+        ensures { result ≡ nodes.items }
+    {
+        Tree { nodes }
+    }
+
+    /// A copy of the tree.
+    pub fn copy(&self, alloc: Global) -> Result<Tree, AllocError>
+        ensures { IfOk result (λ tree. tree ≡ self.now) }
+    {
+        let mut nodes = Vec::with_capacity(alloc, self.nodes.len())?;
+        for node in self.nodes.iter() {
+            nodes.push(node.copy(alloc)?)?;
+        }
+        Ok(Tree { nodes })
+    }
+}
+
+impl TreeNode {
+    // A copy of the node.
+    fn copy(&self, alloc: Global) -> Result<TreeNode, AllocError>
+        ensures { IfOk result (λ node. node ≡ self.now) }
+    {
+        Ok(TreeNode {
+            kind: self.kind,
+            vertices: Numbers::of(Vec::from_slice(alloc, self.vertices.as_slice())?),
+            items: ItemList::of(Vec::from_slice(alloc, self.items.as_slice())?),
+        })
     }
 }

@@ -1,0 +1,13 @@
+use Rattle.std.proofs.Common.{◌+◌, ◌∷◌, [], ◌∙◌, ap, length, List, slice_index_or}
+use Rattle.std.proofs.lemmas.List.{length-append}
+use Rattle.pair_split.specs.declared.components.Comp.{Comp}
+use Rattle.spqr_tree.proofs.FloodGroups.{finished-rests}
+use Rattle.spqr_tree.proofs.flood.Flood.add_group.Goals as goal
+
+-- the group is finished
+pub returns-clause-resting : goal.returns-clause-resting
+returns-clause-resting c = finished-rests c.args.comps.now c.requires.split (slice_index_or c.args.comps.now c.args.c c.index-comps-c.result).kind c.explore.new.self c.in_ok-explore.ensures.flooding c.in_ok-explore.ensures.empty c.finish.new.self c.in_ok-finish.ensures.groups c.in_ok-finish.ensures.done c.in_ok-finish.ensures.lead c.in_ok-finish.ensures.stack
+
+-- one group more
+pub returns-clause-number : goal.returns-clause-number
+returns-clause-number c = ap length c.in_ok-finish.ensures.groups ∙ (length-append c.explore.new.self.groups (record { kind = (slice_index_or c.args.comps.now c.args.c c.index-comps-c.result).kind; items = c.explore.new.self.done } ∷ []) ∙ ap (λ (l : List Comp). length l + 1) (c.in_ok-explore.ensures.groups ∙ c.in_ok-begin.ensures.groups))

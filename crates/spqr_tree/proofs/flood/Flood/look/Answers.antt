@@ -1,0 +1,25 @@
+use Rattle.std.proofs.Common.{◌∙◌, sym, subst}
+use Rattle.std.proofs.lemmas.Bool.{true≢false}
+use Rattle.spqr_tree.specs.Flood.{IsAbsorbed, IsFlooding}
+use Rattle.spqr_tree.proofs.FloodSteps.{same-link, link-within, taken-floods, taken-falls, done-floods}
+use Rattle.spqr_tree.proofs.flood.Flood.look.Goals as goal
+use Rattle.spqr_tree.proofs.flood.Flood.look.Goals.{in-Link+else-is_absorbed, in_default}
+
+-- a link leads to a component
+pub is_absorbed-requires : goal.is_absorbed-requires
+is_absorbed-requires c = link-within c.args.comps.now c.requires.split c.args.kind c.args.self.now c.args.piece c.requires.flooding c.in-Link.d c.in-Link.is
+
+-- a component is taken into the group in work
+pub returns-then-is_absorbed-clause-flooding : goal.returns-then-is_absorbed-clause-flooding
+returns-then-is_absorbed-clause-flooding c = taken-floods c.args.comps.now c.requires.split c.args.kind c.args.self.now c.args.piece c.requires.flooding c.in-Link.d c.in-Link.is (c.is_absorbed.ensures.0 c.if-is_absorbed.true) c.absorb.new.self c.in_ok-absorb.ensures
+
+-- and fewer pieces are left
+pub returns-then-is_absorbed-clause-falls : goal.returns-then-is_absorbed-clause-falls
+returns-then-is_absorbed-clause-falls c = taken-falls c.args.comps.now c.requires.split c.args.kind c.args.self.now c.args.piece c.requires.flooding c.in-Link.d c.in-Link.is (c.is_absorbed.ensures.0 c.if-is_absorbed.true) c.absorb.new.self c.in_ok-absorb.ensures
+
+-- a piece that leads to no such component is done
+pub returns-clause-flooding : goal.returns-clause-flooding
+returns-clause-flooding c = subst (IsFlooding c.args.comps.now c.args.kind) (sym c.in_ok-keep.ensures) (done-floods c.args.comps.now c.requires.split c.args.kind c.args.self.now c.args.piece c.requires.flooding (elim c.match-piece.branch [
+  | in-Link+else-is_absorbed w ↦ λ d e a. true≢false (sym (w.is_absorbed.ensures.1 (subst (IsAbsorbed c.args.comps.now c.args.self.now.lead c.args.kind) (same-link d w.in-Link.d (sym e ∙ w.in-Link.is)) a)) ∙ w.if-is_absorbed.false)
+  | in_default w ↦ λ d e a. w.in_default.not-Link d e
+]))

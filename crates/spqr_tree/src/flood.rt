@@ -1,0 +1,250 @@
+// The groups of components that are merged: bonds with bonds and polygons with polygons, where links join them.
+
+ghost use Rattle.std.specs.Prelude.{◌≡◌, ◌+◌, ◌<◌, ◌≤◌, ◌↔◌, ◌++◌, ◌^◌, ℕ, true, [], ◌∷◌, length, IfOk, IfSome, None};
+ghost use Rattle.pair_split.specs.Split.{component_at, items_of};
+ghost use Rattle.spqr_tree.specs.Merged.{is_outer, AreGroups};
+ghost use Rattle.spqr_tree.specs.Flood.{group_of, IsLed, IsMerged, AreSplit, AreFinished, IsAbsorbed, IsFlooding, IsResting, KeepsLed, with_piece, pieces_left, IsPushed, IsTaken, IsStarted};
+
+use pair_split::{Comp, Kind, Piece, PieceList, What};
+use std::alloc::{AllocError, Global};
+use std::marker::Model;
+use std::mem;
+
+// The number of the group of a component that is in none.
+pub(crate) const NO_GROUP: u32 = 4294967295;
+
+// The groups so far: the group of each component, what the finished groups are, and the pieces of the group in work, those
+// that were looked at and those that were not.
+#[derive(Drop)]
+pub(crate) struct Flood {
+    pub(crate) lead: Vec<u32>,
+    pub(crate) groups: Vec<Comp>,
+    done: Vec<Piece>,
+    stack: Vec<Piece>,
+}
+
+impl Model for Flood {
+    ghost use Rattle.spqr_tree.specs.Flood.{FloodState};
+
+    ghost Value = { FloodState };
+
+    ghost view = { λ s. record { lead = s.lead.items; groups = s.groups.items; done = s.done.items; stack = s.stack.items } };
+}
+
+// The number of the group of component c.
+pub(crate) fn group_of(lead: &[u32], c: u32) -> u32
+    ensures { result ≡ group_of lead.now c }
+{
+    match lead.get(c as usize) {
+        Some(k) => *k,
+        None => NO_GROUP,
+    }
+}
+
+// Whether components of this kind are merged where links join them.
+fn is_merged(kind: Kind) -> bool
+    ensures { (result ≡ true) ↔ IsMerged kind }
+{
+    kind == Kind::S || kind == Kind::P
+}
+
+// Whether the piece is no link into group k.
+fn is_outer(lead: &[u32], k: u32, what: What) -> bool
+    ensures { result ≡ is_outer (group_of lead.now) k what }
+{
+    match what {
+        What::Real(_) => true,
+        What::Link(j) => group_of(lead, j) != k,
+    }
+}
+
+// Puts the pieces that are no links into group k on the stack.
+fn push_outer(
+    stack: &mut Vec<Piece>,
+    pieces: &[Piece],
+    lead: &[u32],
+    k: u32,
+) -> Result<(), AllocError>
+    ensures { IfOk result (λ _. IsPushed stack.old.items stack.new.items lead.now k pieces.now) }
+{
+    for piece in pieces {
+        if is_outer(lead, k, piece.what) {
+            stack.push(*piece)?;
+        }
+    }
+    Ok(())
+}
+
+impl Flood {
+    // No component is in a group yet.
+    fn new(alloc: Global, n: usize) -> Result<Flood, AllocError>
+        ensures none { IfOk result (λ s. (x : ℕ) → group_of s.lead x ≡ 4294967295) }
+        ensures places { IfOk result (λ s. length s.lead ≡ n) }
+        ensures empty { IfOk result (λ s. (s.groups ≡ []) × (s.done ≡ []) × (s.stack ≡ [])) }
+    {
+        Ok(Flood {
+            lead: vec![in alloc; NO_GROUP; n]?,
+            groups: Vec::new(alloc),
+            done: Vec::new(alloc),
+            stack: Vec::new(alloc),
+        })
+    }
+
+    // Whether component d is of this kind and in no group, and has to be merged with its like.
+    fn is_absorbed(&self, comps: &[Comp], kind: Kind, d: u32) -> bool
+        requires { d < length comps.now }
+        ensures { (result ≡ true) ↔ IsAbsorbed comps.now self.now.lead kind d }
+    {
+        is_merged(kind) && group_of(&self.lead, d) == NO_GROUP && comps[d as usize].kind == kind
+    }
+
+    // Puts component d into the group in work.
+    fn absorb(&mut self, comps: &[Comp], d: u32) -> Result<(), AllocError>
+        requires within { d < length comps.now }
+        requires place { d < length self.old.lead }
+        requires few { length self.old.groups < 4294967295 }
+        ensures { IfOk result (λ _. IsTaken comps.now self.old self.new d) }
+    {
+        let k = self.groups.len() as u32;
+        push_outer(
+            &mut self.stack,
+            comps[d as usize].items.as_slice(),
+            &self.lead,
+            k,
+        )?;
+        self.lead[d as usize] = k;
+        Ok(())
+    }
+
+    // The piece was looked at.
+    fn keep(&mut self, piece: Piece) -> Result<(), AllocError>
+        ensures { IfOk result (λ _. self.new ≡ record { lead = self.old.lead; groups = self.old.groups; done = self.old.done ++ piece ∷ []; stack = self.old.stack }) }
+    {
+        self.done.push(piece)?;
+        Ok(())
+    }
+
+    // One piece of the group in work is looked at.
+    fn look(&mut self, comps: &[Comp], kind: Kind, piece: Piece) -> Result<(), AllocError>
+        requires split { AreSplit comps.now }
+        requires flooding { IsFlooding comps.now kind (with_piece self.old piece) }
+        ensures flooding { IfOk result (λ _. IsFlooding comps.now kind self.new) }
+        ensures groups { IfOk result (λ _. self.new.groups ≡ self.old.groups) }
+        ensures kept { IfOk result (λ _. KeepsLed self.old.lead self.new.lead) }
+        ensures falls { IfOk result (λ _. pieces_left comps.now self.new ≤ pieces_left comps.now self.old) }
+    {
+        if let What::Link(d) = piece.what {
+            if self.is_absorbed(comps, kind, d) {
+                self.absorb(comps, d)?;
+                return Ok(());
+            }
+        }
+        self.keep(piece)?;
+        Ok(())
+    }
+
+    // The next piece that was not looked at.
+    fn next(&mut self) -> Option<Piece>
+        ensures some { IfSome result (λ piece. self.old ≡ with_piece self.new piece) }
+        ensures none { result ≡ None → (self.new ≡ self.old) × (self.old.stack ≡ []) }
+    {
+        self.stack.pop()
+    }
+
+    // Looks at all pieces of the group in work.
+    fn explore(&mut self, comps: &[Comp], kind: Kind) -> Result<(), AllocError>
+        requires split { AreSplit comps.now }
+        requires flooding { IsFlooding comps.now kind self.old }
+        ensures flooding { IfOk result (λ _. IsFlooding comps.now kind self.new) }
+        ensures groups { IfOk result (λ _. self.new.groups ≡ self.old.groups) }
+        ensures kept { IfOk result (λ _. KeepsLed self.old.lead self.new.lead) }
+        ensures empty { IfOk result (λ _. self.new.stack ≡ []) }
+    {
+        while let Some(piece) = self.next() {
+            self.look(comps, kind, piece)?;
+        }
+        Ok(())
+    }
+
+    // Puts component c into a new group.
+    fn start(&mut self, comps: &[Comp], c: u32) -> Result<(), AllocError>
+        requires within { c < length comps.now }
+        requires place { c < length self.old.lead }
+        requires few { length self.old.groups < 4294967295 }
+        ensures { IfOk result (λ _. IsStarted comps.now self.old self.new c) }
+    {
+        self.stack
+            .extend_from_slice(comps[c as usize].items.as_slice())?;
+        // The first piece is looked at first.
+        self.stack.reverse();
+        self.lead[c as usize] = self.groups.len() as u32;
+        Ok(())
+    }
+
+    // Begins a group with component c, which is in none.
+    fn begin(&mut self, comps: &[Comp], c: u32) -> Result<(), AllocError>
+        requires split { AreSplit comps.now }
+        requires resting { IsResting comps.now self.old }
+        requires few { length self.old.groups < 4294967295 }
+        requires within { c < length comps.now }
+        requires none { group_of self.old.lead c ≡ 4294967295 }
+        ensures flooding { IfOk result (λ _. IsFlooding comps.now (component_at comps.now c).kind self.new) }
+        ensures groups { IfOk result (λ _. self.new.groups ≡ self.old.groups) }
+        ensures kept { IfOk result (λ _. KeepsLed self.old.lead self.new.lead) }
+        ensures led { IfOk result (λ _. IsLed self.new.lead c) }
+    {
+        self.start(comps, c)?;
+        Ok(())
+    }
+
+    // The group in work is finished.
+    fn finish(&mut self, alloc: Global, kind: Kind) -> Result<(), AllocError>
+        ensures groups { IfOk result (λ _. self.new.groups ≡ self.old.groups ++ record { kind = kind; items = self.old.done } ∷ []) }
+        ensures done { IfOk result (λ _. self.new.done ≡ []) }
+        ensures lead { IfOk result (λ _. self.new.lead ≡ self.old.lead) }
+        ensures stack { IfOk result (λ _. self.new.stack ≡ self.old.stack) }
+    {
+        let done = mem::replace(&mut self.done, Vec::new(alloc));
+        self.groups.push(Comp {
+            kind,
+            items: PieceList::of(done),
+        })?;
+        Ok(())
+    }
+
+    // Makes the group of component c, which is in none yet.
+    fn add_group(&mut self, alloc: Global, comps: &[Comp], c: u32) -> Result<(), AllocError>
+        requires split { AreSplit comps.now }
+        requires resting { IsResting comps.now self.old }
+        requires few { length self.old.groups < 4294967295 }
+        requires within { c < length comps.now }
+        requires none { group_of self.old.lead c ≡ 4294967295 }
+        ensures resting { IfOk result (λ _. IsResting comps.now self.new) }
+        ensures number { IfOk result (λ _. length self.new.groups ≡ length self.old.groups + 1) }
+        ensures kept { IfOk result (λ _. KeepsLed self.old.lead self.new.lead) }
+        ensures led { IfOk result (λ _. IsLed self.new.lead c) }
+    {
+        let kind = comps[c as usize].kind;
+        self.begin(comps, c)?;
+        self.explore(comps, kind)?;
+        self.finish(alloc, kind)?;
+        Ok(())
+    }
+}
+
+// The groups of all components.
+pub(crate) fn groups_of(alloc: Global, comps: &[Comp]) -> Result<Flood, AllocError>
+    requires split { AreSplit comps.now }
+    requires few { length comps.now < 4294967295 }
+    ensures groups { IfOk result (λ s. AreGroups comps.now (group_of s.lead) s.groups) }
+    ensures finished { IfOk result (λ s. AreFinished comps.now s.lead s.groups) }
+    ensures number { IfOk result (λ s. length s.groups ≤ length comps.now) }
+{
+    let mut flood = Flood::new(alloc, comps.len())?;
+    for c in 0..comps.len() as u32 {
+        if group_of(&flood.lead, c) == NO_GROUP {
+            flood.add_group(alloc, comps, c)?;
+        }
+    }
+    Ok(flood)
+}
