@@ -8,6 +8,7 @@
   make.py grown EDGES SEED NAME             NAME.gml: a planar block of about so many edges, grown from K4 by subdividing an
                                             edge, doubling it, putting a path of two edges beside it, or gluing a K4 on it
   make.py bundle EDGES NAME                 NAME.gml: two vertices and so many edges between them
+  make.py path|star VERTICES NAME           NAME.gml: a path, or the edges from one vertex to all others
   make.py triangulation VERTICES SEED NAME  NAME.gml: a triangulation, each new vertex in a face and then some edges flipped
 """
 import random
@@ -113,6 +114,12 @@ def main():
         grown(int(words[1]), int(words[2]), words[3])
     elif words[0] == "bundle":
         write_graph(2, [(0, 1)] * int(words[1]), words[2])
+        open(words[2] + ".spqr", "w").close()
+    elif words[0] == "path":
+        write_graph(int(words[1]), [(v - 1, v) for v in range(1, int(words[1]))], words[2])
+        open(words[2] + ".spqr", "w").close()
+    elif words[0] == "star":
+        write_graph(int(words[1]), [(0, v) for v in range(1, int(words[1]))], words[2])
         open(words[2] + ".spqr", "w").close()
     elif words[0] == "triangulation":
         triangulation(int(words[1]), int(words[2]), words[3])

@@ -10,9 +10,10 @@ use Rattle.spqr_script.specs.declared.command.Command.{Command}
 use Rattle.spqr_edge.specs.Device.{Files, contents}
 use Rattle.spqr_script.proofs.Scripts.{apart}
 use Rattle.spqr_cli.specs.Words.{Names, form_of}
-use Rattle.spqr_cli.specs.Decision.{Decision, SayGraph, SayCommands, IsGmlReason, IsGraphReason, IsScriptReason, IsDue}
-use Rattle.spqr_cli.specs.Ending.{graph_status, script_status, status_of}
+use Rattle.spqr_cli.specs.Decision.{Decision, SayGraph, SayCommands, IsGmlReason, IsGraphReason, IsScriptReason, IsAccepted, IsDue}
+use Rattle.spqr_cli.specs.Ending.{graph_status, script_status, refusal_status, status_of}
 use Rattle.spqr_cli.specs.declared.reading.FileFault.TheVariants.{Failed, Long}
+use Rattle.spqr_cli.specs.declared.refusal.Refusal.{Refusal}
 use Rattle.spqr_cli.specs.declared.refusal.Refusal.TheVariants.{Usage as NoForm, OfGraph, OfScript}
 use Rattle.spqr_cli.specs.declared.refusal.GraphRefusal.{GraphRefusal}
 use Rattle.spqr_cli.specs.declared.refusal.GraphRefusal.TheVariants.{File, Gml, Rule}
@@ -97,3 +98,11 @@ one_status one words files (Err (OfScript r)) (Err (OfGraph s)) p q n m =
     absurd (graph_apart one _ _ _ s (subst (λ (x : Names). SayGraph (contents files x.graph) p.2.document p.2.named) (one_form words p.0 q.0 p.1 q.1) p.2.says) q.2 m)
 one_status one words files (Err (OfScript r)) (Err (OfScript s)) p q n m =
     script_agree _ r s (subst (λ (x : Names). IsScriptReason (contents files x.script) r) (one_form words p.0 q.0 p.1 q.1) p.3) q.3 n m
+
+-- where the words and the files are accepted, no refusal is due
+pub no_refusal : OneDocument → (words : List (List ℕ)) (files : Files) (refusal : Refusal) → IsAccepted words files → IsDue words files (Err refusal) → refusal_status refusal ≢ ReadFault → ⊥
+no_refusal one words files NoForm a q n = let e : Some a.names ≡ None = sym a.form ∙ q in cc
+no_refusal one words files (OfGraph r) a q n =
+    graph_apart one _ _ _ r (subst (λ (x : Names). SayGraph (contents files x.graph) a.graph.document a.graph.named) (one_form words a.names q.0 a.form q.1) a.graph.says) q.2 n
+no_refusal one words files (OfScript r) a q n =
+    script_apart _ _ r (subst (λ (x : Names). SayCommands (contents files x.script) a.script.commands) (one_form words a.names q.0 a.form q.1) a.script.says) q.3 n

@@ -4,4 +4,4 @@ pub mod Texts
 pub mod Agreement
 pub mod Complete
 pub mod Measures
-pub mod Vertices
+pub mod Numbered

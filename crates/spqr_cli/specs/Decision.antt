@@ -1,5 +1,6 @@
 -- What a run decides before it writes: the work to be done, or why it is refused; and what is due for the words and the files.
 use Rattle.std.specs.Prelude.{◌≡◌, ◌≢◌, ℕ, ◌≤◌, List, length, None, Some, Result, Ok, Err, ⊤}
+use Rattle.blocks.specs.Blocks.{BlockStructure, IsBlockStructure}
 use Rattle.gml_text.specs.Document.{Document}
 use Rattle.gml_text.specs.Grammar.{Spells}
 use Rattle.gml_text.specs.Faults.{IsFault as IsGmlFault}
@@ -27,10 +28,11 @@ graph_limit = 16777216
 abbrev pub script_limit : ℕ
 script_limit = 1048576
 
--- what the two files say: the document, its graph and the commands
+-- what the two files say: the document, its graph with the blocks, and the commands
 pub record Work : Type 0 where
   pub document : Document
   pub named : NamedGraph
+  pub structure : BlockStructure
   pub commands : List Command
 
 -- the bytes of a graph file: within the limit, they spell a document, which has a graph
@@ -50,9 +52,22 @@ pub record AcceptsGraph (bytes : List ℕ) : Type 0 where
   pub named : NamedGraph
   pub says : SayGraph bytes document named
 
--- the work is what the two files of these names say
+-- the script file is accepted
+pub record AcceptsScript (bytes : List ℕ) : Type 0 where
+  pub commands : List Command
+  pub says : SayCommands bytes commands
+
+-- the words are a form, and both files that they name are accepted
+pub record IsAccepted (words : List (List ℕ)) (files : Files) : Type 0 where
+  pub names : Names
+  pub form : form_of words ≡ Some names
+  pub graph : AcceptsGraph (contents files names.graph)
+  pub script : AcceptsScript (contents files names.script)
+
+-- the work is what the two files of these names say, with the blocks, cut vertices and components of the graph
 pub record IsWork (files : Files) (names : Names) (work : Work) : Type 0 where
   pub graph : SayGraph (contents files names.graph) work.document work.named
+  pub structure : IsBlockStructure work.named.graph work.structure
   pub script : SayCommands (contents files names.script) work.commands
 
 -- why bytes are no document; want of memory is no reason

@@ -7,7 +7,7 @@ use Rattle.spqr_edge.specs.Device.{Files, counted, Rose}
 use Rattle.spqr_cli.specs.declared.halt.Halt.{Halt}
 use Rattle.spqr_cli.specs.declared.halt.Halt.TheVariants.{Refused, Memory as OutOfMemory}
 use Rattle.spqr_cli.specs.Report.{report_text}
-use Rattle.spqr_cli.specs.Decision.{Work, Decision, IsDue, DecisionHasLine}
+use Rattle.spqr_cli.specs.Decision.{Work, Decision, IsAccepted, IsDue, DecisionHasLine}
 use Rattle.spqr_cli.specs.Words.{form_of}
 use Rattle.spqr_cli.specs.declared.reading.FileFault.{FileFault}
 use Rattle.spqr_cli.specs.declared.reading.FileFault.TheVariants.{Failed, Long}
@@ -37,7 +37,7 @@ refusal_text (OfScript (Line line)) = script_text line
 
 -- the text of a decision: the report, or the line of the refusal
 abbrev pub text_of : Decision → List ℕ
-text_of (Ok work) = report_text work.document work.named work.commands
+text_of (Ok work) = report_text work.document work.named work.structure work.commands
 text_of (Err refusal) = refusal_text refusal
 
 -- the status for a file that was not read
@@ -91,6 +91,12 @@ OneStatus =
     (words : List (List ℕ)) (files : Files) (a b : Decision) → IsDue words files a → IsDue words files b
     → status_of a ≢ ReadFault → status_of b ≢ ReadFault → status_of a ≡ status_of b
 
+-- where the words and both files are accepted, no refusal is due, a read that failed aside
+abbrev pub NoRefusal : Type 0
+NoRefusal =
+    (words : List (List ℕ)) (files : Files) (refusal : Refusal) → IsAccepted words files → IsDue words files (Err refusal)
+    → refusal_status refusal ≢ ReadFault → ⊥
+
 -- so many calls more
 abbrev pub counted_times : ℕ → ℕ → ℕ
 counted_times zero n = n
@@ -118,7 +124,7 @@ pub record IsDecided (words : List (List ℕ)) (told : Option Files) (opens_befo
 
 -- the decision that a call answers, where memory suffices: the work on what was accepted, or the refusal
 abbrev pub work_of : Accepted → Work
-work_of accepted = record { document = accepted.session.doc; named = accepted.session.named; commands = accepted.commands.items }
+work_of accepted = record { document = accepted.session.doc; named = accepted.session.named; structure = accepted.session.blocks; commands = accepted.commands.items }
 
 abbrev pub OnDecision : Result Accepted (Halt Refusal) → (Decision → Type 0) → Type 0
 OnDecision (Ok accepted) P = P (Ok (work_of accepted))

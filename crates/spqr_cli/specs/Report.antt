@@ -1,24 +1,27 @@
 -- The report: the head, and then the answer of each command in the script's order.
-use Rattle.std.specs.Prelude.{ℕ, ◌+◌, ℤ, List, [], ◌∷◌, ◌++◌, map, Result, Ok, Err}
+use Rattle.std.specs.Prelude.{ℕ, ◌+◌, List, [], ◌∷◌, ◌++◌, map, Result, Ok, Err}
 use Rattle.std.specs.List.{concat}
 use Rattle.multigraph.specs.Graph.{Multigraph, edge_count}
+use Rattle.blocks.specs.Blocks.{BlockStructure}
 use Rattle.gml_text.specs.Document.{Document}
 use Rattle.gml_graph.specs.Named.{NamedGraph}
-use Rattle.spqr_script.specs.Head.{graph_text, vertex_text}
+use Rattle.spqr_script.specs.Head.{graph_text, vertex_text, cut_text, block_text}
 use Rattle.spqr_script.specs.Answer.{euler_text, document_text, error_text}
 use Rattle.spqr_script.specs.declared.command.Command.{Command}
 use Rattle.spqr_script.specs.declared.command.Command.TheVariants.{Euler, Gml}
 use Rattle.spqr_cli.specs.Measure.{rotation_of_lists, euler_numbers}
 use Rattle.gml_text.specs.Layout.{written}
 
--- the lines of the vertices with these ids, the first of them vertex v
-abbrev pub vertex_texts : ℕ → List ℤ → List ℕ
-vertex_texts v [] = []
-vertex_texts v (id ∷ ids) = vertex_text v id ++ vertex_texts (v + 1) ids
+-- a line for each of these things and its number, the first of them number n
+abbrev pub numbered : {X : Type 0} → (ℕ → X → List ℕ) → ℕ → List X → List ℕ
+numbered line n [] = []
+numbered line n (x ∷ xs) = line n x ++ numbered line (n + 1) xs
 
--- the head: the line of the graph, then a line for each vertex, rising
-abbrev pub head_text : NamedGraph → List ℕ
-head_text named = graph_text named.graph.vertex_count (edge_count named.graph) ++ vertex_texts 0 named.ids
+-- the head: the line of the graph, then a line for each vertex, for each cut vertex and for each block, rising
+abbrev pub head_text : NamedGraph → BlockStructure → List ℕ
+head_text named structure =
+    graph_text named.graph.vertex_count (edge_count named.graph) ++ numbered vertex_text 0 named.ids
+    ++ concat (map cut_text structure.cut_vertices) ++ numbered block_text 0 structure.blocks
 
 -- the answer about lists of edges: the numbers of the rotation system that they are, or the error with the least number at
 -- which they are none
@@ -31,10 +34,11 @@ abbrev pub answer_text : Document → NamedGraph → Command → List ℕ
 answer_text d named (Euler lists) = measured_text named.graph (rotation_of_lists named.graph lists)
 answer_text d named Gml = document_text (written d)
 
--- the texts of the report on a document, its graph and commands: the head, and the answers in the order of the commands
-abbrev pub report_texts : Document → NamedGraph → List Command → List (List ℕ)
-report_texts d named commands = head_text named ∷ map (answer_text d named) commands
+-- the texts of the report on a document, its graph with the blocks, and commands: the head, and the answers in the order of
+-- the commands
+abbrev pub report_texts : Document → NamedGraph → BlockStructure → List Command → List (List ℕ)
+report_texts d named structure commands = head_text named structure ∷ map (answer_text d named) commands
 
 -- the report
-abbrev pub report_text : Document → NamedGraph → List Command → List ℕ
-report_text d named commands = concat (report_texts d named commands)
+abbrev pub report_text : Document → NamedGraph → BlockStructure → List Command → List ℕ
+report_text d named structure commands = concat (report_texts d named structure commands)

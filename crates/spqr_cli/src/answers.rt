@@ -1,23 +1,28 @@
 // The head of the report, and the answer about lists of edges.
-ghost use Rattle.std.specs.Prelude.{◌≡◌, ◌≤◌, ◌++◌, Ok, Err, IfOk, OnOk, length};
+ghost use Rattle.std.specs.Prelude.{◌≡◌, ◌≤◌, ◌++◌, Ok, Err, IfOk, OnOk, length, map};
+ghost use Rattle.std.specs.List.{concat};
 ghost use Rattle.multigraph.specs.Graph.{max_vertices};
 ghost use Rattle.rotations.specs.Rotation.{IsRotationSystem};
 ghost use Rattle.spqr_script.specs.Answer.{euler_text};
+ghost use Rattle.spqr_script.specs.Head.{vertex_text, cut_text, block_text};
 ghost use Rattle.spqr_cli.specs.Outcome.{Answers};
-ghost use Rattle.spqr_cli.specs.Report.{head_text, vertex_texts, measured_text};
+ghost use Rattle.spqr_cli.specs.Report.{head_text, numbered, measured_text};
 ghost use Rattle.spqr_cli.specs.Measure.{rotation_of_lists, euler_numbers};
 
 use crate::halt::Halt;
+use blocks::Blocks;
 use gml_graph::Named;
 use multigraph::Graph;
 use rotations::{Lists, RotFault, Rotation};
-use spqr_script::{error_line, euler_line, graph_line, push_vertex_line};
+use spqr_script::{
+    error_line, euler_line, graph_line, push_block_line, push_cut_line, push_vertex_line,
+};
 use std::alloc::{AllocError, Global};
 
 // Puts the lines of the vertices behind a text.
 fn push_vertices(out: &mut Vec<u8>, ids: &[i64]) -> Result<(), AllocError>
     requires { length ids.now ≤ max_vertices }
-    ensures { OnOk result (out.new.items ≡ out.old.items ++ vertex_texts 0 ids.now) }
+    ensures { OnOk result (out.new.items ≡ out.old.items ++ numbered vertex_text 0 ids.now) }
 {
     for (v, id) in ids.iter().enumerate() {
         push_vertex_line(out, v as u32, *id)?;
@@ -25,13 +30,35 @@ fn push_vertices(out: &mut Vec<u8>, ids: &[i64]) -> Result<(), AllocError>
     Ok(())
 }
 
-/// The head: the line of the graph, then a line for each vertex, rising.
-pub fn head_of(alloc: Global, named: &Named) -> Result<Vec<u8>, AllocError>
-    ensures { IfOk result (λ text. text.items ≡ head_text named.now) }
+// Puts the lines of the cut vertices behind a text.
+fn push_cuts(out: &mut Vec<u8>, cut_vertices: &[u32]) -> Result<(), AllocError>
+    ensures { OnOk result (out.new.items ≡ out.old.items ++ concat (map cut_text cut_vertices.now)) }
+{
+    for v in cut_vertices {
+        push_cut_line(out, *v)?;
+    }
+    Ok(())
+}
+
+// Puts the lines of the blocks behind a text.
+fn push_blocks(out: &mut Vec<u8>, blocks: &Blocks) -> Result<(), AllocError>
+    ensures { OnOk result (out.new.items ≡ out.old.items ++ numbered block_text 0 blocks.now.blocks) }
+{
+    for b in 0..blocks.block_count() {
+        push_block_line(out, b, blocks.edges(b))?;
+    }
+    Ok(())
+}
+
+/// The head: the line of the graph, then a line for each vertex, for each cut vertex and for each block, rising.
+pub fn head_of(alloc: Global, named: &Named, blocks: &Blocks) -> Result<Vec<u8>, AllocError>
+    ensures { IfOk result (λ text. text.items ≡ head_text named.now blocks.now) }
 {
     let graph = named.graph();
     let mut out = graph_line(alloc, graph.vertex_count(), graph.edge_count())?;
     push_vertices(&mut out, named.ids())?;
+    push_cuts(&mut out, blocks.cut_vertices())?;
+    push_blocks(&mut out, blocks)?;
     Ok(out)
 }
 

@@ -1,5 +1,6 @@
 // What is decided before anything is written: the work to be done, or the first refusal.
 ghost use Rattle.std.specs.Prelude.{◌≡◌, ◌≤◌, IfSome, ⊤, length, map, string_bytes};
+ghost use Rattle.blocks.specs.Blocks.{IsBlockStructure};
 ghost use Rattle.spqr_edge.specs.Device.{CountsCall, contents};
 ghost use Rattle.spqr_cli.specs.Outcome.{Answers};
 ghost use Rattle.spqr_cli.specs.Decision.{graph_limit, SayGraph, SayCommands, IsGraphReason, IsScriptReason, HasLine};
@@ -32,6 +33,7 @@ pub struct Accepted {
 fn session_on(alloc: Global, bytes: &[u8]) -> Result<Session, Halt<GraphRefusal>>
     requires { length bytes.now ≤ graph_limit }
     ensures said { Answers result (λ s. SayGraph bytes.now s.doc s.named) (λ r. IsGraphReason bytes.now r × HasLine r) }
+    ensures blocks { Answers result (λ s. IsBlockStructure s.named.graph s.blocks) (λ _. ⊤) }
     ensures faults { CountsFaults graph_status 0 0 result }
 {
     let doc = match document_of(alloc, bytes) {
@@ -40,7 +42,7 @@ fn session_on(alloc: Global, bytes: &[u8]) -> Result<Session, Halt<GraphRefusal>
         Err(Halt::Memory) => return Err(Halt::Memory),
     };
     match graph_of(alloc, &doc) {
-        Ok(named) => Ok(Session::start(doc, named)),
+        Ok(named) => Ok(Session::start(alloc, doc, named)?),
         Err(Halt::Refused(fault)) => Err(Halt::Refused(GraphRefusal::Rule(fault))),
         Err(Halt::Memory) => Err(Halt::Memory),
     }
@@ -55,6 +57,7 @@ fn accept_graph<S: Shelf>(
     ensures said { IfSome (S.files shelf.old) (λ files. Answers result
         (λ s. SayGraph (contents files name.now) s.doc s.named) (IsGraphReason (contents files name.now))) }
     ensures line { Answers result (λ _. ⊤) HasLine }
+    ensures blocks { Answers result (λ s. IsBlockStructure s.named.graph s.blocks) (λ _. ⊤) }
     ensures files { S.files shelf.new ≡ S.files shelf.old }
     ensures opens { CountsCall (S.opens shelf.old) (S.opens shelf.new) }
     ensures faults { CountsFaults graph_status (S.faults shelf.old) (S.faults shelf.new) result }

@@ -1,13 +1,14 @@
 // What the definitions of a run say of one another.
 ghost use Rattle.std.specs.Prelude.{◌≢◌};
-ghost use Rattle.spqr_cli.specs.Ending.{OneStatus};
+ghost use Rattle.spqr_cli.specs.Ending.{OneStatus, NoRefusal};
 ghost use Rattle.spqr_cli.specs.Run.{CountsReads, CountsPuts};
 ghost use Rattle.spqr_cli.specs.declared.status.Status.{Status};
 
 /// Decisions that are due for the same words and files have one status, a read that failed aside. So each status of a run comes
-/// exactly where it is due.
+/// exactly where it is due. Where the words and both files are accepted, no refusal is due.
 pub fn decisions()
-    ensures { OneStatus }
+    ensures status { OneStatus }
+    ensures accepted { NoRefusal }
 {
     gml_text::laws::spelling();
 }

@@ -1,8 +1,8 @@
 // The whole run, from the words to the status.
-ghost use Rattle.std.specs.Prelude.{◌<◌, IfSome, Ok, Err, map, string_bytes};
+ghost use Rattle.std.specs.Prelude.{◌<◌, IfSome, Err, map, string_bytes};
 ghost use Rattle.spqr_edge.specs.Device.{counted};
 ghost use Rattle.spqr_cli.specs.Report.{report_texts, answer_text};
-ghost use Rattle.spqr_cli.specs.Decision.{Work, IsDue, DecisionHasLine};
+ghost use Rattle.spqr_cli.specs.Decision.{IsAccepted, DecisionHasLine};
 ghost use Rattle.spqr_cli.specs.Run.{WritesTexts, CountsPut, RefusesWith, Ends, WritesReport, OnDone, FitsWords, CountsReads, CountsPuts, IsDoneOrMemory};
 
 use crate::decision::{Accepted, decide};
@@ -41,7 +41,7 @@ fn write_report<K: Sink>(
     sink: &mut K,
 ) -> Result<(), Halt<Failed>>
     ensures texts { WritesTexts (K.written sink.old) (K.written sink.new)
-        (report_texts accepted.session.doc accepted.session.named accepted.commands.items) result }
+        (report_texts accepted.session.doc accepted.session.named accepted.session.blocks accepted.commands.items) result }
     ensures faults { CountsPut (K.faults sink.old) (K.faults sink.new) result }
 {
     let Accepted {
@@ -91,7 +91,7 @@ pub fn run<S: Shelf, K: Sink>(
     ensures puts { CountsPuts (K.faults sink.old) (K.faults sink.new) result }
 
     // Where the words and the files are accepted and nothing failed, the run is done, or memory ran out.
-    ensures complete { IfSome (S.files shelf.old) (λ files. (work : Work) → IsDue (map string_bytes words.now) files (Ok work)
+    ensures complete { IfSome (S.files shelf.old) (λ files. IsAccepted (map string_bytes words.now) files
         → S.faults shelf.new < counted (S.faults shelf.old) → K.faults sink.new < counted (K.faults sink.old)
         → IsDoneOrMemory result) }
 {

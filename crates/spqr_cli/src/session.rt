@@ -1,33 +1,38 @@
-// A session: a document with its graph, on which commands are carried out.
+// A session: a document with its graph and the blocks of it, on which commands are carried out.
 ghost use Rattle.std.specs.Prelude.{◌≡◌, IfOk};
+ghost use Rattle.blocks.specs.Blocks.{IsBlockStructure};
 ghost use Rattle.spqr_cli.specs.Report.{head_text, answer_text};
 
 use crate::answers::{head_of, measured};
+use blocks::{Blocks, split};
 use gml_graph::Named;
 use gml_text::{Doc, write};
 use spqr_script::{Command, gml_lines};
 use std::alloc::{AllocError, Global};
 
-/// A document and its graph.
+/// A document, its graph and the blocks of the graph.
 #[derive(Drop)]
 pub struct Session {
     pub doc: Doc,
     pub named: Named,
+    pub blocks: Blocks,
 }
 
 impl Session {
-    /// Starts a session on a document and its graph.
-    pub fn start(doc: Doc, named: Named) -> Session
-        ensures { result ≡ record { doc = doc; named = named } }
+    /// Starts a session on a document and its graph, which is split into its blocks.
+    pub fn start(alloc: Global, doc: Doc, named: Named) -> Result<Session, AllocError>
+        ensures parts { IfOk result (λ s. (s.doc ≡ doc) × (s.named ≡ named)) }
+        ensures blocks { IfOk result (λ s. IsBlockStructure s.named.graph s.blocks) }
     {
-        Session { doc, named }
+        let blocks = split(alloc, named.graph())?;
+        Ok(Session { doc, named, blocks })
     }
 
-    /// The head of the report: the line of the graph, then a line for each vertex.
+    /// The head of the report: the line of the graph, then a line for each vertex, each cut vertex and each block.
     pub fn head(&self, alloc: Global) -> Result<Vec<u8>, AllocError>
-        ensures { IfOk result (λ text. text.items ≡ head_text self.now.named) }
+        ensures { IfOk result (λ text. text.items ≡ head_text self.now.named self.now.blocks) }
     {
-        head_of(alloc, &self.named)
+        head_of(alloc, &self.named, &self.blocks)
     }
 
     /// Carries out a command and gives its answer. The session stays as it was.

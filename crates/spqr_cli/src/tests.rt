@@ -14,9 +14,11 @@ const K4: &[u8] = b"graph [ node [ id 0 ] node [ id 1 ] node [ id 2 ] node [ id 
 const K4_PLANE: &[u8] = b"euler 0: 0 1 2; 1: 0 4 3; 2: 1 3 5; 3: 2 5 4\n";
 
 const K4_REPORT: &[u8] =
-    b"graph 4 6\nvertex 0 0\nvertex 1 1\nvertex 2 2\nvertex 3 3\neuler 4 6 4 1 plane\n";
+    b"graph 4 6\nvertex 0 0\nvertex 1 1\nvertex 2 2\nvertex 3 3\nblock 0: 0 1 2 3 4 5\n\
+    euler 4 6 4 1 plane\n";
 
-const K4_HEAD: &[u8] = b"graph 4 6\nvertex 0 0\nvertex 1 1\nvertex 2 2\nvertex 3 3\n";
+const K4_HEAD: &[u8] =
+    b"graph 4 6\nvertex 0 0\nvertex 1 1\nvertex 2 2\nvertex 3 3\nblock 0: 0 1 2 3 4 5\n";
 
 // What a run on the files `g` and `s` answers and writes. Calls of these numbers fail.
 fn answer(
@@ -49,7 +51,7 @@ fn answer(
 
 #[test]
 fn reports_and_refusals(rt: HostRuntime) -> Result<(), Fail> {
-    let rows: [(&[u8], &[u8], Status, &[u8]); 16] = [
+    let rows: [(&[u8], &[u8], Status, &[u8]); 17] = [
         (b"graph [ ]", b"", Status::Done, b"graph 0 0\n"),
         (
             b"graph [ ]",
@@ -62,9 +64,11 @@ fn reports_and_refusals(rt: HostRuntime) -> Result<(), Fail> {
             K4,
             b"euler 0: 0",
             Status::Done,
-            b"graph 4 6\nvertex 0 0\nvertex 1 1\nvertex 2 2\nvertex 3 3\nerror 6 0\n",
+            b"graph 4 6\nvertex 0 0\nvertex 1 1\nvertex 2 2\nvertex 3 3\n\
+            block 0: 0 1 2 3 4 5\nerror 6 0\n",
         ),
         (TAIL, TAIL_SCRIPT, Status::Done, TAIL_REPORT),
+        (K33_TRIANGLE, b"", Status::Done, K33_TRIANGLE_HEAD),
         (MANY_KINDS, b"gml", Status::Done, MANY_KINDS_REPORT),
         (
             b"graph [ node [ id 0 ] node [ id 1 ] node [ id 2 ] edge [ source 0 target 1 ] \
@@ -138,7 +142,21 @@ const TAIL_SCRIPT: &[u8] = b"euler 0: 0 2 3 5; 1: 0 1; 2: 1 2; 3: 3 4; 4: 4 5 6;
 
 const TAIL_REPORT: &[u8] =
     b"graph 7 7\nvertex 0 0\nvertex 1 1\nvertex 2 2\nvertex 3 3\nvertex 4 4\n\
-    vertex 5 5\nvertex 6 6\neuler 7 7 4 2 plane\neuler 7 7 2 2 not-plane\n";
+    vertex 5 5\nvertex 6 6\ncut 0\ncut 4\nblock 0: 0 1 2\nblock 1: 3 4 5\nblock 2: 6\n\
+    euler 7 7 4 2 plane\neuler 7 7 2 2 not-plane\n";
+
+// K3,3 and a triangle at its vertex 5.
+const K33_TRIANGLE: &[u8] =
+    b"graph [ node [ id 0 ] node [ id 1 ] node [ id 2 ] node [ id 3 ] node [ id 4 ] \
+    node [ id 5 ] node [ id 6 ] node [ id 7 ] edge [ source 0 target 3 ] \
+    edge [ source 0 target 4 ] edge [ source 0 target 5 ] edge [ source 1 target 3 ] \
+    edge [ source 1 target 4 ] edge [ source 1 target 5 ] edge [ source 2 target 3 ] \
+    edge [ source 2 target 4 ] edge [ source 2 target 5 ] edge [ source 5 target 6 ] \
+    edge [ source 6 target 7 ] edge [ source 5 target 7 ] ]";
+
+const K33_TRIANGLE_HEAD: &[u8] =
+    b"graph 8 12\nvertex 0 0\nvertex 1 1\nvertex 2 2\nvertex 3 3\nvertex 4 4\nvertex 5 5\n\
+    vertex 6 6\nvertex 7 7\ncut 5\nblock 0: 0 1 2 3 4 5 6 7 8\nblock 1: 9 10 11\n";
 
 // A file of many kinds, and its document written back.
 const MANY_KINDS: &[u8] =
@@ -146,7 +164,7 @@ const MANY_KINDS: &[u8] =
     graphics [ x 1.5E+3 y -INF ] ] node [ id -2 ] edge [ source 7 target -2 w_2 .5 ] ]";
 
 const MANY_KINDS_REPORT: &[u8] =
-    b"graph 2 1\nvertex 0 7\nvertex 1 -2\ngml 208\nCreator \"yFiles\"\ngraph [\n  \
+    b"graph 2 1\nvertex 0 7\nvertex 1 -2\nblock 0: 0\ngml 208\nCreator \"yFiles\"\ngraph [\n  \
     directed 1\n  node [\n    id 7\n    label \"\xc3\xa9 &amp; b\"\n    graphics [\n      x 1.5E+3\n      y -INF\n    \
     ]\n  ]\n  node [\n    id -2\n  ]\n  edge [\n    source 7\n    target -2\n    w_2 .5\n  ]\n]\n";
 

@@ -41,20 +41,36 @@ pub fn push_vertex_line(out: &mut Vec<u8>, v: u32, id: i64) -> Result<(), AllocE
 pub fn cut_line(alloc: Global, v: u32) -> Result<Vec<u8>, AllocError>
     ensures { IfOk result (λ text. text.items ≡ cut_text v) }
 {
-    let mut out = Vec::from_slice(alloc, b"cut ")?;
-    push_number(&mut out, u128::from(v))?;
-    push_word(&mut out, b"\n")?;
+    let mut out = Vec::new(alloc);
+    push_cut_line(&mut out, v)?;
     Ok(out)
+}
+
+/// Puts the line `cut V` behind a text. After want of memory the text may end in a part of the line.
+pub fn push_cut_line(out: &mut Vec<u8>, v: u32) -> Result<(), AllocError>
+    ensures { OnOk result (out.new.items ≡ out.old.items ++ cut_text v) }
+{
+    push_word(out, b"cut ")?;
+    push_number(out, u128::from(v))?;
+    push_word(out, b"\n")
 }
 
 /// The line `block B: E E ..`: a block and its edges, in the order given.
 pub fn block_line(alloc: Global, b: u32, edges: &[u32]) -> Result<Vec<u8>, AllocError>
     ensures { IfOk result (λ text. text.items ≡ block_text b edges.now) }
 {
-    let mut out = Vec::from_slice(alloc, b"block ")?;
-    push_number(&mut out, u128::from(b))?;
-    push_word(&mut out, b":")?;
-    push_spaced(&mut out, edges)?;
-    push_word(&mut out, b"\n")?;
+    let mut out = Vec::new(alloc);
+    push_block_line(&mut out, b, edges)?;
     Ok(out)
+}
+
+/// Puts the line `block B: E E ..` behind a text. After want of memory the text may end in a part of the line.
+pub fn push_block_line(out: &mut Vec<u8>, b: u32, edges: &[u32]) -> Result<(), AllocError>
+    ensures { OnOk result (out.new.items ≡ out.old.items ++ block_text b edges.now) }
+{
+    push_word(out, b"block ")?;
+    push_number(out, u128::from(b))?;
+    push_word(out, b":")?;
+    push_spaced(out, edges)?;
+    push_word(out, b"\n")
 }

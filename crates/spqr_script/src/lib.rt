@@ -23,7 +23,9 @@ pub use answers::{
     rank_line,
 };
 pub use command::{Command, ScriptFault};
-pub use head::{block_line, cut_line, graph_line, push_vertex_line, vertex_line};
+pub use head::{
+    block_line, cut_line, graph_line, push_block_line, push_cut_line, push_vertex_line, vertex_line,
+};
 pub use laws::script_laws;
 pub use node::{node_line, push_node_line};
 pub use numbers::number;

@@ -1,5 +1,8 @@
-use Rattle.spqr_cli.proofs.Agreement.{one_status}
+use Rattle.spqr_cli.proofs.Agreement.{one_status, no_refusal}
 use Rattle.spqr_cli.proofs.laws.decisions.Goals as goal
 
 pub returns : goal.returns
-returns c = one_status c.spelling.ensures.one
+returns c = record {
+  status = one_status c.spelling.ensures.one;
+  accepted = no_refusal c.spelling.ensures.one;
+}

@@ -1,0 +1,18 @@
+-- The lines of numbered things, one after another.
+use Rattle.std.proofs.Common.{◌≡◌, ℕ, ◌+◌, ◌<◌, List, [], ◌∷◌, ◌++◌, length, take, get_or, length-take-le, sym, ap, ◌∙◌, append_assoc, append-nil, add-one, arith}
+use Rattle.std.proofs.Math.Seq.{take-suc}
+use Rattle.spqr_cli.specs.Report.{numbered}
+
+module _ {X : Type 0} (line : ℕ → X → List ℕ) where
+  -- one thing more
+  numbered-more : (n : ℕ) (xs : List X) (x : X) → numbered line n (xs ++ x ∷ []) ≡ numbered line n xs ++ line (n + length xs) x
+  numbered-more n [] x = append-nil (line n x) ∙ ap (λ (k : ℕ). line k x) (let e : n ≡ n + 0 = omega arith in e)
+  numbered-more n (y ∷ xs) x =
+      ap (λ l. line n y ++ l) (numbered-more (n + 1) xs x ∙ ap (λ (k : ℕ). numbered line (n + 1) xs ++ line k x) (let e : n + 1 + length xs ≡ n + length (y ∷ xs) = omega arith in e))
+      ∙ sym (append_assoc (line n y) (numbered line (n + 1) xs) (line (n + length (y ∷ xs)) x))
+
+  -- the line of the thing at place i behind those before it
+  pub numbered-take : (xs : List X) (i : ℕ) (x : X) → i < length xs → get_or xs i x ≡ x → numbered line 0 (take (i + 1) xs) ≡ numbered line 0 (take i xs) ++ line i x
+  numbered-take xs i x h e =
+      ap (numbered line 0) (rw add-one (take-suc xs i x h) ∙ ap (λ (y : X). take i xs ++ y ∷ []) e) ∙ numbered-more 0 (take i xs) x
+      ∙ ap (λ (k : ℕ). numbered line 0 (take i xs) ++ line k x) (let l : length (take i xs) ≡ i = length-take-le i xs (omega arith) in let m : 0 + length (take i xs) ≡ i = omega arith in m)
