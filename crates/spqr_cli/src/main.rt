@@ -1,7 +1,8 @@
 // The program: `spqr run GRAPH SCRIPT` reads a graph in GML and a script, and writes a report.
 //
 // The graph is a multigraph without loops whose nodes have ids; the script measures rotation systems of it by Euler's sum and
-// writes the document back. The report is the head, which lists the vertices, and then one answer for each command.
+// writes the document back. The report is the head, which lists the vertices, cut vertices and blocks, and then one answer for
+// each command.
 //
 // `run` is the whole program over any shelf and sink. It decides first: the form of the words, then the graph file, then the
 // script file, each taken to its end within its limit. Then it writes the report of both files' whole contents, or the one line
