@@ -34,3 +34,4 @@ pub mod Searching
 pub mod KindOf
 pub mod SplitSteps
 pub mod WritingSteps
+pub mod OneBlockTest
