@@ -4,3 +4,8 @@ mod Tried
 mod Neighbouring
 mod Naming
 mod Chain
+pub mod LevelFacts
+mod Swaps
+mod RunsTold
+mod BelowNext
+mod Carried

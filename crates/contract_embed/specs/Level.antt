@@ -1,5 +1,5 @@
 -- A graph with an edge that is to be contracted, and graphs that lead to one another by contractions.
-use Rattle.std.specs.Prelude.{◌≡◌, ℕ, ◌<◌, ◌≤◌, true, List, [], ◌∷◌}
+use Rattle.std.specs.Prelude.{◌≡◌, ℕ, ◌<◌, ◌≤◌, true, List, [], ◌∷◌, slice_index}
 use Rattle.permutations.specs.Count.{some}
 use Rattle.multigraph.specs.Graph.{Multigraph, IsGraph, edge_count, is_end, other_end}
 use Rattle.graph_theory.specs.Triconnected.{IsTriconnected}
@@ -31,3 +31,7 @@ contraction level = contracted level.graph level.edge level.x level.y
 abbrev pub IsChain : Multigraph → List Level → Multigraph → Type 0
 IsChain g [] h = g ≡ h
 IsChain g (level ∷ levels) h = (level.graph ≡ g) × IsLevel level × IsChain (contraction level) levels h
+
+-- the edge that edge i of the contraction was
+abbrev pub edge_before : Level → ℕ → ℕ
+edge_before level i = slice_index level.kept.items i

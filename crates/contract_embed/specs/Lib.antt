@@ -1,3 +1,5 @@
 pub mod Labels
 pub mod Level
 pub mod Marks
+pub mod Steps
+pub mod Runs

@@ -6,6 +6,7 @@ ghost use Rattle.multigraph.specs.Graph.{edge_count};
 ghost use Rattle.graph_theory.specs.Triconnected.{IsConnectedWithout};
 ghost use Rattle.contract_embed.specs.Labels.{renamed, IsLabelling, AreAlike};
 
+use crate::numbers::numbers_below;
 use multigraph::Graph;
 use std::alloc::{AllocError, Global};
 
@@ -14,18 +15,6 @@ fn is_removed(x: u32, y: u32, z: u32, vertex: u32) -> bool
     ensures { result ≡ is_member vertex (x ∷ y ∷ z ∷ []) }
 {
     x == vertex || y == vertex || z == vertex
-}
-
-// Each vertex below n, as its own label.
-fn own_labels(alloc: Global, n: u32) -> Result<Vec<u32>, AllocError>
-    ensures own { IfOk result (λ labels. (v : ℕ) → v < n → slice_index labels.items v ≡ v) }
-    ensures number { IfOk result (λ labels. length labels.items ≡ n) }
-{
-    let mut labels = Vec::with_capacity(alloc, n as usize)?;
-    for vertex in 0..n {
-        labels.push(vertex)?;
-    }
-    Ok(labels)
 }
 
 // Replaces a label by another one.
@@ -62,7 +51,7 @@ fn labels_without(alloc: Global, g: &Graph, x: u32, y: u32, z: u32) -> Result<Ve
     ensures labelling { IfOk result (λ labels. IsLabelling g.now (x ∷ y ∷ z ∷ []) (edge_count g.now) (slice_index labels.items)) }
     ensures number { IfOk result (λ labels. length labels.items ≡ g.now.vertex_count) }
 {
-    let mut labels = own_labels(alloc, g.vertex_count())?;
+    let mut labels = numbers_below(alloc, g.vertex_count())?;
     for edge in 0..g.edge_count() {
         merge(g, &mut labels, x, y, z, edge);
     }

@@ -2,5 +2,10 @@
 #![tactic(auto)]
 
 mod contractible;
+mod darts;
+mod expanding;
 mod labels;
 mod level;
+mod numbers;
+mod runs;
+mod steps;

@@ -1,0 +1,106 @@
+// The way back over a contraction: from the steps of a plane rotation system of the contracted graph to those of one of the
+// graph. The merged vertex is parted at the ends of its two runs, the contracted edge is put in between, and the edges from y to
+// common neighbours are put in beside those from x.
+
+ghost use Rattle.std.specs.Prelude.{◌≡◌, ◌<◌, ◌+◌, ℕ, length, slice_index, IfOk};
+ghost use Rattle.multigraph.specs.Graph.{edge_count};
+ghost use Rattle.contractions.specs.Contraction.{are_joined};
+ghost use Rattle.dart_maps.specs.Map.{twin};
+ghost use Rattle.faces.specs.Euler.{tail, dart_count};
+ghost use Rattle.contract_embed.specs.Level.{IsLevel, contraction};
+ghost use Rattle.contract_embed.specs.Marks.{AreNeighbours};
+ghost use Rattle.contract_embed.specs.Steps.{AgreeBelow, ArePlaneSteps, first_dart, rejoined};
+ghost use Rattle.contract_embed.specs.Runs.{CarriedBelow, HaveRuns};
+
+use crate::darts::{arrives_at_mark, dart_from, first_dart, head, twin};
+use crate::level::{Level, neighbours};
+use crate::numbers::numbers_below;
+use crate::runs::{after, before, dart_count, origin};
+use crate::steps::{exchange, insert};
+use std::alloc::{AllocError, Global};
+
+// Carries the step from one dart over.
+fn carry(level: &Level, next: &[u32], wide: &mut [u32], dart: u32)
+    requires level { IsLevel level.now }
+    requires steps { ArePlaneSteps (contraction level.now) next.now }
+    requires dart { dart < dart_count (contraction level.now) }
+    requires before { CarriedBelow level.now next.now dart wide.old }
+    ensures { CarriedBelow level.now next.now (dart + 1) wide.new }
+{
+    let follows = after(level, next, dart);
+    wide[origin(level, dart) as usize] = origin(level, follows);
+}
+
+// The steps on the darts of the edges that stay; each other dart is alone.
+fn carried(alloc: Global, level: &Level, next: &[u32]) -> Result<Vec<u32>, AllocError>
+    requires level { IsLevel level.now }
+    requires steps { ArePlaneSteps (contraction level.now) next.now }
+    ensures { IfOk result (λ wide. CarriedBelow level.now next.now (dart_count (contraction level.now)) wide.items) }
+{
+    let mut wide = numbers_below(alloc, crate::darts::dart_count(&level.graph))?;
+    for dart in 0..dart_count(level) {
+        carry(level, next, &mut wide, dart);
+    }
+    Ok(wide)
+}
+
+// Puts the edge from where the dart leads to y in again, if there is one: behind p, and at y behind q.
+fn join_again(level: &Level, marks: &[bool], wide: &mut [u32], dart: u32, p: u32, q: u32)
+    requires level { IsLevel level.now }
+    requires number { length marks.now ≡ level.now.graph.vertex_count }
+    requires marks { AreNeighbours level.now.graph level.now.y (edge_count level.now.graph) marks.now }
+    requires each { length wide.old ≡ dart_count level.now.graph }
+    requires dart { dart < dart_count level.now.graph }
+    requires first { p < dart_count level.now.graph }
+    requires second { q < dart_count level.now.graph }
+    ensures { (f : ℕ → ℕ) → AgreeBelow (dart_count level.now.graph) (slice_index wide.old) f → AgreeBelow (dart_count level.now.graph) (slice_index wide.new) (rejoined (are_joined level.now.graph level.now.y (tail level.now.graph (twin dart))) (first_dart level.now.graph (tail level.now.graph (twin dart)) level.now.y) p q f) }
+{
+    if arrives_at_mark(&level.graph, marks, level.y, dart) {
+        let joining = first_dart(&level.graph, head(&level.graph, dart), level.y);
+        insert(wide, joining, p, q);
+    }
+}
+
+// Parts the merged vertex and puts in what is missing.
+fn part(level: &Level, marks: &[bool], next: &[u32], wide: &mut [u32], first: u32, last: u32)
+    requires level { IsLevel level.now }
+    requires number { length marks.now ≡ level.now.graph.vertex_count }
+    requires marks { AreNeighbours level.now.graph level.now.y (edge_count level.now.graph) marks.now }
+    requires steps { ArePlaneSteps (contraction level.now) next.now }
+    requires first { first < dart_count (contraction level.now) }
+    requires last { last < dart_count (contraction level.now) }
+    requires runs { HaveRuns level.now next.now first last }
+    requires carried { CarriedBelow level.now next.now (dart_count (contraction level.now)) wide.old }
+    ensures { ArePlaneSteps level.now.graph wide.new }
+{
+    let end = origin(level, before(level, next, first));
+    let behind = origin(level, before(level, next, twin(last)));
+    let middle = dart_from(&level.graph, level.x, level.edge);
+    let early = origin(level, first);
+    let late = origin(level, last);
+    exchange(wide, late, end);
+    insert(wide, middle, late, end);
+    join_again(level, marks, wide, early, twin(early), end);
+    join_again(level, marks, wide, late, behind, twin(middle));
+}
+
+// The steps of the plane rotation system of the graph, from the first and the last dart of the run of x.
+pub(crate) fn expand(
+    alloc: Global,
+    level: &Level,
+    next: &[u32],
+    first: u32,
+    last: u32,
+) -> Result<Vec<u32>, AllocError>
+    requires level { IsLevel level.now }
+    requires steps { ArePlaneSteps (contraction level.now) next.now }
+    requires first { first < dart_count (contraction level.now) }
+    requires last { last < dart_count (contraction level.now) }
+    requires runs { HaveRuns level.now next.now first last }
+    ensures { IfOk result (λ wide. ArePlaneSteps level.now.graph wide.items) }
+{
+    let mut wide = carried(alloc, level, next)?;
+    let marks = neighbours(alloc, &level.graph, level.y)?;
+    part(level, &marks, next, &mut wide, first, last);
+    Ok(wide)
+}

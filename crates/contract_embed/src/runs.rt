@@ -1,0 +1,156 @@
+// The runs of the darts round the merged vertex of a contraction: those that leave x, and those that leave y.
+
+ghost use Rattle.std.specs.Prelude.{◌≡◌, ◌<◌, ◌≤◌, ◌↔◌, ℕ, true, length, slice_index, IfOk, MatchOption};
+ghost use Rattle.contractions.specs.Contraction.{are_joined};
+ghost use Rattle.multigraph.specs.Graph.{edge_count};
+ghost use Rattle.dart_maps.specs.Map.{twin};
+ghost use Rattle.faces.specs.Euler.{tail, dart_count};
+ghost use Rattle.contract_embed.specs.Level.{IsLevel, contraction};
+ghost use Rattle.contract_embed.specs.Marks.{AreNeighbours};
+ghost use Rattle.contract_embed.specs.Steps.{ArePlaneSteps};
+ghost use Rattle.contract_embed.specs.Runs.{origin, leaves, Turns, FitsAt, HaveRuns, HaveNoRuns};
+
+use crate::darts::{arrives_at_mark, tail};
+use crate::level::{Level, neighbours};
+use std::alloc::{AllocError, Global};
+
+// How many darts the contraction has.
+pub(crate) fn dart_count(level: &Level) -> u32
+    requires { IsLevel level.now }
+    ensures value { result ≡ dart_count (contraction level.now) }
+    ensures few { result ≤ 100000 }
+{
+    2 * level.kept.len() as u32
+}
+
+// The dart that follows.
+pub(crate) fn after(level: &Level, next: &[u32], dart: u32) -> u32
+    requires level { IsLevel level.now }
+    requires steps { ArePlaneSteps (contraction level.now) next.now }
+    requires dart { dart < dart_count (contraction level.now) }
+    ensures value { result ≡ slice_index next.now dart }
+    ensures within { result < dart_count (contraction level.now) }
+{
+    next[dart as usize]
+}
+
+// The dart that d follows.
+pub(crate) fn before(level: &Level, next: &[u32], d: u32) -> u32
+    requires level { IsLevel level.now }
+    requires steps { ArePlaneSteps (contraction level.now) next.now }
+    requires dart { d < dart_count (contraction level.now) }
+    ensures within { result < dart_count (contraction level.now) }
+    ensures follows { slice_index next.now result ≡ d }
+{
+    for dart in 0..dart_count(level) {
+        if after(level, next, dart) == d {
+            return dart;
+        }
+    }
+    0
+}
+
+// The dart of the graph that the dart of the contraction was.
+#[tactic(auto, unfolding(planarity::specs::Expansion::moved))]
+pub(crate) fn origin(level: &Level, dart: u32) -> u32
+    requires level { IsLevel level.now }
+    requires dart { dart < dart_count (contraction level.now) }
+    ensures is { result ≡ origin level.now dart }
+    ensures within { result < dart_count level.now.graph }
+{
+    2 * level.kept[dart as usize / 2] + dart % 2
+}
+
+// The vertex that it leaves.
+fn leaves(level: &Level, dart: u32) -> u32
+    requires level { IsLevel level.now }
+    requires dart { dart < dart_count (contraction level.now) }
+    ensures { result ≡ leaves level.now dart }
+{
+    tail(&level.graph, origin(level, dart))
+}
+
+// Whether the dart leaves `from` and is followed by one that leaves `to`.
+fn turns_at(level: &Level, next: &[u32], from: u32, to: u32, dart: u32) -> bool
+    requires level { IsLevel level.now }
+    requires steps { ArePlaneSteps (contraction level.now) next.now }
+    requires dart { dart < dart_count (contraction level.now) }
+    ensures { (result ≡ true) ↔ Turns level.now next.now from to dart }
+{
+    leaves(level, dart) == from && leaves(level, after(level, next, dart)) == to
+}
+
+// A dart that leaves `from` and is followed by one that leaves `to`.
+fn turn(level: &Level, next: &[u32], from: u32, to: u32) -> Option<u32>
+    requires level { IsLevel level.now }
+    requires steps { ArePlaneSteps (contraction level.now) next.now }
+    ensures { MatchOption result ((d : ℕ) → d < dart_count (contraction level.now) → Turns level.now next.now from to d → ⊥) (λ d. (d < dart_count (contraction level.now)) × Turns level.now next.now from to d) }
+{
+    for dart in 0..dart_count(level) {
+        if turns_at(level, next, from, to, dart) {
+            return Some(dart);
+        }
+    }
+    None
+}
+
+// Whether the runs go on at the dart.
+fn fits_at(level: &Level, marks: &[bool], next: &[u32], first: u32, last: u32, dart: u32) -> bool
+    requires level { IsLevel level.now }
+    requires number { length marks.now ≡ level.now.graph.vertex_count }
+    requires marks { AreNeighbours level.now.graph level.now.y (edge_count level.now.graph) marks.now }
+    requires steps { ArePlaneSteps (contraction level.now) next.now }
+    requires dart { dart < dart_count (contraction level.now) }
+    ensures { (result ≡ true) ↔ FitsAt level.now next.now first last dart }
+{
+    let follows = after(level, next, dart);
+    let here = leaves(level, dart);
+    let there = leaves(level, follows);
+    if here == level.x {
+        return (there == level.x || dart == last)
+            && (dart == first
+                || dart == last
+                || !arrives_at_mark(&level.graph, marks, level.y, origin(level, dart)));
+    }
+    here != level.y || there == level.y || follows == first
+}
+
+// Whether they do at each dart.
+fn all_fit(level: &Level, marks: &[bool], next: &[u32], first: u32, last: u32) -> bool
+    requires level { IsLevel level.now }
+    requires number { length marks.now ≡ level.now.graph.vertex_count }
+    requires marks { AreNeighbours level.now.graph level.now.y (edge_count level.now.graph) marks.now }
+    requires steps { ArePlaneSteps (contraction level.now) next.now }
+    ensures { (result ≡ true) ↔ ((d : ℕ) → d < dart_count (contraction level.now) → FitsAt level.now next.now first last d) }
+{
+    for dart in 0..dart_count(level) {
+        if !fits_at(level, marks, next, first, last, dart) {
+            return false;
+        }
+    }
+    true
+}
+
+// The first and the last dart of the run of x, if the darts round the merged vertex fall in runs.
+pub(crate) fn runs(
+    alloc: Global,
+    level: &Level,
+    next: &[u32],
+) -> Result<Option<(u32, u32)>, AllocError>
+    requires level { IsLevel level.now }
+    requires steps { ArePlaneSteps (contraction level.now) next.now }
+    ensures { IfOk result (λ answer. MatchOption answer (HaveNoRuns level.now next.now) (λ run. HaveRuns level.now next.now run.0 run.1)) }
+{
+    let Some(last) = turn(level, next, level.x, level.y) else {
+        return Ok(None);
+    };
+    let Some(end) = turn(level, next, level.y, level.x) else {
+        return Ok(None);
+    };
+    let first = after(level, next, end);
+    let marks = neighbours(alloc, &level.graph, level.y)?;
+    if first != last && all_fit(level, &marks, next, first, last) {
+        return Ok(Some((first, last)));
+    }
+    Ok(None)
+}
