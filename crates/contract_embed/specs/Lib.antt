@@ -3,3 +3,4 @@ pub mod Level
 pub mod Marks
 pub mod Steps
 pub mod Runs
+pub mod Lifting

@@ -144,7 +144,7 @@ fn kept_edges(alloc: Global, g: &Graph, e: u32, x: u32, y: u32) -> Result<Vec<u3
 }
 
 // What a vertex becomes when the edge between x and y is contracted.
-fn contracted_vertex(x: u32, y: u32, vertex: u32) -> u32
+pub(crate) fn contracted_vertex(x: u32, y: u32, vertex: u32) -> u32
     ensures { result ≡ contracted_vertex x y vertex }
 {
     let kept = if vertex == y { x } else { vertex };

@@ -9,3 +9,5 @@ mod level;
 mod numbers;
 mod runs;
 mod steps;
+mod lifting;
+mod paths;

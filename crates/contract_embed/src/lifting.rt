@@ -1,0 +1,206 @@
+// A subdivision of the contraction of a level, lifted to a subdivision of its graph.
+
+ghost use Rattle.std.specs.Prelude.{◌≡◌, ◌<◌, ◌+◌, ℕ, [], ◌∷◌, false, length, map, slice_index, IfOk, MatchOption};
+ghost use Rattle.permutations.specs.Members.{is_member};
+ghost use Rattle.kuratowski.specs.Subdivision.{branch_at, branch_count, pattern_edges, IsSubdivision};
+ghost use Rattle.contractions.specs.Contracted.{contracted_vertex};
+ghost use Rattle.planarity.specs.Lift.{spokes, leaves_by, spokes_on, spokes_off, lifted_branch, lifted_paths, split_branch, split_over, split_paths};
+ghost use Rattle.contract_embed.specs.Level.{IsLevel, contraction};
+ghost use Rattle.contract_embed.specs.Lifting.{with_number, lifted_path};
+
+use crate::level::{Level, contracted_vertex};
+use crate::paths::{edges_before, is_listed, lifted, number_at, path_between, touches};
+use kuratowski::{Pattern, Subdivision};
+use multigraph::{NumberLists, Numbers};
+use std::alloc::{AllocError, Global};
+
+const K5_EDGES: [(usize, usize); 10] = [
+    (0, 1),
+    (0, 2),
+    (0, 3),
+    (0, 4),
+    (1, 2),
+    (1, 3),
+    (1, 4),
+    (2, 3),
+    (2, 4),
+    (3, 4),
+];
+
+const K33_EDGES: [(usize, usize); 9] = [
+    (0, 3),
+    (0, 4),
+    (0, 5),
+    (1, 3),
+    (1, 4),
+    (1, 5),
+    (2, 3),
+    (2, 4),
+    (2, 5),
+];
+
+// The edges of the pattern, as pairs of its vertices.
+fn pattern_edges(kind: Pattern) -> &'static [(usize, usize)]
+    ensures { result.now ≡ pattern_edges kind }
+{
+    match kind {
+        Pattern::K5 => &K5_EDGES,
+        Pattern::K33 => &K33_EDGES,
+    }
+}
+
+// How many vertices it has.
+fn branch_count(kind: Pattern) -> usize
+    ensures { result ≡ branch_count kind }
+{
+    match kind {
+        Pattern::K5 => 5,
+        Pattern::K33 => 6,
+    }
+}
+
+// The vertex whose number is v when y is left out.
+fn with_number(y: u32, v: u32) -> u32
+    requires { v < 20000 }
+    ensures { result ≡ with_number y v }
+{
+    if v < y { v } else { v + 1 }
+}
+
+// The vertices of the pattern that are joined with its vertex m.
+fn spokes(alloc: Global, kind: Pattern, m: usize) -> Result<Vec<usize>, AllocError>
+    ensures { IfOk result (λ joined. joined.items ≡ spokes kind m) }
+{
+    let mut joined = Vec::new(alloc);
+    for i in 0..branch_count(kind) {
+        if is_listed(pattern_edges(kind), m, i) {
+            joined.push(i)?;
+        }
+    }
+    Ok(joined)
+}
+
+// Whether the path from vertex m to vertex i of the pattern touches y.
+fn leaves_by(
+    alloc: Global,
+    level: &Level,
+    kind: Pattern,
+    paths: &[Numbers],
+    m: usize,
+    i: usize,
+) -> Result<bool, AllocError>
+    requires { length paths.now ≡ length (pattern_edges kind) }
+    ensures { IfOk result (λ held. held ≡ leaves_by level.now.graph (slice_index level.now.kept.items) kind paths.now level.now.y m i) }
+{
+    let path = path_between(alloc, pattern_edges(kind), paths, m, i)?;
+    let edges = edges_before(alloc, &level.kept, &path)?;
+    Ok(touches(&level.graph, level.y, &edges))
+}
+
+// The vertices to which the path from vertex m touches y, and those to which it does not.
+fn spokes_apart(
+    alloc: Global,
+    level: &Level,
+    kind: Pattern,
+    paths: &[Numbers],
+    m: usize,
+) -> Result<(Vec<usize>, Vec<usize>), AllocError>
+    requires { length paths.now ≡ length (pattern_edges kind) }
+    ensures on { IfOk result (λ both. both.0.items ≡ spokes_on level.now.graph (slice_index level.now.kept.items) kind paths.now level.now.y m) }
+    ensures off { IfOk result (λ both. both.1.items ≡ spokes_off level.now.graph (slice_index level.now.kept.items) kind paths.now level.now.y m) }
+{
+    let joined = spokes(alloc, kind, m)?;
+    let mut on = Vec::new(alloc);
+    let mut off = Vec::new(alloc);
+    for i in &joined {
+        if leaves_by(alloc, level, kind, paths, m, *i)? {
+            on.push(*i)?;
+        } else {
+            off.push(*i)?;
+        }
+    }
+    Ok((on, off))
+}
+
+// The path over a pair of vertices of the pattern, lifted to one between two branch vertices.
+fn lifted_path(
+    alloc: Global,
+    level: &Level,
+    kind: Pattern,
+    paths: &[Numbers],
+    branch: &[u32],
+    pair: (usize, usize),
+    over: (usize, usize),
+) -> Result<Numbers, AllocError>
+    requires { length paths.now ≡ length (pattern_edges kind) }
+    ensures { IfOk result (λ path. path ≡ lifted_path level.now.graph level.now.edge (slice_index level.now.kept.items) kind paths.now branch.now pair over) }
+{
+    let path = path_between(alloc, pattern_edges(kind), paths, over.0, over.1)?;
+    let edges = edges_before(alloc, &level.kept, &path)?;
+    let from = number_at(branch, pair.0);
+    let to = number_at(branch, pair.1);
+    lifted(alloc, &level.graph, level.edge, from, &edges, to)
+}
+
+// All paths lifted.
+fn lifted_paths(
+    alloc: Global,
+    level: &Level,
+    kind: Pattern,
+    paths: &[Numbers],
+    branch: &[u32],
+) -> Result<Vec<Numbers>, AllocError>
+    requires { length paths.now ≡ length (pattern_edges kind) }
+    ensures { IfOk result (λ made. made.items ≡ lifted_paths level.now.graph level.now.edge (slice_index level.now.kept.items) kind paths.now branch.now) }
+{
+    let mut lifted = Vec::new(alloc);
+    for pair in pattern_edges(kind) {
+        lifted.push(lifted_path(
+            alloc, level, kind, paths, branch, *pair, *pair,
+        )?)?;
+    }
+    Ok(lifted)
+}
+
+// The branch vertices as vertices of the graph: `foot` for the merged one.
+fn lifted_branch(
+    alloc: Global,
+    level: &Level,
+    foot: u32,
+    branch: &[u32],
+) -> Result<Vec<u32>, AllocError>
+    requires { (i : ℕ) → i < length branch.now → slice_index branch.now i < 20000 }
+    ensures { IfOk result (λ made. made.items ≡ lifted_branch (contracted_vertex level.now.x level.now.y level.now.x) foot (with_number level.now.y) branch.now) }
+{
+    let top = contracted_vertex(level.x, level.y, level.x);
+    let mut lifted = Vec::new(alloc);
+    for v in branch {
+        lifted.push(if *v == top {
+            foot
+        } else {
+            with_number(level.y, *v)
+        })?;
+    }
+    Ok(lifted)
+}
+
+// The same pattern lifted, with `foot` for the merged vertex.
+fn lift_at(
+    alloc: Global,
+    level: &Level,
+    foot: u32,
+    s: &Subdivision,
+) -> Result<Subdivision, AllocError>
+    requires of { IsSubdivision (contraction level.now) s.now.kind s.now.branch s.now.paths }
+    requires few { (contraction level.now).vertex_count < 20000 }
+    requires lifted { let branch = lifted_branch (contracted_vertex level.now.x level.now.y level.now.x) foot (with_number level.now.y) s.now.branch in IsSubdivision level.now.graph s.now.kind branch (lifted_paths level.now.graph level.now.edge (slice_index level.now.kept.items) s.now.kind s.now.paths branch) }
+    ensures { IfOk result (λ r. IsSubdivision level.now.graph r.kind r.branch r.paths) }
+{
+    let branch = lifted_branch(alloc, level, foot, s.branch.as_slice())?;
+    let paths = lifted_paths(alloc, level, s.kind, s.paths.as_slice(), &branch)?;
+    Ok(Subdivision {
+        kind: s.kind,
+        branch: Numbers::of(branch),
+        paths: NumberLists::of(paths),
+    })
+}

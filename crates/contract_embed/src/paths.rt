@@ -1,0 +1,153 @@
+// Paths of a contracted graph, lifted to the graph itself.
+
+ghost use Rattle.std.specs.Prelude.{◌≡◌, ◌==◌, ◌&&◌, ℕ, length, map, reverse, slice_index, IfOk};
+ghost use Rattle.multigraph.specs.Graph.{ends_of, is_end, other_end};
+ghost use Rattle.planarity.specs.Lift.{touches, lifted, is_pair, is_listed, path_between};
+
+use multigraph::{Graph, Numbers};
+use std::alloc::{AllocError, Global};
+
+// The number at a place of a list, and 0 behind its end.
+pub(crate) fn number_at(list: &[u32], place: usize) -> u32
+    ensures { result ≡ slice_index list.now place }
+{
+    match list.get(place) {
+        Some(number) => *number,
+        None => 0,
+    }
+}
+
+// The two ends of an edge.
+fn ends_of(g: &Graph, edge: u32) -> (u32, u32)
+    ensures { result ≡ ends_of g.now edge }
+{
+    if edge >= g.edge_count() {
+        return (0, 0);
+    }
+    g.ends(edge)
+}
+
+// Whether v is an end of the edge.
+pub(crate) fn is_end(g: &Graph, v: u32, edge: u32) -> bool
+    ensures { result ≡ is_end g.now v edge }
+{
+    let (first, second) = ends_of(g, edge);
+    first == v || second == v
+}
+
+// The end of the edge that is not v.
+pub(crate) fn other_end(g: &Graph, edge: u32, v: u32) -> u32
+    ensures { result ≡ other_end g.now edge v }
+{
+    let (first, second) = ends_of(g, edge);
+    if first == v { second } else { first }
+}
+
+// Whether z is an end of one of the edges.
+pub(crate) fn touches(g: &Graph, z: u32, edges: &[u32]) -> bool
+    ensures { result ≡ touches g.now z edges.now }
+{
+    for edge in edges {
+        if is_end(g, z, *edge) {
+            return true;
+        }
+    }
+    false
+}
+
+// The edges that edges of the contraction were.
+pub(crate) fn edges_before(
+    alloc: Global,
+    kept: &[u32],
+    path: &[u32],
+) -> Result<Vec<u32>, AllocError>
+    ensures { IfOk result (λ edges. edges.items ≡ map (slice_index kept.now) path.now) }
+{
+    let mut edges = Vec::with_capacity(alloc, path.len())?;
+    for edge in path {
+        edges.push(number_at(kept, *edge as usize))?;
+    }
+    Ok(edges)
+}
+
+// A path lifted: the edge e comes where the next edge is not at the vertex that is reached.
+pub(crate) fn lifted(
+    alloc: Global,
+    g: &Graph,
+    e: u32,
+    from: u32,
+    path: &[u32],
+    to: u32,
+) -> Result<Numbers, AllocError>
+    ensures { IfOk result (λ edges. edges ≡ lifted g.now e from path.now to) }
+{
+    let mut edges = Vec::new(alloc);
+    let mut at = from;
+    for edge in path {
+        if !is_end(g, at, *edge) {
+            edges.push(e)?;
+            at = other_end(g, e, at);
+        }
+        edges.push(*edge)?;
+        at = other_end(g, *edge, at);
+    }
+    if at != to {
+        edges.push(e)?;
+    }
+    Ok(Numbers::of(edges))
+}
+
+// Whether the pair is (i, j).
+fn leads(pair: (usize, usize), i: usize, j: usize) -> bool
+    ensures { result ≡ (pair.0 == i && pair.1 == j) }
+{
+    pair.0 == i && pair.1 == j
+}
+
+// Whether these are the two numbers of the pair.
+fn is_pair(pair: (usize, usize), i: usize, j: usize) -> bool
+    ensures { result ≡ is_pair pair i j }
+{
+    leads(pair, i, j) || leads(pair, j, i)
+}
+
+// Whether the two numbers are one of the pairs.
+pub(crate) fn is_listed(pairs: &[(usize, usize)], i: usize, j: usize) -> bool
+    ensures { result ≡ is_listed pairs.now i j }
+{
+    for pair in pairs {
+        if is_pair(*pair, i, j) {
+            return true;
+        }
+    }
+    false
+}
+
+// The same edges in the other direction.
+pub(crate) fn reversed(alloc: Global, path: &[u32]) -> Result<Vec<u32>, AllocError>
+    ensures { IfOk result (λ edges. edges.items ≡ reverse path.now) }
+{
+    path.iter().rev().copied().collect(alloc)
+}
+
+// The path from i to j, where there is one for each of the pairs.
+pub(crate) fn path_between(
+    alloc: Global,
+    pairs: &[(usize, usize)],
+    paths: &[Numbers],
+    i: usize,
+    j: usize,
+) -> Result<Vec<u32>, AllocError>
+    requires { length paths.now ≡ length pairs.now }
+    ensures { IfOk result (λ path. path.items ≡ path_between pairs.now paths.now i j) }
+{
+    for (k, pair) in pairs.iter().enumerate() {
+        if leads(*pair, i, j) {
+            return Vec::from_slice(alloc, paths[k].as_slice());
+        }
+        if leads(*pair, j, i) {
+            return reversed(alloc, paths[k].as_slice());
+        }
+    }
+    Ok(Vec::new(alloc))
+}
