@@ -9,3 +9,5 @@ mod Swaps
 mod RunsTold
 mod BelowNext
 mod Carried
+mod LiftedLevel
+mod LiftedCases

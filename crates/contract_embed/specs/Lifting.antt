@@ -1,5 +1,5 @@
 -- A subdivision of the contraction of a level, lifted.
-use Rattle.std.specs.Prelude.{ℕ, ◌+◌, nat_lt, if◌then◌else◌, List, map, slice_index}
+use Rattle.std.specs.Prelude.{ℕ, ◌+◌, nat_lt, if◌then◌else◌, List, map}
 use Rattle.multigraph.specs.Graph.{Multigraph}
 use Rattle.kuratowski.specs.declared.subdivision.Pattern.{Pattern}
 use Rattle.kuratowski.specs.Subdivision.{pattern_edges, branch_at}

@@ -155,9 +155,7 @@ fn lifted_paths(
 {
     let mut lifted = Vec::new(alloc);
     for pair in pattern_edges(kind) {
-        lifted.push(lifted_path(
-            alloc, level, kind, paths, branch, *pair, *pair,
-        )?)?;
+        lifted.push(lifted_path(alloc, level, kind, paths, branch, *pair, *pair)?)?;
     }
     Ok(lifted)
 }
@@ -203,4 +201,140 @@ fn lift_at(
         branch: Numbers::of(branch),
         paths: NumberLists::of(paths),
     })
+}
+
+// The vertex over which branch vertex i stands.
+fn vertex_over(level: &Level, branch: &[u32], i: usize) -> u32
+    requires { slice_index branch.now i < 20000 }
+    ensures { result ≡ with_number level.now.y (branch_at branch.now i) }
+{
+    with_number(level.y, number_at(branch, i))
+}
+
+// The branch vertices of K3,3 for K5, of which the paths at the merged vertex go to `on` from y, and to `off` from x.
+fn split_branch(
+    alloc: Global,
+    level: &Level,
+    branch: &[u32],
+    off: (usize, usize),
+    on: (usize, usize),
+) -> Result<Vec<u32>, AllocError>
+    requires { (i : ℕ) → slice_index branch.now i < 20000 }
+    ensures { IfOk result (λ made. made.items ≡ split_branch level.now.x level.now.y (with_number level.now.y) branch.now off.0 off.1 on.0 on.1) }
+{
+    let made = [
+        level.x,
+        vertex_over(level, branch, on.0),
+        vertex_over(level, branch, on.1),
+        level.y,
+        vertex_over(level, branch, off.0),
+        vertex_over(level, branch, off.1),
+    ];
+    Vec::from_slice(alloc, &made)
+}
+
+// The vertex of K5 over which vertex i of K3,3 stands.
+fn split_over(m: usize, off: (usize, usize), on: (usize, usize), i: usize) -> usize
+    ensures { result ≡ split_over m off.0 off.1 on.0 on.1 i }
+{
+    let over = [m, on.0, on.1, m, off.0, off.1];
+    match over.get(i) {
+        Some(vertex) => *vertex,
+        None => 0,
+    }
+}
+
+// The paths of K3,3.
+fn split_paths(
+    alloc: Global,
+    level: &Level,
+    paths: &[Numbers],
+    m: usize,
+    off: (usize, usize),
+    on: (usize, usize),
+    branch: &[u32],
+) -> Result<Vec<Numbers>, AllocError>
+    requires { length paths.now ≡ length (pattern_edges Pattern.K5) }
+    ensures { IfOk result (λ made. made.items ≡ split_paths level.now.graph level.now.edge (slice_index level.now.kept.items) paths.now m off.0 off.1 on.0 on.1 branch.now) }
+{
+    let mut made = Vec::new(alloc);
+    for pair in pattern_edges(Pattern::K33) {
+        let over = (
+            split_over(m, off, on, pair.0),
+            split_over(m, off, on, pair.1),
+        );
+        made.push(lifted_path(alloc, level, Pattern::K5, paths, branch, *pair, over)?)?;
+    }
+    Ok(made)
+}
+
+// K5 lifted to K3,3, where at the merged vertex two paths begin at x and two at y.
+fn lift_split(
+    alloc: Global,
+    level: &Level,
+    s: &Subdivision,
+    m: usize,
+    off: (usize, usize),
+    on: (usize, usize),
+) -> Result<Subdivision, AllocError>
+    requires of { IsSubdivision (contraction level.now) Pattern.K5 s.now.branch s.now.paths }
+    requires few { (i : ℕ) → slice_index s.now.branch i < 20000 }
+    requires lifted { let branch = split_branch level.now.x level.now.y (with_number level.now.y) s.now.branch off.0 off.1 on.0 on.1 in IsSubdivision level.now.graph Pattern.K33 branch (split_paths level.now.graph level.now.edge (slice_index level.now.kept.items) s.now.paths m off.0 off.1 on.0 on.1 branch) }
+    ensures { IfOk result (λ r. IsSubdivision level.now.graph r.kind r.branch r.paths) }
+{
+    let branch = split_branch(alloc, level, s.branch.as_slice(), off, on)?;
+    let paths = split_paths(alloc, level, s.paths.as_slice(), m, off, on, &branch)?;
+    Ok(Subdivision {
+        kind: Pattern::K33,
+        branch: Numbers::of(branch),
+        paths: NumberLists::of(paths),
+    })
+}
+
+// A subdivision lifted whose branch vertex m is the merged vertex.
+fn lift_branch(
+    alloc: Global,
+    level: &Level,
+    s: &Subdivision,
+    m: usize,
+) -> Result<Subdivision, AllocError>
+    requires level { IsLevel level.now }
+    requires of { IsSubdivision (contraction level.now) s.now.kind s.now.branch s.now.paths }
+    requires place { m < branch_count s.now.kind }
+    requires merged { branch_at s.now.branch m ≡ contracted_vertex level.now.x level.now.y level.now.x }
+    ensures { IfOk result (λ r. IsSubdivision level.now.graph r.kind r.branch r.paths) }
+{
+    let (on, off) = spokes_apart(alloc, level, s.kind, s.paths.as_slice(), m)?;
+    if on.len() < 2 {
+        return lift_at(alloc, level, level.x, s);
+    }
+    if off.len() < 2 {
+        return lift_at(alloc, level, level.y, s);
+    }
+    lift_split(alloc, level, s, m, (off[0], off[1]), (on[0], on[1]))
+}
+
+// The place of a number in a list.
+fn place_of(list: &[u32], number: u32) -> Option<usize>
+    ensures { MatchOption result (is_member number list.now ≡ false) (λ m. (m < length list.now) × (slice_index list.now m ≡ number)) }
+{
+    for (place, member) in list.iter().enumerate() {
+        if *member == number {
+            return Some(place);
+        }
+    }
+    None
+}
+
+/// A subdivision of the contraction of a level, lifted to one of its graph.
+pub(crate) fn lift(alloc: Global, level: &Level, s: &Subdivision) -> Result<Subdivision, AllocError>
+    requires level { IsLevel level.now }
+    requires of { IsSubdivision (contraction level.now) s.now.kind s.now.branch s.now.paths }
+    ensures { IfOk result (λ r. IsSubdivision level.now.graph r.kind r.branch r.paths) }
+{
+    let merged = contracted_vertex(level.x, level.y, level.x);
+    match place_of(s.branch.as_slice(), merged) {
+        Some(m) => lift_branch(alloc, level, s, m),
+        None => lift_at(alloc, level, level.x, s),
+    }
 }
