@@ -18,3 +18,6 @@ pub mod JoinedApart
 pub mod KeysDiffer
 pub mod FloodSteps
 pub mod FloodGroups
+pub mod Vertices
+pub mod Ranks
+pub mod RankSteps

@@ -1,3 +1,4 @@
 -- Split components put together to the tree of a block.
 pub mod Merged
 pub mod Flood
+pub mod Ranking

@@ -3,6 +3,8 @@
 
 mod flood;
 mod lists;
+mod naming;
+mod ranking;
 mod tree;
 
 pub use lists::ItemList;

@@ -1,0 +1,84 @@
+// The groups in their order: links lead to places, and each piece has its lesser end first.
+
+ghost use Rattle.std.specs.Prelude.{◌≡◌, ◌<◌, ℕ, length, map, IfOk};
+ghost use Rattle.spqr_tree.specs.Merged.{renamed};
+ghost use Rattle.spqr_tree.specs.Flood.{group_of};
+ghost use Rattle.spqr_tree.specs.Ranking.{ranks_of, rank_at, value_at, placed, placed_group, in_order};
+
+use crate::flood::group_of;
+use crate::ranking::value_at;
+use pair_split::{Comp, Piece, PieceList, What};
+use std::alloc::{AllocError, Global};
+
+// What stands for the place where a link leads.
+fn renamed(lead: &[u32], places: &[u32], what: What) -> What
+    ensures { result ≡ renamed (λ x. value_at places.now (group_of lead.now x)) what }
+{
+    match what {
+        What::Real(e) => What::Real(e),
+        What::Link(j) => What::Link(value_at(places, group_of(lead, j))),
+    }
+}
+
+// The piece with its lesser end first, leading to a place.
+fn placed(lead: &[u32], places: &[u32], piece: Piece) -> Piece
+    ensures { result ≡ placed (λ x. value_at places.now (group_of lead.now x)) piece }
+{
+    let what = renamed(lead, places, piece.what);
+    Piece {
+        a: piece.a.min(piece.b),
+        b: piece.a.max(piece.b),
+        what,
+    }
+}
+
+// The pieces so.
+fn placed_all(
+    alloc: Global,
+    lead: &[u32],
+    places: &[u32],
+    pieces: &[Piece],
+) -> Result<Vec<Piece>, AllocError>
+    ensures { IfOk result (λ all. all.items ≡ map (placed (λ x. value_at places.now (group_of lead.now x))) pieces.now) }
+{
+    let mut all = Vec::with_capacity(alloc, pieces.len())?;
+    for piece in pieces {
+        all.push(placed(lead, places, *piece))?;
+    }
+    Ok(all)
+}
+
+// One group, with its pieces so.
+fn placed_group(
+    alloc: Global,
+    lead: &[u32],
+    places: &[u32],
+    group: &Comp,
+) -> Result<Comp, AllocError>
+    ensures { IfOk result (λ comp. comp ≡ placed_group (λ x. value_at places.now (group_of lead.now x)) group.now) }
+{
+    let pieces = placed_all(alloc, lead, places, group.items.as_slice())?;
+    Ok(Comp {
+        kind: group.kind,
+        items: PieceList::of(pieces),
+    })
+}
+
+// The groups in their order.
+pub(crate) fn arranged(
+    alloc: Global,
+    lead: &[u32],
+    groups: &[Comp],
+    places: &[u32],
+    ranked: &[(Vec<u32>, u32)],
+) -> Result<Vec<Comp>, AllocError>
+    requires { (i : ℕ) → i < length ranked.now → (rank_at (ranks_of ranked.now) i).1 < length groups.now }
+    ensures { IfOk result (λ all. all.items ≡ in_order (λ x. value_at places.now (group_of lead.now x)) groups.now (ranks_of ranked.now)) }
+{
+    let mut all = Vec::with_capacity(alloc, ranked.len())?;
+    for i in 0..ranked.len() {
+        let group = &groups[ranked[i].1 as usize];
+        all.push(placed_group(alloc, lead, places, group)?)?;
+    }
+    Ok(all)
+}
