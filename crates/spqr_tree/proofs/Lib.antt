@@ -21,3 +21,4 @@ pub mod FloodGroups
 pub mod Vertices
 pub mod Ranks
 pub mod RankSteps
+pub mod TutteFits
