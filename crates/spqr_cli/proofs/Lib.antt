@@ -5,3 +5,4 @@ pub mod Agreement
 pub mod Complete
 pub mod Measures
 pub mod Numbered
+pub mod BlockParts
