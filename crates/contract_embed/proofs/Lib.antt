@@ -11,3 +11,5 @@ mod BelowNext
 mod Carried
 mod LiftedLevel
 mod LiftedCases
+mod TetrahedronSteps
+mod Orders

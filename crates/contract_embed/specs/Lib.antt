@@ -4,3 +4,5 @@ pub mod Marks
 pub mod Steps
 pub mod Runs
 pub mod Lifting
+pub mod Tetrahedron
+pub mod Entries

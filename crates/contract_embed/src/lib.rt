@@ -3,11 +3,14 @@
 
 mod contractible;
 mod darts;
+mod descending;
 mod expanding;
 mod labels;
 mod level;
 mod lifting;
 mod numbers;
 mod paths;
+mod rounds;
 mod runs;
 mod steps;
+mod tetrahedron;

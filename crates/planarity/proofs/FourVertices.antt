@@ -63,7 +63,7 @@ module _ (g : Multigraph) (i : IsGraph g) (t : IsTriconnected g) (four : g.verte
           (All-cons (λ x. x < 4) a.0 (u ∷ v ∷ []) (less a.0 a.1) (All-cons (λ x. x < 4) u (v ∷ []) (less u l) (All-cons (λ x. x < 4) v [] (less v m) (All-nil (λ x. x < 4))))))
 
   -- so the graph is like the tetrahedron
-  alike : AreAlike tetrahedron g
+  pub alike : AreAlike tetrahedron g
   alike = record {
     graph = tetrahedron-graph;
     other_graph = i;

@@ -1,0 +1,18 @@
+use Rattle.std.proofs.Common.{List, sym, subst}
+use Rattle.multigraph.specs.Graph.{Multigraph}
+use Rattle.graph_theory.specs.Triconnected.{IsTriconnected}
+use Rattle.contract_embed.specs.Level.{IsChain, contraction}
+use Rattle.contract_embed.specs.declared.level.Level.{Level}
+use Rattle.contract_embed.proofs.Chain.{chain-push}
+use Rattle.contract_embed.proofs.LevelFacts.{level-triconnected}
+use Rattle.contract_embed.proofs.descending.descend.Goals as goal
+
+pub down-preserved : goal.down-preserved
+down-preserved c =
+    let g = c.args.g.now in
+    let level = c.in_ok-level.level in
+    subst (λ (h : Multigraph). IsChain g c.push.new.self.items h × IsTriconnected h) (sym c.in_ok-bottom-2.ensures) (
+      subst (λ (l : List Level). IsChain g l (contraction level)) (sym c.in_ok-push.ensures.items)
+          (chain-push g c.down.levels.items c.down.bottom level c.down.invariant.0 c.in_ok-level.ensures.graph c.in_ok-level.ensures.level),
+      level-triconnected level c.in_ok-level.ensures.level,
+    )
