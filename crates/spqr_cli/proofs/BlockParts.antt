@@ -1,7 +1,8 @@
 -- The part that the edges of a block make is one block: the cycles through these edges have no others, and are in the part.
 use Rattle.std.proofs.Common.{◌≡◌, ◌≢◌, ℕ, zero, suc, ◌<◌, ◌≤◌, ◌⊎◌, inl, inr, Bool, true, false, List, [], ◌∷◌, length, map, slice_index, refl, sym, ap, ◌∙◌, subst, arith, Contains}
 use Rattle.std.proofs.lemmas.Bool.{true≢false, false_from_ne_true, both_ways}
-use Rattle.std.proofs.lemmas.List.{get_or_default, length-map, Contains-get_or}
+use Rattle.std.proofs.lemmas.List.{get_or_default, length-map}
+use Rattle.std.proofs.lemmas.List.Elements.{Contains-get_or}
 use Rattle.permutations.specs.Members.{is_member, is_distinct}
 use Rattle.permutations.proofs.Members.{member-head, member-tail, member-cases, distinct-head, distinct-tail, distinct-cons}
 use Rattle.permutations.proofs.Arrangements.{contains-from_member, member-at}
@@ -175,3 +176,7 @@ part-one_block g blocks b part are l h = record {
     closed e f me lf s =
         let c = are.each f lf in
         subst (λ (k : ℕ). is_member f (block_at blocks k) ≡ true) (sym ((are.same b c.0 e f l c.1 me c.2).1 s)) c.2
+
+-- the edges of a block are edges of the graph
+pub block-edges_in : (g : Multigraph) (blocks : List (List ℕ)) (b : ℕ) → AreBlocks g blocks → b < length blocks → (i : ℕ) → i < length (block_at blocks b) → slice_index (block_at blocks b) i < edge_count g
+block-edges_in g blocks b are l i li = are.edges b (slice_index (block_at blocks b) i) l (member-at (block_at blocks b) i 0 li)
