@@ -44,6 +44,10 @@ renamed-other from to x h = rw (ne_eqb x from h) refl
 renamed-to : (from to : ℕ) → renamed from to to ≡ to
 renamed-to from to = elim (cases_eq to from) [ inl i ↦ renamed-from from to to i | inr n ↦ renamed-other from to to n ]
 
+-- where a label is replaced by itself, all stay
+pub renamed-same : (from to x : ℕ) → from ≡ to → renamed from to x ≡ x
+renamed-same from to x h = elim (cases_eq x from) [ inl e ↦ renamed-from from to x e ∙ sym (e ∙ h) | inr n ↦ renamed-other from to x n ]
+
 -- an entry with no end removed makes the labels of its two ends one
 pub labelling-merge : (entries : List Entry) (e : Entry) (a b : ℕ) (label new : ℕ → ℕ) → removed a b e.first ≡ false → removed a b e.second ≡ false
     → ((x : ℕ) → new x ≡ renamed (label e.first) (label e.second) (label x)) → IsLabelling entries a b label → IsLabelling (entries ++ e ∷ []) a b new

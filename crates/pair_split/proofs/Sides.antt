@@ -1,5 +1,5 @@
 -- The two sides of a division of a family: entries of them, the vertices that they touch, and those that they have in common.
-use Rattle.std.proofs.Common.{◌≡◌, ◌≢◌, ℕ, ◌+◌, ◌≤◌, ◌⊎◌, inl, inr, Bool, true, not, ◌&&◌, List, [], ◌∷◌, length, refl, sym, ap, ◌∙◌, subst, arith, Contains}
+use Rattle.std.proofs.Common.{◌≡◌, ◌≢◌, ℕ, ◌+◌, ◌≤◌, ◌⊎◌, inl, inr, Bool, true, not, ◌&&◌, List, [], ◌∷◌, length, sym, ap, ◌∙◌, subst, arith, Contains}
 use Rattle.std.proofs.lemmas.Bool.{cases_Bool, true≢false, or_cases, and_parts, and_from, or_left, or_right}
 use Rattle.pair_split.specs.Family.{Entry, has_end, on_side, off_side, touches, is_common, IsTight, IsSeparation}
 use Rattle.pair_split.proofs.Elements.{contains-here, contains-later, contains-cases, contains-none, contains-filter, filter-contains, some-element, element-some, length-parts, filter-same}
@@ -78,10 +78,6 @@ on_side-ext entries s t h = filter-same (λ e. s e.name) (λ e. t e.name) entrie
 -- and the same entries off them
 pub off_side-ext : (entries : List Entry) (s t : ℕ → Bool) → ((n : ℕ) → s n ≡ t n) → off_side s entries ≡ off_side t entries
 off_side-ext entries s t h = on_side-ext entries (λ n. not (s n)) (λ n. not (t n)) (λ n. ap not (h n))
-
--- and the same common vertices
-pub common-ext : (entries : List Entry) (s t : ℕ → Bool) (x : ℕ) → ((n : ℕ) → s n ≡ t n) → is_common entries s x ≡ is_common entries t x
-common-ext entries s t x h = rw (on_side-ext entries s t h, off_side-ext entries s t h) refl
 
 -- both sides together are the family
 pub length-sides : (entries : List Entry) (s : ℕ → Bool) → length (on_side s entries) + length (off_side s entries) ≡ length entries

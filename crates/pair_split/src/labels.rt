@@ -51,7 +51,9 @@ fn merge(labels: &mut [u32], edge: NamedEdge, a: u32, b: u32)
     }
     let from = labels[edge.first as usize];
     let to = labels[edge.second as usize];
-    relabel(labels, from, to);
+    if from != to {
+        relabel(labels, from, to);
+    }
 }
 
 // The labels of the n vertices, equal just where they stay connected when a and b are removed.

@@ -1,6 +1,6 @@
-use Rattle.std.proofs.Common.{inl, inr, ℕ, ◌<◌, length, slice_index_or, sym, ◌∙◌, ap, subst}
+use Rattle.std.proofs.Common.{inl, inr, ℕ, ◌<◌, length, slice_index_or, sym, ◌∙◌, ap, subst, arith}
 use Rattle.pair_split.specs.Lumps.{entry_of, label_at, renamed}
-use Rattle.pair_split.proofs.Labelling.{labelling-skip, labelling-merge}
+use Rattle.pair_split.proofs.Labelling.{labelling-skip, labelling-merge, renamed-same}
 use Rattle.pair_split.proofs.Marking.{label-within, renamed-below}
 use Rattle.pair_split.proofs.labels.merge.Goals as goal
 use Rattle.pair_split.proofs.labels.merge.Goals.{then-is_removed-via-then-is_removed, then-is_removed-via-else-is_removed+then-is_removed-2}
@@ -14,14 +14,20 @@ returns-then-is_removed-clause-merged c = λ entries h. labelling-skip entries (
 pub relabel-requires : goal.relabel-requires
 relabel-requires c = subst (λ (x : ℕ). x < length c.args.labels.now) (label-within c.args.labels.now c.args.edge.first 0 c.requires.first_in) (c.requires.within c.args.edge.first c.requires.first_in)
 
-pub returns-clause-merged : goal.returns-clause-merged
-returns-clause-merged c = λ entries h. labelling-merge entries (entry_of c.args.edge) c.args.a c.args.b (label_at c.args.labels.now) (label_at c.relabel.new.labels)
+pub returns-then-from-to-clause-merged : goal.returns-then-from-to-clause-merged
+returns-then-from-to-clause-merged c = λ entries h. labelling-merge entries (entry_of c.args.edge) c.args.a c.args.b (label_at c.args.labels.now) (label_at c.relabel.new.labels)
     (sym c.is_removed.ensures ∙ c.if-is_removed.false) (sym c.is_removed-else-is_removed.ensures ∙ c.if-is_removed-2.false)
     (λ x. c.relabel.ensures x ∙ (ap (λ (z : ℕ). renamed z (slice_index_or c.args.labels.now c.args.edge.second 0) (label_at c.args.labels.now x)) (sym (label-within c.args.labels.now c.args.edge.first 0 c.requires.first_in))
     ∙ ap (λ (z : ℕ). renamed (label_at c.args.labels.now c.args.edge.first) z (label_at c.args.labels.now x)) (sym (label-within c.args.labels.now c.args.edge.second 0 c.requires.second_in)))) h
 
-pub returns-clause-within : goal.returns-clause-within
-returns-clause-within c = λ x l. subst (λ (z : ℕ). z < length c.args.labels.now) (sym (c.relabel.ensures x))
+pub returns-then-from-to-clause-within : goal.returns-then-from-to-clause-within
+returns-then-from-to-clause-within c = λ x l. subst (λ (z : ℕ). z < length c.args.labels.now) (sym (c.relabel.ensures x))
     (renamed-below (length c.args.labels.now) _ _ (label_at c.args.labels.now x)
     (subst (λ (z : ℕ). z < length c.args.labels.now) (label-within c.args.labels.now c.args.edge.second 0 c.requires.second_in) (c.requires.within c.args.edge.second c.requires.second_in))
     (c.requires.within x l))
+
+pub returns-else-from-to-clause-merged : goal.returns-else-from-to-clause-merged
+returns-else-from-to-clause-merged c = λ entries h. labelling-merge entries (entry_of c.args.edge) c.args.a c.args.b (label_at c.args.labels.now) (label_at c.args.labels.now)
+    (sym c.is_removed.ensures ∙ c.if-is_removed.false) (sym c.is_removed-else-is_removed.ensures ∙ c.if-is_removed-2.false)
+    (λ x. sym (renamed-same (label_at c.args.labels.now c.args.edge.first) (label_at c.args.labels.now c.args.edge.second) (label_at c.args.labels.now x)
+    (omega (arith, c.if-from-to.false, label-within c.args.labels.now c.args.edge.first 0 c.requires.first_in, label-within c.args.labels.now c.args.edge.second 0 c.requires.second_in)))) h
