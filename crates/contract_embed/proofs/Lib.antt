@@ -13,3 +13,4 @@ mod LiftedLevel
 mod LiftedCases
 mod TetrahedronSteps
 mod Orders
+mod ArcsTold

@@ -6,3 +6,5 @@ pub mod Runs
 pub mod Lifting
 pub mod Tetrahedron
 pub mod Entries
+pub mod Arcs
+pub mod Crossing

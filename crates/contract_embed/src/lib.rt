@@ -1,7 +1,9 @@
 // Embedding triconnected graphs by contraction (Thomassen 1980).
 #![tactic(auto)]
 
+mod arcs;
 mod contractible;
+mod crossing;
 mod darts;
 mod descending;
 mod expanding;
