@@ -14,3 +14,4 @@ mod LiftedCases
 mod TetrahedronSteps
 mod Orders
 mod ArcsTold
+mod Alternating

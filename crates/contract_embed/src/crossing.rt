@@ -2,15 +2,14 @@
 // y, and one not from x.
 
 ghost use Rattle.std.specs.Prelude.{◌≡◌, ◌≤◌, ◌<◌, ◌++◌, ◌∷◌, ℕ, [], true, length, map, reverse, slice_index, IfOk};
-ghost use Rattle.permutations.specs.Members.{is_member};
 ghost use Rattle.multigraph.specs.Graph.{edge_count, is_end, other_end};
 ghost use Rattle.contractions.specs.Contraction.{are_joined};
 ghost use Rattle.kuratowski.specs.Subdivision.{IsSubdivision};
 ghost use Rattle.planarity.specs.Lift.{lifted};
-ghost use Rattle.planarity.specs.Circle.{six_paths};
+ghost use Rattle.planarity.specs.Circle.{leads_near};
 ghost use Rattle.contract_embed.specs.Level.{IsLevel, contraction, edge_before};
 ghost use Rattle.contract_embed.specs.Steps.{ArePlaneSteps};
-ghost use Rattle.contract_embed.specs.Crossing.{merged_vertex, near_end, part_of, listed, AreCrossing};
+ghost use Rattle.contract_embed.specs.Crossing.{merged_vertex, near_end, part_of, crossing_paths, crossing_branch, AreCrossing, AreEdges};
 
 use crate::arcs::arcs;
 use crate::level::{Level, contracted_vertex};
@@ -76,7 +75,7 @@ fn part(
     piece: &Piece,
 ) -> Result<Vec<u32>, AllocError>
     requires few { length next.now ≤ 100000 }
-    requires edges_in { (z : ℕ) → is_member z (first ∷ reverse piece.now.behind.items) ≡ true → z < edge_count h.now }
+    requires edges_in { AreEdges h.now first piece.now.behind.items }
     ensures { IfOk result (λ edges. edges.items ≡ part_of h.now next.now (merged_vertex level.now) first piece.now.behind.items) }
 {
     let mut round = Vec::new(alloc);
@@ -98,7 +97,7 @@ fn side(
     to: u32,
 ) -> Result<Numbers, AllocError>
     requires few { length next.now ≤ 100000 }
-    requires edges_in { (z : ℕ) → is_member z (first ∷ reverse piece.now.behind.items) ≡ true → z < edge_count h.now }
+    requires edges_in { AreEdges h.now first piece.now.behind.items }
     ensures { IfOk result (λ path. path ≡ lifted level.now.graph level.now.edge from (map (edge_before level.now) (part_of h.now next.now (merged_vertex level.now) first piece.now.behind.items)) to) }
 {
     let round = part(alloc, level, h, next, first, piece)?;
@@ -130,4 +129,129 @@ pub(crate) fn push_back(
 {
     paths.push(Numbers::of(reversed(alloc, path.as_slice())?))?;
     Ok(())
+}
+
+// An edge from y to where the edge leads.
+fn near_edge(level: &Level, i: u32) -> u32
+    requires edge_in { edge_before level.now i < edge_count level.now.graph }
+    requires near { leads_near level.now.graph level.now.x level.now.y (edge_before level.now) i ≡ true }
+    ensures within { result < edge_count level.now.graph }
+    ensures leaves { is_end level.now.graph level.now.y result ≡ true }
+    ensures arrives { other_end level.now.graph result level.now.y ≡ near_end level.now.graph level.now.x level.now.y (edge_before level.now i) }
+{
+    let edge = edge_before(level, i);
+    if is_end(&level.graph, level.y, edge) {
+        return edge;
+    }
+    joining(
+        &level.graph,
+        level.y,
+        other_end(&level.graph, edge, level.x),
+    )
+}
+
+// The paths that are single edges, but one.
+fn crossing_spokes(
+    alloc: Global,
+    level: &Level,
+    a: &Piece,
+    c: &Piece,
+    d: &Piece,
+) -> Result<Vec<Numbers>, AllocError>
+    ensures { IfOk result (λ paths. paths.items ≡ (level.now.edge ∷ []) ∷ (edge_before level.now c.now.first ∷ []) ∷ (edge_before level.now a.now.first ∷ []) ∷ (edge_before level.now d.now.first ∷ []) ∷ []) }
+{
+    let mut paths = Vec::new(alloc);
+    push_edge(alloc, &mut paths, level.edge)?;
+    push_edge(alloc, &mut paths, edge_before(level, c.first))?;
+    push_edge(alloc, &mut paths, edge_before(level, a.first))?;
+    push_edge(alloc, &mut paths, edge_before(level, d.first))?;
+    Ok(paths)
+}
+
+// All paths.
+fn crossing_paths(
+    alloc: Global,
+    level: &Level,
+    h: &Graph,
+    next: &[u32],
+    a: &Piece,
+    b: &Piece,
+    c: &Piece,
+    d: &Piece,
+    near: u32,
+) -> Result<Vec<Numbers>, AllocError>
+    requires few { length next.now ≤ 100000 }
+    requires fourth { AreEdges h.now d.now.first c.now.behind.items }
+    requires third { AreEdges h.now c.now.first b.now.behind.items }
+    requires second { AreEdges h.now b.now.first a.now.behind.items }
+    requires first { AreEdges h.now a.now.first d.now.behind.items }
+    ensures { IfOk result (λ paths. paths.items ≡ crossing_paths level.now h.now next.now a.now b.now c.now d.now near) }
+{
+    let at_a = other_end(&level.graph, edge_before(level, a.first), level.x);
+    let at_b = near_end(&level.graph, level.x, level.y, edge_before(level, b.first));
+    let at_c = other_end(&level.graph, edge_before(level, c.first), level.x);
+    let at_d = other_end(&level.graph, edge_before(level, d.first), level.y);
+    let mut paths = crossing_spokes(alloc, level, a, c, d)?;
+    paths.push(side(alloc, level, h, next, d.first, c, at_d, at_c)?)?;
+    let back = side(alloc, level, h, next, a.first, d, at_a, at_d)?;
+    push_back(alloc, &mut paths, &back)?;
+    push_edge(alloc, &mut paths, near)?;
+    let back = side(alloc, level, h, next, c.first, b, at_c, at_b)?;
+    push_back(alloc, &mut paths, &back)?;
+    paths.push(side(alloc, level, h, next, b.first, a, at_b, at_a)?)?;
+    Ok(paths)
+}
+
+// The subdivision, from these branch vertices and paths.
+fn crossing_from(
+    alloc: Global,
+    level: &Level,
+    h: &Graph,
+    next: &[u32],
+    a: &Piece,
+    b: &Piece,
+    c: &Piece,
+    d: &Piece,
+    near: u32,
+) -> Result<Subdivision, AllocError>
+    requires few { length next.now ≤ 100000 }
+    requires fourth { AreEdges h.now d.now.first c.now.behind.items }
+    requires third { AreEdges h.now c.now.first b.now.behind.items }
+    requires second { AreEdges h.now b.now.first a.now.behind.items }
+    requires first { AreEdges h.now a.now.first d.now.behind.items }
+    requires is { IsSubdivision level.now.graph Pattern.K33 (crossing_branch level.now a.now b.now c.now d.now) (crossing_paths level.now h.now next.now a.now b.now c.now d.now near) }
+    ensures { IfOk result (λ r. IsSubdivision level.now.graph r.kind r.branch r.paths) }
+{
+    let at_a = other_end(&level.graph, edge_before(level, a.first), level.x);
+    let at_b = near_end(&level.graph, level.x, level.y, edge_before(level, b.first));
+    let at_c = other_end(&level.graph, edge_before(level, c.first), level.x);
+    let at_d = other_end(&level.graph, edge_before(level, d.first), level.y);
+    let branch = Vec::from_slice(alloc, &[level.x, at_d, at_b, level.y, at_c, at_a])?;
+    let paths = crossing_paths(alloc, level, h, next, a, b, c, d, near)?;
+    Ok(Subdivision {
+        kind: Pattern::K33,
+        branch: Numbers::of(branch),
+        paths: NumberLists::of(paths),
+    })
+}
+
+/// The subdivision of K3,3 where the edges alternate.
+pub(crate) fn crossing(
+    alloc: Global,
+    level: &Level,
+    h: &Graph,
+    next: &[u32],
+    a: &Piece,
+    b: &Piece,
+    c: &Piece,
+    d: &Piece,
+) -> Result<Subdivision, AllocError>
+    requires level { IsLevel level.now }
+    requires contraction { h.now ≡ contraction level.now }
+    requires steps { ArePlaneSteps (contraction level.now) next.now }
+    requires crossing { AreCrossing level.now next.now a.now b.now c.now d.now }
+    ensures { IfOk result (λ r. IsSubdivision level.now.graph r.kind r.branch r.paths) }
+{
+    let near = near_edge(level, b.first);
+    crossing_from(alloc, level, h, next, a, b, c, d, near)
 }
