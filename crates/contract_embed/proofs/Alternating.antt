@@ -1,11 +1,10 @@
 -- The K3,3 where edges that lead from x and edges that lead to neighbours of y alternate round the merged vertex of a level.
-use Rattle.std.proofs.Common.{◌≡◌, ℕ, ◌<◌, inl, inr, Bool, true, false, if◌then◌else◌, List, [], ◌∷◌, ◌++◌, map, reverse, slice_index, refl, sym, ap, ◌∙◌, subst, arith}
+use Rattle.std.proofs.Common.{◌≡◌, ℕ, ◌<◌, inl, inr, Bool, true, false, if◌then◌else◌, List, [], ◌∷◌, ◌++◌, map, reverse, refl, sym, ap, ◌∙◌, subst}
 use Rattle.std.proofs.lemmas.Bool.{cases_Bool, both_ways}
 use Rattle.permutations.specs.Members.{is_member}
-use Rattle.permutations.specs.Cyclic.{IsTurn}
 use Rattle.permutations.proofs.Members.{member-head, member-tail, member-cases, member-append_left, member-append_right, member-reverse}
 use Rattle.permutations.proofs.Turned.{IsTurn-member}
-use Rattle.multigraph.specs.Graph.{Multigraph, IsGraph, edge_count, is_end, other_end}
+use Rattle.multigraph.specs.Graph.{Multigraph, edge_count, is_end, other_end}
 use Rattle.multigraph.proofs.OtherEnd.{end-in}
 use Rattle.rotations.specs.Rotation.{order_at, IsRotationSystem}
 use Rattle.rotations.proofs.Membership.{member-edge, member-end}
@@ -18,8 +17,7 @@ use Rattle.planarity.specs.Circle.{arc_edges, six_paths}
 use Rattle.planarity.proofs.Found.{IsSpoke}
 use Rattle.planarity.proofs.FoundCircle.{IsTip, tip-first, tip-second, tip-either, four-found}
 use Rattle.contract_embed.specs.Level.{IsLevel, contraction, edge_before}
-use Rattle.contract_embed.specs.Steps.{AreSteps, ArePlaneSteps}
-use Rattle.contract_embed.specs.Arcs.{arcs_of}
+use Rattle.contract_embed.specs.Steps.{AreSteps}
 use Rattle.contract_embed.specs.Crossing.{near_end, part_of, listed, AreCrossing, AreEdges, crossing_paths, crossing_branch}
 use Rattle.contract_embed.specs.declared.crossing.Piece.{Piece}
 use Rattle.contract_embed.specs.declared.level.Level.{Level}

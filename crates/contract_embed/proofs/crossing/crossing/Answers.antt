@@ -1,15 +1,14 @@
-use Rattle.std.proofs.Common.{◌≡◌, ℕ, ◌<◌, ◌≤◌, length, sym, ap, ◌∙◌, subst, arith}
+use Rattle.std.proofs.Common.{sym, subst, arith}
 use Rattle.permutations.proofs.Members.{member-head}
-use Rattle.multigraph.specs.Graph.{Multigraph, edge_count}
+use Rattle.multigraph.specs.Graph.{Multigraph}
 use Rattle.kuratowski.specs.declared.subdivision.Pattern.TheVariants.{K33}
 use Rattle.kuratowski.specs.Subdivision.{IsSubdivision}
-use Rattle.faces.specs.Euler.{dart_count}
 use Rattle.contract_embed.specs.Crossing.{AreEdges, crossing_branch, crossing_paths}
 use Rattle.contract_embed.proofs.LevelFacts.{level-contraction, level-graph}
 use Rattle.contract_embed.proofs.Alternating.{in_a, in_b, in_c, in_d, edges, crossing-found}
 use Rattle.contract_embed.proofs.crossing.crossing.Goals as goal
 
-pub near_edge-near-requires-clause-edge_in : goal.near_edge-requires-clause-edge_in
+pub near_edge-near-requires-clause-edge_in : goal.near_edge-near-requires-clause-edge_in
 near_edge-near-requires-clause-edge_in c =
     let t = c.requires.steps in
     (level-contraction c.args.level.now c.requires.level).edges c.args.b.now.first
