@@ -21,4 +21,7 @@ pub mod FloodGroups
 pub mod Vertices
 pub mod Ranks
 pub mod RankSteps
+pub mod SameCounts
+pub mod Assembled
+pub mod InOrder
 pub mod TutteFits

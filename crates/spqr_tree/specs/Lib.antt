@@ -2,3 +2,4 @@
 pub mod Merged
 pub mod Flood
 pub mod Ranking
+pub mod Assembly

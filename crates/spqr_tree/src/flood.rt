@@ -17,8 +17,8 @@ pub(crate) const NO_GROUP: u32 = 4294967295;
 // that were looked at and those that were not.
 #[derive(Drop)]
 pub(crate) struct Flood {
-    pub(crate) lead: Vec<u32>,
-    pub(crate) groups: Vec<Comp>,
+    lead: Vec<u32>,
+    groups: Vec<Comp>,
     done: Vec<Piece>,
     stack: Vec<Piece>,
 }
@@ -88,6 +88,20 @@ impl Flood {
             done: Vec::new(alloc),
             stack: Vec::new(alloc),
         })
+    }
+
+    // The group of each component.
+    pub(crate) fn table(&self) -> &[u32]
+        ensures { result.now ≡ self.now.lead }
+    {
+        self.lead.as_slice()
+    }
+
+    // The groups.
+    pub(crate) fn list(&self) -> &[Comp]
+        ensures { result.now ≡ self.now.groups }
+    {
+        self.groups.as_slice()
     }
 
     // Whether component d is of this kind and in no group, and has to be merged with its like.

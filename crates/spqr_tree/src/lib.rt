@@ -1,6 +1,7 @@
 // The tree of a block: split components put together, bonds with bonds and polygons with polygons, in a fixed numbering.
 #![tactic(auto)]
 
+mod arranging;
 mod flood;
 mod lists;
 mod naming;

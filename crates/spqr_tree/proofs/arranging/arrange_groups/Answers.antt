@@ -1,0 +1,27 @@
+use Rattle.std.proofs.Common.{◌<◌, ◌∙◌, ℕ, List, length, sym, subst, Vec, arith}
+use Rattle.std.specs.declared.alloc.Global.{Global}
+use Rattle.std.proofs.lemmas.List.{length-map}
+use Rattle.pair_split.specs.declared.components.Comp.{Comp}
+use Rattle.spqr_tree.specs.Flood.{group_of}
+use Rattle.spqr_tree.specs.Ranking.{rank_at, rank_of, ranks_of, value_at, in_order, ArePlaces}
+use Rattle.spqr_tree.specs.Assembly.{IsArranged}
+use Rattle.spqr_tree.proofs.InOrder.{arranged, ranks-within}
+use Rattle.spqr_tree.proofs.arranging.arrange_groups.Goals as goal
+
+-- the number of a rank is below their number
+pub places-requires-clause-within : goal.places-requires-clause-within
+places-requires-clause-within c = subst (λ (l : List (Vec ℕ Global × ℕ)). (i : ℕ) → i < length l → (rank_at (ranks_of l) i).1 < length l) (sym c.deref.ensures.value) (λ i l.
+    let m : i < length (ranks_of c.in_ok-ranks.ranks.items) = subst (λ z. i < z) (sym (length-map c.in_ok-ranks.ranks.items rank_of)) l in
+    omega (arith, ranks-within c.args.groups.now (ranks_of c.in_ok-ranks.ranks.items) c.in_ok-ranks.ensures i m, c.in_ok-ranks.ensures.number, length-map c.in_ok-ranks.ranks.items rank_of))
+
+-- the number of a rank is that of a group
+pub arranged-requires : goal.arranged-requires
+arranged-requires c = subst (λ (l : List (Vec ℕ Global × ℕ)). (i : ℕ) → i < length l → (rank_at (ranks_of l) i).1 < length c.args.groups.now) (sym c.deref-3.ensures.value) (λ i l.
+    ranks-within c.args.groups.now (ranks_of c.in_ok-ranks.ranks.items) c.in_ok-ranks.ensures i (subst (λ z. i < z) (sym (length-map c.in_ok-ranks.ranks.items rank_of)) l))
+
+-- the groups in order
+pub returns : goal.returns
+returns c = subst (λ (l : List Comp). IsArranged c.args.g.now l (ranks_of c.in_ok-ranks.ranks.items))
+    (sym (c.in_ok-all.ensures ∙ (λ i. in_order (λ x. value_at (c.deref-2.ensures.value i) (group_of c.args.lead.now x)) c.args.groups.now (ranks_of (c.deref-3.ensures.value i)))))
+    (arranged c.args.g.now c.requires.block c.args.comps.now c.requires.split c.args.lead.now c.args.groups.now c.requires.groups c.requires.finished c.requires.few (ranks_of c.in_ok-ranks.ranks.items) c.in_ok-ranks.ensures
+    c.in_ok-places.places.items (subst (λ (l : List (Vec ℕ Global × ℕ)). ArePlaces (ranks_of l) c.in_ok-places.places.items) c.deref.ensures.value c.in_ok-places.ensures))

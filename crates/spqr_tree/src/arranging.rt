@@ -1,0 +1,66 @@
+// The split components of a block put into groups, in the order of the tree.
+
+ghost use Rattle.std.specs.Prelude.{◌≡◌, ◌<◌, ◌≤◌, length, IfOk};
+ghost use Rattle.pair_split.specs.OneBlock.{IsOneBlock};
+ghost use Rattle.pair_split.specs.Split.{IsSplit};
+ghost use Rattle.spqr_tree.specs.Merged.{AreGroups};
+ghost use Rattle.spqr_tree.specs.Flood.{group_of, AreFinished};
+ghost use Rattle.spqr_tree.specs.Ranking.{ranks_of};
+ghost use Rattle.spqr_tree.specs.Assembly.{IsArranged};
+
+use crate::flood::{Flood, groups_of};
+use crate::naming::arranged;
+use crate::ranking::{places, ranked};
+use multigraph::Graph;
+use pair_split::Comp;
+use std::alloc::{AllocError, Global};
+
+// The groups of the components of a block.
+fn grouped(alloc: Global, g: &Graph, comps: &[Comp]) -> Result<Flood, AllocError>
+    requires block { IsOneBlock g.now }
+    requires split { IsSplit g.now comps.now }
+    ensures groups { IfOk result (λ s. AreGroups comps.now (group_of s.lead) s.groups) }
+    ensures finished { IfOk result (λ s. AreFinished comps.now s.lead s.groups) }
+    ensures few { IfOk result (λ s. length s.groups < 4294967295) }
+{
+    // A graph has few edges, so the components are few.
+    let _ = g.edge_count();
+    let flood = groups_of(alloc, comps)?;
+    Ok(flood)
+}
+
+// The groups in the order of their vertices, and the vertices of each.
+fn arrange_groups(
+    alloc: Global,
+    g: &Graph,
+    comps: &[Comp],
+    lead: &[u32],
+    groups: &[Comp],
+) -> Result<(Vec<Comp>, Vec<(Vec<u32>, u32)>), AllocError>
+    requires block { IsOneBlock g.now }
+    requires split { IsSplit g.now comps.now }
+    requires groups { AreGroups comps.now (group_of lead.now) groups.now }
+    requires finished { AreFinished comps.now lead.now groups.now }
+    requires few { length groups.now < 4294967295 }
+    ensures { IfOk result (λ r. IsArranged g.now r.0.items (ranks_of r.1.items)) }
+{
+    let ranks = ranked(alloc, groups)?;
+    let places = places(alloc, &ranks)?;
+    let all = arranged(alloc, lead, groups, &places, &ranks)?;
+    Ok((all, ranks))
+}
+
+// The groups of the components of a block in the order of their vertices, and the vertices of each.
+pub(crate) fn arrange(
+    alloc: Global,
+    g: &Graph,
+    comps: &[Comp],
+) -> Result<(Vec<Comp>, Vec<(Vec<u32>, u32)>), AllocError>
+    requires block { IsOneBlock g.now }
+    requires split { IsSplit g.now comps.now }
+    ensures { IfOk result (λ r. IsArranged g.now r.0.items (ranks_of r.1.items)) }
+{
+    let flood = grouped(alloc, g, comps)?;
+    let all = arrange_groups(alloc, g, comps, flood.table(), flood.list())?;
+    Ok(all)
+}
