@@ -45,7 +45,7 @@ module _ (level : Level) (k : IsLevel level) where
   abbrev Tip : ℕ → ℕ → Type 0
   Tip i p = IsTip g h level.edge level.x level.y (edge_before level) (contracted_vertex level.x level.y) k.graph (level-graph level k) (level-contraction level k) i p
 
-  first : (i : ℕ) → i < edge_count h → is_end g level.x (edge_before level i) ≡ true → Tip i (other_end g (edge_before level i) level.x) × IsSpoke g level.x (other_end g (edge_before level i) level.x) (edge_before level i)
+  pub first : (i : ℕ) → i < edge_count h → is_end g level.x (edge_before level i) ≡ true → Tip i (other_end g (edge_before level i) level.x) × IsSpoke g level.x (other_end g (edge_before level i) level.x) (edge_before level i)
   first i l t = tip-first g h level.edge level.x level.y (edge_before level) (contracted_vertex level.x level.y) k.graph (level-graph level k) (level-contraction level k) i l t
 
   second : (i : ℕ) → i < edge_count h → is_end g level.y (edge_before level i) ≡ true → Tip i (other_end g (edge_before level i) level.y) × IsSpoke g level.y (other_end g (edge_before level i) level.y) (edge_before level i)
@@ -73,7 +73,7 @@ module _ (level : Level) (k : IsLevel level) where
 
   module _ (s : List (List ℕ)) (next : List ℕ) (are : AreSteps h s next) where
     -- a part of the circle, by the steps
-    part-told : (i : ℕ) (passed : List ℕ) → AreEdges h i passed → part_of h next w i passed ≡ arc_edges h s (map (dart_from h w) (i ∷ reverse passed))
+    pub part-told : (i : ℕ) (passed : List ℕ) → AreEdges h i passed → part_of h next w i passed ≡ arc_edges h s (map (dart_from h w) (i ∷ reverse passed))
     part-told i passed l = arcs-told h s next (level-graph level k) are (map (dart_from h w) (i ∷ reverse passed)) (mapped-below h w (i ∷ reverse passed) l)
 
     module _ (plane : IsPlane h s) (a b c d : Piece) (cross : AreCrossing level next a b c d) where

@@ -15,3 +15,4 @@ mod TetrahedronSteps
 mod Orders
 mod ArcsTold
 mod Alternating
+mod Tripled

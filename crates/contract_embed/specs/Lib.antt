@@ -8,3 +8,4 @@ pub mod Tetrahedron
 pub mod Entries
 pub mod Arcs
 pub mod Crossing
+pub mod Triple

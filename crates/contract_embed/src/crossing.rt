@@ -86,7 +86,7 @@ fn part(
 }
 
 // The same, lifted.
-fn side(
+pub(crate) fn side(
     alloc: Global,
     level: &Level,
     h: &Graph,

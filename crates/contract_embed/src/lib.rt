@@ -16,3 +16,4 @@ mod rounds;
 mod runs;
 mod steps;
 mod tetrahedron;
+mod triple;
