@@ -25,3 +25,11 @@ pub mod SameCounts
 pub mod Assembled
 pub mod InOrder
 pub mod TutteFits
+pub mod SideSteps
+pub mod LeastKeys
+pub mod Children
+pub mod OrderSteps
+pub mod KeySteps
+pub mod OrderCode
+pub mod KeysRooted
+pub mod KeyedItems

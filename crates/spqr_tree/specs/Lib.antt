@@ -3,3 +3,4 @@ pub mod Merged
 pub mod Flood
 pub mod Ranking
 pub mod Assembly
+pub mod Keys

@@ -3,6 +3,7 @@
 
 mod arranging;
 mod flood;
+mod keys;
 mod lists;
 mod naming;
 mod ranking;
