@@ -16,3 +16,4 @@ mod Orders
 mod ArcsTold
 mod Alternating
 mod Tripled
+mod Segments

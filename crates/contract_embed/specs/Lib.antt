@@ -9,3 +9,4 @@ pub mod Entries
 pub mod Arcs
 pub mod Crossing
 pub mod Triple
+pub mod Pieces

@@ -12,6 +12,7 @@ mod level;
 mod lifting;
 mod numbers;
 mod paths;
+mod pieces;
 mod rounds;
 mod runs;
 mod steps;
