@@ -9,6 +9,7 @@
 #![tactic(auto)]
 
 mod cuts;
+pub mod laws;
 mod lists;
 mod numbering;
 mod search;

@@ -1,5 +1,7 @@
 -- Decisions that are due for the same words and files have one status, a read that failed aside.
 use Rattle.std.proofs.Common.{◌≡◌, ◌≢◌, ℕ, List, None, Some, Ok, Err, refl, sym, ap, ◌∙◌, subst, arith}
+use Rattle.blocks.specs.Blocks.{IsBlockStructure}
+use Rattle.blocks.proofs.OneStructure.{one-structure}
 use Rattle.gml_text.specs.Document.{Document}
 use Rattle.gml_graph.specs.Named.{NamedGraph}
 use Rattle.gml_graph.specs.Answer.{graph_of_document}
@@ -8,9 +10,9 @@ use Rattle.gml_text.specs.declared.document.GmlFault.{GmlFault}
 use Rattle.gml_text.specs.declared.document.GmlFault.TheVariants.{Bad, End, Memory as GmlMemory}
 use Rattle.spqr_script.specs.declared.command.Command.{Command}
 use Rattle.spqr_edge.specs.Device.{Files, contents}
-use Rattle.spqr_script.proofs.Scripts.{apart}
+use Rattle.spqr_script.proofs.Scripts.{apart, one_reading}
 use Rattle.spqr_cli.specs.Words.{Names, form_of}
-use Rattle.spqr_cli.specs.Decision.{Decision, SayGraph, SayCommands, IsGmlReason, IsGraphReason, IsScriptReason, IsAccepted, IsDue}
+use Rattle.spqr_cli.specs.Decision.{Work, Decision, SayGraph, SayCommands, IsGmlReason, IsGraphReason, IsScriptReason, IsAccepted, IsDue}
 use Rattle.spqr_cli.specs.Ending.{graph_status, script_status, refusal_status, status_of}
 use Rattle.spqr_cli.specs.declared.reading.FileFault.TheVariants.{Failed, Long}
 use Rattle.spqr_cli.specs.declared.refusal.Refusal.{Refusal}
@@ -106,3 +108,16 @@ no_refusal one words files (OfGraph r) a q n =
     graph_apart one _ _ _ r (subst (λ (x : Names). SayGraph (contents files x.graph) a.graph.document a.graph.named) (one_form words a.names q.0 a.form q.1) a.graph.says) q.2 n
 no_refusal one words files (OfScript r) a q n =
     script_apart _ _ r (subst (λ (x : Names). SayCommands (contents files x.script) a.script.commands) (one_form words a.names q.0 a.form q.1) a.script.says) q.3 n
+
+-- two works that are due are the same
+pub one_work : OneDocument → (words : List (List ℕ)) (files : Files) (a b : Work) → IsDue words files (Ok a) → IsDue words files (Ok b) → a ≡ b
+one_work one words files a b p q =
+    let names : p.0 ≡ q.0 = one_form words p.0 q.0 p.1 q.1 in
+    let graph : SayGraph (contents files q.0.graph) a.document a.named = subst (λ (x : Names). SayGraph (contents files x.graph) a.document a.named) names p.2.graph in
+    let script : SayCommands (contents files q.0.script) a.commands = subst (λ (x : Names). SayCommands (contents files x.script) a.commands) names p.2.script in
+    let document : a.document ≡ b.document = one (contents files q.0.graph) a.document b.document graph.spelled q.2.graph.spelled in
+    let both : Ok a.named ≡ Ok b.named = sym graph.graph ∙ (ap graph_of_document document ∙ q.2.graph.graph) in
+    let named : a.named ≡ b.named = cc in
+    let structure : a.structure ≡ b.structure = one-structure b.named.graph a.structure b.structure (subst (λ (x : NamedGraph). IsBlockStructure x.graph a.structure) named p.2.structure) q.2.structure in
+    let commands : a.commands ≡ b.commands = one_reading (contents files q.0.script) a.commands b.commands script.spelled q.2.script.spelled in
+    λ i. record { document = document i; named = named i; structure = structure i; commands = commands i }

@@ -1,14 +1,15 @@
 // What the definitions of a run say of one another.
 ghost use Rattle.std.specs.Prelude.{◌≢◌};
-ghost use Rattle.spqr_cli.specs.Ending.{OneStatus, NoRefusal};
+ghost use Rattle.spqr_cli.specs.Ending.{OneStatus, NoRefusal, OneWork};
 ghost use Rattle.spqr_cli.specs.Run.{CountsReads, CountsPuts};
 ghost use Rattle.spqr_cli.specs.declared.status.Status.{Status};
 
 /// Decisions that are due for the same words and files have one status, a read that failed aside. So each status of a run comes
-/// exactly where it is due. Where the words and both files are accepted, no refusal is due.
+/// exactly where it is due. Where the words and both files are accepted, no refusal is due. And one report at most is due.
 pub fn decisions()
     ensures status { OneStatus }
     ensures accepted { NoRefusal }
+    ensures work { OneWork }
 {
     gml_text::laws::spelling();
 }
