@@ -1,5 +1,5 @@
 -- The part that the edges of a block make is one block: the cycles through these edges have no others, and are in the part.
-use Rattle.std.proofs.Common.{◌≡◌, ◌≢◌, ℕ, zero, suc, ◌<◌, ◌≤◌, ◌⊎◌, inl, inr, Bool, true, false, List, [], ◌∷◌, length, map, slice_index, refl, sym, ap, ◌∙◌, subst, arith, Contains}
+use Rattle.std.proofs.Common.{◌≡◌, ℕ, ◌<◌, ◌≤◌, inl, inr, true, List, [], ◌∷◌, length, map, slice_index, refl, sym, ap, ◌∙◌, subst, arith, Contains}
 use Rattle.std.proofs.lemmas.Bool.{true≢false, false_from_ne_true, both_ways}
 use Rattle.std.proofs.lemmas.List.{get_or_default, length-map}
 use Rattle.std.proofs.lemmas.List.Elements.{Contains-get_or}
@@ -166,10 +166,10 @@ part-one_block g blocks b part are l h = record {
   has_edge = omega (arith, are.not_empty b l, h.ends.each);
   at_edge = inner-edge g (block_at blocks b) part h;
   same_block = λ i j li lj.
-  let ki : i < length (block_at blocks b) = in-edges g (block_at blocks b) part h i li in
-  let kj : j < length (block_at blocks b) = in-edges g (block_at blocks b) part h j lj in
-  inner-same g (block_at blocks b) part h closed i j ki kj
-  ((are.same b b (slice_index (block_at blocks b) i) (slice_index (block_at blocks b) j) l l (member-at (block_at blocks b) i 0 ki) (member-at (block_at blocks b) j 0 kj)).0 refl);
+      let ki : i < length (block_at blocks b) = in-edges g (block_at blocks b) part h i li in
+      let kj : j < length (block_at blocks b) = in-edges g (block_at blocks b) part h j lj in
+      inner-same g (block_at blocks b) part h closed i j ki kj
+      ((are.same b b (slice_index (block_at blocks b) i) (slice_index (block_at blocks b) j) l l (member-at (block_at blocks b) i 0 ki) (member-at (block_at blocks b) j 0 kj)).0 refl);
 }
   where
     closed : (e f : ℕ) → is_member e (block_at blocks b) ≡ true → f < edge_count g → SameBlock g e f → is_member f (block_at blocks b) ≡ true
