@@ -10,3 +10,4 @@ pub mod Arcs
 pub mod Crossing
 pub mod Triple
 pub mod Pieces
+pub mod Answer

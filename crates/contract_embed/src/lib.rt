@@ -1,6 +1,7 @@
 // Embedding triconnected graphs by contraction (Thomassen 1980).
 #![tactic(auto)]
 
+mod answers;
 mod arcs;
 mod contractible;
 mod crossing;

@@ -1,0 +1,59 @@
+// What is known of a graph on the way up: the steps of a plane rotation system, or a subdivision.
+
+ghost use Rattle.std.specs.Prelude.{IfOk, MatchOption};
+ghost use Rattle.planarity.specs.Embedding.{IsEmbedding};
+ghost use Rattle.contract_embed.specs.Level.{IsLevel, contraction};
+ghost use Rattle.contract_embed.specs.Steps.{ArePlaneSteps};
+ghost use Rattle.contract_embed.specs.Runs.{HaveNoRuns};
+ghost use Rattle.contract_embed.specs.Answer.{IsAnswer};
+
+use crate::expanding::expand;
+use crate::level::Level;
+use crate::rounds::rotation;
+use crate::runs::runs;
+use kuratowski::{Subdivision, written};
+use multigraph::Graph;
+use planarity::Embedded;
+use std::alloc::{AllocError, Global};
+
+/// The steps of a plane rotation system, or a subdivision of K5 or of K3,3.
+#[derive(Debug, Drop)]
+pub(crate) enum Answer {
+    Plane(Vec<u32>),
+    Not(Subdivision),
+}
+
+// The steps of a plane rotation system of the graph, from those of one of its contraction, if these fall in runs.
+pub(crate) fn expanded(
+    alloc: Global,
+    level: &Level,
+    next: &[u32],
+) -> Result<Option<Vec<u32>>, AllocError>
+    requires level { IsLevel level.now }
+    requires steps { ArePlaneSteps (contraction level.now) next.now }
+    ensures { IfOk result (λ answer. MatchOption answer (HaveNoRuns level.now next.now) (λ wide. ArePlaneSteps level.now.graph wide.items)) }
+{
+    let found = runs(alloc, level, next)?;
+    let Some(ends) = found else {
+        return Ok(None);
+    };
+    let wide = expand(alloc, level, next, ends.0, ends.1)?;
+    Ok(Some(wide))
+}
+
+// The answer as an embedder gives it.
+pub(crate) fn embedded(alloc: Global, g: &Graph, answer: Answer) -> Result<Embedded, AllocError>
+    requires { IsAnswer g.now answer }
+    ensures { IfOk result (IsEmbedding g.now) }
+{
+    match answer {
+        Answer::Plane(next) => {
+            let r = rotation(alloc, g, &next)?;
+            Ok(Embedded::Plane(r))
+        }
+        Answer::Not(s) => {
+            let w = written(alloc, g, s)?;
+            Ok(Embedded::Not(w))
+        }
+    }
+}
