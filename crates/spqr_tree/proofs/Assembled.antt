@@ -83,7 +83,7 @@ module _ (g : Multigraph) (comps : List Comp) (ranks : List Rank) (a : IsArrange
   same-kind : (k : ℕ) → k < length comps → (node_at nodes k).kind ≡ (component_at comps k).kind
   same-kind k l = (n.each k l).kind
 
-  same-pieces : HaveSamePieces others comps
+  pub same-pieces : HaveSamePieces (components nodes) comps
   same-pieces k t = elim (cases_lt k (length comps)) [
     | inl l ↦ ap (how_many t) (items-are k) ∙ (n.each k l).pieces t
     | inr l ↦ ap (λ (c : Comp). how_many t c.items) (get_or_past others k no_comp (subst (λ z. z ≤ k) (sym long) l) ∙ sym (get_or_past comps k no_comp l))
@@ -132,13 +132,13 @@ module _ (g : Multigraph) (comps : List Comp) (ranks : List Rank) (a : IsArrange
   no_item = record { key = 0; a = 0; b = 0; what = Real 0 }
 
   -- an item of a node as a piece
-  item-is : (k i : ℕ) → item_at others k i ≡ piece_of (node_item nodes k i)
+  pub item-is : (k i : ℕ) → item_at (components nodes) k i ≡ piece_of (node_item nodes k i)
   item-is k i = ap (λ (l : List Piece). slice_index_or l i no_piece) (items-are k) ∙ get_or-map piece_of (node_at nodes k).items i (record { key = 0; a = 0; b = 0; what = Real 0 })
 
-  item-in : (k i : ℕ) → i < length (node_at nodes k).items → i < length (items_of others k)
+  pub item-in : (k i : ℕ) → i < length (node_at nodes k).items → i < length (items_of (components nodes) k)
   item-in k i l = subst (λ z. i < z) (sym (ap length (items-are k) ∙ length-map (node_at nodes k).items piece_of)) l
 
-  node-in : (k i : ℕ) → i < length (node_at nodes k).items → k < length comps
+  pub node-in : (k i : ℕ) → i < length (node_at nodes k).items → k < length comps
   node-in k i l = subst (λ z. k < z) long (stands-in others k i (item_at others k i).what (item-in k i l, refl))
 
   ends-rise : (k i : ℕ) → i < length (node_at nodes k).items → (node_item nodes k i).a < (node_item nodes k i).b

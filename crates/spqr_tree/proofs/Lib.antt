@@ -33,3 +33,4 @@ pub mod KeySteps
 pub mod OrderCode
 pub mod KeysRooted
 pub mod KeyedItems
+pub mod NodesMade

@@ -4,6 +4,7 @@ use Rattle.permutations.specs.Count.{least}
 use Rattle.permutations.specs.Members.{is_member, is_distinct}
 use Rattle.multigraph.specs.Graph.{Multigraph, edge_count}
 use Rattle.pair_split.specs.Split.{is_beyond, side, LinksTo, IsTree}
+use Rattle.pair_split.specs.Tutte.{Node, node_at}
 use Rattle.pair_split.specs.declared.components.Item.{Item}
 use Rattle.pair_split.specs.declared.components.What.{What}
 use Rattle.pair_split.specs.declared.components.What.TheVariants.{Real, Link}
@@ -103,3 +104,7 @@ pub record IsRooted (g : Multigraph) (comps : List Comp) (parents noted : List �
   pub least_places : length noted ≡ length comps
   pub up : (k j : ℕ) → LinksTo comps k j → parent_at parents k ≡ j → side comps k j 0 ≡ true
   pub down : (k j : ℕ) → LinksTo comps k j → parent_at parents k ≢ j → least_at noted j ≡ least (edge_count g) (side comps k j)
+
+-- the items of the nodes have the keys that follow from the parents and the least edges that were noted
+abbrev pub HaveKeys : List ℕ → List ℕ → List Node → Type 0
+HaveKeys parents noted nodes = (k i : ℕ) → k < length nodes → i < length (node_at nodes k).items → (nth_item (node_at nodes k).items i).key ≡ link_key (parent_at parents k) noted (nth_item (node_at nodes k).items i).what

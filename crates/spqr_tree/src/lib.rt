@@ -2,6 +2,7 @@
 #![tactic(auto)]
 
 mod arranging;
+mod assembly;
 mod flood;
 mod keys;
 mod lists;
