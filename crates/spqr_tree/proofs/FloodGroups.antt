@@ -12,7 +12,8 @@ use Rattle.pair_split.specs.declared.components.Comp.{Comp}
 use Rattle.pair_split.proofs.Elements.{contains-none}
 use Rattle.pair_split.proofs.Links.{no_piece, stands-in}
 use Rattle.spqr_tree.specs.Merged.{how_many, is_outer, IsGroup, AreGroups}
-use Rattle.spqr_tree.specs.Flood.{FloodState, group_of, IsLed, IsMerged, AreSplit, IsApart, AreFinished, IsFlooding, IsResting, KeepsLed, IsStarted}
+use Rattle.spqr_tree.specs.Flood.{AreLive, FloodState, group_of, IsLed, IsMerged, AreSplit, IsApart, AreFinished, IsFlooding, IsResting, KeepsLed, IsStarted}
+use Rattle.spqr_tree.proofs.LiveSteps.{live-taken}
 use Rattle.spqr_tree.proofs.MergeCounts.{number-some, gathered-from, Gathered}
 use Rattle.spqr_tree.proofs.JoinedFlood.{is_link, is_link-true, link-is, link-outer, outer-link, group-kept, group-starts}
 use Rattle.spqr_tree.proofs.JoinedGrows.{is_like, like-parts, piece-home}
@@ -58,8 +59,12 @@ module _ (comps : List Comp) (split : AreSplit comps) where
     items-are : items_of comps c ≡ [] ++ reverse (reverse (s.stack ++ items_of comps c))
     items-are = sym (reverse-twice (s.stack ++ items_of comps c) ∙ ap (λ (z : List Piece). z ++ items_of comps c) r.none_left)
 
-    plain : IsFlooding comps (component_at comps c).kind (record { lead = next.lead; groups = s.groups; done = []; stack = reverse (s.stack ++ items_of comps c) })
+    still-live : AreLive next.lead next.live
+    still-live = live-taken s.lead next.lead s.live next.live c r.live (subst (λ z. c < z) (sym r.places) l) none started.live started.places started-led started.kept
+
+    plain : IsFlooding comps (component_at comps c).kind (record { live = next.live; lead = next.lead; groups = s.groups; done = []; stack = reverse (s.stack ++ items_of comps c) })
     plain = record {
+      live = still-live;
       places = started.places ∙ r.places;
       few = few;
       led = led-below;
@@ -68,8 +73,8 @@ module _ (comps : List Comp) (split : AreSplit comps) where
       settled = λ q d h. absurd (contains-none q h);
     }
 
-    same : record { lead = next.lead; groups = s.groups; done = []; stack = reverse (s.stack ++ items_of comps c) } ≡ next
-    same = λ i. record { lead = next.lead; groups = sym started.groups i; done = sym (started.done ∙ r.none_done) i; stack = sym started.stack i }
+    same : record { live = next.live; lead = next.lead; groups = s.groups; done = []; stack = reverse (s.stack ++ items_of comps c) } ≡ next
+    same = λ i. record { live = next.live; lead = next.lead; groups = sym started.groups i; done = sym (started.done ∙ r.none_done) i; stack = sym started.stack i }
 
     pub started-floods : IsFlooding comps (component_at comps c).kind next
     started-floods = subst (IsFlooding comps (component_at comps c).kind) same plain
@@ -142,8 +147,9 @@ module _ (comps : List Comp) (split : AreSplit comps) where
         go-apart j (inl l) h = subst (λ (c : Comp). IsApart comps c.kind c.items) (old j l) (f.finished.apart j l)
         go-apart j (inr l) h = subst (λ z. IsApart comps (component_at (s.groups ++ made ∷ []) z).kind (items_of (s.groups ++ made ∷ []) z)) (last j l h) (subst (λ (c : Comp). IsApart comps c.kind c.items) new apart)
 
-    pub finished-rests : (next : FloodState) → next.groups ≡ s.groups ++ made ∷ [] → next.done ≡ [] → next.lead ≡ s.lead → next.stack ≡ s.stack → IsResting comps next
-    finished-rests next groups done table stack = subst (IsResting comps) (λ i. record { lead = sym table i; groups = sym groups i; done = sym done i; stack = sym (stack ∙ empty) i }) (record {
+    pub finished-rests : (next : FloodState) → next.groups ≡ s.groups ++ made ∷ [] → next.done ≡ [] → next.live ≡ s.live → next.lead ≡ s.lead → next.stack ≡ s.stack → IsResting comps next
+    finished-rests next groups done live table stack = subst (IsResting comps) (λ i. record { live = sym live i; lead = sym table i; groups = sym groups i; done = sym done i; stack = sym (stack ∙ empty) i }) (record {
+      live = f.live;
       places = f.places;
       led = λ x h. let o : lead x ≤ length s.groups = f.led x h in omega (arith, length-append s.groups (made ∷ []), o);
       finished = finished-more;

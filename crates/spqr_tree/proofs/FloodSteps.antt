@@ -14,7 +14,8 @@ use Rattle.pair_split.proofs.Elements.{contains-here, contains-cases, contains-n
 use Rattle.pair_split.proofs.Links.{no_piece}
 use Rattle.pair_split.proofs.Subtrees.{link-in}
 use Rattle.spqr_tree.specs.Merged.{how_many, is_outer, IsGroup}
-use Rattle.spqr_tree.specs.Flood.{FloodState, group_of, IsLed, AreSplit, AreFinished, IsAbsorbed, IsFlooding, KeepsLed, with_piece, pieces_left, IsPushed, IsTaken}
+use Rattle.spqr_tree.specs.Flood.{AreLive, FloodState, group_of, IsLed, AreSplit, AreFinished, IsAbsorbed, IsFlooding, KeepsLed, with_piece, pieces_left, IsPushed, IsTaken}
+use Rattle.spqr_tree.proofs.LiveSteps.{live-taken}
 use Rattle.spqr_tree.proofs.MergeCounts.{number-cons, number-append, number-all, number-weaker, sum-changed}
 use Rattle.spqr_tree.proofs.JoinedFlood.{group-kept}
 use Rattle.spqr_tree.proofs.JoinedGrows.{like-parts, piece-home, group-grows}
@@ -121,8 +122,12 @@ module _ (comps : List Comp) (split : AreSplit comps) (kind : Kind) (s : FloodSt
     still-led : (x : ℕ) → IsLed s.lead x → IsLed next.lead x
     still-led x h z = h (sym (taken-kept x h) ∙ z)
 
-    plain : IsFlooding comps kind (record { lead = next.lead; groups = s.groups; done = s.done; stack = next.stack })
+    still-live : AreLive next.lead next.live
+    still-live = live-taken s.lead next.lead s.live next.live d f.live (subst (λ z. d < z) (sym f.places) (link-within d to-d)) absorbed.1 taken.live taken.places (λ z. absurd (omega (arith, f.few, taken.into, z))) taken.kept
+
+    plain : IsFlooding comps kind (record { live = next.live; lead = next.lead; groups = s.groups; done = s.done; stack = next.stack })
     plain = record {
+      live = still-live;
       places = taken.places ∙ f.places;
       few = f.few;
       led = led-below;
@@ -131,8 +136,8 @@ module _ (comps : List Comp) (split : AreSplit comps) (kind : Kind) (s : FloodSt
       settled = λ q x c e m k. still-led x (f.settled q x c e m k);
     }
 
-    same : record { lead = next.lead; groups = s.groups; done = s.done; stack = next.stack } ≡ next
-    same = λ i. record { lead = next.lead; groups = sym taken.groups i; done = sym taken.done i; stack = next.stack }
+    same : record { live = next.live; lead = next.lead; groups = s.groups; done = s.done; stack = next.stack } ≡ next
+    same = λ i. record { live = next.live; lead = next.lead; groups = sym taken.groups i; done = sym taken.done i; stack = next.stack }
 
     pub taken-floods : IsFlooding comps kind next
     taken-floods = subst (IsFlooding comps kind) same plain
@@ -149,8 +154,9 @@ module _ (comps : List Comp) (split : AreSplit comps) (kind : Kind) (s : FloodSt
         omega (arith, sums, at-d, now-d, fewer, taken.pushed (λ q. true), number-all no_piece (λ q. true) next.stack (λ i l. refl), number-all no_piece (λ q. true) s.stack (λ i l. refl), number-all no_piece (λ q. true) (items_of comps d) (λ i l. refl))
 
   -- a piece that was looked at
-  pub done-floods : ((d : ℕ) → piece.what ≡ Link d → IsAbsorbed comps s.lead kind d → ⊥) → IsFlooding comps kind (record { lead = s.lead; groups = s.groups; done = s.done ++ piece ∷ []; stack = s.stack })
+  pub done-floods : ((d : ℕ) → piece.what ≡ Link d → IsAbsorbed comps s.lead kind d → ⊥) → IsFlooding comps kind (record { live = s.live; lead = s.lead; groups = s.groups; done = s.done ++ piece ∷ []; stack = s.stack })
   done-floods n = record {
+    live = f.live;
     places = f.places;
     few = f.few;
     led = f.led;

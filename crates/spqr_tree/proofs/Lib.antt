@@ -16,6 +16,7 @@ pub mod RearrangedSplit
 pub mod FewComponents
 pub mod JoinedApart
 pub mod KeysDiffer
+pub mod LiveSteps
 pub mod FloodSteps
 pub mod FloodGroups
 pub mod Vertices

@@ -1,7 +1,8 @@
 -- The state of putting components into groups, one component after the other.
-use Rattle.std.specs.Prelude.{◌≡◌, ◌≢◌, ℕ, ◌+◌, ◌<◌, ◌≤◌, ◌⊎◌, ◌==◌, ◌&&◌, Bool, cond, List, [], ◌∷◌, ◌++◌, reverse, length, slice_index_or, Contains}
+use Rattle.std.specs.Prelude.{◌≡◌, ◌≢◌, ℕ, ◌+◌, ◌<◌, ◌≤◌, ◌⊎◌, ◌==◌, ◌&&◌, Bool, cond, List, [], ◌∷◌, ◌++◌, reverse, length, slice_index_or, Contains, Some, None}
 use Rattle.permutations.specs.Count.{sum_below}
 use Rattle.multigraph.specs.Graph.{Multigraph}
+use Rattle.slab.specs.Slab.{Slab, get, Updates}
 use Rattle.pair_split.specs.Split.{component_at, items_of, IsSplit}
 use Rattle.pair_split.specs.declared.components.Kind.{Kind}
 use Rattle.pair_split.specs.declared.components.Kind.TheVariants.{S, P}
@@ -10,9 +11,15 @@ use Rattle.pair_split.specs.declared.components.Piece.{Piece}
 use Rattle.pair_split.specs.declared.components.Comp.{Comp}
 use Rattle.spqr_tree.specs.Merged.{how_many, is_outer, IsGroup}
 
--- the group of each component, the groups that are finished, and the pieces of the group in work: those that were looked at and
--- those that were not
+-- the live components, each under its key, and the key of each component
+pub record LiveState : Type 0 where
+  pub slab : Slab ℕ
+  pub keys : List ℕ
+
+-- the live components, the group of each component, the groups that are finished, and the pieces of the group in work: those
+-- that were looked at and those that were not
 pub record FloodState : Type 0 where
+  pub live : LiveState
   pub lead : List ℕ
   pub groups : List Comp
   pub done : List Piece
@@ -25,6 +32,26 @@ group_of lead c = slice_index_or lead c 4294967295
 -- whether component c is in a group
 abbrev pub IsLed : List ℕ → ℕ → Type 0
 IsLed lead c = group_of lead c ≢ 4294967295
+
+-- the key of component c
+abbrev pub key_of : LiveState → ℕ → ℕ
+key_of live c = slice_index_or live.keys c 0
+
+-- the components below n are live, each under its key, and no others have a key
+pub record AreHeld (live : LiveState) (n : ℕ) : Type 0 where
+  pub places : length live.keys ≡ n
+  pub held : (x : ℕ) → x < n → get live.slab (key_of live x) ≡ Some x
+
+-- the live components are those in no group
+pub record AreLive (lead : List ℕ) (live : LiveState) : Type 0 where
+  pub places : length live.keys ≡ length lead
+  pub held : (x : ℕ) → x < length lead → group_of lead x ≡ 4294967295 → get live.slab (key_of live x) ≡ Some x
+  pub gone : (x : ℕ) → x < length lead → IsLed lead x → get live.slab (key_of live x) ≡ None
+
+-- component d was taken out of the live ones, and no other
+pub record IsTakenOut (live next : LiveState) (d : ℕ) : Type 0 where
+  pub keys : next.keys ≡ live.keys
+  pub slab : Updates live.slab next.slab (key_of live d) None
 
 -- components of this kind are merged where links join them
 abbrev pub IsMerged : Kind → Type 0
@@ -49,6 +76,7 @@ IsAbsorbed comps lead kind d = IsMerged kind × (group_of lead d ≡ 4294967295)
 
 -- a group of this kind is in work
 pub record IsFlooding (comps : List Comp) (kind : Kind) (s : FloodState) : Type 0 where
+  pub live : AreLive s.lead s.live
   pub places : length s.lead ≡ length comps
   pub few : length s.groups < 4294967295
   pub led : (x : ℕ) → IsLed s.lead x → group_of s.lead x ≤ length s.groups
@@ -58,6 +86,7 @@ pub record IsFlooding (comps : List Comp) (kind : Kind) (s : FloodState) : Type 
 
 -- no group is in work
 pub record IsResting (comps : List Comp) (s : FloodState) : Type 0 where
+  pub live : AreLive s.lead s.live
   pub places : length s.lead ≡ length comps
   pub led : (x : ℕ) → IsLed s.lead x → group_of s.lead x < length s.groups
   pub finished : AreFinished comps s.lead s.groups
@@ -70,7 +99,7 @@ KeepsLed lead other = (x : ℕ) → IsLed lead x → group_of other x ≡ group_
 
 -- the piece put back on the stack
 abbrev pub with_piece : FloodState → Piece → FloodState
-with_piece s piece = record { lead = s.lead; groups = s.groups; done = s.done; stack = s.stack ++ piece ∷ [] }
+with_piece s piece = record { live = s.live; lead = s.lead; groups = s.groups; done = s.done; stack = s.stack ++ piece ∷ [] }
 
 -- how many pieces are to be looked at at most: those on the stack and those of the components in no group
 abbrev pub pieces_left : List Comp → FloodState → ℕ
@@ -82,6 +111,7 @@ IsPushed before after lead k pieces = (t : Piece → Bool) → how_many t after 
 
 -- component d was put into the group in work
 pub record IsTaken (comps : List Comp) (s next : FloodState) (d : ℕ) : Type 0 where
+  pub live : IsTakenOut s.live next.live d
   pub groups : next.groups ≡ s.groups
   pub done : next.done ≡ s.done
   pub places : length next.lead ≡ length s.lead
@@ -91,6 +121,7 @@ pub record IsTaken (comps : List Comp) (s next : FloodState) (d : ℕ) : Type 0 
 
 -- the group in work was begun with component c
 pub record IsStarted (comps : List Comp) (s next : FloodState) (c : ℕ) : Type 0 where
+  pub live : IsTakenOut s.live next.live c
   pub groups : next.groups ≡ s.groups
   pub done : next.done ≡ s.done
   pub places : length next.lead ≡ length s.lead

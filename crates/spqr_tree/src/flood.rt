@@ -2,10 +2,12 @@
 
 ghost use Rattle.std.specs.Prelude.{◌≡◌, ◌+◌, ◌<◌, ◌≤◌, ◌↔◌, ◌++◌, ◌^◌, ℕ, true, [], ◌∷◌, length, IfOk, IfSome, None};
 ghost use Rattle.pair_split.specs.Split.{component_at, items_of};
+ghost use Rattle.slab.specs.Slab.{ContainsKey};
 ghost use Rattle.spqr_tree.specs.Merged.{is_outer, AreGroups};
-ghost use Rattle.spqr_tree.specs.Flood.{group_of, IsLed, IsMerged, AreSplit, AreFinished, IsAbsorbed, IsFlooding, IsResting, KeepsLed, with_piece, pieces_left, IsPushed, IsTaken, IsStarted};
+ghost use Rattle.spqr_tree.specs.Flood.{group_of, key_of, AreHeld, AreLive, IsTakenOut, IsLed, IsMerged, AreSplit, AreFinished, IsAbsorbed, IsFlooding, IsResting, KeepsLed, with_piece, pieces_left, IsPushed, IsTaken, IsStarted};
 
 use pair_split::{Comp, Kind, Piece, PieceList, What};
+use slab::Slab;
 use std::alloc::{AllocError, Global};
 use std::marker::Model;
 use std::mem;
@@ -13,10 +15,68 @@ use std::mem;
 // The number of the group of a component that is in none.
 pub(crate) const NO_GROUP: u32 = 4294967295;
 
-// The groups so far: the group of each component, what the finished groups are, and the pieces of the group in work, those
-// that were looked at and those that were not.
+// The live components, those that are in no group yet, and the key of each component.
+#[derive(Drop)]
+struct Live {
+    slab: Slab<u32>,
+    keys: Vec<usize>,
+}
+
+impl Model for Live {
+    ghost use Rattle.spqr_tree.specs.Flood.{LiveState};
+
+    ghost Value = { LiveState };
+
+    ghost view = { λ s. record { slab = s.slab; keys = s.keys.items } };
+}
+
+impl Live {
+    // All n components are live.
+    fn new(alloc: Global, n: u32) -> Result<Live, AllocError>
+        ensures { IfOk result (λ live. AreHeld live n) }
+    {
+        let mut live = Live {
+            slab: Slab::new(alloc),
+            keys: Vec::new(alloc),
+        };
+        for c in 0..n {
+            live.add(c)?;
+        }
+        Ok(live)
+    }
+
+    // Component c is live, after those below it.
+    fn add(&mut self, c: u32) -> Result<(), AllocError>
+        requires { AreHeld self.old c }
+        ensures { IfOk result (λ _. AreHeld self.new (c + 1)) }
+    {
+        let key = self.slab.insert(c)?;
+        self.keys.push(key)?;
+        Ok(())
+    }
+
+    // Whether component d is live.
+    fn contains(&self, d: u32) -> bool
+        requires { d < length self.now.keys }
+        ensures { (result ≡ true) ↔ ContainsKey self.now.slab (key_of self.now d) }
+    {
+        self.slab.contains(self.keys[d as usize])
+    }
+
+    // Component d is live no more.
+    fn remove(&mut self, d: u32)
+        requires { d < length self.old.keys }
+        ensures { IsTakenOut self.old self.new d }
+    {
+        self.slab.try_remove(self.keys[d as usize]);
+    }
+}
+
+// The groups so far: the components that are in none, the group of each component, what the finished groups are, and the pieces
+// of the group in work, those that were looked at and those that were not.
 #[derive(Drop)]
 pub(crate) struct Flood {
+    live: Live,
     lead: Vec<u32>,
     groups: Vec<Comp>,
     done: Vec<Piece>,
@@ -28,7 +88,7 @@ impl Model for Flood {
 
     ghost Value = { FloodState };
 
-    ghost view = { λ s. record { lead = s.lead.items; groups = s.groups.items; done = s.done.items; stack = s.stack.items } };
+    ghost view = { λ s. record { live = s.live; lead = s.lead.items; groups = s.groups.items; done = s.done.items; stack = s.stack.items } };
 }
 
 // The number of the group of component c.
@@ -78,11 +138,14 @@ fn push_outer(
 impl Flood {
     // No component is in a group yet.
     fn new(alloc: Global, n: usize) -> Result<Flood, AllocError>
+        requires few { n < 4294967295 }
+        ensures live { IfOk result (λ s. AreLive s.lead s.live) }
         ensures none { IfOk result (λ s. (x : ℕ) → group_of s.lead x ≡ 4294967295) }
         ensures places { IfOk result (λ s. length s.lead ≡ n) }
         ensures empty { IfOk result (λ s. (s.groups ≡ []) × (s.done ≡ []) × (s.stack ≡ [])) }
     {
         Ok(Flood {
+            live: Live::new(alloc, n as u32)?,
             lead: vec![in alloc; NO_GROUP; n]?,
             groups: Vec::new(alloc),
             done: Vec::new(alloc),
@@ -104,18 +167,30 @@ impl Flood {
         self.groups.as_slice()
     }
 
+    // Whether component d is in no group yet.
+    fn is_live(&self, d: u32) -> bool
+        requires live { AreLive self.now.lead self.now.live }
+        requires place { d < length self.now.lead }
+        ensures { (result ≡ true) ↔ (group_of self.now.lead d ≡ 4294967295) }
+    {
+        self.live.contains(d)
+    }
+
     // Whether component d is of this kind and in no group, and has to be merged with its like.
     fn is_absorbed(&self, comps: &[Comp], kind: Kind, d: u32) -> bool
-        requires { d < length comps.now }
+        requires live { AreLive self.now.lead self.now.live }
+        requires place { d < length self.now.lead }
+        requires within { d < length comps.now }
         ensures { (result ≡ true) ↔ IsAbsorbed comps.now self.now.lead kind d }
     {
-        is_merged(kind) && group_of(&self.lead, d) == NO_GROUP && comps[d as usize].kind == kind
+        is_merged(kind) && self.is_live(d) && comps[d as usize].kind == kind
     }
 
     // Puts component d into the group in work.
     fn absorb(&mut self, comps: &[Comp], d: u32) -> Result<(), AllocError>
         requires within { d < length comps.now }
         requires place { d < length self.old.lead }
+        requires live { AreLive self.old.lead self.old.live }
         requires few { length self.old.groups < 4294967295 }
         ensures { IfOk result (λ _. IsTaken comps.now self.old self.new d) }
     {
@@ -127,12 +202,13 @@ impl Flood {
             k,
         )?;
         self.lead[d as usize] = k;
+        self.live.remove(d);
         Ok(())
     }
 
     // The piece was looked at.
     fn keep(&mut self, piece: Piece) -> Result<(), AllocError>
-        ensures { IfOk result (λ _. self.new ≡ record { lead = self.old.lead; groups = self.old.groups; done = self.old.done ++ piece ∷ []; stack = self.old.stack }) }
+        ensures { IfOk result (λ _. self.new ≡ record { live = self.old.live; lead = self.old.lead; groups = self.old.groups; done = self.old.done ++ piece ∷ []; stack = self.old.stack }) }
     {
         self.done.push(piece)?;
         Ok(())
@@ -184,6 +260,7 @@ impl Flood {
     fn start(&mut self, comps: &[Comp], c: u32) -> Result<(), AllocError>
         requires within { c < length comps.now }
         requires place { c < length self.old.lead }
+        requires live { AreLive self.old.lead self.old.live }
         requires few { length self.old.groups < 4294967295 }
         ensures { IfOk result (λ _. IsStarted comps.now self.old self.new c) }
     {
@@ -192,6 +269,7 @@ impl Flood {
         // The first piece is looked at first.
         self.stack.reverse();
         self.lead[c as usize] = self.groups.len() as u32;
+        self.live.remove(c);
         Ok(())
     }
 
@@ -215,6 +293,7 @@ impl Flood {
     fn finish(&mut self, alloc: Global, kind: Kind) -> Result<(), AllocError>
         ensures groups { IfOk result (λ _. self.new.groups ≡ self.old.groups ++ record { kind = kind; items = self.old.done } ∷ []) }
         ensures done { IfOk result (λ _. self.new.done ≡ []) }
+        ensures live { IfOk result (λ _. self.new.live ≡ self.old.live) }
         ensures lead { IfOk result (λ _. self.new.lead ≡ self.old.lead) }
         ensures stack { IfOk result (λ _. self.new.stack ≡ self.old.stack) }
     {
@@ -256,7 +335,7 @@ pub(crate) fn groups_of(alloc: Global, comps: &[Comp]) -> Result<Flood, AllocErr
 {
     let mut flood = Flood::new(alloc, comps.len())?;
     for c in 0..comps.len() as u32 {
-        if group_of(&flood.lead, c) == NO_GROUP {
+        if flood.is_live(c) {
             flood.add_group(alloc, comps, c)?;
         }
     }

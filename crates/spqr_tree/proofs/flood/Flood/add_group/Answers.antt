@@ -6,7 +6,7 @@ use Rattle.spqr_tree.proofs.flood.Flood.add_group.Goals as goal
 
 -- the group is finished
 pub returns-clause-resting : goal.returns-clause-resting
-returns-clause-resting c = finished-rests c.args.comps.now c.requires.split (slice_index_or c.args.comps.now c.args.c c.index-comps-c.result).kind c.explore.new.self c.in_ok-explore.ensures.flooding c.in_ok-explore.ensures.empty c.finish.new.self c.in_ok-finish.ensures.groups c.in_ok-finish.ensures.done c.in_ok-finish.ensures.lead c.in_ok-finish.ensures.stack
+returns-clause-resting c = finished-rests c.args.comps.now c.requires.split (slice_index_or c.args.comps.now c.args.c c.index-comps-c.result).kind c.explore.new.self c.in_ok-explore.ensures.flooding c.in_ok-explore.ensures.empty c.finish.new.self c.in_ok-finish.ensures.groups c.in_ok-finish.ensures.done c.in_ok-finish.ensures.live c.in_ok-finish.ensures.lead c.in_ok-finish.ensures.stack
 
 -- one group more
 pub returns-clause-number : goal.returns-clause-number

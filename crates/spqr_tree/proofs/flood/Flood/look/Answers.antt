@@ -1,4 +1,4 @@
-use Rattle.std.proofs.Common.{◌∙◌, sym, subst}
+use Rattle.std.proofs.Common.{◌<◌, ◌∙◌, sym, subst}
 use Rattle.std.proofs.lemmas.Bool.{true≢false}
 use Rattle.spqr_tree.specs.Flood.{IsAbsorbed, IsFlooding}
 use Rattle.spqr_tree.proofs.FloodSteps.{same-link, link-within, taken-floods, taken-falls, done-floods}
@@ -6,8 +6,17 @@ use Rattle.spqr_tree.proofs.flood.Flood.look.Goals as goal
 use Rattle.spqr_tree.proofs.flood.Flood.look.Goals.{in-Link+else-is_absorbed, in_default}
 
 -- a link leads to a component
-pub is_absorbed-requires : goal.is_absorbed-requires
-is_absorbed-requires c = link-within c.args.comps.now c.requires.split c.args.kind c.args.self.now c.args.piece c.requires.flooding c.in-Link.d c.in-Link.is
+pub is_absorbed-requires-clause-within : goal.is_absorbed-requires-clause-within
+is_absorbed-requires-clause-within c = link-within c.args.comps.now c.requires.split c.args.kind c.args.self.now c.args.piece c.requires.flooding c.in-Link.d c.in-Link.is
+
+pub is_absorbed-requires-clause-place : goal.is_absorbed-requires-clause-place
+is_absorbed-requires-clause-place c = subst (λ z. c.in-Link.d < z) (sym c.requires.flooding.places) (link-within c.args.comps.now c.requires.split c.args.kind c.args.self.now c.args.piece c.requires.flooding c.in-Link.d c.in-Link.is)
+
+pub absorb-requires-clause-within : goal.absorb-requires-clause-within
+absorb-requires-clause-within c = link-within c.args.comps.now c.requires.split c.args.kind c.args.self.now c.args.piece c.requires.flooding c.in-Link.d c.in-Link.is
+
+pub absorb-requires-clause-place : goal.absorb-requires-clause-place
+absorb-requires-clause-place c = subst (λ z. c.in-Link.d < z) (sym c.requires.flooding.places) (link-within c.args.comps.now c.requires.split c.args.kind c.args.self.now c.args.piece c.requires.flooding c.in-Link.d c.in-Link.is)
 
 -- a component is taken into the group in work
 pub returns-then-is_absorbed-clause-flooding : goal.returns-then-is_absorbed-clause-flooding
