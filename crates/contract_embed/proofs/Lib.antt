@@ -17,3 +17,5 @@ mod ArcsTold
 mod Alternating
 mod Tripled
 mod Segments
+mod Rotations
+mod Obstructed

@@ -11,3 +11,4 @@ pub mod Crossing
 pub mod Triple
 pub mod Pieces
 pub mod Answer
+pub mod Obstruction

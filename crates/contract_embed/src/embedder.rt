@@ -1,0 +1,84 @@
+// The embedder: down by contractions to four vertices, and up again.
+
+ghost use Rattle.std.specs.Prelude.{IfOk};
+ghost use Rattle.graph_theory.specs.Triconnected.{IsTriconnected};
+ghost use Rattle.planarity.specs.Embedding.{IsEmbedding};
+ghost use Rattle.contract_embed.specs.Level.{IsLevel, IsChain, contraction};
+ghost use Rattle.contract_embed.specs.Answer.{IsAnswer};
+ghost use Rattle.contract_embed.specs.Steps.{ArePlaneSteps};
+
+use crate::answers::{Answer, embedded, expanded};
+use crate::descending::{Descent, descend};
+use crate::level::Level;
+use crate::lifting::lift;
+use crate::obstructing::obstruct;
+use crate::tetrahedron::tetrahedron_steps;
+use multigraph::Graph;
+use planarity::{Embedded, Embedder};
+use std::alloc::{AllocError, Global};
+
+// The answer for a contraction, given the steps of a plane rotation system.
+fn climb_plane(alloc: Global, level: &Level, next: &[u32]) -> Result<Answer, AllocError>
+    requires level { IsLevel level.now }
+    requires steps { ArePlaneSteps (contraction level.now) next.now }
+    ensures { IfOk result (IsAnswer level.now.graph) }
+{
+    let found = expanded(alloc, level, next)?;
+    match found {
+        Some(wide) => Ok(Answer::Plane(wide)),
+        None => {
+            let s = obstruct(alloc, level, next)?;
+            Ok(Answer::Not(s))
+        }
+    }
+}
+
+// The answer for the graph, from that for its contraction.
+fn climb(alloc: Global, level: &Level, answer: Answer) -> Result<Answer, AllocError>
+    requires level { IsLevel level.now }
+    requires answer { IsAnswer (contraction level.now) answer }
+    ensures { IfOk result (IsAnswer level.now.graph) }
+{
+    match answer {
+        Answer::Plane(next) => climb_plane(alloc, level, &next),
+        Answer::Not(s) => {
+            let lifted = lift(alloc, level, &s)?;
+            Ok(Answer::Not(lifted))
+        }
+    }
+}
+
+// The answer for the first graph, from that for the last.
+fn ascend(
+    alloc: Global,
+    g: &Graph,
+    bottom: &Graph,
+    mut levels: Vec<Level>,
+    answer: Answer,
+) -> Result<Answer, AllocError>
+    requires chain { IsChain g.now levels.items bottom.now }
+    requires answer { IsAnswer bottom.now answer }
+    ensures { IfOk result (IsAnswer g.now) }
+{
+    let mut known = answer;
+    'up: while let Some(level) = levels.pop() {
+        known = climb(alloc, &level, known)?;
+    }
+    Ok(known)
+}
+
+/// An embedder of triconnected graphs by contraction.
+///
+/// Edges are contracted until four vertices are left; of each graph on the way up the answer is got from that for its
+/// contraction. Its time grows with the fourth power of the number of vertices or so: it is meant to be plain.
+#[derive(Debug, Drop)]
+pub struct ContractEmbedder;
+
+impl Embedder for ContractEmbedder {
+    fn embed(&mut self, alloc: Global, g: &Graph) -> Result<Embedded, AllocError> {
+        let Descent { levels, bottom } = descend(alloc, g)?;
+        let steps = tetrahedron_steps(alloc, &bottom)?;
+        let answer = ascend(alloc, g, &bottom, levels, Answer::Plane(steps))?;
+        embedded(alloc, g, answer)
+    }
+}
