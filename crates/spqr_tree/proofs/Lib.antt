@@ -35,3 +35,4 @@ pub mod OrderCode
 pub mod KeysRooted
 pub mod KeyedItems
 pub mod NodesMade
+pub mod Climbing

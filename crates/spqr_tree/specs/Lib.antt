@@ -4,3 +4,4 @@ pub mod Flood
 pub mod Ranking
 pub mod Assembly
 pub mod Keys
+pub mod Grouping

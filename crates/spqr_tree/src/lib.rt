@@ -4,6 +4,7 @@
 mod arranging;
 mod assembly;
 mod flood;
+mod grouping;
 mod keys;
 mod lists;
 mod naming;
