@@ -6,3 +6,4 @@ pub mod Complete
 pub mod Measures
 pub mod Numbered
 pub mod BlockParts
+pub mod BlockTrees

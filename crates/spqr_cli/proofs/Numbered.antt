@@ -1,6 +1,11 @@
 -- The lines of numbered things, one after another.
-use Rattle.std.proofs.Common.{◌≡◌, ℕ, ◌+◌, ◌<◌, List, [], ◌∷◌, ◌++◌, length, take, get_or, length-take-le, sym, ap, ◌∙◌, append_assoc, append-nil, add-one, arith}
+use Rattle.std.proofs.Common.{◌≡◌, ℕ, ◌+◌, ◌<◌, List, [], ◌∷◌, ◌++◌, length, map, take, get_or, length-take-le, sym, ap, ◌∙◌, append_assoc, append-nil, add-one, arith}
 use Rattle.std.proofs.Math.Seq.{take-suc}
+use Rattle.std.specs.List.{concat}
+use Rattle.std.proofs.lemmas.List.{map-append}
+use Rattle.std.proofs.lemmas.List.Folds.{concat-append}
+use Rattle.multigraph.specs.Graph.{numbers_below}
+use Rattle.multigraph.proofs.Below.{numbers_below-more}
 use Rattle.spqr_cli.specs.Report.{numbered}
 
 module _ {X : Type 0} (line : ℕ → X → List ℕ) where
@@ -16,3 +21,9 @@ module _ {X : Type 0} (line : ℕ → X → List ℕ) where
   numbered-take xs i x h e =
       ap (numbered line 0) (rw add-one (take-suc xs i x h) ∙ ap (λ (y : X). take i xs ++ y ∷ []) e) ∙ numbered-more 0 (take i xs) x
       ∙ ap (λ (k : ℕ). numbered line 0 (take i xs) ++ line k x) (let l : length (take i xs) ≡ i = length-take-le i xs (omega arith) in let m : 0 + length (take i xs) ≡ i = omega arith in m)
+
+-- the text of one number more
+pub below-more : (f : ℕ → List ℕ) (k : ℕ) → concat (map f (numbers_below (k + 1))) ≡ concat (map f (numbers_below k)) ++ f k
+below-more f k =
+    ap (λ (l : List ℕ). concat (map f l)) (numbers_below-more k) ∙ ap concat (map-append f (numbers_below k) (k ∷ [])) ∙ concat-append (map f (numbers_below k)) (f k ∷ [])
+    ∙ ap (λ l. concat (map f (numbers_below k)) ++ l) (append-nil (f k))

@@ -12,6 +12,7 @@ use Rattle.gml_graph.specs.declared.fault.GraphFault.TheVariants.{Memory as Grap
 use Rattle.spqr_script.specs.Script.{Commands, IsFirstBadLine}
 use Rattle.spqr_script.specs.declared.command.Command.{Command}
 use Rattle.spqr_edge.specs.Device.{Files, contents}
+use Rattle.spqr_cli.specs.Trees.{BlockTree, AreBlockTrees}
 use Rattle.spqr_cli.specs.Words.{Names, form_of}
 use Rattle.spqr_cli.specs.Reading.{IsTooLong}
 use Rattle.spqr_cli.specs.declared.refusal.Refusal.{Refusal}
@@ -28,11 +29,12 @@ graph_limit = 16777216
 abbrev pub script_limit : ℕ
 script_limit = 1048576
 
--- what the two files say: the document, its graph with the blocks, and the commands
+-- what the two files say: the document, its graph with the blocks and their trees, and the commands
 pub record Work : Type 0 where
   pub document : Document
   pub named : NamedGraph
   pub structure : BlockStructure
+  pub trees : List BlockTree
   pub commands : List Command
 
 -- the bytes of a graph file: within the limit, they spell a document, which has a graph
@@ -64,10 +66,12 @@ pub record IsAccepted (words : List (List ℕ)) (files : Files) : Type 0 where
   pub graph : AcceptsGraph (contents files names.graph)
   pub script : AcceptsScript (contents files names.script)
 
--- the work is what the two files of these names say, with the blocks, cut vertices and components of the graph
+-- the work is what the two files of these names say, with the blocks, cut vertices and components of the graph, and the
+-- tree of each block
 pub record IsWork (files : Files) (names : Names) (work : Work) : Type 0 where
   pub graph : SayGraph (contents files names.graph) work.document work.named
   pub structure : IsBlockStructure work.named.graph work.structure
+  pub trees : AreBlockTrees work.named.graph work.structure.blocks work.trees
   pub script : SayCommands (contents files names.script) work.commands
 
 -- why bytes are no document; want of memory is no reason

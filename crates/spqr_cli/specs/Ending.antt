@@ -37,7 +37,7 @@ refusal_text (OfScript (Line line)) = script_text line
 
 -- the text of a decision: the report, or the line of the refusal
 abbrev pub text_of : Decision → List ℕ
-text_of (Ok work) = report_text work.document work.named work.structure work.commands
+text_of (Ok work) = report_text work.document work.named work.structure work.trees work.commands
 text_of (Err refusal) = refusal_text refusal
 
 -- the status for a file that was not read
@@ -128,7 +128,7 @@ pub record IsDecided (words : List (List ℕ)) (told : Option Files) (opens_befo
 
 -- the decision that a call answers, where memory suffices: the work on what was accepted, or the refusal
 abbrev pub work_of : Accepted → Work
-work_of accepted = record { document = accepted.session.doc; named = accepted.session.named; structure = accepted.session.blocks; commands = accepted.commands.items }
+work_of accepted = record { document = accepted.session.doc; named = accepted.session.named; structure = accepted.session.blocks; trees = accepted.session.trees.items; commands = accepted.commands.items }
 
 abbrev pub OnDecision : Result Accepted (Halt Refusal) → (Decision → Type 0) → Type 0
 OnDecision (Ok accepted) P = P (Ok (work_of accepted))

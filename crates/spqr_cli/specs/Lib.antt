@@ -4,6 +4,7 @@ pub mod Front
 pub mod Reading
 pub mod Words
 pub mod Measure
+pub mod Trees
 pub mod Report
 pub mod Decision
 pub mod Ending

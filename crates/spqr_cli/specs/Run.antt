@@ -17,7 +17,7 @@ use Rattle.spqr_cli.specs.declared.status.Status.TheVariants.{Done, Usage, ReadF
 
 -- the texts of a report, in order
 abbrev pub texts_of : Work → List (List ℕ)
-texts_of work = report_texts work.document work.named work.structure work.commands
+texts_of work = report_texts work.document work.named work.structure work.trees work.commands
 
 -- texts were written one after another: all of them; a front, where a put failed; the first of them, where memory ran out
 abbrev pub WritesTexts : {T : Type 0} → Option (List ℕ) → Option (List ℕ) → List (List ℕ) → Result T (Halt Failed) → Type 0
@@ -68,7 +68,7 @@ Ends words told opens_before opens_after faults_before faults_after before now s
 pub record WritesReport (words : List (List ℕ)) (files : Files) (before now : Option (List ℕ)) : Type 0 where
   pub work : Work
   pub due : IsDue words files (Ok work)
-  pub written : Appends before now (report_text work.document work.named work.structure work.commands)
+  pub written : Appends before now (report_text work.document work.named work.structure work.trees work.commands)
 
 -- a fact for the status Done
 abbrev pub OnDone : Status → Type 0 → Type 0

@@ -1,22 +1,27 @@
 // The head of the report, and the answer about lists of edges.
 ghost use Rattle.std.specs.Prelude.{◌≡◌, ◌≤◌, ◌++◌, Ok, Err, IfOk, OnOk, length, map};
 ghost use Rattle.std.specs.List.{concat};
-ghost use Rattle.multigraph.specs.Graph.{max_vertices};
+ghost use Rattle.multigraph.specs.Graph.{Multigraph, max_vertices, IsGraph};
+ghost use Rattle.pair_split.specs.Tutte.{IsTutte};
 ghost use Rattle.rotations.specs.Rotation.{IsRotationSystem};
 ghost use Rattle.spqr_script.specs.Answer.{euler_text};
-ghost use Rattle.spqr_script.specs.Head.{vertex_text, cut_text, block_text};
+ghost use Rattle.spqr_script.specs.Head.{vertex_text, cut_text};
 ghost use Rattle.spqr_cli.specs.Outcome.{Answers};
-ghost use Rattle.spqr_cli.specs.Report.{head_text, numbered, measured_text};
+ghost use Rattle.spqr_cli.specs.Trees.{AreBlockTrees};
+ghost use Rattle.spqr_cli.specs.Report.{head_text, nodes_text, tree_text, numbered, measured_text};
 ghost use Rattle.spqr_cli.specs.Measure.{rotation_of_lists, euler_numbers};
 
 use crate::halt::Halt;
+use crate::trees::PartTree;
 use blocks::Blocks;
 use gml_graph::Named;
-use multigraph::Graph;
+use multigraph::{Graph, Part};
 use rotations::{Lists, RotFault, Rotation};
 use spqr_script::{
-    error_line, euler_line, graph_line, push_block_line, push_cut_line, push_vertex_line,
+    error_line, euler_line, graph_line, push_block_line, push_cut_line, push_node_line,
+    push_vertex_line,
 };
+use spqr_tree::Tree;
 use std::alloc::{AllocError, Global};
 
 // Puts the lines of the vertices behind a text.
@@ -40,25 +45,47 @@ fn push_cuts(out: &mut Vec<u8>, cut_vertices: &[u32]) -> Result<(), AllocError>
     Ok(())
 }
 
-// Puts the lines of the blocks behind a text.
-fn push_blocks(out: &mut Vec<u8>, blocks: &Blocks) -> Result<(), AllocError>
-    ensures { OnOk result (out.new.items ≡ out.old.items ++ numbered block_text 0 blocks.now.blocks) }
+// Puts the lines of the tree of a part behind a text.
+fn push_nodes(out: &mut Vec<u8>, part: &Part, tree: &Tree) -> Result<(), AllocError>
+    requires graph { IsGraph part.now.graph }
+    requires nodes { IsTutte part.now.graph tree.now }
+    ensures { OnOk result (out.new.items ≡ out.old.items ++ nodes_text part.now tree.now) }
 {
-    for b in 0..blocks.block_count() {
-        push_block_line(out, b, blocks.edges(b))?;
+    for k in 0..tree.node_count() {
+        push_node_line(out, part, tree, k)?;
     }
     Ok(())
 }
 
-/// The head: the line of the graph, then a line for each vertex, for each cut vertex and for each block, rising.
-pub fn head_of(alloc: Global, named: &Named, blocks: &Blocks) -> Result<Vec<u8>, AllocError>
-    ensures { IfOk result (λ text. text.items ≡ head_text named.now blocks.now) }
+// Puts the lines of the blocks and of their trees behind a text.
+fn push_trees(out: &mut Vec<u8>, blocks: &Blocks, trees: &[PartTree]) -> Result<(), AllocError>
+    requires { (g : Multigraph) × AreBlockTrees g blocks.now.blocks trees.now }
+    ensures { OnOk result (out.new.items ≡ out.old.items ++ numbered tree_text 0 trees.now) }
+{
+    for b in 0..blocks.block_count() {
+        push_block_line(out, b, blocks.edges(b))?;
+        let t = &trees[b as usize];
+        push_nodes(out, t.part(), t.tree())?;
+    }
+    Ok(())
+}
+
+/// The head: the line of the graph, then a line for each vertex, for each cut vertex and for each block with the nodes of its
+/// tree, rising.
+pub fn head_of(
+    alloc: Global,
+    named: &Named,
+    blocks: &Blocks,
+    trees: &[PartTree],
+) -> Result<Vec<u8>, AllocError>
+    requires { AreBlockTrees named.now.graph blocks.now.blocks trees.now }
+    ensures { IfOk result (λ text. text.items ≡ head_text named.now blocks.now trees.now) }
 {
     let graph = named.graph();
     let mut out = graph_line(alloc, graph.vertex_count(), graph.edge_count())?;
     push_vertices(&mut out, named.ids())?;
     push_cuts(&mut out, blocks.cut_vertices())?;
-    push_blocks(&mut out, blocks)?;
+    push_trees(&mut out, blocks, trees)?;
     Ok(out)
 }
 

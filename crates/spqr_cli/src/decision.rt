@@ -3,6 +3,7 @@ ghost use Rattle.std.specs.Prelude.{◌≡◌, ◌≤◌, IfSome, ⊤, length, m
 ghost use Rattle.blocks.specs.Blocks.{IsBlockStructure};
 ghost use Rattle.spqr_edge.specs.Device.{CountsCall, contents};
 ghost use Rattle.spqr_cli.specs.Outcome.{Answers};
+ghost use Rattle.spqr_cli.specs.Trees.{AreBlockTrees};
 ghost use Rattle.spqr_cli.specs.Decision.{graph_limit, SayGraph, SayCommands, IsGraphReason, IsScriptReason, HasLine};
 ghost use Rattle.spqr_cli.specs.Ending.{refusal_status, graph_status, script_status, CountsFaults, IsDecided, OnDecision};
 
@@ -12,6 +13,7 @@ use crate::refusal::{GraphRefusal, Refusal, ScriptRefusal};
 use crate::session::Session;
 use crate::stages::{commands_of, document_of, graph_of};
 use crate::words::form_of;
+use pair_split::PairSplitter;
 use spqr_edge::Shelf;
 use spqr_script::Command;
 use std::alloc::Global;
@@ -34,6 +36,7 @@ fn session_on(alloc: Global, bytes: &[u8]) -> Result<Session, Halt<GraphRefusal>
     requires { length bytes.now ≤ graph_limit }
     ensures said { Answers result (λ s. SayGraph bytes.now s.doc s.named) (λ r. IsGraphReason bytes.now r × HasLine r) }
     ensures blocks { Answers result (λ s. IsBlockStructure s.named.graph s.blocks) (λ _. ⊤) }
+    ensures trees { Answers result (λ s. AreBlockTrees s.named.graph s.blocks.blocks s.trees.items) (λ _. ⊤) }
     ensures faults { CountsFaults graph_status 0 0 result }
 {
     let doc = match document_of(alloc, bytes) {
@@ -42,7 +45,7 @@ fn session_on(alloc: Global, bytes: &[u8]) -> Result<Session, Halt<GraphRefusal>
         Err(Halt::Memory) => return Err(Halt::Memory),
     };
     match graph_of(alloc, &doc) {
-        Ok(named) => Ok(Session::start(alloc, doc, named)?),
+        Ok(named) => Ok(Session::start(alloc, doc, named, &mut PairSplitter::new())?),
         Err(Halt::Refused(fault)) => Err(Halt::Refused(GraphRefusal::Rule(fault))),
         Err(Halt::Memory) => Err(Halt::Memory),
     }
@@ -58,6 +61,7 @@ fn accept_graph<S: Shelf>(
         (λ s. SayGraph (contents files name.now) s.doc s.named) (IsGraphReason (contents files name.now))) }
     ensures line { Answers result (λ _. ⊤) HasLine }
     ensures blocks { Answers result (λ s. IsBlockStructure s.named.graph s.blocks) (λ _. ⊤) }
+    ensures trees { Answers result (λ s. AreBlockTrees s.named.graph s.blocks.blocks s.trees.items) (λ _. ⊤) }
     ensures files { S.files shelf.new ≡ S.files shelf.old }
     ensures opens { CountsCall (S.opens shelf.old) (S.opens shelf.new) }
     ensures faults { CountsFaults graph_status (S.faults shelf.old) (S.faults shelf.new) result }
@@ -102,6 +106,7 @@ pub fn decide<S: Shelf>(
     ensures decided { OnDecision result
         (IsDecided (map string_bytes words.now) (S.files shelf.old) (S.opens shelf.old) (S.opens shelf.new)
         (S.faults shelf.old) (S.faults shelf.new)) }
+    ensures trees { Answers result (λ a. AreBlockTrees a.session.named.graph a.session.blocks.blocks a.session.trees.items) (λ _. ⊤) }
     ensures faults { CountsFaults refusal_status (S.faults shelf.old) (S.faults shelf.new) result }
 {
     let Some(form) = form_of(words) else {

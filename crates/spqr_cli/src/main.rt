@@ -24,6 +24,7 @@ mod stages;
 mod status;
 #[cfg(test)]
 mod tests;
+mod trees;
 mod words;
 mod writing;
 

@@ -1,6 +1,7 @@
 // The whole run, from the words to the status.
 ghost use Rattle.std.specs.Prelude.{◌<◌, IfSome, Err, map, string_bytes};
 ghost use Rattle.spqr_edge.specs.Device.{counted};
+ghost use Rattle.spqr_cli.specs.Trees.{AreBlockTrees};
 ghost use Rattle.spqr_cli.specs.Report.{report_texts, answer_text};
 ghost use Rattle.spqr_cli.specs.Decision.{IsAccepted, DecisionHasLine};
 ghost use Rattle.spqr_cli.specs.Run.{WritesTexts, CountsPut, RefusesWith, Ends, WritesReport, OnDone, FitsWords, CountsReads, CountsPuts, IsDoneOrMemory};
@@ -40,8 +41,9 @@ fn write_report<K: Sink>(
     accepted: Accepted,
     sink: &mut K,
 ) -> Result<(), Halt<Failed>>
+    requires { AreBlockTrees accepted.session.named.graph accepted.session.blocks.blocks accepted.session.trees.items }
     ensures texts { WritesTexts (K.written sink.old) (K.written sink.new)
-        (report_texts accepted.session.doc accepted.session.named accepted.session.blocks accepted.commands.items) result }
+        (report_texts accepted.session.doc accepted.session.named accepted.session.blocks accepted.session.trees.items accepted.commands.items) result }
     ensures faults { CountsPut (K.faults sink.old) (K.faults sink.new) result }
 {
     let Accepted {
