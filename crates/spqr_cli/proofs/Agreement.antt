@@ -109,8 +109,9 @@ no_refusal one words files (OfGraph r) a q n =
 no_refusal one words files (OfScript r) a q n =
     script_apart _ _ r (subst (λ (x : Names). SayCommands (contents files x.script) a.script.commands) (one_form words a.names q.0 a.form q.1) a.script.says) q.3 n
 
--- two works that are due are the same
-pub one_work : OneDocument → (words : List (List ℕ)) (files : Files) (a b : Work) → IsDue words files (Ok a) → IsDue words files (Ok b) → a ≡ b
+-- two works that are due are the same but for the trees
+pub one_work : OneDocument → (words : List (List ℕ)) (files : Files) (a b : Work) → IsDue words files (Ok a) → IsDue words files (Ok b)
+    → (a.document ≡ b.document) × (a.named ≡ b.named) × (a.structure ≡ b.structure) × (a.commands ≡ b.commands)
 one_work one words files a b p q =
     let names : p.0 ≡ q.0 = one_form words p.0 q.0 p.1 q.1 in
     let graph : SayGraph (contents files q.0.graph) a.document a.named = subst (λ (x : Names). SayGraph (contents files x.graph) a.document a.named) names p.2.graph in
@@ -120,4 +121,4 @@ one_work one words files a b p q =
     let named : a.named ≡ b.named = cc in
     let structure : a.structure ≡ b.structure = one-structure b.named.graph a.structure b.structure (subst (λ (x : NamedGraph). IsBlockStructure x.graph a.structure) named p.2.structure) q.2.structure in
     let commands : a.commands ≡ b.commands = one_reading (contents files q.0.script) a.commands b.commands script.spelled q.2.script.spelled in
-    λ i. record { document = document i; named = named i; structure = structure i; commands = commands i }
+    (document, named, structure, commands)

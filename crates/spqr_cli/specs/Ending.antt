@@ -91,9 +91,12 @@ OneStatus =
     (words : List (List ℕ)) (files : Files) (a b : Decision) → IsDue words files a → IsDue words files b
     → status_of a ≢ ReadFault → status_of b ≢ ReadFault → status_of a ≡ status_of b
 
--- works that are due for the same words and files are the same, so one report is due
+-- works that are due for the same words and files are the same but for the trees, so one report is due but for the lines of
+-- the nodes
 abbrev pub OneWork : Type 0
-OneWork = (words : List (List ℕ)) (files : Files) (a b : Work) → IsDue words files (Ok a) → IsDue words files (Ok b) → a ≡ b
+OneWork =
+    (words : List (List ℕ)) (files : Files) (a b : Work) → IsDue words files (Ok a) → IsDue words files (Ok b)
+    → (a.document ≡ b.document) × (a.named ≡ b.named) × (a.structure ≡ b.structure) × (a.commands ≡ b.commands)
 
 -- where the words and both files are accepted, no refusal is due, a read that failed aside
 abbrev pub NoRefusal : Type 0

@@ -5,7 +5,8 @@ ghost use Rattle.spqr_cli.specs.Run.{CountsReads, CountsPuts};
 ghost use Rattle.spqr_cli.specs.declared.status.Status.{Status};
 
 /// Decisions that are due for the same words and files have one status, a read that failed aside. So each status of a run comes
-/// exactly where it is due. Where the words and both files are accepted, no refusal is due. And one report at most is due.
+/// exactly where it is due. Where the words and both files are accepted, no refusal is due. And works
+/// that are due are the same but for the trees.
 pub fn decisions()
     ensures status { OneStatus }
     ensures accepted { NoRefusal }
