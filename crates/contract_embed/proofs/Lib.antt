@@ -19,3 +19,4 @@ mod Tripled
 mod Segments
 mod Rotations
 mod Obstructed
+mod PairsRemoved

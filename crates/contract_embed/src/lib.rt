@@ -19,7 +19,11 @@ mod pieces;
 mod rounds;
 mod runs;
 mod steps;
+#[cfg(test)]
+mod tests;
 mod tetrahedron;
+#[cfg(test)]
+mod triconnected;
 mod triple;
 
 pub use embedder::ContractEmbedder;
