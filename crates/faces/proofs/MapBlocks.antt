@@ -14,7 +14,7 @@ use Rattle.multigraph.specs.Graph.{Multigraph, IsGraph, edge_count, is_end, othe
 use Rattle.rotations.specs.Rotation.{order_at, IsRotationSystem}
 use Rattle.rotations.proofs.Membership.{member-edge, member-end}
 use Rattle.graph_theory.specs.Path.{walk_starts, IsWalk, IsCycle}
-use Rattle.graph_theory.specs.Block.{CommonCycle, SameBlock}
+use Rattle.graph_theory.specs.Block.{CommonCycle, SameBlock, EdgesShareBlock}
 use Rattle.graph_theory.proofs.Ends.{end-cases}
 use Rattle.graph_theory.proofs.Walks.{edge-met, met-cases}
 use Rattle.graph_theory.proofs.Cycles.{BegunAt, cycle_from}
@@ -24,7 +24,7 @@ use Rattle.dart_maps.proofs.Darts.{twin-below, twin-edge}
 use Rattle.dart_maps.proofs.Components.{component-equivalence, component-next, component-twin}
 use Rattle.dart_maps.proofs.FourDarts.{frozen-elsewhere}
 use Rattle.faces.specs.Euler.{tail, dart_from, dart_count, face_step, IsPlane}
-use Rattle.faces.specs.Maps.{dart_after, dart_before, IsOneBlock}
+use Rattle.faces.specs.Maps.{dart_after, dart_before}
 use Rattle.faces.proofs.DartLemmas.{dart-edge, tail-end, dart_from-edge, dart_from-below, dart_from-tail, dart_from-of_dart, order-distinct, member-incident, face_back, face_step-permutes}
 use Rattle.faces.proofs.MapSteps.{tail-in, tail-twin, map-face, map-permutes, after-dart_from}
 use Rattle.faces.proofs.MapVertices.{vertex-tail, tail-vertex, tail-order}
@@ -155,7 +155,7 @@ module _ (g : Multigraph) (r : List (List ℕ)) (ok : IsGraph g) (s : IsRotation
       by_edges (inr w) = on w (begun w)
 
 -- so in a plane rotation system of one block no two darts of one face leave one vertex
-pub block-one_face : (g : Multigraph) (r : List (List ℕ)) → IsGraph g → IsRotationSystem g r → IsPlane g r → IsOneBlock g → (c d : ℕ) → c < dart_count g → d < dart_count g
+pub block-one_face : (g : Multigraph) (r : List (List ℕ)) → IsGraph g → IsRotationSystem g r → IsPlane g r → EdgesShareBlock g → (c d : ℕ) → c < dart_count g → d < dart_count g
     → same_orbit (dart_count g) (face (dart_after g r)) c d ≡ true → tail g c ≡ tail g d → c ≡ d
 block-one_face g r ok s plane block c d l k t e = elim (cases_eq c d) [
   | inl q ↦ q
@@ -166,7 +166,7 @@ block-one_face g r ok s plane block c d l k t e = elim (cases_eq c d) [
 ]
 
 -- each face passes each vertex at most once
-pub block-face_once : (g : Multigraph) (r : List (List ℕ)) → IsGraph g → IsRotationSystem g r → IsPlane g r → IsOneBlock g → (c d : ℕ) → c < dart_count g → d < dart_count g
+pub block-face_once : (g : Multigraph) (r : List (List ℕ)) → IsGraph g → IsRotationSystem g r → IsPlane g r → EdgesShareBlock g → (c d : ℕ) → c < dart_count g → d < dart_count g
     → reaches (dart_count g) (face_step g r) c d ≡ true → tail g c ≡ tail g d → c ≡ d
 block-face_once g r ok s plane block c d l k t e = block-one_face g r ok s plane block c d l k
     (orbit-ext (dart_count g) (face (dart_after g r)) (face_step g r) (λ x j. map-face g r x ok j) c d ∙ orbit-reaches (dart_count g) (face_step g r) (face_back g r) (face_step-permutes g r ok s) c d l ∙ t)

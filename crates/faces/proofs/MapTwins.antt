@@ -13,13 +13,13 @@ use Rattle.multigraph.specs.Graph.{Multigraph, IsGraph, edge_count, is_end, othe
 use Rattle.multigraph.proofs.OtherEnd.{other_end-is_end}
 use Rattle.rotations.specs.Rotation.{order_at, IsRotationSystem}
 use Rattle.graph_theory.specs.Path.{walk_end, IsCycle}
-use Rattle.graph_theory.specs.Block.{CommonCycle, SameBlock}
+use Rattle.graph_theory.specs.Block.{CommonCycle, SameBlock, EdgesShareBlock}
 use Rattle.graph_theory.proofs.Walks.{walk-edge}
 use Rattle.graph_theory.proofs.Cycles.{BegunAt, cycle_from}
 use Rattle.dart_maps.specs.Map.{twin, face}
 use Rattle.dart_maps.proofs.Darts.{twin-below}
 use Rattle.faces.specs.Euler.{tail, dart_count, face_step, IsPlane}
-use Rattle.faces.specs.Maps.{dart_after, IsOneBlock}
+use Rattle.faces.specs.Maps.{dart_after}
 use Rattle.faces.proofs.DartLemmas.{dart-edge, tail-end, order-distinct, order-member, face_back, face_step-permutes}
 use Rattle.faces.proofs.MapSteps.{tail-in, map-face, after-tail, after-edge, map-permutes}
 use Rattle.faces.proofs.MapBlocks.{cycle-some, cycle-meets, block-one_face}
@@ -45,7 +45,7 @@ cycle-other_edge g v (h ∷ k ∷ ks) e c = elim (cases_eq h e) [
 ]
 
 -- in a block of two edges or more each edge has another one at each of its ends
-block-other_edge : (g : Multigraph) → IsOneBlock g → 2 ≤ edge_count g → (v e : ℕ) → e < edge_count g → is_end g v e ≡ true → (f : ℕ) × (f < edge_count g) × (is_end g v f ≡ true) × (f ≢ e)
+block-other_edge : (g : Multigraph) → EdgesShareBlock g → 2 ≤ edge_count g → (v e : ℕ) → e < edge_count g → is_end g v e ≡ true → (f : ℕ) × (f < edge_count g) × (is_end g v f ≡ true) × (f ≢ e)
 block-other_edge g block n v e l h = elim (cases_eq e 0) [
   | inl z ↦ found 1 (block e 1 l (omega (arith, n))) (λ q. omega (arith, z, q))
   | inr z ↦ found 0 (block e 0 l (omega (arith, n))) (λ q. z q)
@@ -59,7 +59,7 @@ block-other_edge g block n v e l h = elim (cases_eq e 0) [
     found o (inr w) k = on o w (cycle_from g w.start w.along v w.cycle (cycle-meets g w.start w.along e v w.cycle w.first_on h))
 
 -- so another edge follows it there
-block-moves : (g : Multigraph) (r : List (List ℕ)) → IsGraph g → IsRotationSystem g r → IsOneBlock g → 2 ≤ edge_count g → (d : ℕ) → d < dart_count g → dart_after g r d ≢ d
+block-moves : (g : Multigraph) (r : List (List ℕ)) → IsGraph g → IsRotationSystem g r → EdgesShareBlock g → 2 ≤ edge_count g → (d : ℕ) → d < dart_count g → dart_after g r d ≢ d
 block-moves g r ok s block n d l q = other.3 (eqb-true other.0 (d / 2) (chain-test (λ z. z == d / 2) (order_at r (tail g d)) (order-distinct g r (tail g d) s at) stays (d / 2) other.0
     (order-member g r (tail g d) (d / 2) s at (dart-edge g d l) (tail-end g d))
     (order-member g r (tail g d) other.0 s at other.1 other.2)
@@ -78,7 +78,7 @@ block-moves g r ok s block n d l q = other.3 (eqb-true other.0 (d / 2) (chain-te
     stays z m t = eq-eqb (successor (order_at r (tail g d)) z) (d / 2) (ap (successor (order_at r (tail g d))) (eqb-true z (d / 2) t) ∙ follows)
 
 -- in a plane rotation system of a block of two edges or more the two darts of an edge lie on different faces
-pub block-two_faces : (g : Multigraph) (r : List (List ℕ)) → IsGraph g → IsRotationSystem g r → IsPlane g r → IsOneBlock g → 2 ≤ edge_count g → (d : ℕ) → d < dart_count g → reaches (dart_count g) (face_step g r) d (twin d) ≡ false
+pub block-two_faces : (g : Multigraph) (r : List (List ℕ)) → IsGraph g → IsRotationSystem g r → IsPlane g r → EdgesShareBlock g → 2 ≤ edge_count g → (d : ℕ) → d < dart_count g → reaches (dart_count g) (face_step g r) d (twin d) ≡ false
 block-two_faces g r ok s plane block n d l = false_from_ne_true (reaches (dart_count g) (face_step g r) d (twin d)) (λ t.
     block-moves g r ok s block n (twin d) below
     (block-one_face g r ok s plane block (dart_after g r (twin d)) (twin d) ((map-permutes g r ok s).forth (twin d) below) below

@@ -8,7 +8,8 @@ use Rattle.rotations.specs.Rotation.{IsRotationSystem}
 use Rattle.dart_maps.specs.Map as maps
 use Rattle.faces.specs.Euler.{tail, dart_count, face_step, is_isolated, face_count, component_count, IsPlane}
 use Rattle.faces.specs.Subgraph.{IsSubgraph, IsRestriction}
-use Rattle.faces.specs.Maps.{dart_after, dart_before, IsPlaneMap, IsOneBlock, mirror_image}
+use Rattle.graph_theory.specs.Block.{EdgesShareBlock}
+use Rattle.faces.specs.Maps.{dart_after, dart_before, IsPlaneMap, mirror_image}
 
 -- Euler's inequality: for every rotation system of every graph, V + F is at most E + 2C
 abbrev pub EulersInequality : Type 0
@@ -67,9 +68,9 @@ MirrorKeepsPlane = (g : Multigraph) (r : List (List ℕ)) → IsGraph g → IsRo
 abbrev pub MirrorDiffers : Type 0
 MirrorDiffers = (g : Multigraph) (r : List (List ℕ)) → IsRotationSystem g r → (v : ℕ) → v < g.vertex_count → 3 ≤ length (incident_edges g v) → mirror_image r ≢ r
 
--- in a plane rotation system of a graph whose edges are one block each face passes each vertex at most once
+-- in a plane rotation system of a graph whose edges share a block each face passes each vertex at most once
 abbrev pub FacePassesOnce : Type 0
-FacePassesOnce = (g : Multigraph) (r : List (List ℕ)) → IsGraph g → IsRotationSystem g r → IsPlane g r → IsOneBlock g → (c d : ℕ) → c < dart_count g → d < dart_count g
+FacePassesOnce = (g : Multigraph) (r : List (List ℕ)) → IsGraph g → IsRotationSystem g r → IsPlane g r → EdgesShareBlock g → (c d : ℕ) → c < dart_count g → d < dart_count g
     → reaches (dart_count g) (face_step g r) c d ≡ true → tail g c ≡ tail g d → c ≡ d
 
 -- what a rotation system leaves of itself on a subgraph: there is such a rotation system of the subgraph
@@ -84,7 +85,7 @@ RestrictionKeepsPlane = (part g : Multigraph) (edge vertex : ℕ → ℕ) (outer
 
 -- with two edges or more the two darts of an edge lie on different faces
 abbrev pub EdgeOnTwoFaces : Type 0
-EdgeOnTwoFaces = (g : Multigraph) (r : List (List ℕ)) → IsGraph g → IsRotationSystem g r → IsPlane g r → IsOneBlock g → 2 ≤ edge_count g → (d : ℕ) → d < dart_count g
+EdgeOnTwoFaces = (g : Multigraph) (r : List (List ℕ)) → IsGraph g → IsRotationSystem g r → IsPlane g r → EdgesShareBlock g → 2 ≤ edge_count g → (d : ℕ) → d < dart_count g
     → reaches (dart_count g) (face_step g r) d (maps.twin d) ≡ false
 
 -- a map in which darts are of one vertex exactly where they leave one vertex of the graph is the map of a rotation system

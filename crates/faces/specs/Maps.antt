@@ -1,9 +1,8 @@
 -- A rotation system as a map of darts, and the mirror image of a rotation system.
-use Rattle.std.specs.Prelude.{ℕ, ◌/◌, ◌<◌, List, map, reverse}
+use Rattle.std.specs.Prelude.{ℕ, ◌/◌, List, map, reverse}
 use Rattle.permutations.specs.Cyclic.{successor, predecessor, from_least}
 use Rattle.multigraph.specs.Graph.{Multigraph, edge_count}
 use Rattle.rotations.specs.Rotation.{order_at}
-use Rattle.graph_theory.specs.Block.{SameBlock}
 use Rattle.dart_maps.specs.Map as maps
 use Rattle.faces.specs.Euler.{tail, dart_from}
 
@@ -22,7 +21,3 @@ IsPlaneMap g r = maps.IsPlane (edge_count g) (dart_after g r)
 -- the mirror image: each cyclic order is run through the other way, and written from its least edge on again
 abbrev pub mirror_image : List (List ℕ) → List (List ℕ)
 mirror_image r = map (λ order. from_least (reverse order)) r
-
--- the edges of the graph are one block: each two of them are in the same block
-abbrev pub IsOneBlock : Multigraph → Type 0
-IsOneBlock g = (e f : ℕ) → e < edge_count g → f < edge_count g → SameBlock g e f

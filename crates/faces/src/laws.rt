@@ -43,7 +43,7 @@ pub fn mirror_image()
     ensures differs { MirrorDiffers }
 {}
 
-/// The law that in a plane rotation system of a graph whose edges are one block each face passes each vertex at most once,
+/// The law that in a plane rotation system of a graph whose edges share a block each face passes each vertex at most once,
 /// and with two edges or more each edge lies on two faces.
 pub fn faces_of_block_are_simple()
     ensures once { FacePassesOnce }
