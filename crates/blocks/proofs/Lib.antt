@@ -20,3 +20,4 @@ mod Meeting
 mod Collected
 mod Rising
 pub mod OneStructure
+mod OneBlock

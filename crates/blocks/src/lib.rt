@@ -5,15 +5,20 @@
 // depth that its descendants' edges lead to, and where nothing leads past the parent of a vertex, the edge to the parent
 // begins a block (Tarjan 1972; Hopcroft and Tarjan 1973). This crate finds the blocks in linear time with a stack of its own.
 // It promises that they are exactly the classes of that equivalence, each once, in order of their least edges, that the cut
-// vertices are those with edges of two blocks, and that the components are the classes that edges connect.
+// vertices are those with edges of two blocks, and that the components are the classes that edges connect. `is_one_block`
+// tells whether a graph is one block.
 #![tactic(auto)]
 
 mod cuts;
 pub mod laws;
 mod lists;
 mod numbering;
+mod one_block;
 mod search;
 mod spread;
 mod structure;
+#[cfg(test)]
+mod tests;
 
+pub use one_block::is_one_block;
 pub use structure::{Blocks, split};

@@ -3,9 +3,9 @@ ghost use Rattle.std.specs.Prelude.{◌≡◌, ◌<◌, length, IfOk, slice_inde
 ghost use Rattle.blocks.specs.Blocks.{BlockStructure, IsBlockStructure, block_at};
 
 use crate::cuts::cut_vertices;
-use crate::lists::{EdgeList, places_of};
+use crate::lists::places_of;
 use crate::search::{Search, number_blocks, number_components};
-use multigraph::Graph;
+use multigraph::{Graph, Numbers};
 use std::alloc::{AllocError, Global};
 use std::marker::Model;
 
@@ -15,7 +15,7 @@ use std::marker::Model;
 /// edges, components by their least vertices.
 #[derive(Debug, Drop)]
 pub struct Blocks {
-    lists: Vec<EdgeList>,
+    lists: Vec<Numbers>,
     cut: Vec<u32>,
     total: u32,
     components: Vec<u32>,
@@ -87,121 +87,4 @@ pub fn split(alloc: Global, graph: &Graph) -> Result<Blocks, AllocError>
         total,
         components,
     })
-}
-
-#[cfg(test)]
-mod tests {
-    use super::*;
-    use std::test::Fail;
-
-    // The blocks of the multigraph of these ends, one after the other with a bar behind each, and then its cut vertices.
-    fn described(
-        rt: &HostRuntime,
-        vertices: u32,
-        ends: &[(u32, u32)],
-    ) -> Result<(Vec<u32>, Vec<u32>, u32), Fail> {
-        let Ok(graph) = Graph::build(rt.alloc(), vertices, ends) else {
-            return Err(Fail::from("no graph"));
-        };
-        let found = split(rt.alloc(), &graph)?;
-        let mut blocks = Vec::new(rt.alloc());
-        for b in 0..found.block_count() {
-            blocks.extend_from_slice(found.edges(b))?;
-            blocks.push(BAR)?;
-        }
-        let cut = Vec::from_slice(rt.alloc(), found.cut_vertices())?;
-        Ok((blocks, cut, found.component_count()))
-    }
-
-    const BAR: u32 = 99;
-
-    #[test]
-    fn worked_rows(rt: HostRuntime) -> Result<(), Fail> {
-        let rows: [(u32, &[(u32, u32)], &[u32], &[u32], u32); 8] = [
-            // no vertex, and vertices without edges
-            (0, &[], &[], &[], 0),
-            (2, &[], &[], &[], 2),
-            // one edge, and two parallel edges
-            (2, &[(0, 1)], &[0, BAR], &[], 1),
-            (2, &[(1, 0), (0, 1)], &[0, 1, BAR], &[], 1),
-            // two triangles, a tail and a lone vertex
-            (
-                7,
-                &[(0, 1), (1, 2), (0, 2), (0, 3), (3, 4), (0, 4), (4, 5)],
-                &[0, 1, 2, BAR, 3, 4, 5, BAR, 6, BAR],
-                &[0, 4],
-                2,
-            ),
-            // a path of three edges whose middle edge is doubled
-            (
-                4,
-                &[(0, 1), (1, 2), (3, 2), (2, 1)],
-                &[0, BAR, 1, 3, BAR, 2, BAR],
-                &[1, 2],
-                1,
-            ),
-            // a cactus of three triangles round one vertex, its edges mixed
-            (
-                7,
-                &[
-                    (0, 1),
-                    (0, 3),
-                    (0, 5),
-                    (1, 2),
-                    (3, 4),
-                    (5, 6),
-                    (2, 0),
-                    (4, 0),
-                    (6, 0),
-                ],
-                &[0, 3, 6, BAR, 1, 4, 7, BAR, 2, 5, 8, BAR],
-                &[0],
-                1,
-            ),
-            // K4 with a chord of its own and two components beside it
-            (
-                7,
-                &[
-                    (5, 6),
-                    (0, 1),
-                    (0, 2),
-                    (0, 3),
-                    (1, 2),
-                    (1, 3),
-                    (2, 3),
-                    (3, 2),
-                ],
-                &[0, BAR, 1, 2, 3, 4, 5, 6, 7, BAR],
-                &[],
-                3,
-            ),
-        ];
-        for (vertices, ends, blocks, cut, components) in rows {
-            let (found_blocks, found_cut, found_components) = described(&rt, vertices, ends)?;
-            assert_eq!(rt; found_blocks.as_slice(), blocks);
-            assert_eq!(rt; found_cut.as_slice(), cut);
-            assert_eq!(rt; found_components, components);
-        }
-        Ok(())
-    }
-
-    // A long path and a large star: the search keeps its own stack.
-    #[test]
-    fn large_graphs(rt: HostRuntime) -> Result<(), Fail> {
-        let mut path = Vec::new(rt.alloc());
-        let mut star = Vec::new(rt.alloc());
-        for v in 1..20_000u32 {
-            path.push((v - 1, v))?;
-            star.push((0, v))?;
-        }
-        let (blocks, cut, components) = described(&rt, 20_000, &path)?;
-        assert_eq!(rt; blocks.len(), 2 * 19_999);
-        assert_eq!(rt; cut.len(), 19_998);
-        assert_eq!(rt; components, 1);
-        let (blocks, cut, components) = described(&rt, 20_000, &star)?;
-        assert_eq!(rt; blocks.len(), 2 * 19_999);
-        assert_eq!(rt; cut.as_slice(), [0].as_slice());
-        assert_eq!(rt; components, 1);
-        Ok(())
-    }
 }

@@ -34,8 +34,8 @@ impl Numbers {
         self.held.as_slice()
     }
 
-    // The list without numbers. Takes no memory.
-    pub(crate) fn empty(alloc: Global) -> Numbers
+    /// The list without numbers. Takes no memory.
+    pub fn empty(alloc: Global) -> Numbers
         ensures { result ≡ [] }
     {
         Numbers {
@@ -43,8 +43,8 @@ impl Numbers {
         }
     }
 
-    // Puts a number behind the last; without memory the list stays as it was.
-    pub(crate) fn push(&mut self, x: u32) -> Result<(), AllocError>
+    /// Puts a number behind the last. Without memory the list stays as it was.
+    pub fn push(&mut self, x: u32) -> Result<(), AllocError>
         ensures { self.new ≡ (if is_ok result then self.old ++ x ∷ [] else self.old) }
     {
         match self.held.push(x) {
