@@ -1,7 +1,8 @@
 -- The two ends of an edge.
-use Rattle.std.proofs.Common.{◌≡◌, ◌≢◌, ℕ, ◌<◌, ◌⊎◌, inl, inr, true, ◌||◌, ◌==◌, cond, refl, sym, subst, ◌∙◌, arith}
+use Rattle.std.proofs.Common.{◌≡◌, ◌≢◌, ℕ, ◌<◌, ◌⊎◌, inl, inr, true, ◌||◌, ◌==◌, cond, refl, sym, ◌∙◌, arith}
 use Rattle.std.proofs.lemmas.Bool.{cases_Bool, both_ways, or_cases, eq-eqb, eqb-true}
 use Rattle.multigraph.specs.Graph.{Multigraph, edge_count, ends_of, is_end, other_end, IsGraph}
+use Rattle.multigraph.proofs.OtherEnd.{other_end-is_end, other_end-differs, end-in as of_end}
 
 -- going over to the other of two numbers
 across : (a b x : ℕ) → ℕ
@@ -12,20 +13,9 @@ across-across : (a b x : ℕ) → ((a == x) || (b == x)) ≡ true → across a b
 unfolding across
 across-across a b x h = grind (arith, cases_Bool (a == x), cases_Bool (a == b), cases_Bool (a == a), eqb-true a x, eqb-true b x, eqb-true a b, eq-eqb a a refl, h)
 
--- going over leads to one of the two numbers
-across-end : (a b x : ℕ) → ((a == across a b x) || (b == across a b x)) ≡ true
-unfolding across
-across-end a b x = grind (arith, cases_Bool (a == x), eq-eqb a a refl, eq-eqb b b refl)
-
--- going over between two different numbers changes the number
-across-differs : (a b x : ℕ) → a ≢ b → ((a == x) || (b == x)) ≡ true → across a b x ≢ x
-unfolding across
-across-differs a b x n h = grind (arith, cases_Bool (a == x), eqb-true a x, eqb-true b x, n, h)
-
 -- the other end of an edge is one of its ends
 pub other-is_end : (g : Multigraph) (e x : ℕ) → is_end g (other_end g e x) e ≡ true
-unfolding across
-other-is_end g e x = across-end (ends_of g e).0 (ends_of g e).1 x
+other-is_end = other_end-is_end
 
 -- the other end of the other end is the end itself
 pub other-other : (g : Multigraph) (e x : ℕ) → is_end g x e ≡ true → other_end g e (other_end g e x) ≡ x
@@ -34,8 +24,7 @@ other-other g e x h = across-across (ends_of g e).0 (ends_of g e).1 x h
 
 -- where there is no loop, the other end differs
 pub other-differs : (g : Multigraph) → IsGraph g → (e x : ℕ) → e < edge_count g → is_end g x e ≡ true → other_end g e x ≢ x
-unfolding across
-other-differs g i e x l h = across-differs (ends_of g e).0 (ends_of g e).1 x (i.no_loop e l) h
+other-differs g i e x l h = other_end-differs g e x i l h
 
 -- an end of an edge is a given end or the other one
 pub end-cases : (g : Multigraph) (e x z : ℕ) → is_end g x e ≡ true → is_end g z e ≡ true → (z ≡ x) ⊎ (z ≡ other_end g e x)
@@ -56,7 +45,4 @@ end-cases g e x z h k = cases (ends_of g e).0 (ends_of g e).1 h k
 
 -- where every end of an edge is a vertex, an end of an edge is one
 pub end-in : (g : Multigraph) → IsGraph g → (e x : ℕ) → e < edge_count g → is_end g x e ≡ true → x < g.vertex_count
-end-in g i e x l h = elim (or_cases ((ends_of g e).0 == x) ((ends_of g e).1 == x) h) [
-  | inl a ↦ subst (λ (k : ℕ). k < g.vertex_count) (eqb-true (ends_of g e).0 x a) (i.first_in e l)
-  | inr b ↦ subst (λ (k : ℕ). k < g.vertex_count) (eqb-true (ends_of g e).1 x b) (i.second_in e l)
-]
+end-in g i e x l h = of_end g x e i l h
