@@ -1,20 +1,18 @@
 -- In a plane rotation system of a triconnected graph each face passes each vertex at most once, also when one vertex is left
 -- out.
-use Rattle.std.proofs.Common.{◌≡◌, ◌≢◌, ℕ, zero, suc, ◌+◌, ◌*◌, ◌/◌, ◌<◌, ◌⊎◌, inl, inr, Bool, true, false, not, ◌&&◌, ◌==◌, List, [], ◌∷◌, refl, sym, ap, ◌∙◌, subst, arith}
+use Rattle.std.proofs.Common.{◌≡◌, ◌≢◌, ℕ, ◌+◌, ◌*◌, ◌/◌, ◌<◌, inl, inr, Bool, true, false, not, ◌&&◌, ◌==◌, List, [], ◌∷◌, refl, sym, ap, ◌∙◌, subst, arith}
 use Rattle.std.proofs.lemmas.Bool.{cases_Bool, both_ways, false_from_ne_true, and_parts, not-true, eq-eqb, eqb-true, ne_eqb, cases_eq}
-use Rattle.std.proofs.lemmas.List.Elements.{All-from_get_or}
 use Rattle.permutations.specs.Members.{is_member}
 use Rattle.permutations.specs.Relation.{IsEquivalence, connected}
-use Rattle.permutations.specs.Permutation.{iterate}
 use Rattle.permutations.specs.Exchange.{restricted}
 use Rattle.permutations.specs.Cyclic.{successor}
-use Rattle.permutations.proofs.Relation.{connected-least-typed, kernel-equivalence}
-use Rattle.permutations.proofs.Iterates.{iterate-below, orbit-steps}
+use Rattle.permutations.proofs.Relation.{kernel-equivalence}
 use Rattle.permutations.proofs.Orbits.{orbit-least}
 use Rattle.permutations.proofs.Restriction.{restricted-alone, restricted-permutes, restricted-orbit}
 use Rattle.multigraph.specs.Graph.{Multigraph, IsGraph, edge_count, ends_of, is_end, other_end}
 use Rattle.rotations.specs.Rotation.{order_at, IsRotationSystem}
 use Rattle.graph_theory.specs.Triconnected.{avoids, ends_without, IsTriconnected}
+use Rattle.contractions.proofs.Outside.{out-two, two-out}
 use Rattle.contractions.proofs.Neighbours.{ThreeNeighbours, three_neighbours}
 use Rattle.dart_maps.specs.Map.{twin, IsMap, same_vertex, same_face, same_component}
 use Rattle.dart_maps.specs.Order.{frozen}
@@ -31,7 +29,7 @@ use Rattle.faces.proofs.MapVertices.{vertex-tail, tail-vertex, tail-order}
 use Rattle.faces.proofs.MapCounts.{plane-map}
 use Rattle.faces.proofs.MapCorners.{face-once}
 use Rattle.planarity.proofs.SimpleDarts.{tail-other}
-use Rattle.planarity.proofs.RestrictedConnection.{all-filtered, near-connected}
+use Rattle.planarity.proofs.RestrictedConnection.{opened-vertex, counted-connected, near-connected}
 use Rattle.planarity.proofs.SubdivisionEdges.{successor-moves}
 
 -- whether dart d has no end at w
@@ -54,10 +52,6 @@ off-from g w d a b = rw (ne_eqb (tail g d) w a, ne_eqb (tail g (twin d)) w b) re
 pub off-twin : (g : Multigraph) (w d : ℕ) → off g w d ≡ true → off g w (twin d) ≡ true
 off-twin g w d h = off-from g w (twin d) (off-arrives g w d h) (λ e. off-tail g w d h (ap (tail g) (sym (twin-twin d)) ∙ e))
 
--- a number that is none of two is no member of the list of them
-two-out : (a b v : ℕ) → a ≢ v → b ≢ v → is_member v (a ∷ b ∷ []) ≡ false
-two-out a b v p q = rw (ne_eqb a v p, ne_eqb b v q) refl
-
 -- a rotation system without the darts at w, opened at z
 module _ (g : Multigraph) (r : List (List ℕ)) (ok : IsGraph g) (s : IsRotationSystem g r) (w z : ℕ) where
   abbrev left : ℕ → ℕ
@@ -68,12 +62,6 @@ module _ (g : Multigraph) (r : List (List ℕ)) (ok : IsGraph g) (s : IsRotation
 
   left-permutes : IsMap (edge_count g) left left_back
   left-permutes = restricted-permutes (dart_count g) (off g w) (dart_after g r) (dart_before g r) (map-permutes g r ok s)
-
-  abbrev near : ℕ → ℕ → Bool
-  near = same_component (edge_count g) (frozen (λ x. tail g x == z) left)
-
-  near-equivalence : IsEquivalence near
-  near-equivalence = component-equivalence (edge_count g) (frozen (λ x. tail g x == z) left)
 
   -- steps stay at a vertex
   left-tail : (d : ℕ) → d < dart_count g → tail g (left d) ≡ tail g d
@@ -91,86 +79,35 @@ module _ (g : Multigraph) (r : List (List ℕ)) (ok : IsGraph g) (s : IsRotation
   vertex-left : (c d : ℕ) → c < dart_count g → d < dart_count g → tail g c ≡ tail g d → off g w c ≡ true → off g w d ≡ true → same_vertex (edge_count g) left c d ≡ true
   vertex-left c d l k e o p = restricted-orbit (dart_count g) (off g w) (dart_after g r) (dart_before g r) (map-permutes g r ok s) c d o p ∙ tail-vertex g r ok s c d l k e
 
-  near-steps : (k d : ℕ) → d < dart_count g → tail g d ≢ z → (near d (iterate left k d) ≡ true) × (tail g (iterate left k d) ≡ tail g d)
-  near-steps zero d l n = (near-equivalence.reflexive d, refl)
-  near-steps (suc k) d l n =
-      let i = near-steps k d l n in
-      let below : iterate left k d < dart_count g = iterate-below (dart_count g) left left_back left-permutes k d l in (
-        near-equivalence.transitive d (iterate left k d) (left (iterate left k d)) i.0
-            (subst (λ x. near (iterate left k d) x ≡ true)
-            (frozen-elsewhere (λ x. tail g x == z) left (iterate left k d) (ne_eqb (tail g (iterate left k d)) z (λ e. n (sym i.1 ∙ e))))
-            (component-next (edge_count g) (frozen (λ x. tail g x == z) left) (iterate left k d) below)),
-        left-tail (iterate left k d) below ∙ i.1,
-      )
+  -- whether a dart is left, and not at z
+  abbrev counts : ℕ → Bool
+  counts d = off g w d && not (tail g d == z)
 
-  -- darts of another vertex
-  near-tail : (c d : ℕ) → c < dart_count g → d < dart_count g → tail g c ≡ tail g d → off g w c ≡ true → off g w d ≡ true → tail g c ≢ z → near c d ≡ true
-  near-tail c d l k e o p n =
-      let i = orbit-steps (dart_count g) left left_back left-permutes c d l (vertex-left c d l k e o p) in
-      subst (λ x. near c x ≡ true) i.2 (near-steps i.0 c l n).0
+  counts-from : (d : ℕ) → off g w d ≡ true → tail g d ≢ z → counts d ≡ true
+  counts-from d o n = rw (o, ne_eqb (tail g d) z n) refl
 
-  -- two vertices with darts that are left, not at z, and near; or equal vertices
-  abbrev AreNear : ℕ → ℕ → Type 0
-  AreNear u v = (u ≡ v) ⊎ ((c : ℕ) × (d : ℕ) × (c < dart_count g) × (d < dart_count g) × (tail g c ≡ u) × (tail g d ≡ v) × (off g w c ≡ true) × (off g w d ≡ true) × (tail g d ≢ z) × (near c d ≡ true) × (tail g c ≢ z))
+  -- such darts of one vertex
+  left-alike : (c d : ℕ) → c < dart_count g → d < dart_count g → tail g c ≡ tail g d → counts c ≡ true → counts d ≡ true → same_component (edge_count g) (frozen (λ x. tail g x == z) left) c d ≡ true
+  left-alike c d l k e o p =
+      let i = and_parts (off g w c) (not (tail g c == z)) o in
+      opened-vertex (edge_count g) left left_back left-permutes (λ x. tail g x == z) (λ x m. ap (λ v. v == z) (left-tail x m)) c d l (vertex-left c d l k e i.0 (and_parts (off g w d) (not (tail g d == z)) p).0) (not-true (tail g c == z) i.1)
 
-  are-symmetric : (u v : ℕ) → AreNear u v → AreNear v u
-  are-symmetric u v (inl q) = inl (sym q)
-  are-symmetric u v (inr a) = inr (a.1, a.0, a.3, a.2, a.5, a.4, a.7, a.6, a.10, near-equivalence.symmetric a.0 a.1 a.9, a.8)
-
-  are-transitive : (u v x : ℕ) → AreNear u v → AreNear v x → AreNear u x
-  are-transitive u v x (inl q) b = subst (λ y. AreNear y x) (sym q) b
-  are-transitive u v x (inr a) (inl q) = subst (λ y. AreNear u y) q (inr a)
-  are-transitive u v x (inr a) (inr b) = inr (
-    a.0,
-    b.1,
-    a.2,
-    b.3,
-    a.4,
-    b.5,
-    a.6,
-    b.7,
-    b.8,
-    near-equivalence.transitive a.0 b.0 b.1 (near-equivalence.transitive a.0 a.1 b.0 a.9 (near-tail a.1 b.0 a.3 b.2 (a.5 ∙ sym b.4) a.7 b.6 a.8)) b.9,
-    a.10,
-  )
-
-  -- the ends of an edge that avoids w and z
-  are-ends : (e : ℕ) → e < edge_count g → avoids (w ∷ z ∷ []) (ends_of g e) ≡ true → AreNear (ends_of g e).0 (ends_of g e).1
-  are-ends e l h =
+  -- the darts of an edge that avoids w and z
+  left-both : (e : ℕ) → e < edge_count g → avoids (w ∷ z ∷ []) (ends_of g e) ≡ true → (counts (2 * e) ≡ true) × (counts (2 * e + 1) ≡ true)
+  left-both e l h =
       let i = and_parts (not (is_member (ends_of g e).0 (w ∷ z ∷ []))) (not (is_member (ends_of g e).1 (w ∷ z ∷ []))) h in
-      let a = out (ends_of g e).0 (not-true (is_member (ends_of g e).0 (w ∷ z ∷ [])) i.0) in
-      let b = out (ends_of g e).1 (not-true (is_member (ends_of g e).1 (w ∷ z ∷ [])) i.1) in
+      let a = two-out w z (ends_of g e).0 (not-true (is_member (ends_of g e).0 (w ∷ z ∷ [])) i.0) in
+      let b = two-out w z (ends_of g e).1 (not-true (is_member (ends_of g e).1 (w ∷ z ∷ [])) i.1) in
       let other : twin (2 * e) ≡ 2 * e + 1 = twin-even (2 * e) (omega arith) in
-      let o : off g w (2 * e) ≡ true = off-from g w (2 * e) (λ q. a.0 (sym (tail-first g e) ∙ q)) (λ q. b.0 (sym (ap (tail g) other ∙ tail-second g e) ∙ q)) in
-      inr (
-        2 * e,
-        2 * e + 1,
-        omega arith,
-        omega arith,
-        tail-first g e,
-        tail-second g e,
-        o,
-        subst (λ x. off g w x ≡ true) other (off-twin g w (2 * e) o),
-        λ q. b.1 (sym (tail-second g e) ∙ q),
-        subst (λ x. near (2 * e) x ≡ true) other (component-twin (edge_count g) (frozen (λ x. tail g x == z) left) (2 * e) (omega arith)),
-        λ q. a.1 (sym (tail-first g e) ∙ q),
+      let o : off g w (2 * e) ≡ true = off-from g w (2 * e) (λ q. a.0 (sym q ∙ tail-first g e)) (λ q. b.0 (sym q ∙ ap (tail g) other ∙ tail-second g e)) in (
+        counts-from (2 * e) o (λ q. a.1 (sym q ∙ tail-first g e)),
+        counts-from (2 * e + 1) (subst (λ x. off g w x ≡ true) other (off-twin g w (2 * e) o)) (λ q. b.1 (sym q ∙ tail-second g e)),
       )
-    where
-      out : (v : ℕ) → is_member v (w ∷ z ∷ []) ≡ false → (v ≢ w) × (v ≢ z)
-      out v m = (λ q. both_ways (is_member v (w ∷ z ∷ [])) m (rw (eq-eqb w v (sym q)) refl), λ q. both_ways (is_member v (w ∷ z ∷ [])) m (second v q))
-        where
-          second : (v : ℕ) → v ≡ z → is_member v (w ∷ z ∷ []) ≡ true
-          second v q = elim (cases_Bool (w == v)) [ inl t ↦ rw t refl | inr t ↦ rw (t, eq-eqb z v (sym q)) refl ]
 
   -- darts of vertices that are connected by edges that avoid w and z
-  left-connected : (c d : ℕ) → c < dart_count g → d < dart_count g → off g w c ≡ true → off g w d ≡ true → tail g c ≢ z → connected (ends_without g (w ∷ z ∷ [])) (tail g c) (tail g d) ≡ true → near c d ≡ true
-  left-connected c d l k o p n t = last (connected-least-typed (ends_without g (w ∷ z ∷ [])) AreNear (λ u. inl refl) are-symmetric are-transitive
-      (all-filtered (avoids (w ∷ z ∷ [])) (λ link. AreNear link.0 link.1) g.ends (All-from_get_or (λ link. avoids (w ∷ z ∷ []) link ≡ true → AreNear link.0 link.1) g.ends (0, 0) are-ends))
-      (tail g c) (tail g d) t)
-    where
-      last : AreNear (tail g c) (tail g d) → near c d ≡ true
-      last (inl q) = near-tail c d l k q o p n
-      last (inr a) = near-equivalence.transitive c a.1 d (near-equivalence.transitive c a.0 a.1 (near-tail c a.0 l a.2 (sym a.4) o a.6 n) a.9) (near-tail a.1 d a.3 k a.5 a.7 p a.8)
+  left-connected : (c d : ℕ) → c < dart_count g → d < dart_count g → off g w c ≡ true → off g w d ≡ true → tail g c ≢ z → tail g d ≢ z → connected (ends_without g (w ∷ z ∷ [])) (tail g c) (tail g d) ≡ true
+      → same_component (edge_count g) (frozen (λ x. tail g x == z) left) c d ≡ true
+  left-connected c d l k o p m n t = counted-connected g (frozen (λ x. tail g x == z) left) counts left-alike (w ∷ z ∷ []) left-both c d l k (counts-from c o m) (counts-from d p n) t
 
 -- without vertex w each face of a triconnected graph passes each vertex at most once
 pub without-face_once : (h : Multigraph) (s : List (List ℕ)) → IsGraph h → IsRotationSystem h s → IsPlane h s → IsTriconnected h → (w p q : ℕ) → p < dart_count h → q < dart_count h → p ≢ q → off h w p ≡ true → off h w q ≡ true → tail h p ≡ tail h q
@@ -205,10 +142,10 @@ without-face_once h s ok rs plane tri w p q l k n o i e = face-once (edge_count 
     ]
 
     twins : same_component (edge_count h) opened (twin p) (twin q) ≡ true
-    twins = left-connected h s ok rs w z (twin p) (twin q) (twin-below (edge_count h) p l) (twin-below (edge_count h) q k) (off-twin h w p o) (off-twin h w q i) (tail-other h p ok l)
+    twins = left-connected h s ok rs w z (twin p) (twin q) (twin-below (edge_count h) p l) (twin-below (edge_count h) q k) (off-twin h w p o) (off-twin h w q i) (tail-other h p ok l) (λ t. tail-other h q ok k (t ∙ e))
         (tri.stays_connected w z (tail h (twin p)) (tail h (twin q)) (tail-in h (twin p) ok (twin-below (edge_count h) p l)) (tail-in h (twin q) ok (twin-below (edge_count h) q k))
-        (two-out w z (tail h (twin p)) (λ t. off-arrives h w p o (sym t)) (λ t. tail-other h p ok l (sym t)))
-        (two-out w z (tail h (twin q)) (λ t. off-arrives h w q i (sym t)) (λ t. tail-other h q ok k (sym t ∙ e))))
+        (out-two w z (tail h (twin p)) (λ t. off-arrives h w p o (sym t)) (λ t. tail-other h p ok l (sym t)))
+        (out-two w z (tail h (twin q)) (λ t. off-arrives h w q i (sym t)) (λ t. tail-other h q ok k (sym t ∙ e))))
 
     apart : same_component (edge_count h) opened p q ≡ true
     apart = opened-equivalence.transitive p (twin q) q
@@ -245,10 +182,10 @@ triconnected-face_once h s ok rs plane tri p q l k n e = face-once (edge_count h
     ]
 
     out_p : is_member (tail h (twin p)) (z ∷ z ∷ []) ≡ false
-    out_p = two-out z z (tail h (twin p)) (λ t. tail-other h p ok l (sym t)) (λ t. tail-other h p ok l (sym t))
+    out_p = out-two z z (tail h (twin p)) (λ t. tail-other h p ok l (sym t)) (λ t. tail-other h p ok l (sym t))
 
     out_q : is_member (tail h (twin q)) (z ∷ z ∷ []) ≡ false
-    out_q = two-out z z (tail h (twin q)) (λ t. tail-other h q ok k (sym t ∙ e)) (λ t. tail-other h q ok k (sym t ∙ e))
+    out_q = out-two z z (tail h (twin q)) (λ t. tail-other h q ok k (sym t ∙ e)) (λ t. tail-other h q ok k (sym t ∙ e))
 
     twins : same_component (edge_count h) opened (twin p) (twin q) ≡ true
     twins = near-connected h s ok rs (z ∷ z ∷ []) (twin p) (twin q) (twin-below (edge_count h) p l) (twin-below (edge_count h) q k) out_p out_q

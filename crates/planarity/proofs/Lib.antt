@@ -17,6 +17,9 @@ pub mod SubdivisionFaces
 pub mod SubdivisionExcludes
 pub mod Alternation
 mod SubdivisionExamples
+mod ExpansionExamples
+mod LiftExamples
+mod CircleExamples
 pub mod LiftPath
 pub mod LiftSystem
 pub mod LiftPairs
