@@ -13,62 +13,64 @@ fn graph_of_text(alloc: Global, text: &str) -> Result<Named, GraphFault> {
     }
 }
 
+// Texts that have no graph, each with the fault that refuses it.
+static REFUSED: [(&str, GraphFault); 18] = [
+    ("a 1", GraphFault::NoGraph),
+    ("graph 1 a [ graph [ ] ]", GraphFault::NoGraph),
+    ("graph [ ] graph [ ]", GraphFault::MoreGraphs),
+    ("graph [ node [ a 1 ] ]", GraphFault::NodeNoId(0)),
+    (
+        "graph [ node [ id 1 ] node [ id [ ] id 2 ] ]",
+        GraphFault::NodeBadId(1),
+    ),
+    ("graph [ node [ id 7.0 ] ]", GraphFault::NodeBadId(0)),
+    ("graph [ node [ id \"7\" id 7 ] ]", GraphFault::NodeBadId(0)),
+    (
+        "graph [ node [ id 9223372036854775808 ] ]",
+        GraphFault::NodeBadId(0),
+    ),
+    (
+        "graph [ node [ id -9223372036854775809 ] ]",
+        GraphFault::NodeBadId(0),
+    ),
+    (
+        "graph [ node [ id 3 ] node [ id 3 ] ]",
+        GraphFault::SameId(1),
+    ),
+    (
+        "graph [ node [ id 7 ] node [ id 1 ] node [ id +007 ] ]",
+        GraphFault::SameId(2),
+    ),
+    (
+        "graph [ node [ id -0 ] node [ id 0 ] node [ ] ]",
+        GraphFault::SameId(1),
+    ),
+    ("graph [ edge [ ] node [ ] ]", GraphFault::NodeNoId(0)),
+    (
+        "graph [ node [ id 0 ] edge [ target [ ] ] ]",
+        GraphFault::EdgeNoEnd(0),
+    ),
+    (
+        "graph [ node [ id 0 ] edge [ target [ ] source 5 ] ]",
+        GraphFault::EdgeBadEnd(0),
+    ),
+    (
+        "graph [ node [ id 0 ] edge [ source \"0\" target 0 ] ]",
+        GraphFault::EdgeBadEnd(0),
+    ),
+    (
+        "graph [ node [ id 0 ] edge [ source 0 target 5 ] edge [ ] ]",
+        GraphFault::UnknownEnd(0),
+    ),
+    (
+        "graph [ node [ id 0 ] node [ id 1 ] node [ id 2 ] edge [ source 0 target 1 ] edge [ source 1 target 2 ] edge [ source 2 target 2 ] ]",
+        GraphFault::Loop(2),
+    ),
+];
+
 #[test]
 fn refusals(rt: HostRuntime) -> Result<(), Fail> {
-    let rows = [
-        ("a 1", GraphFault::NoGraph),
-        ("graph 1 a [ graph [ ] ]", GraphFault::NoGraph),
-        ("graph [ ] graph [ ]", GraphFault::MoreGraphs),
-        ("graph [ node [ a 1 ] ]", GraphFault::NodeNoId(0)),
-        (
-            "graph [ node [ id 1 ] node [ id [ ] id 2 ] ]",
-            GraphFault::NodeBadId(1),
-        ),
-        ("graph [ node [ id 7.0 ] ]", GraphFault::NodeBadId(0)),
-        ("graph [ node [ id \"7\" id 7 ] ]", GraphFault::NodeBadId(0)),
-        (
-            "graph [ node [ id 9223372036854775808 ] ]",
-            GraphFault::NodeBadId(0),
-        ),
-        (
-            "graph [ node [ id -9223372036854775809 ] ]",
-            GraphFault::NodeBadId(0),
-        ),
-        (
-            "graph [ node [ id 3 ] node [ id 3 ] ]",
-            GraphFault::SameId(1),
-        ),
-        (
-            "graph [ node [ id 7 ] node [ id 1 ] node [ id +007 ] ]",
-            GraphFault::SameId(2),
-        ),
-        (
-            "graph [ node [ id -0 ] node [ id 0 ] node [ ] ]",
-            GraphFault::SameId(1),
-        ),
-        ("graph [ edge [ ] node [ ] ]", GraphFault::NodeNoId(0)),
-        (
-            "graph [ node [ id 0 ] edge [ target [ ] ] ]",
-            GraphFault::EdgeNoEnd(0),
-        ),
-        (
-            "graph [ node [ id 0 ] edge [ target [ ] source 5 ] ]",
-            GraphFault::EdgeBadEnd(0),
-        ),
-        (
-            "graph [ node [ id 0 ] edge [ source \"0\" target 0 ] ]",
-            GraphFault::EdgeBadEnd(0),
-        ),
-        (
-            "graph [ node [ id 0 ] edge [ source 0 target 5 ] edge [ ] ]",
-            GraphFault::UnknownEnd(0),
-        ),
-        (
-            "graph [ node [ id 0 ] node [ id 1 ] node [ id 2 ] edge [ source 0 target 1 ] edge [ source 1 target 2 ] edge [ source 2 target 2 ] ]",
-            GraphFault::Loop(2),
-        ),
-    ];
-    for (text, fault) in rows {
+    for (text, fault) in REFUSED {
         assert_eq!(rt;
             graph_of_text(rt.alloc(), text).err(),
             Some(fault),
