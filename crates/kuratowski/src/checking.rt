@@ -6,7 +6,7 @@ ghost use Rattle.graph_theory.specs.Path.{walk_starts, walk_end};
 ghost use Rattle.kuratowski.specs.Subdivision.{branch_at, branch_count, pattern_edges, inner_vertices, IsSubdivision, IsWritten};
 ghost use Rattle.kuratowski.specs.Checking.{is_in_order, no_marks, is_taken, marked_also, are_free, is_edge_at, is_free_walk, is_free_path, are_free_paths};
 
-use crate::subdivision::{Pattern, Subdivision, branch_count, pattern_edges};
+use crate::subdivision::{Pattern, Subdivision};
 use multigraph::{Graph, Numbers};
 use std::alloc::{AllocError, Global};
 
@@ -161,8 +161,8 @@ pub fn is_subdivision(alloc: Global, g: &Graph, s: &Subdivision) -> Result<bool,
 {
     let branch = s.branch.as_slice();
     let paths = s.paths.as_slice();
-    let pairs = pattern_edges(s.kind);
-    if branch.len() != branch_count(s.kind) || paths.len() != pairs.len() {
+    let pairs = s.kind.edges();
+    if branch.len() != s.kind.branch_count() || paths.len() != pairs.len() {
         return Ok(false);
     }
     let mut marks = no_marks(alloc, g)?;

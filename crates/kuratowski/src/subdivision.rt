@@ -26,16 +26,7 @@ pub struct Subdivision {
     pub paths: NumberLists,
 }
 
-// How many vertices the pattern has.
-pub(crate) fn branch_count(kind: Pattern) -> usize
-    ensures { result ≡ branch_count kind }
-{
-    match kind {
-        Pattern::K5 => 5,
-        Pattern::K33 => 6,
-    }
-}
-
+// The edges of K5.
 const K5_EDGES: [(usize, usize); 10] = [
     (0, 1),
     (0, 2),
@@ -49,6 +40,7 @@ const K5_EDGES: [(usize, usize); 10] = [
     (3, 4),
 ];
 
+// The edges of K3,3.
 const K33_EDGES: [(usize, usize); 9] = [
     (0, 3),
     (0, 4),
@@ -61,12 +53,25 @@ const K33_EDGES: [(usize, usize); 9] = [
     (2, 5),
 ];
 
-// The edges of the pattern, as pairs of its vertices.
-pub(crate) fn pattern_edges(kind: Pattern) -> &'static [(usize, usize)]
-    ensures { result.now ≡ pattern_edges kind }
-{
-    match kind {
-        Pattern::K5 => &K5_EDGES,
-        Pattern::K33 => &K33_EDGES,
+impl Pattern {
+    /// How many vertices the pattern has: five, or six.
+    pub fn branch_count(self) -> usize
+        ensures { result ≡ branch_count self }
+    {
+        match self {
+            Pattern::K5 => 5,
+            Pattern::K33 => 6,
+        }
+    }
+
+    /// The edges of the pattern, as pairs of its vertices, in the order of the paths of a `Subdivision`: of K5 each two of the
+    /// five, and of K3,3 each of the first three with each of the last three.
+    pub fn edges(self) -> &'static [(usize, usize)]
+        ensures { result.now ≡ pattern_edges self }
+    {
+        match self {
+            Pattern::K5 => &K5_EDGES,
+            Pattern::K33 => &K33_EDGES,
+        }
     }
 }

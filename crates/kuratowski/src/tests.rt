@@ -13,20 +13,6 @@ struct Row {
     held: bool,
 }
 
-// The complete graph on five vertices.
-const K5_ENDS: [(u32, u32); 10] = [
-    (0, 1),
-    (0, 2),
-    (0, 3),
-    (0, 4),
-    (1, 2),
-    (1, 3),
-    (1, 4),
-    (2, 3),
-    (2, 4),
-    (3, 4),
-];
-
 static K5_ROWS: [Row; 8] = [
     // each edge a path
     Row {
@@ -214,23 +200,33 @@ fn certificate(alloc: Global, row: &Row) -> Result<Subdivision, AllocError> {
     })
 }
 
+// The complete graph on five vertices: its edges are those of the pattern.
+fn complete(alloc: Global) -> Result<Graph, Fail> {
+    let mut ends = Vec::new(alloc);
+    for pair in Pattern::K5.edges() {
+        let (first, second) = *pair;
+        ends.push((first as u32, second as u32))?;
+    }
+    Ok(Graph::build(alloc, Pattern::K5.branch_count() as u32, &ends)?)
+}
+
+// Whether the check says of each certificate what its row does.
+fn are_told(alloc: Global, g: &Graph, rows: &[Row]) -> Result<bool, AllocError> {
+    for row in rows {
+        if check(alloc, g, &certificate(alloc, row)?)? != row.held {
+            return Ok(false);
+        }
+    }
+    Ok(true)
+}
+
 #[test]
 fn tells_subdivisions(rt: HostRuntime) -> Result<(), Fail> {
     let alloc = rt.alloc();
-    let complete = Graph::build(alloc, 5, &K5_ENDS)?;
-    for row in &K5_ROWS {
-        assert_eq!(rt;
-            check(alloc, &complete, &certificate(alloc, row)?)?,
-            row.held
-        );
-    }
+    let complete = complete(alloc)?;
+    assert!(rt; are_told(alloc, &complete, &K5_ROWS)?);
     let bipartite = Graph::build(alloc, 7, &K33_ENDS)?;
-    for row in &K33_ROWS {
-        assert_eq!(rt;
-            check(alloc, &bipartite, &certificate(alloc, row)?)?,
-            row.held
-        );
-    }
+    assert!(rt; are_told(alloc, &bipartite, &K33_ROWS)?);
     Ok(())
 }
 
@@ -260,7 +256,7 @@ fn is_written_as(alloc: Global, g: &Graph, row: &Row, form: &Row) -> Result<bool
 #[test]
 fn writes_in_order(rt: HostRuntime) -> Result<(), Fail> {
     let alloc = rt.alloc();
-    let complete = Graph::build(alloc, 5, &K5_ENDS)?;
+    let complete = complete(alloc)?;
     assert!(rt; is_written_as(alloc, &complete, &MIXED_FIVE, &K5_ROWS[0])?);
     let bipartite = Graph::build(alloc, 7, &K33_ENDS)?;
     assert!(rt; is_written_as(alloc, &bipartite, &MIXED_SIDES, &K33_ROWS[0])?);

@@ -9,7 +9,7 @@ pub returns : goal.returns
 returns c =
     let branch = c.as_slice-branch.ensures in
     let paths = c.as_slice-paths.ensures in
-    let pairs = c.pattern_edges-pairs.ensures in
+    let pairs = c.edges-pairs.ensures in
     let marks = c.deref_mut.ensures.value ∙ c.in_ok-marks.ensures.marks in
     let n = c.if-branch-branch_count.false ∙ c.branch_count.ensures in
     let answer : c.meets_once.result ≡ (are_free (no_marks c.args.g.now) c.args.s.now.branch && are_free_paths c.args.g.now (marked_also (no_marks c.args.g.now) c.args.s.now.branch) c.args.s.now.branch (pattern_edges c.args.s.now.kind) c.args.s.now.paths) =
