@@ -11,4 +11,10 @@ pub mod PrivateNeighbours
 pub mod Contracted
 pub mod ContractedTriconnected
 pub mod ContractionMade
+mod Labelling
+mod Tried
+mod Neighbouring
+mod Naming
+pub mod LevelFacts
+mod PairsRemoved
 mod Examples

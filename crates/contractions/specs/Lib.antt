@@ -2,3 +2,6 @@
 pub mod Contraction
 pub mod Contracted
 pub mod Laws
+pub mod Labels
+pub mod Marks
+pub mod Level

@@ -1,9 +1,13 @@
-// Contracting an edge of a triconnected graph: theory without code that runs.
+// Contracting an edge of a triconnected graph: the theory, and one contraction as it is made.
 //
 // A triconnected graph has an edge that may be contracted: with any third vertex removed besides its two ends, the others
 // stay connected. If the graph has at least five vertices, what is left when such an edge is contracted, of parallel edges one
 // kept, is triconnected (Thomassen 1980). So each triconnected graph leads by contractions to the complete graph on four
 // vertices. Each law below is a function without a body, whose contract is the theorem.
+//
+// A `Level` is a triconnected graph of five vertices or more with an edge that may be contracted and the edges that stay; it is
+// found by trying each edge with each third vertex, and its contraction is made. `is_triconnected` tells whether a graph is
+// triconnected.
 //
 // The lemmas that are used most (module of proofs/ in front):
 //   Removed     step-without, least-without, closed-without, kept-without: connection when vertices are removed
@@ -15,9 +19,20 @@
 //   Joined      joined-edge, joined-from, simple-same: vertices that an edge joins; kept-from, dropped-joined, private-parts
 //   Contracted  end-forth, other-forth, end-back: the ends of an edge of a contraction, from those that it had
 //   ContractedTriconnected  connected-contracted: what is connected stays so in a contraction
+//   LevelFacts  level-contraction, level-graph, level-triconnected, level-edges, level-few, level-kept: the contraction of a level
 #![tactic(auto)]
 
+mod contractible;
+mod labels;
+mod level;
+mod numbers;
+mod triconnected;
+
 ghost use Rattle.contractions.specs.Laws.{ContractibleEdgeExists, ContractibleEitherWay, ContractibleIsTested, ContractionIsGraph, ContractionIsMade, ContractionIsTriconnected, DegreeThree, OneEndHasPrivate};
+
+pub use level::{Level, contracted_vertex, neighbour_marks};
+pub use numbers::numbers_below;
+pub use triconnected::is_triconnected;
 
 /// The law that each vertex of a triconnected graph has at least three edges.
 pub fn triconnected_degrees()
