@@ -1,22 +1,21 @@
 -- Where the ends of the contracted edge have three neighbours in common, the graph has a subdivision of K5, if the contracted
 -- graph is triconnected and has a plane rotation system.
 use Rattle.std.proofs.Common.{◌≡◌, ◌≢◌, ℕ, zero, suc, ◌+◌, ◌<◌, ◌≤◌, ◌⊎◌, inl, inr, Bool, true, false, List, ◌∷◌, ◌++◌, refl, sym, ap, ◌∙◌, subst, arith, append_assoc}
-use Rattle.std.proofs.lemmas.Bool.{cases_Bool, and_parts}
+use Rattle.std.proofs.lemmas.Bool.{cases_Bool}
 use Rattle.permutations.specs.Count.{count}
 use Rattle.permutations.specs.Members.{is_member}
 use Rattle.permutations.specs.Cyclic.{IsTurn}
 use Rattle.permutations.proofs.Members.{member-cases, member-append_cases, CutAt, cut_at}
 use Rattle.permutations.proofs.Turned.{IsTurn-member, IsTurn-swap, IsTurn-same}
-use Rattle.multigraph.specs.Graph.{Multigraph, IsGraph, is_end, other_end}
+use Rattle.multigraph.specs.Graph.{Multigraph, IsGraph, other_end}
 use Rattle.rotations.specs.Rotation.{order_at, IsRotationSystem}
 use Rattle.graph_theory.specs.Triconnected.{IsSimple, IsTriconnected}
 use Rattle.contractions.specs.Contraction.{are_joined, is_common, common_count, IsContraction}
-use Rattle.contractions.proofs.Joined.{joined-apart}
 use Rattle.faces.specs.Euler.{IsPlane}
 use Rattle.planarity.proofs.LiftCases.{HasSubdivision, subdivided}
 use Rattle.planarity.proofs.Found.{IsSpoke}
 use Rattle.planarity.proofs.FoundCircle.{IsTip, joined-spoke, tip-first, three-found}
-use Rattle.planarity.proofs.FoundTurn.{round-edge, round-first}
+use Rattle.planarity.proofs.FoundTurn.{round-edge, common-edge}
 
 -- a cyclic order, from a on, with b and c behind it in this order
 pub record InTurn (l : List ℕ) (a b c : ℕ) : Type 0 where
@@ -77,6 +76,36 @@ last-passing (suc n) p l = elim (cases_Bool (p n)) [
     further : p n ≡ false → ((c : ℕ) × (c < n) × (p c ≡ true) × (count c p + 1 ≡ count n p)) → (c : ℕ) × (c < suc n) × (p c ≡ true) × (count c p + 1 ≡ count (suc n) p)
     further f w = (w.0, omega (arith, w.1), w.2, w.3 ∙ sym (same f))
 
+-- three different numbers that pass
+pub record ThreePassing (p : ℕ → Bool) : Type 0 where
+  pub first : ℕ
+  pub second : ℕ
+  pub third : ℕ
+  pub first_passes : p first ≡ true
+  pub second_passes : p second ≡ true
+  pub third_passes : p third ≡ true
+  pub first_second : first ≢ second
+  pub first_third : first ≢ third
+  pub second_third : second ≢ third
+
+-- where three or more pass
+pub three-passing : (n : ℕ) (p : ℕ → Bool) → 3 ≤ count n p → ThreePassing p
+three-passing n p l =
+    let c = last-passing n p (omega (arith, l)) in
+    let b = last-passing c.0 p (omega (arith, l, c.3)) in
+    let a = last-passing b.0 p (omega (arith, l, c.3, b.3)) in
+    record {
+      first = a.0;
+      second = b.0;
+      third = c.0;
+      first_passes = a.2;
+      second_passes = b.2;
+      third_passes = c.2;
+      first_second = λ q. omega (arith, q, a.1);
+      first_third = λ q. omega (arith, q, a.1, b.1);
+      second_third = λ q. omega (arith, q, b.1);
+    }
+
 module _ (g h : Multigraph) (e x y : ℕ) (edge vertex : ℕ → ℕ) (og : IsGraph g) (oh : IsGraph h) (ic : IsContraction g h e x y edge vertex) (simple : IsSimple g)
     (s : List (List ℕ)) (rot : IsRotationSystem h s) (plane : IsPlane h s) (tri : IsTriconnected h) where
   -- an edge round the merged vertex that leads from x to the common neighbour p
@@ -88,28 +117,21 @@ module _ (g h : Multigraph) (e x y : ℕ) (edge vertex : ℕ → ℕ) (og : IsGr
     second_edge : ℕ
     second : IsSpoke g y p second_edge
 
-  to_common : (p : ℕ) → are_joined g x p ≡ true → are_joined g y p ≡ true → ToCommon p
-  to_common p t u =
-      let a = joined-spoke g x p t in
-      let b = joined-spoke g y p u in
-      made a.0 a.1 b.0 b.1
+  to_common : (p : ℕ) → is_common g x y p ≡ true → ToCommon p
+  to_common p t = made (common-edge g h e x y edge vertex og oh ic simple s rot p t)
     where
-      made : (f : ℕ) → IsSpoke g x p f → (k : ℕ) → IsSpoke g y p k → ToCommon p
-      made f a k b = with_edge (round-first g h e x y edge vertex og oh ic simple s rot f a.is_edge a.leaves
-          (λ q. joined-apart g og y p u (sym ic.second_end ∙ ap (λ z. other_end g z x) (sym q) ∙ a.arrives)))
-        where
-          with_edge : (i : ℕ) × (is_member i (order_at s (vertex x)) ≡ true) × (edge i ≡ f) → ToCommon p
-          with_edge w =
-              let v = tip-first g h e x y edge vertex og oh ic w.0 (round-edge g h e x y edge vertex og oh ic simple s rot w.0 w.1).0 (subst (λ z. is_end g x z ≡ true) (sym w.2) a.leaves) in
-              let p_is : other_end g (edge w.0) x ≡ p = ap (λ z. other_end g z x) w.2 ∙ a.arrives in
-              record {
-                at = w.0;
-                member = w.1;
-                tip = subst (IsTip g h e x y edge vertex og oh ic w.0) p_is v.0;
-                first = subst (λ z. IsSpoke g x z (edge w.0)) p_is v.1;
-                second_edge = k;
-                second = b;
-              }
+      made : (i : ℕ) × (is_member i (order_at s (vertex x)) ≡ true) × (IsSpoke g x p (edge i)) × (are_joined g y p ≡ true) → ToCommon p
+      made w =
+          let v = tip-first g h e x y edge vertex og oh ic w.0 (round-edge g h e x y edge vertex og oh ic simple s rot w.0 w.1).0 (w.2).leaves in
+          let b = joined-spoke g y p w.3 in
+          record {
+            at = w.0;
+            member = w.1;
+            tip = subst (IsTip g h e x y edge vertex og oh ic w.0) (w.2).arrives v.0;
+            first = w.2;
+            second_edge = b.0;
+            second = b.1;
+          }
 
   -- edges to different vertices are different
   apart : (p q : ℕ) (a : ToCommon p) (b : ToCommon q) → p ≢ q → a.at ≢ b.at
@@ -121,11 +143,8 @@ module _ (g h : Multigraph) (e x y : ℕ) (edge vertex : ℕ → ℕ) (og : IsGr
 
   -- three common neighbours
   pub common-found : (p q r : ℕ) → is_common g x y p ≡ true → is_common g x y q ≡ true → is_common g x y r ≡ true → p ≢ q → p ≢ r → q ≢ r → HasSubdivision g
-  common-found p q r t u v pq pr qr = found (both p t) (both q u) (both r v)
+  common-found p q r t u v pq pr qr = found (to_common p t) (to_common q u) (to_common r v)
     where
-      both : (p : ℕ) → is_common g x y p ≡ true → ToCommon p
-      both p t = let w = and_parts (are_joined g x p) (are_joined g y p) t in to_common p w.0 w.1
-
       found : ToCommon p → ToCommon q → ToCommon r → HasSubdivision g
       found a b c = elim (turn-of_three (order_at s (vertex x)) a.at b.at c.at a.member b.member c.member (apart p q a b pq) (apart p r a c pr) (apart q r b c qr)) [
         | inl w ↦ by_turn p q r a b c w
@@ -135,7 +154,5 @@ module _ (g h : Multigraph) (e x y : ℕ) (edge vertex : ℕ → ℕ) (og : IsGr
   -- at least three common neighbours
   pub common-subdivision : 3 ≤ common_count g x y → HasSubdivision g
   common-subdivision l =
-      let c = last-passing g.vertex_count (is_common g x y) (omega (arith, l)) in
-      let b = last-passing c.0 (is_common g x y) (omega (arith, l, c.3)) in
-      let a = last-passing b.0 (is_common g x y) (omega (arith, l, c.3, b.3)) in
-      common-found a.0 b.0 c.0 a.2 b.2 c.2 (λ q. omega (arith, q, a.1)) (λ q. omega (arith, q, a.1, b.1)) (λ q. omega (arith, q, b.1))
+      let w = three-passing g.vertex_count (is_common g x y) l in
+      common-found w.first w.second w.third w.first_passes w.second_passes w.third_passes w.first_second w.first_third w.second_third

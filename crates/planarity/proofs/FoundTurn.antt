@@ -12,8 +12,8 @@ use Rattle.rotations.specs.Rotation.{order_at, IsRotationSystem}
 use Rattle.rotations.proofs.Membership.{member-edge, member-end}
 use Rattle.graph_theory.specs.Triconnected.{IsSimple, IsTriconnected}
 use Rattle.graph_theory.proofs.Ends.{end-cases}
-use Rattle.contractions.specs.Contraction.{are_joined, is_private, is_kept, IsContraction}
-use Rattle.contractions.proofs.Joined.{simple-same, kept-from, private-kept, private-parts}
+use Rattle.contractions.specs.Contraction.{are_joined, is_common, is_private, is_kept, IsContraction}
+use Rattle.contractions.proofs.Joined.{joined-apart, simple-same, kept-from, private-kept, private-parts}
 use Rattle.contractions.proofs.Neighbours.{ThreeNeighbours, three_neighbours}
 use Rattle.faces.specs.Euler.{IsPlane}
 use Rattle.faces.proofs.DartLemmas.{member-incident, order-member}
@@ -90,6 +90,48 @@ module _ (g h : Multigraph) (e x y : ℕ) (edge vertex : ℕ → ℕ) (og : IsGr
       ]
     ]
 
+    -- with a private neighbour of y: the edges at x stand together, or they alternate
+    pub turn-alternates : IsTriconnected g → (f : ℕ) → f < edge_count g → is_private g e x y f ≡ true
+        → StandTogether (λ i. is_end g x (edge i)) (leads_near g x y edge) (order_at s (vertex x)) ⊎ Alternates (λ i. is_end g x (edge i)) (leads_near g x y edge) (order_at s (vertex x))
+    turn-alternates trig f l t = alternation (λ i. is_end g x (edge i)) (leads_near g x y edge) (order_at s (vertex x)) round-either d.0 d.1 fails (several (three_neighbours g og trig x (end-in g x e og ic.edge_in ic.first_end)))
+      where
+        parts : (is_end g y f ≡ true) × (f ≢ e) × (are_joined g x (other_end g f y) ≡ false)
+        parts = private-parts g e x y f t
+
+        d : (i : ℕ) × (is_member i (order_at s (vertex x)) ≡ true) × (edge i ≡ f)
+        d = round-second f l parts.0 ((and_parts (is_end g y f) (is_kept g e x y f) (sym (private-kept g e x y f) ∙ t)).1)
+
+        fails : is_end g x (edge d.0) ≡ false
+        fails = false_from_ne_true (is_end g x (edge d.0)) (λ u. parts.1 (both-ends f l (subst (λ k. is_end g x k ≡ true) d.2 u) parts.0))
+
+        pair : (p q : ℕ) → p < edge_count g → q < edge_count g → is_end g x p ≡ true → is_end g x q ≡ true → other_end g p x ≢ other_end g q x → p ≢ e → q ≢ e → 2 ≤ length (filter (λ i. is_end g x (edge i)) (order_at s (vertex x)))
+        pair p q a b u v n m o =
+            let i = round-first p a u m in
+            let j = round-first q b v o in
+            two-pass (λ i. is_end g x (edge i)) (order_at s (vertex x)) i.0 j.0 (λ k. n (ap (λ z. other_end g z x) (sym i.2 ∙ ap edge k ∙ j.2))) i.1 j.1
+            (subst (λ k. is_end g x k ≡ true) (sym i.2) u) (subst (λ k. is_end g x k ≡ true) (sym j.2) v)
+
+        several : ThreeNeighbours g x → 2 ≤ length (filter (λ i. is_end g x (edge i)) (order_at s (vertex x)))
+        several n = elim (cases_eq n.first e) [
+          | inl a ↦ pair n.second n.third n.second_edge n.third_edge n.second_end n.third_end n.second_third (λ q. n.first_second (ap (λ z. other_end g z x) (a ∙ sym q))) (λ q. n.first_third (ap (λ z. other_end g z x) (a ∙ sym q)))
+          | inr a ↦ elim (cases_eq n.second e) [
+            | inl b ↦ pair n.first n.third n.first_edge n.third_edge n.first_end n.third_end n.first_third a (λ q. n.second_third (ap (λ z. other_end g z x) (b ∙ sym q)))
+            | inr b ↦ pair n.first n.second n.first_edge n.second_edge n.first_end n.second_end n.first_second a b
+          ]
+        ]
+
+    -- an edge round the merged vertex leads from x to each common neighbour
+    pub common-edge : (p : ℕ) → is_common g x y p ≡ true → (i : ℕ) × (is_member i (order_at s (vertex x)) ≡ true) × (IsSpoke g x p (edge i)) × (are_joined g y p ≡ true)
+    common-edge p t = made (joined-spoke g x p both.0).0 (joined-spoke g x p both.0).1
+      where
+        both : (are_joined g x p ≡ true) × (are_joined g y p ≡ true)
+        both = and_parts (are_joined g x p) (are_joined g y p) t
+
+        made : (f : ℕ) → IsSpoke g x p f → (i : ℕ) × (is_member i (order_at s (vertex x)) ≡ true) × (IsSpoke g x p (edge i)) × (are_joined g y p ≡ true)
+        made f a =
+            let w = round-first f a.is_edge a.leaves (λ q. joined-apart g og y p both.1 (sym ic.second_end ∙ ap (λ z. other_end g z x) (sym q) ∙ a.arrives)) in
+            (w.0, w.1, subst (λ z. IsSpoke g x p z) (sym w.2) a, both.1)
+
     module _ (plane : IsPlane h s) (tri : IsTriconnected h) where
       -- where edges at x alternate with an edge to a neighbour of y and an edge not at x, there is a subdivision of K3,3
       pub turn-found : Alternates (λ i. is_end g x (edge i)) (leads_near g x y edge) (order_at s (vertex x)) → HasSubdivision g
@@ -124,32 +166,4 @@ module _ (g h : Multigraph) (e x y : ℕ) (edge vertex : ℕ → ℕ) (og : IsGr
       -- with a private neighbour of y: the edges at x stand together, or there is a subdivision
       pub turn-cases : IsTriconnected g → (f : ℕ) → f < edge_count g → is_private g e x y f ≡ true
           → StandTogether (λ i. is_end g x (edge i)) (leads_near g x y edge) (order_at s (vertex x)) ⊎ HasSubdivision g
-      turn-cases trig f l t = elim (alternation (λ i. is_end g x (edge i)) (leads_near g x y edge) (order_at s (vertex x)) round-either d.0 d.1 fails (several (three_neighbours g og trig x (end-in g x e og ic.edge_in ic.first_end)))) [
-        | inl w ↦ inl w
-        | inr w ↦ inr (turn-found w)
-      ]
-        where
-          parts : (is_end g y f ≡ true) × (f ≢ e) × (are_joined g x (other_end g f y) ≡ false)
-          parts = private-parts g e x y f t
-
-          d : (i : ℕ) × (is_member i (order_at s (vertex x)) ≡ true) × (edge i ≡ f)
-          d = round-second f l parts.0 ((and_parts (is_end g y f) (is_kept g e x y f) (sym (private-kept g e x y f) ∙ t)).1)
-
-          fails : is_end g x (edge d.0) ≡ false
-          fails = false_from_ne_true (is_end g x (edge d.0)) (λ u. parts.1 (both-ends f l (subst (λ k. is_end g x k ≡ true) d.2 u) parts.0))
-
-          pair : (p q : ℕ) → p < edge_count g → q < edge_count g → is_end g x p ≡ true → is_end g x q ≡ true → other_end g p x ≢ other_end g q x → p ≢ e → q ≢ e → 2 ≤ length (filter (λ i. is_end g x (edge i)) (order_at s (vertex x)))
-          pair p q a b u v n m o =
-              let i = round-first p a u m in
-              let j = round-first q b v o in
-              two-pass (λ i. is_end g x (edge i)) (order_at s (vertex x)) i.0 j.0 (λ k. n (ap (λ z. other_end g z x) (sym i.2 ∙ ap edge k ∙ j.2))) i.1 j.1
-              (subst (λ k. is_end g x k ≡ true) (sym i.2) u) (subst (λ k. is_end g x k ≡ true) (sym j.2) v)
-
-          several : ThreeNeighbours g x → 2 ≤ length (filter (λ i. is_end g x (edge i)) (order_at s (vertex x)))
-          several n = elim (cases_eq n.first e) [
-            | inl a ↦ pair n.second n.third n.second_edge n.third_edge n.second_end n.third_end n.second_third (λ q. n.first_second (ap (λ z. other_end g z x) (a ∙ sym q))) (λ q. n.first_third (ap (λ z. other_end g z x) (a ∙ sym q)))
-            | inr a ↦ elim (cases_eq n.second e) [
-              | inl b ↦ pair n.first n.third n.first_edge n.third_edge n.first_end n.third_end n.first_third a (λ q. n.second_third (ap (λ z. other_end g z x) (b ∙ sym q)))
-              | inr b ↦ pair n.first n.second n.first_edge n.second_edge n.first_end n.second_end n.first_second a b
-            ]
-          ]
+      turn-cases trig f l t = elim (turn-alternates trig f l t) [ inl w ↦ inl w | inr w ↦ inr (turn-found w) ]
