@@ -10,7 +10,7 @@ use Rattle.graph_theory.specs.Side.{IsCommon}
 use Rattle.graph_theory.proofs.Crossings.{TwoCommon, cycle-two_common}
 use Rattle.pair_split.specs.Family.{Entry, IsFamily, names, is_common, IsTight}
 use Rattle.pair_split.specs.Edges.{graph_entry, graph_family}
-use Rattle.pair_split.specs.OneBlock.{IsOneBlock}
+use Rattle.graph_theory.specs.Block.{IsOneBlock}
 use Rattle.pair_split.proofs.Elements.{contains-here, contains-cases, contains-none, contains-map, map-contains}
 use Rattle.pair_split.proofs.Sides.{OnSide, entry-from_one, common-from}
 

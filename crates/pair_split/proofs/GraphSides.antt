@@ -6,7 +6,7 @@ use Rattle.graph_theory.specs.Side.{IsCommon}
 use Rattle.graph_theory.proofs.Crossings.{TwoCommon, cycle-two_common}
 use Rattle.pair_split.specs.Family.{Entry, has_end, is_common}
 use Rattle.pair_split.specs.Edges.{graph_family}
-use Rattle.pair_split.specs.OneBlock.{IsOneBlock}
+use Rattle.graph_theory.specs.Block.{IsOneBlock}
 use Rattle.pair_split.proofs.Sides.{common-inside, common-outside}
 use Rattle.pair_split.proofs.GraphFamily.{graph-entry}
 

@@ -34,4 +34,3 @@ pub mod Searching
 pub mod KindOf
 pub mod SplitSteps
 pub mod WritingSteps
-pub mod OneBlockTest

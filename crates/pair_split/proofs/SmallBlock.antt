@@ -6,7 +6,7 @@ use Rattle.multigraph.specs.Graph.{Multigraph, edge_count, ends_of, is_end, numb
 use Rattle.multigraph.proofs.Below.{length-numbers_below}
 use Rattle.graph_theory.specs.Side.{IsCommon}
 use Rattle.pair_split.specs.Edges.{graph_entry, graph_family, entry_ends, family_skeleton}
-use Rattle.pair_split.specs.OneBlock.{IsOneBlock}
+use Rattle.graph_theory.specs.Block.{IsOneBlock}
 use Rattle.pair_split.specs.Skeleton.{SameEnds, IsSkeleton}
 use Rattle.pair_split.specs.Split.{IsSplit}
 use Rattle.pair_split.specs.State.{start_state, AreComponents}

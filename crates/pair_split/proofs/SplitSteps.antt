@@ -8,7 +8,7 @@ use Rattle.multigraph.specs.Graph.{Multigraph, edge_count, numbers_below, IsGrap
 use Rattle.multigraph.proofs.Below.{length-numbers_below}
 use Rattle.pair_split.specs.Family.{Entry, names, on_side, off_side, IsFamily, IsTight, IsPrime}
 use Rattle.pair_split.specs.Edges.{graph_entry, graph_family, family_skeleton}
-use Rattle.pair_split.specs.OneBlock.{IsOneBlock}
+use Rattle.graph_theory.specs.Block.{IsOneBlock}
 use Rattle.pair_split.specs.Skeleton.{IsSkeleton}
 use Rattle.pair_split.specs.Lumps.{entry_of, family_of, HaveEndsBelow, HaveNamesBelow, marked}
 use Rattle.pair_split.specs.Search.{IsSearchable, IsMinimalSide}

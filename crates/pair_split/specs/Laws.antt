@@ -2,7 +2,7 @@
 use Rattle.std.specs.Prelude.{◌≡◌, ◌≢◌, ℕ, ◌<◌, true, false, not, List, length}
 use Rattle.permutations.specs.Relation.{connected}
 use Rattle.multigraph.specs.Graph.{Multigraph, edge_count, is_end}
-use Rattle.pair_split.specs.OneBlock.{IsOneBlock}
+use Rattle.graph_theory.specs.Block.{IsOneBlock}
 use Rattle.pair_split.specs.Skeleton.{is_end_of, is_vertex}
 use Rattle.pair_split.specs.Split.{items_of, item_at, piece_ends, skeleton, all_links, is_beyond, side, LinksTo, IsTree, AreLinked, IsSplit}
 use Rattle.pair_split.specs.Tutte.{has_in_group}

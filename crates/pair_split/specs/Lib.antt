@@ -1,6 +1,5 @@
 -- Split components of a block, and its tree.
 pub mod Family
-pub mod OneBlock
 pub mod Skeleton
 pub mod Edges
 pub mod Split

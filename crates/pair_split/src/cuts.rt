@@ -4,7 +4,7 @@ ghost use Rattle.std.specs.Prelude.{◌≡◌, ◌≢◌, ◌+◌, ◌<◌, ◌�
 ghost use Rattle.multigraph.specs.Graph.{edge_count, IsGraph};
 ghost use Rattle.pair_split.specs.Family.{on_side, off_side, IsFamily, IsPrime};
 ghost use Rattle.pair_split.specs.Edges.{family_skeleton, graph_family};
-ghost use Rattle.pair_split.specs.OneBlock.{IsOneBlock};
+ghost use Rattle.graph_theory.specs.Block.{IsOneBlock};
 ghost use Rattle.pair_split.specs.Skeleton.{IsSkeleton};
 ghost use Rattle.pair_split.specs.Lumps.{entry_of, family_of, HaveEndsBelow, HaveNamesBelow, marked};
 ghost use Rattle.pair_split.specs.State.{IsSplitState};

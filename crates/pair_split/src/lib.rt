@@ -10,8 +10,7 @@
 //
 // `Splitter` is the trait of what does so, and `IsSplit` its contract: the components are of their kinds, each edge stands in
 // one of them, each link in both that it joins, the links form a tree, and the two sides of a link have just its two ends in
-// common. `PairSplitter` tries all pairs of vertices and takes a side with the fewest entries. `is_one_block` tells whether a
-// graph may be split.
+// common. `PairSplitter` tries all pairs of vertices and takes a side with the fewest entries.
 //
 // The lemmas on families (module of proofs/ in front; those on the state of splitting and on links stand at the laws):
 //   Sides           common-from, common-inside, common-outside: common vertices by entries; exactly_two, separation-from: in a
@@ -35,16 +34,12 @@ mod labels;
 pub mod laws;
 mod lists;
 mod lumps;
-mod one_block;
 mod plain;
 mod search;
 mod splitter;
-#[cfg(test)]
-mod tests;
 mod writing;
 
 pub use components::{Comp, Comps, Item, Kind, Piece, What};
 pub use lists::{CompList, PieceList};
-pub use one_block::is_one_block;
 pub use plain::PairSplitter;
 pub use splitter::Splitter;

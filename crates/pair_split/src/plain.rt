@@ -2,7 +2,7 @@
 
 ghost use Rattle.std.specs.Prelude.{◌≡◌, ◌≤◌, length, IfOk};
 ghost use Rattle.multigraph.specs.Graph.{edge_count};
-ghost use Rattle.pair_split.specs.OneBlock.{IsOneBlock};
+ghost use Rattle.graph_theory.specs.Block.{IsOneBlock};
 ghost use Rattle.pair_split.specs.Family.{IsPrime};
 ghost use Rattle.pair_split.specs.Split.{IsSplit};
 ghost use Rattle.pair_split.specs.State.{IsSplitState, AreComponents};

@@ -1,7 +1,7 @@
 // What splits a block.
 
 ghost use Rattle.std.specs.Prelude.{IfOk};
-ghost use Rattle.pair_split.specs.OneBlock.{IsOneBlock};
+ghost use Rattle.graph_theory.specs.Block.{IsOneBlock};
 ghost use Rattle.pair_split.specs.Split.{IsSplit};
 
 use crate::components::Comps;

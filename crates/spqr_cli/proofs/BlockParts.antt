@@ -11,9 +11,8 @@ use Rattle.multigraph.specs.Part.{GraphPart, Rises, IsPart, IsEndOf}
 use Rattle.multigraph.proofs.OtherEnd.{is_end-cases, is_end-from_first, is_end-from_second, other_end-cases, other_end-of_first, other_end-in}
 use Rattle.multigraph.proofs.Places.{rises-once}
 use Rattle.graph_theory.specs.Path.{walk_end, walk_starts, IsWalk, IsCycle}
-use Rattle.graph_theory.specs.Block.{CommonCycle, SameBlock}
+use Rattle.graph_theory.specs.Block.{CommonCycle, SameBlock, IsOneBlock}
 use Rattle.graph_theory.proofs.Walks.{walk-edge}
-use Rattle.pair_split.specs.OneBlock.{IsOneBlock}
 use Rattle.blocks.specs.Blocks.{block_at, AreBlocks}
 
 -- a member has its image among the images

@@ -4,7 +4,7 @@ use Rattle.std.proofs.lemmas.Bool.{cases_eq}
 use Rattle.std.proofs.lemmas.List.{get_or_default, get_or-map, get_or_append_left}
 use Rattle.std.proofs.Math.Seq.{get_or-append_seam}
 use Rattle.pair_split.specs.Split.{component_at}
-use Rattle.pair_split.specs.OneBlock.{IsOneBlock}
+use Rattle.graph_theory.specs.Block.{IsOneBlock}
 use Rattle.pair_split.specs.Tutte.{Node, node_at, node_item, components, IsTutte}
 use Rattle.pair_split.specs.declared.components.Piece.{Piece}
 use Rattle.pair_split.proofs.Groups.{what-cases}

@@ -1,7 +1,7 @@
 // The split components of a block put into groups, in the order of the tree.
 
 ghost use Rattle.std.specs.Prelude.{◌≡◌, ◌<◌, ◌≤◌, length, IfOk};
-ghost use Rattle.pair_split.specs.OneBlock.{IsOneBlock};
+ghost use Rattle.graph_theory.specs.Block.{IsOneBlock};
 ghost use Rattle.pair_split.specs.Split.{IsSplit};
 ghost use Rattle.spqr_tree.specs.Merged.{AreGroups};
 ghost use Rattle.spqr_tree.specs.Flood.{group_of, AreFinished};

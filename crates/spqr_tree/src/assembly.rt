@@ -1,7 +1,7 @@
 // The tree of a block, from its split components.
 
 ghost use Rattle.std.specs.Prelude.{◌≡◌, ◌<◌, ℕ, length, IfOk};
-ghost use Rattle.pair_split.specs.OneBlock.{IsOneBlock};
+ghost use Rattle.graph_theory.specs.Block.{IsOneBlock};
 ghost use Rattle.pair_split.specs.Split.{items_of, IsSplit};
 ghost use Rattle.pair_split.specs.Tutte.{IsTutte};
 ghost use Rattle.spqr_tree.specs.Ranking.{ranks_of};

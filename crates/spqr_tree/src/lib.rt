@@ -9,6 +9,8 @@ mod keys;
 mod lists;
 mod naming;
 mod ranking;
+#[cfg(test)]
+mod tests;
 mod tree;
 
 pub use lists::ItemList;

@@ -2,7 +2,7 @@ use Rattle.std.proofs.Common.{◌<◌, ℕ, List, length, slice_index, sym, subs
 use Rattle.multigraph.specs.Graph.{Multigraph, edge_count}
 use Rattle.multigraph.specs.Part.{IsPart}
 use Rattle.blocks.specs.Blocks.{block_at}
-use Rattle.pair_split.specs.OneBlock.{IsOneBlock}
+use Rattle.graph_theory.specs.Block.{IsOneBlock}
 use Rattle.spqr_cli.proofs.BlockParts.{block-edges_in, part-one_block}
 use Rattle.spqr_cli.proofs.trees.tree_of.Goals as goal
 

@@ -1,9 +1,11 @@
-// Small blocks and their split components, worked out by hand, under each rotation of the list of edges.
+// Small blocks and their split components, worked out by hand, under each rotation of the list of edges; and their trees.
 
 ghost use Rattle.std.specs.Prelude.{◌≤◌, length};
 
-use crate::*;
+use crate::Tree;
+use blocks::is_one_block;
 use multigraph::Graph;
+use pair_split::{Comp, Comps, Kind, PairSplitter, Piece, Splitter};
 use std::alloc::{AllocError, Global};
 use std::test::Fail;
 
@@ -279,18 +281,38 @@ fn splits_worked_rows(rt: HostRuntime) -> Result<(), Fail> {
     Ok(())
 }
 
+// The nodes of the tree of the block of these edges, which is copied first: of each its vertices, and a bar.
+fn described(alloc: Global, vertices: u32, ends: Ends<'_>) -> Result<Vec<u32>, Fail> {
+    let Ok(graph) = Graph::build(alloc, vertices, ends) else {
+        return Err(Fail::from("no graph"));
+    };
+    if !is_one_block(alloc, &graph)? {
+        return Err(Fail::from("no block"));
+    }
+    let comps = PairSplitter::new().split(alloc, &graph)?;
+    let tree = Tree::assemble(alloc, &graph, comps)?.copy(alloc)?;
+    let mut nodes = Vec::new(alloc);
+    for k in 0..tree.node_count() {
+        nodes.extend_from_slice(tree.vertices(k))?;
+        nodes.push(BAR)?;
+    }
+    Ok(nodes)
+}
+
+const BAR: u32 = 99;
+
+// A cycle of four edges is one polygon; a chord makes two triangles and a bond of it.
 #[test]
-fn tells_blocks(rt: HostRuntime) -> Result<(), Fail> {
-    let rows: [(u32, &[(u32, u32)], bool); 5] = [
-        (2, &[(0, 1)], true),
-        (3, &[(0, 1)], false),
-        (3, &[(0, 1), (1, 2)], false),
-        (3, &[(0, 1), (1, 2), (2, 0)], true),
-        (1, &[], false),
+fn assembles_trees(rt: HostRuntime) -> Result<(), Fail> {
+    let rows: [(&[(u32, u32)], &[u32]); 2] = [
+        (&[(0, 1), (1, 2), (2, 3), (3, 0)], &[0, 1, 2, 3, BAR]),
+        (
+            &[(0, 1), (1, 2), (2, 3), (3, 0), (0, 2)],
+            &[0, 1, 2, BAR, 0, 2, BAR, 0, 2, 3, BAR],
+        ),
     ];
-    for (vertices, ends, answer) in rows {
-        let graph = Graph::build(rt.alloc(), vertices, ends)?;
-        assert_eq!(rt; is_one_block(rt.alloc(), &graph)?, answer);
+    for (ends, nodes) in rows {
+        assert_eq!(rt; described(rt.alloc(), 4, ends)?.as_slice(), nodes);
     }
     Ok(())
 }
