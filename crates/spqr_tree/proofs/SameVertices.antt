@@ -16,6 +16,8 @@ use Rattle.spqr_tree.proofs.JoinedBonds.{same-sym, same-trans}
 use Rattle.pair_split.proofs.TreeSides.{beyond-some, beyond-other, link-back, link-from}
 use Rattle.pair_split.proofs.Groups.{same-end, same-end_back}
 use Rattle.pair_split.proofs.LargeSides.{three-vertices, node-touch}
+use Rattle.pair_split.proofs.GraphFamily.{one_block-tight}
+use Rattle.spqr_tree.specs.Laws.{VerticesTellComponents}
 use Rattle.std.proofs.lemmas.List.{get_or-map, length-map}
 use Rattle.std.proofs.lemmas.List.Elements.{All-from_get_or, All-get_or}
 use Rattle.spqr_tree.proofs.JoinedPolygons.{vertex-degree, end-vertex}
@@ -265,3 +267,10 @@ module _ (g : Multigraph) (comps : List Comp) (split : IsSplit g comps) (tight :
 
       near : w.0 < length comps
       near = link-from comps split.linked w.0 k back
+
+-- in a block, components with the same vertices are the same one
+pub vertices-tell : VerticesTellComponents
+vertices-tell g comps block split no_polygons no_bonds k j lk lj same = elim (cases_eq k j) [
+  | inl e ↦ e
+  | inr n ↦ absurd (same-vertices g comps split (one_block-tight g block) no_polygons no_bonds k j lk lj same n)
+]

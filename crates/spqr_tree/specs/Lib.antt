@@ -5,3 +5,4 @@ pub mod Ranking
 pub mod Assembly
 pub mod Keys
 pub mod Grouping
+pub mod Laws

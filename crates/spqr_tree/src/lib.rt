@@ -6,6 +6,7 @@ mod assembly;
 mod flood;
 mod grouping;
 mod keys;
+pub mod laws;
 mod lists;
 mod naming;
 mod ranking;
