@@ -50,81 +50,83 @@ fn answer(
     Ok((status, sink.bytes().to_vec(alloc)?))
 }
 
+// Graphs and scripts, with the status and the report of a run on them.
+static RUNS: [(&[u8], &[u8], Status, &[u8]); 17] = [
+    (b"graph [ ]", b"", Status::Done, b"graph 0 0\n"),
+    (
+        b"graph [ ]",
+        b"euler",
+        Status::Done,
+        b"graph 0 0\neuler 0 0 0 0 plane\n",
+    ),
+    (K4, K4_PLANE, Status::Done, K4_REPORT),
+    (
+        K4,
+        b"euler 0: 0",
+        Status::Done,
+        b"graph 4 6\nvertex 0 0\nvertex 1 1\nvertex 2 2\nvertex 3 3\n\
+        block 0: 0 1 2 3 4 5\nnode 0 R 0 1 2 3 | 0:0-1 1:0-2 2:0-3 3:1-2 4:1-3 5:2-3\n\
+        error 6 0\n",
+    ),
+    (TAIL, TAIL_SCRIPT, Status::Done, TAIL_REPORT),
+    (K33_TRIANGLE, b"", Status::Done, K33_TRIANGLE_HEAD),
+    (MANY_KINDS, b"gml", Status::Done, MANY_KINDS_REPORT),
+    (
+        b"graph [ node [ id 0 ] node [ id 1 ] node [ id 2 ] edge [ source 0 target 1 ] \
+        edge [ source 1 target 2 ] edge [ source 2 target 2 ] ]",
+        b"",
+        Status::GraphRefused,
+        b"refused graph loop 2\n",
+    ),
+    (
+        b"graph [ node [ id 0",
+        b"",
+        Status::GmlRefused,
+        b"refused gml end 19\n",
+    ),
+    (b"x 12a", b"", Status::GmlRefused, b"refused gml bad 4\n"),
+    (
+        b"a[a[a[a[a[a[a[a[a[a[a[a[a[a[a[a[a[a[a[a[a[a[a[a[a[a[a[a[a[a[a[a[a[",
+        b"",
+        Status::GmlRefused,
+        b"refused gml bad 65\n",
+    ),
+    (
+        b"graph [ node [ ] ]",
+        b"",
+        Status::GraphRefused,
+        b"refused graph node-no-id 0\n",
+    ),
+    (
+        b"graph [ node [ id 3 ] node [ id 3 ] ]",
+        b"",
+        Status::GraphRefused,
+        b"refused graph same-id 1\n",
+    ),
+    (b"a 1", b"", Status::GraphRefused, b"refused graph none\n"),
+    (
+        K4,
+        b"# c\nlist 0 10001\n",
+        Status::ScriptRefused,
+        b"refused script line 2\n",
+    ),
+    (
+        K4,
+        b"shwo 0",
+        Status::ScriptRefused,
+        b"refused script line 1\n",
+    ),
+    (
+        b"a b",
+        b"shwo 0",
+        Status::GmlRefused,
+        b"refused gml bad 2\n",
+    ),
+];
+
 #[test]
 fn reports_and_refusals(rt: HostRuntime) -> Result<(), Fail> {
-    let rows: [(&[u8], &[u8], Status, &[u8]); 17] = [
-        (b"graph [ ]", b"", Status::Done, b"graph 0 0\n"),
-        (
-            b"graph [ ]",
-            b"euler",
-            Status::Done,
-            b"graph 0 0\neuler 0 0 0 0 plane\n",
-        ),
-        (K4, K4_PLANE, Status::Done, K4_REPORT),
-        (
-            K4,
-            b"euler 0: 0",
-            Status::Done,
-            b"graph 4 6\nvertex 0 0\nvertex 1 1\nvertex 2 2\nvertex 3 3\n\
-            block 0: 0 1 2 3 4 5\nnode 0 R 0 1 2 3 | 0:0-1 1:0-2 2:0-3 3:1-2 4:1-3 5:2-3\n\
-            error 6 0\n",
-        ),
-        (TAIL, TAIL_SCRIPT, Status::Done, TAIL_REPORT),
-        (K33_TRIANGLE, b"", Status::Done, K33_TRIANGLE_HEAD),
-        (MANY_KINDS, b"gml", Status::Done, MANY_KINDS_REPORT),
-        (
-            b"graph [ node [ id 0 ] node [ id 1 ] node [ id 2 ] edge [ source 0 target 1 ] \
-            edge [ source 1 target 2 ] edge [ source 2 target 2 ] ]",
-            b"",
-            Status::GraphRefused,
-            b"refused graph loop 2\n",
-        ),
-        (
-            b"graph [ node [ id 0",
-            b"",
-            Status::GmlRefused,
-            b"refused gml end 19\n",
-        ),
-        (b"x 12a", b"", Status::GmlRefused, b"refused gml bad 4\n"),
-        (
-            b"a[a[a[a[a[a[a[a[a[a[a[a[a[a[a[a[a[a[a[a[a[a[a[a[a[a[a[a[a[a[a[a[a[",
-            b"",
-            Status::GmlRefused,
-            b"refused gml bad 65\n",
-        ),
-        (
-            b"graph [ node [ ] ]",
-            b"",
-            Status::GraphRefused,
-            b"refused graph node-no-id 0\n",
-        ),
-        (
-            b"graph [ node [ id 3 ] node [ id 3 ] ]",
-            b"",
-            Status::GraphRefused,
-            b"refused graph same-id 1\n",
-        ),
-        (b"a 1", b"", Status::GraphRefused, b"refused graph none\n"),
-        (
-            K4,
-            b"# c\nlist 0 10001\n",
-            Status::ScriptRefused,
-            b"refused script line 2\n",
-        ),
-        (
-            K4,
-            b"shwo 0",
-            Status::ScriptRefused,
-            b"refused script line 1\n",
-        ),
-        (
-            b"a b",
-            b"shwo 0",
-            Status::GmlRefused,
-            b"refused gml bad 2\n",
-        ),
-    ];
-    for (graph, script, status, text) in rows {
+    for (graph, script, status, text) in RUNS {
         let (found, written) = answer(rt.alloc(), (graph, script), (&[], &[]), 1000)?;
         assert_eq!(rt; found, status);
         assert_eq!(rt; written.as_slice(), text);
@@ -174,136 +176,137 @@ const MANY_KINDS_REPORT: &[u8] =
     ]\n  ]\n  node [\n    id -2\n  ]\n  edge [\n    source 7\n    target -2\n    w_2 .5\n  ]\n]\n";
 
 // Graphs of one block, and the heads of their reports.
+static BLOCKS: [(&[u8], &[u8]); 14] = [
+    // Two parallel edges.
+    (
+        b"graph [ node [ id 0 ] node [ id 1 ] edge [ source 0 target 1 ] edge [ source 0 target 1 ] ]",
+        b"graph 2 2\nvertex 0 0\nvertex 1 1\nblock 0: 0 1\nnode 0 B 0 1 | 0:0-1 1:0-1\n",
+    ),
+    // Three parallel edges.
+    (
+        b"graph [ node [ id 0 ] node [ id 1 ] edge [ source 0 target 1 ] edge [ source 0 target 1 ] edge [ \
+        source 0 target 1 ] ]",
+        b"graph 2 3\nvertex 0 0\nvertex 1 1\nblock 0: 0 1 2\nnode 0 P 0 1 | 0:0-1 1:0-1 2:0-1\n",
+    ),
+    // A square with a chord.
+    (
+        b"graph [ node [ id 0 ] node [ id 1 ] node [ id 2 ] node [ id 3 ] edge [ source 0 target 1 ] edge \
+        [ source 1 target 2 ] edge [ source 2 target 3 ] edge [ source 3 target 0 ] edge [ source 0 \
+        target 2 ] ]",
+        b"graph 4 5\nvertex 0 0\nvertex 1 1\nvertex 2 2\nvertex 3 3\nblock 0: 0 1 2 3 4\n\
+        node 0 S 0 1 2 | 0:0-1 1:1-2 2:0-2@1\nnode 1 P 0 2 | 0:0-2@0 2:0-2@2 4:0-2\n\
+        node 2 S 0 2 3 | 0:0-2@1 2:2-3 3:0-3\n",
+    ),
+    // K2,3.
+    (
+        b"graph [ node [ id 0 ] node [ id 1 ] node [ id 2 ] node [ id 3 ] node [ id 4 ] edge [ source 0 \
+        target 2 ] edge [ source 1 target 2 ] edge [ source 0 target 3 ] edge [ source 1 target 3 ] edge \
+        [ source 0 target 4 ] edge [ source 1 target 4 ] ]",
+        b"graph 5 6\nvertex 0 0\nvertex 1 1\nvertex 2 2\nvertex 3 3\nvertex 4 4\nblock 0: 0 1 2 3 4 5\n\
+        node 0 P 0 1 | 0:0-1@1 2:0-1@2 4:0-1@3\nnode 1 S 0 1 2 | 0:0-2 1:1-2 2:0-1@0\n\
+        node 2 S 0 1 3 | 0:0-1@0 2:0-3 3:1-3\nnode 3 S 0 1 4 | 0:0-1@0 4:0-4 5:1-4\n",
+    ),
+    // A pentagon.
+    (
+        b"graph [ node [ id 0 ] node [ id 1 ] node [ id 2 ] node [ id 3 ] node [ id 4 ] edge [ source 0 \
+        target 1 ] edge [ source 1 target 2 ] edge [ source 2 target 3 ] edge [ source 3 target 4 ] edge \
+        [ source 4 target 0 ] ]",
+        b"graph 5 5\nvertex 0 0\nvertex 1 1\nvertex 2 2\nvertex 3 3\nvertex 4 4\nblock 0: 0 1 2 3 4\n\
+        node 0 S 0 1 2 3 4 | 0:0-1 1:1-2 2:2-3 3:3-4 4:0-4\n",
+    ),
+    // K5.
+    (
+        b"graph [ node [ id 0 ] node [ id 1 ] node [ id 2 ] node [ id 3 ] node [ id 4 ] edge [ source 0 \
+        target 1 ] edge [ source 0 target 2 ] edge [ source 0 target 3 ] edge [ source 0 target 4 ] edge \
+        [ source 1 target 2 ] edge [ source 1 target 3 ] edge [ source 1 target 4 ] edge [ source 2 \
+        target 3 ] edge [ source 2 target 4 ] edge [ source 3 target 4 ] ]",
+        b"graph 5 10\nvertex 0 0\nvertex 1 1\nvertex 2 2\nvertex 3 3\nvertex 4 4\n\
+        block 0: 0 1 2 3 4 5 6 7 8 9\n\
+        node 0 R 0 1 2 3 4 | 0:0-1 1:0-2 2:0-3 3:0-4 4:1-2 5:1-3 6:1-4 7:2-3 8:2-4 9:3-4\n",
+    ),
+    // K3,3 with a subdivided edge.
+    (
+        b"graph [ node [ id 0 ] node [ id 1 ] node [ id 2 ] node [ id 3 ] node [ id 4 ] node [ id 5 ] node \
+        [ id 6 ] edge [ source 0 target 3 ] edge [ source 0 target 4 ] edge [ source 0 target 5 ] edge [ \
+        source 1 target 3 ] edge [ source 1 target 4 ] edge [ source 1 target 5 ] edge [ source 2 target \
+        3 ] edge [ source 2 target 4 ] edge [ source 2 target 6 ] edge [ source 6 target 5 ] ]",
+        b"graph 7 10\nvertex 0 0\nvertex 1 1\nvertex 2 2\nvertex 3 3\nvertex 4 4\nvertex 5 5\n\
+        vertex 6 6\nblock 0: 0 1 2 3 4 5 6 7 8 9\n\
+        node 0 R 0 1 2 3 4 5 | 0:0-3 1:0-4 2:0-5 3:1-3 4:1-4 5:1-5 6:2-3 7:2-4 8:2-5@1\n\
+        node 1 S 2 5 6 | 0:2-5@0 8:2-6 9:5-6\n",
+    ),
+    // Two K4 on an edge.
+    (
+        b"graph [ node [ id 0 ] node [ id 1 ] node [ id 2 ] node [ id 3 ] node [ id 4 ] node [ id 5 ] edge \
+        [ source 0 target 1 ] edge [ source 0 target 2 ] edge [ source 0 target 3 ] edge [ source 1 \
+        target 2 ] edge [ source 1 target 3 ] edge [ source 2 target 3 ] edge [ source 0 target 4 ] edge \
+        [ source 0 target 5 ] edge [ source 1 target 4 ] edge [ source 1 target 5 ] edge [ source 4 \
+        target 5 ] ]",
+        b"graph 6 11\nvertex 0 0\nvertex 1 1\nvertex 2 2\nvertex 3 3\nvertex 4 4\nvertex 5 5\n\
+        block 0: 0 1 2 3 4 5 6 7 8 9 10\nnode 0 P 0 1 | 0:0-1 1:0-1@1 6:0-1@2\n\
+        node 1 R 0 1 2 3 | 0:0-1@0 1:0-2 2:0-3 3:1-2 4:1-3 5:2-3\n\
+        node 2 R 0 1 4 5 | 0:0-1@0 6:0-4 7:0-5 8:1-4 9:1-5 10:4-5\n",
+    ),
+    // Two K4 without it.
+    (
+        b"graph [ node [ id 0 ] node [ id 1 ] node [ id 2 ] node [ id 3 ] node [ id 4 ] node [ id 5 ] edge \
+        [ source 0 target 2 ] edge [ source 0 target 3 ] edge [ source 1 target 2 ] edge [ source 1 \
+        target 3 ] edge [ source 2 target 3 ] edge [ source 0 target 4 ] edge [ source 0 target 5 ] edge \
+        [ source 1 target 4 ] edge [ source 1 target 5 ] edge [ source 4 target 5 ] ]",
+        b"graph 6 10\nvertex 0 0\nvertex 1 1\nvertex 2 2\nvertex 3 3\nvertex 4 4\nvertex 5 5\n\
+        block 0: 0 1 2 3 4 5 6 7 8 9\nnode 0 R 0 1 2 3 | 0:0-2 1:0-3 2:1-2 3:1-3 4:2-3 5:0-1@1\n\
+        node 1 R 0 1 4 5 | 0:0-1@0 5:0-4 6:0-5 7:1-4 8:1-5 9:4-5\n",
+    ),
+    // A triangle with a doubled edge.
+    (
+        b"graph [ node [ id 0 ] node [ id 1 ] node [ id 2 ] edge [ source 0 target 1 ] edge [ source 0 \
+        target 1 ] edge [ source 1 target 2 ] edge [ source 2 target 0 ] ]",
+        b"graph 3 4\nvertex 0 0\nvertex 1 1\nvertex 2 2\nblock 0: 0 1 2 3\n\
+        node 0 P 0 1 | 0:0-1 1:0-1 2:0-1@1\nnode 1 S 0 1 2 | 0:0-1@0 2:1-2 3:0-2\n",
+    ),
+    // A triangle with all edges doubled.
+    (
+        b"graph [ node [ id 0 ] node [ id 1 ] node [ id 2 ] edge [ source 0 target 1 ] edge [ source 0 \
+        target 1 ] edge [ source 1 target 2 ] edge [ source 1 target 2 ] edge [ source 2 target 0 ] edge \
+        [ source 2 target 0 ] ]",
+        b"graph 3 6\nvertex 0 0\nvertex 1 1\nvertex 2 2\nblock 0: 0 1 2 3 4 5\n\
+        node 0 P 0 1 | 0:0-1 1:0-1 2:0-1@1\nnode 1 S 0 1 2 | 0:0-1@0 2:1-2@3 4:0-2@2\n\
+        node 2 P 0 2 | 0:0-2@1 4:0-2 5:0-2\nnode 3 P 1 2 | 0:1-2@1 2:1-2 3:1-2\n",
+    ),
+    // A triangulated square with a doubled edge.
+    (
+        b"graph [ node [ id 0 ] node [ id 1 ] node [ id 2 ] node [ id 3 ] edge [ source 0 target 1 ] edge \
+        [ source 1 target 2 ] edge [ source 2 target 3 ] edge [ source 3 target 0 ] edge [ source 0 \
+        target 2 ] edge [ source 0 target 2 ] edge [ source 1 target 3 ] ]",
+        b"graph 4 7\nvertex 0 0\nvertex 1 1\nvertex 2 2\nvertex 3 3\nblock 0: 0 1 2 3 4 5 6\n\
+        node 0 R 0 1 2 3 | 0:0-1 1:1-2 2:2-3 3:0-3 4:0-2@1 6:1-3\nnode 1 P 0 2 | 0:0-2@0 4:0-2 5:0-2\n",
+    ),
+    // A bond with two polygons.
+    (
+        b"graph [ node [ id 0 ] node [ id 1 ] node [ id 2 ] node [ id 3 ] node [ id 4 ] edge [ source 0 \
+        target 1 ] edge [ source 0 target 1 ] edge [ source 0 target 1 ] edge [ source 0 target 2 ] edge \
+        [ source 2 target 1 ] edge [ source 0 target 3 ] edge [ source 3 target 4 ] edge [ source 4 \
+        target 1 ] ]",
+        b"graph 5 8\nvertex 0 0\nvertex 1 1\nvertex 2 2\nvertex 3 3\nvertex 4 4\n\
+        block 0: 0 1 2 3 4 5 6 7\nnode 0 P 0 1 | 0:0-1 1:0-1 2:0-1 3:0-1@1 5:0-1@2\n\
+        node 1 S 0 1 2 | 0:0-1@0 3:0-2 4:1-2\nnode 2 S 0 1 3 4 | 0:0-1@0 5:0-3 6:3-4 7:1-4\n",
+    ),
+    // Bundles between two triconnected sides.
+    (
+        b"graph [ node [ id 0 ] node [ id 1 ] node [ id 2 ] node [ id 3 ] node [ id 4 ] edge [ source 0 \
+        target 1 ] edge [ source 0 target 2 ] edge [ source 0 target 3 ] edge [ source 1 target 4 ] edge \
+        [ source 1 target 3 ] edge [ source 2 target 3 ] edge [ source 4 target 2 ] edge [ source 0 \
+        target 2 ] edge [ source 4 target 2 ] ]",
+        b"graph 5 9\nvertex 0 0\nvertex 1 1\nvertex 2 2\nvertex 3 3\nvertex 4 4\n\
+        block 0: 0 1 2 3 4 5 6 7 8\nnode 0 R 0 1 2 3 | 0:0-1 1:0-2@1 2:0-3 3:1-2@2 4:1-3 5:2-3\n\
+        node 1 P 0 2 | 0:0-2@0 1:0-2 7:0-2\nnode 2 S 1 2 4 | 0:1-2@0 3:1-4 6:2-4@3\n\
+        node 3 P 2 4 | 0:2-4@2 6:2-4 8:2-4\n",
+    ),
+];
+
 #[test]
 fn trees_of_blocks(rt: HostRuntime) -> Result<(), Fail> {
-    let rows: [(&[u8], &[u8]); 14] = [
-        // Two parallel edges.
-        (
-            b"graph [ node [ id 0 ] node [ id 1 ] edge [ source 0 target 1 ] edge [ source 0 target 1 ] ]",
-            b"graph 2 2\nvertex 0 0\nvertex 1 1\nblock 0: 0 1\nnode 0 B 0 1 | 0:0-1 1:0-1\n",
-        ),
-        // Three parallel edges.
-        (
-            b"graph [ node [ id 0 ] node [ id 1 ] edge [ source 0 target 1 ] edge [ source 0 target 1 ] edge [ \
-            source 0 target 1 ] ]",
-            b"graph 2 3\nvertex 0 0\nvertex 1 1\nblock 0: 0 1 2\nnode 0 P 0 1 | 0:0-1 1:0-1 2:0-1\n",
-        ),
-        // A square with a chord.
-        (
-            b"graph [ node [ id 0 ] node [ id 1 ] node [ id 2 ] node [ id 3 ] edge [ source 0 target 1 ] edge \
-            [ source 1 target 2 ] edge [ source 2 target 3 ] edge [ source 3 target 0 ] edge [ source 0 \
-            target 2 ] ]",
-            b"graph 4 5\nvertex 0 0\nvertex 1 1\nvertex 2 2\nvertex 3 3\nblock 0: 0 1 2 3 4\n\
-            node 0 S 0 1 2 | 0:0-1 1:1-2 2:0-2@1\nnode 1 P 0 2 | 0:0-2@0 2:0-2@2 4:0-2\n\
-            node 2 S 0 2 3 | 0:0-2@1 2:2-3 3:0-3\n",
-        ),
-        // K2,3.
-        (
-            b"graph [ node [ id 0 ] node [ id 1 ] node [ id 2 ] node [ id 3 ] node [ id 4 ] edge [ source 0 \
-            target 2 ] edge [ source 1 target 2 ] edge [ source 0 target 3 ] edge [ source 1 target 3 ] edge \
-            [ source 0 target 4 ] edge [ source 1 target 4 ] ]",
-            b"graph 5 6\nvertex 0 0\nvertex 1 1\nvertex 2 2\nvertex 3 3\nvertex 4 4\nblock 0: 0 1 2 3 4 5\n\
-            node 0 P 0 1 | 0:0-1@1 2:0-1@2 4:0-1@3\nnode 1 S 0 1 2 | 0:0-2 1:1-2 2:0-1@0\n\
-            node 2 S 0 1 3 | 0:0-1@0 2:0-3 3:1-3\nnode 3 S 0 1 4 | 0:0-1@0 4:0-4 5:1-4\n",
-        ),
-        // A pentagon.
-        (
-            b"graph [ node [ id 0 ] node [ id 1 ] node [ id 2 ] node [ id 3 ] node [ id 4 ] edge [ source 0 \
-            target 1 ] edge [ source 1 target 2 ] edge [ source 2 target 3 ] edge [ source 3 target 4 ] edge \
-            [ source 4 target 0 ] ]",
-            b"graph 5 5\nvertex 0 0\nvertex 1 1\nvertex 2 2\nvertex 3 3\nvertex 4 4\nblock 0: 0 1 2 3 4\n\
-            node 0 S 0 1 2 3 4 | 0:0-1 1:1-2 2:2-3 3:3-4 4:0-4\n",
-        ),
-        // K5.
-        (
-            b"graph [ node [ id 0 ] node [ id 1 ] node [ id 2 ] node [ id 3 ] node [ id 4 ] edge [ source 0 \
-            target 1 ] edge [ source 0 target 2 ] edge [ source 0 target 3 ] edge [ source 0 target 4 ] edge \
-            [ source 1 target 2 ] edge [ source 1 target 3 ] edge [ source 1 target 4 ] edge [ source 2 \
-            target 3 ] edge [ source 2 target 4 ] edge [ source 3 target 4 ] ]",
-            b"graph 5 10\nvertex 0 0\nvertex 1 1\nvertex 2 2\nvertex 3 3\nvertex 4 4\n\
-            block 0: 0 1 2 3 4 5 6 7 8 9\n\
-            node 0 R 0 1 2 3 4 | 0:0-1 1:0-2 2:0-3 3:0-4 4:1-2 5:1-3 6:1-4 7:2-3 8:2-4 9:3-4\n",
-        ),
-        // K3,3 with a subdivided edge.
-        (
-            b"graph [ node [ id 0 ] node [ id 1 ] node [ id 2 ] node [ id 3 ] node [ id 4 ] node [ id 5 ] node \
-            [ id 6 ] edge [ source 0 target 3 ] edge [ source 0 target 4 ] edge [ source 0 target 5 ] edge [ \
-            source 1 target 3 ] edge [ source 1 target 4 ] edge [ source 1 target 5 ] edge [ source 2 target \
-            3 ] edge [ source 2 target 4 ] edge [ source 2 target 6 ] edge [ source 6 target 5 ] ]",
-            b"graph 7 10\nvertex 0 0\nvertex 1 1\nvertex 2 2\nvertex 3 3\nvertex 4 4\nvertex 5 5\n\
-            vertex 6 6\nblock 0: 0 1 2 3 4 5 6 7 8 9\n\
-            node 0 R 0 1 2 3 4 5 | 0:0-3 1:0-4 2:0-5 3:1-3 4:1-4 5:1-5 6:2-3 7:2-4 8:2-5@1\n\
-            node 1 S 2 5 6 | 0:2-5@0 8:2-6 9:5-6\n",
-        ),
-        // Two K4 on an edge.
-        (
-            b"graph [ node [ id 0 ] node [ id 1 ] node [ id 2 ] node [ id 3 ] node [ id 4 ] node [ id 5 ] edge \
-            [ source 0 target 1 ] edge [ source 0 target 2 ] edge [ source 0 target 3 ] edge [ source 1 \
-            target 2 ] edge [ source 1 target 3 ] edge [ source 2 target 3 ] edge [ source 0 target 4 ] edge \
-            [ source 0 target 5 ] edge [ source 1 target 4 ] edge [ source 1 target 5 ] edge [ source 4 \
-            target 5 ] ]",
-            b"graph 6 11\nvertex 0 0\nvertex 1 1\nvertex 2 2\nvertex 3 3\nvertex 4 4\nvertex 5 5\n\
-            block 0: 0 1 2 3 4 5 6 7 8 9 10\nnode 0 P 0 1 | 0:0-1 1:0-1@1 6:0-1@2\n\
-            node 1 R 0 1 2 3 | 0:0-1@0 1:0-2 2:0-3 3:1-2 4:1-3 5:2-3\n\
-            node 2 R 0 1 4 5 | 0:0-1@0 6:0-4 7:0-5 8:1-4 9:1-5 10:4-5\n",
-        ),
-        // Two K4 without it.
-        (
-            b"graph [ node [ id 0 ] node [ id 1 ] node [ id 2 ] node [ id 3 ] node [ id 4 ] node [ id 5 ] edge \
-            [ source 0 target 2 ] edge [ source 0 target 3 ] edge [ source 1 target 2 ] edge [ source 1 \
-            target 3 ] edge [ source 2 target 3 ] edge [ source 0 target 4 ] edge [ source 0 target 5 ] edge \
-            [ source 1 target 4 ] edge [ source 1 target 5 ] edge [ source 4 target 5 ] ]",
-            b"graph 6 10\nvertex 0 0\nvertex 1 1\nvertex 2 2\nvertex 3 3\nvertex 4 4\nvertex 5 5\n\
-            block 0: 0 1 2 3 4 5 6 7 8 9\nnode 0 R 0 1 2 3 | 0:0-2 1:0-3 2:1-2 3:1-3 4:2-3 5:0-1@1\n\
-            node 1 R 0 1 4 5 | 0:0-1@0 5:0-4 6:0-5 7:1-4 8:1-5 9:4-5\n",
-        ),
-        // A triangle with a doubled edge.
-        (
-            b"graph [ node [ id 0 ] node [ id 1 ] node [ id 2 ] edge [ source 0 target 1 ] edge [ source 0 \
-            target 1 ] edge [ source 1 target 2 ] edge [ source 2 target 0 ] ]",
-            b"graph 3 4\nvertex 0 0\nvertex 1 1\nvertex 2 2\nblock 0: 0 1 2 3\n\
-            node 0 P 0 1 | 0:0-1 1:0-1 2:0-1@1\nnode 1 S 0 1 2 | 0:0-1@0 2:1-2 3:0-2\n",
-        ),
-        // A triangle with all edges doubled.
-        (
-            b"graph [ node [ id 0 ] node [ id 1 ] node [ id 2 ] edge [ source 0 target 1 ] edge [ source 0 \
-            target 1 ] edge [ source 1 target 2 ] edge [ source 1 target 2 ] edge [ source 2 target 0 ] edge \
-            [ source 2 target 0 ] ]",
-            b"graph 3 6\nvertex 0 0\nvertex 1 1\nvertex 2 2\nblock 0: 0 1 2 3 4 5\n\
-            node 0 P 0 1 | 0:0-1 1:0-1 2:0-1@1\nnode 1 S 0 1 2 | 0:0-1@0 2:1-2@3 4:0-2@2\n\
-            node 2 P 0 2 | 0:0-2@1 4:0-2 5:0-2\nnode 3 P 1 2 | 0:1-2@1 2:1-2 3:1-2\n",
-        ),
-        // A triangulated square with a doubled edge.
-        (
-            b"graph [ node [ id 0 ] node [ id 1 ] node [ id 2 ] node [ id 3 ] edge [ source 0 target 1 ] edge \
-            [ source 1 target 2 ] edge [ source 2 target 3 ] edge [ source 3 target 0 ] edge [ source 0 \
-            target 2 ] edge [ source 0 target 2 ] edge [ source 1 target 3 ] ]",
-            b"graph 4 7\nvertex 0 0\nvertex 1 1\nvertex 2 2\nvertex 3 3\nblock 0: 0 1 2 3 4 5 6\n\
-            node 0 R 0 1 2 3 | 0:0-1 1:1-2 2:2-3 3:0-3 4:0-2@1 6:1-3\nnode 1 P 0 2 | 0:0-2@0 4:0-2 5:0-2\n",
-        ),
-        // A bond with two polygons.
-        (
-            b"graph [ node [ id 0 ] node [ id 1 ] node [ id 2 ] node [ id 3 ] node [ id 4 ] edge [ source 0 \
-            target 1 ] edge [ source 0 target 1 ] edge [ source 0 target 1 ] edge [ source 0 target 2 ] edge \
-            [ source 2 target 1 ] edge [ source 0 target 3 ] edge [ source 3 target 4 ] edge [ source 4 \
-            target 1 ] ]",
-            b"graph 5 8\nvertex 0 0\nvertex 1 1\nvertex 2 2\nvertex 3 3\nvertex 4 4\n\
-            block 0: 0 1 2 3 4 5 6 7\nnode 0 P 0 1 | 0:0-1 1:0-1 2:0-1 3:0-1@1 5:0-1@2\n\
-            node 1 S 0 1 2 | 0:0-1@0 3:0-2 4:1-2\nnode 2 S 0 1 3 4 | 0:0-1@0 5:0-3 6:3-4 7:1-4\n",
-        ),
-        // Bundles between two triconnected sides.
-        (
-            b"graph [ node [ id 0 ] node [ id 1 ] node [ id 2 ] node [ id 3 ] node [ id 4 ] edge [ source 0 \
-            target 1 ] edge [ source 0 target 2 ] edge [ source 0 target 3 ] edge [ source 1 target 4 ] edge \
-            [ source 1 target 3 ] edge [ source 2 target 3 ] edge [ source 4 target 2 ] edge [ source 0 \
-            target 2 ] edge [ source 4 target 2 ] ]",
-            b"graph 5 9\nvertex 0 0\nvertex 1 1\nvertex 2 2\nvertex 3 3\nvertex 4 4\n\
-            block 0: 0 1 2 3 4 5 6 7 8\nnode 0 R 0 1 2 3 | 0:0-1 1:0-2@1 2:0-3 3:1-2@2 4:1-3 5:2-3\n\
-            node 1 P 0 2 | 0:0-2@0 1:0-2 7:0-2\nnode 2 S 1 2 4 | 0:1-2@0 3:1-4 6:2-4@3\n\
-            node 3 P 2 4 | 0:2-4@2 6:2-4 8:2-4\n",
-        ),
-    ];
-    for (graph, head) in rows {
+    for (graph, head) in BLOCKS {
         let (found, written) = answer(rt.alloc(), (graph, b""), (&[], &[]), 1000)?;
         assert_eq!(rt; found, Status::Done);
         assert_eq!(rt; written.as_slice(), head);
