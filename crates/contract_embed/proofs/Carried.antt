@@ -21,11 +21,12 @@ use Rattle.planarity.proofs.CarriedMaps.{IsNumbering, outer-live, outer-dead}
 use Rattle.planarity.proofs.ContractedSystem.{kept-numbering}
 use Rattle.planarity.proofs.ExpandedApart.{carried}
 use Rattle.planarity.proofs.ExpandedPlane.{expanded-system}
-use Rattle.contract_embed.specs.Level.{IsLevel, contraction, edge_before}
-use Rattle.contract_embed.specs.Steps.{AgreeBelow, AreSteps, ArePlaneSteps, first_dart, rejoined}
+use Rattle.contractions.specs.Level.{IsLevel, contraction, edge_before}
+use Rattle.contract_obstruct.specs.Steps.{AreSteps, ArePlaneSteps}
+use Rattle.contract_embed.specs.Steps.{AgreeBelow, first_dart, rejoined}
 use Rattle.contract_embed.specs.Runs.{origin, CarriedBelow, HaveRuns}
-use Rattle.contract_embed.specs.declared.level.Level.{Level}
-use Rattle.contract_embed.proofs.LevelFacts.{level-contraction, level-graph}
+use Rattle.contractions.specs.declared.level.Level.{Level}
+use Rattle.contractions.proofs.LevelFacts.{level-contraction, level-graph}
 
 module _ (level : Level) (k : IsLevel level) (next : List ℕ) where
   abbrev kept : ℕ → Bool

@@ -1,11 +1,9 @@
 -- Chains of contractions, made longer and shorter at their end.
 use Rattle.std.proofs.Common.{◌≡◌, List, [], ◌∷◌, ◌++◌, refl, sym, ◌∙◌}
 use Rattle.multigraph.specs.Graph.{Multigraph}
-use Rattle.contractions.specs.Contraction.{IsContraction}
-use Rattle.contractions.specs.Contracted.{contracted_edge, contracted_vertex}
-use Rattle.contractions.proofs.ContractionMade.{contracted-is}
-use Rattle.contract_embed.specs.Level.{IsLevel, IsChain, contraction}
-use Rattle.contract_embed.specs.declared.level.Level.{Level}
+use Rattle.contractions.specs.Level.{IsLevel, contraction}
+use Rattle.contract_embed.specs.Chain.{IsChain}
+use Rattle.contractions.specs.declared.level.Level.{Level}
 
 -- one more contraction
 pub chain-push : (g : Multigraph) (levels : List Level) (h : Multigraph) (level : Level) → IsChain g levels h → level.graph ≡ h → IsLevel level → IsChain g (levels ++ level ∷ []) (contraction level)
@@ -21,8 +19,3 @@ chain-level g (first ∷ levels) level h c = chain-level (contraction first) lev
 pub chain-before : (g : Multigraph) (levels : List Level) (level : Level) (h : Multigraph) → IsChain g (levels ++ level ∷ []) h → IsChain g levels level.graph
 chain-before g [] level h c = sym c.0
 chain-before g (first ∷ levels) level h c = (c.0, c.1, chain-before (contraction first) levels level h c.2)
-
--- a contraction of a level is one
-pub level-contraction : (level : Level) → IsLevel level
-    → IsContraction level.graph (contraction level) level.edge level.x level.y (contracted_edge level.graph level.edge level.x level.y) (contracted_vertex level.x level.y)
-level-contraction level k = contracted-is level.graph k.graph level.edge level.x level.y k.oriented.edge_in k.oriented.first_end k.oriented.second_end

@@ -10,11 +10,13 @@ use Rattle.faces.proofs.MapSteps.{map-permutes}
 use Rattle.permutations.proofs.Permutations.{permutes-back}
 use Rattle.planarity.specs.Expansion.{FallsInRuns}
 use Rattle.planarity.proofs.ContractedDarts.{ends-differ}
-use Rattle.contract_embed.specs.Level.{IsLevel, contraction, edge_before}
-use Rattle.contract_embed.specs.Steps.{AreSteps}
-use Rattle.contract_embed.specs.Runs.{leaves, Turns, FitsAt, HaveRuns, HaveNoRuns}
-use Rattle.contract_embed.specs.declared.level.Level.{Level}
-use Rattle.contract_embed.proofs.LevelFacts.{level-contraction, level-graph, steps-in}
+use Rattle.contractions.specs.Level.{IsLevel, contraction, edge_before}
+use Rattle.contract_obstruct.specs.Steps.{AreSteps}
+use Rattle.contract_embed.specs.Runs.{leaves, Turns, FitsAt, HaveRuns}
+use Rattle.contract_obstruct.specs.Obstruction.{HaveNoRuns}
+use Rattle.contractions.specs.declared.level.Level.{Level}
+use Rattle.contractions.proofs.LevelFacts.{level-contraction, level-graph}
+use Rattle.contract_obstruct.proofs.Orders.{steps-in}
 
 module _ (level : Level) (k : IsLevel level) (next : List ℕ) where
   abbrev h : Multigraph

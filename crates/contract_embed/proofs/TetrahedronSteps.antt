@@ -12,7 +12,8 @@ use Rattle.planarity.proofs.JoinedDarts.{between-is}
 use Rattle.planarity.proofs.FourVerticesDarts.{alike-turned, carry, carry-leads, IsCarried, carried}
 use Rattle.planarity.proofs.FourVerticesTetrahedron.{tetrahedron, tetrahedron-graph, drawn, drawn-system, drawn-plane}
 use Rattle.planarity.proofs.FourVertices.{alike}
-use Rattle.contract_embed.specs.Steps.{first_dart, ArePlaneSteps}
+use Rattle.contract_obstruct.specs.Steps.{ArePlaneSteps}
+use Rattle.contract_embed.specs.Steps.{first_dart}
 use Rattle.contract_embed.specs.Tetrahedron.{turn}
 
 -- in the tetrahedron the steps stay at a vertex

@@ -1,7 +1,7 @@
 -- What is known of a graph on the way up over its contractions.
 use Rattle.multigraph.specs.Graph.{Multigraph}
 use Rattle.kuratowski.specs.Subdivision.{IsSubdivision}
-use Rattle.contract_embed.specs.Steps.{ArePlaneSteps}
+use Rattle.contract_obstruct.specs.Steps.{ArePlaneSteps}
 use Rattle.contract_embed.specs.declared.answers.Answer.{Answer}
 use Rattle.contract_embed.specs.declared.answers.Answer.TheVariants.{Plane, Not}
 

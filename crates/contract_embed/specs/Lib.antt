@@ -1,14 +1,6 @@
-pub mod Labels
-pub mod Level
-pub mod Marks
+pub mod Chain
 pub mod Steps
 pub mod Runs
-pub mod Lifting
 pub mod Tetrahedron
 pub mod Entries
-pub mod Arcs
-pub mod Crossing
-pub mod Triple
-pub mod Pieces
 pub mod Answer
-pub mod Obstruction

@@ -4,9 +4,9 @@ use Rattle.dart_maps.specs.Map.{twin}
 use Rattle.faces.specs.Euler.{tail, dart_count}
 use Rattle.contractions.specs.Contraction.{are_joined}
 use Rattle.planarity.specs.Expansion.{moved, FallsInRuns}
-use Rattle.contract_embed.specs.declared.level.Level.{Level}
-use Rattle.contract_embed.specs.Level.{contraction, edge_before}
-use Rattle.contract_embed.specs.Steps.{AreSteps}
+use Rattle.contractions.specs.declared.level.Level.{Level}
+use Rattle.contractions.specs.Level.{contraction, edge_before}
+use Rattle.contract_obstruct.specs.Steps.{AreSteps}
 
 -- the dart of the graph that dart d of the contraction was
 abbrev pub origin : Level → ℕ → ℕ
@@ -30,11 +30,6 @@ pub record FitsAt (level : Level) (next : List ℕ) (first last d : ℕ) : Type 
 abbrev pub HaveRuns : Level → List ℕ → ℕ → ℕ → Type 0
 HaveRuns level next first last =
     (s : List (List ℕ)) → AreSteps (contraction level) s next → FallsInRuns level.graph (contraction level) level.x level.y (edge_before level) s first last
-
--- they do not
-abbrev pub HaveNoRuns : Level → List ℕ → Type 0
-HaveNoRuns level next =
-    (s : List (List ℕ)) (first last : ℕ) → AreSteps (contraction level) s next → FallsInRuns level.graph (contraction level) level.x level.y (edge_before level) s first last → ⊥
 
 -- the steps on the darts of the graph, when those from the first k darts of the contraction are carried over
 pub record CarriedBelow (level : Level) (next : List ℕ) (k : ℕ) (wide : List ℕ) : Type 0 where

@@ -2,15 +2,15 @@
 
 ghost use Rattle.std.specs.Prelude.{IfOk, MatchOption};
 ghost use Rattle.planarity.specs.Embedding.{IsEmbedding};
-ghost use Rattle.contract_embed.specs.Level.{IsLevel, contraction};
-ghost use Rattle.contract_embed.specs.Steps.{ArePlaneSteps};
-ghost use Rattle.contract_embed.specs.Runs.{HaveNoRuns};
+ghost use Rattle.contractions.specs.Level.{IsLevel, contraction};
+ghost use Rattle.contract_obstruct.specs.Steps.{ArePlaneSteps};
+ghost use Rattle.contract_obstruct.specs.Obstruction.{HaveNoRuns};
 ghost use Rattle.contract_embed.specs.Answer.{IsAnswer};
 
 use crate::expanding::expand;
-use crate::level::Level;
 use crate::rounds::rotation;
 use crate::runs::runs;
+use contractions::Level;
 use kuratowski::{Subdivision, written};
 use multigraph::Graph;
 use planarity::Embedded;

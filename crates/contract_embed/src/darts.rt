@@ -5,9 +5,10 @@ ghost use Rattle.multigraph.specs.Graph.{IsGraph, edge_count};
 ghost use Rattle.contractions.specs.Contraction.{are_joined};
 ghost use Rattle.dart_maps.specs.Map.{twin};
 ghost use Rattle.faces.specs.Euler.{tail, dart_from, dart_count};
-ghost use Rattle.contract_embed.specs.Marks.{AreNeighbours};
+ghost use Rattle.contractions.specs.Marks.{AreNeighbours};
 ghost use Rattle.contract_embed.specs.Steps.{leads, first_dart};
 
+use contract_obstruct::twin;
 use multigraph::Graph;
 
 // How many darts there are.
@@ -29,15 +30,6 @@ pub(crate) fn tail(g: &Graph, dart: u32) -> u32
     if dart % 2 == 0 { first } else { second }
 }
 
-// The other dart of the same edge.
-#[tactic(auto, unfolding(dart_maps::specs::Map::twin))]
-pub(crate) fn twin(dart: u32) -> u32
-    ensures is { result ≡ twin dart }
-    ensures within { (m : ℕ) → dart < 2 * m → result < 2 * m }
-{
-    if dart % 2 == 0 { dart + 1 } else { dart - 1 }
-}
-
 // The vertex where the dart arrives.
 pub(crate) fn head(g: &Graph, dart: u32) -> u32
     requires { dart < dart_count g.now }
@@ -55,15 +47,6 @@ pub(crate) fn arrives_at_mark(g: &Graph, marks: &[bool], v: u32, dart: u32) -> b
     ensures { result ≡ are_joined g.now v (tail g.now (twin dart)) }
 {
     marks[head(g, dart) as usize]
-}
-
-// The dart of the edge that leaves v, one of its ends.
-pub(crate) fn dart_from(g: &Graph, v: u32, edge: u32) -> u32
-    requires { edge < edge_count g.now }
-    ensures { result ≡ dart_from g.now v edge }
-{
-    let (first, _) = g.ends(edge);
-    if first == v { 2 * edge } else { 2 * edge + 1 }
 }
 
 // Whether the dart leads from u to v.

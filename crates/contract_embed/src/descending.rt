@@ -2,9 +2,9 @@
 
 ghost use Rattle.std.specs.Prelude.{◌≡◌, IfOk};
 ghost use Rattle.graph_theory.specs.Triconnected.{IsTriconnected};
-ghost use Rattle.contract_embed.specs.Level.{IsChain};
+ghost use Rattle.contract_embed.specs.Chain.{IsChain};
 
-use crate::level::Level;
+use contractions::Level;
 use multigraph::Graph;
 use std::alloc::{AllocError, Global};
 

@@ -3,16 +3,16 @@
 ghost use Rattle.std.specs.Prelude.{IfOk};
 ghost use Rattle.graph_theory.specs.Triconnected.{IsTriconnected};
 ghost use Rattle.planarity.specs.Embedding.{IsEmbedding};
-ghost use Rattle.contract_embed.specs.Level.{IsLevel, IsChain, contraction};
+ghost use Rattle.contractions.specs.Level.{IsLevel, contraction};
+ghost use Rattle.contract_embed.specs.Chain.{IsChain};
 ghost use Rattle.contract_embed.specs.Answer.{IsAnswer};
-ghost use Rattle.contract_embed.specs.Steps.{ArePlaneSteps};
+ghost use Rattle.contract_obstruct.specs.Steps.{ArePlaneSteps};
 
 use crate::answers::{Answer, embedded, expanded};
 use crate::descending::{Descent, descend};
-use crate::level::Level;
-use crate::lifting::lift;
-use crate::obstructing::obstruct;
 use crate::tetrahedron::tetrahedron_steps;
+use contract_obstruct::{lift, obstruct};
+use contractions::Level;
 use multigraph::Graph;
 use planarity::{Embedded, Embedder};
 use std::alloc::{AllocError, Global};

@@ -7,16 +7,17 @@ ghost use Rattle.multigraph.specs.Graph.{edge_count};
 ghost use Rattle.contractions.specs.Contraction.{are_joined};
 ghost use Rattle.dart_maps.specs.Map.{twin};
 ghost use Rattle.faces.specs.Euler.{tail, dart_count};
-ghost use Rattle.contract_embed.specs.Level.{IsLevel, contraction};
-ghost use Rattle.contract_embed.specs.Marks.{AreNeighbours};
-ghost use Rattle.contract_embed.specs.Steps.{AgreeBelow, ArePlaneSteps, first_dart, rejoined};
+ghost use Rattle.contractions.specs.Level.{IsLevel, contraction};
+ghost use Rattle.contractions.specs.Marks.{AreNeighbours};
+ghost use Rattle.contract_obstruct.specs.Steps.{ArePlaneSteps};
+ghost use Rattle.contract_embed.specs.Steps.{AgreeBelow, first_dart, rejoined};
 ghost use Rattle.contract_embed.specs.Runs.{CarriedBelow, HaveRuns};
 
-use crate::darts::{arrives_at_mark, dart_from, first_dart, head, twin};
-use crate::level::{Level, neighbours};
-use crate::numbers::numbers_below;
+use crate::darts::{arrives_at_mark, first_dart, head};
 use crate::runs::{after, before, dart_count, origin};
 use crate::steps::{exchange, insert};
+use contract_obstruct::{dart_from, twin};
+use contractions::{Level, neighbour_marks, numbers_below};
 use std::alloc::{AllocError, Global};
 
 // Carries the step from one dart over.
@@ -100,7 +101,7 @@ pub(crate) fn expand(
     ensures { IfOk result (λ wide. ArePlaneSteps level.now.graph wide.items) }
 {
     let mut wide = carried(alloc, level, next)?;
-    let marks = neighbours(alloc, &level.graph, level.y)?;
+    let marks = neighbour_marks(alloc, &level.graph, level.y)?;
     part(level, &marks, next, &mut wide, first, last);
     Ok(wide)
 }

@@ -1,51 +1,20 @@
-// From the steps of a rotation system to its cyclic orders.
+// From the steps of a rotation system to the system itself.
 
-ghost use Rattle.std.specs.Prelude.{◌≡◌, ◌<◌, ℕ, List, length, slice_index, IfOk};
-ghost use Rattle.multigraph.specs.Graph.{Multigraph};
-ghost use Rattle.rotations.specs.Entries.{list_at};
-ghost use Rattle.rotations.specs.Rings.{turns};
-ghost use Rattle.rotations.specs.Rotation.{order_at, IsRotationSystem};
+ghost use Rattle.std.specs.Prelude.{ℕ, List, IfOk};
+ghost use Rattle.rotations.specs.Rotation.{IsRotationSystem};
 ghost use Rattle.faces.specs.Euler.{IsPlane};
-ghost use Rattle.contract_embed.specs.Steps.{AreSteps, ArePlaneSteps};
+ghost use Rattle.contract_obstruct.specs.Steps.{AreSteps, ArePlaneSteps};
+ghost use Rattle.contract_embed.specs.Entries.{AreOrdersBelow};
 
-use crate::darts::dart_from;
+use contract_obstruct::round;
 use multigraph::Graph;
-use rotations::{Lists, Rotation};
+use rotations::{Lists, RotFault, Rotation};
 use std::alloc::{AllocError, Global};
-
-// The edges of so many darts, from `start` on.
-fn turns(alloc: Global, next: &[u32], start: u32, many: u32) -> Result<Vec<u32>, AllocError>
-    requires start { start < length next.now }
-    requires within { (d : ℕ) → d < length next.now → slice_index next.now d < length next.now }
-    ensures { IfOk result (λ edges. edges.items ≡ turns next.now start many) }
-{
-    let mut edges = Vec::with_capacity(alloc, many as usize)?;
-    let mut dart = start;
-    for _turn in 0..many {
-        edges.push(dart / 2)?;
-        dart = next[dart as usize];
-    }
-    Ok(edges)
-}
-
-// The cyclic order of vertex v.
-pub(crate) fn round(alloc: Global, g: &Graph, next: &[u32], v: u32) -> Result<Vec<u32>, AllocError>
-    requires steps { ArePlaneSteps g.now next.now }
-    requires vertex { v < g.now.vertex_count }
-    ensures { IfOk result (λ edges. (s : List (List ℕ)) → AreSteps g.now s next.now → edges.items ≡ order_at s v) }
-{
-    let incident = g.incident(v);
-    if incident.is_empty() {
-        return Ok(Vec::new(alloc));
-    }
-    let edges = turns(alloc, next, dart_from(g, v, incident[0]), g.degree(v))?;
-    Ok(edges)
-}
 
 // The cyclic orders of all vertices.
 fn rounds(alloc: Global, g: &Graph, next: &[u32]) -> Result<Lists, AllocError>
     requires { ArePlaneSteps g.now next.now }
-    ensures { IfOk result (λ lists. (s : List (List ℕ)) → AreSteps g.now s next.now → (v : ℕ) → v < g.now.vertex_count → list_at lists v ≡ order_at s v) }
+    ensures { IfOk result (λ lists. (s : List (List ℕ)) → AreSteps g.now s next.now → AreOrdersBelow s g.now.vertex_count lists) }
 {
     let mut lists = Lists::new(alloc);
     for v in 0..g.vertex_count() {
@@ -64,6 +33,9 @@ pub(crate) fn rotation(alloc: Global, g: &Graph, next: &[u32]) -> Result<Rotatio
     let lists = rounds(alloc, g, next)?;
     match Rotation::from_lists(alloc, g, &lists) {
         Ok(r) => Ok(r),
-        Err(_) => Err(AllocError),
+        Err(fault) => match fault {
+            RotFault::Memory => Err(AllocError),
+            RotFault::BadRotation(_) => unreachable!(),
+        },
     }
 }

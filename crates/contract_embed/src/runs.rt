@@ -5,13 +5,14 @@ ghost use Rattle.contractions.specs.Contraction.{are_joined};
 ghost use Rattle.multigraph.specs.Graph.{edge_count};
 ghost use Rattle.dart_maps.specs.Map.{twin};
 ghost use Rattle.faces.specs.Euler.{tail, dart_count};
-ghost use Rattle.contract_embed.specs.Level.{IsLevel, contraction};
-ghost use Rattle.contract_embed.specs.Marks.{AreNeighbours};
-ghost use Rattle.contract_embed.specs.Steps.{ArePlaneSteps};
-ghost use Rattle.contract_embed.specs.Runs.{origin, leaves, Turns, FitsAt, HaveRuns, HaveNoRuns};
+ghost use Rattle.contractions.specs.Level.{IsLevel, contraction};
+ghost use Rattle.contractions.specs.Marks.{AreNeighbours};
+ghost use Rattle.contract_obstruct.specs.Steps.{ArePlaneSteps};
+ghost use Rattle.contract_embed.specs.Runs.{origin, leaves, Turns, FitsAt, HaveRuns};
+ghost use Rattle.contract_obstruct.specs.Obstruction.{HaveNoRuns};
 
 use crate::darts::{arrives_at_mark, tail};
-use crate::level::{Level, neighbours};
+use contractions::{Level, neighbour_marks};
 use std::alloc::{AllocError, Global};
 
 // How many darts the contraction has.
@@ -148,7 +149,7 @@ pub(crate) fn runs(
         return Ok(None);
     };
     let first = after(level, next, end);
-    let marks = neighbours(alloc, &level.graph, level.y)?;
+    let marks = neighbour_marks(alloc, &level.graph, level.y)?;
     if first != last && all_fit(level, &marks, next, first, last) {
         return Ok(Some((first, last)));
     }

@@ -6,7 +6,7 @@ ghost use Rattle.dart_maps.specs.Map.{twin};
 ghost use Rattle.dart_maps.specs.Changes.{inserted};
 ghost use Rattle.contract_embed.specs.Steps.{AgreeBelow};
 
-use crate::darts::twin;
+use contract_obstruct::twin;
 
 // Exchanges what follows p and what follows q.
 pub(crate) fn exchange(next: &mut [u32], p: u32, q: u32)

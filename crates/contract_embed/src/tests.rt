@@ -1,7 +1,7 @@
 // Small triconnected graphs, plane ones and others, embedded.
 
 use crate::ContractEmbedder;
-use crate::triconnected::is_triconnected;
+use contractions::is_triconnected;
 use faces::euler;
 use kuratowski::{Pattern, check};
 use multigraph::Graph;

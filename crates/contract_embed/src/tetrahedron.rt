@@ -2,7 +2,7 @@
 
 ghost use Rattle.std.specs.Prelude.{◌≡◌, ◌<◌, IfOk};
 ghost use Rattle.graph_theory.specs.Triconnected.{IsTriconnected};
-ghost use Rattle.contract_embed.specs.Steps.{ArePlaneSteps};
+ghost use Rattle.contract_obstruct.specs.Steps.{ArePlaneSteps};
 ghost use Rattle.contract_embed.specs.Tetrahedron.{turn};
 
 use crate::darts::{dart_count, first_dart, head, tail};

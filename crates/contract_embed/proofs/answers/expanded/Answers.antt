@@ -1,5 +1,6 @@
 use Rattle.std.proofs.Common.{ℕ, Option, MatchOption, subst}
-use Rattle.contract_embed.specs.Runs.{HaveRuns, HaveNoRuns}
+use Rattle.contract_embed.specs.Runs.{HaveRuns}
+use Rattle.contract_obstruct.specs.Obstruction.{HaveNoRuns}
 use Rattle.contract_embed.proofs.answers.expanded.Goals as goal
 
 pub expand-requires-clause-first : goal.expand-requires-clause-first

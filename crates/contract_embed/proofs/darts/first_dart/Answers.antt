@@ -2,7 +2,7 @@ use Rattle.std.proofs.Common.{◌≡◌, false, sym, ◌∙◌, arith}
 use Rattle.permutations.proofs.Search.{least-is, least-none, none-some}
 use Rattle.faces.specs.Euler.{dart_count}
 use Rattle.contract_embed.specs.Steps.{leads}
-use Rattle.contract_embed.proofs.BelowNext.{below-next}
+use Rattle.contract_obstruct.proofs.BelowNext.{below-next}
 use Rattle.contract_embed.proofs.darts.first_dart.Goals as goal
 
 pub returns-then-leads : goal.returns-then-leads

@@ -1,10 +1,11 @@
 use Rattle.std.proofs.Common.{List, sym, subst}
 use Rattle.multigraph.specs.Graph.{Multigraph}
 use Rattle.graph_theory.specs.Triconnected.{IsTriconnected}
-use Rattle.contract_embed.specs.Level.{IsChain, contraction}
-use Rattle.contract_embed.specs.declared.level.Level.{Level}
+use Rattle.contractions.specs.Level.{contraction}
+use Rattle.contract_embed.specs.Chain.{IsChain}
+use Rattle.contractions.specs.declared.level.Level.{Level}
 use Rattle.contract_embed.proofs.Chain.{chain-push}
-use Rattle.contract_embed.proofs.LevelFacts.{level-triconnected}
+use Rattle.contractions.proofs.LevelFacts.{level-triconnected}
 use Rattle.contract_embed.proofs.descending.descend.Goals as goal
 
 pub down-preserved : goal.down-preserved

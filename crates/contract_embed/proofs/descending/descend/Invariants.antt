@@ -1,5 +1,5 @@
 use Rattle.graph_theory.specs.Triconnected.{IsTriconnected}
-use Rattle.contract_embed.specs.Level.{IsChain}
+use Rattle.contract_embed.specs.Chain.{IsChain}
 use Rattle.contract_embed.proofs.descending.descend.Given as goal
 
 abbrev pub invariant-down : goal.invariant-down

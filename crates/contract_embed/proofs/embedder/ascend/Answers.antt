@@ -1,8 +1,8 @@
 use Rattle.std.proofs.Common.{List, sym, subst}
 use Rattle.multigraph.specs.Graph.{Multigraph}
 use Rattle.contract_embed.specs.Answer.{IsAnswer}
-use Rattle.contract_embed.specs.Level.{IsChain}
-use Rattle.contract_embed.specs.declared.level.Level.{Level}
+use Rattle.contract_embed.specs.Chain.{IsChain}
+use Rattle.contractions.specs.declared.level.Level.{Level}
 use Rattle.contract_embed.proofs.Chain.{chain-level, chain-before}
 use Rattle.contract_embed.proofs.embedder.ascend.Goals as goal
 

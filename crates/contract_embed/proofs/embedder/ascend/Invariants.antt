@@ -1,6 +1,6 @@
 use Rattle.std.proofs.Common.{vec_len}
 use Rattle.multigraph.specs.Graph.{Multigraph}
-use Rattle.contract_embed.specs.Level.{IsChain}
+use Rattle.contract_embed.specs.Chain.{IsChain}
 use Rattle.contract_embed.specs.Answer.{IsAnswer}
 use Rattle.contract_embed.proofs.embedder.ascend.Given as goal
 

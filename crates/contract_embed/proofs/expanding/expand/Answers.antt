@@ -1,6 +1,6 @@
 use Rattle.std.proofs.Common.{List, Bool, sym, subst}
 use Rattle.multigraph.specs.Graph.{edge_count}
-use Rattle.contract_embed.specs.Marks.{AreNeighbours}
+use Rattle.contractions.specs.Marks.{AreNeighbours}
 use Rattle.contract_embed.proofs.expanding.expand.Goals as goal
 
 pub part-requires-clause-marks : goal.part-requires-clause-marks

@@ -4,7 +4,7 @@ use Rattle.multigraph.specs.Graph.{edge_count}
 use Rattle.dart_maps.specs.Map.{twin}
 use Rattle.dart_maps.specs.Changes.{inserted}
 use Rattle.faces.specs.Euler.{dart_count}
-use Rattle.contract_embed.specs.Level.{contraction}
+use Rattle.contractions.specs.Level.{contraction}
 use Rattle.contract_embed.specs.Steps.{AgreeBelow}
 use Rattle.contract_embed.proofs.Carried.{middle-in, again, expanded-steps}
 use Rattle.contract_embed.proofs.expanding.part.Goals as goal

@@ -1,6 +1,8 @@
-use Rattle.std.proofs.Common.{arith}
-use Rattle.contract_embed.proofs.Orders.{orders-given}
+use Rattle.std.proofs.Common.{◌≡◌, ℕ, subst, arith}
+use Rattle.contract_embed.specs.Entries.{AreOrdersBelow}
 use Rattle.contract_embed.proofs.rounds.rounds.Goals as goal
 
 pub returns : goal.returns
-returns c = λ s a v l. orders-given s c.loop-v.v c.loop-v.lists (c.loop-v.invariant s a) v (omega (arith, c.vertex_count-v-end.ensures.value, c.loop-v-test.false))
+returns c = λ s a.
+    let all : c.loop-v.v ≡ c.args.g.now.vertex_count = omega (arith, c.vertex_count-v-end.ensures.value, c.loop-v-test.false, c.loop-v.auto) in
+    subst (λ (k : ℕ). AreOrdersBelow s k c.loop-v.lists) all (c.loop-v.invariant s a)

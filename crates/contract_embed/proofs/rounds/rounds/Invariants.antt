@@ -1,5 +1,5 @@
 use Rattle.std.proofs.Common.{ℕ, List}
-use Rattle.contract_embed.specs.Steps.{AreSteps}
+use Rattle.contract_obstruct.specs.Steps.{AreSteps}
 use Rattle.contract_embed.specs.Entries.{AreOrdersBelow}
 use Rattle.contract_embed.proofs.rounds.rounds.Given as goal
 

@@ -1,5 +1,6 @@
-use Rattle.contract_embed.specs.Level.{contraction}
-use Rattle.contract_embed.proofs.LevelFacts.{level-graph, steps-in}
+use Rattle.contractions.specs.Level.{contraction}
+use Rattle.contractions.proofs.LevelFacts.{level-graph}
+use Rattle.contract_obstruct.proofs.Orders.{steps-in}
 use Rattle.contract_embed.proofs.runs.after.Goals as goal
 
 pub returns-clause-within : goal.returns-clause-within

@@ -1,6 +1,6 @@
 use Rattle.std.proofs.Common.{rules, ◌≡◌, true}
 use Rattle.contract_embed.specs.Runs.{FitsAt}
-use Rattle.contract_embed.proofs.BelowNext.{below-next}
+use Rattle.contract_obstruct.proofs.BelowNext.{below-next}
 use Rattle.contract_embed.proofs.runs.all_fit.Goals as goal
 
 pub loop-dart-preserved : goal.loop-dart-preserved

@@ -1,6 +1,6 @@
 use Rattle.std.proofs.Common.{◌*◌, ◌≤◌, arith, Fits-lit}
 use Rattle.std.proofs.Math.Facts.{Fits-le}
-use Rattle.contract_embed.proofs.LevelFacts.{level-few}
+use Rattle.contractions.proofs.LevelFacts.{level-few}
 use Rattle.contract_embed.proofs.runs.dart_count.Goals as goal
 
 pub overflow_cast-result : goal.overflow_cast-result

@@ -2,10 +2,10 @@ use Rattle.std.proofs.Common.{◌≡◌, ℕ, ◌+◌, ◌*◌, ◌/◌, ◌%◌
 use Rattle.std.proofs.Math.Facts.{Fits-le}
 use Rattle.std.proofs.lemmas.Grind.{get_or_default_zero}
 use Rattle.multigraph.specs.Graph.{edge_count}
-use Rattle.contract_embed.specs.Level.{IsLevel, contraction}
-use Rattle.contract_embed.specs.declared.level.Level.{Level}
+use Rattle.contractions.specs.Level.{IsLevel, contraction}
+use Rattle.contractions.specs.declared.level.Level.{Level}
 use Rattle.faces.specs.Euler.{dart_count}
-use Rattle.contract_embed.proofs.LevelFacts.{level-edges, level-kept}
+use Rattle.contractions.proofs.LevelFacts.{level-edges, level-kept}
 use Rattle.contract_embed.proofs.runs.origin.Goals as goal
 
 -- the edge that is read

@@ -1,7 +1,7 @@
 use Rattle.std.proofs.Common.{◌≡◌, ℕ, ◌<◌, slice_index, sym, ◌∙◌, subst}
 use Rattle.std.proofs.lemmas.Bool.{both_ways}
 use Rattle.faces.specs.Euler.{dart_count}
-use Rattle.contract_embed.specs.Level.{contraction}
+use Rattle.contractions.specs.Level.{contraction}
 use Rattle.contract_embed.specs.Runs.{FitsAt, HaveRuns}
 use Rattle.contract_embed.proofs.RunsTold.{none-last, none-first, none-fits, some-fits}
 use Rattle.contract_embed.proofs.runs.runs.Goals as goal

@@ -1,7 +1,7 @@
 use Rattle.std.proofs.Common.{arith}
 use Rattle.std.proofs.lemmas.Bool.{both_ways}
 use Rattle.contract_embed.specs.Runs.{Turns}
-use Rattle.contract_embed.proofs.BelowNext.{below-next}
+use Rattle.contract_obstruct.proofs.BelowNext.{below-next}
 use Rattle.contract_embed.proofs.runs.turn.Goals as goal
 
 pub loop-dart-preserved : goal.loop-dart-preserved

@@ -1,6 +1,0 @@
-use Rattle.std.proofs.Common.{◌<◌, ◌≤◌, ℕ, slice_index}
-use Rattle.contract_embed.specs.Pieces.{IsCommonEdge}
-use Rattle.contract_embed.proofs.obstructing.common_place.Given as goal
-
-abbrev pub invariant-loop-place : goal.invariant-loop-place
-invariant-loop-place l = (t : ℕ) → l.from ≤ t → t < l.place → IsCommonEdge l.level (slice_index l.order t) → ⊥

@@ -1,6 +1,0 @@
-use Rattle.std.proofs.Common.{◌<◌, ℕ}
-use Rattle.contract_embed.specs.Obstruction.{rotated, ShowsNothing}
-use Rattle.contract_embed.proofs.obstructing.obstruct.Given as goal
-
-abbrev pub invariant-loop-m : goal.invariant-loop-m
-invariant-loop-m l = (t : ℕ) → t < l.m → ShowsNothing l.level (rotated l.order.items t)

@@ -1,9 +1,0 @@
--- Marks on the neighbours of a vertex.
-use Rattle.std.specs.Prelude.{◌≡◌, ℕ, ◌<◌, Bool, false, ◌&&◌, ◌==◌, List, slice_index_or}
-use Rattle.permutations.specs.Count.{some}
-use Rattle.multigraph.specs.Graph.{Multigraph, is_end, other_end}
-
--- just the vertices are marked that one of the first k edges joins with x
-abbrev pub AreNeighbours : Multigraph → ℕ → ℕ → List Bool → Type 0
-AreNeighbours g x k marks =
-    (v : ℕ) → v < g.vertex_count → slice_index_or marks v false ≡ some k (λ f. is_end g x f && (other_end g f x == v))

@@ -1,0 +1,8 @@
+-- Certificates from contractions.
+pub mod Steps
+pub mod Arcs
+pub mod Crossing
+pub mod Triple
+pub mod Pieces
+pub mod Obstruction
+pub mod Lifting

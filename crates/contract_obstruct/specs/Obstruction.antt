@@ -1,0 +1,47 @@
+-- Places in a cyclic order round the merged vertex of a level that show a subdivision.
+use Rattle.std.specs.Prelude.{◌≡◌, ℕ, ◌<◌, true, false, List, ◌++◌, take, drop, length, slice_index}
+use Rattle.multigraph.specs.Graph.{edge_count, is_end}
+use Rattle.planarity.specs.Circle.{leads_near}
+use Rattle.planarity.specs.Expansion.{FallsInRuns}
+use Rattle.contractions.specs.declared.level.Level.{Level}
+use Rattle.contractions.specs.Level.{contraction, edge_before}
+use Rattle.contract_obstruct.specs.Steps.{AreSteps}
+use Rattle.contract_obstruct.specs.Pieces.{IsCommonEdge}
+
+-- a list from place m on, and then what stands before
+abbrev pub rotated : List ℕ → ℕ → List ℕ
+rotated l m = drop m l ++ take m l
+
+-- its members stand for edges of the graph
+abbrev pub StandForEdges : Level → List ℕ → Type 0
+StandForEdges level l = (t : ℕ) → t < length l → edge_before level (slice_index l t) < edge_count level.graph
+
+-- the edges at places 0, i and j lead to common neighbours
+pub record IsTripleAt (level : Level) (l : List ℕ) (i j : ℕ) : Type 0 where
+  pub behind : 0 < i
+  pub rise : i < j
+  pub within : j < length l
+  pub first : IsCommonEdge level (slice_index l 0)
+  pub second : IsCommonEdge level (slice_index l i)
+  pub third : IsCommonEdge level (slice_index l j)
+
+-- the edges at places 0, i, j and k alternate
+pub record IsCrossingAt (level : Level) (l : List ℕ) (i j k : ℕ) : Type 0 where
+  pub behind : 0 < i
+  pub rise : i < j
+  pub rise_on : j < k
+  pub within : k < length l
+  pub first : is_end level.graph level.x (edge_before level (slice_index l i)) ≡ true
+  pub second : leads_near level.graph level.x level.y (edge_before level) (slice_index l j) ≡ true
+  pub third : is_end level.graph level.x (edge_before level (slice_index l k)) ≡ true
+  pub fourth : is_end level.graph level.x (edge_before level (slice_index l 0)) ≡ false
+
+-- no edges show a subdivision from place 0 on
+pub record ShowsNothing (level : Level) (l : List ℕ) : Type 0 where
+  pub no_triple : (i j : ℕ) → IsTripleAt level l i j → ⊥
+  pub no_crossing : (i j k : ℕ) → IsCrossingAt level l i j k → ⊥
+
+-- round the merged vertex the darts do not fall in runs
+abbrev pub HaveNoRuns : Level → List ℕ → Type 0
+HaveNoRuns level next =
+    (s : List (List ℕ)) (first last : ℕ) → AreSteps (contraction level) s next → FallsInRuns level.graph (contraction level) level.x level.y (edge_before level) s first last → ⊥

@@ -1,0 +1,212 @@
+// The subdivision where the steps of a contraction do not fall in runs: the cyclic order of the merged vertex is searched from
+// each of its edges on.
+
+ghost use Rattle.std.specs.Prelude.{◌≡◌, ◌<◌, ◌≤◌, ◌↔◌, ℕ, true, false, length, slice_index, IfOk, MatchOption};
+ghost use Rattle.multigraph.specs.Graph.{edge_count, is_end, other_end};
+ghost use Rattle.contractions.specs.Contraction.{are_joined};
+ghost use Rattle.kuratowski.specs.Subdivision.{IsSubdivision};
+ghost use Rattle.planarity.specs.Circle.{leads_near};
+ghost use Rattle.contractions.specs.Level.{IsLevel, contraction, edge_before};
+ghost use Rattle.contractions.specs.Marks.{AreNeighbours};
+ghost use Rattle.contract_obstruct.specs.Steps.{ArePlaneSteps};
+ghost use Rattle.contract_obstruct.specs.Obstruction.{HaveNoRuns};
+ghost use Rattle.contract_obstruct.specs.Crossing.{IsAround};
+ghost use Rattle.contract_obstruct.specs.Pieces.{IsCommonEdge};
+ghost use Rattle.contract_obstruct.specs.Obstruction.{rotated, StandForEdges, IsTripleAt, IsCrossingAt, ShowsNothing};
+
+use crate::crossing::{edge_before, merged_vertex};
+use crate::paths::is_end;
+use crate::pieces::{crossing_at, triple_at};
+use crate::rounds::round;
+use contractions::{Level, neighbour_marks};
+use kuratowski::Subdivision;
+use multigraph::Graph;
+use std::alloc::{AllocError, Global};
+
+// Whether the edge leads from v to a mark.
+fn leads_to_mark(g: &Graph, marks: &[bool], v: u32, y: u32, edge: u32) -> bool
+    requires edge_in { edge < edge_count g.now }
+    requires number { length marks.now ≡ g.now.vertex_count }
+    requires marks { AreNeighbours g.now y (edge_count g.now) marks.now }
+    ensures { result ≡ are_joined g.now y (other_end g.now edge v) }
+{
+    let (first, second) = g.ends(edge);
+    if first == v {
+        marks[second as usize]
+    } else {
+        marks[first as usize]
+    }
+}
+
+// Whether the edge that edge i of the contraction was leads from x.
+fn is_from_x(level: &Level, i: u32) -> bool
+    ensures { result ≡ is_end level.now.graph level.now.x (edge_before level.now i) }
+{
+    is_end(&level.graph, level.x, edge_before(level, i))
+}
+
+// Whether it leads to a neighbour of y, or from y.
+fn is_near(level: &Level, marks: &[bool], i: u32) -> bool
+    requires number { length marks.now ≡ level.now.graph.vertex_count }
+    requires marks { AreNeighbours level.now.graph level.now.y (edge_count level.now.graph) marks.now }
+    requires edge_in { edge_before level.now i < edge_count level.now.graph }
+    ensures { result ≡ leads_near level.now.graph level.now.x level.now.y (edge_before level.now) i }
+{
+    let edge = edge_before(level, i);
+    is_end(&level.graph, level.y, edge)
+        || leads_to_mark(&level.graph, marks, level.x, level.y, edge)
+}
+
+// Whether it leads from x to a neighbour of y.
+fn is_common(level: &Level, marks: &[bool], i: u32) -> bool
+    requires number { length marks.now ≡ level.now.graph.vertex_count }
+    requires marks { AreNeighbours level.now.graph level.now.y (edge_count level.now.graph) marks.now }
+    requires edge_in { edge_before level.now i < edge_count level.now.graph }
+    ensures { (result ≡ true) ↔ IsCommonEdge level.now i }
+{
+    is_from_x(level, i)
+        && leads_to_mark(&level.graph, marks, level.x, level.y, edge_before(level, i))
+}
+
+// The first place between two whose edge leads from x.
+fn place_from_x(level: &Level, order: &[u32], from: usize, to: usize) -> Option<usize>
+    requires within { to ≤ length order.now }
+    ensures { MatchOption result ((t : ℕ) → from ≤ t → t < to → is_end level.now.graph level.now.x (edge_before level.now (slice_index order.now t)) ≡ true → ⊥) (λ t. (from ≤ t) × (t < to) × (is_end level.now.graph level.now.x (edge_before level.now (slice_index order.now t)) ≡ true)) }
+{
+    for place in from..to {
+        if is_from_x(level, order[place]) {
+            return Some(place);
+        }
+    }
+    None
+}
+
+// The first place from one on whose edge leads to a common neighbour.
+fn common_place(level: &Level, marks: &[bool], order: &[u32], from: usize) -> Option<usize>
+    requires number { length marks.now ≡ level.now.graph.vertex_count }
+    requires marks { AreNeighbours level.now.graph level.now.y (edge_count level.now.graph) marks.now }
+    requires edges { StandForEdges level.now order.now }
+    ensures { MatchOption result ((t : ℕ) → from ≤ t → t < length order.now → IsCommonEdge level.now (slice_index order.now t) → ⊥) (λ t. (from ≤ t) × (t < length order.now) × IsCommonEdge level.now (slice_index order.now t) × ((u : ℕ) → from ≤ u → u < t → IsCommonEdge level.now (slice_index order.now u) → ⊥)) }
+{
+    for place in from..order.len() {
+        if is_common(level, marks, order[place]) {
+            return Some(place);
+        }
+    }
+    None
+}
+
+// The places of edges that lead to common neighbours, besides place 0.
+fn triple_places(level: &Level, marks: &[bool], order: &[u32]) -> Option<(usize, usize)>
+    requires number { length marks.now ≡ level.now.graph.vertex_count }
+    requires marks { AreNeighbours level.now.graph level.now.y (edge_count level.now.graph) marks.now }
+    requires edges { StandForEdges level.now order.now }
+    requires filled { 0 < length order.now }
+    ensures { MatchOption result ((i j : ℕ) → IsTripleAt level.now order.now i j → ⊥) (λ p. IsTripleAt level.now order.now p.0 p.1) }
+{
+    if !is_common(level, marks, order[0]) {
+        return None;
+    }
+    let Some(i) = common_place(level, marks, order, 1) else {
+        return None;
+    };
+    let Some(j) = common_place(level, marks, order, i + 1) else {
+        return None;
+    };
+    Some((i, j))
+}
+
+// The places before and behind place j of edges that lead from x.
+fn places_round(level: &Level, order: &[u32], j: usize) -> Option<(usize, usize)>
+    requires within { j < length order.now }
+    ensures { MatchOption result ((i k : ℕ) → 0 < i → i < j → j < k → k < length order.now → is_end level.now.graph level.now.x (edge_before level.now (slice_index order.now i)) ≡ true → is_end level.now.graph level.now.x (edge_before level.now (slice_index order.now k)) ≡ true → ⊥) (λ p. (0 < p.0) × (p.0 < j) × (j < p.1) × (p.1 < length order.now) × (is_end level.now.graph level.now.x (edge_before level.now (slice_index order.now p.0)) ≡ true) × (is_end level.now.graph level.now.x (edge_before level.now (slice_index order.now p.1)) ≡ true)) }
+{
+    let Some(i) = place_from_x(level, order, 1, j) else {
+        return None;
+    };
+    let Some(k) = place_from_x(level, order, j + 1, order.len()) else {
+        return None;
+    };
+    Some((i, k))
+}
+
+// The places of edges that alternate, besides place 0.
+fn crossing_places(level: &Level, marks: &[bool], order: &[u32]) -> Option<(usize, usize, usize)>
+    requires number { length marks.now ≡ level.now.graph.vertex_count }
+    requires marks { AreNeighbours level.now.graph level.now.y (edge_count level.now.graph) marks.now }
+    requires edges { StandForEdges level.now order.now }
+    requires filled { 0 < length order.now }
+    ensures { MatchOption result ((i j k : ℕ) → IsCrossingAt level.now order.now i j k → ⊥) (λ p. IsCrossingAt level.now order.now p.0 p.1 p.2) }
+{
+    if is_from_x(level, order[0]) {
+        return None;
+    }
+    for j in 0..order.len() {
+        if is_near(level, marks, order[j]) {
+            if let Some((i, k)) = places_round(level, order, j) {
+                return Some((i, j, k));
+            }
+        }
+    }
+    None
+}
+
+// The subdivision that edges show from place 0 on.
+fn shown(
+    alloc: Global,
+    level: &Level,
+    h: &Graph,
+    next: &[u32],
+    marks: &[bool],
+    order: &[u32],
+) -> Result<Option<Subdivision>, AllocError>
+    requires level { IsLevel level.now }
+    requires contraction { h.now ≡ contraction level.now }
+    requires steps { ArePlaneSteps (contraction level.now) next.now }
+    requires around { IsAround level.now next.now order.now }
+    requires number { length marks.now ≡ level.now.graph.vertex_count }
+    requires marks { AreNeighbours level.now.graph level.now.y (edge_count level.now.graph) marks.now }
+    requires edges { StandForEdges level.now order.now }
+    requires filled { 0 < length order.now }
+    ensures { IfOk result (λ answer. MatchOption answer (ShowsNothing level.now order.now) (λ r. IsSubdivision level.now.graph r.kind r.branch r.paths)) }
+{
+    if let Some(places) = triple_places(level, marks, order) {
+        let s = triple_at(alloc, level, h, next, order, places)?;
+        return Ok(Some(s));
+    }
+    if let Some(places) = crossing_places(level, marks, order) {
+        let s = crossing_at(alloc, level, h, next, order, places)?;
+        return Ok(Some(s));
+    }
+    Ok(None)
+}
+
+// The order from place m on.
+fn rotated(alloc: Global, order: &[u32], m: usize) -> Result<Vec<u32>, AllocError>
+    requires { m ≤ length order.now }
+    ensures { IfOk result (λ turned. turned.items ≡ rotated order.now m) }
+{
+    let mut turned = Vec::from_slice(alloc, &order[m..])?;
+    turned.extend_from_slice(&order[..m])?;
+    Ok(turned)
+}
+
+/// A subdivision of K5 or of K3,3 in the graph of a level, where the steps of a plane rotation system of its contraction do not
+/// fall in runs round the merged vertex (Thomassen 1980). An `Err` for want of memory.
+pub fn obstruct(alloc: Global, level: &Level, next: &[u32]) -> Result<Subdivision, AllocError>
+    requires level { IsLevel level.now }
+    requires steps { ArePlaneSteps (contraction level.now) next.now }
+    requires none { HaveNoRuns level.now next.now }
+    ensures { IfOk result (λ s. IsSubdivision level.now.graph s.kind s.branch s.paths) }
+{
+    let h = level.contraction(alloc)?;
+    let order = round(alloc, &h, next, merged_vertex(level))?;
+    let marks = neighbour_marks(alloc, &level.graph, level.y)?;
+    for m in 0..order.len() {
+        let turned = rotated(alloc, &order, m)?;
+        if let Some(s) = shown(alloc, level, &h, next, &marks, &turned)? {
+            return Ok(s);
+        }
+    }
+    unreachable!()
+}
