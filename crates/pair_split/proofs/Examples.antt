@@ -4,11 +4,12 @@ use Rattle.std.proofs.lemmas.List.Elements.{All-nil, All-cons}
 use Rattle.permutations.specs.Members.{is_member}
 use Rattle.std.proofs.lemmas.Bool.{cases_Bool}
 use Rattle.multigraph.specs.Graph.{Multigraph, ends_of, is_end, numbers_below, IsGraph}
+use Rattle.multigraph.specs.Part.{Rises}
 use Rattle.pair_split.specs.Edges.{graph_family, family_skeleton}
 use Rattle.pair_split.specs.Skeleton.{SameEnds, is_vertex, degree, IsSkeleton}
 use Rattle.pair_split.specs.Split.{items_of, side, skeleton, LinksTo, IsSplit}
 use Rattle.pair_split.specs.State.{family_at, start_state, AreWritten}
-use Rattle.pair_split.specs.Tutte.{Node, components, node_at, node_item, key_of, group, is_before, Rises, IsTutte}
+use Rattle.pair_split.specs.Tutte.{Node, components, node_at, node_item, key_of, group, is_before, IsTutte}
 use Rattle.pair_split.specs.declared.components.Kind.{Kind}
 use Rattle.pair_split.specs.declared.components.Kind.TheVariants.{S, P}
 use Rattle.pair_split.specs.declared.components.What.{What}

@@ -134,7 +134,7 @@ large-kind R skel n h = inr (three-vertices 4 skel (omega arith) h.four)
 large-kind B skel n h = absurd (n refl)
 
 -- a vertex of pieces is an end of one of them
-vertex-item : (pieces : List Piece) (v : ℕ) → is_vertex (map piece_ends pieces) v ≡ true → (i : ℕ) × (i < length pieces) × (is_end_of v (piece_ends (slice_index_or pieces i no_piece)) ≡ true)
+pub vertex-item : (pieces : List Piece) (v : ℕ) → is_vertex (map piece_ends pieces) v ≡ true → (i : ℕ) × (i < length pieces) × (is_end_of v (piece_ends (slice_index_or pieces i no_piece)) ≡ true)
 vertex-item [] v h = absurd (true≢false (sym h))
 vertex-item (piece ∷ pieces) v h = elim (or_cases (is_end_of v (piece_ends piece)) (is_vertex (map piece_ends pieces) v) h) [
   | inl a ↦ (0, omega arith, a)

@@ -4,7 +4,7 @@ use Rattle.pair_split.specs.Family.{Entry, on_side, IsFamily, IsTight, IsSeparat
 use Rattle.pair_split.specs.Edges.{entry_ends}
 use Rattle.pair_split.specs.Skeleton.{SameEnds}
 use Rattle.pair_split.specs.Minimal.{IsMinimal}
-use Rattle.pair_split.specs.Lumps.{family_of, marked}
+use Rattle.pair_split.specs.Lumps.{family_of, HaveEndsBelow, HaveNamesBelow, marked}
 use Rattle.pair_split.specs.declared.family.NamedEdge.{NamedEdge}
 use Rattle.pair_split.specs.declared.search.Side.{Side}
 
@@ -13,6 +13,12 @@ pub record IsSearchable (entries : List Entry) : Type 0 where
   pub family : IsFamily entries
   pub tight : IsTight entries
   pub four : 4 ≤ length entries
+
+-- the edges are a family that may have a 2-separation, their ends are below n and their names below bound
+pub record AreSearchable (edges : List NamedEdge) (n bound : ℕ) : Type 0 where
+  pub searchable : IsSearchable (family_of edges)
+  pub ends : HaveEndsBelow n edges
+  pub names : HaveNamesBelow bound edges
 
 -- no two entries have the same two ends
 abbrev pub HasNoParallels : List Entry → Type 0

@@ -3,6 +3,7 @@ use Rattle.std.specs.Prelude.{◌≡◌, ℕ, ◌<◌, Bool, true, false, ◌&&�
 use Rattle.permutations.specs.Count.{least}
 use Rattle.permutations.specs.Members.{is_member}
 use Rattle.multigraph.specs.Graph.{Multigraph, edge_count}
+use Rattle.multigraph.specs.Part.{Rises}
 use Rattle.pair_split.specs.Skeleton.{is_vertex}
 use Rattle.pair_split.specs.Split.{side, skeleton, LinksTo, IsSplit}
 use Rattle.pair_split.specs.declared.components.Kind.{Kind}
@@ -53,10 +54,6 @@ first_key passes (item ∷ items) = cond (passes item.what) item.key (first_key 
 -- the key of the item of node k that is edge e or has e on its side
 abbrev pub group : List Node → ℕ → ℕ → ℕ
 group nodes k e = first_key (has_in_group (components nodes) k e) (node_at nodes k).items
-
--- each number is smaller than all that follow it
-abbrev pub Rises : List ℕ → Type 0
-Rises numbers = (i j : ℕ) → i < j → j < length numbers → slice_index_or numbers i 0 < slice_index_or numbers j 0
 
 -- whether the first list comes before the second in lexicographic order, a list before those that it begins
 abbrev pub is_before : List ℕ → List ℕ → Bool

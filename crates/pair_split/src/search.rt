@@ -6,8 +6,8 @@
 ghost use Rattle.std.specs.Prelude.{◌≡◌, ◌+◌, ◌<◌, ◌≤◌, ◌^◌, ◌||◌, ◌==◌, ◌↔◌, ℕ, true, length, None, IfOk, IfSome};
 ghost use Rattle.pair_split.specs.Edges.{entry_ends};
 ghost use Rattle.pair_split.specs.Skeleton.{SameEnds};
-ghost use Rattle.pair_split.specs.Lumps.{entry_of, family_of, HaveEndsBelow, HaveNamesBelow, AreLabelsBelow, IsLabelling, label_at, lump_size, marked, AreParallelAt};
-ghost use Rattle.pair_split.specs.Search.{IsSearchable, HasNoParallels, IsBest, IsLeastAt, IsLeastBefore, IsSearched};
+ghost use Rattle.pair_split.specs.Lumps.{entry_of, family_of, IsLabelling, label_at, lump_size, marked, AreParallelAt};
+ghost use Rattle.pair_split.specs.Search.{AreSearchable, HasNoParallels, IsBest, IsLeastAt, IsLeastBefore, IsSearched};
 
 use crate::family::NamedEdge;
 use crate::labels::labels_without;
@@ -35,10 +35,8 @@ fn better_side(
     bound: usize,
     best: Side,
 ) -> Result<Side, AllocError>
-    requires searchable { IsSearchable (family_of edges.now) }
+    requires edges { AreSearchable edges.now (length labels.now) bound }
     requires labelling { IsLabelling (family_of edges.now) a b (label_at labels.now) }
-    requires ends { HaveEndsBelow (length labels.now) edges.now }
-    requires names { HaveNamesBelow bound edges.now }
     requires best { IsBest (family_of edges.now) best }
     ensures best { IfOk result (IsBest (family_of edges.now)) }
     ensures no_larger { IfOk result (λ side. side.size ≤ best.size) }
@@ -67,10 +65,8 @@ fn best_of_lumps(
     bound: usize,
     best: Side,
 ) -> Result<Side, AllocError>
-    requires searchable { IsSearchable (family_of edges.now) }
+    requires edges { AreSearchable edges.now (length labels.now) bound }
     requires labelling { IsLabelling (family_of edges.now) a b (label_at labels.now) }
-    requires ends { HaveEndsBelow (length labels.now) edges.now }
-    requires names { HaveNamesBelow bound edges.now }
     requires few { length labels.now < 2 ^ 32 }
     requires best { IsBest (family_of edges.now) best }
     ensures best { IfOk result (IsBest (family_of edges.now)) }
@@ -96,10 +92,8 @@ fn best_between(
     bound: usize,
     best: Side,
 ) -> Result<Side, AllocError>
-    requires searchable { IsSearchable (family_of edges.now) }
+    requires edges { AreSearchable edges.now n bound }
     requires simple { HasNoParallels (family_of edges.now) }
-    requires ends { HaveEndsBelow n edges.now }
-    requires names { HaveNamesBelow bound edges.now }
     requires best { IsBest (family_of edges.now) best }
     ensures best { IfOk result (IsBest (family_of edges.now)) }
     ensures no_larger { IfOk result (λ side. side.size ≤ best.size) }
@@ -121,10 +115,8 @@ fn best_at(
     bound: usize,
     best: Side,
 ) -> Result<Side, AllocError>
-    requires searchable { IsSearchable (family_of edges.now) }
+    requires edges { AreSearchable edges.now n bound }
     requires simple { HasNoParallels (family_of edges.now) }
-    requires ends { HaveEndsBelow n edges.now }
-    requires names { HaveNamesBelow bound edges.now }
     requires best { IsBest (family_of edges.now) best }
     requires least { IsLeastBefore (family_of edges.now) a 0 best.size }
     ensures best { IfOk result (IsBest (family_of edges.now)) }
@@ -139,10 +131,8 @@ fn best_at(
 
 // A side of a 2-separation with the fewest entries. If there is none, its size is that of the whole family.
 fn best_side(alloc: Global, edges: &[NamedEdge], n: u32, bound: usize) -> Result<Side, AllocError>
-    requires searchable { IsSearchable (family_of edges.now) }
+    requires edges { AreSearchable edges.now n bound }
     requires simple { HasNoParallels (family_of edges.now) }
-    requires ends { HaveEndsBelow n edges.now }
-    requires names { HaveNamesBelow bound edges.now }
     ensures best { IfOk result (IsBest (family_of edges.now)) }
     ensures least { IfOk result (λ side. IsLeastBefore (family_of edges.now) n 0 side.size) }
 {
@@ -223,9 +213,7 @@ pub(crate) fn minimal_side(
     n: u32,
     bound: usize,
 ) -> Result<Option<Side>, AllocError>
-    requires searchable { IsSearchable (family_of edges.now) }
-    requires ends { HaveEndsBelow n edges.now }
-    requires names { HaveNamesBelow bound edges.now }
+    requires edges { AreSearchable edges.now n bound }
     ensures { IfOk result (IsSearched edges.now) }
 {
     if let Some((i, j)) = parallel_places(edges) {
