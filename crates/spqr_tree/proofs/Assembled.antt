@@ -6,9 +6,10 @@ use Rattle.std.proofs.lemmas.List.{length-map, get_or_past}
 use Rattle.permutations.specs.Members.{is_member}
 use Rattle.permutations.proofs.Search.{least-ext}
 use Rattle.multigraph.specs.Graph.{Multigraph, edge_count}
+use Rattle.multigraph.specs.Part.{Rises}
 use Rattle.pair_split.specs.Skeleton.{is_end_of, is_vertex}
 use Rattle.pair_split.specs.Split.{component_at, items_of, item_at, piece_ends, side, skeleton, LinksTo, IsSplit}
-use Rattle.pair_split.specs.Tutte.{Node, piece_of, components, node_at, node_item, key_of, is_before, Rises, NoneJoined, IsInOrder, IsTutte}
+use Rattle.pair_split.specs.Tutte.{Node, piece_of, components, node_at, node_item, key_of, is_before, NoneJoined, IsInOrder, IsTutte}
 use Rattle.pair_split.specs.declared.components.Kind.{Kind}
 use Rattle.pair_split.specs.declared.components.Kind.TheVariants.{S, P, B}
 use Rattle.pair_split.specs.declared.components.What.{What}

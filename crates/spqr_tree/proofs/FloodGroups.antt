@@ -1,22 +1,21 @@
 -- Groups are begun and finished.
-use Rattle.std.proofs.Common.{◌≡◌, ◌≢◌, ℕ, ◌<◌, ◌≤◌, ◌⊎◌, inl, inr, true, List, [], ◌∷◌, ◌++◌, reverse, length, slice_index_or, refl, sym, ap, ◌∙◌, subst, arith, Contains}
+use Rattle.std.proofs.Common.{◌≡◌, ℕ, ◌<◌, ◌≤◌, ◌⊎◌, inl, inr, List, [], ◌∷◌, ◌++◌, reverse, length, slice_index_or, refl, sym, ap, ◌∙◌, subst, arith}
 use Rattle.std.proofs.lemmas.Bool.{cases_eq, cases_lt}
-use Rattle.std.proofs.lemmas.List.{get_or_default, get_or_append_left, length-append, reverse-append, append-nil}
+use Rattle.std.proofs.lemmas.List.{get_or_append_left, length-append, reverse-append, append-nil}
+use Rattle.std.proofs.lemmas.List.Elements.{Contains-get_or}
 use Rattle.std.proofs.Math.Seq.{get_or-append_seam}
-use Rattle.pair_split.specs.Split.{component_at, items_of, item_at}
+use Rattle.pair_split.specs.Split.{component_at, items_of}
 use Rattle.pair_split.specs.declared.components.Kind.{Kind}
 use Rattle.pair_split.specs.declared.components.Kind.TheVariants.{B}
-use Rattle.pair_split.specs.declared.components.What.TheVariants.{Link}
 use Rattle.pair_split.specs.declared.components.Piece.{Piece}
 use Rattle.pair_split.specs.declared.components.Comp.{Comp}
 use Rattle.pair_split.proofs.Elements.{contains-none}
-use Rattle.pair_split.proofs.Links.{no_piece, stands-in}
-use Rattle.spqr_tree.specs.Merged.{how_many, is_outer, IsGroup, AreGroups}
-use Rattle.spqr_tree.specs.Flood.{AreLive, FloodState, group_of, IsLed, IsMerged, AreSplit, IsApart, AreFinished, IsFlooding, IsResting, KeepsLed, IsStarted}
+use Rattle.pair_split.proofs.Links.{no_piece}
+use Rattle.spqr_tree.specs.Merged.{IsGroup, NoneAlike, AreGroups}
+use Rattle.spqr_tree.specs.Flood.{AreLive, FloodState, group_of, IsLed, AreSplit, AreFinished, IsFlooding, IsResting, KeepsLed, IsStarted}
 use Rattle.spqr_tree.proofs.LiveSteps.{live-taken}
-use Rattle.spqr_tree.proofs.MergeCounts.{number-some, gathered-from, Gathered}
-use Rattle.spqr_tree.proofs.JoinedFlood.{is_link, is_link-true, link-is, link-outer, outer-link, group-kept, group-starts}
-use Rattle.spqr_tree.proofs.JoinedGrows.{is_like, like-parts, piece-home}
+use Rattle.spqr_tree.proofs.JoinedFlood.{group-kept, group-starts}
+use Rattle.spqr_tree.proofs.JoinedApart.{alike-apart}
 
 -- a list twice turned round
 reverse-twice : (pieces : List Piece) → reverse (reverse pieces) ≡ pieces
@@ -87,39 +86,11 @@ module _ (comps : List Comp) (split : AreSplit comps) where
     whole : IsGroup comps lead (length s.groups) kind s.done
     whole = subst (IsGroup comps lead (length s.groups) kind) (ap (λ (z : List Piece). s.done ++ reverse z) empty ∙ append-nil s.done) f.group
 
-    -- a piece that leads to a component d
-    module _ (q : Piece) (d : ℕ) (has : Contains s.done q) (e : q.what ≡ Link d) where
-      at : slice_index_or s.done has.0 no_piece ≡ q
-      at = get_or_default s.done has.0 no_piece q has.1 ∙ has.2
-
-      abbrev home : Gathered comps lead (length s.groups) (is_like (slice_index_or s.done has.0 no_piece))
-      home = piece-home split.0 comps split.1 lead (length s.groups) kind s.done whole has.0 has.1
-
-      leads : (item_at comps home.home home.place).what ≡ Link d
-      leads = (like-parts (slice_index_or s.done has.0 no_piece) (item_at comps home.home home.place) home.passes).0 ∙ (ap (λ (p : Piece). p.what) at ∙ e)
-
-      elsewhere : lead d ≢ length s.groups
-      elsewhere = outer-link lead (length s.groups) d (item_at comps home.home home.place).what leads home.outer
-
-      -- cannot be of the same kind in an earlier group
-      earlier : IsMerged kind → (component_at comps d).kind ≡ kind → lead d < length s.groups → ⊥
-      earlier m same l =
-          let back = split.1.linked.back home.home d home.place (home.place_in, leads) in
-          let other = f.finished.each (lead d) l in
-          let in-comps : d < length comps = stands-in comps d back.0 (Link home.home) back.1 in
-          let kinds : (component_at s.groups (lead d)).kind ≡ kind = sym (other.kinds d in-comps refl) ∙ same in
-          let out : is_outer lead (lead d) (item_at comps d back.0).what ≡ true = link-outer lead (lead d) home.home (item_at comps d back.0).what back.1.1 (λ z. elsewhere (sym z ∙ home.led)) in
-          let counts : 1 ≤ how_many (λ p. is_link home.home p.what) (items_of s.groups (lead d)) = subst (λ z. 1 ≤ z) (sym (other.gathers (λ p. is_link home.home p.what))) (gathered-from comps lead (lead d) (λ p. is_link home.home p.what) d back.0 in-comps refl back.1.0 out (link-is home.home (item_at comps d back.0).what back.1.1)) in
-          let w = number-some no_piece (λ p. is_link home.home p.what) (items_of s.groups (lead d)) counts in
-          let p : Piece = slice_index_or (items_of s.groups (lead d)) w.0 no_piece in
-          f.finished.apart (lead d) l p home.home (w.0, w.1, get_or_default (items_of s.groups (lead d)) w.0 p no_piece w.1) (is_link-true home.home p.what w.2) (subst IsMerged (sym kinds) m) (whole.kinds home.home home.home_in home.led ∙ sym kinds)
-
     -- no piece leads to a component of the same kind
-    apart : IsApart comps kind s.done
-    apart q d has e m same = elim (cases_lt (lead d) (length s.groups)) [
-      | inl l ↦ earlier q d has e m same l
-      | inr l ↦ elsewhere q d has e (let o : lead d ≤ length s.groups = f.led d (f.settled q d has e m same) in omega (arith, o, l))
-    ]
+    apart : NoneAlike comps kind s.done
+    apart = alike-apart split.0 comps split.1 lead (length s.groups) kind s.done whole
+        (λ j l. ((component_at s.groups j).kind, items_of s.groups j, f.finished.each j l, f.finished.apart j l))
+        (λ i d l e m same. f.led d (f.settled (slice_index_or s.done i no_piece) d (Contains-get_or s.done i no_piece l) e m same))
 
     abbrev no_comp : Comp
     no_comp = record { kind = B; items = [] }
@@ -143,9 +114,9 @@ module _ (comps : List Comp) (split : AreSplit comps) where
         go j (inl l) h = subst (λ (c : Comp). IsGroup comps lead j c.kind c.items) (old j l) (f.finished.each j l)
         go j (inr l) h = subst (λ z. IsGroup comps lead z (component_at (s.groups ++ made ∷ []) z).kind (items_of (s.groups ++ made ∷ []) z)) (last j l h) (subst (λ (c : Comp). IsGroup comps lead (length s.groups) c.kind c.items) new whole)
 
-        go-apart : (j : ℕ) → (j < length s.groups) ⊎ (length s.groups ≤ j) → j < length (s.groups ++ made ∷ []) → IsApart comps (component_at (s.groups ++ made ∷ []) j).kind (items_of (s.groups ++ made ∷ []) j)
-        go-apart j (inl l) h = subst (λ (c : Comp). IsApart comps c.kind c.items) (old j l) (f.finished.apart j l)
-        go-apart j (inr l) h = subst (λ z. IsApart comps (component_at (s.groups ++ made ∷ []) z).kind (items_of (s.groups ++ made ∷ []) z)) (last j l h) (subst (λ (c : Comp). IsApart comps c.kind c.items) new apart)
+        go-apart : (j : ℕ) → (j < length s.groups) ⊎ (length s.groups ≤ j) → j < length (s.groups ++ made ∷ []) → NoneAlike comps (component_at (s.groups ++ made ∷ []) j).kind (items_of (s.groups ++ made ∷ []) j)
+        go-apart j (inl l) h = subst (λ (c : Comp). NoneAlike comps c.kind c.items) (old j l) (f.finished.apart j l)
+        go-apart j (inr l) h = subst (λ z. NoneAlike comps (component_at (s.groups ++ made ∷ []) z).kind (items_of (s.groups ++ made ∷ []) z)) (last j l h) (subst (λ (c : Comp). NoneAlike comps c.kind c.items) new apart)
 
     pub finished-rests : (next : FloodState) → next.groups ≡ s.groups ++ made ∷ [] → next.done ≡ [] → next.live ≡ s.live → next.lead ≡ s.lead → next.stack ≡ s.stack → IsResting comps next
     finished-rests next groups done live table stack = subst (IsResting comps) (λ i. record { live = sym live i; lead = sym table i; groups = sym groups i; done = sym done i; stack = sym (stack ∙ empty) i }) (record {

@@ -1,7 +1,7 @@
 -- Groups in order of their vertices, numbered by their places, are split components in their order.
 use Rattle.std.proofs.Common.{◌≡◌, ◌≢◌, ℕ, ◌+◌, ◌<◌, ◌==◌, ◌||◌, inl, inr, Bool, true, List, [], ◌∷◌, length, map, slice_index_or, refl, sym, ap, ap₂, ◌∙◌, subst, arith}
 use Rattle.std.proofs.lemmas.Bool.{cases_Bool, cases_lt}
-use Rattle.std.proofs.lemmas.List.{get_or-map, get_or_default, length-map}
+use Rattle.std.proofs.lemmas.List.{get_or-map, length-map}
 use Rattle.std.proofs.lemmas.List.Elements.{Contains-get_or}
 use Rattle.permutations.specs.Members.{is_member}
 use Rattle.multigraph.specs.Graph.{Multigraph}
@@ -14,7 +14,7 @@ use Rattle.pair_split.specs.declared.components.Piece.{Piece}
 use Rattle.pair_split.specs.declared.components.Comp.{Comp}
 use Rattle.pair_split.proofs.GraphFamily.{one_block-tight}
 use Rattle.pair_split.proofs.Links.{no_piece}
-use Rattle.spqr_tree.specs.Merged.{how_many, renamed, redirect, IsSymmetric, NoneAlike, AreGroups, AreRearranged}
+use Rattle.spqr_tree.specs.Merged.{how_many, renamed, redirect, IsSymmetric, AreGroups, AreRearranged}
 use Rattle.spqr_tree.specs.Flood.{group_of, AreFinished}
 use Rattle.spqr_tree.specs.Ranking.{Rank, rank_at, AreVertices, AreRanked, ArePlaces, value_at, placed, placed_group, in_order}
 use Rattle.spqr_tree.specs.Assembly.{IsArranged}
@@ -84,17 +84,14 @@ module _ (g : Multigraph) (one : IsOneBlock g) (comps : List Comp) (split : IsSp
     pieces = λ k t l q. ap (λ (c : Comp). how_many t c.items) (group-placed k l) ∙ (number-map (placed turn) t (items_of groups k) ∙ number-ext (λ x. t (placed turn x)) (λ x. t (redirect turn x)) (items_of groups k) (placed-passes turn t q));
   }
 
-  apart : (k : ℕ) → k < length groups → NoneAlike comps (component_at groups k).kind (items_of groups k)
-  apart k l i d m e same = finished.apart k l (slice_index_or (items_of groups k) i no_piece) d (i, m, get_or_default (items_of groups k) i (slice_index_or (items_of groups k) i no_piece) no_piece m) e same
-
   placed-split : IsSplit g others
   placed-split = rearranged-split g comps (group_of lead) π groups others split grouped rearranged
 
   no-polygons : (h j : ℕ) → LinksTo others h j → (component_at others h).kind ≡ S → (component_at others j).kind ≡ S → ⊥
-  no-polygons = others-apart g comps split (group_of lead) π groups others grouped rearranged apart S (inl refl)
+  no-polygons = others-apart g comps split (group_of lead) π groups others grouped rearranged finished.apart S (inl refl)
 
   no-bonds : (h j : ℕ) → LinksTo others h j → (component_at others h).kind ≡ P → (component_at others j).kind ≡ P → ⊥
-  no-bonds = others-apart g comps split (group_of lead) π groups others grouped rearranged apart P (inr refl)
+  no-bonds = others-apart g comps split (group_of lead) π groups others grouped rearranged finished.apart P (inr refl)
 
   in-ranks : (k : ℕ) → k < length others → k < length ranks
   in-ranks k l = subst (λ z. k < z) long l

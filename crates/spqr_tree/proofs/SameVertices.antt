@@ -15,13 +15,13 @@ use Rattle.pair_split.specs.declared.components.What.{What}
 use Rattle.spqr_tree.proofs.JoinedBonds.{same-sym, same-trans}
 use Rattle.pair_split.proofs.TreeSides.{beyond-some, beyond-other, link-back, link-from}
 use Rattle.pair_split.proofs.Groups.{same-end, same-end_back}
-use Rattle.pair_split.proofs.LargeSides.{three-vertices, node-touch}
+use Rattle.pair_split.proofs.LargeSides.{three-vertices, vertex-item, node-touch}
 use Rattle.pair_split.proofs.GraphFamily.{one_block-tight}
 use Rattle.spqr_tree.specs.Laws.{VerticesTellComponents}
 use Rattle.std.proofs.lemmas.List.{get_or-map, length-map}
 use Rattle.std.proofs.lemmas.List.Elements.{All-from_get_or, All-get_or}
-use Rattle.spqr_tree.proofs.JoinedPolygons.{vertex-degree, end-vertex}
-use Rattle.spqr_tree.proofs.MergeCounts.{number-cons, number-some, number-two}
+use Rattle.spqr_tree.proofs.JoinedPolygons.{end-vertex}
+use Rattle.spqr_tree.proofs.MergeCounts.{number-cons, number-two}
 use Rattle.spqr_tree.proofs.MergeTouch.{touches}
 
 -- elements at three places that pass are three
@@ -139,13 +139,6 @@ module _ (g : Multigraph) (comps : List Comp) (split : IsSplit g comps) (tight :
   place-in : (k i : ℕ) → i < length (items_of comps k) → i < length (skeleton comps k)
   place-in k i l = subst (λ z. i < z) (sym (length-map (items_of comps k) piece_ends)) l
 
-  -- an item at a vertex
-  vertex-place : (k v : ℕ) → is_vertex (skeleton comps k) v ≡ true → (i : ℕ) × (i < length (items_of comps k)) × (is_end_of v (piece_ends (item_at comps k i)) ≡ true)
-  vertex-place k v h =
-      let w = number-some (0, 0) (is_end_of v) (skeleton comps k) (vertex-degree (skeleton comps k) v h) in
-      let l : w.0 < length (items_of comps k) = subst (λ z. w.0 < z) (length-map (items_of comps k) piece_ends) w.1 in
-      (w.0, l, subst (λ z. is_end_of v z ≡ true) (ends-at k w.0 l) w.2)
-
   -- an end of an item is a vertex
   place-vertex : (k i v : ℕ) → i < length (items_of comps k) → is_end_of v (piece_ends (item_at comps k i)) ≡ true → is_vertex (skeleton comps k) v ≡ true
   place-vertex k i v l h = end-vertex (skeleton comps k) i v (place-in k i l) (subst (λ z. is_end_of v z ≡ true) (sym (ends-at k i l)) h)
@@ -158,7 +151,7 @@ module _ (g : Multigraph) (comps : List Comp) (split : IsSplit g comps) (tight :
   common-end : (k h x v : ℕ) → (l : LinksTo comps k h) → is_vertex (skeleton comps k) v ≡ true → is_beyond comps k h x ≡ true → is_vertex (skeleton comps x) v ≡ true → is_end_of v (piece_ends (item_at comps k l.0)) ≡ true
   common-end k h x v l a b c =
       let near = node-touch g comps split tight k h v l a in
-      let i = vertex-place x v c in
+      let i = vertex-item (items_of comps x) v c in
       let far = touches g comps split k h x i.0 v l b i.1 i.2 in
       (split.sides_meet k h l.0 l.1 v).0 (record {
         inside = far.edge;

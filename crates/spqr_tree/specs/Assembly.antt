@@ -1,8 +1,9 @@
 -- The groups in their order, and the nodes made of them.
 use Rattle.std.specs.Prelude.{◌≡◌, ℕ, ◌+◌, ◌<◌, Bool, true, List, length, map}
 use Rattle.multigraph.specs.Graph.{Multigraph}
+use Rattle.multigraph.specs.Part.{Rises}
 use Rattle.pair_split.specs.Split.{component_at, items_of, item_at, LinksTo, IsSplit}
-use Rattle.pair_split.specs.Tutte.{Node, node_at, piece_of, is_before, Rises}
+use Rattle.pair_split.specs.Tutte.{Node, node_at, piece_of, is_before}
 use Rattle.pair_split.specs.declared.components.Kind.TheVariants.{S, P}
 use Rattle.pair_split.specs.declared.components.Piece.{Piece}
 use Rattle.pair_split.specs.declared.components.Comp.{Comp}

@@ -9,7 +9,7 @@ use Rattle.pair_split.specs.declared.components.Kind.TheVariants.{S, P}
 use Rattle.pair_split.specs.declared.components.What.TheVariants.{Link}
 use Rattle.pair_split.specs.declared.components.Piece.{Piece}
 use Rattle.pair_split.specs.declared.components.Comp.{Comp}
-use Rattle.spqr_tree.specs.Merged.{how_many, is_outer, IsGroup}
+use Rattle.spqr_tree.specs.Merged.{how_many, is_outer, IsGroup, NoneAlike}
 
 -- the live components, each under its key, and the key of each component
 pub record LiveState : Type 0 where
@@ -61,14 +61,10 @@ IsMerged kind = (kind ≡ S) ⊎ (kind ≡ P)
 abbrev pub AreSplit : List Comp → Type 0
 AreSplit comps = (g : Multigraph) × IsSplit g comps
 
--- none of the pieces leads to a component of this kind, if such components are merged
-abbrev pub IsApart : List Comp → Kind → List Piece → Type 0
-IsApart comps kind pieces = (piece : Piece) (d : ℕ) → Contains pieces piece → piece.what ≡ Link d → IsMerged kind → (component_at comps d).kind ≢ kind
-
 -- each of the groups is one, and none could be larger
 pub record AreFinished (comps : List Comp) (lead : List ℕ) (groups : List Comp) : Type 0 where
   pub each : (j : ℕ) → j < length groups → IsGroup comps (group_of lead) j (component_at groups j).kind (items_of groups j)
-  pub apart : (j : ℕ) → j < length groups → IsApart comps (component_at groups j).kind (items_of groups j)
+  pub apart : (j : ℕ) → j < length groups → NoneAlike comps (component_at groups j).kind (items_of groups j)
 
 -- component d is of this kind, of which components are merged, and in no group
 abbrev pub IsAbsorbed : List Comp → List ℕ → Kind → ℕ → Type 0
