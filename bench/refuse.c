@@ -1,0 +1,39 @@
+/* Loaded before the C library, this has the allocation with the number in the environment's REFUSED fail, and tells at the end
+   on standard error how many there were. */
+#define _GNU_SOURCE
+#include <dlfcn.h>
+#include <stdio.h>
+#include <stdlib.h>
+
+static long asked = 0;
+static long refused = -1;
+
+static int is_refused(void)
+{
+    if (refused < 0) {
+        const char *number = getenv("REFUSED");
+        refused = number ? atol(number) : 0;
+    }
+    return ++asked == refused;
+}
+
+void *malloc(size_t size)
+{
+    static void *(*next)(size_t);
+    if (!next)
+        next = dlsym(RTLD_NEXT, "malloc");
+    return is_refused() ? NULL : next(size);
+}
+
+void *realloc(void *block, size_t size)
+{
+    static void *(*next)(void *, size_t);
+    if (!next)
+        next = dlsym(RTLD_NEXT, "realloc");
+    return is_refused() ? NULL : next(block, size);
+}
+
+static void __attribute__((destructor)) tell(void)
+{
+    fprintf(stderr, "%ld\n", asked);
+}
