@@ -1,7 +1,8 @@
 // Small triconnected graphs, plane ones and others, embedded.
 
-ghost use Rattle.std.specs.Prelude.{◌<◌, length};
+ghost use Rattle.std.specs.Prelude.{IfOk, IfSome};
 ghost use Rattle.rotations.specs.Rotation.{IsRotationSystem};
+ghost use Rattle.planarity.specs.Embedding.{IsEmbedding};
 
 use crate::ContractEmbedder;
 use contractions::is_triconnected;
@@ -119,7 +120,9 @@ fn graph_of(alloc: Global, row: &Row) -> Result<Graph, Fail> {
 }
 
 // What the embedder answers; nothing where the graph is not triconnected.
-fn answer_for(alloc: Global, graph: &Graph) -> Result<Option<Embedded>, AllocError> {
+fn answer_for(alloc: Global, graph: &Graph) -> Result<Option<Embedded>, AllocError>
+    ensures { IfOk result (λ answer. IfSome answer (IsEmbedding graph.now)) }
+{
     if !is_triconnected(alloc, graph)? {
         return Ok(None);
     }
@@ -150,10 +153,9 @@ fn is_answered(alloc: Global, row: &Row) -> Result<bool, Fail> {
 }
 
 // Whether the vertex has its edges in one of two cyclic orders.
-fn has_order(r: &Rotation, v: u32, order: &[u32], mirrored: &[u32]) -> bool
-    requires { v < length r.now }
-{
-    r.list(v).eq(order.iter().copied()) || r.list(v).eq(mirrored.iter().copied())
+fn has_order(r: &Rotation, v: u32, order: &[u32], mirrored: &[u32]) -> bool {
+    v < r.vertex_count()
+        && (r.list(v).eq(order.iter().copied()) || r.list(v).eq(mirrored.iter().copied()))
 }
 
 #[test]
