@@ -8,8 +8,9 @@ use Rattle.permutations.proofs.Arrangements.{member-at}
 use Rattle.permutations.proofs.Leaders.{leader-related, leader-le, leader-leads}
 use Rattle.permutations.proofs.Relation.{connected-equivalence}
 use Rattle.multigraph.specs.Graph.{Multigraph, edge_count}
+use Rattle.multigraph.specs.Part.{Rises}
 use Rattle.graph_theory.specs.Block.{SameBlock}
-use Rattle.blocks.specs.Blocks.{BlockStructure, Rises, AreBlocks, AreCutVertices, AreComponents, IsBlockStructure}
+use Rattle.blocks.specs.Blocks.{BlockStructure, AreBlocks, AreCutVertices, AreComponents, IsBlockStructure}
 use Rattle.blocks.proofs.Rising.{HasMembers, place-of, rises-first, rises-same}
 
 -- the least edge of each block

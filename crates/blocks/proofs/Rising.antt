@@ -4,7 +4,7 @@ use Rattle.std.proofs.lemmas.Bool.{cases_lt, cases_eq, cases_order}
 use Rattle.std.proofs.lemmas.List.{get_or_default, ext_get_or}
 use Rattle.permutations.specs.Members.{is_member}
 use Rattle.permutations.proofs.Arrangements.{member-at, contains-from_member}
-use Rattle.blocks.specs.Blocks.{Rises}
+use Rattle.multigraph.specs.Part.{Rises}
 
 -- each member of the first list is one of the second
 abbrev pub HasMembers : List ℕ → List ℕ → Type 0

@@ -4,6 +4,7 @@ use Rattle.permutations.specs.Count.{count}
 use Rattle.permutations.specs.Relation.{connected, leads, class_count}
 use Rattle.permutations.specs.Members.{is_member}
 use Rattle.multigraph.specs.Graph.{Multigraph, edge_count, is_end}
+use Rattle.multigraph.specs.Part.{Rises}
 use Rattle.graph_theory.specs.Block.{SameBlock}
 
 -- the edges of each block, the cut vertices, how many components there are, and the component of each vertex
@@ -16,10 +17,6 @@ pub record BlockStructure : Type 0 where
 -- the edges of block b
 abbrev pub block_at : List (List ℕ) → ℕ → List ℕ
 block_at blocks b = slice_index_or blocks b []
-
--- the numbers of the list rise strictly
-abbrev pub Rises : List ℕ → Type 0
-Rises l = (i j : ℕ) → i < j → j < length l → slice_index l i < slice_index l j
 
 -- the lists are the blocks: the classes of edges that are equal or on a common cycle, each once, its edges rising, in order
 -- of their least edges
