@@ -14,9 +14,10 @@ use rotations::Rotation;
 use std::alloc::{AllocError, Global};
 use std::test::Fail;
 
-// How a graph is to be answered: with a plane rotation system of so many faces, or with a subdivision of this pattern.
+// How a graph is to be answered: with a plane rotation system, where it has so many vertices, edges, faces and components, or
+// with a subdivision of this pattern.
 enum Expected {
-    Plane(u32),
+    Plane([u32; 4]),
     Not(Pattern),
 }
 
@@ -32,7 +33,7 @@ static ROWS: [Row; 10] = [
     Row {
         vertices: 4,
         ends: &[0, 1, 0, 2, 0, 3, 1, 2, 1, 3, 2, 3],
-        expected: Expected::Plane(4),
+        expected: Expected::Plane([4, 6, 4, 1]),
     },
     // the cube
     Row {
@@ -40,7 +41,7 @@ static ROWS: [Row; 10] = [
         ends: &[
             0, 1, 1, 2, 2, 3, 3, 0, 4, 5, 5, 6, 6, 7, 7, 4, 0, 4, 1, 5, 2, 6, 3, 7,
         ],
-        expected: Expected::Plane(6),
+        expected: Expected::Plane([8, 12, 6, 1]),
     },
     // the octahedron
     Row {
@@ -48,7 +49,7 @@ static ROWS: [Row; 10] = [
         ends: &[
             0, 1, 1, 2, 2, 3, 3, 0, 4, 0, 4, 1, 4, 2, 4, 3, 5, 0, 5, 1, 5, 2, 5, 3,
         ],
-        expected: Expected::Plane(8),
+        expected: Expected::Plane([6, 12, 8, 1]),
     },
     // the dodecahedron: a ring of ten outer vertices, the spokes, and the inner vertices, each joined with the next but one
     Row {
@@ -58,7 +59,7 @@ static ROWS: [Row; 10] = [
             4, 14, 5, 15, 6, 16, 7, 17, 8, 18, 9, 19, 10, 12, 11, 13, 12, 14, 13, 15, 14, 16, 15,
             17, 16, 18, 17, 19, 18, 10, 19, 11,
         ],
-        expected: Expected::Plane(12),
+        expected: Expected::Plane([20, 30, 12, 1]),
     },
     // the wheel with twelve spokes
     Row {
@@ -67,7 +68,7 @@ static ROWS: [Row; 10] = [
             0, 1, 1, 2, 2, 3, 3, 4, 4, 5, 5, 6, 6, 7, 7, 8, 8, 9, 9, 10, 10, 11, 11, 0, 12, 0, 12,
             1, 12, 2, 12, 3, 12, 4, 12, 5, 12, 6, 12, 7, 12, 8, 12, 9, 12, 10, 12, 11,
         ],
-        expected: Expected::Plane(13),
+        expected: Expected::Plane([13, 24, 13, 1]),
     },
     // the complete graph on five vertices
     Row {
@@ -129,12 +130,17 @@ fn answer_for(alloc: Global, graph: &Graph) -> Result<Option<Embedded>, AllocErr
     Ok(Some(ContractEmbedder.embed(alloc, graph)?))
 }
 
-// Whether the rotation system is plane and has so many faces, and the graph is connected.
-fn has_faces(alloc: Global, graph: &Graph, r: &Rotation, faces: u32) -> Result<bool, AllocError>
+// Whether the rotation system is plane, with these numbers of vertices, edges, faces and components.
+fn is_plane(
+    alloc: Global,
+    graph: &Graph,
+    r: &Rotation,
+    numbers: [u32; 4],
+) -> Result<bool, AllocError>
     requires { IsRotationSystem graph.now r.now }
 {
     let sum = euler(alloc, graph, r)?;
-    Ok(sum.plane && sum.f == faces && sum.c == 1)
+    Ok(sum.plane && [sum.v, sum.e, sum.f, sum.c] == numbers)
 }
 
 // Whether the answer for the graph is the one of the row.
@@ -142,8 +148,8 @@ fn is_answered(alloc: Global, row: &Row) -> Result<bool, Fail> {
     let graph = graph_of(alloc, row)?;
     let answer = answer_for(alloc, &graph)?;
     match (answer, &row.expected) {
-        (Some(Embedded::Plane(r)), Expected::Plane(faces)) => {
-            Ok(has_faces(alloc, &graph, &r, *faces)?)
+        (Some(Embedded::Plane(r)), Expected::Plane(numbers)) => {
+            Ok(is_plane(alloc, &graph, &r, *numbers)?)
         }
         (Some(Embedded::Not(s)), Expected::Not(pattern)) => {
             Ok(s.kind == *pattern && check(alloc, &graph, &s)?)
