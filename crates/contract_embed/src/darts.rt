@@ -1,11 +1,11 @@
 // Darts of a graph: dart 2e leaves the first end of edge e, and dart 2e + 1 the second.
 
 ghost use Rattle.std.specs.Prelude.{◌≡◌, ◌≤◌, ◌<◌, ◌*◌, ℕ, length};
-ghost use Rattle.multigraph.specs.Graph.{IsGraph, edge_count};
+ghost use Rattle.multigraph.specs.Graph.{IsGraph};
 ghost use Rattle.contractions.specs.Contraction.{are_joined};
 ghost use Rattle.dart_maps.specs.Map.{twin};
 ghost use Rattle.faces.specs.Euler.{tail, dart_from, dart_count};
-ghost use Rattle.contractions.specs.Marks.{AreNeighbours};
+ghost use Rattle.contractions.specs.Marks.{AreNeighbourMarks};
 ghost use Rattle.contract_embed.specs.Steps.{leads, first_dart};
 
 use contract_obstruct::twin;
@@ -42,7 +42,7 @@ pub(crate) fn head(g: &Graph, dart: u32) -> u32
 // Whether it arrives at a neighbour of v.
 pub(crate) fn arrives_at_mark(g: &Graph, marks: &[bool], v: u32, dart: u32) -> bool
     requires number { length marks.now ≡ g.now.vertex_count }
-    requires marks { AreNeighbours g.now v (edge_count g.now) marks.now }
+    requires marks { AreNeighbourMarks g.now v marks.now }
     requires dart { dart < dart_count g.now }
     ensures { result ≡ are_joined g.now v (tail g.now (twin dart)) }
 {

@@ -3,12 +3,11 @@
 // common neighbours are put in beside those from x.
 
 ghost use Rattle.std.specs.Prelude.{◌≡◌, ◌<◌, ◌+◌, ℕ, length, slice_index, IfOk};
-ghost use Rattle.multigraph.specs.Graph.{edge_count};
 ghost use Rattle.contractions.specs.Contraction.{are_joined};
 ghost use Rattle.dart_maps.specs.Map.{twin};
 ghost use Rattle.faces.specs.Euler.{tail, dart_count};
 ghost use Rattle.contractions.specs.Level.{IsLevel, contraction};
-ghost use Rattle.contractions.specs.Marks.{AreNeighbours};
+ghost use Rattle.contractions.specs.Marks.{AreNeighbourMarks};
 ghost use Rattle.contract_obstruct.specs.Steps.{ArePlaneSteps};
 ghost use Rattle.contract_embed.specs.Steps.{AgreeBelow, first_dart, rejoined};
 ghost use Rattle.contract_embed.specs.Runs.{CarriedBelow, HaveRuns};
@@ -49,7 +48,7 @@ fn carried(alloc: Global, level: &Level, next: &[u32]) -> Result<Vec<u32>, Alloc
 fn join_again(level: &Level, marks: &[bool], wide: &mut [u32], dart: u32, p: u32, q: u32)
     requires level { IsLevel level.now }
     requires number { length marks.now ≡ level.now.graph.vertex_count }
-    requires marks { AreNeighbours level.now.graph level.now.y (edge_count level.now.graph) marks.now }
+    requires marks { AreNeighbourMarks level.now.graph level.now.y marks.now }
     requires each { length wide.old ≡ dart_count level.now.graph }
     requires dart { dart < dart_count level.now.graph }
     requires first { p < dart_count level.now.graph }
@@ -66,7 +65,7 @@ fn join_again(level: &Level, marks: &[bool], wide: &mut [u32], dart: u32, p: u32
 fn part(level: &Level, marks: &[bool], next: &[u32], wide: &mut [u32], first: u32, last: u32)
     requires level { IsLevel level.now }
     requires number { length marks.now ≡ level.now.graph.vertex_count }
-    requires marks { AreNeighbours level.now.graph level.now.y (edge_count level.now.graph) marks.now }
+    requires marks { AreNeighbourMarks level.now.graph level.now.y marks.now }
     requires steps { ArePlaneSteps (contraction level.now) next.now }
     requires first { first < dart_count (contraction level.now) }
     requires last { last < dart_count (contraction level.now) }

@@ -2,11 +2,10 @@
 
 ghost use Rattle.std.specs.Prelude.{◌≡◌, ◌<◌, ◌≤◌, ◌↔◌, ℕ, true, length, slice_index, IfOk, MatchOption};
 ghost use Rattle.contractions.specs.Contraction.{are_joined};
-ghost use Rattle.multigraph.specs.Graph.{edge_count};
 ghost use Rattle.dart_maps.specs.Map.{twin};
 ghost use Rattle.faces.specs.Euler.{tail, dart_count};
 ghost use Rattle.contractions.specs.Level.{IsLevel, contraction};
-ghost use Rattle.contractions.specs.Marks.{AreNeighbours};
+ghost use Rattle.contractions.specs.Marks.{AreNeighbourMarks};
 ghost use Rattle.contract_obstruct.specs.Steps.{ArePlaneSteps};
 ghost use Rattle.contract_embed.specs.Runs.{origin, leaves, Turns, FitsAt, HaveRuns};
 ghost use Rattle.contract_obstruct.specs.Obstruction.{HaveNoRuns};
@@ -99,7 +98,7 @@ fn turn(level: &Level, next: &[u32], from: u32, to: u32) -> Option<u32>
 fn fits_at(level: &Level, marks: &[bool], next: &[u32], first: u32, last: u32, dart: u32) -> bool
     requires level { IsLevel level.now }
     requires number { length marks.now ≡ level.now.graph.vertex_count }
-    requires marks { AreNeighbours level.now.graph level.now.y (edge_count level.now.graph) marks.now }
+    requires marks { AreNeighbourMarks level.now.graph level.now.y marks.now }
     requires steps { ArePlaneSteps (contraction level.now) next.now }
     requires dart { dart < dart_count (contraction level.now) }
     ensures { (result ≡ true) ↔ FitsAt level.now next.now first last dart }
@@ -120,7 +119,7 @@ fn fits_at(level: &Level, marks: &[bool], next: &[u32], first: u32, last: u32, d
 fn all_fit(level: &Level, marks: &[bool], next: &[u32], first: u32, last: u32) -> bool
     requires level { IsLevel level.now }
     requires number { length marks.now ≡ level.now.graph.vertex_count }
-    requires marks { AreNeighbours level.now.graph level.now.y (edge_count level.now.graph) marks.now }
+    requires marks { AreNeighbourMarks level.now.graph level.now.y marks.now }
     requires steps { ArePlaneSteps (contraction level.now) next.now }
     ensures { (result ≡ true) ↔ ((d : ℕ) → d < dart_count (contraction level.now) → FitsAt level.now next.now first last d) }
 {

@@ -7,7 +7,7 @@ ghost use Rattle.contractions.specs.Contraction.{are_joined};
 ghost use Rattle.kuratowski.specs.Subdivision.{IsSubdivision};
 ghost use Rattle.planarity.specs.Circle.{leads_near};
 ghost use Rattle.contractions.specs.Level.{IsLevel, contraction, edge_before};
-ghost use Rattle.contractions.specs.Marks.{AreNeighbours};
+ghost use Rattle.contractions.specs.Marks.{AreNeighbourMarks};
 ghost use Rattle.contract_obstruct.specs.Steps.{ArePlaneSteps};
 ghost use Rattle.contract_obstruct.specs.Obstruction.{HaveNoRuns};
 ghost use Rattle.contract_obstruct.specs.Crossing.{IsAround};
@@ -27,7 +27,7 @@ use std::alloc::{AllocError, Global};
 fn leads_to_mark(g: &Graph, marks: &[bool], v: u32, y: u32, edge: u32) -> bool
     requires edge_in { edge < edge_count g.now }
     requires number { length marks.now ≡ g.now.vertex_count }
-    requires marks { AreNeighbours g.now y (edge_count g.now) marks.now }
+    requires marks { AreNeighbourMarks g.now y marks.now }
     ensures { result ≡ are_joined g.now y (other_end g.now edge v) }
 {
     let (first, second) = g.ends(edge);
@@ -48,7 +48,7 @@ fn is_from_x(level: &Level, i: u32) -> bool
 // Whether it leads to a neighbour of y, or from y.
 fn is_near(level: &Level, marks: &[bool], i: u32) -> bool
     requires number { length marks.now ≡ level.now.graph.vertex_count }
-    requires marks { AreNeighbours level.now.graph level.now.y (edge_count level.now.graph) marks.now }
+    requires marks { AreNeighbourMarks level.now.graph level.now.y marks.now }
     requires edge_in { edge_before level.now i < edge_count level.now.graph }
     ensures { result ≡ leads_near level.now.graph level.now.x level.now.y (edge_before level.now) i }
 {
@@ -60,7 +60,7 @@ fn is_near(level: &Level, marks: &[bool], i: u32) -> bool
 // Whether it leads from x to a neighbour of y.
 fn is_common(level: &Level, marks: &[bool], i: u32) -> bool
     requires number { length marks.now ≡ level.now.graph.vertex_count }
-    requires marks { AreNeighbours level.now.graph level.now.y (edge_count level.now.graph) marks.now }
+    requires marks { AreNeighbourMarks level.now.graph level.now.y marks.now }
     requires edge_in { edge_before level.now i < edge_count level.now.graph }
     ensures { (result ≡ true) ↔ IsCommonEdge level.now i }
 {
@@ -84,7 +84,7 @@ fn place_from_x(level: &Level, order: &[u32], from: usize, to: usize) -> Option<
 // The first place from one on whose edge leads to a common neighbour.
 fn common_place(level: &Level, marks: &[bool], order: &[u32], from: usize) -> Option<usize>
     requires number { length marks.now ≡ level.now.graph.vertex_count }
-    requires marks { AreNeighbours level.now.graph level.now.y (edge_count level.now.graph) marks.now }
+    requires marks { AreNeighbourMarks level.now.graph level.now.y marks.now }
     requires edges { StandForEdges level.now order.now }
     ensures { MatchOption result ((t : ℕ) → from ≤ t → t < length order.now → IsCommonEdge level.now (slice_index order.now t) → ⊥) (λ t. (from ≤ t) × (t < length order.now) × IsCommonEdge level.now (slice_index order.now t) × ((u : ℕ) → from ≤ u → u < t → IsCommonEdge level.now (slice_index order.now u) → ⊥)) }
 {
@@ -99,7 +99,7 @@ fn common_place(level: &Level, marks: &[bool], order: &[u32], from: usize) -> Op
 // The places of edges that lead to common neighbours, besides place 0.
 fn triple_places(level: &Level, marks: &[bool], order: &[u32]) -> Option<(usize, usize)>
     requires number { length marks.now ≡ level.now.graph.vertex_count }
-    requires marks { AreNeighbours level.now.graph level.now.y (edge_count level.now.graph) marks.now }
+    requires marks { AreNeighbourMarks level.now.graph level.now.y marks.now }
     requires edges { StandForEdges level.now order.now }
     requires filled { 0 < length order.now }
     ensures { MatchOption result ((i j : ℕ) → IsTripleAt level.now order.now i j → ⊥) (λ p. IsTripleAt level.now order.now p.0 p.1) }
@@ -133,7 +133,7 @@ fn places_round(level: &Level, order: &[u32], j: usize) -> Option<(usize, usize)
 // The places of edges that alternate, besides place 0.
 fn crossing_places(level: &Level, marks: &[bool], order: &[u32]) -> Option<(usize, usize, usize)>
     requires number { length marks.now ≡ level.now.graph.vertex_count }
-    requires marks { AreNeighbours level.now.graph level.now.y (edge_count level.now.graph) marks.now }
+    requires marks { AreNeighbourMarks level.now.graph level.now.y marks.now }
     requires edges { StandForEdges level.now order.now }
     requires filled { 0 < length order.now }
     ensures { MatchOption result ((i j k : ℕ) → IsCrossingAt level.now order.now i j k → ⊥) (λ p. IsCrossingAt level.now order.now p.0 p.1 p.2) }
@@ -165,7 +165,7 @@ fn shown(
     requires steps { ArePlaneSteps (contraction level.now) next.now }
     requires around { IsAround level.now next.now order.now }
     requires number { length marks.now ≡ level.now.graph.vertex_count }
-    requires marks { AreNeighbours level.now.graph level.now.y (edge_count level.now.graph) marks.now }
+    requires marks { AreNeighbourMarks level.now.graph level.now.y marks.now }
     requires edges { StandForEdges level.now order.now }
     requires filled { 0 < length order.now }
     ensures { IfOk result (λ answer. MatchOption answer (ShowsNothing level.now order.now) (λ r. IsSubdivision level.now.graph r.kind r.branch r.paths)) }

@@ -8,7 +8,7 @@ ghost use Rattle.graph_theory.specs.Triconnected.{IsTriconnected};
 ghost use Rattle.contractions.specs.Contraction.{are_joined, is_kept, is_private, IsContractible};
 ghost use Rattle.contractions.specs.Contracted.{without_number, contracted_vertex, kept_edges, contracted_ends, contracted};
 ghost use Rattle.contractions.specs.Level.{IsOriented, IsLevel, contraction};
-ghost use Rattle.contractions.specs.Marks.{AreNeighbours};
+ghost use Rattle.contractions.specs.Marks.{AreNeighbourMarks, AreNeighbourMarksBelow};
 
 use crate::contractible::contractible_edge;
 use multigraph::{BuildFault, Graph};
@@ -50,8 +50,8 @@ fn far_end(g: &Graph, v: u32, edge: u32) -> Option<u32>
 fn mark_far_end(g: &Graph, marks: &mut [bool], x: u32, edge: u32)
     requires edge_in { edge < edge_count g.now }
     requires number { length marks.old ≡ g.now.vertex_count }
-    requires before { AreNeighbours g.now x edge marks.old }
-    ensures { AreNeighbours g.now x (edge + 1) marks.new }
+    requires before { AreNeighbourMarksBelow g.now x edge marks.old }
+    ensures { AreNeighbourMarksBelow g.now x (edge + 1) marks.new }
 {
     if let Some(vertex) = far_end(g, x, edge) {
         marks[vertex as usize] = true;
@@ -60,7 +60,7 @@ fn mark_far_end(g: &Graph, marks: &mut [bool], x: u32, edge: u32)
 
 /// For each vertex a mark whether it is joined with x; an `Err` for want of memory.
 pub fn neighbour_marks(alloc: Global, g: &Graph, x: u32) -> Result<Vec<bool>, AllocError>
-    ensures marks { IfOk result (λ marks. AreNeighbours g.now x (edge_count g.now) marks.items) }
+    ensures marks { IfOk result (λ marks. AreNeighbourMarks g.now x marks.items) }
     ensures number { IfOk result (λ marks. length marks.items ≡ g.now.vertex_count) }
 {
     let mut marks = vec![in alloc; false; g.vertex_count() as usize]?;
@@ -74,7 +74,7 @@ pub fn neighbour_marks(alloc: Global, g: &Graph, x: u32) -> Result<Vec<bool>, Al
 fn leads_to_mark(g: &Graph, marks: &[bool], x: u32, y: u32, edge: u32) -> bool
     requires edge_in { edge < edge_count g.now }
     requires number { length marks.now ≡ g.now.vertex_count }
-    requires marks { AreNeighbours g.now x (edge_count g.now) marks.now }
+    requires marks { AreNeighbourMarks g.now x marks.now }
     ensures { result ≡ (is_end g.now y edge && are_joined g.now x (other_end g.now edge y)) }
 {
     match far_end(g, y, edge) {
@@ -87,7 +87,7 @@ fn leads_to_mark(g: &Graph, marks: &[bool], x: u32, y: u32, edge: u32) -> bool
 fn is_kept(g: &Graph, marks: &[bool], e: u32, x: u32, y: u32, edge: u32) -> bool
     requires edge_in { edge < edge_count g.now }
     requires number { length marks.now ≡ g.now.vertex_count }
-    requires marks { AreNeighbours g.now x (edge_count g.now) marks.now }
+    requires marks { AreNeighbourMarks g.now x marks.now }
     ensures { result ≡ is_kept g.now e x y edge }
 {
     edge != e && !leads_to_mark(g, marks, x, y, edge)
@@ -97,7 +97,7 @@ fn is_kept(g: &Graph, marks: &[bool], e: u32, x: u32, y: u32, edge: u32) -> bool
 fn is_private(g: &Graph, marks: &[bool], e: u32, x: u32, y: u32, edge: u32) -> bool
     requires edge_in { edge < edge_count g.now }
     requires number { length marks.now ≡ g.now.vertex_count }
-    requires marks { AreNeighbours g.now x (edge_count g.now) marks.now }
+    requires marks { AreNeighbourMarks g.now x marks.now }
     ensures { result ≡ is_private g.now e x y edge }
 {
     match far_end(g, y, edge) {
@@ -109,7 +109,7 @@ fn is_private(g: &Graph, marks: &[bool], e: u32, x: u32, y: u32, edge: u32) -> b
 // Whether some edge is private to y.
 fn has_private(g: &Graph, marks: &[bool], e: u32, x: u32, y: u32) -> bool
     requires number { length marks.now ≡ g.now.vertex_count }
-    requires marks { AreNeighbours g.now x (edge_count g.now) marks.now }
+    requires marks { AreNeighbourMarks g.now x marks.now }
     ensures { result ≡ some (edge_count g.now) (is_private g.now e x y) }
 {
     for edge in 0..g.edge_count() {
