@@ -1,0 +1,3 @@
+-- Rings of nodes, and how they are kept.
+pub mod Links
+pub mod Nodes

@@ -1,0 +1,187 @@
+// Rings of nodes in one block of memory.
+
+ghost use Rattle.std.specs.Prelude.{◌≡◌, ◌≢◌, ℕ, ◌<◌, ◌≤◌, length, slice_index, slice_set, IfOk};
+ghost use Rattle.std.specs.Vec.{vec_ptr, vec_capacity};
+ghost use Rattle.permutations.specs.Exchange.{exchange, unlink};
+ghost use Rattle.ring_arena.specs.Links.{AreInverse, AreNow, AreAlone, linked_after, reversed_at};
+ghost use Rattle.ring_arena.specs.Nodes.{max_nodes, links_of, IsLinked, AreNodes, AreRelinked, AreTurned};
+
+use crate::places::{behind, fits, place};
+use std::alloc::{AllocError, Global};
+use std::marker::Model;
+
+// A node: its number, and where the nodes behind it and before it lie.
+#[derive(Clone, Copy, Drop)]
+struct Node {
+    number: u32,
+    next: *const Node,
+    prev: *const Node,
+}
+
+/// Nodes 0 to n - 1 in rings.
+///
+/// Seen as two lists, the node behind each node and the node before it; both are permutations, and each is the inverse of the
+/// other. No call but `new` and `copy` takes memory.
+#[derive(Drop)]
+pub struct Rings {
+    nodes: Vec<Node>,
+}
+
+impl Model for Rings {
+    ghost use Rattle.ring_arena.specs.Links.{Links};
+
+    ghost Value = { Links };
+
+    ghost use Rattle.std.specs.Vec.{vec_ptr};
+    ghost use Rattle.ring_arena.specs.Nodes.{links_of, KeepRings};
+
+    ghost view = { λ r. links_of (vec_ptr r.nodes) r.nodes.items };
+
+    ghost invariant = { λ r. KeepRings (vec_ptr r.nodes) r.nodes.items };
+}
+
+impl Rings {
+    /// So many nodes, at most 100,000, each alone on a ring.
+    pub fn new(alloc: Global, n: u32) -> Result<Rings, AllocError>
+        requires { n ≤ max_nodes }
+        ensures { IfOk result (AreAlone n) }
+    {
+        let mut nodes = Vec::with_capacity(alloc, n as usize)?;
+        for d in 0..n {
+            let node = node_at(&nodes, d, d, d);
+            nodes.push_reserved(node);
+        }
+        fits(&nodes);
+        Ok(Rings { nodes })
+    }
+
+    /// The same rings once more, in a block of their own.
+    pub fn copy(&self, alloc: Global) -> Result<Rings, AllocError>
+        ensures { IfOk result (λ r. r ≡ self.now) }
+    {
+        let mut nodes = Vec::with_capacity(alloc, self.len() as usize)?;
+        for d in 0..self.len() {
+            let node = node_at(&nodes, d, self.next(d), self.prev(d));
+            nodes.push_reserved(node);
+        }
+        fits(&nodes);
+        Ok(Rings { nodes })
+    }
+
+    /// The number of nodes.
+    pub fn len(&self) -> u32
+        ensures value { result ≡ length self.now.next }
+        ensures few { result ≤ max_nodes }
+        ensures inverse { AreInverse self.now }
+    {
+        self.nodes.len() as u32
+    }
+
+    /// The node behind node `d` on its ring.
+    pub fn next(&self, d: u32) -> u32
+        requires { d < length self.now.next }
+        ensures value { result ≡ slice_index self.now.next d }
+        ensures within { result < length self.now.next }
+    {
+        behind(&self.nodes, self.nodes[d as usize].next).number
+    }
+
+    /// The node before node `d` on its ring.
+    pub fn prev(&self, d: u32) -> u32
+        requires { d < length self.now.next }
+        ensures value { result ≡ slice_index self.now.prev d }
+        ensures within { result < length self.now.next }
+    {
+        behind(&self.nodes, self.nodes[d as usize].prev).number
+    }
+
+    /// Exchanges the nodes behind `a` and `b`: two rings become one, or one becomes two. Nothing changes where `a` is `b`.
+    pub fn exchange(&mut self, a: u32, b: u32)
+        requires first { a < length self.old.next }
+        requires second { b < length self.old.next }
+        ensures { AreNow self.old self.new (exchange a b (slice_index self.old.next)) }
+    {
+        let behind_a = self.next(a) as usize;
+        let behind_b = self.next(b) as usize;
+        link(&mut self.nodes, a as usize, behind_b);
+        link(&mut self.nodes, b as usize, behind_a);
+    }
+
+    /// Takes node `d` out of its ring: it is alone then, and the nodes before and behind it follow one another.
+    pub fn unlink(&mut self, d: u32)
+        requires { d < length self.old.next }
+        ensures { AreNow self.old self.new (unlink d (slice_index self.old.next)) }
+    {
+        let _ = &self.nodes;
+        let before = self.prev(d);
+        self.exchange(before, d);
+    }
+
+    /// Puts node `d`, which is alone, behind node `x`: it stands between `x` and the node that was behind `x`.
+    pub fn link_after(&mut self, d: u32, x: u32)
+        requires node { d < length self.old.next }
+        requires place { x < length self.old.next }
+        requires alone { slice_index self.old.next d ≡ d }
+        requires other { d ≢ x }
+        ensures { AreNow self.old self.new (linked_after d x (slice_index self.old.next)) }
+    {
+        self.exchange(x, d);
+    }
+
+    /// Turns the ring of `d` round: behind each of its nodes stands the node that was before it. Other rings stay.
+    pub fn reverse(&mut self, d: u32)
+        requires { d < length self.old.next }
+        ensures { AreNow self.old self.new (reversed_at self.old d) }
+    {
+        let mut at = d as usize;
+        for _ in 0..self.nodes.len() {
+            at = turn(&mut self.nodes, at);
+            if at == d as usize {
+                break;
+            }
+        }
+    }
+}
+
+// A node of a block, by its number and those of the nodes behind it and before it.
+fn node_at(nodes: &Vec<Node>, number: u32, next: u32, prev: u32) -> Node
+    requires next_in { next < vec_capacity nodes.now }
+    requires prev_in { prev < vec_capacity nodes.now }
+    ensures { IsLinked (vec_ptr nodes.now) number next prev result }
+{
+    Node {
+        number,
+        next: place(nodes, next as usize),
+        prev: place(nodes, prev as usize),
+    }
+}
+
+// Node b comes behind node a, and node a before node b. Nothing else is written.
+fn link(nodes: &mut Vec<Node>, a: usize, b: usize)
+    requires nodes { AreNodes (vec_ptr nodes.old) nodes.old.items }
+    requires first { a < length nodes.old.items }
+    requires second { b < length nodes.old.items }
+    ensures { AreRelinked (vec_ptr nodes.old) nodes.old.items (vec_ptr nodes.new) nodes.new.items a b }
+{
+    let from = place(nodes, a);
+    let to = place(nodes, b);
+    nodes[a].next = to;
+    nodes[b].prev = from;
+}
+
+// Exchanges what is behind node k and what is before it, and answers the node that was behind it.
+fn turn(nodes: &mut Vec<Node>, k: usize) -> usize
+    requires nodes { AreNodes (vec_ptr nodes.old) nodes.old.items }
+    requires node { k < length nodes.old.items }
+    ensures turned { AreTurned (vec_ptr nodes.old) nodes.old.items (vec_ptr nodes.new) nodes.new.items k }
+    ensures after { result ≡ slice_index (links_of (vec_ptr nodes.old) nodes.old.items).next k }
+{
+    let node = nodes[k];
+    let after = behind(nodes, node.next).number;
+    nodes[k] = Node {
+        number: node.number,
+        next: node.prev,
+        prev: node.next,
+    };
+    after as usize
+}

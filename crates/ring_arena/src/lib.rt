@@ -1,0 +1,18 @@
+// Rings of numbered nodes, linked by raw pointers.
+//
+// The nodes 0 to n - 1 stand in one block of memory, and each holds the places of the node behind it and of the node before it:
+// circular doubly linked lists (Knuth, The Art of Computer Programming 1, 2.2.4, 2.2.5). Contracts see two lists of numbers,
+// the node behind each node and the node before it. Each of them is a permutation of the nodes, and each is the inverse of the
+// other, after every call; a ring is an orbit.
+// One step changes the rings: the nodes behind two nodes change places. It joins two rings into one or parts one into two, in
+// constant time; taking a node out and putting one in are such steps. A ring is turned round in as many steps as it has nodes.
+// Only `Rings::new` takes memory, and the block is freed when the rings are dropped.
+#![tactic(auto)]
+
+mod arena;
+mod places;
+
+pub use arena::Rings;
+
+#[cfg(test)]
+mod tests;

@@ -1,0 +1,78 @@
+// The calls on four nodes one after the other, what is behind and before each node after each of them, and a copy.
+
+use crate::Rings;
+use std::test::Fail;
+
+// A call that changes rings.
+#[derive(Clone, Copy)]
+enum Call {
+    Exchange(u32, u32),
+    Reverse(u32),
+    Unlink(u32),
+    LinkAfter(u32, u32),
+}
+
+// Makes the call where its nodes are nodes, and the one that is put in is alone.
+fn make(r: &mut Rings, call: Call) {
+    let n = r.len();
+    match call {
+        Call::Exchange(a, b) => {
+            if a < n && b < n {
+                r.exchange(a, b);
+            }
+        }
+        Call::Reverse(d) => {
+            if d < n {
+                r.reverse(d);
+            }
+        }
+        Call::Unlink(d) => {
+            if d < n {
+                r.unlink(d);
+            }
+        }
+        Call::LinkAfter(d, x) => {
+            if d < n && x < n && d != x && r.next(d) == d {
+                r.link_after(d, x);
+            }
+        }
+    }
+}
+
+// What is behind each of the first four nodes, and what is before each.
+fn links(r: &Rings) -> ([u32; 4], [u32; 4]) {
+    let mut next = [9; 4];
+    let mut prev = [9; 4];
+    for d in 0..4u32 {
+        if d < r.len() {
+            next[d as usize] = r.next(d);
+            prev[d as usize] = r.prev(d);
+        }
+    }
+    (next, prev)
+}
+
+#[test]
+fn changes_rings(rt: HostRuntime) -> Result<(), Fail> {
+    let alloc = rt.alloc();
+    let mut r = Rings::new(alloc, 4)?;
+    assert_eq!(rt; r.len(), 4);
+    assert_eq!(rt; links(&r), ([0, 1, 2, 3], [0, 1, 2, 3]));
+    let rows: [(Call, [u32; 4], [u32; 4]); 6] = [
+        (Call::Exchange(0, 1), [1, 0, 2, 3], [1, 0, 2, 3]),
+        (Call::Exchange(1, 2), [1, 2, 0, 3], [2, 0, 1, 3]),
+        (Call::Reverse(0), [2, 0, 1, 3], [1, 2, 0, 3]),
+        (Call::Unlink(2), [1, 0, 2, 3], [1, 0, 2, 3]),
+        (Call::LinkAfter(2, 0), [2, 0, 1, 3], [1, 2, 0, 3]),
+        (Call::Exchange(3, 3), [2, 0, 1, 3], [1, 2, 0, 3]),
+    ];
+    for (call, next, prev) in rows {
+        make(&mut r, call);
+        assert_eq!(rt; links(&r), (next, prev));
+    }
+    let copy = r.copy(alloc)?;
+    make(&mut r, Call::Reverse(1));
+    assert_eq!(rt; links(&r), ([1, 2, 0, 3], [2, 0, 1, 3]));
+    assert_eq!(rt; links(&copy), ([2, 0, 1, 3], [1, 2, 0, 3]));
+    Ok(())
+}
