@@ -1,0 +1,6 @@
+-- The lemmas on lists of choices.
+pub mod Places
+pub mod Orders
+pub mod Branches
+pub mod Products
+mod Examples

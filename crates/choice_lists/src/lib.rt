@@ -1,0 +1,2 @@
+// Lists of choices.
+#![tactic(auto)]
