@@ -82,12 +82,11 @@ has-selection {X} (c ∷ cs) i v a =
 pub product-ascends : {X : Type 0} (before : X → X → Bool) (cs : List (List X)) → ((x : X) → before x x ≡ false)
     → ((k : ℕ) (c : List X) → At cs k c → Ascends before c) → Ascends (lexicographic before) (product cs)
 product-ascends before [] n h = (λ i y a. absurd a, tt)
-product-ascends {X} before (c ∷ cs) n h = branched-ascends before (pairs c (product cs)) n
+product-ascends {X} before (c ∷ cs) n h =
+    let rest = product-ascends before cs n (λ k d a. h (suc k) d a) in
+    branched-ascends before (pairs c (product cs)) n
     (ascends-map before (λ (b d : X × List (List X)). before b.0 d.0) (λ x. (x, product cs)) c (h 0 c refl) (λ x y e. e))
     (λ q b a. let m = at-map_back (λ x. (x, product cs)) c q b a in subst (λ (p : X × List (List X)). Ascends (lexicographic before) p.1) m.2 rest)
-  where
-    rest : Ascends (lexicographic before) (product cs)
-    rest = product-ascends before cs n (λ k d a. h (suc k) d a)
 
 -- the first of a list stands at place 0
 pub first-at : {X : Type 0} (l : List X) (x : X) → IsFirst l x → At l 0 x
