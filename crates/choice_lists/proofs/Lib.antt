@@ -5,4 +5,8 @@ pub mod Branches
 pub mod Products
 pub mod Numbers
 pub mod Locks
+pub mod Smaller
+pub mod TakenOut
+pub mod Arrangements
+pub mod NextArrangement
 mod Examples

@@ -1,5 +1,6 @@
 -- Members and their places, by recursion on the list; lists that rise, by recursion.
-use Rattle.std.proofs.Common.{◌≡◌, ◌≢◌, ℕ, zero, suc, ◌+◌, ◌<◌, ◌↔◌, ◌⊎◌, inl, inr, Bool, true, false, List, [], ◌∷◌, ◌++◌, length, map, slice_index_or, AllPairs, Contains, refl, sym, ap, ◌∙◌, subst, arith}
+use Rattle.std.proofs.Common.{◌≡◌, ◌≢◌, ℕ, zero, suc, ◌+◌, ◌<◌, ◌↔◌, ◌⊎◌, inl, inr, Bool, true, false, List, [], ◌∷◌, ◌++◌, length, map, reverse, slice_index_or, AllPairs, Contains, refl, sym, ap, ◌∙◌, subst, arith}
+use Rattle.std.proofs.lemmas.List.{reverse-append}
 use Rattle.std.proofs.lemmas.Bool.{both_ways, false_from_ne_true, cases_Bool, true≢false}
 use Rattle.choice_lists.specs.Order.{IsLinear, IsRising, IsFalling, IsAt}
 
@@ -142,3 +143,43 @@ ascends-once before (y ∷ l) n a zero zero x k m = refl
 ascends-once before (y ∷ l) n a zero (suc j) x k m = absurd (both_ways (before y x) (subst (λ z. before y z ≡ false) k (n y)) (a.0 j x m))
 ascends-once before (y ∷ l) n a (suc i) zero x k m = absurd (both_ways (before y x) (subst (λ z. before y z ≡ false) m (n y)) (a.0 i x k))
 ascends-once before (y ∷ l) n a (suc i) (suc j) x k m = ap suc (ascends-once before l n a.1 i j x k m)
+
+-- the members of a list written backwards are its members
+pub reverse-has : {X : Type 0} (l : List X) (i : ℕ) (x : X) → At (reverse l) i x → Has l x
+reverse-has [] i x a = absurd a
+reverse-has {X} (y ∷ l) i x a =
+    elim (at-append (reverse l) (y ∷ []) i x (subst (λ (z : List X). At z i x) (reverse-append (y ∷ []) l) a)) [
+      | inl b ↦ let m = reverse-has l i x b in (suc m.0, m.1)
+      | inr b ↦ (0, one b.0 b.2)
+    ]
+  where
+    one : (j : ℕ) → At (y ∷ []) j x → y ≡ x
+    one zero e = e
+    one (suc j) e = absurd e
+
+-- a rising list written backwards falls
+pub ascends-reverse : {X : Type 0} (before : X → X → Bool) (l : List X) → Ascends before l → Ascends (λ x y. before y x) (reverse l)
+ascends-reverse before [] a = tt
+ascends-reverse {X} before (x ∷ l) a =
+    subst (λ (z : List X). Ascends (λ u v. before v u) z) (sym (reverse-append (x ∷ []) l))
+    (ascends-append (λ u v. before v u) (reverse l) (x ∷ []) (ascends-reverse before l a.1) (λ i y m. absurd m, tt) above)
+  where
+    above : (i : ℕ) (y : X) → At (reverse l) i y → Above (λ u v. before v u) y (x ∷ [])
+    above i y m zero z e = let h = reverse-has l i y m in subst (λ w. before w y ≡ true) e (a.0 h.0 y h.1)
+    above i y m (suc j) z e = absurd e
+
+-- the back of a rising list rises
+pub ascends-back : {X : Type 0} (before : X → X → Bool) (xs ys : List X) → Ascends before (xs ++ ys) → Ascends before ys
+ascends-back before [] ys a = a
+ascends-back before (x ∷ xs) ys a = ascends-back before xs ys a.1
+
+-- the front of a rising list rises
+pub ascends-front : {X : Type 0} (before : X → X → Bool) (xs ys : List X) → Ascends before (xs ++ ys) → Ascends before xs
+ascends-front before [] ys a = tt
+ascends-front before (x ∷ xs) ys a = (λ i y m. a.0 i y (at-left xs ys i y m), ascends-front before xs ys a.1)
+
+-- a member of the front comes before a member of the back
+pub ascends-across : {X : Type 0} (before : X → X → Bool) (xs ys : List X) → Ascends before (xs ++ ys) → (i : ℕ) (x : X) → At xs i x → Above before x ys
+ascends-across before [] ys a i x m j y k = absurd m
+ascends-across before (z ∷ xs) ys a zero x m j y k = subst (λ v. before v y ≡ true) m (a.0 (length xs + j) y (at-right xs ys j y k))
+ascends-across before (z ∷ xs) ys a (suc i) x m j y k = ascends-across before xs ys a.1 i x m j y k
