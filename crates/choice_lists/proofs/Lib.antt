@@ -9,4 +9,5 @@ pub mod Smaller
 pub mod TakenOut
 pub mod Arrangements
 pub mod NextArrangement
+pub mod Choices
 mod Examples
