@@ -10,4 +10,5 @@ pub mod TakenOut
 pub mod Arrangements
 pub mod NextArrangement
 pub mod Choices
+pub mod Laws
 mod Examples

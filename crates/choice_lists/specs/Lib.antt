@@ -5,3 +5,4 @@ pub mod Choices
 pub mod Products
 pub mod Numbers
 pub mod Locks
+pub mod Laws
