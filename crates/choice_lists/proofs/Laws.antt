@@ -7,7 +7,7 @@ use Rattle.choice_lists.specs.Choices.{mirror_choice, bond_choices, rigid_choice
 use Rattle.choice_lists.specs.Products.{product, IsSelection, product_of, AreDigits, IsFirst, IsLast, AreFirsts, AreLasts, IsNextVector}
 use Rattle.choice_lists.specs.Numbers.{radix_number, AreDigitsBelow, digits_of, horner, product_below}
 use Rattle.choice_lists.specs.Locks.{locked_from, locked_lists, AgreeWhereLocked}
-use Rattle.choice_lists.specs.Laws.{FirstDifferenceDecides, ArrangementsAreCounted, NumberIsPlace, PlaceIsNumber, NumberOfNumbered, NumberedByNumber, NextArrangementFollows, NextArrangementRearranges, FallsOrHasNext, FallingHasNoNext, BondChoiceIsNumbered, BondBeginsRising, BondEndsMirrored, NextBondChoice, RigidChoicesAreListed, SecondKeyDecides, ChoiceListsRise, ChoiceListsEndMirrored, SelectionsAreListed, FirstVector, LastVector, LastVectorIsMirrored, SelectionsHaveDigits, DigitsOfPlace, NumberOfDigits, NumberFromTheFirst, NextVectorFollows, LastHasNoNext, LockedAreListed, LockedListsRise, NoneLocked, ProductWithinLimit}
+use Rattle.choice_lists.specs.Laws.{FirstDifferenceDecides, ArrangementsAreCounted, NumberIsPlace, PlaceIsNumber, PlaceOfVector, NumberOfNumbered, NumberedByNumber, NextArrangementFollows, NextArrangementRearranges, FallsOrHasNext, FallingHasNoNext, BondChoiceIsNumbered, BondBeginsRising, BondEndsMirrored, NextBondChoice, RigidChoicesAreListed, SecondKeyDecides, ChoiceListsRise, ChoiceListsEndMirrored, SelectionsAreListed, FirstVector, LastVector, LastVectorIsMirrored, SelectionsHaveDigits, DigitsOfPlace, NumberOfDigits, NumberFromTheFirst, NextVectorFollows, LastHasNoNext, LockedAreListed, LockedListsRise, NoneLocked, ProductWithinLimit}
 use Rattle.choice_lists.proofs.Places.{At, Has, at-from, at-is, at-get, at-within, at-any, at-same, at-place, has-from, contains-from, Ascends, ascends-from, rising-from, ascends-once}
 use Rattle.choice_lists.proofs.Orders.{linear-before, linear-vectors, never-itself, lex-difference, lex-from_difference}
 use Rattle.choice_lists.proofs.Products.{product-at, selection-digits, selection-has, has-selection, product-ascends, product-first, product-last, at-first, first-at, at-last, last-at, next_vector-at, last-no-next, selection-firsts}
@@ -150,6 +150,9 @@ digits-within (c ∷ lists) (x ∷ v) (d ∷ ds) h = (h.0.0, digits-within lists
 
 pub selections-digits : SelectionsHaveDigits
 selections-digits lists v s = let d = selection-digits lists v s in (d.0, d.1, digits-within lists v d.0 d.1)
+
+pub place-vector : PlaceOfVector
+place-vector lists v digits d = at-is (product lists) (radix_number (map length lists) digits) v (product-at lists v digits d)
 
 pub place-digits : DigitsOfPlace
 place-digits lists i v h m =
