@@ -1,20 +1,19 @@
 -- The arrangements of rising keys: all of them, in order, as many as the factorial, at the places that their numbers say.
-use Rattle.std.proofs.Common.{◌≡◌, ℕ, zero, suc, ◌+◌, ◌*◌, ◌/◌, ◌%◌, ◌<◌, ◌≤◌, inl, inr, Bool, true, false, nat_lt, List, [], ◌∷◌, ◌++◌, length, map, reverse, slice_index_or, IsPermutation, refl, sym, ap, ap₂, ◌∙◌, subst, arith, add-mul, div-add-mod', mod-lt}
+use Rattle.std.proofs.Common.{◌≡◌, ℕ, zero, suc, ◌+◌, ◌*◌, ◌/◌, ◌%◌, ◌<◌, true, nat_lt, List, [], ◌∷◌, length, map, slice_index_or, IsPermutation, refl, sym, ap, ap₂, ◌∙◌, subst, arith, add-mul, div-add-mod', mod-lt}
 use Rattle.std.proofs.lemmas.Nat.{div_below, mul-le}
 use Rattle.std.proofs.lemmas.Bool.{ltb-true}
 use Rattle.std.proofs.lemmas.List.{length-map}
 use Rattle.std.proofs.lemmas.List.Sorted.{IsPermutation-refl, IsPermutation-cons, IsPermutation-sym, IsPermutation-trans, length_permutation}
-use Rattle.permutations.specs.Members.{is_member, is_distinct}
-use Rattle.permutations.proofs.Members.{member-head}
+use Rattle.permutations.specs.Members.{is_distinct}
 use Rattle.permutations.proofs.Arrangements.{permutation-distinct}
 use Rattle.choice_lists.specs.Order.{lexicographic}
-use Rattle.choice_lists.specs.Arrangements.{factorial, branched, each_first, arrangements_of, arrangements, factorial_number, numbered_of, numbered}
-use Rattle.choice_lists.proofs.Places.{At, Has, at-within, at-get, at-any, at-same, at-place, at-map, at-map_back, Above, Ascends, ascends-map, ascends-once}
-use Rattle.choice_lists.proofs.Orders.{linear-numbers, never-itself, linear-lexicographic}
+use Rattle.choice_lists.specs.Arrangements.{factorial, each_first, arrangements_of, factorial_number, numbered_of}
+use Rattle.choice_lists.proofs.Places.{At, Has, at-get, at-any, at-place, at-map, at-map_back, Ascends, ascends-map}
+use Rattle.choice_lists.proofs.Orders.{linear-numbers, never-itself}
 use Rattle.choice_lists.proofs.Branches.{AllLong, branched-length, branched-at, branched-back, branched-ascends}
 use Rattle.choice_lists.proofs.Numbers.{factorial-positive}
 use Rattle.choice_lists.proofs.Smaller.{smaller, smaller-none, smaller-all, smaller-permuted, smaller-bound, has-permuted, ascends-distinct, permutation-tail}
-use Rattle.choice_lists.proofs.TakenOut.{Taken, taken, each_first-at, each_first-length, each_first-ascends}
+use Rattle.choice_lists.proofs.TakenOut.{taken, each_first-at, each_first-length, each_first-ascends}
 
 -- the branches of the arrangements of n + 1 keys
 abbrev pub branches : ℕ → List ℕ → List (ℕ × List (List ℕ))

@@ -1,5 +1,5 @@
 -- Lists that branch by their first member: places, members, order and length.
-use Rattle.std.proofs.Common.{◌≡◌, ℕ, zero, suc, ◌+◌, ◌*◌, ◌<◌, ◌⊎◌, inl, inr, Bool, true, false, List, [], ◌∷◌, ◌++◌, length, map, refl, sym, ap, ◌∙◌, subst, arith, length-append}
+use Rattle.std.proofs.Common.{◌≡◌, ℕ, zero, suc, ◌+◌, ◌*◌, inl, inr, Bool, true, false, List, [], ◌∷◌, length, map, refl, sym, ◌∙◌, subst, arith, length-append}
 use Rattle.std.proofs.lemmas.List.{length-map}
 use Rattle.choice_lists.specs.Order.{lexicographic}
 use Rattle.choice_lists.specs.Arrangements.{branched}
@@ -64,6 +64,6 @@ branched-ascends {X} before (b ∷ bs) n a h =
   where
     above : (i : ℕ) (x : List X) → At (map (λ v. b.0 ∷ v) b.1) i x → Above (lexicographic before) x (branched bs)
     above i x k j y l =
-      let m = at-map_back (λ v. b.0 ∷ v) b.1 i x k in
-      let s = branched-back bs j y l in
-      subst (λ z. lexicographic before z y ≡ true) m.2 (subst (λ z. lexicographic before (b.0 ∷ m.0) z ≡ true) s.is (lex-less before b.0 s.b.0 m.0 s.v (a.0 s.q s.b s.branch)))
+        let m = at-map_back (λ v. b.0 ∷ v) b.1 i x k in
+        let s = branched-back bs j y l in
+        subst (λ z. lexicographic before z y ≡ true) m.2 (subst (λ z. lexicographic before (b.0 ∷ m.0) z ≡ true) s.is (lex-less before b.0 s.b.0 m.0 s.v (a.0 s.q s.b s.branch)))

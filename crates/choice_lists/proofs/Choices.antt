@@ -1,6 +1,6 @@
 -- The possible choices of a bond and of a rigid node: in order, numbered, the last the mirror image of the first.
-use Rattle.std.proofs.Common.{◌≡◌, ◌≢◌, ℕ, zero, suc, ◌+◌, ◌*◌, ◌<◌, ◌≤◌, ◌↔◌, ◌⊎◌, inl, inr, Bool, true, false, cond, nat_lt, List, [], ◌∷◌, ◌++◌, length, map, reverse, IsPermutation, Contains, refl, sym, ap, ap₂, ◌∙◌, subst, arith}
-use Rattle.std.proofs.lemmas.Bool.{cases_Bool, both_ways, lt-ltb, le-ltb, ltb-true, true≢false, or_left, eq-eqb}
+use Rattle.std.proofs.Common.{◌≡◌, ◌≢◌, ℕ, zero, suc, ◌+◌, ◌*◌, ◌<◌, ◌≤◌, ◌↔◌, ◌⊎◌, inl, inr, Bool, true, false, nat_lt, List, [], ◌∷◌, ◌++◌, length, reverse, IsPermutation, refl, sym, ap, ◌∙◌, subst, arith}
+use Rattle.std.proofs.lemmas.Bool.{cases_Bool, both_ways, lt-ltb, le-ltb, ltb-true, eq-eqb}
 use Rattle.std.proofs.lemmas.List.{length-map, length-reverse, reverse-reverse, reverse-append}
 use Rattle.std.proofs.lemmas.List.Sorted.{IsPermutation-refl, IsPermutation-cons, IsPermutation-reverse, IsPermutation-trans, length_permutation}
 use mathlib.Core.Path.{fun_ext}
@@ -8,16 +8,16 @@ use Rattle.permutations.specs.Members.{is_member, is_distinct}
 use Rattle.permutations.specs.Cyclic.{first_or, last_or, from_least}
 use Rattle.permutations.proofs.Members.{member-head, member-reverse, distinct-head, distinct-tail}
 use Rattle.permutations.proofs.NormalForm.{mirror-from_least}
-use Rattle.choice_lists.specs.Order.{IsLinear, IsRising, IsAt, Lists, lexicographic, is_before}
-use Rattle.choice_lists.specs.Arrangements.{factorial, arrangements, arrangements_of, factorial_number, IsNextArrangement}
-use Rattle.choice_lists.specs.Choices.{mirror_choice, IsBondChoice, bond_choices, rigid_choices, IsBondList, IsRigidList, IsChoiceList}
+use Rattle.choice_lists.specs.Order.{IsRising, IsAt, Lists, lexicographic, is_before}
+use Rattle.choice_lists.specs.Arrangements.{factorial, arrangements, factorial_number, IsNextArrangement}
+use Rattle.choice_lists.specs.Choices.{mirror_choice, IsBondChoice, bond_choices, rigid_choices, IsChoiceList}
 use Rattle.choice_lists.specs.Products.{IsFirst, IsLast}
-use Rattle.choice_lists.proofs.Places.{At, Has, at-is, at-from, at-same, at-place, at-map, at-map_back, has-from, contains-from, Above, Ascends, ascends-from, rising-from, ascends-map, ascends-reverse, ascends-once}
-use Rattle.choice_lists.proofs.Orders.{linear-numbers, linear-before, never-itself, lex-same, before-lexicographic}
-use Rattle.choice_lists.proofs.Products.{first-at, at-first, last-at, at-last}
+use Rattle.choice_lists.proofs.Places.{At, Has, at-is, at-same, at-place, at-map, at-map_back, has-from, contains-from, Above, Ascends, ascends-from, rising-from, ascends-map, ascends-reverse, ascends-once}
+use Rattle.choice_lists.proofs.Orders.{linear-before, never-itself, before-lexicographic}
+use Rattle.choice_lists.proofs.Products.{first-at, at-last}
 use Rattle.choice_lists.proofs.Smaller.{smaller, smaller-none, smaller-permuted, ascends-distinct, permutation-tail}
 use Rattle.choice_lists.proofs.Arrangements.{arrangements-length, arrangements-ascend, arrangement-is, arrangement-at, rising-number, falling-number}
-use Rattle.choice_lists.proofs.NextArrangement.{Falls, next-follows}
+use Rattle.choice_lists.proofs.NextArrangement.{next-follows}
 
 -- a list that rises in the lexicographic order of numbers rises in the order of lists of numbers
 pub ascends-before : (l : List (List ℕ)) → Ascends (lexicographic nat_lt) l → Ascends is_before l
@@ -270,8 +270,8 @@ mirror-differs (k ∷ a ∷ t) d l e = last-is (reverse t) (reverse-reverse t)
     last-is : (u : List ℕ) → reverse u ≡ t → a ∷ t ≡ u ++ a ∷ [] → is_member a t ≡ false → 0 < length u → ⊥
     last-is [] r q m n = absurd (omega arith)
     last-is (z ∷ u) r q m n =
-      let s : a ≡ z = ap (first_or 0) q in
-      both_ways (is_member a t) m (subst (λ (w : List ℕ). is_member a w ≡ true) r (member-reverse a (z ∷ u) ∙ subst (λ v. is_member v (z ∷ u) ≡ true) (sym s) (member-head z u)))
+        let s : a ≡ z = ap (first_or 0) q in
+        both_ways (is_member a t) m (subst (λ (w : List ℕ). is_member a w ≡ true) r (member-reverse a (z ∷ u) ∙ subst (λ v. is_member v (z ∷ u) ≡ true) (sym s) (member-head z u)))
 
 -- the mirror image is the cyclic order the other way round, written from its least key
 pub mirror-is : (x : ℕ) (c : List ℕ) → is_distinct (x ∷ c) ≡ true → ((z : ℕ) → is_member z c ≡ true → x ≤ z) → from_least (reverse (x ∷ c)) ≡ mirror_choice (x ∷ c)

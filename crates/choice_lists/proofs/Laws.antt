@@ -1,21 +1,20 @@
 -- The laws in their public form, from the lemmas on places.
-use Rattle.std.proofs.Common.{◌≡◌, ◌≢◌, ℕ, zero, suc, ◌+◌, ◌*◌, ◌<◌, ◌≤◌, ◌↔◌, ◌⊎◌, inl, inr, Bool, true, false, cond, nat_lt, List, [], ◌∷◌, ◌++◌, length, map, reverse, IsPermutation, Contains, All, Some, None, refl, sym, ap, ap₂, ◌∙◌, subst, arith, one-mul}
-use Rattle.std.proofs.lemmas.Bool.{cases_Bool}
-use Rattle.choice_lists.specs.Order.{IsLinear, IsRising, IsFalling, IsAt, Lists, lexicographic, is_before, vector_before}
-use Rattle.choice_lists.specs.Arrangements.{factorial, arrangements, factorial_number, numbered, IsNextArrangement}
+use Rattle.std.proofs.Common.{◌≡◌, ℕ, suc, ◌+◌, ◌<◌, inl, inr, Bool, true, false, cond, nat_lt, List, [], ◌∷◌, length, map, All, Some, None, refl, sym, ap, ◌∙◌, subst, arith, one-mul}
+use Rattle.choice_lists.specs.Order.{IsRising, is_before, vector_before}
+use Rattle.choice_lists.specs.Arrangements.{factorial, arrangements, factorial_number, numbered}
 use Rattle.choice_lists.specs.Choices.{mirror_choice, bond_choices, rigid_choices, IsChoiceList}
-use Rattle.choice_lists.specs.Products.{product, IsSelection, product_of, AreDigits, IsFirst, IsLast, AreFirsts, AreLasts, IsNextVector}
-use Rattle.choice_lists.specs.Numbers.{radix_number, AreDigitsBelow, digits_of, horner, product_below}
+use Rattle.choice_lists.specs.Products.{product, IsSelection, product_of, AreDigits, AreFirsts, AreLasts}
+use Rattle.choice_lists.specs.Numbers.{radix_number, AreDigitsBelow, digits_of}
 use Rattle.choice_lists.specs.Locks.{locked_from, locked_lists, AgreeWhereLocked}
 use Rattle.choice_lists.specs.Laws.{FirstDifferenceDecides, ArrangementsAreCounted, NumberIsPlace, PlaceIsNumber, PlaceOfVector, NumberOfNumbered, NumberedByNumber, NextArrangementFollows, NextArrangementRearranges, FallsOrHasNext, FallingHasNoNext, BondChoiceIsNumbered, BondBeginsRising, BondEndsMirrored, NextBondChoice, RigidChoicesAreListed, SecondKeyDecides, ChoiceListsRise, ChoiceListsEndMirrored, SelectionsAreListed, FirstVector, LastVector, LastVectorIsMirrored, SelectionsHaveDigits, DigitsOfPlace, NumberOfDigits, NumberFromTheFirst, NextVectorFollows, LastHasNoNext, LockedAreListed, LockedListsRise, NoneLocked, ProductWithinLimit}
-use Rattle.choice_lists.proofs.Places.{At, Has, at-from, at-is, at-get, at-within, at-any, at-same, at-place, has-from, contains-from, Ascends, ascends-from, rising-from, ascends-once}
+use Rattle.choice_lists.proofs.Places.{At, at-from, at-is, at-get, at-within, at-any, at-same, at-place, has-from, contains-from, Ascends, ascends-from, rising-from, ascends-once}
 use Rattle.choice_lists.proofs.Orders.{linear-before, linear-vectors, never-itself, lex-difference, lex-from_difference}
-use Rattle.choice_lists.proofs.Products.{product-at, selection-digits, selection-has, has-selection, product-ascends, product-first, product-last, at-first, first-at, at-last, last-at, next_vector-at, last-no-next, selection-firsts}
+use Rattle.choice_lists.proofs.Products.{product-at, selection-digits, selection-has, has-selection, product-ascends, product-first, product-last, at-first, first-at, at-last, next_vector-at, last-no-next, selection-firsts}
 use Rattle.choice_lists.proofs.Numbers.{digits-number, digits-below, number-digits, horner-number, checked-product}
 use Rattle.choice_lists.proofs.Locks.{AgreeFrom, locked-selection, selection-locked, locked-ascend}
-use Rattle.choice_lists.proofs.Arrangements.{arrangements-length, arrangement-is, arrangement-at, numbered-at}
+use Rattle.choice_lists.proofs.Arrangements.{arrangements-length, arrangement-at, numbered-at}
 use Rattle.choice_lists.proofs.NextArrangement.{next-follows, falling-or-next, falling-no_next}
-use Rattle.choice_lists.proofs.Choices.{before-never, arrangements-rise, arrangement-place, next_arrangement-at, bond-at, bond-first, bond-last, bond-next, rigid-ascends, rigid-has, rigid-first, rigid-second, choice_list-ascends, choice_list-ends}
+use Rattle.choice_lists.proofs.Choices.{before-never, arrangement-place, next_arrangement-at, bond-at, bond-first, bond-last, bond-next, rigid-ascends, rigid-has, rigid-first, rigid-second, choice_list-ascends, choice_list-ends}
 
 -- no vector comes before itself
 vector-never : (v : List (List ℕ)) → vector_before v v ≡ false
@@ -28,7 +27,7 @@ each-ascends lists h k c a = ascends-from is_before c (subst (λ (z : List (List
 -- and back
 all-rising : (lists : List (List (List ℕ))) → ((k : ℕ) (c : List (List ℕ)) → At lists k c → Ascends is_before c) → All (IsRising is_before) lists
 all-rising lists h k d l = let m = at-any lists k l in
-  subst (λ (z : List (List ℕ)). IsRising is_before z) (sym (at-get lists k m.0 d m.1)) (rising-from is_before m.0 (h k m.0 m.1))
+    subst (λ (z : List (List ℕ)). IsRising is_before z) (sym (at-get lists k m.0 d m.1)) (rising-from is_before m.0 (h k m.0 m.1))
 
 -- the product rises
 vectors-ascend : (lists : List (List (List ℕ))) → All (IsRising is_before) lists → Ascends vector_before (product lists)
@@ -191,7 +190,7 @@ locked-listed locked lists v h s = record {
   rises = (selections-listed (locked_lists locked v lists) (locked-rise locked lists v h)).rises;
   exactly = λ w. (
     λ m. let k = has-from (product (locked_lists locked v lists)) w m in
-      let r = locked-selection 0 locked lists v w s (has-selection (locked_lists locked v lists) k.0 w k.1) in (r.0, to-zero locked v w r.1),
+        let r = locked-selection 0 locked lists v w s (has-selection (locked_lists locked v lists) k.0 w k.1) in (r.0, to-zero locked v w r.1),
     λ p. contains-from (product (locked_lists locked v lists)) w (selection-has (locked_lists locked v lists) w (selection-locked 0 locked lists v w s p.0 (from-zero locked v w p.1))),
   );
 }

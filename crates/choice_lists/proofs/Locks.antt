@@ -1,10 +1,9 @@
 -- Lists with some places locked.
-use Rattle.std.proofs.Common.{◌≡◌, ℕ, zero, suc, ◌+◌, ◌<◌, ◌↔◌, inl, inr, Bool, true, false, cond, List, [], ◌∷◌, length, slice_index_or, Contains, refl, sym, ap, ◌∙◌, subst, arith, add-one}
-use Rattle.std.specs.List.{AllZip}
+use Rattle.std.proofs.Common.{◌≡◌, ℕ, zero, suc, ◌+◌, inl, inr, Bool, true, cond, List, [], ◌∷◌, slice_index_or, Contains, refl, subst, arith}
 use Rattle.std.proofs.lemmas.Bool.{cases_Bool, both_ways}
 use Rattle.choice_lists.specs.Products.{IsSelection}
-use Rattle.choice_lists.specs.Locks.{locked_from, locked_lists, AgreeWhereLocked}
-use Rattle.choice_lists.proofs.Places.{At, Has, at-place, has-from, contains-from, Ascends}
+use Rattle.choice_lists.specs.Locks.{locked_from, locked_lists}
+use Rattle.choice_lists.proofs.Places.{At, Has, has-from, contains-from, Ascends}
 
 -- agreement at the locked places, the places counted from k on
 abbrev pub AgreeFrom : {X : Type 0} → ℕ → (ℕ → Bool) → List X → List X → Type 0

@@ -1,13 +1,12 @@
 -- The arrangement that follows: it has the next number; the last one has none.
-use Rattle.std.proofs.Common.{◌≡◌, ◌≢◌, ℕ, zero, suc, ◌+◌, ◌*◌, ◌<◌, ◌≤◌, ◌⊎◌, inl, inr, Bool, true, false, nat_lt, List, [], ◌∷◌, ◌++◌, length, reverse, All, IsPermutation, refl, sym, ap, ap₂, ◌∙◌, subst, arith, add-mul, length-append}
-use Rattle.std.proofs.lemmas.Bool.{cases_lt, lt-ltb, ltb-true, both_ways}
+use Rattle.std.proofs.Common.{◌≡◌, ◌≢◌, ℕ, zero, suc, ◌+◌, ◌*◌, ◌<◌, ◌≤◌, ◌⊎◌, inl, inr, true, false, nat_lt, List, [], ◌∷◌, ◌++◌, length, reverse, All, IsPermutation, refl, sym, ap, ap₂, subst, arith, add-mul, length-append}
+use Rattle.std.proofs.lemmas.Bool.{cases_lt, lt-ltb, ltb-true}
 use Rattle.std.proofs.lemmas.List.{length-reverse}
 use Rattle.std.proofs.lemmas.List.Sorted.{IsPermutation-cons, IsPermutation-middle, IsPermutation-reverse, IsPermutation-sym, IsPermutation-trans, length_permutation}
 use Rattle.permutations.specs.Members.{is_member, is_distinct}
-use Rattle.permutations.proofs.Members.{member-head, member-tail, no_member-head, no_member-tail, distinct-head, distinct-tail}
-use Rattle.choice_lists.specs.Order.{IsFalling}
+use Rattle.permutations.proofs.Members.{no_member-head, no_member-tail, distinct-head, distinct-tail}
 use Rattle.choice_lists.specs.Arrangements.{factorial, factorial_number, IsNextArrangement}
-use Rattle.choice_lists.proofs.Places.{At, Has, at-append, at-get, at-within, Above, Ascends, ascends-from, rising-from, ascends-append, ascends-reverse, ascends-front, ascends-back, ascends-across}
+use Rattle.choice_lists.proofs.Places.{At, at-get, at-within, Above, Ascends, ascends-from, rising-from, ascends-append, ascends-reverse, ascends-front, ascends-back, ascends-across}
 use Rattle.choice_lists.proofs.Smaller.{smaller, smaller-yes, smaller-no, smaller-none, smaller-all, smaller-append, smaller-permuted}
 use Rattle.choice_lists.proofs.TakenOut.{two-swapped}
 use Rattle.choice_lists.proofs.Arrangements.{rising-number, falling-number, number-below}
@@ -81,9 +80,11 @@ step-number x upper y lower s =
     let n = length (upper ++ y ∷ lower) in
     let a : smaller x (upper ++ y ∷ lower) * factorial n ≡ length lower * factorial n = ap (λ z. z * factorial n) (smaller-before x upper y lower s) in
     let b : smaller y (reverse (upper ++ x ∷ lower)) * factorial (length (reverse (upper ++ x ∷ lower))) ≡ (length lower + 1) * factorial n =
-        ap₂ (λ u v. u * factorial v) (smaller-after x upper y lower s) (same-length x upper y lower) in
+    ap₂ (λ u v. u * factorial v) (smaller-after x upper y lower s) (same-length x upper y lower) in
     omega (
-      arith, a, b,
+      arith,
+      a,
+      b,
       add-mul (length lower) 1 (factorial n),
       falling-number (upper ++ y ∷ lower) s.falls,
       rising-number (reverse (upper ++ x ∷ lower)) (turned-rises (upper ++ x ∷ lower) (still-falls x upper y lower s)),
@@ -172,10 +173,21 @@ pub falling-or-next : (a : List ℕ) → is_distinct a ≡ true → Falls a ⊎ 
 falling-or-next [] d = inl tt
 falling-or-next (x ∷ t) d = elim (falling-or-next t (distinct-tail x t d)) [
   | inl f ↦ at t f (distinct-head x t d)
-  | inr n ↦ inr (x ∷ n.0, record {
-    front = x ∷ n.1.front; x = n.1.x; upper = n.1.upper; y = n.1.y; lower = n.1.lower; before = ap (λ (z : List ℕ). x ∷ z) n.1.before;
-    falls = n.1.falls; greater = n.1.greater; no_later = n.1.no_later; after = ap (λ (z : List ℕ). x ∷ z) n.1.after;
-  })
+  | inr n ↦ inr (
+    x ∷ n.0,
+    record {
+      front = x ∷ n.1.front;
+      x = n.1.x;
+      upper = n.1.upper;
+      y = n.1.y;
+      lower = n.1.lower;
+      before = ap (λ (z : List ℕ). x ∷ z) n.1.before;
+      falls = n.1.falls;
+      greater = n.1.greater;
+      no_later = n.1.no_later;
+      after = ap (λ (z : List ℕ). x ∷ z) n.1.after;
+    },
+  )
 ]
   where
     all-below : (l : List ℕ) → Below l x → All (λ z. z < x) l
@@ -188,11 +200,21 @@ falling-or-next (x ∷ t) d = elim (falling-or-next t (distinct-tail x t d)) [
     at (w ∷ l) f m = elim (cases_lt x w) [
       | inl k ↦
           let c = cut x w l f k (no_member-tail x w l m) in
-          inr (c.y ∷ reverse (c.upper ++ x ∷ c.lower), record {
-            front = []; x = x; upper = c.upper; y = c.y; lower = c.lower; before = ap (λ (z : List ℕ). x ∷ z) c.is;
-            falls = rising-from (λ u v. nat_lt v u) (c.upper ++ c.y ∷ c.lower) (subst (λ (z : List ℕ). Falls z) c.is f);
-            greater = c.greater; no_later = all-below c.lower c.below; after = refl;
-          })
+          inr (
+            c.y ∷ reverse (c.upper ++ x ∷ c.lower),
+            record {
+              front = [];
+              x = x;
+              upper = c.upper;
+              y = c.y;
+              lower = c.lower;
+              before = ap (λ (z : List ℕ). x ∷ z) c.is;
+              falls = rising-from (λ u v. nat_lt v u) (c.upper ++ c.y ∷ c.lower) (subst (λ (z : List ℕ). Falls z) c.is f);
+              greater = c.greater;
+              no_later = all-below c.lower c.below;
+              after = refl;
+            },
+          )
       | inr k ↦ inl (above k (no_member-head x w l m), f)
     ]
       where

@@ -1,7 +1,7 @@
 -- Numbers in a mixed radix: bounds, both ways, digit by digit from either end; products within a bound.
-use Rattle.std.proofs.Common.{◌≡◌, ℕ, zero, suc, ◌+◌, ◌*◌, ◌/◌, ◌%◌, ◌<◌, ◌≤◌, inl, inr, Bool, true, false, cond, nat_lt, List, [], ◌∷◌, ◌++◌, length, map, All, Option, Some, None, refl, sym, ap, ap₂, ◌∙◌, subst, arith, add-mul, mul_comm, mul_assoc, mul-one, one-mul, mul-le-mul, div-add-mod', mod-lt, mul-pos}
-use Rattle.std.proofs.lemmas.Bool.{cases_lt, cases_eq, lt-ltb, le-ltb}
-use Rattle.std.proofs.lemmas.Nat.{mul-le, div-mul-add, mod-mul-add, div_below, row_fits}
+use Rattle.std.proofs.Common.{◌≡◌, ℕ, zero, suc, ◌+◌, ◌*◌, ◌/◌, ◌%◌, ◌<◌, ◌≤◌, inl, inr, cond, nat_lt, List, [], ◌∷◌, ◌++◌, All, Some, None, refl, sym, ap, ap₂, ◌∙◌, arith, add-mul, mul_assoc, mul-one, div-add-mod', mod-lt, mul-pos}
+use Rattle.std.proofs.lemmas.Bool.{cases_lt, lt-ltb, le-ltb}
+use Rattle.std.proofs.lemmas.Nat.{mul-le, div-mul-add, mod-mul-add, div_below}
 use Rattle.choice_lists.specs.Arrangements.{factorial}
 use Rattle.choice_lists.specs.Products.{product_of}
 use Rattle.choice_lists.specs.Numbers.{radix_number, AreDigitsBelow, digits_of, horner, product_below, from_one_to}
@@ -87,7 +87,7 @@ checked-product limit n (f ∷ fs) l h = elim (cases_lt (n * f) limit) [
 
     grown : limit ≤ n * f → limit ≤ n * (f * product_of fs)
     grown m = let p : 0 < product_of fs = product_of-positive fs rest in
-      omega (arith, mul-le (n * f) 1 (n * f) (product_of fs) (omega arith) (omega arith), mul-one (n * f), mul_assoc n f (product_of fs))
+        omega (arith, mul-le (n * f) 1 (n * f) (product_of fs) (omega arith) (omega arith), mul-one (n * f), mul_assoc n f (product_of fs))
 
 -- the product of the numbers 1 to n is n factorial
 pub factorial-product : (n : ℕ) → product_of (from_one_to n) ≡ factorial n

@@ -1,9 +1,9 @@
 -- Linear orders, the lexicographic order over one, and rising lists told by their members.
-use Rattle.std.proofs.Common.{◌≡◌, ◌≢◌, ℕ, zero, suc, ◌+◌, ◌<◌, ◌↔◌, ◌⊎◌, inl, inr, Bool, true, false, cond, ◌==◌, ◌&&◌, ◌||◌, nat_lt, List, [], ◌∷◌, ◌++◌, length, map, Contains, refl, sym, ap, ap₂, ◌∙◌, subst, arith}
+use Rattle.std.proofs.Common.{◌≡◌, ℕ, zero, suc, ◌<◌, ◌↔◌, ◌⊎◌, inl, inr, Bool, true, false, cond, nat_lt, List, [], ◌∷◌, ◌++◌, length, Contains, refl, sym, ap, ap₂, ◌∙◌, subst, arith}
 use Rattle.std.proofs.lemmas.Bool.{both_ways, false_from_ne_true, cases_Bool, true≢false, lt-ltb, le-ltb, ltb-true, ltb-false, eq-eqb, ne_eqb, cases_order}
 use mathlib.Core.Path.{fun_ext}
-use Rattle.choice_lists.specs.Order.{IsLinear, IsRising, IsAt, Lists, IsLessWhereTheyDiffer, lexicographic, is_before, vector_before}
-use Rattle.choice_lists.proofs.Places.{At, Has, Above, Ascends, ascends-from, has-from, contains-from}
+use Rattle.choice_lists.specs.Order.{IsLinear, IsRising, IsLessWhereTheyDiffer, lexicographic, is_before, vector_before}
+use Rattle.choice_lists.proofs.Places.{Has, Ascends, ascends-from, has-from, contains-from}
 
 -- numbers by size
 pub linear-numbers : IsLinear nat_lt
@@ -133,7 +133,11 @@ lex-difference before l (x ∷ xs) (y ∷ ys) e h = elim (lex-cases before x y x
   | inr a ↦
       let r = lex-difference before l xs ys (omega arith) a.2 in
       record {
-        common = x ∷ r.common; x = r.x; y = r.y; xs_rest = r.xs_rest; ys_rest = r.ys_rest;
+        common = x ∷ r.common;
+        x = r.x;
+        y = r.y;
+        xs_rest = r.xs_rest;
+        ys_rest = r.ys_rest;
         first = ap (λ z. x ∷ z) r.first;
         second = ap₂ (λ u v. u ∷ v) (sym (l.one_of_three x y a.0 a.1)) r.second;
         lesser = r.lesser;

@@ -1,8 +1,8 @@
 -- Members and their places, by recursion on the list; lists that rise, by recursion.
-use Rattle.std.proofs.Common.{◌≡◌, ◌≢◌, ℕ, zero, suc, ◌+◌, ◌<◌, ◌↔◌, ◌⊎◌, inl, inr, Bool, true, false, List, [], ◌∷◌, ◌++◌, length, map, reverse, slice_index_or, AllPairs, Contains, refl, sym, ap, ◌∙◌, subst, arith}
+use Rattle.std.proofs.Common.{◌≡◌, ℕ, zero, suc, ◌+◌, ◌<◌, ◌⊎◌, inl, inr, Bool, true, false, List, [], ◌∷◌, ◌++◌, length, map, reverse, slice_index_or, Contains, refl, sym, ap, ◌∙◌, subst, arith}
 use Rattle.std.proofs.lemmas.List.{reverse-append}
-use Rattle.std.proofs.lemmas.Bool.{both_ways, false_from_ne_true, cases_Bool, true≢false}
-use Rattle.choice_lists.specs.Order.{IsLinear, IsRising, IsFalling, IsAt}
+use Rattle.std.proofs.lemmas.Bool.{both_ways}
+use Rattle.choice_lists.specs.Order.{IsRising, IsAt}
 
 -- x stands at place i
 abbrev pub At : {X : Type 0} → List X → ℕ → X → Type 0

@@ -1,10 +1,8 @@
 -- The product: its members, order, length and last member; positions are mixed-radix numbers; the next vector.
-use Rattle.std.proofs.Common.{◌≡◌, ℕ, zero, suc, ◌+◌, ◌*◌, ◌<◌, ◌≤◌, ◌⊎◌, inl, inr, Bool, true, false, List, [], ◌∷◌, ◌++◌, length, map, Contains, refl, sym, ap, ap₂, ◌∙◌, subst, arith, add-mul, mul_comm, length-append}
-use Rattle.std.specs.List.{AllZip}
+use Rattle.std.proofs.Common.{◌≡◌, ℕ, zero, suc, ◌+◌, ◌*◌, ◌⊎◌, inl, inr, Bool, false, List, [], ◌∷◌, ◌++◌, length, map, refl, sym, ap, ◌∙◌, subst, arith, add-mul, length-append}
 use Rattle.std.proofs.lemmas.Bool.{cases_eq}
 use Rattle.std.proofs.lemmas.List.{length-map}
-use Rattle.choice_lists.specs.Order.{IsAt, lexicographic}
-use Rattle.choice_lists.specs.Arrangements.{branched}
+use Rattle.choice_lists.specs.Order.{lexicographic}
 use Rattle.choice_lists.specs.Products.{product, IsSelection, product_of, AreDigits, IsFirst, IsLast, AreFirsts, AreLasts, IsNextVector}
 use Rattle.choice_lists.specs.Numbers.{radix_number}
 use Rattle.choice_lists.proofs.Places.{At, Has, at-from, at-is, at-within, at-any, at-place, at-right, at-map, at-map_back, has-from, contains-from, Ascends, ascends-map, ascends-once}
@@ -126,7 +124,7 @@ product-last (c ∷ cs) (x ∷ v) h =
     let p = last-at c x h.0 in
     let r = product-last cs v h.1 in
     let e : p.0 * length (product cs) + r.0 + 1 ≡ length (product (c ∷ cs)) =
-        omega (arith, r.2, add-mul p.0 1 (length (product cs)), ap (λ z. z * length (product cs)) p.2, product-length_cons c cs) in
+    omega (arith, r.2, add-mul p.0 1 (length (product cs)), ap (λ z. z * length (product cs)) p.2, product-length_cons c cs) in
     (p.0 * length (product cs) + r.0, product-at_cons c cs p.0 r.0 x v p.1 r.1, e)
 
 -- the next vector stands at the next place
@@ -135,22 +133,24 @@ pub next-at : {X : Type 0} (ahead : List (List X)) (front : List X) (here : List
     → (i : ℕ) × At (product (ahead ++ here ∷ behind)) i (front ++ x ∷ lasts) × At (product (ahead ++ here ∷ behind)) (i + 1) (front ++ y ∷ firsts)
 next-at [] [] here behind place x y lasts firsts s a b l f =
     let r = product-last behind lasts l in
-    let e : (place + 1) * length (product behind) + 0 ≡ place * length (product behind) + r.0 + 1 = omega (arith, r.2, add-mul place 1 (length (product behind))) in
-    (place * length (product behind) + r.0,
-    product-at_cons here behind place r.0 x lasts a r.1,
-    at-place (product (here ∷ behind)) ((place + 1) * length (product behind) + 0) (place * length (product behind) + r.0 + 1) (y ∷ firsts) e
-    (product-at_cons here behind (place + 1) 0 y firsts b (product-first behind firsts f)))
+    let e : (place + 1) * length (product behind) + 0 ≡ place * length (product behind) + r.0 + 1 = omega (arith, r.2, add-mul place 1 (length (product behind))) in (
+      place * length (product behind) + r.0,
+      product-at_cons here behind place r.0 x lasts a r.1,
+      at-place (product (here ∷ behind)) ((place + 1) * length (product behind) + 0) (place * length (product behind) + r.0 + 1) (y ∷ firsts) e
+          (product-at_cons here behind (place + 1) 0 y firsts b (product-first behind firsts f)),
+    )
 next-at [] (z ∷ front) here behind place x y lasts firsts s a b l f = absurd s
 next-at (c ∷ ahead) [] here behind place x y lasts firsts s a b l f = absurd s
 next-at (c ∷ ahead) (z ∷ front) here behind place x y lasts firsts s a b l f =
     let r = next-at ahead front here behind place x y lasts firsts s.1 a b l f in
     let m = has-from c z s.0 in
     let k = length (product (ahead ++ here ∷ behind)) in
-    let e : m.0 * k + (r.0 + 1) ≡ m.0 * k + r.0 + 1 = omega arith in
-    (m.0 * k + r.0,
-    product-at_cons c (ahead ++ here ∷ behind) m.0 r.0 z (front ++ x ∷ lasts) m.1 r.1,
-    at-place (product (c ∷ ahead ++ here ∷ behind)) (m.0 * k + (r.0 + 1)) (m.0 * k + r.0 + 1) (z ∷ front ++ y ∷ firsts) e
-    (product-at_cons c (ahead ++ here ∷ behind) m.0 (r.0 + 1) z (front ++ y ∷ firsts) m.1 r.2))
+    let e : m.0 * k + (r.0 + 1) ≡ m.0 * k + r.0 + 1 = omega arith in (
+      m.0 * k + r.0,
+      product-at_cons c (ahead ++ here ∷ behind) m.0 r.0 z (front ++ x ∷ lasts) m.1 r.1,
+      at-place (product (c ∷ ahead ++ here ∷ behind)) (m.0 * k + (r.0 + 1)) (m.0 * k + r.0 + 1) (z ∷ front ++ y ∷ firsts) e
+          (product-at_cons c (ahead ++ here ∷ behind) m.0 (r.0 + 1) z (front ++ y ∷ firsts) m.1 r.2),
+    )
 
 -- the same of the record
 pub next_vector-at : {X : Type 0} (cs : List (List X)) (v w : List X) → IsNextVector cs v w → (i : ℕ) × At (product cs) i v × At (product cs) (i + 1) w
@@ -178,11 +178,28 @@ last-or-next [] [] h = inl tt
 last-or-next [] (x ∷ v) h = absurd h
 last-or-next (c ∷ cs) [] h = absurd h
 last-or-next {X} (c ∷ cs) (x ∷ v) h = elim (last-or-next cs v h.1) [
-  | inr n ↦ inr (x ∷ n.0, record {
-    ahead = c ∷ n.1.ahead; here = n.1.here; behind = n.1.behind; lists = ap (λ z. c ∷ z) n.1.lists; front = x ∷ n.1.front; chosen = (h.0, n.1.chosen);
-    place = n.1.place; x = n.1.x; y = n.1.y; at_x = n.1.at_x; at_y = n.1.at_y; lasts = n.1.lasts; firsts = n.1.firsts; all_last = n.1.all_last; all_first = n.1.all_first;
-    before = ap (λ z. x ∷ z) n.1.before; after = ap (λ z. x ∷ z) n.1.after;
-  })
+  | inr n ↦ inr (
+    x ∷ n.0,
+    record {
+      ahead = c ∷ n.1.ahead;
+      here = n.1.here;
+      behind = n.1.behind;
+      lists = ap (λ z. c ∷ z) n.1.lists;
+      front = x ∷ n.1.front;
+      chosen = (h.0, n.1.chosen);
+      place = n.1.place;
+      x = n.1.x;
+      y = n.1.y;
+      at_x = n.1.at_x;
+      at_y = n.1.at_y;
+      lasts = n.1.lasts;
+      firsts = n.1.firsts;
+      all_last = n.1.all_last;
+      all_first = n.1.all_first;
+      before = ap (λ z. x ∷ z) n.1.before;
+      after = ap (λ z. x ∷ z) n.1.after;
+    },
+  )
   | inl l ↦ here l (has-from c x h.0)
 ]
   where
@@ -192,10 +209,28 @@ last-or-next {X} (c ∷ cs) (x ∷ v) h = elim (last-or-next cs v h.1) [
       | inr n ↦
           let y = at-any c (m.0 + 1) (omega (arith, n, at-within c m.0 x m.1)) in
           let f = selection-firsts cs v h.1 in
-          inr (y.0 ∷ f.0, record {
-            ahead = []; here = c; behind = cs; lists = refl; front = []; chosen = tt; place = m.0; x = x; y = y.0; at_x = at-is c m.0 x m.1; at_y = at-is c (m.0 + 1) y.0 y.1;
-            lasts = v; firsts = f.0; all_last = l; all_first = f.1; before = refl; after = refl;
-          })
+          inr (
+            y.0 ∷ f.0,
+            record {
+              ahead = [];
+              here = c;
+              behind = cs;
+              lists = refl;
+              front = [];
+              chosen = tt;
+              place = m.0;
+              x = x;
+              y = y.0;
+              at_x = at-is c m.0 x m.1;
+              at_y = at-is c (m.0 + 1) y.0 y.1;
+              lasts = v;
+              firsts = f.0;
+              all_last = l;
+              all_first = f.1;
+              before = refl;
+              after = refl;
+            },
+          )
     ]
 
 -- in a product of rising lists the last vector has no next one

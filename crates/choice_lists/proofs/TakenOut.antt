@@ -1,6 +1,6 @@
 -- Each member taken out of a list in its turn.
-use Rattle.std.proofs.Common.{◌≡◌, ℕ, zero, suc, ◌+◌, ◌<◌, ◌≤◌, inl, inr, Bool, true, false, nat_lt, List, [], ◌∷◌, ◌++◌, length, map, IsPermutation, refl, sym, ap, ◌∙◌, subst, arith}
-use Rattle.std.proofs.lemmas.Bool.{lt-ltb, le-ltb, ltb-true}
+use Rattle.std.proofs.Common.{◌≡◌, ℕ, zero, suc, ◌+◌, ◌<◌, true, nat_lt, List, [], ◌∷◌, length, map, IsPermutation, refl, ap, ◌∙◌, subst, arith}
+use Rattle.std.proofs.lemmas.Bool.{ltb-true}
 use Rattle.std.proofs.lemmas.List.{length-map}
 use Rattle.std.proofs.lemmas.List.Sorted.{IsPermutation-refl, IsPermutation-cons, IsPermutation-middle, IsPermutation-trans}
 use Rattle.choice_lists.specs.Arrangements.{each_first}
@@ -71,5 +71,5 @@ each_first-ascends (x ∷ xs) a = (
   where
     above : Above (λ (p s : ℕ × List ℕ). nat_lt p.0 s.0) (x, xs) (map (λ (s : ℕ × List ℕ). (s.0, x ∷ s.1)) (each_first xs))
     above i p k =
-      let m = at-map_back (λ (s : ℕ × List ℕ). (s.0, x ∷ s.1)) (each_first xs) i p k in
-      subst (λ (z : ℕ × List ℕ). nat_lt x z.0 ≡ true) m.2 (a.0 i m.0.0 (taken xs i m.0 m.1).stands)
+        let m = at-map_back (λ (s : ℕ × List ℕ). (s.0, x ∷ s.1)) (each_first xs) i p k in
+        subst (λ (z : ℕ × List ℕ). nat_lt x z.0 ≡ true) m.2 (a.0 i m.0.0 (taken xs i m.0 m.1).stands)

@@ -1,6 +1,6 @@
 -- Arrangements in lexicographic order, their ranks in the factorial number system, and the arrangement that follows.
-use Rattle.std.specs.Prelude.{◌≡◌, ℕ, zero, suc, ◌+◌, ◌*◌, ◌/◌, ◌%◌, ◌<◌, nat_lt, cond, List, [], ◌∷◌, ◌++◌, length, map, reverse, slice_index_or, All, count_by}
-use Rattle.choice_lists.specs.Order.{IsRising, IsFalling, is_before}
+use Rattle.std.specs.Prelude.{◌≡◌, ℕ, zero, suc, ◌+◌, ◌*◌, ◌/◌, ◌%◌, ◌<◌, nat_lt, List, [], ◌∷◌, ◌++◌, length, map, reverse, slice_index_or, All, count_by}
+use Rattle.choice_lists.specs.Order.{IsFalling}
 
 -- n factorial
 abbrev pub factorial : ℕ → ℕ

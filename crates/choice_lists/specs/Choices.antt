@@ -1,5 +1,5 @@
 -- Choices: orders of the keys of a node, the least key first; their mirror images, and which are possible.
-use Rattle.std.specs.Prelude.{◌≡◌, ◌≢◌, ℕ, ◌<◌, ◌⊎◌, nat_lt, if◌then◌else◌, List, [], ◌∷◌, length, map, reverse, IsPermutation}
+use Rattle.std.specs.Prelude.{◌≡◌, ◌≢◌, ℕ, ◌⊎◌, nat_lt, if◌then◌else◌, List, [], ◌∷◌, map, reverse, IsPermutation}
 use Rattle.permutations.specs.Cyclic.{first_or}
 use Rattle.choice_lists.specs.Order.{IsRising, is_before}
 use Rattle.choice_lists.specs.Arrangements.{arrangements}

@@ -1,5 +1,5 @@
 -- Places that are locked: they have one choice, the present one.
-use Rattle.std.specs.Prelude.{◌≡◌, ℕ, ◌+◌, ◌<◌, Bool, true, if◌then◌else◌, List, [], ◌∷◌, length, slice_index_or}
+use Rattle.std.specs.Prelude.{◌≡◌, ℕ, ◌+◌, Bool, true, if◌then◌else◌, List, [], ◌∷◌, slice_index_or}
 
 -- from place k on: of a locked place the list with the vector's own member alone, of the others their lists
 abbrev pub locked_from : {X : Type 0} → ℕ → (ℕ → Bool) → List X → List (List X) → List (List X)

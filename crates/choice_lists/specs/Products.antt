@@ -1,5 +1,5 @@
 -- Products of lists of choices: all vectors, their order, their ranks, and the vector that follows.
-use Rattle.std.specs.Prelude.{◌≡◌, ℕ, ◌+◌, ◌*◌, ◌<◌, List, [], ◌∷◌, ◌++◌, length, map, Contains}
+use Rattle.std.specs.Prelude.{◌≡◌, ℕ, ◌+◌, ◌*◌, List, [], ◌∷◌, ◌++◌, map, Contains}
 use Rattle.std.specs.List.{AllZip}
 use Rattle.choice_lists.specs.Order.{IsAt}
 use Rattle.choice_lists.specs.Arrangements.{branched}
