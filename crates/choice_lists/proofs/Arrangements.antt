@@ -7,11 +7,12 @@ use Rattle.std.proofs.lemmas.List.Sorted.{IsPermutation-refl, IsPermutation-cons
 use Rattle.permutations.specs.Members.{is_distinct}
 use Rattle.permutations.proofs.Arrangements.{permutation-distinct}
 use Rattle.choice_lists.specs.Order.{lexicographic}
-use Rattle.choice_lists.specs.Arrangements.{factorial, each_first, arrangements_of, factorial_number, numbered_of}
+use Rattle.choice_lists.specs.Arrangements.{factorial, each_first, arrangements_of, factorial_number, numbered_of, lehmer_code}
 use Rattle.choice_lists.proofs.Places.{At, Has, at-get, at-any, at-place, at-map, at-map_back, Ascends, ascends-map}
 use Rattle.choice_lists.proofs.Orders.{linear-numbers, never-itself}
 use Rattle.choice_lists.proofs.Branches.{AllLong, branched-length, branched-at, branched-back, branched-ascends}
-use Rattle.choice_lists.proofs.Numbers.{factorial-positive}
+use Rattle.choice_lists.proofs.Numbers.{factorial-positive, factorial-product}
+use Rattle.choice_lists.specs.Numbers.{radix_number, AreDigitsBelow, from_one_to}
 use Rattle.choice_lists.proofs.Smaller.{smaller, smaller-none, smaller-all, smaller-permuted, smaller-bound, has-permuted, ascends-distinct, permutation-tail}
 use Rattle.choice_lists.proofs.TakenOut.{taken, each_first-at, each_first-length, each_first-ascends}
 
@@ -125,3 +126,12 @@ pub number-below : (l : List ℕ) → factorial_number l < factorial (length l)
 number-below [] = omega arith
 number-below (x ∷ l) =
     omega (arith, number-below l, mul-le (smaller x l) (factorial (length l)) (length l) (factorial (length l)) (smaller-bound x l) (omega arith), add-mul (length l) 1 (factorial (length l)))
+
+-- its digits are the Lehmer code, in the radices n, n - 1, .. , 1
+pub lehmer-below : (l : List ℕ) → AreDigitsBelow (from_one_to (length l)) (lehmer_code l)
+lehmer-below [] = tt
+lehmer-below (x ∷ l) = (omega (arith, smaller-bound x l), lehmer-below l)
+
+pub lehmer-number : (l : List ℕ) → factorial_number l ≡ radix_number (from_one_to (length l)) (lehmer_code l)
+lehmer-number [] = refl
+lehmer-number (x ∷ l) = ap₂ (λ u v. smaller x l * u + v) (sym (factorial-product (length l))) (lehmer-number l)

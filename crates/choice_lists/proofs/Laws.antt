@@ -6,13 +6,13 @@ use Rattle.choice_lists.specs.Choices.{mirror_choice, bond_choices, rigid_choice
 use Rattle.choice_lists.specs.Products.{product, IsSelection, product_of, AreDigits, AreFirsts, AreLasts}
 use Rattle.choice_lists.specs.Numbers.{radix_number, AreDigitsBelow, digits_of}
 use Rattle.choice_lists.specs.Locks.{locked_from, locked_lists, AgreeWhereLocked}
-use Rattle.choice_lists.specs.Laws.{FirstDifferenceDecides, ArrangementsAreCounted, NumberIsPlace, PlaceIsNumber, PlaceOfVector, NumberOfNumbered, NumberedByNumber, NextArrangementFollows, NextArrangementRearranges, FallsOrHasNext, FallingHasNoNext, BondChoiceIsNumbered, BondBeginsRising, BondEndsMirrored, NextBondChoice, RigidChoicesAreListed, SecondKeyDecides, ChoiceListsRise, ChoiceListsEndMirrored, SelectionsAreListed, FirstVector, LastVector, LastVectorIsMirrored, SelectionsHaveDigits, DigitsOfPlace, NumberOfDigits, NumberFromTheFirst, NextVectorFollows, LastHasNoNext, LockedAreListed, LockedListsRise, NoneLocked, ProductWithinLimit}
+use Rattle.choice_lists.specs.Laws.{NumberTellsArrangement, LehmerDigits, LockedRadices, LockedDigits, FirstDifferenceDecides, ArrangementsAreCounted, NumberIsPlace, PlaceIsNumber, PlaceOfVector, NumberOfNumbered, NumberedByNumber, NextArrangementFollows, NextArrangementRearranges, FallsOrHasNext, FallingHasNoNext, BondChoiceIsNumbered, BondBeginsRising, BondEndsMirrored, NextBondChoice, RigidChoicesAreListed, SecondKeyDecides, ChoiceListsRise, ChoiceListsEndMirrored, SelectionsAreListed, FirstVector, LastVector, LastVectorIsMirrored, SelectionsHaveDigits, DigitsOfPlace, NumberOfDigits, NumberFromTheFirst, NextVectorFollows, LastHasNoNext, LockedAreListed, LockedListsRise, NoneLocked, ProductWithinLimit}
 use Rattle.choice_lists.proofs.Places.{At, at-from, at-is, at-get, at-within, at-any, at-same, at-place, has-from, contains-from, Ascends, ascends-from, rising-from, ascends-once}
 use Rattle.choice_lists.proofs.Orders.{linear-before, linear-vectors, never-itself, lex-difference, lex-from_difference}
 use Rattle.choice_lists.proofs.Products.{product-at, selection-digits, selection-has, has-selection, product-ascends, product-first, product-last, at-first, first-at, at-last, next_vector-at, last-no-next, selection-firsts}
 use Rattle.choice_lists.proofs.Numbers.{digits-number, digits-below, number-digits, horner-number, checked-product}
-use Rattle.choice_lists.proofs.Locks.{AgreeFrom, locked-selection, selection-locked, locked-ascend}
-use Rattle.choice_lists.proofs.Arrangements.{arrangements-length, arrangement-at, numbered-at}
+use Rattle.choice_lists.proofs.Locks.{locked-lengths, locked-digits, AgreeFrom, locked-selection, selection-locked, locked-ascend}
+use Rattle.choice_lists.proofs.Arrangements.{lehmer-below, lehmer-number, arrangements-length, arrangement-at, numbered-at}
 use Rattle.choice_lists.proofs.NextArrangement.{next-follows, falling-or-next, falling-no_next}
 use Rattle.choice_lists.proofs.Choices.{before-never, arrangement-place, next_arrangement-at, bond-at, bond-first, bond-last, bond-next, rigid-ascends, rigid-has, rigid-first, rigid-second, choice_list-ascends, choice_list-ends}
 
@@ -53,6 +53,15 @@ numbered-number keys a r p =
     let m = arrangement-at (length keys) keys a refl (ascends-from nat_lt keys r) p in
     let l : factorial_number a < factorial (length keys) = omega (arith, at-within (arrangements keys) (factorial_number a) a m, arrangements-length (length keys) keys refl) in
     at-same (arrangements keys) (factorial_number a) (numbered keys (factorial_number a)) a (numbered-at (length keys) keys (factorial_number a) refl l) m
+
+pub number-tells : NumberTellsArrangement
+number-tells keys a b r p q e =
+    let m = arrangement-at (length keys) keys a refl (ascends-from nat_lt keys r) p in
+    let n = arrangement-at (length keys) keys b refl (ascends-from nat_lt keys r) q in
+    at-same (arrangements keys) (factorial_number a) a b m (at-place (arrangements keys) (factorial_number b) (factorial_number a) b (sym e) n)
+
+pub lehmer-digits : LehmerDigits
+lehmer-digits a = (lehmer-below a, lehmer-number a)
 
 pub next-arrangement : NextArrangementFollows
 next-arrangement keys a b i r m n = at-is (arrangements keys) (i + 1) b (next_arrangement-at keys a b i (ascends-from nat_lt keys r) (at-from (arrangements keys) i a m.0 m.1) n)
@@ -194,6 +203,12 @@ locked-listed locked lists v h s = record {
     λ p. contains-from (product (locked_lists locked v lists)) w (selection-has (locked_lists locked v lists) w (selection-locked 0 locked lists v w s p.0 (from-zero locked v w p.1))),
   );
 }
+
+pub locked-radices : LockedRadices
+locked-radices locked lists v s = locked-lengths 0 locked lists v s
+
+pub locked-place : LockedDigits
+locked-place locked lists v w digits s a h = locked-digits 0 locked lists v w digits s (from-zero locked v w a) h
 
 -- from any place on
 none-locked_from : (k : ℕ) (lists : List (List (List ℕ))) (v : List (List ℕ)) → IsSelection lists v → locked_from k (λ j. false) v lists ≡ lists

@@ -1,8 +1,9 @@
 -- Lists with some places locked.
-use Rattle.std.proofs.Common.{◌≡◌, ℕ, zero, suc, ◌+◌, inl, inr, Bool, true, cond, List, [], ◌∷◌, slice_index_or, Contains, refl, subst, arith}
+use Rattle.std.proofs.Common.{◌≡◌, ℕ, zero, suc, ◌+◌, inl, inr, Bool, true, cond, List, [], ◌∷◌, slice_index_or, Contains, refl, subst, arith, map, ap₂, length}
 use Rattle.std.proofs.lemmas.Bool.{cases_Bool, both_ways}
-use Rattle.choice_lists.specs.Products.{IsSelection}
-use Rattle.choice_lists.specs.Locks.{locked_from, locked_lists}
+use Rattle.choice_lists.specs.Products.{IsSelection, AreDigits}
+use Rattle.choice_lists.specs.Order.{IsAt}
+use Rattle.choice_lists.specs.Locks.{digits_from, locked_from, locked_lists, radices_from}
 use Rattle.choice_lists.proofs.Places.{At, Has, has-from, contains-from, Ascends}
 
 -- agreement at the locked places, the places counted from k on
@@ -82,3 +83,32 @@ locked-ascend {X} before k locked (d ∷ cs) (x ∷ v) h zero c a = subst (λ (z
       | inr f ↦ rw f (h 0 d refl)
     ]
 locked-ascend before k locked (d ∷ cs) (x ∷ v) h (suc q) c a = locked-ascend before (k + 1) locked cs v (λ i e m. h (suc i) e m) q c a
+
+-- the lengths of the lists, with 1 at the locked places
+pub locked-lengths : {X : Type 0} (k : ℕ) (locked : ℕ → Bool) (cs : List (List X)) (v : List X) → IsSelection cs v → map length (locked_from k locked v cs) ≡ radices_from k locked (map length cs)
+locked-lengths k locked [] [] s = refl
+locked-lengths k locked [] (x ∷ v) s = absurd s
+locked-lengths k locked (c ∷ cs) [] s = absurd s
+locked-lengths k locked (c ∷ cs) (x ∷ v) s = ap₂ (λ a b. a ∷ b) here (locked-lengths (k + 1) locked cs v s.1)
+  where
+    here : length (cond (locked k) (x ∷ []) c) ≡ cond (locked k) 1 (length c)
+    here = elim (cases_Bool (locked k)) [ inl t ↦ rw t refl | inr f ↦ rw f refl ]
+
+-- the digits, with 0 at the locked places
+pub locked-digits : {X : Type 0} (k : ℕ) (locked : ℕ → Bool) (cs : List (List X)) (v w : List X) (ds : List ℕ) → IsSelection cs v → AgreeFrom k locked v w → AreDigits cs w ds
+    → AreDigits (locked_from k locked v cs) w (digits_from k locked ds)
+locked-digits k locked [] [] [] [] s a h = tt
+locked-digits k locked [] [] [] (d ∷ ds) s a h = absurd h
+locked-digits k locked [] [] (y ∷ w) ds s a h = absurd h
+locked-digits k locked [] (x ∷ v) w ds s a h = absurd s
+locked-digits k locked (c ∷ cs) [] w ds s a h = absurd s
+locked-digits k locked (c ∷ cs) (x ∷ v) [] ds s a h = absurd h
+locked-digits k locked (c ∷ cs) (x ∷ v) (y ∷ w) [] s a h = absurd h
+locked-digits k locked (c ∷ cs) (x ∷ v) (y ∷ w) (d ∷ ds) s a h =
+    (here, locked-digits (k + 1) locked cs v w ds s.1 (agree-rest k locked x y v w a) h.1)
+  where
+    here : IsAt (cond (locked k) (x ∷ []) c) (cond (locked k) 0 d) y
+    here = elim (cases_Bool (locked k)) [
+      | inl t ↦ rw t (omega arith, agree-first k locked x y v w a t)
+      | inr f ↦ rw f h.0
+    ]

@@ -98,3 +98,21 @@ factorial-product (suc n) = ap (λ z. (n + 1) * z) (factorial-product n)
 pub factorial-positive : (n : ℕ) → 0 < factorial n
 factorial-positive zero = omega arith
 factorial-positive (suc n) = mul-pos (omega arith) (factorial-positive n)
+
+-- a product in two parts
+pub product_of-append : (fs gs : List ℕ) → product_of (fs ++ gs) ≡ product_of fs * product_of gs
+product_of-append [] gs = omega arith
+product_of-append (f ∷ fs) gs = ap (λ z. f * z) (product_of-append fs gs) ∙ sym (mul_assoc f (product_of fs) (product_of gs))
+
+-- a number in two parts
+pub radix-append : (rs ds qs es : List ℕ) → AreDigitsBelow rs ds → radix_number (rs ++ qs) (ds ++ es) ≡ radix_number rs ds * product_of qs + radix_number qs es
+radix-append [] [] qs es h = omega arith
+radix-append [] (d ∷ ds) qs es h = absurd h
+radix-append (r ∷ rs) [] qs es h = absurd h
+radix-append (r ∷ rs) (d ∷ ds) qs es h =
+    omega (
+      arith,
+      radix-append rs ds qs es h.1,
+      ap (λ z. d * z) (product_of-append rs qs) ∙ sym (mul_assoc d (product_of rs) (product_of qs)),
+      add-mul (d * product_of rs) (radix_number rs ds) (product_of qs),
+    )

@@ -31,6 +31,11 @@ abbrev pub factorial_number : List ℕ → ℕ
 factorial_number [] = 0
 factorial_number (x ∷ xs) = count_by (λ y. nat_lt y x) xs * factorial (length xs) + factorial_number xs
 
+-- the digits of that number: how many smaller ones stand behind each member (the Lehmer code)
+abbrev pub lehmer_code : List ℕ → List ℕ
+lehmer_code [] = []
+lehmer_code (x ∷ xs) = count_by (λ y. nat_lt y x) xs ∷ lehmer_code xs
+
 -- the arrangement of n keys that has the number i: the first digit says which key comes first, what is left of i arranges the others
 abbrev pub numbered_of : ℕ → List ℕ → ℕ → List ℕ
 numbered_of zero keys i = []

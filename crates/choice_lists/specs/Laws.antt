@@ -3,11 +3,11 @@ use Rattle.std.specs.Prelude.{◌≡◌, ◌≢◌, ℕ, ◌+◌, ◌*◌, ◌<�
 use Rattle.permutations.specs.Members.{is_member, is_distinct}
 use Rattle.permutations.specs.Cyclic.{first_or, last_or, from_least}
 use Rattle.choice_lists.specs.Order.{IsLinear, IsRising, IsFalling, IsAt, Lists, IsLessWhereTheyDiffer, is_before, vector_before}
-use Rattle.choice_lists.specs.Arrangements.{factorial, arrangements, factorial_number, numbered, IsNextArrangement}
+use Rattle.choice_lists.specs.Arrangements.{factorial, arrangements, factorial_number, lehmer_code, numbered, IsNextArrangement}
 use Rattle.choice_lists.specs.Choices.{mirror_choice, IsBondChoice, bond_choices, rigid_choices, IsChoiceList}
 use Rattle.choice_lists.specs.Products.{product, IsSelection, product_of, AreDigits, IsFirst, IsLast, AreFirsts, AreLasts, IsNextVector}
 use Rattle.choice_lists.specs.Numbers.{radix_number, AreDigitsBelow, digits_of, horner, product_below, from_one_to}
-use Rattle.choice_lists.specs.Locks.{locked_lists, AgreeWhereLocked}
+use Rattle.choice_lists.specs.Locks.{locked_lists, AgreeWhereLocked, radices_from, digits_from}
 
 -- the order of choices is a strict linear order
 abbrev pub ChoicesAreOrdered : Type 0
@@ -54,6 +54,14 @@ NumberOfNumbered = (keys : List ℕ) (i : ℕ) → IsRising nat_lt keys → i < 
 -- the arrangement with the number of a is a
 abbrev pub NumberedByNumber : Type 0
 NumberedByNumber = (keys a : List ℕ) → IsRising nat_lt keys → IsPermutation keys a → numbered keys (factorial_number a) ≡ a
+
+-- the factorial number system is a mixed radix: radices n, n - 1, .. , 1, digits the Lehmer code
+abbrev pub LehmerDigits : Type 0
+LehmerDigits = (a : List ℕ) → AreDigitsBelow (from_one_to (length a)) (lehmer_code a) × (factorial_number a ≡ radix_number (from_one_to (length a)) (lehmer_code a))
+
+-- of the arrangements of rising keys, each is told by its number
+abbrev pub NumberTellsArrangement : Type 0
+NumberTellsArrangement = (keys a b : List ℕ) → IsRising nat_lt keys → IsPermutation keys a → IsPermutation keys b → factorial_number a ≡ factorial_number b → a ≡ b
 
 -- a number is below the factorial
 abbrev pub NumberIsBelow : Type 0
@@ -185,6 +193,15 @@ NumberOfDigits = (radices : List ℕ) (n : ℕ) → n < product_of radices → A
 abbrev pub NumberFromTheFirst : Type 0
 NumberFromTheFirst = (radices digits : List ℕ) → AreDigitsBelow radices digits → horner 0 radices digits ≡ radix_number radices digits
 
+-- digits in two parts: the number of the first part counts the product of the radices behind it
+abbrev pub NumberInParts : Type 0
+NumberInParts = (radices digits more_radices more_digits : List ℕ) → AreDigitsBelow radices digits
+    → radix_number (radices ++ more_radices) (digits ++ more_digits) ≡ radix_number radices digits * product_of more_radices + radix_number more_radices more_digits
+
+-- a product in two parts
+abbrev pub ProductInParts : Type 0
+ProductInParts = (factors more : List ℕ) → product_of (factors ++ more) ≡ product_of factors * product_of more
+
 -- one digit more at the end: the number so far times the radix, and the digit
 abbrev pub NumberFromTheLast : Type 0
 NumberFromTheLast = (radices digits : List ℕ) (radix digit : ℕ) → AreDigitsBelow radices digits
@@ -210,6 +227,15 @@ LockedAreListed = (locked : ℕ → Bool) (lists : List (List (List ℕ))) (v : 
 -- the lists with locked places rise too, so all that is said of products holds of them
 abbrev pub LockedListsRise : Type 0
 LockedListsRise = (locked : ℕ → Bool) (lists : List (List (List ℕ))) (v : List (List ℕ)) → All (IsRising is_before) lists → All (IsRising is_before) (locked_lists locked v lists)
+
+-- the radices are those of the lists, with 1 at the locked places
+abbrev pub LockedRadices : Type 0
+LockedRadices = (locked : ℕ → Bool) (lists : List (List (List ℕ))) (v : List (List ℕ)) → IsSelection lists v → map length (locked_lists locked v lists) ≡ radices_from 0 locked (map length lists)
+
+-- the digits are those in the lists, with 0 at the locked places
+abbrev pub LockedDigits : Type 0
+LockedDigits = (locked : ℕ → Bool) (lists : List (List (List ℕ))) (v w : List (List ℕ)) (digits : List ℕ) → IsSelection lists v → AgreeWhereLocked locked v w → AreDigits lists w digits
+    → AreDigits (locked_lists locked v lists) w (digits_from 0 locked digits)
 
 -- with no place locked they are the lists
 abbrev pub NoneLocked : Type 0

@@ -27,7 +27,7 @@
 //   Choices      bond-list, bond-at, bond-next, rigid-has, rigid-first, rigid-second, mirror-is, choice_list-ends
 #![tactic(auto)]
 
-ghost use Rattle.choice_lists.specs.Laws.{ArrangementsAreCounted, ArrangementsAreListed, BondBeginsRising, BondChoiceIsNumbered, BondChoicesAreCounted, BondChoicesAreListed, BondEndsMirrored, ChoiceListsEndMirrored, ChoiceListsRise, ChoicesAreOrdered, DigitsOfNumber, DigitsOfPlace, FactorialIsProduct, FallingHasNoNext, FallsOrHasNext, FirstDifferenceDecides, FirstVector, LastHasNoNext, LastOrHasNext, LastVector, LastVectorIsMirrored, LockedAreListed, LockedListsRise, MembersTellRisingLists, MirrorDiffers, MirrorTurnsRound, MirrorTwice, NextArrangementFollows, NextArrangementRearranges, NextBondChoice, NextVectorFollows, NoneLocked, NumberBelowProduct, NumberFromTheFirst, NumberFromTheLast, NumberIsBelow, NumberIsPlace, NumberOfDigits, NumberOfNumbered, NumberedByNumber, OnePlaceMore, PlaceIsNumber, PlaceOfVector, ProductWithinLimit, RigidChoicesAreCounted, RigidChoicesAreListed, RigidChoicesFromEither, SecondKeyDecides, SelectionsAreCounted, SelectionsAreListed, SelectionsHaveDigits, VectorsAreOrdered};
+ghost use Rattle.choice_lists.specs.Laws.{NumberTellsArrangement, LehmerDigits, NumberInParts, ProductInParts, LockedRadices, LockedDigits, ArrangementsAreCounted, ArrangementsAreListed, BondBeginsRising, BondChoiceIsNumbered, BondChoicesAreCounted, BondChoicesAreListed, BondEndsMirrored, ChoiceListsEndMirrored, ChoiceListsRise, ChoicesAreOrdered, DigitsOfNumber, DigitsOfPlace, FactorialIsProduct, FallingHasNoNext, FallsOrHasNext, FirstDifferenceDecides, FirstVector, LastHasNoNext, LastOrHasNext, LastVector, LastVectorIsMirrored, LockedAreListed, LockedListsRise, MembersTellRisingLists, MirrorDiffers, MirrorTurnsRound, MirrorTwice, NextArrangementFollows, NextArrangementRearranges, NextBondChoice, NextVectorFollows, NoneLocked, NumberBelowProduct, NumberFromTheFirst, NumberFromTheLast, NumberIsBelow, NumberIsPlace, NumberOfDigits, NumberOfNumbered, NumberedByNumber, OnePlaceMore, PlaceIsNumber, PlaceOfVector, ProductWithinLimit, RigidChoicesAreCounted, RigidChoicesAreListed, RigidChoicesFromEither, SecondKeyDecides, SelectionsAreCounted, SelectionsAreListed, SelectionsHaveDigits, VectorsAreOrdered};
 
 /// The laws that choices and vectors are linearly ordered by the first difference, and that a rising list is told by its
 /// members.
@@ -53,6 +53,8 @@ pub fn arrangements_are_numbered()
     ensures back { NumberOfNumbered }
     ensures forth { NumberedByNumber }
     ensures below { NumberIsBelow }
+    ensures told { NumberTellsArrangement }
+    ensures lehmer { LehmerDigits }
 {}
 
 /// The laws that the next arrangement stands at the next place, that its number is one more, and that exactly the last one has
@@ -117,6 +119,8 @@ pub fn digits_tell_numbers()
     ensures back { NumberOfDigits }
     ensures from_first { NumberFromTheFirst }
     ensures from_last { NumberFromTheLast }
+    ensures parts { NumberInParts }
+    ensures product { ProductInParts }
 {}
 
 /// The laws that the next vector stands at the next place, and that exactly the last one has none.
@@ -132,6 +136,8 @@ pub fn places_may_be_locked()
     ensures listed { LockedAreListed }
     ensures rise { LockedListsRise }
     ensures none { NoneLocked }
+    ensures radices { LockedRadices }
+    ensures digits { LockedDigits }
 {}
 
 /// The laws that a product taken factor after factor passes a limit exactly where the whole product does, and that a factorial
