@@ -216,10 +216,14 @@ def full_list(block):
 # The second way: choices in a product, and composing skeletons.
 
 
+def skeleton(node):
+    """The skeleton, its edges named by their keys: the edges at each vertex, and the ends of each."""
+    return {v: sorted(item[0] for item in node.items if v in item[1:3]) for v in node.vertices}, {item[0]: item[1:3] for item in node.items}
+
+
 def skeleton_rotations(node):
-    """The plane rotation systems of the skeleton, its edges named by their keys."""
-    at = {v: sorted(item[0] for item in node.items if v in item[1:3]) for v in node.vertices}
-    edges = {item[0]: item[1:3] for item in node.items}
+    """The plane rotation systems of a rigid skeleton."""
+    at, edges = skeleton(node)
     if rotation_total(at) <= 20000:
         return [r for r in all_rotations(at) if len(at) + len(faces(edges, r)) == len(edges) + 2]
     one = face_by_face(at, edges)
@@ -408,6 +412,10 @@ def check(block, chance):
                     need({key for key, _ in cut} == {item[0] for item in node.items if v in item[1:3]}, "a group for each item", block)
     composed = Composed(block)
     need(composed.planar == bool(plane), "planar where each skeleton is", block)
+    for node in block.nodes:
+        if node.kind == "R":
+            tried, one = skeleton_rotations(node), face_by_face(*skeleton(node))
+            need(tried == [] if one is None else one in tried and mirror(one) in tried and len(tried) == 2, "paths put into faces", block)
     if not plane:
         return total, 0
     vectors = [choices(block, r) for r in plane]
