@@ -10,5 +10,6 @@ pub mod TakenOut
 pub mod Arrangements
 pub mod NextArrangement
 pub mod Choices
+pub mod ToldByChoices
 pub mod Laws
 mod Examples

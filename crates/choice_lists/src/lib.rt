@@ -25,6 +25,9 @@
 //   Arrangements arrangements-length, arrangement-at, numbered-at, rising-number, falling-number, number-below
 //   NextArrangement next-follows, falling-or-next
 //   Choices      bond-list, bond-at, bond-next, rigid-has, rigid-first, rigid-second, mirror-is, choice_list-ends
+//   ToldByChoices listed-by_vectors: things of any kind that are told by their choices, and have every selection of possible ones,
+//                are listed in the order of their choices; as many as the product; the choices of the last where those of the
+//                first are mirrored
 #![tactic(auto)]
 
 ghost use Rattle.choice_lists.specs.Laws.{NumberTellsArrangement, LehmerDigits, NumberInParts, ProductInParts, LockedRadices, LockedDigits, ArrangementsAreCounted, ArrangementsAreListed, BondBeginsRising, BondChoiceIsNumbered, BondChoicesAreCounted, BondChoicesAreListed, BondEndsMirrored, ChoiceListsEndMirrored, ChoiceListsRise, ChoicesAreOrdered, DigitsOfNumber, DigitsOfPlace, FactorialIsProduct, FallingHasNoNext, FallsOrHasNext, FirstDifferenceDecides, FirstVector, LastHasNoNext, LastOrHasNext, LastVector, LastVectorIsMirrored, LockedAreListed, LockedListsRise, MembersTellRisingLists, MirrorDiffers, MirrorTurnsRound, MirrorTwice, NextArrangementFollows, NextArrangementRearranges, NextBondChoice, NextVectorFollows, NoneLocked, NumberBelowProduct, NumberFromTheFirst, NumberFromTheLast, NumberIsBelow, NumberIsPlace, NumberOfDigits, NumberOfNumbered, NumberedByNumber, OnePlaceMore, PlaceIsNumber, PlaceOfVector, ProductWithinLimit, RigidChoicesAreCounted, RigidChoicesAreListed, RigidChoicesFromEither, SecondKeyDecides, SelectionsAreCounted, SelectionsAreListed, SelectionsHaveDigits, VectorsAreOrdered};
