@@ -1,0 +1,2 @@
+// The tree of a block is the only one.
+#![tactic(auto)]
