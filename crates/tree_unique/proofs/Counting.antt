@@ -1,5 +1,5 @@
 -- Counts of two, and counts that are sums of three others.
-use Rattle.std.proofs.Common.{◌≡◌, ◌≢◌, ℕ, ◌+◌, ◌<◌, ◌≤◌, ◌⊎◌, inl, inr, Bool, true, false, not, ◌&&◌, ◌||◌, ◌==◌, cond, refl, sym, ◌∙◌, subst, arith}
+use Rattle.std.proofs.Common.{◌≡◌, ◌≢◌, ℕ, zero, suc, ◌+◌, ◌<◌, ◌≤◌, ◌⊎◌, inl, inr, Bool, true, false, not, ◌&&◌, ◌||◌, ◌==◌, cond, refl, sym, ◌∙◌, subst, arith}
 use Rattle.std.proofs.lemmas.Bool.{cases_Bool, cases_eq, cases_lt, both_ways, and_from, and_parts, eq-eqb, ne_eqb, eqb-true, not_from_false, not-true}
 use Rattle.permutations.specs.Count.{count, some, sum_below}
 use Rattle.permutations.proofs.Count.{count-remove, count-positive, count-zero, count-none}
@@ -103,3 +103,9 @@ count-three_parts n p a b c h = omega (
   sum_below-add n (λ x. bit (a x) + bit (b x)) (λ x. bit (c x)),
   sum_below-add n (λ x. bit (a x)) (λ x. bit (b x)),
 )
+
+-- of three or more numbers two are not this one
+pub two-others : (n h : ℕ) → 3 ≤ n → (i j : ℕ) × (i < n) × (j < n) × (i ≢ j) × (i ≢ h) × (j ≢ h)
+two-others n zero l = (1, 2, omega (arith, l), omega (arith, l), λ e. omega (arith, e), λ e. omega (arith, e), λ e. omega (arith, e))
+two-others n (suc zero) l = (0, 2, omega (arith, l), omega (arith, l), λ e. omega (arith, e), λ e. omega (arith, e), λ e. omega (arith, e))
+two-others n (suc (suc h)) l = (0, 1, omega (arith, l), omega (arith, l), λ e. omega (arith, e), λ e. omega (arith, e), λ e. omega (arith, e))

@@ -5,3 +5,7 @@ pub mod Sides
 pub mod Toward
 pub mod Items
 pub mod SkeletonKinds
+pub mod Splits
+pub mod BondType
+pub mod RingType
+pub mod Crossed
