@@ -109,3 +109,9 @@ pub two-others : (n h : ℕ) → 3 ≤ n → (i j : ℕ) × (i < n) × (j < n) �
 two-others n zero l = (1, 2, omega (arith, l), omega (arith, l), λ e. omega (arith, e), λ e. omega (arith, e), λ e. omega (arith, e))
 two-others n (suc zero) l = (0, 2, omega (arith, l), omega (arith, l), λ e. omega (arith, e), λ e. omega (arith, e), λ e. omega (arith, e))
 two-others n (suc (suc h)) l = (0, 1, omega (arith, l), omega (arith, l), λ e. omega (arith, e), λ e. omega (arith, e), λ e. omega (arith, e))
+
+-- of three or more numbers one is not among two given ones
+pub third-other : (n a b : ℕ) → 3 ≤ n → (r : ℕ) × (r < n) × (r ≢ a) × (r ≢ b)
+third-other n a b l =
+    let w = two-others n a l in
+    elim (cases_eq w.0 b) [ inr m ↦ (w.0, w.2, w.5, m) | inl e ↦ (w.1, w.3, w.6, λ f. w.4 (e ∙ sym f)) ]

@@ -82,7 +82,7 @@ module _ (g : Multigraph) (comps : List Comp) (s : IsSplit g comps) (k : ℕ) (l
   abbrev pub place : ℕ → ℕ
   place e = group_index g comps s k l e
 
-  index-in : (e : ℕ) → e < edge_count g → (place e < size) × (has_in_group comps k e (item_at comps k (place e)).what ≡ true)
+  pub index-in : (e : ℕ) → e < edge_count g → (place e < size) × (has_in_group comps k e (item_at comps k (place e)).what ≡ true)
   index-in e b =
       let w = group-some g comps s k e l b in
       subst (λ z. (z < size) × (has_in_group comps k e (item_at comps k z).what ≡ true)) (sym (index-is g comps s k l e w.0 b w.1 w.2)) (w.1, w.2)

@@ -9,3 +9,5 @@ pub mod Splits
 pub mod BondType
 pub mod RingType
 pub mod Crossed
+pub mod Away
+pub mod GoodSides
