@@ -152,3 +152,11 @@ module _ (g : Multigraph) (comps : List Comp) (s : IsSplit g comps) (k : ℕ) (l
       eq : (Real f ≡ Real e) ⊎ ((j : ℕ) × (Real f ≡ Link j) × (side comps k j e ≡ true)) → e ≡ f
       eq (inl r) = sym (ap number r)
       eq (inr r) = absurd (both_ways false refl (sym (ap kind r.1)))
+
+  -- the place of the edge that an item stands for
+  pub real-place : (i f : ℕ) → i < size → (item_at comps k i).what ≡ Real f → (f < edge_count g) × (place f ≡ i)
+  real-place i f b q = let c = (s.covers.edges f k i (b, q)).0 in (c, index-is g comps s k l f i c b (in_group-real g comps s k f (item_at comps k i).what q))
+
+-- the place does not depend on how the component is known to be one
+pub place-any : (g : Multigraph) (comps : List Comp) (s : IsSplit g comps) (k : ℕ) (l m : k < length comps) (e : ℕ) → e < edge_count g → place g comps s k l e ≡ place g comps s k m e
+place-any g comps s k l m e b = index-is g comps s k l e (place g comps s k m e) b (index-in g comps s k m e b).0 (index-in g comps s k m e b).1

@@ -11,3 +11,9 @@ pub mod RingType
 pub mod Crossed
 pub mod Away
 pub mod GoodSides
+pub mod Rising
+pub mod KindOnce
+pub mod Matched
+pub mod SameItems
+pub mod SameTrees
+pub mod Examples
