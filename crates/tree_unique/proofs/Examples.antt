@@ -1,43 +1,44 @@
--- The good 2-separations of small graphs, computed: each side that there is, tested.
-use Rattle.std.proofs.Common.{◌≡◌, ℕ, zero, suc, ◌≤◌, ◌==◌, ◌&&◌, ◌||◌, Bool, true, false, not, nat_lt, List, [], ◌∷◌, ◌++◌, map, filter, slice_index_or, refl}
-use Rattle.permutations.specs.Count.{count, some}
-use Rattle.multigraph.specs.Graph.{Multigraph, edge_count}
-use Rattle.tree_unique.specs.Separations.{other_side, is_shared}
-
--- all lists of n truth values
-abbrev values : ℕ → List (List Bool)
-values zero = [] ∷ []
-values (suc n) = map (λ (l : List Bool). false ∷ l) (values n) ++ map (λ (l : List Bool). true ∷ l) (values n)
-
--- the side of a list of truth values
-abbrev side_of : List Bool → ℕ → Bool
-side_of l e = slice_index_or l e false
-
-abbrev is_separation : Multigraph → (ℕ → Bool) → Bool
-is_separation g s = (nat_lt 1 (count (edge_count g) s) && nat_lt 1 (count (edge_count g) (other_side s))) && (count g.vertex_count (is_shared g s) == 2)
-
-abbrev do_cross : Multigraph → (ℕ → Bool) → (ℕ → Bool) → Bool
-do_cross g s t = (some (edge_count g) (λ e. s e && t e) && some (edge_count g) (λ e. s e && not (t e))) && (some (edge_count g) (λ e. not (s e) && t e) && some (edge_count g) (λ e. not (s e) && not (t e)))
-
--- all sides of 2-separations
-abbrev separations : Multigraph → List (List Bool)
-separations g = filter (λ l. is_separation g (side_of l)) (values (edge_count g))
-
--- those of them that cross none
-abbrev none_cross : Multigraph → (ℕ → Bool) → List (List Bool) → Bool
-none_cross g s [] = true
-none_cross g s (l ∷ rest) = not (do_cross g s (side_of l)) && none_cross g s rest
-
-abbrev good_among : Multigraph → List (List Bool) → List (List Bool)
-good_among g all = filter (λ l. none_cross g (side_of l) all) all
-
-abbrev good : Multigraph → List (List Bool)
-good g = good_among g (separations g)
+-- The good 2-separations of two small graphs: each is a side of one of two, given by whether each edge is on the side.
+use Rattle.std.proofs.Common.{◌≡◌, ℕ, ◌↔◌, Bool, true, false, List, [], ◌∷◌, refl, Contains}
+use Rattle.multigraph.specs.Graph.{Multigraph}
+use Rattle.tree_unique.specs.Separations.{IsGood}
+use Rattle.tree_unique.proofs.Tested.{side_of, table, good, good-listed, listed-good}
 
 -- a square with a chord: edges 0 to 3 round the square, and edge 4 between vertices 0 and 2
 abbrev square : Multigraph
 square = record { vertex_count = 4; ends = (0, 1) ∷ (1, 2) ∷ (2, 3) ∷ (3, 0) ∷ (0, 2) ∷ [] }
 
--- its good 2-separations are two: the edges of either triangle but the chord, and the rest
-square-good : good square ≡ (false ∷ false ∷ true ∷ true ∷ false ∷ []) ∷ (false ∷ false ∷ true ∷ true ∷ true ∷ []) ∷ (true ∷ true ∷ false ∷ false ∷ false ∷ []) ∷ (true ∷ true ∷ false ∷ false ∷ true ∷ []) ∷ []
+-- the two edges of either triangle but the chord, and the other three
+abbrev square_sides : List (List Bool)
+square_sides = (false ∷ false ∷ true ∷ true ∷ false ∷ []) ∷ (false ∷ false ∷ true ∷ true ∷ true ∷ []) ∷ (true ∷ true ∷ false ∷ false ∷ false ∷ []) ∷ (true ∷ true ∷ false ∷ false ∷ true ∷ []) ∷ []
+
+square-good : good square ≡ square_sides
 square-good = refl
+
+-- it has just these good 2-separations
+square-only : (s : ℕ → Bool) → IsGood square s → Contains square_sides (table 5 s)
+square-only = good-listed square
+
+square-all : (l : List Bool) → Contains square_sides l → IsGood square (side_of l)
+square-all = listed-good square
+
+-- two K4 on the edge 0, which joins vertices 0 and 1
+abbrev tetrahedra : Multigraph
+tetrahedra = record { vertex_count = 6; ends = (0, 1) ∷ (0, 2) ∷ (0, 3) ∷ (1, 2) ∷ (1, 3) ∷ (2, 3) ∷ (0, 4) ∷ (0, 5) ∷ (1, 4) ∷ (1, 5) ∷ (4, 5) ∷ [] }
+
+-- the five edges of either K4 but the common one, and the other six
+abbrev tetrahedra_sides : List (List Bool)
+tetrahedra_sides =
+    (false ∷ false ∷ false ∷ false ∷ false ∷ false ∷ true ∷ true ∷ true ∷ true ∷ true ∷ [])
+    ∷ (false ∷ true ∷ true ∷ true ∷ true ∷ true ∷ false ∷ false ∷ false ∷ false ∷ false ∷ [])
+    ∷ (true ∷ false ∷ false ∷ false ∷ false ∷ false ∷ true ∷ true ∷ true ∷ true ∷ true ∷ [])
+    ∷ (true ∷ true ∷ true ∷ true ∷ true ∷ true ∷ false ∷ false ∷ false ∷ false ∷ false ∷ []) ∷ []
+
+tetrahedra-good : good tetrahedra ≡ tetrahedra_sides
+tetrahedra-good = refl
+
+tetrahedra-only : (s : ℕ → Bool) → IsGood tetrahedra s → Contains tetrahedra_sides (table 11 s)
+tetrahedra-only = good-listed tetrahedra
+
+tetrahedra-all : (l : List Bool) → Contains tetrahedra_sides l → IsGood tetrahedra (side_of l)
+tetrahedra-all = listed-good tetrahedra

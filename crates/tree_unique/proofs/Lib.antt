@@ -16,4 +16,5 @@ pub mod KindOnce
 pub mod Matched
 pub mod SameItems
 pub mod SameTrees
-pub mod Examples
+pub mod Tested
+mod Examples
