@@ -1,10 +1,10 @@
 -- Two components of one tree: what is away from the one lies in one group of the other; so each side tells its link, and the
 -- groups of a component tell it.
-use Rattle.std.proofs.Common.{◌≡◌, ◌≢◌, ℕ, ◌<◌, inl, inr, Bool, true, false, List, length, refl, sym, ap, ◌∙◌, subst}
+use Rattle.std.proofs.Common.{◌≡◌, ◌≢◌, ℕ, ◌<◌, inl, inr, true, false, List, length, sym, ap, ◌∙◌, subst}
 use Rattle.std.proofs.lemmas.Bool.{cases_eq, both_ways}
 use Rattle.multigraph.specs.Graph.{Multigraph, edge_count}
 use Rattle.graph_theory.specs.Block.{IsOneBlock}
-use Rattle.pair_split.specs.Split.{items_of, item_at, StandsFor, is_beyond, side, LinksTo, IsSplit}
+use Rattle.pair_split.specs.Split.{items_of, item_at, is_beyond, side, LinksTo, IsSplit}
 use Rattle.pair_split.specs.Tutte.{has_in_group}
 use Rattle.pair_split.specs.declared.components.Comp.{Comp}
 use Rattle.pair_split.specs.declared.components.What.{What}
@@ -15,7 +15,7 @@ use Rattle.pair_split.proofs.TreeSides.{link-from, beyond-apart, beyond-some}
 use Rattle.tree_unique.specs.Separations.{AreSameSide}
 use Rattle.tree_unique.proofs.Counting.{two-others, third-other}
 use Rattle.tree_unique.proofs.Toward.{toward}
-use Rattle.tree_unique.proofs.Items.{place, index-in, chosen, chosen-in, link-place, place-link}
+use Rattle.tree_unique.proofs.Items.{place, index-in, chosen, chosen-in, link-place}
 
 -- the number that an item names
 abbrev pub number_of : What → ℕ
@@ -46,9 +46,9 @@ module _ (g : Multigraph) (block : IsOneBlock g) (comps : List Comp) (s : IsSpli
         let w = beyond-some comps s.linked k h lk lh (λ p. q (sym p)) in
         let v = beyond-some comps s.linked h k lh lk q in
         let apart : l.0 ≢ (v.1).0 = λ p. both_ways (is_beyond comps h i k) n (subst (λ u. is_beyond comps h u k ≡ true)
-            (ap number_of (sym ((v.1).1).1 ∙ ap (λ u. (item_at comps h u).what) (sym p) ∙ (l.1).1)) v.2) in
+        (ap number_of (sym ((v.1).1).1 ∙ ap (λ u. (item_at comps h u).what) (sym p) ∙ (l.1).1)) v.2) in
         let at : (d : ℕ) → d < edge_count g → side comps h i d ≡ true → place g comps s k lk d ≡ (w.1).0 = λ d bd t.
-            link-place g comps s k lk w.0 d w.1 bd (away k w.0 h v.0 l.0 d w.1 w.2 v.1 v.2 lh (l.1).0 apart bd (link-place g comps s h lh i d l bd t)) in
+        link-place g comps s k lk w.0 d w.1 bd (away k w.0 h v.0 l.0 d w.1 w.2 v.1 v.2 lh (l.1).0 apart bd (link-place g comps s h lh i d l bd t)) in
         at e b y ∙ sym (at f c z)
   ]
 
@@ -64,8 +64,8 @@ module _ (g : Multigraph) (block : IsOneBlock g) (comps : List Comp) (s : IsSpli
         let e = chosen-in g comps s y ly r.0 r.2 in
         let f = chosen-in g comps s y ly r.1 r.3 in
         let same : place g comps s x lx (chosen g comps s y ly r.0) ≡ place g comps s x lx (chosen g comps s y ly r.1) =
-            link-place g comps s x lx v.0 (chosen g comps s y ly r.0) v.1 e.0 (away x v.0 y u.0 r.0 (chosen g comps s y ly r.0) v.1 v.2 u.1 u.2 ly r.2 r.5 e.0 e.1)
-            ∙ sym (link-place g comps s x lx v.0 (chosen g comps s y ly r.1) v.1 f.0 (away x v.0 y u.0 r.1 (chosen g comps s y ly r.1) v.1 v.2 u.1 u.2 ly r.3 r.6 f.0 f.1)) in
+        link-place g comps s x lx v.0 (chosen g comps s y ly r.0) v.1 e.0 (away x v.0 y u.0 r.0 (chosen g comps s y ly r.0) v.1 v.2 u.1 u.2 ly r.2 r.5 e.0 e.1)
+        ∙ sym (link-place g comps s x lx v.0 (chosen g comps s y ly r.1) v.1 f.0 (away x v.0 y u.0 r.1 (chosen g comps s y ly r.1) v.1 v.2 u.1 u.2 ly r.3 r.6 f.0 f.1)) in
         absurd (r.4 (sym e.1 ∙ within (chosen g comps s y ly r.0) (chosen g comps s y ly r.1) e.0 f.0 same ∙ f.1))
   ]
 

@@ -1,7 +1,7 @@
 -- A side that crosses a link so that only the link's ends are touched by both parts of a component's own side: then the
 -- component is a bond.
-use Rattle.std.proofs.Common.{◌≡◌, ◌≢◌, ℕ, ◌<◌, ◌⊎◌, inl, inr, Bool, true, false, not, List, length, refl, sym, ap, ◌∙◌, subst, arith}
-use Rattle.std.proofs.lemmas.Bool.{cases_Bool, cases_eq, both_ways, not-true, not-false, not_from_false, not_from_true}
+use Rattle.std.proofs.Common.{◌≡◌, ◌≢◌, ℕ, ◌<◌, ◌⊎◌, inl, inr, Bool, true, false, not, List, length, refl, sym, ap, ◌∙◌, subst}
+use Rattle.std.proofs.lemmas.Bool.{cases_eq, both_ways, not-true}
 use Rattle.multigraph.specs.Graph.{Multigraph, edge_count, is_end}
 use Rattle.graph_theory.specs.Block.{IsOneBlock}
 use Rattle.pair_split.specs.Skeleton.{IsPolygon, IsRigid}
@@ -10,7 +10,7 @@ use Rattle.pair_split.specs.declared.components.Comp.{Comp}
 use Rattle.tree_unique.specs.Separations.{other_side}
 use Rattle.tree_unique.proofs.Items.{end-cases, first-end, second-end, end-of_two, is_at, place, place-in, PlaceAt, at-edge, edges-at, edges-at_place}
 use Rattle.tree_unique.proofs.SkeletonKinds.{IsSimpleAt, polygon-two, polygon-simple, rigid-simple, rigid-apart}
-use Rattle.tree_unique.proofs.Splits.{HalfAt, Halves, halves, IsParted, parted-other, NoneParted, parted-none, colour, colour-own, coloured, colour-edge, ColouredAt, coloured-at, end-off}
+use Rattle.tree_unique.proofs.Splits.{HalfAt, Halves, halves, IsParted, parted-other, NoneParted, parted-none, colour, coloured, colour-edge, ColouredAt, coloured-at, end-off}
 
 module _ (g : Multigraph) (block : IsOneBlock g) (comps : List Comp) (s : IsSplit g comps) (k : ℕ) (l : k < length comps) where
   abbrev size : ℕ
@@ -58,9 +58,9 @@ module _ (g : Multigraph) (block : IsOneBlock g) (comps : List Comp) (s : IsSpli
         at_h : (c : ℕ) → HalfAt g block comps s k l x i c → is_at comps k h c ≡ true
         at_h c u = elim (end-of_two (piece_ends (item_at comps k i)) b.first b.second c b.differ
             (half-end (other_side x) (meet-other x h m) i b.first n b.first_half) (half-end (other_side x) (meet-other x h m) i b.second n b.second_half) (half-end x m i c n u)) [
-          | inl e ↦ meets c b.first u b.first_half e
-          | inr e ↦ meets c b.second u b.second_half e
-        ]
+              | inl e ↦ meets c b.first u b.first_half e
+              | inr e ↦ meets c b.second u b.second_half e
+            ]
 
     bond-none : (x : ℕ → Bool) → MeetInEnds x h → NoneParted g block comps s k l x h
     bond-none x m = parted-none g block comps s k l x h (λ i n w. bond-parted x m i (subst (λ z. z < size) w.on_place (place-in g comps s k l w.on w.on_in)) n w)
@@ -106,9 +106,9 @@ module _ (g : Multigraph) (block : IsOneBlock g) (comps : List Comp) (s : IsSpli
       → is_end g v e ≡ true → is_end g v f ≡ true → is_end g v d ≡ true → ⊥
   bond-polygon r h lh x m v e f d b c j n o q y z ve vf vd = elim (polygon-two comps k r v (pl e) (pl f) h (place-in g comps s k l e b) (place-in g comps s k l f c) lh apart
       (edges-at g comps s k l e f v b c apart ve vf) (edges-at g comps s k l f e v c b (λ p. apart (sym p)) vf ve) (edges-at_place g comps s k l h d e v j b q n vd ve)) [
-    | inl p ↦ n (sym p)
-    | inr p ↦ o (sym p)
-  ]
+        | inl p ↦ n (sym p)
+        | inr p ↦ o (sym p)
+      ]
     where
       apart : pl e ≢ pl f
       apart p = both_ways (x f) z (sym (bond-none (polygon-simple comps k r) h lh x m e f b c p n) ∙ y)

@@ -1,11 +1,11 @@
 -- Two 2-separations that cross: which vertices the four corners touch (Tutte 1966; Cunningham and Edmonds 1980). Either two
 -- vertices are touched by all four, and no others by two; or there are four, each touched by two neighbours.
-use Rattle.std.proofs.Common.{◌≡◌, ◌≢◌, ℕ, ◌+◌, ◌*◌, ◌<◌, ◌≤◌, ◌⊎◌, inl, inr, Bool, true, false, not, ◌&&◌, ◌||◌, cond, refl, sym, ap, ◌∙◌, arith}
+use Rattle.std.proofs.Common.{◌≡◌, ℕ, ◌+◌, ◌<◌, ◌≤◌, ◌⊎◌, inl, inr, Bool, true, false, not, ◌&&◌, ◌||◌, refl, sym, ◌∙◌, arith}
 use Rattle.std.proofs.lemmas.Bool.{cases_Bool}
-use Rattle.permutations.specs.Count.{count, some, sum_below}
+use Rattle.permutations.specs.Count.{count, sum_below}
 use Rattle.permutations.proofs.Count.{count-positive, count-none}
 use Rattle.permutations.proofs.Sums.{count-sum, sum_below-add, sum_below-same}
-use Rattle.tree_unique.proofs.Counting.{Two, bit, one-of, two-of, one-only, count-three_parts}
+use Rattle.tree_unique.proofs.Counting.{bit, one-of, one-only, count-three_parts}
 
 -- in two corners that are neighbours along the first division, and in the other two
 abbrev pub first_common : Bool → Bool → Bool → Bool → Bool

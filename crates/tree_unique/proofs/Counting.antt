@@ -1,9 +1,9 @@
 -- Counts of two, and counts that are sums of three others.
-use Rattle.std.proofs.Common.{◌≡◌, ◌≢◌, ℕ, zero, suc, ◌+◌, ◌<◌, ◌≤◌, ◌⊎◌, inl, inr, Bool, true, false, not, ◌&&◌, ◌||◌, ◌==◌, cond, refl, sym, ◌∙◌, subst, arith}
-use Rattle.std.proofs.lemmas.Bool.{cases_Bool, cases_eq, cases_lt, both_ways, and_from, and_parts, eq-eqb, ne_eqb, eqb-true, not_from_false, not-true}
-use Rattle.permutations.specs.Count.{count, some, sum_below}
-use Rattle.permutations.proofs.Count.{count-remove, count-positive, count-zero, count-none}
-use Rattle.permutations.proofs.Search.{some-from, some-witness, some-none}
+use Rattle.std.proofs.Common.{◌≡◌, ◌≢◌, ℕ, zero, suc, ◌+◌, ◌<◌, ◌≤◌, ◌⊎◌, inl, inr, Bool, true, not, ◌&&◌, ◌==◌, cond, sym, ◌∙◌, arith}
+use Rattle.std.proofs.lemmas.Bool.{cases_Bool, cases_eq, cases_lt, both_ways, and_from, and_parts, eq-eqb, ne_eqb, not_from_false, not-true}
+use Rattle.permutations.specs.Count.{count, some}
+use Rattle.permutations.proofs.Count.{count-remove, count-positive, count-none}
+use Rattle.permutations.proofs.Search.{some-witness, some-none}
 use Rattle.permutations.proofs.Sums.{count-sum, sum_below-ext, sum_below-add}
 
 -- two numbers below n that pass a test

@@ -1,14 +1,13 @@
 -- The two sides of each link of a block's tree are a good 2-separation.
-use Rattle.std.proofs.Common.{◌≡◌, ◌≢◌, ℕ, ◌<◌, ◌≤◌, ◌⊎◌, ◌&&◌, ◌||◌, inl, inr, Bool, true, false, not, List, length, refl, sym, ap, ap₂, ◌∙◌, subst, arith}
-use Rattle.std.proofs.lemmas.Bool.{cases_Bool, cases_eq, both_ways, and_from, and_parts, or_left, or_right, or_cases, not-true, not_from_false, not_from_true, false_from_ne_true}
+use Rattle.std.proofs.Common.{◌≡◌, ◌≢◌, ℕ, ◌<◌, ◌⊎◌, ◌&&◌, ◌||◌, inl, inr, Bool, true, false, not, List, length, refl, sym, ap, ◌∙◌, arith}
+use Rattle.std.proofs.lemmas.Bool.{cases_Bool, both_ways, and_from, and_parts, or_left, or_right, or_cases, not-true, not_from_false, not_from_true, false_from_ne_true}
 use Rattle.permutations.specs.Count.{some}
-use Rattle.permutations.proofs.Search.{some-from, some-witness, some-none, some-ext}
-use Rattle.multigraph.specs.Graph.{Multigraph, edge_count, is_end, IsGraph}
-use Rattle.multigraph.proofs.OtherEnd.{end-in}
+use Rattle.permutations.proofs.Search.{some-witness, some-none, some-ext}
+use Rattle.multigraph.specs.Graph.{Multigraph, edge_count, is_end}
 use Rattle.graph_theory.specs.Block.{IsOneBlock}
 use Rattle.graph_theory.specs.Side.{IsCommon}
 use Rattle.pair_split.specs.Skeleton.{IsOfKind}
-use Rattle.pair_split.specs.Split.{component_at, items_of, item_at, piece_ends, skeleton, side, LinksTo, IsSplit}
+use Rattle.pair_split.specs.Split.{component_at, item_at, piece_ends, skeleton, side, LinksTo, IsSplit}
 use Rattle.pair_split.specs.declared.components.Comp.{Comp}
 use Rattle.pair_split.specs.declared.components.Kind.{Kind}
 use Rattle.pair_split.specs.declared.components.Kind.TheVariants.{S, P, R, B}
@@ -17,11 +16,10 @@ use Rattle.pair_split.proofs.Groups.{side-other}
 use Rattle.pair_split.proofs.LargeSides.{TwoEdges, three-items, side-two}
 use Rattle.pair_split.proofs.Subtrees.{link-in}
 use Rattle.pair_split.proofs.TreeSides.{link-from, link-back, link-differs}
-use Rattle.tree_unique.specs.Separations.{other_side, touches, is_shared, IsSeparation, DoCross, IsGood, AreSameSide}
-use Rattle.tree_unique.proofs.Counting.{Two}
-use Rattle.tree_unique.proofs.Corners.{first_common, all_four, neighbours, AreCorners, bond-type, ring-type, RingType}
-use Rattle.tree_unique.proofs.Sides.{EdgeAt, touches-from, touching, touches-ext, both, common-shared, shared-common, separation-from, corner-tests}
-use Rattle.tree_unique.proofs.Items.{first-end, second-end, end-cases, end-of_two, is_at, place, place-in, ends-differ, link-place, place-link}
+use Rattle.tree_unique.specs.Separations.{other_side, IsSeparation, DoCross, IsGood, AreSameSide}
+use Rattle.tree_unique.proofs.Corners.{first_common, all_four, AreCorners, bond-type, ring-type, RingType}
+use Rattle.tree_unique.proofs.Sides.{touches, vertex_bound, end-below, EdgeAt, touches-from, touching, touches-ext, both, separation-from, corner-tests}
+use Rattle.tree_unique.proofs.Items.{end-cases, is_at, place, link-place, place-link}
 use Rattle.tree_unique.proofs.BondType.{MeetInEnds, bond-rigid, bond-polygon}
 use Rattle.tree_unique.proofs.RingType.{IsRing, ring-bond, ring-rigid}
 
@@ -31,11 +29,11 @@ in_all g s x v = all_four (touches g (both s x) v) (touches g (both s (other_sid
 
 -- whether some vertex is touched by all four corners
 abbrev pub is_bond_type : Multigraph → (ℕ → Bool) → (ℕ → Bool) → Bool
-is_bond_type g s x = some g.vertex_count (in_all g s x)
+is_bond_type g s x = some (vertex_bound g) (in_all g s x)
 
 -- the other side of the first division has the same type
 pub type-other : (g : Multigraph) (s t x : ℕ → Bool) → AreSameSide g t (other_side s) → is_bond_type g t x ≡ is_bond_type g s x
-type-other g s t x h = some-ext g.vertex_count (in_all g t x) (in_all g s x) (λ v l. turned
+type-other g s t x h = some-ext (vertex_bound g) (in_all g t x) (in_all g s x) (λ v l. turned
     (touches-ext g (both t x) (both (other_side s) x) v (λ e b. ap (λ (c : Bool). c && x e) (h e b)))
     (touches-ext g (both t (other_side x)) (both (other_side s) (other_side x)) v (λ e b. ap (λ (c : Bool). c && not (x e)) (h e b)))
     (touches-ext g (both (other_side t) (other_side x)) (both s (other_side x)) v (λ e b. ap (λ (c : Bool). not c && not (x e)) (h e b) ∙ twice (s e) (not (x e))))
@@ -62,10 +60,10 @@ cross-other g s t x h c = record {
     at : (p q : ℕ → Bool) → some (edge_count g) p ≡ true → ((e : ℕ) → e < edge_count g → p e ≡ q e) → some (edge_count g) q ≡ true
     at p q y e = sym (some-ext (edge_count g) p q e) ∙ y
 
-module _ (g : Multigraph) (graph : IsGraph g) (block : IsOneBlock g) (comps : List Comp) (s : IsSplit g comps) where
+module _ (g : Multigraph) (block : IsOneBlock g) (comps : List Comp) (s : IsSplit g comps) where
   -- the two sides of a link are a 2-separation
   pub link-separation : (k j : ℕ) → LinksTo comps k j → IsSeparation g (side comps k j)
-  link-separation k j l = separation-from g graph block (side comps k j)
+  link-separation k j l = separation-from g block (side comps k j)
       (record { first = i.first; second = i.second; differ = i.differ; first_in = i.first_in; second_in = i.second_in; first_on = i.first_on; second_on = i.second_on })
       (record { first = o.first; second = o.second; differ = o.differ; first_in = o.first_in; second_in = o.second_in; first_on = back o.first o.first_in o.first_on; second_on = back o.second o.second_in o.second_on })
       (piece_ends (item_at comps k l.0)).0 (piece_ends (item_at comps k l.0)).1
@@ -96,7 +94,7 @@ module _ (g : Multigraph) (graph : IsGraph g) (block : IsOneBlock g) (comps : Li
     own = side comps j k
 
     abbrev n : ℕ
-    n = g.vertex_count
+    n = vertex_bound g
 
     abbrev a : ℕ → Bool
     a v = touches g (both own x) v
@@ -111,7 +109,7 @@ module _ (g : Multigraph) (graph : IsGraph g) (block : IsOneBlock g) (comps : Li
     d v = touches g (both (other_side own) x) v
 
     corners : AreCorners n a b c d
-    corners = corner-tests g graph block own x (link-separation j k (link-back comps s.linked k j l)) separation cross
+    corners = corner-tests g block own x (link-separation j k (link-back comps s.linked k j l)) separation cross
 
     -- the edges of the own side are those of the other places
     own-place : (e : ℕ) → e < edge_count g → own e ≡ true → place g comps s k lk e ≢ h
@@ -179,7 +177,7 @@ module _ (g : Multigraph) (graph : IsGraph g) (block : IsOneBlock g) (comps : Li
         w = some-witness n (in_all g own x) t
 
         meet : MeetInEnds g block comps s k lk x h
-        meet v e f i o ve vf m q y z = at-link v (common (bond-type n a b c d corners w.0 w.1 w.2 v (end-in g v e graph i ve) (inl (touches-own x v e i ve m y, touches-own (other_side x) v f o vf q (not_from_false (x f) z)))))
+        meet v e f i o ve vf m q y z = at-link v (common (bond-type n a b c d corners w.0 w.1 w.2 v (end-below g v e i ve) (inl (touches-own x v e i ve m y, touches-own (other_side x) v f o vf q (not_from_false (x f) z)))))
           where
             common : all_four (a v) (b v) (c v) (d v) ≡ true → first_common (a v) (b v) (c v) (d v) ≡ true
             common r = grind (arith, r, cases_Bool (a v), cases_Bool (b v), cases_Bool (c v), cases_Bool (d v))
@@ -215,7 +213,7 @@ module _ (g : Multigraph) (graph : IsGraph g) (block : IsOneBlock g) (comps : Li
 
         ring : IsRing g block comps s k lk h (l.1).0 x w.between w.front w.back
         ring = record {
-          only = λ v e f i o ve vf m q y z. w.between_only v (end-in g v e graph i ve) (touches-own x v e i ve m y) (touches-own (other_side x) v f o vf q (not_from_false (x f) z));
+          only = λ v e f i o ve vf m q y z. w.between_only v (end-below g v e i ve) (touches-own x v e i ve m y) (touches-own (other_side x) v f o vf q (not_from_false (x f) z));
           between_off = false_from_ne_true (is_at comps k h w.between) (λ y. both_ways (first_common (a w.between) (b w.between) (c w.between) (d w.between)) w.between_not (end-common w.between y));
           front = at-link w.front (and_from (a w.front || b w.front) (c w.front || d w.front) (or_left (a w.front) (b w.front) front.0) (or_right (c w.front) (d w.front) front.2));
           back = at-link w.back (and_from (a w.back || b w.back) (c w.back || d w.back) (or_right (a w.back) (b w.back) back.0) (or_left (c w.back) (d w.back) back.2));

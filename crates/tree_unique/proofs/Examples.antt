@@ -1,5 +1,5 @@
 -- The good 2-separations of two small graphs: each is a side of one of two, given by whether each edge is on the side.
-use Rattle.std.proofs.Common.{◌≡◌, ℕ, ◌↔◌, Bool, true, false, List, [], ◌∷◌, refl, Contains}
+use Rattle.std.proofs.Common.{◌≡◌, ℕ, Bool, true, false, List, [], ◌∷◌, refl, Contains}
 use Rattle.multigraph.specs.Graph.{Multigraph}
 use Rattle.tree_unique.specs.Separations.{IsGood}
 use Rattle.tree_unique.proofs.Tested.{side_of, table, good, good-listed, listed-good}
@@ -17,10 +17,10 @@ square-good = refl
 
 -- it has just these good 2-separations
 square-only : (s : ℕ → Bool) → IsGood square s → Contains square_sides (table 5 s)
-square-only = good-listed square
+square-only = good-listed square refl
 
 square-all : (l : List Bool) → Contains square_sides l → IsGood square (side_of l)
-square-all = listed-good square
+square-all = listed-good square refl
 
 -- two K4 on the edge 0, which joins vertices 0 and 1
 abbrev tetrahedra : Multigraph
@@ -38,7 +38,7 @@ tetrahedra-good : good tetrahedra ≡ tetrahedra_sides
 tetrahedra-good = refl
 
 tetrahedra-only : (s : ℕ → Bool) → IsGood tetrahedra s → Contains tetrahedra_sides (table 11 s)
-tetrahedra-only = good-listed tetrahedra
+tetrahedra-only = good-listed tetrahedra refl
 
 tetrahedra-all : (l : List Bool) → Contains tetrahedra_sides l → IsGood tetrahedra (side_of l)
-tetrahedra-all = listed-good tetrahedra
+tetrahedra-all = listed-good tetrahedra refl

@@ -1,10 +1,10 @@
 -- Each side of a good 2-separation of a block is the side of a link of its tree.
 use Rattle.std.proofs.Common.{◌≡◌, ◌≢◌, ℕ, ◌<◌, ◌≤◌, ◌⊎◌, ◌==◌, ◌&&◌, ◌||◌, inl, inr, Bool, true, false, not, List, length, refl, sym, ap, ◌∙◌, subst, arith}
-use Rattle.std.proofs.lemmas.Bool.{cases_Bool, cases_eq, both_ways, and_from, and_parts, or_cases, or_left, or_right, or_from, or_parts, eq-eqb, eqb-true, ne_eqb, not-true, not_from_false, not_from_true, false_from_ne_true}
+use Rattle.std.proofs.lemmas.Bool.{cases_Bool, cases_eq, both_ways, and_from, and_parts, or_cases, or_left, or_right, or_from, eq-eqb, eqb-true, ne_eqb, not-true, not_from_false, not_from_true}
 use Rattle.permutations.specs.Count.{some}
 use Rattle.permutations.proofs.Relation.{same-tests}
 use Rattle.permutations.proofs.Search.{some-from, some-witness, some-none}
-use Rattle.multigraph.specs.Graph.{Multigraph, edge_count, is_end, IsGraph}
+use Rattle.multigraph.specs.Graph.{Multigraph, edge_count, is_end}
 use Rattle.graph_theory.specs.Block.{IsOneBlock}
 use Rattle.graph_theory.specs.Side.{IsCommon}
 use Rattle.pair_split.specs.Skeleton.{is_end_of, IsOfKind, IsPolygon, IsBond}
@@ -12,14 +12,13 @@ use Rattle.pair_split.specs.Split.{component_at, items_of, item_at, piece_ends, 
 use Rattle.pair_split.specs.declared.components.Comp.{Comp}
 use Rattle.pair_split.specs.declared.components.Kind.{Kind}
 use Rattle.pair_split.specs.declared.components.Kind.TheVariants.{S, P, R, B}
-use Rattle.pair_split.specs.declared.components.What.TheVariants.{Real, Link}
 use Rattle.pair_split.proofs.Groups.{what-cases, side-other}
 use Rattle.pair_split.proofs.TreeSides.{link-back}
-use Rattle.tree_unique.specs.Separations.{other_side, is_shared, IsSeparation, DoCross, IsGood, AreSameSide}
-use Rattle.tree_unique.proofs.Counting.{Two, two-of, third-of}
-use Rattle.tree_unique.proofs.Sides.{common-shared, shared-common, common-in, separation-from}
+use Rattle.tree_unique.specs.Separations.{other_side, IsGood, AreSameSide}
+use Rattle.tree_unique.proofs.Counting.{Two, two-of}
+use Rattle.tree_unique.proofs.Sides.{separation-from}
 use Rattle.tree_unique.proofs.Toward.{sink}
-use Rattle.tree_unique.proofs.Items.{end-cases, first-end, second-end, end-of_two, is_at, place, place-in, ends-differ, PlaceAt, at-edge, edges-at, chosen, chosen-in, link-place, place-link, place-real, skeleton-length}
+use Rattle.tree_unique.proofs.Items.{end-cases, first-end, second-end, is_at, place, place-in, ends-differ, PlaceAt, at-edge, edges-at, chosen, chosen-in, link-place, place-link, place-real, skeleton-length}
 use Rattle.tree_unique.proofs.SkeletonKinds.{IsSimpleAt, polygon-two, bond-ends, rigid-simple, rigid-apart}
 use Rattle.tree_unique.proofs.Crossed.{link-separation}
 
@@ -30,7 +29,7 @@ other-end ends p h = elim (end-cases p ends h) [
   | inr e ↦ (ends.0, λ v t. elim (end-cases v ends t) [ inl f ↦ inr f | inr f ↦ inl (f ∙ sym e) ])
 ]
 
-module _ (g : Multigraph) (graph : IsGraph g) (block : IsOneBlock g) (comps : List Comp) (s : IsSplit g comps) (x : ℕ → Bool) (good : IsGood g x) where
+module _ (g : Multigraph) (block : IsOneBlock g) (comps : List Comp) (s : IsSplit g comps) (x : ℕ → Bool) (good : IsGood g x) where
   abbrev m : ℕ
   m = edge_count g
 
@@ -45,7 +44,7 @@ module _ (g : Multigraph) (graph : IsGraph g) (block : IsOneBlock g) (comps : Li
     | inr n ↦
         let b = and_parts (some m (λ e. side comps k j e && x e)) (some m (λ e. side comps k j e && not (x e))) (back h) in
         let c = and_parts (some m (λ e. side comps j k e && x e)) (some m (λ e. side comps j k e && not (x e))) (back n) in
-        absurd (good.uncrossed (side comps k j) (link-separation g graph block comps s k j l) (record {
+        absurd (good.uncrossed (side comps k j) (link-separation g block comps s k j l) (record {
           both = at (side comps k j) x (λ e. x e && side comps k j e) b.0 (λ e d y z. and_from (x e) (side comps k j e) z y);
           first_alone = at (side comps j k) x (λ e. x e && not (side comps k j e)) c.0 (λ e d y z. and_from (x e) (not (side comps k j e)) z (near e d y));
           second_alone = at (side comps k j) (other_side x) (λ e. not (x e) && side comps k j e) b.1 (λ e d y z. and_from (not (x e)) (side comps k j e) z y);
@@ -133,9 +132,13 @@ module _ (g : Multigraph) (graph : IsGraph g) (block : IsOneBlock g) (comps : Li
         | inl r ↦ absurd (w.differ (place-real g comps s k lk (pl w.first) w.first r.0 w.first_in refl r.1 ∙ sym (place-real g comps s k lk (pl w.first) w.second r.0 w.second_in (only o w.second w.second_in w.second_on) r.1)))
         | inr r ↦
             let l : LinksTo comps k r.0 = (pl w.first, (place-in g comps s k lk w.first w.first_in, r.1)) in
-            inl (r.0, l, λ e b. same-tests (y e) (side comps k r.0 e)
-            (λ h. place-link g comps s k lk r.0 e l b (only o e b h))
-            (λ h. same e w.first b w.first_in (link-place g comps s k lk r.0 e l b h) ∙ w.first_on))
+            inl (
+              r.0,
+              l,
+              λ e b. same-tests (y e) (side comps k r.0 e)
+                  (λ h. place-link g comps s k lk r.0 e l b (only o e b h))
+                  (λ h. same e w.first b w.first_in (link-place g comps s k lk r.0 e l b h) ∙ w.first_on),
+            )
       ]
     ]
       where
@@ -152,21 +155,17 @@ module _ (g : Multigraph) (graph : IsGraph g) (block : IsOneBlock g) (comps : Li
               (and_from (y (chosen g comps s k lk (pl e))) (not (pl e == pl w.first)) (on (pl e) e b refl h) (not_from_false (pl e == pl w.first) (ne_eqb (pl e) (pl w.first) n))))
         ]
 
-    -- the two shared vertices
-    shared : Two g.vertex_count (is_shared g x)
-    shared = two-of g.vertex_count (is_shared g x) (omega (arith, good.separation.two_shared))
-
+    -- the two common vertices
     abbrev p : ℕ
-    p = shared.first
+    p = good.separation.first
 
     abbrev q : ℕ
-    q = shared.second
+    q = good.separation.second
 
     -- a common vertex is one of the two
     common-two : (v e f : ℕ) → e < m → f < m → is_end g v e ≡ true → is_end g v f ≡ true → x e ≡ true → x f ≡ false → (v ≡ p) ⊎ (v ≡ q)
     common-two v e f b c ve vf y z =
-        let w : IsCommon g x v = record { inside = e; outside = f; inside_edge = b; outside_edge = c; inside_end = ve; outside_end = vf; inside_side = y; outside_side = z } in
-        third-of g.vertex_count (is_shared g x) (omega (arith, good.separation.two_shared)) shared v (common-in g graph x v w) (common-shared g x v w)
+        good.separation.no_other v (record { inside = e; outside = f; inside_edge = b; outside_edge = c; inside_end = ve; outside_end = vf; inside_side = y; outside_side = z })
 
     module _ (i1 i2 h1 h2 : ℕ) (li1 : i1 < size) (li2 : i2 < size) (lh1 : h1 < size) (lh2 : h2 < size) (ni : i1 ≢ i2) (nh : h1 ≢ h2)
         (ti1 : t i1 ≡ true) (ti2 : t i2 ≡ true) (th1 : t h1 ≡ false) (th2 : t h2 ≡ false) where
@@ -201,7 +200,7 @@ module _ (g : Multigraph) (graph : IsGraph g) (block : IsOneBlock g) (comps : Li
         | inl w ↦ (i, w.0, li, refl, w.1, w.2, w.3)
         | inr y ↦ elim (off-or_both h lh) [
           | inl w ↦ (h, w.0, lh, sym same, w.1, w.2, w.3)
-          | inr z ↦ absurd (n (simple i h p q li lh shared.differ y.0 y.1 z.0 z.1))
+          | inr z ↦ absurd (n (simple i h p q li lh good.separation.differ y.0 y.1 z.0 z.1))
         ]
       ]
 
@@ -218,9 +217,9 @@ module _ (g : Multigraph) (graph : IsGraph g) (block : IsOneBlock g) (comps : Li
               let f : PlaceAt g comps s k lk h v = at-edge g comps s k lk h v lh b in
               common-two v e.edge f.edge e.edge_in f.edge_in e.end f.end (sym (t-edge e.edge i e.edge_in e.place_is) ∙ y) (sym (t-edge f.edge h f.edge_in f.place_is) ∙ z)
 
-      -- an edge of each side at the first shared vertex
+      -- an edge of each side at the first common vertex
       corner : IsCommon g x p
-      corner = shared-common g x p shared.first_on
+      corner = good.separation.first_common
 
       abbrev e1 : ℕ
       e1 = corner.inside
@@ -312,7 +311,7 @@ module _ (g : Multigraph) (graph : IsGraph g) (block : IsOneBlock g) (comps : Li
       -- where the two items meet the others in two vertices at most, that side crosses
       crossed : (a b : ℕ) → ((r d v : ℕ) → (r ≡ i) ⊎ (r ≡ h) → d < size → d ≢ i → d ≢ h → is_at comps k r v ≡ true → is_at comps k d v ≡ true → (v ≡ a) ⊎ (v ≡ b)) → ⊥
       crossed a b only = good.uncrossed z
-          (separation-from g graph block z
+          (separation-from g block z
           (record { first = e1; second = f1; differ = λ c. apart (ap pl c); first_in = corner.inside_edge; second_in = corner.outside_edge; first_on = z-in e1 (inl refl); second_on = z-in f1 (inr refl) })
           (record { first = e2; second = f2; differ = λ c. both_ways (x f2) x-f2 (sym (ap x c) ∙ x-e2); first_in = e2_is.0; second_in = f2_is.0; first_on = not_from_false (z e2) z-e2; second_on = not_from_false (z f2) z-f2 })
           a b (λ v c.

@@ -1,16 +1,15 @@
 -- The edges of a block, by the place of the item of one component in whose group they are.
-use Rattle.std.proofs.Common.{◌≡◌, ◌≢◌, ℕ, zero, suc, ◌<◌, ◌≤◌, ◌⊎◌, ◌==◌, ◌||◌, inl, inr, Bool, true, false, not, List, [], ◌∷◌, length, map, slice_index_or, refl, sym, ap, ◌∙◌, subst, arith}
-use Rattle.std.proofs.lemmas.Bool.{cases_Bool, cases_eq, both_ways, or_cases, or_left, or_right, eq-eqb, eqb-true}
+use Rattle.std.proofs.Common.{◌≡◌, ◌≢◌, ℕ, zero, suc, ◌<◌, ◌⊎◌, ◌==◌, inl, inr, Bool, true, false, List, [], ◌∷◌, length, slice_index_or, refl, sym, ap, ◌∙◌, subst, arith}
+use Rattle.std.proofs.lemmas.Bool.{both_ways, or_cases, or_left, or_right, eq-eqb, eqb-true}
 use Rattle.std.proofs.lemmas.List.{get_or-map, length-map}
 use Rattle.std.proofs.lemmas.List.Elements.{All-get_or}
 use Rattle.permutations.specs.Count.{least}
 use Rattle.permutations.proofs.Search.{some-from, least-below, least-passes}
 use Rattle.multigraph.specs.Graph.{Multigraph, edge_count, is_end}
 use Rattle.pair_split.specs.Skeleton.{is_end_of, SameEnds, is_vertex}
-use Rattle.pair_split.specs.Split.{items_of, item_at, piece_ends, skeleton, StandsFor, side, LinksTo, IsSplit}
+use Rattle.pair_split.specs.Split.{items_of, item_at, piece_ends, skeleton, side, LinksTo, IsSplit}
 use Rattle.pair_split.specs.Tutte.{has_in_group}
 use Rattle.pair_split.specs.declared.components.Comp.{Comp}
-use Rattle.pair_split.specs.declared.components.Piece.{Piece}
 use Rattle.pair_split.specs.declared.components.What.{What}
 use Rattle.pair_split.specs.declared.components.What.TheVariants.{Real, Link}
 use Rattle.pair_split.proofs.Links.{no_piece}

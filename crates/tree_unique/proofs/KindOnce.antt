@@ -1,9 +1,9 @@
 -- A skeleton is of one kind only.
-use Rattle.std.proofs.Common.{◌≡◌, ◌≢◌, ℕ, zero, suc, ◌<◌, ◌≤◌, ◌⊎◌, ◌==◌, ◌||◌, inl, inr, Bool, true, false, List, [], ◌∷◌, length, slice_index_or, refl, sym, ap, ◌∙◌, subst, arith}
-use Rattle.std.proofs.lemmas.Bool.{both_ways, or_cases, or_left, or_right, or_from, or_parts, eq-eqb, ne_eqb, eqb-true, true≢false}
+use Rattle.std.proofs.Common.{◌≡◌, ◌≢◌, ℕ, suc, ◌<◌, ◌⊎◌, ◌==◌, ◌||◌, inl, inr, Bool, true, false, List, [], ◌∷◌, length, slice_index_or, refl, sym, ◌∙◌, subst, arith}
+use Rattle.std.proofs.lemmas.Bool.{both_ways, or_cases, or_left, or_from, or_parts, eq-eqb, ne_eqb, eqb-true, true≢false}
 use Rattle.std.proofs.lemmas.List.Elements.{All-get_or}
 use Rattle.multigraph.specs.Graph.{Multigraph}
-use Rattle.pair_split.specs.Skeleton.{is_end_of, SameEnds, is_vertex, HasVertices, HasPoles, IsPolygon, IsRigid, IsOfKind}
+use Rattle.pair_split.specs.Skeleton.{is_end_of, SameEnds, is_vertex, HasPoles, IsPolygon, IsRigid, IsOfKind}
 use Rattle.pair_split.specs.Split.{items_of, item_at, piece_ends, skeleton, IsSplit}
 use Rattle.pair_split.specs.declared.components.Comp.{Comp}
 use Rattle.pair_split.specs.declared.components.Kind.{Kind}
@@ -11,7 +11,7 @@ use Rattle.pair_split.specs.declared.components.Kind.TheVariants.{S, P, R, B}
 use Rattle.pair_split.proofs.Groups.{same-end}
 use Rattle.pair_split.proofs.LargeSides.{ThreeVertices, three-vertices}
 use Rattle.tree_unique.proofs.Counting.{Two, two-of}
-use Rattle.tree_unique.proofs.Items.{end-cases, first-end, second-end, is_at, ends-differ, at-vertex, vertex-at}
+use Rattle.tree_unique.proofs.Items.{end-cases, is_at, ends-differ, vertex-at}
 use Rattle.tree_unique.proofs.SkeletonKinds.{degree-count, polygon-two, rigid-apart, fourth-vertex}
 
 -- a vertex is an end of a pair

@@ -1,14 +1,13 @@
 -- Two trees of one block, of which each link's side in the one is a link's side in the other: to each component of the one a
 -- component of the other that has the same groups.
-use Rattle.std.proofs.Common.{◌≡◌, ◌≢◌, ℕ, ◌<◌, ◌==◌, ◌&&◌, inl, inr, Bool, true, false, not, List, length, refl, sym, ap, ◌∙◌, subst}
-use Rattle.std.proofs.lemmas.Bool.{cases_Bool, cases_eq, both_ways, and_from, and_parts, eq-eqb, ne_eqb, eqb-true, not-true, not_from_false, not_from_true, false_from_ne_true}
+use Rattle.std.proofs.Common.{◌≡◌, ℕ, ◌<◌, ◌==◌, ◌&&◌, inl, inr, Bool, true, false, not, List, length, refl, sym, ap, ◌∙◌, subst}
+use Rattle.std.proofs.lemmas.Bool.{cases_Bool, cases_eq, both_ways, and_from, and_parts, eq-eqb, ne_eqb, not-true, not_from_false, not_from_true, false_from_ne_true}
 use Rattle.permutations.specs.Count.{some}
-use Rattle.permutations.proofs.Search.{some-from, some-witness, some-none}
+use Rattle.permutations.proofs.Search.{some-witness, some-none}
 use Rattle.multigraph.specs.Graph.{Multigraph, edge_count}
 use Rattle.graph_theory.specs.Block.{IsOneBlock}
-use Rattle.pair_split.specs.Split.{items_of, item_at, is_beyond, side, LinksTo, IsSplit}
+use Rattle.pair_split.specs.Split.{item_at, is_beyond, side, LinksTo, IsSplit}
 use Rattle.pair_split.specs.declared.components.Comp.{Comp}
-use Rattle.pair_split.specs.declared.components.What.TheVariants.{Real, Link}
 use Rattle.pair_split.proofs.Groups.{what-cases, side-other}
 use Rattle.pair_split.proofs.TreeSides.{link-back, beyond-other}
 use Rattle.tree_unique.specs.Separations.{AreSameSide}

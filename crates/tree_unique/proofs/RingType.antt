@@ -1,10 +1,10 @@
 -- A side that crosses a link so that the two parts of a component's own side share one vertex between them: then the component
 -- is a polygon.
-use Rattle.std.proofs.Common.{◌≡◌, ◌≢◌, ℕ, ◌<◌, ◌≤◌, ◌⊎◌, ◌==◌, ◌||◌, inl, inr, Bool, true, false, not, List, length, refl, sym, ap, ap₂, ◌∙◌, subst, arith}
-use Rattle.std.proofs.lemmas.Bool.{cases_Bool, cases_eq, both_ways, or_cases, or_left, or_right, or_parts, or_from, eq-eqb, ne_eqb, eqb-true, not-true, not_from_false, not_from_true}
+use Rattle.std.proofs.Common.{◌≡◌, ◌≢◌, ℕ, ◌<◌, ◌≤◌, ◌⊎◌, ◌==◌, ◌||◌, inl, inr, Bool, true, false, not, List, length, refl, sym, ap, ◌∙◌, subst}
+use Rattle.std.proofs.lemmas.Bool.{cases_Bool, cases_eq, both_ways, or_cases, or_left, or_parts, or_from, eq-eqb, ne_eqb, eqb-true, not-true, not_from_false, not_from_true}
 use Rattle.multigraph.specs.Graph.{Multigraph, edge_count, is_end}
 use Rattle.graph_theory.specs.Block.{IsOneBlock}
-use Rattle.pair_split.specs.Skeleton.{is_vertex, IsBond, IsRigid}
+use Rattle.pair_split.specs.Skeleton.{IsBond, IsRigid}
 use Rattle.pair_split.specs.Split.{items_of, item_at, piece_ends, skeleton, IsSplit}
 use Rattle.pair_split.specs.declared.components.Comp.{Comp}
 use Rattle.tree_unique.specs.Separations.{other_side}

@@ -1,6 +1,6 @@
 -- Rising lists with the same members are equal; the lexicographic order of lists; pairs in order with the same ends.
-use Rattle.std.proofs.Common.{◌≡◌, ◌≢◌, ℕ, zero, suc, ◌<◌, ◌≤◌, ◌⊎◌, ◌==◌, ◌&&◌, ◌||◌, inl, inr, Bool, true, false, List, [], ◌∷◌, length, nat_lt, get_or, refl, sym, ap, ap₂, ◌∙◌, subst, arith}
-use Rattle.std.proofs.lemmas.Bool.{cases_Bool, cases_eq, both_ways, or_cases, and_parts, eqb-true, eq-eqb, ltb-true, true≢false}
+use Rattle.std.proofs.Common.{◌≡◌, ℕ, zero, suc, ◌<◌, ◌≤◌, ◌⊎◌, ◌==◌, ◌&&◌, inl, inr, true, List, [], ◌∷◌, length, nat_lt, get_or, refl, sym, ap₂, ◌∙◌, arith}
+use Rattle.std.proofs.lemmas.Bool.{or_cases, and_parts, eqb-true, ltb-true, true≢false}
 use Rattle.std.proofs.lemmas.List.{get_or_default}
 use Rattle.permutations.specs.Members.{is_member}
 use Rattle.permutations.proofs.Arrangements.{contains-from_member, member-at}

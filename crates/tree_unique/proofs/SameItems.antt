@@ -1,22 +1,16 @@
 -- Nodes of two trees of one block that have the same groups: their items have the same keys and the same ends, and stand for the
 -- same edges or are links with the same sides.
-use Rattle.std.proofs.Common.{◌≡◌, ◌≢◌, ℕ, zero, suc, ◌<◌, ◌≤◌, ◌⊎◌, inl, inr, Bool, true, false, List, [], ◌∷◌, length, map, slice_index_or, get_or, refl, sym, ap, ap₂, ◌∙◌, subst, arith}
-use Rattle.std.proofs.lemmas.Bool.{both_ways}
+use Rattle.std.proofs.Common.{◌≡◌, ℕ, zero, suc, ◌<◌, ◌≤◌, ◌⊎◌, inl, inr, true, List, [], ◌∷◌, length, map, slice_index_or, get_or, refl, sym, ap, ap₂, ◌∙◌, subst, arith}
 use Rattle.std.proofs.lemmas.List.{get_or-map, length-map, ext_get_or}
 use Rattle.permutations.specs.Count.{least}
-use Rattle.permutations.specs.Members.{is_member}
 use Rattle.permutations.proofs.Relation.{same-tests}
 use Rattle.permutations.proofs.Search.{some-from, least-below, least-passes, least-first}
 use Rattle.multigraph.specs.Graph.{Multigraph, edge_count, ends_of, is_end}
-use Rattle.multigraph.specs.Part.{Rises}
 use Rattle.graph_theory.specs.Block.{IsOneBlock}
-use Rattle.graph_theory.specs.Side.{IsCommon}
 use Rattle.pair_split.specs.Skeleton.{is_end_of, is_vertex, IsOfKind}
-use Rattle.pair_split.specs.Split.{component_at, items_of, item_at, piece_ends, skeleton, StandsFor, side, LinksTo, IsSplit}
+use Rattle.pair_split.specs.Split.{component_at, items_of, item_at, piece_ends, skeleton, side, LinksTo, IsSplit}
 use Rattle.pair_split.specs.Tutte.{Node, piece_of, components, node_at, node_item, key_of, IsTutte}
 use Rattle.pair_split.specs.declared.components.Comp.{Comp}
-use Rattle.pair_split.specs.declared.components.Kind.{Kind}
-use Rattle.pair_split.specs.declared.components.Kind.TheVariants.{B}
 use Rattle.pair_split.specs.declared.components.Piece.{Piece}
 use Rattle.pair_split.specs.declared.components.Item.{Item}
 use Rattle.pair_split.specs.declared.components.What.{What}
@@ -26,10 +20,10 @@ use Rattle.pair_split.proofs.GraphSides.{common-same}
 use Rattle.pair_split.proofs.Groups.{what-cases, same-end, same-end_back}
 use Rattle.pair_split.proofs.LargeSides.{TwoEdges, side-two}
 use Rattle.tree_unique.specs.Separations.{AreSameSide}
-use Rattle.tree_unique.proofs.Items.{is_at, at-vertex, vertex-at, skeleton-at, skeleton-length, place, place-in, link-place, place-link, place-real, real-place}
+use Rattle.tree_unique.proofs.Items.{is_at, skeleton-at, skeleton-length, place, place-in, link-place, place-link, place-real, real-place}
 use Rattle.tree_unique.proofs.Rising.{HasAll, rises-same, members-same, rising-pairs}
 use Rattle.tree_unique.proofs.KindOnce.{kind-once}
-use Rattle.tree_unique.proofs.Matched.{IsWithin, HaveSameGroups, same-groups_back}
+use Rattle.tree_unique.proofs.Matched.{HaveSameGroups, same-groups_back}
 
 -- an item where there is none
 abbrev pub no_item : Item
@@ -172,8 +166,7 @@ keys-among g block a b s t k x h i l =
     let j : ℕ = place g (components b) t.split x h.second_in (node_item a k i).key in
     let d : IsLeast g block b t x h.second_in j (node_item b x j).key = key-least g block b t x h.second_in j lb in
     let down = d.key_least (node_item a k i).key c.key_in refl in
-    let up = c.key_least (node_item b x j).key d.key_in (h.back (node_item b x j).key (node_item a k i).key d.key_in c.key_in d.key_place ∙ c.key_place) in
-    (
+    let up = c.key_least (node_item b x j).key d.key_in (h.back (node_item b x j).key (node_item a k i).key d.key_in c.key_in d.key_place ∙ c.key_place) in (
       j,
       omega (arith, lb, length-map (node_at b x).items (λ (item : Item). item.key)),
       get_or-map (λ (item : Item). item.key) (node_at b x).items j no_item 0 lb ∙ order (node_item b x j).key (node_item a k i).key down up ∙ sym (get_or-map (λ (item : Item). item.key) (node_at a k).items i no_item 0 la),

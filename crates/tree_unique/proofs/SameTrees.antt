@@ -1,12 +1,11 @@
 -- Two trees of one block are equal.
-use Rattle.std.proofs.Common.{◌≡◌, ◌≢◌, ℕ, zero, suc, ◌<◌, ◌≤◌, inl, inr, Bool, true, false, not, List, [], length, refl, sym, ap, ◌∙◌, subst, arith}
-use Rattle.std.proofs.lemmas.Bool.{cases_eq, cases_lt, cases_order}
+use Rattle.std.proofs.Common.{◌≡◌, ℕ, zero, suc, ◌<◌, ◌≤◌, inl, inr, true, not, List, [], length, sym, ap, ◌∙◌, subst, arith}
+use Rattle.std.proofs.lemmas.Bool.{cases_lt, cases_order}
 use Rattle.std.proofs.lemmas.List.{ext_get_or}
-use Rattle.multigraph.specs.Graph.{Multigraph, edge_count, IsGraph}
+use Rattle.multigraph.specs.Graph.{Multigraph}
 use Rattle.graph_theory.specs.Block.{IsOneBlock}
-use Rattle.pair_split.specs.Split.{component_at, items_of, item_at, StandsFor, side, LinksTo, IsSplit}
-use Rattle.pair_split.specs.Tutte.{Node, piece_of, components, node_at, node_item, is_before, NoneJoined, IsTutte}
-use Rattle.pair_split.specs.declared.components.Comp.{Comp}
+use Rattle.pair_split.specs.Split.{component_at, item_at, side, LinksTo}
+use Rattle.pair_split.specs.Tutte.{Node, components, node_at, node_item, is_before, NoneJoined, IsTutte}
 use Rattle.pair_split.specs.declared.components.Kind.{Kind}
 use Rattle.pair_split.specs.declared.components.Kind.TheVariants.{S, P, B}
 use Rattle.pair_split.specs.declared.components.Piece.{Piece}
@@ -15,36 +14,36 @@ use Rattle.pair_split.specs.declared.components.What.{What}
 use Rattle.pair_split.specs.declared.components.What.TheVariants.{Real, Link}
 use Rattle.pair_split.proofs.Groups.{side-other}
 use Rattle.pair_split.proofs.Subtrees.{link-in}
-use Rattle.pair_split.proofs.TreeSides.{link-from, link-back}
-use Rattle.tree_unique.specs.Separations.{IsGood, AreSameSide}
+use Rattle.pair_split.proofs.TreeSides.{link-back}
+use Rattle.tree_unique.specs.Separations.{AreSameSide}
 use Rattle.tree_unique.specs.Laws.{LinksAreGood, GoodAreLinks, SidesTellLinks, TreesAreEqual}
-use Rattle.tree_unique.proofs.Away.{number_of, side-tells, places-tell}
+use Rattle.tree_unique.proofs.Away.{side-tells, places-tell}
 use Rattle.tree_unique.proofs.Crossed.{link-good}
 use Rattle.tree_unique.proofs.GoodSides.{good-link}
-use Rattle.tree_unique.proofs.Items.{place, place-any}
+use Rattle.tree_unique.proofs.Items.{place-any}
 use Rattle.tree_unique.proofs.Rising.{before-not, before-once}
-use Rattle.tree_unique.proofs.Matched.{HasSides, HaveSameGroups, same-groups_back, match}
+use Rattle.tree_unique.proofs.Matched.{HasSides, HaveSameGroups, match}
 use Rattle.tree_unique.proofs.SameItems.{no_item, node-kind, node-piece, node-size, nodes-length, link-link, what-other, items-length, key-same, place-same, in-first, in-second, ends-same, vertices-same, kinds-same}
 
 -- the sides of links are good
 pub links-good : LinksAreGood
-links-good g nodes graph block t = link-good g graph block (components nodes) t.split (none S t.no_polygons_joined) (none P t.no_bonds_joined)
+links-good g nodes block t = link-good g block (components nodes) t.split (none S t.no_polygons_joined) (none P t.no_bonds_joined)
   where
     none : (kind : Kind) → NoneJoined kind nodes → (k j : ℕ) → LinksTo (components nodes) k j → (component_at (components nodes) k).kind ≡ kind → (component_at (components nodes) j).kind ≡ kind → ⊥
     none kind n k j l x y = n k j l (sym (node-kind nodes k) ∙ x) (sym (node-kind nodes j) ∙ y)
 
 -- each side of a good 2-separation is that of a link
 pub good-links : GoodAreLinks
-good-links g nodes graph block t x good = good-link g graph block (components nodes) t.split x good
+good-links g nodes block t x good = good-link g block (components nodes) t.split x good
 
 -- a side tells its link
 pub sides-tell : SidesTellLinks
-sides-tell g nodes graph block t = side-tells g block (components nodes) t.split
+sides-tell g nodes block t = side-tells g block (components nodes) t.split
 
-module _ (g : Multigraph) (graph : IsGraph g) (block : IsOneBlock g) (a b : List Node) (s : IsTutte g a) (t : IsTutte g b) where
+module _ (g : Multigraph) (block : IsOneBlock g) (a b : List Node) (s : IsTutte g a) (t : IsTutte g b) where
   -- the links of the one have the sides of links of the other
   sides-of : HasSides g (components a) (components b)
-  sides-of x y l = good-links g a graph block s (side (components b) x y) (links-good g b graph block t x y l)
+  sides-of x y l = good-links g a block s (side (components b) x y) (links-good g b block t x y l)
 
   -- nodes with the same groups
   abbrev pub AreSame : ℕ → ℕ → Type 0
@@ -65,46 +64,46 @@ module _ (g : Multigraph) (graph : IsGraph g) (block : IsOneBlock g) (a b : List
         ]
       ]
 
-module _ (g : Multigraph) (graph : IsGraph g) (block : IsOneBlock g) (a b : List Node) (s : IsTutte g a) (t : IsTutte g b) where
-  matched : (k : ℕ) → k < length (components a) → (x : ℕ) × AreSame g graph block a b s t k x
-  matched k l = match g block (components a) s.split (components b) t.split (sides-of g graph block a b s t) (sides-of g graph block b a t s) k l
+module _ (g : Multigraph) (block : IsOneBlock g) (a b : List Node) (s : IsTutte g a) (t : IsTutte g b) where
+  matched : (k : ℕ) → k < length (components a) → (x : ℕ) × AreSame g block a b s t k x
+  matched k l = match g block (components a) s.split (components b) t.split (sides-of g block a b s t) (sides-of g block b a t s) k l
 
   -- the number of a node with the same groups is no less
   same-least : (k : ℕ) (l : k < length (components a)) → k ≤ (matched k l).0
   same-least zero l = omega arith
   same-least (suc k) l =
       let before : k < length (components a) = omega (arith, l) in
-      omega (arith, same-least k before, same-rises g graph block a b s t k (suc k) (matched k before).0 (matched (suc k) l).0 (omega arith) (matched k before).1 (matched (suc k) l).1)
+      omega (arith, same-least k before, same-rises g block a b s t k (suc k) (matched k before).0 (matched (suc k) l).0 (omega arith) (matched k before).1 (matched (suc k) l).1)
 
-module _ (g : Multigraph) (graph : IsGraph g) (block : IsOneBlock g) (a b : List Node) (s : IsTutte g a) (t : IsTutte g b) where
+module _ (g : Multigraph) (block : IsOneBlock g) (a b : List Node) (s : IsTutte g a) (t : IsTutte g b) where
   -- so it is the same number
-  same-number : (k : ℕ) → k < length (components a) → AreSame g graph block a b s t k k
+  same-number : (k : ℕ) → k < length (components a) → AreSame g block a b s t k k
   same-number k l =
-      let x = matched g graph block a b s t k l in
-      let y = matched g graph block b a t s x.0 x.1.second_in in
-      let up : k ≤ x.0 = same-least g graph block a b s t k l in
-      let more : x.0 ≤ y.0 = same-least g graph block b a t s x.0 x.1.second_in in
+      let x = matched g block a b s t k l in
+      let y = matched g block b a t s x.0 x.1.second_in in
+      let up : k ≤ x.0 = same-least g block a b s t k l in
+      let more : x.0 ≤ y.0 = same-least g block b a t s x.0 x.1.second_in in
       let e : k ≡ y.0 = places-tell g block (components a) s.split k y.0 x.1.first_in y.1.second_in (λ e f c d p.
-          y.1.forth e f c d (place-any g (components b) t.split x.0 y.1.first_in x.1.second_in e c ∙ x.1.forth e f c d p ∙ place-any g (components b) t.split x.0 x.1.second_in y.1.first_in f d)) in
+      y.1.forth e f c d (place-any g (components b) t.split x.0 y.1.first_in x.1.second_in e c ∙ x.1.forth e f c d p ∙ place-any g (components b) t.split x.0 x.1.second_in y.1.first_in f d)) in
       let f : x.0 ≡ k = order k x.0 y.0 up more e in
-      subst (λ z. AreSame g graph block a b s t k z) f x.1
+      subst (λ z. AreSame g block a b s t k z) f x.1
     where
       order : (k x y : ℕ) → k ≤ x → x ≤ y → k ≡ y → x ≡ k
       order k x y p q e = omega (arith, p, q, e)
 
-module _ (g : Multigraph) (graph : IsGraph g) (block : IsOneBlock g) (a b : List Node) (s : IsTutte g a) (t : IsTutte g b) where
+module _ (g : Multigraph) (block : IsOneBlock g) (a b : List Node) (s : IsTutte g a) (t : IsTutte g b) where
   lengths : length a ≡ length b
   lengths = elim (cases_lt (length a) (length b)) [
-    | inl l ↦ let w : AreSame g graph block b a t s (length a) (length a) = same-number g graph block b a t s (length a) (omega (arith, l, nodes-length b)) in absurd (omega (arith, w.second_in, nodes-length a))
+    | inl l ↦ let w : AreSame g block b a t s (length a) (length a) = same-number g block b a t s (length a) (omega (arith, l, nodes-length b)) in absurd (omega (arith, w.second_in, nodes-length a))
     | inr m ↦ elim (cases_lt (length b) (length a)) [
-      | inl l ↦ let w : AreSame g graph block a b s t (length b) (length b) = same-number g graph block a b s t (length b) (omega (arith, l, nodes-length a)) in absurd (omega (arith, w.second_in, nodes-length b))
+      | inl l ↦ let w : AreSame g block a b s t (length b) (length b) = same-number g block a b s t (length b) (omega (arith, l, nodes-length a)) in absurd (omega (arith, w.second_in, nodes-length b))
       | inr n ↦ let e : length a ≡ length b = omega (arith, m, n) in e
     ]
   ]
 
   module _ (k : ℕ) (l : k < length a) where
-    h : AreSame g graph block a b s t k k
-    h = same-number g graph block a b s t k (omega (arith, l, nodes-length a))
+    h : AreSame g block a b s t k k
+    h = same-number g block a b s t k (omega (arith, l, nodes-length a))
 
     -- the links lead to the same nodes
     same-target : (i j d : ℕ) → i < length (node_at a k).items → (item_at (components a) k i).what ≡ Link j → (item_at (components b) k i).what ≡ Link d → j ≡ d
@@ -113,7 +112,7 @@ module _ (g : Multigraph) (graph : IsGraph g) (block : IsOneBlock g) (a b : List
         let n : LinksTo (components b) k d = (i, (in-second g block a b s t k k h i li, q)) in
         let back : LinksTo (components a) j k = link-back (components a) s.split.linked k j m in
         let from : LinksTo (components b) d k = link-back (components b) t.split.linked k d n in
-        let w : AreSame g graph block a b s t j j = same-number g graph block a b s t j (link-in (components a) s.split.linked k j m) in
+        let w : AreSame g block a b s t j j = same-number g block a b s t j (link-in (components a) s.split.linked k j m) in
         let r : ℕ = back.0 in
         let lr : r < length (node_at a j).items = omega (arith, (back.1).0, node-size a j) in
         let here : AreSameSide g (side (components a) k j) (side (components b) k d) = link-link g block (components a) s.split k h.first_in (components b) t.split k h.second_in (place-same g block a b s t k k h) i (in-first g block a b s t k k h i li) (in-second g block a b s t k k h i li) j d p q in
@@ -162,4 +161,4 @@ module _ (g : Multigraph) (graph : IsGraph g) (block : IsOneBlock g) (a b : List
 
 -- two trees of one block are equal
 pub trees-equal : TreesAreEqual
-trees-equal g a b graph block s t = trees-same g graph block a b s t
+trees-equal g a b block s t = trees-same g block a b s t

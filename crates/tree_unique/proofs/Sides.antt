@@ -1,19 +1,40 @@
 -- Sides of a block's edges: the vertices that they touch and share; the corners of two 2-separations that cross.
-use Rattle.std.proofs.Common.{◌≡◌, ◌≢◌, ℕ, ◌+◌, ◌<◌, ◌≤◌, ◌⊎◌, inl, inr, Bool, true, false, not, ◌&&◌, ◌||◌, refl, sym, ap, ap₂, ◌∙◌, subst, arith}
-use Rattle.std.proofs.lemmas.Bool.{cases_Bool, both_ways, and_from, and_parts, or_cases, or_left, or_right, not-true, not_from_false, not_from_true}
-use Rattle.permutations.specs.Count.{count, some}
+use Rattle.std.proofs.Common.{◌≡◌, ℕ, ◌+◌, ◌<◌, ◌≤◌, ◌⊎◌, inl, inr, Bool, true, false, not, ◌&&◌, ◌||◌, sym, ap, ap₂, ◌∙◌, arith}
+use Rattle.std.proofs.lemmas.Bool.{cases_Bool, and_from, and_parts, or_cases, or_left, or_right, not-true, not_from_false}
+use Rattle.permutations.specs.Count.{count, some, sum_below}
 use Rattle.permutations.proofs.Count.{count-ext}
 use Rattle.permutations.proofs.Search.{some-from, some-witness, some-ext}
+use Rattle.permutations.proofs.Sums.{sum_below-term}
 use Rattle.permutations.proofs.Relation.{same-tests}
-use Rattle.multigraph.specs.Graph.{Multigraph, edge_count, is_end, IsGraph}
-use Rattle.multigraph.proofs.OtherEnd.{end-in}
+use Rattle.multigraph.specs.Graph.{Multigraph, edge_count, ends_of, is_end}
+use Rattle.multigraph.proofs.OtherEnd.{is_end-cases}
 use Rattle.graph_theory.specs.Block.{IsOneBlock}
 use Rattle.graph_theory.specs.Side.{IsCommon}
 use Rattle.graph_theory.proofs.Crossings.{TwoCommon}
+use Rattle.pair_split.proofs.Degrees.{one-of_two}
 use Rattle.pair_split.proofs.GraphSides.{block-two_common}
-use Rattle.tree_unique.specs.Separations.{other_side, touches, is_shared, IsSeparation, DoCross, AreSameSide}
-use Rattle.tree_unique.proofs.Counting.{Two, two-of, two-count, third-of, two-most}
+use Rattle.tree_unique.specs.Separations.{other_side, IsSeparation, DoCross, AreSameSide}
+use Rattle.tree_unique.proofs.Counting.{Two, two-count, two-most}
 use Rattle.tree_unique.proofs.Corners.{first_common, second_common, corner_common, AreCorners}
+
+-- whether some edge on the side s has the end v
+abbrev pub touches : Multigraph → (ℕ → Bool) → ℕ → Bool
+touches g s v = some (edge_count g) (λ e. s e && is_end g v e)
+
+-- whether v has an edge on the side s and one on the other side
+abbrev pub is_shared : Multigraph → (ℕ → Bool) → ℕ → Bool
+is_shared g s v = touches g s v && touches g (other_side s) v
+
+-- a number above all ends
+pub vertex_bound : Multigraph → ℕ
+vertex_bound g = sum_below (edge_count g) (λ e. (ends_of g e).0 + (ends_of g e).1) + 1
+
+pub end-below : (g : Multigraph) (v e : ℕ) → e < edge_count g → is_end g v e ≡ true → v < vertex_bound g
+unfolding vertex_bound
+end-below g v e l h = elim (is_end-cases g v e h) [
+  | inl a ↦ omega (arith, a, sum_below-term (edge_count g) (λ e. (ends_of g e).0 + (ends_of g e).1) e l)
+  | inr a ↦ omega (arith, a, sum_below-term (edge_count g) (λ e. (ends_of g e).0 + (ends_of g e).1) e l)
+]
 
 -- an edge on the side s with the end v
 pub record EdgeAt (g : Multigraph) (s : ℕ → Bool) (v : ℕ) : Type 0 where
@@ -75,47 +96,57 @@ shared-common g s v h =
       outside_side = not-true (s o.edge) o.on;
     }
 
--- a common vertex is one of the graph
-pub common-in : (g : Multigraph) → IsGraph g → (s : ℕ → Bool) (v : ℕ) → IsCommon g s v → v < g.vertex_count
-common-in g graph s v c = end-in g v c.inside graph c.inside_edge c.inside_end
+-- a common vertex is below the bound
+pub common-in : (g : Multigraph) (s : ℕ → Bool) (v : ℕ) → IsCommon g s v → v < vertex_bound g
+common-in g s v c = end-below g v c.inside c.inside_edge c.inside_end
 
--- a side with an edge of which the other side has one: two shared vertices
-pub block-two_shared : (g : Multigraph) → IsGraph g → IsOneBlock g → (s : ℕ → Bool) (e f : ℕ) → e < edge_count g → f < edge_count g → s e ≡ true → s f ≡ false → Two g.vertex_count (is_shared g s)
-block-two_shared g graph block s e f l k i o = let w : TwoCommon g s = block-two_common g block s e f l k i o in
+-- a 2-separation shares two vertices
+pub shared-two : (g : Multigraph) (s : ℕ → Bool) → IsSeparation g s → count (vertex_bound g) (is_shared g s) ≡ 2
+shared-two g s i =
+    let most = two-most (vertex_bound g) (is_shared g s) i.first i.second (λ v l h. i.no_other v (shared-common g s v h)) in
+    let least = two-count (vertex_bound g) (is_shared g s) (record {
+      first = i.first;
+      second = i.second;
+      differ = i.differ;
+      first_in = common-in g s i.first i.first_common;
+      second_in = common-in g s i.second i.second_common;
+      first_on = common-shared g s i.first i.first_common;
+      second_on = common-shared g s i.second i.second_common;
+    }) in
+    omega (arith, most, least)
+
+-- a side with two edges, of which the other side has two, and which have no common vertices but two, is one of a 2-separation
+pub separation-from : (g : Multigraph) → IsOneBlock g → (s : ℕ → Bool) → Two (edge_count g) s → Two (edge_count g) (other_side s)
+    → (p q : ℕ) → ((v : ℕ) → IsCommon g s v → (v ≡ p) ⊎ (v ≡ q)) → IsSeparation g s
+separation-from g block s i o p q only =
+    let w : TwoCommon g s = block-two_common g block s i.first o.first i.first_in o.first_in i.first_on (not-true (s o.first) o.first_on) in
     record {
       first = w.first;
       second = w.second;
       differ = w.differ;
-      first_in = common-in g graph s w.first w.first_common;
-      second_in = common-in g graph s w.second w.second_common;
-      first_on = common-shared g s w.first w.first_common;
-      second_on = common-shared g s w.second w.second_common;
+      first_common = w.first_common;
+      second_common = w.second_common;
+      no_other = λ v c. one-of_two p q w.first w.second v w.differ (only w.first w.first_common) (only w.second w.second_common) (only v c);
+      two_inside = two-count (edge_count g) s i;
+      two_outside = two-count (edge_count g) (other_side s) o;
     }
-
--- a side with two edges, of which the other side has two, and which share no vertices but two, is one of a 2-separation
-pub separation-from : (g : Multigraph) → IsGraph g → IsOneBlock g → (s : ℕ → Bool) → Two (edge_count g) s → Two (edge_count g) (other_side s)
-    → (p q : ℕ) → ((v : ℕ) → IsCommon g s v → (v ≡ p) ⊎ (v ≡ q)) → IsSeparation g s
-separation-from g graph block s i o p q only =
-    let most = two-most g.vertex_count (is_shared g s) p q (λ v l h. only v (shared-common g s v h)) in
-    let least = two-count g.vertex_count (is_shared g s) (block-two_shared g graph block s i.first o.first i.first_in o.first_in i.first_on (not-true (s o.first) o.first_on)) in
-    record { two_inside = two-count (edge_count g) s i; two_outside = two-count (edge_count g) (other_side s) o; two_shared = omega (arith, most, least) }
 
 -- the corners
 abbrev pub both : (ℕ → Bool) → (ℕ → Bool) → ℕ → Bool
 both s t e = s e && t e
 
 -- a corner that is not empty, and does not have all edges, has two vertices in common with the three others
-corner-two : (g : Multigraph) → IsGraph g → IsOneBlock g → (p q r u : ℕ → Bool) → ((e : ℕ) → p e ≡ false → (q e || (r e || u e)) ≡ true)
+corner-two : (g : Multigraph) → IsOneBlock g → (p q r u : ℕ → Bool) → ((e : ℕ) → p e ≡ false → (q e || (r e || u e)) ≡ true)
     → (e f : ℕ) → e < edge_count g → f < edge_count g → p e ≡ true → p f ≡ false
-    → 2 ≤ count g.vertex_count (λ v. corner_common (touches g p v) (touches g q v) (touches g r v) (touches g u v))
-corner-two g graph block p q r u cover e f l k i o =
+    → 2 ≤ count (vertex_bound g) (λ v. corner_common (touches g p v) (touches g q v) (touches g r v) (touches g u v))
+corner-two g block p q r u cover e f l k i o =
     let w : TwoCommon g p = block-two_common g block p e f l k i o in
-    two-count g.vertex_count (λ v. corner_common (touches g p v) (touches g q v) (touches g r v) (touches g u v)) (record {
+    two-count (vertex_bound g) (λ v. corner_common (touches g p v) (touches g q v) (touches g r v) (touches g u v)) (record {
       first = w.first;
       second = w.second;
       differ = w.differ;
-      first_in = common-in g graph p w.first w.first_common;
-      second_in = common-in g graph p w.second w.second_common;
+      first_in = common-in g p w.first w.first_common;
+      second_in = common-in g p w.second w.second_common;
       first_on = at w.first w.first_common;
       second_on = at w.second w.second_common;
     })
@@ -135,19 +166,19 @@ corner-two g graph block p q r u cover e f l k i o =
         edge z a = touches-from g z v (record { edge = c.outside; edge_in = c.outside_edge; on = a; end = c.outside_end })
 
 -- which vertices the four corners of two sides touch
-pub corner-tests : (g : Multigraph) → IsGraph g → IsOneBlock g → (s t : ℕ → Bool) → IsSeparation g s → IsSeparation g t → DoCross g s t
-    → AreCorners g.vertex_count (touches g (both s t)) (touches g (both s (other_side t))) (touches g (both (other_side s) (other_side t))) (touches g (both (other_side s) t))
-corner-tests g graph block s t i j c = record {
-  first = sym (count-ext n (is_shared g s) (λ v. first_common (a v) (b v) (z v) (d v)) (λ v l. ap₂ (λ x y. x && y) (touches-parts g s ab ab' v (λ e. two (s e) (t e))) (touches-parts g (other_side s) cd cd' v (λ e. other (s e) (t e))))) ∙ i.two_shared;
-  second = sym (count-ext n (is_shared g t) (λ v. second_common (a v) (b v) (z v) (d v)) (λ v l. ap₂ (λ x y. x && y) (touches-parts g t ab cd' v (λ e. back (s e) (t e))) (touches-parts g (other_side t) ab' cd v (λ e. back (s e) (not (t e)))))) ∙ j.two_shared;
-  one = corner-two g graph block ab ab' cd cd' (λ e. first (s e) (t e)) e1.0 e2.0 e1.1 e2.1 e1.2 (second' e2.0 e2.2);
-  two = corner-two g graph block ab' ab cd cd' (λ e. second (s e) (t e)) e2.0 e1.0 e2.1 e1.1 e2.2 (first' e1.0 e1.2);
-  three = corner-two g graph block cd ab ab' cd' (λ e. third (s e) (t e)) e3.0 e1.0 e3.1 e1.1 e3.2 (one' e1.0 e1.2);
-  four = corner-two g graph block cd' ab ab' cd (λ e. fourth (s e) (t e)) e4.0 e1.0 e4.1 e1.1 e4.2 (zero' e1.0 e1.2);
+pub corner-tests : (g : Multigraph) → IsOneBlock g → (s t : ℕ → Bool) → IsSeparation g s → IsSeparation g t → DoCross g s t
+    → AreCorners (vertex_bound g) (touches g (both s t)) (touches g (both s (other_side t))) (touches g (both (other_side s) (other_side t))) (touches g (both (other_side s) t))
+corner-tests g block s t i j c = record {
+  first = sym (count-ext n (is_shared g s) (λ v. first_common (a v) (b v) (z v) (d v)) (λ v l. ap₂ (λ x y. x && y) (touches-parts g s ab ab' v (λ e. two (s e) (t e))) (touches-parts g (other_side s) cd cd' v (λ e. other (s e) (t e))))) ∙ shared-two g s i;
+  second = sym (count-ext n (is_shared g t) (λ v. second_common (a v) (b v) (z v) (d v)) (λ v l. ap₂ (λ x y. x && y) (touches-parts g t ab cd' v (λ e. back (s e) (t e))) (touches-parts g (other_side t) ab' cd v (λ e. back (s e) (not (t e)))))) ∙ shared-two g t j;
+  one = corner-two g block ab ab' cd cd' (λ e. first (s e) (t e)) e1.0 e2.0 e1.1 e2.1 e1.2 (second' e2.0 e2.2);
+  two = corner-two g block ab' ab cd cd' (λ e. second (s e) (t e)) e2.0 e1.0 e2.1 e1.1 e2.2 (first' e1.0 e1.2);
+  three = corner-two g block cd ab ab' cd' (λ e. third (s e) (t e)) e3.0 e1.0 e3.1 e1.1 e3.2 (one' e1.0 e1.2);
+  four = corner-two g block cd' ab ab' cd (λ e. fourth (s e) (t e)) e4.0 e1.0 e4.1 e1.1 e4.2 (zero' e1.0 e1.2);
 }
   where
     n : ℕ
-    n = g.vertex_count
+    n = vertex_bound g
 
     ab : ℕ → Bool
     ab = both s t

@@ -1,7 +1,7 @@
 -- Skeletons of the kinds: polygons and triconnected graphs have no two items with the same ends; a triconnected graph has no
 -- 2-separation.
-use Rattle.std.proofs.Common.{◌≡◌, ◌≢◌, ℕ, zero, suc, ◌+◌, ◌<◌, ◌≤◌, ◌⊎◌, ◌&&◌, ◌==◌, inl, inr, Bool, true, false, not, cond, List, [], ◌∷◌, length, map, filter, slice_index_or, refl, sym, ap, ◌∙◌, subst, arith, Contains, All}
-use Rattle.std.proofs.lemmas.Bool.{cases_Bool, cases_eq, both_ways, and_from, and_parts, eq-eqb, ne_eqb, eqb-true, not-true, false_from_ne_true}
+use Rattle.std.proofs.Common.{◌≡◌, ◌≢◌, ℕ, zero, suc, ◌+◌, ◌<◌, ◌≤◌, ◌⊎◌, ◌&&◌, ◌==◌, inl, inr, Bool, true, false, not, cond, List, [], ◌∷◌, length, filter, slice_index_or, refl, sym, ap, ◌∙◌, subst, arith, Contains}
+use Rattle.std.proofs.lemmas.Bool.{cases_Bool, cases_eq, both_ways, and_from, and_parts, ne_eqb, eqb-true, not-true, false_from_ne_true}
 use Rattle.std.proofs.lemmas.List.{get_or_default}
 use Rattle.std.proofs.lemmas.List.Elements.{All-contains, All-get_or, All-from_get_or}
 use Rattle.permutations.specs.Count.{count, some}
@@ -15,14 +15,12 @@ use Rattle.graph_theory.specs.Triconnected.{avoids}
 use Rattle.pair_split.specs.Skeleton.{is_end_of, SameEnds, is_vertex, degree, HasVertices, IsPolygon, IsBond, IsRigid}
 use Rattle.pair_split.specs.Split.{items_of, item_at, piece_ends, skeleton}
 use Rattle.pair_split.specs.declared.components.Comp.{Comp}
-use Rattle.pair_split.specs.declared.components.Piece.{Piece}
-use Rattle.pair_split.proofs.Elements.{contains-here, contains-later, filter-contains, map-contains}
+use Rattle.pair_split.proofs.Elements.{contains-here, contains-later, filter-contains}
 use Rattle.pair_split.proofs.GraphFamily.{all-from_contained}
 use Rattle.pair_split.proofs.Groups.{same-end, same-end_back}
 use Rattle.pair_split.proofs.LargeSides.{three-vertices}
-use Rattle.pair_split.proofs.Links.{no_piece}
-use Rattle.tree_unique.proofs.Counting.{Two, bit, third-of}
-use Rattle.tree_unique.proofs.Items.{first-end, second-end, end-of_two, same-pairs, is_at, skeleton-at, skeleton-length, at-vertex, vertex-at}
+use Rattle.tree_unique.proofs.Counting.{bit, third-of}
+use Rattle.tree_unique.proofs.Items.{first-end, second-end, end-of_two, same-pairs, is_at, skeleton-at, skeleton-length, at-vertex}
 
 -- the first number in front
 count-front : (n : ℕ) (p : ℕ → Bool) → count (suc n) p ≡ cond (p 0) 1 0 + count n (λ i. p (suc i))

@@ -1,9 +1,9 @@
 -- A side of a block's edges, seen at one component: an item whose group has edges on the side and off it, and the colours of
 -- items where there is none.
-use Rattle.std.proofs.Common.{◌≡◌, ◌≢◌, ℕ, ◌<◌, ◌⊎◌, ◌==◌, ◌&&◌, inl, inr, Bool, true, false, not, List, length, refl, sym, ap, ap₂, ◌∙◌, subst, arith}
+use Rattle.std.proofs.Common.{◌≡◌, ◌≢◌, ℕ, ◌<◌, ◌⊎◌, ◌==◌, ◌&&◌, inl, inr, Bool, true, false, not, List, length, refl, sym, ap, ap₂, ◌∙◌, arith}
 use Rattle.std.proofs.lemmas.Bool.{cases_Bool, cases_eq, both_ways, and_from, and_parts, eq-eqb, ne_eqb, eqb-true, not-true, not_from_false, not_from_true}
 use Rattle.permutations.specs.Count.{some}
-use Rattle.permutations.proofs.Search.{some-from, some-witness, some-none}
+use Rattle.permutations.proofs.Search.{some-witness, some-none}
 use Rattle.multigraph.specs.Graph.{Multigraph, edge_count, is_end}
 use Rattle.graph_theory.specs.Block.{IsOneBlock}
 use Rattle.graph_theory.specs.Side.{IsCommon}

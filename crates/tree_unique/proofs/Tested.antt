@@ -1,14 +1,17 @@
 -- Good 2-separations decided: each side that there is, as a list of truth values, tested against all others.
-use Rattle.std.proofs.Common.{◌≡◌, ℕ, zero, suc, ◌<◌, ◌≤◌, ◌==◌, ◌&&◌, inl, inr, Bool, true, false, not, nat_lt, List, [], ◌∷◌, ◌++◌, length, map, filter, slice_index_or, refl, sym, ap, ap₂, ◌∙◌, subst, arith, Contains}
+use Rattle.std.proofs.Common.{◌≡◌, ℕ, zero, suc, ◌<◌, ◌≤◌, ◌==◌, ◌&&◌, inl, inr, Bool, true, false, not, nat_lt, List, [], ◌∷◌, ◌++◌, map, filter, slice_index_or, refl, sym, ap, ap₂, ◌∙◌, subst, arith, Contains}
 use Rattle.std.proofs.lemmas.Bool.{cases_Bool, both_ways, and_from, and_parts, ltb-true, lt-ltb, eqb-true, eq-eqb, not-true, not_from_false}
 use Rattle.std.proofs.lemmas.List.Elements.{Contains-append_left, Contains-append_right}
 use Rattle.permutations.specs.Count.{count, some}
 use Rattle.permutations.proofs.Count.{count-ext}
-use Rattle.permutations.proofs.Search.{some-ext}
-use Rattle.multigraph.specs.Graph.{Multigraph, edge_count}
+use Rattle.permutations.proofs.Search.{some-ext, some-none}
+use Rattle.multigraph.specs.Graph.{Multigraph, edge_count, ends_of, is_end}
+use Rattle.multigraph.proofs.OtherEnd.{is_end-cases}
 use Rattle.pair_split.proofs.Elements.{contains-here, contains-cases, contains-none, contains-filter, filter-contains, contains-map}
-use Rattle.tree_unique.specs.Separations.{other_side, is_shared, IsSeparation, DoCross, IsGood, AreSameSide}
-use Rattle.tree_unique.proofs.Sides.{touches-ext}
+use Rattle.tree_unique.specs.Separations.{other_side, IsSeparation, DoCross, IsGood, AreSameSide}
+use Rattle.pair_split.proofs.GraphSides.{common-same}
+use Rattle.tree_unique.proofs.Counting.{Two, two-of, two-count, two-most, third-of}
+use Rattle.tree_unique.proofs.Sides.{is_shared, common-shared, shared-common}
 
 -- all lists of n truth values
 abbrev pub values : ℕ → List (List Bool)
@@ -64,12 +67,33 @@ table-side zero s e l = absurd (omega (arith, l))
 table-side (suc n) s zero l = refl
 table-side (suc n) s (suc e) l = table-side n (λ e. s (suc e)) e (omega (arith, l))
 
+-- all ends are vertices
+abbrev pub are_in_range : Multigraph → Bool
+are_in_range g = not (some (edge_count g) (λ e. not (nat_lt (ends_of g e).0 g.vertex_count && nat_lt (ends_of g e).1 g.vertex_count)))
+
+range-end : (g : Multigraph) → are_in_range g ≡ true → (v e : ℕ) → e < edge_count g → is_end g v e ≡ true → v < g.vertex_count
+range-end g r v e l h =
+    let p = and_parts (nat_lt (ends_of g e).0 g.vertex_count) (nat_lt (ends_of g e).1 g.vertex_count) (back (some-none (edge_count g) (λ e. not (nat_lt (ends_of g e).0 g.vertex_count && nat_lt (ends_of g e).1 g.vertex_count))
+    (not-true (some (edge_count g) (λ e. not (nat_lt (ends_of g e).0 g.vertex_count && nat_lt (ends_of g e).1 g.vertex_count))) r) e l)) in
+    elim (is_end-cases g v e h) [
+      | inl a ↦ subst (λ z. z < g.vertex_count) a (ltb-true (ends_of g e).0 g.vertex_count p.0)
+      | inr a ↦ subst (λ z. z < g.vertex_count) a (ltb-true (ends_of g e).1 g.vertex_count p.1)
+    ]
+  where
+    back : {a : Bool} → not a ≡ false → a ≡ true
+    back {a} q = grind (arith, q, cases_Bool a)
+
 -- only the values at edges matter
 separation-same : (g : Multigraph) (s t : ℕ → Bool) → AreSameSide g s t → IsSeparation g s → IsSeparation g t
 separation-same g s t h i = record {
+  first = i.first;
+  second = i.second;
+  differ = i.differ;
+  first_common = common-same g s t h i.first i.first_common;
+  second_common = common-same g s t h i.second i.second_common;
+  no_other = λ v c. i.no_other v (common-same g t s (λ e l. sym (h e l)) v c);
   two_inside = subst (λ z. 2 ≤ z) (count-ext (edge_count g) s t h) i.two_inside;
   two_outside = subst (λ z. 2 ≤ z) (count-ext (edge_count g) (other_side s) (other_side t) (λ e l. ap not (h e l))) i.two_outside;
-  two_shared = sym (count-ext g.vertex_count (is_shared g s) (is_shared g t) (λ v l. ap₂ (λ x y. x && y) (touches-ext g s t v h) (touches-ext g (other_side s) (other_side t) v (λ e b. ap not (h e b))))) ∙ i.two_shared;
 }
 
 cross-same : (g : Multigraph) (s t x y : ℕ → Bool) → AreSameSide g s t → AreSameSide g x y → DoCross g s x → DoCross g t y
@@ -84,16 +108,41 @@ cross-same g s t x y h k c = record {
     at p q a e = sym (some-ext (edge_count g) p q e) ∙ a
 
 -- the tests tell
-separation-tested : (g : Multigraph) (s : ℕ → Bool) → IsSeparation g s → is_separation g s ≡ true
-separation-tested g s i = and_from (nat_lt 1 (count (edge_count g) s) && nat_lt 1 (count (edge_count g) (other_side s))) (count g.vertex_count (is_shared g s) == 2)
+separation-tested : (g : Multigraph) → are_in_range g ≡ true → (s : ℕ → Bool) → IsSeparation g s → is_separation g s ≡ true
+separation-tested g r s i = and_from (nat_lt 1 (count (edge_count g) s) && nat_lt 1 (count (edge_count g) (other_side s))) (count g.vertex_count (is_shared g s) == 2)
     (and_from (nat_lt 1 (count (edge_count g) s)) (nat_lt 1 (count (edge_count g) (other_side s))) (lt-ltb 1 (count (edge_count g) s) (omega (arith, i.two_inside))) (lt-ltb 1 (count (edge_count g) (other_side s)) (omega (arith, i.two_outside))))
-    (eq-eqb (count g.vertex_count (is_shared g s)) 2 i.two_shared)
+    (eq-eqb (count g.vertex_count (is_shared g s)) 2 (omega (arith, most, least)))
+  where
+    most : count g.vertex_count (is_shared g s) ≤ 2
+    most = two-most g.vertex_count (is_shared g s) i.first i.second (λ v l h. i.no_other v (shared-common g s v h))
 
-tested-separation : (g : Multigraph) (s : ℕ → Bool) → is_separation g s ≡ true → IsSeparation g s
-tested-separation g s h =
+    least : 2 ≤ count g.vertex_count (is_shared g s)
+    least = two-count g.vertex_count (is_shared g s) (record {
+      first = i.first;
+      second = i.second;
+      differ = i.differ;
+      first_in = range-end g r i.first i.first_common.inside i.first_common.inside_edge i.first_common.inside_end;
+      second_in = range-end g r i.second i.second_common.inside i.second_common.inside_edge i.second_common.inside_end;
+      first_on = common-shared g s i.first i.first_common;
+      second_on = common-shared g s i.second i.second_common;
+    })
+
+tested-separation : (g : Multigraph) → are_in_range g ≡ true → (s : ℕ → Bool) → is_separation g s ≡ true → IsSeparation g s
+tested-separation g r s h =
     let p = and_parts (nat_lt 1 (count (edge_count g) s) && nat_lt 1 (count (edge_count g) (other_side s))) (count g.vertex_count (is_shared g s) == 2) h in
     let q = and_parts (nat_lt 1 (count (edge_count g) s)) (nat_lt 1 (count (edge_count g) (other_side s))) p.0 in
-    record { two_inside = omega (arith, ltb-true 1 (count (edge_count g) s) q.0); two_outside = omega (arith, ltb-true 1 (count (edge_count g) (other_side s)) q.1); two_shared = eqb-true (count g.vertex_count (is_shared g s)) 2 p.1 }
+    let two : count g.vertex_count (is_shared g s) ≡ 2 = eqb-true (count g.vertex_count (is_shared g s)) 2 p.1 in
+    let w : Two g.vertex_count (is_shared g s) = two-of g.vertex_count (is_shared g s) (omega (arith, two)) in
+    record {
+      first = w.first;
+      second = w.second;
+      differ = w.differ;
+      first_common = shared-common g s w.first w.first_on;
+      second_common = shared-common g s w.second w.second_on;
+      no_other = λ v c. third-of g.vertex_count (is_shared g s) (omega (arith, two)) w v (range-end g r v c.inside c.inside_edge c.inside_end) (common-shared g s v c);
+      two_inside = omega (arith, ltb-true 1 (count (edge_count g) s) q.0);
+      two_outside = omega (arith, ltb-true 1 (count (edge_count g) (other_side s)) q.1);
+    }
 
 cross-tested : (g : Multigraph) (s t : ℕ → Bool) → DoCross g s t → do_cross g s t ≡ true
 cross-tested g s t c = and_from (some (edge_count g) (λ e. s e && t e) && some (edge_count g) (λ e. s e && not (t e))) (some (edge_count g) (λ e. not (s e) && t e) && some (edge_count g) (λ e. not (s e) && not (t e)))
@@ -124,25 +173,25 @@ from-none g s (k ∷ rest) l h c =
     ]
 
 -- the values of a side of a 2-separation are found
-separation-found : (g : Multigraph) (s : ℕ → Bool) → IsSeparation g s → Contains (separations g) (table (edge_count g) s)
-separation-found g s i = contains-filter (λ l. is_separation g (side_of l)) (table (edge_count g) s) (values (edge_count g)) (table-value (edge_count g) s)
-    (separation-tested g (side_of (table (edge_count g) s)) (separation-same g s (side_of (table (edge_count g) s)) (table-side (edge_count g) s) i))
+separation-found : (g : Multigraph) → are_in_range g ≡ true → (s : ℕ → Bool) → IsSeparation g s → Contains (separations g) (table (edge_count g) s)
+separation-found g r s i = contains-filter (λ l. is_separation g (side_of l)) (table (edge_count g) s) (values (edge_count g)) (table-value (edge_count g) s)
+    (separation-tested g r (side_of (table (edge_count g) s)) (separation-same g s (side_of (table (edge_count g) s)) (table-side (edge_count g) s) i))
 
 -- the values of a side of a good 2-separation are listed
-pub good-listed : (g : Multigraph) (s : ℕ → Bool) → IsGood g s → Contains (good g) (table (edge_count g) s)
-good-listed g s i = contains-filter (λ l. none_cross g (side_of l) (separations g)) (table (edge_count g) s) (separations g) (separation-found g s i.separation)
+pub good-listed : (g : Multigraph) → are_in_range g ≡ true → (s : ℕ → Bool) → IsGood g s → Contains (good g) (table (edge_count g) s)
+good-listed g r s i = contains-filter (λ l. none_cross g (side_of l) (separations g)) (table (edge_count g) s) (separations g) (separation-found g r s i.separation)
     (none-from g (side_of (table (edge_count g) s)) (separations g) (λ l c. elim (cases_Bool (do_cross g (side_of (table (edge_count g) s)) (side_of l))) [
       | inr n ↦ n
-      | inl y ↦ absurd (i.uncrossed (side_of l) (tested-separation g (side_of l) (filter-contains (λ l. is_separation g (side_of l)) l (values (edge_count g)) c).1)
+      | inl y ↦ absurd (i.uncrossed (side_of l) (tested-separation g r (side_of l) (filter-contains (λ l. is_separation g (side_of l)) l (values (edge_count g)) c).1)
           (cross-same g (side_of (table (edge_count g) s)) s (side_of l) (side_of l) (λ e b. sym (table-side (edge_count g) s e b)) (λ e b. refl) (tested-cross g (side_of (table (edge_count g) s)) (side_of l) y)))
     ]))
 
 -- and what is listed is a side of a good 2-separation
-pub listed-good : (g : Multigraph) (l : List Bool) → Contains (good g) l → IsGood g (side_of l)
-listed-good g l c =
+pub listed-good : (g : Multigraph) → are_in_range g ≡ true → (l : List Bool) → Contains (good g) l → IsGood g (side_of l)
+listed-good g r l c =
     let p = filter-contains (λ l. none_cross g (side_of l) (separations g)) l (separations g) c in
     record {
-      separation = tested-separation g (side_of l) (filter-contains (λ l. is_separation g (side_of l)) l (values (edge_count g)) p.0).1;
-      uncrossed = λ t i d. both_ways (do_cross g (side_of l) (side_of (table (edge_count g) t))) (from-none g (side_of l) (separations g) (table (edge_count g) t) p.1 (separation-found g t i))
+      separation = tested-separation g r (side_of l) (filter-contains (λ l. is_separation g (side_of l)) l (values (edge_count g)) p.0).1;
+      uncrossed = λ t i d. both_ways (do_cross g (side_of l) (side_of (table (edge_count g) t))) (from-none g (side_of l) (separations g) (table (edge_count g) t) p.1 (separation-found g r t i))
           (cross-tested g (side_of l) (side_of (table (edge_count g) t)) (cross-same g (side_of l) (side_of l) t (side_of (table (edge_count g) t)) (λ e b. refl) (table-side (edge_count g) t) d));
     }

@@ -1,14 +1,14 @@
 -- Seen from one component, all of another one but what lies on the way back is beyond one link; and a walk along links comes to
 -- its end.
 use Rattle.std.proofs.Common.{◌≡◌, ◌≢◌, ℕ, zero, suc, ◌<◌, ◌⊎◌, ◌==◌, ◌&&◌, ◌||◌, inl, inr, Bool, true, false, not, List, length, filter, refl, sym, ap, ◌∙◌, subst, arith}
-use Rattle.std.proofs.lemmas.Bool.{cases_Bool, cases_eq, cases_lt, both_ways, or_cases, and_parts, eqb-true, not_from_false, not_from_true, not-true, false_from_ne_true}
+use Rattle.std.proofs.lemmas.Bool.{cases_Bool, cases_eq, cases_lt, both_ways, or_cases, and_parts, eqb-true, not_from_false, not-true, false_from_ne_true}
 use Rattle.permutations.specs.Count.{count, some}
 use Rattle.permutations.specs.Relation.{connected}
 use Rattle.permutations.proofs.Count.{count-same}
-use Rattle.permutations.proofs.Search.{some-from, some-witness, some-none}
+use Rattle.permutations.proofs.Search.{some-from, some-witness}
 use Rattle.permutations.proofs.Relation.{connected-symmetric, connected-transitive, connected-link, same-tests}
 use Rattle.multigraph.specs.Graph.{Multigraph, edge_count}
-use Rattle.pair_split.specs.Split.{items_of, item_at, StandsFor, all_links, joins_others, is_beyond, side, LinksTo, AreLinked, IsSplit}
+use Rattle.pair_split.specs.Split.{items_of, item_at, all_links, joins_others, is_beyond, side, LinksTo, AreLinked, IsSplit}
 use Rattle.pair_split.specs.Tutte.{has_in_group}
 use Rattle.pair_split.specs.declared.components.Comp.{Comp}
 use Rattle.pair_split.specs.declared.components.What.{What}
@@ -17,7 +17,7 @@ use Rattle.pair_split.proofs.Elements.{contains-filter}
 use Rattle.pair_split.proofs.Links.{link-contained, stands-in}
 use Rattle.pair_split.proofs.Subtrees.{link-in}
 use Rattle.pair_split.proofs.Groups.{side-at, group-cases}
-use Rattle.pair_split.proofs.TreeSides.{link-from, link-back, beyond-far, beyond-near, beyond-other, beyond-apart}
+use Rattle.pair_split.proofs.TreeSides.{link-from, link-back, beyond-far, beyond-near, beyond-apart}
 
 -- the link is not the one between k and j
 abbrev IsOther : ℕ → ℕ → ℕ → ℕ → Type 0
