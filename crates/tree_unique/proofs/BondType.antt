@@ -1,7 +1,7 @@
 -- A side that crosses a link so that only the link's ends are touched by both parts of a component's own side: then the
 -- component is a bond.
-use Rattle.std.proofs.Common.{◌≡◌, ◌≢◌, ℕ, ◌<◌, ◌⊎◌, inl, inr, Bool, true, false, not, List, length, refl, sym, ap, ◌∙◌, subst}
-use Rattle.std.proofs.lemmas.Bool.{cases_eq, both_ways, not-true}
+use Rattle.std.proofs.Common.{◌≡◌, ◌≢◌, ℕ, ◌<◌, ◌⊎◌, inl, inr, Bool, true, false, List, length, sym, ap, ◌∙◌, subst}
+use Rattle.std.proofs.lemmas.Bool.{not-false, cases_eq, both_ways, not-true}
 use Rattle.multigraph.specs.Graph.{Multigraph, edge_count, is_end}
 use Rattle.graph_theory.specs.Block.{IsOneBlock}
 use Rattle.pair_split.specs.Skeleton.{IsPolygon, IsRigid}
@@ -24,11 +24,7 @@ module _ (g : Multigraph) (block : IsOneBlock g) (comps : List Comp) (s : IsSpli
   MeetInEnds x h = (v e f : ℕ) → e < edge_count g → f < edge_count g → is_end g v e ≡ true → is_end g v f ≡ true → pl e ≢ h → pl f ≢ h → x e ≡ true → x f ≡ false → is_at comps k h v ≡ true
 
   meet-other : (x : ℕ → Bool) (h : ℕ) → MeetInEnds x h → MeetInEnds (other_side x) h
-  meet-other x h m v e f b c p q n o y z = m v f e c b q p o n (back (x f) z) (not-true (x e) y)
-    where
-      back : (a : Bool) → not a ≡ false → a ≡ true
-      back true h = refl
-      back false h = sym h
+  meet-other x h m v e f b c p q n o y z = m v f e c b q p o n (not-false (x f) z) (not-true (x e) y)
 
   module _ (simple : IsSimpleAt comps k) (h : ℕ) (lh : h < size) where
     -- each half of a parted place meets the rest in ends of the item

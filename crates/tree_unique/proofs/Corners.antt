@@ -194,10 +194,8 @@ module _ (n : ℕ) (a b c d : ℕ → Bool) (h : AreCorners n a b c d) where
     pub between_only : (v : ℕ) → v < n → a v ≡ true → b v ≡ true → v ≡ between
     pub between_not : first_common (a between) (b between) (c between) (d between) ≡ false
     pub front : ℕ
-    pub front_in : front < n
     pub front_at : n14 front ≡ true
     pub back : ℕ
-    pub back_in : back < n
     pub back_at : n23 back ≡ true
 
   pub ring-type : ((v : ℕ) → v < n → n4 v ≡ false) → RingType
@@ -211,10 +209,8 @@ module _ (n : ℕ) (a b c d : ℕ → Bool) (h : AreCorners n a b c d) where
             (grind (arith, (parts v l).pair x y, none v l, cases_Bool (n12 v), cases_Bool (n4 v))) u.2;
         between_not = grind (arith, u.2, cases_Bool (a u.0), cases_Bool (b u.0), cases_Bool (c u.0), cases_Bool (d u.0));
         front = p.0;
-        front_in = p.1;
         front_at = p.2;
         back = q.0;
-        back_in = q.1;
         back_at = q.2;
       }
     where

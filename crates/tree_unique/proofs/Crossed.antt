@@ -23,6 +23,10 @@ use Rattle.tree_unique.proofs.Items.{end-cases, is_at, place, link-place, place-
 use Rattle.tree_unique.proofs.BondType.{MeetInEnds, bond-rigid, bond-polygon}
 use Rattle.tree_unique.proofs.RingType.{IsRing, ring-bond, ring-rigid}
 
+-- not twice
+twice : (a b : Bool) → (not (not a) && b) ≡ (a && b)
+twice a b = grind (arith, cases_Bool a)
+
 -- whether an edge of each corner has the end v
 abbrev pub in_all : Multigraph → (ℕ → Bool) → (ℕ → Bool) → ℕ → Bool
 in_all g s x v = all_four (touches g (both s x) v) (touches g (both s (other_side x)) v) (touches g (both (other_side s) (other_side x)) v) (touches g (both (other_side s) x) v)
@@ -39,9 +43,6 @@ type-other g s t x h = some-ext (vertex_bound g) (in_all g t x) (in_all g s x) (
     (touches-ext g (both (other_side t) (other_side x)) (both s (other_side x)) v (λ e b. ap (λ (c : Bool). not c && not (x e)) (h e b) ∙ twice (s e) (not (x e))))
     (touches-ext g (both (other_side t) x) (both s x) v (λ e b. ap (λ (c : Bool). not c && x e) (h e b) ∙ twice (s e) (x e))))
   where
-    twice : (a b : Bool) → (not (not a) && b) ≡ (a && b)
-    twice a b = grind (arith, cases_Bool a)
-
     turned : {a b c d p q r u : Bool} → a ≡ u → b ≡ r → c ≡ q → d ≡ p → all_four a b c d ≡ all_four p q r u
     turned {a} {b} {c} {d} {p} {q} {r} {u} e f i j = grind (arith, e, f, i, j, cases_Bool p, cases_Bool q, cases_Bool r, cases_Bool u)
 
@@ -54,9 +55,6 @@ cross-other g s t x h c = record {
   neither = at (λ e. s e && not (x e)) (λ e. not (t e) && not (x e)) c.first_alone (λ e b. sym (ap (λ (z : Bool). not z && not (x e)) (h e b) ∙ twice (s e) (not (x e))));
 }
   where
-    twice : (a b : Bool) → (not (not a) && b) ≡ (a && b)
-    twice a b = grind (arith, cases_Bool a)
-
     at : (p q : ℕ → Bool) → some (edge_count g) p ≡ true → ((e : ℕ) → e < edge_count g → p e ≡ q e) → some (edge_count g) q ≡ true
     at p q y e = sym (some-ext (edge_count g) p q e) ∙ y
 

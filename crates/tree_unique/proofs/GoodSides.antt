@@ -1,13 +1,13 @@
 -- Each side of a good 2-separation of a block is the side of a link of its tree.
 use Rattle.std.proofs.Common.{◌≡◌, ◌≢◌, ℕ, ◌<◌, ◌≤◌, ◌⊎◌, ◌==◌, ◌&&◌, ◌||◌, inl, inr, Bool, true, false, not, List, length, refl, sym, ap, ◌∙◌, subst, arith}
-use Rattle.std.proofs.lemmas.Bool.{cases_Bool, cases_eq, both_ways, and_from, and_parts, or_cases, or_left, or_right, or_from, eq-eqb, eqb-true, ne_eqb, not-true, not_from_false, not_from_true}
+use Rattle.std.proofs.lemmas.Bool.{not-false, cases_Bool, cases_eq, both_ways, and_from, and_parts, or_cases, or_left, or_right, or_from, eq-eqb, eqb-true, ne_eqb, not-true, not_from_false, not_from_true}
 use Rattle.permutations.specs.Count.{some}
 use Rattle.permutations.proofs.Relation.{same-tests}
 use Rattle.permutations.proofs.Search.{some-from, some-witness, some-none}
 use Rattle.multigraph.specs.Graph.{Multigraph, edge_count, is_end}
 use Rattle.graph_theory.specs.Block.{IsOneBlock}
 use Rattle.graph_theory.specs.Side.{IsCommon}
-use Rattle.pair_split.specs.Skeleton.{is_end_of, IsOfKind, IsPolygon, IsBond}
+use Rattle.pair_split.specs.Skeleton.{IsOfKind, IsPolygon, IsBond}
 use Rattle.pair_split.specs.Split.{component_at, items_of, item_at, piece_ends, skeleton, side, LinksTo, IsSplit}
 use Rattle.pair_split.specs.declared.components.Comp.{Comp}
 use Rattle.pair_split.specs.declared.components.Kind.{Kind}
@@ -18,16 +18,9 @@ use Rattle.tree_unique.specs.Separations.{other_side, IsGood, AreSameSide}
 use Rattle.tree_unique.proofs.Counting.{Two, two-of}
 use Rattle.tree_unique.proofs.Sides.{separation-from}
 use Rattle.tree_unique.proofs.Toward.{sink}
-use Rattle.tree_unique.proofs.Items.{end-cases, first-end, second-end, is_at, place, place-in, ends-differ, PlaceAt, at-edge, edges-at, chosen, chosen-in, link-place, place-link, place-real, skeleton-length}
+use Rattle.tree_unique.proofs.Items.{end-cases, other-end, first-end, second-end, is_at, place, place-in, ends-differ, PlaceAt, at-edge, edges-at, chosen, chosen-in, link-place, place-link, place-real, skeleton-length}
 use Rattle.tree_unique.proofs.SkeletonKinds.{IsSimpleAt, polygon-two, bond-ends, rigid-simple, rigid-apart}
 use Rattle.tree_unique.proofs.Crossed.{link-separation}
-
--- an end of a pair, and the other one
-other-end : (ends : ℕ × ℕ) (p : ℕ) → is_end_of p ends ≡ true → (y : ℕ) × ((v : ℕ) → is_end_of v ends ≡ true → (v ≡ p) ⊎ (v ≡ y))
-other-end ends p h = elim (end-cases p ends h) [
-  | inl e ↦ (ends.1, λ v t. elim (end-cases v ends t) [ inl f ↦ inl (f ∙ sym e) | inr f ↦ inr f ])
-  | inr e ↦ (ends.0, λ v t. elim (end-cases v ends t) [ inl f ↦ inr f | inr f ↦ inl (f ∙ sym e) ])
-]
 
 module _ (g : Multigraph) (block : IsOneBlock g) (comps : List Comp) (s : IsSplit g comps) (x : ℕ → Bool) (good : IsGood g x) where
   abbrev m : ℕ
@@ -42,8 +35,8 @@ module _ (g : Multigraph) (block : IsOneBlock g) (comps : List Comp) (s : IsSpli
   turn k j l h = elim (cases_Bool (is_inside j k)) [
     | inl y ↦ y
     | inr n ↦
-        let b = and_parts (some m (λ e. side comps k j e && x e)) (some m (λ e. side comps k j e && not (x e))) (back h) in
-        let c = and_parts (some m (λ e. side comps j k e && x e)) (some m (λ e. side comps j k e && not (x e))) (back n) in
+        let b = and_parts (some m (λ e. side comps k j e && x e)) (some m (λ e. side comps k j e && not (x e))) (not-false (some m (λ e. side comps k j e && x e) && some m (λ e. side comps k j e && not (x e))) h) in
+        let c = and_parts (some m (λ e. side comps j k e && x e)) (some m (λ e. side comps j k e && not (x e))) (not-false (some m (λ e. side comps j k e && x e) && some m (λ e. side comps j k e && not (x e))) n) in
         absurd (good.uncrossed (side comps k j) (link-separation g block comps s k j l) (record {
           both = at (side comps k j) x (λ e. x e && side comps k j e) b.0 (λ e d y z. and_from (x e) (side comps k j e) z y);
           first_alone = at (side comps j k) x (λ e. x e && not (side comps k j e)) c.0 (λ e d y z. and_from (x e) (not (side comps k j e)) z (near e d y));
@@ -52,9 +45,6 @@ module _ (g : Multigraph) (block : IsOneBlock g) (comps : List Comp) (s : IsSpli
         }))
   ]
     where
-      back : {a : Bool} → not a ≡ false → a ≡ true
-      back {a} q = grind (arith, q, cases_Bool a)
-
       near : (e : ℕ) → e < m → side comps j k e ≡ true → not (side comps k j e) ≡ true
       near e d y = sym (side-other g comps s j k e (link-back comps s.linked k j l) d) ∙ y
 
@@ -343,11 +333,11 @@ module _ (g : Multigraph) (block : IsOneBlock g) (comps : List Comp) (s : IsSpli
       not-polygon : IsPolygon (skeleton comps k) → ⊥
       not-polygon b = crossed a.0 c.0 only
         where
-          a : (y : ℕ) × ((v : ℕ) → is_at comps k i v ≡ true → (v ≡ p) ⊎ (v ≡ y))
-          a = other-end (piece_ends (item_at comps k i)) p at_i
+          a : (y : ℕ) × (y ≢ p) × ((v : ℕ) → is_at comps k i v ≡ true → (v ≡ p) ⊎ (v ≡ y))
+          a = other-end g comps s k lk i p li at_i
 
-          c : (y : ℕ) × ((v : ℕ) → is_at comps k h v ≡ true → (v ≡ p) ⊎ (v ≡ y))
-          c = other-end (piece_ends (item_at comps k h)) p at_h
+          c : (y : ℕ) × (y ≢ p) × ((v : ℕ) → is_at comps k h v ≡ true → (v ≡ p) ⊎ (v ≡ y))
+          c = other-end g comps s k lk h p lh at_h
 
           -- no other item has the vertex between them as an end
           between : (d v : ℕ) → d < size → d ≢ i → d ≢ h → is_at comps k d v ≡ true → v ≢ p
@@ -355,8 +345,8 @@ module _ (g : Multigraph) (block : IsOneBlock g) (comps : List Comp) (s : IsSpli
 
           only : (r d v : ℕ) → (r ≡ i) ⊎ (r ≡ h) → d < size → d ≢ i → d ≢ h → is_at comps k r v ≡ true → is_at comps k d v ≡ true → (v ≡ a.0) ⊎ (v ≡ c.0)
           only r d v w ld n o y u = elim w [
-            | inl e ↦ elim (a.1 v (subst (λ j. is_at comps k j v ≡ true) e y)) [ inl f ↦ absurd (between d v ld n o u f) | inr f ↦ inl f ]
-            | inr e ↦ elim (c.1 v (subst (λ j. is_at comps k j v ≡ true) e y)) [ inl f ↦ absurd (between d v ld n o u f) | inr f ↦ inr f ]
+            | inl e ↦ elim (a.2 v (subst (λ j. is_at comps k j v ≡ true) e y)) [ inl f ↦ absurd (between d v ld n o u f) | inr f ↦ inl f ]
+            | inr e ↦ elim (c.2 v (subst (λ j. is_at comps k j v ≡ true) e y)) [ inl f ↦ absurd (between d v ld n o u f) | inr f ↦ inr f ]
           ]
 
       -- so no component has

@@ -93,6 +93,13 @@ module _ (g : Multigraph) (comps : List Comp) (s : IsSplit g comps) (k : ℕ) (l
   pub ends-differ : (i : ℕ) → i < size → (piece_ends (item_at comps k i)).0 ≢ (piece_ends (item_at comps k i)).1
   ends-differ i b = subst (λ (z : ℕ × ℕ). z.0 ≢ z.1) (skeleton-at comps k i b) (All-get_or (λ (z : ℕ × ℕ). z.0 ≢ z.1) (skeleton comps k) i (0, 0) (omega (arith, b, skeleton-length comps k)) (s.of_kind.kinds k l).no_loops)
 
+  -- an end of an item, and the other one
+  pub other-end : (i p : ℕ) → i < size → is_at comps k i p ≡ true → (y : ℕ) × (y ≢ p) × ((v : ℕ) → is_at comps k i v ≡ true → (v ≡ p) ⊎ (v ≡ y))
+  other-end i p b h = elim (end-cases p (piece_ends (item_at comps k i)) h) [
+    | inl e ↦ ((piece_ends (item_at comps k i)).1, (λ q. ends-differ i b (sym (q ∙ e))), λ v t. elim (end-cases v (piece_ends (item_at comps k i)) t) [ inl f ↦ inl (f ∙ sym e) | inr f ↦ inr f ])
+    | inr e ↦ ((piece_ends (item_at comps k i)).0, (λ q. ends-differ i b (q ∙ e)), λ v t. elim (end-cases v (piece_ends (item_at comps k i)) t) [ inl f ↦ inr f | inr f ↦ inl (f ∙ sym e) ])
+  ]
+
   -- an edge of a place with a given end
   pub record PlaceAt (i v : ℕ) : Type 0 where
     pub edge : ℕ

@@ -1,17 +1,17 @@
 -- A skeleton is of one kind only.
-use Rattle.std.proofs.Common.{◌≡◌, ◌≢◌, ℕ, suc, ◌<◌, ◌⊎◌, ◌==◌, ◌||◌, inl, inr, Bool, true, false, List, [], ◌∷◌, length, slice_index_or, refl, sym, ◌∙◌, subst, arith}
+use Rattle.std.proofs.Common.{◌≡◌, ◌≢◌, ℕ, suc, ◌<◌, ◌⊎◌, ◌==◌, ◌||◌, inl, inr, Bool, true, false, List, [], ◌∷◌, length, slice_index_or, refl, sym, subst, arith}
 use Rattle.std.proofs.lemmas.Bool.{both_ways, or_cases, or_left, or_from, or_parts, eq-eqb, ne_eqb, eqb-true, true≢false}
 use Rattle.std.proofs.lemmas.List.Elements.{All-get_or}
 use Rattle.multigraph.specs.Graph.{Multigraph}
 use Rattle.pair_split.specs.Skeleton.{is_end_of, SameEnds, is_vertex, HasPoles, IsPolygon, IsRigid, IsOfKind}
-use Rattle.pair_split.specs.Split.{items_of, item_at, piece_ends, skeleton, IsSplit}
+use Rattle.pair_split.specs.Split.{items_of, skeleton, IsSplit}
 use Rattle.pair_split.specs.declared.components.Comp.{Comp}
 use Rattle.pair_split.specs.declared.components.Kind.{Kind}
 use Rattle.pair_split.specs.declared.components.Kind.TheVariants.{S, P, R, B}
 use Rattle.pair_split.proofs.Groups.{same-end}
 use Rattle.pair_split.proofs.LargeSides.{ThreeVertices, three-vertices}
 use Rattle.tree_unique.proofs.Counting.{Two, two-of}
-use Rattle.tree_unique.proofs.Items.{end-cases, is_at, ends-differ, vertex-at}
+use Rattle.tree_unique.proofs.Items.{other-end, end-cases, is_at, vertex-at}
 use Rattle.tree_unique.proofs.SkeletonKinds.{degree-count, polygon-two, rigid-apart, fourth-vertex}
 
 -- a vertex is an end of a pair
@@ -33,13 +33,6 @@ poles-three skel h t = pick (pole t.a t.a_vertex) (pole t.b t.b_vertex) (pole t.
     pick x y z = grind (arith, t.ab, t.bc, t.ca, x, y, z)
 
 module _ (g : Multigraph) (comps : List Comp) (s : IsSplit g comps) (k : ℕ) (l : k < length comps) where
-  -- the other end of an item
-  other : (i p : ℕ) → i < length (items_of comps k) → is_at comps k i p ≡ true → (y : ℕ) × (y ≢ p) × ((v : ℕ) → is_at comps k i v ≡ true → (v ≡ p) ⊎ (v ≡ y))
-  other i p b h = elim (end-cases p (piece_ends (item_at comps k i)) h) [
-    | inl e ↦ ((piece_ends (item_at comps k i)).1, (λ q. ends-differ g comps s k l i b (sym (q ∙ e))), λ v t. elim (end-cases v (piece_ends (item_at comps k i)) t) [ inl f ↦ inl (f ∙ sym e) | inr f ↦ inr f ])
-    | inr e ↦ ((piece_ends (item_at comps k i)).0, (λ q. ends-differ g comps s k l i b (q ∙ e)), λ v t. elim (end-cases v (piece_ends (item_at comps k i)) t) [ inl f ↦ inr f | inr f ↦ inl (f ∙ sym e) ])
-  ]
-
   -- a polygon is not triconnected: a vertex is parted from the others by its two neighbours
   polygon-rigid : IsPolygon (skeleton comps k) → IsRigid (skeleton comps k) → ⊥
   polygon-rigid p r =
@@ -56,10 +49,10 @@ module _ (g : Multigraph) (comps : List Comp) (s : IsSplit g comps) (k : ℕ) (l
       w = two-of (length (items_of comps k)) (λ i. is_at comps k i v) (omega (arith, degree-count comps k v, p.degrees v three.a_vertex))
 
       y : (y : ℕ) × (y ≢ v) × ((x : ℕ) → is_at comps k w.first x ≡ true → (x ≡ v) ⊎ (x ≡ y))
-      y = other w.first v w.first_in w.first_on
+      y = other-end g comps s k l w.first v w.first_in w.first_on
 
       z : (y : ℕ) × (y ≢ v) × ((x : ℕ) → is_at comps k w.second x ≡ true → (x ≡ v) ⊎ (x ≡ y))
-      z = other w.second v w.second_in w.second_on
+      z = other-end g comps s k l w.second v w.second_in w.second_on
 
       t : ℕ → Bool
       t i = (i == w.first) || (i == w.second)

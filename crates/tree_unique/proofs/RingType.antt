@@ -1,7 +1,7 @@
 -- A side that crosses a link so that the two parts of a component's own side share one vertex between them: then the component
 -- is a polygon.
-use Rattle.std.proofs.Common.{◌≡◌, ◌≢◌, ℕ, ◌<◌, ◌≤◌, ◌⊎◌, ◌==◌, ◌||◌, inl, inr, Bool, true, false, not, List, length, refl, sym, ap, ◌∙◌, subst}
-use Rattle.std.proofs.lemmas.Bool.{cases_Bool, cases_eq, both_ways, or_cases, or_left, or_parts, or_from, eq-eqb, ne_eqb, eqb-true, not-true, not_from_false, not_from_true}
+use Rattle.std.proofs.Common.{◌≡◌, ◌≢◌, ℕ, ◌<◌, ◌≤◌, ◌⊎◌, ◌==◌, ◌||◌, inl, inr, Bool, true, false, not, List, length, sym, ap, ◌∙◌, subst}
+use Rattle.std.proofs.lemmas.Bool.{cases_Bool, cases_eq, both_ways, or_cases, or_left, or_parts, or_from, eq-eqb, ne_eqb, eqb-true, not-true, not-false, not_from_false, not_from_true}
 use Rattle.multigraph.specs.Graph.{Multigraph, edge_count, is_end}
 use Rattle.graph_theory.specs.Block.{IsOneBlock}
 use Rattle.pair_split.specs.Skeleton.{IsBond, IsRigid}
@@ -31,13 +31,9 @@ module _ (g : Multigraph) (block : IsOneBlock g) (comps : List Comp) (s : IsSpli
     pub front_side : (e : ℕ) → e < edge_count g → pl e ≢ h → is_end g p e ≡ true → x e ≡ true
     pub back_side : (e : ℕ) → e < edge_count g → pl e ≢ h → is_end g q e ≡ true → x e ≡ false
 
-  from-not : (a : Bool) → not a ≡ false → a ≡ true
-  from-not true t = refl
-  from-not false t = sym t
-
   ring-other : (x : ℕ → Bool) (u p q : ℕ) → IsRing x u p q → IsRing (other_side x) u q p
   ring-other x u p q r = record {
-    only = λ v e f b c ve vf n o y z. r.only v f e c b vf ve o n (from-not (x f) z) (not-true (x e) y);
+    only = λ v e f b c ve vf n o y z. r.only v f e c b vf ve o n (not-false (x f) z) (not-true (x e) y);
     between_off = r.between_off;
     front = r.back;
     back = r.front;
@@ -145,7 +141,7 @@ module _ (g : Multigraph) (block : IsOneBlock g) (comps : List Comp) (s : IsSpli
     off-end : (c : ℕ) → HalfAt g block comps s k l (other_side x) i c → (c ≡ u) ⊎ (is_at comps k i c ≡ true)
     off-end c y = elim y.kind [
       | inl e ↦ inr e
-      | inr o ↦ inl (r.only c o.edge y.edge o.edge_in y.edge_in o.end y.end (not_h o.edge o.place_is) (not_h y.edge y.place_is) (from-not (x o.edge) o.off) (not-true (x y.edge) y.on))
+      | inr o ↦ inl (r.only c o.edge y.edge o.edge_in y.edge_in o.end y.end (not_h o.edge o.place_is) (not_h y.edge y.place_is) (not-false (x o.edge) o.off) (not-true (x y.edge) y.on))
     ]
 
     -- two different ends of the item that the side has are not both touched off it

@@ -1,6 +1,6 @@
 -- Good 2-separations decided: each side that there is, as a list of truth values, tested against all others.
 use Rattle.std.proofs.Common.{◌≡◌, ℕ, zero, suc, ◌<◌, ◌≤◌, ◌==◌, ◌&&◌, inl, inr, Bool, true, false, not, nat_lt, List, [], ◌∷◌, ◌++◌, map, filter, slice_index_or, refl, sym, ap, ap₂, ◌∙◌, subst, arith, Contains}
-use Rattle.std.proofs.lemmas.Bool.{cases_Bool, both_ways, and_from, and_parts, ltb-true, lt-ltb, eqb-true, eq-eqb, not-true, not_from_false}
+use Rattle.std.proofs.lemmas.Bool.{not-false, cases_Bool, both_ways, and_from, and_parts, ltb-true, lt-ltb, eqb-true, eq-eqb, not-true, not_from_false}
 use Rattle.std.proofs.lemmas.List.Elements.{Contains-append_left, Contains-append_right}
 use Rattle.permutations.specs.Count.{count, some}
 use Rattle.permutations.proofs.Count.{count-ext}
@@ -73,15 +73,12 @@ are_in_range g = not (some (edge_count g) (λ e. not (nat_lt (ends_of g e).0 g.v
 
 range-end : (g : Multigraph) → are_in_range g ≡ true → (v e : ℕ) → e < edge_count g → is_end g v e ≡ true → v < g.vertex_count
 range-end g r v e l h =
-    let p = and_parts (nat_lt (ends_of g e).0 g.vertex_count) (nat_lt (ends_of g e).1 g.vertex_count) (back (some-none (edge_count g) (λ e. not (nat_lt (ends_of g e).0 g.vertex_count && nat_lt (ends_of g e).1 g.vertex_count))
+    let p = and_parts (nat_lt (ends_of g e).0 g.vertex_count) (nat_lt (ends_of g e).1 g.vertex_count) (not-false (nat_lt (ends_of g e).0 g.vertex_count && nat_lt (ends_of g e).1 g.vertex_count) (some-none (edge_count g) (λ e. not (nat_lt (ends_of g e).0 g.vertex_count && nat_lt (ends_of g e).1 g.vertex_count))
     (not-true (some (edge_count g) (λ e. not (nat_lt (ends_of g e).0 g.vertex_count && nat_lt (ends_of g e).1 g.vertex_count))) r) e l)) in
     elim (is_end-cases g v e h) [
       | inl a ↦ subst (λ z. z < g.vertex_count) a (ltb-true (ends_of g e).0 g.vertex_count p.0)
       | inr a ↦ subst (λ z. z < g.vertex_count) a (ltb-true (ends_of g e).1 g.vertex_count p.1)
     ]
-  where
-    back : {a : Bool} → not a ≡ false → a ≡ true
-    back {a} q = grind (arith, q, cases_Bool a)
 
 -- only the values at edges matter
 separation-same : (g : Multigraph) (s t : ℕ → Bool) → AreSameSide g s t → IsSeparation g s → IsSeparation g t
