@@ -1,8 +1,9 @@
--- The good 2-separations of two small graphs: each is a side of one of two, given by whether each edge is on the side.
-use Rattle.std.proofs.Common.{◌≡◌, ℕ, Bool, true, false, List, [], ◌∷◌, refl, Contains}
+-- The good 2-separations of small graphs, each side given by whether each edge is on it: two graphs have two each, a polygon and a
+-- bond have none.
+use Rattle.std.proofs.Common.{◌≡◌, ℕ, Bool, true, false, List, [], ◌∷◌, length, refl, Contains}
 use Rattle.multigraph.specs.Graph.{Multigraph}
 use Rattle.tree_unique.specs.Separations.{IsGood}
-use Rattle.tree_unique.proofs.Tested.{side_of, table, good, good-listed, listed-good}
+use Rattle.tree_unique.proofs.Tested.{side_of, table, separations, good, good-listed, listed-good}
 
 -- a square with a chord: edges 0 to 3 round the square, and edge 4 between vertices 0 and 2
 abbrev square : Multigraph
@@ -42,3 +43,23 @@ tetrahedra-only = good-listed tetrahedra refl
 
 tetrahedra-all : (l : List Bool) → Contains tetrahedra_sides l → IsGood tetrahedra (side_of l)
 tetrahedra-all = listed-good tetrahedra refl
+
+-- a polygon: of four edges on a cycle any two neighbours are a side of a 2-separation, and the two 2-separations cross
+abbrev cycle : Multigraph
+cycle = record { vertex_count = 4; ends = (0, 1) ∷ (1, 2) ∷ (2, 3) ∷ (3, 0) ∷ [] }
+
+cycle-separations : length (separations cycle) ≡ 4
+cycle-separations = refl
+
+cycle-none : good cycle ≡ []
+cycle-none = refl
+
+-- a bond: of four parallel edges any two are a side of a 2-separation, and the three 2-separations cross
+abbrev parallels : Multigraph
+parallels = record { vertex_count = 2; ends = (0, 1) ∷ (0, 1) ∷ (0, 1) ∷ (0, 1) ∷ [] }
+
+parallels-separations : length (separations parallels) ≡ 6
+parallels-separations = refl
+
+parallels-none : good parallels ≡ []
+parallels-none = refl
