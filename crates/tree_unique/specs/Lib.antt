@@ -1,0 +1,3 @@
+-- The tree of a block is the only one.
+pub mod Separations
+pub mod Laws
