@@ -1,0 +1,5 @@
+-- The lemmas on gluing along links.
+pub mod Facing
+pub mod Spread
+pub mod Unglued
+pub mod Bridges

@@ -1,0 +1,2 @@
+-- Gluing along links, and what makes an edge no bridge.
+pub mod Seams
