@@ -3,3 +3,5 @@ pub mod Facing
 pub mod Spread
 pub mod Unglued
 pub mod Bridges
+pub mod Joined
+pub mod Stages

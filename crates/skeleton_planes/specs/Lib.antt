@@ -1,2 +1,3 @@
 -- Gluing along links, and what makes an edge no bridge.
 pub mod Seams
+pub mod Links
