@@ -1,3 +1,5 @@
 -- The lemmas on skeletons.
 pub mod Rows
 mod Examples
+pub mod NodeItems
+pub mod Towards
