@@ -5,3 +5,7 @@ pub mod Unglued
 pub mod Bridges
 pub mod Joined
 pub mod Stages
+pub mod Coded
+pub mod ManyParts
+pub mod Union
+pub mod RunEnds

@@ -1,3 +1,4 @@
 -- Gluing along links, and what makes an edge no bridge.
 pub mod Seams
 pub mod Links
+pub mod Union
