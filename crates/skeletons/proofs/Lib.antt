@@ -3,3 +3,4 @@ pub mod Rows
 mod Examples
 pub mod NodeItems
 pub mod Towards
+pub mod KeyRuns
