@@ -4,3 +4,5 @@ mod Examples
 pub mod NodeItems
 pub mod Towards
 pub mod KeyRuns
+pub mod Systems
+pub mod Unique
