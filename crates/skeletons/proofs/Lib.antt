@@ -3,3 +3,6 @@ pub mod Rows
 mod Examples
 pub mod NodeItems
 pub mod Towards
+pub mod KeyRuns
+pub mod Systems
+pub mod Unique
