@@ -1,3 +1,6 @@
 -- The lemmas on connection by some edges, on sides of a tree, and on plane rotation systems.
 pub mod Joined
 pub mod Reach
+pub mod EdgesInOrder
+pub mod Opened
+pub mod Cut
