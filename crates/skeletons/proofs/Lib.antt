@@ -1,0 +1,3 @@
+-- The lemmas on skeletons.
+pub mod Rows
+mod Examples
