@@ -4,3 +4,5 @@ pub mod Reach
 pub mod EdgesInOrder
 pub mod Opened
 pub mod Cut
+pub mod Items
+pub mod Sturdy
