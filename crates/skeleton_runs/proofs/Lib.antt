@@ -6,3 +6,4 @@ pub mod Opened
 pub mod Cut
 pub mod Items
 pub mod Sturdy
+pub mod Crossing
