@@ -30,13 +30,13 @@ use Rattle.skeleton_runs.proofs.EdgesInOrder.{met-edge, met-end}
 use Rattle.skeleton_runs.proofs.Cut.{inside-both}
 
 -- the other end of a pair with the end u
-record OtherOf (ends : ℕ × ℕ) (u : ℕ) : Type 0 where
-  other : ℕ
-  is_end : is_end_of other ends ≡ true
-  differs : u ≢ other
+pub record OtherOf (ends : ℕ × ℕ) (u : ℕ) : Type 0 where
+  pub other : ℕ
+  pub is_end : is_end_of other ends ≡ true
+  pub differs : u ≢ other
 
 -- there is one where the two ends differ
-other-of : (ends : ℕ × ℕ) (u : ℕ) → ends.0 ≢ ends.1 → is_end_of u ends ≡ true → OtherOf ends u
+pub other-of : (ends : ℕ × ℕ) (u : ℕ) → ends.0 ≢ ends.1 → is_end_of u ends ≡ true → OtherOf ends u
 other-of ends u n h = elim (or_cases (ends.0 == u) (ends.1 == u) h) [
   | inl a ↦ record { other = ends.1; is_end = or_right (ends.0 == ends.1) (ends.1 == ends.1) (eq-eqb ends.1 ends.1 refl); differs = λ e. n (eqb-true ends.0 u a ∙ e) }
   | inr a ↦ record { other = ends.0; is_end = or_left (ends.0 == ends.0) (ends.1 == ends.0) (eq-eqb ends.0 ends.0 refl); differs = λ e. n (sym e ∙ sym (eqb-true ends.1 u a)) }

@@ -7,3 +7,5 @@ pub mod Cut
 pub mod Items
 pub mod Sturdy
 pub mod Crossing
+pub mod NodeItems
+pub mod Contiguous
