@@ -9,3 +9,4 @@ pub mod Sturdy
 pub mod Crossing
 pub mod NodeItems
 pub mod Contiguous
+pub mod SkeletonGraph
