@@ -10,3 +10,4 @@ pub mod Crossing
 pub mod NodeItems
 pub mod Contiguous
 pub mod SkeletonGraph
+pub mod ItemPaths
