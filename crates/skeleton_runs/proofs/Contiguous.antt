@@ -1,30 +1,27 @@
 -- In a plane rotation system of a block the groups of each node of its tree stand in runs.
 use Rattle.std.proofs.Common.{◌≡◌, ◌≢◌, ℕ, ◌<◌, ◌⊎◌, inl, inr, Bool, true, false, not, List, [], ◌∷◌, length, refl, sym, ap, ◌∙◌, subst, arith}
-use Rattle.std.proofs.lemmas.Bool.{both_ways, cases_Bool, true≢false, eqb-true, not-true, not_from_true, not_from_false, false_from_ne_true}
-use Rattle.permutations.specs.Members.{is_member, is_distinct}
+use Rattle.std.proofs.lemmas.Bool.{true≢false, eqb-true, not_from_true, not_from_false, false_from_ne_true}
+use Rattle.permutations.specs.Members.{is_member}
 use Rattle.permutations.specs.Cyclic.{FollowsAround}
 use Rattle.permutations.specs.Runs.{NothingCrosses}
 use Rattle.permutations.proofs.Members.{member-head, member-tail, distinct-head, no_member-head, no_member-tail}
 use Rattle.permutations.proofs.CyclicOrder.{around-distinct}
 use Rattle.permutations.proofs.RunsFromOrder.{runs-from_order}
-use Rattle.multigraph.specs.Graph.{Multigraph, edge_count, is_end, IsGraph}
-use Rattle.graph_theory.specs.Block.{IsOneBlock}
-use Rattle.rotations.specs.Rotation.{order_at, IsRotationSystem}
-use Rattle.faces.specs.Euler.{IsPlane}
+use Rattle.multigraph.specs.Graph.{Multigraph, edge_count, is_end}
+use Rattle.rotations.specs.Rotation.{order_at}
 use Rattle.faces.proofs.DartLemmas.{order-distinct}
-use Rattle.pair_split.specs.Skeleton.{is_end_of, SameEnds, is_vertex}
-use Rattle.pair_split.specs.Split.{component_at, items_of, item_at, piece_ends, skeleton, StandsFor, side, LinksTo, IsSplit}
-use Rattle.pair_split.specs.Tutte.{Node, components, node_at, node_item, has_in_group, group, IsTutte}
+use Rattle.pair_split.specs.Skeleton.{is_end_of, SameEnds}
+use Rattle.pair_split.specs.Split.{component_at, items_of, item_at, piece_ends, StandsFor, LinksTo, IsSplit}
+use Rattle.pair_split.specs.Tutte.{Node, components, node_item, has_in_group, group, IsTutte}
 use Rattle.pair_split.specs.declared.components.Kind.{Kind}
 use Rattle.pair_split.specs.declared.components.Kind.TheVariants.{S, P, R, B}
-use Rattle.pair_split.specs.declared.components.What.{What}
 use Rattle.pair_split.specs.declared.components.What.TheVariants.{Real, Link}
 use Rattle.pair_split.specs.declared.components.Comp.{Comp}
 use Rattle.pair_split.proofs.Subtrees.{link-in}
 use Rattle.pair_split.proofs.TreeSides.{link-from, link-back, link-differs}
-use Rattle.pair_split.proofs.Groups.{what-cases, same-end, same-end_back, side-other, in_group-link, group-some}
+use Rattle.pair_split.proofs.Groups.{what-cases, same-end_back, side-other, in_group-link, group-some}
 use Rattle.skeletons.specs.Items.{has_vertex, IsBlockTree}
-use Rattle.skeletons.specs.Round.{StandInRuns, IsContiguous}
+use Rattle.skeletons.specs.Round.{StandInRuns}
 use Rattle.skeletons.specs.Choices.{IsPlaneSystem}
 use Rattle.skeletons.specs.Laws.{PlaneIsContiguous}
 use Rattle.skeleton_runs.proofs.EdgesInOrder.{met-edge, met-end}

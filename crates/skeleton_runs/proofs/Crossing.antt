@@ -1,10 +1,10 @@
 -- In a plane rotation system of a block the group of an item of a polygon or of a triconnected component crosses no other
 -- edges at an end of the item.
-use Rattle.std.proofs.Common.{◌≡◌, ◌≢◌, ℕ, ◌<◌, ◌⊎◌, ◌&&◌, ◌||◌, ◌==◌, inl, inr, Bool, true, false, not, List, [], ◌∷◌, length, filter, map, refl, sym, ap, ◌∙◌, subst, arith, Contains}
-use Rattle.std.proofs.lemmas.Bool.{cases_Bool, cases_eq, both_ways, and_parts, and_from, or_cases, or_left, or_right, eq-eqb, eqb-true, not-true, not_from_false, false_from_ne_true}
+use Rattle.std.proofs.Common.{◌≡◌, ◌≢◌, ℕ, ◌<◌, ◌||◌, ◌==◌, inl, inr, Bool, true, false, not, List, [], ◌∷◌, length, filter, refl, sym, ◌∙◌, subst, Contains}
+use Rattle.std.proofs.lemmas.Bool.{cases_Bool, both_ways, and_parts, and_from, or_cases, or_left, or_right, eq-eqb, eqb-true, not-true, not_from_false, false_from_ne_true}
 use Rattle.std.proofs.lemmas.List.{get_or_default}
 use Rattle.permutations.specs.Members.{is_member}
-use Rattle.permutations.specs.Cyclic.{FollowsAround, IsTurn}
+use Rattle.permutations.specs.Cyclic.{FollowsAround}
 use Rattle.permutations.specs.Relation.{connected}
 use Rattle.permutations.proofs.Members.{member-head, member-tail, no_member-head, no_member-tail}
 use Rattle.permutations.proofs.CyclicOrder.{around-turned}
@@ -18,10 +18,9 @@ use Rattle.faces.specs.Euler.{IsPlane}
 use Rattle.pair_split.specs.Skeleton.{is_end_of, is_vertex, IsOfKind}
 use Rattle.pair_split.specs.Split.{component_at, items_of, item_at, piece_ends, skeleton, IsSplit}
 use Rattle.pair_split.specs.declared.components.Comp.{Comp}
-use Rattle.pair_split.specs.declared.components.Piece.{Piece}
 use Rattle.pair_split.specs.declared.components.Kind.TheVariants.{P, B}
-use Rattle.pair_split.proofs.Elements.{filter-contains, map-contains}
-use Rattle.pair_split.proofs.Groups.{group-some, group-once}
+use Rattle.pair_split.proofs.Elements.{filter-contains}
+use Rattle.pair_split.proofs.Groups.{group-some}
 use Rattle.skeleton_runs.specs.Joined.{ends_where, joined_where, avoiding}
 use Rattle.skeleton_runs.proofs.Joined.{joined-more}
 use Rattle.skeleton_runs.proofs.Items.{ends-two, in_item, skeleton-at, skeleton-in, in-skeleton, item-vertex, item-ends_differ, item-at, item-meet, item-reach, item-joined}
@@ -139,7 +138,7 @@ module _ (g : Multigraph) (comps : List Comp) (s : IsSplit g comps) (ok : IsGrap
   keep-other e l h n =
       let b : Beside e = beside e l h n in
       or_right (inside e) (not (is_end g v e)) (not_from_false (is_end g v e) (false_from_ne_true (is_end g v e) (λ t.
-          both_ways (is_end_of v (piece_ends (item_at comps k b.item))) b.off_v (item-at g comps s k b.item e v v-vertex b.item_in l t b.in_group))))
+      both_ways (is_end_of v (piece_ends (item_at comps k b.item))) b.off_v (item-at g comps s k b.item e v v-vertex b.item_in l t b.in_group))))
 
   keep-all : (e : ℕ) → e < edge_count g → is_end g u e ≡ true → keep e ≡ true
   keep-all e l h = elim (cases_Bool (inside e)) [ inl y ↦ or_left (inside e) (not (is_end g v e)) y | inr y ↦ keep-other e l h y ]

@@ -1,14 +1,14 @@
 -- At a vertex of a plane rotation system two sets of edges that meet nowhere else, each connected without the vertex, don't
 -- cross.
-use Rattle.std.proofs.Common.{◌≡◌, ◌≢◌, ℕ, ◌/◌, ◌<◌, inl, inr, Bool, true, false, not, ◌&&◌, List, [], ◌∷◌, refl, sym, ap, ◌∙◌, subst, arith}
-use Rattle.std.proofs.lemmas.Bool.{both_ways, and_parts, and_from, not-true, not_from_false}
+use Rattle.std.proofs.Common.{◌≡◌, ◌≢◌, ℕ, ◌/◌, ◌<◌, inl, inr, Bool, true, List, [], ◌∷◌, refl, sym, ap, ◌∙◌}
+use Rattle.std.proofs.lemmas.Bool.{both_ways}
 use Rattle.permutations.specs.Members.{is_member}
 use Rattle.permutations.specs.Cyclic.{FollowsAround}
 use Rattle.permutations.specs.Exchange.{restricted}
 use Rattle.permutations.proofs.Members.{member-cases, member-head, member-tail}
 use Rattle.multigraph.specs.Graph.{Multigraph, edge_count, is_end, other_end, IsGraph}
 use Rattle.rotations.specs.Rotation.{order_at, IsRotationSystem}
-use Rattle.dart_maps.specs.Map.{IsPlane as IsPlaneMap, IsMap}
+use Rattle.dart_maps.specs.Map.{IsPlane as IsPlaneMap}
 use Rattle.dart_maps.specs.Order.{connected_around}
 use Rattle.dart_maps.proofs.Plane.{restricted-plane}
 use Rattle.dart_maps.proofs.Noncrossing.{noncrossing}
@@ -18,7 +18,6 @@ use Rattle.faces.proofs.DartLemmas.{dart_from-edge}
 use Rattle.faces.proofs.MapSteps.{map-permutes}
 use Rattle.faces.proofs.MapCounts.{plane-map}
 use Rattle.skeleton_runs.specs.Joined.{joined_where, avoiding}
-use Rattle.skeleton_runs.proofs.Joined.{joined-more}
 use Rattle.skeleton_runs.proofs.EdgesInOrder.{met-edge, met-end, edges-in_order}
 use Rattle.skeleton_runs.proofs.Opened.{left-permutes, around-joined, around-apart}
 

@@ -1,11 +1,9 @@
 -- Four edges met in this order round a vertex: their darts are met in this order in each restriction that keeps them.
 use Rattle.std.proofs.Common.{◌≡◌, ◌≢◌, ℕ, ◌*◌, ◌/◌, ◌<◌, inl, inr, Bool, true, false, ◌||◌, ◌==◌, List, [], ◌∷◌, refl, sym, ap, ◌∙◌, subst, arith}
-use Rattle.std.proofs.lemmas.Bool.{cases_lt, or_cases, eq-eqb, eqb-true, ne_eqb}
+use Rattle.std.proofs.lemmas.Bool.{cases_lt, eq-eqb, eqb-true, ne_eqb}
 use Rattle.permutations.specs.Members.{is_member, is_distinct}
 use Rattle.permutations.specs.Cyclic.{successor, FollowsAround}
-use Rattle.permutations.specs.Permutation.{same_orbit}
 use Rattle.permutations.specs.Exchange.{restricted}
-use Rattle.permutations.specs.Relation.{IsEquivalence}
 use Rattle.permutations.proofs.Members.{member-head, member-tail, distinct-head, distinct-tail, no_member-head, no_member-tail}
 use Rattle.permutations.proofs.Relation.{same-tests}
 use Rattle.permutations.proofs.CyclicOrder.{around-member, around-distinct, around-successor}

@@ -1,18 +1,14 @@
 -- Through the group of each item of a node there is a path that meets the node in the item's ends alone.
-use Rattle.std.proofs.Common.{◌≡◌, ◌≢◌, ℕ, ◌<◌, ◌==◌, true, List, length, refl, sym, subst, arith}
+use Rattle.std.proofs.Common.{◌≡◌, ℕ, ◌<◌, ◌==◌, true, length, refl, sym, subst, arith}
 use Rattle.std.proofs.lemmas.Bool.{or_left, or_right, eq-eqb}
-use Rattle.permutations.specs.Members.{is_member}
-use Rattle.multigraph.specs.Graph.{Multigraph, edge_count}
-use Rattle.graph_theory.specs.Path.{walk_vertices}
 use Rattle.graph_theory.proofs.Walks.{walk-edge}
 use Rattle.pair_split.specs.Skeleton.{is_end_of}
 use Rattle.pair_split.specs.Split.{items_of, item_at, piece_ends}
-use Rattle.pair_split.specs.Tutte.{Node, components, node_at, node_item}
+use Rattle.pair_split.specs.Tutte.{components, node_item}
 use Rattle.pair_split.specs.declared.components.Piece.{Piece}
-use Rattle.skeletons.specs.Items.{has_vertex, ends_item, IsBlockTree}
 use Rattle.skeleton_runs.specs.Joined.{PathWhere}
-use Rattle.skeleton_runs.specs.Laws.{PathThrough, ItemIsPath}
-use Rattle.skeleton_runs.proofs.Items.{in_item, item-ends_differ, item-path, item-path_vertex}
+use Rattle.skeleton_runs.specs.Laws.{ItemIsPath}
+use Rattle.skeleton_runs.proofs.Items.{in_item, item-path, item-path_vertex}
 use Rattle.skeleton_runs.proofs.NodeItems.{node-piece, comp-in, piece-in, group-key, vertex-skeleton}
 
 -- the path by which the group joins the ends of its item

@@ -1,6 +1,6 @@
 -- The group of an item of a component: at which vertices of the component it has edges, and what it joins.
-use Rattle.std.proofs.Common.{◌≡◌, ◌≢◌, ℕ, zero, suc, ◌<◌, ◌⊎◌, ◌||◌, ◌==◌, inl, inr, Bool, true, false, not, List, [], ◌∷◌, length, map, slice_index_or, refl, sym, ap, ◌∙◌, subst, arith}
-use Rattle.std.proofs.lemmas.Bool.{cases_Bool, cases_eq, both_ways, and_parts, or_cases, or_left, or_right, eqb-true, false_from_ne_true, true≢false}
+use Rattle.std.proofs.Common.{◌≡◌, ◌≢◌, ℕ, zero, suc, ◌<◌, ◌⊎◌, ◌==◌, inl, inr, Bool, true, false, List, [], ◌∷◌, length, slice_index_or, sym, ◌∙◌, subst, arith}
+use Rattle.std.proofs.lemmas.Bool.{cases_eq, both_ways, or_cases, or_left, or_right, eqb-true, true≢false}
 use Rattle.std.proofs.lemmas.List.{get_or-map, length-map}
 use Rattle.std.proofs.lemmas.List.Elements.{All-get_or}
 use Rattle.permutations.specs.Members.{is_member}
@@ -15,7 +15,7 @@ use Rattle.pair_split.specs.Split.{items_of, item_at, piece_ends, skeleton, IsSp
 use Rattle.pair_split.specs.Tutte.{has_in_group}
 use Rattle.pair_split.specs.declared.components.Comp.{Comp}
 use Rattle.pair_split.specs.declared.components.What.TheVariants.{Real}
-use Rattle.pair_split.proofs.Groups.{group-some, group-once, group-common, Touched, end-touched}
+use Rattle.pair_split.proofs.Groups.{group-some, group-common, Touched, end-touched}
 use Rattle.pair_split.proofs.LargeSides.{vertex-item}
 use Rattle.skeleton_runs.specs.Joined.{joined_where, avoiding, PathWhere}
 use Rattle.skeleton_runs.proofs.Reach.{reach, reach-both, reach-path}

@@ -1,14 +1,14 @@
 -- Connection by those edges that pass a test: it is the least relation that has their ends, and it is by paths.
-use Rattle.std.proofs.Common.{◌≡◌, ◌≢◌, ℕ, ◌<◌, inl, inr, Bool, true, false, not, ◌==◌, List, [], ◌∷◌, ◌++◌, reverse, filter, refl, sym, ap, ◌∙◌, subst, arith, Contains}
-use Rattle.std.proofs.lemmas.Bool.{cases_Bool, both_ways, and_parts, and_from, or_cases, eq-eqb, eqb-true, ne_eqb, not-true, not_from_false}
+use Rattle.std.proofs.Common.{◌≡◌, ◌≢◌, ℕ, ◌<◌, inl, inr, Bool, true, false, not, ◌==◌, List, [], ◌∷◌, ◌++◌, reverse, filter, refl, sym, ap, ◌∙◌, subst, Contains}
+use Rattle.std.proofs.lemmas.Bool.{both_ways, and_parts, or_cases, eq-eqb, eqb-true, ne_eqb, not-true}
 use Rattle.permutations.specs.Members.{is_member}
 use Rattle.permutations.proofs.Members.{member-head, member-tail, member-cases, member-append_cases, member-reverse}
 use Rattle.permutations.proofs.Relation.{connected-reflexive, connected-symmetric, connected-transitive, connected-link, connected-least-typed}
 use Rattle.multigraph.specs.Graph.{Multigraph, edge_count, ends_of, is_end, other_end, numbers_below}
 use Rattle.multigraph.proofs.Below.{filter_below-has, filter_below-only}
-use Rattle.multigraph.proofs.OtherEnd.{is_end-first, is_end-second, other_end-cases, other_end-of_first}
+use Rattle.multigraph.proofs.OtherEnd.{is_end-first, is_end-second, other_end-cases}
 use Rattle.graph_theory.specs.Path.{walk_end, IsWalk, IsPath}
-use Rattle.graph_theory.proofs.Walks.{end-append, walk-append, walk-edge}
+use Rattle.graph_theory.proofs.Walks.{end-append, walk-append}
 use Rattle.graph_theory.proofs.Reversal.{end-reverse, walk-reverse}
 use Rattle.graph_theory.proofs.Paths.{walk_to_path, Shortened}
 use Rattle.graph_theory.proofs.Connection.{first-is_end, other-first}

@@ -1,16 +1,14 @@
 -- The nodes of a tree as components; the key of a group is that of its item, and tells it.
-use Rattle.std.proofs.Common.{◌≡◌, ◌≢◌, ℕ, zero, suc, ◌<◌, ◌≤◌, ◌⊎◌, ◌||◌, ◌==◌, inl, inr, Bool, true, false, cond, List, [], ◌∷◌, length, map, slice_index_or, refl, sym, ap, ◌∙◌, subst, arith}
+use Rattle.std.proofs.Common.{◌≡◌, ℕ, zero, suc, ◌<◌, ◌==◌, inl, inr, Bool, true, false, cond, List, [], ◌∷◌, length, map, slice_index_or, refl, sym, ap, ◌∙◌, subst, arith}
 use Rattle.std.proofs.lemmas.Bool.{cases_Bool, cases_lt, both_ways, or_left, or_right, eq-eqb, eqb-true, true≢false}
 use Rattle.std.proofs.lemmas.List.{get_or-map, get_or_past, length-map}
-use Rattle.permutations.specs.Count.{some, least}
 use Rattle.permutations.specs.Members.{is_member}
 use Rattle.permutations.proofs.Search.{some-from, least-below}
-use Rattle.multigraph.specs.Graph.{Multigraph, edge_count, is_end, IsGraph}
-use Rattle.multigraph.specs.Part.{Rises}
+use Rattle.multigraph.specs.Graph.{Multigraph, edge_count, IsGraph}
 use Rattle.multigraph.proofs.OtherEnd.{end-in}
 use Rattle.multigraph.proofs.Places.{rises-once}
 use Rattle.pair_split.specs.Skeleton.{is_end_of, is_vertex}
-use Rattle.pair_split.specs.Split.{component_at, items_of, item_at, piece_ends, skeleton, StandsFor, side, IsSplit}
+use Rattle.pair_split.specs.Split.{component_at, items_of, item_at, piece_ends, skeleton, side}
 use Rattle.pair_split.specs.Tutte.{Node, piece_of, components, node_at, node_item, key_of, has_in_group, first_key, group, IsTutte}
 use Rattle.pair_split.specs.declared.components.Kind.TheVariants.{B}
 use Rattle.pair_split.specs.declared.components.What.{What}

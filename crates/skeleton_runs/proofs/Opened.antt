@@ -1,8 +1,8 @@
 -- The map of some edges with a vertex opened: what these edges join without passing the vertex is connected in it.
 use Rattle.std.proofs.Common.{◌≡◌, ◌≢◌, ℕ, zero, suc, ◌+◌, ◌*◌, ◌/◌, ◌<◌, ◌⊎◌, inl, inr, Bool, true, false, not, ◌&&◌, ◌==◌, List, refl, sym, ap, ◌∙◌, subst, arith}
-use Rattle.std.proofs.lemmas.Bool.{cases_Bool, cases_eq, both_ways, and_parts, and_from, eq-eqb, eqb-true, ne_eqb, not-true, not_from_false, false_from_ne_true}
+use Rattle.std.proofs.lemmas.Bool.{cases_Bool, both_ways, and_parts, and_from, eq-eqb, eqb-true, ne_eqb, not-true, not_from_false, false_from_ne_true}
 use Rattle.permutations.specs.Relation.{IsEquivalence}
-use Rattle.permutations.specs.Permutation.{iterate, same_orbit}
+use Rattle.permutations.specs.Permutation.{iterate}
 use Rattle.permutations.specs.Exchange.{restricted}
 use Rattle.permutations.proofs.Relation.{kernel-equivalence}
 use Rattle.permutations.proofs.Orbits.{orbit-equivalence, orbit-least, orbit-step}
@@ -185,8 +185,11 @@ module _ (g : Multigraph) (r : List (List ℕ)) (ok : IsGraph g) (s : IsRotation
 
   -- the dart at the far end of a kept edge at u counts
   far-counts : (e : ℕ) → e < edge_count g → is_end g u e ≡ true → keep e ≡ true → (counts (twin (dart_from g u e)) ≡ true) × (tail g (twin (dart_from g u e)) ≡ other_end g e u)
-  far-counts e l i h = (and_from (keep (twin (dart_from g u e) / 2)) (not (tail g (twin (dart_from g u e)) == u)) (ap keep edge ∙ h)
-      (not_from_false (tail g (twin (dart_from g u e)) == u) (ne_eqb (tail g (twin (dart_from g u e))) u (λ q. other_end-differs g e u ok l i (sym far ∙ q)))), far)
+  far-counts e l i h = (
+    and_from (keep (twin (dart_from g u e) / 2)) (not (tail g (twin (dart_from g u e)) == u)) (ap keep edge ∙ h)
+        (not_from_false (tail g (twin (dart_from g u e)) == u) (ne_eqb (tail g (twin (dart_from g u e))) u (λ q. other_end-differs g e u ok l i (sym far ∙ q)))),
+    far,
+  )
     where
       edge : twin (dart_from g u e) / 2 ≡ e
       edge = twin-edge (dart_from g u e) ∙ dart_from-edge g u e

@@ -1,10 +1,10 @@
 -- A set of edges of a block that meets the others in two vertices only: what it touches reaches the one without the other.
-use Rattle.std.proofs.Common.{◌≡◌, ◌≢◌, ℕ, ◌<◌, ◌⊎◌, inl, inr, Bool, true, false, not, ◌&&◌, ◌||◌, ◌==◌, List, refl, sym, ap, ◌∙◌, subst, arith}
-use Rattle.std.proofs.lemmas.Bool.{cases_Bool, cases_eq, both_ways, and_parts, and_from, or_cases, or_left, or_right, eqb-true, not-true, not_from_false, false_from_ne_true}
+use Rattle.std.proofs.Common.{◌≡◌, ◌≢◌, ℕ, ◌<◌, ◌⊎◌, inl, inr, Bool, true, false, not, ◌&&◌, ◌||◌, sym, ap, ◌∙◌}
+use Rattle.std.proofs.lemmas.Bool.{cases_Bool, cases_eq, both_ways, and_parts, and_from, or_cases, or_left, or_right, not_from_false, false_from_ne_true}
 use Rattle.permutations.proofs.Relation.{connected-reflexive, connected-symmetric, connected-transitive}
 use Rattle.multigraph.specs.Graph.{Multigraph, edge_count, ends_of, is_end, other_end, IsGraph}
-use Rattle.multigraph.proofs.OtherEnd.{is_end-first, is_end-second, is_end-cases, other_end-cases}
-use Rattle.graph_theory.specs.Block.{IsOneBlock, SameBlock}
+use Rattle.multigraph.proofs.OtherEnd.{is_end-first, is_end-second, is_end-cases}
+use Rattle.graph_theory.specs.Block.{IsOneBlock}
 use Rattle.graph_theory.specs.Side.{IsCommon}
 use Rattle.graph_theory.proofs.Crossings.{TwoCommon, cycle-two_common}
 use Rattle.graph_theory.proofs.Ends.{other-is_end, other-differs, end-cases}

@@ -1,34 +1,30 @@
 -- The skeleton of a node as a graph of its own: it is a graph, and where the node is triconnected it is a triconnected graph.
-use Rattle.std.proofs.Common.{◌≡◌, ◌≢◌, ℕ, zero, suc, ◌+◌, ◌<◌, ◌≤◌, ◌⊎◌, ◌==◌, inl, inr, Bool, true, false, not, cond, List, [], ◌∷◌, length, map, filter, slice_index_or, slice_index, get_or, refl, sym, ap, ◌∙◌, subst, arith, Contains, All}
-use Rattle.std.proofs.lemmas.Bool.{cases_Bool, cases_lt, cases_eq, both_ways, and_parts, and_from, or_left, or_right, eq-eqb, eqb-true, ne_eqb, not-true, not_from_false, false_from_ne_true, true≢false}
+use Rattle.std.proofs.Common.{◌≡◌, ◌≢◌, ℕ, suc, ◌+◌, ◌<◌, ◌≤◌, inl, inr, true, false, not, List, [], ◌∷◌, length, filter, slice_index_or, get_or, refl, sym, ap, ◌∙◌, subst, arith, Contains}
+use Rattle.std.proofs.lemmas.Bool.{cases_lt, cases_eq, and_parts, and_from, eq-eqb, ne_eqb, not-true, not_from_false, false_from_ne_true, true≢false}
 use Rattle.std.proofs.lemmas.List.{get_or-map, get_or_past, get_or_default, length-map}
-use Rattle.permutations.specs.Count.{count}
 use Rattle.permutations.specs.Members.{is_member, is_distinct}
 use Rattle.permutations.specs.Relation.{connected}
 use Rattle.permutations.proofs.Count.{count-subset}
-use Rattle.permutations.proofs.Members.{member-cases, member-head, no_member-cons, no_member-head, no_member-tail, distinct-cons}
+use Rattle.permutations.proofs.Members.{member-cases, no_member-cons, no_member-head, no_member-tail, distinct-cons}
 use Rattle.permutations.proofs.Arrangements.{contains-from_member, member-at, all-member, count-list}
 use Rattle.permutations.proofs.Relation.{connected-link, connected-reflexive, connected-symmetric, connected-transitive, connected-least-typed}
-use Rattle.multigraph.specs.Graph.{Multigraph, edge_count, ends_of, max_vertices, max_edges, IsGraph}
+use Rattle.multigraph.specs.Graph.{Multigraph, edge_count, ends_of, IsGraph}
 use Rattle.multigraph.specs.Part.{Rises}
 use Rattle.multigraph.proofs.Places.{rises-once, rises-short}
 use Rattle.graph_theory.specs.Triconnected.{avoids, ends_without, IsConnectedWithout, AreParallel, IsSimple, IsTriconnected}
-use Rattle.pair_split.specs.Skeleton.{is_end_of, SameEnds, is_vertex, HasVertices, IsRigid, IsOfKind}
-use Rattle.pair_split.specs.Split.{component_at, items_of, item_at, piece_ends, skeleton}
-use Rattle.pair_split.specs.Tutte.{Node, piece_of, components, node_at, node_item, IsTutte}
+use Rattle.pair_split.specs.Skeleton.{SameEnds, is_vertex, IsRigid, IsOfKind}
+use Rattle.pair_split.specs.Split.{piece_ends, skeleton}
+use Rattle.pair_split.specs.Tutte.{Node, components, node_at, node_item, IsTutte}
 use Rattle.pair_split.specs.declared.components.Kind.{Kind}
-use Rattle.pair_split.specs.declared.components.Kind.TheVariants.{R}
 use Rattle.pair_split.specs.declared.components.What.TheVariants.{Real}
-use Rattle.pair_split.specs.declared.components.Piece.{Piece}
 use Rattle.pair_split.specs.declared.components.Item.{Item}
 use Rattle.pair_split.proofs.Elements.{contains-filter, filter-contains}
 use Rattle.pair_split.proofs.GraphFamily.{all-from_contained}
-use Rattle.skeletons.specs.Items.{item_key, node_keys, has_vertex, IsBlockTree}
-use Rattle.skeletons.specs.Moves.{IsNodeOfKind}
+use Rattle.skeletons.specs.Items.{item_key, node_keys, IsBlockTree}
 use Rattle.skeletons.specs.Families.{place_of, end_places, skeleton_graph}
 use Rattle.skeletons.specs.Laws.{SkeletonIsTriconnected}
 use Rattle.skeleton_runs.proofs.Items.{skeleton-at, skeleton-in, in-skeleton}
-use Rattle.skeleton_runs.proofs.NodeItems.{node-kind, node-piece, comp-in, piece-in, item-in, pieces-number, vertex-skeleton, vertex-fits, item-first, item-second, key-fits}
+use Rattle.skeleton_runs.proofs.NodeItems.{node-kind, node-piece, comp-in, piece-in, item-in, vertex-skeleton, vertex-fits, item-first, item-second, key-fits}
 
 -- a member has a place
 pub place-below : (l : List ℕ) (x : ℕ) → is_member x l ≡ true → place_of l x < length l
@@ -109,9 +105,15 @@ module _ (g : Multigraph) (nodes : List Node) (b : IsBlockTree g nodes) (k : ℕ
   pub skeleton-graph : IsGraph (skeleton_graph nodes k)
   skeleton-graph = record {
     few_vertices = omega (arith, b.graph.few_vertices, rises-short vertices g.vertex_count rise (λ i m. vertex-fits g nodes tree b.graph k (get_or vertices i 0) (member-at vertices i 0 m)));
-    few_edges = omega (arith, b.graph.few_edges, graph-edges, keys-number, rises-short (node_keys nodes k) (edge_count g) (tree.in_order.keys_rise k l) (λ i m.
-        let here : i < length items = subst (λ z. i < z) keys-number m in
-        subst (λ z. z < edge_count g) (sym (get_or-map item_key items i (record { key = 0; a = 0; b = 0; what = Real 0 }) 0 here)) (key-fits g nodes tree k i here)));
+    few_edges = omega (
+      arith,
+      b.graph.few_edges,
+      graph-edges,
+      keys-number,
+      rises-short (node_keys nodes k) (edge_count g) (tree.in_order.keys_rise k l) (λ i m.
+          let here : i < length items = subst (λ z. i < z) keys-number m in
+          subst (λ z. z < edge_count g) (sym (get_or-map item_key items i (record { key = 0; a = 0; b = 0; what = Real 0 }) 0 here)) (key-fits g nodes tree k i here)),
+    );
     first_in = λ e m. subst (λ (z : ℕ × ℕ). z.0 < length vertices) (sym (graph-ends e (edge-item e m))) (place-below vertices (node_item nodes k e).a (item-first g nodes tree k e l (edge-item e m)));
     second_in = λ e m. subst (λ (z : ℕ × ℕ). z.1 < length vertices) (sym (graph-ends e (edge-item e m))) (place-below vertices (node_item nodes k e).b (item-second g nodes tree k e l (edge-item e m)));
     no_loop = λ e m. subst (λ (z : ℕ × ℕ). z.0 ≢ z.1) (sym (graph-ends e (edge-item e m))) (λ q.
@@ -192,14 +194,22 @@ module _ (g : Multigraph) (nodes : List Node) (b : IsBlockTree g nodes) (k : ℕ
         in-b e i = item-second g nodes tree k e l i
 
         same : AreParallel (skeleton_graph nodes k) e f → SameEnds ((node_item nodes k e).a, (node_item nodes k e).b) ((node_item nodes k f).a, (node_item nodes k f).b)
-        same (inl x) = inl (one (node_item nodes k e).a (node_item nodes k f).a (in-a e i) (in-a f j) (ends_of (skeleton_graph nodes k) e).0 (ends_of (skeleton_graph nodes k) f).0 ae af x.0,
-            one (node_item nodes k e).b (node_item nodes k f).b (in-b e i) (in-b f j) (ends_of (skeleton_graph nodes k) e).1 (ends_of (skeleton_graph nodes k) f).1 be bf x.1)
-        same (inr x) = inr (one (node_item nodes k e).a (node_item nodes k f).b (in-a e i) (in-b f j) (ends_of (skeleton_graph nodes k) e).0 (ends_of (skeleton_graph nodes k) f).1 ae bf x.0,
-            one (node_item nodes k e).b (node_item nodes k f).a (in-b e i) (in-a f j) (ends_of (skeleton_graph nodes k) e).1 (ends_of (skeleton_graph nodes k) f).0 be af x.1)
+        same (inl x) = inl (
+          one (node_item nodes k e).a (node_item nodes k f).a (in-a e i) (in-a f j) (ends_of (skeleton_graph nodes k) e).0 (ends_of (skeleton_graph nodes k) f).0 ae af x.0,
+          one (node_item nodes k e).b (node_item nodes k f).b (in-b e i) (in-b f j) (ends_of (skeleton_graph nodes k) e).1 (ends_of (skeleton_graph nodes k) f).1 be bf x.1,
+        )
+        same (inr x) = inr (
+          one (node_item nodes k e).a (node_item nodes k f).b (in-a e i) (in-b f j) (ends_of (skeleton_graph nodes k) e).0 (ends_of (skeleton_graph nodes k) f).1 ae bf x.0,
+          one (node_item nodes k e).b (node_item nodes k f).a (in-b e i) (in-a f j) (ends_of (skeleton_graph nodes k) e).1 (ends_of (skeleton_graph nodes k) f).0 be af x.1,
+        )
 
     graph-four : 4 ≤ length vertices
-    graph-four = omega (arith, rigid.four.enough, distinct-fewer g.vertex_count rigid.four.vertices vertices rigid.four.distinct (rises-distinct vertices rise) (λ x m. vertex-fits g nodes tree b.graph k x m)
-        (λ x m. vertex-member x (all-member (λ v. is_vertex (skeleton (components nodes) k) v ≡ true) rigid.four.vertices x rigid.four.are_vertices m)))
+    graph-four = omega (
+      arith,
+      rigid.four.enough,
+      distinct-fewer g.vertex_count rigid.four.vertices vertices rigid.four.distinct (rises-distinct vertices rise) (λ x m. vertex-fits g nodes tree b.graph k x m)
+          (λ x m. vertex-member x (all-member (λ v. is_vertex (skeleton (components nodes) k) v ≡ true) rigid.four.vertices x rigid.four.are_vertices m)),
+    )
 
     -- an item without the two named numbers is an edge without the two numbers
     module _ (a c : ℕ) where
@@ -252,5 +262,8 @@ module _ (g : Multigraph) (nodes : List Node) (b : IsBlockTree g nodes) (k : ℕ
 
 -- the skeleton of a triconnected node is a graph and triconnected
 pub skeleton-triconnected : SkeletonIsTriconnected
-skeleton-triconnected g nodes b k n = (skeleton-graph g nodes b k n.0, rigid-triconnected g nodes b k n.0
-    (subst (λ (kind : Kind). IsOfKind kind (skeleton (components nodes) k)) (node-kind nodes k ∙ n.1) (b.tree.split.of_kind.kinds k (comp-in nodes k n.0)).of_kind))
+skeleton-triconnected g nodes b k n = (
+  skeleton-graph g nodes b k n.0,
+  rigid-triconnected g nodes b k n.0
+      (subst (λ (kind : Kind). IsOfKind kind (skeleton (components nodes) k)) (node-kind nodes k ∙ n.1) (b.tree.split.of_kind.kinds k (comp-in nodes k n.0)).of_kind),
+)

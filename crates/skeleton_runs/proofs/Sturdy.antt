@@ -1,15 +1,14 @@
 -- Skeletons of polygons and of triconnected graphs: beside an edge of them there is no second one with its ends, and the
 -- other edges at one of its ends stay connected without both.
 use Rattle.std.proofs.Common.{◌≡◌, ◌≢◌, ℕ, zero, suc, ◌<◌, ◌≤◌, ◌⊎◌, ◌||◌, ◌==◌, inl, inr, Bool, true, false, List, [], ◌∷◌, length, filter, slice_index_or, refl, sym, ap, ◌∙◌, subst, arith}
-use Rattle.std.proofs.lemmas.Bool.{cases_Bool, cases_eq, both_ways, or_cases, or_left, or_right, eq-eqb, eqb-true, ne_eqb, false_from_ne_true}
+use Rattle.std.proofs.lemmas.Bool.{cases_Bool, cases_eq, both_ways, or_cases, or_left, or_right, eq-eqb, eqb-true, false_from_ne_true}
 use Rattle.std.proofs.lemmas.List.Elements.{All-from_get_or}
 use Rattle.permutations.specs.Members.{is_member}
 use Rattle.permutations.specs.Relation.{connected}
 use Rattle.permutations.proofs.Members.{no_member-cons}
-use Rattle.permutations.proofs.Filter.{filter-yes}
 use Rattle.permutations.proofs.Relation.{same-tests, connected-reflexive, connected-closed}
 use Rattle.graph_theory.specs.Triconnected.{avoids}
-use Rattle.pair_split.specs.Skeleton.{is_end_of, SameEnds, is_vertex, degree, IsPolygon, IsOfKind}
+use Rattle.pair_split.specs.Skeleton.{is_end_of, SameEnds, is_vertex, IsPolygon, IsOfKind}
 use Rattle.pair_split.specs.declared.components.Kind.{Kind}
 use Rattle.pair_split.specs.declared.components.Kind.TheVariants.{S, P, R, B}
 use Rattle.pair_split.proofs.LargeSides.{ThreeVertices, three-vertices}
