@@ -9,3 +9,5 @@ pub mod Coded
 pub mod ManyParts
 pub mod Union
 pub mod RunEnds
+pub mod Complements
+pub mod SkeletonDarts

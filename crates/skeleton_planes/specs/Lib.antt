@@ -2,3 +2,4 @@
 pub mod Seams
 pub mod Links
 pub mod Union
+pub mod Runs
