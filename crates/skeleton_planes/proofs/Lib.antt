@@ -11,3 +11,5 @@ pub mod Union
 pub mod RunEnds
 pub mod Complements
 pub mod SkeletonDarts
+pub mod Whole
+pub mod Linked
