@@ -13,3 +13,5 @@ pub mod Complements
 pub mod SkeletonDarts
 pub mod Whole
 pub mod Linked
+pub mod LinkPairs
+pub mod TreeLinks
