@@ -15,3 +15,4 @@ pub mod Whole
 pub mod Linked
 pub mod LinkPairs
 pub mod TreeLinks
+pub mod Followed
