@@ -6,3 +6,5 @@ pub mod Towards
 pub mod KeyRuns
 pub mod Systems
 pub mod Unique
+pub mod Rearranged
+pub mod Vertices
