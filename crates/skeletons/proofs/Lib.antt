@@ -8,3 +8,4 @@ pub mod Systems
 pub mod Unique
 pub mod Rearranged
 pub mod Vertices
+pub mod Moved
