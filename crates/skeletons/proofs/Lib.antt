@@ -9,3 +9,4 @@ pub mod Unique
 pub mod Rearranged
 pub mod Vertices
 pub mod Moved
+pub mod Composing
