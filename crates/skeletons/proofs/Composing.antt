@@ -4,7 +4,7 @@ use Rattle.std.proofs.Common.{◌≡◌, ◌≢◌, ℕ, zero, suc, ◌+◌, ◌
 use Rattle.std.proofs.lemmas.Bool.{cases_Bool, cases_eq, cases_lt, both_ways, true≢false, false_from_ne_true, not_from_true, not_from_false}
 use Rattle.std.proofs.lemmas.List.Elements.{All-cons, All-head}
 use Rattle.std.proofs.lemmas.List.Sorted.{IsPermutation-refl}
-use Rattle.permutations.specs.Cyclic.{IsTurn}
+use Rattle.permutations.specs.Cyclic.{IsTurn, from_least}
 use Rattle.permutations.specs.Members.{is_member, is_distinct}
 use Rattle.permutations.specs.Runs.{joined, group_keys, IsGroup, InRuns}
 use Rattle.permutations.proofs.Arrangements.{permutation-member, permutation-distinct, permutation-from_members, length-from_members}
@@ -241,3 +241,173 @@ module _ (g : Multigraph) (nodes : List Node) (b : IsBlockTree g nodes) where
                 };
                 order = subst (λ (z : List ℕ). IsTurn (a ∷ z) (keys k v)) (sym (gathered-keys (group nodes k) C rest)) keys-turn;
               }
+
+    pub weaker : (D E : ℕ → Type 0) → Stage D → ((j : ℕ) → E j → has_vertex nodes j v ≡ true → D j) → Stage E
+    weaker D E s h = record { list = s.list; arranged = s.arranged; stand = λ j e x. s.stand j (h j e x) x }
+
+    -- all nodes one after the other, from a node with the vertex outwards, by their ranks
+    module _ (h : ℕ) (hv : has_vertex nodes h v ≡ true) where
+      dh : h < length comps
+      dh = comp-in g nodes t h (vertex-node nodes h v hv)
+
+      abbrev tree : IsTree comps
+      tree = rerooted comps t.split.linked h dh
+
+      abbrev linked : AreLinked comps
+      linked = record { once = t.split.linked.once; back = t.split.linked.back; tree = tree }
+
+      root-is : tree.root ≡ h
+      root-is = rerooted-root comps t.split.linked h dh
+
+      -- the nodes of smaller rank, and of this rank the first i
+      abbrev Passed : ℕ → ℕ → ℕ → Type 0
+      Passed s i j = (j < length nodes) × ((j ≡ h) ⊎ ((tree.rank j < s) ⊎ ((tree.rank j ≡ s) × (j < i))))
+
+      -- what has no greater rank and is another node is on the side of the parent
+      parent-side : (k j : ℕ) → k < length comps → k ≢ h → j < length comps → j ≢ k → (j ≡ h) ⊎ (tree.rank j ≤ tree.rank k) → is_beyond comps k (tree.parent k) j ≡ true
+      parent-side k j lk nk lj n c = side-above comps linked k j lk root-differs lj ∙ not_from_false (is_below comps linked k j) (false_from_ne_true (is_below comps linked k j) (λ y. no y))
+        where
+          root-differs : k ≢ tree.root
+          root-differs e = nk (e ∙ root-is)
+
+          no : is_below comps linked k j ≡ true → ⊥
+          no y = elim (cases_eq j tree.root) [
+            | inl e ↦ both_ways (is_below comps linked k tree.root) (below-root comps linked k (λ q. root-differs (sym q))) (subst (λ z. is_below comps linked k z ≡ true) e y)
+            | inr m ↦
+                let low : tree.rank k ≤ tree.rank (tree.parent j) = below-rank comps linked k (tree.parent j) (tree.parent_in j lj m) (sym (below-parent comps linked k j lj n m) ∙ y) in
+                let falls : tree.rank (tree.parent j) < tree.rank j = tree.rank_falls j lj m in
+                elim c [ inl e ↦ m (e ∙ sym root-is) | inr r ↦ omega (arith, low, falls, r) ]
+          ]
+
+      one-more : (s i : ℕ) → i < length nodes → Stage (Passed s i) → Stage (Passed s (suc i))
+      one-more s i l st = elim (cases_Bool (has_vertex nodes i v)) [
+        | inr n ↦ weaker (Passed s i) (Passed s (suc i)) st (λ j p x. elim p.1 [
+          | inl e ↦ (p.0, inl e)
+          | inr q ↦ elim q [
+            | inl r ↦ (p.0, inr (inl r))
+            | inr r ↦ (p.0, inr (inr (r.0, other j r.1 (λ e. both_ways (has_vertex nodes i v) n (subst (λ z. has_vertex nodes z v ≡ true) e x)))))
+          ]
+        ])
+        | inl y ↦ elim (cases_eq i h) [
+          | inl e ↦ weaker (Passed s i) (Passed s (suc i)) st (λ j p x. elim p.1 [
+            | inl q ↦ (p.0, inl q)
+            | inr q ↦ elim q [
+              | inl r ↦ (p.0, inr (inl r))
+              | inr r ↦ elim (cases_eq j i) [ inl d ↦ (p.0, inl (d ∙ e)) | inr d ↦ (p.0, inr (inr (r.0, other j r.1 d))) ]
+            ]
+          ])
+          | inr n ↦ elim (cases_eq (tree.rank i) s) [
+            | inr m ↦ weaker (Passed s i) (Passed s (suc i)) st (λ j p x. elim p.1 [
+              | inl q ↦ (p.0, inl q)
+              | inr q ↦ elim q [
+                | inl r ↦ (p.0, inr (inl r))
+                | inr r ↦ (p.0, inr (inr (r.0, other j r.1 (λ d. m (ap tree.rank (sym d) ∙ r.0)))))
+              ]
+            ])
+            | inl m ↦ weaker (λ j. Passed s i j ⊎ (j ≡ i)) (Passed s (suc i)) (next y n m) (λ j p x. elim (cases_eq j i) [
+              | inl d ↦ inr d
+              | inr d ↦ inl (p.0, elim p.1 [
+                | inl q ↦ inl q
+                | inr q ↦ inr (elim q [ inl r ↦ inl r | inr r ↦ inr (r.0, other j r.1 d) ])
+              ])
+            ])
+          ]
+        ]
+      ]
+        where
+          other : (j : ℕ) → j < suc i → j ≢ i → j < i
+          other j a n = omega (arith, a, n)
+
+          next : has_vertex nodes i v ≡ true → i ≢ h → tree.rank i ≡ s → Stage (λ j. Passed s i j ⊎ (j ≡ i))
+          next y n m = further i p place in_place link y (link-vertex g nodes t i place p v in_place link ends) ends (Passed s i) st
+              (node-in g nodes t p parent-in, inr (inl (omega (arith, m, tree.rank_falls i li differs)))) (λ j q. (apart j q.1, parent-side i j li n (comp-in g nodes t j q.0) (apart j q.1) (low j q.1)))
+            where
+              li : i < length comps
+              li = comp-in g nodes t i l
+
+              differs : i ≢ tree.root
+              differs e = n (e ∙ root-is)
+
+              p : ℕ
+              p = tree.parent i
+
+              parent-in : p < length comps
+              parent-in = tree.parent_in i li differs
+
+              place : ℕ
+              place = (tree.to_parent i li differs).0
+
+              in_place : place < length (node_at nodes i).items
+              in_place = (item-of g nodes t i place (Link p) (tree.to_parent i li differs).1).0
+
+              link : (node_item nodes i place).what ≡ Link p
+              link = (item-of g nodes t i place (Link p) (tree.to_parent i li differs).1).1
+
+              ends : ends_item v (node_item nodes i place) ≡ true
+              ends = shared-end g nodes t i h v n (record { place = place; next = p; is_item = in_place; is_link = link; beyond = parent-side i h li n dh (λ e. n (sym e)) (inl refl) }) y hv
+
+              apart : (j : ℕ) → (j ≡ h) ⊎ ((tree.rank j < s) ⊎ ((tree.rank j ≡ s) × (j < i))) → j ≢ i
+              apart j c e = elim c [
+                | inl q ↦ n (sym e ∙ q)
+                | inr q ↦ elim q [ inl r ↦ omega (arith, r, m, ap tree.rank e) | inr r ↦ omega (arith, r.1, e) ]
+              ]
+
+              low : (j : ℕ) → (j ≡ h) ⊎ ((tree.rank j < s) ⊎ ((tree.rank j ≡ s) × (j < i))) → (j ≡ h) ⊎ (tree.rank j ≤ tree.rank i)
+              low j c = elim c [
+                | inl q ↦ inl q
+                | inr q ↦ inr (elim q [ inl r ↦ omega (arith, r, m) | inr r ↦ omega (arith, r.0, m) ])
+              ]
+
+      level : (s i : ℕ) → i ≤ length nodes → Stage (Passed s 0) → Stage (Passed s i)
+      level s zero l st = st
+      level s (suc i) l st = one-more s i (omega (arith, l)) (level s i (omega (arith, l)) st)
+
+      up : (s : ℕ) → Stage (Passed s 0)
+      up zero = weaker (λ j. j ≡ h) (Passed 0 0) (first h hv) (λ j p x. elim p.1 [
+        | inl e ↦ e
+        | inr q ↦ elim q [ inl r ↦ absurd (omega (arith, r)) | inr r ↦ absurd (omega (arith, r.1)) ]
+      ])
+      up (suc s) = weaker (Passed s (length nodes)) (Passed (suc s) 0) (level s (length nodes) (omega arith) (up s)) (λ j p x. (p.0, elim p.1 [
+        | inl e ↦ inl e
+        | inr q ↦ elim q [
+          | inr r ↦ absurd (omega (arith, r.1))
+          | inl r ↦ elim (cases_eq (tree.rank j) s) [ inl e ↦ inr (inr (e, p.0)) | inr n ↦ inr (inl (omega (arith, r, n))) ]
+        ]
+      ]))
+
+      -- ranks are bounded
+      bound : (n : ℕ) → (s : ℕ) × ((j : ℕ) → j < n → tree.rank j < s)
+      bound zero = (0, λ j l. absurd (omega (arith, l)))
+      bound (suc n) = let w = bound n in (w.0 + tree.rank n + 1, λ j l. elim (cases_eq j n) [
+        | inl e ↦ omega (arith, ap tree.rank e)
+        | inr m ↦ let d = w.1 j (omega (arith, l, m)) in omega (arith, d)
+      ])
+
+      all-passed : Stage (λ j. j < length nodes)
+      all-passed = let w = bound (length nodes) in weaker (Passed w.0 0) (λ j. j < length nodes) (up w.0) (λ j p x. (p, inr (inl (w.1 j p))))
+
+    -- a cyclic order of the edges at v in which the groups of all nodes stand in order
+    pub vertex-order : Stage (λ j. j < length nodes)
+    vertex-order =
+        let w = t.split.covers.vertices v l in
+        all-passed w.0 (t.in_order.vertices w.0 v (node-in g nodes t w.0 w.1) ∙ w.2)
+
+  -- so there is a rotation system with these orders
+  pub composed : (keys : ℕ → ℕ → List ℕ) → AreOrders keys → (r : List (List ℕ)) × IsRotationSystem g r × ((k v : ℕ) → has_vertex nodes k v ≡ true → StandInOrder (group nodes k) (order_at r v) (keys k v))
+  composed keys orders = (made g list, made-system g list arranged, λ k v h. let l = vertex-in g nodes b k v h in
+      subst (λ (z : List ℕ). StandInOrder (group nodes k) z (keys k v)) (sym (made-order g list v l)) (order-turned (group nodes k) (list v) (from_least (list v)) (keys k v) (stand k v h l) (from_least-turn (list v))))
+    where
+      at : (v : ℕ) → (m : List ℕ) × (v < g.vertex_count → IsPermutation (incident_edges g v) m × ((k : ℕ) → has_vertex nodes k v ≡ true → StandInOrder (group nodes k) m (keys k v)))
+      at v = elim (cases_lt v g.vertex_count) [
+        | inl l ↦ let s = vertex-order keys orders v l in (s.list, λ d. (s.arranged, λ k h. s.stand k (vertex-node nodes k v h) h))
+        | inr n ↦ ([], λ d. absurd (omega (arith, d, n)))
+      ]
+
+      list : ℕ → List ℕ
+      list v = (at v).0
+
+      arranged : (v : ℕ) → v < g.vertex_count → IsPermutation (incident_edges g v) (list v)
+      arranged v l = ((at v).1 l).0
+
+      stand : (k v : ℕ) → has_vertex nodes k v ≡ true → v < g.vertex_count → StandInOrder (group nodes k) (list v) (keys k v)
+      stand k v h l = ((at v).1 l).1 k h
