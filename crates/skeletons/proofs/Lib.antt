@@ -10,3 +10,4 @@ pub mod Rearranged
 pub mod Vertices
 pub mod Moved
 pub mod Composing
+pub mod Places
