@@ -6,3 +6,8 @@ pub mod Towards
 pub mod KeyRuns
 pub mod Systems
 pub mod Unique
+pub mod Rearranged
+pub mod Vertices
+pub mod Moved
+pub mod Composing
+pub mod Places
