@@ -41,15 +41,15 @@ keys_of nodes k items = map (λ i. (node_item nodes k i).key) items
 abbrev pub keys_in : List Node → List (List (List ℕ)) → ℕ → ℕ → List ℕ
 keys_in nodes family k v = keys_of nodes k (order_at (system_at family k) (place_of (node_at nodes k).vertices v))
 
--- round v the groups of node k stand in runs, in the cyclic order of the keys
-pub record StandInOrder (nodes : List Node) (r : List (List ℕ)) (k v : ℕ) (keys : List ℕ) : Type 0 where
+-- a cyclic order in runs, the groups of which stand in the cyclic order of these keys
+pub record StandInOrder (key : ℕ → ℕ) (l keys : List ℕ) : Type 0 where
   pub groups : List (ℕ × List ℕ)
-  pub runs : InRuns (group nodes k) (order_at r v) groups
+  pub runs : InRuns key l groups
   pub order : IsTurn (group_keys groups) keys
 
 -- r follows the family: at each vertex of each node the groups stand in runs, in the family's order
 abbrev pub FollowsFamily : List Node → List (List (List ℕ)) → List (List ℕ) → Type 0
-FollowsFamily nodes family r = (k v : ℕ) → has_vertex nodes k v ≡ true → StandInOrder nodes r k v (keys_in nodes family k v)
+FollowsFamily nodes family r = (k v : ℕ) → has_vertex nodes k v ≡ true → StandInOrder (group nodes k) (order_at r v) (keys_in nodes family k v)
 
 -- the keys are those round the least vertex of node k in some plane rotation system of its skeleton
 pub record IsPlaneChoice (nodes : List Node) (k : ℕ) (keys : List ℕ) : Type 0 where
