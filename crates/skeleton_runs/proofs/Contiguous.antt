@@ -27,7 +27,8 @@ use Rattle.skeletons.specs.Laws.{PlaneIsContiguous}
 use Rattle.skeleton_runs.proofs.EdgesInOrder.{met-edge, met-end}
 use Rattle.skeleton_runs.proofs.Items.{in_item, item-at, item-ends_differ}
 use Rattle.skeleton_runs.proofs.Crossing.{OtherOf, other-of, group-uncrossed, others-uncrossed}
-use Rattle.skeleton_runs.proofs.NodeItems.{node-kind, comp-in, item-in, vertex-node, group-key, key-once, vertex-skeleton, vertex-fits}
+use Rattle.skeletons.proofs.NodeItems.{comp-in, item-in, vertex-node, keys-once}
+use Rattle.skeleton_runs.proofs.NodeFits.{node-kind, group-key, vertex-skeleton, vertex-fits}
 
 -- a kind is that of bonds, that of small components, or neither
 kind-cases : (kind : Kind) → (kind ≡ P) ⊎ ((kind ≡ B) ⊎ ((kind ≢ P) × (kind ≢ B)))
@@ -86,7 +87,7 @@ module _ (g : Multigraph) (nodes : List Node) (r : List (List ℕ)) (b : IsBlock
 
   module _ (k v : ℕ) (h : has_vertex nodes k v ≡ true) where
     k-in : k < length comps
-    k-in = comp-in nodes k (vertex-node nodes k v h)
+    k-in = comp-in g nodes tree k (vertex-node nodes k v h)
 
     v-in : v < g.vertex_count
     v-in = vertex-fits g nodes tree b.graph k v h
@@ -170,13 +171,13 @@ module _ (g : Multigraph) (nodes : List Node) (r : List (List ℕ)) (b : IsBlock
           from i j = item-none i.0 i.1 i.2 (subst (λ z. in_item g comps split k z c ≡ true) same j.2) (out d (edge d in-d) nd) (out f (edge f in-f) nf)
             where
               key : group nodes k a ≡ (node_item nodes k i.0).key
-              key = group-key g nodes tree k i.0 a (item-in nodes k i.0 i.1) (edge a in-a) i.2
+              key = group-key g nodes tree k i.0 a (item-in g nodes tree k i.0 i.1) (edge a in-a) i.2
 
               same : j.0 ≡ i.0
-              same = key-once g nodes tree k j.0 i.0 (vertex-node nodes k v h) (item-in nodes k j.0 j.1) (item-in nodes k i.0 i.1) (sym (group-key g nodes tree k j.0 c (item-in nodes k j.0 j.1) (edge c in-c) j.2) ∙ sym q ∙ key)
+              same = keys-once g nodes tree k j.0 i.0 (item-in g nodes tree k j.0 j.1) (item-in g nodes tree k i.0 i.1) (sym (group-key g nodes tree k j.0 c (item-in g nodes tree k j.0 j.1) (edge c in-c) j.2) ∙ sym q ∙ key)
 
               out : (x : ℕ) → x < edge_count g → group nodes k x ≢ group nodes k a → in_item g comps split k i.0 x ≡ false
-              out x l n = false_from_ne_true (in_item g comps split k i.0 x) (λ t. n (group-key g nodes tree k i.0 x (item-in nodes k i.0 i.1) l t ∙ sym key))
+              out x l n = false_from_ne_true (in_item g comps split k i.0 x) (λ t. n (group-key g nodes tree k i.0 x (item-in g nodes tree k i.0 i.1) l t ∙ sym key))
 
     -- so nothing crosses round the vertex
     pub uncrossed : NothingCrosses (group nodes k) (order_at r v)

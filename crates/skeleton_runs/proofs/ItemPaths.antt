@@ -9,7 +9,8 @@ use Rattle.pair_split.specs.declared.components.Piece.{Piece}
 use Rattle.skeleton_runs.specs.Joined.{PathWhere}
 use Rattle.skeleton_runs.specs.Laws.{ItemIsPath}
 use Rattle.skeleton_runs.proofs.Items.{in_item, item-path, item-path_vertex}
-use Rattle.skeleton_runs.proofs.NodeItems.{node-piece, comp-in, piece-in, group-key, vertex-skeleton}
+use Rattle.skeletons.proofs.NodeItems.{node-piece, comp-in, piece-in}
+use Rattle.skeleton_runs.proofs.NodeFits.{group-key, vertex-skeleton}
 
 -- the path by which the group joins the ends of its item
 pub path-through : ItemIsPath
@@ -27,7 +28,7 @@ path-through g nodes b k i k_in i_in = record {
     c = (node_item nodes k i).b
 
     long : i < length (items_of (components nodes) k)
-    long = piece-in nodes k i i_in
+    long = piece-in g nodes b.tree k i i_in
 
     is : item_at (components nodes) k i ≡ record { a = (node_item nodes k i).a; b = (node_item nodes k i).b; what = (node_item nodes k i).what }
     is = node-piece nodes k i i_in
@@ -39,5 +40,5 @@ path-through g nodes b k i k_in i_in = record {
     second = subst (λ (z : Piece). is_end_of c (piece_ends z) ≡ true) (sym is) (or_right (a == c) (c == c) (eq-eqb c c refl))
 
     p : PathWhere g (in_item g (components nodes) b.tree.split k i) (node_item nodes k i).a (node_item nodes k i).b
-    p = item-path g (components nodes) b.tree.split b.graph b.block k i a c (comp-in nodes k k_in) long
+    p = item-path g (components nodes) b.tree.split b.graph b.block k i a c (comp-in g nodes b.tree k k_in) long
         (λ q. omega (arith, b.tree.in_order.ends_rise k i i_in, q)) first second

@@ -7,7 +7,7 @@ pub mod Cut
 pub mod Items
 pub mod Sturdy
 pub mod Crossing
-pub mod NodeItems
+pub mod NodeFits
 pub mod Contiguous
 pub mod SkeletonGraph
 pub mod ItemPaths

@@ -24,7 +24,8 @@ use Rattle.skeletons.specs.Items.{item_key, node_keys, IsBlockTree}
 use Rattle.skeletons.specs.Families.{place_of, end_places, skeleton_graph}
 use Rattle.skeletons.specs.Laws.{SkeletonIsTriconnected}
 use Rattle.skeleton_runs.proofs.Items.{skeleton-at, skeleton-in, in-skeleton}
-use Rattle.skeleton_runs.proofs.NodeItems.{node-kind, node-piece, comp-in, piece-in, item-in, vertex-skeleton, vertex-fits, item-first, item-second, key-fits}
+use Rattle.skeletons.proofs.NodeItems.{node-piece, comp-in, piece-in, item-in}
+use Rattle.skeleton_runs.proofs.NodeFits.{node-kind, vertex-skeleton, vertex-fits, item-first, item-second, key-fits}
 
 -- a member has a place
 pub place-below : (l : List ℕ) (x : ℕ) → is_member x l ≡ true → place_of l x < length l
@@ -122,13 +123,13 @@ module _ (g : Multigraph) (nodes : List Node) (b : IsBlockTree g nodes) (k : ℕ
 
   -- the edge at a place of the skeleton as pairs
   pair-at : (i : ℕ) → i < length items → slice_index_or (skeleton (components nodes) k) i (0, 0) ≡ ((node_item nodes k i).a, (node_item nodes k i).b)
-  pair-at i m = skeleton-at g (components nodes) tree.split k i (piece-in nodes k i m) ∙ ap piece_ends (node-piece nodes k i m)
+  pair-at i m = skeleton-at g (components nodes) tree.split k i (piece-in g nodes tree k i m) ∙ ap piece_ends (node-piece nodes k i m)
 
   pair-in : (i : ℕ) → i < length items → i < length (skeleton (components nodes) k)
-  pair-in i m = skeleton-in g (components nodes) tree.split k i (piece-in nodes k i m)
+  pair-in i m = skeleton-in g (components nodes) tree.split k i (piece-in g nodes tree k i m)
 
   pair-item : (i : ℕ) → i < length (skeleton (components nodes) k) → i < length items
-  pair-item i m = item-in nodes k i (in-skeleton g (components nodes) tree.split k i m)
+  pair-item i m = item-in g nodes tree k i (in-skeleton g (components nodes) tree.split k i m)
 
   -- a vertex of the skeleton is one of the node
   vertex-member : (v : ℕ) → is_vertex (skeleton (components nodes) k) v ≡ true → is_member v vertices ≡ true
@@ -265,5 +266,5 @@ pub skeleton-triconnected : SkeletonIsTriconnected
 skeleton-triconnected g nodes b k n = (
   skeleton-graph g nodes b k n.0,
   rigid-triconnected g nodes b k n.0
-      (subst (λ (kind : Kind). IsOfKind kind (skeleton (components nodes) k)) (node-kind nodes k ∙ n.1) (b.tree.split.of_kind.kinds k (comp-in nodes k n.0)).of_kind),
+      (subst (λ (kind : Kind). IsOfKind kind (skeleton (components nodes) k)) (node-kind nodes k ∙ n.1) (b.tree.split.of_kind.kinds k (comp-in g nodes b.tree k n.0)).of_kind),
 )

@@ -17,7 +17,7 @@
 //   Cut            inside-both: at a vertex of a plane rotation system two such sets of edges don't cross
 //   Items          item-at, item-meet, item-reach, item-joined, item-path: the group of an item of a component
 //   Sturdy         sturdy-simple, sturdy-linked: polygons and triconnected skeletons beside an edge
-//   NodeItems      node-piece, group-key, key-once, vertex-skeleton, vertex-fits: nodes as components, keys of groups
+//   NodeFits       vertex-skeleton, vertex-fits, item-first, item-second, key-fits: what a node has, in the graph
 //   Contiguous     uncrossed, in-runs: the main theorem at a vertex of a node
 //   SkeletonGraph  skeleton-graph, graph-ends, place-at, place-once: skeletons as graphs
 //   ItemPaths      path-through: an edge of a skeleton stands for a path
