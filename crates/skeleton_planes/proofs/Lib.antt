@@ -16,3 +16,5 @@ pub mod Linked
 pub mod LinkPairs
 pub mod TreeLinks
 pub mod Followed
+pub mod Polygon
+pub mod PolygonSkeleton

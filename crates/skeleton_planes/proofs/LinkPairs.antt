@@ -15,7 +15,7 @@ use Rattle.pair_split.proofs.Groups.{side-other, in_group-link}
 use Rattle.skeletons.specs.Items.{has_vertex, IsBlockTree}
 use Rattle.skeletons.specs.Families.{AreSkeletonSystems}
 use Rattle.skeletons.proofs.NodeItems.{stands-of, item-edge}
-use Rattle.skeleton_runs.proofs.NodeItems.{vertex-fits}
+use Rattle.skeleton_runs.proofs.NodeFits.{vertex-fits}
 use Rattle.skeleton_planes.specs.Links.{IsLinkOf}
 use Rattle.skeleton_planes.specs.Union.{coded, part_of, local_of, united}
 use Rattle.skeleton_planes.specs.Runs.{ends_run, begins_run, end_of, holds, is_dart, ends_with, begins_behind}

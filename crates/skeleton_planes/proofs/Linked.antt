@@ -25,7 +25,7 @@ use Rattle.pair_split.proofs.SkeletonFamily.{named, skeleton_family, item-entry,
 use Rattle.skeletons.specs.Items.{ends_item, has_vertex, IsBlockTree}
 use Rattle.skeletons.specs.Families.{place_of, skeleton_graph, system_at, AreSkeletonSystems}
 use Rattle.skeletons.proofs.NodeItems.{comp-in, piece-in, item-in, ends-at, stands-of, group-is, edge-item, item-edge, edge-end, outside-edge, group-item}
-use Rattle.skeleton_runs.proofs.NodeItems.{vertex-fits}
+use Rattle.skeleton_runs.proofs.NodeFits.{vertex-fits}
 use Rattle.skeleton_runs.proofs.SkeletonGraph.{skeleton-graph}
 use Rattle.skeleton_planes.specs.Seams.{IsNoBridge}
 use Rattle.skeleton_planes.specs.Links.{IsLinkOf}

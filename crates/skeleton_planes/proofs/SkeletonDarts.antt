@@ -23,7 +23,7 @@ use Rattle.pair_split.specs.declared.components.Item.{Item}
 use Rattle.skeletons.specs.Items.{has_vertex, IsBlockTree}
 use Rattle.skeletons.specs.Families.{place_of, skeleton_graph, system_at, keys_in, StandInOrder}
 use Rattle.skeletons.proofs.NodeItems.{keys-once, group-is, group-item}
-use Rattle.skeleton_runs.proofs.NodeItems.{item-first, item-second, vertex-fits}
+use Rattle.skeleton_runs.proofs.NodeFits.{item-first, item-second, vertex-fits}
 use Rattle.skeleton_runs.proofs.SkeletonGraph.{place-once, skeleton-graph, graph-edges, edge-item, item-edge, graph-ends}
 use Rattle.skeleton_planes.specs.Runs.{ends_run, begins_run, end_of, holds, is_dart, ends_with, begins_behind}
 use Rattle.skeleton_planes.proofs.Complements.{ends-parts, begins-from}

@@ -12,7 +12,7 @@ use Rattle.pair_split.specs.Tutte.{Node, node_at, node_item, IsTutte}
 use Rattle.pair_split.specs.declared.components.What.TheVariants.{Real}
 use Rattle.skeletons.specs.Items.{node_keys, item_key, IsBlockTree}
 use Rattle.skeletons.specs.Families.{skeleton_graph, system_at, AreSkeletonSystems, FollowsFamily}
-use Rattle.skeleton_runs.proofs.NodeItems.{key-fits}
+use Rattle.skeleton_runs.proofs.NodeFits.{key-fits}
 use Rattle.skeleton_runs.proofs.SkeletonGraph.{graph-edges}
 use Rattle.skeleton_planes.specs.Union.{coded, part_of, local_of, united}
 use Rattle.skeleton_planes.specs.Runs.{end_of, is_dart, ends_with, begins_behind, ends_run, holds}
