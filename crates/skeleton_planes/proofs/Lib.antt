@@ -18,3 +18,5 @@ pub mod TreeLinks
 pub mod Followed
 pub mod Polygon
 pub mod PolygonSkeleton
+pub mod BondSkeleton
+pub mod Planar
