@@ -80,7 +80,7 @@ module _ (g : Multigraph) (nodes : List Node) (b : IsBlockTree g nodes) (k : ℕ
   number = length (node_at nodes k).items
 
   -- one at least
-  some-item : 0 < number
+  pub some-item : 0 < length (node_at nodes k).items
   some-item = let w = edge-item g nodes b.tree k 0 l b.block.has_edge in omega (arith, w.1)
 
   -- the two vertices
@@ -92,7 +92,7 @@ module _ (g : Multigraph) (nodes : List Node) (b : IsBlockTree g nodes) (k : ℕ
   greater = (node_item nodes k 0).b
 
   -- they differ
-  differ : lesser < greater
+  pub differ : (node_item nodes k 0).a < (node_item nodes k 0).b
   differ = b.tree.in_order.ends_rise k 0 some-item
 
   -- an item joins the poles
@@ -101,7 +101,7 @@ module _ (g : Multigraph) (nodes : List Node) (b : IsBlockTree g nodes) (k : ℕ
       (All-get_or (SameEnds poles.poles) (skeleton (components nodes) k) i (0, 0) (skeleton-in g (components nodes) b.tree.split k i (piece-in g nodes b.tree k i m)) poles.joined)
 
   -- so all have the same ends
-  item-ends : (i : ℕ) → i < number → ((node_item nodes k i).a ≡ lesser) × ((node_item nodes k i).b ≡ greater)
+  pub item-ends : (i : ℕ) → i < length (node_at nodes k).items → ((node_item nodes k i).a ≡ (node_item nodes k 0).a) × ((node_item nodes k i).b ≡ (node_item nodes k 0).b)
   item-ends i m = same-pairs poles.poles lesser greater (node_item nodes k i).a (node_item nodes k i).b differ (b.tree.in_order.ends_rise k i m) (item-poles 0 some-item) (item-poles i m)
 
   -- an even dart leaves the lesser
@@ -152,11 +152,11 @@ module _ (g : Multigraph) (nodes : List Node) (b : IsBlockTree g nodes) (k : ℕ
   first-dart = (refl, refl)
 
   -- they are vertices of the skeleton
-  lesser-in : lesser_place < (skeleton_graph nodes k).vertex_count
+  pub lesser-in : place_of (node_at nodes k).vertices (node_item nodes k 0).a < (skeleton_graph nodes k).vertex_count
   lesser-in = subst (λ p. p < graph.vertex_count) (tail-place g nodes b k l 0 some-item) (tail-in graph 0 ok (item-dart g nodes b k l 0 some-item))
 
   -- the other
-  greater-in : greater_place < (skeleton_graph nodes k).vertex_count
+  pub greater-in : place_of (node_at nodes k).vertices (node_item nodes k 0).b < (skeleton_graph nodes k).vertex_count
   greater-in = subst (λ p. p < graph.vertex_count) (tail-place g nodes b k l 1 some-item) (tail-in graph 1 ok (item-dart g nodes b k l 1 some-item))
 
   -- they differ
@@ -285,7 +285,7 @@ module _ (g : Multigraph) (nodes : List Node) (b : IsBlockTree g nodes) (k : ℕ
     some-edge = let e : edge_count graph ≡ number = graph-edges g nodes b k l in omega (arith, e, some-item)
 
     -- plane where the order at the greater is the reverse of that at the lesser
-    pub reversed-plane : order_at s greater_place ≡ from_least (reverse (order_at s lesser_place)) → IsPlane (skeleton_graph nodes k) s
+    pub reversed-plane : order_at s (place_of (node_at nodes k).vertices (node_item nodes k 0).b) ≡ from_least (reverse (order_at s (place_of (node_at nodes k).vertices (node_item nodes k 0).a))) → IsPlane (skeleton_graph nodes k) s
     reversed-plane e = map-plane graph s ok system (bond-plane (edge_count graph) step (dart_before graph s) (skeleton-map g nodes b k l s system) some-edge even even-twin even-step even-vertex back)
       where
         behind : (i : ℕ) → successor second i ≡ predecessor first i
@@ -298,7 +298,7 @@ module _ (g : Multigraph) (nodes : List Node) (b : IsBlockTree g nodes) (k : ℕ
         ]
 
     -- and only there
-    pub plane-reversed : IsPlane (skeleton_graph nodes k) s → order_at s greater_place ≡ from_least (reverse (order_at s lesser_place))
+    pub plane-reversed : IsPlane (skeleton_graph nodes k) s → order_at s (place_of (node_at nodes k).vertices (node_item nodes k 0).b) ≡ from_least (reverse (order_at s (place_of (node_at nodes k).vertices (node_item nodes k 0).a)))
     plane-reversed p = same-lists second (from_least (reverse first)) second-distinct (from_least-distinct (reverse first) (distinct-reverse first first-distinct))
         (first-same second (from_least (reverse first)) members (order-least graph s greater_place system greater-in) (from_least-least (reverse first)))
         members behind

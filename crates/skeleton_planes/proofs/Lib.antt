@@ -20,3 +20,4 @@ pub mod Polygon
 pub mod PolygonSkeleton
 pub mod BondSkeleton
 pub mod Planar
+pub mod OneSystem

@@ -133,7 +133,7 @@ module _ (g : Multigraph) (nodes : List Node) (b : IsBlockTree g nodes) (k : ℕ
   pair-at i m = skeleton-at g (components nodes) b.tree.split k i (piece-in g nodes b.tree k i m) ∙ ap piece_ends (node-piece nodes k i m)
 
   -- has its place
-  pair-in : (i : ℕ) → i < length (node_at nodes k).items → i < length pairs
+  pub pair-in : (i : ℕ) → i < length (node_at nodes k).items → i < length pairs
   pair-in i m = skeleton-in g (components nodes) b.tree.split k i (piece-in g nodes b.tree k i m)
 
   -- and each pair is that of an item
@@ -141,7 +141,7 @@ module _ (g : Multigraph) (nodes : List Node) (b : IsBlockTree g nodes) (k : ℕ
   pair-item i m = item-in g nodes b.tree k i (subst (λ n. i < n) (length-map (items_of (components nodes) k) piece_ends) m)
 
   -- a dart leaves an end of its pair
-  pair-end : (z : ℕ) → z / 2 < length (node_at nodes k).items → is_end_of (end_of nodes k z) (slice_index_or pairs (z / 2) (0, 0)) ≡ true
+  pub pair-end : (z : ℕ) → z / 2 < length (node_at nodes k).items → is_end_of (end_of nodes k z) (slice_index_or pairs (z / 2) (0, 0)) ≡ true
   pair-end z m = ap (is_end_of (end_of nodes k z)) (pair-at (z / 2) m) ∙ end-of_item nodes k z
 
   -- the node has an item
@@ -174,11 +174,11 @@ module _ (g : Multigraph) (nodes : List Node) (b : IsBlockTree g nodes) (k : ℕ
           (subst (λ n. is_member n (order_at s (place_of (node_at nodes k).vertices (end_of nodes k y.0))) ≡ true) y.1 (own-item g nodes b k l s system y.0 (subst (λ n. n < length (node_at nodes k).items) (sym y.1) i))))
 
       -- so the next item is another one
-      next-other : successor items (z / 2) ≢ z / 2
+      pub next-other : successor items (z / 2) ≢ z / 2
       next-other e = second.2 (follows-itself items (z / 2) items-once (own-item g nodes b k l s system z m) e second.0 second.3)
 
       -- an item there has the vertex as an end
-      round-end : (i : ℕ) → is_member i items ≡ true → is_end_of (end_of nodes k z) (slice_index_or pairs i (0, 0)) ≡ true
+      pub round-end : (i : ℕ) → is_member i items ≡ true → is_end_of (end_of nodes k z) (slice_index_or pairs i (0, 0)) ≡ true
       round-end i n = let y = dart-of i n in subst (λ v. is_end_of v (slice_index_or pairs i (0, 0)) ≡ true) y.2 (subst (λ n. is_end_of (end_of nodes k y.0) (slice_index_or pairs n (0, 0)) ≡ true) y.1 (pair-end y.0 (subst (λ n. n < length (node_at nodes k).items) (sym y.1) (round-item g nodes b k l s system z i m n))))
         where
           here : place_of (node_at nodes k).vertices (end_of nodes k z) < graph.vertex_count

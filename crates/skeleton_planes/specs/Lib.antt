@@ -3,3 +3,4 @@ pub mod Seams
 pub mod Links
 pub mod Union
 pub mod Runs
+pub mod Laws

@@ -1,0 +1,33 @@
+-- What is proved of gluing and of the skeletons of polygons and bonds, as statements.
+use Rattle.std.specs.Prelude.{◌≡◌, ◌≢◌, ℕ, ◌*◌, ◌<◌, ◌↔◌, Bool, false, List, length, reverse}
+use Rattle.permutations.specs.Cyclic.{from_least}
+use Rattle.multigraph.specs.Graph.{Multigraph}
+use Rattle.rotations.specs.Rotation.{order_at, IsRotationSystem}
+use Rattle.dart_maps.specs.Map as maps
+use Rattle.dart_maps.specs.Map.{twin, IsMap, same_vertex, same_component}
+use Rattle.dart_maps.specs.Changes.{glued}
+use Rattle.faces.specs.Euler.{IsPlane}
+use Rattle.pair_split.specs.Tutte.{Node}
+use Rattle.pair_split.specs.declared.components.Kind.TheVariants.{S, P, B}
+use Rattle.skeletons.specs.Items.{IsBlockTree}
+use Rattle.skeletons.specs.Families.{skeleton_graph}
+use Rattle.skeletons.specs.Moves.{IsNodeOfKind}
+
+-- the skeleton of a polygon has one rotation system, and it is plane
+abbrev pub PolygonHasOneSystem : Type 0
+PolygonHasOneSystem = (g : Multigraph) (nodes : List Node) → IsBlockTree g nodes → (k : ℕ) → IsNodeOfKind nodes k S
+    → (s : List (List ℕ)) → IsRotationSystem (skeleton_graph nodes k) s
+    → IsPlane (skeleton_graph nodes k) s × ((t : List (List ℕ)) → IsRotationSystem (skeleton_graph nodes k) t → s ≡ t)
+
+-- a rotation system of the skeleton of a bond is plane exactly where the order at the one pole is the reverse of that at the
+-- other
+abbrev pub BondIsPlaneWhereReversed : Type 0
+BondIsPlaneWhereReversed = (g : Multigraph) (nodes : List Node) → IsBlockTree g nodes → (k : ℕ) → IsNodeOfKind nodes k P
+    → (s : List (List ℕ)) → IsRotationSystem (skeleton_graph nodes k) s
+    → (IsPlane (skeleton_graph nodes k) s ↔ (order_at s 1 ≡ from_least (reverse (order_at s 0))))
+
+-- a block of one edge or two has one rotation system, and it is plane
+abbrev pub SmallHasOneSystem : Type 0
+SmallHasOneSystem = (g : Multigraph) (nodes : List Node) → IsBlockTree g nodes → (k : ℕ) → IsNodeOfKind nodes k B
+    → (s : List (List ℕ)) → IsRotationSystem (skeleton_graph nodes k) s
+    → IsPlane (skeleton_graph nodes k) s × ((t : List (List ℕ)) → IsRotationSystem (skeleton_graph nodes k) t → s ≡ t)
