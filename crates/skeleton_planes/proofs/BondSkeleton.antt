@@ -37,7 +37,7 @@ use Rattle.skeletons.proofs.NodeItems.{piece-in, node-piece, edge-item}
 use Rattle.skeleton_runs.proofs.Items.{skeleton-at, skeleton-in}
 use Rattle.skeleton_runs.proofs.SkeletonGraph.{skeleton-graph, graph-edges, graph-ends}
 use Rattle.skeleton_runs.proofs.SkeletonGraph.{edge-item as graph-item}
-use Rattle.skeleton_planes.specs.Runs.{end_of}
+use Rattle.skeleton_planes.proofs.RunTests.{end_of}
 use Rattle.skeleton_planes.proofs.SkeletonDarts.{dart-item, item-dart, end-vertex, same-end_of, tail-place, skeleton-map, step-item, step-end, step-next, own-item, round-item}
 use Rattle.skeleton_planes.proofs.Linked.{twin-end}
 use Rattle.skeleton_planes.proofs.PolygonSkeleton.{some-system, some-order, rising_system, rising-order, rising-system}

@@ -5,7 +5,7 @@ use Rattle.permutations.specs.Members.{is_member, is_distinct}
 use Rattle.permutations.specs.Cyclic.{successor}
 use Rattle.permutations.proofs.Successor.{successor-member, successor-injective}
 use Rattle.permutations.proofs.Chains.{chain-test}
-use Rattle.skeleton_planes.specs.Runs.{ends_run, begins_run}
+use Rattle.skeleton_planes.proofs.RunTests.{ends_run, begins_run}
 
 -- a member that follows itself is the only one
 pub follows-itself : (l : List ℕ) (c : ℕ) → is_distinct l ≡ true → is_member c l ≡ true → successor l c ≡ c → (x : ℕ) → is_member x l ≡ true → x ≡ c

@@ -7,7 +7,7 @@ use Rattle.dart_maps.specs.Changes.{glued}
 use Rattle.dart_maps.proofs.Darts.{twin-other, twin-below, twin-twin, twin-one}
 use Rattle.dart_maps.proofs.Glue.{four-not}
 use Rattle.dart_maps.specs.Order.{one_of_four}
-use Rattle.skeleton_planes.specs.Seams.{IsOff, AreFacing, AreJoined}
+use Rattle.skeleton_planes.proofs.Seams.{IsOff, AreFacing, AreJoined}
 
 -- numbers that a function tells apart differ
 pub told-apart : {X : Type 0} (f : ℕ → X) (x y : ℕ) → (f x ≡ f y → ⊥) → x ≡ y → ⊥

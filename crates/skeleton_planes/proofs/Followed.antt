@@ -32,9 +32,9 @@ use Rattle.skeletons.specs.Families.{skeleton_graph, system_at, AreSkeletonSyste
 use Rattle.skeletons.specs.Laws.{PlaneWhereMembersAre}
 use Rattle.skeletons.proofs.NodeItems.{node-in, comp-in, stands-of, item-of, ends-at}
 use Rattle.skeleton_runs.proofs.SkeletonGraph.{skeleton-graph}
-use Rattle.skeleton_planes.specs.Links.{all_glued, is_used, IsStage}
-use Rattle.skeleton_planes.specs.Union.{coded, part_of, local_of, united}
-use Rattle.skeleton_planes.specs.Runs.{ends_run, begins_run, end_of, holds, is_dart, ends_with, begins_behind}
+use Rattle.skeleton_planes.proofs.LinkLists.{all_glued, is_used, IsStage}
+use Rattle.skeleton_planes.proofs.Numbering.{coded, part_of, local_of, united}
+use Rattle.skeleton_planes.proofs.RunTests.{ends_run, begins_run, end_of, holds, is_dart, ends_with, begins_behind}
 use Rattle.skeleton_planes.proofs.Coded.{part-coded, local-coded, coded-local, coded-below, coded-twin, part-below, part-twin, local-twin}
 use Rattle.skeleton_planes.proofs.Complements.{ends-from, begins-parts}
 use Rattle.skeleton_planes.proofs.Stages.{all-stages, used-twin}

@@ -7,7 +7,7 @@ use Rattle.dart_maps.specs.Order.{one_of_four}
 use Rattle.dart_maps.proofs.Darts.{twin-other, twin-below, twin-twin}
 use Rattle.dart_maps.proofs.FourDarts.{four-members, four-none, four-cases}
 use Rattle.dart_maps.proofs.Glue.{four-not}
-use Rattle.skeleton_planes.specs.Seams.{IsOff, AreFacing, AreJoined}
+use Rattle.skeleton_planes.proofs.Seams.{IsOff, AreFacing, AreJoined}
 use Rattle.skeleton_planes.proofs.Facing.{sides-differ, facing-back, joined-back, before-in, after-before, after-twin_before, before-side, twin_before-side, before-other, before-not_twin, twin_before-other, twin_before-not_d, before-only, twin_before-only, inside-off}
 
 -- a dart off two edges is none of their four darts

@@ -16,9 +16,9 @@ use Rattle.skeletons.specs.Items.{has_vertex, IsBlockTree}
 use Rattle.skeletons.specs.Families.{AreSkeletonSystems}
 use Rattle.skeletons.proofs.NodeItems.{stands-of, item-edge}
 use Rattle.skeleton_runs.proofs.NodeFits.{vertex-fits}
-use Rattle.skeleton_planes.specs.Links.{IsLinkOf}
-use Rattle.skeleton_planes.specs.Union.{coded, part_of, local_of, united}
-use Rattle.skeleton_planes.specs.Runs.{ends_run, begins_run, end_of, holds, is_dart, ends_with, begins_behind}
+use Rattle.skeleton_planes.proofs.LinkLists.{IsLinkOf}
+use Rattle.skeleton_planes.proofs.Numbering.{coded, part_of, local_of, united}
+use Rattle.skeleton_planes.proofs.RunTests.{ends_run, begins_run, end_of, holds, is_dart, ends_with, begins_behind}
 use Rattle.skeleton_planes.proofs.Coded.{part-coded, local-coded, coded-below, coded-twin}
 use Rattle.skeleton_planes.proofs.Complements.{begins-ends}
 use Rattle.skeleton_planes.proofs.SkeletonDarts.{end-vertex}

@@ -27,10 +27,10 @@ use Rattle.skeletons.specs.Families.{place_of, skeleton_graph, system_at, AreSke
 use Rattle.skeletons.proofs.NodeItems.{comp-in, piece-in, item-in, ends-at, stands-of, group-is, edge-item, item-edge, edge-end, outside-edge, group-item}
 use Rattle.skeleton_runs.proofs.NodeFits.{vertex-fits}
 use Rattle.skeleton_runs.proofs.SkeletonGraph.{skeleton-graph}
-use Rattle.skeleton_planes.specs.Seams.{IsNoBridge}
-use Rattle.skeleton_planes.specs.Links.{IsLinkOf}
-use Rattle.skeleton_planes.specs.Union.{coded, part_of, local_of, united}
-use Rattle.skeleton_planes.specs.Runs.{ends_run, begins_run, end_of, holds, is_dart, ends_with, begins_behind}
+use Rattle.skeleton_planes.specs.Bridges.{IsNoBridge}
+use Rattle.skeleton_planes.proofs.LinkLists.{IsLinkOf}
+use Rattle.skeleton_planes.proofs.Numbering.{coded, part_of, local_of, united}
+use Rattle.skeleton_planes.proofs.RunTests.{ends_run, begins_run, end_of, holds, is_dart, ends_with, begins_behind}
 use Rattle.skeleton_planes.proofs.Coded.{part-coded, local-coded, coded-below, coded-twin}
 use Rattle.skeleton_planes.proofs.Complements.{follows-itself, begins-ends}
 use Rattle.skeleton_planes.proofs.Spread.{alike, alike-true, alike-from}

@@ -32,7 +32,7 @@ use Rattle.skeleton_runs.proofs.NodeFits.{node-kind}
 use Rattle.skeleton_runs.proofs.Sturdy.{polygon-two}
 use Rattle.skeleton_runs.proofs.SkeletonGraph.{place-at, place-of_at, distinct-fewer, skeleton-graph, graph-edges}
 use Rattle.skeleton_runs.proofs.SkeletonGraph.{edge-item as graph-item}
-use Rattle.skeleton_planes.specs.Runs.{end_of}
+use Rattle.skeleton_planes.proofs.RunTests.{end_of}
 use Rattle.skeleton_planes.specs.Laws.{PolygonHasOneSystem, BondIsPlaneWhereReversed, SmallHasOneSystem}
 use Rattle.skeleton_planes.proofs.SkeletonDarts.{dart-item, end-vertex, tail-place, own-item, round-item}
 use Rattle.skeleton_planes.proofs.Linked.{dart-at}

@@ -37,7 +37,7 @@ use Rattle.skeleton_runs.proofs.Items.{skeleton-at, skeleton-in}
 use Rattle.skeleton_runs.proofs.Sturdy.{polygon-two}
 use Rattle.skeleton_runs.proofs.NodeFits.{vertex-skeleton}
 use Rattle.skeleton_runs.proofs.SkeletonGraph.{skeleton-graph, graph-edges}
-use Rattle.skeleton_planes.specs.Runs.{end_of}
+use Rattle.skeleton_planes.proofs.RunTests.{end_of}
 use Rattle.skeleton_planes.proofs.Complements.{follows-itself}
 use Rattle.skeleton_planes.proofs.SkeletonDarts.{dart-item, item-dart, end-vertex, same-end_of, tail-place, skeleton-map, step-item, step-end, step-next, own-item, round-item}
 use Rattle.skeleton_planes.proofs.Linked.{dart-at, end-of_item, twin-end}

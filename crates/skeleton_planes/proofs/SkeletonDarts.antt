@@ -25,7 +25,7 @@ use Rattle.skeletons.specs.Families.{place_of, skeleton_graph, system_at, keys_i
 use Rattle.skeletons.proofs.NodeItems.{keys-once, group-is, group-item}
 use Rattle.skeleton_runs.proofs.NodeFits.{item-first, item-second, vertex-fits}
 use Rattle.skeleton_runs.proofs.SkeletonGraph.{place-once, skeleton-graph, graph-edges, edge-item, item-edge, graph-ends}
-use Rattle.skeleton_planes.specs.Runs.{ends_run, begins_run, end_of, holds, is_dart, ends_with, begins_behind}
+use Rattle.skeleton_planes.proofs.RunTests.{ends_run, begins_run, end_of, holds, is_dart, ends_with, begins_behind}
 use Rattle.skeleton_planes.proofs.Complements.{ends-parts, begins-from}
 use Rattle.skeleton_planes.proofs.RunEnds.{run-followed}
 

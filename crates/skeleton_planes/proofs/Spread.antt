@@ -7,7 +7,8 @@ use Rattle.permutations.proofs.Orbits.{orbit-kept, orbit-equivalence, orbit-test
 use Rattle.permutations.proofs.Unlinking.{before-orbit}
 use Rattle.dart_maps.specs.Map.{twin, IsMap}
 use Rattle.dart_maps.proofs.Darts.{twin-other, twin-below, twin-twin}
-use Rattle.skeleton_planes.specs.Seams.{IsOff, AreFacing, AreJoined, IsNoBridge}
+use Rattle.skeleton_planes.proofs.Seams.{IsOff, AreFacing, AreJoined}
+use Rattle.skeleton_planes.specs.Bridges.{IsNoBridge}
 use Rattle.skeleton_planes.proofs.Facing.{twin-in, before-in, twin_before-in, after-before, after-twin_before, before-side, twin-side, twin_before-side, before-place, twin_before-place, before-other, before-not_twin, twin_before-other, twin_before-not_d, after-not_twin, twin_after-not_d, before-only, twin_before-only, off-side}
 
 -- two values of a test are the same, as a test

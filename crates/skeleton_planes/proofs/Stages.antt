@@ -14,8 +14,9 @@ use Rattle.dart_maps.proofs.Components.{component-equivalence, component-next, c
 use Rattle.dart_maps.proofs.FourDarts.{four-members, four-none, four-cases}
 use Rattle.dart_maps.proofs.Glue.{glue-plane, glued-map}
 use Rattle.dart_maps.proofs.Steps.{back_after}
-use Rattle.skeleton_planes.specs.Seams.{IsOff, AreFacing, AreJoined, IsNoBridge}
-use Rattle.skeleton_planes.specs.Links.{all_glued, is_used, part_links, IsLinkOf, AreLinksOf, IsStage}
+use Rattle.skeleton_planes.proofs.Seams.{IsOff, AreFacing, AreJoined}
+use Rattle.skeleton_planes.specs.Bridges.{IsNoBridge}
+use Rattle.skeleton_planes.proofs.LinkLists.{all_glued, is_used, part_links, IsLinkOf, AreLinksOf, IsStage}
 use Rattle.skeleton_planes.proofs.Facing.{sides-differ, facing-back, before-in, twin_before-in, after-before, after-twin_before, before-side, twin_before-side}
 use Rattle.skeleton_planes.proofs.Unglued.{joined-places, unglue-plane}
 use Rattle.skeleton_planes.proofs.Bridges.{joined-no_bridge}
@@ -26,7 +27,7 @@ pub neither : (x y : Bool) → (x || y) ≡ false → (x ≡ false) × (y ≡ fa
 neither x y h = (grind (arith, cases_Bool x, cases_Bool y), grind (arith, cases_Bool x, cases_Bool y))
 
 -- a test that an equivalence makes is kept by a step within its classes
-class-kept : (r : ℕ → ℕ → Bool) → IsEquivalence r → (d x y : ℕ) → r x y ≡ true → r d y ≡ r d x
+pub class-kept : (r : ℕ → ℕ → Bool) → IsEquivalence r → (d x y : ℕ) → r x y ≡ true → r d y ≡ r d x
 class-kept r e d x y h = same-tests (r d y) (r d x) (λ t. e.transitive d y x t (e.symmetric x y h)) (λ t. e.transitive d x y t h)
 
 -- a stage, and a further link

@@ -20,8 +20,8 @@ use Rattle.pair_split.proofs.TreeSides.{beyond-far, beyond-near, beyond-along, b
 use Rattle.skeletons.specs.Items.{IsBlockTree}
 use Rattle.skeletons.specs.Families.{AreSkeletonSystems}
 use Rattle.skeletons.proofs.NodeItems.{node-in, comp-in, stands-of, item-of, node-piece}
-use Rattle.skeleton_planes.specs.Links.{is_used, part_links, IsLinkOf, AreLinksOf}
-use Rattle.skeleton_planes.specs.Union.{coded, part_of, local_of, united}
+use Rattle.skeleton_planes.proofs.LinkLists.{is_used, part_links, IsLinkOf, AreLinksOf}
+use Rattle.skeleton_planes.proofs.Numbering.{coded, part_of, local_of, united}
 use Rattle.skeleton_planes.proofs.Coded.{part-coded, local-coded, coded-twin}
 use Rattle.skeleton_planes.proofs.Whole.{stepped, dart-fits, place_in, ends_in, begins_in}
 use Rattle.skeleton_planes.proofs.LinkPairs.{link-pair}

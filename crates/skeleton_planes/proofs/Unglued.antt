@@ -17,7 +17,8 @@ use Rattle.dart_maps.proofs.Euler.{plane-ext}
 use Rattle.dart_maps.proofs.Plane.{same-defect-plane, corner-cut, restricted-plane}
 use Rattle.dart_maps.proofs.Insert.{insert-defect}
 use Rattle.dart_maps.proofs.Parts.{parts-plane}
-use Rattle.skeleton_planes.specs.Seams.{IsOff, AreFacing, AreJoined, IsNoBridge}
+use Rattle.skeleton_planes.proofs.Seams.{IsOff, AreFacing, AreJoined}
+use Rattle.skeleton_planes.specs.Bridges.{IsNoBridge}
 use Rattle.skeleton_planes.proofs.Facing.{sides-differ, facing-back, joined-back, twin-in, before-in, twin_before-in, after-before, after-twin_before, before-side, twin-side, twin_before-side, before-place, twin_before-place, before-other, before-not_twin, twin_before-other, twin_before-not_d, after-not_twin, twin_after-not_d, before-only, twin_before-only, off-side, inside-joined}
 use Rattle.skeleton_planes.proofs.Spread.{spread, spread-before, spread-twin_before}
 

@@ -8,7 +8,7 @@ use Rattle.dart_maps.specs.Map.{twin, IsMap, IsPlane}
 use Rattle.dart_maps.specs.Renumbering.{IsRenumbering}
 use Rattle.dart_maps.proofs.Darts.{twin-below, twin-cases}
 use Rattle.dart_maps.proofs.Renumber.{renumber-plane, renumber-plane-back}
-use Rattle.skeleton_planes.specs.Union.{coded, part_of, local_of, united}
+use Rattle.skeleton_planes.proofs.Numbering.{coded, part_of, local_of, united}
 use Rattle.skeleton_planes.proofs.Coded.{part-coded, local-coded, coded-local, coded-below, part-below, local-below, some-width, part-twin, local-twin, coded-twin}
 use Rattle.skeleton_planes.proofs.ManyParts.{restricted-kept, many-plane, many-plane-back}
 

@@ -14,8 +14,8 @@ use Rattle.skeletons.specs.Items.{node_keys, item_key, IsBlockTree}
 use Rattle.skeletons.specs.Families.{skeleton_graph, system_at, AreSkeletonSystems, FollowsFamily}
 use Rattle.skeleton_runs.proofs.NodeFits.{key-fits}
 use Rattle.skeleton_runs.proofs.SkeletonGraph.{graph-edges}
-use Rattle.skeleton_planes.specs.Union.{coded, part_of, local_of, united}
-use Rattle.skeleton_planes.specs.Runs.{end_of, is_dart, ends_with, begins_behind, ends_run, holds}
+use Rattle.skeleton_planes.proofs.Numbering.{coded, part_of, local_of, united}
+use Rattle.skeleton_planes.proofs.RunTests.{end_of, is_dart, ends_with, begins_behind, ends_run, holds}
 use Rattle.skeleton_planes.proofs.Coded.{part-coded, local-coded, coded-local, coded-below, part-below, local-below, some-width, part-twin, local-twin, coded-twin}
 use Rattle.skeleton_planes.proofs.Union.{united-part, united-local, united-map, united-plane, united-plane-back, filled-map, filled-plane, filled-plane-back}
 use Rattle.skeleton_planes.proofs.SkeletonDarts.{dart-item, item-dart, end-vertex, skeleton-map, step-item, step-end, ends-begins}

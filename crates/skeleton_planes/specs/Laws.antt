@@ -12,6 +12,14 @@ use Rattle.pair_split.specs.declared.components.Kind.TheVariants.{S, P, B}
 use Rattle.skeletons.specs.Items.{IsBlockTree}
 use Rattle.skeletons.specs.Families.{skeleton_graph}
 use Rattle.skeletons.specs.Moves.{IsNodeOfKind}
+use Rattle.skeleton_planes.specs.Bridges.{IsNoBridge}
+
+-- two components glued along an edge of each, neither of them a bridge: what comes of it is plane exactly where the map is
+abbrev pub GluingIsExact : Type 0
+GluingIsExact = (m : ℕ) (next previous : ℕ → ℕ) → IsMap m next previous → (d e : ℕ) → d < 2 * m → e < 2 * m
+    → same_component m next d e ≡ false → same_vertex m next d (twin d) ≡ false → same_vertex m next e (twin e) ≡ false
+    → next d ≢ d → next (twin d) ≢ twin d → next e ≢ e → next (twin e) ≢ twin e → IsNoBridge m next d → IsNoBridge m next e
+    → (maps.IsPlane m next ↔ maps.IsPlane m (glued d e next))
 
 -- the skeleton of a polygon has one rotation system, and it is plane
 abbrev pub PolygonHasOneSystem : Type 0

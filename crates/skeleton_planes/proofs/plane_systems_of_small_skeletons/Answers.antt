@@ -1,0 +1,5 @@
+use Rattle.skeleton_planes.proofs.OneSystem.{polygon-law, bond-law, small-law}
+use Rattle.skeleton_planes.proofs.plane_systems_of_small_skeletons.Goals as goal
+
+pub returns : goal.returns
+returns c = record { polygon = polygon-law; bond = bond-law; small = small-law }
