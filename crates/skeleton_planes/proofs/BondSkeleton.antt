@@ -171,7 +171,7 @@ module _ (g : Multigraph) (nodes : List Node) (b : IsBlockTree g nodes) (k : ℕ
       or_right ((ends_of graph i).0 == greater_place) ((ends_of graph i).1 == greater_place) (eq-eqb (ends_of graph i).1 greater_place (ap (λ (p : ℕ × ℕ). p.1) e)))
 
   -- so the same edges stand at both
-  same-incident : incident_edges graph greater_place ≡ incident_edges graph lesser_place
+  pub same-incident : incident_edges (skeleton_graph nodes k) (place_of (node_at nodes k).vertices (node_item nodes k 0).b) ≡ incident_edges (skeleton_graph nodes k) (place_of (node_at nodes k).vertices (node_item nodes k 0).a)
   same-incident = filter-ext (is_end graph greater_place) (is_end graph lesser_place) (numbers_below (edge_count graph)) (λ x m.
       let n : x < edge_count graph = contains-below (edge_count graph) x (contains-from_member (numbers_below (edge_count graph)) x m) in (all-ends x n).1 ∙ sym (all-ends x n).0)
 

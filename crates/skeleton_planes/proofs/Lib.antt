@@ -26,3 +26,4 @@ pub mod BondSkeleton
 pub mod Planar
 pub mod OneSystem
 pub mod Exact
+pub mod BondMade

@@ -159,7 +159,7 @@ module _ (g : Multigraph) (nodes : List Node) (b : IsBlockTree g nodes) (k : ℕ
   greater = (node_item nodes k 0).b
 
   -- there are no other places
-  place-cases : (p : ℕ) → p < length vertices → (p ≡ place_of vertices lesser) ⊎ (p ≡ place_of vertices greater)
+  pub place-cases : (p : ℕ) → p < length (node_at nodes k).vertices → (p ≡ place_of (node_at nodes k).vertices (node_item nodes k 0).a) ⊎ (p ≡ place_of (node_at nodes k).vertices (node_item nodes k 0).b)
   place-cases p n =
       let w = vertex-end g nodes b.tree k (get_or vertices p 0) (member-at vertices p 0 n) in
       let e = item-ends g nodes b k l poles w.0 w.1 in
@@ -218,7 +218,7 @@ module _ (g : Multigraph) (nodes : List Node) (b : IsBlockTree g nodes) (k : ℕ
   ])
 
 -- a node's skeleton is of the node's kind
-kind-of : (g : Multigraph) (nodes : List Node) → IsBlockTree g nodes → (k : ℕ) (kind : Kind) → IsNodeOfKind nodes k kind → IsOfKind kind (skeleton (components nodes) k)
+pub kind-of : (g : Multigraph) (nodes : List Node) → IsBlockTree g nodes → (k : ℕ) (kind : Kind) → IsNodeOfKind nodes k kind → IsOfKind kind (skeleton (components nodes) k)
 kind-of g nodes b k kind n = subst (λ (kind : Kind). IsOfKind kind (skeleton (components nodes) k)) (node-kind nodes k ∙ n.1) (b.tree.split.of_kind.kinds k (comp-in g nodes b.tree k n.0)).of_kind
 
 -- a polygon has one rotation system, and it is plane

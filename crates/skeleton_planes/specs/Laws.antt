@@ -1,8 +1,8 @@
 -- What is proved of gluing and of the skeletons of polygons and bonds, as statements.
 use Rattle.std.specs.Prelude.{◌≡◌, ◌≢◌, ℕ, ◌*◌, ◌<◌, ◌↔◌, Bool, false, List, length, reverse}
 use Rattle.permutations.specs.Cyclic.{from_least}
-use Rattle.multigraph.specs.Graph.{Multigraph}
-use Rattle.rotations.specs.Rotation.{order_at, IsRotationSystem}
+use Rattle.multigraph.specs.Graph.{Multigraph, incident_edges}
+use Rattle.rotations.specs.Rotation.{order_at, IsCyclicOrder, IsRotationSystem}
 use Rattle.dart_maps.specs.Map as maps
 use Rattle.dart_maps.specs.Map.{twin, IsMap, same_vertex, same_component}
 use Rattle.dart_maps.specs.Changes.{glued}
@@ -11,6 +11,7 @@ use Rattle.pair_split.specs.Tutte.{Node}
 use Rattle.pair_split.specs.declared.components.Kind.TheVariants.{S, P, B}
 use Rattle.skeletons.specs.Items.{IsBlockTree}
 use Rattle.skeletons.specs.Families.{skeleton_graph}
+use Rattle.skeletons.specs.Choices.{IsPlaneSystem}
 use Rattle.skeletons.specs.Moves.{IsNodeOfKind}
 use Rattle.skeleton_planes.specs.Bridges.{IsNoBridge}
 
@@ -33,6 +34,12 @@ abbrev pub BondIsPlaneWhereReversed : Type 0
 BondIsPlaneWhereReversed = (g : Multigraph) (nodes : List Node) → IsBlockTree g nodes → (k : ℕ) → IsNodeOfKind nodes k P
     → (s : List (List ℕ)) → IsRotationSystem (skeleton_graph nodes k) s
     → (IsPlane (skeleton_graph nodes k) s ↔ (order_at s 1 ≡ from_least (reverse (order_at s 0))))
+
+-- and each cyclic order of its items is that of a plane one at the one pole
+abbrev pub BondHasEachOrder : Type 0
+BondHasEachOrder = (g : Multigraph) (nodes : List Node) → IsBlockTree g nodes → (k : ℕ) → IsNodeOfKind nodes k P
+    → (order : List ℕ) → IsCyclicOrder (incident_edges (skeleton_graph nodes k) 0) order
+    → (s : List (List ℕ)) × IsPlaneSystem (skeleton_graph nodes k) s × (order_at s 0 ≡ order)
 
 -- a block of one edge or two has one rotation system, and it is plane
 abbrev pub SmallHasOneSystem : Type 0

@@ -25,7 +25,7 @@
 #![tactic(auto)]
 
 ghost use Rattle.skeletons.specs.Laws.{PlaneWhereMembersAre, PlanarWhereSkeletonsAre};
-ghost use Rattle.skeleton_planes.specs.Laws.{BondIsPlaneWhereReversed, GluingIsExact, PolygonHasOneSystem, SmallHasOneSystem};
+ghost use Rattle.skeleton_planes.specs.Laws.{BondHasEachOrder, BondIsPlaneWhereReversed, GluingIsExact, PolygonHasOneSystem, SmallHasOneSystem};
 
 /// The law that a rotation system of a block that follows a family of rotation systems of the skeletons is plane exactly where
 /// each of them is; and that a block has a plane rotation system exactly where each triconnected skeleton has one.
@@ -35,10 +35,12 @@ pub fn skeletons_tell_plane()
 {}
 
 /// The law on skeletons that are not triconnected: a polygon has one rotation system, and it is plane, as has a block of one
-/// edge or two; a rotation system of a bond is plane exactly where the order at the one pole is the reverse of that at the other.
+/// edge or two; a rotation system of a bond is plane exactly where the order at the one pole is the reverse of that at the
+/// other, and each cyclic order of its items is that of a plane one.
 pub fn plane_systems_of_small_skeletons()
     ensures polygon { PolygonHasOneSystem }
     ensures bond { BondIsPlaneWhereReversed }
+    ensures bond_orders { BondHasEachOrder }
     ensures small { SmallHasOneSystem }
 {}
 
