@@ -1,25 +1,23 @@
 -- Each cyclic order of a bond's items is that of a plane rotation system at the lesser pole; and the poles' places are 0 and 1.
-use Rattle.std.proofs.Common.{◌≡◌, ◌≢◌, ℕ, zero, suc, ◌+◌, ◌<◌, ◌⊎◌, ◌==◌, Bool, true, false, cond, List, [], ◌∷◌, length, map, reverse, IsPermutation, inl, inr, refl, sym, ap, ◌∙◌, subst, arith, eq-eqb}
-use Rattle.std.proofs.lemmas.Bool.{cases_Bool, ne_eqb, eqb-true}
+use Rattle.std.proofs.Common.{◌≡◌, ℕ, ◌+◌, ◌<◌, ◌⊎◌, ◌==◌, Bool, true, cond, List, [], ◌∷◌, map, reverse, inl, inr, refl, sym, ap, ◌∙◌, subst, eq-eqb}
 use Rattle.std.proofs.lemmas.List.{get_or-map, length-map}
-use Rattle.permutations.specs.Members.{is_member, is_distinct}
+use Rattle.permutations.specs.Members.{is_member}
 use Rattle.permutations.specs.Cyclic.{first_or, from_least}
 use Rattle.permutations.proofs.Members.{member-reverse, distinct-reverse}
 use Rattle.permutations.proofs.NormalForm.{from_least-member, from_least-distinct}
 use Rattle.permutations.proofs.Arrangements.{permutation-member, permutation-distinct, permutation-from_members}
-use Rattle.multigraph.specs.Graph.{Multigraph, edge_count, numbers_below, incident_edges}
+use Rattle.multigraph.specs.Graph.{Multigraph, numbers_below, incident_edges}
 use Rattle.multigraph.proofs.Below.{length-numbers_below, get_or-numbers_below}
 use Rattle.rotations.specs.Rotation.{order_at, IsCyclicOrder, IsRotationSystem}
 use Rattle.rotations.proofs.Membership.{incident-distinct}
-use Rattle.faces.specs.Euler.{IsPlane}
 use Rattle.faces.proofs.MapMirror.{incident-least}
 use Rattle.faces.proofs.MapLists.{first-same}
 use Rattle.faces.proofs.MapPartOrders.{from_least-least}
 use Rattle.pair_split.specs.Skeleton.{HasPoles}
 use Rattle.pair_split.specs.Split.{skeleton}
-use Rattle.pair_split.specs.Tutte.{Node, components, node_at, node_item}
+use Rattle.pair_split.specs.Tutte.{Node, components, node_at}
 use Rattle.pair_split.specs.declared.components.Kind.TheVariants.{P}
-use Rattle.skeletons.specs.Items.{has_vertex, least_vertex, greatest_vertex, IsBlockTree}
+use Rattle.skeletons.specs.Items.{least_vertex, greatest_vertex, IsBlockTree}
 use Rattle.skeletons.specs.Families.{place_of, skeleton_graph}
 use Rattle.skeletons.specs.Choices.{IsPlaneSystem}
 use Rattle.skeletons.specs.Moves.{IsNodeOfKind}

@@ -1,23 +1,22 @@
 -- The skeletons of bonds: a rotation system of one is plane exactly where the order at the one pole is the reverse of that at
 -- the other.
-use Rattle.std.proofs.Common.{◌≡◌, ◌≢◌, ℕ, zero, suc, ◌+◌, ◌*◌, ◌/◌, ◌%◌, ◌<◌, ◌≤◌, ◌⊎◌, Bool, true, false, not, ◌||◌, ◌==◌, cond, List, [], ◌∷◌, length, map, filter, reverse, slice_index_or, inl, inr, refl, sym, ap, ap₂, ◌∙◌, subst, arith, eq-eqb, eqb-true, All}
+use Rattle.std.proofs.Common.{◌≡◌, ℕ, ◌*◌, ◌/◌, ◌%◌, ◌<◌, ◌⊎◌, Bool, true, not, ◌==◌, cond, List, length, map, reverse, inl, inr, refl, sym, ap, ap₂, ◌∙◌, subst, arith, eq-eqb, eqb-true}
 use Rattle.std.proofs.lemmas.Bool.{cases_Bool, cases_eq, both_ways, ne_eqb, or_left, or_right}
-use Rattle.std.proofs.lemmas.List.{length-map}
 use Rattle.std.proofs.lemmas.List.Elements.{All-get_or}
 use Rattle.permutations.specs.Members.{is_member, is_distinct}
 use Rattle.permutations.specs.Cyclic.{successor, predecessor, from_least}
 use Rattle.permutations.proofs.Members.{member-reverse, distinct-reverse}
-use Rattle.permutations.proofs.Successor.{successor-member, successor-absent, predecessor-successor, successor-predecessor}
+use Rattle.permutations.proofs.Successor.{successor-absent, predecessor-successor, successor-predecessor}
 use Rattle.permutations.proofs.CyclicSame.{same-lists}
 use Rattle.permutations.proofs.NormalForm.{mirror-successor, from_least-member, from_least-distinct}
 use Rattle.permutations.proofs.Filter.{filter-ext}
 use Rattle.permutations.proofs.Arrangements.{permutation-member, contains-from_member}
 use Rattle.multigraph.specs.Graph.{Multigraph, IsGraph, edge_count, ends_of, is_end, numbers_below, incident_edges}
-use Rattle.rotations.specs.Rotation.{order_at, IsCyclicOrder, IsRotationSystem}
+use Rattle.rotations.specs.Rotation.{order_at, IsRotationSystem}
 use Rattle.dart_maps.specs.Map.{twin, face, same_vertex}
-use Rattle.dart_maps.proofs.Darts.{twin-edge, twin-twin, edge-twin, twin-below, twin-even, twin-cases}
+use Rattle.dart_maps.proofs.Darts.{twin-edge, twin-cases}
 use Rattle.dart_maps.proofs.Bond.{bond-plane, bond-plane-back}
-use Rattle.faces.specs.Euler.{tail, IsPlane}
+use Rattle.faces.specs.Euler.{IsPlane}
 use Rattle.faces.specs.Maps.{dart_after, dart_before, mirror_image}
 use Rattle.faces.proofs.DartLemmas.{order-distinct}
 use Rattle.faces.proofs.MapSteps.{tail-in}
@@ -27,10 +26,10 @@ use Rattle.faces.proofs.MapMirror.{mirror-order, mirror-system, order-least}
 use Rattle.faces.proofs.MapLists.{first-same}
 use Rattle.faces.proofs.MapPartOrders.{from_least-least}
 use Rattle.pair_split.specs.Skeleton.{SameEnds, HasPoles}
-use Rattle.pair_split.specs.Split.{skeleton, item_at, items_of, piece_ends}
-use Rattle.pair_split.specs.Tutte.{Node, components, node_at, node_item, IsTutte}
+use Rattle.pair_split.specs.Split.{skeleton, piece_ends}
+use Rattle.pair_split.specs.Tutte.{Node, components, node_at, node_item}
 use Rattle.pair_split.proofs.GraphFamily.{contains-below}
-use Rattle.skeletons.specs.Items.{has_vertex, IsBlockTree}
+use Rattle.skeletons.specs.Items.{IsBlockTree}
 use Rattle.skeletons.specs.Families.{place_of, skeleton_graph}
 use Rattle.skeletons.specs.Choices.{IsPlaneSystem}
 use Rattle.skeletons.proofs.NodeItems.{piece-in, node-piece, edge-item}
@@ -38,8 +37,7 @@ use Rattle.skeleton_runs.proofs.Items.{skeleton-at, skeleton-in}
 use Rattle.skeleton_runs.proofs.SkeletonGraph.{skeleton-graph, graph-edges, graph-ends}
 use Rattle.skeleton_runs.proofs.SkeletonGraph.{edge-item as graph-item}
 use Rattle.skeleton_planes.proofs.RunTests.{end_of}
-use Rattle.skeleton_planes.proofs.SkeletonDarts.{dart-item, item-dart, end-vertex, same-end_of, tail-place, skeleton-map, step-item, step-end, step-next, own-item, round-item}
-use Rattle.skeleton_planes.proofs.Linked.{twin-end}
+use Rattle.skeleton_planes.proofs.SkeletonDarts.{dart-item, item-dart, same-end_of, tail-place, skeleton-map, step-item, step-end, step-next, round-item}
 use Rattle.skeleton_planes.proofs.PolygonSkeleton.{some-system, some-order, rising_system, rising-order, rising-system}
 
 -- two pairs with the same two ends, each time the lesser one first
@@ -166,9 +164,10 @@ module _ (g : Multigraph) (nodes : List Node) (b : IsBlockTree g nodes) (k : ℕ
   -- each item stands at both
   all-ends : (i : ℕ) → i < edge_count (skeleton_graph nodes k) → (is_end graph lesser_place i ≡ true) × (is_end graph greater_place i ≡ true)
   all-ends i n = let m : i < number = graph-item g nodes b k l i n in
-      let e : ends_of graph i ≡ (lesser_place, greater_place) = graph-ends g nodes b k l i m ∙ ap₂ (λ x y. (place_of (node_at nodes k).vertices x, place_of (node_at nodes k).vertices y)) (item-ends i m).0 (item-ends i m).1 in
-      (or_left ((ends_of graph i).0 == lesser_place) ((ends_of graph i).1 == lesser_place) (eq-eqb (ends_of graph i).0 lesser_place (ap (λ (p : ℕ × ℕ). p.0) e)),
-      or_right ((ends_of graph i).0 == greater_place) ((ends_of graph i).1 == greater_place) (eq-eqb (ends_of graph i).1 greater_place (ap (λ (p : ℕ × ℕ). p.1) e)))
+      let e : ends_of graph i ≡ (lesser_place, greater_place) = graph-ends g nodes b k l i m ∙ ap₂ (λ x y. (place_of (node_at nodes k).vertices x, place_of (node_at nodes k).vertices y)) (item-ends i m).0 (item-ends i m).1 in (
+        or_left ((ends_of graph i).0 == lesser_place) ((ends_of graph i).1 == lesser_place) (eq-eqb (ends_of graph i).0 lesser_place (ap (λ (p : ℕ × ℕ). p.0) e)),
+        or_right ((ends_of graph i).0 == greater_place) ((ends_of graph i).1 == greater_place) (eq-eqb (ends_of graph i).1 greater_place (ap (λ (p : ℕ × ℕ). p.1) e)),
+      )
 
   -- so the same edges stand at both
   pub same-incident : incident_edges (skeleton_graph nodes k) (place_of (node_at nodes k).vertices (node_item nodes k 0).b) ≡ incident_edges (skeleton_graph nodes k) (place_of (node_at nodes k).vertices (node_item nodes k 0).a)

@@ -1,9 +1,9 @@
 -- Members of a cyclic order that pass a test, and those that fail it: where the ones end the others begin.
-use Rattle.std.proofs.Common.{◌≡◌, ◌≢◌, ℕ, Bool, true, false, not, ◌&&◌, ◌||◌, ◌==◌, cond, List, inl, inr, ◌⊎◌, refl, sym, ap, ◌∙◌, subst, arith, eq-eqb, eqb-true}
-use Rattle.std.proofs.lemmas.Bool.{cases_Bool, cases_eq, both_ways, ne_eqb, and_from, and_parts, or_cases, or_left, or_right, not-true, not_from_false}
+use Rattle.std.proofs.Common.{◌≡◌, ℕ, Bool, true, false, not, ◌&&◌, ◌||◌, ◌==◌, List, inl, inr, ◌⊎◌, refl, sym, ap, ◌∙◌, arith, eq-eqb, eqb-true}
+use Rattle.std.proofs.lemmas.Bool.{cases_Bool, both_ways, and_from, and_parts, or_cases, or_left, or_right, not-true, not_from_false}
 use Rattle.permutations.specs.Members.{is_member, is_distinct}
 use Rattle.permutations.specs.Cyclic.{successor}
-use Rattle.permutations.proofs.Successor.{successor-member, successor-injective}
+use Rattle.permutations.proofs.Successor.{successor-member}
 use Rattle.permutations.proofs.Chains.{chain-test}
 use Rattle.skeleton_planes.proofs.RunTests.{ends_run, begins_run}
 

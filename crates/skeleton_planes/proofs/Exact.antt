@@ -1,13 +1,10 @@
 -- Gluing along two edges that are no bridges is exact: the glued map is plane exactly where the map is.
-use Rattle.std.proofs.Common.{◌≡◌, ◌≢◌, ℕ, ◌*◌, ◌<◌, Bool, true, false, ◌||◌, cond, refl, sym, ap, ◌∙◌, arith, inl, inr}
+use Rattle.std.proofs.Common.{◌≡◌, ℕ, ◌*◌, ◌<◌, Bool, true, false, ◌||◌, cond, refl, sym, ap, ◌∙◌, arith}
 use Rattle.std.proofs.lemmas.Bool.{cases_Bool, both_ways, false_from_ne_true}
 use Rattle.permutations.specs.Relation.{IsEquivalence}
 use Rattle.permutations.proofs.Orbits.{orbit-equivalence, orbit-step}
-use Rattle.permutations.proofs.Relation.{same-tests}
-use Rattle.dart_maps.specs.Map as maps
-use Rattle.dart_maps.specs.Map.{twin, IsMap, same_vertex, same_component}
+use Rattle.dart_maps.specs.Map.{twin, same_vertex, same_component}
 use Rattle.dart_maps.specs.Changes.{glued}
-use Rattle.dart_maps.proofs.Darts.{twin-below}
 use Rattle.dart_maps.proofs.Components.{component-equivalence, component-next, component-twin, vertex-component}
 use Rattle.dart_maps.proofs.Glue.{glue-plane, glued-map}
 use Rattle.skeleton_planes.specs.Laws.{GluingIsExact}

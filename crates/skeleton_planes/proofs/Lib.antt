@@ -27,3 +27,4 @@ pub mod Planar
 pub mod OneSystem
 pub mod Exact
 pub mod BondMade
+mod Examples

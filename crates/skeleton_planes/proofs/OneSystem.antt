@@ -1,7 +1,7 @@
 -- Rotation systems of the skeletons, told: a polygon has one, as has a block of one edge or two; a plane one of a bond is told
 -- by its order at the lesser pole.
-use Rattle.std.proofs.Common.{◌≡◌, ◌≢◌, ℕ, zero, suc, ◌+◌, ◌*◌, ◌/◌, ◌%◌, ◌<◌, ◌≤◌, ◌⊎◌, ◌↔◌, Bool, true, false, not, ◌||◌, ◌==◌, cond, List, [], ◌∷◌, ◌++◌, length, reverse, slice_index_or, get_or, inl, inr, refl, sym, ap, ap₂, ◌∙◌, subst, arith, eq-eqb, eqb-true}
-use Rattle.std.proofs.lemmas.Bool.{cases_Bool, cases_eq, cases_lt, both_ways, ne_eqb, or_cases, true≢false}
+use Rattle.std.proofs.Common.{◌≡◌, ℕ, ◌/◌, ◌<◌, ◌≤◌, ◌⊎◌, true, ◌==◌, List, [], ◌∷◌, length, reverse, get_or, inl, inr, refl, sym, ap, ap₂, ◌∙◌, subst, arith, eqb-true}
+use Rattle.std.proofs.lemmas.Bool.{cases_Bool, cases_eq, cases_lt, or_cases, true≢false}
 use Rattle.std.proofs.lemmas.List.{length-map}
 use Rattle.permutations.specs.Members.{is_member, is_distinct}
 use Rattle.permutations.specs.Cyclic.{IsTurn, successor, from_least}
@@ -10,19 +10,19 @@ use Rattle.permutations.proofs.Successor.{successor-member, successor-absent}
 use Rattle.permutations.proofs.Turned.{IsTurn-refl}
 use Rattle.permutations.proofs.CyclicSame.{IsTurn-from_successor}
 use Rattle.permutations.proofs.Arrangements.{permutation-member, member-at, member-from_contains, contains-from_member}
-use Rattle.multigraph.specs.Graph.{Multigraph, IsGraph, edge_count, is_end, numbers_below, incident_edges}
+use Rattle.multigraph.specs.Graph.{Multigraph, IsGraph, edge_count, numbers_below, incident_edges}
 use Rattle.multigraph.proofs.Below.{length-numbers_below}
 use Rattle.rotations.specs.Rotation.{order_at, IsRotationSystem}
 use Rattle.rotations.proofs.Membership.{member-edge, member-end}
-use Rattle.faces.specs.Euler.{tail, dart_from, IsPlane}
+use Rattle.faces.specs.Euler.{dart_from, IsPlane}
 use Rattle.faces.proofs.DartLemmas.{order-distinct, member-incident, dart_from-edge, dart_from-tail}
 use Rattle.pair_split.specs.Skeleton.{IsPolygon, HasPoles, IsSmall, IsOfKind}
 use Rattle.pair_split.specs.Split.{skeleton, items_of, piece_ends}
 use Rattle.pair_split.specs.Tutte.{Node, components, node_at, node_item, piece_of}
 use Rattle.pair_split.specs.declared.components.Kind.{Kind}
-use Rattle.pair_split.specs.declared.components.Kind.TheVariants.{S, P, R, B}
+use Rattle.pair_split.specs.declared.components.Kind.TheVariants.{S, P, B}
 use Rattle.pair_split.proofs.GraphFamily.{numbers-distinct, below-contains, contains-below}
-use Rattle.skeletons.specs.Items.{ends_item, has_vertex, IsBlockTree}
+use Rattle.skeletons.specs.Items.{IsBlockTree}
 use Rattle.skeletons.specs.Families.{place_of, skeleton_graph}
 use Rattle.skeletons.specs.Choices.{IsPlaneSystem}
 use Rattle.skeletons.specs.Moves.{IsNodeOfKind}
@@ -34,8 +34,7 @@ use Rattle.skeleton_runs.proofs.SkeletonGraph.{place-at, place-of_at, distinct-f
 use Rattle.skeleton_runs.proofs.SkeletonGraph.{edge-item as graph-item}
 use Rattle.skeleton_planes.proofs.RunTests.{end_of}
 use Rattle.skeleton_planes.specs.Laws.{PolygonHasOneSystem, BondIsPlaneWhereReversed, SmallHasOneSystem}
-use Rattle.skeleton_planes.proofs.SkeletonDarts.{dart-item, end-vertex, tail-place, own-item, round-item}
-use Rattle.skeleton_planes.proofs.Linked.{dart-at}
+use Rattle.skeleton_planes.proofs.SkeletonDarts.{end-vertex, tail-place, own-item, round-item}
 use Rattle.skeleton_planes.proofs.PolygonSkeleton.{pair-in, pair-end, next-other, round-end, polygon-system_plane}
 use Rattle.skeleton_planes.proofs.BondSkeleton.{some-item, item-ends, differ, lesser-in, greater-in, reversed-plane, plane-reversed, bond-system_plane}
 

@@ -1,5 +1,5 @@
 -- What is proved of gluing and of the skeletons of polygons and bonds, as statements.
-use Rattle.std.specs.Prelude.{◌≡◌, ◌≢◌, ℕ, ◌*◌, ◌<◌, ◌↔◌, Bool, false, List, length, reverse}
+use Rattle.std.specs.Prelude.{◌≡◌, ◌≢◌, ℕ, ◌*◌, ◌<◌, ◌↔◌, false, List, reverse}
 use Rattle.permutations.specs.Cyclic.{from_least}
 use Rattle.multigraph.specs.Graph.{Multigraph, incident_edges}
 use Rattle.rotations.specs.Rotation.{order_at, IsCyclicOrder, IsRotationSystem}
