@@ -11,3 +11,4 @@ pub mod Vertices
 pub mod Moved
 pub mod Composing
 pub mod Places
+pub mod Before
