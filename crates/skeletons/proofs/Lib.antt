@@ -12,3 +12,4 @@ pub mod Moved
 pub mod Composing
 pub mod Places
 pub mod Before
+pub mod Leading
