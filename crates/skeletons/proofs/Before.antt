@@ -1,10 +1,10 @@
 -- The order of rotation systems by their choices: the record and the test agree, not both of two come before the other, and a
 -- rising list is told by its members.
-use Rattle.std.proofs.Common.{◌≡◌, ◌≢◌, ℕ, zero, suc, ◌+◌, ◌<◌, ◌≤◌, ◌⊎◌, ◌==◌, ◌&&◌, ◌||◌, inl, inr, Bool, true, false, not, List, [], ◌∷◌, length, slice_index_or, refl, sym, ap, ap₂, ◌∙◌, subst, arith, All, Contains}
-use Rattle.std.specs.Prelude.{nat_lt, AllPairs, ◌↔◌}
-use Rattle.std.proofs.lemmas.Bool.{cases_Bool, cases_eq, cases_lt, both_ways, true≢false, or_cases, or_left, or_right, and_parts, and_from, eq-eqb, eqb-true, lt-ltb, ltb-true, false_from_ne_true, not_from_false, not_from_true, not-true}
+use Rattle.std.proofs.Common.{◌≡◌, ℕ, zero, suc, ◌<◌, ◌⊎◌, ◌==◌, ◌&&◌, ◌||◌, inl, inr, true, false, not, List, [], ◌∷◌, length, refl, sym, ap₂, ◌∙◌, subst, arith, Contains}
+use Rattle.std.specs.Prelude.{nat_lt, AllPairs}
+use Rattle.std.proofs.lemmas.Bool.{cases_Bool, cases_eq, cases_lt, both_ways, true≢false, or_cases, or_left, or_right, and_parts, and_from, eq-eqb, eqb-true, lt-ltb, ltb-true, false_from_ne_true, not_from_false, not-true}
 use Rattle.pair_split.specs.Tutte.{Node, is_before}
-use Rattle.skeletons.specs.Choices.{choice, Precedes, precedes_below, precedes}
+use Rattle.skeletons.specs.Choices.{choice, Precedes, precedes_below}
 use Rattle.skeletons.specs.Lists.{IsListOf, IsKept}
 use Rattle.skeletons.specs.Laws.{PrecedesIsTested, KeptListIsUnique}
 

@@ -1,10 +1,9 @@
 -- What lists of moves lead to, from what single moves do.
-use Rattle.std.proofs.Common.{◌≡◌, ◌≢◌, ℕ, zero, suc, ◌+◌, ◌<◌, ◌≤◌, ◌⊎◌, ◌&&◌, inl, inr, Bool, true, false, not, cond, List, [], ◌∷◌, ◌++◌, length, reverse, refl, sym, ap, ◌∙◌, subst, arith, All, Contains, IsPermutation}
+use Rattle.std.proofs.Common.{◌≡◌, ◌≢◌, ℕ, zero, suc, ◌<◌, ◌≤◌, inl, inr, Bool, true, false, not, cond, List, [], ◌∷◌, ◌++◌, length, reverse, refl, sym, ap, ◌∙◌, subst, arith, All, IsPermutation}
 use Rattle.std.specs.Prelude.{◌↔◌}
 use Rattle.std.proofs.lemmas.Bool.{cases_Bool, cases_eq, both_ways, true≢false, false_from_ne_true, and_parts, and_from, not-true, not_from_false}
 use Rattle.std.proofs.lemmas.List.Elements.{All-nil, All-cons, All-head, All-tail, All-append, All-weaker}
 use Rattle.permutations.specs.Cyclic.{from_least}
-use Rattle.permutations.specs.Members.{is_distinct}
 use Rattle.permutations.specs.Runs.{group_keys, InRuns}
 use Rattle.permutations.proofs.Arrangements.{permutation-from_members}
 use Rattle.permutations.proofs.NormalForm.{from_least-twice, from_least-distinct, from_least-member}
@@ -17,8 +16,8 @@ use Rattle.pair_split.specs.declared.components.Kind.TheVariants.{S, P, R, B}
 use Rattle.skeletons.specs.Items.{node_keys, least_vertex, IsBlockTree}
 use Rattle.skeletons.specs.Round.{keys_round, IsContiguous}
 use Rattle.skeletons.specs.Choices.{choice_of_kind, choice, IsPlaneSystem}
-use Rattle.skeletons.specs.Moves.{Move, flip, permute, moved_node, IsNodeOfKind, FlipLeads, PermuteLeads, MoveLeads, Lead, is_same, move_of_kind, move_at, moves_below, moves_between}
-use Rattle.skeletons.specs.Lists.{IsListOf, IsFullList, IsKept, IsKeptList, IsReached, IsReachedList}
+use Rattle.skeletons.specs.Moves.{Move, flip, permute, moved_node, IsNodeOfKind, MoveLeads, Lead, is_same, move_of_kind, move_at, moves_below, moves_between}
+use Rattle.skeletons.specs.Lists.{IsListOf, IsKept, IsKeptList, IsReached, IsReachedList}
 use Rattle.skeletons.specs.Laws.{MovesNameDifferent, UnlockedListIsFull}
 use Rattle.skeletons.proofs.KeyRuns.{met-runs}
 use Rattle.skeletons.proofs.Before.{before-irreflexive, before-total}
@@ -178,7 +177,7 @@ module _ (g : Multigraph) (nodes : List Node) (b : IsBlockTree g nodes) where
           | inr o ↦
               let here : choice nodes h.result n ≡ choice nodes r n = h.high n (omega (arith, l)) (omega arith) in
               let w : Turned n h.result (choice nodes q n) (move_of_kind (node_at nodes n).kind n (choice nodes q n)) = single n h.result q (omega (arith, l)) h.plane pq
-                  (λ e. both_ways (is_same (choice nodes r n) (choice nodes q n)) o (is-same (choice nodes r n) (choice nodes q n) (sym here ∙ e))) in
+              (λ e. both_ways (is_same (choice nodes r n) (choice nodes q n)) o (is-same (choice nodes r n) (choice nodes q n) (sym here ∙ e))) in
               record {
                 result = w.result;
                 plane = w.plane;
@@ -208,13 +207,18 @@ module _ (g : Multigraph) (nodes : List Node) (b : IsBlockTree g nodes) where
         record { plane = w.plane; keeps = λ k d y. w.keeps k d y ∙ move-others g nodes move r l.0 b p.system (runs r p) l.1 k d (λ e. both_ways (locked k) (ap locked e ∙ free) y) }
 
     pub reached-kept : (locked : ℕ → Bool) (r q : List (List ℕ)) → IsPlaneSystem g r → (IsReached g nodes locked r q ↔ IsKept g nodes locked r q)
-    reached-kept locked r q p = ((λ w. reached locked w.moves r q p w.unlocked w.lead), λ w. record {
-      moves = moves_between nodes r q;
-      unlocked = All-weaker (λ (move : Move). (moved_node move < length nodes) × (choice nodes r (moved_node move) ≡ choice nodes q (moved_node move) → ⊥)) (λ (move : Move). locked (moved_node move) ≡ false)
-          (λ move d. false_from_ne_true (locked (moved_node move)) (λ y. d.1 (sym (w.keeps (moved_node move) d.0 y)))) (moves_between nodes r q) (moves-name nodes r q);
-      lead = lead-weaker g nodes (IsPlaneSystem g) (λ s. Unit {0}) (λ s u. tt) (moves_between nodes r q) r q (moves-lead r q p w.plane);
-    })
+    reached-kept locked r q p = (
+      (λ w. reached locked w.moves r q p w.unlocked w.lead),
+      λ w. record {
+        moves = moves_between nodes r q;
+        unlocked = All-weaker (λ (move : Move). (moved_node move < length nodes) × (choice nodes r (moved_node move) ≡ choice nodes q (moved_node move) → ⊥)) (λ (move : Move). locked (moved_node move) ≡ false)
+            (λ move d. false_from_ne_true (locked (moved_node move)) (λ y. d.1 (sym (w.keeps (moved_node move) d.0 y)))) (moves_between nodes r q) (moves-name nodes r q);
+        lead = lead-weaker g nodes (IsPlaneSystem g) (λ s. Unit {0}) (λ s u. tt) (moves_between nodes r q) r q (moves-lead r q p w.plane);
+      },
+    )
 
     pub reached-list : (locked : ℕ → Bool) (r : List (List ℕ)) (l : List (List (List ℕ))) → IsPlaneSystem g r → (IsReachedList g nodes locked r l ↔ IsKeptList g nodes locked r l)
-    reached-list locked r l p = (same-lists_of nodes (IsReached g nodes locked r) (IsKept g nodes locked r) (λ q. reached-kept locked r q p) l,
-        same-lists_of nodes (IsKept g nodes locked r) (IsReached g nodes locked r) (λ q. let w = reached-kept locked r q p in (w.1, w.0)) l)
+    reached-list locked r l p = (
+      same-lists_of nodes (IsReached g nodes locked r) (IsKept g nodes locked r) (λ q. reached-kept locked r q p) l,
+      same-lists_of nodes (IsKept g nodes locked r) (IsReached g nodes locked r) (λ q. let w = reached-kept locked r q p in (w.1, w.0)) l,
+    )

@@ -13,3 +13,5 @@ pub mod Composing
 pub mod Places
 pub mod Before
 pub mod Leading
+pub mod Computing
+mod ExamplesOfMoves
