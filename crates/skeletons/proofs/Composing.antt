@@ -1,6 +1,6 @@
 -- Any orders of the items at the vertices of the nodes are those of the groups of a rotation system: at each vertex the orders
 -- are put in one after the other, from a node with the vertex outwards, each within the run of the link that leads to it.
-use Rattle.std.proofs.Common.{◌≡◌, ◌≢◌, ℕ, zero, suc, ◌+◌, ◌<◌, ◌≤◌, ◌⊎◌, ◌||◌, inl, inr, Bool, true, false, not, List, [], ◌∷◌, ◌++◌, length, map, refl, sym, ap, ◌∙◌, subst, arith, All, IsPermutation}
+use Rattle.std.proofs.Common.{◌≡◌, ◌≢◌, ℕ, zero, suc, ◌+◌, ◌<◌, ◌≤◌, ◌⊎◌, ◌||◌, inl, inr, Bool, true, List, [], ◌∷◌, ◌++◌, length, refl, sym, ap, ◌∙◌, subst, arith, IsPermutation}
 use Rattle.std.proofs.lemmas.Bool.{cases_Bool, cases_eq, cases_lt, both_ways, true≢false, false_from_ne_true, not_from_true, not_from_false}
 use Rattle.std.proofs.lemmas.List.Elements.{All-cons, All-head}
 use Rattle.std.proofs.lemmas.List.Sorted.{IsPermutation-refl}
@@ -9,11 +9,11 @@ use Rattle.permutations.specs.Members.{is_member, is_distinct}
 use Rattle.permutations.specs.Runs.{joined, group_keys, IsGroup, InRuns}
 use Rattle.permutations.proofs.Arrangements.{permutation-member, permutation-distinct, permutation-from_members, length-from_members}
 use Rattle.permutations.proofs.CyclicSame.{IsTurn-trans}
-use Rattle.permutations.proofs.Members.{member-append, member-head, member-tail, member-cases, member-append_cases, member-append_left, member-append_right, distinct-append, distinct-append_left, distinct-append_right, distinct-append_apart, distinct-head, distinct-tail, CutAt, cut_at}
+use Rattle.permutations.proofs.Members.{member-append, member-tail, member-cases, member-append_cases, member-append_left, member-append_right, distinct-append, distinct-append_left, distinct-append_right, distinct-append_apart, distinct-head, distinct-tail, CutAt, cut_at}
 use Rattle.permutations.proofs.Relation.{same-tests}
-use Rattle.permutations.proofs.Runs.{first-group, other-groups, runs-turn}
+use Rattle.permutations.proofs.Runs.{other-groups, runs-turn}
 use Rattle.permutations.proofs.Turned.{IsTurn-refl, IsTurn-sym, IsTurn-swap, IsTurn-member, IsTurn-distinct}
-use Rattle.multigraph.specs.Graph.{Multigraph, edge_count, is_end, incident_edges}
+use Rattle.multigraph.specs.Graph.{Multigraph, edge_count, incident_edges}
 use Rattle.rotations.specs.Rotation.{order_at, IsRotationSystem}
 use Rattle.rotations.proofs.Membership.{member-edge, member-end, incident-member, incident-distinct}
 use Rattle.pair_split.specs.Split.{is_beyond, side, LinksTo, IsTree, AreLinked}
@@ -27,7 +27,7 @@ use Rattle.pair_split.proofs.Subtrees.{is_below, below-root, below-parent, below
 use Rattle.skeletons.specs.Items.{ends_item, keys_at, has_vertex, IsBlockTree}
 use Rattle.skeletons.specs.Families.{StandInOrder}
 use Rattle.skeletons.proofs.NodeItems.{comp-in, node-in, item-of, stands-of, key-at_from, vertex-node, group-at, key-edge}
-use Rattle.skeletons.proofs.Towards.{Toward, toward, key_toward, toward-link, group-either, group-side, shared-end, link-vertex, far-item}
+use Rattle.skeletons.proofs.Towards.{Toward, toward, key_toward, group-either, group-side, shared-end, link-vertex, far-item}
 use Rattle.skeletons.proofs.KeyRuns.{order-turned, order-exchanged}
 use Rattle.skeletons.proofs.Rearranged.{group-with, gathered, gathered-keys, gathered-member, member-gathered, gathered-distinct, gathered-groups, gathered-runs}
 use Rattle.skeletons.proofs.Systems.{made, made-order, made-system}
@@ -306,10 +306,13 @@ module _ (g : Multigraph) (nodes : List Node) (b : IsBlockTree g nodes) where
             ])
             | inl m ↦ weaker (λ j. Passed s i j ⊎ (j ≡ i)) (Passed s (suc i)) (next y n m) (λ j p x. elim (cases_eq j i) [
               | inl d ↦ inr d
-              | inr d ↦ inl (p.0, elim p.1 [
-                | inl q ↦ inl q
-                | inr q ↦ inr (elim q [ inl r ↦ inl r | inr r ↦ inr (r.0, other j r.1 d) ])
-              ])
+              | inr d ↦ inl (
+                p.0,
+                elim p.1 [
+                  | inl q ↦ inl q
+                  | inr q ↦ inr (elim q [ inl r ↦ inl r | inr r ↦ inr (r.0, other j r.1 d) ])
+                ],
+              )
             ])
           ]
         ]
@@ -367,21 +370,27 @@ module _ (g : Multigraph) (nodes : List Node) (b : IsBlockTree g nodes) where
         | inl e ↦ e
         | inr q ↦ elim q [ inl r ↦ absurd (omega (arith, r)) | inr r ↦ absurd (omega (arith, r.1)) ]
       ])
-      up (suc s) = weaker (Passed s (length nodes)) (Passed (suc s) 0) (level s (length nodes) (omega arith) (up s)) (λ j p x. (p.0, elim p.1 [
-        | inl e ↦ inl e
-        | inr q ↦ elim q [
-          | inr r ↦ absurd (omega (arith, r.1))
-          | inl r ↦ elim (cases_eq (tree.rank j) s) [ inl e ↦ inr (inr (e, p.0)) | inr n ↦ inr (inl (omega (arith, r, n))) ]
-        ]
-      ]))
+      up (suc s) = weaker (Passed s (length nodes)) (Passed (suc s) 0) (level s (length nodes) (omega arith) (up s)) (λ j p x. (
+        p.0,
+        elim p.1 [
+          | inl e ↦ inl e
+          | inr q ↦ elim q [
+            | inr r ↦ absurd (omega (arith, r.1))
+            | inl r ↦ elim (cases_eq (tree.rank j) s) [ inl e ↦ inr (inr (e, p.0)) | inr n ↦ inr (inl (omega (arith, r, n))) ]
+          ]
+        ],
+      ))
 
       -- ranks are bounded
       bound : (n : ℕ) → (s : ℕ) × ((j : ℕ) → j < n → tree.rank j < s)
       bound zero = (0, λ j l. absurd (omega (arith, l)))
-      bound (suc n) = let w = bound n in (w.0 + tree.rank n + 1, λ j l. elim (cases_eq j n) [
-        | inl e ↦ omega (arith, ap tree.rank e)
-        | inr m ↦ let d = w.1 j (omega (arith, l, m)) in omega (arith, d)
-      ])
+      bound (suc n) = let w = bound n in (
+        w.0 + tree.rank n + 1,
+        λ j l. elim (cases_eq j n) [
+          | inl e ↦ omega (arith, ap tree.rank e)
+          | inr m ↦ let d = w.1 j (omega (arith, l, m)) in omega (arith, d)
+        ],
+      )
 
       all-passed : Stage (λ j. j < length nodes)
       all-passed = let w = bound (length nodes) in weaker (Passed w.0 0) (λ j. j < length nodes) (up w.0) (λ j p x. (p, inr (inl (w.1 j p))))
@@ -394,8 +403,12 @@ module _ (g : Multigraph) (nodes : List Node) (b : IsBlockTree g nodes) where
 
   -- so there is a rotation system with these orders
   pub composed : (keys : ℕ → ℕ → List ℕ) → AreOrders keys → (r : List (List ℕ)) × IsRotationSystem g r × ((k v : ℕ) → has_vertex nodes k v ≡ true → StandInOrder (group nodes k) (order_at r v) (keys k v))
-  composed keys orders = (made g list, made-system g list arranged, λ k v h. let l = vertex-in g nodes b k v h in
-      subst (λ (z : List ℕ). StandInOrder (group nodes k) z (keys k v)) (sym (made-order g list v l)) (order-turned (group nodes k) (list v) (from_least (list v)) (keys k v) (stand k v h l) (from_least-turn (list v))))
+  composed keys orders = (
+    made g list,
+    made-system g list arranged,
+    λ k v h. let l = vertex-in g nodes b k v h in
+        subst (λ (z : List ℕ). StandInOrder (group nodes k) z (keys k v)) (sym (made-order g list v l)) (order-turned (group nodes k) (list v) (from_least (list v)) (keys k v) (stand k v h l) (from_least-turn (list v))),
+  )
     where
       at : (v : ℕ) → (m : List ℕ) × (v < g.vertex_count → IsPermutation (incident_edges g v) m × ((k : ℕ) → has_vertex nodes k v ≡ true → StandInOrder (group nodes k) m (keys k v)))
       at v = elim (cases_lt v g.vertex_count) [

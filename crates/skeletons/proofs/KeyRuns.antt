@@ -1,18 +1,18 @@
 -- Cyclic orders in runs, seen through their keys: what is in runs depends on the list of keys alone, and the keys met are those
 -- of the runs. (Lemmas on lists alone: they belong to permutations.)
-use Rattle.std.proofs.Common.{◌≡◌, ◌≢◌, ℕ, zero, suc, ◌+◌, ◌<◌, ◌≤◌, ◌⊎◌, ◌==◌, inl, inr, Bool, true, false, not, cond, List, [], ◌∷◌, ◌++◌, length, map, filter, reverse, refl, sym, ap, ap₂, ◌∙◌, subst, arith, All, IsPermutation}
-use Rattle.std.proofs.lemmas.Bool.{cases_Bool, cases_eq, both_ways, true≢false, eq-eqb, ne_eqb, false_from_ne_true}
-use Rattle.std.proofs.lemmas.List.{length-map, length-append, append_assoc, append-nil, map-append}
+use Rattle.std.proofs.Common.{◌≡◌, ◌≢◌, ℕ, ◌<◌, ◌⊎◌, inl, inr, Bool, true, false, cond, List, [], ◌∷◌, ◌++◌, length, map, refl, sym, ap, ap₂, ◌∙◌, subst, arith, All}
+use Rattle.std.proofs.lemmas.Bool.{both_ways, false_from_ne_true}
+use Rattle.std.proofs.lemmas.List.{length-map, append_assoc, append-nil, map-append}
 use Rattle.std.proofs.lemmas.List.Elements.{All-nil, All-cons, All-head, All-tail}
 use Rattle.permutations.specs.Cyclic.{first_or, successor, IsTurn, from_least}
 use Rattle.permutations.specs.Members.{is_member, is_distinct}
 use Rattle.permutations.specs.Runs.{joined, group_keys, IsGroup, InRuns}
 use Rattle.permutations.proofs.CyclicSame.{append-split, IsTurn-trans}
-use Rattle.permutations.proofs.Members.{member-head, member-tail, member-cases, member-append_cases, member-append_left, member-append_right, no_member-append, no_member-append_left, no_member-append_right, distinct-head, distinct-tail, distinct-append_left, distinct-append_right, distinct-append_apart, CutAt, cut_at}
+use Rattle.permutations.proofs.Members.{member-head, member-tail, member-append_left, member-append_right, no_member-append, distinct-head, distinct-tail, CutAt, cut_at}
 use Rattle.permutations.proofs.NormalForm.{from_least-same, from_least-turn}
-use Rattle.permutations.proofs.Runs.{joined-append, joined-turn, joined-member, joined-key, runs-turn, runs-turned, first-of}
-use Rattle.permutations.proofs.Successor.{successor-cut, successor-absent}
-use Rattle.permutations.proofs.Turned.{IsTurn-refl, IsTurn-sym, IsTurn-swap, IsTurn-map, IsTurn-member, IsTurn-distinct, IsTurn-successor}
+use Rattle.permutations.proofs.Runs.{joined-append, joined-member, joined-key, runs-turn, runs-turned, first-of}
+use Rattle.permutations.proofs.Successor.{successor-cut}
+use Rattle.permutations.proofs.Turned.{IsTurn-refl, IsTurn-sym, IsTurn-map, IsTurn-member, IsTurn-successor}
 use Rattle.faces.proofs.MapLists.{member-map, map-member}
 use Rattle.skeletons.specs.Round.{each_once, keys_met}
 use Rattle.skeletons.specs.Families.{StandInOrder}
@@ -117,8 +117,8 @@ once-joined key (g ∷ gs) b a d n =
     let own : IsGroup key g = All-head (IsGroup key) g gs a in
     let others : All (IsGroup key) gs = All-tail (IsGroup key) g gs a in
     let new : is_member g.0 (map key (joined gs) ++ b) ≡ false = no_member-append g.0 (map key (joined gs)) b
-        (false_from_ne_true (is_member g.0 (map key (joined gs))) (λ m. both_ways (is_member g.0 (group_keys gs)) (distinct-head g.0 (group_keys gs) d) (joined-values key gs others g.0 m)))
-        (n g.0 (member-head g.0 (group_keys gs))) in
+    (false_from_ne_true (is_member g.0 (map key (joined gs))) (λ m. both_ways (is_member g.0 (group_keys gs)) (distinct-head g.0 (group_keys gs) d) (joined-values key gs others g.0 m)))
+    (n g.0 (member-head g.0 (group_keys gs))) in
     ap each_once (ap (λ (z : List ℕ). z ++ b) (map-append key g.1 (joined gs)) ∙ append_assoc (map key g.1) (map key (joined gs)) b)
     ∙ once-stretch g.0 (map key g.1) (map key (joined gs) ++ b) (omega (arith, own.filled, length-map g.1 key)) (group-values key g own) new
     ∙ ap (λ (z : List ℕ). g.0 ∷ z) (once-joined key gs b others (distinct-tail g.0 (group_keys gs) d) (λ x m. n x (member-tail x g.0 (group_keys gs) m)))
@@ -132,8 +132,18 @@ joined-cut (g ∷ gs) [] f e = inl refl
 joined-cut (g ∷ gs) (z ∷ b) f e = elim (append-split g.1 (joined gs) (z ∷ b) f e) [
   | inr w ↦ inr ([], g, gs, z ∷ b, w.0, refl, w.1, omega arith, refl, w.2)
   | inl w ↦ elim (joined-cut gs w.0 f w.2) [
-    | inl n ↦ inr ([], g, gs, g.1, [], refl, sym (append-nil g.1), omega (arith, ap length (w.1 ∙ ap (λ (v : List ℕ). g.1 ++ v) n ∙ append-nil g.1)), w.1 ∙ ap (λ (v : List ℕ). g.1 ++ v) n ∙ append-nil g.1,
-        sym (w.2 ∙ ap (λ (v : List ℕ). v ++ f) n))
+    | inl n ↦ inr (
+      [],
+      g,
+      gs,
+      g.1,
+      [],
+      refl,
+      sym (append-nil g.1),
+      omega (arith, ap length (w.1 ∙ ap (λ (v : List ℕ). g.1 ++ v) n ∙ append-nil g.1)),
+      w.1 ∙ ap (λ (v : List ℕ). g.1 ++ v) n ∙ append-nil g.1,
+      sym (w.2 ∙ ap (λ (v : List ℕ). v ++ f) n),
+    )
     | inr c ↦ inr (g ∷ c.0, c.1, c.2, c.3, c.4, ap (λ (v : List (ℕ × List ℕ)). g ∷ v) c.5, c.6, c.7, w.1 ∙ ap (λ (v : List ℕ). g.1 ++ v) c.8 ∙ sym (append_assoc g.1 (joined c.0) c.3), c.9)
   ]
 ]

@@ -11,3 +11,7 @@ pub mod Vertices
 pub mod Moved
 pub mod Composing
 pub mod Places
+pub mod Before
+pub mod Leading
+pub mod Computing
+mod ExamplesOfMoves

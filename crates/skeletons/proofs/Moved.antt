@@ -1,18 +1,18 @@
 -- Moves of one node: they exist, lead to one rotation system, and change the choice of no other node.
-use Rattle.std.proofs.Common.{◌≡◌, ◌≢◌, ℕ, zero, suc, ◌<◌, ◌≤◌, ◌⊎◌, inl, inr, Bool, true, false, List, [], ◌∷◌, ◌++◌, length, map, reverse, slice_index_or, refl, sym, ap, ◌∙◌, subst, arith, IsPermutation}
+use Rattle.std.proofs.Common.{◌≡◌, ◌≢◌, ℕ, zero, suc, ◌<◌, ◌≤◌, inl, inr, true, false, List, [], ◌∷◌, ◌++◌, length, map, reverse, slice_index_or, refl, sym, ap, ◌∙◌, subst, arith, IsPermutation}
 use Rattle.std.proofs.lemmas.Bool.{cases_Bool, cases_eq, cases_lt, both_ways}
-use Rattle.std.proofs.lemmas.List.Sorted.{IsPermutation-trans, IsPermutation-sym, IsPermutation-reverse, length_permutation}
+use Rattle.std.proofs.lemmas.List.Sorted.{IsPermutation-trans, IsPermutation-reverse, length_permutation}
 use Rattle.permutations.specs.Cyclic.{IsTurn, from_least}
 use Rattle.permutations.specs.Members.{is_member, is_distinct}
 use Rattle.std.proofs.lemmas.List.Elements.{All-head}
 use Rattle.permutations.specs.Runs.{joined, group_keys, IsGroup, InRuns, mirrored}
 use Rattle.permutations.proofs.Arrangements.{permutation-member, permutation-from_members}
-use Rattle.permutations.proofs.NormalForm.{from_least-same, from_least-turn}
+use Rattle.permutations.proofs.NormalForm.{from_least-same, from_least-turn, from_least-distinct, from_least-member}
 use Rattle.permutations.proofs.Relation.{same-tests}
 use Rattle.permutations.proofs.Members.{member-head, member-append_left, distinct-reverse}
 use Rattle.permutations.proofs.Runs.{first-of, runs-turn, runs-turned, runs-mirrored}
 use Rattle.permutations.proofs.RunsByKey.{keys-member}
-use Rattle.permutations.proofs.Turned.{IsTurn-refl, IsTurn-sym, IsTurn-reverse, IsTurn-distinct, IsTurn-member}
+use Rattle.permutations.proofs.Turned.{IsTurn-refl, IsTurn-reverse, IsTurn-member}
 use Rattle.multigraph.specs.Graph.{Multigraph, edge_count, is_end, incident_edges}
 use Rattle.multigraph.proofs.Places.{rises-once}
 use Rattle.rotations.specs.Rotation.{order_at, IsRotationSystem}
@@ -28,12 +28,12 @@ use Rattle.skeletons.specs.Round.{keys_met, keys_round, IsContiguous}
 use Rattle.skeletons.specs.Choices.{choice_of_kind, choice}
 use Rattle.skeletons.specs.Moves.{AreReversed, AreRegrouped, OthersStay, FlipLeads, PermuteLeads, Move, flip, permute, moved_node, IsNodeOfKind, MoveLeads}
 use Rattle.skeletons.specs.Families.{StandInOrder}
-use Rattle.skeletons.specs.Laws.{FlipExists, PermuteExists, MoveIsUnique, MoveKeepsContiguous, MoveKeepsOthers, FlipTurnsChoice, PermuteSetsChoice, MirrorTurnsChoices}
+use Rattle.skeletons.specs.Laws.{KeysRoundAreOfItems, FlipExists, PermuteExists, MoveIsUnique, MoveKeepsContiguous, MoveKeepsOthers, FlipTurnsChoice, PermuteSetsChoice, MirrorTurnsChoices}
 use Rattle.skeletons.proofs.NodeItems.{vertex-node, group-at, key-edge, keys-at_distinct}
 use Rattle.skeletons.proofs.Towards.{Toward, toward, key_toward, group-either}
 use Rattle.skeletons.proofs.KeyRuns.{met-runs, met-order, order-met}
 use Rattle.skeletons.proofs.Rearranged.{distinct-places, AreRearranged, reversed-rearranged, regrouped-rearranged, group-with, others-keep, keys-reverse, reversed-exists, regrouped-exists, reversed-once, regrouped-once}
-use Rattle.skeletons.proofs.Systems.{order-written, same-orders, same-turns, made, made-order, made-system}
+use Rattle.skeletons.proofs.Systems.{order-written, same-turns, made, made-order, made-system}
 use Rattle.skeletons.proofs.Vertices.{vertex-in, least-has, greatest-has, poles-differ, bond-vertex, bond-keys}
 
 -- beyond its end a list has the default
@@ -205,21 +205,32 @@ module _ (g : Multigraph) (nodes : List Node) (b : IsBlockTree g nodes) where
       ∙ met-runs (group nodes k) (from_least (reverse l)) (reverse (map mirrored w.0)) (runs-turned (group nodes k) (reverse l) (from_least (reverse l)) (reverse (map mirrored w.0)) (runs-mirrored (group nodes k) l w.0 w.1) (from_least-turn (reverse l)))
       ∙ ap from_least (mirrored-keys w.0) ∙ sym (mirror-normal (group_keys w.0) w.1.once) ∙ ap (λ (z : List ℕ). from_least (reverse z)) (sym (met-runs (group nodes k) l w.0 w.1))
 
+-- the keys round a vertex are those of the items there
+pub keys-round_items : KeysRoundAreOfItems
+keys-round_items g nodes r b s c k v h =
+    let w = c k v h in
+    permutation-from_members (keys_at nodes k v) (keys_round nodes r k v) (keys-at_distinct g nodes b.tree k v)
+    (ap is_distinct (met-runs (group nodes k) (order_at r v) w.0 w.1) ∙ from_least-distinct (group_keys w.0) w.1.once)
+    (λ x. sym (ap (is_member x) (met-runs (group nodes k) (order_at r v) w.0 w.1) ∙ from_least-member (group_keys w.0) x ∙ runs-keys g nodes b r k v w.0 s h w.1 x))
+
 -- the laws on moves
 pub flip-exists : FlipExists
 flip-exists g nodes r b s c k is =
     let w = made-at g nodes b r k (λ v m. AreReversed (group nodes k) (order_at r v) m) s (λ v m n. reversed-turn (group nodes k) (order_at r v) m n)
-        (λ v h. let a = c k v h in reversed-exists (group nodes k) (order_at r v) a.0 (order-distinct g r v s (vertex-in g nodes b k v h)) a.1) in
+    (λ v h. let a = c k v h in reversed-exists (group nodes k) (order_at r v) a.0 (order-distinct g r v s (vertex-in g nodes b k v h)) a.1) in
     (w.0, record { system = w.1; turned = w.2; stays = w.3 })
 
 pub permute-exists : PermuteExists
-permute-exists g nodes r b s c k is keys p = (w.0, record {
-  system = w.1;
-  arrangement = p;
-  lesser = (w.2 (least_vertex nodes k) (least-has g nodes b k is.0)).0 refl;
-  greater = (w.2 (greatest_vertex nodes k) (greatest-has g nodes b k is.0)).1 refl;
-  stays = w.3;
-})
+permute-exists g nodes r b s c k is keys p = (
+  w.0,
+  record {
+    system = w.1;
+    arrangement = p;
+    lesser = (w.2 (least_vertex nodes k) (least-has g nodes b k is.0)).0 refl;
+    greater = (w.2 (greatest_vertex nodes k) (greatest-has g nodes b k is.0)).1 refl;
+    stays = w.3;
+  },
+)
   where
     A : ℕ → List ℕ → Type 0
     A v m = (v ≡ least_vertex nodes k → AreRegrouped (group nodes k) (order_at r v) keys m) × (v ≡ greatest_vertex nodes k → AreRegrouped (group nodes k) (order_at r v) (reverse keys) m)

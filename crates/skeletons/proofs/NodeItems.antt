@@ -1,7 +1,7 @@
 -- The items of a node of the tree: each edge is in the group of one, told by its key, and at a vertex of the node just the
 -- items with that end have edges. (Lemmas on trees alone: they belong to pair_split.)
-use Rattle.std.proofs.Common.{◌≡◌, ◌≢◌, ℕ, zero, suc, ◌+◌, ◌<◌, ◌≤◌, ◌⊎◌, ◌==◌, ◌&&◌, ◌||◌, inl, inr, Bool, true, false, not, cond, List, [], ◌∷◌, length, map, filter, slice_index, slice_index_or, refl, sym, ap, ◌∙◌, subst, arith}
-use Rattle.std.proofs.lemmas.Bool.{cases_Bool, cases_eq, both_ways, true≢false, cases_lt, or_cases, or_left, or_right, eq-eqb, eqb-true, false_from_ne_true, not_from_false, not_from_true}
+use Rattle.std.proofs.Common.{◌≡◌, ◌≢◌, ℕ, zero, suc, ◌<◌, ◌≤◌, inl, inr, Bool, true, false, cond, List, [], ◌∷◌, length, map, filter, slice_index_or, refl, sym, ap, ◌∙◌, subst, arith}
+use Rattle.std.proofs.lemmas.Bool.{cases_Bool, cases_eq, both_ways, true≢false, cases_lt, or_left, or_right, false_from_ne_true}
 use Rattle.std.proofs.lemmas.List.{get_or-map, length-map}
 use Rattle.permutations.specs.Members.{is_member, is_distinct}
 use Rattle.permutations.proofs.Members.{member-head, member-tail, member-cases, distinct-cons}
@@ -10,8 +10,8 @@ use Rattle.multigraph.specs.Graph.{Multigraph, edge_count, is_end}
 use Rattle.multigraph.specs.Part.{Rises}
 use Rattle.multigraph.proofs.Places.{rises-once}
 use Rattle.pair_split.specs.Skeleton.{is_end_of, is_vertex}
-use Rattle.pair_split.specs.Split.{items_of, item_at, piece_ends, skeleton, StandsFor, is_beyond, side, LinksTo, AreLinked, IsSplit}
-use Rattle.pair_split.specs.Tutte.{Node, piece_of, components, node_at, node_item, key_of, has_in_group, first_key, group, IsTutte}
+use Rattle.pair_split.specs.Split.{items_of, item_at, piece_ends, StandsFor, side, IsSplit}
+use Rattle.pair_split.specs.Tutte.{Node, piece_of, components, node_at, node_item, has_in_group, first_key, group, IsTutte}
 use Rattle.pair_split.specs.declared.components.Comp.{Comp}
 use Rattle.pair_split.specs.declared.components.Item.{Item}
 use Rattle.pair_split.specs.declared.components.Piece.{Piece}
@@ -19,8 +19,7 @@ use Rattle.pair_split.specs.declared.components.What.{What}
 use Rattle.pair_split.specs.declared.components.What.TheVariants.{Real, Link}
 use Rattle.pair_split.proofs.Groups.{group-some, group-once, group-common, Touched, end-touched, in_group-link}
 use Rattle.pair_split.proofs.LargeSides.{vertex-item}
-use Rattle.pair_split.proofs.Links.{stands-in}
-use Rattle.skeletons.specs.Items.{ends_item, item_key, items_at, keys_at, node_keys, has_vertex}
+use Rattle.skeletons.specs.Items.{ends_item, item_key, keys_at, has_vertex}
 
 abbrev pub no_item : Item
 no_item = record { key = 0; a = 0; b = 0; what = Real 0 }
@@ -240,9 +239,13 @@ module _ (g : Multigraph) (nodes : List Node) (t : IsTutte g nodes) where
       let w = vertex-end k v x in
       elim (cases_eq w.0 p) [
         | inl s ↦
-            let c = (split.sides_meet k h p (stands-of k p (Link h) l q) v).1 (ends-at k p v l ∙ subst (λ z. ends_item v (node_item nodes k z) ≡ true) s w.2) in
-            (c.outside, c.outside_edge, c.outside_end, λ r. both_ways (side comps k h c.outside) c.outside_side
-            (sym (in_group-link g comps split k h c.outside (node_item nodes k p).what q) ∙ group-item k p c.outside (vertex-node nodes k v x) l c.outside_edge r))
+            let c = (split.sides_meet k h p (stands-of k p (Link h) l q) v).1 (ends-at k p v l ∙ subst (λ z. ends_item v (node_item nodes k z) ≡ true) s w.2) in (
+              c.outside,
+              c.outside_edge,
+              c.outside_end,
+              λ r. both_ways (side comps k h c.outside) c.outside_side
+                  (sym (in_group-link g comps split k h c.outside (node_item nodes k p).what q) ∙ group-item k p c.outside (vertex-node nodes k v x) l c.outside_edge r),
+            )
         | inr n ↦
             let f = item-edge k v w.0 w.1 w.2 in
             (f.0, f.1, f.2, λ r. n (keys-once k w.0 p w.1 l (sym (group-is k w.0 f.0 w.1 f.1 f.3) ∙ r)))

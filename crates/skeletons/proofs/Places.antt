@@ -1,15 +1,15 @@
 -- Families: the rotation systems of the skeletons under numbers of their own, as orders of keys and back.
-use Rattle.std.proofs.Common.{◌≡◌, ◌≢◌, ℕ, zero, suc, ◌+◌, ◌<◌, ◌≤◌, ◌⊎◌, ◌==◌, ◌||◌, inl, inr, Bool, true, false, cond, List, [], ◌∷◌, length, map, slice_index_or, refl, sym, ap, ap₂, ◌∙◌, subst, arith, IsPermutation}
-use Rattle.std.proofs.lemmas.Bool.{cases_Bool, cases_eq, cases_lt, both_ways, true≢false, eq-eqb, eqb-true, ne_eqb, or_left, or_right}
+use Rattle.std.proofs.Common.{◌≡◌, ◌≢◌, ℕ, suc, ◌+◌, ◌<◌, ◌==◌, ◌||◌, inl, inr, Bool, true, cond, List, [], ◌∷◌, length, map, slice_index_or, refl, sym, ap, ap₂, ◌∙◌, subst, arith, IsPermutation}
+use Rattle.std.proofs.lemmas.Bool.{cases_eq, cases_lt, true≢false, eq-eqb, eqb-true, ne_eqb, or_left, or_right}
 use Rattle.std.proofs.lemmas.List.{get_or-map, get_or_default, length-map, same_lists}
 use Rattle.permutations.specs.Cyclic.{IsTurn, from_least}
 use Rattle.permutations.specs.Members.{is_member, is_distinct}
 use Rattle.permutations.specs.Runs.{group_keys}
 use Rattle.permutations.proofs.Arrangements.{permutation-member, permutation-distinct, permutation-from_members, member-at}
-use Rattle.permutations.proofs.Members.{member-head, member-tail, member-cases}
+use Rattle.permutations.proofs.Members.{member-cases}
 use Rattle.permutations.proofs.NormalForm.{same-from_least, from_least-turn, from_least-distinct, from_least-member}
 use Rattle.permutations.proofs.Relation.{same-tests}
-use Rattle.permutations.proofs.Turned.{IsTurn-map, IsTurn-member, IsTurn-distinct, IsTurn-sym}
+use Rattle.permutations.proofs.Turned.{IsTurn-map}
 use Rattle.multigraph.specs.Graph.{Multigraph, numbers_below, edge_count, ends_of, is_end, incident_edges}
 use Rattle.multigraph.proofs.Below.{get_or-numbers_below, length-numbers_below}
 use Rattle.multigraph.proofs.Places.{rises-once}
@@ -19,12 +19,12 @@ use Rattle.faces.proofs.MapLists.{member-map, map-member, distinct-map, map-back
 use Rattle.pair_split.specs.Tutte.{Node, node_at, node_item, group, IsTutte}
 use Rattle.pair_split.specs.declared.components.Item.{Item}
 use Rattle.skeletons.specs.Items.{ends_item, item_key, keys_at, node_keys, has_vertex, IsBlockTree}
-use Rattle.skeletons.specs.Round.{keys_met, keys_round, IsContiguous}
-use Rattle.skeletons.specs.Families.{place_of, end_places, skeleton_graph, system_at, AreSkeletonSystems, keys_of, keys_in, StandInOrder, FollowsFamily}
+use Rattle.skeletons.specs.Round.{keys_round}
+use Rattle.skeletons.specs.Families.{place_of, end_places, skeleton_graph, system_at, AreSkeletonSystems, keys_of, keys_in, FollowsFamily}
 use Rattle.skeletons.specs.Laws.{FamilyIsFollowed, ContiguousFollows, FamilyIsUnique}
-use Rattle.skeletons.proofs.NodeItems.{no_item, key-at_from, key-at_item, keys-at_distinct, keys-once, item-vertex, vertex-node}
+use Rattle.skeletons.proofs.NodeItems.{no_item, key-at_from, key-at_item, keys-once, item-vertex, vertex-node}
 use Rattle.skeletons.proofs.KeyRuns.{met-runs, met-order, order-met, order-rewritten}
-use Rattle.skeletons.proofs.Rearranged.{once-places, distinct-places, member-place}
+use Rattle.skeletons.proofs.Rearranged.{once-places, distinct-places}
 use Rattle.skeletons.proofs.Systems.{same-turns, made, made-order, made-system}
 use Rattle.skeletons.proofs.Moved.{runs-keys}
 use Rattle.skeletons.proofs.Composing.{AreOrders, composed}
@@ -235,8 +235,11 @@ contiguous-follows g nodes r b s c = (family, record { each = length-map (number
 
     chosen : (k : ℕ) → (s : List (List ℕ)) × (k < length nodes → IsRotationSystem (skeleton_graph nodes k) s × ((v : ℕ) → has_vertex nodes k v ≡ true → IsTurn (keys_round nodes r k v) (keys_of nodes k (order_at s (place_of (node_at nodes k).vertices v)))))
     chosen k = elim (cases_lt k (length nodes)) [
-      | inl l ↦ (skeleton-system g nodes b.tree k l (keys_round nodes r k) (once k) (members k), λ d.
-          (skeleton-is g nodes b.tree k l (keys_round nodes r k) (once k) (members k), skeleton-keys g nodes b.tree k l (keys_round nodes r k) (once k) (members k)))
+      | inl l ↦ (
+        skeleton-system g nodes b.tree k l (keys_round nodes r k) (once k) (members k),
+        λ d.
+            (skeleton-is g nodes b.tree k l (keys_round nodes r k) (once k) (members k), skeleton-keys g nodes b.tree k l (keys_round nodes r k) (once k) (members k)),
+      )
       | inr n ↦ ([], λ d. absurd (omega (arith, d, n)))
     ]
 

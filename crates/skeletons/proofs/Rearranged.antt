@@ -1,11 +1,11 @@
 -- Cyclic orders whose groups stand in another order, each group as it was: what comes of it is determined, and other keys see
 -- nothing of it. (Lemmas on lists alone: they belong to permutations.)
-use Rattle.std.proofs.Common.{◌≡◌, ◌≢◌, ℕ, zero, suc, ◌+◌, ◌<◌, ◌≤◌, ◌⊎◌, ◌==◌, inl, inr, Bool, true, false, not, List, [], ◌∷◌, ◌++◌, length, map, filter, reverse, slice_index_or, refl, sym, ap, ap₂, ◌∙◌, subst, arith, All, IsPermutation}
-use Rattle.std.proofs.lemmas.Bool.{cases_Bool, cases_eq, cases_lt, both_ways, true≢false, eq-eqb, eqb-true, false_from_ne_true}
-use Rattle.std.proofs.lemmas.List.{get_or-map, get_or_default, length-map, same_lists, length-append, append_assoc, append-nil, map-append, reverse-append}
+use Rattle.std.proofs.Common.{◌≡◌, ◌≢◌, ℕ, zero, suc, ◌<◌, ◌≤◌, ◌==◌, inl, inr, true, false, List, [], ◌∷◌, ◌++◌, length, map, filter, reverse, slice_index_or, refl, sym, ap, ◌∙◌, subst, arith, All, IsPermutation}
+use Rattle.std.proofs.lemmas.Bool.{cases_Bool, cases_lt, both_ways, true≢false, eq-eqb, eqb-true, false_from_ne_true}
+use Rattle.std.proofs.lemmas.List.{get_or-map, get_or_default, length-map, same_lists, length-append, map-append, reverse-append}
 use Rattle.std.proofs.lemmas.List.Elements.{All-nil, All-cons, All-head, All-tail, All-from_get_or, All-get_or}
 use Rattle.std.proofs.lemmas.List.Sorted.{All-permutation, IsPermutation-map, IsPermutation-reverse, IsPermutation-sym, IsPermutation-trans, length_permutation}
-use Rattle.permutations.specs.Cyclic.{IsTurn, from_least}
+use Rattle.permutations.specs.Cyclic.{IsTurn}
 use Rattle.permutations.specs.Members.{is_member, is_distinct}
 use Rattle.permutations.specs.Runs.{joined, group_keys, IsGroup, InRuns}
 use Rattle.permutations.proofs.Arrangements.{permutation-member, permutation-distinct, permutation-from_members, member-at}
@@ -13,14 +13,12 @@ use Rattle.permutations.proofs.CyclicSame.{IsTurn-trans}
 use Rattle.permutations.proofs.Filter.{member-filter_parts, filter-member, distinct-filter}
 use Rattle.permutations.proofs.Relation.{same-tests}
 use Rattle.permutations.proofs.Members.{member-head, member-tail, member-cases, no_member-head, no_member-tail, member-append_cases, member-append_left, member-append_right, distinct-head, distinct-tail, distinct-cons, distinct-append, distinct-reverse}
-use Rattle.permutations.proofs.NormalForm.{from_least-same}
-use Rattle.permutations.proofs.Runs.{first-of, joined-append, joined-turn, joined-key, other-groups, runs-turn, runs-turned, runs-unique}
+use Rattle.permutations.proofs.Runs.{first-of, joined-turn, joined-key, other-groups, runs-turn, runs-unique}
 use Rattle.permutations.proofs.RunsByKey.{groups-by_key, keys-member}
-use Rattle.permutations.proofs.Turned.{IsTurn-refl, IsTurn-sym, IsTurn-map, IsTurn-member, IsTurn-distinct, IsTurn-reverse, IsTurn-length, IsTurn-permutation}
-use Rattle.skeletons.specs.Round.{keys_met}
+use Rattle.permutations.proofs.Turned.{IsTurn-refl, IsTurn-sym, IsTurn-member, IsTurn-distinct, IsTurn-reverse, IsTurn-length, IsTurn-permutation}
 use Rattle.skeletons.specs.Moves.{AreReversed, AreRegrouped}
 use Rattle.skeletons.specs.Families.{StandInOrder}
-use Rattle.skeletons.proofs.KeyRuns.{order-turned, order-exchanged, met-runs}
+use Rattle.skeletons.proofs.KeyRuns.{order-turned, order-exchanged}
 
 -- the same groups, in some order
 pub record AreRearranged (key : ℕ → ℕ) (l m : List ℕ) : Type 0 where
@@ -174,13 +172,16 @@ pub record IsPutInOrder (key : ℕ → ℕ) (l : List ℕ) (gs : List (ℕ × Li
 
 -- there is one for each order of the keys
 pub put-in_order : (key : ℕ → ℕ) (l keys : List ℕ) (gs : List (ℕ × List ℕ)) → is_distinct l ≡ true → InRuns key l gs → IsPermutation (group_keys gs) keys → (m : List ℕ) × IsPutInOrder key l gs keys m
-put-in_order key l keys gs d r p = (joined hs, record {
-  after = hs;
-  runs_after = gathered-runs key whole keys once filled;
-  same_groups = subst (λ (v : List (ℕ × List ℕ)). IsPermutation v hs) (groups-by_key key l gs r) (IsPermutation-map (λ k. (k, filter (λ x. key x == k) whole)) (group_keys gs) keys p);
-  order = gathered-keys key whole keys;
-  same_members = permutation-from_members l (joined hs) d (gathered-distinct key whole keys dw once) members;
-})
+put-in_order key l keys gs d r p = (
+  joined hs,
+  record {
+    after = hs;
+    runs_after = gathered-runs key whole keys once filled;
+    same_groups = subst (λ (v : List (ℕ × List ℕ)). IsPermutation v hs) (groups-by_key key l gs r) (IsPermutation-map (λ k. (k, filter (λ x. key x == k) whole)) (group_keys gs) keys p);
+    order = gathered-keys key whole keys;
+    same_members = permutation-from_members l (joined hs) d (gathered-distinct key whole keys dw once) members;
+  },
+)
   where
     whole : List ℕ
     whole = joined gs
@@ -254,7 +255,7 @@ told gs hs d p e = same_lists gs hs (sym (length_permutation gs hs p)) each
         let b : i < length hs = omega (arith, l, length_permutation gs hs p) in
         let w = All-get_or (λ (h : ℕ × List ℕ). (i : ℕ) × (i < length gs) × (slice_index_or gs i none ≡ h)) hs i none b found in
         let same : w.0 ≡ i = once-places (group_keys gs) w.0 i d (in_keys w.0 w.1) (in_keys i l)
-            (key-at gs w.0 w.1 ∙ ap (λ (h : ℕ × List ℕ). h.0) w.2 ∙ sym (key-at hs i b) ∙ ap (λ (v : List ℕ). slice_index_or v i 0) (sym e)) in
+        (key-at gs w.0 w.1 ∙ ap (λ (h : ℕ × List ℕ). h.0) w.2 ∙ sym (key-at hs i b) ∙ ap (λ (v : List ℕ). slice_index_or v i 0) (sym e)) in
         get_or_default gs i o none l ∙ ap (λ z. slice_index_or gs z none) (sym same) ∙ w.2 ∙ sym (get_or_default hs i o none b)
       where
         in_keys : (i : ℕ) → i < length gs → i < length (group_keys gs)

@@ -1,12 +1,11 @@
 -- Rotation systems as lists: each order is written from its least edge on, orders tell the system, and any arrangements of the
 -- edges at the vertices make one. (Lemmas on rotation systems alone: they belong to rotations.)
-use Rattle.std.proofs.Common.{◌≡◌, ℕ, zero, suc, ◌<◌, ◌≤◌, inl, inr, Bool, true, false, List, [], ◌∷◌, ◌++◌, length, map, reverse, slice_index_or, refl, sym, ap, ◌∙◌, subst, arith, IsPermutation}
-use Rattle.std.proofs.lemmas.Bool.{cases_Bool, both_ways, true≢false}
+use Rattle.std.proofs.Common.{◌≡◌, ℕ, ◌<◌, ◌≤◌, true, List, [], ◌∷◌, length, map, slice_index_or, refl, sym, ap, ◌∙◌, subst, IsPermutation}
 use Rattle.std.proofs.lemmas.List.{get_or-map, get_or_default, length-map, same_lists}
-use Rattle.permutations.specs.Cyclic.{first_or, least_or, IsTurn, from_least}
+use Rattle.permutations.specs.Cyclic.{first_or, IsTurn, from_least}
 use Rattle.permutations.specs.Members.{is_member, is_distinct}
 use Rattle.permutations.proofs.Arrangements.{permutation-member, permutation-distinct, permutation-from_members}
-use Rattle.permutations.proofs.Members.{member-head, member-tail}
+use Rattle.permutations.proofs.Members.{member-tail}
 use Rattle.permutations.proofs.NormalForm.{from_least-first, from_least-same, from_least-member, from_least-distinct, from_least-first_or, least_or-le}
 use Rattle.multigraph.specs.Graph.{Multigraph, numbers_below, incident_edges}
 use Rattle.multigraph.proofs.Below.{get_or-numbers_below, length-numbers_below}

@@ -1,27 +1,26 @@
 -- Two nodes of a tree: the item of the one towards the other; a vertex of both is an end of it; each edge is in the group of
 -- one of the two items; and three edges at a vertex are told apart by some node. (Lemmas on trees alone: they belong to
 -- pair_split.)
-use Rattle.std.proofs.Common.{◌≡◌, ◌≢◌, ℕ, zero, suc, ◌+◌, ◌<◌, ◌≤◌, ◌⊎◌, ◌==◌, ◌&&◌, ◌||◌, inl, inr, Bool, true, false, not, List, [], ◌∷◌, length, filter, refl, sym, ap, ap₂, ◌∙◌, subst, arith, Contains}
-use Rattle.std.proofs.lemmas.Bool.{cases_Bool, cases_eq, cases_lt, both_ways, true≢false, or_cases, or_left, or_right, and_parts, and_from, and_left, eq-eqb, eqb-true, ne_eqb, false_from_ne_true, not_from_false, not_from_true, not-true}
+use Rattle.std.proofs.Common.{◌≡◌, ◌≢◌, ℕ, zero, suc, ◌<◌, ◌&&◌, inl, inr, Bool, true, false, List, length, filter, sym, ap, ap₂, ◌∙◌, subst, arith, Contains}
+use Rattle.std.proofs.lemmas.Bool.{cases_Bool, cases_eq, cases_lt, both_ways, and_parts, and_from, and_left, eqb-true, false_from_ne_true, not_from_false, not_from_true}
 use Rattle.permutations.specs.Count.{count}
 use Rattle.permutations.specs.Relation.{connected}
 use Rattle.permutations.proofs.Count.{count-same}
-use Rattle.permutations.proofs.Relation.{same-tests, connected-reflexive, connected-symmetric, connected-transitive, connected-link, connected-closed}
+use Rattle.permutations.proofs.Relation.{same-tests, connected-symmetric, connected-transitive, connected-link, connected-closed}
 use Rattle.multigraph.specs.Graph.{Multigraph, edge_count, ends_of, is_end}
 use Rattle.pair_split.specs.Skeleton.{is_end_of}
-use Rattle.pair_split.specs.Split.{items_of, item_at, piece_ends, all_links, joins_others, StandsFor, is_beyond, side, LinksTo, AreLinked, IsSplit}
+use Rattle.pair_split.specs.Split.{item_at, piece_ends, all_links, joins_others, StandsFor, is_beyond, side, LinksTo, AreLinked, IsSplit}
 use Rattle.pair_split.specs.Tutte.{Node, components, node_at, node_item, has_in_group, group, IsTutte}
 use Rattle.pair_split.specs.declared.components.Comp.{Comp}
-use Rattle.pair_split.specs.declared.components.What.{What}
 use Rattle.pair_split.specs.declared.components.What.TheVariants.{Real, Link}
 use Rattle.pair_split.proofs.Elements.{filter-contains}
 use Rattle.pair_split.proofs.GraphFamily.{all-from_contained}
-use Rattle.pair_split.proofs.Groups.{what-cases, same-end, same-end_back, side-at, side-other, group-cases, in_group-real, in_group-link}
+use Rattle.pair_split.proofs.Groups.{what-cases, same-end, same-end_back, side-at, side-other, in_group-real, in_group-link}
 use Rattle.pair_split.proofs.Links.{contained-link, stands-in}
 use Rattle.pair_split.proofs.Subtrees.{link-in}
-use Rattle.pair_split.proofs.TreeSides.{link-from, link-back, link-differs, beyond-other, beyond-far, beyond-near, beyond-along, beyond-apart, beyond-some}
-use Rattle.skeletons.specs.Items.{ends_item, keys_at, has_vertex}
-use Rattle.skeletons.proofs.NodeItems.{number, node-in, comp-in, item-of, stands-of, ends-at, what-at, keys-once, group-is, edge-item, group-item, vertex-node, item-vertex, edge-end, outside-edge}
+use Rattle.pair_split.proofs.TreeSides.{link-from, link-back, beyond-other, beyond-far, beyond-near, beyond-along, beyond-apart, beyond-some}
+use Rattle.skeletons.specs.Items.{ends_item, has_vertex}
+use Rattle.skeletons.proofs.NodeItems.{node-in, comp-in, item-of, stands-of, ends-at, group-is, edge-item, group-item, vertex-node, item-vertex, edge-end, outside-edge}
 
 -- what fewer numbers pass
 pub count-less : (n : ℕ) (p q : ℕ → Bool) (y : ℕ) → ((x : ℕ) → x < n → p x ≡ true → q x ≡ true) → y < n → p y ≡ false → q y ≡ true → count n p < count n q
@@ -101,8 +100,8 @@ module _ (g : Multigraph) (nodes : List Node) (t : IsTutte g nodes) where
           let i : LinksTo comps l.0 l.1 = contained-link comps l f.0 in
           let joined : connected (filter (joins_others w.next k) (all_links 0 comps)) l.0 l.1 ≡ true = connected-link (filter (joins_others w.next k) (all_links 0 comps)) l.0 l.1 c in
           let same : is_beyond comps w.next k l.0 ≡ is_beyond comps w.next k l.1 = same-tests (is_beyond comps w.next k l.0) (is_beyond comps w.next k l.1)
-              (λ h. connected-transitive (filter (joins_others w.next k) (all_links 0 comps)) k l.0 l.1 h joined)
-              (λ h. connected-transitive (filter (joins_others w.next k) (all_links 0 comps)) k l.1 l.0 h (connected-symmetric (filter (joins_others w.next k) (all_links 0 comps)) l.0 l.1 joined)) in
+          (λ h. connected-transitive (filter (joins_others w.next k) (all_links 0 comps)) k l.0 l.1 h joined)
+          (λ h. connected-transitive (filter (joins_others w.next k) (all_links 0 comps)) k l.1 l.0 h (connected-symmetric (filter (joins_others w.next k) (all_links 0 comps)) l.0 l.1 joined)) in
           elim (cases_Bool (is_beyond comps w.next k l.0)) [
             | inr o ↦ and_left (is_beyond comps w.next k l.0) (is_beyond comps j u.next l.0) o ∙ sym (and_left (is_beyond comps w.next k l.1) (is_beyond comps j u.next l.1) (sym same ∙ o))
             | inl y ↦ ap₂ (λ (a b : Bool). a && b) same (beyond-along comps linked j u.next l.0 l.1 i
@@ -147,10 +146,14 @@ module _ (g : Multigraph) (nodes : List Node) (t : IsTutte g nodes) where
       → (q : ℕ) × (q < length (node_at nodes h).items) × ((node_item nodes h q).what ≡ Link k) × ((v : ℕ) → ends_item v (node_item nodes k p) ≡ ends_item v (node_item nodes h q))
   far-item k p h l q =
       let b = linked.back k h p (stands-of g nodes t k p (Link h) l q) in
-      let m = item-of g nodes t h b.0 (Link k) b.1 in
-      (b.0, m.0, m.1, λ v. sym (ends-at g nodes t k p v l) ∙ same-tests (is_end_of v (piece_ends (item_at comps k p))) (is_end_of v (piece_ends (item_at comps h b.0)))
-      (same-end_back (piece_ends (item_at comps k p)) (piece_ends (item_at comps h b.0)) v b.2) (same-end (piece_ends (item_at comps k p)) (piece_ends (item_at comps h b.0)) v b.2)
-      ∙ ends-at g nodes t h b.0 v m.0)
+      let m = item-of g nodes t h b.0 (Link k) b.1 in (
+        b.0,
+        m.0,
+        m.1,
+        λ v. sym (ends-at g nodes t k p v l) ∙ same-tests (is_end_of v (piece_ends (item_at comps k p))) (is_end_of v (piece_ends (item_at comps h b.0)))
+            (same-end_back (piece_ends (item_at comps k p)) (piece_ends (item_at comps h b.0)) v b.2) (same-end (piece_ends (item_at comps k p)) (piece_ends (item_at comps h b.0)) v b.2)
+            ∙ ends-at g nodes t h b.0 v m.0,
+      )
 
   -- an end of a link is a vertex of the node to which it leads
   pub link-vertex : (k p h v : ℕ) → p < length (node_at nodes k).items → (node_item nodes k p).what ≡ Link h → ends_item v (node_item nodes k p) ≡ true → has_vertex nodes h v ≡ true
@@ -233,7 +236,7 @@ module _ (g : Multigraph) (nodes : List Node) (t : IsTutte g nodes) where
         let d : h.0 < length nodes = node-in g nodes t h.0 (stands-in comps h.0 h.1 (Real a) h.2) in
         let own : group nodes h.0 a ≡ (node_item nodes h.0 h.1).key = group-is g nodes t h.0 h.1 a m.0 la (in_group-real g comps split h.0 a (node_item nodes h.0 h.1).what m.1) in
         let apart : (e : ℕ) → e < edge_count g → a ≢ e → group nodes h.0 a ≢ group nodes h.0 e = λ e le n q.
-            n (eqb-true a e (sym (ap (has_in_group comps h.0 e) m.1) ∙ group-item g nodes t h.0 h.1 e d m.0 le (sym q ∙ own))) in
+        n (eqb-true a e (sym (ap (has_in_group comps h.0 e) m.1) ∙ group-item g nodes t h.0 h.1 e d m.0 le (sym q ∙ own))) in
         let has : has_vertex nodes h.0 v ≡ true = item-vertex g nodes t h.0 v h.1 d m.0 (sym (ends-at g nodes t h.0 h.1 v m.0) ∙ same-end (piece_ends (item_at comps h.0 h.1)) (ends_of g a) v ((split.covers.edges a h.0 h.1 h.2).1) va) in
         elim (cases_eq (group nodes h.0 b) (group nodes h.0 c)) [
           | inr n ↦ record { node = h.0; has = has; ab = apart b lb nb; ac = apart c lc nc; bc = n }

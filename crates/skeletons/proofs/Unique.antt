@@ -1,11 +1,11 @@
 -- The orders of the groups at all nodes tell the cyclic order at a vertex, and so the rotation system.
-use Rattle.std.proofs.Common.{◌≡◌, ◌≢◌, ℕ, zero, suc, ◌<◌, inl, inr, Bool, true, false, List, [], ◌∷◌, ◌++◌, refl, sym, ap, ◌∙◌, subst, arith}
-use Rattle.std.proofs.lemmas.Bool.{cases_Bool, cases_eq, both_ways, true≢false}
-use Rattle.permutations.specs.Cyclic.{first_or, successor, IsTurn}
+use Rattle.std.proofs.Common.{◌≡◌, ◌≢◌, ℕ, ◌<◌, inl, inr, true, false, List, [], ◌∷◌, ◌++◌, refl, sym, ap, ◌∙◌, subst}
+use Rattle.std.proofs.lemmas.Bool.{cases_Bool, cases_eq, both_ways}
+use Rattle.permutations.specs.Cyclic.{successor, IsTurn}
 use Rattle.permutations.specs.Members.{is_member, is_distinct}
 use Rattle.permutations.proofs.Arrangements.{permutation-member}
 use Rattle.permutations.proofs.CyclicSame.{IsTurn-from_successor}
-use Rattle.permutations.proofs.Members.{member-head, no_member-cons, member-append_right, distinct-append_apart, distinct-append_right, distinct-head, CutAt, cut_at}
+use Rattle.permutations.proofs.Members.{member-head, no_member-cons, distinct-append_right, distinct-head, CutAt, cut_at}
 use Rattle.permutations.proofs.Successor.{successor-cut, successor-absent, successor-member}
 use Rattle.permutations.proofs.Turned.{IsTurn-refl}
 use Rattle.multigraph.specs.Graph.{Multigraph, edge_count, is_end, incident_edges}
@@ -14,7 +14,7 @@ use Rattle.rotations.proofs.Membership.{member-edge, member-end}
 use Rattle.faces.proofs.DartLemmas.{order-distinct}
 use Rattle.pair_split.specs.Tutte.{Node, group, IsTutte}
 use Rattle.skeletons.specs.Items.{has_vertex}
-use Rattle.skeletons.specs.Families.{AreSkeletonSystems, keys_in, StandInOrder, FollowsFamily}
+use Rattle.skeletons.specs.Families.{keys_in, StandInOrder}
 use Rattle.skeletons.specs.Laws.{FollowerIsUnique}
 use Rattle.skeletons.proofs.KeyRuns.{order-successor}
 use Rattle.skeletons.proofs.Systems.{same-turns}

@@ -1,28 +1,26 @@
 -- The vertices of a node: its least vertex is one, and a bond has two, at which all its items stand.
-use Rattle.std.proofs.Common.{◌≡◌, ◌≢◌, ℕ, zero, suc, ◌+◌, ◌<◌, ◌≤◌, ◌⊎◌, ◌==◌, ◌||◌, inl, inr, Bool, true, false, List, [], ◌∷◌, ◌++◌, length, map, reverse, slice_index_or, refl, sym, ap, ◌∙◌, subst, arith, All}
-use Rattle.std.proofs.lemmas.Bool.{cases_Bool, cases_eq, both_ways, true≢false, or_cases, or_left, or_right, eq-eqb, eqb-true}
+use Rattle.std.proofs.Common.{◌≡◌, ◌≢◌, ℕ, zero, suc, ◌<◌, ◌⊎◌, ◌==◌, inl, inr, true, List, [], ◌∷◌, length, map, reverse, refl, sym, ap, ◌∙◌, subst, arith}
+use Rattle.std.proofs.lemmas.Bool.{both_ways, true≢false, or_cases, or_left, or_right, eq-eqb, eqb-true}
 use Rattle.std.proofs.lemmas.List.{get_or-map, length-map, reverse-append}
 use Rattle.std.proofs.lemmas.List.Elements.{All-get_or}
 use Rattle.permutations.specs.Cyclic.{first_or, last_or}
 use Rattle.permutations.specs.Members.{is_member, is_distinct}
-use Rattle.permutations.proofs.Members.{member-head, member-tail, member-cases, member-reverse, no_member-cons, distinct-head}
+use Rattle.permutations.proofs.Members.{member-head, member-tail, member-cases, member-reverse, distinct-head}
 use Rattle.permutations.proofs.Relation.{same-tests}
 use Rattle.permutations.proofs.Successor.{first_or-append}
-use Rattle.multigraph.specs.Graph.{Multigraph, edge_count, is_end}
-use Rattle.multigraph.specs.Part.{Rises}
+use Rattle.multigraph.specs.Graph.{Multigraph}
 use Rattle.multigraph.proofs.OtherEnd.{end-in}
 use Rattle.multigraph.proofs.Places.{rises-once}
-use Rattle.pair_split.specs.Skeleton.{is_end_of, SameEnds, IsBond, IsOfKind, IsSkeleton}
+use Rattle.pair_split.specs.Skeleton.{is_end_of, SameEnds, IsBond, IsOfKind}
 use Rattle.pair_split.specs.Split.{component_at, items_of, item_at, piece_ends, skeleton}
-use Rattle.pair_split.specs.Tutte.{Node, piece_of, components, node_at, node_item, IsTutte}
+use Rattle.pair_split.specs.Tutte.{Node, components, node_at, node_item, IsTutte}
 use Rattle.pair_split.specs.declared.components.Kind.{Kind}
-use Rattle.pair_split.specs.declared.components.Kind.TheVariants.{S, P, R, B}
+use Rattle.pair_split.specs.declared.components.Kind.TheVariants.{P}
 use Rattle.pair_split.specs.declared.components.What.TheVariants.{Real}
 use Rattle.pair_split.specs.declared.components.Item.{Item}
-use Rattle.pair_split.specs.declared.components.Piece.{Piece}
-use Rattle.skeletons.specs.Items.{ends_item, item_key, keys_at, node_keys, has_vertex, least_vertex, greatest_vertex, IsBlockTree}
+use Rattle.skeletons.specs.Items.{item_key, keys_at, node_keys, has_vertex, least_vertex, greatest_vertex, IsBlockTree}
 use Rattle.skeletons.specs.Moves.{IsNodeOfKind}
-use Rattle.skeletons.proofs.NodeItems.{no_item, nth_item, key-at_from, key-at_item, node-pieces, comp-in, piece-in, ends-at, edge-item, vertex-end, item-vertex, item-edge, vertex-node}
+use Rattle.skeletons.proofs.NodeItems.{nth_item, key-at_from, key-at_item, comp-in, piece-in, ends-at, edge-item, vertex-end, item-vertex, item-edge}
 use Rattle.skeletons.proofs.Rearranged.{distinct-places}
 
 -- the kind of a component is that of the node

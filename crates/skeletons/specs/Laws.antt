@@ -1,6 +1,7 @@
 -- What is proved of skeletons, or is to be proved in the crates above, as statements.
 use Rattle.std.specs.Prelude.{◌≡◌, ℕ, ◌+◌, ◌<◌, ◌↔◌, Bool, true, false, List, [], length, reverse, slice_index_or, IsPermutation, All}
 use Rattle.permutations.specs.Cyclic.{from_least}
+use Rattle.permutations.specs.Runs.{group_keys, InRuns}
 use Rattle.multigraph.specs.Graph.{Multigraph, IsGraph}
 use Rattle.graph_theory.specs.Triconnected.{IsTriconnected}
 use Rattle.rotations.specs.Rotation.{IsRotationSystem}
@@ -8,12 +9,21 @@ use Rattle.faces.specs.Euler.{IsPlane}
 use Rattle.faces.specs.Maps.{mirror_image}
 use Rattle.pair_split.specs.Tutte.{Node, IsTutte}
 use Rattle.pair_split.specs.declared.components.Kind.TheVariants.{P, R}
-use Rattle.skeletons.specs.Items.{node_keys, IsBlockTree}
-use Rattle.skeletons.specs.Round.{IsContiguous}
+use Rattle.skeletons.specs.Items.{keys_at, has_vertex, node_keys, IsBlockTree}
+use Rattle.skeletons.specs.Round.{keys_met, keys_round, IsContiguous}
 use Rattle.skeletons.specs.Choices.{choice, Precedes, precedes, IsPlaneSystem}
 use Rattle.skeletons.specs.Moves.{IsNodeOfKind, FlipLeads, PermuteLeads, Move, moved_node, MoveLeads, Lead, moves_between}
 use Rattle.skeletons.specs.Lists.{IsFullList, IsKept, IsKeptList, IsReached, IsReachedList, list_count}
 use Rattle.skeletons.specs.Families.{skeleton_graph, system_at, AreSkeletonSystems, FollowsFamily, IsPossible}
+
+-- the keys met on the way round a list in runs are the keys of the runs, from the least on
+abbrev pub KeysMetAreOfRuns : Type 0
+KeysMetAreOfRuns = (key : ℕ → ℕ) (l : List ℕ) (gs : List (ℕ × List ℕ)) → InRuns key l gs → keys_met key l ≡ from_least (group_keys gs)
+
+-- round a vertex of a node they are the keys of the items there
+abbrev pub KeysRoundAreOfItems : Type 0
+KeysRoundAreOfItems = (g : Multigraph) (nodes : List Node) (r : List (List ℕ)) → IsBlockTree g nodes → IsRotationSystem g r → IsContiguous nodes r → (k v : ℕ) → has_vertex nodes k v ≡ true
+    → IsPermutation (keys_at nodes k v) (keys_round nodes r k v)
 
 -- in every plane rotation system of a block the groups stand in runs, at each vertex of each node
 abbrev pub PlaneIsContiguous : Type 0

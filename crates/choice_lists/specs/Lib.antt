@@ -1,0 +1,8 @@
+-- Lists of choices: orders, arrangements, products, ranks.
+pub mod Order
+pub mod Arrangements
+pub mod Choices
+pub mod Products
+pub mod Numbers
+pub mod Locks
+pub mod Laws
