@@ -1,5 +1,5 @@
 -- Bridges of two small maps.
-use Rattle.std.proofs.Common.{◌≡◌, ◌≢◌, ℕ, ◌<◌, Bool, true, false, ◌==◌, cond, refl, sym, ◌∙◌, arith}
+use Rattle.std.proofs.Common.{ℕ, ◌==◌, cond, refl, sym, ◌∙◌, arith}
 use Rattle.std.proofs.lemmas.Bool.{true≢false}
 use Rattle.dart_maps.specs.Map.{twin}
 use Rattle.skeleton_planes.specs.Bridges.{IsNoBridge}
