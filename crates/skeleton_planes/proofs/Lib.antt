@@ -1,0 +1,30 @@
+-- The lemmas on gluing along links, on the skeletons as one map, and on the skeletons of each kind.
+pub mod Seams
+pub mod LinkLists
+pub mod Numbering
+pub mod RunTests
+pub mod Facing
+pub mod Spread
+pub mod Unglued
+pub mod Bridges
+pub mod Joined
+pub mod Stages
+pub mod Coded
+pub mod ManyParts
+pub mod Union
+pub mod RunEnds
+pub mod Complements
+pub mod SkeletonDarts
+pub mod Whole
+pub mod Linked
+pub mod LinkPairs
+pub mod TreeLinks
+pub mod Followed
+pub mod Polygon
+pub mod PolygonSkeleton
+pub mod BondSkeleton
+pub mod Planar
+pub mod OneSystem
+pub mod Exact
+pub mod BondMade
+mod Examples

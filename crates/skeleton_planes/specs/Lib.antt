@@ -1,0 +1,3 @@
+-- Edges that are no bridges, and what is proved.
+pub mod Bridges
+pub mod Laws
