@@ -1,0 +1,3 @@
+-- The lemmas on choices.
+pub mod Rounds
+pub mod Plane

@@ -1,0 +1,1 @@
+-- What is proved of choices, moves and lists of plane rotation systems.

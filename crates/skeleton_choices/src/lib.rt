@@ -1,0 +1,4 @@
+// Choices of plane rotation systems.
+#![tactic(auto)]
+
+mod laws;
