@@ -1,3 +1,5 @@
 -- The lemmas on choices.
 pub mod Rounds
 pub mod Plane
+pub mod Told
+pub mod Reached

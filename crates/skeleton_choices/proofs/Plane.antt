@@ -52,7 +52,7 @@ three-differ (x ∷ keys) d n l e = mirror-differs (x ∷ keys) d l (sym (mirror
         omega (arith, first, least_or-le x z (x ∷ keys) (member-tail z x keys m))
 
 -- arrangements of two keys at most, each from the least on, are equal
-few-equal : (l m : List ℕ) → is_distinct l ≡ true → length l ≤ 2 → IsPermutation l m → from_least l ≡ l → from_least m ≡ m → l ≡ m
+pub few-equal : (l m : List ℕ) → is_distinct l ≡ true → length l ≤ 2 → IsPermutation l m → from_least l ≡ l → from_least m ≡ m → l ≡ m
 few-equal l m d n p a c = sym a ∙ from_least-same l m (turn l m d n p) d ∙ c
   where
     pick : (x y z : ℕ) → is_member z (x ∷ y ∷ []) ≡ true → (x ≡ z) ⊎ (y ≡ z)
