@@ -3,3 +3,4 @@ pub mod Rounds
 pub mod Plane
 pub mod Told
 pub mod Reached
+pub mod Listed

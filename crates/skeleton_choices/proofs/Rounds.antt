@@ -56,7 +56,7 @@ module _ (g : Multigraph) (nodes : List Node) (t : IsTutte g nodes) (k : ℕ) (l
     reversed-keys u v q h e =
         let keys : List ℕ = keys_of nodes k (items_round s u) in
         let turn : IsTurn (reverse keys) (map key (from_least (reverse (items_round s u)))) =
-            subst (λ (z : List ℕ). IsTurn z (map key (from_least (reverse (items_round s u))))) (map-reverse key (items_round s u)) (IsTurn-map key (reverse (items_round s u)) (from_least (reverse (items_round s u))) (from_least-turn (reverse (items_round s u)))) in
+        subst (λ (z : List ℕ). IsTurn z (map key (from_least (reverse (items_round s u))))) (map-reverse key (items_round s u)) (IsTurn-map key (reverse (items_round s u)) (from_least (reverse (items_round s u))) (from_least-turn (reverse (items_round s u)))) in
         ap (λ (z : List ℕ). from_least (map key z)) e
         ∙ sym (from_least-same (reverse keys) (map key (from_least (reverse (items_round s u)))) turn (distinct-reverse keys (keys-once u h)))
         ∙ sym (mirror-normal keys (keys-once u h))
@@ -83,8 +83,8 @@ module _ (g : Multigraph) (nodes : List Node) (t : IsTutte g nodes) (k : ℕ) (l
         let keys : List ℕ = keys_of nodes k (items_round s u) in
         let turn : IsTurn (keys_of nodes k (items_round s v)) (reverse keys) = same-from_least (keys_of nodes k (items_round s v)) (reverse keys) (e ∙ mirror-normal keys (keys-once u hu)) in
         let items : IsTurn (items_round s v) (reverse (items_round s u)) = subst (λ (z : List ℕ). IsTurn z (reverse (items_round s u))) (back v hv)
-            (subst (IsTurn (map (place_of (node_keys nodes k)) (keys_of nodes k (items_round s v)))) (map-reverse (place_of (node_keys nodes k)) keys ∙ ap reverse (back u hu))
-            (IsTurn-map (place_of (node_keys nodes k)) (keys_of nodes k (items_round s v)) (reverse keys) turn)) in
+        (subst (IsTurn (map (place_of (node_keys nodes k)) (keys_of nodes k (items_round s v)))) (map-reverse (place_of (node_keys nodes k)) keys ∙ ap reverse (back u hu))
+        (IsTurn-map (place_of (node_keys nodes k)) (keys_of nodes k (items_round s v)) (reverse keys) turn)) in
         sym (order-written (skeleton_graph nodes k) s (place_of vertices v) system (place-below vertices v hv))
         ∙ from_least-same (items_round s v) (reverse (items_round s u)) items (items-once v hv)
 

@@ -80,10 +80,10 @@ module _ (g : Multigraph) (nodes : List Node) (b : IsBlockTree g nodes) where
   t = b.tree
 
   -- the keys round a vertex in a plane rotation system: each once, from the least on
-  round-once : (r : List (List ℕ)) (k v : ℕ) → IsPlaneSystem g r → has_vertex nodes k v ≡ true → is_distinct (keys_round nodes r k v) ≡ true
+  pub round-once : (r : List (List ℕ)) (k v : ℕ) → IsPlaneSystem g r → has_vertex nodes k v ≡ true → is_distinct (keys_round nodes r k v) ≡ true
   round-once r k v p h = let w = plane-contiguous g nodes r b p k v h in ap is_distinct (met-runs (group nodes k) (order_at r v) w.0 w.1) ∙ from_least-distinct (group_keys w.0) w.1.once
 
-  round-written : (r : List (List ℕ)) (k v : ℕ) → IsPlaneSystem g r → has_vertex nodes k v ≡ true → from_least (keys_round nodes r k v) ≡ keys_round nodes r k v
+  pub round-written : (r : List (List ℕ)) (k v : ℕ) → IsPlaneSystem g r → has_vertex nodes k v ≡ true → from_least (keys_round nodes r k v) ≡ keys_round nodes r k v
   round-written r k v p h = let w = plane-contiguous g nodes r b p k v h in
       let e = met-runs (group nodes k) (order_at r v) w.0 w.1 in
       ap from_least e ∙ from_least-twice (group_keys w.0) w.1.once ∙ sym e
@@ -101,7 +101,7 @@ module _ (g : Multigraph) (nodes : List Node) (b : IsBlockTree g nodes) where
   keys-long k v = ap (λ z. length (filter (is_end_of v) (map piece_ends z))) (node-pieces nodes k) ∙ filter-long v (node_at nodes k).items ∙ sym (length-map (filter (ends_item v) (node_at nodes k).items) item_key)
 
   -- of a triconnected node: the same keys at one vertex, or the reverse, and so at all
-  rigid-rounds : (r q : List (List ℕ)) (k : ℕ) → IsPlaneSystem g r → IsPlaneSystem g q → IsNodeOfKind nodes k R
+  pub rigid-rounds : (r q : List (List ℕ)) (k : ℕ) → IsPlaneSystem g r → IsPlaneSystem g q → IsNodeOfKind nodes k R
       → ((v : ℕ) → has_vertex nodes k v ≡ true → keys_round nodes q k v ≡ keys_round nodes r k v) ⊎ ((v : ℕ) → has_vertex nodes k v ≡ true → keys_round nodes q k v ≡ from_least (reverse (keys_round nodes r k v)))
   rigid-rounds r q k p s is =
       let l : k < length nodes = is.0 in
@@ -115,7 +115,7 @@ module _ (g : Multigraph) (nodes : List Node) (b : IsBlockTree g nodes) where
       ]
 
   -- there are three keys at each vertex of such a node
-  rigid-three : (r : List (List ℕ)) (k v : ℕ) → IsPlaneSystem g r → IsNodeOfKind nodes k R → has_vertex nodes k v ≡ true → 3 ≤ length (keys_round nodes r k v)
+  pub rigid-three : (r : List (List ℕ)) (k v : ℕ) → IsPlaneSystem g r → IsNodeOfKind nodes k R → has_vertex nodes k v ≡ true → 3 ≤ length (keys_round nodes r k v)
   rigid-three r k v p is h =
       let l : k < length nodes = is.0 in
       let x : Parts g nodes b r = parts g nodes b r p in

@@ -11,10 +11,11 @@
 //   Plane     parts, same-round, bond-is_plane, plane-bond, plane-kept: by the skeletons
 //   Told      tell, two-choices, possible, selection: choices and plane rotation systems
 //   Reached   lead, kept, list-kept: what moves lead to
-//   Vectors   choices as vectors, in order
 //   Listed    options, kept-list: the list with locked nodes
 #![tactic(auto)]
 
 mod laws;
 
-pub use laws::{choices_tell_plane_systems, moves_keep_plane, moves_reach_all};
+pub use laws::{
+    choices_tell_plane_systems, lists_of_plane_systems, moves_keep_plane, moves_reach_all,
+};

@@ -1,1 +1,0 @@
--- What is proved of choices, moves and lists of plane rotation systems.
