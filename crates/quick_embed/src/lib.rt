@@ -14,6 +14,8 @@
 
 mod embedder;
 mod finders;
+#[cfg(test)]
+mod tests;
 
 pub use embedder::{QuickEmbedder, embed_by};
 pub use finders::{Finder, LeftRight};
