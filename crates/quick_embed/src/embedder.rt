@@ -54,8 +54,10 @@ fn obstruction(
     Ok(Some(written(alloc, g, proposed)?))
 }
 
-// The first proposal of the finder that is accepted.
-fn accepted<F: Finder>(
+/// The first proposal of the finder that is accepted, if one is: a plane rotation system of the graph, or a subdivision of K5 or
+/// of K3,3 in it, in its written form. The graph may be any. `None`
+/// says nothing.
+pub fn accepted_proposal<F: Finder>(
     alloc: Global,
     finder: &mut F,
     g: &Graph,
@@ -86,7 +88,7 @@ pub fn embed_by<F: Finder, E: Embedder>(
     requires { IsTriconnected g.now }
     ensures { IfOk result (IsEmbedding g.now) }
 {
-    if let Some(answer) = accepted(alloc, finder, g)? {
+    if let Some(answer) = accepted_proposal(alloc, finder, g)? {
         return Ok(answer);
     }
     fallback.embed(alloc, g)

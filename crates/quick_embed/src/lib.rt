@@ -17,5 +17,5 @@ mod finders;
 #[cfg(test)]
 mod tests;
 
-pub use embedder::{QuickEmbedder, embed_by};
+pub use embedder::{QuickEmbedder, accepted_proposal, embed_by};
 pub use finders::{Finder, LeftRight};

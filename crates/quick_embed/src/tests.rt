@@ -211,7 +211,7 @@ fn put(lists: &mut Lists, vertex: u32, edges: &[u32]) -> Result<(), AllocError> 
 }
 
 // The list, spoilt.
-fn spoilt(alloc: Global, mistake: Mistake, edges: &[u32]) -> Result<Vec<u32>, AllocError> {
+fn spoil(alloc: Global, mistake: Mistake, edges: &[u32]) -> Result<Vec<u32>, AllocError> {
     match mistake {
         Mistake::Silent => Ok(Vec::new(alloc)),
         Mistake::Turned => edges.iter().rev().copied().collect(alloc),
@@ -221,11 +221,11 @@ fn spoilt(alloc: Global, mistake: Mistake, edges: &[u32]) -> Result<Vec<u32>, Al
 }
 
 // The lists, with the first one spoilt.
-fn spoilt_lists(alloc: Global, mistake: Mistake, lists: &Lists) -> Result<Lists, AllocError> {
+fn spoil_lists(alloc: Global, mistake: Mistake, lists: &Lists) -> Result<Lists, AllocError> {
     let mut wrong = Lists::new(alloc);
     for i in 0..lists.len() {
         if i == 0 {
-            let edges = spoilt(alloc, mistake, lists.edges(i))?;
+            let edges = spoil(alloc, mistake, lists.edges(i))?;
             put(&mut wrong, lists.vertex(i), &edges)?;
         } else {
             put(&mut wrong, lists.vertex(i), lists.edges(i))?;
@@ -235,7 +235,7 @@ fn spoilt_lists(alloc: Global, mistake: Mistake, lists: &Lists) -> Result<Lists,
 }
 
 // The paths, with their order or their edges spoilt.
-fn spoilt_paths(
+fn spoil_paths(
     alloc: Global,
     mistake: Mistake,
     paths: &[Numbers],
@@ -248,7 +248,7 @@ fn spoilt_paths(
         };
         match mistake {
             Mistake::Turned => wrong.push(Numbers::of(Vec::from_slice(alloc, edges)?))?,
-            _ => wrong.push(Numbers::of(spoilt(alloc, mistake, edges)?))?,
+            _ => wrong.push(Numbers::of(spoil(alloc, mistake, edges)?))?,
         }
     }
     Ok(NumberLists::of(wrong))
@@ -261,7 +261,7 @@ impl Finder for Mistaken {
         };
         match self.mistake {
             Mistake::Silent => Ok(None),
-            mistake => Ok(Some(spoilt_lists(alloc, mistake, &lists)?)),
+            mistake => Ok(Some(spoil_lists(alloc, mistake, &lists)?)),
         }
     }
 
@@ -279,7 +279,7 @@ impl Finder for Mistaken {
             mistake => Ok(Some(Subdivision {
                 kind,
                 branch,
-                paths: spoilt_paths(alloc, mistake, paths.as_slice())?,
+                paths: spoil_paths(alloc, mistake, paths.as_slice())?,
             })),
         }
     }

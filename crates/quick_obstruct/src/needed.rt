@@ -21,7 +21,7 @@ struct Round {
 }
 
 // The fronts seen from a root that is near the end of the least one, and the count of that one.
-fn near<'a>(
+fn fronts_near<'a>(
     alloc: Global,
     list: &'a EdgeList,
     edges: &[u32],
@@ -53,7 +53,7 @@ fn search_once(
     edges: &[u32],
     root: u32,
 ) -> Result<Round, AllocError> {
-    let (mut fronts, count) = near(alloc, list, edges, root)?;
+    let (mut fronts, count) = fronts_near(alloc, list, edges, root)?;
     let mut last = fronts.last_edge(count);
     let mut needed = vec![in alloc; last; 1]?;
     let mut rest = count.saturating_sub(1);
@@ -79,10 +79,10 @@ fn search_once(
     })
 }
 
-// Few edges of a connected list that are not planar, where the list is not.
-pub(crate) fn few_edges(alloc: Global, list: &EdgeList) -> Result<Vec<u32>, AllocError> {
+// Few edges of a connected list that are not planar, where the list is not; seen from the root at first.
+pub(crate) fn few_edges(alloc: Global, list: &EdgeList, root: u32) -> Result<Vec<u32>, AllocError> {
     let mut edges = numbers_below(alloc, list.edge_count())?;
-    let mut root = 0;
+    let mut root = root;
     for _ in 0..ROUNDS {
         let found = search_once(alloc, list, &edges, root)?;
         edges = found.edges;

@@ -21,6 +21,20 @@ impl Proposal {
         (at(&self.branch, number(from)), at(&self.branch, number(to)))
     }
 
+    // Branch vertex k.
+    pub(crate) fn branch_vertex(&self, k: usize) -> u32 {
+        at(&self.branch, number(k))
+    }
+
+    // The number of its edges.
+    pub(crate) fn edge_count(&self) -> usize {
+        let mut edges: usize = 0;
+        for path in &self.paths {
+            edges = edges.saturating_add(path.len());
+        }
+        edges
+    }
+
     // The same as a subdivision.
     pub(crate) fn subdivision(self, alloc: Global) -> Result<Subdivision, AllocError> {
         let Proposal {
@@ -41,7 +55,7 @@ impl Proposal {
 }
 
 // The segment that leads from one vertex to another.
-fn between(segments: &[Segment], from: u32, to: u32) -> Option<&Segment> {
+fn segment_between(segments: &[Segment], from: u32, to: u32) -> Option<&Segment> {
     for segment in segments {
         if segment.from == from && segment.to == to {
             return Some(segment);
@@ -69,7 +83,7 @@ fn put_side(
     order: &mut Vec<u32>,
 ) -> Result<(), AllocError> {
     for vertex in branch {
-        if between(segments, at(branch, 0), *vertex).is_some() == joined {
+        if segment_between(segments, at(branch, 0), *vertex).is_some() == joined {
             order.push(*vertex)?;
         }
     }
@@ -94,7 +108,7 @@ fn paths_between(
     let mut paths = Vec::new(alloc);
     for (from, to) in kind.edges() {
         let (from, to) = (at(&branch, number(*from)), at(&branch, number(*to)));
-        let Some(segment) = between(segments, from, to) else {
+        let Some(segment) = segment_between(segments, from, to) else {
             return Ok(None);
         };
         paths.push(Vec::from_slice(alloc, &segment.edges)?)?;

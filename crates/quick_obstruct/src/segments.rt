@@ -100,7 +100,7 @@ fn longest<'a>(segments: &'a [Segment], marks: &[bool]) -> Option<&'a Segment> {
 }
 
 // The edges without those of the segment.
-fn without(
+fn edges_without(
     alloc: Global,
     list: &EdgeList,
     edges: &[u32],
@@ -130,7 +130,7 @@ pub(crate) fn needed_segments(
         let Some(segment) = longest(&found, &needed) else {
             break;
         };
-        let rest = without(alloc, list, &edges, &segment.edges)?;
+        let rest = edges_without(alloc, list, &edges, &segment.edges)?;
         if is_planar(alloc, &list.part(alloc, &rest)?)? {
             mark_all(&mut needed, &segment.edges);
         } else {

@@ -1,9 +1,9 @@
 // The way of a depth-first search that takes the edges at each vertex in a given order, as brackets: each edge opens where the
 // search takes it and closes where the search is back from it. It is laid out without a stack, by the sizes of the edges.
 
-use crate::access::{NONE, at, put};
+use crate::access::{NONE, at, number, put};
 use crate::palm::Palm;
-use crate::sorting::{Groups, grouped};
+use crate::sorting::{Groups, groups_by_key};
 use std::alloc::{AllocError, Global};
 
 // The brackets of a palm tree.
@@ -42,10 +42,10 @@ impl Brackets {
         keys: &[u32],
         bound: u32,
     ) -> Result<Brackets, AllocError> {
-        let order = grouped(alloc, &palm.edges, keys, bound)?;
-        let vertices = palm.height.len().min(4_294_967_295) as u32;
+        let order = groups_by_key(alloc, &palm.edges, keys, bound)?;
+        let vertices = number(palm.height.len());
         let mut brackets = Brackets {
-            out: grouped(alloc, &order.items, &palm.tail, vertices)?,
+            out: groups_by_key(alloc, &order.items, &palm.tail, vertices)?,
             begin: vec![in alloc; NONE; palm.tail.len()]?,
             way: vec![in alloc; NONE; palm.tail.len().saturating_mul(2)]?,
         };

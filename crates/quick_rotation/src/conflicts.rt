@@ -55,7 +55,7 @@ struct Pair {
 
 impl Pair {
     // The same with left and right exchanged.
-    fn mirrored(self) -> Pair {
+    fn mirror(self) -> Pair {
         Pair {
             left: self.right,
             right: self.left,
@@ -108,7 +108,7 @@ impl Conflicts {
 
     // The intervals that the edge put on the stack become one, which is returned; what returns as low as the parent edge is on
     // the side of its lowest edge. `None` where they can't all be on one side.
-    fn own(&mut self, palm: &Palm, edge: u32, parent: u32) -> Option<Interval> {
+    fn own_interval(&mut self, palm: &Palm, edge: u32, parent: u32) -> Option<Interval> {
         let mut own = EMPTY;
         let bottom = at(&self.bottom, edge) as usize;
         for _ in bottom..self.pairs.len() {
@@ -118,7 +118,7 @@ impl Conflicts {
             let pair = if top.left.is_empty() {
                 top
             } else {
-                top.mirrored()
+                top.mirror()
             };
             if !pair.left.is_empty() {
                 return None;
@@ -133,7 +133,7 @@ impl Conflicts {
     }
 
     // Takes the top of the stack where it conflicts with an edge that returns to this height.
-    fn conflicting(&mut self, palm: &Palm, height: u32) -> Option<Pair> {
+    fn take_conflicting(&mut self, palm: &Palm, height: u32) -> Option<Pair> {
         let top = self.pairs.last().copied()?;
         if top.left.conflicts(palm, height) || top.right.conflicts(palm, height) {
             return self.pairs.pop();
@@ -150,11 +150,11 @@ impl Conflicts {
         };
         let height = at(&palm.low, edge);
         for _ in 0..self.pairs.len() {
-            let Some(top) = self.conflicting(palm, height) else {
+            let Some(top) = self.take_conflicting(palm, height) else {
                 break;
             };
             let pair = if top.right.conflicts(palm, height) {
-                top.mirrored()
+                top.mirror()
             } else {
                 top
             };
@@ -169,7 +169,7 @@ impl Conflicts {
 
     // The constraints of an edge that is not the first at its tail. Returns whether they can be met.
     fn add(&mut self, palm: &Palm, edge: u32, parent: u32) -> Result<bool, AllocError> {
-        let Some(own) = self.own(palm, edge, parent) else {
+        let Some(own) = self.own_interval(palm, edge, parent) else {
             return Ok(false);
         };
         let Some(pair) = self.merge(palm, edge, own) else {
@@ -196,7 +196,7 @@ impl Conflicts {
     }
 
     // The highest edge of the interval that does not return to the vertex.
-    fn trimmed_high(&self, palm: &Palm, high: u32, vertex: u32) -> u32 {
+    fn high_off(&self, palm: &Palm, high: u32, vertex: u32) -> u32 {
         let mut at_most = high;
         for _ in 0..self.refs.len() {
             if at_most == NONE || at(&palm.head, at_most) != vertex {
@@ -209,11 +209,17 @@ impl Conflicts {
 
     // The interval without the edges that return to the vertex. Where none is left, its lowest edge is told by the lowest one
     // of the other interval.
-    fn trimmed(&mut self, palm: &Palm, interval: Interval, other: u32, vertex: u32) -> Interval {
+    fn trim_interval(
+        &mut self,
+        palm: &Palm,
+        interval: Interval,
+        other: u32,
+        vertex: u32,
+    ) -> Interval {
         if interval.is_empty() {
             return EMPTY;
         }
-        let high = self.trimmed_high(palm, interval.high, vertex);
+        let high = self.high_off(palm, interval.high, vertex);
         if high == NONE {
             put(&mut self.refs, interval.low, other);
             mark(&mut self.turned, interval.low);
@@ -234,8 +240,8 @@ impl Conflicts {
         let Some(pair) = self.pairs.pop() else {
             return Ok(());
         };
-        let left = self.trimmed(palm, pair.left, pair.right.low, vertex);
-        let right = self.trimmed(palm, pair.right, left.low, vertex);
+        let left = self.trim_interval(palm, pair.left, pair.right.low, vertex);
+        let right = self.trim_interval(palm, pair.right, left.low, vertex);
         self.pairs.push(Pair { left, right })?;
         if at(&palm.low, edge) < height {
             let left_higher = right.is_empty()

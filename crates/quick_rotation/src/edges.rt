@@ -3,7 +3,7 @@
 // Edge e has two darts: 2e leaves its first end, 2e + 1 its second; the other dart of the edge of dart d is d ^ 1.
 
 use crate::access::{NONE, at, number, put};
-use crate::sorting::{Groups, grouped};
+use crate::sorting::{Groups, groups_by_key};
 use multigraph::Graph;
 use std::alloc::{AllocError, Global};
 
@@ -51,7 +51,7 @@ impl EdgeList {
             darts.push(e.saturating_mul(2))?;
             darts.push(e.saturating_mul(2).saturating_add(1))?;
         }
-        grouped(alloc, &darts, &self.tails, self.vertices)
+        groups_by_key(alloc, &darts, &self.tails, self.vertices)
     }
 
     /// These edges as a list of their own, their vertices numbered as they are met.

@@ -12,7 +12,7 @@ use rotations::Lists;
 use std::alloc::{AllocError, Global};
 
 // The palm tree of the list, and the way through it by nesting depth.
-fn searched(alloc: Global, list: &EdgeList) -> Result<(Palm, Brackets), AllocError> {
+fn search(alloc: Global, list: &EdgeList) -> Result<(Palm, Brackets), AllocError> {
     let edges = numbers_below(alloc, list.edge_count())?;
     let around = list.darts_of(alloc, &edges)?;
     let palm = Palm::of(alloc, list, &around)?;
@@ -30,13 +30,13 @@ pub fn is_planar(alloc: Global, list: &EdgeList) -> Result<bool, AllocError> {
     if edges > list.vertices.saturating_mul(3).saturating_sub(6) {
         return Ok(false);
     }
-    let (palm, brackets) = searched(alloc, list)?;
+    let (palm, brackets) = search(alloc, list)?;
     Ok(Conflicts::of(alloc, &palm, &brackets)?.is_some())
 }
 
 // The darts round each vertex in a plane cyclic order, if the method finds one.
 fn plane_rounds(alloc: Global, list: &EdgeList) -> Result<Option<Groups>, AllocError> {
-    let (palm, brackets) = searched(alloc, list)?;
+    let (palm, brackets) = search(alloc, list)?;
     let Some(conflicts) = Conflicts::of(alloc, &palm, &brackets)? else {
         return Ok(None);
     };

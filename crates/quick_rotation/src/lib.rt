@@ -24,4 +24,4 @@ mod sorting;
 
 pub use edges::{EdgeList, numbers_below};
 pub use left_right::{is_planar, propose_rotation};
-pub use sorting::{Groups, grouped};
+pub use sorting::{Groups, groups_by_key};

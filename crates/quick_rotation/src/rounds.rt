@@ -4,7 +4,7 @@ use crate::access::{NONE, at, is_marked, put};
 use crate::brackets::Brackets;
 use crate::edges::{EdgeList, numbers_below};
 use crate::palm::Palm;
-use crate::sorting::{Groups, grouped};
+use crate::sorting::{Groups, groups_by_key};
 use std::alloc::{AllocError, Global};
 
 // The keys of the darts so far, and the tree edge at each vertex that the way is under.
@@ -85,11 +85,11 @@ pub(crate) fn rounds(
     let keys = keys(alloc, list, palm, brackets, left)?;
     let darts = list.edge_count().saturating_mul(2);
     let all = numbers_below(alloc, darts)?;
-    let sorted = grouped(
+    let sorted = groups_by_key(
         alloc,
         &all,
         &keys,
         darts.saturating_mul(2).saturating_add(1),
     )?;
-    grouped(alloc, &sorted.items, &list.tails, list.vertices)
+    groups_by_key(alloc, &sorted.items, &list.tails, list.vertices)
 }
