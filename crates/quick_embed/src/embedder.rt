@@ -54,9 +54,8 @@ fn obstruction(
     Ok(Some(written(alloc, g, proposed)?))
 }
 
-/// The first proposal of the finder that is accepted, if one is: a plane rotation system of the graph, or a subdivision of K5 or
-/// of K3,3 in it, in its written form. The graph may be any. `None`
-/// says nothing.
+/// The first proposal of the finder that is accepted: a plane rotation system of the graph, which may be any, or a subdivision of
+/// K5 or of K3,3 in it, in its written form. `None`, where none is accepted, says nothing of the graph.
 pub fn accepted_proposal<F: Finder>(
     alloc: Global,
     finder: &mut F,

@@ -1,4 +1,4 @@
-// Trees by breadth-first search.
+// Trees by breadth-first and depth-first search.
 
 use quick_rotation::access::{NONE, at, is_marked, mark, number, put};
 use quick_rotation::{EdgeList, Groups};
@@ -13,7 +13,7 @@ pub(crate) struct Tree {
     pub(crate) others: Vec<u32>,
 }
 
-// What the search knows so far: the vertices in the order in which they are reached, and marks on vertices and edges.
+// What a search knows so far: the vertices in the order in which they are reached, and marks on vertices and edges.
 #[derive(Debug, Drop)]
 struct Search {
     tree: Tree,
@@ -49,14 +49,13 @@ impl Search {
     }
 }
 
-// The tree of what is reached from the root by these darts, past no vertex that is marked.
-pub(crate) fn breadth_first(
+// A search from the root that has met nothing else yet, past no vertex that is marked.
+fn search_from(
     alloc: Global,
     list: &EdgeList,
-    around: &Groups,
     root: u32,
     marks: Vec<bool>,
-) -> Result<Tree, AllocError> {
+) -> Result<Search, AllocError> {
     let tree = Tree {
         up: vec![in alloc; NONE; list.vertices as usize]?,
         others: Vec::new(alloc),
@@ -68,12 +67,56 @@ pub(crate) fn breadth_first(
         met: vec![in alloc; false; list.edge_count() as usize]?,
     };
     mark(&mut search.reached, root);
+    Ok(search)
+}
+
+// The tree of what is reached from the root by these darts, past no vertex that is marked, breadth first.
+pub(crate) fn breadth_first(
+    alloc: Global,
+    list: &EdgeList,
+    around: &Groups,
+    root: u32,
+    marks: Vec<bool>,
+) -> Result<Tree, AllocError> {
+    let mut search = search_from(alloc, list, root, marks)?;
     for turn in 0..list.vertices {
         if turn >= number(search.order.len()) {
             break;
         }
         let vertex = at(&search.order, turn);
         search.scan(list, around.group(vertex))?;
+    }
+    Ok(search.tree)
+}
+
+// Puts the darts on the stack, so that the first is on top.
+fn put_on(stack: &mut Vec<u32>, darts: &[u32]) -> Result<(), AllocError> {
+    for dart in darts.iter().rev() {
+        stack.push(*dart)?;
+    }
+    Ok(())
+}
+
+// The tree of what is reached from the root by these darts, past no vertex that is marked, depth first.
+pub(crate) fn depth_first(
+    alloc: Global,
+    list: &EdgeList,
+    around: &Groups,
+    root: u32,
+    marks: Vec<bool>,
+) -> Result<Tree, AllocError> {
+    let mut search = search_from(alloc, list, root, marks)?;
+    let mut stack = Vec::new(alloc);
+    put_on(&mut stack, around.group(root))?;
+    for _ in 0..around.items.len() {
+        let Some(dart) = stack.pop() else {
+            break;
+        };
+        let reached = search.order.len();
+        search.look(list, dart)?;
+        if search.order.len() > reached {
+            put_on(&mut stack, around.group(list.head(dart)))?;
+        }
     }
     Ok(search.tree)
 }

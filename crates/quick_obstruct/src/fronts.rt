@@ -1,10 +1,17 @@
-// Fronts of a list of edges: the first ones off a breadth-first tree and some others, with the paths of the tree up from their
+// Fronts of a list of edges: the first ones off a tree and some others, with the paths of the tree up from their
 // ends; and the search for the least front that is not planar.
 
-use crate::forest::{Tree, breadth_first};
+use crate::forest::{Tree, breadth_first, depth_first};
 use quick_rotation::access::{NONE, at, is_marked, mark, number};
 use quick_rotation::{EdgeList, is_planar};
 use std::alloc::{AllocError, Global};
+
+// The shape of a tree: breadth first or depth first.
+#[derive(Debug, Clone, Copy)]
+pub(crate) enum Shape {
+    Broad,
+    Deep,
+}
 
 // A front as it is collected.
 #[derive(Debug, Drop)]
@@ -54,16 +61,20 @@ pub(crate) struct Fronts<'a> {
 }
 
 impl<'a> Fronts<'a> {
-    // The fronts of these edges, seen from the root.
+    // The fronts of these edges, seen from the root along a tree of this shape.
     pub(crate) fn from(
         alloc: Global,
         list: &'a EdgeList,
         edges: &[u32],
         root: u32,
+        shape: Shape,
     ) -> Result<Fronts<'a>, AllocError> {
         let around = list.darts_of(alloc, edges)?;
         let marks = vec![in alloc; false; list.vertices as usize]?;
-        let tree = breadth_first(alloc, list, &around, root, marks)?;
+        let tree = match shape {
+            Shape::Broad => breadth_first(alloc, list, &around, root, marks)?,
+            Shape::Deep => depth_first(alloc, list, &around, root, marks)?,
+        };
         Ok(Fronts {
             alloc,
             list,
@@ -102,8 +113,9 @@ impl<'a> Fronts<'a> {
         is_planar(self.alloc, &part)
     }
 
-    // The least count above `low` and up to `high` for which the front is not planar, where the one for `high` is not.
-    pub(crate) fn least(&mut self, low: u32, high: u32, needed: &[u32]) -> Result<u32, AllocError> {
+    // The least count above `low` and up to `high` for which the front is not planar, where the one for `high` is not. By
+    // bisection.
+    fn least(&mut self, low: u32, high: u32, needed: &[u32]) -> Result<u32, AllocError> {
         let (mut low, mut high) = (low, high);
         for _ in 0..32 {
             let middle = low.saturating_add(high.saturating_sub(low) / 2);
@@ -117,6 +129,16 @@ impl<'a> Fronts<'a> {
             }
         }
         Ok(high)
+    }
+
+    // The least count up to `high` for which the front with these edges is not planar, where the one for `high` is not. Often it
+    // is `high` itself, which is tried first.
+    pub(crate) fn last(&mut self, high: u32, needed: &[u32]) -> Result<u32, AllocError> {
+        let below = high.saturating_sub(1);
+        if self.is_planar(below, needed)? {
+            return Ok(high);
+        }
+        self.least(0, below, needed)
     }
 
     // The least count for which the front is not planar, all edges if there is none.

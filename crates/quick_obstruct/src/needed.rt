@@ -1,11 +1,11 @@
 // Few edges that are not planar: of the edges off a tree those are kept without which the rest would be planar.
 
-use crate::fronts::Fronts;
+use crate::fronts::{Fronts, Shape};
 use quick_rotation::{EdgeList, numbers_below};
 use std::alloc::{AllocError, Global};
 
-// How often the search begins again from where an obstruction was found, how often with the edges that are left, and what one
-// search may cost, by the number of edges and vertices.
+// How often a search moves to where an obstruction was found, how often it is begun again with the edges that are left, and how
+// often it may look at each edge before that.
 const MOVES: u32 = 3;
 
 const ROUNDS: u32 = 9;
@@ -26,12 +26,13 @@ fn fronts_near<'a>(
     list: &'a EdgeList,
     edges: &[u32],
     root: u32,
+    shape: Shape,
 ) -> Result<(Fronts<'a>, u32), AllocError> {
-    let mut fronts = Fronts::from(alloc, list, edges, root)?;
+    let mut fronts = Fronts::from(alloc, list, edges, root, shape)?;
     let mut count = fronts.first()?;
     for _ in 0..MOVES {
         let root = list.tail(fronts.last_edge(count).saturating_mul(2));
-        let mut others = Fronts::from(alloc, list, edges, root)?;
+        let mut others = Fronts::from(alloc, list, edges, root, shape)?;
         let fewer = others.first()?;
         if fewer >= count {
             break;
@@ -46,18 +47,19 @@ fn fronts_near<'a>(
     Ok((fronts, count))
 }
 
-// One search among these edges, from the root.
+// One search among these edges, from the root along a tree of this shape.
 fn search_once(
     alloc: Global,
     list: &EdgeList,
     edges: &[u32],
     root: u32,
+    shape: Shape,
 ) -> Result<Round, AllocError> {
-    let (mut fronts, count) = fronts_near(alloc, list, edges, root)?;
+    let (mut fronts, count) = fronts_near(alloc, list, edges, root, shape)?;
     let mut last = fronts.last_edge(count);
     let mut needed = vec![in alloc; last; 1]?;
     let mut rest = count.saturating_sub(1);
-    let budget = STEPS.saturating_mul(list.tails.len() as u64);
+    let budget = STEPS.saturating_mul(edges.len() as u64);
     fronts.spent = 0;
     for _ in 0..fronts.count() {
         if rest == 0 || !fronts.is_planar(0, &needed)? {
@@ -67,7 +69,7 @@ fn search_once(
         if fronts.spent > budget {
             break;
         }
-        let count = fronts.least(0, rest, &needed)?;
+        let count = fronts.last(rest, &needed)?;
         last = fronts.last_edge(count);
         needed.push(last)?;
         rest = count.saturating_sub(1);
@@ -79,12 +81,18 @@ fn search_once(
     })
 }
 
-// Few edges of a connected list that are not planar, where the list is not; seen from the root at first.
+// Few edges of a connected list that are not planar, where the list is not; seen from the root at first. Trees are broad and
+// deep by turns: where a long cycle is needed, most of its edges are off each broad tree.
 pub(crate) fn few_edges(alloc: Global, list: &EdgeList, root: u32) -> Result<Vec<u32>, AllocError> {
     let mut edges = numbers_below(alloc, list.edge_count())?;
     let mut root = root;
-    for _ in 0..ROUNDS {
-        let found = search_once(alloc, list, &edges, root)?;
+    for round in 0..ROUNDS {
+        let shape = if round % 2 == 0 {
+            Shape::Broad
+        } else {
+            Shape::Deep
+        };
+        let found = search_once(alloc, list, &edges, root, shape)?;
         edges = found.edges;
         root = found.root;
         if found.done {

@@ -5,8 +5,8 @@ use quick_rotation::access::{NONE, is_marked, mark};
 use quick_rotation::{EdgeList, Groups, is_planar};
 use std::alloc::{AllocError, Global};
 
-// More segments than this are not tried.
-const MOST: usize = 400;
+// How often the tests may look at each edge.
+const STEPS: u64 = 40;
 
 // A segment from one end to the other, as a list of edges.
 #[derive(Debug, Drop)]
@@ -117,7 +117,12 @@ fn edges_without(
     Ok(rest)
 }
 
-// The segments that are left when each that is not needed is dropped, the longest first.
+// What it costs to try the rest of a list of so many vertices.
+fn cost(vertices: u32, rest: &[u32]) -> u64 {
+    u64::from(vertices / 8).saturating_add(rest.len() as u64)
+}
+
+// The segments that are left when each that is not needed is dropped, the longest first, as long as the budget lasts.
 pub(crate) fn needed_segments(
     alloc: Global,
     list: &EdgeList,
@@ -126,11 +131,16 @@ pub(crate) fn needed_segments(
     let mut edges = edges;
     let mut needed = vec![in alloc; false; list.edge_count() as usize]?;
     let mut found = segments(alloc, list, &edges)?;
-    for _ in 0..MOST {
+    let mut budget = STEPS.saturating_mul(list.edge_count() as u64);
+    for _ in 0..list.edge_count() {
         let Some(segment) = longest(&found, &needed) else {
             break;
         };
+        if budget == 0 {
+            break;
+        }
         let rest = edges_without(alloc, list, &edges, &segment.edges)?;
+        budget = budget.saturating_sub(cost(list.vertices, &rest));
         if is_planar(alloc, &list.part(alloc, &rest)?)? {
             mark_all(&mut needed, &segment.edges);
         } else {
