@@ -1,0 +1,21 @@
+// Embedding triconnected graphs quickly: unproved finders, proved checkers.
+//
+// What is cheap to check needs no proof of how it was found. A finder proposes a rotation system by the left-right method (de
+// Fraysseix and Rosenstiehl 1982; Brandes 2009): on the way of a depth-first search the back edges are parted into left and
+// right ones. `faces::euler` says whether the proposal is plane. Where it is not, or where the method finds no such parting, a
+// finder proposes a subdivision of K5 or K3,3: the edges off a spanning tree, and then the paths, are dropped as long as the
+// method says that the rest is not planar. `kuratowski::is_subdivision` says whether the proposal is one. Where neither is
+// accepted, another embedder answers.
+//
+// `QuickEmbedder` meets `Embedder` over every embedder that does, and `embed_by` for every finder as well. Of the finders it is
+// proved that they are safe and end, and nothing else: a mistake in one costs a call of the other embedder. Not promised: that
+// the other embedder is not called; which of the two rotation systems, and which subdivision, is found; time.
+#![tactic(auto)]
+
+mod embedder;
+mod finders;
+#[cfg(test)]
+mod tests;
+
+pub use embedder::{QuickEmbedder, accepted_proposal, embed_by};
+pub use finders::{Finder, LeftRight};

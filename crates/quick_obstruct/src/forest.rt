@@ -1,0 +1,142 @@
+// Trees by breadth-first and depth-first search.
+
+use quick_rotation::access::{NONE, at, is_marked, mark, number, put};
+use quick_rotation::{EdgeList, Groups};
+use std::alloc::{AllocError, Global};
+
+// A tree of all that is reached from a root.
+#[derive(Debug, Drop)]
+pub(crate) struct Tree {
+    // Of each vertex the dart towards the root; `NONE` at the root and where nothing is reached.
+    pub(crate) up: Vec<u32>,
+    // The other edges that were met, in the order in which they were.
+    pub(crate) others: Vec<u32>,
+}
+
+// What a search knows so far: the vertices in the order in which they are reached, and marks on vertices and edges.
+#[derive(Debug, Drop)]
+struct Search {
+    tree: Tree,
+    order: Vec<u32>,
+    reached: Vec<bool>,
+    met: Vec<bool>,
+}
+
+impl Search {
+    // The dart is looked at.
+    fn look(&mut self, list: &EdgeList, dart: u32) -> Result<(), AllocError> {
+        let end = list.head(dart);
+        if is_marked(&self.met, dart / 2) {
+            return Ok(());
+        }
+        mark(&mut self.met, dart / 2);
+        if is_marked(&self.reached, end) {
+            self.tree.others.push(dart / 2)?;
+            return Ok(());
+        }
+        mark(&mut self.reached, end);
+        put(&mut self.tree.up, end, dart ^ 1);
+        self.order.push(end)?;
+        Ok(())
+    }
+
+    // All darts at the vertex are looked at.
+    fn scan(&mut self, list: &EdgeList, darts: &[u32]) -> Result<(), AllocError> {
+        for dart in darts {
+            self.look(list, *dart)?;
+        }
+        Ok(())
+    }
+}
+
+// A search from the root that has met nothing else yet, past no vertex that is marked.
+fn search_from(
+    alloc: Global,
+    list: &EdgeList,
+    root: u32,
+    marks: Vec<bool>,
+) -> Result<Search, AllocError> {
+    let tree = Tree {
+        up: vec![in alloc; NONE; list.vertices as usize]?,
+        others: Vec::new(alloc),
+    };
+    let mut search = Search {
+        tree,
+        order: vec![in alloc; root; 1]?,
+        reached: marks,
+        met: vec![in alloc; false; list.edge_count() as usize]?,
+    };
+    mark(&mut search.reached, root);
+    Ok(search)
+}
+
+// The tree of what is reached from the root by these darts, past no vertex that is marked, breadth first.
+pub(crate) fn breadth_first(
+    alloc: Global,
+    list: &EdgeList,
+    around: &Groups,
+    root: u32,
+    marks: Vec<bool>,
+) -> Result<Tree, AllocError> {
+    let mut search = search_from(alloc, list, root, marks)?;
+    for turn in 0..list.vertices {
+        if turn >= number(search.order.len()) {
+            break;
+        }
+        let vertex = at(&search.order, turn);
+        search.scan(list, around.group(vertex))?;
+    }
+    Ok(search.tree)
+}
+
+// Puts the darts on the stack, so that the first is on top.
+fn put_on(stack: &mut Vec<u32>, darts: &[u32]) -> Result<(), AllocError> {
+    for dart in darts.iter().rev() {
+        stack.push(*dart)?;
+    }
+    Ok(())
+}
+
+// The tree of what is reached from the root by these darts, past no vertex that is marked, depth first.
+pub(crate) fn depth_first(
+    alloc: Global,
+    list: &EdgeList,
+    around: &Groups,
+    root: u32,
+    marks: Vec<bool>,
+) -> Result<Tree, AllocError> {
+    let mut search = search_from(alloc, list, root, marks)?;
+    let mut stack = Vec::new(alloc);
+    put_on(&mut stack, around.group(root))?;
+    for _ in 0..around.items.len() {
+        let Some(dart) = stack.pop() else {
+            break;
+        };
+        let reached = search.order.len();
+        search.look(list, dart)?;
+        if search.order.len() > reached {
+            put_on(&mut stack, around.group(list.head(dart)))?;
+        }
+    }
+    Ok(search.tree)
+}
+
+// The edges from the vertex up to the root.
+pub(crate) fn path_up(
+    alloc: Global,
+    list: &EdgeList,
+    tree: &Tree,
+    vertex: u32,
+) -> Result<Vec<u32>, AllocError> {
+    let mut path = Vec::new(alloc);
+    let mut here = vertex;
+    for _ in 0..list.vertices {
+        let dart = at(&tree.up, here);
+        if dart == NONE {
+            break;
+        }
+        path.push(dart / 2)?;
+        here = list.head(dart);
+    }
+    Ok(path)
+}

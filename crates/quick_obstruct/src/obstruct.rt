@@ -1,0 +1,51 @@
+// The finder as a whole.
+
+use crate::needed::few_edges;
+use crate::reading::{Proposal, read};
+use crate::segments::needed_segments;
+use crate::shortening::shorten;
+use kuratowski::Subdivision;
+use multigraph::Graph;
+use quick_rotation::EdgeList;
+use std::alloc::{AllocError, Global};
+
+// How often the search begins again from a branch vertex of what it found.
+const AGAIN: usize = 2;
+
+// What may be a subdivision in a connected list of edges that is not planar, found from the root on.
+fn find_from(alloc: Global, list: &EdgeList, root: u32) -> Result<Option<Proposal>, AllocError> {
+    let edges = few_edges(alloc, list, root)?;
+    let segments = needed_segments(alloc, list, edges)?;
+    let Some(mut proposal) = read(alloc, &segments)? else {
+        return Ok(None);
+    };
+    shorten(alloc, list, &mut proposal)?;
+    Ok(Some(proposal))
+}
+
+// What may be a subdivision in a connected list of edges that is not planar: found from vertex 0 on, and then from a branch
+// vertex of it, as long as it becomes shorter.
+fn find(alloc: Global, list: &EdgeList) -> Result<Option<Proposal>, AllocError> {
+    let Some(mut best) = find_from(alloc, list, 0)? else {
+        return Ok(None);
+    };
+    for k in 0..AGAIN {
+        let Some(other) = find_from(alloc, list, best.branch_vertex(k))? else {
+            break;
+        };
+        if other.edge_count() >= best.edge_count() {
+            break;
+        }
+        best = other;
+    }
+    Ok(Some(best))
+}
+
+/// What may be a subdivision of K5 or of K3,3 in a connected graph that is not planar.
+pub fn propose_subdivision(alloc: Global, g: &Graph) -> Result<Option<Subdivision>, AllocError> {
+    let list = EdgeList::of(alloc, g)?;
+    let Some(found) = find(alloc, &list)? else {
+        return Ok(None);
+    };
+    Ok(Some(found.subdivision(alloc)?))
+}

@@ -1,0 +1,82 @@
+// Shorter paths for a subdivision.
+
+use crate::forest::{breadth_first, path_up};
+use crate::reading::Proposal;
+use quick_rotation::access::mark;
+use quick_rotation::{EdgeList, Groups, numbers_below};
+use std::alloc::{AllocError, Global};
+
+// How often all paths are tried.
+const ROUNDS: u32 = 4;
+
+// Marks the ends of the edges of all paths but one.
+fn mark_others(list: &EdgeList, paths: &[Vec<u32>], k: usize, marks: &mut [bool]) {
+    for (i, path) in paths.iter().enumerate() {
+        if i != k {
+            mark_ends(list, path, marks);
+        }
+    }
+}
+
+// Marks the ends of the edges.
+fn mark_ends(list: &EdgeList, edges: &[u32], marks: &mut [bool]) {
+    for edge in edges {
+        let dart = edge.saturating_mul(2);
+        mark(marks, list.tail(dart));
+        mark(marks, list.head(dart));
+    }
+}
+
+// A shortest path between the ends of path k that meets no other path.
+fn shortest(
+    alloc: Global,
+    list: &EdgeList,
+    around: &Groups,
+    proposal: &Proposal,
+    k: usize,
+) -> Result<Vec<u32>, AllocError> {
+    let mut marks = vec![in alloc; false; list.vertices as usize]?;
+    mark_others(list, &proposal.paths, k, &mut marks);
+    let (from, to) = proposal.ends(k);
+    if (from as usize) < marks.len() {
+        marks[from as usize] = false;
+    }
+    let tree = breadth_first(alloc, list, around, to, marks)?;
+    path_up(alloc, list, &tree, from)
+}
+
+// Tries each path once. Returns whether one became shorter.
+fn shorten_once(
+    alloc: Global,
+    list: &EdgeList,
+    around: &Groups,
+    proposal: &mut Proposal,
+) -> Result<bool, AllocError> {
+    let mut shorter = false;
+    for k in 0..proposal.paths.len() {
+        let path = shortest(alloc, list, around, proposal, k)?;
+        if let Some(old) = proposal.paths.get_mut(k) {
+            if !path.is_empty() && path.len() < old.len() {
+                *old = path;
+                shorter = true;
+            }
+        }
+    }
+    Ok(shorter)
+}
+
+// Makes the paths of the subdivision shorter, one after the other, as long as one does become shorter.
+pub(crate) fn shorten(
+    alloc: Global,
+    list: &EdgeList,
+    proposal: &mut Proposal,
+) -> Result<(), AllocError> {
+    let edges = numbers_below(alloc, list.edge_count())?;
+    let around = list.darts_of(alloc, &edges)?;
+    for _ in 0..ROUNDS {
+        if !shorten_once(alloc, list, &around, proposal)? {
+            break;
+        }
+    }
+    Ok(())
+}
