@@ -9,7 +9,9 @@ use Rattle.gml_text.specs.Document.{Document}
 use Rattle.gml_graph.specs.Named.{NamedGraph}
 use Rattle.spqr_script.specs.Head.{graph_text, vertex_text, cut_text, block_text}
 use Rattle.spqr_script.specs.Node.{node_text}
-use Rattle.spqr_script.specs.Answer.{euler_text, document_text, error_text}
+use Rattle.spqr_script.specs.Answers.Euler.{euler_text}
+use Rattle.spqr_script.specs.Answers.Gml.{document_text}
+use Rattle.spqr_script.specs.Answers.Error.{error_text}
 use Rattle.spqr_script.specs.declared.command.Command.{Command}
 use Rattle.spqr_script.specs.declared.command.Command.TheVariants.{Euler, Gml}
 use Rattle.spqr_cli.specs.Trees.{BlockTree}

@@ -4,7 +4,7 @@ ghost use Rattle.std.specs.List.{concat};
 ghost use Rattle.multigraph.specs.Graph.{Multigraph, max_vertices, IsGraph};
 ghost use Rattle.pair_split.specs.Tutte.{IsTutte};
 ghost use Rattle.rotations.specs.Rotation.{IsRotationSystem};
-ghost use Rattle.spqr_script.specs.Answer.{euler_text};
+ghost use Rattle.spqr_script.specs.Answers.Euler.{euler_text};
 ghost use Rattle.spqr_script.specs.Head.{vertex_text, cut_text};
 ghost use Rattle.spqr_cli.specs.Outcome.{Answers};
 ghost use Rattle.spqr_cli.specs.Trees.{AreBlockTrees};
