@@ -1,0 +1,17 @@
+// `gml`: the document.
+ghost use Rattle.std.specs.Prelude.{IfOk};
+ghost use Rattle.spqr_cli.specs.State.{State};
+ghost use Rattle.spqr_cli.specs.Codes.{Carries};
+ghost use Rattle.spqr_cli.specs.Commands.Gml.{GmlApplies, GmlDoes};
+
+use gml_text::{Doc, write};
+use spqr_script::gml_lines;
+use std::alloc::{AllocError, Global};
+
+/// Carries out `gml`: the document in the written layout. Nothing changes.
+pub(crate) fn carry_gml(alloc: Global, doc: &Doc) -> Result<Vec<u8>, AllocError>
+    ensures { (s : State) → IfOk result (λ text. Carries GmlApplies (GmlDoes doc.now) s text.items s) }
+{
+    let written = write(alloc, doc)?;
+    gml_lines(alloc, &written)
+}
