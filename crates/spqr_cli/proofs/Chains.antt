@@ -7,30 +7,21 @@ use Rattle.spqr_script.specs.declared.command.Command.{Command}
 use Rattle.spqr_script.specs.declared.command.Command.TheVariants.{Euler, Gml}
 use Rattle.spqr_cli.specs.Setting.{Setting}
 use Rattle.spqr_cli.specs.State.{State, IsStart}
-use Rattle.spqr_cli.specs.Step.{Applies, Does, Step, IsChain}
+use Rattle.spqr_cli.specs.Step.{Step, IsChain}
 use Rattle.spqr_cli.specs.Head.{head_text}
 use Rattle.spqr_cli.specs.Report.{IsReport}
-use Rattle.spqr_cli.proofs.Carried.{TellsOne, DoesOne, carries-one}
-use Rattle.spqr_cli.proofs.EulerCarried.{euler-answers, euler-tells, euler-does}
-use Rattle.spqr_cli.proofs.GmlCarried.{gml-done, gml-tells, gml-does}
+use Rattle.spqr_cli.proofs.EulerCarried.{euler-answers, euler-one}
+use Rattle.spqr_cli.proofs.GmlCarried.{gml-done, gml-one}
 
 -- each command has an answer in each state
 pub has-answer : (setting : Setting) (before : State) (command : Command) → (text : List ℕ) × (after : State) × Step setting before command text after
 has-answer setting before (Euler entries) = euler-answers setting.named.graph entries before
 has-answer setting before Gml = (document_text (written setting.document), before, gml-done setting.document before (document_text (written setting.document)) refl)
 
--- the codes that apply to a command tell one line, and it does one thing
-step-tells : (setting : Setting) (before : State) (command : Command) → TellsOne (Applies setting before command)
-step-tells setting before (Euler entries) = euler-tells setting.named.graph entries
-step-tells setting before Gml = gml-tells
-
-step-does : (setting : Setting) (before : State) (command : Command) → DoesOne (Does setting command) before
-step-does setting before (Euler entries) = euler-does setting.named.graph entries before
-step-does setting before Gml = gml-does setting.document before
-
--- so it has one answer
+-- and one only
 pub one-answer : (setting : Setting) (before : State) (command : Command) (s t : List ℕ) (after other : State) → Step setting before command s after → Step setting before command t other → (s ≡ t) × (after ≡ other)
-one-answer setting before command s t after other p q = carries-one (Applies setting before command) (Does setting command) before s t after other (step-tells setting before command) (step-does setting before command) p q
+one-answer setting before (Euler entries) s t after other p q = euler-one setting.named.graph entries before s t after other p q
+one-answer setting before Gml s t after other p q = gml-one setting.document before s t after other p q
 
 -- there is a chain from each state
 pub chain-exists : (setting : Setting) (before : State) (commands : List Command) → (texts : List (List ℕ)) × (last : State) × IsChain setting before commands texts last

@@ -7,9 +7,8 @@ use Rattle.spqr_script.specs.declared.command.Command.{Command}
 use Rattle.spqr_script.specs.declared.command.Command.TheVariants.{Euler, Gml}
 use Rattle.spqr_cli.specs.Setting.{Setting}
 use Rattle.spqr_cli.specs.State.{State}
-use Rattle.spqr_cli.specs.Codes.{Carries}
-use Rattle.spqr_cli.specs.Commands.Euler.{EulerApplies, EulerDoes}
-use Rattle.spqr_cli.specs.Commands.Gml.{GmlApplies, GmlDoes}
+use Rattle.spqr_cli.specs.Commands.Euler.{EulerStep}
+use Rattle.spqr_cli.specs.Commands.Gml.{GmlStep}
 use Rattle.spqr_cli.specs.Step.{Step}
 
 -- what holds of a text holds as far as it implies
@@ -23,16 +22,16 @@ step-along setting from before after command text given e f s = subst (λ (t : L
 
 -- `euler` on the graph of the setting
 pub step-euler : {E : Type 0} (setting : Setting) (state : State) (command : Command) (entries : List (ℕ × List ℕ)) (g : Multigraph) (r q : Result (Vec ℕ) E) → command ≡ Euler entries → g ≡ setting.named.graph → q ≡ r
-    → ((s : State) → IfOk r (λ text. Carries (EulerApplies g entries) (EulerDoes g entries) s text.items s)) → IfOk q (λ text. Step setting state command text.items state)
+    → ((s : State) → IfOk r (λ text. EulerStep g entries s text.items s)) → IfOk q (λ text. Step setting state command text.items state)
 step-euler {E = E} setting state command entries g r q is graph same h =
     subst (λ (x : Command). IfOk q (λ text. Step setting state x text.items state)) (sym is)
     (subst (λ (x : Result (Vec ℕ) E). IfOk x (λ text. Step setting state (Euler entries) text.items state)) (sym same)
-    (subst (λ (x : Multigraph). IfOk r (λ text. Carries (EulerApplies x entries) (EulerDoes x entries) state text.items state)) graph (h state)))
+    (subst (λ (x : Multigraph). IfOk r (λ text. EulerStep x entries state text.items state)) graph (h state)))
 
 -- `gml` on the document of the setting
 pub step-gml : {E : Type 0} (setting : Setting) (state : State) (command : Command) (d : Document) (r q : Result (Vec ℕ) E) → command ≡ Gml → d ≡ setting.document → q ≡ r
-    → ((s : State) → IfOk r (λ text. Carries GmlApplies (GmlDoes d) s text.items s)) → IfOk q (λ text. Step setting state command text.items state)
+    → ((s : State) → IfOk r (λ text. GmlStep d s text.items s)) → IfOk q (λ text. Step setting state command text.items state)
 step-gml {E = E} setting state command d r q is document same h =
     subst (λ (x : Command). IfOk q (λ text. Step setting state x text.items state)) (sym is)
     (subst (λ (x : Result (Vec ℕ) E). IfOk x (λ text. Step setting state Gml text.items state)) (sym same)
-    (subst (λ (x : Document). IfOk r (λ text. Carries GmlApplies (GmlDoes x) state text.items state)) document (h state)))
+    (subst (λ (x : Document). IfOk r (λ text. GmlStep x state text.items state)) document (h state)))

@@ -27,7 +27,7 @@ abbrev pub NoneApplies : (Code → Type 0) → Type 0
 NoneApplies applies = (code : Code) → applies code → ⊥
 
 -- a command is refused: the text is the line of the lowest code that applies, and the state stays
-pub record IsRefused (applies : Code → Type 0) (before : State) (text : List ℕ) (after : State) : Type 0 where
+pub record RefusesCommand (applies : Code → Type 0) (before : State) (text : List ℕ) (after : State) : Type 0 where
   pub code : Code
   pub lowest : IsLowest applies code
   pub line : text ≡ code_text code
@@ -35,4 +35,4 @@ pub record IsRefused (applies : Code → Type 0) (before : State) (text : List �
 
 -- a command is carried out: it is refused where a code applies, and does what is its own where none does
 abbrev pub Carries : (Code → Type 0) → (State → List ℕ → State → Type 0) → State → List ℕ → State → Type 0
-Carries applies does before text after = IsRefused applies before text after ⊎ (NoneApplies applies × does before text after)
+Carries applies does before text after = RefusesCommand applies before text after ⊎ (NoneApplies applies × does before text after)

@@ -13,7 +13,7 @@ use Rattle.spqr_script.specs.declared.command.Command.{Command}
 use Rattle.spqr_edge.specs.Device.{Files, contents}
 use Rattle.spqr_cli.specs.Setting.{Setting, IsSetting}
 use Rattle.spqr_cli.specs.Words.{Names, form_of}
-use Rattle.spqr_cli.specs.Reading.{IsFileReason}
+use Rattle.spqr_cli.specs.Reading.{IsFileReason, SomeBytes, told_file}
 use Rattle.spqr_cli.specs.declared.refusal.Refusal.{Refusal}
 use Rattle.spqr_cli.specs.declared.refusal.Refusal.TheVariants.{Usage, OfGraph, OfScript}
 use Rattle.spqr_cli.specs.declared.refusal.GraphRefusal.{GraphRefusal}
@@ -95,6 +95,19 @@ IsGraphReason bytes (Rule fault) = (length bytes ≤ graph_limit) × ((d : Docum
 abbrev pub IsScriptReason : List ℕ → ScriptRefusal → Type 0
 IsScriptReason bytes (Script fault) = IsFileReason script_limit bytes fault
 IsScriptReason bytes (Line line) = (length bytes ≤ script_limit) × IsFirstBadLine bytes line
+
+-- a graph file says a document, and a script file commands; or it is refused: by some bytes, its own where the files are told
+abbrev pub GraphFileSays : Option Files → List ℕ → Document → Type 0
+GraphFileSays told name d = SomeBytes (told_file told name) (λ bytes. SayDocument bytes d)
+
+abbrev pub GraphFileRefused : Option Files → List ℕ → GraphRefusal → Type 0
+GraphFileRefused told name refusal = SomeBytes (told_file told name) (λ bytes. IsGraphReason bytes refusal)
+
+abbrev pub ScriptFileSays : Option Files → List ℕ → List Command → Type 0
+ScriptFileSays told name commands = SomeBytes (told_file told name) (λ bytes. SayCommands bytes commands)
+
+abbrev pub ScriptFileRefused : Option Files → List ℕ → ScriptRefusal → Type 0
+ScriptFileRefused told name refusal = SomeBytes (told_file told name) (λ bytes. IsScriptReason bytes refusal)
 
 -- a decision: the work to be done, or a refusal
 abbrev pub Decision : Type 0

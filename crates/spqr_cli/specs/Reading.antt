@@ -31,6 +31,10 @@ pub record SomeBytes (told : Option (List ℕ)) (such : List ℕ → Type 0) : T
   pub are_told : IfSome told (λ file. bytes ≡ file)
   pub is_such : such bytes
 
+-- a file was not read, for this reason: by some bytes, its own where it is told
+abbrev pub IsUnread : ℕ → Option (List ℕ) → FileFault → Type 0
+IsUnread limit told fault = SomeBytes told (λ bytes. IsFileReason limit bytes fault)
+
 -- the bytes of the file of this name, where the files are told
 abbrev pub told_file : Option Files → List ℕ → Option (List ℕ)
 told_file None name = None

@@ -13,6 +13,9 @@ pub record Setting : Type 0 where
   pub structure : BlockStructure
   pub trees : List BlockTree
 
+abbrev pub setting_of : Document → NamedGraph → BlockStructure → List BlockTree → Setting
+setting_of document named structure trees = record { document = document; named = named; structure = structure; trees = trees }
+
 -- the graph is that of the document, the structure is that of the graph, and there is a tree for each block
 pub record IsSetting (setting : Setting) : Type 0 where
   pub graph : graph_of_document setting.document ≡ Ok setting.named

@@ -4,24 +4,13 @@ use Rattle.spqr_script.specs.declared.command.Command.{Command}
 use Rattle.spqr_script.specs.declared.command.Command.TheVariants.{Euler, Gml}
 use Rattle.spqr_cli.specs.Setting.{Setting}
 use Rattle.spqr_cli.specs.State.{State}
-use Rattle.spqr_cli.specs.Codes.{Carries}
-use Rattle.spqr_cli.specs.Commands.Euler.{EulerApplies, EulerDoes}
-use Rattle.spqr_cli.specs.Commands.Gml.{GmlApplies, GmlDoes}
-use Rattle.spqr_cli.specs.declared.code.Code.{Code}
-
--- the codes that apply to a command in a state
-abbrev pub Applies : Setting → State → Command → Code → Type 0
-Applies setting before (Euler entries) = EulerApplies setting.named.graph entries
-Applies setting before Gml = GmlApplies
-
--- what a command does where no code applies: its text, and the state after it
-abbrev pub Does : Setting → Command → State → List ℕ → State → Type 0
-Does setting (Euler entries) = EulerDoes setting.named.graph entries
-Does setting Gml = GmlDoes setting.document
+use Rattle.spqr_cli.specs.Commands.Euler.{EulerStep}
+use Rattle.spqr_cli.specs.Commands.Gml.{GmlStep}
 
 -- a command gives this text and leads to this state
 abbrev pub Step : Setting → State → Command → List ℕ → State → Type 0
-Step setting before command text after = Carries (Applies setting before command) (Does setting command) before text after
+Step setting before (Euler entries) text after = EulerStep setting.named.graph entries before text after
+Step setting before Gml text after = GmlStep setting.document before text after
 
 -- the commands give these texts, one after another, from the one state to the other
 abbrev pub IsChain : Setting → State → List Command → List (List ℕ) → State → Type 0

@@ -3,10 +3,9 @@ ghost use Rattle.std.specs.Prelude.{◌≡◌, ◌≤◌, ⊤, length, map, stri
 ghost use Rattle.spqr_edge.specs.Device.{CountsCall};
 ghost use Rattle.spqr_cli.specs.Outcome.{Answers};
 ghost use Rattle.spqr_cli.specs.Machine.{IsStarted};
-ghost use Rattle.spqr_cli.specs.Reading.{SomeBytes, told_file};
-ghost use Rattle.spqr_cli.specs.Decision.{graph_limit, script_limit, SayDocument, SayCommands, IsGraphReason, IsScriptReason, HasLine};
+ghost use Rattle.spqr_cli.specs.Decision.{graph_limit, script_limit, SayDocument, SayCommands, IsGraphReason, IsScriptReason, GraphFileSays, GraphFileRefused, ScriptFileSays, ScriptFileRefused, HasLine};
 ghost use Rattle.spqr_cli.specs.Ending.{refusal_status, graph_status, script_status, CountsFaults, IsDecided, OnDecision};
-ghost use Rattle.spqr_cli.specs.Seen.{ShelfSeen};
+ghost use Rattle.spqr_cli.specs.Seen.{seen_shelf};
 
 use crate::halt::Halt;
 use crate::reading::read_file;
@@ -35,7 +34,8 @@ pub struct Accepted {
 // A session on what the bytes of the graph file say.
 fn session_on(alloc: Global, bytes: &[u8]) -> Result<Session, Halt<GraphRefusal>>
     requires { length bytes.now ≤ graph_limit }
-    ensures said { Answers result (λ s. SayDocument bytes.now s.setting.document) (λ r. IsGraphReason bytes.now r × HasLine r) }
+    ensures said { Answers result (λ s. SayDocument bytes.now s.setting.document)
+        (λ r. IsGraphReason bytes.now r × HasLine r) }
     ensures started { Answers result IsStarted (λ _. ⊤) }
     ensures faults { CountsFaults graph_status 0 0 result }
 {
@@ -58,8 +58,8 @@ fn accept_graph<S: Shelf>(
     name: &str,
 ) -> Result<Session, Halt<GraphRefusal>>
     ensures said { Answers result
-        (λ s. SomeBytes (told_file (S.files shelf.old) name.now) (λ bytes. SayDocument bytes s.setting.document))
-        (λ r. SomeBytes (told_file (S.files shelf.old) name.now) (λ bytes. IsGraphReason bytes r)) }
+        (λ s. GraphFileSays (S.files shelf.old) name.now s.setting.document)
+        (GraphFileRefused (S.files shelf.old) name.now) }
     ensures line { Answers result (λ _. ⊤) HasLine }
     ensures started { Answers result IsStarted (λ _. ⊤) }
     ensures files { S.files shelf.new ≡ S.files shelf.old }
@@ -76,7 +76,8 @@ fn accept_graph<S: Shelf>(
 // The commands that the bytes of the script file say.
 fn commands_on(alloc: Global, bytes: &[u8]) -> Result<Vec<Command>, Halt<ScriptRefusal>>
     requires { length bytes.now ≤ script_limit }
-    ensures said { Answers result (λ commands. SayCommands bytes.now commands.items) (IsScriptReason bytes.now) }
+    ensures said { Answers result (λ commands. SayCommands bytes.now commands.items)
+        (IsScriptReason bytes.now) }
     ensures faults { CountsFaults script_status 0 0 result }
 {
     match commands_of(alloc, bytes) {
@@ -93,8 +94,8 @@ fn accept_script<S: Shelf>(
     name: &str,
 ) -> Result<Vec<Command>, Halt<ScriptRefusal>>
     ensures said { Answers result
-        (λ commands. SomeBytes (told_file (S.files shelf.old) name.now) (λ bytes. SayCommands bytes commands.items))
-        (λ r. SomeBytes (told_file (S.files shelf.old) name.now) (λ bytes. IsScriptReason bytes r)) }
+        (λ commands. ScriptFileSays (S.files shelf.old) name.now commands.items)
+        (ScriptFileRefused (S.files shelf.old) name.now) }
     ensures files { S.files shelf.new ≡ S.files shelf.old }
     ensures opens { CountsCall (S.opens shelf.old) (S.opens shelf.new) }
     ensures faults { CountsFaults script_status (S.faults shelf.old) (S.faults shelf.new) result }
@@ -113,9 +114,9 @@ pub fn decide<S: Shelf>(
     words: &[String],
     shelf: &mut S,
 ) -> Result<Accepted, Halt<Refusal>>
-    ensures decided { let before : ShelfSeen = record { files = S.files shelf.old; opens = S.opens shelf.old; faults = S.faults shelf.old } in
-        let after : ShelfSeen = record { files = S.files shelf.new; opens = S.opens shelf.new; faults = S.faults shelf.new } in
-        OnDecision result (IsDecided (map string_bytes words.now) before after) }
+    ensures decided { OnDecision result (IsDecided (map string_bytes words.now)
+        (seen_shelf (S.files shelf.old) (S.opens shelf.old) (S.faults shelf.old))
+        (seen_shelf (S.files shelf.new) (S.opens shelf.new) (S.faults shelf.new))) }
     ensures started { Answers result (λ a. IsStarted a.session) (λ _. ⊤) }
     ensures faults { CountsFaults refusal_status (S.faults shelf.old) (S.faults shelf.new) result }
 {

@@ -5,6 +5,7 @@ ghost use Rattle.gml_text.specs.Document.{Document};
 ghost use Rattle.multigraph.specs.Graph.{Multigraph, max_vertices, IsGraph};
 ghost use Rattle.pair_split.specs.Tutte.{IsTutte};
 ghost use Rattle.spqr_script.specs.Head.{vertex_text, cut_text};
+ghost use Rattle.spqr_cli.specs.Setting.{setting_of};
 ghost use Rattle.spqr_cli.specs.Trees.{AreBlockTrees};
 ghost use Rattle.spqr_cli.specs.Head.{head_text, nodes_text, block_lines, numbered};
 
@@ -52,7 +53,8 @@ fn push_nodes(out: &mut Vec<u8>, part: &Part, tree: &Tree) -> Result<(), AllocEr
 // Puts the lines of the blocks and of their trees behind a text.
 fn push_trees(out: &mut Vec<u8>, blocks: &Blocks, trees: &[PartTree]) -> Result<(), AllocError>
     requires { (g : Multigraph) × AreBlockTrees g blocks.now.blocks trees.now }
-    ensures { OnOk result (out.new.items ≡ out.old.items ++ numbered (block_lines trees.now) 0 blocks.now.blocks) }
+    ensures { OnOk result
+        (out.new.items ≡ out.old.items ++ numbered (block_lines trees.now) 0 blocks.now.blocks) }
 {
     for b in 0..blocks.block_count() {
         push_block_line(out, b, blocks.edges(b))?;
@@ -72,7 +74,7 @@ pub fn head_of(
 ) -> Result<Vec<u8>, AllocError>
     requires { AreBlockTrees named.now.graph blocks.now.blocks trees.now }
     ensures { (document : Document) → IfOk result (λ text. text.items ≡ head_text
-        (record { document = document; named = named.now; structure = blocks.now; trees = trees.now })) }
+        (setting_of document named.now blocks.now trees.now)) }
 {
     let graph = named.graph();
     let mut out = graph_line(alloc, graph.vertex_count(), graph.edge_count())?;

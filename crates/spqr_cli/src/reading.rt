@@ -3,7 +3,7 @@ ghost use Rattle.std.specs.Prelude.{◌≡◌, ◌<◌, ◌≤◌, ◌^◌, IfOk
 ghost use Rattle.spqr_edge.specs.Device.{CountsCall};
 ghost use Rattle.spqr_cli.specs.Ending.{file_status, CountsFaults};
 ghost use Rattle.spqr_cli.specs.Outcome.{Answers};
-ghost use Rattle.spqr_cli.specs.Reading.{TakesPiece, IsWhole, IsFileReason, SomeBytes, told_file};
+ghost use Rattle.spqr_cli.specs.Reading.{TakesPiece, IsWhole, IsUnread, told_file};
 
 use crate::halt::Halt;
 use spqr_edge::Shelf;
@@ -59,7 +59,7 @@ fn read_rest<S: Shelf>(
 ) -> Result<Vec<u8>, Halt<FileFault>>
     requires { limit < 2 ^ 63 }
     ensures bytes { Answers result (λ bytes. IsWhole limit (S.left shelf.old) bytes.items)
-        (λ fault. SomeBytes (S.left shelf.old) (λ bytes. IsFileReason limit bytes fault)) }
+        (IsUnread limit (S.left shelf.old)) }
     ensures files { S.files shelf.new ≡ S.files shelf.old }
     ensures opens { S.opens shelf.new ≡ S.opens shelf.old }
     ensures faults { CountsFaults file_status (S.faults shelf.old) (S.faults shelf.new) result }
@@ -84,8 +84,9 @@ pub fn read_file<S: Shelf>(
     limit: usize,
 ) -> Result<Vec<u8>, Halt<FileFault>>
     requires { limit < 2 ^ 63 }
-    ensures bytes { Answers result (λ bytes. IsWhole limit (told_file (S.files shelf.old) name.now) bytes.items)
-        (λ fault. SomeBytes (told_file (S.files shelf.old) name.now) (λ bytes. IsFileReason limit bytes fault)) }
+    ensures bytes { Answers result
+        (λ bytes. IsWhole limit (told_file (S.files shelf.old) name.now) bytes.items)
+        (IsUnread limit (told_file (S.files shelf.old) name.now)) }
     ensures within { IfOk result (λ bytes. vec_len bytes ≤ limit) }
     ensures files { S.files shelf.new ≡ S.files shelf.old }
     ensures opens { CountsCall (S.opens shelf.old) (S.opens shelf.new) }

@@ -3,7 +3,7 @@ ghost use Rattle.std.specs.Prelude.{Err, map, string_bytes};
 ghost use Rattle.spqr_cli.specs.Machine.{IsStarted};
 ghost use Rattle.spqr_cli.specs.Writing.{WritesAnswers, WritesReport};
 ghost use Rattle.spqr_cli.specs.Decision.{DecisionHasLine};
-ghost use Rattle.spqr_cli.specs.Seen.{Seen};
+ghost use Rattle.spqr_cli.specs.Seen.{seen, seen_shelf, seen_sink};
 ghost use Rattle.spqr_cli.specs.Run.{CountsPut, RefusesWith, CountsPuts, IsRun};
 
 use crate::decision::{Accepted, decide};
@@ -24,7 +24,8 @@ fn write_answers<K: Sink>(
     commands: &[Command],
     sink: &mut K,
 ) -> Result<(), Halt<Failed>>
-    ensures texts { WritesAnswers session.old.setting session.old.state commands.now (K.written sink.old) (K.written sink.new) result }
+    ensures texts { WritesAnswers session.old.setting session.old.state commands.now
+        (K.written sink.old) (K.written sink.new) result }
     ensures faults { CountsPut (K.faults sink.old) (K.faults sink.new) result }
 {
     for command in commands {
@@ -41,7 +42,8 @@ fn write_report<K: Sink>(
     sink: &mut K,
 ) -> Result<(), Halt<Failed>>
     requires { IsStarted accepted.session }
-    ensures report { WritesReport accepted.session.setting accepted.commands.items (K.written sink.old) (K.written sink.new) result }
+    ensures report { WritesReport accepted.session.setting accepted.commands.items
+        (K.written sink.old) (K.written sink.new) result }
     ensures faults { CountsPut (K.faults sink.old) (K.faults sink.new) result }
 {
     let Accepted {
@@ -76,15 +78,12 @@ pub fn run<S: Shelf, K: Sink>(
     shelf: &mut S,
     sink: &mut K,
 ) -> Status
-    ensures run { let before : Seen = record {
-      shelf = record { files = S.files shelf.old; opens = S.opens shelf.old; faults = S.faults shelf.old };
-      sink = record { written = K.written sink.old; faults = K.faults sink.old };
-    } in
-        let after : Seen = record {
-          shelf = record { files = S.files shelf.new; opens = S.opens shelf.new; faults = S.faults shelf.new };
-          sink = record { written = K.written sink.new; faults = K.faults sink.new };
-        } in
-        IsRun (map string_bytes words.now) before after result }
+    ensures run { IsRun (map string_bytes words.now)
+        (seen (seen_shelf (S.files shelf.old) (S.opens shelf.old) (S.faults shelf.old))
+        (seen_sink (K.written sink.old) (K.faults sink.old)))
+        (seen (seen_shelf (S.files shelf.new) (S.opens shelf.new) (S.faults shelf.new))
+        (seen_sink (K.written sink.new) (K.faults sink.new)))
+        result }
 {
     match decide(alloc, words, shelf) {
         Ok(accepted) => match write_report(alloc, accepted, sink) {

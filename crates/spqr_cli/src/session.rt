@@ -27,7 +27,7 @@ pub struct Session {
 }
 
 impl Model for Session {
-    ghost use Rattle.spqr_cli.specs.Setting.{IsSetting};
+    ghost use Rattle.spqr_cli.specs.Setting.{IsSetting, setting_of};
     ghost use Rattle.spqr_cli.specs.State.{start_state};
     ghost use Rattle.spqr_cli.specs.Machine.{Machine};
     ghost use Rattle.gml_text.specs.Code.{document_code};
@@ -37,9 +37,9 @@ impl Model for Session {
 
     ghost coded = { Prim.hlevel (codes, document_code) };
 
-    ghost view = { λ s. record { setting = record { document = s.doc; named = s.named; structure = s.blocks; trees = s.trees.items }; state = start_state } };
+    ghost view = { λ s. record { setting = setting_of s.doc s.named s.blocks s.trees.items; state = start_state } };
 
-    ghost invariant = { λ s. IsSetting (record { document = s.doc; named = s.named; structure = s.blocks; trees = s.trees.items }) };
+    ghost invariant = { λ s. IsSetting (setting_of s.doc s.named s.blocks s.trees.items) };
 }
 
 impl Session {
@@ -76,7 +76,8 @@ impl Session {
     /// Carries out a command and gives its answer. Without memory the session stays as it was.
     pub fn step(&mut self, alloc: Global, command: &Command) -> Result<Vec<u8>, AllocError>
         ensures setting { self.new.setting ≡ self.old.setting }
-        ensures step { IfOk result (λ text. Step self.old.setting self.old.state command.now text.items self.new.state) }
+        ensures step { IfOk result (λ text.
+            Step self.old.setting self.old.state command.now text.items self.new.state) }
         ensures memory { OnErr result (self.new ≡ self.old) }
     {
         match command {

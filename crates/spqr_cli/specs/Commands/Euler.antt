@@ -7,6 +7,7 @@ use Rattle.faces.specs.Euler.{face_count, component_count}
 use Rattle.faces.specs.declared.numbers.Euler.{Euler}
 use Rattle.spqr_script.specs.Answers.Euler.{euler_text}
 use Rattle.spqr_cli.specs.State.{State}
+use Rattle.spqr_cli.specs.Codes.{Carries}
 use Rattle.spqr_cli.specs.declared.code.Code.{Code}
 use Rattle.spqr_cli.specs.declared.code.Code.TheVariants.{BadRotation}
 
@@ -37,3 +38,7 @@ pub record EulerDoes (g : Multigraph) (entries : List (ℕ × List ℕ)) (before
   pub given : IsGiven g entries rotation
   pub answer : text ≡ euler_text (euler_numbers g rotation)
   pub stays : after ≡ before
+
+-- one step: refused where a code applies, else this
+abbrev pub EulerStep : Multigraph → List (ℕ × List ℕ) → State → List ℕ → State → Type 0
+EulerStep g entries before text after = Carries (EulerApplies g entries) (EulerDoes g entries) before text after
