@@ -13,8 +13,8 @@ use Rattle.permutations.proofs.Turned.{turned-permutation, turned-first_or}
 use Rattle.multigraph.specs.Graph.{Multigraph, incident_edges, numbers_below}
 use Rattle.multigraph.proofs.Below.{length-numbers_below, get_or-numbers_below}
 use Rattle.rotations.specs.Entries.{entry, IsNamed, list_at}
-use Rattle.rotations.specs.Rotation.{order_at, IsCyclicOrder, IsRotationSystem}
-use Rattle.rotations.specs.Given.{IsArranged, AreArranged, IsBad, IsFirstBad, given_order}
+use Rattle.rotations.specs.Rotation.{order_at, IsCyclicOrder}
+use Rattle.rotations.specs.Given.{IsArranged, AreArranged, IsFirstBad, given_order}
 use Rattle.rotations.proofs.Membership.{incident-distinct}
 use Rattle.rotations.proofs.Arrangements.{permutation-distinct, permutation-member, permutation-member_back, permutation-from_members}
 use Rattle.spqr_cli.specs.Commands.Euler.{IsGiven}

@@ -1,5 +1,5 @@
 -- A command that is carried out has one text and one state after it, if its codes tell the same numbers and it does one thing.
-use Rattle.std.proofs.Common.{◌≡◌, ℕ, ◌≤◌, List, inl, inr, sym, ap, ◌∙◌, arith}
+use Rattle.std.proofs.Common.{◌≡◌, ℕ, List, inl, inr, sym, ap, ◌∙◌, arith}
 use Rattle.spqr_script.specs.Answers.Error.{error_text}
 use Rattle.spqr_cli.specs.State.{State}
 use Rattle.spqr_cli.specs.Codes.{code_number, code_numbers, code_text, Carries}

@@ -1,9 +1,9 @@
 -- Where the words and the files are accepted and nothing failed, a run is not refused.
-use Rattle.std.proofs.Common.{◌≡◌, ◌≢◌, ℕ, List, Option, None, Some, Err, IfSome, IsSome, sym, subst, refl, arith}
+use Rattle.std.proofs.Common.{◌≡◌, ℕ, List, Option, None, Some, Err, IfSome, IsSome, sym, subst, refl, arith}
 use Rattle.spqr_edge.specs.Device.{Files, contents}
-use Rattle.spqr_cli.specs.Words.{Names, form_of}
+use Rattle.spqr_cli.specs.Words.{Names}
 use Rattle.spqr_cli.specs.Decision.{Sources, AreContents, AcceptsGraph, AcceptsScript, IsAccepted, IsDue}
-use Rattle.spqr_cli.specs.Ending.{status_of, refusal_status, CountsFor, IsDecided}
+use Rattle.spqr_cli.specs.Ending.{refusal_status, CountsFor, IsDecided}
 use Rattle.spqr_cli.specs.Laws.{NoRefusal}
 use Rattle.spqr_cli.specs.Seen.{Seen}
 use Rattle.spqr_cli.specs.Run.{NothingFailed, IsDoneOrMemory}

@@ -1,5 +1,5 @@
 -- Some bytes of a file that was read.
-use Rattle.std.proofs.Common.{◌≡◌, ℕ, List, [], Option, None, Some, IfSome, Result, Err, refl, sym, subst}
+use Rattle.std.proofs.Common.{◌≡◌, ℕ, List, [], Option, None, Some, IfSome, Err, refl, sym, subst}
 use Rattle.spqr_edge.specs.Device.{Files, contents}
 use Rattle.spqr_cli.specs.Outcome.{Answers}
 use Rattle.spqr_cli.specs.Reading.{IsWhole, IsFileReason, SomeBytes, told_file}

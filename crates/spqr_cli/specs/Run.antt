@@ -5,16 +5,15 @@ use Rattle.spqr_edge.specs.Device.{counted, Rose}
 use Rattle.spqr_edge.specs.declared.Failed.{Failed}
 use Rattle.spqr_cli.specs.Words.{form_of}
 use Rattle.spqr_cli.specs.Front.{AppendsFront}
-use Rattle.spqr_cli.specs.Report.{IsReport}
 use Rattle.spqr_cli.specs.Writing.{AppendsReport}
 use Rattle.spqr_cli.specs.Decision.{Sources, AreContents, Work, Decision, IsAccepted, IsDue}
 use Rattle.spqr_cli.specs.Ending.{refusal_text, refusal_status, IsTextOf, status_of, CountsFor, IsDecided}
-use Rattle.spqr_cli.specs.Seen.{ShelfSeen, Seen}
+use Rattle.spqr_cli.specs.Seen.{Seen}
 use Rattle.spqr_cli.specs.declared.refusal.Refusal.{Refusal}
 use Rattle.spqr_cli.specs.declared.halt.Halt.{Halt}
 use Rattle.spqr_cli.specs.declared.halt.Halt.TheVariants.{Refused, Memory as OutOfMemory}
 use Rattle.spqr_cli.specs.declared.status.Status.{Status}
-use Rattle.spqr_cli.specs.declared.status.Status.TheVariants.{Done, Usage, ReadFault, WriteFault, Memory}
+use Rattle.spqr_cli.specs.declared.status.Status.TheVariants.{Done, Usage, WriteFault, Memory}
 
 -- the count of the sink's faults by what a call answers: it rose where a put failed
 abbrev pub CountsPut : {T : Type 0} → ℕ → ℕ → Result T (Halt Failed) → Type 0

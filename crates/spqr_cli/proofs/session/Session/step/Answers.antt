@@ -1,4 +1,4 @@
-use Rattle.std.proofs.Common.{◌≡◌, ap, ◌∙◌}
+use Rattle.std.proofs.Common.{ap, ◌∙◌}
 use Rattle.spqr_cli.specs.Machine.{Machine}
 use Rattle.spqr_cli.proofs.Steps.{step-euler, step-gml}
 use Rattle.spqr_cli.proofs.session.Session.step.Goals.{in-Euler, in-Gml}
