@@ -1,19 +1,26 @@
--- Decisions that are due for the same words and files have one status, a read that failed aside.
-use Rattle.std.proofs.Common.{◌≡◌, ◌≢◌, ℕ, List, None, Some, Ok, Err, refl, sym, ap, ◌∙◌, subst, arith}
+-- Decisions that are due for the same words and bytes are alike, a read that failed aside: so they have one status, and one text but
+-- for what is left open.
+use Rattle.std.proofs.Common.{◌≡◌, ◌≢◌, ℕ, List, Option, None, Ok, Err, IsSome, refl, sym, ap, ◌∙◌, subst, arith}
+use Rattle.std.specs.Bool.{⊤}
+use Rattle.std.proofs.lemmas.Bool.{true≢false}
 use Rattle.blocks.specs.Blocks.{IsBlockStructure}
 use Rattle.blocks.proofs.OneStructure.{one-structure}
 use Rattle.gml_text.specs.Document.{Document}
 use Rattle.gml_graph.specs.Named.{NamedGraph}
 use Rattle.gml_graph.specs.Answer.{graph_of_document}
+use Rattle.gml_graph.specs.declared.fault.GraphFault.{GraphFault}
 use Rattle.gml_text.specs.Grammar.{Spells}
 use Rattle.gml_text.specs.declared.document.GmlFault.{GmlFault}
 use Rattle.gml_text.specs.declared.document.GmlFault.TheVariants.{Bad, End, Memory as GmlMemory}
 use Rattle.spqr_script.specs.declared.command.Command.{Command}
-use Rattle.spqr_edge.specs.Device.{Files, contents}
-use Rattle.spqr_script.proofs.Scripts.{apart, one_reading}
+use Rattle.spqr_script.proofs.Scripts.{apart, one_reading, one_bad_line}
+use Rattle.spqr_cli.specs.Setting.{Setting}
+use Rattle.spqr_cli.specs.Report.{IsReport}
 use Rattle.spqr_cli.specs.Words.{Names, form_of}
-use Rattle.spqr_cli.specs.Decision.{Work, Decision, SayGraph, SayCommands, IsGmlReason, IsGraphReason, IsScriptReason, IsAccepted, IsDue}
-use Rattle.spqr_cli.specs.Ending.{graph_status, script_status, refusal_status, status_of}
+use Rattle.spqr_cli.specs.Decision.{Sources, Work, Decision, SayDocument, SayCommands, AcceptsGraph, AcceptsScript, IsGmlReason, IsGraphReason, IsScriptReason, IsWork, IsDue}
+use Rattle.spqr_cli.specs.Ending.{file_status, graph_status, script_status, refusal_status, refusal_text, status_of, IsTextOf}
+use Rattle.spqr_cli.specs.Laws.{AgreeOnOpen}
+use Rattle.spqr_cli.specs.declared.reading.FileFault.{FileFault}
 use Rattle.spqr_cli.specs.declared.reading.FileFault.TheVariants.{Failed, Long}
 use Rattle.spqr_cli.specs.declared.refusal.Refusal.{Refusal}
 use Rattle.spqr_cli.specs.declared.refusal.Refusal.TheVariants.{Usage as NoForm, OfGraph, OfScript}
@@ -22,6 +29,7 @@ use Rattle.spqr_cli.specs.declared.refusal.GraphRefusal.TheVariants.{File, Gml, 
 use Rattle.spqr_cli.specs.declared.refusal.ScriptRefusal.{ScriptRefusal}
 use Rattle.spqr_cli.specs.declared.refusal.ScriptRefusal.TheVariants.{File as Script, Line}
 use Rattle.spqr_cli.specs.declared.status.Status.TheVariants.{ReadFault}
+use Rattle.spqr_cli.proofs.Chains.{one-report}
 
 -- bytes spell at most one document
 abbrev pub OneDocument : Type 0
@@ -33,28 +41,45 @@ no_document bytes d (Bad at) p q = p.0 d q
 no_document bytes d (End at) p q = p.0 d q
 no_document bytes d GmlMemory p q = p
 
--- a graph file is not accepted and refused
-graph_apart : OneDocument → (bytes : List ℕ) (d : Document) (named : NamedGraph) (r : GraphRefusal) → SayGraph bytes d named → IsGraphReason bytes r → graph_status r ≢ ReadFault → ⊥
-graph_apart one bytes d named (File Failed) s p n = n refl
-graph_apart one bytes d named (File Long) s p n = absurd (omega (arith, s.within, p))
-graph_apart one bytes d named (Gml fault) s p n = no_document bytes d fault p.1 s.spelled
-graph_apart one bytes d named (Rule fault) s p n =
-    let e : d ≡ p.1.0 = one bytes d p.1.0 s.spelled p.1.1 in
-    let both : Ok named ≡ Err fault = sym s.graph ∙ ap graph_of_document e ∙ p.1.2 in cc
+-- words are not a form and none
+no_form : (o : Option Names) → IsSome o → o ≡ None → ⊥
+no_form o h e = true≢false (sym (subst (λ (x : Option Names). IsSome x) e h))
 
--- two refusals of a graph file have one status
-graph_agree : (bytes : List ℕ) (r q : GraphRefusal) → IsGraphReason bytes r → IsGraphReason bytes q → graph_status r ≢ ReadFault → graph_status q ≢ ReadFault → graph_status r ≡ graph_status q
-graph_agree bytes (File Failed) q p o n m = absurd (n refl)
-graph_agree bytes r (File Failed) p o n m = absurd (m refl)
-graph_agree bytes (File Long) (File Long) p o n m = refl
-graph_agree bytes (File Long) (Gml fault) p o n m = absurd (omega (arith, p, o.0))
-graph_agree bytes (File Long) (Rule fault) p o n m = absurd (omega (arith, p, o.0))
-graph_agree bytes (Gml fault) (File Long) p o n m = absurd (omega (arith, o, p.0))
-graph_agree bytes (Gml fault) (Gml other) p o n m = refl
-graph_agree bytes (Gml fault) (Rule other) p o n m = absurd (no_document bytes o.1.0 fault p.1 o.1.1)
-graph_agree bytes (Rule fault) (File Long) p o n m = absurd (omega (arith, o, p.0))
-graph_agree bytes (Rule fault) (Gml other) p o n m = absurd (no_document bytes p.1.0 other o.1 p.1.1)
-graph_agree bytes (Rule fault) (Rule other) p o n m = refl
+-- a graph file is not accepted and refused
+graph_apart : OneDocument → (bytes : List ℕ) (d : Document) (named : NamedGraph) (r : GraphRefusal) → SayDocument bytes d → graph_of_document d ≡ Ok named → IsGraphReason bytes r → graph_status r ≢ ReadFault → ⊥
+graph_apart one bytes d named (File Failed) s g p n = n refl
+graph_apart one bytes d named (File Long) s g p n = absurd (omega (arith, s.within, p))
+graph_apart one bytes d named (Gml fault) s g p n = no_document bytes d fault p.1 s.spelled
+graph_apart one bytes d named (Rule fault) s g p n =
+    let e : d ≡ p.1.0 = one bytes d p.1.0 s.spelled p.1.1 in
+    let both : Ok named ≡ Err fault = sym g ∙ ap graph_of_document e ∙ p.1.2 in cc
+
+-- refusals of a graph file are alike: the same, but for the place of a fault in GML
+abbrev AlikeGraph : GraphRefusal → GraphRefusal → Type 0
+AlikeGraph (File a) (File b) = a ≡ b
+AlikeGraph (File a) (Gml b) = ⊥
+AlikeGraph (File a) (Rule b) = ⊥
+AlikeGraph (Gml a) (File b) = ⊥
+AlikeGraph (Gml a) (Gml b) = ⊤
+AlikeGraph (Gml a) (Rule b) = ⊥
+AlikeGraph (Rule a) (File b) = ⊥
+AlikeGraph (Rule a) (Gml b) = ⊥
+AlikeGraph (Rule a) (Rule b) = a ≡ b
+
+graph_alike : OneDocument → (bytes : List ℕ) (r q : GraphRefusal) → IsGraphReason bytes r → IsGraphReason bytes q → graph_status r ≢ ReadFault → graph_status q ≢ ReadFault → AlikeGraph r q
+graph_alike one bytes (File Failed) q p o n m = absurd (n refl)
+graph_alike one bytes r (File Failed) p o n m = absurd (m refl)
+graph_alike one bytes (File Long) (File Long) p o n m = refl
+graph_alike one bytes (File Long) (Gml fault) p o n m = absurd (omega (arith, p, o.0))
+graph_alike one bytes (File Long) (Rule fault) p o n m = absurd (omega (arith, p, o.0))
+graph_alike one bytes (Gml fault) (File Long) p o n m = absurd (omega (arith, o, p.0))
+graph_alike one bytes (Gml fault) (Gml other) p o n m = tt
+graph_alike one bytes (Gml fault) (Rule other) p o n m = absurd (no_document bytes o.1.0 fault p.1 o.1.1)
+graph_alike one bytes (Rule fault) (File Long) p o n m = absurd (omega (arith, o, p.0))
+graph_alike one bytes (Rule fault) (Gml other) p o n m = absurd (no_document bytes p.1.0 other o.1 p.1.1)
+graph_alike one bytes (Rule fault) (Rule other) p o n m =
+    let e : p.1.0 ≡ o.1.0 = one bytes p.1.0 o.1.0 p.1.1 o.1.1 in
+    let both : Err fault ≡ Err other = sym p.1.2 ∙ ap graph_of_document e ∙ o.1.2 in cc
 
 -- a script file is not accepted and refused
 script_apart : (bytes : List ℕ) (commands : List Command) (r : ScriptRefusal) → SayCommands bytes commands → IsScriptReason bytes r → script_status r ≢ ReadFault → ⊥
@@ -62,63 +87,136 @@ script_apart bytes commands (Script Failed) s p n = n refl
 script_apart bytes commands (Script Long) s p n = absurd (omega (arith, s.within, p))
 script_apart bytes commands (Line line) s p n = apart bytes commands line s.spelled p.1
 
--- two refusals of a script file have one status
-script_agree : (bytes : List ℕ) (r q : ScriptRefusal) → IsScriptReason bytes r → IsScriptReason bytes q → script_status r ≢ ReadFault → script_status q ≢ ReadFault → script_status r ≡ script_status q
-script_agree bytes (Script Failed) q p o n m = absurd (n refl)
-script_agree bytes r (Script Failed) p o n m = absurd (m refl)
-script_agree bytes (Script Long) (Script Long) p o n m = refl
-script_agree bytes (Script Long) (Line line) p o n m = absurd (omega (arith, p, o.0))
-script_agree bytes (Line line) (Script Long) p o n m = absurd (omega (arith, o, p.0))
-script_agree bytes (Line line) (Line other) p o n m = refl
+-- refusals of a script file are the same
+script_same : (bytes : List ℕ) (r q : ScriptRefusal) → IsScriptReason bytes r → IsScriptReason bytes q → script_status r ≢ ReadFault → script_status q ≢ ReadFault → r ≡ q
+script_same bytes (Script Failed) q p o n m = absurd (n refl)
+script_same bytes r (Script Failed) p o n m = absurd (m refl)
+script_same bytes (Script Long) (Script Long) p o n m = refl
+script_same bytes (Script Long) (Line line) p o n m = absurd (omega (arith, p, o.0))
+script_same bytes (Line line) (Script Long) p o n m = absurd (omega (arith, o, p.0))
+script_same bytes (Line line) (Line other) p o n m = ap (λ (l : ℕ). Line l) (one_bad_line bytes line other p.1 o.1)
 
--- the names are the same
-one_form : (words : List (List ℕ)) (a b : Names) → form_of words ≡ Some a → form_of words ≡ Some b → a ≡ b
-one_form words a b p q = let e : Some a ≡ Some b = sym p ∙ q in cc
+-- works are the same but for the trees
+abbrev pub SameWork : Work → Work → Type 0
+SameWork a b = (a.setting.document ≡ b.setting.document) × (a.setting.named ≡ b.setting.named) × (a.setting.structure ≡ b.setting.structure) × (a.commands ≡ b.commands)
 
-pub one_status : OneDocument → (words : List (List ℕ)) (files : Files) (a b : Decision) → IsDue words files a → IsDue words files b → status_of a ≢ ReadFault → status_of b ≢ ReadFault → status_of a ≡ status_of b
-one_status one words files (Ok w) (Ok v) p q n m = refl
-one_status one words files (Err NoForm) (Err NoForm) p q n m = refl
-one_status one words files (Ok w) (Err NoForm) p q n m = let e : Some p.0 ≡ None = sym p.1 ∙ q in cc
-one_status one words files (Err NoForm) (Ok v) p q n m = let e : Some q.0 ≡ None = sym q.1 ∙ p in cc
-one_status one words files (Err NoForm) (Err (OfGraph r)) p q n m = let e : Some q.0 ≡ None = sym q.1 ∙ p in cc
-one_status one words files (Err NoForm) (Err (OfScript r)) p q n m = let e : Some q.0 ≡ None = sym q.1 ∙ p in cc
-one_status one words files (Err (OfGraph r)) (Err NoForm) p q n m = let e : Some p.0 ≡ None = sym p.1 ∙ q in cc
-one_status one words files (Err (OfScript r)) (Err NoForm) p q n m = let e : Some p.0 ≡ None = sym p.1 ∙ q in cc
-one_status one words files (Ok w) (Err (OfGraph r)) p q n m =
-    absurd (graph_apart one _ _ _ r (subst (λ (x : Names). SayGraph (contents files x.graph) w.document w.named) (one_form words p.0 q.0 p.1 q.1) p.2.graph) q.2 m)
-one_status one words files (Err (OfGraph r)) (Ok v) p q n m =
-    absurd (graph_apart one _ _ _ r (subst (λ (x : Names). SayGraph (contents files x.graph) v.document v.named) (one_form words q.0 p.0 q.1 p.1) q.2.graph) p.2 n)
-one_status one words files (Ok w) (Err (OfScript r)) p q n m =
-    absurd (script_apart _ _ r (subst (λ (x : Names). SayCommands (contents files x.script) w.commands) (one_form words p.0 q.0 p.1 q.1) p.2.script) q.3 m)
-one_status one words files (Err (OfScript r)) (Ok v) p q n m =
-    absurd (script_apart _ _ r (subst (λ (x : Names). SayCommands (contents files x.script) v.commands) (one_form words q.0 p.0 q.1 p.1) q.2.script) p.3 n)
-one_status one words files (Err (OfGraph r)) (Err (OfGraph s)) p q n m =
-    graph_agree _ r s (subst (λ (x : Names). IsGraphReason (contents files x.graph) r) (one_form words p.0 q.0 p.1 q.1) p.2) q.2 n m
-one_status one words files (Err (OfGraph r)) (Err (OfScript s)) p q n m =
-    absurd (graph_apart one _ _ _ r (subst (λ (x : Names). SayGraph (contents files x.graph) q.2.document q.2.named) (one_form words q.0 p.0 q.1 p.1) q.2.says) p.2 n)
-one_status one words files (Err (OfScript r)) (Err (OfGraph s)) p q n m =
-    absurd (graph_apart one _ _ _ s (subst (λ (x : Names). SayGraph (contents files x.graph) p.2.document p.2.named) (one_form words p.0 q.0 p.1 q.1) p.2.says) q.2 m)
-one_status one words files (Err (OfScript r)) (Err (OfScript s)) p q n m =
-    script_agree _ r s (subst (λ (x : Names). IsScriptReason (contents files x.script) r) (one_form words p.0 q.0 p.1 q.1) p.3) q.3 n m
+same_work : OneDocument → (sources : Sources) (a b : Work) → IsWork sources a → IsWork sources b → SameWork a b
+same_work one sources a b p q =
+    let document : a.setting.document ≡ b.setting.document = one sources.graph a.setting.document b.setting.document p.graph.spelled q.graph.spelled in
+    let both : Ok a.setting.named ≡ Ok b.setting.named = sym p.setting.graph ∙ (ap graph_of_document document ∙ q.setting.graph) in
+    let named : a.setting.named ≡ b.setting.named = cc in
+    let structure : a.setting.structure ≡ b.setting.structure =
+    one-structure b.setting.named.graph a.setting.structure b.setting.structure (subst (λ (x : NamedGraph). IsBlockStructure x.graph a.setting.structure) named p.setting.structure) q.setting.structure in
+    (document, named, structure, one_reading sources.script a.commands b.commands p.script.spelled q.script.spelled)
+
+-- decisions are alike
+abbrev Alike : Decision → Decision → Type 0
+Alike (Ok a) (Ok b) = SameWork a b
+Alike (Ok a) (Err r) = ⊥
+Alike (Err r) (Ok b) = ⊥
+Alike (Err NoForm) (Err NoForm) = ⊤
+Alike (Err NoForm) (Err (OfGraph q)) = ⊥
+Alike (Err NoForm) (Err (OfScript q)) = ⊥
+Alike (Err (OfGraph r)) (Err NoForm) = ⊥
+Alike (Err (OfGraph r)) (Err (OfGraph q)) = AlikeGraph r q
+Alike (Err (OfGraph r)) (Err (OfScript q)) = ⊥
+Alike (Err (OfScript r)) (Err NoForm) = ⊥
+Alike (Err (OfScript r)) (Err (OfGraph q)) = ⊥
+Alike (Err (OfScript r)) (Err (OfScript q)) = r ≡ q
+
+-- what is due is alike
+due_alike : OneDocument → (words : List (List ℕ)) (sources : Sources) (a b : Decision) → IsDue words sources a → IsDue words sources b → status_of a ≢ ReadFault → status_of b ≢ ReadFault → Alike a b
+due_alike one words sources (Ok a) (Ok b) p q n m = same_work one sources a b p.1 q.1
+due_alike one words sources (Ok a) (Err NoForm) p q n m = no_form (form_of words) p.0 q
+due_alike one words sources (Ok a) (Err (OfGraph r)) p q n m = graph_apart one sources.graph a.setting.document a.setting.named r p.1.graph p.1.setting.graph q.1 m
+due_alike one words sources (Ok a) (Err (OfScript r)) p q n m = script_apart sources.script a.commands r p.1.script q.2 m
+due_alike one words sources (Err NoForm) (Ok b) p q n m = no_form (form_of words) q.0 p
+due_alike one words sources (Err NoForm) (Err NoForm) p q n m = tt
+due_alike one words sources (Err NoForm) (Err (OfGraph r)) p q n m = no_form (form_of words) q.0 p
+due_alike one words sources (Err NoForm) (Err (OfScript r)) p q n m = no_form (form_of words) q.0 p
+due_alike one words sources (Err (OfGraph r)) (Ok b) p q n m = graph_apart one sources.graph b.setting.document b.setting.named r q.1.graph q.1.setting.graph p.1 n
+due_alike one words sources (Err (OfGraph r)) (Err NoForm) p q n m = no_form (form_of words) p.0 q
+due_alike one words sources (Err (OfGraph r)) (Err (OfGraph s)) p q n m = graph_alike one sources.graph r s p.1 q.1 n m
+due_alike one words sources (Err (OfGraph r)) (Err (OfScript s)) p q n m = graph_apart one sources.graph q.1.document q.1.named r q.1.says q.1.graph p.1 n
+due_alike one words sources (Err (OfScript r)) (Ok b) p q n m = script_apart sources.script b.commands r q.1.script p.2 n
+due_alike one words sources (Err (OfScript r)) (Err NoForm) p q n m = no_form (form_of words) p.0 q
+due_alike one words sources (Err (OfScript r)) (Err (OfGraph s)) p q n m = graph_apart one sources.graph p.1.document p.1.named s p.1.says p.1.graph q.1 m
+due_alike one words sources (Err (OfScript r)) (Err (OfScript s)) p q n m = script_same sources.script r s p.2 q.2 n m
+
+-- ---- one status
+
+graph_status_alike : (r q : GraphRefusal) → AlikeGraph r q → graph_status r ≡ graph_status q
+graph_status_alike (File a) (File b) e = ap file_status e
+graph_status_alike (File a) (Gml b) e = absurd e
+graph_status_alike (File a) (Rule b) e = absurd e
+graph_status_alike (Gml a) (File b) e = absurd e
+graph_status_alike (Gml a) (Gml b) e = refl
+graph_status_alike (Gml a) (Rule b) e = absurd e
+graph_status_alike (Rule a) (File b) e = absurd e
+graph_status_alike (Rule a) (Gml b) e = absurd e
+graph_status_alike (Rule a) (Rule b) e = refl
+
+status_alike : (a b : Decision) → Alike a b → status_of a ≡ status_of b
+status_alike (Ok a) (Ok b) e = refl
+status_alike (Ok a) (Err r) e = absurd e
+status_alike (Err r) (Ok b) e = absurd e
+status_alike (Err NoForm) (Err NoForm) e = refl
+status_alike (Err NoForm) (Err (OfGraph q)) e = absurd e
+status_alike (Err NoForm) (Err (OfScript q)) e = absurd e
+status_alike (Err (OfGraph r)) (Err NoForm) e = absurd e
+status_alike (Err (OfGraph r)) (Err (OfGraph q)) e = graph_status_alike r q e
+status_alike (Err (OfGraph r)) (Err (OfScript q)) e = absurd e
+status_alike (Err (OfScript r)) (Err NoForm) e = absurd e
+status_alike (Err (OfScript r)) (Err (OfGraph q)) e = absurd e
+status_alike (Err (OfScript r)) (Err (OfScript q)) e = ap script_status e
+
+pub one_status : OneDocument → (words : List (List ℕ)) (sources : Sources) (a b : Decision) → IsDue words sources a → IsDue words sources b → status_of a ≢ ReadFault → status_of b ≢ ReadFault → status_of a ≡ status_of b
+one_status one words sources a b p q n m = status_alike a b (due_alike one words sources a b p q n m)
+
+-- ---- one text
+
+-- with the place of a fault in GML, refusals that are alike are the same
+graph_same : (r q : GraphRefusal) → AlikeGraph r q → AgreeOnOpen (Err (OfGraph r)) (Err (OfGraph q)) → r ≡ q
+graph_same (File a) (File b) e o = ap (λ (f : FileFault). File f) e
+graph_same (File a) (Gml b) e o = absurd e
+graph_same (File a) (Rule b) e o = absurd e
+graph_same (Gml a) (File b) e o = absurd e
+graph_same (Gml a) (Gml b) e o = ap (λ (f : GmlFault). Gml f) o
+graph_same (Gml a) (Rule b) e o = absurd e
+graph_same (Rule a) (File b) e o = absurd e
+graph_same (Rule a) (Gml b) e o = absurd e
+graph_same (Rule a) (Rule b) e o = ap (λ (f : GraphFault). Rule f) e
+
+-- with the trees, works that are alike have one report
+report_alike : (a b : Work) (s t : List ℕ) → SameWork a b → a.setting.trees ≡ b.setting.trees → IsReport a.setting a.commands s → IsReport b.setting b.commands t → s ≡ t
+report_alike a b s t w trees p q =
+    let setting : a.setting ≡ b.setting = λ i. record { document = w.0 i; named = w.1 i; structure = w.2 i; trees = trees i } in
+    one-report b.setting b.commands s t (subst (λ (cs : List Command). IsReport b.setting cs s) w.3 (subst (λ (x : Setting). IsReport x a.commands s) setting p)) q
+
+text_alike : (a b : Decision) (s t : List ℕ) → Alike a b → AgreeOnOpen a b → IsTextOf a s → IsTextOf b t → s ≡ t
+text_alike (Ok a) (Ok b) s t e o p q = report_alike a b s t e o p q
+text_alike (Ok a) (Err r) s t e o p q = absurd e
+text_alike (Err r) (Ok b) s t e o p q = absurd e
+text_alike (Err NoForm) (Err NoForm) s t e o p q = p ∙ sym q
+text_alike (Err NoForm) (Err (OfGraph r)) s t e o p q = absurd e
+text_alike (Err NoForm) (Err (OfScript r)) s t e o p q = absurd e
+text_alike (Err (OfGraph r)) (Err NoForm) s t e o p q = absurd e
+text_alike (Err (OfGraph r)) (Err (OfGraph k)) s t e o p q = p ∙ ap (λ (x : GraphRefusal). refusal_text (OfGraph x)) (graph_same r k e o) ∙ sym q
+text_alike (Err (OfGraph r)) (Err (OfScript k)) s t e o p q = absurd e
+text_alike (Err (OfScript r)) (Err NoForm) s t e o p q = absurd e
+text_alike (Err (OfScript r)) (Err (OfGraph k)) s t e o p q = absurd e
+text_alike (Err (OfScript r)) (Err (OfScript k)) s t e o p q = p ∙ ap (λ (x : ScriptRefusal). refusal_text (OfScript x)) e ∙ sym q
+
+pub one_text : OneDocument → (words : List (List ℕ)) (sources : Sources) (a b : Decision) (s t : List ℕ) → IsDue words sources a → IsDue words sources b → status_of a ≢ ReadFault → status_of b ≢ ReadFault → AgreeOnOpen a b → IsTextOf a s → IsTextOf b t → s ≡ t
+one_text one words sources a b s t p q n m o = text_alike a b s t (due_alike one words sources a b p q n m) o
+
+-- ---- works and refusals
+
+pub one_work : OneDocument → (words : List (List ℕ)) (sources : Sources) (a b : Work) → IsDue words sources (Ok a) → IsDue words sources (Ok b) → SameWork a b
+one_work one words sources a b p q = same_work one sources a b p.1 q.1
 
 -- where the words and the files are accepted, no refusal is due
-pub no_refusal : OneDocument → (words : List (List ℕ)) (files : Files) (refusal : Refusal) → IsAccepted words files → IsDue words files (Err refusal) → refusal_status refusal ≢ ReadFault → ⊥
-no_refusal one words files NoForm a q n = let e : Some a.names ≡ None = sym a.form ∙ q in cc
-no_refusal one words files (OfGraph r) a q n =
-    graph_apart one _ _ _ r (subst (λ (x : Names). SayGraph (contents files x.graph) a.graph.document a.graph.named) (one_form words a.names q.0 a.form q.1) a.graph.says) q.2 n
-no_refusal one words files (OfScript r) a q n =
-    script_apart _ _ r (subst (λ (x : Names). SayCommands (contents files x.script) a.script.commands) (one_form words a.names q.0 a.form q.1) a.script.says) q.3 n
-
--- two works that are due are the same but for the trees
-pub one_work : OneDocument → (words : List (List ℕ)) (files : Files) (a b : Work) → IsDue words files (Ok a) → IsDue words files (Ok b)
-    → (a.document ≡ b.document) × (a.named ≡ b.named) × (a.structure ≡ b.structure) × (a.commands ≡ b.commands)
-one_work one words files a b p q =
-    let names : p.0 ≡ q.0 = one_form words p.0 q.0 p.1 q.1 in
-    let graph : SayGraph (contents files q.0.graph) a.document a.named = subst (λ (x : Names). SayGraph (contents files x.graph) a.document a.named) names p.2.graph in
-    let script : SayCommands (contents files q.0.script) a.commands = subst (λ (x : Names). SayCommands (contents files x.script) a.commands) names p.2.script in
-    let document : a.document ≡ b.document = one (contents files q.0.graph) a.document b.document graph.spelled q.2.graph.spelled in
-    let both : Ok a.named ≡ Ok b.named = sym graph.graph ∙ (ap graph_of_document document ∙ q.2.graph.graph) in
-    let named : a.named ≡ b.named = cc in
-    let structure : a.structure ≡ b.structure = one-structure b.named.graph a.structure b.structure (subst (λ (x : NamedGraph). IsBlockStructure x.graph a.structure) named p.2.structure) q.2.structure in
-    let commands : a.commands ≡ b.commands = one_reading (contents files q.0.script) a.commands b.commands script.spelled q.2.script.spelled in
-    (document, named, structure, commands)
+pub no_refusal : OneDocument → (words : List (List ℕ)) (sources : Sources) (refusal : Refusal) → IsSome (form_of words) → AcceptsGraph sources.graph → AcceptsScript sources.script → IsDue words sources (Err refusal) → refusal_status refusal ≢ ReadFault → ⊥
+no_refusal one words sources NoForm f g s q n = no_form (form_of words) f q
+no_refusal one words sources (OfGraph r) f g s q n = graph_apart one sources.graph g.document g.named r g.says g.graph q.1 n
+no_refusal one words sources (OfScript r) f g s q n = script_apart sources.script s.commands r s.says q.2 n

@@ -11,7 +11,7 @@ use Rattle.spqr_tree.proofs.TutteFits.{tutte-items, tutte-vertices}
 use Rattle.spqr_script.specs.Node.{IsNodeOf}
 use Rattle.spqr_script.specs.Head.{block_text}
 use Rattle.spqr_cli.specs.Trees.{BlockTree, tree_at, IsBlockTree, AreBlockTrees}
-use Rattle.spqr_cli.specs.Report.{numbered, nodes_text, tree_text}
+use Rattle.spqr_cli.specs.Head.{numbered, nodes_text, block_lines}
 use Rattle.spqr_cli.proofs.Numbered.{numbered-take}
 
 -- each number in a node of a part's tree is one of the part
@@ -48,16 +48,14 @@ pub all_trees : (g : Multigraph) (blocks : List (List ℕ)) (n : ℕ) (trees : L
 all_trees g blocks n trees f e = record { one_each = f.counted ∙ e; each = λ b l. f.each b (omega (arith, l, e)) }
 
 -- the lines of one block more, and of its tree
-pub lines-more : (g : Multigraph) (blocks : List (List ℕ)) (trees : List BlockTree) (b : ℕ) (text before line after : List ℕ) → AreBlockTrees g blocks trees → b < length blocks
-    → before ≡ text ++ numbered tree_text 0 (take b trees) → line ≡ before ++ block_text b (block_at blocks b) → after ≡ line ++ nodes_text (tree_at trees b).part (tree_at trees b).nodes → after ≡ text ++ numbered tree_text 0 (take (b + 1) trees)
-lines-more g blocks trees b text before line after are l p q r =
-    let one = numbered tree_text 0 (take b trees) in
+pub lines-more : (blocks : List (List ℕ)) (trees : List BlockTree) (b : ℕ) (text before line after : List ℕ) → b < length blocks
+    → before ≡ text ++ numbered (block_lines trees) 0 (take b blocks) → line ≡ before ++ block_text b (block_at blocks b) → after ≡ line ++ nodes_text (tree_at trees b).part (tree_at trees b).nodes → after ≡ text ++ numbered (block_lines trees) 0 (take (b + 1) blocks)
+lines-more blocks trees b text before line after within p q r =
+    let one = numbered (block_lines trees) 0 (take b blocks) in
     let two = block_text b (block_at blocks b) in
     let three = nodes_text (tree_at trees b).part (tree_at trees b).nodes in
-    let within : b < length trees = omega (arith, l, are.one_each) in
-    let more : numbered tree_text 0 (take (b + 1) trees) ≡ one ++ (two ++ three) =
-    numbered-take tree_text trees b (tree_at trees b) within (get_or_default trees b (tree_at trees b) (record { part = record { graph = record { vertex_count = 0; ends = [] }; vertices = []; edges = [] }; nodes = [] }) within)
-    ∙ ap (λ (edges : List ℕ). one ++ (block_text b edges ++ three)) (are.each b l).part.edges_are in
+    let more : numbered (block_lines trees) 0 (take (b + 1) blocks) ≡ one ++ (two ++ three) =
+    numbered-take (block_lines trees) blocks b (block_at blocks b) within (get_or_default blocks b (block_at blocks b) [] within) in
     r ∙ ap (λ (t : List ℕ). t ++ three) (q ∙ ap (λ (t : List ℕ). t ++ two) p ∙ append_assoc text one two) ∙ append_assoc text (one ++ two) three
     ∙ ap (λ (t : List ℕ). text ++ t) (append_assoc one two three ∙ sym more)
 

@@ -6,7 +6,7 @@ use Rattle.std.proofs.lemmas.List.{map-append}
 use Rattle.std.proofs.lemmas.List.Folds.{concat-append}
 use Rattle.multigraph.specs.Graph.{numbers_below}
 use Rattle.multigraph.proofs.Below.{numbers_below-more}
-use Rattle.spqr_cli.specs.Report.{numbered}
+use Rattle.spqr_cli.specs.Head.{numbered}
 
 module _ {X : Type 0} (line : ℕ → X → List ℕ) where
   -- one thing more

@@ -1,6 +1,5 @@
--- What a run decides before it writes: the work to be done, or why it is refused; and what is due for the words and the files.
-use Rattle.std.specs.Prelude.{◌≡◌, ◌≢◌, ℕ, ◌≤◌, List, length, None, Some, Result, Ok, Err, ⊤}
-use Rattle.blocks.specs.Blocks.{BlockStructure, IsBlockStructure}
+-- What a run decides before it writes: the work to be done, or why it is refused; and what is due for the words and the bytes.
+use Rattle.std.specs.Prelude.{◌≡◌, ◌≢◌, ℕ, ◌≤◌, List, length, Option, None, Some, Result, Ok, Err, IfSome, IsSome, ⊤}
 use Rattle.gml_text.specs.Document.{Document}
 use Rattle.gml_text.specs.Grammar.{Spells}
 use Rattle.gml_text.specs.Faults.{IsFault as IsGmlFault}
@@ -12,9 +11,9 @@ use Rattle.gml_graph.specs.declared.fault.GraphFault.TheVariants.{Memory as Grap
 use Rattle.spqr_script.specs.Script.{Commands, IsFirstBadLine}
 use Rattle.spqr_script.specs.declared.command.Command.{Command}
 use Rattle.spqr_edge.specs.Device.{Files, contents}
-use Rattle.spqr_cli.specs.Trees.{BlockTree, AreBlockTrees}
+use Rattle.spqr_cli.specs.Setting.{Setting, IsSetting}
 use Rattle.spqr_cli.specs.Words.{Names, form_of}
-use Rattle.spqr_cli.specs.Reading.{IsTooLong}
+use Rattle.spqr_cli.specs.Reading.{IsFileReason, SomeBytes, told_file}
 use Rattle.spqr_cli.specs.declared.refusal.Refusal.{Refusal}
 use Rattle.spqr_cli.specs.declared.refusal.Refusal.TheVariants.{Usage, OfGraph, OfScript}
 use Rattle.spqr_cli.specs.declared.refusal.GraphRefusal.{GraphRefusal}
@@ -29,30 +28,38 @@ graph_limit = 16777216
 abbrev pub script_limit : ℕ
 script_limit = 1048576
 
--- what the two files say: the document, its graph with the blocks and their trees, and the commands
+-- the bytes of the graph file and of the script file
+pub record Sources : Type 0 where
+  pub graph : List ℕ
+  pub script : List ℕ
+
+-- where the shelf tells its files and the words name two, these are their bytes
+abbrev pub AreContents : List (List ℕ) → Option Files → Sources → Type 0
+AreContents words told sources =
+    IfSome told (λ files. IfSome (form_of words) (λ names.
+    (sources.graph ≡ contents files names.graph) × (sources.script ≡ contents files names.script)))
+
+-- what is to be done: the setting, and the commands
 pub record Work : Type 0 where
-  pub document : Document
-  pub named : NamedGraph
-  pub structure : BlockStructure
-  pub trees : List BlockTree
+  pub setting : Setting
   pub commands : List Command
 
--- the bytes of a graph file: within the limit, they spell a document, which has a graph
-pub record SayGraph (bytes : List ℕ) (d : Document) (named : NamedGraph) : Type 0 where
+-- the bytes of a graph file: within the limit, they spell the document
+pub record SayDocument (bytes : List ℕ) (d : Document) : Type 0 where
   pub within : length bytes ≤ graph_limit
   pub spelled : Spells bytes d
-  pub graph : graph_of_document d ≡ Ok named
 
--- the bytes of a script file: within the limit, they spell commands
+-- the bytes of a script file: within the limit, they spell the commands
 pub record SayCommands (bytes : List ℕ) (commands : List Command) : Type 0 where
   pub within : length bytes ≤ script_limit
   pub spelled : Commands bytes commands
 
--- the graph file is accepted
+-- the graph file is accepted: it says a document that has a graph
 pub record AcceptsGraph (bytes : List ℕ) : Type 0 where
   pub document : Document
   pub named : NamedGraph
-  pub says : SayGraph bytes document named
+  pub says : SayDocument bytes document
+  pub graph : graph_of_document document ≡ Ok named
 
 -- the script file is accepted
 pub record AcceptsScript (bytes : List ℕ) : Type 0 where
@@ -66,13 +73,11 @@ pub record IsAccepted (words : List (List ℕ)) (files : Files) : Type 0 where
   pub graph : AcceptsGraph (contents files names.graph)
   pub script : AcceptsScript (contents files names.script)
 
--- the work is what the two files of these names say, with the blocks, cut vertices and components of the graph, and the
--- tree of each block
-pub record IsWork (files : Files) (names : Names) (work : Work) : Type 0 where
-  pub graph : SayGraph (contents files names.graph) work.document work.named
-  pub structure : IsBlockStructure work.named.graph work.structure
-  pub trees : AreBlockTrees work.named.graph work.structure.blocks work.trees
-  pub script : SayCommands (contents files names.script) work.commands
+-- the work is what both files say: a setting on the document, and the commands
+pub record IsWork (sources : Sources) (work : Work) : Type 0 where
+  pub graph : SayDocument sources.graph work.setting.document
+  pub setting : IsSetting work.setting
+  pub script : SayCommands sources.script work.commands
 
 -- why bytes are no document; want of memory is no reason
 abbrev pub IsGmlReason : List ℕ → GmlFault → Type 0
@@ -80,30 +85,40 @@ IsGmlReason bytes (Bad at) = IsGmlFault (Bad at) bytes
 IsGmlReason bytes (End at) = IsGmlFault (End at) bytes
 IsGmlReason bytes GmlMemory = ⊥
 
--- why the bytes of the graph file are refused. A call that failed may be met whatever the bytes are
+-- why the bytes of the graph file are refused.
 abbrev pub IsGraphReason : List ℕ → GraphRefusal → Type 0
-IsGraphReason bytes (File fault) = IsTooLong graph_limit (Some bytes) fault
+IsGraphReason bytes (File fault) = IsFileReason graph_limit bytes fault
 IsGraphReason bytes (Gml fault) = (length bytes ≤ graph_limit) × IsGmlReason bytes fault
 IsGraphReason bytes (Rule fault) = (length bytes ≤ graph_limit) × ((d : Document) × Spells bytes d × (graph_of_document d ≡ Err fault))
 
 -- why the bytes of the script file are refused
 abbrev pub IsScriptReason : List ℕ → ScriptRefusal → Type 0
-IsScriptReason bytes (Script fault) = IsTooLong script_limit (Some bytes) fault
+IsScriptReason bytes (Script fault) = IsFileReason script_limit bytes fault
 IsScriptReason bytes (Line line) = (length bytes ≤ script_limit) × IsFirstBadLine bytes line
+
+-- a graph file says a document, and a script file commands; or it is refused: by some bytes, its own where the files are told
+abbrev pub GraphFileSays : Option Files → List ℕ → Document → Type 0
+GraphFileSays told name d = SomeBytes (told_file told name) (λ bytes. SayDocument bytes d)
+
+abbrev pub GraphFileRefused : Option Files → List ℕ → GraphRefusal → Type 0
+GraphFileRefused told name refusal = SomeBytes (told_file told name) (λ bytes. IsGraphReason bytes refusal)
+
+abbrev pub ScriptFileSays : Option Files → List ℕ → List Command → Type 0
+ScriptFileSays told name commands = SomeBytes (told_file told name) (λ bytes. SayCommands bytes commands)
+
+abbrev pub ScriptFileRefused : Option Files → List ℕ → ScriptRefusal → Type 0
+ScriptFileRefused told name refusal = SomeBytes (told_file told name) (λ bytes. IsScriptReason bytes refusal)
 
 -- a decision: the work to be done, or a refusal
 abbrev pub Decision : Type 0
 Decision = Result Work Refusal
 
--- a decision that is due for the words, by the bytes of the files. The script is refused only where the graph is accepted
-abbrev pub IsDue : List (List ℕ) → Files → Decision → Type 0
-IsDue words files (Ok work) = (names : Names) × (form_of words ≡ Some names) × IsWork files names work
-IsDue words files (Err Usage) = form_of words ≡ None
-IsDue words files (Err (OfGraph refusal)) =
-    (names : Names) × (form_of words ≡ Some names) × IsGraphReason (contents files names.graph) refusal
-IsDue words files (Err (OfScript refusal)) =
-    (names : Names) × (form_of words ≡ Some names) × AcceptsGraph (contents files names.graph)
-    × IsScriptReason (contents files names.script) refusal
+-- a decision that is due for the words, by the bytes. The script is refused only where the graph is accepted
+abbrev pub IsDue : List (List ℕ) → Sources → Decision → Type 0
+IsDue words sources (Ok work) = IsSome (form_of words) × IsWork sources work
+IsDue words sources (Err Usage) = form_of words ≡ None
+IsDue words sources (Err (OfGraph refusal)) = IsSome (form_of words) × IsGraphReason sources.graph refusal
+IsDue words sources (Err (OfScript refusal)) = IsSome (form_of words) × AcceptsGraph sources.graph × IsScriptReason sources.script refusal
 
 -- a refusal has a line: want of memory is none
 abbrev pub HasLine : GraphRefusal → Type 0

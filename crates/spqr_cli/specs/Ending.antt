@@ -1,14 +1,14 @@
 -- The text and the status of a decision.
-use Rattle.std.specs.Prelude.{ℕ, ◌≤◌, zero, suc, List, Option, None, Some, Result, Ok, Err, IfSome, IsSome, ⊤, ◌≡◌, ◌≢◌}
+use Rattle.std.specs.Prelude.{ℕ, ◌≤◌, zero, suc, List, Option, Some, Result, Ok, Err, IfSome, ⊤, ◌≡◌}
 use Rattle.spqr_script.specs.Refusal.{read_text, long_text, gml_text, rule_text, script_text, usage_text}
 use Rattle.spqr_script.specs.declared.refusals.Which.{Which}
 use Rattle.spqr_script.specs.declared.refusals.Which.TheVariants.{GraphFile, ScriptFile}
-use Rattle.spqr_edge.specs.Device.{Files, counted, Rose}
+use Rattle.spqr_edge.specs.Device.{counted, Rose}
 use Rattle.spqr_cli.specs.declared.halt.Halt.{Halt}
 use Rattle.spqr_cli.specs.declared.halt.Halt.TheVariants.{Refused, Memory as OutOfMemory}
-use Rattle.spqr_cli.specs.Report.{report_text}
-use Rattle.spqr_cli.specs.Decision.{Work, Decision, IsAccepted, IsDue, DecisionHasLine}
-use Rattle.spqr_cli.specs.Words.{form_of}
+use Rattle.spqr_cli.specs.Report.{IsReport}
+use Rattle.spqr_cli.specs.Seen.{ShelfSeen}
+use Rattle.spqr_cli.specs.Decision.{Sources, AreContents, Work, Decision, IsDue, DecisionHasLine}
 use Rattle.spqr_cli.specs.declared.reading.FileFault.{FileFault}
 use Rattle.spqr_cli.specs.declared.reading.FileFault.TheVariants.{Failed, Long}
 use Rattle.spqr_cli.specs.declared.refusal.Refusal.{Refusal}
@@ -35,10 +35,10 @@ refusal_text (OfGraph (Rule fault)) = rule_text fault
 refusal_text (OfScript (Script fault)) = file_text ScriptFile fault
 refusal_text (OfScript (Line line)) = script_text line
 
--- the text of a decision: the report, or the line of the refusal
-abbrev pub text_of : Decision → List ℕ
-text_of (Ok work) = report_text work.document work.named work.structure work.trees work.commands
-text_of (Err refusal) = refusal_text refusal
+-- a text of a decision: a report, or the line of the refusal
+abbrev pub IsTextOf : Decision → List ℕ → Type 0
+IsTextOf (Ok work) text = IsReport work.setting work.commands text
+IsTextOf (Err refusal) text = text ≡ refusal_text refusal
 
 -- the status for a file that was not read
 abbrev pub file_status : FileFault → Status
@@ -85,25 +85,6 @@ CountsFaults status before now (Ok _) = now ≡ before
 CountsFaults status before now (Err (Refused refusal)) = CountsFor (status refusal) before now
 CountsFaults status before now (Err OutOfMemory) = now ≡ before
 
--- decisions that are due for the same words and files have one status, a read that failed aside
-abbrev pub OneStatus : Type 0
-OneStatus =
-    (words : List (List ℕ)) (files : Files) (a b : Decision) → IsDue words files a → IsDue words files b
-    → status_of a ≢ ReadFault → status_of b ≢ ReadFault → status_of a ≡ status_of b
-
--- works that are due for the same words and files are the same but for the trees, so one report is due but for the lines of
--- the nodes
-abbrev pub OneWork : Type 0
-OneWork =
-    (words : List (List ℕ)) (files : Files) (a b : Work) → IsDue words files (Ok a) → IsDue words files (Ok b)
-    → (a.document ≡ b.document) × (a.named ≡ b.named) × (a.structure ≡ b.structure) × (a.commands ≡ b.commands)
-
--- where the words and both files are accepted, no refusal is due, a read that failed aside
-abbrev pub NoRefusal : Type 0
-NoRefusal =
-    (words : List (List ℕ)) (files : Files) (refusal : Refusal) → IsAccepted words files → IsDue words files (Err refusal)
-    → refusal_status refusal ≢ ReadFault → ⊥
-
 -- so many calls more
 abbrev pub counted_times : ℕ → ℕ → ℕ
 counted_times zero n = n
@@ -113,26 +94,21 @@ counted_times (suc k) n = counted (counted_times k n)
 abbrev pub CountsOpens : Option ℕ → Option ℕ → Decision → Type 0
 CountsOpens before now decision = IfSome before (λ n. now ≡ Some (counted_times (opens_of decision) n))
 
--- a decision fits the words: they are no form exactly where it says so
-abbrev pub FitsForm : List (List ℕ) → Decision → Type 0
-FitsForm words (Ok work) = IsSome (form_of words)
-FitsForm words (Err NoForm) = form_of words ≡ None
-FitsForm words (Err (OfGraph refusal)) = IsSome (form_of words)
-FitsForm words (Err (OfScript refusal)) = IsSome (form_of words)
-
--- a decision was made on these words: it has a text, it is due by the files, where they are told, so many files were opened, and
--- a call of the shelf failed where the decision says so, and none else
-pub record IsDecided (words : List (List ℕ)) (told : Option Files) (opens_before opens_after : Option ℕ) (faults_before faults_after : ℕ) (decision : Decision) : Type 0 where
-  pub form : FitsForm words decision
+-- a decision was made on these words: it has a text; it is due by some bytes, which are those of the files, where these are
+-- told; so many files were opened; and a call of the shelf failed where the decision says so, and none else
+pub record IsDecided (words : List (List ℕ)) (before after : ShelfSeen) (decision : Decision) : Type 0 where
+  pub sources : Sources
+  pub contents : AreContents words before.files sources
+  pub due : IsDue words sources decision
   pub line : DecisionHasLine decision
-  pub due : IfSome told (λ files. IsDue words files decision)
-  pub opens : CountsOpens opens_before opens_after decision
-  pub reads : CountsFor (status_of decision) faults_before faults_after
+  pub opens : CountsOpens before.opens after.opens decision
+  pub reads : CountsFor (status_of decision) before.faults after.faults
 
 -- the decision that a call answers, where memory suffices: the work on what was accepted, or the refusal
 abbrev pub work_of : Accepted → Work
-work_of accepted = record { document = accepted.session.doc; named = accepted.session.named; structure = accepted.session.blocks; trees = accepted.session.trees.items; commands = accepted.commands.items }
+work_of accepted = record { setting = accepted.session.setting; commands = accepted.commands.items }
 
+-- a fact on the decision that a call answers; of want of memory nothing is said
 abbrev pub OnDecision : Result Accepted (Halt Refusal) → (Decision → Type 0) → Type 0
 OnDecision (Ok accepted) P = P (Ok (work_of accepted))
 OnDecision (Err (Refused refusal)) P = P (Err refusal)

@@ -1,29 +1,19 @@
 -- How a run may end: what was written, and which counts rose.
-use Rattle.std.specs.Prelude.{◌≡◌, ℕ, ◌≤◌, ◌⊎◌, ⊤, List, Option, None, IsSome, Ok, Err, Result, take}
-use Rattle.std.specs.List.{concat}
+use Rattle.std.specs.Prelude.{◌≡◌, ℕ, ◌<◌, ◌≤◌, ◌⊎◌, ⊤, List, Option, None, IfSome, IsSome, Ok, Err, Result, take}
 use Rattle.std.specs.Io.KnownBytes.{Appends, Keeps}
-use Rattle.spqr_edge.specs.Device.{Files, Rose}
+use Rattle.spqr_edge.specs.Device.{counted, Rose}
 use Rattle.spqr_edge.specs.declared.Failed.{Failed}
 use Rattle.spqr_cli.specs.Words.{form_of}
 use Rattle.spqr_cli.specs.Front.{AppendsFront}
-use Rattle.spqr_cli.specs.Report.{report_texts, report_text}
-use Rattle.spqr_cli.specs.Decision.{Work, Decision, IsDue}
-use Rattle.spqr_cli.specs.Ending.{refusal_text, refusal_status, text_of, status_of, IsDecided}
+use Rattle.spqr_cli.specs.Writing.{AppendsReport}
+use Rattle.spqr_cli.specs.Decision.{Sources, AreContents, Work, Decision, IsAccepted, IsDue}
+use Rattle.spqr_cli.specs.Ending.{refusal_text, refusal_status, IsTextOf, status_of, CountsFor, IsDecided}
+use Rattle.spqr_cli.specs.Seen.{Seen}
 use Rattle.spqr_cli.specs.declared.refusal.Refusal.{Refusal}
 use Rattle.spqr_cli.specs.declared.halt.Halt.{Halt}
 use Rattle.spqr_cli.specs.declared.halt.Halt.TheVariants.{Refused, Memory as OutOfMemory}
 use Rattle.spqr_cli.specs.declared.status.Status.{Status}
-use Rattle.spqr_cli.specs.declared.status.Status.TheVariants.{Done, Usage, ReadFault, WriteFault, Memory}
-
--- the texts of a report, in order
-abbrev pub texts_of : Work → List (List ℕ)
-texts_of work = report_texts work.document work.named work.structure work.trees work.commands
-
--- texts were written one after another: all of them; a front, where a put failed; the first of them, where memory ran out
-abbrev pub WritesTexts : {T : Type 0} → Option (List ℕ) → Option (List ℕ) → List (List ℕ) → Result T (Halt Failed) → Type 0
-WritesTexts before now texts (Ok _) = Appends before now (concat texts)
-WritesTexts before now texts (Err (Refused _)) = AppendsFront before now (concat texts)
-WritesTexts before now texts (Err OutOfMemory) = (k : ℕ) × Appends before now (concat (take k texts))
+use Rattle.spqr_cli.specs.declared.status.Status.TheVariants.{Done, Usage, WriteFault, Memory}
 
 -- the count of the sink's faults by what a call answers: it rose where a put failed
 abbrev pub CountsPut : {T : Type 0} → ℕ → ℕ → Result T (Halt Failed) → Type 0
@@ -37,38 +27,44 @@ RefusesWith refusal before now WriteFault = AppendsFront before now (refusal_tex
 RefusesWith refusal before now Memory = Keeps before now
 RefusesWith refusal before now status = (status ≡ refusal_status refusal) × Appends before now (refusal_text refusal)
 
--- one decision was made, its text was written and nothing else, and its status is given
-pub record Finishes (words : List (List ℕ)) (told : Option Files) (opens_before opens_after : Option ℕ) (faults_before faults_after : ℕ) (before now : Option (List ℕ)) (status : Status) : Type 0 where
+-- one decision was made, a text of it was written and nothing else, and its status is given
+pub record Finishes (words : List (List ℕ)) (before after : Seen) (status : Status) : Type 0 where
   pub decision : Decision
-  pub decided : IsDecided words told opens_before opens_after faults_before faults_after decision
+  pub decided : IsDecided words before.shelf after.shelf decision
   pub status_is : status ≡ status_of decision
-  pub written : Appends before now (text_of decision)
+  pub text : List ℕ
+  pub is_text : IsTextOf decision text
+  pub written : Appends before.sink.written after.sink.written text
 
--- one decision was made, and a front of its text was written
-pub record StopsWriting (words : List (List ℕ)) (told : Option Files) (opens_before opens_after : Option ℕ) (faults_before faults_after : ℕ) (before now : Option (List ℕ)) : Type 0 where
+-- one decision was made, and a front of a text of it was written
+pub record StopsWriting (words : List (List ℕ)) (before after : Seen) : Type 0 where
   pub decision : Decision
-  pub decided : IsDecided words told opens_before opens_after faults_before faults_after decision
-  pub written : AppendsFront before now (text_of decision)
+  pub decided : IsDecided words before.shelf after.shelf decision
+  pub text : List ℕ
+  pub is_text : IsTextOf decision text
+  pub written : AppendsFront before.sink.written after.sink.written text
 
--- the work was accepted, and its first texts were written whole
-pub record RunsShort (words : List (List ℕ)) (told : Option Files) (opens_before opens_after : Option ℕ) (faults_before faults_after : ℕ) (before now : Option (List ℕ)) : Type 0 where
+-- the work was accepted, and the report on its first commands was written whole
+pub record RunsShort (words : List (List ℕ)) (before after : Seen) : Type 0 where
   pub work : Work
-  pub decided : IsDecided words told opens_before opens_after faults_before faults_after (Ok work)
+  pub decided : IsDecided words before.shelf after.shelf (Ok work)
   pub count : ℕ
-  pub written : Appends before now (concat (take count (texts_of work)))
+  pub report : AppendsReport work.setting (take count work.commands) before.sink.written after.sink.written
 
--- the end of a run by its status. After a failed put a front of the text that is due was written; for want of memory nothing,
--- or the head and the answers of the first commands
-abbrev pub Ends : List (List ℕ) → Option Files → Option ℕ → Option ℕ → ℕ → ℕ → Option (List ℕ) → Option (List ℕ) → Status → Type 0
-Ends words told opens_before opens_after faults_before faults_after before now WriteFault = StopsWriting words told opens_before opens_after faults_before faults_after before now
-Ends words told opens_before opens_after faults_before faults_after before now Memory = Keeps before now ⊎ RunsShort words told opens_before opens_after faults_before faults_after before now
-Ends words told opens_before opens_after faults_before faults_after before now status = Finishes words told opens_before opens_after faults_before faults_after before now status
+-- the end of a run by its status. After a failed put a front of a text that is due was written; for want of memory nothing,
+-- or the report on the first commands
+abbrev pub Ends : List (List ℕ) → Seen → Seen → Status → Type 0
+Ends words before after WriteFault = StopsWriting words before after
+Ends words before after Memory = Keeps before.sink.written after.sink.written ⊎ RunsShort words before after
+Ends words before after status = Finishes words before after status
 
--- the report of the whole contents of both files was written
-pub record WritesReport (words : List (List ℕ)) (files : Files) (before now : Option (List ℕ)) : Type 0 where
+-- a report was written that is due by some bytes, which are the whole contents of the files, where these are told
+pub record WritesDue (words : List (List ℕ)) (before after : Seen) : Type 0 where
+  pub sources : Sources
+  pub contents : AreContents words before.shelf.files sources
   pub work : Work
-  pub due : IsDue words files (Ok work)
-  pub written : Appends before now (report_text work.document work.named work.structure work.trees work.commands)
+  pub due : IsDue words sources (Ok work)
+  pub report : AppendsReport work.setting work.commands before.sink.written after.sink.written
 
 -- a fact for the status Done
 abbrev pub OnDone : Status → Type 0 → Type 0
@@ -82,13 +78,12 @@ FitsWords words WriteFault = ⊤
 FitsWords words Memory = ⊤
 FitsWords words status = IsSome (form_of words)
 
--- the count of the shelf's faults by the status: it rose where a file could not be read; where writing failed or memory ran out
--- it may have risen; for each other status it is as before
+-- the count of the shelf's faults by the status: where writing failed or memory ran out it may have risen; for each other status
+-- it did as a decision of this status says
 abbrev pub CountsReads : ℕ → ℕ → Status → Type 0
-CountsReads before now ReadFault = Rose before now
 CountsReads before now WriteFault = before ≤ now
 CountsReads before now Memory = before ≤ now
-CountsReads before now status = now ≡ before
+CountsReads before now status = CountsFor status before now
 
 -- the count of the sink's faults by the status: it rose where writing failed, and is as before for each other status
 abbrev pub CountsPuts : ℕ → ℕ → Status → Type 0
@@ -100,3 +95,21 @@ abbrev pub IsDoneOrMemory : Status → Type 0
 IsDoneOrMemory Done = ⊤
 IsDoneOrMemory Memory = ⊤
 IsDoneOrMemory status = ⊥
+
+-- neither count rose, and neither stands at its end
+abbrev pub NothingFailed : Seen → Seen → Type 0
+NothingFailed before after =
+    (after.shelf.faults < counted before.shelf.faults) × (after.sink.faults < counted before.sink.faults)
+
+-- a run on these words, by what is seen before it and after it
+pub record IsRun (words : List (List ℕ)) (before after : Seen) (status : Status) : Type 0 where
+  -- one decision is due and made, and a text of it is written
+  pub ends : Ends words before after status
+  -- Done says that the report of the whole contents of both files was written
+  pub done : OnDone status (WritesDue words before after)
+  -- faults of the words, of the shelf and of the sink come where they are due, whatever the devices tell
+  pub form : FitsWords words status
+  pub reads : CountsReads before.shelf.faults after.shelf.faults status
+  pub puts : CountsPuts before.sink.faults after.sink.faults status
+  -- where the words and the files are accepted and nothing failed, the run is done, or memory ran out
+  pub complete : IfSome before.shelf.files (λ files. IsAccepted words files → NothingFailed before after → IsDoneOrMemory status)

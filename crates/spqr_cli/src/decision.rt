@@ -1,11 +1,11 @@
 // What is decided before anything is written: the work to be done, or the first refusal.
-ghost use Rattle.std.specs.Prelude.{◌≡◌, ◌≤◌, IfSome, ⊤, length, map, string_bytes};
-ghost use Rattle.blocks.specs.Blocks.{IsBlockStructure};
-ghost use Rattle.spqr_edge.specs.Device.{CountsCall, contents};
+ghost use Rattle.std.specs.Prelude.{◌≡◌, ◌≤◌, ⊤, length, map, string_bytes};
+ghost use Rattle.spqr_edge.specs.Device.{CountsCall};
 ghost use Rattle.spqr_cli.specs.Outcome.{Answers};
-ghost use Rattle.spqr_cli.specs.Trees.{AreBlockTrees};
-ghost use Rattle.spqr_cli.specs.Decision.{graph_limit, SayGraph, SayCommands, IsGraphReason, IsScriptReason, HasLine};
+ghost use Rattle.spqr_cli.specs.Machine.{IsStarted};
+ghost use Rattle.spqr_cli.specs.Decision.{graph_limit, script_limit, SayDocument, SayCommands, IsGraphReason, IsScriptReason, GraphFileSays, GraphFileRefused, ScriptFileSays, ScriptFileRefused, HasLine};
 ghost use Rattle.spqr_cli.specs.Ending.{refusal_status, graph_status, script_status, CountsFaults, IsDecided, OnDecision};
+ghost use Rattle.spqr_cli.specs.Seen.{seen_shelf};
 
 use crate::halt::Halt;
 use crate::reading::read_file;
@@ -34,9 +34,9 @@ pub struct Accepted {
 // A session on what the bytes of the graph file say.
 fn session_on(alloc: Global, bytes: &[u8]) -> Result<Session, Halt<GraphRefusal>>
     requires { length bytes.now ≤ graph_limit }
-    ensures said { Answers result (λ s. SayGraph bytes.now s.doc s.named) (λ r. IsGraphReason bytes.now r × HasLine r) }
-    ensures blocks { Answers result (λ s. IsBlockStructure s.named.graph s.blocks) (λ _. ⊤) }
-    ensures trees { Answers result (λ s. AreBlockTrees s.named.graph s.blocks.blocks s.trees.items) (λ _. ⊤) }
+    ensures said { Answers result (λ s. SayDocument bytes.now s.setting.document)
+        (λ r. IsGraphReason bytes.now r × HasLine r) }
+    ensures started { Answers result IsStarted (λ _. ⊤) }
     ensures faults { CountsFaults graph_status 0 0 result }
 {
     let doc = match document_of(alloc, bytes) {
@@ -57,11 +57,11 @@ fn accept_graph<S: Shelf>(
     shelf: &mut S,
     name: &str,
 ) -> Result<Session, Halt<GraphRefusal>>
-    ensures said { IfSome (S.files shelf.old) (λ files. Answers result
-        (λ s. SayGraph (contents files name.now) s.doc s.named) (IsGraphReason (contents files name.now))) }
+    ensures said { Answers result
+        (λ s. GraphFileSays (S.files shelf.old) name.now s.setting.document)
+        (GraphFileRefused (S.files shelf.old) name.now) }
     ensures line { Answers result (λ _. ⊤) HasLine }
-    ensures blocks { Answers result (λ s. IsBlockStructure s.named.graph s.blocks) (λ _. ⊤) }
-    ensures trees { Answers result (λ s. AreBlockTrees s.named.graph s.blocks.blocks s.trees.items) (λ _. ⊤) }
+    ensures started { Answers result IsStarted (λ _. ⊤) }
     ensures files { S.files shelf.new ≡ S.files shelf.old }
     ensures opens { CountsCall (S.opens shelf.old) (S.opens shelf.new) }
     ensures faults { CountsFaults graph_status (S.faults shelf.old) (S.faults shelf.new) result }
@@ -73,24 +73,35 @@ fn accept_graph<S: Shelf>(
     }
 }
 
+// The commands that the bytes of the script file say.
+fn commands_on(alloc: Global, bytes: &[u8]) -> Result<Vec<Command>, Halt<ScriptRefusal>>
+    requires { length bytes.now ≤ script_limit }
+    ensures said { Answers result (λ commands. SayCommands bytes.now commands.items)
+        (IsScriptReason bytes.now) }
+    ensures faults { CountsFaults script_status 0 0 result }
+{
+    match commands_of(alloc, bytes) {
+        Ok(commands) => Ok(commands),
+        Err(Halt::Refused(line)) => Err(Halt::Refused(ScriptRefusal::Line(line))),
+        Err(Halt::Memory) => Err(Halt::Memory),
+    }
+}
+
 // Reads the script file, and gives its commands.
 fn accept_script<S: Shelf>(
     alloc: Global,
     shelf: &mut S,
     name: &str,
 ) -> Result<Vec<Command>, Halt<ScriptRefusal>>
-    ensures said { IfSome (S.files shelf.old) (λ files. Answers result
-        (λ commands. SayCommands (contents files name.now) commands.items) (IsScriptReason (contents files name.now))) }
+    ensures said { Answers result
+        (λ commands. ScriptFileSays (S.files shelf.old) name.now commands.items)
+        (ScriptFileRefused (S.files shelf.old) name.now) }
     ensures files { S.files shelf.new ≡ S.files shelf.old }
     ensures opens { CountsCall (S.opens shelf.old) (S.opens shelf.new) }
     ensures faults { CountsFaults script_status (S.faults shelf.old) (S.faults shelf.new) result }
 {
     match read_file(alloc, shelf, name, SCRIPT_LIMIT) {
-        Ok(bytes) => match commands_of(alloc, &bytes) {
-            Ok(commands) => Ok(commands),
-            Err(Halt::Refused(line)) => Err(Halt::Refused(ScriptRefusal::Line(line))),
-            Err(Halt::Memory) => Err(Halt::Memory),
-        },
+        Ok(bytes) => commands_on(alloc, &bytes),
         Err(Halt::Refused(fault)) => Err(Halt::Refused(ScriptRefusal::File(fault))),
         Err(Halt::Memory) => Err(Halt::Memory),
     }
@@ -103,10 +114,10 @@ pub fn decide<S: Shelf>(
     words: &[String],
     shelf: &mut S,
 ) -> Result<Accepted, Halt<Refusal>>
-    ensures decided { OnDecision result
-        (IsDecided (map string_bytes words.now) (S.files shelf.old) (S.opens shelf.old) (S.opens shelf.new)
-        (S.faults shelf.old) (S.faults shelf.new)) }
-    ensures trees { Answers result (λ a. AreBlockTrees a.session.named.graph a.session.blocks.blocks a.session.trees.items) (λ _. ⊤) }
+    ensures decided { OnDecision result (IsDecided (map string_bytes words.now)
+        (seen_shelf (S.files shelf.old) (S.opens shelf.old) (S.faults shelf.old))
+        (seen_shelf (S.files shelf.new) (S.opens shelf.new) (S.faults shelf.new))) }
+    ensures started { Answers result (λ a. IsStarted a.session) (λ _. ⊤) }
     ensures faults { CountsFaults refusal_status (S.faults shelf.old) (S.faults shelf.new) result }
 {
     let Some(form) = form_of(words) else {

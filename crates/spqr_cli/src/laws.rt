@@ -1,19 +1,29 @@
 // What the definitions of a run say of one another.
 ghost use Rattle.std.specs.Prelude.{◌≢◌};
-ghost use Rattle.spqr_cli.specs.Ending.{OneStatus, NoRefusal, OneWork};
+ghost use Rattle.spqr_cli.specs.Laws.{OneStatus, OneText, OneWork, NoRefusal, EachHasAnswer, OneAnswer, OneReport};
 ghost use Rattle.spqr_cli.specs.Run.{CountsReads, CountsPuts};
 ghost use Rattle.spqr_cli.specs.declared.status.Status.{Status};
 
-/// Decisions that are due for the same words and files have one status, a read that failed aside. So each status of a run comes
-/// exactly where it is due. Where the words and both files are accepted, no refusal is due. And works
-/// that are due are the same but for the trees.
+/// Decisions that are due for the same words and bytes have one status and one text, a read that failed aside: the text as far as
+/// the trees of the blocks and the place of a fault in GML are the same, which the definitions leave open. So each status of a run
+/// comes exactly where it is due, and each report is the one that is due but for the lines of nodes. Where the words and both
+/// files are accepted, no refusal is due. Works that are due are the same but for the trees.
 pub fn decisions()
     ensures status { OneStatus }
+    ensures text { OneText }
     ensures accepted { NoRefusal }
     ensures work { OneWork }
 {
     gml_text::laws::spelling();
 }
+
+/// Each command has an answer in each state, and one only, with one state after it; there is one report on a setting and
+/// commands.
+pub fn answers()
+    ensures each { EachHasAnswer }
+    ensures one { OneAnswer }
+    ensures report { OneReport }
+{}
 
 /// A shelf whose count of faults stays at 0 is never the reason of a read fault, and such a sink never that of a write fault.
 pub fn sure_devices()

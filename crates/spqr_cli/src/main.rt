@@ -2,26 +2,30 @@
 //
 // The graph is a multigraph without loops whose nodes have ids; the script measures rotation systems of it by Euler's sum and
 // writes the document back. The report is the head, which lists the vertices, cut vertices and blocks, and then one answer for
-// each command.
+// each command. A session is a machine: its setting is what the graph file says and stays, its state is what commands change,
+// and each command is one step, from the state before to a text and the state after; a report is the head and the texts of a
+// chain of steps from a start.
 //
 // `run` is the whole program over any shelf and sink. It decides first: the form of the words, then the graph file, then the
 // script file, each taken to its end within its limit. Then it writes the report of both files' whole contents, or the one line
-// that says why it is refused, and its status says which. Its contract promises that the decision is due for the contents, that
-// just its text is written (a front of it, where a put fails; whole first texts, where memory runs out), and that faults of the
+// that says why it is refused, and its status says which. Its contract promises that the decision is due for some bytes, which
+// are the contents wherever the shelf tells them, that just its text is written (a front of it, where a put fails; whole first texts, where memory runs out), and that faults of the
 // words, the shelf and the sink come exactly where they are due. `main` only joins `run` to the real files and the standard
 // output.
 #![tactic(auto)]
 
-mod answers;
+mod code;
+mod commands;
 mod decision;
 mod halt;
+mod head;
 pub mod laws;
 mod reading;
 mod refusal;
-mod run;
-mod session;
+pub mod run;
+pub mod session;
 mod stages;
-mod status;
+pub mod status;
 #[cfg(test)]
 mod tests;
 mod trees;
@@ -30,6 +34,7 @@ mod writing;
 
 use run::run;
 use spqr_edge::{FileShelf, OutSink};
+use status::Status;
 use std::env;
 use std::io::{self, ErrorKind};
 use std::process::ExitCode;
@@ -42,13 +47,14 @@ fn words_of(rt: &HostRuntime) -> io::Result<Vec<String>> {
 }
 
 fn main(rt: HostRuntime) -> ExitCode {
-    match words_of(&rt) {
+    let status = match words_of(&rt) {
         Ok(words) => {
             let mut shelf = FileShelf::new(&rt);
             let mut sink = OutSink::new(&rt);
-            ExitCode::from(run(rt.alloc(), &words, &mut shelf, &mut sink) as u8)
+            run(rt.alloc(), &words, &mut shelf, &mut sink)
         }
-        Err(fault) if fault.kind() == ErrorKind::OutOfMemory => ExitCode::from(8),
-        Err(_) => ExitCode::from(1),
-    }
+        Err(fault) if fault.kind() == ErrorKind::OutOfMemory => Status::Memory,
+        Err(_) => Status::Usage,
+    };
+    ExitCode::from(status.number())
 }

@@ -1,9 +1,9 @@
 // Reading a file to its end, within a limit.
-ghost use Rattle.std.specs.Prelude.{◌≡◌, ◌<◌, ◌≤◌, ◌^◌, IfOk, IfSome, length, vec_len};
-ghost use Rattle.spqr_edge.specs.Device.{CountsCall, contents};
+ghost use Rattle.std.specs.Prelude.{◌≡◌, ◌<◌, ◌≤◌, ◌^◌, IfOk, length, vec_len};
+ghost use Rattle.spqr_edge.specs.Device.{CountsCall};
 ghost use Rattle.spqr_cli.specs.Ending.{file_status, CountsFaults};
 ghost use Rattle.spqr_cli.specs.Outcome.{Answers};
-ghost use Rattle.spqr_cli.specs.Reading.{TakesPiece, IsWhole, IsTooLong};
+ghost use Rattle.spqr_cli.specs.Reading.{TakesPiece, IsWhole, IsUnread, told_file};
 
 use crate::halt::Halt;
 use spqr_edge::Shelf;
@@ -58,7 +58,8 @@ fn read_rest<S: Shelf>(
     limit: usize,
 ) -> Result<Vec<u8>, Halt<FileFault>>
     requires { limit < 2 ^ 63 }
-    ensures bytes { Answers result (λ bytes. IsWhole limit (S.left shelf.old) bytes.items) (IsTooLong limit (S.left shelf.old)) }
+    ensures bytes { Answers result (λ bytes. IsWhole limit (S.left shelf.old) bytes.items)
+        (IsUnread limit (S.left shelf.old)) }
     ensures files { S.files shelf.new ≡ S.files shelf.old }
     ensures opens { S.opens shelf.new ≡ S.opens shelf.old }
     ensures faults { CountsFaults file_status (S.faults shelf.old) (S.faults shelf.new) result }
@@ -83,9 +84,9 @@ pub fn read_file<S: Shelf>(
     limit: usize,
 ) -> Result<Vec<u8>, Halt<FileFault>>
     requires { limit < 2 ^ 63 }
-    ensures bytes { IfSome (S.files shelf.old) (λ files. Answers result
-        (λ bytes. IsWhole limit (Some (contents files name.now)) bytes.items)
-        (IsTooLong limit (Some (contents files name.now)))) }
+    ensures bytes { Answers result
+        (λ bytes. IsWhole limit (told_file (S.files shelf.old) name.now) bytes.items)
+        (IsUnread limit (told_file (S.files shelf.old) name.now)) }
     ensures within { IfOk result (λ bytes. vec_len bytes ≤ limit) }
     ensures files { S.files shelf.new ≡ S.files shelf.old }
     ensures opens { CountsCall (S.opens shelf.old) (S.opens shelf.new) }

@@ -1,10 +1,10 @@
 // The whole run, from the words to the status.
-ghost use Rattle.std.specs.Prelude.{◌<◌, IfSome, Err, map, string_bytes};
-ghost use Rattle.spqr_edge.specs.Device.{counted};
-ghost use Rattle.spqr_cli.specs.Trees.{AreBlockTrees};
-ghost use Rattle.spqr_cli.specs.Report.{report_texts, answer_text};
-ghost use Rattle.spqr_cli.specs.Decision.{IsAccepted, DecisionHasLine};
-ghost use Rattle.spqr_cli.specs.Run.{WritesTexts, CountsPut, RefusesWith, Ends, WritesReport, OnDone, FitsWords, CountsReads, CountsPuts, IsDoneOrMemory};
+ghost use Rattle.std.specs.Prelude.{Err, map, string_bytes};
+ghost use Rattle.spqr_cli.specs.Machine.{IsStarted};
+ghost use Rattle.spqr_cli.specs.Writing.{WritesAnswers, WritesReport};
+ghost use Rattle.spqr_cli.specs.Decision.{DecisionHasLine};
+ghost use Rattle.spqr_cli.specs.Seen.{seen, seen_shelf, seen_sink};
+ghost use Rattle.spqr_cli.specs.Run.{CountsPut, RefusesWith, CountsPuts, IsRun};
 
 use crate::decision::{Accepted, decide};
 use crate::halt::Halt;
@@ -24,8 +24,8 @@ fn write_answers<K: Sink>(
     commands: &[Command],
     sink: &mut K,
 ) -> Result<(), Halt<Failed>>
-    ensures texts { WritesTexts (K.written sink.old) (K.written sink.new)
-        (map (answer_text session.old.doc session.old.named) commands.now) result }
+    ensures texts { WritesAnswers session.old.setting session.old.state commands.now
+        (K.written sink.old) (K.written sink.new) result }
     ensures faults { CountsPut (K.faults sink.old) (K.faults sink.new) result }
 {
     for command in commands {
@@ -41,9 +41,9 @@ fn write_report<K: Sink>(
     accepted: Accepted,
     sink: &mut K,
 ) -> Result<(), Halt<Failed>>
-    requires { AreBlockTrees accepted.session.named.graph accepted.session.blocks.blocks accepted.session.trees.items }
-    ensures texts { WritesTexts (K.written sink.old) (K.written sink.new)
-        (report_texts accepted.session.doc accepted.session.named accepted.session.blocks accepted.session.trees.items accepted.commands.items) result }
+    requires { IsStarted accepted.session }
+    ensures report { WritesReport accepted.session.setting accepted.commands.items
+        (K.written sink.old) (K.written sink.new) result }
     ensures faults { CountsPut (K.faults sink.old) (K.faults sink.new) result }
 {
     let Accepted {
@@ -78,24 +78,12 @@ pub fn run<S: Shelf, K: Sink>(
     shelf: &mut S,
     sink: &mut K,
 ) -> Status
-    // One decision is due and made, and its text is written.
-    ensures ends { Ends (map string_bytes words.now) (S.files shelf.old)
-        (S.opens shelf.old) (S.opens shelf.new) (S.faults shelf.old) (S.faults shelf.new)
-        (K.written sink.old) (K.written sink.new) result }
-
-    // Done says that the report of the whole contents of both files was written.
-    ensures done { OnDone result (IfSome (S.files shelf.old) (λ files.
-        WritesReport (map string_bytes words.now) files (K.written sink.old) (K.written sink.new))) }
-
-    // Faults of the words, of the shelf and of the sink come where they are due, whatever the devices tell.
-    ensures form { FitsWords (map string_bytes words.now) result }
-    ensures reads { CountsReads (S.faults shelf.old) (S.faults shelf.new) result }
-    ensures puts { CountsPuts (K.faults sink.old) (K.faults sink.new) result }
-
-    // Where the words and the files are accepted and nothing failed, the run is done, or memory ran out.
-    ensures complete { IfSome (S.files shelf.old) (λ files. IsAccepted (map string_bytes words.now) files
-        → S.faults shelf.new < counted (S.faults shelf.old) → K.faults sink.new < counted (K.faults sink.old)
-        → IsDoneOrMemory result) }
+    ensures run { IsRun (map string_bytes words.now)
+        (seen (seen_shelf (S.files shelf.old) (S.opens shelf.old) (S.faults shelf.old))
+        (seen_sink (K.written sink.old) (K.faults sink.old)))
+        (seen (seen_shelf (S.files shelf.new) (S.opens shelf.new) (S.faults shelf.new))
+        (seen_sink (K.written sink.new) (K.faults sink.new)))
+        result }
 {
     match decide(alloc, words, shelf) {
         Ok(accepted) => match write_report(alloc, accepted, sink) {

@@ -1,24 +1,45 @@
 // How a run ended.
+ghost use Rattle.std.specs.Prelude.{◌≡◌};
+ghost use Rattle.spqr_cli.specs.Status.{status_number};
 
-/// How a run ended; the number of each is the program's exit status.
+/// How a run ended.
 #[derive(Clone, Copy, Debug, PartialEq, Eq)]
 pub enum Status {
     /// The whole report was written.
-    Done = 0,
+    Done,
     /// The words are no form.
-    Usage = 1,
+    Usage,
     /// A file could not be read.
-    ReadFault = 2,
+    ReadFault,
     /// A file is longer than its limit.
-    TooLong = 3,
+    TooLong,
     /// The bytes of the graph file are no document.
-    GmlRefused = 4,
+    GmlRefused,
     /// The document has no graph.
-    GraphRefused = 5,
+    GraphRefused,
     /// A line of the script is no command.
-    ScriptRefused = 6,
+    ScriptRefused,
     /// A text could not be written.
-    WriteFault = 7,
+    WriteFault,
     /// Memory ran out.
-    Memory = 8,
+    Memory,
+}
+
+impl Status {
+    /// Its number, the program's exit status.
+    pub fn number(self) -> u8
+        ensures { result ≡ status_number self }
+    {
+        match self {
+            Status::Done => 0,
+            Status::Usage => 1,
+            Status::ReadFault => 2,
+            Status::TooLong => 3,
+            Status::GmlRefused => 4,
+            Status::GraphRefused => 5,
+            Status::ScriptRefused => 6,
+            Status::WriteFault => 7,
+            Status::Memory => 8,
+        }
+    }
 }

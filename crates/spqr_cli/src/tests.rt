@@ -1,10 +1,10 @@
 // Worked runs, over devices in memory.
-ghost use Rattle.std.specs.Prelude.{◌<◌};
+ghost use Rattle.std.specs.Prelude.{◌<◌, None};
 
 use crate::run::run;
 use crate::status::Status;
-use spqr_edge::{MemFile, MemShelf, MemSink};
-use std::alloc::Global;
+use spqr_edge::{Failed, MemFile, MemShelf, MemSink, Sink};
+use std::alloc::{AllocError, Global};
 use std::test::Fail;
 
 const K4: &[u8] = b"graph [ node [ id 0 ] node [ id 1 ] node [ id 2 ] node [ id 3 ] \
@@ -21,6 +21,15 @@ const K4_HEAD: &[u8] =
     b"graph 4 6\nvertex 0 0\nvertex 1 1\nvertex 2 2\nvertex 3 3\nblock 0: 0 1 2 3 4 5\n\
     node 0 R 0 1 2 3 | 0:0-1 1:0-2 2:0-3 3:1-2 4:1-3 5:2-3\n";
 
+// The words `run g s`.
+fn run_words(alloc: Global) -> Result<Vec<String>, AllocError> {
+    let mut words = Vec::new(alloc);
+    words.push(String::from_str(alloc, "run")?)?;
+    words.push(String::from_str(alloc, "g")?)?;
+    words.push(String::from_str(alloc, "s")?)?;
+    Ok(words)
+}
+
 // What a run on the files `g` and `s` answers and writes. Calls of these numbers fail.
 fn answer(
     alloc: Global,
@@ -30,10 +39,7 @@ fn answer(
 ) -> Result<(Status, Vec<u8>), Fail>
     requires { 0 < piece }
 {
-    let mut words = Vec::new(alloc);
-    words.push(String::from_str(alloc, "run")?)?;
-    words.push(String::from_str(alloc, "g")?)?;
-    words.push(String::from_str(alloc, "s")?)?;
+    let words = run_words(alloc)?;
     let held = [
         MemFile {
             name: "g",
@@ -346,6 +352,80 @@ fn each_call_of_the_sink_fails(rt: HostRuntime) -> Result<(), Fail> {
         assert_eq!(rt; written.as_slice(), text);
     }
     Ok(())
+}
+
+// A sink whose put of this number, counted from 0, fails, and so do all behind it. It counts its puts.
+#[derive(Drop)]
+struct Broken {
+    first: u64,
+    puts: u64,
+    faults: u64,
+}
+
+impl Sink for Broken {
+    ghost written = { λ s. None };
+
+    ghost faults = { λ s. s.faults };
+
+    fn put(&mut self, piece: &[u8]) -> Result<usize, Failed> {
+        let fails = self.first <= self.puts;
+        self.puts = self.puts.saturating_add(1);
+        if fails {
+            self.faults = self.faults.saturating_add(1);
+            return Err(Failed);
+        }
+        Ok(piece.len())
+    }
+}
+
+#[test]
+fn no_put_follows_a_failed_one(rt: HostRuntime) -> Result<(), Fail> {
+    let alloc = rt.alloc();
+    let held = [
+        MemFile {
+            name: "g",
+            bytes: K4,
+        },
+        MemFile {
+            name: "s",
+            bytes: K4_PLANE,
+        },
+    ];
+    for (first, status, puts) in [
+        (0, Status::WriteFault, 1),
+        (1, Status::WriteFault, 2),
+        (2, Status::Done, 2),
+    ] {
+        let mut shelf = MemShelf::new(&held, &[]);
+        let mut sink = Broken {
+            first,
+            puts: 0,
+            faults: 0,
+        };
+        assert_eq!(rt;
+            run(alloc, &run_words(alloc)?, &mut shelf, &mut sink),
+            status
+        );
+        assert_eq!(rt; sink.puts, puts);
+    }
+    Ok(())
+}
+
+#[test]
+fn statuses_have_numbers(rt: HostRuntime) {
+    for (status, number) in [
+        (Status::Done, 0),
+        (Status::Usage, 1),
+        (Status::ReadFault, 2),
+        (Status::TooLong, 3),
+        (Status::GmlRefused, 4),
+        (Status::GraphRefused, 5),
+        (Status::ScriptRefused, 6),
+        (Status::WriteFault, 7),
+        (Status::Memory, 8),
+    ] {
+        assert_eq!(rt; status.number(), number);
+    }
 }
 
 #[test]

@@ -1,16 +1,19 @@
 -- Reading a line's tokens and a script's lines gives what they spell, and all that they spell.
-use Rattle.std.proofs.Common.{◌≡◌, ℕ, zero, suc, ◌+◌, ◌<◌, Bool, true, false, cond, List, [], ◌∷◌, length, get_or, Option, Some, None, Result, Ok, Err, refl, sym, ap, subst, ◌∙◌, inl, inr, ◌⊎◌, codes, bytes_eq, arith}
+use Rattle.std.proofs.Common.{◌≡◌, ℕ, zero, suc, ◌+◌, ◌<◌, false, List, [], ◌∷◌, length, get_or, Option, Some, None, Result, Ok, Err, refl, sym, ap, subst, ◌∙◌, inl, inr, ◌⊎◌, arith}
 use Rattle.std.specs.Option.{option_map}
 use Rattle.std.specs.List.{AllZip}
-use Rattle.std.proofs.lemmas.Bool.{cond-true, cases_Bool}
+use Rattle.std.proofs.lemmas.Bool.{cases_Bool}
 use Rattle.std.proofs.lemmas.Option.{same_Some, none-some}
-use Rattle.std.proofs.lemmas.Slice.Eq.{bytes_eq-Decides}
 use Rattle.spqr_script.specs.Line.{is_passed_over, tokens_of}
-use Rattle.spqr_script.specs.Script.{SpellsCommand, command_lines, IsAccepted, IsRefused}
-use Rattle.spqr_script.specs.Reading.{rotation_of, alone, command_of, command_and, commands_from}
+use Rattle.spqr_script.specs.Words.{spelling, all_words, word_among}
+use Rattle.spqr_script.specs.Script.{word_of, SpellsArguments, SpellsCommand, command_lines, IsAccepted, IsRefused}
+use Rattle.spqr_script.specs.Reading.{rotation_of, alone, arguments_of, command_with, command_of, command_and, commands_from}
+use Rattle.spqr_script.specs.declared.word.Word.{Word}
+use Rattle.spqr_script.specs.declared.word.Word.TheVariants as word
 use Rattle.spqr_script.specs.declared.command.Command.{Command}
 use Rattle.spqr_script.specs.declared.command.Command.TheVariants.{Euler, Gml}
 use Rattle.spqr_script.proofs.Options.{map_some}
+use Rattle.spqr_script.proofs.Words.{found_spelled, word_found}
 use Rattle.spqr_script.proofs.Entries.{rotation_spelled, rotation_read}
 
 -- ---- one command
@@ -19,37 +22,38 @@ alone_is : (command : Command) (tokens : List (List ℕ)) (c : Command) → alon
 alone_is command [] c e = (refl, same_Some command c e)
 alone_is command (token ∷ tokens) c e = absurd (none-some c e)
 
--- what is chosen at one of two words
-abbrev chosen : Bool → Bool → Option Command → Option Command → Option Command
-chosen euler gml a b = cond euler a (cond gml b None)
+-- what is read behind a word is its command, spelled so
+arguments_spelled : (w : Word) (tokens : List (List ℕ)) (c : Command) → arguments_of w tokens ≡ Some c → (w ≡ word_of c) × SpellsArguments tokens c
+arguments_spelled word.Euler tokens c e =
+    let p = map_some (λ entries. Euler entries) (rotation_of tokens) c e in
+    subst (λ (x : Command). (word.Euler ≡ word_of x) × SpellsArguments tokens x) p.2 (refl, rotation_spelled tokens p.0 p.1)
+arguments_spelled word.Gml tokens c e =
+    let p = alone_is Gml tokens c e in
+    subst (λ (x : Command). (word.Gml ≡ word_of x) × SpellsArguments tokens x) p.1 (refl, p.0)
 
-chosen_cases : (euler gml : Bool) (a b : Option Command) (c : Command) → chosen euler gml a b ≡ Some c → ((euler ≡ true) × (a ≡ Some c)) ⊎ ((gml ≡ true) × (b ≡ Some c))
-chosen_cases true gml a b c e = inl (refl, e)
-chosen_cases false true a b c e = inr (refl, e)
-chosen_cases false false a b c e = absurd (none-some c e)
+-- and what is spelled behind the word of a command is read
+arguments_read : (tokens : List (List ℕ)) (c : Command) → SpellsArguments tokens c → arguments_of (word_of c) tokens ≡ Some c
+arguments_read tokens (Euler entries) s = ap (λ (o : Option (List (ℕ × List ℕ))). option_map (λ x. Euler x) o) (rotation_read tokens entries s)
+arguments_read tokens Gml s = ap (λ (ts : List (List ℕ)). alone Gml ts) s
+
+-- a command has a word
+with_word : (o : Option Word) (tokens : List (List ℕ)) (c : Command) → command_with o tokens ≡ Some c → (w : Word) × (o ≡ Some w) × (arguments_of w tokens ≡ Some c)
+with_word None tokens c e = absurd (none-some c e)
+with_word (Some w) tokens c e = (w, refl, e)
 
 pub command_spelled : (tokens : List (List ℕ)) (c : Command) → command_of tokens ≡ Some c → SpellsCommand tokens c
 unfolding command_of
 command_spelled [] c e = absurd (none-some c e)
-command_spelled (word ∷ tokens) c e =
-    elim (chosen_cases (bytes_eq word (codes "euler")) (bytes_eq word (codes "gml")) (option_map (λ entries. Euler entries) (rotation_of tokens)) (alone Gml tokens) c e) [
-      | inl h ↦
-          let p = map_some (λ entries. Euler entries) (rotation_of tokens) c h.1 in
-          subst (λ (x : Command). SpellsCommand (word ∷ tokens) x) p.2 ((bytes_eq-Decides word (codes "euler")).0 h.0, rotation_spelled tokens p.0 p.1)
-      | inr h ↦
-          let p = alone_is Gml tokens c h.1 in
-          subst (λ (x : Command). SpellsCommand (word ∷ tokens) x) p.1 ((bytes_eq-Decides word (codes "gml")).0 h.0, p.0)
-    ]
+command_spelled (name ∷ tokens) c e =
+    let p = with_word (word_among all_words name) tokens c e in
+    let q = arguments_spelled p.0 tokens c p.2 in
+    (found_spelled all_words name p.0 p.1 ∙ ap spelling q.0, q.1)
 
 pub command_read : (tokens : List (List ℕ)) (c : Command) → SpellsCommand tokens c → command_of tokens ≡ Some c
 unfolding command_of
 command_read [] c s = absurd s
-command_read (word ∷ tokens) (Euler entries) s =
-    cond-true (bytes_eq word (codes "euler")) (option_map (λ x. Euler x) (rotation_of tokens)) (cond (bytes_eq word (codes "gml")) (alone Gml tokens) None) ((bytes_eq-Decides word (codes "euler")).1 s.0)
-    ∙ ap (λ (o : Option (List (ℕ × List ℕ))). option_map (λ x. Euler x) o) (rotation_read tokens entries s.1)
-command_read (word ∷ tokens) Gml s =
-    ap (λ (w : List ℕ). cond (bytes_eq w (codes "euler")) (option_map (λ x. Euler x) (rotation_of tokens)) (cond (bytes_eq w (codes "gml")) (alone Gml tokens) None)) s.0
-    ∙ ap (λ (ts : List (List ℕ)). alone Gml ts) s.1
+command_read (name ∷ tokens) c s =
+    ap (λ (n : List ℕ). command_with (word_among all_words n) tokens) s.0 ∙ ap (λ (o : Option Word). command_with o tokens) (word_found (word_of c)) ∙ arguments_read tokens c s.1
 
 -- ---- the lines of a script
 

@@ -2,6 +2,7 @@
 use Rattle.std.proofs.Common.{◌≡◌, ℕ, List, [], ◌∷◌, Option, Some, None, Ok, Err, codes, true, false, refl}
 use Rattle.spqr_script.specs.Number.{number_below}
 use Rattle.spqr_script.specs.Line.{cut_lines, lines_of, is_passed_over, tokens_of}
+use Rattle.spqr_script.specs.Words.{word_among}
 use Rattle.spqr_script.specs.Reading.{indices_of, entry_of, entries_after, rotation_of, command_of, commands_from}
 use Rattle.spqr_script.specs.declared.command.Command.{Command}
 use Rattle.spqr_script.specs.declared.command.Command.TheVariants.{Euler, Gml}
@@ -49,37 +50,37 @@ spelled : List ℕ → Option Command
 spelled line = command_of (tokens_of line)
 
 empty_rotation : spelled (codes "euler") ≡ Some (Euler [])
-unfolding spelled tokens_of command_of rotation_of
+unfolding spelled tokens_of command_of word_among rotation_of
 empty_rotation = refl
 
 path_of_two : spelled (codes "euler 0: 0; 1: 0 1; 2: 1") ≡ Some (Euler ((0, 0 ∷ []) ∷ (1, 0 ∷ 1 ∷ []) ∷ (2, 1 ∷ []) ∷ []))
-unfolding spelled tokens_of command_of rotation_of entries_after entry_of indices_of
+unfolding spelled tokens_of command_of word_among rotation_of entries_after entry_of indices_of
 path_of_two = refl
 
 lone_vertices : spelled (codes "euler 0 : 1 ;2:") ≡ Some (Euler ((0, 1 ∷ []) ∷ (2, []) ∷ []))
-unfolding spelled tokens_of command_of rotation_of entries_after entry_of indices_of
+unfolding spelled tokens_of command_of word_among rotation_of entries_after entry_of indices_of
 lone_vertices = refl
 
 last_semicolon : spelled (codes "euler 0: 0;") ≡ None
-unfolding spelled tokens_of command_of rotation_of entries_after entry_of indices_of
+unfolding spelled tokens_of command_of word_among rotation_of entries_after entry_of indices_of
 last_semicolon = refl
 
 falling : spelled (codes "euler 1: 0; 0: 1") ≡ None
-unfolding spelled tokens_of command_of rotation_of entries_after entry_of indices_of
+unfolding spelled tokens_of command_of word_among rotation_of entries_after entry_of indices_of
 falling = refl
 
 upper_case : spelled (codes "EULER") ≡ None
-unfolding spelled tokens_of command_of
+unfolding spelled tokens_of command_of word_among
 upper_case = refl
 
 gml_with_more : spelled (codes "gml 1") ≡ None
-unfolding spelled tokens_of command_of
+unfolding spelled tokens_of command_of word_among
 gml_with_more = refl
 
 second_line_bad : commands_from 1 (lines_of (codes "# c\nlist 0 10001")) ≡ Err 2
-unfolding cut_lines is_passed_over tokens_of command_of commands_from
+unfolding cut_lines is_passed_over tokens_of command_of word_among commands_from
 second_line_bad = refl
 
 three_commands : commands_from 1 (lines_of (codes "gml\r\n\n# c\n euler\n\tgml")) ≡ Ok (Gml ∷ Euler [] ∷ Gml ∷ [])
-unfolding cut_lines is_passed_over tokens_of command_of rotation_of commands_from
+unfolding cut_lines is_passed_over tokens_of command_of word_among rotation_of commands_from
 three_commands = refl

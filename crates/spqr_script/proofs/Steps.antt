@@ -1,12 +1,12 @@
 -- What the tokens in front say of an entry, a rotation and a command.
 use Rattle.std.proofs.Common.{◌≡◌, ℕ, Bool, true, false, not, cond, List, [], ◌∷◌, Option, Some, None, MatchOption, refl, sym, ap, ◌∙◌, codes, bytes_eq}
-use Rattle.std.specs.Option.{option_map, is_some}
+use Rattle.std.specs.Option.{is_some}
 use Rattle.std.specs.List.{slice_split}
 use Rattle.std.proofs.lemmas.Bool.{cond-true, cond-false, not-true, not-false, both_ways}
 use Rattle.spqr_script.specs.Script.{is_semicolon}
-use Rattle.spqr_script.specs.Reading.{index_of, indices_of, put_behind, pair_of, entry_of, entries_after, rotation_of, alone, command_of}
-use Rattle.spqr_script.specs.declared.command.Command.{Command}
-use Rattle.spqr_script.specs.declared.command.Command.TheVariants.{Euler, Gml}
+use Rattle.spqr_script.specs.Reading.{index_of, indices_of, put_behind, pair_of, entry_of, entries_after, rotation_of, command_with, command_of}
+use Rattle.spqr_script.specs.Words.{all_words, word_among}
+use Rattle.spqr_script.specs.declared.word.Word.{Word}
 
 -- ---- entries
 
@@ -89,25 +89,7 @@ pub command_empty : (tokens : List (List ℕ)) → tokens ≡ [] → None ≡ co
 unfolding command_of
 command_empty tokens e = sym (ap command_of e)
 
-abbrev other_than_euler : List ℕ → List (List ℕ) → Option Command
-other_than_euler word rest = cond (bytes_eq word (codes "gml")) (alone Gml rest) None
-
-command_by : (tokens : List (List ℕ)) (word : List ℕ) (rest : List (List ℕ)) → tokens ≡ word ∷ rest
-    → command_of tokens ≡ cond (bytes_eq word (codes "euler")) (option_map (λ entries. Euler entries) (rotation_of rest)) (other_than_euler word rest)
+-- what the first token and those behind it say
+pub command_first : (tokens : List (List ℕ)) (name : List ℕ) (rest : List (List ℕ)) (o : Option Word) → tokens ≡ name ∷ rest → o ≡ word_among all_words name → command_with o rest ≡ command_of tokens
 unfolding command_of
-command_by tokens word rest e = ap command_of e
-
-pub command_euler : (tokens : List (List ℕ)) (word : List ℕ) (rest : List (List ℕ)) → tokens ≡ word ∷ rest → true ≡ bytes_eq word (codes "euler")
-    → option_map (λ entries. Euler entries) (rotation_of rest) ≡ command_of tokens
-command_euler tokens word rest e is =
-    sym (command_by tokens word rest e ∙ cond-true (bytes_eq word (codes "euler")) (option_map (λ entries. Euler entries) (rotation_of rest)) (other_than_euler word rest) (sym is))
-
-pub command_other : (tokens : List (List ℕ)) (word : List ℕ) (rest : List (List ℕ)) → tokens ≡ word ∷ rest → false ≡ bytes_eq word (codes "euler") → other_than_euler word rest ≡ command_of tokens
-command_other tokens word rest e is =
-    sym (command_by tokens word rest e ∙ cond-false (bytes_eq word (codes "euler")) (option_map (λ entries. Euler entries) (rotation_of rest)) (other_than_euler word rest) (sym is))
-
-pub command_gml : (word : List ℕ) (rest : List (List ℕ)) → true ≡ bytes_eq word (codes "gml") → alone Gml rest ≡ other_than_euler word rest
-command_gml word rest is = sym (cond-true (bytes_eq word (codes "gml")) (alone Gml rest) None (sym is))
-
-pub command_none : (word : List ℕ) (rest : List (List ℕ)) → false ≡ bytes_eq word (codes "gml") → None ≡ other_than_euler word rest
-command_none word rest is = sym (cond-false (bytes_eq word (codes "gml")) (alone Gml rest) None (sym is))
+command_first tokens name rest o e found = ap (λ (w : Option Word). command_with w rest) found ∙ sym (ap command_of e)

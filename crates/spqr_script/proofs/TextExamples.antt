@@ -2,7 +2,9 @@
 use Rattle.std.proofs.Common.{◌≡◌, [], ◌∷◌, pos, negsuc, true, false, codes, refl}
 use Rattle.std.specs.Fmt.{digits}
 use Rattle.spqr_script.specs.Head.{graph_text, vertex_text, cut_text, block_text}
-use Rattle.spqr_script.specs.Answer.{euler_text, document_text, error_text}
+use Rattle.spqr_script.specs.Answers.Euler.{euler_text}
+use Rattle.spqr_script.specs.Answers.Gml.{document_text}
+use Rattle.spqr_script.specs.Answers.Error.{error_text}
 use Rattle.spqr_script.specs.Refusal.{read_text, long_text, script_text}
 use Rattle.spqr_script.specs.declared.refusals.Which.TheVariants.{GraphFile, ScriptFile}
 

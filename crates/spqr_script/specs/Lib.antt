@@ -2,10 +2,11 @@
 pub mod Text
 pub mod Head
 pub mod Node
-pub mod Answer
+pub mod Answers
 pub mod Refusal
 pub mod Number
 pub mod Line
+pub mod Words
 pub mod Script
 pub mod Reading
 pub mod Outcome

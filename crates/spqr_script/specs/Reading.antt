@@ -9,6 +9,9 @@ use Rattle.spqr_script.specs.Script.{is_semicolon}
 use Rattle.std.specs.Global.{Vec}
 use Rattle.spqr_script.specs.declared.command.ScriptFault.{ScriptFault}
 use Rattle.spqr_script.specs.declared.command.ScriptFault.TheVariants.{BadLine, Memory}
+use Rattle.spqr_script.specs.Words.{all_words, word_among}
+use Rattle.spqr_script.specs.declared.word.Word.{Word}
+use Rattle.spqr_script.specs.declared.word.Word.TheVariants as word
 use Rattle.spqr_script.specs.declared.command.Command.{Command}
 use Rattle.spqr_script.specs.declared.command.Command.TheVariants.{Euler, Gml}
 
@@ -69,13 +72,20 @@ abbrev pub alone : Command → List (List ℕ) → Option Command
 alone command [] = Some command
 alone command (token ∷ tokens) = None
 
--- a command
+-- the command with this word, where the tokens behind it are its arguments
+abbrev pub arguments_of : Word → List (List ℕ) → Option Command
+arguments_of word.Euler tokens = option_map (λ entries. Euler entries) (rotation_of tokens)
+arguments_of word.Gml tokens = alone Gml tokens
+
+-- the same, where there is a word
+abbrev pub command_with : Option Word → List (List ℕ) → Option Command
+command_with None tokens = None
+command_with (Some word) tokens = arguments_of word tokens
+
+-- a command: its first token is found in the table of words
 unfoldable pub command_of : List (List ℕ) → Option Command
 command_of [] = None
-command_of (word ∷ tokens) =
-    (if bytes_eq word (codes "euler") then option_map (λ entries. Euler entries) (rotation_of tokens)
-    else if bytes_eq word (codes "gml") then alone Gml tokens
-    else None)
+command_of (name ∷ tokens) = command_with (word_among all_words name) tokens
 
 -- a command and those after it, or the first line that is none
 abbrev pub command_and : ℕ → Option Command → Result (List Command) ℕ → Result (List Command) ℕ

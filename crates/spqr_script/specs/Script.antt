@@ -4,6 +4,9 @@ use Rattle.std.specs.List.{AllZip, slice_split}
 use Rattle.rotations.specs.Entries.{IsRising}
 use Rattle.spqr_script.specs.Number.{SpellsNumber, index_limit}
 use Rattle.spqr_script.specs.Line.{lines_of, is_passed_over, tokens_of}
+use Rattle.spqr_script.specs.Words.{spelling}
+use Rattle.spqr_script.specs.declared.word.Word.{Word}
+use Rattle.spqr_script.specs.declared.word.Word.TheVariants as word
 use Rattle.spqr_script.specs.declared.command.Command.{Command}
 use Rattle.spqr_script.specs.declared.command.Command.TheVariants.{Euler, Gml}
 
@@ -26,11 +29,20 @@ abbrev pub SpellsRotation : List (List ℕ) → List (ℕ × List ℕ) → Type 
 SpellsRotation tokens entries =
     ((tokens ≡ []) × (entries ≡ [])) ⊎ (AllZip SpellsEntry (slice_split is_semicolon tokens) entries × IsRising entries)
 
--- the tokens of a line are a command: `euler ROT` or `gml`
+-- the word of a command
+abbrev pub word_of : Command → Word
+word_of (Euler entries) = word.Euler
+word_of Gml = word.Gml
+
+-- the arguments of a command: `euler ROT`, and `gml` alone
+abbrev pub SpellsArguments : List (List ℕ) → Command → Type 0
+SpellsArguments tokens (Euler entries) = SpellsRotation tokens entries
+SpellsArguments tokens Gml = tokens ≡ []
+
+-- the tokens of a line are a command: its word, and behind it its arguments
 abbrev pub SpellsCommand : List (List ℕ) → Command → Type 0
 SpellsCommand [] command = ⊥
-SpellsCommand (word ∷ tokens) (Euler entries) = (word ≡ codes "euler") × SpellsRotation tokens entries
-SpellsCommand (word ∷ tokens) Gml = (word ≡ codes "gml") × (tokens ≡ [])
+SpellsCommand (name ∷ tokens) command = (name ≡ spelling (word_of command)) × SpellsArguments tokens command
 
 -- the lines that are not passed over
 abbrev pub command_lines : List (List ℕ) → List (List ℕ)

@@ -1,12 +1,14 @@
 // The script that the program reads, and every text that it prints.
 //
 // A script is lines of commands. Which commands bytes spell is the relation `Commands`, over whole lines: each line is cut
-// into tokens, and each line that is not passed over has the tokens of one command. `read` gives the commands exactly where
+// into tokens, and each line that is not passed over has the tokens of one command: its word, which is found in a table, and
+// its arguments. `read` gives the commands exactly where
 // there are some, and else the number of the first line that is none. Each text has one definition, its bytes, and one
 // function, which answers just these bytes or runs out of memory. Numbers are written in decimal by the crate `itoa`.
 #![tactic(auto)]
 
 mod answers;
+mod arguments;
 mod command;
 mod head;
 mod laws;
@@ -17,6 +19,7 @@ mod refusals;
 mod rotation;
 mod text;
 mod tokens;
+mod word;
 
 pub use answers::{
     count_line, end_line, error_line, euler_line, gml_lines, list_line, more_line, ok_line,

@@ -2,42 +2,27 @@
 ghost use Rattle.std.specs.Prelude.{◌≡◌, ◌<◌, ◌^◌, ◌∷◌, List, length, IfOk, IfErr};
 ghost use Rattle.spqr_script.specs.Line.{cut_lines, without_return, lines_of, is_passed_over, tokens_of};
 ghost use Rattle.spqr_script.specs.Script.{Commands};
-ghost use Rattle.spqr_script.specs.Reading.{alone, command_of, commands_from, Gives};
+ghost use Rattle.spqr_script.specs.Reading.{command_of, commands_from, Gives};
 ghost use Rattle.spqr_script.specs.Outcome.{IsReading, IsFault};
 ghost use Rattle.spqr_script.specs.declared.command.Command.{Command};
 
+use crate::arguments::read_arguments;
 use crate::command::{Command, ScriptFault};
-use crate::rotation::read_rotation;
 use crate::tokens::{cut, next_token, skip_blanks};
+use crate::word::find_word;
 use std::alloc::{AllocError, Global};
-
-// The command, where nothing stands behind its word.
-fn alone(command: Command, rest: &[u8]) -> Option<Command>
-    ensures { result ≡ alone command (tokens_of rest.now) }
-{
-    match next_token(rest) {
-        None => Some(command),
-        Some(_) => None,
-    }
-}
 
 // The command that a line is, where it is one.
 fn read_command(alloc: Global, line: &[u8]) -> Result<Option<Command>, AllocError>
     ensures { IfOk result (λ command. command ≡ command_of (tokens_of line.now)) }
 {
-    let Some((word, rest)) = next_token(line) else {
+    let Some((name, text)) = next_token(line) else {
         return Ok(None);
     };
-    if word == b"euler".as_slice() {
-        return match read_rotation(alloc, rest)? {
-            Some(entries) => Ok(Some(Command::Euler(entries))),
-            None => Ok(None),
-        };
+    match find_word(name) {
+        Some(word) => read_arguments(alloc, word, text),
+        None => Ok(None),
     }
-    if word == b"gml".as_slice() {
-        return Ok(alone(Command::Gml, rest));
-    }
-    Ok(None)
 }
 
 // The first line without its line feed, and what stands behind it.

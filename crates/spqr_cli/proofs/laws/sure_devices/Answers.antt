@@ -5,6 +5,6 @@ use Rattle.spqr_cli.proofs.laws.sure_devices.Goals as goal
 
 pub returns : goal.returns
 returns c = record {
-  reads = λ status counts e. let rose = subst (λ (s : Status). CountsReads 0 0 s) e counts in absurd (omega (arith, rose));
+  reads = λ status counts e. let rose = subst (λ (s : Status). CountsReads 0 0 s) e counts in absurd (omega (arith, rose.1));
   puts = λ status counts e. let rose = subst (λ (s : Status). CountsPuts 0 0 s) e counts in absurd (omega (arith, rose));
 }

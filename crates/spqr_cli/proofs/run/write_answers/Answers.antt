@@ -1,35 +1,28 @@
-use Rattle.std.proofs.Common.{◌≡◌, ◌<◌, length, map, sym, ap, ◌∙◌, subst}
-use Rattle.std.specs.Io.KnownBytes.{Appends}
-use Rattle.std.proofs.lemmas.List.{length-map}
+use Rattle.std.proofs.Common.{sym, ◌∙◌}
 use Rattle.std.proofs.lemmas.Result.{err_from_is_err_and}
-use Rattle.spqr_cli.specs.Front.{AppendsFront}
-use Rattle.spqr_cli.specs.Report.{answer_text}
-use Rattle.spqr_cli.proofs.Texts.{text_at, text_written, text_stopped}
+use Rattle.spqr_cli.proofs.Steps.{step-along}
+use Rattle.spqr_cli.proofs.Texts.{answers-more, answers-stopped}
 use Rattle.spqr_cli.proofs.run.write_answers.Goals as goal
 
 pub loop-command-preserved : goal.loop-command-preserved
 loop-command-preserved g c =
-    let f = answer_text c.args.session.now.doc c.args.session.now.named in
+    let m = c.args.session.now in
+    let l = c.loop-command in
     let x = c.command-item.result in
-    let i = c.loop-command.command-index in
-    let cs = c.args.commands.now in
-    let text : c.deref.result.now ≡ f x =
-    c.deref.ensures.value ∙ c.in_ok-text.ensures.answer ∙ ap (λ s. answer_text s.doc s.named x) c.loop-command.invariant.session in
-    let within : i < length cs = c.loop-command-test.true in
+    let step = step-along m.setting l.session.setting l.session.state c.step.new.self.state x c.deref.result.now c.in_ok-text.text.items l.invariant.setting c.deref.ensures.value c.in_ok-text.ensures.step in
     record {
-      written = text_written _ _ _ (map f cs) i (f x) (rw (length-map cs f) within) (text_at f cs i x within (sym c.command-item.is)) c.loop-command.invariant.written (subst (Appends _ _) text c.in_ok-put_text.ensures.ok);
-      session = c.step.ensures.stays ∙ c.loop-command.invariant.session;
-      faults = c.in_ok-put_text.ensures.cause.ok ∙ c.loop-command.invariant.faults;
+      setting = c.in_ok-text.ensures.setting ∙ l.invariant.setting;
+      written = answers-more m.setting m.state l.session.state c.step.new.self.state c.args.commands.now l.command-index x c.deref.result.now (g.K.Sink.written c.args.sink.now) (g.K.Sink.written l.sink) (g.K.Sink.written c.put_text.new.sink)
+          c.loop-command-test.true (sym c.command-item.is) l.invariant.written step c.in_ok-put_text.ensures.ok;
+      faults = c.in_ok-put_text.ensures.cause.ok ∙ l.invariant.faults;
     }
 
 pub returns-in_err-put_text-clause-texts : goal.returns-in_err-put_text-clause-texts
 returns-in_err-put_text-clause-texts g c =
-    let f = answer_text c.args.session.now.doc c.args.session.now.named in
+    let m = c.args.session.now in
+    let l = c.loop-command in
     let x = c.command-item.result in
-    let i = c.loop-command.command-index in
-    let cs = c.args.commands.now in
-    let text : c.deref.result.now ≡ f x =
-    c.deref.ensures.value ∙ c.in_ok-text.ensures.answer ∙ ap (λ s. answer_text s.doc s.named x) c.loop-command.invariant.session in
-    let within : i < length cs = c.loop-command-test.true in
+    let step = step-along m.setting l.session.setting l.session.state c.step.new.self.state x c.deref.result.now c.in_ok-text.text.items l.invariant.setting c.deref.ensures.value c.in_ok-text.ensures.step in
     let p = err_from_is_err_and c.from_residual-in_err-put_text.result c.from_residual-in_err-put_text.ensures.1 in
-    rw (p.1, p.2) (text_stopped _ _ _ (map f cs) i (f x) (rw (length-map cs f) within) (text_at f cs i x within (sym c.command-item.is)) c.loop-command.invariant.written (subst (AppendsFront _ _) text c.in_err-put_text.ensures.err))
+    rw (p.1, p.2) (answers-stopped m.setting m.state l.session.state c.step.new.self.state c.args.commands.now l.command-index x c.deref.result.now (g.K.Sink.written c.args.sink.now) (g.K.Sink.written l.sink) (g.K.Sink.written c.put_text.new.sink)
+    c.loop-command-test.true (sym c.command-item.is) l.invariant.written step c.in_err-put_text.ensures.err)

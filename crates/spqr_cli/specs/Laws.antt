@@ -1,0 +1,59 @@
+-- What the definitions of a run say of one another.
+use Rattle.std.specs.Prelude.{◌≡◌, ◌≢◌, ℕ, List, Ok, Err, IsSome, ⊤}
+use Rattle.spqr_script.specs.declared.command.Command.{Command}
+use Rattle.spqr_cli.specs.Setting.{Setting}
+use Rattle.spqr_cli.specs.State.{State}
+use Rattle.spqr_cli.specs.Step.{Step}
+use Rattle.spqr_cli.specs.Report.{IsReport}
+use Rattle.spqr_cli.specs.Words.{form_of}
+use Rattle.spqr_cli.specs.Decision.{Sources, Work, Decision, AcceptsGraph, AcceptsScript, IsDue}
+use Rattle.spqr_cli.specs.Ending.{IsTextOf, status_of}
+use Rattle.spqr_cli.specs.declared.refusal.Refusal.TheVariants.{OfGraph}
+use Rattle.spqr_cli.specs.declared.refusal.Refusal.{Refusal}
+use Rattle.spqr_cli.specs.declared.refusal.GraphRefusal.TheVariants.{Gml}
+use Rattle.spqr_cli.specs.declared.status.Status.TheVariants.{ReadFault}
+
+-- two decisions agree on what their definitions leave open: the trees of the setting, and the place that is told of a fault in GML
+abbrev pub AgreeOnOpen : Decision → Decision → Type 0
+AgreeOnOpen (Ok a) (Ok b) = a.setting.trees ≡ b.setting.trees
+AgreeOnOpen (Err (OfGraph (Gml fault))) (Err (OfGraph (Gml other))) = fault ≡ other
+AgreeOnOpen a b = ⊤
+
+-- decisions that are due for the same words and bytes have one status, a read that failed aside
+abbrev pub OneStatus : Type 0
+OneStatus =
+    (words : List (List ℕ)) (sources : Sources) (a b : Decision) → IsDue words sources a → IsDue words sources b
+    → status_of a ≢ ReadFault → status_of b ≢ ReadFault → status_of a ≡ status_of b
+
+-- and one text, where they agree on what is left open
+abbrev pub OneText : Type 0
+OneText =
+    (words : List (List ℕ)) (sources : Sources) (a b : Decision) (s t : List ℕ) → IsDue words sources a → IsDue words sources b
+    → status_of a ≢ ReadFault → status_of b ≢ ReadFault → AgreeOnOpen a b → IsTextOf a s → IsTextOf b t → s ≡ t
+
+-- works that are due for the same words and bytes are the same but for the trees
+abbrev pub OneWork : Type 0
+OneWork =
+    (words : List (List ℕ)) (sources : Sources) (a b : Work) → IsDue words sources (Ok a) → IsDue words sources (Ok b)
+    → (a.setting.document ≡ b.setting.document) × (a.setting.named ≡ b.setting.named) × (a.setting.structure ≡ b.setting.structure)
+    × (a.commands ≡ b.commands)
+
+-- where the words are a form and both files are accepted, no refusal is due, a read that failed aside
+abbrev pub NoRefusal : Type 0
+NoRefusal =
+    (words : List (List ℕ)) (sources : Sources) (refusal : Refusal) → IsSome (form_of words) → AcceptsGraph sources.graph
+    → AcceptsScript sources.script → IsDue words sources (Err refusal) → status_of (Err refusal) ≢ ReadFault → ⊥
+
+-- each command has an answer in each state
+abbrev pub EachHasAnswer : Type 0
+EachHasAnswer = (setting : Setting) (before : State) (command : Command) → (text : List ℕ) × (after : State) × Step setting before command text after
+
+-- and one only, with one state after it
+abbrev pub OneAnswer : Type 0
+OneAnswer =
+    (setting : Setting) (before : State) (command : Command) (s t : List ℕ) (after other : State) → Step setting before command s after
+    → Step setting before command t other → (s ≡ t) × (after ≡ other)
+
+-- there is one report on a setting and commands
+abbrev pub OneReport : Type 0
+OneReport = (setting : Setting) (commands : List Command) (s t : List ℕ) → IsReport setting commands s → IsReport setting commands t → s ≡ t

@@ -1,0 +1,8 @@
+-- The answers to commands, each in a file of its own.
+pub mod Euler
+pub mod Gml
+pub mod Error
+pub mod Change
+pub mod List
+pub mod Count
+pub mod Rank

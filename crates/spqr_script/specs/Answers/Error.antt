@@ -1,0 +1,7 @@
+-- The answer of a refused command.
+use Rattle.std.specs.Prelude.{ℕ, List, ◌++◌, codes, decimal}
+use Rattle.spqr_script.specs.Text.{spaced_numbers, line_end}
+
+-- `error CODE N N ..`: a refused command, with the numbers of its code
+abbrev pub error_text : ℕ → List ℕ → List ℕ
+error_text code numbers = codes "error " ++ decimal code ++ spaced_numbers numbers ++ line_end
