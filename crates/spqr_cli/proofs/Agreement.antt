@@ -3,7 +3,7 @@
 use Rattle.std.proofs.Common.{◌≡◌, ◌≢◌, ℕ, List, Option, None, Ok, Err, IsSome, refl, sym, ap, ◌∙◌, subst, arith}
 use Rattle.std.specs.Bool.{⊤}
 use Rattle.std.proofs.lemmas.Bool.{true≢false}
-use Rattle.blocks.specs.Blocks.{IsBlockStructure}
+use Rattle.blocks.specs.Blocks.{BlockStructure, IsBlockStructure}
 use Rattle.blocks.proofs.OneStructure.{one-structure}
 use Rattle.gml_text.specs.Document.{Document}
 use Rattle.gml_graph.specs.Named.{NamedGraph}
@@ -14,7 +14,7 @@ use Rattle.gml_text.specs.declared.document.GmlFault.{GmlFault}
 use Rattle.gml_text.specs.declared.document.GmlFault.TheVariants.{Bad, End, Memory as GmlMemory}
 use Rattle.spqr_script.specs.declared.command.Command.{Command}
 use Rattle.spqr_script.proofs.Scripts.{apart, one_reading, one_bad_line}
-use Rattle.spqr_cli.specs.Setting.{Setting}
+use Rattle.spqr_cli.specs.Trees.{AreBlockTrees}
 use Rattle.spqr_cli.specs.Report.{IsReport}
 use Rattle.spqr_cli.specs.Words.{Names, form_of}
 use Rattle.spqr_cli.specs.Decision.{Sources, Work, Decision, SayDocument, SayCommands, AcceptsGraph, AcceptsScript, IsGmlReason, IsGraphReason, IsScriptReason, IsWork, IsDue}
@@ -30,6 +30,7 @@ use Rattle.spqr_cli.specs.declared.refusal.ScriptRefusal.{ScriptRefusal}
 use Rattle.spqr_cli.specs.declared.refusal.ScriptRefusal.TheVariants.{File as Script, Line}
 use Rattle.spqr_cli.specs.declared.status.Status.TheVariants.{ReadFault}
 use Rattle.spqr_cli.proofs.Chains.{one-report}
+use Rattle.spqr_cli.proofs.OneTree.{one-trees}
 
 -- bytes spell at most one document
 abbrev pub OneDocument : Type 0
@@ -96,22 +97,22 @@ script_same bytes (Script Long) (Line line) p o n m = absurd (omega (arith, p, o
 script_same bytes (Line line) (Script Long) p o n m = absurd (omega (arith, o, p.0))
 script_same bytes (Line line) (Line other) p o n m = ap (λ (l : ℕ). Line l) (one_bad_line bytes line other p.1 o.1)
 
--- works are the same but for the trees
-abbrev pub SameWork : Work → Work → Type 0
-SameWork a b = (a.setting.document ≡ b.setting.document) × (a.setting.named ≡ b.setting.named) × (a.setting.structure ≡ b.setting.structure) × (a.commands ≡ b.commands)
-
-same_work : OneDocument → (sources : Sources) (a b : Work) → IsWork sources a → IsWork sources b → SameWork a b
+-- works are the same
+same_work : OneDocument → (sources : Sources) (a b : Work) → IsWork sources a → IsWork sources b → a ≡ b
 same_work one sources a b p q =
     let document : a.setting.document ≡ b.setting.document = one sources.graph a.setting.document b.setting.document p.graph.spelled q.graph.spelled in
     let both : Ok a.setting.named ≡ Ok b.setting.named = sym p.setting.graph ∙ (ap graph_of_document document ∙ q.setting.graph) in
     let named : a.setting.named ≡ b.setting.named = cc in
     let structure : a.setting.structure ≡ b.setting.structure =
     one-structure b.setting.named.graph a.setting.structure b.setting.structure (subst (λ (x : NamedGraph). IsBlockStructure x.graph a.setting.structure) named p.setting.structure) q.setting.structure in
-    (document, named, structure, one_reading sources.script a.commands b.commands p.script.spelled q.script.spelled)
+    let trees : a.setting.trees ≡ b.setting.trees = one-trees b.setting.named.graph b.setting.structure.blocks a.setting.trees b.setting.trees q.setting.structure.blocks
+    (subst (λ (x : BlockStructure). AreBlockTrees b.setting.named.graph x.blocks a.setting.trees) structure (subst (λ (x : NamedGraph). AreBlockTrees x.graph a.setting.structure.blocks a.setting.trees) named p.setting.trees)) q.setting.trees in
+    let commands : a.commands ≡ b.commands = one_reading sources.script a.commands b.commands p.script.spelled q.script.spelled in
+    λ i. record { setting = record { document = document i; named = named i; structure = structure i; trees = trees i }; commands = commands i }
 
 -- decisions are alike
 abbrev Alike : Decision → Decision → Type 0
-Alike (Ok a) (Ok b) = SameWork a b
+Alike (Ok a) (Ok b) = a ≡ b
 Alike (Ok a) (Err r) = ⊥
 Alike (Err r) (Ok b) = ⊥
 Alike (Err NoForm) (Err NoForm) = ⊤
@@ -187,14 +188,12 @@ graph_same (Rule a) (File b) e o = absurd e
 graph_same (Rule a) (Gml b) e o = absurd e
 graph_same (Rule a) (Rule b) e o = ap (λ (f : GraphFault). Rule f) e
 
--- with the trees, works that are alike have one report
-report_alike : (a b : Work) (s t : List ℕ) → SameWork a b → a.setting.trees ≡ b.setting.trees → IsReport a.setting a.commands s → IsReport b.setting b.commands t → s ≡ t
-report_alike a b s t w trees p q =
-    let setting : a.setting ≡ b.setting = λ i. record { document = w.0 i; named = w.1 i; structure = w.2 i; trees = trees i } in
-    one-report b.setting b.commands s t (subst (λ (cs : List Command). IsReport b.setting cs s) w.3 (subst (λ (x : Setting). IsReport x a.commands s) setting p)) q
+-- a work has one report
+report_alike : (a b : Work) (s t : List ℕ) → a ≡ b → IsReport a.setting a.commands s → IsReport b.setting b.commands t → s ≡ t
+report_alike a b s t w p q = one-report b.setting b.commands s t (subst (λ (x : Work). IsReport x.setting x.commands s) w p) q
 
 text_alike : (a b : Decision) (s t : List ℕ) → Alike a b → AgreeOnOpen a b → IsTextOf a s → IsTextOf b t → s ≡ t
-text_alike (Ok a) (Ok b) s t e o p q = report_alike a b s t e o p q
+text_alike (Ok a) (Ok b) s t e o p q = report_alike a b s t e p q
 text_alike (Ok a) (Err r) s t e o p q = absurd e
 text_alike (Err r) (Ok b) s t e o p q = absurd e
 text_alike (Err NoForm) (Err NoForm) s t e o p q = p ∙ sym q
@@ -212,7 +211,7 @@ one_text one words sources a b s t p q n m o = text_alike a b s t (due_alike one
 
 -- ---- works and refusals
 
-pub one_work : OneDocument → (words : List (List ℕ)) (sources : Sources) (a b : Work) → IsDue words sources (Ok a) → IsDue words sources (Ok b) → SameWork a b
+pub one_work : OneDocument → (words : List (List ℕ)) (sources : Sources) (a b : Work) → IsDue words sources (Ok a) → IsDue words sources (Ok b) → a ≡ b
 one_work one words sources a b p q = same_work one sources a b p.1 q.1
 
 -- where the words and the files are accepted, no refusal is due

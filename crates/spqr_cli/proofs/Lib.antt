@@ -15,3 +15,4 @@ pub mod Complete
 pub mod Numbered
 pub mod BlockParts
 pub mod BlockTrees
+mod OneTree

@@ -13,9 +13,8 @@ use Rattle.spqr_cli.specs.declared.refusal.Refusal.{Refusal}
 use Rattle.spqr_cli.specs.declared.refusal.GraphRefusal.TheVariants.{Gml}
 use Rattle.spqr_cli.specs.declared.status.Status.TheVariants.{ReadFault}
 
--- two decisions agree on what their definitions leave open: the trees of the setting, and the place that is told of a fault in GML
+-- two decisions agree on what their definitions leave open: the place that is told of a fault in GML
 abbrev pub AgreeOnOpen : Decision → Decision → Type 0
-AgreeOnOpen (Ok a) (Ok b) = a.setting.trees ≡ b.setting.trees
 AgreeOnOpen (Err (OfGraph (Gml fault))) (Err (OfGraph (Gml other))) = fault ≡ other
 AgreeOnOpen a b = ⊤
 
@@ -31,12 +30,10 @@ OneText =
     (words : List (List ℕ)) (sources : Sources) (a b : Decision) (s t : List ℕ) → IsDue words sources a → IsDue words sources b
     → status_of a ≢ ReadFault → status_of b ≢ ReadFault → AgreeOnOpen a b → IsTextOf a s → IsTextOf b t → s ≡ t
 
--- works that are due for the same words and bytes are the same but for the trees
+-- works that are due for the same words and bytes are the same, their trees included
 abbrev pub OneWork : Type 0
 OneWork =
-    (words : List (List ℕ)) (sources : Sources) (a b : Work) → IsDue words sources (Ok a) → IsDue words sources (Ok b)
-    → (a.setting.document ≡ b.setting.document) × (a.setting.named ≡ b.setting.named) × (a.setting.structure ≡ b.setting.structure)
-    × (a.commands ≡ b.commands)
+    (words : List (List ℕ)) (sources : Sources) (a b : Work) → IsDue words sources (Ok a) → IsDue words sources (Ok b) → a ≡ b
 
 -- where the words are a form and both files are accepted, no refusal is due, a read that failed aside
 abbrev pub NoRefusal : Type 0
