@@ -1,7 +1,7 @@
 -- The list with locked nodes, its length, and the last member of the full list.
-use Rattle.std.proofs.Common.{◌≡◌, ◌≢◌, ℕ, zero, suc, ◌+◌, ◌*◌, ◌<◌, ◌≤◌, ◌⊎◌, ◌==◌, ◌&&◌, ◌||◌, nat_lt, inl, inr, Bool, true, false, cond, List, [], ◌∷◌, length, map, reverse, slice_index_or, refl, sym, ap, ap₂, ◌∙◌, subst, arith, Contains}
+use Rattle.std.proofs.Common.{◌≡◌, ◌≢◌, ℕ, zero, suc, ◌+◌, ◌*◌, ◌<◌, ◌≤◌, ◌==◌, ◌&&◌, ◌||◌, nat_lt, inl, inr, Bool, true, false, cond, List, [], ◌∷◌, length, map, reverse, slice_index_or, refl, sym, ap, ap₂, ◌∙◌, subst, arith, Contains}
 use Rattle.std.specs.Prelude.{AllPairs}
-use Rattle.std.proofs.lemmas.Bool.{cases_Bool, cases_eq, both_ways, true≢false, lt-ltb}
+use Rattle.std.proofs.lemmas.Bool.{cases_Bool, lt-ltb}
 use Rattle.std.proofs.lemmas.List.{length-map, get_or_default}
 use Rattle.permutations.specs.Cyclic.{first_or, least_or, from_least}
 use Rattle.permutations.specs.Members.{is_member, is_distinct}
@@ -9,7 +9,7 @@ use Rattle.permutations.proofs.Members.{member-head, member-tail}
 use Rattle.permutations.proofs.NormalForm.{from_least-first_or, least_or-le}
 use Rattle.multigraph.specs.Graph.{Multigraph}
 use Rattle.multigraph.specs.Part.{Rises}
-use Rattle.rotations.specs.Rotation.{IsRotationSystem, IsCyclicOrder}
+use Rattle.rotations.specs.Rotation.{IsCyclicOrder}
 use Rattle.faces.specs.Maps.{mirror_image}
 use Rattle.faces.proofs.MapMirror.{mirror-system, mirror-image-plane}
 use Rattle.pair_split.specs.Tutte.{Node, node_at}
@@ -21,14 +21,14 @@ use Rattle.choice_lists.specs.Order.{IsRising, is_before}
 use Rattle.choice_lists.specs.Arrangements.{factorial}
 use Rattle.choice_lists.specs.Choices.{mirror_choice, IsBondChoice, bond_choices, rigid_choices, IsChoiceList}
 use Rattle.choice_lists.specs.Products.{IsFirst, IsLast}
-use Rattle.choice_lists.proofs.Places.{At, Ascends, at-from, has-from, contains-from}
+use Rattle.choice_lists.proofs.Places.{Ascends, at-from, has-from, contains-from}
 use Rattle.choice_lists.proofs.Choices.{bond-list, bond-length, rigid-has, rigid-length, mirror-differs, mirror-is, choice_list-ascends, choice_list-ends}
 use Rattle.choice_lists.proofs.Products.{at-first, at-last}
-use Rattle.choice_lists.proofs.ToldByChoices.{product_to, ComesBefore, AreTold, ListedByVectors, listed-by_vectors}
+use Rattle.choice_lists.proofs.ToldByChoices.{product_to, AreTold, ListedByVectors, listed-by_vectors}
 use Rattle.skeletons.specs.Items.{item_key, node_keys, has_vertex, least_vertex, IsBlockTree}
 use Rattle.skeletons.specs.Round.{keys_round}
 use Rattle.skeletons.specs.Choices.{choice_of_kind, choice, Precedes, IsPlaneSystem}
-use Rattle.skeletons.specs.Lists.{IsListOf, IsKept, IsKeptList, cyclic_orders, choice_count, count_below, list_count}
+use Rattle.skeletons.specs.Lists.{IsKept, IsKeptList, cyclic_orders, choice_count, count_below, list_count}
 use Rattle.skeletons.specs.Families.{IsPossible, IsPossibleFor}
 use Rattle.skeletons.specs.Laws.{KeptListExists, LastIsMirrorOfFirst}
 use Rattle.skeletons.proofs.NodeItems.{edge-item}

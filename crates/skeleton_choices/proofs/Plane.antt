@@ -1,45 +1,40 @@
 -- Moves keep plane, and choices tell a plane rotation system: by the rotation systems of the skeletons.
-use Rattle.std.proofs.Common.{◌≡◌, ◌≢◌, ℕ, zero, suc, ◌+◌, ◌<◌, ◌≤◌, ◌⊎◌, ◌==◌, ◌||◌, inl, inr, Bool, true, false, List, [], ◌∷◌, length, map, filter, reverse, slice_index_or, refl, sym, ap, ◌∙◌, subst, arith, IsPermutation}
-use Rattle.std.proofs.lemmas.Bool.{cases_Bool, cases_eq, both_ways, true≢false, or_left, or_right, eq-eqb}
-use Rattle.std.proofs.lemmas.List.{length-map}
-use Rattle.std.proofs.lemmas.List.Sorted.{length_permutation, IsPermutation-sym, IsPermutation-trans, IsPermutation-refl}
+use Rattle.std.proofs.Common.{◌≡◌, ◌≢◌, ℕ, ◌<◌, ◌≤◌, ◌⊎◌, ◌==◌, inl, inr, true, List, [], ◌∷◌, length, reverse, refl, sym, ap, ◌∙◌, subst, arith, IsPermutation}
+use Rattle.std.proofs.lemmas.Bool.{cases_eq, both_ways, true≢false, or_left, or_right, eq-eqb}
+use Rattle.std.proofs.lemmas.List.Sorted.{length_permutation}
 use Rattle.permutations.specs.Cyclic.{first_or, least_or, IsTurn, from_least}
 use Rattle.permutations.specs.Members.{is_member, is_distinct}
 use Rattle.permutations.proofs.Arrangements.{permutation-member, permutation-distinct}
 use Rattle.permutations.proofs.Members.{member-head, member-tail, member-cases, distinct-head}
 use Rattle.permutations.proofs.Turned.{IsTurn-refl, IsTurn-swap}
-use Rattle.permutations.proofs.NormalForm.{mirror-twice, from_least-same, from_least-turn, from_least-distinct, from_least-twice, from_least-first_or, least_or-le, from_least-member}
-use Rattle.multigraph.specs.Graph.{Multigraph, incident_edges}
-use Rattle.contractions.proofs.Neighbours.{incident-three}
+use Rattle.permutations.proofs.NormalForm.{mirror-twice, from_least-same, from_least-first_or, least_or-le}
+use Rattle.multigraph.specs.Graph.{Multigraph}
 use Rattle.rotations.specs.Rotation.{order_at, IsRotationSystem}
 use Rattle.faces.specs.Euler.{IsPlane}
 use Rattle.faces.specs.Maps.{mirror_image}
 use Rattle.faces.proofs.MapMirror.{mirror-system, mirror-image-plane}
-use Rattle.planarity.proofs.TwoSystems.{two-systems}
-use Rattle.pair_split.specs.Skeleton.{HasPoles, IsOfKind, IsPolygon, IsSmall, degree}
+use Rattle.pair_split.specs.Skeleton.{HasPoles, IsOfKind}
 use Rattle.pair_split.specs.Split.{skeleton}
 use Rattle.pair_split.specs.Tutte.{Node, components, node_at, node_item, group, IsTutte}
 use Rattle.pair_split.specs.declared.components.Kind.{Kind}
-use Rattle.pair_split.specs.declared.components.Kind.TheVariants.{S, P, R, B}
-use Rattle.choice_lists.specs.Choices.{mirror_choice}
+use Rattle.pair_split.specs.declared.components.Kind.TheVariants.{P, R}
 use Rattle.choice_lists.proofs.Choices.{mirror-differs, mirror-is}
-use Rattle.skeletons.specs.Items.{keys_at, has_vertex, least_vertex, greatest_vertex, IsBlockTree}
+use Rattle.skeletons.specs.Items.{has_vertex, least_vertex, greatest_vertex, IsBlockTree}
 use Rattle.skeletons.specs.Round.{keys_round, IsContiguous}
 use Rattle.skeletons.specs.Choices.{choice_of_kind, choice, IsPlaneSystem}
 use Rattle.skeletons.specs.Moves.{Move, flip, permute, moved_node, IsNodeOfKind, FlipLeads, PermuteLeads, MoveLeads}
-use Rattle.skeletons.specs.Families.{place_of, skeleton_graph, system_at, AreSkeletonSystems, FollowsFamily}
-use Rattle.skeletons.specs.Laws.{ChoicesTell, MoveKeepsPlane}
-use Rattle.skeletons.proofs.NodeItems.{comp-in, edge-item, item-vertex, vertex-node}
-use Rattle.skeletons.proofs.KeyRuns.{met-runs, met-order, order-met}
-use Rattle.skeletons.proofs.Vertices.{node-kind, least-has, greatest-has, bond-vertex, poles-differ}
-use Rattle.skeletons.proofs.Moved.{keys-round_items, mirror-normal, move-moved, moved-round, move-contiguous, flip-round}
-use Rattle.skeletons.proofs.Unique.{one-system}
-use Rattle.skeletons.proofs.Places.{contiguous-follows, place-below}
+use Rattle.skeletons.specs.Families.{skeleton_graph, system_at, AreSkeletonSystems, FollowsFamily}
+use Rattle.skeletons.specs.Laws.{MoveKeepsPlane}
+use Rattle.skeletons.proofs.NodeItems.{comp-in, edge-item, item-vertex}
+use Rattle.skeletons.proofs.KeyRuns.{met-runs, met-order}
+use Rattle.skeletons.proofs.Vertices.{node-kind, least-has, greatest-has, bond-vertex}
+use Rattle.skeletons.proofs.Moved.{mirror-normal, move-moved, moved-round, move-contiguous, flip-round}
+use Rattle.skeletons.proofs.Places.{contiguous-follows}
 use Rattle.skeleton_runs.proofs.Contiguous.{plane-contiguous}
-use Rattle.skeleton_runs.proofs.SkeletonGraph.{skeleton-graph, skeleton-triconnected}
+use Rattle.skeleton_runs.proofs.SkeletonGraph.{skeleton-graph}
 use Rattle.skeleton_planes.proofs.BondSkeleton.{reversed-plane, plane-reversed}
 use Rattle.skeleton_planes.proofs.Followed.{follows-plane, follows-plane_back}
-use Rattle.skeleton_choices.proofs.Rounds.{skeleton_round, round-distinct, round-normal, mirror-keys, reversed-round, round-reversed, round-length, same-rounds}
+use Rattle.skeleton_choices.proofs.Rounds.{skeleton_round, round-distinct, round-normal, mirror-keys, reversed-round, round-reversed, same-rounds}
 
 -- three keys or more, from the least on, aren't their own mirror image
 pub three-differ : (keys : List ℕ) → is_distinct keys ≡ true → from_least keys ≡ keys → 3 ≤ length keys → from_least (reverse keys) ≢ keys

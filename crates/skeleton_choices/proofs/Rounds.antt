@@ -1,14 +1,13 @@
 -- The keys round the vertices of a node, in a rotation system of its skeleton.
-use Rattle.std.proofs.Common.{◌≡◌, ◌≢◌, ℕ, zero, suc, ◌+◌, ◌<◌, ◌≤◌, ◌⊎◌, inl, inr, Bool, true, false, List, [], ◌∷◌, ◌++◌, length, map, reverse, slice_index_or, refl, sym, ap, ap₂, ◌∙◌, subst, arith, IsPermutation}
-use Rattle.std.proofs.lemmas.Bool.{cases_Bool, cases_eq, both_ways, true≢false}
+use Rattle.std.proofs.Common.{◌≡◌, ℕ, ◌<◌, true, List, [], ◌∷◌, ◌++◌, length, map, reverse, slice_index_or, refl, sym, ap, ◌∙◌, subst}
 use Rattle.std.proofs.lemmas.List.{length-map, map-append, reverse-append}
 use Rattle.std.proofs.lemmas.List.Sorted.{length_permutation}
 use Rattle.permutations.specs.Cyclic.{IsTurn, from_least}
-use Rattle.permutations.specs.Members.{is_member, is_distinct}
+use Rattle.permutations.specs.Members.{is_distinct}
 use Rattle.permutations.proofs.Arrangements.{member-at, permutation-distinct}
 use Rattle.permutations.proofs.Members.{distinct-reverse}
 use Rattle.permutations.proofs.NormalForm.{from_least-same, from_least-turn, from_least-distinct, from_least-twice, same-from_least}
-use Rattle.permutations.proofs.Turned.{IsTurn-map, IsTurn-sym, IsTurn-reverse, IsTurn-distinct, IsTurn-length}
+use Rattle.permutations.proofs.Turned.{IsTurn-map, IsTurn-length}
 use Rattle.multigraph.specs.Graph.{Multigraph, incident_edges}
 use Rattle.multigraph.proofs.Places.{rises-once}
 use Rattle.rotations.specs.Rotation.{order_at, IsRotationSystem}
@@ -16,9 +15,8 @@ use Rattle.rotations.proofs.Membership.{incident-distinct}
 use Rattle.faces.specs.Maps.{mirror_image}
 use Rattle.faces.proofs.MapLists.{map-back}
 use Rattle.faces.proofs.MapMirror.{mirror-order}
-use Rattle.pair_split.specs.Tutte.{Node, node_at, node_item, group, IsTutte}
-use Rattle.skeletons.specs.Items.{node_keys, has_vertex, IsBlockTree}
-use Rattle.skeletons.specs.Round.{keys_round}
+use Rattle.pair_split.specs.Tutte.{Node, node_at, node_item, IsTutte}
+use Rattle.skeletons.specs.Items.{node_keys, has_vertex}
 use Rattle.skeletons.specs.Families.{place_of, skeleton_graph, keys_of}
 use Rattle.skeletons.proofs.Systems.{same-turns, order-written}
 use Rattle.skeletons.proofs.Rearranged.{distinct-places}

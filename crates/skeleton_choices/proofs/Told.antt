@@ -1,15 +1,15 @@
 -- Choices tell a plane rotation system, are possible, and every selection of possible choices is that of one.
-use Rattle.std.proofs.Common.{◌≡◌, ◌≢◌, ℕ, zero, suc, ◌+◌, ◌<◌, ◌≤◌, ◌⊎◌, ◌==◌, inl, inr, Bool, true, false, cond, List, [], ◌∷◌, length, map, filter, reverse, slice_index_or, refl, sym, ap, ◌∙◌, subst, arith, IsPermutation}
-use Rattle.std.proofs.lemmas.Bool.{cases_Bool, cases_eq, cases_lt, both_ways, true≢false, eq-eqb, ne_eqb}
+use Rattle.std.proofs.Common.{◌≡◌, ◌≢◌, ℕ, suc, ◌<◌, ◌≤◌, ◌⊎◌, ◌==◌, inl, inr, Bool, true, cond, List, [], ◌∷◌, length, map, filter, reverse, slice_index_or, refl, sym, ap, ◌∙◌, subst, arith}
+use Rattle.std.proofs.lemmas.Bool.{cases_Bool, cases_eq, cases_lt, true≢false, eq-eqb, ne_eqb}
 use Rattle.std.proofs.lemmas.List.{length-map, get_or-map}
 use Rattle.std.proofs.lemmas.List.Sorted.{length_permutation, IsPermutation-sym, IsPermutation-trans}
-use Rattle.permutations.specs.Cyclic.{first_or, IsTurn, from_least}
+use Rattle.permutations.specs.Cyclic.{first_or, from_least}
 use Rattle.permutations.specs.Members.{is_member, is_distinct}
 use Rattle.permutations.specs.Runs.{group_keys}
 use Rattle.permutations.proofs.Arrangements.{permutation-member, permutation-distinct}
 use Rattle.permutations.proofs.Filter.{filter-yes, filter-no}
-use Rattle.permutations.proofs.Members.{member-head, member-tail, member-cases, member-reverse, distinct-reverse}
-use Rattle.permutations.proofs.NormalForm.{from_least-same, from_least-distinct, from_least-twice, from_least-member, mirror-twice}
+use Rattle.permutations.proofs.Members.{member-reverse, distinct-reverse}
+use Rattle.permutations.proofs.NormalForm.{from_least-same, from_least-distinct, from_least-twice}
 use Rattle.multigraph.specs.Graph.{Multigraph, numbers_below, incident_edges}
 use Rattle.multigraph.specs.Part.{Rises}
 use Rattle.multigraph.proofs.Below.{get_or-numbers_below, length-numbers_below}
@@ -17,12 +17,11 @@ use Rattle.multigraph.proofs.Places.{rises-once}
 use Rattle.contractions.proofs.Neighbours.{incident-three}
 use Rattle.rotations.specs.Rotation.{order_at, IsRotationSystem, IsCyclicOrder}
 use Rattle.faces.specs.Euler.{IsPlane}
-use Rattle.faces.specs.Maps.{mirror_image}
 use Rattle.faces.proofs.MapLists.{map-member}
 use Rattle.faces.proofs.MapMirror.{order-least}
 use Rattle.planarity.proofs.TwoSystems.{two-systems}
 use Rattle.pair_split.specs.Skeleton.{is_end_of}
-use Rattle.pair_split.specs.Split.{items_of, piece_ends, skeleton}
+use Rattle.pair_split.specs.Split.{piece_ends, skeleton}
 use Rattle.pair_split.specs.Tutte.{Node, piece_of, components, node_at, node_item, group, IsTutte}
 use Rattle.pair_split.specs.declared.components.Kind.{Kind}
 use Rattle.pair_split.specs.declared.components.Kind.TheVariants.{S, P, R, B}
@@ -31,9 +30,9 @@ use Rattle.skeletons.specs.Items.{ends_item, item_key, keys_at, node_keys, has_v
 use Rattle.skeletons.specs.Round.{keys_round}
 use Rattle.skeletons.specs.Choices.{choice_of_kind, choice, IsPlaneSystem}
 use Rattle.skeletons.specs.Moves.{IsNodeOfKind}
-use Rattle.skeletons.specs.Families.{place_of, skeleton_graph, system_at, AreSkeletonSystems, keys_of, StandInOrder, FollowsFamily, IsPlaneChoice, IsPossibleFor, IsPossible}
+use Rattle.skeletons.specs.Families.{place_of, skeleton_graph, system_at, AreSkeletonSystems, keys_of, StandInOrder, FollowsFamily, IsPossibleFor, IsPossible}
 use Rattle.skeletons.specs.Laws.{ChoicesTell, ChoiceIsPossible, SelectionExists}
-use Rattle.skeletons.proofs.NodeItems.{no_item, node-pieces, keys-at_distinct, vertex-node}
+use Rattle.skeletons.proofs.NodeItems.{no_item, node-pieces, vertex-node}
 use Rattle.skeletons.proofs.KeyRuns.{met-runs, order-met}
 use Rattle.skeletons.proofs.Rearranged.{member-place, distinct-places}
 use Rattle.skeletons.proofs.Systems.{written-first, order-arranged}
@@ -43,10 +42,10 @@ use Rattle.skeletons.proofs.Unique.{one-system}
 use Rattle.skeletons.proofs.Places.{place-below, round-item, skeleton-system, skeleton-is, skeleton-keys, family-followed}
 use Rattle.skeletons.proofs.Leading.{bond-choice}
 use Rattle.skeleton_runs.proofs.Contiguous.{plane-contiguous}
-use Rattle.skeleton_runs.proofs.SkeletonGraph.{skeleton-graph, skeleton-triconnected}
+use Rattle.skeleton_runs.proofs.SkeletonGraph.{skeleton-triconnected}
 use Rattle.skeleton_planes.proofs.Followed.{follows-plane}
 use Rattle.skeleton_planes.proofs.Planar.{skeleton-planar}
-use Rattle.skeleton_choices.proofs.Rounds.{skeleton_round, round-length, round-distinct, round-normal, mirror-keys}
+use Rattle.skeleton_choices.proofs.Rounds.{skeleton_round, round-length, mirror-keys}
 use Rattle.skeleton_choices.proofs.Plane.{three-differ, few-equal, Parts, parts, same-round, of-kind, bond-is_plane, plane-bond, choice-round}
 
 -- what passes of an image is the image of what passes there
