@@ -4,6 +4,7 @@ use Rattle.std.specs.Prelude.{◌≡◌, ℕ, zero, suc, ◌+◌, ◌*◌, ◌/�
 use Rattle.std.specs.List.{All}
 use Rattle.permutations.specs.Cyclic.{first_or, successor}
 use Rattle.permutations.specs.Members.{is_member, is_distinct}
+use Rattle.permutations.specs.Permutation.{Permutes}
 use Rattle.multigraph.specs.Graph.{Multigraph, max_vertices, edge_count, ends_of, incident_edges}
 use Rattle.rotations.specs.Rotation.{order_at}
 use Rattle.rotations.specs.declared.rings.Ring.{Ring}
@@ -36,16 +37,17 @@ pub record AreLinked (tails next prev : List ℕ) (v : ℕ) (order some : List �
   pub forth : (e : ℕ) → is_member e some ≡ true → slice_index next (dart_at tails v e) ≡ dart_at tails v (successor order e)
   pub back : (e : ℕ) → is_member e some ≡ true → slice_index prev (dart_at tails v (successor order e)) ≡ dart_at tails v e
 
--- the vectors keep a rotation system
+-- rings of darts keep a rotation system, each written from its least edge on
 pub record AreRings (tails next prev : List ℕ) (rings : List Ring) : Type 0 where
   pub few : length tails ≤ max_darts
   pub few_rings : length rings ≤ max_vertices
   pub next_long : length next ≡ length tails
   pub prev_long : length prev ≡ length tails
-  pub next_in : (d : ℕ) → d < length next → slice_index next d < length next
+  pub permutes : Permutes (length next) (slice_index next) (slice_index prev)
   pub first_in : All (λ ring. 0 < ring.degree → ring.first < length next) rings
   pub rounds : (v : ℕ) → v < length rings → StandRound tails v (order_at (orders next rings) v)
   pub linked : (v : ℕ) → v < length rings → AreLinked tails next prev v (order_at (orders next rings) v) (order_at (orders next rings) v)
+  pub least : (v e : ℕ) → v < length rings → is_member e (order_at (orders next rings) v) ≡ true → first_or 0 (order_at (orders next rings) v) ≤ e
 
 -- the vertices that the darts of g leave
 pub record AreTails (g : Multigraph) (tails : List ℕ) : Type 0 where

@@ -1,4 +1,4 @@
-// Rotation systems, kept as cyclic successors and predecessors of darts.
+// Rotation systems, kept as rings of darts.
 
 ghost use Rattle.std.specs.Prelude.{◌≡◌, ℕ, ◌<◌, ◌↔◌, length, IfOk, IfErr, IsTrue};
 ghost use Rattle.std.specs.List.{Contains};
@@ -6,24 +6,25 @@ ghost use Rattle.permutations.specs.Cyclic.{successor, predecessor};
 ghost use Rattle.rotations.specs.Rotation.{order_at, IsRotationSystem};
 ghost use Rattle.rotations.specs.Given.{AreArranged, IsRefusal, given_order};
 
-use crate::arrangement::{check_lists, zeros};
+use crate::arrangement::check_lists;
 use crate::entries::Lists;
 use crate::faults::RotFault;
 use crate::linking::link;
 use crate::rings::{Ring, dart_at, ring_of, tails_of};
 use crate::round::RotIter;
 use multigraph::Graph;
+use ring_arena::Rings;
 use std::alloc::{AllocError, Global};
 use std::marker::Model;
 
 /// A rotation system: for each vertex a cyclic order of the edges at it.
 ///
-/// It is kept without the graph, as successors and predecessors of darts, so that each step round a vertex takes constant time.
+/// It is kept without the graph, as one ring of darts round each vertex: a step takes constant time, and a run of edges is moved
+/// without looking at it. The dart of edge e at its first end is node 2e, that at its second node 2e + 1.
 #[derive(Debug, Drop)]
 pub struct Rotation {
     tails: Vec<u32>,
-    next: Vec<u32>,
-    prev: Vec<u32>,
+    nodes: Rings,
     rings: Vec<Ring>,
 }
 
@@ -34,9 +35,9 @@ impl Model for Rotation {
 
     ghost use Rattle.rotations.specs.Rings.{orders, AreRings};
 
-    ghost view = { λ r. orders r.next.items r.rings.items };
+    ghost view = { λ r. orders r.nodes.next r.rings.items };
 
-    ghost invariant = { λ r. AreRings r.tails.items r.next.items r.prev.items r.rings.items };
+    ghost invariant = { λ r. AreRings r.tails.items r.nodes.next r.nodes.prev r.rings.items };
 }
 
 impl Rotation {
@@ -65,20 +66,18 @@ impl Rotation {
         ensures orders { IfOk result (λ r. (v : ℕ) → v < g.now.vertex_count → order_at r v ≡ given_order g.now lists.now v) }
     {
         let tails = tails_of(alloc, g)?;
-        let mut next = zeros(alloc, tails.len())?;
-        let mut prev = zeros(alloc, tails.len())?;
+        let mut nodes = Rings::new(alloc, 2 * g.edge_count())?;
         let mut rings = Vec::with_capacity(alloc, g.vertex_count() as usize)?;
         let mut at = 0;
         for v in 0..g.vertex_count() {
             let (list, after) = lists.given(at, v);
-            link(&tails, v, list, &mut next, &mut prev);
+            link(&tails, v, list, &mut nodes);
             rings.push(ring_of(g, &tails, v))?;
             at = after;
         }
         Ok(Rotation {
             tails,
-            next,
-            prev,
+            nodes,
             rings,
         })
     }
@@ -96,7 +95,7 @@ impl Rotation {
         ensures { result ≡ successor (order_at self.now v) e }
     {
         let dart = dart_at(&self.tails, v, e);
-        self.next[dart as usize] / 2
+        self.nodes.next(dart) / 2
     }
 
     /// The edge that edge `e` follows round `v`.
@@ -105,7 +104,7 @@ impl Rotation {
         ensures { result ≡ predecessor (order_at self.now v) e }
     {
         let dart = dart_at(&self.tails, v, e);
-        self.prev[dart as usize] / 2
+        self.nodes.prev(dart) / 2
     }
 
     /// The edges round `v` in cyclic order, from the least on.
@@ -114,7 +113,7 @@ impl Rotation {
         ensures { result ≡ order_at self.now v }
     {
         let ring = self.rings[v as usize];
-        RotIter::from(&self.next, ring.first, ring.degree)
+        RotIter::from(&self.nodes, ring.first, ring.degree)
     }
 
     /// The same rotation system once more.
@@ -122,13 +121,11 @@ impl Rotation {
         ensures { IfOk result (λ r. r ≡ self.now) }
     {
         let tails = Vec::from_slice(alloc, &self.tails)?;
-        let next = Vec::from_slice(alloc, &self.next)?;
-        let prev = Vec::from_slice(alloc, &self.prev)?;
+        let nodes = self.nodes.copy(alloc)?;
         let rings = Vec::from_slice(alloc, &self.rings)?;
         Ok(Rotation {
             tails,
-            next,
-            prev,
+            nodes,
             rings,
         })
     }
