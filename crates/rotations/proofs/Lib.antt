@@ -7,6 +7,8 @@ mod Marks
 mod Darts
 mod Links
 mod Turns
+mod Cycles
+mod Reorder
 mod Stages
 mod Steps
 mod FirstBad

@@ -189,7 +189,9 @@ built-rings g entries tails links rings ok a t r = record {
   next_long = r.long;
   prev_long = r.inverse.long ∙ r.long;
   permutes = r.inverse.permutes;
-  first_in = λ k other l some. begins k other l some;
+  first_in = λ k other l some. node k other l some;
+  begins = λ v other l some. (r.ring v other (inside v l)).first some
+      ∙ ap (dart_at tails v) (sym (ap (first_or 0) (is v l) ∙ turned-first_or (list_at entries v) (first_or 0 (incident_edges g v)) 0 (least-given g entries v a (inside v l) (omega (arith, (r.ring v other (inside v l)).degree)))));
   rounds = λ v l. subst (λ (o : List ℕ). StandRound tails v o) (sym (is v l)) (order-round g entries tails v a t (inside v l));
   linked = λ v l. subst (λ (o : List ℕ). AreLinked tails links.next links.prev v o o) (sym (is v l)) (order-linked g entries tails links.next links.prev v a t (inside v l) (r.linked v (inside v l)));
   least = λ v e l m. subst (λ (o : List ℕ). first_or 0 o ≤ e) (sym (is v l)) (given-least g entries v e a (inside v l) (subst (λ (o : List ℕ). is_member e o ≡ true) (is v l) m));
@@ -201,8 +203,8 @@ built-rings g entries tails links rings ok a t r = record {
     is : (v : ℕ) → v < length rings → order_at (orders links.next rings) v ≡ given_order g entries v
     is v l = built-orders g entries tails links rings a t r v (inside v l)
 
-    begins : (k : ℕ) (other : Ring) → k < length rings → 0 < (get_or rings k other).degree → (get_or rings k other).first < length links.next
-    begins k other l some =
+    node : (k : ℕ) (other : Ring) → k < length rings → 0 < (get_or rings k other).degree → (get_or rings k other).first < length links.next
+    node k other l some =
         let is = r.ring k other (inside k l) in
         let m = least-given g entries k a (inside k l) (omega (arith, is.degree)) in
         let d = (given-round g entries tails k a t (inside k l)).darts (first_or 0 (incident_edges g k)) m in

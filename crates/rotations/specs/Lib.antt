@@ -3,3 +3,4 @@ pub mod Rotation
 pub mod Entries
 pub mod Given
 pub mod Rings
+pub mod Runs

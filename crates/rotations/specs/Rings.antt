@@ -1,6 +1,6 @@
 -- A rotation system as it is kept: for each dart the one that follows it round its vertex, and the one that it follows.
 -- Each edge e has two darts: 2e leaves its first end, 2e + 1 its second.
-use Rattle.std.specs.Prelude.{◌≡◌, ℕ, zero, suc, ◌+◌, ◌*◌, ◌/◌, ◌<◌, ◌≤◌, ◌==◌, if◌then◌else◌, true, List, [], ◌∷◌, length, map, slice_index}
+use Rattle.std.specs.Prelude.{◌≡◌, ℕ, zero, suc, ◌+◌, ◌*◌, ◌/◌, ◌<◌, ◌≤◌, ◌==◌, if◌then◌else◌, true, List, [], ◌∷◌, length, map, slice_index, slice_index_or}
 use Rattle.std.specs.List.{All}
 use Rattle.permutations.specs.Cyclic.{first_or, successor}
 use Rattle.permutations.specs.Members.{is_member, is_distinct}
@@ -45,6 +45,7 @@ pub record AreRings (tails next prev : List ℕ) (rings : List Ring) : Type 0 wh
   pub prev_long : length prev ≡ length tails
   pub permutes : Permutes (length next) (slice_index next) (slice_index prev)
   pub first_in : All (λ ring. 0 < ring.degree → ring.first < length next) rings
+  pub begins : (v : ℕ) (other : Ring) → v < length rings → 0 < (slice_index_or rings v other).degree → (slice_index_or rings v other).first ≡ dart_at tails v (first_or 0 (order_at (orders next rings) v))
   pub rounds : (v : ℕ) → v < length rings → StandRound tails v (order_at (orders next rings) v)
   pub linked : (v : ℕ) → v < length rings → AreLinked tails next prev v (order_at (orders next rings) v) (order_at (orders next rings) v)
   pub least : (v e : ℕ) → v < length rings → is_member e (order_at (orders next rings) v) ≡ true → first_or 0 (order_at (orders next rings) v) ≤ e
