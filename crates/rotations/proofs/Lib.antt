@@ -9,6 +9,9 @@ mod Links
 mod Turns
 mod Cycles
 mod Reorder
+mod Runs
+mod Moves
+mod Turning
 mod Stages
 mod Steps
 mod FirstBad

@@ -1,9 +1,11 @@
 // Rotation systems, kept as rings of darts.
 
-ghost use Rattle.std.specs.Prelude.{◌≡◌, ℕ, ◌<◌, ◌↔◌, length, IfOk, IfErr, IsTrue};
+ghost use Rattle.std.specs.Prelude.{◌≡◌, ℕ, ◌<◌, ◌↔◌, List, length, reverse, IfOk, IfErr, IsTrue};
 ghost use Rattle.std.specs.List.{Contains};
-ghost use Rattle.permutations.specs.Cyclic.{successor, predecessor};
+ghost use Rattle.permutations.specs.Cyclic.{successor, predecessor, from_least};
 ghost use Rattle.rotations.specs.Rotation.{order_at, IsRotationSystem};
+ghost use Rattle.rotations.specs.Rings.{StandOnRings};
+ghost use Rattle.rotations.specs.Runs.{IsOutside, IsRunMoved, IsRunTurned, IsKeptElsewhere, mirror_image};
 ghost use Rattle.rotations.specs.Given.{AreArranged, IsRefusal, given_order};
 
 use crate::arrangement::check_lists;
@@ -114,6 +116,73 @@ impl Rotation {
     {
         let ring = self.rings[v as usize];
         RotIter::from(&self.nodes, ring.first, ring.degree)
+    }
+
+    /// The rings on which it is kept, with two nodes for each edge: an edge has one of them at each of its ends.
+    ///
+    /// Round each vertex the node behind that of an edge is that of the edge which follows it there.
+    pub fn rings(&self) -> &Rings
+        ensures { (tails : List ℕ) × StandOnRings self.now result.now tails }
+    {
+        &self.nodes
+    }
+
+    /// Takes the run of edges from `first` to `last` round `v` out, and puts it behind `after`, which is not in it. Takes constant
+    /// time and no memory.
+    pub fn move_run(&mut self, v: u32, first: u32, last: u32, after: u32)
+        requires { IsOutside (order_at self.old v) first last after }
+        ensures moved { IsRunMoved (order_at self.old v) (order_at self.new v) first last after }
+        ensures elsewhere { IsKeptElsewhere self.old self.new v }
+    {
+        let before = dart_at(&self.tails, v, self.pred(v, first));
+        let end = dart_at(&self.tails, v, last);
+        let place = dart_at(&self.tails, v, after);
+        self.nodes.exchange(before, end);
+        self.nodes.exchange(place, end);
+    }
+
+    /// Reverses the run of edges from `first` to `last` round `v` in its place, in as many steps as it has edges; it is all of
+    /// them where `first` follows `last`. Takes no memory.
+    pub fn turn_run(&mut self, v: u32, first: u32, last: u32)
+        requires first { Contains (order_at self.old v) first }
+        requires last { Contains (order_at self.old v) last }
+        ensures turned { IsRunTurned (order_at self.old v) (order_at self.new v) first last }
+        ensures elsewhere { IsKeptElsewhere self.old self.new v }
+    {
+        let _ = self.nodes.len();
+        let edge_before = self.pred(v, first);
+        let head = dart_at(&self.tails, v, first);
+        if edge_before == last {
+            self.nodes.reverse(head);
+            return;
+        }
+        let before = dart_at(&self.tails, v, edge_before);
+        let end = dart_at(&self.tails, v, last);
+        self.nodes.exchange(before, end);
+        self.nodes.reverse(head);
+        self.nodes.exchange(before, head);
+    }
+
+    /// Reverses the cyclic order of each vertex: the drawing is seen from the other side. Takes no memory.
+    pub fn mirror(&mut self)
+        ensures { self.new ≡ mirror_image self.old }
+    {
+        for v in 0..self.vertex_count() {
+            self.turn_round(v);
+        }
+    }
+
+    // Reverses the cyclic order of v.
+    fn turn_round(&mut self, v: u32)
+        requires { v < length self.old }
+        ensures turned { order_at self.new v ≡ from_least (reverse (order_at self.old v)) }
+        ensures elsewhere { IsKeptElsewhere self.old self.new v }
+    {
+        let _ = self.nodes.len();
+        let ring = self.rings[v as usize];
+        if ring.degree > 0 {
+            self.nodes.reverse(ring.first);
+        }
     }
 
     /// The same rotation system once more.
