@@ -12,6 +12,7 @@ mod Reorder
 mod Runs
 mod Moves
 mod Turning
+mod Calls
 mod Stages
 mod Steps
 mod FirstBad

@@ -21,7 +21,7 @@ pub record IsReordered (tails : List ℕ) (v : ℕ) (new : Links) (old order : L
   pub forth : (e : ℕ) → is_member e order ≡ true → get_or new.next (dart_at tails v e) 0 ≡ dart_at tails v (successor order e)
 
 -- a walk has as many edges as turns
-length-turns : (next : List ℕ) (d k : ℕ) → length (turns next d k) ≡ k
+pub length-turns : (next : List ℕ) (d k : ℕ) → length (turns next d k) ≡ k
 length-turns next d zero = refl
 length-turns next d (suc k) = ap suc (length-turns next (get_or next d 0) k)
 
