@@ -13,6 +13,7 @@ mod Runs
 mod Moves
 mod Turning
 mod Calls
+mod PartEdges
 mod Stages
 mod Steps
 mod FirstBad

@@ -1,9 +1,10 @@
 -- Runs round a vertex: each two edges there bound one, and the other edges come behind it.
-use Rattle.std.proofs.Common.{◌≡◌, ◌≢◌, ℕ, true, false, List, [], ◌∷◌, ◌++◌, reverse, length, refl, sym, ap, ◌∙◌, subst, inl, inr, append_assoc, append-nil}
+use Rattle.std.proofs.Common.{◌≡◌, ◌≢◌, ℕ, zero, suc, ◌<◌, ◌≤◌, true, false, List, [], ◌∷◌, ◌++◌, reverse, length, get_or, refl, sym, ap, ◌∙◌, subst, inl, inr, arith, append_assoc, append-nil}
 use Rattle.std.specs.List.{Contains}
 use Rattle.std.specs.List.Sorted.{IsPermutation}
 use Rattle.std.proofs.lemmas.List.Sorted.{IsPermutation-refl, IsPermutation-trans, IsPermutation-append_comm, IsPermutation-append_left, IsPermutation-reverse}
-use Rattle.std.proofs.lemmas.Bool.{both_ways, true≢false}
+use Rattle.std.proofs.lemmas.List.{get_or_append_left}
+use Rattle.std.proofs.lemmas.Bool.{cases_eq, both_ways, true≢false}
 use Rattle.permutations.specs.Members.{is_member, is_distinct}
 use Rattle.permutations.specs.Cyclic.{first_or, successor, predecessor, IsTurn}
 use Rattle.permutations.proofs.Members.{member-head, member-append_left, member-append_right, distinct-append_apart, cut_at}
@@ -124,3 +125,60 @@ moved-permutation order first last edge run front back p =
 pub turned-permutation : (order : List ℕ) (first last : ℕ) (run others : List ℕ) → IsParted order first last run others → IsPermutation order (reverse run ++ others)
 turned-permutation order first last run others p =
     IsPermutation-trans order (run ++ others) (reverse run ++ others) (IsTurn-permutation order (run ++ others) p.round) (IsPermutation-append_left others run (reverse run) (IsPermutation-reverse run))
+
+-- a list cut at a place
+pub cut-place : (l : List ℕ) (i : ℕ) → i < length l → (front : List ℕ) × (back : List ℕ) × (l ≡ front ++ get_or l i 0 ∷ back) × (length front ≡ i)
+cut-place [] i m = absurd (omega arith)
+cut-place (x ∷ xs) zero m = ([], xs, refl, refl)
+cut-place (x ∷ xs) (suc i) m = let w = cut-place xs i (omega arith) in (x ∷ w.0, w.1, ap (λ (o : List ℕ). x ∷ o) w.2, ap suc w.3)
+
+-- an edge behind a run, by the parts of the list
+outside-lists : (E run G B : List ℕ) (edge first last : ℕ) (o : List ℕ) → IsRun first last run → o ≡ E ++ (run ++ (G ++ edge ∷ B)) → IsOutside o first last edge
+outside-lists E run G B edge first last o r is = record {
+  run = run;
+  front = G;
+  back = B ++ E;
+  parted = record {
+    is_run = r;
+    round = record {
+      front = E;
+      back = run ++ (G ++ edge ∷ B);
+      before = is;
+      after = sym (append_assoc run (G ++ edge ∷ B) E ∙ ap (λ (l : List ℕ). run ++ l) (append_assoc G (edge ∷ B) E));
+    };
+  };
+}
+
+-- by its place
+pub outside-at : (o : List ℕ) (i j k : ℕ) → i ≤ j → j < k → k < length o → IsOutside o (get_or o i 0) (get_or o j 0) (get_or o k 0)
+outside-at o i j k ij jk kl = elim (cases_eq i j) [
+  | inl same ↦ subst (λ (x : ℕ). IsOutside o (get_or o x 0) (get_or o j 0) (get_or o k 0)) (sym same)
+      (subst (λ (x : ℕ). IsOutside o x x (get_or o k 0)) at_j
+      (outside-lists second.0 (get_or third.0 j 0 ∷ []) second.1 third.1 (get_or o k 0) (get_or third.0 j 0) (get_or third.0 j 0) o
+      (record { behind = []; begins = refl; ahead = []; ends = refl }) two))
+  | inr n ↦ run (omega arith) (cut-place second.0 i (omega (arith, second.3)))
+]
+  where
+    third : (front : List ℕ) × (back : List ℕ) × (o ≡ front ++ get_or o k 0 ∷ back) × (length front ≡ k)
+    third = cut-place o k kl
+
+    second : (front : List ℕ) × (back : List ℕ) × (third.0 ≡ front ++ get_or third.0 j 0 ∷ back) × (length front ≡ j)
+    second = cut-place third.0 j (omega (arith, third.3))
+
+    at_j : get_or third.0 j 0 ≡ get_or o j 0
+    at_j = sym (ap (λ (l : List ℕ). get_or l j 0) third.2 ∙ get_or_append_left third.0 (get_or o k 0 ∷ third.1) 0 j (omega (arith, third.3)))
+
+    two : o ≡ second.0 ++ (get_or third.0 j 0 ∷ (second.1 ++ get_or o k 0 ∷ third.1))
+    two = third.2 ∙ (ap (λ (l : List ℕ). l ++ get_or o k 0 ∷ third.1) second.2 ∙ append_assoc second.0 (get_or third.0 j 0 ∷ second.1) (get_or o k 0 ∷ third.1))
+
+    at_i : i < j → get_or second.0 i 0 ≡ get_or o i 0
+    at_i less = sym (ap (λ (l : List ℕ). get_or l i 0) two ∙ get_or_append_left second.0 (get_or third.0 j 0 ∷ (second.1 ++ get_or o k 0 ∷ third.1)) 0 i (omega (arith, second.3)))
+
+    run : i < j → (front : List ℕ) × (back : List ℕ) × (second.0 ≡ front ++ get_or second.0 i 0 ∷ back) × (length front ≡ i) → IsOutside o (get_or o i 0) (get_or o j 0) (get_or o k 0)
+    run less first =
+        subst (λ (x : ℕ). IsOutside o x (get_or o j 0) (get_or o k 0)) (at_i less) (subst (λ (x : ℕ). IsOutside o (get_or second.0 i 0) x (get_or o k 0)) at_j
+        (outside-lists first.0 (get_or second.0 i 0 ∷ (first.1 ++ get_or third.0 j 0 ∷ [])) second.1 third.1 (get_or o k 0) (get_or second.0 i 0) (get_or third.0 j 0) o
+        (record { behind = first.1 ++ get_or third.0 j 0 ∷ []; begins = refl; ahead = get_or second.0 i 0 ∷ first.1; ends = refl })
+        (two ∙ (ap (λ (l : List ℕ). l ++ (get_or third.0 j 0 ∷ (second.1 ++ get_or o k 0 ∷ third.1))) first.2
+        ∙ (append_assoc first.0 (get_or second.0 i 0 ∷ first.1) (get_or third.0 j 0 ∷ (second.1 ++ get_or o k 0 ∷ third.1))
+        ∙ ap (λ (l : List ℕ). first.0 ++ get_or second.0 i 0 ∷ l) (sym (append_assoc first.1 (get_or third.0 j 0 ∷ []) (second.1 ++ get_or o k 0 ∷ third.1))))))))

@@ -4,3 +4,4 @@ pub mod Entries
 pub mod Given
 pub mod Rings
 pub mod Runs
+pub mod PartLists

@@ -1,20 +1,22 @@
 // Rotation systems, kept as rings of darts.
 
-ghost use Rattle.std.specs.Prelude.{◌≡◌, ℕ, ◌<◌, ◌↔◌, List, length, reverse, IfOk, IfErr, IsTrue};
+ghost use Rattle.std.specs.Prelude.{◌≡◌, ℕ, ◌<◌, ◌↔◌, List, length, map, reverse, slice_index, IfOk, IfErr, IsTrue};
 ghost use Rattle.std.specs.List.{Contains};
 ghost use Rattle.permutations.specs.Cyclic.{successor, predecessor, from_least};
 ghost use Rattle.rotations.specs.Rotation.{order_at, IsRotationSystem};
 ghost use Rattle.rotations.specs.Rings.{StandOnRings};
 ghost use Rattle.rotations.specs.Runs.{IsOutside, IsRunMoved, IsRunTurned, IsKeptElsewhere, mirror_image};
 ghost use Rattle.rotations.specs.Given.{AreArranged, IsRefusal, given_order};
+ghost use Rattle.rotations.specs.PartLists.{ArrangePart, IsPartRefusal, outer_order};
 
 use crate::arrangement::check_lists;
 use crate::entries::Lists;
 use crate::faults::RotFault;
 use crate::linking::link;
+use crate::outer::{check_part, inner_lists};
 use crate::rings::{Ring, dart_at, ring_of, tails_of};
 use crate::round::RotIter;
-use multigraph::Graph;
+use multigraph::{Graph, Part};
 use ring_arena::Rings;
 use std::alloc::{AllocError, Global};
 use std::marker::Model;
@@ -56,6 +58,27 @@ impl Rotation {
     {
         check_lists(alloc, g, lists)?;
         match Rotation::of_arranged(alloc, g, lists) {
+            Ok(r) => Ok(r),
+            Err(_) => Err(RotFault::Memory),
+        }
+    }
+
+    /// The rotation system of a part of a graph, from lists in the numbers of the whole graph: it has at each vertex of the part
+    /// the cyclic order of the list given for it, in the numbers of the part.
+    ///
+    /// Refuses where the lists are none, with the least number that is a vertex of the part whose list is no arrangement of its
+    /// edges in the part, or that is named and no vertex of the part.
+    pub fn from_part(alloc: Global, p: &Part, lists: &Lists) -> Result<Rotation, RotFault>
+        ensures arranged { IfOk result (λ _. ArrangePart p.now lists.now) }
+        ensures orders { IfOk result (λ r. (i : ℕ) → i < p.now.graph.vertex_count → map (slice_index p.now.edges) (order_at r i) ≡ outer_order p.now lists.now i) }
+        ensures system { IfOk result (IsRotationSystem p.now.graph) }
+        ensures refused { IfErr result (λ fault. IsPartRefusal p.now lists.now fault) }
+    {
+        let Ok(inner) = inner_lists(alloc, p, lists) else {
+            return Err(RotFault::Memory);
+        };
+        check_part(alloc, p, lists, &inner)?;
+        match Rotation::of_arranged(alloc, p.graph(), &inner) {
             Ok(r) => Ok(r),
             Err(_) => Err(RotFault::Memory),
         }
@@ -135,10 +158,10 @@ impl Rotation {
         ensures elsewhere { IsKeptElsewhere self.old self.new v }
     {
         let before = dart_at(&self.tails, v, self.pred(v, first));
-        let end = dart_at(&self.tails, v, last);
+        let back = dart_at(&self.tails, v, last);
         let place = dart_at(&self.tails, v, after);
-        self.nodes.exchange(before, end);
-        self.nodes.exchange(place, end);
+        self.nodes.exchange(before, back);
+        self.nodes.exchange(place, back);
     }
 
     /// Reverses the run of edges from `first` to `last` round `v` in its place, in as many steps as it has edges; it is all of
@@ -167,7 +190,8 @@ impl Rotation {
     pub fn mirror(&mut self)
         ensures { self.new ≡ mirror_image self.old }
     {
-        for v in 0..self.vertex_count() {
+        let count = self.vertex_count();
+        for v in 0..count {
             self.turn_round(v);
         }
     }

@@ -3,4 +3,4 @@ use Rattle.rotations.proofs.Calls.{mirrored-all}
 use Rattle.rotations.proofs.system.Rotation.mirror.Goals as goal
 
 pub returns : goal.returns
-returns c = mirrored-all c.args.self.now c.loop-v.self c.loop-v.v (omega (arith, c.loop-v-test.false, c.vertex_count-v-end.ensures)) c.loop-v.invariant
+returns c = mirrored-all c.args.self.now c.loop-v.self c.loop-v.v (omega (arith, c.loop-v-test.false, c.vertex_count-count.ensures)) c.loop-v.invariant
