@@ -8,6 +8,7 @@ ghost use Rattle.ring_arena.specs.Nodes.{max_nodes, links_of, IsLinked, AreNodes
 
 use crate::places::{behind, fits, place};
 use std::alloc::{AllocError, Global};
+use std::fmt;
 use std::marker::Model;
 
 // A node: its number, and where the nodes behind it and before it lie.
@@ -140,6 +141,12 @@ impl Rings {
                 break;
             }
         }
+    }
+}
+
+impl fmt::Debug for Rings {
+    fn fmt<W: fmt::Write>(&self, f: &mut fmt::Formatter<W>) -> fmt::Result {
+        write!(f, "Rings of {} nodes", self.len())
     }
 }
 

@@ -7,6 +7,13 @@ mod Marks
 mod Darts
 mod Links
 mod Turns
+mod Cycles
+mod Reorder
+mod Runs
+mod Moves
+mod Turning
+mod Calls
+mod PartEdges
 mod Stages
 mod Steps
 mod FirstBad

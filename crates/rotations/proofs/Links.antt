@@ -1,16 +1,16 @@
 -- The darts of a list are linked one after another.
-use Rattle.std.proofs.Common.{◌≡◌, ◌≢◌, ℕ, zero, suc, ◌+◌, ◌*◌, ◌<◌, ◌≤◌, true, eqb, List, [], ◌∷◌, length, get_or, set, take, refl, sym, ap, ◌∙◌, subst, inl, inr, arith, add-one}
-use Rattle.std.proofs.lemmas.List.{length-set, get_or-set_same, get_or-set_other, get_or_past, get_or_default, take_more, take_all}
-use Rattle.std.proofs.lemmas.Bool.{cases_eq, eq-eqb, ne_eqb, cond-true, cond-false, both_ways, true≢false}
+use Rattle.std.proofs.Common.{◌≡◌, ◌≢◌, ℕ, zero, suc, ◌+◌, ◌-◌, ◌*◌, ◌<◌, ◌≤◌, true, cond, eqb, List, [], ◌∷◌, length, get_or, refl, sym, ap, ◌∙◌, subst, inl, inr, arith, add-one}
+use Rattle.std.proofs.lemmas.List.{get_or_past, get_or_default}
+use Rattle.std.proofs.lemmas.Bool.{cases_eq, cases_lt, eq-eqb, ne_eqb, cond-true, cond-false, both_ways, true≢false}
 use Rattle.permutations.specs.Members.{is_member, is_distinct}
 use Rattle.permutations.specs.Cyclic.{first_or, successor_from, successor}
-use Rattle.permutations.proofs.Members.{member-append_cases, member-cases, distinct-head, distinct-tail}
-use Rattle.permutations.proofs.Successor.{successor-member, successor-injective}
+use Rattle.permutations.proofs.Members.{member-cases, distinct-head, distinct-tail}
+use Rattle.ring_arena.specs.Links.{Links, AreInverse, AreNow, linked_after}
 use Rattle.rotations.specs.Rings.{dart_at, StandRound, AreLinked}
 use Rattle.rotations.proofs.Membership.{member-at}
 use Rattle.rotations.proofs.Darts.{dart-in, dart-injective}
 
-first_is : (z : ℕ) (l : List ℕ) → first_or z l ≡ get_or l 0 z
+pub first_is : (z : ℕ) (l : List ℕ) → first_or z l ≡ get_or l 0 z
 first_is z [] = refl
 first_is z (x ∷ xs) = refl
 
@@ -30,103 +30,139 @@ pub successor-at : (l : List ℕ) (i : ℕ) → is_distinct l ≡ true → i < l
 successor-at [] i d l = absurd (omega arith)
 successor-at (y ∷ ys) i d l = rw add-one (successor_from-at y (y ∷ ys) i d l)
 
--- within the list
-pub successor-at_next : (l : List ℕ) (i : ℕ) → is_distinct l ≡ true → i + 1 < length l → get_or l (i + 1) 0 ≡ successor l (get_or l i 0)
-successor-at_next l i d m = get_or_default l (i + 1) 0 (get_or l 0 0) m ∙ sym (successor-at l i d (omega arith))
+-- members at different places are different
+pub places-apart : (l : List ℕ) (i j : ℕ) → is_distinct l ≡ true → i < length l → j < length l → get_or l i 0 ≡ get_or l j 0 → i ≡ j
+places-apart [] i j d li lj e = absurd (omega arith)
+places-apart (y ∷ ys) zero zero d li lj e = refl
+places-apart (y ∷ ys) zero (suc j) d li lj e = absurd (both_ways (is_member y ys) (distinct-head y ys d) (subst (λ (x : ℕ). is_member x ys ≡ true) (sym e) (member-at ys j 0 (omega arith))))
+places-apart (y ∷ ys) (suc i) zero d li lj e = absurd (both_ways (is_member y ys) (distinct-head y ys d) (subst (λ (x : ℕ). is_member x ys ≡ true) e (member-at ys i 0 (omega arith))))
+places-apart (y ∷ ys) (suc i) (suc j) d li lj e = ap suc (places-apart ys i j (distinct-tail y ys d) (omega arith) (omega arith) e)
 
--- at its end
-pub successor-at_end : (l : List ℕ) (i : ℕ) → is_distinct l ≡ true → i < length l → length l ≤ i + 1 → get_or l 0 0 ≡ successor l (get_or l i 0)
-successor-at_end l i d m n = sym (get_or_past l (i + 1) (get_or l 0 0) n) ∙ sym (successor-at l i d m)
+-- a member stands at a place
+pub place-of : (l : List ℕ) (e : ℕ) → is_member e l ≡ true → (k : ℕ) × (k < length l) × (get_or l k 0 ≡ e)
+place-of [] e m = absurd (true≢false (sym m))
+place-of (y ∷ ys) e m = elim (member-cases e y ys m) [
+  | inl same ↦ (0, omega arith, same)
+  | inr later ↦ let rest = place-of ys e later in (suc (rest.0), (let l : rest.0 < length ys = rest.1 in omega arith), rest.2)
+]
 
--- after i turns: the darts of the first i edges are linked, and those that leave other vertices are as they were
-pub record LinkedSoFar (tails next prev next_before prev_before : List ℕ) (v : ℕ) (list : List ℕ) (i : ℕ) : Type 0 where
-  pub linked : AreLinked tails next prev v list (take i list)
-  pub next_kept : (d : ℕ) → get_or tails d 0 ≢ v → get_or next d 0 ≡ get_or next_before d 0
-  pub prev_kept : (d : ℕ) → get_or tails d 0 ≢ v → get_or prev d 0 ≡ get_or prev_before d 0
-  pub next_in : (d : ℕ) → d < length next → get_or next d 0 < length next
-  pub next_long : length next ≡ length tails
-  pub prev_long : length prev ≡ length tails
+-- what comes behind a node, where d is put behind x
+after-place : (d x : ℕ) (f : ℕ → ℕ) → linked_after d x f x ≡ d
+after-place d x f = cond-true (eqb x x) d (cond (eqb x d) (f x) (f x)) (eq-eqb x x refl)
 
--- before the first turn
-pub linked-none : (tails next prev : List ℕ) (v : ℕ) (list : List ℕ) → length next ≡ length tails → length prev ≡ length tails → ((d : ℕ) → d < length next → get_or next d 0 < length next) → LinkedSoFar tails next prev next prev v list 0
-linked-none tails next prev v list nl pl inside = record {
-  linked = record { forth = λ e m. absurd (true≢false (sym m)); back = λ e m. absurd (true≢false (sym m)) };
+after-new : (d x : ℕ) (f : ℕ → ℕ) → d ≢ x → linked_after d x f d ≡ f x
+after-new d x f n = cond-false (eqb d x) d (cond (eqb d d) (f x) (f d)) (ne_eqb d x n) ∙ cond-true (eqb d d) (f x) (f d) (eq-eqb d d refl)
+
+after-other : (d x y : ℕ) (f : ℕ → ℕ) → y ≢ x → y ≢ d → linked_after d x f y ≡ f y
+after-other d x y f n m = cond-false (eqb y x) d (cond (eqb y d) (f x) (f y)) (ne_eqb y x n) ∙ cond-false (eqb y d) (f x) (f y) (ne_eqb y d m)
+
+-- links forth round a vertex are links back as well, since each list is the inverse of the other
+pub linked-back : (tails : List ℕ) (links : Links) (v : ℕ) (order : List ℕ) → AreInverse links → length links.next ≡ length tails → StandRound tails v order
+    → ((e : ℕ) → is_member e order ≡ true → get_or links.next (dart_at tails v e) 0 ≡ dart_at tails v (successor order e)) → AreLinked tails links.next links.prev v order order
+linked-back tails links v order inv long round forth = record {
+  forth = forth;
+  back = λ e m. ap (λ (d : ℕ). get_or links.prev d 0) (sym (forth e m)) ∙ inv.permutes.back_forth (dart_at tails v e) (dart-in tails v e (length links.next) (omega (arith, round.darts e m, long)));
+}
+
+-- after i edges: their darts form one ring, those of the later edges are alone, and those that leave other vertices are as they were
+pub record LinkedSoFar (tails : List ℕ) (old new : Links) (v : ℕ) (list : List ℕ) (i : ℕ) : Type 0 where
+  pub inverse : AreInverse new
+  pub count : length new.next ≡ length old.next
+  pub within : 0 < length list → i ≤ length list
+  pub steps : (k : ℕ) → k + 1 < i → get_or new.next (dart_at tails v (get_or list k 0)) 0 ≡ dart_at tails v (get_or list (k + 1) 0)
+  pub closed : (k : ℕ) → k + 1 ≡ i → k < length list → get_or new.next (dart_at tails v (get_or list k 0)) 0 ≡ dart_at tails v (get_or list 0 0)
+  pub alone : (k : ℕ) → i ≤ k → k < length list → get_or new.next (dart_at tails v (get_or list k 0)) 0 ≡ dart_at tails v (get_or list k 0)
+  pub next_kept : (d : ℕ) → get_or tails d 0 ≢ v → get_or new.next d 0 ≡ get_or old.next d 0
+
+-- the first edge is a ring of its own
+pub linked-first : (tails : List ℕ) (old : Links) (v : ℕ) (list : List ℕ) → AreInverse old → ((e : ℕ) → is_member e list ≡ true → get_or old.next (dart_at tails v e) 0 ≡ dart_at tails v e) → LinkedSoFar tails old old v list 1
+linked-first tails old v list inv alone = record {
+  inverse = inv;
+  count = refl;
+  within = λ l. omega arith;
+  steps = λ k l. absurd (omega arith);
+  closed = λ k e m. let first : k ≡ 0 = omega arith in
+      subst (λ (z : ℕ). get_or old.next (dart_at tails v (get_or list z 0)) 0 ≡ dart_at tails v (get_or list 0 0)) (sym first)
+      (alone (get_or list 0 0) (member-at list 0 0 (subst (λ (z : ℕ). z < length list) first m)));
+  alone = λ k l m. alone (get_or list k 0) (member-at list k 0 m);
   next_kept = λ d n. refl;
-  prev_kept = λ d n. refl;
-  next_in = inside;
-  next_long = nl;
-  prev_long = pl;
 }
 
--- one turn more, with its edge by name
-linked-turn : (tails next prev next_before prev_before : List ℕ) (v : ℕ) (list : List ℕ) (i e : ℕ) → StandRound tails v list → LinkedSoFar tails next prev next_before prev_before v list i → i < length list → get_or list i 0 ≡ e → LinkedSoFar tails (set next (dart_at tails v e) (dart_at tails v (successor list e))) (set prev (dart_at tails v (successor list e)) (dart_at tails v e)) next_before prev_before v list (i + 1)
-linked-turn tails next prev next_before prev_before v list i e round r l is = record {
-  linked = record {
-    forth = λ x m. elim (cases_eq x e) [
-      | inl same ↦ subst (λ (y : ℕ). get_or (set next here there) (dart_at tails v y) 0 ≡ dart_at tails v (successor list y)) (sym same) (get_or-set_same next here there 0 here_in)
-      | inr n ↦ get_or-set_other next here (dart_at tails v x) there 0 (λ d. n (dart-injective tails v x e d)) ∙ r.linked.forth x (earlier x m n)
-    ];
-    back = λ x m. elim (cases_eq x e) [
-      | inl same ↦ subst (λ (y : ℕ). get_or (set prev there here) (dart_at tails v (successor list y)) 0 ≡ dart_at tails v y) (sym same) (get_or-set_same prev there here 0 there_in)
-      | inr n ↦ get_or-set_other prev there (dart_at tails v (successor list x)) here 0
-          (λ d. n (successor-injective list x e round.distinct (dart-injective tails v (successor list x) (successor list e) d)))
-          ∙ r.linked.back x (earlier x m n)
-    ];
-  };
-  next_kept = λ d n. get_or-set_other next here d there 0 (λ same. n (ap (λ (k : ℕ). get_or tails k 0) same ∙ round.tail e at_e)) ∙ r.next_kept d n;
-  prev_kept = λ d n. get_or-set_other prev there d here 0 (λ same. n (ap (λ (k : ℕ). get_or tails k 0) same ∙ round.tail (successor list e) at_next)) ∙ r.prev_kept d n;
-  next_in = λ d m. elim (cases_eq d here) [
-    | inl same ↦ omega (arith, ap (λ (k : ℕ). get_or (set next here there) k 0) same, get_or-set_same next here there 0 here_in, length-set next here there, there_in, r.next_long, r.prev_long)
-    | inr n ↦ omega (arith, get_or-set_other next here d there 0 n, length-set next here there, r.next_in d (omega (arith, length-set next here there)))
-  ];
-  next_long = length-set next here there ∙ r.next_long;
-  prev_long = length-set prev there here ∙ r.prev_long;
-}
-  where
-    here : ℕ
-    here = dart_at tails v e
-
-    there : ℕ
-    there = dart_at tails v (successor list e)
-
-    at_e : is_member e list ≡ true
-    at_e = subst (λ (y : ℕ). is_member y list ≡ true) is (member-at list i 0 l)
-
-    at_next : is_member (successor list e) list ≡ true
-    at_next = successor-member list e at_e
-
-    here_in : here < length next
-    here_in = dart-in tails v e (length next) (omega (arith, round.darts e at_e, r.next_long))
-
-    there_in : there < length prev
-    there_in = dart-in tails v (successor list e) (length prev) (omega (arith, round.darts (successor list e) at_next, r.prev_long))
-
-    earlier : (x : ℕ) → is_member x (take (i + 1) list) ≡ true → x ≢ e → is_member x (take i list) ≡ true
-    earlier x m n = elim (member-append_cases x (take i list) (get_or list i 0 ∷ []) (subst (λ (f : List ℕ). is_member x f ≡ true) (take_more list i 0 l) m)) [
-      | inl a ↦ a
-      | inr b ↦ elim (member-cases x (get_or list i 0) [] b) [
-        | inl same ↦ absurd (n (sym same ∙ is))
-        | inr none ↦ absurd (true≢false (sym none))
-      ]
-    ]
-
--- one turn more, by what it wrote
-pub linked-more : (tails next prev next_before prev_before next_new prev_new : List ℕ) (v : ℕ) (list : List ℕ) (i here there : ℕ) → StandRound tails v list → LinkedSoFar tails next prev next_before prev_before v list i → i < length list → here ≡ dart_at tails v (get_or list i 0) → there ≡ dart_at tails v (successor list (get_or list i 0)) → next_new ≡ set next here there → prev_new ≡ set prev there here → LinkedSoFar tails next_new prev_new next_before prev_before v list (i + 1)
-linked-more tails next prev next_before prev_before next_new prev_new v list i here there round r l eh et en ep =
-    let en' : next_new ≡ set next (dart_at tails v (get_or list i 0)) (dart_at tails v (successor list (get_or list i 0))) = en ∙ (λ k. set next (eh k) (et k)) in
-    let ep' : prev_new ≡ set prev (dart_at tails v (successor list (get_or list i 0))) (dart_at tails v (get_or list i 0)) = ep ∙ (λ k. set prev (et k) (eh k)) in
-    subst (λ (ns : List ℕ). LinkedSoFar tails ns prev_new next_before prev_before v list (i + 1)) (sym en')
-    (subst (λ (ps : List ℕ). LinkedSoFar tails (set next (dart_at tails v (get_or list i 0)) (dart_at tails v (successor list (get_or list i 0)))) ps next_before prev_before v list (i + 1)) (sym ep')
-    (linked-turn tails next prev next_before prev_before v list i (get_or list i 0) round r l refl))
-
--- after the last turn
-pub linked-all : (tails next prev next_before prev_before : List ℕ) (v : ℕ) (list : List ℕ) (i : ℕ) → length list ≤ i → LinkedSoFar tails next prev next_before prev_before v list i → AreLinked tails next prev v list list
-linked-all tails next prev next_before prev_before v list i l r = subst (λ (f : List ℕ). AreLinked tails next prev v list f) (take_all i list l) r.linked
+-- darts at different places are different
+dart-apart : (tails : List ℕ) (v : ℕ) (list : List ℕ) (j k : ℕ) → is_distinct list ≡ true → j < length list → k < length list → j ≢ k → dart_at tails v (get_or list j 0) ≢ dart_at tails v (get_or list k 0)
+dart-apart tails v list j k d lj lk n e = n (places-apart list j k d lj lk (dart-injective tails v (get_or list j 0) (get_or list k 0) e))
 
 -- the edge at a place has its two darts
-pub link-here : (tails : List ℕ) (v : ℕ) (list : List ℕ) (i : ℕ) → StandRound tails v list → i < length list → 2 * get_or list i 0 + 1 < length tails
-link-here tails v list i round l = round.darts (get_or list i 0) (member-at list i 0 l)
+pub edge-darts : (tails : List ℕ) (v : ℕ) (list : List ℕ) (k : ℕ) → StandRound tails v list → k < length list → 2 * get_or list k 0 + 1 < length tails
+edge-darts tails v list k round l = round.darts (get_or list k 0) (member-at list k 0 l)
 
--- so has the one that follows
-pub link-there : (tails : List ℕ) (v : ℕ) (list : List ℕ) (i f : ℕ) → StandRound tails v list → i < length list → f ≡ successor list (get_or list i 0) → 2 * f + 1 < length tails
-link-there tails v list i f round l is = round.darts f (subst (λ (y : ℕ). is_member y list ≡ true) (sym is) (successor-member list (get_or list i 0) (member-at list i 0 l)))
+-- the dart of the edge at a place is a node
+pub dart-node : (tails : List ℕ) (v : ℕ) (list : List ℕ) (k n : ℕ) → StandRound tails v list → k < length list → n ≡ length tails → dart_at tails v (get_or list k 0) < n
+dart-node tails v list k n round l e = dart-in tails v (get_or list k 0) n (omega (arith, round.darts (get_or list k 0) (member-at list k 0 l)))
+
+-- one edge more is linked behind the last
+pub linked-more : (tails : List ℕ) (old mid new : Links) (v : ℕ) (list : List ℕ) (i : ℕ) → StandRound tails v list → length old.next ≡ length tails → LinkedSoFar tails old mid v list (i + 1) → i + 1 < length list
+    → AreNow mid new (linked_after (dart_at tails v (get_or list (i + 1) 0)) (dart_at tails v (get_or list i 0)) (λ d. get_or mid.next d 0)) → LinkedSoFar tails old new v list (i + 2)
+linked-more tails old mid new v list i round long r l now = record {
+  inverse = now.inverse;
+  count = now.count ∙ r.count;
+  within = λ m. omega arith;
+  steps = λ k m. elim (cases_eq k i) [
+    | inl same ↦ subst (λ (z : ℕ). get_or new.next (D z) 0 ≡ D (z + 1)) (sym same) (at (D i) (node i (omega arith)) ∙ after-place (D (i + 1)) (D i) f)
+    | inr n ↦ kept k (omega arith) n (omega arith) ∙ r.steps k (omega arith)
+  ];
+  closed = λ k e m. let last : k ≡ i + 1 = omega arith in
+      subst (λ (z : ℕ). get_or new.next (D z) 0 ≡ D 0) (sym last)
+      (at (D (i + 1)) (node (i + 1) l) ∙ after-new (D (i + 1)) (D i) f (dart-apart tails v list (i + 1) i round.distinct l (omega arith) (omega arith)) ∙ r.closed i refl (omega arith));
+  alone = λ k m w. kept k w (omega arith) (omega arith) ∙ r.alone k (omega arith) w;
+  next_kept = λ d n. elim (cases_lt d (length mid.next)) [
+    | inl w ↦ at d w ∙ after-other (D (i + 1)) (D i) d f (elsewhere d i n (omega arith)) (elsewhere d (i + 1) n l) ∙ r.next_kept d n
+    | inr w ↦ get_or_past new.next d 0 (omega (arith, now.count)) ∙ sym (get_or_past old.next d 0 (omega (arith, r.count)))
+  ];
+}
+  where
+    D : ℕ → ℕ
+    D k = dart_at tails v (get_or list k 0)
+
+    f : ℕ → ℕ
+    f d = get_or mid.next d 0
+
+    at : (d : ℕ) → d < length mid.next → get_or new.next d 0 ≡ linked_after (dart_at tails v (get_or list (i + 1) 0)) (dart_at tails v (get_or list i 0)) (λ d. get_or mid.next d 0) d
+    at d w = now.behind d w
+
+    node : (k : ℕ) → k < length list → dart_at tails v (get_or list k 0) < length mid.next
+    node k w = dart-node tails v list k (length mid.next) round w (r.count ∙ long)
+
+    kept : (k : ℕ) → k < length list → k ≢ i → k ≢ i + 1 → get_or new.next (dart_at tails v (get_or list k 0)) 0 ≡ get_or mid.next (dart_at tails v (get_or list k 0)) 0
+    kept k w n m = at (dart_at tails v (get_or list k 0)) (node k w)
+        ∙ after-other (dart_at tails v (get_or list (i + 1) 0)) (dart_at tails v (get_or list i 0)) (dart_at tails v (get_or list k 0)) (λ d. get_or mid.next d 0) (dart-apart tails v list k i round.distinct w (omega arith) n) (dart-apart tails v list k (i + 1) round.distinct w l m)
+
+    elsewhere : (d k : ℕ) → get_or tails d 0 ≢ v → k < length list → d ≢ dart_at tails v (get_or list k 0)
+    elsewhere d k n w same = n (ap (λ (z : ℕ). get_or tails z 0) same ∙ round.tail (get_or list k 0) (member-at list k 0 w))
+
+-- one turn of the loop, from place i on
+pub linked-turn : (tails : List ℕ) (old mid new : Links) (v : ℕ) (list : List ℕ) (i : ℕ) → StandRound tails v list → length old.next ≡ length tails → LinkedSoFar tails old mid v list i → 1 ≤ i → i < length list
+    → AreNow mid new (linked_after (dart_at tails v (get_or list i 0)) (dart_at tails v (get_or list (i - 1) 0)) (λ d. get_or mid.next d 0)) → LinkedSoFar tails old new v list (i + 1)
+linked-turn tails old mid new v list i round long r one l now =
+    subst (λ (z : ℕ). LinkedSoFar tails old new v list z) again
+    (linked-more tails old mid new v list (i - 1) round long (subst (λ (z : ℕ). LinkedSoFar tails old mid v list z) (sym back) r) (omega arith)
+    (subst (λ (z : ℕ). AreNow mid new (linked_after (dart_at tails v (get_or list z 0)) (dart_at tails v (get_or list (i - 1) 0)) (λ d. get_or mid.next d 0))) (sym back) now))
+  where
+    back : i - 1 + 1 ≡ i
+    back = omega arith
+
+    again : i - 1 + 2 ≡ i + 1
+    again = omega arith
+
+-- after the last turn
+pub linked-all : (tails : List ℕ) (old new : Links) (v : ℕ) (list : List ℕ) (i : ℕ) → StandRound tails v list → length old.next ≡ length tails → LinkedSoFar tails old new v list i → length list ≤ i → AreLinked tails new.next new.prev v list list
+linked-all tails old new v list i round long r l = linked-back tails new v list r.inverse (r.count ∙ long) round forth
+  where
+    forth : (e : ℕ) → is_member e list ≡ true → get_or new.next (dart_at tails v e) 0 ≡ dart_at tails v (successor list e)
+    forth e m =
+        let place = place-of list e m in
+        let inside : place.0 < length list = place.1 in
+        subst (λ (x : ℕ). get_or new.next (dart_at tails v x) 0 ≡ dart_at tails v (successor list x)) place.2 (elim (cases_lt (place.0 + 1) (length list)) [
+          | inl more ↦ r.steps (place.0) (omega arith) ∙ ap (dart_at tails v) (get_or_default list (place.0 + 1) 0 (get_or list 0 0) more ∙ sym (successor-at list (place.0) round.distinct inside))
+          | inr end ↦ r.closed (place.0) (omega (arith, r.within (omega arith))) inside ∙ ap (dart_at tails v) (sym (get_or_past list (place.0 + 1) (get_or list 0 0) end) ∙ sym (successor-at list (place.0) round.distinct inside))
+        ])

@@ -1,13 +1,15 @@
 -- The rings of the first vertices are built, and at the end they keep the rotation system that was given.
-use Rattle.std.proofs.Common.{◌≡◌, ◌≢◌, ℕ, ◌+◌, ◌<◌, true, List, [], ◌∷◌, ◌++◌, length, get_or, replicate, refl, sym, ap, ◌∙◌, subst, inl, inr, arith}
+use Rattle.std.proofs.Common.{◌≡◌, ◌≢◌, ℕ, ◌+◌, ◌<◌, ◌≤◌, true, List, [], ◌∷◌, ◌++◌, length, get_or, replicate, refl, sym, ap, ◌∙◌, subst, inl, inr, arith}
 use Rattle.std.proofs.lemmas.List.{length-map, length_push, get_or_push, get_or_append_left, get_or-map, get_or-replicate, length-replicate, nil_from_length}
 use Rattle.std.proofs.lemmas.List.Sorted.{length_permutation, IsPermutation-trans}
-use Rattle.std.proofs.lemmas.Bool.{cases_eq}
+use Rattle.std.proofs.lemmas.Bool.{cases_eq, true≢false}
 use Rattle.permutations.specs.Members.{is_member}
 use Rattle.permutations.specs.Cyclic.{first_or, successor, turned}
 use Rattle.permutations.proofs.Successor.{successor-member, first_or-member}
 use Rattle.permutations.proofs.Turned.{turned-member, turned-distinct, turned-length, turned-permutation, turned-successor, turned-first_or}
 use Rattle.multigraph.specs.Graph.{Multigraph, incident_edges, IsGraph}
+use Rattle.multigraph.proofs.Incident.{incident-rises}
+use Rattle.ring_arena.specs.Links.{Links, AreInverse, AreAlone}
 use Rattle.rotations.specs.Entries.{list_at}
 use Rattle.rotations.specs.Given.{AreArranged, given_order}
 use Rattle.rotations.specs.Rotation.{order_at, IsRotationSystem, IsCyclicOrder}
@@ -16,6 +18,7 @@ use Rattle.rotations.specs.declared.rings.Ring.{Ring}
 use Rattle.rotations.proofs.Membership.{incident-distinct}
 use Rattle.rotations.proofs.Arrangements.{permutation-member, permutation-member_back, permutation-distinct}
 use Rattle.rotations.proofs.Darts.{dart-in, stand_round}
+use Rattle.rotations.proofs.Links.{first_is, place-of, linked-back}
 use Rattle.rotations.proofs.Turns.{turns-order}
 
 -- the edges that are given for a vertex stand round it
@@ -25,70 +28,70 @@ given-round g entries tails v a t l =
     (permutation-distinct (incident_edges g v) (list_at entries v) (a.arranged v l) (incident-distinct g v))
     (λ e m. permutation-member_back (incident_edges g v) (list_at entries v) e (a.arranged v l) m)
 
--- the rings of the vertices below v are built
-pub record AreBuilt (g : Multigraph) (entries : List (ℕ × List ℕ)) (tails next prev : List ℕ) (rings : List Ring) (v : ℕ) : Type 0 where
+-- the rings of the vertices below v are built, and the darts that leave others are alone
+pub record AreBuilt (g : Multigraph) (entries : List (ℕ × List ℕ)) (tails : List ℕ) (links : Links) (rings : List Ring) (v : ℕ) : Type 0 where
   pub rings_long : length rings ≡ v
-  pub next_long : length next ≡ length tails
-  pub prev_long : length prev ≡ length tails
-  pub next_in : (d : ℕ) → d < length next → get_or next d 0 < length next
+  pub long : length links.next ≡ length tails
+  pub inverse : AreInverse links
   pub ring : (w : ℕ) (other : Ring) → w < v → IsRingOf g tails w (get_or rings w other)
-  pub linked : (w : ℕ) → w < v → AreLinked tails next prev w (list_at entries w) (list_at entries w)
+  pub linked : (w : ℕ) → w < v → AreLinked tails links.next links.prev w (list_at entries w) (list_at entries w)
+  pub alone : (d : ℕ) → d < length links.next → v ≤ get_or tails d 0 → get_or links.next d 0 ≡ d
 
 -- none is
-pub built-none : (g : Multigraph) (entries : List (ℕ × List ℕ)) (tails : List ℕ) → AreBuilt g entries tails (replicate (length tails) 0) (replicate (length tails) 0) [] 0
-built-none g entries tails = record {
+pub built-none : (g : Multigraph) (entries : List (ℕ × List ℕ)) (tails : List ℕ) (links : Links) (n : ℕ) → AreAlone n links → n ≡ length tails → AreBuilt g entries tails links [] 0
+built-none g entries tails links n a e = record {
   rings_long = refl;
-  next_long = length-replicate {A = ℕ} (length tails) 0;
-  prev_long = length-replicate {A = ℕ} (length tails) 0;
-  next_in = λ d l. zero-in d l (omega (arith, length-replicate {A = ℕ} (length tails) 0));
+  long = a.count ∙ e;
+  inverse = a.inverse;
   ring = λ w other l. absurd (omega arith);
   linked = λ w l. absurd (omega arith);
+  alone = λ d l m. a.alone d (omega (arith, a.count));
 }
-  where
-    zero-in : (d : ℕ) → d < length (replicate {A = ℕ} (length tails) 0) → d < length tails → get_or (replicate {A = ℕ} (length tails) 0) d 0 < length (replicate {A = ℕ} (length tails) 0)
-    zero-in d l m = omega (arith, get_or-replicate {A = ℕ} (length tails) d 0 0 m)
+
+-- the darts of a list of the next vertex are alone
+pub built-alone : (g : Multigraph) (entries : List (ℕ × List ℕ)) (tails : List ℕ) (links : Links) (rings : List Ring) (v : ℕ) (list : List ℕ) → AreBuilt g entries tails links rings v → StandRound tails v list
+    → (e : ℕ) → is_member e list ≡ true → get_or links.next (dart_at tails v e) 0 ≡ dart_at tails v e
+built-alone g entries tails links rings v list r round e m =
+    r.alone (dart_at tails v e) (dart-in tails v e (length links.next) (omega (arith, round.darts e m, r.long))) (omega (arith, round.tail e m))
 
 -- links of another vertex stay
-linked-kept : (tails next prev next_new prev_new : List ℕ) (v w : ℕ) (list : List ℕ) → w ≢ v → StandRound tails w list → AreLinked tails next prev w list list → ((d : ℕ) → get_or tails d 0 ≢ v → get_or next_new d 0 ≡ get_or next d 0) → ((d : ℕ) → get_or tails d 0 ≢ v → get_or prev_new d 0 ≡ get_or prev d 0) → AreLinked tails next_new prev_new w list list
-linked-kept tails next prev next_new prev_new v w list apart round r nk pk = record {
-  forth = λ e m. nk (dart_at tails w e) (λ same. apart (sym (round.tail e m) ∙ same)) ∙ r.forth e m;
-  back = λ e m. pk (dart_at tails w (successor list e)) (λ same. apart (sym (round.tail (successor list e) (successor-member list e m)) ∙ same)) ∙ r.back e m;
-}
+linked-kept : (tails : List ℕ) (links new : Links) (v w : ℕ) (list : List ℕ) → w ≢ v → AreInverse new → length new.next ≡ length tails → StandRound tails w list → AreLinked tails links.next links.prev w list list
+    → ((d : ℕ) → get_or tails d 0 ≢ v → get_or new.next d 0 ≡ get_or links.next d 0) → AreLinked tails new.next new.prev w list list
+linked-kept tails links new v w list apart inv long round r nk =
+    linked-back tails new w list inv long round (λ e m. nk (dart_at tails w e) (λ same. apart (sym (round.tail e m) ∙ same)) ∙ r.forth e m)
 
 -- one ring more
-pub built-more : (g : Multigraph) (entries : List (ℕ × List ℕ)) (tails next prev next_new prev_new : List ℕ) (rings rings_new : List Ring) (v : ℕ) (new : Ring) → AreArranged g entries → AreTails g tails → v < g.vertex_count → AreBuilt g entries tails next prev rings v
-    → AreLinked tails next_new prev_new v (list_at entries v) (list_at entries v) → ((d : ℕ) → get_or tails d 0 ≢ v → get_or next_new d 0 ≡ get_or next d 0) → ((d : ℕ) → get_or tails d 0 ≢ v → get_or prev_new d 0 ≡ get_or prev d 0)
-    → ((d : ℕ) → d < length next_new → get_or next_new d 0 < length next_new) → length next_new ≡ length next → length prev_new ≡ length prev → IsRingOf g tails v new → rings_new ≡ rings ++ new ∷ [] → AreBuilt g entries tails next_new prev_new rings_new (v + 1)
-built-more g entries tails next prev next_new prev_new rings rings_new v new a t l r linked nk pk inside nl pl is_ring er =
-    subst (λ (rs : List Ring). AreBuilt g entries tails next_new prev_new rs (v + 1)) (sym er) (record {
-      rings_long = omega (arith, length_push rings new, r.rings_long);
-      next_long = nl ∙ r.next_long;
-      prev_long = pl ∙ r.prev_long;
-      next_in = inside;
+pub built-more : (g : Multigraph) (entries : List (ℕ × List ℕ)) (tails : List ℕ) (links new : Links) (rings rings_new : List Ring) (v : ℕ) (ring : Ring) → AreArranged g entries → AreTails g tails → v < g.vertex_count → AreBuilt g entries tails links rings v
+    → AreLinked tails new.next new.prev v (list_at entries v) (list_at entries v) → ((d : ℕ) → get_or tails d 0 ≢ v → get_or new.next d 0 ≡ get_or links.next d 0)
+    → AreInverse new → length new.next ≡ length links.next → IsRingOf g tails v ring → rings_new ≡ rings ++ ring ∷ [] → AreBuilt g entries tails new rings_new (v + 1)
+built-more g entries tails links new rings rings_new v ring a t l r linked nk inv count is_ring er =
+    subst (λ (rs : List Ring). AreBuilt g entries tails new rs (v + 1)) (sym er) (record {
+      rings_long = omega (arith, length_push rings ring, r.rings_long);
+      long = count ∙ r.long;
+      inverse = inv;
       ring = λ w other m. elim (cases_eq w v) [
-        | inl same ↦ subst (λ (u : ℕ). IsRingOf g tails u (get_or (rings ++ new ∷ []) u other)) (sym same)
-            (subst (λ (x : Ring). IsRingOf g tails v x) (sym (get_or_push rings new other v r.rings_long)) is_ring)
-        | inr n ↦ subst (λ (x : Ring). IsRingOf g tails w x) (sym (get_or_append_left rings (new ∷ []) other w (omega (arith, r.rings_long)))) (r.ring w other (omega arith))
+        | inl same ↦ subst (λ (u : ℕ). IsRingOf g tails u (get_or (rings ++ ring ∷ []) u other)) (sym same)
+            (subst (λ (x : Ring). IsRingOf g tails v x) (sym (get_or_push rings ring other v r.rings_long)) is_ring)
+        | inr n ↦ subst (λ (x : Ring). IsRingOf g tails w x) (sym (get_or_append_left rings (ring ∷ []) other w (omega (arith, r.rings_long)))) (r.ring w other (omega arith))
       ];
       linked = λ w m. elim (cases_eq w v) [
-        | inl same ↦ subst (λ (u : ℕ). AreLinked tails next_new prev_new u (list_at entries u) (list_at entries u)) (sym same) linked
-        | inr n ↦ linked-kept tails next prev next_new prev_new v w (list_at entries w) n (given-round g entries tails w a t (omega arith)) (r.linked w (omega arith)) nk pk
+        | inl same ↦ subst (λ (u : ℕ). AreLinked tails new.next new.prev u (list_at entries u) (list_at entries u)) (sym same) linked
+        | inr n ↦ linked-kept tails links new v w (list_at entries w) n inv (count ∙ r.long) (given-round g entries tails w a t (omega arith)) (r.linked w (omega arith)) nk
       ];
+      alone = λ d m w. nk d (λ same. absurd (omega arith)) ∙ r.alone d (omega arith) (omega arith);
     })
 
 -- one ring more, by what the calls of a turn say of the lists that they were given
-pub built-step : (g : Multigraph) (entries : List (ℕ × List ℕ)) (tails next prev : List ℕ) (rings : List Ring) (v : ℕ) (tails₁ tails₂ list next₀ prev₀ next₁ prev₁ next₂ prev₂ : List ℕ) (rings₂ : List Ring) (new : Ring) → AreArranged g entries → AreTails g tails → v < g.vertex_count → AreBuilt g entries tails next prev rings v
-    → tails₁ ≡ tails → tails₂ ≡ tails → list ≡ list_at entries v → next₀ ≡ next → prev₀ ≡ prev
-    → AreLinked tails₁ next₁ prev₁ v list list → ((d : ℕ) → get_or tails₁ d 0 ≢ v → get_or next₁ d 0 ≡ get_or next₀ d 0) → ((d : ℕ) → get_or tails₁ d 0 ≢ v → get_or prev₁ d 0 ≡ get_or prev₀ d 0)
-    → ((d : ℕ) → d < length next₁ → get_or next₁ d 0 < length next₁) → length next₁ ≡ length next₀ → length prev₁ ≡ length prev₀ → IsRingOf g tails₂ v new
-    → rings₂ ≡ rings ++ new ∷ [] → next₂ ≡ next₁ → prev₂ ≡ prev₁ → AreBuilt g entries tails next₂ prev₂ rings₂ (v + 1)
-built-step g entries tails next prev rings v tails₁ tails₂ list next₀ prev₀ next₁ prev₁ next₂ prev₂ rings₂ new a t l r et et' el en ep linked nk pk inside nl pl is_ring er en' ep' =
-    subst (λ (ns : List ℕ). AreBuilt g entries tails ns prev₂ rings₂ (v + 1)) (sym en') (subst (λ (ps : List ℕ). AreBuilt g entries tails next₁ ps rings₂ (v + 1)) (sym ep')
-    (built-more g entries tails next prev next₁ prev₁ rings rings₂ v new a t l r
-    (subst (λ (ts : List ℕ). AreLinked ts next₁ prev₁ v (list_at entries v) (list_at entries v)) et (subst (λ (xs : List ℕ). AreLinked tails₁ next₁ prev₁ v xs xs) el linked))
-    (λ d n. nk d (λ same. n (ap (λ (ts : List ℕ). get_or ts d 0) (sym et) ∙ same)) ∙ ap (λ (xs : List ℕ). get_or xs d 0) en)
-    (λ d n. pk d (λ same. n (ap (λ (ts : List ℕ). get_or ts d 0) (sym et) ∙ same)) ∙ ap (λ (xs : List ℕ). get_or xs d 0) ep)
-    inside (nl ∙ ap length en) (pl ∙ ap length ep) (subst (λ (ts : List ℕ). IsRingOf g ts v new) et' is_ring) er))
+pub built-step : (g : Multigraph) (entries : List (ℕ × List ℕ)) (tails : List ℕ) (links : Links) (rings : List Ring) (v : ℕ) (tails₁ tails₂ list : List ℕ) (new : Links) (rings₂ : List Ring) (ring : Ring) → AreArranged g entries → AreTails g tails → v < g.vertex_count → AreBuilt g entries tails links rings v
+    → tails₁ ≡ tails → tails₂ ≡ tails → list ≡ list_at entries v
+    → AreLinked tails₁ new.next new.prev v list list → ((d : ℕ) → get_or tails₁ d 0 ≢ v → get_or new.next d 0 ≡ get_or links.next d 0)
+    → AreInverse new → length new.next ≡ length links.next → IsRingOf g tails₂ v ring
+    → rings₂ ≡ rings ++ ring ∷ [] → AreBuilt g entries tails new rings₂ (v + 1)
+built-step g entries tails links rings v tails₁ tails₂ list new rings₂ ring a t l r et et' el linked nk inv count is_ring er =
+    built-more g entries tails links new rings rings₂ v ring a t l r
+    (subst (λ (ts : List ℕ). AreLinked ts new.next new.prev v (list_at entries v) (list_at entries v)) et (subst (λ (xs : List ℕ). AreLinked tails₁ new.next new.prev v xs xs) el linked))
+    (λ d n. nk d (λ same. n (ap (λ (ts : List ℕ). get_or ts d 0) (sym et) ∙ same)))
+    inv count (subst (λ (ts : List ℕ). IsRingOf g ts v ring) et' is_ring) er
 
 -- the least edge at a vertex with edges stands in the list given for it
 least-given : (g : Multigraph) (entries : List (ℕ × List ℕ)) (v : ℕ) → AreArranged g entries → v < g.vertex_count → 0 < length (incident_edges g v) → is_member (first_or 0 (incident_edges g v)) (list_at entries v) ≡ true
@@ -144,37 +147,68 @@ abbrev none : Ring
 none = record { first = 0; degree = 0 }
 
 -- at the end the walks give the orders
-pub built-orders : (g : Multigraph) (entries : List (ℕ × List ℕ)) (tails next prev : List ℕ) (rings : List Ring) → AreArranged g entries → AreTails g tails → AreBuilt g entries tails next prev rings g.vertex_count → (v : ℕ) → v < g.vertex_count → order_at (orders next rings) v ≡ given_order g entries v
-built-orders g entries tails next prev rings a t r v l =
-    get_or-map (λ (ring : Ring). turns next ring.first ring.degree) rings v none [] (omega (arith, r.rings_long))
-    ∙ ring-order g entries tails next prev v (get_or rings v none) a t l (r.linked v l) (r.ring v none l)
+pub built-orders : (g : Multigraph) (entries : List (ℕ × List ℕ)) (tails : List ℕ) (links : Links) (rings : List Ring) → AreArranged g entries → AreTails g tails → AreBuilt g entries tails links rings g.vertex_count → (v : ℕ) → v < g.vertex_count → order_at (orders links.next rings) v ≡ given_order g entries v
+built-orders g entries tails links rings a t r v l =
+    get_or-map (λ (ring : Ring). turns links.next ring.first ring.degree) rings v none [] (omega (arith, r.rings_long))
+    ∙ ring-order g entries tails links.next links.prev v (get_or rings v none) a t l (r.linked v l) (r.ring v none l)
 
 -- there is one for each vertex
-pub built-vertices : (g : Multigraph) (entries : List (ℕ × List ℕ)) (tails next prev : List ℕ) (rings : List Ring) → AreBuilt g entries tails next prev rings g.vertex_count → length (orders next rings) ≡ g.vertex_count
-built-vertices g entries tails next prev rings r = length-map rings (λ (ring : Ring). turns next ring.first ring.degree) ∙ r.rings_long
+pub built-vertices : (g : Multigraph) (entries : List (ℕ × List ℕ)) (tails : List ℕ) (links : Links) (rings : List Ring) → AreBuilt g entries tails links rings g.vertex_count → length (orders links.next rings) ≡ g.vertex_count
+built-vertices g entries tails links rings r = length-map rings (λ (ring : Ring). turns links.next ring.first ring.degree) ∙ r.rings_long
 
--- at the end the vectors keep a rotation system
-pub built-rings : (g : Multigraph) (entries : List (ℕ × List ℕ)) (tails next prev : List ℕ) (rings : List Ring) → IsGraph g → AreArranged g entries → AreTails g tails → AreBuilt g entries tails next prev rings g.vertex_count → AreRings tails next prev rings
-built-rings g entries tails next prev rings ok a t r = record {
+-- the first edge at a vertex is the least
+incident-least : (g : Multigraph) (v e : ℕ) → is_member e (incident_edges g v) ≡ true → first_or 0 (incident_edges g v) ≤ e
+incident-least g v e m =
+    let w = place-of (incident_edges g v) e m in
+    let inside : w.0 < length (incident_edges g v) = w.1 in
+    let here : get_or (incident_edges g v) w.0 0 ≡ e = w.2 in
+    elim (cases_eq w.0 0) [
+      | inl z ↦
+          let first : get_or (incident_edges g v) 0 0 ≡ e = ap (λ (k : ℕ). get_or (incident_edges g v) k 0) (sym z) ∙ here in
+          omega (arith, first_is 0 (incident_edges g v), first)
+      | inr n ↦
+          let rises : get_or (incident_edges g v) 0 0 < get_or (incident_edges g v) w.0 0 = incident-rises g v 0 w.0 0 (omega (arith, n)) inside in
+          omega (arith, first_is 0 (incident_edges g v), here, rises)
+    ]
+
+-- so is the first of the given order
+given-least : (g : Multigraph) (entries : List (ℕ × List ℕ)) (v e : ℕ) → AreArranged g entries → v < g.vertex_count → is_member e (given_order g entries v) ≡ true → first_or 0 (given_order g entries v) ≤ e
+given-least g entries v e a l m =
+    let at_v : is_member e (incident_edges g v) ≡ true = permutation-member_back (incident_edges g v) (list_at entries v) e (a.arranged v l) (sym (turned-member (list_at entries v) (first_or 0 (incident_edges g v)) e) ∙ m) in
+    omega (arith, incident-least g v e at_v, turned-first_or (list_at entries v) (first_or 0 (incident_edges g v)) 0 (least-given g entries v a l (some (incident_edges g v) at_v)))
+  where
+    some : (xs : List ℕ) → is_member e xs ≡ true → 0 < length xs
+    some [] m = absurd (true≢false (sym m))
+    some (x ∷ xs) m = omega arith
+
+-- at the end the rings keep a rotation system
+pub built-rings : (g : Multigraph) (entries : List (ℕ × List ℕ)) (tails : List ℕ) (links : Links) (rings : List Ring) → IsGraph g → AreArranged g entries → AreTails g tails → AreBuilt g entries tails links rings g.vertex_count → AreRings tails links.next links.prev rings
+built-rings g entries tails links rings ok a t r = record {
   few = omega (arith, t.long, ok.few_edges);
   few_rings = omega (arith, r.rings_long, ok.few_vertices);
-  next_long = r.next_long;
-  prev_long = r.prev_long;
-  next_in = r.next_in;
-  first_in = λ k other l some. begins k other l some;
-  rounds = λ v l. subst (λ (o : List ℕ). StandRound tails v o) (sym (built-orders g entries tails next prev rings a t r v (inside v l))) (order-round g entries tails v a t (inside v l));
-  linked = λ v l. subst (λ (o : List ℕ). AreLinked tails next prev v o o) (sym (built-orders g entries tails next prev rings a t r v (inside v l))) (order-linked g entries tails next prev v a t (inside v l) (r.linked v (inside v l)));
+  next_long = r.long;
+  prev_long = r.inverse.long ∙ r.long;
+  permutes = r.inverse.permutes;
+  first_in = λ k other l some. node k other l some;
+  begins = λ v other l some. (r.ring v other (inside v l)).first some
+      ∙ ap (dart_at tails v) (sym (ap (first_or 0) (is v l) ∙ turned-first_or (list_at entries v) (first_or 0 (incident_edges g v)) 0 (least-given g entries v a (inside v l) (omega (arith, (r.ring v other (inside v l)).degree)))));
+  rounds = λ v l. subst (λ (o : List ℕ). StandRound tails v o) (sym (is v l)) (order-round g entries tails v a t (inside v l));
+  linked = λ v l. subst (λ (o : List ℕ). AreLinked tails links.next links.prev v o o) (sym (is v l)) (order-linked g entries tails links.next links.prev v a t (inside v l) (r.linked v (inside v l)));
+  least = λ v e l m. subst (λ (o : List ℕ). first_or 0 o ≤ e) (sym (is v l)) (given-least g entries v e a (inside v l) (subst (λ (o : List ℕ). is_member e o ≡ true) (is v l) m));
 }
   where
     inside : (v : ℕ) → v < length rings → v < g.vertex_count
     inside v l = omega (arith, r.rings_long)
 
-    begins : (k : ℕ) (other : Ring) → k < length rings → 0 < (get_or rings k other).degree → (get_or rings k other).first < length next
-    begins k other l some =
+    is : (v : ℕ) → v < length rings → order_at (orders links.next rings) v ≡ given_order g entries v
+    is v l = built-orders g entries tails links rings a t r v (inside v l)
+
+    node : (k : ℕ) (other : Ring) → k < length rings → 0 < (get_or rings k other).degree → (get_or rings k other).first < length links.next
+    node k other l some =
         let is = r.ring k other (inside k l) in
         let m = least-given g entries k a (inside k l) (omega (arith, is.degree)) in
         let d = (given-round g entries tails k a t (inside k l)).darts (first_or 0 (incident_edges g k)) m in
-        omega (arith, is.first some, dart-in tails k (first_or 0 (incident_edges g k)) (length next) (omega (arith, r.next_long, d)))
+        omega (arith, is.first some, dart-in tails k (first_or 0 (incident_edges g k)) (length links.next) (omega (arith, r.long, d)))
 
 -- the orders that are given make a rotation system
 pub given-system : (g : Multigraph) (entries : List (ℕ × List ℕ)) (r : List (List ℕ)) → AreArranged g entries → length r ≡ g.vertex_count → ((v : ℕ) → v < g.vertex_count → order_at r v ≡ given_order g entries v) → IsRotationSystem g r

@@ -3,3 +3,5 @@ pub mod Rotation
 pub mod Entries
 pub mod Given
 pub mod Rings
+pub mod Runs
+pub mod PartLists

@@ -1,10 +1,12 @@
 -- A rotation system as it is kept: for each dart the one that follows it round its vertex, and the one that it follows.
 -- Each edge e has two darts: 2e leaves its first end, 2e + 1 its second.
-use Rattle.std.specs.Prelude.{◌≡◌, ℕ, zero, suc, ◌+◌, ◌*◌, ◌/◌, ◌<◌, ◌≤◌, ◌==◌, if◌then◌else◌, true, List, [], ◌∷◌, length, map, slice_index}
-use Rattle.std.specs.List.{All}
-use Rattle.permutations.specs.Cyclic.{first_or, successor}
+use Rattle.std.specs.Prelude.{◌≡◌, ℕ, zero, suc, ◌+◌, ◌*◌, ◌/◌, ◌<◌, ◌≤◌, ◌==◌, if◌then◌else◌, true, List, [], ◌∷◌, length, map, slice_index, slice_index_or}
+use Rattle.std.specs.List.{All, Contains}
+use Rattle.permutations.specs.Cyclic.{first_or, successor, predecessor}
 use Rattle.permutations.specs.Members.{is_member, is_distinct}
+use Rattle.permutations.specs.Permutation.{Permutes}
 use Rattle.multigraph.specs.Graph.{Multigraph, max_vertices, edge_count, ends_of, incident_edges}
+use Rattle.ring_arena.specs.Links.{Links}
 use Rattle.rotations.specs.Rotation.{order_at}
 use Rattle.rotations.specs.declared.rings.Ring.{Ring}
 
@@ -36,16 +38,18 @@ pub record AreLinked (tails next prev : List ℕ) (v : ℕ) (order some : List �
   pub forth : (e : ℕ) → is_member e some ≡ true → slice_index next (dart_at tails v e) ≡ dart_at tails v (successor order e)
   pub back : (e : ℕ) → is_member e some ≡ true → slice_index prev (dart_at tails v (successor order e)) ≡ dart_at tails v e
 
--- the vectors keep a rotation system
+-- rings of darts keep a rotation system, each written from its least edge on
 pub record AreRings (tails next prev : List ℕ) (rings : List Ring) : Type 0 where
   pub few : length tails ≤ max_darts
   pub few_rings : length rings ≤ max_vertices
   pub next_long : length next ≡ length tails
   pub prev_long : length prev ≡ length tails
-  pub next_in : (d : ℕ) → d < length next → slice_index next d < length next
+  pub permutes : Permutes (length next) (slice_index next) (slice_index prev)
   pub first_in : All (λ ring. 0 < ring.degree → ring.first < length next) rings
+  pub begins : (v : ℕ) (other : Ring) → v < length rings → 0 < (slice_index_or rings v other).degree → (slice_index_or rings v other).first ≡ dart_at tails v (first_or 0 (order_at (orders next rings) v))
   pub rounds : (v : ℕ) → v < length rings → StandRound tails v (order_at (orders next rings) v)
   pub linked : (v : ℕ) → v < length rings → AreLinked tails next prev v (order_at (orders next rings) v) (order_at (orders next rings) v)
+  pub least : (v e : ℕ) → v < length rings → is_member e (order_at (orders next rings) v) ≡ true → first_or 0 (order_at (orders next rings) v) ≤ e
 
 -- the vertices that the darts of g leave
 pub record AreTails (g : Multigraph) (tails : List ℕ) : Type 0 where
@@ -57,3 +61,12 @@ pub record AreTails (g : Multigraph) (tails : List ℕ) : Type 0 where
 pub record IsRingOf (g : Multigraph) (tails : List ℕ) (v : ℕ) (ring : Ring) : Type 0 where
   pub degree : ring.degree ≡ length (incident_edges g v)
   pub first : 0 < ring.degree → ring.first ≡ dart_at tails v (first_or 0 (incident_edges g v))
+
+-- rings on which cyclic orders are kept: each node leaves a vertex, an edge round v has one of its two nodes there, and behind
+-- and before this node stand those of the edges that follow and precede it round v
+pub record StandOnRings (r : List (List ℕ)) (links : Links) (tails : List ℕ) : Type 0 where
+  pub leaves_each : length tails ≡ length links.next
+  pub node : (v e : ℕ) → Contains (order_at r v) e → dart_at tails v e < length links.next
+  pub leaves : (v e : ℕ) → Contains (order_at r v) e → slice_index tails (dart_at tails v e) ≡ v
+  pub next : (v e : ℕ) → Contains (order_at r v) e → slice_index links.next (dart_at tails v e) ≡ dart_at tails v (successor (order_at r v) e)
+  pub prev : (v e : ℕ) → Contains (order_at r v) e → slice_index links.prev (dart_at tails v e) ≡ dart_at tails v (predecessor (order_at r v) e)

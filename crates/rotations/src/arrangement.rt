@@ -76,7 +76,7 @@ fn is_new(g: &Graph, v: u32, e: u32, seen: &mut [u32]) -> bool
 }
 
 // So many zeros.
-pub(crate) fn zeros(alloc: Global, n: usize) -> Result<Vec<u32>, AllocError>
+fn zeros(alloc: Global, n: usize) -> Result<Vec<u32>, AllocError>
     ensures { IfOk result (λ v. v.items ≡ replicate n 0) }
 {
     vec![in alloc; 0u32; n]

@@ -13,6 +13,7 @@ mod entries;
 mod faults;
 pub mod laws;
 mod linking;
+mod outer;
 mod rings;
 mod round;
 mod system;

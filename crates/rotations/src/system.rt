@@ -1,29 +1,34 @@
-// Rotation systems, kept as cyclic successors and predecessors of darts.
+// Rotation systems, kept as rings of darts.
 
-ghost use Rattle.std.specs.Prelude.{◌≡◌, ℕ, ◌<◌, ◌↔◌, length, IfOk, IfErr, IsTrue};
+ghost use Rattle.std.specs.Prelude.{◌≡◌, ℕ, ◌<◌, ◌↔◌, List, length, map, reverse, slice_index, IfOk, IfErr, IsTrue};
 ghost use Rattle.std.specs.List.{Contains};
-ghost use Rattle.permutations.specs.Cyclic.{successor, predecessor};
+ghost use Rattle.permutations.specs.Cyclic.{successor, predecessor, from_least};
 ghost use Rattle.rotations.specs.Rotation.{order_at, IsRotationSystem};
+ghost use Rattle.rotations.specs.Rings.{StandOnRings};
+ghost use Rattle.rotations.specs.Runs.{IsOutside, IsRunMoved, IsRunTurned, IsKeptElsewhere, mirror_image};
 ghost use Rattle.rotations.specs.Given.{AreArranged, IsRefusal, given_order};
+ghost use Rattle.rotations.specs.PartLists.{ArrangePart, IsPartRefusal, outer_order};
 
-use crate::arrangement::{check_lists, zeros};
+use crate::arrangement::check_lists;
 use crate::entries::Lists;
 use crate::faults::RotFault;
 use crate::linking::link;
+use crate::outer::{check_part, inner_lists};
 use crate::rings::{Ring, dart_at, ring_of, tails_of};
 use crate::round::RotIter;
-use multigraph::Graph;
+use multigraph::{Graph, Part};
+use ring_arena::Rings;
 use std::alloc::{AllocError, Global};
 use std::marker::Model;
 
 /// A rotation system: for each vertex a cyclic order of the edges at it.
 ///
-/// It is kept without the graph, as successors and predecessors of darts, so that each step round a vertex takes constant time.
+/// It is kept without the graph, as one ring of darts round each vertex: a step takes constant time, and a run of edges is moved
+/// without looking at it. The dart of edge e at its first end is node 2e, that at its second node 2e + 1.
 #[derive(Debug, Drop)]
 pub struct Rotation {
     tails: Vec<u32>,
-    next: Vec<u32>,
-    prev: Vec<u32>,
+    nodes: Rings,
     rings: Vec<Ring>,
 }
 
@@ -34,9 +39,9 @@ impl Model for Rotation {
 
     ghost use Rattle.rotations.specs.Rings.{orders, AreRings};
 
-    ghost view = { λ r. orders r.next.items r.rings.items };
+    ghost view = { λ r. orders r.nodes.next r.rings.items };
 
-    ghost invariant = { λ r. AreRings r.tails.items r.next.items r.prev.items r.rings.items };
+    ghost invariant = { λ r. AreRings r.tails.items r.nodes.next r.nodes.prev r.rings.items };
 }
 
 impl Rotation {
@@ -58,6 +63,27 @@ impl Rotation {
         }
     }
 
+    /// The rotation system of a part of a graph, from lists in the numbers of the whole graph: it has at each vertex of the part
+    /// the cyclic order of the list given for it, in the numbers of the part.
+    ///
+    /// Refuses where the lists are none, with the least number that is a vertex of the part whose list is no arrangement of its
+    /// edges in the part, or that is named and no vertex of the part.
+    pub fn from_part(alloc: Global, p: &Part, lists: &Lists) -> Result<Rotation, RotFault>
+        ensures arranged { IfOk result (λ _. ArrangePart p.now lists.now) }
+        ensures orders { IfOk result (λ r. (i : ℕ) → i < p.now.graph.vertex_count → map (slice_index p.now.edges) (order_at r i) ≡ outer_order p.now lists.now i) }
+        ensures system { IfOk result (IsRotationSystem p.now.graph) }
+        ensures refused { IfErr result (λ fault. IsPartRefusal p.now lists.now fault) }
+    {
+        let Ok(inner) = inner_lists(alloc, p, lists) else {
+            return Err(RotFault::Memory);
+        };
+        check_part(alloc, p, lists, &inner)?;
+        match Rotation::of_arranged(alloc, p.graph(), &inner) {
+            Ok(r) => Ok(r),
+            Err(_) => Err(RotFault::Memory),
+        }
+    }
+
     // The rotation system of lists that are known to be one.
     fn of_arranged(alloc: Global, g: &Graph, lists: &Lists) -> Result<Rotation, AllocError>
         requires { AreArranged g.now lists.now }
@@ -65,20 +91,18 @@ impl Rotation {
         ensures orders { IfOk result (λ r. (v : ℕ) → v < g.now.vertex_count → order_at r v ≡ given_order g.now lists.now v) }
     {
         let tails = tails_of(alloc, g)?;
-        let mut next = zeros(alloc, tails.len())?;
-        let mut prev = zeros(alloc, tails.len())?;
+        let mut nodes = Rings::new(alloc, 2 * g.edge_count())?;
         let mut rings = Vec::with_capacity(alloc, g.vertex_count() as usize)?;
         let mut at = 0;
         for v in 0..g.vertex_count() {
             let (list, after) = lists.given(at, v);
-            link(&tails, v, list, &mut next, &mut prev);
+            link(&tails, v, list, &mut nodes);
             rings.push(ring_of(g, &tails, v))?;
             at = after;
         }
         Ok(Rotation {
             tails,
-            next,
-            prev,
+            nodes,
             rings,
         })
     }
@@ -96,7 +120,7 @@ impl Rotation {
         ensures { result ≡ successor (order_at self.now v) e }
     {
         let dart = dart_at(&self.tails, v, e);
-        self.next[dart as usize] / 2
+        self.nodes.next(dart) / 2
     }
 
     /// The edge that edge `e` follows round `v`.
@@ -105,7 +129,7 @@ impl Rotation {
         ensures { result ≡ predecessor (order_at self.now v) e }
     {
         let dart = dart_at(&self.tails, v, e);
-        self.prev[dart as usize] / 2
+        self.nodes.prev(dart) / 2
     }
 
     /// The edges round `v` in cyclic order, from the least on.
@@ -114,7 +138,75 @@ impl Rotation {
         ensures { result ≡ order_at self.now v }
     {
         let ring = self.rings[v as usize];
-        RotIter::from(&self.next, ring.first, ring.degree)
+        RotIter::from(&self.nodes, ring.first, ring.degree)
+    }
+
+    /// The rings on which it is kept, with two nodes for each edge: an edge has one of them at each of its ends.
+    ///
+    /// Round each vertex the node behind that of an edge is that of the edge which follows it there.
+    pub fn rings(&self) -> &Rings
+        ensures { (tails : List ℕ) × StandOnRings self.now result.now tails }
+    {
+        &self.nodes
+    }
+
+    /// Takes the run of edges from `first` to `last` round `v` out, and puts it behind `after`, which is not in it. Takes constant
+    /// time and no memory.
+    pub fn move_run(&mut self, v: u32, first: u32, last: u32, after: u32)
+        requires { IsOutside (order_at self.old v) first last after }
+        ensures moved { IsRunMoved (order_at self.old v) (order_at self.new v) first last after }
+        ensures elsewhere { IsKeptElsewhere self.old self.new v }
+    {
+        let before = dart_at(&self.tails, v, self.pred(v, first));
+        let back = dart_at(&self.tails, v, last);
+        let place = dart_at(&self.tails, v, after);
+        self.nodes.exchange(before, back);
+        self.nodes.exchange(place, back);
+    }
+
+    /// Reverses the run of edges from `first` to `last` round `v` in its place, in as many steps as it has edges; it is all of
+    /// them where `first` follows `last`. Takes no memory.
+    pub fn turn_run(&mut self, v: u32, first: u32, last: u32)
+        requires first { Contains (order_at self.old v) first }
+        requires last { Contains (order_at self.old v) last }
+        ensures turned { IsRunTurned (order_at self.old v) (order_at self.new v) first last }
+        ensures elsewhere { IsKeptElsewhere self.old self.new v }
+    {
+        let _ = self.nodes.len();
+        let edge_before = self.pred(v, first);
+        let head = dart_at(&self.tails, v, first);
+        if edge_before == last {
+            self.nodes.reverse(head);
+            return;
+        }
+        let before = dart_at(&self.tails, v, edge_before);
+        let end = dart_at(&self.tails, v, last);
+        self.nodes.exchange(before, end);
+        self.nodes.reverse(head);
+        self.nodes.exchange(before, head);
+    }
+
+    /// Reverses the cyclic order of each vertex: the drawing is seen from the other side. Takes no memory.
+    pub fn mirror(&mut self)
+        ensures { self.new ≡ mirror_image self.old }
+    {
+        let count = self.vertex_count();
+        for v in 0..count {
+            self.turn_round(v);
+        }
+    }
+
+    // Reverses the cyclic order of v.
+    fn turn_round(&mut self, v: u32)
+        requires { v < length self.old }
+        ensures turned { order_at self.new v ≡ from_least (reverse (order_at self.old v)) }
+        ensures elsewhere { IsKeptElsewhere self.old self.new v }
+    {
+        let _ = self.nodes.len();
+        let ring = self.rings[v as usize];
+        if ring.degree > 0 {
+            self.nodes.reverse(ring.first);
+        }
     }
 
     /// The same rotation system once more.
@@ -122,13 +214,11 @@ impl Rotation {
         ensures { IfOk result (λ r. r ≡ self.now) }
     {
         let tails = Vec::from_slice(alloc, &self.tails)?;
-        let next = Vec::from_slice(alloc, &self.next)?;
-        let prev = Vec::from_slice(alloc, &self.prev)?;
+        let nodes = self.nodes.copy(alloc)?;
         let rings = Vec::from_slice(alloc, &self.rings)?;
         Ok(Rotation {
             tails,
-            next,
-            prev,
+            nodes,
             rings,
         })
     }

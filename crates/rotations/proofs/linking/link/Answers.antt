@@ -1,29 +1,26 @@
-use Rattle.std.proofs.Common.{length, get_or, refl, ap, ◌∙◌, arith}
-use Rattle.rotations.specs.Rings.{dart_at}
-use Rattle.rotations.proofs.Darts.{dart-in}
-use Rattle.rotations.proofs.Links.{linked-more, link-here, link-there}
+use Rattle.std.proofs.Common.{◌-◌, ℕ, get_or, length, subst, ◌∙◌, arith}
+use Rattle.rotations.proofs.Links.{linked-first, linked-turn, linked-all, dart-node, edge-darts}
+use Rattle.ring_arena.specs.Links.{AreNow, linked_after}
 use Rattle.rotations.proofs.linking.link.Goals as goal
 
--- the edge of this turn has its darts
+pub loop-i-init : goal.loop-i-init
+loop-i-init c = linked-first c.args.tails.now c.args.nodes.now c.args.v c.args.list.now c.requires.inverse c.requires.alone
+
+-- the edges have their darts
+pub dart_at-before-requires-clause-is_edge : goal.dart_at-before-requires-clause-is_edge
+dart_at-before-requires-clause-is_edge c = edge-darts c.args.tails.now c.args.v c.args.list.now (c.loop-i.i - 1) c.requires.round (omega (arith, c.loop-i-test.true))
+
 pub dart_at-here-requires-clause-is_edge : goal.dart_at-here-requires-clause-is_edge
-dart_at-here-requires-clause-is_edge c = link-here c.args.tails.now c.args.v c.args.list.now c.loop-i.i c.requires.round c.loop-i-test.true
+dart_at-here-requires-clause-is_edge c = edge-darts c.args.tails.now c.args.v c.args.list.now c.loop-i.i c.requires.round c.loop-i-test.true
 
--- so has the one that follows
-pub dart_at-there-requires-clause-is_edge : goal.dart_at-there-requires-clause-is_edge
-dart_at-there-requires-clause-is_edge c = link-there c.args.tails.now c.args.v c.args.list.now c.loop-i.i c.following.result c.requires.round c.loop-i-test.true c.following.ensures
+pub link_after-requires-clause-place : goal.link_after-requires-clause-place
+link_after-requires-clause-place c =
+    omega (arith, c.dart_at-before.ensures, dart-node c.args.tails.now c.args.v c.args.list.now (c.loop-i.i - 1) (length c.loop-i.nodes.next) c.requires.round (omega (arith, c.loop-i-test.true)) (c.loop-i.invariant.count ∙ c.requires.long))
 
-pub bounds-next-here : goal.bounds-next-here
-bounds-next-here c =
-    let d = link-here c.args.tails.now c.args.v c.args.list.now c.loop-i.i c.requires.round c.loop-i-test.true in
-    omega (arith, c.dart_at-here.ensures, dart-in c.args.tails.now c.args.v (get_or c.args.list.now c.loop-i.i 0) (length c.loop-i.next) (omega (arith, d, c.loop-i.invariant.next_long)))
-
-pub bounds-prev-there : goal.bounds-prev-there
-bounds-prev-there c =
-    let d = link-there c.args.tails.now c.args.v c.args.list.now c.loop-i.i c.following.result c.requires.round c.loop-i-test.true c.following.ensures in
-    omega (arith, c.dart_at-there.ensures, dart-in c.args.tails.now c.args.v c.following.result (length c.loop-i.prev) (omega (arith, d, c.loop-i.invariant.prev_long)))
-
--- one edge more is linked
+-- one edge more
 pub loop-i-preserved : goal.loop-i-preserved
-loop-i-preserved c =
-    linked-more c.args.tails.now c.loop-i.next c.loop-i.prev c.args.next.now c.args.prev.now _ _ c.args.v c.args.list.now c.loop-i.i c.dart_at-here.result c.dart_at-there.result
-    c.requires.round c.loop-i.invariant c.loop-i-test.true c.dart_at-here.ensures (c.dart_at-there.ensures ∙ ap (dart_at c.args.tails.now c.args.v) c.following.ensures) refl refl
+loop-i-preserved c = linked-turn c.args.tails.now c.args.nodes.now c.loop-i.nodes c.link_after.new.self c.args.v c.args.list.now c.loop-i.i c.requires.round c.requires.long c.loop-i.invariant c.loop-i.auto.i c.loop-i-test.true
+    (subst (λ (p : ℕ × ℕ). AreNow c.loop-i.nodes c.link_after.new.self (linked_after p.0 p.1 (λ d. get_or c.loop-i.nodes.next d 0))) (λ k. (c.dart_at-here.ensures k, c.dart_at-before.ensures k)) c.link_after.ensures)
+
+pub returns-clause-linked : goal.returns-clause-linked
+returns-clause-linked c = linked-all c.args.tails.now c.args.nodes.now c.loop-i.nodes c.args.v c.args.list.now c.loop-i.i c.requires.round c.requires.long c.loop-i.invariant c.loop-i-test.false

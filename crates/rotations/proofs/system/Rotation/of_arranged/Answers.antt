@@ -1,7 +1,7 @@
-use Rattle.std.proofs.Common.{ℕ, List, sym, ◌∙◌, subst, arith}
-use Rattle.std.proofs.lemmas.List.{take_at}
-use Rattle.rotations.specs.Rings.{StandRound}
-use Rattle.rotations.proofs.Stages.{AreBuilt, given-round, built-step, built-rings, built-orders}
+use Rattle.std.proofs.Common.{◌≡◌, ℕ, true, List, get_or, sym, ◌∙◌, subst, arith}
+use Rattle.permutations.specs.Members.{is_member}
+use Rattle.rotations.specs.Rings.{dart_at, StandRound}
+use Rattle.rotations.proofs.Stages.{AreBuilt, given-round, built-alone, built-step, built-rings, built-orders}
 use Rattle.rotations.proofs.system.Rotation.of_arranged.Goals as goal
 
 -- the list given for the vertex stands round it
@@ -11,25 +11,32 @@ link-requires-clause-round c =
     (subst (λ (l : List ℕ). StandRound c.in_ok-tails.tails.items c.loop-v.v l) (sym c.given-after.ensures.list)
     (given-round c.args.g.now c.args.lists.now c.in_ok-tails.tails.items c.loop-v.v c.requires c.in_ok-tails.ensures (omega (arith, c.loop-v-test.true, c.vertex_count-v-end.ensures.value))))
 
+-- and its darts are alone
+pub link-requires-clause-alone : goal.link-requires-clause-alone
+link-requires-clause-alone c =
+    subst (λ (t : List ℕ). (e : ℕ) → is_member e c.given-after.result.0.now ≡ true → get_or c.loop-v.nodes.next (dart_at t c.loop-v.v e) 0 ≡ dart_at t c.loop-v.v e) (sym c.deref.ensures.value)
+    (built-alone c.args.g.now c.args.lists.now c.in_ok-tails.tails.items c.loop-v.nodes c.loop-v.rings.items c.loop-v.v c.given-after.result.0.now c.loop-v.invariant.built
+    (subst (λ (l : List ℕ). StandRound c.in_ok-tails.tails.items c.loop-v.v l) (sym c.given-after.ensures.list)
+    (given-round c.args.g.now c.args.lists.now c.in_ok-tails.tails.items c.loop-v.v c.requires c.in_ok-tails.ensures (omega (arith, c.loop-v-test.true, c.vertex_count-v-end.ensures.value)))))
+
 -- one ring more
 pub loop-v-preserved : goal.loop-v-preserved
 loop-v-preserved c = record {
   reached = c.given-after.ensures.place;
   built =
-      built-step c.args.g.now c.args.lists.now c.in_ok-tails.tails.items c.loop-v.next.items c.loop-v.prev.items c.loop-v.rings.items c.loop-v.v
-      c.deref.result.now c.deref-in-loop-v.result.now c.given-after.result.0.now c.deref_mut.result.now c.deref_mut-in-loop-v.result.now c.link.new.next c.link.new.prev _ _ c.push.new.self.items c.ring_of.result
+      built-step c.args.g.now c.args.lists.now c.in_ok-tails.tails.items c.loop-v.nodes c.loop-v.rings.items c.loop-v.v
+      c.deref.result.now c.deref-in-loop-v.result.now c.given-after.result.0.now c.link.new.nodes c.push.new.self.items c.ring_of.result
       c.requires c.in_ok-tails.ensures (omega (arith, c.loop-v-test.true, c.vertex_count-v-end.ensures.value)) c.loop-v.invariant.built
-      c.deref.ensures.value c.deref-in-loop-v.ensures.value c.given-after.ensures.list c.deref_mut.ensures.value c.deref_mut-in-loop-v.ensures.value
-      c.link.ensures.linked c.link.ensures.next_kept c.link.ensures.prev_kept c.link.ensures.next_in c.link.auto.next c.link.auto.prev c.ring_of.ensures
-      c.in_ok-push.ensures.items (take_at c.link.new.next _ c.loop-v.next.len (c.link.auto.next ∙ c.deref_mut.ensures.len)) (take_at c.link.new.prev _ c.loop-v.prev.len (c.link.auto.prev ∙ c.deref_mut-in-loop-v.ensures.len));
+      c.deref.ensures.value c.deref-in-loop-v.ensures.value c.given-after.ensures.list
+      c.link.ensures.linked c.link.ensures.next_kept c.link.ensures.inverse c.link.ensures.count c.ring_of.ensures c.in_ok-push.ensures.items;
 }
 
 pub invariant_of-result : goal.invariant_of-result
 invariant_of-result c =
-    built-rings c.args.g.now c.args.lists.now c.in_ok-tails.tails.items c.loop-v.next.items c.loop-v.prev.items c.loop-v.rings.items c.vertex_count.ensures.graph c.requires c.in_ok-tails.ensures
-    (subst (λ (v : ℕ). AreBuilt c.args.g.now c.args.lists.now c.in_ok-tails.tails.items c.loop-v.next.items c.loop-v.prev.items c.loop-v.rings.items v) (omega (arith, c.loop-v-test.false, c.loop-v.auto.v-end, c.vertex_count-v-end.ensures.value)) c.loop-v.invariant.built)
+    built-rings c.args.g.now c.args.lists.now c.in_ok-tails.tails.items c.loop-v.nodes c.loop-v.rings.items c.vertex_count.ensures.graph c.requires c.in_ok-tails.ensures
+    (subst (λ (v : ℕ). AreBuilt c.args.g.now c.args.lists.now c.in_ok-tails.tails.items c.loop-v.nodes c.loop-v.rings.items v) (omega (arith, c.loop-v-test.false, c.loop-v.auto.v-end, c.vertex_count-v-end.ensures.value)) c.loop-v.invariant.built)
 
 pub returns-clause-orders : goal.returns-clause-orders
 returns-clause-orders c =
-    built-orders c.args.g.now c.args.lists.now c.in_ok-tails.tails.items c.loop-v.next.items c.loop-v.prev.items c.loop-v.rings.items c.requires c.in_ok-tails.ensures
-    (subst (λ (v : ℕ). AreBuilt c.args.g.now c.args.lists.now c.in_ok-tails.tails.items c.loop-v.next.items c.loop-v.prev.items c.loop-v.rings.items v) (omega (arith, c.loop-v-test.false, c.loop-v.auto.v-end, c.vertex_count-v-end.ensures.value)) c.loop-v.invariant.built)
+    built-orders c.args.g.now c.args.lists.now c.in_ok-tails.tails.items c.loop-v.nodes c.loop-v.rings.items c.requires c.in_ok-tails.ensures
+    (subst (λ (v : ℕ). AreBuilt c.args.g.now c.args.lists.now c.in_ok-tails.tails.items c.loop-v.nodes c.loop-v.rings.items v) (omega (arith, c.loop-v-test.false, c.loop-v.auto.v-end, c.vertex_count-v-end.ensures.value)) c.loop-v.invariant.built)

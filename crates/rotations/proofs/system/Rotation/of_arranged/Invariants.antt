@@ -6,5 +6,5 @@ use Rattle.rotations.proofs.system.Rotation.of_arranged.Given as goal
 abbrev pub invariant-loop-v : goal.invariant-loop-v
 invariant-loop-v l = record {
   reached : IsReachedAt l.lists l.at l.v;
-  built : AreBuilt l.g l.lists l.tails.items l.next.items l.prev.items l.rings.items l.v;
+  built : AreBuilt l.g l.lists l.tails.items l.nodes l.rings.items l.v;
 }

@@ -1,6 +1,5 @@
-use Rattle.std.proofs.Common.{◌≡◌, ◌/◌, ℕ, ◌<◌, List, length, get_or, sym, ap, ◌∙◌, subst, arith}
+use Rattle.std.proofs.Common.{◌≡◌, ◌/◌, ℕ, List, length, get_or, sym, ap, ◌∙◌, subst, arith}
 use Rattle.std.specs.List.{Contains}
-use Rattle.std.proofs.lemmas.List.{get_or_read}
 use Rattle.permutations.specs.Cyclic.{successor}
 use Rattle.rotations.specs.Rotation.{order_at}
 use Rattle.rotations.specs.Rings.{dart_at}
@@ -11,23 +10,21 @@ use Rattle.rotations.proofs.system.Rotation.succ.Goals as goal
 pub dart_at-dart-requires-clause-is_edge : goal.dart_at-dart-requires-clause-is_edge
 dart_at-dart-requires-clause-is_edge c =
     let at_v = subst (λ (r : List (List ℕ)). Contains (order_at r c.args.v) c.args.e) (sym c.self.view_is) c.requires in
-    let d = kept-dart c.self.inside.tails.items c.self.inside.next.items c.self.inside.prev.items c.self.inside.rings.items c.args.v c.args.e c.self.invariant at_v in
+    let d = kept-dart c.self.inside.tails.items c.self.inside.nodes.next c.self.inside.nodes.prev c.self.inside.rings.items c.args.v c.args.e c.self.invariant at_v in
     omega (arith, d, ap length c.deref.ensures.value)
 
--- its dart is a place of the vector
-pub index-requires : goal.index-requires
-index-requires c =
+-- its dart is a node
+pub next-requires : goal.next-requires
+next-requires c =
     let at_v = subst (λ (r : List (List ℕ)). Contains (order_at r c.args.v) c.args.e) (sym c.self.view_is) c.requires in
-    let d = kept-next_in c.self.inside.tails.items c.self.inside.next.items c.self.inside.prev.items c.self.inside.rings.items c.args.v c.args.e c.self.invariant at_v in
-    omega (arith, d, c.dart_at-dart.ensures, ap (λ (t : List ℕ). dart_at t c.args.v c.args.e) c.deref.ensures.value, c.self.inside.next.ok.0)
+    let d = kept-next_in c.self.inside.tails.items c.self.inside.nodes.next c.self.inside.nodes.prev c.self.inside.rings.items c.args.v c.args.e c.self.invariant at_v in
+    omega (arith, d, c.dart_at-dart.ensures, ap (λ (t : List ℕ). dart_at t c.args.v c.args.e) c.deref.ensures.value)
 
--- what stands there is the dart of the edge that follows
+-- what is behind it is the dart of the edge that follows
 pub returns : goal.returns
 returns c =
     let at_v = subst (λ (r : List (List ℕ)). Contains (order_at r c.args.v) c.args.e) (sym c.self.view_is) c.requires in
-    let inside = kept-next_in c.self.inside.tails.items c.self.inside.next.items c.self.inside.prev.items c.self.inside.rings.items c.args.v c.args.e c.self.invariant at_v in
     let dart : c.dart_at-dart.result ≡ dart_at c.self.inside.tails.items c.args.v c.args.e = c.dart_at-dart.ensures ∙ ap (λ (t : List ℕ). dart_at t c.args.v c.args.e) c.deref.ensures.value in
-    let there : c.dart_at-dart.result < length c.self.inside.next.items = omega (arith, inside, dart) in
-    ap (λ (d : ℕ). d / 2) (get_or_read c.self.inside.next.items c.dart_at-dart.result c.index.result.now there c.index.ensures 0 ∙ ap (λ (d : ℕ). get_or c.self.inside.next.items d 0) dart)
-    ∙ (kept-succ c.self.inside.tails.items c.self.inside.next.items c.self.inside.prev.items c.self.inside.rings.items c.args.v c.args.e c.self.invariant at_v
+    ap (λ (d : ℕ). d / 2) (c.next.ensures.value ∙ ap (λ (d : ℕ). get_or c.self.inside.nodes.next d 0) dart)
+    ∙ (kept-succ c.self.inside.tails.items c.self.inside.nodes.next c.self.inside.nodes.prev c.self.inside.rings.items c.args.v c.args.e c.self.invariant at_v
     ∙ ap (λ (r : List (List ℕ)). successor (order_at r c.args.v) c.args.e) c.self.view_is)
