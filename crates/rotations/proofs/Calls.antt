@@ -135,9 +135,9 @@ module _ (tails : List ℕ) (old : Links) (rings : List Ring) (k : AreRings tail
           let q : IsParted (order_at (orders old.next rings) v) first last part.run (w.0 ++ w.1 ∷ []) = subst (λ (o : List ℕ). IsParted (order_at (orders old.next rings) v) first last part.run o) w.2 p in
           let same : b ≡ w.1 = is ∙ before-run (order_at (orders old.next rings) v) first last part.run w.0 w.1 (k.rounds v inside).distinct q in
           let made : IsMadeAt tails old new rings v (reverse part.run ++ (w.0 ++ w.1 ∷ [])) =
-              run-turned tails old rings k inv v inside first last w.1 part.run w.0 mid back new q
-              (subst (λ (z : ℕ). AreNow old mid (exchange (dart_at tails v z) (dart_at tails v last) (λ d. get_or old.next d 0))) same now₁) now₂
-              (subst (λ (z : ℕ). AreNow back new (exchange (dart_at tails v z) (dart_at tails v first) (λ d. get_or back.next d 0))) same now₃) in
+          run-turned tails old rings k inv v inside first last w.1 part.run w.0 mid back new q
+          (subst (λ (z : ℕ). AreNow old mid (exchange (dart_at tails v z) (dart_at tails v last) (λ d. get_or old.next d 0))) same now₁) now₂
+          (subst (λ (z : ℕ). AreNow back new (exchange (dart_at tails v z) (dart_at tails v first) (λ d. get_or back.next d 0))) same now₃) in
           record { kept = made.kept; turned = record { run = part.run; others = w.0 ++ w.1 ∷ []; parted = q; turned = made.here }; elsewhere = made.elsewhere }
 
 -- the same with the view and the darts by name
@@ -147,8 +147,8 @@ pub call-moved : (tails : List ℕ) (old : Links) (rings : List Ring) → AreRin
 call-moved tails old rings k r is v first last edge b d₁ d₂ d₃ t₁ t₂ t₃ mid new e₁ e₂ e₃ f₁ f₂ f₃ w before now₁ now₂ =
     subst (λ (q : List (List ℕ)). IsOutside (order_at q v) first last edge → b ≡ predecessor (order_at q v) first → IsMoved tails new rings q v first last edge) is
     (λ u s. own-moved tails old rings k v first last edge b mid new u s
-        (subst (λ (p : ℕ × ℕ). AreNow old mid (exchange p.0 p.1 (λ d. get_or old.next d 0))) (λ i. (g₁ i, g₂ i)) now₁)
-        (subst (λ (p : ℕ × ℕ). AreNow mid new (exchange p.0 p.1 (λ d. get_or mid.next d 0))) (λ i. (g₃ i, g₂ i)) now₂))
+    (subst (λ (p : ℕ × ℕ). AreNow old mid (exchange p.0 p.1 (λ d. get_or old.next d 0))) (λ i. (g₁ i, g₂ i)) now₁)
+    (subst (λ (p : ℕ × ℕ). AreNow mid new (exchange p.0 p.1 (λ d. get_or mid.next d 0))) (λ i. (g₃ i, g₂ i)) now₂))
     w before
   where
     g₁ : d₁ ≡ dart_at tails v b
@@ -174,9 +174,9 @@ pub call-turned : (tails : List ℕ) (old : Links) (rings : List Ring) → AreRi
 call-turned tails old rings k r is v first last b d₁ d₂ d₃ t₁ t₂ t₃ mid back new e₁ e₂ e₃ f₁ f₂ f₃ inv mf ml before apart now₁ now₂ now₃ =
     subst (λ (q : List (List ℕ)). Contains (order_at q v) first → Contains (order_at q v) last → b ≡ predecessor (order_at q v) first → IsTurned tails new rings q v first last) is
     (λ x y s. own-turned tails old rings k v first last b mid back new inv x y s apart
-        (subst (λ (p : ℕ × ℕ). AreNow old mid (exchange p.0 p.1 (λ d. get_or old.next d 0))) (λ i. (g₁ i, g₂ i)) now₁)
-        (subst (λ (z : ℕ). AreNow mid back (reversed_at mid z)) g₃ now₂)
-        (subst (λ (p : ℕ × ℕ). AreNow back new (exchange p.0 p.1 (λ d. get_or back.next d 0))) (λ i. (g₁ i, g₃ i)) now₃))
+    (subst (λ (p : ℕ × ℕ). AreNow old mid (exchange p.0 p.1 (λ d. get_or old.next d 0))) (λ i. (g₁ i, g₂ i)) now₁)
+    (subst (λ (z : ℕ). AreNow mid back (reversed_at mid z)) g₃ now₂)
+    (subst (λ (p : ℕ × ℕ). AreNow back new (exchange p.0 p.1 (λ d. get_or back.next d 0))) (λ i. (g₁ i, g₃ i)) now₃))
     mf ml before
   where
     g₁ : d₁ ≡ dart_at tails v b

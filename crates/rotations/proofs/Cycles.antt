@@ -104,11 +104,11 @@ module _ (D : ℕ → ℕ) (one : (e f : ℕ) → D e ≡ D f → e ≡ f) (mid 
   links-exchanged a p c q za zb now once node ca cb =
       chains-exchanged D (λ x. get_or mid.next x 0) (λ x. get_or new.next x 0) a p c q za zb
       (λ e m. exchange-kept p q (D e) now (node e (left e (member-append_left e a (p ∷ []) m)))
-          (λ s. both_ways (is_member p (p ∷ [])) (distinct-append_apart a (p ∷ []) (distinct-append_left (a ++ p ∷ []) (c ++ q ∷ []) once) p (subst (λ (x : ℕ). is_member x a ≡ true) (one e p s) m)) (member-head p []))
-          (λ s. both_ways (is_member q (c ++ q ∷ [])) (distinct-append_apart (a ++ p ∷ []) (c ++ q ∷ []) once q (subst (λ (x : ℕ). is_member x (a ++ p ∷ []) ≡ true) (one e q s) (member-append_left e a (p ∷ []) m))) last_q))
+      (λ s. both_ways (is_member p (p ∷ [])) (distinct-append_apart a (p ∷ []) (distinct-append_left (a ++ p ∷ []) (c ++ q ∷ []) once) p (subst (λ (x : ℕ). is_member x a ≡ true) (one e p s) m)) (member-head p []))
+      (λ s. both_ways (is_member q (c ++ q ∷ [])) (distinct-append_apart (a ++ p ∷ []) (c ++ q ∷ []) once q (subst (λ (x : ℕ). is_member x (a ++ p ∷ []) ≡ true) (one e q s) (member-append_left e a (p ∷ []) m))) last_q))
       (λ e m. exchange-kept p q (D e) now (node e (right e (member-append_left e c (q ∷ []) m)))
-          (λ s. both_ways (is_member p (c ++ q ∷ [])) (distinct-append_apart (a ++ p ∷ []) (c ++ q ∷ []) once p last_p) (subst (λ (x : ℕ). is_member x (c ++ q ∷ []) ≡ true) (one e p s) (member-append_left e c (q ∷ []) m)))
-          (λ s. both_ways (is_member q (q ∷ [])) (distinct-append_apart c (q ∷ []) (distinct-append_right (a ++ p ∷ []) (c ++ q ∷ []) once) q (subst (λ (x : ℕ). is_member x c ≡ true) (one e q s) m)) (member-head q [])))
+      (λ s. both_ways (is_member p (c ++ q ∷ [])) (distinct-append_apart (a ++ p ∷ []) (c ++ q ∷ []) once p last_p) (subst (λ (x : ℕ). is_member x (c ++ q ∷ []) ≡ true) (one e p s) (member-append_left e c (q ∷ []) m)))
+      (λ s. both_ways (is_member q (q ∷ [])) (distinct-append_apart c (q ∷ []) (distinct-append_right (a ++ p ∷ []) (c ++ q ∷ []) once) q (subst (λ (x : ℕ). is_member x c ≡ true) (one e q s) m)) (member-head q [])))
       (now.behind (D p) (node p (left p last_p)) ∙ exchange-left (D p) (D q) (λ x. get_or mid.next x 0))
       (now.behind (D q) (node q (right q last_q)) ∙ exchange-right (D p) (D q) (λ x. get_or mid.next x 0))
       ca cb

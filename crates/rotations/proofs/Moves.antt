@@ -104,11 +104,11 @@ module _ (tails : List ℕ) (old : Links) (rings : List Ring) (k : AreRings tail
     cut-out =
         let round : Chain (dart_at tails v) (λ d. get_or old.next d 0) (run ++ (c ++ y ∷ [])) first = subst (λ (z : ℕ). Chain (dart_at tails v) (λ d. get_or old.next d 0) (run ++ (c ++ y ∷ [])) z) (ap (λ (r : List ℕ). first_or 0 (r ++ (c ++ y ∷ []))) p.is_run.begins) (chain-round run (c ++ y ∷ []) 0 p.round) in
         let both =
-            links-exchanged (dart_at tails v) (dart-injective tails v) old mid c y p.is_run.ahead last first (first_or first (c ++ y ∷ [])) now
-            (subst (λ (r : List ℕ). is_distinct ((c ++ y ∷ []) ++ r) ≡ true) p.is_run.ends (distinct-append_comm run (c ++ y ∷ []) parts))
-            (λ e m. node e (member e (either e (member-append_cases e (c ++ y ∷ []) (p.is_run.ahead ++ last ∷ []) m))))
-            (chain-back (dart_at tails v) (λ d. get_or old.next d 0) run (c ++ y ∷ []) first round)
-            (subst (λ (r : List ℕ). Chain (dart_at tails v) (λ d. get_or old.next d 0) r (first_or first (c ++ y ∷ []))) p.is_run.ends (chain-front (dart_at tails v) (λ d. get_or old.next d 0) run (c ++ y ∷ []) first round)) in
+        links-exchanged (dart_at tails v) (dart-injective tails v) old mid c y p.is_run.ahead last first (first_or first (c ++ y ∷ [])) now
+        (subst (λ (r : List ℕ). is_distinct ((c ++ y ∷ []) ++ r) ≡ true) p.is_run.ends (distinct-append_comm run (c ++ y ∷ []) parts))
+        (λ e m. node e (member e (either e (member-append_cases e (c ++ y ∷ []) (p.is_run.ahead ++ last ∷ []) m))))
+        (chain-back (dart_at tails v) (λ d. get_or old.next d 0) run (c ++ y ∷ []) first round)
+        (subst (λ (r : List ℕ). Chain (dart_at tails v) (λ d. get_or old.next d 0) r (first_or first (c ++ y ∷ []))) p.is_run.ends (chain-front (dart_at tails v) (λ d. get_or old.next d 0) run (c ++ y ∷ []) first round)) in
         (both.0, subst (λ (r : List ℕ). Chain (dart_at tails v) (λ d. get_or mid.next d 0) r first) (sym p.is_run.ends) both.1)
       where
         either : (e : ℕ) → (is_member e (c ++ y ∷ []) ≡ true) ⊎ (is_member e (p.is_run.ahead ++ last ∷ []) ≡ true) → is_member e (run ++ (c ++ y ∷ [])) ≡ true
@@ -129,7 +129,7 @@ module _ (tails : List ℕ) (old : Links) (rings : List Ring) (k : AreRings tail
       made-at new (front ++ edge ∷ (run ++ back)) now₂.inverse (now₂.count ∙ now₁.count)
       (reordered new (front ++ edge ∷ (run ++ back)) first (moved-permutation (order_at (orders old.next rings) v) first last edge run front back p) final)
       (λ d w n. exchange-kept (dart_at tails v) (dart-injective tails v) mid new edge last d now₂ (omega (arith, now₁.count)) (elsewhere d edge at_edge n) (elsewhere d last at_last n)
-          ∙ cut-stays first last run c y q mid now₁ d w n)
+      ∙ cut-stays first last run c y q mid now₁ d w n)
     where
       q : IsParted (order_at (orders old.next rings) v) first last run (c ++ y ∷ [])
       q = subst (λ (o : List ℕ). IsParted (order_at (orders old.next rings) v) first last run o) ends p

@@ -54,9 +54,9 @@ pub map-turned : (f : ℕ → ℕ) (l : List ℕ) (y : ℕ) → is_member y l �
 map-turned f l y m one =
     let cut = cut_at y l m in
     let apart : is_member (f y) (map f cut.front) ≡ false = false_from_ne_true (is_member (f y) (map f cut.front)) (λ t.
-        let q = member-map f cut.front (f y) t in
-        let at_l : is_member q.0 l ≡ true = subst (λ (o : List ℕ). is_member q.0 o ≡ true) (sym cut.is) (member-append_left q.0 cut.front (y ∷ cut.back) q.1) in
-        both_ways (is_member y cut.front) cut.first (subst (λ (z : ℕ). is_member z cut.front ≡ true) (one q.0 at_l q.2) q.1)) in
+    let q = member-map f cut.front (f y) t in
+    let at_l : is_member q.0 l ≡ true = subst (λ (o : List ℕ). is_member q.0 o ≡ true) (sym cut.is) (member-append_left q.0 cut.front (y ∷ cut.back) q.1) in
+    both_ways (is_member y cut.front) cut.first (subst (λ (z : ℕ). is_member z cut.front ≡ true) (one q.0 at_l q.2) q.1)) in
     ap (map f) (ap (λ (o : List ℕ). turned o y) cut.is ∙ turned-cut cut.front y cut.back cut.first)
     ∙ (map-append f (y ∷ cut.back) cut.front
     ∙ sym (ap (λ (o : List ℕ). turned (map f o) (f y)) cut.is ∙ (ap (λ (o : List ℕ). turned o (f y)) (map-append f cut.front (y ∷ cut.back)) ∙ turned-cut (map f cut.front) (f y) (map f cut.back) apart)))
@@ -70,7 +70,7 @@ map-forth : (edges l : List ℕ) → ((e : ℕ) → is_member e (map (place_in e
 map-forth edges [] b = refl
 map-forth edges (x ∷ xs) b =
     (λ i. place-back edges x (b (place_in edges x) (member-head (place_in edges x) (map (place_in edges) xs))) i
-        ∷ map-forth edges xs (λ e m. b e (member-tail e (place_in edges x) (map (place_in edges) xs) m)) i)
+    ∷ map-forth edges xs (λ e m. b e (member-tail e (place_in edges x) (map (place_in edges) xs) m)) i)
 
 module _ (part : GraphPart) (numbered : IsNumbered part) (entries inner : List (ℕ × List ℕ)) (made : AreInnerBelow part entries inner part.graph.vertex_count) where
   below : (i e : ℕ) → is_member e (incident_edges part.graph i) ≡ true → e < length part.edges
@@ -111,12 +111,12 @@ module _ (part : GraphPart) (numbered : IsNumbered part) (entries inner : List (
           → map (λ j. get_or part.edges j 0) (turned (map (place_in part.edges) (outer_list part entries i)) (first_or 0 inc)) ≡ turned (outer_list part entries i) (first_or 0 (map (λ j. get_or part.edges j 0) inc))
       go [] e =
           let none : outer_list part entries i ≡ [] =
-              nil_from_length (outer_list part entries i) (omega (arith, ap length e, length_permutation (outer_edges part i) (outer_list part entries i) (to-outer i l p), length-map (incident_edges part.graph i) (λ j. get_or part.edges j 0))) in
+          nil_from_length (outer_list part entries i) (omega (arith, ap length e, length_permutation (outer_edges part i) (outer_list part entries i) (to-outer i l p), length-map (incident_edges part.graph i) (λ j. get_or part.edges j 0))) in
           subst (λ (o : List ℕ). map (λ j. get_or part.edges j 0) (turned (map (place_in part.edges) o) 0) ≡ turned o 0) (sym none) refl
       go (x ∷ xs) e =
           let at_x : is_member x (incident_edges part.graph i) ≡ true = subst (λ (o : List ℕ). is_member x o ≡ true) e (member-head x xs) in
           let inside : (z : ℕ) → is_member z (map (place_in part.edges) (outer_list part entries i)) ≡ true → z < length part.edges =
-              λ z m. below i z (permutation-member_back (incident_edges part.graph i) (list_at inner i) z p (subst (λ (o : List ℕ). is_member z o ≡ true) (sym (inner-list i l)) m)) in
+          λ z m. below i z (permutation-member_back (incident_edges part.graph i) (list_at inner i) z p (subst (λ (o : List ℕ). is_member z o ≡ true) (sym (inner-list i l)) m)) in
           map-turned (λ j. get_or part.edges j 0) (map (place_in part.edges) (outer_list part entries i)) x
           (subst (λ (o : List ℕ). is_member x o ≡ true) (inner-list i l) (permutation-member (incident_edges part.graph i) (list_at inner i) x p at_x))
           (λ z m s. rises-once part.edges numbered.edges_rise z x (inside z m) (below i x at_x) s)
@@ -130,12 +130,12 @@ module _ (part : GraphPart) (numbered : IsNumbered part) (entries inner : List (
   pub part-bad : (i : ℕ) → IsFirstBad part.graph inner i → ((w : ℕ) → w < get_or part.vertices i 0 → IsNamed entries w → Contains part.vertices w) → IsFirstBadInPart part entries (get_or part.vertices i 0)
   part-bad i f known = elim f.bad [
     | inl b ↦ record {
-        bad = inl (i, b.0, refl, λ p. b.1 (to-inner i b.0 p));
-        none_before = λ w less q. elim q [
-          | inl j ↦ f.none_before j.0 (earlier j.0 w j.1 j.2 b.0 less) (inl (j.1, λ p. j.3 (to-outer j.0 j.1 p)))
-          | inr s ↦ s.0 (known w less s.1)
-        ];
-      }
+      bad = inl (i, b.0, refl, λ p. b.1 (to-inner i b.0 p));
+      none_before = λ w less q. elim q [
+        | inl j ↦ f.none_before j.0 (earlier j.0 w j.1 j.2 b.0 less) (inl (j.1, λ p. j.3 (to-outer j.0 j.1 p)))
+        | inr s ↦ s.0 (known w less s.1)
+      ];
+    }
     | inr b ↦ absurd (unnamed b.0 b.1)
   ]
     where

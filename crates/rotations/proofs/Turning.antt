@@ -40,8 +40,8 @@ module _ (tails : List ℕ) (old : Links) (rings : List Ring) (k : AreRings tail
       let inside : (e : ℕ) → is_member e run ≡ true → is_member e (order_at (orders old.next rings) v) ≡ true = λ e m. in-order (order_at (orders old.next rings) v) first last run [] p e (member-append_left e run [] m) in
       let at_first : is_member first run ≡ true = first-run (order_at (orders old.next rings) v) first last run [] p in
       let forth : (e : ℕ) → is_member e run ≡ true → get_or old.next (dart_at tails v e) 0 ≡ dart_at tails v (successor run e) =
-          cycle-to (dart_at tails v) (λ d. get_or old.next d 0) run 0 once
-          (subst (λ (r : List ℕ). Chain (dart_at tails v) (λ d. get_or old.next d 0) r (first_or 0 r)) (append-nil run) (chain-round tails old rings k v l run [] 0 p.round)) in
+      cycle-to (dart_at tails v) (λ d. get_or old.next d 0) run 0 once
+      (subst (λ (r : List ℕ). Chain (dart_at tails v) (λ d. get_or old.next d 0) r (first_or 0 r)) (append-nil run) (chain-round tails old rings k v l run [] 0 p.round)) in
       subst (λ (r : List ℕ). IsMadeAt tails old new rings v r) (sym (append-nil (reverse run)))
       (made-at tails old rings k v l new (reverse run) now.inverse now.count
       (reordered tails old rings k v l new (reverse run) 0
@@ -58,9 +58,9 @@ module _ (tails : List ℕ) (old : Links) (rings : List Ring) (k : AreRings tail
       made-at tails old rings k v l new (reverse run ++ (c ++ y ∷ [])) now₃.inverse (now₃.count ∙ (now₂.count ∙ now₁.count))
       (reordered tails old rings k v l new (reverse run ++ (c ++ y ∷ [])) first (turned-permutation (order_at (orders old.next rings) v) first last run (c ++ y ∷ []) p) joined)
       (λ d w n.
-          exchange-kept (dart_at tails v) (dart-injective tails v) back new y first d now₃ (omega (arith, now₁.count, now₂.count)) (elsewhere tails old rings k v l d y at_y n) (elsewhere tails old rings k v l d first at_first n)
-          ∙ (others-kept (dart_at tails v) (dart-edge tails v) mid back now₁.inverse run once nodes ring first in_run now₂ d (omega (arith, now₁.count)) (λ e t s. elsewhere tails old rings k v l d e (inside e (member-append_left e run (c ++ y ∷ []) t)) n (sym s))
-          ∙ cut-stays tails old rings k v l first last run c y p mid now₁ d w n))
+      exchange-kept (dart_at tails v) (dart-injective tails v) back new y first d now₃ (omega (arith, now₁.count, now₂.count)) (elsewhere tails old rings k v l d y at_y n) (elsewhere tails old rings k v l d first at_first n)
+      ∙ (others-kept (dart_at tails v) (dart-edge tails v) mid back now₁.inverse run once nodes ring first in_run now₂ d (omega (arith, now₁.count)) (λ e t s. elsewhere tails old rings k v l d e (inside e (member-append_left e run (c ++ y ∷ []) t)) n (sym s))
+      ∙ cut-stays tails old rings k v l first last run c y p mid now₁ d w n))
     where
       parts : is_distinct (run ++ (c ++ y ∷ [])) ≡ true
       parts = parts-distinct (order_at (orders old.next rings) v) first last run (c ++ y ∷ []) p (k.rounds v l).distinct
@@ -98,8 +98,8 @@ module _ (tails : List ℕ) (old : Links) (rings : List Ring) (k : AreRings tail
       other_ring : Chain (dart_at tails v) (λ d. get_or back.next d 0) (c ++ y ∷ []) (first_or first (c ++ y ∷ []))
       other_ring = chain-ext (dart_at tails v) (λ d. get_or mid.next d 0) (λ d. get_or back.next d 0) (c ++ y ∷ []) (first_or first (c ++ y ∷ []))
           (λ e m. others-kept (dart_at tails v) (dart-edge tails v) mid back now₁.inverse run once nodes ring first in_run now₂ (dart_at tails v e)
-              (subst (λ (n : ℕ). dart_at tails v e < n) (sym now₁.count) (node tails old rings k v l e (inside e (member-append_right e run (c ++ y ∷ []) m))))
-              (λ f t s. both_ways (is_member e (c ++ y ∷ [])) (distinct-append_apart run (c ++ y ∷ []) parts e (subst (λ (x : ℕ). is_member x run ≡ true) (dart-injective tails v f e s) t)) m))
+          (subst (λ (n : ℕ). dart_at tails v e < n) (sym now₁.count) (node tails old rings k v l e (inside e (member-append_right e run (c ++ y ∷ []) m))))
+          (λ f t s. both_ways (is_member e (c ++ y ∷ [])) (distinct-append_apart run (c ++ y ∷ []) parts e (subst (λ (x : ℕ). is_member x run ≡ true) (dart-injective tails v f e s) t)) m))
           two.0
 
       last_first : reverse run ≡ reverse p.is_run.behind ++ first ∷ []

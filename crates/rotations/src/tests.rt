@@ -267,7 +267,13 @@ fn takes_lists_for_a_part(rt: HostRuntime) -> Result<(), Fail> {
             "the list of vertex 3 is no arrangement of its edges",
         ),
         (
-            &[(0, &[2, 1]), (1, &[4, 3]), (2, &[5, 1, 3]), (3, &[2, 5, 4]), (7, &[])],
+            &[
+                (0, &[2, 1]),
+                (1, &[4, 3]),
+                (2, &[5, 1, 3]),
+                (3, &[2, 5, 4]),
+                (7, &[]),
+            ],
             "the list of vertex 7 is no arrangement of its edges",
         ),
     ];
@@ -278,8 +284,15 @@ fn takes_lists_for_a_part(rt: HostRuntime) -> Result<(), Fail> {
     // The triangle of the last three edges has no vertex 0.
     let triangle = g.part(alloc, &[3, 4, 5])?;
     let text = part_answer(alloc, &triangle, &[(0, &[])])?;
-    assert_eq!(rt; text.as_str(), "the list of vertex 0 is no arrangement of its edges");
-    let text = part_answer(alloc, &triangle, &[(1, &[4, 3]), (2, &[5, 3]), (3, &[5, 4])])?;
+    assert_eq!(rt;
+        text.as_str(),
+        "the list of vertex 0 is no arrangement of its edges"
+    );
+    let text = part_answer(
+        alloc,
+        &triangle,
+        &[(1, &[4, 3]), (2, &[5, 3]), (3, &[5, 4])],
+    )?;
     assert_eq!(rt; text.as_str(), " 0 1");
     Ok(())
 }

@@ -29,12 +29,20 @@ exchange-requires-clause-second c = node-there c.self.inside.tails.items c.self.
     (outside-last (order_at c.args.self.now c.args.v) c.args.first c.args.last c.args.after c.requires)
 
 pub exchange-requires-2-clause-first : goal.exchange-requires-2-clause-first
-exchange-requires-2-clause-first c = omega (arith, c.exchange.ensures.count, node-there c.self.inside.tails.items c.self.inside.nodes c.self.inside.rings.items c.self.invariant c.args.self.now c.self.view_is c.args.v c.args.after c.dart_at-place.result c.deref-3.result.now c.deref-3.ensures.value c.dart_at-place.ensures
-    (outside-edge (order_at c.args.self.now c.args.v) c.args.first c.args.last c.args.after c.requires))
+exchange-requires-2-clause-first c = omega (
+  arith,
+  c.exchange.ensures.count,
+  node-there c.self.inside.tails.items c.self.inside.nodes c.self.inside.rings.items c.self.invariant c.args.self.now c.self.view_is c.args.v c.args.after c.dart_at-place.result c.deref-3.result.now c.deref-3.ensures.value c.dart_at-place.ensures
+      (outside-edge (order_at c.args.self.now c.args.v) c.args.first c.args.last c.args.after c.requires),
+)
 
 pub exchange-requires-2-clause-second : goal.exchange-requires-2-clause-second
-exchange-requires-2-clause-second c = omega (arith, c.exchange.ensures.count, node-there c.self.inside.tails.items c.self.inside.nodes c.self.inside.rings.items c.self.invariant c.args.self.now c.self.view_is c.args.v c.args.last c.dart_at-back.result c.deref-2.result.now c.deref-2.ensures.value c.dart_at-back.ensures
-    (outside-last (order_at c.args.self.now c.args.v) c.args.first c.args.last c.args.after c.requires))
+exchange-requires-2-clause-second c = omega (
+  arith,
+  c.exchange.ensures.count,
+  node-there c.self.inside.tails.items c.self.inside.nodes c.self.inside.rings.items c.self.invariant c.args.self.now c.self.view_is c.args.v c.args.last c.dart_at-back.result c.deref-2.result.now c.deref-2.ensures.value c.dart_at-back.ensures
+      (outside-last (order_at c.args.self.now c.args.v) c.args.first c.args.last c.args.after c.requires),
+)
 
 -- two exchanges move the run
 pub invariant_of-self : goal.invariant_of-self

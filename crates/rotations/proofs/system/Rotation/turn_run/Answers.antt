@@ -30,16 +30,30 @@ exchange-requires-clause-second c = node-there c.self.inside.tails.items c.self.
     (c.requires.last)
 
 pub reverse-requires-2 : goal.reverse-requires-2
-reverse-requires-2 c = omega (arith, c.exchange.ensures.count, node-there c.self.inside.tails.items c.self.inside.nodes c.self.inside.rings.items c.self.invariant c.args.self.now c.self.view_is c.args.v c.args.first c.dart_at-head.result c.deref.result.now c.deref.ensures.value c.dart_at-head.ensures
-    (c.requires.first))
+reverse-requires-2 c = omega (
+  arith,
+  c.exchange.ensures.count,
+  node-there c.self.inside.tails.items c.self.inside.nodes c.self.inside.rings.items c.self.invariant c.args.self.now c.self.view_is c.args.v c.args.first c.dart_at-head.result c.deref.result.now c.deref.ensures.value c.dart_at-head.ensures
+      (c.requires.first),
+)
 
 pub exchange-requires-2-clause-first : goal.exchange-requires-2-clause-first
-exchange-requires-2-clause-first c = omega (arith, c.exchange.ensures.count, c.reverse-2.ensures.count, node-there c.self.inside.tails.items c.self.inside.nodes c.self.inside.rings.items c.self.invariant c.args.self.now c.self.view_is c.args.v c.pred-edge_before.result c.dart_at-before.result c.deref-2.result.now c.deref-2.ensures.value c.dart_at-before.ensures
-    (before-in (order_at c.args.self.now c.args.v) c.args.first c.pred-edge_before.result c.requires.first c.pred-edge_before.ensures))
+exchange-requires-2-clause-first c = omega (
+  arith,
+  c.exchange.ensures.count,
+  c.reverse-2.ensures.count,
+  node-there c.self.inside.tails.items c.self.inside.nodes c.self.inside.rings.items c.self.invariant c.args.self.now c.self.view_is c.args.v c.pred-edge_before.result c.dart_at-before.result c.deref-2.result.now c.deref-2.ensures.value c.dart_at-before.ensures
+      (before-in (order_at c.args.self.now c.args.v) c.args.first c.pred-edge_before.result c.requires.first c.pred-edge_before.ensures),
+)
 
 pub exchange-requires-2-clause-second : goal.exchange-requires-2-clause-second
-exchange-requires-2-clause-second c = omega (arith, c.exchange.ensures.count, c.reverse-2.ensures.count, node-there c.self.inside.tails.items c.self.inside.nodes c.self.inside.rings.items c.self.invariant c.args.self.now c.self.view_is c.args.v c.args.first c.dart_at-head.result c.deref.result.now c.deref.ensures.value c.dart_at-head.ensures
-    (c.requires.first))
+exchange-requires-2-clause-second c = omega (
+  arith,
+  c.exchange.ensures.count,
+  c.reverse-2.ensures.count,
+  node-there c.self.inside.tails.items c.self.inside.nodes c.self.inside.rings.items c.self.invariant c.args.self.now c.self.view_is c.args.v c.args.first c.dart_at-head.result c.deref.result.now c.deref.ensures.value c.dart_at-head.ensures
+      (c.requires.first),
+)
 
 -- the run is the whole round: one reversal
 pub invariant_of-self : goal.invariant_of-self
