@@ -1,23 +1,22 @@
 -- The skeletons of bonds: a rotation system of one is plane exactly where the order at the one pole is the reverse of that at
 -- the other.
-use Rattle.std.proofs.Common.{◌≡◌, ◌≢◌, ℕ, zero, suc, ◌+◌, ◌*◌, ◌/◌, ◌%◌, ◌<◌, ◌≤◌, ◌⊎◌, Bool, true, false, not, ◌||◌, ◌==◌, cond, List, [], ◌∷◌, length, map, filter, reverse, slice_index_or, inl, inr, refl, sym, ap, ap₂, ◌∙◌, subst, arith, eq-eqb, eqb-true, All}
+use Rattle.std.proofs.Common.{◌≡◌, ℕ, ◌*◌, ◌/◌, ◌%◌, ◌<◌, ◌⊎◌, Bool, true, not, ◌==◌, cond, List, length, map, reverse, inl, inr, refl, sym, ap, ap₂, ◌∙◌, subst, arith, eq-eqb, eqb-true}
 use Rattle.std.proofs.lemmas.Bool.{cases_Bool, cases_eq, both_ways, ne_eqb, or_left, or_right}
-use Rattle.std.proofs.lemmas.List.{length-map}
 use Rattle.std.proofs.lemmas.List.Elements.{All-get_or}
 use Rattle.permutations.specs.Members.{is_member, is_distinct}
 use Rattle.permutations.specs.Cyclic.{successor, predecessor, from_least}
 use Rattle.permutations.proofs.Members.{member-reverse, distinct-reverse}
-use Rattle.permutations.proofs.Successor.{successor-member, successor-absent, predecessor-successor, successor-predecessor}
+use Rattle.permutations.proofs.Successor.{successor-absent, predecessor-successor, successor-predecessor}
 use Rattle.permutations.proofs.CyclicSame.{same-lists}
 use Rattle.permutations.proofs.NormalForm.{mirror-successor, from_least-member, from_least-distinct}
 use Rattle.permutations.proofs.Filter.{filter-ext}
 use Rattle.permutations.proofs.Arrangements.{permutation-member, contains-from_member}
 use Rattle.multigraph.specs.Graph.{Multigraph, IsGraph, edge_count, ends_of, is_end, numbers_below, incident_edges}
-use Rattle.rotations.specs.Rotation.{order_at, IsCyclicOrder, IsRotationSystem}
+use Rattle.rotations.specs.Rotation.{order_at, IsRotationSystem}
 use Rattle.dart_maps.specs.Map.{twin, face, same_vertex}
-use Rattle.dart_maps.proofs.Darts.{twin-edge, twin-twin, edge-twin, twin-below, twin-even, twin-cases}
+use Rattle.dart_maps.proofs.Darts.{twin-edge, twin-cases}
 use Rattle.dart_maps.proofs.Bond.{bond-plane, bond-plane-back}
-use Rattle.faces.specs.Euler.{tail, IsPlane}
+use Rattle.faces.specs.Euler.{IsPlane}
 use Rattle.faces.specs.Maps.{dart_after, dart_before, mirror_image}
 use Rattle.faces.proofs.DartLemmas.{order-distinct}
 use Rattle.faces.proofs.MapSteps.{tail-in}
@@ -27,19 +26,18 @@ use Rattle.faces.proofs.MapMirror.{mirror-order, mirror-system, order-least}
 use Rattle.faces.proofs.MapLists.{first-same}
 use Rattle.faces.proofs.MapPartOrders.{from_least-least}
 use Rattle.pair_split.specs.Skeleton.{SameEnds, HasPoles}
-use Rattle.pair_split.specs.Split.{skeleton, item_at, items_of, piece_ends}
-use Rattle.pair_split.specs.Tutte.{Node, components, node_at, node_item, IsTutte}
+use Rattle.pair_split.specs.Split.{skeleton, piece_ends}
+use Rattle.pair_split.specs.Tutte.{Node, components, node_at, node_item}
 use Rattle.pair_split.proofs.GraphFamily.{contains-below}
-use Rattle.skeletons.specs.Items.{has_vertex, IsBlockTree}
+use Rattle.skeletons.specs.Items.{IsBlockTree}
 use Rattle.skeletons.specs.Families.{place_of, skeleton_graph}
 use Rattle.skeletons.specs.Choices.{IsPlaneSystem}
 use Rattle.skeletons.proofs.NodeItems.{piece-in, node-piece, edge-item}
 use Rattle.skeleton_runs.proofs.Items.{skeleton-at, skeleton-in}
 use Rattle.skeleton_runs.proofs.SkeletonGraph.{skeleton-graph, graph-edges, graph-ends}
 use Rattle.skeleton_runs.proofs.SkeletonGraph.{edge-item as graph-item}
-use Rattle.skeleton_planes.specs.Runs.{end_of}
-use Rattle.skeleton_planes.proofs.SkeletonDarts.{dart-item, item-dart, end-vertex, same-end_of, tail-place, skeleton-map, step-item, step-end, step-next, own-item, round-item}
-use Rattle.skeleton_planes.proofs.Linked.{twin-end}
+use Rattle.skeleton_planes.proofs.RunTests.{end_of}
+use Rattle.skeleton_planes.proofs.SkeletonDarts.{dart-item, item-dart, same-end_of, tail-place, skeleton-map, step-item, step-end, step-next, round-item}
 use Rattle.skeleton_planes.proofs.PolygonSkeleton.{some-system, some-order, rising_system, rising-order, rising-system}
 
 -- two pairs with the same two ends, each time the lesser one first
@@ -80,7 +78,7 @@ module _ (g : Multigraph) (nodes : List Node) (b : IsBlockTree g nodes) (k : ℕ
   number = length (node_at nodes k).items
 
   -- one at least
-  some-item : 0 < number
+  pub some-item : 0 < length (node_at nodes k).items
   some-item = let w = edge-item g nodes b.tree k 0 l b.block.has_edge in omega (arith, w.1)
 
   -- the two vertices
@@ -92,7 +90,7 @@ module _ (g : Multigraph) (nodes : List Node) (b : IsBlockTree g nodes) (k : ℕ
   greater = (node_item nodes k 0).b
 
   -- they differ
-  differ : lesser < greater
+  pub differ : (node_item nodes k 0).a < (node_item nodes k 0).b
   differ = b.tree.in_order.ends_rise k 0 some-item
 
   -- an item joins the poles
@@ -101,7 +99,7 @@ module _ (g : Multigraph) (nodes : List Node) (b : IsBlockTree g nodes) (k : ℕ
       (All-get_or (SameEnds poles.poles) (skeleton (components nodes) k) i (0, 0) (skeleton-in g (components nodes) b.tree.split k i (piece-in g nodes b.tree k i m)) poles.joined)
 
   -- so all have the same ends
-  item-ends : (i : ℕ) → i < number → ((node_item nodes k i).a ≡ lesser) × ((node_item nodes k i).b ≡ greater)
+  pub item-ends : (i : ℕ) → i < length (node_at nodes k).items → ((node_item nodes k i).a ≡ (node_item nodes k 0).a) × ((node_item nodes k i).b ≡ (node_item nodes k 0).b)
   item-ends i m = same-pairs poles.poles lesser greater (node_item nodes k i).a (node_item nodes k i).b differ (b.tree.in_order.ends_rise k i m) (item-poles 0 some-item) (item-poles i m)
 
   -- an even dart leaves the lesser
@@ -152,11 +150,11 @@ module _ (g : Multigraph) (nodes : List Node) (b : IsBlockTree g nodes) (k : ℕ
   first-dart = (refl, refl)
 
   -- they are vertices of the skeleton
-  lesser-in : lesser_place < (skeleton_graph nodes k).vertex_count
+  pub lesser-in : place_of (node_at nodes k).vertices (node_item nodes k 0).a < (skeleton_graph nodes k).vertex_count
   lesser-in = subst (λ p. p < graph.vertex_count) (tail-place g nodes b k l 0 some-item) (tail-in graph 0 ok (item-dart g nodes b k l 0 some-item))
 
   -- the other
-  greater-in : greater_place < (skeleton_graph nodes k).vertex_count
+  pub greater-in : place_of (node_at nodes k).vertices (node_item nodes k 0).b < (skeleton_graph nodes k).vertex_count
   greater-in = subst (λ p. p < graph.vertex_count) (tail-place g nodes b k l 1 some-item) (tail-in graph 1 ok (item-dart g nodes b k l 1 some-item))
 
   -- they differ
@@ -166,12 +164,13 @@ module _ (g : Multigraph) (nodes : List Node) (b : IsBlockTree g nodes) (k : ℕ
   -- each item stands at both
   all-ends : (i : ℕ) → i < edge_count (skeleton_graph nodes k) → (is_end graph lesser_place i ≡ true) × (is_end graph greater_place i ≡ true)
   all-ends i n = let m : i < number = graph-item g nodes b k l i n in
-      let e : ends_of graph i ≡ (lesser_place, greater_place) = graph-ends g nodes b k l i m ∙ ap₂ (λ x y. (place_of (node_at nodes k).vertices x, place_of (node_at nodes k).vertices y)) (item-ends i m).0 (item-ends i m).1 in
-      (or_left ((ends_of graph i).0 == lesser_place) ((ends_of graph i).1 == lesser_place) (eq-eqb (ends_of graph i).0 lesser_place (ap (λ (p : ℕ × ℕ). p.0) e)),
-      or_right ((ends_of graph i).0 == greater_place) ((ends_of graph i).1 == greater_place) (eq-eqb (ends_of graph i).1 greater_place (ap (λ (p : ℕ × ℕ). p.1) e)))
+      let e : ends_of graph i ≡ (lesser_place, greater_place) = graph-ends g nodes b k l i m ∙ ap₂ (λ x y. (place_of (node_at nodes k).vertices x, place_of (node_at nodes k).vertices y)) (item-ends i m).0 (item-ends i m).1 in (
+        or_left ((ends_of graph i).0 == lesser_place) ((ends_of graph i).1 == lesser_place) (eq-eqb (ends_of graph i).0 lesser_place (ap (λ (p : ℕ × ℕ). p.0) e)),
+        or_right ((ends_of graph i).0 == greater_place) ((ends_of graph i).1 == greater_place) (eq-eqb (ends_of graph i).1 greater_place (ap (λ (p : ℕ × ℕ). p.1) e)),
+      )
 
   -- so the same edges stand at both
-  same-incident : incident_edges graph greater_place ≡ incident_edges graph lesser_place
+  pub same-incident : incident_edges (skeleton_graph nodes k) (place_of (node_at nodes k).vertices (node_item nodes k 0).b) ≡ incident_edges (skeleton_graph nodes k) (place_of (node_at nodes k).vertices (node_item nodes k 0).a)
   same-incident = filter-ext (is_end graph greater_place) (is_end graph lesser_place) (numbers_below (edge_count graph)) (λ x m.
       let n : x < edge_count graph = contains-below (edge_count graph) x (contains-from_member (numbers_below (edge_count graph)) x m) in (all-ends x n).1 ∙ sym (all-ends x n).0)
 
@@ -285,7 +284,7 @@ module _ (g : Multigraph) (nodes : List Node) (b : IsBlockTree g nodes) (k : ℕ
     some-edge = let e : edge_count graph ≡ number = graph-edges g nodes b k l in omega (arith, e, some-item)
 
     -- plane where the order at the greater is the reverse of that at the lesser
-    pub reversed-plane : order_at s greater_place ≡ from_least (reverse (order_at s lesser_place)) → IsPlane (skeleton_graph nodes k) s
+    pub reversed-plane : order_at s (place_of (node_at nodes k).vertices (node_item nodes k 0).b) ≡ from_least (reverse (order_at s (place_of (node_at nodes k).vertices (node_item nodes k 0).a))) → IsPlane (skeleton_graph nodes k) s
     reversed-plane e = map-plane graph s ok system (bond-plane (edge_count graph) step (dart_before graph s) (skeleton-map g nodes b k l s system) some-edge even even-twin even-step even-vertex back)
       where
         behind : (i : ℕ) → successor second i ≡ predecessor first i
@@ -298,7 +297,7 @@ module _ (g : Multigraph) (nodes : List Node) (b : IsBlockTree g nodes) (k : ℕ
         ]
 
     -- and only there
-    pub plane-reversed : IsPlane (skeleton_graph nodes k) s → order_at s greater_place ≡ from_least (reverse (order_at s lesser_place))
+    pub plane-reversed : IsPlane (skeleton_graph nodes k) s → order_at s (place_of (node_at nodes k).vertices (node_item nodes k 0).b) ≡ from_least (reverse (order_at s (place_of (node_at nodes k).vertices (node_item nodes k 0).a)))
     plane-reversed p = same-lists second (from_least (reverse first)) second-distinct (from_least-distinct (reverse first) (distinct-reverse first first-distinct))
         (first-same second (from_least (reverse first)) members (order-least graph s greater_place system greater-in) (from_least-least (reverse first)))
         members behind

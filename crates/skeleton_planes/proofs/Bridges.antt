@@ -1,10 +1,11 @@
 -- An edge that is no bridge stays none when the map is glued along others that are none.
-use Rattle.std.proofs.Common.{◌≡◌, ◌≢◌, ℕ, ◌*◌, ◌<◌, Bool, true, false, not, ◌&&◌, ◌||◌, ◌==◌, cond, inl, inr, refl, sym, ap, ◌∙◌, subst, arith, eq-eqb, eqb-true}
-use Rattle.std.proofs.lemmas.Bool.{cases_Bool, cases_eq, both_ways, ne_eqb, and_from, and_parts, or_from, not-true}
-use Rattle.dart_maps.specs.Map.{twin, IsMap}
-use Rattle.dart_maps.proofs.Darts.{twin-other, twin-below, twin-twin}
-use Rattle.skeleton_planes.specs.Seams.{IsOff, AreFacing, AreJoined, IsNoBridge}
-use Rattle.skeleton_planes.proofs.Facing.{sides-differ, facing-back, joined-back, twin-in, before-in, twin_before-in, before-only, twin_before-only, twin-side, inside-joined}
+use Rattle.std.proofs.Common.{◌≡◌, ℕ, ◌*◌, ◌<◌, Bool, true, false, not, ◌||◌, ◌==◌, cond, inl, inr, refl, sym, ap, ◌∙◌, subst, eq-eqb}
+use Rattle.std.proofs.lemmas.Bool.{cases_Bool, cases_eq, ne_eqb, not-true}
+use Rattle.dart_maps.specs.Map.{twin}
+use Rattle.dart_maps.proofs.Darts.{twin-other, twin-twin}
+use Rattle.skeleton_planes.proofs.Seams.{IsOff, AreFacing, AreJoined}
+use Rattle.skeleton_planes.specs.Bridges.{IsNoBridge}
+use Rattle.skeleton_planes.proofs.Facing.{sides-differ, facing-back, joined-back, before-in, twin_before-in, before-only, twin_before-only, twin-side, inside-joined}
 use Rattle.skeleton_planes.proofs.Spread.{spread, spread-before, spread-twin_before}
 
 -- an edge on d's side

@@ -1,9 +1,9 @@
 -- Darts of many maps under one numbering.
-use Rattle.std.proofs.Common.{◌≡◌, ◌≢◌, ℕ, zero, suc, ◌+◌, ◌*◌, ◌/◌, ◌%◌, ◌<◌, ◌≤◌, Bool, true, false, not, ◌==◌, inl, inr, refl, sym, ap, ◌∙◌, subst, arith, eq-eqb, eqb-true}
+use Rattle.std.proofs.Common.{◌≡◌, ℕ, zero, suc, ◌+◌, ◌*◌, ◌/◌, ◌%◌, ◌<◌, inl, inr, sym, ap, ◌∙◌, arith}
 use Rattle.std.proofs.lemmas.Nat.{div-mul-add, mod-mul-add, mul-add-lt, row-Below, mod_below, div-add-mod'}
 use Rattle.dart_maps.specs.Map.{twin}
-use Rattle.dart_maps.proofs.Darts.{twin-edge, twin-cases, twin-other}
-use Rattle.skeleton_planes.specs.Union.{coded, part_of, local_of}
+use Rattle.dart_maps.proofs.Darts.{twin-edge, twin-cases}
+use Rattle.skeleton_planes.proofs.Numbering.{coded, part_of, local_of}
 
 -- the half and the parity of a code
 half : (p z : ℕ) → (2 * (p + z / 2) + z % 2) / 2 ≡ p + z / 2

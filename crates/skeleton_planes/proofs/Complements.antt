@@ -1,11 +1,11 @@
 -- Members of a cyclic order that pass a test, and those that fail it: where the ones end the others begin.
-use Rattle.std.proofs.Common.{◌≡◌, ◌≢◌, ℕ, Bool, true, false, not, ◌&&◌, ◌||◌, ◌==◌, cond, List, inl, inr, ◌⊎◌, refl, sym, ap, ◌∙◌, subst, arith, eq-eqb, eqb-true}
-use Rattle.std.proofs.lemmas.Bool.{cases_Bool, cases_eq, both_ways, ne_eqb, and_from, and_parts, or_cases, or_left, or_right, not-true, not_from_false}
+use Rattle.std.proofs.Common.{◌≡◌, ℕ, Bool, true, false, not, ◌&&◌, ◌||◌, ◌==◌, List, inl, inr, ◌⊎◌, refl, sym, ap, ◌∙◌, arith, eq-eqb, eqb-true}
+use Rattle.std.proofs.lemmas.Bool.{cases_Bool, both_ways, and_from, and_parts, or_cases, or_left, or_right, not-true, not_from_false}
 use Rattle.permutations.specs.Members.{is_member, is_distinct}
 use Rattle.permutations.specs.Cyclic.{successor}
-use Rattle.permutations.proofs.Successor.{successor-member, successor-injective}
+use Rattle.permutations.proofs.Successor.{successor-member}
 use Rattle.permutations.proofs.Chains.{chain-test}
-use Rattle.skeleton_planes.specs.Runs.{ends_run, begins_run}
+use Rattle.skeleton_planes.proofs.RunTests.{ends_run, begins_run}
 
 -- a member that follows itself is the only one
 pub follows-itself : (l : List ℕ) (c : ℕ) → is_distinct l ≡ true → is_member c l ≡ true → successor l c ≡ c → (x : ℕ) → is_member x l ≡ true → x ≡ c

@@ -1,13 +1,10 @@
 -- Two edges that face each other: the darts before them, and which darts differ.
-use Rattle.std.proofs.Common.{◌≡◌, ◌≢◌, ℕ, ◌*◌, ◌<◌, Bool, true, false, not, ◌&&◌, ◌||◌, ◌==◌, cond, inl, inr, refl, sym, ap, ◌∙◌, subst, arith, eq-eqb}
-use Rattle.std.proofs.lemmas.Bool.{cases_Bool, cases_eq, both_ways, ne_eqb}
-use Rattle.permutations.proofs.Permutations.{permutes-back, permutes-one-to-one}
-use Rattle.dart_maps.specs.Map.{twin, IsMap}
-use Rattle.dart_maps.specs.Changes.{glued}
-use Rattle.dart_maps.proofs.Darts.{twin-other, twin-below, twin-twin, twin-one}
-use Rattle.dart_maps.proofs.Glue.{four-not}
-use Rattle.dart_maps.specs.Order.{one_of_four}
-use Rattle.skeleton_planes.specs.Seams.{IsOff, AreFacing, AreJoined}
+use Rattle.std.proofs.Common.{◌≡◌, ℕ, ◌*◌, ◌<◌, Bool, true, false, not, sym, ap, ◌∙◌, subst}
+use Rattle.std.proofs.lemmas.Bool.{both_ways}
+use Rattle.permutations.proofs.Permutations.{permutes-back}
+use Rattle.dart_maps.specs.Map.{twin}
+use Rattle.dart_maps.proofs.Darts.{twin-below}
+use Rattle.skeleton_planes.proofs.Seams.{IsOff, AreFacing, AreJoined}
 
 -- numbers that a function tells apart differ
 pub told-apart : {X : Type 0} (f : ℕ → X) (x y : ℕ) → (f x ≡ f y → ⊥) → x ≡ y → ⊥

@@ -1,17 +1,15 @@
 -- A rotation system of a block that follows a family is the map that comes of gluing the skeletons along all links; so it is
 -- plane exactly where each member of the family is.
-use Rattle.std.proofs.Common.{◌≡◌, ◌≢◌, ℕ, zero, suc, ◌+◌, ◌*◌, ◌/◌, ◌%◌, ◌<◌, ◌≤◌, ◌⊎◌, ◌↔◌, Bool, true, false, not, ◌&&◌, ◌||◌, ◌==◌, cond, ltb, List, length, map, inl, inr, refl, sym, ap, ap₂, ◌∙◌, subst, arith, eq-eqb, eqb-true, lt-ltb, ltb-true, le-ltb, le_refl}
+use Rattle.std.proofs.Common.{◌≡◌, ℕ, ◌*◌, ◌/◌, ◌<◌, ◌≤◌, ◌⊎◌, Bool, true, false, ◌&&◌, ◌==◌, cond, ltb, List, length, inl, inr, refl, sym, ap, ap₂, ◌∙◌, subst, arith, eq-eqb, eqb-true, lt-ltb, ltb-true, le_refl}
 use Rattle.std.proofs.lemmas.Bool.{cases_Bool, cases_eq, cases_lt, both_ways, ne_eqb, and_from, and_parts, or_cases, false_from_ne_true, true≢false}
-use Rattle.permutations.specs.Members.{is_member, is_distinct}
 use Rattle.permutations.specs.Cyclic.{successor}
 use Rattle.permutations.proofs.Permutations.{permutes-one-to-one}
-use Rattle.multigraph.specs.Graph.{Multigraph, IsGraph, edge_count, ends_of, is_end}
+use Rattle.multigraph.specs.Graph.{Multigraph, edge_count, ends_of, is_end}
 use Rattle.multigraph.proofs.OtherEnd.{is_end-cases}
 use Rattle.rotations.specs.Rotation.{order_at, IsRotationSystem}
-use Rattle.dart_maps.specs.Map as maps
-use Rattle.dart_maps.specs.Map.{twin, IsMap}
+use Rattle.dart_maps.specs.Map.{twin}
 use Rattle.dart_maps.specs.Renumbering.{IsRenumbering}
-use Rattle.dart_maps.proofs.Darts.{twin-edge, twin-below, twin-twin, edge-twin, twin-even, twin-other}
+use Rattle.dart_maps.proofs.Darts.{twin-edge, twin-below, twin-twin, edge-twin, twin-other}
 use Rattle.dart_maps.proofs.Renumber.{renumber-plane, renumber-plane-back}
 use Rattle.faces.specs.Euler.{tail, dart_from, IsPlane}
 use Rattle.faces.specs.Maps.{dart_after, dart_before}
@@ -19,9 +17,8 @@ use Rattle.faces.proofs.DartLemmas.{dart-edge, tail-end, dart_from-edge, dart_fr
 use Rattle.faces.proofs.MapSteps.{after-tail, after-edge, map-permutes}
 use Rattle.faces.proofs.MapVertices.{tail-order}
 use Rattle.faces.proofs.MapCounts.{plane-map, map-plane}
-use Rattle.pair_split.specs.Skeleton.{is_end_of, SameEnds}
-use Rattle.pair_split.specs.Split.{piece_ends, item_at, LinksTo, StandsFor, IsTree}
-use Rattle.pair_split.specs.Tutte.{Node, components, node_at, node_item, has_in_group, IsTutte}
+use Rattle.pair_split.specs.Split.{piece_ends, item_at, LinksTo, StandsFor}
+use Rattle.pair_split.specs.Tutte.{Node, components, node_at, node_item, has_in_group}
 use Rattle.pair_split.specs.declared.components.What.{What}
 use Rattle.pair_split.specs.declared.components.What.TheVariants.{Real, Link}
 use Rattle.pair_split.proofs.Links.{stands-in}
@@ -30,11 +27,11 @@ use Rattle.pair_split.proofs.Subtrees.{link-in}
 use Rattle.skeletons.specs.Items.{ends_item, IsBlockTree}
 use Rattle.skeletons.specs.Families.{skeleton_graph, system_at, AreSkeletonSystems, FollowsFamily}
 use Rattle.skeletons.specs.Laws.{PlaneWhereMembersAre}
-use Rattle.skeletons.proofs.NodeItems.{node-in, comp-in, stands-of, item-of, ends-at}
+use Rattle.skeletons.proofs.NodeItems.{node-in, stands-of, item-of, ends-at}
 use Rattle.skeleton_runs.proofs.SkeletonGraph.{skeleton-graph}
-use Rattle.skeleton_planes.specs.Links.{all_glued, is_used, IsStage}
-use Rattle.skeleton_planes.specs.Union.{coded, part_of, local_of, united}
-use Rattle.skeleton_planes.specs.Runs.{ends_run, begins_run, end_of, holds, is_dart, ends_with, begins_behind}
+use Rattle.skeleton_planes.proofs.LinkLists.{all_glued, is_used, IsStage}
+use Rattle.skeleton_planes.proofs.Numbering.{coded, part_of, local_of, united}
+use Rattle.skeleton_planes.proofs.RunTests.{ends_run, begins_run, end_of, holds, is_dart}
 use Rattle.skeleton_planes.proofs.Coded.{part-coded, local-coded, coded-local, coded-below, coded-twin, part-below, part-twin, local-twin}
 use Rattle.skeleton_planes.proofs.Complements.{ends-from, begins-parts}
 use Rattle.skeleton_planes.proofs.Stages.{all-stages, used-twin}

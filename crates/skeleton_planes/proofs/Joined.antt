@@ -1,14 +1,14 @@
 -- The glued map dart by dart.
-use Rattle.std.proofs.Common.{◌≡◌, ◌≢◌, ℕ, ◌*◌, ◌<◌, ◌⊎◌, Bool, true, false, not, ◌||◌, ◌==◌, inl, inr, refl, sym, ap, ◌∙◌, subst, eq-eqb, eqb-true}
-use Rattle.std.proofs.lemmas.Bool.{cases_Bool, cases_eq, both_ways, ne_eqb}
-use Rattle.dart_maps.specs.Map.{twin, IsMap}
+use Rattle.std.proofs.Common.{◌≡◌, ℕ, ◌*◌, ◌<◌, Bool, true, false, not, inl, inr, refl, sym, ap, ◌∙◌, subst, eq-eqb}
+use Rattle.std.proofs.lemmas.Bool.{cases_Bool, cases_eq, ne_eqb}
+use Rattle.dart_maps.specs.Map.{twin}
 use Rattle.dart_maps.specs.Changes.{glued}
 use Rattle.dart_maps.specs.Order.{one_of_four}
-use Rattle.dart_maps.proofs.Darts.{twin-other, twin-below, twin-twin}
+use Rattle.dart_maps.proofs.Darts.{twin-other}
 use Rattle.dart_maps.proofs.FourDarts.{four-members, four-none, four-cases}
 use Rattle.dart_maps.proofs.Glue.{four-not}
-use Rattle.skeleton_planes.specs.Seams.{IsOff, AreFacing, AreJoined}
-use Rattle.skeleton_planes.proofs.Facing.{sides-differ, facing-back, joined-back, before-in, after-before, after-twin_before, before-side, twin_before-side, before-other, before-not_twin, twin_before-other, twin_before-not_d, before-only, twin_before-only, inside-off}
+use Rattle.skeleton_planes.proofs.Seams.{IsOff, AreFacing, AreJoined}
+use Rattle.skeleton_planes.proofs.Facing.{sides-differ, facing-back, after-before, after-twin_before, before-side, twin_before-side, before-other, before-not_twin, twin_before-other, twin_before-not_d, before-only, twin_before-only, inside-off}
 
 -- a dart off two edges is none of their four darts
 pub off-four : (d e x : ℕ) → IsOff d e x → one_of_four d (twin d) e (twin e) x ≡ false

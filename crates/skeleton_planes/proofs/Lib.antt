@@ -1,4 +1,8 @@
--- The lemmas on gluing along links.
+-- The lemmas on gluing along links, on the skeletons as one map, and on the skeletons of each kind.
+pub mod Seams
+pub mod LinkLists
+pub mod Numbering
+pub mod RunTests
 pub mod Facing
 pub mod Spread
 pub mod Unglued
@@ -20,3 +24,7 @@ pub mod Polygon
 pub mod PolygonSkeleton
 pub mod BondSkeleton
 pub mod Planar
+pub mod OneSystem
+pub mod Exact
+pub mod BondMade
+mod Examples

@@ -1,24 +1,22 @@
 -- The two items of a link, as a pair of edges that can be glued.
-use Rattle.std.proofs.Common.{◌≡◌, ◌≢◌, ℕ, ◌+◌, ◌*◌, ◌/◌, ◌%◌, ◌<◌, ◌≤◌, ◌⊎◌, Bool, true, false, not, ◌&&◌, ◌||◌, ◌==◌, cond, ltb, List, length, map, inl, inr, refl, sym, ap, ap₂, ◌∙◌, subst, arith, eq-eqb, eqb-true, lt-ltb, ltb-true, le-ltb}
-use Rattle.std.proofs.lemmas.Bool.{cases_Bool, cases_eq, both_ways, and_from, and_parts}
-use Rattle.permutations.specs.Members.{is_member, is_distinct}
-use Rattle.multigraph.specs.Graph.{Multigraph, IsGraph, edge_count, is_end}
+use Rattle.std.proofs.Common.{◌≡◌, ◌≢◌, ℕ, ◌*◌, ◌/◌, ◌<◌, true, not, List, length, sym, ap, ap₂, ◌∙◌, subst, arith, lt-ltb}
+use Rattle.std.proofs.lemmas.Bool.{and_from, and_parts}
+use Rattle.multigraph.specs.Graph.{Multigraph, edge_count}
 use Rattle.rotations.specs.Rotation.{order_at, IsRotationSystem}
 use Rattle.rotations.proofs.Membership.{member-edge}
 use Rattle.dart_maps.specs.Map.{twin}
 use Rattle.dart_maps.proofs.Darts.{twin-edge}
 use Rattle.faces.proofs.DartLemmas.{order-member, order-distinct, member-incident}
-use Rattle.pair_split.specs.Split.{side, LinksTo}
-use Rattle.pair_split.specs.Tutte.{Node, components, node_at, node_item, has_in_group, IsTutte}
-use Rattle.pair_split.specs.declared.components.What.TheVariants.{Real, Link}
+use Rattle.pair_split.specs.Tutte.{Node, components, node_at, node_item}
+use Rattle.pair_split.specs.declared.components.What.TheVariants.{Link}
 use Rattle.pair_split.proofs.Groups.{side-other, in_group-link}
-use Rattle.skeletons.specs.Items.{has_vertex, IsBlockTree}
+use Rattle.skeletons.specs.Items.{IsBlockTree}
 use Rattle.skeletons.specs.Families.{AreSkeletonSystems}
 use Rattle.skeletons.proofs.NodeItems.{stands-of, item-edge}
 use Rattle.skeleton_runs.proofs.NodeFits.{vertex-fits}
-use Rattle.skeleton_planes.specs.Links.{IsLinkOf}
-use Rattle.skeleton_planes.specs.Union.{coded, part_of, local_of, united}
-use Rattle.skeleton_planes.specs.Runs.{ends_run, begins_run, end_of, holds, is_dart, ends_with, begins_behind}
+use Rattle.skeleton_planes.proofs.LinkLists.{IsLinkOf}
+use Rattle.skeleton_planes.proofs.Numbering.{coded, united}
+use Rattle.skeleton_planes.proofs.RunTests.{ends_run, begins_run, end_of, holds, is_dart, ends_with, begins_behind}
 use Rattle.skeleton_planes.proofs.Coded.{part-coded, local-coded, coded-below, coded-twin}
 use Rattle.skeleton_planes.proofs.Complements.{begins-ends}
 use Rattle.skeleton_planes.proofs.SkeletonDarts.{end-vertex}
@@ -35,8 +33,8 @@ pair-meets g nodes b r system k j y z lk lj mz my wz wy e c h =
     and_from (is_dart nodes j y) (ends_run (order_at r (end_of nodes j y)) (holds nodes j y) c) (lt-ltb (y / 2) (length (node_at nodes j).items) my)
     (begins-ends (order_at r (end_of nodes j y)) (holds nodes k z) (holds nodes j y) (order-distinct g r (end_of nodes j y) system fits)
     (λ x n. in_group-link g (components nodes) b.tree.split k j x (node_item nodes k (z / 2)).what wz
-        ∙ side-other g (components nodes) b.tree.split k j x (z / 2, stands-of g nodes b.tree k (z / 2) (Link j) mz wz) (member-edge g (end_of nodes j y) x (member-incident g r (end_of nodes j y) x system fits n))
-        ∙ ap not (sym (in_group-link g (components nodes) b.tree.split j k x (node_item nodes j (y / 2)).what wy)))
+    ∙ side-other g (components nodes) b.tree.split k j x (z / 2, stands-of g nodes b.tree k (z / 2) (Link j) mz wz) (member-edge g (end_of nodes j y) x (member-incident g r (end_of nodes j y) x system fits n))
+    ∙ ap not (sym (in_group-link g (components nodes) b.tree.split j k x (node_item nodes j (y / 2)).what wy)))
     f.0 (order-member g r (end_of nodes j y) f.0 system fits f.1 f.2) f.3 c
     (subst (λ v. begins_run (order_at r v) (holds nodes k z) c ≡ true) e (and_parts (is_dart nodes k z) (begins_run (order_at r (end_of nodes k z)) (holds nodes k z) c) h).1))
 
@@ -93,7 +91,6 @@ module _ (g : Multigraph) (nodes : List Node) (b : IsBlockTree g nodes) (family 
   -- the second
   abbrev e : ℕ
   e = coded (edge_count g) j (2 * h)
-
 
   -- the ends
   first-end : end_of nodes k (2 * i) ≡ end_of nodes j (2 * h)

@@ -1,41 +1,38 @@
 -- The two items of a link can be glued: they go between the same vertices, stand for all edges between them, have company
 -- at both, and are no bridges.
-use Rattle.std.proofs.Common.{◌≡◌, ◌≢◌, ℕ, ◌+◌, ◌*◌, ◌/◌, ◌%◌, ◌<◌, ◌≤◌, ◌⊎◌, Bool, true, false, not, ◌&&◌, ◌||◌, ◌==◌, cond, ltb, List, length, map, inl, inr, refl, sym, ap, ap₂, ◌∙◌, subst, arith, eq-eqb, eqb-true, lt-ltb, ltb-true, le-ltb, Contains}
-use Rattle.std.proofs.lemmas.Bool.{cases_Bool, cases_eq, cases_lt, both_ways, ne_eqb, and_from, and_parts, or_cases, false_from_ne_true, not-true, not_from_false}
+use Rattle.std.proofs.Common.{◌≡◌, ◌≢◌, ℕ, ◌+◌, ◌*◌, ◌/◌, ◌%◌, ◌<◌, ◌≤◌, Bool, true, not, ◌&&◌, ◌||◌, ◌==◌, cond, List, length, inl, inr, refl, sym, ap, ◌∙◌, subst, arith, eq-eqb, eqb-true}
+use Rattle.std.proofs.lemmas.Bool.{cases_Bool, cases_eq, both_ways, ne_eqb, and_from, and_parts, or_cases, not-true, not_from_false}
 use Rattle.permutations.specs.Members.{is_member, is_distinct}
 use Rattle.permutations.specs.Cyclic.{successor}
 use Rattle.permutations.proofs.Orbits.{orbit-test}
-use Rattle.multigraph.specs.Graph.{Multigraph, IsGraph, edge_count, is_end}
-use Rattle.rotations.specs.Rotation.{order_at, IsRotationSystem}
-use Rattle.dart_maps.specs.Map.{twin, IsMap, same_vertex}
-use Rattle.dart_maps.proofs.Darts.{twin-edge, twin-twin, edge-twin, twin-even}
+use Rattle.multigraph.specs.Graph.{Multigraph, edge_count}
+use Rattle.rotations.specs.Rotation.{order_at}
+use Rattle.dart_maps.specs.Map.{twin}
+use Rattle.dart_maps.proofs.Darts.{twin-edge, edge-twin, twin-even}
 use Rattle.faces.specs.Euler.{tail}
 use Rattle.faces.specs.Maps.{dart_after}
-use Rattle.faces.proofs.DartLemmas.{order-member, order-distinct}
+use Rattle.faces.proofs.DartLemmas.{order-distinct}
 use Rattle.faces.proofs.MapVertices.{tail-vertex}
 use Rattle.faces.proofs.MapSteps.{tail-in}
 use Rattle.pair_split.specs.Family.{Entry, has_end, on_side, off_side, is_common, IsTight}
-use Rattle.pair_split.specs.Split.{side, item_at, items_of, LinksTo, StandsFor}
-use Rattle.pair_split.specs.Tutte.{Node, components, node_at, node_item, group, has_in_group, IsTutte}
-use Rattle.pair_split.specs.declared.components.What.TheVariants.{Real, Link}
+use Rattle.pair_split.specs.Split.{item_at, items_of}
+use Rattle.pair_split.specs.Tutte.{Node, components, node_at, node_item}
+use Rattle.pair_split.specs.declared.components.What.TheVariants.{Link}
 use Rattle.pair_split.proofs.GraphFamily.{one_block-tight}
-use Rattle.pair_split.proofs.Groups.{side-other, in_group-link}
 use Rattle.pair_split.proofs.Sides.{Touching, one-from_entry, common-inside, common-outside}
 use Rattle.pair_split.proofs.SkeletonFamily.{named, skeleton_family, item-entry, entry-item, skeleton-tight}
-use Rattle.skeletons.specs.Items.{ends_item, has_vertex, IsBlockTree}
+use Rattle.skeletons.specs.Items.{ends_item, IsBlockTree}
 use Rattle.skeletons.specs.Families.{place_of, skeleton_graph, system_at, AreSkeletonSystems}
-use Rattle.skeletons.proofs.NodeItems.{comp-in, piece-in, item-in, ends-at, stands-of, group-is, edge-item, item-edge, edge-end, outside-edge, group-item}
-use Rattle.skeleton_runs.proofs.NodeFits.{vertex-fits}
+use Rattle.skeletons.proofs.NodeItems.{comp-in, piece-in, item-in, ends-at, group-is, edge-item, edge-end, outside-edge}
 use Rattle.skeleton_runs.proofs.SkeletonGraph.{skeleton-graph}
-use Rattle.skeleton_planes.specs.Seams.{IsNoBridge}
-use Rattle.skeleton_planes.specs.Links.{IsLinkOf}
-use Rattle.skeleton_planes.specs.Union.{coded, part_of, local_of, united}
-use Rattle.skeleton_planes.specs.Runs.{ends_run, begins_run, end_of, holds, is_dart, ends_with, begins_behind}
-use Rattle.skeleton_planes.proofs.Coded.{part-coded, local-coded, coded-below, coded-twin}
-use Rattle.skeleton_planes.proofs.Complements.{follows-itself, begins-ends}
+use Rattle.skeleton_planes.specs.Bridges.{IsNoBridge}
+use Rattle.skeleton_planes.proofs.Numbering.{coded, local_of, united}
+use Rattle.skeleton_planes.proofs.RunTests.{end_of}
+use Rattle.skeleton_planes.proofs.Coded.{local-coded, coded-below, coded-twin}
+use Rattle.skeleton_planes.proofs.Complements.{follows-itself}
 use Rattle.skeleton_planes.proofs.Spread.{alike, alike-true, alike-from}
-use Rattle.skeleton_planes.proofs.SkeletonDarts.{item-dart, dart-item, end-vertex, tail-place, skeleton-map, step-item, step-next, own-item}
-use Rattle.skeleton_planes.proofs.Whole.{stepped, dart-fits, whole-coded, place_in, ends_in, begins_in}
+use Rattle.skeleton_planes.proofs.SkeletonDarts.{item-dart, dart-item, end-vertex, tail-place, step-item, step-next, own-item}
+use Rattle.skeleton_planes.proofs.Whole.{stepped, dart-fits, whole-coded}
 
 -- each end of an item is left by one of its darts
 pub dart-at : (nodes : List Node) (k q v : ℕ) → ends_item v (node_item nodes k q) ≡ true → (z : ℕ) × (z / 2 ≡ q) × (end_of nodes k z ≡ v)

@@ -1,10 +1,9 @@
 -- A map in many parts without connection is plane exactly where each part is.
-use Rattle.std.proofs.Common.{◌≡◌, ◌≢◌, ℕ, zero, suc, ◌+◌, ◌*◌, ◌<◌, ◌≤◌, Bool, true, false, not, cond, ◌==◌, ltb, inl, inr, refl, sym, ap, ◌∙◌, subst, arith, eq-eqb, eqb-true, lt-ltb, le-ltb}
+use Rattle.std.proofs.Common.{◌≡◌, ℕ, zero, suc, ◌*◌, ◌<◌, Bool, not, cond, ◌==◌, ltb, inl, inr, refl, sym, ap, ◌∙◌, subst, arith, eq-eqb, lt-ltb, le-ltb}
 use Rattle.std.proofs.lemmas.Bool.{cases_Bool, cases_eq, cases_lt, ne_eqb}
 use Rattle.permutations.specs.Exchange.{restricted}
 use Rattle.permutations.proofs.Restriction.{restricted-next, restricted-alone, restricted-permutes}
 use Rattle.dart_maps.specs.Map.{twin, IsMap, IsPlane}
-use Rattle.dart_maps.proofs.Darts.{twin-below}
 use Rattle.dart_maps.proofs.Euler.{plane-ext, still-plane}
 use Rattle.dart_maps.proofs.Parts.{parts-plane, parts-plane-back}
 

@@ -1,10 +1,9 @@
 -- A block has a plane rotation system exactly where each of its triconnected skeletons has one.
-use Rattle.std.proofs.Common.{◌≡◌, ◌≢◌, ℕ, ◌<◌, ◌≤◌, ◌⊎◌, List, [], length, map, inl, inr, refl, sym, ap, ◌∙◌, subst, arith}
+use Rattle.std.proofs.Common.{◌≡◌, ℕ, ◌<◌, ◌≤◌, ◌⊎◌, List, [], length, map, inl, inr, refl, sym, ap, ◌∙◌, subst, arith}
 use Rattle.std.proofs.lemmas.Bool.{cases_lt}
 use Rattle.std.proofs.lemmas.List.{get_or-map, length-map}
 use Rattle.multigraph.specs.Graph.{Multigraph, numbers_below}
 use Rattle.multigraph.proofs.Below.{length-numbers_below, get_or-numbers_below}
-use Rattle.faces.specs.Euler.{IsPlane}
 use Rattle.pair_split.specs.Skeleton.{IsOfKind}
 use Rattle.pair_split.specs.Split.{skeleton}
 use Rattle.pair_split.specs.Tutte.{Node, components, node_at}

@@ -1,11 +1,11 @@
 -- A polygon is plane: a connected map each vertex of which has two darts.
-use Rattle.std.proofs.Common.{◌≡◌, ◌≢◌, ℕ, zero, suc, ◌+◌, ◌*◌, ◌<◌, ◌≤◌, Bool, true, false, not, ◌==◌, ltb, inl, inr, refl, sym, ap, ◌∙◌, subst, arith, lt-ltb, le-ltb}
-use Rattle.std.proofs.lemmas.Bool.{cases_Bool, cases_eq, cases_lt, both_ways, false_from_ne_true}
+use Rattle.std.proofs.Common.{◌≡◌, ℕ, zero, suc, ◌*◌, ◌<◌, ◌≤◌, true, ltb, inl, inr, refl, sym, ap, ◌∙◌, arith, lt-ltb, le-ltb}
+use Rattle.std.proofs.lemmas.Bool.{cases_lt}
 use Rattle.permutations.specs.Relation.{IsEquivalence, leads, leader}
-use Rattle.permutations.specs.Permutation.{Permutes, same_orbit, iterate}
+use Rattle.permutations.specs.Permutation.{iterate}
 use Rattle.permutations.proofs.Orbits.{orbit-equivalence}
 use Rattle.permutations.proofs.Permutations.{permutes-ext}
-use Rattle.permutations.proofs.Iterates.{orbit-steps, iterate-first}
+use Rattle.permutations.proofs.Iterates.{orbit-steps}
 use Rattle.permutations.proofs.Leaders.{leader-le, leader-leads, same-leader, leads-from, not-leads}
 use Rattle.permutations.proofs.Count.{count-ext}
 use Rattle.dart_maps.specs.Map.{twin, face, IsMap, IsPlane, same_face, same_component, vertex_count, face_count, component_count}

@@ -1,43 +1,38 @@
 -- The skeletons of polygons: each rotation system of one is plane. And rotation systems made of others.
-use Rattle.std.proofs.Common.{◌≡◌, ◌≢◌, ℕ, zero, suc, ◌+◌, ◌*◌, ◌/◌, ◌%◌, ◌<◌, ◌≤◌, ◌⊎◌, Bool, true, false, not, ◌&&◌, ◌||◌, ◌==◌, cond, List, [], ◌∷◌, length, map, filter, reverse, slice_index_or, inl, inr, refl, sym, ap, ap₂, ◌∙◌, subst, arith, eq-eqb, eqb-true, All, Contains}
-use Rattle.std.proofs.lemmas.Bool.{cases_Bool, cases_eq, cases_lt, both_ways, ne_eqb, or_cases}
+use Rattle.std.proofs.Common.{◌≡◌, ◌≢◌, ℕ, zero, suc, ◌*◌, ◌/◌, ◌<◌, ◌≤◌, ◌⊎◌, Bool, true, false, cond, List, [], ◌∷◌, length, map, filter, slice_index_or, inl, inr, refl, sym, ap, ap₂, ◌∙◌, subst, arith}
+use Rattle.std.proofs.lemmas.Bool.{cases_Bool}
 use Rattle.std.proofs.lemmas.List.{get_or-map, length-map}
-use Rattle.std.proofs.lemmas.List.Elements.{All-from_get_or, All-head}
+use Rattle.std.proofs.lemmas.List.Elements.{All-from_get_or}
 use Rattle.std.proofs.lemmas.List.Sorted.{IsPermutation-refl}
 use Rattle.permutations.specs.Members.{is_member, is_distinct}
 use Rattle.permutations.specs.Relation.{connected}
-use Rattle.permutations.specs.Cyclic.{successor, predecessor, from_least}
+use Rattle.permutations.specs.Cyclic.{successor}
 use Rattle.permutations.proofs.Relation.{connected-least-typed, connected-reflexive, connected-symmetric, connected-transitive}
-use Rattle.permutations.proofs.Successor.{successor-member, successor-injective, predecessor-successor, successor-predecessor}
-use Rattle.permutations.proofs.NormalForm.{mirror-successor}
-use Rattle.permutations.proofs.Filter.{filter-ext}
-use Rattle.multigraph.specs.Graph.{Multigraph, IsGraph, edge_count, ends_of, is_end, numbers_below, incident_edges}
+use Rattle.permutations.proofs.Successor.{successor-member, successor-injective}
+use Rattle.multigraph.specs.Graph.{Multigraph, IsGraph, edge_count, is_end, numbers_below, incident_edges}
 use Rattle.multigraph.proofs.Below.{length-numbers_below, get_or-numbers_below}
 use Rattle.rotations.specs.Rotation.{order_at, IsCyclicOrder, IsRotationSystem}
-use Rattle.rotations.proofs.Membership.{incident-distinct, member-end}
-use Rattle.dart_maps.specs.Map.{twin, face, same_vertex, same_component}
-use Rattle.dart_maps.proofs.Darts.{twin-edge, twin-twin, edge-twin, twin-below, twin-even}
+use Rattle.rotations.proofs.Membership.{member-end}
+use Rattle.dart_maps.specs.Map.{twin, same_component}
+use Rattle.dart_maps.proofs.Darts.{twin-edge, twin-twin, edge-twin}
 use Rattle.dart_maps.proofs.Components.{component-twin}
-use Rattle.dart_maps.proofs.Bond.{bond-plane, bond-plane-back}
 use Rattle.faces.specs.Euler.{tail, dart_from, IsPlane}
-use Rattle.faces.specs.Maps.{dart_after, dart_before, mirror_image}
+use Rattle.faces.specs.Maps.{dart_after, dart_before}
 use Rattle.faces.proofs.DartLemmas.{order-distinct, member-incident, dart_from-edge, dart_from-tail}
 use Rattle.faces.proofs.MapSteps.{tail-in}
-use Rattle.faces.proofs.MapVertices.{tail-vertex, component-tail, tail-component}
-use Rattle.faces.proofs.MapCounts.{plane-map, map-plane}
-use Rattle.faces.proofs.MapMirror.{mirror-order, mirror-system}
-use Rattle.pair_split.specs.Skeleton.{is_end_of, SameEnds, is_vertex, IsPolygon, HasPoles}
-use Rattle.pair_split.specs.Split.{skeleton, item_at, items_of, piece_ends}
-use Rattle.pair_split.specs.Tutte.{Node, components, node_at, node_item, IsTutte}
-use Rattle.skeletons.specs.Items.{ends_item, has_vertex, IsBlockTree}
+use Rattle.faces.proofs.MapVertices.{component-tail, tail-component}
+use Rattle.faces.proofs.MapCounts.{map-plane}
+use Rattle.pair_split.specs.Skeleton.{is_end_of, IsPolygon}
+use Rattle.pair_split.specs.Split.{skeleton, items_of, piece_ends}
+use Rattle.pair_split.specs.Tutte.{Node, components, node_at, node_item}
+use Rattle.skeletons.specs.Items.{IsBlockTree}
 use Rattle.skeletons.specs.Families.{place_of, skeleton_graph}
-use Rattle.skeletons.specs.Choices.{IsPlaneSystem}
 use Rattle.skeletons.proofs.NodeItems.{piece-in, node-piece, item-in, edge-item}
 use Rattle.skeleton_runs.proofs.Items.{skeleton-at, skeleton-in}
 use Rattle.skeleton_runs.proofs.Sturdy.{polygon-two}
 use Rattle.skeleton_runs.proofs.NodeFits.{vertex-skeleton}
 use Rattle.skeleton_runs.proofs.SkeletonGraph.{skeleton-graph, graph-edges}
-use Rattle.skeleton_planes.specs.Runs.{end_of}
+use Rattle.skeleton_planes.proofs.RunTests.{end_of}
 use Rattle.skeleton_planes.proofs.Complements.{follows-itself}
 use Rattle.skeleton_planes.proofs.SkeletonDarts.{dart-item, item-dart, end-vertex, same-end_of, tail-place, skeleton-map, step-item, step-end, step-next, own-item, round-item}
 use Rattle.skeleton_planes.proofs.Linked.{dart-at, end-of_item, twin-end}
@@ -133,7 +128,7 @@ module _ (g : Multigraph) (nodes : List Node) (b : IsBlockTree g nodes) (k : ℕ
   pair-at i m = skeleton-at g (components nodes) b.tree.split k i (piece-in g nodes b.tree k i m) ∙ ap piece_ends (node-piece nodes k i m)
 
   -- has its place
-  pair-in : (i : ℕ) → i < length (node_at nodes k).items → i < length pairs
+  pub pair-in : (i : ℕ) → i < length (node_at nodes k).items → i < length pairs
   pair-in i m = skeleton-in g (components nodes) b.tree.split k i (piece-in g nodes b.tree k i m)
 
   -- and each pair is that of an item
@@ -141,7 +136,7 @@ module _ (g : Multigraph) (nodes : List Node) (b : IsBlockTree g nodes) (k : ℕ
   pair-item i m = item-in g nodes b.tree k i (subst (λ n. i < n) (length-map (items_of (components nodes) k) piece_ends) m)
 
   -- a dart leaves an end of its pair
-  pair-end : (z : ℕ) → z / 2 < length (node_at nodes k).items → is_end_of (end_of nodes k z) (slice_index_or pairs (z / 2) (0, 0)) ≡ true
+  pub pair-end : (z : ℕ) → z / 2 < length (node_at nodes k).items → is_end_of (end_of nodes k z) (slice_index_or pairs (z / 2) (0, 0)) ≡ true
   pair-end z m = ap (is_end_of (end_of nodes k z)) (pair-at (z / 2) m) ∙ end-of_item nodes k z
 
   -- the node has an item
@@ -169,16 +164,20 @@ module _ (g : Multigraph) (nodes : List Node) (b : IsBlockTree g nodes) (k : ℕ
       second = let d = polygon.degrees (end_of nodes k z) (vertex-skeleton g nodes b.tree k (end_of nodes k z) (end-vertex g nodes b k l z m)) in
           let w = another-place (is_end_of (end_of nodes k z)) pairs (z / 2) (omega (arith, d)) in
           let i : w.0 < length (node_at nodes k).items = pair-item w.0 w.1 in
-          let y = dart-at nodes k w.0 (end_of nodes k z) (sym (ap (is_end_of (end_of nodes k z)) (pair-at w.0 i)) ∙ w.3) in
-          (w.0, i, w.2, subst (λ v. is_member w.0 (order_at s (place_of (node_at nodes k).vertices v)) ≡ true) y.2
-          (subst (λ n. is_member n (order_at s (place_of (node_at nodes k).vertices (end_of nodes k y.0))) ≡ true) y.1 (own-item g nodes b k l s system y.0 (subst (λ n. n < length (node_at nodes k).items) (sym y.1) i))))
+          let y = dart-at nodes k w.0 (end_of nodes k z) (sym (ap (is_end_of (end_of nodes k z)) (pair-at w.0 i)) ∙ w.3) in (
+            w.0,
+            i,
+            w.2,
+            subst (λ v. is_member w.0 (order_at s (place_of (node_at nodes k).vertices v)) ≡ true) y.2
+                (subst (λ n. is_member n (order_at s (place_of (node_at nodes k).vertices (end_of nodes k y.0))) ≡ true) y.1 (own-item g nodes b k l s system y.0 (subst (λ n. n < length (node_at nodes k).items) (sym y.1) i))),
+          )
 
       -- so the next item is another one
-      next-other : successor items (z / 2) ≢ z / 2
+      pub next-other : successor items (z / 2) ≢ z / 2
       next-other e = second.2 (follows-itself items (z / 2) items-once (own-item g nodes b k l s system z m) e second.0 second.3)
 
       -- an item there has the vertex as an end
-      round-end : (i : ℕ) → is_member i items ≡ true → is_end_of (end_of nodes k z) (slice_index_or pairs i (0, 0)) ≡ true
+      pub round-end : (i : ℕ) → is_member i items ≡ true → is_end_of (end_of nodes k z) (slice_index_or pairs i (0, 0)) ≡ true
       round-end i n = let y = dart-of i n in subst (λ v. is_end_of v (slice_index_or pairs i (0, 0)) ≡ true) y.2 (subst (λ n. is_end_of (end_of nodes k y.0) (slice_index_or pairs n (0, 0)) ≡ true) y.1 (pair-end y.0 (subst (λ n. n < length (node_at nodes k).items) (sym y.1) (round-item g nodes b k l s system z i m n))))
         where
           here : place_of (node_at nodes k).vertices (end_of nodes k z) < graph.vertex_count
@@ -186,17 +185,20 @@ module _ (g : Multigraph) (nodes : List Node) (b : IsBlockTree g nodes) (k : ℕ
 
           dart-of : (i : ℕ) → is_member i items ≡ true → (y : ℕ) × (y / 2 ≡ i) × (end_of nodes k y ≡ end_of nodes k z)
           dart-of i n = let e : is_end graph (place_of (node_at nodes k).vertices (end_of nodes k z)) i ≡ true = member-end graph (place_of (node_at nodes k).vertices (end_of nodes k z)) i (member-incident graph s (place_of (node_at nodes k).vertices (end_of nodes k z)) i system here n) in
-              let d : ℕ = dart_from graph (place_of (node_at nodes k).vertices (end_of nodes k z)) i in
-              (d, dart_from-edge graph (place_of (node_at nodes k).vertices (end_of nodes k z)) i, same-end_of g nodes b k l d z (subst (λ n. n < length (node_at nodes k).items) (sym (dart_from-edge graph (place_of (node_at nodes k).vertices (end_of nodes k z)) i)) (round-item g nodes b k l s system z i m n)) m
-              (dart_from-tail graph (place_of (node_at nodes k).vertices (end_of nodes k z)) i e ∙ sym (tail-place g nodes b k l z m)))
+              let d : ℕ = dart_from graph (place_of (node_at nodes k).vertices (end_of nodes k z)) i in (
+                d,
+                dart_from-edge graph (place_of (node_at nodes k).vertices (end_of nodes k z)) i,
+                same-end_of g nodes b k l d z (subst (λ n. n < length (node_at nodes k).items) (sym (dart_from-edge graph (place_of (node_at nodes k).vertices (end_of nodes k z)) i)) (round-item g nodes b k l s system z i m n)) m
+                    (dart_from-tail graph (place_of (node_at nodes k).vertices (end_of nodes k z)) i e ∙ sym (tail-place g nodes b k l z m)),
+              )
 
       -- and the one after it is the first again
       next-twice : successor items (successor items (z / 2)) ≡ z / 2
       next-twice = elim (polygon-two pairs (end_of nodes k z) (z / 2) next after polygon (pair-in (z / 2) m) (pair-in next (round-item g nodes b k l s system z next m next-in)) (pair-in after (round-item g nodes b k l s system z after m after-in))
           (λ e. next-other (sym e)) (pair-end z m) (round-end next next-in) (round-end after after-in)) [
-          | inl e ↦ e
-          | inr e ↦ absurd (next-other (successor-injective items next (z / 2) items-once e))
-        ]
+            | inl e ↦ e
+            | inr e ↦ absurd (next-other (successor-injective items next (z / 2) items-once e))
+          ]
         where
           next : ℕ
           next = successor items (z / 2)

@@ -1,11 +1,11 @@
 -- Where a run ends, the next one begins: the key of what follows the last member of a run follows the run's key.
-use Rattle.std.proofs.Common.{◌≡◌, ◌≢◌, ℕ, ◌<◌, ◌⊎◌, length, Bool, true, false, List, [], ◌∷◌, ◌++◌, map, inl, inr, refl, sym, ap, ◌∙◌, subst, arith, All, append_assoc}
+use Rattle.std.proofs.Common.{◌≡◌, ℕ, ◌<◌, ◌⊎◌, length, Bool, true, false, List, [], ◌∷◌, ◌++◌, inl, inr, refl, sym, ap, ◌∙◌, subst, arith, All, append_assoc}
 use Rattle.std.proofs.lemmas.Bool.{both_ways, cases_Bool}
 use Rattle.std.proofs.lemmas.List.Elements.{All-tail, All-head}
 use Rattle.permutations.specs.Members.{is_member, is_distinct}
 use Rattle.permutations.specs.Cyclic.{IsTurn, successor, first_or}
 use Rattle.permutations.specs.Runs.{InRuns, IsGroup, joined, group_keys}
-use Rattle.permutations.proofs.Members.{member-head, member-append_left, member-append_right, distinct-append_left, distinct-append_right, distinct-head, no_member-head, distinct-append_apart, cut_at}
+use Rattle.permutations.proofs.Members.{member-head, member-append_right, distinct-append_left, distinct-append_right, distinct-head, no_member-head, distinct-append_apart, cut_at}
 use Rattle.permutations.proofs.Successor.{successor-cut}
 use Rattle.permutations.proofs.Turned.{IsTurn-successor, IsTurn-distinct, IsTurn-member, IsTurn-map}
 use Rattle.permutations.proofs.Runs.{runs-turn, joined-member}

@@ -1,31 +1,29 @@
 -- The map of a skeleton: the vertices of the block that its darts leave, and what follows a dart in a family that a rotation
 -- system follows.
-use Rattle.std.proofs.Common.{◌≡◌, ◌≢◌, ℕ, ◌+◌, ◌*◌, ◌/◌, ◌%◌, ◌<◌, ◌≤◌, ◌⊎◌, Bool, true, false, not, ◌&&◌, ◌||◌, ◌==◌, cond, ltb, List, length, map, inl, inr, refl, sym, ap, ◌∙◌, subst, arith, eq-eqb, eqb-true, lt-ltb, ltb-true}
-use Rattle.std.proofs.lemmas.Bool.{cases_Bool, cases_eq, both_ways, ne_eqb, and_from, and_parts, false_from_ne_true}
+use Rattle.std.proofs.Common.{◌≡◌, ℕ, ◌*◌, ◌/◌, ◌%◌, ◌<◌, ◌⊎◌, Bool, true, false, ◌==◌, cond, List, length, map, inl, inr, sym, ap, ◌∙◌, subst, arith, eq-eqb, eqb-true, lt-ltb}
+use Rattle.std.proofs.lemmas.Bool.{cases_Bool, both_ways, and_from, and_parts, false_from_ne_true}
 use Rattle.permutations.specs.Members.{is_member, is_distinct}
-use Rattle.permutations.specs.Cyclic.{successor, IsTurn}
-use Rattle.permutations.specs.Runs.{InRuns, group_keys}
-use Rattle.permutations.specs.Permutation.{Permutes}
+use Rattle.permutations.specs.Cyclic.{successor}
+use Rattle.permutations.specs.Runs.{group_keys}
 use Rattle.permutations.proofs.Successor.{successor-member}
 use Rattle.permutations.proofs.Turned.{IsTurn-successor}
-use Rattle.multigraph.specs.Graph.{Multigraph, IsGraph, edge_count, ends_of, is_end}
+use Rattle.multigraph.specs.Graph.{Multigraph, IsGraph, edge_count}
 use Rattle.rotations.specs.Rotation.{order_at, IsRotationSystem}
-use Rattle.rotations.proofs.Membership.{member-edge, member-end}
+use Rattle.rotations.proofs.Membership.{member-edge}
 use Rattle.dart_maps.specs.Map.{IsMap}
-use Rattle.faces.specs.Euler.{tail, dart_from}
+use Rattle.faces.specs.Euler.{tail}
 use Rattle.faces.specs.Maps.{dart_after, dart_before}
-use Rattle.faces.proofs.DartLemmas.{dart-edge, tail-end, tail-even, tail-odd, order-distinct, order-member, member-incident}
+use Rattle.faces.proofs.DartLemmas.{tail-even, tail-odd, order-distinct, member-incident}
 use Rattle.faces.proofs.MapSteps.{tail-in, after-tail, after-edge, map-permutes}
 use Rattle.faces.proofs.MapLists.{successor-map}
 use Rattle.faces.proofs.MapVertices.{tail-order}
-use Rattle.pair_split.specs.Tutte.{Node, components, node_at, node_item, group, has_in_group, IsTutte}
-use Rattle.pair_split.specs.declared.components.Item.{Item}
+use Rattle.pair_split.specs.Tutte.{Node, components, node_at, node_item, group, has_in_group}
 use Rattle.skeletons.specs.Items.{has_vertex, IsBlockTree}
-use Rattle.skeletons.specs.Families.{place_of, skeleton_graph, system_at, keys_in, StandInOrder}
+use Rattle.skeletons.specs.Families.{place_of, skeleton_graph, StandInOrder}
 use Rattle.skeletons.proofs.NodeItems.{keys-once, group-is, group-item}
 use Rattle.skeleton_runs.proofs.NodeFits.{item-first, item-second, vertex-fits}
-use Rattle.skeleton_runs.proofs.SkeletonGraph.{place-once, skeleton-graph, graph-edges, edge-item, item-edge, graph-ends}
-use Rattle.skeleton_planes.specs.Runs.{ends_run, begins_run, end_of, holds, is_dart, ends_with, begins_behind}
+use Rattle.skeleton_runs.proofs.SkeletonGraph.{place-once, skeleton-graph, edge-item, item-edge, graph-ends}
+use Rattle.skeleton_planes.proofs.RunTests.{ends_run, begins_run, end_of, holds, is_dart, ends_with, begins_behind}
 use Rattle.skeleton_planes.proofs.Complements.{ends-parts, begins-from}
 use Rattle.skeleton_planes.proofs.RunEnds.{run-followed}
 

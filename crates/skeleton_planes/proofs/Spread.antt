@@ -1,14 +1,14 @@
 -- A test that has one value along a part of a map has it at both ends of an edge that is no bridge there.
-use Rattle.std.proofs.Common.{◌≡◌, ◌≢◌, ℕ, ◌*◌, ◌<◌, Bool, true, false, not, ◌&&◌, ◌||◌, ◌==◌, cond, inl, inr, refl, sym, ap, ◌∙◌, subst, arith, eq-eqb, eqb-true}
-use Rattle.std.proofs.lemmas.Bool.{cases_Bool, cases_eq, both_ways, ne_eqb, and_from, and_parts, or_cases, or_left, or_right}
-use Rattle.permutations.specs.Permutation.{Permutes, same_orbit}
-use Rattle.permutations.proofs.Permutations.{permutes-back}
-use Rattle.permutations.proofs.Orbits.{orbit-kept, orbit-equivalence, orbit-test}
+use Rattle.std.proofs.Common.{◌≡◌, ℕ, ◌*◌, ◌<◌, Bool, true, false, not, ◌&&◌, ◌||◌, ◌==◌, cond, inl, inr, refl, sym, ap, ◌∙◌, subst, arith, eq-eqb, eqb-true}
+use Rattle.std.proofs.lemmas.Bool.{cases_Bool, cases_eq, ne_eqb, and_from, and_parts, or_cases, or_left, or_right}
+use Rattle.permutations.specs.Permutation.{Permutes}
+use Rattle.permutations.proofs.Orbits.{orbit-kept, orbit-equivalence}
 use Rattle.permutations.proofs.Unlinking.{before-orbit}
-use Rattle.dart_maps.specs.Map.{twin, IsMap}
-use Rattle.dart_maps.proofs.Darts.{twin-other, twin-below, twin-twin}
-use Rattle.skeleton_planes.specs.Seams.{IsOff, AreFacing, AreJoined, IsNoBridge}
-use Rattle.skeleton_planes.proofs.Facing.{twin-in, before-in, twin_before-in, after-before, after-twin_before, before-side, twin-side, twin_before-side, before-place, twin_before-place, before-other, before-not_twin, twin_before-other, twin_before-not_d, after-not_twin, twin_after-not_d, before-only, twin_before-only, off-side}
+use Rattle.dart_maps.specs.Map.{twin}
+use Rattle.dart_maps.proofs.Darts.{twin-other, twin-twin}
+use Rattle.skeleton_planes.proofs.Seams.{AreFacing}
+use Rattle.skeleton_planes.specs.Bridges.{IsNoBridge}
+use Rattle.skeleton_planes.proofs.Facing.{twin-in, twin-side, after-not_twin, twin_after-not_d, before-only, twin_before-only}
 
 -- two values of a test are the same, as a test
 abbrev pub alike : Bool → Bool → Bool
@@ -69,13 +69,13 @@ module _ (m : ℕ) (f g : ℕ → ℕ) (place : ℕ → ℕ) (side : ℕ → Boo
   pub spread-before : a (g d) ≡ a (f d)
   spread-before = round-but-one (2 * m) f g s.is_map d (s.darts.0) (s.company.0) (around d) (around-keeps d) (and_from (side d) (place d == place d) s.inside (eq-eqb (place d) (place d) refl)) a
       (λ x l h i j. let p = and_parts (side x) (place x == place d) h in let q : place x ≡ place d = eqb-true (place x) (place d) p.1 in
-        steps x l p.0 i (λ k. s.two_places (sym q ∙ ap place k)) j (λ k. s.two_places (sym q ∙ sym (s.places_next x l) ∙ ap place k)))
+      steps x l p.0 i (λ k. s.two_places (sym q ∙ ap place k)) j (λ k. s.two_places (sym q ∙ sym (s.places_next x l) ∙ ap place k)))
 
   -- and so at the twin
   pub spread-twin_before : a (g (twin d)) ≡ a (f (twin d))
   spread-twin_before = round-but-one (2 * m) f g s.is_map (twin d) (twin-in m f g place side d e s) (s.company.1) (around (twin d)) (around-keeps (twin d)) (and_from (side (twin d)) (place (twin d) == place (twin d)) (twin-side m f g place side d e s) (eq-eqb (place (twin d)) (place (twin d)) refl)) a
       (λ x l h i j. let p = and_parts (side x) (place x == place (twin d)) h in let q : place x ≡ place (twin d) = eqb-true (place x) (place (twin d)) p.1 in
-        steps x l p.0 (λ k. s.two_places (sym (ap place k) ∙ q)) i (λ k. s.two_places (sym (ap place k) ∙ s.places_next x l ∙ q)) j)
+      steps x l p.0 (λ k. s.two_places (sym (ap place k) ∙ q)) i (λ k. s.two_places (sym (ap place k) ∙ s.places_next x l ∙ q)) j)
 
   -- the test carried over: at d the value behind d, at its twin the value behind the twin, and true on the other side
   abbrev carried : ℕ → Bool

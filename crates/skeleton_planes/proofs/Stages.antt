@@ -1,32 +1,32 @@
 -- A map glued along the links of a tree, link by link.
-use Rattle.std.proofs.Common.{◌≡◌, ◌≢◌, ℕ, ◌*◌, ◌<◌, ◌⊎◌, Bool, true, false, not, ◌||◌, ◌==◌, List, [], ◌∷◌, inl, inr, refl, sym, ap, ◌∙◌, subst, arith, eq-eqb, eqb-true}
-use Rattle.std.proofs.lemmas.Bool.{cases_Bool, cases_eq, both_ways, ne_eqb, or_cases, false_from_ne_true}
+use Rattle.std.proofs.Common.{◌≡◌, ◌≢◌, ℕ, ◌*◌, ◌<◌, Bool, true, false, not, ◌||◌, ◌==◌, List, [], ◌∷◌, inl, inr, refl, sym, ap, ◌∙◌, subst, arith, eq-eqb, eqb-true}
+use Rattle.std.proofs.lemmas.Bool.{cases_Bool, both_ways, or_cases, false_from_ne_true}
 use Rattle.permutations.specs.Relation.{IsEquivalence, connected}
 use Rattle.permutations.specs.Exchange.{restricted}
 use Rattle.permutations.proofs.Relation.{same-tests, connected-equivalence, connected-more, connected-first}
 use Rattle.permutations.proofs.Orbits.{orbit-test}
 use Rattle.permutations.proofs.Renaming.{equivalence-through}
-use Rattle.dart_maps.specs.Map.{twin, IsMap, IsPlane, same_vertex, same_component}
+use Rattle.dart_maps.specs.Map.{twin, IsMap, same_vertex, same_component}
 use Rattle.dart_maps.specs.Changes.{glued}
 use Rattle.dart_maps.specs.Order.{one_of_four}
-use Rattle.dart_maps.proofs.Darts.{twin-other, twin-below, twin-twin}
+use Rattle.dart_maps.proofs.Darts.{twin-below, twin-twin}
 use Rattle.dart_maps.proofs.Components.{component-equivalence, component-next, component-twin, component-least}
-use Rattle.dart_maps.proofs.FourDarts.{four-members, four-none, four-cases}
+use Rattle.dart_maps.proofs.FourDarts.{four-members, four-cases}
 use Rattle.dart_maps.proofs.Glue.{glue-plane, glued-map}
 use Rattle.dart_maps.proofs.Steps.{back_after}
-use Rattle.skeleton_planes.specs.Seams.{IsOff, AreFacing, AreJoined, IsNoBridge}
-use Rattle.skeleton_planes.specs.Links.{all_glued, is_used, part_links, IsLinkOf, AreLinksOf, IsStage}
-use Rattle.skeleton_planes.proofs.Facing.{sides-differ, facing-back, before-in, twin_before-in, after-before, after-twin_before, before-side, twin_before-side}
+use Rattle.skeleton_planes.proofs.Seams.{IsOff, AreFacing, AreJoined}
+use Rattle.skeleton_planes.proofs.LinkLists.{all_glued, is_used, part_links, IsLinkOf, AreLinksOf, IsStage}
+use Rattle.skeleton_planes.proofs.Facing.{sides-differ, before-side, twin_before-side}
 use Rattle.skeleton_planes.proofs.Unglued.{joined-places, unglue-plane}
 use Rattle.skeleton_planes.proofs.Bridges.{joined-no_bridge}
-use Rattle.skeleton_planes.proofs.Joined.{glued-joined, joined-split, off-four, four-off}
+use Rattle.skeleton_planes.proofs.Joined.{glued-joined, joined-split, four-off}
 
 -- neither of two tests
 pub neither : (x y : Bool) → (x || y) ≡ false → (x ≡ false) × (y ≡ false)
 neither x y h = (grind (arith, cases_Bool x, cases_Bool y), grind (arith, cases_Bool x, cases_Bool y))
 
 -- a test that an equivalence makes is kept by a step within its classes
-class-kept : (r : ℕ → ℕ → Bool) → IsEquivalence r → (d x y : ℕ) → r x y ≡ true → r d y ≡ r d x
+pub class-kept : (r : ℕ → ℕ → Bool) → IsEquivalence r → (d x y : ℕ) → r x y ≡ true → r d y ≡ r d x
 class-kept r e d x y h = same-tests (r d y) (r d x) (λ t. e.transitive d y x t (e.symmetric x y h)) (λ t. e.transitive d x y t h)
 
 -- a stage, and a further link
@@ -240,8 +240,11 @@ four-twin d e x t = let w = four-members d (twin d) e (twin e) in elim (four-cas
 -- an edge is used whole
 pub used-twin : (links : List (ℕ × ℕ)) (x : ℕ) → is_used links (twin x) ≡ is_used links x
 used-twin [] x = refl
-used-twin (link ∷ links) x = rw (used-twin links x, same-tests (one_of_four link.0 (twin link.0) link.1 (twin link.1) (twin x)) (one_of_four link.0 (twin link.0) link.1 (twin link.1) x)
-    (λ t. subst (λ (z : ℕ). one_of_four link.0 (twin link.0) link.1 (twin link.1) z ≡ true) (twin-twin x) (four-twin link.0 link.1 (twin x) t)) (four-twin link.0 link.1 x)) refl
+used-twin (link ∷ links) x = rw (
+  used-twin links x,
+  same-tests (one_of_four link.0 (twin link.0) link.1 (twin link.1) (twin x)) (one_of_four link.0 (twin link.0) link.1 (twin link.1) x)
+      (λ t. subst (λ (z : ℕ). one_of_four link.0 (twin link.0) link.1 (twin link.1) z ≡ true) (twin-twin x) (four-twin link.0 link.1 (twin x) t)) (four-twin link.0 link.1 x),
+) refl
 
 -- a map, and links between its parts
 module _ (m : ℕ) (next previous : ℕ → ℕ) (b : IsMap m next previous) (place : ℕ → ℕ) (places : (x : ℕ) → x < 2 * m → place (next x) ≡ place x) (ends begins : ℕ → ℕ → Bool) (part : ℕ → ℕ)
@@ -264,6 +267,7 @@ module _ (m : ℕ) (next previous : ℕ → ℕ) (b : IsMap m next previous) (pl
   -- all links glued
   pub all-stages : (links : List (ℕ × ℕ)) → AreLinksOf m next place ends begins part links → (before : ℕ → ℕ) × IsStage m next place ends begins part links (all_glued links next) before
   all-stages [] a = (previous, first-stage)
-  all-stages (link ∷ links) a = let s = all-stages links a.4 in
-      (glued_before m next place ends begins part parts_twin links (all_glued links next) s.0 s.1 link.0 link.1 a.0 a.1 a.2 (used-twin links link.0 ∙ a.1) (used-twin links link.1 ∙ a.2) a.3,
-      next-stage m next place ends begins part parts_twin links (all_glued links next) s.0 s.1 link.0 link.1 a.0 a.1 a.2 (used-twin links link.0 ∙ a.1) (used-twin links link.1 ∙ a.2) a.3)
+  all-stages (link ∷ links) a = let s = all-stages links a.4 in (
+    glued_before m next place ends begins part parts_twin links (all_glued links next) s.0 s.1 link.0 link.1 a.0 a.1 a.2 (used-twin links link.0 ∙ a.1) (used-twin links link.1 ∙ a.2) a.3,
+    next-stage m next place ends begins part parts_twin links (all_glued links next) s.0 s.1 link.0 link.1 a.0 a.1 a.2 (used-twin links link.0 ∙ a.1) (used-twin links link.1 ∙ a.2) a.3,
+  )

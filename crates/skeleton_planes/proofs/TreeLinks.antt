@@ -1,27 +1,27 @@
 -- All links of the tree of a block, as pairs of edges that can be glued one after the other: each node but the root with its
 -- parent.
-use Rattle.std.proofs.Common.{◌≡◌, ◌≢◌, ℕ, zero, suc, ◌+◌, ◌*◌, ◌/◌, ◌%◌, ◌<◌, ◌≤◌, ◌⊎◌, Bool, true, false, not, ◌&&◌, ◌||◌, ◌==◌, cond, List, [], ◌∷◌, length, map, inl, inr, refl, sym, ap, ap₂, ◌∙◌, subst, arith, eq-eqb, eqb-true, All}
-use Rattle.std.proofs.lemmas.Bool.{cases_Bool, cases_eq, cases_lt, both_ways, or_cases, or_left, or_right, false_from_ne_true}
+use Rattle.std.proofs.Common.{◌≡◌, ◌≢◌, ℕ, zero, suc, ◌*◌, ◌/◌, ◌<◌, ◌≤◌, ◌⊎◌, Bool, true, false, List, [], ◌∷◌, length, inl, inr, refl, sym, ap, ap₂, ◌∙◌, subst, arith, All}
+use Rattle.std.proofs.lemmas.Bool.{cases_eq, both_ways, or_cases, or_left, or_right, false_from_ne_true}
 use Rattle.std.proofs.lemmas.List.Elements.{All-nil, All-cons, All-head, All-tail, All-weaker}
 use Rattle.permutations.specs.Relation.{connected}
 use Rattle.permutations.proofs.Relation.{connected-apart, connected-symmetric}
-use Rattle.multigraph.specs.Graph.{Multigraph, IsGraph, edge_count}
+use Rattle.multigraph.specs.Graph.{Multigraph, edge_count}
 use Rattle.rotations.specs.Rotation.{IsRotationSystem}
 use Rattle.dart_maps.specs.Map.{twin}
 use Rattle.dart_maps.specs.Order.{one_of_four}
 use Rattle.dart_maps.proofs.Darts.{twin-edge, twin-below}
 use Rattle.dart_maps.proofs.FourDarts.{four-members, four-cases}
 use Rattle.pair_split.specs.Skeleton.{SameEnds}
-use Rattle.pair_split.specs.Split.{piece_ends, item_at, is_beyond, LinksTo, StandsFor, IsTree, AreLinked}
-use Rattle.pair_split.specs.Tutte.{Node, components, node_at, node_item, piece_of, IsTutte}
+use Rattle.pair_split.specs.Split.{piece_ends, item_at, is_beyond, LinksTo, StandsFor, IsTree}
+use Rattle.pair_split.specs.Tutte.{Node, components, node_at, node_item, piece_of}
 use Rattle.pair_split.specs.declared.components.What.{What}
 use Rattle.pair_split.specs.declared.components.What.TheVariants.{Real, Link}
 use Rattle.pair_split.proofs.TreeSides.{beyond-far, beyond-near, beyond-along, beyond-neighbour, link-back}
 use Rattle.skeletons.specs.Items.{IsBlockTree}
 use Rattle.skeletons.specs.Families.{AreSkeletonSystems}
 use Rattle.skeletons.proofs.NodeItems.{node-in, comp-in, stands-of, item-of, node-piece}
-use Rattle.skeleton_planes.specs.Links.{is_used, part_links, IsLinkOf, AreLinksOf}
-use Rattle.skeleton_planes.specs.Union.{coded, part_of, local_of, united}
+use Rattle.skeleton_planes.proofs.LinkLists.{is_used, part_links, AreLinksOf}
+use Rattle.skeleton_planes.proofs.Numbering.{coded, part_of, local_of, united}
 use Rattle.skeleton_planes.proofs.Coded.{part-coded, local-coded, coded-twin}
 use Rattle.skeleton_planes.proofs.Whole.{stepped, dart-fits, place_in, ends_in, begins_in}
 use Rattle.skeleton_planes.proofs.LinkPairs.{link-pair}

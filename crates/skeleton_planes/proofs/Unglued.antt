@@ -1,24 +1,25 @@
 -- A map that is plane when glued along two edges is plane before, where neither edge is a bridge: each of them can be put
 -- back into a face.
-use Rattle.std.proofs.Common.{◌≡◌, ◌≢◌, ℕ, zero, suc, ◌*◌, ◌<◌, ◌⊎◌, Bool, true, false, not, ◌&&◌, ◌||◌, ◌==◌, cond, inl, inr, refl, sym, ap, ◌∙◌, subst, arith, eq-eqb, eqb-true}
-use Rattle.std.proofs.lemmas.Bool.{cases_Bool, cases_eq, both_ways, ne_eqb, and_from, and_parts, false_from_ne_true, not-true}
+use Rattle.std.proofs.Common.{◌≡◌, ℕ, zero, suc, ◌*◌, ◌<◌, ◌⊎◌, Bool, true, false, not, ◌&&◌, inl, inr, refl, sym, ap, ◌∙◌, subst, arith}
+use Rattle.std.proofs.lemmas.Bool.{cases_Bool, cases_eq, both_ways, and_from, and_parts, not-true}
 use Rattle.permutations.specs.Relation.{IsEquivalence}
 use Rattle.permutations.specs.Exchange.{exchange, swapped, restricted}
-use Rattle.permutations.specs.Permutation.{Permutes, same_orbit, iterate}
+use Rattle.permutations.specs.Permutation.{Permutes, iterate}
 use Rattle.permutations.proofs.Permutations.{permutes-one-to-one, exchange-left, exchange-right, exchange-other, exchange-cases, exchange-permutes}
-use Rattle.permutations.proofs.Orbits.{orbit-kept, orbit-equivalence, orbit-step, orbit-test}
+use Rattle.permutations.proofs.Orbits.{orbit-kept, orbit-equivalence, orbit-step}
 use Rattle.permutations.proofs.Relation.{same-tests}
 use Rattle.permutations.proofs.Restriction.{restricted-next, restricted-alone, restricted-permutes, restricted-goes}
 use Rattle.dart_maps.specs.Map.{twin, face, IsMap, IsPlane, same_vertex, same_face, same_component}
 use Rattle.dart_maps.specs.Changes.{inserted}
-use Rattle.dart_maps.proofs.Darts.{twin-other, twin-below, twin-twin, face-permutes, face-twin}
+use Rattle.dart_maps.proofs.Darts.{twin-below, twin-twin, face-permutes, face-twin}
 use Rattle.dart_maps.proofs.Components.{component-equivalence, component-next, component-twin}
 use Rattle.dart_maps.proofs.Euler.{plane-ext}
 use Rattle.dart_maps.proofs.Plane.{same-defect-plane, corner-cut, restricted-plane}
 use Rattle.dart_maps.proofs.Insert.{insert-defect}
 use Rattle.dart_maps.proofs.Parts.{parts-plane}
-use Rattle.skeleton_planes.specs.Seams.{IsOff, AreFacing, AreJoined, IsNoBridge}
-use Rattle.skeleton_planes.proofs.Facing.{sides-differ, facing-back, joined-back, twin-in, before-in, twin_before-in, after-before, after-twin_before, before-side, twin-side, twin_before-side, before-place, twin_before-place, before-other, before-not_twin, twin_before-other, twin_before-not_d, after-not_twin, twin_after-not_d, before-only, twin_before-only, off-side, inside-joined}
+use Rattle.skeleton_planes.proofs.Seams.{AreFacing, AreJoined}
+use Rattle.skeleton_planes.specs.Bridges.{IsNoBridge}
+use Rattle.skeleton_planes.proofs.Facing.{sides-differ, facing-back, joined-back, twin-in, before-in, twin_before-in, after-before, before-side, twin-side, twin_before-side, before-place, twin_before-place, before-other, before-not_twin, before-only, twin_before-only, inside-joined}
 use Rattle.skeleton_planes.proofs.Spread.{spread, spread-before, spread-twin_before}
 
 -- a function that has one value at the two darts that are exchanged is kept by the exchange

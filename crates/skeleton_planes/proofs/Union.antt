@@ -1,15 +1,14 @@
 -- Maps side by side are a map, which is plane exactly where each of them is.
-use Rattle.std.proofs.Common.{◌≡◌, ◌≢◌, ℕ, zero, suc, ◌+◌, ◌*◌, ◌/◌, ◌%◌, ◌<◌, ◌≤◌, Bool, true, false, not, cond, ◌==◌, ltb, inl, inr, refl, sym, ap, ap₂, ◌∙◌, subst, arith, eq-eqb, eqb-true, lt-ltb, le-ltb, ltb-true}
-use Rattle.std.proofs.lemmas.Bool.{cases_Bool, cases_eq, cases_lt, ne_eqb, ltb-false}
+use Rattle.std.proofs.Common.{◌≡◌, ℕ, ◌*◌, ◌<◌, ◌≤◌, Bool, cond, ◌==◌, ltb, inl, inr, refl, sym, ap, ap₂, ◌∙◌, subst, arith, eq-eqb, eqb-true, lt-ltb, le-ltb, ltb-true}
+use Rattle.std.proofs.lemmas.Bool.{cases_lt, ltb-false}
 use Rattle.permutations.specs.Exchange.{restricted}
-use Rattle.permutations.specs.Permutation.{Permutes}
 use Rattle.permutations.proofs.Restriction.{restricted-permutes}
 use Rattle.dart_maps.specs.Map.{twin, IsMap, IsPlane}
 use Rattle.dart_maps.specs.Renumbering.{IsRenumbering}
 use Rattle.dart_maps.proofs.Darts.{twin-below, twin-cases}
 use Rattle.dart_maps.proofs.Renumber.{renumber-plane, renumber-plane-back}
-use Rattle.skeleton_planes.specs.Union.{coded, part_of, local_of, united}
-use Rattle.skeleton_planes.proofs.Coded.{part-coded, local-coded, coded-local, coded-below, part-below, local-below, some-width, part-twin, local-twin, coded-twin}
+use Rattle.skeleton_planes.proofs.Numbering.{coded, part_of, local_of, united}
+use Rattle.skeleton_planes.proofs.Coded.{part-coded, local-coded, coded-local, coded-below, part-below, local-below, some-width, part-twin, coded-twin}
 use Rattle.skeleton_planes.proofs.ManyParts.{restricted-kept, many-plane, many-plane-back}
 
 -- n maps with room for w edges each

@@ -1,24 +1,23 @@
 -- All skeletons side by side as one map.
-use Rattle.std.proofs.Common.{◌≡◌, ◌≢◌, ℕ, ◌+◌, ◌*◌, ◌/◌, ◌%◌, ◌<◌, ◌≤◌, ◌⊎◌, Bool, true, false, not, ◌&&◌, ◌||◌, ◌==◌, cond, ltb, List, length, map, slice_index_or, inl, inr, refl, sym, ap, ap₂, ◌∙◌, subst, arith, eq-eqb, eqb-true, lt-ltb, ltb-true, le-ltb}
-use Rattle.std.proofs.lemmas.Bool.{cases_Bool, cases_eq, cases_lt, both_ways, ne_eqb, and_from, and_parts, false_from_ne_true}
+use Rattle.std.proofs.Common.{◌≡◌, ℕ, ◌*◌, ◌/◌, ◌<◌, ◌≤◌, Bool, true, cond, ltb, List, length, inl, inr, sym, ap, ap₂, ◌∙◌, subst, arith, lt-ltb, ltb-true, le-ltb}
+use Rattle.std.proofs.lemmas.Bool.{cases_lt, and_parts}
 use Rattle.std.proofs.lemmas.List.{get_or-map, length-map}
-use Rattle.multigraph.specs.Graph.{Multigraph, IsGraph, edge_count}
+use Rattle.multigraph.specs.Graph.{Multigraph, edge_count}
 use Rattle.multigraph.proofs.Places.{rises-short}
 use Rattle.rotations.specs.Rotation.{order_at, IsRotationSystem}
-use Rattle.dart_maps.specs.Map.{twin, IsMap, IsPlane}
-use Rattle.dart_maps.proofs.Darts.{twin-edge}
+use Rattle.dart_maps.specs.Map.{IsMap, IsPlane}
 use Rattle.faces.specs.Maps.{dart_after, dart_before}
-use Rattle.pair_split.specs.Tutte.{Node, node_at, node_item, IsTutte}
+use Rattle.pair_split.specs.Tutte.{Node, node_at}
 use Rattle.pair_split.specs.declared.components.What.TheVariants.{Real}
 use Rattle.skeletons.specs.Items.{node_keys, item_key, IsBlockTree}
 use Rattle.skeletons.specs.Families.{skeleton_graph, system_at, AreSkeletonSystems, FollowsFamily}
 use Rattle.skeleton_runs.proofs.NodeFits.{key-fits}
 use Rattle.skeleton_runs.proofs.SkeletonGraph.{graph-edges}
-use Rattle.skeleton_planes.specs.Union.{coded, part_of, local_of, united}
-use Rattle.skeleton_planes.specs.Runs.{end_of, is_dart, ends_with, begins_behind, ends_run, holds}
-use Rattle.skeleton_planes.proofs.Coded.{part-coded, local-coded, coded-local, coded-below, part-below, local-below, some-width, part-twin, local-twin, coded-twin}
+use Rattle.skeleton_planes.proofs.Numbering.{coded, part_of, local_of, united}
+use Rattle.skeleton_planes.proofs.RunTests.{end_of, is_dart, ends_with, begins_behind, ends_run, holds}
+use Rattle.skeleton_planes.proofs.Coded.{part-coded, local-coded, part-below}
 use Rattle.skeleton_planes.proofs.Union.{united-part, united-local, united-map, united-plane, united-plane-back, filled-map, filled-plane, filled-plane-back}
-use Rattle.skeleton_planes.proofs.SkeletonDarts.{dart-item, item-dart, end-vertex, skeleton-map, step-item, step-end, ends-begins}
+use Rattle.skeleton_planes.proofs.SkeletonDarts.{item-dart, end-vertex, skeleton-map, step-end, ends-begins}
 
 -- a node has no more items than the block has edges
 pub few-items : (g : Multigraph) (nodes : List Node) (b : IsBlockTree g nodes) (k : ℕ) → k < length nodes → length (node_at nodes k).items ≤ edge_count g

@@ -1,5 +1,3 @@
--- Gluing along links, and what makes an edge no bridge.
-pub mod Seams
-pub mod Links
-pub mod Union
-pub mod Runs
+-- Edges that are no bridges, and what is proved.
+pub mod Bridges
+pub mod Laws

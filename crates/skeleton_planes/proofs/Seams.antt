@@ -1,4 +1,4 @@
--- Two parts of a map glued along an edge of each, and edges that are no bridges, said by tests on darts.
+-- Two parts of a map glued along an edge of each.
 use Rattle.std.specs.Prelude.{◌≡◌, ◌≢◌, ℕ, ◌*◌, ◌<◌, Bool, true, false}
 use Rattle.dart_maps.specs.Map.{twin, IsMap}
 
@@ -35,7 +35,3 @@ pub record AreJoined (m : ℕ) (next previous after : ℕ → ℕ) (d e : ℕ) :
   pub others : (x : ℕ) → x < 2 * m → IsOff d e x → IsOff d e (next x) → after x ≡ next x
   pub alone : (after d ≡ d) × (after (twin d) ≡ twin d)
   pub alone_too : (after e ≡ e) × (after (twin e) ≡ twin e)
-
--- the edge of d is no bridge: a test that has one value at each vertex, and along each other edge, has it along this one
-abbrev pub IsNoBridge : ℕ → (ℕ → ℕ) → ℕ → Type 0
-IsNoBridge m next d = (a : ℕ → Bool) → ((x : ℕ) → x < 2 * m → a (next x) ≡ a x) → ((x : ℕ) → x < 2 * m → x ≢ d → x ≢ twin d → a (twin x) ≡ a x) → a d ≡ a (twin d)

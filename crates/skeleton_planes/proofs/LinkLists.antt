@@ -4,7 +4,7 @@ use Rattle.permutations.specs.Relation.{connected}
 use Rattle.dart_maps.specs.Map.{twin, IsMap, IsPlane}
 use Rattle.dart_maps.specs.Changes.{glued}
 use Rattle.dart_maps.specs.Order.{one_of_four}
-use Rattle.skeleton_planes.specs.Seams.{IsNoBridge}
+use Rattle.skeleton_planes.specs.Bridges.{IsNoBridge}
 
 -- the map glued along each of these pairs of edges, given by one dart of each; the last pair comes first
 abbrev pub all_glued : List (ℕ × ℕ) → (ℕ → ℕ) → ℕ → ℕ

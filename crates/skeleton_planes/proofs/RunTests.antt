@@ -1,5 +1,5 @@
 -- The darts of the skeletons, the edges of the block that they stand for, and where these begin and end round a vertex.
-use Rattle.std.specs.Prelude.{◌≡◌, ℕ, ◌<◌, ◌/◌, ◌%◌, Bool, not, ◌&&◌, ◌||◌, ◌==◌, nat_lt, cond, List, length}
+use Rattle.std.specs.Prelude.{ℕ, ◌/◌, ◌%◌, Bool, not, ◌&&◌, ◌||◌, ◌==◌, nat_lt, cond, List, length}
 use Rattle.permutations.specs.Members.{is_member}
 use Rattle.permutations.specs.Cyclic.{successor}
 use Rattle.rotations.specs.Rotation.{order_at}
