@@ -17,3 +17,11 @@ mod Lows
 mod Telling
 mod Orders
 mod HandedOn
+mod Totals
+mod SizesHanded
+mod Offsets
+mod Numbers
+mod Intervals
+mod Palm
+mod LowPoints
+mod Numbered

@@ -141,3 +141,18 @@ distinct-map f (z ∷ l) d i =
         let w = map-member f l (f z) h in
         true≢false (sym w.1 ∙ (ap (λ (k : ℕ). is_member k l) (i w.0 z (member-tail w.0 z l w.1) (member-head z l) w.2) ∙ distinct-head z l d))))
     (distinct-map f l (distinct-tail z l d) (λ x y a b. i x y (member-tail x z l a) (member-tail y z l b)))
+
+-- the place of a member
+pub member-place : (l : List ℕ) (x : ℕ) → is_member x l ≡ true → (i : ℕ) × (i < length l) × (get_or l i 0 ≡ x)
+member-place [] x h = absurd (true≢false (sym h))
+member-place (z ∷ l) x h = by (member-cases x z l h) (member-place l x)
+  where
+    by : (z ≡ x) ⊎ (is_member x l ≡ true) → (is_member x l ≡ true → (i : ℕ) × (i < length l) × (get_or l i 0 ≡ x)) → (i : ℕ) × (i < suc (length l)) × (get_or (z ∷ l) i 0 ≡ x)
+    by (inl e) r = (0, omega arith, e)
+    by (inr m) r = let w = r m in (suc w.0, omega (arith, w.1), w.2)
+
+-- the places of two members of which one stands before the other
+pub before-at : (l : List ℕ) (x y : ℕ) → IsBefore l x y → (i j : ℕ) × (i < j) × (j < length l) × (get_or l i 0 ≡ x) × (get_or l j 0 ≡ y)
+before-at [] x y b = absurd b
+before-at (z ∷ l) x y (inl p) = let w = member-place l y p.1 in (0, suc w.0, omega arith, omega (arith, w.1), p.0, w.2)
+before-at (z ∷ l) x y (inr b) = let w = before-at l x y b in (suc w.0, suc w.1, omega (arith, w.2), omega (arith, w.3), w.4, w.5)

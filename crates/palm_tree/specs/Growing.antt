@@ -148,6 +148,7 @@ pub record AreNumbersSoFar (g : Multigraph) (s : SearchState) (size offset done 
   pub root : (v : ℕ) → is_member v done ≡ true → slice_index s.depth v ≡ 0 → slice_index number v ≡ 0
   pub child : (v : ℕ) → is_member v done ≡ true → 0 < slice_index s.depth v → slice_index number v ≡ slice_index number (slice_index s.parent v) + 1 + slice_index offset v
   pub few : (v : ℕ) → is_member v done ≡ true → slice_index number v + slice_index size v ≤ g.vertex_count
+  pub parent_done : (v : ℕ) → is_member v done ≡ true → 0 < slice_index s.depth v → is_member (slice_index s.parent v) done ≡ true
 
 -- the numbers of each vertex but the root, and its descendants, lie among those behind its parent
 abbrev pub HasRoom : Multigraph → SearchState → List ℕ → List ℕ → Type 0

@@ -5,6 +5,7 @@ ghost use Rattle.multigraph.specs.Graph.{edge_count, IsGraph};
 ghost use Rattle.palm_tree.specs.Searching.{IsOver};
 ghost use Rattle.palm_tree.specs.Growing.{lower_ends, tree_edges, numbering_order, AreLowVertices, AreSizes, AreChildren, AreOffsets, HasRoom, AreNumbersSoFar};
 
+use crate::lists::copies;
 use crate::low::Low;
 use crate::search::Search;
 use crate::steps::Steps;
@@ -68,19 +69,19 @@ pub(crate) fn children_in_order<L: Ledger>(
 
 // Gives the child the place behind what is filled below its parent.
 fn give_place(
-    offset: &mut [u32],
-    filled: &mut [u32],
+    offset: &mut Vec<u32>,
+    filled: &mut Vec<u32>,
     search: &Search,
     sizes: &[u32],
     child: u32,
 )
-    requires offset_within { child < length offset.old }
+    requires offset_within { child < length offset.old.items }
     requires parent_within { child < length search.now.parent }
     requires sizes_within { child < length sizes.now }
-    requires filled_within { slice_index search.now.parent child < length filled.old }
-    requires fits { slice_index filled.old (slice_index search.now.parent child) + slice_index sizes.now child < 2 ^ 32 }
-    ensures offset { offset.new ≡ slice_set offset.old child (slice_index filled.old (slice_index search.now.parent child)) }
-    ensures filled { filled.new ≡ slice_set filled.old (slice_index search.now.parent child) (slice_index filled.old (slice_index search.now.parent child) + slice_index sizes.now child) }
+    requires filled_within { slice_index search.now.parent child < length filled.old.items }
+    requires fits { slice_index filled.old.items (slice_index search.now.parent child) + slice_index sizes.now child < 2 ^ 32 }
+    ensures offset { offset.new.items ≡ slice_set offset.old.items child (slice_index filled.old.items (slice_index search.now.parent child)) }
+    ensures filled { filled.new.items ≡ slice_set filled.old.items (slice_index search.now.parent child) (slice_index filled.old.items (slice_index search.now.parent child) + slice_index sizes.now child) }
 {
     let parent = search.parent_of(child) as usize;
     offset[child as usize] = filled[parent];
@@ -104,8 +105,8 @@ pub(crate) fn offsets<L: Ledger>(
     ensures cost { steps.new ≤ steps.old + length children.now }
     ensures rises { steps.old ≤ steps.new }
 {
-    let mut offset = vec![in alloc; 0; graph.vertex_count() as usize]?;
-    let mut filled = vec![in alloc; 0; graph.vertex_count() as usize]?;
+    let mut offset = copies(alloc, 0, graph.vertex_count())?;
+    let mut filled = copies(alloc, 0, graph.vertex_count())?;
     for child in children {
         steps.tick();
         give_place(&mut offset, &mut filled, search, sizes, *child);
@@ -114,14 +115,14 @@ pub(crate) fn offsets<L: Ledger>(
 }
 
 // Numbers the vertex: the root 0, another one by its place behind its parent.
-fn give_number(number: &mut [u32], search: &Search, offset: &[u32], vertex: u32)
-    requires number_within { vertex < length number.old }
+fn give_number(number: &mut Vec<u32>, search: &Search, offset: &[u32], vertex: u32)
+    requires number_within { vertex < length number.old.items }
     requires offset_within { vertex < length offset.now }
     requires parent_within { vertex < length search.now.parent }
     requires depth_within { vertex < length search.now.depth }
-    requires above_within { 0 < slice_index search.now.depth vertex → slice_index search.now.parent vertex < length number.old }
-    requires fits { 0 < slice_index search.now.depth vertex → slice_index number.old (slice_index search.now.parent vertex) + 1 + slice_index offset.now vertex < 2 ^ 32 }
-    ensures { number.new ≡ (if nat_lt 0 (slice_index search.now.depth vertex) then slice_set number.old vertex (slice_index number.old (slice_index search.now.parent vertex) + 1 + slice_index offset.now vertex) else slice_set number.old vertex 0) }
+    requires above_within { 0 < slice_index search.now.depth vertex → slice_index search.now.parent vertex < length number.old.items }
+    requires fits { 0 < slice_index search.now.depth vertex → slice_index number.old.items (slice_index search.now.parent vertex) + 1 + slice_index offset.now vertex < 2 ^ 32 }
+    ensures { number.new.items ≡ (if nat_lt 0 (slice_index search.now.depth vertex) then slice_set number.old.items vertex (slice_index number.old.items (slice_index search.now.parent vertex) + 1 + slice_index offset.now vertex) else slice_set number.old.items vertex 0) }
 {
     if search.depth_of(vertex) > 0 {
         let parent = search.parent_of(vertex) as usize;
@@ -151,7 +152,7 @@ pub(crate) fn numbers<L: Ledger>(
 {
     // The sizes are known to the contract alone.
     let _ = sizes;
-    let mut number = vec![in alloc; 0; graph.vertex_count() as usize]?;
+    let mut number = copies(alloc, 0, graph.vertex_count())?;
     for vertex in search.order() {
         steps.tick();
         give_number(&mut number, search, offset, *vertex);
