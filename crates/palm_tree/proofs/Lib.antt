@@ -25,3 +25,6 @@ mod Intervals
 mod Palm
 mod LowPoints
 mod Numbered
+mod Sorted
+mod Ordered
+mod Whole

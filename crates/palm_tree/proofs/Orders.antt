@@ -156,3 +156,10 @@ pub before-at : (l : List ℕ) (x y : ℕ) → IsBefore l x y → (i j : ℕ) ×
 before-at [] x y b = absurd b
 before-at (z ∷ l) x y (inl p) = let w = member-place l y p.1 in (0, suc w.0, omega arith, omega (arith, w.1), p.0, w.2)
 before-at (z ∷ l) x y (inr b) = let w = before-at l x y b in (suc w.0, suc w.1, omega (arith, w.2), omega (arith, w.3), w.4, w.5)
+
+-- different places of a list without repetition have different members
+pub distinct-places : (l : List ℕ) (i j : ℕ) → is_distinct l ≡ true → i < j → j < length l → get_or l i 0 ≢ get_or l j 0
+distinct-places [] i j d a b e = absurd (omega arith)
+distinct-places (z ∷ l) i zero d a b e = absurd (omega arith)
+distinct-places (z ∷ l) zero (suc j) d a b e = true≢false (sym (member-at l j 0 (omega arith)) ∙ (ap (λ (k : ℕ). is_member k l) (sym e) ∙ distinct-head z l d))
+distinct-places (z ∷ l) (suc i) (suc j) d a b e = distinct-places l i j (distinct-tail z l d) (omega arith) (omega arith) e

@@ -1,9 +1,10 @@
 // The numbers of the vertices: those of a vertex and its descendants are consecutive, and later children have smaller ones.
-ghost use Rattle.std.specs.Prelude.{◌≡◌, ◌+◌, ◌*◌, ◌<◌, ◌≤◌, ◌^◌, ◌++◌, ℕ, true, false, nat_lt, if◌then◌else◌, length, IfOk, slice_index, slice_set};
+ghost use Rattle.std.specs.Prelude.{◌≡◌, ◌+◌, ◌*◌, ◌<◌, ◌≤◌, ◌^◌, ◌∷◌, ◌++◌, ◌&&◌, [], ℕ, true, false, nat_lt, if◌then◌else◌, length, IfOk, slice_index, slice_set};
 ghost use Rattle.permutations.specs.Members.{is_member};
 ghost use Rattle.multigraph.specs.Graph.{edge_count, IsGraph};
 ghost use Rattle.palm_tree.specs.Searching.{IsOver};
-ghost use Rattle.palm_tree.specs.Growing.{lower_ends, tree_edges, numbering_order, AreLowVertices, AreSizes, AreChildren, AreOffsets, HasRoom, AreNumbersSoFar};
+ghost use Rattle.std.specs.Bool.{beq};
+ghost use Rattle.palm_tree.specs.Growing.{hangs, is_tree_edge, lower_ends, tree_edges, numbering_order, AreLowVertices, AreSizes, AreChildren, AreOffsets, HasRoom, AreNumbersSoFar};
 
 use crate::lists::copies;
 use crate::low::Low;
@@ -12,6 +13,28 @@ use crate::steps::Steps;
 use multigraph::Graph;
 use std::alloc::{AllocError, Global};
 use std::sync::ledger::Ledger;
+
+// Puts the lower end of the edge behind the children where the edge is its parent edge, and it hangs or not, as is asked.
+fn add_child(
+    children: &mut Vec<u32>,
+    graph: &Graph,
+    search: &Search,
+    low: &Low,
+    edge: u32,
+    hanging: bool,
+) -> Result<(), AllocError>
+    requires graph { IsGraph graph.now }
+    requires over { IsOver graph.now search.now }
+    requires low { AreLowVertices graph.now search.now low.now }
+    requires edge_in { edge < edge_count graph.now }
+    ensures { IfOk result (λ _. children.new.items ≡ (if is_tree_edge search.now edge && beq (hangs low.now (slice_index search.now.lower edge)) hanging then children.old.items ++ slice_index search.now.lower edge ∷ [] else children.old.items)) }
+{
+    let lower = search.lower_end(edge);
+    if search.is_tree_edge(graph, edge) && low.hangs(lower) == hanging {
+        children.push(lower)?;
+    }
+    Ok(())
+}
 
 // Puts behind the children those that have one of the edges as their parent edge, and that hang or not, as is asked.
 fn add_children<L: Ledger>(
@@ -33,10 +56,7 @@ fn add_children<L: Ledger>(
 {
     for edge in edges {
         steps.tick();
-        let lower = search.lower_end(*edge);
-        if search.is_tree_edge(graph, *edge) && low.hangs(lower) == hanging {
-            children.push(lower)?;
-        }
+        add_child(children, graph, search, low, *edge, hanging)?;
     }
     Ok(())
 }

@@ -4,7 +4,7 @@ ghost use Rattle.multigraph.specs.Graph.{edge_count, is_end, IsGraph};
 ghost use Rattle.palm_tree.specs.PalmTree.{IsConnected};
 ghost use Rattle.palm_tree.specs.State.{SearchState, fresh, looked_further, frond_noted, root_noted, child_noted, left};
 ghost use Rattle.palm_tree.specs.Searching.{flag, degree, turns_left, IsSearching, IsLast, IsSeenAt, IsTurned, IsExplored, IsOver};
-ghost use Rattle.palm_tree.specs.Growing.{is_tree_edge, upper_end};
+ghost use Rattle.palm_tree.specs.Growing.{is_tree_edge, parent_at, upper_end};
 
 use crate::steps::Steps;
 use multigraph::Graph;
@@ -271,6 +271,19 @@ impl Search {
         ensures { result ≡ slice_index self.now.parent_edge vertex }
     {
         self.parent_edge[vertex as usize]
+    }
+
+    // The parent of the vertex, where it is no root.
+    pub(crate) fn parent_at(&self, vertex: u32) -> Option<u32>
+        requires depth_within { vertex < length self.now.depth }
+        requires parent_within { vertex < length self.now.parent }
+        ensures { result ≡ parent_at self.now vertex }
+    {
+        if self.depth[vertex as usize] > 0 {
+            Some(self.parent[vertex as usize])
+        } else {
+            None
+        }
     }
 
     // The lower end of the edge.

@@ -177,11 +177,7 @@ fn parents<L: Ledger>(
     let mut parents = Vec::with_capacity(alloc, graph.vertex_count() as usize)?;
     for vertex in 0..graph.vertex_count() {
         steps.tick();
-        parents.push(if search.depth_of(vertex) > 0 {
-            Some(search.parent_of(vertex))
-        } else {
-            None
-        })?;
+        parents.push(search.parent_at(vertex))?;
     }
     Ok(parents)
 }
