@@ -1,5 +1,5 @@
 // The numbers of the vertices: those of a vertex and its descendants are consecutive, and later children have smaller ones.
-ghost use Rattle.std.specs.Prelude.{◌≡◌, ◌+◌, ◌*◌, ◌<◌, ◌≤◌, ◌^◌, ◌∷◌, ◌++◌, ◌&&◌, [], ℕ, true, false, nat_lt, if◌then◌else◌, length, IfOk, slice_index, slice_set};
+ghost use Rattle.std.specs.Prelude.{◌≡◌, ◌+◌, ◌*◌, ◌<◌, ◌≤◌, ◌^◌, ◌∷◌, ◌++◌, ◌&&◌, [], ℕ, true, false, nat_lt, if◌then◌else◌, length, reverse, IfOk, slice_index, slice_set};
 ghost use Rattle.permutations.specs.Members.{is_member};
 ghost use Rattle.multigraph.specs.Graph.{edge_count, IsGraph};
 ghost use Rattle.palm_tree.specs.Searching.{IsOver};
@@ -61,6 +61,13 @@ fn add_children<L: Ledger>(
     Ok(())
 }
 
+// The edges from the last to the first.
+fn reversed(alloc: Global, edges: &[u32]) -> Result<Vec<u32>, AllocError>
+    ensures { IfOk result (λ l. l.items ≡ reverse edges.now) }
+{
+    Ok(edges.iter().rev().copied().collect(alloc)?)
+}
+
 // The children in the order in which they are numbered: first, from the last edge to the first, those that do not hang, and
 // then, from the first edge to the last, those that hang. What a hanging child reaches is its own number.
 pub(crate) fn children_in_order<L: Ledger>(
@@ -79,8 +86,7 @@ pub(crate) fn children_in_order<L: Ledger>(
     ensures cost { steps.new ≤ steps.old + 2 * length edges.now }
     ensures rises { steps.old ≤ steps.new }
 {
-    let mut backwards = Vec::from_slice(alloc, edges)?;
-    backwards.as_mut_slice().reverse();
+    let backwards = reversed(alloc, edges)?;
     let mut children = Vec::new(alloc);
     add_children(&mut children, graph, search, low, &backwards, false, steps)?;
     add_children(&mut children, graph, search, low, edges, true, steps)?;

@@ -80,13 +80,18 @@ impl PalmTree {
         let low = Low::of(alloc, graph, &search, steps)?;
         let edges = sorted_edges(alloc, graph, &search, &low, steps)?;
         let number = numbers_of(alloc, graph, &search, &low, &edges, steps)?;
+        let parent = parents(alloc, graph, &search, steps)?;
+        let frond = fronds(alloc, graph, &search, steps)?;
+        let low1 = numbers_at(alloc, &number, low.first(), steps)?;
+        let low2 = numbers_at(alloc, &number, low.second(), steps)?;
+        let darts = darts(alloc, graph, &search, &edges, steps)?;
         Ok(PalmTree {
-            parent: parents(alloc, graph, &search, steps)?,
-            frond: fronds(alloc, graph, &search, steps)?,
-            low1: numbers_at(alloc, &number, low.first(), steps)?,
-            low2: numbers_at(alloc, &number, low.second(), steps)?,
-            darts: darts(alloc, graph, &search, &edges, steps)?,
             number,
+            parent,
+            frond,
+            low1,
+            low2,
+            darts,
         })
     }
 
