@@ -154,7 +154,7 @@ module _ (g : Multigraph) (gg : IsGraph g) (s : SearchState) (o : IsOver g s) wh
       let vl = lower-in g gg s o e l in
       let c = taken-change s.depth low v x (omega (arith, vl, a.first_places)) (omega (arith, vl, a.second_places)) in
       let b = take-kept low e [] a v x (taken s.depth low v x) vl
-          (inl (record { edge = e; edge_in = l; frond = f; below = below-reflexive g (λ k. get_or s.parent k 0) (λ k. get_or s.depth k 0) (λ k. get_or s.parent_edge k 0) (λ q. get_or s.lower q 0) (forest g gg s o) v; upper = refl })) refl c in
+      (inl (record { edge = e; edge_in = l; frond = f; below = below-reflexive g (λ k. get_or s.parent k 0) (λ k. get_or s.depth k 0) (λ k. get_or s.parent_edge k 0) (λ q. get_or s.lower q 0) (forest g gg s o) v; upper = refl })) refl c in
       record {
         first_places = b.first_places;
         second_places = b.second_places;

@@ -192,7 +192,7 @@ module _ (g : Multigraph) (gg : IsGraph g) (s : SearchState) (o : IsOver g s) (l
       | inl by ↦ absurd (omega (arith, key-rises e h b, x.keyed, y.keyed, x.small, y.small, parent-depth g gg s o x.reach x.reach_in hx.0, ap (λ (i : ℕ). get_or s.depth i 0) hx.1, deeper g gg s o y.reach v vl by))
       | inr hy ↦
           let before = subst (λ (i : ℕ). IsBefore (numbering_order s low edges) i y.reach) hx.2 (subst (λ (i : ℕ). IsBefore (numbering_order s low edges) (get_or s.lower e 0) i) hy.2
-              (hanging-before e h b hx.3 hy.3 (ap (hangs low) hx.2 ∙ hx.4) (ap (hangs low) hy.2 ∙ hy.4))) in
+          (hanging-before e h b hx.3 hy.3 (ap (hangs low) hx.2 ∙ hx.4) (ap (hangs low) hy.2 ∙ hy.4))) in
           inl (omega (arith, x.number_is, y.number_is, children-rise g gg s o size offset (numbering_order s low edges) number z k a n x.reach y.reach x.reach_in y.reach_in hx.0 hy.0 (hx.1 ∙ sym hy.1) before))
     ]
   ]
@@ -292,10 +292,16 @@ module _ (g : Multigraph) (gg : IsGraph g) (s : SearchState) (o : IsOver g s) (l
   -- in a block later children have smaller numbers
   pub later-less : IsOneBlock g → (v : ℕ) → v < g.vertex_count → LaterIsLess g t v
   later-less block v vl i j h l fi fj =
-      omega (arith, numbered (other_end g e v), numbered (other_end g f' v), ap (λ (x : ℕ). get_or number x 0) (child e pe.0 te ue), ap (λ (x : ℕ). get_or number x 0) (child f' pf.0 tf uf),
-      children-rise g gg s o size offset (numbering_order s low edges) number z k a n (get_or s.lower f' 0) (get_or s.lower e 0) (lower-in g gg s o f' pf.0) (lower-in g gg s o e pe.0) (lower-deep g gg s o f' pf.0) (lower-deep g gg s o e pe.0)
-      (sym (tree-upper g gg s o f' pf.0 tf) ∙ (uf ∙ (sym ue ∙ tree-upper g gg s o e pe.0 te)))
-      (other-before e f' (earlier v i j vl h l) te tf (block-child block e f' pe.0 pf.0 te tf (ue ∙ sym uf) differs) (block-child block f' e pf.0 pe.0 tf te (uf ∙ sym ue) (λ x. differs (sym x)))))
+      omega (
+        arith,
+        numbered (other_end g e v),
+        numbered (other_end g f' v),
+        ap (λ (x : ℕ). get_or number x 0) (child e pe.0 te ue),
+        ap (λ (x : ℕ). get_or number x 0) (child f' pf.0 tf uf),
+        children-rise g gg s o size offset (numbering_order s low edges) number z k a n (get_or s.lower f' 0) (get_or s.lower e 0) (lower-in g gg s o f' pf.0) (lower-in g gg s o e pe.0) (lower-deep g gg s o f' pf.0) (lower-deep g gg s o e pe.0)
+            (sym (tree-upper g gg s o f' pf.0 tf) ∙ (uf ∙ (sym ue ∙ tree-upper g gg s o e pe.0 te)))
+            (other-before e f' (earlier v i j vl h l) te tf (block-child block e f' pe.0 pf.0 te tf (ue ∙ sym uf) differs) (block-child block f' e pf.0 pe.0 tf te (uf ∙ sym ue) (λ x. differs (sym x)))),
+      )
     where
       e : ℕ
       e = get_or (darts_of t v) i 0

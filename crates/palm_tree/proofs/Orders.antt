@@ -138,8 +138,8 @@ pub distinct-map : (f : ℕ → ℕ) (l : List ℕ) → is_distinct l ≡ true �
 distinct-map f [] d i = refl
 distinct-map f (z ∷ l) d i =
     distinct-cons (f z) (map f l) (false_from_ne_true (is_member (f z) (map f l)) (λ h.
-        let w = map-member f l (f z) h in
-        true≢false (sym w.1 ∙ (ap (λ (k : ℕ). is_member k l) (i w.0 z (member-tail w.0 z l w.1) (member-head z l) w.2) ∙ distinct-head z l d))))
+    let w = map-member f l (f z) h in
+    true≢false (sym w.1 ∙ (ap (λ (k : ℕ). is_member k l) (i w.0 z (member-tail w.0 z l w.1) (member-head z l) w.2) ∙ distinct-head z l d))))
     (distinct-map f l (distinct-tail z l d) (λ x y a b. i x y (member-tail x z l a) (member-tail y z l b)))
 
 -- the place of a member

@@ -177,8 +177,7 @@ module _ (g : Multigraph) (gg : IsGraph g) (s : SearchState) (o : IsOver g s) (l
   pub reached-from : (v x : ℕ) → IsReached g t v x → (y : ℕ) × LeadsFrom g s v y × (get_or t.number y 0 ≡ x)
   reached-from v x r =
       let p = from-frond r.lower r.edge r.frond in
-      let zl : r.lower < g.vertex_count = end-in g gg r.edge r.lower p.0 r.frond.at_lower in
-      (
+      let zl : r.lower < g.vertex_count = end-in g gg r.edge r.lower p.0 r.frond.at_lower in (
         other_end g r.edge r.lower,
         record {
           edge = r.edge;

@@ -107,8 +107,13 @@ two-ends g gg e l =
 -- the sum of the degrees is at most twice the number of edges
 degree-sum : (g : Multigraph) → IsGraph g → sum_below g.vertex_count (degree g) ≤ 2 * edge_count g
 degree-sum g gg =
-    omega (arith, sum_below-ext g.vertex_count (degree g) (λ v. count (edge_count g) (is_end g v)) (λ v l. kept-count (is_end g v) (edge_count g)), count-exchange g.vertex_count (edge_count g) (λ v e. is_end g v e),
-    sum_below-le (edge_count g) (λ e. count g.vertex_count (λ v. is_end g v e)) (λ e. 2) (two-ends g gg), sum_below-const (edge_count g) 2)
+    omega (
+      arith,
+      sum_below-ext g.vertex_count (degree g) (λ v. count (edge_count g) (is_end g v)) (λ v l. kept-count (is_end g v) (edge_count g)),
+      count-exchange g.vertex_count (edge_count g) (λ v e. is_end g v e),
+      sum_below-le (edge_count g) (λ e. count g.vertex_count (λ v. is_end g v e)) (λ e. 2) (two-ends g gg),
+      sum_below-const (edge_count g) 2,
+    )
 
 -- where no edge was looked at, as many looks are left as the degrees sum up to
 looks-all : (g : Multigraph) (n k : ℕ) → looks_left g (replicate n 0) k ≡ sum_below k (degree g)

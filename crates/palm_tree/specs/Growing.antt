@@ -25,10 +25,10 @@ pub record LowVertices : Type 0 where
 abbrev pub taken : List ℕ → LowVertices → ℕ → ℕ → LowVertices
 taken depth low v x =
     (if nat_lt (slice_index depth x) (slice_index depth (slice_index low.first v))
-      then record { first = slice_set low.first v x; second = slice_set low.second v (slice_index low.first v) }
-      else (if nat_lt (slice_index depth (slice_index low.first v)) (slice_index depth x) && nat_lt (slice_index depth x) (slice_index depth (slice_index low.second v))
-        then record { first = low.first; second = slice_set low.second v x }
-        else low))
+    then record { first = slice_set low.first v x; second = slice_set low.second v (slice_index low.first v) }
+    else (if nat_lt (slice_index depth (slice_index low.first v)) (slice_index depth x) && nat_lt (slice_index depth x) (slice_index depth (slice_index low.second v))
+    then record { first = low.first; second = slice_set low.second v x }
+    else low))
 
 -- the vertex that the dart e leads to: for a parent edge the first low vertex of the child, for a frond the upper end
 abbrev pub vertex_reached : Multigraph → SearchState → LowVertices → ℕ → ℕ
@@ -42,8 +42,8 @@ begin_of g s e = (if is_tree_edge s e then upper_end g s e else slice_index s.lo
 abbrev pub class_of : Multigraph → SearchState → LowVertices → ℕ → ℕ
 class_of g s low e =
     (if is_tree_edge s e
-      then (if nat_lt (slice_index s.depth (slice_index low.second (slice_index s.lower e))) (slice_index s.depth (upper_end g s e)) then 0 else 2)
-      else 1)
+    then (if nat_lt (slice_index s.depth (slice_index low.second (slice_index s.lower e))) (slice_index s.depth (upper_end g s e)) then 0 else 2)
+    else 1)
 
 -- what darts are sorted by
 abbrev pub sort_key : Multigraph → SearchState → LowVertices → ℕ → ℕ

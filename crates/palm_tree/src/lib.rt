@@ -18,8 +18,6 @@ mod sizes;
 mod sorting;
 mod steps;
 mod structure;
-#[cfg(test)]
-mod tests;
 
 pub use steps::Steps;
 pub use structure::PalmTree;

@@ -8,9 +8,11 @@ use Rattle.palm_tree.proofs.sizes.sizes_below.Goals as goal
 pub loop-behind-init : goal.loop-behind-init
 loop-behind-init g c =
     let e : length c.args.search.now.order ≡ length c.args.search.now.order - 0 = omega arith in
-    let b : drop (length c.args.search.now.order - 0) c.args.search.now.order ≡ [] = ap (λ (k : ℕ). drop k c.args.search.now.order) (sym e) ∙ drop-length c.args.search.now.order in
-    (subst (AreSizesSoFar c.args.graph.now c.args.search.now c.in_ok-sizes.sizes.items) (sym b)
-    (start-sizes c.args.graph.now c.requires.graph c.args.search.now c.requires.over c.in_ok-sizes.sizes.items (c.in_ok-sizes.ensures {u = tt} ∙ ap (λ (k : ℕ). replicate k 1) c.vertex_count.ensures.value)), omega arith)
+    let b : drop (length c.args.search.now.order - 0) c.args.search.now.order ≡ [] = ap (λ (k : ℕ). drop k c.args.search.now.order) (sym e) ∙ drop-length c.args.search.now.order in (
+      subst (AreSizesSoFar c.args.graph.now c.args.search.now c.in_ok-sizes.sizes.items) (sym b)
+          (start-sizes c.args.graph.now c.requires.graph c.args.search.now c.requires.over c.in_ok-sizes.sizes.items (c.in_ok-sizes.ensures {u = tt} ∙ ap (λ (k : ℕ). replicate k 1) c.vertex_count.ensures.value)),
+      omega arith,
+    )
 
 pub hand_on-requires-clause-sizes : goal.hand_on-requires-clause-sizes
 hand_on-requires-clause-sizes g c =

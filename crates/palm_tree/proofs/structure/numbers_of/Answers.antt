@@ -19,7 +19,7 @@ offsets-requires-clause-children g c =
 pub returns-in_err-offset-clause-cost : goal.returns-in_err-offset-clause-cost
 returns-in_err-offset-clause-cost g c =
     let k = subst (AreChildren c.args.graph.now c.args.search.now) (sym (c.deref-2.ensures.value ∙ c.in_ok-children.ensures.children))
-        (are-children c.args.graph.now c.requires.graph c.args.search.now c.requires.over c.args.low.now c.args.edges.now c.requires.edges) in
+    (are-children c.args.graph.now c.requires.graph c.args.search.now c.requires.over c.args.low.now c.args.edges.now c.requires.edges) in
     omega (arith, c.children_in_order.ensures.cost, c.sizes_below.ensures.cost, c.offsets.ensures.cost, edges-few c.args.graph.now c.args.edges.now c.requires.edges, short c.args.graph.now.vertex_count c.deref-2.result.now k.distinct (λ x h. (k.within x h).0))
 
 pub numbers-requires-clause-room : goal.numbers-requires-clause-room
@@ -30,5 +30,5 @@ numbers-requires-clause-room g c =
 pub returns-clause-cost : goal.returns-clause-cost
 returns-clause-cost g c =
     let k = subst (AreChildren c.args.graph.now c.args.search.now) (sym (c.deref-2.ensures.value ∙ c.in_ok-children.ensures.children))
-        (are-children c.args.graph.now c.requires.graph c.args.search.now c.requires.over c.args.low.now c.args.edges.now c.requires.edges) in
+    (are-children c.args.graph.now c.requires.graph c.args.search.now c.requires.over c.args.low.now c.args.edges.now c.requires.edges) in
     omega (arith, c.children_in_order.ensures.cost, c.sizes_below.ensures.cost, c.offsets.ensures.cost, c.numbers.ensures.cost, edges-few c.args.graph.now c.args.edges.now c.requires.edges, short c.args.graph.now.vertex_count c.deref-2.result.now k.distinct (λ x h. (k.within x h).0))

@@ -28,14 +28,46 @@ numbers_at-requires-2 g c = λ v l.
 pub returns-in_err-darts-clause-at_most : goal.returns-in_err-darts-clause-at_most
 returns-in_err-darts-clause-at_most g c =
     let few = edges-few c.args.graph.now c.in_ok-edges.edges.items (sorted-edges c.args.graph.now (sort_key c.args.graph.now c.in_ok-search.search c.in_ok-low.low) c.in_ok-edges.edges.items c.in_ok-edges.ensures.sorted) in
-    omega (arith, few, ap (length {A = ℕ}) c.deref-4.ensures.value, c.of.ensures.cost, c.of-2.ensures.cost, c.sorted_edges.ensures.cost, c.numbers_of.ensures.cost, c.parents.ensures.cost, c.fronds.ensures.cost,
-    c.numbers_at.ensures.cost, c.numbers_at-2.ensures.cost, c.darts.ensures.cost, ap (length {A = ℕ}) c.first.ensures, ap (length {A = ℕ}) c.second.ensures, c.in_ok-low.ensures.low.first_places, c.in_ok-low.ensures.low.second_places)
+    omega (
+      arith,
+      few,
+      ap (length {A = ℕ}) c.deref-4.ensures.value,
+      c.of.ensures.cost,
+      c.of-2.ensures.cost,
+      c.sorted_edges.ensures.cost,
+      c.numbers_of.ensures.cost,
+      c.parents.ensures.cost,
+      c.fronds.ensures.cost,
+      c.numbers_at.ensures.cost,
+      c.numbers_at-2.ensures.cost,
+      c.darts.ensures.cost,
+      ap (length {A = ℕ}) c.first.ensures,
+      ap (length {A = ℕ}) c.second.ensures,
+      c.in_ok-low.ensures.low.first_places,
+      c.in_ok-low.ensures.low.second_places,
+    )
 
 pub returns-clause-at_most : goal.returns-clause-at_most
 returns-clause-at_most g c =
     let few = edges-few c.args.graph.now c.in_ok-edges.edges.items (sorted-edges c.args.graph.now (sort_key c.args.graph.now c.in_ok-search.search c.in_ok-low.low) c.in_ok-edges.edges.items c.in_ok-edges.ensures.sorted) in
-    omega (arith, few, ap (length {A = ℕ}) c.deref-4.ensures.value, c.of.ensures.cost, c.of-2.ensures.cost, c.sorted_edges.ensures.cost, c.numbers_of.ensures.cost, c.parents.ensures.cost, c.fronds.ensures.cost,
-    c.numbers_at.ensures.cost, c.numbers_at-2.ensures.cost, c.darts.ensures.cost, ap (length {A = ℕ}) c.first.ensures, ap (length {A = ℕ}) c.second.ensures, c.in_ok-low.ensures.low.first_places, c.in_ok-low.ensures.low.second_places)
+    omega (
+      arith,
+      few,
+      ap (length {A = ℕ}) c.deref-4.ensures.value,
+      c.of.ensures.cost,
+      c.of-2.ensures.cost,
+      c.sorted_edges.ensures.cost,
+      c.numbers_of.ensures.cost,
+      c.parents.ensures.cost,
+      c.fronds.ensures.cost,
+      c.numbers_at.ensures.cost,
+      c.numbers_at-2.ensures.cost,
+      c.darts.ensures.cost,
+      ap (length {A = ℕ}) c.first.ensures,
+      ap (length {A = ℕ}) c.second.ensures,
+      c.in_ok-low.ensures.low.first_places,
+      c.in_ok-low.ensures.low.second_places,
+    )
 
 pub returns-clause-tree : goal.returns-clause-tree
 returns-clause-tree g c =
