@@ -1,0 +1,165 @@
+-- Lists without repetition of numbers below a bound: how long they are, and which of two members stands before the other.
+use Rattle.std.proofs.Common.{◌≡◌, ◌≢◌, ℕ, zero, suc, ◌+◌, ◌<◌, ◌≤◌, ◌⊎◌, inl, inr, Bool, true, false, cond, ◌||◌, ◌==◌, List, [], ◌∷◌, ◌++◌, length, map, filter, reverse, take, get_or, refl, sym, ap, ◌∙◌, subst, arith}
+use Rattle.std.proofs.lemmas.Bool.{cases_Bool, cases_eq, eq-eqb, eqb-true, true≢false, false_from_ne_true}
+use Rattle.std.proofs.lemmas.List.{reverse-append}
+use Rattle.permutations.specs.Members.{is_member, is_distinct}
+use Rattle.permutations.specs.Count.{count}
+use Rattle.permutations.proofs.Count.{count-within}
+use Rattle.permutations.proofs.Members.{member-head, member-tail, member-cases, member-append_left, member-append_right, member-append_cases, member-reverse, distinct-head, distinct-tail, distinct-cons, no_member-tail}
+use Rattle.permutations.proofs.Arrangements.{count-list, member-at}
+use Rattle.permutations.proofs.Filter.{filter-yes, filter-no, member-filter_parts, filter-member}
+use Rattle.multigraph.specs.Graph.{Multigraph}
+use Rattle.palm_tree.specs.State.{SearchState}
+use Rattle.palm_tree.specs.Searching.{flag, IsOver}
+use Rattle.palm_tree.specs.Growing.{IsBefore}
+use Rattle.palm_tree.proofs.Writes.{flag-in}
+
+-- different numbers below n are at most n
+pub short : (n : ℕ) (l : List ℕ) → is_distinct l ≡ true → ((x : ℕ) → is_member x l ≡ true → x < n) → length l ≤ n
+short n l d w = omega (arith, count-list n (λ x. is_member x l) l d w (λ x h. refl), count-within n (λ x. is_member x l))
+
+-- the order has no more places than there are vertices
+pub order-length : (g : Multigraph) (s : SearchState) → IsOver g s → length s.order ≤ g.vertex_count
+order-length g s o = short g.vertex_count s.order o.searching.ordered.distinct (λ v h. omega (arith, flag-in s.visited v (sym (o.searching.ordered.members v) ∙ h), o.searching.places.visited))
+
+-- a member at an earlier place stands before
+pub before-places : (l : List ℕ) (i j : ℕ) → i < j → j < length l → IsBefore l (get_or l i 0) (get_or l j 0)
+before-places [] i j a b = absurd (omega arith)
+before-places (z ∷ l) i zero a b = absurd (omega arith)
+before-places (z ∷ l) zero (suc j) a b = inl (refl, member-at l j 0 (omega arith))
+before-places (z ∷ l) (suc i) (suc j) a b = inr (before-places l i j (omega arith) (omega arith))
+
+-- who stands before another is a member, and the other too
+pub before-first : (l : List ℕ) (x y : ℕ) → IsBefore l x y → is_member x l ≡ true
+before-first [] x y b = absurd b
+before-first (z ∷ l) x y (inl p) = subst (λ (k : ℕ). is_member k (z ∷ l) ≡ true) p.0 (member-head z l)
+before-first (z ∷ l) x y (inr b) = member-tail x z l (before-first l x y b)
+
+pub before-second : (l : List ℕ) (x y : ℕ) → IsBefore l x y → is_member y l ≡ true
+before-second [] x y b = absurd b
+before-second (z ∷ l) x y (inl p) = member-tail y z l p.1
+before-second (z ∷ l) x y (inr b) = member-tail y z l (before-second l x y b)
+
+-- of two different members one stands before the other
+pub before-either : (l : List ℕ) (x y : ℕ) → is_member x l ≡ true → is_member y l ≡ true → x ≢ y → IsBefore l x y ⊎ IsBefore l y x
+before-either [] x y a b n = absurd (true≢false (sym a))
+before-either (z ∷ l) x y a b n = by (member-cases x z l a) (member-cases y z l b) (before-either l x y)
+  where
+    by : (z ≡ x) ⊎ (is_member x l ≡ true) → (z ≡ y) ⊎ (is_member y l ≡ true) → (is_member x l ≡ true → is_member y l ≡ true → x ≢ y → IsBefore l x y ⊎ IsBefore l y x) → IsBefore (z ∷ l) x y ⊎ IsBefore (z ∷ l) y x
+    by (inl p) (inl q) r = absurd (n (sym p ∙ q))
+    by (inl p) (inr q) r = inl (inl (p, q))
+    by (inr p) (inl q) r = inr (inl (q, p))
+    by (inr p) (inr q) r = elim (r p q n) [ inl c ↦ inl (inr c) | inr c ↦ inr (inr c) ]
+
+-- in a list joined of two
+pub before-left : (l k : List ℕ) (x y : ℕ) → IsBefore l x y → IsBefore (l ++ k) x y
+before-left [] k x y b = absurd b
+before-left (z ∷ l) k x y (inl p) = inl (p.0, member-append_left y l k p.1)
+before-left (z ∷ l) k x y (inr b) = inr (before-left l k x y b)
+
+pub before-right : (l k : List ℕ) (x y : ℕ) → IsBefore k x y → IsBefore (l ++ k) x y
+before-right [] k x y b = b
+before-right (z ∷ l) k x y b = inr (before-right l k x y b)
+
+pub before-across : (l k : List ℕ) (x y : ℕ) → is_member x l ≡ true → is_member y k ≡ true → IsBefore (l ++ k) x y
+before-across [] k x y a b = absurd (true≢false (sym a))
+before-across (z ∷ l) k x y a b = by (member-cases x z l a) (before-across l k x y)
+  where
+    by : (z ≡ x) ⊎ (is_member x l ≡ true) → (is_member x l ≡ true → is_member y k ≡ true → IsBefore (l ++ k) x y) → IsBefore (z ∷ (l ++ k)) x y
+    by (inl p) r = inl (p, member-append_right y l k b)
+    by (inr p) r = inr (r p b)
+
+pub before-cases : (l k : List ℕ) (x y : ℕ) → IsBefore (l ++ k) x y → IsBefore l x y ⊎ (IsBefore k x y ⊎ ((is_member x l ≡ true) × (is_member y k ≡ true)))
+before-cases [] k x y b = inr (inl b)
+before-cases (z ∷ l) k x y (inl p) = elim (member-append_cases y l k p.1) [
+  | inl a ↦ inl (inl (p.0, a))
+  | inr a ↦ inr (inr (subst (λ (i : ℕ). is_member i (z ∷ l) ≡ true) p.0 (member-head z l), a))
+]
+before-cases (z ∷ l) k x y (inr b) = elim (before-cases l k x y b) [
+  | inl a ↦ inl (inr a)
+  | inr r ↦ elim r [ inl a ↦ inr (inl a) | inr a ↦ inr (inr (member-tail x z l a.0, a.1)) ]
+]
+
+-- with one more at the end
+pub before-push : (l : List ℕ) (z x y : ℕ) → IsBefore (l ++ z ∷ []) x y → IsBefore l x y ⊎ ((is_member x l ≡ true) × (z ≡ y))
+before-push l z x y b = elim (before-cases l (z ∷ []) x y b) [
+  | inl a ↦ inl a
+  | inr r ↦ elim r [
+    | inl a ↦ absurd (elim a [ inl p ↦ true≢false (sym p.1) | inr q ↦ q ])
+    | inr a ↦ inr (a.0, elim (member-cases y z [] a.1) [ inl e ↦ e | inr m ↦ absurd (true≢false (sym m)) ])
+  ]
+]
+
+-- in a list reversed
+pub before-reverse : (l : List ℕ) (x y : ℕ) → IsBefore l x y → IsBefore (reverse l) y x
+before-reverse [] x y b = absurd b
+before-reverse (z ∷ l) x y (inl p) = subst (λ (k : List ℕ). IsBefore k y x) (sym (reverse-append (z ∷ []) l)) (before-across (reverse l) (z ∷ []) y x (member-reverse y l ∙ p.1) (subst (λ (k : ℕ). is_member k (z ∷ []) ≡ true) p.0 (member-head z [])))
+before-reverse (z ∷ l) x y (inr b) = subst (λ (k : List ℕ). IsBefore k y x) (sym (reverse-append (z ∷ []) l)) (before-left (reverse l) (z ∷ []) y x (before-reverse l x y b))
+
+-- among the members that pass a test
+pub before-filter : (p : ℕ → Bool) (l : List ℕ) (x y : ℕ) → IsBefore l x y → p x ≡ true → p y ≡ true → IsBefore (filter p l) x y
+before-filter p [] x y b s t = absurd b
+before-filter p (z ∷ l) x y (inl q) s t = subst (λ (k : List ℕ). IsBefore k x y) (sym (filter-yes p z l (ap p q.0 ∙ s))) (inl (q.0, filter-member p l y q.1 t))
+before-filter p (z ∷ l) x y (inr b) s t = elim (cases_Bool (p z)) [
+  | inl a ↦ subst (λ (k : List ℕ). IsBefore k x y) (sym (filter-yes p z l a)) (inr (before-filter p l x y b s t))
+  | inr a ↦ subst (λ (k : List ℕ). IsBefore k x y) (sym (filter-no p z l a)) (before-filter p l x y b s t)
+]
+
+pub filter-before : (p : ℕ → Bool) (l : List ℕ) (x y : ℕ) → IsBefore (filter p l) x y → IsBefore l x y
+filter-before p [] x y b = absurd b
+filter-before p (z ∷ l) x y b = elim (cases_Bool (p z)) [
+  | inl a ↦ elim (subst (λ (k : List ℕ). IsBefore k x y) (filter-yes p z l a) b) [ inl q ↦ inl (q.0, (member-filter_parts p l y q.1).0) | inr c ↦ inr (filter-before p l x y c) ]
+  | inr a ↦ inr (filter-before p l x y (subst (λ (k : List ℕ). IsBefore k x y) (filter-no p z l a) b))
+]
+
+-- the images of the members
+pub member-map : (f : ℕ → ℕ) (l : List ℕ) (x : ℕ) → is_member x l ≡ true → is_member (f x) (map f l) ≡ true
+member-map f [] x h = absurd (true≢false (sym h))
+member-map f (z ∷ l) x h = elim (member-cases x z l h) [
+  | inl e ↦ subst (λ (k : ℕ). is_member k (f z ∷ map f l) ≡ true) (ap f e) (member-head (f z) (map f l))
+  | inr m ↦ member-tail (f x) (f z) (map f l) (member-map f l x m)
+]
+
+pub map-member : (f : ℕ → ℕ) (l : List ℕ) (y : ℕ) → is_member y (map f l) ≡ true → (x : ℕ) × (is_member x l ≡ true) × (f x ≡ y)
+map-member f [] y h = absurd (true≢false (sym h))
+map-member f (z ∷ l) y h = by (member-cases y (f z) (map f l) h) (map-member f l y)
+  where
+    by : (f z ≡ y) ⊎ (is_member y (map f l) ≡ true) → (is_member y (map f l) ≡ true → (x : ℕ) × (is_member x l ≡ true) × (f x ≡ y)) → (x : ℕ) × (is_member x (z ∷ l) ≡ true) × (f x ≡ y)
+    by (inl e) r = (z, member-head z l, e)
+    by (inr m) r = let w = r m in (w.0, member-tail w.0 z l w.1, w.2)
+
+pub before-map : (f : ℕ → ℕ) (l : List ℕ) (x y : ℕ) → IsBefore l x y → IsBefore (map f l) (f x) (f y)
+before-map f [] x y b = absurd b
+before-map f (z ∷ l) x y (inl p) = inl (ap f p.0, member-map f l y p.1)
+before-map f (z ∷ l) x y (inr b) = inr (before-map f l x y b)
+
+-- different members with different images
+pub distinct-map : (f : ℕ → ℕ) (l : List ℕ) → is_distinct l ≡ true → ((x y : ℕ) → is_member x l ≡ true → is_member y l ≡ true → f x ≡ f y → x ≡ y) → is_distinct (map f l) ≡ true
+distinct-map f [] d i = refl
+distinct-map f (z ∷ l) d i =
+    distinct-cons (f z) (map f l) (false_from_ne_true (is_member (f z) (map f l)) (λ h.
+    let w = map-member f l (f z) h in
+    true≢false (sym w.1 ∙ (ap (λ (k : ℕ). is_member k l) (i w.0 z (member-tail w.0 z l w.1) (member-head z l) w.2) ∙ distinct-head z l d))))
+    (distinct-map f l (distinct-tail z l d) (λ x y a b. i x y (member-tail x z l a) (member-tail y z l b)))
+
+-- the place of a member
+pub member-place : (l : List ℕ) (x : ℕ) → is_member x l ≡ true → (i : ℕ) × (i < length l) × (get_or l i 0 ≡ x)
+member-place [] x h = absurd (true≢false (sym h))
+member-place (z ∷ l) x h = by (member-cases x z l h) (member-place l x)
+  where
+    by : (z ≡ x) ⊎ (is_member x l ≡ true) → (is_member x l ≡ true → (i : ℕ) × (i < length l) × (get_or l i 0 ≡ x)) → (i : ℕ) × (i < suc (length l)) × (get_or (z ∷ l) i 0 ≡ x)
+    by (inl e) r = (0, omega arith, e)
+    by (inr m) r = let w = r m in (suc w.0, omega (arith, w.1), w.2)
+
+-- the places of two members of which one stands before the other
+pub before-at : (l : List ℕ) (x y : ℕ) → IsBefore l x y → (i j : ℕ) × (i < j) × (j < length l) × (get_or l i 0 ≡ x) × (get_or l j 0 ≡ y)
+before-at [] x y b = absurd b
+before-at (z ∷ l) x y (inl p) = let w = member-place l y p.1 in (0, suc w.0, omega arith, omega (arith, w.1), p.0, w.2)
+before-at (z ∷ l) x y (inr b) = let w = before-at l x y b in (suc w.0, suc w.1, omega (arith, w.2), omega (arith, w.3), w.4, w.5)
+
+-- different places of a list without repetition have different members
+pub distinct-places : (l : List ℕ) (i j : ℕ) → is_distinct l ≡ true → i < j → j < length l → get_or l i 0 ≢ get_or l j 0
+distinct-places [] i j d a b e = absurd (omega arith)
+distinct-places (z ∷ l) i zero d a b e = absurd (omega arith)
+distinct-places (z ∷ l) zero (suc j) d a b e = true≢false (sym (member-at l j 0 (omega arith)) ∙ (ap (λ (k : ℕ). is_member k l) (sym e) ∙ distinct-head z l d))
+distinct-places (z ∷ l) (suc i) (suc j) d a b e = distinct-places l i j (distinct-tail z l d) (omega arith) (omega arith) e

@@ -1,0 +1,5 @@
+-- Palm trees of a connected multigraph, and the search that grows them.
+pub mod PalmTree
+pub mod State
+pub mod Searching
+pub mod Growing
