@@ -1,7 +1,8 @@
 // A rotation system of the complete graph on four vertices read round each vertex, the lists that make none, runs that are moved
 // and turned, and lists for a part.
 
-ghost use Rattle.std.specs.Prelude.{◌<◌, length};
+ghost use Rattle.std.specs.Prelude.{◌≡◌, ◌<◌, length, IfOk};
+ghost use Rattle.rotations.specs.Rotation.{order_at};
 
 use crate::*;
 use multigraph::{Graph, Part};
@@ -156,11 +157,19 @@ enum Change {
     Mirror,
 }
 
+// The edges round v in order.
+fn order_of(alloc: Global, r: &Rotation, v: u32) -> Result<Vec<u32>, AllocError>
+    requires { v < length r.now }
+    ensures { IfOk result (λ order. order.items ≡ order_at r.now v) }
+{
+    r.list(v).collect(alloc)
+}
+
 // Makes the change where the places are places, and the run that is moved ends before the edge that it is put behind.
 fn make(alloc: Global, r: &mut Rotation, v: u32, change: Change) -> Result<(), AllocError>
     requires { v < length r.old }
 {
-    let order: Vec<u32> = r.list(v).collect(alloc)?;
+    let order = order_of(alloc, r, v)?;
     match change {
         Change::Move(i, j, k) => {
             if i <= j && j < k && k < order.len() {
