@@ -2,7 +2,6 @@
 
 ghost use Rattle.std.specs.Prelude.{IfOk, IfSome};
 ghost use Rattle.rotations.specs.Rotation.{IsRotationSystem};
-ghost use Rattle.graph_theory.specs.Triconnected.{IsTriconnected};
 ghost use Rattle.planarity.specs.Embedding.{IsEmbedding};
 
 use crate::{Finder, LeftRight, QuickEmbedder, embed_by};
