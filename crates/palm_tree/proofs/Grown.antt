@@ -1,17 +1,16 @@
 -- What a finished search has found of edges, parents and order.
-use Rattle.std.proofs.Common.{◌≡◌, ◌≢◌, ℕ, zero, suc, ◌+◌, ◌<◌, ◌≤◌, ◌⊎◌, inl, inr, Bool, true, false, ◌==◌, if◌then◌else◌, List, ◌∷◌, ◌++◌, length, take, drop, get_or, refl, sym, ap, ◌∙◌, subst, arith}
-use Rattle.std.proofs.lemmas.Bool.{cases_eq, eq-eqb, eqb-true, false_from_ne_true, true≢false}
+use Rattle.std.proofs.Common.{◌≡◌, ℕ, ◌+◌, ◌<◌, Bool, true, false, if◌then◌else◌, List, ◌∷◌, ◌++◌, length, take, drop, get_or, sym, ap, ◌∙◌, subst, arith}
+use Rattle.std.proofs.lemmas.Bool.{eq-eqb, eqb-true}
 use Rattle.std.proofs.lemmas.List.{drop_more, take-append-drop}
 use Rattle.permutations.specs.Members.{is_member, is_distinct}
-use Rattle.permutations.specs.Permutation.{iterate}
-use Rattle.permutations.proofs.Members.{distinct-append_apart, distinct-append_right, distinct-head, member-head}
+use Rattle.permutations.proofs.Members.{distinct-append_apart, distinct-append_right, distinct-head}
 use Rattle.permutations.proofs.Arrangements.{member-at}
 use Rattle.multigraph.specs.Graph.{Multigraph, edge_count, is_end, other_end, IsGraph}
 use Rattle.graph_theory.specs.SearchTree.{IsBelow, IsSearchForest}
-use Rattle.graph_theory.proofs.Chains.{chain-in, chain-depth}
+use Rattle.graph_theory.proofs.Chains.{chain-depth}
 use Rattle.graph_theory.proofs.Ends.{other-is_end, end-in}
 use Rattle.palm_tree.specs.State.{SearchState}
-use Rattle.palm_tree.specs.Searching.{flag, IsSearching, IsOver}
+use Rattle.palm_tree.specs.Searching.{IsOver}
 use Rattle.palm_tree.specs.Growing.{is_tree_edge, upper_end, begin_of}
 use Rattle.palm_tree.proofs.Writes.{flag-in}
 use Rattle.palm_tree.proofs.Over.{over-forest, over-seen}

@@ -1,7 +1,6 @@
 -- The steps of the pass over low vertices, as what the code has before and after them.
-use Rattle.std.proofs.Common.{◌≡◌, ℕ, ◌+◌, ◌-◌, ◌<◌, ◌≤◌, ◌⊎◌, inl, inr, Bool, true, false, List, [], length, drop, get_or, refl, sym, ap, ◌∙◌, subst, arith}
+use Rattle.std.proofs.Common.{◌≡◌, ℕ, ◌+◌, ◌<◌, false, List, [], length, drop, get_or, sym, ap, ◌∙◌, subst, arith}
 use Rattle.multigraph.specs.Graph.{Multigraph, edge_count, IsGraph}
-use Rattle.permutations.specs.Members.{is_member}
 use Rattle.palm_tree.specs.State.{SearchState}
 use Rattle.palm_tree.specs.Searching.{IsOver}
 use Rattle.palm_tree.specs.Growing.{LowVertices, taken, is_tree_edge, upper_end, AreLowSoFar, CanTake}

@@ -1,20 +1,20 @@
 -- The numbers of a vertex and its descendants are consecutive, and each number is one vertex's.
-use Rattle.std.proofs.Common.{◌≡◌, ◌≢◌, ℕ, zero, suc, ◌+◌, ◌-◌, ◌<◌, ◌≤◌, ◌⊎◌, inl, inr, Bool, true, false, cond, ◌&&◌, ◌==◌, ltb, List, length, get_or, refl, sym, ap, ◌∙◌, subst, arith}
-use Rattle.std.proofs.lemmas.Bool.{cases_Bool, cases_eq, cases_lt, eq-eqb, eqb-true}
-use Rattle.permutations.specs.Count.{count, some, sum_below}
+use Rattle.std.proofs.Common.{◌≡◌, ◌≢◌, ℕ, zero, suc, ◌+◌, ◌-◌, ◌<◌, ◌≤◌, ◌⊎◌, inl, inr, true, cond, ◌&&◌, ◌==◌, ltb, List, get_or, refl, sym, ap, ◌∙◌, subst, arith}
+use Rattle.std.proofs.lemmas.Bool.{cases_lt, eq-eqb, eqb-true}
+use Rattle.permutations.specs.Count.{count, some}
 use Rattle.permutations.specs.Members.{is_member}
 use Rattle.permutations.specs.Permutation.{iterate}
-use Rattle.permutations.proofs.Count.{count-all, count-same}
+use Rattle.permutations.proofs.Count.{count-same}
 use Rattle.permutations.proofs.Search.{some-from, some-witness}
 use Rattle.permutations.proofs.Injection.{count-injection}
 use Rattle.permutations.proofs.Sums.{sum_below-zero}
-use Rattle.multigraph.specs.Graph.{Multigraph, edge_count, IsGraph}
+use Rattle.multigraph.specs.Graph.{Multigraph, IsGraph}
 use Rattle.graph_theory.specs.SearchTree.{IsBelow}
 use Rattle.graph_theory.proofs.Chains.{chain-in, chain-depth, below-transitive, below-parent, below-reflexive, below-depth, below-between}
 use Rattle.palm_tree.specs.State.{SearchState}
 use Rattle.palm_tree.specs.Searching.{IsOver}
 use Rattle.palm_tree.specs.Growing.{AreSizes, AreChildren, AreOffsets, AreNumbersSoFar, IsBefore}
-use Rattle.palm_tree.proofs.Grown.{forest, parent-in, parent-depth, order-member}
+use Rattle.palm_tree.proofs.Grown.{forest, order-member}
 use Rattle.palm_tree.proofs.Totals.{sum-change, cond-yes, cond-no}
 use Rattle.palm_tree.proofs.SizesHanded.{both, second-no}
 

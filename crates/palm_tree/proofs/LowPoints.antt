@@ -1,9 +1,7 @@
 -- The numbers at the two low vertices are the two low points.
-use Rattle.std.proofs.Common.{◌≡◌, ◌≢◌, ℕ, zero, suc, ◌+◌, ◌<◌, ◌≤◌, ◌⊎◌, inl, inr, Bool, true, false, List, length, get_or, refl, sym, ap, ◌∙◌, subst, arith}
-use Rattle.std.proofs.lemmas.Bool.{cases_eq, cases_lt}
+use Rattle.std.proofs.Common.{◌≡◌, ℕ, zero, suc, ◌<◌, ◌≤◌, inl, inr, false, List, get_or, sym, ap, ◌∙◌, subst, arith}
 use Rattle.permutations.specs.Permutation.{iterate}
 use Rattle.multigraph.specs.Graph.{Multigraph, edge_count, IsGraph}
-use Rattle.graph_theory.specs.SearchTree.{IsBelow}
 use Rattle.graph_theory.proofs.Chains.{chain-in, chain-depth}
 use Rattle.palm_tree.specs.PalmTree.{PalmTreeLists, IsReached, IsLow1, IsLow2}
 use Rattle.palm_tree.specs.State.{SearchState}
@@ -11,7 +9,7 @@ use Rattle.palm_tree.specs.Searching.{IsOver}
 use Rattle.palm_tree.specs.Growing.{LowVertices, upper_end, is_tree_edge, LeadsFrom, IsTaken, AreLowVertices, AreSizes, AreChildren, AreOffsets, AreNumbersSoFar, AreFound}
 use Rattle.palm_tree.proofs.Grown.{forest, lower-in, upper-in, upper-below, order-member, parent-depth}
 use Rattle.palm_tree.proofs.Lows.{first-in, second-in, first-own}
-use Rattle.palm_tree.proofs.Intervals.{Below, trans, same, comparable, deeper, in-order, strictly}
+use Rattle.palm_tree.proofs.Intervals.{Below, trans, same, comparable, in-order, strictly}
 use Rattle.palm_tree.proofs.Palm.{reached-from, reached-to}
 
 module _ (g : Multigraph) (gg : IsGraph g) (s : SearchState) (o : IsOver g s) (low : LowVertices) (w : AreLowVertices g s low) where

@@ -1,16 +1,15 @@
 -- The two low vertices, while fronds are taken into account and vertices hand on what they lead to.
-use Rattle.std.proofs.Common.{◌≡◌, ◌≢◌, ℕ, ◌+◌, ◌<◌, ◌≤◌, ◌⊎◌, inl, inr, Bool, true, false, List, [], ◌∷◌, length, drop, get_or, refl, sym, ap, ◌∙◌, subst, arith}
-use Rattle.std.proofs.lemmas.Bool.{cases_eq, cases_lt, cases_Bool, true≢false}
+use Rattle.std.proofs.Common.{◌≡◌, ◌≢◌, ℕ, ◌+◌, ◌<◌, ◌≤◌, ◌⊎◌, inl, inr, true, false, List, [], length, drop, get_or, refl, sym, ap, ◌∙◌, subst, arith}
+use Rattle.std.proofs.lemmas.Bool.{cases_eq, cases_Bool, true≢false}
 use Rattle.permutations.specs.Members.{is_member}
 use Rattle.permutations.proofs.Members.{member-cases}
 use Rattle.multigraph.specs.Graph.{Multigraph, edge_count, IsGraph}
-use Rattle.graph_theory.specs.SearchTree.{IsBelow}
 use Rattle.graph_theory.proofs.Chains.{below-transitive, below-parent, below-reflexive}
 use Rattle.palm_tree.specs.State.{SearchState}
 use Rattle.palm_tree.specs.Searching.{IsOver}
 use Rattle.palm_tree.specs.Growing.{LowVertices, Tells, taken, is_tree_edge, upper_end, LeadsFrom, IsTaken, AreLowSoFar}
 use Rattle.palm_tree.proofs.Taking.{Change, taken-change, change-taken, change-keeps}
-use Rattle.palm_tree.proofs.Grown.{forest, parent-in, parent-depth, lower-in, upper-in, order-in, order-from, order-once, parent-before}
+use Rattle.palm_tree.proofs.Grown.{forest, parent-in, parent-depth, lower-in, upper-in, order-in, order-from, parent-before}
 
 module _ (g : Multigraph) (gg : IsGraph g) (s : SearchState) (o : IsOver g s) where
   -- the parent of a vertex leads where it leads

@@ -1,13 +1,13 @@
 -- The numbers and the parents of the tree that was found.
-use Rattle.std.proofs.Common.{◌≡◌, ◌≢◌, ℕ, zero, suc, ◌+◌, ◌<◌, ◌≤◌, inl, inr, Bool, true, false, List, length, get_or, Some, None, refl, sym, ap, ◌∙◌, subst, arith}
+use Rattle.std.proofs.Common.{◌≡◌, ℕ, ◌<◌, inl, inr, List, length, get_or, sym, ap, ◌∙◌, subst, arith}
 use Rattle.std.proofs.lemmas.Bool.{cases_lt}
-use Rattle.multigraph.specs.Graph.{Multigraph, edge_count, IsGraph}
-use Rattle.palm_tree.specs.PalmTree.{PalmTreeLists, parent_of, IsParentEdge, AreNumbers, AreParents}
+use Rattle.multigraph.specs.Graph.{Multigraph, IsGraph}
+use Rattle.palm_tree.specs.PalmTree.{PalmTreeLists, IsParentEdge, AreNumbers, AreParents}
 use Rattle.palm_tree.specs.State.{SearchState}
 use Rattle.palm_tree.specs.Searching.{IsOver}
 use Rattle.palm_tree.specs.Growing.{LowVertices, AreSizes, AreChildren, AreOffsets, AreNumbersSoFar, AreFound}
 use Rattle.palm_tree.proofs.Grown.{lower-in, parent-in, parent_edge-in, parent_edge-lower, parent_edge-tree, tree-is}
-use Rattle.palm_tree.proofs.Intervals.{Below, root-number, child-number, size-some, number-below, below-number, each-number, differ, within-below}
+use Rattle.palm_tree.proofs.Intervals.{root-number, child-number, size-some, number-below, below-number, each-number, differ, within-below}
 use Rattle.palm_tree.proofs.Palm.{descendant-below, below-descendant, parent-root, parent-none, parent-some, mark-tree, mark-frond, to-parent_edge, from-parent_edge, to-frond}
 
 module _ (g : Multigraph) (gg : IsGraph g) (s : SearchState) (o : IsOver g s) (low : LowVertices) (size offset children number : List ℕ) (z : AreSizes g s size) (k : AreChildren g s children) (a : AreOffsets g s size children offset) (n : AreNumbersSoFar g s size offset s.order number) (edges : List ℕ) (t : PalmTreeLists) (f : AreFound g s low edges number t) where

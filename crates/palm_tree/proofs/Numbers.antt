@@ -1,10 +1,10 @@
 -- The numbers, one vertex after another.
-use Rattle.std.proofs.Common.{◌≡◌, ◌≢◌, ℕ, ◌+◌, ◌<◌, ◌≤◌, ◌⊎◌, inl, inr, Bool, true, false, cond, if◌then◌else◌, ltb, List, [], ◌∷◌, ◌++◌, length, take, drop, get_or, set, replicate, refl, sym, ap, ◌∙◌, subst, arith, length-set}
-use Rattle.std.proofs.lemmas.Bool.{cases_Bool, cases_eq, cases_lt, true≢false, false_from_ne_true}
-use Rattle.std.proofs.lemmas.List.{length-replicate, take_more, drop_more, take-append-drop, take_all}
+use Rattle.std.proofs.Common.{◌≡◌, ℕ, ◌+◌, ◌<◌, ◌≤◌, ◌⊎◌, inl, inr, Bool, true, false, if◌then◌else◌, ltb, List, [], ◌∷◌, ◌++◌, length, take, drop, get_or, set, replicate, refl, sym, ap, ◌∙◌, subst, arith, length-set}
+use Rattle.std.proofs.lemmas.Bool.{cases_Bool, cases_lt, true≢false, false_from_ne_true}
+use Rattle.std.proofs.lemmas.List.{length-replicate, take_more, drop_more, take-append-drop}
 use Rattle.permutations.specs.Members.{is_member, is_distinct}
-use Rattle.permutations.proofs.Members.{member-head, member-cases, member-append_left, member-append_right, member-append_cases, distinct-append_apart}
-use Rattle.multigraph.specs.Graph.{Multigraph, edge_count, IsGraph}
+use Rattle.permutations.proofs.Members.{member-head, member-cases, member-append_left, member-append_cases, distinct-append_apart}
+use Rattle.multigraph.specs.Graph.{Multigraph, IsGraph}
 use Rattle.palm_tree.specs.State.{SearchState}
 use Rattle.palm_tree.specs.Searching.{IsOver}
 use Rattle.palm_tree.specs.Growing.{AreSizes, HasRoom, AreNumbersSoFar}

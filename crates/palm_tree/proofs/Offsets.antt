@@ -1,17 +1,16 @@
 -- The places of children behind their parents, one child after another.
-use Rattle.std.proofs.Common.{◌≡◌, ◌≢◌, ℕ, ◌+◌, ◌<◌, ◌≤◌, ◌⊎◌, inl, inr, Bool, true, false, cond, ◌&&◌, ◌==◌, List, [], ◌∷◌, ◌++◌, length, take, drop, get_or, set, replicate, refl, sym, ap, ◌∙◌, subst, arith, length-set}
-use Rattle.std.proofs.lemmas.Bool.{cases_Bool, cases_eq, cases_lt, eq-eqb, eqb-true, true≢false, false_from_ne_true}
+use Rattle.std.proofs.Common.{◌≡◌, ◌≢◌, ℕ, ◌+◌, ◌<◌, ◌≤◌, ◌⊎◌, inl, inr, Bool, true, false, cond, ◌&&◌, List, [], ◌∷◌, ◌++◌, length, take, drop, get_or, set, replicate, refl, sym, ap, ◌∙◌, subst, arith, length-set}
+use Rattle.std.proofs.lemmas.Bool.{cases_eq, cases_lt, true≢false, false_from_ne_true}
 use Rattle.std.proofs.lemmas.List.{get_or-replicate, length-replicate, take_more, drop_more, take-append-drop, get_or_past}
-use Rattle.permutations.specs.Count.{sum_below}
 use Rattle.permutations.specs.Members.{is_member, is_distinct}
-use Rattle.permutations.proofs.Members.{member-head, member-cases, member-append, member-append_left, member-append_right, member-append_cases, no_member-append, no_member-cons, distinct-append_left, distinct-append_apart}
+use Rattle.permutations.proofs.Members.{member-head, member-cases, member-append_left, member-append_right, member-append_cases, distinct-append_apart}
 use Rattle.permutations.proofs.Arrangements.{member-at}
 use Rattle.permutations.proofs.Sums.{sum_below-ext, sum_below-zero}
 use Rattle.permutations.proofs.Relation.{same-tests}
-use Rattle.multigraph.specs.Graph.{Multigraph, edge_count, IsGraph}
+use Rattle.multigraph.specs.Graph.{Multigraph, IsGraph}
 use Rattle.palm_tree.specs.State.{SearchState}
 use Rattle.palm_tree.specs.Searching.{IsOver}
-use Rattle.palm_tree.specs.Growing.{is_child, size_among, IsBefore, AreSizes, AreChildren, AreOffsetsSoFar, AreOffsets, HasRoom}
+use Rattle.palm_tree.specs.Growing.{is_child, size_among, AreSizes, AreChildren, AreOffsetsSoFar, AreOffsets}
 use Rattle.palm_tree.proofs.Writes.{number-same, number-other}
 use Rattle.palm_tree.proofs.Grown.{parent-in, order-member}
 use Rattle.palm_tree.proofs.Orders.{short, before-push, before-first, before-second}

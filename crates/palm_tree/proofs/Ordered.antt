@@ -1,28 +1,26 @@
 -- The darts stand in order, and in a block later children have smaller numbers.
-use Rattle.std.proofs.Common.{◌≡◌, ◌≢◌, ℕ, zero, suc, ◌+◌, ◌*◌, ◌<◌, ◌≤◌, ◌⊎◌, inl, inr, Bool, true, false, cond, if◌then◌else◌, ◌&&◌, ◌==◌, ltb, List, [], ◌∷◌, ◌++◌, length, map, filter, reverse, get_or, refl, sym, ap, ◌∙◌, subst, arith}
+use Rattle.std.proofs.Common.{◌≡◌, ◌≢◌, ℕ, ◌+◌, ◌*◌, ◌<◌, ◌≤◌, ◌⊎◌, inl, inr, Bool, true, false, if◌then◌else◌, ◌&&◌, ◌==◌, ltb, List, length, reverse, get_or, refl, sym, ap, ◌∙◌, subst, arith}
 use Rattle.std.specs.Bool.{beq}
-use Rattle.std.proofs.lemmas.Bool.{cases_Bool, cases_eq, cases_lt, eq-eqb, eqb-true, true≢false, both_ways, false_from_ne_true}
+use Rattle.std.proofs.lemmas.Bool.{cases_Bool, cases_lt, eq-eqb, eqb-true, both_ways, false_from_ne_true}
 use Rattle.permutations.specs.Members.{is_member, is_distinct}
 use Rattle.permutations.proofs.Filter.{distinct-filter}
-use Rattle.permutations.specs.Permutation.{iterate}
 use Rattle.permutations.proofs.Arrangements.{member-at}
-use Rattle.multigraph.specs.Graph.{Multigraph, edge_count, is_end, other_end, IsGraph}
+use Rattle.multigraph.specs.Graph.{Multigraph, edge_count, other_end, IsGraph}
 use Rattle.graph_theory.specs.Block.{IsOneBlock}
 use Rattle.graph_theory.specs.Side.{IsCommon}
-use Rattle.graph_theory.specs.SearchTree.{IsBelow}
 use Rattle.graph_theory.proofs.BlockLabel.{is_below, is_below-from, below-from}
 use Rattle.graph_theory.proofs.Chains.{below-cases}
 use Rattle.graph_theory.proofs.Crossings.{block-one_side}
-use Rattle.graph_theory.proofs.Ends.{other-is_end, other-other, end-cases, end-in}
-use Rattle.palm_tree.specs.PalmTree.{PalmTreeLists, number_of, is_frond, darts_of, number_reached, dart_class, AreInOrder, LaterIsLess}
+use Rattle.graph_theory.proofs.Ends.{other-other, end-cases, end-in}
+use Rattle.palm_tree.specs.PalmTree.{PalmTreeLists, is_frond, darts_of, number_reached, dart_class, AreInOrder, LaterIsLess}
 use Rattle.palm_tree.specs.State.{SearchState}
 use Rattle.palm_tree.specs.Searching.{IsOver}
-use Rattle.palm_tree.specs.Growing.{LowVertices, is_tree_edge, upper_end, begin_of, vertex_reached, class_of, sort_key, hangs, tree_edges, lower_ends, numbering_order, LeadsFrom, IsBefore, IsSortedByKeys, AreEdges, AreLowVertices, AreSizes, AreChildren, AreOffsets, AreNumbersSoFar, AreFound}
-use Rattle.palm_tree.proofs.Grown.{forest, lower-end, lower-in, lower-deep, upper-in, upper-below, upper-depth, tree-upper, tree-is, parent-in, parent-depth}
+use Rattle.palm_tree.specs.Growing.{LowVertices, is_tree_edge, upper_end, begin_of, sort_key, hangs, tree_edges, lower_ends, numbering_order, IsBefore, IsSortedByKeys, AreEdges, AreLowVertices, AreSizes, AreChildren, AreOffsets, AreNumbersSoFar, AreFound}
+use Rattle.palm_tree.proofs.Grown.{forest, lower-end, lower-in, lower-deep, upper-in, upper-below, tree-upper, tree-is, parent-in, parent-depth}
 use Rattle.palm_tree.proofs.Lows.{first-in, second-in}
-use Rattle.palm_tree.proofs.Orders.{distinct-places, before-places, before-at, before-filter, filter-before, before-reverse, before-map, before-left, before-right, before-across}
+use Rattle.palm_tree.proofs.Orders.{distinct-places, before-places, before-at, before-filter, filter-before, before-reverse, before-map, before-left, before-right}
 use Rattle.palm_tree.proofs.Intervals.{Below, trans, same, up, comparable, deeper, in-order, strictly, child-number, children-rise}
-use Rattle.palm_tree.proofs.Palm.{dart-from, mark-tree, mark-frond, tree-mark, other-mark}
+use Rattle.palm_tree.proofs.Palm.{dart-from, mark-tree, tree-mark, other-mark}
 use Rattle.palm_tree.proofs.LowPoints.{first-above, second-above, taken-all}
 
 -- two tests that hold, and two that fail

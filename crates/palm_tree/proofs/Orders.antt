@@ -1,16 +1,15 @@
 -- Lists without repetition of numbers below a bound: how long they are, and which of two members stands before the other.
-use Rattle.std.proofs.Common.{◌≡◌, ◌≢◌, ℕ, zero, suc, ◌+◌, ◌<◌, ◌≤◌, ◌⊎◌, inl, inr, Bool, true, false, cond, ◌||◌, ◌==◌, List, [], ◌∷◌, ◌++◌, length, map, filter, reverse, take, get_or, refl, sym, ap, ◌∙◌, subst, arith}
-use Rattle.std.proofs.lemmas.Bool.{cases_Bool, cases_eq, eq-eqb, eqb-true, true≢false, false_from_ne_true}
+use Rattle.std.proofs.Common.{◌≡◌, ◌≢◌, ℕ, zero, suc, ◌<◌, ◌≤◌, ◌⊎◌, inl, inr, Bool, true, List, [], ◌∷◌, ◌++◌, length, map, filter, reverse, get_or, refl, sym, ap, ◌∙◌, subst, arith}
+use Rattle.std.proofs.lemmas.Bool.{cases_Bool, true≢false, false_from_ne_true}
 use Rattle.std.proofs.lemmas.List.{reverse-append}
 use Rattle.permutations.specs.Members.{is_member, is_distinct}
-use Rattle.permutations.specs.Count.{count}
 use Rattle.permutations.proofs.Count.{count-within}
-use Rattle.permutations.proofs.Members.{member-head, member-tail, member-cases, member-append_left, member-append_right, member-append_cases, member-reverse, distinct-head, distinct-tail, distinct-cons, no_member-tail}
+use Rattle.permutations.proofs.Members.{member-head, member-tail, member-cases, member-append_left, member-append_right, member-append_cases, member-reverse, distinct-head, distinct-tail, distinct-cons}
 use Rattle.permutations.proofs.Arrangements.{count-list, member-at}
 use Rattle.permutations.proofs.Filter.{filter-yes, filter-no, member-filter_parts, filter-member}
 use Rattle.multigraph.specs.Graph.{Multigraph}
 use Rattle.palm_tree.specs.State.{SearchState}
-use Rattle.palm_tree.specs.Searching.{flag, IsOver}
+use Rattle.palm_tree.specs.Searching.{IsOver}
 use Rattle.palm_tree.specs.Growing.{IsBefore}
 use Rattle.palm_tree.proofs.Writes.{flag-in}
 

@@ -1,18 +1,17 @@
 -- The tree that was found as a palm tree: parents, parent edges, fronds and what is reached.
-use Rattle.std.proofs.Common.{◌≡◌, ◌≢◌, ℕ, zero, suc, ◌+◌, ◌<◌, ◌≤◌, ◌⊎◌, inl, inr, Bool, true, false, cond, if◌then◌else◌, not, ◌==◌, ltb, List, length, filter, get_or, Option, None, Some, refl, sym, ap, ◌∙◌, subst, arith}
-use Rattle.std.proofs.lemmas.Bool.{cases_Bool, cases_eq, cases_lt, eq-eqb, eqb-true, true≢false}
+use Rattle.std.proofs.Common.{◌≡◌, ℕ, zero, suc, ◌<◌, ◌≤◌, inl, inr, Bool, true, false, if◌then◌else◌, not, ◌==◌, ltb, List, get_or, Option, None, Some, refl, sym, ap, ◌∙◌, subst, arith}
+use Rattle.std.proofs.lemmas.Bool.{cases_Bool, cases_lt, eq-eqb, eqb-true, true≢false}
 use Rattle.permutations.specs.Members.{is_member, is_distinct}
 use Rattle.permutations.specs.Permutation.{iterate}
 use Rattle.permutations.proofs.Iterates.{iterate-first, iterate-more}
 use Rattle.permutations.proofs.Filter.{filter-member, member-filter_parts, distinct-filter}
-use Rattle.multigraph.specs.Graph.{Multigraph, edge_count, is_end, other_end, IsGraph}
-use Rattle.graph_theory.specs.SearchTree.{IsBelow}
-use Rattle.graph_theory.proofs.Ends.{other-is_end, other-other, end-cases, end-in}
-use Rattle.palm_tree.specs.PalmTree.{PalmTreeLists, number_of, parent_of, is_frond, darts_of, Climbs, IsDescendant, IsParentEdge, IsFrondFrom, BeginsAt, IsReached, AreDarts}
+use Rattle.multigraph.specs.Graph.{Multigraph, edge_count, other_end, IsGraph}
+use Rattle.graph_theory.proofs.Ends.{other-other, end-cases, end-in}
+use Rattle.palm_tree.specs.PalmTree.{PalmTreeLists, parent_of, is_frond, darts_of, Climbs, IsDescendant, IsParentEdge, IsFrondFrom, BeginsAt, IsReached, AreDarts}
 use Rattle.palm_tree.specs.State.{SearchState}
 use Rattle.palm_tree.specs.Searching.{IsOver}
-use Rattle.palm_tree.specs.Growing.{LowVertices, is_tree_edge, upper_end, begin_of, LeadsFrom, parent_at, AreFound, AreEdges}
-use Rattle.palm_tree.proofs.Grown.{parent-in, parent-depth, parent_edge-in, parent_edge-lower, parent_edge-tree, lower-end, lower-in, lower-deep, upper-in, upper-below, upper-depth, tree-is, tree-upper, begin-in}
+use Rattle.palm_tree.specs.Growing.{LowVertices, is_tree_edge, upper_end, begin_of, LeadsFrom, AreFound, AreEdges}
+use Rattle.palm_tree.proofs.Grown.{parent-in, parent-depth, lower-end, lower-in, lower-deep, upper-below, upper-depth, tree-upper, begin-in}
 use Rattle.palm_tree.proofs.Intervals.{Below, trans, same, up, deeper}
 
 -- the number in an answer

@@ -1,15 +1,15 @@
 -- The sizes, while vertices hand theirs on to their parents.
-use Rattle.std.proofs.Common.{◌≡◌, ◌≢◌, ℕ, ◌+◌, ◌<◌, ◌≤◌, ◌⊎◌, inl, inr, Bool, true, false, cond, ◌&&◌, ◌==◌, ltb, List, [], ◌∷◌, length, drop, get_or, set, replicate, refl, sym, ap, ◌∙◌, subst, arith, length-set}
+use Rattle.std.proofs.Common.{◌≡◌, ◌≢◌, ℕ, ◌+◌, ◌<◌, ◌≤◌, inl, inr, Bool, true, false, cond, ◌&&◌, ◌==◌, ltb, List, [], ◌∷◌, length, drop, get_or, set, replicate, refl, sym, ap, ◌∙◌, subst, arith, length-set}
 use Rattle.std.proofs.lemmas.Bool.{cases_Bool, cases_eq, eq-eqb, eqb-true, true≢false, false_from_ne_true}
 use Rattle.std.proofs.lemmas.List.{get_or-replicate, length-replicate}
 use Rattle.permutations.specs.Count.{sum_below}
 use Rattle.permutations.specs.Members.{is_member}
-use Rattle.permutations.proofs.Members.{member-head, member-tail, member-cases}
+use Rattle.permutations.proofs.Members.{member-head}
 use Rattle.permutations.proofs.Sums.{sum_below-ext, sum_below-le, sum_below-zero, sum_below-const}
-use Rattle.multigraph.specs.Graph.{Multigraph, edge_count, IsGraph, max_vertices}
+use Rattle.multigraph.specs.Graph.{Multigraph, IsGraph}
 use Rattle.palm_tree.specs.State.{SearchState}
 use Rattle.palm_tree.specs.Searching.{IsOver}
-use Rattle.palm_tree.specs.Growing.{is_child, size_among, AreSizesSoFar, AreSizes}
+use Rattle.palm_tree.specs.Growing.{is_child, size_among, AreSizesSoFar}
 use Rattle.palm_tree.proofs.Writes.{number-same, number-other}
 use Rattle.palm_tree.proofs.Grown.{parent-in, parent-depth, order-in, order-from, order-once, parent-before}
 use Rattle.palm_tree.proofs.Totals.{sum-change, sum-two, cond-yes, cond-no}

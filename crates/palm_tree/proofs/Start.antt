@@ -1,10 +1,9 @@
 -- The search of a connected graph from its first vertex: how it begins, how many turns it can take, and that every vertex was
 -- visited when the path is empty.
-use Rattle.std.proofs.Common.{◌≡◌, ℕ, zero, suc, ◌+◌, ◌*◌, ◌-◌, ◌<◌, ◌≤◌, ◌⊎◌, inl, inr, Bool, true, false, ◌||◌, ◌==◌, cond, List, [], ◌∷◌, ◌++◌, length, filter, get_or, replicate, refl, sym, ap, ◌∙◌, subst, arith, length-append}
-use Rattle.std.proofs.lemmas.Bool.{cases_Bool, cases_eq, eq-eqb, eqb-true}
+use Rattle.std.proofs.Common.{◌≡◌, ℕ, zero, suc, ◌+◌, ◌*◌, ◌<◌, ◌≤◌, inl, inr, Bool, true, false, ◌||◌, ◌==◌, cond, List, [], ◌∷◌, length, filter, get_or, replicate, refl, sym, ap, ◌∙◌, subst, arith, length-append}
+use Rattle.std.proofs.lemmas.Bool.{cases_Bool, eq-eqb, eqb-true}
 use Rattle.std.proofs.lemmas.List.{get_or_default, length-replicate}
 use Rattle.permutations.specs.Count.{count, sum_below}
-use Rattle.permutations.specs.Permutation.{iterate}
 use Rattle.permutations.proofs.Count.{count-ext, count-single}
 use Rattle.permutations.proofs.Sums.{sum_below-ext, sum_below-le, sum_below-const, count-exchange}
 use Rattle.permutations.proofs.Relation.{same-tests, connected-value}

@@ -1,8 +1,8 @@
 -- Sums of which a term changes.
-use Rattle.std.proofs.Common.{◌≡◌, ◌≢◌, ℕ, zero, suc, ◌+◌, ◌<◌, ◌≤◌, inl, inr, Bool, true, false, cond, refl, sym, ap, ◌∙◌, arith}
+use Rattle.std.proofs.Common.{◌≡◌, ◌≢◌, ℕ, zero, suc, ◌+◌, ◌<◌, ◌≤◌, inl, inr, Bool, true, false, cond, sym, ap, arith}
 use Rattle.std.proofs.lemmas.Bool.{cases_eq}
 use Rattle.permutations.specs.Count.{sum_below}
-use Rattle.permutations.proofs.Sums.{sum_below-ext, sum_below-term, sum_below-more}
+use Rattle.permutations.proofs.Sums.{sum_below-ext, sum_below-term}
 
 -- where two functions agree but at v, their sums differ as they do there
 pub sum-change : (n : ℕ) (f h : ℕ → ℕ) (v : ℕ) → v < n → ((c : ℕ) → c < n → c ≢ v → f c ≡ h c) → sum_below n h + f v ≡ sum_below n f + h v

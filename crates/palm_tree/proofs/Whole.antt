@@ -1,5 +1,5 @@
 -- What the passes have found is a palm tree.
-use Rattle.std.proofs.Common.{◌≡◌, ℕ, ◌<◌, List, length, ap, ◌∙◌}
+use Rattle.std.proofs.Common.{ℕ, List}
 use Rattle.multigraph.specs.Graph.{Multigraph, edge_count, IsGraph}
 use Rattle.palm_tree.specs.PalmTree.{PalmTreeLists, IsPalmTree}
 use Rattle.palm_tree.specs.State.{SearchState}

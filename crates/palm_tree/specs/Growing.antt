@@ -1,5 +1,5 @@
 -- What the passes from a finished search to a palm tree know, and what each of them does.
-use Rattle.std.specs.Prelude.{◌≡◌, ℕ, zero, suc, ◌+◌, ◌*◌, ◌<◌, ◌≤◌, ◌⊎◌, Bool, true, false, not, cond, ◌&&◌, ◌==◌, nat_lt, if◌then◌else◌, List, [], ◌∷◌, ◌++◌, length, filter, map, take, Option, None, Some, reverse, slice_index, slice_index_or, slice_set}
+use Rattle.std.specs.Prelude.{◌≡◌, ℕ, ◌+◌, ◌*◌, ◌<◌, ◌≤◌, ◌⊎◌, Bool, true, false, not, cond, ◌&&◌, ◌==◌, nat_lt, if◌then◌else◌, List, [], ◌∷◌, ◌++◌, length, filter, map, Option, None, Some, reverse, slice_index, slice_index_or, slice_set}
 use Rattle.std.specs.Bool.{beq}
 use Rattle.permutations.specs.Count.{sum_below}
 use Rattle.graph_theory.specs.SearchTree.{IsBelow}

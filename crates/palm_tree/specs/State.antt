@@ -1,5 +1,5 @@
 -- What a depth-first search knows, as lists.
-use Rattle.std.specs.Prelude.{ℕ, ◌+◌, ◌-◌, Bool, true, false, min, nat_lt, if◌then◌else◌, List, [], ◌∷◌, ◌++◌, length, take, replicate, slice_index, slice_set}
+use Rattle.std.specs.Prelude.{ℕ, ◌+◌, ◌-◌, Bool, true, false, List, [], ◌∷◌, ◌++◌, length, take, replicate, slice_index, slice_set}
 use Rattle.multigraph.specs.Graph.{Multigraph, edge_count}
 
 -- for each vertex: whether it was visited, its parent, its depth, the edge to its parent, and how many of its

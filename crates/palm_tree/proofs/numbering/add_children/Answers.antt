@@ -1,4 +1,4 @@
-use Rattle.std.proofs.Common.{◌≡◌, ◌+◌, ◌<◌, ℕ, Bool, true, false, ◌&&◌, cond, List, get_or, length, take, refl, sym, subst, ap, ◌∙◌, arith}
+use Rattle.std.proofs.Common.{◌&&◌, get_or, refl, arith}
 use Rattle.std.specs.Bool.{beq}
 use Rattle.permutations.proofs.Arrangements.{member-at}
 use Rattle.palm_tree.specs.Growing.{is_tree_edge, hangs}

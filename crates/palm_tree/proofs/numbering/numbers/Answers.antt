@@ -1,6 +1,4 @@
-use Rattle.std.proofs.Common.{◌≡◌, ◌+◌, ◌<◌, ◌≤◌, ℕ, List, [], length, take, get_or, replicate, refl, sym, ap, ◌∙◌, subst, arith}
-use Rattle.std.proofs.lemmas.List.{take_all}
-use Rattle.palm_tree.specs.Growing.{AreNumbersSoFar}
+use Rattle.std.proofs.Common.{◌≡◌, ◌<◌, ℕ, List, length, get_or, replicate, ap, ◌∙◌, arith}
 use Rattle.palm_tree.proofs.Orders.{order-length}
 use Rattle.palm_tree.proofs.Numbers.{start-numbers, number-returns, number-can}
 use Rattle.palm_tree.proofs.numbering.numbers.Goals as goal

@@ -1,7 +1,6 @@
-use Rattle.std.proofs.Common.{◌≡◌, ◌+◌, ◌<◌, ◌≤◌, ℕ, List, [], length, take, get_or, replicate, refl, sym, ap, ◌∙◌, subst, arith}
+use Rattle.std.proofs.Common.{ℕ, take, get_or, replicate, refl, ap, ◌∙◌, arith}
 use Rattle.std.proofs.lemmas.List.{take_all}
-use Rattle.palm_tree.specs.Growing.{AreOffsetsSoFar}
-use Rattle.palm_tree.proofs.Offsets.{start-offsets, place-returns, place-can, offsets-over, children-few}
+use Rattle.palm_tree.proofs.Offsets.{start-offsets, place-returns, place-can, offsets-over}
 use Rattle.palm_tree.proofs.numbering.offsets.Goals as goal
 
 pub loop-child-init : goal.loop-child-init

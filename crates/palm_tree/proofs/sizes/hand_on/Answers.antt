@@ -1,4 +1,4 @@
-use Rattle.std.proofs.Common.{◌≡◌, ◌<◌, ℕ, sym, ap, ◌∙◌, arith, get_or}
+use Rattle.std.proofs.Common.{◌<◌, ℕ, ap, arith, get_or}
 use Rattle.palm_tree.proofs.Grown.{order-in}
 use Rattle.palm_tree.proofs.SizesHanded.{root-size, size-returns, size-fits}
 use Rattle.palm_tree.proofs.sizes.hand_on.Goals as goal

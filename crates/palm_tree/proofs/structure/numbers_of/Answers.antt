@@ -1,5 +1,4 @@
-use Rattle.std.proofs.Common.{◌≡◌, ◌+◌, ◌*◌, ◌<◌, ◌≤◌, ℕ, List, length, sym, subst, ap, ◌∙◌, arith}
-use Rattle.multigraph.specs.Graph.{edge_count}
+use Rattle.std.proofs.Common.{ℕ, List, sym, subst, ◌∙◌, arith}
 use Rattle.palm_tree.specs.Growing.{AreChildren, HasRoom}
 use Rattle.palm_tree.proofs.Orders.{short}
 use Rattle.palm_tree.proofs.Sorted.{are-children, edges-few}

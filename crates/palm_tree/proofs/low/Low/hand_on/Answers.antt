@@ -1,4 +1,4 @@
-use Rattle.std.proofs.Common.{◌<◌, sym, ap, ◌∙◌, arith, get_or, ℕ}
+use Rattle.std.proofs.Common.{◌<◌, ap, arith, get_or, ℕ}
 use Rattle.palm_tree.proofs.Grown.{order-in}
 use Rattle.palm_tree.proofs.HandedOn.{hand-can, hand-can-second, hand-returns}
 use Rattle.palm_tree.proofs.Lows.{root-passed}

@@ -1,4 +1,4 @@
-use Rattle.std.proofs.Common.{◌≡◌, ◌+◌, ◌-◌, ◌<◌, ℕ, List, length, drop, sym, ap, ◌∙◌, subst, arith}
+use Rattle.std.proofs.Common.{◌≡◌, ◌+◌, ◌-◌, ℕ, length, drop, ap, subst, arith}
 use Rattle.multigraph.specs.Graph.{edge_count}
 use Rattle.palm_tree.specs.Growing.{AreLowSoFar}
 use Rattle.palm_tree.proofs.low.Low.hand_up.Goals as goal

@@ -1,4 +1,4 @@
-use Rattle.std.proofs.Common.{sym, ◌∙◌, arith}
+use Rattle.std.proofs.Common.{sym, ◌∙◌}
 use Rattle.palm_tree.proofs.HandedOn.{edge-can, edge-returns}
 use Rattle.palm_tree.proofs.Lows.{edge-passed}
 use Rattle.palm_tree.proofs.low.Low.take_edge.Goals as goal

@@ -1,4 +1,4 @@
-use Rattle.std.proofs.Common.{◌≡◌, ◌==◌, ℕ, get_or, ap, ◌∙◌, arith}
+use Rattle.std.proofs.Common.{◌==◌, ℕ, get_or, ap, ◌∙◌, arith}
 use Rattle.palm_tree.proofs.Grown.{lower-in}
 use Rattle.palm_tree.proofs.search.Search.is_tree_edge.Goals as goal
 

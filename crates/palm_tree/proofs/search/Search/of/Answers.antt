@@ -1,8 +1,7 @@
-use Rattle.std.proofs.Common.{◌≡◌, ◌<◌, ◌≤◌, ◌+◌, ◌*◌, [], ℕ, length, List, true, refl, sym, subst, arith, ap, ◌∙◌}
-use Rattle.multigraph.specs.Graph.{edge_count}
+use Rattle.std.proofs.Common.{◌≡◌, ◌<◌, true, sym, subst, arith, ap, ◌∙◌}
 use Rattle.palm_tree.specs.State.{SearchState, fresh, root_noted}
-use Rattle.palm_tree.specs.Searching.{flag, IsSearching, IsOver, turns_left}
-use Rattle.palm_tree.proofs.Start.{start-searching, start-turns, start-flag, explored-over, none-over}
+use Rattle.palm_tree.specs.Searching.{flag, IsSearching, turns_left}
+use Rattle.palm_tree.proofs.Start.{start-searching, start-turns, start-flag, explored-over}
 use Rattle.palm_tree.proofs.search.Search.of.Goals as goal
 
 pub explore-requires-clause-searching : goal.explore-requires-clause-searching

@@ -1,5 +1,4 @@
 use Rattle.std.proofs.Common.{◌≡◌, ℕ, true, sym, subst}
-use Rattle.std.specs.Bool.{IsTrue}
 use Rattle.multigraph.specs.Graph.{is_end}
 use Rattle.palm_tree.proofs.Grown.{lower-end}
 use Rattle.palm_tree.proofs.search.Search.upper_end.Goals as goal

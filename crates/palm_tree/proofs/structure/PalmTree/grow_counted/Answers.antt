@@ -1,6 +1,5 @@
-use Rattle.std.proofs.Common.{◌≡◌, ◌+◌, ◌*◌, ◌<◌, ◌≤◌, ℕ, List, length, get_or, true, refl, sym, subst, ap, ◌∙◌, arith}
+use Rattle.std.proofs.Common.{◌<◌, ℕ, List, length, get_or, refl, sym, subst, ap, arith}
 use Rattle.multigraph.specs.Graph.{edge_count}
-use Rattle.permutations.specs.Members.{is_member}
 use Rattle.palm_tree.specs.Growing.{sort_key, Tells, AreEdges, AreListsOf, AreNumbered}
 use Rattle.palm_tree.proofs.Lows.{first-in, second-in}
 use Rattle.palm_tree.proofs.Sorted.{sorted-edges, edges-few}
