@@ -21,3 +21,6 @@ mod structure;
 
 pub use steps::Steps;
 pub use structure::PalmTree;
+
+#[cfg(test)]
+mod tests;

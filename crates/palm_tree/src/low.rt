@@ -141,7 +141,7 @@ impl Low {
         ensures cost { steps.new ≡ steps.old + edge_count graph.now }
     {
         for edge in 0..graph.edge_count() {
-            steps.tick();
+            steps.tick(); // one turn for each edge
             self.take_edge(graph, search, edge);
         }
     }
