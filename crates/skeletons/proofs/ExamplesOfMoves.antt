@@ -1,11 +1,15 @@
--- A whole flip and a whole permute, on two complete graphs on four vertices that share an edge.
-use Rattle.std.proofs.Common.{ℕ, zero, suc, [], ◌∷◌, refl, arith}
+-- A whole flip and a whole permute, what they lead to, and possible choices, on two complete graphs on four vertices that share an edge.
+use Rattle.std.proofs.lemmas.List.Elements.{All-nil, All-cons}
+use Rattle.std.proofs.Common.{◌≡◌, ◌<◌, ◌==◌, false, ℕ, zero, suc, [], ◌∷◌, refl, arith}
 use Rattle.std.proofs.lemmas.Bool.{true≢false}
 use Rattle.rotations.specs.Rotation.{order_at}
 use Rattle.pair_split.specs.Tutte.{group}
-use Rattle.skeletons.specs.Moves.{AreReversed, OthersStay, FlipLeads, PermuteLeads}
+use Rattle.skeletons.specs.Choices.{choice, Precedes}
+use Rattle.skeletons.specs.Families.{keys_in, StandInOrder, IsPossible}
+use Rattle.skeletons.specs.Lists.{IsReached}
+use Rattle.skeletons.specs.Moves.{flip, moved_node, AreReversed, OthersStay, FlipLeads, PermuteLeads, Lead}
 use Rattle.skeletons.proofs.Computing.{groups-computed, system-computed, of-four}
-use Rattle.skeletons.proofs.Rows.{sharing, sharing_tree, sharing_first, sharing_flipped, sharing_permuted}
+use Rattle.skeletons.proofs.Rows.{complete, complete_first, sharing, sharing_tree, sharing_first, sharing_flipped, sharing_permuted}
 
 -- the groups of the second node at v are reversed
 abbrev Q : ℕ → Type 0
@@ -78,3 +82,33 @@ permuted = record {
     stays zero h = absurd (true≢false h)
     stays (suc zero) h = absurd (true≢false h)
     stays (suc (suc v)) h = refl
+
+-- the flip as a list of moves that leads, and what is reached with the bond locked
+led : Lead sharing sharing_tree (λ s. Unit {0}) (flip 1 ∷ []) sharing_first sharing_flipped
+led = (sharing_flipped, ((omega arith, refl), flipped), tt, refl)
+
+reached : IsReached sharing sharing_tree (λ k. k == 0) sharing_first sharing_flipped
+reached = record { moves = flip 1 ∷ []; unlocked = All-cons (λ move. (moved_node move == 0) ≡ false) (flip 1) [] refl (All-nil (λ move. (moved_node move == 0) ≡ false)); lead = led }
+
+-- by the second node the flipped one comes later
+before : Precedes sharing_tree sharing_first sharing_flipped
+before = record { node = 1; is_node = omega arith; same = same; smaller = refl }
+  where
+    same : (j : ℕ) → j < 1 → choice sharing_tree sharing_first j ≡ choice sharing_tree sharing_flipped j
+    same zero l = refl
+    same (suc j) l = absurd (omega (arith, l))
+
+-- a possible choice of the bond, and one of a triconnected node
+bond-possible : IsPossible sharing_tree 0 (0 ∷ 6 ∷ 1 ∷ [])
+bond-possible = record { arranged = record { moves = (1, 2) ∷ []; below = (omega arith, omega arith, tt); is = refl }; least_first = refl }
+
+rigid-possible : IsPossible sharing_tree 2 (0 ∷ 6 ∷ 7 ∷ [])
+rigid-possible = record { system = complete_first; plane = record { system = system-computed complete complete_first refl refl; plane = refl }; order = refl }
+
+-- the second node's groups round vertex 1, in the order of a family
+in-order : StandInOrder (group sharing_tree 1) (order_at sharing_first 1) (keys_in sharing_tree ([] ∷ complete_first ∷ [] ∷ []) 1 1)
+in-order = record {
+  groups = (0, 0 ∷ 9 ∷ 8 ∷ []) ∷ (4, 4 ∷ []) ∷ (3, 3 ∷ []) ∷ [];
+  runs = record { once = refl; groups = groups-computed (group sharing_tree 1) ((0, 0 ∷ 9 ∷ 8 ∷ []) ∷ (4, 4 ∷ []) ∷ (3, 3 ∷ []) ∷ []) refl; around = record { front = []; back = 0 ∷ 9 ∷ 8 ∷ 4 ∷ 3 ∷ []; before = refl; after = refl } };
+  order = record { front = []; back = 0 ∷ 4 ∷ 3 ∷ []; before = refl; after = refl };
+}

@@ -59,19 +59,32 @@ module _ (g : Multigraph) (nodes : List Node) (t : IsTutte g nodes) where
       ]
         where
           apart : (z : ℕ) → is_member z (x ∷ l) ≡ true → successor (x ∷ l) z ≢ successor m z → ⊥
-          apart z i n =
-              let j : is_member z m ≡ true = sym (same z) ∙ i in
-              let p : ℕ = successor (x ∷ l) z in
-              let q : ℕ = successor m z in
-              let pl : is_member p (x ∷ l) ≡ true = successor-member (x ∷ l) z i in
-              let qm : is_member q m ≡ true = successor-member m z j in
-              let ql : is_member q (x ∷ l) ≡ true = same q ∙ qm in
-              let pm : is_member p m ≡ true = sym (same p) ∙ pl in
-              let zp : z ≢ p = λ e. n (sym e ∙ sym (alone (x ∷ l) z q dl i (sym e) ql)) in
-              let zq : z ≢ q = λ e. n (alone m z p dm j (sym e) pm ∙ e) in
-              let w : TellsApart g nodes t v z p q = tells-apart g nodes t v z p q (edges z i).0 (edges p pl).0 (edges q ql).0 (edges z i).1 (edges p pl).1 (edges q ql).1 n zp zq in
-              w.bc (order-successor (group nodes w.node) (x ∷ l) (keys w.node) z dl (a w.node w.has) i (λ e. w.ab (sym e))
-              ∙ sym (order-successor (group nodes w.node) m (keys w.node) z dm (b w.node w.has) j (λ e. w.ac (sym e))))
+          apart z i n = two (successor (x ∷ l) z) (successor m z) refl refl n
+            where
+              j : is_member z m ≡ true
+              j = sym (same z) ∙ i
+
+              two : (p q : ℕ) → successor (x ∷ l) z ≡ p → successor m z ≡ q → p ≢ q → ⊥
+              two p q ep eq d = told (tells-apart g nodes t v z p q (edges z i).0 (edges p pl).0 (edges q ql).0 (edges z i).1 (edges p pl).1 (edges q ql).1 d
+                  (λ e. d (sym e ∙ sym (alone (x ∷ l) z q dl i (ep ∙ sym e) ql))) (λ e. d (alone m z p dm j (eq ∙ sym e) (sym (same p) ∙ pl) ∙ e)))
+                where
+                  pl : is_member p (x ∷ l) ≡ true
+                  pl = subst (λ y. is_member y (x ∷ l) ≡ true) ep (successor-member (x ∷ l) z i)
+
+                  ql : is_member q (x ∷ l) ≡ true
+                  ql = same q ∙ subst (λ y. is_member y m ≡ true) eq (successor-member m z j)
+
+                  told : TellsApart g nodes t v z p q → ⊥
+                  told w = w.bc (first ∙ sym second)
+                    where
+                      key : ℕ → ℕ
+                      key = group nodes w.node
+
+                      first : key p ≡ successor (keys w.node) (key z)
+                      first = subst (λ y. key y ≡ successor (keys w.node) (key z)) ep (order-successor key (x ∷ l) (keys w.node) z dl (a w.node w.has) i (λ e. w.ab (sym e ∙ ap key ep)))
+
+                      second : key q ≡ successor (keys w.node) (key z)
+                      second = subst (λ y. key y ≡ successor (keys w.node) (key z)) eq (order-successor key m (keys w.node) z dm (b w.node w.has) j (λ e. w.ac (sym e ∙ ap key eq)))
 
   -- rotation systems with the same orders of groups are equal
   pub one-system : (r q : List (List ℕ)) (keys : ℕ → ℕ → List ℕ) → IsRotationSystem g r → IsRotationSystem g q
