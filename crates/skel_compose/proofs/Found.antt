@@ -1,0 +1,198 @@
+-- Places found by binary search, and the homes of edges.
+use Rattle.std.proofs.Common.{◌≡◌, ◌≢◌, ℕ, ◌+◌, ◌<◌, ◌≤◌, inl, inr, true, List, [], length, get_or, slice_index, slice_set, map, None, Ok, Err, refl, sym, ap, ap₂, ◌∙◌, subst, arith}
+use Rattle.std.specs.List.Sorted.{IsBinarySearchResult}
+use Rattle.std.specs.Ordering.{nat_cmp}
+use Rattle.std.proofs.lemmas.Bool.{cases_eq, cases_lt}
+use Rattle.std.proofs.lemmas.List.Sorted.{searched}
+use Rattle.std.proofs.lemmas.List.{get_or_default, get_or-set_same, get_or-set_other, length-set}
+use Rattle.permutations.specs.Members.{is_member}
+use Rattle.multigraph.specs.Part.{Rises, IsPlace}
+use Rattle.multigraph.proofs.Places.{rises-once, place-missed}
+use Rattle.multigraph.specs.Graph.{Multigraph, edge_count, max_edges, IsGraph}
+use Rattle.rotations.specs.Rotation.{order_at}
+use Rattle.faces.proofs.MapLists.{successor-map}
+use Rattle.pair_split.proofs.Links.{stands-in}
+use Rattle.permutations.specs.Cyclic.{successor}
+use Rattle.permutations.proofs.Successor.{successor-member}
+use Rattle.skeletons.proofs.Places.{place-below, place-holds}
+use Rattle.multigraph.specs.Build.{IsFirstFault}
+use Rattle.multigraph.specs.declared.faults.BuildFault.{BuildFault}
+use Rattle.multigraph.specs.declared.faults.BuildFault.TheVariants.{TooManyVertices, TooManyEdges, EndOut, Loop, Memory}
+use Rattle.pair_split.specs.Tutte.{Node, components, node_at, node_item, IsTutte}
+use Rattle.pair_split.specs.declared.components.Item.{Item}
+use Rattle.pair_split.specs.declared.components.What.TheVariants.{Real}
+use Rattle.skeletons.specs.Items.{item_key, ends_item, has_vertex, IsBlockTree}
+use Rattle.skeletons.specs.Families.{place_of, skeleton_graph, system_at, AreSkeletonSystems, keys_in}
+use Rattle.skeletons.proofs.NodeItems.{nth_item, node-in, stands-of, item-of, keys-once, item-vertex}
+use Rattle.skeletons.proofs.Places.{round-item, item-round}
+use Rattle.skeleton_runs.proofs.NodeFits.{item-first, item-second}
+use Rattle.skeleton_runs.proofs.SkeletonGraph.{skeleton-graph, graph-edges}
+use Rattle.skel_compose.specs.Homes.{home_at, IsHome, HasHomes}
+use Rattle.skel_compose.proofs.Back.{items-rise}
+
+-- what stands at a place of a rising list has it
+pub place-found : (l : List ℕ) (x i : ℕ) → Rises l → is_member x l ≡ true → i < length l → get_or l i 0 ≡ x → i ≡ place_of l x
+place-found l x i r m h e = rises-once l r i (place_of l x) h (place-below l x m) (e ∙ sym (place-holds l x m))
+
+-- along a rising list no number falls
+rises-weak : (l : List ℕ) → Rises l → (i j : ℕ) → i ≤ j → j < length l → get_or l i 0 ≤ get_or l j 0
+rises-weak l r i j le lt = elim (cases_eq i j) [
+  | inl e ↦ omega (arith, ap (λ (k : ℕ). get_or l k 0) e)
+  | inr n ↦ omega (arith, r i j (omega (arith, le, n)) lt)
+]
+
+-- a search that ends at the number
+pub place-there : (l : List ℕ) (x i : ℕ) → Rises l → is_member x l ≡ true → IsBinarySearchResult (λ y. nat_cmp y x) l (Ok i) → i ≡ place_of l x
+place-there l x i r m h = let s = searched l x (Ok i) h (rises-weak l r) in place-found l x i r m s.0 s.1
+
+-- a member is found
+pub place-not_missed : (l : List ℕ) (x i : ℕ) → Rises l → is_member x l ≡ true → IsBinarySearchResult (λ y. nat_cmp y x) l (Err i) → ⊥
+place-not_missed l x i r m h =
+    let p : IsPlace l x None = place-missed l x i r h in
+    p.none.0 refl (place_of l x) (place-below l x m) (place-holds l x m)
+
+-- the narrowing of a search by key, to the left and to the right
+module _ (items : List Item) (key low high mid : ℕ) (r : Rises (map item_key items)) (fits : high ≤ length items) (between : (i : ℕ) → i < length items → (nth_item items i).key ≡ key → (low ≤ i) × (i < high)) where
+  pub narrowed-left : low < mid → mid < high → key < (nth_item items mid).key → (low < mid) × (mid ≤ length items) × ((i : ℕ) → i < length items → (nth_item items i).key ≡ key → (low ≤ i) × (i < mid))
+  narrowed-left l m k = (
+    l,
+    omega (arith, m, fits),
+    λ i n e. (
+      (between i n e).0,
+      elim (cases_lt i mid) [
+        | inl a ↦ a
+        | inr a ↦ elim (cases_eq i mid) [
+          | inl q ↦ absurd (omega (arith, k, e, ap (λ z. (nth_item items z).key) q))
+          | inr q ↦ absurd (omega (arith, k, e, items-rise items r mid i (omega (arith, a, q)) n))
+        ]
+      ],
+    ),
+  )
+
+  pub narrowed-right : low < mid → mid < high → (nth_item items mid).key ≤ key → (mid < high) × (high ≤ length items) × ((i : ℕ) → i < length items → (nth_item items i).key ≡ key → (mid ≤ i) × (i < high))
+  narrowed-right l m k = (
+    m,
+    fits,
+    λ i n e. (
+      elim (cases_lt i mid) [
+        | inr a ↦ a
+        | inl a ↦ absurd (omega (arith, k, e, items-rise items r i mid a (omega (arith, m, fits))))
+      ],
+      (between i n e).1,
+    ),
+  )
+
+-- a graph is built without fault
+pub no-fault : (g : Multigraph) → IsGraph g → (f : BuildFault) → IsFirstFault g f → f ≢ Memory → ⊥
+no-fault g ok (TooManyVertices n) h m = omega (arith, h.0, h.1, ok.few_vertices)
+no-fault g ok (TooManyEdges n) h m = omega (arith, h.0, h.1, ok.few_edges)
+no-fault g ok (EndOut e) h m = elim h.1 [
+  | inl l ↦ omega (arith, l, ok.first_in e h.0.is_edge)
+  | inr l ↦ omega (arith, l, ok.second_in e h.0.is_edge)
+]
+no-fault g ok (Loop e) h m = ok.no_loop e h.0.is_edge h.1.1
+no-fault g ok Memory h m = m refl
+
+-- an item as it is read from its list
+pub is-home : (nodes : List Node) (k i e : ℕ) (items : List Item) → items ≡ (node_at nodes k).items → i < length items → (nth_item items i).what ≡ Real e → IsHome nodes k i e
+is-home nodes k i e items q l w = record { is_item = subst (λ (z : List Item). i < length z) q l; is_edge = sym (ap (λ (z : List Item). (nth_item z i).what) q) ∙ w }
+
+module _ (g : Multigraph) (nodes : List Node) (b : IsBlockTree g nodes) (k : ℕ) (d : k < length nodes) where
+  -- the items and the vertices of a node are few
+  pub items-few : length (node_at nodes k).items ≤ max_edges
+  items-few = subst (λ n. n ≤ max_edges) (graph-edges g nodes b k d) (skeleton-graph g nodes b k d).few_edges
+
+  pub vertices-few : length (node_at nodes k).vertices ≤ 20000
+  vertices-few = (skeleton-graph g nodes b k d).few_vertices
+
+  -- the ends of an item are among the vertices
+  pub ends-held : (items : List Item) (vertices : List ℕ) (i : ℕ) → items ≡ (node_at nodes k).items → vertices ≡ (node_at nodes k).vertices → i < length items
+      → (is_member (nth_item items i).a vertices ≡ true) × (is_member (nth_item items i).b vertices ≡ true)
+  ends-held items vertices i e q l =
+      let m : i < length (node_at nodes k).items = subst (λ (z : List Item). i < length z) e l in (
+        ap₂ (λ (z : List Item) (u : List ℕ). is_member (nth_item z i).a u) e q ∙ item-first g nodes b.tree k i d m,
+        ap₂ (λ (z : List Item) (u : List ℕ). is_member (nth_item z i).b u) e q ∙ item-second g nodes b.tree k i d m,
+      )
+
+  module _ (family : List (List (List ℕ))) (f : AreSkeletonSystems nodes family) (v i : ℕ) (l : i < length (node_at nodes k).items) (end : ends_item v (node_item nodes k i) ≡ true) where
+    abbrev order : List ℕ
+    order = order_at (system_at family k) (place_of (node_at nodes k).vertices v)
+
+    has : has_vertex nodes k v ≡ true
+    has = item-vertex g nodes b.tree k v i d l end
+
+    -- the order of the member at the place that was found
+    pub order-is : (member : List (List ℕ)) (vertices : List ℕ) (p : ℕ) → member ≡ get_or family k member → vertices ≡ (node_at nodes k).vertices → p ≡ place_of vertices v
+        → order_at member p ≡ order_at (system_at family k) (place_of (node_at nodes k).vertices v)
+    order-is member vertices p e q h = ap₂ order_at (e ∙ get_or_default family k member [] (subst (λ n. k < n) (sym f.each) d)) (h ∙ ap (λ (z : List ℕ). place_of z v) q)
+
+    -- has the item
+    pub order-has : is_member i (order_at (system_at family k) (place_of (node_at nodes k).vertices v)) ≡ true
+    order-has = item-round g nodes b.tree k d (system_at family k) v i (f.systems k d) has l end
+
+    -- and what follows it
+    pub behind-is : (x : ℕ) → x ≡ successor (order_at (system_at family k) (place_of (node_at nodes k).vertices v)) i
+        → (x < length (node_at nodes k).items) × (ends_item v (node_item nodes k x) ≡ true) × ((node_item nodes k x).key ≡ successor (keys_in nodes family k v) (node_item nodes k i).key)
+    behind-is x e = (
+      subst (λ z. z < length (node_at nodes k).items) (sym e) there.0,
+      subst (λ z. ends_item v (node_item nodes k z) ≡ true) (sym e) there.1,
+      ap (λ z. (node_item nodes k z).key) e ∙ sym (successor-map (λ z. (node_item nodes k z).key) order i (λ z m q.
+          keys-once g nodes b.tree k z i (round-item g nodes b.tree k d (system_at family k) v z (f.systems k d) has m).0 l q)),
+    )
+      where
+        there : (successor order i < length (node_at nodes k).items) × (ends_item v (node_item nodes k (successor order i)) ≡ true)
+        there = round-item g nodes b.tree k d (system_at family k) v (successor order i) (f.systems k d) has (successor-member order i order-has)
+
+module _ (g : Multigraph) (nodes : List Node) (t : IsTutte g nodes) where
+  -- the edge of an item is one of the block
+  home-edge : (k i e : ℕ) → IsHome nodes k i e → e < edge_count g
+  home-edge k i e h = (t.split.covers.edges e k i (stands-of g nodes t k i (Real e) h.is_item h.is_edge)).0
+
+  -- so it has a place in the list
+  pub home-below : (k i e n : ℕ) → n ≡ edge_count g → IsHome nodes k i e → e < n
+  home-below k i e n q h = subst (λ z. e < z) (sym q) (home-edge k i e h)
+
+  -- one item is an edge
+  home-once : (k i j h e : ℕ) → IsHome nodes k i e → IsHome nodes j h e → (k ≡ j) × (i ≡ h)
+  home-once k i j h e a b = t.split.covers.once e k i j h (stands-of g nodes t k i (Real e) a.is_item a.is_edge) (stands-of g nodes t j h (Real e) b.is_item b.is_edge)
+
+  -- one home more
+  pub homes-more : (k n x : ℕ) (homes : List (ℕ × ℕ)) → HasHomes g nodes k n homes → IsHome nodes k n x → HasHomes g nodes k (n + 1) (slice_set homes x (k, n))
+  homes-more k n x homes h w = record {
+    each = length-set homes x (k, n) ∙ h.each;
+    before = λ j i e l y. elim (cases_eq e x) [
+      | inl q ↦ absurd (omega (arith, l, (home-once j i k n e y (subst (λ z. IsHome nodes k n z) (sym q) w)).0))
+      | inr q ↦ get_or-set_other homes x e (k, n) (0, 0) q ∙ h.before j i e l y
+    ];
+    here = λ i e l y. elim (cases_eq e x) [
+      | inl q ↦ ap (λ z. home_at (slice_set homes x (k, n)) z) q ∙ get_or-set_same homes x (k, n) (0, 0) (home-below k n x (length homes) h.each w)
+          ∙ ap (λ z. (k, z)) (sym (home-once k i k n e y (subst (λ z. IsHome nodes k n z) (sym q) w)).1)
+      | inr q ↦ elim (cases_lt i n) [
+        | inl a ↦ get_or-set_other homes x e (k, n) (0, 0) q ∙ h.here i e a y
+        | inr a ↦ let s : i ≡ n = omega (arith, l, a) in absurd (q (real-same e x (sym (ap (λ z. (node_item nodes k z).what) s ∙ w.is_edge) ∙ y.is_edge)))
+      ]
+    ];
+  }
+    where
+      real-same : (e x : ℕ) → Real x ≡ Real e → e ≡ x
+      real-same e x q = grind (arith, q)
+
+  -- an item that is no edge
+  pub homes-pass : (k n : ℕ) (homes : List (ℕ × ℕ)) → HasHomes g nodes k n homes → ((e : ℕ) → (node_item nodes k n).what ≡ Real e → ⊥) → HasHomes g nodes k (n + 1) homes
+  homes-pass k n homes h none = record {
+    each = h.each;
+    before = h.before;
+    here = λ i e l y. elim (cases_lt i n) [
+      | inl a ↦ h.here i e a y
+      | inr a ↦ let s : i ≡ n = omega (arith, l, a) in absurd (none e (ap (λ z. (node_item nodes k z).what) (sym s) ∙ y.is_edge))
+    ];
+  }
+
+  -- the home of an edge
+  pub home-is : (homes : List (ℕ × ℕ)) (e : ℕ) → HasHomes g nodes (length nodes) 0 homes → e < edge_count g → (k i : ℕ) × (k < length nodes) × IsHome nodes k i e × (home_at homes e ≡ (k, i))
+  home-is homes e h l =
+      let w = t.split.covers.present e l in
+      let m = item-of g nodes t w.0 w.1 (Real e) w.2 in
+      let d : w.0 < length nodes = node-in g nodes t w.0 (stands-in (components nodes) w.0 w.1 (Real e) w.2) in
+      let y : IsHome nodes w.0 w.1 e = record { is_item = m.0; is_edge = m.1 } in
+      (w.0, w.1, d, y, h.before w.0 w.1 e d y)

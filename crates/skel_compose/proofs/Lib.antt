@@ -1,0 +1,5 @@
+-- Lemmas on composing rotation systems of the skeletons.
+pub mod Back
+pub mod Walk
+pub mod Rounds
+mod Found
