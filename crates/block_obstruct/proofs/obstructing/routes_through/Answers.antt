@@ -39,3 +39,11 @@ loop-i-preserved c =
     (route-right c.args.g.now nodes c.requires.block c.args.k c.requires.node c.requires.groups.0 c.args.groups.now c.requires.groups.1 c.requires.groups.2 i l c.in_ok-route.route
     (subst (λ (z : List Item). IsPath c.args.g.now (item_in z c.loop-i.i).a c.in_ok-route.route (item_in z c.loop-i.i).b) c.items-items.ensures c.in_ok-route.ensures.path)
     (λ e m. subst (λ (z : List ℕ). is_member e z ≡ true) c.as_slice.ensures (c.in_ok-route.ensures.among e m))))
+
+pub bounds-groups-i : goal.bounds-groups-i
+bounds-groups-i c = omega (arith, c.requires.groups.2.each, c.loop-i-test.true, ap (λ (z : List Item). length z) c.items-items.ensures)
+
+pub returns : goal.returns
+returns c =
+    let all : c.loop-i.i ≡ length (node_at c.args.tree.now c.args.k).items = omega (arith, c.loop-i-test.false, c.loop-i.auto.i-end, ap (λ (z : List Item). length z) c.items-items.ensures) in
+    subst (λ (z : ℕ). AreItemRoutes c.args.g.now c.args.tree.now c.args.k z c.loop-i.routes.items) all c.loop-i.invariant
