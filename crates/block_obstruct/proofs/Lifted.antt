@@ -363,8 +363,8 @@ module _ (inner outer : Multigraph) (vertex : List ℕ) (routes : List (List ℕ
         (λ i l. subst (λ (w : ℕ). w < outer.vertex_count) (sym (branch-at i l)) (r.vertex_in (branch_at branch i) (s.branch_in i l)))
         (length-map (numbers_below count) (lifted_path inner routes kind branch paths) ∙ length-numbers_below count)
         (λ k l. subst (λ (w : ℕ). IsPath outer w (path_at paths' k) (branch_at branch' (pair_at kind k).1)) (sym (branch-at (pair_at kind k).0 (first_in k l)))
-            (subst (λ (w : ℕ). IsPath outer (at (begins k)) (path_at paths' k) w) (sym (branch-at (pair_at kind k).1 (second_in k l)))
-            (subst (λ (es : List ℕ). IsPath outer (at (begins k)) es (at (ends k))) (sym (path-at k l)) (lifted-path (begins k) (path_at paths k) (ends k) (begin_in k l) (s.are_paths k l)))))
+        (subst (λ (w : ℕ). IsPath outer (at (begins k)) (path_at paths' k) w) (sym (branch-at (pair_at kind k).1 (second_in k l)))
+        (subst (λ (es : List ℕ). IsPath outer (at (begins k)) es (at (ends k))) (sym (path-at k l)) (lifted-path (begins k) (path_at paths k) (ends k) (begin_in k l) (s.are_paths k l)))))
         (record {
           branches = distinct-map at branch (λ x y m n q. at-once x y (branch-in x m) (branch-in y n) q) old.branches;
           ends = lifted-ends;

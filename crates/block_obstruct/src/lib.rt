@@ -31,3 +31,6 @@ mod towards;
 pub use lifting::lift;
 pub use node_graph::skeleton;
 pub use obstructing::obstruct_block;
+
+#[cfg(test)]
+mod tests;

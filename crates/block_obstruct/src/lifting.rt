@@ -76,11 +76,7 @@ fn lift_paths(
 }
 
 // The branch vertices of a subdivision, carried over.
-fn lift_branches(
-    alloc: Global,
-    vertex: &[u32],
-    branch: &[u32],
-) -> Result<Vec<u32>, AllocError>
+fn lift_branches(alloc: Global, vertex: &[u32], branch: &[u32]) -> Result<Vec<u32>, AllocError>
     requires { (i : ℕ) → i < length branch.now → branch_at branch.now i < length vertex.now }
     ensures { IfOk result (λ lifted. lifted.items ≡ lifted_branches vertex.now branch.now) }
 {

@@ -40,12 +40,7 @@ fn routes_through(
 }
 
 // For each item of node k a path of the block from the one end of the item to the other, through the group of the item.
-fn item_routes(
-    alloc: Global,
-    g: &Graph,
-    tree: &Tree,
-    k: u32,
-) -> Result<Vec<Numbers>, AllocError>
+fn item_routes(alloc: Global, g: &Graph, tree: &Tree, k: u32) -> Result<Vec<Numbers>, AllocError>
     requires node { k < length tree.now }
     requires block { IsBlockTree g.now tree.now }
     ensures { IfOk result (λ routes. AreItemRoutes g.now tree.now k (length (node_at tree.now k).items) routes.items) }

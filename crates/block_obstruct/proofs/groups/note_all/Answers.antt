@@ -15,8 +15,10 @@ note_own-requires-clause-within c = λ e h. edge-below c.requires.tree.0 c.args.
     (subst (λ (z : List Item). HaveItem z (Real e)) c.items-items.ensures h)
 
 pub note_far-requires : goal.note_far-requires
-note_far-requires c = λ e h. edge-below c.requires.tree.0 c.args.tree.now c.requires.tree.1 c.args.k c.loop-x.x (length c.loop-x.notes) (c.loop-x.invariant.size ∙ sym c.requires.tree.2) e
-    (subst (λ (z : List Item). HaveItem z (Real e)) c.items-items.ensures h)
+note_far-requires c = record {
+  within = λ e h. edge-below c.requires.tree.0 c.args.tree.now c.requires.tree.1 c.args.k c.loop-x.x (length c.loop-x.notes) (c.loop-x.invariant.size ∙ sym c.requires.tree.2) e
+      (subst (λ (z : List Item). HaveItem z (Real e)) c.items-items.ensures h);
+}
 
 pub loop-x-preserved : goal.loop-x-preserved
 loop-x-preserved c = elim c.if-x-k.branch [
@@ -35,7 +37,7 @@ loop-x-preserved c = elim c.if-x-k.branch [
   | else-x-k w ↦
       let nodes = c.args.tree.now in
       let new = w.note_far.new.notes in
-      let x_in : c.loop-x.x < length c.args.tree.now = omega (arith, c.loop-x-test.true, c.node_count-end.ensures) in
+      let x_in : c.loop-x.x < length c.args.tree.now = omega (arith, c.loop-x-test.true, c.node_count-x-end.ensures) in
       rw w.notes-is (record {
         size = w.note_far.ensures.size ∙ c.loop-x.invariant.size;
         noted = noted-next c.requires.tree.0 nodes c.requires.tree.1 c.args.k c.loop-x.x c.loop-x.notes new c.loop-x.invariant.noted
@@ -47,5 +49,5 @@ loop-x-preserved c = elim c.if-x-k.branch [
 
 pub returns : goal.returns
 returns c =
-    let all : c.loop-x.x ≡ length c.args.tree.now = omega (arith, c.loop-x-test.false, c.loop-x.auto.x-end, c.node_count-end.ensures) in
-    subst (λ (z : ℕ). AreNoted c.args.tree.now c.args.k z c.loop-x.notes) all c.loop-x.invariant.noted
+    let all : c.loop-x.x ≡ length c.args.tree.now = omega (arith, c.loop-x-test.false, c.loop-x.auto.x-end, c.node_count-x-end.ensures) in
+    record { noted = subst (λ (z : ℕ). AreNoted c.args.tree.now c.args.k z c.loop-x.notes) all c.loop-x.invariant.noted }

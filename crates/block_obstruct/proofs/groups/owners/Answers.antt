@@ -16,4 +16,4 @@ note_all-requires-clause-towards c = subst (λ (z : List ℕ). (x : ℕ) → x <
 pub returns-clause-owners : goal.returns-clause-owners
 returns-clause-owners c = subst (λ (z : List ℕ). AreOwners c.args.g.now c.args.tree.now c.args.k z)
     (sym (take_at c.note_all.new.notes (drop (length c.note_all.new.notes) c.in_ok-notes.notes.items) c.in_ok-notes.notes.len (c.note_all.auto.notes ∙ c.deref_mut.ensures.len)))
-    (noted-all c.args.g.now c.args.tree.now c.requires.tree c.args.k (length c.args.tree.now) c.note_all.new.notes refl c.note_all.ensures)
+    (noted-all c.args.g.now c.args.tree.now c.requires.tree c.args.k (length c.args.tree.now) c.note_all.new.notes refl c.note_all.ensures.noted)

@@ -10,7 +10,7 @@ pub loop-q-init : goal.loop-q-init
 loop-q-init c = record {
   listed = c.in_ok-add.ensures.listed;
   size = c.in_ok-add.ensures.size ∙ c.requires.size;
-  search = search-begin c.args.g.now c.vertex_count-end.ensures.graph c.args.root c.add.new.notes c.add.new.list.items c.args.notes.now
+  search = search-begin c.args.g.now c.vertex_count-q-end.ensures.graph c.args.root c.add.new.notes c.add.new.list.items c.args.notes.now
       (subst (λ (z : List ℕ). Grows (λ y m. (y ≡ c.args.root) × (m ≡ 0)) z c.args.notes.now c.add.new.list.items c.add.new.notes) c.requires.empty c.in_ok-add.ensures.grows)
       c.in_ok-add.ensures.held c.in_ok-add.ensures.listed.once;
 }
@@ -28,7 +28,7 @@ loop-q-preserved c = elim c.if-q-len.branch [
       rw (w.marks-is, w.notes-is, w.list-is) (record {
         listed = w.in_ok-visit.ensures.listed;
         size = w.in_ok-visit.ensures.size ∙ c.loop-q.invariant.size;
-        search = search-next c.args.g.now c.vertex_count-end.ensures.graph c.args.root c.loop-q.notes c.loop-q.list.items w.visit.new.notes w.visit.new.list.items c.loop-q.q x
+        search = search-next c.args.g.now c.vertex_count-q-end.ensures.graph c.args.root c.loop-q.notes c.loop-q.list.items w.visit.new.notes w.visit.new.list.items c.loop-q.q x
             b (read-at c.loop-q.list.items c.loop-q.q x b w.index-x.ensures) c.loop-q.invariant.search w.in_ok-visit.ensures.listed.once w.in_ok-visit.ensures.grows w.in_ok-visit.ensures.met;
       })
   | else-q-len w ↦
@@ -36,11 +36,11 @@ loop-q-preserved c = elim c.if-q-len.branch [
       rw (w.marks-is, w.notes-is, w.list-is) (record {
         listed = c.loop-q.invariant.listed;
         size = c.loop-q.invariant.size;
-        search = search-past c.args.g.now c.vertex_count-end.ensures.graph c.args.root c.loop-q.notes c.loop-q.list.items c.loop-q.q b c.loop-q.invariant.search;
+        search = search-past c.args.g.now c.vertex_count-q-end.ensures.graph c.args.root c.loop-q.notes c.loop-q.list.items c.loop-q.q b c.loop-q.invariant.search;
       })
 ]
 
 pub returns : goal.returns
 returns c =
-    let few : length c.loop-q.list.items ≤ c.loop-q.q = omega (arith, listed-few c.loop-q.marks c.loop-q.notes c.loop-q.list.items c.loop-q.invariant.listed, c.loop-q.invariant.size, c.loop-q-test.false, c.vertex_count-end.ensures.value) in
-    search-done c.args.g.now c.vertex_count-end.ensures.graph c.args.root c.loop-q.marks c.loop-q.notes c.loop-q.list.items c.loop-q.q c.loop-q.invariant.listed c.loop-q.invariant.size few c.loop-q.invariant.search
+    let few : length c.loop-q.list.items ≤ c.loop-q.q = omega (arith, listed-few c.loop-q.marks c.loop-q.notes c.loop-q.list.items c.loop-q.invariant.listed, c.loop-q.invariant.size, c.loop-q-test.false, c.vertex_count-q-end.ensures.value) in
+    search-done c.args.g.now c.vertex_count-q-end.ensures.graph c.args.root c.loop-q.marks c.loop-q.notes c.loop-q.list.items c.loop-q.q c.loop-q.invariant.listed c.loop-q.invariant.size few c.loop-q.invariant.search

@@ -66,5 +66,5 @@ loop-q-preserved c = elim c.if-q-len.branch [
 
 pub returns : goal.returns
 returns c =
-    let few : length c.loop-q.list.items ≤ c.loop-q.q = omega (arith, listed-few c.loop-q.marks c.loop-q.notes c.loop-q.list.items c.loop-q.invariant.listed, c.loop-q.invariant.size, c.loop-q-test.false, c.node_count-end.ensures) in
+    let few : length c.loop-q.list.items ≤ c.loop-q.q = omega (arith, listed-few c.loop-q.marks c.loop-q.notes c.loop-q.list.items c.loop-q.invariant.listed, c.loop-q.invariant.size, c.loop-q-test.false, c.node_count-q-end.ensures) in
     λ x l n. reached-all c.requires.tree.0 c.args.tree.now c.requires.tree.1 c.args.k c.loop-q.notes c.loop-q.list.items c.loop-q.q c.requires.node few c.loop-q.invariant.reached x l n
