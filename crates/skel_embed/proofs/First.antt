@@ -1,7 +1,9 @@
 -- The least possible choice of each kind of node, and the first plane rotation system of a block.
-use Rattle.std.proofs.Common.{◌≡◌, ◌≢◌, ℕ, ◌+◌, ◌<◌, ◌≤◌, ◌⊎◌, inl, inr, Bool, true, false, cond, List, [], ◌∷◌, ◌++◌, append_assoc, length, map, reverse, get_or, slice_index_or, refl, sym, ap, ap₂, ◌∙◌, subst, arith, IsPermutation}
+use Rattle.std.proofs.Common.{◌≡◌, ◌≢◌, ℕ, ◌+◌, ◌<◌, ◌≤◌, ◌⊎◌, inl, inr, Bool, true, false, not, cond, List, [], ◌∷◌, ◌++◌, append_assoc, length, map, reverse, get_or, slice_index_or, length-append, refl, sym, ap, ap₂, ◌∙◌, subst, arith, IsPermutation}
 use Rattle.std.proofs.lemmas.Bool.{cases_eq, cases_lt, true≢false, both_ways, false_from_ne_true, eq-eqb}
 use Rattle.std.proofs.lemmas.List.{get_or-map, length-map}
+use Rattle.std.proofs.Math.ListN.{get_or-append}
+use Rattle.std.proofs.Math.Seq.{get_or-append_seam}
 use Rattle.permutations.specs.Cyclic.{first_or, from_least, successor, predecessor}
 use Rattle.permutations.specs.Members.{is_member, is_distinct}
 use Rattle.permutations.proofs.Arrangements.{permutation-member, permutation-distinct, permutation-from_members, member-at}
@@ -24,6 +26,8 @@ use Rattle.planarity.proofs.TwoSystems.{two-systems}
 use Rattle.pair_split.specs.Skeleton.{HasPoles}
 use Rattle.pair_split.specs.Split.{skeleton}
 use Rattle.pair_split.specs.Tutte.{Node, components, node_at, node_item, is_before, group}
+use denote.Enum.Bare.{sameb}
+use Rattle.pair_split.specs.contracts.components.Kind as Kind-is
 use Rattle.pair_split.specs.declared.components.Kind.{Kind}
 use Rattle.pair_split.specs.declared.components.Kind.TheVariants.{S, P, R, B}
 use Rattle.skeletons.specs.Items.{node_keys, has_vertex, least_vertex, IsBlockTree}
@@ -44,6 +48,7 @@ use Rattle.skeleton_choices.proofs.Told.{choice-possible}
 use Rattle.skel_compose.proofs.Back.{keys-rise}
 use Rattle.skel_embed.specs.Fan.{IsFan, TurnsRight}
 use Rattle.skel_embed.specs.First.{choice_in, IsFirstMember, AreFirstMembers, IsFirst}
+use Rattle.skel_embed.specs.Outcomes.{AreChoicesIn}
 use Rattle.skel_embed.proofs.Lexicographic.{rising-least, mirrored-later}
 
 -- the first place is that of the first member
@@ -112,8 +117,8 @@ module _ (g : Multigraph) (nodes : List Node) (b : IsBlockTree g nodes) (k : ℕ
         head (x ∷ v) z m = member-head x v
 
     -- the choice of a node with one
-    pub choice-keys : (items keys : List ℕ) → ((node_at nodes k).kind ≡ P) ⊎ ((node_at nodes k).kind ≡ R) → keys ≡ keys_of nodes k (order_at s 0) → keys ≡ choice_in nodes k s
-    choice-keys items keys c e = e ∙ ap (λ z. keys_of nodes k (order_at s z)) (sym low-is) ∙ sym keys-written ∙ elim c [
+    pub choice-keys : (keys : List ℕ) → ((node_at nodes k).kind ≡ P) ⊎ ((node_at nodes k).kind ≡ R) → keys ≡ keys_of nodes k (order_at s 0) → keys ≡ choice_in nodes k s
+    choice-keys keys c e = e ∙ ap (λ z. keys_of nodes k (order_at s z)) (sym low-is) ∙ sym keys-written ∙ elim c [
       | inl q ↦ ap (λ (z : Kind). choice_of_kind z (from_least (keys_of nodes k order))) (sym q)
       | inr q ↦ ap (λ (z : Kind). choice_of_kind z (from_least (keys_of nodes k order))) (sym q)
     ]
@@ -215,3 +220,33 @@ module _ (g : Multigraph) (nodes : List Node) (b : IsBlockTree g nodes) (family 
       none_before = λ q p w. both_ways (is_before (choice nodes q w.node) (choice nodes r w.node))
           (ap (is_before (choice nodes q w.node)) (choice-followed r f w.node w.is_node) ∙ (first.members w.node w.is_node).least (choice nodes q w.node) (choice-possible g nodes q b p w.node w.is_node)) w.smaller;
     }
+
+-- one member more
+pub members-more : (nodes : List Node) (k : ℕ) (family new : List (List (List ℕ))) (s : List (List ℕ)) → new ≡ family ++ s ∷ [] → AreFirstMembers nodes k family → IsFirstMember nodes k s → AreFirstMembers nodes (k + 1) new
+members-more nodes k family new s e before h = record {
+  each = omega (arith, ap (length {A = List (List ℕ)}) e, length-append family (s ∷ []), before.each);
+  members = λ j l. subst (λ (z : List (List (List ℕ))). IsFirstMember nodes j (system_at z j)) (sym e) (elim (cases_eq j k) [
+    | inl q ↦ subst (λ i. IsFirstMember nodes i (system_at (family ++ s ∷ []) i)) (sym q) (subst (IsFirstMember nodes k) (sym (ap (system_at (family ++ s ∷ [])) (sym before.each) ∙ get_or-append_seam family s [] [])) h)
+    | inr n ↦ let m : j < k = omega (arith, l, n) in subst (IsFirstMember nodes j) (sym (get_or-append family (s ∷ []) [] j (omega (arith, m, before.each)))) (before.members j m)
+  ]);
+}
+
+-- one choice more
+pub choices-more : (nodes : List Node) (k : ℕ) (family : List (List (List ℕ))) (choices new : List (List ℕ)) (keys : List ℕ) → new ≡ choices ++ keys ∷ [] → AreChoicesIn nodes family k choices → keys ≡ choice_in nodes k (system_at family k) → AreChoicesIn nodes family (k + 1) new
+choices-more nodes k family choices new keys e before h = record {
+  each = omega (arith, ap (length {A = List ℕ}) e, length-append choices (keys ∷ []), before.each);
+  is = λ j l. ap (λ (z : List (List ℕ)). slice_index_or z j []) e ∙ elim (cases_eq j k) [
+    | inl q ↦ ap (λ i. slice_index_or (choices ++ keys ∷ []) i []) (q ∙ sym before.each) ∙ get_or-append_seam choices keys [] [] ∙ h ∙ ap (λ i. choice_in nodes i (system_at family i)) (sym q)
+    | inr n ↦ let m : j < k = omega (arith, l, n) in get_or-append choices (keys ∷ []) [] j (omega (arith, m, before.each)) ∙ before.is j m
+  ];
+}
+
+-- what the comparison of kinds says
+pub rigid-not : (kind other : Kind) → other ≡ kind → not (sameb Kind-is.the_type other R) ≡ true → kind ≢ R
+rigid-not kind other q h e = true≢false (sym h ∙ ap (λ (z : Kind). not (sameb Kind-is.the_type z R)) (q ∙ e))
+
+pub rigid-is : (kind other : Kind) → other ≡ kind → not (sameb Kind-is.the_type other R) ≡ false → kind ≡ R
+rigid-is S other q h = absurd (true≢false (sym (ap (λ (z : Kind). not (sameb Kind-is.the_type z R)) q) ∙ h))
+rigid-is P other q h = absurd (true≢false (sym (ap (λ (z : Kind). not (sameb Kind-is.the_type z R)) q) ∙ h))
+rigid-is B other q h = absurd (true≢false (sym (ap (λ (z : Kind). not (sameb Kind-is.the_type z R)) q) ∙ h))
+rigid-is R other q h = refl

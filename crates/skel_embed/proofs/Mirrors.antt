@@ -1,5 +1,5 @@
 -- The mirror image of a rotation system, and the way that the orders turn.
-use Rattle.std.proofs.Common.{◌≡◌, ℕ, ◌<◌, ◌≤◌, true, List, length, get_or, reverse, refl, sym, ap, ◌∙◌, subst, arith}
+use Rattle.std.proofs.Common.{◌≡◌, ℕ, ◌<◌, ◌≤◌, true, List, [], ◌∷◌, length, get_or, reverse, refl, sym, ap, ◌∙◌, subst, arith}
 use Rattle.permutations.specs.Cyclic.{first_or, from_least, successor, predecessor}
 use Rattle.permutations.specs.Members.{is_member}
 use Rattle.permutations.proofs.Members.{member-reverse, distinct-reverse}
@@ -42,3 +42,8 @@ three g ok t = let n : 3 ≤ length (incident_edges g 0) = incident-three g ok t
 
 pub first-member : (g : Multigraph) → IsGraph g → IsTriconnected g → (r : List (List ℕ)) → IsRotationSystem g r → (edges : List ℕ) → edges ≡ incident_edges g 0 → is_member (get_or edges 0 0) (order_at r 0) ≡ true
 first-member g ok t r s edges e = round-member g r s 0 (get_or edges 0 0) (omega (arith, t.four)) (ap (λ (z : List ℕ). get_or z 0 0) e) (three g ok t)
+
+-- the first of a list
+pub first-of : (l edges : List ℕ) → edges ≡ l → get_or edges 0 0 ≡ first_or 0 l
+first-of [] edges e = ap (λ (z : List ℕ). get_or z 0 0) e
+first-of (x ∷ l) edges e = ap (λ (z : List ℕ). get_or z 0 0) e

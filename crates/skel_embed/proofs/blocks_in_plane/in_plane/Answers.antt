@@ -12,5 +12,5 @@ of-requires c = record {
   block = c.requires.block;
   plane = (first-followed c.args.g c.args.t c.requires.block c.args.members.now c.requires.members c.in_ok-rotation.rotation c.in_ok-rotation.ensures.system c.in_ok-rotation.ensures.follows).plane;
   choices = record { each = c.in_ok-choices.ensures.each; is = λ k l. c.in_ok-choices.ensures.is k l ∙ sym (choice-followed c.args.g c.args.t c.requires.block c.args.members.now c.in_ok-rotation.rotation c.in_ok-rotation.ensures.follows k l) };
-  locks = c.in_ok-locks.ensures.len ∙ c.node_count.ensures;
+  locks = sym c.in_ok-locks.locks.ok.0 ∙ c.in_ok-locks.ensures.len ∙ c.node_count.ensures;
 }
