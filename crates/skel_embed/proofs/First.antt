@@ -1,6 +1,6 @@
 -- The least possible choice of each kind of node, and the first plane rotation system of a block.
-use Rattle.std.proofs.Common.{◌≡◌, ◌≢◌, ℕ, ◌+◌, ◌<◌, ◌≤◌, ◌⊎◌, inl, inr, Bool, true, false, not, cond, List, [], ◌∷◌, ◌++◌, append_assoc, length, map, reverse, get_or, slice_index_or, length-append, refl, sym, ap, ap₂, ◌∙◌, subst, arith, IsPermutation}
-use Rattle.std.proofs.lemmas.Bool.{cases_eq, cases_lt, true≢false, both_ways, false_from_ne_true, eq-eqb}
+use Rattle.std.proofs.Common.{◌≡◌, ◌≢◌, ℕ, ◌+◌, ◌<◌, ◌≤◌, ◌⊎◌, inl, inr, Bool, true, false, not, cond, List, [], ◌∷◌, ◌++◌, append_assoc, length, map, reverse, get_or, slice_index_or, length-append, refl, sym, ap, ◌∙◌, subst, arith}
+use Rattle.std.proofs.lemmas.Bool.{cases_eq, true≢false, both_ways, false_from_ne_true, eq-eqb}
 use Rattle.std.proofs.lemmas.List.{get_or-map, length-map}
 use Rattle.std.proofs.Math.ListN.{get_or-append}
 use Rattle.std.proofs.Math.Seq.{get_or-append_seam}
@@ -17,7 +17,6 @@ use Rattle.multigraph.proofs.Places.{rises-once}
 use Rattle.multigraph.proofs.Incident.{incident-rises}
 use Rattle.graph_theory.specs.Triconnected.{IsTriconnected}
 use Rattle.rotations.specs.Rotation.{order_at, IsCyclicOrder, IsRotationSystem}
-use Rattle.faces.specs.Maps.{mirror_image}
 use Rattle.faces.specs.Euler.{IsPlane}
 use Rattle.faces.proofs.DartLemmas.{order-distinct}
 use Rattle.faces.proofs.MapLists.{map-member}
@@ -31,7 +30,7 @@ use Rattle.pair_split.specs.contracts.components.Kind as Kind-is
 use Rattle.pair_split.specs.declared.components.Kind.{Kind}
 use Rattle.pair_split.specs.declared.components.Kind.TheVariants.{S, P, R, B}
 use Rattle.skeletons.specs.Items.{node_keys, has_vertex, least_vertex, IsBlockTree}
-use Rattle.skeletons.specs.Choices.{choice_of_kind, choice, Precedes, IsPlaneSystem}
+use Rattle.skeletons.specs.Choices.{choice_of_kind, choice}
 use Rattle.skeletons.specs.Moves.{IsNodeOfKind}
 use Rattle.skeletons.specs.Families.{place_of, skeleton_graph, system_at, AreSkeletonSystems, keys_of, FollowsFamily, IsPossibleFor, IsPossible, IsPlaneChoice}
 use Rattle.skeletons.proofs.Before.{before-irreflexive}
@@ -40,7 +39,7 @@ use Rattle.skeletons.proofs.Places.{place-below, round-item, keys-round_once, ke
 use Rattle.skeletons.proofs.Rearranged.{distinct-places}
 use Rattle.skeletons.proofs.Systems.{written-first}
 use Rattle.skeletons.proofs.Vertices.{least-has, bond-keys}
-use Rattle.skeleton_runs.proofs.SkeletonGraph.{skeleton-graph, skeleton-triconnected}
+use Rattle.skeleton_runs.proofs.SkeletonGraph.{skeleton-triconnected}
 use Rattle.skeleton_planes.proofs.BondSkeleton.{lesser-in, greater-in, same-incident}
 use Rattle.skeleton_planes.proofs.Followed.{follows-plane}
 use Rattle.skeleton_planes.proofs.OneSystem.{kind-of, lesser-place, greater-place, polygon-law, bond-law, small-law}

@@ -1,14 +1,14 @@
 -- Which of two lists comes first: a rising list before all its arrangements, and of a cyclic order and its mirror image the one
 -- whose second member is the smaller.
-use Rattle.std.proofs.Common.{◌≡◌, ◌≢◌, ℕ, zero, suc, ◌<◌, ◌≤◌, ◌==◌, ◌&&◌, inl, inr, true, false, List, [], ◌∷◌, ◌++◌, length, map, reverse, get_or, refl, sym, ap, ◌∙◌, subst, arith, IsPermutation}
+use Rattle.std.proofs.Common.{◌≡◌, ℕ, zero, suc, ◌<◌, ◌≤◌, ◌==◌, ◌&&◌, inl, inr, true, false, List, [], ◌∷◌, ◌++◌, length, map, reverse, get_or, refl, sym, ap, ◌∙◌, subst, arith, IsPermutation}
 use Rattle.std.specs.Prelude.{nat_lt}
-use Rattle.std.proofs.lemmas.Bool.{cases_eq, cases_lt, both_ways, true≢false, or_cases, and_parts, eqb-true, ltb-true, false_from_ne_true}
+use Rattle.std.proofs.lemmas.Bool.{cases_eq, both_ways, true≢false, or_cases, and_parts, eqb-true, ltb-true, false_from_ne_true}
 use Rattle.std.proofs.lemmas.List.{length-reverse, reverse-append, get_or_default}
 use Rattle.std.proofs.lemmas.List.Sorted.{length_permutation}
 use Rattle.permutations.specs.Cyclic.{first_or}
 use Rattle.permutations.specs.Members.{is_member, is_distinct}
 use Rattle.permutations.proofs.Arrangements.{permutation-member, contains-from_member}
-use Rattle.permutations.proofs.Members.{member-head, member-tail, member-reverse, distinct-head}
+use Rattle.permutations.proofs.Members.{member-head, member-reverse, distinct-head}
 use Rattle.multigraph.specs.Part.{Rises}
 use Rattle.multigraph.proofs.Places.{rises-once}
 use Rattle.pair_split.specs.Tutte.{is_before}

@@ -1,6 +1,6 @@
 -- The mirror image of a rotation system, and the way that the orders turn.
-use Rattle.std.proofs.Common.{◌≡◌, ℕ, ◌<◌, ◌≤◌, true, List, [], ◌∷◌, length, get_or, reverse, refl, sym, ap, ◌∙◌, subst, arith}
-use Rattle.permutations.specs.Cyclic.{first_or, from_least, successor, predecessor}
+use Rattle.std.proofs.Common.{◌≡◌, ℕ, ◌<◌, ◌≤◌, true, List, [], ◌∷◌, length, get_or, reverse, sym, ap, ◌∙◌, subst, arith}
+use Rattle.permutations.specs.Cyclic.{first_or, successor, predecessor}
 use Rattle.permutations.specs.Members.{is_member}
 use Rattle.permutations.proofs.Members.{member-reverse, distinct-reverse}
 use Rattle.permutations.proofs.NormalForm.{from_least-member, from_least-predecessor, mirror-successor}

@@ -31,11 +31,7 @@ pub enum BySkeletons {
 }
 
 // The keys of the items round vertex 0 of the skeleton.
-fn keys_round(
-    alloc: Global,
-    items: &[Item],
-    member: &Rotation,
-) -> Result<Vec<u32>, AllocError>
+fn keys_round(alloc: Global, items: &[Item], member: &Rotation) -> Result<Vec<u32>, AllocError>
     requires vertex { 0 < length member.now }
     requires within { (i : ℕ) → is_member i (order_at member.now 0) ≡ true → i < length items.now }
     ensures { IfOk result (λ keys. keys.items ≡ map (λ i. (nth_item items.now i).key) (order_at member.now 0)) }
@@ -97,7 +93,7 @@ fn in_plane(
 
 /// Embeds a block by the skeletons of its tree. It then stands at its first plane rotation system, in the order by the first
 /// node at which the choices differ, and no node is locked. Or answers with the skeleton of a triconnected node, and in it a
-/// subdivision of K5 or K3,3 in its written form; then the block has no plane rotation system.
+/// subdivision of K5 or K3,3 in its written form.
 ///
 /// The embedder is asked once for each triconnected node. Fails for want of memory alone; graph and tree are then dropped.
 pub fn embed_by_skeletons<E: Embedder>(

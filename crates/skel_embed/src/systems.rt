@@ -55,12 +55,7 @@ pub(crate) fn fan(alloc: Global, g: &Graph) -> Result<Rotation, AllocError>
 }
 
 // The edges at v, which has one, the other way round from the least on.
-fn round_backwards(
-    alloc: Global,
-    g: &Graph,
-    r: &Rotation,
-    v: u32,
-) -> Result<Vec<u32>, AllocError>
+fn round_backwards(alloc: Global, g: &Graph, r: &Rotation, v: u32) -> Result<Vec<u32>, AllocError>
     requires system { IsRotationSystem g.now r.now }
     requires vertex { v < g.now.vertex_count }
     requires edge { 0 < length (incident_edges g.now v) }

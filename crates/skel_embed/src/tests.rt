@@ -103,11 +103,7 @@ static ROWS: [Row; 8] = [
 ];
 
 // The block of these edges, embedded; nothing where it is no block, or not plane.
-fn block_of(
-    alloc: Global,
-    vertices: u32,
-    ends: &[(u32, u32)],
-) -> Result<Option<PlaneBlock>, Fail> {
+fn block_of(alloc: Global, vertices: u32, ends: &[(u32, u32)]) -> Result<Option<PlaneBlock>, Fail> {
     let Ok(graph) = Graph::build(alloc, vertices, ends) else {
         return Err(Fail::from("no graph"));
     };
@@ -148,17 +144,26 @@ fn stands_at_first_members(rt: HostRuntime) -> Result<(), Fail> {
     Ok(())
 }
 
+// Locks node k, and whether it had this choice and no lock before.
+fn has_choice(alloc: Global, block: &mut PlaneBlock, k: u32, row: &[u32]) -> Result<bool, Fail> {
+    if k >= block.tree().node_count() {
+        return Ok(false);
+    }
+    if block.choice(alloc, k)?.as_slice() != row || block.locked(k) {
+        return Ok(false);
+    }
+    block.set_lock(k, true);
+    Ok(block.locked(k))
+}
+
 #[test]
 fn has_choices_and_locks(rt: HostRuntime) -> Result<(), Fail> {
     let Some(mut block) = block_of(rt.alloc(), ROWS[3].vertices, ROWS[3].ends)? else {
         return Err(Fail::from("not plane"));
     };
     let rows: [&[u32]; 3] = [&[0, 1, 6], &[0, 1, 2], &[0, 6, 7]];
-    for k in 0..block.tree().node_count() {
-        assert_eq!(rt; block.choice(rt.alloc(), k)?.as_slice(), rows[k as usize]);
-        assert!(rt; !block.locked(k));
-        block.set_lock(k, true);
-        assert!(rt; block.locked(k));
+    for k in 0..3u32 {
+        assert!(rt; has_choice(rt.alloc(), &mut block, k, rows[k as usize])?);
     }
     assert_eq!(rt; block.graph().edge_count(), 11);
     Ok(())
