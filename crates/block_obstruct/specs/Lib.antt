@@ -1,0 +1,6 @@
+-- Certificates carried from a skeleton into its block.
+pub mod Routes
+pub mod Listing
+pub mod Towards
+pub mod Groups
+pub mod Search

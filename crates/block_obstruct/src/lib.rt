@@ -1,0 +1,36 @@
+// Certificates of blocks: a subdivision of K5 or K3,3 in the skeleton of a node of a block's tree, carried into the block.
+//
+// A skeleton stands for its block: each of its edges, the items of the node, is an edge of the block or a link, and a link stands
+// for the edges on its far side (Tutte 1966). These edges, the group of the item, have a path between the item's ends, and two
+// groups share no vertices but common ends of their items. So a subdivision in the skeleton becomes one in the block when each of
+// its edges is replaced by such a path, its route. `lift` does so for any two graphs and any routes, and promises that the written
+// form is kept; `obstruct_block` finds the routes of a node, and `skeleton` makes its skeleton as a graph of its own.
+//
+// The groups of all items are found in one pass: a search from the node through the links of the tree tells for each other node
+// which item leads there. A route is found by a search in the order of distance (Moore 1959) in the part of the block that a group
+// makes. Nothing recurses.
+//
+// The lemmas that are used most (module of proofs/ in front):
+//   Lifted         path-append, lifted-subdivision, lifted-written: a subdivision carried over
+//   Listed         listed-more, grows-more, listed-few: numbers on a list, each once, with notes
+//   TowardsNodes   reached-next, reached-all: the search through the links
+//   GroupsOfEdges  far-right, noted-all, parted-more: the groups of the edges
+//   SearchSteps    search-next, search-done, way-next, way-done: the search in a graph, and the way back
+//   PartPaths      part-joined, outer-path: paths of a part and of the whole graph
+//   ItemRoutes     group-path, route-right, item-routes: the paths through the groups are routes
+#![tactic(auto)]
+
+mod groups;
+mod lifting;
+mod listing;
+mod node_graph;
+mod obstructing;
+mod search;
+mod towards;
+
+pub use lifting::lift;
+pub use node_graph::skeleton;
+pub use obstructing::obstruct_block;
+
+#[cfg(test)]
+mod tests;

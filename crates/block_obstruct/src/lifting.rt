@@ -1,0 +1,127 @@
+// A subdivision carried from a graph into another one, in which routes stand for the edges.
+
+ghost use Rattle.std.specs.Prelude.{◌≡◌, ◌<◌, ◌++◌, ℕ, map, length, IfOk};
+ghost use Rattle.multigraph.specs.Graph.{edge_count, IsGraph};
+ghost use Rattle.graph_theory.specs.Path.{IsWalk};
+ghost use Rattle.kuratowski.specs.Subdivision.{branch_at, branch_count, pair_at, path_at, pattern_edges, IsSubdivision, IsWritten};
+ghost use Rattle.block_obstruct.specs.Routes.{AreRoutes, route_from, lifted_walk, lifted_path, lifted_paths, lifted_branches};
+
+use kuratowski::{Pattern, Subdivision};
+use multigraph::{Graph, NumberLists, Numbers};
+use std::alloc::{AllocError, Global};
+
+// Puts the route of an edge, from one of its ends on, behind what stands there.
+fn add_route(
+    alloc: Global,
+    inner: &Graph,
+    routes: &[Numbers],
+    edge: u32,
+    from: u32,
+    along: &mut Vec<u32>,
+) -> Result<(), AllocError>
+    requires edge { edge < edge_count inner.now }
+    requires one_each { length routes.now ≡ edge_count inner.now }
+    ensures { IfOk result (λ _. along.new.items ≡ along.old.items ++ route_from inner.now routes.now edge from) }
+{
+    let route = routes[edge as usize].as_slice();
+    if inner.ends(edge).0 == from {
+        along.extend_from_slice(route)?;
+        return Ok(());
+    }
+    let back: Vec<u32> = route.iter().rev().copied().collect(alloc)?;
+    along.extend_from_slice(&back)?;
+    Ok(())
+}
+
+// The routes of the edges of a walk, one after the other.
+fn lift_walk(
+    alloc: Global,
+    inner: &Graph,
+    routes: &[Numbers],
+    from: u32,
+    edges: &[u32],
+) -> Result<Numbers, AllocError>
+    requires one_each { length routes.now ≡ edge_count inner.now }
+    requires walk { IsWalk inner.now from edges.now }
+    ensures { IfOk result (λ along. along ≡ lifted_walk inner.now routes.now from edges.now) }
+{
+    let mut along = Vec::new(alloc);
+    let mut at = from;
+    for edge in edges {
+        add_route(alloc, inner, routes, *edge, at, &mut along)?;
+        at = inner.other_end(*edge, at);
+    }
+    Ok(Numbers::of(along))
+}
+
+// The paths of a subdivision, carried over.
+fn lift_paths(
+    alloc: Global,
+    inner: &Graph,
+    routes: &[Numbers],
+    kind: Pattern,
+    branch: &[u32],
+    paths: &[Numbers],
+) -> Result<Vec<Numbers>, AllocError>
+    requires one_each { length routes.now ≡ edge_count inner.now }
+    requires subdivision { IsSubdivision inner.now kind branch.now paths.now }
+    ensures { IfOk result (λ lifted. lifted.items ≡ lifted_paths inner.now routes.now kind branch.now paths.now) }
+{
+    let mut lifted = Vec::new(alloc);
+    for (k, pair) in kind.edges().iter().enumerate() {
+        let from = branch[pair.0];
+        lifted.push(lift_walk(alloc, inner, routes, from, paths[k].as_slice())?)?;
+    }
+    Ok(lifted)
+}
+
+// The branch vertices of a subdivision, carried over.
+fn lift_branches(alloc: Global, vertex: &[u32], branch: &[u32]) -> Result<Vec<u32>, AllocError>
+    requires { (i : ℕ) → i < length branch.now → branch_at branch.now i < length vertex.now }
+    ensures { IfOk result (λ lifted. lifted.items ≡ lifted_branches vertex.now branch.now) }
+{
+    let mut lifted = Vec::new(alloc);
+    for inner_vertex in branch {
+        lifted.push(vertex[*inner_vertex as usize])?;
+    }
+    Ok(lifted)
+}
+
+/// Carries a subdivision of a pattern, in its written form, from the graph `inner` into the graph `outer`.
+///
+/// `vertex` gives the outer vertex of each inner one, and rises; `routes` gives for each inner edge a path of `outer` from its
+/// first to its second end, as a list of edges. Routes share no vertex but common ends, and have no vertex of `vertex` inside.
+/// Each path of the result is the routes of the path's edges, one after the other, a route that is taken from the second to the
+/// first end in the other direction. Takes time and memory for the routes of the edges on the paths.
+pub fn lift(
+    alloc: Global,
+    inner: &Graph,
+    outer: &Graph,
+    s: &Subdivision,
+    vertex: &[u32],
+    routes: &[Numbers],
+) -> Result<Subdivision, AllocError>
+    requires written { IsWritten inner.now s.now.kind s.now.branch s.now.paths }
+    requires routes { AreRoutes inner.now outer.now vertex.now routes.now }
+    ensures written { IfOk result (λ w. IsWritten outer.now w.kind w.branch w.paths) }
+    ensures kind { IfOk result (λ w. w.kind ≡ s.now.kind) }
+    ensures branches { IfOk result (λ w. w.branch ≡ lifted_branches vertex.now s.now.branch) }
+    ensures paths { IfOk result (λ w. w.paths ≡ lifted_paths inner.now routes.now s.now.kind s.now.branch s.now.paths) }
+    ensures graph { IfOk result (λ _. IsGraph inner.now) }
+{
+    let _ = inner.vertex_count();
+    let branch = lift_branches(alloc, vertex, s.branch.as_slice())?;
+    let paths = lift_paths(
+        alloc,
+        inner,
+        routes,
+        s.kind,
+        s.branch.as_slice(),
+        s.paths.as_slice(),
+    )?;
+    Ok(Subdivision {
+        kind: s.kind,
+        branch: Numbers::of(branch),
+        paths: NumberLists::of(paths),
+    })
+}
