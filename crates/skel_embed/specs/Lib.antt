@@ -4,3 +4,4 @@ pub mod Block
 pub mod Fan
 pub mod Members
 pub mod Outcomes
+pub mod Planes

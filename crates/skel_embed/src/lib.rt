@@ -5,7 +5,7 @@
 // node at which the choices differ, has the least choice at each node: a bond has its items in order at its lesser pole, and a
 // triconnected skeleton has that one of its two plane rotation systems, mirror images of each other (Whitney 1932), whose
 // second item at its least vertex comes before the last. `embed_by_skeletons` composes these, or answers with a skeleton and
-// a subdivision of K5 or K3,3 in it.
+// a subdivision of K5 or K3,3 in it. `plane_block` carries that one into the block.
 //
 // A `PlaneBlock` is a block with its tree, a plane rotation system, the present choice of each node, and locks on nodes; what
 // belongs together is kept together by its invariant. An `Err` is want of memory alone.
@@ -17,10 +17,12 @@
 
 mod blocks_in_plane;
 mod members;
+mod planes;
 mod state;
 mod systems;
 
 pub use blocks_in_plane::{BySkeletons, embed_by_skeletons};
+pub use planes::{Outcome, plane_block};
 pub use state::PlaneBlock;
 
 #[cfg(test)]
