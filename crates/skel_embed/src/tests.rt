@@ -1,9 +1,10 @@
 // First plane rotation systems of small blocks, worked out by hand.
 
-use crate::{BySkeletons, PlaneBlock, embed_by_skeletons};
+use crate::{BySkeletons, Outcome, PlaneBlock, embed_by_skeletons, plane_block};
 use blocks::is_one_block;
 use contract_embed::ContractEmbedder;
-use multigraph::Graph;
+use kuratowski::Subdivision;
+use multigraph::{Graph, Numbers};
 use pair_split::{PairSplitter, Splitter};
 use spqr_tree::Tree;
 use std::alloc::Global;
@@ -185,5 +186,77 @@ fn finds_skeleton_that_is_not_plane(rt: HostRuntime) -> Result<(), Fail> {
         (3, 4),
     ];
     assert!(rt; block_of(rt.alloc(), 5, &ends)?.is_none());
+    Ok(())
+}
+
+// The complete graph on five vertices, with a vertex on its first edge.
+static SUBDIVIDED: [(u32, u32); 11] = [
+    (0, 5),
+    (5, 1),
+    (0, 2),
+    (0, 3),
+    (0, 4),
+    (1, 2),
+    (1, 3),
+    (1, 4),
+    (2, 3),
+    (2, 4),
+    (3, 4),
+];
+
+// The subdivision that keeps the block of these edges from the plane; nothing where it is no block, or in the plane.
+fn subdivision_of(
+    alloc: Global,
+    vertices: u32,
+    ends: &[(u32, u32)],
+) -> Result<Option<Subdivision>, Fail> {
+    let Ok(graph) = Graph::build(alloc, vertices, ends) else {
+        return Err(Fail::from("no graph"));
+    };
+    if !is_one_block(alloc, &graph)? {
+        return Ok(None);
+    }
+    let comps = PairSplitter::new().split(alloc, &graph)?;
+    let tree = Tree::assemble(alloc, &graph, comps)?;
+    match plane_block(alloc, graph, tree, &mut ContractEmbedder)? {
+        Outcome::Plane(_) => Ok(None),
+        Outcome::Not(_, _, s) => Ok(Some(s)),
+    }
+}
+
+// Whether these are the paths.
+fn are_paths(found: &[Numbers], paths: &[&[u32]]) -> bool {
+    if found.len() != paths.len() {
+        return false;
+    }
+    for (path, expected) in found.iter().zip(paths) {
+        if path.as_slice() != *expected {
+            return false;
+        }
+    }
+    true
+}
+
+#[test]
+fn finds_subdivision_in_edges_of_block(rt: HostRuntime) -> Result<(), Fail> {
+    let Some(s) = subdivision_of(rt.alloc(), 6, &SUBDIVIDED)? else {
+        return Err(Fail::from("plane"));
+    };
+    let branch: &[u32] = &[0, 1, 2, 3, 4];
+    let paths: [&[u32]; 10] = [
+        &[0, 1],
+        &[2],
+        &[3],
+        &[4],
+        &[5],
+        &[6],
+        &[7],
+        &[8],
+        &[9],
+        &[10],
+    ];
+    assert!(rt; s.branch.as_slice() == branch);
+    assert!(rt; are_paths(s.paths.as_slice(), &paths));
+    assert!(rt; subdivision_of(rt.alloc(), ROWS[0].vertices, ROWS[0].ends)?.is_none());
     Ok(())
 }
