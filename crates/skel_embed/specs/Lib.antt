@@ -1,0 +1,7 @@
+-- Blocks in the plane, and what stands first in the list of their plane rotation systems.
+pub mod First
+pub mod Block
+pub mod Fan
+pub mod Members
+pub mod Outcomes
+pub mod Planes

@@ -1,0 +1,112 @@
+// The first plane rotation system of a block, or why there is none.
+
+ghost use Rattle.std.specs.Prelude.{◌≡◌, ◌<◌, ℕ, true, false, length, map, replicate, IfOk};
+ghost use Rattle.permutations.specs.Members.{is_member};
+ghost use Rattle.multigraph.specs.Graph.{Multigraph};
+ghost use Rattle.rotations.specs.Rotation.{order_at, IsRotationSystem};
+ghost use Rattle.skeletons.specs.Items.{IsBlockTree};
+ghost use Rattle.skeletons.specs.Families.{skeleton_graph, AreSkeletonSystems};
+ghost use Rattle.skeletons.proofs.NodeItems.{nth_item};
+ghost use Rattle.skel_embed.specs.First.{choice_in, AreFirstMembers, IsFirst};
+ghost use Rattle.skel_embed.specs.Outcomes.{IsFoundBySkeletons, AreChoicesIn};
+
+use crate::members::{Members, members_of};
+use crate::state::PlaneBlock;
+use kuratowski::Subdivision;
+use multigraph::{Graph, Numbers};
+use pair_split::{Item, Kind};
+use planarity::Embedder;
+use rotations::Rotation;
+use skel_compose::compose;
+use spqr_tree::Tree;
+use std::alloc::{AllocError, Global};
+
+/// A block in the plane, or why it has no plane rotation system: a skeleton that has none.
+#[derive(Debug, Drop)]
+pub enum BySkeletons {
+    /// The block, at its first plane rotation system.
+    Plane(PlaneBlock),
+    /// The graph, the tree, the number of a node, its skeleton, and a subdivision of K5 or K3,3 in the skeleton.
+    Not(Graph, Tree, u32, Graph, Subdivision),
+}
+
+// The keys of the items round vertex 0 of the skeleton.
+fn keys_round(alloc: Global, items: &[Item], member: &Rotation) -> Result<Vec<u32>, AllocError>
+    requires vertex { 0 < length member.now }
+    requires within { (i : ℕ) → is_member i (order_at member.now 0) ≡ true → i < length items.now }
+    ensures { IfOk result (λ keys. keys.items ≡ map (λ i. (nth_item items.now i).key) (order_at member.now 0)) }
+{
+    let mut keys = Vec::new(alloc);
+    let mut round = member.list(0);
+    while let Some(i) = round.next() {
+        keys.push(items[i as usize].key)?;
+    }
+    Ok(keys)
+}
+
+// The choice that a rotation system of its skeleton gives node k.
+fn choice_of(alloc: Global, tree: &Tree, k: u32, member: &Rotation) -> Result<Vec<u32>, AllocError>
+    requires node { k < length tree.now }
+    requires block { (g : Multigraph) × IsBlockTree g tree.now }
+    requires system { IsRotationSystem (skeleton_graph tree.now k) member.now }
+    ensures { IfOk result (λ keys. keys.items ≡ choice_in tree.now k member.now) }
+{
+    match tree.kind(k) {
+        Kind::P | Kind::R => Ok(keys_round(alloc, tree.items(k), member)?),
+        Kind::S | Kind::B => Ok(Vec::new(alloc)),
+    }
+}
+
+// The choices that the members give the nodes.
+fn choices_of(alloc: Global, tree: &Tree, members: &[Rotation]) -> Result<Vec<Numbers>, AllocError>
+    requires block { (g : Multigraph) × IsBlockTree g tree.now }
+    requires systems { AreSkeletonSystems tree.now members.now }
+    ensures { IfOk result (λ choices. AreChoicesIn tree.now members.now (length tree.now) choices.items) }
+{
+    let mut choices = Vec::new(alloc);
+    for k in 0..tree.node_count() {
+        let keys = choice_of(alloc, tree, k, &members[k as usize])?;
+        choices.push(Numbers::of(keys))?;
+    }
+    Ok(choices)
+}
+
+// The block at the rotation system that is composed of first members, with no locks.
+fn in_plane(
+    alloc: Global,
+    g: Graph,
+    t: Tree,
+    members: &[Rotation],
+) -> Result<PlaneBlock, AllocError>
+    requires block { IsBlockTree g t }
+    requires members { AreFirstMembers t (length t) members.now }
+    ensures graph { IfOk result (λ p. p.graph ≡ g) }
+    ensures tree { IfOk result (λ p. p.tree ≡ t) }
+    ensures first { IfOk result (λ p. IsFirst g t p.rotation) }
+    ensures locks { IfOk result (λ p. p.locks ≡ replicate (length t) false) }
+{
+    let rotation = compose(alloc, &g, &t, members)?;
+    let choices = choices_of(alloc, &t, members)?;
+    let locks = vec![in alloc; false; t.node_count() as usize]?;
+    Ok(PlaneBlock::of(g, t, rotation, choices, locks))
+}
+
+/// Embeds a block by the skeletons of its tree. It then stands at its first plane rotation system, in the order by the first
+/// node at which the choices differ, and no node is locked. Or answers with the skeleton of a triconnected node, and in it a
+/// subdivision of K5 or K3,3 in its written form.
+///
+/// The embedder is asked once for each triconnected node. Fails for want of memory alone; graph and tree are then dropped.
+pub fn embed_by_skeletons<E: Embedder>(
+    alloc: Global,
+    g: Graph,
+    t: Tree,
+    embedder: &mut E,
+) -> Result<BySkeletons, AllocError>
+    requires { IsBlockTree g t }
+    ensures { IfOk result (IsFoundBySkeletons g t) }
+{
+    match members_of(alloc, &t, embedder)? {
+        Members::Plane(list) => Ok(BySkeletons::Plane(in_plane(alloc, g, t, &list)?)),
+        Members::Not(k, skeleton, s) => Ok(BySkeletons::Not(g, t, k, skeleton, s)),
+    }
+}

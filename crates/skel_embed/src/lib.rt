@@ -1,0 +1,29 @@
+// Blocks in the plane: an embedding of a block from those of its skeletons, and its choices.
+//
+// The plane rotation systems of a block are told by the choices of the bonds and the triconnected nodes of its tree, and each
+// selection of possible choices is that of one (Di Battista and Tamassia 1996). So the first of them, in the order by the first
+// node at which the choices differ, has the least choice at each node: a bond has its items in order at its lesser pole, and a
+// triconnected skeleton has that one of its two plane rotation systems, mirror images of each other (Whitney 1932), whose
+// second item at its least vertex comes before the last. `embed_by_skeletons` composes these, or answers with a skeleton and
+// a subdivision of K5 or K3,3 in it. `plane_block` carries that one into the block.
+//
+// A `PlaneBlock` is a block with its tree, a plane rotation system, the present choice of each node, and locks on nodes; what
+// belongs together is kept together by its invariant. An `Err` is want of memory alone.
+//
+// The lemmas (module of proofs/ in front):
+//   Lexicographic  rising-least, mirrored-later: which list comes first
+//   First          fan-first, rigid-first: the least possible choice by kind; first-followed: what follows them is first
+#![tactic(auto)]
+
+mod blocks_in_plane;
+mod members;
+mod planes;
+mod state;
+mod systems;
+
+pub use blocks_in_plane::{BySkeletons, embed_by_skeletons};
+pub use planes::{Outcome, plane_block};
+pub use state::PlaneBlock;
+
+#[cfg(test)]
+mod tests;

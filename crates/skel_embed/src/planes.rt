@@ -1,0 +1,47 @@
+// A block in the plane, or why it has no plane rotation system.
+
+ghost use Rattle.std.specs.Prelude.{IfOk};
+ghost use Rattle.skeletons.specs.Items.{IsBlockTree};
+ghost use Rattle.skel_embed.specs.Planes.{IsOutcome};
+
+use crate::blocks_in_plane::{BySkeletons, embed_by_skeletons};
+use crate::state::PlaneBlock;
+use block_obstruct::obstruct_block;
+use kuratowski::Subdivision;
+use multigraph::Graph;
+use planarity::Embedder;
+use spqr_tree::Tree;
+use std::alloc::{AllocError, Global};
+
+/// A block in the plane, or why it has no plane rotation system.
+#[derive(Debug, Drop)]
+pub enum Outcome {
+    /// The block, at its first plane rotation system.
+    Plane(PlaneBlock),
+    /// The graph, the tree, and a subdivision of K5 or K3,3 in the block, along its own edges.
+    Not(Graph, Tree, Subdivision),
+}
+
+/// Embeds a block, or finds what keeps it from the plane. The block then stands at a plane rotation system that no plane rotation
+/// system of the block precedes, in the order by the first node at which the choices differ (Di Battista and Tamassia 1996), and no
+/// node is locked. Or graph and tree come back with a subdivision of K5 or K3,3 in its written form (Kuratowski 1930), whose edges
+/// are edges of the block: that of a skeleton, with a path of the block in the place of each item.
+///
+/// The embedder is asked once for each triconnected node. Fails for want of memory alone; graph and tree are then dropped.
+pub fn plane_block<E: Embedder>(
+    alloc: Global,
+    g: Graph,
+    t: Tree,
+    embedder: &mut E,
+) -> Result<Outcome, AllocError>
+    requires { IsBlockTree g t }
+    ensures { IfOk result (IsOutcome g t) }
+{
+    match embed_by_skeletons(alloc, g, t, embedder)? {
+        BySkeletons::Plane(block) => Ok(Outcome::Plane(block)),
+        BySkeletons::Not(graph, tree, k, skeleton, s) => {
+            let found = obstruct_block(alloc, &graph, &tree, k, &skeleton, &s)?;
+            Ok(Outcome::Not(graph, tree, found))
+        }
+    }
+}
