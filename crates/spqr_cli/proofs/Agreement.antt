@@ -14,8 +14,8 @@ use Rattle.gml_text.specs.declared.document.GmlFault.{GmlFault}
 use Rattle.gml_text.specs.declared.document.GmlFault.TheVariants.{Bad, End, Memory as GmlMemory}
 use Rattle.spqr_script.specs.declared.command.Command.{Command}
 use Rattle.spqr_script.proofs.Scripts.{apart, one_reading, one_bad_line}
-use Rattle.spqr_cli.specs.Trees.{AreBlockTrees}
-use Rattle.spqr_cli.specs.Report.{IsReport}
+use Rattle.spqr_session.specs.Trees.{AreBlockTrees}
+use Rattle.spqr_session.specs.Report.{IsReport}
 use Rattle.spqr_cli.specs.Words.{Names, form_of}
 use Rattle.spqr_cli.specs.Decision.{Sources, Work, Decision, SayDocument, SayCommands, AcceptsGraph, AcceptsScript, IsGmlReason, IsGraphReason, IsScriptReason, IsWork, IsDue}
 use Rattle.spqr_cli.specs.Ending.{file_status, graph_status, script_status, refusal_status, refusal_text, status_of, IsTextOf}
@@ -29,8 +29,8 @@ use Rattle.spqr_cli.specs.declared.refusal.GraphRefusal.TheVariants.{File, Gml, 
 use Rattle.spqr_cli.specs.declared.refusal.ScriptRefusal.{ScriptRefusal}
 use Rattle.spqr_cli.specs.declared.refusal.ScriptRefusal.TheVariants.{File as Script, Line}
 use Rattle.spqr_cli.specs.declared.status.Status.TheVariants.{ReadFault}
-use Rattle.spqr_cli.proofs.Chains.{one-report}
-use Rattle.spqr_cli.proofs.OneTree.{one-trees}
+use Rattle.spqr_session.proofs.Chains.{one-report}
+use Rattle.spqr_session.proofs.OneTree.{one-trees}
 
 -- bytes spell at most one document
 abbrev pub OneDocument : Type 0

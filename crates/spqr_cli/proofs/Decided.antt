@@ -4,7 +4,7 @@ use Rattle.std.specs.Bool.{⊤}
 use Rattle.spqr_edge.specs.Device.{Files, counted, CountsCall}
 use Rattle.spqr_script.specs.declared.command.Command.{Command}
 use Rattle.spqr_cli.specs.Words.{Names, form_of}
-use Rattle.spqr_cli.specs.Machine.{Machine, IsStarted}
+use Rattle.spqr_session.specs.Machine.{Machine, IsStarted}
 use Rattle.spqr_cli.specs.Seen.{ShelfSeen}
 use Rattle.spqr_cli.specs.Reading.{SomeBytes, told_file}
 use Rattle.spqr_cli.specs.Decision.{Sources, AreContents, SayDocument, SayCommands, AcceptsGraph, IsGraphReason, IsScriptReason, HasLine}

@@ -10,23 +10,15 @@ use Rattle.spqr_edge.specs.declared.Failed.{Failed}
 use Rattle.spqr_script.specs.declared.command.Command.{Command}
 use Rattle.spqr_cli.specs.declared.halt.Halt.{Halt}
 use Rattle.spqr_cli.specs.declared.halt.Halt.TheVariants.{Refused, Memory}
-use Rattle.spqr_cli.specs.Setting.{Setting}
-use Rattle.spqr_cli.specs.State.{State, IsStart}
-use Rattle.spqr_cli.specs.Step.{Step, IsChain}
-use Rattle.spqr_cli.specs.Head.{head_text}
-use Rattle.spqr_cli.specs.Report.{IsReport}
+use Rattle.spqr_session.specs.Setting.{Setting}
+use Rattle.spqr_session.specs.State.{State, IsStart}
+use Rattle.spqr_session.specs.Step.{Step, IsChain}
+use Rattle.spqr_session.specs.Head.{head_text}
+use Rattle.spqr_session.specs.Report.{IsReport}
 use Rattle.spqr_cli.specs.Front.{AppendsFront}
 use Rattle.spqr_cli.specs.Writing.{WritesAll, WritesFront, WritesAnswers, AppendsReport, AppendsReportFront, WritesReport}
-use Rattle.spqr_cli.proofs.Chains.{chain-exists, chain-join}
-
--- the first i + 1 texts are the first i and the one behind them
-pub concat-take_more : (texts : List (List ℕ)) (i : ℕ) (t : List ℕ) → i < length texts → get_or texts i t ≡ t → concat (take (i + 1) texts) ≡ concat (take i texts) ++ t
-concat-take_more texts i t h e =
-    rw add-one (ap concat (take-suc texts i t h ∙ ap (λ x. take i texts ++ x ∷ []) e) ∙ concat-append (take i texts) (t ∷ []) ∙ ap (λ l. concat (take i texts) ++ l) (append-nil t))
-
--- the text of an element
-pub text_at : {X : Type 0} (f : X → List ℕ) (xs : List X) (i : ℕ) (x : X) → i < length xs → get_or xs i x ≡ x → get_or (map f xs) i (f x) ≡ f x
-text_at f xs i x h e = get_or-map f xs i x (f x) h ∙ ap f e
+use Rattle.spqr_session.proofs.Chains.{chain-exists, chain-join}
+use Rattle.spqr_session.proofs.Numbered.{concat-take_more}
 
 -- ---- answers
 

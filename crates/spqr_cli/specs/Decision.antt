@@ -11,7 +11,7 @@ use Rattle.gml_graph.specs.declared.fault.GraphFault.TheVariants.{Memory as Grap
 use Rattle.spqr_script.specs.Script.{Commands, IsFirstBadLine}
 use Rattle.spqr_script.specs.declared.command.Command.{Command}
 use Rattle.spqr_edge.specs.Device.{Files, contents}
-use Rattle.spqr_cli.specs.Setting.{Setting, IsSetting}
+use Rattle.spqr_session.specs.Setting.{Setting, IsSetting}
 use Rattle.spqr_cli.specs.Words.{Names, form_of}
 use Rattle.spqr_cli.specs.Reading.{IsFileReason, SomeBytes, told_file}
 use Rattle.spqr_cli.specs.declared.refusal.Refusal.{Refusal}

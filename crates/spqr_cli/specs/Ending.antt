@@ -6,7 +6,7 @@ use Rattle.spqr_script.specs.declared.refusals.Which.TheVariants.{GraphFile, Scr
 use Rattle.spqr_edge.specs.Device.{counted, Rose}
 use Rattle.spqr_cli.specs.declared.halt.Halt.{Halt}
 use Rattle.spqr_cli.specs.declared.halt.Halt.TheVariants.{Refused, Memory as OutOfMemory}
-use Rattle.spqr_cli.specs.Report.{IsReport}
+use Rattle.spqr_session.specs.Report.{IsReport}
 use Rattle.spqr_cli.specs.Seen.{ShelfSeen}
 use Rattle.spqr_cli.specs.Decision.{Sources, AreContents, Work, Decision, IsDue, DecisionHasLine}
 use Rattle.spqr_cli.specs.declared.reading.FileFault.{FileFault}

@@ -1,10 +1,10 @@
 -- What the definitions of a run say of one another.
 use Rattle.std.specs.Prelude.{◌≡◌, ◌≢◌, ℕ, List, Ok, Err, IsSome, ⊤}
 use Rattle.spqr_script.specs.declared.command.Command.{Command}
-use Rattle.spqr_cli.specs.Setting.{Setting}
-use Rattle.spqr_cli.specs.State.{State}
-use Rattle.spqr_cli.specs.Step.{Step}
-use Rattle.spqr_cli.specs.Report.{IsReport}
+use Rattle.spqr_session.specs.Setting.{Setting}
+use Rattle.spqr_session.specs.State.{State}
+use Rattle.spqr_session.specs.Step.{Step}
+use Rattle.spqr_session.specs.Report.{IsReport}
 use Rattle.spqr_cli.specs.Words.{form_of}
 use Rattle.spqr_cli.specs.Decision.{Sources, Work, Decision, AcceptsGraph, AcceptsScript, IsDue}
 use Rattle.spqr_cli.specs.Ending.{IsTextOf, status_of}
@@ -40,17 +40,3 @@ abbrev pub NoRefusal : Type 0
 NoRefusal =
     (words : List (List ℕ)) (sources : Sources) (refusal : Refusal) → IsSome (form_of words) → AcceptsGraph sources.graph
     → AcceptsScript sources.script → IsDue words sources (Err refusal) → status_of (Err refusal) ≢ ReadFault → ⊥
-
--- each command has an answer in each state
-abbrev pub EachHasAnswer : Type 0
-EachHasAnswer = (setting : Setting) (before : State) (command : Command) → (text : List ℕ) × (after : State) × Step setting before command text after
-
--- and one only, with one state after it
-abbrev pub OneAnswer : Type 0
-OneAnswer =
-    (setting : Setting) (before : State) (command : Command) (s t : List ℕ) (after other : State) → Step setting before command s after
-    → Step setting before command t other → (s ≡ t) × (after ≡ other)
-
--- there is one report on a setting and commands
-abbrev pub OneReport : Type 0
-OneReport = (setting : Setting) (commands : List Command) (s t : List ℕ) → IsReport setting commands s → IsReport setting commands t → s ≡ t

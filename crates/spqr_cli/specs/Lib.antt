@@ -3,15 +3,6 @@ pub mod Outcome
 pub mod Front
 pub mod Reading
 pub mod Words
-pub mod Trees
-pub mod Setting
-pub mod State
-pub mod Codes
-pub mod Commands
-pub mod Step
-pub mod Head
-pub mod Report
-pub mod Machine
 pub mod Writing
 pub mod Decision
 pub mod Ending

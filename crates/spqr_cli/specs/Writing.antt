@@ -4,10 +4,10 @@ use Rattle.std.specs.List.{concat}
 use Rattle.std.specs.Io.KnownBytes.{Appends, Keeps}
 use Rattle.spqr_edge.specs.declared.Failed.{Failed}
 use Rattle.spqr_script.specs.declared.command.Command.{Command}
-use Rattle.spqr_cli.specs.Setting.{Setting}
-use Rattle.spqr_cli.specs.State.{State}
-use Rattle.spqr_cli.specs.Step.{IsChain}
-use Rattle.spqr_cli.specs.Report.{IsReport}
+use Rattle.spqr_session.specs.Setting.{Setting}
+use Rattle.spqr_session.specs.State.{State}
+use Rattle.spqr_session.specs.Step.{IsChain}
+use Rattle.spqr_session.specs.Report.{IsReport}
 use Rattle.spqr_cli.specs.Front.{AppendsFront}
 use Rattle.spqr_cli.specs.declared.halt.Halt.{Halt}
 use Rattle.spqr_cli.specs.declared.halt.Halt.TheVariants.{Refused, Memory as OutOfMemory}

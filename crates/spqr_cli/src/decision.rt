@@ -2,7 +2,7 @@
 ghost use Rattle.std.specs.Prelude.{◌≡◌, ◌≤◌, ⊤, length, map, string_bytes};
 ghost use Rattle.spqr_edge.specs.Device.{CountsCall};
 ghost use Rattle.spqr_cli.specs.Outcome.{Answers};
-ghost use Rattle.spqr_cli.specs.Machine.{IsStarted};
+ghost use Rattle.spqr_session.specs.Machine.{IsStarted};
 ghost use Rattle.spqr_cli.specs.Decision.{graph_limit, script_limit, SayDocument, SayCommands, IsGraphReason, IsScriptReason, GraphFileSays, GraphFileRefused, ScriptFileSays, ScriptFileRefused, HasLine};
 ghost use Rattle.spqr_cli.specs.Ending.{refusal_status, graph_status, script_status, CountsFaults, IsDecided, OnDecision};
 ghost use Rattle.spqr_cli.specs.Seen.{seen_shelf};
@@ -10,7 +10,7 @@ ghost use Rattle.spqr_cli.specs.Seen.{seen_shelf};
 use crate::halt::Halt;
 use crate::reading::read_file;
 use crate::refusal::{GraphRefusal, Refusal, ScriptRefusal};
-use crate::session::Session;
+use spqr_session::Session;
 use crate::stages::{commands_of, document_of, graph_of};
 use crate::words::form_of;
 use pair_split::PairSplitter;

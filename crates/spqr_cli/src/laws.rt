@@ -1,6 +1,6 @@
 // What the definitions of a run say of one another.
 ghost use Rattle.std.specs.Prelude.{◌≢◌};
-ghost use Rattle.spqr_cli.specs.Laws.{OneStatus, OneText, OneWork, NoRefusal, EachHasAnswer, OneAnswer, OneReport};
+ghost use Rattle.spqr_cli.specs.Laws.{OneStatus, OneText, OneWork, NoRefusal};
 ghost use Rattle.spqr_cli.specs.Run.{CountsReads, CountsPuts};
 ghost use Rattle.spqr_cli.specs.declared.status.Status.{Status};
 
@@ -16,14 +16,6 @@ pub fn decisions()
 {
     gml_text::laws::spelling();
 }
-
-/// Each command has an answer in each state, and one only, with one state after it; there is one report on a setting and
-/// commands.
-pub fn answers()
-    ensures each { EachHasAnswer }
-    ensures one { OneAnswer }
-    ensures report { OneReport }
-{}
 
 /// A shelf whose count of faults stays at 0 is never the reason of a read fault, and such a sink never that of a write fault.
 pub fn sure_devices()

@@ -14,21 +14,16 @@
 // output.
 #![tactic(auto)]
 
-mod code;
-mod commands;
 mod decision;
 mod halt;
-mod head;
 pub mod laws;
 mod reading;
 mod refusal;
 pub mod run;
-pub mod session;
 mod stages;
 pub mod status;
 #[cfg(test)]
 mod tests;
-mod trees;
 mod words;
 mod writing;
 

@@ -1,6 +1,6 @@
 // The whole run, from the words to the status.
 ghost use Rattle.std.specs.Prelude.{Err, map, string_bytes};
-ghost use Rattle.spqr_cli.specs.Machine.{IsStarted};
+ghost use Rattle.spqr_session.specs.Machine.{IsStarted};
 ghost use Rattle.spqr_cli.specs.Writing.{WritesAnswers, WritesReport};
 ghost use Rattle.spqr_cli.specs.Decision.{DecisionHasLine};
 ghost use Rattle.spqr_cli.specs.Seen.{seen, seen_shelf, seen_sink};
@@ -10,7 +10,7 @@ use crate::decision::{Accepted, decide};
 use crate::halt::Halt;
 use crate::laws::decisions;
 use crate::refusal::Refusal;
-use crate::session::Session;
+use spqr_session::Session;
 use crate::status::Status;
 use crate::writing::put_text;
 use spqr_edge::{Failed, Shelf, Sink};

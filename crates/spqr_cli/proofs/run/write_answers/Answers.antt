@@ -1,6 +1,6 @@
 use Rattle.std.proofs.Common.{sym, ◌∙◌}
 use Rattle.std.proofs.lemmas.Result.{err_from_is_err_and}
-use Rattle.spqr_cli.proofs.Steps.{step-along}
+use Rattle.spqr_session.proofs.Steps.{step-along}
 use Rattle.spqr_cli.proofs.Texts.{answers-more, answers-stopped}
 use Rattle.spqr_cli.proofs.run.write_answers.Goals as goal
 

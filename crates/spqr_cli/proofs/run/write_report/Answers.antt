@@ -3,7 +3,7 @@ use Rattle.std.specs.Io.KnownBytes.{Appends}
 use Rattle.std.proofs.lemmas.Result.{err_from_is_err_and}
 use Rattle.spqr_script.specs.declared.command.Command.{Command}
 use Rattle.spqr_cli.specs.Front.{AppendsFront}
-use Rattle.spqr_cli.specs.Head.{head_text}
+use Rattle.spqr_session.specs.Head.{head_text}
 use Rattle.spqr_cli.specs.Writing.{WritesAnswers}
 use Rattle.spqr_cli.proofs.Texts.{report-stopped_head, report-written}
 use Rattle.spqr_cli.proofs.run.write_report.Goals as goal

@@ -1,9 +1,0 @@
-use Rattle.spqr_cli.proofs.Chains.{has-answer, one-answer, one-report}
-use Rattle.spqr_cli.proofs.laws.answers.Goals as goal
-
-pub returns : goal.returns
-returns c = record {
-  each = has-answer;
-  one = one-answer;
-  report = one-report;
-}

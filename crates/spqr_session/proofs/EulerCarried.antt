@@ -1,0 +1,47 @@
+-- What `euler` answers: there is an answer, and one only.
+use Rattle.std.proofs.Common.{◌≡◌, ℕ, ◌≤◌, List, [], ◌∷◌, inl, inr, refl, sym, ap, ◌∙◌, arith}
+use Rattle.multigraph.specs.Graph.{Multigraph}
+use Rattle.rotations.specs.Given.{IsFirstBad}
+use Rattle.spqr_script.specs.Answers.Euler.{euler_text}
+use Rattle.spqr_session.specs.State.{State}
+use Rattle.spqr_session.specs.Codes.{code_number, code_text}
+use Rattle.spqr_session.specs.Commands.Euler.{EulerApplies, EulerDoes, EulerStep, IsGiven, euler_numbers}
+use Rattle.spqr_session.specs.declared.code.Code.{Code}
+use Rattle.spqr_session.specs.declared.code.Code.TheVariants.{BadRotation}
+use Rattle.spqr_session.proofs.Arranging.{arranged_or_bad, arranged-not_bad, one-bad, given-exists, given-one}
+use Rattle.spqr_session.proofs.Carried.{TellsOne, DoesOne, carries-one}
+
+module _ (g : Multigraph) (entries : List (ℕ × List ℕ)) where
+  -- no code that applies is lower than 6
+  least-code : (v : ℕ) (other : Code) → EulerApplies g entries other → code_number (BadRotation v) ≤ code_number other
+  least-code v (BadRotation w) a = omega arith
+
+  -- where the lists are a rotation system no code applies
+  none-applies : (r : List (List ℕ)) → IsGiven g entries r → (code : Code) → EulerApplies g entries code → ⊥
+  none-applies r is (BadRotation v) a = arranged-not_bad g entries v is.arranged a
+
+  -- the line of the first bad number is the answer
+  pub euler-refused : (v : ℕ) (s : State) (text : List ℕ) → IsFirstBad g entries v → text ≡ code_text (BadRotation v) → EulerStep g entries s text s
+  euler-refused v s text bad e = inl (record { code = BadRotation v; lowest = record { met = bad; least = least-code v }; line = e; stays = refl })
+
+  -- the numbers of the rotation system are the answer
+  pub euler-done : (r : List (List ℕ)) (s : State) (text : List ℕ) → IsGiven g entries r → text ≡ euler_text (euler_numbers g r) → EulerStep g entries s text s
+  euler-done r s text is e = inr (none-applies r is, record { rotation = r; given = is; answer = e; stays = refl })
+
+  -- there is an answer
+  pub euler-answers : (s : State) → (text : List ℕ) × (after : State) × EulerStep g entries s text after
+  euler-answers s = elim (arranged_or_bad g entries) [
+    | inl a ↦ (let is = given-exists g entries a in (euler_text (euler_numbers g is.0), s, euler-done is.0 s (euler_text (euler_numbers g is.0)) is.1 refl))
+    | inr bad ↦ (code_text (BadRotation bad.0), s, euler-refused bad.0 s (code_text (BadRotation bad.0)) bad.1 refl)
+  ]
+
+  -- and one only: the code tells one number, and the lists are one rotation system
+  euler-tells : TellsOne (EulerApplies g entries)
+  euler-tells (BadRotation v) (BadRotation w) a b e = ap (λ (n : ℕ). n ∷ []) (one-bad g entries v w a b)
+
+  euler-does : (before : State) → DoesOne (EulerDoes g entries) before
+  euler-does before s t after other p q =
+      (p.answer ∙ ap (λ (r : List (List ℕ)). euler_text (euler_numbers g r)) (given-one g entries p.rotation q.rotation p.given q.given) ∙ sym q.answer, p.stays ∙ sym q.stays)
+
+  pub euler-one : (before : State) (s t : List ℕ) (after other : State) → EulerStep g entries before s after → EulerStep g entries before t other → (s ≡ t) × (after ≡ other)
+  euler-one before s t after other p q = carries-one (EulerApplies g entries) (EulerDoes g entries) before s t after other euler-tells (euler-does before) p q

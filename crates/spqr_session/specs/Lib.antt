@@ -1,0 +1,11 @@
+-- The setting and the state of a session, and what commands do.
+pub mod Trees
+pub mod Setting
+pub mod State
+pub mod Codes
+pub mod Commands
+pub mod Step
+pub mod Head
+pub mod Report
+pub mod Machine
+pub mod Laws

@@ -1,0 +1,85 @@
+// The head of the report.
+ghost use Rattle.std.specs.Prelude.{◌≡◌, ◌≤◌, ◌++◌, IfOk, OnOk, length, map};
+ghost use Rattle.std.specs.List.{concat};
+ghost use Rattle.gml_text.specs.Document.{Document};
+ghost use Rattle.multigraph.specs.Graph.{Multigraph, max_vertices, IsGraph};
+ghost use Rattle.pair_split.specs.Tutte.{IsTutte};
+ghost use Rattle.spqr_script.specs.Head.{vertex_text, cut_text};
+ghost use Rattle.spqr_session.specs.Setting.{setting_of};
+ghost use Rattle.spqr_session.specs.Trees.{AreBlockTrees};
+ghost use Rattle.spqr_session.specs.Head.{head_text, nodes_text, block_lines, numbered};
+
+use crate::trees::PartTree;
+use blocks::Blocks;
+use gml_graph::Named;
+use multigraph::Part;
+use spqr_script::{graph_line, push_block_line, push_cut_line, push_node_line, push_vertex_line};
+use spqr_tree::Tree;
+use std::alloc::{AllocError, Global};
+
+// Puts the lines of the vertices behind a text.
+fn push_vertices(out: &mut Vec<u8>, ids: &[i64]) -> Result<(), AllocError>
+    requires { length ids.now ≤ max_vertices }
+    ensures { OnOk result (out.new.items ≡ out.old.items ++ numbered vertex_text 0 ids.now) }
+{
+    for (v, id) in ids.iter().enumerate() {
+        push_vertex_line(out, v as u32, *id)?;
+    }
+    Ok(())
+}
+
+// Puts the lines of the cut vertices behind a text.
+fn push_cuts(out: &mut Vec<u8>, cut_vertices: &[u32]) -> Result<(), AllocError>
+    ensures { OnOk result (out.new.items ≡ out.old.items ++ concat (map cut_text cut_vertices.now)) }
+{
+    for v in cut_vertices {
+        push_cut_line(out, *v)?;
+    }
+    Ok(())
+}
+
+// Puts the lines of the tree of a part behind a text.
+fn push_nodes(out: &mut Vec<u8>, part: &Part, tree: &Tree) -> Result<(), AllocError>
+    requires graph { IsGraph part.now.graph }
+    requires nodes { IsTutte part.now.graph tree.now }
+    ensures { OnOk result (out.new.items ≡ out.old.items ++ nodes_text part.now tree.now) }
+{
+    for k in 0..tree.node_count() {
+        push_node_line(out, part, tree, k)?;
+    }
+    Ok(())
+}
+
+// Puts the lines of the blocks and of their trees behind a text.
+fn push_trees(out: &mut Vec<u8>, blocks: &Blocks, trees: &[PartTree]) -> Result<(), AllocError>
+    requires { (g : Multigraph) × AreBlockTrees g blocks.now.blocks trees.now }
+    ensures { OnOk result
+        (out.new.items ≡ out.old.items ++ numbered (block_lines trees.now) 0 blocks.now.blocks) }
+{
+    for b in 0..blocks.block_count() {
+        push_block_line(out, b, blocks.edges(b))?;
+        let t = &trees[b as usize];
+        push_nodes(out, t.part(), t.tree())?;
+    }
+    Ok(())
+}
+
+/// The head: the line of the graph, then a line for each vertex, for each cut vertex and for each block with the nodes of its
+/// tree, rising.
+pub fn head_of(
+    alloc: Global,
+    named: &Named,
+    blocks: &Blocks,
+    trees: &[PartTree],
+) -> Result<Vec<u8>, AllocError>
+    requires { AreBlockTrees named.now.graph blocks.now.blocks trees.now }
+    ensures { (document : Document) → IfOk result (λ text. text.items ≡ head_text
+        (setting_of document named.now blocks.now trees.now)) }
+{
+    let graph = named.graph();
+    let mut out = graph_line(alloc, graph.vertex_count(), graph.edge_count())?;
+    push_vertices(&mut out, named.ids())?;
+    push_cuts(&mut out, blocks.cut_vertices())?;
+    push_trees(&mut out, blocks, trees)?;
+    Ok(out)
+}

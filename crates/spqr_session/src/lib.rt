@@ -1,0 +1,11 @@
+// A session on a graph: blocks with their trees, and commands that are carried out on them.
+#![tactic(auto)]
+
+mod code;
+mod commands;
+mod head;
+pub mod laws;
+mod session;
+mod trees;
+
+pub use session::Session;
