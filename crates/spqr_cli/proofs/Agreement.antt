@@ -1,8 +1,11 @@
 -- Decisions that are due for the same words and bytes are alike, a read that failed aside: so they have one status, and one text but
 -- for what is left open.
-use Rattle.std.proofs.Common.{◌≡◌, ◌≢◌, ℕ, List, Option, None, Ok, Err, IsSome, refl, sym, ap, ◌∙◌, subst, arith}
+use Rattle.std.proofs.Common.{◌≡◌, ◌≢◌, ℕ, List, length, Option, None, Some, Ok, Err, IsSome, inl, inr, refl, sym, ap, ◌∙◌, subst, arith}
 use Rattle.std.specs.Bool.{⊤}
-use Rattle.std.proofs.lemmas.Bool.{true≢false}
+use Rattle.std.proofs.lemmas.Bool.{true≢false, cases_lt}
+use Rattle.std.proofs.lemmas.List.{get_or_past}
+use Rattle.multigraph.specs.Graph.{Multigraph}
+use Rattle.kuratowski.specs.declared.subdivision.Subdivision.{Subdivision}
 use Rattle.blocks.specs.Blocks.{BlockStructure, IsBlockStructure}
 use Rattle.blocks.proofs.OneStructure.{one-structure}
 use Rattle.gml_text.specs.Document.{Document}
@@ -14,12 +17,14 @@ use Rattle.gml_text.specs.declared.document.GmlFault.{GmlFault}
 use Rattle.gml_text.specs.declared.document.GmlFault.TheVariants.{Bad, End, Memory as GmlMemory}
 use Rattle.spqr_script.specs.declared.command.Command.{Command}
 use Rattle.spqr_script.proofs.Scripts.{apart, one_reading, one_bad_line}
-use Rattle.spqr_session.specs.Trees.{AreBlockTrees}
+use Rattle.spqr_session.specs.Trees.{BlockTree, tree_at, AreBlockTrees}
 use Rattle.spqr_session.specs.Report.{IsReport}
 use Rattle.spqr_cli.specs.Words.{Names, form_of}
 use Rattle.spqr_cli.specs.Decision.{Sources, Work, Decision, SayDocument, SayCommands, AcceptsGraph, AcceptsScript, IsGmlReason, IsGraphReason, IsScriptReason, IsWork, IsDue}
 use Rattle.spqr_cli.specs.Ending.{file_status, graph_status, script_status, refusal_status, refusal_text, status_of, IsTextOf}
-use Rattle.spqr_cli.specs.Laws.{AgreeOnOpen}
+use Rattle.spqr_session.specs.Certificates.{certificate_at, IsCertificate, AreCertificates}
+use Rattle.spqr_session.specs.Setting.{IsSetting}
+use Rattle.spqr_cli.specs.Laws.{AgreeOnOpen, AreAlike}
 use Rattle.spqr_cli.specs.declared.reading.FileFault.{FileFault}
 use Rattle.spqr_cli.specs.declared.reading.FileFault.TheVariants.{Failed, Long}
 use Rattle.spqr_cli.specs.declared.refusal.Refusal.{Refusal}
@@ -97,8 +102,20 @@ script_same bytes (Script Long) (Line line) p o n m = absurd (omega (arith, p, o
 script_same bytes (Line line) (Script Long) p o n m = absurd (omega (arith, o, p.0))
 script_same bytes (Line line) (Line other) p o n m = ap (λ (l : ℕ). Line l) (one_bad_line bytes line other p.1 o.1)
 
--- works are the same
-same_work : OneDocument → (sources : Sources) (a b : Work) → IsWork sources a → IsWork sources b → a ≡ b
+-- a graph has no certificate where it has none in another work
+certificates_alike : (g : Multigraph) (o u : Option Subdivision) → IsCertificate g o → IsCertificate g u → o ≡ None → u ≡ None
+certificates_alike g o None p q e = refl
+certificates_alike g None (Some s) p q e = absurd (q.1 p.0 p.1)
+certificates_alike g (Some t) (Some s) p q e = absurd (let both : Some t ≡ None = e in cc)
+
+planar_alike : (trees : List BlockTree) (a b : List (Option Subdivision)) → AreCertificates trees a → AreCertificates trees b → (k : ℕ) → certificate_at a k ≡ None → certificate_at b k ≡ None
+planar_alike trees a b p q k e = elim (cases_lt k (length trees)) [
+  | inl l ↦ certificates_alike (tree_at trees k).part.graph (certificate_at a k) (certificate_at b k) (p.each k l) (q.each k l) e
+  | inr n ↦ get_or_past b k None (omega (arith, n, q.one_each))
+]
+
+-- works are the same but for their certificates
+same_work : OneDocument → (sources : Sources) (a b : Work) → IsWork sources a → IsWork sources b → AreAlike a b
 same_work one sources a b p q =
     let document : a.setting.document ≡ b.setting.document = one sources.graph a.setting.document b.setting.document p.graph.spelled q.graph.spelled in
     let both : Ok a.setting.named ≡ Ok b.setting.named = sym p.setting.graph ∙ (ap graph_of_document document ∙ q.setting.graph) in
@@ -107,12 +124,26 @@ same_work one sources a b p q =
     one-structure b.setting.named.graph a.setting.structure b.setting.structure (subst (λ (x : NamedGraph). IsBlockStructure x.graph a.setting.structure) named p.setting.structure) q.setting.structure in
     let trees : a.setting.trees ≡ b.setting.trees = one-trees b.setting.named.graph b.setting.structure.blocks a.setting.trees b.setting.trees q.setting.structure.blocks
     (subst (λ (x : BlockStructure). AreBlockTrees b.setting.named.graph x.blocks a.setting.trees) structure (subst (λ (x : NamedGraph). AreBlockTrees x.graph a.setting.structure.blocks a.setting.trees) named p.setting.trees)) q.setting.trees in
-    let commands : a.commands ≡ b.commands = one_reading sources.script a.commands b.commands p.script.spelled q.script.spelled in
-    λ i. record { setting = record { document = document i; named = named i; structure = structure i; trees = trees i }; commands = commands i }
+    let certificates : AreCertificates b.setting.trees a.setting.certificates = subst (λ (ts : List BlockTree). AreCertificates ts a.setting.certificates) trees p.setting.certificates in
+    record {
+      document = document;
+      named = named;
+      structure = structure;
+      trees = trees;
+      planar = λ k. (
+        planar_alike b.setting.trees a.setting.certificates b.setting.certificates certificates q.setting.certificates k,
+        planar_alike b.setting.trees b.setting.certificates a.setting.certificates q.setting.certificates certificates k,
+      );
+      commands = one_reading sources.script a.commands b.commands p.script.spelled q.script.spelled;
+    }
+
+-- with the same certificates they are the same
+work_same : (a b : Work) → AreAlike a b → a.setting.certificates ≡ b.setting.certificates → a ≡ b
+work_same a b e c = λ i. record { setting = record { document = e.document i; named = e.named i; structure = e.structure i; trees = e.trees i; certificates = c i }; commands = e.commands i }
 
 -- decisions are alike
 abbrev Alike : Decision → Decision → Type 0
-Alike (Ok a) (Ok b) = a ≡ b
+Alike (Ok a) (Ok b) = AreAlike a b
 Alike (Ok a) (Err r) = ⊥
 Alike (Err r) (Ok b) = ⊥
 Alike (Err NoForm) (Err NoForm) = ⊤
@@ -189,29 +220,38 @@ graph_same (Rule a) (Gml b) e o = absurd e
 graph_same (Rule a) (Rule b) e o = ap (λ (f : GraphFault). Rule f) e
 
 -- a work has one report
-report_alike : (a b : Work) (s t : List ℕ) → a ≡ b → IsReport a.setting a.commands s → IsReport b.setting b.commands t → s ≡ t
-report_alike a b s t w p q = one-report b.setting b.commands s t (subst (λ (x : Work). IsReport x.setting x.commands s) w p) q
+report_alike : (a b : Work) (s t : List ℕ) → IsSetting b.setting → a ≡ b → IsReport a.setting a.commands s → IsReport b.setting b.commands t → s ≡ t
+report_alike a b s t is w p q = one-report b.setting b.commands s t is (subst (λ (x : Work). IsReport x.setting x.commands s) w p) q
 
-text_alike : (a b : Decision) (s t : List ℕ) → Alike a b → AgreeOnOpen a b → IsTextOf a s → IsTextOf b t → s ≡ t
-text_alike (Ok a) (Ok b) s t e o p q = report_alike a b s t e p q
-text_alike (Ok a) (Err r) s t e o p q = absurd e
-text_alike (Err r) (Ok b) s t e o p q = absurd e
-text_alike (Err NoForm) (Err NoForm) s t e o p q = p ∙ sym q
-text_alike (Err NoForm) (Err (OfGraph r)) s t e o p q = absurd e
-text_alike (Err NoForm) (Err (OfScript r)) s t e o p q = absurd e
-text_alike (Err (OfGraph r)) (Err NoForm) s t e o p q = absurd e
-text_alike (Err (OfGraph r)) (Err (OfGraph k)) s t e o p q = p ∙ ap (λ (x : GraphRefusal). refusal_text (OfGraph x)) (graph_same r k e o) ∙ sym q
-text_alike (Err (OfGraph r)) (Err (OfScript k)) s t e o p q = absurd e
-text_alike (Err (OfScript r)) (Err NoForm) s t e o p q = absurd e
-text_alike (Err (OfScript r)) (Err (OfGraph k)) s t e o p q = absurd e
-text_alike (Err (OfScript r)) (Err (OfScript k)) s t e o p q = p ∙ ap (λ (x : ScriptRefusal). refusal_text (OfScript x)) e ∙ sym q
+-- the setting of a work that is due is right
+abbrev HasSetting : Decision → Type 0
+HasSetting (Ok work) = IsSetting work.setting
+HasSetting (Err r) = ⊤
+
+due_setting : (words : List (List ℕ)) (sources : Sources) (d : Decision) → IsDue words sources d → HasSetting d
+due_setting words sources (Ok work) h = h.1.setting
+due_setting words sources (Err r) h = tt
+
+text_alike : (a b : Decision) (s t : List ℕ) → HasSetting b → Alike a b → AgreeOnOpen a b → IsTextOf a s → IsTextOf b t → s ≡ t
+text_alike (Ok a) (Ok b) s t is e o p q = report_alike a b s t is (work_same a b e o) p q
+text_alike (Ok a) (Err r) s t is e o p q = absurd e
+text_alike (Err r) (Ok b) s t is e o p q = absurd e
+text_alike (Err NoForm) (Err NoForm) s t is e o p q = p ∙ sym q
+text_alike (Err NoForm) (Err (OfGraph r)) s t is e o p q = absurd e
+text_alike (Err NoForm) (Err (OfScript r)) s t is e o p q = absurd e
+text_alike (Err (OfGraph r)) (Err NoForm) s t is e o p q = absurd e
+text_alike (Err (OfGraph r)) (Err (OfGraph k)) s t is e o p q = p ∙ ap (λ (x : GraphRefusal). refusal_text (OfGraph x)) (graph_same r k e o) ∙ sym q
+text_alike (Err (OfGraph r)) (Err (OfScript k)) s t is e o p q = absurd e
+text_alike (Err (OfScript r)) (Err NoForm) s t is e o p q = absurd e
+text_alike (Err (OfScript r)) (Err (OfGraph k)) s t is e o p q = absurd e
+text_alike (Err (OfScript r)) (Err (OfScript k)) s t is e o p q = p ∙ ap (λ (x : ScriptRefusal). refusal_text (OfScript x)) e ∙ sym q
 
 pub one_text : OneDocument → (words : List (List ℕ)) (sources : Sources) (a b : Decision) (s t : List ℕ) → IsDue words sources a → IsDue words sources b → status_of a ≢ ReadFault → status_of b ≢ ReadFault → AgreeOnOpen a b → IsTextOf a s → IsTextOf b t → s ≡ t
-one_text one words sources a b s t p q n m o = text_alike a b s t (due_alike one words sources a b p q n m) o
+one_text one words sources a b s t p q n m o = text_alike a b s t (due_setting words sources b q) (due_alike one words sources a b p q n m) o
 
 -- ---- works and refusals
 
-pub one_work : OneDocument → (words : List (List ℕ)) (sources : Sources) (a b : Work) → IsDue words sources (Ok a) → IsDue words sources (Ok b) → a ≡ b
+pub one_work : OneDocument → (words : List (List ℕ)) (sources : Sources) (a b : Work) → IsDue words sources (Ok a) → IsDue words sources (Ok b) → AreAlike a b
 one_work one words sources a b p q = same_work one sources a b p.1 q.1
 
 -- where the words and the files are accepted, no refusal is due

@@ -10,14 +10,14 @@ use Rattle.spqr_edge.specs.declared.Failed.{Failed}
 use Rattle.spqr_script.specs.declared.command.Command.{Command}
 use Rattle.spqr_cli.specs.declared.halt.Halt.{Halt}
 use Rattle.spqr_cli.specs.declared.halt.Halt.TheVariants.{Refused, Memory}
-use Rattle.spqr_session.specs.Setting.{Setting}
+use Rattle.spqr_session.specs.Setting.{Setting, IsSetting}
 use Rattle.spqr_session.specs.State.{State, IsStart}
 use Rattle.spqr_session.specs.Step.{Step, IsChain}
 use Rattle.spqr_session.specs.Head.{head_text}
 use Rattle.spqr_session.specs.Report.{IsReport}
 use Rattle.spqr_cli.specs.Front.{AppendsFront}
 use Rattle.spqr_cli.specs.Writing.{WritesAll, WritesFront, WritesAnswers, AppendsReport, AppendsReportFront, WritesReport}
-use Rattle.spqr_session.proofs.Chains.{chain-exists, chain-join}
+use Rattle.spqr_session.proofs.Chains.{chain-exists, chain-keeps, chain-join}
 use Rattle.spqr_session.proofs.Numbered.{concat-take_more}
 
 -- ---- answers
@@ -64,7 +64,7 @@ module _ (setting : Setting) (start mid after : State) (commands : List Command)
 
 -- ---- reports
 
-module _ (setting : Setting) (start : State) (commands : List Command) (is : IsStart setting start) where
+module _ (setting : Setting) (start : State) (commands : List Command) (right : IsSetting setting) (is : IsStart setting start) where
   -- the head and answers are a report
   report-of : (cs : List Command) (texts : List (List ℕ)) (last : State) → IsChain setting start cs texts last → IsReport setting cs (head_text setting ++ concat texts)
   report-of cs texts last chain = record { start = start; last = last; texts = texts; starts = is; answers = chain; whole = refl }
@@ -80,7 +80,7 @@ module _ (setting : Setting) (start : State) (commands : List Command) (is : IsS
   -- a front of the head was written
   pub report-stopped_head : (before now : Option (List ℕ)) → AppendsFront before now (head_text setting) → AppendsReportFront setting commands before now
   report-stopped_head before now f =
-      let others = chain-exists setting start commands in
+      let others = chain-exists setting start commands right is.state in
       record {
         text = head_text setting ++ concat others.0;
         report = report-of commands others.0 others.1 others.2;
@@ -95,7 +95,7 @@ module _ (setting : Setting) (start : State) (commands : List Command) (is : IsS
   -- the head was written, and then a front of the first answers
   report-stopped : (k : ℕ) (before mid now : Option (List ℕ)) → Appends before mid (head_text setting) → WritesFront setting start (take k commands) mid now → AppendsReportFront setting commands before now
   report-stopped k before mid now a w =
-      let others = chain-exists setting w.last (drop k commands) in
+      let others = chain-exists setting w.last (drop k commands) right (chain-keeps setting start (take k commands) w.texts w.last right is.state w.answers) in
       let texts : List (List ℕ) = w.texts ++ others.0 in
       let chain : IsChain setting start commands texts others.1 = subst (λ (cs : List Command). IsChain setting start cs texts others.1) (take-append-drop k commands) (chain-join setting start w.last others.1 (take k commands) (drop k commands) w.texts others.0 w.answers others.2) in
       let f = w.written in

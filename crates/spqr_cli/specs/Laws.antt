@@ -1,10 +1,6 @@
 -- What the definitions of a run say of one another.
-use Rattle.std.specs.Prelude.{◌≡◌, ◌≢◌, ℕ, List, Ok, Err, IsSome, ⊤}
-use Rattle.spqr_script.specs.declared.command.Command.{Command}
-use Rattle.spqr_session.specs.Setting.{Setting}
-use Rattle.spqr_session.specs.State.{State}
-use Rattle.spqr_session.specs.Step.{Step}
-use Rattle.spqr_session.specs.Report.{IsReport}
+use Rattle.std.specs.Prelude.{◌≡◌, ◌≢◌, ◌↔◌, ℕ, List, None, Ok, Err, IsSome, ⊤}
+use Rattle.spqr_session.specs.Certificates.{certificate_at}
 use Rattle.spqr_cli.specs.Words.{form_of}
 use Rattle.spqr_cli.specs.Decision.{Sources, Work, Decision, AcceptsGraph, AcceptsScript, IsDue}
 use Rattle.spqr_cli.specs.Ending.{IsTextOf, status_of}
@@ -13,8 +9,10 @@ use Rattle.spqr_cli.specs.declared.refusal.Refusal.{Refusal}
 use Rattle.spqr_cli.specs.declared.refusal.GraphRefusal.TheVariants.{Gml}
 use Rattle.spqr_cli.specs.declared.status.Status.TheVariants.{ReadFault}
 
--- two decisions agree on what their definitions leave open: the place that is told of a fault in GML
+-- two decisions agree on what their definitions leave open: the certificates of blocks that are not planar, and the place that
+-- is told of a fault in GML
 abbrev pub AgreeOnOpen : Decision → Decision → Type 0
+AgreeOnOpen (Ok a) (Ok b) = a.setting.certificates ≡ b.setting.certificates
 AgreeOnOpen (Err (OfGraph (Gml fault))) (Err (OfGraph (Gml other))) = fault ≡ other
 AgreeOnOpen a b = ⊤
 
@@ -30,10 +28,19 @@ OneText =
     (words : List (List ℕ)) (sources : Sources) (a b : Decision) (s t : List ℕ) → IsDue words sources a → IsDue words sources b
     → status_of a ≢ ReadFault → status_of b ≢ ReadFault → AgreeOnOpen a b → IsTextOf a s → IsTextOf b t → s ≡ t
 
--- works that are due for the same words and bytes are the same, their trees included
+-- works are the same but for the certificates, and the same blocks have one
+pub record AreAlike (a b : Work) : Type 0 where
+  pub document : a.setting.document ≡ b.setting.document
+  pub named : a.setting.named ≡ b.setting.named
+  pub structure : a.setting.structure ≡ b.setting.structure
+  pub trees : a.setting.trees ≡ b.setting.trees
+  pub planar : (k : ℕ) → (certificate_at a.setting.certificates k ≡ None) ↔ (certificate_at b.setting.certificates k ≡ None)
+  pub commands : a.commands ≡ b.commands
+
+-- works that are due for the same words and bytes are so, their trees included
 abbrev pub OneWork : Type 0
 OneWork =
-    (words : List (List ℕ)) (sources : Sources) (a b : Work) → IsDue words sources (Ok a) → IsDue words sources (Ok b) → a ≡ b
+    (words : List (List ℕ)) (sources : Sources) (a b : Work) → IsDue words sources (Ok a) → IsDue words sources (Ok b) → AreAlike a b
 
 -- where the words are a form and both files are accepted, no refusal is due, a read that failed aside
 abbrev pub NoRefusal : Type 0

@@ -1,6 +1,7 @@
 // What is decided before anything is written: the work to be done, or the first refusal.
-ghost use Rattle.std.specs.Prelude.{◌≡◌, ◌≤◌, ⊤, length, map, string_bytes};
+ghost use Rattle.std.specs.Prelude.{◌≡◌, ◌≤◌, ⊤, Ok, IfOk, length, map, string_bytes};
 ghost use Rattle.spqr_edge.specs.Device.{CountsCall};
+ghost use Rattle.gml_graph.specs.Answer.{graph_of_document};
 ghost use Rattle.spqr_cli.specs.Outcome.{Answers};
 ghost use Rattle.spqr_session.specs.Machine.{IsStarted};
 ghost use Rattle.spqr_cli.specs.Decision.{graph_limit, script_limit, SayDocument, SayCommands, IsGraphReason, IsScriptReason, GraphFileSays, GraphFileRefused, ScriptFileSays, ScriptFileRefused, HasLine};
@@ -13,10 +14,14 @@ use crate::refusal::{GraphRefusal, Refusal, ScriptRefusal};
 use spqr_session::Session;
 use crate::stages::{commands_of, document_of, graph_of};
 use crate::words::form_of;
+use contract_embed::ContractEmbedder;
+use gml_graph::Named;
+use gml_text::Doc;
 use pair_split::PairSplitter;
+use quick_embed::QuickEmbedder;
 use spqr_edge::Shelf;
 use spqr_script::Command;
-use std::alloc::Global;
+use std::alloc::{AllocError, Global};
 
 // The greatest length of the graph file.
 const GRAPH_LIMIT: usize = 16_777_216;
@@ -29,6 +34,18 @@ const SCRIPT_LIMIT: usize = 1_048_576;
 pub struct Accepted {
     pub session: Session,
     pub commands: Vec<Command>,
+}
+
+// A session on a document and its graph: blocks are split by pairs of vertices, and triconnected graphs embedded quickly.
+fn started(alloc: Global, doc: Doc, named: Named) -> Result<Session, AllocError>
+    requires { graph_of_document doc ≡ Ok named }
+    ensures parts { IfOk result (λ s. (s.setting.document ≡ doc) × (s.setting.named ≡ named)) }
+    ensures started { IfOk result IsStarted }
+{
+    let mut embedder = QuickEmbedder {
+        fallback: ContractEmbedder,
+    };
+    Session::start(alloc, doc, named, &mut PairSplitter::new(), &mut embedder)
 }
 
 // A session on what the bytes of the graph file say.
@@ -45,7 +62,7 @@ fn session_on(alloc: Global, bytes: &[u8]) -> Result<Session, Halt<GraphRefusal>
         Err(Halt::Memory) => return Err(Halt::Memory),
     };
     match graph_of(alloc, &doc) {
-        Ok(named) => Ok(Session::start(alloc, doc, named, &mut PairSplitter::new())?),
+        Ok(named) => Ok(started(alloc, doc, named)?),
         Err(Halt::Refused(fault)) => Err(Halt::Refused(GraphRefusal::Rule(fault))),
         Err(Halt::Memory) => Err(Halt::Memory),
     }

@@ -1,73 +1,77 @@
--- The trees of a graph's blocks, one after another, and what their nodes hold.
-use Rattle.std.proofs.Common.{◌≡◌, ℕ, ◌+◌, ◌<◌, List, [], ◌∷◌, ◌++◌, length, take, get_or, inl, inr, sym, ap, ◌∙◌, subst, arith, append_assoc, length-append}
+-- The blocks of a graph, one after another, and their lines in the head.
+use Rattle.std.proofs.Common.{◌≡◌, ℕ, ◌+◌, ◌<◌, List, [], ◌∷◌, ◌++◌, length, map, take, get_or, Option, inl, inr, sym, ap, ◌∙◌, subst, arith, append_assoc, length-append}
 use Rattle.std.proofs.lemmas.Bool.{cases_eq}
-use Rattle.std.proofs.lemmas.List.{get_or_default, get_or_append_left}
+use Rattle.std.proofs.lemmas.List.{get_or_default, get_or_append_left, length-map}
 use Rattle.std.proofs.Math.Seq.{get_or-append_seam}
 use Rattle.multigraph.specs.Graph.{Multigraph, IsGraph}
 use Rattle.multigraph.specs.Part.{GraphPart}
 use Rattle.blocks.specs.Blocks.{block_at}
+use Rattle.kuratowski.specs.declared.subdivision.Subdivision.{Subdivision}
 use Rattle.pair_split.specs.Tutte.{Node, node_at, IsTutte}
 use Rattle.spqr_tree.proofs.TutteFits.{tutte-items, tutte-vertices}
 use Rattle.spqr_script.specs.Node.{IsNodeOf}
 use Rattle.spqr_script.specs.Head.{block_text}
-use Rattle.spqr_session.specs.Trees.{BlockTree, tree_at, IsBlockTree, AreBlockTrees}
-use Rattle.spqr_session.specs.Head.{numbered, nodes_text, block_lines}
+use Rattle.spqr_session.specs.Trees.{BlockTree, AreBlockTrees}
+use Rattle.spqr_session.specs.Certificates.{certificate_at}
+use Rattle.spqr_session.specs.Embedded.{BlockView, view_tree, view_certificate, no_view, view_at, IsStartBlock, AreStartBlocks}
+use Rattle.spqr_session.specs.Head.{numbered, nodes_text, planarity_text, block_lines}
 use Rattle.spqr_session.proofs.Numbered.{numbered-take}
+use Rattle.spqr_session.proofs.Views.{trees-at, certificates-at}
 
 -- each number in a node of a part's tree is one of the part
 pub node-of_part : (part : GraphPart) (nodes : List Node) (k : ℕ) → IsGraph part.graph → IsTutte part.graph nodes → k < length nodes → IsNodeOf part (node_at nodes k)
 node-of_part part nodes k is t l = record { vertices = tutte-vertices part.graph nodes is t k l; items = tutte-items part.graph nodes is t k }
 
--- the trees of the first n blocks
-pub record FirstTrees (g : Multigraph) (blocks : List (List ℕ)) (n : ℕ) (trees : List BlockTree) : Type 0 where
-  pub counted : length trees ≡ n
-  pub each : (b : ℕ) → b < n → IsBlockTree g (block_at blocks b) (tree_at trees b)
-
--- none yet
-pub no_trees : (g : Multigraph) (blocks : List (List ℕ)) (trees : List BlockTree) → trees ≡ [] → FirstTrees g blocks 0 trees
-no_trees g blocks trees e = record { counted = ap (λ (l : List BlockTree). length l) e; each = λ b l. absurd (omega (arith, l)) }
+-- no block yet
+pub no_blocks : (g : Multigraph) (blocks : List (List ℕ)) (views : List BlockView) → views ≡ [] → AreStartBlocks g blocks 0 views
+no_blocks g blocks views e = record { one_each = ap (λ (l : List BlockView). length l) e; each = λ b l. absurd (omega (arith, l)) }
 
 -- one more
-pub tree-more : (g : Multigraph) (blocks : List (List ℕ)) (n : ℕ) (trees more : List BlockTree) (tree : BlockTree) → FirstTrees g blocks n trees → IsBlockTree g (block_at blocks n) tree → more ≡ trees ++ tree ∷ [] → FirstTrees g blocks (n + 1) more
-tree-more g blocks n trees more tree f is e = subst (FirstTrees g blocks (n + 1)) (sym e) (record {
-  counted = omega (arith, length-append trees (tree ∷ []), f.counted);
+pub block-more : (g : Multigraph) (blocks : List (List ℕ)) (n : ℕ) (views more : List BlockView) (v : BlockView) → AreStartBlocks g blocks n views → IsStartBlock g (block_at blocks n) v → more ≡ views ++ v ∷ [] → AreStartBlocks g blocks (n + 1) more
+block-more g blocks n views more v f is e = subst (AreStartBlocks g blocks (n + 1)) (sym e) (record {
+  one_each = omega (arith, length-append views (v ∷ []), f.one_each);
   each = λ b l. elim (cases_eq b n) [
-    | inl q ↦ subst (λ (k : ℕ). IsBlockTree g (block_at blocks k) (tree_at (trees ++ tree ∷ []) k)) (sym q) (subst (IsBlockTree g (block_at blocks n)) (sym (last n f.counted)) is)
-    | inr apart ↦ subst (IsBlockTree g (block_at blocks b)) (sym (get_or_append_left trees (tree ∷ []) none b (omega (arith, l, apart, f.counted)))) (f.each b (omega (arith, l, apart)))
+    | inl q ↦ subst (λ (k : ℕ). IsStartBlock g (block_at blocks k) (view_at (views ++ v ∷ []) k)) (sym q) (subst (IsStartBlock g (block_at blocks n)) (sym (last n f.one_each)) is)
+    | inr apart ↦ subst (IsStartBlock g (block_at blocks b)) (sym (get_or_append_left views (v ∷ []) no_view b (omega (arith, l, apart, f.one_each)))) (f.each b (omega (arith, l, apart)))
   ];
 })
   where
-    none : BlockTree
-    none = record { part = record { graph = record { vertex_count = 0; ends = [] }; vertices = []; edges = [] }; nodes = [] }
+    last : (k : ℕ) → length views ≡ k → view_at (views ++ v ∷ []) k ≡ v
+    last k c = subst (λ (k : ℕ). view_at (views ++ v ∷ []) k ≡ v) c (get_or-append_seam views v [] no_view)
 
-    last : (k : ℕ) → length trees ≡ k → tree_at (trees ++ tree ∷ []) k ≡ tree
-    last k c = subst (λ (k : ℕ). tree_at (trees ++ tree ∷ []) k ≡ tree) c (get_or-append_seam trees tree [] none)
-
--- all of them
-pub all_trees : (g : Multigraph) (blocks : List (List ℕ)) (n : ℕ) (trees : List BlockTree) → FirstTrees g blocks n trees → n ≡ length blocks → AreBlockTrees g blocks trees
-all_trees g blocks n trees f e = record { one_each = f.counted ∙ e; each = λ b l. f.each b (omega (arith, l, e)) }
-
--- the lines of one block more, and of its tree
-pub lines-more : (blocks : List (List ℕ)) (trees : List BlockTree) (b : ℕ) (text before line after : List ℕ) → b < length blocks
-    → before ≡ text ++ numbered (block_lines trees) 0 (take b blocks) → line ≡ before ++ block_text b (block_at blocks b) → after ≡ line ++ nodes_text (tree_at trees b).part (tree_at trees b).nodes → after ≡ text ++ numbered (block_lines trees) 0 (take (b + 1) blocks)
-lines-more blocks trees b text before line after within p q r =
-    let one = numbered (block_lines trees) 0 (take b blocks) in
+-- the lines of one block more, of its tree, and whether it is planar
+pub lines-more : (blocks : List (List ℕ)) (views : List BlockView) (b : ℕ) (text before line nodes after : List ℕ) → b < length blocks
+    → before ≡ text ++ numbered (block_lines (map view_tree views) (map view_certificate views)) 0 (take b blocks) → line ≡ before ++ block_text b (block_at blocks b)
+    → nodes ≡ line ++ nodes_text (view_at views b).tree.part (view_at views b).tree.nodes → after ≡ nodes ++ planarity_text b (view_at views b).tree.part (view_at views b).certificate
+    → after ≡ text ++ numbered (block_lines (map view_tree views) (map view_certificate views)) 0 (take (b + 1) blocks)
+lines-more blocks views b text before line nodes after within p q r o =
+    let lines = block_lines (map view_tree views) (map view_certificate views) in
+    let one = numbered lines 0 (take b blocks) in
     let two = block_text b (block_at blocks b) in
-    let three = nodes_text (tree_at trees b).part (tree_at trees b).nodes in
-    let more : numbered (block_lines trees) 0 (take (b + 1) blocks) ≡ one ++ (two ++ three) =
-    numbered-take (block_lines trees) blocks b (block_at blocks b) within (get_or_default blocks b (block_at blocks b) [] within) in
-    r ∙ ap (λ (t : List ℕ). t ++ three) (q ∙ ap (λ (t : List ℕ). t ++ two) p ∙ append_assoc text one two) ∙ append_assoc text (one ++ two) three
-    ∙ ap (λ (t : List ℕ). text ++ t) (append_assoc one two three ∙ sym more)
+    let three = nodes_text (view_at views b).tree.part (view_at views b).tree.nodes in
+    let four = planarity_text b (view_at views b).tree.part (view_at views b).certificate in
+    let seen : lines b (block_at blocks b) ≡ two ++ three ++ four =
+    ap (λ (t : BlockTree). two ++ nodes_text t.part t.nodes ++ planarity_text b t.part (certificate_at (map view_certificate views) b)) (trees-at views b)
+    ∙ ap (λ (c : Option Subdivision). two ++ three ++ planarity_text b (view_at views b).tree.part c) (certificates-at views b) in
+    let more : numbered lines 0 (take (b + 1) blocks) ≡ one ++ (two ++ three ++ four) =
+    numbered-take lines blocks b (block_at blocks b) within (get_or_default blocks b (block_at blocks b) [] within) ∙ ap (λ (l : List ℕ). one ++ l) seen in
+    o ∙ ap (λ (t : List ℕ). t ++ four) (r ∙ ap (λ (t : List ℕ). t ++ three) (q ∙ ap (λ (t : List ℕ). t ++ two) p))
+    ∙ append_assoc ((text ++ one) ++ two) three four ∙ append_assoc (text ++ one) two (three ++ four) ∙ append_assoc text one (two ++ three ++ four)
+    ∙ ap (λ (t : List ℕ). text ++ t) (sym more)
 
--- the tree that is found at a place
-pub tree-at : (g : Multigraph) (blocks : List (List ℕ)) (trees : List BlockTree) (b : ℕ) (tree : BlockTree) → AreBlockTrees g blocks trees → b < length blocks → tree ≡ get_or trees b tree → tree ≡ tree_at trees b
-tree-at g blocks trees b tree are l e =
-    e ∙ get_or_default trees b tree (record { part = record { graph = record { vertex_count = 0; ends = [] }; vertices = []; edges = [] }; nodes = [] }) (let within : b < length trees = omega (arith, l, are.one_each) in within)
+-- the block that is found at a place
+pub view-at : (views : List BlockView) (b : ℕ) (v : BlockView) → b < length views → v ≡ get_or views b v → v ≡ view_at views b
+view-at views b v l e = e ∙ get_or_default views b v no_view l
 
--- its part is a graph
-pub tree-graph : (g : Multigraph) (blocks : List (List ℕ)) (trees : List BlockTree) (b : ℕ) → AreBlockTrees g blocks trees → b < length blocks → IsGraph (tree_at trees b).part.graph
-tree-graph g blocks trees b are l = (are.each b l).part.numbered.is_graph
+module _ (g : Multigraph) (blocks : List (List ℕ)) (views : List BlockView) (b : ℕ) (are : AreBlockTrees g blocks (map view_tree views)) (within : b < length blocks) where
+  -- it is there
+  pub view-within : b < length views
+  view-within = omega (arith, within, are.one_each, length-map views view_tree)
 
--- and its nodes are the tree of it
-pub tree-nodes : (g : Multigraph) (blocks : List (List ℕ)) (trees : List BlockTree) (b : ℕ) → AreBlockTrees g blocks trees → b < length blocks → IsTutte (tree_at trees b).part.graph (tree_at trees b).nodes
-tree-nodes g blocks trees b are l = (are.each b l).nodes
+  -- its part is a graph
+  pub view-graph : IsGraph (view_at views b).tree.part.graph
+  view-graph = subst (λ (t : BlockTree). IsGraph t.part.graph) (trees-at views b) (are.each b within).part.numbered.is_graph
+
+  -- and its nodes are the tree of it
+  pub view-nodes : IsTutte (view_at views b).tree.part.graph (view_at views b).tree.nodes
+  view-nodes = subst (λ (t : BlockTree). IsTutte t.part.graph t.nodes) (trees-at views b) (are.each b within).nodes

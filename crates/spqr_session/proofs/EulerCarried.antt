@@ -4,20 +4,24 @@ use Rattle.multigraph.specs.Graph.{Multigraph}
 use Rattle.rotations.specs.Given.{IsFirstBad}
 use Rattle.spqr_script.specs.Answers.Euler.{euler_text}
 use Rattle.spqr_session.specs.State.{State}
-use Rattle.spqr_session.specs.Codes.{code_number, code_text}
+use Rattle.spqr_session.specs.Codes.{code_number, code_numbers, code_text}
 use Rattle.spqr_session.specs.Commands.Euler.{EulerApplies, EulerDoes, EulerStep, IsGiven, euler_numbers}
 use Rattle.spqr_session.specs.declared.code.Code.{Code}
-use Rattle.spqr_session.specs.declared.code.Code.TheVariants.{BadRotation}
+use Rattle.spqr_session.specs.declared.code.Code.TheVariants.{NoBlock, NonPlanar, BadRotation}
 use Rattle.spqr_session.proofs.Arranging.{arranged_or_bad, arranged-not_bad, one-bad, given-exists, given-one}
 use Rattle.spqr_session.proofs.Carried.{TellsOne, DoesOne, carries-one}
 
 module _ (g : Multigraph) (entries : List (ℕ × List ℕ)) where
   -- no code that applies is lower than 6
   least-code : (v : ℕ) (other : Code) → EulerApplies g entries other → code_number (BadRotation v) ≤ code_number other
+  least-code v NoBlock a = absurd a
+  least-code v NonPlanar a = absurd a
   least-code v (BadRotation w) a = omega arith
 
   -- where the lists are a rotation system no code applies
   none-applies : (r : List (List ℕ)) → IsGiven g entries r → (code : Code) → EulerApplies g entries code → ⊥
+  none-applies r is NoBlock a = a
+  none-applies r is NonPlanar a = a
   none-applies r is (BadRotation v) a = arranged-not_bad g entries v is.arranged a
 
   -- the line of the first bad number is the answer
@@ -36,8 +40,16 @@ module _ (g : Multigraph) (entries : List (ℕ × List ℕ)) where
   ]
 
   -- and one only: the code tells one number, and the lists are one rotation system
+  bad-of : (code : Code) → EulerApplies g entries code → (v : ℕ) × IsFirstBad g entries v × (code ≡ BadRotation v)
+  bad-of NoBlock a = absurd a
+  bad-of NonPlanar a = absurd a
+  bad-of (BadRotation v) a = (v, a, refl)
+
   euler-tells : TellsOne (EulerApplies g entries)
-  euler-tells (BadRotation v) (BadRotation w) a b e = ap (λ (n : ℕ). n ∷ []) (one-bad g entries v w a b)
+  euler-tells k l a b e =
+      let p = bad-of k a in
+      let q = bad-of l b in
+      ap code_numbers p.2 ∙ ap (λ (n : ℕ). n ∷ []) (one-bad g entries p.0 q.0 p.1 q.1) ∙ sym (ap code_numbers q.2)
 
   euler-does : (before : State) → DoesOne (EulerDoes g entries) before
   euler-does before s t after other p q =
@@ -45,3 +57,8 @@ module _ (g : Multigraph) (entries : List (ℕ × List ℕ)) where
 
   pub euler-one : (before : State) (s t : List ℕ) (after other : State) → EulerStep g entries before s after → EulerStep g entries before t other → (s ≡ t) × (after ≡ other)
   euler-one before s t after other p q = carries-one (EulerApplies g entries) (EulerDoes g entries) before s t after other euler-tells (euler-does before) p q
+
+  -- the state stays
+  pub euler-stays : (before : State) (text : List ℕ) (after : State) → EulerStep g entries before text after → after ≡ before
+  euler-stays before text after (inl p) = p.stays
+  euler-stays before text after (inr p) = p.1.stays

@@ -1,5 +1,5 @@
 -- What `gml` answers: there is an answer, and one only.
-use Rattle.std.proofs.Common.{◌≡◌, ℕ, List, inr, refl, sym, ◌∙◌}
+use Rattle.std.proofs.Common.{◌≡◌, ℕ, List, inl, inr, refl, sym, ◌∙◌}
 use Rattle.gml_text.specs.Document.{Document}
 use Rattle.gml_text.specs.Layout.{written}
 use Rattle.spqr_script.specs.Answers.Gml.{document_text}
@@ -20,3 +20,8 @@ gml-does d before s t after other p q = (p.answer ∙ sym q.answer, p.stays ∙ 
 
 pub gml-one : (d : Document) (before : State) (s t : List ℕ) (after other : State) → GmlStep d before s after → GmlStep d before t other → (s ≡ t) × (after ≡ other)
 gml-one d before s t after other p q = carries-one GmlApplies (GmlDoes d) before s t after other gml-tells (gml-does d before) p q
+
+-- the state stays
+pub gml-stays : (d : Document) (before : State) (text : List ℕ) (after : State) → GmlStep d before text after → after ≡ before
+gml-stays d before text after (inl p) = p.stays
+gml-stays d before text after (inr p) = p.1.stays

@@ -1,11 +1,15 @@
--- Lemmas of the session: blocks and their trees, answers and chains of steps.
+-- Lemmas of the session: blocks and their trees, the start, answers and chains of steps.
+pub mod Numbered
+pub mod Views
+pub mod Outcomes
+pub mod BlockParts
+pub mod BlockTrees
+pub mod OneTree
+pub mod OneStart
 pub mod Arranging
 pub mod Carried
 pub mod EulerCarried
 pub mod GmlCarried
+pub mod BlockCarried
 pub mod Chains
 pub mod Steps
-pub mod Numbered
-pub mod BlockParts
-pub mod BlockTrees
-pub mod OneTree

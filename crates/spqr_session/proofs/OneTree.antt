@@ -9,7 +9,7 @@ use Rattle.blocks.specs.Blocks.{AreBlocks, block_at}
 use Rattle.pair_split.specs.Tutte.{Node, IsTutte}
 use Rattle.tree_unique.proofs.Rising.{HasAll, rises-same}
 use Rattle.tree_unique.proofs.SameTrees.{trees-equal}
-use Rattle.spqr_session.specs.Trees.{BlockTree, tree_at, IsBlockTree, AreBlockTrees}
+use Rattle.spqr_session.specs.Trees.{BlockTree, no_tree, tree_at, IsBlockTree, AreBlockTrees}
 use Rattle.spqr_session.proofs.BlockParts.{part-one_block}
 
 module _ (g : Multigraph) (edges : List ℕ) (a b : GraphPart) (p : IsPart g edges a) (q : IsPart g edges b) where
@@ -51,5 +51,5 @@ tree-same g blocks b s t are l p q =
 
 -- the blocks of a graph have one list of trees
 pub one-trees : (g : Multigraph) (blocks : List (List ℕ)) (s t : List BlockTree) → AreBlocks g blocks → AreBlockTrees g blocks s → AreBlockTrees g blocks t → s ≡ t
-one-trees g blocks s t are p q = ext_get_or (record { part = record { graph = record { vertex_count = 0; ends = [] }; vertices = []; edges = [] }; nodes = [] }) s t (p.one_each ∙ sym q.one_each)
+one-trees g blocks s t are p q = ext_get_or no_tree s t (p.one_each ∙ sym q.one_each)
     (λ b l. let m : b < length blocks = subst (λ (n : ℕ). b < n) p.one_each l in tree-same g blocks b (tree_at s b) (tree_at t b) are m (p.each b m) (q.each b m))

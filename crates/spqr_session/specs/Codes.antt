@@ -3,14 +3,18 @@ use Rattle.std.specs.Prelude.{◌≡◌, ℕ, ◌≤◌, ◌⊎◌, List, [], �
 use Rattle.spqr_script.specs.Answers.Error.{error_text}
 use Rattle.spqr_session.specs.State.{State}
 use Rattle.spqr_session.specs.declared.code.Code.{Code}
-use Rattle.spqr_session.specs.declared.code.Code.TheVariants.{BadRotation}
+use Rattle.spqr_session.specs.declared.code.Code.TheVariants.{NoBlock, NonPlanar, BadRotation}
 
 -- the number of a code
 abbrev pub code_number : Code → ℕ
+code_number NoBlock = 1
+code_number NonPlanar = 5
 code_number (BadRotation v) = 6
 
 -- the numbers that are told with it
 abbrev pub code_numbers : Code → List ℕ
+code_numbers NoBlock = []
+code_numbers NonPlanar = []
 code_numbers (BadRotation v) = v ∷ []
 
 -- the line of a code: `error CODE N ..`

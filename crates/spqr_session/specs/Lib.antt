@@ -1,8 +1,11 @@
 -- The setting and the state of a session, and what commands do.
 pub mod Trees
+pub mod Certificates
 pub mod Setting
 pub mod State
+pub mod Embedded
 pub mod Codes
+pub mod BlockCodes
 pub mod Commands
 pub mod Step
 pub mod Head

@@ -1,15 +1,24 @@
 -- What commands change: the embeddings of the blocks, and those from before and after.
-use Rattle.std.specs.Prelude.{◌≡◌, ℕ, List, [], Option}
+use Rattle.std.specs.Prelude.{◌≡◌, ℕ, ◌<◌, Bool, false, List, [], length, replicate, slice_index_or, Option, None, Some, All, ⊤}
+use Rattle.kuratowski.specs.declared.subdivision.Subdivision.{Subdivision}
+use Rattle.skeletons.specs.Choices.{IsPlaneSystem}
+use Rattle.skel_embed.specs.First.{IsFirst}
+use Rattle.spqr_session.specs.Trees.{BlockTree, tree_at}
+use Rattle.spqr_session.specs.Certificates.{certificate_at}
 use Rattle.spqr_session.specs.Setting.{Setting}
 
--- what is kept of a planar block: its rotation system, and the nodes of its tree that are locked
+-- what is kept of a planar block: its rotation system, and of each node of its tree whether it is locked
 pub record Embedding : Type 0 where
   pub rotation : List (List ℕ)
-  pub locked : List ℕ
+  pub locks : List Bool
 
 -- an entry for each block, in order: none where the block is not planar
 pub record Family : Type 0 where
   pub entries : List (Option Embedding)
+
+-- the entry of block b; none where there is none
+abbrev pub entry_at : Family → ℕ → Option Embedding
+entry_at family b = slice_index_or family.entries b None
 
 -- the present family, and the earlier and the later ones, of each the nearest first
 pub record State : Type 0 where
@@ -17,13 +26,32 @@ pub record State : Type 0 where
   pub earlier : List Family
   pub later : List Family
 
--- a state in which a session on the setting starts: no family is earlier or later. As long as no block is embedded, the
--- present family has no entries, and nothing is said of any block
+-- an entry of a block: where it is planar a plane rotation system of it and a lock for each node, and else none
+abbrev pub IsEntry : BlockTree → Option Subdivision → Option Embedding → Type 0
+IsEntry tree None None = ⊥
+IsEntry tree None (Some e) = IsPlaneSystem tree.part.graph e.rotation × (length e.locks ≡ length tree.nodes)
+IsEntry tree (Some s) None = ⊤
+IsEntry tree (Some s) (Some e) = ⊥
+
+-- a family has such an entry for each block
+pub record IsFamily (setting : Setting) (family : Family) : Type 0 where
+  pub one_each : length family.entries ≡ length setting.trees
+  pub each : (b : ℕ) → b < length setting.trees → IsEntry (tree_at setting.trees b) (certificate_at setting.certificates b) (entry_at family b)
+
+-- all families of a state are such
+pub record IsState (setting : Setting) (state : State) : Type 0 where
+  pub present : IsFamily setting state.present
+  pub earlier : All (IsFamily setting) state.earlier
+  pub later : All (IsFamily setting) state.later
+
+-- at the start a planar block stands at the first of its plane rotation systems, and no node is locked
+abbrev pub IsFirstEntry : BlockTree → Option Embedding → Type 0
+IsFirstEntry tree None = ⊤
+IsFirstEntry tree (Some e) = IsFirst tree.part.graph tree.nodes e.rotation × (e.locks ≡ replicate (length tree.nodes) false)
+
+-- a state in which a session on the setting starts: this is so for each block, and no family is earlier or later
 pub record IsStart (setting : Setting) (state : State) : Type 0 where
-  pub entries : state.present.entries ≡ []
+  pub state : IsState setting state
+  pub first : (b : ℕ) → b < length setting.trees → IsFirstEntry (tree_at setting.trees b) (entry_at state.present b)
   pub earlier : state.earlier ≡ []
   pub later : state.later ≡ []
-
--- the one such state
-abbrev pub start_state : State
-start_state = record { present = record { entries = [] }; earlier = []; later = [] }

@@ -10,9 +10,13 @@ pub record BlockTree : Type 0 where
   pub part : GraphPart
   pub nodes : List Node
 
+-- one without vertices, edges and nodes
+abbrev pub no_tree : BlockTree
+no_tree = record { part = record { graph = record { vertex_count = 0; ends = [] }; vertices = []; edges = [] }; nodes = [] }
+
 -- the tree of block b; one without nodes where there is none
 abbrev pub tree_at : List BlockTree → ℕ → BlockTree
-tree_at trees b = slice_index_or trees b (record { part = record { graph = record { vertex_count = 0; ends = [] }; vertices = []; edges = [] }; nodes = [] })
+tree_at trees b = slice_index_or trees b no_tree
 
 -- the part is that which these edges make, and the nodes are its tree
 pub record IsBlockTree (g : Multigraph) (edges : List ℕ) (tree : BlockTree) : Type 0 where

@@ -1,6 +1,10 @@
-// The commands, each in a file of its own: what it reads of a session, and what it changes there.
+// The commands: a file for each, with the function that carries it out.
 mod euler;
+mod faces;
 mod gml;
+mod show;
 
 pub(crate) use euler::carry_euler;
+pub(crate) use faces::carry_faces;
 pub(crate) use gml::carry_gml;
+pub(crate) use show::carry_show;

@@ -5,15 +5,19 @@ ghost use Rattle.gml_text.specs.Document.{Document};
 ghost use Rattle.multigraph.specs.Graph.{Multigraph, max_vertices, IsGraph};
 ghost use Rattle.pair_split.specs.Tutte.{IsTutte};
 ghost use Rattle.spqr_script.specs.Head.{vertex_text, cut_text};
-ghost use Rattle.spqr_session.specs.Setting.{setting_of};
+ghost use Rattle.spqr_session.specs.Embedded.{setting_of, view_tree, view_certificate};
 ghost use Rattle.spqr_session.specs.Trees.{AreBlockTrees};
-ghost use Rattle.spqr_session.specs.Head.{head_text, nodes_text, block_lines, numbered};
+ghost use Rattle.spqr_session.specs.Head.{head_text, nodes_text, block_lines, planarity_text, numbered};
 
-use crate::trees::PartTree;
+use crate::embedded::EmbeddedBlock;
 use blocks::Blocks;
 use gml_graph::Named;
 use multigraph::Part;
-use spqr_script::{graph_line, push_block_line, push_cut_line, push_node_line, push_vertex_line};
+use skel_embed::Outcome;
+use spqr_script::{
+    graph_line, nonplanar_lines, planar_line, push_block_line, push_cut_line, push_node_line,
+    push_vertex_line,
+};
 use spqr_tree::Tree;
 use std::alloc::{AllocError, Global};
 
@@ -50,36 +54,59 @@ fn push_nodes(out: &mut Vec<u8>, part: &Part, tree: &Tree) -> Result<(), AllocEr
     Ok(())
 }
 
-// Puts the lines of the blocks and of their trees behind a text.
-fn push_trees(out: &mut Vec<u8>, blocks: &Blocks, trees: &[PartTree]) -> Result<(), AllocError>
-    requires { (g : Multigraph) × AreBlockTrees g blocks.now.blocks trees.now }
-    ensures { OnOk result
-        (out.new.items ≡ out.old.items ++ numbered (block_lines trees.now) 0 blocks.now.blocks) }
+// Puts the line of a planar block behind a text, or those of its certificate.
+fn push_planarity(
+    alloc: Global,
+    out: &mut Vec<u8>,
+    b: u32,
+    block: &EmbeddedBlock,
+) -> Result<(), AllocError>
+    ensures { OnOk result (out.new.items
+        ≡ out.old.items ++ planarity_text b block.now.tree.part block.now.certificate) }
+{
+    let lines = match block.outcome() {
+        Outcome::Plane(_) => planar_line(alloc, b)?,
+        Outcome::Not(_, _, certificate) => nonplanar_lines(alloc, b, block.part(), certificate)?,
+    };
+    out.extend_from_slice(&lines)
+}
+
+// Puts the lines of the blocks behind a text, with those of their trees, and whether they are planar.
+fn push_blocks(
+    alloc: Global,
+    out: &mut Vec<u8>,
+    blocks: &Blocks,
+    embedded: &[EmbeddedBlock],
+) -> Result<(), AllocError>
+    requires { (g : Multigraph) × AreBlockTrees g blocks.now.blocks (map view_tree embedded.now) }
+    ensures { OnOk result (out.new.items ≡ out.old.items
+        ++ numbered (block_lines (map view_tree embedded.now) (map view_certificate embedded.now)) 0 blocks.now.blocks) }
 {
     for b in 0..blocks.block_count() {
         push_block_line(out, b, blocks.edges(b))?;
-        let t = &trees[b as usize];
-        push_nodes(out, t.part(), t.tree())?;
+        let block = &embedded[b as usize];
+        push_nodes(out, block.part(), block.tree())?;
+        push_planarity(alloc, out, b, block)?;
     }
     Ok(())
 }
 
 /// The head: the line of the graph, then a line for each vertex, for each cut vertex and for each block with the nodes of its
-/// tree, rising.
+/// tree, rising, and whether the block is planar, else with its certificate.
 pub fn head_of(
     alloc: Global,
     named: &Named,
     blocks: &Blocks,
-    trees: &[PartTree],
+    embedded: &[EmbeddedBlock],
 ) -> Result<Vec<u8>, AllocError>
-    requires { AreBlockTrees named.now.graph blocks.now.blocks trees.now }
+    requires { AreBlockTrees named.now.graph blocks.now.blocks (map view_tree embedded.now) }
     ensures { (document : Document) → IfOk result (λ text. text.items ≡ head_text
-        (setting_of document named.now blocks.now trees.now)) }
+        (setting_of document named.now blocks.now embedded.now)) }
 {
     let graph = named.graph();
     let mut out = graph_line(alloc, graph.vertex_count(), graph.edge_count())?;
     push_vertices(&mut out, named.ids())?;
     push_cuts(&mut out, blocks.cut_vertices())?;
-    push_trees(&mut out, blocks, trees)?;
+    push_blocks(alloc, &mut out, blocks, embedded)?;
     Ok(out)
 }

@@ -1,10 +1,16 @@
 // What the definitions of a session say of one another.
-ghost use Rattle.spqr_session.specs.Laws.{EachHasAnswer, OneAnswer, OneReport};
+ghost use Rattle.spqr_session.specs.Laws.{EachHasAnswer, OneAnswer, OneReport, OneStart, StepKeepsState};
 
-/// Each command has an answer in each state, and one only, with one state after it; there is one report on a setting and
-/// commands.
+/// Each command has an answer in each state, and one only, with one state after it, in which each planar block stands at a plane
+/// rotation system again.
 pub fn answers()
     ensures each { EachHasAnswer }
     ensures one { OneAnswer }
+    ensures keeps { StepKeepsState }
+{}
+
+/// On a setting there is one state at the start, and there is one report on each list of commands.
+pub fn reports()
+    ensures start { OneStart }
     ensures report { OneReport }
 {}

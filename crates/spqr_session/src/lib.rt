@@ -3,9 +3,9 @@
 
 mod code;
 mod commands;
+mod embedded;
 mod head;
 pub mod laws;
 mod session;
-mod trees;
 
 pub use session::Session;

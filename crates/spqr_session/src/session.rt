@@ -1,35 +1,36 @@
-// A session: a document with its graph, the blocks of it and their trees, on which commands are carried out.
+// A session: a document with its graph, the blocks of it with their trees and embeddings, on which commands are carried out.
 ghost use Rattle.std.specs.Prelude.{◌≡◌, Ok, IfOk, OnErr};
 ghost use Rattle.gml_graph.specs.Answer.{graph_of_document};
 ghost use Rattle.spqr_session.specs.Head.{head_text};
 ghost use Rattle.spqr_session.specs.Step.{Step};
 ghost use Rattle.spqr_session.specs.Machine.{IsStarted};
 
-use crate::commands::{carry_euler, carry_gml};
+use crate::commands::{carry_euler, carry_faces, carry_gml, carry_show};
+use crate::embedded::{EmbeddedBlock, embedded_blocks};
 use crate::head::head_of;
-use crate::trees::{PartTree, trees_of};
 use blocks::{Blocks, split};
 use gml_graph::Named;
 use gml_text::Doc;
 use pair_split::Splitter;
+use planarity::Embedder;
 use spqr_script::Command;
 use std::alloc::{AllocError, Global};
 use std::marker::Model;
 
 /// A session on a document and its graph. Contracts see its setting, which stays: the document, the graph, the blocks of the
-/// graph and the tree of each block; and its state, which commands change. The setting is always a right one.
+/// graph, and of each block its tree and its certificate, if it has one; and its state, which commands change: the embeddings.
+/// Both are always right ones.
 #[derive(Drop)]
 pub struct Session {
     doc: Doc,
     named: Named,
     blocks: Blocks,
-    trees: Vec<PartTree>,
+    embedded: Vec<EmbeddedBlock>,
 }
 
 impl Model for Session {
-    ghost use Rattle.spqr_session.specs.Setting.{IsSetting, setting_of};
-    ghost use Rattle.spqr_session.specs.State.{start_state};
-    ghost use Rattle.spqr_session.specs.Machine.{Machine};
+    ghost use Rattle.spqr_session.specs.Embedded.{setting_of, state_of};
+    ghost use Rattle.spqr_session.specs.Machine.{Machine, IsMachine};
     ghost use Rattle.gml_text.specs.Code.{document_code};
     ghost use Rattle.std.specs.Coded.{codes};
 
@@ -37,40 +38,42 @@ impl Model for Session {
 
     ghost coded = { Prim.hlevel (codes, document_code) };
 
-    ghost view = { λ s. record { setting = setting_of s.doc s.named s.blocks s.trees.items; state = start_state } };
+    ghost view = { λ s. record { setting = setting_of s.doc s.named s.blocks s.embedded.items; state = state_of s.embedded.items } };
 
-    ghost invariant = { λ s. IsSetting (setting_of s.doc s.named s.blocks s.trees.items) };
+    ghost invariant = { λ s. IsMachine (record { setting = setting_of s.doc s.named s.blocks s.embedded.items; state = state_of s.embedded.items }) };
 }
 
 impl Session {
-    /// Starts a session on a document and its graph, which is split into its blocks, and each block by the splitter. Without
-    /// memory both are dropped.
-    pub fn start<P: Splitter>(
+    /// Starts a session on a document and its graph, which is split into its blocks, and each block by the splitter; the
+    /// embedder is asked once for each triconnected node of their trees. Each planar block then stands at its first plane
+    /// rotation system, and no node is locked. Without memory document and graph are dropped.
+    pub fn start<P: Splitter, E: Embedder>(
         alloc: Global,
         doc: Doc,
         named: Named,
         splitter: &mut P,
+        embedder: &mut E,
     ) -> Result<Session, AllocError>
         requires { graph_of_document doc ≡ Ok named }
         ensures parts { IfOk result (λ s. (s.setting.document ≡ doc) × (s.setting.named ≡ named)) }
         ensures started { IfOk result IsStarted }
     {
         let blocks = split(alloc, named.graph())?;
-        let trees = trees_of(alloc, named.graph(), &blocks, splitter)?;
+        let embedded = embedded_blocks(alloc, named.graph(), &blocks, splitter, embedder)?;
         Ok(Session {
             doc,
             named,
             blocks,
-            trees,
+            embedded,
         })
     }
 
     /// The head of the report: the line of the graph, then a line for each vertex, each cut vertex and each block, with a line
-    /// for each node of the block's tree.
+    /// for each node of the block's tree, and whether the block is planar, else with a certificate.
     pub fn head(&self, alloc: Global) -> Result<Vec<u8>, AllocError>
         ensures { IfOk result (λ text. text.items ≡ head_text self.now.setting) }
     {
-        head_of(alloc, &self.named, &self.blocks, &self.trees)
+        head_of(alloc, &self.named, &self.blocks, &self.embedded)
     }
 
     /// Carries out a command and gives its answer. Without memory the session stays as it was.
@@ -83,6 +86,8 @@ impl Session {
         match command {
             Command::Euler(lists) => carry_euler(alloc, self.named.graph(), lists),
             Command::Gml => carry_gml(alloc, &self.doc),
+            Command::Show(b) => carry_show(alloc, &self.embedded, *b),
+            Command::Faces(b) => carry_faces(alloc, &self.embedded, *b),
         }
     }
 }

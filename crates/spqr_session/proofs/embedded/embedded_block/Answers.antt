@@ -4,7 +4,7 @@ use Rattle.multigraph.specs.Part.{IsPart}
 use Rattle.blocks.specs.Blocks.{block_at}
 use Rattle.graph_theory.specs.Block.{IsOneBlock}
 use Rattle.spqr_session.proofs.BlockParts.{block-edges_in, part-one_block}
-use Rattle.spqr_session.proofs.trees.tree_of.Goals as goal
+use Rattle.spqr_session.proofs.embedded.embedded_block.Goals as goal
 
 pub part-requires-clause-within : goal.part-requires-clause-within
 part-requires-clause-within g c =

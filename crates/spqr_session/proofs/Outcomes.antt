@@ -1,0 +1,64 @@
+-- What is found of a block is right, and stands at the start of a session.
+use Rattle.std.proofs.Common.{◌≡◌, ℕ, zero, suc, ◌<◌, Bool, false, List, [], ◌∷◌, length, get_or, replicate, refl, sym, ap, ◌∙◌, subst, arith}
+use Rattle.std.proofs.lemmas.List.{ext_get_or, length-replicate, get_or-replicate}
+use Rattle.multigraph.specs.Graph.{Multigraph}
+use Rattle.multigraph.specs.Part.{GraphPart}
+use Rattle.kuratowski.specs.Subdivision.{IsWritten}
+use Rattle.planarity.specs.Laws.{SubdivisionExcludesPlane}
+use Rattle.pair_split.specs.Tutte.{Node}
+use Rattle.skeletons.specs.Items.{IsBlockTree}
+use Rattle.skel_embed.specs.Block.{BlockState, lock_at, IsBlockState}
+use Rattle.skel_embed.specs.Planes.{IsOutcome}
+use Rattle.skel_embed.specs.declared.planes.Outcome.{Outcome}
+use Rattle.skel_embed.specs.declared.planes.Outcome.TheVariants.{Plane, Not}
+use Rattle.skel_embed.specs.First.{IsFirst}
+use Rattle.spqr_session.specs.Trees as trees
+use Rattle.spqr_session.specs.Certificates.{IsCertificate}
+use Rattle.spqr_session.specs.State.{IsFirstEntry}
+use Rattle.spqr_session.specs.Embedded.{block_view, IsEmbedded, IsStartBlock}
+
+-- no node is locked where each is not
+none-locked : (n : ℕ) (locks : List Bool) → length locks ≡ n → ((k : ℕ) → k < n → lock_at locks k ≡ false) → locks ≡ replicate n false
+none-locked n locks c h = ext_get_or false locks (replicate n false) (c ∙ sym (length-replicate n false))
+    (λ k l. let m : k < n = subst (λ (x : ℕ). k < x) c l in h k m ∙ sym (get_or-replicate n k false false m))
+
+-- what a block in the plane keeps belongs together
+abbrev pub KeepsTogether : Outcome → Type 0
+KeepsTogether (Plane p) = IsBlockState p
+KeepsTogether (Not g t s) = Unit {0}
+
+module _ (excludes : SubdivisionExcludesPlane) (part : GraphPart) (nodes : List Node) (tree : IsBlockTree part.graph nodes) where
+  pub outcome-embedded : (outcome : Outcome) → KeepsTogether outcome → IsOutcome part.graph nodes outcome → IsEmbedded part outcome
+  outcome-embedded (Plane p) state h = record {
+    graph = h.0;
+    tree = subst (IsBlockTree part.graph) (sym h.1) tree;
+    certificate = (p.rotation, h.2.plane);
+    entry = (h.2.plane, state.locks);
+  }
+  outcome-embedded (Not g t s) state h = record {
+    graph = h.0;
+    tree = subst (IsBlockTree part.graph) (sym h.1) tree;
+    certificate = (h.2, λ r q. excludes part.graph r tree.graph q.system q.plane s.kind s.branch s.paths h.2.subdivision);
+    entry = tt;
+  }
+
+  -- it stands at its first plane rotation system
+  outcome-first : (outcome : Outcome) → KeepsTogether outcome → IsOutcome part.graph nodes outcome → IsFirstEntry (block_view part outcome).tree (block_view part outcome).entry
+  outcome-first (Plane p) state h = (
+    subst (λ (t : List Node). IsFirst part.graph t p.rotation) (sym h.1) h.2,
+    none-locked (length p.tree) p.locks state.locks (λ k l. h.3 k (subst (λ (t : List Node). k < length t) h.1 l)),
+  )
+  outcome-first (Not g t s) state h = tt
+
+  outcome-nodes : (outcome : Outcome) → IsOutcome part.graph nodes outcome → (block_view part outcome).tree ≡ record { part = part; nodes = nodes }
+  outcome-nodes (Plane p) h = λ i. record { part = part; nodes = h.1 i }
+  outcome-nodes (Not g t s) h = λ i. record { part = part; nodes = h.1 i }
+
+  pub outcome-starts : (g : Multigraph) (edges : List ℕ) (outcome : Outcome) → KeepsTogether outcome → IsOutcome part.graph nodes outcome → trees.IsBlockTree g edges (record { part = part; nodes = nodes })
+      → IsStartBlock g edges (block_view part outcome)
+  outcome-starts g edges outcome state h is = record {
+    tree = subst (trees.IsBlockTree g edges) (sym (outcome-nodes outcome h)) is;
+    certificate = subst (λ (x : trees.BlockTree). IsCertificate x.part.graph (block_view part outcome).certificate) (sym (outcome-nodes outcome h)) (outcome-embedded outcome state h).certificate;
+    entry = (outcome-embedded outcome state h).entry;
+    first = outcome-first outcome state h;
+  }

@@ -1,0 +1,99 @@
+// The blocks of a graph, each with its tree, and its embedding or its certificate.
+ghost use Rattle.std.specs.Prelude.{◌≡◌, ◌<◌, length, map, IfOk};
+ghost use Rattle.blocks.specs.Blocks.{IsBlockStructure, block_at};
+ghost use Rattle.spqr_session.specs.Embedded.{block_view, IsEmbedded, IsStartBlock, AreStartBlocks};
+
+use blocks::Blocks;
+use multigraph::{Graph, Part};
+use pair_split::Splitter;
+use planarity::{Embedder, subdivision_excludes_plane};
+use skel_embed::{Outcome, plane_block};
+use spqr_tree::Tree;
+use std::alloc::{AllocError, Global};
+use std::marker::Model;
+
+/// A block as a graph of its own with its tree; and where it is planar its present plane rotation system with the locks of
+/// nodes, else a subdivision of K5 or K3,3 in it. Contracts see the part with the tree, the certificate and the embedding.
+#[derive(Debug, Drop)]
+pub struct EmbeddedBlock {
+    part: Part,
+    outcome: Outcome,
+}
+
+impl Model for EmbeddedBlock {
+    ghost use Rattle.spqr_session.specs.Embedded.{BlockView, block_view, IsEmbedded};
+
+    ghost Value = { BlockView };
+
+    ghost view = { λ b. block_view b.part b.outcome };
+
+    ghost invariant = { λ b. IsEmbedded b.part b.outcome };
+}
+
+impl EmbeddedBlock {
+    /// The block as a graph of its own.
+    pub fn part(&self) -> &Part
+        ensures { result.now ≡ self.now.tree.part }
+    {
+        &self.part
+    }
+
+    /// The block in the plane with its tree, or its graph, its tree and its certificate.
+    pub fn outcome(&self) -> &Outcome
+        ensures view { block_view self.now.tree.part result.now ≡ self.now }
+        ensures right { IsEmbedded self.now.tree.part result.now }
+    {
+        &self.outcome
+    }
+
+    /// The tree.
+    pub fn tree(&self) -> &Tree
+        ensures { result.now ≡ self.now.tree.nodes }
+    {
+        match &self.outcome {
+            Outcome::Plane(plane) => plane.tree(),
+            Outcome::Not(_, tree, _) => tree,
+        }
+    }
+}
+
+// Block `b` with its tree, embedded.
+fn embedded_block<P: Splitter, E: Embedder>(
+    alloc: Global,
+    graph: &Graph,
+    blocks: &Blocks,
+    b: u32,
+    splitter: &mut P,
+    embedder: &mut E,
+) -> Result<EmbeddedBlock, AllocError>
+    requires structure { IsBlockStructure graph.now blocks.now }
+    requires block { b < length blocks.now.blocks }
+    ensures { IfOk result (IsStartBlock graph.now (block_at blocks.now.blocks b)) }
+{
+    let part = graph.part(alloc, blocks.edges(b))?;
+    let comps = splitter.split(alloc, part.graph())?;
+    let tree = Tree::assemble(alloc, part.graph(), comps)?;
+    let outcome = plane_block(alloc, part.graph().copy(alloc)?, tree, embedder)?;
+    // That a block with a certificate has no plane rotation system.
+    subdivision_excludes_plane();
+    Ok(EmbeddedBlock { part, outcome })
+}
+
+/// The blocks of a graph, in order: each is made a graph of its own, split, and the split components are put together to its
+/// tree; then it is brought to its first plane rotation system, with no node locked, or has a certificate.
+pub fn embedded_blocks<P: Splitter, E: Embedder>(
+    alloc: Global,
+    graph: &Graph,
+    blocks: &Blocks,
+    splitter: &mut P,
+    embedder: &mut E,
+) -> Result<Vec<EmbeddedBlock>, AllocError>
+    requires { IsBlockStructure graph.now blocks.now }
+    ensures { IfOk result (λ embedded. AreStartBlocks graph.now blocks.now.blocks (length blocks.now.blocks) embedded.items) }
+{
+    let mut embedded = Vec::new(alloc);
+    for b in 0..blocks.block_count() {
+        embedded.push(embedded_block(alloc, graph, blocks, b, splitter, embedder)?)?;
+    }
+    Ok(embedded)
+}
