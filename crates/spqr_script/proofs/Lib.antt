@@ -12,3 +12,5 @@ mod Loops
 mod Steps
 mod Rotations
 pub mod Scripts
+pub mod Within
+mod RotationText

@@ -6,3 +6,5 @@ pub mod Change
 pub mod List
 pub mod Count
 pub mod Rank
+pub mod Rotation
+pub mod Faces

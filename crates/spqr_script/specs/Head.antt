@@ -18,3 +18,7 @@ cut_text v = codes "cut " ++ decimal v ++ line_end
 -- `block B: E E ..`: a block and its edges
 abbrev pub block_text : ℕ → List ℕ → List ℕ
 block_text b edges = codes "block " ++ decimal b ++ codes ":" ++ spaced_numbers edges ++ line_end
+
+-- `planar B`: the block has a plane rotation system
+abbrev pub planar_text : ℕ → List ℕ
+planar_text b = codes "planar " ++ decimal b ++ line_end

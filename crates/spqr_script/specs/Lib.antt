@@ -2,6 +2,7 @@
 pub mod Text
 pub mod Head
 pub mod Node
+pub mod Nonplanar
 pub mod Answers
 pub mod Refusal
 pub mod Number

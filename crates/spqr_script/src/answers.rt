@@ -3,14 +3,18 @@ mod change;
 mod count;
 mod error;
 mod euler;
+mod faces;
 mod gml;
 mod list;
 mod rank;
+mod rotation;
 
 pub use change::{end_line, ok_line};
 pub use count::count_line;
 pub use error::error_line;
 pub use euler::euler_line;
+pub use faces::faces_lines;
 pub use gml::gml_lines;
 pub use list::{list_line, more_line};
 pub use rank::rank_line;
+pub use rotation::{push_rotation_line, rotation_line};

@@ -1,6 +1,6 @@
 // The lines of the head.
 ghost use Rattle.std.specs.Prelude.{◌≡◌, ◌++◌, IfOk, OnOk};
-ghost use Rattle.spqr_script.specs.Head.{graph_text, vertex_text, cut_text, block_text};
+ghost use Rattle.spqr_script.specs.Head.{graph_text, vertex_text, cut_text, block_text, planar_text};
 
 use crate::text::{push_id, push_number, push_spaced, push_word};
 use std::alloc::{AllocError, Global};
@@ -72,5 +72,23 @@ pub fn push_block_line(out: &mut Vec<u8>, b: u32, edges: &[u32]) -> Result<(), A
     push_number(out, u128::from(b))?;
     push_word(out, b":")?;
     push_spaced(out, edges)?;
+    push_word(out, b"\n")
+}
+
+/// The line `planar B`: the block has a plane rotation system.
+pub fn planar_line(alloc: Global, b: u32) -> Result<Vec<u8>, AllocError>
+    ensures { IfOk result (λ text. text.items ≡ planar_text b) }
+{
+    let mut out = Vec::new(alloc);
+    push_planar_line(&mut out, b)?;
+    Ok(out)
+}
+
+/// Puts the line `planar B` behind a text. After want of memory the text may end in a part of the line.
+pub fn push_planar_line(out: &mut Vec<u8>, b: u32) -> Result<(), AllocError>
+    ensures { OnOk result (out.new.items ≡ out.old.items ++ planar_text b) }
+{
+    push_word(out, b"planar ")?;
+    push_number(out, u128::from(b))?;
     push_word(out, b"\n")
 }

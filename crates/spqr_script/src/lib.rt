@@ -13,7 +13,9 @@ mod command;
 mod head;
 mod laws;
 mod node;
+mod nonplanar;
 mod numbers;
+mod outer;
 mod reader;
 mod refusals;
 mod rotation;
@@ -22,15 +24,17 @@ mod tokens;
 mod word;
 
 pub use answers::{
-    count_line, end_line, error_line, euler_line, gml_lines, list_line, more_line, ok_line,
-    rank_line,
+    count_line, end_line, error_line, euler_line, faces_lines, gml_lines, list_line, more_line,
+    ok_line, push_rotation_line, rank_line, rotation_line,
 };
 pub use command::{Command, ScriptFault};
 pub use head::{
-    block_line, cut_line, graph_line, push_block_line, push_cut_line, push_vertex_line, vertex_line,
+    block_line, cut_line, graph_line, planar_line, push_block_line, push_cut_line,
+    push_planar_line, push_vertex_line, vertex_line,
 };
 pub use laws::script_laws;
 pub use node::{node_line, push_node_line};
+pub use nonplanar::{nonplanar_lines, push_nonplanar_lines};
 pub use numbers::number;
 pub use reader::read;
 pub use refusals::{

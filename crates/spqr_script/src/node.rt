@@ -4,6 +4,7 @@ ghost use Rattle.pair_split.specs.Tutte.{node_at};
 ghost use Rattle.spqr_script.specs.Text.{spaced_numbers};
 ghost use Rattle.spqr_script.specs.Node.{kind_word, item_text, spaced_items, node_text, IsItemOf, IsNodeOf};
 
+use crate::outer::push_vertices;
 use crate::text::{push_number, push_word};
 use multigraph::Part;
 use spqr_tree::{Item, Kind, Tree, What};
@@ -19,18 +20,6 @@ fn word_of(kind: Kind) -> &'static [u8]
         Kind::R => b"R",
         Kind::B => b"B",
     }
-}
-
-// Puts the vertices, each with a space before it, behind a text.
-fn push_vertices(out: &mut Vec<u8>, part: &Part, vertices: &[u32]) -> Result<(), AllocError>
-    requires { All (λ v. v < part.now.graph.vertex_count) vertices.now }
-    ensures { OnOk result (out.new.items ≡ out.old.items ++ spaced_numbers (map (slice_index part.now.vertices) vertices.now)) }
-{
-    for v in vertices {
-        push_word(out, b" ")?;
-        push_number(out, u128::from(part.vertex(*v)))?;
-    }
-    Ok(())
 }
 
 // Puts an item behind a text.

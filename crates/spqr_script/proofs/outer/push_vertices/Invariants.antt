@@ -1,6 +1,6 @@
 use Rattle.std.proofs.Common.{◌≡◌, ◌++◌, map, slice_index, drop}
 use Rattle.spqr_script.specs.Text.{spaced_numbers}
-use Rattle.spqr_script.proofs.node.push_vertices.Given as goal
+use Rattle.spqr_script.proofs.outer.push_vertices.Given as goal
 
 abbrev pub invariant-loop-v : goal.invariant-loop-v
 invariant-loop-v l =

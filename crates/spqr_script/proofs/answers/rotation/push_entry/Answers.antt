@@ -1,0 +1,9 @@
+use Rattle.std.proofs.Common.{All, ◌<◌, sym, subst, ℕ, List}
+use Rattle.multigraph.specs.Graph.{edge_count}
+use Rattle.spqr_script.proofs.Within.{round-within}
+use Rattle.spqr_script.proofs.answers.rotation.push_entry.Goals as goal
+
+pub push_round-requires : goal.push_round-requires
+push_round-requires c =
+    let g = c.args.part.now.graph in
+    subst (All (λ e. e < edge_count g)) (sym c.list.ensures) (round-within g c.args.r.now c.args.v c.requires.system c.requires.vertex)
