@@ -80,7 +80,7 @@ module _ (setting : Setting) (start : State) (commands : List Command) (right : 
   -- a front of the head was written
   pub report-stopped_head : (before now : Option (List ℕ)) → AppendsFront before now (head_text setting) → AppendsReportFront setting commands before now
   report-stopped_head before now f =
-      let others = chain-exists setting start commands right is.state in
+      let others = chain-exists setting start commands right is.right in
       record {
         text = head_text setting ++ concat others.0;
         report = report-of commands others.0 others.1 others.2;
@@ -95,7 +95,7 @@ module _ (setting : Setting) (start : State) (commands : List Command) (right : 
   -- the head was written, and then a front of the first answers
   report-stopped : (k : ℕ) (before mid now : Option (List ℕ)) → Appends before mid (head_text setting) → WritesFront setting start (take k commands) mid now → AppendsReportFront setting commands before now
   report-stopped k before mid now a w =
-      let others = chain-exists setting w.last (drop k commands) right (chain-keeps setting start (take k commands) w.texts w.last right is.state w.answers) in
+      let others = chain-exists setting w.last (drop k commands) right (chain-keeps setting start (take k commands) w.texts w.last right is.right w.answers) in
       let texts : List (List ℕ) = w.texts ++ others.0 in
       let chain : IsChain setting start commands texts others.1 = subst (λ (cs : List Command). IsChain setting start cs texts others.1) (take-append-drop k commands) (chain-join setting start w.last others.1 (take k commands) (drop k commands) w.texts others.0 w.answers others.2) in
       let f = w.written in

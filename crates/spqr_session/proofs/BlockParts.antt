@@ -14,6 +14,8 @@ use Rattle.graph_theory.specs.Path.{walk_end, walk_starts, IsWalk, IsCycle}
 use Rattle.graph_theory.specs.Block.{CommonCycle, SameBlock, IsOneBlock}
 use Rattle.graph_theory.proofs.Walks.{walk-edge}
 use Rattle.blocks.specs.Blocks.{block_at, AreBlocks}
+use Rattle.pair_split.specs.Tutte.{Node, IsTutte}
+use Rattle.skeletons.specs.Items.{IsBlockTree}
 
 -- a member has its image among the images
 member-map : (f : ℕ → ℕ) (x : ℕ) (xs : List ℕ) → is_member x xs ≡ true → is_member (f x) (map f xs) ≡ true
@@ -179,3 +181,7 @@ part-one_block g blocks b part are l h = record {
 -- the edges of a block are edges of the graph
 pub block-edges_in : (g : Multigraph) (blocks : List (List ℕ)) (b : ℕ) → AreBlocks g blocks → b < length blocks → (i : ℕ) → i < length (block_at blocks b) → slice_index (block_at blocks b) i < edge_count g
 block-edges_in g blocks b are l i li = are.edges b (slice_index (block_at blocks b) i) l (member-at (block_at blocks b) i 0 li)
+
+-- and with its tree it is the tree of a block
+pub block-tree : (g : Multigraph) (blocks : List (List ℕ)) (b : ℕ) (part : GraphPart) (nodes : List Node) → AreBlocks g blocks → b < length blocks → IsPart g (block_at blocks b) part → IsTutte part.graph nodes → IsBlockTree part.graph nodes
+block-tree g blocks b part nodes are l is t = record { graph = is.numbered.is_graph; block = part-one_block g blocks b part are l is; tree = t }

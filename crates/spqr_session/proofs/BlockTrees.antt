@@ -56,7 +56,7 @@ lines-more blocks views b text before line nodes after within p q r o =
     let more : numbered lines 0 (take (b + 1) blocks) ≡ one ++ (two ++ three ++ four) =
     numbered-take lines blocks b (block_at blocks b) within (get_or_default blocks b (block_at blocks b) [] within) ∙ ap (λ (l : List ℕ). one ++ l) seen in
     o ∙ ap (λ (t : List ℕ). t ++ four) (r ∙ ap (λ (t : List ℕ). t ++ three) (q ∙ ap (λ (t : List ℕ). t ++ two) p))
-    ∙ append_assoc ((text ++ one) ++ two) three four ∙ append_assoc (text ++ one) two (three ++ four) ∙ append_assoc text one (two ++ three ++ four)
+    ∙ ap (λ (t : List ℕ). t ++ four) (append_assoc (text ++ one) two three) ∙ append_assoc (text ++ one) (two ++ three) four ∙ append_assoc text one (two ++ three ++ four)
     ∙ ap (λ (t : List ℕ). text ++ t) (sym more)
 
 -- the block that is found at a place

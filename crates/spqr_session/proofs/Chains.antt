@@ -81,4 +81,4 @@ chain-join setting before mid last (c ∷ cs) ds (s ∷ ss) ts p q = (p.0, p.1, 
 pub one-report : (setting : Setting) (commands : List Command) (s t : List ℕ) → IsSetting setting → IsReport setting commands s → IsReport setting commands t → s ≡ t
 one-report setting commands s t is p q =
     let from : IsChain setting p.start commands q.texts q.last = subst (λ (x : State). IsChain setting x commands q.texts q.last) (start-one setting q.start p.start is q.starts p.starts) q.answers in
-    p.whole ∙ ap (λ (ts : List (List ℕ)). concat (head_text setting ∷ ts)) (one-chain setting p.start commands p.texts q.texts p.last q.last is p.starts.state p.answers from).0 ∙ sym q.whole
+    p.whole ∙ ap (λ (ts : List (List ℕ)). concat (head_text setting ∷ ts)) (one-chain setting p.start commands p.texts q.texts p.last q.last is p.starts.right p.answers from).0 ∙ sym q.whole

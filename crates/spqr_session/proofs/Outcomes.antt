@@ -15,17 +15,12 @@ use Rattle.skel_embed.specs.First.{IsFirst}
 use Rattle.spqr_session.specs.Trees as trees
 use Rattle.spqr_session.specs.Certificates.{IsCertificate}
 use Rattle.spqr_session.specs.State.{IsFirstEntry}
-use Rattle.spqr_session.specs.Embedded.{block_view, IsEmbedded, IsStartBlock}
+use Rattle.spqr_session.specs.Embedded.{block_view, KeepsTogether, IsEmbedded, IsStartBlock}
 
 -- no node is locked where each is not
 none-locked : (n : ℕ) (locks : List Bool) → length locks ≡ n → ((k : ℕ) → k < n → lock_at locks k ≡ false) → locks ≡ replicate n false
 none-locked n locks c h = ext_get_or false locks (replicate n false) (c ∙ sym (length-replicate n false))
     (λ k l. let m : k < n = subst (λ (x : ℕ). k < x) c l in h k m ∙ sym (get_or-replicate n k false false m))
-
--- what a block in the plane keeps belongs together
-abbrev pub KeepsTogether : Outcome → Type 0
-KeepsTogether (Plane p) = IsBlockState p
-KeepsTogether (Not g t s) = Unit {0}
 
 module _ (excludes : SubdivisionExcludesPlane) (part : GraphPart) (nodes : List Node) (tree : IsBlockTree part.graph nodes) where
   pub outcome-embedded : (outcome : Outcome) → KeepsTogether outcome → IsOutcome part.graph nodes outcome → IsEmbedded part outcome

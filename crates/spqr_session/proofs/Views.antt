@@ -1,6 +1,7 @@
 -- Lists of blocks and of what is seen of them: trees, certificates, entries; and the start of a session.
 use Rattle.std.proofs.Common.{◌≡◌, ℕ, zero, suc, ◌<◌, Bool, false, List, [], ◌∷◌, length, map, get_or, replicate, slice_index_or, Option, None, Some, Ok, refl, sym, ap, ◌∙◌, subst, arith}
 use Rattle.std.proofs.lemmas.List.{length-map}
+use Rattle.std.proofs.lemmas.List.Elements.{All-nil}
 use Rattle.multigraph.specs.Graph.{Multigraph}
 use Rattle.blocks.specs.Blocks.{BlockStructure, IsBlockStructure, block_at}
 use Rattle.gml_text.specs.Document.{Document}
@@ -52,10 +53,10 @@ pub started : (document : Document) (named : NamedGraph) (structure : BlockStruc
 started document named structure views graph is h = record {
   setting = record { graph = graph; structure = is; trees = start-trees named.graph structure.blocks views h; certificates = start-certificates named.graph structure.blocks views h };
   start = record {
-    state = record {
+    right = record {
       present = record { one_each = length-map views view_entry ∙ sym (length-map views view_tree); each = entry };
-      earlier = tt;
-      later = tt;
+      earlier = All-nil (IsFamily (setting_of document named structure views));
+      later = All-nil (IsFamily (setting_of document named structure views));
     };
     first = first;
     earlier = refl;
@@ -79,4 +80,4 @@ started document named structure views graph is h = record {
 
 -- a start is right
 pub started-machine : (m : Machine) → IsStarted m → IsMachine m
-started-machine m h = record { setting = h.setting; state = h.start.state }
+started-machine m h = record { setting = h.setting; state = h.start.right }

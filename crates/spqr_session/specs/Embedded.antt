@@ -1,5 +1,5 @@
 -- A block with its tree, and its embedding or its certificate, as contracts see it.
-use Rattle.std.specs.Prelude.{◌≡◌, ℕ, ◌<◌, List, [], length, map, slice_index_or, Option, None, Some}
+use Rattle.std.specs.Prelude.{◌≡◌, ℕ, ◌<◌, List, [], length, map, slice_index_or, Option, None, Some, ⊤}
 use Rattle.blocks.specs.Blocks.{BlockStructure, block_at}
 use Rattle.gml_text.specs.Document.{Document}
 use Rattle.gml_graph.specs.Named.{NamedGraph}
@@ -7,6 +7,7 @@ use Rattle.kuratowski.specs.declared.subdivision.Subdivision.{Subdivision}
 use Rattle.multigraph.specs.Graph.{Multigraph}
 use Rattle.multigraph.specs.Part.{GraphPart}
 use Rattle.skeletons.specs.Items as items
+use Rattle.skel_embed.specs.Block.{IsBlockState}
 use Rattle.skel_embed.specs.declared.planes.Outcome.{Outcome}
 use Rattle.skel_embed.specs.declared.planes.Outcome.TheVariants.{Plane, Not}
 use Rattle.spqr_session.specs.Trees.{BlockTree, IsBlockTree, no_tree}
@@ -38,6 +39,11 @@ block_view part (Not g t s) = record { tree = record { part = part; nodes = t };
 abbrev pub outcome_graph : Outcome → Multigraph
 outcome_graph (Plane p) = p.graph
 outcome_graph (Not g t s) = g
+
+-- what a block in the plane keeps belongs together
+abbrev pub KeepsTogether : Outcome → Type 0
+KeepsTogether (Plane p) = IsBlockState p
+KeepsTogether (Not g t s) = ⊤
 
 -- what was found is right, and found of the part
 pub record IsEmbedded (part : GraphPart) (outcome : Outcome) : Type 0 where

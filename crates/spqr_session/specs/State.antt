@@ -51,7 +51,7 @@ IsFirstEntry tree (Some e) = IsFirst tree.part.graph tree.nodes e.rotation × (e
 
 -- a state in which a session on the setting starts: this is so for each block, and no family is earlier or later
 pub record IsStart (setting : Setting) (state : State) : Type 0 where
-  pub state : IsState setting state
+  pub right : IsState setting state
   pub first : (b : ℕ) → b < length setting.trees → IsFirstEntry (tree_at setting.trees b) (entry_at state.present b)
   pub earlier : state.earlier ≡ []
   pub later : state.later ≡ []

@@ -1,7 +1,7 @@
 // The blocks of a graph, each with its tree, and its embedding or its certificate.
 ghost use Rattle.std.specs.Prelude.{◌≡◌, ◌<◌, length, map, IfOk};
 ghost use Rattle.blocks.specs.Blocks.{IsBlockStructure, block_at};
-ghost use Rattle.spqr_session.specs.Embedded.{block_view, IsEmbedded, IsStartBlock, AreStartBlocks};
+ghost use Rattle.spqr_session.specs.Embedded.{block_view, KeepsTogether, IsEmbedded, IsStartBlock, AreStartBlocks};
 
 use blocks::Blocks;
 use multigraph::{Graph, Part};
@@ -57,6 +57,15 @@ impl EmbeddedBlock {
     }
 }
 
+// What a block in the plane keeps belongs together.
+fn keeps_together(outcome: &Outcome)
+    ensures { KeepsTogether outcome.now }
+{
+    if let Outcome::Plane(plane) = outcome {
+        let _ = plane.graph();
+    }
+}
+
 // Block `b` with its tree, embedded.
 fn embedded_block<P: Splitter, E: Embedder>(
     alloc: Global,
@@ -74,6 +83,7 @@ fn embedded_block<P: Splitter, E: Embedder>(
     let comps = splitter.split(alloc, part.graph())?;
     let tree = Tree::assemble(alloc, part.graph(), comps)?;
     let outcome = plane_block(alloc, part.graph().copy(alloc)?, tree, embedder)?;
+    keeps_together(&outcome);
     // That a block with a certificate has no plane rotation system.
     subdivision_excludes_plane();
     Ok(EmbeddedBlock { part, outcome })

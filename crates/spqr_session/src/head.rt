@@ -15,8 +15,8 @@ use gml_graph::Named;
 use multigraph::Part;
 use skel_embed::Outcome;
 use spqr_script::{
-    graph_line, nonplanar_lines, planar_line, push_block_line, push_cut_line, push_node_line,
-    push_vertex_line,
+    graph_line, push_block_line, push_cut_line, push_node_line, push_nonplanar_lines,
+    push_planar_line, push_vertex_line,
 };
 use spqr_tree::Tree;
 use std::alloc::{AllocError, Global};
@@ -55,25 +55,18 @@ fn push_nodes(out: &mut Vec<u8>, part: &Part, tree: &Tree) -> Result<(), AllocEr
 }
 
 // Puts the line of a planar block behind a text, or those of its certificate.
-fn push_planarity(
-    alloc: Global,
-    out: &mut Vec<u8>,
-    b: u32,
-    block: &EmbeddedBlock,
-) -> Result<(), AllocError>
+fn push_planarity(out: &mut Vec<u8>, b: u32, block: &EmbeddedBlock) -> Result<(), AllocError>
     ensures { OnOk result (out.new.items
         ≡ out.old.items ++ planarity_text b block.now.tree.part block.now.certificate) }
 {
-    let lines = match block.outcome() {
-        Outcome::Plane(_) => planar_line(alloc, b)?,
-        Outcome::Not(_, _, certificate) => nonplanar_lines(alloc, b, block.part(), certificate)?,
-    };
-    out.extend_from_slice(&lines)
+    match block.outcome() {
+        Outcome::Plane(_) => push_planar_line(out, b),
+        Outcome::Not(_, _, certificate) => push_nonplanar_lines(out, b, block.part(), certificate),
+    }
 }
 
 // Puts the lines of the blocks behind a text, with those of their trees, and whether they are planar.
 fn push_blocks(
-    alloc: Global,
     out: &mut Vec<u8>,
     blocks: &Blocks,
     embedded: &[EmbeddedBlock],
@@ -86,7 +79,7 @@ fn push_blocks(
         push_block_line(out, b, blocks.edges(b))?;
         let block = &embedded[b as usize];
         push_nodes(out, block.part(), block.tree())?;
-        push_planarity(alloc, out, b, block)?;
+        push_planarity(out, b, block)?;
     }
     Ok(())
 }
@@ -107,6 +100,6 @@ pub fn head_of(
     let mut out = graph_line(alloc, graph.vertex_count(), graph.edge_count())?;
     push_vertices(&mut out, named.ids())?;
     push_cuts(&mut out, blocks.cut_vertices())?;
-    push_blocks(alloc, &mut out, blocks, embedded)?;
+    push_blocks(&mut out, blocks, embedded)?;
     Ok(out)
 }

@@ -1,4 +1,4 @@
 use Rattle.spqr_session.proofs.head.head_of.Goals as goal
 
-pub push_trees-requires : goal.push_trees-requires
-push_trees-requires c = (c.args.named.now.graph, c.requires)
+pub push_blocks-requires : goal.push_blocks-requires
+push_blocks-requires c = (c.args.named.now.graph, c.requires)

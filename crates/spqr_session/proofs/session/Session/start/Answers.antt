@@ -1,0 +1,26 @@
+use Rattle.std.proofs.Common.{◌≡◌, List, length, ap, sym, ◌∙◌, subst, Ok}
+use Rattle.multigraph.specs.Graph.{Multigraph}
+use Rattle.blocks.specs.Blocks.{IsBlockStructure}
+use Rattle.spqr_session.specs.Embedded.{AreStartBlocks, setting_of, state_of}
+use Rattle.spqr_session.proofs.Views.{started, started-machine}
+use Rattle.spqr_session.proofs.session.Session.start.Goals as goal
+
+pub invariant_of-result : goal.invariant_of-result
+invariant_of-result g c =
+    let d = c.args.doc in
+    let n = c.args.named in
+    let structure = c.in_ok-blocks.blocks in
+    let views = c.in_ok-embedded.embedded.items in
+    let is = subst (λ (x : Multigraph). IsBlockStructure x structure) c.graph.ensures.value c.in_ok-blocks.ensures in
+    let start = subst (λ (x : Multigraph). AreStartBlocks x structure.blocks (length structure.blocks) views) c.graph-2.ensures.value c.in_ok-embedded.ensures in
+    started-machine (record { setting = setting_of d n structure views; state = state_of views }) (started d n structure views c.requires is start)
+
+pub returns-clause-started : goal.returns-clause-started
+returns-clause-started g c =
+    let d = c.args.doc in
+    let n = c.args.named in
+    let structure = c.in_ok-blocks.blocks in
+    let views = c.in_ok-embedded.embedded.items in
+    let is = subst (λ (x : Multigraph). IsBlockStructure x structure) c.graph.ensures.value c.in_ok-blocks.ensures in
+    let start = subst (λ (x : Multigraph). AreStartBlocks x structure.blocks (length structure.blocks) views) c.graph-2.ensures.value c.in_ok-embedded.ensures in
+    started d n structure views c.requires is start
