@@ -7,34 +7,43 @@ use Rattle.std.proofs.lemmas.Option.{same_Some, none-some}
 use Rattle.spqr_script.specs.Line.{is_passed_over, tokens_of}
 use Rattle.spqr_script.specs.Words.{spelling, all_words, word_among}
 use Rattle.spqr_script.specs.Script.{word_of, SpellsArguments, SpellsCommand, command_lines, IsAccepted, IsRefused}
-use Rattle.spqr_script.specs.Reading.{rotation_of, alone, arguments_of, command_with, command_of, command_and, commands_from}
+use Rattle.spqr_script.specs.Reading.{rotation_of, arguments_of, command_with, command_of, command_and, commands_from}
 use Rattle.spqr_script.specs.declared.word.Word.{Word}
 use Rattle.spqr_script.specs.declared.word.Word.TheVariants as word
 use Rattle.spqr_script.specs.declared.command.Command.{Command}
-use Rattle.spqr_script.specs.declared.command.Command.TheVariants.{Euler, Gml}
+use Rattle.spqr_script.specs.declared.command.Command.TheVariants.{Euler, Show, Faces, Gml}
 use Rattle.spqr_script.proofs.Options.{map_some}
 use Rattle.spqr_script.proofs.Words.{found_spelled, word_found}
 use Rattle.spqr_script.proofs.Entries.{rotation_spelled, rotation_read}
+use Rattle.spqr_script.proofs.Forms.{alone_spelled, alone_read, block_spelled, block_read}
 
 -- ---- one command
 
-alone_is : (command : Command) (tokens : List (List ℕ)) (c : Command) → alone command tokens ≡ Some c → (tokens ≡ []) × (command ≡ c)
-alone_is command [] c e = (refl, same_Some command c e)
-alone_is command (token ∷ tokens) c e = absurd (none-some c e)
+-- the word of a command, and behind it its arguments
+abbrev IsSpelled : Word → List (List ℕ) → Command → Type 0
+IsSpelled w tokens c = (w ≡ word_of c) × SpellsArguments tokens c
 
 -- what is read behind a word is its command, spelled so
-arguments_spelled : (w : Word) (tokens : List (List ℕ)) (c : Command) → arguments_of w tokens ≡ Some c → (w ≡ word_of c) × SpellsArguments tokens c
+arguments_spelled : (w : Word) (tokens : List (List ℕ)) (c : Command) → arguments_of w tokens ≡ Some c → IsSpelled w tokens c
 arguments_spelled word.Euler tokens c e =
     let p = map_some (λ entries. Euler entries) (rotation_of tokens) c e in
-    subst (λ (x : Command). (word.Euler ≡ word_of x) × SpellsArguments tokens x) p.2 (refl, rotation_spelled tokens p.0 p.1)
+    subst (IsSpelled word.Euler tokens) p.2 (refl, rotation_spelled tokens p.0 p.1)
+arguments_spelled word.Show tokens c e =
+    let p = block_spelled Show tokens c e in
+    subst (IsSpelled word.Show tokens) p.1 (refl, p.2)
+arguments_spelled word.Faces tokens c e =
+    let p = block_spelled Faces tokens c e in
+    subst (IsSpelled word.Faces tokens) p.1 (refl, p.2)
 arguments_spelled word.Gml tokens c e =
-    let p = alone_is Gml tokens c e in
-    subst (λ (x : Command). (word.Gml ≡ word_of x) × SpellsArguments tokens x) p.1 (refl, p.0)
+    let p = alone_spelled Gml tokens c e in
+    subst (IsSpelled word.Gml tokens) p.1 (refl, p.0)
 
 -- and what is spelled behind the word of a command is read
 arguments_read : (tokens : List (List ℕ)) (c : Command) → SpellsArguments tokens c → arguments_of (word_of c) tokens ≡ Some c
 arguments_read tokens (Euler entries) s = ap (λ (o : Option (List (ℕ × List ℕ))). option_map (λ x. Euler x) o) (rotation_read tokens entries s)
-arguments_read tokens Gml s = ap (λ (ts : List (List ℕ)). alone Gml ts) s
+arguments_read tokens (Show b) s = block_read Show tokens b s
+arguments_read tokens (Faces b) s = block_read Faces tokens b s
+arguments_read tokens Gml s = alone_read Gml tokens s
 
 -- a command has a word
 with_word : (o : Option Word) (tokens : List (List ℕ)) (c : Command) → command_with o tokens ≡ Some c → (w : Word) × (o ≡ Some w) × (arguments_of w tokens ≡ Some c)

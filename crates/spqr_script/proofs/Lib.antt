@@ -3,6 +3,7 @@ mod TextExamples
 mod ScriptExamples
 mod Options
 pub mod Entries
+mod Forms
 mod Words
 pub mod Commands
 mod Digits

@@ -7,7 +7,7 @@ use Rattle.std.proofs.lemmas.Slice.Eq.{bytes_eq-Decides}
 use Rattle.std.proofs.Math.Seq.{drop-cons}
 use Rattle.spqr_script.specs.Words.{spelling, all_words, word_among}
 use Rattle.spqr_script.specs.declared.word.Word.{Word}
-use Rattle.spqr_script.specs.declared.word.Word.TheVariants.{Euler, Gml}
+use Rattle.spqr_script.specs.declared.word.Word.TheVariants.{Euler, Show, Faces, Gml}
 
 -- what is found is spelled so
 pub found_spelled : (words : List Word) (name : List ℕ) (w : Word) → word_among words name ≡ Some w → name ≡ spelling w
@@ -23,6 +23,8 @@ found_spelled (x ∷ xs) name w e =
 pub word_found : (w : Word) → word_among all_words (spelling w) ≡ Some w
 unfolding word_among
 word_found Euler = refl
+word_found Show = refl
+word_found Faces = refl
 word_found Gml = refl
 
 -- ---- the search word by word

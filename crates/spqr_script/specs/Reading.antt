@@ -1,5 +1,6 @@
 -- Reading as functions on lists: what the functions of the reader answer. proofs/ shows that it is what `Script` says.
 use Rattle.std.specs.Prelude.{◌≡◌, ℕ, ◌+◌, ◌-◌, ◌*◌, Bool, ◌&&◌, ◌||◌, ◌==◌, nat_lt, if◌then◌else◌, List, [], ◌∷◌, ◌++◌, length, Option, Some, None, option_map, Result, Ok, Err, bytes_eq, codes}
+use Rattle.std.specs.Option.{option_and_then}
 use Rattle.std.specs.Char.{is_ascii_digit}
 use Rattle.std.specs.List.{slice_split}
 use Rattle.rotations.specs.Entries.{entry}
@@ -13,7 +14,7 @@ use Rattle.spqr_script.specs.Words.{all_words, word_among}
 use Rattle.spqr_script.specs.declared.word.Word.{Word}
 use Rattle.spqr_script.specs.declared.word.Word.TheVariants as word
 use Rattle.spqr_script.specs.declared.command.Command.{Command}
-use Rattle.spqr_script.specs.declared.command.Command.TheVariants.{Euler, Gml}
+use Rattle.spqr_script.specs.declared.command.Command.TheVariants.{Euler, Show, Faces, Gml}
 
 -- the number so far with one digit more behind it, where that is below the limit
 abbrev pub with_digit : ℕ → ℕ → ℕ → Option ℕ
@@ -72,9 +73,24 @@ abbrev pub alone : Command → List (List ℕ) → Option Command
 alone command [] = Some command
 alone command (token ∷ tokens) = None
 
+-- the number that the first token spells, where it is below the limit, and the tokens behind it
+abbrev pub first_number : ℕ → List (List ℕ) → Option (ℕ × List (List ℕ))
+first_number limit [] = None
+first_number limit (token ∷ tokens) = option_map (λ n. (n, tokens)) (number_below limit token)
+
+-- the command that is read with a number, which comes first, from the tokens behind it
+abbrev pub number_then : ℕ → (ℕ → List (List ℕ) → Option Command) → List (List ℕ) → Option Command
+number_then limit further tokens = option_and_then (λ first. further first.0 first.1) (first_number limit tokens)
+
+-- the same with the number of a block, a node or a key
+abbrev pub index_then : (ℕ → List (List ℕ) → Option Command) → List (List ℕ) → Option Command
+index_then further tokens = number_then index_limit further tokens
+
 -- the command with this word, where the tokens behind it are its arguments
 abbrev pub arguments_of : Word → List (List ℕ) → Option Command
 arguments_of word.Euler tokens = option_map (λ entries. Euler entries) (rotation_of tokens)
+arguments_of word.Show tokens = index_then (λ b. alone (Show b)) tokens
+arguments_of word.Faces tokens = index_then (λ b. alone (Faces b)) tokens
 arguments_of word.Gml tokens = alone Gml tokens
 
 -- the same, where there is a word

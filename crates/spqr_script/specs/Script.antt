@@ -8,17 +8,21 @@ use Rattle.spqr_script.specs.Words.{spelling}
 use Rattle.spqr_script.specs.declared.word.Word.{Word}
 use Rattle.spqr_script.specs.declared.word.Word.TheVariants as word
 use Rattle.spqr_script.specs.declared.command.Command.{Command}
-use Rattle.spqr_script.specs.declared.command.Command.TheVariants.{Euler, Gml}
+use Rattle.spqr_script.specs.declared.command.Command.TheVariants.{Euler, Show, Faces, Gml}
 
 -- the number of a vertex, an edge, a block, a node or a key
 abbrev pub SpellsIndex : List ℕ → ℕ → Type 0
 SpellsIndex token n = SpellsNumber index_limit token n
 
+-- such numbers, each a token
+abbrev pub SpellsIndices : List (List ℕ) → List ℕ → Type 0
+SpellsIndices tokens numbers = AllZip SpellsIndex tokens numbers
+
 -- an entry of a rotation: a vertex, `:`, and zero or more edges
 abbrev pub SpellsEntry : List (List ℕ) → ℕ × List ℕ → Type 0
 SpellsEntry [] entry = ⊥
 SpellsEntry (v ∷ []) entry = ⊥
-SpellsEntry (v ∷ mark ∷ edges) entry = SpellsIndex v entry.0 × (mark ≡ codes ":") × AllZip SpellsIndex edges entry.1
+SpellsEntry (v ∷ mark ∷ edges) entry = SpellsIndex v entry.0 × (mark ≡ codes ":") × SpellsIndices edges entry.1
 
 -- the token `;`, which stands between entries
 abbrev pub is_semicolon : List ℕ → Bool
@@ -32,11 +36,15 @@ SpellsRotation tokens entries =
 -- the word of a command
 abbrev pub word_of : Command → Word
 word_of (Euler entries) = word.Euler
+word_of (Show b) = word.Show
+word_of (Faces b) = word.Faces
 word_of Gml = word.Gml
 
--- the arguments of a command: `euler ROT`, and `gml` alone
+-- the arguments of a command: `euler ROT`, `show B`, `faces B`, and `gml` alone
 abbrev pub SpellsArguments : List (List ℕ) → Command → Type 0
 SpellsArguments tokens (Euler entries) = SpellsRotation tokens entries
+SpellsArguments tokens (Show b) = SpellsIndices tokens (b ∷ [])
+SpellsArguments tokens (Faces b) = SpellsIndices tokens (b ∷ [])
 SpellsArguments tokens Gml = tokens ≡ []
 
 -- the tokens of a line are a command: its word, and behind it its arguments

@@ -10,6 +10,10 @@ use std::alloc::{AllocError, AllocFailed};
 pub enum Command {
     /// `euler ROT`: measure this rotation system of the whole graph.
     Euler(Lists),
+    /// `show B`: print the rotation system of block B.
+    Show(u32),
+    /// `faces B`: print the faces of block B.
+    Faces(u32),
     /// `gml`: print the document.
     Gml,
 }

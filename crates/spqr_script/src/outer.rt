@@ -24,11 +24,7 @@ pub(crate) fn push_vertices(
 }
 
 // Puts the edges, each with a space before it, behind a text.
-pub(crate) fn push_edges(
-    out: &mut Vec<u8>,
-    part: &Part,
-    edges: &[u32],
-) -> Result<(), AllocError>
+pub(crate) fn push_edges(out: &mut Vec<u8>, part: &Part, edges: &[u32]) -> Result<(), AllocError>
     requires { All (λ e. e < edge_count part.now.graph) edges.now }
     ensures { OnOk result (out.new.items ≡ out.old.items ++ spaced_numbers (map (slice_index part.now.edges) edges.now)) }
 {

@@ -35,6 +35,11 @@ fn lines_that_are_commands(rt: HostRuntime) -> Result<(), Fail> {
         "gml\r\n",
         "gml \r",
         "# c\ngml",
+        "show 0",
+        "show 0000",
+        "show 4294967295",
+        "show\t7 \r\n",
+        "faces 1",
         "\n \t\n\r\n#\n\t# euler 0\ngml\n",
     ];
     for row in rows.iter() {
@@ -71,6 +76,16 @@ fn lines_that_are_none(rt: HostRuntime) -> Result<(), Fail> {
         "gml\0",
         "\0",
         "shwo 0",
+        "show",
+        "show 4294967296",
+        "show 0 1",
+        "show 0 ;",
+        "show 0:",
+        "show x",
+        "Show 0",
+        "faces",
+        "faces 0 0",
+        "face 0",
     ];
     for row in rows.iter() {
         assert_eq!(rt; outcome(rt.alloc(), row)?, (0, 1));
@@ -81,11 +96,14 @@ fn lines_that_are_none(rt: HostRuntime) -> Result<(), Fail> {
 }
 
 #[test]
-fn entries_in_order(rt: HostRuntime) -> Result<(), Fail> {
-    let commands = read(rt.alloc(), b"euler 3: 1 0; 007: ;9:2\ngml")
-        .ok()
-        .ok_or("the bytes are two commands")?;
-    assert_eq!(rt; commands.len(), 2);
+fn arguments_in_order(rt: HostRuntime) -> Result<(), Fail> {
+    let commands = read(
+        rt.alloc(),
+        b"euler 3: 1 0; 007: ;9:2\ngml\nshow 07\nfaces 8",
+    )
+    .ok()
+    .ok_or("the bytes are four commands")?;
+    assert_eq!(rt; commands.len(), 4);
     if let Command::Euler(lists) = &commands[0] {
         assert_eq!(rt; lists.len(), 3);
         assert_eq!(rt; lists.vertex(0), 3);
@@ -98,6 +116,8 @@ fn entries_in_order(rt: HostRuntime) -> Result<(), Fail> {
         return Err("the first is `euler`".into());
     }
     assert!(rt; matches!(commands[1], Command::Gml));
+    assert!(rt; matches!(commands[2], Command::Show(7)));
+    assert!(rt; matches!(commands[3], Command::Faces(8)));
     Ok(())
 }
 

@@ -7,12 +7,16 @@ ghost use Rattle.spqr_script.specs.Words.{spelling, all_words, word_among};
 pub enum Word {
     /// `euler`.
     Euler,
+    /// `show`.
+    Show,
+    /// `faces`.
+    Faces,
     /// `gml`.
     Gml,
 }
 
 // Every word, each once.
-static WORDS: [Word; 2] = [Word::Euler, Word::Gml];
+static WORDS: [Word; 4] = [Word::Euler, Word::Show, Word::Faces, Word::Gml];
 
 // How a word is spelled.
 fn spelling(word: Word) -> &'static [u8]
@@ -20,6 +24,8 @@ fn spelling(word: Word) -> &'static [u8]
 {
     match word {
         Word::Euler => b"euler",
+        Word::Show => b"show",
+        Word::Faces => b"faces",
         Word::Gml => b"gml",
     }
 }

@@ -47,12 +47,7 @@ fn push_faces(out: &mut Vec<u8>, part: &Part, f: &Faces) -> Result<(), AllocErro
 
 /// The line `faces B F` and a line `face V-E V-E ..` for each of the F faces of a rotation system of a block: the pairs of a vertex
 /// and an edge along it, in the numbers of the whole graph.
-pub fn faces_lines(
-    alloc: Global,
-    b: u32,
-    part: &Part,
-    f: &Faces,
-) -> Result<Vec<u8>, AllocError>
+pub fn faces_lines(alloc: Global, b: u32, part: &Part, f: &Faces) -> Result<Vec<u8>, AllocError>
     requires { AreFaces part.now.graph f.now }
     ensures { IfOk result (λ text. text.items ≡ faces_text part.now b f.now) }
 {
