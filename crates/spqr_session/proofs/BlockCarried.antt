@@ -1,5 +1,7 @@
 -- Commands that name a block and only read: there is an answer, and one only.
-use Rattle.std.proofs.Common.{◌≡◌, ℕ, ◌<◌, ◌≤◌, ◌⊎◌, List, [], length, Option, None, Some, inl, inr, refl, sym, ap, ◌∙◌, subst, arith}
+use Rattle.std.proofs.Common.{◌≡◌, ℕ, ◌<◌, ◌≤◌, ◌⊎◌, List, [], length, map, Option, None, Some, Result, IfOk, inl, inr, refl, sym, ap, ◌∙◌, subst, arith}
+use Rattle.std.specs.Global.{Vec}
+use Rattle.std.proofs.lemmas.List.{length-map}
 use Rattle.std.proofs.lemmas.Bool.{cases_lt}
 use Rattle.spqr_session.specs.Trees.{BlockTree, tree_at}
 use Rattle.spqr_session.specs.State.{Embedding, State, entry_at}
@@ -7,6 +9,9 @@ use Rattle.spqr_session.specs.Codes.{code_number, code_numbers, code_text}
 use Rattle.spqr_session.specs.BlockCodes.{BlockApplies, ReadsBlock, BlockReadStep, TellsBlock}
 use Rattle.spqr_session.specs.declared.code.Code.{Code}
 use Rattle.spqr_session.specs.declared.code.Code.TheVariants.{NoBlock, NonPlanar, BadRotation}
+use Rattle.spqr_session.specs.Embedded.{BlockView, view_tree, view_entry, view_at}
+use Rattle.spqr_session.proofs.Views.{trees-at, entries-at}
+use Rattle.spqr_session.proofs.Steps.{text-map}
 use Rattle.spqr_session.proofs.Carried.{TellsOne, DoesOne, carries-one}
 
 -- the codes tell no numbers
@@ -74,3 +79,13 @@ module _ (trees : List BlockTree) (b : ℕ) (IsAbout : BlockTree → Embedding �
   pub block-stays : (text : List ℕ) (after : State) → BlockReadStep trees b IsAbout s text after → after ≡ s
   block-stays text after (inl p) = p.stays
   block-stays text after (inr p) = p.1.stays
+
+-- what is told of the block that is found at a place is the answer
+pub block-read : {E : Type 0} (views : List BlockView) (b : ℕ) (IsAbout : BlockTree → Embedding → List ℕ → Type 0) (v : BlockView) (r : Result (Vec ℕ) E) → b < length views → v ≡ view_at views b
+    → IfOk r (λ text. TellsBlock v.tree v.entry IsAbout text.items) → (s : State) → s.present.entries ≡ map view_entry views → IfOk r (λ text. BlockReadStep (map view_tree views) b IsAbout s text.items s)
+block-read {E = E} views b IsAbout v r l at told s present =
+    text-map r (λ text. TellsBlock v.tree v.entry IsAbout text) (λ text. BlockReadStep (map view_tree views) b IsAbout s text s)
+    (λ text t. tells-block (map view_tree views) b IsAbout s (view_at views b).entry text (omega (arith, l, length-map views view_tree))
+    (ap (λ (es : List (Option Embedding)). entry_at (record { entries = es }) b) present ∙ entries-at views b)
+    (subst (λ (x : BlockTree). TellsBlock x (view_at views b).entry IsAbout text) (sym (trees-at views b)) (subst (λ (x : BlockView). TellsBlock x.tree x.entry IsAbout text) at t)))
+    told

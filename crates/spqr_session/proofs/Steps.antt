@@ -1,14 +1,18 @@
 -- What a session's call says of a step.
-use Rattle.std.proofs.Common.{◌≡◌, ℕ, List, Result, Ok, Err, IfOk, sym, subst}
+use Rattle.std.proofs.Common.{◌≡◌, ℕ, List, map, Result, Ok, Err, IfOk, sym, subst}
 use Rattle.std.specs.Global.{Vec}
 use Rattle.multigraph.specs.Graph.{Multigraph}
 use Rattle.gml_text.specs.Document.{Document}
 use Rattle.spqr_script.specs.declared.command.Command.{Command}
-use Rattle.spqr_script.specs.declared.command.Command.TheVariants.{Euler, Gml}
+use Rattle.spqr_script.specs.declared.command.Command.TheVariants.{Euler, Gml, Show, Faces}
 use Rattle.spqr_session.specs.Setting.{Setting}
 use Rattle.spqr_session.specs.State.{State}
 use Rattle.spqr_session.specs.Commands.Euler.{EulerStep}
 use Rattle.spqr_session.specs.Commands.Gml.{GmlStep}
+use Rattle.spqr_session.specs.Commands.Show.{ShowStep}
+use Rattle.spqr_session.specs.Commands.Faces.{FacesStep}
+use Rattle.spqr_session.specs.Trees.{BlockTree}
+use Rattle.spqr_session.specs.Embedded.{BlockView, view_tree, view_entry}
 use Rattle.spqr_session.specs.Step.{Step}
 
 -- what holds of a text holds as far as it implies
@@ -35,3 +39,19 @@ step-gml {E = E} setting state command d r q is document same h =
     subst (λ (x : Command). IfOk q (λ text. Step setting state x text.items state)) (sym is)
     (subst (λ (x : Result (Vec ℕ) E). IfOk x (λ text. Step setting state Gml text.items state)) (sym same)
     (subst (λ (x : Document). IfOk r (λ text. GmlStep x state text.items state)) document (h state)))
+
+-- `show` on the blocks of the setting, in the state
+pub step-show : {E : Type 0} (setting : Setting) (state : State) (command : Command) (b : ℕ) (views : List BlockView) (r q : Result (Vec ℕ) E) → command ≡ Show b → map view_tree views ≡ setting.trees → state.present.entries ≡ map view_entry views → q ≡ r
+    → ((s : State) → s.present.entries ≡ map view_entry views → IfOk r (λ text. ShowStep (map view_tree views) b s text.items s)) → IfOk q (λ text. Step setting state command text.items state)
+step-show {E = E} setting state command b views r q is trees entries same h =
+    subst (λ (x : Command). IfOk q (λ text. Step setting state x text.items state)) (sym is)
+    (subst (λ (x : Result (Vec ℕ) E). IfOk x (λ text. Step setting state (Show b) text.items state)) (sym same)
+    (subst (λ (x : List BlockTree). IfOk r (λ text. ShowStep x b state text.items state)) trees (h state entries)))
+
+-- `faces` on them
+pub step-faces : {E : Type 0} (setting : Setting) (state : State) (command : Command) (b : ℕ) (views : List BlockView) (r q : Result (Vec ℕ) E) → command ≡ Faces b → map view_tree views ≡ setting.trees → state.present.entries ≡ map view_entry views → q ≡ r
+    → ((s : State) → s.present.entries ≡ map view_entry views → IfOk r (λ text. FacesStep (map view_tree views) b s text.items s)) → IfOk q (λ text. Step setting state command text.items state)
+step-faces {E = E} setting state command b views r q is trees entries same h =
+    subst (λ (x : Command). IfOk q (λ text. Step setting state x text.items state)) (sym is)
+    (subst (λ (x : Result (Vec ℕ) E). IfOk x (λ text. Step setting state (Faces b) text.items state)) (sym same)
+    (subst (λ (x : List BlockTree). IfOk r (λ text. FacesStep x b state text.items state)) trees (h state entries)))
