@@ -4,6 +4,7 @@ pub mod Certificates
 pub mod Setting
 pub mod State
 pub mod Embedded
+pub mod Board
 pub mod Codes
 pub mod BlockCodes
 pub mod Commands
