@@ -10,6 +10,7 @@ pub mod Arranging
 pub mod Carried
 pub mod EulerCarried
 pub mod GmlCarried
+pub mod Ladders
 pub mod BlockCarried
 pub mod Chains
 pub mod Steps
