@@ -12,5 +12,8 @@ pub mod EulerCarried
 pub mod GmlCarried
 pub mod Ladders
 pub mod BlockCarried
+pub mod Changes
+pub mod MovesCarried
+pub mod HistoryCarried
 pub mod Chains
 pub mod Steps

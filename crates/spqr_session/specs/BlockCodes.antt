@@ -9,7 +9,7 @@ use Rattle.spqr_session.specs.Trees.{BlockTree, tree_at}
 use Rattle.spqr_session.specs.State.{Embedding, Family, State, entry_at}
 use Rattle.spqr_session.specs.Codes.{Ladder, Applies, Carries, code_text, first_code}
 use Rattle.spqr_session.specs.declared.code.Code.{Code}
-use Rattle.spqr_session.specs.declared.code.Code.TheVariants.{NoBlock, NoNode, WrongKind, NonPlanar}
+use Rattle.spqr_session.specs.declared.code.Code.TheVariants.{NoBlock, NoNode, WrongKind, NonPlanar, Locked}
 
 -- whether b is a block
 abbrev pub is_block : List BlockTree → ℕ → Bool
@@ -47,11 +47,6 @@ abbrev pub is_planar : Option Embedding → Bool
 is_planar None = false
 is_planar (Some e) = true
 
--- whether node k is locked
-abbrev pub is_locked : Option Embedding → ℕ → Bool
-is_locked None k = false
-is_locked (Some e) k = lock_at e.locks k
-
 -- code 1: there is no such block; code 5: it is not planar
 abbrev pub block_ladder : List BlockTree → ℕ → State → Ladder
 block_ladder trees b s = (NoBlock, not (is_block trees b)) ∷ (NonPlanar, not (is_planar (entry_at s.present b))) ∷ []
@@ -66,6 +61,10 @@ node_ladder suits trees b k s =
 abbrev pub of_entry : (Embedding → Ladder) → Option Embedding → Ladder
 of_entry more None = []
 of_entry more (Some e) = more e
+
+-- code 12: node k is locked
+abbrev pub lock_codes : ℕ → Embedding → Ladder
+lock_codes k e = (Locked k, lock_at e.locks k) ∷ []
 
 -- the answer is one about the tree and the embedding of the block; the state stays
 pub record ReadsBlock (trees : List BlockTree) (b : ℕ) (IsAbout : BlockTree → Embedding → List ℕ → Type 0) (before : State) (text : List ℕ) (after : State) : Type 0 where

@@ -7,6 +7,7 @@ pub mod Embedded
 pub mod Board
 pub mod Codes
 pub mod BlockCodes
+pub mod Members
 pub mod Commands
 pub mod Step
 pub mod Head
