@@ -15,5 +15,6 @@ pub mod BlockCarried
 pub mod Changes
 pub mod MovesCarried
 pub mod HistoryCarried
+pub mod MembersCarried
 pub mod Chains
 pub mod Steps
