@@ -5,3 +5,5 @@ pub mod Fan
 pub mod Members
 pub mod Outcomes
 pub mod Planes
+pub mod Steps
+pub mod Exchanges

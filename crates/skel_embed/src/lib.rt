@@ -16,10 +16,14 @@
 #![tactic(auto)]
 
 mod blocks_in_plane;
+mod exchanging;
+mod kept;
 mod members;
 mod planes;
+mod runs;
 mod state;
 mod systems;
+mod turning;
 
 pub use blocks_in_plane::{BySkeletons, embed_by_skeletons};
 pub use planes::{Outcome, plane_block};
