@@ -16,5 +16,6 @@ pub mod Changes
 pub mod MovesCarried
 pub mod HistoryCarried
 pub mod MembersCarried
+pub mod Planes
 pub mod Chains
 pub mod Steps

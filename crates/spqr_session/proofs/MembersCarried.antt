@@ -32,26 +32,26 @@ use Rattle.spqr_session.proofs.BlockCarried.{held, entry-same, none-front, first
 use Rattle.spqr_session.proofs.Changes.{change-does, change-keeps, entry-right, entry-block, silently-one, embedding-same}
 
 -- the list of an embedding, and where the embedding stands in it
-record Listed (tree : BlockTree) (e : Embedding) : Type 0 where
-  list : List (List (List ℕ))
-  are : AreMembers tree e list
-  counted : length list ≡ member_count tree e
-  place : ℕ
-  rank : IsRank list e.rotation place
+pub record Listed (tree : BlockTree) (e : Embedding) : Type 0 where
+  pub list : List (List (List ℕ))
+  pub are : AreMembers tree e list
+  pub counted : length list ≡ member_count tree e
+  pub place : ℕ
+  pub rank : IsRank list e.rotation place
 
 module _ (tree : BlockTree) (e : Embedding) (t : IsBlockTree tree.part.graph tree.nodes) (right : IsEntry tree None (Some e)) where
-  listed : Listed tree e
+  pub listed : Listed tree e
   listed =
       let l = list-exists tree.part.graph tree.nodes (lock_at e.locks) e.rotation t right.0 in
       let c : Contains l.0 e.rotation = (l.1.members e.rotation).1 (record { plane = right.0; keeps = λ k m on. refl }) in
       record { list = l.0; are = l.1; counted = l.2; place = c.0; rank = record { within = c.1; is_there = get_or_default l.0 c.0 [] e.rotation c.1 ∙ c.2 } }
 
 -- there is one list
-lists-one : (tree : BlockTree) (e : Embedding) (l m : List (List (List ℕ))) → AreMembers tree e l → AreMembers tree e m → l ≡ m
+pub lists-one : (tree : BlockTree) (e : Embedding) (l m : List (List (List ℕ))) → AreMembers tree e l → AreMembers tree e m → l ≡ m
 lists-one tree e l m a b = kept-unique tree.part.graph tree.nodes (lock_at e.locks) e.rotation l m a b
 
 -- and one rank of each member
-ranks-one : (tree : BlockTree) (e : Embedding) (l : List (List (List ℕ))) (r : List (List ℕ)) (i j : ℕ) → AreMembers tree e l → IsRank l r i → IsRank l r j → i ≡ j
+pub ranks-one : (tree : BlockTree) (e : Embedding) (l : List (List (List ℕ))) (r : List (List ℕ)) (i j : ℕ) → AreMembers tree e l → IsRank l r i → IsRank l r j → i ≡ j
 ranks-one tree e l r i j a p q = elim (cases_order i j) [
   | inl x ↦ x
   | inr (inl x) ↦ absurd (apart i j x p q)
