@@ -1,5 +1,5 @@
 -- Choices changed in their place.
-use Rattle.std.proofs.Common.{◌≡◌, ◌≢◌, ℕ, zero, suc, ◌+◌, ◌<◌, ◌≤◌, true, false, List, [], ◌∷◌, ◌++◌, length, reverse, take, drop, slice_index_or, slice_set, refl, sym, ap, ◌∙◌, subst, inl, inr, arith}
+use Rattle.std.proofs.Common.{◌≡◌, ◌≢◌, ℕ, zero, suc, ◌+◌, ◌<◌, ◌≤◌, true, false, List, [], ◌∷◌, ◌++◌, length, map, reverse, take, drop, slice_index_or, slice_set, refl, sym, ap, ◌∙◌, subst, inl, inr, arith}
 use Rattle.std.proofs.lemmas.Bool.{both_ways, cases_eq, true≢false}
 use Rattle.std.proofs.lemmas.List.{reverse-append, reverse-reverse, length-reverse, take_all}
 use Rattle.permutations.specs.Cyclic.{first_or, from_least, turned}
@@ -10,7 +10,7 @@ use Rattle.permutations.proofs.Relation.{same-tests}
 use Rattle.permutations.proofs.Turned.{turned-cut}
 use Rattle.choice_lists.specs.Choices.{mirror_choice}
 use Rattle.skeleton_choices.proofs.Listed.{mirror-same}
-use Rattle.skel_embed.specs.Exchanges.{other_of, exchanged, StandsAt}
+use Rattle.skel_embed.specs.Exchanges.{other_of, exchanged, turned_choice, StandsAt}
 use Rattle.skel_embed.proofs.ExchangeSteps.{other-first, other-second, other-none}
 
 -- one key more is exchanged
@@ -42,12 +42,32 @@ passed-none keys i key h n e = let s : i + 1 ≡ suc i = omega arith in ap (λ z
     go (x ∷ l) (suc i) h n e = no_member-cons key x (take (suc i) l) (no_member-head key x (take i l) n) (go l i (omega (arith, h)) (no_member-tail key x (take i l) n) e)
 
 -- the reverse order, from the least on
-pub turned-round : (old : List ℕ) → is_distinct old ≡ true → from_least old ≡ old → 0 < length old → take 1 old ++ reverse (drop 1 old) ≡ from_least (reverse old)
-turned-round old d w s = at old s ∙ sym (mirror-same old d w)
+pub turned-round : (old : List ℕ) → is_distinct old ≡ true → from_least old ≡ old → take 1 old ++ reverse (drop 1 old) ≡ from_least (reverse old)
+turned-round old d w = at old ∙ sym (mirror-same old d w)
   where
-    at : (l : List ℕ) → 0 < length l → take 1 l ++ reverse (drop 1 l) ≡ mirror_choice l
-    at [] s = absurd (omega (arith, s))
-    at (x ∷ l) s = refl
+    at : (l : List ℕ) → take 1 l ++ reverse (drop 1 l) ≡ mirror_choice l
+    at [] = refl
+    at (x ∷ l) = refl
+
+-- one choice more is turned round
+pub turn-more : (old now : List (List ℕ)) (k : ℕ) (c d : List ℕ) → k < length old → now ≡ map turned_choice (take k old) ++ drop k old → c ≡ slice_index_or now k [] → d ≡ turned_choice c → slice_set now k d ≡ map turned_choice (take (k + 1) old) ++ drop (k + 1) old
+turn-more old now k c d h e i t =
+    let s : k + 1 ≡ suc k = omega arith in
+    ap (slice_set now k) (t ∙ ap turned_choice i) ∙ ap (λ (z : List (List ℕ)). slice_set z k (turned_choice (slice_index_or z k []))) e ∙ go old k h ∙ ap (λ z. map turned_choice (take z old) ++ drop z old) (sym s)
+  where
+    go : (l : List (List ℕ)) (k : ℕ) → k < length l → slice_set (map turned_choice (take k l) ++ drop k l) k (turned_choice (slice_index_or (map turned_choice (take k l) ++ drop k l) k [])) ≡ map turned_choice (take (suc k) l) ++ drop (suc k) l
+    go [] k h = absurd (omega (arith, h))
+    go (x ∷ l) zero h = refl
+    go (x ∷ l) (suc k) h = ap (λ (z : List (List ℕ)). turned_choice x ∷ z) (go l k (omega (arith, h)))
+
+-- the next choice is still as it was
+pub turn-next : (old now : List (List ℕ)) (k : ℕ) → k < length old → now ≡ map turned_choice (take k old) ++ drop k old → slice_index_or now k [] ≡ slice_index_or old k []
+turn-next old now k h e = ap (λ (z : List (List ℕ)). slice_index_or z k []) e ∙ go old k h
+  where
+    go : (l : List (List ℕ)) (k : ℕ) → k < length l → slice_index_or (map turned_choice (take k l) ++ drop k l) k [] ≡ slice_index_or l k []
+    go [] k h = absurd (omega (arith, h))
+    go (x ∷ l) zero h = refl
+    go (x ∷ l) (suc k) h = go l k (omega (arith, h))
 
 -- two fronts and backs reversed, then the whole
 pub take-front : (front back : List ℕ) (n : ℕ) → length front ≡ n → take n (front ++ back) ≡ front

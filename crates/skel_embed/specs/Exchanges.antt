@@ -1,6 +1,7 @@
--- Two keys that change places.
-use Rattle.std.specs.Prelude.{◌≡◌, ℕ, true, false, ◌==◌, if◌then◌else◌, List, ◌∷◌, ◌++◌, length, map}
-use Rattle.permutations.specs.Members.{is_member}
+-- Choices changed: two keys that change places, or the whole turned round.
+use Rattle.std.specs.Prelude.{◌≡◌, ℕ, ◌<◌, true, false, ◌==◌, if◌then◌else◌, List, [], ◌∷◌, ◌++◌, length, map, reverse, slice_index_or}
+use Rattle.permutations.specs.Members.{is_member, is_distinct}
+use Rattle.permutations.specs.Cyclic.{from_least}
 use Rattle.permutations.specs.Runs.{InRuns, group_keys}
 use Rattle.skeletons.specs.Moves.{AreRegrouped}
 
@@ -11,6 +12,14 @@ other_of a b x = (if x == a then b else (if x == b then a else x))
 -- the list with a and b in each other's place
 abbrev pub exchanged : ℕ → ℕ → List ℕ → List ℕ
 exchanged a b l = map (other_of a b) l
+
+-- the choice turned round: the other way round, from the least key on
+abbrev pub turned_choice : List ℕ → List ℕ
+turned_choice c = from_least (reverse c)
+
+-- each list has no key twice, and is written from its least key on
+abbrev pub AreWritten : List (List ℕ) → Type 0
+AreWritten lists = (k : ℕ) → k < length lists → (is_distinct (slice_index_or lists k []) ≡ true) × (from_least (slice_index_or lists k []) ≡ slice_index_or lists k [])
 
 -- however l is cut into groups, in m the groups with the keys a and b have changed places
 abbrev pub AreExchanged : (ℕ → ℕ) → ℕ → ℕ → List ℕ → List ℕ → Type 0

@@ -7,3 +7,4 @@ pub mod Outcomes
 pub mod Planes
 pub mod Steps
 pub mod Exchanges
+pub mod Values

@@ -1,9 +1,9 @@
 // A choice as it is kept: its keys, from the least on. It is changed in its place.
 
-ghost use Rattle.std.specs.Prelude.{◌≡◌, ◌<◌, ◌≤◌, ◌++◌, true, length, reverse, take, drop};
+ghost use Rattle.std.specs.Prelude.{◌≡◌, ◌<◌, ◌≤◌, ◌++◌, true, length, map, reverse, take, drop};
 ghost use Rattle.permutations.specs.Cyclic.{from_least, turned};
 ghost use Rattle.permutations.specs.Members.{is_member, is_distinct};
-ghost use Rattle.skel_embed.specs.Exchanges.{other_of, exchanged, StandsAt};
+ghost use Rattle.skel_embed.specs.Exchanges.{other_of, exchanged, turned_choice, AreWritten, StandsAt};
 
 use std::marker::Model;
 
@@ -40,9 +40,11 @@ impl Kept {
     pub(crate) fn turn_round(&mut self)
         requires once { is_distinct self.old ≡ true }
         requires written { from_least self.old ≡ self.old }
-        requires some { 0 < length self.old }
-        ensures { self.new ≡ from_least (reverse self.old) }
+        ensures { self.new ≡ turned_choice self.old }
     {
+        if self.held.is_empty() {
+            return;
+        }
         reverse_from(&mut self.held, 1);
     }
 
@@ -57,6 +59,16 @@ impl Kept {
         let least = self.held[0];
         exchange_all(&mut self.held, a, b);
         turn_to(&mut self.held, least);
+    }
+}
+
+// Turns each choice round.
+pub(crate) fn turn_all(choices: &mut Vec<Kept>)
+    requires { AreWritten choices.old.items }
+    ensures { choices.new.items ≡ map turned_choice choices.old.items }
+{
+    for k in 0..choices.len() {
+        choices[k].turn_round();
     }
 }
 

@@ -1,17 +1,18 @@
 // A block in the plane.
 
-ghost use Rattle.std.specs.Prelude.{◌≡◌, ◌<◌, true, length, reverse, IfOk, slice_set};
+ghost use Rattle.std.specs.Prelude.{◌≡◌, ◌<◌, true, length, map, reverse, IfOk, slice_set};
 ghost use Rattle.permutations.specs.Cyclic.{from_least};
 ghost use Rattle.permutations.specs.Members.{is_member};
 ghost use Rattle.pair_split.specs.declared.components.Kind.TheVariants.{P, R};
 ghost use Rattle.skeletons.specs.Items.{node_keys};
 ghost use Rattle.skeletons.specs.Choices.{choice};
 ghost use Rattle.skeletons.specs.Moves.{IsNodeOfKind, FlipLeads, PermuteLeads};
-ghost use Rattle.skel_embed.specs.Exchanges.{exchanged};
+ghost use Rattle.rotations.specs.Runs.{mirror_image};
+ghost use Rattle.skel_embed.specs.Exchanges.{exchanged, turned_choice};
 ghost use Rattle.skel_embed.specs.Block.{BlockState, lock_at, IsBlockState};
 
 use crate::exchanging::exchange_node;
-use crate::kept::Kept;
+use crate::kept::{Kept, turn_all};
 use crate::turning::turn_node;
 use multigraph::Graph;
 use rotations::Rotation;
@@ -143,6 +144,17 @@ impl PlaneBlock {
     {
         exchange_node(&self.graph, &self.tree, &mut self.rotation, k, a, b);
         self.choices[k as usize].exchange(a, b);
+    }
+
+    /// Reverses every rotation: the block is seen from the other side, and each choice is turned round. All else stays. Takes no
+    /// memory, and time in proportion to the size of the block.
+    pub fn mirror(&mut self)
+        ensures mirrored { self.new.rotation ≡ mirror_image self.old.rotation }
+        ensures choices { self.new.choices ≡ map turned_choice self.old.choices }
+        ensures rest { self.new ≡ record self.old { rotation = self.new.rotation; choices = self.new.choices } }
+    {
+        self.rotation.mirror();
+        turn_all(&mut self.choices);
     }
 
     /// The same block once more.
