@@ -35,4 +35,6 @@ pub mod OrderCode
 pub mod KeysRooted
 pub mod KeyedItems
 pub mod NodesMade
-pub mod Climbing
+pub mod UpLinks
+pub mod Touring
+pub mod Intervals

@@ -4,5 +4,5 @@ pub mod Flood
 pub mod Ranking
 pub mod Assembly
 pub mod Keys
-pub mod Grouping
+pub mod Tour
 pub mod Laws

@@ -74,7 +74,8 @@ fn finish(
     ensures { IfOk result (IsTutte g.now) }
 {
     let nodes = nodes_of(alloc, comps, ranks, parents, least)?;
-    Ok(Tree::of(nodes))
+    let tree = Tree::of(alloc, nodes, g.edge_count())?;
+    Ok(tree)
 }
 
 // The tree of components that are arranged.

@@ -4,7 +4,6 @@
 mod arranging;
 mod assembly;
 mod flood;
-mod grouping;
 mod keys;
 pub mod laws;
 mod lists;
@@ -12,6 +11,7 @@ mod naming;
 mod ranking;
 #[cfg(test)]
 mod tests;
+mod tour;
 mod tree;
 
 pub use lists::ItemList;

@@ -1,9 +1,12 @@
 // The tree of a block, and its readers.
 
-ghost use Rattle.std.specs.Prelude.{◌≡◌, ◌<◌, ◌^◌, length, IfOk};
-ghost use Rattle.pair_split.specs.Tutte.{node_at};
+ghost use Rattle.std.specs.Prelude.{◌≡◌, ◌<◌, ◌≤◌, ◌^◌, ℕ, length, slice_index, IfOk};
+ghost use Rattle.std.specs.List.Sorted.{IsNonDecreasingBy};
+ghost use Rattle.multigraph.specs.Graph.{Multigraph, IsGraph, edge_count};
+ghost use Rattle.pair_split.specs.Tutte.{node_at, group, IsTutte};
 
 use crate::lists::ItemList;
+use crate::tour::toured;
 use multigraph::Numbers;
 use pair_split::{Item, Kind};
 use std::alloc::{AllocError, Global};
@@ -26,20 +29,25 @@ impl Model for TreeNode {
 }
 
 /// The tree of a block: its nodes, in lexicographic order of their vertices. Contracts see the list of the nodes.
+///
+/// Beside the nodes it keeps the places of the edges on a walk round the tree, and between which of them each group stands.
 #[derive(Debug, Drop)]
 pub struct Tree {
     nodes: Vec<TreeNode>,
+    places: Vec<u32>,
+    bounds: Vec<Numbers>,
 }
 
 impl Model for Tree {
     ghost use Rattle.std.specs.Prelude.{◌<◌, ◌^◌, List, length};
     ghost use Rattle.pair_split.specs.Tutte.{Node};
+    ghost use Rattle.spqr_tree.specs.Tour.{AreToured};
 
     ghost Value = { List Node };
 
     ghost view = { λ tree. tree.nodes.items };
 
-    ghost invariant = { λ tree. length tree.nodes.items < 2 ^ 32 };
+    ghost invariant = { λ tree. (length tree.nodes.items < 2 ^ 32) × AreToured tree.nodes.items tree.places.items tree.bounds.items };
 }
 
 impl Tree {
@@ -74,12 +82,33 @@ impl Tree {
         self.nodes[k as usize].items.as_slice()
     }
 
-    // The tree of these nodes. Takes no memory.
-    pub(crate) fn of(nodes: Vec<TreeNode>) -> Tree
-        requires { length nodes.items < 2 ^ 32 }
-        ensures { result ≡ nodes.items }
+    /// The key of the item of node `k` that is edge `e` or has `e` beyond it. Takes no memory; a binary search among the items.
+    pub fn group(&self, k: u32, e: u32) -> u32
+        requires node { k < length self.now }
+        requires tree { (g : Multigraph) × IsGraph g × IsTutte g self.now × (e < edge_count g) }
+        ensures { result ≡ group self.now k e }
     {
-        Tree { nodes }
+        let place = self.places[e as usize];
+        let i = bounds_up_to(self.bounds[k as usize].as_slice(), place);
+        match self.items(k).get(i) {
+            Some(item) => item.key,
+            // Behind all bounds: beyond the first item, whose key is 0.
+            None => 0,
+        }
+    }
+
+    // The tree of these nodes, of a graph with m edges.
+    pub(crate) fn of(alloc: Global, nodes: Vec<TreeNode>, m: u32) -> Result<Tree, AllocError>
+        requires few { length nodes.items < 2 ^ 32 }
+        requires tree { (g : Multigraph) × IsTutte g nodes.items × (0 < edge_count g) × (m ≡ edge_count g) }
+        ensures { IfOk result (λ tree. tree ≡ nodes.items) }
+    {
+        let tour = toured(alloc, &nodes, m)?;
+        Ok(Tree {
+            nodes,
+            places: tour.places,
+            bounds: tour.bounds,
+        })
     }
 
     /// A copy of the tree.
@@ -90,8 +119,33 @@ impl Tree {
         for node in self.nodes.iter() {
             nodes.push(node.copy(alloc)?)?;
         }
-        Ok(Tree { nodes })
+        Ok(Tree {
+            nodes,
+            places: Vec::from_slice(alloc, &self.places)?,
+            bounds: copied_lists(alloc, &self.bounds)?,
+        })
     }
+}
+
+// How many of the bounds, which rise, are not above the place.
+fn bounds_up_to(bounds: &[u32], place: u32) -> usize
+    requires { IsNonDecreasingBy (λ x. x) bounds.now }
+    ensures up_to { (y : ℕ) → y < result → slice_index bounds.now y ≤ place }
+    ensures above { (y : ℕ) → result ≤ y → y < length bounds.now → place < slice_index bounds.now y }
+    ensures within { result ≤ length bounds.now }
+{
+    bounds.partition_point(|bound| *bound <= place)
+}
+
+// A copy of the lists.
+fn copied_lists(alloc: Global, lists: &[Numbers]) -> Result<Vec<Numbers>, AllocError>
+    ensures { IfOk result (λ copies. copies.items ≡ lists.now) }
+{
+    let mut copies = Vec::with_capacity(alloc, lists.len())?;
+    for list in lists {
+        copies.push(Numbers::of(Vec::from_slice(alloc, list.as_slice())?))?;
+    }
+    Ok(copies)
 }
 
 impl TreeNode {

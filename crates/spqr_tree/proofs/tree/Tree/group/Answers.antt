@@ -1,49 +1,50 @@
-use Rattle.std.proofs.Common.{◌∙◌, ℕ, Option, Some, None, List, ap, subst, arith}
-use Rattle.pair_split.specs.Tutte.{node_at}
-use Rattle.pair_split.specs.declared.components.Item.{Item}
-use Rattle.pair_split.specs.declared.components.What.TheVariants.{Real, Link}
-use Rattle.spqr_tree.specs.Grouping.{Stands, FindsKey, FindsUp}
-use Rattle.spqr_tree.proofs.Climbing.{edge-stands, way-start, way-step, group-home, group-key, group-none, group-end}
+use Rattle.std.proofs.Common.{◌≡◌, ◌<◌, ℕ, List, [], length, slice_index_or, subst, sym, ap, ◌∙◌, arith}
+use Rattle.std.proofs.lemmas.List.{get_or_read, get_or_default}
+use Rattle.std.specs.List.Sorted.{IsNonDecreasingBy}
+use Rattle.multigraph.specs.Graph.{edge_count}
+use Rattle.pair_split.specs.Tutte.{Node}
+use Rattle.spqr_tree.specs.Tour.{AreToured, place_of, bounds_of}
+use Rattle.spqr_tree.proofs.Intervals.{bounds-sorted, edge-place, found-some, found-none}
 use Rattle.spqr_tree.proofs.tree.Tree.group.Goals as goal
 
--- the edge is in some node
-pub home_of-below-requires : goal.home_of-below-requires
-home_of-below-requires c = let t = c.requires.tree in edge-stands t.0 c.args.self.now t.2 c.args.e t.3
-
--- it is in node k
-pub returns-then-below-k : goal.returns-then-below-k
-returns-then-below-k c =
+-- the edge has a place
+pub index-place-requires : goal.index-place-requires
+index-place-requires c =
     let t = c.requires.tree in
-    group-home t.0 c.args.self.now t.2 c.args.k c.args.e t.3 (subst (λ z. Stands (node_at c.args.self.now z).items (Real c.args.e)) c.if-below-k.true c.home_of-below.ensures.1)
+    let few : 0 < edge_count t.0 = omega (arith, t.3) in
+    let a : AreToured c.args.self.now c.self.inside.places.items c.self.inside.bounds.items = subst (λ (z : List Node). AreToured z c.self.inside.places.items c.self.inside.bounds.items) c.self.view_is c.self.invariant.1 in
+    omega (arith, edge-place t.0 c.args.self.now t.2 few c.self.inside.places.items c.self.inside.bounds.items a c.args.e t.3, c.self.inside.places.ok.0)
 
--- the way begins
-pub loop-steps-init : goal.loop-steps-init
-loop-steps-init c = let t = c.requires.tree in way-start t.0 c.args.self.now t.2 c.args.k c.home_of-below.result c.home_of-below.ensures.0 c.if-below-k.false
-
--- it ends at the top
-pub returns-in_default : goal.returns-in_default
-returns-in_default c =
+-- the bounds rise
+pub bounds_up_to-i-requires : goal.bounds_up_to-i-requires
+bounds_up_to-i-requires c =
     let t = c.requires.tree in
-    let up : FindsUp (node_at c.args.self.now c.loop-steps.below).items None = subst (λ (z : List Item). FindsUp z None) c.items.ensures (subst (λ (o : Option ℕ). FindsUp c.items.result.now o) c.in_default.is c.up_from.ensures) in
-    group-none t.0 c.args.self.now t.2 c.args.k c.home_of-below.result c.loop-steps.below c.loop-steps._steps c.args.e t.3 c.home_of-below.ensures.1 c.loop-steps.invariant c.if-below-k.false c.requires.node up
+    let few : 0 < edge_count t.0 = omega (arith, t.3) in
+    let a : AreToured c.args.self.now c.self.inside.places.items c.self.inside.bounds.items = subst (λ (z : List Node). AreToured z c.self.inside.places.items c.self.inside.bounds.items) c.self.view_is c.self.invariant.1 in
+    let l : c.args.k < length c.self.inside.bounds.items = omega (arith, a.number, c.requires.node) in
+    let list : c.as_slice.result.now ≡ bounds_of c.self.inside.bounds.items c.args.k = c.as_slice.ensures ∙ get_or_read c.self.inside.bounds.items c.args.k c.index.result.now l c.index.ensures [] in
+    subst (λ (z : List ℕ). IsNonDecreasingBy (λ x. x) z) (sym list) (bounds-sorted t.0 c.args.self.now t.2 few c.self.inside.places.items c.self.inside.bounds.items a c.args.k)
 
--- it meets node k
-pub returns-then-parent-k : goal.returns-then-parent-k
-returns-then-parent-k c =
+-- an item is found
+pub returns-in-Some : goal.returns-in-Some
+returns-in-Some c =
     let t = c.requires.tree in
-    let up : FindsUp (node_at c.args.self.now c.loop-steps.below).items (Some c.args.k) = subst (λ (z : List Item). FindsUp z (Some c.args.k)) c.items.ensures (subst (λ (o : Option ℕ). FindsUp c.items.result.now o) (c.in-Some.is ∙ ap (λ z. Some z) c.if-parent-k.true) c.up_from.ensures) in
-    c.unwrap_or.ensures ∙ group-key t.0 c.args.self.now t.2 c.args.k c.home_of-below.result c.loop-steps.below c.loop-steps._steps c.args.e t.3 c.home_of-below.ensures.1 c.loop-steps.invariant c.key_at.result up
-    (subst (λ (z : List Item). FindsKey z (Link c.loop-steps.below) c.key_at.result) c.items-then-parent-k.ensures c.key_at.ensures)
+    let few : 0 < edge_count t.0 = omega (arith, t.3) in
+    let a : AreToured c.args.self.now c.self.inside.places.items c.self.inside.bounds.items = subst (λ (z : List Node). AreToured z c.self.inside.places.items c.self.inside.bounds.items) c.self.view_is c.self.invariant.1 in
+    let l : c.args.k < length c.self.inside.bounds.items = omega (arith, a.number, c.requires.node) in
+    let list : c.as_slice.result.now ≡ bounds_of c.self.inside.bounds.items c.args.k = c.as_slice.ensures ∙ get_or_read c.self.inside.bounds.items c.args.k c.index.result.now l c.index.ensures [] in
+    let place : c.index-place.result.now ≡ place_of c.self.inside.places.items c.args.e = get_or_read c.self.inside.places.items c.args.e c.index-place.result.now (edge-place t.0 c.args.self.now t.2 few c.self.inside.places.items c.self.inside.bounds.items a c.args.e t.3) c.index-place.ensures 4294967295 in
+    found-some t.0 c.args.self.now t.2 few c.self.inside.places.items c.self.inside.bounds.items a c.args.k c.args.e c.bounds_up_to-i.result c.index-place.result.now c.as_slice.result.now c.items.result.now c.requires.node t.3 place list c.items.ensures
+    c.bounds_up_to-i.ensures.up_to c.bounds_up_to-i.ensures.above c.bounds_up_to-i.ensures.within c.in-Some.item.now c.in-Some.ensures.lookup.3.0 c.in-Some.ensures.lookup.1
 
--- one step more
-pub loop-steps-preserved : goal.loop-steps-preserved
-loop-steps-preserved c =
+-- none is: the edge is beyond the first
+pub returns-in-None : goal.returns-in-None
+returns-in-None c =
     let t = c.requires.tree in
-    let up : FindsUp (node_at c.args.self.now c.loop-steps.below).items (Some c.in-Some.parent) = subst (λ (z : List Item). FindsUp z (Some c.in-Some.parent)) c.items.ensures (subst (λ (o : Option ℕ). FindsUp c.items.result.now o) c.in-Some.is c.up_from.ensures) in
-    way-step t.0 c.args.self.now t.2 c.args.k c.home_of-below.result c.loop-steps.below c.loop-steps._steps c.in-Some.parent (omega (arith, t.3)) c.loop-steps.invariant up c.if-parent-k.false
-
--- no step is left
-pub returns : goal.returns
-returns c =
-    let t = c.requires.tree in
-    group-end t.0 c.args.self.now t.2 c.args.k c.home_of-below.result c.loop-steps.below c.loop-steps._steps c.args.e t.3 c.home_of-below.ensures.1 c.loop-steps.invariant c.if-below-k.false c.requires.node (omega (arith, c.loop-steps-test.false, c.node_count-steps-end.ensures))
+    let few : 0 < edge_count t.0 = omega (arith, t.3) in
+    let a : AreToured c.args.self.now c.self.inside.places.items c.self.inside.bounds.items = subst (λ (z : List Node). AreToured z c.self.inside.places.items c.self.inside.bounds.items) c.self.view_is c.self.invariant.1 in
+    let l : c.args.k < length c.self.inside.bounds.items = omega (arith, a.number, c.requires.node) in
+    let list : c.as_slice.result.now ≡ bounds_of c.self.inside.bounds.items c.args.k = c.as_slice.ensures ∙ get_or_read c.self.inside.bounds.items c.args.k c.index.result.now l c.index.ensures [] in
+    let place : c.index-place.result.now ≡ place_of c.self.inside.places.items c.args.e = get_or_read c.self.inside.places.items c.args.e c.index-place.result.now (edge-place t.0 c.args.self.now t.2 few c.self.inside.places.items c.self.inside.bounds.items a c.args.e t.3) c.index-place.ensures 4294967295 in
+    found-none t.0 c.args.self.now t.2 few c.self.inside.places.items c.self.inside.bounds.items a c.args.k c.args.e c.bounds_up_to-i.result c.index-place.result.now c.as_slice.result.now c.items.result.now c.requires.node t.3 place list c.items.ensures
+    c.bounds_up_to-i.ensures.up_to c.bounds_up_to-i.ensures.above c.bounds_up_to-i.ensures.within c.in-None.ensures.lookup.3

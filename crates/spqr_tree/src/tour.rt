@@ -1,0 +1,167 @@
+// The walk round the tree from the node that has edge 0: over the items of each node in order, down each link, and back by the
+// first item. It gives each edge a place, and each node a bound before each item but the first and one behind the last: the
+// places of the edges in a group are those between the bounds of its item (Euler tours: Tarjan and Vishkin 1985).
+
+ghost use Rattle.std.specs.Prelude.{◌≡◌, ◌+◌, ◌<◌, ◌≤◌, ◌++◌, ℕ, true, false, [], ◌∷◌, length, slice_set, IfOk};
+ghost use Rattle.multigraph.specs.Graph.{Multigraph, edge_count};
+ghost use Rattle.pair_split.specs.Tutte.{node_at, IsTutte};
+ghost use Rattle.pair_split.specs.declared.components.What.TheVariants.{Real};
+ghost use Rattle.spqr_tree.specs.Tour.{what_at, bound_count, AreToured, HasBegun, IsTouring, noted, tour_left};
+
+use crate::tree::TreeNode;
+use multigraph::Numbers;
+use pair_split::{Item, What};
+use std::alloc::{AllocError, Global};
+use std::marker::Model;
+
+// The place of an edge that was not met.
+const NO_PLACE: u32 = 4294967295;
+
+// The node where the walk is, how many edges it met, the places of these, and the bounds of each node so far.
+#[derive(Drop)]
+pub(crate) struct Tour {
+    at: u32,
+    met: u32,
+    pub(crate) places: Vec<u32>,
+    pub(crate) bounds: Vec<Numbers>,
+}
+
+impl Model for Tour {
+    ghost use Rattle.spqr_tree.specs.Tour.{TourState};
+
+    ghost Value = { TourState };
+
+    ghost view = { λ s. record { at = s.at; met = s.met; places = s.places.items; bounds = s.bounds.items } };
+}
+
+// The items of node k.
+fn items_at(nodes: &[TreeNode], k: u32) -> &[Item]
+    requires { k < length nodes.now }
+    ensures { result.now ≡ (node_at nodes.now k).items }
+{
+    let node = &nodes[k as usize];
+    node.items.as_slice()
+}
+
+// The node whose first item is edge 0.
+fn root_of(nodes: &[TreeNode]) -> u32
+    requires { (g : Multigraph) × IsTutte g nodes.now × (0 < edge_count g) × (length nodes.now < 4294967296) }
+    ensures within { result < length nodes.now }
+    ensures first { what_at nodes.now result 0 ≡ Real 0 }
+{
+    for k in 0..nodes.len() as u32 {
+        if items_at(nodes, k)[0].what == What::Real(0) {
+            return k;
+        }
+    }
+    unreachable!()
+}
+
+// As many lists without numbers.
+fn empty_lists(alloc: Global, n: usize) -> Result<Vec<Numbers>, AllocError>
+    ensures number { IfOk result (λ lists. length lists.items ≡ n) }
+    ensures empty { IfOk result (λ lists. (k : ℕ) → bound_count lists.items k ≡ 0) }
+{
+    let mut lists = Vec::with_capacity(alloc, n)?;
+    for _list in 0..n {
+        lists.push(Numbers::empty(alloc))?;
+    }
+    Ok(lists)
+}
+
+impl Tour {
+    // The walk is at the root, and has met edge 0.
+    fn new(alloc: Global, nodes: &[TreeNode], m: u32, root: u32) -> Result<Tour, AllocError>
+        requires { 0 < m }
+        ensures { IfOk result (HasBegun nodes.now m root) }
+    {
+        let mut places = vec![in alloc; NO_PLACE; m as usize]?;
+        places[0] = 0;
+        Ok(Tour {
+            at: root,
+            met: 1,
+            places,
+            bounds: empty_lists(alloc, nodes.len())?,
+        })
+    }
+
+    // Notes how many edges were met as a bound of the node.
+    fn note(&mut self) -> Result<(), AllocError>
+        requires { self.old.at < length self.old.bounds }
+        ensures { IfOk result (λ _. self.new ≡ record { at = self.old.at; met = self.old.met; places = self.old.places; bounds = noted self.old }) }
+    {
+        self.bounds[self.at as usize].push(self.met)?;
+        Ok(())
+    }
+
+    // The items of the node.
+    fn items<'a>(&self, nodes: &'a [TreeNode]) -> &'a [Item]
+        requires { self.now.at < length nodes.now }
+        ensures { result.now ≡ (node_at nodes.now self.now.at).items }
+    {
+        items_at(nodes, self.at)
+    }
+
+    // The place of the item that is entered next, among these.
+    fn next(&self) -> usize
+        requires { self.now.at < length self.now.bounds }
+        ensures { result ≡ bound_count self.now.bounds self.now.at }
+    {
+        self.bounds[self.at as usize].as_slice().len()
+    }
+
+    // Meets edge e.
+    fn meet(&mut self, e: u32)
+        requires place { e < length self.old.places }
+        requires few { self.old.met < 4294967295 }
+        ensures { self.new ≡ record { at = self.old.at; met = self.old.met + 1; places = slice_set self.old.places e self.old.met; bounds = self.old.bounds } }
+    {
+        self.places[e as usize] = self.met;
+        self.met += 1;
+    }
+
+    // Goes to node k.
+    fn go(&mut self, k: u32)
+        ensures { self.new ≡ record { at = k; met = self.old.met; places = self.old.places; bounds = self.old.bounds } }
+    {
+        self.at = k;
+    }
+
+    // Notes a bound of the node, and enters its next item, or leaves it where there is none; whether the walk is at its end.
+    fn step(&mut self, nodes: &[TreeNode]) -> Result<bool, AllocError>
+        requires tree { (g : Multigraph) × IsTutte g nodes.now × (0 < edge_count g) }
+        requires touring { IsTouring nodes.now self.old }
+        ensures touring { IfOk result (λ done. done ≡ false → IsTouring nodes.now self.new) }
+        ensures falls { IfOk result (λ done. tour_left nodes.now self.new.bounds < tour_left nodes.now self.old.bounds) }
+        ensures toured { IfOk result (λ done. done ≡ true → AreToured nodes.now self.new.places self.new.bounds) }
+    {
+        self.note()?;
+        let items = self.items(nodes);
+        let next = self.next();
+        if next < items.len() {
+            match items[next].what {
+                What::Real(e) => self.meet(e),
+                What::Link(j) => self.go(j),
+            }
+            return Ok(false);
+        }
+        match items[0].what {
+            What::Real(_) => Ok(true),
+            What::Link(p) => {
+                self.go(p);
+                Ok(false)
+            }
+        }
+    }
+}
+
+// The places of the m edges, and the bounds of the nodes.
+pub(crate) fn toured(alloc: Global, nodes: &[TreeNode], m: u32) -> Result<Tour, AllocError>
+    requires tree { (g : Multigraph) × IsTutte g nodes.now × (0 < edge_count g) × (m ≡ edge_count g) }
+    requires few { length nodes.now < 4294967296 }
+    ensures { IfOk result (λ tour. AreToured nodes.now tour.places tour.bounds) }
+{
+    let mut tour = Tour::new(alloc, nodes, m, root_of(nodes))?;
+    while !tour.step(nodes)? {}
+    Ok(tour)
+}
