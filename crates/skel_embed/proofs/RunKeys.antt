@@ -169,8 +169,14 @@ choice-from g nodes b r q p s k l old kind e which o = (some, first, at)
     same x = met-member g nodes b r p k l (two r p) x ∙ sym (ap (is_member x) (o ∙ own q s) ∙ from_least-member (met g nodes b q s k l) x ∙ met-member g nodes b q s k l (two q s) x)
 
     some : 0 < length old
-    some = omega (arith, ap length (o ∙ own q s), IsTurn-length (met g nodes b q s k l) (from_least (met g nodes b q s k l)) (from_least-turn (met g nodes b q s k l)),
-      IsTurn-length (met g nodes b q s k l) (group_keys (runs g nodes b q s k l).0) (met-turn g nodes b q s k l (two q s)), length-map (runs g nodes b q s k l).0 (λ (h : ℕ × List ℕ). h.0), two q s)
+    some = omega (
+      arith,
+      ap length (o ∙ own q s),
+      IsTurn-length (met g nodes b q s k l) (from_least (met g nodes b q s k l)) (from_least-turn (met g nodes b q s k l)),
+      IsTurn-length (met g nodes b q s k l) (group_keys (runs g nodes b q s k l).0) (met-turn g nodes b q s k l (two q s)),
+      length-map (runs g nodes b q s k l).0 (λ (h : ℕ × List ℕ). h.0),
+      two q s,
+    )
 
     written : from_least old ≡ old
     written = ap from_least o ∙ (choice-normal g nodes b q k s l).1 ∙ sym o

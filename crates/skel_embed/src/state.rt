@@ -179,15 +179,11 @@ impl PlaneBlock {
             Ok(r) => r,
             Err(fault) => return Err(fault),
         };
-        let Ok(choices) = choices_of(alloc, &self.graph, &self.tree, &rotation, &self.choices) else {
+        let Ok(choices) = choices_of(alloc, &self.graph, &self.tree, &rotation, &self.choices)
+        else {
             return Err(TakeFault::Memory);
         };
-        match first_other(
-            self.tree.node_count(),
-            &self.locks,
-            &self.choices,
-            &choices,
-        ) {
+        match first_other(self.tree.node_count(), &self.locks, &self.choices, &choices) {
             Some(k) => Err(TakeFault::Locked(k)),
             None => {
                 self.rotation = rotation;

@@ -46,8 +46,7 @@ group-requires-clause-tree c =
 pub loop-e-preserved-in-Continue-1 : goal.loop-e-preserved-in-Continue-1
 loop-e-preserved-in-Continue-1 c =
     let l = order_at c.args.r.now (slice_index_or c.vertices.result.now 0 0) in
-    let key = group c.args.t.now c.args.k in
-    (
+    let key = group c.args.t.now c.args.k in (
       runs-more key (begins_run key l) c.loop-e.keys.items c.push.new.self.items c.loop-e.round c.next.new.self _ c.in-Some.e c.group-key.result c.in-Some.ensures.steps
           (begins-yes key l c.in-Some.e (λ q. c.if-group-key.true (c.group.ensures ∙ ap key c.pred.ensures ∙ q ∙ sym c.group-key.ensures))) c.group-key.ensures c.in_ok-push.ensures.items c.loop-e.invariant.0,
       λ x m. c.loop-e.invariant.1 x (ap (is_member x) c.in-Some.ensures.steps ∙ member-tail x c.in-Some.e c.next.new.self m),
@@ -56,8 +55,7 @@ loop-e-preserved-in-Continue-1 c =
 pub loop-e-preserved : goal.loop-e-preserved
 loop-e-preserved c =
     let l = order_at c.args.r.now (slice_index_or c.vertices.result.now 0 0) in
-    let key = group c.args.t.now c.args.k in
-    (
+    let key = group c.args.t.now c.args.k in (
       runs-passed key (begins_run key l) c.loop-e.keys.items c.loop-e.round c.next.new.self _ c.in-Some.e c.in-Some.ensures.steps
           (begins-no key l c.in-Some.e (ap key (sym c.pred.ensures) ∙ sym c.group.ensures ∙ c.if-group-key.false ∙ c.group-key.ensures)) c.loop-e.invariant.0,
       λ x m. c.loop-e.invariant.1 x (ap (is_member x) c.in-Some.ensures.steps ∙ member-tail x c.in-Some.e c.next.new.self m),
