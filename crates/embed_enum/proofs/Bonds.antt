@@ -1,20 +1,18 @@
 -- The keys of a bond as its choice has them.
-use Rattle.std.proofs.Common.{◌≡◌, ◌≢◌, ℕ, zero, suc, ◌+◌, ◌-◌, ◌*◌, ◌/◌, ◌%◌, ◌<◌, ◌≤◌, nat_lt, Bool, true, false, List, [], ◌∷◌, ◌++◌, length, map, take, drop, slice_index_or, IsPermutation, refl, sym, ap, ap₂, ◌∙◌, subst, arith, inl, inr, div-add-mod', mul_comm}
+use Rattle.std.proofs.Common.{◌≡◌, ◌≢◌, ℕ, zero, suc, ◌+◌, ◌-◌, ◌*◌, ◌/◌, ◌%◌, ◌<◌, ◌≤◌, nat_lt, true, List, [], ◌∷◌, length, map, take, drop, slice_index_or, IsPermutation, refl, sym, ap, ap₂, ◌∙◌, subst, arith, div-add-mod', mul_comm}
 use Rattle.std.specs.List.{swap}
 use Rattle.std.proofs.lemmas.Bool.{both_ways}
 use Rattle.std.proofs.lemmas.Nat.{div-mul-add, div_below, mod_below}
-use Rattle.std.proofs.lemmas.List.{get_or-map, take-map, take_more_same, take-append-drop, drop_more, length-map, length-drop, take_all}
+use Rattle.std.proofs.lemmas.List.{get_or-map, take-map, take_more_same, take-append-drop, drop_more, length-map, take_all}
 use Rattle.std.proofs.lemmas.List.Sorted.{length_permutation}
 use Rattle.permutations.specs.Cyclic.{first_or}
 use Rattle.permutations.specs.Members.{is_member, is_distinct}
 use Rattle.rotations.specs.Rotation.{IsCyclicOrder}
 use Rattle.permutations.proofs.Members.{member-head, member-tail, distinct-append_apart}
 use Rattle.permutations.proofs.Arrangements.{permutation-member, member-at}
-use Rattle.pair_split.specs.Tutte.{node_at}
 use Rattle.pair_split.specs.declared.components.Item.{Item}
 use Rattle.pair_split.specs.declared.components.Kind.{Kind}
 use Rattle.pair_split.specs.declared.components.Kind.TheVariants.{P}
-use Rattle.choice_lists.specs.Order.{IsRising}
 use Rattle.choice_lists.specs.Arrangements.{factorial, factorial_number}
 use Rattle.choice_lists.proofs.Numbers.{factorial-positive}
 use Rattle.choice_lists.proofs.Places.{Ascends, ascends-from}
@@ -240,4 +238,3 @@ same-length a b k f h e n =
 -- all places agree
 pub all-places : (keys c : List ℕ) → IsBondOf keys c → (i : ℕ) → length keys ≤ i → take i c ≡ take i keys → c ≡ keys
 all-places keys c b i l e = sym (take_all i c (omega (arith, l, bond-long keys c b))) ∙ e ∙ take_all i keys l
-

@@ -1,5 +1,5 @@
 -- Digits of nodes by their kinds.
-use Rattle.std.proofs.Common.{◌≡◌, ◌≢◌, ℕ, zero, suc, ◌+◌, ◌-◌, ◌<◌, ◌≤◌, nat_lt, cond, Bool, true, false, List, [], ◌∷◌, length, map, drop, reverse, refl, sym, ap, ◌∙◌, subst, arith, inl, inr}
+use Rattle.std.proofs.Common.{◌≡◌, ◌≢◌, ℕ, suc, ◌+◌, ◌-◌, ◌≤◌, nat_lt, cond, true, List, [], ◌∷◌, length, drop, reverse, refl, sym, ap, ◌∙◌, subst, arith, inl, inr}
 use Rattle.std.proofs.lemmas.Bool.{cases_lt, lt-ltb, le-ltb}
 use Rattle.std.proofs.lemmas.List.{reverse-reverse, length-map}
 use Rattle.permutations.specs.Cyclic.{first_or, last_or}
@@ -7,7 +7,7 @@ use Rattle.permutations.specs.Members.{is_distinct}
 use Rattle.permutations.proofs.Members.{distinct-tail}
 use Rattle.pair_split.specs.Tutte.{node_at}
 use Rattle.pair_split.specs.declared.components.Kind.{Kind}
-use Rattle.pair_split.specs.declared.components.Kind.TheVariants.{S, P, R, B}
+use Rattle.pair_split.specs.declared.components.Kind.TheVariants.{P, R}
 use Rattle.choice_lists.specs.Arrangements.{factorial, factorial_number}
 use Rattle.choice_lists.specs.Choices.{mirror_choice}
 use Rattle.choice_lists.proofs.NextArrangement.{Falls}

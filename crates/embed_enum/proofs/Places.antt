@@ -1,14 +1,13 @@
 -- Places in lists of rotation systems.
-use Rattle.std.proofs.Common.{◌≡◌, ℕ, zero, suc, ◌+◌, ◌<◌, ◌↔◌, Bool, true, false, List, [], ◌∷◌, ◌++◌, ◌≤◌, length, slice_index_or, take, drop, Contains, refl, sym, ap, ap₂, ◌∙◌, subst, arith, inl, inr}
+use Rattle.std.proofs.Common.{◌≡◌, ℕ, zero, suc, ◌+◌, ◌<◌, List, [], ◌∷◌, ◌++◌, ◌≤◌, length, slice_index_or, take, drop, Contains, refl, sym, ap, ap₂, ◌∙◌, subst, arith, inl, inr}
 use Rattle.std.proofs.lemmas.Bool.{cases_lt, cases_order}
-use Rattle.std.proofs.lemmas.List.{get_or_default, get_or-drop, take_more, length-drop, take_all, drop_more, drop_all}
-use Rattle.multigraph.specs.Graph.{Multigraph}
+use Rattle.std.proofs.lemmas.List.{get_or_default, get_or-drop, take_more, length-drop, take_all}
 use Rattle.pair_split.specs.Tutte.{Node}
 use Rattle.skeletons.specs.Choices.{Precedes}
-use Rattle.skeletons.specs.Lists.{IsListOf, IsKept, IsKeptList, IsRank}
+use Rattle.skeletons.specs.Lists.{IsListOf, IsKept, IsRank}
 use Rattle.skeletons.proofs.Before.{not-both}
-use Rattle.skel_embed.specs.Block.{BlockState, lock_at, IsBlockState}
-use Rattle.embed_enum.specs.Walk.{IsMemberList, KeepsRest, IsNextOf, AreNexts}
+use Rattle.skel_embed.specs.Block.{BlockState}
+use Rattle.embed_enum.specs.Walk.{IsMemberList, KeepsRest}
 use Rattle.embed_enum.specs.Laws.{LastHasNoneBehind, ListFromEachMember, MembersHaveRanks, NextsFollow, PresentHasRank, RankTellsMember, RanksFollowOrder}
 use Rattle.embed_enum.proofs.States.{state-rank}
 use Rattle.embed_enum.proofs.Walks.{one-rank, list-moved, list-after, rest-itself, rest-then}

@@ -1,5 +1,5 @@
 -- What a flip or an exchange of two groups does to the choices.
-use Rattle.std.proofs.Common.{◌≡◌, ◌≢◌, ℕ, zero, suc, ◌<◌, ◌≤◌, nat_lt, true, false, List, [], ◌∷◌, length, map, drop, reverse, refl, sym, ap, ap₂, ◌∙◌, subst, arith, inl, inr}
+use Rattle.std.proofs.Common.{◌≡◌, ℕ, ◌<◌, ◌≤◌, true, false, List, [], ◌∷◌, map, drop, sym, ap, ◌∙◌, subst, arith, inl, inr}
 use Rattle.std.proofs.lemmas.Bool.{cases_eq, ltb-true, both_ways, true≢false}
 use Rattle.permutations.specs.Cyclic.{from_least}
 use Rattle.permutations.specs.Members.{is_member, is_distinct}
@@ -38,11 +38,10 @@ keeps-moved old new h move e m = record {
 pub flip-chosen : (old new : BlockState) → IsBlockState old → (k : ℕ) → IsNodeOfKind old.tree k R → FlipLeads old.graph old.tree k old.rotation new.rotation → IsMovedOnly old new
     → IsChosen old new k (mirror_choice (choice old.tree old.rotation k))
 flip-chosen old new h k n f e =
-    let c = choice-normal old.graph old.tree h.block old.rotation k h.plane n.0 in
-    (
+    let c = choice-normal old.graph old.tree h.block old.rotation k h.plane n.0 in (
       keeps-moved old new h (flip k) e (n, f),
       flip-turns old.graph old.tree k old.rotation new.rotation h.block h.plane.system (plane-contiguous old.graph old.tree old.rotation h.block h.plane) n f
-      ∙ mirror-same (choice old.tree old.rotation k) c.0 c.1,
+          ∙ mirror-same (choice old.tree old.rotation k) c.0 c.1,
     )
 
 -- images that are none less than x
@@ -92,7 +91,7 @@ pub exchange-chosen : (old new : BlockState) → IsBlockState old → (k a b : �
 exchange-chosen old new h k a b n u v p e = (
   keeps-moved old new h (permute k (exchanged a b (choice old.tree old.rotation k))) e (n, p),
   permute-sets old.graph old.tree k (exchanged a b (choice old.tree old.rotation k)) old.rotation new.rotation h.block h.plane.system (plane-contiguous old.graph old.tree old.rotation h.block h.plane) n p
-  ∙ exchanged-written (node_keys old.tree k) (choice old.tree old.rotation k) (bond-of old h k n) a b u v,
+      ∙ exchanged-written (node_keys old.tree k) (choice old.tree old.rotation k) (bond-of old h k n) a b u v,
 )
 
 -- a key behind the first is one of the node

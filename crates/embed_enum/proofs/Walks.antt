@@ -1,10 +1,9 @@
 -- From changes of single nodes to places in the list.
-use Rattle.std.proofs.Common.{◌≡◌, ◌≢◌, ℕ, zero, suc, ◌+◌, ◌*◌, ◌/◌, ◌%◌, ◌<◌, ◌≤◌, cond, Bool, true, false, List, [], ◌∷◌, length, slice_index_or, add-one, refl, sym, ap, ap₂, ◌∙◌, subst, arith, inl, inr}
+use Rattle.std.proofs.Common.{◌≡◌, ◌≢◌, ℕ, suc, ◌+◌, ◌/◌, ◌%◌, ◌<◌, ◌≤◌, cond, Bool, true, false, List, [], length, slice_index_or, add-one, refl, sym, ap, ap₂, ◌∙◌, subst, arith, inl, inr}
 use Rattle.std.proofs.lemmas.Bool.{cases_Bool, cases_eq, cases_order, both_ways}
 use Rattle.pair_split.specs.Tutte.{Node, node_at}
 use Rattle.multigraph.specs.Graph.{Multigraph}
 use Rattle.choice_lists.proofs.ToldByChoices.{product_to}
-use Rattle.skeletons.specs.Items.{IsBlockTree}
 use Rattle.skeletons.specs.Choices.{choice, Precedes, IsPlaneSystem}
 use Rattle.skeletons.specs.Lists.{KeepsChoices, IsListOf, IsKept, IsKeptList, IsRank, choice_count, list_count}
 use Rattle.skel_embed.specs.Block.{BlockState, lock_at, IsBlockState}
@@ -223,7 +222,7 @@ numbered-more old mid new k left number h o same d =
       all = omega (arith, h.all);
       is = behind-divided left k h.m (radix_at old.tree (lock_at old.locks)) (digit_at old.tree (lock_at old.locks) new.rotation) (radix-positive old.tree (lock_at old.locks) k) here
           ∙ behind-same left (k + 1) h.m (radix_at old.tree (lock_at old.locks)) (digit_at old.tree (lock_at old.locks) new.rotation) (digit_at old.tree (lock_at old.locks) mid.rotation)
-              (λ j a b. same-digit old.tree (lock_at old.locks) mid.rotation new.rotation j (stays j (omega (arith, b, h.all)) (λ e. omega (arith, e, a))))
+          (λ j a b. same-digit old.tree (lock_at old.locks) mid.rotation new.rotation j (stays j (omega (arith, b, h.all)) (λ e. omega (arith, e, a))))
           ∙ h.is;
       below = quotient-below left k (radix_at old.tree (lock_at old.locks)) (radix-positive old.tree (lock_at old.locks) k) (let e : product_to (k + 1) (radix_at old.tree (lock_at old.locks)) ≡ product_to (suc k) (radix_at old.tree (lock_at old.locks)) = ap (λ z. product_to z (radix_at old.tree (lock_at old.locks))) (add-one k) in omega (arith, e, h.below));
     }

@@ -16,7 +16,7 @@ use thiserror::Error;
 pub struct CountOver;
 
 // n times the cyclic orders of so many items, where that is below 2^128.
-fn times_orders(n: u128, items: usize) -> Option<u128>
+pub(crate) fn times_orders(n: u128, items: usize) -> Option<u128>
     requires { 0 < n }
     ensures { SomeIff result (n * cyclic_orders items < 2 ^ 128) (n * cyclic_orders items) }
 {

@@ -46,3 +46,6 @@ pub use laws::{ranks_tell_members, walks_follow_the_list};
 pub use listing::members_after;
 pub use ranking::rank;
 pub use walking::{GotoFault, first, goto, next};
+
+#[cfg(test)]
+mod tests;

@@ -1,4 +1,4 @@
-use Rattle.std.proofs.Common.{◌≡◌, ◌≢◌, ℕ, ◌+◌, ◌-◌, ◌*◌, ◌/◌, ◌%◌, ◌<◌, ◌≤◌, cond, true, false, List, [], ◌∷◌, ◌++◌, length, take, drop, reverse, slice_index_or, refl, sym, ap, ap₂, ◌∙◌, subst, arith, inl, inr}
+use Rattle.std.proofs.Common.{◌≡◌, ℕ, ◌+◌, cond, true, false, length, sym, ap, ◌∙◌, arith}
 use mathlib.Core.Bool.{Bool, not, beq}
 use Rattle.std.proofs.lemmas.Bool.{true≢false}
 use Rattle.skeletons.specs.Choices.{choice}

@@ -1,6 +1,5 @@
-use Rattle.std.proofs.Common.{◌≡◌, ◌≢◌, ℕ, ◌+◌, ◌-◌, ◌*◌, ◌/◌, ◌%◌, ◌<◌, ◌≤◌, cond, true, false, List, [], ◌∷◌, ◌++◌, length, take, drop, reverse, slice_index_or, refl, sym, ap, ap₂, ◌∙◌, subst, arith, inl, inr}
+use Rattle.std.proofs.Common.{List, sym, ap, ◌∙◌}
 use Rattle.pair_split.specs.Tutte.{Node, node_at}
-use Rattle.pair_split.specs.declared.components.Kind.TheVariants.{P}
 use Rattle.embed_enum.proofs.Nodes.{bond-ends}
 use Rattle.embed_enum.proofs.stepping.step.Goals as goal
 

@@ -1,5 +1,3 @@
-use Rattle.std.proofs.Common.{◌≡◌, ◌≢◌, ℕ, ◌+◌, ◌-◌, ◌*◌, ◌/◌, ◌%◌, ◌<◌, ◌≤◌, cond, true, false, List, [], ◌∷◌, ◌++◌, length, refl, sym, ap, ap₂, ◌∙◌, subst, arith, inl, inr}
-use Rattle.embed_enum.specs.Changes.{IsNumbered}
 use Rattle.embed_enum.proofs.Walks.{reset-number, list-after, rank-after}
 use Rattle.embed_enum.proofs.walking.first.Goals as goal
 

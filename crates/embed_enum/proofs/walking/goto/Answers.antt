@@ -1,4 +1,4 @@
-use Rattle.std.proofs.Common.{◌≡◌, ◌≢◌, ℕ, ◌+◌, ◌-◌, ◌*◌, ◌/◌, ◌%◌, ◌<◌, ◌≤◌, cond, true, false, List, [], ◌∷◌, ◌++◌, length, refl, sym, ap, ap₂, ◌∙◌, subst, arith, inl, inr}
+use Rattle.std.proofs.Common.{sym, ◌∙◌, arith}
 use Rattle.embed_enum.proofs.States.{state-length, none-below}
 use Rattle.embed_enum.proofs.Walks.{list-after, rank-after}
 use Rattle.embed_enum.proofs.walking.goto.Goals as goal

@@ -1,6 +1,6 @@
-use Rattle.std.proofs.Common.{◌≡◌, ◌≢◌, ℕ, ◌+◌, ◌-◌, ◌*◌, ◌/◌, ◌%◌, ◌<◌, ◌≤◌, cond, true, false, List, [], ◌∷◌, ◌++◌, length, refl, sym, ap, ap₂, ◌∙◌, subst, arith, inl, inr}
+use Rattle.std.proofs.Common.{◌≡◌, ◌+◌, ◌-◌, List, length, sym, ap, ap₂, ◌∙◌, subst, arith}
 use Rattle.pair_split.specs.Tutte.{Node}
-use Rattle.skel_embed.specs.Block.{BlockState, lock_at}
+use Rattle.skel_embed.specs.Block.{lock_at}
 use Rattle.embed_enum.specs.Digits.{radix_at}
 use Rattle.embed_enum.proofs.States.{radix-fits}
 use Rattle.embed_enum.proofs.Walks.{IsNumberedFrom, numbered-begins, numbered-more, numbered-ends}
