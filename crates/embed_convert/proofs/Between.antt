@@ -1,9 +1,8 @@
 -- The move of a node, one node after the other.
-use Rattle.std.proofs.Common.{◌≡◌, ◌≢◌, ℕ, suc, ◌+◌, ◌<◌, Bool, true, false, not, cond, ◌&&◌, List, [], ◌∷◌, ◌++◌, length, map, refl, sym, ap, ap₂, ◌∙◌, subst, arith, inl, inr, add-one, All}
-use Rattle.std.proofs.lemmas.Bool.{cases_Bool, both_ways, false_from_ne_true}
+use Rattle.std.proofs.Common.{◌≡◌, ◌≢◌, ℕ, ◌+◌, ◌<◌, Bool, true, false, not, cond, ◌&&◌, List, [], ◌++◌, length, refl, sym, ap, ap₂, ◌∙◌, subst, add-one}
+use Rattle.std.proofs.lemmas.Bool.{both_ways, false_from_ne_true}
 use Rattle.pair_split.specs.Tutte.{Node, node_at, is_before}
 use Rattle.skeletons.specs.Choices.{choice}
-use Rattle.skeletons.specs.Lists.{KeepsChoices}
 use Rattle.skeletons.specs.Moves.{Move, moved_node, is_same, move_of_kind, move_at, moves_below, moves_between}
 use Rattle.skeletons.proofs.Before.{before-irreflexive, before-total}
 use Rattle.skeletons.proofs.Leading.{moves-name}

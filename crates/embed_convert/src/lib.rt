@@ -15,3 +15,6 @@ mod laws;
 
 pub use converting::moves;
 pub use laws::moves_keep_locks;
+
+#[cfg(test)]
+mod tests;

@@ -1,11 +1,11 @@
-use Rattle.std.proofs.Common.{◌≡◌, ◌≢◌, ℕ, List, [], ◌∷◌, refl, sym, ap, ◌∙◌}
+use Rattle.std.proofs.Common.{◌≡◌, ◌≢◌, ℕ, List, [], ◌∷◌, sym, ap, ◌∙◌}
 use Rattle.std.proofs.lemmas.Bool.{both_ways}
 use Rattle.std.proofs.lemmas.Bool.Decides.{Decides-eqb}
 use Rattle.std.proofs.lemmas.Slice.Eq.{slice_eq-Decides}
 use Rattle.pair_split.specs.Tutte.{Node, node_at}
 use Rattle.pair_split.specs.declared.components.Kind.{Kind}
 use Rattle.skeletons.specs.Choices.{choice}
-use Rattle.skeletons.specs.Moves.{Move, permute, move_of_kind}
+use Rattle.skeletons.specs.Moves.{permute, move_of_kind}
 use Rattle.embed_convert.proofs.Between.{no-move, some-move}
 use Rattle.embed_convert.proofs.converting.move_of.Goals as goal
 
