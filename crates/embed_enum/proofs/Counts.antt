@@ -1,6 +1,6 @@
 -- Cyclic orders and members counted; the number of an arrangement, one key after the other.
-use Rattle.std.proofs.Common.{◌≡◌, ℕ, zero, suc, ◌+◌, ◌-◌, ◌*◌, ◌<◌, ◌≤◌, cond, nat_lt, Bool, true, false, List, [], ◌∷◌, length, drop, take, count_by, slice_index_or, reverse, refl, sym, ap, ap₂, ◌∙◌, subst, arith, inl, inr, add-mul, mul-one, mul_assoc}
-use Rattle.std.proofs.lemmas.Bool.{cases_Bool, cases_eq}
+use Rattle.std.proofs.Common.{◌≡◌, ℕ, zero, suc, ◌+◌, ◌-◌, ◌*◌, ◌<◌, ◌≤◌, cond, nat_lt, Bool, true, false, List, [], ◌∷◌, length, drop, slice_index_or, reverse, refl, sym, ap, ◌∙◌, subst, arith, inl, inr, add-mul, mul-one, mul_assoc}
+use Rattle.std.proofs.lemmas.Bool.{cases_eq}
 use Rattle.std.proofs.lemmas.Nat.{mul-le}
 use Rattle.std.proofs.lemmas.List.{get_or-reverse, length-reverse, length-drop, get_or_default, drop_more}
 use Rattle.permutations.specs.Cyclic.{first_or, last_or}
@@ -9,8 +9,8 @@ use Rattle.pair_split.specs.declared.components.Kind.{Kind}
 use Rattle.pair_split.specs.declared.components.Kind.TheVariants.{S, P, R, B}
 use Rattle.choice_lists.specs.Arrangements.{factorial, factorial_number}
 use Rattle.choice_lists.proofs.Numbers.{factorial-positive}
-use Rattle.choice_lists.proofs.Smaller.{smaller, smaller-bound}
-use Rattle.skeletons.specs.Lists.{cyclic_orders, choice_count, count_below, list_count}
+use Rattle.choice_lists.proofs.Smaller.{smaller}
+use Rattle.skeletons.specs.Lists.{cyclic_orders, choice_count, count_below}
 use Rattle.embed_enum.specs.Digits.{rigid_digit, radix_at}
 
 -- one item more
@@ -118,4 +118,3 @@ before-mirror (key ∷ a ∷ keys) l = ap (λ z. cond (nat_lt a z) 0 1) (last-re
             let e : length (d ∷ x ∷ m) - 1 ≡ suc (length m) = omega arith in
             let f : length m ≡ length (x ∷ m) - 1 - 0 = omega arith in
             ap (λ z. slice_index_or (d ∷ x ∷ m) z 0) e ∙ get_or_default (x ∷ m) (length m) 0 d (omega arith) ∙ ap (λ z. slice_index_or (x ∷ m) z d) f
-

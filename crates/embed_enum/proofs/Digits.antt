@@ -1,19 +1,15 @@
 -- The digit of a choice: its place among the possible choices of its node; and numbers with digits at n places.
-use Rattle.std.proofs.Common.{◌≡◌, ℕ, zero, suc, ◌+◌, ◌*◌, ◌/◌, ◌%◌, ◌<◌, ◌≤◌, add-mul, mul-one, div-add-mod', cond, nat_lt, Bool, true, false, List, [], ◌∷◌, ◌++◌, length, map, refl, sym, ap, ap₂, ◌∙◌, subst, arith, inl, inr}
-use Rattle.std.proofs.lemmas.Bool.{cases_Bool, cases_eq}
+use Rattle.std.proofs.Common.{◌≡◌, ℕ, zero, suc, ◌+◌, ◌*◌, ◌/◌, ◌%◌, ◌<◌, ◌≤◌, add-mul, mul-one, div-add-mod', Bool, List, refl, sym, ap, ap₂, ◌∙◌, subst, arith, inl, inr}
+use Rattle.std.proofs.lemmas.Bool.{cases_eq}
 use Rattle.std.proofs.lemmas.Nat.{mul-le, div_below}
-use Rattle.permutations.specs.Cyclic.{first_or, last_or}
-use Rattle.pair_split.specs.Tutte.{Node, node_at}
-use Rattle.pair_split.specs.declared.components.Kind.{Kind}
-use Rattle.pair_split.specs.declared.components.Kind.TheVariants.{S, P, R, B}
+use Rattle.pair_split.specs.Tutte.{Node}
 use Rattle.choice_lists.specs.Products.{AreDigits}
 use Rattle.choice_lists.specs.Numbers.{radix_number, AreDigitsBelow}
 use Rattle.choice_lists.proofs.Places.{At, at-is}
 use Rattle.choice_lists.proofs.Numbers.{radix-more}
 use Rattle.choice_lists.proofs.ToldByChoices.{values_from, values-more, product_to}
-use Rattle.skeletons.specs.Choices.{choice}
-use Rattle.skeletons.specs.Lists.{choice_count, count_below}
-use Rattle.embed_enum.specs.Digits.{radix_at, digit_at, number_to}
+use Rattle.skeletons.specs.Lists.{count_below}
+use Rattle.embed_enum.specs.Digits.{radix_at, number_to}
 
 -- digits below their radices, as lists
 pub below-values : (k n : ℕ) (radix digit : ℕ → ℕ) → ((i : ℕ) → i < n → digit (k + i) < radix (k + i)) → AreDigitsBelow (values_from k n radix) (values_from k n digit)
@@ -122,8 +118,8 @@ behind-all zero radix digit = refl
 behind-all (suc n) radix digit = ap₂ (λ u z. u * radix z + digit z) (behind-all n radix digit) (omega arith)
 
 -- a quotient and a remainder, in place of the number
-pub behind-divided : (w k m d : ℕ) (radix digit : ℕ → ℕ) → 0 < radix k → digit k ≡ w % radix k → behind (w / radix k) k (suc m) radix digit ≡ behind w (k + 1) m radix digit
-behind-divided w k m d radix digit p e = behind-first (w / radix k) k m radix digit ∙ ap (λ z. behind z (k + 1) m radix digit) (ap (λ z. w / radix k * radix k + z) e ∙ div-add-mod' w (radix k))
+pub behind-divided : (w k m : ℕ) (radix digit : ℕ → ℕ) → 0 < radix k → digit k ≡ w % radix k → behind (w / radix k) k (suc m) radix digit ≡ behind w (k + 1) m radix digit
+behind-divided w k m radix digit p e = behind-first (w / radix k) k m radix digit ∙ ap (λ z. behind z (k + 1) m radix digit) (ap (λ z. w / radix k * radix k + z) e ∙ div-add-mod' w (radix k))
 
 -- the quotient is below the product
 pub quotient-below : (w k : ℕ) (radix : ℕ → ℕ) → 0 < radix k → w < product_to (suc k) radix → w / radix k < product_to k radix

@@ -1,5 +1,5 @@
 -- The rank of a rotation system in the list with locked nodes is the number whose digits are the places of its choices.
-use Rattle.std.proofs.Common.{◌≡◌, ◌≢◌, ℕ, zero, suc, ◌+◌, ◌*◌, ◌<◌, ◌≤◌, cond, nat_lt, Bool, true, false, List, [], ◌∷◌, ◌++◌, length, map, reverse, slice_index_or, refl, sym, ap, ap₂, ◌∙◌, subst, arith, inl, inr, Contains, IsPermutation}
+use Rattle.std.proofs.Common.{◌≡◌, ◌≢◌, ℕ, ◌+◌, ◌<◌, ◌≤◌, cond, nat_lt, Bool, true, List, [], ◌∷◌, ◌++◌, length, map, reverse, refl, sym, ap, ◌∙◌, subst, arith, inl, inr}
 use Rattle.std.proofs.lemmas.Bool.{cases_Bool, cases_lt, lt-ltb, le-ltb, both_ways}
 use Rattle.std.proofs.lemmas.List.{length-reverse, reverse-append}
 use Rattle.permutations.specs.Cyclic.{first_or, last_or}
@@ -9,21 +9,21 @@ use Rattle.multigraph.specs.Graph.{Multigraph}
 use Rattle.pair_split.specs.Tutte.{Node, node_at}
 use Rattle.pair_split.specs.declared.components.Kind.{Kind}
 use Rattle.pair_split.specs.declared.components.Kind.TheVariants.{S, P, R, B}
-use Rattle.choice_lists.specs.Order.{IsRising, IsAt}
+use Rattle.choice_lists.specs.Order.{IsRising}
 use Rattle.choice_lists.specs.Arrangements.{factorial_number}
 use Rattle.choice_lists.specs.Choices.{bond_choices, rigid_choices, IsBondChoice}
 use Rattle.choice_lists.specs.Products.{product}
 use Rattle.choice_lists.specs.Numbers.{radix_number}
 use Rattle.choice_lists.specs.Order.{vector_before, is_before}
-use Rattle.choice_lists.proofs.Places.{At, at-from, at-is, at-within, at-get, at-any, at-same, at-place, has-from, Ascends, ascends-from, ascends-once}
+use Rattle.choice_lists.proofs.Places.{At, at-from, at-within, at-get, at-place, has-from, Ascends, ascends-from, ascends-once}
 use Rattle.choice_lists.proofs.Orders.{linear-vectors, never-itself}
 use Rattle.choice_lists.proofs.Products.{product-at, product-ascends}
 use Rattle.choice_lists.proofs.Choices.{before-never, bond-at, rigid-first, rigid-second, choice_list-ascends}
-use Rattle.choice_lists.proofs.ToldByChoices.{values_from, values-map, values-back, ListedByVectors}
-use Rattle.skeletons.specs.Items.{node_keys, IsBlockTree}
+use Rattle.choice_lists.proofs.ToldByChoices.{values_from, values-map, values-back}
+use Rattle.skeletons.specs.Items.{IsBlockTree}
 use Rattle.skeletons.specs.Choices.{choice, IsPlaneSystem}
 use Rattle.skeletons.specs.Families.{IsPossibleFor}
-use Rattle.skeletons.specs.Lists.{IsKept, IsKeptList, IsRank, choice_count, count_below, list_count}
+use Rattle.skeletons.specs.Lists.{IsKept, IsKeptList, IsRank, choice_count, list_count}
 use Rattle.skeletons.proofs.Vertices.{least-has}
 use Rattle.skeletons.proofs.Before.{list-unique}
 use Rattle.skeleton_choices.proofs.Plane.{choice-round}
@@ -116,7 +116,6 @@ module _ (g : Multigraph) (nodes : List Node) (b : IsBlockTree g nodes) (r : Lis
         let at : At all.list (number_to n (radix_at nodes locked) digit) r = at-place all.list here.0 (number_to n (radix_at nodes locked) digit) r (place ∙ number) here.1 in
         subst (λ (z : List (List (List ℕ))). IsRank z r (number_to n (radix_at nodes locked) digit)) (sym (list-unique nodes (IsKept g nodes locked r) l all.list h (kept-list g nodes b r p locked)))
         (record { within = at-within all.list (number_to n (radix_at nodes locked) digit) r at; is_there = at-get all.list (number_to n (radix_at nodes locked) digit) r [] at })
-
 
     -- the length
     pub list-length : (l : List (List (List ℕ))) → IsKeptList g nodes locked r l → length l ≡ list_count nodes locked

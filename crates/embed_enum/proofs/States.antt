@@ -1,23 +1,23 @@
 -- Digits, radices and ranks of a block.
-use Rattle.std.proofs.Common.{◌≡◌, ℕ, zero, suc, ◌+◌, ◌*◌, ◌<◌, ◌≤◌, Bool, true, false, cond, List, [], ◌∷◌, length, refl, sym, ap, ◌∙◌, subst, arith, mul-one, inl, inr}
+use Rattle.std.proofs.Common.{◌≡◌, ℕ, suc, ◌+◌, ◌*◌, ◌<◌, ◌≤◌, Bool, false, cond, List, length, sym, ap, ◌∙◌, subst, arith, inl, inr}
 use Rattle.std.proofs.lemmas.Bool.{cases_lt}
 use Rattle.std.proofs.lemmas.Nat.{mul-le}
-use Rattle.pair_split.specs.Tutte.{Node, node_at}
+use Rattle.pair_split.specs.Tutte.{node_at}
 use Rattle.pair_split.specs.declared.components.Kind.{Kind}
-use Rattle.pair_split.specs.declared.components.Kind.TheVariants.{S, P, R, B}
+use Rattle.pair_split.specs.declared.components.Kind.TheVariants.{R}
 use Rattle.choice_lists.proofs.ToldByChoices.{product_to}
 use Rattle.skeletons.specs.Items.{least_vertex}
 use Rattle.skeletons.specs.Choices.{choice}
 use Rattle.skeletons.proofs.Vertices.{least-has}
 use Rattle.skeleton_choices.proofs.Plane.{choice-round}
 use Rattle.skeleton_choices.proofs.Told.{rigid-three}
-use Rattle.skeletons.specs.Lists.{IsRank, choice_count, list_count}
+use Rattle.skeletons.specs.Lists.{IsRank, list_count}
 use Rattle.skel_embed.specs.Block.{BlockState, lock_at, IsBlockState}
 use Rattle.embed_enum.specs.Walk.{IsMemberList}
 use Rattle.embed_enum.specs.Digits.{digit_of, radix_at, digit_at, number_to}
 use Rattle.embed_enum.proofs.Digits.{count-product, product-grows, number-below}
 use Rattle.embed_enum.proofs.Counts.{radix-positive, count-positive}
-use Rattle.embed_enum.proofs.Ranks.{choice-at, digit-below, rank-number, list-length}
+use Rattle.embed_enum.proofs.Ranks.{digit-below, rank-number, list-length}
 
 -- what is not below a limit reaches it
 pub none-below : (limit n m : ℕ) → n ≡ m → (m < limit → ⊥) → limit ≤ n

@@ -8,13 +8,15 @@ ghost use Rattle.embed_enum.specs.Digits.{radix_at};
 
 use pair_split::Kind;
 use skel_embed::PlaneBlock;
+use thiserror::Error;
 
 /// The list has 2^128 members or more.
-#[derive(Clone, Copy, Debug, Drop, PartialEq, Eq)]
+#[derive(Debug, Drop, PartialEq, Eq, Error)]
+#[error("2^128 members or more")]
 pub struct CountOver;
 
 // n times the cyclic orders of so many items, where that is below 2^128.
-fn times_orders(n: u128, items: usize) -> Option<u128>
+pub(crate) fn times_orders(n: u128, items: usize) -> Option<u128>
     requires { 0 < n }
     ensures { SomeIff result (n * cyclic_orders items < 2 ^ 128) (n * cyclic_orders items) }
 {

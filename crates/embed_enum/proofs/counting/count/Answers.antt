@@ -1,4 +1,4 @@
-use Rattle.std.proofs.Common.{◌≡◌, ◌<◌, sym, ap, ◌∙◌, arith, inl, inr}
+use Rattle.std.proofs.Common.{sym, ◌∙◌}
 use Rattle.embed_enum.proofs.States.{state-length, none-below}
 use Rattle.embed_enum.proofs.counting.count.Goals as goal
 

@@ -1,7 +1,6 @@
-use Rattle.std.proofs.Common.{◌≡◌, ℕ, List, length, ◌≤◌, sym, ap, ◌∙◌, arith, subst}
-use Rattle.pair_split.specs.declared.components.Kind.TheVariants.{P, R}
+use Rattle.std.proofs.Common.{List, length, sym, ap, ◌∙◌, arith}
+use Rattle.pair_split.specs.declared.components.Kind.TheVariants.{P}
 use Rattle.pair_split.specs.Tutte.{Node, node_at}
-use Rattle.pair_split.specs.declared.components.Kind.{Kind}
 use Rattle.choice_lists.specs.Arrangements.{factorial_number}
 use Rattle.embed_enum.proofs.States.{state-digit, open-digit, rigid-long}
 use Rattle.embed_enum.proofs.ranking.digit.Goals as goal

@@ -1,4 +1,4 @@
-use Rattle.std.proofs.Common.{◌≡◌, ℕ, ◌*◌, ◌+◌, length, ap, arith}
+use Rattle.std.proofs.Common.{◌≡◌, ◌*◌, length, ap, arith}
 use Rattle.skel_embed.specs.Block.{lock_at}
 use Rattle.embed_enum.specs.Digits.{radix_at, digit_at, number_to}
 use Rattle.embed_enum.proofs.States.{number-fits, radix-fits}

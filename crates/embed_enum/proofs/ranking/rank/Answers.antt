@@ -1,4 +1,4 @@
-use Rattle.std.proofs.Common.{◌≡◌, ◌<◌, ℕ, List, sym, ap, ◌∙◌, arith, subst}
+use Rattle.std.proofs.Common.{sym, arith, subst}
 use Rattle.skeletons.specs.Lists.{IsRank}
 use Rattle.embed_enum.proofs.States.{state-length, state-rank, none-below}
 use Rattle.embed_enum.proofs.ranking.rank.Goals as goal
