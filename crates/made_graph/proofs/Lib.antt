@@ -1,0 +1,6 @@
+-- The lemmas on made graphs.
+mod Examples
+mod Extended
+mod Drawn
+mod Subdivided
+mod Grown

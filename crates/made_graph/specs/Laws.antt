@@ -1,0 +1,38 @@
+-- What is proved of graphs that are made from a number, as statements.
+use Rattle.std.specs.Prelude.{◌≡◌, ℕ, ◌+◌, ◌<◌, ◌≤◌, List}
+use Rattle.multigraph.specs.Graph.{Multigraph, edge_count, max_vertices, max_edges, IsGraph}
+use Rattle.graph_theory.specs.Block.{IsOneBlock}
+use Rattle.rotations.specs.Rotation.{IsRotationSystem}
+use Rattle.faces.specs.Euler.{IsPlane}
+use Rattle.made_graph.specs.Made.{subdivided, doubled, with_path, with_tetrahedron, made}
+
+-- a graph of one block with a plane rotation system
+pub record IsPlanarBlock (g : Multigraph) : Type 0 where
+  pub is_graph : IsGraph g
+  pub one_block : IsOneBlock g
+  pub system : List (List ℕ)
+  pub is_system : IsRotationSystem g system
+  pub plane : IsPlane g system
+
+-- the graph is far enough from the limits that two vertices and five edges more can be taken
+pub record HasRoom (g : Multigraph) : Type 0 where
+  pub vertices : g.vertex_count + 2 ≤ max_vertices
+  pub edges : edge_count g + 5 ≤ max_edges
+
+-- an operation on an edge leads from a planar block to one
+abbrev pub KeepsPlanarBlocks : (Multigraph → ℕ → Multigraph) → Type 0
+KeepsPlanarBlocks operation = (g : Multigraph) → IsPlanarBlock g → HasRoom g → (e : ℕ) → e < edge_count g → IsPlanarBlock (operation g e)
+
+-- the graph has at least n edges, at most four more, and more edges than vertices, by two at least
+pub record IsOfSize (n : ℕ) (g : Multigraph) : Type 0 where
+  pub edges_reach : n ≤ edge_count g
+  pub edges_end : edge_count g ≤ n + 4
+  pub vertices_fewer : g.vertex_count + 2 ≤ edge_count g
+
+-- made graphs are planar blocks
+abbrev pub MadeIsPlanarBlock : Type 0
+MadeIsPlanarBlock = (n seed : ℕ) → 6 ≤ n → n ≤ 20000 → IsPlanarBlock (made n seed)
+
+-- made graphs are of the size that was asked for
+abbrev pub MadeIsOfSize : Type 0
+MadeIsOfSize = (n seed : ℕ) → 6 ≤ n → IsOfSize n (made n seed)

@@ -1,0 +1,2 @@
+// Graphs made from a number.
+#![tactic(auto)]
