@@ -4,3 +4,8 @@ mod Extended
 mod Drawn
 mod Subdivided
 mod Grown
+mod Rounds
+mod Added
+mod PlanarBlocks
+mod Base
+pub mod Growth

@@ -19,9 +19,23 @@ pub record HasRoom (g : Multigraph) : Type 0 where
   pub vertices : g.vertex_count + 2 ≤ max_vertices
   pub edges : edge_count g + 5 ≤ max_edges
 
--- an operation on an edge leads from a planar block to one
+-- an operation on an edge leads from a planar block of two edges or more to one. (One edge alone is a block, and subdivided it is
+-- none)
 abbrev pub KeepsPlanarBlocks : (Multigraph → ℕ → Multigraph) → Type 0
-KeepsPlanarBlocks operation = (g : Multigraph) → IsPlanarBlock g → HasRoom g → (e : ℕ) → e < edge_count g → IsPlanarBlock (operation g e)
+KeepsPlanarBlocks operation = (g : Multigraph) → IsPlanarBlock g → 2 ≤ edge_count g → HasRoom g → (e : ℕ) → e < edge_count g → IsPlanarBlock (operation g e)
+
+-- so does each of the operations
+abbrev pub SubdividingKeeps : Type 0
+SubdividingKeeps = KeepsPlanarBlocks subdivided
+
+abbrev pub DoublingKeeps : Type 0
+DoublingKeeps = KeepsPlanarBlocks doubled
+
+abbrev pub PathKeeps : Type 0
+PathKeeps = KeepsPlanarBlocks with_path
+
+abbrev pub TetrahedronKeeps : Type 0
+TetrahedronKeeps = KeepsPlanarBlocks with_tetrahedron
 
 -- the graph has at least n edges, at most four more, and more edges than vertices, by two at least
 pub record IsOfSize (n : ℕ) (g : Multigraph) : Type 0 where
@@ -35,4 +49,4 @@ MadeIsPlanarBlock = (n seed : ℕ) → 6 ≤ n → n ≤ 20000 → IsPlanarBlock
 
 -- made graphs are of the size that was asked for
 abbrev pub MadeIsOfSize : Type 0
-MadeIsOfSize = (n seed : ℕ) → 6 ≤ n → IsOfSize n (made n seed)
+MadeIsOfSize = (n seed : ℕ) → 6 ≤ n → n ≤ 20000 → IsOfSize n (made n seed)
