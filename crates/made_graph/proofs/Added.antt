@@ -70,12 +70,12 @@ module _ (g : Multigraph) (n : ℕ) (links : List (ℕ × ℕ)) where
   added-share e f s = elim s [
     | inl i ↦ inl i
     | inr c ↦ inr (record {
-        start = c.start;
-        along = c.along;
-        cycle = kept-cycle g (added g n links) c.start c.along (λ k m. let l = walk-edge g c.start c.along c.cycle.walk k m in (added-in k l, added-old k l)) c.cycle;
-        first_on = c.first_on;
-        second_on = c.second_on;
-      })
+      start = c.start;
+      along = c.along;
+      cycle = kept-cycle g (added g n links) c.start c.along (λ k m. let l = walk-edge g c.start c.along c.cycle.walk k m in (added-in k l, added-old k l)) c.cycle;
+      first_on = c.first_on;
+      second_on = c.second_on;
+    })
   ]
 
   -- a block where each new edge shares a block with an old one, and each new vertex has a new edge
@@ -222,21 +222,21 @@ module _ (g : Multigraph) (ok : IsGraph g) (one : IsOneBlock g) (two : 2 ≤ edg
   widened : (x : ℕ) (rest : List ℕ) (f : ℕ) → IsCycle g x (e ∷ rest) → is_member f rest ≡ true → Widened f
   widened x rest f c t = elim (is_end-cases g x e c.walk.0.1) [
     | inl i ↦ record {
-        start = x;
-        along = e ∷ m ∷ rest;
-        cycle = rerouted x w e m rest c (other_end-of_first g e x i) (subst (λ v. Leads h v e z) i (leads-forth h e u z e-in half-here)) (leads-forth h m z w m-in half-new) (λ s. omega (arith, le, s)) e-off m-off;
-        has_e = member-head e (m ∷ rest);
-        has_new = member-tail m e (m ∷ rest) (member-head m rest);
-        has_f = member-tail f e (m ∷ rest) (member-tail f m rest t);
-      }
+      start = x;
+      along = e ∷ m ∷ rest;
+      cycle = rerouted x w e m rest c (other_end-of_first g e x i) (subst (λ v. Leads h v e z) i (leads-forth h e u z e-in half-here)) (leads-forth h m z w m-in half-new) (λ s. omega (arith, le, s)) e-off m-off;
+      has_e = member-head e (m ∷ rest);
+      has_new = member-tail m e (m ∷ rest) (member-head m rest);
+      has_f = member-tail f e (m ∷ rest) (member-tail f m rest t);
+    }
     | inr i ↦ record {
-        start = x;
-        along = m ∷ e ∷ rest;
-        cycle = rerouted x u m e rest c (other_end-of_second g e x i (ok.no_loop e le)) (subst (λ v. Leads h v m z) i (leads-back h m z w m-in half-new (λ s. omega (arith, w-in, s)))) (leads-back h e u z e-in half-here (λ s. omega (arith, u-in, s))) (λ s. omega (arith, le, s)) m-off e-off;
-        has_e = member-tail e m (e ∷ rest) (member-head e rest);
-        has_new = member-head m (e ∷ rest);
-        has_f = member-tail f m (e ∷ rest) (member-tail f e rest t);
-      }
+      start = x;
+      along = m ∷ e ∷ rest;
+      cycle = rerouted x u m e rest c (other_end-of_second g e x i (ok.no_loop e le)) (subst (λ v. Leads h v m z) i (leads-back h m z w m-in half-new (λ s. omega (arith, w-in, s)))) (leads-back h e u z e-in half-here (λ s. omega (arith, u-in, s))) (λ s. omega (arith, le, s)) m-off e-off;
+      has_e = member-tail e m (e ∷ rest) (member-head e rest);
+      has_new = member-head m (e ∷ rest);
+      has_f = member-tail f m (e ∷ rest) (member-tail f e rest t);
+    }
   ]
     where
       e-off : is_member e rest ≡ false

@@ -28,11 +28,11 @@ pub record IsMore (g h : Multigraph) : Type 0 where
 pub grown-more : (g : Multigraph) (e operation : ℕ) → IsMore g (grown g e operation)
 grown-more g e operation = grown-cases (IsMore g) g e operation
     (let l = length-append (slice_set g.ends e ((ends_of g e).0, g.vertex_count)) ((g.vertex_count, (ends_of g e).1) ∷ []) in let k = length-set g.ends e ((ends_of g e).0, g.vertex_count) in
-        record { some = omega (arith, l, k); five = omega (arith, l, k); vertices = omega (arith, l, k) })
+    record { some = omega (arith, l, k); five = omega (arith, l, k); vertices = omega (arith, l, k) })
     (let l = length-append g.ends (ends_of g e ∷ []) in record { some = omega (arith, l); five = omega (arith, l); vertices = omega (arith, l) })
     (let l = length-append g.ends (((ends_of g e).0, g.vertex_count) ∷ (g.vertex_count, (ends_of g e).1) ∷ []) in record { some = omega (arith, l); five = omega (arith, l); vertices = omega (arith, l) })
     (let l = length-append g.ends (((ends_of g e).0, g.vertex_count) ∷ ((ends_of g e).0, g.vertex_count + 1) ∷ ((ends_of g e).1, g.vertex_count) ∷ ((ends_of g e).1, g.vertex_count + 1) ∷ (g.vertex_count, g.vertex_count + 1) ∷ []) in
-        record { some = omega (arith, l); five = omega (arith, l); vertices = omega (arith, l) })
+    record { some = omega (arith, l); five = omega (arith, l); vertices = omega (arith, l) })
 
 -- what stays true of the graph
 pub record IsGrowing (n : ℕ) (g : Multigraph) : Type 0 where

@@ -9,3 +9,4 @@ mod Added
 mod PlanarBlocks
 mod Base
 pub mod Growth
+mod Turns
