@@ -1,13 +1,13 @@
 -- A block with more edges, each on a cycle with an old one, is a block; so is one with an edge subdivided.
-use Rattle.std.proofs.Common.{◌≡◌, ◌≢◌, ℕ, zero, suc, ◌+◌, ◌-◌, ◌*◌, ◌<◌, ◌≤◌, ◌⊎◌, inl, inr, true, false, ◌==◌, ◌||◌, List, [], ◌∷◌, ◌++◌, length, get_or, slice_set, refl, sym, ap, ap₂, ◌∙◌, subst, arith}
+use Rattle.std.proofs.Common.{◌≡◌, ◌≢◌, ℕ, ◌+◌, ◌-◌, ◌<◌, ◌≤◌, ◌⊎◌, inl, inr, true, false, ◌==◌, ◌||◌, List, [], ◌∷◌, ◌++◌, length, get_or, slice_set, refl, sym, ap, ◌∙◌, subst, arith}
 use Rattle.std.proofs.lemmas.Bool.{cases_eq, cases_lt, both_ways, false_from_ne_true}
 use Rattle.std.proofs.lemmas.List.{get_or_append_left, get_or-append-add, get_or_push, length-append, get_or-set_same, get_or-set_other, length-set}
 use Rattle.permutations.specs.Members.{is_member, is_distinct}
-use Rattle.permutations.proofs.Members.{member-head, member-tail, member-cases, no_member-head, no_member-tail, no_member-cons, distinct-cons, distinct-head, distinct-tail}
+use Rattle.permutations.proofs.Members.{member-head, member-tail, member-cases, no_member-cons, distinct-cons, distinct-head, distinct-tail}
 use Rattle.multigraph.specs.Graph.{Multigraph, edge_count, ends_of, is_end, other_end, max_vertices, max_edges, IsGraph}
 use Rattle.multigraph.proofs.OtherEnd.{is_end-from_first, is_end-from_second, is_end-cases, other_end-of_first, other_end-of_second, end-in}
 use Rattle.graph_theory.specs.Path.{walk_end, walk_starts, IsWalk, IsCycle}
-use Rattle.graph_theory.specs.Block.{CommonCycle, SameBlock, EdgesShareBlock, IsOneBlock}
+use Rattle.graph_theory.specs.Block.{SameBlock, IsOneBlock}
 use Rattle.graph_theory.proofs.Walks.{walk-edge}
 use Rattle.graph_theory.proofs.Exchange.{block-symmetric, block-transitive, cycle_with, BegunWith}
 use Rattle.made_graph.specs.Made.{subdivided}

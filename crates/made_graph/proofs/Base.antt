@@ -1,10 +1,10 @@
 -- The complete graph on four vertices is a planar block.
-use Rattle.std.proofs.Common.{◌≡◌, ◌≢◌, ℕ, zero, suc, ◌<◌, inl, inr, ltb, ◌==◌, true, false, List, [], ◌∷◌, refl, sym, ap, ◌∙◌, arith, IsPermutation}
+use Rattle.std.proofs.Common.{◌≡◌, ℕ, zero, suc, ◌<◌, inl, inr, ltb, ◌==◌, true, false, List, [], ◌∷◌, refl, arith, IsPermutation}
 use Rattle.std.proofs.lemmas.Bool.{agree_below_at, eqb-false, ltb-true}
 use Rattle.std.proofs.lemmas.List.Sorted.{IsPermutation-refl, IsPermutation-cons, IsPermutation-to_front}
-use Rattle.multigraph.specs.Graph.{Multigraph, edge_count, ends_of, is_end, incident_edges, IsGraph}
+use Rattle.multigraph.specs.Graph.{ends_of, is_end, incident_edges, IsGraph}
 use Rattle.graph_theory.specs.Path.{IsCycle}
-use Rattle.graph_theory.specs.Block.{CommonCycle, SameBlock, IsOneBlock}
+use Rattle.graph_theory.specs.Block.{SameBlock, IsOneBlock}
 use Rattle.graph_theory.proofs.Exchange.{block-symmetric, block-transitive}
 use Rattle.rotations.specs.Rotation.{order_at, IsCyclicOrder, IsRotationSystem}
 use Rattle.faces.specs.Euler.{IsPlane}

@@ -1,6 +1,6 @@
 -- A map with one more edge, whose darts are alone, and a lone dart put in behind another one.
 use Rattle.std.proofs.Common.{◌≡◌, ℕ, ◌+◌, ◌*◌, ◌<◌, ◌≤◌, inl, inr, Bool, true, false, ◌||◌, ◌&&◌, cond, ltb, ◌==◌, refl, sym, ap, ◌∙◌, subst, arith}
-use Rattle.std.proofs.lemmas.Bool.{lt-ltb, le-ltb, ltb-true, ltb-false, cases_Bool, cases_eq, cases_lt, eqb-true, eq-eqb, ne_eqb, false_from_ne_true, both_ways}
+use Rattle.std.proofs.lemmas.Bool.{lt-ltb, le-ltb, ltb-true, ltb-false, cases_eq, cases_lt, eqb-true, eq-eqb, ne_eqb, false_from_ne_true}
 use Rattle.permutations.specs.Relation.{IsEquivalence, join}
 use Rattle.permutations.specs.Permutation.{Permutes, same_orbit}
 use Rattle.permutations.specs.Exchange.{exchange}

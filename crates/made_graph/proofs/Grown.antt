@@ -1,12 +1,11 @@
 -- What an operation on an edge makes of a drawn graph is drawn.
-use Rattle.std.proofs.Common.{◌≡◌, ◌≢◌, ℕ, ◌+◌, ◌*◌, ◌<◌, true, List, [], ◌∷◌, ◌++◌, append_assoc, refl, sym, ap, ap₂, ◌∙◌, subst, arith}
+use Rattle.std.proofs.Common.{◌≡◌, ◌≢◌, ℕ, ◌+◌, ◌*◌, ◌<◌, true, List, [], ◌∷◌, ◌++◌, append_assoc, sym, ap, ap₂, ◌∙◌, subst, arith}
 use Rattle.std.proofs.lemmas.Bool.{eqb-true}
 use Rattle.permutations.specs.Relation.{IsEquivalence}
 use Rattle.permutations.proofs.Orbits.{orbit-equivalence, orbit-step}
-use Rattle.permutations.proofs.Permutations.{exchange-other}
 use Rattle.dart_maps.specs.Map.{twin, face, same_face, same_vertex}
 use Rattle.dart_maps.proofs.Darts.{twin-twin, twin-below}
-use Rattle.multigraph.specs.Graph.{Multigraph, edge_count, ends_of}
+use Rattle.multigraph.specs.Graph.{Multigraph, ends_of}
 use Rattle.multigraph.specs.Build.{multigraph_of}
 use Rattle.faces.specs.Euler.{tail}
 use Rattle.faces.proofs.DartLemmas.{tail-first, tail-second}

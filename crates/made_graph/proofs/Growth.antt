@@ -1,11 +1,11 @@
 -- Turn by turn the graph stays a planar block, and gains edges until there are enough.
-use Rattle.std.proofs.Common.{◌≡◌, ℕ, zero, suc, ◌+◌, ◌*◌, ◌/◌, ◌%◌, ◌<◌, ◌≤◌, inl, inr, Bool, true, false, cond, nat_lt, ◌==◌, List, [], ◌∷◌, ◌++◌, length, slice_set, refl, sym, ap, ◌∙◌, subst, arith}
-use Rattle.std.proofs.lemmas.Bool.{cases_Bool, lt-ltb, le-ltb, ltb-true, ltb-false, cases_lt}
+use Rattle.std.proofs.Common.{◌≡◌, ℕ, zero, suc, ◌+◌, ◌/◌, ◌<◌, ◌≤◌, inl, inr, Bool, true, false, cond, ◌==◌, [], ◌∷◌, slice_set, refl, sym, ap, ◌∙◌, subst, arith}
+use Rattle.std.proofs.lemmas.Bool.{lt-ltb, le-ltb, cases_lt}
 use Rattle.std.proofs.lemmas.Nat.{mod_below}
 use Rattle.std.proofs.lemmas.List.{length-append, length-set}
 use Rattle.multigraph.specs.Graph.{Multigraph, edge_count, ends_of}
-use Rattle.made_graph.specs.Made.{tetrahedron, subdivided, doubled, with_path, with_tetrahedron, grown, drawn, edge_drawn, operation_drawn, turned, made_within, made}
-use Rattle.made_graph.specs.Laws.{IsPlanarBlock, HasRoom, IsOfSize, MadeIsPlanarBlock, MadeIsOfSize}
+use Rattle.made_graph.specs.Made.{tetrahedron, subdivided, doubled, with_path, with_tetrahedron, grown, drawn, edge_drawn, operation_drawn, turned, made_within}
+use Rattle.made_graph.specs.Laws.{IsPlanarBlock, HasRoom, MadeIsPlanarBlock, MadeIsOfSize}
 use Rattle.made_graph.proofs.PlanarBlocks.{subdividing-keeps, doubling-keeps, path-keeps, tetrahedron-keeps}
 use Rattle.made_graph.proofs.Base.{tetrahedron-planar}
 

@@ -1,5 +1,5 @@
 -- Each operation keeps a planar block one.
-use Rattle.std.proofs.Common.{◌≡◌, ◌≢◌, ℕ, zero, suc, ◌+◌, ◌*◌, ◌<◌, ◌≤◌, inl, inr, true, List, [], ◌∷◌, ◌++◌, length, get_or, refl, sym, ap, ap₂, ◌∙◌, subst, arith}
+use Rattle.std.proofs.Common.{◌≡◌, ◌≢◌, ℕ, zero, suc, ◌+◌, ◌<◌, ◌≤◌, inl, inr, true, List, [], ◌∷◌, length, get_or, refl, sym, ap, ◌∙◌, subst, arith}
 use Rattle.std.proofs.lemmas.Bool.{cases_eq}
 use Rattle.permutations.specs.Members.{is_member}
 use Rattle.permutations.proofs.Members.{member-head, member-tail}
@@ -7,9 +7,7 @@ use Rattle.dart_maps.proofs.Plane.{same-defect-plane, same-defect-ext}
 use Rattle.multigraph.specs.Graph.{Multigraph, edge_count, ends_of, is_end, max_vertices, max_edges, IsGraph}
 use Rattle.multigraph.proofs.OtherEnd.{is_end-from_first, is_end-from_second}
 use Rattle.graph_theory.specs.Path.{IsCycle}
-use Rattle.graph_theory.specs.Block.{CommonCycle, SameBlock, IsOneBlock}
-use Rattle.rotations.specs.Rotation.{IsRotationSystem}
-use Rattle.faces.specs.Euler.{dart_count, tail, IsPlane}
+use Rattle.graph_theory.specs.Block.{SameBlock, IsOneBlock}
 use Rattle.faces.specs.Maps.{dart_after, dart_before}
 use Rattle.faces.proofs.MapSteps.{map-permutes, tail-in}
 use Rattle.faces.proofs.MapVertices.{map-vertex}

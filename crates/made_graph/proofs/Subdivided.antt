@@ -1,6 +1,6 @@
 -- A drawn graph with an edge subdivided is drawn: the second half takes the place of the edge's second dart.
-use Rattle.std.proofs.Common.{◌≡◌, ℕ, ◌+◌, ◌*◌, ◌/◌, ◌%◌, ◌<◌, ◌≤◌, ◌⊎◌, inl, inr, Bool, true, false, cond, ◌==◌, List, [], ◌∷◌, ◌++◌, length, get_or, slice_set, refl, sym, ap, ◌∙◌, subst, arith}
-use Rattle.std.proofs.lemmas.Bool.{cases_eq, cases_lt, eq-eqb, ne_eqb, eqb-true, false_from_ne_true}
+use Rattle.std.proofs.Common.{◌≡◌, ℕ, ◌+◌, ◌*◌, ◌/◌, ◌%◌, ◌<◌, inl, inr, true, false, cond, ◌==◌, [], ◌∷◌, slice_set, refl, sym, ap, ◌∙◌, subst, arith}
+use Rattle.std.proofs.lemmas.Bool.{cases_eq, eq-eqb, ne_eqb, false_from_ne_true}
 use Rattle.std.proofs.lemmas.List.{get_or_append_left, get_or_push, length-append, get_or-set_same, get_or-set_other, length-set}
 use Rattle.permutations.specs.Permutation.{Permutes, same_orbit}
 use Rattle.permutations.specs.Exchange.{exchange, unlink}
@@ -9,13 +9,13 @@ use Rattle.permutations.proofs.Relation.{same-tests}
 use Rattle.permutations.proofs.Orbits.{orbit-equivalence}
 use Rattle.permutations.proofs.Unlinking.{unlink-alone, unlink-before, unlink-other, unlink-permutes, unlink-orbit, alone-orbit}
 use Rattle.dart_maps.specs.Map.{twin, IsMap, IsPlane, same_vertex}
-use Rattle.dart_maps.specs.Changes.{contracted, follows}
+use Rattle.dart_maps.specs.Changes.{contracted}
 use Rattle.dart_maps.proofs.Steps.{back_after, step-map}
 use Rattle.dart_maps.proofs.Plane.{same-defect-plane, same-defect-ext}
 use Rattle.dart_maps.proofs.Contract.{contract-plane-back, contracted-here, contracted-twin, contracted-before, contracted-before-twin, contracted-other, follows-own, follows-other}
 use Rattle.multigraph.specs.Graph.{Multigraph, edge_count, ends_of}
 use Rattle.faces.specs.Euler.{tail}
-use Rattle.faces.proofs.DartLemmas.{tail-even, tail-odd, tail-first, tail-second}
+use Rattle.faces.proofs.DartLemmas.{tail-first, tail-second}
 use Rattle.made_graph.specs.Made.{subdivided}
 use Rattle.made_graph.proofs.Extended.{extended, extended-below, extended-above, extended-map, extended-plane, extended-told, AreTold, IsLone, put-told}
 use Rattle.made_graph.proofs.Drawn.{IsDrawn, twin-last, dart-cases}

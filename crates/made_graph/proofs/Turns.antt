@@ -2,7 +2,7 @@
 use Rattle.std.proofs.Common.{◌≡◌, ℕ, ◌+◌, ◌<◌, ◌≤◌, refl, sym, ap, ◌∙◌, subst, arith}
 use Rattle.multigraph.specs.Graph.{Multigraph, edge_count, IsGraph}
 use Rattle.made_graph.specs.Made.{tetrahedron, grown, drawn, edge_drawn, operation_drawn, turned, made_within, made}
-use Rattle.made_graph.proofs.Growth.{IsMore, turned-more, made-turn, within-over, made-planar}
+use Rattle.made_graph.proofs.Growth.{turned-more, made-turn, within-over, made-planar}
 
 -- the graph that is made is made from this graph and this number
 pub record IsMaking (n seed : ℕ) (g : Multigraph) (x : ℕ) : Type 0 where

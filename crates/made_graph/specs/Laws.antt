@@ -1,5 +1,5 @@
 -- What is proved of graphs that are made from a number, as statements.
-use Rattle.std.specs.Prelude.{◌≡◌, ℕ, ◌+◌, ◌<◌, ◌≤◌, List}
+use Rattle.std.specs.Prelude.{ℕ, ◌+◌, ◌<◌, ◌≤◌, List}
 use Rattle.multigraph.specs.Graph.{Multigraph, edge_count, max_vertices, max_edges, IsGraph}
 use Rattle.graph_theory.specs.Block.{IsOneBlock}
 use Rattle.rotations.specs.Rotation.{IsRotationSystem}

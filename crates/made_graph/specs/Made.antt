@@ -1,5 +1,5 @@
 -- Graphs that are made from a number: the complete graph on four vertices, grown turn by turn at edges that are drawn.
-use Rattle.std.specs.Prelude.{ℕ, zero, suc, ◌+◌, ◌*◌, ◌/◌, ◌%◌, ◌^◌, ◌==◌, nat_lt, if◌then◌else◌, List, [], ◌∷◌, ◌++◌, slice_set}
+use Rattle.std.specs.Prelude.{ℕ, zero, suc, ◌+◌, ◌*◌, ◌/◌, ◌%◌, ◌^◌, ◌==◌, nat_lt, if◌then◌else◌, [], ◌∷◌, ◌++◌, slice_set}
 use Rattle.multigraph.specs.Graph.{Multigraph, edge_count, ends_of}
 
 -- the complete graph on four vertices

@@ -1,12 +1,17 @@
 // Worked rows: the first turns from the number 1.
 
+ghost use Rattle.std.specs.Prelude.{◌≤◌};
+
 use crate::make_graph;
 use multigraph::Graph;
 use std::alloc::Global;
 use std::test::Fail;
 
 // How many vertices and edges the graph has, and the ends of its last edge.
-fn row(alloc: Global, n: u32, seed: u64) -> Result<(u32, u32, (u32, u32)), Fail> {
+fn row(alloc: Global, n: u32, seed: u64) -> Result<(u32, u32, (u32, u32)), Fail>
+    requires least { 6 ≤ n }
+    requires most { n ≤ 20000 }
+{
     let graph = make_graph(alloc, n, seed)?;
     let edges = graph.edge_count();
     let last = if edges > 0 {

@@ -3,7 +3,7 @@ use Rattle.std.proofs.lemmas.Grind.{common_steps}
 use Rattle.multigraph.specs.Graph.{IsGraph}
 use Rattle.multigraph.specs.Build.{multigraph_of}
 use Rattle.made_graph.specs.Made.{drawn, edge_drawn}
-use Rattle.made_graph.proofs.Turns.{making-start, making-step, making-over, making-graph}
+use Rattle.made_graph.proofs.Turns.{making-step, making-over, making-graph}
 use Rattle.made_graph.proofs.making.make_graph.Goals as goal
 
 pub loop-first-preserved : goal.loop-first-preserved
