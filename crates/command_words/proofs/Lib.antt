@@ -1,0 +1,4 @@
+-- The lemmas on the words.
+pub mod Plain
+pub mod OtherWords
+pub mod ThreeWords
