@@ -84,6 +84,14 @@ impl PlaneBlock {
         Vec::from_slice(alloc, self.choices[k as usize].as_slice())
     }
 
+    /// The present choice of node `k`, as it is kept. Takes no memory.
+    pub fn keys(&self, k: u32) -> &[u32]
+        requires { k < length self.now.tree }
+        ensures { result.now ≡ choice self.now.tree self.now.rotation k }
+    {
+        self.choices[k as usize].as_slice()
+    }
+
     /// Whether node `k` is locked.
     pub fn locked(&self, k: u32) -> bool
         requires { k < length self.now.tree }
