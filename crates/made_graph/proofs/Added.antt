@@ -113,19 +113,19 @@ module _ (g : Multigraph) (ok : IsGraph g) (one : IsOneBlock g) (two : 2 ≤ edg
   abbrev z : ℕ
   z = g.vertex_count
 
-  half-count : edge_count h ≡ m + 1
+  pub half-count : edge_count h ≡ m + 1
   half-count = length-append (slice_set g.ends e (u, z)) ((z, w) ∷ []) ∙ ap (λ k. k + 1) (length-set g.ends e (u, z))
 
   half-in : (k : ℕ) → k < m → k < edge_count h
   half-in k l = omega (arith, l, half-count)
 
-  half-old : (k : ℕ) → k < m → (k ≡ e → ⊥) → ends_of h k ≡ ends_of g k
+  pub half-old : (k : ℕ) → k < m → (k ≡ e → ⊥) → ends_of h k ≡ ends_of g k
   half-old k l i = get_or_append_left (slice_set g.ends e (u, z)) ((z, w) ∷ []) (0, 0) k (omega (arith, l, length-set g.ends e (u, z))) ∙ get_or-set_other g.ends e k (u, z) (0, 0) i
 
-  half-here : ends_of h e ≡ (u, z)
+  pub half-here : ends_of h e ≡ (u, z)
   half-here = get_or_append_left (slice_set g.ends e (u, z)) ((z, w) ∷ []) (0, 0) e (omega (arith, le, length-set g.ends e (u, z))) ∙ get_or-set_same g.ends e (u, z) (0, 0) le
 
-  half-new : ends_of h m ≡ (z, w)
+  pub half-new : ends_of h m ≡ (z, w)
   half-new = get_or_push (slice_set g.ends e (u, z)) (z, w) (0, 0) m (length-set g.ends e (u, z))
 
   u-in : u < z

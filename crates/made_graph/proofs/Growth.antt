@@ -49,7 +49,7 @@ pub turned-more : (g : Multigraph) (x : ℕ) → IsMore g (turned g x)
 turned-more g x = grown-more g (edge_drawn (drawn x) (edge_count g)) (operation_drawn (drawn (drawn x)))
 
 -- a turn keeps it
-turned-growing : (n : ℕ) (g : Multigraph) (x : ℕ) → n ≤ 20000 → edge_count g < n → IsGrowing n g → IsGrowing n (turned g x)
+pub turned-growing : (n : ℕ) (g : Multigraph) (x : ℕ) → n ≤ 20000 → edge_count g < n → IsGrowing n g → IsGrowing n (turned g x)
 turned-growing n g x small l t =
     let f = t.fewer in
     let s = t.six in
@@ -110,7 +110,7 @@ made-turn (suc k) g x l =
     within-more k (suc k) g x l ∙ within-same k (suc k) (suc k) (turned g x) (drawn (drawn x)) (omega (arith, a)) (omega (arith, a))
 
 -- the start
-tetrahedron-growing : (n : ℕ) → 6 ≤ n → IsGrowing n tetrahedron
+pub tetrahedron-growing : (n : ℕ) → 6 ≤ n → IsGrowing n tetrahedron
 tetrahedron-growing n l = record { planar = tetrahedron-planar; six = omega arith; few = omega (arith, l); fewer = omega arith }
 
 -- made graphs are planar blocks

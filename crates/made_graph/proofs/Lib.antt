@@ -9,4 +9,5 @@ mod Added
 mod PlanarBlocks
 mod Base
 pub mod Growth
+pub mod Forks
 mod Turns

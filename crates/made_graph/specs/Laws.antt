@@ -1,6 +1,6 @@
 -- What is proved of graphs that are made from a number, as statements.
-use Rattle.std.specs.Prelude.{ℕ, ◌+◌, ◌<◌, ◌≤◌, List}
-use Rattle.multigraph.specs.Graph.{Multigraph, edge_count, max_vertices, max_edges, IsGraph}
+use Rattle.std.specs.Prelude.{◌≡◌, ◌≢◌, true, ℕ, ◌+◌, ◌<◌, ◌≤◌, true, List}
+use Rattle.multigraph.specs.Graph.{Multigraph, edge_count, is_end, max_vertices, max_edges, IsGraph}
 use Rattle.graph_theory.specs.Block.{IsOneBlock}
 use Rattle.rotations.specs.Rotation.{IsRotationSystem}
 use Rattle.faces.specs.Euler.{IsPlane}
@@ -43,9 +43,29 @@ pub record IsOfSize (n : ℕ) (g : Multigraph) : Type 0 where
   pub edges_end : edge_count g ≤ n + 4
   pub vertices_fewer : g.vertex_count + 2 ≤ edge_count g
 
+-- three different edges with a common end
+pub record HasFork (g : Multigraph) : Type 0 where
+  pub vertex : ℕ
+  pub first : ℕ
+  pub second : ℕ
+  pub third : ℕ
+  pub first_in : first < edge_count g
+  pub second_in : second < edge_count g
+  pub third_in : third < edge_count g
+  pub first_there : is_end g vertex first ≡ true
+  pub second_there : is_end g vertex second ≡ true
+  pub third_there : is_end g vertex third ≡ true
+  pub first_second : first ≢ second
+  pub first_third : first ≢ third
+  pub second_third : second ≢ third
+
 -- made graphs are planar blocks
 abbrev pub MadeIsPlanarBlock : Type 0
 MadeIsPlanarBlock = (n seed : ℕ) → 6 ≤ n → n ≤ 20000 → IsPlanarBlock (made n seed)
+
+-- and no polygons
+abbrev pub MadeHasFork : Type 0
+MadeHasFork = (n seed : ℕ) → 6 ≤ n → n ≤ 20000 → HasFork (made n seed)
 
 -- made graphs are of the size that was asked for
 abbrev pub MadeIsOfSize : Type 0
