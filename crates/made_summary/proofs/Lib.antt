@@ -1,0 +1,3 @@
+-- The lemmas on summaries.
+pub mod SomeChoices
+pub mod FirstAndLast

@@ -1,0 +1,4 @@
+-- The summary of a made graph.
+pub mod Text
+pub mod Kinds
+pub mod Summary

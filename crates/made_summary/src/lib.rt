@@ -1,0 +1,2 @@
+// The summary of a made graph.
+#![tactic(auto)]
