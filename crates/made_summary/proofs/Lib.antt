@@ -1,3 +1,4 @@
 -- The lemmas on summaries.
 pub mod SomeChoices
 pub mod FirstAndLast
+pub mod Lines

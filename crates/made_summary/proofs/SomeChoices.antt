@@ -133,9 +133,9 @@ module _ (g : Multigraph) (nodes : List Node) (t : IsTutte g nodes) (none : None
       polygon : IsPolygon skel → ⊥
       polygon p = elim (polygon-two skel f.vertex first.place second.place third.place p (place-in f.first first) (place-in f.second second) (place-in f.third third)
           (apart f.first f.second first second f.first_second) (place-end f.first f.vertex first f.first_there) (place-end f.second f.vertex second f.second_there) (place-end f.third f.vertex third f.third_there)) [
-        | inl e ↦ apart f.first f.third first third f.first_third (sym e)
-        | inr e ↦ apart f.second f.third second third f.second_third (sym e)
-      ]
+            | inl e ↦ apart f.first f.third first third f.first_third (sym e)
+            | inr e ↦ apart f.second f.third second third f.second_third (sym e)
+          ]
 
       small : IsSmall skel → ⊥
       small p =
