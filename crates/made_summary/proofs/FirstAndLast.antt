@@ -1,9 +1,8 @@
 -- The list of a block that stands at its first member: that member stands at place 0, and the choices at the last are mirrored.
-use Rattle.std.proofs.Common.{◌≡◌, ℕ, zero, suc, ◌+◌, ◌-◌, ◌<◌, ◌≤◌, inl, inr, Bool, true, false, List, [], ◌∷◌, length, slice_index_or, reverse, refl, sym, ap, ◌∙◌, subst, arith}
+use Rattle.std.proofs.Common.{◌≡◌, ℕ, ◌+◌, ◌-◌, ◌<◌, inl, inr, Bool, false, List, [], length, slice_index_or, sym, ap, ◌∙◌, subst, arith}
 use Rattle.std.specs.Prelude.{Contains}
 use Rattle.std.proofs.lemmas.Bool.{cases_eq, both_ways}
 use Rattle.std.proofs.lemmas.List.{get_or_default}
-use Rattle.permutations.specs.Cyclic.{from_least}
 use Rattle.multigraph.specs.Graph.{Multigraph}
 use Rattle.faces.specs.Maps.{mirror_image}
 use Rattle.pair_split.specs.Tutte.{Node}

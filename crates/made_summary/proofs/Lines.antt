@@ -1,5 +1,5 @@
 -- The lines of a summary from the values that its calls gave.
-use Rattle.std.proofs.Common.{◌≡◌, ℕ, List, [], ◌++◌, Option, codes, length, slice_index_or, refl, sym, ap, ap₂, ◌∙◌}
+use Rattle.std.proofs.Common.{◌≡◌, ℕ, List, [], ◌++◌, Option, codes, length, slice_index_or}
 use Rattle.multigraph.specs.Graph.{Multigraph, edge_count}
 use Rattle.pair_split.specs.Tutte.{Node}
 use Rattle.skeletons.specs.Choices.{choice}

@@ -1,12 +1,11 @@
 -- In the tree of a block with three edges at a vertex some node is a bond or triconnected.
-use Rattle.std.proofs.Common.{◌≡◌, ◌≢◌, ℕ, ◌<◌, ◌≤◌, ◌⊎◌, inl, inr, Bool, ◌==◌, ◌||◌, true, false, List, [], ◌∷◌, length, map, get_or, refl, sym, ap, ◌∙◌, subst, arith}
+use Rattle.std.proofs.Common.{◌≡◌, ◌≢◌, ℕ, ◌<◌, ◌⊎◌, inl, inr, Bool, ◌==◌, ◌||◌, true, false, List, length, get_or, refl, sym, ap, ◌∙◌, subst, arith}
 use Rattle.std.proofs.lemmas.Bool.{true≢false, cases_eq, cases_lt}
 use Rattle.std.proofs.lemmas.List.{length-map, get_or-map}
 use Rattle.multigraph.specs.Graph.{Multigraph, edge_count, ends_of, is_end}
-use Rattle.multigraph.proofs.OtherEnd.{is_end-cases}
 use Rattle.pair_split.specs.Tutte.{Node, node_at, components, IsTutte}
 use Rattle.pair_split.specs.Skeleton.{is_end_of, SameEnds, IsOfKind, IsPolygon, IsSmall}
-use Rattle.pair_split.specs.Split.{component_at, items_of, item_at, piece_ends, skeleton, StandsFor, LinksTo}
+use Rattle.pair_split.specs.Split.{component_at, items_of, item_at, piece_ends, skeleton, StandsFor}
 use Rattle.pair_split.specs.declared.components.Kind.{Kind}
 use Rattle.pair_split.specs.declared.components.Kind.TheVariants.{S, P, R, B}
 use Rattle.std.proofs.Math.ListN.{get_or-eq_default}

@@ -1,4 +1,4 @@
-use Rattle.std.proofs.Common.{◌≡◌, arith}
+use Rattle.std.proofs.Common.{arith}
 use Rattle.permutations.proofs.Count.{count-within}
 use Rattle.pair_split.specs.Tutte.{node_at}
 use Rattle.made_summary.specs.Kinds.{is_polygon, is_bond, is_rigid}

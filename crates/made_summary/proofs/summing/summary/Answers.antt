@@ -1,4 +1,4 @@
-use Rattle.std.proofs.Common.{◌≡◌, sym, ap, ◌∙◌, subst}
+use Rattle.std.proofs.Common.{sym, ◌∙◌, subst}
 use Rattle.multigraph.specs.Graph.{IsGraph}
 use Rattle.graph_theory.specs.Block.{IsOneBlock}
 use Rattle.kuratowski.specs.Subdivision.{IsWritten}
