@@ -2,3 +2,4 @@
 pub mod SomeChoices
 pub mod FirstAndLast
 pub mod Lines
+pub mod OneSummary

@@ -2,3 +2,4 @@
 pub mod Text
 pub mod Kinds
 pub mod Summary
+pub mod Laws

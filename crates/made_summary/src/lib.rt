@@ -7,10 +7,12 @@
 //
 // The lemmas (module of proofs/ in front):
 //   SomeChoices    no-fork: where no node has choices no vertex has three edges
+//   OneSummary     one-summary: a graph has one summary at most
 //   FirstAndLast   first-there, last-choice, all-members: the list of a block that stands at its first member
 #![tactic(auto)]
 
 mod kinds;
+pub mod laws;
 mod summing;
 mod text;
 
