@@ -42,7 +42,8 @@ fn are_plain(words: &[String]) -> bool
 
 // The form that three words are.
 fn command_of(three: Three<'_>) -> Option<Form<'_>>
-    ensures { option_map asked result ≡ command_of (three.entry.command.now, three.entry.first.now, three.entry.second.now) }
+    ensures { option_map asked result
+        ≡ command_of (three.entry.command.now, three.entry.first.now, three.entry.second.now) }
 {
     match three.command {
         "run" => Some(Form::Run {

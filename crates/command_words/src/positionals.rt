@@ -40,7 +40,9 @@ fn all_three<'a>(
     first: Option<&'a str>,
     second: Option<&'a str>,
 ) -> Option<Three<'a>>
-    ensures { option_map (λ t. (t.command.now, t.first.now, t.second.now)) result ≡ all_three (option_map (λ t. t.now) command.entry) (option_map (λ t. t.now) first.entry) (option_map (λ t. t.now) second.entry) }
+    ensures { option_map (λ t. (t.command.now, t.first.now, t.second.now)) result
+        ≡ all_three (option_map (λ t. t.now) command.entry)
+        (option_map (λ t. t.now) first.entry) (option_map (λ t. t.now) second.entry) }
 {
     Some(Three {
         command: command?,
@@ -51,7 +53,8 @@ fn all_three<'a>(
 
 // The three texts that were found.
 fn texts<'a>(matches: &ArgMatches<'a>) -> Option<Three<'a>>
-    ensures { option_map (λ t. (t.command.now, t.first.now, t.second.now)) result ≡ texts_in (rows_of (found_of matches.now)) }
+    ensures { option_map (λ t. (t.command.now, t.first.now, t.second.now)) result
+        ≡ texts_in (rows_of (found_of matches.now)) }
 {
     all_three(
         matches.get_str("command"),
@@ -66,7 +69,8 @@ pub(crate) fn three_words<'a>(
     words: &'a [String],
 ) -> Result<Option<Three<'a>>, AllocError>
     requires { list_all is_plain (map string_bytes words.now) ≡ true }
-    ensures { IfOk result (λ three. option_map (λ t. (t.command.now, t.first.now, t.second.now)) three ≡ three_in (map string_bytes words.now)) }
+    ensures { IfOk result (λ three. option_map (λ t. (t.command.now, t.first.now, t.second.now)) three
+        ≡ three_in (map string_bytes words.now)) }
 {
     let command = positionals(alloc)?;
     match command.try_get_matches_from(words) {

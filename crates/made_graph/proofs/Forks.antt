@@ -3,10 +3,10 @@ use Rattle.std.proofs.Common.{◌≡◌, ◌≢◌, ℕ, zero, suc, ◌+◌, ◌
 use Rattle.std.proofs.lemmas.Bool.{cases_eq, cases_lt}
 use Rattle.multigraph.specs.Graph.{Multigraph, edge_count, ends_of, is_end}
 use Rattle.multigraph.proofs.OtherEnd.{is_end-cases, is_end-from_first, is_end-from_second}
-use Rattle.made_graph.specs.Made.{tetrahedron, subdivided, drawn, edge_drawn, operation_drawn, turned, made_within, made}
+use Rattle.made_graph.specs.Made.{tetrahedron, subdivided, drawn, edge_drawn, operation_drawn, turned, made_within}
 use Rattle.made_graph.specs.Laws.{HasFork, HasRoom, IsPlanarBlock, MadeHasFork}
 use Rattle.made_graph.proofs.Added.{added, added-in, added-old, half-count, half-old, half-here, half-new}
-use Rattle.made_graph.proofs.Growth.{IsGrowing, IsMore, grown-cases, edge-drawn, turned-more, turned-growing, tetrahedron-growing, within-more, within-over}
+use Rattle.made_graph.proofs.Growth.{IsGrowing, grown-cases, edge-drawn, turned-growing, tetrahedron-growing, within-more, within-over}
 
 -- with more edges
 added-fork : (g : Multigraph) (n : ℕ) (links : List (ℕ × ℕ)) → HasFork g → HasFork (added g n links)
@@ -50,13 +50,25 @@ module _ (g : Multigraph) (p : IsPlanarBlock g) (two : 2 ≤ edge_count g) (room
   comes : (v k : ℕ) → k < edge_count g → is_end g v k ≡ true → Comes g e v k
   comes v k l t = elim (cases_eq k e) [
     | inl i ↦ elim (is_end-cases g v e (subst (λ z. is_end g v z ≡ true) i t)) [
-      | inl a ↦ record { edge = k; is = inl refl; inside = omega (arith, l, count-is);
-          there = is_end-from_first (subdivided g e) v k (ap (λ z. (ends_of (subdivided g e) z).0) i ∙ ap (λ (q : ℕ × ℕ). q.0) (half-here g p.is_graph p.one_block two e le few more) ∙ a) }
-      | inr a ↦ record { edge = edge_count g; is = inr (i, refl); inside = omega (arith, count-is);
-          there = is_end-from_second (subdivided g e) v (edge_count g) (ap (λ (q : ℕ × ℕ). q.1) (half-new g p.is_graph p.one_block two e le few more) ∙ a) }
+      | inl a ↦ record {
+        edge = k;
+        is = inl refl;
+        inside = omega (arith, l, count-is);
+        there = is_end-from_first (subdivided g e) v k (ap (λ z. (ends_of (subdivided g e) z).0) i ∙ ap (λ (q : ℕ × ℕ). q.0) (half-here g p.is_graph p.one_block two e le few more) ∙ a);
+      }
+      | inr a ↦ record {
+        edge = edge_count g;
+        is = inr (i, refl);
+        inside = omega (arith, count-is);
+        there = is_end-from_second (subdivided g e) v (edge_count g) (ap (λ (q : ℕ × ℕ). q.1) (half-new g p.is_graph p.one_block two e le few more) ∙ a);
+      }
     ]
-    | inr n ↦ record { edge = k; is = inl refl; inside = omega (arith, l, count-is);
-        there = ap (λ (q : ℕ × ℕ). (q.0 == v) || (q.1 == v)) (half-old g p.is_graph p.one_block two e le few more k l n) ∙ t }
+    | inr n ↦ record {
+      edge = k;
+      is = inl refl;
+      inside = omega (arith, l, count-is);
+      there = ap (λ (q : ℕ × ℕ). (q.0 == v) || (q.1 == v)) (half-old g p.is_graph p.one_block two e le few more k l n) ∙ t;
+    }
   ]
 
   -- different edges come of different ones

@@ -9,7 +9,8 @@ use std::alloc::AllocError;
 fn subdivide(ends: &mut Vec<(u32, u32)>, vertices: u32, e: u32) -> Result<u32, AllocError>
     requires edge { e < length ends.old.items }
     requires few { vertices + 2 < 2 ^ 32 }
-    ensures { IfOk result (λ n. multigraph_of n ends.new.items ≡ subdivided (multigraph_of vertices ends.old.items) e) }
+    ensures { IfOk result (λ n. multigraph_of n ends.new.items
+        ≡ subdivided (multigraph_of vertices ends.old.items) e) }
 {
     let (first, second) = ends[e as usize];
     ends[e as usize] = (first, vertices);
@@ -20,7 +21,8 @@ fn subdivide(ends: &mut Vec<(u32, u32)>, vertices: u32, e: u32) -> Result<u32, A
 // Edge e doubled.
 fn double(ends: &mut Vec<(u32, u32)>, vertices: u32, e: u32) -> Result<u32, AllocError>
     requires edge { e < length ends.old.items }
-    ensures { IfOk result (λ n. multigraph_of n ends.new.items ≡ doubled (multigraph_of vertices ends.old.items) e) }
+    ensures { IfOk result (λ n. multigraph_of n ends.new.items
+        ≡ doubled (multigraph_of vertices ends.old.items) e) }
 {
     let link = ends[e as usize];
     ends.push(link)?;
@@ -31,7 +33,8 @@ fn double(ends: &mut Vec<(u32, u32)>, vertices: u32, e: u32) -> Result<u32, Allo
 fn add_path(ends: &mut Vec<(u32, u32)>, vertices: u32, e: u32) -> Result<u32, AllocError>
     requires edge { e < length ends.old.items }
     requires few { vertices + 2 < 2 ^ 32 }
-    ensures { IfOk result (λ n. multigraph_of n ends.new.items ≡ with_path (multigraph_of vertices ends.old.items) e) }
+    ensures { IfOk result (λ n. multigraph_of n ends.new.items
+        ≡ with_path (multigraph_of vertices ends.old.items) e) }
 {
     let (first, second) = ends[e as usize];
     ends.push((first, vertices))?;
@@ -43,7 +46,8 @@ fn add_path(ends: &mut Vec<(u32, u32)>, vertices: u32, e: u32) -> Result<u32, Al
 fn glue(ends: &mut Vec<(u32, u32)>, vertices: u32, e: u32) -> Result<u32, AllocError>
     requires edge { e < length ends.old.items }
     requires few { vertices + 2 < 2 ^ 32 }
-    ensures { IfOk result (λ n. multigraph_of n ends.new.items ≡ with_tetrahedron (multigraph_of vertices ends.old.items) e) }
+    ensures { IfOk result (λ n. multigraph_of n ends.new.items
+        ≡ with_tetrahedron (multigraph_of vertices ends.old.items) e) }
 {
     let (first, second) = ends[e as usize];
     ends.push((first, vertices))?;
@@ -63,7 +67,8 @@ pub(crate) fn grow(
 ) -> Result<u32, AllocError>
     requires edge { e < length ends.old.items }
     requires few { vertices + 2 < 2 ^ 32 }
-    ensures { IfOk result (λ n. multigraph_of n ends.new.items ≡ grown (multigraph_of vertices ends.old.items) e operation) }
+    ensures { IfOk result (λ n. multigraph_of n ends.new.items
+        ≡ grown (multigraph_of vertices ends.old.items) e operation) }
 {
     match operation {
         0 => subdivide(ends, vertices, e),

@@ -1,14 +1,13 @@
 -- A graph of one block has one summary at most: its tree is the only one, and so is the list of its plane rotation systems.
-use Rattle.std.proofs.Common.{◌≡◌, ℕ, ◌+◌, inl, inr, true, List, length, sym, ap, ◌∙◌, subst, arith}
+use Rattle.std.proofs.Common.{◌≡◌, ℕ, inl, inr, List, length, sym, ap, ◌∙◌, subst, arith}
 use Rattle.std.proofs.lemmas.Bool.{both_ways, cases_eq, cases_lt}
-use Rattle.multigraph.specs.Graph.{Multigraph}
 use Rattle.pair_split.specs.Tutte.{Node, node_at}
 use Rattle.skeletons.specs.Choices.{IsPlaneSystem}
 use Rattle.skeletons.specs.Lists.{IsFullList}
 use Rattle.skeletons.proofs.Before.{list-unique}
 use Rattle.tree_unique.proofs.SameTrees.{trees-equal}
 use Rattle.made_summary.specs.Kinds.{has_choices, IsLeastWithChoices}
-use Rattle.made_summary.specs.Summary.{summary_text, IsSummary}
+use Rattle.made_summary.specs.Summary.{summary_text}
 use Rattle.made_summary.specs.Laws.{SummaryIsUnique}
 
 -- there is one least node with choices

@@ -88,7 +88,10 @@ pub(crate) fn lines(
     k: u32,
     choices: (&[u32], &[u32]),
 ) -> Result<Vec<u8>, AllocError>
-    ensures { IfOk result (λ text. text.items ≡ made_line numbers.0 numbers.1 ++ nodes_line kinds.polygons kinds.bonds kinds.rigid ++ count_text count ++ choice_line (codes "first ") k choices.entry.0.now ++ choice_line (codes "last ") k choices.entry.1.now) }
+    ensures { IfOk result (λ text. text.items ≡ made_line numbers.0 numbers.1
+        ++ nodes_line kinds.polygons kinds.bonds kinds.rigid ++ count_text count
+        ++ choice_line (codes "first ") k choices.entry.0.now
+        ++ choice_line (codes "last ") k choices.entry.1.now) }
 {
     let mut text = Vec::new(alloc);
     push_made(&mut text, numbers.0, numbers.1)?;
