@@ -2,3 +2,4 @@
 pub mod Plain
 pub mod OtherWords
 pub mod ThreeWords
+pub mod Ranges

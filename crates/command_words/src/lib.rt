@@ -9,6 +9,7 @@
 //   Plain        word-value, three-walked, three-matches, three-takes: three words, step by step
 //   OtherWords   none-missing, one-missing, two-missing, four-unknown: fewer words and more
 //   ThreeWords   taken-three, refused-other: both together
+//   Ranges       make-range: a graph that is asked for has from 6 to 20,000 edges
 #![tactic(auto)]
 
 mod forms;
