@@ -4,10 +4,8 @@ pub mod Certificates
 pub mod Setting
 pub mod State
 pub mod Embedded
-pub mod Board
 pub mod Codes
 pub mod BlockCodes
-pub mod Members
 pub mod Commands
 pub mod Step
 pub mod Head
