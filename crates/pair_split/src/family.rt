@@ -2,11 +2,8 @@
 
 /// An edge under a name, with its two ends.
 #[derive(Clone, Copy, Debug, Drop, PartialEq, Eq)]
-pub struct NamedEdge {
-    /// The name.
+pub(crate) struct NamedEdge {
     pub name: u32,
-    /// One end.
     pub first: u32,
-    /// The other end.
     pub second: u32,
 }

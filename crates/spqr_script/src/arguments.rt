@@ -5,7 +5,7 @@ ghost use Rattle.spqr_script.specs.Number.{index_limit};
 ghost use Rattle.spqr_script.specs.Reading.{alone, first_number, arguments_of};
 
 mod euler;
-mod faces;
+mod face_list;
 mod gml;
 mod show;
 
@@ -14,7 +14,7 @@ use crate::numbers::index;
 use crate::tokens::next_token;
 use crate::word::Word;
 use euler::read_euler;
-use faces::read_faces;
+use face_list::read_faces;
 use gml::read_gml;
 use show::read_show;
 use std::alloc::{AllocError, Global};
