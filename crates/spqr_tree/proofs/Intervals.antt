@@ -1,21 +1,20 @@
 -- The places of the edges in a group stand between the bounds of its item; so a search among the bounds of a node finds the group.
-use Rattle.std.proofs.Common.{◌≡◌, ◌≢◌, ℕ, zero, suc, ◌+◌, ◌-◌, ◌<◌, ◌≤◌, ◌⊎◌, inl, inr, true, List, [], length, slice_index, slice_index_or, refl, sym, ap, ◌∙◌, subst, arith}
+use Rattle.std.proofs.Common.{◌≡◌, ◌≢◌, ℕ, zero, suc, ◌+◌, ◌-◌, ◌<◌, ◌≤◌, ◌⊎◌, inl, inr, true, List, [], length, slice_index, slice_index_or, sym, ap, ◌∙◌, subst, arith}
 use Rattle.std.proofs.lemmas.Bool.{cases_eq, cases_lt, both_ways, not_from_true}
 use Rattle.std.proofs.lemmas.List.{get_or_default}
 use Rattle.std.proofs.lemmas.List.Sorted.{IsNonDecreasingBy-from_default}
 use Rattle.std.specs.List.Sorted.{IsNonDecreasingBy}
 use Rattle.permutations.specs.Count.{count}
 use Rattle.multigraph.specs.Graph.{Multigraph, edge_count}
-use Rattle.pair_split.specs.Split.{item_at, is_beyond, side, LinksTo, IsSplit}
+use Rattle.pair_split.specs.Split.{is_beyond, side, LinksTo, IsSplit}
 use Rattle.pair_split.specs.Tutte.{Node, node_at, components, node_item, has_in_group, group, IsTutte}
 use Rattle.pair_split.specs.declared.components.Comp.{Comp}
 use Rattle.pair_split.specs.declared.components.Item.{Item}
-use Rattle.pair_split.specs.declared.components.What.TheVariants.{Real, Link}
+use Rattle.pair_split.specs.declared.components.What.TheVariants.{Link}
 use Rattle.pair_split.proofs.Groups.{side-other, group-cases, in_group-link, group-some}
-use Rattle.pair_split.proofs.TreeSides.{link-back}
 use Rattle.spqr_tree.specs.Keys.{nth_item}
 use Rattle.spqr_tree.specs.Tour.{what_at, item_count, place_of, bounds_of, bound_count, bound_at, AreToured}
-use Rattle.spqr_tree.proofs.UpLinks.{comp-in, item-in, what-at, first-in, first-key, first-edge, link-to, link-within, child-up, parent-down, link-once, edge-stands, falls, group-is}
+use Rattle.spqr_tree.proofs.UpLinks.{comp-in, item-in, what-at, first-in, first-key, link-to, link-within, child-up, parent-down, link-once, edge-stands, falls, group-is}
 
 module _ (g : Multigraph) (nodes : List Node) (t : IsTutte g nodes) (few : 0 < edge_count g) (places : List ℕ) (bounds : List (List ℕ)) (a : AreToured nodes places bounds) where
   abbrev comps : List Comp

@@ -1,11 +1,11 @@
 -- The steps of the walk round the tree: a bound is noted, then an edge is met, or a link is gone down, or the node is left; and the end.
 use Rattle.std.proofs.Common.{◌≡◌, ◌≢◌, ℕ, zero, suc, ◌+◌, ◌-◌, ◌<◌, ◌≤◌, ◌⊎◌, inl, inr, Bool, true, false, not, ◌&&◌, ◌==◌, List, [], ◌∷◌, ◌++◌, length, slice_index_or, slice_set, refl, sym, ap, ◌∙◌, subst, arith}
-use Rattle.std.proofs.lemmas.Bool.{cases_Bool, cases_eq, cases_lt, both_ways, true≢false, eq-eqb, eqb-true, ne_eqb, not-true, and_parts, and_from}
+use Rattle.std.proofs.lemmas.Bool.{cases_eq, cases_lt, both_ways, true≢false, eq-eqb, eqb-true, ne_eqb, and_from}
 use Rattle.std.proofs.lemmas.List.{get_or-set_same, get_or-set_other, length-set, length-append, get_or_append_left}
 use Rattle.std.proofs.Math.Seq.{get_or-append_seam}
-use Rattle.permutations.specs.Count.{count, sum_below}
-use Rattle.permutations.proofs.Count.{count-within, count-subset, count-remove, count-same}
-use Rattle.permutations.proofs.Sums.{sum_below-le, sum_below-same}
+use Rattle.permutations.specs.Count.{count}
+use Rattle.permutations.proofs.Count.{count-within, count-subset, count-remove}
+use Rattle.permutations.proofs.Sums.{sum_below-same}
 use Rattle.multigraph.specs.Graph.{Multigraph, edge_count}
 use Rattle.pair_split.specs.Split.{is_beyond, LinksTo}
 use Rattle.pair_split.specs.Tutte.{Node, node_at, components, IsTutte}
@@ -26,6 +26,10 @@ pub record HasNoted (nodes : List Node) (s : TourState) : Type 0 where
   pub in_link : (k i j : ℕ) → k < length nodes → k ≢ s.at → i + 1 ≡ bound_count s.bounds k → i + 1 < item_count nodes k → what_at nodes k (i + 1) ≡ Link j → 0 < bound_count s.bounds j → bound_at s.bounds k i ≤ bound_at s.bounds j 0
   pub ahead_edge : (k i e : ℕ) → k < length nodes → (k ≢ s.at → bound_count s.bounds k ≤ i) → bound_count s.bounds k ≤ i + 1 → i + 1 < item_count nodes k → what_at nodes k (i + 1) ≡ Real e → is_ahead s.places e ≡ true
   pub ahead_link : (k i j : ℕ) → k < length nodes → (k ≢ s.at → bound_count s.bounds k ≤ i) → bound_count s.bounds k ≤ i + 1 → i + 1 < item_count nodes k → what_at nodes k (i + 1) ≡ Link j → (bound_count s.bounds j ≡ 0) × (j ≢ s.at)
+
+-- the walk at another node
+abbrev pub moved : ℕ → TourState → TourState
+moved k s = record { at = k; met = s.met; places = s.places; bounds = s.bounds }
 
 -- an edge less is ahead
 ahead-less : (m : ℕ) (p q : ℕ → Bool) (y : ℕ) → y < m → q y ≡ true → p y ≡ false → ((x : ℕ) → p x ≡ true → q x ≡ true) → count m p + 1 ≤ count m q

@@ -1,5 +1,5 @@
 -- The first item of a node has key 0: it is edge 0, or the link towards the node that has edge 0; the other links lead away from it.
-use Rattle.std.proofs.Common.{◌≡◌, ◌≢◌, ℕ, zero, suc, ◌+◌, ◌<◌, ◌≤◌, inl, inr, Bool, true, false, cond, List, [], ◌∷◌, length, map, refl, sym, ap, ◌∙◌, subst, arith}
+use Rattle.std.proofs.Common.{◌≡◌, ◌≢◌, ℕ, zero, suc, ◌+◌, ◌<◌, inl, inr, Bool, true, false, cond, List, [], ◌∷◌, length, map, sym, ap, ◌∙◌, subst, arith}
 use Rattle.std.proofs.lemmas.Bool.{cases_Bool, cases_eq, cases_lt, both_ways, not_from_true, not_from_false}
 use Rattle.std.proofs.lemmas.List.{length-map, get_or-map}
 use Rattle.permutations.specs.Count.{count, some, least}

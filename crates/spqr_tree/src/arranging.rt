@@ -61,6 +61,5 @@ pub(crate) fn arrange(
     ensures { IfOk result (λ r. IsArranged g.now r.0.items (ranks_of r.1.items)) }
 {
     let flood = grouped(alloc, g, comps)?;
-    let all = arrange_groups(alloc, g, comps, flood.table(), flood.list())?;
-    Ok(all)
+    arrange_groups(alloc, g, comps, flood.table(), flood.list())
 }

@@ -11,6 +11,7 @@ ghost use Rattle.spqr_tree.specs.Keys.{nth_item, parent_at, link_key, AreWithin,
 use crate::arranging::arrange;
 use crate::keys::{keyed, rooted};
 use crate::lists::ItemList;
+use crate::tour::toured;
 use crate::tree::{Tree, TreeNode};
 use multigraph::{Graph, Numbers};
 use pair_split::{Comp, Comps};
@@ -74,8 +75,12 @@ fn finish(
     ensures { IfOk result (IsTutte g.now) }
 {
     let nodes = nodes_of(alloc, comps, ranks, parents, least)?;
-    let tree = Tree::of(alloc, nodes, g.edge_count())?;
-    Ok(tree)
+    let tour = toured(alloc, &nodes, g.edge_count())?;
+    Ok(Tree {
+        nodes,
+        places: tour.places,
+        bounds: tour.bounds,
+    })
 }
 
 // The tree of components that are arranged.
@@ -90,8 +95,7 @@ fn tree_of(
     ensures { IfOk result (IsTutte g.now) }
 {
     let (parents, least) = rooted(alloc, g, comps)?;
-    let tree = finish(alloc, g, comps, ranks, &parents, &least)?;
-    Ok(tree)
+    finish(alloc, g, comps, ranks, &parents, &least)
 }
 
 impl Tree {
@@ -104,7 +108,6 @@ impl Tree {
         ensures { IfOk result (IsTutte g.now) }
     {
         let (comps, ranks) = arrange(alloc, g, c.list.as_slice())?;
-        let tree = tree_of(alloc, g, &comps, &ranks)?;
-        Ok(tree)
+        tree_of(alloc, g, &comps, &ranks)
     }
 }

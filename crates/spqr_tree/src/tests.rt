@@ -1,318 +1,216 @@
-// Small blocks and their split components, worked out by hand, under each rotation of the list of edges; and their trees.
+// Small blocks, worked out by hand: their split components under each rotation of the list of edges, their trees and the groups
+// of all edges at each node.
 
-ghost use Rattle.std.specs.Prelude.{◌≤◌, length};
+ghost use Rattle.std.specs.Prelude.{◌<◌, length, IfOk};
+ghost use Rattle.graph_theory.specs.Block.{IsOneBlock};
+ghost use Rattle.pair_split.specs.Tutte.{IsTutte};
 
 use crate::Tree;
 use blocks::is_one_block;
 use multigraph::Graph;
-use pair_split::{Comp, Comps, Kind, PairSplitter, Piece, Splitter};
+use pair_split::{Comp, Item, PairSplitter, Splitter, What};
 use std::alloc::{AllocError, Global};
 use std::test::Fail;
 
-type Ends<'a> = &'a [(u32, u32)];
-
-// A component that is expected: its kind, how many pieces it has, and its vertices.
-struct Expected {
-    kind: Kind,
-    pieces: usize,
-    vertices: &'static [u32],
-}
-
-// A block by the ends of its edges, and its components.
-struct Row {
-    vertices: u32,
-    ends: &'static [(u32, u32)],
-    components: &'static [Expected],
-}
-
-// Whether v is an end of one of the pieces.
-fn has_vertex(pieces: &[Piece], v: u32) -> bool {
-    pieces.iter().any(|piece| piece.a == v || piece.b == v)
-}
-
-// Whether all ends of the pieces are among the vertices.
-fn are_within(pieces: &[Piece], vertices: &[u32]) -> bool {
-    for piece in pieces {
-        if !vertices.contains(&piece.a) || !vertices.contains(&piece.b) {
-            return false;
-        }
-    }
-    true
-}
-
-// Whether the component is as expected.
-fn matches(found: &Comp, expected: &Expected) -> bool {
-    let pieces = found.items.as_slice();
-    for v in expected.vertices {
-        if !has_vertex(pieces, *v) {
-            return false;
-        }
-    }
-    found.kind == expected.kind
-        && pieces.len() == expected.pieces
-        && are_within(pieces, expected.vertices)
-}
-
-// Whether some component is as expected.
-fn is_found(found: &[Comp], expected: &Expected) -> bool {
-    for comp in found {
-        if matches(comp, expected) {
-            return true;
-        }
-    }
-    false
-}
-
-// The components of the block of these edges; nothing where it is no block.
-fn components_of(alloc: Global, vertices: u32, ends: Ends<'_>) -> Result<Option<Comps>, Fail> {
-    let Ok(graph) = Graph::build(alloc, vertices, ends) else {
-        return Err(Fail::from("no graph"));
-    };
-    if !is_one_block(alloc, &graph)? {
-        return Ok(None);
-    }
-    Ok(Some(PairSplitter::new().split(alloc, &graph)?))
-}
-
-// The list turned so that it begins with the edge at `first`.
-fn turned(alloc: Global, ends: Ends<'_>, first: usize) -> Result<Vec<(u32, u32)>, AllocError>
-    requires { first ≤ length ends.now }
-{
-    let mut list = Vec::from_slice(alloc, &ends[first..])?;
-    list.extend_from_slice(&ends[..first])?;
-    Ok(list)
-}
-
-// Whether the components under one rotation of the list of edges are as expected.
-fn is_as_expected(alloc: Global, row: &Row, first: usize) -> Result<bool, Fail>
-    requires { first ≤ length row.now.ends.now }
-{
-    let ends = turned(alloc, row.ends, first)?;
-    let Some(comps) = components_of(alloc, row.vertices, &ends)? else {
-        return Ok(false);
-    };
-    let found = comps.list.as_slice();
-    for expected in row.components {
-        if !is_found(found, expected) {
-            return Ok(false);
-        }
-    }
-    Ok(found.len() == row.components.len())
-}
+// A block by its number of vertices and the ends of its edges, a digit for each; and its components, each by its kind, how many
+// pieces it has, and its vertices.
+type Row = (u32, &'static str, &'static [&'static str]);
 
 static ROWS: [Row; 9] = [
     // two bundles, a triangle and a triconnected graph
-    Row {
-        vertices: 5,
-        ends: &[
-            (0, 1),
-            (0, 2),
-            (0, 3),
-            (1, 4),
-            (1, 3),
-            (2, 3),
-            (4, 2),
-            (0, 2),
-            (4, 2),
-        ],
-        components: &[
-            Expected {
-                kind: Kind::P,
-                pieces: 3,
-                vertices: &[0, 2],
-            },
-            Expected {
-                kind: Kind::P,
-                pieces: 3,
-                vertices: &[2, 4],
-            },
-            Expected {
-                kind: Kind::S,
-                pieces: 3,
-                vertices: &[1, 2, 4],
-            },
-            Expected {
-                kind: Kind::R,
-                pieces: 6,
-                vertices: &[0, 1, 2, 3],
-            },
-        ],
-    },
+    (
+        5,
+        "01 02 03 14 13 23 42 02 42",
+        &["P3 02", "P3 24", "S3 124", "R6 0123"],
+    ),
     // the complete graph on four vertices
-    Row {
-        vertices: 4,
-        ends: &[(0, 1), (0, 2), (0, 3), (1, 2), (1, 3), (2, 3)],
-        components: &[Expected {
-            kind: Kind::R,
-            pieces: 6,
-            vertices: &[0, 1, 2, 3],
-        }],
-    },
+    (4, "01 02 03 12 13 23", &["R6 0123"]),
     // a square with a chord
-    Row {
-        vertices: 4,
-        ends: &[(0, 1), (1, 2), (2, 3), (3, 0), (0, 2)],
-        components: &[
-            Expected {
-                kind: Kind::S,
-                pieces: 3,
-                vertices: &[0, 1, 2],
-            },
-            Expected {
-                kind: Kind::S,
-                pieces: 3,
-                vertices: &[0, 2, 3],
-            },
-            Expected {
-                kind: Kind::P,
-                pieces: 3,
-                vertices: &[0, 2],
-            },
-        ],
-    },
+    (4, "01 12 23 30 02", &["S3 012", "S3 023", "P3 02"]),
     // three paths of two edges between two vertices
-    Row {
-        vertices: 5,
-        ends: &[(0, 2), (1, 2), (0, 3), (1, 3), (0, 4), (1, 4)],
-        components: &[
-            Expected {
-                kind: Kind::S,
-                pieces: 3,
-                vertices: &[0, 1, 2],
-            },
-            Expected {
-                kind: Kind::S,
-                pieces: 3,
-                vertices: &[0, 1, 3],
-            },
-            Expected {
-                kind: Kind::S,
-                pieces: 3,
-                vertices: &[0, 1, 4],
-            },
-            Expected {
-                kind: Kind::P,
-                pieces: 3,
-                vertices: &[0, 1],
-            },
-        ],
-    },
+    (
+        5,
+        "02 12 03 13 04 14",
+        &["S3 012", "S3 013", "S3 014", "P3 01"],
+    ),
     // three parallel edges, one edge, and two
-    Row {
-        vertices: 2,
-        ends: &[(0, 1), (1, 0), (0, 1)],
-        components: &[Expected {
-            kind: Kind::P,
-            pieces: 3,
-            vertices: &[0, 1],
-        }],
-    },
-    Row {
-        vertices: 2,
-        ends: &[(0, 1)],
-        components: &[Expected {
-            kind: Kind::B,
-            pieces: 1,
-            vertices: &[0, 1],
-        }],
-    },
-    Row {
-        vertices: 2,
-        ends: &[(0, 1), (1, 0)],
-        components: &[Expected {
-            kind: Kind::B,
-            pieces: 2,
-            vertices: &[0, 1],
-        }],
-    },
+    (2, "01 10 01", &["P3 01"]),
+    (2, "01", &["B1 01"]),
+    (2, "01 10", &["B2 01"]),
     // two complete graphs on four vertices that share an edge
-    Row {
-        vertices: 6,
-        ends: &[
-            (0, 1),
-            (0, 2),
-            (0, 3),
-            (1, 2),
-            (1, 3),
-            (2, 3),
-            (0, 4),
-            (0, 5),
-            (1, 4),
-            (1, 5),
-            (4, 5),
-        ],
-        components: &[
-            Expected {
-                kind: Kind::R,
-                pieces: 6,
-                vertices: &[0, 1, 2, 3],
-            },
-            Expected {
-                kind: Kind::R,
-                pieces: 6,
-                vertices: &[0, 1, 4, 5],
-            },
-            Expected {
-                kind: Kind::P,
-                pieces: 3,
-                vertices: &[0, 1],
-            },
-        ],
-    },
+    (
+        6,
+        "01 02 03 12 13 23 04 05 14 15 45",
+        &["R6 0123", "R6 0145", "P3 01"],
+    ),
     // a triangle
-    Row {
-        vertices: 3,
-        ends: &[(0, 1), (1, 2), (2, 0)],
-        components: &[Expected {
-            kind: Kind::S,
-            pieces: 3,
-            vertices: &[0, 1, 2],
-        }],
-    },
+    (3, "01 12 20", &["S3 012"]),
 ];
 
-#[test]
-fn splits_worked_rows(rt: HostRuntime) -> Result<(), Fail> {
-    for row in &ROWS {
-        for first in 0..row.ends.len() {
-            assert!(rt; is_as_expected(rt.alloc(), row, first)?);
+// The ends of the edges, from the edge at `first` on.
+fn ends_of(alloc: Global, text: &str, first: usize) -> Result<Vec<(u32, u32)>, AllocError> {
+    let mut ends = Vec::new(alloc);
+    for word in text.split(' ') {
+        if let [a, b] = word.as_bytes() {
+            ends.push((a.wrapping_sub(b'0') as u32, b.wrapping_sub(b'0') as u32))?;
         }
     }
-    Ok(())
+    ends.rotate_left(first.min(ends.len()));
+    Ok(ends)
 }
 
-// The nodes of the tree of the block of these edges, which is copied first: of each its vertices, and a bar.
-fn described(alloc: Global, vertices: u32, ends: Ends<'_>) -> Result<Vec<u32>, Fail> {
-    let Ok(graph) = Graph::build(alloc, vertices, ends) else {
+// The graph of these edges, where it is one block.
+fn block_of(alloc: Global, n: u32, ends: &[(u32, u32)]) -> Result<Graph, Fail>
+    ensures { IfOk result IsOneBlock }
+{
+    let Ok(graph) = Graph::build(alloc, n, ends) else {
         return Err(Fail::from("no graph"));
     };
     if !is_one_block(alloc, &graph)? {
         return Err(Fail::from("no block"));
     }
-    let comps = PairSplitter::new().split(alloc, &graph)?;
-    let tree = Tree::assemble(alloc, &graph, comps)?.copy(alloc)?;
-    let mut nodes = Vec::new(alloc);
-    for k in 0..tree.node_count() {
-        nodes.extend_from_slice(tree.vertices(k))?;
-        nodes.push(BAR)?;
-    }
-    Ok(nodes)
+    Ok(graph)
 }
 
-const BAR: u32 = 99;
+// A component as in the rows.
+fn comp_text(alloc: Global, comp: &Comp) -> Result<String, AllocError> {
+    let pieces = comp.items.as_slice();
+    let mut text = format!(in alloc; "{:?}{} ", comp.kind, pieces.len())?;
+    for v in 0..10 {
+        if pieces.iter().any(|piece| piece.a == v || piece.b == v) {
+            text.push_str(format!(in alloc; "{v}")?.as_str())?;
+        }
+    }
+    Ok(text)
+}
 
-// A cycle of four edges is one polygon; a chord makes two triangles and a bond of it.
+#[test]
+fn splits_worked_rows(rt: HostRuntime) -> Result<(), Fail> {
+    for (n, text, expected) in &ROWS {
+        for first in 0..text.len().div_ceil(3) {
+            let ends = ends_of(rt.alloc(), text, first)?;
+            let graph = block_of(rt.alloc(), *n, &ends)?;
+            let comps = PairSplitter::new().split(rt.alloc(), &graph)?;
+            let mut found = Vec::new(rt.alloc());
+            for comp in comps.list.as_slice() {
+                found.push(comp_text(rt.alloc(), comp)?)?;
+            }
+            assert_eq!(rt; found.len(), expected.len());
+            for text in *expected {
+                assert!(rt; found.iter().any(|comp| comp.as_str() == *text));
+            }
+        }
+    }
+    Ok(())
+}
+
+// A block, the nodes of its tree, and for each node the keys of the groups of all edges.
+type TreeRow = (
+    u32,
+    &'static str,
+    &'static [&'static str],
+    &'static [&'static [u32]],
+);
+
+static TREES: [TreeRow; 5] = [
+    (2, "01", &["B 0 1 | 0:0-1"], &[&[0]]),
+    // a cycle of four edges, which is one polygon; a chord makes two triangles and a bond of it
+    (
+        4,
+        "01 12 23 30",
+        &["S 0 1 2 3 | 0:0-1 1:1-2 2:2-3 3:0-3"],
+        &[&[0, 1, 2, 3]],
+    ),
+    (
+        4,
+        "01 12 23 30 02",
+        &[
+            "S 0 1 2 | 0:0-1 1:1-2 2:0-2@1",
+            "P 0 2 | 0:0-2@0 2:0-2@2 4:0-2",
+            "S 0 2 3 | 0:0-2@1 2:2-3 3:0-3",
+        ],
+        &[&[0, 1, 2, 2, 2], &[0, 0, 2, 2, 4], &[0, 0, 2, 3, 0]],
+    ),
+    // two edges and a path of two between two vertices
+    (
+        3,
+        "01 01 12 20",
+        &[
+            "P 0 1 | 0:0-1 1:0-1 2:0-1@1",
+            "S 0 1 2 | 0:0-1@0 2:1-2 3:0-2",
+        ],
+        &[&[0, 1, 2, 2], &[0, 0, 2, 3]],
+    ),
+    // two complete graphs on four vertices that share an edge
+    (
+        6,
+        "01 02 03 12 13 23 04 05 14 15 45",
+        &[
+            "P 0 1 | 0:0-1 1:0-1@1 6:0-1@2",
+            "R 0 1 2 3 | 0:0-1@0 1:0-2 2:0-3 3:1-2 4:1-3 5:2-3",
+            "R 0 1 4 5 | 0:0-1@0 6:0-4 7:0-5 8:1-4 9:1-5 10:4-5",
+        ],
+        &[
+            &[0, 1, 1, 1, 1, 1, 6, 6, 6, 6, 6],
+            &[0, 1, 2, 3, 4, 5, 0, 0, 0, 0, 0],
+            &[0, 0, 0, 0, 0, 0, 6, 7, 8, 9, 10],
+        ],
+    ),
+];
+
+// An item, with a blank before it.
+fn item_text(alloc: Global, item: &Item) -> Result<String, AllocError> {
+    match item.what {
+        What::Real(_) => format!(in alloc; " {}:{}-{}", item.key, item.a, item.b),
+        What::Link(j) => format!(in alloc; " {}:{}-{}@{j}", item.key, item.a, item.b),
+    }
+}
+
+// Node k: its kind, its vertices, and its items.
+fn node_text(alloc: Global, tree: &Tree, k: u32) -> Result<String, AllocError>
+    requires { k < length tree.now }
+{
+    let mut text = format!(in alloc; "{:?}", tree.kind(k))?;
+    for v in tree.vertices(k) {
+        text.push_str(format!(in alloc; " {v}")?.as_str())?;
+    }
+    text.push_str(" |")?;
+    for item in tree.items(k) {
+        text.push_str(item_text(alloc, item)?.as_str())?;
+    }
+    Ok(text)
+}
+
+// The keys of the groups of all edges at node k.
+fn groups_at(alloc: Global, graph: &Graph, tree: &Tree, k: u32) -> Result<Vec<u32>, AllocError>
+    requires node { k < length tree.now }
+    requires tree { IsTutte graph.now tree.now }
+{
+    let mut keys = Vec::new(alloc);
+    for e in 0..graph.edge_count() {
+        keys.push(tree.group(k, e))?;
+    }
+    Ok(keys)
+}
+
+// The tree is as in the row, and so is a copy of it.
 #[test]
 fn assembles_trees(rt: HostRuntime) -> Result<(), Fail> {
-    let rows: [(&[(u32, u32)], &[u32]); 2] = [
-        (&[(0, 1), (1, 2), (2, 3), (3, 0)], &[0, 1, 2, 3, BAR]),
-        (
-            &[(0, 1), (1, 2), (2, 3), (3, 0), (0, 2)],
-            &[0, 1, 2, BAR, 0, 2, BAR, 0, 2, 3, BAR],
-        ),
-    ];
-    for (ends, nodes) in rows {
-        assert_eq!(rt; described(rt.alloc(), 4, ends)?.as_slice(), nodes);
+    for (n, text, nodes, groups) in &TREES {
+        let ends = ends_of(rt.alloc(), text, 0)?;
+        let graph = block_of(rt.alloc(), *n, &ends)?;
+        let comps = PairSplitter::new().split(rt.alloc(), &graph)?;
+        let tree = Tree::assemble(rt.alloc(), &graph, comps)?;
+        let copy = tree.copy(rt.alloc())?;
+        assert_eq!(rt; tree.node_count() as usize, nodes.len());
+        for k in 0..tree.node_count() {
+            let node = nodes.get(k as usize).copied().unwrap_or("");
+            let keys = groups.get(k as usize).copied().unwrap_or(&[]);
+            assert_eq!(rt; node_text(rt.alloc(), &tree, k)?.as_str(), node);
+            assert_eq!(rt; node_text(rt.alloc(), &copy, k)?.as_str(), node);
+            assert_eq!(rt; groups_at(rt.alloc(), &graph, &tree, k)?.as_slice(), keys);
+            assert_eq!(rt; groups_at(rt.alloc(), &graph, &copy, k)?.as_slice(), keys);
+        }
     }
     Ok(())
 }

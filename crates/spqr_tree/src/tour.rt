@@ -94,15 +94,7 @@ impl Tour {
         Ok(())
     }
 
-    // The items of the node.
-    fn items<'a>(&self, nodes: &'a [TreeNode]) -> &'a [Item]
-        requires { self.now.at < length nodes.now }
-        ensures { result.now ≡ (node_at nodes.now self.now.at).items }
-    {
-        items_at(nodes, self.at)
-    }
-
-    // The place of the item that is entered next, among these.
+    // The place of the item that is entered next, among those of the node.
     fn next(&self) -> usize
         requires { self.now.at < length self.now.bounds }
         ensures { result ≡ bound_count self.now.bounds self.now.at }
@@ -120,13 +112,6 @@ impl Tour {
         self.met += 1;
     }
 
-    // Goes to node k.
-    fn go(&mut self, k: u32)
-        ensures { self.new ≡ record { at = k; met = self.old.met; places = self.old.places; bounds = self.old.bounds } }
-    {
-        self.at = k;
-    }
-
     // Notes a bound of the node, and enters its next item, or leaves it where there is none; whether the walk is at its end.
     fn step(&mut self, nodes: &[TreeNode]) -> Result<bool, AllocError>
         requires tree { (g : Multigraph) × IsTutte g nodes.now × (0 < edge_count g) }
@@ -136,19 +121,19 @@ impl Tour {
         ensures toured { IfOk result (λ done. done ≡ true → AreToured nodes.now self.new.places self.new.bounds) }
     {
         self.note()?;
-        let items = self.items(nodes);
+        let items = items_at(nodes, self.at);
         let next = self.next();
         if next < items.len() {
             match items[next].what {
                 What::Real(e) => self.meet(e),
-                What::Link(j) => self.go(j),
+                What::Link(j) => self.at = j,
             }
             return Ok(false);
         }
         match items[0].what {
             What::Real(_) => Ok(true),
             What::Link(p) => {
-                self.go(p);
+                self.at = p;
                 Ok(false)
             }
         }

@@ -6,7 +6,6 @@ ghost use Rattle.multigraph.specs.Graph.{Multigraph, IsGraph, edge_count};
 ghost use Rattle.pair_split.specs.Tutte.{node_at, group, IsTutte};
 
 use crate::lists::ItemList;
-use crate::tour::toured;
 use multigraph::Numbers;
 use pair_split::{Item, Kind};
 use std::alloc::{AllocError, Global};
@@ -33,9 +32,9 @@ impl Model for TreeNode {
 /// Beside the nodes it keeps the places of the edges on a walk round the tree, and between which of them each group stands.
 #[derive(Debug, Drop)]
 pub struct Tree {
-    nodes: Vec<TreeNode>,
-    places: Vec<u32>,
-    bounds: Vec<Numbers>,
+    pub(crate) nodes: Vec<TreeNode>,
+    pub(crate) places: Vec<u32>,
+    pub(crate) bounds: Vec<Numbers>,
 }
 
 impl Model for Tree {
@@ -95,20 +94,6 @@ impl Tree {
             // Behind all bounds: beyond the first item, whose key is 0.
             None => 0,
         }
-    }
-
-    // The tree of these nodes, of a graph with m edges.
-    pub(crate) fn of(alloc: Global, nodes: Vec<TreeNode>, m: u32) -> Result<Tree, AllocError>
-        requires few { length nodes.items < 2 ^ 32 }
-        requires tree { (g : Multigraph) × IsTutte g nodes.items × (0 < edge_count g) × (m ≡ edge_count g) }
-        ensures { IfOk result (λ tree. tree ≡ nodes.items) }
-    {
-        let tour = toured(alloc, &nodes, m)?;
-        Ok(Tree {
-            nodes,
-            places: tour.places,
-            bounds: tour.bounds,
-        })
     }
 
     /// A copy of the tree.

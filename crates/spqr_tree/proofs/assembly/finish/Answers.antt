@@ -17,13 +17,13 @@ pub nodes_of-requires-clause-apart : goal.nodes_of-requires-clause-apart
 nodes_of-requires-clause-apart c = λ k l. rooted-apart c.args.g.now c.args.comps.now c.requires.arranged.split (one_block-tight c.args.g.now c.requires.block) c.args.parents.now c.args.least.now c.requires.rooted k
 
 -- the nodes are the tree
-pub of-requires-clause-tree : goal.of-requires-clause-tree
-of-requires-clause-tree c = (
+pub toured-requires-clause-tree : goal.toured-requires-clause-tree
+toured-requires-clause-tree c = (
   c.args.g.now,
-  tutte-made c.args.g.now c.args.comps.now (ranks_of c.args.ranks.now) c.args.parents.now c.args.least.now c.in_ok-nodes.nodes.items c.requires.block c.requires.arranged c.requires.rooted c.in_ok-nodes.ensures.nodes c.in_ok-nodes.ensures.keys,
+  subst (λ (t : List Node). IsTutte c.args.g.now t) (sym c.deref.ensures.value) (tutte-made c.args.g.now c.args.comps.now (ranks_of c.args.ranks.now) c.args.parents.now c.args.least.now c.in_ok-nodes.nodes.items c.requires.block c.requires.arranged c.requires.rooted c.in_ok-nodes.ensures.nodes c.in_ok-nodes.ensures.keys),
   c.requires.block.has_edge,
   c.edge_count.ensures.value,
 )
 
 pub returns : goal.returns
-returns c = subst (λ (t : List Node). IsTutte c.args.g.now t) (sym c.in_ok-tree.ensures) (tutte-made c.args.g.now c.args.comps.now (ranks_of c.args.ranks.now) c.args.parents.now c.args.least.now c.in_ok-nodes.nodes.items c.requires.block c.requires.arranged c.requires.rooted c.in_ok-nodes.ensures.nodes c.in_ok-nodes.ensures.keys)
+returns c = tutte-made c.args.g.now c.args.comps.now (ranks_of c.args.ranks.now) c.args.parents.now c.args.least.now c.in_ok-nodes.nodes.items c.requires.block c.requires.arranged c.requires.rooted c.in_ok-nodes.ensures.nodes c.in_ok-nodes.ensures.keys

@@ -1,4 +1,4 @@
-use Rattle.std.proofs.Common.{List, length, subst, sym, arith}
+use Rattle.std.proofs.Common.{subst, arith}
 use Rattle.spqr_tree.specs.Tour.{HasBegun}
 use Rattle.spqr_tree.proofs.UpLinks.{edge-within}
 use Rattle.spqr_tree.proofs.Touring.{tour-begins}

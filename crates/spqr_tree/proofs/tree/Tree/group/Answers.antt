@@ -1,5 +1,5 @@
-use Rattle.std.proofs.Common.{◌≡◌, ◌<◌, ℕ, List, [], length, slice_index_or, subst, sym, ap, ◌∙◌, arith}
-use Rattle.std.proofs.lemmas.List.{get_or_read, get_or_default}
+use Rattle.std.proofs.Common.{◌≡◌, ◌<◌, ℕ, List, [], length, subst, sym, ◌∙◌, arith}
+use Rattle.std.proofs.lemmas.List.{get_or_read}
 use Rattle.std.specs.List.Sorted.{IsNonDecreasingBy}
 use Rattle.multigraph.specs.Graph.{edge_count}
 use Rattle.pair_split.specs.Tutte.{Node}
