@@ -1,4 +1,4 @@
-use Rattle.std.proofs.Common.{sym, ◌∙◌, subst}
+use Rattle.std.proofs.Common.{IfOk, sym, ◌∙◌, subst}
 use Rattle.multigraph.specs.Graph.{IsGraph}
 use Rattle.graph_theory.specs.Block.{IsOneBlock}
 use Rattle.kuratowski.specs.Subdivision.{IsWritten}
@@ -8,6 +8,7 @@ use Rattle.made_graph.specs.Made.{made}
 use Rattle.made_graph.specs.Laws.{HasFork}
 use Rattle.made_graph.proofs.Growth.{made-planar}
 use Rattle.made_graph.proofs.Forks.{made-fork}
+use Rattle.made_summary.specs.Summary.{IsSummary}
 use Rattle.made_summary.proofs.summing.summary.Goals as goal
 
 pub split-requires : goal.split-requires
@@ -34,3 +35,8 @@ unreachable-requires g c =
     let outcome = subst (IsOutcome c.in_ok-graph.graph c.in_ok-tree.tree) c.in-Not.is c.in_ok-block.ensures in
     let written = subst (λ h. IsWritten h s.kind s.branch s.paths) c.in_ok-graph.ensures outcome.2 in
     subdivision-excludes (made c.args.n c.args.seed) planar.system planar.is_graph planar.is_system planar.plane s.kind s.branch s.paths written.subdivision
+
+pub returns : goal.returns
+returns g c =
+    let outcome = subst (IsOutcome c.in_ok-graph.graph c.in_ok-tree.tree) c.in-Plane.is c.in_ok-block.ensures in
+    subst (λ h. IfOk c.summary_of.result (λ text. IsSummary h text.items)) (outcome.0 ∙ c.in_ok-graph.ensures) c.summary_of.ensures
