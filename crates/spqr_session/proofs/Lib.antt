@@ -13,3 +13,7 @@ pub mod GmlCarried
 pub mod BlockCarried
 pub mod Chains
 pub mod Steps
+pub mod Grouped
+pub mod Moved
+pub mod Walks
+mod MovedExamples
