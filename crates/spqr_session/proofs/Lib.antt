@@ -17,3 +17,4 @@ pub mod Grouped
 pub mod Moved
 pub mod Walks
 mod MovedExamples
+pub mod Families
