@@ -10,7 +10,11 @@ pub mod Arranging
 pub mod Carried
 pub mod EulerCarried
 pub mod GmlCarried
+pub mod Ladders
 pub mod BlockCarried
+pub mod Changes
+pub mod MovesCarried
+pub mod HistoryCarried
 pub mod Chains
 pub mod Steps
 pub mod Grouped

@@ -9,6 +9,7 @@ pub mod History
 pub mod Board
 pub mod Codes
 pub mod BlockCodes
+pub mod Members
 pub mod Commands
 pub mod Step
 pub mod Head
