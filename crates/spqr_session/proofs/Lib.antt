@@ -15,6 +15,8 @@ pub mod BlockCarried
 pub mod Changes
 pub mod MovesCarried
 pub mod HistoryCarried
+pub mod MembersCarried
+pub mod Planes
 pub mod Chains
 pub mod Steps
 pub mod Grouped

@@ -47,15 +47,21 @@ abbrev pub is_planar : Option Embedding → Bool
 is_planar None = false
 is_planar (Some e) = true
 
--- code 1: there is no such block; code 5: it is not planar
-abbrev pub block_ladder : List BlockTree → ℕ → State → Ladder
-block_ladder trees b s = (NoBlock, not (is_block trees b)) ∷ (NonPlanar, not (is_planar (entry_at s.present b))) ∷ []
+-- code 5: a block with this entry is not planar
+abbrev pub planar_codes : Option Embedding → Ladder
+planar_codes entry = (NonPlanar, not (is_planar entry)) ∷ []
 
--- codes 1 and 5, and between them 2: there is no such node; 3: its kind does not suit
+-- code 1: there is no such block; and code 5
+abbrev pub block_ladder : List BlockTree → ℕ → State → Ladder
+block_ladder trees b s = (NoBlock, not (is_block trees b)) ∷ planar_codes (entry_at s.present b)
+
+-- code 2: the tree has no such node; 3: its kind does not suit; and 5
+abbrev pub node_codes : (Kind → Bool) → ℕ → BlockTree → Option Embedding → Ladder
+node_codes suits k tree entry = (NoNode, not (is_node tree k)) ∷ (WrongKind, not (suits (kind_of tree k))) ∷ planar_codes entry
+
+-- code 1, and these
 abbrev pub node_ladder : (Kind → Bool) → List BlockTree → ℕ → ℕ → State → Ladder
-node_ladder suits trees b k s =
-    (NoBlock, not (is_block trees b)) ∷ (NoNode, not (is_node (tree_at trees b) k)) ∷ (WrongKind, not (suits (kind_of (tree_at trees b) k)))
-    ∷ (NonPlanar, not (is_planar (entry_at s.present b))) ∷ []
+node_ladder suits trees b k s = (NoBlock, not (is_block trees b)) ∷ node_codes suits k (tree_at trees b) (entry_at s.present b)
 
 -- the codes that an embedding brings with it; a block without one brings none
 abbrev pub of_entry : (Embedding → Ladder) → Option Embedding → Ladder
@@ -89,9 +95,13 @@ pub record ChangesBlock (trees : List BlockTree) (b : ℕ) (IsChange : BlockTree
 abbrev pub Silently : (BlockTree → Embedding → Embedding → Type 0) → BlockTree → Embedding → Embedding → List ℕ → Type 0
 Silently IsChange tree old new text = IsChange tree old new × (text ≡ ok_text)
 
--- the ladder of a command that only reads: codes 1 and 5, and those that the embedding brings
+-- code 5, and the codes that the embedding brings
+abbrev pub entry_codes : (BlockTree → Embedding → Ladder) → BlockTree → Option Embedding → Ladder
+entry_codes more tree entry = planar_codes entry ++ of_entry (more tree) entry
+
+-- code 1, and these
 abbrev pub read_ladder : (BlockTree → Embedding → Ladder) → List BlockTree → ℕ → State → Ladder
-read_ladder more trees b s = block_ladder trees b s ++ of_entry (more (tree_at trees b)) (entry_at s.present b)
+read_ladder more trees b s = (NoBlock, not (is_block trees b)) ∷ entry_codes more (tree_at trees b) (entry_at s.present b)
 
 -- one step of a command that only reads: refused where a code of its ladder applies, else it answers about the block
 abbrev pub ReadStep : (BlockTree → Embedding → Ladder) → (BlockTree → Embedding → List ℕ → Type 0) → List BlockTree → ℕ → State → List ℕ → State → Type 0

@@ -6,7 +6,7 @@ use spqr_script::error_line;
 use std::alloc::{AllocError, Global};
 
 /// Why a command is refused.
-#[derive(Clone, Copy)]
+#[derive(Clone, Copy, Debug)]
 pub enum Code {
     /// 1: a number is no block.
     NoBlock,

@@ -1,9 +1,11 @@
 // The commands: a file for each, with the function that carries it out.
+mod count;
 mod euler;
 mod gml;
 mod show;
 mod traced;
 
+pub(crate) use count::{carry_count, carry_rank};
 pub(crate) use euler::carry_euler;
 pub(crate) use gml::carry_gml;
 pub(crate) use show::carry_show;

@@ -1,17 +1,21 @@
 -- `mirror B`: the mirror image of the present rotation system of a block.
-use Rattle.std.specs.Prelude.{◌≡◌, ℕ, List, [], ◌∷◌, length}
+use Rattle.std.specs.Prelude.{◌≡◌, ℕ, Bool, ◌&&◌, List, [], ◌∷◌, length}
 use Rattle.permutations.specs.Count.{some, least}
 use Rattle.faces.specs.Maps.{mirror_image}
 use Rattle.skel_embed.specs.Block.{lock_at}
 use Rattle.spqr_session.specs.Trees.{BlockTree}
 use Rattle.spqr_session.specs.State.{Embedding, State}
 use Rattle.spqr_session.specs.Codes.{Ladder}
-use Rattle.spqr_session.specs.BlockCodes.{read_ladder, Silently, ChangeStep}
+use Rattle.spqr_session.specs.BlockCodes.{has_choices, kind_of, read_ladder, Silently, ChangeStep}
 use Rattle.spqr_session.specs.declared.code.Code.TheVariants.{Locked}
 
--- code 12: a node is locked, and this is the least
+-- whether node k is locked and has choices
+abbrev pub is_held : BlockTree → Embedding → ℕ → Bool
+is_held tree e k = lock_at e.locks k && has_choices (kind_of tree k)
+
+-- code 12: such a node is locked, and this is the least
 abbrev pub mirror_codes : BlockTree → Embedding → Ladder
-mirror_codes tree e = (Locked (least (length tree.nodes) (lock_at e.locks)), some (length tree.nodes) (lock_at e.locks)) ∷ []
+mirror_codes tree e = (Locked (least (length tree.nodes) (is_held tree e)), some (length tree.nodes) (is_held tree e)) ∷ []
 
 -- each cyclic order is reversed; locks stay
 pub record IsMirrored (tree : BlockTree) (old new : Embedding) : Type 0 where

@@ -1,5 +1,5 @@
 -- `permute B K KEYS`: the groups of a bond of a block are put in the order of keys.
-use Rattle.std.specs.Prelude.{◌≡◌, ℕ, Bool, ◌&&◌, ◌==◌, not, List, [], ◌∷◌, ◌++◌, length, map, slice_index}
+use Rattle.std.specs.Prelude.{◌≡◌, ℕ, Bool, ◌&&◌, ◌==◌, not, List, [], ◌∷◌, ◌++◌, length, map, slice_index, Option}
 use Rattle.std.specs.List.{list_all}
 use Rattle.permutations.specs.Count.{least}
 use Rattle.permutations.specs.Members.{is_member, is_distinct}
@@ -19,12 +19,15 @@ is_arrangement given list = is_distinct list && list_all (λ x. is_member x give
 abbrev pub outer_edges : BlockTree → List ℕ → List ℕ
 outer_edges tree edges = map (slice_index tree.part.edges) edges
 
--- codes 1, 2, 3; 4: the keys are no arrangement of the node's keys; 5 and 12
+-- codes 2 and 3; 4: the keys are no arrangement of the node's keys; 5 and 12
+abbrev pub permute_codes : ℕ → List ℕ → BlockTree → Option Embedding → Ladder
+permute_codes k keys tree entry =
+    (NoNode, not (is_node tree k)) ∷ (WrongKind, not (is_bond (kind_of tree k))) ∷ (BadOrder, not (is_arrangement (outer_edges tree (node_keys tree.nodes k)) keys))
+    ∷ (NonPlanar, not (is_planar entry)) ∷ of_entry (lock_codes k) entry
+
+-- code 1, and these
 abbrev pub permute_ladder : List BlockTree → ℕ → ℕ → List ℕ → State → Ladder
-permute_ladder trees b k keys s =
-    (NoBlock, not (is_block trees b)) ∷ (NoNode, not (is_node (tree_at trees b) k)) ∷ (WrongKind, not (is_bond (kind_of (tree_at trees b) k)))
-    ∷ (BadOrder, not (is_arrangement (outer_edges (tree_at trees b) (node_keys (tree_at trees b).nodes k)) keys)) ∷ (NonPlanar, not (is_planar (entry_at s.present b)))
-    ∷ of_entry (lock_codes k) (entry_at s.present b)
+permute_ladder trees b k keys s = (NoBlock, not (is_block trees b)) ∷ permute_codes k keys (tree_at trees b) (entry_at s.present b)
 
 -- numbers of edges of the whole graph as those of the block
 abbrev pub inner_edges : BlockTree → List ℕ → List ℕ

@@ -1,0 +1,3 @@
+-- Lists of plane rotation systems, and places in them.
+pub mod Walk
+pub mod Digits
