@@ -122,8 +122,8 @@ behind-all zero radix digit = refl
 behind-all (suc n) radix digit = ap₂ (λ u z. u * radix z + digit z) (behind-all n radix digit) (omega arith)
 
 -- a quotient and a remainder, in place of the number
-pub behind-divided : (w k m d : ℕ) (radix digit : ℕ → ℕ) → 0 < radix k → digit k ≡ w % radix k → behind (w / radix k) k (suc m) radix digit ≡ behind w (k + 1) m radix digit
-behind-divided w k m d radix digit p e = behind-first (w / radix k) k m radix digit ∙ ap (λ z. behind z (k + 1) m radix digit) (ap (λ z. w / radix k * radix k + z) e ∙ div-add-mod' w (radix k))
+pub behind-divided : (w k m : ℕ) (radix digit : ℕ → ℕ) → 0 < radix k → digit k ≡ w % radix k → behind (w / radix k) k (suc m) radix digit ≡ behind w (k + 1) m radix digit
+behind-divided w k m radix digit p e = behind-first (w / radix k) k m radix digit ∙ ap (λ z. behind z (k + 1) m radix digit) (ap (λ z. w / radix k * radix k + z) e ∙ div-add-mod' w (radix k))
 
 -- the quotient is below the product
 pub quotient-below : (w k : ℕ) (radix : ℕ → ℕ) → 0 < radix k → w < product_to (suc k) radix → w / radix k < product_to k radix

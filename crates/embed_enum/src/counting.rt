@@ -8,9 +8,11 @@ ghost use Rattle.embed_enum.specs.Digits.{radix_at};
 
 use pair_split::Kind;
 use skel_embed::PlaneBlock;
+use thiserror::Error;
 
 /// The list has 2^128 members or more.
-#[derive(Clone, Copy, Debug, Drop, PartialEq, Eq)]
+#[derive(Debug, Drop, PartialEq, Eq, Error)]
+#[error("2^128 members or more")]
 pub struct CountOver;
 
 // n times the cyclic orders of so many items, where that is below 2^128.
