@@ -3,9 +3,10 @@
 
   trials.py N SEED               makes N, and compares the report by trying all rotation systems with the one by composing
   trials.py N SEED PROGRAM..     runs the program's words with `run GRAPH SCRIPT` on each too, and compares what it prints
+  trials.py --commands show,gml N SEED ..   the same, with scripts of these commands alone
 
 A graph has one to three blocks, some sharing a vertex, and lone vertices. A script has all commands on embeddings, most with
-numbers that fit. Files go to bench/data; the first that differs stays there."""
+numbers that fit; how often each line was printed is told at the end. Files go to bench/data; the first that differs stays there."""
 import os
 import random
 import subprocess
@@ -14,6 +15,11 @@ import sys
 import report_of
 from embeddings import is_block, numbered, rotation_total, text_of
 
+# Each as often as it is to be drawn.
+NAMES = "show faces flip flip permute permute mirror first next next list count rank goto convert convert_to take lock lock unlock undo undo redo euler gml".split()
+# Commands on a block that is not there, where more than the block is named.
+NO_BLOCK = {"flip": "flip {} 0", "lock": "lock {} 0", "unlock": "unlock {} 0", "permute": "permute {} 0 0", "list": "list {} 1",
+            "goto": "goto {} 0", "convert": "convert {} rank 0", "convert_to": "convert {} to 0: 0", "take": "take {} 0: 0"}
 DATA = os.path.join(os.path.dirname(os.path.abspath(__file__)), "data")
 HARD = ["01 02 03 04 12 13 14 23 24 34", "03 04 05 13 14 15 23 24 25", "03 04 05 13 14 15 23 24 26 65",
         "01 02 03 12 13 23 04 05 14 15 45", "02 03 12 13 23 04 05 14 15 45", "01 02 03 12 13 23", "02 12 03 13 04 14 01", "01 01 01 01"]
@@ -63,17 +69,20 @@ def given(chance, session, b):
     return "; ".join(f"{v}: {' '.join(map(str, at))}".rstrip() for v, at in sorted(order.items()))
 
 
-def line(chance, session):
+def line(chance, session, names):
     """A command for the session's state."""
     blocks = len(session.blocks)
     b = chance.randrange(blocks) if chance.random() < 0.97 else blocks
-    name = chance.choice("show faces flip flip permute permute mirror first next next list count rank goto convert convert_to take lock lock unlock undo undo redo euler".split())
-    if name in ("undo", "redo"):
+    name = chance.choice(names)
+    if name in ("undo", "redo", "gml"):
         return name
     if name == "euler":
-        return "euler " + "; ".join(f"{v}: {' '.join(map(str, chance.sample(at, len(at))))}".rstrip() for v, at in session.at.items())
+        order = {v: chance.sample(at, len(at)) for v, at in session.at.items()}
+        if chance.random() < 0.1:
+            order[chance.randrange(len(order) + 1)] = [chance.randrange(12)]
+        return "euler " + "; ".join(f"{v}: {' '.join(map(str, at))}".rstrip() for v, at in sorted(order.items()))
     if b == blocks:
-        return f"show {b}"
+        return NO_BLOCK.get(name, name + " {}").format(b)
     nodes = session.blocks[b].nodes
     k = chance.randrange(len(nodes)) if chance.random() < 0.95 else len(nodes)
     fit = [i for i, node in enumerate(nodes) if node.kind in {"flip": "R", "permute": "P"}.get(name, "PR")]
@@ -100,12 +109,12 @@ def line(chance, session):
     return f"{name} {b}"
 
 
-def script(chance, path):
+def script(chance, path, names):
     pairs = report_of.document(open(path, "rb").read())
     session = report_of.Session(*report_of.graph_of(pairs), pairs, True)
     lines = []
     for _ in range(30):
-        text = line(chance, session)
+        text = line(chance, session, names)
         lines.append(text)
         try:
             session.step(report_of.command(text))
@@ -115,29 +124,36 @@ def script(chance, path):
 
 
 def main():
-    if len(sys.argv) < 3:
+    words, names = sys.argv[1:], NAMES
+    if words[:1] == ["--commands"]:
+        wanted = words[1].split(",") if len(words) > 1 else []
+        names, words = [name for name in NAMES if name in wanted], words[2:]
+        if not names or set(wanted) - set(NAMES):
+            sys.exit(f"the commands are {', '.join(dict.fromkeys(NAMES))}")
+    if len(words) < 2:
         sys.exit(__doc__)
-    chance, program = random.Random(int(sys.argv[2])), sys.argv[3:]
+    chance, program = random.Random(int(words[1])), words[2:]
     os.makedirs(DATA, exist_ok=True)
     graph_file, script_file = os.path.join(DATA, "trial.gml"), os.path.join(DATA, "trial.spqr")
     answers = {}
-    for trial in range(int(sys.argv[1])):
+    for trial in range(int(words[0])):
         with open(graph_file, "w") as out:
             out.write(graph(chance))
         with open(script_file, "w") as out:
-            out.write(script(chance, graph_file))
+            out.write(script(chance, graph_file, names))
         lines = report_of.report(graph_file, script_file, False)
         if lines != report_of.report(graph_file, script_file, True):
             sys.exit(f"trial {trial}: the two slow ways differ on {graph_file}")
         for text in lines:
-            word = " ".join(text.split()[:2]) if text.startswith("error") else text.split()[0]
-            answers[word] = answers.get(word, 0) + 1
+            if isinstance(text, str):
+                word = " ".join(text.split()[:2]) if text.startswith("error") else text.split()[0]
+                answers[word] = answers.get(word, 0) + 1
         if program:
             done = subprocess.run(program + ["run", graph_file, script_file], stdout=subprocess.PIPE)
             wrong = report_of.compare(lines, done.stdout, graph_file)
             if done.returncode or wrong:
                 sys.exit(f"trial {trial}, status {done.returncode}: {wrong}")
-    print(f"{sys.argv[1]} trials; lines: " + ", ".join(f"{word} {count}" for word, count in sorted(answers.items())))
+    print(f"{words[0]} trials; lines: " + ", ".join(f"{word} {count}" for word, count in sorted(answers.items())))
 
 
 main()

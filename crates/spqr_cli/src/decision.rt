@@ -11,7 +11,6 @@ ghost use Rattle.spqr_cli.specs.Seen.{seen_shelf};
 use crate::halt::Halt;
 use crate::reading::read_file;
 use crate::refusal::{GraphRefusal, Refusal, ScriptRefusal};
-use spqr_session::Session;
 use crate::stages::{commands_of, document_of, graph_of};
 use crate::words::form_of;
 use contract_embed::ContractEmbedder;
@@ -21,6 +20,7 @@ use pair_split::PairSplitter;
 use quick_embed::QuickEmbedder;
 use spqr_edge::Shelf;
 use spqr_script::Command;
+use spqr_session::Session;
 use std::alloc::{AllocError, Global};
 
 // The greatest length of the graph file.

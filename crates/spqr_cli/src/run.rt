@@ -10,11 +10,11 @@ use crate::decision::{Accepted, decide};
 use crate::halt::Halt;
 use crate::laws::decisions;
 use crate::refusal::Refusal;
-use spqr_session::Session;
 use crate::status::Status;
 use crate::writing::put_text;
 use spqr_edge::{Failed, Shelf, Sink};
 use spqr_script::Command;
+use spqr_session::Session;
 use std::alloc::Global;
 
 // Writes the answers of the commands, each built whole before it is put.

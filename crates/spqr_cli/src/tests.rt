@@ -15,11 +15,12 @@ const K4_PLANE: &[u8] = b"euler 0: 0 1 2; 1: 0 4 3; 2: 1 3 5; 3: 2 5 4\n";
 
 const K4_REPORT: &[u8] =
     b"graph 4 6\nvertex 0 0\nvertex 1 1\nvertex 2 2\nvertex 3 3\nblock 0: 0 1 2 3 4 5\n\
-    node 0 R 0 1 2 3 | 0:0-1 1:0-2 2:0-3 3:1-2 4:1-3 5:2-3\neuler 4 6 4 1 plane\n";
+    node 0 R 0 1 2 3 | 0:0-1 1:0-2 2:0-3 3:1-2 4:1-3 5:2-3\n\
+    planar 0\neuler 4 6 4 1 plane\n";
 
 const K4_HEAD: &[u8] =
     b"graph 4 6\nvertex 0 0\nvertex 1 1\nvertex 2 2\nvertex 3 3\nblock 0: 0 1 2 3 4 5\n\
-    node 0 R 0 1 2 3 | 0:0-1 1:0-2 2:0-3 3:1-2 4:1-3 5:2-3\n";
+    node 0 R 0 1 2 3 | 0:0-1 1:0-2 2:0-3 3:1-2 4:1-3 5:2-3\nplanar 0\n";
 
 // The words `run g s`.
 fn run_words(alloc: Global) -> Result<Vec<String>, AllocError> {
@@ -68,14 +69,20 @@ static RUNS: [(&[u8], &[u8], Status, &[u8]); 17] = [
     (K4, K4_PLANE, Status::Done, K4_REPORT),
     (
         K4,
-        b"euler 0: 0",
+        b"show 0\nfaces 0\neuler 0: 0",
         Status::Done,
         b"graph 4 6\nvertex 0 0\nvertex 1 1\nvertex 2 2\nvertex 3 3\n\
         block 0: 0 1 2 3 4 5\nnode 0 R 0 1 2 3 | 0:0-1 1:0-2 2:0-3 3:1-2 4:1-3 5:2-3\n\
-        error 6 0\n",
+        planar 0\nrotation 0 | 0: 0 1 2; 1: 0 4 3; 2: 1 3 5; 3: 2 5 4\nfaces 0 4\nface 0-0 1-4 3-2\n\
+        face 0-1 2-3 1-0\nface 0-2 3-5 2-1\nface 1-3 2-5 3-4\nerror 6 0\n",
     ),
     (TAIL, TAIL_SCRIPT, Status::Done, TAIL_REPORT),
-    (K33_TRIANGLE, b"", Status::Done, K33_TRIANGLE_HEAD),
+    (
+        K33_TRIANGLE,
+        b"show 1\nshow 0\nfaces 0\nshow 2",
+        Status::Done,
+        K33_TRIANGLE_REPORT,
+    ),
     (MANY_KINDS, b"gml", Status::Done, MANY_KINDS_REPORT),
     (
         b"graph [ node [ id 0 ] node [ id 1 ] node [ id 2 ] edge [ source 0 target 1 ] \
@@ -153,8 +160,8 @@ const TAIL_SCRIPT: &[u8] = b"euler 0: 0 2 3 5; 1: 0 1; 2: 1 2; 3: 3 4; 4: 4 5 6;
 const TAIL_REPORT: &[u8] =
     b"graph 7 7\nvertex 0 0\nvertex 1 1\nvertex 2 2\nvertex 3 3\nvertex 4 4\n\
     vertex 5 5\nvertex 6 6\ncut 0\ncut 4\nblock 0: 0 1 2\n\
-    node 0 S 0 1 2 | 0:0-1 1:1-2 2:0-2\nblock 1: 3 4 5\nnode 0 S 0 3 4 | 3:0-3 4:3-4 5:0-4\n\
-    block 2: 6\nnode 0 B 4 5 | 6:4-5\neuler 7 7 4 2 plane\neuler 7 7 2 2 not-plane\n";
+    node 0 S 0 1 2 | 0:0-1 1:1-2 2:0-2\nplanar 0\nblock 1: 3 4 5\nnode 0 S 0 3 4 | 3:0-3 4:3-4 5:0-4\n\
+    planar 1\nblock 2: 6\nnode 0 B 4 5 | 6:4-5\nplanar 2\neuler 7 7 4 2 plane\neuler 7 7 2 2 not-plane\n";
 
 // K3,3 and a triangle at its vertex 5.
 const K33_TRIANGLE: &[u8] =
@@ -165,11 +172,14 @@ const K33_TRIANGLE: &[u8] =
     edge [ source 2 target 4 ] edge [ source 2 target 5 ] edge [ source 5 target 6 ] \
     edge [ source 6 target 7 ] edge [ source 5 target 7 ] ]";
 
-const K33_TRIANGLE_HEAD: &[u8] =
+const K33_TRIANGLE_REPORT: &[u8] =
     b"graph 8 12\nvertex 0 0\nvertex 1 1\nvertex 2 2\nvertex 3 3\nvertex 4 4\nvertex 5 5\n\
     vertex 6 6\nvertex 7 7\ncut 5\nblock 0: 0 1 2 3 4 5 6 7 8\n\
     node 0 R 0 1 2 3 4 5 | 0:0-3 1:0-4 2:0-5 3:1-3 4:1-4 5:1-5 6:2-3 7:2-4 8:2-5\n\
-    block 1: 9 10 11\nnode 0 S 5 6 7 | 9:5-6 10:6-7 11:5-7\n";
+    nonplanar 0 K33 0 1 2 3 4 5\npath 0 3: 0\npath 0 4: 1\npath 0 5: 2\npath 1 3: 3\npath 1 4: 4\n\
+    path 1 5: 5\npath 2 3: 6\npath 2 4: 7\npath 2 5: 8\n\
+    block 1: 9 10 11\nnode 0 S 5 6 7 | 9:5-6 10:6-7 11:5-7\nplanar 1\n\
+    rotation 1 | 5: 9 11; 6: 9 10; 7: 10 11\nerror 5\nerror 5\nerror 1\n";
 
 // A file of many kinds, and its document written back.
 const MANY_KINDS: &[u8] =
@@ -177,48 +187,66 @@ const MANY_KINDS: &[u8] =
     graphics [ x 1.5E+3 y -INF ] ] node [ id -2 ] edge [ source 7 target -2 w_2 .5 ] ]";
 
 const MANY_KINDS_REPORT: &[u8] =
-    b"graph 2 1\nvertex 0 7\nvertex 1 -2\nblock 0: 0\nnode 0 B 0 1 | 0:0-1\ngml 208\nCreator \"yFiles\"\ngraph [\n  \
+    b"graph 2 1\nvertex 0 7\nvertex 1 -2\nblock 0: 0\nnode 0 B 0 1 | 0:0-1\nplanar 0\n\
+    gml 208\nCreator \"yFiles\"\ngraph [\n  \
     directed 1\n  node [\n    id 7\n    label \"\xc3\xa9 &amp; b\"\n    graphics [\n      x 1.5E+3\n      y -INF\n    \
     ]\n  ]\n  node [\n    id -2\n  ]\n  edge [\n    source 7\n    target -2\n    w_2 .5\n  ]\n]\n";
 
-// Graphs of one block, and the heads of their reports.
-static BLOCKS: [(&[u8], &[u8]); 14] = [
+// Graphs of one block, scripts, and the reports.
+static BLOCKS: [(&[u8], &[u8], &[u8]); 15] = [
+    // One edge.
+    (
+        b"graph [ node [ id 0 ] node [ id 1 ] edge [ source 0 target 1 ] ]",
+        b"show 0",
+        b"graph 2 1\nvertex 0 0\nvertex 1 1\nblock 0: 0\nnode 0 B 0 1 | 0:0-1\nplanar 0\n\
+        rotation 0 | 0: 0; 1: 0\n",
+    ),
     // Two parallel edges.
     (
         b"graph [ node [ id 0 ] node [ id 1 ] edge [ source 0 target 1 ] edge [ source 0 target 1 ] ]",
-        b"graph 2 2\nvertex 0 0\nvertex 1 1\nblock 0: 0 1\nnode 0 B 0 1 | 0:0-1 1:0-1\n",
+        b"show 0",
+        b"graph 2 2\nvertex 0 0\nvertex 1 1\nblock 0: 0 1\nnode 0 B 0 1 | 0:0-1 1:0-1\n\
+        planar 0\nrotation 0 | 0: 0 1; 1: 0 1\n",
     ),
     // Three parallel edges.
     (
         b"graph [ node [ id 0 ] node [ id 1 ] edge [ source 0 target 1 ] edge [ source 0 target 1 ] edge [ \
         source 0 target 1 ] ]",
-        b"graph 2 3\nvertex 0 0\nvertex 1 1\nblock 0: 0 1 2\nnode 0 P 0 1 | 0:0-1 1:0-1 2:0-1\n",
+        b"show 0",
+        b"graph 2 3\nvertex 0 0\nvertex 1 1\nblock 0: 0 1 2\nnode 0 P 0 1 | 0:0-1 1:0-1 2:0-1\n\
+        planar 0\nrotation 0 | 0: 0 1 2; 1: 0 2 1\n",
     ),
     // A square with a chord.
     (
         b"graph [ node [ id 0 ] node [ id 1 ] node [ id 2 ] node [ id 3 ] edge [ source 0 target 1 ] edge \
         [ source 1 target 2 ] edge [ source 2 target 3 ] edge [ source 3 target 0 ] edge [ source 0 \
         target 2 ] ]",
+        b"show 0",
         b"graph 4 5\nvertex 0 0\nvertex 1 1\nvertex 2 2\nvertex 3 3\nblock 0: 0 1 2 3 4\n\
         node 0 S 0 1 2 | 0:0-1 1:1-2 2:0-2@1\nnode 1 P 0 2 | 0:0-2@0 2:0-2@2 4:0-2\n\
-        node 2 S 0 2 3 | 0:0-2@1 2:2-3 3:0-3\n",
+        node 2 S 0 2 3 | 0:0-2@1 2:2-3 3:0-3\n\
+        planar 0\nrotation 0 | 0: 0 3 4; 1: 0 1; 2: 1 4 2; 3: 2 3\n",
     ),
     // K2,3.
     (
         b"graph [ node [ id 0 ] node [ id 1 ] node [ id 2 ] node [ id 3 ] node [ id 4 ] edge [ source 0 \
         target 2 ] edge [ source 1 target 2 ] edge [ source 0 target 3 ] edge [ source 1 target 3 ] edge \
         [ source 0 target 4 ] edge [ source 1 target 4 ] ]",
+        b"",
         b"graph 5 6\nvertex 0 0\nvertex 1 1\nvertex 2 2\nvertex 3 3\nvertex 4 4\nblock 0: 0 1 2 3 4 5\n\
         node 0 P 0 1 | 0:0-1@1 2:0-1@2 4:0-1@3\nnode 1 S 0 1 2 | 0:0-2 1:1-2 2:0-1@0\n\
-        node 2 S 0 1 3 | 0:0-1@0 2:0-3 3:1-3\nnode 3 S 0 1 4 | 0:0-1@0 4:0-4 5:1-4\n",
+        node 2 S 0 1 3 | 0:0-1@0 2:0-3 3:1-3\nnode 3 S 0 1 4 | 0:0-1@0 4:0-4 5:1-4\n\
+        planar 0\n",
     ),
     // A pentagon.
     (
         b"graph [ node [ id 0 ] node [ id 1 ] node [ id 2 ] node [ id 3 ] node [ id 4 ] edge [ source 0 \
         target 1 ] edge [ source 1 target 2 ] edge [ source 2 target 3 ] edge [ source 3 target 4 ] edge \
         [ source 4 target 0 ] ]",
+        b"",
         b"graph 5 5\nvertex 0 0\nvertex 1 1\nvertex 2 2\nvertex 3 3\nvertex 4 4\nblock 0: 0 1 2 3 4\n\
-        node 0 S 0 1 2 3 4 | 0:0-1 1:1-2 2:2-3 3:3-4 4:0-4\n",
+        node 0 S 0 1 2 3 4 | 0:0-1 1:1-2 2:2-3 3:3-4 4:0-4\n\
+        planar 0\n",
     ),
     // K5.
     (
@@ -226,9 +254,12 @@ static BLOCKS: [(&[u8], &[u8]); 14] = [
         target 1 ] edge [ source 0 target 2 ] edge [ source 0 target 3 ] edge [ source 0 target 4 ] edge \
         [ source 1 target 2 ] edge [ source 1 target 3 ] edge [ source 1 target 4 ] edge [ source 2 \
         target 3 ] edge [ source 2 target 4 ] edge [ source 3 target 4 ] ]",
+        b"show 0",
         b"graph 5 10\nvertex 0 0\nvertex 1 1\nvertex 2 2\nvertex 3 3\nvertex 4 4\n\
         block 0: 0 1 2 3 4 5 6 7 8 9\n\
-        node 0 R 0 1 2 3 4 | 0:0-1 1:0-2 2:0-3 3:0-4 4:1-2 5:1-3 6:1-4 7:2-3 8:2-4 9:3-4\n",
+        node 0 R 0 1 2 3 4 | 0:0-1 1:0-2 2:0-3 3:0-4 4:1-2 5:1-3 6:1-4 7:2-3 8:2-4 9:3-4\n\
+        nonplanar 0 K5 0 1 2 3 4\npath 0 1: 0\npath 0 2: 1\npath 0 3: 2\npath 0 4: 3\n\
+        path 1 2: 4\npath 1 3: 5\npath 1 4: 6\npath 2 3: 7\npath 2 4: 8\npath 3 4: 9\nerror 5\n",
     ),
     // K3,3 with a subdivided edge.
     (
@@ -236,10 +267,13 @@ static BLOCKS: [(&[u8], &[u8]); 14] = [
         [ id 6 ] edge [ source 0 target 3 ] edge [ source 0 target 4 ] edge [ source 0 target 5 ] edge [ \
         source 1 target 3 ] edge [ source 1 target 4 ] edge [ source 1 target 5 ] edge [ source 2 target \
         3 ] edge [ source 2 target 4 ] edge [ source 2 target 6 ] edge [ source 6 target 5 ] ]",
+        b"",
         b"graph 7 10\nvertex 0 0\nvertex 1 1\nvertex 2 2\nvertex 3 3\nvertex 4 4\nvertex 5 5\n\
         vertex 6 6\nblock 0: 0 1 2 3 4 5 6 7 8 9\n\
         node 0 R 0 1 2 3 4 5 | 0:0-3 1:0-4 2:0-5 3:1-3 4:1-4 5:1-5 6:2-3 7:2-4 8:2-5@1\n\
-        node 1 S 2 5 6 | 0:2-5@0 8:2-6 9:5-6\n",
+        node 1 S 2 5 6 | 0:2-5@0 8:2-6 9:5-6\n\
+        nonplanar 0 K33 0 1 2 3 4 5\npath 0 3: 0\npath 0 4: 1\npath 0 5: 2\n\
+        path 1 3: 3\npath 1 4: 4\npath 1 5: 5\npath 2 3: 6\npath 2 4: 7\npath 2 5: 8 9\n",
     ),
     // Two K4 on an edge.
     (
@@ -248,10 +282,13 @@ static BLOCKS: [(&[u8], &[u8]); 14] = [
         target 2 ] edge [ source 1 target 3 ] edge [ source 2 target 3 ] edge [ source 0 target 4 ] edge \
         [ source 0 target 5 ] edge [ source 1 target 4 ] edge [ source 1 target 5 ] edge [ source 4 \
         target 5 ] ]",
+        b"show 0",
         b"graph 6 11\nvertex 0 0\nvertex 1 1\nvertex 2 2\nvertex 3 3\nvertex 4 4\nvertex 5 5\n\
         block 0: 0 1 2 3 4 5 6 7 8 9 10\nnode 0 P 0 1 | 0:0-1 1:0-1@1 6:0-1@2\n\
         node 1 R 0 1 2 3 | 0:0-1@0 1:0-2 2:0-3 3:1-2 4:1-3 5:2-3\n\
-        node 2 R 0 1 4 5 | 0:0-1@0 6:0-4 7:0-5 8:1-4 9:1-5 10:4-5\n",
+        node 2 R 0 1 4 5 | 0:0-1@0 6:0-4 7:0-5 8:1-4 9:1-5 10:4-5\n\
+        planar 0\n\
+        rotation 0 | 0: 0 1 2 6 7; 1: 0 9 8 4 3; 2: 1 3 5; 3: 2 5 4; 4: 6 8 10; 5: 7 10 9\n",
     ),
     // Two K4 without it.
     (
@@ -259,33 +296,42 @@ static BLOCKS: [(&[u8], &[u8]); 14] = [
         [ source 0 target 2 ] edge [ source 0 target 3 ] edge [ source 1 target 2 ] edge [ source 1 \
         target 3 ] edge [ source 2 target 3 ] edge [ source 0 target 4 ] edge [ source 0 target 5 ] edge \
         [ source 1 target 4 ] edge [ source 1 target 5 ] edge [ source 4 target 5 ] ]",
+        b"show 0",
         b"graph 6 10\nvertex 0 0\nvertex 1 1\nvertex 2 2\nvertex 3 3\nvertex 4 4\nvertex 5 5\n\
         block 0: 0 1 2 3 4 5 6 7 8 9\nnode 0 R 0 1 2 3 | 0:0-2 1:0-3 2:1-2 3:1-3 4:2-3 5:0-1@1\n\
-        node 1 R 0 1 4 5 | 0:0-1@0 5:0-4 6:0-5 7:1-4 8:1-5 9:4-5\n",
+        node 1 R 0 1 4 5 | 0:0-1@0 5:0-4 6:0-5 7:1-4 8:1-5 9:4-5\n\
+        planar 0\n\
+        rotation 0 | 0: 0 1 5 6; 1: 2 8 7 3; 2: 0 2 4; 3: 1 4 3; 4: 5 7 9; 5: 6 9 8\n",
     ),
     // A triangle with a doubled edge.
     (
         b"graph [ node [ id 0 ] node [ id 1 ] node [ id 2 ] edge [ source 0 target 1 ] edge [ source 0 \
         target 1 ] edge [ source 1 target 2 ] edge [ source 2 target 0 ] ]",
+        b"",
         b"graph 3 4\nvertex 0 0\nvertex 1 1\nvertex 2 2\nblock 0: 0 1 2 3\n\
-        node 0 P 0 1 | 0:0-1 1:0-1 2:0-1@1\nnode 1 S 0 1 2 | 0:0-1@0 2:1-2 3:0-2\n",
+        node 0 P 0 1 | 0:0-1 1:0-1 2:0-1@1\nnode 1 S 0 1 2 | 0:0-1@0 2:1-2 3:0-2\n\
+        planar 0\n",
     ),
     // A triangle with all edges doubled.
     (
         b"graph [ node [ id 0 ] node [ id 1 ] node [ id 2 ] edge [ source 0 target 1 ] edge [ source 0 \
         target 1 ] edge [ source 1 target 2 ] edge [ source 1 target 2 ] edge [ source 2 target 0 ] edge \
         [ source 2 target 0 ] ]",
+        b"",
         b"graph 3 6\nvertex 0 0\nvertex 1 1\nvertex 2 2\nblock 0: 0 1 2 3 4 5\n\
         node 0 P 0 1 | 0:0-1 1:0-1 2:0-1@1\nnode 1 S 0 1 2 | 0:0-1@0 2:1-2@3 4:0-2@2\n\
-        node 2 P 0 2 | 0:0-2@1 4:0-2 5:0-2\nnode 3 P 1 2 | 0:1-2@1 2:1-2 3:1-2\n",
+        node 2 P 0 2 | 0:0-2@1 4:0-2 5:0-2\nnode 3 P 1 2 | 0:1-2@1 2:1-2 3:1-2\n\
+        planar 0\n",
     ),
     // A triangulated square with a doubled edge.
     (
         b"graph [ node [ id 0 ] node [ id 1 ] node [ id 2 ] node [ id 3 ] edge [ source 0 target 1 ] edge \
         [ source 1 target 2 ] edge [ source 2 target 3 ] edge [ source 3 target 0 ] edge [ source 0 \
         target 2 ] edge [ source 0 target 2 ] edge [ source 1 target 3 ] ]",
+        b"",
         b"graph 4 7\nvertex 0 0\nvertex 1 1\nvertex 2 2\nvertex 3 3\nblock 0: 0 1 2 3 4 5 6\n\
-        node 0 R 0 1 2 3 | 0:0-1 1:1-2 2:2-3 3:0-3 4:0-2@1 6:1-3\nnode 1 P 0 2 | 0:0-2@0 4:0-2 5:0-2\n",
+        node 0 R 0 1 2 3 | 0:0-1 1:1-2 2:2-3 3:0-3 4:0-2@1 6:1-3\nnode 1 P 0 2 | 0:0-2@0 4:0-2 5:0-2\n\
+        planar 0\n",
     ),
     // A bond with two polygons.
     (
@@ -293,9 +339,11 @@ static BLOCKS: [(&[u8], &[u8]); 14] = [
         target 1 ] edge [ source 0 target 1 ] edge [ source 0 target 1 ] edge [ source 0 target 2 ] edge \
         [ source 2 target 1 ] edge [ source 0 target 3 ] edge [ source 3 target 4 ] edge [ source 4 \
         target 1 ] ]",
+        b"",
         b"graph 5 8\nvertex 0 0\nvertex 1 1\nvertex 2 2\nvertex 3 3\nvertex 4 4\n\
         block 0: 0 1 2 3 4 5 6 7\nnode 0 P 0 1 | 0:0-1 1:0-1 2:0-1 3:0-1@1 5:0-1@2\n\
-        node 1 S 0 1 2 | 0:0-1@0 3:0-2 4:1-2\nnode 2 S 0 1 3 4 | 0:0-1@0 5:0-3 6:3-4 7:1-4\n",
+        node 1 S 0 1 2 | 0:0-1@0 3:0-2 4:1-2\nnode 2 S 0 1 3 4 | 0:0-1@0 5:0-3 6:3-4 7:1-4\n\
+        planar 0\n",
     ),
     // Bundles between two triconnected sides.
     (
@@ -303,19 +351,21 @@ static BLOCKS: [(&[u8], &[u8]); 14] = [
         target 1 ] edge [ source 0 target 2 ] edge [ source 0 target 3 ] edge [ source 1 target 4 ] edge \
         [ source 1 target 3 ] edge [ source 2 target 3 ] edge [ source 4 target 2 ] edge [ source 0 \
         target 2 ] edge [ source 4 target 2 ] ]",
+        b"",
         b"graph 5 9\nvertex 0 0\nvertex 1 1\nvertex 2 2\nvertex 3 3\nvertex 4 4\n\
         block 0: 0 1 2 3 4 5 6 7 8\nnode 0 R 0 1 2 3 | 0:0-1 1:0-2@1 2:0-3 3:1-2@2 4:1-3 5:2-3\n\
         node 1 P 0 2 | 0:0-2@0 1:0-2 7:0-2\nnode 2 S 1 2 4 | 0:1-2@0 3:1-4 6:2-4@3\n\
-        node 3 P 2 4 | 0:2-4@2 6:2-4 8:2-4\n",
+        node 3 P 2 4 | 0:2-4@2 6:2-4 8:2-4\n\
+        planar 0\n",
     ),
 ];
 
 #[test]
-fn trees_of_blocks(rt: HostRuntime) -> Result<(), Fail> {
-    for (graph, head) in BLOCKS {
-        let (found, written) = answer(rt.alloc(), (graph, b""), (&[], &[]), 1000)?;
+fn blocks_and_their_embeddings(rt: HostRuntime) -> Result<(), Fail> {
+    for (graph, script, report) in BLOCKS {
+        let (found, written) = answer(rt.alloc(), (graph, script), (&[], &[]), 1000)?;
         assert_eq!(rt; found, Status::Done);
-        assert_eq!(rt; written.as_slice(), head);
+        assert_eq!(rt; written.as_slice(), report);
     }
     Ok(())
 }
