@@ -24,3 +24,5 @@ pub mod Moved
 pub mod Walks
 mod MovedExamples
 pub mod Families
+pub mod Boards
+pub mod BoardSteps

@@ -20,7 +20,8 @@ use Rattle.skeletons.proofs.Vertices.{bond-vertex}
 use Rattle.skeleton_runs.proofs.Contiguous.{plane-contiguous}
 use Rattle.skeleton_choices.proofs.Plane.{move-plane}
 use Rattle.skeleton_choices.proofs.Reached.{lead}
-use Rattle.spqr_session.specs.Moved.{in_groups, keys_moved, order_moved, moved, all_moved, IsMoveOf}
+use Rattle.embed_moves.specs.Made.{Fits}
+use Rattle.spqr_session.specs.Moved.{in_groups, keys_moved, order_moved, moved, all_moved}
 use Rattle.spqr_session.proofs.Grouped.{regrouped-is, reversed-is}
 
 module _ (g : Multigraph) (nodes : List Node) (b : IsBlockTree g nodes) where
@@ -76,32 +77,32 @@ module _ (g : Multigraph) (nodes : List Node) (b : IsBlockTree g nodes) where
           ∙ ap (λ (z : ℕ). order_moved nodes move z (order_at r z)) (get_or-numbers_below (length r) v 0 l)
 
   -- what leads is a move of the tree
-  pub move-of : (move : Move) (r q : List (List ℕ)) → MoveLeads g nodes move r q → IsMoveOf nodes move
+  pub move-of : (move : Move) (r q : List (List ℕ)) → MoveLeads g nodes move r q → Fits nodes move
   move-of (flip k) r q m = m.0
   move-of (permute k keys) r q m = (m.0, m.1.arrangement)
 
   -- from a plane rotation system each move of the tree leads to what it makes, which is plane
-  pub move-leads : (move : Move) (r : List (List ℕ)) → IsPlaneSystem g r → IsMoveOf nodes move → MoveLeads g nodes move r (moved nodes move r)
+  pub move-leads : (move : Move) (r : List (List ℕ)) → IsPlaneSystem g r → Fits nodes move → MoveLeads g nodes move r (moved nodes move r)
   move-leads (flip k) r p is = let w = flip-exists g nodes r b p.system (plane-contiguous g nodes r b p) k is in
       subst (MoveLeads g nodes (flip k) r) (move-made (flip k) r w.0 p.system (is, w.1)) (is, w.1)
   move-leads (permute k keys) r p is = let w = permute-exists g nodes r b p.system (plane-contiguous g nodes r b p) k is.0 keys is.1 in
       subst (MoveLeads g nodes (permute k keys) r) (move-made (permute k keys) r w.0 p.system (is.0, w.1)) (is.0, w.1)
 
-  pub move-keeps : (move : Move) (r : List (List ℕ)) → IsPlaneSystem g r → IsMoveOf nodes move → IsPlaneSystem g (moved nodes move r)
+  pub move-keeps : (move : Move) (r : List (List ℕ)) → IsPlaneSystem g r → Fits nodes move → IsPlaneSystem g (moved nodes move r)
   move-keeps move r p is = move-plane g nodes move r (moved nodes move r) b p (move-leads move r p is)
 
   -- so do moves one after the other
-  pub moves-keep : (moves : List Move) (r : List (List ℕ)) → IsPlaneSystem g r → All (IsMoveOf nodes) moves → IsPlaneSystem g (all_moved nodes moves r)
+  pub moves-keep : (moves : List Move) (r : List (List ℕ)) → IsPlaneSystem g r → All (Fits nodes) moves → IsPlaneSystem g (all_moved nodes moves r)
   moves-keep [] r p a = p
-  moves-keep (move ∷ moves) r p a = moves-keep moves (moved nodes move r) (move-keeps move r p (All-head (IsMoveOf nodes) move moves a)) (All-tail (IsMoveOf nodes) move moves a)
+  moves-keep (move ∷ moves) r p a = moves-keep moves (moved nodes move r) (move-keeps move r p (All-head (Fits nodes) move moves a)) (All-tail (Fits nodes) move moves a)
 
   -- moves that lead through plane rotation systems are moves of the tree, and lead to what they make
-  pub lead-made : (moves : List Move) (r q : List (List ℕ)) → IsPlaneSystem g r → Lead g nodes (IsPlaneSystem g) moves r q → All (IsMoveOf nodes) moves × (all_moved nodes moves r ≡ q)
-  lead-made [] r q p e = (All-nil (IsMoveOf nodes), e)
+  pub lead-made : (moves : List Move) (r q : List (List ℕ)) → IsPlaneSystem g r → Lead g nodes (IsPlaneSystem g) moves r q → All (Fits nodes) moves × (all_moved nodes moves r ≡ q)
+  lead-made [] r q p e = (All-nil (Fits nodes), e)
   lead-made (move ∷ moves) r q p w =
       let rest = lead-made moves w.0 q w.2 w.3 in
-      (All-cons (IsMoveOf nodes) move moves (move-of move r w.0 w.1) rest.0, ap (all_moved nodes moves) (sym (move-made move r w.0 p.system w.1)) ∙ rest.1)
+      (All-cons (Fits nodes) move moves (move-of move r w.0 w.1) rest.0, ap (all_moved nodes moves) (sym (move-made move r w.0 p.system w.1)) ∙ rest.1)
 
   -- so are the moves between two plane rotation systems
-  pub between-made : (r q : List (List ℕ)) → IsPlaneSystem g r → IsPlaneSystem g q → All (IsMoveOf nodes) (moves_between nodes r q) × (all_moved nodes (moves_between nodes r q) r ≡ q)
+  pub between-made : (r q : List (List ℕ)) → IsPlaneSystem g r → IsPlaneSystem g q → All (Fits nodes) (moves_between nodes r q) × (all_moved nodes (moves_between nodes r q) r ≡ q)
   between-made r q p s = lead-made (moves_between nodes r q) r q p (lead g nodes r q b p s)

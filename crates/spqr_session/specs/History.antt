@@ -1,9 +1,14 @@
--- What changes of a block make of a family, and families along a list of changes.
-use Rattle.std.specs.Prelude.{◌≡◌, ℕ, Bool, List, [], ◌∷◌, slice_set, Option, None, Some, ⊤}
+-- What changes of a block make of a family, families along a list of changes, and the steps of the history as such changes.
+use Rattle.std.specs.Prelude.{◌≡◌, ℕ, ◌<◌, ◌≤◌, Bool, List, [], ◌∷◌, length, map, take, drop, reverse, slice_set, Option, None, Some, All, ⊤}
 use Rattle.pair_split.specs.Tutte.{Node}
 use Rattle.skeletons.specs.Moves.{Move}
+use Rattle.skel_embed.specs.Values.{as_moves}
+use Rattle.undo_log.specs.History.{History as UndoHistory}
+use Rattle.undo_log.specs.declared.step.Step.{Step}
+use Rattle.undo_log.specs.declared.step.Step.TheVariants.{Moves, Lock}
 use Rattle.spqr_session.specs.Trees.{BlockTree, tree_at}
 use Rattle.spqr_session.specs.State.{Embedding, Family, entry_at}
+use Rattle.embed_moves.specs.Made.{Fits}
 use Rattle.spqr_session.specs.Moved.{all_moved}
 
 -- a rotation system moved; the locks stay
@@ -42,3 +47,30 @@ Returns move back f (s ∷ ss) = (back s (move s f) ≡ f) × Returns move back 
 pub record IsBetween {S F : Type 0} (forth back : S → F → F) (before : List S) (f : F) (after : List S) : Type 0 where
   pub before_returns : Returns back forth f before
   pub after_returns : Returns forth back f after
+
+-- what a step of the history makes of a family, and what the family was before it
+abbrev pub redone : List BlockTree → Step → Family → Family
+redone trees (Moves b forth back) family = family_moved trees b (as_moves forth) family
+redone trees (Lock b k before after) family = family_locked b k after family
+
+abbrev pub undone : List BlockTree → Step → Family → Family
+undone trees (Moves b forth back) family = family_moved trees b (as_moves back) family
+undone trees (Lock b k before after) family = family_locked b k before family
+
+-- the steps before the cursor, the last first, and those behind it
+abbrev pub steps_before : UndoHistory → List Step
+steps_before log = reverse (take log.cursor log.steps)
+
+abbrev pub steps_after : UndoHistory → List Step
+steps_after log = drop log.cursor log.steps
+
+-- a step is one of a block that is there: moves of its tree, there and back, or a lock of a node
+abbrev pub IsStepOf : List BlockTree → Step → Type 0
+IsStepOf trees (Moves b forth back) = (b < length trees) × All (Fits (tree_at trees b).nodes) (as_moves forth) × All (Fits (tree_at trees b).nodes) (as_moves back)
+IsStepOf trees (Lock b k before after) = (b < length trees) × (k < length (tree_at trees b).nodes)
+
+-- a history belongs to a family: its steps are steps of the blocks, and each is taken back along the way
+pub record IsHistory (trees : List BlockTree) (family : Family) (log : UndoHistory) : Type 0 where
+  pub cursor : log.cursor ≤ length log.steps
+  pub steps : All (IsStepOf trees) log.steps
+  pub between : IsBetween (redone trees) (undone trees) (steps_before log) family (steps_after log)

@@ -1,14 +1,13 @@
 -- What moves make of a rotation system: flips and permutes as functions.
-use Rattle.std.specs.Prelude.{ℕ, ◌==◌, not, cond, List, [], ◌∷◌, length, map, filter, reverse, IsPermutation}
+use Rattle.std.specs.Prelude.{ℕ, ◌==◌, not, cond, List, [], ◌∷◌, length, map, filter, reverse}
 use Rattle.std.specs.List.{concat}
 use Rattle.permutations.specs.Cyclic.{first_or, turned, from_least}
 use Rattle.multigraph.specs.Graph.{numbers_below}
 use Rattle.rotations.specs.Rotation.{order_at}
 use Rattle.pair_split.specs.Tutte.{Node, group}
-use Rattle.pair_split.specs.declared.components.Kind.TheVariants.{P, R}
-use Rattle.skeletons.specs.Items.{node_keys, has_vertex, least_vertex}
+use Rattle.skeletons.specs.Items.{has_vertex, least_vertex}
 use Rattle.skeletons.specs.Round.{keys_met}
-use Rattle.skeletons.specs.Moves.{Move, flip, permute, moved_node, IsNodeOfKind}
+use Rattle.skeletons.specs.Moves.{Move, flip, permute, moved_node}
 
 -- the group with the key k, in the order in which it is met on the way round from a member with another key
 abbrev pub group_round : (ℕ → ℕ) → List ℕ → ℕ → List ℕ
@@ -37,8 +36,3 @@ moved nodes move r = map (λ v. order_moved nodes move v (order_at r v)) (number
 abbrev pub all_moved : List Node → List Move → List (List ℕ) → List (List ℕ)
 all_moved nodes [] r = r
 all_moved nodes (move ∷ moves) r = all_moved nodes moves (moved nodes move r)
-
--- a move of a tree with these nodes: a triconnected node is flipped, or a bond permuted to an arrangement of its keys
-abbrev pub IsMoveOf : List Node → Move → Type 0
-IsMoveOf nodes (flip k) = IsNodeOfKind nodes k R
-IsMoveOf nodes (permute k keys) = IsNodeOfKind nodes k P × IsPermutation (node_keys nodes k) keys
