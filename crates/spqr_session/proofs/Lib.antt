@@ -26,3 +26,4 @@ mod MovedExamples
 pub mod Families
 pub mod Boards
 pub mod BoardSteps
+pub mod BoardStates

@@ -194,7 +194,11 @@ fn carry_back(blocks: &mut Vec<EmbeddedBlock>, step: &Step)
     ensures family { family_on blocks.new.items ≡ undone (map view_tree blocks.old.items) step.now (family_on blocks.old.items) }
 {
     match step {
-        Step::Moves { block, forth: _, back } => move_block(blocks, *block, back),
+        Step::Moves {
+            block,
+            forth: _,
+            back,
+        } => move_block(blocks, *block, back),
         Step::Lock {
             block,
             node,
@@ -211,7 +215,11 @@ fn carry_forth(blocks: &mut Vec<EmbeddedBlock>, step: &Step)
     ensures family { family_on blocks.new.items ≡ redone (map view_tree blocks.old.items) step.now (family_on blocks.old.items) }
 {
     match step {
-        Step::Moves { block, forth, back: _ } => move_block(blocks, *block, forth),
+        Step::Moves {
+            block,
+            forth,
+            back: _,
+        } => move_block(blocks, *block, forth),
         Step::Lock {
             block,
             node,
