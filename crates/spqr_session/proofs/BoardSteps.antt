@@ -1,8 +1,7 @@
 -- What the board's functions do to its blocks and its history.
-use Rattle.std.proofs.Common.{◌≡◌, ℕ, zero, suc, ◌+◌, ◌<◌, ◌≤◌, Bool, true, false, not, nat_lt, List, [], ◌∷◌, length, map, take, drop, reverse, get_or, slice_set, add-one, Option, None, Some, refl, sym, ap, ◌∙◌, subst, arith, All}
+use Rattle.std.proofs.Common.{◌≡◌, ℕ, zero, suc, ◌+◌, ◌<◌, ◌≤◌, Bool, not, nat_lt, List, [], ◌∷◌, length, map, take, drop, get_or, slice_set, add-one, None, Some, refl, sym, ap, ◌∙◌, subst, arith, All}
 use Rattle.std.proofs.lemmas.List.{length-map, length-take-le, length-reverse}
 use Rattle.std.proofs.lemmas.Bool.{lt-ltb, le-ltb}
-use Rattle.std.proofs.lemmas.List.Elements.{All-head, All-tail}
 use Rattle.std.proofs.Math.Seq.{drop-cons}
 use Rattle.multigraph.specs.Graph.{Multigraph}
 use Rattle.multigraph.specs.Part.{GraphPart}
@@ -20,10 +19,10 @@ use Rattle.undo_log.specs.declared.step.Step.{Step}
 use Rattle.undo_log.specs.declared.step.Step.TheVariants.{Moves, Lock}
 use Rattle.spqr_session.specs.Trees.{BlockTree, tree_at}
 use Rattle.spqr_session.specs.State.{Embedding, Family, entry_at}
-use Rattle.spqr_session.specs.Embedded.{BlockView, view_tree, view_entry, view_at, block_view, IsEmbedded, entry_lock}
+use Rattle.spqr_session.specs.Embedded.{BlockView, view_tree, view_entry, view_at, block_view, IsEmbedded}
 use Rattle.embed_moves.specs.Made.{Fits}
-use Rattle.spqr_session.specs.Moved.{moved, all_moved}
-use Rattle.spqr_session.specs.History.{entry_moved, entry_locked, entry_set, family_moved, family_locked, walk, redone, undone, steps_before, steps_after, IsStepOf, IsHistory}
+use Rattle.spqr_session.specs.Moved.{all_moved}
+use Rattle.spqr_session.specs.History.{entry_moved, entry_locked, family_moved, family_locked, walk, redone, undone, steps_before, steps_after}
 use Rattle.spqr_session.specs.Commands.History.{is_none}
 use Rattle.spqr_session.specs.Board.{BoardView, family_on, embedded_at, changed_board, board_view, IsBoard, IsCarried, LeadsTo, StandsAt, CanReplace}
 use Rattle.spqr_session.proofs.Views.{trees-at, entries-at}

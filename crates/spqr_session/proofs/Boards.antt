@@ -1,5 +1,5 @@
 -- The history on a board: a step back, a step forth, and a step more.
-use Rattle.std.proofs.Common.{◌≡◌, ℕ, suc, ◌+◌, ◌<◌, ◌≤◌, List, [], ◌∷◌, ◌++◌, length, map, take, drop, reverse, get_or, slice_index_or, Option, refl, sym, ap, ap₂, ◌∙◌, subst, arith, add-one, All}
+use Rattle.std.proofs.Common.{◌≡◌, ℕ, suc, ◌+◌, ◌≤◌, List, [], ◌∷◌, ◌++◌, length, map, take, drop, reverse, refl, sym, ap, ap₂, ◌∙◌, subst, arith, add-one, All}
 use Rattle.std.proofs.lemmas.List.{take_all, drop_all, reverse-append, length-append, length-take-le}
 use Rattle.std.proofs.lemmas.List.Elements.{All-nil, All-cons, All-take, All-append, All-get_or}
 use Rattle.std.proofs.Math.Seq.{take-suc, drop-cons}
@@ -9,7 +9,7 @@ use Rattle.spqr_session.specs.Trees.{BlockTree}
 use Rattle.spqr_session.specs.State.{Family}
 use Rattle.spqr_session.specs.Embedded.{BlockView, view_tree}
 use Rattle.spqr_session.specs.History.{walk, IsBetween, redone, undone, steps_before, steps_after, IsStepOf, IsHistory}
-use Rattle.spqr_session.specs.Board.{BoardView, family_on, IsUndone, IsRedone, board_view, IsBoard}
+use Rattle.spqr_session.specs.Board.{family_on, IsUndone, IsRedone, board_view, IsBoard}
 use Rattle.spqr_session.proofs.Walks.{step-back, walk-back, step-forth, walk-forth, step-new, walk-new}
 
 -- a step was added behind those before the cursor, which is behind it

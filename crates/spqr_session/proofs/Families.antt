@@ -1,13 +1,13 @@
 -- The family on the board when one block is changed, and changes of a family taken back.
-use Rattle.std.proofs.Common.{◌≡◌, ℕ, ◌<◌, Bool, false, List, [], ◌∷◌, length, map, slice_set, Option, None, Some, refl, sym, ap, ◌∙◌, subst, arith}
-use Rattle.std.proofs.lemmas.List.{length-map, map-set, set-set, set-get_or, get_or-set_same}
+use Rattle.std.proofs.Common.{◌≡◌, ℕ, ◌<◌, Bool, false, List, length, map, slice_set, Option, None, Some, sym, ap, ◌∙◌}
+use Rattle.std.proofs.lemmas.List.{map-set, set-set, set-get_or, get_or-set_same}
 use Rattle.std.proofs.Math.Seq.{map-set_same}
 use Rattle.skeletons.specs.Moves.{Move}
 use Rattle.skel_embed.specs.Block.{lock_at}
 use Rattle.spqr_session.specs.Trees.{BlockTree, tree_at}
 use Rattle.spqr_session.specs.State.{Embedding, Family, entry_at}
 use Rattle.spqr_session.specs.Embedded.{BlockView, view_tree, view_certificate, view_entry, no_view, view_at}
-use Rattle.spqr_session.specs.Board.{family_on, embedded_at}
+use Rattle.spqr_session.specs.Board.{family_on}
 use Rattle.spqr_session.specs.Moved.{all_moved}
 use Rattle.spqr_session.specs.History.{entry_moved, entry_locked, entry_set, family_moved, family_locked}
 use Rattle.spqr_session.proofs.Views.{trees-at, entries-at}

@@ -1,6 +1,6 @@
 -- The groups of a cyclic order in another order of their keys, put one behind the other.
-use Rattle.std.proofs.Common.{◌≡◌, ◌≢◌, ℕ, ◌+◌, ◌<◌, ◌≤◌, ◌==◌, not, inl, inr, Bool, true, false, List, [], ◌∷◌, ◌++◌, length, map, filter, reverse, refl, sym, ap, ap₂, ◌∙◌, subst, arith, append_assoc, append-nil, All, IsPermutation}
-use Rattle.std.proofs.lemmas.Bool.{cases_lt, true≢false, eq-eqb, ne_eqb, eqb-true, false_from_ne_true, both_ways, not_from_false}
+use Rattle.std.proofs.Common.{◌≡◌, ◌≢◌, ℕ, ◌<◌, ◌≤◌, ◌==◌, not, inl, inr, Bool, true, false, List, [], ◌∷◌, ◌++◌, length, map, filter, reverse, refl, sym, ap, ap₂, ◌∙◌, subst, arith, append_assoc, append-nil, All, IsPermutation}
+use Rattle.std.proofs.lemmas.Bool.{cases_lt, true≢false, eq-eqb, ne_eqb, false_from_ne_true, both_ways, not_from_false}
 use Rattle.std.proofs.lemmas.List.{map-append, length-append}
 use Rattle.std.proofs.lemmas.List.Folds.{concat-append}
 use Rattle.std.proofs.lemmas.List.Elements.{All-nil, All-cons, All-head, All-tail, filter-append}
@@ -11,10 +11,10 @@ use Rattle.permutations.specs.Members.{is_member, is_distinct}
 use Rattle.permutations.specs.Runs.{joined, group_keys, IsGroup, InRuns}
 use Rattle.permutations.proofs.CyclicSame.{IsTurn-trans, IsTurn-turned}
 use Rattle.permutations.proofs.Filter.{filter-all, filter-none, filter-member, member-filter_parts}
-use Rattle.permutations.proofs.Members.{member-head, member-tail, member-append_cases, member-append_left, member-append_right, no_member-append, CutAt, cut_at}
+use Rattle.permutations.proofs.Members.{member-head, member-append_cases, member-append_left, member-append_right, no_member-append, CutAt, cut_at}
 use Rattle.permutations.proofs.NormalForm.{from_least-turn}
 use Rattle.permutations.proofs.Runs.{first-of, other-groups, runs-turn}
-use Rattle.permutations.proofs.Turned.{IsTurn-refl, IsTurn-sym, IsTurn-member, IsTurn-reverse, turned-cut, turned-turn, turned-member}
+use Rattle.permutations.proofs.Turned.{IsTurn-sym, IsTurn-member, IsTurn-reverse, turned-cut, turned-turn, turned-member}
 use Rattle.skeletons.specs.Moves.{AreReversed, AreRegrouped}
 use Rattle.skeletons.specs.Round.{keys_met}
 use Rattle.skeletons.proofs.KeyRuns.{met-runs}

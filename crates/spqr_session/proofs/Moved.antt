@@ -1,17 +1,16 @@
 -- What moves lead to is what the functions make of a rotation system, and from a plane one each move can be made.
-use Rattle.std.proofs.Common.{◌≡◌, ℕ, ◌<◌, ◌==◌, cond, inl, inr, Bool, true, false, List, [], ◌∷◌, length, map, get_or, reverse, refl, sym, ap, ◌∙◌, subst, arith, All}
+use Rattle.std.proofs.Common.{◌≡◌, ℕ, ◌<◌, ◌==◌, cond, inl, inr, Bool, true, List, [], ◌∷◌, length, reverse, sym, ap, ◌∙◌, subst, All}
 use Rattle.std.proofs.lemmas.Bool.{cases_Bool, eq-eqb, eqb-true, true≢false}
 use Rattle.std.proofs.lemmas.List.{ext_get_or, get_or-map, length-map}
 use Rattle.std.proofs.lemmas.List.Elements.{All-nil, All-cons, All-head, All-tail}
 use Rattle.permutations.specs.Cyclic.{from_least, IsTurn}
-use Rattle.permutations.specs.Members.{is_distinct}
 use Rattle.permutations.proofs.NormalForm.{from_least-same}
 use Rattle.multigraph.specs.Graph.{Multigraph, numbers_below}
 use Rattle.multigraph.proofs.Below.{get_or-numbers_below, length-numbers_below}
 use Rattle.rotations.specs.Rotation.{order_at, IsRotationSystem}
 use Rattle.faces.proofs.DartLemmas.{order-distinct}
 use Rattle.pair_split.specs.Tutte.{Node, group}
-use Rattle.skeletons.specs.Items.{has_vertex, least_vertex, greatest_vertex, IsBlockTree}
+use Rattle.skeletons.specs.Items.{has_vertex, least_vertex, IsBlockTree}
 use Rattle.skeletons.specs.Choices.{IsPlaneSystem}
 use Rattle.skeletons.specs.Moves.{Move, flip, permute, moved_node, AreRegrouped, OthersStay, MoveLeads, Lead, moves_between}
 use Rattle.skeletons.proofs.Moved.{flip-exists, permute-exists}

@@ -1,5 +1,5 @@
 -- Walks along changes that can be taken back: one step ahead, one step back, and a change more.
-use Rattle.std.proofs.Common.{◌≡◌, List, [], ◌∷◌, refl, sym, ap, ◌∙◌, subst}
+use Rattle.std.proofs.Common.{◌≡◌, List, [], ◌∷◌, sym, ap, ◌∙◌, subst}
 use Rattle.spqr_session.specs.History.{walk, Returns, IsBetween}
 
 module _ {S F : Type 0} (forth back : S → F → F) where

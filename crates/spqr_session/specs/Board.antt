@@ -1,5 +1,5 @@
 -- The blocks of a session with the families that were before and after: what commands change.
-use Rattle.std.specs.Prelude.{◌≡◌, ℕ, ◌<◌, List, [], ◌∷◌, length, map, slice_set, Option, Some}
+use Rattle.std.specs.Prelude.{◌≡◌, ℕ, ◌<◌, List, [], ◌∷◌, length, map, slice_set, Some}
 use Rattle.skel_embed.specs.Block.{BlockState}
 use Rattle.undo_log.specs.History as undo_log
 use Rattle.undo_log.specs.declared.step.Step.{Step}

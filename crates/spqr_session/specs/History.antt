@@ -1,5 +1,5 @@
 -- What changes of a block make of a family, families along a list of changes, and the steps of the history as such changes.
-use Rattle.std.specs.Prelude.{◌≡◌, ℕ, ◌<◌, ◌≤◌, Bool, List, [], ◌∷◌, length, map, take, drop, reverse, slice_set, Option, None, Some, All, ⊤}
+use Rattle.std.specs.Prelude.{◌≡◌, ℕ, ◌<◌, ◌≤◌, Bool, List, [], ◌∷◌, length, take, drop, reverse, slice_set, Option, None, Some, All, ⊤}
 use Rattle.pair_split.specs.Tutte.{Node}
 use Rattle.skeletons.specs.Moves.{Move}
 use Rattle.skel_embed.specs.Values.{as_moves}

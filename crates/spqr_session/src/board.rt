@@ -1,15 +1,13 @@
 // The blocks of a session with the history of their changes.
-ghost use Rattle.std.specs.Prelude.{◌≡◌, ℕ, ◌<◌, true, false, not, [], length, map, slice_set, IfOk, OnErr, All};
-ghost use Rattle.skel_embed.specs.Block.{BlockState, lock_at};
+ghost use Rattle.std.specs.Prelude.{◌≡◌, ℕ, ◌<◌, false, not, [], length, map, slice_set, IfOk, OnErr, All};
 ghost use Rattle.skeletons.specs.Moves.{moves_between};
-ghost use Rattle.spqr_session.specs.State.{Embedding, Family};
-ghost use Rattle.spqr_session.specs.Trees.{BlockTree};
-ghost use Rattle.spqr_session.specs.Embedded.{BlockView, view_tree, view_certificate, view_at};
-ghost use Rattle.embed_moves.specs.Made.{Fits};
 ghost use Rattle.skel_embed.specs.Values.{as_moves};
+ghost use Rattle.embed_moves.specs.Made.{Fits};
+ghost use Rattle.spqr_session.specs.State.{Embedding};
+ghost use Rattle.spqr_session.specs.Embedded.{view_tree, view_certificate, view_at};
 ghost use Rattle.spqr_session.specs.History.{IsStepOf, family_moved, family_locked, redone, undone};
 ghost use Rattle.spqr_session.specs.Commands.History.{is_none};
-ghost use Rattle.spqr_session.specs.Board.{BoardView, StandsAt, CanReplace, LeadsTo, IsCarried, family_on, changed_board, IsUndone, IsRedone};
+ghost use Rattle.spqr_session.specs.Board.{StandsAt, CanReplace, LeadsTo, IsCarried, family_on, changed_board, IsUndone, IsRedone};
 
 use crate::embedded::EmbeddedBlock;
 use embed_convert::moves;
@@ -83,7 +81,7 @@ impl Board {
         Ok(())
     }
 
-    /// Locks node `k` of block `b`, or takes its lock away.
+    /// Locks node `k` of block `b`, or takes its lock away, also where it was so already. Where memory is wanting all is as before.
     pub fn set_lock(&mut self, b: u32, k: u32, on: bool) -> Result<(), AllocError>
         requires stands { (e : Embedding) × StandsAt self.old.views b e }
         requires node { k < length (view_at self.old.views b).tree.nodes }

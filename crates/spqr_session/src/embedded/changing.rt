@@ -1,6 +1,5 @@
 // A block's embedding changed. No memory is taken.
 ghost use Rattle.std.specs.Prelude.{◌≡◌, ◌<◌, length, Some, All};
-ghost use Rattle.skel_embed.specs.Block.{IsBlockState};
 ghost use Rattle.spqr_session.specs.State.{Embedding};
 ghost use Rattle.embed_moves.specs.Made.{Fits};
 ghost use Rattle.spqr_session.specs.Moved.{moved, all_moved};

@@ -1,5 +1,4 @@
 use Rattle.std.proofs.Common.{List, ap, sym, ◌∙◌, subst}
-use Rattle.spqr_session.specs.State.{Embedding}
 use Rattle.spqr_session.specs.Embedded.{BlockView, view_entry}
 use Rattle.spqr_session.specs.Board.{BoardView, CanReplace, LeadsTo}
 use Rattle.spqr_session.proofs.BlockTrees.{view-at}

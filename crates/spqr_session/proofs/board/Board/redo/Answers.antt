@@ -1,4 +1,3 @@
-use Rattle.std.proofs.Common.{◌≡◌}
 use Rattle.undo_log.specs.History.{WentOn}
 use Rattle.spqr_session.proofs.Boards.{board-on}
 use Rattle.spqr_session.proofs.board.Board.redo.Goals as goal

@@ -1,4 +1,3 @@
-use Rattle.std.proofs.Common.{◌≡◌}
 use Rattle.undo_log.specs.History.{WentBack}
 use Rattle.spqr_session.proofs.Boards.{board-back}
 use Rattle.spqr_session.proofs.board.Board.undo.Goals as goal

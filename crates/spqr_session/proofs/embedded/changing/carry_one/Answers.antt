@@ -1,5 +1,4 @@
-use Rattle.std.proofs.Common.{◌≡◌, ◌∙◌, List, ℕ, ap}
-use Rattle.spqr_session.specs.Moved.{moved}
+use Rattle.std.proofs.Common.{◌∙◌, List, ℕ, ap}
 use Rattle.skel_embed.specs.Values.{as_move}
 use Rattle.spqr_session.proofs.Moved.{move-made}
 use Rattle.spqr_session.proofs.embedded.changing.carry_one.Goals as goal
