@@ -1,5 +1,6 @@
 #!/usr/bin/env python3
-"""head_of.py: the head that the program must print for a GML file, by a slow program that stands on the definitions alone.
+"""head_of.py: the head that the program must print for a GML file, but for the lines on planarity, by a slow program that stands
+on the definitions alone.
 
   head_of.py NAME.gml
 
