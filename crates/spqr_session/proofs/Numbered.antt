@@ -27,6 +27,7 @@ pub below-more : (f : ℕ → List ℕ) (k : ℕ) → concat (map f (numbers_bel
 below-more f k =
     ap (λ (l : List ℕ). concat (map f l)) (numbers_below-more k) ∙ ap concat (map-append f (numbers_below k) (k ∷ [])) ∙ concat-append (map f (numbers_below k)) (f k ∷ [])
     ∙ ap (λ l. concat (map f (numbers_below k)) ++ l) (append-nil (f k))
+
 -- the first i + 1 texts are the first i and the one behind them
 pub concat-take_more : (texts : List (List ℕ)) (i : ℕ) (t : List ℕ) → i < length texts → get_or texts i t ≡ t → concat (take (i + 1) texts) ≡ concat (take i texts) ++ t
 concat-take_more texts i t h e =
