@@ -13,9 +13,11 @@ pub mod GmlCarried
 pub mod Ladders
 pub mod BlockCarried
 pub mod Changes
+pub mod Plans
 pub mod MovesCarried
 pub mod HistoryCarried
 pub mod MembersCarried
 pub mod Planes
+pub mod MovePlans
 pub mod Chains
 pub mod Steps

@@ -8,6 +8,7 @@ pub mod Board
 pub mod Codes
 pub mod BlockCodes
 pub mod Members
+pub mod Planned
 pub mod Commands
 pub mod Step
 pub mod Head
