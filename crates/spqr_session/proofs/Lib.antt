@@ -19,5 +19,6 @@ pub mod HistoryCarried
 pub mod MembersCarried
 pub mod Planes
 pub mod MovePlans
+pub mod WalkPlans
 pub mod Chains
 pub mod Steps

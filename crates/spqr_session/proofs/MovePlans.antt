@@ -31,10 +31,10 @@ module _ (v : BlockView) (p : BlockState) (seen : SeenPlane v p) where
   here = seen_embedding p
 
   -- code 5 does not apply, and what the embedding brings is its own
-  planar-missed : (rest : Ladder) (o : Option Code) → first_code rest ≡ o → first_code ((NonPlanar, not (is_planar v.entry)) ∷ rest) ≡ o
+  pub planar-missed : (rest : Ladder) (o : Option Code) → first_code rest ≡ o → first_code ((NonPlanar, not (is_planar v.entry)) ∷ rest) ≡ o
   planar-missed rest o e = rung-missed NonPlanar (not (is_planar v.entry)) rest o (ap (λ (x : Option Embedding). not (is_planar x)) seen.entry) e
 
-  entry-own : (more : Embedding → Ladder) (o : Option Code) → first_code (more here) ≡ o → first_code (of_entry more v.entry) ≡ o
+  pub entry-own : (more : Embedding → Ladder) (o : Option Code) → first_code (more here) ≡ o → first_code (of_entry more v.entry) ≡ o
   entry-own more o e = ap (λ (x : Option Embedding). first_code (of_entry more x)) seen.entry ∙ e
 
   -- code 12 of a node

@@ -2,8 +2,7 @@
 use Rattle.std.specs.Prelude.{◌≡◌, ℕ, ◌<◌, List, [], ◌∷◌, length, map, slice_set, Option, Some}
 use Rattle.std.specs.Prelude.{Bool}
 use Rattle.spqr_session.specs.State.{Embedding, Family, State}
-use Rattle.skel_embed.specs.Block.{BlockState}
-use Rattle.spqr_session.specs.Embedded.{BlockView, view_tree, view_certificate, view_entry, view_at}
+use Rattle.spqr_session.specs.Embedded.{BlockView, view_entry, view_at}
 
 -- what is seen of the blocks, and the earlier and the later families, of each the nearest first
 pub record BoardView : Type 0 where
@@ -44,20 +43,3 @@ pub record IsRedone (before after : BoardView) : Type 0 where
   pub later : after.later ≡ others
   pub stands : family_on after.views ≡ family
   pub earlier : after.earlier ≡ family_on before.views ∷ before.earlier
-
--- trees and certificates stay
-pub record IsCarried (old new : List BlockView) : Type 0 where
-  pub trees : map view_tree new ≡ map view_tree old
-  pub certificates : map view_certificate new ≡ map view_certificate old
-
--- block b is there and planar, and stands at this embedding
-pub record StandsAt (views : List BlockView) (b : ℕ) (e : Embedding) : Type 0 where
-  pub within : b < length views
-  pub entry : (view_at views b).entry ≡ Some e
-
--- a block in the plane can take the place of block b, which stands at e: graph, tree and locks are the same
-pub record CanReplace (views : List BlockView) (b : ℕ) (e : Embedding) (plane : BlockState) : Type 0 where
-  pub stands : StandsAt views b e
-  pub graph : plane.graph ≡ (view_at views b).tree.part.graph
-  pub tree : plane.tree ≡ (view_at views b).tree.nodes
-  pub locks : plane.locks ≡ e.locks

@@ -6,6 +6,7 @@ mod gml;
 mod mirror;
 mod show;
 mod traced;
+mod walk;
 
 pub(crate) use count::{carry_count, carry_rank};
 pub(crate) use euler::carry_euler;
@@ -14,3 +15,4 @@ pub(crate) use gml::carry_gml;
 pub(crate) use mirror::carry_mirror;
 pub(crate) use show::carry_show;
 pub(crate) use traced::carry_faces;
+pub(crate) use walk::{carry_first, carry_goto, carry_next};
