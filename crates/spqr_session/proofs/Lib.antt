@@ -22,3 +22,10 @@ pub mod MovePlans
 pub mod WalkPlans
 pub mod Chains
 pub mod Steps
+pub mod Grouped
+pub mod Moved
+pub mod Walks
+mod MovedExamples
+pub mod Families
+pub mod Boards
+pub mod BoardSteps

@@ -1,8 +1,11 @@
 -- The blocks of a session with the families that were before and after: what commands change.
 use Rattle.std.specs.Prelude.{◌≡◌, ℕ, ◌<◌, List, [], ◌∷◌, length, map, slice_set, Option, Some}
-use Rattle.std.specs.Prelude.{Bool}
+use Rattle.skel_embed.specs.Block.{BlockState}
+use Rattle.undo_log.specs.History as undo_log
+use Rattle.undo_log.specs.declared.step.Step.{Step}
 use Rattle.spqr_session.specs.State.{Embedding, Family, State}
-use Rattle.spqr_session.specs.Embedded.{BlockView, view_entry, view_at}
+use Rattle.spqr_session.specs.Embedded.{BlockView, view_tree, view_certificate, view_entry, view_at}
+use Rattle.spqr_session.specs.History.{walk, redone, undone, steps_before, steps_after, IsStepOf, IsHistory}
 
 -- what is seen of the blocks, and the earlier and the later families, of each the nearest first
 pub record BoardView : Type 0 where
@@ -43,3 +46,39 @@ pub record IsRedone (before after : BoardView) : Type 0 where
   pub later : after.later ≡ others
   pub stands : family_on after.views ≡ family
   pub earlier : after.earlier ≡ family_on before.views ∷ before.earlier
+
+-- what is seen of blocks with a history: the earlier families are met on the way back from the one that stands, the later on the
+-- way forth
+abbrev pub board_view : List BlockView → undo_log.History → BoardView
+board_view views log = record {
+  views = views;
+  earlier = walk (undone (map view_tree views)) (family_on views) (steps_before log);
+  later = walk (redone (map view_tree views)) (family_on views) (steps_after log);
+}
+
+-- the history is one of the family that stands
+abbrev pub IsBoard : List BlockView → undo_log.History → Type 0
+IsBoard views log = IsHistory (map view_tree views) (family_on views) log
+
+-- trees and certificates stay
+pub record IsCarried (old new : List BlockView) : Type 0 where
+  pub trees : map view_tree new ≡ map view_tree old
+  pub certificates : map view_certificate new ≡ map view_certificate old
+
+-- a step of the blocks leads from the family that stands to the one with this embedding of block b, and back
+pub record LeadsTo (views : List BlockView) (b : ℕ) (e : Embedding) (step : Step) : Type 0 where
+  pub is_step : IsStepOf (map view_tree views) step
+  pub forth : redone (map view_tree views) step (family_on views) ≡ family_on (embedded_at views b e)
+  pub back : undone (map view_tree views) step (family_on (embedded_at views b e)) ≡ family_on views
+
+-- block b is there and planar, and stands at this embedding
+pub record StandsAt (views : List BlockView) (b : ℕ) (e : Embedding) : Type 0 where
+  pub within : b < length views
+  pub entry : (view_at views b).entry ≡ Some e
+
+-- a block in the plane can take the place of block b, which stands at e: graph, tree and locks are the same
+pub record CanReplace (views : List BlockView) (b : ℕ) (e : Embedding) (plane : BlockState) : Type 0 where
+  pub stands : StandsAt views b e
+  pub graph : plane.graph ≡ (view_at views b).tree.part.graph
+  pub tree : plane.tree ≡ (view_at views b).tree.nodes
+  pub locks : plane.locks ≡ e.locks

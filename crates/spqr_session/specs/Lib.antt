@@ -4,6 +4,8 @@ pub mod Certificates
 pub mod Setting
 pub mod State
 pub mod Embedded
+pub mod Moved
+pub mod History
 pub mod Board
 pub mod Codes
 pub mod BlockCodes

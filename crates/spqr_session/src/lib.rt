@@ -1,6 +1,7 @@
 // A session on a graph: blocks with their trees, and commands that are carried out on them.
 #![tactic(auto)]
 
+mod board;
 mod code;
 mod commands;
 mod embedded;
