@@ -7,11 +7,11 @@ use Rattle.permutations.specs.Cyclic.{from_least, IsTurn}
 use Rattle.permutations.specs.Members.{is_member, is_distinct}
 use Rattle.permutations.proofs.Members.{member-head, member-tail, member-cases}
 use Rattle.permutations.proofs.Arrangements.{permutation-member, permutation-distinct, member-at}
-use Rattle.permutations.proofs.NormalForm.{from_least-same, from_least-permutation}
+use Rattle.permutations.proofs.NormalForm.{from_least-same}
 use Rattle.permutations.proofs.Turned.{IsTurn-permutation}
 use Rattle.multigraph.proofs.Places.{rises-once}
 use Rattle.rotations.proofs.Arrangements.{permutation-from_members}
-use Rattle.pair_split.specs.Tutte.{Node, node_at}
+use Rattle.pair_split.specs.Tutte.{node_at}
 use Rattle.pair_split.specs.declared.components.Item.{Item}
 use Rattle.pair_split.specs.declared.components.Kind.TheVariants.{P}
 use Rattle.skeletons.specs.Items.{item_key, node_keys, least_vertex}
@@ -26,7 +26,7 @@ use Rattle.skeleton_choices.proofs.Listed.{choice-normal}
 use Rattle.skel_embed.specs.Block.{BlockState, IsBlockState}
 use Rattle.skel_embed.specs.Exchanges.{exchanged, StandsAt}
 use Rattle.skel_embed.proofs.BondMoves.{least-groups, runs-arranged}
-use Rattle.skel_embed.proofs.States.{with_move, state-moved}
+use Rattle.skel_embed.proofs.States.{state-moved}
 use Rattle.embed_moves.specs.Made.{IsMade}
 use Rattle.embed_moves.proofs.Told.{permute-told}
 use Rattle.embed_moves.proofs.Placing.{placed-same, placed-exchanged, placed-all, target-turn, target-first}

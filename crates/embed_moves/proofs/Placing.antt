@@ -1,16 +1,13 @@
 -- Keys brought into their places one after the other, by exchanges.
-use Rattle.std.proofs.Common.{◌≡◌, ◌≢◌, ℕ, zero, suc, ◌+◌, ◌-◌, ◌<◌, ◌≤◌, true, false, List, [], ◌∷◌, ◌++◌, length, map, take, drop, slice_index_or, refl, sym, ap, ◌∙◌, subst, inl, inr, arith, IsPermutation}
-use Rattle.std.proofs.lemmas.Bool.{both_ways, cases_lt, true≢false}
-use Rattle.std.proofs.lemmas.List.{length-map, take-map, take_all, get_or-map, get_or-drop, get_or-take, get_or_append_left, get_or-append_right, length-drop, length-append}
-use Rattle.std.proofs.lemmas.List.Sorted.{length_permutation, IsPermutation-trans}
+use Rattle.std.proofs.Common.{◌≡◌, ℕ, zero, suc, ◌+◌, ◌-◌, ◌<◌, ◌≤◌, true, List, [], ◌∷◌, ◌++◌, length, take, drop, slice_index_or, refl, sym, ap, ◌∙◌, subst, arith}
+use Rattle.std.proofs.lemmas.List.{length-map, take-map, take_all, get_or-map, get_or-drop, get_or-take, get_or_append_left, get_or-append_right, length-drop}
 use Rattle.permutations.specs.Cyclic.{first_or, from_least, turned, IsTurn}
 use Rattle.permutations.specs.Members.{is_member, is_distinct}
-use Rattle.permutations.proofs.Arrangements.{permutation-member, permutation-distinct, member-at}
-use Rattle.permutations.proofs.NormalForm.{from_least-same}
-use Rattle.permutations.proofs.Turned.{turned-first, turned-cut, IsTurn-permutation, IsTurn-swap}
+use Rattle.permutations.proofs.Arrangements.{member-at}
+use Rattle.permutations.proofs.Turned.{turned-first}
 use Rattle.skel_embed.specs.Exchanges.{other_of, exchanged, StandsAt}
 use Rattle.skel_embed.proofs.ExchangeSteps.{other-first, exchanged-none}
-use Rattle.skel_embed.proofs.KeptLists.{exchanged-least, exchanged-members, take-front, drop-front}
+use Rattle.skel_embed.proofs.KeptLists.{exchanged-least, take-front, drop-front}
 use Rattle.skel_embed.proofs.TurnSteps.{next-new}
 
 -- one more of a front

@@ -1,5 +1,5 @@
 -- A plane rotation system with the choices that a permute leads to is the one that it leads to.
-use Rattle.std.proofs.Common.{◌≡◌, ◌≢◌, ℕ, ◌<◌, inl, inr, List, length, refl, sym, ap, ◌∙◌, subst, IsPermutation}
+use Rattle.std.proofs.Common.{◌≡◌, ◌≢◌, ℕ, ◌<◌, inl, inr, List, length, sym, ◌∙◌, subst, IsPermutation}
 use Rattle.std.proofs.lemmas.Bool.{cases_eq}
 use Rattle.permutations.specs.Cyclic.{from_least}
 use Rattle.multigraph.specs.Graph.{Multigraph}

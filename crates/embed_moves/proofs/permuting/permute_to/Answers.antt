@@ -1,12 +1,9 @@
 use Rattle.std.proofs.Common.{◌≡◌, ◌<◌, ◌+◌, ◌++◌, ℕ, true, List, length, take, drop, slice_index_or, sym, ap, ◌∙◌, subst, arith}
-use Rattle.std.proofs.lemmas.List.Sorted.{length_permutation}
 use Rattle.permutations.specs.Members.{is_member}
 use Rattle.permutations.proofs.Arrangements.{permutation-member, member-at}
-use Rattle.pair_split.specs.declared.components.Kind.TheVariants.{P}
 use Rattle.skeletons.specs.Items.{node_keys}
 use Rattle.skeletons.specs.Choices.{choice}
-use Rattle.skeletons.specs.Moves.{IsNodeOfKind}
-use Rattle.skel_embed.specs.Block.{BlockState, IsBlockState}
+use Rattle.skel_embed.specs.Block.{BlockState}
 use Rattle.skel_embed.specs.Exchanges.{StandsAt}
 use Rattle.embed_moves.proofs.Arranging.{IsOnWay, choice-arranged, choice-some, way-start, way-long, way-here, way-wanted, way-same, way-exchanged, way-end}
 use Rattle.embed_moves.proofs.permuting.permute_to.Goals.{then-here-wanted, else-here-wanted}
