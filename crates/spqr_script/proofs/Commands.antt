@@ -11,11 +11,11 @@ use Rattle.spqr_script.specs.Reading.{rotation_of, arguments_of, command_with, c
 use Rattle.spqr_script.specs.declared.word.Word.{Word}
 use Rattle.spqr_script.specs.declared.word.Word.TheVariants as word
 use Rattle.spqr_script.specs.declared.command.Command.{Command}
-use Rattle.spqr_script.specs.declared.command.Command.TheVariants.{Euler, Show, Faces, Gml}
+use Rattle.spqr_script.specs.declared.command.Command.TheVariants.{Euler, Show, Faces, Flip, Permute, Mirror, Undo, Redo, Gml, Lock, Unlock}
 use Rattle.spqr_script.proofs.Options.{map_some}
 use Rattle.spqr_script.proofs.Words.{found_spelled, word_found}
 use Rattle.spqr_script.proofs.Entries.{rotation_spelled, rotation_read}
-use Rattle.spqr_script.proofs.Forms.{alone_spelled, alone_read, block_spelled, block_read}
+use Rattle.spqr_script.proofs.Forms.{alone_spelled, alone_read, block_spelled, block_read, node_spelled, node_read, keys_spelled, keys_read}
 
 -- ---- one command
 
@@ -34,16 +34,44 @@ arguments_spelled word.Show tokens c e =
 arguments_spelled word.Faces tokens c e =
     let p = block_spelled Faces tokens c e in
     subst (IsSpelled word.Faces tokens) p.1 (refl, p.2)
+arguments_spelled word.Flip tokens c e =
+    let p = node_spelled Flip tokens c e in
+    subst (IsSpelled word.Flip tokens) p.2 (refl, p.3)
+arguments_spelled word.Permute tokens c e =
+    let p = keys_spelled Permute tokens c e in
+    subst (IsSpelled word.Permute tokens) p.3 (refl, p.4)
+arguments_spelled word.Mirror tokens c e =
+    let p = block_spelled Mirror tokens c e in
+    subst (IsSpelled word.Mirror tokens) p.1 (refl, p.2)
+arguments_spelled word.Undo tokens c e =
+    let p = alone_spelled Undo tokens c e in
+    subst (IsSpelled word.Undo tokens) p.1 (refl, p.0)
+arguments_spelled word.Redo tokens c e =
+    let p = alone_spelled Redo tokens c e in
+    subst (IsSpelled word.Redo tokens) p.1 (refl, p.0)
 arguments_spelled word.Gml tokens c e =
     let p = alone_spelled Gml tokens c e in
     subst (IsSpelled word.Gml tokens) p.1 (refl, p.0)
+arguments_spelled word.Lock tokens c e =
+    let p = node_spelled Lock tokens c e in
+    subst (IsSpelled word.Lock tokens) p.2 (refl, p.3)
+arguments_spelled word.Unlock tokens c e =
+    let p = node_spelled Unlock tokens c e in
+    subst (IsSpelled word.Unlock tokens) p.2 (refl, p.3)
 
 -- and what is spelled behind the word of a command is read
 arguments_read : (tokens : List (List ℕ)) (c : Command) → SpellsArguments tokens c → arguments_of (word_of c) tokens ≡ Some c
 arguments_read tokens (Euler entries) s = ap (λ (o : Option (List (ℕ × List ℕ))). option_map (λ x. Euler x) o) (rotation_read tokens entries s)
 arguments_read tokens (Show b) s = block_read Show tokens b s
 arguments_read tokens (Faces b) s = block_read Faces tokens b s
+arguments_read tokens (Flip b k) s = node_read Flip tokens b k s
+arguments_read tokens (Permute b k keys) s = keys_read Permute tokens b k keys s
+arguments_read tokens (Mirror b) s = block_read Mirror tokens b s
+arguments_read tokens Undo s = alone_read Undo tokens s
+arguments_read tokens Redo s = alone_read Redo tokens s
 arguments_read tokens Gml s = alone_read Gml tokens s
+arguments_read tokens (Lock b k) s = node_read Lock tokens b k s
+arguments_read tokens (Unlock b k) s = node_read Unlock tokens b k s
 
 -- a command has a word
 with_word : (o : Option Word) (tokens : List (List ℕ)) (c : Command) → command_with o tokens ≡ Some c → (w : Word) × (o ≡ Some w) × (arguments_of w tokens ≡ Some c)

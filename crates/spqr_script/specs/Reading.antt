@@ -14,7 +14,7 @@ use Rattle.spqr_script.specs.Words.{all_words, word_among}
 use Rattle.spqr_script.specs.declared.word.Word.{Word}
 use Rattle.spqr_script.specs.declared.word.Word.TheVariants as word
 use Rattle.spqr_script.specs.declared.command.Command.{Command}
-use Rattle.spqr_script.specs.declared.command.Command.TheVariants.{Euler, Show, Faces, Gml}
+use Rattle.spqr_script.specs.declared.command.Command.TheVariants.{Euler, Show, Faces, Flip, Permute, Mirror, Undo, Redo, Gml, Lock, Unlock}
 
 -- the number so far with one digit more behind it, where that is below the limit
 abbrev pub with_digit : ℕ → ℕ → ℕ → Option ℕ
@@ -86,12 +86,24 @@ number_then limit further tokens = option_and_then (λ first. further first.0 fi
 abbrev pub index_then : (ℕ → List (List ℕ) → Option Command) → List (List ℕ) → Option Command
 index_then further tokens = number_then index_limit further tokens
 
+-- one or more numbers of tokens
+abbrev pub keys_of : List (List ℕ) → Option (List ℕ)
+keys_of [] = None
+keys_of (token ∷ tokens) = indices_of (token ∷ tokens)
+
 -- the command with this word, where the tokens behind it are its arguments
 abbrev pub arguments_of : Word → List (List ℕ) → Option Command
 arguments_of word.Euler tokens = option_map (λ entries. Euler entries) (rotation_of tokens)
 arguments_of word.Show tokens = index_then (λ b. alone (Show b)) tokens
 arguments_of word.Faces tokens = index_then (λ b. alone (Faces b)) tokens
+arguments_of word.Flip tokens = index_then (λ b. index_then (λ k. alone (Flip b k))) tokens
+arguments_of word.Permute tokens = index_then (λ b. index_then (λ k others. option_map (λ keys. Permute b k keys) (keys_of others))) tokens
+arguments_of word.Mirror tokens = index_then (λ b. alone (Mirror b)) tokens
+arguments_of word.Undo tokens = alone Undo tokens
+arguments_of word.Redo tokens = alone Redo tokens
 arguments_of word.Gml tokens = alone Gml tokens
+arguments_of word.Lock tokens = index_then (λ b. index_then (λ k. alone (Lock b k))) tokens
+arguments_of word.Unlock tokens = index_then (λ b. index_then (λ k. alone (Unlock b k))) tokens
 
 -- the same, where there is a word
 abbrev pub command_with : Option Word → List (List ℕ) → Option Command

@@ -8,7 +8,7 @@ use Rattle.spqr_script.specs.Words.{spelling}
 use Rattle.spqr_script.specs.declared.word.Word.{Word}
 use Rattle.spqr_script.specs.declared.word.Word.TheVariants as word
 use Rattle.spqr_script.specs.declared.command.Command.{Command}
-use Rattle.spqr_script.specs.declared.command.Command.TheVariants.{Euler, Show, Faces, Gml}
+use Rattle.spqr_script.specs.declared.command.Command.TheVariants.{Euler, Show, Faces, Flip, Permute, Mirror, Undo, Redo, Gml, Lock, Unlock}
 
 -- the number of a vertex, an edge, a block, a node or a key
 abbrev pub SpellsIndex : List ℕ → ℕ → Type 0
@@ -38,14 +38,29 @@ abbrev pub word_of : Command → Word
 word_of (Euler entries) = word.Euler
 word_of (Show b) = word.Show
 word_of (Faces b) = word.Faces
+word_of (Flip b k) = word.Flip
+word_of (Permute b k keys) = word.Permute
+word_of (Mirror b) = word.Mirror
+word_of Undo = word.Undo
+word_of Redo = word.Redo
 word_of Gml = word.Gml
+word_of (Lock b k) = word.Lock
+word_of (Unlock b k) = word.Unlock
 
--- the arguments of a command: `euler ROT`, `show B`, `faces B`, and `gml` alone
+-- the arguments of a command, which are all tokens behind its word: a rotation; the number of a block; those of a block and a
+-- node, and for `permute` one or more keys; or none
 abbrev pub SpellsArguments : List (List ℕ) → Command → Type 0
 SpellsArguments tokens (Euler entries) = SpellsRotation tokens entries
 SpellsArguments tokens (Show b) = SpellsIndices tokens (b ∷ [])
 SpellsArguments tokens (Faces b) = SpellsIndices tokens (b ∷ [])
+SpellsArguments tokens (Flip b k) = SpellsIndices tokens (b ∷ k ∷ [])
+SpellsArguments tokens (Permute b k keys) = SpellsIndices tokens (b ∷ k ∷ keys) × (0 < length keys)
+SpellsArguments tokens (Mirror b) = SpellsIndices tokens (b ∷ [])
+SpellsArguments tokens Undo = tokens ≡ []
+SpellsArguments tokens Redo = tokens ≡ []
 SpellsArguments tokens Gml = tokens ≡ []
+SpellsArguments tokens (Lock b k) = SpellsIndices tokens (b ∷ k ∷ [])
+SpellsArguments tokens (Unlock b k) = SpellsIndices tokens (b ∷ k ∷ [])
 
 -- the tokens of a line are a command: its word, and behind it its arguments
 abbrev pub SpellsCommand : List (List ℕ) → Command → Type 0

@@ -6,8 +6,15 @@ ghost use Rattle.spqr_script.specs.Reading.{alone, first_number, arguments_of};
 
 mod euler;
 mod faces;
+mod flip;
 mod gml;
+mod lock;
+mod mirror;
+mod permute;
+mod redo;
 mod show;
+mod undo;
+mod unlock;
 
 use crate::command::Command;
 use crate::numbers::index;
@@ -15,9 +22,16 @@ use crate::tokens::next_token;
 use crate::word::Word;
 use euler::read_euler;
 use faces::read_faces;
+use flip::read_flip;
 use gml::read_gml;
+use lock::read_lock;
+use mirror::read_mirror;
+use permute::read_permute;
+use redo::read_redo;
 use show::read_show;
 use std::alloc::{AllocError, Global};
+use undo::read_undo;
+use unlock::read_unlock;
 
 // The command, where nothing stands behind its word.
 pub(crate) fn alone(command: Command, text: &[u8]) -> Option<Command>
@@ -52,6 +66,13 @@ pub(crate) fn read_arguments(
         Word::Euler => read_euler(alloc, text),
         Word::Show => Ok(read_show(text)),
         Word::Faces => Ok(read_faces(text)),
+        Word::Flip => Ok(read_flip(text)),
+        Word::Permute => read_permute(alloc, text),
+        Word::Mirror => Ok(read_mirror(text)),
+        Word::Undo => Ok(read_undo(text)),
+        Word::Redo => Ok(read_redo(text)),
         Word::Gml => Ok(read_gml(text)),
+        Word::Lock => Ok(read_lock(text)),
+        Word::Unlock => Ok(read_unlock(text)),
     }
 }

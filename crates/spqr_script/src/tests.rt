@@ -40,6 +40,14 @@ fn lines_that_are_commands(rt: HostRuntime) -> Result<(), Fail> {
         "show 4294967295",
         "show\t7 \r\n",
         "faces 1",
+        "flip 0 2",
+        "permute 0 00 7",
+        "permute 0 0 0 6 1\t",
+        "mirror 4294967295",
+        "undo",
+        " redo ",
+        "lock 0 4294967295",
+        "unlock 1 1",
         "\n \t\n\r\n#\n\t# euler 0\ngml\n",
     ];
     for row in rows.iter() {
@@ -86,6 +94,19 @@ fn lines_that_are_none(rt: HostRuntime) -> Result<(), Fail> {
         "faces",
         "faces 0 0",
         "face 0",
+        "flip 0",
+        "flip 0 0 0",
+        "flip 0 4294967296",
+        "permute 0 0",
+        "permute 0 0 1 x",
+        "permute 0 0 4294967296",
+        "mirror",
+        "mirror 0 0",
+        "undo 1",
+        "redo # one",
+        "lock 0",
+        "unlock 0 0 0",
+        "unlocks 0 0",
     ];
     for row in rows.iter() {
         assert_eq!(rt; outcome(rt.alloc(), row)?, (0, 1));

@@ -11,12 +11,38 @@ pub enum Word {
     Show,
     /// `faces`.
     Faces,
+    /// `flip`.
+    Flip,
+    /// `permute`.
+    Permute,
+    /// `mirror`.
+    Mirror,
+    /// `undo`.
+    Undo,
+    /// `redo`.
+    Redo,
     /// `gml`.
     Gml,
+    /// `lock`.
+    Lock,
+    /// `unlock`.
+    Unlock,
 }
 
 // Every word, each once.
-static WORDS: [Word; 4] = [Word::Euler, Word::Show, Word::Faces, Word::Gml];
+static WORDS: [Word; 11] = [
+    Word::Euler,
+    Word::Show,
+    Word::Faces,
+    Word::Flip,
+    Word::Permute,
+    Word::Mirror,
+    Word::Undo,
+    Word::Redo,
+    Word::Gml,
+    Word::Lock,
+    Word::Unlock,
+];
 
 // How a word is spelled.
 fn spelling(word: Word) -> &'static [u8]
@@ -26,7 +52,14 @@ fn spelling(word: Word) -> &'static [u8]
         Word::Euler => b"euler",
         Word::Show => b"show",
         Word::Faces => b"faces",
+        Word::Flip => b"flip",
+        Word::Permute => b"permute",
+        Word::Mirror => b"mirror",
+        Word::Undo => b"undo",
+        Word::Redo => b"redo",
         Word::Gml => b"gml",
+        Word::Lock => b"lock",
+        Word::Unlock => b"unlock",
     }
 }
 
