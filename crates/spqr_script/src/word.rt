@@ -17,12 +17,28 @@ pub enum Word {
     Permute,
     /// `mirror`.
     Mirror,
+    /// `first`.
+    First,
+    /// `next`.
+    Next,
+    /// `list`.
+    List,
+    /// `goto`.
+    Goto,
+    /// `convert`.
+    Convert,
+    /// `take`.
+    Take,
     /// `undo`.
     Undo,
     /// `redo`.
     Redo,
     /// `gml`.
     Gml,
+    /// `count`.
+    Count,
+    /// `rank`.
+    Rank,
     /// `lock`.
     Lock,
     /// `unlock`.
@@ -30,16 +46,24 @@ pub enum Word {
 }
 
 // Every word, each once.
-static WORDS: [Word; 11] = [
+static WORDS: [Word; 19] = [
     Word::Euler,
     Word::Show,
     Word::Faces,
     Word::Flip,
     Word::Permute,
     Word::Mirror,
+    Word::First,
+    Word::Next,
+    Word::List,
+    Word::Goto,
+    Word::Convert,
+    Word::Take,
     Word::Undo,
     Word::Redo,
     Word::Gml,
+    Word::Count,
+    Word::Rank,
     Word::Lock,
     Word::Unlock,
 ];
@@ -55,9 +79,17 @@ fn spelling(word: Word) -> &'static [u8]
         Word::Flip => b"flip",
         Word::Permute => b"permute",
         Word::Mirror => b"mirror",
+        Word::First => b"first",
+        Word::Next => b"next",
+        Word::List => b"list",
+        Word::Goto => b"goto",
+        Word::Convert => b"convert",
+        Word::Take => b"take",
         Word::Undo => b"undo",
         Word::Redo => b"redo",
         Word::Gml => b"gml",
+        Word::Count => b"count",
+        Word::Rank => b"rank",
         Word::Lock => b"lock",
         Word::Unlock => b"unlock",
     }
