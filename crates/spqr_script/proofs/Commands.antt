@@ -1,21 +1,18 @@
 -- Reading a line's tokens and a script's lines gives what they spell, and all that they spell.
 use Rattle.std.proofs.Common.{◌≡◌, ℕ, zero, suc, ◌+◌, ◌<◌, false, List, [], ◌∷◌, length, get_or, Option, Some, None, Result, Ok, Err, refl, sym, ap, subst, ◌∙◌, inl, inr, ◌⊎◌, arith}
-use Rattle.std.specs.Option.{option_map}
 use Rattle.std.specs.List.{AllZip}
 use Rattle.std.proofs.lemmas.Bool.{cases_Bool}
-use Rattle.std.proofs.lemmas.Option.{same_Some, none-some}
+use Rattle.std.proofs.lemmas.Option.{none-some}
 use Rattle.spqr_script.specs.Line.{is_passed_over, tokens_of}
 use Rattle.spqr_script.specs.Words.{spelling, all_words, word_among}
 use Rattle.spqr_script.specs.Script.{word_of, SpellsArguments, SpellsCommand, command_lines, IsAccepted, IsRefused}
-use Rattle.spqr_script.specs.Reading.{rotation_of, arguments_of, command_with, command_of, command_and, commands_from}
+use Rattle.spqr_script.specs.Reading.{arguments_of, command_with, command_of, command_and, commands_from}
 use Rattle.spqr_script.specs.declared.word.Word.{Word}
 use Rattle.spqr_script.specs.declared.word.Word.TheVariants as word
 use Rattle.spqr_script.specs.declared.command.Command.{Command}
 use Rattle.spqr_script.specs.declared.command.Command.TheVariants as command
 use Rattle.spqr_script.specs.declared.command.Command.TheVariants.{Euler, Show, Faces, Flip, Permute, Mirror, First, Next, Goto, ConvertRank, ConvertTo, Take, Undo, Redo, Gml, Count, Rank, Lock, Unlock}
-use Rattle.spqr_script.proofs.Options.{map_some}
 use Rattle.spqr_script.proofs.Words.{found_spelled, word_found}
-use Rattle.spqr_script.proofs.Entries.{rotation_spelled, rotation_read}
 use Rattle.spqr_script.proofs.Forms.{alone_spelled, alone_read, with_rotation_spelled, with_rotation_read, block_spelled, block_read, node_spelled, node_read, keys_spelled, keys_read, listed_spelled, listed_read, rank_spelled, rank_read, rotation_behind_spelled, rotation_read_behind, convert_spelled, convert_rank_read, convert_to_read}
 
 -- ---- one command

@@ -1,4 +1,4 @@
-use Rattle.std.proofs.Common.{◌<◌, All, sym, subst, ℕ, List, length}
+use Rattle.std.proofs.Common.{◌<◌, All, sym, subst, ℕ, length}
 use Rattle.spqr_script.proofs.Within.{face-within, IsPairOf}
 use Rattle.spqr_script.proofs.answers.faces.push_faces.Goals as goal
 
