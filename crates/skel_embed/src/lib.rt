@@ -16,12 +16,18 @@
 #![tactic(auto)]
 
 mod blocks_in_plane;
+mod exchanging;
+mod kept;
 mod members;
+mod moves;
 mod planes;
+mod runs;
 mod state;
 mod systems;
+mod turning;
 
 pub use blocks_in_plane::{BySkeletons, embed_by_skeletons};
+pub use moves::{Keys, Move, MoveList};
 pub use planes::{Outcome, plane_block};
 pub use state::PlaneBlock;
 
