@@ -6,6 +6,7 @@ mod euler;
 mod face_list;
 mod gml;
 mod list;
+mod moves;
 mod rank;
 mod rotation;
 
@@ -16,5 +17,6 @@ pub use euler::euler_line;
 pub use face_list::faces_lines;
 pub use gml::gml_lines;
 pub use list::{list_line, more_line};
+pub use moves::moves_lines;
 pub use rank::rank_line;
 pub use rotation::{push_rotation_line, rotation_line};

@@ -1,4 +1,7 @@
 // Scripts and texts, as a reader of the format would work them out.
+ghost use Rattle.std.specs.Prelude.{◌≡◌, ◌<◌, true, All};
+ghost use Rattle.multigraph.specs.Graph.{edge_count};
+
 use super::*;
 use faces::{Euler, trace};
 use gml_graph::GraphFault;
@@ -6,6 +9,7 @@ use gml_text::GmlFault;
 use kuratowski::{Pattern, Subdivision, is_subdivision};
 use multigraph::{Graph, NumberLists, Numbers, Part};
 use rotations::{Lists, Rotation};
+use skel_embed::{Keys, Move};
 use std::alloc::{AllocError, Global};
 use std::test::*;
 
@@ -491,5 +495,44 @@ fn lines_of_a_nonplanar_block(rt: HostRuntime) -> Result<(), Fail> {
             .as_slice()
     );
     assert_eq!(rt; planar_line(alloc, 2)?.as_slice(), b"planar 2\n".as_slice());
+    Ok(())
+}
+
+// Whether all numbers are of edges of the graph.
+fn are_edges(g: &Graph, numbers: &[u32]) -> bool
+    ensures { result ≡ true → All (λ e. e < edge_count g.now) numbers.now }
+{
+    for number in numbers {
+        if *number >= g.edge_count() {
+            return false;
+        }
+    }
+    true
+}
+
+// The lines of a permutation and a flip; nothing where the keys are no edges.
+fn moves_text(alloc: Global, part: &Part, keys: &[u32]) -> Result<Vec<u8>, AllocError> {
+    if !are_edges(part.graph(), keys) {
+        return Ok(Vec::new(alloc));
+    }
+    let moves = vec![in alloc; Move::Permute(0, Keys::of(alloc, keys)?), Move::Flip(12)]?;
+    moves_lines(alloc, part, &moves)
+}
+
+#[test]
+fn lines_of_moves(rt: HostRuntime) -> Result<(), Fail> {
+    let alloc = rt.alloc();
+    // An edge, and three parallel edges behind it.
+    let g = Graph::build(alloc, 3, &[(0, 1), (1, 2), (1, 2), (1, 2)])?;
+    let part = g.part(alloc, &[1, 2, 3])?;
+    let lines = moves_text(alloc, &part, &[0, 2, 1])?;
+    assert_eq!(rt;
+        lines.as_slice(),
+        b"moves 2\npermute 0 1 3 2\nflip 12\n".as_slice()
+    );
+    assert_eq!(rt;
+        moves_lines(alloc, &part, &[])?.as_slice(),
+        b"moves 0\n".as_slice()
+    );
     Ok(())
 }
