@@ -1,6 +1,6 @@
-use Rattle.std.proofs.Common.{◌<◌, All, sym, subst, ℕ, List, length}
+use Rattle.std.proofs.Common.{◌<◌, All, sym, subst, ℕ, length}
 use Rattle.spqr_script.proofs.Within.{face-within, IsPairOf}
-use Rattle.spqr_script.proofs.answers.traced.push_faces.Goals as goal
+use Rattle.spqr_script.proofs.answers.face_list.push_faces.Goals as goal
 
 pub push_face-requires : goal.push_face-requires
 push_face-requires c =

@@ -1,6 +1,6 @@
 use Rattle.std.proofs.Common.{sym}
 use Rattle.spqr_script.proofs.Loops.{numbers_end, numbers_stop, numbers_more}
-use Rattle.spqr_script.proofs.rotation.read_indices.Goals as goal
+use Rattle.spqr_script.proofs.numbers.read_indices.Goals as goal
 
 pub returns-in-None : goal.returns-in-None
 returns-in-None c =

@@ -1,7 +1,7 @@
 use Rattle.std.proofs.Common.{◌≡◌, length}
 use Rattle.spqr_script.specs.Line.{tokens_of}
 use Rattle.spqr_script.specs.Reading.{put_behind, indices_of}
-use Rattle.spqr_script.proofs.rotation.read_indices.Given as goal
+use Rattle.spqr_script.proofs.numbers.read_indices.Given as goal
 
 abbrev pub invariant-loop-token : goal.invariant-loop-token
 invariant-loop-token l =
