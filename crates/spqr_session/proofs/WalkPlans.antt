@@ -56,8 +56,8 @@ module _ (v : BlockView) (p : BlockState) (seen : SeenPlane v p) where
       by (inl a) = rank-code r (Some code) (rung-hit CountOver (is_over (member_count v.tree here)) ((RankOut (member_count v.tree here), not (nat_lt r (member_count v.tree here))) ∷ []) (over v p seen a.1) ∙ ap (λ (c : Code). Some c) (sym a.0))
       by (inr a) =
           let l = its-list v p seen in
-          let out : not (nat_lt r (member_count v.tree here)) ≡ true = ap not (false_from_ne_true (nat_lt r (member_count v.tree here)) (λ t. omega (arith, ltb-true r (member_count v.tree here) t, l.counted, a.1.0))) in
-          rank-code r (Some code) (rung-missed CountOver (is_over (member_count v.tree here)) ((RankOut (member_count v.tree here), not (nat_lt r (member_count v.tree here))) ∷ []) (Some code) (not-over v p seen a.1.1)
+          let out : not (nat_lt r (member_count v.tree here)) ≡ true = ap not (false_from_ne_true (nat_lt r (member_count v.tree here)) (λ t. omega (arith, ltb-true r (member_count v.tree here) t, l.counted, a.1))) in
+          rank-code r (Some code) (rung-missed CountOver (is_over (member_count v.tree here)) ((RankOut (member_count v.tree here), not (nat_lt r (member_count v.tree here))) ∷ []) (Some code) (not-over v p seen a.2)
           (rung-hit (RankOut (member_count v.tree here)) (not (nat_lt r (member_count v.tree here))) [] out ∙ ap (λ (m : ℕ). Some (RankOut m)) (sym l.counted) ∙ ap (λ (c : Code). Some c) (sym a.0)))
   rank-plan r End h = absurd h
   rank-plan r (Change q) h =

@@ -11,3 +11,5 @@ pub mod History
 pub mod Count
 pub mod Walk
 pub mod Listing
+pub mod Take
+pub mod Convert

@@ -2,6 +2,7 @@
 #![tactic(auto)]
 
 mod board;
+mod carrying;
 mod code;
 mod commands;
 mod embedded;
