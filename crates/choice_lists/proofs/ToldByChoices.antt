@@ -44,7 +44,7 @@ zero-more : (m : ℕ) → 0 + m ≡ m
 zero-more m = omega arith
 
 -- the value at a place
-values-at : {Y : Type 0} (k n : ℕ) (f : ℕ → Y) (i : ℕ) (d : Y) → i < n → slice_index_or (values_from k n f) i d ≡ f (k + i)
+pub values-at : {Y : Type 0} (k n : ℕ) (f : ℕ → Y) (i : ℕ) (d : Y) → i < n → slice_index_or (values_from k n f) i d ≡ f (k + i)
 values-at k zero f i d h = absurd (omega arith)
 values-at k (suc n) f zero d h = ap f (omega arith)
 values-at k (suc n) f (suc i) d h = values-at (k + 1) n f i d (omega arith) ∙ ap f (omega arith)
@@ -62,19 +62,19 @@ values-length k zero f = refl
 values-length k (suc n) f = ap suc (values-length (k + 1) n f)
 
 -- one value more
-values-more : {Y : Type 0} (k n : ℕ) (f : ℕ → Y) → values_from k (suc n) f ≡ values_from k n f ++ f (k + n) ∷ []
+pub values-more : {Y : Type 0} (k n : ℕ) (f : ℕ → Y) → values_from k (suc n) f ≡ values_from k n f ++ f (k + n) ∷ []
 values-more k zero f = ap (λ z. f z ∷ []) (omega arith)
 values-more k (suc n) f = ap (λ z. f k ∷ z) (values-more (k + 1) n f ∙ ap (λ z. values_from (k + 1) n f ++ f z ∷ []) (omega arith))
 
 -- what stands in the list of values is a value
-values-back : {Y : Type 0} (k n : ℕ) (f : ℕ → Y) (i : ℕ) (y : Y) → At (values_from k n f) i y → (i < n) × (f (k + i) ≡ y)
+pub values-back : {Y : Type 0} (k n : ℕ) (f : ℕ → Y) (i : ℕ) (y : Y) → At (values_from k n f) i y → (i < n) × (f (k + i) ≡ y)
 values-back k n f i y a =
     let w : i < length (values_from k n f) = at-within (values_from k n f) i y a in
     let l : i < n = omega (arith, w, values-length k n f) in
     (l, sym (values-at k n f i y l) ∙ at-get (values_from k n f) i y y a)
 
 -- images of values
-values-map : {Y Z : Type 0} (k n : ℕ) (f : ℕ → Y) (g : Y → Z) → map g (values_from k n f) ≡ values_from k n (λ i. g (f i))
+pub values-map : {Y Z : Type 0} (k n : ℕ) (f : ℕ → Y) (g : Y → Z) → map g (values_from k n f) ≡ values_from k n (λ i. g (f i))
 values-map k zero f g = refl
 values-map k (suc n) f g = ap (λ z. g (f k) ∷ z) (values-map (k + 1) n f g)
 

@@ -3,3 +3,11 @@ pub mod Lexicographic
 pub mod First
 mod Fans
 mod Mirrors
+pub mod RunSteps
+pub mod TurnSteps
+pub mod ExchangeSteps
+pub mod KeptLists
+pub mod BondMoves
+pub mod States
+pub mod RunKeys
+pub mod Spheres

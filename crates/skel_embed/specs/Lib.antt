@@ -5,3 +5,7 @@ pub mod Fan
 pub mod Members
 pub mod Outcomes
 pub mod Planes
+pub mod Steps
+pub mod Exchanges
+pub mod Values
+pub mod Taken

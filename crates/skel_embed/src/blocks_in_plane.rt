@@ -10,10 +10,11 @@ ghost use Rattle.skeletons.proofs.NodeItems.{nth_item};
 ghost use Rattle.skel_embed.specs.First.{choice_in, AreFirstMembers, IsFirst};
 ghost use Rattle.skel_embed.specs.Outcomes.{IsFoundBySkeletons, AreChoicesIn};
 
+use crate::kept::Kept;
 use crate::members::{Members, members_of};
 use crate::state::PlaneBlock;
 use kuratowski::Subdivision;
-use multigraph::{Graph, Numbers};
+use multigraph::Graph;
 use pair_split::{Item, Kind};
 use planarity::Embedder;
 use rotations::Rotation;
@@ -58,7 +59,7 @@ fn choice_of(alloc: Global, tree: &Tree, k: u32, member: &Rotation) -> Result<Ve
 }
 
 // The choices that the members give the nodes.
-fn choices_of(alloc: Global, tree: &Tree, members: &[Rotation]) -> Result<Vec<Numbers>, AllocError>
+fn choices_of(alloc: Global, tree: &Tree, members: &[Rotation]) -> Result<Vec<Kept>, AllocError>
     requires block { (g : Multigraph) × IsBlockTree g tree.now }
     requires systems { AreSkeletonSystems tree.now members.now }
     ensures { IfOk result (λ choices. AreChoicesIn tree.now members.now (length tree.now) choices.items) }
@@ -66,7 +67,7 @@ fn choices_of(alloc: Global, tree: &Tree, members: &[Rotation]) -> Result<Vec<Nu
     let mut choices = Vec::new(alloc);
     for k in 0..tree.node_count() {
         let keys = choice_of(alloc, tree, k, &members[k as usize])?;
-        choices.push(Numbers::of(keys))?;
+        choices.push(Kept::of(keys))?;
     }
     Ok(choices)
 }

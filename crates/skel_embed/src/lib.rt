@@ -16,14 +16,23 @@
 #![tactic(auto)]
 
 mod blocks_in_plane;
+mod choosing;
+mod exchanging;
+mod kept;
 mod members;
+mod moves;
 mod planes;
+mod runs;
 mod state;
 mod systems;
+mod taking;
+mod turning;
 
 pub use blocks_in_plane::{BySkeletons, embed_by_skeletons};
+pub use moves::{Keys, Move, MoveList};
 pub use planes::{Outcome, plane_block};
 pub use state::PlaneBlock;
+pub use taking::TakeFault;
 
 #[cfg(test)]
 mod tests;

@@ -1,11 +1,25 @@
 // A block in the plane.
 
-ghost use Rattle.std.specs.Prelude.{◌≡◌, ◌<◌, length, IfOk, slice_set};
+ghost use Rattle.std.specs.Prelude.{◌≡◌, ◌<◌, true, length, map, reverse, IfOk, IfErr, slice_set};
+ghost use Rattle.permutations.specs.Cyclic.{from_least};
+ghost use Rattle.permutations.specs.Members.{is_member};
+ghost use Rattle.pair_split.specs.declared.components.Kind.TheVariants.{P, R};
+ghost use Rattle.skeletons.specs.Items.{node_keys};
 ghost use Rattle.skeletons.specs.Choices.{choice};
+ghost use Rattle.skeletons.specs.Moves.{IsNodeOfKind, FlipLeads, PermuteLeads};
+ghost use Rattle.rotations.specs.Runs.{mirror_image};
+ghost use Rattle.skel_embed.specs.Exchanges.{exchanged, turned_choice};
+ghost use Rattle.skeletons.specs.Lists.{KeepsChoices};
 ghost use Rattle.skel_embed.specs.Block.{BlockState, lock_at, IsBlockState};
+ghost use Rattle.skel_embed.specs.Taken.{IsGiven, IsTakeRefusal};
 
-use multigraph::{Graph, Numbers};
-use rotations::Rotation;
+use crate::choosing::{choices_of, first_other};
+use crate::exchanging::exchange_node;
+use crate::kept::{Kept, turn_all};
+use crate::taking::{TakeFault, given};
+use crate::turning::turn_node;
+use multigraph::{Graph, Part};
+use rotations::{Lists, Rotation};
 use spqr_tree::Tree;
 use std::alloc::{AllocError, Global};
 use std::marker::Model;
@@ -13,11 +27,11 @@ use std::marker::Model;
 /// A block with its tree, a plane rotation system, the choice of each node, and locks on nodes. Contracts see all five.
 #[derive(Debug, Drop)]
 pub struct PlaneBlock {
-    graph: Graph,
-    tree: Tree,
-    rotation: Rotation,
-    choices: Vec<Numbers>,
-    locks: Vec<bool>,
+    pub(crate) graph: Graph,
+    pub(crate) tree: Tree,
+    pub(crate) rotation: Rotation,
+    pub(crate) choices: Vec<Kept>,
+    pub(crate) locks: Vec<bool>,
 }
 
 impl Model for PlaneBlock {
@@ -36,7 +50,7 @@ impl PlaneBlock {
         graph: Graph,
         tree: Tree,
         rotation: Rotation,
-        choices: Vec<Numbers>,
+        choices: Vec<Kept>,
         locks: Vec<bool>,
     ) -> PlaneBlock
         requires { IsBlockState (record { graph = graph; tree = tree; rotation = rotation; choices = choices.items; locks = locks.items }) }
@@ -84,6 +98,14 @@ impl PlaneBlock {
         Vec::from_slice(alloc, self.choices[k as usize].as_slice())
     }
 
+    /// The present choice of node `k`, as it is kept. Takes no memory.
+    pub fn keys(&self, k: u32) -> &[u32]
+        requires { k < length self.now.tree }
+        ensures { result.now ≡ choice self.now.tree self.now.rotation k }
+    {
+        self.choices[k as usize].as_slice()
+    }
+
     /// Whether node `k` is locked.
     pub fn locked(&self, k: u32) -> bool
         requires { k < length self.now.tree }
@@ -98,6 +120,81 @@ impl PlaneBlock {
         ensures { self.new ≡ record self.old { locks = slice_set self.old.locks k on } }
     {
         self.locks[k as usize] = on;
+    }
+
+    /// Turns the triconnected node `k` over: at each of its vertices its groups stand in the reverse cyclic order, each group as
+    /// it was, and so the choice is turned round (Di Battista and Tamassia 1996). All else stays. Takes no memory, and time in
+    /// proportion to the degrees of the node's vertices, times that of `Tree::group`.
+    pub fn turn(&mut self, k: u32)
+        requires node { IsNodeOfKind self.old.tree k R }
+        ensures flip { FlipLeads self.old.graph self.old.tree k self.old.rotation self.new.rotation }
+        ensures choice { self.new.choices ≡ slice_set self.old.choices k (from_least (reverse (choice self.old.tree self.old.rotation k))) }
+        ensures rest { self.new ≡ record self.old { rotation = self.new.rotation; choices = self.new.choices } }
+    {
+        turn_node(&self.graph, &self.tree, &mut self.rotation, k);
+        self.choices[k as usize].turn_round();
+    }
+
+    /// Puts the groups of the bond `k` with the keys `a` and `b` in each other's place at both poles, each group as it was (Di
+    /// Battista and Tamassia 1996). So these two keys change places in the choice. All else stays. Takes no memory, and time in
+    /// proportion to the degrees of the poles, times that of `Tree::group`.
+    pub fn exchange_groups(&mut self, k: u32, a: u32, b: u32)
+        requires node { IsNodeOfKind self.old.tree k P }
+        requires first { is_member a (node_keys self.old.tree k) ≡ true }
+        requires second { is_member b (node_keys self.old.tree k) ≡ true }
+        ensures permute { PermuteLeads self.old.graph self.old.tree k (exchanged a b (choice self.old.tree self.old.rotation k)) self.old.rotation self.new.rotation }
+        ensures choice { self.new.choices ≡ slice_set self.old.choices k (from_least (exchanged a b (choice self.old.tree self.old.rotation k))) }
+        ensures rest { self.new ≡ record self.old { rotation = self.new.rotation; choices = self.new.choices } }
+    {
+        exchange_node(&self.graph, &self.tree, &mut self.rotation, k, a, b);
+        self.choices[k as usize].exchange(a, b);
+    }
+
+    /// Reverses every rotation: the block is seen from the other side, and each choice is turned round. All else stays. Takes no
+    /// memory, and time in proportion to the size of the block.
+    pub fn mirror(&mut self)
+        ensures mirrored { self.new.rotation ≡ mirror_image self.old.rotation }
+        ensures choices { self.new.choices ≡ map turned_choice self.old.choices }
+        ensures rest { self.new ≡ record self.old { rotation = self.new.rotation; choices = self.new.choices } }
+    {
+        self.rotation.mirror();
+        turn_all(&mut self.choices);
+    }
+
+    /// Takes lists in: the block then stands at the rotation system that they are. `part` is the part of a graph that the block
+    /// is, and the lists are in the numbers of the whole graph. Graph, tree and locks stay.
+    ///
+    /// Refuses, and changes nothing, where the lists are no rotation system of the block, as `Rotation::from_part` does; else where
+    /// they are not plane, that is where V - E + F is not 2 (Euler 1758, Heffter 1891); else where they have another choice at a
+    /// locked node, and names the least such. Takes linear time, and for each node with a choice the degree of its least vertex
+    /// times the time of `Tree::group`.
+    pub fn take(&mut self, alloc: Global, part: &Part, lists: &Lists) -> Result<(), TakeFault>
+        requires { part.now.graph ≡ self.old.graph }
+        ensures given { IfOk result (λ _. IsGiven part.now lists.now self.new.rotation) }
+        ensures keeps { IfOk result (λ _. KeepsChoices self.old.tree (λ k. lock_at self.old.locks k) self.old.rotation self.new.rotation) }
+        ensures rest { IfOk result (λ _. self.new ≡ record self.old { rotation = self.new.rotation; choices = self.new.choices }) }
+        ensures refused { IfErr result (λ fault. IsTakeRefusal self.old part.now lists.now fault × (self.new ≡ self.old)) }
+    {
+        let rotation = match given(alloc, &self.graph, part, lists) {
+            Ok(r) => r,
+            Err(fault) => return Err(fault),
+        };
+        let Ok(choices) = choices_of(alloc, &self.graph, &self.tree, &rotation, &self.choices) else {
+            return Err(TakeFault::Memory);
+        };
+        match first_other(
+            self.tree.node_count(),
+            &self.locks,
+            &self.choices,
+            &choices,
+        ) {
+            Some(k) => Err(TakeFault::Locked(k)),
+            None => {
+                self.rotation = rotation;
+                self.choices = choices;
+                Ok(())
+            }
+        }
     }
 
     /// The same block once more.
@@ -115,12 +212,12 @@ impl PlaneBlock {
 }
 
 // The same lists once more.
-fn copies(alloc: Global, lists: &[Numbers]) -> Result<Vec<Numbers>, AllocError>
+fn copies(alloc: Global, lists: &[Kept]) -> Result<Vec<Kept>, AllocError>
     ensures { IfOk result (λ copies. copies.items ≡ lists.now) }
 {
     let mut copies = Vec::with_capacity(alloc, lists.len())?;
     for list in lists {
-        copies.push(Numbers::of(Vec::from_slice(alloc, list.as_slice())?))?;
+        copies.push(Kept::of(Vec::from_slice(alloc, list.as_slice())?))?;
     }
     Ok(copies)
 }

@@ -5,7 +5,7 @@ use blocks::is_one_block;
 use contract_embed::ContractEmbedder;
 use kuratowski::Subdivision;
 use multigraph::{Graph, Numbers};
-use pair_split::{PairSplitter, Splitter};
+use pair_split::{Kind, PairSplitter, Splitter};
 use spqr_tree::Tree;
 use std::alloc::Global;
 use std::test::Fail;
@@ -167,6 +167,41 @@ fn has_choices_and_locks(rt: HostRuntime) -> Result<(), Fail> {
         assert!(rt; has_choice(rt.alloc(), &mut block, k, rows[k as usize])?);
     }
     assert_eq!(rt; block.graph().edge_count(), 11);
+    Ok(())
+}
+
+// The fourth block with the node on the vertices 0, 1, 2 and 3 turned over.
+static TURNED: Row = Row {
+    vertices: 6,
+    ends: &[],
+    rounds: &[
+        &[0, 2, 1, 6, 7],
+        &[0, 9, 8, 3, 4],
+        &[1, 5, 3],
+        &[2, 4, 5],
+        &[6, 8, 10],
+        &[7, 10, 9],
+    ],
+};
+
+// Turns node k over, where it is triconnected.
+fn turn(block: &mut PlaneBlock, k: u32) -> bool {
+    if k >= block.tree().node_count() || block.tree().kind(k) != Kind::R {
+        return false;
+    }
+    block.turn(k);
+    true
+}
+
+#[test]
+fn turns_over(rt: HostRuntime) -> Result<(), Fail> {
+    let Some(mut block) = block_of(rt.alloc(), ROWS[3].vertices, ROWS[3].ends)? else {
+        return Err(Fail::from("not plane"));
+    };
+    assert!(rt; turn(&mut block, 1));
+    assert!(rt; stands_at(&block, &TURNED));
+    assert!(rt; turn(&mut block, 1));
+    assert!(rt; stands_at(&block, &ROWS[3]));
     Ok(())
 }
 

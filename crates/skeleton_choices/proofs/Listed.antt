@@ -96,17 +96,17 @@ module _ (g : Multigraph) (nodes : List Node) (b : IsBlockTree g nodes) where
 
   module _ (r : List (List ℕ)) (p : IsPlaneSystem g r) where
     -- the possible choices of a node, in order
-    pub options_of : Kind → ℕ → List (List ℕ)
+    unfoldable pub options_of : Kind → ℕ → List (List ℕ)
     options_of P k = bond_choices (node_keys nodes k)
     options_of R k = rigid_choices (choice nodes r k)
     options_of S k = [] ∷ []
     options_of B k = [] ∷ []
 
-    pub options : ℕ → List (List ℕ)
+    unfoldable pub options : ℕ → List (List ℕ)
     options k = options_of (node_at nodes k).kind k
 
     -- the keys of a bond
-    bond-keys_cut : (k : ℕ) → k < length nodes → (key : ℕ) × (keys : List ℕ) × (node_keys nodes k ≡ key ∷ keys)
+    pub bond-keys_cut : (k : ℕ) → k < length nodes → (key : ℕ) × (keys : List ℕ) × (node_keys nodes k ≡ key ∷ keys)
     bond-keys_cut k l = cut (node_at nodes k).items some
       where
         some : 0 < length (node_at nodes k).items
@@ -116,11 +116,11 @@ module _ (g : Multigraph) (nodes : List Node) (b : IsBlockTree g nodes) where
         cut [] s = absurd (omega (arith, s))
         cut (item ∷ items) s = (item.key, map item_key items, refl)
 
-    rise : (k : ℕ) → k < length nodes → IsRising nat_lt (node_keys nodes k)
+    pub rise : (k : ℕ) → k < length nodes → IsRising nat_lt (node_keys nodes k)
     rise k l = rising-keys (node_keys nodes k) (b.tree.in_order.keys_rise k l)
 
     -- a triconnected node's choice is not its own mirror image
-    two-ways : (k : ℕ) → k < length nodes → (node_at nodes k).kind ≡ R → mirror_choice (choice nodes r k) ≢ choice nodes r k
+    pub two-ways : (k : ℕ) → k < length nodes → (node_at nodes k).kind ≡ R → mirror_choice (choice nodes r k) ≢ choice nodes r k
     two-ways k l e = mirror-differs (choice nodes r k) (choice-normal r k p l).0
         (subst (λ (z : List ℕ). 3 ≤ length z) (sym (choice-round g nodes b r k R e)) (rigid-three g nodes b r k (least_vertex nodes k) p (l, e) (least-has g nodes b k l)))
 
@@ -135,7 +135,7 @@ module _ (g : Multigraph) (nodes : List Node) (b : IsBlockTree g nodes) where
         by_kind B e = inr (inr refl)
 
     -- the choices of plane rotation systems are among them
-    choice-option : (q : List (List ℕ)) (k : ℕ) → IsPlaneSystem g q → k < length nodes → Contains (options k) (choice nodes q k)
+    pub choice-option : (q : List (List ℕ)) (k : ℕ) → IsPlaneSystem g q → k < length nodes → Contains (options k) (choice nodes q k)
     unfolding options options_of
     choice-option q k s l = by_kind (node_at nodes k).kind refl
       where
@@ -176,7 +176,7 @@ module _ (g : Multigraph) (nodes : List Node) (b : IsBlockTree g nodes) where
         by_kind B e m = sym (one-contains [] c m)
 
     -- how many there are
-    options-count : (k : ℕ) → k < length nodes → length (options k) ≡ choice_count (node_at nodes k).kind (length (node_at nodes k).items)
+    pub options-count : (k : ℕ) → k < length nodes → length (options k) ≡ choice_count (node_at nodes k).kind (length (node_at nodes k).items)
     unfolding options options_of
     options-count k l = by_kind (node_at nodes k).kind
       where
@@ -190,14 +190,14 @@ module _ (g : Multigraph) (nodes : List Node) (b : IsBlockTree g nodes) where
 
     module _ (locked : ℕ → Bool) where
       -- those of a locked node: its own choice
-      pub free : ℕ → List (List ℕ)
+      unfoldable pub free : ℕ → List (List ℕ)
       free k = cond (locked k) (choice nodes r k ∷ []) (options k)
 
-      free-locked : (k : ℕ) → locked k ≡ true → free k ≡ choice nodes r k ∷ []
+      pub free-locked : (k : ℕ) → locked k ≡ true → free k ≡ choice nodes r k ∷ []
       unfolding free
       free-locked k y = ap (λ (z : Bool). cond z (choice nodes r k ∷ []) (options k)) y
 
-      free-open : (k : ℕ) → locked k ≡ false → free k ≡ options k
+      pub free-open : (k : ℕ) → locked k ≡ false → free k ≡ options k
       unfolding free
       free-open k n = ap (λ (z : Bool). cond z (choice nodes r k ∷ []) (options k)) n
 

@@ -25,7 +25,7 @@ mod word;
 
 pub use answers::{
     count_line, end_line, error_line, euler_line, faces_lines, gml_lines, list_line, more_line,
-    ok_line, push_rotation_line, rank_line, rotation_line,
+    moves_lines, ok_line, push_rotation_line, rank_line, rotation_line,
 };
 pub use command::{Command, ScriptFault};
 pub use head::{

@@ -1,0 +1,2 @@
+-- Lemmas on moves from one rotation system to another.
+pub mod Between

@@ -1,0 +1,2 @@
+-- Moves and locks.
+pub mod Laws

@@ -1,0 +1,38 @@
+-- What a change of one node leaves. Contracts of private functions cite these.
+use Rattle.std.specs.Prelude.{◌≡◌, ◌≢◌, ℕ, ◌<◌, ◌≤◌, true, false, List, length}
+use Rattle.pair_split.specs.Tutte.{node_at}
+use Rattle.skeletons.specs.Choices.{choice}
+use Rattle.skel_embed.specs.Block.{BlockState, lock_at}
+use Rattle.embed_enum.specs.Digits.{digit_of, radix_at, digit_at, number_to}
+use Rattle.embed_enum.specs.Walk.{KeepsRest}
+
+-- graph, tree and locks stay, and the choices of all nodes but k
+pub record KeepsOthers (old new : BlockState) (k : ℕ) : Type 0 where
+  pub graph : new.graph ≡ old.graph
+  pub tree : new.tree ≡ old.tree
+  pub locks : new.locks ≡ old.locks
+  pub others : (j : ℕ) → j < length old.tree → j ≢ k → choice old.tree new.rotation j ≡ choice old.tree old.rotation j
+
+-- the choice of node k became c, and the others stayed
+abbrev pub IsChosen : BlockState → BlockState → ℕ → List ℕ → Type 0
+IsChosen old new k c = KeepsOthers old new k × (choice old.tree new.rotation k ≡ c)
+
+-- the place of the present choice of node k among its possible choices
+abbrev pub node_digit : BlockState → ℕ → ℕ
+node_digit s k = digit_of (node_at s.tree k).kind (choice s.tree s.rotation k)
+
+-- the choice of node k became the one at place d, and the others stayed
+abbrev pub IsMoved : BlockState → BlockState → ℕ → ℕ → Type 0
+IsMoved old new k d = KeepsOthers old new k × (node_digit new k ≡ d)
+
+-- the nodes of a range that are not locked are at their first choices, and the choices of all others stayed
+pub record AreReset (old new : BlockState) (from to : ℕ) : Type 0 where
+  pub rest : KeepsRest old new
+  pub kept : (j : ℕ) → j < length old.tree → (from ≤ j → j < to → lock_at old.locks j ≡ true) → choice old.tree new.rotation j ≡ choice old.tree old.rotation j
+  pub first : (j : ℕ) → from ≤ j → j < to → lock_at old.locks j ≡ false → node_digit new j ≡ 0
+
+-- the locked nodes kept their choices, and the places of all choices make this number
+pub record IsNumbered (old new : BlockState) (number : ℕ) : Type 0 where
+  pub rest : KeepsRest old new
+  pub kept : (j : ℕ) → j < length old.tree → lock_at old.locks j ≡ true → choice old.tree new.rotation j ≡ choice old.tree old.rotation j
+  pub is : number_to (length old.tree) (radix_at old.tree (lock_at old.locks)) (digit_at old.tree (lock_at old.locks) new.rotation) ≡ number

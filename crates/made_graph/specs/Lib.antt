@@ -1,0 +1,3 @@
+-- The graphs that are made from a number.
+pub mod Made
+pub mod Laws

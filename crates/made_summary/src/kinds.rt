@@ -1,0 +1,60 @@
+// Nodes of a tree by their kinds.
+ghost use Rattle.std.specs.Prelude.{◌≡◌, length, MatchOption};
+ghost use Rattle.made_summary.specs.Kinds.{IsLeastWithChoices, NoneHasChoices, has_choices, is_bond, is_polygon, is_rigid, nodes_of};
+
+use pair_split::Kind;
+use spqr_tree::Tree;
+
+// How many nodes are polygons, bonds and triconnected.
+#[derive(Clone, Copy)]
+pub(crate) struct Kinds {
+    pub(crate) polygons: u32,
+    pub(crate) bonds: u32,
+    pub(crate) rigid: u32,
+}
+
+// How many nodes of the tree are of each kind.
+pub(crate) fn count_kinds(tree: &Tree) -> Kinds
+    ensures polygons { result.polygons ≡ nodes_of is_polygon tree.now }
+    ensures bonds { result.bonds ≡ nodes_of is_bond tree.now }
+    ensures rigid { result.rigid ≡ nodes_of is_rigid tree.now }
+{
+    let mut polygons = 0;
+    let mut bonds = 0;
+    let mut rigid = 0;
+    for k in 0..tree.node_count() {
+        match tree.kind(k) {
+            Kind::S => polygons += 1,
+            Kind::P => bonds += 1,
+            Kind::R => rigid += 1,
+            Kind::B => {}
+        }
+    }
+    Kinds {
+        polygons,
+        bonds,
+        rigid,
+    }
+}
+
+// Whether nodes of this kind have choices.
+fn has_choices(kind: Kind) -> bool
+    ensures { result ≡ has_choices kind }
+{
+    match kind {
+        Kind::P | Kind::R => true,
+        Kind::S | Kind::B => false,
+    }
+}
+
+// The least node that has choices.
+pub(crate) fn least_with_choices(tree: &Tree) -> Option<u32>
+    ensures { MatchOption result (NoneHasChoices tree.now (length tree.now)) (λ k. IsLeastWithChoices tree.now k) }
+{
+    for k in 0..tree.node_count() {
+        if has_choices(tree.kind(k)) {
+            return Some(k);
+        }
+    }
+    None
+}

@@ -1,0 +1,136 @@
+// A choice as it is kept: its keys, from the least on. It is changed in its place.
+
+ghost use Rattle.std.specs.Prelude.{◌≡◌, ◌<◌, ◌≤◌, ◌++◌, true, length, map, reverse, take, drop};
+ghost use Rattle.permutations.specs.Cyclic.{from_least, turned};
+ghost use Rattle.permutations.specs.Members.{is_member, is_distinct};
+ghost use Rattle.skel_embed.specs.Exchanges.{other_of, exchanged, turned_choice, AreWritten, StandsAt};
+
+use std::marker::Model;
+
+// The keys of a choice.
+#[derive(Debug, Drop)]
+pub(crate) struct Kept {
+    held: Vec<u32>,
+}
+
+impl Model for Kept {
+    ghost use Rattle.std.specs.Prelude.{List, ℕ};
+
+    ghost Value = { List ℕ };
+
+    ghost view = { λ keys. keys.held.items };
+}
+
+impl Kept {
+    // The choice with these keys. Takes no memory.
+    pub(crate) fn of(v: Vec<u32>) -> Kept
+        ensures { result ≡ v.items }
+    {
+        Kept { held: v }
+    }
+
+    // Its keys, in order.
+    pub(crate) fn as_slice(&self) -> &[u32]
+        ensures { result.now ≡ self.now }
+    {
+        self.held.as_slice()
+    }
+
+    // The same cyclic order the other way round.
+    pub(crate) fn turn_round(&mut self)
+        requires once { is_distinct self.old ≡ true }
+        requires written { from_least self.old ≡ self.old }
+        ensures { self.new ≡ turned_choice self.old }
+    {
+        if self.held.is_empty() {
+            return;
+        }
+        reverse_from(&mut self.held, 1);
+    }
+
+    // The cyclic order with two keys in each other's place.
+    pub(crate) fn exchange(&mut self, a: u32, b: u32)
+        requires once { is_distinct self.old ≡ true }
+        requires written { from_least self.old ≡ self.old }
+        requires first { is_member a self.old ≡ true }
+        requires second { is_member b self.old ≡ true }
+        ensures { self.new ≡ from_least (exchanged a b self.old) }
+    {
+        let least = self.held[0];
+        exchange_all(&mut self.held, a, b);
+        turn_to(&mut self.held, least);
+    }
+}
+
+// Turns each choice round.
+pub(crate) fn turn_all(choices: &mut Vec<Kept>)
+    requires { AreWritten choices.old.items }
+    ensures { choices.new.items ≡ map turned_choice choices.old.items }
+{
+    for k in 0..choices.len() {
+        choices[k].turn_round();
+    }
+}
+
+// Reverses the keys before a place.
+fn reverse_to(keys: &mut Vec<u32>, place: usize)
+    requires { place ≤ length keys.old.items }
+    ensures { keys.new.items ≡ reverse (take place keys.old.items) ++ drop place keys.old.items }
+{
+    keys[0..place].reverse();
+}
+
+// Reverses the keys from a place on.
+fn reverse_from(keys: &mut Vec<u32>, place: usize)
+    requires { place ≤ length keys.old.items }
+    ensures { keys.new.items ≡ take place keys.old.items ++ reverse (drop place keys.old.items) }
+{
+    let end = keys.len();
+    keys[place..end].reverse();
+}
+
+// The other one of a and b, and each other key itself.
+fn other_of(a: u32, b: u32, key: u32) -> u32
+    ensures { result ≡ other_of a b key }
+{
+    if key == a {
+        b
+    } else if key == b {
+        a
+    } else {
+        key
+    }
+}
+
+// Puts a for b and b for a.
+fn exchange_all(keys: &mut Vec<u32>, a: u32, b: u32)
+    ensures { keys.new.items ≡ exchanged a b keys.old.items }
+{
+    for i in 0..keys.len() {
+        keys[i] = other_of(a, b, keys[i]);
+    }
+}
+
+// Writes the cyclic order of the keys from this one on.
+pub(crate) fn turn_to(keys: &mut Vec<u32>, first: u32)
+    requires { is_member first keys.old.items ≡ true }
+    ensures { keys.new.items ≡ turned keys.old.items first }
+{
+    let place = place_of(keys, first);
+    reverse_to(keys, place);
+    reverse_from(keys, place);
+    keys.reverse();
+}
+
+// The place of a key.
+fn place_of(keys: &[u32], key: u32) -> usize
+    requires { is_member key keys.now ≡ true }
+    ensures { StandsAt keys.now result key }
+{
+    for i in 0..keys.len() {
+        if keys[i] == key {
+            return i;
+        }
+    }
+    0
+}

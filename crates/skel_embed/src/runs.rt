@@ -1,0 +1,61 @@
+// Runs of edges with one group round a vertex of a node, found and put elsewhere. No memory is taken.
+
+ghost use Rattle.std.specs.Prelude.{◌≡◌, ◌≢◌, ◌<◌, ℕ, length};
+ghost use Rattle.rotations.specs.Rotation.{order_at, IsRotationSystem};
+ghost use Rattle.rotations.specs.Runs.{IsOutside, IsKeptElsewhere};
+ghost use Rattle.pair_split.specs.Tutte.{group};
+ghost use Rattle.skeletons.specs.Items.{IsBlockTree};
+ghost use Rattle.skel_embed.specs.Steps.{EndsRun, BeginsRun, IsPut};
+
+use multigraph::Graph;
+use rotations::Rotation;
+use spqr_tree::Tree;
+
+// The last edge of the run round v, by the groups of node k, in which e stands.
+pub(crate) fn run_last(g: &Graph, t: &Tree, r: &Rotation, k: u32, v: u32, e: u32) -> u32
+    requires block { IsBlockTree g.now t.now }
+    requires node { k < length t.now }
+    requires system { IsRotationSystem g.now r.now }
+    requires vertex { v < g.now.vertex_count }
+    requires ends { (last : ℕ) × EndsRun (group t.now k) (order_at r.now v) e last }
+    ensures { EndsRun (group t.now k) (order_at r.now v) e result }
+{
+    let key = t.group(k, e);
+    let mut at = e;
+    for _step in 0..g.degree(v) {
+        let next = r.succ(v, at);
+        if t.group(k, next) != key {
+            return at;
+        }
+        at = next;
+    }
+    at
+}
+
+// The first edge of the run round v whose edges have this key.
+pub(crate) fn run_first(g: &Graph, t: &Tree, r: &Rotation, k: u32, v: u32, key: u32) -> u32
+    requires block { IsBlockTree g.now t.now }
+    requires node { k < length t.now }
+    requires system { IsRotationSystem g.now r.now }
+    requires vertex { v < g.now.vertex_count }
+    requires begins { (first : ℕ) × BeginsRun (group t.now k) (order_at r.now v) key first }
+    ensures { BeginsRun (group t.now k) (order_at r.now v) key result }
+{
+    for e in g.incident(v) {
+        if t.group(k, *e) == key && t.group(k, r.pred(v, *e)) != key {
+            return *e;
+        }
+    }
+    0
+}
+
+// Puts the run from `first` to `last` behind `after`, unless this is its own last edge.
+pub(crate) fn put_run(r: &mut Rotation, v: u32, first: u32, last: u32, after: u32)
+    requires { after ≢ last → IsOutside (order_at r.old v) first last after }
+    ensures put { IsPut (order_at r.old v) (order_at r.new v) first last after }
+    ensures elsewhere { IsKeptElsewhere r.old r.new v }
+{
+    if after != last {
+        r.move_run(v, first, last, after);
+    }
+}

@@ -1,0 +1,51 @@
+// A triconnected node turned over: at each of its vertices its groups in the reverse cyclic order. No memory is taken.
+
+ghost use Rattle.std.specs.Prelude.{◌≡◌, ◌<◌, ℕ, true, length};
+ghost use Rattle.rotations.specs.Rotation.{order_at, IsRotationSystem};
+ghost use Rattle.rotations.specs.Runs.{IsKeptElsewhere};
+ghost use Rattle.pair_split.specs.Tutte.{group};
+ghost use Rattle.skeletons.specs.Items.{has_vertex, IsBlockTree};
+ghost use Rattle.skeletons.specs.Moves.{AreReversed, FlipLeads};
+ghost use Rattle.skel_embed.specs.Steps.{StandInTwoRuns};
+
+use crate::runs::run_last;
+use multigraph::Graph;
+use rotations::Rotation;
+use spqr_tree::Tree;
+
+// Reverses the cyclic order of the groups of node k round v: each run behind the second is put behind the first.
+fn turn_round(g: &Graph, t: &Tree, r: &mut Rotation, k: u32, v: u32)
+    requires block { IsBlockTree g.now t.now }
+    requires node { k < length t.now }
+    requires vertex { v < g.now.vertex_count }
+    requires system { IsRotationSystem g.now r.old }
+    requires runs { StandInTwoRuns (group t.now k) (order_at r.old v) }
+    ensures system { IsRotationSystem g.now r.new }
+    ensures turned { AreReversed (group t.now k) (order_at r.old v) (order_at r.new v) }
+    ensures elsewhere { IsKeptElsewhere r.old r.new v }
+{
+    let front = run_last(g, t, r, k, v, g.incident(v)[0]);
+    let key = t.group(k, front);
+    let back = run_last(g, t, r, k, v, r.succ(v, front));
+    for _turn in 0..g.degree(v) {
+        let first = r.succ(v, back);
+        if t.group(k, first) == key {
+            return;
+        }
+        let last = run_last(g, t, r, k, v, first);
+        r.move_run(v, first, last, front);
+    }
+}
+
+// Reverses the cyclic order of the groups of node k round each of its vertices.
+pub(crate) fn turn_node(g: &Graph, t: &Tree, r: &mut Rotation, k: u32)
+    requires block { IsBlockTree g.now t.now }
+    requires node { k < length t.now }
+    requires system { IsRotationSystem g.now r.old }
+    requires runs { (v : ℕ) → has_vertex t.now k v ≡ true → StandInTwoRuns (group t.now k) (order_at r.old v) }
+    ensures { FlipLeads g.now t.now k r.old r.new }
+{
+    for v in t.vertices(k) {
+        turn_round(g, t, r, k, *v);
+    }
+}

@@ -1,0 +1,2 @@
+-- The history of moves.
+pub mod History
