@@ -1,4 +1,4 @@
-use Rattle.std.proofs.Common.{◌≡◌, ◌<◌, ℕ, true, List, length, slice_index_or, refl, sym, ap, ◌∙◌, subst, arith}
+use Rattle.std.proofs.Common.{ℕ, List, refl, ap, ◌∙◌}
 use Rattle.permutations.specs.Cyclic.{turned, first_or}
 use Rattle.permutations.specs.Members.{is_member}
 use Rattle.pair_split.specs.Tutte.{node_at}

@@ -5,7 +5,7 @@ use Rattle.permutations.proofs.Successor.{predecessor-member}
 use Rattle.rotations.proofs.Membership.{contains-from_member}
 use Rattle.rotations.specs.Rotation.{order_at}
 use Rattle.pair_split.specs.Tutte.{node_at, group}
-use Rattle.skeletons.specs.Items.{least_vertex, has_vertex}
+use Rattle.skeletons.specs.Items.{least_vertex}
 use Rattle.skeletons.proofs.Vertices.{least-has, vertex-in}
 use Rattle.skel_embed.specs.Taken.{begins_run}
 use Rattle.skel_embed.proofs.KeptLists.{member-filled}
