@@ -13,7 +13,7 @@ mod flipping;
 mod mirroring;
 mod permuting;
 
-pub use carrying::carry_out;
+pub use carrying::{back, carry_out};
 pub use flipping::{FlipFault, flip};
 pub use mirroring::{Locked, mirror};
 pub use permuting::{PermuteFault, permute};
