@@ -9,3 +9,5 @@ pub mod ExchangeSteps
 pub mod KeptLists
 pub mod BondMoves
 pub mod States
+pub mod RunKeys
+pub mod Spheres

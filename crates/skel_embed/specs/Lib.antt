@@ -8,3 +8,4 @@ pub mod Planes
 pub mod Steps
 pub mod Exchanges
 pub mod Values
+pub mod Taken

@@ -112,7 +112,7 @@ fn exchange_all(keys: &mut Vec<u32>, a: u32, b: u32)
 }
 
 // Writes the cyclic order of the keys from this one on.
-fn turn_to(keys: &mut Vec<u32>, first: u32)
+pub(crate) fn turn_to(keys: &mut Vec<u32>, first: u32)
     requires { is_member first keys.old.items ≡ true }
     ensures { keys.new.items ≡ turned keys.old.items first }
 {

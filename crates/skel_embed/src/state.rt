@@ -1,6 +1,6 @@
 // A block in the plane.
 
-ghost use Rattle.std.specs.Prelude.{◌≡◌, ◌<◌, true, length, map, reverse, IfOk, slice_set};
+ghost use Rattle.std.specs.Prelude.{◌≡◌, ◌<◌, true, length, map, reverse, IfOk, IfErr, slice_set};
 ghost use Rattle.permutations.specs.Cyclic.{from_least};
 ghost use Rattle.permutations.specs.Members.{is_member};
 ghost use Rattle.pair_split.specs.declared.components.Kind.TheVariants.{P, R};
@@ -9,13 +9,17 @@ ghost use Rattle.skeletons.specs.Choices.{choice};
 ghost use Rattle.skeletons.specs.Moves.{IsNodeOfKind, FlipLeads, PermuteLeads};
 ghost use Rattle.rotations.specs.Runs.{mirror_image};
 ghost use Rattle.skel_embed.specs.Exchanges.{exchanged, turned_choice};
+ghost use Rattle.skeletons.specs.Lists.{KeepsChoices};
 ghost use Rattle.skel_embed.specs.Block.{BlockState, lock_at, IsBlockState};
+ghost use Rattle.skel_embed.specs.Taken.{IsGiven, IsTakeRefusal};
 
+use crate::choosing::{choices_of, first_other};
 use crate::exchanging::exchange_node;
 use crate::kept::{Kept, turn_all};
+use crate::taking::{TakeFault, given};
 use crate::turning::turn_node;
-use multigraph::Graph;
-use rotations::Rotation;
+use multigraph::{Graph, Part};
+use rotations::{Lists, Rotation};
 use spqr_tree::Tree;
 use std::alloc::{AllocError, Global};
 use std::marker::Model;
@@ -155,6 +159,38 @@ impl PlaneBlock {
     {
         self.rotation.mirror();
         turn_all(&mut self.choices);
+    }
+
+    /// Takes lists in: the block then stands at the rotation system that they are. `part` is the part of a graph that the block
+    /// is, and the lists are in the numbers of the whole graph. Graph, tree and locks stay.
+    ///
+    /// Refuses, and changes nothing, where the lists are no rotation system of the block, as `Rotation::from_part` does; else where
+    /// they are not plane, that is where V - E + F is not 2 (Euler 1758, Heffter 1891); else where they have another choice at a
+    /// locked node, and names the least such. Takes linear time, and for each node with a choice the degree of its least vertex
+    /// times the time of `Tree::group`.
+    pub fn take(&mut self, alloc: Global, part: &Part, lists: &Lists) -> Result<(), TakeFault>
+        requires { part.now.graph ≡ self.old.graph }
+        ensures given { IfOk result (λ _. IsGiven part.now lists.now self.new.rotation) }
+        ensures keeps { IfOk result (λ _. KeepsChoices self.old.tree (λ k. lock_at self.old.locks k) self.old.rotation self.new.rotation) }
+        ensures rest { IfOk result (λ _. self.new ≡ record self.old { rotation = self.new.rotation; choices = self.new.choices }) }
+        ensures refused { IfErr result (λ fault. IsTakeRefusal self.old part.now lists.now fault × (self.new ≡ self.old)) }
+    {
+        let rotation = match given(alloc, &self.graph, part, lists) {
+            Ok(r) => r,
+            Err(fault) => return Err(fault),
+        };
+        let Ok(choices) = choices_of(alloc, &self.graph, &self.tree, &rotation, &self.choices)
+        else {
+            return Err(TakeFault::Memory);
+        };
+        match first_other(self.tree.node_count(), &self.locks, &self.choices, &choices) {
+            Some(k) => Err(TakeFault::Locked(k)),
+            None => {
+                self.rotation = rotation;
+                self.choices = choices;
+                Ok(())
+            }
+        }
     }
 
     /// The same block once more.

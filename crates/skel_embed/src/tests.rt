@@ -1,11 +1,14 @@
 // First plane rotation systems of small blocks, worked out by hand.
 
-use crate::{BySkeletons, Outcome, PlaneBlock, embed_by_skeletons, plane_block};
+ghost use Rattle.std.specs.Prelude.{◌≡◌, IfOk};
+
+use crate::{BySkeletons, Outcome, PlaneBlock, TakeFault, embed_by_skeletons, plane_block};
 use blocks::is_one_block;
 use contract_embed::ContractEmbedder;
 use kuratowski::Subdivision;
-use multigraph::{Graph, Numbers};
+use multigraph::{Graph, Numbers, Part};
 use pair_split::{Kind, PairSplitter, Splitter};
+use rotations::Lists;
 use spqr_tree::Tree;
 use std::alloc::Global;
 use std::test::Fail;
@@ -202,6 +205,94 @@ fn turns_over(rt: HostRuntime) -> Result<(), Fail> {
     assert!(rt; stands_at(&block, &TURNED));
     assert!(rt; turn(&mut block, 1));
     assert!(rt; stands_at(&block, &ROWS[3]));
+    Ok(())
+}
+
+// The fault with its numbers; nothing where the lists are taken in.
+fn numbers(answer: Result<(), TakeFault>) -> Option<(u32, u32, u32, u32)> {
+    match answer {
+        Ok(()) => None,
+        Err(fault) => match fault {
+            TakeFault::BadRotation(v) => Some((6, v, 0, 0)),
+            TakeFault::NotGenusZero(v, e, f) => Some((7, v, e, f)),
+            TakeFault::Locked(k) => Some((12, k, 0, 0)),
+            TakeFault::Memory => Some((8, 0, 0, 0)),
+        },
+    }
+}
+
+// What taking these lists in answers.
+fn take(
+    alloc: Global,
+    block: &mut PlaneBlock,
+    part: &Part,
+    rows: &[&[u32]],
+) -> Result<Option<(u32, u32, u32, u32)>, Fail>
+    requires { part.now.graph ≡ block.old.graph }
+    ensures { block.new.graph ≡ block.old.graph }
+{
+    let mut lists = Lists::new(alloc);
+    for v in 0..rows.len() {
+        if v < 100 && lists.is_above(v as u32) {
+            lists.push(v as u32, rows[v])?;
+        }
+    }
+    Ok(numbers(block.take(alloc, part, &lists)))
+}
+
+// The complete graph on four vertices as a part of a graph.
+fn part_of_four(alloc: Global) -> Result<Part, Fail> {
+    let whole = Graph::build(alloc, 4, ROWS[0].ends)?;
+    Ok(whole.part(alloc, &[0, 1, 2, 3, 4, 5])?)
+}
+
+// The block that a part is, embedded.
+fn block_in(alloc: Global, part: &Part) -> Result<PlaneBlock, Fail>
+    ensures { IfOk result (λ block. block.graph ≡ part.now.graph) }
+{
+    let graph = part.graph().copy(alloc)?;
+    if !is_one_block(alloc, &graph)? {
+        return Err(Fail::from("no block"));
+    }
+    let comps = PairSplitter::new().split(alloc, &graph)?;
+    let tree = Tree::assemble(alloc, &graph, comps)?;
+    match plane_block(alloc, graph, tree, &mut ContractEmbedder)? {
+        Outcome::Plane(block) => Ok(block),
+        Outcome::Not(..) => Err(Fail::from("not plane")),
+    }
+}
+
+// Lists of the complete graph on four vertices: the first plane rotation system, one that is not plane, and the mirror image.
+static FIRST: [&[u32]; 4] = [&[0, 1, 2], &[0, 4, 3], &[1, 3, 5], &[2, 5, 4]];
+
+static TWISTED: [&[u32]; 4] = [&[0, 1, 2], &[0, 4, 3], &[1, 3, 5], &[2, 4, 5]];
+
+static MIRRORED: [&[u32]; 4] = [&[0, 2, 1], &[0, 3, 4], &[1, 5, 3], &[2, 4, 5]];
+
+#[test]
+fn takes_lists_in(rt: HostRuntime) -> Result<(), Fail> {
+    let part = part_of_four(rt.alloc())?;
+    let mut block = block_in(rt.alloc(), &part)?;
+    let bad = take(rt.alloc(), &mut block, &part, &FIRST[1..])?;
+    assert!(rt; bad == Some((6, 0, 0, 0)));
+    let twisted = take(rt.alloc(), &mut block, &part, &TWISTED)?;
+    assert!(rt; twisted == Some((7, 4, 6, 2)));
+    assert!(rt; stands_at(&block, &ROWS[0]));
+    Ok(())
+}
+
+#[test]
+fn keeps_locked_choices(rt: HostRuntime) -> Result<(), Fail> {
+    let part = part_of_four(rt.alloc())?;
+    let mut block = block_in(rt.alloc(), &part)?;
+    let mirrored = take(rt.alloc(), &mut block, &part, &MIRRORED)?;
+    assert!(rt; mirrored.is_none());
+    if block.tree().node_count() < 1 {
+        return Err(Fail::from("no node"));
+    }
+    block.set_lock(0, true);
+    let first = take(rt.alloc(), &mut block, &part, &FIRST)?;
+    assert!(rt; first == Some((12, 0, 0, 0)));
     Ok(())
 }
 

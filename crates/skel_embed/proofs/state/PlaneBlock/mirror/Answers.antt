@@ -1,4 +1,4 @@
-use Rattle.skel_embed.specs.Block.{BlockState, IsBlockState}
+use Rattle.skel_embed.specs.Block.{BlockState}
 use Rattle.skel_embed.proofs.States.{kept-all, state-mirrored}
 use Rattle.skel_embed.proofs.state.PlaneBlock.mirror.Goals as goal
 

@@ -1,0 +1,54 @@
+// The mirror image of a block in the plane, where it may be.
+
+ghost use Rattle.std.specs.Prelude.{◌≡◌, ◌<◌, length, IfOk, IfErr, MatchOption};
+ghost use Rattle.pair_split.specs.Tutte.{node_at};
+ghost use Rattle.embed_moves.specs.Made.{has_choice, is_held, IsMirrored, NoneHeld, IsLeastHeld};
+
+use pair_split::Kind;
+use skel_embed::PlaneBlock;
+use thiserror::Error;
+
+/// This node is locked, and the mirror image has another choice there.
+#[derive(Debug, Drop, Error)]
+#[error("node {0} is locked")]
+pub struct Locked(pub u32);
+
+// Whether nodes of this kind have a choice.
+fn has_choice(kind: Kind) -> bool
+    ensures { result ≡ has_choice kind }
+{
+    match kind {
+        Kind::P | Kind::R => true,
+        Kind::S | Kind::B => false,
+    }
+}
+
+// The least locked node that has a choice.
+fn least_held(p: &PlaneBlock) -> Option<u32>
+    ensures { MatchOption result (NoneHeld p.now) (IsLeastHeld p.now) }
+{
+    for k in 0..p.tree().node_count() {
+        if p.locked(k) && has_choice(p.tree().kind(k)) {
+            return Some(k);
+        }
+    }
+    None
+}
+
+/// Reverses every rotation of the block: it is seen from the other side, and each choice is turned round.
+///
+/// Refuses, and changes nothing, where a node with a choice, a bond or a triconnected one, is locked, and names the least such.
+/// Takes no memory, and time in proportion to the size of the block.
+pub fn mirror(p: &mut PlaneBlock) -> Result<(), Locked>
+    ensures mirrored { IfOk result (λ _. IsMirrored p.old p.new) }
+    ensures unlocked { IfOk result (λ _. NoneHeld p.old) }
+    ensures refused { IfErr result (λ locked. IsLeastHeld p.old locked.0 × (p.new ≡ p.old)) }
+{
+    match least_held(p) {
+        Some(k) => Err(Locked(k)),
+        None => {
+            p.mirror();
+            Ok(())
+        }
+    }
+}

@@ -1,0 +1,126 @@
+// A bond permuted to given keys, where it may be.
+
+ghost use Rattle.std.specs.Prelude.{◌≡◌, ◌<◌, ◌++◌, ◌↔◌, true, false, length, map, take, drop, slice_index_or, IfOk, IfErr, IsTrue, IsPermutation};
+ghost use Rattle.permutations.specs.Members.{is_member, is_distinct};
+ghost use Rattle.pair_split.specs.declared.components.Kind.TheVariants.{P};
+ghost use Rattle.skeletons.specs.Items.{item_key, node_keys};
+ghost use Rattle.skeletons.specs.Moves.{permute, IsNodeOfKind};
+ghost use Rattle.skel_embed.specs.Block.{lock_at};
+ghost use Rattle.skel_embed.specs.Exchanges.{StandsAt};
+ghost use Rattle.embed_moves.specs.Made.{IsMade, IsPermuteRefusal};
+
+use pair_split::{Item, Kind};
+use skel_embed::PlaneBlock;
+use thiserror::Error;
+
+/// Why a node is not permuted.
+#[derive(Debug, Drop, Error)]
+pub enum PermuteFault {
+    /// It is no bond.
+    #[error("the node is no bond")]
+    WrongKind,
+    /// The keys are no arrangement of its keys.
+    #[error("the keys are no arrangement of the node's keys")]
+    BadOrder,
+    /// It is this node, and locked.
+    #[error("node {0} is locked")]
+    Locked(u32),
+}
+
+// Whether the key is among the keys.
+fn has_key(keys: &[u32], key: u32) -> bool
+    ensures { result ≡ is_member key keys.now }
+{
+    for i in 0..keys.len() {
+        if keys[i] == key {
+            return true;
+        }
+    }
+    false
+}
+
+// Whether the keys are an arrangement of those of the items: as many, and all of them.
+fn is_arrangement(items: &[Item], keys: &[u32]) -> bool
+    requires { is_distinct (map item_key items.now) ≡ true }
+    ensures { IsTrue result ↔ IsPermutation (map item_key items.now) keys.now }
+{
+    if items.len() != keys.len() {
+        return false;
+    }
+    for item in items {
+        if !has_key(keys, item.key) {
+            return false;
+        }
+    }
+    true
+}
+
+// The place of a key.
+fn place_of(keys: &[u32], key: u32) -> usize
+    requires { is_member key keys.now ≡ true }
+    ensures { StandsAt keys.now result key }
+{
+    for i in 0..keys.len() {
+        if keys[i] == key {
+            return i;
+        }
+    }
+    0
+}
+
+// The key at place i of the cyclic order written from a place on.
+fn key_from(keys: &[u32], place: usize, i: usize) -> u32
+    requires place { place < length keys.now }
+    requires within { i < length keys.now }
+    ensures { result ≡ slice_index_or (drop place keys.now ++ take place keys.now) i 0 }
+{
+    let rest = keys.len() - place;
+    if i < rest {
+        keys[place + i]
+    } else {
+        keys[i - rest]
+    }
+}
+
+// Brings the groups of the bond k into the cyclic order of the keys: in each place after the first the group that stands there is
+// exchanged with the one wanted.
+pub(crate) fn permute_to(p: &mut PlaneBlock, k: u32, keys: &[u32])
+    requires node { IsNodeOfKind p.old.tree k P }
+    requires arrangement { IsPermutation (node_keys p.old.tree k) keys.now }
+    ensures { IsMade (permute k keys.now) p.old p.new }
+{
+    let _ = p.tree();
+    let place = place_of(keys, p.keys(k)[0]);
+    for i in 1..keys.len() {
+        let here = p.keys(k)[i];
+        let wanted = key_from(keys, place, i);
+        if here != wanted {
+            p.exchange_groups(k, here, wanted);
+        }
+    }
+}
+
+/// Permutes node `k` to the keys, which may begin anywhere: its groups come into their cyclic order at the lesser pole, and into
+/// the reverse at the other, each group as it was (Di Battista and Tamassia 1996).
+///
+/// Refuses, and changes nothing, where the node is no bond, else where the keys are no arrangement of its own, and else where it
+/// is locked. Takes no memory: the keys are looked up one by one, and each group is brought to its place by an exchange. So it takes
+/// time in proportion to the number of keys times the degrees of the poles, times that of `Tree::group`.
+pub fn permute(p: &mut PlaneBlock, k: u32, keys: &[u32]) -> Result<(), PermuteFault>
+    requires { k < length p.old.tree }
+    ensures made { IfOk result (λ _. IsMade (permute k keys.now) p.old p.new) }
+    ensures unlocked { IfOk result (λ _. lock_at p.old.locks k ≡ false) }
+    ensures refused { IfErr result (λ fault. IsPermuteRefusal p.old k keys.now fault × (p.new ≡ p.old)) }
+{
+    if p.tree().kind(k) != Kind::P {
+        return Err(PermuteFault::WrongKind);
+    }
+    if !is_arrangement(p.tree().items(k), keys) {
+        return Err(PermuteFault::BadOrder);
+    }
+    if p.locked(k) {
+        return Err(PermuteFault::Locked(k));
+    }
+    permute_to(p, k, keys);
+    Ok(())
+}

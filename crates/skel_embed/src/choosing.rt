@@ -1,0 +1,127 @@
+// The choices of another plane rotation system of a block.
+
+ghost use Rattle.std.specs.Prelude.{◌≡◌, ◌≢◌, ◌<◌, ◌↔◌, ◌⊎◌, ℕ, List, length, map, filter, IfOk, IsTrue, MatchOption};
+ghost use Rattle.rotations.specs.Rotation.{order_at};
+ghost use Rattle.pair_split.specs.Tutte.{node_at, group};
+ghost use Rattle.pair_split.specs.declared.components.Kind.TheVariants.{P, R};
+ghost use Rattle.skeletons.specs.Items.{IsBlockTree, least_vertex};
+ghost use Rattle.skeletons.specs.Choices.{choice, IsPlaneSystem};
+ghost use Rattle.skel_embed.specs.Block.{AreChoices};
+ghost use Rattle.skel_embed.specs.Taken.{begins_run, IsFirstOther, NoneOther};
+
+use crate::kept::{Kept, turn_to};
+use multigraph::Graph;
+use pair_split::Kind;
+use rotations::Rotation;
+use spqr_tree::Tree;
+use std::alloc::{AllocError, Global};
+
+// The keys of the runs round the least vertex of node k, which has a choice, from any run on.
+fn keys_of_runs(
+    alloc: Global,
+    g: &Graph,
+    t: &Tree,
+    r: &Rotation,
+    k: u32,
+) -> Result<Vec<u32>, AllocError>
+    requires block { IsBlockTree g.now t.now }
+    requires node { k < length t.now }
+    requires plane { IsPlaneSystem g.now r.now }
+    ensures { IfOk result (λ keys. keys.items ≡ map (group t.now k) (filter (begins_run (group t.now k) (order_at r.now (least_vertex t.now k))) (order_at r.now (least_vertex t.now k)))) }
+{
+    let v = t.vertices(k)[0];
+    let mut keys = Vec::new(alloc);
+    let mut round = r.list(v);
+    while let Some(e) = round.next() {
+        let key = t.group(k, e);
+        if t.group(k, r.pred(v, e)) != key {
+            keys.push(key)?;
+        }
+    }
+    Ok(keys)
+}
+
+// The choice of node k, which has one; `old` is the one in some plane rotation system.
+fn keys_from(
+    alloc: Global,
+    g: &Graph,
+    t: &Tree,
+    r: &Rotation,
+    k: u32,
+    old: &[u32],
+) -> Result<Vec<u32>, AllocError>
+    requires block { IsBlockTree g.now t.now }
+    requires node { k < length t.now }
+    requires plane { IsPlaneSystem g.now r.now }
+    requires kind { ((node_at t.now k).kind ≡ P) ⊎ ((node_at t.now k).kind ≡ R) }
+    requires old { (q : List (List ℕ)) × IsPlaneSystem g.now q × (old.now ≡ choice t.now q k) }
+    ensures { IfOk result (λ keys. keys.items ≡ choice t.now r.now k) }
+{
+    let mut keys = keys_of_runs(alloc, g, t, r, k)?;
+    turn_to(&mut keys, old[0]);
+    Ok(keys)
+}
+
+// The choice of node k; `old` is the one in some plane rotation system.
+fn choice_of(
+    alloc: Global,
+    g: &Graph,
+    t: &Tree,
+    r: &Rotation,
+    k: u32,
+    old: &[u32],
+) -> Result<Vec<u32>, AllocError>
+    requires block { IsBlockTree g.now t.now }
+    requires node { k < length t.now }
+    requires plane { IsPlaneSystem g.now r.now }
+    requires old { (q : List (List ℕ)) × IsPlaneSystem g.now q × (old.now ≡ choice t.now q k) }
+    ensures { IfOk result (λ keys. keys.items ≡ choice t.now r.now k) }
+{
+    match t.kind(k) {
+        Kind::P | Kind::R => Ok(keys_from(alloc, g, t, r, k, old)?),
+        Kind::S | Kind::B => Ok(Vec::new(alloc)),
+    }
+}
+
+// The choices of all nodes; `old` are those in some plane rotation system.
+pub(crate) fn choices_of(
+    alloc: Global,
+    g: &Graph,
+    t: &Tree,
+    r: &Rotation,
+    old: &[Kept],
+) -> Result<Vec<Kept>, AllocError>
+    requires block { IsBlockTree g.now t.now }
+    requires plane { IsPlaneSystem g.now r.now }
+    requires old { (q : List (List ℕ)) × IsPlaneSystem g.now q × AreChoices t.now q (length t.now) old.now }
+    ensures { IfOk result (λ choices. AreChoices t.now r.now (length t.now) choices.items) }
+{
+    let mut choices = Vec::with_capacity(alloc, old.len())?;
+    for k in 0..t.node_count() {
+        let keys = choice_of(alloc, g, t, r, k, old[k as usize].as_slice())?;
+        choices.push(Kept::of(keys))?;
+    }
+    Ok(choices)
+}
+
+// Whether two lists of keys differ.
+fn differ(a: &[u32], b: &[u32]) -> bool
+    ensures { IsTrue result ↔ (a.now ≢ b.now) }
+{
+    a != b
+}
+
+// The least locked node whose choices differ.
+pub(crate) fn first_other(n: u32, locks: &[bool], old: &[Kept], new: &[Kept]) -> Option<u32>
+    requires old { length old.now ≡ length locks.now }
+    requires new { length new.now ≡ length locks.now }
+    requires few { length locks.now ≡ n }
+    ensures { MatchOption result (NoneOther locks.now old.now new.now) (IsFirstOther locks.now old.now new.now) }
+{
+    for k in 0..n {
+        if locks[k as usize] && differ(old[k as usize].as_slice(), new[k as usize].as_slice()) {
+            return Some(k);
+        }
+    }
+    None
+}
