@@ -15,5 +15,6 @@ pub fn script_laws()
     ensures one_reading { (bytes : List ℕ) (commands others : List Command) → Commands bytes commands → Commands bytes others → commands ≡ others }
     ensures one_bad_line { (bytes : List ℕ) (line other : ℕ) → IsFirstBadLine bytes line → IsFirstBadLine bytes other → line ≡ other }
     ensures numbers { (limit : ℕ) (text : List ℕ) (n : ℕ) → (number_below limit text ≡ Some n) ↔ SpellsNumber limit text n }
-    ensures printed { (entries : List (ℕ × List ℕ)) → IsRising entries → All IsIndexEntry entries → SpellsRotation (tokens_of (entries_text (codes " ") entries)) entries }
+    ensures printed { (entries : List (ℕ × List ℕ)) → IsRising entries → All IsIndexEntry entries →
+        SpellsRotation (tokens_of (entries_text (codes " ") entries)) entries }
 {}

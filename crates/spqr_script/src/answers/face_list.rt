@@ -10,7 +10,8 @@ use std::alloc::{AllocError, Global};
 
 // Puts the pairs of a vertex and an edge, each as `V-E` with a space before it, behind a text.
 fn push_pairs(out: &mut Vec<u8>, part: &Part, pairs: &[(u32, u32)]) -> Result<(), AllocError>
-    requires { All (λ pair. (pair.0 < part.now.graph.vertex_count) × (pair.1 < edge_count part.now.graph)) pairs.now }
+    requires { All
+        (λ pair. (pair.0 < part.now.graph.vertex_count) × (pair.1 < edge_count part.now.graph)) pairs.now }
     ensures { OnOk result (out.new.items ≡ out.old.items ++ spaced_pairs part.now pairs.now) }
 {
     for (v, e) in pairs {
@@ -24,7 +25,8 @@ fn push_pairs(out: &mut Vec<u8>, part: &Part, pairs: &[(u32, u32)]) -> Result<()
 
 // Puts the line of a face behind a text.
 fn push_face(out: &mut Vec<u8>, part: &Part, pairs: &[(u32, u32)]) -> Result<(), AllocError>
-    requires { All (λ pair. (pair.0 < part.now.graph.vertex_count) × (pair.1 < edge_count part.now.graph)) pairs.now }
+    requires { All
+        (λ pair. (pair.0 < part.now.graph.vertex_count) × (pair.1 < edge_count part.now.graph)) pairs.now }
     ensures { OnOk result (out.new.items ≡ out.old.items ++ face_text part.now pairs.now) }
 {
     push_word(out, b"face")?;
