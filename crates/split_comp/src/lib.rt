@@ -1,0 +1,4 @@
+// Split components by a palm tree.
+#![tactic(auto)]
+
+mod items;
