@@ -1,1 +1,2 @@
 -- The lemmas on splitting by a palm tree.
+pub mod Entries
