@@ -1,13 +1,14 @@
 -- Entries of the stack by their places, and the current family.
 use Rattle.std.proofs.Common.{◌≡◌, ◌≢◌, ℕ, zero, suc, ◌+◌, ◌<◌, ◌≤◌, ◌⊎◌, inl, inr, Bool, true, false, List, [], ◌∷◌, ◌++◌, length, map, take, drop, slice_index_or, refl, sym, ap, ◌∙◌, subst, arith, Contains}
-use Rattle.std.proofs.lemmas.Bool.{cases_Bool, or_cases, both_ways}
+use Rattle.std.proofs.lemmas.Bool.{cases_Bool, or_cases, both_ways, false_from_ne_true}
 use Rattle.std.proofs.lemmas.List.{length-map, length-append, get_or-map, get_or_append_left, get_or-append_right, get_or_push, get_or-take, length-take-le, map-append}
-use Rattle.std.proofs.lemmas.List.Elements.{Contains-append_left, Contains-append_right, Contains-append_cases, Contains-get_or}
+use Rattle.std.proofs.lemmas.List.Elements.{All-tail, Contains-append_left, Contains-append_right, Contains-append_cases, Contains-get_or}
 use Rattle.pair_split.specs.Family.{Entry, has_end, names, touches, IsFamily}
 use Rattle.pair_split.proofs.Elements.{contains-map, map-contains}
 use Rattle.permutations.specs.Members.{is_member, is_distinct}
-use Rattle.permutations.proofs.Members.{distinct-append_apart}
-use Rattle.pair_split.proofs.Names.{same-place, name-member}
+use Rattle.permutations.proofs.Members.{distinct-tail, distinct-append_apart}
+use Rattle.pair_split.proofs.Names.{same-place, name-member, member-name}
+use Rattle.pair_split.proofs.Eject.{family-cons}
 use Rattle.pair_split.proofs.Replaced.{end-cases, first-end, second-end}
 use Rattle.pair_split.proofs.Sides.{touches-from, touching-entry}
 use Rattle.split_comp.specs.declared.items.Item.{Item}
@@ -83,3 +84,22 @@ length-push stack x = length-append stack (x ∷ [])
 -- what is in a front part
 pub item-take : (stack : List Item) (k i : ℕ) → i < k → item (take k stack) i ≡ item stack i
 item-take stack k i l = get_or-take k stack i no_item l
+
+-- the rest of a family is one
+pub rest-family : (stack : List Item) (rest : List Entry) → IsFamily (family stack rest) → IsFamily rest
+rest-family [] rest f = f
+rest-family (x ∷ stack) rest f = rest-family stack rest (record {
+  names_once = distinct-tail x.name (names (family stack rest)) f.names_once;
+  no_loops = All-tail (λ (e : Entry). e.first ≢ e.second) (entry x) (family stack rest) f.no_loops;
+})
+
+-- a stack of entries under different names, none of which is one of the rest, makes a family with it
+pub family-from : (stack : List Item) (rest : List Entry) → IsFamily rest → ((i j : ℕ) → i < j → j < length stack → (item stack i).name ≢ (item stack j).name)
+    → ((i : ℕ) (x : Entry) → i < length stack → Contains rest x → (item stack i).name ≢ x.name) → ((i : ℕ) → i < length stack → (item stack i).up ≢ (item stack i).low) → IsFamily (family stack rest)
+family-from [] rest f apart off loops = f
+family-from (x ∷ stack) rest f apart off loops = family-cons (entry x) (family stack rest) (loops 0 (omega arith))
+    (false_from_ne_true (is_member x.name (names (family stack rest))) (λ m. let w = member-name (family stack rest) x.name m in elim (family-cases stack rest w.0 w.1) [
+      | inl p ↦ apart 0 (suc p.0) (omega arith) (omega (arith, p.1)) (sym w.2 ∙ ap (λ (e : Entry). e.name) p.2)
+      | inr c ↦ off 0 w.0 (omega arith) c (sym w.2)
+    ]))
+    (family-from stack rest f (λ i j l m. apart (suc i) (suc j) (omega (arith, l)) (omega (arith, m))) (λ i y l c. off (suc i) y (omega (arith, l)) c) (λ i l. loops (suc i) (omega (arith, l))))

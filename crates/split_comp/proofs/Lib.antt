@@ -1,2 +1,3 @@
 -- The lemmas on splitting by a palm tree.
 pub mod Entries
+pub mod Renewed
