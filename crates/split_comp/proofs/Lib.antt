@@ -1,3 +1,4 @@
 -- The lemmas on splitting by a palm tree.
 pub mod Entries
 pub mod Renewed
+pub mod RenewedPath

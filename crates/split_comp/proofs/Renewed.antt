@@ -19,6 +19,7 @@ pub record IsRenewed (last : ℕ → ℕ) (done v k j : ℕ) (keeps : Item → B
   pub stands : IsStack last done v old rest
   pub within : k < length old
   pub size : length new ≡ j + 1
+  pub shorter : length new ≤ length old
   pub few : (j ≡ k) ⊎ (j ≡ k + 1)
   pub same : (i : ℕ) → i < k → item new i ≡ item old i
   pub top : item new j ≡ x
@@ -116,7 +117,7 @@ module _ (last : ℕ → ℕ) (done v k j : ℕ) (keeps : Item → Bool) (side :
   ]
 
   -- a tree edge now: in front, or the new entry
-  tree-cases : (p : ℕ) → p < length new → (item new p).tree ≡ true → (p < k) ⊎ ((p ≡ j) × (x.tree ≡ true))
+  pub tree-cases : (p : ℕ) → p < length new → (item new p).tree ≡ true → (p < k) ⊎ ((p ≡ j) × (x.tree ≡ true))
   tree-cases p l t = elim (place-cases p l) [
     | inl a ↦ inl a
     | inr b ↦ elim b [
