@@ -2,3 +2,4 @@
 pub mod Entries
 pub mod Renewed
 pub mod RenewedPath
+pub mod Alike
