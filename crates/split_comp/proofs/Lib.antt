@@ -3,3 +3,4 @@ pub mod Entries
 pub mod Renewed
 pub mod RenewedPath
 pub mod Alike
+pub mod Pushed

@@ -19,7 +19,6 @@ pub record IsRenewed (last : ℕ → ℕ) (done v k j : ℕ) (keeps : Item → B
   pub stands : IsStack last done v old rest
   pub within : k < length old
   pub size : length new ≡ j + 1
-  pub shorter : length new ≤ length old
   pub few : (j ≡ k) ⊎ (j ≡ k + 1)
   pub same : (i : ℕ) → i < k → item new i ≡ item old i
   pub top : item new j ≡ x

@@ -113,12 +113,18 @@ module _ (last : ℕ → ℕ) (done v k j : ℕ) (keeps : Item → Bool) (side :
         | inr c ↦ pushed z i c l (ends-now i z c l h)
       ]
 
-      attained : (z : ℕ) → z < n → (z ≤ v) ⊎ ((p : ℕ) × IsTreeAt new z p) → slice_index_or now z 0 < length new → has_end z (entry (item new (slice_index_or now z 0))) ≡ true
-      attained z b current l = elim (moved z) [
-        | inr e ↦ now-ends (slice_index_or now z 0) z e.0 l e.3
-        | inl e ↦ elim (cases_lt (slice_index_or now z 0) k) [
-          | inl c ↦ subst (λ (q : Item). has_end z (entry q) ≡ true) (sym (r.same (slice_index_or now z 0) c)) (subst (λ (q : ℕ). has_end z (entry (item old q)) ≡ true) (sym e) (f.attained z b (was current) (omega (arith, c, e, r.within))))
-          | inr c ↦ now-ends (slice_index_or now z 0) z c l (end-of e c)
+      attained : (z : ℕ) → z < n → (z ≤ v) ⊎ ((p : ℕ) × IsTreeAt new z p) → (slice_index_or now z 0 ≡ 4294967295) ⊎ ((slice_index_or now z 0 < length new) × (has_end z (entry (item new (slice_index_or now z 0))) ≡ true))
+      attained z b current = elim (moved z) [
+        | inr e ↦ let l : slice_index_or now z 0 < length new = omega (arith, e.1, r.size) in inr (l, now-ends (slice_index_or now z 0) z e.0 l e.3)
+        | inl e ↦ elim (f.attained z b (was current)) [
+          | inl g ↦ inl (e ∙ g)
+          | inr g ↦ elim (cases_lt (slice_index_or first z 0) k) [
+            | inl c ↦ inr (omega (arith, c, e, few, r.size), subst (λ (q : ℕ). has_end z (entry (item new q)) ≡ true) (sym e) (subst (λ (q : Item). has_end z (entry q) ≡ true) (sym (r.same (slice_index_or first z 0) c)) g.1))
+            | inr c ↦
+                let x-end = end-of c g.0 g.1 in
+                let l = pushed z j few (omega (arith, r.size)) x-end in
+                inr (omega (arith, l, r.size), now-ends (slice_index_or now z 0) z (omega (arith, c, e)) (omega (arith, l, r.size)) x-end)
+          ]
         ]
       ]
         where
@@ -133,19 +139,17 @@ module _ (last : ℕ → ℕ) (done v k j : ℕ) (keeps : Item → Bool) (side :
           ]
 
           -- where no entry in front touches z, it is an end of the new entry
-          end-of : slice_index_or now z 0 ≡ slice_index_or first z 0 → k ≤ slice_index_or now z 0 → (z ≡ x.up) ⊎ (z ≡ x.low)
-          end-of e c = elim current [
-            | inl p ↦ at p (f.attained z b (inl p) (omega (arith, e, l, r.shorter)))
+          end-of : k ≤ slice_index_or first z 0 → slice_index_or first z 0 < length old → has_end z (entry (item old (slice_index_or first z 0))) ≡ true → (z ≡ x.up) ⊎ (z ≡ x.low)
+          end-of c l h = elim current [
+            | inl p ↦ at p
             | inr p ↦ elim (tree-cases last done v k j keeps side x old new rest r p.0 p.1.within p.1.tree) [
-              | inl a ↦ absurd (omega (arith, a, c, least p.0 z p.1.within (low-end z (item new p.0) (sym p.1.low))))
+              | inl a ↦ absurd (omega (arith, a, c, f.least p.0 z (omega (arith, a, r.within)) (subst (λ (q : Item). has_end z (entry q) ≡ true) (r.same p.0 a) (low-end z (item new p.0) (sym p.1.low)))))
               | inr a ↦ inr (sym (sym (ap (λ (q : Item). q.low) (ap (item new) a.0 ∙ r.top)) ∙ p.1.low))
             ]
           ]
             where
-              at : z ≤ v → has_end z (entry (item old (slice_index_or first z 0))) ≡ true → (z ≡ x.up) ⊎ (z ≡ x.low)
-              at p h = elim (cases_Bool (keeps (item old (slice_index_or first z 0)))) [
-                | inr g ↦ let i = r.mid_new (slice_index_or first z 0) (omega (arith, c, e)) (omega (arith, e, l, r.shorter)) g in
-                    ends-now i.0 z i.1 (omega (arith, i.2, r.size)) (subst (λ (q : Entry). has_end z q ≡ true) i.3 h)
-                | inl t ↦ across-rest last done v k j keeps side x old new rest r (slice_index_or first z 0) z (omega (arith, c, e)) (omega (arith, e, l, r.shorter)) t h
-                    (r.stands.left.on_path (slice_index_or first z 0) z (omega (arith, e, l, r.shorter)) h p)
+              at : z ≤ v → (z ≡ x.up) ⊎ (z ≡ x.low)
+              at p = elim (cases_Bool (keeps (item old (slice_index_or first z 0)))) [
+                | inr g ↦ let i = r.mid_new (slice_index_or first z 0) c l g in ends-now i.0 z i.1 (omega (arith, i.2, r.size)) (subst (λ (q : Entry). has_end z q ≡ true) i.3 h)
+                | inl t ↦ across-rest last done v k j keeps side x old new rest r (slice_index_or first z 0) z c l t h (r.stands.left.on_path (slice_index_or first z 0) z l h p)
               ]
