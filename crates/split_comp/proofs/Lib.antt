@@ -1,1 +1,6 @@
 -- The lemmas on splitting by a palm tree.
+pub mod Entries
+pub mod Renewed
+pub mod RenewedPath
+pub mod Alike
+pub mod Pushed

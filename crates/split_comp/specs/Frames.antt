@@ -30,19 +30,23 @@ pub record AreReached (last : ℕ → ℕ) (dart : ℕ → ℕ → Dart) (gone :
   pub gone_to : (x i : ℕ) → x ≢ 0 → IsOnPath last v x → start x ≤ i → i < length stack → (item stack i).up < x → IsGoneTo dart last gone x (item stack i).up
   pub met : (x y : ℕ) → x ≢ 0 → IsOnPath last v x → y < x → IsGoneTo dart last gone x y → (i : ℕ) × (start x ≤ i) × (i < length stack) × ((item stack i).up ≡ y)
 
--- the darts that are left at a vertex of the path to v, but the root, come behind those in the stack
-pub record AreAhead (last : ℕ → ℕ) (degree : ℕ → ℕ) (dart : ℕ → ℕ → Dart) (gone : ℕ → ℕ) (v : ℕ) (stack : List Item) (rest : List Entry) : Type 0 where
-  pub reach_ahead : (u r k : ℕ) → u ≢ 0 → IsOnPath last v u → r < length stack → owner (item stack r) ≡ u → gone u ≤ k → k < degree u
+-- the darts that are left at a vertex of the path to v, but the root, come behind those in the stack. For the first n entries
+pub record AreAhead (last : ℕ → ℕ) (degree : ℕ → ℕ) (dart : ℕ → ℕ → Dart) (gone : ℕ → ℕ) (v n : ℕ) (stack : List Item) (rest : List Entry) : Type 0 where
+  pub reach_ahead : (u r k : ℕ) → u ≢ 0 → IsOnPath last v u → r < n → owner (item stack r) ≡ u → gone u ≤ k → k < degree u
       → (i : ℕ) × ((item stack r).start ≤ i) × (i ≤ r) × ((item stack i).up ≤ (dart u k).reach)
-  pub frond_ahead : (u r k : ℕ) → 4 ≤ length (family stack rest) → u ≢ 0 → IsOnPath last v u → r < length stack → owner (item stack r) ≡ u → (item stack r).tree ≡ false → gone u ≤ k → k < degree u
+  pub frond_ahead : (u r k : ℕ) → 4 ≤ length (family stack rest) → u ≢ 0 → IsOnPath last v u → r < n → owner (item stack r) ≡ u → (item stack r).tree ≡ false → gone u ≤ k → k < degree u
       → ((item stack r).up < (dart u k).reach) ⊎ (((item stack r).up ≡ (dart u k).reach) × (1 ≤ (dart u k).class))
 
--- the cuts: those from base x on are those of x and of the path from x on. Of v they are sound and complete for the whole stack,
--- of each other vertex x of the path, but the root, for the stack as it was when the path went on from x to y
-pub record AreCuts (last parent : ℕ → ℕ) (v : ℕ) (start base : ℕ → ℕ) (stack : List Item) (cuts : List Triple) : Type 0 where
+-- the cuts: those from base x on are those of x and of the path from x on. Of each vertex x of the path to v, but the root and v
+-- itself, they are sound and complete for the stack as it was when the path went on from x to y
+pub record AreCutsBelow (last parent : ℕ → ℕ) (v : ℕ) (start base : ℕ → ℕ) (stack : List Item) (cuts : List Triple) : Type 0 where
   pub base_within : (x : ℕ) → x ≢ 0 → IsOnPath last v x → base x ≤ length cuts
   pub base_rises : (y : ℕ) → y ≢ 0 → parent y ≢ 0 → IsOnPath last v y → base (parent y) ≤ base y
-  pub sound : v ≢ 0 → AreSound (start v) v stack (drop (base v) cuts)
-  pub complete : v ≢ 0 → AreComplete (start v) v stack (drop (base v) cuts)
   pub sound_below : (y : ℕ) → y ≢ 0 → parent y ≢ 0 → IsOnPath last v y → AreSound (start (parent y)) (parent y) (take (start y) stack) (drop (base (parent y)) (take (base y) cuts))
   pub complete_below : (y : ℕ) → y ≢ 0 → parent y ≢ 0 → IsOnPath last v y → AreComplete (start (parent y)) (parent y) (take (start y) stack) (drop (base (parent y)) (take (base y) cuts))
+
+-- and of v for the whole stack
+pub record AreCuts (last parent : ℕ → ℕ) (v : ℕ) (start base : ℕ → ℕ) (stack : List Item) (cuts : List Triple) : Type 0 where
+  pub below : AreCutsBelow last parent v start base stack cuts
+  pub sound : v ≢ 0 → AreSound (start v) v stack (drop (base v) cuts)
+  pub complete : v ≢ 0 → AreComplete (start v) v stack (drop (base v) cuts)

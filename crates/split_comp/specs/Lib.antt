@@ -5,3 +5,4 @@ pub mod Walk
 pub mod Cuts
 pub mod Frames
 pub mod Sides
+pub mod Pass

@@ -1,0 +1,184 @@
+-- The state of the pass along a palm tree, and what holds of it.
+use Rattle.std.specs.Prelude.{◌≡◌, ◌≢◌, ℕ, ◌+◌, ◌-◌, ◌<◌, ◌≤◌, ◌⊎◌, Bool, true, false, if◌then◌else◌, nat_lt, List, [], ◌∷◌, ◌++◌, length, map, filter, take, drop, slice_index, slice_index_or, slice_set}
+use Rattle.multigraph.specs.Graph.{Multigraph, edge_count, IsGraph}
+use Rattle.graph_theory.specs.Block.{IsOneBlock}
+use Rattle.palm_tree.specs.PalmTree.{PalmTreeLists, IsPalmTree}
+use Rattle.pair_split.specs.Family.{Entry, IsPrime}
+use Rattle.pair_split.specs.Edges.{graph_entry, family_skeleton}
+use Rattle.pair_split.specs.Skeleton.{IsSkeleton}
+use Rattle.pair_split.specs.State.{SplitState, IsSplitState}
+use Rattle.pair_split.specs.Cuts.{part_of}
+use Rattle.pair_split.specs.Lumps.{entry_of, family_of}
+use Rattle.pair_split.specs.declared.cuts.Cut.{Cut}
+use Rattle.pair_split.specs.declared.family.NamedEdge.{NamedEdge}
+use Rattle.pair_split.specs.declared.components.Kind.{Kind}
+use Rattle.pair_split.specs.declared.components.Kind.TheVariants.{B}
+use Rattle.split_comp.specs.declared.items.Item.{Item}
+use Rattle.split_comp.specs.declared.items.Triple.{Triple}
+use Rattle.split_comp.specs.declared.items.Dart.{Dart}
+use Rattle.split_comp.specs.Stack.{item, entry, family, IsStack, IsSorted, IsClean, IsReturned, AreFirst}
+use Rattle.split_comp.specs.Palm.{AreVertices, tree_dart, tree_degree, tree_parent, IsFrondTo, IsPalm}
+use Rattle.split_comp.specs.Walk.{IsOnPath, IsWalk, AreLeft}
+use Rattle.split_comp.specs.Cuts.{AreSoundAt, AreCompleteAt}
+use Rattle.split_comp.specs.Frames.{AreFrames, AreReached, AreAhead, AreCutsBelow, AreCuts}
+use Rattle.split_comp.specs.Sides.{is_frond_to}
+
+-- a palm tree, and the vertex with each number
+pub record NumberedTree : Type 0 where
+  pub palm : PalmTreeLists
+  pub vertex : List ℕ
+
+-- it is one of a block of three edges or more
+pub record IsNumbered (g : Multigraph) (t : NumberedTree) : Type 0 where
+  pub graph : IsGraph g
+  pub block : IsOneBlock g
+  pub large : 3 ≤ edge_count g
+  pub palm : IsPalmTree g t.palm
+  pub vertices : AreVertices g.vertex_count t.palm t.vertex
+
+-- where the pass stands
+pub record PassState : Type 0 where
+  pub at : ℕ
+  pub done : ℕ
+  pub items : List Item
+  pub cuts : List Triple
+  pub first : List ℕ
+  pub start : List ℕ
+  pub base : List ℕ
+  pub gone : List ℕ
+  pub total : ℕ
+  pub parts : List Cut
+
+-- the place is one that touches vertex x
+abbrev pub lowered : List ℕ → ℕ → ℕ → List ℕ
+lowered first x place = (if nat_lt place (slice_index first x) then slice_set first x place else first)
+
+-- an entry is pushed
+abbrev pub pushed : PassState → Item → PassState
+pushed s x = record s { items = s.items ++ x ∷ []; first = lowered (lowered s.first x.up (length s.items)) x.low (length s.items) }
+
+-- one more dart of vertex v has been gone along and back
+abbrev pub gone_along : PassState → ℕ → PassState
+gone_along s v = record s { gone = slice_set s.gone v (slice_index s.gone v + 1) }
+
+-- the search goes down to vertex w
+abbrev pub gone_down : PassState → ℕ → PassState
+gone_down s w = record s { start = slice_set s.start w (length s.items); base = slice_set s.base w (length s.cuts); at = w }
+
+-- the search goes back to vertex v, and vertex w is finished
+abbrev pub gone_back : PassState → ℕ → ℕ → PassState
+gone_back s v w = record s { at = v; done = w }
+
+-- the cuts from place k on are dropped
+abbrev pub cuts_dropped : PassState → ℕ → PassState
+cuts_dropped s k = record s { cuts = take k s.cuts }
+
+-- an entry of a family with numbers for vertices, as one of the graph
+abbrev pub drawn : Multigraph → List ℕ → Entry → Entry
+drawn g vertex x = (if nat_lt x.name (edge_count g) then graph_entry g x.name else record { name = x.name; first = slice_index vertex x.first; second = slice_index vertex x.second })
+
+-- entries, as entries of a family of the graph
+abbrev pub drawn_items : Multigraph → List ℕ → List Item → List Entry
+drawn_items g vertex items = map (λ x. drawn g vertex (entry x)) items
+
+-- the name of the next virtual edge
+abbrev pub next_name : Multigraph → PassState → ℕ
+next_name g s = edge_count g + length s.parts
+
+-- entries from place k on that pass the test were made a component of some kind, with a virtual edge between two vertices
+pub record IsEjected (g : Multigraph) (vertex : List ℕ) (keeps : Item → Bool) (k up low : ℕ) (old new : PassState) : Type 0 where
+  pub kind : Kind
+  pub edges : List NamedEdge
+  pub are_edges : family_of edges ≡ drawn_items g vertex (filter keeps (drop k old.items))
+  pub skeleton : IsSkeleton kind (family_skeleton (record { name = next_name g old; first = slice_index vertex up; second = slice_index vertex low } ∷ family_of edges))
+  pub large : kind ≢ B
+  pub now : new ≡ record old {
+    items = take k old.items;
+    total = old.total + 1 - length edges;
+    parts = old.parts ++ record { kind = kind; own = record { name = next_name g old; first = slice_index vertex up; second = slice_index vertex low }; edges = edges } ∷ [];
+  }
+
+-- how many entries the components have
+abbrev pub entry_total : List Cut → ℕ
+entry_total [] = 0
+entry_total (cut ∷ cuts) = length cut.edges + entry_total cuts
+
+-- the current family of the graph
+abbrev pub drawn_family : Multigraph → List ℕ → List Item → List Entry → List Entry
+drawn_family g vertex items rest = map (drawn g vertex) (family items rest)
+
+-- what holds of the components, the stack and the rest all the time
+pub record IsHeld (g : Multigraph) (vertex : List ℕ) (s : PassState) (rest : List Entry) : Type 0 where
+  pub total : s.total ≡ length (family s.items rest)
+  pub state : IsSplitState g (record { parts = map part_of s.parts; current = drawn_family g vertex s.items rest })
+  pub few : length s.parts + s.total ≤ edge_count g
+  pub entries : entry_total s.parts + s.total ≡ edge_count g + length s.parts
+  pub ends : (i : ℕ) → i < length s.items → ((item s.items i).up < g.vertex_count) × ((item s.items i).low < g.vertex_count)
+
+-- the tables have a place for each vertex
+pub record HavePlaces (n : ℕ) (s : PassState) : Type 0 where
+  pub start : length s.start ≡ n
+  pub base : length s.base ≡ n
+  pub gone : length s.gone ≡ n
+
+-- a list as a function
+abbrev pub at_place : List ℕ → ℕ → ℕ
+at_place l x = slice_index l x
+
+-- the pass stands at a vertex between two of its darts
+pub record IsPass (g : Multigraph) (t : NumberedTree) (s : PassState) : Type 0 where
+  pub palm : IsPalm g.vertex_count (edge_count g) (tree_parent t.palm t.vertex) (tree_degree t.palm t.vertex) (tree_dart g t.palm t.vertex)
+  pub rest : List Entry
+  pub places : HavePlaces g.vertex_count s
+  pub walk : IsWalk g.vertex_count palm.last (tree_parent t.palm t.vertex) (tree_degree t.palm t.vertex) (tree_dart g t.palm t.vertex) s.at s.done (at_place s.gone)
+  pub going : s.at ≡ 0 → at_place s.gone 0 < tree_degree t.palm t.vertex 0
+  pub left : AreLeft g.vertex_count (tree_degree t.palm t.vertex) (tree_dart g t.palm t.vertex) (at_place s.gone) rest
+  pub held : IsHeld g t.vertex s rest
+  pub stands : IsStack palm.last s.done s.at s.items rest
+  pub frames : AreFrames palm.last s.at (at_place s.start) s.items
+  pub reached : AreReached palm.last (tree_dart g t.palm t.vertex) (at_place s.gone) s.at (at_place s.start) s.items
+  pub first : AreFirst g.vertex_count s.at s.first s.items
+  pub sorted : IsSorted s.at (length s.items) s.items rest
+  pub ahead : AreAhead palm.last (tree_degree t.palm t.vertex) (tree_dart g t.palm t.vertex) (at_place s.gone) s.at (length s.items) s.items rest
+  pub clean : IsClean s.items rest
+  pub cuts : AreCuts palm.last (tree_parent t.palm t.vertex) s.at (at_place s.start) (at_place s.base) s.items s.cuts
+
+-- the pass has returned from the vertex w, and may split off components
+pub record IsBack (g : Multigraph) (t : NumberedTree) (w : ℕ) (s : PassState) : Type 0 where
+  pub palm : IsPalm g.vertex_count (edge_count g) (tree_parent t.palm t.vertex) (tree_degree t.palm t.vertex) (tree_dart g t.palm t.vertex)
+  pub rest : List Entry
+  pub places : HavePlaces g.vertex_count s
+  pub walk : IsWalk g.vertex_count palm.last (tree_parent t.palm t.vertex) (tree_degree t.palm t.vertex) (tree_dart g t.palm t.vertex) s.at s.done (at_place s.gone)
+  pub from : s.done ≡ w
+  pub parent : tree_parent t.palm t.vertex w ≡ s.at
+  pub inside : w < g.vertex_count
+  pub not_root : s.at ≢ 0
+  pub left : AreLeft g.vertex_count (tree_degree t.palm t.vertex) (tree_dart g t.palm t.vertex) (at_place s.gone) rest
+  pub held : IsHeld g t.vertex s rest
+  pub height : ℕ
+  pub returned : IsReturned palm.last s.done s.at (at_place s.start w) height s.items rest
+  pub frames : AreFrames palm.last s.at (at_place s.start) s.items
+  pub child_start : at_place s.start s.at ≤ at_place s.start w
+  pub place : ℕ
+  pub last_gone : at_place s.gone s.at ≡ place + 1
+  pub place_in : place < tree_degree t.palm t.vertex s.at
+  pub last_tree : (tree_dart g t.palm t.vertex s.at place).tree ≡ true
+  pub last_far : (tree_dart g t.palm t.vertex s.at place).far ≡ w
+  pub child_within : (i : ℕ) → at_place s.start w ≤ i → i < length s.items → (w ≤ (item s.items i).low) × ((item s.items i).low < palm.last w)
+  pub child_to : (i : ℕ) → at_place s.start w ≤ i → i < length s.items → (item s.items i).up < s.at → IsFrondTo (tree_degree t.palm t.vertex) (tree_dart g t.palm t.vertex) palm.last w (item s.items i).up
+  pub child_met : (y : ℕ) → IsFrondTo (tree_degree t.palm t.vertex) (tree_dart g t.palm t.vertex) palm.last w y → y < s.at → (i : ℕ) × (at_place s.start w ≤ i) × (i < length s.items) × ((item s.items i).up ≡ y)
+  pub reached : AreReached palm.last (tree_dart g t.palm t.vertex) (at_place s.gone) s.at (at_place s.start) s.items
+  pub first : AreFirst g.vertex_count s.at s.first s.items
+  pub ahead : AreAhead palm.last (tree_degree t.palm t.vertex) (tree_dart g t.palm t.vertex) (at_place s.gone) s.at height s.items rest
+  pub below : AreCutsBelow palm.last (tree_parent t.palm t.vertex) w (at_place s.start) (at_place s.base) s.items s.cuts
+  pub sound : AreSoundAt (at_place s.start w) s.at (item s.items height).low s.items (drop (at_place s.base w) s.cuts)
+  pub complete : AreCompleteAt (at_place s.start w) s.at (item s.items height).low s.items (drop (at_place s.base w) s.cuts)
+
+-- the pass is over
+pub record IsPassed (g : Multigraph) (t : NumberedTree) (s : PassState) : Type 0 where
+  pub at_root : s.at ≡ 0
+  pub all_gone : tree_degree t.palm t.vertex 0 ≤ at_place s.gone 0
+  pub places : HavePlaces g.vertex_count s
+  pub held : IsHeld g t.vertex s []
+  pub prime : IsPrime (drawn_items g t.vertex s.items)
+  pub three : 3 ≤ length s.items
