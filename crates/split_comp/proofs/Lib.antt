@@ -4,3 +4,4 @@ pub mod Renewed
 pub mod RenewedPath
 pub mod Alike
 pub mod Pushed
+pub mod Begins

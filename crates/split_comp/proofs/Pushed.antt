@@ -198,9 +198,12 @@ module _ (old : List Item) (left : List Entry) (x : Item) (new : List Item) (res
     nested = s.nested;
     laid = pushed-laid last done w s.laid s.above (omega (arith, s.left.ahead)) (omega (arith, e, s.left.ahead)) (omega (arith, u, e, less), subst (λ (y : ℕ). x.low < last y) (sym u) (omega (arith, e, below)))
         (λ g. absurd (both_ways x.tree g t))
-        (λ g. (omega (arith, b, some), omega (arith, e),
-        (λ i l m. let c = f.from w i n (omega arith, s.above w) (omega (arith, b, l)) m in (omega (arith, e, c.0), subst (λ (y : ℕ). (item old i).low < last y) (sym e) c.1, omega (arith, b, lam i (omega (arith, b, l)) m))),
-        (λ i l m. subst (λ (y : ℕ). ((item old i).low < y) ⊎ (last y ≤ (item old i).low)) (sym e) (f.before w i n (omega arith, s.above w) (omega (arith, b, l))))));
+        (λ g. (
+          omega (arith, b, some),
+          omega (arith, e),
+          (λ i l m. let c = f.from w i n (omega arith, s.above w) (omega (arith, b, l)) m in (omega (arith, e, c.0), subst (λ (y : ℕ). (item old i).low < last y) (sym e) c.1, omega (arith, b, lam i (omega (arith, b, l)) m))),
+          (λ i l m. subst (λ (y : ℕ). ((item old i).low < y) ⊎ (last y ≤ (item old i).low)) (sym e) (f.before w i n (omega arith, s.above w) (omega (arith, b, l)))),
+        ));
     ended = record { held = held; on_path = on_path };
     left = record {
       is_family = pushed-family (λ q. omega (arith, q, u, e, less)) (λ i l q. omega (arith, q, (s.laid.rises i l).0));

@@ -28,12 +28,16 @@ module _ (last : ℕ → ℕ) (done v k j : ℕ) (keeps : Item → Bool) (side :
     up-after o m l h p = elim (cases_Bool (keeps (item old o))) [
       | inr f ↦ let i = r.mid_new o m l f in (i.0, i.1, omega (arith, i.2, r.size), sym (ap (λ (e : Entry). e.first) i.3))
       | inl t ↦
-          let touched = r.stands.left.on_path o (item old o).up l (up-end (item old o).up (item old o) refl) p in
-          (j, k-in, omega (arith, r.size), ap (λ (q : Item). q.up) r.top ∙ sym (elim (across-rest last done v k j keeps side x old new rest r o (item old o).up m l t (up-end (item old o).up (item old o) refl) touched) [
-            | inl e ↦ e
-            | inr e ↦ absurd (omega (arith, e, h, low-top))
-          ]))
-      ]
+          let touched = r.stands.left.on_path o (item old o).up l (up-end (item old o).up (item old o) refl) p in (
+            j,
+            k-in,
+            omega (arith, r.size),
+            ap (λ (q : Item). q.up) r.top ∙ sym (elim (across-rest last done v k j keeps side x old new rest r o (item old o).up m l t (up-end (item old o).up (item old o) refl) touched) [
+              | inl e ↦ e
+              | inr e ↦ absurd (omega (arith, e, h, low-top))
+            ]),
+          )
+    ]
       where
         k-in : k ≤ j
         k-in = elim r.few [ inl e ↦ omega (arith, e) | inr e ↦ omega (arith, e) ]

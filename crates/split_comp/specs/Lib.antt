@@ -6,3 +6,4 @@ pub mod Cuts
 pub mod Frames
 pub mod Sides
 pub mod Pass
+pub mod Noting

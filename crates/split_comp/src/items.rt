@@ -9,14 +9,14 @@ pub(crate) struct Item {
     pub up: u32,
     pub low: u32,
     pub tree: bool,
-    pub start: u32,
+    pub start: usize,
 }
 
 /// A cut of the stack at a place, made when the search stood at the vertex `low`: of the entries from there on, `up` is the
 /// least upper end.
 #[derive(Clone, Copy, Drop)]
 pub(crate) struct Triple {
-    pub start: u32,
+    pub start: usize,
     pub up: u32,
     pub low: u32,
 }

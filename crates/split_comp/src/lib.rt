@@ -2,14 +2,5 @@
 #![tactic(auto)]
 
 mod cuts;
-mod edges;
 mod items;
-mod pass;
-mod splitter;
 mod tree;
-mod writing;
-
-pub use splitter::SearchSplitter;
-
-#[cfg(test)]
-mod tests;
