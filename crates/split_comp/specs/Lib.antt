@@ -5,5 +5,5 @@ pub mod Walk
 pub mod Cuts
 pub mod Frames
 pub mod Sides
-pub mod Pass
 pub mod Noting
+pub mod Pass

@@ -1,11 +1,11 @@
 -- The state of the pass along a palm tree, and what holds of it.
-use Rattle.std.specs.Prelude.{◌≡◌, ◌≢◌, ℕ, ◌+◌, ◌-◌, ◌<◌, ◌≤◌, ◌⊎◌, Bool, true, false, if◌then◌else◌, nat_lt, List, [], ◌∷◌, ◌++◌, length, map, filter, take, drop, slice_index, slice_index_or, slice_set}
+use Rattle.std.specs.Prelude.{◌≡◌, ◌≢◌, ℕ, ◌+◌, ◌-◌, ◌<◌, ◌≤◌, ◌⊎◌, Bool, true, false, if◌then◌else◌, nat_lt, List, [], ◌∷◌, ◌++◌, length, map, filter, take, drop, slice_index, slice_index_or, slice_set, Contains, Option, None, Some, not, ◌&&◌, ◌↔◌, IfOk}
 use Rattle.multigraph.specs.Graph.{Multigraph, edge_count, IsGraph}
 use Rattle.graph_theory.specs.Block.{IsOneBlock}
 use Rattle.palm_tree.specs.PalmTree.{PalmTreeLists, IsPalmTree}
-use Rattle.pair_split.specs.Family.{Entry, IsPrime}
-use Rattle.pair_split.specs.Edges.{graph_entry, family_skeleton}
-use Rattle.pair_split.specs.Skeleton.{IsSkeleton}
+use Rattle.pair_split.specs.Family.{Entry, IsFamily, IsPrime}
+use Rattle.pair_split.specs.Edges.{graph_entry, entry_ends, family_skeleton}
+use Rattle.pair_split.specs.Skeleton.{SameEnds, IsSkeleton}
 use Rattle.pair_split.specs.State.{SplitState, IsSplitState}
 use Rattle.pair_split.specs.Cuts.{part_of}
 use Rattle.pair_split.specs.Lumps.{entry_of, family_of}
@@ -22,6 +22,7 @@ use Rattle.split_comp.specs.Walk.{IsOnPath, IsWalk, AreLeft}
 use Rattle.split_comp.specs.Cuts.{AreSoundAt, AreCompleteAt}
 use Rattle.split_comp.specs.Frames.{AreFrames, AreReached, AreAhead, AreCutsBelow, AreCuts}
 use Rattle.split_comp.specs.Sides.{is_frond_to}
+use Rattle.split_comp.specs.Noting.{IsNoted}
 
 -- a palm tree, and the vertex with each number
 pub record NumberedTree : Type 0 where
@@ -47,6 +48,7 @@ pub record PassState : Type 0 where
   pub base : List ℕ
   pub gone : List ℕ
   pub total : ℕ
+  pub turns : ℕ
   pub parts : List Cut
 
 -- the place is one that touches vertex x
@@ -60,6 +62,10 @@ pushed s x = record s { items = s.items ++ x ∷ []; first = lowered (lowered s.
 -- one more dart of vertex v has been gone along and back
 abbrev pub gone_along : PassState → ℕ → PassState
 gone_along s v = record s { gone = slice_set s.gone v (slice_index s.gone v + 1) }
+
+-- one turn less is left
+abbrev pub turned : PassState → PassState
+turned s = record s { turns = s.turns - 1 }
 
 -- the search goes down to vertex w
 abbrev pub gone_down : PassState → ℕ → PassState
@@ -98,6 +104,27 @@ pub record IsEjected (g : Multigraph) (vertex : List ℕ) (keeps : Item → Bool
     parts = old.parts ++ record { kind = kind; own = record { name = next_name g old; first = slice_index vertex up; second = slice_index vertex low }; edges = edges } ∷ [];
   }
 
+-- whether an entry goes with the others, where a frond may stay apart
+abbrev pub goes : Bool → ℕ → ℕ → Item → Bool
+goes apart up low x = not (apart && is_frond_to up low x)
+
+-- the edge of a component in place of which it stands: the virtual edge between two vertices
+abbrev pub own_entry : Multigraph → List ℕ → ℕ → ℕ → PassState → Entry
+own_entry g vertex up low s = record { name = next_name g s; first = slice_index vertex up; second = slice_index vertex low }
+
+-- what has to hold where entries are made a component
+pub record CanEject (g : Multigraph) (vertex : List ℕ) (keeps : Item → Bool) (k up low : ℕ) (s : PassState) : Type 0 where
+  pub within : k ≤ length s.items
+  pub ends : (i : ℕ) → i < length s.items → ((item s.items i).up < length vertex) × ((item s.items i).low < length vertex)
+  pub up_in : up < length vertex
+  pub low_in : low < length vertex
+  pub is_family : IsFamily (own_entry g vertex up low s ∷ drawn_items g vertex (filter keeps (drop k s.items)))
+  pub is_prime : IsPrime (own_entry g vertex up low s ∷ drawn_items g vertex (filter keeps (drop k s.items)))
+  pub two : 2 ≤ length (filter keeps (drop k s.items))
+  pub few : next_name g s < 4294967296
+  pub total : length (filter keeps (drop k s.items)) ≤ s.total
+  pub fits : s.total < 4294967296
+
 -- how many entries the components have
 abbrev pub entry_total : List Cut → ℕ
 entry_total [] = 0
@@ -113,7 +140,7 @@ pub record IsHeld (g : Multigraph) (vertex : List ℕ) (s : PassState) (rest : L
   pub state : IsSplitState g (record { parts = map part_of s.parts; current = drawn_family g vertex s.items rest })
   pub few : length s.parts + s.total ≤ edge_count g
   pub entries : entry_total s.parts + s.total ≡ edge_count g + length s.parts
-  pub ends : (i : ℕ) → i < length s.items → ((item s.items i).up < g.vertex_count) × ((item s.items i).low < g.vertex_count)
+  pub ends : (x : Entry) → Contains (family s.items rest) x → (x.first < g.vertex_count) × (x.second < g.vertex_count) × SameEnds (slice_index vertex x.first, slice_index vertex x.second) (entry_ends (drawn g vertex x))
 
 -- the tables have a place for each vertex
 pub record HavePlaces (n : ℕ) (s : PassState) : Type 0 where
@@ -182,3 +209,53 @@ pub record IsPassed (g : Multigraph) (t : NumberedTree) (s : PassState) : Type 0
   pub held : IsHeld g t.vertex s []
   pub prime : IsPrime (drawn_items g t.vertex s.items)
   pub three : 3 ≤ length s.items
+
+-- the pass goes on, or is over
+abbrev pub IsGoing : Multigraph → NumberedTree → PassState → Type 0
+IsGoing g t s = IsPass g t s ⊎ IsPassed g t s
+
+-- the last two entries are parallel, the lower one is a frond, and four entries are left
+pub record IsParallel (s : PassState) : Type 0 where
+  pub height : ℕ
+  pub two : length s.items ≡ height + 2
+  pub four : 4 ≤ s.total
+  pub frond : (item s.items height).tree ≡ false
+  pub up : (item s.items height).up ≡ (item s.items (height + 1)).up
+  pub low : (item s.items height).low ≡ (item s.items (height + 1)).low
+
+-- a name was found just where there is a frond from low to up among the entries
+abbrev pub IsFrondFound : ℕ → ℕ → List Item → Option ℕ → Type 0
+IsFrondFound up low items None = (i : ℕ) → i < length items → is_frond_to up low (item items i) ≡ false
+IsFrondFound up low items (Some name) = (i : ℕ) × (i < length items) × (is_frond_to up low (item items i) ≡ true) × (name ≡ (item items i).name)
+
+-- the last two entries were joined, or could not be
+abbrev pub IsJoined : Multigraph → List ℕ → PassState → PassState → Bool → Type 0
+IsJoined g vertex old new true = (p : IsParallel old) × (mid : PassState) × IsEjected g vertex (λ x. true) p.height (item old.items p.height).up (item old.items p.height).low old mid
+    × (new ≡ pushed mid (record { name = next_name g old; up = (item old.items p.height).up; low = (item old.items p.height).low; tree = (item old.items (p.height + 1)).tree; start = (if (item old.items (p.height + 1)).tree then (item old.items (p.height + 1)).start else p.height) }))
+IsJoined g vertex old new false = (new ≡ old) × (IsParallel old → ⊥)
+
+-- a dart of v was noted, which starts at s and has the least upper end up, unless it is the first one
+pub record IsDartNoted (v s up : ℕ) (old new : PassState) : Type 0 where
+  pub first : s ≤ slice_index old.start v → new ≡ old
+  pub later : slice_index old.start v < s → (cuts : List Triple) × IsNoted (slice_index old.base v) (record { start = s; up = up; low = v }) old.cuts cuts × (new ≡ record old { cuts = cuts })
+
+-- the frond that is pushed
+abbrev pub new_frond : ℕ → ℕ → ℕ → PassState → Item
+new_frond name v up s = record { name = name; up = up; low = v; tree = false; start = length s.items }
+
+-- the tree edge that is pushed
+abbrev pub new_tree : ℕ → ℕ → ℕ → ℕ → Item
+new_tree name v low start = record { name = name; up = v; low = low; tree = true; start = start }
+
+-- a frond from v to up was pushed: joined with a frond parallel to it, or noted
+pub record IsFrondAdded (g : Multigraph) (vertex : List ℕ) (name v up : ℕ) (old new : PassState) : Type 0 where
+  pub joined : Bool
+  pub mid : PassState
+  pub join : IsJoined g vertex (pushed old (new_frond name v up old)) mid joined
+  pub whole : joined ≡ true → new ≡ mid
+  pub noted : joined ≡ false → IsDartNoted v (length old.items) up mid new
+
+-- a tree edge was pushed, and joined with a frond parallel to it
+pub record IsTreeAdded (g : Multigraph) (vertex : List ℕ) (name v low start : ℕ) (old new : PassState) : Type 0 where
+  pub joined : Bool
+  pub join : IsJoined g vertex (pushed old (new_tree name v low start)) new joined

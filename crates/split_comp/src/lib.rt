@@ -2,5 +2,6 @@
 #![tactic(auto)]
 
 mod cuts;
+mod edges;
 mod items;
 mod tree;
