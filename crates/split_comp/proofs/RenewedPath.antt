@@ -42,8 +42,8 @@ module _ (last : ℕ → ℕ) (done v k j : ℕ) (keeps : Item → Bool) (side :
         k-in : k ≤ j
         k-in = elim r.few [ inl e ↦ omega (arith, e) | inr e ↦ omega (arith, e) ]
 
-  pub frames-new : (start : ℕ → ℕ) → AreFrames last v start old → ((z : ℕ) → z ≢ 0 → IsOnPath last v z → start z ≤ k) → AreFrames last v start new
-  frames-new start f l = record { within = λ z n p. omega (arith, l z n p, few, r.size); from = from; before = before }
+  pub frames-new : (start : ℕ → ℕ) → (x.tree ≡ true → (z : ℕ) → z ≢ 0 → IsOnPath last v z → z ≤ x.up) → AreFrames last v start old → ((z : ℕ) → z ≢ 0 → IsOnPath last v z → start z ≤ k) → AreFrames last v start new
+  frames-new start tree-path f l = record { within = λ z n p. omega (arith, l z n p, few, r.size); from = from; before = before; tree_up = tree_up }
     where
       few : k ≤ j
       few = elim r.few [ inl e ↦ omega (arith, e) | inr e ↦ omega (arith, e) ]
@@ -55,6 +55,12 @@ module _ (last : ℕ → ℕ) (done v k j : ℕ) (keeps : Item → Bool) (side :
           | inl s ↦ subst (λ (q : ℕ). (z ≤ q) × (q < last z)) s.1.1.low (f.from z s.1.0 n p (omega (arith, l z n p, s.1.2)) s.1.1.within)
           | inr s ↦ subst (λ (q : ℕ). (z ≤ q) × (q < last z)) (sym s.1) p
         ])
+      ]
+
+      tree_up : (z i : ℕ) → z ≢ 0 → IsOnPath last v z → start z ≤ i → i < length new → (item new i).tree ≡ true → z ≤ (item new i).up
+      tree_up z i n p a b t = elim (tree-cases last done v k j keeps side x old new rest r i b t) [
+        | inl c ↦ subst (λ (q : Item). z ≤ q.up) (sym (r.same i c)) (f.tree_up z i n p a (omega (arith, c, r.within)) (subst (λ (q : Item). q.tree ≡ true) (r.same i c) t))
+        | inr c ↦ omega (arith, ap (λ (q : Item). q.up) (ap (item new) c.0 ∙ r.top), tree-path c.1 z n p)
       ]
 
       before : (z i : ℕ) → z ≢ 0 → IsOnPath last v z → i < start z → ((item new i).low < z) ⊎ (last z ≤ (item new i).low)

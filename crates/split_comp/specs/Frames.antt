@@ -8,11 +8,12 @@ use Rattle.split_comp.specs.Stack.{item, owner, family}
 use Rattle.split_comp.specs.Walk.{IsOnPath}
 use Rattle.split_comp.specs.Cuts.{AreSound, AreComplete}
 
--- the entries below each vertex of the path to v, but the root, are those from its start on
+-- the entries below each vertex of the path to v, but the root, are those from its start on, and tree edges among them are not above it
 pub record AreFrames (last : ℕ → ℕ) (v : ℕ) (start : ℕ → ℕ) (stack : List Item) : Type 0 where
   pub within : (x : ℕ) → x ≢ 0 → IsOnPath last v x → start x ≤ length stack
   pub from : (x i : ℕ) → x ≢ 0 → IsOnPath last v x → start x ≤ i → i < length stack → (x ≤ (item stack i).low) × ((item stack i).low < last x)
   pub before : (x i : ℕ) → x ≢ 0 → IsOnPath last v x → i < start x → ((item stack i).low < x) ⊎ (last x ≤ (item stack i).low)
+  pub tree_up : (x i : ℕ) → x ≢ 0 → IsOnPath last v x → start x ≤ i → i < length stack → (item stack i).tree ≡ true → x ≤ (item stack i).up
 
 -- a frond from a vertex below x, or from x itself, to y, that has been gone along
 pub record IsGoneTo (dart : ℕ → ℕ → Dart) (last : ℕ → ℕ) (gone : ℕ → ℕ) (x y : ℕ) : Type 0 where

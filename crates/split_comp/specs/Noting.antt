@@ -1,5 +1,5 @@
 -- What the loops over the cuts do.
-use Rattle.std.specs.Prelude.{◌≡◌, ℕ, ◌+◌, ◌-◌, ◌<◌, ◌≤◌, ◌⊎◌, List, [], ◌∷◌, ◌++◌, length}
+use Rattle.std.specs.Prelude.{◌≡◌, ℕ, ◌+◌, ◌-◌, ◌<◌, ◌≤◌, ◌⊎◌, List, [], ◌∷◌, ◌++◌, length, Option, None, Some}
 use Rattle.split_comp.specs.Cuts.{cut}
 use Rattle.split_comp.specs.declared.items.Triple.{Triple}
 
@@ -28,3 +28,8 @@ pub record IsDropped (base first : ℕ) (old now : List Triple) : Type 0 where
   pub from : base ≤ length now
   pub behind : (k : ℕ) → k < length popped → first < (cut popped k).start
   pub stops : (length now ≡ base) ⊎ ((cut now (length now - 1)).start ≤ first)
+
+-- the last cut from place base on, where there is one
+abbrev pub IsLastCut : ℕ → List Triple → Option Triple → Type 0
+IsLastCut base cuts None = length cuts ≤ base
+IsLastCut base cuts (Some c) = (base < length cuts) × (cut cuts (length cuts - 1) ≡ c)

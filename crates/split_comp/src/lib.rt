@@ -4,4 +4,5 @@
 mod cuts;
 mod edges;
 mod items;
+mod pass;
 mod tree;

@@ -1,0 +1,152 @@
+// The pass along the palm tree, with the stack of entries, its cuts, and the components that are finished.
+
+ghost use Rattle.std.specs.Prelude.{◌≡◌, ◌≢◌, ◌+◌, ◌-◌, ◌*◌, ◌<◌, ◌≤◌, ◌∷◌, [], ℕ, Bool, true, false, length, take, drop, replicate, IfOk, IfSome, slice_index, slice_get};
+ghost use Rattle.multigraph.specs.Graph.{edge_count, IsGraph};
+ghost use Rattle.split_comp.specs.Stack.{item};
+ghost use Rattle.split_comp.specs.Noting.{IsLastCut};
+ghost use Rattle.split_comp.specs.Pass.{PassState, CanEject, IsEjected, IsParallel, IsJoined, IsDartNoted, IsFrondAdded, IsTreeAdded, pushed, gone_along, gone_down, gone_back, cuts_dropped, turned, lowered, next_name, goes, new_frond, new_tree};
+
+use crate::cuts::{drop_behind, note};
+use crate::edges::{edges_of, frond_to};
+use crate::items::{Dart, Item, Triple};
+use crate::tree::Tree;
+use multigraph::Graph;
+use pair_split::{Cut, EdgeList, NamedEdge, kind_of};
+use palm_tree::Steps;
+use std::alloc::{AllocError, Global};
+use std::marker::Model;
+use std::sync::ledger::Ledger;
+
+/// Where the pass stands. Vertices go by their numbers: the one where the search is, and the last one that is finished; the
+/// stack of entries; its cuts; for each vertex the first place of the stack that touches it, the places of the stack and of
+/// the cuts when it was entered, and how many of its darts have been gone along and back; how many entries the current family
+/// has; how many turns are left; and the finished components.
+#[derive(Drop)]
+pub(crate) struct Pass {
+    at: u32,
+    done: u32,
+    items: Vec<Item>,
+    cuts: Vec<Triple>,
+    first: Vec<usize>,
+    start: Vec<usize>,
+    base: Vec<usize>,
+    gone: Vec<usize>,
+    total: usize,
+    turns: usize,
+    parts: Vec<Cut>,
+}
+
+impl Model for Pass {
+    ghost use Rattle.split_comp.specs.Noting.{IsLastCut};
+    ghost use Rattle.split_comp.specs.Pass.{PassState};
+
+    ghost Value = { PassState };
+
+    ghost view = { λ s. record { at = s.at; done = s.done; items = s.items.items; cuts = s.cuts.items; first = s.first.items; start = s.start.items; base = s.base.items; gone = s.gone.items; total = s.total; turns = s.turns; parts = s.parts.items } };
+}
+
+impl Pass {
+    /// The start, in a graph of n vertices and m edges.
+    pub(crate) fn new(alloc: Global, n: u32, m: u32) -> Result<Pass, AllocError>
+        ensures { IfOk result (λ s. s ≡ record { at = 0; done = n; items = []; cuts = []; first = replicate n 4294967295; start = replicate n 0; base = replicate n 0; gone = replicate n 0; total = m; turns = 2 * m; parts = [] }) }
+    {
+        let vertices = n as usize;
+        Ok(Pass {
+            at: 0,
+            done: n,
+            items: Vec::new(alloc),
+            cuts: Vec::new(alloc),
+            first: vec![in alloc; 4294967295; vertices]?,
+            start: vec![in alloc; 0; vertices]?,
+            base: vec![in alloc; 0; vertices]?,
+            gone: vec![in alloc; 0; vertices]?,
+            total: m as usize,
+            turns: 2 * m as usize,
+            parts: Vec::new(alloc),
+        })
+    }
+
+    // The place is one that touches the vertex.
+    fn note_first(&mut self, x: u32, place: usize)
+        requires { x < length self.old.first }
+        ensures { self.new ≡ record self.old { first = lowered self.old.first x place } }
+    {
+        if place < self.first[x as usize] {
+            self.first[x as usize] = place;
+        }
+    }
+
+    // Pushes an entry.
+    fn push(&mut self, x: Item) -> Result<(), AllocError>
+        requires up { x.up < length self.old.first }
+        requires low { x.low < length self.old.first }
+        ensures { IfOk result (λ _. self.new ≡ pushed self.old x) }
+    {
+        let place = self.items.len();
+        self.note_first(x.up, place);
+        self.note_first(x.low, place);
+        self.items.push(x)?;
+        Ok(())
+    }
+
+    // The last cut from place `base` on.
+    fn last_cut(&self, base: usize) -> Option<Triple>
+        ensures { IsLastCut base self.now.cuts result }
+    {
+        if self.cuts.len() > base {
+            return Some(self.cuts[self.cuts.len() - 1]);
+        }
+        None
+    }
+
+    // The last cut is no more.
+    fn drop_cut(&mut self)
+        requires { 1 ≤ length self.old.cuts }
+        ensures { self.new ≡ cuts_dropped self.old (length self.old.cuts - 1) }
+    {
+        self.cuts.truncate(self.cuts.len() - 1);
+    }
+
+    // The cuts from place `k` on are no more.
+    fn drop_cuts(&mut self, k: usize)
+        ensures { self.new ≡ cuts_dropped self.old k }
+    {
+        self.cuts.truncate(k);
+    }
+
+    // One more dart of `v` has been gone along and back.
+    fn note_gone(&mut self, v: u32)
+        requires within { v < length self.old.gone }
+        requires fits { slice_index self.old.gone v + 1 < 18446744073709551616 }
+        ensures { self.new ≡ gone_along self.old v }
+    {
+        self.gone[v as usize] += 1;
+    }
+
+    // Goes down to the child `w`.
+    fn go_down(&mut self, w: u32)
+        requires start { w < length self.old.start }
+        requires base { w < length self.old.base }
+        ensures { self.new ≡ gone_down self.old w }
+    {
+        self.start[w as usize] = self.items.len();
+        self.base[w as usize] = self.cuts.len();
+        self.at = w;
+    }
+
+    // Goes back to the parent `v` of `w`, which is finished.
+    fn go_up(&mut self, v: u32, w: u32)
+        ensures { self.new ≡ gone_back self.old v w }
+    {
+        self.at = v;
+        self.done = w;
+    }
+
+    // One turn less is left.
+    fn note_turn(&mut self)
+        requires { 1 ≤ self.old.turns }
+        ensures { self.new ≡ turned self.old }
+    {
+        self.turns -= 1;
+    }
+}
