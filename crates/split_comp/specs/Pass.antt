@@ -214,14 +214,30 @@ pub record IsPassed (g : Multigraph) (t : NumberedTree) (s : PassState) : Type 0
 abbrev pub IsGoing : Multigraph → NumberedTree → PassState → Type 0
 IsGoing g t s = IsPass g t s ⊎ IsPassed g t s
 
+-- the last entry
+abbrev pub top_item : PassState → Item
+top_item s = item s.items (length s.items - 1)
+
+-- the last entry but one
+abbrev pub below_item : PassState → Item
+below_item s = item s.items (length s.items - 2)
+
 -- the last two entries are parallel, the lower one is a frond, and four entries are left
 pub record IsParallel (s : PassState) : Type 0 where
-  pub height : ℕ
-  pub two : length s.items ≡ height + 2
+  pub two : 2 ≤ length s.items
   pub four : 4 ≤ s.total
-  pub frond : (item s.items height).tree ≡ false
-  pub up : (item s.items height).up ≡ (item s.items (height + 1)).up
-  pub low : (item s.items height).low ≡ (item s.items (height + 1)).low
+  pub frond : (below_item s).tree ≡ false
+  pub up : (below_item s).up ≡ (top_item s).up
+  pub low : (below_item s).low ≡ (top_item s).low
+
+-- the entry that stands for the two
+abbrev pub joined_item : Multigraph → PassState → Item
+joined_item g s = record { name = next_name g s; up = (top_item s).up; low = (top_item s).low; tree = (top_item s).tree; start = (if (top_item s).tree then (top_item s).start else length s.items - 2) }
+
+-- the answer tells whether they are
+abbrev pub IsParallelTest : PassState → Bool → Type 0
+IsParallelTest s true = IsParallel s
+IsParallelTest s false = IsParallel s → ⊥
 
 -- a name was found just where there is a frond from low to up among the entries
 abbrev pub IsFrondFound : ℕ → ℕ → List Item → Option ℕ → Type 0
@@ -230,9 +246,12 @@ IsFrondFound up low items (Some name) = (i : ℕ) × (i < length items) × (is_f
 
 -- the last two entries were joined, or could not be
 abbrev pub IsJoined : Multigraph → List ℕ → PassState → PassState → Bool → Type 0
-IsJoined g vertex old new true = (p : IsParallel old) × (mid : PassState) × IsEjected g vertex (λ x. true) p.height (item old.items p.height).up (item old.items p.height).low old mid
-    × (new ≡ pushed mid (record { name = next_name g old; up = (item old.items p.height).up; low = (item old.items p.height).low; tree = (item old.items (p.height + 1)).tree; start = (if (item old.items (p.height + 1)).tree then (item old.items (p.height + 1)).start else p.height) }))
+IsJoined g vertex old new true = IsParallel old × ((mid : PassState) × IsEjected g vertex (λ x. true) (length old.items - 2) (top_item old).up (top_item old).low old mid × (new ≡ pushed mid (joined_item g old)))
 IsJoined g vertex old new false = (new ≡ old) × (IsParallel old → ⊥)
+
+-- what has to hold where they may be joined
+abbrev pub CanJoin : Multigraph → List ℕ → PassState → Type 0
+CanJoin g vertex s = IsParallel s → CanEject g vertex (λ x. true) (length s.items - 2) (top_item s).up (top_item s).low s
 
 -- a dart of v was noted, which starts at s and has the least upper end up, unless it is the first one
 pub record IsDartNoted (v s up : ℕ) (old new : PassState) : Type 0 where

@@ -4,7 +4,7 @@ ghost use Rattle.std.specs.Prelude.{◌≡◌, ◌≢◌, ◌+◌, ◌-◌, ◌*
 ghost use Rattle.multigraph.specs.Graph.{edge_count, IsGraph};
 ghost use Rattle.split_comp.specs.Stack.{item};
 ghost use Rattle.split_comp.specs.Noting.{IsLastCut};
-ghost use Rattle.split_comp.specs.Pass.{PassState, CanEject, IsEjected, IsParallel, IsJoined, IsDartNoted, IsFrondAdded, IsTreeAdded, pushed, gone_along, gone_down, gone_back, cuts_dropped, turned, lowered, next_name, goes, new_frond, new_tree};
+ghost use Rattle.split_comp.specs.Pass.{PassState, CanEject, IsEjected, CanJoin, IsParallel, IsJoined, IsDartNoted, IsFrondAdded, IsTreeAdded, IsParallelTest, pushed, gone_along, gone_down, gone_back, cuts_dropped, turned, lowered, next_name, goes, new_frond, new_tree};
 
 use crate::cuts::{drop_behind, note};
 use crate::edges::{edges_of, frond_to};
@@ -148,5 +148,152 @@ impl Pass {
         ensures { self.new ≡ turned self.old }
     {
         self.turns -= 1;
+    }
+
+    // Makes the entries from place `k` on a finished component, with a virtual edge between `up` and `low`: all of them, or all
+    // but a frond from `low` to `up`.
+    fn eject<L: Ledger>(
+        &mut self,
+        alloc: Global,
+        g: &Graph,
+        tree: &Tree,
+        k: usize,
+        apart: bool,
+        up: u32,
+        low: u32,
+        steps: &mut Steps<L>,
+    ) -> Result<u32, AllocError>
+        requires can { CanEject g.now tree.now.vertex (goes apart up low) k up low self.old }
+        ensures ejected { IfOk result (λ _. IsEjected g.now tree.now.vertex (goes apart up low) k up low self.old self.new) }
+        ensures name { IfOk result (λ name. name ≡ next_name g.now self.old) }
+        ensures at_most { steps.new + k ≤ steps.old + length self.old.items }
+        ensures rises { steps.old ≤ steps.new }
+    {
+        let name = g.edge_count() + self.parts.len() as u32;
+        let own = NamedEdge {
+            name,
+            first: tree.vertex_at(up),
+            second: tree.vertex_at(low),
+        };
+        let edges = edges_of(alloc, g, tree, &self.items[k..], apart, up, low, steps)?;
+        let kind = kind_of(own, &edges);
+        self.total = self.total + 1 - edges.len();
+        self.items.truncate(k);
+        self.parts.push(Cut {
+            kind,
+            own,
+            edges: EdgeList::of(edges),
+        })?;
+        Ok(name)
+    }
+
+    // The entry at place `i`.
+    fn item_at(&self, i: usize) -> Item
+        requires { i < length self.now.items }
+        ensures { result ≡ item self.now.items i }
+    {
+        self.items[i]
+    }
+
+    // How many entries the stack has.
+    fn height(&self) -> usize
+        ensures { result ≡ length self.now.items }
+    {
+        self.items.len()
+    }
+
+    // Whether the last entry is parallel to a frond right below it, and four entries are left.
+    fn is_parallel(&self) -> bool
+        ensures { IsParallelTest self.now result }
+    {
+        let height = self.height();
+        if height < 2 || self.total < 4 {
+            return false;
+        }
+        let top = self.item_at(height - 1);
+        let below = self.item_at(height - 2);
+        if below.tree {
+            return false;
+        }
+        below.up == top.up && below.low == top.low
+    }
+
+    // Makes the last two entries, which are parallel, a component.
+    fn join<L: Ledger>(
+        &mut self,
+        alloc: Global,
+        g: &Graph,
+        tree: &Tree,
+        steps: &mut Steps<L>,
+    ) -> Result<(), AllocError>
+        requires parallel { IsParallel self.old }
+        requires can { CanJoin g.now tree.now.vertex self.old }
+        requires first { length self.old.first ≡ length tree.now.vertex }
+        ensures joined { IfOk result (λ _. IsJoined g.now tree.now.vertex self.old self.new true) }
+        ensures at_most { steps.new ≤ steps.old + 2 }
+        ensures rises { steps.old ≤ steps.new }
+    {
+        let height = self.height();
+        let top = self.item_at(height - 1);
+        let name = self.eject(alloc, g, tree, height - 2, false, top.up, top.low, steps)?;
+        let start = if top.tree { top.start } else { height - 2 };
+        self.push(Item {
+            name,
+            up: top.up,
+            low: top.low,
+            tree: top.tree,
+            start,
+        })?;
+        Ok(())
+    }
+
+    // Where the last entry is parallel to a frond right below it, and four entries are left, these two make a component.
+    fn join_parallel<L: Ledger>(
+        &mut self,
+        alloc: Global,
+        g: &Graph,
+        tree: &Tree,
+        steps: &mut Steps<L>,
+    ) -> Result<bool, AllocError>
+        requires can { CanJoin g.now tree.now.vertex self.old }
+        requires first { length self.old.first ≡ length tree.now.vertex }
+        ensures joined { IfOk result (λ joined. IsJoined g.now tree.now.vertex self.old self.new joined) }
+        ensures at_most { steps.new ≤ steps.old + 2 }
+        ensures rises { steps.old ≤ steps.new }
+    {
+        if !self.is_parallel() {
+            return Ok(false);
+        }
+        self.join(alloc, g, tree, steps)?;
+        Ok(true)
+    }
+
+    // A dart of `v` is on the stack, from place `s` on, with the least upper end `up`: where it is not the first one, the stack
+    // may be cut there.
+    fn note_dart<L: Ledger>(
+        &mut self,
+        v: u32,
+        s: usize,
+        up: u32,
+        steps: &mut Steps<L>,
+    ) -> Result<(), AllocError>
+        requires start { v < length self.old.start }
+        requires base { v < length self.old.base }
+        requires within { slice_index self.old.base v ≤ length self.old.cuts }
+        ensures noted { IfOk result (λ _. IsDartNoted v s up self.old self.new) }
+        ensures cost { IfOk result (λ _. steps.new + length self.new.cuts ≤ steps.old + length self.old.cuts + 1) }
+        ensures at_most { steps.new ≤ steps.old + length self.old.cuts }
+        ensures rises { steps.old ≤ steps.new }
+    {
+        if s > self.start[v as usize] {
+            let base = self.base[v as usize];
+            let new = Triple {
+                start: s,
+                up,
+                low: v,
+            };
+            note(&mut self.cuts, base, new, steps)?;
+        }
+        Ok(())
     }
 }
