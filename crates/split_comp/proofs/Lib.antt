@@ -5,3 +5,4 @@ pub mod RenewedPath
 pub mod Alike
 pub mod Pushed
 pub mod Begins
+pub mod Added

@@ -1,5 +1,5 @@
 -- The state of the pass along a palm tree, and what holds of it.
-use Rattle.std.specs.Prelude.{◌≡◌, ◌≢◌, ℕ, ◌+◌, ◌-◌, ◌<◌, ◌≤◌, ◌⊎◌, Bool, true, false, if◌then◌else◌, nat_lt, List, [], ◌∷◌, ◌++◌, length, map, filter, take, drop, slice_index, slice_index_or, slice_set, Contains, Option, None, Some, not, ◌&&◌, ◌↔◌, IfOk}
+use Rattle.std.specs.Prelude.{◌≡◌, ◌≢◌, ℕ, ◌+◌, ◌*◌, ◌-◌, ◌<◌, ◌≤◌, ◌⊎◌, Bool, true, false, if◌then◌else◌, nat_lt, List, [], ◌∷◌, ◌++◌, length, map, filter, take, drop, slice_index, slice_index_or, slice_set, Contains, Option, None, Some, not, ◌&&◌, ◌↔◌, IfOk}
 use Rattle.multigraph.specs.Graph.{Multigraph, edge_count, IsGraph}
 use Rattle.graph_theory.specs.Block.{IsOneBlock}
 use Rattle.palm_tree.specs.PalmTree.{PalmTreeLists, IsPalmTree}
@@ -19,7 +19,7 @@ use Rattle.split_comp.specs.declared.items.Dart.{Dart}
 use Rattle.split_comp.specs.Stack.{item, entry, family, IsStack, IsSorted, IsClean, IsReturned, AreFirst}
 use Rattle.split_comp.specs.Palm.{AreVertices, tree_dart, tree_degree, tree_parent, IsFrondTo, IsPalm}
 use Rattle.split_comp.specs.Walk.{IsOnPath, IsWalk, AreLeft}
-use Rattle.split_comp.specs.Cuts.{AreSoundAt, AreCompleteAt}
+use Rattle.split_comp.specs.Cuts.{cut, AreSoundAt, AreCompleteAt}
 use Rattle.split_comp.specs.Frames.{AreFrames, AreReached, AreAhead, AreCutsBelow, AreCuts}
 use Rattle.split_comp.specs.Sides.{is_frond_to}
 use Rattle.split_comp.specs.Noting.{IsNoted}
@@ -62,6 +62,10 @@ pushed s x = record s { items = s.items ++ x ∷ []; first = lowered (lowered s.
 -- one more dart of vertex v has been gone along and back
 abbrev pub gone_along : PassState → ℕ → PassState
 gone_along s v = record s { gone = slice_set s.gone v (slice_index s.gone v + 1) }
+
+-- what the steps of the pass are paid by: entries and cuts
+abbrev pub weight : PassState → ℕ
+weight s = 8 * length s.items + 2 * length s.cuts
 
 -- one turn less is left
 abbrev pub turned : PassState → PassState
@@ -278,3 +282,24 @@ pub record IsFrondAdded (g : Multigraph) (vertex : List ℕ) (name v up : ℕ) (
 pub record IsTreeAdded (g : Multigraph) (vertex : List ℕ) (name v low start : ℕ) (old new : PassState) : Type 0 where
   pub joined : Bool
   pub join : IsJoined g vertex (pushed old (new_tree name v low start)) new joined
+
+-- the last entry but one is a tree edge, and the first one that meets the lower end of the last entry
+pub record IsTriangle (s : PassState) : Type 0 where
+  pub tree : (below_item s).tree ≡ true
+  pub first : slice_index s.first (top_item s).low ≡ length s.items - 2
+
+-- the answer tells whether it is so
+abbrev pub IsTriangleTest : PassState → Bool → Type 0
+IsTriangleTest s true = IsTriangle s
+IsTriangleTest s false = IsTriangle s → ⊥
+
+-- the last cut from place base on is one of v and the lower end of the last entry
+pub record IsStale (v base : ℕ) (s : PassState) : Type 0 where
+  pub some : base < length s.cuts
+  pub up : (cut s.cuts (length s.cuts - 1)).up ≡ v
+  pub low : (cut s.cuts (length s.cuts - 1)).low ≡ (top_item s).low
+
+-- the last cut was dropped, where it was so
+abbrev pub IsStaleDropped : ℕ → ℕ → PassState → PassState → Bool → Type 0
+IsStaleDropped v base old new true = IsStale v base old × (new ≡ cuts_dropped old (length old.cuts - 1))
+IsStaleDropped v base old new false = (new ≡ old) × (IsStale v base old → ⊥)

@@ -4,7 +4,7 @@ ghost use Rattle.std.specs.Prelude.{◌≡◌, ◌≢◌, ◌+◌, ◌-◌, ◌*
 ghost use Rattle.multigraph.specs.Graph.{edge_count, IsGraph};
 ghost use Rattle.split_comp.specs.Stack.{item};
 ghost use Rattle.split_comp.specs.Noting.{IsLastCut};
-ghost use Rattle.split_comp.specs.Pass.{PassState, CanEject, IsEjected, CanJoin, IsParallel, IsJoined, IsDartNoted, IsFrondAdded, IsTreeAdded, IsParallelTest, pushed, gone_along, gone_down, gone_back, cuts_dropped, turned, lowered, next_name, goes, new_frond, new_tree};
+ghost use Rattle.split_comp.specs.Pass.{weight, PassState, CanEject, IsEjected, CanJoin, IsTriangleTest, IsStaleDropped, top_item, IsParallel, IsJoined, IsDartNoted, IsFrondAdded, IsTreeAdded, IsParallelTest, pushed, gone_along, gone_down, gone_back, cuts_dropped, turned, lowered, next_name, goes, new_frond, new_tree};
 
 use crate::cuts::{drop_behind, note};
 use crate::edges::{edges_of, frond_to};
@@ -38,7 +38,7 @@ pub(crate) struct Pass {
 
 impl Model for Pass {
     ghost use Rattle.split_comp.specs.Noting.{IsLastCut};
-    ghost use Rattle.split_comp.specs.Pass.{PassState};
+    ghost use Rattle.split_comp.specs.Pass.{weight, PassState};
 
     ghost Value = { PassState };
 
@@ -80,7 +80,8 @@ impl Pass {
     fn push(&mut self, x: Item) -> Result<(), AllocError>
         requires up { x.up < length self.old.first }
         requires low { x.low < length self.old.first }
-        ensures { IfOk result (λ _. self.new ≡ pushed self.old x) }
+        ensures now { IfOk result (λ _. self.new ≡ pushed self.old x) }
+        ensures weight { IfOk result (λ _. weight self.new ≡ weight self.old + 8) }
     {
         let place = self.items.len();
         self.note_first(x.up, place);
@@ -230,6 +231,7 @@ impl Pass {
         requires can { CanJoin g.now tree.now.vertex self.old }
         requires first { length self.old.first ≡ length tree.now.vertex }
         ensures joined { IfOk result (λ _. IsJoined g.now tree.now.vertex self.old self.new true) }
+        ensures cost { IfOk result (λ _. steps.new + weight self.new ≤ steps.old + weight self.old) }
         ensures at_most { steps.new ≤ steps.old + 2 }
         ensures rises { steps.old ≤ steps.new }
     {
@@ -258,6 +260,7 @@ impl Pass {
         requires can { CanJoin g.now tree.now.vertex self.old }
         requires first { length self.old.first ≡ length tree.now.vertex }
         ensures joined { IfOk result (λ joined. IsJoined g.now tree.now.vertex self.old self.new joined) }
+        ensures cost { IfOk result (λ _. steps.new + weight self.new ≤ steps.old + weight self.old) }
         ensures at_most { steps.new ≤ steps.old + 2 }
         ensures rises { steps.old ≤ steps.new }
     {
@@ -281,7 +284,7 @@ impl Pass {
         requires base { v < length self.old.base }
         requires within { slice_index self.old.base v ≤ length self.old.cuts }
         ensures noted { IfOk result (λ _. IsDartNoted v s up self.old self.new) }
-        ensures cost { IfOk result (λ _. steps.new + length self.new.cuts ≤ steps.old + length self.old.cuts + 1) }
+        ensures cost { IfOk result (λ _. steps.new + weight self.new ≤ steps.old + weight self.old + 2) }
         ensures at_most { steps.new ≤ steps.old + length self.old.cuts }
         ensures rises { steps.old ≤ steps.new }
     {
@@ -295,5 +298,105 @@ impl Pass {
             note(&mut self.cuts, base, new, steps)?;
         }
         Ok(())
+    }
+
+    // Pushes a frond from `v` to `up`.
+    fn add_frond<L: Ledger>(
+        &mut self,
+        alloc: Global,
+        g: &Graph,
+        tree: &Tree,
+        name: u32,
+        v: u32,
+        up: u32,
+        steps: &mut Steps<L>,
+    ) -> Result<(), AllocError>
+        requires can { CanJoin g.now tree.now.vertex (pushed self.old (new_frond name v up self.old)) }
+        requires first { length self.old.first ≡ length tree.now.vertex }
+        requires up { up < length self.old.first }
+        requires low { v < length self.old.first }
+        requires start { v < length self.old.start }
+        requires base { v < length self.old.base }
+        requires within { slice_index self.old.base v ≤ length self.old.cuts }
+        ensures added { IfOk result (λ _. IsFrondAdded g.now tree.now.vertex name v up self.old self.new) }
+        ensures cost { IfOk result (λ _. steps.new + weight self.new ≤ steps.old + weight self.old + 10) }
+        ensures at_most { steps.new ≤ steps.old + length self.old.cuts + 2 }
+        ensures rises { steps.old ≤ steps.new }
+    {
+        let start = self.height();
+        self.push(Item {
+            name,
+            up,
+            low: v,
+            tree: false,
+            start,
+        })?;
+        if !self.join_parallel(alloc, g, tree, steps)? {
+            self.note_dart(v, start, up, steps)?;
+        }
+        Ok(())
+    }
+
+    // Pushes a tree edge from `v` to `low`, to which the entries from place `start` on belong.
+    fn add_tree_edge<L: Ledger>(
+        &mut self,
+        alloc: Global,
+        g: &Graph,
+        tree: &Tree,
+        name: u32,
+        v: u32,
+        low: u32,
+        start: usize,
+        steps: &mut Steps<L>,
+    ) -> Result<(), AllocError>
+        requires can { CanJoin g.now tree.now.vertex (pushed self.old (new_tree name v low start)) }
+        requires first { length self.old.first ≡ length tree.now.vertex }
+        requires up { v < length self.old.first }
+        requires low { low < length self.old.first }
+        ensures added { IfOk result (λ _. IsTreeAdded g.now tree.now.vertex name v low start self.old self.new) }
+        ensures cost { IfOk result (λ _. steps.new + weight self.new ≤ steps.old + weight self.old + 8) }
+        ensures at_most { steps.new ≤ steps.old + 2 }
+        ensures rises { steps.old ≤ steps.new }
+    {
+        self.push(Item {
+            name,
+            up: v,
+            low,
+            tree: true,
+            start,
+        })?;
+        self.join_parallel(alloc, g, tree, steps)?;
+        Ok(())
+    }
+
+    // Whether the last two entries are tree edges that no other entry meets between them.
+    fn is_triangle(&self) -> bool
+        requires two { 2 ≤ length self.now.items }
+        requires low { (top_item self.now).low < length self.now.first }
+        ensures { IsTriangleTest self.now result }
+    {
+        let height = self.height();
+        let below = self.item_at(height - 2);
+        if !below.tree {
+            return false;
+        }
+        self.first[self.item_at(height - 1).low as usize] == height - 2
+    }
+
+    // Drops the last cut, where it is one of `v` and the lower vertex of the last entry.
+    fn drop_stale(&mut self, v: u32, base: usize) -> bool
+        requires { 1 ≤ length self.old.items }
+        ensures { IsStaleDropped v base self.old self.new result }
+    {
+        match self.last_cut(base) {
+            Some(cut) => {
+                if cut.up == v && cut.low == self.item_at(self.height() - 1).low {
+                    self.drop_cut();
+                    return true;
+                }
+                false
+            }
+            None => false,
+        }
     }
 }
