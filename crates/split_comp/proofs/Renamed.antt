@@ -1,0 +1,41 @@
+-- A family with its vertices renamed.
+use Rattle.std.proofs.Common.{◌≡◌, ◌≢◌, ℕ, ◌+◌, ◌<◌, ◌≤◌, ◌⊎◌, ◌↔◌, Bool, true, false, not, List, [], ◌∷◌, ◌++◌, length, map, filter, take, drop, slice_index, slice_index_or, Contains}
+use Rattle.multigraph.specs.Graph.{Multigraph, edge_count, IsGraph}
+use Rattle.graph_theory.specs.Block.{IsOneBlock}
+use Rattle.palm_tree.specs.PalmTree.{PalmTreeLists, IsPalmTree}
+use Rattle.pair_split.specs.Family.{Entry, has_end, touches, on_side, off_side, is_common, IsFamily, IsTight, IsSeparation, IsPrime}
+use Rattle.pair_split.specs.Skeleton.{SameEnds, IsSkeleton}
+use Rattle.pair_split.specs.Edges.{entry_ends, family_skeleton}
+use Rattle.pair_split.specs.Minimal.{IsMinimal}
+use Rattle.pair_split.specs.State.{Part, SplitState, IsSplitState}
+use Rattle.pair_split.specs.declared.components.Kind.{Kind}
+use Rattle.pair_split.specs.declared.components.Kind.TheVariants.{B}
+use Rattle.pair_split.proofs.SameEntries.{IsWithin}
+use Rattle.split_comp.specs.declared.items.Item.{Item}
+use Rattle.split_comp.specs.declared.items.Triple.{Triple}
+use Rattle.split_comp.specs.declared.items.Dart.{Dart}
+use Rattle.split_comp.specs.Stack.{item, entry, family, owner, IsLaid, IsTreeAt, IsEnded, IsRest, IsStack, IsSorted, IsBad, IsClean, IsTopped, IsReturned, AreFirst}
+use Rattle.split_comp.specs.Palm.{AreVertices, tree_dart, tree_degree, tree_parent, IsFrondTo, IsPalm, dart_entry, AreDrawn}
+use Rattle.split_comp.specs.Walk.{IsOnPath, IsWalk, AreLeft, IsOneMore}
+use Rattle.split_comp.specs.Cuts.{cut, IsLeastUp, IsAcross, IsBefore, IsStart, IsFirstBelow, IsSoundCut, IsChain, AreSound, IsWanted, AreComplete, IsSoundAt, AreSoundAt, AreCompleteAt}
+use Rattle.split_comp.specs.Sides.{is_frond_to, IsCutOff, all_items, but_frond, IsLeast, HasNoTriangle}
+use Rattle.split_comp.specs.Frames.{AreFrames, IsGoneTo, AreReached, AreAhead, AreCuts}
+
+module _ (n : ℕ) (vertex : ℕ → ℕ) (apart : (x y : ℕ) → x < n → y < n → vertex x ≡ vertex y → x ≡ y) (f : Entry → Entry) (entries : List Entry)
+    (named : (x : Entry) → Contains entries x → (f x).name ≡ x.name)
+    (ends : (x : Entry) → Contains entries x → (x.first < n) × (x.second < n) × SameEnds (vertex x.first, vertex x.second) (entry_ends (f x))) where
+  pub renamed-family : IsFamily (map f entries) → IsFamily entries
+  renamed-family = ?
+
+  pub renamed-tight : IsTight (map f entries) → IsTight entries
+  renamed-tight = ?
+
+  pub renamed-separation : (s : ℕ → Bool) (p q : ℕ) → IsSeparation entries s p q → IsSeparation (map f entries) s (vertex p) (vertex q)
+  renamed-separation = ?
+
+  pub renamed-back : (s : ℕ → Bool) (p q : ℕ) → IsSeparation (map f entries) s p q → (x y : ℕ) × IsSeparation entries s x y
+  renamed-back = ?
+
+  pub renamed-minimal : (s : ℕ → Bool) → IsMinimal entries s → IsMinimal (map f entries) s
+  renamed-minimal = ?
+
