@@ -15,3 +15,5 @@ pub mod Parallel
 pub mod Ejected
 pub mod Complete
 pub mod Noted
+pub mod Stretch
+pub mod LeastUp

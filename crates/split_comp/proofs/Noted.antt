@@ -1,78 +1,202 @@
--- Cuts when the search goes on.
-use Rattle.std.proofs.Common.{◌≡◌, ◌≢◌, ℕ, ◌+◌, ◌<◌, ◌≤◌, ◌⊎◌, ◌↔◌, Bool, true, false, not, List, [], ◌∷◌, ◌++◌, length, map, filter, take, drop, slice_index, slice_index_or, Contains}
-use Rattle.multigraph.specs.Graph.{Multigraph, edge_count, IsGraph}
-use Rattle.graph_theory.specs.Block.{IsOneBlock}
-use Rattle.palm_tree.specs.PalmTree.{PalmTreeLists, IsPalmTree}
-use Rattle.pair_split.specs.Family.{Entry, has_end, touches, on_side, off_side, is_common, IsFamily, IsTight, IsSeparation, IsPrime}
-use Rattle.pair_split.specs.Skeleton.{SameEnds, IsSkeleton}
-use Rattle.pair_split.specs.Edges.{entry_ends, family_skeleton}
-use Rattle.pair_split.specs.Minimal.{IsMinimal}
-use Rattle.pair_split.specs.State.{Part, SplitState, IsSplitState}
-use Rattle.pair_split.specs.declared.components.Kind.{Kind}
-use Rattle.pair_split.specs.declared.components.Kind.TheVariants.{B}
-use Rattle.pair_split.proofs.SameEntries.{IsWithin}
+-- The cuts of a vertex when a further dart of it is on the stack.
+use Rattle.std.proofs.Common.{◌≡◌, ◌≢◌, ℕ, zero, suc, ◌+◌, ◌-◌, ◌<◌, ◌≤◌, ◌⊎◌, inl, inr, Bool, true, false, ◌&&◌, nat_lt, not, if◌then◌else◌, List, [], ◌∷◌, ◌++◌, length, slice_index_or, refl, sym, ap, ap₂, ◌∙◌, subst, arith, Contains}
+use Rattle.std.proofs.lemmas.Bool.{cases_Bool, cases_lt, cases_eq, both_ways, lt-ltb, le-ltb, and_parts, and_from}
+use Rattle.std.proofs.lemmas.List.{length-append, get_or_append_left, get_or_push, get_or-append_right}
+use Rattle.std.proofs.lemmas.List.Elements.{Contains-append_left, Contains-append_right, Contains-append_cases, Contains-push, Contains-push_cases}
+use Rattle.pair_split.specs.Family.{Entry, has_end, touches}
 use Rattle.split_comp.specs.declared.items.Item.{Item}
 use Rattle.split_comp.specs.declared.items.Triple.{Triple}
-use Rattle.split_comp.specs.declared.items.Dart.{Dart}
-use Rattle.split_comp.specs.Stack.{item, entry, family, owner, IsLaid, IsTreeAt, IsEnded, IsRest, IsStack, IsSorted, IsBad, IsClean, IsTopped, IsReturned, AreFirst}
-use Rattle.split_comp.specs.Palm.{AreVertices, tree_dart, tree_degree, tree_parent, IsFrondTo, IsPalm, dart_entry, AreDrawn}
-use Rattle.split_comp.specs.Walk.{IsOnPath, IsWalk, AreLeft, IsOneMore}
-use Rattle.split_comp.specs.Cuts.{cut, IsLeastUp, IsAcross, IsBefore, IsStart, IsFirstBelow, IsSoundCut, IsChain, AreSound, IsWanted, AreComplete, IsSoundAt, AreSoundAt, AreCompleteAt}
-use Rattle.split_comp.specs.Sides.{is_frond_to, IsCutOff, all_items, but_frond, IsLeast, HasNoTriangle}
-use Rattle.split_comp.specs.Frames.{AreFrames, IsGoneTo, AreReached, AreAhead, AreCuts}
+use Rattle.split_comp.specs.Stack.{no_item, item, entry, family, owner, IsLaid, IsTreeAt, IsEnded, IsStack, IsTopped}
+use Rattle.split_comp.specs.Cuts.{no_cut, cut, IsLeastUp, IsAcross, IsBefore, IsStart, IsFirstBelow, IsSoundCut, IsChain, AreSound, IsWanted, AreComplete}
+use Rattle.split_comp.proofs.Entries.{item-ends, up-end, low-end, place-of}
+use Rattle.split_comp.proofs.LeastUp.{IsLeastIn, least-in, least-same, touching-tree, top-apart}
+use Rattle.split_comp.proofs.Stretch.{side_at, side-place, IsShared, stretch-not}
 
--- starts at t
-pub note-sound : (last : ℕ → ℕ) (done v s t l h : ℕ) (start : ℕ → ℕ) (old stack : List Item) (rest : List Entry) (kept popped : List Triple) → IsStack last done v stack rest → v ≢ 0 → AreFrames last v start stack → start v ≡ s
-    → take t stack ≡ old → s < t → length stack ≡ h + 1 → owner (item stack h) ≡ v → (item stack h).start ≡ t → t ≤ h → IsLeastUp stack t l → l < v
-    → AreSound s v old (kept ++ popped) → ((k : ℕ) → k < length kept → (cut kept k).up ≤ l) → ((k : ℕ) → k < length popped → l < (cut popped k).up)
-    → (popped ≡ [] → AreSound s v stack (kept ++ record { start = t; up = l; low = v } ∷ []))
-    × ((c : Triple) (more : List Triple) → popped ≡ c ∷ more → AreSound s v stack (kept ++ record { start = c.start; up = l; low = c.low } ∷ []))
-note-sound = ?
+-- the list is the front part of the stack, up to place t
+pub record IsFront (old stack : List Item) (t : ℕ) : Type 0 where
+  pub size : length old ≡ t
+  pub within : t ≤ length stack
+  pub same : (i : ℕ) → i < t → item old i ≡ item stack i
 
-pub note-complete : (last : ℕ → ℕ) (done v s t l h : ℕ) (start : ℕ → ℕ) (old stack : List Item) (rest : List Entry) (kept popped : List Triple) → IsStack last done v stack rest → v ≢ 0 → AreFrames last v start stack → start v ≡ s
-    → take t stack ≡ old → s < t → length stack ≡ h + 1 → owner (item stack h) ≡ v → (item stack h).start ≡ t → t ≤ h → IsLeastUp stack t l → l < v
-    → AreSound s v old (kept ++ popped) → AreComplete s v old (kept ++ popped) → ((k : ℕ) → k < length kept → (cut kept k).up ≤ l) → ((k : ℕ) → k < length popped → l < (cut popped k).up)
-    → (popped ≡ [] → AreComplete s v stack (kept ++ record { start = t; up = l; low = v } ∷ []))
-    × ((c : Triple) (more : List Triple) → popped ≡ c ∷ more → AreComplete s v stack (kept ++ record { start = c.start; up = l; low = c.low } ∷ []))
-note-complete = ?
+module _ (old stack : List Item) (t : ℕ) (f : IsFront old stack t) where
+  pub front-start : (b u : ℕ) → IsStart old b u → IsStart stack b u
+  front-start b u s = let e = f.same s.place (omega (arith, s.within, f.size)) in record { place = s.place; within = omega (arith, s.within, f.size, f.within); owned = subst (λ (y : Item). owner y ≡ b) e s.owned; starts = subst (λ (y : Item). y.start ≡ u) e s.starts }
 
--- the search returns from w to v: the cuts of w with the tree edge of w on top
-pub return-sound : (last : ℕ → ℕ) (done v w s h : ℕ) (old stack : List Item) (x : Item) (rest : List Entry) (cuts : List Triple) → IsStack last done v stack rest → stack ≡ old ++ x ∷ [] → length old ≡ h → x.tree ≡ true → x.up ≡ v → x.low ≡ w → x.start ≡ s
-    → AreSound s w old cuts → AreSoundAt s v w stack cuts
-return-sound = ?
+  pub front-below : (s b : ℕ) → IsFirstBelow old s b → IsFirstBelow stack s b
+  front-below s b h = let e = f.same h.place (omega (arith, h.tree_at.within, f.size)) in record {
+    place = h.place;
+    tree_at = record { within = omega (arith, h.tree_at.within, f.size, f.within); tree = subst (λ (y : Item). y.tree ≡ true) e h.tree_at.tree; low = subst (λ (y : Item). y.low ≡ b) e h.tree_at.low };
+    starts = subst (λ (y : Item). y.start ≡ s) e h.starts;
+  }
 
-pub return-complete : (last : ℕ → ℕ) (done v w s h : ℕ) (old stack : List Item) (x : Item) (rest : List Entry) (cuts : List Triple) → IsStack last done v stack rest → stack ≡ old ++ x ∷ [] → length old ≡ h → x.tree ≡ true → x.up ≡ v → x.low ≡ w → x.start ≡ s
-    → IsTopped stack rest h → AreComplete s w old cuts → AreCompleteAt s v w stack cuts
-return-complete = ?
+  pub below-front : (s b : ℕ) → (h : IsFirstBelow stack s b) → h.place < t → IsFirstBelow old s b
+  below-front s b h l = let e = sym (f.same h.place l) in record {
+    place = h.place;
+    tree_at = record { within = omega (arith, l, f.size); tree = subst (λ (y : Item). y.tree ≡ true) e h.tree_at.tree; low = subst (λ (y : Item). y.low ≡ b) e h.tree_at.low };
+    starts = subst (λ (y : Item). y.start ≡ s) e h.starts;
+  }
 
--- entries from place k on are replaced by at most one frond from b to v, and a tree edge of b with the upper end v on top: what is
--- taken out has no vertex but v and b in common with the other entries, and no upper end above v
-pub record IsReplaced (s v b k h j : ℕ) (old new : List Item) (rest : List Entry) : Type 0 where
-  pub old_size : length old ≡ h + 1
-  pub new_size : length new ≡ j + 1
-  pub within : k < h
-  pub few : (j ≡ k) ⊎ (j ≡ k + 1)
-  pub same : (i : ℕ) → i < k → item new i ≡ item old i
-  pub frond : (i : ℕ) → k ≤ i → i < j → (is_frond_to v b (item new i) ≡ true) × ((item new i).start ≡ k)
-  pub top : ((item new j).tree ≡ true) × ((item new j).up ≡ v) × ((item new j).low ≡ b) × ((item new j).start ≡ s)
-  pub held : (p : ℕ) × IsTreeAt old b p × (k ≤ p) × ((item old p).start ≡ s)
-  pub ups : (i : ℕ) → k ≤ i → i ≤ h → v ≤ (item old i).up
-  pub met : (i i′ z : ℕ) → i < k → k ≤ i′ → i′ ≤ h → has_end z (entry (item old i)) ≡ true → has_end z (entry (item old i′)) ≡ true → (z ≡ v) ⊎ (z ≡ b)
+  pub front-before : (u z : ℕ) → u ≤ t → IsBefore old u z → IsBefore stack u z
+  front-before u z l b = record { place = b.place; within = b.within; end = subst (λ (y : Item). has_end z (entry y) ≡ true) (f.same b.place (omega (arith, b.within, l))) b.end }
 
-pub replaced-sound : (last : ℕ → ℕ) (done v s b k h j : ℕ) (old new : List Item) (rest left : List Entry) (cuts : List Triple) → IsStack last done v old rest → (item old h).tree ≡ true → (item old h).up ≡ v → (item old h).start ≡ s → IsReplaced s v b k h j old new rest
-    → ((c : ℕ) → c < length cuts → (cut cuts c).start ≤ k) → ((c : ℕ) → c < length cuts → (cut cuts c).start ≡ k → ((cut cuts c).up ≡ v) × ((cut cuts c).low ≡ b))
-    → ((c : ℕ) → c < length cuts → (cut cuts c).up ≡ v → (cut cuts c).low ≡ (item old h).low → b ≡ (item old h).low) → AreSoundAt s v (item old h).low old cuts → AreSoundAt s v b new cuts
-replaced-sound = ?
+  pub before-front : (u z : ℕ) → u ≤ t → IsBefore stack u z → IsBefore old u z
+  before-front u z l b = record { place = b.place; within = b.within; end = subst (λ (y : Item). has_end z (entry y) ≡ true) (sym (f.same b.place (omega (arith, b.within, l)))) b.end }
 
-pub replaced-complete : (last : ℕ → ℕ) (done v s b k h j : ℕ) (old new : List Item) (rest left : List Entry) (cuts more : List Triple) → IsStack last done v old rest → (item old h).tree ≡ true → (item old h).up ≡ v → (item old h).start ≡ s → IsReplaced s v b k h j old new rest
-    → ((c : Triple) → Contains more c → Contains cuts c ⊎ (k ≤ c.start)) → AreCompleteAt s v (item old h).low old more → AreCompleteAt s v b new cuts
-replaced-complete = ?
+-- a cut of a list in two parts
+pub cut-left : (kept popped : List Triple) (k : ℕ) → k < length kept → cut (kept ++ popped) k ≡ cut kept k
+cut-left kept popped k l = get_or_append_left kept popped no_cut k l
 
--- the search goes on at v, with its first dart on top: cuts before which v is met are dropped
-pub kill-sound : (last : ℕ → ℕ) (done v s h : ℕ) (stack : List Item) (rest : List Entry) (kept popped : List Triple) → IsReturned last done v s h stack rest → AreSoundAt s v (item stack h).low stack (kept ++ popped)
-    → ((k : ℕ) → k < length (kept ++ popped) → (cut (kept ++ popped) k).up ≡ v → ⊥) → ((k : ℕ) → k < length kept → IsBefore stack (cut kept k).start v → ⊥) → AreSound s v stack kept
-kill-sound = ?
+pub cut-push : (kept : List Triple) (c : Triple) (k : ℕ) → k ≡ length kept → cut (kept ++ c ∷ []) k ≡ c
+cut-push kept c k e = get_or_push kept c no_cut k (sym e)
 
-pub kill-complete : (last : ℕ → ℕ) (done v s h : ℕ) (start : ℕ → ℕ) (stack : List Item) (rest : List Entry) (kept popped : List Triple) → IsReturned last done v s h stack rest → v ≢ 0 → AreFrames last v start stack → start v ≡ s → AreCompleteAt s v (item stack h).low stack (kept ++ popped)
-    → ((k : ℕ) → k < length popped → IsBefore stack (cut popped k).start v) → AreComplete s v stack kept
-kill-complete = ?
+pub cut-right : (kept popped : List Triple) (k : ℕ) → cut (kept ++ popped) (length kept + k) ≡ cut popped k
+cut-right kept popped k = get_or-append_right kept popped (length kept) (length kept + k) no_cut refl (omega arith) ∙ ap (cut popped) (omega arith)
+
+-- places of a chain rise, and upper ends rise weakly
+pub chain-rises : (stack : List Item) (cuts : List Triple) → IsChain stack cuts → (j k : ℕ) → j < k → k < length cuts → ((cut cuts j).start < (cut cuts k).start) × ((cut cuts j).up ≤ (cut cuts k).up) × ((cut cuts k).low ≤ (cut cuts j).low)
+chain-rises stack cuts c j zero l m = absurd (omega (arith, l))
+chain-rises stack cuts c j (suc k) l m = elim (cases_eq j k) [
+  | inl e ↦ let a = c.starts_rise k (omega (arith, m)) in let b = c.ups_rise k (omega (arith, m)) in let d = c.lows_fall k (omega (arith, m)) in
+      (omega (arith, a, ap (λ (i : ℕ). (cut cuts i).start) e, ap (cut-start) (suc-one k)), omega (arith, b, ap (λ (i : ℕ). (cut cuts i).up) e, ap (cut-up) (suc-one k)), omega (arith, d, ap (λ (i : ℕ). (cut cuts i).low) e, ap (cut-low) (suc-one k)))
+  | inr n ↦
+      let r = chain-rises stack cuts c j k (omega (arith, l, n)) (omega (arith, m)) in
+      let a = c.starts_rise k (omega (arith, m)) in let b = c.ups_rise k (omega (arith, m)) in let d = c.lows_fall k (omega (arith, m)) in
+      (omega (arith, a, r.0, ap (cut-start) (suc-one k)), omega (arith, b, r.1, ap (cut-up) (suc-one k)), omega (arith, d, r.2, ap (cut-low) (suc-one k)))
+]
+  where
+    suc-one : (i : ℕ) → i + 1 ≡ suc i
+    suc-one i = omega arith
+
+    cut-start : ℕ → ℕ
+    cut-start i = (cut cuts i).start
+
+    cut-up : ℕ → ℕ
+    cut-up i = (cut cuts i).up
+
+    cut-low : ℕ → ℕ
+    cut-low i = (cut cuts i).low
+
+module _ (last : ℕ → ℕ) (done v s t l h : ℕ) (old stack : List Item) (rest : List Entry) (kept popped : List Triple) (stands : IsStack last done v stack rest) (f : IsFront old stack t) (from : s < t)
+    (size : length stack ≡ h + 1) (owned : owner (item stack h) ≡ v) (starts : (item stack h).start ≡ t) (below : t ≤ h) (leastup : IsLeastUp stack t l) (less : l < v)
+    (sound : AreSound s v old (kept ++ popped)) (lower : (k : ℕ) → k < length kept → (cut kept k).up ≤ l) (higher : (k : ℕ) → k < length popped → l < (cut popped k).up) where
+  -- a vertex behind v that is met on both sides of a place in front of t is so in front of t
+  across-old : (u z : ℕ) → u ≤ t → v < z → IsAcross stack u z → IsAcross old u z
+  across-old u z m g a = elim (cases_lt a.high t) [
+    | inl b ↦ record { low = a.low; low_within = a.low_within; low_end = subst (λ (y : Item). has_end z (entry y) ≡ true) (sym (f.same a.low (omega (arith, a.low_within, m)))) a.low_end;
+      high = a.high; high_from = a.high_from; high_within = omega (arith, b, f.size); high_end = subst (λ (y : Item). has_end z (entry y) ≡ true) (sym (f.same a.high b)) a.high_end }
+    | inr b ↦ absurd (top-apart last done v stack rest stands h t size starts z a.low a.high g (omega (arith, a.low_within, m)) b a.high_within a.low_end a.high_end)
+  ]
+
+  -- a cut that was sound, with its upper end as it is now
+  sound-now : (c : Triple) (a : ℕ) → IsSoundCut s v old c → IsLeastUp stack c.start a → a < v → IsSoundCut s v stack (record { start = c.start; up = a; low = c.low })
+  sound-now c a x m b =
+      let u : c.start < t = omega (arith, x.within, f.size) in
+      record {
+        from = x.from;
+        within = omega (arith, u, f.within);
+        starts = front-start old stack t f c.low c.start x.starts;
+        below = elim x.below [ inl e ↦ inl e | inr e ↦ inr (front-below old stack t f s c.low e) ];
+        least = m;
+        up = b;
+        across = λ z g w. x.across z g (across-old c.start z (omega (arith, u)) g w);
+        own = λ n w. x.own n (before-front old stack t f c.start v (omega (arith, u)) w);
+      }
+
+  -- the least upper end from a place in front of t on
+  least-now : (u a : ℕ) → u < t → IsLeastUp old u a → a ≤ l → IsLeastUp stack u a
+  least-now u a m x b = record {
+    least = λ i n w. elim (cases_lt i t) [
+      | inl g ↦ omega (arith, x.least i n (omega (arith, g, f.size)), ap (λ (y : Item). y.up) (f.same i g))
+      | inr g ↦ omega (arith, b, leastup.least i g w)
+    ];
+    place = x.place;
+    from = x.from;
+    within = omega (arith, x.within, f.size, f.within);
+    attained = ap (λ (y : Item). y.up) (sym (f.same x.place (omega (arith, x.within, f.size)))) ∙ x.attained;
+  }
+
+  least-top : (u a : ℕ) → u ≤ t → IsLeastUp old u a → l ≤ a → IsLeastUp stack u l
+  least-top u a m x b = record {
+    least = λ i n w. elim (cases_lt i t) [
+      | inl g ↦ omega (arith, x.least i n (omega (arith, g, f.size)), ap (λ (y : Item). y.up) (f.same i g), b)
+      | inr g ↦ leastup.least i g w
+    ];
+    place = leastup.place;
+    from = omega (arith, m, leastup.from);
+    within = leastup.within;
+    attained = leastup.attained;
+  }
+
+  old-cut : (k : ℕ) → k < length kept → IsSoundCut s v old (cut kept k)
+  old-cut k m = subst (IsSoundCut s v old) (cut-left kept popped k m) (sound.each k (omega (arith, m, length-append kept popped)))
+
+  kept-sound : (k : ℕ) → k < length kept → IsSoundCut s v stack (cut kept k)
+  kept-sound k m = let x = old-cut k m in sound-now (cut kept k) (cut kept k).up x (least-now (cut kept k).start (cut kept k).up (omega (arith, x.within, f.size)) x.least (lower k m)) x.up
+
+  -- all cuts that are kept, and one more
+  sound-push : (c : Triple) → IsSoundCut s v stack c
+      → ((k : ℕ) → k + 1 ≡ length kept → ((cut kept k).start < c.start) × ((cut kept k).up ≤ c.up) × (c.low ≤ (cut kept k).low) × ((i : ℕ) × ((cut kept k).start ≤ i) × (i < c.start) × (i < length stack) × ((item stack i).up ≡ (cut kept k).up)))
+      → AreSound s v stack (kept ++ c ∷ [])
+  sound-push c x last-two = record {
+    each = λ k m. elim (cases_lt k (length kept)) [
+      | inl a ↦ subst (IsSoundCut s v stack) (sym (cut-left kept (c ∷ []) k a)) (kept-sound k a)
+      | inr a ↦ subst (IsSoundCut s v stack) (sym (cut-push kept c k (omega (arith, a, m, length-append kept (c ∷ []))))) x
+    ];
+    chain = record {
+      starts_rise = λ k m. (two k m).0;
+      ups_rise = λ k m. (two k m).1;
+      lows_fall = λ k m. (two k m).2;
+      met = λ k m. (two k m).3;
+    };
+  }
+    where
+      Two : Triple → Triple → Type 0
+      Two a b = (a.start < b.start) × (a.up ≤ b.up) × (b.low ≤ a.low) × ((i : ℕ) × (a.start ≤ i) × (i < b.start) × (i < length stack) × ((item stack i).up ≡ a.up))
+
+      two : (k : ℕ) → k + 1 < length (kept ++ c ∷ []) → Two (cut (kept ++ c ∷ []) k) (cut (kept ++ c ∷ []) (k + 1))
+      two k m = elim (cases_lt (k + 1) (length kept)) [
+        | inl a ↦
+            let e : cut (kept ++ popped) k ≡ cut (kept ++ c ∷ []) k = cut-left kept popped k (omega (arith, a)) ∙ sym (cut-left kept (c ∷ []) k (omega (arith, a))) in
+            let g : cut (kept ++ popped) (k + 1) ≡ cut (kept ++ c ∷ []) (k + 1) = cut-left kept popped (k + 1) a ∙ sym (cut-left kept (c ∷ []) (k + 1) a) in
+            let n : k + 1 < length (kept ++ popped) = omega (arith, a, length-append kept popped) in
+            let w = sound.chain.met k n in
+            subst (λ (p : Triple × Triple). Two p.0 p.1) (λ i. (e i, g i)) (sound.chain.starts_rise k n, sound.chain.ups_rise k n, sound.chain.lows_fall k n,
+            (w.0, w.1, w.2, omega (arith, w.3, f.size, f.within), ap (λ (y : Item). y.up) (sym (f.same w.0 (omega (arith, w.3, f.size)))) ∙ w.4))
+        | inr a ↦
+            let b : k + 1 ≡ length kept = omega (arith, a, m, length-append kept (c ∷ [])) in
+            subst (λ (p : Triple × Triple). Two p.0 p.1) (λ i. (sym (cut-left kept (c ∷ []) k (omega (arith, b))) i, sym (cut-push kept c (k + 1) b) i)) (last-two k b)
+      ]
+
+  pub note-sound-new : popped ≡ [] → AreSound s v stack (kept ++ record { start = t; up = l; low = v } ∷ [])
+  note-sound-new e = sound-push (record { start = t; up = l; low = v })
+      (record {
+        from = from;
+        within = omega (arith, below, size);
+        starts = record { place = h; within = omega (arith, size); owned = owned; starts = starts };
+        below = inl refl;
+        least = leastup;
+        up = less;
+        across = λ z g a. absurd (top-apart last done v stack rest stands h t size starts z a.low a.high g a.low_within a.high_from a.high_within a.low_end a.high_end);
+        own = λ n w. absurd (n refl);
+      })
+      (λ k b. let x = old-cut k (omega (arith, b)) in let u : (cut kept k).start < t = omega (arith, x.within, f.size) in
+      (u, lower k (omega (arith, b)), low-of (cut kept k).low x.below, (x.least.place, x.least.from, omega (arith, x.least.within, f.size), omega (arith, x.least.within, f.size, f.within), ap (λ (y : Item). y.up) (sym (f.same x.least.place (omega (arith, x.least.within, f.size)))) ∙ x.least.attained)))
+    where
+      low-of : (b : ℕ) → (b ≡ v) ⊎ IsFirstBelow old s b → v ≤ b
+      low-of b (inl q) = omega (arith, q)
+      low-of b (inr q) = let g = front-below old stack t f s b q in omega (arith, stands.laid.finished g.place g.tree_at.within g.tree_at.tree, g.tree_at.low, stands.left.ahead)
+
+  pub note-sound-old : (c : Triple) (more : List Triple) → popped ≡ c ∷ more → AreSound s v stack (kept ++ record { start = c.start; up = l; low = c.low } ∷ [])
+  note-sound-old c more e =
+      let z : cut (kept ++ popped) (length kept) ≡ c = ap (cut (kept ++ popped)) (omega arith) ∙ cut-right kept popped 0 ∙ ap (λ (p : List Triple). cut p 0) e in
+      let n : length kept < length (kept ++ popped) = omega (arith, length-append kept popped, ap length e) in
+      let x : IsSoundCut s v old c = subst (IsSoundCut s v old) z (sound.each (length kept) n) in
+      let g : l < c.up = omega (arith, higher 0 (omega (arith, ap length e)), ap (λ (p : List Triple). (cut p 0).up) e) in
+      sound-push (record { start = c.start; up = l; low = c.low }) (sound-now c l x (least-top c.start c.up (omega (arith, x.within, f.size)) x.least (omega (arith, g))) less)
+      (λ k b.
+      let p : cut (kept ++ popped) k ≡ cut kept k = cut-left kept popped k (omega (arith, b)) in
+      let q : cut (kept ++ popped) (k + 1) ≡ c = ap (cut (kept ++ popped)) b ∙ z in
+      let w = sound.chain.met k (omega (arith, b, n)) in
+      (omega (arith, sound.chain.starts_rise k (omega (arith, b, n)), ap (λ (y : Triple). y.start) p, ap (λ (y : Triple). y.start) q), lower k (omega (arith, b)),
+      omega (arith, sound.chain.lows_fall k (omega (arith, b, n)), ap (λ (y : Triple). y.low) p, ap (λ (y : Triple). y.low) q),
+      (w.0, omega (arith, w.1, ap (λ (y : Triple). y.start) p), omega (arith, w.2, ap (λ (y : Triple). y.start) q), omega (arith, w.3, f.size, f.within), ap (λ (y : Item). y.up) (sym (f.same w.0 (omega (arith, w.3, f.size)))) ∙ (w.4 ∙ ap (λ (y : Triple). y.up) p))))
