@@ -200,3 +200,271 @@ module _ (last : ℕ → ℕ) (done v s t l h : ℕ) (old stack : List Item) (re
       (omega (arith, sound.chain.starts_rise k (omega (arith, b, n)), ap (λ (y : Triple). y.start) p, ap (λ (y : Triple). y.start) q), lower k (omega (arith, b)),
       omega (arith, sound.chain.lows_fall k (omega (arith, b, n)), ap (λ (y : Triple). y.low) p, ap (λ (y : Triple). y.low) q),
       (w.0, omega (arith, w.1, ap (λ (y : Triple). y.start) p), omega (arith, w.2, ap (λ (y : Triple). y.start) q), omega (arith, w.3, f.size, f.within), ap (λ (y : Item). y.up) (sym (f.same w.0 (omega (arith, w.3, f.size)))) ∙ (w.4 ∙ ap (λ (y : Triple). y.up) p))))
+
+  -- a tree edge behind t that starts in front of t: there is none
+  no-across : (p : ℕ) → p < length stack → (item stack p).tree ≡ true → t ≤ p → (item stack p).start < t → ⊥
+  no-across p m q a b = elim (cases_eq p h) [
+    | inl e ↦ omega (arith, b, ap (λ (k : ℕ). (item stack k).start) e, starts)
+    | inr d ↦ elim (cases_Bool (item stack h).tree) [
+      | inl g ↦ omega (arith, b, stands.laid.laminar h p (omega (arith, size)) g (omega (arith, starts, a)) (omega (arith, m, size, d)), starts)
+      | inr g ↦ omega (arith, stands.laid.frond_start h (omega (arith, size)) g, starts, a, m, size, d)
+    ]
+  ]
+
+  -- the vertex of which an entry is a dart is one of its ends
+  owner-end : (i : ℕ) → has_end (owner (item stack i)) (entry (item stack i)) ≡ true
+  owner-end i = elim (cases_Bool (item stack i).tree) [
+    | inl e ↦ up-end (owner (item stack i)) (item stack i) (rw e refl)
+    | inr e ↦ low-end (owner (item stack i)) (item stack i) (rw e refl)
+  ]
+
+  owner-tree : (i b : ℕ) → owner (item stack i) ≡ b → (item stack i).tree ≡ true → (item stack i).up ≡ b
+  owner-tree i b o e = sym (rw e refl) ∙ o
+
+  owner-frond : (i b : ℕ) → owner (item stack i) ≡ b → (item stack i).tree ≡ false → (item stack i).low ≡ b
+  owner-frond i b o e = sym (rw e refl) ∙ o
+
+  -- a dart of b inside what belongs to a tree edge: b is not above that edge
+  owner-near : (p i b : ℕ) → p < length stack → (item stack p).tree ≡ true → (item stack p).start ≤ i → i < p → owner (item stack i) ≡ b → (item stack p).low ≤ b
+  owner-near p i b m q a c o = elim (cases_Bool (item stack i).tree) [
+    | inl e ↦ omega (arith, owner-tree i b o e, stands.laid.nearest p i m q a c e)
+    | inr e ↦ omega (arith, owner-frond i b o e, (stands.laid.inside p i m q a (omega (arith, c))).0)
+  ]
+
+  -- where the stretch of a dart of b, from u up to t, has no upper end above v, it is a side without the top
+  not-low : IsTopped stack rest h → (u b r : ℕ) → r < t → owner (item stack r) ≡ b → (item stack r).start ≡ u → (b ≡ v) ⊎ ((p : ℕ) × IsTreeAt stack b p × (p < t)) → ((y : ℕ) → l < y → y < b → IsBefore stack u y → ⊥) → ((i : ℕ) → u ≤ i → i < t → v ≤ (item stack i).up) → ⊥
+  not-low topped u b r m o e below-b free ups = go below-b
+    where
+      test : ℕ → Bool
+      test i = not (nat_lt i u) && nat_lt i t
+
+      yes : (i : ℕ) → u ≤ i → i < t → test i ≡ true
+      yes i a c = rw (le-ltb i u a, lt-ltb i t c) refl
+
+      no-high : (i : ℕ) → t ≤ i → test i ≡ false
+      no-high i a = elim (cases_lt i u) [ inl c ↦ rw (lt-ltb i u c) refl | inr c ↦ rw (le-ltb i u c, le-ltb i t a) refl ]
+
+      parts : (i : ℕ) → test i ≡ true → (u ≤ i) × (i < t)
+      parts i g = elim (cases_lt i t) [
+        | inr a ↦ absurd (both_ways (test i) (no-high i a) g)
+        | inl a ↦ elim (cases_lt i u) [ inr c ↦ (c, a) | inl c ↦ absurd (both_ways (test i) (rw (lt-ltb i u c) refl) g) ]
+      ]
+
+      outside : (i : ℕ) → test i ≡ false → (i < u) ⊎ (t ≤ i)
+      outside i g = elim (cases_lt i u) [
+        | inl c ↦ inl c
+        | inr c ↦ elim (cases_lt i t) [ inr a ↦ inr a | inl a ↦ absurd (both_ways (test i) g (yes i c a)) ]
+      ]
+
+      r-in : r < length stack
+      r-in = omega (arith, m, below, size)
+
+      u-le : u ≤ r
+      u-le = elim (cases_Bool (item stack r).tree) [ inl q ↦ omega (arith, e, stands.laid.tree_start r r-in q) | inr q ↦ omega (arith, e, stands.laid.frond_start r r-in q) ]
+
+      b-v : v ≤ b
+      b-v = elim below-b [ inl q ↦ omega (arith, q) | inr q ↦ omega (arith, stands.laid.finished q.0 q.1.within q.1.tree, q.1.low, stands.left.ahead) ]
+
+      -- a vertex behind v that is met in the stretch and before it is b
+      low-shared : (z i j : ℕ) → v < z → u ≤ i → i < t → j < u → has_end z (entry (item stack i)) ≡ true → has_end z (entry (item stack j)) ≡ true → z ≡ b
+      low-shared z i j g a c d x y = elim (cases_eq z b) [
+        | inl q ↦ q
+        | inr n ↦ elim (cases_lt z b) [
+          | inl k ↦ absurd (free z (omega (arith, g, less)) k (record { place = j; within = d; end = y }))
+          | inr k ↦
+              let p = stands.ended.held i z (omega (arith, c, below, size)) x g in
+              let w = touching-tree last done v stack rest stands z p.0 i p.1 (omega (arith, c, below, size)) x in
+              let y-in = touching-tree last done v stack rest stands z p.0 j p.1 (omega (arith, d, a, c, below, size)) y in
+              absurd (elim (cases_lt r p.0) [
+                | inl q ↦ omega (arith, owner-near p.0 r b p.1.within p.1.tree (omega (arith, y-in.0, d, u-le)) q o, p.1.low, k, n)
+                | inr q ↦ elim (cases_eq p.0 r) [
+                  | inl f-eq ↦ omega (arith, y-in.0, d, e, ap (λ (k : ℕ). (item stack k).start) f-eq)
+                  | inr f-ne ↦ elim (cases_Bool (item stack r).tree) [
+                    | inl tr ↦ omega (arith, y-in.0, d, stands.laid.laminar r p.0 r-in tr (omega (arith, e, a, w.1)) (omega (arith, q, f-ne)), e)
+                    | inr tr ↦ omega (arith, stands.laid.frond_start r r-in tr, e, a, w.1, q, f-ne)
+                  ]
+                ]
+              ])
+        ]
+      ]
+
+      only : (z : ℕ) → IsShared stack rest (side_at stack test) z → (z ≡ b) ⊎ (z ≡ v)
+      only z c =
+          let i-test = sym (side-place stack rest stands.left.is_family test c.place c.within) ∙ c.on in
+          let i = parts c.place i-test in
+          let up-v = ups c.place i.0 i.1 in
+          let z-v : v ≤ z = elim (item-ends z (item stack c.place) c.end) [ inl q ↦ omega (arith, q, up-v) | inr q ↦ omega (arith, q, up-v, (stands.laid.rises c.place c.within).0) ] in
+          elim (cases_eq z v) [
+            | inl q ↦ inr q
+            | inr n ↦ let g : v < z = omega (arith, z-v, n) in elim c.other [
+              | inr w ↦ let p = stands.ended.held c.place z c.within c.end g in absurd (both_ways (touches rest z) (stands.left.free z (omega (arith, stands.laid.finished p.0 p.1.within p.1.tree, p.1.low))) w)
+              | inl j ↦ elim (outside j.0 (sym (side-place stack rest stands.left.is_family test j.0 j.1) ∙ j.2)) [
+                | inl a ↦ inl (low-shared z c.place j.0 g i.0 i.1 a c.end j.3)
+                | inr a ↦ absurd (top-apart last done v stack rest stands h t size starts z c.place j.0 g i.1 a j.1 c.end j.3)
+              ]
+            ]
+          ]
+
+      stop : (i j : ℕ) → i < j → u ≤ i → j < t → ⊥
+      stop i j a c d = stretch-not last done v h stack rest stands (omega (arith, size)) topped test (no-high h below) i j a (omega (arith, d, below, size)) (yes i c (omega (arith, a, d))) (yes j (omega (arith, a, c)) d) b v only
+
+      go : (b ≡ v) ⊎ ((p : ℕ) × IsTreeAt stack b p × (p < t)) → ⊥
+      go (inl q) = elim (cases_Bool (item stack r).tree) [
+        | inl tr ↦ stop u r (omega (arith, e, stands.laid.tree_start r r-in tr)) (omega arith) m
+        | inr tr ↦ omega (arith, ups r u-le m, owner-frond r b o tr, q, (stands.laid.rises r r-in).0)
+      ]
+      go (inr q) =
+          let w = touching-tree last done v stack rest stands b q.0 r q.1 r-in (subst (λ (k : ℕ). has_end k (entry (item stack r)) ≡ true) o (owner-end r)) in
+          elim (cases_eq r q.0) [
+            | inl f-eq ↦ omega (arith, owner-tree r b o (subst (λ (k : ℕ). (item stack k).tree ≡ true) (sym f-eq) q.1.tree), ap (λ (k : ℕ). (item stack k).low) f-eq, q.1.low, (stands.laid.rises r r-in).0)
+            | inr f-ne ↦ stop r q.0 (omega (arith, w.1, f-ne)) u-le q.2
+          ]
+
+  -- a cut that is wanted now is kept, or it is the new one, or the one that changed
+  pub note-complete-in : IsTopped stack rest h → AreComplete s v old (kept ++ popped) → (t' a b : ℕ) → IsWanted s stack t' a b → (b ≡ v) ⊎ IsFirstBelow stack s b → a < v
+      → Contains kept (record { start = t'; up = a; low = b })
+      ⊎ ((popped ≡ []) × (t' ≡ t) × (a ≡ l) × (b ≡ v))
+      ⊎ ((c : Triple) × (more : List Triple) × (popped ≡ c ∷ more) × (t' ≡ c.start) × (a ≡ l) × (b ≡ c.low))
+  note-complete-in topped complete t' a b w below-b less-a = elim (cases_lt w.starts.place t) [
+    | inr far ↦ elim (cases_eq w.starts.place h) [
+      | inr n ↦ absurd (inner w.starts.place far (omega (arith, w.starts.within, size, n)) w.starts.owned below-b)
+      | inl e ↦
+          let bv : b ≡ v = sym w.starts.owned ∙ (ap (λ (k : ℕ). owner (item stack k)) e ∙ owned) in
+          let tt' : t' ≡ t = sym w.starts.starts ∙ (ap (λ (k : ℕ). (item stack k).start) e ∙ starts) in
+          let al : a ≡ l = least-same stack t a l (subst (λ (k : ℕ). IsLeastUp stack k a) tt' w.least) leastup in
+          elim (list-cases popped) [
+            | inl q ↦ inr (inl (q, tt', al, bv))
+            | inr q ↦
+                let x = head-cut q.0 q.1 q.2 in
+                absurd (w.free q.0.up (omega (arith, al, head-up q.0 q.1 q.2)) (omega (arith, bv, x.up)) (record { place = x.least.place; within = omega (arith, x.least.within, f.size, tt'); end = up-end q.0.up (item stack x.least.place) (sym x.least.attained ∙ ap (λ (y : Item). y.up) (f.same x.least.place (omega (arith, x.least.within, f.size)))) }))
+          ]
+    ]
+    | inl near ↦ front-case near (least-in old t' t (omega (arith, near, start-le near)))
+  ]
+    where
+      list-cases : (p : List Triple) → (p ≡ []) ⊎ ((c : Triple) × (more : List Triple) × (p ≡ c ∷ more))
+      list-cases [] = inl refl
+      list-cases (c ∷ more) = inr (c, more, refl)
+
+      head-place : (c : Triple) (more : List Triple) → popped ≡ c ∷ more → (length kept < length (kept ++ popped)) × (cut (kept ++ popped) (length kept) ≡ c)
+      head-place c more e = (omega (arith, length-append kept popped, ap length e), ap (cut (kept ++ popped)) (omega arith) ∙ cut-right kept popped 0 ∙ ap (λ (p : List Triple). cut p 0) e)
+
+      head-cut : (c : Triple) (more : List Triple) → popped ≡ c ∷ more → IsSoundCut s v old c
+      head-cut c more e = let p = head-place c more e in subst (IsSoundCut s v old) p.1 (sound.each (length kept) p.0)
+
+      head-up : (c : Triple) (more : List Triple) → popped ≡ c ∷ more → l < c.up
+      head-up c more e = omega (arith, higher 0 (omega (arith, ap length e)), ap (λ (p : List Triple). (cut p 0).up) e)
+
+      -- an entry inside what belongs to the top is no dart of v or of a vertex whose entries start at s
+      inner : (r : ℕ) → t ≤ r → r < h → owner (item stack r) ≡ b → (b ≡ v) ⊎ IsFirstBelow stack s b → ⊥
+      inner r a c o q = elim (cases_Bool (item stack h).tree) [
+        | inr tr ↦ omega (arith, stands.laid.frond_start h (omega (arith, size)) tr, starts, a, c)
+        | inl tr ↦ elim q [
+          | inl bv ↦ omega (arith, owner-near h r b (omega (arith, size)) tr (omega (arith, starts, a)) c o, bv, owner-tree h v owned tr, (stands.laid.rises h (omega (arith, size))).0)
+          | inr g ↦
+              let x = touching-tree last done v stack rest stands b g.place r g.tree_at (omega (arith, c, size)) (subst (λ (k : ℕ). has_end k (entry (item stack r)) ≡ true) o (owner-end r)) in
+              no-across g.place g.tree_at.within g.tree_at.tree (omega (arith, a, x.1)) (omega (arith, g.starts, from))
+        ]
+      ]
+
+      start-le : w.starts.place < t → t' ≤ w.starts.place
+      start-le m = elim (cases_Bool (item stack w.starts.place).tree) [
+        | inl q ↦ omega (arith, w.starts.starts, stands.laid.tree_start w.starts.place w.starts.within q)
+        | inr q ↦ omega (arith, w.starts.starts, stands.laid.frond_start w.starts.place w.starts.within q)
+      ]
+
+      old-start : w.starts.place < t → IsStart old b t'
+      old-start m = let e = sym (f.same w.starts.place m) in record { place = w.starts.place; within = omega (arith, m, f.size); owned = subst (λ (y : Item). owner y ≡ b) e w.starts.owned; starts = subst (λ (y : Item). y.start ≡ t') e w.starts.starts }
+
+      old-below : (b ≡ v) ⊎ IsFirstBelow old s b
+      old-below = elim below-b [
+        | inl q ↦ inl q
+        | inr g ↦ elim (cases_lt g.place t) [
+          | inl a ↦ inr (below-front old stack t f s b g a)
+          | inr a ↦ absurd (no-across g.place g.tree_at.within g.tree_at.tree a (omega (arith, g.starts, from)))
+        ]
+      ]
+
+      tree-below : (b ≡ v) ⊎ ((p : ℕ) × IsTreeAt stack b p × (p < t))
+      tree-below = elim below-b [
+        | inl q ↦ inl q
+        | inr g ↦ elim (cases_lt g.place t) [
+          | inl a ↦ inr (g.place, g.tree_at, a)
+          | inr a ↦ absurd (no-across g.place g.tree_at.within g.tree_at.tree a (omega (arith, g.starts, from)))
+        ]
+      ]
+
+      b-v : v ≤ b
+      b-v = elim tree-below [ inl q ↦ omega (arith, q) | inr q ↦ omega (arith, stands.laid.finished q.0 q.1.within q.1.tree, q.1.low, stands.left.ahead) ]
+
+      Answer : Type 0
+      Answer = Contains kept (record { start = t'; up = a; low = b }) ⊎ ((popped ≡ []) × (t' ≡ t) × (a ≡ l) × (b ≡ v)) ⊎ ((c : Triple) × (more : List Triple) × (popped ≡ c ∷ more) × (t' ≡ c.start) × (a ≡ l) × (b ≡ c.low))
+
+      old-least : (a₀ : ℕ) → IsLeastIn old t' t a₀ → IsLeastUp old t' a₀
+      old-least a₀ x = record { least = λ i m n. x.least i m (omega (arith, n, f.size)); place = x.place; from = x.from; within = omega (arith, x.within, f.size); attained = x.attained }
+
+      -- what is wanted now was wanted, with the least upper end of then
+      was : (m : w.starts.place < t) (a₀ : ℕ) → a ≤ a₀ → IsLeastUp old t' a₀ → a₀ < v → Contains (kept ++ popped) (record { start = t'; up = a₀; low = b })
+      was m a₀ g x k = complete t' a₀ b (record { from = w.from; starts = old-start m; least = x; free = λ y c d o. w.free y (omega (arith, c, g)) d (front-before old stack t f t' y (omega (arith, start-le m, m)) o) }) old-below k
+
+      front-case : w.starts.place < t → (a₀ : ℕ) × IsLeastIn old t' t a₀ → Answer
+      front-case m x = elim (cases_lt l x.0) [
+        | inr low ↦
+            let e : a ≡ x.0 = least-same stack t' a x.0 w.least (least-now t' x.0 (omega (arith, start-le m, m)) (old-least x.0 x.1) low) in
+            elim (Contains-append_cases kept popped (record { start = t'; up = x.0; low = b }) (was m x.0 (omega (arith, e)) (old-least x.0 x.1) (omega (arith, e, less-a)))) [
+              | inl c ↦ inl (subst (λ (k : ℕ). Contains kept (record { start = t'; up = k; low = b })) (sym e) c)
+              | inr c ↦ let p = place-of popped (record { start = t'; up = x.0; low = b }) no_cut c in absurd (omega (arith, higher p.0 p.1, ap (λ (y : Triple). y.up) p.2, low))
+            ]
+        | inl high ↦
+            let e : a ≡ l = least-same stack t' a l w.least (least-top t' x.0 (omega (arith, start-le m, m)) (old-least x.0 x.1) (omega (arith, high))) in
+            elim (cases_lt x.0 v) [
+              | inr g ↦ absurd (not-low topped t' b w.starts.place m w.starts.owned w.starts.starts tree-below (λ y c d o. w.free y (omega (arith, c, e)) d o) (λ i c d. omega (arith, x.1.least i c d, ap (λ (y : Item). y.up) (f.same i d), g)))
+              | inl g ↦ elim (Contains-append_cases kept popped (record { start = t'; up = x.0; low = b }) (was m x.0 (omega (arith, e, high)) (old-least x.0 x.1) g)) [
+                | inl c ↦ let p = place-of kept (record { start = t'; up = x.0; low = b }) no_cut c in absurd (omega (arith, lower p.0 p.1, ap (λ (y : Triple). y.up) p.2, high))
+                | inr c ↦ inr (inr (changed x.0 (list-cases popped) (place-of popped (record { start = t'; up = x.0; low = b }) no_cut c) e))
+              ]
+            ]
+      ]
+        where
+          changed : (a₀ : ℕ) → (popped ≡ []) ⊎ ((c : Triple) × (more : List Triple) × (popped ≡ c ∷ more)) → (i : ℕ) × (i < length popped) × (cut popped i ≡ record { start = t'; up = a₀; low = b }) → a ≡ l
+              → (c : Triple) × (more : List Triple) × (popped ≡ c ∷ more) × (t' ≡ c.start) × (a ≡ l) × (b ≡ c.low)
+          changed a₀ (inl q) p e = absurd (omega (arith, p.1, ap length q))
+          changed a₀ (inr q) p e = elim (cases_eq p.0 0) [
+            | inl z ↦
+                let same : q.0 ≡ record { start = t'; up = a₀; low = b } = sym (ap (λ (k : List Triple). cut k 0) q.2) ∙ (ap (cut popped) (sym z) ∙ p.2) in
+                (q.0, q.1, q.2, sym (ap (λ (y : Triple). y.start) same), e, sym (ap (λ (y : Triple). y.low) same))
+            | inr z ↦
+                let n = head-place q.0 q.1 q.2 in
+                let next : length kept + 1 < length (kept ++ popped) = omega (arith, length-append kept popped, p.1, z) in
+                let met = sound.chain.met (length kept) next in
+                let at : cut (kept ++ popped) (length kept + p.0) ≡ record { start = t'; up = a₀; low = b } = cut-right kept popped p.0 ∙ p.2 in
+                let later : (cut (kept ++ popped) (length kept + 1)).start ≤ t' = elim (cases_eq p.0 1) [
+                  | inl one ↦ omega (arith, ap (λ (k : ℕ). (cut (kept ++ popped) (length kept + k)).start) one, ap (λ (y : Triple). y.start) at)
+                  | inr more ↦ omega (arith, (chain-rises old (kept ++ popped) sound.chain (length kept + 1) (length kept + p.0) (omega (arith, z, more)) (omega (arith, length-append kept popped, p.1))).0, ap (λ (y : Triple). y.start) at)
+                ] in
+                absurd (w.free q.0.up (omega (arith, e, head-up q.0 q.1 q.2)) (omega (arith, (head-cut q.0 q.1 q.2).up, b-v))
+                (record { place = met.0; within = omega (arith, met.2, later); end = up-end q.0.up (item stack met.0) (sym (ap (λ (y : Item). y.up) (sym (f.same met.0 (omega (arith, met.3, f.size)))) ∙ (met.4 ∙ ap (λ (y : Triple). y.up) n.1))) }))
+          ]
+
+  pub note-complete-new : IsTopped stack rest h → AreComplete s v old (kept ++ popped) → popped ≡ [] → AreComplete s v stack (kept ++ record { start = t; up = l; low = v } ∷ [])
+  note-complete-new topped complete e = λ t' a b w q less-a. elim (note-complete-in topped complete t' a b w q less-a) [
+    | inl c ↦ Contains-append_left kept (record { start = t; up = l; low = v } ∷ []) (record { start = t'; up = a; low = b }) c
+    | inr o ↦ elim o [
+      | inl c ↦ subst (λ (y : Triple). Contains (kept ++ record { start = t; up = l; low = v } ∷ []) y) (λ i. record { start = sym c.1 i; up = sym c.2 i; low = sym c.3 i }) (Contains-push kept (record { start = t; up = l; low = v }))
+      | inr c ↦ absurd (omega (arith, ap length e, ap length c.2))
+    ]
+  ]
+
+  pub note-complete-old : IsTopped stack rest h → AreComplete s v old (kept ++ popped) → (c : Triple) (more : List Triple) → popped ≡ c ∷ more → AreComplete s v stack (kept ++ record { start = c.start; up = l; low = c.low } ∷ [])
+  note-complete-old topped complete c more e = λ t' a b w q less-a. elim (note-complete-in topped complete t' a b w q less-a) [
+    | inl d ↦ Contains-append_left kept (record { start = c.start; up = l; low = c.low } ∷ []) (record { start = t'; up = a; low = b }) d
+    | inr o ↦ elim o [
+      | inl d ↦ absurd (omega (arith, ap length e, ap length d.0))
+      | inr d ↦
+          let same : d.0 ≡ c = head-same d.0 c d.1 more (sym d.2 ∙ e) in
+          subst (λ (y : Triple). Contains (kept ++ record { start = c.start; up = l; low = c.low } ∷ []) y) (λ i. record { start = sym (d.3 ∙ ap (λ (y : Triple). y.start) same) i; up = sym d.4 i; low = sym (d.5 ∙ ap (λ (y : Triple). y.low) same) i }) (Contains-push kept (record { start = c.start; up = l; low = c.low }))
+    ]
+  ]
+    where
+      head-same : (x y : Triple) (xs ys : List Triple) → x ∷ xs ≡ y ∷ ys → x ≡ y
+      head-same x y xs ys h = ap (λ (p : List Triple). cut p 0) h
