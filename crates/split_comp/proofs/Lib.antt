@@ -6,3 +6,6 @@ pub mod Alike
 pub mod Pushed
 pub mod Begins
 pub mod Added
+pub mod Stretch
+pub mod LeastUp
+pub mod Noted

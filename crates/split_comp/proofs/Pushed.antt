@@ -105,7 +105,8 @@ module _ (old : List Item) (left : List Entry) (x : Item) (new : List Item) (res
   module _ (last : ℕ → ℕ) (done now : ℕ) (laid : IsLaid last done old) (above : (y : ℕ) → y < last y) (lower : now ≤ done) (low : x.low < done)
       (rises : (x.up < x.low) × (x.low < last x.up)) (frond : x.tree ≡ false → x.start ≡ length old) (tree : x.tree ≡ true → (x.start < length old) × (now ≤ x.low)
       × ((i : ℕ) → x.start ≤ i → i < length old → (x.low ≤ (item old i).low) × ((item old i).low < last x.low) × (x.start ≤ (item old i).start))
-      × ((i : ℕ) → i < x.start → i < length old → ((item old i).low < x.low) ⊎ (last x.low ≤ (item old i).low))) where
+      × ((i : ℕ) → i < x.start → i < length old → ((item old i).low < x.low) ⊎ (last x.low ≤ (item old i).low))
+      × ((i : ℕ) → x.start ≤ i → i < length old → (item old i).tree ≡ true → x.low ≤ (item old i).up)) where
     pub pushed-laid : IsLaid last now new
     pushed-laid = record {
       rises = λ i l. elim (pushed-cases i l) [
@@ -146,6 +147,12 @@ module _ (old : List Item) (left : List Entry) (x : Item) (new : List Item) (res
         | inr a ↦
             let d : i < length old = omega (arith, a, c) in
             at-top (λ (y : Item). y.start ≤ (item new i).start) p a (front (λ (y : Item). x.start ≤ y.start) i d ((tree (of-top (λ (y : Item). y.tree ≡ true) p a t)).2 i (of-top (λ (y : Item). y.start ≤ i) p a b) d).2)
+      ];
+      nearest = λ p i l t b c g. elim (pushed-cases p l) [
+        | inl a ↦ front (λ (y : Item). y.low ≤ (item new i).up) p a (front (λ (y : Item). (item old p).low ≤ y.up) i (omega (arith, a, c)) (laid.nearest p i a (behind (λ (y : Item). y.tree ≡ true) p a t) (behind (λ (y : Item). y.start ≤ i) p a b) c (behind (λ (y : Item). y.tree ≡ true) i (omega (arith, a, c)) g)))
+        | inr a ↦
+            let d : i < length old = omega (arith, a, c) in
+            at-top (λ (y : Item). y.low ≤ (item new i).up) p a (front (λ (y : Item). x.low ≤ y.up) i d ((tree (of-top (λ (y : Item). y.tree ≡ true) p a t)).4 i (of-top (λ (y : Item). y.start ≤ i) p a b) d (behind (λ (y : Item). y.tree ≡ true) i d g)))
       ];
       finished = λ p l t. elim (pushed-cases p l) [
         | inl a ↦ front (λ (y : Item). now ≤ y.low) p a (omega (arith, lower, laid.finished p a (behind (λ (y : Item). y.tree ≡ true) p a t)))
@@ -203,6 +210,7 @@ module _ (old : List Item) (left : List Entry) (x : Item) (new : List Item) (res
           omega (arith, e),
           (λ i l m. let c = f.from w i n (omega arith, s.above w) (omega (arith, b, l)) m in (omega (arith, e, c.0), subst (λ (y : ℕ). (item old i).low < last y) (sym e) c.1, omega (arith, b, lam i (omega (arith, b, l)) m))),
           (λ i l m. subst (λ (y : ℕ). ((item old i).low < y) ⊎ (last y ≤ (item old i).low)) (sym e) (f.before w i n (omega arith, s.above w) (omega (arith, b, l)))),
+          (λ i l m g. omega (arith, e, f.tree_up w i n (omega arith, s.above w) (omega (arith, b, l)) m g)),
         ));
     ended = record { held = held; on_path = on_path };
     left = record {

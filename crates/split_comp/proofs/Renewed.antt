@@ -148,6 +148,13 @@ module _ (last : ℕ → ℕ) (done v k j : ℕ) (keeps : Item → Bool) (side :
         (subst (λ (z : ℕ). z ≤ (item old i).low) q.1.low w.0, subst (λ (z : ℕ). (item old i).low < last z) q.1.low w.1, subst (λ (z : ℕ). z ≤ (item old i).start) q.3 (laid-old.laminar q.0 i q.1.within q.1.tree (omega (arith, q.3, a)) (omega (arith, b, q.2))))
   ]
 
+  -- tree edges there are not above it
+  near-tree : (i : ℕ) → x.tree ≡ true → x.start ≤ i → i < k → (item old i).tree ≡ true → x.low ≤ (item old i).up
+  near-tree i t a b g = elim r.shape [
+    | inr s ↦ absurd (both_ways x.tree s.0 t)
+    | inl s ↦ let q = s.1 in subst (λ (z : ℕ). z ≤ (item old i).up) q.1.low (laid-old.nearest q.0 i q.1.within q.1.tree (omega (arith, q.3, a)) (omega (arith, b, q.2)) g)
+  ]
+
   -- and what does not
   beside-tree : (i : ℕ) → x.tree ≡ true → i < x.start → i < k → ((item old i).low < x.low) ⊎ (last x.low ≤ (item old i).low)
   beside-tree i t a b = elim r.shape [
@@ -174,7 +181,7 @@ module _ (last : ℕ → ℕ) (done v k j : ℕ) (keeps : Item → Bool) (side :
   low-done t = elim r.shape [ inl s ↦ omega (arith, laid-old.finished s.1.0 s.1.1.within s.1.1.tree, s.1.1.low) | inr s ↦ absurd (both_ways x.tree s.0 t) ]
 
   pub laid-new : IsLaid last done new
-  laid-new = record { rises = rises; frond_start = frond_start; tree_start = tree_start; inside = inside; outside = outside; laminar = laminar; finished = finished }
+  laid-new = record { rises = rises; frond_start = frond_start; tree_start = tree_start; inside = inside; outside = outside; laminar = laminar; nearest = nearest; finished = finished }
     where
       rises : (i : ℕ) → i < length new → ((item new i).up < (item new i).low) × ((item new i).low < last (item new i).up)
       rises i l = elim (cases_lt i k) [
@@ -225,6 +232,16 @@ module _ (last : ℕ → ℕ) (done v k j : ℕ) (keeps : Item → Bool) (side :
         | inr e ↦ elim (cases_lt i k) [
           | inl c ↦ omega (arith, top-start p e.0, front (λ (y : Item). x.start ≤ y.start) i c (below-tree i e.1 (omega (arith, top-start p e.0, a)) c).2)
           | inr c ↦ omega (arith, top-start p e.0, start-lower e.1, (r.mid i c (omega (arith, b, e.0))).1)
+        ]
+      ]
+
+      nearest : (p i : ℕ) → p < length new → (item new p).tree ≡ true → (item new p).start ≤ i → i < p → (item new i).tree ≡ true → (item new p).low ≤ (item new i).up
+      nearest p i l t a b g = elim (tree-cases p l t) [
+        | inl c ↦ front (λ (y : Item). y.low ≤ (item new i).up) p c (front (λ (y : Item). (item old p).low ≤ y.up) i (omega (arith, b, c))
+            (laid-old.nearest p i (omega (arith, c, r.within)) (front-tree p c t) (back (λ (y : Item). y.start ≤ i) p c a) b (front-tree i (omega (arith, b, c)) g)))
+        | inr e ↦ elim (tree-cases i (omega (arith, b, l)) g) [
+          | inr d ↦ absurd (omega (arith, b, d.0, e.0))
+          | inl c ↦ omega (arith, low-now p (omega (arith, e.0, k-within)) l, front (λ (y : Item). x.low ≤ y.up) i c (near-tree i e.1 (omega (arith, top-start p e.0, a)) c (front-tree i c g)))
         ]
       ]
 

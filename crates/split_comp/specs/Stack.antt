@@ -25,7 +25,7 @@ owner x = (if x.tree then x.up else x.low)
 
 -- how the entries lie, where the vertices from an x on and below last x are x and those below it, and those from done on are
 -- finished: what belongs to a tree edge are the entries from its start on, and these are the entries with a lower end below
--- its own
+-- its own; tree edges among them are not above it
 pub record IsLaid (last : ℕ → ℕ) (done : ℕ) (stack : List Item) : Type 0 where
   pub rises : (i : ℕ) → i < length stack → ((item stack i).up < (item stack i).low) × ((item stack i).low < last (item stack i).up)
   pub frond_start : (i : ℕ) → i < length stack → (item stack i).tree ≡ false → (item stack i).start ≡ i
@@ -33,6 +33,7 @@ pub record IsLaid (last : ℕ → ℕ) (done : ℕ) (stack : List Item) : Type 0
   pub inside : (p i : ℕ) → p < length stack → (item stack p).tree ≡ true → (item stack p).start ≤ i → i ≤ p → ((item stack p).low ≤ (item stack i).low) × ((item stack i).low < last (item stack p).low)
   pub outside : (p i : ℕ) → p < length stack → (item stack p).tree ≡ true → i < length stack → (i < (item stack p).start) ⊎ (p < i) → ((item stack i).low < (item stack p).low) ⊎ (last (item stack p).low ≤ (item stack i).low)
   pub laminar : (p i : ℕ) → p < length stack → (item stack p).tree ≡ true → (item stack p).start ≤ i → i < p → (item stack p).start ≤ (item stack i).start
+  pub nearest : (p i : ℕ) → p < length stack → (item stack p).tree ≡ true → (item stack p).start ≤ i → i < p → (item stack i).tree ≡ true → (item stack p).low ≤ (item stack i).up
   pub finished : (p : ℕ) → p < length stack → (item stack p).tree ≡ true → done ≤ (item stack p).low
 
 -- the tree edge of vertex x is at place p
