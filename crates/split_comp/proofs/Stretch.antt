@@ -5,8 +5,9 @@ use Rattle.std.proofs.lemmas.List.{length-map}
 use Rattle.permutations.specs.Count.{some}
 use Rattle.permutations.proofs.Search.{some-witness, some-from}
 use Rattle.pair_split.specs.Family.{Entry, has_end, names, on_side, off_side, touches, is_common, IsFamily, IsTight, IsSeparation}
-use Rattle.pair_split.proofs.Elements.{two-pass}
-use Rattle.pair_split.proofs.Sides.{common-inside, common-outside, exactly_two, separation-from, touches-from, touching-entry}
+use Rattle.pair_split.proofs.Elements.{two-pass, contains-here, contains-later}
+use Rattle.permutations.proofs.Filter.{filter-yes, filter-no}
+use Rattle.pair_split.proofs.Sides.{common-from, common-inside, common-outside, exactly_two, separation-from, touches-from, touching-entry}
 use Rattle.split_comp.specs.declared.items.Item.{Item}
 use Rattle.split_comp.specs.Stack.{no_item, item, entry, family, IsStack, IsBad, IsTopped}
 use Rattle.split_comp.specs.Sides.{IsCutOff}
@@ -79,3 +80,39 @@ stretch-not last done v h stack rest s l topped test out i j m n a b p q only =
     let rest-two = side-off_two stack rest f (side_at stack test) h w.0 l (side-place stack rest f test h l ∙ out) w.1 (off w.0 w.1) in
     let bad : IsBad stack rest (side_at stack test) p q = record { separates = separation-from (family stack rest) (side_at stack test) p q s.left.is_tight two rest-two (λ z c. only z (shared-from stack rest (side_at stack test) off z c)); stacked = off } in
     both_ways (side_at stack test (item stack h).name) (side-place stack rest f test h l ∙ out) (topped (side_at stack test) p q bad)
+
+-- a common vertex, from an entry on the side and one off it
+pub common-at : (stack : List Item) (rest : List Entry) (s : ℕ → Bool) (z i j : ℕ) → i < length stack → j < length stack → s (item stack i).name ≡ true → s (item stack j).name ≡ false → has_end z (entry (item stack i)) ≡ true → has_end z (entry (item stack j)) ≡ true → is_common (family stack rest) s z ≡ true
+common-at stack rest s z i j l m a b x y = common-from (family stack rest) s z
+    (record { entry = entry (item stack i); within = stack-contains stack rest i l; side = a; end = x })
+    (record { entry = entry (item stack j); within = stack-contains stack rest j m; side = not_from_false (s (item stack j).name) b; end = y })
+
+-- or one of the rest
+pub common-rest : (stack : List Item) (rest : List Entry) (s : ℕ → Bool) → ((x : Entry) → Contains rest x → s x.name ≡ false) → (z i : ℕ) → i < length stack → s (item stack i).name ≡ true → has_end z (entry (item stack i)) ≡ true → touches rest z ≡ true → is_common (family stack rest) s z ≡ true
+common-rest stack rest s off z i l a x t =
+    let e = touching-entry rest z t in
+    common-from (family stack rest) s z
+    (record { entry = entry (item stack i); within = stack-contains stack rest i l; side = a; end = x })
+    (record { entry = e.0; within = rest-contains stack rest e.0 e.1; side = not_from_false (s e.0.name) (off e.0 e.1); end = e.2 })
+
+-- a side that is the whole stack, without its first entry
+tail-cut : (keeps : Item → Bool) (x : Item) (stack : List Item) (rest : List Entry) (side : ℕ → Bool) → IsCutOff keeps (x ∷ stack) rest 0 side → IsCutOff keeps stack rest 0 side
+tail-cut keeps x stack rest side c = record { from = λ i l m. c.from (suc i) (omega arith) (omega (arith, m)); before = λ i l m. absurd (omega (arith, l)); off = c.off }
+
+-- the entries of a side that is cut off
+pub cut-is : (keeps : Item → Bool) (stack : List Item) (rest : List Entry) (k : ℕ) (side : ℕ → Bool) → IsCutOff keeps stack rest k side → on_side side (family stack rest) ≡ map entry (filter keeps (drop k stack))
+cut-is keeps [] rest k side c = none rest c.off ∙ ap (λ (l : List Item). map entry (filter keeps l)) (sym (drop-nil k))
+  where
+    none : (l : List Entry) → ((x : Entry) → Contains l x → side x.name ≡ false) → on_side side l ≡ []
+    none [] h = refl
+    none (x ∷ l) h = filter-no (λ (e : Entry). side e.name) x l (h x (contains-here x l)) ∙ none l (λ y d. h y (contains-later y x l d))
+
+    drop-nil : (n : ℕ) → drop {A = Item} n [] ≡ []
+    drop-nil zero = refl
+    drop-nil (suc n) = refl
+cut-is keeps (x ∷ stack) rest zero side c = elim (cases_Bool (keeps x)) [
+  | inl t ↦ filter-yes (λ (e : Entry). side e.name) (entry x) (family stack rest) (c.from 0 (omega arith) (omega arith) ∙ t) ∙ (ap (λ (l : List Entry). entry x ∷ l) (cut-is keeps stack rest zero side (tail-cut keeps x stack rest side c)) ∙ ap (map entry) (sym (filter-yes keeps x stack t)))
+  | inr t ↦ filter-no (λ (e : Entry). side e.name) (entry x) (family stack rest) (c.from 0 (omega arith) (omega arith) ∙ t) ∙ (cut-is keeps stack rest zero side (tail-cut keeps x stack rest side c) ∙ ap (map entry) (sym (filter-no keeps x stack t)))
+]
+cut-is keeps (x ∷ stack) rest (suc k) side c = filter-no (λ (e : Entry). side e.name) (entry x) (family stack rest) (c.before 0 (omega arith) (omega arith))
+    ∙ cut-is keeps stack rest k side (record { from = λ i l m. c.from (suc i) (omega (arith, l)) (omega (arith, m)); before = λ i l m. c.before (suc i) (omega (arith, l)) (omega (arith, m)); off = c.off })
