@@ -1,77 +1,498 @@
--- Two-separations when the search is back.
-use Rattle.std.proofs.Common.{◌≡◌, ◌≢◌, ℕ, ◌+◌, ◌<◌, ◌≤◌, ◌⊎◌, ◌↔◌, Bool, true, false, not, List, [], ◌∷◌, ◌++◌, length, map, filter, take, drop, slice_index, slice_index_or, Contains}
-use Rattle.multigraph.specs.Graph.{Multigraph, edge_count, IsGraph}
-use Rattle.graph_theory.specs.Block.{IsOneBlock}
-use Rattle.palm_tree.specs.PalmTree.{PalmTreeLists, IsPalmTree}
-use Rattle.pair_split.specs.Family.{Entry, has_end, touches, on_side, off_side, is_common, IsFamily, IsTight, IsSeparation, IsPrime}
-use Rattle.pair_split.specs.Skeleton.{SameEnds, IsSkeleton}
-use Rattle.pair_split.specs.Edges.{entry_ends, family_skeleton}
-use Rattle.pair_split.specs.Minimal.{IsMinimal}
-use Rattle.pair_split.specs.State.{Part, SplitState, IsSplitState}
-use Rattle.pair_split.specs.declared.components.Kind.{Kind}
-use Rattle.pair_split.specs.declared.components.Kind.TheVariants.{B}
-use Rattle.pair_split.proofs.SameEntries.{IsWithin}
+-- Bad sides when the search is back at a vertex (Hopcroft and Tarjan 1973): all that belongs to the last entry, or a cut, or a
+-- triangle.
+use Rattle.std.proofs.Common.{◌≡◌, ◌≢◌, ℕ, zero, suc, ◌+◌, ◌-◌, ◌<◌, ◌≤◌, ◌⊎◌, inl, inr, Bool, true, false, not, nat_lt, ◌&&◌, ◌||◌, ◌==◌, List, [], ◌∷◌, length, refl, sym, ap, ◌∙◌, subst, arith, Contains}
+use Rattle.std.proofs.lemmas.Bool.{cases_Bool, cases_lt, cases_eq, both_ways, and_parts, and_from, or_cases, or_left, or_right, eq-eqb, eqb-true, ne_eqb, lt-ltb, le-ltb, false_from_ne_true, not_from_false, not-true}
+use Rattle.permutations.specs.Count.{some}
+use Rattle.permutations.proofs.Search.{some-witness, some-from}
+use Rattle.pair_split.specs.Family.{Entry, has_end, on_side, off_side, touches, is_common, IsSeparation}
+use Rattle.pair_split.proofs.Sides.{touching-entry, separation-from, one-from_entry}
 use Rattle.split_comp.specs.declared.items.Item.{Item}
-use Rattle.split_comp.specs.declared.items.Triple.{Triple}
-use Rattle.split_comp.specs.declared.items.Dart.{Dart}
-use Rattle.split_comp.specs.Stack.{item, entry, family, owner, IsLaid, IsTreeAt, IsEnded, IsRest, IsStack, IsSorted, IsBad, IsClean, IsTopped, IsReturned, AreFirst}
-use Rattle.split_comp.specs.Palm.{AreVertices, tree_dart, tree_degree, tree_parent, IsFrondTo, IsPalm, dart_entry, AreDrawn}
-use Rattle.split_comp.specs.Walk.{IsOnPath, IsWalk, AreLeft, IsOneMore}
-use Rattle.split_comp.specs.Cuts.{cut, IsLeastUp, IsAcross, IsBefore, IsStart, IsFirstBelow, IsSoundCut, IsChain, AreSound, IsWanted, AreComplete, IsSoundAt, AreSoundAt, AreCompleteAt}
-use Rattle.split_comp.specs.Sides.{is_frond_to, IsCutOff, all_items, but_frond, IsLeast, HasNoTriangle}
-use Rattle.split_comp.specs.Frames.{AreFrames, IsGoneTo, AreReached, AreAhead, AreCuts}
+use Rattle.split_comp.specs.Stack.{item, entry, family, owner, IsTreeAt, IsStack, IsSorted, IsBad, IsTopped, IsReturned}
+use Rattle.split_comp.specs.Cuts.{IsLeastUp, IsBefore, IsStart, IsFirstBelow, IsWanted}
+use Rattle.split_comp.specs.Sides.{is_frond_to, HasNoTriangle}
+use Rattle.split_comp.proofs.Entries.{item-ends, up-end, low-end, stack-contains, rest-contains}
+use Rattle.split_comp.proofs.Renewed.{frond-parts}
+use Rattle.split_comp.proofs.LeastUp.{IsLeastIn, least-in, touching-tree}
+use Rattle.split_comp.proofs.Lying.{owner-end, owner-tree, owner-frond, tree-owner, frond-owner, same-tree, start-at, owner-near, held-owner, owner-in, darts-apart, dart-over, same-side, constant-below}
+use Rattle.split_comp.proofs.Stretch.{side_at, side-place, side-rest, side-two, side-off_two, IsShared, shared-from, stretch-not, common-at, common-rest}
+use Rattle.split_comp.proofs.Parallel.{top-pair, top-ends, dart-shared}
+
+-- the two common vertices change places
+pub separation-swap : (entries : List Entry) (s : ℕ → Bool) (p q : ℕ) → IsSeparation entries s p q → IsSeparation entries s q p
+separation-swap entries s p q c = record {
+  differ = λ e. c.differ (sym e);
+  first_common = c.second_common;
+  second_common = c.first_common;
+  no_other = λ x h. elim (c.no_other x h) [ inl e ↦ inr e | inr e ↦ inl e ];
+  two_inside = c.two_inside;
+  two_outside = c.two_outside;
+}
 
 module _ (last : ℕ → ℕ) (done v s h : ℕ) (stack : List Item) (rest : List Entry) (back : IsReturned last done v s h stack rest) where
-  -- a 2-separation with a side inside the stack: v is common, and so is another vertex x, which is above v, or has its tree edge below
-  pub bad-cases : (side : ℕ → Bool) (p q : ℕ) → IsBad stack rest side p q
-      → (x : ℕ) × IsBad stack rest side v x × ((x < v) ⊎ ((v < x) × (x ≢ (item stack h).low) × ((b : ℕ) × IsTreeAt stack x b × (s ≤ (item stack b).start) × (b < h))))
-  bad-cases = ?
+  abbrev w : ℕ
+  w = (item stack h).low
 
-  -- where the other one is above v, the side has all that belongs to the last entry, and no upper end above v is another
-  pub bad-whole : (side : ℕ → Bool) (x : ℕ) → IsBad stack rest side v x → x < v → ((i : ℕ) → s ≤ i → i ≤ h → side (item stack i).name ≡ true) × ((i : ℕ) → s ≤ i → i ≤ h → (item stack i).up < v → (item stack i).up ≡ x)
-  bad-whole = ?
+  stands : IsStack last done v stack rest
+  stands = back.stands
 
-  -- where it is below v, there is a cut that is wanted, or a triangle
-  pub bad-cut : (side : ℕ → Bool) (x : ℕ) → IsBad stack rest side v x → v < x → HasNoTriangle stack h (item stack h).low
-      → (t b : ℕ) × IsWanted s stack t v b × IsFirstBelow stack s b × (b ≢ (item stack h).low) × ((i : ℕ) → t ≤ i → i < length stack → is_frond_to v b (item stack i) ≡ false → side (item stack i).name ≡ true)
-  bad-cut = ?
+  h-in : h < length stack
+  h-in = omega (arith, back.size)
 
-  -- B5: the sides that are cut off
-  module _ (above : (z : ℕ) × (z < v) × (touches rest z ≡ true)) where
-    pub triangle-separates : (k : ℕ) → k + 1 ≡ h → (item stack k).tree ≡ true → (IsBefore stack k (item stack h).low → ⊥) → (side : ℕ → Bool) → IsCutOff all_items stack rest k side
-        → ((item stack k).up ≡ (item stack h).low) × ((item stack k).start ≡ s) × IsSeparation (family stack rest) side v (item stack k).low
-    triangle-separates = ?
+  pub top-tree : IsTreeAt stack w h
+  top-tree = record { within = h-in; tree = back.tree; low = refl }
 
-    pub triangle-least : (k : ℕ) → k + 1 ≡ h → (item stack k).tree ≡ true → (IsBefore stack k (item stack h).low → ⊥) → (side : ℕ → Bool) → IsCutOff all_items stack rest k side → IsLeast stack rest side
-    triangle-least = ?
+  w-done : done ≤ w
+  w-done = stands.laid.finished h h-in back.tree
 
-    pub pair-separates : (c : Triple) → IsSoundAt s v (item stack h).low stack c → c.up ≡ v → c.low ≢ (item stack h).low → (side : ℕ → Bool) → IsCutOff (but_frond v c.low) stack rest c.start side
-        → IsSeparation (family stack rest) side v c.low
-    pair-separates = ?
+  pub v-w : v < w
+  v-w = omega (arith, w-done, stands.left.ahead)
 
-    -- c is the last of the cuts
-    pub pair-least : (cuts : List Triple) (c : Triple) → AreSoundAt s v (item stack h).low stack (cuts ++ c ∷ []) → AreCompleteAt s v (item stack h).low stack (cuts ++ c ∷ []) → c.up ≡ v → c.low ≢ (item stack h).low
-        → HasNoTriangle stack h (item stack h).low → (side : ℕ → Bool) → IsCutOff (but_frond v c.low) stack rest c.start side → IsLeast stack rest side
-    pair-least = ?
+  pub s-h : s < h
+  s-h = omega (arith, stands.laid.tree_start h h-in back.tree, back.start)
 
-    -- where the frond from the lower vertex of a pair to v may be: behind the cut, or right before it
-    pub pair-frond : (c : Triple) → IsSoundAt s v (item stack h).low stack c → c.up ≡ v → c.low ≢ (item stack h).low → 4 ≤ length (family stack rest) → (i : ℕ) → i < c.start → is_frond_to v c.low (item stack i) ≡ true → i + 1 ≡ c.start
-    pair-frond = ?
+  -- the entries from s on have lower ends behind v
+  pub low-v : (i : ℕ) → s ≤ i → i ≤ h → w ≤ (item stack i).low
+  low-v i a b = (stands.laid.inside h i h-in back.tree (omega (arith, a, back.start)) b).0
 
-    -- and from the lower vertex of a triangle: right before it
-    pub triangle-frond : (k : ℕ) → k + 1 ≡ h → (item stack k).tree ≡ true → (IsBefore stack k (item stack h).low → ⊥) → 4 ≤ length (family stack rest) → (i : ℕ) → i < k → is_frond_to v (item stack k).low (item stack i) ≡ true → i + 1 ≡ k
-    triangle-frond = ?
+  -- tree edges from s on start at s or later
+  pub start-s : (i : ℕ) → s ≤ i → i ≤ h → s ≤ (item stack i).start
+  start-s i a b = elim (cases_eq i h) [
+    | inl e ↦ omega (arith, ap (λ (k : ℕ). (item stack k).start) e, back.start)
+    | inr n ↦ omega (arith, back.start, stands.laid.laminar h i h-in back.tree (omega (arith, a, back.start)) (omega (arith, b, n)))
+  ]
 
-  -- two parallel fronds are not both in the stack
-  pub fronds-once : (b i j : ℕ) → 4 ≤ length (family stack rest) → i < j → j < h → is_frond_to v b (item stack i) ≡ true → is_frond_to v b (item stack j) ≡ true → ⊥
-  fronds-once = ?
+  -- a vertex behind v that is met from s on is met there alone, and has its tree edge there
+  pub met-tree : (z i : ℕ) → v < z → s ≤ i → i ≤ h → has_end z (entry (item stack i)) ≡ true → (p : ℕ) × IsTreeAt stack z p × (s ≤ (item stack p).start) × ((item stack p).start ≤ i) × (i ≤ p) × (p ≤ h)
+  met-tree z i g a b e =
+      let p = stands.ended.held i z (omega (arith, b, back.size)) e g in
+      let c = touching-tree last done v stack rest stands z p.0 i p.1 (omega (arith, b, back.size)) e in
+      (p.0, p.1, start-s p.0 (omega (arith, a, c.1)) (omega (arith, p.1.within, back.size)), c.0, c.1, omega (arith, p.1.within, back.size))
 
-  -- without triangle and without a cut whose upper end is v, each side holds all that belongs to the last entry
-  pub none-cut : (cuts : List Triple) → AreCompleteAt s v (item stack h).low stack cuts → HasNoTriangle stack h (item stack h).low → ((k : ℕ) → k < length cuts → (cut cuts k).up ≡ v → ⊥)
-      → (side : ℕ → Bool) (p q : ℕ) → IsBad stack rest side p q → (x : ℕ) × (x < v) × ((i : ℕ) → s ≤ i → i ≤ h → side (item stack i).name ≡ true) × ((i : ℕ) → s ≤ i → i ≤ h → (item stack i).up < v → (item stack i).up ≡ x)
-  none-cut = ?
+  pub met-inside : (z i j : ℕ) → v < z → s ≤ i → i ≤ h → has_end z (entry (item stack i)) ≡ true → j < length stack → has_end z (entry (item stack j)) ≡ true → s ≤ j
+  met-inside z i j g a b e l f =
+      let p = met-tree z i g a b e in
+      omega (arith, p.2, (touching-tree last done v stack rest stands z p.0 j p.1 l f).0)
 
-  pub side-separates : (r : ℕ) → r < v → ((i : ℕ) → s ≤ i → i ≤ h → (item stack i).up < v → (item stack i).up ≡ r) → (side : ℕ → Bool) → IsCutOff all_items stack rest s side → 2 ≤ length (off_side side (family stack rest))
-      → IsSeparation (family stack rest) side r v
-  side-separates = ?
+  -- the rest does not touch what is met behind v
+  pub rest-not : (z i : ℕ) → v < z → i < length stack → has_end z (entry (item stack i)) ≡ true → touches rest z ≡ true → ⊥
+  rest-not z i g l e t = let p = stands.ended.held i z l e g in both_ways (touches rest z) (stands.left.free z (omega (arith, stands.laid.finished p.0 p.1.within p.1.tree, p.1.low))) t
 
+  -- some entry from s on has an upper end above v
+  pub seg-up : (i : ℕ) × (s ≤ i) × (i ≤ h) × ((item stack i).up < v)
+  seg-up =
+      let e = touching-entry rest v stands.left.own in
+      let t = stands.left.is_tight (side_at stack test)
+          (one-from_entry (family stack rest) (side_at stack test) (record { entry = entry (item stack h); within = stack-contains stack rest h h-in; side = side-place stack rest stands.left.is_family test h h-in ∙ yes h (omega (arith, s-h)) (omega arith) }))
+          (one-from_entry (family stack rest) (λ n. not (side_at stack test n)) (record { entry = e.0; within = rest-contains stack rest e.0 e.1; side = not_from_false (side_at stack test e.0.name) (off e.0 e.1) })) in
+      elim (cases_eq t.0 v) [
+        | inr n ↦ found t.0 n (shared-from stack rest (side_at stack test) off t.0 t.3)
+        | inl k ↦ found t.1 (λ m. t.2 (k ∙ sym m)) (shared-from stack rest (side_at stack test) off t.1 t.4)
+      ]
+    where
+      test : ℕ → Bool
+      test k = not (nat_lt k s) && not (nat_lt h k)
+
+      yes : (k : ℕ) → s ≤ k → k ≤ h → test k ≡ true
+      yes k a b = rw (le-ltb k s a, le-ltb h k b) refl
+
+      parts : (k : ℕ) → test k ≡ true → (s ≤ k) × (k ≤ h)
+      parts k c = elim (cases_lt k s) [
+        | inl a ↦ absurd (both_ways (test k) (rw (lt-ltb k s a) refl) c)
+        | inr a ↦ elim (cases_lt h k) [ inr b ↦ (a, b) | inl b ↦ absurd (both_ways (test k) (rw (le-ltb k s a, lt-ltb h k b) refl) c) ]
+      ]
+
+      off : (x : Entry) → Contains rest x → side_at stack test x.name ≡ false
+      off = side-rest stack rest stands.left.is_family test
+
+      found : (z : ℕ) → z ≢ v → IsShared stack rest (side_at stack test) z → (i : ℕ) × (s ≤ i) × (i ≤ h) × ((item stack i).up < v)
+      found z n c =
+          let i = parts c.place (sym (side-place stack rest stands.left.is_family test c.place c.within) ∙ c.on) in
+          elim (cases_lt v z) [
+            | inl g ↦ absurd (elim c.other [
+              | inr r ↦ rest-not z c.place g c.within c.end r
+              | inl j ↦ both_ways (test j.0) (sym (side-place stack rest stands.left.is_family test j.0 j.1) ∙ j.2) (yes j.0 (met-inside z c.place j.0 g i.0 i.1 c.end j.1 j.3) (omega (arith, j.1, back.size)))
+            ])
+            | inr g ↦ (c.place, i.0, i.1, elim (item-ends z (item stack c.place) c.end) [ inl e ↦ omega (arith, e, g, n) | inr e ↦ absurd (omega (arith, e, g, low-v c.place i.0 i.1, v-w)) ])
+          ]
+
+  -- a bad side: v is common
+  pub bad-v : (side : ℕ → Bool) (p q : ℕ) → IsBad stack rest side p q → (x : ℕ) × IsBad stack rest side v x
+  bad-v side p q b =
+      let on = back.topped side p q b in
+      elim (b.separates.no_other v (common-rest stack rest side b.stacked v h h-in on (up-end v (item stack h) (sym back.up)) stands.left.own)) [
+        | inl e ↦ (q, record { separates = subst (λ (k : ℕ). IsSeparation (family stack rest) side k q) (sym e) b.separates; stacked = b.stacked })
+        | inr e ↦ (p, record { separates = subst (λ (k : ℕ). IsSeparation (family stack rest) side k p) (sym e) (separation-swap (family stack rest) side p q b.separates); stacked = b.stacked })
+      ]
+
+  module _ (side : ℕ → Bool) (x : ℕ) (b : IsBad stack rest side v x) where
+    on-top : side (item stack h).name ≡ true
+    on-top = back.topped side v x b
+
+    -- a common vertex is v or x
+    pub not-common : (z : ℕ) → z ≢ v → z ≢ x → is_common (family stack rest) side z ≡ false
+    not-common z m n = false_from_ne_true (is_common (family stack rest) side z) (λ c. elim (b.separates.no_other z c) [ inl e ↦ m e | inr e ↦ n e ])
+
+    -- an upper end above v of an entry on the side is x
+    pub up-is : (i : ℕ) → i < length stack → side (item stack i).name ≡ true → (item stack i).up < v → (item stack i).up ≡ x
+    up-is i l t g = elim (b.separates.no_other (item stack i).up (common-rest stack rest side b.stacked (item stack i).up i l t (up-end (item stack i).up (item stack i) refl) (stands.left.on_path i (item stack i).up l (up-end (item stack i).up (item stack i) refl) (omega (arith, g))))) [
+      | inl e ↦ absurd (omega (arith, e, g))
+      | inr e ↦ e
+    ]
+
+    -- where no vertex with a tree edge from s on is x, the side has all from s on
+    all-from : ((r : ℕ) → s ≤ r → r ≤ h → (item stack r).tree ≡ true → (item stack r).low ≢ x) → (i : ℕ) → s ≤ i → i ≤ h → side (item stack i).name ≡ true
+    all-from n i a c = constant-below last done v stack rest stands side h h-in back.tree
+        (λ r d e t. not-common (item stack r).low (λ k. omega (arith, k, low-v r (omega (arith, d, back.start)) e, v-w)) (n r (omega (arith, d, back.start)) e t)) i (omega (arith, a, back.start)) c ∙ on-top
+
+    pub bad-whole : x < v → ((i : ℕ) → s ≤ i → i ≤ h → side (item stack i).name ≡ true) × ((i : ℕ) → s ≤ i → i ≤ h → (item stack i).up < v → (item stack i).up ≡ x)
+    bad-whole g =
+        let all = all-from (λ r a c t k. omega (arith, k, g, low-v r a c, v-w)) in
+        (all, λ i a c u. up-is i (omega (arith, c, back.size)) (all i a c) u)
+
+    pub bad-below : v < x → (x ≢ w) × ((p : ℕ) × IsTreeAt stack x p × (s ≤ (item stack p).start) × (p < h))
+    bad-below g = (not-w, elim (cases_Bool (some (h + 1) test)) [ inl t ↦ found (some-witness (h + 1) test t) | inr f ↦ absurd (none f) ])
+      where
+        test : ℕ → Bool
+        test r = not (nat_lt r s) && ((item stack r).tree && ((item stack r).low == x))
+
+        -- the ends of the last entry
+        not-w : x ≢ w
+        not-w k =
+            let into : (z : ℕ) → has_end z (entry (item stack h)) ≡ true → (z ≡ v) ⊎ (z ≡ x) = λ z e. elim (item-ends z (item stack h) e) [ inl m ↦ inl (m ∙ back.up) | inr m ↦ inr (m ∙ sym k) ] in
+            let o = top-pair last done v h stack rest stands back.size back.topped side v x b into (top-ends last done v h stack rest stands back.size back.topped v x into) in
+            elim (cases_Bool (item stack o.other).tree) [
+              | inr f ↦ back.no_frond o.other o.within f o.low (o.up ∙ back.up)
+              | inl t ↦ omega (arith, o.within, same-tree last done v stack rest stands w o.other h (record { within = omega (arith, o.within, back.size); tree = t; low = o.low }) top-tree)
+            ]
+
+        found : (r : ℕ) × (r < h + 1) × (test r ≡ true) → (p : ℕ) × IsTreeAt stack x p × (s ≤ (item stack p).start) × (p < h)
+        found r =
+            let a = and_parts (not (nat_lt r.0 s)) ((item stack r.0).tree && ((item stack r.0).low == x)) r.2 in
+            let c = and_parts (item stack r.0).tree ((item stack r.0).low == x) a.1 in
+            let l : (item stack r.0).low ≡ x = eqb-true (item stack r.0).low x c.1 in
+            let from : s ≤ r.0 = elim (cases_lt r.0 s) [ inr m ↦ m | inl m ↦ absurd (both_ways (nat_lt r.0 s) (not-true (nat_lt r.0 s) a.0) (lt-ltb r.0 s m)) ] in
+            (r.0, record { within = omega (arith, r.1, back.size); tree = c.0; low = l }, start-s r.0 from (omega (arith, r.1)), elim (cases_eq r.0 h) [ inl e ↦ absurd (not-w (sym l ∙ ap (λ (k : ℕ). (item stack k).low) e)) | inr n ↦ omega (arith, n, r.1) ])
+
+        none : some (h + 1) test ≡ false → ⊥
+        none f =
+            let all = all-from (λ r a c t k. both_ways (some (h + 1) test) f (some-from (h + 1) test r (omega (arith, c)) (rw (le-ltb r s a, t, eq-eqb (item stack r).low x k) refl))) in
+            let u = seg-up in
+            omega (arith, g, u.3, up-is u.0 (omega (arith, u.2, back.size)) (all u.0 u.1 u.2) u.3)
+
+    -- the other common vertex has its tree edge at place c
+    module _ (g : v < x) (c : ℕ) (tree-c : IsTreeAt stack x c) (from-c : s ≤ (item stack c).start) (c-h : c < h) where
+      n-w : x ≢ w
+      n-w k = omega (arith, c-h, same-tree last done v stack rest stands w c h (record { within = tree-c.within; tree = tree-c.tree; low = tree-c.low ∙ k }) top-tree)
+
+      s-c : s ≤ c
+      s-c = omega (arith, from-c, stands.laid.tree_start c tree-c.within tree-c.tree)
+
+      -- all entries from s on that are not below x are on the side
+      outer : (fuel q : ℕ) → s ≤ q → q ≤ h → (q < (item stack c).start) ⊎ (c ≤ q) → h < q + fuel → side (item stack q).name ≡ true
+      outer zero q a d o f = absurd (omega (arith, d, f))
+      outer (suc fuel) q a d o f = elim (cases_eq q h) [
+        | inl e ↦ ap (λ (k : ℕ). side (item stack k).name) e ∙ on-top
+        | inr n ↦
+            let l : q < length stack = omega (arith, d, back.size) in
+            let near : w ≤ owner (item stack q) = owner-near last done v stack rest stands h q (owner (item stack q)) h-in back.tree (omega (arith, a, back.start)) (omega (arith, d, n)) refl in
+            let r = held-owner last done v stack rest stands q l (omega (arith, near, v-w)) in
+            let r-h : r.0 ≤ h = owner-in last done v stack rest stands h q r.0 h-in back.tree (omega (arith, a, back.start)) (omega (arith, d, n)) r.1 in
+            let u-x : owner (item stack q) ≢ x = λ k. inner q o r.2 r.3 (same-tree last done v stack rest stands x r.0 c (record { within = r.1.within; tree = r.1.tree; low = r.1.low ∙ k }) tree-c) in
+            same-side last done v stack rest stands side (owner (item stack q)) q r.0 l r.1.within (owner-end (item stack q)) (low-end (owner (item stack q)) (item stack r.0) (sym r.1.low))
+            (not-common (owner (item stack q)) (λ k. omega (arith, k, near, v-w)) u-x)
+            ∙ outer fuel r.0 (omega (arith, a, r.3)) r-h (past r.0 r.1 r.2 r.3 o) (omega (arith, f, r.3))
+      ]
+        where
+          inner : (q : ℕ) → (q < (item stack c).start) ⊎ (c ≤ q) → {r : ℕ} → (item stack r).start ≤ q → q < r → r ≡ c → ⊥
+          inner q o {r} a d e = elim o [ inl k ↦ omega (arith, k, a, ap (λ (j : ℕ). (item stack j).start) e) | inr k ↦ omega (arith, k, d, e) ]
+
+          past : (r : ℕ) → IsTreeAt stack (owner (item stack q)) r → (item stack r).start ≤ q → q < r → (q < (item stack c).start) ⊎ (c ≤ q) → (r < (item stack c).start) ⊎ (c ≤ r)
+          past r t y z o = elim o [
+            | inr k ↦ inr (omega (arith, k, z))
+            | inl k ↦ elim (cases_lt r (item stack c).start) [
+              | inl m ↦ inl m
+              | inr m ↦ elim (cases_lt r c) [
+                | inr e ↦ inr e
+                | inl e ↦ absurd (omega (arith, k, y, stands.laid.laminar c r tree-c.within tree-c.tree m e))
+              ]
+            ]
+          ]
+
+      pub outside-on : (q : ℕ) → s ≤ q → q ≤ h → (q < (item stack c).start) ⊎ (c ≤ q) → side (item stack q).name ≡ true
+      outside-on q a d o = outer (suc h) q a d o (omega arith)
+
+      -- a vertex between v and x that is met from s on has an entry on the side
+      between-on : (z i : ℕ) → v < z → z < x → s ≤ i → i ≤ h → has_end z (entry (item stack i)) ≡ true → (p : ℕ) × (p < length stack) × (side (item stack p).name ≡ true) × (has_end z (entry (item stack p)) ≡ true)
+      between-on z i a d e f k =
+          let p = met-tree z i a e f k in
+          (p.0, p.1.within, outside-on p.0 (omega (arith, e, p.4)) p.5 (elim (cases_lt p.0 (item stack c).start) [
+            | inl m ↦ inl m
+            | inr m ↦ elim (cases_lt p.0 c) [ inr q ↦ inr q | inl q ↦ absurd (omega (arith, p.1.low, d, tree-c.low, (stands.laid.inside c p.0 tree-c.within tree-c.tree m (omega (arith, q))).0)) ]
+          ]), low-end z (item stack p.0) (sym p.1.low))
+
+      -- so an entry off the side does not meet it
+      between-off : (z i : ℕ) → v < z → z < x → s ≤ i → i ≤ h → has_end z (entry (item stack i)) ≡ true → side (item stack i).name ≡ false → ⊥
+      between-off z i a d e f k o =
+          let p = between-on z i a d e f k in
+          both_ways (is_common (family stack rest) side z) (not-common z (λ m. omega (arith, m, a)) (λ m. omega (arith, m, d))) (common-at stack rest side z p.0 i p.1 (omega (arith, f, back.size)) p.2 o p.3 k)
+
+      -- an entry on the side has no upper end above v
+      pub on-up : (i : ℕ) → i < length stack → side (item stack i).name ≡ true → v ≤ (item stack i).up
+      on-up i l t = elim (cases_lt (item stack i).up v) [ inr k ↦ k | inl k ↦ absurd (omega (arith, k, g, up-is i l t k)) ]
+
+      -- what belongs to a dart of x is on the side, or off it, as the dart
+      seg-same : (r i : ℕ) → owner (item stack r) ≡ x → r < c → (item stack r).start ≤ i → i ≤ r → side (item stack i).name ≡ side (item stack r).name
+      seg-same r i o l a d = elim (cases_Bool (item stack r).tree) [
+        | inr f ↦ ap (λ (k : ℕ). side (item stack k).name) (omega (arith, d, a, stands.laid.frond_start r (omega (arith, l, tree-c.within)) f))
+        | inl t ↦ constant-below last done v stack rest stands side r (omega (arith, l, tree-c.within)) t
+            (λ q e f k. let m = (stands.laid.inside r q (omega (arith, l, tree-c.within)) t e f).0 in let n = (stands.laid.rises r (omega (arith, l, tree-c.within))).0 in
+            not-common (item stack q).low (λ z. omega (arith, z, m, n, owner-tree (item stack r) x o t, g)) (λ z. omega (arith, z, m, n, owner-tree (item stack r) x o t))) i a d
+      ]
+
+      -- the dart is on the side, or the frond from x to v
+      abbrev good : ℕ → Bool
+      good r = side (item stack r).name || is_frond_to v x (item stack r)
+
+      good-up : (r i : ℕ) → owner (item stack r) ≡ x → r < c → good r ≡ true → (item stack r).start ≤ i → i ≤ r → v ≤ (item stack i).up
+      good-up r i o l t a d = elim (or_cases (side (item stack r).name) (is_frond_to v x (item stack r)) t) [
+        | inl e ↦ on-up i (omega (arith, d, l, tree-c.within)) (seg-same r i o l a d ∙ e)
+        | inr e ↦
+            let p = frond-parts v x (item stack r) e in
+            let k : i ≡ r = omega (arith, d, a, stands.laid.frond_start r (omega (arith, l, tree-c.within)) p.0) in
+            omega (arith, ap (λ (j : ℕ). (item stack j).up) k, p.1)
+      ]
+
+      -- another dart has an upper end above v
+      bad-up : (r : ℕ) → owner (item stack r) ≡ x → s ≤ (item stack r).start → r < c → good r ≡ false → (i : ℕ) × ((item stack r).start ≤ i) × (i ≤ r) × ((item stack i).up < v)
+      bad-up r o from l n =
+          let r-in : r < length stack = omega (arith, l, tree-c.within) in
+          let at = start-at last done v stack rest stands r r-in in
+          let m = least-in stack (item stack r).start (suc r) (omega (arith, at)) in
+          elim (cases_lt m.0 v) [
+            | inl k ↦ (m.1.place, m.1.from, omega (arith, m.1.within), omega (arith, m.1.attained, k))
+            | inr k ↦ absurd (none r o from l r-in at (false-left n) (λ i a d. omega (arith, k, m.1.least i a (omega (arith, d)))) (false-right n))
+          ]
+        where
+          false-left : good r ≡ false → side (item stack r).name ≡ false
+          false-left n = false_from_ne_true (side (item stack r).name) (λ t. both_ways (good r) n (or_left (side (item stack r).name) (is_frond_to v x (item stack r)) t))
+
+          false-right : good r ≡ false → is_frond_to v x (item stack r) ≡ false
+          false-right n = false_from_ne_true (is_frond_to v x (item stack r)) (λ t. both_ways (good r) n (or_right (side (item stack r).name) (is_frond_to v x (item stack r)) t))
+
+          none : (r : ℕ) → owner (item stack r) ≡ x → s ≤ (item stack r).start → r < c → r < length stack → (item stack r).start ≤ r → side (item stack r).name ≡ false → ((i : ℕ) → (item stack r).start ≤ i → i ≤ r → v ≤ (item stack i).up) → is_frond_to v x (item stack r) ≡ false → ⊥
+          none r o from l r-in at off ups nf = elim (cases_Bool (item stack r).tree) [
+            | inr f ↦
+                let lo = owner-frond (item stack r) x o f in
+                elim (cases_eq (item stack r).up v) [
+                  | inl e ↦ both_ways (is_frond_to v x (item stack r)) nf (rw (f, eq-eqb (item stack r).up v e, eq-eqb (item stack r).low x lo) refl)
+                  | inr e ↦ between-off (item stack r).up r (omega (arith, e, ups r at (omega arith))) (omega (arith, lo, (stands.laid.rises r r-in).0)) (omega (arith, from, at)) (omega (arith, l, c-h)) (up-end (item stack r).up (item stack r) refl) off
+                ]
+            | inl t ↦ stretch-not last done v h stack rest stands h-in back.topped test test-top (item stack r).start r (stands.laid.tree_start r r-in t) r-in (yes (item stack r).start (omega arith) at) (yes r at (omega arith)) v x only
+          ]
+            where
+              test : ℕ → Bool
+              test k = not (nat_lt k (item stack r).start) && not (nat_lt r k)
+
+              yes : (k : ℕ) → (item stack r).start ≤ k → k ≤ r → test k ≡ true
+              yes k a d = rw (le-ltb k (item stack r).start a, le-ltb r k d) refl
+
+              test-top : test h ≡ false
+              test-top = rw (le-ltb h (item stack r).start (omega (arith, at, l, c-h)), lt-ltb r h (omega (arith, l, c-h))) refl
+
+              parts : (k : ℕ) → test k ≡ true → ((item stack r).start ≤ k) × (k ≤ r)
+              parts k m = elim (cases_lt k (item stack r).start) [
+                | inl a ↦ absurd (both_ways (test k) (rw (lt-ltb k (item stack r).start a) refl) m)
+                | inr a ↦ elim (cases_lt r k) [ inr d ↦ (a, d) | inl d ↦ absurd (both_ways (test k) (rw (le-ltb k (item stack r).start a, lt-ltb r k d) refl) m) ]
+              ]
+
+              out : (k : ℕ) → test k ≡ false → (k < (item stack r).start) ⊎ (r < k)
+              out k m = elim (cases_lt k (item stack r).start) [
+                | inl a ↦ inl a
+                | inr a ↦ elim (cases_lt r k) [ inl d ↦ inr d | inr d ↦ absurd (both_ways (test k) m (yes k a d)) ]
+              ]
+
+              only : (z : ℕ) → IsShared stack rest (side_at stack test) z → (z ≡ v) ⊎ (z ≡ x)
+              only z m =
+                  let i = parts m.place (sym (side-place stack rest stands.left.is_family test m.place m.within) ∙ m.on) in
+                  let low : v < (item stack m.place).low = omega (arith, low-v m.place (omega (arith, from, i.0)) (omega (arith, i.1, l, c-h)), v-w) in
+                  elim (cases_lt v z) [
+                    | inr d ↦ inl (elim (item-ends z (item stack m.place) m.end) [ inl e ↦ omega (arith, d, e, ups m.place i.0 i.1) | inr e ↦ absurd (omega (arith, e, low, d)) ])
+                    | inl d ↦ elim m.other [
+                      | inr q ↦ absurd (rest-not z m.place d m.within m.end q)
+                      | inl j ↦ elim (dart-shared last done v stack rest stands r z m.place j.0 r-in d i.0 i.1 j.1 (out j.0 (sym (side-place stack rest stands.left.is_family test j.0 j.1) ∙ j.2)) m.end j.3) [
+                        | inl e ↦ inr (e ∙ o)
+                        | inr e ↦ absurd (between-off z m.place d (omega (arith, e.0, o)) (omega (arith, from, i.0)) (omega (arith, i.1, l, c-h)) m.end (seg-same r m.place o l i.0 i.1 ∙ off))
+                      ]
+                    ]
+                  ]
+
+      -- the entries below x start at s
+      starts-at : (fuel d : ℕ) → d ≤ h → c ≤ d → (item stack d).tree ≡ true → (item stack d).start ≡ (item stack c).start → h < d + fuel → (item stack c).start ≡ s
+      starts-at zero d l a t e f = absurd (omega (arith, l, f))
+      starts-at (suc fuel) d l a t e f = elim (cases_eq d h) [
+        | inl k ↦ sym e ∙ (ap (λ (i : ℕ). (item stack i).start) k ∙ back.start)
+        | inr n ↦
+            let d-in : d < length stack = omega (arith, l, back.size) in
+            let d-less : d < h = omega (arith, l, n) in
+            let s-d : (item stack h).start ≤ d = omega (arith, back.start, s-c, a) in
+            let near : w ≤ owner (item stack d) = owner-near last done v stack rest stands h d (owner (item stack d)) h-in back.tree s-d d-less refl in
+            let q = held-owner last done v stack rest stands d d-in (omega (arith, near, v-w)) in
+            let q-h : q.0 ≤ h = owner-in last done v stack rest stands h d q.0 h-in back.tree s-d d-less q.1 in
+            starts-at fuel q.0 q-h (omega (arith, a, q.3)) q.1.tree (same-start d d-in d-less a e q.0 q.1 q.2 q.3 q-h ∙ e) (omega (arith, f, q.3))
+      ]
+        where
+          same-start : (d : ℕ) → d < length stack → d < h → c ≤ d → (item stack d).start ≡ (item stack c).start → (q : ℕ) → IsTreeAt stack (owner (item stack d)) q → (item stack q).start ≤ d → d < q → q ≤ h → (item stack q).start ≡ (item stack d).start
+          same-start d d-in d-less a e q tq y z q-h = elim (cases_lt (item stack q).start (item stack d).start) [
+            | inr k ↦ elim (cases_Bool (item stack d).tree) [
+              | inl td ↦ omega (arith, k, lam td)
+              | inr fd ↦ absurd (omega (arith, stands.laid.frond_start d d-in fd, e, a, stands.laid.tree_start c tree-c.within tree-c.tree))
+            ]
+            | inl k ↦ absurd (lower k)
+          ]
+            where
+              lam : (item stack d).tree ≡ true → (item stack q).start ≤ (item stack d).start
+              lam td = stands.laid.laminar q d tq.within tq.tree y z
+
+              s-q : s ≤ (item stack q).start
+              s-q = start-s q (omega (arith, s-c, a, z)) q-h
+
+              -- a dart of the same vertex before it would be on the side, without an upper end above v
+              lower : (item stack q).start < (item stack d).start → ⊥
+              lower k =
+                  let r = dart-over last done v stack rest stands q ((item stack d).start - 1) tq.within tq.tree (omega (arith, k)) (omega (arith, k, start-at last done v stack rest stands d d-in, z)) in
+                  let same : owner (item stack r.dart) ≡ owner (item stack d) = r.owned ∙ tq.low in
+                  let r-d : r.dart < d = elim (cases_lt r.dart d) [
+                    | inl m ↦ m
+                    | inr m ↦ absurd (elim (cases_eq r.dart d) [
+                      | inl i ↦ omega (arith, r.from, k, ap (λ (j : ℕ). (item stack j).start) i)
+                      | inr i ↦ omega (arith, r.from, k, start-at last done v stack rest stands d d-in, darts-apart last done v stack rest stands d r.dart (omega (arith, m, i)) (omega (arith, r.within, tq.within)) (sym same))
+                    ])
+                  ] in
+                  let r-c : r.dart < (item stack c).start = omega (arith, e, darts-apart last done v stack rest stands r.dart d r-d d-in same) in
+                  let r-in : r.dart < length stack = omega (arith, r-d, d-in) in
+                  let s-r : s ≤ (item stack r.dart).start = start-s r.dart (omega (arith, s-q, k, r.to)) (omega (arith, r-d, d-less)) in
+                  let u = seg-up in
+                  let u-off : (side (item stack u.0).name ≡ true) → ⊥ = λ t. omega (arith, u.3, on-up u.0 (omega (arith, u.2, back.size)) t) in
+                  let u-from : (item stack c).start ≤ u.0 = elim (cases_lt u.0 (item stack c).start) [ inr m ↦ m | inl m ↦ absurd (u-off (outside-on u.0 u.1 u.2 (inl m))) ] in
+                  let u-to : u.0 < c = elim (cases_lt u.0 c) [ inl m ↦ m | inr m ↦ absurd (u-off (outside-on u.0 u.1 u.2 (inr m))) ] in
+                  let i = back.sorted.reach_rises r.dart d u.0 r-d d-less same (omega (arith, e, u-from)) (omega (arith, u-to, a)) (omega (arith, u.3)) in
+                  omega (arith, i.3, u.3, on-up i.0 (omega (arith, i.2, r-in)) (outside-on i.0 (omega (arith, s-r, i.1)) (omega (arith, i.2, r-d, d-less)) (inl (omega (arith, i.2, r-c)))))
+
+      pub start-is : (item stack c).start ≡ s
+      start-is = starts-at (suc h) c (omega (arith, c-h)) (omega arith) tree-c.tree refl (omega arith)
+
+      -- the answer: a cut that is wanted
+      pub record IsCutThere : Type 0 where
+        pub place : ℕ
+        pub vertex : ℕ
+        pub wanted : IsWanted s stack place v vertex
+        pub below : IsFirstBelow stack s vertex
+        pub other : vertex ≢ w
+        pub on : (i : ℕ) → place ≤ i → i < length stack → is_frond_to v vertex (item stack i) ≡ false → side (item stack i).name ≡ true
+
+      -- from the first dart of x that is on the side, or the frond from x to v
+      cut-from : (r : ℕ) → r < c → owner (item stack r) ≡ x → s ≤ (item stack r).start → good r ≡ true → ((q : ℕ) → q < r → owner (item stack q) ≡ x → s ≤ (item stack q).start → good q ≡ false) → IsCutThere
+      cut-from r l o from t first = record {
+        place = (item stack r).start;
+        vertex = x;
+        wanted = record { from = late; starts = record { place = r; within = r-in; owned = o; starts = refl }; least = leasts; free = free };
+        below = record { place = c; tree_at = tree-c; starts = start-is };
+        other = n-w;
+        on = on-from;
+      }
+        where
+          r-in : r < length stack
+          r-in = omega (arith, l, tree-c.within)
+
+          start-r : (item stack r).start ≤ r
+          start-r = start-at last done v stack rest stands r r-in
+
+          -- a later dart of x is on the side, or the frond
+          later : (q : ℕ) → r < q → q < c → owner (item stack q) ≡ x → s ≤ (item stack q).start → good q ≡ true
+          later q a d k m = elim (cases_Bool (good q)) [
+            | inl e ↦ e
+            | inr e ↦
+                let u = bad-up q k m d e in
+                let i = back.sorted.reach_rises r q u.0 a (omega (arith, d, c-h)) (o ∙ sym k) u.1 u.2 (omega (arith, u.3)) in
+                absurd (omega (arith, i.3, u.3, good-up r i.0 o l t i.1 i.2))
+          ]
+
+          on-from : (i : ℕ) → (item stack r).start ≤ i → i < length stack → is_frond_to v x (item stack i) ≡ false → side (item stack i).name ≡ true
+          on-from i a d nf = elim (cases_lt i c) [
+            | inr e ↦ outside-on i (omega (arith, from, a)) (omega (arith, d, back.size)) (inr e)
+            | inl e ↦
+                let q = dart-over last done v stack rest stands c i tree-c.within tree-c.tree (omega (arith, start-is, from, a)) e in
+                let q-own : owner (item stack q.dart) ≡ x = q.owned ∙ tree-c.low in
+                let q-from : s ≤ (item stack q.dart).start = start-s q.dart (omega (arith, from, a, q.to)) (omega (arith, q.within, c-h)) in
+                let q-good : good q.dart ≡ true = elim (cases_eq q.dart r) [
+                  | inl k ↦ subst (λ (j : ℕ). good j ≡ true) (sym k) t
+                  | inr k ↦ elim (cases_lt r q.dart) [
+                    | inl m ↦ later q.dart m q.within q-own q-from
+                    | inr m ↦ absurd (omega (arith, q.to, a, darts-apart last done v stack rest stands q.dart r (omega (arith, m, k)) r-in (q-own ∙ sym o)))
+                  ]
+                ] in
+                elim (or_cases (side (item stack q.dart).name) (is_frond_to v x (item stack q.dart)) q-good) [
+                  | inl m ↦ seg-same q.dart i q-own q.within q.from q.to ∙ m
+                  | inr m ↦
+                      let p = frond-parts v x (item stack q.dart) m in
+                      let same : i ≡ q.dart = omega (arith, q.from, q.to, stands.laid.frond_start q.dart (omega (arith, q.within, tree-c.within)) p.0) in
+                      absurd (both_ways (is_frond_to v x (item stack i)) nf (subst (λ (j : ℕ). is_frond_to v x (item stack j) ≡ true) (sym same) m))
+                ]
+          ]
+
+          leasts : IsLeastUp stack (item stack r).start v
+          leasts = record {
+            least = λ i a d. elim (cases_Bool (is_frond_to v x (item stack i))) [
+              | inl e ↦ omega (arith, (frond-parts v x (item stack i) e).1)
+              | inr e ↦ on-up i d (on-from i a d e)
+            ];
+            place = h;
+            from = omega (arith, start-r, l, c-h);
+            within = h-in;
+            attained = back.up;
+          }
+
+          -- an earlier dart is off the side
+          early : (i : ℕ) → s ≤ i → i < (item stack r).start → side (item stack i).name ≡ false
+          early i a d =
+              let q = dart-over last done v stack rest stands c i tree-c.within tree-c.tree (omega (arith, start-is, a)) (omega (arith, d, start-r, l)) in
+              let q-own : owner (item stack q.dart) ≡ x = q.owned ∙ tree-c.low in
+              let q-from : s ≤ (item stack q.dart).start = start-s q.dart (omega (arith, a, q.to)) (omega (arith, q.within, c-h)) in
+              let q-r : q.dart < r = elim (cases_lt q.dart r) [
+                | inl m ↦ m
+                | inr m ↦ absurd (elim (cases_eq q.dart r) [
+                  | inl k ↦ omega (arith, q.from, d, ap (λ (j : ℕ). (item stack j).start) k)
+                  | inr k ↦ omega (arith, q.from, d, start-r, darts-apart last done v stack rest stands r q.dart (omega (arith, m, k)) (omega (arith, q.within, tree-c.within)) (o ∙ sym q-own))
+                ])
+              ] in
+              seg-same q.dart i q-own q.within q.from q.to ∙ false_from_ne_true (side (item stack q.dart).name) (λ m. both_ways (good q.dart) (first q.dart q-r q-own q-from) (or_left (side (item stack q.dart).name) (is_frond_to v x (item stack q.dart)) m))
+
+          late : s < (item stack r).start
+          late = elim (cases_lt s (item stack r).start) [
+            | inl a ↦ a
+            | inr a ↦
+                let u = seg-up in
+                absurd (elim (cases_Bool (is_frond_to v x (item stack u.0))) [
+                  | inl e ↦ omega (arith, u.3, (frond-parts v x (item stack u.0) e).1)
+                  | inr e ↦ omega (arith, u.3, on-up u.0 (omega (arith, u.2, back.size)) (on-from u.0 (omega (arith, a, u.1)) (omega (arith, u.2, back.size)) e))
+                ])
+          ]
+
+          free : (y : ℕ) → v < y → y < x → IsBefore stack (item stack r).start y → ⊥
+          free y a d m = elim (cases_lt m.place s) [
+            | inr e ↦ between-off y m.place a d e (omega (arith, m.within, start-r, l, c-h)) m.end (early m.place e m.within)
+            | inl e ↦
+                let m-in : m.place < length stack = omega (arith, e, s-h, back.size) in
+                let p = stands.ended.held m.place y m-in m.end a in
+                let q = touching-tree last done v stack rest stands y p.0 m.place p.1 m-in m.end in
+                elim (cases_lt p.0 s) [
+                  | inr k ↦ omega (arith, q.0, e, start-s p.0 k (omega (arith, p.1.within, back.size)))
+                  | inl k ↦ elim (stands.laid.outside h p.0 h-in back.tree p.1.within (inl (omega (arith, k, back.start)))) [
+                    | inl i ↦ omega (arith, i, back.behind p.0 k p.1.tree)
+                    | inr i ↦ omega (arith, i, p.1.low, d, x-last)
+                  ]
+                ]
+          ]
+            where
+              x-last : x < last w
+              x-last = subst (λ (k : ℕ). k < last w) tree-c.low (stands.laid.inside h c h-in back.tree (omega (arith, back.start, s-c)) (omega (arith, c-h))).1

@@ -1,33 +1,47 @@
--- A least side is replaced by one entry.
-use Rattle.std.proofs.Common.{◌≡◌, ◌≢◌, ℕ, ◌+◌, ◌<◌, ◌≤◌, ◌⊎◌, ◌↔◌, Bool, true, false, not, List, [], ◌∷◌, ◌++◌, length, map, filter, take, drop, slice_index, slice_index_or, Contains}
-use Rattle.multigraph.specs.Graph.{Multigraph, edge_count, IsGraph}
-use Rattle.graph_theory.specs.Block.{IsOneBlock}
-use Rattle.palm_tree.specs.PalmTree.{PalmTreeLists, IsPalmTree}
-use Rattle.pair_split.specs.Family.{Entry, has_end, touches, on_side, off_side, is_common, IsFamily, IsTight, IsSeparation, IsPrime}
-use Rattle.pair_split.specs.Skeleton.{SameEnds, IsSkeleton}
-use Rattle.pair_split.specs.Edges.{entry_ends, family_skeleton}
+-- A side that each bad side holds: it is minimal, and with one entry in its place each bad side holds that entry.
+use Rattle.std.proofs.Common.{◌≡◌, ◌≢◌, ℕ, ◌<◌, ◌≤◌, ◌⊎◌, inl, inr, Bool, true, false, cond, List, ◌∷◌, length, refl, sym, ap, ◌∙◌, subst, arith, Contains}
+use Rattle.std.proofs.lemmas.Bool.{cases_Bool, both_ways}
+use Rattle.pair_split.specs.Family.{Entry, off_side, on_side, IsFamily, IsSeparation}
 use Rattle.pair_split.specs.Minimal.{IsMinimal}
-use Rattle.pair_split.specs.State.{Part, SplitState, IsSplitState}
-use Rattle.pair_split.specs.declared.components.Kind.{Kind}
-use Rattle.pair_split.specs.declared.components.Kind.TheVariants.{B}
-use Rattle.pair_split.proofs.SameEntries.{IsWithin}
+use Rattle.pair_split.proofs.Elements.{length-weaker}
+use Rattle.pair_split.proofs.SameEntries.{same-separation}
+use Rattle.pair_split.proofs.Replaced.{lifted, lifted-inside, lifted-outside}
+use Rattle.pair_split.proofs.Minimal.{lifted-separation}
 use Rattle.split_comp.specs.declared.items.Item.{Item}
-use Rattle.split_comp.specs.declared.items.Triple.{Triple}
-use Rattle.split_comp.specs.declared.items.Dart.{Dart}
-use Rattle.split_comp.specs.Stack.{item, entry, family, owner, IsLaid, IsTreeAt, IsEnded, IsRest, IsStack, IsSorted, IsBad, IsClean, IsTopped, IsReturned, AreFirst}
-use Rattle.split_comp.specs.Palm.{AreVertices, tree_dart, tree_degree, tree_parent, IsFrondTo, IsPalm, dart_entry, AreDrawn}
-use Rattle.split_comp.specs.Walk.{IsOnPath, IsWalk, AreLeft, IsOneMore}
-use Rattle.split_comp.specs.Cuts.{cut, IsLeastUp, IsAcross, IsBefore, IsStart, IsFirstBelow, IsSoundCut, IsChain, AreSound, IsWanted, AreComplete, IsSoundAt, AreSoundAt, AreCompleteAt}
-use Rattle.split_comp.specs.Sides.{is_frond_to, IsCutOff, all_items, but_frond, IsLeast, HasNoTriangle}
-use Rattle.split_comp.specs.Frames.{AreFrames, IsGoneTo, AreReached, AreAhead, AreCuts}
+use Rattle.split_comp.specs.Stack.{item, entry, family, IsBad, IsTopped}
+use Rattle.split_comp.specs.Sides.{IsLeast}
+use Rattle.split_comp.proofs.Entries.{family-cases, rest-contains}
+use Rattle.split_comp.proofs.Renewed.{IsRenewed, end-old, left-within, within-left, family-new}
 
--- what is left of a family when a least side is replaced by one entry
-pub eject-topped : (stack new : List Item) (rest : List Entry) (side : ℕ → Bool) (x : Item) (h : ℕ) → IsFamily (family stack rest) → IsSeparation (family stack rest) side x.up x.low → ((y : Entry) → Contains rest y → side y.name ≡ false)
-    → IsFamily (family new rest) → IsWithin (entry x ∷ off_side side (family stack rest)) (family new rest) → IsWithin (family new rest) (entry x ∷ off_side side (family stack rest))
-    → item new h ≡ x → IsLeast stack rest side → IsTopped new rest h
-eject-topped = ?
-
--- a least side is minimal
+-- a side that each bad side holds is minimal
 pub least-minimal : (stack : List Item) (rest : List Entry) (side : ℕ → Bool) → ((y : Entry) → Contains rest y → side y.name ≡ false) → IsLeast stack rest side → IsMinimal (family stack rest) side
-least-minimal = ?
+least-minimal stack rest side off least s p q c inside = length-weaker (λ (e : Entry). side e.name) (λ (e : Entry). s e.name) (family stack rest) weaker
+  where
+    stacked : (y : Entry) → Contains rest y → s y.name ≡ false
+    stacked y d = elim (cases_Bool (s y.name)) [
+      | inr f ↦ f
+      | inl t ↦ absurd (both_ways (side y.name) (off y d) (inside y (elim-rest y d) t))
+    ]
+      where
+        elim-rest : (y : Entry) → Contains rest y → Contains (family stack rest) y
+        elim-rest y d = rest-contains stack rest y d
 
+    weaker : (e : Entry) → Contains (family stack rest) e → side e.name ≡ true → s e.name ≡ true
+    weaker e d t = elim (family-cases stack rest e d) [
+      | inl w ↦ ap (λ (x : Entry). s x.name) w.2 ∙ least s p q (record { separates = c; stacked = stacked }) w.0 w.1 (ap (λ (x : Entry). side x.name) (sym w.2) ∙ t)
+      | inr r ↦ absurd (both_ways (side e.name) (off e r) t)
+    ]
+
+-- with one entry in its place, each bad side holds it
+pub eject-topped : (last : ℕ → ℕ) (done v k j : ℕ) (keeps : Item → Bool) (side : ℕ → Bool) (x : Item) (old new : List Item) (rest : List Entry) → IsRenewed last done v k j keeps side x old new rest → IsLeast old rest side → IsTopped new rest j
+eject-topped last done v k j keeps side x old new rest r least s p q b = elim (cases_Bool (s x.name)) [
+  | inl t ↦ ap (λ (y : Item). s y.name) r.top ∙ t
+  | inr f ↦
+      let up = lifted-separation (family old rest) side (entry x) s p q r.separates
+          (same-separation (family new rest) (entry x ∷ off_side side (family old rest)) s p q (family-new last done v k j keeps side x old new rest r).names_once
+          (within-left last done v k j keeps side x old new rest r) (left-within last done v k j keeps side x old new rest r) b.separates) in
+      let bad : IsBad old rest (lifted side (entry x) s) p q = record { separates = up; stacked = λ y c. lifted-outside side (entry x) s y.name (r.cut.off y c) ∙ b.stacked y c } in
+      let o = end-old last done v k j keeps side x old new rest r x.up (inl refl) in
+      let on : side (item old o.0).name ≡ true = r.cut.from o.0 o.1 o.2 ∙ o.3 in
+      absurd (both_ways (s x.name) f (sym (lifted-inside side (entry x) s (item old o.0).name on) ∙ least (lifted side (entry x) s) p q bad o.0 o.2 on))
+]

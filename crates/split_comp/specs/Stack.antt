@@ -86,7 +86,8 @@ abbrev pub IsTopped : List Item → List Entry → ℕ → Type 0
 IsTopped stack rest i = (s : ℕ → Bool) (p q : ℕ) → IsBad stack rest s p q → s (item stack i).name ≡ true
 
 -- the search has returned to v: the last entry, at place h, is a tree edge with the upper end v, to which all entries from
--- place s on belong; each 2-separation with a side inside the stack has it in that side; and no frond is parallel to it
+-- place s on belong, and before s the lower ends of tree edges are greater; each 2-separation with a side inside the stack has it in
+-- that side; and no frond is parallel to it
 pub record IsReturned (last : ℕ → ℕ) (done v s h : ℕ) (stack : List Item) (rest : List Entry) : Type 0 where
   pub stands : IsStack last done v stack rest
   pub size : length stack ≡ h + 1
@@ -95,6 +96,7 @@ pub record IsReturned (last : ℕ → ℕ) (done v s h : ℕ) (stack : List Item
   pub start : (item stack h).start ≡ s
   pub sorted : IsSorted v h stack rest
   pub topped : IsTopped stack rest h
+  pub behind : (i : ℕ) → i < s → (item stack i).tree ≡ true → (item stack h).low < (item stack i).low
   pub no_frond : (i : ℕ) → i < h → (item stack i).tree ≡ false → (item stack i).low ≡ (item stack h).low → (item stack i).up ≡ v → ⊥
 
 -- for each vertex that is on the path to v, or has its tree edge in the stack, the least place of the stack that touches it, or a
