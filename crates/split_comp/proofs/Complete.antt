@@ -496,3 +496,290 @@ module _ (last : ℕ → ℕ) (done v s h : ℕ) (stack : List Item) (rest : Lis
             where
               x-last : x < last w
               x-last = subst (λ (k : ℕ). k < last w) tree-c.low (stands.laid.inside h c h-in back.tree (omega (arith, back.start, s-c)) (omega (arith, c-h))).1
+
+      -- the first dart of x that is on the side, or the frond from x to v
+      first-good : (n : ℕ) → n ≤ c → ((r : ℕ) × (r < n) × (owner (item stack r) ≡ x) × (s ≤ (item stack r).start) × (good r ≡ true) × ((q : ℕ) → q < r → owner (item stack q) ≡ x → s ≤ (item stack q).start → good q ≡ false))
+          ⊎ ((q : ℕ) → q < n → owner (item stack q) ≡ x → s ≤ (item stack q).start → good q ≡ false)
+      first-good zero l = inr (λ q a. absurd (omega (arith, a)))
+      first-good (suc n) l = elim (first-good n (omega (arith, l))) [
+        | inl r ↦ inl (r.0, omega (arith, r.1), r.2, r.3, r.4, r.5)
+        | inr none ↦ elim (cases_Bool ((owner (item stack n) == x) && (not (nat_lt (item stack n).start s) && good n))) [
+          | inl t ↦
+              let a = and_parts (owner (item stack n) == x) (not (nat_lt (item stack n).start s) && good n) t in
+              let d = and_parts (not (nat_lt (item stack n).start s)) (good n) a.1 in
+              inl (n, omega arith, eqb-true (owner (item stack n)) x a.0, from-lt (item stack n).start s d.0, d.1, none)
+          | inr f ↦ inr (λ q a o m. elim (cases_eq q n) [
+            | inr k ↦ none q (omega (arith, a, k)) o m
+            | inl k ↦ false_from_ne_true (good q) (λ t. both_ways ((owner (item stack n) == x) && (not (nat_lt (item stack n).start s) && good n)) f
+                (subst (λ (j : ℕ). ((owner (item stack j) == x) && (not (nat_lt (item stack j).start s) && good j)) ≡ true) k (rw (eq-eqb (owner (item stack q)) x o, le-ltb (item stack q).start s m, t) refl)))
+          ])
+        ]
+      ]
+        where
+          from-lt : (a d : ℕ) → not (nat_lt a d) ≡ true → d ≤ a
+          from-lt a d t = elim (cases_lt a d) [ inr m ↦ m | inl m ↦ absurd (both_ways (nat_lt a d) (not-true (nat_lt a d) t) (lt-ltb a d m)) ]
+
+      -- where there is such a dart, there is a cut that is wanted
+      pub cut-good : (r : ℕ) → r < c → owner (item stack r) ≡ x → s ≤ (item stack r).start → good r ≡ true → IsCutThere
+      cut-good r l o m t = elim (first-good c (omega arith)) [
+        | inl q ↦ cut-from q.0 q.1 q.2 q.3 q.4 q.5
+        | inr none ↦ absurd (both_ways (good r) (none r l o m) t)
+      ]
+
+      -- else nothing below x is on the side
+      pub none-good : ((q : ℕ) → q < c → owner (item stack q) ≡ x → s ≤ (item stack q).start → good q ≡ false) → (i : ℕ) → s ≤ i → i < c → side (item stack i).name ≡ false
+      none-good none i a d =
+          let q = dart-over last done v stack rest stands c i tree-c.within tree-c.tree (omega (arith, start-is, a)) d in
+          let q-own : owner (item stack q.dart) ≡ x = q.owned ∙ tree-c.low in
+          let q-from : s ≤ (item stack q.dart).start = start-s q.dart (omega (arith, a, q.to)) (omega (arith, q.within, c-h)) in
+          seg-same q.dart i q-own q.within q.from q.to ∙ false_from_ne_true (side (item stack q.dart).name) (λ m. both_ways (good q.dart) (none q.dart q.within q-own q-from) (or_left (side (item stack q.dart).name) (is_frond_to v x (item stack q.dart)) m))
+
+      pub good-search : ((r : ℕ) × (r < c) × (owner (item stack r) ≡ x) × (s ≤ (item stack r).start) × (good r ≡ true)) ⊎ ((q : ℕ) → q < c → owner (item stack q) ≡ x → s ≤ (item stack q).start → good q ≡ false)
+      good-search = elim (first-good c (omega arith)) [ inl r ↦ inl (r.0, r.1, r.2, r.3, r.4) | inr none ↦ inr none ]
+
+  -- a bad side with a vertex below: a cut that is wanted, or a triangle
+  pub record IsCutFound (side : ℕ → Bool) : Type 0 where
+    pub place : ℕ
+    pub vertex : ℕ
+    pub wanted : IsWanted s stack place v vertex
+    pub below : IsFirstBelow stack s vertex
+    pub other : vertex ≢ w
+    pub on : (i : ℕ) → place ≤ i → i < length stack → is_frond_to v vertex (item stack i) ≡ false → side (item stack i).name ≡ true
+
+  found-cut : (side : ℕ → Bool) (x : ℕ) (b : IsBad stack rest side v x) (g : v < x) (c : ℕ) (t : IsTreeAt stack x c) (f : s ≤ (item stack c).start) (l : c < h) → IsCutThere side x b g c t f l → IsCutFound side
+  found-cut side x b g c t f l k = record { place = k.place; vertex = k.vertex; wanted = k.wanted; below = k.below; other = k.other; on = k.on }
+
+  -- nothing below x is on the side
+  module _ (side : ℕ → Bool) (x : ℕ) (b : IsBad stack rest side v x) (g : v < x) (c : ℕ) (tree-c : IsTreeAt stack x c) (from-c : s ≤ (item stack c).start) (c-h : c < h) (off : (i : ℕ) → s ≤ i → i < c → side (item stack i).name ≡ false) where
+    abbrev u : ℕ
+    u = (item stack c).up
+
+    s-c' : s ≤ c
+    s-c' = omega (arith, from-c, stands.laid.tree_start c tree-c.within tree-c.tree)
+
+    on-c : (i : ℕ) → c ≤ i → i ≤ h → side (item stack i).name ≡ true
+    on-c i a d = outside-on side x b g c tree-c from-c c-h i (omega (arith, s-c', a)) d (inr a)
+
+    u-less : u < x
+    u-less = omega (arith, (stands.laid.rises c tree-c.within).0, tree-c.low)
+
+    near-u : w ≤ u
+    near-u = omega (arith, tree-owner (item stack c) tree-c.tree, owner-near last done v stack rest stands h c (owner (item stack c)) h-in back.tree (omega (arith, back.start, s-c')) c-h refl)
+
+    u-v : v < u
+    u-v = omega (arith, near-u, v-w)
+
+    -- u is met below c by no entry from s on
+    u-not : (i : ℕ) → s ≤ i → i < c → has_end u (entry (item stack i)) ≡ true → ⊥
+    u-not i a d e = both_ways (is_common (family stack rest) side u) (not-common side x b u (λ k. omega (arith, k, u-v)) (λ k. omega (arith, k, u-less)))
+        (common-at stack rest side u c i tree-c.within (omega (arith, d, tree-c.within)) (on-c c (omega arith) (omega (arith, c-h))) (off i a d) (up-end u (item stack c) refl) e)
+
+    -- the tree edge of u
+    pub upper : (d : ℕ) × IsTreeAt stack u d × (c < d) × (d ≤ h)
+    upper =
+        let q = held-owner last done v stack rest stands c tree-c.within (omega (arith, tree-owner (item stack c) tree-c.tree, u-v)) in
+        let o : owner (item stack c) ≡ u = tree-owner (item stack c) tree-c.tree in
+        (q.0, subst (λ (k : ℕ). IsTreeAt stack k q.0) o q.1, q.3, owner-in last done v stack rest stands h c q.0 h-in back.tree (omega (arith, back.start, s-c')) c-h q.1)
+
+    -- entries from s on that meet x end at c
+    x-to : (i : ℕ) → i < length stack → has_end x (entry (item stack i)) ≡ true → i ≤ c
+    x-to i l e = (touching-tree last done v stack rest stands x c i tree-c l e).1
+
+    -- another dart of u behind c, where u has its tree edge in front of the last entry: a bad side with the vertex u
+    module _ (d : ℕ) (tree-d : IsTreeAt stack u d) (c-d : c < d) where
+      abbrev test : ℕ → Bool
+      test k = nat_lt c k
+
+      behind-bad : d < h → IsBad stack rest (side_at stack test) v u
+      behind-bad d-h = record { separates = separation-swap (family stack rest) (side_at stack test) u v (separation-from (family stack rest) (side_at stack test) u v stands.left.is_tight
+          (side-two stack rest stands.left.is_family (side_at stack test) d h d-h h-in (on d c-d tree-d.within) (on h c-h h-in))
+          (side-off_two stack rest stands.left.is_family (side_at stack test) c e.0 tree-c.within (side-place stack rest stands.left.is_family test c tree-c.within ∙ le-ltb c c (omega arith)) e.1 (off-rest e.0 e.1))
+          (λ z k. only z (shared-from stack rest (side_at stack test) off-rest z k))); stacked = off-rest }
+        where
+          e : (y : Entry) × Contains rest y × (has_end v y ≡ true)
+          e = touching-entry rest v stands.left.own
+
+          on : (i : ℕ) → c < i → i < length stack → side_at stack test (item stack i).name ≡ true
+          on i a l = side-place stack rest stands.left.is_family test i l ∙ lt-ltb c i a
+
+          off-rest : (y : Entry) → Contains rest y → side_at stack test y.name ≡ false
+          off-rest = side-rest stack rest stands.left.is_family test
+
+          past : (i : ℕ) → i < length stack → side_at stack test (item stack i).name ≡ true → c < i
+          past i l t = elim (cases_lt c i) [ inl m ↦ m | inr m ↦ absurd (both_ways (test i) (le-ltb c i m) (sym (side-place stack rest stands.left.is_family test i l) ∙ t)) ]
+
+          not-past : (i : ℕ) → i < length stack → side_at stack test (item stack i).name ≡ false → i ≤ c
+          not-past i l t = elim (cases_lt c i) [ inr m ↦ m | inl m ↦ absurd (both_ways (test i) (sym (side-place stack rest stands.left.is_family test i l) ∙ t) (lt-ltb c i m)) ]
+
+          only : (z : ℕ) → IsShared stack rest (side_at stack test) z → (z ≡ u) ⊎ (z ≡ v)
+          only z m =
+              let a = past m.place m.within m.on in
+              let side-on = on-c m.place (omega (arith, a)) (omega (arith, m.within, back.size)) in
+              elim (cases_lt v z) [
+                | inr d ↦ inr (elim (item-ends z (item stack m.place) m.end) [
+                  | inl e ↦ omega (arith, d, e, on-up side x b g c tree-c from-c c-h m.place m.within side-on)
+                  | inr e ↦ absurd (omega (arith, e, d, low-v m.place (omega (arith, s-c', a)) (omega (arith, m.within, back.size)), v-w))
+                ])
+                | inl d ↦ elim m.other [
+                  | inr q ↦ absurd (rest-not z m.place d m.within m.end q)
+                  | inl j ↦
+                      let j-c = not-past j.0 j.1 j.2 in
+                      let s-j = met-inside z m.place j.0 d (omega (arith, s-c', a)) (omega (arith, m.within, back.size)) m.end j.1 j.3 in
+                      let z-x : z ≢ x = λ k. omega (arith, a, x-to m.place m.within (subst (λ (i : ℕ). has_end i (entry (item stack m.place)) ≡ true) k m.end)) in
+                      elim (cases_eq j.0 c) [
+                        | inl k ↦ elim (item-ends z (item stack c) (subst (λ (i : ℕ). has_end z (entry (item stack i)) ≡ true) k j.3)) [ inl f ↦ inl f | inr f ↦ absurd (z-x (f ∙ tree-c.low)) ]
+                        | inr k ↦ absurd (both_ways (is_common (family stack rest) side z) (not-common side x b z (λ i. omega (arith, i, d)) z-x)
+                            (common-at stack rest side z m.place j.0 m.within j.1 side-on (off j.0 s-j (omega (arith, j-c, k))) m.end j.3))
+                      ]
+                ]
+              ]
+
+      -- the side behind c is on the old one
+      behind-on : (i : ℕ) → s ≤ i → i < length stack → side_at stack test (item stack i).name ≡ true → side (item stack i).name ≡ true
+      behind-on i a l t = elim (cases_lt c i) [
+        | inl m ↦ on-c i (omega (arith, m)) (omega (arith, l, back.size))
+        | inr m ↦ absurd (both_ways (test i) (le-ltb c i m) (sym (side-place stack rest stands.left.is_family test i l) ∙ t))
+      ]
+
+      -- so there is a cut
+      pub behind-cut : d < h → c + 1 < d → IsCutFound side
+      behind-cut d-h more =
+          let s-start : s ≤ (item stack d).start = start-s d (omega (arith, s-c', c-d)) (omega (arith, d-h)) in
+          let r = dart-over last done v stack rest stands d (c + 1) tree-d.within tree-d.tree (omega (arith, up-start)) more in
+          let k = cut-good (side_at stack test) u (behind-bad d-h) u-v d tree-d s-start d-h r.dart r.within (r.owned ∙ tree-d.low) (start-s r.dart (omega (arith, s-c', r.to)) (omega (arith, r.within, d-h)))
+              (or_left (side_at stack test (item stack r.dart).name) (is_frond_to v u (item stack r.dart)) (side-place stack rest stands.left.is_family test r.dart (omega (arith, r.within, tree-d.within)) ∙ lt-ltb c r.dart (omega (arith, r.to)))) in
+          record { place = k.place; vertex = k.vertex; wanted = k.wanted; below = k.below; other = k.other;
+            on = λ i a l n. behind-on i (omega (arith, k.wanted.from, a)) l (k.on i a l n) }
+        where
+          up-start : (item stack d).start ≤ c
+          up-start = (touching-tree last done v stack rest stands u d c tree-d tree-c.within (up-end u (item stack c) refl)).0
+
+      -- no other dart of u behind c, and u is not the lower end of the last entry: two entries alone at u
+      pub chain-not : d < h → d ≡ c + 1 → ⊥
+      chain-not d-h e = stretch-not last done v h stack rest stands h-in back.topped pair pair-top c d c-d tree-d.within (or_left (c == c) (c == d) (eq-eqb c c refl)) (or_right (d == c) (d == d) (eq-eqb d d refl)) x (item stack d).up only
+        where
+          pair : ℕ → Bool
+          pair k = (k == c) || (k == d)
+
+          pair-top : pair h ≡ false
+          pair-top = false_from_ne_true (pair h) (λ k. elim (or_cases (h == c) (h == d) k) [ inl m ↦ omega (arith, eqb-true h c m, c-h) | inr m ↦ omega (arith, eqb-true h d m, d-h) ])
+
+          u-here : (j : ℕ) → j < length stack → pair j ≡ false → has_end u (entry (item stack j)) ≡ true → ⊥
+          u-here j l n k =
+              let t = touching-tree last done v stack rest stands u d j tree-d l k in
+              let s-start : s ≤ (item stack d).start = start-s d (omega (arith, s-c', c-d)) (omega (arith, d-h)) in
+              elim (cases_lt j c) [
+                | inl m ↦ u-not j (omega (arith, s-start, t.0)) m k
+                | inr m ↦ elim (cases_eq j c) [
+                  | inl i ↦ both_ways (pair j) n (or_left (j == c) (j == d) (eq-eqb j c i))
+                  | inr i ↦ both_ways (pair j) n (or_right (j == c) (j == d) (eq-eqb j d (omega (arith, t.1, m, i, e))))
+                ]
+              ]
+
+          only : (z : ℕ) → IsShared stack rest (side_at stack pair) z → (z ≡ x) ⊎ (z ≡ (item stack d).up)
+          only z m =
+              let not-u : z ≢ u = λ k. elim m.other [
+                | inr q ↦ rest-not z m.place (omega (arith, k, u-v)) m.within m.end q
+                | inl j ↦ u-here j.0 j.1 (sym (side-place stack rest stands.left.is_family pair j.0 j.1) ∙ j.2) (subst (λ (i : ℕ). has_end i (entry (item stack j.0)) ≡ true) k j.3)
+              ] in
+              elim (or_cases (m.place == c) (m.place == d) (sym (side-place stack rest stands.left.is_family pair m.place m.within) ∙ m.on)) [
+                | inl k ↦ elim (item-ends z (item stack c) (subst (λ (i : ℕ). has_end z (entry (item stack i)) ≡ true) (eqb-true m.place c k) m.end)) [ inl f ↦ absurd (not-u f) | inr f ↦ inl (f ∙ tree-c.low) ]
+                | inr k ↦ elim (item-ends z (item stack d) (subst (λ (i : ℕ). has_end z (entry (item stack i)) ≡ true) (eqb-true m.place d k) m.end)) [ inl f ↦ inr f | inr f ↦ absurd (not-u (f ∙ tree-d.low)) ]
+              ]
+
+      -- another dart behind c of the lower end of the last entry: there is none
+      pub top-not : d ≡ h → c + 1 < h → ⊥
+      top-not e more =
+          let r = dart-over last done v stack rest stands h (c + 1) h-in back.tree (omega (arith, back.start, s-c')) more in
+          alone r.dart r.within r.owned r.to
+        where
+          alone : (r : ℕ) → r < h → owner (item stack r) ≡ w → c + 1 ≤ r → ⊥
+          alone r r-h o past = elim (cases_Bool (item stack r).tree) [
+            | inr f ↦
+                let lo = owner-frond (item stack r) w o f in
+                let up-v = on-up side x b g c tree-c from-c c-h r r-in (on-c r (omega (arith, past)) (omega (arith, r-h))) in
+                elim (cases_eq (item stack r).up v) [
+                  | inl k ↦ back.no_frond r r-h f lo k
+                  | inr k ↦
+                      let p = met-tree (item stack r).up r (omega (arith, up-v, k)) (omega (arith, s-c', past)) (omega (arith, r-h)) (up-end (item stack r).up (item stack r) refl) in
+                      omega (arith, (stands.laid.rises r r-in).0, lo, p.1.low, low-v p.0 (omega (arith, s-c', past, p.4)) p.5)
+                ]
+            | inl t ↦ stretch-not last done v h stack rest stands h-in back.topped seg seg-top (item stack r).start r (stands.laid.tree_start r r-in t) r-in (yes (item stack r).start (omega arith) at) (yes r at (omega arith)) v w only
+          ]
+            where
+              r-in : r < length stack
+              r-in = omega (arith, r-h, h-in)
+
+              at : (item stack r).start ≤ r
+              at = start-at last done v stack rest stands r r-in
+
+              -- it starts behind c, which is a dart of the same vertex
+              start-r : c < (item stack r).start
+              start-r = darts-apart last done v stack rest stands c r (omega (arith, past)) r-in (tree-owner (item stack c) tree-c.tree ∙ (sym tree-d.low ∙ (ap (λ (k : ℕ). (item stack k).low) e ∙ sym o)))
+
+              seg : ℕ → Bool
+              seg k = not (nat_lt k (item stack r).start) && not (nat_lt r k)
+
+              yes : (k : ℕ) → (item stack r).start ≤ k → k ≤ r → seg k ≡ true
+              yes k a d = rw (le-ltb k (item stack r).start a, le-ltb r k d) refl
+
+              seg-top : seg h ≡ false
+              seg-top = rw (le-ltb h (item stack r).start (omega (arith, at, r-h)), lt-ltb r h r-h) refl
+
+              parts : (k : ℕ) → seg k ≡ true → ((item stack r).start ≤ k) × (k ≤ r)
+              parts k m = elim (cases_lt k (item stack r).start) [
+                | inl a ↦ absurd (both_ways (seg k) (rw (lt-ltb k (item stack r).start a) refl) m)
+                | inr a ↦ elim (cases_lt r k) [ inr d ↦ (a, d) | inl d ↦ absurd (both_ways (seg k) (rw (le-ltb k (item stack r).start a, lt-ltb r k d) refl) m) ]
+              ]
+
+              out : (k : ℕ) → seg k ≡ false → (k < (item stack r).start) ⊎ (r < k)
+              out k m = elim (cases_lt k (item stack r).start) [
+                | inl a ↦ inl a
+                | inr a ↦ elim (cases_lt r k) [ inl d ↦ inr d | inr d ↦ absurd (both_ways (seg k) m (yes k a d)) ]
+              ]
+
+              only : (z : ℕ) → IsShared stack rest (side_at stack seg) z → (z ≡ v) ⊎ (z ≡ w)
+              only z m =
+                  let i = parts m.place (sym (side-place stack rest stands.left.is_family seg m.place m.within) ∙ m.on) in
+                  let s-i : s ≤ m.place = omega (arith, s-c', start-r, i.0) in
+                  let i-h : m.place ≤ h = omega (arith, i.1, r-h) in
+                  elim (cases_lt v z) [
+                    | inr d ↦ inl (elim (item-ends z (item stack m.place) m.end) [
+                      | inl e ↦ omega (arith, d, e, on-up side x b g c tree-c from-c c-h m.place m.within (on-c m.place (omega (arith, start-r, i.0)) i-h))
+                      | inr e ↦ absurd (omega (arith, e, d, low-v m.place s-i i-h, v-w))
+                    ])
+                    | inl d ↦ elim m.other [
+                      | inr q ↦ absurd (rest-not z m.place d m.within m.end q)
+                      | inl j ↦ elim (dart-shared last done v stack rest stands r z m.place j.0 r-in d i.0 i.1 j.1 (out j.0 (sym (side-place stack rest stands.left.is_family seg j.0 j.1) ∙ j.2)) m.end j.3) [
+                        | inl e ↦ inr (e ∙ o)
+                        | inr e ↦ absurd (omega (arith, e.0, o, e.1.1.low, low-v e.1.0 (omega (arith, s-i, i.1, e.1.2)) (omega (arith, e.1.1.within, back.size))))
+                      ]
+                    ]
+                  ]
+
+    pub none-cut : HasNoTriangle stack h w → IsCutFound side
+    none-cut triangle =
+        let d = upper in
+        elim (cases_eq d.0 h) [
+          | inr n ↦ elim (cases_eq d.0 (c + 1)) [
+            | inl e ↦ absurd (chain-not d.0 d.1 d.2 (omega (arith, d.3, n)) e)
+            | inr m ↦ behind-cut d.0 d.1 d.2 (omega (arith, d.3, n)) (omega (arith, d.2, m))
+          ]
+          | inl e ↦ elim (cases_eq (c + 1) h) [
+            | inr m ↦ absurd (top-not d.0 d.1 d.2 e (omega (arith, c-h, m)))
+            | inl m ↦
+                let k = triangle c m tree-c.tree in
+                let same : w ≡ u = sym (ap (λ (i : ℕ). (item stack i).low) e) ∙ d.1.low in
+                let from = touching-tree last done v stack rest stands w h k.place top-tree (omega (arith, k.within, tree-c.within)) k.end in
+                absurd (u-not k.place (omega (arith, from.0, back.start)) k.within (subst (λ (i : ℕ). has_end i (entry (item stack k.place)) ≡ true) same k.end))
+          ]
+        ]
+
+  -- a bad side whose other vertex is below: a cut that is wanted, where there is no triangle
+  pub bad-cut : (side : ℕ → Bool) (x : ℕ) → IsBad stack rest side v x → v < x → HasNoTriangle stack h w → IsCutFound side
+  bad-cut side x b g triangle =
+      let t = bad-below side x b g in
+      elim (good-search side x b g t.1.0 t.1.1 t.1.2 t.1.3) [
+        | inl r ↦ found-cut side x b g t.1.0 t.1.1 t.1.2 t.1.3 (cut-good side x b g t.1.0 t.1.1 t.1.2 t.1.3 r.0 r.1 r.2 r.3 r.4)
+        | inr none ↦ none-cut side x b g t.1.0 t.1.1 t.1.2 t.1.3 (none-good side x b g t.1.0 t.1.1 t.1.2 t.1.3 none) triangle
+      ]
