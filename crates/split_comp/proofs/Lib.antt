@@ -17,3 +17,4 @@ pub mod Complete
 pub mod Noted
 pub mod Stretch
 pub mod LeastUp
+pub mod SplitSides
