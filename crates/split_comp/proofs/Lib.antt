@@ -18,3 +18,4 @@ pub mod Noted
 pub mod Stretch
 pub mod LeastUp
 pub mod SplitSides
+pub mod Returning

@@ -52,6 +52,24 @@ cut-push kept c k e = get_or_push kept c no_cut k (sym e)
 pub cut-right : (kept popped : List Triple) (k : ℕ) → cut (kept ++ popped) (length kept + k) ≡ cut popped k
 cut-right kept popped k = get_or-append_right kept popped (length kept) (length kept + k) no_cut refl (omega arith) ∙ ap (cut popped) (omega arith)
 
+-- a front part of a chain is one
+pub chain-front : (stack : List Item) (kept popped : List Triple) → IsChain stack (kept ++ popped) → IsChain stack kept
+chain-front stack kept popped c = record {
+  starts_rise = λ k l. omega (arith, c.starts_rise k (more k l), ap (λ (y : Triple). y.start) (at k l), ap (λ (y : Triple). y.start) (next k l));
+  ups_rise = λ k l. omega (arith, c.ups_rise k (more k l), ap (λ (y : Triple). y.up) (at k l), ap (λ (y : Triple). y.up) (next k l));
+  lows_fall = λ k l. omega (arith, c.lows_fall k (more k l), ap (λ (y : Triple). y.low) (at k l), ap (λ (y : Triple). y.low) (next k l));
+  met = λ k l. let m = c.met k (more k l) in (m.0, omega (arith, m.1, ap (λ (y : Triple). y.start) (at k l)), omega (arith, m.2, ap (λ (y : Triple). y.start) (next k l)), m.3, m.4 ∙ ap (λ (y : Triple). y.up) (at k l));
+}
+  where
+    more : (k : ℕ) → k + 1 < length kept → k + 1 < length (kept ++ popped)
+    more k l = omega (arith, l, length-append kept popped)
+
+    at : (k : ℕ) → k + 1 < length kept → cut (kept ++ popped) k ≡ cut kept k
+    at k l = cut-left kept popped k (omega (arith, l))
+
+    next : (k : ℕ) → k + 1 < length kept → cut (kept ++ popped) (k + 1) ≡ cut kept (k + 1)
+    next k l = cut-left kept popped (k + 1) l
+
 -- places of a chain rise, and upper ends rise weakly
 pub chain-rises : (stack : List Item) (cuts : List Triple) → IsChain stack cuts → (j k : ℕ) → j < k → k < length cuts → ((cut cuts j).start < (cut cuts k).start) × ((cut cuts j).up ≤ (cut cuts k).up) × ((cut cuts k).low ≤ (cut cuts j).low)
 chain-rises stack cuts c j zero l m = absurd (omega (arith, l))
