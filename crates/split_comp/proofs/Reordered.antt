@@ -1,27 +1,55 @@
--- The split state does not depend on the order of the current family.
-use Rattle.std.proofs.Common.{◌≡◌, ◌≢◌, ℕ, ◌+◌, ◌<◌, ◌≤◌, ◌⊎◌, ◌↔◌, Bool, true, false, not, List, [], ◌∷◌, ◌++◌, length, map, filter, take, drop, slice_index, slice_index_or, Contains}
-use Rattle.multigraph.specs.Graph.{Multigraph, edge_count, IsGraph}
-use Rattle.graph_theory.specs.Block.{IsOneBlock}
-use Rattle.palm_tree.specs.PalmTree.{PalmTreeLists, IsPalmTree}
-use Rattle.pair_split.specs.Family.{Entry, has_end, touches, on_side, off_side, is_common, IsFamily, IsTight, IsSeparation, IsPrime}
-use Rattle.pair_split.specs.Skeleton.{SameEnds, IsSkeleton}
-use Rattle.pair_split.specs.Edges.{entry_ends, family_skeleton}
-use Rattle.pair_split.specs.Minimal.{IsMinimal}
-use Rattle.pair_split.specs.State.{Part, SplitState, IsSplitState}
-use Rattle.pair_split.specs.declared.components.Kind.{Kind}
-use Rattle.pair_split.specs.declared.components.Kind.TheVariants.{B}
+-- The state of splitting does not depend on the order of the current family.
+use Rattle.std.proofs.Common.{◌≡◌, ◌≢◌, ℕ, ◌+◌, ◌<◌, ◌≤◌, ◌⊎◌, inl, inr, Bool, List, [], ◌∷◌, ◌++◌, length, map, slice_index_or, refl, sym, ap, ◌∙◌, subst, arith, Contains}
+use Rattle.std.proofs.lemmas.Bool.{cases_lt, cases_eq}
+use Rattle.multigraph.specs.Graph.{Multigraph, edge_count}
+use Rattle.pair_split.specs.Family.{Entry, IsFamily}
+use Rattle.pair_split.specs.Edges.{graph_entry}
+use Rattle.pair_split.specs.State.{Part, SplitState, part_at, own_at, layer, IsBeyond, IsPlaced, IsSplitState}
 use Rattle.pair_split.proofs.SameEntries.{IsWithin}
-use Rattle.split_comp.specs.declared.items.Item.{Item}
-use Rattle.split_comp.specs.declared.items.Triple.{Triple}
-use Rattle.split_comp.specs.declared.items.Dart.{Dart}
-use Rattle.split_comp.specs.Stack.{item, entry, family, owner, IsLaid, IsTreeAt, IsEnded, IsRest, IsStack, IsSorted, IsBad, IsClean, IsTopped, IsReturned, AreFirst}
-use Rattle.split_comp.specs.Palm.{AreVertices, tree_dart, tree_degree, tree_parent, IsFrondTo, IsPalm, dart_entry, AreDrawn}
-use Rattle.split_comp.specs.Walk.{IsOnPath, IsWalk, AreLeft, IsOneMore}
-use Rattle.split_comp.specs.Cuts.{cut, IsLeastUp, IsAcross, IsBefore, IsStart, IsFirstBelow, IsSoundCut, IsChain, AreSound, IsWanted, AreComplete, IsSoundAt, AreSoundAt, AreCompleteAt}
-use Rattle.split_comp.specs.Sides.{is_frond_to, IsCutOff, all_items, but_frond, IsLeast, HasNoTriangle}
-use Rattle.split_comp.specs.Frames.{AreFrames, IsGoneTo, AreReached, AreAhead, AreCuts}
+use Rattle.pair_split.proofs.Layers.{layer-part, layer-current, layer-cases, layer-past, current-layer}
+use Rattle.pair_split.proofs.Start.{empty-family}
 
-pub state-reordered : (g : Multigraph) (state : SplitState) (current : List Entry) → IsSplitState g state → IsFamily current → IsWithin state.current current → IsWithin current state.current
-    → IsSplitState g (record { parts = state.parts; current = current })
-state-reordered = ?
+module _ (g : Multigraph) (state : SplitState) (current : List Entry) (s : IsSplitState g state) (family : IsFamily current) (into : IsWithin state.current current) (back : IsWithin current state.current) where
+  abbrev new : SplitState
+  new = record { parts = state.parts; current = current }
 
+  abbrev r : ℕ
+  r = length state.parts
+
+  layer-old : (k : ℕ) → k < r → layer new k ≡ layer state k
+  layer-old k l = layer-part new k l ∙ sym (layer-part state k l)
+
+  -- what is in a layer of the one is in that of the other
+  to : (k : ℕ) (x : Entry) → Contains (layer state k) x → Contains (layer new k) x
+  to k x c = elim (layer-cases state k x c) [
+    | inl l ↦ subst (λ (z : List Entry). Contains z x) (sym (layer-old k l)) c
+    | inr e ↦ subst (λ (z : ℕ). Contains (layer new z) x) (sym e.0) (current-layer new x (into x e.1))
+  ]
+
+  from : (k : ℕ) (x : Entry) → Contains (layer new k) x → Contains (layer state k) x
+  from k x c = elim (layer-cases new k x c) [
+    | inl l ↦ subst (λ (z : List Entry). Contains z x) (layer-old k l) c
+    | inr e ↦ subst (λ (z : ℕ). Contains (layer state z) x) (sym e.0) (current-layer state x (back x e.1))
+  ]
+
+  pub state-reordered : IsSplitState g new
+  state-reordered = record {
+    families = λ k. elim (cases_lt k r) [
+      | inl l ↦ subst IsFamily (sym (layer-old k l)) (s.families k)
+      | inr l ↦ elim (cases_eq k r) [ inl e ↦ subst IsFamily (sym (ap (layer new) e ∙ layer-current new)) family | inr n ↦ subst IsFamily (sym (layer-past new k (omega (arith, l, n)))) empty-family ]
+    ];
+    own_names = s.own_names;
+    kinds = s.kinds;
+    none_small = s.none_small;
+    edges_listed = λ e l. let w = s.edges_listed e l in (w.0, to w.0 (graph_entry g e) w.1);
+    own_listed = λ c l. let w = s.own_listed c l in (w.0, w.1, to w.0 (own_at state c) w.2);
+    nothing_else = λ k x c. s.nothing_else k x (from k x c);
+    once = λ k j x y a b e. s.once k j x y (from k x a) (from j y b) e;
+    place = s.place;
+    placed = record {
+      finished = λ k x l c. s.placed.finished k x l (from k x c);
+      current = λ x c. s.placed.current x (back x c);
+      unused = s.placed.unused;
+    };
+    parted = λ c l t b v. s.parted c l t (record { own = b.own; last = b.last; layer_by_layer = λ k x d n. b.layer_by_layer k x (to k x d) n }) v;
+  }
