@@ -19,3 +19,4 @@ pub mod Stretch
 pub mod LeastUp
 pub mod SplitSides
 pub mod Returning
+pub mod Held

@@ -16,10 +16,10 @@ use Rattle.pair_split.specs.declared.components.Kind.TheVariants.{B}
 use Rattle.split_comp.specs.declared.items.Item.{Item}
 use Rattle.split_comp.specs.declared.items.Triple.{Triple}
 use Rattle.split_comp.specs.declared.items.Dart.{Dart}
-use Rattle.split_comp.specs.Stack.{item, entry, family, IsStack, IsSorted, IsClean, IsReturned, AreFirst}
+use Rattle.split_comp.specs.Stack.{item, entry, owner, family, IsStack, IsSorted, IsTopped, IsClean, IsAtop, AreFirst}
 use Rattle.split_comp.specs.Palm.{AreVertices, tree_dart, tree_degree, tree_parent, IsFrondTo, IsPalm}
 use Rattle.split_comp.specs.Walk.{IsOnPath, IsWalk, AreLeft}
-use Rattle.split_comp.specs.Cuts.{cut, AreSoundAt, AreCompleteAt}
+use Rattle.split_comp.specs.Cuts.{cut, AreSound, AreComplete, AreSoundAt, AreCompleteAt}
 use Rattle.split_comp.specs.Frames.{AreFrames, AreReached, AreAhead, AreCutsBelow, AreCuts}
 use Rattle.split_comp.specs.Sides.{is_frond_to}
 use Rattle.split_comp.specs.Noting.{IsNoted}
@@ -174,8 +174,8 @@ pub record IsPass (g : Multigraph) (t : NumberedTree) (s : PassState) : Type 0 w
   pub clean : IsClean s.items rest
   pub cuts : AreCuts palm.last (tree_parent t.palm t.vertex) s.at (at_place s.start) (at_place s.base) s.items s.cuts
 
--- the pass has returned from the vertex w, and may split off components
-pub record IsBack (g : Multigraph) (t : NumberedTree) (w : ℕ) (s : PassState) : Type 0 where
+-- the pass has returned from the vertex w, and may split off components: but for a frond parallel to the last entry
+pub record IsRaised (g : Multigraph) (t : NumberedTree) (w : ℕ) (s : PassState) : Type 0 where
   pub palm : IsPalm g.vertex_count (edge_count g) (tree_parent t.palm t.vertex) (tree_degree t.palm t.vertex) (tree_dart g t.palm t.vertex)
   pub rest : List Entry
   pub places : HavePlaces g.vertex_count s
@@ -187,7 +187,8 @@ pub record IsBack (g : Multigraph) (t : NumberedTree) (w : ℕ) (s : PassState) 
   pub left : AreLeft g.vertex_count (tree_degree t.palm t.vertex) (tree_dart g t.palm t.vertex) (at_place s.gone) rest
   pub held : IsHeld g t.vertex s rest
   pub height : ℕ
-  pub returned : IsReturned palm.last s.done s.at (at_place s.start w) height s.items rest
+  pub atop : IsAtop palm.last s.done s.at (at_place s.start w) height s.items rest
+  pub fronds : (i : ℕ) → 4 ≤ s.total → i < height → is_frond_to s.at (item s.items height).low (item s.items i) ≡ true → i + 1 ≡ height
   pub frames : AreFrames palm.last s.at (at_place s.start) s.items
   pub child_start : at_place s.start s.at ≤ at_place s.start w
   pub place : ℕ
@@ -201,9 +202,45 @@ pub record IsBack (g : Multigraph) (t : NumberedTree) (w : ℕ) (s : PassState) 
   pub reached : AreReached palm.last (tree_dart g t.palm t.vertex) (at_place s.gone) s.at (at_place s.start) s.items
   pub first : AreFirst g.vertex_count s.at s.first s.items
   pub ahead : AreAhead palm.last (tree_degree t.palm t.vertex) (tree_dart g t.palm t.vertex) (at_place s.gone) s.at height s.items rest
+  pub ahead_last : (r : ℕ) → r < height → owner (item s.items r) ≡ s.at → (i : ℕ) × ((item s.items r).start ≤ i) × (i ≤ r) × ((item s.items i).up ≤ (tree_dart g t.palm t.vertex s.at place).reach)
+  pub frond_last : (r : ℕ) → 4 ≤ length (family s.items rest) → r < height → owner (item s.items r) ≡ s.at → (item s.items r).tree ≡ false
+      → ((item s.items r).up < (tree_dart g t.palm t.vertex s.at place).reach) ⊎ (((item s.items r).up ≡ (tree_dart g t.palm t.vertex s.at place).reach) × (1 ≤ (tree_dart g t.palm t.vertex s.at place).class))
   pub below : AreCutsBelow palm.last (tree_parent t.palm t.vertex) w (at_place s.start) (at_place s.base) s.items s.cuts
   pub sound : AreSoundAt (at_place s.start w) s.at (item s.items height).low s.items (drop (at_place s.base w) s.cuts)
   pub complete : AreCompleteAt (at_place s.start w) s.at (item s.items height).low s.items (drop (at_place s.base w) s.cuts)
+
+-- and there is none
+pub record IsBack (g : Multigraph) (t : NumberedTree) (w : ℕ) (s : PassState) : Type 0 where
+  pub raised : IsRaised g t w s
+  pub no_frond : (i : ℕ) → i < raised.height → (item s.items i).tree ≡ false → (item s.items i).low ≡ (item s.items raised.height).low → (item s.items i).up ≡ s.at → ⊥
+
+-- a frond of the vertex where the pass stands was pushed
+pub record IsFronted (g : Multigraph) (t : NumberedTree) (s : PassState) : Type 0 where
+  pub palm : IsPalm g.vertex_count (edge_count g) (tree_parent t.palm t.vertex) (tree_degree t.palm t.vertex) (tree_dart g t.palm t.vertex)
+  pub rest : List Entry
+  pub places : HavePlaces g.vertex_count s
+  pub walk : IsWalk g.vertex_count palm.last (tree_parent t.palm t.vertex) (tree_degree t.palm t.vertex) (tree_dart g t.palm t.vertex) s.at s.done (at_place s.gone)
+  pub not_root : s.at ≢ 0
+  pub left : AreLeft g.vertex_count (tree_degree t.palm t.vertex) (tree_dart g t.palm t.vertex) (at_place s.gone) rest
+  pub held : IsHeld g t.vertex s rest
+  pub height : ℕ
+  pub size : length s.items ≡ height + 1
+  pub frond : (item s.items height).tree ≡ false
+  pub low : (item s.items height).low ≡ s.at
+  pub stands : IsStack palm.last s.done s.at s.items rest
+  pub topped : IsTopped s.items rest height
+  pub frames : AreFrames palm.last s.at (at_place s.start) s.items
+  pub reached : AreReached palm.last (tree_dart g t.palm t.vertex) (at_place s.gone) s.at (at_place s.start) s.items
+  pub first : AreFirst g.vertex_count s.at s.first s.items
+  pub sorted : IsSorted s.at height s.items rest
+  pub ahead : AreAhead palm.last (tree_degree t.palm t.vertex) (tree_dart g t.palm t.vertex) (at_place s.gone) s.at height s.items rest
+  pub reach_last : (r : ℕ) → r < height → owner (item s.items r) ≡ s.at → (i : ℕ) × ((item s.items r).start ≤ i) × (i ≤ r) × ((item s.items i).up ≤ (item s.items height).up)
+  pub frond_last : (r : ℕ) → 4 ≤ length (family s.items rest) → r < height → owner (item s.items r) ≡ s.at → (item s.items r).tree ≡ false → (item s.items r).up ≤ (item s.items height).up
+  pub next : (k : ℕ) → at_place s.gone s.at ≤ k → k < tree_degree t.palm t.vertex s.at → ((item s.items height).up < (tree_dart g t.palm t.vertex s.at k).reach) ⊎ (((item s.items height).up ≡ (tree_dart g t.palm t.vertex s.at k).reach) × (1 ≤ (tree_dart g t.palm t.vertex s.at k).class))
+  pub starts : at_place s.start s.at ≤ height
+  pub below : AreCutsBelow palm.last (tree_parent t.palm t.vertex) s.at (at_place s.start) (at_place s.base) s.items s.cuts
+  pub sound : AreSound (at_place s.start s.at) s.at (take height s.items) (drop (at_place s.base s.at) s.cuts)
+  pub complete : AreComplete (at_place s.start s.at) s.at (take height s.items) (drop (at_place s.base s.at) s.cuts)
 
 -- the pass is over
 pub record IsPassed (g : Multigraph) (t : NumberedTree) (s : PassState) : Type 0 where

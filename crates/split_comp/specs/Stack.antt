@@ -86,8 +86,19 @@ abbrev pub IsTopped : List Item → List Entry → ℕ → Type 0
 IsTopped stack rest i = (s : ℕ → Bool) (p q : ℕ) → IsBad stack rest s p q → s (item stack i).name ≡ true
 
 -- the search has returned to v: the last entry, at place h, is a tree edge with the upper end v, to which all entries from
--- place s on belong, and before s the lower ends of tree edges are greater; each 2-separation with a side inside the stack has it in
--- that side; and no frond is parallel to it
+-- place s on belong, and before s the lower ends of tree edges are greater; and each 2-separation with a side inside the stack has
+-- it in that side
+pub record IsAtop (last : ℕ → ℕ) (done v s h : ℕ) (stack : List Item) (rest : List Entry) : Type 0 where
+  pub stands : IsStack last done v stack rest
+  pub size : length stack ≡ h + 1
+  pub tree : (item stack h).tree ≡ true
+  pub up : (item stack h).up ≡ v
+  pub start : (item stack h).start ≡ s
+  pub sorted : IsSorted v h stack rest
+  pub topped : IsTopped stack rest h
+  pub behind : (i : ℕ) → i < s → (item stack i).tree ≡ true → (item stack h).low < (item stack i).low
+
+-- and no frond is parallel to it
 pub record IsReturned (last : ℕ → ℕ) (done v s h : ℕ) (stack : List Item) (rest : List Entry) : Type 0 where
   pub stands : IsStack last done v stack rest
   pub size : length stack ≡ h + 1
