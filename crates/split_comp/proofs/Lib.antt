@@ -20,3 +20,5 @@ pub mod LeastUp
 pub mod SplitSides
 pub mod Returning
 pub mod Held
+pub mod Firsts
+pub mod Fronted

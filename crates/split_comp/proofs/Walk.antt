@@ -200,6 +200,13 @@ module _ (n m : ℕ) (parent degree : ℕ → ℕ) (dart : ℕ → ℕ → Dart)
               absurd (omega (arith, walk.tree_gone v c.0 v-in c.1 c.2 (omega (arith, c.1, all)), c.3, k))
         ]
 
+    -- the child of a vertex of the path on the path
+    pub next-on-path : (z : ℕ) → z < v → IsOnPath last v z → (x : ℕ) × (x ≢ 0) × IsOnPath last v x × (parent x ≡ z)
+    next-on-path z l p =
+        let c = palm.child z v (omega (arith, l, v-in)) l p.1 in
+        let f = palm.tree_far z c.0 (omega (arith, l, v-in)) c.1 c.2 in
+        ((dart z c.0).far, omega (arith, f.1), (c.3, c.4), f.3)
+
     module _ (rest : List Entry) (left : AreLeft n degree dart gone rest) where
       -- what is left touches no finished vertex
       pub left-free : (z : ℕ) → done ≤ z → touches rest z ≡ false
@@ -223,13 +230,6 @@ module _ (n m : ℕ) (parent degree : ℕ → ℕ) (dart : ℕ → ℕ → Dart)
             (touches-from rest u (dart_entry u (dart u k)) (left.left u k l g b) (first-end u (dart_entry u (dart u k)) (sym i.1)),
             touches-from rest (dart u k).far (dart_entry u (dart u k)) (left.left u k l g b) (second-end (dart u k).far (dart_entry u (dart u k)) (sym i.2)))
       ]
-
-      -- the child of a vertex of the path on the path
-      next-on-path : (z : ℕ) → z < v → IsOnPath last v z → (x : ℕ) × (x ≢ 0) × IsOnPath last v x × (parent x ≡ z)
-      next-on-path z l p =
-          let c = palm.child z v (omega (arith, l, v-in)) l p.1 in
-          let f = palm.tree_far z c.0 (omega (arith, l, v-in)) c.1 c.2 in
-          ((dart z c.0).far, omega (arith, f.1), (c.3, c.4), f.3)
 
       pub left-on_path : gone 0 < degree 0 → (z : ℕ) → IsOnPath last v z → touches rest z ≡ true
       left-on_path g z p = elim (cases_lt z v) [
