@@ -22,3 +22,4 @@ pub mod Returning
 pub mod Held
 pub mod Firsts
 pub mod Fronted
+pub mod Raising
