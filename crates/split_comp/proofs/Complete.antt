@@ -82,8 +82,8 @@ module _ (last : ℕ → ℕ) (done v s h : ℕ) (stack : List Item) (rest : Lis
   seg-up =
       let e = touching-entry rest v stands.left.own in
       let t = stands.left.is_tight (side_at stack test)
-          (one-from_entry (family stack rest) (side_at stack test) (record { entry = entry (item stack h); within = stack-contains stack rest h h-in; side = side-place stack rest stands.left.is_family test h h-in ∙ yes h (omega (arith, s-h)) (omega arith) }))
-          (one-from_entry (family stack rest) (λ n. not (side_at stack test n)) (record { entry = e.0; within = rest-contains stack rest e.0 e.1; side = not_from_false (side_at stack test e.0.name) (off e.0 e.1) })) in
+      (one-from_entry (family stack rest) (side_at stack test) (record { entry = entry (item stack h); within = stack-contains stack rest h h-in; side = side-place stack rest stands.left.is_family test h h-in ∙ yes h (omega (arith, s-h)) (omega arith) }))
+      (one-from_entry (family stack rest) (λ n. not (side_at stack test n)) (record { entry = e.0; within = rest-contains stack rest e.0 e.1; side = not_from_false (side_at stack test e.0.name) (off e.0 e.1) })) in
       elim (cases_eq t.0 v) [
         | inr n ↦ found t.0 n (shared-from stack rest (side_at stack test) off t.0 t.3)
         | inl k ↦ found t.1 (λ m. t.2 (k ∙ sym m)) (shared-from stack rest (side_at stack test) off t.1 t.4)
@@ -224,11 +224,15 @@ module _ (last : ℕ → ℕ) (done v s h : ℕ) (stack : List Item) (rest : Lis
       -- a vertex between v and x that is met from s on has an entry on the side
       between-on : (z i : ℕ) → v < z → z < x → s ≤ i → i ≤ h → has_end z (entry (item stack i)) ≡ true → (p : ℕ) × (p < length stack) × (side (item stack p).name ≡ true) × (has_end z (entry (item stack p)) ≡ true)
       between-on z i a d e f k =
-          let p = met-tree z i a e f k in
-          (p.0, p.1.within, outside-on p.0 (omega (arith, e, p.4)) p.5 (elim (cases_lt p.0 (item stack c).start) [
-            | inl m ↦ inl m
-            | inr m ↦ elim (cases_lt p.0 c) [ inr q ↦ inr q | inl q ↦ absurd (omega (arith, p.1.low, d, tree-c.low, (stands.laid.inside c p.0 tree-c.within tree-c.tree m (omega (arith, q))).0)) ]
-          ]), low-end z (item stack p.0) (sym p.1.low))
+          let p = met-tree z i a e f k in (
+            p.0,
+            p.1.within,
+            outside-on p.0 (omega (arith, e, p.4)) p.5 (elim (cases_lt p.0 (item stack c).start) [
+              | inl m ↦ inl m
+              | inr m ↦ elim (cases_lt p.0 c) [ inr q ↦ inr q | inl q ↦ absurd (omega (arith, p.1.low, d, tree-c.low, (stands.laid.inside c p.0 tree-c.within tree-c.tree m (omega (arith, q))).0)) ]
+            ]),
+            low-end z (item stack p.0) (sym p.1.low),
+          )
 
       -- so an entry off the side does not meet it
       between-off : (z i : ℕ) → v < z → z < x → s ≤ i → i ≤ h → has_end z (entry (item stack i)) ≡ true → side (item stack i).name ≡ false → ⊥
@@ -591,10 +595,13 @@ module _ (last : ℕ → ℕ) (done v s h : ℕ) (stack : List Item) (rest : Lis
       test k = nat_lt c k
 
       behind-bad : d < h → IsBad stack rest (side_at stack test) v u
-      behind-bad d-h = record { separates = separation-swap (family stack rest) (side_at stack test) u v (separation-from (family stack rest) (side_at stack test) u v stands.left.is_tight
-          (side-two stack rest stands.left.is_family (side_at stack test) d h d-h h-in (on d c-d tree-d.within) (on h c-h h-in))
-          (side-off_two stack rest stands.left.is_family (side_at stack test) c e.0 tree-c.within (side-place stack rest stands.left.is_family test c tree-c.within ∙ le-ltb c c (omega arith)) e.1 (off-rest e.0 e.1))
-          (λ z k. only z (shared-from stack rest (side_at stack test) off-rest z k))); stacked = off-rest }
+      behind-bad d-h = record {
+        separates = separation-swap (family stack rest) (side_at stack test) u v (separation-from (family stack rest) (side_at stack test) u v stands.left.is_tight
+            (side-two stack rest stands.left.is_family (side_at stack test) d h d-h h-in (on d c-d tree-d.within) (on h c-h h-in))
+            (side-off_two stack rest stands.left.is_family (side_at stack test) c e.0 tree-c.within (side-place stack rest stands.left.is_family test c tree-c.within ∙ le-ltb c c (omega arith)) e.1 (off-rest e.0 e.1))
+            (λ z k. only z (shared-from stack rest (side_at stack test) off-rest z k)));
+        stacked = off-rest;
+      }
         where
           e : (y : Entry) × Contains rest y × (has_end v y ≡ true)
           e = touching-entry rest v stands.left.own
@@ -647,9 +654,15 @@ module _ (last : ℕ → ℕ) (done v s h : ℕ) (stack : List Item) (rest : Lis
           let s-start : s ≤ (item stack d).start = start-s d (omega (arith, s-c', c-d)) (omega (arith, d-h)) in
           let r = dart-over last done v stack rest stands d (c + 1) tree-d.within tree-d.tree (omega (arith, up-start)) more in
           let k = cut-good (side_at stack test) u (behind-bad d-h) u-v d tree-d s-start d-h r.dart r.within (r.owned ∙ tree-d.low) (start-s r.dart (omega (arith, s-c', r.to)) (omega (arith, r.within, d-h)))
-              (or_left (side_at stack test (item stack r.dart).name) (is_frond_to v u (item stack r.dart)) (side-place stack rest stands.left.is_family test r.dart (omega (arith, r.within, tree-d.within)) ∙ lt-ltb c r.dart (omega (arith, r.to)))) in
-          record { place = k.place; vertex = k.vertex; wanted = k.wanted; below = k.below; other = k.other;
-            on = λ i a l n. behind-on i (omega (arith, k.wanted.from, a)) l (k.on i a l n) }
+          (or_left (side_at stack test (item stack r.dart).name) (is_frond_to v u (item stack r.dart)) (side-place stack rest stands.left.is_family test r.dart (omega (arith, r.within, tree-d.within)) ∙ lt-ltb c r.dart (omega (arith, r.to)))) in
+          record {
+            place = k.place;
+            vertex = k.vertex;
+            wanted = k.wanted;
+            below = k.below;
+            other = k.other;
+            on = λ i a l n. behind-on i (omega (arith, k.wanted.from, a)) l (k.on i a l n);
+          }
         where
           up-start : (item stack d).start ≤ c
           up-start = (touching-tree last done v stack rest stands u d c tree-d tree-c.within (up-end u (item stack c) refl)).0

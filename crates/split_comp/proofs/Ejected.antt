@@ -38,8 +38,8 @@ eject-topped last done v k j keeps side x old new rest r least s p q b = elim (c
   | inl t ↦ ap (λ (y : Item). s y.name) r.top ∙ t
   | inr f ↦
       let up = lifted-separation (family old rest) side (entry x) s p q r.separates
-          (same-separation (family new rest) (entry x ∷ off_side side (family old rest)) s p q (family-new last done v k j keeps side x old new rest r).names_once
-          (within-left last done v k j keeps side x old new rest r) (left-within last done v k j keeps side x old new rest r) b.separates) in
+      (same-separation (family new rest) (entry x ∷ off_side side (family old rest)) s p q (family-new last done v k j keeps side x old new rest r).names_once
+      (within-left last done v k j keeps side x old new rest r) (left-within last done v k j keeps side x old new rest r) b.separates) in
       let bad : IsBad old rest (lifted side (entry x) s) p q = record { separates = up; stacked = λ y c. lifted-outside side (entry x) s y.name (r.cut.off y c) ∙ b.stacked y c } in
       let o = end-old last done v k j keeps side x old new rest r x.up (inl refl) in
       let on : side (item old o.0).name ≡ true = r.cut.from o.0 o.1 o.2 ∙ o.3 in

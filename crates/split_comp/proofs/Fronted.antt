@@ -302,7 +302,7 @@ module _ (g : Multigraph) (t : NumberedTree) (numbered : IsNumbered g t) (s : Pa
       parallel : (r : ℕ) → 4 ≤ length (family s.items f.rest) → r < f.height → (item s.items r).tree ≡ false → (item s.items r).up ≡ (item s.items f.height).up → (item s.items r).low ≡ s.at → IsParallel s
       parallel r four l u e lo =
           let at = last-frond last s.done s.at f.height (at_place s.start) s.items f.rest f.stands f.not_root f.frames f.size f.sorted four f.frond f.low r l
-              (rw (u, eq-eqb (item s.items r).up (item s.items f.height).up e, eq-eqb (item s.items r).low s.at lo) refl) f.reach_last in
+          (rw (u, eq-eqb (item s.items r).up (item s.items f.height).up e, eq-eqb (item s.items r).low s.at lo) refl) f.reach_last in
           let k : length s.items - 2 ≡ r = omega (arith, at, f.size) in
           let h' : length s.items - 1 ≡ f.height = omega (arith, f.size) in
           record {
@@ -318,8 +318,12 @@ module _ (g : Multigraph) (t : NumberedTree) (numbered : IsNumbered g t) (s : Pa
     | inl l ↦ few-clean s.items f.rest (omega (arith, l))
     | inr l ↦ frond-clean last s.done s.at f.height s.items f.rest f.stands f.size f.topped f.frond f.low (λ i k p.
         let q = frond-parts (item s.items f.height).up s.at (item s.items i) p in
-        omega (arith, q.1, (sorted-now none).frond_rises i f.height f.height l k h-in (frond-owner (item s.items i) q.0 ∙ (q.2 ∙ (sym f.low ∙ sym (frond-owner (item s.items f.height) f.frond)))) q.0
-        (omega (arith, q.1, (f.stands.laid.rises f.height h-in).0, f.low)) (omega (arith, f.stands.laid.frond_start f.height h-in f.frond)) (omega arith)))
+        omega (
+          arith,
+          q.1,
+          (sorted-now none).frond_rises i f.height f.height l k h-in (frond-owner (item s.items i) q.0 ∙ (q.2 ∙ (sym f.low ∙ sym (frond-owner (item s.items f.height) f.frond)))) q.0
+              (omega (arith, q.1, (f.stands.laid.rises f.height h-in).0, f.low)) (omega (arith, f.stands.laid.frond_start f.height h-in f.frond)) (omega arith),
+        ))
   ]
 
   ahead-now : AreAhead last (tree_degree t.palm t.vertex) (tree_dart g t.palm t.vertex) (at_place s.gone) s.at (length s.items) s.items f.rest

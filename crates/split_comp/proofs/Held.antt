@@ -131,6 +131,10 @@ module _ (g : Multigraph) (t : NumberedTree) (numbered : IsNumbered g t) (s : Pa
       fits = omega (arith, held.few, numbered.graph.few_edges);
     }
 
+    -- two entries or more went
+    pub ejected-two : (mid : PassState) (e : IsEjected g t.vertex keeps k up low s mid) → 2 ≤ length e.edges
+    ejected-two mid e = omega (arith, sep.two_inside, side-length, sym (length-map e.edges entry_of), ap length e.are_edges, length-map (filter keeps (drop k s.items)) (λ (y : Item). drawn g t.vertex (entry y)))
+
     -- afterwards
     pub held-ejected : (old-mid new : PassState) (x : Item) → IsEjected g t.vertex keeps k up low s old-mid → new.parts ≡ old-mid.parts → new.total ≡ old-mid.total → x.name ≡ next_name g s → x.up ≡ up → x.low ≡ low
         → IsFamily (family new.items rest) → IsWithin (entry x ∷ off_side side (family s.items rest)) (family new.items rest) → IsWithin (family new.items rest) (entry x ∷ off_side side (family s.items rest)) → IsHeld g t.vertex new rest

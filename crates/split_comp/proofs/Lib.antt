@@ -6,7 +6,6 @@ pub mod Alike
 pub mod Pushed
 pub mod Begins
 pub mod Added
-pub mod Palm
 pub mod Walk
 pub mod Renamed
 pub mod Reordered
@@ -23,3 +22,4 @@ pub mod Held
 pub mod Firsts
 pub mod Fronted
 pub mod Raising
+pub mod Joining

@@ -100,8 +100,15 @@ module _ (last : ℕ → ℕ) (done v s t l h : ℕ) (old stack : List Item) (re
   -- a vertex behind v that is met on both sides of a place in front of t is so in front of t
   across-old : (u z : ℕ) → u ≤ t → v < z → IsAcross stack u z → IsAcross old u z
   across-old u z m g a = elim (cases_lt a.high t) [
-    | inl b ↦ record { low = a.low; low_within = a.low_within; low_end = subst (λ (y : Item). has_end z (entry y) ≡ true) (sym (f.same a.low (omega (arith, a.low_within, m)))) a.low_end;
-      high = a.high; high_from = a.high_from; high_within = omega (arith, b, f.size); high_end = subst (λ (y : Item). has_end z (entry y) ≡ true) (sym (f.same a.high b)) a.high_end }
+    | inl b ↦ record {
+      low = a.low;
+      low_within = a.low_within;
+      low_end = subst (λ (y : Item). has_end z (entry y) ≡ true) (sym (f.same a.low (omega (arith, a.low_within, m)))) a.low_end;
+      high = a.high;
+      high_from = a.high_from;
+      high_within = omega (arith, b, f.size);
+      high_end = subst (λ (y : Item). has_end z (entry y) ≡ true) (sym (f.same a.high b)) a.high_end;
+    }
     | inr b ↦ absurd (top-apart last done v stack rest stands h t size starts z a.low a.high g (omega (arith, a.low_within, m)) b a.high_within a.low_end a.high_end)
   ]
 
@@ -178,8 +185,12 @@ module _ (last : ℕ → ℕ) (done v s t l h : ℕ) (old stack : List Item) (re
             let g : cut (kept ++ popped) (k + 1) ≡ cut (kept ++ c ∷ []) (k + 1) = cut-left kept popped (k + 1) a ∙ sym (cut-left kept (c ∷ []) (k + 1) a) in
             let n : k + 1 < length (kept ++ popped) = omega (arith, a, length-append kept popped) in
             let w = sound.chain.met k n in
-            subst (λ (p : Triple × Triple). Two p.0 p.1) (λ i. (e i, g i)) (sound.chain.starts_rise k n, sound.chain.ups_rise k n, sound.chain.lows_fall k n,
-            (w.0, w.1, w.2, omega (arith, w.3, f.size, f.within), ap (λ (y : Item). y.up) (sym (f.same w.0 (omega (arith, w.3, f.size)))) ∙ w.4))
+            subst (λ (p : Triple × Triple). Two p.0 p.1) (λ i. (e i, g i)) (
+              sound.chain.starts_rise k n,
+              sound.chain.ups_rise k n,
+              sound.chain.lows_fall k n,
+              (w.0, w.1, w.2, omega (arith, w.3, f.size, f.within), ap (λ (y : Item). y.up) (sym (f.same w.0 (omega (arith, w.3, f.size)))) ∙ w.4),
+            )
         | inr a ↦
             let b : k + 1 ≡ length kept = omega (arith, a, m, length-append kept (c ∷ [])) in
             subst (λ (p : Triple × Triple). Two p.0 p.1) (λ i. (sym (cut-left kept (c ∷ []) k (omega (arith, b))) i, sym (cut-push kept c (k + 1) b) i)) (last-two k b)
@@ -214,10 +225,12 @@ module _ (last : ℕ → ℕ) (done v s t l h : ℕ) (old stack : List Item) (re
       (λ k b.
       let p : cut (kept ++ popped) k ≡ cut kept k = cut-left kept popped k (omega (arith, b)) in
       let q : cut (kept ++ popped) (k + 1) ≡ c = ap (cut (kept ++ popped)) b ∙ z in
-      let w = sound.chain.met k (omega (arith, b, n)) in
-      (omega (arith, sound.chain.starts_rise k (omega (arith, b, n)), ap (λ (y : Triple). y.start) p, ap (λ (y : Triple). y.start) q), lower k (omega (arith, b)),
-      omega (arith, sound.chain.lows_fall k (omega (arith, b, n)), ap (λ (y : Triple). y.low) p, ap (λ (y : Triple). y.low) q),
-      (w.0, omega (arith, w.1, ap (λ (y : Triple). y.start) p), omega (arith, w.2, ap (λ (y : Triple). y.start) q), omega (arith, w.3, f.size, f.within), ap (λ (y : Item). y.up) (sym (f.same w.0 (omega (arith, w.3, f.size)))) ∙ (w.4 ∙ ap (λ (y : Triple). y.up) p))))
+      let w = sound.chain.met k (omega (arith, b, n)) in (
+        omega (arith, sound.chain.starts_rise k (omega (arith, b, n)), ap (λ (y : Triple). y.start) p, ap (λ (y : Triple). y.start) q),
+        lower k (omega (arith, b)),
+        omega (arith, sound.chain.lows_fall k (omega (arith, b, n)), ap (λ (y : Triple). y.low) p, ap (λ (y : Triple). y.low) q),
+        (w.0, omega (arith, w.1, ap (λ (y : Triple). y.start) p), omega (arith, w.2, ap (λ (y : Triple). y.start) q), omega (arith, w.3, f.size, f.within), ap (λ (y : Item). y.up) (sym (f.same w.0 (omega (arith, w.3, f.size)))) ∙ (w.4 ∙ ap (λ (y : Triple). y.up) p)),
+      ))
 
   -- a tree edge behind t that starts in front of t: there is none
   no-across : (p : ℕ) → p < length stack → (item stack p).tree ≡ true → t ≤ p → (item stack p).start < t → ⊥

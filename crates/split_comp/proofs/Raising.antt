@@ -11,7 +11,7 @@ use Rattle.split_comp.specs.declared.items.Dart.{Dart}
 use Rattle.split_comp.specs.Stack.{no_item, item, entry, family, owner, IsTreeAt, IsStack, IsSorted, IsTopped, IsAtop, IsReturned, AreFirst}
 use Rattle.split_comp.specs.Palm.{tree_dart, tree_degree, tree_parent, IsFrondTo, IsPalm}
 use Rattle.split_comp.specs.Walk.{IsOnPath, IsWalk}
-use Rattle.split_comp.specs.Cuts.{AreSoundAt, AreCompleteAt}
+use Rattle.split_comp.specs.Cuts.{cut, AreSoundAt, AreCompleteAt}
 use Rattle.split_comp.specs.Frames.{AreFrames, AreAhead, AreCutsBelow}
 use Rattle.split_comp.specs.Sides.{is_frond_to, IsCutOff, IsLeast}
 use Rattle.split_comp.specs.Pass.{NumberedTree, IsNumbered, PassState, IsHeld, HavePlaces, at_place, IsRaised, IsBack}
@@ -40,7 +40,7 @@ module _ (g : Multigraph) (t : NumberedTree) (numbered : IsNumbered g t) (w : �
   h-in = omega (arith, b.atop.size)
 
   -- w lies below v
-  w-below : (s.at < w) × (w < last s.at)
+  pub w-below : (s.at < w) × (w < last s.at)
   w-below =
       let n : w ≢ 0 = λ e. omega (arith, e, b.from, b.walk.current) in
       let p = b.palm.parent_less w b.inside n in
@@ -100,15 +100,26 @@ module _ (g : Multigraph) (t : NumberedTree) (numbered : IsNumbered g t) (w : �
         | inr q-k ↦ at-mid u q i l m q-k e a d
       ];
       frond_rises = λ u q i four l m e f c a d. elim (cases_lt q k) [
-        | inl q-k ↦ omega (arith, up-same u (omega (arith, l, q-k)), up-same i (omega (arith, d, q-k)), b.atop.sorted.frond_rises u q i (omega (arith, four, fewer)) l (omega (arith, q-k, k-h)) (ow u (omega (arith, l, q-k)) ∙ (e ∙ sym (ow q q-k)))
-            (subst (λ (y : Item). y.tree ≡ false) (r.same u (omega (arith, l, q-k))) f) (subst (λ (y : Item). y.up ≤ s.at) (r.same u (omega (arith, l, q-k))) c) (subst (λ (y : Item). y.start ≤ i) (r.same q q-k) a) d)
+        | inl q-k ↦ omega (
+          arith,
+          up-same u (omega (arith, l, q-k)),
+          up-same i (omega (arith, d, q-k)),
+          b.atop.sorted.frond_rises u q i (omega (arith, four, fewer)) l (omega (arith, q-k, k-h)) (ow u (omega (arith, l, q-k)) ∙ (e ∙ sym (ow q q-k)))
+              (subst (λ (y : Item). y.tree ≡ false) (r.same u (omega (arith, l, q-k))) f) (subst (λ (y : Item). y.up ≤ s.at) (r.same u (omega (arith, l, q-k))) c) (subst (λ (y : Item). y.start ≤ i) (r.same q q-k) a) d,
+        )
         | inr q-k ↦
             let o = r.mid_old q q-k m in
             let z = old-mid q q-k m in
             let u-k : u < k = mid-front u q l m q-k in
             let i-q : i ≡ q = omega (arith, d, a, (r.mid q q-k m).1, q-k, m, few-j) in
-            omega (arith, up-same u u-k, ap (λ (y : ℕ). (item items y).up) i-q, ap (λ (y : Entry). y.first) o.3, b.atop.sorted.frond_rises u o.0 o.0 (omega (arith, four, fewer)) (omega (arith, u-k, o.1)) z.0 (ow u u-k ∙ (e ∙ z.1))
-            (subst (λ (y : Item). y.tree ≡ false) (r.same u u-k) f) (subst (λ (y : Item). y.up ≤ s.at) (r.same u u-k) c) z.2 (omega arith))
+            omega (
+              arith,
+              up-same u u-k,
+              ap (λ (y : ℕ). (item items y).up) i-q,
+              ap (λ (y : Entry). y.first) o.3,
+              b.atop.sorted.frond_rises u o.0 o.0 (omega (arith, four, fewer)) (omega (arith, u-k, o.1)) z.0 (ow u u-k ∙ (e ∙ z.1))
+                  (subst (λ (y : Item). y.tree ≡ false) (r.same u u-k) f) (subst (λ (y : Item). y.up ≤ s.at) (r.same u u-k) c) z.2 (omega arith),
+            )
       ];
     }
       where
@@ -129,13 +140,14 @@ module _ (g : Multigraph) (t : NumberedTree) (numbered : IsNumbered g t) (w : �
         old-mid q a l =
             let o = r.mid_old q a l in
             let frond : (item s.items o.0).tree ≡ false = elim (cases_Bool (item s.items o.0).tree) [ inr f ↦ f | inl f ↦ absurd (both_ways (keeps (item s.items o.0)) o.4 (r.trees (item s.items o.0) f)) ] in
-            let low : (item s.items o.0).low ≡ (item items q).low = ap (λ (y : Entry). y.second) o.3 in
-            (elim (cases_eq o.0 b.height) [
-              | inl e ↦ absurd (both_ways (item s.items o.0).tree frond (ap (λ (y : ℕ). (item s.items y).tree) e ∙ b.atop.tree))
-              | inr n ↦ omega (arith, n, o.2, b.atop.size)
-            ],
-            frond-owner (item items q) (frond-parts x.up x.low (item items q) (r.mid q a l).0).0 ∙ (sym low ∙ sym (frond-owner (item s.items o.0) frond)),
-            omega (arith, b.atop.stands.laid.frond_start o.0 o.2 frond))
+            let low : (item s.items o.0).low ≡ (item items q).low = ap (λ (y : Entry). y.second) o.3 in (
+              elim (cases_eq o.0 b.height) [
+                | inl e ↦ absurd (both_ways (item s.items o.0).tree frond (ap (λ (y : ℕ). (item s.items y).tree) e ∙ b.atop.tree))
+                | inr n ↦ omega (arith, n, o.2, b.atop.size)
+              ],
+              frond-owner (item items q) (frond-parts x.up x.low (item items q) (r.mid q a l).0).0 ∙ (sym low ∙ sym (frond-owner (item s.items o.0) frond)),
+              omega (arith, b.atop.stands.laid.frond_start o.0 o.2 frond),
+            )
 
         at-mid : (u q i : ℕ) → u < q → q < j → k ≤ q → owner (item items u) ≡ owner (item items q) → (item items q).start ≤ i → i ≤ q → (y : ℕ) × ((item items u).start ≤ y) × (y ≤ u) × ((item items y).up ≤ (item items i).up)
         at-mid u q i l m a e c d =
@@ -152,8 +164,10 @@ module _ (g : Multigraph) (t : NumberedTree) (numbered : IsNumbered g t) (w : �
     pub raised-now : (held : IsHeld g t.vertex now b.rest) → total ≤ s.total → AreFirst g.vertex_count s.at first items → ((i : ℕ) → 4 ≤ total → i < j → is_frond_to s.at (item items j).low (item items i) ≡ true → i + 1 ≡ j)
         → ((y : ℕ) → y ≢ 0 → IsOnPath last w y → take (at_place s.base y) cuts ≡ take (at_place s.base y) s.cuts) → ((y : ℕ) → y ≢ 0 → IsOnPath last w y → at_place s.base y ≤ length cuts)
         → AreSoundAt (at_place s.start w) s.at x.low items (drop (at_place s.base w) cuts) → AreCompleteAt (at_place s.start w) s.at x.low items (drop (at_place s.base w) cuts)
+        → ((c : ℕ) → c < length (drop (at_place s.base w) cuts) → s.at < (cut (drop (at_place s.base w) cuts) c).low)
         → IsRaised g t w now
-    raised-now held le firsts fronds cuts-same cuts-within sound complete = record {
+    raised-now held le firsts fronds cuts-same cuts-within sound complete lows = record {
+      cut_lows = lows;
       palm = b.palm;
       rest = b.rest;
       places = record { start = b.places.start; base = b.places.base; gone = b.places.gone };
@@ -192,31 +206,31 @@ module _ (g : Multigraph) (t : NumberedTree) (numbered : IsNumbered g t) (w : �
         | inr c ↦ absurd (omega (arith, u, up-now last s.done s.at k j keeps side x s.items items b.rest r i c l, x-up))
       ];
       child_met = λ y f u.
-        let i = b.child_met y f u in
-        elim (cases_lt i.0 k) [
-          | inl c ↦ (i.0, i.1, omega (arith, c, k-j, r.size), ap (λ (q : Item). q.up) (r.same i.0 c) ∙ i.3)
-          | inr c ↦ absurd (omega (arith, ups i.0 c i.2, i.3, u))
-        ];
+          let i = b.child_met y f u in
+          elim (cases_lt i.0 k) [
+            | inl c ↦ (i.0, i.1, omega (arith, c, k-j, r.size), ap (λ (q : Item). q.up) (r.same i.0 c) ∙ i.3)
+            | inr c ↦ absurd (omega (arith, ups i.0 c i.2, i.3, u))
+          ];
       reached = reached-new last s.done s.at k j keeps side x s.items items b.rest r (tree_dart g t.palm t.vertex) (at_place s.gone) (at_place s.start) b.frames starts b.reached;
       first = firsts;
       ahead = record {
         reach_ahead = λ u q i z p l o a d.
-          let q-k = path-front u q p l o in
-          let w' = b.ahead.reach_ahead u q i z p (omega (arith, q-k, k-h)) (ow q q-k ∙ o) a d in
-          (w'.0, subst (λ (y : Item). y.start ≤ w'.0) (sym (r.same q q-k)) w'.1, w'.2, omega (arith, w'.3, ap (λ (y : Item). y.up) (r.same w'.0 (omega (arith, w'.2, q-k)))));
+            let q-k = path-front u q p l o in
+            let w' = b.ahead.reach_ahead u q i z p (omega (arith, q-k, k-h)) (ow q q-k ∙ o) a d in
+            (w'.0, subst (λ (y : Item). y.start ≤ w'.0) (sym (r.same q q-k)) w'.1, w'.2, omega (arith, w'.3, ap (λ (y : Item). y.up) (r.same w'.0 (omega (arith, w'.2, q-k)))));
         frond_ahead = λ u q i four z p l o f a d.
-          let q-k = path-front u q p l o in
-          subst (λ (y : Item). (y.up < (tree_dart g t.palm t.vertex u i).reach) ⊎ ((y.up ≡ (tree_dart g t.palm t.vertex u i).reach) × (1 ≤ (tree_dart g t.palm t.vertex u i).class))) (sym (r.same q q-k))
-          (b.ahead.frond_ahead u q i (omega (arith, four, fewer)) z p (omega (arith, q-k, k-h)) (ow q q-k ∙ o) (subst (λ (y : Item). y.tree ≡ false) (r.same q q-k) f) a d);
+            let q-k = path-front u q p l o in
+            subst (λ (y : Item). (y.up < (tree_dart g t.palm t.vertex u i).reach) ⊎ ((y.up ≡ (tree_dart g t.palm t.vertex u i).reach) × (1 ≤ (tree_dart g t.palm t.vertex u i).class))) (sym (r.same q q-k))
+            (b.ahead.frond_ahead u q i (omega (arith, four, fewer)) z p (omega (arith, q-k, k-h)) (ow q q-k ∙ o) (subst (λ (y : Item). y.tree ≡ false) (r.same q q-k) f) a d);
       };
       ahead_last = λ q l o.
-        let q-k = front-owner q l o in
-        let w' = b.ahead_last q (omega (arith, q-k, k-h)) (ow q q-k ∙ o) in
-        (w'.0, subst (λ (y : Item). y.start ≤ w'.0) (sym (r.same q q-k)) w'.1, w'.2, omega (arith, w'.3, ap (λ (y : Item). y.up) (r.same w'.0 (omega (arith, w'.2, q-k)))));
+          let q-k = front-owner q l o in
+          let w' = b.ahead_last q (omega (arith, q-k, k-h)) (ow q q-k ∙ o) in
+          (w'.0, subst (λ (y : Item). y.start ≤ w'.0) (sym (r.same q q-k)) w'.1, w'.2, omega (arith, w'.3, ap (λ (y : Item). y.up) (r.same w'.0 (omega (arith, w'.2, q-k)))));
       frond_last = λ q four l o f.
-        let q-k = front-owner q l o in
-        subst (λ (y : Item). (y.up < (tree_dart g t.palm t.vertex s.at b.place).reach) ⊎ ((y.up ≡ (tree_dart g t.palm t.vertex s.at b.place).reach) × (1 ≤ (tree_dart g t.palm t.vertex s.at b.place).class))) (sym (r.same q q-k))
-        (b.frond_last q (omega (arith, four, fewer)) (omega (arith, q-k, k-h)) (ow q q-k ∙ o) (subst (λ (y : Item). y.tree ≡ false) (r.same q q-k) f));
+          let q-k = front-owner q l o in
+          subst (λ (y : Item). (y.up < (tree_dart g t.palm t.vertex s.at b.place).reach) ⊎ ((y.up ≡ (tree_dart g t.palm t.vertex s.at b.place).reach) × (1 ≤ (tree_dart g t.palm t.vertex s.at b.place).class))) (sym (r.same q q-k))
+          (b.frond_last q (omega (arith, four, fewer)) (omega (arith, q-k, k-h)) (ow q q-k ∙ o) (subst (λ (y : Item). y.tree ≡ false) (r.same q q-k) f));
       below = below-kept last (tree_parent t.palm t.vertex) w (at_place s.start) (at_place s.base) s.items items s.cuts cuts b.below
           (λ y z p. alike-take items s.items (at_place s.start y) (omega (arith, start-w y z p, s-k, k-j, r.size)) (omega (arith, start-w y z p, s-k, r.within)) (λ i l. r.same i (omega (arith, l, start-w y z p, s-k)))) cuts-same cuts-within;
       sound = subst (λ (y : ℕ). AreSoundAt (at_place s.start w) s.at y items (drop (at_place s.base w) cuts)) (sym (ap (λ (y : Item). y.low) r.top)) sound;

@@ -99,15 +99,18 @@ module _ (n : ℕ) (vertex : ℕ → ℕ) (apart : (x y : ℕ) → x < n → y <
   pub renamed-back : (s : ℕ → Bool) (p q : ℕ) → IsSeparation (map f entries) s p q → (x y : ℕ) × IsSeparation entries s x y
   renamed-back s p q c =
       let a = common-back s p c.first_common in
-      let b = common-back s q c.second_common in
-      (a.0, b.0, record {
-        differ = λ e. c.differ (sym a.2 ∙ (ap vertex e ∙ b.2));
-        first_common = a.3;
-        second_common = b.3;
-        no_other = λ x h. let z = common-to s x h in elim (c.no_other (vertex x) z.1) [ inl e ↦ inl (apart x a.0 z.0 a.1 (e ∙ sym a.2)) | inr e ↦ inr (apart x b.0 z.0 b.1 (e ∙ sym b.2)) ];
-        two_inside = omega (arith, c.two_inside, count-on s);
-        two_outside = omega (arith, c.two_outside, count-on (λ k. not (s k)));
-      })
+      let b = common-back s q c.second_common in (
+        a.0,
+        b.0,
+        record {
+          differ = λ e. c.differ (sym a.2 ∙ (ap vertex e ∙ b.2));
+          first_common = a.3;
+          second_common = b.3;
+          no_other = λ x h. let z = common-to s x h in elim (c.no_other (vertex x) z.1) [ inl e ↦ inl (apart x a.0 z.0 a.1 (e ∙ sym a.2)) | inr e ↦ inr (apart x b.0 z.0 b.1 (e ∙ sym b.2)) ];
+          two_inside = omega (arith, c.two_inside, count-on s);
+          two_outside = omega (arith, c.two_outside, count-on (λ k. not (s k)));
+        },
+      )
 
   pub renamed-minimal : (s : ℕ → Bool) → IsMinimal entries s → IsMinimal (map f entries) s
   renamed-minimal s least t p q c inside =

@@ -96,11 +96,17 @@ module _ (last : ℕ → ℕ) (v w s h : ℕ) (old stack : List Item) (rest : Li
           | inl k ↦
               let l-in : a.low < h = omega (arith, a.low_within, x.within, f.size) in
               x.across z (omega (arith, n, past-w z a.low (omega (arith, l-in, size)) g a.low_end)) (record {
-                low = a.low; low_within = a.low_within; low_end = subst (λ (y : Item). has_end z (entry y) ≡ true) (sym (f.same a.low l-in)) a.low_end;
-                high = a.high; high_from = a.high_from; high_within = omega (arith, k, f.size); high_end = subst (λ (y : Item). has_end z (entry y) ≡ true) (sym (f.same a.high k)) a.high_end;
+                low = a.low;
+                low_within = a.low_within;
+                low_end = subst (λ (y : Item). has_end z (entry y) ≡ true) (sym (f.same a.low l-in)) a.low_end;
+                high = a.high;
+                high_from = a.high_from;
+                high_within = omega (arith, k, f.size);
+                high_end = subst (λ (y : Item). has_end z (entry y) ≡ true) (sym (f.same a.high k)) a.high_end;
               })
         ]
       ]
+
   pub return-sound : (cuts : List Triple) → AreSound s w old cuts → AreSoundAt s v w stack cuts
   return-sound cuts x = record {
     each = λ k l n. cut-back (cut cuts k) (x.each k l);
@@ -244,18 +250,18 @@ module _ (last : ℕ → ℕ) (done v s h : ℕ) (stack : List Item) (rest : Lis
   pub kill-sound : AreSoundAt s v w stack (kept ++ popped) → ((k : ℕ) → k < length (kept ++ popped) → (cut (kept ++ popped) k).up ≡ v → ⊥) → ((k : ℕ) → k < length kept → IsBefore stack (cut kept k).start v → ⊥) → AreSound s v stack kept
   kill-sound x none own = record {
     each = λ k l.
-      let more : k < length (kept ++ popped) = omega (arith, l, length-append kept popped) in
-      let y : IsSoundAt s v w stack (cut kept k) = subst (IsSoundAt s v w stack) (cut-left kept popped k l) (x.each k more (λ e g. none k more e)) in
-      record {
-        from = y.from;
-        within = y.within;
-        starts = y.starts;
-        below = inr y.below;
-        least = y.least;
-        up = less k l more y.up;
-        across = y.across;
-        own = λ n b. own k l b;
-      };
+        let more : k < length (kept ++ popped) = omega (arith, l, length-append kept popped) in
+        let y : IsSoundAt s v w stack (cut kept k) = subst (IsSoundAt s v w stack) (cut-left kept popped k l) (x.each k more (λ e g. none k more e)) in
+        record {
+          from = y.from;
+          within = y.within;
+          starts = y.starts;
+          below = inr y.below;
+          least = y.least;
+          up = less k l more y.up;
+          across = y.across;
+          own = λ n b. own k l b;
+        };
     chain = chain-front stack kept popped x.chain;
   }
     where
@@ -331,7 +337,7 @@ module _ (last : ℕ → ℕ) (done v k j h : ℕ) (keeps : Item → Bool) (side
         | inl a ↦ let e = sym (r.same y.below.place a) in record { place = y.below.place; tree_at = record { within = omega (arith, a, k-j, r.size); tree = subst (λ (i : Item). i.tree ≡ true) e y.below.tree_at.tree; low = subst (λ (i : Item). i.low ≡ c.low) e y.below.tree_at.low }; starts = subst (λ (i : Item). i.start ≡ s) e y.below.starts }
         | inr a ↦
             let z = across last done v k j keeps side x old new rest r y.starts.place y.below.place c.low r-k a y.below.tree_at.within (r.trees (item old y.below.place) y.below.tree_at.tree)
-                (subst (λ (q : ℕ). has_end q (entry (item old y.starts.place)) ≡ true) y.starts.owned (owner-end (item old y.starts.place))) (low-end c.low (item old y.below.place) (sym y.below.tree_at.low)) in
+            (subst (λ (q : ℕ). has_end q (entry (item old y.starts.place)) ≡ true) y.starts.owned (owner-end (item old y.starts.place))) (low-end c.low (item old y.below.place) (sym y.below.tree_at.low)) in
             elim z [
               | inl e ↦ absurd (omega (arith, e, x-up, c-v))
               | inr e ↦ record { place = j; tree_at = subst (λ (q : ℕ). IsTreeAt new q j) (sym e) new-top; starts = ap (λ (i : Item). i.start) r.top ∙ start }
@@ -371,8 +377,8 @@ module _ (last : ℕ → ℕ) (done v k j h : ℕ) (keeps : Item → Bool) (side
       → AreSoundAt s v wl old cuts → AreSoundAt s v b new cuts
   replaced-sound s start cuts within at-k stale darts y = record {
     each = λ c l n.
-      let less : (cut cuts c).start < k = elim (cases_eq (cut cuts c).start k) [ inl e ↦ absurd (n (at-k c l e).0 (at-k c l e).1) | inr m ↦ omega (arith, m, within c l) ] in
-      replaced-cut s start (cut cuts c) less (λ o m p q. darts c o l less m p q) (y.each c l (λ e g. n e (g ∙ sym (stale c l e g))));
+        let less : (cut cuts c).start < k = elim (cases_eq (cut cuts c).start k) [ inl e ↦ absurd (n (at-k c l e).0 (at-k c l e).1) | inr m ↦ omega (arith, m, within c l) ] in
+        replaced-cut s start (cut cuts c) less (λ o m p q. darts c o l less m p q) (y.each c l (λ e g. n e (g ∙ sym (stale c l e g))));
     up_within = y.up_within;
     chain = record {
       starts_rise = y.chain.starts_rise;

@@ -86,8 +86,12 @@ module _ (last : ℕ → ℕ) (done v s h : ℕ) (stack : List Item) (rest : Lis
       two-pass (λ (y : Entry). not (side y.name)) e.0 d.entry (family stack rest) (λ k. d.other (sym (ap (λ (y : Entry). y.name) k))) (rest-contains stack rest e.0 e.1) d.within (not_from_false (side e.0.name) (off e.0 e.1)) (not_from_false (side d.entry.name) (other d.entry d.within d.end))
     where
       two : 2 ≤ length (family stack rest)
-      two = omega (arith, length-sides (family stack rest) (λ n. side_at stack (λ k. true) n), side-two stack rest stands.left.is_family (side_at stack (λ k. true)) s h (s-h last done v s h stack rest back) h-in
-          (side-place stack rest stands.left.is_family (λ k. true) s (omega (arith, s-h last done v s h stack rest back, h-in))) (side-place stack rest stands.left.is_family (λ k. true) h h-in))
+      two = omega (
+        arith,
+        length-sides (family stack rest) (λ n. side_at stack (λ k. true) n),
+        side-two stack rest stands.left.is_family (side_at stack (λ k. true)) s h (s-h last done v s h stack rest back) h-in
+            (side-place stack rest stands.left.is_family (λ k. true) s (omega (arith, s-h last done v s h stack rest back, h-in))) (side-place stack rest stands.left.is_family (λ k. true) h h-in),
+      )
 
       other : (y : Entry) → Contains (family stack rest) y → has_end z.0 y ≡ true → side y.name ≡ false
       other y c k = elim (family-cases stack rest y c) [
@@ -203,9 +207,10 @@ module _ (last : ℕ → ℕ) (done v s h : ℕ) (stack : List Item) (rest : Lis
 
     -- the dart that starts there lies in front of the tree edge
     dart-behind : (c.start ≤ sound.starts.place) × (sound.starts.place ≤ sound.below.place)
-    dart-behind =
-        (omega (arith, sound.starts.starts, start-at last done v stack rest stands sound.starts.place sound.starts.within),
-        (touching-tree last done v stack rest stands b sound.below.place sound.starts.place tree-b sound.starts.within (subst (λ (z : ℕ). has_end z (entry (item stack sound.starts.place)) ≡ true) sound.starts.owned (owner-end (item stack sound.starts.place)))).1)
+    dart-behind = (
+      omega (arith, sound.starts.starts, start-at last done v stack rest stands sound.starts.place sound.starts.within),
+      (touching-tree last done v stack rest stands b sound.below.place sound.starts.place tree-b sound.starts.within (subst (λ (z : ℕ). has_end z (entry (item stack sound.starts.place)) ≡ true) sound.starts.owned (owner-end (item stack sound.starts.place)))).1,
+    )
 
     below-h : sound.below.place < h
     below-h = elim (cases_eq sound.below.place h) [
@@ -255,8 +260,15 @@ module _ (last : ℕ → ℕ) (done v s h : ℕ) (stack : List Item) (rest : Lis
           | inl e ↦ inner below.place below.tree_at.within below.starts (omega (arith, a, t.1)) e
           | inr e ↦ elim (cases_eq below.place sound.below.place) [
             | inl y ↦ n (sym below.tree_at.low ∙ (ap (λ (o : ℕ). (item stack o).low) y ∙ tree-b.low))
-            | inr y ↦ omega (arith, n, m, tree-b.low, below.tree_at.low, (stands.laid.inside below.place sound.below.place below.tree_at.within below.tree_at.tree
-                (omega (arith, below.starts, sound.from, dart-behind)) (omega (arith, e))).0)
+            | inr y ↦ omega (
+              arith,
+              n,
+              m,
+              tree-b.low,
+              below.tree_at.low,
+              (stands.laid.inside below.place sound.below.place below.tree_at.within below.tree_at.tree
+                  (omega (arith, below.starts, sound.from, dart-behind)) (omega (arith, e))).0,
+            )
           ]
         ]
       where
@@ -342,8 +354,14 @@ module _ (last : ℕ → ℕ) (done v s h : ℕ) (stack : List Item) (rest : Lis
           ] in
           absurd (dart-alone last done v stack rest stands o.dart (omega (arith, o.within, tree-b.within))
           (λ j a d. omega (arith, p.1, back.sorted.frond_rises i o.dart j four (omega (arith, at, l, n)) (omega (arith, o.within, below-h)) (frond-owner (item stack i) p.0 ∙ (p.2 ∙ sym (o.owned ∙ tree-b.low))) p.0 (omega (arith, p.1)) a d))
-          (λ z q j a d tr m e g x. omega (arith, d, o.owned, tree-b.low, sound.across z a
-          (record { low = j; low_within = omega (arith, g, at); low_end = x; high = q; high_from = omega (arith, m, at); high_within = tr.within; high_end = low-end z (item stack q) (sym tr.low) }))))
+          (λ z q j a d tr m e g x. omega (
+            arith,
+            d,
+            o.owned,
+            tree-b.low,
+            sound.across z a
+                (record { low = j; low_within = omega (arith, g, at); low_end = x; high = q; high_from = omega (arith, m, at); high_within = tr.within; high_end = low-end z (item stack q) (sym tr.low) }),
+          )))
     ]
 
   -- two fronds from one vertex to v are not both in the stack

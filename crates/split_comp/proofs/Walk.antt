@@ -148,39 +148,42 @@ module _ (n m : ℕ) (parent degree : ℕ → ℕ) (dart : ℕ → ℕ → Dart)
 
     -- the search returns from v to its parent
     pub walk-return : (more : ℕ → ℕ) → v ≢ 0 → gone v ≡ degree v → IsOneMore (parent v) gone more → (done ≡ v + 1) × IsWalk n last parent degree dart (parent v) v more
-    walk-return more z all h = (next, record {
-      current = less.0;
-      within = omega (arith, v-in);
-      spans = λ x p. omega (arith, (up x p).1);
-      gone_within = λ u l. elim (cases_eq u (parent v)) [ inl e ↦ omega (arith, ap more e, ap degree e, h.0, way.0) | inr e ↦ omega (arith, h.1 u e, walk.gone_within u l) ];
-      tree_gone = λ u k l b t g. elim (cases_eq u (parent v)) [
-        | inr e ↦ omega (arith, next, walk.tree_gone u k l b t (omega (arith, g, h.1 u e)))
-        | inl e ↦ elim (cases_eq k (gone (parent v))) [
-          | inl q ↦ omega (arith, way.2, ap (λ (y : ℕ). (dart u y).far) q, ap (λ (y : ℕ). (dart y (gone (parent v))).far) e)
-          | inr q ↦ omega (arith, next, walk.tree_gone u k l b t (omega (arith, g, q, ap more e, ap gone e, h.0)))
-        ]
-      ];
-      tree_left = λ u k l b t g. elim (cases_eq (dart u k).far v) [
-        | inr e ↦ omega (arith, e, next, walk.tree_left u k l b t (elim (cases_eq u (parent v)) [ inl q ↦ omega (arith, g, ap more q, ap gone q, h.0) | inr q ↦ omega (arith, g, h.1 u q) ]))
-        | inl e ↦
-            let pu : u ≡ parent v = sym (palm.tree_far u k l b t).3 ∙ ap parent e in
-            let kk : k ≡ gone (parent v) = palm.tree_once u k (gone (parent v)) l b (omega (arith, way.0, ap degree pu)) t (subst (λ (y : ℕ). (dart y (gone (parent v))).tree ≡ true) (sym pu) way.1) (e ∙ sym (ap (λ (y : ℕ). (dart y (gone (parent v))).far) pu ∙ way.2)) in
-            absurd (omega (arith, g, kk, ap more pu, h.0))
-      ];
-      finished = λ u l d. elim (cases_eq u v) [
-        | inl e ↦ ap more e ∙ (h.1 v (λ q. omega (arith, q, less.0)) ∙ (all ∙ ap degree (sym e)))
-        | inr e ↦ h.1 u (λ q. omega (arith, q, d, less.0)) ∙ walk.finished u l (omega (arith, d, e, next))
-      ];
-      fresh = λ u l p. elim (cases_eq u (parent v)) [
-        | inl e ↦ absurd (p (subst (IsOnPath last (parent v)) (sym e) (omega arith, palm.above (parent v))))
-        | inr e ↦ h.1 u e ∙ walk.fresh u (omega (arith, l, walk.current)) (λ q. p (let w = palm.ancestors v u v-in l q.1 in (w.0, w.1)))
-      ];
-      under_way = λ x y p.
-        let q = up x p in
-        let w = walk.under_way x y (omega (arith, p.0, less.0), q.0) in
-        let e : parent x ≢ parent v = λ k. omega (arith, k, p.0, (palm.parent_less x (omega (arith, p.0, less.0, v-in)) y).0) in
-        (omega (arith, w.0, h.1 (parent x) e), subst (λ (k : ℕ). (dart (parent x) k).tree ≡ true) (sym (h.1 (parent x) e)) w.1, subst (λ (k : ℕ). (dart (parent x) k).far ≡ x) (sym (h.1 (parent x) e)) w.2);
-    })
+    walk-return more z all h = (
+      next,
+      record {
+        current = less.0;
+        within = omega (arith, v-in);
+        spans = λ x p. omega (arith, (up x p).1);
+        gone_within = λ u l. elim (cases_eq u (parent v)) [ inl e ↦ omega (arith, ap more e, ap degree e, h.0, way.0) | inr e ↦ omega (arith, h.1 u e, walk.gone_within u l) ];
+        tree_gone = λ u k l b t g. elim (cases_eq u (parent v)) [
+          | inr e ↦ omega (arith, next, walk.tree_gone u k l b t (omega (arith, g, h.1 u e)))
+          | inl e ↦ elim (cases_eq k (gone (parent v))) [
+            | inl q ↦ omega (arith, way.2, ap (λ (y : ℕ). (dart u y).far) q, ap (λ (y : ℕ). (dart y (gone (parent v))).far) e)
+            | inr q ↦ omega (arith, next, walk.tree_gone u k l b t (omega (arith, g, q, ap more e, ap gone e, h.0)))
+          ]
+        ];
+        tree_left = λ u k l b t g. elim (cases_eq (dart u k).far v) [
+          | inr e ↦ omega (arith, e, next, walk.tree_left u k l b t (elim (cases_eq u (parent v)) [ inl q ↦ omega (arith, g, ap more q, ap gone q, h.0) | inr q ↦ omega (arith, g, h.1 u q) ]))
+          | inl e ↦
+              let pu : u ≡ parent v = sym (palm.tree_far u k l b t).3 ∙ ap parent e in
+              let kk : k ≡ gone (parent v) = palm.tree_once u k (gone (parent v)) l b (omega (arith, way.0, ap degree pu)) t (subst (λ (y : ℕ). (dart y (gone (parent v))).tree ≡ true) (sym pu) way.1) (e ∙ sym (ap (λ (y : ℕ). (dart y (gone (parent v))).far) pu ∙ way.2)) in
+              absurd (omega (arith, g, kk, ap more pu, h.0))
+        ];
+        finished = λ u l d. elim (cases_eq u v) [
+          | inl e ↦ ap more e ∙ (h.1 v (λ q. omega (arith, q, less.0)) ∙ (all ∙ ap degree (sym e)))
+          | inr e ↦ h.1 u (λ q. omega (arith, q, d, less.0)) ∙ walk.finished u l (omega (arith, d, e, next))
+        ];
+        fresh = λ u l p. elim (cases_eq u (parent v)) [
+          | inl e ↦ absurd (p (subst (IsOnPath last (parent v)) (sym e) (omega arith, palm.above (parent v))))
+          | inr e ↦ h.1 u e ∙ walk.fresh u (omega (arith, l, walk.current)) (λ q. p (let w = palm.ancestors v u v-in l q.1 in (w.0, w.1)))
+        ];
+        under_way = λ x y p.
+            let q = up x p in
+            let w = walk.under_way x y (omega (arith, p.0, less.0), q.0) in
+            let e : parent x ≢ parent v = λ k. omega (arith, k, p.0, (palm.parent_less x (omega (arith, p.0, less.0, v-in)) y).0) in
+            (omega (arith, w.0, h.1 (parent x) e), subst (λ (k : ℕ). (dart (parent x) k).tree ≡ true) (sym (h.1 (parent x) e)) w.1, subst (λ (k : ℕ). (dart (parent x) k).far ≡ x) (sym (h.1 (parent x) e)) w.2);
+      },
+    )
       where
         less : (parent v < v) × (v < last (parent v))
         less = palm.parent_less v v-in z
@@ -226,9 +229,10 @@ module _ (n m : ℕ) (parent degree : ℕ → ℕ) (dart : ℕ → ℕ → Dart)
       left-tree : (u k : ℕ) → u < n → gone u ≤ k → k < degree u → (dart u k).tree ≡ true → (touches rest u ≡ true) × (touches rest (dart u k).far ≡ true)
       left-tree u k l g b t = elim (dart-first u (dart u k)) [
         | inr i ↦ absurd (both_ways (dart u k).tree i.0 t)
-        | inl i ↦
-            (touches-from rest u (dart_entry u (dart u k)) (left.left u k l g b) (first-end u (dart_entry u (dart u k)) (sym i.1)),
-            touches-from rest (dart u k).far (dart_entry u (dart u k)) (left.left u k l g b) (second-end (dart u k).far (dart_entry u (dart u k)) (sym i.2)))
+        | inl i ↦ (
+          touches-from rest u (dart_entry u (dart u k)) (left.left u k l g b) (first-end u (dart_entry u (dart u k)) (sym i.1)),
+          touches-from rest (dart u k).far (dart_entry u (dart u k)) (left.left u k l g b) (second-end (dart u k).far (dart_entry u (dart u k)) (sym i.2)),
+        )
       ]
 
       pub left-on_path : gone 0 < degree 0 → (z : ℕ) → IsOnPath last v z → touches rest z ≡ true
@@ -289,9 +293,9 @@ module _ (n m : ℕ) (parent degree : ℕ → ℕ) (dart : ℕ → ℕ → Dart)
       left = λ u k b g d. contains-filter (λ (e : Entry). not (e.name == x.name)) (dart_entry u (dart u k)) rest (left.left u k b (omega (arith, g, rises u)) d)
           (not_from_false ((dart u k).edge == x.name) (ne_eqb (dart u k).edge x.name (λ q. other u k b g d (palm.dart_once u k v (gone v) b d l a q))));
       only = λ e c.
-        let d = filter-contains (λ (e : Entry). not (e.name == x.name)) e rest c in
-        let w = left.only e d.0 in
-        (w.0, w.1, w.2, behind e w.0 w.1 w.3 w.5 (not-true (e.name == x.name) d.1), w.4, w.5);
+          let d = filter-contains (λ (e : Entry). not (e.name == x.name)) e rest c in
+          let w = left.only e d.0 in
+          (w.0, w.1, w.2, behind e w.0 w.1 w.3 w.5 (not-true (e.name == x.name) d.1), w.4, w.5);
     }
       where
         rises : (u : ℕ) → gone u ≤ more u

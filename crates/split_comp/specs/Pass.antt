@@ -208,6 +208,7 @@ pub record IsRaised (g : Multigraph) (t : NumberedTree) (w : ℕ) (s : PassState
   pub below : AreCutsBelow palm.last (tree_parent t.palm t.vertex) w (at_place s.start) (at_place s.base) s.items s.cuts
   pub sound : AreSoundAt (at_place s.start w) s.at (item s.items height).low s.items (drop (at_place s.base w) s.cuts)
   pub complete : AreCompleteAt (at_place s.start w) s.at (item s.items height).low s.items (drop (at_place s.base w) s.cuts)
+  pub cut_lows : (c : ℕ) → c < length (drop (at_place s.base w) s.cuts) → s.at < (cut (drop (at_place s.base w) s.cuts) c).low
 
 -- and there is none
 pub record IsBack (g : Multigraph) (t : NumberedTree) (w : ℕ) (s : PassState) : Type 0 where
