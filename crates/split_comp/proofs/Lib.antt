@@ -23,3 +23,4 @@ pub mod Firsts
 pub mod Fronted
 pub mod Raising
 pub mod Joining
+pub mod Reducing
