@@ -24,3 +24,4 @@ pub mod Fronted
 pub mod Raising
 pub mod Joining
 pub mod Reducing
+pub mod Pairing
