@@ -1,6 +1,6 @@
 -- The pass has returned: what lies behind the last cut is split off, where its upper end is the vertex.
 use Rattle.std.proofs.Common.{◌≡◌, ◌≢◌, ℕ, zero, suc, ◌+◌, ◌-◌, ◌<◌, ◌≤◌, ◌⊎◌, inl, inr, Bool, true, false, not, nat_lt, ◌&&◌, if◌then◌else◌, Option, None, Some, List, [], ◌∷◌, ◌++◌, length, map, filter, take, drop, slice_index, slice_index_or, refl, sym, ap, ◌∙◌, subst, arith, Contains}
-use Rattle.std.proofs.lemmas.Bool.{cases_Bool, cases_lt, cases_eq, both_ways, not_from_false, false_from_ne_true}
+use Rattle.std.proofs.lemmas.Bool.{cases_Bool, cases_lt, cases_eq, both_ways, not_from_false, false_from_ne_true, eq-eqb}
 use Rattle.std.proofs.lemmas.List.{length-append, length-map, length-take-le, length-drop, get_or-drop}
 use Rattle.std.proofs.lemmas.List.Elements.{Contains-push_cases}
 use Rattle.multigraph.specs.Graph.{Multigraph, edge_count}
@@ -266,3 +266,186 @@ module _ (g : Multigraph) (t : NumberedTree) (numbered : IsNumbered g t) (w : �
           where
             k-j : k ≤ j
             k-j = elim renewed.few [ inl q ↦ omega (arith, q) | inr q ↦ omega (arith, q) ]
+
+      shape-x : ((x.tree ≡ true) × ((p : ℕ) × IsTreeAt s.items x.low p × (k ≤ p) × ((item s.items p).start ≡ x.start) × (x.start < k))) ⊎ ((x.tree ≡ false) × (x.low ≡ s.at) × (x.start ≡ k))
+      shape-x = inl (refl, (sound.below.place, tree-b, omega (arith, behind), sound.below.starts, sound.from))
+
+      fresh-x : (y : Entry) → Contains (family s.items b.raised.rest) y → y.name ≢ x.name
+      fresh-x y d q = omega (arith, q, item-name g t numbered s b.raised.rest b.raised.held stands.left.is_family y d)
+
+      front-length : length (take k s.items) ≡ k
+      front-length = length-take-le k s.items (omega (arith, k-in))
+
+      trees-go : (y : Item) → y.tree ≡ true → but_frond s.at c.low y ≡ true
+      trees-go y q = rw q refl
+
+      -- no frond stays apart
+      module _ (found : IsFrondFound s.at c.low (drop k s.items) None) where
+        abbrev now : PassState
+        now = pushed (after (take k s.items) s.first) x
+
+        off-frond : (o : ℕ) → k ≤ o → o < length s.items → is_frond_to s.at c.low (item s.items o) ≡ false
+        off-frond o a l = subst (λ (y : Item). is_frond_to s.at c.low y ≡ false) (get_or-drop k s.items (o - k) no_item ∙ ap (item s.items) (omega (arith, a))) (found (o - k) (omega (arith, a, l, length-drop k s.items)))
+
+        alone-renewed : IsRenewed b.raised.palm.last s.done s.at k k (but_frond s.at c.low) side x s.items now.items b.raised.rest
+        alone-renewed = record {
+          stands = stands;
+          within = k-in;
+          size = length-push (take k s.items) x ∙ ap (λ (n : ℕ). n + 1) front-length;
+          few = inl refl;
+          same = λ i l. item-front (take k s.items) x i (omega (arith, l, front-length)) ∙ item-take s.items k i l;
+          top = item-last (take k s.items) x k (sym front-length);
+          mid = λ i a d. absurd (omega (arith, a, d));
+          mid_old = λ i a d. absurd (omega (arith, a, d));
+          mid_new = λ o a l f. absurd (both_ways (but_frond s.at c.low (item s.items o)) f (not_from_false (is_frond_to s.at c.low (item s.items o)) (off-frond o a l)));
+          cut = off;
+          separates = sep;
+          rises = rises-x;
+          fresh = fresh-x;
+          up_path = (omega arith, stands.above s.at);
+          trees = trees-go;
+          shape = shape-x;
+        }
+
+        alone-first : AreFirst g.vertex_count s.at now.first now.items
+        alone-first = first-new b.raised.palm.last s.done s.at k k (but_frond s.at c.low) side x s.items now.items b.raised.rest alone-renewed g.vertex_count s.first now.first b.raised.first
+            (lowered-length (lowered s.first x.up (length (take k s.items))) x.low (length (take k s.items)) ∙ (lowered-length s.first x.up (length (take k s.items)) ∙ b.raised.first.places))
+            (λ z. elim (pushed-at s.first x.up x.low (length (take k s.items)) z (omega (arith, v-in, b.raised.first.places)) (omega (arith, low-in, b.raised.first.places))) [
+              | inl q ↦ inl q
+              | inr q ↦ inr (omega (arith, q.0, front-length), omega (arith, q.0, front-length), omega (arith, q.0, q.1), q.2)
+            ])
+            (λ z i a d q. omega (arith, pushed-here s.first x.up x.low (length (take k s.items)) z (omega (arith, v-in, b.raised.first.places)) (omega (arith, low-in, b.raised.first.places)) q, front-length, a))
+
+        alone-fronds : (i : ℕ) → 4 ≤ s.total → i < k → is_frond_to s.at (item now.items k).low (item now.items i) ≡ true → i + 1 ≡ k
+        alone-fronds i four l p = pair-frond b.raised.palm.last s.done s.at start h s.items b.raised.rest back c sound c-up other (omega (arith, four, b.raised.held.total)) i l
+            (subst (λ (y : Item). is_frond_to s.at c.low y ≡ true) (alone-renewed.same i l) (subst (λ (y : Item). is_frond_to s.at y.low (item now.items i) ≡ true) alone-renewed.top p))
+
+        pub alone-raised : IsRaised g t w (pushed (after (take k s.items) s.first) x)
+        alone-raised = pair-raised k now.items now.first alone-renewed alone-first alone-fronds
+
+        pub alone-starts : (i : ℕ) → i < length (drop (at_place s.base w) (take (length s.cuts - 1) s.cuts)) → (cut (drop (at_place s.base w) (take (length s.cuts - 1) s.cuts)) i).start < alone-raised.height
+        alone-starts i l = omega (arith, (front-rises i l).0, alone-raised.atop.size, alone-renewed.size)
+
+      -- a frond stays apart
+      module _ (name : ℕ) (found : IsFrondFound s.at c.low (drop k s.items) (Some name)) where
+        abbrev f : Item
+        f = record { name = name; up = s.at; low = c.low; tree = false; start = k }
+
+        abbrev one : PassState
+        one = pushed (after (take k s.items) s.first) f
+
+        abbrev both : PassState
+        both = pushed one x
+
+        -- where it was
+        abbrev o : ℕ
+        o = k + found.0
+
+        o-in : o < length s.items
+        o-in = omega (arith, found.1, length-drop k s.items)
+
+        o-frond : is_frond_to s.at c.low (item s.items o) ≡ true
+        o-frond = subst (λ (y : Item). is_frond_to s.at c.low y ≡ true) (get_or-drop k s.items found.0 no_item) found.2
+
+        o-parts : ((item s.items o).tree ≡ false) × ((item s.items o).up ≡ s.at) × ((item s.items o).low ≡ c.low)
+        o-parts = frond-parts s.at c.low (item s.items o) o-frond
+
+        o-name : name ≡ (item s.items o).name
+        o-name = found.3 ∙ ap (λ (y : Item). y.name) (get_or-drop k s.items found.0 no_item)
+
+        o-entry : entry (item s.items o) ≡ entry f
+        o-entry = λ i. record { name = sym o-name i; first = o-parts.1 i; second = o-parts.2 i }
+
+        o-h : o < b.raised.height
+        o-h = elim (cases_eq o b.raised.height) [
+          | inl q ↦ absurd (both_ways (item s.items o).tree o-parts.0 (ap (λ (i : ℕ). (item s.items i).tree) q ∙ b.raised.atop.tree))
+          | inr q ↦ omega (arith, q, o-in, b.raised.atop.size)
+        ]
+
+        -- there is no other
+        only : (i : ℕ) → i < length s.items → is_frond_to s.at c.low (item s.items i) ≡ true → i ≡ o
+        only i l p = elim (cases_eq i o) [
+          | inl q ↦ q
+          | inr q ↦
+              let i-h : i < b.raised.height = elim (cases_eq i b.raised.height) [
+                | inl d ↦ absurd (both_ways (item s.items i).tree (frond-parts s.at c.low (item s.items i) p).0 (ap (λ (j : ℕ). (item s.items j).tree) d ∙ b.raised.atop.tree))
+                | inr d ↦ omega (arith, d, l, b.raised.atop.size)
+              ] in
+              absurd (elim (cases_lt i o) [
+                | inl d ↦ fronds-once b.raised.palm.last s.done s.at start h s.items b.raised.rest back c.low i o d o-h p o-frond
+                | inr d ↦ fronds-once b.raised.palm.last s.done s.at start h s.items b.raised.rest back c.low o i (omega (arith, d, q)) i-h o-frond p
+              ])
+        ]
+
+        one-length : length (take k s.items ++ f ∷ []) ≡ k + 1
+        one-length = length-push (take k s.items) f ∙ ap (λ (n : ℕ). n + 1) front-length
+
+        both-same : (i : ℕ) → i < k → item both.items i ≡ item s.items i
+        both-same i l = item-front (take k s.items ++ f ∷ []) x i (omega (arith, l, one-length)) ∙ (item-front (take k s.items) f i (omega (arith, l, front-length)) ∙ item-take s.items k i l)
+
+        both-mid : (i : ℕ) → k ≤ i → i < k + 1 → item both.items i ≡ f
+        both-mid i a l = item-front (take k s.items ++ f ∷ []) x i (omega (arith, l, one-length)) ∙ item-last (take k s.items) f i (omega (arith, a, l, front-length))
+
+        both-renewed : IsRenewed b.raised.palm.last s.done s.at k (k + 1) (but_frond s.at c.low) side x s.items both.items b.raised.rest
+        both-renewed = record {
+          stands = stands;
+          within = k-in;
+          size = length-push (take k s.items ++ f ∷ []) x ∙ ap (λ (n : ℕ). n + 1) one-length;
+          few = inr refl;
+          same = both-same;
+          top = item-last (take k s.items ++ f ∷ []) x (k + 1) (sym one-length);
+          mid = λ i a d. (subst (λ (y : Item). is_frond_to s.at c.low y ≡ true) (sym (both-mid i a d)) frond-f, ap (λ (y : Item). y.start) (both-mid i a d), refl);
+          mid_old = λ i a d. (o, omega arith, o-in, o-entry ∙ ap entry (sym (both-mid i a d)), goes-not (is_frond_to s.at c.low (item s.items o)) o-frond);
+          mid_new = λ i a l q.
+            let same = only i l (goes-back (is_frond_to s.at c.low (item s.items i)) q) in
+            (k, omega arith, omega arith, ap (λ (z : ℕ). entry (item s.items z)) same ∙ (o-entry ∙ ap entry (sym (both-mid k (omega arith) (omega arith)))));
+          cut = off;
+          separates = sep;
+          rises = rises-x;
+          fresh = fresh-x;
+          up_path = (omega arith, stands.above s.at);
+          trees = trees-go;
+          shape = inl (refl, (sound.below.place, tree-b, omega (arith, behind), sound.below.starts, sound.from));
+        }
+          where
+            frond-f : is_frond_to s.at c.low f ≡ true
+            frond-f = rw (eq-eqb s.at s.at refl, eq-eqb c.low c.low refl) refl
+
+            goes-not : (a : Bool) → a ≡ true → not a ≡ false
+            goes-not a q = rw q refl
+
+            goes-back : (a : Bool) → not a ≡ false → a ≡ true
+            goes-back a q = elim (cases_Bool a) [ inl y ↦ y | inr y ↦ absurd (both_ways (not a) q (not_from_false a y)) ]
+
+        one-first : length one.first ≡ g.vertex_count
+        one-first = lowered-length (lowered s.first s.at (length (take k s.items))) c.low (length (take k s.items)) ∙ (lowered-length s.first s.at (length (take k s.items)) ∙ b.raised.first.places)
+
+        here : (z : ℕ) → (z ≡ s.at) ⊎ (z ≡ c.low) → slice_index one.first z ≤ k
+        here z q = omega (arith, pushed-here s.first s.at c.low (length (take k s.items)) z (omega (arith, v-in, b.raised.first.places)) (omega (arith, low-in, b.raised.first.places)) q, front-length)
+
+        two-at : (z : ℕ) → (slice_index both.first z ≡ slice_index one.first z)
+        two-at z = elim (pushed-at one.first s.at c.low (length (take k s.items ++ f ∷ [])) z (omega (arith, v-in, one-first)) (omega (arith, low-in, one-first))) [
+          | inl q ↦ q
+          | inr q ↦ absurd (omega (arith, q.1, here z q.2, one-length))
+        ]
+
+        both-first : AreFirst g.vertex_count s.at both.first both.items
+        both-first = first-new b.raised.palm.last s.done s.at k (k + 1) (but_frond s.at c.low) side x s.items both.items b.raised.rest both-renewed g.vertex_count s.first both.first b.raised.first
+            (lowered-length (lowered one.first s.at (length (take k s.items ++ f ∷ []))) c.low (length (take k s.items ++ f ∷ [])) ∙ (lowered-length one.first s.at (length (take k s.items ++ f ∷ [])) ∙ one-first))
+            (λ z. elim (pushed-at s.first s.at c.low (length (take k s.items)) z (omega (arith, v-in, b.raised.first.places)) (omega (arith, low-in, b.raised.first.places))) [
+              | inl q ↦ inl (two-at z ∙ q)
+              | inr q ↦ inr (omega (arith, two-at z, q.0, front-length), omega (arith, two-at z, q.0, front-length), omega (arith, two-at z, q.0, q.1), q.2)
+            ])
+            (λ z i a d q. omega (arith, two-at z, here z q, a))
+
+        both-fronds : (i : ℕ) → 4 ≤ s.total → i < k + 1 → is_frond_to s.at (item both.items (k + 1)).low (item both.items i) ≡ true → i + 1 ≡ k + 1
+        both-fronds i four l p = elim (cases_lt i k) [
+          | inr a ↦ omega (arith, a, l)
+          | inl a ↦ absurd (omega (arith, a, only i (omega (arith, a, k-in)) (subst (λ (y : Item). is_frond_to s.at c.low y ≡ true) (both-same i a) (subst (λ (y : Item). is_frond_to s.at y.low (item both.items i) ≡ true) both-renewed.top p))))
+        ]
+
+        pub both-raised : IsRaised g t w (pushed (pushed (after (take k s.items) s.first) (record { name = name; up = s.at; low = c.low; tree = false; start = k })) x)
+        both-raised = pair-raised (k + 1) both.items both.first both-renewed both-first both-fronds
+
+        pub both-starts : (i : ℕ) → i < length (drop (at_place s.base w) (take (length s.cuts - 1) s.cuts)) → (cut (drop (at_place s.base w) (take (length s.cuts - 1) s.cuts)) i).start < both-raised.height
+        both-starts i l = omega (arith, (front-rises i l).0, both-raised.atop.size, both-renewed.size)
