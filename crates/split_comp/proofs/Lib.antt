@@ -25,3 +25,4 @@ pub mod Raising
 pub mod Joining
 pub mod Reducing
 pub mod Pairing
+pub mod Leaving

@@ -40,7 +40,7 @@ module _ (g : Multigraph) (t : NumberedTree) (w : ℕ) (s : PassState) (b : IsRa
   w-not e = omega (arith, e, b.from, b.walk.current)
 
   -- the path to v is on the path to w
-  up-path : (y : ℕ) → IsOnPath last s.at y → IsOnPath last w y
+  pub up-path : (y : ℕ) → IsOnPath last s.at y → IsOnPath last w y
   up-path y p =
       let q = b.palm.parent_less w b.inside w-not in
       (omega (arith, p.0, q.0, b.parent), omega (arith, b.palm.nested y s.at p.0 p.1, subst (λ (k : ℕ). w < last k) b.parent q.1))
