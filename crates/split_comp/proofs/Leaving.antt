@@ -469,7 +469,7 @@ module _ (g : Multigraph) (t : NumberedTree) (numbered : IsNumbered g t) (w : �
       sounds = subst (AreSoundAt start s.at (item s.items b.raised.height).low s.items) split-c b.raised.sound
 
       first-met : (k : ℕ) → k < length d.popped → IsBefore s.items (cut d.popped k).start s.at
-      first-met k l = elim (b.raised.first.attained s.at v-in (inl (omega arith))) [
+      first-met k l = elim (b.raised.first.attained s.at v-in (inl (omega (arith, b.raised.walk.current)))) [
         | inl e ↦ absurd (omega (arith, e, d.behind k l, start-in, few))
         | inr e ↦ record { place = slice_index s.first s.at; within = d.behind k l; end = e.1 }
       ]

@@ -245,7 +245,7 @@ module _ (g : Multigraph) (t : NumberedTree) (numbered : IsNumbered g t) (w : �
               ]
 
       module _ (j : ℕ) (items : List Item) (first : List ℕ) (renewed : IsRenewed b.raised.palm.last s.done s.at k j (but_frond s.at c.low) side x s.items items b.raised.rest)
-          (firsts : AreFirst g.vertex_count s.at first items) (fronds : (i : ℕ) → 4 ≤ s.total → i < j → is_frond_to s.at (item items j).low (item items i) ≡ true → i + 1 ≡ j) where
+          (firsts : AreFirst g.vertex_count s.done first items) (fronds : (i : ℕ) → 4 ≤ s.total → i < j → is_frond_to s.at (item items j).low (item items i) ≡ true → i + 1 ≡ j) where
         held-now : IsHeld g t.vertex (after items first) b.raised.rest
         held-now = held-ejected g t numbered dropped b.raised.rest held-dropped stands.left.is_family (but_frond s.at c.low) k s.at c.low side off sep v-in low-in mid (after items first) x e (sym (ap (λ (p : PassState). p.parts) e.now)) (sym (ap (λ (p : PassState). p.total) e.now)) refl refl refl
             (family-new b.raised.palm.last s.done s.at k j (but_frond s.at c.low) side x s.items items b.raised.rest renewed) (left-within b.raised.palm.last s.done s.at k j (but_frond s.at c.low) side x s.items items b.raised.rest renewed) (within-left b.raised.palm.last s.done s.at k j (but_frond s.at c.low) side x s.items items b.raised.rest renewed)
@@ -307,7 +307,7 @@ module _ (g : Multigraph) (t : NumberedTree) (numbered : IsNumbered g t) (w : �
           shape = shape-x;
         }
 
-        alone-first : AreFirst g.vertex_count s.at now.first now.items
+        alone-first : AreFirst g.vertex_count s.done now.first now.items
         alone-first = first-new b.raised.palm.last s.done s.at k k (but_frond s.at c.low) side x s.items now.items b.raised.rest alone-renewed g.vertex_count s.first now.first b.raised.first
             (lowered-length (lowered s.first x.up (length (take k s.items))) x.low (length (take k s.items)) ∙ (lowered-length s.first x.up (length (take k s.items)) ∙ b.raised.first.places))
             (λ z. elim (pushed-at s.first x.up x.low (length (take k s.items)) z (omega (arith, v-in, b.raised.first.places)) (omega (arith, low-in, b.raised.first.places))) [
@@ -429,7 +429,7 @@ module _ (g : Multigraph) (t : NumberedTree) (numbered : IsNumbered g t) (w : �
           | inr q ↦ absurd (omega (arith, q.1, here z q.2, one-length))
         ]
 
-        both-first : AreFirst g.vertex_count s.at both.first both.items
+        both-first : AreFirst g.vertex_count s.done both.first both.items
         both-first = first-new b.raised.palm.last s.done s.at k (k + 1) (but_frond s.at c.low) side x s.items both.items b.raised.rest both-renewed g.vertex_count s.first both.first b.raised.first
             (lowered-length (lowered one.first s.at (length (take k s.items ++ f ∷ []))) c.low (length (take k s.items ++ f ∷ [])) ∙ (lowered-length one.first s.at (length (take k s.items ++ f ∷ [])) ∙ one-first))
             (λ z. elim (pushed-at s.first s.at c.low (length (take k s.items)) z (omega (arith, v-in, b.raised.first.places)) (omega (arith, low-in, b.raised.first.places))) [

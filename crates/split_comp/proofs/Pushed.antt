@@ -259,7 +259,7 @@ module _ (old : List Item) (left : List Entry) (x : Item) (new : List Item) (res
       ]
 
   -- the first places
-  pub pushed-first : (n v u : ℕ) (first now : List ℕ) → AreFirst n v first old → length now ≡ n → u ≤ v → (x.tree ≡ true → x.low ≤ v)
+  pub pushed-first : (n v u : ℕ) (first now : List ℕ) → AreFirst n v first old → length now ≡ n → u ≤ v → (x.tree ≡ true → x.low < v)
       → ((z : ℕ) → (slice_index_or now z 0 ≡ slice_index_or first z 0) ⊎ ((slice_index_or now z 0 ≡ length old) × (slice_index_or now z 0 < slice_index_or first z 0) × ((z ≡ x.up) ⊎ (z ≡ x.low))))
       → ((z : ℕ) → (z ≡ x.up) ⊎ (z ≡ x.low) → slice_index_or now z 0 ≤ length old) → AreFirst n u now new
   pushed-first n v u first now f size less low moved pushed = record {
@@ -280,7 +280,7 @@ module _ (old : List Item) (left : List Entry) (x : Item) (new : List Item) (res
       no-later : (z : ℕ) → slice_index_or now z 0 ≤ slice_index_or first z 0
       no-later z = elim (moved z) [ inl e ↦ omega (arith, e) | inr e ↦ omega (arith, e.1) ]
 
-      was : (z : ℕ) → (z ≤ u) ⊎ ((p : ℕ) × IsTreeAt new z p) → (z ≤ v) ⊎ ((p : ℕ) × IsTreeAt old z p)
+      was : (z : ℕ) → (z < u) ⊎ ((p : ℕ) × IsTreeAt new z p) → (z < v) ⊎ ((p : ℕ) × IsTreeAt old z p)
       was z (inl a) = inl (omega (arith, a, less))
       was z (inr p) = elim (pushed-cases p.0 p.1.within) [
         | inl a ↦ inr (p.0, record { within = a; tree = behind (λ (y : Item). y.tree ≡ true) p.0 a p.1.tree; low = behind (λ (y : Item). y.low ≡ z) p.0 a p.1.low })

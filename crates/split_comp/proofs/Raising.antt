@@ -161,7 +161,7 @@ module _ (g : Multigraph) (t : NumberedTree) (numbered : IsNumbered g t) (w : �
             (w'.0, subst (λ (y : Item). y.start ≤ w'.0) (sym (r.same u u-k)) w'.1, w'.2, omega (arith, w'.3, up-same w'.0 (omega (arith, w'.2, u-k)), up-q))
 
     -- the pass is where it was
-    pub raised-now : (held : IsHeld g t.vertex now b.rest) → total ≤ s.total → AreFirst g.vertex_count s.at first items → ((i : ℕ) → 4 ≤ total → i < j → is_frond_to s.at (item items j).low (item items i) ≡ true → i + 1 ≡ j)
+    pub raised-now : (held : IsHeld g t.vertex now b.rest) → total ≤ s.total → AreFirst g.vertex_count s.done first items → ((i : ℕ) → 4 ≤ total → i < j → is_frond_to s.at (item items j).low (item items i) ≡ true → i + 1 ≡ j)
         → ((y : ℕ) → y ≢ 0 → IsOnPath last w y → take (at_place s.base y) cuts ≡ take (at_place s.base y) s.cuts) → ((y : ℕ) → y ≢ 0 → IsOnPath last w y → at_place s.base y ≤ length cuts)
         → AreSoundAt (at_place s.start w) s.at x.low items (drop (at_place s.base w) cuts) → AreCompleteAt (at_place s.start w) s.at x.low items (drop (at_place s.base w) cuts)
         → ((c : ℕ) → c < length (drop (at_place s.base w) cuts) → s.at < (cut (drop (at_place s.base w) cuts) c).low)

@@ -99,8 +99,8 @@ module _ (last : ℕ → ℕ) (done v k j : ℕ) (keeps : Item → Bool) (side :
           ]
 
   -- the first places, where the entries from place k on have been pushed
-  pub first-new : (n : ℕ) (first now : List ℕ) → AreFirst n v first old → length now ≡ n → ((z : ℕ) → (slice_index_or now z 0 ≡ slice_index_or first z 0) ⊎ ((k ≤ slice_index_or now z 0) × (slice_index_or now z 0 ≤ j) × (slice_index_or now z 0 < slice_index_or first z 0) × ((z ≡ x.up) ⊎ (z ≡ x.low))))
-      → ((z i : ℕ) → k ≤ i → i < length new → (z ≡ x.up) ⊎ (z ≡ x.low) → slice_index_or now z 0 ≤ i) → AreFirst n v now new
+  pub first-new : (n : ℕ) (first now : List ℕ) → AreFirst n done first old → length now ≡ n → ((z : ℕ) → (slice_index_or now z 0 ≡ slice_index_or first z 0) ⊎ ((k ≤ slice_index_or now z 0) × (slice_index_or now z 0 ≤ j) × (slice_index_or now z 0 < slice_index_or first z 0) × ((z ≡ x.up) ⊎ (z ≡ x.low))))
+      → ((z i : ℕ) → k ≤ i → i < length new → (z ≡ x.up) ⊎ (z ≡ x.low) → slice_index_or now z 0 ≤ i) → AreFirst n done now new
   first-new n first now f size moved pushed = record { places = size; least = least; attained = attained }
     where
       few : k ≤ j
@@ -123,7 +123,7 @@ module _ (last : ℕ → ℕ) (done v k j : ℕ) (keeps : Item → Bool) (side :
         | inr c ↦ pushed z i c l (ends-now i z c l h)
       ]
 
-      attained : (z : ℕ) → z < n → (z ≤ v) ⊎ ((p : ℕ) × IsTreeAt new z p) → (slice_index_or now z 0 ≡ 4294967295) ⊎ ((slice_index_or now z 0 < length new) × (has_end z (entry (item new (slice_index_or now z 0))) ≡ true))
+      attained : (z : ℕ) → z < n → (z < done) ⊎ ((p : ℕ) × IsTreeAt new z p) → (slice_index_or now z 0 ≡ 4294967295) ⊎ ((slice_index_or now z 0 < length new) × (has_end z (entry (item new (slice_index_or now z 0))) ≡ true))
       attained z b current = elim (moved z) [
         | inr e ↦ let l : slice_index_or now z 0 < length new = omega (arith, e.1, r.size) in inr (l, now-ends (slice_index_or now z 0) z e.0 l e.3)
         | inl e ↦ elim (f.attained z b (was current)) [
@@ -138,7 +138,7 @@ module _ (last : ℕ → ℕ) (done v k j : ℕ) (keeps : Item → Bool) (side :
         ]
       ]
         where
-          was : (z ≤ v) ⊎ ((p : ℕ) × IsTreeAt new z p) → (z ≤ v) ⊎ ((p : ℕ) × IsTreeAt old z p)
+          was : (z < done) ⊎ ((p : ℕ) × IsTreeAt new z p) → (z < done) ⊎ ((p : ℕ) × IsTreeAt old z p)
           was (inl a) = inl a
           was (inr p) = elim (tree-cases last done v k j keeps side x old new rest r p.0 p.1.within p.1.tree) [
             | inl a ↦ inr (p.0, record { within = omega (arith, a, r.within); tree = subst (λ (q : Item). q.tree ≡ true) (r.same p.0 a) p.1.tree; low = subst (λ (q : Item). q.low ≡ z) (r.same p.0 a) p.1.low })
@@ -158,8 +158,14 @@ module _ (last : ℕ → ℕ) (done v k j : ℕ) (keeps : Item → Bool) (side :
             ]
           ]
             where
-              at : z ≤ v → (z ≡ x.up) ⊎ (z ≡ x.low)
+              path : z < done → z ≤ v
+              path p = elim (cases_lt v z) [
+                | inr q ↦ q
+                | inl q ↦ let f = r.stands.ended.held (slice_index_or first z 0) z l h q in absurd (omega (arith, p, f.1.low, r.stands.laid.finished f.0 f.1.within f.1.tree))
+              ]
+
+              at : z < done → (z ≡ x.up) ⊎ (z ≡ x.low)
               at p = elim (cases_Bool (keeps (item old (slice_index_or first z 0)))) [
                 | inr g ↦ let i = r.mid_new (slice_index_or first z 0) c l g in ends-now i.0 z i.1 (omega (arith, i.2, r.size)) (subst (λ (q : Entry). has_end z q ≡ true) i.3 h)
-                | inl t ↦ across-rest last done v k j keeps side x old new rest r (slice_index_or first z 0) z c l t h (r.stands.left.on_path (slice_index_or first z 0) z l h p)
+                | inl t ↦ across-rest last done v k j keeps side x old new rest r (slice_index_or first z 0) z c l t h (r.stands.left.on_path (slice_index_or first z 0) z l h (path p))
               ]

@@ -168,7 +168,7 @@ pub record IsPass (g : Multigraph) (t : NumberedTree) (s : PassState) : Type 0 w
   pub stands : IsStack palm.last s.done s.at s.items rest
   pub frames : AreFrames palm.last s.at (at_place s.start) s.items
   pub reached : AreReached palm.last (tree_dart g t.palm t.vertex) (at_place s.gone) s.at (at_place s.start) s.items
-  pub first : AreFirst g.vertex_count s.at s.first s.items
+  pub first : AreFirst g.vertex_count s.done s.first s.items
   pub sorted : IsSorted s.at (length s.items) s.items rest
   pub ahead : AreAhead palm.last (tree_degree t.palm t.vertex) (tree_dart g t.palm t.vertex) (at_place s.gone) s.at (length s.items) s.items rest
   pub clean : IsClean s.items rest
@@ -200,7 +200,7 @@ pub record IsRaised (g : Multigraph) (t : NumberedTree) (w : ℕ) (s : PassState
   pub child_to : (i : ℕ) → at_place s.start w ≤ i → i < length s.items → (item s.items i).up < s.at → IsFrondTo (tree_degree t.palm t.vertex) (tree_dart g t.palm t.vertex) palm.last w (item s.items i).up
   pub child_met : (y : ℕ) → IsFrondTo (tree_degree t.palm t.vertex) (tree_dart g t.palm t.vertex) palm.last w y → y < s.at → (i : ℕ) × (at_place s.start w ≤ i) × (i < length s.items) × ((item s.items i).up ≡ y)
   pub reached : AreReached palm.last (tree_dart g t.palm t.vertex) (at_place s.gone) s.at (at_place s.start) s.items
-  pub first : AreFirst g.vertex_count s.at s.first s.items
+  pub first : AreFirst g.vertex_count s.done s.first s.items
   pub ahead : AreAhead palm.last (tree_degree t.palm t.vertex) (tree_dart g t.palm t.vertex) (at_place s.gone) s.at height s.items rest
   pub ahead_last : (r : ℕ) → r < height → owner (item s.items r) ≡ s.at → (i : ℕ) × ((item s.items r).start ≤ i) × (i ≤ r) × ((item s.items i).up ≤ (tree_dart g t.palm t.vertex s.at place).reach)
   pub frond_last : (r : ℕ) → 4 ≤ length (family s.items rest) → r < height → owner (item s.items r) ≡ s.at → (item s.items r).tree ≡ false
@@ -232,7 +232,7 @@ pub record IsFronted (g : Multigraph) (t : NumberedTree) (s : PassState) : Type 
   pub topped : IsTopped s.items rest height
   pub frames : AreFrames palm.last s.at (at_place s.start) s.items
   pub reached : AreReached palm.last (tree_dart g t.palm t.vertex) (at_place s.gone) s.at (at_place s.start) s.items
-  pub first : AreFirst g.vertex_count s.at s.first s.items
+  pub first : AreFirst g.vertex_count s.done s.first s.items
   pub sorted : IsSorted s.at height s.items rest
   pub ahead : AreAhead palm.last (tree_degree t.palm t.vertex) (tree_dart g t.palm t.vertex) (at_place s.gone) s.at height s.items rest
   pub reach_last : (r : ℕ) → r < height → owner (item s.items r) ≡ s.at → (i : ℕ) × ((item s.items r).start ≤ i) × (i ≤ r) × ((item s.items i).up ≤ (item s.items height).up)
