@@ -26,3 +26,4 @@ pub mod Joining
 pub mod Reducing
 pub mod Pairing
 pub mod Leaving
+pub mod Down
