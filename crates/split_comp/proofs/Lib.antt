@@ -27,3 +27,4 @@ pub mod Reducing
 pub mod Pairing
 pub mod Leaving
 pub mod Down
+pub mod Going
