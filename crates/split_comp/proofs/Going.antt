@@ -4,8 +4,7 @@ use Rattle.std.proofs.lemmas.Bool.{cases_Bool, cases_lt, cases_eq, both_ways}
 use Rattle.std.proofs.lemmas.List.{length-set, take-append-le}
 use Rattle.multigraph.specs.Graph.{Multigraph, edge_count}
 use Rattle.pair_split.specs.Family.{Entry, has_end, touches, IsFamily}
-use Rattle.pair_split.proofs.Elements.{contains-cases}
-use Rattle.pair_split.proofs.SameEntries.{IsWithin, same-separation}
+use Rattle.pair_split.proofs.SameEntries.{IsWithin}
 use Rattle.split_comp.specs.declared.items.Item.{Item}
 use Rattle.split_comp.specs.declared.items.Triple.{Triple}
 use Rattle.split_comp.specs.declared.items.Dart.{Dart}
@@ -17,20 +16,11 @@ use Rattle.split_comp.specs.Frames.{AreFrames, AreReached, AreAhead, IsGoneTo}
 use Rattle.split_comp.specs.Pass.{NumberedTree, IsNumbered, PassState, IsHeld, HavePlaces, at_place, IsPass, IsFronted, pushed, gone_along, new_frond, lowered}
 use Rattle.split_comp.proofs.Entries.{up-end, low-end, stack-contains, rest-contains, length-push, rest-family}
 use Rattle.split_comp.proofs.Pushed.{IsPushed, pushed-size, pushed-front, pushed-top, pushed-cases, pushed-within, pushed-back, push-frond, pushed-first}
+use Rattle.split_comp.proofs.Parallel.{push-topped}
 use Rattle.split_comp.proofs.Walk.{walk-frond, left-more, left-free, left-on_path, next-on-path}
 use Rattle.split_comp.proofs.Held.{held-pushed, same-length}
 use Rattle.split_comp.proofs.Firsts.{lowered-length, pushed-at, pushed-here, sorted-to, ahead-to, same-alike}
 use Rattle.split_comp.proofs.Fronted.{below-kept}
-
--- sides that are bad hold the entry that was pushed
-pub push-topped : (old : List Item) (left : List Entry) (x : Item) (new : List Item) (rest : List Entry) → IsPushed old left x new rest → IsFamily (family new rest) → IsClean old left → IsTopped new rest (length old)
-push-topped old left x new rest r fam clean u p q b = elim (cases_Bool (u x.name)) [
-  | inl t ↦ ap (λ (y : Item). u y.name) (pushed-top old left x new rest r (length old) refl) ∙ t
-  | inr f ↦ absurd (clean u p q (record {
-    separates = same-separation (family new rest) (family old left) u p q fam.names_once (pushed-back old left x new rest r) (pushed-within old left x new rest r) b.separates;
-    stacked = λ y c. elim (contains-cases y (entry x) rest (r.into y c)) [ inl e ↦ ap (λ (z : Entry). u z.name) (sym e) ∙ f | inr d ↦ b.stacked y d ];
-  }))
-]
 
 -- one more dart
 pub one-more : (gone : List ℕ) (v : ℕ) → v < length gone → IsOneMore v (at_place gone) (at_place (slice_set gone v (slice_index gone v + 1)))

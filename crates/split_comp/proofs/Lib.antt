@@ -28,3 +28,4 @@ pub mod Pairing
 pub mod Leaving
 pub mod Down
 pub mod Going
+pub mod Coming
