@@ -243,7 +243,7 @@ module _ (g : Multigraph) (t : NumberedTree) (s : PassState) (p : IsPass g t s) 
     walk = w-walk;
     going = λ e. absurd (omega (arith, e, far.1));
     left = p.left;
-    held = record { total = p.held.total; state = p.held.state; few = p.held.few; entries = p.held.entries; ends = p.held.ends };
+    held = record { total = p.held.total; state = p.held.state; few = p.held.few; entries = p.held.entries; three = p.held.three; ends = p.held.ends };
     stands = stands;
     frames = frames;
     reached = reached;

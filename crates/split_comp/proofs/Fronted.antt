@@ -366,7 +366,7 @@ module _ (g : Multigraph) (t : NumberedTree) (numbered : IsNumbered g t) (s : Pa
     walk = f.walk;
     going = λ z. absurd (f.not_root z);
     left = f.left;
-    held = record { total = f.held.total; state = f.held.state; few = f.held.few; entries = f.held.entries; ends = f.held.ends };
+    held = record { total = f.held.total; state = f.held.state; few = f.held.few; entries = f.held.entries; three = f.held.three; ends = f.held.ends };
     stands = f.stands;
     frames = f.frames;
     reached = f.reached;

@@ -84,7 +84,7 @@ module _ (g : Multigraph) (t : NumberedTree) (numbered : IsNumbered g t) (s : Pa
     | inr h ↦ filter-no (λ (e : Entry). side e.name) (drawn g t.vertex x) (map (drawn g t.vertex) l) (ap side (drawn-name x) ∙ h) ∙ (side-drawn side l ∙ ap (map (drawn g t.vertex)) (sym (filter-no (λ (e : Entry). side e.name) x l h)))
   ]
 
-  map-items : (l : List Item) → map (drawn g t.vertex) (map entry l) ≡ drawn_items g t.vertex l
+  pub map-items : (l : List Item) → map (drawn g t.vertex) (map entry l) ≡ drawn_items g t.vertex l
   map-items [] = refl
   map-items (x ∷ l) = ap (λ (k : List Entry). drawn g t.vertex (entry x) ∷ k) (map-items l)
 
@@ -143,6 +143,7 @@ module _ (g : Multigraph) (t : NumberedTree) (numbered : IsNumbered g t) (s : Pa
       state = state-now;
       few = omega (arith, held.few, parts-length, new-total, edges-two, held.total, lengths);
       entries = omega (arith, held.entries, ap entry_total parts-are, entry-push s.parts (record { kind = e.kind; own = record { name = next_name g s; first = slice_index t.vertex up; second = slice_index t.vertex low }; edges = e.edges }), parts-length, new-total, lengths, held.total, edges-length);
+      three = omega (arith, new-total, edges-length, held.total, lengths, sep.two_outside);
       ends = ends;
     }
       where
@@ -235,6 +236,7 @@ module _ (g : Multigraph) (t : NumberedTree) (numbered : IsNumbered g t) (s : Pa
         (state-reordered g state (drawn_family g t.vertex new.items left) held.state (renamed-family n vertex apart f (family new.items left) (λ y c. drawn-name y) (λ y c. held.ends y (back y c)) fam) (within-map (family s.items rest) (family new.items left) into) (within-map (family new.items left) (family s.items rest) back));
     few = omega (arith, held.few, ap length same-parts, same-total);
     entries = omega (arith, held.entries, ap entry_total same-parts, ap length same-parts, same-total);
+    three = omega (arith, held.three, same-total);
     ends = λ y c. held.ends y (back y c);
   }
     where

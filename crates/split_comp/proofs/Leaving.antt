@@ -178,7 +178,7 @@ module _ (g : Multigraph) (t : NumberedTree) (numbered : IsNumbered g t) (w : â„
     reach-in = omega (arith, reach-less, v-in)
 
     held-dropped : IsHeld g t.vertex dropped b.raised.rest
-    held-dropped = record { total = b.raised.held.total; state = b.raised.held.state; few = b.raised.held.few; entries = b.raised.held.entries; ends = b.raised.held.ends }
+    held-dropped = record { total = b.raised.held.total; state = b.raised.held.state; few = b.raised.held.few; entries = b.raised.held.entries; three = b.raised.held.three; ends = b.raised.held.ends }
 
     pub child-can : CanEject g t.vertex (Î» x. true) start dart.reach s.at dropped
     child-can = can-eject g t numbered dropped b.raised.rest held-dropped stands.left.is_family all_items start dart.reach s.at side off sep reach-in v-in least (omega (arith, s-h, h-here))
@@ -366,7 +366,7 @@ module _ (g : Multigraph) (t : NumberedTree) (numbered : IsNumbered g t) (w : â„
       walk = b.raised.walk;
       going = Î» z. absurd (b.raised.not_root z);
       left = b.raised.left;
-      held = record { total = b.raised.held.total; state = b.raised.held.state; few = b.raised.held.few; entries = b.raised.held.entries; ends = b.raised.held.ends };
+      held = record { total = b.raised.held.total; state = b.raised.held.state; few = b.raised.held.few; entries = b.raised.held.entries; three = b.raised.held.three; ends = b.raised.held.ends };
       stands = stands;
       frames = b.raised.frames;
       reached = b.raised.reached;

@@ -132,7 +132,7 @@ module _ (g : Multigraph) (t : NumberedTree) (numbered : IsNumbered g t) (w : â„
     dropped = cuts_dropped s (length s.cuts - 1)
 
     held-dropped : IsHeld g t.vertex dropped b.raised.rest
-    held-dropped = record { total = b.raised.held.total; state = b.raised.held.state; few = b.raised.held.few; entries = b.raised.held.entries; ends = b.raised.held.ends }
+    held-dropped = record { total = b.raised.held.total; state = b.raised.held.state; few = b.raised.held.few; entries = b.raised.held.entries; three = b.raised.held.three; ends = b.raised.held.ends }
 
     pub pair-can : CanEject g t.vertex (goes true s.at c.low) k s.at c.low dropped
     pair-can = can-eject g t numbered dropped b.raised.rest held-dropped stands.left.is_family (but_frond s.at c.low) k s.at c.low side off sep v-in low-in least (omega (arith, k-in))

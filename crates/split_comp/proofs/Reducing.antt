@@ -104,7 +104,7 @@ stale-back g t w s b stale = record { raised = raised; no_frond = b.no_frond }
       palm = b.raised.palm; rest = b.raised.rest;
       places = record { start = b.raised.places.start; base = b.raised.places.base; gone = b.raised.places.gone };
       walk = b.raised.walk; from = b.raised.from; parent = b.raised.parent; inside = b.raised.inside; not_root = b.raised.not_root; left = b.raised.left;
-      held = record { total = b.raised.held.total; state = b.raised.held.state; few = b.raised.held.few; entries = b.raised.held.entries; ends = b.raised.held.ends };
+      held = record { total = b.raised.held.total; state = b.raised.held.state; few = b.raised.held.few; entries = b.raised.held.entries; three = b.raised.held.three; ends = b.raised.held.ends };
       height = b.raised.height; atop = b.raised.atop; fronds = b.raised.fronds; frames = b.raised.frames; child_start = b.raised.child_start;
       place = b.raised.place; last_gone = b.raised.last_gone; place_in = b.raised.place_in; last_tree = b.raised.last_tree; last_far = b.raised.last_far;
       child_within = b.raised.child_within; child_to = b.raised.child_to; child_met = b.raised.child_met; reached = b.raised.reached; first = b.raised.first;

@@ -144,6 +144,7 @@ pub record IsHeld (g : Multigraph) (vertex : List ℕ) (s : PassState) (rest : L
   pub state : IsSplitState g (record { parts = map part_of s.parts; current = drawn_family g vertex s.items rest })
   pub few : length s.parts + s.total ≤ edge_count g
   pub entries : entry_total s.parts + s.total ≡ edge_count g + length s.parts
+  pub three : 3 ≤ s.total
   pub ends : (x : Entry) → Contains (family s.items rest) x → (x.first < g.vertex_count) × (x.second < g.vertex_count) × SameEnds (slice_index vertex x.first, slice_index vertex x.second) (entry_ends (drawn g vertex x))
 
 -- the tables have a place for each vertex
