@@ -1,10 +1,11 @@
 -- The pass comes back from a vertex to its parent.
 use Rattle.std.proofs.Common.{◌≡◌, ◌≢◌, ℕ, ◌+◌, ◌<◌, ◌≤◌, ◌⊎◌, inl, inr, Bool, true, false, not, List, [], ◌∷◌, ◌++◌, length, map, take, drop, slice_index, slice_index_or, slice_set, refl, sym, ap, ◌∙◌, subst, arith, Contains}
 use Rattle.std.proofs.lemmas.Bool.{cases_Bool, cases_lt, cases_eq, both_ways}
-use Rattle.std.proofs.lemmas.List.{length-set, take-append-le}
+use Rattle.std.proofs.lemmas.List.{length-set, take-append-le, append-nil, length-append, length-map}
 use Rattle.multigraph.specs.Graph.{Multigraph, edge_count}
-use Rattle.pair_split.specs.Family.{Entry, has_end, touches, IsFamily}
+use Rattle.pair_split.specs.Family.{Entry, has_end, touches, IsFamily, IsSeparation, IsPrime}
 use Rattle.pair_split.proofs.SameEntries.{IsWithin}
+use Rattle.pair_split.proofs.Sides.{separation-other}
 use Rattle.split_comp.specs.declared.items.Item.{Item}
 use Rattle.split_comp.specs.declared.items.Triple.{Triple}
 use Rattle.split_comp.specs.declared.items.Dart.{Dart}
@@ -14,12 +15,13 @@ use Rattle.split_comp.specs.Walk.{IsOnPath, IsWalk, AreLeft, IsOneMore}
 use Rattle.split_comp.specs.Cuts.{cut, AreSound, AreComplete, AreSoundAt, AreCompleteAt}
 use Rattle.split_comp.specs.Frames.{AreFrames, AreReached, AreAhead, AreCutsBelow, IsGoneTo}
 use Rattle.split_comp.specs.Sides.{is_frond_to}
-use Rattle.split_comp.specs.Pass.{NumberedTree, IsNumbered, PassState, IsHeld, HavePlaces, at_place, IsPass, IsRaised, pushed, gone_along, gone_back, new_tree, lowered}
+use Rattle.split_comp.specs.Pass.{NumberedTree, IsNumbered, PassState, IsHeld, HavePlaces, at_place, IsPass, IsRaised, IsPassed, drawn, drawn_items, drawn_family, pushed, gone_along, gone_back, new_tree, lowered}
 use Rattle.split_comp.proofs.Entries.{rest-family}
-use Rattle.split_comp.proofs.Pushed.{IsPushed, pushed-size, pushed-front, pushed-top, pushed-cases, pushed-within, pushed-back, push-tree, pushed-first}
+use Rattle.split_comp.proofs.Pushed.{IsPushed, pushed-size, pushed-front, pushed-top, pushed-cases, pushed-within, pushed-back, pushed-family, push-tree, pushed-first}
 use Rattle.split_comp.proofs.Parallel.{push-topped, frond-below}
-use Rattle.split_comp.proofs.Walk.{walk-return, left-more, left-free, left-on_path}
-use Rattle.split_comp.proofs.Held.{held-pushed, same-length}
+use Rattle.split_comp.proofs.Walk.{walk-return, left-more, left-free, left-on_path, walk-over}
+use Rattle.split_comp.proofs.Held.{held-pushed, same-length, apart, drawn-name, map-items, drawn-tight}
+use Rattle.split_comp.proofs.Renamed.{renamed-back}
 use Rattle.split_comp.proofs.Firsts.{lowered-length, pushed-at, pushed-here, sorted-to, ahead-to, same-alike}
 use Rattle.split_comp.proofs.Fronted.{below-kept}
 use Rattle.split_comp.proofs.Noted.{IsFront}
@@ -299,4 +301,52 @@ module _ (g : Multigraph) (t : NumberedTree) (numbered : IsNumbered g t) (s : Pa
         | inl e ↦ omega (arith, e, less.0)
         | inr e ↦ omega (arith, p.stands.laid.finished e.place e.tree_at.within e.tree_at.tree, e.tree_at.low, walks.0, less.0)
       ];
+    }
+
+  -- the parent is the root
+  module _ (outer : v ≡ 0) where
+    all-gone : at_place now.gone 0 ≡ degree 0
+    all-gone = omega (arith, subst (λ (u : ℕ). at_place now.gone u ≡ at_place s.gone u + 1) outer one.0, subst (λ (u : ℕ). at_place s.gone u < degree u) outer way.0, p.palm.root_dart)
+
+    over : (s.at ≡ 1) × (taken.0 ≡ [])
+    over = walk-over g.vertex_count (edge_count g) parent degree dart p.palm v s.at (at_place now.gone) walks.1 taken.0 taken.1 outer all-gone
+
+    fam : IsFamily (family now.items taken.0)
+    fam = pushed-family s.items p.rest x now.items taken.0 is-pushed (λ e. omega (arith, e, less.0)) (λ i l e. omega (arith, e, (p.stands.laid.rises i l).0))
+
+    held : IsHeld g t.vertex now []
+    held = subst (IsHeld g t.vertex now) over.1 (held-pushed g t numbered s p.rest p.held p.stands.left.is_family now taken.0 refl refl fam (pushed-within s.items p.rest x now.items taken.0 is-pushed) (pushed-back s.items p.rest x now.items taken.0 is-pushed))
+
+    fam-none : IsFamily (family now.items [])
+    fam-none = subst (λ (l : List Entry). IsFamily (family now.items l)) over.1 fam
+
+    topped-none : IsTopped now.items [] (length s.items)
+    topped-none = subst (λ (l : List Entry). IsTopped now.items l (length s.items)) over.1 (push-topped s.items p.rest x now.items taken.0 is-pushed fam p.clean)
+
+    drawn-none : drawn_family g t.vertex now.items [] ≡ drawn_items g t.vertex now.items
+    drawn-none = ap (map (drawn g t.vertex)) (append-nil (map entry now.items)) ∙ map-items g t numbered s p.rest p.held p.stands.left.is_family now.items
+
+    none-parted : (u : ℕ → Bool) (a b : ℕ) → IsSeparation (family now.items []) u a b → ⊥
+    none-parted u a b c = elim (cases_Bool (u (item now.items (length s.items)).name)) [
+      | inr f ↦ both_ways (u (item now.items (length s.items)).name) f (topped-none u a b (record { separates = c; stacked = λ e m. absurd (omega (arith, m.1)) }))
+      | inl f ↦ not-both (u (item now.items (length s.items)).name) f (topped-none (λ n. not (u n)) a b (record { separates = separation-other (family now.items []) u a b c; stacked = λ e m. absurd (omega (arith, m.1)) }))
+    ]
+      where
+        not-both : (q : Bool) → q ≡ true → not q ≡ true → ⊥
+        not-both q e f = both_ways (not q) (ap not e) f
+
+    pub come-passed : IsPassed g t now
+    come-passed = record {
+      at_root = outer;
+      all_gone = omega (arith, all-gone);
+      places = record { start = p.places.start; base = p.places.base; gone = length-set s.gone v (slice_index s.gone v + 1) ∙ p.places.gone };
+      held = held;
+      prime = subst IsPrime drawn-none (record {
+        tight = drawn-tight g t numbered now [] held fam-none;
+        none = λ u a b c.
+            let r = renamed-back g.vertex_count (λ y. slice_index t.vertex y) (apart g t numbered s p.rest p.held p.stands.left.is_family) (drawn g t.vertex) (family now.items [])
+                (λ y m. drawn-name g t numbered s p.rest p.held p.stands.left.is_family y) (λ y m. held.ends y m) u a b c in
+            none-parted u r.0 r.1 r.2;
+      });
+      three = omega (arith, held.three, held.total, length-append (map entry now.items) [], length-map now.items entry);
     }
