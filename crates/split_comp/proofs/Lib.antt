@@ -29,3 +29,4 @@ pub mod Leaving
 pub mod Down
 pub mod Going
 pub mod Coming
+pub mod Beginning
