@@ -1,5 +1,5 @@
 -- Entries that are pushed, and joined with the one below.
-use Rattle.std.proofs.Common.{◌≡◌, ℕ, Bool, true, false, List, length, refl, sym, ◌∙◌, ap, subst}
+use Rattle.std.proofs.Common.{◌≡◌, ℕ, Bool, true, false, List, length, refl, ◌∙◌, ap, subst}
 use Rattle.std.proofs.lemmas.Bool.{true≢false}
 use Rattle.multigraph.specs.Graph.{Multigraph}
 use Rattle.split_comp.specs.Pass.{PassState, IsJoined, IsFrondAdded, pushed, new_frond}

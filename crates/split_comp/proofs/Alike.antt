@@ -1,14 +1,12 @@
 -- What is said of sorted darts and of cuts does not depend on the names of the entries.
-use Rattle.std.proofs.Common.{◌≡◌, ◌≢◌, ℕ, zero, suc, ◌++◌, ◌∷◌, [], ◌+◌, ◌<◌, ◌≤◌, ◌⊎◌, inl, inr, Bool, true, false, ◌||◌, ◌==◌, if◌then◌else◌, List, length, take, slice_index_or, refl, sym, ap, ap₂, ◌∙◌, subst, arith, Contains}
-use Rattle.std.proofs.lemmas.Bool.{cases_lt}
-use Rattle.std.proofs.lemmas.List.{get_or-take, length-take, get_or_past}
+use Rattle.std.proofs.Common.{◌≡◌, ℕ, zero, suc, ◌++◌, ◌∷◌, [], ◌<◌, ◌≤◌, ◌⊎◌, inl, inr, ◌||◌, ◌==◌, if◌then◌else◌, List, length, take, refl, sym, ap₂, ◌∙◌, subst, arith}
 use Rattle.std.proofs.Math.Seq.{take-suc}
 use Rattle.pair_split.specs.Family.{Entry, has_end}
 use Rattle.split_comp.specs.declared.items.Item.{Item}
 use Rattle.split_comp.specs.declared.items.Triple.{Triple}
 use Rattle.split_comp.specs.declared.items.Dart.{Dart}
-use Rattle.split_comp.specs.Stack.{no_item, item, entry, family, owner, IsTreeAt, IsSorted}
-use Rattle.split_comp.specs.Cuts.{cut, IsLeastUp, IsAcross, IsBefore, IsStart, IsFirstBelow, IsSoundCut, IsChain, AreSound, IsWanted, AreComplete}
+use Rattle.split_comp.specs.Stack.{no_item, item, entry, family, owner, IsSorted}
+use Rattle.split_comp.specs.Cuts.{cut, IsLeastUp, IsAcross, IsBefore, IsStart, IsFirstBelow, IsChain, AreSound, AreComplete}
 use Rattle.split_comp.specs.Frames.{AreAhead}
 
 -- the same entries but for their names

@@ -1,25 +1,22 @@
 -- The state at the start: all edges are in the rest.
-use Rattle.std.proofs.Common.{◌≡◌, ◌≢◌, ℕ, zero, suc, ◌+◌, ◌*◌, ◌<◌, ◌≤◌, ◌⊎◌, inl, inr, Bool, true, false, List, [], ◌∷◌, ◌++◌, length, map, replicate, slice_index, slice_index_or, refl, sym, ap, ◌∙◌, subst, arith, Contains}
-use Rattle.std.proofs.lemmas.Bool.{cases_Bool, cases_lt, cases_eq, both_ways, lt-ltb}
-use Rattle.std.proofs.lemmas.List.{length-replicate, get_or-replicate, get_or_past, length-append, length-map, map-append}
+use Rattle.std.proofs.Common.{◌≡◌, ◌≢◌, ℕ, zero, suc, ◌*◌, ◌<◌, ◌≤◌, inl, inr, true, List, [], ◌∷◌, ◌++◌, length, map, replicate, slice_index, refl, sym, ap, ◌∙◌, subst, arith, Contains}
+use Rattle.std.proofs.lemmas.Bool.{cases_Bool, cases_lt, both_ways, lt-ltb}
+use Rattle.std.proofs.lemmas.List.{length-replicate, get_or-replicate, get_or_past, length-append, map-append}
 use Rattle.std.proofs.lemmas.List.Elements.{Contains-append_cases, Contains-append_left, Contains-append_right}
 use Rattle.permutations.specs.Members.{is_distinct}
 use Rattle.multigraph.specs.Graph.{Multigraph, edge_count, numbers_below}
-use Rattle.multigraph.proofs.Below.{length-numbers_below}
 use Rattle.pair_split.specs.Family.{Entry, names, IsFamily, IsTight}
 use Rattle.pair_split.specs.Skeleton.{SameEnds}
-use Rattle.pair_split.specs.Edges.{graph_entry, graph_family, entry_ends}
+use Rattle.pair_split.specs.Edges.{graph_entry, entry_ends}
 use Rattle.pair_split.specs.State.{IsSplitState}
 use Rattle.pair_split.proofs.Elements.{contains-here, contains-cases, contains-none}
 use Rattle.pair_split.proofs.GraphFamily.{numbers-distinct, one_block-tight, all-from_contained}
 use Rattle.pair_split.proofs.Sides.{entry-from_one}
 use Rattle.pair_split.proofs.Start.{state-start}
-use Rattle.split_comp.specs.declared.items.Item.{Item}
 use Rattle.split_comp.specs.declared.items.Dart.{Dart}
-use Rattle.split_comp.specs.Stack.{item, entry, family}
 use Rattle.split_comp.specs.Palm.{tree_dart, tree_degree, tree_parent, dart_entry, AreDrawn, IsPalm}
 use Rattle.split_comp.specs.Walk.{IsWalk, AreLeft}
-use Rattle.split_comp.specs.Pass.{NumberedTree, IsNumbered, PassState, IsHeld, at_place, drawn, IsPass}
+use Rattle.split_comp.specs.Pass.{NumberedTree, IsNumbered, PassState, at_place, drawn, IsPass}
 use Rattle.split_comp.proofs.Renamed.{renamed-tight}
 use Rattle.split_comp.proofs.Walk.{walk-start, left-free, left-on_path}
 

@@ -1,14 +1,12 @@
 -- Darts of the palm tree in the graph: their edges, and the vertices with the numbers.
-use Rattle.std.proofs.Common.{◌≡◌, ◌≢◌, ℕ, ◌+◌, ◌<◌, ◌≤◌, ◌⊎◌, inl, inr, Bool, true, false, List, [], ◌∷◌, ◌++◌, length, slice_index, slice_set, refl, sym, ap, ◌∙◌, subst, arith, Contains}
+use Rattle.std.proofs.Common.{◌≡◌, ℕ, ◌+◌, ◌<◌, inl, inr, true, List, length, slice_index, slice_set, sym, ap, ◌∙◌, subst, arith}
 use Rattle.std.proofs.lemmas.Bool.{cases_eq}
 use Rattle.std.proofs.lemmas.List.{get_or-set_same, get_or-set_other}
-use Rattle.std.proofs.lemmas.List.Elements.{Contains-get_or}
-use Rattle.permutations.specs.Members.{is_member}
 use Rattle.permutations.proofs.Arrangements.{member-at}
-use Rattle.multigraph.specs.Graph.{Multigraph, edge_count, is_end, other_end, IsGraph}
-use Rattle.multigraph.proofs.OtherEnd.{other_end-is_end, other_end-in, other_end-twice}
-use Rattle.palm_tree.specs.PalmTree.{PalmTreeLists, IsPalmTree, number_of, is_frond, darts_of, BeginsAt}
-use Rattle.split_comp.specs.Palm.{AreVertices, tree_dart, tree_degree, tree_parent}
+use Rattle.multigraph.specs.Graph.{Multigraph, edge_count, is_end, other_end}
+use Rattle.multigraph.proofs.OtherEnd.{other_end-is_end, other_end-in}
+use Rattle.palm_tree.specs.PalmTree.{PalmTreeLists, IsPalmTree, number_of, darts_of, BeginsAt}
+use Rattle.split_comp.specs.Palm.{AreVertices, tree_degree}
 use Rattle.split_comp.specs.Pass.{NumberedTree, IsNumbered}
 
 -- an edge that begins at v is one of the graph, and ends at v

@@ -1,21 +1,19 @@
 -- The pass comes back from a vertex to its parent.
-use Rattle.std.proofs.Common.{◌≡◌, ◌≢◌, ℕ, ◌+◌, ◌<◌, ◌≤◌, ◌⊎◌, inl, inr, Bool, true, false, not, List, [], ◌∷◌, ◌++◌, length, map, take, drop, slice_index, slice_index_or, slice_set, refl, sym, ap, ◌∙◌, subst, arith, Contains}
+use Rattle.std.proofs.Common.{◌≡◌, ◌≢◌, ℕ, ◌+◌, ◌<◌, ◌≤◌, ◌⊎◌, inl, inr, Bool, true, not, List, [], ◌∷◌, length, map, take, drop, slice_index, refl, sym, ap, ◌∙◌, subst, arith}
 use Rattle.std.proofs.lemmas.Bool.{cases_Bool, cases_lt, cases_eq, both_ways}
 use Rattle.std.proofs.lemmas.List.{length-set, take-append-le, append-nil, length-append, length-map}
 use Rattle.multigraph.specs.Graph.{Multigraph, edge_count}
-use Rattle.pair_split.specs.Family.{Entry, has_end, touches, IsFamily, IsSeparation, IsPrime}
+use Rattle.pair_split.specs.Family.{Entry, IsFamily, IsSeparation, IsPrime}
 use Rattle.pair_split.proofs.SameEntries.{IsWithin}
 use Rattle.pair_split.proofs.Sides.{separation-other}
 use Rattle.split_comp.specs.declared.items.Item.{Item}
-use Rattle.split_comp.specs.declared.items.Triple.{Triple}
 use Rattle.split_comp.specs.declared.items.Dart.{Dart}
-use Rattle.split_comp.specs.Stack.{no_item, item, entry, family, owner, IsStack, IsSorted, IsTopped, IsClean, IsAtop, AreFirst}
-use Rattle.split_comp.specs.Palm.{tree_dart, tree_degree, tree_parent, dart_entry, IsFrondTo, IsPalm}
+use Rattle.split_comp.specs.Stack.{item, entry, family, owner, IsStack, IsSorted, IsTopped, AreFirst}
+use Rattle.split_comp.specs.Palm.{tree_dart, tree_degree, tree_parent, dart_entry, IsFrondTo}
 use Rattle.split_comp.specs.Walk.{IsOnPath, IsWalk, AreLeft, IsOneMore}
-use Rattle.split_comp.specs.Cuts.{cut, AreSound, AreComplete, AreSoundAt, AreCompleteAt}
-use Rattle.split_comp.specs.Frames.{AreFrames, AreReached, AreAhead, AreCutsBelow, IsGoneTo}
-use Rattle.split_comp.specs.Sides.{is_frond_to}
-use Rattle.split_comp.specs.Pass.{NumberedTree, IsNumbered, PassState, IsHeld, HavePlaces, at_place, IsPass, IsRaised, IsPassed, drawn, drawn_items, drawn_family, pushed, gone_along, gone_back, new_tree, lowered}
+use Rattle.split_comp.specs.Cuts.{AreSoundAt, AreCompleteAt}
+use Rattle.split_comp.specs.Frames.{AreFrames, AreReached, AreAhead, IsGoneTo}
+use Rattle.split_comp.specs.Pass.{NumberedTree, IsNumbered, PassState, IsHeld, at_place, IsPass, IsRaised, IsPassed, drawn, drawn_items, drawn_family, pushed, gone_along, gone_back, new_tree, lowered}
 use Rattle.split_comp.proofs.Entries.{rest-family}
 use Rattle.split_comp.proofs.Pushed.{IsPushed, pushed-size, pushed-front, pushed-top, pushed-cases, pushed-within, pushed-back, pushed-family, push-tree, pushed-first}
 use Rattle.split_comp.proofs.Parallel.{push-topped, frond-below}
@@ -345,7 +343,7 @@ module _ (g : Multigraph) (t : NumberedTree) (numbered : IsNumbered g t) (s : Pa
         tight = drawn-tight g t numbered now [] held fam-none;
         none = λ u a b c.
             let r = renamed-back g.vertex_count (λ y. slice_index t.vertex y) (apart g t numbered s p.rest p.held p.stands.left.is_family) (drawn g t.vertex) (family now.items [])
-                (λ y m. drawn-name g t numbered s p.rest p.held p.stands.left.is_family y) (λ y m. held.ends y m) u a b c in
+            (λ y m. drawn-name g t numbered s p.rest p.held p.stands.left.is_family y) (λ y m. held.ends y m) u a b c in
             none-parted u r.0 r.1 r.2;
       });
       three = omega (arith, held.three, held.total, length-append (map entry now.items) [], length-map now.items entry);

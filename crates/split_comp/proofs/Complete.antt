@@ -1,19 +1,19 @@
 -- Bad sides when the search is back at a vertex (Hopcroft and Tarjan 1973): all that belongs to the last entry, or a cut, or a
 -- triangle.
-use Rattle.std.proofs.Common.{◌≡◌, ◌≢◌, ℕ, zero, suc, ◌+◌, ◌-◌, ◌<◌, ◌≤◌, ◌⊎◌, inl, inr, Bool, true, false, not, nat_lt, ◌&&◌, ◌||◌, ◌==◌, List, [], ◌∷◌, length, refl, sym, ap, ◌∙◌, subst, arith, Contains}
-use Rattle.std.proofs.lemmas.Bool.{cases_Bool, cases_lt, cases_eq, both_ways, and_parts, and_from, or_cases, or_left, or_right, eq-eqb, eqb-true, ne_eqb, lt-ltb, le-ltb, false_from_ne_true, not_from_false, not-true}
+use Rattle.std.proofs.Common.{◌≡◌, ◌≢◌, ℕ, zero, suc, ◌+◌, ◌-◌, ◌<◌, ◌≤◌, ◌⊎◌, inl, inr, Bool, true, false, not, nat_lt, ◌&&◌, ◌||◌, ◌==◌, List, length, refl, sym, ap, ◌∙◌, subst, arith, Contains}
+use Rattle.std.proofs.lemmas.Bool.{cases_Bool, cases_lt, cases_eq, both_ways, and_parts, or_cases, or_left, or_right, eq-eqb, eqb-true, lt-ltb, le-ltb, false_from_ne_true, not_from_false, not-true}
 use Rattle.permutations.specs.Count.{some}
 use Rattle.permutations.proofs.Search.{some-witness, some-from}
-use Rattle.pair_split.specs.Family.{Entry, has_end, on_side, off_side, touches, is_common, IsSeparation}
+use Rattle.pair_split.specs.Family.{Entry, has_end, touches, is_common, IsSeparation}
 use Rattle.pair_split.proofs.Sides.{touching-entry, separation-from, one-from_entry}
 use Rattle.split_comp.specs.declared.items.Item.{Item}
-use Rattle.split_comp.specs.Stack.{item, entry, family, owner, IsTreeAt, IsStack, IsSorted, IsBad, IsTopped, IsReturned}
-use Rattle.split_comp.specs.Cuts.{IsLeastUp, IsBefore, IsStart, IsFirstBelow, IsWanted}
+use Rattle.split_comp.specs.Stack.{item, entry, family, owner, IsTreeAt, IsStack, IsBad, IsReturned}
+use Rattle.split_comp.specs.Cuts.{IsLeastUp, IsBefore, IsFirstBelow, IsWanted}
 use Rattle.split_comp.specs.Sides.{is_frond_to, HasNoTriangle}
 use Rattle.split_comp.proofs.Entries.{item-ends, up-end, low-end, stack-contains, rest-contains}
 use Rattle.split_comp.proofs.Renewed.{frond-parts}
-use Rattle.split_comp.proofs.LeastUp.{IsLeastIn, least-in, touching-tree}
-use Rattle.split_comp.proofs.Lying.{owner-end, owner-tree, owner-frond, tree-owner, frond-owner, same-tree, start-at, owner-near, held-owner, owner-in, darts-apart, dart-over, same-side, constant-below}
+use Rattle.split_comp.proofs.LeastUp.{least-in, touching-tree}
+use Rattle.split_comp.proofs.Lying.{owner-end, owner-tree, owner-frond, tree-owner, same-tree, start-at, owner-near, held-owner, owner-in, darts-apart, dart-over, same-side, constant-below}
 use Rattle.split_comp.proofs.Stretch.{side_at, side-place, side-rest, side-two, side-off_two, IsShared, shared-from, stretch-not, common-at, common-rest}
 use Rattle.split_comp.proofs.Parallel.{top-pair, top-ends, dart-shared}
 

@@ -1,18 +1,18 @@
 -- The pass goes down along a tree edge.
-use Rattle.std.proofs.Common.{◌≡◌, ◌≢◌, ℕ, ◌+◌, ◌<◌, ◌≤◌, ◌⊎◌, inl, inr, true, false, List, [], length, take, drop, slice_index, slice_set, refl, sym, ap, ◌∙◌, subst, arith, Contains, get_or-set_same, get_or-set_other, take_all}
+use Rattle.std.proofs.Common.{◌≡◌, ◌≢◌, ℕ, ◌<◌, ◌≤◌, ◌⊎◌, inl, inr, true, List, length, take, drop, refl, sym, ap, ◌∙◌, subst, arith, get_or-set_same, get_or-set_other, take_all}
 use Rattle.std.proofs.lemmas.Bool.{cases_lt, cases_eq}
 use Rattle.std.proofs.lemmas.List.{length-set, length-drop}
 use Rattle.multigraph.specs.Graph.{Multigraph, edge_count}
-use Rattle.pair_split.specs.Family.{Entry, has_end, touches}
+use Rattle.pair_split.specs.Family.{has_end, touches}
 use Rattle.split_comp.specs.declared.items.Item.{Item}
 use Rattle.split_comp.specs.declared.items.Triple.{Triple}
 use Rattle.split_comp.specs.declared.items.Dart.{Dart}
-use Rattle.split_comp.specs.Stack.{item, entry, family, owner, IsStack, IsSorted}
+use Rattle.split_comp.specs.Stack.{item, entry, owner, IsStack, IsSorted}
 use Rattle.split_comp.specs.Palm.{tree_dart, tree_degree, tree_parent, IsPalm}
 use Rattle.split_comp.specs.Walk.{IsOnPath, IsWalk}
-use Rattle.split_comp.specs.Cuts.{cut, AreSound, AreComplete, IsWanted, IsFirstBelow}
+use Rattle.split_comp.specs.Cuts.{AreSound, AreComplete}
 use Rattle.split_comp.specs.Frames.{AreFrames, AreReached, AreAhead, AreCutsBelow, IsGoneTo}
-use Rattle.split_comp.specs.Pass.{NumberedTree, PassState, HavePlaces, at_place, IsPass, gone_down}
+use Rattle.split_comp.specs.Pass.{NumberedTree, PassState, at_place, IsPass, gone_down}
 use Rattle.split_comp.proofs.Entries.{up-end, low-end}
 use Rattle.split_comp.proofs.Lying.{owner-end, start-at}
 use Rattle.split_comp.proofs.Walk.{walk-down, left-on_path}

@@ -1,7 +1,7 @@
 -- A side that each bad side holds: it is minimal, and with one entry in its place each bad side holds that entry.
-use Rattle.std.proofs.Common.{◌≡◌, ◌≢◌, ℕ, ◌<◌, ◌≤◌, ◌⊎◌, inl, inr, Bool, true, false, cond, List, ◌∷◌, length, refl, sym, ap, ◌∙◌, subst, arith, Contains}
+use Rattle.std.proofs.Common.{◌≡◌, ℕ, inl, inr, Bool, true, false, List, ◌∷◌, refl, sym, ap, ◌∙◌, Contains}
 use Rattle.std.proofs.lemmas.Bool.{cases_Bool, both_ways}
-use Rattle.pair_split.specs.Family.{Entry, off_side, on_side, IsFamily, IsSeparation}
+use Rattle.pair_split.specs.Family.{Entry, off_side}
 use Rattle.pair_split.specs.Minimal.{IsMinimal}
 use Rattle.pair_split.proofs.Elements.{length-weaker}
 use Rattle.pair_split.proofs.SameEntries.{same-separation}

@@ -1,7 +1,7 @@
 -- Entries of the stack by their places, and the current family.
-use Rattle.std.proofs.Common.{◌≡◌, ◌≢◌, ℕ, zero, suc, ◌+◌, ◌<◌, ◌≤◌, ◌⊎◌, inl, inr, Bool, true, false, List, [], ◌∷◌, ◌++◌, length, map, take, drop, slice_index_or, refl, sym, ap, ◌∙◌, subst, arith, Contains}
-use Rattle.std.proofs.lemmas.Bool.{cases_Bool, or_cases, both_ways, false_from_ne_true}
-use Rattle.std.proofs.lemmas.List.{length-map, length-append, get_or-map, get_or_append_left, get_or-append_right, get_or_push, get_or-take, length-take-le, map-append}
+use Rattle.std.proofs.Common.{◌≡◌, ◌≢◌, ℕ, zero, suc, ◌+◌, ◌<◌, ◌⊎◌, inl, inr, true, List, [], ◌∷◌, ◌++◌, length, map, take, slice_index_or, refl, sym, ap, ◌∙◌, subst, arith, Contains}
+use Rattle.std.proofs.lemmas.Bool.{both_ways, false_from_ne_true}
+use Rattle.std.proofs.lemmas.List.{length-map, length-append, get_or-map, get_or_append_left, get_or_push, get_or-take, map-append}
 use Rattle.std.proofs.lemmas.List.Elements.{All-tail, Contains-append_left, Contains-append_right, Contains-append_cases, Contains-get_or}
 use Rattle.pair_split.specs.Family.{Entry, has_end, names, touches, IsFamily}
 use Rattle.pair_split.proofs.Elements.{contains-map, map-contains}
@@ -10,7 +10,7 @@ use Rattle.permutations.proofs.Members.{distinct-tail, distinct-append_apart}
 use Rattle.pair_split.proofs.Names.{same-place, name-member, member-name}
 use Rattle.pair_split.proofs.Eject.{family-cons}
 use Rattle.pair_split.proofs.Replaced.{end-cases, first-end, second-end}
-use Rattle.pair_split.proofs.Sides.{touches-from, touching-entry}
+use Rattle.pair_split.proofs.Sides.{touches-from}
 use Rattle.split_comp.specs.declared.items.Item.{Item}
 use Rattle.split_comp.specs.Stack.{no_item, item, entry, family}
 

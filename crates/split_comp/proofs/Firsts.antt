@@ -1,17 +1,16 @@
 -- First places when an entry is pushed, sides that are cut off, and front parts of lists.
-use Rattle.std.proofs.Common.{◌≡◌, ◌≢◌, ℕ, zero, suc, ◌+◌, ◌-◌, ◌<◌, ◌≤◌, ◌⊎◌, inl, inr, Bool, true, false, not, nat_lt, ◌&&◌, if◌then◌else◌, List, [], ◌∷◌, ◌++◌, length, take, drop, slice_index, slice_index_or, slice_set, refl, sym, ap, ◌∙◌, subst, arith, Contains}
-use Rattle.std.proofs.lemmas.Bool.{cases_Bool, cases_lt, cases_eq, both_ways, lt-ltb, le-ltb, and_parts}
-use Rattle.std.proofs.lemmas.List.{length-append, length-set, get_or-set_same, get_or-set_other, get_or_past, get_or-take, length-take-le, take-append-le, take-take}
-use Rattle.pair_split.specs.Family.{Entry, has_end, IsFamily}
+use Rattle.std.proofs.Common.{◌≡◌, ℕ, ◌<◌, ◌≤◌, ◌⊎◌, inl, inr, Bool, not, nat_lt, ◌&&◌, if◌then◌else◌, List, length, slice_index, slice_set, refl, sym, ap, ◌∙◌, subst, arith}
+use Rattle.std.proofs.lemmas.Bool.{cases_lt, cases_eq, lt-ltb, le-ltb}
+use Rattle.std.proofs.lemmas.List.{length-set, get_or-set_same, get_or-set_other, get_or_past}
+use Rattle.pair_split.specs.Family.{Entry, IsFamily}
 use Rattle.split_comp.specs.declared.items.Item.{Item}
-use Rattle.split_comp.specs.declared.items.Triple.{Triple}
 use Rattle.split_comp.specs.declared.items.Dart.{Dart}
-use Rattle.split_comp.specs.Stack.{no_item, item, entry, family, owner, IsSorted}
+use Rattle.split_comp.specs.Stack.{no_item, item, family, owner, IsSorted}
 use Rattle.split_comp.specs.Frames.{AreAhead}
 use Rattle.split_comp.specs.Sides.{IsCutOff}
 use Rattle.split_comp.specs.Pass.{lowered}
 use Rattle.split_comp.proofs.Stretch.{side_at, side-place, side-rest}
-use Rattle.split_comp.proofs.Alike.{IsAlike, alike-take}
+use Rattle.split_comp.proofs.Alike.{IsAlike}
 
 -- the entries from place k on that pass a test, as a side
 pub cut-off : (keeps : Item → Bool) (stack : List Item) (rest : List Entry) (k : ℕ) → IsFamily (family stack rest) → IsCutOff keeps stack rest k (side_at stack (λ i. not (nat_lt i k) && keeps (item stack i)))

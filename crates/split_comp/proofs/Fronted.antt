@@ -1,22 +1,21 @@
 -- A frond was pushed: it is joined with the one below, or noted, and the pass goes on.
-use Rattle.std.proofs.Common.{◌≡◌, ◌≢◌, ℕ, zero, suc, ◌+◌, ◌-◌, ◌<◌, ◌≤◌, ◌⊎◌, inl, inr, Bool, true, false, not, nat_lt, ◌&&◌, if◌then◌else◌, List, [], ◌∷◌, ◌++◌, length, map, take, drop, slice_index, slice_index_or, refl, sym, ap, ◌∙◌, subst, arith, Contains}
-use Rattle.std.proofs.lemmas.Bool.{cases_Bool, cases_lt, cases_eq, both_ways, lt-ltb, le-ltb, eq-eqb}
-use Rattle.std.proofs.lemmas.List.{length-append, length-take-le, take-append-le, take-append-drop, drop-append-le, length-drop, get_or-drop, length-map}
+use Rattle.std.proofs.Common.{◌≡◌, ◌≢◌, ℕ, zero, suc, ◌+◌, ◌-◌, ◌<◌, ◌≤◌, ◌⊎◌, inl, inr, Bool, true, false, not, nat_lt, ◌&&◌, List, [], ◌∷◌, ◌++◌, length, map, take, drop, slice_index, refl, sym, ap, ◌∙◌, subst, arith}
+use Rattle.std.proofs.lemmas.Bool.{cases_lt, cases_eq, both_ways, eq-eqb}
+use Rattle.std.proofs.lemmas.List.{length-append, length-take-le, take-append-le, drop-append-le, length-drop, get_or-drop, length-map}
 use Rattle.multigraph.specs.Graph.{Multigraph, edge_count}
-use Rattle.pair_split.specs.Family.{Entry, has_end, off_side, IsFamily, IsSeparation}
-use Rattle.pair_split.proofs.SameEntries.{IsWithin}
+use Rattle.pair_split.specs.Family.{Entry, IsSeparation}
 use Rattle.split_comp.specs.declared.items.Item.{Item}
 use Rattle.split_comp.specs.declared.items.Triple.{Triple}
 use Rattle.split_comp.specs.declared.items.Dart.{Dart}
-use Rattle.split_comp.specs.Stack.{no_item, item, entry, family, owner, IsTreeAt, IsStack, IsSorted, IsTopped, IsClean, AreFirst}
+use Rattle.split_comp.specs.Stack.{item, entry, family, owner, IsStack, IsSorted, IsClean}
 use Rattle.split_comp.specs.Palm.{tree_dart, tree_degree, tree_parent, IsPalm}
 use Rattle.split_comp.specs.Walk.{IsOnPath, IsWalk}
-use Rattle.split_comp.specs.Cuts.{cut, IsLeastUp, AreSound, IsWanted, AreComplete, IsFirstBelow}
-use Rattle.split_comp.specs.Frames.{AreFrames, AreAhead, AreCutsBelow}
-use Rattle.split_comp.specs.Sides.{is_frond_to, IsCutOff, all_items, IsLeast}
-use Rattle.split_comp.specs.Noting.{IsTakenLower, IsNoted}
-use Rattle.split_comp.specs.Pass.{NumberedTree, IsNumbered, PassState, IsHeld, HavePlaces, at_place, IsPass, IsFronted, IsParallel, CanJoin, IsJoined, IsEjected, IsDartNoted, CanEject, joined_item, top_item, below_item, pushed, next_name, lowered}
-use Rattle.split_comp.proofs.Entries.{item-ends, stack-contains, item-front, item-last, item-take, length-push}
+use Rattle.split_comp.specs.Cuts.{cut, IsLeastUp, AreSound, AreComplete}
+use Rattle.split_comp.specs.Frames.{AreAhead, AreCutsBelow}
+use Rattle.split_comp.specs.Sides.{IsCutOff, all_items, IsLeast}
+use Rattle.split_comp.specs.Noting.{IsNoted}
+use Rattle.split_comp.specs.Pass.{NumberedTree, IsNumbered, PassState, at_place, IsPass, IsFronted, IsParallel, IsEjected, CanEject, joined_item, top_item, pushed, next_name, lowered}
+use Rattle.split_comp.proofs.Entries.{stack-contains, item-front, item-last, item-take, length-push}
 use Rattle.split_comp.proofs.Stretch.{side_at}
 use Rattle.split_comp.proofs.Renewed.{IsRenewed, frond-parts, stack-new, left-within, within-left, family-new}
 use Rattle.split_comp.proofs.RenewedPath.{frames-new, reached-new, first-new}
@@ -24,10 +23,10 @@ use Rattle.split_comp.proofs.Parallel.{few-clean, frond-clean, parallel-not, par
 use Rattle.split_comp.proofs.Walk.{next-on-path}
 use Rattle.split_comp.proofs.Lying.{start-at, owner-frond, frond-owner}
 use Rattle.split_comp.proofs.Ejected.{eject-topped}
-use Rattle.split_comp.proofs.Held.{can-eject, held-ejected, item-name, same-length}
+use Rattle.split_comp.proofs.Held.{can-eject, held-ejected, item-name}
 use Rattle.split_comp.proofs.Alike.{IsAlike, alike-take, alike-sound, alike-complete}
 use Rattle.split_comp.proofs.Noted.{IsFront, cut-left, chain-rises, note-sound-new, note-sound-old, note-complete-new, note-complete-old}
-use Rattle.split_comp.proofs.Firsts.{cut-off, lowered-length, pushed-at, pushed-here, IsAlikeTo, sorted-to, ahead-to, alike-whole, same-alike}
+use Rattle.split_comp.proofs.Firsts.{cut-off, lowered-length, pushed-at, pushed-here, IsAlikeTo, sorted-to, ahead-to, alike-whole}
 
 -- the cuts of vertices further up the path do not change, where the stack and the cuts stay in front of them
 pub below-kept : (last parent : ℕ → ℕ) (v : ℕ) (start base : ℕ → ℕ) (old new : List Item) (cuts now : List Triple) → AreCutsBelow last parent v start base old cuts → ((y : ℕ) → y ≢ 0 → IsOnPath last v y → take (start y) new ≡ take (start y) old) → ((y : ℕ) → y ≢ 0 → IsOnPath last v y → take (base y) now ≡ take (base y) cuts)

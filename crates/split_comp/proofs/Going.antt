@@ -1,20 +1,19 @@
 -- The pass goes along a frond.
-use Rattle.std.proofs.Common.{◌≡◌, ◌≢◌, ℕ, ◌+◌, ◌<◌, ◌≤◌, ◌⊎◌, inl, inr, Bool, true, false, not, List, [], ◌∷◌, ◌++◌, length, map, take, drop, slice_index, slice_index_or, slice_set, refl, sym, ap, ◌∙◌, subst, arith, Contains, get_or-set_same, get_or-set_other, take_all}
-use Rattle.std.proofs.lemmas.Bool.{cases_Bool, cases_lt, cases_eq, both_ways}
+use Rattle.std.proofs.Common.{◌≡◌, ◌≢◌, ℕ, ◌+◌, ◌<◌, ◌≤◌, ◌⊎◌, inl, inr, false, List, [], ◌∷◌, length, take, drop, slice_index, slice_set, refl, sym, ap, ◌∙◌, subst, arith, get_or-set_same, get_or-set_other, take_all}
+use Rattle.std.proofs.lemmas.Bool.{cases_lt, cases_eq, both_ways}
 use Rattle.std.proofs.lemmas.List.{length-set, take-append-le}
 use Rattle.multigraph.specs.Graph.{Multigraph, edge_count}
-use Rattle.pair_split.specs.Family.{Entry, has_end, touches, IsFamily}
+use Rattle.pair_split.specs.Family.{Entry, IsFamily}
 use Rattle.pair_split.proofs.SameEntries.{IsWithin}
 use Rattle.split_comp.specs.declared.items.Item.{Item}
-use Rattle.split_comp.specs.declared.items.Triple.{Triple}
 use Rattle.split_comp.specs.declared.items.Dart.{Dart}
-use Rattle.split_comp.specs.Stack.{no_item, item, entry, family, owner, IsStack, IsSorted, IsTopped, IsClean, AreFirst}
-use Rattle.split_comp.specs.Palm.{tree_dart, tree_degree, tree_parent, dart_entry, IsPalm}
-use Rattle.split_comp.specs.Walk.{IsOnPath, IsWalk, AreLeft, IsOneMore}
+use Rattle.split_comp.specs.Stack.{item, entry, family, owner, IsStack, AreFirst}
+use Rattle.split_comp.specs.Palm.{tree_dart, tree_degree, tree_parent, dart_entry}
+use Rattle.split_comp.specs.Walk.{IsWalk, AreLeft, IsOneMore}
 use Rattle.split_comp.specs.Cuts.{AreSound, AreComplete}
-use Rattle.split_comp.specs.Frames.{AreFrames, AreReached, AreAhead, IsGoneTo}
-use Rattle.split_comp.specs.Pass.{NumberedTree, IsNumbered, PassState, IsHeld, HavePlaces, at_place, IsPass, IsFronted, pushed, gone_along, new_frond, lowered}
-use Rattle.split_comp.proofs.Entries.{up-end, low-end, stack-contains, rest-contains, length-push, rest-family}
+use Rattle.split_comp.specs.Frames.{AreFrames, AreReached}
+use Rattle.split_comp.specs.Pass.{NumberedTree, IsNumbered, PassState, at_place, IsPass, IsFronted, pushed, gone_along, new_frond, lowered}
+use Rattle.split_comp.proofs.Entries.{rest-family}
 use Rattle.split_comp.proofs.Pushed.{IsPushed, pushed-size, pushed-front, pushed-top, pushed-cases, pushed-within, pushed-back, push-frond, pushed-first}
 use Rattle.split_comp.proofs.Parallel.{push-topped}
 use Rattle.split_comp.proofs.Walk.{walk-frond, left-more, left-free, left-on_path, next-on-path}
@@ -200,10 +199,16 @@ module _ (g : Multigraph) (t : NumberedTree) (numbered : IsNumbered g t) (s : Pa
     reach_last = λ r l o.
         let i = p.ahead.reach_ahead s.at r (at_place s.gone s.at) not-root (omega arith, p.palm.above s.at) l (owner-front r l o) (omega arith) more in
         (i.0, omega (arith, ap (λ (z : Item). z.start) (front r l), i.1), i.2, omega (arith, ap (λ (z : Item). z.up) (front i.0 (omega (arith, i.2, l))), i.3, reach.0, top-up));
-    frond_last = λ r f l o n. omega (arith, top-up, reach.0, ap (λ (z : Item). z.up) (front r l), elim (p.ahead.frond_ahead s.at r (at_place s.gone s.at) (omega (arith, f, fewer)) not-root (omega arith, p.palm.above s.at) l (owner-front r l o) (ap (λ (z : Item). z.tree) (sym (front r l)) ∙ n) (omega arith) more) as (λ z. (item s.items r).up ≤ d.reach) [
-      | inl a ↦ omega (arith, a)
-      | inr a ↦ omega (arith, a.0)
-    ]);
+    frond_last = λ r f l o n. omega (
+      arith,
+      top-up,
+      reach.0,
+      ap (λ (z : Item). z.up) (front r l),
+      elim (p.ahead.frond_ahead s.at r (at_place s.gone s.at) (omega (arith, f, fewer)) not-root (omega arith, p.palm.above s.at) l (owner-front r l o) (ap (λ (z : Item). z.tree) (sym (front r l)) ∙ n) (omega arith) more) as (λ z. (item s.items r).up ≤ d.reach) [
+        | inl a ↦ omega (arith, a)
+        | inr a ↦ omega (arith, a.0)
+      ],
+    );
     next = λ k a l. elim (p.palm.in_order s.at (at_place s.gone s.at) k v-in (omega (arith, one.0, a)) l) [
       | inl o ↦ inl (omega (arith, top-up, reach.0, o))
       | inr o ↦ inr (omega (arith, top-up, reach.0, o.0), omega (arith, reach.1, o.1))

@@ -1,22 +1,19 @@
 -- The state of splitting along the pass: when it may be split, and what it is afterwards.
-use Rattle.std.proofs.Common.{◌≡◌, ◌≢◌, ℕ, suc, ◌+◌, ◌-◌, ◌*◌, ◌<◌, ◌≤◌, ◌⊎◌, inl, inr, Bool, true, false, not, nat_lt, List, [], ◌∷◌, ◌++◌, length, map, filter, drop, take, slice_index, slice_index_or, refl, sym, ap, ◌∙◌, subst, arith, Contains}
-use Rattle.std.proofs.lemmas.Bool.{cases_Bool, cases_lt, both_ways, lt-ltb, le-ltb, false_from_ne_true}
+use Rattle.std.proofs.Common.{◌≡◌, ℕ, ◌+◌, ◌-◌, ◌<◌, ◌≤◌, inl, inr, Bool, true, false, not, List, [], ◌∷◌, ◌++◌, length, map, filter, drop, slice_index, refl, sym, ap, ◌∙◌, subst, arith, Contains}
+use Rattle.std.proofs.lemmas.Bool.{cases_Bool, cases_lt, lt-ltb, le-ltb, false_from_ne_true}
 use Rattle.std.proofs.lemmas.List.{length-map, length-append, map-append}
-use Rattle.permutations.specs.Members.{is_member, is_distinct}
+use Rattle.permutations.specs.Members.{is_member}
 use Rattle.permutations.proofs.Filter.{filter-yes, filter-no}
 use Rattle.permutations.proofs.Arrangements.{length-from_members}
 use Rattle.permutations.proofs.Relation.{same-tests}
-use Rattle.multigraph.specs.Graph.{Multigraph, edge_count, IsGraph}
-use Rattle.graph_theory.specs.Block.{IsOneBlock}
+use Rattle.multigraph.specs.Graph.{Multigraph, edge_count}
 use Rattle.pair_split.specs.Family.{Entry, names, on_side, off_side, IsFamily, IsTight, IsSeparation, IsPrime}
 use Rattle.pair_split.specs.Skeleton.{SameEnds, IsSkeleton}
-use Rattle.pair_split.specs.Edges.{graph_entry, entry_ends, family_skeleton}
-use Rattle.pair_split.specs.State.{Part, SplitState, layer, own_at, ejected, IsSplitState}
+use Rattle.pair_split.specs.Edges.{entry_ends, family_skeleton}
+use Rattle.pair_split.specs.State.{Part, SplitState, ejected, IsSplitState}
 use Rattle.pair_split.specs.Cuts.{part_of}
-use Rattle.pair_split.specs.Lumps.{entry_of, family_of}
+use Rattle.pair_split.specs.Lumps.{entry_of}
 use Rattle.pair_split.specs.declared.cuts.Cut.{Cut}
-use Rattle.pair_split.specs.declared.family.NamedEdge.{NamedEdge}
-use Rattle.pair_split.specs.declared.components.Kind.{Kind}
 use Rattle.pair_split.proofs.Elements.{contains-here, contains-later, contains-cases, contains-map, map-contains, contains-filter, filter-contains}
 use Rattle.pair_split.proofs.Names.{name-member, member-name}
 use Rattle.pair_split.proofs.GraphFamily.{one_block-tight}
@@ -33,7 +30,7 @@ use Rattle.split_comp.specs.Pass.{NumberedTree, IsNumbered, PassState, drawn, dr
 use Rattle.split_comp.proofs.Entries.{stack-contains}
 use Rattle.split_comp.proofs.Stretch.{cut-is}
 use Rattle.split_comp.proofs.Ejected.{least-minimal}
-use Rattle.split_comp.proofs.Renamed.{renamed-family, renamed-tight, renamed-separation, renamed-minimal}
+use Rattle.split_comp.proofs.Renamed.{renamed-family, renamed-separation, renamed-minimal}
 use Rattle.split_comp.proofs.Reordered.{state-reordered}
 
 -- families with the same entries have as many

@@ -1,32 +1,32 @@
 -- The pass has returned: a frond parallel to the last entry is joined with it.
-use Rattle.std.proofs.Common.{◌≡◌, ◌≢◌, ℕ, zero, suc, ◌+◌, ◌-◌, ◌<◌, ◌≤◌, ◌⊎◌, inl, inr, Bool, true, false, not, nat_lt, ◌&&◌, ◌||◌, ◌==◌, if◌then◌else◌, List, [], ◌∷◌, ◌++◌, length, map, take, drop, slice_index, slice_index_or, refl, sym, ap, ◌∙◌, subst, arith, Contains}
-use Rattle.std.proofs.lemmas.Bool.{cases_Bool, cases_lt, cases_eq, both_ways, or_cases, or_left, or_right, eq-eqb, eqb-true, not_from_false, false_from_ne_true}
-use Rattle.std.proofs.lemmas.List.{length-append, length-take-le, length-map}
+use Rattle.std.proofs.Common.{◌≡◌, ◌≢◌, ℕ, ◌+◌, ◌-◌, ◌<◌, ◌≤◌, inl, inr, Bool, true, false, not, nat_lt, ◌&&◌, ◌||◌, ◌==◌, List, [], ◌∷◌, ◌++◌, length, take, drop, slice_index, refl, sym, ap, ◌∙◌, subst, arith, Contains}
+use Rattle.std.proofs.lemmas.Bool.{cases_lt, cases_eq, both_ways, or_cases, or_left, or_right, eq-eqb, eqb-true, not_from_false, false_from_ne_true}
+use Rattle.std.proofs.lemmas.List.{length-take-le}
 use Rattle.multigraph.specs.Graph.{Multigraph, edge_count}
-use Rattle.pair_split.specs.Family.{Entry, has_end, touches, on_side, off_side, IsSeparation}
+use Rattle.pair_split.specs.Family.{Entry, has_end, touches, IsSeparation}
 use Rattle.pair_split.proofs.Elements.{two-pass}
 use Rattle.pair_split.proofs.Degrees.{tight-degree}
 use Rattle.pair_split.proofs.Sides.{touching-entry, length-sides}
 use Rattle.split_comp.specs.declared.items.Item.{Item}
 use Rattle.split_comp.specs.declared.items.Triple.{Triple}
 use Rattle.split_comp.specs.declared.items.Dart.{Dart}
-use Rattle.split_comp.specs.Stack.{no_item, item, entry, family, owner, IsTreeAt, IsStack, IsSorted, IsTopped, IsAtop, AreFirst}
+use Rattle.split_comp.specs.Stack.{item, entry, family, owner, IsStack}
 use Rattle.split_comp.specs.Palm.{tree_dart, tree_degree, tree_parent, IsFrondTo, IsPalm}
-use Rattle.split_comp.specs.Walk.{IsOnPath, IsWalk, AreLeft}
-use Rattle.split_comp.specs.Cuts.{cut, IsSoundAt, AreSoundAt, AreCompleteAt}
+use Rattle.split_comp.specs.Walk.{IsWalk}
+use Rattle.split_comp.specs.Cuts.{cut, IsSoundAt}
 use Rattle.split_comp.specs.Sides.{is_frond_to, IsCutOff, all_items, IsLeast}
-use Rattle.split_comp.specs.Pass.{NumberedTree, IsNumbered, PassState, IsHeld, at_place, IsRaised, IsBack, IsParallel, CanJoin, IsJoined, IsEjected, CanEject, joined_item, top_item, below_item, pushed, next_name, lowered}
+use Rattle.split_comp.specs.Pass.{NumberedTree, IsNumbered, PassState, IsHeld, at_place, IsRaised, IsBack, IsParallel, IsEjected, CanEject, joined_item, top_item, pushed, next_name, lowered}
 use Rattle.split_comp.proofs.Entries.{item-ends, stack-contains, rest-contains, family-cases, item-front, item-last, item-take, length-push}
 use Rattle.split_comp.proofs.Stretch.{side_at, side-place, side-rest, side-two}
 use Rattle.split_comp.proofs.Renewed.{IsRenewed, frond-parts, left-within, within-left, family-new}
 use Rattle.split_comp.proofs.RenewedPath.{first-new}
 use Rattle.split_comp.proofs.Parallel.{parallel-not, parallel-least, parallel-separates}
-use Rattle.split_comp.proofs.Lying.{start-at, owner-end, owner-tree, owner-frond, tree-owner, frond-owner}
+use Rattle.split_comp.proofs.Lying.{start-at, owner-tree, owner-frond}
 use Rattle.split_comp.proofs.Held.{can-eject, held-ejected, ejected-two, item-name}
 use Rattle.split_comp.proofs.Walk.{next-on-path, left-on_path}
 use Rattle.split_comp.proofs.Returning.{replaced-sound, replaced-complete}
 use Rattle.split_comp.proofs.Firsts.{cut-off, lowered-length, pushed-at, pushed-here}
-use Rattle.split_comp.proofs.Raising.{h-in, w-below, raised-now}
+use Rattle.split_comp.proofs.Raising.{raised-now}
 
 -- where the search is not at the root, a dart of the root is left
 pub root-going : (n m : ℕ) (parent degree : ℕ → ℕ) (dart : ℕ → ℕ → Dart) (palm : IsPalm n m parent degree dart) (v done : ℕ) (gone : ℕ → ℕ) → IsWalk n palm.last parent degree dart v done gone → v ≢ 0 → gone 0 < degree 0

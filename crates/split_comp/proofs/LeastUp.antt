@@ -1,11 +1,11 @@
 -- Least upper ends, and entries on both sides of a place.
-use Rattle.std.proofs.Common.{◌≡◌, ◌≢◌, ℕ, zero, suc, ◌+◌, ◌<◌, ◌≤◌, ◌⊎◌, inl, inr, Bool, true, false, List, [], ◌∷◌, ◌++◌, length, take, slice_index_or, refl, sym, ap, ◌∙◌, subst, arith, Contains}
-use Rattle.std.proofs.lemmas.Bool.{cases_Bool, cases_lt, cases_eq, both_ways}
-use Rattle.pair_split.specs.Family.{Entry, has_end, touches}
+use Rattle.std.proofs.Common.{◌≡◌, ℕ, zero, suc, ◌+◌, ◌<◌, ◌≤◌, ◌⊎◌, inl, inr, true, List, length, refl, sym, ap, subst, arith}
+use Rattle.std.proofs.lemmas.Bool.{cases_Bool, cases_lt, cases_eq}
+use Rattle.pair_split.specs.Family.{Entry, has_end}
 use Rattle.split_comp.specs.declared.items.Item.{Item}
-use Rattle.split_comp.specs.Stack.{no_item, item, entry, family, owner, IsLaid, IsTreeAt, IsEnded, IsStack}
-use Rattle.split_comp.specs.Cuts.{IsLeastUp, IsAcross, IsBefore, IsStart, IsFirstBelow}
-use Rattle.split_comp.proofs.Entries.{item-ends, up-end, low-end}
+use Rattle.split_comp.specs.Stack.{item, entry, IsTreeAt, IsStack}
+use Rattle.split_comp.specs.Cuts.{IsLeastUp}
+use Rattle.split_comp.proofs.Entries.{item-ends}
 
 -- the least upper end in a stretch of the stack
 pub record IsLeastIn (stack : List Item) (t n a : ℕ) : Type 0 where

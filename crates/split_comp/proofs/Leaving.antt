@@ -1,27 +1,27 @@
 -- A dart to a child is finished: all below the child is split off, or the dart is noted, or cuts are dropped.
-use Rattle.std.proofs.Common.{◌≡◌, ◌≢◌, ℕ, zero, suc, ◌+◌, ◌-◌, ◌<◌, ◌≤◌, ◌⊎◌, inl, inr, Bool, true, false, not, nat_lt, ◌&&◌, if◌then◌else◌, List, [], ◌∷◌, ◌++◌, length, map, filter, take, drop, slice_index, slice_index_or, refl, sym, ap, ◌∙◌, subst, arith, Contains}
-use Rattle.std.proofs.lemmas.Bool.{cases_Bool, cases_lt, cases_eq, both_ways}
-use Rattle.std.proofs.lemmas.List.{length-append, length-map, length-take-le, length-drop, take-take, take-append-le, drop-append-le, get_or-drop, take-append-drop}
+use Rattle.std.proofs.Common.{◌≡◌, ◌≢◌, ℕ, suc, ◌+◌, ◌-◌, ◌<◌, ◌≤◌, ◌⊎◌, inl, inr, Bool, true, not, nat_lt, ◌&&◌, List, [], ◌∷◌, ◌++◌, length, map, filter, take, drop, slice_index, refl, sym, ap, ◌∙◌, subst, arith}
+use Rattle.std.proofs.lemmas.Bool.{cases_lt, cases_eq, both_ways}
+use Rattle.std.proofs.lemmas.List.{length-append, length-map, length-take-le, length-drop, take-take, take-append-le, drop-append-le, get_or-drop}
 use Rattle.multigraph.specs.Graph.{Multigraph, edge_count}
-use Rattle.pair_split.specs.Family.{Entry, has_end, on_side, off_side, IsSeparation}
-use Rattle.pair_split.proofs.Elements.{length-weaker, some-element, element-some}
+use Rattle.pair_split.specs.Family.{Entry, on_side, IsSeparation}
+use Rattle.pair_split.proofs.Elements.{length-weaker, element-some}
 use Rattle.pair_split.proofs.Sides.{length-sides, touching-entry}
 use Rattle.split_comp.specs.declared.items.Item.{Item}
 use Rattle.split_comp.specs.declared.items.Triple.{Triple}
 use Rattle.split_comp.specs.declared.items.Dart.{Dart}
-use Rattle.split_comp.specs.Stack.{no_item, item, entry, family, owner, IsTreeAt, IsStack, IsSorted, IsClean, IsReturned, AreFirst}
-use Rattle.split_comp.specs.Palm.{tree_dart, tree_degree, tree_parent, IsFrondTo, IsPalm}
+use Rattle.split_comp.specs.Stack.{item, entry, family, owner, IsStack, IsSorted, IsClean, IsReturned}
+use Rattle.split_comp.specs.Palm.{tree_dart, tree_degree, tree_parent, IsFrondTo}
 use Rattle.split_comp.specs.Walk.{IsOnPath}
 use Rattle.split_comp.specs.Cuts.{no_cut, cut, IsLeastUp, IsBefore, AreSound, AreComplete, AreSoundAt, AreCompleteAt}
 use Rattle.split_comp.specs.Frames.{AreAhead, AreCutsBelow}
-use Rattle.split_comp.specs.Sides.{is_frond_to, IsCutOff, all_items, IsLeast, HasNoTriangle}
+use Rattle.split_comp.specs.Sides.{IsCutOff, all_items, IsLeast}
 use Rattle.split_comp.specs.Noting.{IsNoted, IsDropped}
-use Rattle.split_comp.specs.Pass.{NumberedTree, IsNumbered, PassState, IsHeld, at_place, IsPass, IsRaised, IsBack, IsFronted, IsEjected, CanEject, IsTriangle, IsStale, new_frond, pushed, cuts_dropped, next_name, lowered}
-use Rattle.split_comp.proofs.Entries.{item-ends, up-end, low-end, stack-contains, rest-contains, item-front, item-last, item-take, length-push, family-cases}
+use Rattle.split_comp.specs.Pass.{NumberedTree, IsNumbered, PassState, IsHeld, at_place, IsPass, IsRaised, IsBack, IsFronted, IsEjected, CanEject, IsTriangle, new_frond, pushed, cuts_dropped, next_name, lowered}
+use Rattle.split_comp.proofs.Entries.{up-end, item-front, item-last, item-take, length-push, family-cases}
 use Rattle.split_comp.proofs.Stretch.{side_at, cut-is}
 use Rattle.split_comp.proofs.Renewed.{IsRenewed, stack-new, left-within, within-left, family-new}
 use Rattle.split_comp.proofs.RenewedPath.{frames-new, reached-new, first-new}
-use Rattle.split_comp.proofs.Lying.{owner-tree, tree-owner, darts-apart}
+use Rattle.split_comp.proofs.Lying.{tree-owner, darts-apart}
 use Rattle.split_comp.proofs.SplitSides.{none-left, none-whole, side-separates}
 use Rattle.split_comp.proofs.Ejected.{eject-topped}
 use Rattle.split_comp.proofs.Held.{can-eject, held-ejected, ejected-two, item-name}
@@ -271,8 +271,8 @@ module _ (g : Multigraph) (t : NumberedTree) (numbered : IsNumbered g t) (w : �
         ahead = ahead-to start s.items now.items (same-alike start s.items now.items front-same) last (tree_degree t.palm t.vertex) (tree_dart g t.palm t.vertex) (at_place s.gone) (at_place s.gone) s.at b.raised.rest b.raised.rest fewer (λ u. omega arith)
             (record { reach_ahead = λ u q k z p l. b.raised.ahead.reach_ahead u q k z p (omega (arith, l, s-h)); frond_ahead = λ u q k four z p l. b.raised.ahead.frond_ahead u q k four z p (omega (arith, l, s-h)) });
         reach_last = λ q l o.
-          let i = b.raised.ahead_last q (omega (arith, l, s-h)) (ap (λ (y : Item). owner y) (front-same q l) ∙ o) in
-          (i.0, omega (arith, i.1, ap (λ (y : Item). y.start) (front-same q l)), i.2, omega (arith, i.3, top-up, ap (λ (y : Item). y.up) (front-same i.0 (omega (arith, i.2, l)))));
+            let i = b.raised.ahead_last q (omega (arith, l, s-h)) (ap (λ (y : Item). owner y) (front-same q l) ∙ o) in
+            (i.0, omega (arith, i.1, ap (λ (y : Item). y.start) (front-same q l)), i.2, omega (arith, i.3, top-up, ap (λ (y : Item). y.up) (front-same i.0 (omega (arith, i.2, l)))));
         frond_last = λ q four l o f. elim (b.raised.frond_last q (omega (arith, four, fewer)) (omega (arith, l, s-h)) (ap (λ (y : Item). owner y) (front-same q l) ∙ o) (ap (λ (y : Item). y.tree) (front-same q l) ∙ f)) [
           | inl k ↦ omega (arith, k, top-up, ap (λ (y : Item). y.up) (front-same q l))
           | inr k ↦ omega (arith, k.0, top-up, ap (λ (y : Item). y.up) (front-same q l))
@@ -446,8 +446,12 @@ module _ (g : Multigraph) (t : NumberedTree) (numbered : IsNumbered g t) (w : �
           (omega (arith, n.taken.from, ap length n.parts, length-append n.kept (n.answer ∷ [])))) sound-now complete-now
         where
           base-le : (y : ℕ) → y ≢ 0 → IsOnPath last s.at y → at_place s.base y ≤ length n.kept
-          base-le y z p = omega (arith, base-up g.vertex_count (edge_count g) (tree_parent t.palm t.vertex) (tree_degree t.palm t.vertex) (tree_dart g t.palm t.vertex) b.raised.palm s.at s.done (at_place s.gone) b.raised.walk (at_place s.base)
-              (λ q m i o. b.raised.below.base_rises q m i (up-path g t w s b.raised q o)) (suc s.at) y z p (omega arith), n.taken.from)
+          base-le y z p = omega (
+            arith,
+            base-up g.vertex_count (edge_count g) (tree_parent t.palm t.vertex) (tree_degree t.palm t.vertex) (tree_dart g t.palm t.vertex) b.raised.palm s.at s.done (at_place s.gone) b.raised.walk (at_place s.base)
+                (λ q m i o. b.raised.below.base_rises q m i (up-path g t w s b.raised q o)) (suc s.at) y z p (omega arith),
+            n.taken.from,
+          )
 
     -- (c) the first dart: cuts before which the vertex is met are dropped
     module _ (first-dart : start ≤ at_place s.start s.at) (now : List Triple) (d : IsDropped (at_place s.base w) (slice_index s.first s.at) s.cuts now) where

@@ -1,12 +1,12 @@
 -- How entries lie in the stack: what belongs to tree edges and to darts.
-use Rattle.std.proofs.Common.{◌≡◌, ◌≢◌, ℕ, zero, suc, ◌+◌, ◌<◌, ◌≤◌, ◌⊎◌, inl, inr, Bool, true, false, not, if◌then◌else◌, List, length, refl, sym, ap, ◌∙◌, subst, arith, Contains}
-use Rattle.std.proofs.lemmas.Bool.{cases_Bool, cases_lt, cases_eq, both_ways, not_from_false, false_from_ne_true}
-use Rattle.pair_split.specs.Family.{Entry, has_end, touches, is_common}
+use Rattle.std.proofs.Common.{◌≡◌, ◌≢◌, ℕ, zero, suc, ◌+◌, ◌<◌, ◌≤◌, inl, inr, Bool, true, false, List, length, refl, sym, ap, ◌∙◌, subst, arith}
+use Rattle.std.proofs.lemmas.Bool.{cases_Bool, cases_lt, cases_eq, both_ways, not_from_false}
+use Rattle.pair_split.specs.Family.{Entry, has_end, is_common}
 use Rattle.pair_split.proofs.Sides.{common-from}
 use Rattle.split_comp.specs.declared.items.Item.{Item}
 use Rattle.split_comp.specs.Stack.{item, entry, family, owner, IsTreeAt, IsStack}
 use Rattle.split_comp.specs.Frames.{AreFrames}
-use Rattle.split_comp.proofs.Entries.{item-ends, up-end, low-end, stack-contains}
+use Rattle.split_comp.proofs.Entries.{up-end, low-end, stack-contains}
 use Rattle.split_comp.proofs.LeastUp.{touching-tree}
 
 -- the vertex of which an entry is a dart is one of its ends

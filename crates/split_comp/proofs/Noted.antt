@@ -1,12 +1,12 @@
 -- The cuts of a vertex when a further dart of it is on the stack.
-use Rattle.std.proofs.Common.{◌≡◌, ◌≢◌, ℕ, zero, suc, ◌+◌, ◌-◌, ◌<◌, ◌≤◌, ◌⊎◌, inl, inr, Bool, true, false, ◌&&◌, nat_lt, not, if◌then◌else◌, List, [], ◌∷◌, ◌++◌, length, slice_index_or, refl, sym, ap, ap₂, ◌∙◌, subst, arith, Contains}
-use Rattle.std.proofs.lemmas.Bool.{cases_Bool, cases_lt, cases_eq, both_ways, lt-ltb, le-ltb, and_parts, and_from}
+use Rattle.std.proofs.Common.{◌≡◌, ℕ, zero, suc, ◌+◌, ◌<◌, ◌≤◌, ◌⊎◌, inl, inr, Bool, true, false, ◌&&◌, nat_lt, not, List, [], ◌∷◌, ◌++◌, length, refl, sym, ap, ◌∙◌, subst, arith, Contains}
+use Rattle.std.proofs.lemmas.Bool.{cases_Bool, cases_lt, cases_eq, both_ways, lt-ltb, le-ltb}
 use Rattle.std.proofs.lemmas.List.{length-append, get_or_append_left, get_or_push, get_or-append_right}
-use Rattle.std.proofs.lemmas.List.Elements.{Contains-append_left, Contains-append_right, Contains-append_cases, Contains-push, Contains-push_cases}
+use Rattle.std.proofs.lemmas.List.Elements.{Contains-append_left, Contains-append_cases, Contains-push}
 use Rattle.pair_split.specs.Family.{Entry, has_end, touches}
 use Rattle.split_comp.specs.declared.items.Item.{Item}
 use Rattle.split_comp.specs.declared.items.Triple.{Triple}
-use Rattle.split_comp.specs.Stack.{no_item, item, entry, family, owner, IsLaid, IsTreeAt, IsEnded, IsStack, IsTopped}
+use Rattle.split_comp.specs.Stack.{item, entry, owner, IsTreeAt, IsStack, IsTopped}
 use Rattle.split_comp.specs.Cuts.{no_cut, cut, IsLeastUp, IsAcross, IsBefore, IsStart, IsFirstBelow, IsSoundCut, IsChain, AreSound, IsWanted, AreComplete}
 use Rattle.split_comp.proofs.Entries.{item-ends, up-end, low-end, place-of}
 use Rattle.split_comp.proofs.LeastUp.{IsLeastIn, least-in, least-same, touching-tree, top-apart}

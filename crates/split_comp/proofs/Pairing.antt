@@ -1,23 +1,23 @@
 -- The pass has returned: what lies behind the last cut is split off, where its upper end is the vertex.
-use Rattle.std.proofs.Common.{◌≡◌, ◌≢◌, ℕ, zero, suc, ◌+◌, ◌-◌, ◌<◌, ◌≤◌, ◌⊎◌, inl, inr, Bool, true, false, not, nat_lt, ◌&&◌, if◌then◌else◌, Option, None, Some, List, [], ◌∷◌, ◌++◌, length, map, filter, take, drop, slice_index, slice_index_or, refl, sym, ap, ◌∙◌, subst, arith, Contains}
-use Rattle.std.proofs.lemmas.Bool.{cases_Bool, cases_lt, cases_eq, both_ways, not_from_false, false_from_ne_true, eq-eqb}
+use Rattle.std.proofs.Common.{◌≡◌, ◌≢◌, ℕ, ◌+◌, ◌-◌, ◌<◌, ◌≤◌, ◌⊎◌, inl, inr, Bool, true, false, not, nat_lt, ◌&&◌, None, Some, List, [], ◌∷◌, ◌++◌, length, map, take, drop, slice_index, refl, sym, ap, ◌∙◌, subst, arith, Contains}
+use Rattle.std.proofs.lemmas.Bool.{cases_Bool, cases_lt, cases_eq, both_ways, not_from_false, eq-eqb}
 use Rattle.std.proofs.lemmas.List.{length-append, length-map, length-take-le, length-drop, get_or-drop}
 use Rattle.std.proofs.lemmas.List.Elements.{Contains-push_cases}
-use Rattle.multigraph.specs.Graph.{Multigraph, edge_count}
+use Rattle.multigraph.specs.Graph.{Multigraph}
 use Rattle.pair_split.specs.Family.{Entry, has_end, IsSeparation}
 use Rattle.split_comp.specs.declared.items.Item.{Item}
 use Rattle.split_comp.specs.declared.items.Triple.{Triple}
 use Rattle.split_comp.specs.Stack.{no_item, item, entry, family, owner, IsTreeAt, IsStack, IsReturned, AreFirst}
-use Rattle.split_comp.specs.Cuts.{no_cut, cut, IsBefore, IsSoundAt, AreSoundAt, AreCompleteAt}
-use Rattle.split_comp.specs.Sides.{is_frond_to, IsCutOff, all_items, but_frond, IsLeast, HasNoTriangle}
-use Rattle.split_comp.specs.Pass.{NumberedTree, IsNumbered, PassState, IsHeld, at_place, IsRaised, IsBack, IsEjected, CanEject, IsTriangle, IsStale, IsFrondFound, top_item, below_item, new_tree, pushed, cuts_dropped, next_name, lowered, goes}
-use Rattle.split_comp.proofs.Entries.{item-ends, low-end, stack-contains, item-front, item-last, item-take, length-push}
+use Rattle.split_comp.specs.Cuts.{cut, IsSoundAt, AreSoundAt, AreCompleteAt}
+use Rattle.split_comp.specs.Sides.{is_frond_to, IsCutOff, but_frond, IsLeast, HasNoTriangle}
+use Rattle.split_comp.specs.Pass.{NumberedTree, IsNumbered, PassState, IsHeld, at_place, IsRaised, IsBack, IsEjected, CanEject, IsTriangle, IsStale, IsFrondFound, top_item, new_tree, pushed, cuts_dropped, next_name, lowered, goes}
+use Rattle.split_comp.proofs.Entries.{low-end, stack-contains, item-front, item-last, item-take, length-push}
 use Rattle.split_comp.proofs.Stretch.{side_at}
 use Rattle.split_comp.proofs.Renewed.{IsRenewed, frond-parts, left-within, within-left, family-new}
 use Rattle.split_comp.proofs.RenewedPath.{first-new}
-use Rattle.split_comp.proofs.Lying.{start-at, owner-end, owner-tree, dart-over, darts-apart}
+use Rattle.split_comp.proofs.Lying.{start-at, owner-end, dart-over, darts-apart}
 use Rattle.split_comp.proofs.LeastUp.{touching-tree}
-use Rattle.split_comp.proofs.SplitSides.{ups-behind, behind-b, pair-separates, pair-least, pair-frond, fronds-once}
+use Rattle.split_comp.proofs.SplitSides.{ups-behind, pair-separates, pair-least, pair-frond, fronds-once}
 use Rattle.split_comp.proofs.Held.{can-eject, held-ejected, ejected-two, item-name}
 use Rattle.split_comp.proofs.Returning.{drop-sound, replaced-sound, replaced-complete}
 use Rattle.split_comp.proofs.Noted.{chain-rises, cut-left, cut-push}
@@ -164,8 +164,10 @@ module _ (g : Multigraph) (t : NumberedTree) (numbered : IsNumbered g t) (w : �
 
       -- the dart that starts at the cut, and the tree edge behind it
       behind : (k ≤ sound.starts.place) × (sound.starts.place ≤ sound.below.place)
-      behind = (omega (arith, sound.starts.starts, start-at b.raised.palm.last s.done s.at s.items b.raised.rest stands sound.starts.place sound.starts.within),
-          (touching-tree b.raised.palm.last s.done s.at s.items b.raised.rest stands c.low sound.below.place sound.starts.place tree-b sound.starts.within (subst (λ (z : ℕ). has_end z (entry (item s.items sound.starts.place)) ≡ true) sound.starts.owned (owner-end (item s.items sound.starts.place)))).1)
+      behind = (
+        omega (arith, sound.starts.starts, start-at b.raised.palm.last s.done s.at s.items b.raised.rest stands sound.starts.place sound.starts.within),
+        (touching-tree b.raised.palm.last s.done s.at s.items b.raised.rest stands c.low sound.below.place sound.starts.place tree-b sound.starts.within (subst (λ (z : ℕ). has_end z (entry (item s.items sound.starts.place)) ≡ true) sound.starts.owned (owner-end (item s.items sound.starts.place)))).1,
+      )
 
       -- the other cuts lie in front
       front-cut : (i : ℕ) → i < length front → cut (front ++ c ∷ []) i ≡ cut front i
@@ -173,9 +175,11 @@ module _ (g : Multigraph) (t : NumberedTree) (numbered : IsNumbered g t) (w : �
 
       front-rises : (i : ℕ) → i < length front → ((cut front i).start < k) × (c.low ≤ (cut front i).low) × ((cut front i).up ≤ s.at)
       front-rises i l =
-          let d = chain-rises s.items (front ++ c ∷ []) sounds.chain i (length front) l (omega (arith, length-append front (c ∷ []))) in
-          (omega (arith, d.0, ap (λ (y : Triple). y.start) (front-cut i l), ap (λ (y : Triple). y.start) at-last), omega (arith, d.2, ap (λ (y : Triple). y.low) (front-cut i l), ap (λ (y : Triple). y.low) at-last),
-          omega (arith, d.1, ap (λ (y : Triple). y.up) (front-cut i l), ap (λ (y : Triple). y.up) at-last, c-up))
+          let d = chain-rises s.items (front ++ c ∷ []) sounds.chain i (length front) l (omega (arith, length-append front (c ∷ []))) in (
+            omega (arith, d.0, ap (λ (y : Triple). y.start) (front-cut i l), ap (λ (y : Triple). y.start) at-last),
+            omega (arith, d.2, ap (λ (y : Triple). y.low) (front-cut i l), ap (λ (y : Triple). y.low) at-last),
+            omega (arith, d.1, ap (λ (y : Triple). y.up) (front-cut i l), ap (λ (y : Triple). y.up) at-last, c-up),
+          )
 
       front-stale : (i : ℕ) → i < length front → (cut front i).up ≡ s.at → (cut front i).low ≡ (item s.items b.raised.height).low → ⊥
       front-stale i l u o =
@@ -397,8 +401,8 @@ module _ (g : Multigraph) (t : NumberedTree) (numbered : IsNumbered g t) (w : �
           mid = λ i a d. (subst (λ (y : Item). is_frond_to s.at c.low y ≡ true) (sym (both-mid i a d)) frond-f, ap (λ (y : Item). y.start) (both-mid i a d), refl);
           mid_old = λ i a d. (o, omega arith, o-in, o-entry ∙ ap entry (sym (both-mid i a d)), goes-not (is_frond_to s.at c.low (item s.items o)) o-frond);
           mid_new = λ i a l q.
-            let same = only i l (goes-back (is_frond_to s.at c.low (item s.items i)) q) in
-            (k, omega arith, omega arith, ap (λ (z : ℕ). entry (item s.items z)) same ∙ (o-entry ∙ ap entry (sym (both-mid k (omega arith) (omega arith)))));
+              let same = only i l (goes-back (is_frond_to s.at c.low (item s.items i)) q) in
+              (k, omega arith, omega arith, ap (λ (z : ℕ). entry (item s.items z)) same ∙ (o-entry ∙ ap entry (sym (both-mid k (omega arith) (omega arith)))));
           cut = off;
           separates = sep;
           rises = rises-x;

@@ -1,8 +1,8 @@
 -- Parallel entries on top of the stack.
-use Rattle.std.proofs.Common.{◌≡◌, ◌≢◌, ℕ, zero, suc, ◌+◌, ◌-◌, ◌<◌, ◌≤◌, ◌⊎◌, inl, inr, Bool, true, false, not, nat_lt, ◌&&◌, ◌||◌, ◌==◌, List, [], ◌∷◌, ◌++◌, length, map, filter, drop, refl, sym, ap, ◌∙◌, subst, arith, Contains}
+use Rattle.std.proofs.Common.{◌≡◌, ◌≢◌, ℕ, ◌+◌, ◌-◌, ◌<◌, ◌≤◌, ◌⊎◌, inl, inr, Bool, true, false, not, nat_lt, ◌&&◌, ◌||◌, ◌==◌, List, length, filter, drop, refl, sym, ap, ◌∙◌, subst, arith, Contains}
 use Rattle.std.proofs.lemmas.Bool.{cases_Bool, cases_lt, cases_eq, both_ways, and_parts, and_from, or_cases, or_left, or_right, eq-eqb, eqb-true, ne_eqb, lt-ltb, le-ltb, false_from_ne_true, not_from_false, not-true}
-use Rattle.std.proofs.lemmas.List.{length-map, length-append, length-drop}
-use Rattle.pair_split.specs.Family.{Entry, has_end, on_side, off_side, names, touches, is_common, IsFamily, IsTight, IsSeparation}
+use Rattle.std.proofs.lemmas.List.{length-map, length-drop}
+use Rattle.pair_split.specs.Family.{Entry, has_end, on_side, touches, IsFamily, IsSeparation}
 use Rattle.pair_split.proofs.Elements.{contains-cases, length-parts}
 use Rattle.pair_split.proofs.Names.{two-names}
 use Rattle.pair_split.proofs.Degrees.{tight-degree, one-of_two}
@@ -11,13 +11,13 @@ use Rattle.pair_split.proofs.Sides.{length-sides, separation-from, exactly_two, 
 use Rattle.split_comp.specs.declared.items.Item.{Item}
 use Rattle.split_comp.specs.Stack.{item, entry, family, owner, IsTreeAt, IsStack, IsSorted, IsBad, IsClean, IsTopped}
 use Rattle.split_comp.specs.Frames.{AreFrames}
-use Rattle.split_comp.specs.Sides.{is_frond_to, IsCutOff, all_items, IsLeast}
-use Rattle.split_comp.proofs.Entries.{item-ends, up-end, low-end, stack-contains, rest-contains, family-cases, same-item, not-rest}
+use Rattle.split_comp.specs.Sides.{is_frond_to, IsCutOff, all_items}
+use Rattle.split_comp.proofs.Entries.{item-ends, up-end, low-end, stack-contains, rest-contains, family-cases}
 use Rattle.split_comp.proofs.Renewed.{frond-parts}
 use Rattle.split_comp.proofs.Pushed.{IsPushed, pushed-top, pushed-within, pushed-back}
 use Rattle.split_comp.proofs.LeastUp.{touching-tree}
-use Rattle.split_comp.proofs.Lying.{owner-end, owner-frond, frond-owner, owner-near, darts-apart, dart-over, dart-over-path, start-at}
-use Rattle.split_comp.proofs.Stretch.{side_at, side-place, side-rest, side-two, side-off_two, IsShared, shared-from, stretch-not, common-at, common-rest, cut-is}
+use Rattle.split_comp.proofs.Lying.{owner-end, frond-owner, owner-near, dart-over, dart-over-path, start-at}
+use Rattle.split_comp.proofs.Stretch.{side_at, side-place, side-rest, side-two, IsShared, shared-from, stretch-not, common-at, common-rest, cut-is}
 
 -- an edge of the rest is pushed, where no side was bad: each bad side has it
 pub push-topped : (old : List Item) (left : List Entry) (x : Item) (new : List Item) (rest : List Entry) → IsPushed old left x new rest → IsFamily (family new rest) → IsClean old left → IsTopped new rest (length old)

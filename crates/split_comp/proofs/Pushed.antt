@@ -1,7 +1,6 @@
 -- The stack when an edge of the rest is pushed.
-use Rattle.std.proofs.Common.{◌≡◌, ◌≢◌, ℕ, zero, suc, ◌+◌, ◌<◌, ◌≤◌, ◌⊎◌, inl, inr, Bool, true, false, List, [], ◌∷◌, ◌++◌, length, map, slice_index_or, refl, sym, ap, ◌∙◌, subst, arith, Contains}
-use Rattle.std.proofs.lemmas.Bool.{cases_Bool, cases_lt, cases_eq, both_ways, true≢false}
-use Rattle.std.proofs.lemmas.List.{length-append, length-map}
+use Rattle.std.proofs.Common.{◌≡◌, ◌≢◌, ℕ, ◌+◌, ◌<◌, ◌≤◌, ◌⊎◌, inl, inr, true, false, List, [], ◌∷◌, ◌++◌, length, slice_index_or, refl, sym, ap, ◌∙◌, subst, arith, Contains}
+use Rattle.std.proofs.lemmas.Bool.{cases_Bool, cases_lt, cases_eq, both_ways}
 use Rattle.permutations.specs.Members.{is_member}
 use Rattle.permutations.proofs.Members.{distinct-head}
 use Rattle.pair_split.specs.Family.{Entry, has_end, names, touches, IsFamily, IsTight}
@@ -9,9 +8,7 @@ use Rattle.pair_split.proofs.Elements.{contains-here, contains-later, contains-c
 use Rattle.pair_split.proofs.Names.{name-member}
 use Rattle.pair_split.proofs.SameEntries.{IsWithin, same-tight}
 use Rattle.split_comp.specs.declared.items.Item.{Item}
-use Rattle.split_comp.specs.declared.items.Dart.{Dart}
-use Rattle.split_comp.specs.Stack.{no_item, item, entry, family, owner, IsLaid, IsTreeAt, IsEnded, IsRest, IsStack, AreFirst}
-use Rattle.split_comp.specs.Walk.{IsOnPath}
+use Rattle.split_comp.specs.Stack.{item, entry, family, IsLaid, IsTreeAt, IsStack, AreFirst}
 use Rattle.split_comp.specs.Frames.{AreFrames}
 use Rattle.split_comp.proofs.Entries.{item-ends, up-end, low-end, stack-contains, rest-contains, family-cases, same-item, not-rest, rest-family, family-from, item-front, item-last, length-push}
 

@@ -1,23 +1,20 @@
 -- The pass has returned from a vertex, and a side on top of the stack is replaced by a tree edge: it is as before, with fewer entries.
-use Rattle.std.proofs.Common.{◌≡◌, ◌≢◌, ℕ, zero, suc, ◌+◌, ◌-◌, ◌<◌, ◌≤◌, ◌⊎◌, inl, inr, Bool, true, false, not, nat_lt, ◌&&◌, if◌then◌else◌, List, [], ◌∷◌, ◌++◌, length, map, take, drop, slice_index, slice_index_or, refl, sym, ap, ◌∙◌, subst, arith, Contains}
+use Rattle.std.proofs.Common.{◌≡◌, ◌≢◌, ℕ, ◌+◌, ◌<◌, ◌≤◌, ◌⊎◌, inl, inr, Bool, true, false, List, length, take, drop, sym, ap, ◌∙◌, subst, arith}
 use Rattle.std.proofs.lemmas.Bool.{cases_Bool, cases_lt, cases_eq, both_ways}
-use Rattle.std.proofs.lemmas.List.{length-append, length-map}
-use Rattle.multigraph.specs.Graph.{Multigraph, edge_count}
+use Rattle.multigraph.specs.Graph.{Multigraph}
 use Rattle.pair_split.specs.Family.{Entry}
 use Rattle.pair_split.specs.declared.cuts.Cut.{Cut}
 use Rattle.split_comp.specs.declared.items.Item.{Item}
 use Rattle.split_comp.specs.declared.items.Triple.{Triple}
-use Rattle.split_comp.specs.declared.items.Dart.{Dart}
-use Rattle.split_comp.specs.Stack.{no_item, item, entry, family, owner, IsTreeAt, IsStack, IsSorted, IsTopped, IsAtop, IsReturned, AreFirst}
-use Rattle.split_comp.specs.Palm.{tree_dart, tree_degree, tree_parent, IsFrondTo, IsPalm}
-use Rattle.split_comp.specs.Walk.{IsOnPath, IsWalk}
+use Rattle.split_comp.specs.Stack.{item, family, owner, IsTreeAt, IsStack, IsSorted, IsReturned, AreFirst}
+use Rattle.split_comp.specs.Palm.{tree_dart, tree_degree, tree_parent, IsFrondTo}
+use Rattle.split_comp.specs.Walk.{IsOnPath}
 use Rattle.split_comp.specs.Cuts.{cut, AreSoundAt, AreCompleteAt}
-use Rattle.split_comp.specs.Frames.{AreFrames, AreAhead, AreCutsBelow}
-use Rattle.split_comp.specs.Sides.{is_frond_to, IsCutOff, IsLeast}
-use Rattle.split_comp.specs.Pass.{NumberedTree, IsNumbered, PassState, IsHeld, HavePlaces, at_place, IsRaised, IsBack}
-use Rattle.split_comp.proofs.Renewed.{IsRenewed, frond-parts, place-cases, low-now, up-now, stack-new}
+use Rattle.split_comp.specs.Sides.{is_frond_to, IsLeast}
+use Rattle.split_comp.specs.Pass.{NumberedTree, IsNumbered, PassState, IsHeld, at_place, IsRaised, IsBack}
+use Rattle.split_comp.proofs.Renewed.{IsRenewed, frond-parts, low-now, up-now, stack-new}
 use Rattle.split_comp.proofs.RenewedPath.{frames-new, reached-new}
-use Rattle.split_comp.proofs.Lying.{owner-frond, frond-owner}
+use Rattle.split_comp.proofs.Lying.{frond-owner}
 use Rattle.split_comp.proofs.Ejected.{eject-topped}
 use Rattle.split_comp.proofs.Alike.{alike-take}
 use Rattle.split_comp.proofs.Fronted.{below-kept}

@@ -1,30 +1,29 @@
 -- The pass has returned: cuts of no more use are dropped, triangles and pairs are split off.
-use Rattle.std.proofs.Common.{◌≡◌, ◌≢◌, ℕ, zero, suc, ◌+◌, ◌-◌, ◌<◌, ◌≤◌, ◌⊎◌, inl, inr, Bool, true, false, not, nat_lt, ◌&&◌, if◌then◌else◌, Option, None, Some, List, [], ◌∷◌, ◌++◌, length, map, take, drop, slice_index, slice_index_or, refl, sym, ap, ◌∙◌, subst, arith, Contains}
-use Rattle.std.proofs.lemmas.Bool.{cases_Bool, cases_lt, cases_eq, both_ways}
-use Rattle.std.proofs.lemmas.List.{length-append, length-take-le, length-drop, take_more, take_all, take-take, take-append-le, drop-append-le, get_or-drop, append_assoc}
+use Rattle.std.proofs.Common.{◌≡◌, ◌≢◌, ℕ, suc, ◌+◌, ◌-◌, ◌<◌, ◌≤◌, inl, inr, Bool, true, false, not, nat_lt, ◌&&◌, List, [], ◌∷◌, ◌++◌, length, take, drop, slice_index, slice_index_or, refl, sym, ap, ◌∙◌, subst, arith}
+use Rattle.std.proofs.lemmas.Bool.{cases_eq, both_ways}
+use Rattle.std.proofs.lemmas.List.{length-append, length-take-le, length-drop, take_more, take_all, take-take, drop-append-le, get_or-drop}
 use Rattle.multigraph.specs.Graph.{Multigraph, edge_count}
-use Rattle.pair_split.specs.Family.{Entry, has_end, IsSeparation}
+use Rattle.pair_split.specs.Family.{IsSeparation}
 use Rattle.split_comp.specs.declared.items.Item.{Item}
 use Rattle.split_comp.specs.declared.items.Triple.{Triple}
-use Rattle.split_comp.specs.declared.items.Dart.{Dart}
-use Rattle.split_comp.specs.Stack.{no_item, item, entry, family, owner, IsTreeAt, IsStack, IsReturned, AreFirst}
-use Rattle.split_comp.specs.Palm.{tree_dart, tree_degree, tree_parent, IsPalm}
-use Rattle.split_comp.specs.Walk.{IsOnPath, IsWalk}
+use Rattle.split_comp.specs.Stack.{item, entry, family, owner, IsStack, IsReturned}
+use Rattle.split_comp.specs.Palm.{tree_dart, tree_degree, tree_parent}
+use Rattle.split_comp.specs.Walk.{IsOnPath}
 use Rattle.split_comp.specs.Cuts.{no_cut, cut, IsBefore, IsSoundAt, AreSoundAt, AreCompleteAt}
-use Rattle.split_comp.specs.Sides.{is_frond_to, IsCutOff, all_items, but_frond, IsLeast, HasNoTriangle}
-use Rattle.split_comp.specs.Pass.{joined_item, NumberedTree, IsNumbered, PassState, IsHeld, at_place, IsRaised, IsBack, IsParallel, CanJoin, IsJoined, IsEjected, CanEject, IsTreeAdded, IsTriangle, IsStale, IsFrondFound, top_item, below_item, new_tree, pushed, cuts_dropped, next_name, lowered, goes}
-use Rattle.split_comp.proofs.Entries.{item-ends, low-end, up-end, stack-contains, item-front, item-last, item-take, length-push}
+use Rattle.split_comp.specs.Sides.{is_frond_to, IsCutOff, all_items, IsLeast}
+use Rattle.split_comp.specs.Pass.{joined_item, NumberedTree, IsNumbered, PassState, IsHeld, at_place, IsRaised, IsBack, CanJoin, IsJoined, IsEjected, CanEject, IsTriangle, IsStale, top_item, below_item, new_tree, pushed, cuts_dropped, next_name, lowered}
+use Rattle.split_comp.proofs.Entries.{stack-contains, item-front, item-last, item-take, length-push}
 use Rattle.split_comp.proofs.Stretch.{side_at}
-use Rattle.split_comp.proofs.Renewed.{IsRenewed, frond-parts, left-within, within-left, family-new}
+use Rattle.split_comp.proofs.Renewed.{IsRenewed, left-within, within-left, family-new}
 use Rattle.split_comp.proofs.RenewedPath.{first-new}
-use Rattle.split_comp.proofs.Lying.{start-at, owner-tree, owner-end, dart-over}
-use Rattle.split_comp.proofs.SplitSides.{triangle-up, triangle-start, triangle-ups, triangle-separates, triangle-least, triangle-frond, ups-behind, behind-b, pair-separates, pair-least, pair-frond, fronds-once}
+use Rattle.split_comp.proofs.Lying.{start-at, owner-tree}
+use Rattle.split_comp.proofs.SplitSides.{triangle-start, triangle-ups, triangle-separates, triangle-least, triangle-frond}
 use Rattle.split_comp.proofs.Held.{can-eject, held-ejected, ejected-two, item-name}
 use Rattle.split_comp.proofs.Returning.{drop-sound, stale-complete, replaced-sound, replaced-complete}
-use Rattle.split_comp.proofs.Noted.{chain-rises, cut-left, cut-push}
+use Rattle.split_comp.proofs.Noted.{chain-rises, cut-left}
 use Rattle.split_comp.proofs.Firsts.{cut-off, lowered-length, pushed-at, pushed-here}
 use Rattle.split_comp.proofs.Fronted.{below-kept, base-up}
-use Rattle.split_comp.proofs.Raising.{back-returned, h-in, w-below, raised-now}
+use Rattle.split_comp.proofs.Raising.{back-returned, w-below, raised-now}
 use Rattle.split_comp.proofs.Joining.{above, raised-can, joined-back, unjoined-back}
 
 -- the last element apart
@@ -55,7 +54,7 @@ module _ (g : Multigraph) (t : NumberedTree) (w : ℕ) (s : PassState) (b : IsRa
         let a = b.palm.ancestors w y b.inside (omega (arith, p.0, e)) p.1 in
         let on : IsOnPath last s.at y = (omega (arith, a.0, b.parent), subst (λ (k : ℕ). k < last y) b.parent a.1) in
         let up = base-up g.vertex_count (edge_count g) (tree_parent t.palm t.vertex) (tree_degree t.palm t.vertex) (tree_dart g t.palm t.vertex) b.palm s.at s.done (at_place s.gone) b.walk (at_place s.base)
-            (λ q m n o. b.below.base_rises q m n (up-path q o)) (suc s.at) y z on (omega arith) in
+        (λ q m n o. b.below.base_rises q m n (up-path q o)) (suc s.at) y z on (omega arith) in
         omega (arith, up, subst (λ (k : ℕ). at_place s.base k ≤ at_place s.base w) b.parent (b.below.base_rises w w-not (λ q. b.not_root (sym b.parent ∙ q)) w-path))
   ]
 
@@ -80,8 +79,11 @@ module _ (g : Multigraph) (t : NumberedTree) (w : ℕ) (s : PassState) (b : IsRa
     fewer-within y z p = omega (arith, base-w y z p, some, fewer-length)
 
     pub fewer-lows : (i : ℕ) → i < length (drop (at_place s.base w) (take (length s.cuts - 1) s.cuts)) → s.at < (cut (drop (at_place s.base w) (take (length s.cuts - 1) s.cuts)) i).low
-    fewer-lows i l = omega (arith, ap (λ (y : Triple). y.low) (ap (λ (k : List Triple). cut k i) cuts-apart ∙ cut-left (drop (at_place s.base w) fewer) (c ∷ []) i l),
-        b.cut_lows i (omega (arith, ap length cuts-apart, length-append (drop (at_place s.base w) fewer) (c ∷ []), l)))
+    fewer-lows i l = omega (
+      arith,
+      ap (λ (y : Triple). y.low) (ap (λ (k : List Triple). cut k i) cuts-apart ∙ cut-left (drop (at_place s.base w) fewer) (c ∷ []) i l),
+      b.cut_lows i (omega (arith, ap length cuts-apart, length-append (drop (at_place s.base w) fewer) (c ∷ []), l)),
+    )
 
 -- a cut of no more use is dropped
 pub stale-back : (g : Multigraph) (t : NumberedTree) (w : ℕ) (s : PassState) → IsBack g t w s → IsStale s.at (at_place s.base w) s → IsBack g t w (cuts_dropped s (length s.cuts - 1))
@@ -101,14 +103,34 @@ stale-back g t w s b stale = record { raised = raised; no_frond = b.no_frond }
 
     raised : IsRaised g t w (cuts_dropped s (length s.cuts - 1))
     raised = record {
-      palm = b.raised.palm; rest = b.raised.rest;
+      palm = b.raised.palm;
+      rest = b.raised.rest;
       places = record { start = b.raised.places.start; base = b.raised.places.base; gone = b.raised.places.gone };
-      walk = b.raised.walk; from = b.raised.from; parent = b.raised.parent; inside = b.raised.inside; not_root = b.raised.not_root; left = b.raised.left;
+      walk = b.raised.walk;
+      from = b.raised.from;
+      parent = b.raised.parent;
+      inside = b.raised.inside;
+      not_root = b.raised.not_root;
+      left = b.raised.left;
       held = record { total = b.raised.held.total; state = b.raised.held.state; few = b.raised.held.few; entries = b.raised.held.entries; three = b.raised.held.three; ends = b.raised.held.ends };
-      height = b.raised.height; atop = b.raised.atop; fronds = b.raised.fronds; frames = b.raised.frames; child_start = b.raised.child_start;
-      place = b.raised.place; last_gone = b.raised.last_gone; place_in = b.raised.place_in; last_tree = b.raised.last_tree; last_far = b.raised.last_far;
-      child_within = b.raised.child_within; child_to = b.raised.child_to; child_met = b.raised.child_met; reached = b.raised.reached; first = b.raised.first;
-      ahead = b.raised.ahead; ahead_last = b.raised.ahead_last; frond_last = b.raised.frond_last;
+      height = b.raised.height;
+      atop = b.raised.atop;
+      fronds = b.raised.fronds;
+      frames = b.raised.frames;
+      child_start = b.raised.child_start;
+      place = b.raised.place;
+      last_gone = b.raised.last_gone;
+      place_in = b.raised.place_in;
+      last_tree = b.raised.last_tree;
+      last_far = b.raised.last_far;
+      child_within = b.raised.child_within;
+      child_to = b.raised.child_to;
+      child_met = b.raised.child_met;
+      reached = b.raised.reached;
+      first = b.raised.first;
+      ahead = b.raised.ahead;
+      ahead_last = b.raised.ahead_last;
+      frond_last = b.raised.frond_last;
       below = below-kept b.raised.palm.last (tree_parent t.palm t.vertex) w (at_place s.start) (at_place s.base) s.items s.items s.cuts (take (length s.cuts - 1) s.cuts) b.raised.below (λ y z p. refl) (fewer-same g t w s b.raised stale.some) (fewer-within g t w s b.raised stale.some);
       sound = drop-sound (at_place s.start w) s.at (item s.items b.raised.height).low s.items (drop (at_place s.base w) (take (length s.cuts - 1) s.cuts)) (cut s.cuts (length s.cuts - 1)) sound-apart;
       complete = stale-complete (at_place s.start w) s.at (item s.items b.raised.height).low s.items (drop (at_place s.base w) (take (length s.cuts - 1) s.cuts)) (cut s.cuts (length s.cuts - 1)) stale.up (stale.low ∙ top) complete-apart;

@@ -1,10 +1,10 @@
 -- A family with its vertices renamed: tight, 2-separations and minimal sides are carried.
-use Rattle.std.proofs.Common.{◌≡◌, ◌≢◌, ℕ, suc, ◌+◌, ◌<◌, ◌≤◌, ◌⊎◌, inl, inr, Bool, true, false, not, List, [], ◌∷◌, length, map, filter, refl, sym, ap, ◌∙◌, subst, arith, Contains}
+use Rattle.std.proofs.Common.{◌≡◌, ◌≢◌, ℕ, suc, ◌<◌, inl, inr, Bool, true, not, List, [], ◌∷◌, length, map, refl, sym, ap, ◌∙◌, subst, arith, Contains}
 use Rattle.std.proofs.lemmas.Bool.{cases_Bool}
 use Rattle.std.proofs.lemmas.List.Elements.{All-contains}
 use Rattle.permutations.proofs.Filter.{filter-yes, filter-no}
 use Rattle.permutations.specs.Members.{is_distinct}
-use Rattle.pair_split.specs.Family.{Entry, has_end, names, on_side, off_side, is_common, IsFamily, IsTight, IsSeparation}
+use Rattle.pair_split.specs.Family.{Entry, has_end, names, on_side, is_common, IsFamily, IsTight, IsSeparation}
 use Rattle.pair_split.specs.Skeleton.{SameEnds}
 use Rattle.pair_split.specs.Edges.{entry_ends}
 use Rattle.pair_split.specs.Minimal.{IsMinimal}

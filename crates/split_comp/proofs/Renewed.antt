@@ -1,17 +1,15 @@
 -- The stack when a side of a 2-separation on top of it was replaced by one entry: at most one frond that stays, and the new entry.
-use Rattle.std.proofs.Common.{◌≡◌, ◌≢◌, ℕ, ◌+◌, ◌<◌, ◌≤◌, ◌⊎◌, inl, inr, Bool, true, false, not, ◌&&◌, ◌==◌, List, [], ◌∷◌, ◌++◌, length, map, slice_index_or, refl, sym, ap, ◌∙◌, subst, arith, Contains}
-use Rattle.std.proofs.lemmas.Bool.{cases_Bool, cases_lt, cases_eq, both_ways, true≢false, not-true, not_from_false, and_parts, eqb-true}
-use Rattle.std.proofs.lemmas.List.{length-map, length-append}
-use Rattle.permutations.specs.Members.{is_distinct}
-use Rattle.pair_split.specs.Family.{Entry, has_end, off_side, names, touches, is_common, IsFamily, IsTight, IsSeparation}
+use Rattle.std.proofs.Common.{◌≡◌, ◌≢◌, ℕ, ◌+◌, ◌<◌, ◌≤◌, ◌⊎◌, inl, inr, Bool, true, false, not, ◌&&◌, ◌==◌, List, ◌∷◌, length, refl, sym, ap, ◌∙◌, subst, arith, Contains}
+use Rattle.std.proofs.lemmas.Bool.{cases_lt, both_ways, not-true, not_from_false, and_parts, eqb-true}
+use Rattle.pair_split.specs.Family.{Entry, has_end, off_side, touches, is_common, IsFamily, IsSeparation}
 use Rattle.pair_split.proofs.Elements.{contains-here, contains-later, contains-cases, contains-filter, filter-contains}
-use Rattle.pair_split.proofs.Sides.{common-from, common-inside, touching-entry, touches-from}
+use Rattle.pair_split.proofs.Sides.{common-from, common-inside, touching-entry}
 use Rattle.pair_split.proofs.SameEntries.{IsWithin, same-tight}
 use Rattle.pair_split.proofs.Replaced.{replaced-tight}
 use Rattle.split_comp.specs.declared.items.Item.{Item}
-use Rattle.split_comp.specs.Stack.{no_item, item, entry, family, owner, IsLaid, IsTreeAt, IsEnded, IsRest, IsStack, AreFirst}
+use Rattle.split_comp.specs.Stack.{item, entry, family, IsLaid, IsTreeAt, IsEnded, IsStack}
 use Rattle.split_comp.specs.Sides.{is_frond_to, IsCutOff}
-use Rattle.split_comp.proofs.Entries.{item-ends, up-end, low-end, stack-contains, rest-contains, family-cases, same-item, not-rest, rest-family, family-from}
+use Rattle.split_comp.proofs.Entries.{item-ends, low-end, stack-contains, rest-contains, family-cases, same-item, not-rest, rest-family, family-from}
 
 -- the entries from place k on that pass the test are a side, of which the entry x has the two common vertices as its ends; the
 -- others, which are fronds parallel to it, stay; x is on top now

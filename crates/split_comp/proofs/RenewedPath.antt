@@ -1,15 +1,14 @@
 -- What holds at the vertices of the path, and the first places, when a side on top of the stack was replaced by one entry.
-use Rattle.std.proofs.Common.{◌≡◌, ◌≢◌, ℕ, ◌+◌, ◌<◌, ◌≤◌, ◌⊎◌, inl, inr, Bool, true, false, List, [], ◌∷◌, ◌++◌, length, slice_index_or, refl, sym, ap, ◌∙◌, subst, arith, Contains}
-use Rattle.std.proofs.lemmas.Bool.{cases_Bool, cases_lt, cases_eq, both_ways}
+use Rattle.std.proofs.Common.{◌≡◌, ◌≢◌, ℕ, ◌<◌, ◌≤◌, ◌⊎◌, inl, inr, Bool, true, List, length, slice_index_or, refl, sym, ap, ◌∙◌, subst, arith}
+use Rattle.std.proofs.lemmas.Bool.{cases_Bool, cases_lt, both_ways}
 use Rattle.pair_split.specs.Family.{Entry, has_end}
 use Rattle.split_comp.specs.declared.items.Item.{Item}
 use Rattle.split_comp.specs.declared.items.Dart.{Dart}
-use Rattle.split_comp.specs.Stack.{no_item, item, entry, family, owner, IsLaid, IsTreeAt, IsEnded, IsRest, IsStack, AreFirst}
+use Rattle.split_comp.specs.Stack.{item, entry, IsTreeAt, AreFirst}
 use Rattle.split_comp.specs.Walk.{IsOnPath}
 use Rattle.split_comp.specs.Frames.{AreFrames, IsGoneTo, AreReached}
-use Rattle.split_comp.specs.Sides.{is_frond_to, IsCutOff}
 use Rattle.split_comp.proofs.Entries.{item-ends, up-end, low-end}
-use Rattle.split_comp.proofs.Renewed.{IsRenewed, place-cases, across, across-rest, end-old, end-before, low-now, up-now, tree-cases}
+use Rattle.split_comp.proofs.Renewed.{IsRenewed, across-rest, end-old, low-now, up-now, tree-cases}
 
 module _ (last : ℕ → ℕ) (done v k j : ℕ) (keeps : Item → Bool) (side : ℕ → Bool) (x : Item) (old new : List Item) (rest : List Entry) (r : IsRenewed last done v k j keeps side x old new rest) where
   -- upper ends above y, where y is no greater than the lower ends of the entries that go: they stay

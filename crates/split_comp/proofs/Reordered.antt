@@ -1,10 +1,10 @@
 -- The state of splitting does not depend on the order of the current family.
-use Rattle.std.proofs.Common.{◌≡◌, ◌≢◌, ℕ, ◌+◌, ◌<◌, ◌≤◌, ◌⊎◌, inl, inr, Bool, List, [], ◌∷◌, ◌++◌, length, map, slice_index_or, refl, sym, ap, ◌∙◌, subst, arith, Contains}
+use Rattle.std.proofs.Common.{◌≡◌, ℕ, ◌<◌, inl, inr, List, length, sym, ap, ◌∙◌, subst, arith, Contains}
 use Rattle.std.proofs.lemmas.Bool.{cases_lt, cases_eq}
-use Rattle.multigraph.specs.Graph.{Multigraph, edge_count}
+use Rattle.multigraph.specs.Graph.{Multigraph}
 use Rattle.pair_split.specs.Family.{Entry, IsFamily}
 use Rattle.pair_split.specs.Edges.{graph_entry}
-use Rattle.pair_split.specs.State.{Part, SplitState, part_at, own_at, layer, IsBeyond, IsPlaced, IsSplitState}
+use Rattle.pair_split.specs.State.{SplitState, own_at, layer, IsSplitState}
 use Rattle.pair_split.proofs.SameEntries.{IsWithin}
 use Rattle.pair_split.proofs.Layers.{layer-part, layer-current, layer-cases, layer-past, current-layer}
 use Rattle.pair_split.proofs.Start.{empty-family}

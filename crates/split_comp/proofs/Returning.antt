@@ -1,20 +1,19 @@
 -- The cuts when the search returns to a vertex, splits off components there, and goes on.
-use Rattle.std.proofs.Common.{◌≡◌, ◌≢◌, ℕ, zero, suc, ◌+◌, ◌-◌, ◌<◌, ◌≤◌, ◌⊎◌, inl, inr, Bool, true, false, not, nat_lt, ◌&&◌, List, [], ◌∷◌, ◌++◌, length, refl, sym, ap, ◌∙◌, subst, arith, Contains}
+use Rattle.std.proofs.Common.{◌≡◌, ◌≢◌, ℕ, ◌+◌, ◌<◌, ◌≤◌, ◌⊎◌, inl, inr, Bool, true, false, not, nat_lt, ◌&&◌, List, [], ◌∷◌, ◌++◌, length, refl, sym, ap, ◌∙◌, subst, arith, Contains}
 use Rattle.std.proofs.lemmas.Bool.{cases_Bool, cases_lt, cases_eq, both_ways, lt-ltb, le-ltb}
 use Rattle.std.proofs.lemmas.List.{length-append}
 use Rattle.std.proofs.lemmas.List.Elements.{Contains-append_cases, Contains-push_cases}
 use Rattle.pair_split.specs.Family.{Entry, has_end, touches}
 use Rattle.split_comp.specs.declared.items.Item.{Item}
 use Rattle.split_comp.specs.declared.items.Triple.{Triple}
-use Rattle.split_comp.specs.Stack.{item, entry, family, owner, IsTreeAt, IsStack, IsTopped, IsReturned}
-use Rattle.split_comp.specs.Cuts.{no_cut, cut, IsLeastUp, IsAcross, IsBefore, IsStart, IsFirstBelow, IsSoundCut, IsChain, AreSound, IsWanted, AreComplete, IsSoundAt, AreSoundAt, AreCompleteAt}
+use Rattle.split_comp.specs.Stack.{item, entry, owner, IsTreeAt, IsStack, IsTopped, IsReturned}
+use Rattle.split_comp.specs.Cuts.{no_cut, cut, IsLeastUp, IsAcross, IsBefore, IsFirstBelow, IsSoundCut, AreSound, IsWanted, AreComplete, IsSoundAt, AreSoundAt, AreCompleteAt}
 use Rattle.split_comp.specs.Frames.{AreFrames}
-use Rattle.split_comp.specs.Sides.{is_frond_to, IsCutOff}
 use Rattle.split_comp.proofs.Entries.{item-ends, up-end, low-end, place-of}
-use Rattle.split_comp.proofs.LeastUp.{IsLeastIn, least-in, least-same, touching-tree}
-use Rattle.split_comp.proofs.Lying.{owner-end, owner-tree, owner-frond, tree-owner, owner-near, same-tree, start-at}
+use Rattle.split_comp.proofs.LeastUp.{least-in, least-same, touching-tree}
+use Rattle.split_comp.proofs.Lying.{owner-end, owner-tree, owner-frond, owner-near, same-tree, start-at}
 use Rattle.split_comp.proofs.Stretch.{side_at, side-place, IsShared, stretch-not}
-use Rattle.split_comp.proofs.Noted.{chain-front, IsFront, front-start, front-below, below-front, front-before, before-front, cut-left, cut-push}
+use Rattle.split_comp.proofs.Noted.{chain-front, IsFront, front-start, front-below, below-front, front-before, cut-left}
 use Rattle.split_comp.proofs.Renewed.{frond-parts, IsRenewed, place-cases, across, low-now, up-now, stack-new}
 
 -- a dart of b that starts at u: no vertex below b is met on both sides of u

@@ -1,25 +1,25 @@
 -- The sides that are split off when the search is back at a vertex: a triangle, what lies behind a cut, all that belongs to the
 -- last entry.
-use Rattle.std.proofs.Common.{◌≡◌, ◌≢◌, ℕ, zero, suc, ◌+◌, ◌-◌, ◌<◌, ◌≤◌, ◌⊎◌, inl, inr, Bool, true, false, not, nat_lt, ◌&&◌, ◌||◌, ◌==◌, List, [], ◌∷◌, ◌++◌, length, refl, sym, ap, ◌∙◌, subst, arith, Contains}
-use Rattle.std.proofs.lemmas.Bool.{cases_Bool, cases_lt, cases_eq, both_ways, and_parts, lt-ltb, le-ltb, false_from_ne_true, not_from_false, not-true}
+use Rattle.std.proofs.Common.{◌≡◌, ◌≢◌, ℕ, ◌+◌, ◌-◌, ◌<◌, ◌≤◌, ◌⊎◌, inl, inr, Bool, true, false, not, nat_lt, ◌&&◌, List, [], ◌∷◌, ◌++◌, length, refl, sym, ap, ◌∙◌, subst, arith, Contains}
+use Rattle.std.proofs.lemmas.Bool.{cases_Bool, cases_lt, cases_eq, both_ways, lt-ltb, le-ltb, false_from_ne_true, not_from_false}
 use Rattle.std.proofs.lemmas.List.{length-append}
-use Rattle.pair_split.specs.Family.{Entry, has_end, on_side, off_side, touches, is_common, IsSeparation}
+use Rattle.pair_split.specs.Family.{Entry, has_end, off_side, touches, IsSeparation}
 use Rattle.pair_split.proofs.Elements.{two-pass}
 use Rattle.pair_split.proofs.Degrees.{tight-degree}
 use Rattle.pair_split.proofs.Sides.{touching-entry, separation-from, exactly_two, one-from_entry, length-sides}
 use Rattle.split_comp.specs.declared.items.Item.{Item}
 use Rattle.split_comp.specs.declared.items.Triple.{Triple}
-use Rattle.split_comp.specs.Stack.{item, entry, family, owner, IsTreeAt, IsStack, IsSorted, IsBad, IsTopped, IsReturned}
-use Rattle.split_comp.specs.Cuts.{no_cut, cut, IsLeastUp, IsAcross, IsBefore, IsStart, IsFirstBelow, IsWanted, IsSoundAt, AreSoundAt, AreCompleteAt}
+use Rattle.split_comp.specs.Stack.{item, entry, family, owner, IsTreeAt, IsStack, IsBad, IsReturned}
+use Rattle.split_comp.specs.Cuts.{no_cut, cut, IsBefore, IsFirstBelow, IsSoundAt, AreSoundAt, AreCompleteAt}
 use Rattle.split_comp.specs.Sides.{is_frond_to, IsCutOff, all_items, but_frond, IsLeast, HasNoTriangle}
 use Rattle.split_comp.proofs.Entries.{item-ends, up-end, low-end, stack-contains, rest-contains, family-cases, place-of}
 use Rattle.split_comp.proofs.Renewed.{frond-parts}
 use Rattle.split_comp.proofs.LeastUp.{touching-tree}
-use Rattle.split_comp.proofs.Lying.{owner-end, owner-tree, owner-frond, frond-owner, same-tree, start-at, darts-apart, dart-over}
+use Rattle.split_comp.proofs.Lying.{owner-end, owner-tree, frond-owner, start-at, darts-apart, dart-over}
 use Rattle.split_comp.proofs.Stretch.{side_at, side-place, side-rest, side-two, IsShared, shared-from, common-at}
 use Rattle.split_comp.proofs.Parallel.{dart-shared, parallel-not}
-use Rattle.split_comp.proofs.Complete.{top-tree, v-w, s-h, low-v, start-s, met-tree, met-inside, rest-not, bad-v, bad-whole, bad-below, bad-cut}
-use Rattle.split_comp.proofs.Noted.{chain-rises, cut-left, cut-push}
+use Rattle.split_comp.proofs.Complete.{v-w, s-h, low-v, start-s, met-inside, rest-not, bad-v, bad-whole, bad-below, bad-cut}
+use Rattle.split_comp.proofs.Noted.{chain-rises, cut-push}
 
 -- what belongs to a dart has an upper end on the path, or a vertex between in common with entries behind
 pub dart-alone : (last : ℕ → ℕ) (done v : ℕ) (stack : List Item) (rest : List Entry) → IsStack last done v stack rest → (r : ℕ) → r < length stack → ((j : ℕ) → (item stack r).start ≤ j → j ≤ r → v < (item stack j).up)

@@ -1,17 +1,16 @@
 -- Sides that hold the entries at some places of the stack.
-use Rattle.std.proofs.Common.{◌≡◌, ◌≢◌, ℕ, zero, suc, ◌+◌, ◌<◌, ◌≤◌, ◌⊎◌, inl, inr, Bool, true, false, not, ◌&&◌, ◌==◌, nat_lt, List, [], ◌∷◌, ◌++◌, length, filter, map, drop, slice_index_or, refl, sym, ap, ◌∙◌, subst, arith, Contains}
-use Rattle.std.proofs.lemmas.Bool.{cases_Bool, cases_lt, both_ways, and_parts, and_from, eq-eqb, eqb-true, lt-ltb, le-ltb, false_from_ne_true, not_from_false, not-true}
-use Rattle.std.proofs.lemmas.List.{length-map}
+use Rattle.std.proofs.Common.{◌≡◌, ◌≢◌, ℕ, zero, suc, ◌<◌, ◌≤◌, ◌⊎◌, inl, inr, Bool, true, false, not, ◌&&◌, ◌==◌, List, [], ◌∷◌, length, filter, map, drop, refl, sym, ap, ◌∙◌, subst, arith, Contains}
+use Rattle.std.proofs.lemmas.Bool.{cases_Bool, both_ways, and_parts, and_from, eq-eqb, eqb-true, false_from_ne_true, not_from_false, not-true}
 use Rattle.permutations.specs.Count.{some}
 use Rattle.permutations.proofs.Search.{some-witness, some-from}
-use Rattle.pair_split.specs.Family.{Entry, has_end, names, on_side, off_side, touches, is_common, IsFamily, IsTight, IsSeparation}
+use Rattle.pair_split.specs.Family.{Entry, has_end, on_side, off_side, touches, is_common, IsFamily}
 use Rattle.pair_split.proofs.Elements.{two-pass, contains-here, contains-later}
 use Rattle.permutations.proofs.Filter.{filter-yes, filter-no}
-use Rattle.pair_split.proofs.Sides.{common-from, common-inside, common-outside, exactly_two, separation-from, touches-from, touching-entry}
+use Rattle.pair_split.proofs.Sides.{common-from, common-inside, common-outside, separation-from, touching-entry}
 use Rattle.split_comp.specs.declared.items.Item.{Item}
-use Rattle.split_comp.specs.Stack.{no_item, item, entry, family, IsStack, IsBad, IsTopped}
+use Rattle.split_comp.specs.Stack.{item, entry, family, IsStack, IsBad, IsTopped}
 use Rattle.split_comp.specs.Sides.{IsCutOff}
-use Rattle.split_comp.proofs.Entries.{item-ends, stack-contains, rest-contains, family-cases, same-item, not-rest, rest-touches}
+use Rattle.split_comp.proofs.Entries.{stack-contains, rest-contains, family-cases, same-item, not-rest, rest-touches}
 
 -- the side that holds the entries at the places that pass the test
 abbrev pub side_at : List Item → (ℕ → Bool) → ℕ → Bool

@@ -1,8 +1,8 @@
 -- The walk along the palm tree: vertices are finished in falling order of their numbers.
-use Rattle.std.proofs.Common.{◌≡◌, ◌≢◌, ℕ, zero, suc, ◌+◌, ◌-◌, ◌<◌, ◌≤◌, ◌⊎◌, inl, inr, Bool, true, false, not, ◌==◌, List, [], ◌∷◌, length, filter, refl, sym, ap, ◌∙◌, subst, arith, Contains}
+use Rattle.std.proofs.Common.{◌≡◌, ◌≢◌, ℕ, ◌+◌, ◌-◌, ◌<◌, ◌≤◌, ◌⊎◌, inl, inr, true, false, not, ◌==◌, List, [], ◌∷◌, length, filter, refl, sym, ap, ◌∙◌, subst, arith, Contains}
 use Rattle.std.proofs.lemmas.Bool.{cases_Bool, cases_lt, cases_eq, both_ways, false_from_ne_true, eq-eqb, eqb-true, not-true, not_from_false, ne_eqb}
 use Rattle.pair_split.specs.Family.{Entry, has_end, touches, names, IsFamily}
-use Rattle.pair_split.proofs.Elements.{contains-here, contains-later, contains-cases, contains-none, contains-filter, filter-contains}
+use Rattle.pair_split.proofs.Elements.{contains-here, contains-later, contains-cases, contains-filter, filter-contains}
 use Rattle.pair_split.proofs.Names.{same-name, one-name, member-name}
 use Rattle.permutations.specs.Members.{is_member}
 use Rattle.std.proofs.lemmas.List.Elements.{All-contains}

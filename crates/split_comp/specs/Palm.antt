@@ -1,6 +1,6 @@
 -- The palm tree of a block in terms of the numbers of its vertices.
-use Rattle.std.specs.Prelude.{◌≡◌, ◌≢◌, ℕ, ◌+◌, ◌<◌, ◌≤◌, ◌⊎◌, Bool, true, false, not, if◌then◌else◌, List, length, Option, None, Some, slice_index}
-use Rattle.multigraph.specs.Graph.{Multigraph, edge_count, ends_of, other_end}
+use Rattle.std.specs.Prelude.{◌≡◌, ◌≢◌, ℕ, ◌<◌, ◌≤◌, ◌⊎◌, true, false, not, if◌then◌else◌, List, length, Option, None, Some, slice_index}
+use Rattle.multigraph.specs.Graph.{Multigraph, ends_of, other_end}
 use Rattle.palm_tree.specs.PalmTree.{PalmTreeLists, number_of, parent_of, is_frond, darts_of, number_reached, dart_class}
 use Rattle.pair_split.specs.Family.{Entry}
 use Rattle.pair_split.specs.Skeleton.{SameEnds}

@@ -1,24 +1,23 @@
 -- The state of the pass along a palm tree, and what holds of it.
-use Rattle.std.specs.Prelude.{◌≡◌, ◌≢◌, ℕ, ◌+◌, ◌*◌, ◌-◌, ◌<◌, ◌≤◌, ◌⊎◌, Bool, true, false, if◌then◌else◌, nat_lt, List, [], ◌∷◌, ◌++◌, length, map, filter, take, drop, slice_index, slice_index_or, slice_set, Contains, Option, None, Some, not, ◌&&◌, ◌↔◌, IfOk}
+use Rattle.std.specs.Prelude.{◌≡◌, ◌≢◌, ℕ, ◌+◌, ◌*◌, ◌-◌, ◌<◌, ◌≤◌, ◌⊎◌, Bool, true, false, if◌then◌else◌, nat_lt, List, [], ◌∷◌, ◌++◌, length, map, filter, take, drop, slice_index, slice_set, Contains, Option, None, Some, not, ◌&&◌}
 use Rattle.multigraph.specs.Graph.{Multigraph, edge_count, IsGraph}
 use Rattle.graph_theory.specs.Block.{IsOneBlock}
 use Rattle.palm_tree.specs.PalmTree.{PalmTreeLists, IsPalmTree}
 use Rattle.pair_split.specs.Family.{Entry, IsFamily, IsPrime}
 use Rattle.pair_split.specs.Edges.{graph_entry, entry_ends, family_skeleton}
 use Rattle.pair_split.specs.Skeleton.{SameEnds, IsSkeleton}
-use Rattle.pair_split.specs.State.{SplitState, IsSplitState}
+use Rattle.pair_split.specs.State.{IsSplitState}
 use Rattle.pair_split.specs.Cuts.{part_of}
-use Rattle.pair_split.specs.Lumps.{entry_of, family_of}
+use Rattle.pair_split.specs.Lumps.{family_of}
 use Rattle.pair_split.specs.declared.cuts.Cut.{Cut}
 use Rattle.pair_split.specs.declared.family.NamedEdge.{NamedEdge}
 use Rattle.pair_split.specs.declared.components.Kind.{Kind}
 use Rattle.pair_split.specs.declared.components.Kind.TheVariants.{B}
 use Rattle.split_comp.specs.declared.items.Item.{Item}
 use Rattle.split_comp.specs.declared.items.Triple.{Triple}
-use Rattle.split_comp.specs.declared.items.Dart.{Dart}
 use Rattle.split_comp.specs.Stack.{item, entry, owner, family, IsStack, IsSorted, IsTopped, IsClean, IsAtop, AreFirst}
 use Rattle.split_comp.specs.Palm.{AreVertices, tree_dart, tree_degree, tree_parent, IsFrondTo, IsPalm}
-use Rattle.split_comp.specs.Walk.{IsOnPath, IsWalk, AreLeft}
+use Rattle.split_comp.specs.Walk.{IsWalk, AreLeft}
 use Rattle.split_comp.specs.Cuts.{cut, AreSound, AreComplete, AreSoundAt, AreCompleteAt}
 use Rattle.split_comp.specs.Frames.{AreFrames, AreReached, AreAhead, AreCutsBelow, AreCuts}
 use Rattle.split_comp.specs.Sides.{is_frond_to}

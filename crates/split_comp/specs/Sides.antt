@@ -1,6 +1,5 @@
 -- Sides of 2-separations that are cut off the stack.
-use Rattle.std.specs.Prelude.{◌≡◌, ◌≢◌, ℕ, ◌+◌, ◌<◌, ◌≤◌, Bool, true, false, not, ◌&&◌, ◌==◌, List, length, map, Contains}
-use Rattle.permutations.specs.Members.{is_member}
+use Rattle.std.specs.Prelude.{◌≡◌, ℕ, ◌+◌, ◌<◌, ◌≤◌, Bool, true, false, not, ◌&&◌, ◌==◌, List, length, Contains}
 use Rattle.pair_split.specs.Family.{Entry}
 use Rattle.split_comp.specs.declared.items.Item.{Item}
 use Rattle.split_comp.specs.Stack.{item, IsBad}

@@ -1,5 +1,5 @@
 -- The stack of entries, and the current family: the entries of the stack and the rest of the edges.
-use Rattle.std.specs.Prelude.{◌≡◌, ◌≢◌, ℕ, ◌+◌, ◌<◌, ◌≤◌, ◌⊎◌, Bool, true, false, if◌then◌else◌, List, ◌++◌, length, map, slice_index_or, Contains}
+use Rattle.std.specs.Prelude.{◌≡◌, ℕ, ◌+◌, ◌<◌, ◌≤◌, ◌⊎◌, Bool, true, false, if◌then◌else◌, List, ◌++◌, length, map, slice_index_or, Contains}
 use Rattle.pair_split.specs.Family.{Entry, has_end, touches, IsFamily, IsTight, IsSeparation}
 use Rattle.split_comp.specs.declared.items.Item.{Item}
 

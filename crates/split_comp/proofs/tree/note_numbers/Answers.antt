@@ -1,5 +1,5 @@
 use Rattle.std.proofs.Common.{◌∙◌, arith}
-use Rattle.split_comp.proofs.Begins.{numbers-noted, number-noted}
+use Rattle.split_comp.proofs.Begins.{numbers-noted}
 use Rattle.split_comp.proofs.tree.note_numbers.Goals as goal
 
 pub returns-clause-vertices : goal.returns-clause-vertices

@@ -1,6 +1,6 @@
-use Rattle.std.proofs.Common.{◌≡◌, ◌<◌, ℕ, List, length, slice_index, true, sym, ap, ap₂, ◌∙◌, subst, arith}
-use Rattle.multigraph.specs.Graph.{edge_count, is_end, other_end}
-use Rattle.palm_tree.specs.PalmTree.{darts_of, PalmTreeLists}
+use Rattle.std.proofs.Common.{◌≡◌, ℕ, List, length, slice_index, true, sym, ap, ap₂, ◌∙◌, subst, arith}
+use Rattle.multigraph.specs.Graph.{is_end, other_end}
+use Rattle.palm_tree.specs.PalmTree.{darts_of}
 use Rattle.split_comp.specs.Pass.{NumberedTree}
 use Rattle.split_comp.proofs.Begins.{dart-in, dart-end, far-in}
 use Rattle.split_comp.proofs.tree.Tree.dart.Goals as goal
