@@ -30,3 +30,4 @@ pub mod Down
 pub mod Going
 pub mod Coming
 pub mod Beginning
+pub mod Turned
