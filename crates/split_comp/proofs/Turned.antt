@@ -1,15 +1,17 @@
 -- One turn of the pass: a frond is gone along, or the search goes down.
-use Rattle.std.proofs.Common.{◌≡◌, ℕ, ◌+◌, ◌<◌, ◌≤◌, inl, inr, Bool, true, false, length, slice_index, refl, sym, ap, ◌∙◌, subst, arith}
+use Rattle.std.proofs.Common.{◌≡◌, ℕ, ◌+◌, ◌<◌, ◌≤◌, inl, inr, Bool, true, false, length, slice_index, slice_index_or, refl, sym, ap, ◌∙◌, subst, arith}
 use Rattle.std.proofs.lemmas.Bool.{cases_Bool, cases_lt}
+use Rattle.std.proofs.lemmas.List.{get_or_default}
 use Rattle.multigraph.specs.Graph.{Multigraph}
 use Rattle.split_comp.specs.declared.items.Item.{Item}
 use Rattle.split_comp.specs.declared.items.Dart.{Dart}
 use Rattle.split_comp.specs.Stack.{item}
 use Rattle.split_comp.specs.Palm.{tree_dart, tree_degree}
 use Rattle.split_comp.specs.Noting.{IsNoted}
-use Rattle.split_comp.specs.Pass.{NumberedTree, IsNumbered, PassState, at_place, IsPass, IsFronted, CanJoin, IsParallel, IsJoined, IsFrondAdded, IsDartNoted, joined_item, pushed, gone_along, new_frond}
+use Rattle.split_comp.specs.Pass.{NumberedTree, IsNumbered, PassState, at_place, IsPass, IsFronted, CanJoin, IsParallel, IsJoined, IsFrondAdded, IsDartNoted, joined_item, pushed, gone_along, gone_down, new_frond}
 use Rattle.split_comp.proofs.Entries.{item-last, length-push}
 use Rattle.split_comp.proofs.Fronted.{fronted-can, joined-pass, first-pass, later-pass}
+use Rattle.split_comp.proofs.Down.{down-pass}
 use Rattle.split_comp.proofs.Going.{frond-fronted}
 
 module _ (g : Multigraph) (t : NumberedTree) (numbered : IsNumbered g t) (s : PassState) (p : IsPass g t s) (more : at_place s.gone s.at < tree_degree t.palm t.vertex s.at) (frond : (tree_dart g t.palm t.vertex s.at (at_place s.gone s.at)).tree ≡ false) where
@@ -49,3 +51,27 @@ module _ (g : Multigraph) (t : NumberedTree) (numbered : IsNumbered g t) (s : Pa
             (subst (λ (u : ℕ). IsNoted (at_place mid.base s.at) (record { start = length s.items; up = u; low = s.at }) mid.cuts n.0) (sym (ap (λ (z : Item). z.up) (item-last s.items (new_frond d.edge s.at d.far (gone_along s s.at)) (length s.items) refl))) n.1))))
         | inr l ↦ subst (IsPass g t) (sym (noted.first l ∙ e)) (first-pass g t numbered old fronted none (omega (arith, height, subst (λ (m : PassState). length s.items ≤ at_place m.start s.at) e l)))
       ]
+
+-- the same, for the values that the code has
+module _ (g : Multigraph) (t : NumberedTree) (numbered : IsNumbered g t) (s : PassState) (p : IsPass g t s) (more : at_place s.gone s.at < tree_degree t.palm t.vertex s.at) (v k : ℕ) (here : v ≡ s.at) (read : k ≡ slice_index_or s.gone v k) (dart : Dart) (is : dart ≡ tree_dart g t.palm t.vertex v k) where
+  next : k ≡ at_place s.gone v
+  next = read ∙ get_or_default s.gone v k 0 (omega (arith, here, p.places.gone, p.walk.current, p.walk.within))
+
+  same : dart ≡ tree_dart g t.palm t.vertex s.at (at_place s.gone s.at)
+  same = is ∙ (λ i. tree_dart g t.palm t.vertex (here i) ((next ∙ ap (at_place s.gone) here) i))
+
+  pub along-child : dart.tree ≡ true → (new : PassState) → new ≡ gone_down s dart.far → IsPass g t new
+  along-child tree new e = subst (IsPass g t) (sym (e ∙ ap (λ (x : Dart). gone_down s x.far) same)) (down-pass g t s p more (ap (λ (x : Dart). x.tree) (sym same) ∙ tree))
+
+  module _ (frond : dart.tree ≡ false) (mid : PassState) (e : mid ≡ gone_along s v) where
+    f : (tree_dart g t.palm t.vertex s.at (at_place s.gone s.at)).tree ≡ false
+    f = ap (λ (x : Dart). x.tree) (sym same) ∙ frond
+
+    mid-same : mid ≡ gone_along s s.at
+    mid-same = e ∙ ap (gone_along s) here
+
+    pub along-can : CanJoin g t.vertex (pushed mid (new_frond dart.edge v dart.far mid))
+    along-can = subst (CanJoin g t.vertex) (λ i. pushed (sym mid-same i) (new_frond (sym same i).edge (sym here i) (sym same i).far (sym mid-same i))) (frond-can g t numbered s p more f)
+
+    pub along-frond : (new : PassState) → IsFrondAdded g t.vertex dart.edge v dart.far mid new → IsPass g t new
+    along-frond new a = frond-added g t numbered s p more f new (subst (λ (x : Dart × ℕ × PassState). IsFrondAdded g t.vertex x.0.edge x.1 x.0.far x.2 new) (λ i. (same i, here i, mid-same i)) a)

@@ -4,7 +4,8 @@ ghost use Rattle.std.specs.Prelude.{◌≡◌, ◌≢◌, ◌+◌, ◌-◌, ◌*
 ghost use Rattle.multigraph.specs.Graph.{edge_count, IsGraph};
 ghost use Rattle.split_comp.specs.Stack.{item};
 ghost use Rattle.split_comp.specs.Noting.{IsLastCut};
-ghost use Rattle.split_comp.specs.Pass.{weight, PassState, CanEject, IsEjected, CanJoin, IsTriangleTest, IsStaleDropped, top_item, IsParallel, IsJoined, IsDartNoted, IsFrondAdded, IsTreeAdded, IsParallelTest, pushed, gone_along, gone_down, gone_back, cuts_dropped, turned, lowered, next_name, goes, new_frond, new_tree};
+ghost use Rattle.split_comp.specs.Palm.{tree_degree};
+ghost use Rattle.split_comp.specs.Pass.{IsNumbered, IsPass, weight, PassState, CanEject, IsEjected, CanJoin, IsTriangleTest, IsStaleDropped, top_item, IsParallel, IsJoined, IsDartNoted, IsFrondAdded, IsTreeAdded, IsParallelTest, pushed, gone_along, gone_down, gone_back, cuts_dropped, turned, lowered, next_name, goes, new_frond, new_tree};
 
 use crate::cuts::{drop_behind, note};
 use crate::edges::{edges_of, frond_to};
@@ -398,5 +399,31 @@ impl Pass {
             }
             None => false,
         }
+    }
+
+    // Goes along the next dart of the vertex where the search is: a frond is pushed, or the search goes down.
+    fn go_along<L: Ledger>(
+        &mut self,
+        alloc: Global,
+        g: &Graph,
+        tree: &Tree,
+        steps: &mut Steps<L>,
+    ) -> Result<(), AllocError>
+        requires numbered { IsNumbered g.now tree.now }
+        requires pass { IsPass g.now tree.now self.old }
+        requires more { slice_index self.old.gone self.old.at < tree_degree tree.now.palm tree.now.vertex self.old.at }
+        requires fits { slice_index self.old.gone self.old.at + 1 < 18446744073709551616 }
+        ensures gone { IfOk result (λ _. IsPass g.now tree.now self.new) }
+        ensures cost { IfOk result (λ _. steps.new + weight self.new ≤ steps.old + weight self.old + 10) }
+        ensures rises { steps.old ≤ steps.new }
+    {
+        let v = self.at;
+        let dart = tree.dart(g, v, self.gone[v as usize]);
+        if dart.tree {
+            self.go_down(dart.far);
+            return Ok(());
+        }
+        self.note_gone(v);
+        self.add_frond(alloc, g, tree, dart.edge, v, dart.far, steps)
     }
 }
