@@ -1,16 +1,18 @@
 -- One turn of the pass: a frond is gone along, or the search goes down.
-use Rattle.std.proofs.Common.{◌≡◌, ℕ, ◌+◌, ◌<◌, ◌≤◌, inl, inr, Bool, true, false, length, slice_index, slice_index_or, refl, sym, ap, ◌∙◌, subst, arith}
+use Rattle.std.proofs.Common.{◌≡◌, ◌≢◌, ℕ, ◌+◌, ◌<◌, ◌≤◌, inl, inr, Bool, true, false, length, slice_index, slice_index_or, refl, sym, ap, ◌∙◌, subst, arith}
 use Rattle.std.proofs.lemmas.Bool.{cases_Bool, cases_lt}
 use Rattle.std.proofs.lemmas.List.{get_or_default}
 use Rattle.multigraph.specs.Graph.{Multigraph}
 use Rattle.split_comp.specs.declared.items.Item.{Item}
 use Rattle.split_comp.specs.declared.items.Dart.{Dart}
 use Rattle.split_comp.specs.Stack.{item}
-use Rattle.split_comp.specs.Palm.{tree_dart, tree_degree}
+use Rattle.split_comp.specs.Palm.{tree_dart, tree_degree, tree_parent}
 use Rattle.split_comp.specs.Noting.{IsNoted}
-use Rattle.split_comp.specs.Pass.{NumberedTree, IsNumbered, PassState, at_place, IsPass, IsFronted, CanJoin, IsParallel, IsJoined, IsFrondAdded, IsDartNoted, joined_item, pushed, gone_along, gone_down, new_frond}
+use Rattle.split_comp.specs.Pass.{NumberedTree, IsNumbered, PassState, at_place, IsPass, IsRaised, IsBack, IsFronted, IsTreeAdded, CanJoin, IsParallel, IsJoined, IsFrondAdded, IsDartNoted, joined_item, pushed, gone_along, gone_down, gone_back, new_frond, new_tree}
 use Rattle.split_comp.proofs.Entries.{item-last, length-push}
 use Rattle.split_comp.proofs.Fronted.{fronted-can, joined-pass, first-pass, later-pass}
+use Rattle.split_comp.proofs.Reducing.{added-can, added-back}
+use Rattle.split_comp.proofs.Coming.{come-raised}
 use Rattle.split_comp.proofs.Down.{down-pass}
 use Rattle.split_comp.proofs.Going.{frond-fronted}
 
@@ -75,3 +77,46 @@ module _ (g : Multigraph) (t : NumberedTree) (numbered : IsNumbered g t) (s : Pa
 
     pub along-frond : (new : PassState) → IsFrondAdded g t.vertex dart.edge v dart.far mid new → IsPass g t new
     along-frond new a = frond-added g t numbered s p more f new (subst (λ (x : Dart × ℕ × PassState). IsFrondAdded g t.vertex x.0.edge x.1 x.0.far x.2 new) (λ i. (same i, here i, mid-same i)) a)
+
+-- the search comes back to a parent that is not the root
+module _ (g : Multigraph) (t : NumberedTree) (numbered : IsNumbered g t) (s : PassState) (p : IsPass g t s) (all : at_place s.gone s.at ≡ tree_degree t.palm t.vertex s.at) (not-top : s.at ≢ 0) (inner : tree_parent t.palm t.vertex s.at ≢ 0) where
+  abbrev parent : ℕ
+  parent = tree_parent t.palm t.vertex s.at
+
+  abbrev last-dart : Dart
+  last-dart = tree_dart g t.palm t.vertex parent (at_place s.gone parent)
+
+  abbrev came : PassState
+  came = pushed (gone_back (gone_along s parent) parent s.at) (new_tree last-dart.edge parent s.at (at_place s.start s.at))
+
+  raised : IsRaised g t s.at came
+  raised = come-raised g t numbered s p all not-top inner
+
+  pub come-can : CanJoin g t.vertex came
+  come-can = added-can g t numbered s.at came raised
+
+  pub come-back : (new : PassState) (joined : Bool) → IsJoined g t.vertex came new joined → IsBack g t s.at new
+  come-back new joined j = added-back g t numbered s.at came new raised (λ c l. omega (arith, ((p.cuts.sound not-top).each c l).within, raised.atop.size, length-push s.items (new_tree last-dart.edge parent s.at (at_place s.start s.at)))) joined j
+
+  pub come-dart : at_place s.gone parent < tree_degree t.palm t.vertex parent
+  come-dart = (p.walk.under_way s.at not-top (omega arith, p.palm.above s.at)).0
+
+  pub come-less : parent < g.vertex_count
+  come-less = omega (arith, (p.palm.parent_less s.at (omega (arith, p.walk.current, p.walk.within)) not-top).0, p.walk.current, p.walk.within)
+
+  -- for the values that the code has
+  module _ (v k w start : ℕ) (up : v ≡ parent) (here : w ≡ s.at) (read : k ≡ slice_index_or s.gone v k) (from : start ≡ slice_index_or s.start w start) (dart : Dart) (is : dart ≡ tree_dart g t.palm t.vertex v k) (mid : PassState) (e : mid ≡ gone_back (gone_along s v) v w) where
+    next-k : k ≡ at_place s.gone parent
+    next-k = (read ∙ get_or_default s.gone v k 0 (omega (arith, up, p.places.gone, come-less))) ∙ ap (at_place s.gone) up
+
+    starts-at : start ≡ at_place s.start s.at
+    starts-at = (from ∙ get_or_default s.start w start 0 (omega (arith, here, p.places.start, p.walk.current, p.walk.within))) ∙ ap (at_place s.start) here
+
+    came-is : pushed mid (new_tree dart.edge v w start) ≡ came
+    came-is = (λ i. pushed (e i) (new_tree (is i).edge v w start)) ∙ (λ i. pushed (gone_back (gone_along s (up i)) (up i) (here i)) (new_tree (tree_dart g t.palm t.vertex (up i) (next-k i)).edge (up i) (here i) (starts-at i)))
+
+    pub came-can : CanJoin g t.vertex (pushed mid (new_tree dart.edge v w start))
+    came-can = subst (CanJoin g t.vertex) (sym came-is) come-can
+
+    pub came-back : (new : PassState) → IsTreeAdded g t.vertex dart.edge v w start mid new → IsBack g t s.at new
+    came-back new a = come-back new a.joined (subst (λ (m : PassState). IsJoined g t.vertex m new a.joined) came-is a.join)

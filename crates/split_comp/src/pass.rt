@@ -4,8 +4,8 @@ ghost use Rattle.std.specs.Prelude.{◌≡◌, ◌≢◌, ◌+◌, ◌-◌, ◌*
 ghost use Rattle.multigraph.specs.Graph.{edge_count, IsGraph};
 ghost use Rattle.split_comp.specs.Stack.{item};
 ghost use Rattle.split_comp.specs.Noting.{IsLastCut};
-ghost use Rattle.split_comp.specs.Palm.{tree_degree};
-ghost use Rattle.split_comp.specs.Pass.{IsNumbered, IsPass, weight, PassState, CanEject, IsEjected, CanJoin, IsTriangleTest, IsStaleDropped, top_item, IsParallel, IsJoined, IsDartNoted, IsFrondAdded, IsTreeAdded, IsParallelTest, pushed, gone_along, gone_down, gone_back, cuts_dropped, turned, lowered, next_name, goes, new_frond, new_tree};
+ghost use Rattle.split_comp.specs.Palm.{tree_degree, tree_parent};
+ghost use Rattle.split_comp.specs.Pass.{IsNumbered, IsPass, IsBack, weight, PassState, CanEject, IsEjected, CanJoin, IsTriangleTest, IsStaleDropped, top_item, IsParallel, IsJoined, IsDartNoted, IsFrondAdded, IsTreeAdded, IsParallelTest, pushed, gone_along, gone_down, gone_back, cuts_dropped, turned, lowered, next_name, goes, new_frond, new_tree};
 
 use crate::cuts::{drop_behind, note};
 use crate::edges::{edges_of, frond_to};
@@ -425,5 +425,35 @@ impl Pass {
         }
         self.note_gone(v);
         self.add_frond(alloc, g, tree, dart.edge, v, dart.far, steps)
+    }
+
+    // Comes back to the parent `v`, which is not the root, when all darts have been gone along.
+    fn come_back<L: Ledger>(
+        &mut self,
+        alloc: Global,
+        g: &Graph,
+        tree: &Tree,
+        v: u32,
+        steps: &mut Steps<L>,
+    ) -> Result<(), AllocError>
+        requires numbered { IsNumbered g.now tree.now }
+        requires pass { IsPass g.now tree.now self.old }
+        requires all { slice_index self.old.gone self.old.at ≡ tree_degree tree.now.palm tree.now.vertex self.old.at }
+        requires not_root { self.old.at ≢ 0 }
+        requires parent { v ≡ tree_parent tree.now.palm tree.now.vertex self.old.at }
+        requires inner { tree_parent tree.now.palm tree.now.vertex self.old.at ≢ 0 }
+        requires within { v < g.now.vertex_count }
+        requires dart_left { slice_index self.old.gone v < tree_degree tree.now.palm tree.now.vertex v }
+        requires fits { slice_index self.old.gone v + 1 < 18446744073709551616 }
+        ensures back { IfOk result (λ _. IsBack g.now tree.now self.old.at self.new) }
+        ensures cost { IfOk result (λ _. steps.new + weight self.new ≤ steps.old + weight self.old + 8) }
+        ensures rises { steps.old ≤ steps.new }
+    {
+        let w = self.at;
+        let dart = tree.dart(g, v, self.gone[v as usize]);
+        let start = self.start[w as usize];
+        self.note_gone(v);
+        self.go_up(v, w);
+        self.add_tree_edge(alloc, g, tree, dart.edge, v, w, start, steps)
     }
 }
