@@ -8,11 +8,11 @@ use Rattle.split_comp.specs.declared.items.Dart.{Dart}
 use Rattle.split_comp.specs.Stack.{item}
 use Rattle.split_comp.specs.Palm.{tree_dart, tree_degree, tree_parent}
 use Rattle.split_comp.specs.Noting.{IsNoted}
-use Rattle.split_comp.specs.Pass.{NumberedTree, IsNumbered, PassState, at_place, IsPass, IsRaised, IsBack, IsFronted, IsTreeAdded, CanJoin, IsParallel, IsJoined, IsFrondAdded, IsDartNoted, joined_item, pushed, gone_along, gone_down, gone_back, new_frond, new_tree}
+use Rattle.split_comp.specs.Pass.{NumberedTree, IsNumbered, PassState, at_place, IsPass, IsRaised, IsBack, IsPassed, IsFronted, IsTreeAdded, CanJoin, IsParallel, IsJoined, IsFrondAdded, IsDartNoted, joined_item, pushed, gone_along, gone_down, gone_back, new_frond, new_tree}
 use Rattle.split_comp.proofs.Entries.{item-last, length-push}
 use Rattle.split_comp.proofs.Fronted.{fronted-can, joined-pass, first-pass, later-pass}
 use Rattle.split_comp.proofs.Reducing.{added-can, added-back}
-use Rattle.split_comp.proofs.Coming.{come-raised}
+use Rattle.split_comp.proofs.Coming.{come-raised, come-passed}
 use Rattle.split_comp.proofs.Down.{down-pass}
 use Rattle.split_comp.proofs.Going.{frond-fronted}
 
@@ -120,3 +120,16 @@ module _ (g : Multigraph) (t : NumberedTree) (numbered : IsNumbered g t) (s : Pa
 
     pub came-back : (new : PassState) → IsTreeAdded g t.vertex dart.edge v w start mid new → IsBack g t s.at new
     came-back new a = come-back new a.joined (subst (λ (m : PassState). IsJoined g t.vertex m new a.joined) came-is a.join)
+
+-- the search comes back to the root
+module _ (g : Multigraph) (t : NumberedTree) (numbered : IsNumbered g t) (s : PassState) (p : IsPass g t s) (all : at_place s.gone s.at ≡ tree_degree t.palm t.vertex s.at) (not-top : s.at ≢ 0) (outer : tree_parent t.palm t.vertex s.at ≡ 0)
+    (v k w start : ℕ) (up : v ≡ tree_parent t.palm t.vertex s.at) (here : w ≡ s.at) (read : k ≡ slice_index_or s.gone v k) (from : start ≡ slice_index_or s.start w start) (dart : Dart) (is : dart ≡ tree_dart g t.palm t.vertex v k) (mid : PassState) (e : mid ≡ gone_back (gone_along s v) v w) where
+  root-next : k ≡ at_place s.gone (tree_parent t.palm t.vertex s.at)
+  root-next = (read ∙ get_or_default s.gone v k 0 (omega (arith, up, outer, p.places.gone, p.walk.current, p.walk.within))) ∙ ap (at_place s.gone) up
+
+  root-starts : start ≡ at_place s.start s.at
+  root-starts = (from ∙ get_or_default s.start w start 0 (omega (arith, here, p.places.start, p.walk.current, p.walk.within))) ∙ ap (at_place s.start) here
+
+  pub came-home : (new : PassState) → new ≡ pushed mid (new_tree dart.edge v w start) → IsPassed g t new
+  came-home new q = subst (IsPassed g t) (sym (q ∙ ((λ i. pushed (e i) (new_tree (is i).edge v w start)) ∙ (λ i. pushed (gone_back (gone_along s (up i)) (up i) (here i)) (new_tree (tree_dart g t.palm t.vertex (up i) (root-next i)).edge (up i) (here i) (root-starts i))))))
+      (come-passed g t numbered s p all not-top outer)

@@ -5,7 +5,7 @@ ghost use Rattle.multigraph.specs.Graph.{edge_count, IsGraph};
 ghost use Rattle.split_comp.specs.Stack.{item};
 ghost use Rattle.split_comp.specs.Noting.{IsLastCut};
 ghost use Rattle.split_comp.specs.Palm.{tree_degree, tree_parent};
-ghost use Rattle.split_comp.specs.Pass.{IsNumbered, IsPass, IsBack, weight, PassState, CanEject, IsEjected, CanJoin, IsTriangleTest, IsStaleDropped, top_item, IsParallel, IsJoined, IsDartNoted, IsFrondAdded, IsTreeAdded, IsParallelTest, pushed, gone_along, gone_down, gone_back, cuts_dropped, turned, lowered, next_name, goes, new_frond, new_tree};
+ghost use Rattle.split_comp.specs.Pass.{IsNumbered, IsPass, IsBack, IsPassed, weight, PassState, CanEject, IsEjected, CanJoin, IsTriangleTest, IsStaleDropped, top_item, IsParallel, IsJoined, IsDartNoted, IsFrondAdded, IsTreeAdded, IsParallelTest, pushed, gone_along, gone_down, gone_back, cuts_dropped, turned, lowered, next_name, goes, new_frond, new_tree};
 
 use crate::cuts::{drop_behind, note};
 use crate::edges::{edges_of, frond_to};
@@ -455,5 +455,33 @@ impl Pass {
         self.note_gone(v);
         self.go_up(v, w);
         self.add_tree_edge(alloc, g, tree, dart.edge, v, w, start, steps)
+    }
+
+    // Comes back to the root, when all darts have been gone along: the pass is over.
+    fn come_home(&mut self, g: &Graph, tree: &Tree, v: u32) -> Result<(), AllocError>
+        requires numbered { IsNumbered g.now tree.now }
+        requires pass { IsPass g.now tree.now self.old }
+        requires all { slice_index self.old.gone self.old.at ≡ tree_degree tree.now.palm tree.now.vertex self.old.at }
+        requires not_root { self.old.at ≢ 0 }
+        requires parent { v ≡ tree_parent tree.now.palm tree.now.vertex self.old.at }
+        requires outer { tree_parent tree.now.palm tree.now.vertex self.old.at ≡ 0 }
+        requires within { v < g.now.vertex_count }
+        requires dart_left { slice_index self.old.gone v < tree_degree tree.now.palm tree.now.vertex v }
+        requires fits { slice_index self.old.gone v + 1 < 18446744073709551616 }
+        ensures home { IfOk result (λ _. IsPassed g.now tree.now self.new) }
+        ensures cost { IfOk result (λ _. weight self.new ≤ weight self.old + 8) }
+    {
+        let w = self.at;
+        let dart = tree.dart(g, v, self.gone[v as usize]);
+        let start = self.start[w as usize];
+        self.note_gone(v);
+        self.go_up(v, w);
+        self.push(Item {
+            name: dart.edge,
+            up: v,
+            low: w,
+            tree: true,
+            start,
+        })
     }
 }
