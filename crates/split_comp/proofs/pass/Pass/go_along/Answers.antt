@@ -1,4 +1,4 @@
-use Rattle.std.proofs.Common.{◌≡◌, ℕ, slice_index_or, sym, ap, ◌∙◌}
+use Rattle.std.proofs.Common.{slice_index_or, ap, ◌∙◌}
 use Rattle.std.proofs.lemmas.Result.{IfOk-weaker}
 use Rattle.split_comp.specs.Pass.{PassState, IsPass}
 use Rattle.split_comp.proofs.Turned.{along-child, along-can, along-frond}
@@ -15,6 +15,6 @@ add_frond-requires-clause-can g c = along-can c.args.g.now c.args.tree.now c.req
 pub returns-clause-gone : goal.returns-clause-gone
 returns-clause-gone g c = IfOk-weaker c.add_frond.result _ (λ x. IsPass c.args.g.now c.args.tree.now c.add_frond.new.self)
     (λ x a. along-frond c.args.g.now c.args.tree.now c.requires.numbered c.args.self.now c.requires.pass c.requires.more c.self.inside.at c.index.result.now
-      (ap (λ (s : PassState). s.at) c.self.view_is) (c.index.ensures ∙ ap (λ (s : PassState). slice_index_or s.gone c.self.inside.at c.index.result.now) c.self.view_is) c.dart-dart.result c.dart-dart.ensures c.if-dart.false c.note_gone.new.self c.note_gone.ensures
-      c.add_frond.new.self a)
+    (ap (λ (s : PassState). s.at) c.self.view_is) (c.index.ensures ∙ ap (λ (s : PassState). slice_index_or s.gone c.self.inside.at c.index.result.now) c.self.view_is) c.dart-dart.result c.dart-dart.ensures c.if-dart.false c.note_gone.new.self c.note_gone.ensures
+    c.add_frond.new.self a)
     c.add_frond.ensures.added
