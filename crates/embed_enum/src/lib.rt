@@ -12,11 +12,12 @@
 // and those behind it to their first choices. These two need no number, and work on lists of any length. `members_after` keeps
 // the members that follow. The list is the same from each of its members, so a walk stays in it.
 //
-// No call but `members_after` takes memory, and none changes anything where it refuses. What they cost: `count` at most 128
-// products for all nodes together that have a choice; `rank` the squares of the numbers of items of the bonds that are not
-// locked, each at most 35, or else the list is over; `next` and `first` the exchanges and flips that they make, of which each
-// walks round the vertices of its node, and besides the choices that they look at. `next` makes one exchange and a turn of what
-// is behind for a bond, and resets the nodes behind it; `first` at most one exchange for each item of a bond.
+// No call but `members_after` takes memory, and none changes anything where it refuses. What they cost, in looks at choices:
+// `count` a look at each node, and no more than 128 products by factors above one. `rank` the square of the number of items of
+// each bond that is not locked, and `goto` its cube; that number is 35 at most there, or else the list is over. `next` the keys
+// of the nodes that it tries, from the last up to the one that goes on; `first` all keys. Besides, the exchanges and flips that
+// they make, each of which walks round the poles of its bond, or the vertices of its node: `first` and `goto` make at most one
+// exchange for each item of a bond, `next` one and those that turn round the keys behind it, and what resets the later nodes.
 //
 // The lemmas (module of proofs/ in front):
 //   Digits   number-next, number-last, number-below, behind-divided: numbers with digits at n places

@@ -2,3 +2,4 @@
 pub mod Told
 pub mod Placing
 pub mod Arranging
+pub mod Returns

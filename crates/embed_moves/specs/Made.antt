@@ -58,3 +58,7 @@ pub record IsLeastHeld (s : BlockState) (k : ℕ) : Type 0 where
 abbrev pub Fits : List Node → Move → Type 0
 Fits nodes (flip k) = IsNodeOfKind nodes k R
 Fits nodes (permute k keys) = IsNodeOfKind nodes k P × IsPermutation (node_keys nodes k) keys
+
+-- from wherever the first move leads, the second leads back to where the block stands
+abbrev pub LeadsBack : BlockState → Move → Move → Type 0
+LeadsBack s move back = (q : List (List ℕ)) → MoveLeads s.graph s.tree move s.rotation q → MoveLeads s.graph s.tree back q s.rotation

@@ -1,11 +1,12 @@
-// Moves carried out, where it is known that they fit.
+// Moves carried out, where it is known that they fit, and the moves that lead back.
 
-ghost use Rattle.std.specs.Prelude.{◌≡◌};
+ghost use Rattle.std.specs.Prelude.{◌≡◌, IfOk};
 ghost use Rattle.skel_embed.specs.Values.{as_move};
-ghost use Rattle.embed_moves.specs.Made.{IsMade, Fits};
+ghost use Rattle.embed_moves.specs.Made.{IsMade, Fits, LeadsBack};
 
 use crate::permuting::permute_to;
-use skel_embed::{Move, PlaneBlock};
+use skel_embed::{Keys, Move, PlaneBlock};
+use std::alloc::{AllocError, Global};
 
 /// Carries a move out, whether its node is locked or not. Takes no memory.
 pub fn carry_out(p: &mut PlaneBlock, m: &Move)
@@ -15,5 +16,18 @@ pub fn carry_out(p: &mut PlaneBlock, m: &Move)
     match m {
         Move::Flip(k) => p.turn(*k),
         Move::Permute(k, keys) => permute_to(p, *k, keys.as_slice()),
+    }
+}
+
+/// The move that leads back from where `m` leads from the present rotation system: a flip once more, or a permute to the present
+/// choice.
+pub fn back(alloc: Global, p: &PlaneBlock, m: &Move) -> Result<Move, AllocError>
+    requires { Fits p.now.tree (as_move m.now) }
+    ensures { IfOk result (λ b. LeadsBack p.now (as_move m.now) (as_move b)) }
+{
+    let _ = p.tree();
+    match m {
+        Move::Flip(k) => Ok(Move::Flip(*k)),
+        Move::Permute(k, _) => Ok(Move::Permute(*k, Keys::of(alloc, p.keys(*k))?)),
     }
 }

@@ -2,7 +2,7 @@
 //
 // A triconnected node is flipped, a bond is permuted to given keys, and the whole block is mirrored (Di Battista and Tamassia 1996;
 // Mac Lane 1937). Each leads from a plane rotation system to a plane one. A locked node is not moved, and each refusal says why; it
-// leaves the block as it was. Nothing takes memory.
+// leaves the block as it was. Nothing but `back` takes memory.
 //
 // A permute is made of exchanges of two groups. That these lead where the one move leads follows from what choices tell: each
 // exchange keeps all choices but that of the bond, and a plane rotation system is told by its choices.
@@ -13,7 +13,7 @@ mod flipping;
 mod mirroring;
 mod permuting;
 
-pub use carrying::carry_out;
+pub use carrying::{back, carry_out};
 pub use flipping::{FlipFault, flip};
 pub use mirroring::{Locked, mirror};
 pub use permuting::{PermuteFault, permute};

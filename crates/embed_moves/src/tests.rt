@@ -1,11 +1,11 @@
 // Moves of small blocks, worked out by hand.
 
-use crate::{PermuteFault, flip, mirror, permute};
+use crate::{PermuteFault, back, carry_out, flip, mirror, permute};
 use blocks::is_one_block;
 use contract_embed::ContractEmbedder;
 use multigraph::Graph;
-use pair_split::{PairSplitter, Splitter};
-use skel_embed::{Outcome, PlaneBlock, plane_block};
+use pair_split::{Kind, PairSplitter, Splitter};
+use skel_embed::{Keys, Move, Outcome, PlaneBlock, plane_block};
 use spqr_tree::Tree;
 use std::alloc::Global;
 use std::test::Fail;
@@ -147,5 +147,37 @@ fn locked_nodes_stay(rt: HostRuntime) -> Result<(), Fail> {
             &[&[0, 7, 6, 2, 1], &[0, 3, 4, 8, 9], &[1, 5, 3], &[2, 4, 5]]
         )
     );
+    Ok(())
+}
+
+// Whether the move is a flip of node k.
+fn is_flip(m: &Move, k: u32) -> bool {
+    match m {
+        Move::Flip(node) => *node == k,
+        Move::Permute(..) => false,
+    }
+}
+
+// Whether it is a permute to these keys.
+fn has_keys(m: &Move, row: &[u32]) -> bool {
+    match m {
+        Move::Flip(_) => false,
+        Move::Permute(_, keys) => keys.as_slice() == row,
+    }
+}
+
+#[test]
+fn moves_as_values(rt: HostRuntime) -> Result<(), Fail> {
+    let mut block = block_of(rt.alloc(), 6, &SHARED)?;
+    if block.tree().node_count() < 3 || block.tree().kind(1) != Kind::R {
+        return Err(Fail::from("no node"));
+    }
+    let there = Move::Flip(1);
+    let again = back(rt.alloc(), &block, &there)?;
+    assert!(rt; is_flip(&again, 1));
+    carry_out(&mut block, &there);
+    assert!(rt; stands_at(&block, &[&[0, 2, 1, 6, 7], &[0, 9, 8, 3, 4]]));
+    let keys = Keys::of(rt.alloc(), &[0, 6, 1])?;
+    assert!(rt; has_keys(&Move::Permute(0, keys), &[0, 6, 1]));
     Ok(())
 }

@@ -21,7 +21,7 @@ use std::marker::Model;
 
 /// A list of edges under names, that contracts see as a list.
 #[derive(Drop)]
-pub(crate) struct EdgeList {
+pub struct EdgeList {
     held: Vec<NamedEdge>,
 }
 
@@ -35,15 +35,15 @@ impl Model for EdgeList {
 }
 
 impl EdgeList {
-    // The list of these edges. Takes no memory.
-    fn of(v: Vec<NamedEdge>) -> EdgeList
+    /// The list of these edges. Takes no memory.
+    pub fn of(v: Vec<NamedEdge>) -> EdgeList
         ensures { result ≡ v.items }
     {
         EdgeList { held: v }
     }
 
-    // Its edges, in order.
-    pub(crate) fn as_slice(&self) -> &[NamedEdge]
+    /// Its edges, in order.
+    pub fn as_slice(&self) -> &[NamedEdge]
         ensures { result.now ≡ self.now }
     {
         self.held.as_slice()
@@ -52,9 +52,12 @@ impl EdgeList {
 
 /// A finished component: its kind, its own virtual edge, and its other edges.
 #[derive(Drop)]
-pub(crate) struct Cut {
+pub struct Cut {
+    /// Its kind.
     pub kind: Kind,
+    /// Its own virtual edge.
     pub own: NamedEdge,
+    /// Its other edges.
     pub edges: EdgeList,
 }
 
@@ -113,8 +116,8 @@ fn other_edges(
     Ok(kept)
 }
 
-// The kind of a prime family of at least three entries, the first of which is given apart.
-fn kind_of(first: NamedEdge, rest: &[NamedEdge]) -> Kind
+/// The kind of a prime family of at least three entries, the first of which is given apart.
+pub fn kind_of(first: NamedEdge, rest: &[NamedEdge]) -> Kind
     requires family { IsFamily (entry_of first ∷ family_of rest.now) }
     requires prime { IsPrime (entry_of first ∷ family_of rest.now) }
     requires three { 2 ≤ length rest.now }
@@ -130,8 +133,8 @@ fn kind_of(first: NamedEdge, rest: &[NamedEdge]) -> Kind
     Kind::S
 }
 
-// The kind of a prime family of at least three entries.
-pub(crate) fn kind_of_all(edges: &[NamedEdge]) -> Kind
+/// The kind of a prime family of at least three entries.
+pub fn kind_of_all(edges: &[NamedEdge]) -> Kind
     requires family { IsFamily (family_of edges.now) }
     requires prime { IsPrime (family_of edges.now) }
     requires three { 3 ≤ length edges.now }

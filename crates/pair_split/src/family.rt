@@ -2,8 +2,11 @@
 
 /// An edge under a name, with its two ends.
 #[derive(Clone, Copy, Debug, Drop, PartialEq, Eq)]
-pub(crate) struct NamedEdge {
+pub struct NamedEdge {
+    /// The name.
     pub name: u32,
+    /// One end.
     pub first: u32,
+    /// The other end.
     pub second: u32,
 }

@@ -40,6 +40,8 @@ mod splitter;
 mod writing;
 
 pub use components::{Comp, Comps, Item, Kind, Piece, What};
+pub use cuts::{Cut, EdgeList, kind_of, kind_of_all};
+pub use family::NamedEdge;
 pub use lists::{CompList, PieceList};
 pub use plain::PairSplitter;
 pub use splitter::Splitter;

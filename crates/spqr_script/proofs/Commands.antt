@@ -1,21 +1,19 @@
 -- Reading a line's tokens and a script's lines gives what they spell, and all that they spell.
 use Rattle.std.proofs.Common.{◌≡◌, ℕ, zero, suc, ◌+◌, ◌<◌, false, List, [], ◌∷◌, length, get_or, Option, Some, None, Result, Ok, Err, refl, sym, ap, subst, ◌∙◌, inl, inr, ◌⊎◌, arith}
-use Rattle.std.specs.Option.{option_map}
 use Rattle.std.specs.List.{AllZip}
 use Rattle.std.proofs.lemmas.Bool.{cases_Bool}
-use Rattle.std.proofs.lemmas.Option.{same_Some, none-some}
+use Rattle.std.proofs.lemmas.Option.{none-some}
 use Rattle.spqr_script.specs.Line.{is_passed_over, tokens_of}
 use Rattle.spqr_script.specs.Words.{spelling, all_words, word_among}
 use Rattle.spqr_script.specs.Script.{word_of, SpellsArguments, SpellsCommand, command_lines, IsAccepted, IsRefused}
-use Rattle.spqr_script.specs.Reading.{rotation_of, arguments_of, command_with, command_of, command_and, commands_from}
+use Rattle.spqr_script.specs.Reading.{arguments_of, command_with, command_of, command_and, commands_from}
 use Rattle.spqr_script.specs.declared.word.Word.{Word}
 use Rattle.spqr_script.specs.declared.word.Word.TheVariants as word
 use Rattle.spqr_script.specs.declared.command.Command.{Command}
-use Rattle.spqr_script.specs.declared.command.Command.TheVariants.{Euler, Show, Faces, Gml}
-use Rattle.spqr_script.proofs.Options.{map_some}
+use Rattle.spqr_script.specs.declared.command.Command.TheVariants as command
+use Rattle.spqr_script.specs.declared.command.Command.TheVariants.{Euler, Show, Faces, Flip, Permute, Mirror, First, Next, Goto, ConvertRank, ConvertTo, Take, Undo, Redo, Gml, Count, Rank, Lock, Unlock}
 use Rattle.spqr_script.proofs.Words.{found_spelled, word_found}
-use Rattle.spqr_script.proofs.Entries.{rotation_spelled, rotation_read}
-use Rattle.spqr_script.proofs.Forms.{alone_spelled, alone_read, block_spelled, block_read}
+use Rattle.spqr_script.proofs.Forms.{alone_spelled, alone_read, with_rotation_spelled, with_rotation_read, block_spelled, block_read, node_spelled, node_read, keys_spelled, keys_read, listed_spelled, listed_read, rank_spelled, rank_read, rotation_behind_spelled, rotation_read_behind, convert_spelled, convert_rank_read, convert_to_read}
 
 -- ---- one command
 
@@ -26,24 +24,87 @@ IsSpelled w tokens c = (w ≡ word_of c) × SpellsArguments tokens c
 -- what is read behind a word is its command, spelled so
 arguments_spelled : (w : Word) (tokens : List (List ℕ)) (c : Command) → arguments_of w tokens ≡ Some c → IsSpelled w tokens c
 arguments_spelled word.Euler tokens c e =
-    let p = map_some (λ entries. Euler entries) (rotation_of tokens) c e in
-    subst (IsSpelled word.Euler tokens) p.2 (refl, rotation_spelled tokens p.0 p.1)
+    let p = with_rotation_spelled Euler tokens c e in
+    subst (IsSpelled word.Euler tokens) p.1 (refl, p.2)
 arguments_spelled word.Show tokens c e =
     let p = block_spelled Show tokens c e in
     subst (IsSpelled word.Show tokens) p.1 (refl, p.2)
 arguments_spelled word.Faces tokens c e =
     let p = block_spelled Faces tokens c e in
     subst (IsSpelled word.Faces tokens) p.1 (refl, p.2)
+arguments_spelled word.Flip tokens c e =
+    let p = node_spelled Flip tokens c e in
+    subst (IsSpelled word.Flip tokens) p.2 (refl, p.3)
+arguments_spelled word.Permute tokens c e =
+    let p = keys_spelled Permute tokens c e in
+    subst (IsSpelled word.Permute tokens) p.3 (refl, p.4)
+arguments_spelled word.Mirror tokens c e =
+    let p = block_spelled Mirror tokens c e in
+    subst (IsSpelled word.Mirror tokens) p.1 (refl, p.2)
+arguments_spelled word.First tokens c e =
+    let p = block_spelled First tokens c e in
+    subst (IsSpelled word.First tokens) p.1 (refl, p.2)
+arguments_spelled word.Next tokens c e =
+    let p = block_spelled Next tokens c e in
+    subst (IsSpelled word.Next tokens) p.1 (refl, p.2)
+arguments_spelled word.List tokens c e =
+    let p = listed_spelled tokens c e in
+    subst (IsSpelled word.List tokens) p.2 (refl, p.3)
+arguments_spelled word.Goto tokens c e =
+    let p = rank_spelled Goto tokens c e in
+    subst (IsSpelled word.Goto tokens) p.2 (refl, p.3)
+arguments_spelled word.Convert tokens c e =
+    elim (convert_spelled tokens c e) [
+      | inl p ↦ subst (IsSpelled word.Convert tokens) p.2 (refl, p.3)
+      | inr p ↦ subst (IsSpelled word.Convert tokens) p.2 (refl, p.3)
+    ]
+arguments_spelled word.Take tokens c e =
+    let p = rotation_behind_spelled Take tokens c e in
+    subst (IsSpelled word.Take tokens) p.2 (refl, p.3)
+arguments_spelled word.Undo tokens c e =
+    let p = alone_spelled Undo tokens c e in
+    subst (IsSpelled word.Undo tokens) p.1 (refl, p.0)
+arguments_spelled word.Redo tokens c e =
+    let p = alone_spelled Redo tokens c e in
+    subst (IsSpelled word.Redo tokens) p.1 (refl, p.0)
 arguments_spelled word.Gml tokens c e =
     let p = alone_spelled Gml tokens c e in
     subst (IsSpelled word.Gml tokens) p.1 (refl, p.0)
+arguments_spelled word.Count tokens c e =
+    let p = block_spelled Count tokens c e in
+    subst (IsSpelled word.Count tokens) p.1 (refl, p.2)
+arguments_spelled word.Rank tokens c e =
+    let p = block_spelled Rank tokens c e in
+    subst (IsSpelled word.Rank tokens) p.1 (refl, p.2)
+arguments_spelled word.Lock tokens c e =
+    let p = node_spelled Lock tokens c e in
+    subst (IsSpelled word.Lock tokens) p.2 (refl, p.3)
+arguments_spelled word.Unlock tokens c e =
+    let p = node_spelled Unlock tokens c e in
+    subst (IsSpelled word.Unlock tokens) p.2 (refl, p.3)
 
 -- and what is spelled behind the word of a command is read
 arguments_read : (tokens : List (List ℕ)) (c : Command) → SpellsArguments tokens c → arguments_of (word_of c) tokens ≡ Some c
-arguments_read tokens (Euler entries) s = ap (λ (o : Option (List (ℕ × List ℕ))). option_map (λ x. Euler x) o) (rotation_read tokens entries s)
+arguments_read tokens (Euler entries) s = with_rotation_read Euler tokens entries s
 arguments_read tokens (Show b) s = block_read Show tokens b s
 arguments_read tokens (Faces b) s = block_read Faces tokens b s
+arguments_read tokens (Flip b k) s = node_read Flip tokens b k s
+arguments_read tokens (Permute b k keys) s = keys_read Permute tokens b k keys s
+arguments_read tokens (Mirror b) s = block_read Mirror tokens b s
+arguments_read tokens (First b) s = block_read First tokens b s
+arguments_read tokens (Next b) s = block_read Next tokens b s
+arguments_read tokens (command.List b n) s = listed_read tokens b n s
+arguments_read tokens (Goto b r) s = rank_read Goto tokens b r s
+arguments_read tokens (ConvertRank b r) s = convert_rank_read tokens b r s
+arguments_read tokens (ConvertTo b entries) s = convert_to_read tokens b entries s
+arguments_read tokens (Take b entries) s = rotation_read_behind Take tokens b entries s
+arguments_read tokens Undo s = alone_read Undo tokens s
+arguments_read tokens Redo s = alone_read Redo tokens s
 arguments_read tokens Gml s = alone_read Gml tokens s
+arguments_read tokens (Count b) s = block_read Count tokens b s
+arguments_read tokens (Rank b) s = block_read Rank tokens b s
+arguments_read tokens (Lock b k) s = node_read Lock tokens b k s
+arguments_read tokens (Unlock b k) s = node_read Unlock tokens b k s
 
 -- a command has a word
 with_word : (o : Option Word) (tokens : List (List ℕ)) (c : Command) → command_with o tokens ≡ Some c → (w : Word) × (o ≡ Some w) × (arguments_of w tokens ≡ Some c)

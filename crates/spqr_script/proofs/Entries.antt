@@ -28,14 +28,14 @@ number_read limit text n s =
     cond-true (are_digits text && ltb (value_of text) limit) (Some (value_of text)) None (and_from (are_digits text) (ltb (value_of text) limit) s.0 small)
     ∙ ap (λ (k : ℕ). Some k) s.1
 
-indices_spelled : (tokens : List (List ℕ)) (ns : List ℕ) → indices_of tokens ≡ Some ns → AllZip SpellsIndex tokens ns
+pub indices_spelled : (tokens : List (List ℕ)) (ns : List ℕ) → indices_of tokens ≡ Some ns → AllZip SpellsIndex tokens ns
 unfolding indices_of
 indices_spelled [] ns e = subst (λ (xs : List ℕ). AllZip SpellsIndex [] xs) (same_Some [] ns e) tt
 indices_spelled (token ∷ tokens) ns e =
     let p = first_some (index_of token) (indices_of tokens) ns e in
     subst (λ (xs : List ℕ). AllZip SpellsIndex (token ∷ tokens) xs) p.4 (number_spelled index_limit token p.0 p.2, indices_spelled tokens p.1 p.3)
 
-indices_read : (tokens : List (List ℕ)) (ns : List ℕ) → AllZip SpellsIndex tokens ns → indices_of tokens ≡ Some ns
+pub indices_read : (tokens : List (List ℕ)) (ns : List ℕ) → AllZip SpellsIndex tokens ns → indices_of tokens ≡ Some ns
 unfolding indices_of
 indices_read [] [] s = refl
 indices_read [] (n ∷ ns) s = absurd s

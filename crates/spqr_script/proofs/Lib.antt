@@ -15,3 +15,4 @@ mod Rotations
 pub mod Scripts
 pub mod Within
 mod RotationText
+mod Printed

@@ -5,7 +5,7 @@ use Rattle.spqr_script.specs.Line.{cut_lines, lines_of, is_passed_over, tokens_o
 use Rattle.spqr_script.specs.Words.{word_among}
 use Rattle.spqr_script.specs.Reading.{indices_of, entry_of, entries_after, rotation_of, command_of, commands_from}
 use Rattle.spqr_script.specs.declared.command.Command.{Command}
-use Rattle.spqr_script.specs.declared.command.Command.TheVariants.{Euler, Gml}
+use Rattle.spqr_script.specs.declared.command.Command.TheVariants.{Euler, Show, Flip, Permute, ConvertRank, ConvertTo, Gml}
 
 -- a last line without a line feed is a line, and nothing behind the last line feed is none
 two_lines : lines_of (codes "gml\neuler") ≡ codes "gml" ∷ codes "euler" ∷ []
@@ -76,6 +76,38 @@ upper_case = refl
 gml_with_more : spelled (codes "gml 1") ≡ None
 unfolding spelled tokens_of command_of word_among
 gml_with_more = refl
+
+two_numbers : spelled (codes "flip 00 2") ≡ Some (Flip 0 2)
+unfolding spelled tokens_of command_of word_among
+two_numbers = refl
+
+keys_in_order : spelled (codes "permute 0 1 6 0 6") ≡ Some (Permute 0 1 (6 ∷ 0 ∷ 6 ∷ []))
+unfolding spelled tokens_of command_of word_among indices_of
+keys_in_order = refl
+
+no_keys : spelled (codes "permute 0 1 ") ≡ None
+unfolding spelled tokens_of command_of word_among indices_of
+no_keys = refl
+
+last_block : spelled (codes "show 4294967295") ≡ Some (Show 4294967295)
+unfolding spelled tokens_of command_of word_among
+last_block = refl
+
+past_last_block : spelled (codes "show 4294967296") ≡ None
+unfolding spelled tokens_of command_of word_among
+past_last_block = refl
+
+too_many_listed : spelled (codes "list 0 10001") ≡ None
+unfolding spelled tokens_of command_of word_among
+too_many_listed = refl
+
+to_a_rank : spelled (codes "convert 0 rank 7") ≡ Some (ConvertRank 0 7)
+unfolding spelled tokens_of command_of word_among
+to_a_rank = refl
+
+to_a_rotation : spelled (codes "convert 0 to 0:7") ≡ Some (ConvertTo 0 ((0, 7 ∷ []) ∷ []))
+unfolding spelled tokens_of command_of word_among rotation_of entries_after entry_of indices_of
+to_a_rotation = refl
 
 second_line_bad : commands_from 1 (lines_of (codes "# c\nlist 0 10001")) ≡ Err 2
 unfolding cut_lines is_passed_over tokens_of command_of word_among commands_from

@@ -1,7 +1,11 @@
 -- Printed texts, worked out on small numbers.
 use Rattle.std.proofs.Common.{◌≡◌, [], ◌∷◌, pos, negsuc, true, false, codes, refl}
 use Rattle.std.specs.Fmt.{digits}
-use Rattle.spqr_script.specs.Head.{graph_text, vertex_text, cut_text, block_text}
+use Rattle.spqr_script.specs.Head.{graph_text, vertex_text, cut_text, block_text, planar_text}
+use Rattle.multigraph.specs.Part.{GraphPart}
+use Rattle.spqr_script.specs.Nonplanar.{path_text}
+use Rattle.spqr_script.specs.Answers.Rotation.{rotation_text}
+use Rattle.spqr_script.specs.Answers.Faces.{faces_text}
 use Rattle.spqr_script.specs.Answers.Euler.{euler_text}
 use Rattle.spqr_script.specs.Answers.Gml.{document_text}
 use Rattle.spqr_script.specs.Answers.Error.{error_text}
@@ -56,6 +60,31 @@ small_document = refl
 empty_document : document_text [] ≡ codes "gml 0\n"
 unfolding digits
 empty_document = refl
+
+plane_block : planar_text 2 ≡ codes "planar 2\n"
+unfolding digits
+plane_block = refl
+
+-- an edge between vertices 4 and 7 of a graph, its edge 9
+abbrev edge_part : GraphPart
+edge_part = record { graph = record { vertex_count = 2; ends = (0, 1) ∷ [] }; vertices = 4 ∷ 7 ∷ []; edges = 9 ∷ [] }
+
+edge_entries : rotation_text edge_part 3 ((0 ∷ []) ∷ (0 ∷ []) ∷ []) ≡ codes "rotation 3 | 4: 9; 7: 9\n"
+unfolding digits
+edge_entries = refl
+
+-- no space at the end of an entry or of the line
+no_edges : rotation_text edge_part 3 ([] ∷ [] ∷ []) ≡ codes "rotation 3 | 4:; 7:\n"
+unfolding digits
+no_edges = refl
+
+edge_faces : faces_text edge_part 3 (((0, 0) ∷ (1, 0) ∷ []) ∷ []) ≡ codes "faces 3 1\nface 4-9 7-9\n"
+unfolding digits
+edge_faces = refl
+
+edge_path : path_text edge_part 1 0 (0 ∷ []) ≡ codes "path 7 4: 9\n"
+unfolding digits
+edge_path = refl
 
 unread_graph : read_text GraphFile ≡ codes "refused read graph\n"
 unread_graph = refl

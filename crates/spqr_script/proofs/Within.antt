@@ -1,5 +1,5 @@
 -- The numbers in rotation systems, faces and subdivisions are of the graph.
-use Rattle.std.proofs.Common.{◌≡◌, ℕ, zero, suc, ◌/◌, ◌<◌, List, [], ◌∷◌, length, get_or, map, filter, subst, sym, IsPermutation}
+use Rattle.std.proofs.Common.{ℕ, zero, suc, ◌/◌, ◌<◌, List, [], ◌∷◌, length, get_or, filter, subst, sym}
 use Rattle.std.specs.List.{All}
 use Rattle.std.proofs.lemmas.List.Elements.{All-nil, All-cons, All-append, All-map, All-filter, All-from_get_or, All-contains_itself}
 use Rattle.std.proofs.lemmas.List.Sorted.{All-permutation}

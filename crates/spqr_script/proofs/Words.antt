@@ -7,7 +7,8 @@ use Rattle.std.proofs.lemmas.Slice.Eq.{bytes_eq-Decides}
 use Rattle.std.proofs.Math.Seq.{drop-cons}
 use Rattle.spqr_script.specs.Words.{spelling, all_words, word_among}
 use Rattle.spqr_script.specs.declared.word.Word.{Word}
-use Rattle.spqr_script.specs.declared.word.Word.TheVariants.{Euler, Show, Faces, Gml}
+use Rattle.spqr_script.specs.declared.word.Word.TheVariants as word
+use Rattle.spqr_script.specs.declared.word.Word.TheVariants.{Euler, Show, Faces, Flip, Permute, Mirror, First, Next, Goto, Convert, Take, Undo, Redo, Gml, Count, Rank, Lock, Unlock}
 
 -- what is found is spelled so
 pub found_spelled : (words : List Word) (name : List ℕ) (w : Word) → word_among words name ≡ Some w → name ≡ spelling w
@@ -25,7 +26,22 @@ unfolding word_among
 word_found Euler = refl
 word_found Show = refl
 word_found Faces = refl
+word_found Flip = refl
+word_found Permute = refl
+word_found Mirror = refl
+word_found First = refl
+word_found Next = refl
+word_found word.List = refl
+word_found Goto = refl
+word_found Convert = refl
+word_found Take = refl
+word_found Undo = refl
+word_found Redo = refl
 word_found Gml = refl
+word_found Count = refl
+word_found Rank = refl
+word_found Lock = refl
+word_found Unlock = refl
 
 -- ---- the search word by word
 

@@ -8,3 +8,4 @@ pub mod Count
 pub mod Rank
 pub mod Rotation
 pub mod Faces
+pub mod Moves

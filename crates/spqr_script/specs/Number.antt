@@ -14,6 +14,14 @@ SpellsNumber limit text n = IsTrue (are_digits text) × (value_of text ≡ n) ×
 abbrev pub index_limit : ℕ
 index_limit = 2 ^ 32
 
+-- the limit on ranks
+abbrev pub rank_limit : ℕ
+rank_limit = 2 ^ 128
+
+-- the most members that one `list` prints
+abbrev pub max_listed : ℕ
+max_listed = 10000
+
 -- the number that a text spells, where it is one or more decimal digits and the number is below the limit
 abbrev pub number_below : ℕ → List ℕ → Option ℕ
 number_below limit text = (if are_digits text && nat_lt (value_of text) limit then Some (value_of text) else None)

@@ -1,10 +1,10 @@
 -- Reading as functions on lists: what the functions of the reader answer. proofs/ shows that it is what `Script` says.
-use Rattle.std.specs.Prelude.{◌≡◌, ℕ, ◌+◌, ◌-◌, ◌*◌, Bool, ◌&&◌, ◌||◌, ◌==◌, nat_lt, if◌then◌else◌, List, [], ◌∷◌, ◌++◌, length, Option, Some, None, option_map, Result, Ok, Err, bytes_eq, codes}
+use Rattle.std.specs.Prelude.{◌≡◌, ℕ, ◌+◌, ◌-◌, ◌*◌, Bool, not, ◌&&◌, ◌||◌, ◌==◌, nat_lt, if◌then◌else◌, List, [], ◌∷◌, ◌++◌, length, Option, Some, None, option_map, Result, Ok, Err, bytes_eq, codes}
 use Rattle.std.specs.Option.{option_and_then}
 use Rattle.std.specs.Char.{is_ascii_digit}
 use Rattle.std.specs.List.{slice_split}
 use Rattle.rotations.specs.Entries.{entry}
-use Rattle.spqr_script.specs.Number.{number_below, index_limit}
+use Rattle.spqr_script.specs.Number.{number_below, index_limit, rank_limit, max_listed}
 use Rattle.spqr_script.specs.Line.{is_passed_over, tokens_of}
 use Rattle.spqr_script.specs.Script.{is_semicolon}
 use Rattle.std.specs.Global.{Vec}
@@ -14,7 +14,8 @@ use Rattle.spqr_script.specs.Words.{all_words, word_among}
 use Rattle.spqr_script.specs.declared.word.Word.{Word}
 use Rattle.spqr_script.specs.declared.word.Word.TheVariants as word
 use Rattle.spqr_script.specs.declared.command.Command.{Command}
-use Rattle.spqr_script.specs.declared.command.Command.TheVariants.{Euler, Show, Faces, Gml}
+use Rattle.spqr_script.specs.declared.command.Command.TheVariants as command
+use Rattle.spqr_script.specs.declared.command.Command.TheVariants.{Euler, Show, Faces, Flip, Permute, Mirror, First, Next, Goto, ConvertRank, ConvertTo, Take, Undo, Redo, Gml, Count, Rank, Lock, Unlock}
 
 -- the number so far with one digit more behind it, where that is below the limit
 abbrev pub with_digit : ℕ → ℕ → ℕ → Option ℕ
@@ -86,12 +87,56 @@ number_then limit further tokens = option_and_then (λ first. further first.0 fi
 abbrev pub index_then : (ℕ → List (List ℕ) → Option Command) → List (List ℕ) → Option Command
 index_then further tokens = number_then index_limit further tokens
 
+-- one or more numbers of tokens
+abbrev pub keys_of : List (List ℕ) → Option (List ℕ)
+keys_of [] = None
+keys_of (token ∷ tokens) = indices_of (token ∷ tokens)
+
+-- so many members can be listed at once
+abbrev pub can_list : ℕ → Bool
+can_list n = nat_lt 0 n && not (nat_lt max_listed n)
+
+-- the command that is read with how many members are listed, and those that remain
+abbrev pub list_of : ℕ → ℕ → List (List ℕ) → Option Command
+list_of b n tokens = (if can_list n then alone (command.List b n) tokens else None)
+
+-- the command that is read with a rank, which is all tokens
+abbrev pub with_rank : (ℕ → Command) → List (List ℕ) → Option Command
+with_rank make tokens = number_then rank_limit (λ r. alone (make r)) tokens
+
+-- the command that is read with a rotation, which is all tokens
+abbrev pub with_rotation : (List (ℕ × List ℕ) → Command) → List (List ℕ) → Option Command
+with_rotation make tokens = option_map make (rotation_of tokens)
+
+-- a conversion of block b: `rank` and a rank, or `to` and a rotation
+abbrev pub convert_of : ℕ → List (List ℕ) → Option Command
+convert_of b [] = None
+convert_of b (name ∷ tokens) =
+    (if bytes_eq name (codes "rank") then with_rank (ConvertRank b) tokens
+    else if bytes_eq name (codes "to") then with_rotation (ConvertTo b) tokens
+    else None)
+
 -- the command with this word, where the tokens behind it are its arguments
 abbrev pub arguments_of : Word → List (List ℕ) → Option Command
-arguments_of word.Euler tokens = option_map (λ entries. Euler entries) (rotation_of tokens)
+arguments_of word.Euler tokens = with_rotation Euler tokens
 arguments_of word.Show tokens = index_then (λ b. alone (Show b)) tokens
 arguments_of word.Faces tokens = index_then (λ b. alone (Faces b)) tokens
+arguments_of word.Flip tokens = index_then (λ b. index_then (λ k. alone (Flip b k))) tokens
+arguments_of word.Permute tokens = index_then (λ b. index_then (λ k others. option_map (λ keys. Permute b k keys) (keys_of others))) tokens
+arguments_of word.Mirror tokens = index_then (λ b. alone (Mirror b)) tokens
+arguments_of word.First tokens = index_then (λ b. alone (First b)) tokens
+arguments_of word.Next tokens = index_then (λ b. alone (Next b)) tokens
+arguments_of word.List tokens = index_then (λ b. index_then (list_of b)) tokens
+arguments_of word.Goto tokens = index_then (λ b. with_rank (Goto b)) tokens
+arguments_of word.Convert tokens = index_then convert_of tokens
+arguments_of word.Take tokens = index_then (λ b. with_rotation (Take b)) tokens
+arguments_of word.Undo tokens = alone Undo tokens
+arguments_of word.Redo tokens = alone Redo tokens
 arguments_of word.Gml tokens = alone Gml tokens
+arguments_of word.Count tokens = index_then (λ b. alone (Count b)) tokens
+arguments_of word.Rank tokens = index_then (λ b. alone (Rank b)) tokens
+arguments_of word.Lock tokens = index_then (λ b. index_then (λ k. alone (Lock b k))) tokens
+arguments_of word.Unlock tokens = index_then (λ b. index_then (λ k. alone (Unlock b k))) tokens
 
 -- the same, where there is a word
 abbrev pub command_with : Option Word → List (List ℕ) → Option Command

@@ -2,13 +2,14 @@
 use Rattle.std.specs.Prelude.{◌≡◌, ℕ, ◌+◌, ◌-◌, ◌<◌, ◌≤◌, Bool, true, false, not, ◌⊎◌, List, [], ◌∷◌, length, filter, slice_index_or, bytes_eq, codes}
 use Rattle.std.specs.List.{AllZip, slice_split}
 use Rattle.rotations.specs.Entries.{IsRising}
-use Rattle.spqr_script.specs.Number.{SpellsNumber, index_limit}
+use Rattle.spqr_script.specs.Number.{SpellsNumber, index_limit, rank_limit, max_listed}
 use Rattle.spqr_script.specs.Line.{lines_of, is_passed_over, tokens_of}
 use Rattle.spqr_script.specs.Words.{spelling}
 use Rattle.spqr_script.specs.declared.word.Word.{Word}
 use Rattle.spqr_script.specs.declared.word.Word.TheVariants as word
 use Rattle.spqr_script.specs.declared.command.Command.{Command}
-use Rattle.spqr_script.specs.declared.command.Command.TheVariants.{Euler, Show, Faces, Gml}
+use Rattle.spqr_script.specs.declared.command.Command.TheVariants as command
+use Rattle.spqr_script.specs.declared.command.Command.TheVariants.{Euler, Show, Faces, Flip, Permute, Mirror, First, Next, Goto, ConvertRank, ConvertTo, Take, Undo, Redo, Gml, Count, Rank, Lock, Unlock}
 
 -- the number of a vertex, an edge, a block, a node or a key
 abbrev pub SpellsIndex : List ℕ → ℕ → Type 0
@@ -33,19 +34,68 @@ abbrev pub SpellsRotation : List (List ℕ) → List (ℕ × List ℕ) → Type 
 SpellsRotation tokens entries =
     ((tokens ≡ []) × (entries ≡ [])) ⊎ (AllZip SpellsEntry (slice_split is_semicolon tokens) entries × IsRising entries)
 
+-- a rank, and nothing else
+abbrev pub SpellsRank : List (List ℕ) → ℕ → Type 0
+SpellsRank [] r = ⊥
+SpellsRank (token ∷ []) r = SpellsNumber rank_limit token r
+SpellsRank (token ∷ other ∷ tokens) r = ⊥
+
+-- the number of a block, and behind it what is said of the other tokens
+abbrev pub SpellsBlockThen : ℕ → (List (List ℕ) → Type 0) → List (List ℕ) → Type 0
+SpellsBlockThen b Others [] = ⊥
+SpellsBlockThen b Others (token ∷ tokens) = SpellsIndex token b × Others tokens
+
+-- this word, and behind it what is said of the other tokens
+abbrev pub SpellsWordThen : List ℕ → (List (List ℕ) → Type 0) → List (List ℕ) → Type 0
+SpellsWordThen name Others [] = ⊥
+SpellsWordThen name Others (token ∷ tokens) = (token ≡ name) × Others tokens
+
 -- the word of a command
 abbrev pub word_of : Command → Word
 word_of (Euler entries) = word.Euler
 word_of (Show b) = word.Show
 word_of (Faces b) = word.Faces
+word_of (Flip b k) = word.Flip
+word_of (Permute b k keys) = word.Permute
+word_of (Mirror b) = word.Mirror
+word_of (First b) = word.First
+word_of (Next b) = word.Next
+word_of (command.List b n) = word.List
+word_of (Goto b r) = word.Goto
+word_of (ConvertRank b r) = word.Convert
+word_of (ConvertTo b entries) = word.Convert
+word_of (Take b entries) = word.Take
+word_of Undo = word.Undo
+word_of Redo = word.Redo
 word_of Gml = word.Gml
+word_of (Count b) = word.Count
+word_of (Rank b) = word.Rank
+word_of (Lock b k) = word.Lock
+word_of (Unlock b k) = word.Unlock
 
--- the arguments of a command: `euler ROT`, `show B`, `faces B`, and `gml` alone
+-- the arguments of a command, which are all tokens behind its word: none, a rotation, or the number of a block, and behind it a
+-- node, a node and one or more keys, how many members, a rank, `rank` and a rank, a rotation, or `to` and a rotation
 abbrev pub SpellsArguments : List (List ℕ) → Command → Type 0
 SpellsArguments tokens (Euler entries) = SpellsRotation tokens entries
 SpellsArguments tokens (Show b) = SpellsIndices tokens (b ∷ [])
 SpellsArguments tokens (Faces b) = SpellsIndices tokens (b ∷ [])
+SpellsArguments tokens (Flip b k) = SpellsIndices tokens (b ∷ k ∷ [])
+SpellsArguments tokens (Permute b k keys) = SpellsIndices tokens (b ∷ k ∷ keys) × (0 < length keys)
+SpellsArguments tokens (Mirror b) = SpellsIndices tokens (b ∷ [])
+SpellsArguments tokens (First b) = SpellsIndices tokens (b ∷ [])
+SpellsArguments tokens (Next b) = SpellsIndices tokens (b ∷ [])
+SpellsArguments tokens (command.List b n) = SpellsIndices tokens (b ∷ n ∷ []) × ((0 < n) × (n ≤ max_listed))
+SpellsArguments tokens (Goto b r) = SpellsBlockThen b (λ others. SpellsRank others r) tokens
+SpellsArguments tokens (ConvertRank b r) = SpellsBlockThen b (SpellsWordThen (codes "rank") (λ others. SpellsRank others r)) tokens
+SpellsArguments tokens (ConvertTo b entries) = SpellsBlockThen b (SpellsWordThen (codes "to") (λ others. SpellsRotation others entries)) tokens
+SpellsArguments tokens (Take b entries) = SpellsBlockThen b (λ others. SpellsRotation others entries) tokens
+SpellsArguments tokens Undo = tokens ≡ []
+SpellsArguments tokens Redo = tokens ≡ []
 SpellsArguments tokens Gml = tokens ≡ []
+SpellsArguments tokens (Count b) = SpellsIndices tokens (b ∷ [])
+SpellsArguments tokens (Rank b) = SpellsIndices tokens (b ∷ [])
+SpellsArguments tokens (Lock b k) = SpellsIndices tokens (b ∷ k ∷ [])
+SpellsArguments tokens (Unlock b k) = SpellsIndices tokens (b ∷ k ∷ [])
 
 -- the tokens of a line are a command: its word, and behind it its arguments
 abbrev pub SpellsCommand : List (List ℕ) → Command → Type 0

@@ -1,18 +1,36 @@
 -- The words that commands begin with: how each is spelled, the table of all, and which of them a name is.
 use Rattle.std.specs.Prelude.{ℕ, if◌then◌else◌, List, [], ◌∷◌, Option, Some, None, bytes_eq, codes}
 use Rattle.spqr_script.specs.declared.word.Word.{Word}
-use Rattle.spqr_script.specs.declared.word.Word.TheVariants.{Euler, Show, Faces, Gml}
+use Rattle.spqr_script.specs.declared.word.Word.TheVariants as word
+use Rattle.spqr_script.specs.declared.word.Word.TheVariants.{Euler, Show, Faces, Flip, Permute, Mirror, First, Next, Goto, Convert, Take, Undo, Redo, Gml, Count, Rank, Lock, Unlock}
 
 -- how a word is spelled
 abbrev pub spelling : Word → List ℕ
 spelling Euler = codes "euler"
 spelling Show = codes "show"
 spelling Faces = codes "faces"
+spelling Flip = codes "flip"
+spelling Permute = codes "permute"
+spelling Mirror = codes "mirror"
+spelling First = codes "first"
+spelling Next = codes "next"
+spelling word.List = codes "list"
+spelling Goto = codes "goto"
+spelling Convert = codes "convert"
+spelling Take = codes "take"
+spelling Undo = codes "undo"
+spelling Redo = codes "redo"
 spelling Gml = codes "gml"
+spelling Count = codes "count"
+spelling Rank = codes "rank"
+spelling Lock = codes "lock"
+spelling Unlock = codes "unlock"
 
 -- every word, in the order of the table
 abbrev pub all_words : List Word
-all_words = Euler ∷ Show ∷ Faces ∷ Gml ∷ []
+all_words =
+    Euler ∷ Show ∷ Faces ∷ Flip ∷ Permute ∷ Mirror ∷ First ∷ Next ∷ word.List ∷ Goto
+    ∷ Convert ∷ Take ∷ Undo ∷ Redo ∷ Gml ∷ Count ∷ Rank ∷ Lock ∷ Unlock ∷ []
 
 -- the first of some words that is spelled so
 unfoldable pub word_among : List Word → List ℕ → Option Word

@@ -2,9 +2,11 @@
 //
 // A script is lines of commands. Which commands bytes spell is the relation `Commands`, over whole lines: each line is cut
 // into tokens, and each line that is not passed over has the tokens of one command: its word, which is found in a table, and
-// its arguments. `read` gives the commands exactly where
-// there are some, and else the number of the first line that is none. Each text has one definition, its bytes, and one
-// function, which answers just these bytes or runs out of memory. Numbers are written in decimal by the crate `itoa`.
+// its arguments. `read` gives the commands exactly where there are some, and else the number of the first line that is none.
+// Each text has one definition, its bytes, and one function, which answers just these bytes or runs out of memory. A text on a
+// block takes the block as a part of the graph, with values in the part's own numbers, and prints the numbers of the graph;
+// what stands behind the bar of a rotation line is read back as its entries. Numbers are written in decimal by the crate
+// `itoa`.
 #![tactic(auto)]
 
 mod answers;
@@ -25,7 +27,7 @@ mod word;
 
 pub use answers::{
     count_line, end_line, error_line, euler_line, faces_lines, gml_lines, list_line, more_line,
-    ok_line, push_rotation_line, rank_line, rotation_line,
+    moves_lines, ok_line, push_rotation_line, rank_line, rotation_line,
 };
 pub use command::{Command, ScriptFault};
 pub use head::{

@@ -51,7 +51,9 @@ fn push_paths(
     paths: &[Numbers],
 ) -> Result<(), AllocError>
     requires { IsSubdivision part.now.graph kind branch.now paths.now }
-    ensures { OnOk result (out.new.items ≡ out.old.items ++ path_texts part.now branch.now (pattern_edges kind) paths.now) }
+    ensures { OnOk result
+        (out.new.items ≡ out.old.items
+        ++ path_texts part.now branch.now (pattern_edges kind) paths.now) }
 {
     for (k, pair) in kind.edges().iter().enumerate() {
         let path = paths[k].as_slice();
@@ -69,7 +71,9 @@ pub fn push_nonplanar_lines(
     s: &Subdivision,
 ) -> Result<(), AllocError>
     requires { IsSubdivision part.now.graph s.now.kind s.now.branch s.now.paths }
-    ensures { OnOk result (out.new.items ≡ out.old.items ++ nonplanar_text part.now b s.now.kind s.now.branch s.now.paths) }
+    ensures { OnOk result
+        (out.new.items ≡ out.old.items
+        ++ nonplanar_text part.now b s.now.kind s.now.branch s.now.paths) }
 {
     let branch = s.branch.as_slice();
     push_word(out, b"nonplanar ")?;
@@ -90,7 +94,8 @@ pub fn nonplanar_lines(
     s: &Subdivision,
 ) -> Result<Vec<u8>, AllocError>
     requires { IsSubdivision part.now.graph s.now.kind s.now.branch s.now.paths }
-    ensures { IfOk result (λ text. text.items ≡ nonplanar_text part.now b s.now.kind s.now.branch s.now.paths) }
+    ensures { IfOk result
+        (λ text. text.items ≡ nonplanar_text part.now b s.now.kind s.now.branch s.now.paths) }
 {
     let mut out = Vec::new(alloc);
     push_nonplanar_lines(&mut out, b, part, s)?;

@@ -1,7 +1,11 @@
 // Numbers as the script spells them.
-ghost use Rattle.std.specs.Prelude.{◌≡◌, ◌^◌};
+ghost use Rattle.std.specs.Prelude.{◌≡◌, ◌^◌, IfOk, if◌then◌else◌, Some, None};
 ghost use Rattle.spqr_script.specs.Number.{number_below};
-ghost use Rattle.spqr_script.specs.Reading.{with_digit, index_of};
+ghost use Rattle.spqr_script.specs.Line.{tokens_of};
+ghost use Rattle.spqr_script.specs.Reading.{with_digit, index_of, put_behind, indices_of};
+
+use crate::tokens::next_token;
+use std::alloc::AllocError;
 
 /// The number that a text spells: `Some` of it exactly where the text is one or more decimal digits, leading zeros
 /// allowed, and the number is below 2^128. Takes no memory.
@@ -40,4 +44,19 @@ pub(crate) fn index(token: &[u8]) -> Option<u32>
     } else {
         None
     }
+}
+
+// Puts the numbers of the line's tokens behind those given. False where a token is none.
+pub(crate) fn read_indices(line: &[u8], numbers: &mut Vec<u32>) -> Result<bool, AllocError>
+    ensures { IfOk result (λ all. put_behind numbers.old.items (indices_of (tokens_of line.now)) ≡ (if all then Some numbers.new.items else None)) }
+{
+    let mut rest = line;
+    while let Some((token, after)) = next_token(rest) {
+        match index(token) {
+            Some(n) => numbers.push(n)?,
+            None => return Ok(false),
+        }
+        rest = after;
+    }
+    Ok(true)
 }

@@ -14,7 +14,9 @@ pub(crate) fn push_vertices(
     vertices: &[u32],
 ) -> Result<(), AllocError>
     requires { All (λ v. v < part.now.graph.vertex_count) vertices.now }
-    ensures { OnOk result (out.new.items ≡ out.old.items ++ spaced_numbers (map (slice_index part.now.vertices) vertices.now)) }
+    ensures { OnOk result
+        (out.new.items ≡ out.old.items
+        ++ spaced_numbers (map (slice_index part.now.vertices) vertices.now)) }
 {
     for v in vertices {
         push_word(out, b" ")?;
@@ -26,7 +28,9 @@ pub(crate) fn push_vertices(
 // Puts the edges, each with a space before it, behind a text.
 pub(crate) fn push_edges(out: &mut Vec<u8>, part: &Part, edges: &[u32]) -> Result<(), AllocError>
     requires { All (λ e. e < edge_count part.now.graph) edges.now }
-    ensures { OnOk result (out.new.items ≡ out.old.items ++ spaced_numbers (map (slice_index part.now.edges) edges.now)) }
+    ensures { OnOk result
+        (out.new.items ≡ out.old.items
+        ++ spaced_numbers (map (slice_index part.now.edges) edges.now)) }
 {
     for e in edges {
         push_word(out, b" ")?;

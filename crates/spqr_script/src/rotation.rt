@@ -3,27 +3,12 @@ ghost use Rattle.std.specs.Prelude.{◌≡◌, ◌<◌, ◌∷◌, [], length, I
 ghost use Rattle.std.specs.List.{slice_split};
 ghost use Rattle.spqr_script.specs.Line.{tokens_of};
 ghost use Rattle.spqr_script.specs.Script.{is_semicolon};
-ghost use Rattle.spqr_script.specs.Reading.{put_behind, indices_of, pair_of, entry_of, entry_then, rotation_of};
+ghost use Rattle.spqr_script.specs.Reading.{pair_of, entry_of, entry_then, rotation_of};
 
-use crate::numbers::index;
+use crate::numbers::{index, read_indices};
 use crate::tokens::{cut, next_token};
 use rotations::Lists;
 use std::alloc::{AllocError, Global};
-
-// Puts the numbers of the line's tokens behind those given. False where a token is none.
-fn read_indices(line: &[u8], numbers: &mut Vec<u32>) -> Result<bool, AllocError>
-    ensures { IfOk result (λ all. put_behind numbers.old.items (indices_of (tokens_of line.now)) ≡ (if all then Some numbers.new.items else None)) }
-{
-    let mut rest = line;
-    while let Some((token, after)) = next_token(rest) {
-        match index(token) {
-            Some(n) => numbers.push(n)?,
-            None => return Ok(false),
-        }
-        rest = after;
-    }
-    Ok(true)
-}
 
 // The vertex of an entry; its edges are left in `edges`. None where the part is no entry.
 fn read_entry(part: &[u8], edges: &mut Vec<u32>) -> Result<Option<u32>, AllocError>

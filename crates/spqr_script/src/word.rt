@@ -11,12 +11,62 @@ pub enum Word {
     Show,
     /// `faces`.
     Faces,
+    /// `flip`.
+    Flip,
+    /// `permute`.
+    Permute,
+    /// `mirror`.
+    Mirror,
+    /// `first`.
+    First,
+    /// `next`.
+    Next,
+    /// `list`.
+    List,
+    /// `goto`.
+    Goto,
+    /// `convert`.
+    Convert,
+    /// `take`.
+    Take,
+    /// `undo`.
+    Undo,
+    /// `redo`.
+    Redo,
     /// `gml`.
     Gml,
+    /// `count`.
+    Count,
+    /// `rank`.
+    Rank,
+    /// `lock`.
+    Lock,
+    /// `unlock`.
+    Unlock,
 }
 
 // Every word, each once.
-static WORDS: [Word; 4] = [Word::Euler, Word::Show, Word::Faces, Word::Gml];
+static WORDS: [Word; 19] = [
+    Word::Euler,
+    Word::Show,
+    Word::Faces,
+    Word::Flip,
+    Word::Permute,
+    Word::Mirror,
+    Word::First,
+    Word::Next,
+    Word::List,
+    Word::Goto,
+    Word::Convert,
+    Word::Take,
+    Word::Undo,
+    Word::Redo,
+    Word::Gml,
+    Word::Count,
+    Word::Rank,
+    Word::Lock,
+    Word::Unlock,
+];
 
 // How a word is spelled.
 fn spelling(word: Word) -> &'static [u8]
@@ -26,7 +76,22 @@ fn spelling(word: Word) -> &'static [u8]
         Word::Euler => b"euler",
         Word::Show => b"show",
         Word::Faces => b"faces",
+        Word::Flip => b"flip",
+        Word::Permute => b"permute",
+        Word::Mirror => b"mirror",
+        Word::First => b"first",
+        Word::Next => b"next",
+        Word::List => b"list",
+        Word::Goto => b"goto",
+        Word::Convert => b"convert",
+        Word::Take => b"take",
+        Word::Undo => b"undo",
+        Word::Redo => b"redo",
         Word::Gml => b"gml",
+        Word::Count => b"count",
+        Word::Rank => b"rank",
+        Word::Lock => b"lock",
+        Word::Unlock => b"unlock",
     }
 }
 

@@ -1,8 +1,13 @@
 -- The answer of `show`, which is also that of `list` for each member.
-use Rattle.std.specs.Prelude.{ℕ, List, [], ◌∷◌, ◌++◌, map, slice_index, codes, decimal}
+use Rattle.std.specs.Prelude.{ℕ, List, [], ◌∷◌, ◌++◌, map, slice_index, codes, decimal, ◌<◌, All}
 use Rattle.std.specs.List.{zip}
 use Rattle.multigraph.specs.Part.{GraphPart}
+use Rattle.spqr_script.specs.Number.{index_limit}
 use Rattle.spqr_script.specs.Text.{spaced_numbers, line_end}
+
+-- the vertex and the edges of an entry are numbers that the script can name
+abbrev pub IsIndexEntry : ℕ × List ℕ → Type 0
+IsIndexEntry entry = (entry.0 < index_limit) × All (λ e. e < index_limit) entry.1
 
 -- `V: E ..`: a vertex and the edges round it
 abbrev pub entry_text : ℕ × List ℕ → List ℕ

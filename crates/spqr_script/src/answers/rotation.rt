@@ -13,7 +13,9 @@ use std::alloc::{AllocError, Global};
 // Puts the edges of a walk round a vertex, each with a space before it, behind a text.
 fn push_round(out: &mut Vec<u8>, part: &Part, mut round: RotIter<'_>) -> Result<(), AllocError>
     requires { All (λ e. e < edge_count part.now.graph) round }
-    ensures { OnOk result (out.new.items ≡ out.old.items ++ spaced_numbers (map (slice_index part.now.edges) round.entry)) }
+    ensures { OnOk result
+        (out.new.items ≡ out.old.items
+        ++ spaced_numbers (map (slice_index part.now.edges) round.entry)) }
 {
     while let Some(e) = round.next() {
         push_word(out, b" ")?;
@@ -26,7 +28,9 @@ fn push_round(out: &mut Vec<u8>, part: &Part, mut round: RotIter<'_>) -> Result<
 fn push_entry(out: &mut Vec<u8>, part: &Part, r: &Rotation, v: u32) -> Result<(), AllocError>
     requires system { IsRotationSystem part.now.graph r.now }
     requires vertex { v < part.now.graph.vertex_count }
-    ensures { OnOk result (out.new.items ≡ out.old.items ++ entry_text (slice_index part.now.vertices v, map (slice_index part.now.edges) (order_at r.now v))) }
+    ensures { OnOk result
+        (out.new.items ≡ out.old.items
+        ++ entry_text (slice_index part.now.vertices v, map (slice_index part.now.edges) (order_at r.now v))) }
 {
     push_number(out, u128::from(part.vertex(v)))?;
     push_word(out, b":")?;
@@ -36,7 +40,8 @@ fn push_entry(out: &mut Vec<u8>, part: &Part, r: &Rotation, v: u32) -> Result<()
 // Puts the entries of all vertices behind a text, a space before the first and `; ` before each other.
 fn push_entries(out: &mut Vec<u8>, part: &Part, r: &Rotation) -> Result<(), AllocError>
     requires { IsRotationSystem part.now.graph r.now }
-    ensures { OnOk result (out.new.items ≡ out.old.items ++ entries_text (codes " ") (outer_entries part.now r.now)) }
+    ensures { OnOk result
+        (out.new.items ≡ out.old.items ++ entries_text (codes " ") (outer_entries part.now r.now)) }
 {
     // The part has its vertices.
     let _ = part.graph();

@@ -1,5 +1,6 @@
 use Rattle.spqr_script.proofs.Entries.{number_spelled, number_read}
 use Rattle.spqr_script.proofs.Scripts.{decided, apart, one_reading, one_bad_line}
+use Rattle.spqr_script.proofs.Printed.{printed_entries}
 use Rattle.spqr_script.proofs.laws.script_laws.Goals as goal
 
 pub returns : goal.returns
@@ -9,4 +10,5 @@ returns c = record {
   one_reading = one_reading;
   one_bad_line = one_bad_line;
   numbers = λ limit text n. (number_spelled limit text n, number_read limit text n);
+  printed = printed_entries;
 }

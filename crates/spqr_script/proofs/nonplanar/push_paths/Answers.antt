@@ -1,4 +1,4 @@
-use Rattle.std.proofs.Common.{All, ◌≡◌, ◌<◌, ◌∙◌, ap, sym, subst, ℕ, List, [], length}
+use Rattle.std.proofs.Common.{All, ◌≡◌, ◌<◌, ◌∙◌, sym, subst, ℕ, List, [], length}
 use Rattle.std.proofs.lemmas.List.{get_or_read}
 use Rattle.multigraph.specs.Graph.{edge_count}
 use Rattle.kuratowski.specs.Subdivision.{path_at, pattern_edges}

@@ -1,4 +1,4 @@
-use Rattle.std.proofs.Common.{◌<◌, ◌≤◌, sym, subst, ℕ, length, ◌∙◌}
+use Rattle.std.proofs.Common.{◌<◌, ◌≤◌, sym, subst, ℕ, length}
 use Rattle.spqr_script.proofs.RotationText.{entries-more, entries-end}
 use Rattle.spqr_script.proofs.answers.rotation.push_entries.Goals as goal
 

@@ -1,4 +1,4 @@
-use Rattle.std.proofs.Common.{All, ◌<◌, sym, subst, ℕ, List}
+use Rattle.std.proofs.Common.{All, ◌<◌, sym, subst}
 use Rattle.multigraph.specs.Graph.{edge_count}
 use Rattle.spqr_script.proofs.Within.{round-within}
 use Rattle.spqr_script.proofs.answers.rotation.push_entry.Goals as goal

@@ -1,4 +1,4 @@
-use Rattle.std.proofs.Common.{◌≡◌, ◌<◌, ◌∷◌, All, ap, sym, ◌∙◌, subst, ℕ, List, slice_index, ◌++◌, decimal}
+use Rattle.std.proofs.Common.{◌≡◌, ◌<◌, ◌∷◌, All, ap, ◌∙◌, subst, ℕ, List, slice_index, ◌++◌, decimal}
 use Rattle.std.proofs.lemmas.List.Elements.{All-tail}
 use Rattle.multigraph.specs.Graph.{edge_count}
 use Rattle.spqr_script.proofs.RotationText.{round-more}

@@ -1,0 +1,53 @@
+// The cuts of the stack that the search keeps.
+
+use crate::items::Triple;
+use palm_tree::Steps;
+use std::alloc::AllocError;
+use std::sync::ledger::Ledger;
+
+// Takes off the cuts from place `base` on whose upper end is below `up`, from the last one on, and answers the cut that takes
+// their place: that of the last one taken off, or the new one.
+fn take_lower<L: Ledger>(
+    cuts: &mut Vec<Triple>,
+    base: usize,
+    new: Triple,
+    steps: &mut Steps<L>,
+) -> Triple {
+    let mut kept = new;
+    while cuts.len() > base && cuts[cuts.len() - 1].up > new.up {
+        steps.tick();
+        let taken = cuts[cuts.len() - 1];
+        cuts.truncate(cuts.len() - 1);
+        kept = Triple {
+            start: taken.start,
+            up: new.up,
+            low: taken.low,
+        };
+    }
+    kept
+}
+
+/// Notes a new cut behind those from place `base` on.
+pub(crate) fn note<L: Ledger>(
+    cuts: &mut Vec<Triple>,
+    base: usize,
+    new: Triple,
+    steps: &mut Steps<L>,
+) -> Result<(), AllocError> {
+    let kept = take_lower(cuts, base, new, steps);
+    cuts.push(kept)?;
+    Ok(())
+}
+
+/// Drops the last cuts, from place `base` on, that start behind place `first`.
+pub(crate) fn drop_behind<L: Ledger>(
+    cuts: &mut Vec<Triple>,
+    base: usize,
+    first: u32,
+    steps: &mut Steps<L>,
+) {
+    while cuts.len() > base && cuts[cuts.len() - 1].start > first {
+        steps.tick();
+        cuts.truncate(cuts.len() - 1);
+    }
+}

@@ -1,0 +1,343 @@
+-- The state of the pass along a palm tree, and what holds of it.
+use Rattle.std.specs.Prelude.{◌≡◌, ◌≢◌, ℕ, ◌+◌, ◌*◌, ◌-◌, ◌<◌, ◌≤◌, ◌⊎◌, Bool, true, false, if◌then◌else◌, nat_lt, List, [], ◌∷◌, ◌++◌, length, map, filter, take, drop, slice_index, slice_set, Contains, Option, None, Some, not, ◌&&◌}
+use Rattle.multigraph.specs.Graph.{Multigraph, edge_count, IsGraph}
+use Rattle.graph_theory.specs.Block.{IsOneBlock}
+use Rattle.palm_tree.specs.PalmTree.{PalmTreeLists, IsPalmTree}
+use Rattle.pair_split.specs.Family.{Entry, IsFamily, IsPrime}
+use Rattle.pair_split.specs.Edges.{graph_entry, entry_ends, family_skeleton}
+use Rattle.pair_split.specs.Skeleton.{SameEnds, IsSkeleton}
+use Rattle.pair_split.specs.State.{IsSplitState}
+use Rattle.pair_split.specs.Cuts.{part_of}
+use Rattle.pair_split.specs.Lumps.{family_of}
+use Rattle.pair_split.specs.declared.cuts.Cut.{Cut}
+use Rattle.pair_split.specs.declared.family.NamedEdge.{NamedEdge}
+use Rattle.pair_split.specs.declared.components.Kind.{Kind}
+use Rattle.pair_split.specs.declared.components.Kind.TheVariants.{B}
+use Rattle.split_comp.specs.declared.items.Item.{Item}
+use Rattle.split_comp.specs.declared.items.Triple.{Triple}
+use Rattle.split_comp.specs.Stack.{item, entry, owner, family, IsStack, IsSorted, IsTopped, IsClean, IsAtop, AreFirst}
+use Rattle.split_comp.specs.Palm.{AreVertices, tree_dart, tree_degree, tree_parent, IsFrondTo, IsPalm}
+use Rattle.split_comp.specs.Walk.{IsWalk, AreLeft}
+use Rattle.split_comp.specs.Cuts.{cut, AreSound, AreComplete, AreSoundAt, AreCompleteAt}
+use Rattle.split_comp.specs.Frames.{AreFrames, AreReached, AreAhead, AreCutsBelow, AreCuts}
+use Rattle.split_comp.specs.Sides.{is_frond_to}
+use Rattle.split_comp.specs.Noting.{IsNoted}
+
+-- a palm tree, and the vertex with each number
+pub record NumberedTree : Type 0 where
+  pub palm : PalmTreeLists
+  pub vertex : List ℕ
+
+-- it is one of a block of three edges or more
+pub record IsNumbered (g : Multigraph) (t : NumberedTree) : Type 0 where
+  pub graph : IsGraph g
+  pub block : IsOneBlock g
+  pub large : 3 ≤ edge_count g
+  pub palm : IsPalmTree g t.palm
+  pub vertices : AreVertices g.vertex_count t.palm t.vertex
+
+-- where the pass stands
+pub record PassState : Type 0 where
+  pub at : ℕ
+  pub done : ℕ
+  pub items : List Item
+  pub cuts : List Triple
+  pub first : List ℕ
+  pub start : List ℕ
+  pub base : List ℕ
+  pub gone : List ℕ
+  pub total : ℕ
+  pub turns : ℕ
+  pub parts : List Cut
+
+-- the place is one that touches vertex x
+abbrev pub lowered : List ℕ → ℕ → ℕ → List ℕ
+lowered first x place = (if nat_lt place (slice_index first x) then slice_set first x place else first)
+
+-- an entry is pushed
+abbrev pub pushed : PassState → Item → PassState
+pushed s x = record s { items = s.items ++ x ∷ []; first = lowered (lowered s.first x.up (length s.items)) x.low (length s.items) }
+
+-- one more dart of vertex v has been gone along and back
+abbrev pub gone_along : PassState → ℕ → PassState
+gone_along s v = record s { gone = slice_set s.gone v (slice_index s.gone v + 1) }
+
+-- what the steps of the pass are paid by: entries and cuts
+abbrev pub weight : PassState → ℕ
+weight s = 8 * length s.items + 2 * length s.cuts
+
+-- one turn less is left
+abbrev pub turned : PassState → PassState
+turned s = record s { turns = s.turns - 1 }
+
+-- the search goes down to vertex w
+abbrev pub gone_down : PassState → ℕ → PassState
+gone_down s w = record s { start = slice_set s.start w (length s.items); base = slice_set s.base w (length s.cuts); at = w }
+
+-- the search goes back to vertex v, and vertex w is finished
+abbrev pub gone_back : PassState → ℕ → ℕ → PassState
+gone_back s v w = record s { at = v; done = w }
+
+-- the cuts from place k on are dropped
+abbrev pub cuts_dropped : PassState → ℕ → PassState
+cuts_dropped s k = record s { cuts = take k s.cuts }
+
+-- an entry of a family with numbers for vertices, as one of the graph
+abbrev pub drawn : Multigraph → List ℕ → Entry → Entry
+drawn g vertex x = (if nat_lt x.name (edge_count g) then graph_entry g x.name else record { name = x.name; first = slice_index vertex x.first; second = slice_index vertex x.second })
+
+-- entries, as entries of a family of the graph
+abbrev pub drawn_items : Multigraph → List ℕ → List Item → List Entry
+drawn_items g vertex items = map (λ x. drawn g vertex (entry x)) items
+
+-- the name of the next virtual edge
+abbrev pub next_name : Multigraph → PassState → ℕ
+next_name g s = edge_count g + length s.parts
+
+-- entries from place k on that pass the test were made a component of some kind, with a virtual edge between two vertices
+pub record IsEjected (g : Multigraph) (vertex : List ℕ) (keeps : Item → Bool) (k up low : ℕ) (old new : PassState) : Type 0 where
+  pub kind : Kind
+  pub edges : List NamedEdge
+  pub are_edges : family_of edges ≡ drawn_items g vertex (filter keeps (drop k old.items))
+  pub skeleton : IsSkeleton kind (family_skeleton (record { name = next_name g old; first = slice_index vertex up; second = slice_index vertex low } ∷ family_of edges))
+  pub large : kind ≢ B
+  pub now : new ≡ record old {
+    items = take k old.items;
+    total = old.total + 1 - length edges;
+    parts = old.parts ++ record { kind = kind; own = record { name = next_name g old; first = slice_index vertex up; second = slice_index vertex low }; edges = edges } ∷ [];
+  }
+
+-- whether an entry goes with the others, where a frond may stay apart
+abbrev pub goes : Bool → ℕ → ℕ → Item → Bool
+goes apart up low x = not (apart && is_frond_to up low x)
+
+-- the edge of a component in place of which it stands: the virtual edge between two vertices
+abbrev pub own_entry : Multigraph → List ℕ → ℕ → ℕ → PassState → Entry
+own_entry g vertex up low s = record { name = next_name g s; first = slice_index vertex up; second = slice_index vertex low }
+
+-- what has to hold where entries are made a component
+pub record CanEject (g : Multigraph) (vertex : List ℕ) (keeps : Item → Bool) (k up low : ℕ) (s : PassState) : Type 0 where
+  pub within : k ≤ length s.items
+  pub ends : (i : ℕ) → i < length s.items → ((item s.items i).up < length vertex) × ((item s.items i).low < length vertex)
+  pub up_in : up < length vertex
+  pub low_in : low < length vertex
+  pub is_family : IsFamily (own_entry g vertex up low s ∷ drawn_items g vertex (filter keeps (drop k s.items)))
+  pub is_prime : IsPrime (own_entry g vertex up low s ∷ drawn_items g vertex (filter keeps (drop k s.items)))
+  pub two : 2 ≤ length (filter keeps (drop k s.items))
+  pub few : next_name g s < 4294967296
+  pub total : length (filter keeps (drop k s.items)) ≤ s.total
+  pub fits : s.total < 4294967296
+
+-- how many entries the components have
+abbrev pub entry_total : List Cut → ℕ
+entry_total [] = 0
+entry_total (cut ∷ cuts) = length cut.edges + entry_total cuts
+
+-- the current family of the graph
+abbrev pub drawn_family : Multigraph → List ℕ → List Item → List Entry → List Entry
+drawn_family g vertex items rest = map (drawn g vertex) (family items rest)
+
+-- what holds of the components, the stack and the rest all the time
+pub record IsHeld (g : Multigraph) (vertex : List ℕ) (s : PassState) (rest : List Entry) : Type 0 where
+  pub total : s.total ≡ length (family s.items rest)
+  pub state : IsSplitState g (record { parts = map part_of s.parts; current = drawn_family g vertex s.items rest })
+  pub few : length s.parts + s.total ≤ edge_count g
+  pub entries : entry_total s.parts + s.total ≡ edge_count g + length s.parts
+  pub three : 3 ≤ s.total
+  pub ends : (x : Entry) → Contains (family s.items rest) x → (x.first < g.vertex_count) × (x.second < g.vertex_count) × SameEnds (slice_index vertex x.first, slice_index vertex x.second) (entry_ends (drawn g vertex x))
+
+-- the tables have a place for each vertex
+pub record HavePlaces (n : ℕ) (s : PassState) : Type 0 where
+  pub start : length s.start ≡ n
+  pub base : length s.base ≡ n
+  pub gone : length s.gone ≡ n
+
+-- a list as a function
+abbrev pub at_place : List ℕ → ℕ → ℕ
+at_place l x = slice_index l x
+
+-- the pass stands at a vertex between two of its darts
+pub record IsPass (g : Multigraph) (t : NumberedTree) (s : PassState) : Type 0 where
+  pub palm : IsPalm g.vertex_count (edge_count g) (tree_parent t.palm t.vertex) (tree_degree t.palm t.vertex) (tree_dart g t.palm t.vertex)
+  pub rest : List Entry
+  pub places : HavePlaces g.vertex_count s
+  pub walk : IsWalk g.vertex_count palm.last (tree_parent t.palm t.vertex) (tree_degree t.palm t.vertex) (tree_dart g t.palm t.vertex) s.at s.done (at_place s.gone)
+  pub going : s.at ≡ 0 → at_place s.gone 0 < tree_degree t.palm t.vertex 0
+  pub left : AreLeft g.vertex_count (tree_degree t.palm t.vertex) (tree_dart g t.palm t.vertex) (at_place s.gone) rest
+  pub held : IsHeld g t.vertex s rest
+  pub stands : IsStack palm.last s.done s.at s.items rest
+  pub frames : AreFrames palm.last s.at (at_place s.start) s.items
+  pub reached : AreReached palm.last (tree_dart g t.palm t.vertex) (at_place s.gone) s.at (at_place s.start) s.items
+  pub first : AreFirst g.vertex_count s.done s.first s.items
+  pub sorted : IsSorted s.at (length s.items) s.items rest
+  pub ahead : AreAhead palm.last (tree_degree t.palm t.vertex) (tree_dart g t.palm t.vertex) (at_place s.gone) s.at (length s.items) s.items rest
+  pub clean : IsClean s.items rest
+  pub cuts : AreCuts palm.last (tree_parent t.palm t.vertex) s.at (at_place s.start) (at_place s.base) s.items s.cuts
+
+-- the pass has returned from the vertex w, and may split off components: but for a frond parallel to the last entry
+pub record IsRaised (g : Multigraph) (t : NumberedTree) (w : ℕ) (s : PassState) : Type 0 where
+  pub palm : IsPalm g.vertex_count (edge_count g) (tree_parent t.palm t.vertex) (tree_degree t.palm t.vertex) (tree_dart g t.palm t.vertex)
+  pub rest : List Entry
+  pub places : HavePlaces g.vertex_count s
+  pub walk : IsWalk g.vertex_count palm.last (tree_parent t.palm t.vertex) (tree_degree t.palm t.vertex) (tree_dart g t.palm t.vertex) s.at s.done (at_place s.gone)
+  pub from : s.done ≡ w
+  pub parent : tree_parent t.palm t.vertex w ≡ s.at
+  pub inside : w < g.vertex_count
+  pub not_root : s.at ≢ 0
+  pub left : AreLeft g.vertex_count (tree_degree t.palm t.vertex) (tree_dart g t.palm t.vertex) (at_place s.gone) rest
+  pub held : IsHeld g t.vertex s rest
+  pub height : ℕ
+  pub atop : IsAtop palm.last s.done s.at (at_place s.start w) height s.items rest
+  pub fronds : (i : ℕ) → 4 ≤ s.total → i < height → is_frond_to s.at (item s.items height).low (item s.items i) ≡ true → i + 1 ≡ height
+  pub frames : AreFrames palm.last s.at (at_place s.start) s.items
+  pub child_start : at_place s.start s.at ≤ at_place s.start w
+  pub place : ℕ
+  pub last_gone : at_place s.gone s.at ≡ place + 1
+  pub place_in : place < tree_degree t.palm t.vertex s.at
+  pub last_tree : (tree_dart g t.palm t.vertex s.at place).tree ≡ true
+  pub last_far : (tree_dart g t.palm t.vertex s.at place).far ≡ w
+  pub child_within : (i : ℕ) → at_place s.start w ≤ i → i < length s.items → (w ≤ (item s.items i).low) × ((item s.items i).low < palm.last w)
+  pub child_to : (i : ℕ) → at_place s.start w ≤ i → i < length s.items → (item s.items i).up < s.at → IsFrondTo (tree_degree t.palm t.vertex) (tree_dart g t.palm t.vertex) palm.last w (item s.items i).up
+  pub child_met : (y : ℕ) → IsFrondTo (tree_degree t.palm t.vertex) (tree_dart g t.palm t.vertex) palm.last w y → y < s.at → (i : ℕ) × (at_place s.start w ≤ i) × (i < length s.items) × ((item s.items i).up ≡ y)
+  pub reached : AreReached palm.last (tree_dart g t.palm t.vertex) (at_place s.gone) s.at (at_place s.start) s.items
+  pub first : AreFirst g.vertex_count s.done s.first s.items
+  pub ahead : AreAhead palm.last (tree_degree t.palm t.vertex) (tree_dart g t.palm t.vertex) (at_place s.gone) s.at height s.items rest
+  pub ahead_last : (r : ℕ) → r < height → owner (item s.items r) ≡ s.at → (i : ℕ) × ((item s.items r).start ≤ i) × (i ≤ r) × ((item s.items i).up ≤ (tree_dart g t.palm t.vertex s.at place).reach)
+  pub frond_last : (r : ℕ) → 4 ≤ length (family s.items rest) → r < height → owner (item s.items r) ≡ s.at → (item s.items r).tree ≡ false
+      → ((item s.items r).up < (tree_dart g t.palm t.vertex s.at place).reach) ⊎ (((item s.items r).up ≡ (tree_dart g t.palm t.vertex s.at place).reach) × (1 ≤ (tree_dart g t.palm t.vertex s.at place).class))
+  pub below : AreCutsBelow palm.last (tree_parent t.palm t.vertex) w (at_place s.start) (at_place s.base) s.items s.cuts
+  pub sound : AreSoundAt (at_place s.start w) s.at (item s.items height).low s.items (drop (at_place s.base w) s.cuts)
+  pub complete : AreCompleteAt (at_place s.start w) s.at (item s.items height).low s.items (drop (at_place s.base w) s.cuts)
+  pub cut_lows : (c : ℕ) → c < length (drop (at_place s.base w) s.cuts) → s.at < (cut (drop (at_place s.base w) s.cuts) c).low
+
+-- and there is none
+pub record IsBack (g : Multigraph) (t : NumberedTree) (w : ℕ) (s : PassState) : Type 0 where
+  pub raised : IsRaised g t w s
+  pub no_frond : (i : ℕ) → i < raised.height → (item s.items i).tree ≡ false → (item s.items i).low ≡ (item s.items raised.height).low → (item s.items i).up ≡ s.at → ⊥
+
+-- a frond of the vertex where the pass stands was pushed
+pub record IsFronted (g : Multigraph) (t : NumberedTree) (s : PassState) : Type 0 where
+  pub palm : IsPalm g.vertex_count (edge_count g) (tree_parent t.palm t.vertex) (tree_degree t.palm t.vertex) (tree_dart g t.palm t.vertex)
+  pub rest : List Entry
+  pub places : HavePlaces g.vertex_count s
+  pub walk : IsWalk g.vertex_count palm.last (tree_parent t.palm t.vertex) (tree_degree t.palm t.vertex) (tree_dart g t.palm t.vertex) s.at s.done (at_place s.gone)
+  pub not_root : s.at ≢ 0
+  pub left : AreLeft g.vertex_count (tree_degree t.palm t.vertex) (tree_dart g t.palm t.vertex) (at_place s.gone) rest
+  pub held : IsHeld g t.vertex s rest
+  pub height : ℕ
+  pub size : length s.items ≡ height + 1
+  pub frond : (item s.items height).tree ≡ false
+  pub low : (item s.items height).low ≡ s.at
+  pub stands : IsStack palm.last s.done s.at s.items rest
+  pub topped : IsTopped s.items rest height
+  pub frames : AreFrames palm.last s.at (at_place s.start) s.items
+  pub reached : AreReached palm.last (tree_dart g t.palm t.vertex) (at_place s.gone) s.at (at_place s.start) s.items
+  pub first : AreFirst g.vertex_count s.done s.first s.items
+  pub sorted : IsSorted s.at height s.items rest
+  pub ahead : AreAhead palm.last (tree_degree t.palm t.vertex) (tree_dart g t.palm t.vertex) (at_place s.gone) s.at height s.items rest
+  pub reach_last : (r : ℕ) → r < height → owner (item s.items r) ≡ s.at → (i : ℕ) × ((item s.items r).start ≤ i) × (i ≤ r) × ((item s.items i).up ≤ (item s.items height).up)
+  pub frond_last : (r : ℕ) → 4 ≤ length (family s.items rest) → r < height → owner (item s.items r) ≡ s.at → (item s.items r).tree ≡ false → (item s.items r).up ≤ (item s.items height).up
+  pub next : (k : ℕ) → at_place s.gone s.at ≤ k → k < tree_degree t.palm t.vertex s.at → ((item s.items height).up < (tree_dart g t.palm t.vertex s.at k).reach) ⊎ (((item s.items height).up ≡ (tree_dart g t.palm t.vertex s.at k).reach) × (1 ≤ (tree_dart g t.palm t.vertex s.at k).class))
+  pub starts : at_place s.start s.at ≤ height
+  pub below : AreCutsBelow palm.last (tree_parent t.palm t.vertex) s.at (at_place s.start) (at_place s.base) s.items s.cuts
+  pub sound : AreSound (at_place s.start s.at) s.at (take height s.items) (drop (at_place s.base s.at) s.cuts)
+  pub complete : AreComplete (at_place s.start s.at) s.at (take height s.items) (drop (at_place s.base s.at) s.cuts)
+
+-- the pass is over
+pub record IsPassed (g : Multigraph) (t : NumberedTree) (s : PassState) : Type 0 where
+  pub at_root : s.at ≡ 0
+  pub all_gone : tree_degree t.palm t.vertex 0 ≤ at_place s.gone 0
+  pub places : HavePlaces g.vertex_count s
+  pub held : IsHeld g t.vertex s []
+  pub prime : IsPrime (drawn_items g t.vertex s.items)
+  pub three : 3 ≤ length s.items
+
+-- the pass goes on, or is over
+abbrev pub IsGoing : Multigraph → NumberedTree → PassState → Type 0
+IsGoing g t s = IsPass g t s ⊎ IsPassed g t s
+
+-- the last entry
+abbrev pub top_item : PassState → Item
+top_item s = item s.items (length s.items - 1)
+
+-- the last entry but one
+abbrev pub below_item : PassState → Item
+below_item s = item s.items (length s.items - 2)
+
+-- the last two entries are parallel, the lower one is a frond, and four entries are left
+pub record IsParallel (s : PassState) : Type 0 where
+  pub two : 2 ≤ length s.items
+  pub four : 4 ≤ s.total
+  pub frond : (below_item s).tree ≡ false
+  pub up : (below_item s).up ≡ (top_item s).up
+  pub low : (below_item s).low ≡ (top_item s).low
+
+-- the entry that stands for the two
+abbrev pub joined_item : Multigraph → PassState → Item
+joined_item g s = record { name = next_name g s; up = (top_item s).up; low = (top_item s).low; tree = (top_item s).tree; start = (if (top_item s).tree then (top_item s).start else length s.items - 2) }
+
+-- the answer tells whether they are
+abbrev pub IsParallelTest : PassState → Bool → Type 0
+IsParallelTest s true = IsParallel s
+IsParallelTest s false = IsParallel s → ⊥
+
+-- a name was found just where there is a frond from low to up among the entries
+abbrev pub IsFrondFound : ℕ → ℕ → List Item → Option ℕ → Type 0
+IsFrondFound up low items None = (i : ℕ) → i < length items → is_frond_to up low (item items i) ≡ false
+IsFrondFound up low items (Some name) = (i : ℕ) × (i < length items) × (is_frond_to up low (item items i) ≡ true) × (name ≡ (item items i).name)
+
+-- the last two entries were joined, or could not be
+abbrev pub IsJoined : Multigraph → List ℕ → PassState → PassState → Bool → Type 0
+IsJoined g vertex old new true = IsParallel old × ((mid : PassState) × IsEjected g vertex (λ x. true) (length old.items - 2) (top_item old).up (top_item old).low old mid × (new ≡ pushed mid (joined_item g old)))
+IsJoined g vertex old new false = (new ≡ old) × (IsParallel old → ⊥)
+
+-- what has to hold where they may be joined
+abbrev pub CanJoin : Multigraph → List ℕ → PassState → Type 0
+CanJoin g vertex s = IsParallel s → CanEject g vertex (λ x. true) (length s.items - 2) (top_item s).up (top_item s).low s
+
+-- a dart of v was noted, which starts at s and has the least upper end up, unless it is the first one
+pub record IsDartNoted (v s up : ℕ) (old new : PassState) : Type 0 where
+  pub first : s ≤ slice_index old.start v → new ≡ old
+  pub later : slice_index old.start v < s → (cuts : List Triple) × IsNoted (slice_index old.base v) (record { start = s; up = up; low = v }) old.cuts cuts × (new ≡ record old { cuts = cuts })
+
+-- the frond that is pushed
+abbrev pub new_frond : ℕ → ℕ → ℕ → PassState → Item
+new_frond name v up s = record { name = name; up = up; low = v; tree = false; start = length s.items }
+
+-- the tree edge that is pushed
+abbrev pub new_tree : ℕ → ℕ → ℕ → ℕ → Item
+new_tree name v low start = record { name = name; up = v; low = low; tree = true; start = start }
+
+-- a frond from v to up was pushed: joined with a frond parallel to it, or noted
+pub record IsFrondAdded (g : Multigraph) (vertex : List ℕ) (name v up : ℕ) (old new : PassState) : Type 0 where
+  pub joined : Bool
+  pub mid : PassState
+  pub join : IsJoined g vertex (pushed old (new_frond name v up old)) mid joined
+  pub whole : joined ≡ true → new ≡ mid
+  pub noted : joined ≡ false → IsDartNoted v (length old.items) up mid new
+
+-- a tree edge was pushed, and joined with a frond parallel to it
+pub record IsTreeAdded (g : Multigraph) (vertex : List ℕ) (name v low start : ℕ) (old new : PassState) : Type 0 where
+  pub joined : Bool
+  pub join : IsJoined g vertex (pushed old (new_tree name v low start)) new joined
+
+-- the last entry but one is a tree edge, and the first one that meets the lower end of the last entry
+pub record IsTriangle (s : PassState) : Type 0 where
+  pub tree : (below_item s).tree ≡ true
+  pub first : slice_index s.first (top_item s).low ≡ length s.items - 2
+
+-- the answer tells whether it is so
+abbrev pub IsTriangleTest : PassState → Bool → Type 0
+IsTriangleTest s true = IsTriangle s
+IsTriangleTest s false = IsTriangle s → ⊥
+
+-- the last cut from place base on is one of v and the lower end of the last entry
+pub record IsStale (v base : ℕ) (s : PassState) : Type 0 where
+  pub some : base < length s.cuts
+  pub up : (cut s.cuts (length s.cuts - 1)).up ≡ v
+  pub low : (cut s.cuts (length s.cuts - 1)).low ≡ (top_item s).low
+
+-- the last cut was dropped, where it was so
+abbrev pub IsStaleDropped : ℕ → ℕ → PassState → PassState → Bool → Type 0
+IsStaleDropped v base old new true = IsStale v base old × (new ≡ cuts_dropped old (length old.cuts - 1))
+IsStaleDropped v base old new false = (new ≡ old) × (IsStale v base old → ⊥)

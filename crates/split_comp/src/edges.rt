@@ -1,0 +1,89 @@
+// Entries of the stack as edges of the graph, or virtual edges.
+
+ghost use Rattle.std.specs.Prelude.{◌≡◌, ◌+◌, ◌<◌, ◌≤◌, ◌&&◌, not, ℕ, filter, length, IfOk};
+ghost use Rattle.pair_split.specs.Lumps.{entry_of, family_of};
+ghost use Rattle.split_comp.specs.Stack.{item, entry};
+ghost use Rattle.split_comp.specs.Sides.{is_frond_to};
+ghost use Rattle.split_comp.specs.Pass.{drawn, drawn_items, goes, IsFrondFound};
+
+use crate::items::Item;
+use crate::tree::Tree;
+use multigraph::Graph;
+use pair_split::NamedEdge;
+use palm_tree::Steps;
+use std::alloc::{AllocError, Global};
+use std::sync::ledger::Ledger;
+
+// The edge of an entry, with the ends that it has in the graph.
+fn edge_of(g: &Graph, tree: &Tree, x: Item) -> NamedEdge
+    requires up { x.up < length tree.now.vertex }
+    requires low { x.low < length tree.now.vertex }
+    ensures { entry_of result ≡ drawn g.now tree.now.vertex (entry x) }
+{
+    if x.name < g.edge_count() {
+        let (first, second) = g.ends(x.name);
+        return NamedEdge {
+            name: x.name,
+            first,
+            second,
+        };
+    }
+    NamedEdge {
+        name: x.name,
+        first: tree.vertex_at(x.up),
+        second: tree.vertex_at(x.low),
+    }
+}
+
+/// Whether the entry is a frond from `low` to `up`.
+pub(crate) fn is_frond_to(up: u32, low: u32, x: Item) -> bool
+    ensures { result ≡ is_frond_to up low x }
+{
+    !x.tree && x.up == up && x.low == low
+}
+
+/// The edges of the entries, without fronds from `low` to `up` where these stay apart.
+pub(crate) fn edges_of<L: Ledger>(
+    alloc: Global,
+    g: &Graph,
+    tree: &Tree,
+    items: &[Item],
+    apart: bool,
+    up: u32,
+    low: u32,
+    steps: &mut Steps<L>,
+) -> Result<Vec<NamedEdge>, AllocError>
+    requires ends { (i : ℕ) → i < length items.now → ((item items.now i).up < length tree.now.vertex) × ((item items.now i).low < length tree.now.vertex) }
+    ensures edges { IfOk result (λ edges. family_of edges.items ≡ drawn_items g.now tree.now.vertex (filter (goes apart up low) items.now)) }
+    ensures at_most { steps.new ≤ steps.old + length items.now }
+    ensures rises { steps.old ≤ steps.new }
+{
+    let mut edges = Vec::new(alloc);
+    for x in items {
+        steps.tick();
+        if !(apart && is_frond_to(up, low, *x)) {
+            edges.push(edge_of(g, tree, *x))?;
+        }
+    }
+    Ok(edges)
+}
+
+/// The name of a frond from `low` to `up` among the entries, if there is one.
+pub(crate) fn frond_to<L: Ledger>(
+    items: &[Item],
+    up: u32,
+    low: u32,
+    steps: &mut Steps<L>,
+) -> Option<u32>
+    ensures found { IsFrondFound up low items.now result }
+    ensures at_most { steps.new ≤ steps.old + length items.now }
+    ensures rises { steps.old ≤ steps.new }
+{
+    for x in items {
+        steps.tick();
+        if is_frond_to(up, low, *x) {
+            return Some(x.name);
+        }
+    }
+    None
+}

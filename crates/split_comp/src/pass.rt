@@ -1,0 +1,487 @@
+// The pass along the palm tree, with the stack of entries, its cuts, and the components that are finished.
+
+ghost use Rattle.std.specs.Prelude.{◌≡◌, ◌≢◌, ◌+◌, ◌-◌, ◌*◌, ◌<◌, ◌≤◌, ◌∷◌, [], ℕ, Bool, true, false, length, take, drop, replicate, IfOk, IfSome, slice_index, slice_get};
+ghost use Rattle.multigraph.specs.Graph.{edge_count, IsGraph};
+ghost use Rattle.split_comp.specs.Stack.{item};
+ghost use Rattle.split_comp.specs.Noting.{IsLastCut};
+ghost use Rattle.split_comp.specs.Palm.{tree_degree, tree_parent};
+ghost use Rattle.split_comp.specs.Pass.{IsNumbered, IsPass, IsBack, IsPassed, weight, PassState, CanEject, IsEjected, CanJoin, IsTriangleTest, IsStaleDropped, top_item, IsParallel, IsJoined, IsDartNoted, IsFrondAdded, IsTreeAdded, IsParallelTest, pushed, gone_along, gone_down, gone_back, cuts_dropped, turned, lowered, next_name, goes, new_frond, new_tree};
+
+use crate::cuts::{drop_behind, note};
+use crate::edges::{edges_of, frond_to};
+use crate::items::{Dart, Item, Triple};
+use crate::tree::Tree;
+use multigraph::Graph;
+use pair_split::{Cut, EdgeList, NamedEdge, kind_of};
+use palm_tree::Steps;
+use std::alloc::{AllocError, Global};
+use std::marker::Model;
+use std::sync::ledger::Ledger;
+
+/// Where the pass stands. Vertices go by their numbers: the one where the search is, and the last one that is finished; the
+/// stack of entries; its cuts; for each vertex the first place of the stack that touches it, the places of the stack and of
+/// the cuts when it was entered, and how many of its darts have been gone along and back; how many entries the current family
+/// has; how many turns are left; and the finished components.
+#[derive(Drop)]
+pub(crate) struct Pass {
+    at: u32,
+    done: u32,
+    items: Vec<Item>,
+    cuts: Vec<Triple>,
+    first: Vec<usize>,
+    start: Vec<usize>,
+    base: Vec<usize>,
+    gone: Vec<usize>,
+    total: usize,
+    turns: usize,
+    parts: Vec<Cut>,
+}
+
+impl Model for Pass {
+    ghost use Rattle.split_comp.specs.Noting.{IsLastCut};
+    ghost use Rattle.split_comp.specs.Pass.{weight, PassState};
+
+    ghost Value = { PassState };
+
+    ghost view = { λ s. record { at = s.at; done = s.done; items = s.items.items; cuts = s.cuts.items; first = s.first.items; start = s.start.items; base = s.base.items; gone = s.gone.items; total = s.total; turns = s.turns; parts = s.parts.items } };
+}
+
+impl Pass {
+    /// The start, in a graph of n vertices and m edges.
+    pub(crate) fn new(alloc: Global, n: u32, m: u32) -> Result<Pass, AllocError>
+        ensures { IfOk result (λ s. s ≡ record { at = 0; done = n; items = []; cuts = []; first = replicate n 4294967295; start = replicate n 0; base = replicate n 0; gone = replicate n 0; total = m; turns = 2 * m; parts = [] }) }
+    {
+        let vertices = n as usize;
+        Ok(Pass {
+            at: 0,
+            done: n,
+            items: Vec::new(alloc),
+            cuts: Vec::new(alloc),
+            first: vec![in alloc; 4294967295; vertices]?,
+            start: vec![in alloc; 0; vertices]?,
+            base: vec![in alloc; 0; vertices]?,
+            gone: vec![in alloc; 0; vertices]?,
+            total: m as usize,
+            turns: 2 * m as usize,
+            parts: Vec::new(alloc),
+        })
+    }
+
+    // The place is one that touches the vertex.
+    fn note_first(&mut self, x: u32, place: usize)
+        requires { x < length self.old.first }
+        ensures { self.new ≡ record self.old { first = lowered self.old.first x place } }
+    {
+        if place < self.first[x as usize] {
+            self.first[x as usize] = place;
+        }
+    }
+
+    // Pushes an entry.
+    fn push(&mut self, x: Item) -> Result<(), AllocError>
+        requires up { x.up < length self.old.first }
+        requires low { x.low < length self.old.first }
+        ensures now { IfOk result (λ _. self.new ≡ pushed self.old x) }
+        ensures weight { IfOk result (λ _. weight self.new ≡ weight self.old + 8) }
+    {
+        let place = self.items.len();
+        self.note_first(x.up, place);
+        self.note_first(x.low, place);
+        self.items.push(x)?;
+        Ok(())
+    }
+
+    // The last cut from place `base` on.
+    fn last_cut(&self, base: usize) -> Option<Triple>
+        ensures { IsLastCut base self.now.cuts result }
+    {
+        if self.cuts.len() > base {
+            return Some(self.cuts[self.cuts.len() - 1]);
+        }
+        None
+    }
+
+    // The last cut is no more.
+    fn drop_cut(&mut self)
+        requires { 1 ≤ length self.old.cuts }
+        ensures { self.new ≡ cuts_dropped self.old (length self.old.cuts - 1) }
+    {
+        self.cuts.truncate(self.cuts.len() - 1);
+    }
+
+    // The cuts from place `k` on are no more.
+    fn drop_cuts(&mut self, k: usize)
+        ensures { self.new ≡ cuts_dropped self.old k }
+    {
+        self.cuts.truncate(k);
+    }
+
+    // One more dart of `v` has been gone along and back.
+    fn note_gone(&mut self, v: u32)
+        requires within { v < length self.old.gone }
+        requires fits { slice_index self.old.gone v + 1 < 18446744073709551616 }
+        ensures { self.new ≡ gone_along self.old v }
+    {
+        self.gone[v as usize] += 1;
+    }
+
+    // Goes down to the child `w`.
+    fn go_down(&mut self, w: u32)
+        requires start { w < length self.old.start }
+        requires base { w < length self.old.base }
+        ensures { self.new ≡ gone_down self.old w }
+    {
+        self.start[w as usize] = self.items.len();
+        self.base[w as usize] = self.cuts.len();
+        self.at = w;
+    }
+
+    // Goes back to the parent `v` of `w`, which is finished.
+    fn go_up(&mut self, v: u32, w: u32)
+        ensures { self.new ≡ gone_back self.old v w }
+    {
+        self.at = v;
+        self.done = w;
+    }
+
+    // One turn less is left.
+    fn note_turn(&mut self)
+        requires { 1 ≤ self.old.turns }
+        ensures { self.new ≡ turned self.old }
+    {
+        self.turns -= 1;
+    }
+
+    // Makes the entries from place `k` on a finished component, with a virtual edge between `up` and `low`: all of them, or all
+    // but a frond from `low` to `up`.
+    fn eject<L: Ledger>(
+        &mut self,
+        alloc: Global,
+        g: &Graph,
+        tree: &Tree,
+        k: usize,
+        apart: bool,
+        up: u32,
+        low: u32,
+        steps: &mut Steps<L>,
+    ) -> Result<u32, AllocError>
+        requires can { CanEject g.now tree.now.vertex (goes apart up low) k up low self.old }
+        ensures ejected { IfOk result (λ _. IsEjected g.now tree.now.vertex (goes apart up low) k up low self.old self.new) }
+        ensures name { IfOk result (λ name. name ≡ next_name g.now self.old) }
+        ensures at_most { steps.new + k ≤ steps.old + length self.old.items }
+        ensures rises { steps.old ≤ steps.new }
+    {
+        let name = g.edge_count() + self.parts.len() as u32;
+        let own = NamedEdge {
+            name,
+            first: tree.vertex_at(up),
+            second: tree.vertex_at(low),
+        };
+        let edges = edges_of(alloc, g, tree, &self.items[k..], apart, up, low, steps)?;
+        let kind = kind_of(own, &edges);
+        self.total = self.total + 1 - edges.len();
+        self.items.truncate(k);
+        self.parts.push(Cut {
+            kind,
+            own,
+            edges: EdgeList::of(edges),
+        })?;
+        Ok(name)
+    }
+
+    // The entry at place `i`.
+    fn item_at(&self, i: usize) -> Item
+        requires { i < length self.now.items }
+        ensures { result ≡ item self.now.items i }
+    {
+        self.items[i]
+    }
+
+    // How many entries the stack has.
+    fn height(&self) -> usize
+        ensures { result ≡ length self.now.items }
+    {
+        self.items.len()
+    }
+
+    // Whether the last entry is parallel to a frond right below it, and four entries are left.
+    fn is_parallel(&self) -> bool
+        ensures { IsParallelTest self.now result }
+    {
+        let height = self.height();
+        if height < 2 || self.total < 4 {
+            return false;
+        }
+        let top = self.item_at(height - 1);
+        let below = self.item_at(height - 2);
+        if below.tree {
+            return false;
+        }
+        below.up == top.up && below.low == top.low
+    }
+
+    // Makes the last two entries, which are parallel, a component.
+    fn join<L: Ledger>(
+        &mut self,
+        alloc: Global,
+        g: &Graph,
+        tree: &Tree,
+        steps: &mut Steps<L>,
+    ) -> Result<(), AllocError>
+        requires parallel { IsParallel self.old }
+        requires can { CanJoin g.now tree.now.vertex self.old }
+        requires first { length self.old.first ≡ length tree.now.vertex }
+        ensures joined { IfOk result (λ _. IsJoined g.now tree.now.vertex self.old self.new true) }
+        ensures cost { IfOk result (λ _. steps.new + weight self.new ≤ steps.old + weight self.old) }
+        ensures at_most { steps.new ≤ steps.old + 2 }
+        ensures rises { steps.old ≤ steps.new }
+    {
+        let height = self.height();
+        let top = self.item_at(height - 1);
+        let name = self.eject(alloc, g, tree, height - 2, false, top.up, top.low, steps)?;
+        let start = if top.tree { top.start } else { height - 2 };
+        self.push(Item {
+            name,
+            up: top.up,
+            low: top.low,
+            tree: top.tree,
+            start,
+        })?;
+        Ok(())
+    }
+
+    // Where the last entry is parallel to a frond right below it, and four entries are left, these two make a component.
+    fn join_parallel<L: Ledger>(
+        &mut self,
+        alloc: Global,
+        g: &Graph,
+        tree: &Tree,
+        steps: &mut Steps<L>,
+    ) -> Result<bool, AllocError>
+        requires can { CanJoin g.now tree.now.vertex self.old }
+        requires first { length self.old.first ≡ length tree.now.vertex }
+        ensures joined { IfOk result (λ joined. IsJoined g.now tree.now.vertex self.old self.new joined) }
+        ensures cost { IfOk result (λ _. steps.new + weight self.new ≤ steps.old + weight self.old) }
+        ensures at_most { steps.new ≤ steps.old + 2 }
+        ensures rises { steps.old ≤ steps.new }
+    {
+        if !self.is_parallel() {
+            return Ok(false);
+        }
+        self.join(alloc, g, tree, steps)?;
+        Ok(true)
+    }
+
+    // A dart of `v` is on the stack, from place `s` on, with the least upper end `up`: where it is not the first one, the stack
+    // may be cut there.
+    fn note_dart<L: Ledger>(
+        &mut self,
+        v: u32,
+        s: usize,
+        up: u32,
+        steps: &mut Steps<L>,
+    ) -> Result<(), AllocError>
+        requires start { v < length self.old.start }
+        requires base { v < length self.old.base }
+        requires within { slice_index self.old.base v ≤ length self.old.cuts }
+        ensures noted { IfOk result (λ _. IsDartNoted v s up self.old self.new) }
+        ensures cost { IfOk result (λ _. steps.new + weight self.new ≤ steps.old + weight self.old + 2) }
+        ensures at_most { steps.new ≤ steps.old + length self.old.cuts }
+        ensures rises { steps.old ≤ steps.new }
+    {
+        if s > self.start[v as usize] {
+            let base = self.base[v as usize];
+            let new = Triple {
+                start: s,
+                up,
+                low: v,
+            };
+            note(&mut self.cuts, base, new, steps)?;
+        }
+        Ok(())
+    }
+
+    // Pushes a frond from `v` to `up`.
+    fn add_frond<L: Ledger>(
+        &mut self,
+        alloc: Global,
+        g: &Graph,
+        tree: &Tree,
+        name: u32,
+        v: u32,
+        up: u32,
+        steps: &mut Steps<L>,
+    ) -> Result<(), AllocError>
+        requires can { CanJoin g.now tree.now.vertex (pushed self.old (new_frond name v up self.old)) }
+        requires first { length self.old.first ≡ length tree.now.vertex }
+        requires up { up < length self.old.first }
+        requires low { v < length self.old.first }
+        requires start { v < length self.old.start }
+        requires base { v < length self.old.base }
+        requires within { slice_index self.old.base v ≤ length self.old.cuts }
+        ensures added { IfOk result (λ _. IsFrondAdded g.now tree.now.vertex name v up self.old self.new) }
+        ensures cost { IfOk result (λ _. steps.new + weight self.new ≤ steps.old + weight self.old + 10) }
+        ensures at_most { steps.new ≤ steps.old + length self.old.cuts + 2 }
+        ensures rises { steps.old ≤ steps.new }
+    {
+        let start = self.height();
+        self.push(Item {
+            name,
+            up,
+            low: v,
+            tree: false,
+            start,
+        })?;
+        if !self.join_parallel(alloc, g, tree, steps)? {
+            self.note_dart(v, start, up, steps)?;
+        }
+        Ok(())
+    }
+
+    // Pushes a tree edge from `v` to `low`, to which the entries from place `start` on belong.
+    fn add_tree_edge<L: Ledger>(
+        &mut self,
+        alloc: Global,
+        g: &Graph,
+        tree: &Tree,
+        name: u32,
+        v: u32,
+        low: u32,
+        start: usize,
+        steps: &mut Steps<L>,
+    ) -> Result<(), AllocError>
+        requires can { CanJoin g.now tree.now.vertex (pushed self.old (new_tree name v low start)) }
+        requires first { length self.old.first ≡ length tree.now.vertex }
+        requires up { v < length self.old.first }
+        requires low { low < length self.old.first }
+        ensures added { IfOk result (λ _. IsTreeAdded g.now tree.now.vertex name v low start self.old self.new) }
+        ensures cost { IfOk result (λ _. steps.new + weight self.new ≤ steps.old + weight self.old + 8) }
+        ensures at_most { steps.new ≤ steps.old + 2 }
+        ensures rises { steps.old ≤ steps.new }
+    {
+        self.push(Item {
+            name,
+            up: v,
+            low,
+            tree: true,
+            start,
+        })?;
+        self.join_parallel(alloc, g, tree, steps)?;
+        Ok(())
+    }
+
+    // Whether the last two entries are tree edges that no other entry meets between them.
+    fn is_triangle(&self) -> bool
+        requires two { 2 ≤ length self.now.items }
+        requires low { (top_item self.now).low < length self.now.first }
+        ensures { IsTriangleTest self.now result }
+    {
+        let height = self.height();
+        let below = self.item_at(height - 2);
+        if !below.tree {
+            return false;
+        }
+        self.first[self.item_at(height - 1).low as usize] == height - 2
+    }
+
+    // Drops the last cut, where it is one of `v` and the lower vertex of the last entry.
+    fn drop_stale(&mut self, v: u32, base: usize) -> bool
+        requires { 1 ≤ length self.old.items }
+        ensures { IsStaleDropped v base self.old self.new result }
+    {
+        match self.last_cut(base) {
+            Some(cut) => {
+                if cut.up == v && cut.low == self.item_at(self.height() - 1).low {
+                    self.drop_cut();
+                    return true;
+                }
+                false
+            }
+            None => false,
+        }
+    }
+
+    // Goes along the next dart of the vertex where the search is: a frond is pushed, or the search goes down.
+    fn go_along<L: Ledger>(
+        &mut self,
+        alloc: Global,
+        g: &Graph,
+        tree: &Tree,
+        steps: &mut Steps<L>,
+    ) -> Result<(), AllocError>
+        requires numbered { IsNumbered g.now tree.now }
+        requires pass { IsPass g.now tree.now self.old }
+        requires more { slice_index self.old.gone self.old.at < tree_degree tree.now.palm tree.now.vertex self.old.at }
+        requires fits { slice_index self.old.gone self.old.at + 1 < 18446744073709551616 }
+        ensures gone { IfOk result (λ _. IsPass g.now tree.now self.new) }
+        ensures cost { IfOk result (λ _. steps.new + weight self.new ≤ steps.old + weight self.old + 10) }
+        ensures rises { steps.old ≤ steps.new }
+    {
+        let v = self.at;
+        let dart = tree.dart(g, v, self.gone[v as usize]);
+        if dart.tree {
+            self.go_down(dart.far);
+            return Ok(());
+        }
+        self.note_gone(v);
+        self.add_frond(alloc, g, tree, dart.edge, v, dart.far, steps)
+    }
+
+    // Comes back to the parent `v`, which is not the root, when all darts have been gone along.
+    fn come_back<L: Ledger>(
+        &mut self,
+        alloc: Global,
+        g: &Graph,
+        tree: &Tree,
+        v: u32,
+        steps: &mut Steps<L>,
+    ) -> Result<(), AllocError>
+        requires numbered { IsNumbered g.now tree.now }
+        requires pass { IsPass g.now tree.now self.old }
+        requires all { slice_index self.old.gone self.old.at ≡ tree_degree tree.now.palm tree.now.vertex self.old.at }
+        requires not_root { self.old.at ≢ 0 }
+        requires parent { v ≡ tree_parent tree.now.palm tree.now.vertex self.old.at }
+        requires inner { tree_parent tree.now.palm tree.now.vertex self.old.at ≢ 0 }
+        requires within { v < g.now.vertex_count }
+        requires dart_left { slice_index self.old.gone v < tree_degree tree.now.palm tree.now.vertex v }
+        requires fits { slice_index self.old.gone v + 1 < 18446744073709551616 }
+        ensures back { IfOk result (λ _. IsBack g.now tree.now self.old.at self.new) }
+        ensures cost { IfOk result (λ _. steps.new + weight self.new ≤ steps.old + weight self.old + 8) }
+        ensures rises { steps.old ≤ steps.new }
+    {
+        let w = self.at;
+        let dart = tree.dart(g, v, self.gone[v as usize]);
+        let start = self.start[w as usize];
+        self.note_gone(v);
+        self.go_up(v, w);
+        self.add_tree_edge(alloc, g, tree, dart.edge, v, w, start, steps)
+    }
+
+    // Comes back to the root, when all darts have been gone along: the pass is over.
+    fn come_home(&mut self, g: &Graph, tree: &Tree, v: u32) -> Result<(), AllocError>
+        requires numbered { IsNumbered g.now tree.now }
+        requires pass { IsPass g.now tree.now self.old }
+        requires all { slice_index self.old.gone self.old.at ≡ tree_degree tree.now.palm tree.now.vertex self.old.at }
+        requires not_root { self.old.at ≢ 0 }
+        requires parent { v ≡ tree_parent tree.now.palm tree.now.vertex self.old.at }
+        requires outer { tree_parent tree.now.palm tree.now.vertex self.old.at ≡ 0 }
+        requires within { v < g.now.vertex_count }
+        requires dart_left { slice_index self.old.gone v < tree_degree tree.now.palm tree.now.vertex v }
+        requires fits { slice_index self.old.gone v + 1 < 18446744073709551616 }
+        ensures home { IfOk result (λ _. IsPassed g.now tree.now self.new) }
+        ensures cost { IfOk result (λ _. weight self.new ≤ weight self.old + 8) }
+    {
+        let w = self.at;
+        let dart = tree.dart(g, v, self.gone[v as usize]);
+        let start = self.start[w as usize];
+        self.note_gone(v);
+        self.go_up(v, w);
+        self.push(Item {
+            name: dart.edge,
+            up: v,
+            low: w,
+            tree: true,
+            start,
+        })
+    }
+}

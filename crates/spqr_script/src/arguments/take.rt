@@ -1,0 +1,23 @@
+// The arguments of `take`: a block and a rotation.
+ghost use Rattle.std.specs.Prelude.{◌≡◌, IfOk};
+ghost use Rattle.spqr_script.specs.Line.{tokens_of};
+ghost use Rattle.spqr_script.specs.Reading.{arguments_of};
+
+use crate::arguments::next_index;
+use crate::command::Command;
+use crate::rotation::read_rotation;
+use crate::word::Word;
+use std::alloc::{AllocError, Global};
+
+// The command, where the text is the number of a block and a rotation.
+pub(crate) fn read_take(alloc: Global, text: &[u8]) -> Result<Option<Command>, AllocError>
+    ensures { IfOk result (λ command. command ≡ arguments_of Word.Take (tokens_of text.now)) }
+{
+    let Some((b, rest)) = next_index(text) else {
+        return Ok(None);
+    };
+    match read_rotation(alloc, rest)? {
+        Some(entries) => Ok(Some(Command::Take(b, entries))),
+        None => Ok(None),
+    }
+}
