@@ -18,10 +18,7 @@ use Rattle.rotations.specs.Given.{IsArranged, AreArranged, IsFirstBad, given_ord
 use Rattle.rotations.proofs.Membership.{incident-distinct}
 use Rattle.rotations.proofs.Arrangements.{permutation-distinct, permutation-member, permutation-member_back, permutation-from_members}
 use Rattle.spqr_session.specs.Commands.Euler.{IsGiven}
-
--- a test of arrangements: no member twice, each among those given, and as many
-abbrev is_arrangement : List ℕ → List ℕ → Bool
-is_arrangement edges list = is_distinct list && list_all (λ e. is_member e edges) list && length list == length edges
+use Rattle.spqr_session.specs.Commands.Permute.{is_arrangement}
 
 -- both of two tests
 both-true : (a b : Bool) → a ≡ true → b ≡ true → (a && b) ≡ true
@@ -48,12 +45,12 @@ all-from p [] h = refl
 all-from p (y ∷ ys) h = both-true (p y) (list_all p ys) (h y (member-head y ys)) (all-from p ys (λ x m. h x (member-tail x y ys m)))
 
 -- the test of arrangements is exact
-arranged-passes : (edges list : List ℕ) → is_distinct edges ≡ true → IsPermutation edges list → is_arrangement edges list ≡ true
+pub arranged-passes : (edges list : List ℕ) → is_distinct edges ≡ true → IsPermutation edges list → is_arrangement edges list ≡ true
 arranged-passes edges list d p =
     both-true _ _ (both-true _ _ (permutation-distinct edges list p d) (all-from (λ e. is_member e edges) list (λ x m. permutation-member_back edges list x p m)))
     (eq-eqb (length list) (length edges) (length_permutation edges list p))
 
-passes-arranged : (edges list : List ℕ) → is_arrangement edges list ≡ true → IsPermutation edges list
+pub passes-arranged : (edges list : List ℕ) → is_arrangement edges list ≡ true → IsPermutation edges list
 passes-arranged edges list t =
     let front = first-true (is_distinct list && list_all (λ e. is_member e edges) list) (eqb (length list) (length edges)) t in
     let long = second-true (is_distinct list && list_all (λ e. is_member e edges) list) (eqb (length list) (length edges)) t in

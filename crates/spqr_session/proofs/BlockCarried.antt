@@ -1,91 +1,165 @@
--- Commands that name a block and only read: there is an answer, and one only.
-use Rattle.std.proofs.Common.{◌≡◌, ℕ, ◌<◌, ◌≤◌, ◌⊎◌, List, [], length, map, Option, None, Some, Result, IfOk, inl, inr, refl, sym, ap, ◌∙◌, subst, arith}
+-- Commands that name a block: the codes of their ladders, that they do one thing, and what they leave.
+use Rattle.std.proofs.Common.{◌≡◌, ℕ, ◌<◌, ◌≤◌, Bool, true, false, not, nat_lt, List, [], ◌∷◌, ◌++◌, length, map, Option, None, Some, Result, IfOk, inl, inr, refl, sym, ap, ◌∙◌, subst, arith}
 use Rattle.std.specs.Global.{Vec}
+use Rattle.std.proofs.lemmas.Bool.{cases_Bool, ltb-true, lt-ltb, true≢false, not_from_false, not_from_true}
 use Rattle.std.proofs.lemmas.List.{length-map}
-use Rattle.std.proofs.lemmas.Bool.{cases_lt}
 use Rattle.spqr_session.specs.Trees.{BlockTree, tree_at}
 use Rattle.spqr_session.specs.State.{Embedding, State, entry_at}
-use Rattle.spqr_session.specs.Codes.{code_number, code_numbers, code_text}
-use Rattle.spqr_session.specs.BlockCodes.{BlockApplies, ReadsBlock, BlockReadStep, TellsBlock}
-use Rattle.spqr_session.specs.declared.code.Code.{Code}
-use Rattle.spqr_session.specs.declared.code.Code.TheVariants.{NoBlock, NonPlanar, BadRotation}
+use Rattle.spqr_session.specs.Codes.{code_text, Ladder, rises_above, first_code}
+use Rattle.spqr_session.specs.BlockCodes.{is_block, is_planar, block_ladder, of_entry, ReadsBlock, ChangesBlock, changed, read_ladder, ReadStep, Answered, TellsBlock}
 use Rattle.spqr_session.specs.Embedded.{BlockView, view_tree, view_entry, view_at}
+use Rattle.spqr_session.specs.declared.code.Code.{Code}
+use Rattle.spqr_session.specs.declared.code.Code.TheVariants.{NoBlock, NonPlanar}
 use Rattle.spqr_session.proofs.Views.{trees-at, entries-at}
 use Rattle.spqr_session.proofs.Steps.{text-map}
-use Rattle.spqr_session.proofs.Carried.{TellsOne, DoesOne, carries-one}
+use Rattle.spqr_session.proofs.Carried.{DoesOne}
+use Rattle.spqr_session.proofs.Ladders.{rung-hit, rung-missed, rung-none, refused-first, carried-out, ladder-answers, ladder-one}
 
--- the codes tell no numbers
-block-numbers : (trees : List BlockTree) (b : ℕ) (s : State) (code : Code) → BlockApplies trees b s code → code_numbers code ≡ []
-block-numbers trees b s NoBlock a = refl
-block-numbers trees b s NonPlanar a = refl
-block-numbers trees b s (BadRotation v) a = absurd a
+-- ---- tests
 
--- code 1 is the lowest, and no other applies with it; code 5 applies alone
-least-no_block : (trees : List BlockTree) (b : ℕ) (s : State) (other : Code) → BlockApplies trees b s other → code_number NoBlock ≤ code_number other
-least-no_block trees b s NoBlock a = omega arith
-least-no_block trees b s NonPlanar a = omega arith
-least-no_block trees b s (BadRotation v) a = absurd a
+-- a test whose negation fails, and one that fails
+pub held : (t : Bool) → not t ≡ false → t ≡ true
+held true e = refl
+held false e = absurd (true≢false e)
 
-least-nonplanar : (trees : List BlockTree) (b : ℕ) (s : State) (other : Code) → b < length trees → BlockApplies trees b s other → code_number NonPlanar ≤ code_number other
-least-nonplanar trees b s NoBlock l a = absurd (omega (arith, l, a))
-least-nonplanar trees b s NonPlanar l a = omega arith
-least-nonplanar trees b s (BadRotation v) l a = absurd a
+pub in-block : (trees : List BlockTree) (b : ℕ) → not (is_block trees b) ≡ false → b < length trees
+in-block trees b e = ltb-true b (length trees) (held (is_block trees b) e)
 
--- an entry is not one and none
-entry-apart : (o : Option Embedding) (e : Embedding) → o ≡ Some e → o ≡ None → ⊥
-entry-apart o e p q = let both : Some e ≡ None = sym p ∙ q in cc
+pub block-in : (trees : List BlockTree) (b : ℕ) → b < length trees → not (is_block trees b) ≡ false
+block-in trees b l = ap not (lt-ltb b (length trees) l)
 
-none-applies : (trees : List BlockTree) (b : ℕ) (s : State) (e : Embedding) → b < length trees → entry_at s.present b ≡ Some e → (code : Code) → BlockApplies trees b s code → ⊥
-none-applies trees b s e l p NoBlock a = absurd (omega (arith, l, a))
-none-applies trees b s e l p NonPlanar a = entry-apart (entry_at s.present b) e p a.1
-none-applies trees b s e l p (BadRotation v) a = a
+pub block-out : (trees : List BlockTree) (b : ℕ) → length trees ≤ b → not (is_block trees b) ≡ true
+block-out trees b l = elim (cases_Bool (is_block trees b)) [
+  | inl t ↦ absurd (omega (arith, l, ltb-true b (length trees) t))
+  | inr f ↦ ap not f
+]
 
-module _ (trees : List BlockTree) (b : ℕ) (IsAbout : BlockTree → Embedding → List ℕ → Type 0) (s : State) where
+-- a planar block has an entry
+pub planar-entry : (o : Option Embedding) → not (is_planar o) ≡ false → (e : Embedding) × (o ≡ Some e)
+planar-entry None h = absurd (true≢false h)
+planar-entry (Some e) h = (e, refl)
+
+-- two entries that are one
+pub entry-same : (o : Option Embedding) (e d : Embedding) → o ≡ Some e → o ≡ Some d → e ≡ d
+entry-same o e d p q = let both : Some e ≡ Some d = sym p ∙ q in cc
+
+-- ---- ladders
+
+-- ladders one behind the other
+pub first-behind : (front rest : Ladder) → first_code front ≡ None → first_code (front ++ rest) ≡ first_code rest
+first-behind [] rest e = refl
+first-behind ((c, true) ∷ front) rest e = absurd (let both : Some c ≡ None = e in cc)
+first-behind ((c, false) ∷ front) rest e = first-behind front rest e
+
+pub first-front : (front rest : Ladder) (c : Code) → first_code front ≡ Some c → first_code (front ++ rest) ≡ Some c
+first-front [] rest c e = absurd (let both : None ≡ Some c = e in cc)
+first-front ((d, true) ∷ front) rest c e = e
+first-front ((d, false) ∷ front) rest c e = first-front front rest c e
+
+pub none-front : (front rest : Ladder) → first_code (front ++ rest) ≡ None → first_code front ≡ None
+none-front [] rest e = refl
+none-front ((c, true) ∷ front) rest e = e
+none-front ((c, false) ∷ front) rest e = none-front front rest e
+
+-- codes of an embedding that rise do so for an entry
+pub entry-rises : (more : Embedding → Ladder) → ((e : Embedding) → rises_above 5 (more e) ≡ true) → (o : Option Embedding) → rises_above 5 (of_entry more o) ≡ true
+entry-rises more h None = refl
+entry-rises more h (Some e) = h e
+
+module _ (trees : List BlockTree) (b : ℕ) (s : State) where
+  -- where codes 1 and 5 do not apply there is an entry
+  pub block-entry : first_code (block_ladder trees b s) ≡ None → (b < length trees) × ((e : Embedding) × (entry_at s.present b ≡ Some e))
+  block-entry e =
+      let first = rung-none NoBlock (not (is_block trees b)) ((NonPlanar, not (is_planar (entry_at s.present b))) ∷ []) e in
+      let second = rung-none NonPlanar (not (is_planar (entry_at s.present b))) [] first.1 in
+      (in-block trees b first.0, planar-entry (entry_at s.present b) second.0)
+
+  -- and where there is one they do not
+  pub entry-block : (e : Embedding) → b < length trees → entry_at s.present b ≡ Some e → first_code (block_ladder trees b s) ≡ None
+  entry-block e l p =
+      rung-missed NoBlock (not (is_block trees b)) ((NonPlanar, not (is_planar (entry_at s.present b))) ∷ []) None (block-in trees b l)
+      (rung-missed NonPlanar (not (is_planar (entry_at s.present b))) [] None (ap (λ (o : Option Embedding). not (is_planar o)) p) refl)
+
+  -- code 1 is the first where there is no such block, code 5 where it has no entry
+  pub no-block : (rest : Ladder) → length trees ≤ b → first_code (block_ladder trees b s ++ rest) ≡ Some NoBlock
+  no-block rest l = rung-hit NoBlock (not (is_block trees b)) ((NonPlanar, not (is_planar (entry_at s.present b))) ∷ rest) (block-out trees b l)
+
+  pub no-entry : (rest : Ladder) → b < length trees → entry_at s.present b ≡ None → first_code (block_ladder trees b s ++ rest) ≡ Some NonPlanar
+  no-entry rest l p =
+      rung-missed NoBlock (not (is_block trees b)) ((NonPlanar, not (is_planar (entry_at s.present b))) ∷ rest) (Some NonPlanar) (block-in trees b l)
+      (rung-hit NonPlanar (not (is_planar (entry_at s.present b))) rest (ap (λ (o : Option Embedding). not (is_planar o)) p))
+
+-- ---- commands that only read
+
+module _ (more : BlockTree → Embedding → Ladder) (rising : (tree : BlockTree) (e : Embedding) → rises_above 5 (more tree e) ≡ true) (IsAbout : BlockTree → Embedding → List ℕ → Type 0) (trees : List BlockTree) (b : ℕ) (s : State) where
+  abbrev ladder : Ladder
+  ladder = read_ladder more trees b s
+
+  read-rises : rises_above 0 ladder ≡ true
+  read-rises = entry-rises (more (tree_at trees b)) (rising (tree_at trees b)) (entry_at s.present b)
+
+  -- where no code applies there is an entry, and it brings no code
+  read-entry : first_code ladder ≡ None → (b < length trees) × ((e : Embedding) × (entry_at s.present b ≡ Some e) × (first_code (more (tree_at trees b) e) ≡ None))
+  read-entry n =
+      let rest = of_entry (more (tree_at trees b)) (entry_at s.present b) in
+      let front = none-front (block_ladder trees b s) rest n in
+      let there = block-entry trees b s front in
+      (there.0, (there.1.0, there.1.1, sym (ap (λ (o : Option Embedding). first_code (of_entry (more (tree_at trees b)) o)) there.1.1) ∙ sym (first-behind (block_ladder trees b s) rest front) ∙ n))
+
   -- there is no such block
-  pub refused-no_block : (text : List ℕ) → length trees ≤ b → text ≡ code_text NoBlock → BlockReadStep trees b IsAbout s text s
-  refused-no_block text l e = inl (record { code = NoBlock; lowest = record { met = l; least = least-no_block trees b s }; line = e; stays = refl })
+  pub read-no_block : (text : List ℕ) → length trees ≤ b → text ≡ code_text NoBlock → ReadStep more IsAbout trees b s text s
+  read-no_block text l e = refused-first ladder read-rises (ReadsBlock trees b IsAbout) s NoBlock text (no-block trees b s (of_entry (more (tree_at trees b)) (entry_at s.present b)) l) e
 
   -- what is told of a block that is there
-  pub tells-block : (o : Option Embedding) (text : List ℕ) → b < length trees → entry_at s.present b ≡ o → TellsBlock (tree_at trees b) o IsAbout text → BlockReadStep trees b IsAbout s text s
-  tells-block None text l p t = inl (record { code = NonPlanar; lowest = record { met = (l, p); least = λ other a. least-nonplanar trees b s other l a }; line = t; stays = refl })
-  tells-block (Some e) text l p t = inr (none-applies trees b s e l p, record { embedding = e; present = p; answer = t; stays = refl })
+  pub tells-block : (o : Option Embedding) (text : List ℕ) → b < length trees → entry_at s.present b ≡ o → TellsBlock (tree_at trees b) o more IsAbout text → ReadStep more IsAbout trees b s text s
+  tells-block None text l p t = refused-first ladder read-rises (ReadsBlock trees b IsAbout) s NonPlanar text (no-entry trees b s (of_entry (more (tree_at trees b)) (entry_at s.present b)) l p) t
+  tells-block (Some e) text l p t = told (first_code (more (tree_at trees b) e)) refl t
+    where
+      behind : (c : Option Code) → first_code (more (tree_at trees b) e) ≡ c → first_code ladder ≡ c
+      behind c q =
+          first-behind (block_ladder trees b s) (of_entry (more (tree_at trees b)) (entry_at s.present b)) (entry-block trees b s e l p)
+          ∙ ap (λ (o : Option Embedding). first_code (of_entry (more (tree_at trees b)) o)) p ∙ q
+
+      told : (c : Option Code) → first_code (more (tree_at trees b) e) ≡ c → Answered c text (IsAbout (tree_at trees b) e text) → ReadStep more IsAbout trees b s text s
+      told None q a = carried-out ladder read-rises (ReadsBlock trees b IsAbout) s text s (behind None q) (record { embedding = e; present = p; answer = a; stays = refl })
+      told (Some code) q a = refused-first ladder read-rises (ReadsBlock trees b IsAbout) s code text (behind (Some code) q) a
 
   -- there is an answer, where there is one about each block that is planar
-  pub block-answers : (b < length trees → (e : Embedding) → entry_at s.present b ≡ Some e → (text : List ℕ) × IsAbout (tree_at trees b) e text) → (text : List ℕ) × (after : State) × BlockReadStep trees b IsAbout s text after
-  block-answers each = elim (cases_lt b (length trees)) [
-    | inl l ↦ there l (entry_at s.present b) refl
-    | inr n ↦ (code_text NoBlock, s, refused-no_block (code_text NoBlock) (let l : length trees ≤ b = omega (arith, n) in l) refl)
-  ]
-    where
-      there : b < length trees → (o : Option Embedding) → entry_at s.present b ≡ o → (text : List ℕ) × (after : State) × BlockReadStep trees b IsAbout s text after
-      there l None p = (code_text NonPlanar, s, tells-block None (code_text NonPlanar) l p refl)
-      there l (Some e) p = let a = each l e p in (a.0, s, tells-block (Some e) a.0 l p a.1)
+  pub read-answers : (b < length trees → (e : Embedding) → entry_at s.present b ≡ Some e → first_code (more (tree_at trees b) e) ≡ None → (text : List ℕ) × IsAbout (tree_at trees b) e text) → (text : List ℕ) × (after : State) × ReadStep more IsAbout trees b s text after
+  read-answers each = ladder-answers ladder read-rises (ReadsBlock trees b IsAbout) s (λ n.
+      let h = read-entry n in
+      let a = each h.0 h.1.0 h.1.1 h.1.2 in
+      (a.0, s, record { embedding = h.1.0; present = h.1.1; answer = a.1; stays = refl }))
 
   -- and one only, where there is only one about each
-  block-tells : TellsOne (BlockApplies trees b s)
-  block-tells k l p q e = block-numbers trees b s k p ∙ sym (block-numbers trees b s l q)
+  read-does : ((e : Embedding) → entry_at s.present b ≡ Some e → (t u : List ℕ) → IsAbout (tree_at trees b) e t → IsAbout (tree_at trees b) e u → t ≡ u) → DoesOne (ReadsBlock trees b IsAbout) s
+  read-does one t u after other p q =
+      let same : p.embedding ≡ q.embedding = entry-same (entry_at s.present b) p.embedding q.embedding p.present q.present in
+      (one q.embedding q.present t u (subst (λ (e : Embedding). IsAbout (tree_at trees b) e t) same p.answer) q.answer, p.stays ∙ sym q.stays)
 
-  block-does : ((e : Embedding) (t u : List ℕ) → IsAbout (tree_at trees b) e t → IsAbout (tree_at trees b) e u → t ≡ u) → DoesOne (ReadsBlock trees b IsAbout) s
-  block-does one t u after other p q =
-      let both : Some p.embedding ≡ Some q.embedding = sym p.present ∙ q.present in
-      let same : p.embedding ≡ q.embedding = cc in
-      (one q.embedding t u (subst (λ (e : Embedding). IsAbout (tree_at trees b) e t) same p.answer) q.answer, p.stays ∙ sym q.stays)
-
-  pub block-one : ((e : Embedding) (t u : List ℕ) → IsAbout (tree_at trees b) e t → IsAbout (tree_at trees b) e u → t ≡ u) → (t u : List ℕ) (after other : State) → BlockReadStep trees b IsAbout s t after → BlockReadStep trees b IsAbout s u other
-      → (t ≡ u) × (after ≡ other)
-  block-one one t u after other p q = carries-one (BlockApplies trees b s) (ReadsBlock trees b IsAbout) s t u after other block-tells (block-does one) p q
+  pub read-one : ((e : Embedding) → entry_at s.present b ≡ Some e → (t u : List ℕ) → IsAbout (tree_at trees b) e t → IsAbout (tree_at trees b) e u → t ≡ u) → (t u : List ℕ) (after other : State) → ReadStep more IsAbout trees b s t after
+      → ReadStep more IsAbout trees b s u other → (t ≡ u) × (after ≡ other)
+  read-one one t u after other p q = ladder-one ladder read-rises (ReadsBlock trees b IsAbout) s (read-does one) t u after other p q
 
   -- the state stays
-  pub block-stays : (text : List ℕ) (after : State) → BlockReadStep trees b IsAbout s text after → after ≡ s
-  block-stays text after (inl p) = p.stays
-  block-stays text after (inr p) = p.1.stays
+  pub read-stays : (text : List ℕ) (after : State) → ReadStep more IsAbout trees b s text after → after ≡ s
+  read-stays text after (inl p) = p.stays
+  read-stays text after (inr p) = p.1.stays
 
 -- what is told of the block that is found at a place is the answer
-pub block-read : {E : Type 0} (views : List BlockView) (b : ℕ) (IsAbout : BlockTree → Embedding → List ℕ → Type 0) (v : BlockView) (r : Result (Vec ℕ) E) → b < length views → v ≡ view_at views b
-    → IfOk r (λ text. TellsBlock v.tree v.entry IsAbout text.items) → (s : State) → s.present.entries ≡ map view_entry views → IfOk r (λ text. BlockReadStep (map view_tree views) b IsAbout s text.items s)
-block-read {E = E} views b IsAbout v r l at told s present =
-    text-map r (λ text. TellsBlock v.tree v.entry IsAbout text) (λ text. BlockReadStep (map view_tree views) b IsAbout s text s)
-    (λ text t. tells-block (map view_tree views) b IsAbout s (view_at views b).entry text (omega (arith, l, length-map views view_tree))
+pub block-read : {E : Type 0} (more : BlockTree → Embedding → Ladder) (rising : (tree : BlockTree) (e : Embedding) → rises_above 5 (more tree e) ≡ true) (IsAbout : BlockTree → Embedding → List ℕ → Type 0) (views : List BlockView) (b : ℕ) (v : BlockView)
+    (r : Result (Vec ℕ) E) → b < length views → v ≡ view_at views b → IfOk r (λ text. TellsBlock v.tree v.entry more IsAbout text.items) → (s : State) → s.present.entries ≡ map view_entry views
+    → IfOk r (λ text. ReadStep more IsAbout (map view_tree views) b s text.items s)
+block-read {E = E} more rising IsAbout views b v r l at told s present =
+    text-map r (λ text. TellsBlock v.tree v.entry more IsAbout text) (λ text. ReadStep more IsAbout (map view_tree views) b s text s)
+    (λ text t. tells-block more rising IsAbout (map view_tree views) b s (view_at views b).entry text (omega (arith, l, length-map views view_tree))
     (ap (λ (es : List (Option Embedding)). entry_at (record { entries = es }) b) present ∙ entries-at views b)
-    (subst (λ (x : BlockTree). TellsBlock x (view_at views b).entry IsAbout text) (sym (trees-at views b)) (subst (λ (x : BlockView). TellsBlock x.tree x.entry IsAbout text) at t)))
+    (subst (λ (x : BlockTree). TellsBlock x (view_at views b).entry more IsAbout text) (sym (trees-at views b)) (subst (λ (x : BlockView). TellsBlock x.tree x.entry more IsAbout text) at t)))
     told
+
+-- the line of code 1 is the answer where there is no block at the place
+pub block-missed : {E : Type 0} (more : BlockTree → Embedding → Ladder) (rising : (tree : BlockTree) (e : Embedding) → rises_above 5 (more tree e) ≡ true) (IsAbout : BlockTree → Embedding → List ℕ → Type 0) (views : List BlockView) (b : ℕ)
+    (r : Result (Vec ℕ) E) → length views ≤ b → IfOk r (λ text. text.items ≡ code_text NoBlock) → (s : State) → IfOk r (λ text. ReadStep more IsAbout (map view_tree views) b s text.items s)
+block-missed {E = E} more rising IsAbout views b r l line s =
+    text-map r (λ text. text ≡ code_text NoBlock) (λ text. ReadStep more IsAbout (map view_tree views) b s text s)
+    (λ text e. read-no_block more rising IsAbout (map view_tree views) b s text (omega (arith, l, length-map views view_tree)) e) line

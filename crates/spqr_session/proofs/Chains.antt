@@ -12,36 +12,37 @@ use Rattle.spqr_session.specs.Trees.{tree_at}
 use Rattle.spqr_session.specs.Setting.{Setting, IsSetting}
 use Rattle.spqr_session.specs.State.{State, IsState, IsStart}
 use Rattle.spqr_session.specs.Step.{Step, IsChain}
+use Rattle.spqr_session.specs.BlockCodes.{no_more}
 use Rattle.spqr_session.specs.Commands.Show.{IsShown}
 use Rattle.spqr_session.specs.Commands.Faces.{IsFaced}
 use Rattle.spqr_session.specs.Head.{head_text}
 use Rattle.spqr_session.specs.Report.{IsReport}
 use Rattle.spqr_session.proofs.EulerCarried.{euler-answers, euler-one, euler-stays}
 use Rattle.spqr_session.proofs.GmlCarried.{gml-done, gml-one, gml-stays}
-use Rattle.spqr_session.proofs.BlockCarried.{block-answers, block-one, block-stays}
+use Rattle.spqr_session.proofs.BlockCarried.{read-answers, read-one, read-stays}
 use Rattle.spqr_session.proofs.OneStart.{start-one}
 
 -- each command has an answer in each state
 pub has-answer : (setting : Setting) (before : State) (command : Command) → IsSetting setting → IsState setting before → (text : List ℕ) × (after : State) × Step setting before command text after
 has-answer setting before (Euler entries) is right = euler-answers setting.named.graph entries before
 has-answer setting before Gml is right = (document_text (written setting.document), before, gml-done setting.document before (document_text (written setting.document)) refl)
-has-answer setting before (Show b) is right = block-answers setting.trees b (IsShown b) before (λ l e p. (rotation_text (tree_at setting.trees b).part b e.rotation, refl))
-has-answer setting before (Faces b) is right = block-answers setting.trees b (IsFaced b) before (λ l e p. (faces_text (tree_at setting.trees b).part b (face_lists (tree_at setting.trees b).part.graph e.rotation), refl))
+has-answer setting before (Show b) is right = read-answers no_more (λ tree e. refl) (IsShown b) setting.trees b before (λ l e p n. (rotation_text (tree_at setting.trees b).part b e.rotation, refl))
+has-answer setting before (Faces b) is right = read-answers no_more (λ tree e. refl) (IsFaced b) setting.trees b before (λ l e p n. (faces_text (tree_at setting.trees b).part b (face_lists (tree_at setting.trees b).part.graph e.rotation), refl))
 
 -- and one only
 pub one-answer : (setting : Setting) (before : State) (command : Command) (s t : List ℕ) (after other : State) → IsSetting setting → IsState setting before
     → Step setting before command s after → Step setting before command t other → (s ≡ t) × (after ≡ other)
 one-answer setting before (Euler entries) s t after other is right p q = euler-one setting.named.graph entries before s t after other p q
 one-answer setting before Gml s t after other is right p q = gml-one setting.document before s t after other p q
-one-answer setting before (Show b) s t after other is right p q = block-one setting.trees b (IsShown b) before (λ e t u x y. x ∙ sym y) s t after other p q
-one-answer setting before (Faces b) s t after other is right p q = block-one setting.trees b (IsFaced b) before (λ e t u x y. x ∙ sym y) s t after other p q
+one-answer setting before (Show b) s t after other is right p q = read-one no_more (λ tree e. refl) (IsShown b) setting.trees b before (λ e h t u x y. x ∙ sym y) s t after other p q
+one-answer setting before (Faces b) s t after other is right p q = read-one no_more (λ tree e. refl) (IsFaced b) setting.trees b before (λ e h t u x y. x ∙ sym y) s t after other p q
 
 -- a step leads from a state to a state
 pub step-keeps : (setting : Setting) (before : State) (command : Command) (text : List ℕ) (after : State) → IsSetting setting → IsState setting before → Step setting before command text after → IsState setting after
 step-keeps setting before (Euler entries) text after is right p = subst (IsState setting) (sym (euler-stays setting.named.graph entries before text after p)) right
 step-keeps setting before Gml text after is right p = subst (IsState setting) (sym (gml-stays setting.document before text after p)) right
-step-keeps setting before (Show b) text after is right p = subst (IsState setting) (sym (block-stays setting.trees b (IsShown b) before text after p)) right
-step-keeps setting before (Faces b) text after is right p = subst (IsState setting) (sym (block-stays setting.trees b (IsFaced b) before text after p)) right
+step-keeps setting before (Show b) text after is right p = subst (IsState setting) (sym (read-stays no_more (λ tree e. refl) (IsShown b) setting.trees b before text after p)) right
+step-keeps setting before (Faces b) text after is right p = subst (IsState setting) (sym (read-stays no_more (λ tree e. refl) (IsFaced b) setting.trees b before text after p)) right
 
 -- there is a chain from each state
 pub chain-exists : (setting : Setting) (before : State) (commands : List Command) → IsSetting setting → IsState setting before → (texts : List (List ℕ)) × (last : State) × IsChain setting before commands texts last

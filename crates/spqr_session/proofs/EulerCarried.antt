@@ -7,7 +7,7 @@ use Rattle.spqr_session.specs.State.{State}
 use Rattle.spqr_session.specs.Codes.{code_number, code_numbers, code_text}
 use Rattle.spqr_session.specs.Commands.Euler.{EulerApplies, EulerDoes, EulerStep, IsGiven, euler_numbers}
 use Rattle.spqr_session.specs.declared.code.Code.{Code}
-use Rattle.spqr_session.specs.declared.code.Code.TheVariants.{NoBlock, NonPlanar, BadRotation}
+use Rattle.spqr_session.specs.declared.code.Code.TheVariants.{NoBlock, NoNode, WrongKind, BadOrder, NonPlanar, BadRotation, NotGenusZero, NothingToUndo, NothingToRedo, CountOver, RankOut, Locked}
 use Rattle.spqr_session.proofs.Arranging.{arranged_or_bad, arranged-not_bad, one-bad, given-exists, given-one}
 use Rattle.spqr_session.proofs.Carried.{TellsOne, DoesOne, carries-one}
 
@@ -15,14 +15,32 @@ module _ (g : Multigraph) (entries : List (ℕ × List ℕ)) where
   -- no code that applies is lower than 6
   least-code : (v : ℕ) (other : Code) → EulerApplies g entries other → code_number (BadRotation v) ≤ code_number other
   least-code v NoBlock a = absurd a
+  least-code v NoNode a = absurd a
+  least-code v WrongKind a = absurd a
+  least-code v BadOrder a = absurd a
   least-code v NonPlanar a = absurd a
   least-code v (BadRotation w) a = omega arith
+  least-code v (NotGenusZero x y z) a = absurd a
+  least-code v NothingToUndo a = absurd a
+  least-code v NothingToRedo a = absurd a
+  least-code v CountOver a = absurd a
+  least-code v (RankOut n) a = absurd a
+  least-code v (Locked k) a = absurd a
 
   -- where the lists are a rotation system no code applies
   none-applies : (r : List (List ℕ)) → IsGiven g entries r → (code : Code) → EulerApplies g entries code → ⊥
   none-applies r is NoBlock a = a
+  none-applies r is NoNode a = a
+  none-applies r is WrongKind a = a
+  none-applies r is BadOrder a = a
   none-applies r is NonPlanar a = a
   none-applies r is (BadRotation v) a = arranged-not_bad g entries v is.arranged a
+  none-applies r is (NotGenusZero x y z) a = a
+  none-applies r is NothingToUndo a = a
+  none-applies r is NothingToRedo a = a
+  none-applies r is CountOver a = a
+  none-applies r is (RankOut n) a = a
+  none-applies r is (Locked k) a = a
 
   -- the line of the first bad number is the answer
   pub euler-refused : (v : ℕ) (s : State) (text : List ℕ) → IsFirstBad g entries v → text ≡ code_text (BadRotation v) → EulerStep g entries s text s
@@ -42,8 +60,17 @@ module _ (g : Multigraph) (entries : List (ℕ × List ℕ)) where
   -- and one only: the code tells one number, and the lists are one rotation system
   bad-of : (code : Code) → EulerApplies g entries code → (v : ℕ) × IsFirstBad g entries v × (code ≡ BadRotation v)
   bad-of NoBlock a = absurd a
+  bad-of NoNode a = absurd a
+  bad-of WrongKind a = absurd a
+  bad-of BadOrder a = absurd a
   bad-of NonPlanar a = absurd a
   bad-of (BadRotation v) a = (v, a, refl)
+  bad-of (NotGenusZero x y z) a = absurd a
+  bad-of NothingToUndo a = absurd a
+  bad-of NothingToRedo a = absurd a
+  bad-of CountOver a = absurd a
+  bad-of (RankOut n) a = absurd a
+  bad-of (Locked k) a = absurd a
 
   euler-tells : TellsOne (EulerApplies g entries)
   euler-tells k l a b e =

@@ -10,6 +10,23 @@ pub mod Arranging
 pub mod Carried
 pub mod EulerCarried
 pub mod GmlCarried
+pub mod Ladders
 pub mod BlockCarried
+pub mod Changes
+pub mod Plans
+pub mod MovesCarried
+pub mod HistoryCarried
+pub mod MembersCarried
+pub mod Planes
+pub mod MovePlans
+pub mod WalkPlans
 pub mod Chains
 pub mod Steps
+pub mod Grouped
+pub mod Moved
+pub mod Walks
+mod MovedExamples
+pub mod Families
+pub mod Boards
+pub mod BoardSteps
+pub mod BoardStates

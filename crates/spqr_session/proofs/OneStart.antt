@@ -1,5 +1,5 @@
 -- A session has one start: the first plane rotation system of a block is one only.
-use Rattle.std.proofs.Common.{◌≡◌, ℕ, ◌<◌, List, [], length, slice_index_or, Option, None, Some, refl, sym, ap, ◌∙◌, subst}
+use Rattle.std.proofs.Common.{◌≡◌, ℕ, ◌<◌, List, length, Option, None, Some, refl, sym, ◌∙◌, subst}
 use Rattle.std.proofs.lemmas.Bool.{false_from_ne_true}
 use Rattle.std.proofs.lemmas.List.{ext_get_or}
 use Rattle.multigraph.specs.Graph.{Multigraph}
@@ -13,7 +13,7 @@ use Rattle.skel_embed.specs.First.{IsFirst}
 use Rattle.spqr_session.specs.Trees.{BlockTree, tree_at}
 use Rattle.spqr_session.specs.Certificates.{certificate_at}
 use Rattle.spqr_session.specs.Setting.{Setting, IsSetting}
-use Rattle.spqr_session.specs.State.{Embedding, Family, State, entry_at, IsEntry, IsFirstEntry, IsStart}
+use Rattle.spqr_session.specs.State.{Embedding, State, entry_at, IsEntry, IsFirstEntry, IsStart}
 use Rattle.spqr_session.proofs.BlockParts.{block-tree}
 
 -- two first ones are the same: neither precedes the other, so they have the same choices

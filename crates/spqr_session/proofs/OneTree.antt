@@ -1,12 +1,12 @@
 -- The trees of a graph's blocks are determined: a block makes one part, and the part has one tree.
-use Rattle.std.proofs.Common.{◌≡◌, ℕ, ◌<◌, List, [], length, get_or, slice_index, slice_index_or, refl, sym, ap, ◌∙◌, subst, arith, Contains}
+use Rattle.std.proofs.Common.{◌≡◌, ℕ, ◌<◌, List, length, get_or, slice_index, sym, ap, ◌∙◌, subst}
 use Rattle.std.proofs.lemmas.List.{ext_get_or, get_or_default}
 use Rattle.std.proofs.lemmas.List.Elements.{Contains-get_or}
 use Rattle.multigraph.specs.Graph.{Multigraph}
 use Rattle.multigraph.specs.Part.{GraphPart, IsPart}
 use Rattle.multigraph.proofs.Places.{rises-once}
 use Rattle.blocks.specs.Blocks.{AreBlocks, block_at}
-use Rattle.pair_split.specs.Tutte.{Node, IsTutte}
+use Rattle.pair_split.specs.Tutte.{IsTutte}
 use Rattle.tree_unique.proofs.Rising.{HasAll, rises-same}
 use Rattle.tree_unique.proofs.SameTrees.{trees-equal}
 use Rattle.spqr_session.specs.Trees.{BlockTree, no_tree, tree_at, IsBlockTree, AreBlockTrees}

@@ -1,13 +1,12 @@
 -- What is found of a block is right, and stands at the start of a session.
-use Rattle.std.proofs.Common.{◌≡◌, ℕ, zero, suc, ◌<◌, Bool, false, List, [], ◌∷◌, length, get_or, replicate, refl, sym, ap, ◌∙◌, subst, arith}
+use Rattle.std.proofs.Common.{◌≡◌, ℕ, ◌<◌, Bool, false, List, length, replicate, sym, ◌∙◌, subst}
 use Rattle.std.proofs.lemmas.List.{ext_get_or, length-replicate, get_or-replicate}
 use Rattle.multigraph.specs.Graph.{Multigraph}
 use Rattle.multigraph.specs.Part.{GraphPart}
-use Rattle.kuratowski.specs.Subdivision.{IsWritten}
 use Rattle.planarity.specs.Laws.{SubdivisionExcludesPlane}
 use Rattle.pair_split.specs.Tutte.{Node}
 use Rattle.skeletons.specs.Items.{IsBlockTree}
-use Rattle.skel_embed.specs.Block.{BlockState, lock_at, IsBlockState}
+use Rattle.skel_embed.specs.Block.{lock_at}
 use Rattle.skel_embed.specs.Planes.{IsOutcome}
 use Rattle.skel_embed.specs.declared.planes.Outcome.{Outcome}
 use Rattle.skel_embed.specs.declared.planes.Outcome.TheVariants.{Plane, Not}

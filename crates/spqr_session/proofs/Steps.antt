@@ -55,3 +55,8 @@ step-faces {E = E} setting state command b views r q is trees entries same h =
     subst (λ (x : Command). IfOk q (λ text. Step setting state x text.items state)) (sym is)
     (subst (λ (x : Result (Vec ℕ) E). IfOk x (λ text. Step setting state (Faces b) text.items state)) (sym same)
     (subst (λ (x : List BlockTree). IfOk r (λ text. FacesStep x b state text.items state)) trees (h state entries)))
+
+-- what holds of a value holds as far as it implies
+pub ok-map : {X E : Type 0} (r : Result X E) (P Q : X → Type 0) → ((x : X) → P x → Q x) → IfOk r P → IfOk r Q
+ok-map (Ok x) P Q f p = f x p
+ok-map (Err e) P Q f p = tt

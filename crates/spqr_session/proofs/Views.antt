@@ -1,5 +1,5 @@
 -- Lists of blocks and of what is seen of them: trees, certificates, entries; and the start of a session.
-use Rattle.std.proofs.Common.{◌≡◌, ℕ, zero, suc, ◌<◌, Bool, false, List, [], ◌∷◌, length, map, get_or, replicate, slice_index_or, Option, None, Some, Ok, refl, sym, ap, ◌∙◌, subst, arith}
+use Rattle.std.proofs.Common.{◌≡◌, ℕ, zero, suc, ◌<◌, List, [], ◌∷◌, length, map, slice_index_or, Option, Ok, refl, sym, ◌∙◌, subst}
 use Rattle.std.proofs.lemmas.List.{length-map}
 use Rattle.std.proofs.lemmas.List.Elements.{All-nil}
 use Rattle.multigraph.specs.Graph.{Multigraph}
@@ -10,7 +10,7 @@ use Rattle.gml_graph.specs.Answer.{graph_of_document}
 use Rattle.kuratowski.specs.declared.subdivision.Subdivision.{Subdivision}
 use Rattle.spqr_session.specs.Trees.{BlockTree, tree_at, IsBlockTree, AreBlockTrees}
 use Rattle.spqr_session.specs.Certificates.{certificate_at, IsCertificate, AreCertificates}
-use Rattle.spqr_session.specs.State.{Embedding, Family, State, entry_at, IsEntry, IsFirstEntry, IsFamily, IsState, IsStart}
+use Rattle.spqr_session.specs.State.{Embedding, entry_at, IsEntry, IsFirstEntry, IsFamily}
 use Rattle.spqr_session.specs.Embedded.{BlockView, view_tree, view_certificate, view_entry, no_view, view_at, setting_of, state_of, IsStartBlock, AreStartBlocks}
 use Rattle.spqr_session.specs.Machine.{Machine, IsStarted, IsMachine}
 

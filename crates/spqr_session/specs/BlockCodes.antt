@@ -1,16 +1,76 @@
--- Commands that name a block: the codes that refuse all of them, and what those do that only read.
-use Rattle.std.specs.Prelude.{◌≡◌, ℕ, ◌<◌, ◌≤◌, List, length, Option, None, Some}
+-- Commands that name a block: when the codes apply that speak of a block and a node, and what such commands do.
+use Rattle.std.specs.Prelude.{◌≡◌, ℕ, Bool, true, false, not, nat_lt, List, [], ◌∷◌, ◌++◌, length, slice_set, Option, None, Some}
+use Rattle.pair_split.specs.Tutte.{node_at}
+use Rattle.pair_split.specs.declared.components.Kind.{Kind}
+use Rattle.pair_split.specs.declared.components.Kind.TheVariants.{S, P, R, B}
+use Rattle.skel_embed.specs.Block.{lock_at}
+use Rattle.spqr_script.specs.Answers.Change.{ok_text}
 use Rattle.spqr_session.specs.Trees.{BlockTree, tree_at}
-use Rattle.spqr_session.specs.State.{Embedding, State, entry_at}
-use Rattle.spqr_session.specs.Codes.{Carries, code_text}
+use Rattle.spqr_session.specs.State.{Embedding, Family, State, entry_at}
+use Rattle.spqr_session.specs.Codes.{Ladder, Applies, Carries, code_text, first_code}
 use Rattle.spqr_session.specs.declared.code.Code.{Code}
-use Rattle.spqr_session.specs.declared.code.Code.TheVariants.{NoBlock, NonPlanar}
+use Rattle.spqr_session.specs.declared.code.Code.TheVariants.{NoBlock, NoNode, WrongKind, NonPlanar, Locked}
 
--- code 1: there is no such block; code 5: it is not planar
-abbrev pub BlockApplies : List BlockTree → ℕ → State → Code → Type 0
-BlockApplies trees b s NoBlock = length trees ≤ b
-BlockApplies trees b s NonPlanar = (b < length trees) × (entry_at s.present b ≡ None)
-BlockApplies trees b s code = ⊥
+-- whether b is a block
+abbrev pub is_block : List BlockTree → ℕ → Bool
+is_block trees b = nat_lt b (length trees)
+
+-- whether k is a node of the tree
+abbrev pub is_node : BlockTree → ℕ → Bool
+is_node tree k = nat_lt k (length tree.nodes)
+
+-- the kind of node k
+abbrev pub kind_of : BlockTree → ℕ → Kind
+kind_of tree k = (node_at tree.nodes k).kind
+
+-- whether it is the kind of a triconnected node; of a bond; of one that has choices
+abbrev pub is_rigid : Kind → Bool
+is_rigid R = true
+is_rigid P = false
+is_rigid S = false
+is_rigid B = false
+
+abbrev pub is_bond : Kind → Bool
+is_bond P = true
+is_bond R = false
+is_bond S = false
+is_bond B = false
+
+abbrev pub has_choices : Kind → Bool
+has_choices P = true
+has_choices R = true
+has_choices S = false
+has_choices B = false
+
+-- whether a block with this entry is planar
+abbrev pub is_planar : Option Embedding → Bool
+is_planar None = false
+is_planar (Some e) = true
+
+-- code 5: a block with this entry is not planar
+abbrev pub planar_codes : Option Embedding → Ladder
+planar_codes entry = (NonPlanar, not (is_planar entry)) ∷ []
+
+-- code 1: there is no such block; and code 5
+abbrev pub block_ladder : List BlockTree → ℕ → State → Ladder
+block_ladder trees b s = (NoBlock, not (is_block trees b)) ∷ planar_codes (entry_at s.present b)
+
+-- code 2: the tree has no such node; 3: its kind does not suit; and 5
+abbrev pub node_codes : (Kind → Bool) → ℕ → BlockTree → Option Embedding → Ladder
+node_codes suits k tree entry = (NoNode, not (is_node tree k)) ∷ (WrongKind, not (suits (kind_of tree k))) ∷ planar_codes entry
+
+-- code 1, and these
+abbrev pub node_ladder : (Kind → Bool) → List BlockTree → ℕ → ℕ → State → Ladder
+node_ladder suits trees b k s = (NoBlock, not (is_block trees b)) ∷ node_codes suits k (tree_at trees b) (entry_at s.present b)
+
+-- the codes that an embedding brings with it; a block without one brings none
+abbrev pub of_entry : (Embedding → Ladder) → Option Embedding → Ladder
+of_entry more None = []
+of_entry more (Some e) = more e
+
+-- code 12: node k is locked
+abbrev pub lock_codes : ℕ → Embedding → Ladder
+lock_codes k e = (Locked k, lock_at e.locks k) ∷ []
 
 -- the answer is one about the tree and the embedding of the block; the state stays
 pub record ReadsBlock (trees : List BlockTree) (b : ℕ) (IsAbout : BlockTree → Embedding → List ℕ → Type 0) (before : State) (text : List ℕ) (after : State) : Type 0 where
@@ -19,11 +79,48 @@ pub record ReadsBlock (trees : List BlockTree) (b : ℕ) (IsAbout : BlockTree �
   pub answer : IsAbout (tree_at trees b) embedding text
   pub stays : after ≡ before
 
--- one step: refused where a code applies, else this
-abbrev pub BlockReadStep : List BlockTree → ℕ → (BlockTree → Embedding → List ℕ → Type 0) → State → List ℕ → State → Type 0
-BlockReadStep trees b IsAbout before text after = Carries (BlockApplies trees b before) (ReadsBlock trees b IsAbout) before text after
+-- a change: block b has this embedding now, the family from before is the nearest earlier one, and none is later
+abbrev pub changed : State → ℕ → Embedding → State
+changed s b e = record { present = record { entries = slice_set s.present.entries b (Some e) }; earlier = s.present ∷ s.earlier; later = [] }
 
--- the answer about a block that is there: the line of code 5 where it is not planar, else one about its tree and embedding
-abbrev pub TellsBlock : BlockTree → Option Embedding → (BlockTree → Embedding → List ℕ → Type 0) → List ℕ → Type 0
-TellsBlock tree None IsAbout text = text ≡ code_text NonPlanar
-TellsBlock tree (Some e) IsAbout text = IsAbout tree e text
+-- the embedding of the block is changed, and the answer is one about the old and the new one
+pub record ChangesBlock (trees : List BlockTree) (b : ℕ) (IsChange : BlockTree → Embedding → Embedding → List ℕ → Type 0) (before : State) (text : List ℕ) (after : State) : Type 0 where
+  pub old : Embedding
+  pub present : entry_at before.present b ≡ Some old
+  pub new : Embedding
+  pub change : IsChange (tree_at trees b) old new text
+  pub after_is : after ≡ changed before b new
+
+-- the embedding is changed so, and the answer is `ok`
+abbrev pub Silently : (BlockTree → Embedding → Embedding → Type 0) → BlockTree → Embedding → Embedding → List ℕ → Type 0
+Silently IsChange tree old new text = IsChange tree old new × (text ≡ ok_text)
+
+-- code 5, and the codes that the embedding brings
+abbrev pub entry_codes : (BlockTree → Embedding → Ladder) → BlockTree → Option Embedding → Ladder
+entry_codes more tree entry = planar_codes entry ++ of_entry (more tree) entry
+
+-- code 1, and these
+abbrev pub read_ladder : (BlockTree → Embedding → Ladder) → List BlockTree → ℕ → State → Ladder
+read_ladder more trees b s = (NoBlock, not (is_block trees b)) ∷ entry_codes more (tree_at trees b) (entry_at s.present b)
+
+-- one step of a command that only reads: refused where a code of its ladder applies, else it answers about the block
+abbrev pub ReadStep : (BlockTree → Embedding → Ladder) → (BlockTree → Embedding → List ℕ → Type 0) → List BlockTree → ℕ → State → List ℕ → State → Type 0
+ReadStep more IsAbout trees b before text after = Carries (Applies (read_ladder more trees b before)) (ReadsBlock trees b IsAbout) before text after
+
+-- one step of a command that changes a block: refused where a code of the ladder applies, else it changes the block
+abbrev pub ChangeStep : Ladder → (BlockTree → Embedding → Embedding → List ℕ → Type 0) → List BlockTree → ℕ → State → List ℕ → State → Type 0
+ChangeStep ladder IsChange trees b before text after = Carries (Applies ladder) (ChangesBlock trees b IsChange) before text after
+
+-- no code is told by the embedding
+abbrev pub no_more : BlockTree → Embedding → Ladder
+no_more tree e = []
+
+-- what is answered where a first code applies, and where none does
+abbrev pub Answered : Option Code → List ℕ → Type 0 → Type 0
+Answered None text Else = Else
+Answered (Some code) text Else = text ≡ code_text code
+
+-- what is told of a block that is there: the line of a code, or an answer about its tree and embedding
+abbrev pub TellsBlock : BlockTree → Option Embedding → (BlockTree → Embedding → Ladder) → (BlockTree → Embedding → List ℕ → Type 0) → List ℕ → Type 0
+TellsBlock tree None more IsAbout text = text ≡ code_text NonPlanar
+TellsBlock tree (Some e) more IsAbout text = Answered (first_code (more tree e)) text (IsAbout tree e text)

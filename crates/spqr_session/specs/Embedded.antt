@@ -1,5 +1,5 @@
 -- A block with its tree, and its embedding or its certificate, as contracts see it.
-use Rattle.std.specs.Prelude.{◌≡◌, ℕ, ◌<◌, List, [], length, map, slice_index_or, Option, None, Some, ⊤}
+use Rattle.std.specs.Prelude.{◌≡◌, ℕ, ◌<◌, Bool, false, List, [], length, map, slice_index_or, Option, None, Some, ⊤}
 use Rattle.blocks.specs.Blocks.{BlockStructure, block_at}
 use Rattle.gml_text.specs.Document.{Document}
 use Rattle.gml_graph.specs.Named.{NamedGraph}
@@ -7,7 +7,7 @@ use Rattle.kuratowski.specs.declared.subdivision.Subdivision.{Subdivision}
 use Rattle.multigraph.specs.Graph.{Multigraph}
 use Rattle.multigraph.specs.Part.{GraphPart}
 use Rattle.skeletons.specs.Items as items
-use Rattle.skel_embed.specs.Block.{IsBlockState}
+use Rattle.skel_embed.specs.Block.{lock_at, IsBlockState}
 use Rattle.skel_embed.specs.declared.planes.Outcome.{Outcome}
 use Rattle.skel_embed.specs.declared.planes.Outcome.TheVariants.{Plane, Not}
 use Rattle.spqr_session.specs.Trees.{BlockTree, IsBlockTree, no_tree}
@@ -79,3 +79,8 @@ state_of views = record { present = record { entries = map view_entry views }; e
 pub record AreStartBlocks (g : Multigraph) (blocks : List (List ℕ)) (n : ℕ) (views : List BlockView) : Type 0 where
   pub one_each : length views ≡ n
   pub each : (b : ℕ) → b < n → IsStartBlock g (block_at blocks b) (view_at views b)
+
+-- whether node k is locked; none is where there is no embedding
+abbrev pub entry_lock : ℕ → Option Embedding → Bool
+entry_lock k None = false
+entry_lock k (Some e) = lock_at e.locks k

@@ -4,8 +4,13 @@ pub mod Certificates
 pub mod Setting
 pub mod State
 pub mod Embedded
+pub mod Moved
+pub mod History
+pub mod Board
 pub mod Codes
 pub mod BlockCodes
+pub mod Members
+pub mod Planned
 pub mod Commands
 pub mod Step
 pub mod Head

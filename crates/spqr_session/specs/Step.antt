@@ -1,20 +1,46 @@
 -- One step of the machine, by one line for each command; and steps one after another.
-use Rattle.std.specs.Prelude.{◌≡◌, ℕ, List, [], ◌∷◌}
+use Rattle.std.specs.Prelude.{◌≡◌, ℕ, true, false, List, [], ◌∷◌}
 use Rattle.spqr_script.specs.declared.command.Command.{Command}
-use Rattle.spqr_script.specs.declared.command.Command.TheVariants.{Euler, Gml, Show, Faces}
+use Rattle.spqr_script.specs.declared.command.Command.TheVariants as command
 use Rattle.spqr_session.specs.Setting.{Setting}
 use Rattle.spqr_session.specs.State.{State}
 use Rattle.spqr_session.specs.Commands.Euler.{EulerStep}
 use Rattle.spqr_session.specs.Commands.Gml.{GmlStep}
 use Rattle.spqr_session.specs.Commands.Show.{ShowStep}
 use Rattle.spqr_session.specs.Commands.Faces.{FacesStep}
+use Rattle.spqr_session.specs.Commands.Flip.{FlipStep}
+use Rattle.spqr_session.specs.Commands.Permute.{PermuteStep}
+use Rattle.spqr_session.specs.Commands.Mirror.{MirrorStep}
+use Rattle.spqr_session.specs.Commands.Lock.{LockStep}
+use Rattle.spqr_session.specs.Commands.History.{UndoStep, RedoStep}
+use Rattle.spqr_session.specs.Commands.Count.{CountStep, RankStep}
+use Rattle.spqr_session.specs.Commands.Walk.{FirstStep, NextStep, GotoStep}
+use Rattle.spqr_session.specs.Commands.Listing.{ListStep}
+use Rattle.spqr_session.specs.Commands.Take.{TakeStep}
+use Rattle.spqr_session.specs.Commands.Convert.{ConvertRankStep, ConvertToStep}
 
 -- a command gives this text and leads to this state
 abbrev pub Step : Setting → State → Command → List ℕ → State → Type 0
-Step setting before (Euler entries) text after = EulerStep setting.named.graph entries before text after
-Step setting before Gml text after = GmlStep setting.document before text after
-Step setting before (Show b) text after = ShowStep setting.trees b before text after
-Step setting before (Faces b) text after = FacesStep setting.trees b before text after
+Step setting before (command.Euler entries) text after = EulerStep setting.named.graph entries before text after
+Step setting before command.Gml text after = GmlStep setting.document before text after
+Step setting before (command.Show b) text after = ShowStep setting.trees b before text after
+Step setting before (command.Faces b) text after = FacesStep setting.trees b before text after
+Step setting before (command.Flip b k) text after = FlipStep setting.trees b k before text after
+Step setting before (command.Permute b k keys) text after = PermuteStep setting.trees b k keys before text after
+Step setting before (command.Mirror b) text after = MirrorStep setting.trees b before text after
+Step setting before (command.Lock b k) text after = LockStep true setting.trees b k before text after
+Step setting before (command.Unlock b k) text after = LockStep false setting.trees b k before text after
+Step setting before command.Undo text after = UndoStep before text after
+Step setting before command.Redo text after = RedoStep before text after
+Step setting before (command.First b) text after = FirstStep setting.trees b before text after
+Step setting before (command.Next b) text after = NextStep setting.trees b before text after
+Step setting before (command.List b n) text after = ListStep setting.trees b n before text after
+Step setting before (command.Count b) text after = CountStep setting.trees b before text after
+Step setting before (command.Rank b) text after = RankStep setting.trees b before text after
+Step setting before (command.Goto b r) text after = GotoStep setting.trees b r before text after
+Step setting before (command.ConvertRank b r) text after = ConvertRankStep setting.trees b r before text after
+Step setting before (command.ConvertTo b entries) text after = ConvertToStep setting.trees b entries before text after
+Step setting before (command.Take b entries) text after = TakeStep setting.trees b entries before text after
 
 -- the commands give these texts, one after another, from the one state to the other
 abbrev pub IsChain : Setting → State → List Command → List (List ℕ) → State → Type 0

@@ -6,15 +6,33 @@ use spqr_script::error_line;
 use std::alloc::{AllocError, Global};
 
 /// Why a command is refused.
-#[derive(Clone, Copy)]
+#[derive(Clone, Copy, Debug)]
 pub enum Code {
     /// 1: a number is no block.
     NoBlock,
+    /// 2: a number is no node of the block's tree.
+    NoNode,
+    /// 3: the node is not of the kind that the command is for.
+    WrongKind,
+    /// 4: keys are no arrangement of the node's keys.
+    BadOrder,
     /// 5: the block is not planar.
     NonPlanar,
     /// 6: lists are no rotation system. The number is the least that is a vertex whose list is no arrangement of its edges, or
     /// is named and no vertex.
     BadRotation(u32),
+    /// 7: a rotation system is not plane. The numbers are those of its vertices, edges and faces.
+    NotGenusZero(u32, u32, u32),
+    /// 8: there is no earlier change.
+    NothingToUndo,
+    /// 9: no change was undone.
+    NothingToRedo,
+    /// 10: the list has 2^128 members or more.
+    CountOver,
+    /// 11: a rank is not below the length of the list, which is told.
+    RankOut(u128),
+    /// 12: the choice of a locked node would change. The number is the node, the least where there are several.
+    Locked(u32),
 }
 
 impl Code {
@@ -24,8 +42,19 @@ impl Code {
     {
         match self {
             Code::NoBlock => error_line(alloc, 1, &[]),
+            Code::NoNode => error_line(alloc, 2, &[]),
+            Code::WrongKind => error_line(alloc, 3, &[]),
+            Code::BadOrder => error_line(alloc, 4, &[]),
             Code::NonPlanar => error_line(alloc, 5, &[]),
             Code::BadRotation(v) => error_line(alloc, 6, &[u128::from(v)]),
+            Code::NotGenusZero(v, e, f) => {
+                error_line(alloc, 7, &[u128::from(v), u128::from(e), u128::from(f)])
+            }
+            Code::NothingToUndo => error_line(alloc, 8, &[]),
+            Code::NothingToRedo => error_line(alloc, 9, &[]),
+            Code::CountOver => error_line(alloc, 10, &[]),
+            Code::RankOut(count) => error_line(alloc, 11, &[count]),
+            Code::Locked(k) => error_line(alloc, 12, &[u128::from(k)]),
         }
     }
 }

@@ -1,10 +1,30 @@
-// The commands: a file for each, with the function that carries it out.
+// The commands: a file for each, or for a few that are alike, with the functions that carry them out.
+mod convert;
+mod count;
 mod euler;
+mod flip;
 mod gml;
+mod history;
+mod listing;
+mod lock;
+mod mirror;
+mod permute;
 mod show;
+mod take;
 mod traced;
+mod walk;
 
+pub(crate) use convert::{carry_convert_rank, carry_convert_to};
+pub(crate) use count::{carry_count, carry_rank};
 pub(crate) use euler::carry_euler;
+pub(crate) use flip::carry_flip;
 pub(crate) use gml::carry_gml;
+pub(crate) use history::{carry_redo, carry_undo};
+pub(crate) use listing::carry_list;
+pub(crate) use lock::carry_lock;
+pub(crate) use mirror::carry_mirror;
+pub(crate) use permute::carry_permute;
 pub(crate) use show::carry_show;
+pub(crate) use take::carry_take;
 pub(crate) use traced::carry_faces;
+pub(crate) use walk::{carry_first, carry_goto, carry_next, plan_rank};

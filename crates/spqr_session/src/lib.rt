@@ -13,11 +13,14 @@
 // was.
 #![tactic(auto)]
 
+mod board;
+mod carrying;
 mod code;
 mod commands;
 mod embedded;
 mod head;
 pub mod laws;
+mod planned;
 mod session;
 
 pub use session::Session;

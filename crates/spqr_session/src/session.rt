@@ -5,8 +5,9 @@ ghost use Rattle.spqr_session.specs.Head.{head_text};
 ghost use Rattle.spqr_session.specs.Step.{Step};
 ghost use Rattle.spqr_session.specs.Machine.{IsStarted};
 
-use crate::commands::{carry_euler, carry_faces, carry_gml, carry_show};
-use crate::embedded::{EmbeddedBlock, embedded_blocks};
+use crate::board::Board;
+use crate::carrying::carry_out;
+use crate::embedded::embedded_blocks;
 use crate::head::head_of;
 use blocks::{Blocks, split};
 use gml_graph::Named;
@@ -25,11 +26,12 @@ pub struct Session {
     doc: Doc,
     named: Named,
     blocks: Blocks,
-    embedded: Vec<EmbeddedBlock>,
+    board: Board,
 }
 
 impl Model for Session {
-    ghost use Rattle.spqr_session.specs.Embedded.{setting_of, state_of};
+    ghost use Rattle.spqr_session.specs.Embedded.{setting_of};
+    ghost use Rattle.spqr_session.specs.Board.{board_state};
     ghost use Rattle.spqr_session.specs.Machine.{Machine, IsMachine};
     ghost use Rattle.gml_text.specs.Code.{document_code};
     ghost use Rattle.std.specs.Coded.{codes};
@@ -38,9 +40,9 @@ impl Model for Session {
 
     ghost coded = { Prim.hlevel (codes, document_code) };
 
-    ghost view = { λ s. record { setting = setting_of s.doc s.named s.blocks s.embedded.items; state = state_of s.embedded.items } };
+    ghost view = { λ s. record { setting = setting_of s.doc s.named s.blocks s.board.views; state = board_state s.board } };
 
-    ghost invariant = { λ s. IsMachine (record { setting = setting_of s.doc s.named s.blocks s.embedded.items; state = state_of s.embedded.items }) };
+    ghost invariant = { λ s. IsMachine (record { setting = setting_of s.doc s.named s.blocks s.board.views; state = board_state s.board }) };
 }
 
 impl Session {
@@ -64,7 +66,7 @@ impl Session {
             doc,
             named,
             blocks,
-            embedded,
+            board: Board::of(alloc, embedded),
         })
     }
 
@@ -73,7 +75,7 @@ impl Session {
     pub fn head(&self, alloc: Global) -> Result<Vec<u8>, AllocError>
         ensures { IfOk result (λ text. text.items ≡ head_text self.now.setting) }
     {
-        head_of(alloc, &self.named, &self.blocks, &self.embedded)
+        head_of(alloc, &self.named, &self.blocks, self.board.blocks())
     }
 
     /// Carries out a command and gives its answer. Without memory the session stays as it was.
@@ -83,11 +85,12 @@ impl Session {
             Step self.old.setting self.old.state command.now text.items self.new.state) }
         ensures memory { OnErr result (self.new ≡ self.old) }
     {
-        match command {
-            Command::Euler(lists) => carry_euler(alloc, self.named.graph(), lists),
-            Command::Gml => carry_gml(alloc, &self.doc),
-            Command::Show(b) => carry_show(alloc, &self.embedded, *b),
-            Command::Faces(b) => carry_faces(alloc, &self.embedded, *b),
-        }
+        carry_out(
+            alloc,
+            &self.doc,
+            self.named.graph(),
+            &mut self.board,
+            command,
+        )
     }
 }

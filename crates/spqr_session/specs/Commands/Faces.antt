@@ -4,7 +4,7 @@ use Rattle.faces.specs.Trace.{face_lists}
 use Rattle.spqr_script.specs.Answers.Faces.{faces_text}
 use Rattle.spqr_session.specs.Trees.{BlockTree}
 use Rattle.spqr_session.specs.State.{Embedding, State}
-use Rattle.spqr_session.specs.BlockCodes.{BlockReadStep}
+use Rattle.spqr_session.specs.BlockCodes.{no_more, ReadStep}
 
 -- the answer is the faces, each from its least pair on, in order of these
 abbrev pub IsFaced : ℕ → BlockTree → Embedding → List ℕ → Type 0
@@ -12,4 +12,4 @@ IsFaced b tree e text = text ≡ faces_text tree.part b (face_lists tree.part.gr
 
 -- one step
 abbrev pub FacesStep : List BlockTree → ℕ → State → List ℕ → State → Type 0
-FacesStep trees b before text after = BlockReadStep trees b (IsFaced b) before text after
+FacesStep trees b before text after = ReadStep no_more (IsFaced b) trees b before text after

@@ -3,7 +3,7 @@ use Rattle.std.specs.Prelude.{◌≡◌, ℕ, List}
 use Rattle.spqr_script.specs.Answers.Rotation.{rotation_text}
 use Rattle.spqr_session.specs.Trees.{BlockTree}
 use Rattle.spqr_session.specs.State.{Embedding, State}
-use Rattle.spqr_session.specs.BlockCodes.{BlockReadStep}
+use Rattle.spqr_session.specs.BlockCodes.{no_more, ReadStep}
 
 -- the answer is the rotation system
 abbrev pub IsShown : ℕ → BlockTree → Embedding → List ℕ → Type 0
@@ -11,4 +11,4 @@ IsShown b tree e text = text ≡ rotation_text tree.part b e.rotation
 
 -- one step
 abbrev pub ShowStep : List BlockTree → ℕ → State → List ℕ → State → Type 0
-ShowStep trees b before text after = BlockReadStep trees b (IsShown b) before text after
+ShowStep trees b before text after = ReadStep no_more (IsShown b) trees b before text after

@@ -2,7 +2,7 @@
 ghost use Rattle.std.specs.Prelude.{◌≡◌, map, IfOk};
 ghost use Rattle.spqr_session.specs.State.{State};
 ghost use Rattle.spqr_session.specs.Embedded.{view_tree, view_entry};
-ghost use Rattle.spqr_session.specs.BlockCodes.{TellsBlock};
+ghost use Rattle.spqr_session.specs.BlockCodes.{no_more, TellsBlock};
 ghost use Rattle.spqr_session.specs.Commands.Show.{IsShown, ShowStep};
 
 use crate::code::Code;
@@ -13,7 +13,7 @@ use std::alloc::{AllocError, Global};
 
 // The line of a block's rotation system, or that of code 5.
 fn show_block(alloc: Global, b: u32, block: &EmbeddedBlock) -> Result<Vec<u8>, AllocError>
-    ensures { IfOk result (λ text. TellsBlock block.now.tree block.now.entry (IsShown b) text.items) }
+    ensures { IfOk result (λ text. TellsBlock block.now.tree block.now.entry no_more (IsShown b) text.items) }
 {
     match block.outcome() {
         Outcome::Plane(plane) => rotation_line(alloc, b, block.part(), plane.rotation()),

@@ -2,7 +2,7 @@
 ghost use Rattle.std.specs.Prelude.{◌≡◌, map, IfOk};
 ghost use Rattle.spqr_session.specs.State.{State};
 ghost use Rattle.spqr_session.specs.Embedded.{view_tree, view_entry};
-ghost use Rattle.spqr_session.specs.BlockCodes.{TellsBlock};
+ghost use Rattle.spqr_session.specs.BlockCodes.{no_more, TellsBlock};
 ghost use Rattle.spqr_session.specs.Commands.Faces.{IsFaced, FacesStep};
 
 use crate::code::Code;
@@ -14,7 +14,7 @@ use std::alloc::{AllocError, Global};
 
 // The lines of the faces of a block, or that of code 5.
 fn faces_of_block(alloc: Global, b: u32, block: &EmbeddedBlock) -> Result<Vec<u8>, AllocError>
-    ensures { IfOk result (λ text. TellsBlock block.now.tree block.now.entry (IsFaced b) text.items) }
+    ensures { IfOk result (λ text. TellsBlock block.now.tree block.now.entry no_more (IsFaced b) text.items) }
 {
     match block.outcome() {
         Outcome::Plane(plane) => {

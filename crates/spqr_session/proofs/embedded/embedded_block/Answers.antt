@@ -1,6 +1,6 @@
-use Rattle.std.proofs.Common.{◌≡◌, ◌<◌, ℕ, List, length, slice_index, sym, ap, ◌∙◌, subst}
+use Rattle.std.proofs.Common.{◌≡◌, ◌<◌, ℕ, List, length, slice_index, sym, ◌∙◌, subst}
 use Rattle.multigraph.specs.Graph.{Multigraph, edge_count}
-use Rattle.multigraph.specs.Part.{GraphPart, IsPart}
+use Rattle.multigraph.specs.Part.{IsPart}
 use Rattle.blocks.specs.Blocks.{block_at}
 use Rattle.graph_theory.specs.Block.{IsOneBlock}
 use Rattle.pair_split.specs.Tutte.{IsTutte}

@@ -1,12 +1,10 @@
-use Rattle.std.proofs.Common.{◌≡◌, ◌<◌, ◌++◌, List, ℕ, Option, sym, ap, ◌∙◌, subst}
-use Rattle.multigraph.specs.Graph.{IsGraph}
+use Rattle.std.proofs.Common.{◌≡◌, ◌<◌, ◌++◌, List, ℕ, ap, ◌∙◌, subst}
 use Rattle.multigraph.specs.Part.{GraphPart}
-use Rattle.pair_split.specs.Tutte.{Node, IsTutte}
-use Rattle.kuratowski.specs.declared.subdivision.Subdivision.{Subdivision}
+use Rattle.pair_split.specs.Tutte.{Node}
 use Rattle.spqr_script.specs.Head.{block_text}
 use Rattle.spqr_session.specs.Embedded.{BlockView, view_at}
 use Rattle.spqr_session.specs.Head.{nodes_text, planarity_text}
-use Rattle.spqr_session.proofs.BlockTrees.{lines-more, view-at, view-within, view-graph, view-nodes}
+use Rattle.spqr_session.proofs.BlockTrees.{lines-more, view-at, view-within}
 use Rattle.spqr_session.proofs.head.push_blocks.Goals as goal
 
 pub loop-b-preserved : goal.loop-b-preserved

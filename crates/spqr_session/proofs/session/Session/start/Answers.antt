@@ -1,4 +1,4 @@
-use Rattle.std.proofs.Common.{◌≡◌, List, length, ap, sym, ◌∙◌, subst, Ok}
+use Rattle.std.proofs.Common.{length, subst}
 use Rattle.multigraph.specs.Graph.{Multigraph}
 use Rattle.blocks.specs.Blocks.{IsBlockStructure}
 use Rattle.spqr_session.specs.Embedded.{AreStartBlocks, setting_of, state_of}

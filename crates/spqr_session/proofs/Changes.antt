@@ -1,0 +1,152 @@
+-- Commands that change a block: they do one thing, and lead from a state to a state.
+use Rattle.std.proofs.Common.{◌≡◌, ◌≢◌, ℕ, ◌<◌, ◌≤◌, Bool, true, false, not, nat_lt, List, [], ◌∷◌, ◌++◌, length, set, slice_index_or, Option, None, Some, All, inl, inr, refl, sym, ap, ◌∙◌, subst, arith}
+use Rattle.std.proofs.lemmas.Bool.{cases_eq, cases_lt, ltb-true, lt-ltb, true≢false}
+use Rattle.std.proofs.lemmas.List.{length-set, get_or-set_same, get_or-set_other, get_or_past}
+use Rattle.std.proofs.lemmas.List.Elements.{All-cons, All-nil}
+use Rattle.pair_split.specs.Tutte.{node_at}
+use Rattle.pair_split.specs.declared.components.Kind.{Kind}
+use Rattle.pair_split.specs.declared.components.Kind.TheVariants.{S, P, R, B}
+use Rattle.kuratowski.specs.declared.subdivision.Subdivision.{Subdivision}
+use Rattle.spqr_script.specs.Answers.Change.{ok_text}
+use Rattle.spqr_session.specs.Trees.{BlockTree, tree_at}
+use Rattle.spqr_session.specs.Certificates.{certificate_at}
+use Rattle.spqr_session.specs.Setting.{Setting, IsSetting}
+use Rattle.spqr_session.specs.State.{Embedding, Family, State, entry_at, IsEntry, IsFamily, IsState}
+use Rattle.spqr_session.specs.Codes.{Ladder, Applies, Carries, rises_above, first_code}
+use Rattle.spqr_session.specs.declared.code.Code.{Code}
+use Rattle.spqr_session.specs.declared.code.Code.TheVariants.{NoBlock, NoNode, WrongKind, NonPlanar}
+use Rattle.spqr_session.specs.BlockCodes.{is_block, is_node, kind_of, is_rigid, is_bond, has_choices, is_planar, node_ladder, of_entry, lock_codes, ChangesBlock, changed, Silently, ChangeStep}
+use Rattle.spqr_session.proofs.Carried.{DoesOne}
+use Rattle.spqr_session.proofs.Ladders.{rung-hit, rung-missed, rung-none}
+use Rattle.spqr_session.proofs.BlockCarried.{held, in-block, block-in, block-out, planar-entry, entry-same}
+
+-- ---- kinds
+
+pub rigid-is : (kind : Kind) → is_rigid kind ≡ true → kind ≡ R
+rigid-is R h = refl
+rigid-is P h = absurd (true≢false (sym h))
+rigid-is S h = absurd (true≢false (sym h))
+rigid-is B h = absurd (true≢false (sym h))
+
+pub bond-is : (kind : Kind) → is_bond kind ≡ true → kind ≡ P
+bond-is P h = refl
+bond-is R h = absurd (true≢false (sym h))
+bond-is S h = absurd (true≢false (sym h))
+bond-is B h = absurd (true≢false (sym h))
+
+-- ---- codes 1, 2, 3 and 5
+
+-- what holds where none of them applies
+pub record NodeFacts (suits : Kind → Bool) (trees : List BlockTree) (b k : ℕ) (s : State) : Type 0 where
+  pub block : b < length trees
+  pub node : k < length (tree_at trees b).nodes
+  pub kind : suits (kind_of (tree_at trees b) k) ≡ true
+  pub entry : Embedding
+  pub present : entry_at s.present b ≡ Some entry
+
+module _ (suits : Kind → Bool) (trees : List BlockTree) (b k : ℕ) (s : State) where
+  abbrev no_block : Bool
+  no_block = not (is_block trees b)
+
+  abbrev no_node : Bool
+  no_node = not (is_node (tree_at trees b) k)
+
+  abbrev wrong_kind : Bool
+  wrong_kind = not (suits (kind_of (tree_at trees b) k))
+
+  abbrev not_planar : Bool
+  not_planar = not (is_planar (entry_at s.present b))
+
+  pub node-facts : (rest : Ladder) → first_code (node_ladder suits trees b k s ++ rest) ≡ None → NodeFacts suits trees b k s × (first_code rest ≡ None)
+  node-facts rest e =
+      let one = rung-none NoBlock no_block ((NoNode, no_node) ∷ (WrongKind, wrong_kind) ∷ (NonPlanar, not_planar) ∷ rest) e in
+      let two = rung-none NoNode no_node ((WrongKind, wrong_kind) ∷ (NonPlanar, not_planar) ∷ rest) one.1 in
+      let three = rung-none WrongKind wrong_kind ((NonPlanar, not_planar) ∷ rest) two.1 in
+      let four = rung-none NonPlanar not_planar rest three.1 in
+      let p = planar-entry (entry_at s.present b) four.0 in
+      (
+        record {
+          block = in-block trees b one.0;
+          node = ltb-true k (length (tree_at trees b).nodes) (held (is_node (tree_at trees b) k) two.0);
+          kind = held (suits (kind_of (tree_at trees b) k)) three.0;
+          entry = p.0;
+          present = p.1;
+        },
+        four.1,
+      )
+
+-- ---- one change
+
+-- what is told of the entry of a family
+pub entry-within : (family : Family) (b : ℕ) (e : Embedding) → entry_at family b ≡ Some e → b < length family.entries
+entry-within family b e p = elim (cases_lt b (length family.entries)) [
+  | inl l ↦ l
+  | inr n ↦ absurd (let both : None ≡ Some e = sym (get_or_past family.entries b None (let m : length family.entries ≤ b = omega (arith, n) in m)) ∙ p in cc)
+]
+
+module _ (IsChange : BlockTree → Embedding → Embedding → List ℕ → Type 0) (trees : List BlockTree) (b : ℕ) (s : State) where
+  -- the change is one, if it is so of each embedding
+  pub change-does : ((old new other : Embedding) (t u : List ℕ) → entry_at s.present b ≡ Some old → IsChange (tree_at trees b) old new t → IsChange (tree_at trees b) old other u → (new ≡ other) × (t ≡ u)) → DoesOne (ChangesBlock trees b IsChange) s
+  change-does one t u after other p q =
+      let same : p.old ≡ q.old = entry-same (entry_at s.present b) p.old q.old p.present q.present in
+      let h = one q.old p.new q.new t u q.present (subst (λ (e : Embedding). IsChange (tree_at trees b) e p.new t) same p.change) q.change in
+      (h.1, p.after_is ∙ ap (changed s b) h.0 ∙ sym q.after_is)
+
+-- an entry of a family is set
+family-set : (setting : Setting) (family : Family) (b : ℕ) (e : Embedding) → IsFamily setting family → (b < length setting.trees → IsEntry (tree_at setting.trees b) (certificate_at setting.certificates b) (Some e)) → IsFamily setting (record { entries = set family.entries b (Some e) })
+family-set setting family b e is right = record {
+  one_each = length-set family.entries b (Some e) ∙ is.one_each;
+  each = λ j l. elim (cases_eq j b) [
+    | inl q ↦ subst (λ (o : Option Embedding). IsEntry (tree_at setting.trees j) (certificate_at setting.certificates j) o) (sym (here j l q))
+        (subst (λ (i : ℕ). IsEntry (tree_at setting.trees i) (certificate_at setting.certificates i) (Some e)) (sym q) (right (subst (λ (i : ℕ). i < length setting.trees) q l)))
+    | inr n ↦ subst (λ (o : Option Embedding). IsEntry (tree_at setting.trees j) (certificate_at setting.certificates j) o) (sym (get_or-set_other family.entries b j (Some e) None n)) (is.each j l)
+  ];
+}
+  where
+    here : (j : ℕ) → j < length setting.trees → j ≡ b → slice_index_or (set family.entries b (Some e)) j None ≡ Some e
+    here j l q = subst (λ (i : ℕ). slice_index_or (set family.entries b (Some e)) i None ≡ Some e) (sym q) (get_or-set_same family.entries b (Some e) None (omega (arith, l, q, is.one_each)))
+
+-- an entry where there is one before
+entry-along : (tree : BlockTree) (certificate : Option Subdivision) (old new : Embedding) → IsEntry tree certificate (Some old) → IsEntry tree None (Some new) → IsEntry tree certificate (Some new)
+entry-along tree None old new p q = q
+entry-along tree (Some c) old new p q = absurd p
+
+-- a state whose embedding is changed to a right one is a state
+pub change-keeps : (IsChange : BlockTree → Embedding → Embedding → List ℕ → Type 0) (setting : Setting) (b : ℕ) (s : State) (text : List ℕ) (after : State) → IsState setting s → ChangesBlock setting.trees b IsChange s text after
+    → ((old new : Embedding) (t : List ℕ) → b < length setting.trees → entry_at s.present b ≡ Some old → IsEntry (tree_at setting.trees b) None (Some old) → IsChange (tree_at setting.trees b) old new t → IsEntry (tree_at setting.trees b) None (Some new))
+    → IsState setting after
+change-keeps IsChange setting b s text after is c keeps = subst (IsState setting) (sym c.after_is) (record {
+  present = family-set setting s.present b c.new is.present right;
+  earlier = All-cons (IsFamily setting) s.present s.earlier is.present is.earlier;
+  later = All-nil (IsFamily setting);
+})
+  where
+    plain : (certificate : Option Subdivision) → IsEntry (tree_at setting.trees b) certificate (Some c.old) → IsEntry (tree_at setting.trees b) None (Some c.old)
+    plain None p = p
+    plain (Some x) p = absurd p
+
+    right : b < length setting.trees → IsEntry (tree_at setting.trees b) (certificate_at setting.certificates b) (Some c.new)
+    right l =
+        let old : IsEntry (tree_at setting.trees b) (certificate_at setting.certificates b) (Some c.old) =
+        subst (λ (o : Option Embedding). IsEntry (tree_at setting.trees b) (certificate_at setting.certificates b) o) c.present (is.present.each b l) in
+        entry-along (tree_at setting.trees b) (certificate_at setting.certificates b) c.old c.new old (keeps c.old c.new text l c.present (plain (certificate_at setting.certificates b) old) c.change)
+
+-- the entry of a block of a state, where there is one
+pub entry-right : (setting : Setting) (s : State) (b : ℕ) (e : Embedding) → IsState setting s → b < length setting.trees → entry_at s.present b ≡ Some e → IsEntry (tree_at setting.trees b) None (Some e)
+entry-right setting s b e is l p = plain (certificate_at setting.certificates b) (subst (λ (o : Option Embedding). IsEntry (tree_at setting.trees b) (certificate_at setting.certificates b) o) p (is.present.each b l))
+  where
+    plain : (certificate : Option Subdivision) → IsEntry (tree_at setting.trees b) certificate (Some e) → IsEntry (tree_at setting.trees b) None (Some e)
+    plain None q = q
+    plain (Some x) q = absurd q
+
+-- a block has an entry within its trees
+pub entry-block : (setting : Setting) (s : State) (b : ℕ) (e : Embedding) → IsState setting s → entry_at s.present b ≡ Some e → b < length setting.trees
+entry-block setting s b e is p = subst (λ (n : ℕ). b < n) is.present.one_each (entry-within s.present b e p)
+
+-- `ok` is one answer
+pub silently-one : (IsChange : BlockTree → Embedding → Embedding → Type 0) (tree : BlockTree) (old new other : Embedding) (t u : List ℕ) → (IsChange tree old new → IsChange tree old other → new ≡ other) → Silently IsChange tree old new t → Silently IsChange tree old other u → (new ≡ other) × (t ≡ u)
+silently-one IsChange tree old new other t u one p q = (one p.0 q.0, p.1 ∙ sym q.1)
+
+-- embeddings are the same where rotation systems and locks are
+pub embedding-same : (a b : Embedding) → a.rotation ≡ b.rotation → a.locks ≡ b.locks → a ≡ b
+embedding-same a b r l = λ i. record { rotation = r i; locks = l i }

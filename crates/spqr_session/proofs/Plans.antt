@@ -1,0 +1,105 @@
+-- Plans of commands that change a block: how they are found, and what comes of them.
+use Rattle.std.proofs.Common.{◌≡◌, ◌≢◌, ℕ, zero, suc, ◌<◌, ◌≤◌, Bool, true, false, not, List, [], ◌∷◌, ◌++◌, length, map, set, slice_index_or, Option, None, Some, Result, Ok, Err, IfOk, OnErr, refl, sym, ap, ◌∙◌, subst, arith}
+use Rattle.std.specs.Global.{Vec}
+use Rattle.std.proofs.lemmas.List.{length-map, map-set}
+use Rattle.std.proofs.Math.Seq.{map-set_same}
+use Rattle.pair_split.specs.Tutte.{Node}
+use Rattle.skeletons.specs.Moves.{Move, MoveLeads}
+use Rattle.skel_embed.specs.Block.{BlockState, lock_at}
+use Rattle.embed_moves.specs.Made.{IsMade}
+use Rattle.spqr_script.specs.Answers.Change.{ok_text}
+use Rattle.kuratowski.specs.declared.subdivision.Subdivision.{Subdivision}
+use Rattle.spqr_session.specs.Trees.{BlockTree, no_tree, tree_at}
+use Rattle.spqr_session.specs.State.{Embedding, Family, State, entry_at}
+use Rattle.spqr_session.specs.Embedded.{BlockView, view_tree, view_certificate, view_entry, view_at, no_view}
+use Rattle.spqr_session.specs.Board.{BoardView, family_on, board_state, embedded_at, changed_board, IsCarried}
+use Rattle.spqr_session.specs.Codes.{Ladder, rises_above, first_code, code_text, Applies, Carries}
+use Rattle.spqr_session.specs.BlockCodes.{is_block, ChangesBlock, changed, Silently, ChangeStep}
+use Rattle.spqr_session.specs.Planned.{embedding_of, FitsBlock, IsChangeOf, IsPlan, IsPlanAt, IsMovePlan, MayStand, IsSettled}
+use Rattle.spqr_session.specs.declared.code.Code.{Code}
+use Rattle.spqr_session.specs.declared.code.Code.TheVariants.{NoBlock}
+use Rattle.spqr_session.specs.declared.planned.Planned.{Planned}
+use Rattle.spqr_session.specs.declared.planned.Planned.TheVariants.{Refused, End, Change}
+use Rattle.spqr_session.proofs.Views.{trees-at, certificates-at, entries-at}
+use Rattle.spqr_session.proofs.Steps.{text-map}
+use Rattle.spqr_session.proofs.Ladders.{rung-hit, rung-missed, refused-first, carried-out}
+use Rattle.spqr_session.proofs.BlockCarried.{block-in, block-out}
+
+-- ---- from the block to the blocks
+
+-- the tree and the entry of a block in a state of these blocks
+pub present-at : (views : List BlockView) (s : State) (b : ℕ) → s.present ≡ family_on views → entry_at s.present b ≡ (view_at views b).entry
+present-at views s b e = ap (λ (f : Family). entry_at f b) e ∙ entries-at views b
+
+module _ (codes : BlockTree → Option Embedding → Ladder) (IsChange : BlockTree → Embedding → Embedding → Type 0) (views : List BlockView) (b : ℕ) (s : State) (present : s.present ≡ family_on views) where
+  abbrev whole : Ladder
+  whole = (NoBlock, not (is_block (map view_tree views) b)) ∷ codes (tree_at (map view_tree views) b) (entry_at s.present b)
+
+  -- there is no such block
+  pub plan-missed : length views ≤ b → IsPlanAt whole IsChange views b (Refused NoBlock)
+  plan-missed l = rung-hit NoBlock (not (is_block (map view_tree views) b)) (codes (tree_at (map view_tree views) b) (entry_at s.present b))
+      (block-out (map view_tree views) b (let m : length (map view_tree views) ≤ b = omega (arith, l, length-map views view_tree) in m))
+
+  -- the block that is found at its place
+  pub plan-found : (v : BlockView) (planned : Planned) → b < length views → v ≡ view_at views b → IsPlan (codes v.tree v.entry) IsChange v planned → IsPlanAt whole IsChange views b planned
+  plan-found v planned l at p = by planned (subst (λ (x : BlockView). IsPlan (codes x.tree x.entry) IsChange x planned) at p)
+    where
+      here : (o : Option Code) → first_code (codes (view_at views b).tree (view_at views b).entry) ≡ o → first_code whole ≡ o
+      here o e = rung-missed NoBlock (not (is_block (map view_tree views) b)) (codes (tree_at (map view_tree views) b) (entry_at s.present b)) o
+          (block-in (map view_tree views) b (let m : b < length (map view_tree views) = omega (arith, l, length-map views view_tree) in m))
+          (ap (λ (t : BlockTree). first_code (codes t (entry_at s.present b))) (trees-at views b) ∙ ap (λ (x : Option Embedding). first_code (codes (view_at views b).tree x)) (present-at views s b present) ∙ e)
+
+      by : (planned : Planned) → IsPlan (codes (view_at views b).tree (view_at views b).entry) IsChange (view_at views b) planned → IsPlanAt whole IsChange views b planned
+      by (Refused code) q = here (Some code) q
+      by End q = absurd q
+      by (Change x) q = (l, here None q.0, q.1)
+
+-- ---- what comes of a plan
+
+-- a plan may be put on the board
+pub plan-stands : (ladder : Ladder) (IsChange : BlockTree → Embedding → Embedding → Type 0) (views : List BlockView) (b : ℕ) (planned : Planned) → IsPlanAt ladder IsChange views b planned → MayStand views b planned
+plan-stands ladder IsChange views b (Refused code) p = tt
+plan-stands ladder IsChange views b End p = absurd p
+plan-stands ladder IsChange views b (Change x) p = (p.0, p.2.0)
+
+-- what is seen of a changed board
+pub changed-seen : (board : BoardView) (b : ℕ) (e : Embedding) → board_state (changed_board board b e) ≡ changed (board_state board) b e
+changed-seen board b e =
+    let entries = map-set view_entry board.views b (record { tree = (view_at board.views b).tree; certificate = (view_at board.views b).certificate; entry = Some e }) in
+    λ i. record { present = record { entries = entries i }; earlier = family_on board.views ∷ board.earlier; later = [] }
+
+pub changed-carried : (views : List BlockView) (b : ℕ) (e : Embedding) → IsCarried views (embedded_at views b e)
+changed-carried views b e =
+    let v : BlockView = record { tree = (view_at views b).tree; certificate = (view_at views b).certificate; entry = Some e } in
+    record { trees = map-set_same view_tree views b v no_view refl; certificates = map-set_same view_certificate views b v no_view refl }
+
+nothing-carried : (views : List BlockView) → IsCarried views views
+nothing-carried views = record { trees = refl; certificates = refl }
+
+module _ (ladder : Ladder) (r : rises_above 0 ladder ≡ true) (IsChange : BlockTree → Embedding → Embedding → Type 0) (b : ℕ) (before after : BoardView) where
+  -- what a settled plan does is a step
+  pub settled-step : (planned : Planned) (text : List ℕ) → IsPlanAt ladder IsChange before.views b planned → IsSettled b planned before text after
+      → ChangeStep ladder (Silently IsChange) (map view_tree before.views) b (board_state before) text (board_state after)
+  settled-step (Refused code) text p q =
+      subst (λ (s : State). ChangeStep ladder (Silently IsChange) (map view_tree before.views) b (board_state before) text s) (sym (ap board_state q.1))
+      (refused-first ladder r (ChangesBlock (map view_tree before.views) b (Silently IsChange)) (board_state before) code text p q.0)
+  settled-step End text p q = absurd p
+  settled-step (Change x) text p q =
+      carried-out ladder r (ChangesBlock (map view_tree before.views) b (Silently IsChange)) (board_state before) text (board_state after) p.1 (record {
+        old = p.2.0.old;
+        present = entries-at before.views b ∙ p.2.0.present;
+        new = embedding_of x;
+        change = (subst (λ (t : BlockTree). IsChange t p.2.0.old (embedding_of x)) (sym (trees-at before.views b)) p.2.1, q.0);
+        after_is = ap board_state q.1 ∙ changed-seen before b (embedding_of x);
+      })
+
+-- trees and certificates stay
+pub settled-carried : (b : ℕ) (planned : Planned) (before after : BoardView) (text : List ℕ) → IsSettled b planned before text after → IsCarried before.views after.views
+settled-carried b (Refused code) before after text q = subst (λ (x : BoardView). IsCarried before.views x.views) (sym q.1) (nothing-carried before.views)
+settled-carried b End before after text q = subst (λ (x : BoardView). IsCarried before.views x.views) (sym q.1) (nothing-carried before.views)
+settled-carried b (Change x) before after text q = subst (λ (y : BoardView). IsCarried before.views y.views) (sym q.1) (changed-carried before.views b (embedding_of x))
+
+-- they do, whether memory sufficed or not
+pub either-carried : {E : Type 0} (r : Result (Vec ℕ) E) (b : ℕ) (planned : Planned) (before after : BoardView) → IfOk r (λ text. IsSettled b planned before text.items after) → OnErr r (after ≡ before) → IsCarried before.views after.views
+either-carried (Ok text) b planned before after h e = settled-carried b planned before after text.items h
+either-carried (Err x) b planned before after h e = subst (λ (y : BoardView). IsCarried before.views y.views) (sym e) (nothing-carried before.views)

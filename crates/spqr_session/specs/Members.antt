@@ -1,0 +1,43 @@
+-- The list of the plane rotation systems of a block that have the present choices at its locked nodes, and how an embedding
+-- stands in it.
+use Rattle.std.specs.Prelude.{◌≡◌, ℕ, ◌+◌, ◌^◌, Bool, not, nat_lt, List, [], ◌∷◌, ◌++◌, length}
+use Rattle.skeletons.specs.Lists.{IsKeptList, IsRank, list_count}
+use Rattle.skel_embed.specs.Block.{lock_at}
+use Rattle.spqr_session.specs.Trees.{BlockTree}
+use Rattle.spqr_session.specs.State.{Embedding}
+use Rattle.spqr_session.specs.Codes.{Ladder}
+use Rattle.spqr_session.specs.declared.code.Code.TheVariants.{CountOver, RankOut}
+
+-- the list: all plane rotation systems with the choices of e at its locked nodes, in order
+abbrev pub AreMembers : BlockTree → Embedding → List (List (List ℕ)) → Type 0
+AreMembers tree e l = IsKeptList tree.part.graph tree.nodes (lock_at e.locks) e.rotation l
+
+-- how many they are: a product over the nodes that are not locked
+abbrev pub member_count : BlockTree → Embedding → ℕ
+member_count tree e = list_count tree.nodes (lock_at e.locks)
+
+-- whether a number is 2^128 or more
+abbrev pub is_over : ℕ → Bool
+is_over n = not (nat_lt n (2 ^ 128))
+
+-- code 10: there are 2^128 members or more
+abbrev pub count_codes : BlockTree → Embedding → Ladder
+count_codes tree e = (CountOver, is_over (member_count tree e)) ∷ []
+
+-- code 10, and 11: the rank is not below the length of the list
+abbrev pub rank_codes : ℕ → BlockTree → Embedding → Ladder
+rank_codes r tree e = (CountOver, is_over (member_count tree e)) ∷ (RankOut (member_count tree e), not (nat_lt r (member_count tree e))) ∷ []
+
+-- the new embedding is the member at this rank, with the locks of the old one
+pub record StandsAt (r : ℕ) (tree : BlockTree) (old new : Embedding) : Type 0 where
+  pub rank : (l : List (List (List ℕ))) → AreMembers tree old l → IsRank l new.rotation r
+  pub locks : new.locks ≡ old.locks
+
+-- the new embedding is the member behind the old one, with its locks
+pub record StandsBehind (tree : BlockTree) (old new : Embedding) : Type 0 where
+  pub next : (l : List (List (List ℕ))) (k : ℕ) → AreMembers tree old l → IsRank l old.rotation k → IsRank l new.rotation (k + 1)
+  pub locks : new.locks ≡ old.locks
+
+-- the embedding is the last member
+abbrev pub StandsLast : BlockTree → Embedding → Type 0
+StandsLast tree e = (l : List (List (List ℕ))) (k : ℕ) → AreMembers tree e l → IsRank l e.rotation k → length l ≡ k + 1

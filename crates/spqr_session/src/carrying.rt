@@ -1,0 +1,54 @@
+// Carrying out a command.
+ghost use Rattle.std.specs.Prelude.{◌≡◌, map, IfOk, OnErr};
+ghost use Rattle.spqr_session.specs.Setting.{Setting};
+ghost use Rattle.spqr_session.specs.Embedded.{view_tree};
+ghost use Rattle.spqr_session.specs.Board.{board_state, IsCarried};
+ghost use Rattle.spqr_session.specs.Step.{Step};
+
+use crate::board::Board;
+use crate::commands::{
+    carry_convert_rank, carry_convert_to, carry_count, carry_euler, carry_faces, carry_first,
+    carry_flip, carry_gml, carry_goto, carry_list, carry_lock, carry_mirror, carry_next,
+    carry_permute, carry_rank, carry_redo, carry_show, carry_take, carry_undo,
+};
+use gml_text::Doc;
+use multigraph::Graph;
+use spqr_script::Command;
+use std::alloc::{AllocError, Global};
+
+/// Carries out a command on the blocks of a graph, and gives its answer. Without memory the board stays as it was.
+pub(crate) fn carry_out(
+    alloc: Global,
+    doc: &Doc,
+    graph: &Graph,
+    board: &mut Board,
+    command: &Command,
+) -> Result<Vec<u8>, AllocError>
+    ensures step { (setting : Setting) → setting.document ≡ doc.now → setting.named.graph ≡ graph.now → setting.trees ≡ map view_tree board.old.views
+        → IfOk result (λ text. Step setting (board_state board.old) command.now text.items (board_state board.new)) }
+    ensures setting { IsCarried board.old.views board.new.views }
+    ensures memory { OnErr result (board.new ≡ board.old) }
+{
+    match command {
+        Command::Euler(lists) => carry_euler(alloc, graph, lists),
+        Command::Show(b) => carry_show(alloc, board.blocks(), *b),
+        Command::Faces(b) => carry_faces(alloc, board.blocks(), *b),
+        Command::Flip(b, k) => carry_flip(alloc, board, *b, *k),
+        Command::Permute(b, k, keys) => carry_permute(alloc, board, *b, *k, keys.as_slice()),
+        Command::Mirror(b) => carry_mirror(alloc, board, *b),
+        Command::First(b) => carry_first(alloc, board, *b),
+        Command::Next(b) => carry_next(alloc, board, *b),
+        Command::List(b, n) => carry_list(alloc, board.blocks(), *b, *n),
+        Command::Goto(b, r) => carry_goto(alloc, board, *b, *r),
+        Command::ConvertRank(b, r) => carry_convert_rank(alloc, board, *b, *r),
+        Command::ConvertTo(b, lists) => carry_convert_to(alloc, board, *b, lists),
+        Command::Take(b, lists) => carry_take(alloc, board, *b, lists),
+        Command::Undo => carry_undo(alloc, board),
+        Command::Redo => carry_redo(alloc, board),
+        Command::Gml => carry_gml(alloc, doc),
+        Command::Count(b) => carry_count(alloc, board.blocks(), *b),
+        Command::Rank(b) => carry_rank(alloc, board.blocks(), *b),
+        Command::Lock(b, k) => carry_lock(alloc, board, *b, *k, true),
+        Command::Unlock(b, k) => carry_lock(alloc, board, *b, *k, false),
+    }
+}

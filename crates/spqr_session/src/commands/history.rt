@@ -1,0 +1,37 @@
+// `undo` and `redo`: the families before and after.
+ghost use Rattle.std.specs.Prelude.{◌≡◌, IfOk, OnErr};
+ghost use Rattle.spqr_session.specs.Board.{board_state, IsCarried};
+ghost use Rattle.spqr_session.specs.Commands.History.{UndoStep, RedoStep};
+
+use crate::board::Board;
+use crate::code::Code;
+use spqr_script::ok_line;
+use std::alloc::{AllocError, Global};
+
+/// Carries out `undo`: the nearest earlier family is the present one, or code 8. Without memory the board stays as it was.
+pub(crate) fn carry_undo(alloc: Global, board: &mut Board) -> Result<Vec<u8>, AllocError>
+    ensures step { IfOk result (λ text. UndoStep (board_state board.old) text.items (board_state board.new)) }
+    ensures setting { IsCarried board.old.views board.new.views }
+    ensures memory { OnErr result (board.new ≡ board.old) }
+{
+    if !board.can_undo() {
+        return Code::NothingToUndo.line(alloc);
+    }
+    let text = ok_line(alloc)?;
+    board.undo();
+    Ok(text)
+}
+
+/// Carries out `redo`: the nearest later family is the present one, or code 9. Without memory the board stays as it was.
+pub(crate) fn carry_redo(alloc: Global, board: &mut Board) -> Result<Vec<u8>, AllocError>
+    ensures step { IfOk result (λ text. RedoStep (board_state board.old) text.items (board_state board.new)) }
+    ensures setting { IsCarried board.old.views board.new.views }
+    ensures memory { OnErr result (board.new ≡ board.old) }
+{
+    if !board.can_redo() {
+        return Code::NothingToRedo.line(alloc);
+    }
+    let text = ok_line(alloc)?;
+    board.redo();
+    Ok(text)
+}

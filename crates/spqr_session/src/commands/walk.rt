@@ -1,0 +1,178 @@
+// `first B`, `goto B R` and `next B`: along the list of a block.
+ghost use Rattle.std.specs.Prelude.{◌≡◌, ◌<◌, ◌^◌, map, IfOk, OnErr};
+ghost use Rattle.spqr_session.specs.State.{State};
+ghost use Rattle.spqr_session.specs.Embedded.{view_tree};
+ghost use Rattle.spqr_session.specs.Members.{rank_codes, StandsAt};
+ghost use Rattle.spqr_session.specs.BlockCodes.{planar_codes, block_ladder, entry_codes, read_ladder};
+ghost use Rattle.spqr_session.specs.Board.{family_on, board_state, IsCarried};
+ghost use Rattle.spqr_session.specs.Planned.{IsPlan, IsPlanAt, IsFirstPlan, IsRankPlan, IsNextPlan, IsNextPlanAt, IsStepPlan};
+ghost use Rattle.spqr_session.specs.Commands.Walk.{FirstStep, GotoStep, NextStep};
+
+use crate::board::Board;
+use crate::code::Code;
+use crate::embedded::EmbeddedBlock;
+use crate::planned::{Planned, settle};
+use embed_enum::{GotoFault, first, goto, next};
+use skel_embed::{Outcome, PlaneBlock};
+use std::alloc::{AllocError, Global};
+
+// ---- first
+
+// The plan for a block in the plane: made on a copy.
+fn first_of_plane(alloc: Global, plane: &PlaneBlock) -> Result<Planned, AllocError>
+    ensures { IfOk result (IsFirstPlan plane.now) }
+{
+    let mut copy = plane.copy(alloc)?;
+    first(&mut copy);
+    Ok(Planned::Change(copy))
+}
+
+// The plan for a block.
+fn first_of_block(alloc: Global, block: &EmbeddedBlock) -> Result<Planned, AllocError>
+    ensures { IfOk result (IsPlan (planar_codes block.now.entry) (StandsAt 0) block.now) }
+{
+    match block.outcome() {
+        Outcome::Plane(plane) => first_of_plane(alloc, plane),
+        Outcome::Not(_, _, _) => Ok(Planned::Refused(Code::NonPlanar)),
+    }
+}
+
+// The plan for block `b`.
+fn plan_first(alloc: Global, blocks: &[EmbeddedBlock], b: u32) -> Result<Planned, AllocError>
+    ensures { (s : State) → s.present ≡ family_on blocks.now
+        → IfOk result (IsPlanAt (block_ladder (map view_tree blocks.now) b s) (StandsAt 0) blocks.now b) }
+{
+    match blocks.get(b as usize) {
+        Some(block) => first_of_block(alloc, block),
+        None => Ok(Planned::Refused(Code::NoBlock)),
+    }
+}
+
+/// Carries out `first`: to the first member of the block's list, or code 1 or 5. Without memory the board stays as it was.
+pub(crate) fn carry_first(
+    alloc: Global,
+    board: &mut Board,
+    b: u32,
+) -> Result<Vec<u8>, AllocError>
+    ensures step { IfOk result (λ text.
+        FirstStep (map view_tree board.old.views) b (board_state board.old) text.items (board_state board.new)) }
+    ensures setting { IsCarried board.old.views board.new.views }
+    ensures memory { OnErr result (board.new ≡ board.old) }
+{
+    let planned = plan_first(alloc, board.blocks(), b)?;
+    settle(alloc, board, b, planned)
+}
+
+// ---- goto
+
+// The refusal of a rank that is not below the count, which is below 2^128 as every number of its type.
+fn rank_out(count: u128) -> Planned
+    ensures plan { result ≡ Planned.Refused (Code.RankOut count) }
+    ensures below { count < 2 ^ 128 }
+{
+    Planned::Refused(Code::RankOut(count))
+}
+
+// The plan for a block in the plane: made on a copy.
+fn rank_of_plane(alloc: Global, plane: &PlaneBlock, r: u128) -> Result<Planned, AllocError>
+    ensures { IfOk result (IsRankPlan r plane.now) }
+{
+    let mut copy = plane.copy(alloc)?;
+    match goto(&mut copy, r) {
+        Ok(()) => Ok(Planned::Change(copy)),
+        Err(fault) => match fault {
+            GotoFault::CountOver => Ok(Planned::Refused(Code::CountOver)),
+            GotoFault::RankOut(count) => Ok(rank_out(count)),
+        },
+    }
+}
+
+// The plan for a block.
+fn rank_of_block(alloc: Global, block: &EmbeddedBlock, r: u128) -> Result<Planned, AllocError>
+    ensures { IfOk result (IsPlan (entry_codes (rank_codes r) block.now.tree block.now.entry) (StandsAt r) block.now) }
+{
+    match block.outcome() {
+        Outcome::Plane(plane) => rank_of_plane(alloc, plane, r),
+        Outcome::Not(_, _, _) => Ok(Planned::Refused(Code::NonPlanar)),
+    }
+}
+
+/// The plan for block `b` to stand at the member of this rank.
+pub(crate) fn plan_rank(
+    alloc: Global,
+    blocks: &[EmbeddedBlock],
+    b: u32,
+    r: u128,
+) -> Result<Planned, AllocError>
+    ensures { (s : State) → s.present ≡ family_on blocks.now
+        → IfOk result (IsPlanAt (read_ladder (rank_codes r) (map view_tree blocks.now) b s) (StandsAt r) blocks.now b) }
+{
+    match blocks.get(b as usize) {
+        Some(block) => rank_of_block(alloc, block, r),
+        None => Ok(Planned::Refused(Code::NoBlock)),
+    }
+}
+
+/// Carries out `goto`: to the member of this rank in the block's list, or code 1, 5, 10 or 11. Without memory the board stays
+/// as it was.
+pub(crate) fn carry_goto(
+    alloc: Global,
+    board: &mut Board,
+    b: u32,
+    r: u128,
+) -> Result<Vec<u8>, AllocError>
+    ensures step { IfOk result (λ text.
+        GotoStep (map view_tree board.old.views) b r (board_state board.old) text.items (board_state board.new)) }
+    ensures setting { IsCarried board.old.views board.new.views }
+    ensures memory { OnErr result (board.new ≡ board.old) }
+{
+    let planned = plan_rank(alloc, board.blocks(), b, r)?;
+    settle(alloc, board, b, planned)
+}
+
+// ---- next
+
+// The plan for a block in the plane: made on a copy.
+fn next_of_plane(alloc: Global, plane: &PlaneBlock) -> Result<Planned, AllocError>
+    ensures { IfOk result (IsStepPlan plane.now) }
+{
+    let mut copy = plane.copy(alloc)?;
+    if next(&mut copy) {
+        Ok(Planned::Change(copy))
+    } else {
+        Ok(Planned::End)
+    }
+}
+
+// The plan for a block.
+fn next_of_block(alloc: Global, block: &EmbeddedBlock) -> Result<Planned, AllocError>
+    ensures { IfOk result (IsNextPlan block.now) }
+{
+    match block.outcome() {
+        Outcome::Plane(plane) => next_of_plane(alloc, plane),
+        Outcome::Not(_, _, _) => Ok(Planned::Refused(Code::NonPlanar)),
+    }
+}
+
+// The plan for block `b`.
+fn plan_next(alloc: Global, blocks: &[EmbeddedBlock], b: u32) -> Result<Planned, AllocError>
+    ensures { (s : State) → s.present ≡ family_on blocks.now
+        → IfOk result (IsNextPlanAt (block_ladder (map view_tree blocks.now) b s) blocks.now b) }
+{
+    match blocks.get(b as usize) {
+        Some(block) => next_of_block(alloc, block),
+        None => Ok(Planned::Refused(Code::NoBlock)),
+    }
+}
+
+/// Carries out `next`: to the member behind the present one, or `end` at the last, where nothing changes, or code 1 or 5.
+/// Without memory the board stays as it was.
+pub(crate) fn carry_next(alloc: Global, board: &mut Board, b: u32) -> Result<Vec<u8>, AllocError>
+    ensures step { IfOk result (λ text.
+        NextStep (map view_tree board.old.views) b (board_state board.old) text.items (board_state board.new)) }
+    ensures setting { IsCarried board.old.views board.new.views }
+    ensures memory { OnErr result (board.new ≡ board.old) }
+{
+    let planned = plan_next(alloc, board.blocks(), b)?;
+    settle(alloc, board, b, planned)
+}
