@@ -1,6 +1,6 @@
 // The history.
 
-ghost use Rattle.std.specs.Prelude.{◌≡◌, ◌+◌, ◌-◌, ◌<◌, ◌≤◌, ⊤, false, [], length, is_ok, IfOk, MatchBool, MatchResult};
+ghost use Rattle.std.specs.Prelude.{◌≡◌, ◌+◌, ◌-◌, ◌<◌, ◌≤◌, ⊤, false, nat_lt, [], length, is_ok, IfOk, MatchBool, MatchResult};
 ghost use Rattle.undo_log.specs.History.{HasRoom, Noted, IsStepAt, WentBack, NoneBefore, WentOn, NoneAfter};
 
 use crate::step::Step;
@@ -97,6 +97,20 @@ impl UndoLog {
         } else {
             Err(NothingToRedo)
         }
+    }
+
+    /// Whether there is a step before the cursor.
+    pub fn can_undo(&self) -> bool
+        ensures { result ≡ nat_lt 0 self.now.cursor }
+    {
+        self.cursor > 0
+    }
+
+    /// Whether there is a step after the cursor.
+    pub fn can_redo(&self) -> bool
+        ensures { result ≡ nat_lt self.now.cursor (length self.now.steps) }
+    {
+        self.cursor < self.steps.len()
     }
 
     // Goes back over a step, and whether there was one.
