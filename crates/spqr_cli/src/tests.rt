@@ -1,6 +1,8 @@
 // Worked runs, over devices in memory.
 ghost use Rattle.std.specs.Prelude.{◌<◌, None};
 
+mod commands;
+
 use crate::run::run;
 use crate::status::Status;
 use spqr_edge::{Failed, MemFile, MemShelf, MemSink, Sink};

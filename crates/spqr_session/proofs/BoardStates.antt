@@ -1,14 +1,27 @@
--- The state that a board shows, and what undo and redo make of it.
-use Rattle.std.proofs.Common.{◌≡◌, ℕ, ◌<◌, length, Some, refl, sym, ◌∙◌}
+-- The state that a board shows, and what locks, undo and redo make of it.
+use Rattle.std.proofs.Common.{◌≡◌, ℕ, ◌<◌, Bool, true, false, not, [], length, map, set, None, Some, refl, sym, ap, ◌∙◌, subst, arith}
+use Rattle.std.proofs.lemmas.List.{length-map}
 use Rattle.spqr_script.specs.Answers.Change.{ok_text}
+use Rattle.spqr_session.specs.Trees.{BlockTree, tree_at}
 use Rattle.spqr_session.specs.State.{Embedding, entry_at}
-use Rattle.spqr_session.specs.Commands.History.{Undoes, Redoes}
-use Rattle.spqr_session.specs.Board.{BoardView, board_state, IsUndone, IsRedone, StandsAt}
-use Rattle.spqr_session.proofs.Views.{entries-at}
+use Rattle.spqr_session.specs.Codes.{code_text, first_code}
+use Rattle.spqr_session.specs.declared.code.Code.{Code}
+use Rattle.spqr_session.specs.declared.code.Code.TheVariants.{NothingToUndo, NothingToRedo}
+use Rattle.spqr_session.specs.BlockCodes.{has_choices, node_ladder, ChangesBlock, Silently}
+use Rattle.spqr_session.specs.Embedded.{view_tree, view_at}
+use Rattle.spqr_session.specs.Commands.History.{is_none, undo_ladder, redo_ladder, Undoes, Redoes, UndoStep, RedoStep}
+use Rattle.spqr_session.specs.Commands.Lock.{IsLockSet, LockStep}
+use Rattle.spqr_session.specs.Board.{BoardView, board_state, changed_board, IsUndone, IsRedone, StandsAt}
+use Rattle.spqr_session.proofs.Views.{entries-at, trees-at}
+use Rattle.spqr_session.proofs.Ladders.{rung-hit, rung-missed, refused-first, carried-out}
+use Rattle.spqr_session.proofs.Changes.{NodeFacts, node-facts}
+use Rattle.spqr_session.proofs.Plans.{changed-seen}
 
 -- a block that is there stands at the entry of the state
 pub stands-at : (board : BoardView) (b : ℕ) (e : Embedding) → b < length board.views → entry_at (board_state board).present b ≡ Some e → StandsAt board.views b e
 stands-at board b e l p = record { within = l; entry = sym (entries-at board.views b) ∙ p }
+
+-- ---- undo and redo
 
 -- undo and redo are those of the state
 pub undone-state : (before after : BoardView) → IsUndone before after → Undoes (board_state before) ok_text (board_state after)
@@ -16,3 +29,57 @@ undone-state before after h = record { family = h.family; others = h.others; nea
 
 pub redone-state : (before after : BoardView) → IsRedone before after → Redoes (board_state before) ok_text (board_state after)
 redone-state before after h = record { family = h.family; others = h.others; nearest = h.nearest; after_is = λ i. record { present = h.stands i; earlier = h.earlier i; later = h.later i }; answer = refl }
+
+-- what is answered where nothing is earlier, or later
+pub undo-refused : (board : BoardView) (text : List ℕ) → is_none board.earlier ≡ true → text ≡ code_text NothingToUndo → UndoStep (board_state board) text (board_state board)
+undo-refused board text e t = refused-first (undo_ladder (board_state board)) refl Undoes (board_state board) NothingToUndo text (rung-hit NothingToUndo (is_none board.earlier) [] e) t
+
+pub redo-refused : (board : BoardView) (text : List ℕ) → is_none board.later ≡ true → text ≡ code_text NothingToRedo → RedoStep (board_state board) text (board_state board)
+redo-refused board text e t = refused-first (redo_ladder (board_state board)) refl Redoes (board_state board) NothingToRedo text (rung-hit NothingToRedo (is_none board.later) [] e) t
+
+-- and where something is
+pub undo-done : (before after : BoardView) (text : List ℕ) → is_none before.earlier ≡ false → IsUndone before after → text ≡ ok_text → UndoStep (board_state before) text (board_state after)
+undo-done before after text e h t =
+    carried-out (undo_ladder (board_state before)) refl Undoes (board_state before) text (board_state after) (rung-missed NothingToUndo (is_none before.earlier) [] None e refl)
+    (subst (λ (x : List ℕ). Undoes (board_state before) x (board_state after)) (sym t) (undone-state before after h))
+
+pub redo-done : (before after : BoardView) (text : List ℕ) → is_none before.later ≡ false → IsRedone before after → text ≡ ok_text → RedoStep (board_state before) text (board_state after)
+redo-done before after text e h t =
+    carried-out (redo_ladder (board_state before)) refl Redoes (board_state before) text (board_state after) (rung-missed NothingToRedo (is_none before.later) [] None e refl)
+    (subst (λ (x : List ℕ). Redoes (board_state before) x (board_state after)) (sym t) (redone-state before after h))
+
+-- ---- locks
+
+module _ (on : Bool) (board : BoardView) (b k : ℕ) where
+  -- the line of the first code that applies
+  pub lock-refused : (code : Code) (text : List ℕ) → first_code (node_ladder has_choices (map view_tree board.views) b k (board_state board)) ≡ Some code → text ≡ code_text code
+      → LockStep on (map view_tree board.views) b k (board_state board) text (board_state board)
+  lock-refused code text e t =
+      refused-first (node_ladder has_choices (map view_tree board.views) b k (board_state board)) refl (ChangesBlock (map view_tree board.views) b (Silently (IsLockSet k on))) (board_state board) code text e t
+
+  -- where none applies the block is there and planar, and has the node
+  lock-facts : first_code (node_ladder has_choices (map view_tree board.views) b k (board_state board)) ≡ None → NodeFacts has_choices (map view_tree board.views) b k (board_state board)
+  lock-facts none = (node-facts has_choices (map view_tree board.views) b k (board_state board) [] none).0
+
+  pub lock-stands : first_code (node_ladder has_choices (map view_tree board.views) b k (board_state board)) ≡ None → (e : Embedding) × StandsAt board.views b e
+  lock-stands none =
+      let f = lock-facts none in
+      (f.entry, stands-at board b f.entry (let l : b < length board.views = omega (arith, f.block, length-map board.views view_tree) in l) f.present)
+
+  pub lock-node : first_code (node_ladder has_choices (map view_tree board.views) b k (board_state board)) ≡ None → k < length (view_at board.views b).tree.nodes
+  lock-node none = subst (λ (t : BlockTree). k < length t.nodes) (trees-at board.views b) (lock-facts none).node
+
+  -- and the lock is set
+  pub lock-done : (after : BoardView) (text : List ℕ) → first_code (node_ladder has_choices (map view_tree board.views) b k (board_state board)) ≡ None
+      → ((e : Embedding) → StandsAt board.views b e → after ≡ changed_board board b (record { rotation = e.rotation; locks = set e.locks k on })) → text ≡ ok_text
+      → LockStep on (map view_tree board.views) b k (board_state board) text (board_state after)
+  lock-done after text none is t =
+      let f = lock-facts none in
+      let new : Embedding = record { rotation = f.entry.rotation; locks = set f.entry.locks k on } in
+      carried-out (node_ladder has_choices (map view_tree board.views) b k (board_state board)) refl (ChangesBlock (map view_tree board.views) b (Silently (IsLockSet k on))) (board_state board) text (board_state after) none (record {
+        old = f.entry;
+        present = f.present;
+        new = new;
+        change = (record { rotation = refl; locks = refl }, t);
+        after_is = ap board_state (is f.entry (lock-stands none).1) ∙ changed-seen board b new;
+      })

@@ -1,5 +1,5 @@
 -- Steps and chains of steps: there is one from each state, and one only; they keep to states; chains are joined.
-use Rattle.std.proofs.Common.{◌≡◌, ℕ, List, [], ◌∷◌, ◌++◌, refl, sym, ap, ◌∙◌, subst}
+use Rattle.std.proofs.Common.{◌≡◌, ℕ, true, false, List, [], ◌∷◌, ◌++◌, refl, sym, ap, ◌∙◌, subst}
 use Rattle.std.specs.List.{concat}
 use Rattle.gml_text.specs.Layout.{written}
 use Rattle.faces.specs.Trace.{face_lists}
@@ -7,7 +7,7 @@ use Rattle.spqr_script.specs.Answers.Gml.{document_text}
 use Rattle.spqr_script.specs.Answers.Rotation.{rotation_text}
 use Rattle.spqr_script.specs.Answers.Faces.{faces_text}
 use Rattle.spqr_script.specs.declared.command.Command.{Command}
-use Rattle.spqr_script.specs.declared.command.Command.TheVariants.{Euler, Gml, Show, Faces}
+use Rattle.spqr_script.specs.declared.command.Command.TheVariants as command
 use Rattle.spqr_session.specs.Trees.{tree_at}
 use Rattle.spqr_session.specs.Setting.{Setting, IsSetting}
 use Rattle.spqr_session.specs.State.{State, IsState, IsStart}
@@ -21,28 +21,81 @@ use Rattle.spqr_session.proofs.EulerCarried.{euler-answers, euler-one, euler-sta
 use Rattle.spqr_session.proofs.GmlCarried.{gml-done, gml-one, gml-stays}
 use Rattle.spqr_session.proofs.BlockCarried.{read-answers, read-one, read-stays}
 use Rattle.spqr_session.proofs.OneStart.{start-one}
+use Rattle.spqr_session.proofs.MovesCarried.{flip-answers, flip-one, flip-keeps, permute-answers, permute-one, permute-keeps, mirror-answers, mirror-one, mirror-keeps, lock-answers, lock-one, lock-keeps}
+use Rattle.spqr_session.proofs.HistoryCarried.{undo-answers, undo-one, undo-keeps, redo-answers, redo-one, redo-keeps}
+use Rattle.spqr_session.proofs.MembersCarried.{count-answers, count-one, count-keeps, rank-answers, rank-one, rank-keeps, list-answers, list-one, list-keeps, first-answers, first-one, first-keeps, goto-answers, goto-one, goto-keeps, next-answers, next-one, next-keeps}
+use Rattle.spqr_session.proofs.ConvertCarried.{convert_rank-answers, convert_rank-one, convert_rank-keeps, convert_to-answers, convert_to-one, convert_to-keeps}
+use Rattle.spqr_session.proofs.TakeCarried.{take-answers, take-one, take-keeps}
 
 -- each command has an answer in each state
 pub has-answer : (setting : Setting) (before : State) (command : Command) → IsSetting setting → IsState setting before → (text : List ℕ) × (after : State) × Step setting before command text after
-has-answer setting before (Euler entries) is right = euler-answers setting.named.graph entries before
-has-answer setting before Gml is right = (document_text (written setting.document), before, gml-done setting.document before (document_text (written setting.document)) refl)
-has-answer setting before (Show b) is right = read-answers no_more (λ tree e. refl) (IsShown b) setting.trees b before (λ l e p n. (rotation_text (tree_at setting.trees b).part b e.rotation, refl))
-has-answer setting before (Faces b) is right = read-answers no_more (λ tree e. refl) (IsFaced b) setting.trees b before (λ l e p n. (faces_text (tree_at setting.trees b).part b (face_lists (tree_at setting.trees b).part.graph e.rotation), refl))
+has-answer setting before (command.Euler entries) is right = euler-answers setting.named.graph entries before
+has-answer setting before command.Gml is right = (document_text (written setting.document), before, gml-done setting.document before (document_text (written setting.document)) refl)
+has-answer setting before (command.Show b) is right = read-answers no_more (λ tree e. refl) (IsShown b) setting.trees b before (λ l e p n. (rotation_text (tree_at setting.trees b).part b e.rotation, refl))
+has-answer setting before (command.Faces b) is right = read-answers no_more (λ tree e. refl) (IsFaced b) setting.trees b before (λ l e p n. (faces_text (tree_at setting.trees b).part b (face_lists (tree_at setting.trees b).part.graph e.rotation), refl))
+has-answer setting before (command.Flip b k) is right = flip-answers setting b k before is right
+has-answer setting before (command.Permute b k keys) is right = permute-answers setting b k keys before is right
+has-answer setting before (command.Mirror b) is right = mirror-answers setting b before is right
+has-answer setting before (command.Lock b k) is right = lock-answers setting true b k before is right
+has-answer setting before (command.Unlock b k) is right = lock-answers setting false b k before is right
+has-answer setting before command.Undo is right = undo-answers before
+has-answer setting before command.Redo is right = redo-answers before
+has-answer setting before (command.First b) is right = first-answers setting b before is right
+has-answer setting before (command.Next b) is right = next-answers setting b before is right
+has-answer setting before (command.List b n) is right = list-answers setting b before is right n
+has-answer setting before (command.Count b) is right = count-answers setting b before is right
+has-answer setting before (command.Rank b) is right = rank-answers setting b before is right
+has-answer setting before (command.Goto b r) is right = goto-answers setting b before is right r
+has-answer setting before (command.ConvertRank b r) is right = convert_rank-answers setting b r before is right
+has-answer setting before (command.ConvertTo b entries) is right = convert_to-answers setting b entries before is right
+has-answer setting before (command.Take b entries) is right = take-answers setting b entries before is right
 
 -- and one only
 pub one-answer : (setting : Setting) (before : State) (command : Command) (s t : List ℕ) (after other : State) → IsSetting setting → IsState setting before
     → Step setting before command s after → Step setting before command t other → (s ≡ t) × (after ≡ other)
-one-answer setting before (Euler entries) s t after other is right p q = euler-one setting.named.graph entries before s t after other p q
-one-answer setting before Gml s t after other is right p q = gml-one setting.document before s t after other p q
-one-answer setting before (Show b) s t after other is right p q = read-one no_more (λ tree e. refl) (IsShown b) setting.trees b before (λ e h t u x y. x ∙ sym y) s t after other p q
-one-answer setting before (Faces b) s t after other is right p q = read-one no_more (λ tree e. refl) (IsFaced b) setting.trees b before (λ e h t u x y. x ∙ sym y) s t after other p q
+one-answer setting before (command.Euler entries) s t after other is right p q = euler-one setting.named.graph entries before s t after other p q
+one-answer setting before command.Gml s t after other is right p q = gml-one setting.document before s t after other p q
+one-answer setting before (command.Show b) s t after other is right p q = read-one no_more (λ tree e. refl) (IsShown b) setting.trees b before (λ e h t u x y. x ∙ sym y) s t after other p q
+one-answer setting before (command.Faces b) s t after other is right p q = read-one no_more (λ tree e. refl) (IsFaced b) setting.trees b before (λ e h t u x y. x ∙ sym y) s t after other p q
+one-answer setting before (command.Flip b k) s t after other is right p q = flip-one setting b k before is right s t after other p q
+one-answer setting before (command.Permute b k keys) s t after other is right p q = permute-one setting b k keys before is right s t after other p q
+one-answer setting before (command.Mirror b) s t after other is right p q = mirror-one setting b before is right s t after other p q
+one-answer setting before (command.Lock b k) s t after other is right p q = lock-one setting true b k before is right s t after other p q
+one-answer setting before (command.Unlock b k) s t after other is right p q = lock-one setting false b k before is right s t after other p q
+one-answer setting before command.Undo s t after other is right p q = undo-one before s t after other p q
+one-answer setting before command.Redo s t after other is right p q = redo-one before s t after other p q
+one-answer setting before (command.First b) s t after other is right p q = first-one setting b before is right s t after other p q
+one-answer setting before (command.Next b) s t after other is right p q = next-one setting b before is right s t after other p q
+one-answer setting before (command.List b n) s t after other is right p q = list-one setting b before is right n s t after other p q
+one-answer setting before (command.Count b) s t after other is right p q = count-one setting b before is right s t after other p q
+one-answer setting before (command.Rank b) s t after other is right p q = rank-one setting b before is right s t after other p q
+one-answer setting before (command.Goto b r) s t after other is right p q = goto-one setting b before is right r s t after other p q
+one-answer setting before (command.ConvertRank b r) s t after other is right p q = convert_rank-one setting b r before is right s t after other p q
+one-answer setting before (command.ConvertTo b entries) s t after other is right p q = convert_to-one setting b entries before is right s t after other p q
+one-answer setting before (command.Take b entries) s t after other is right p q = take-one setting b entries before is right s t after other p q
 
 -- a step leads from a state to a state
 pub step-keeps : (setting : Setting) (before : State) (command : Command) (text : List ℕ) (after : State) → IsSetting setting → IsState setting before → Step setting before command text after → IsState setting after
-step-keeps setting before (Euler entries) text after is right p = subst (IsState setting) (sym (euler-stays setting.named.graph entries before text after p)) right
-step-keeps setting before Gml text after is right p = subst (IsState setting) (sym (gml-stays setting.document before text after p)) right
-step-keeps setting before (Show b) text after is right p = subst (IsState setting) (sym (read-stays no_more (λ tree e. refl) (IsShown b) setting.trees b before text after p)) right
-step-keeps setting before (Faces b) text after is right p = subst (IsState setting) (sym (read-stays no_more (λ tree e. refl) (IsFaced b) setting.trees b before text after p)) right
+step-keeps setting before (command.Euler entries) text after is right p = subst (IsState setting) (sym (euler-stays setting.named.graph entries before text after p)) right
+step-keeps setting before command.Gml text after is right p = subst (IsState setting) (sym (gml-stays setting.document before text after p)) right
+step-keeps setting before (command.Show b) text after is right p = subst (IsState setting) (sym (read-stays no_more (λ tree e. refl) (IsShown b) setting.trees b before text after p)) right
+step-keeps setting before (command.Faces b) text after is right p = subst (IsState setting) (sym (read-stays no_more (λ tree e. refl) (IsFaced b) setting.trees b before text after p)) right
+step-keeps setting before (command.Flip b k) text after is right p = flip-keeps setting b k before is right text after p
+step-keeps setting before (command.Permute b k keys) text after is right p = permute-keeps setting b k keys before is right text after p
+step-keeps setting before (command.Mirror b) text after is right p = mirror-keeps setting b before is right text after p
+step-keeps setting before (command.Lock b k) text after is right p = lock-keeps setting true b k before is right text after p
+step-keeps setting before (command.Unlock b k) text after is right p = lock-keeps setting false b k before is right text after p
+step-keeps setting before command.Undo text after is right p = undo-keeps setting before right text after p
+step-keeps setting before command.Redo text after is right p = redo-keeps setting before right text after p
+step-keeps setting before (command.First b) text after is right p = first-keeps setting b before is right text after p
+step-keeps setting before (command.Next b) text after is right p = next-keeps setting b before is right text after p
+step-keeps setting before (command.List b n) text after is right p = list-keeps setting b before is right n text after p
+step-keeps setting before (command.Count b) text after is right p = count-keeps setting b before is right text after p
+step-keeps setting before (command.Rank b) text after is right p = rank-keeps setting b before is right text after p
+step-keeps setting before (command.Goto b r) text after is right p = goto-keeps setting b before is right r text after p
+step-keeps setting before (command.ConvertRank b r) text after is right p = convert_rank-keeps setting b r before is right text after p
+step-keeps setting before (command.ConvertTo b entries) text after is right p = convert_to-keeps setting b entries before is right text after p
+step-keeps setting before (command.Take b entries) text after is right p = take-keeps setting b entries before is right text after p
 
 -- there is a chain from each state
 pub chain-exists : (setting : Setting) (before : State) (commands : List Command) → IsSetting setting → IsState setting before → (texts : List (List ℕ)) × (last : State) × IsChain setting before commands texts last
