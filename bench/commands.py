@@ -24,19 +24,15 @@ def write(name, vertices, ends, lines):
 def run(graph, script):
     start = time.perf_counter()
     process = subprocess.Popen([PROGRAM, "run", graph, script], stdout=subprocess.DEVNULL)
-    timer = None
-    try:
-        while True:
-            done, status, usage = os.wait4(process.pid, os.WNOHANG)
-            if done:
-                return time.perf_counter() - start, usage.ru_maxrss / 1024, os.waitstatus_to_exitcode(status)
-            if time.perf_counter() - start > LIMIT:
-                process.kill()
-                os.wait4(process.pid, 0)
-                return None, None, None
-            time.sleep(0.001)
-    finally:
-        del timer
+    while True:
+        done, status, usage = os.wait4(process.pid, os.WNOHANG)
+        if done:
+            return time.perf_counter() - start, usage.ru_maxrss / 1024, os.waitstatus_to_exitcode(status)
+        if time.perf_counter() - start > LIMIT:
+            process.kill()
+            os.wait4(process.pid, 0)
+            return None, None, None
+        time.sleep(0.001)
 
 
 def row(name, commands):
