@@ -1,5 +1,6 @@
 -- The state that a board shows, and what locks, undo and redo make of it.
-use Rattle.std.proofs.Common.{◌≡◌, ℕ, ◌<◌, Bool, true, false, not, [], length, map, set, None, Some, refl, sym, ap, ◌∙◌, subst, arith}
+use Rattle.std.proofs.Common.{◌≡◌, ℕ, ◌<◌, Bool, true, false, not, List, [], length, map, set, None, Some, refl, sym, ap, ◌∙◌, subst, arith}
+use Rattle.std.proofs.lemmas.Bool.{true≢false}
 use Rattle.std.proofs.lemmas.List.{length-map}
 use Rattle.spqr_script.specs.Answers.Change.{ok_text}
 use Rattle.spqr_session.specs.Trees.{BlockTree, tree_at}
@@ -50,6 +51,10 @@ redo-done before after text e h t =
 
 -- ---- locks
 
+-- the embedding with the lock
+abbrev pub lock-new : Bool → ℕ → Embedding → Embedding
+lock-new on k e = record { rotation = e.rotation; locks = set e.locks k on }
+
 module _ (on : Bool) (board : BoardView) (b k : ℕ) where
   -- the line of the first code that applies
   pub lock-refused : (code : Code) (text : List ℕ) → first_code (node_ladder has_choices (map view_tree board.views) b k (board_state board)) ≡ Some code → text ≡ code_text code
@@ -71,11 +76,12 @@ module _ (on : Bool) (board : BoardView) (b k : ℕ) where
 
   -- and the lock is set
   pub lock-done : (after : BoardView) (text : List ℕ) → first_code (node_ladder has_choices (map view_tree board.views) b k (board_state board)) ≡ None
-      → ((e : Embedding) → StandsAt board.views b e → after ≡ changed_board board b (record { rotation = e.rotation; locks = set e.locks k on })) → text ≡ ok_text
+      → ((e : Embedding) → StandsAt board.views b e → after ≡ changed_board board b (lock-new on k e)) → text ≡ ok_text
       → LockStep on (map view_tree board.views) b k (board_state board) text (board_state after)
+  unfolding lock-facts lock-stands
   lock-done after text none is t =
       let f = lock-facts none in
-      let new : Embedding = record { rotation = f.entry.rotation; locks = set f.entry.locks k on } in
+      let new = lock-new on k f.entry in
       carried-out (node_ladder has_choices (map view_tree board.views) b k (board_state board)) refl (ChangesBlock (map view_tree board.views) b (Silently (IsLockSet k on))) (board_state board) text (board_state after) none (record {
         old = f.entry;
         present = f.present;
@@ -83,3 +89,8 @@ module _ (on : Bool) (board : BoardView) (b k : ℕ) where
         change = (record { rotation = refl; locks = refl }, t);
         after_is = ap board_state (is f.entry (lock-stands none).1) ∙ changed-seen board b new;
       })
+
+-- whether something is earlier or later, from the answer to it
+pub nothing-there : (answer none : Bool) → answer ≡ not none → answer ≡ false → none ≡ true
+nothing-there answer true e n = refl
+nothing-there answer false e n = absurd (true≢false (sym e ∙ n))

@@ -190,3 +190,8 @@ module _ (views : List BlockView) (b : ℕ) (e : Embedding) (v w : BlockView) (o
   pub put-done : (board : BoardView) → board_view views old ≡ board → board_view (slice_set views b v) new ≡ changed_board board b e
   put-done board is = ap (λ (x : BlockView). board_view (slice_set views b x) new) same ∙ board-changed views (embedded_at views b e) old new s (trees-kept views b after refl) h added leads.is_step leads.back leads.forth
       ∙ ap (λ (x : BoardView). changed_board x b e) is
+
+-- the part of a block with what was found of it
+pub view-part : (part : GraphPart) (outcome : Outcome) → (block_view part outcome).tree.part ≡ part
+view-part part (Plane p) = refl
+view-part part (Not g t s) = refl

@@ -20,6 +20,8 @@ pub mod MembersCarried
 pub mod Planes
 pub mod MovePlans
 pub mod WalkPlans
+pub mod TakeCarried
+pub mod ConvertCarried
 pub mod Chains
 pub mod Steps
 pub mod Grouped
@@ -30,3 +32,4 @@ pub mod Families
 pub mod Boards
 pub mod BoardSteps
 pub mod BoardStates
+pub mod Sessions

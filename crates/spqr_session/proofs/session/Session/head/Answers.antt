@@ -8,4 +8,4 @@ pub returns : goal.returns
 returns c =
     let s = c.self.inside in
     subst (λ (m : Machine). IfOk c.head_of.result (λ text. text.items ≡ head_text m.setting)) c.self.view_is
-    (subst (λ (views : List BlockView). IfOk c.head_of.result (λ text. text.items ≡ head_text (setting_of s.doc s.named s.blocks views))) c.deref.ensures.value (c.head_of.ensures s.doc))
+    (subst (λ (views : List BlockView). IfOk c.head_of.result (λ text. text.items ≡ head_text (setting_of s.doc s.named s.blocks views))) c.blocks-2.ensures (c.head_of.ensures s.doc))

@@ -1,7 +1,9 @@
-use Rattle.std.proofs.Common.{length, subst}
+use Rattle.std.proofs.Common.{length, sym, subst}
 use Rattle.multigraph.specs.Graph.{Multigraph}
 use Rattle.blocks.specs.Blocks.{IsBlockStructure}
 use Rattle.spqr_session.specs.Embedded.{AreStartBlocks, setting_of, state_of}
+use Rattle.spqr_session.specs.Board.{BoardView, board_state}
+use Rattle.spqr_session.specs.Machine.{IsStarted, IsMachine}
 use Rattle.spqr_session.proofs.Views.{started, started-machine}
 use Rattle.spqr_session.proofs.session.Session.start.Goals as goal
 
@@ -13,7 +15,8 @@ invariant_of-result g c =
     let views = c.in_ok-embedded.embedded.items in
     let is = subst (λ (x : Multigraph). IsBlockStructure x structure) c.graph.ensures.value c.in_ok-blocks.ensures in
     let start = subst (λ (x : Multigraph). AreStartBlocks x structure.blocks (length structure.blocks) views) c.graph-2.ensures.value c.in_ok-embedded.ensures in
-    started-machine (record { setting = setting_of d n structure views; state = state_of views }) (started d n structure views c.requires is start)
+    subst (λ (x : BoardView). IsMachine (record { setting = setting_of d n structure x.views; state = board_state x })) (sym c.of.ensures)
+    (started-machine (record { setting = setting_of d n structure views; state = state_of views }) (started d n structure views c.requires is start))
 
 pub returns-clause-started : goal.returns-clause-started
 returns-clause-started g c =
@@ -23,4 +26,5 @@ returns-clause-started g c =
     let views = c.in_ok-embedded.embedded.items in
     let is = subst (λ (x : Multigraph). IsBlockStructure x structure) c.graph.ensures.value c.in_ok-blocks.ensures in
     let start = subst (λ (x : Multigraph). AreStartBlocks x structure.blocks (length structure.blocks) views) c.graph-2.ensures.value c.in_ok-embedded.ensures in
-    started d n structure views c.requires is start
+    subst (λ (x : BoardView). IsStarted (record { setting = setting_of d n structure x.views; state = board_state x })) (sym c.of.ensures)
+    (started d n structure views c.requires is start)

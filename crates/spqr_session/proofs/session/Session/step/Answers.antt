@@ -1,28 +1,32 @@
-use Rattle.std.proofs.Common.{List, map, sym, ap, ◌∙◌}
+use Rattle.std.proofs.Common.{List, map, refl, sym, ap, ◌∙◌, subst, IfOk}
+use Rattle.multigraph.specs.Graph.{Multigraph}
 use Rattle.spqr_session.specs.Machine.{Machine}
-use Rattle.spqr_session.specs.Embedded.{BlockView, view_tree, view_entry}
-use Rattle.spqr_session.proofs.Steps.{step-euler, step-gml, step-show, step-faces}
-use Rattle.spqr_session.proofs.session.Session.step.Goals.{in-Euler, in-Gml, in-Show, in-Faces}
+use Rattle.spqr_session.specs.Embedded.{BlockView, view_tree, setting_of}
+use Rattle.spqr_session.specs.Board.{BoardView, board_state}
+use Rattle.spqr_session.specs.Step.{Step}
+use Rattle.spqr_session.proofs.Sessions.{setting-kept, stepped-machine, memory-machine}
 use Rattle.spqr_session.proofs.session.Session.step.Goals as goal
+
+pub invariant_of-self : goal.invariant_of-self
+invariant_of-self c =
+    let s = c.self.inside in
+    let setting = setting_of s.doc s.named s.blocks s.board.views in
+    stepped-machine s.doc s.named s.blocks c.args.command.now s.board c.carry_out.new.board c.carry_out.result c.self.invariant c.carry_out.ensures.setting
+    (c.carry_out.ensures.step setting refl (sym c.graph.ensures.value) refl) c.carry_out.ensures.memory
 
 pub returns-clause-step : goal.returns-clause-step
 returns-clause-step c =
-    let m = c.args.self.now in
-    elim c.match-command.branch [
-      | in-Euler w ↦
-          step-euler m.setting m.state c.args.command.now w.in-Euler.lists w.graph.result.now w.carry_euler.result c.match-command.result w.in-Euler.is
-          (w.graph.ensures.value ∙ ap (λ (x : Machine). x.setting.named.graph) c.self.view_is) w.result-is w.carry_euler.ensures
-      | in-Gml w ↦
-          step-gml m.setting m.state c.args.command.now c.self.inside.doc w.carry_gml.result c.match-command.result w.in-Gml.is
-          (ap (λ (x : Machine). x.setting.document) c.self.view_is) w.result-is w.carry_gml.ensures
-      | in-Show w ↦
-          step-show m.setting m.state c.args.command.now w.in-Show.b w.deref.result.now w.carry_show.result c.match-command.result w.in-Show.is
-          (ap (λ (vs : List BlockView). map view_tree vs) w.deref.ensures.value ∙ ap (λ (x : Machine). x.setting.trees) c.self.view_is)
-          (ap (λ (x : Machine). x.state.present.entries) (sym c.self.view_is) ∙ ap (λ (vs : List BlockView). map view_entry vs) (sym w.deref.ensures.value))
-          w.result-is w.carry_show.ensures
-      | in-Faces w ↦
-          step-faces m.setting m.state c.args.command.now w.in-Faces.b w.deref-in-Faces.result.now w.carry_faces.result c.match-command.result w.in-Faces.is
-          (ap (λ (vs : List BlockView). map view_tree vs) w.deref-in-Faces.ensures.value ∙ ap (λ (x : Machine). x.setting.trees) c.self.view_is)
-          (ap (λ (x : Machine). x.state.present.entries) (sym c.self.view_is) ∙ ap (λ (vs : List BlockView). map view_entry vs) (sym w.deref-in-Faces.ensures.value))
-          w.result-is w.carry_faces.ensures
-    ]
+    let s = c.self.inside in
+    let setting = setting_of s.doc s.named s.blocks s.board.views in
+    subst (λ (m : Machine). IfOk c.carry_out.result (λ text. Step m.setting m.state c.args.command.now text.items (board_state c.carry_out.new.board))) c.self.view_is
+    (c.carry_out.ensures.step setting refl (sym c.graph.ensures.value) refl)
+
+pub returns-clause-setting : goal.returns-clause-setting
+returns-clause-setting c =
+    let s = c.self.inside in
+    setting-kept s.doc s.named s.blocks s.board.views c.carry_out.new.board.views c.carry_out.ensures.setting ∙ ap (λ (m : Machine). m.setting) c.self.view_is
+
+pub returns-clause-memory : goal.returns-clause-memory
+returns-clause-memory c =
+    let s = c.self.inside in
+    memory-machine s.doc s.named s.blocks s.board c.carry_out.new.board c.carry_out.result c.args.self.now c.self.view_is c.carry_out.ensures.memory
