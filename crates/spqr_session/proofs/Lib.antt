@@ -19,7 +19,10 @@ pub mod HistoryCarried
 pub mod MembersCarried
 pub mod Planes
 pub mod MovePlans
+pub mod InnerKeys
+pub mod PermutePlans
 pub mod WalkPlans
+pub mod MemberLines
 pub mod Chains
 pub mod Steps
 pub mod Grouped
