@@ -1,6 +1,7 @@
 -- The plans of permutes.
 use Rattle.std.proofs.Common.{◌≡◌, ℕ, ◌<◌, Bool, true, false, not, List, [], ◌∷◌, length, map, Option, None, Some, All, IsPermutation, refl, sym, ap, ◌∙◌, subst}
-use Rattle.std.proofs.lemmas.Bool.{lt-ltb}
+use Rattle.std.specs.Prelude.{◌↔◌, IsTrue}
+use Rattle.std.proofs.lemmas.Bool.{both_ways, lt-ltb}
 use Rattle.permutations.specs.Members.{is_distinct}
 use Rattle.multigraph.specs.Part.{Rises, IsNumbered}
 use Rattle.multigraph.proofs.Places.{rises-once}
@@ -32,6 +33,13 @@ use Rattle.spqr_session.proofs.Planes.{SeenPlane}
 -- the tree of a block that is seen
 pub seen-tree : (v : BlockView) (o : Outcome) → block_view v.tree.part o ≡ v → IsEmbedded v.tree.part o → IsBlockTree v.tree.part.graph v.tree.nodes
 seen-tree v o view is = subst (IsBlockTree v.tree.part.graph) (ap (λ (x : BlockView). x.tree.nodes) view) is.tree
+
+-- what the test of the block's keys tells
+pub test-right : (arranged : Bool) (own keys given inner : List ℕ) → (IsTrue arranged ↔ IsPermutation own keys) → own ≡ given → keys ≡ inner → arranged ≡ true → IsPermutation given inner
+test-right arranged own keys given inner test e f t = subst (λ (l : List ℕ). IsPermutation l inner) e (subst (λ (l : List ℕ). IsPermutation own l) f (test.0 t))
+
+pub test-wrong : (arranged : Bool) (own keys given inner : List ℕ) → (IsTrue arranged ↔ IsPermutation own keys) → own ≡ given → keys ≡ inner → arranged ≡ false → IsPermutation given inner → ⊥
+test-wrong arranged own keys given inner test e f n p = both_ways arranged n (test.1 (subst (λ (l : List ℕ). IsPermutation l keys) (sym e) (subst (λ (l : List ℕ). IsPermutation given l) (sym f) p)))
 
 -- ---- the keys of a node
 
@@ -87,15 +95,15 @@ module _ (v : BlockView) (k : ℕ) (keys : List ℕ) (l : k < length v.tree.node
     past-plane : (o : Option Code) → first_code (of_entry (lock_codes k) v.entry) ≡ o → first_code (permute_codes k keys v.tree v.entry) ≡ o
     past-plane o e = past-order t o (planar-missed v p seen (of_entry (lock_codes k) v.entry) o e)
 
-    pub permute-plan : (own : List ℕ) (planned : Planned) → own ≡ inner_edges v.tree keys → IsMovePlan (permute k own) k p planned → IsPlan (permute_codes k keys v.tree v.entry) (IsPermuted k keys) v planned
-    permute-plan own (Refused code) same h = past-plane (Some code) (lock-hit v p seen k h.0 ∙ ap (λ (c : Code). Some c) (sym h.1))
-    permute-plan own End same h = absurd h
-    permute-plan own (Change q) same h = (
+    pub permute-plan : (inner : List ℕ) (planned : Planned) → inner ≡ inner_edges v.tree keys → IsMovePlan (permute k inner) k p planned → IsPlan (permute_codes k keys v.tree v.entry) (IsPermuted k keys) v planned
+    permute-plan inner (Refused code) same h = past-plane (Some code) (lock-hit v p seen k h.0 ∙ ap (λ (c : Code). Some c) (sym h.1))
+    permute-plan inner End same h = absurd h
+    permute-plan inner (Change q) same h = (
       past-plane None (lock-missed v p seen k h.0),
       (
-        made-fits v p seen (permute k own) q h.1,
+        made-fits v p seen (permute k inner) q h.1,
         record {
-          leads = subst (λ (xs : List ℕ). MoveLeads v.tree.part.graph v.tree.nodes (permute k xs) p.rotation q.rotation) same (made-leads v p seen (permute k own) q h.1);
+          leads = subst (λ (xs : List ℕ). MoveLeads v.tree.part.graph v.tree.nodes (permute k xs) p.rotation q.rotation) same (made-leads v p seen (permute k inner) q h.1);
           locks = ap (λ (x : BlockState). x.locks) h.1.rest;
         },
       ),
