@@ -19,9 +19,12 @@ pub mod HistoryCarried
 pub mod MembersCarried
 pub mod Planes
 pub mod MovePlans
+pub mod InnerKeys
+pub mod PermutePlans
 pub mod WalkPlans
 pub mod TakeCarried
 pub mod ConvertCarried
+pub mod MemberLines
 pub mod Chains
 pub mod Steps
 pub mod Grouped

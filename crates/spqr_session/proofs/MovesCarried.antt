@@ -103,7 +103,7 @@ inner-of_outer tree (x ∷ xs) once h =
     ∙ ap (λ (ys : List ℕ). x ∷ ys) (inner-of_outer tree xs once (All-tail (λ x. x < length tree.part.edges) x xs h))
 
 -- keys of items of the part are edges of it
-keys-within : (tree : BlockTree) (n : ℕ) (items : List Item) → edge_count tree.part.graph ≡ n → All (IsItemOf tree.part) items → All (λ x. x < n) (map item_key items)
+pub keys-within : (tree : BlockTree) (n : ℕ) (items : List Item) → edge_count tree.part.graph ≡ n → All (IsItemOf tree.part) items → All (λ x. x < n) (map item_key items)
 keys-within tree n [] e h = All-nil (λ x. x < n)
 keys-within tree n (item ∷ items) e h =
     All-cons (λ x. x < n) item.key (map item_key items) (subst (λ (m : ℕ). item.key < m) e (All-head (IsItemOf tree.part) item items h).0) (keys-within tree n items e (All-tail (IsItemOf tree.part) item items h))

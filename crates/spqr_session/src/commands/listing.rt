@@ -1,11 +1,95 @@
 // `list B N`: the members that follow the present one in a block's list.
-ghost use Rattle.std.specs.Prelude.{◌≡◌, map, IfOk};
+ghost use Rattle.std.specs.Prelude.{◌≡◌, ℕ, ◌+◌, if◌then◌else◌, List, ◌++◌, length, take, drop, map, IfOk};
+ghost use Rattle.std.specs.List.{concat};
+ghost use Rattle.skeletons.specs.Lists.{IsRank};
+ghost use Rattle.embed_enum.specs.Walk.{IsMemberList};
+ghost use Rattle.spqr_script.specs.Answers.Change.{end_text};
+ghost use Rattle.spqr_script.specs.Answers.List.{more_text};
+ghost use Rattle.spqr_script.specs.Answers.Rotation.{rotation_text};
 ghost use Rattle.spqr_session.specs.State.{State};
 ghost use Rattle.spqr_session.specs.Embedded.{view_tree, view_entry};
-ghost use Rattle.spqr_session.specs.Commands.Listing.{ListStep};
+ghost use Rattle.spqr_session.specs.BlockCodes.{no_more, TellsBlock};
+ghost use Rattle.spqr_session.specs.Commands.Listing.{members_text, IsListing, ListStep};
 
+use crate::code::Code;
 use crate::embedded::EmbeddedBlock;
+use embed_enum::next;
+use multigraph::Part;
+use skel_embed::{Outcome, PlaneBlock};
+use spqr_script::{end_line, list_line, more_line, push_rotation_line};
 use std::alloc::{AllocError, Global};
+
+// Goes to the next members, n of them or all where they are fewer, puts the line of each behind a text, and answers how many they
+// are.
+fn push_members(
+    out: &mut Vec<u8>,
+    b: u32,
+    n: u32,
+    part: &Part,
+    walker: &mut PlaneBlock,
+) -> Result<u32, AllocError>
+    requires { walker.old.graph ≡ part.now.graph }
+    ensures count { IfOk result (λ t. (l : List (List (List ℕ))) (i : ℕ) → IsMemberList walker.old l → IsRank l walker.old.rotation i → t ≡ length (take n (drop (i + 1) l))) }
+    ensures stands { IfOk result (λ t. (l : List (List (List ℕ))) (i : ℕ) → IsMemberList walker.old l → IsRank l walker.old.rotation i → IsMemberList walker.new l × IsRank l walker.new.rotation (i + t)) }
+    ensures lines { IfOk result (λ t. (l : List (List (List ℕ))) (i : ℕ) → IsMemberList walker.old l → IsRank l walker.old.rotation i
+        → out.new.items ≡ out.old.items ++ concat (map (rotation_text part.now b) (take n (drop (i + 1) l)))) }
+{
+    for turn in 0..n {
+        if !next(walker) {
+            return Ok(turn);
+        }
+        push_rotation_line(out, b, part, walker.rotation())?;
+    }
+    Ok(n)
+}
+
+// The line behind the members: whether one more follows.
+fn last_line(alloc: Global, more: bool) -> Result<Vec<u8>, AllocError>
+    ensures { IfOk result (λ line. line.items ≡ (if more then more_text else end_text)) }
+{
+    if more {
+        more_line(alloc)
+    } else {
+        end_line(alloc)
+    }
+}
+
+// The lines of the next n members of a block in the plane: a copy of it walks.
+fn list_plane(
+    alloc: Global,
+    b: u32,
+    n: u32,
+    part: &Part,
+    plane: &PlaneBlock,
+) -> Result<Vec<u8>, AllocError>
+    requires { plane.now.graph ≡ part.now.graph }
+    ensures { IfOk result (λ text. (l : List (List (List ℕ))) (i : ℕ) → IsMemberList plane.now l → IsRank l plane.now.rotation i
+        → text.items ≡ members_text b n (record { part = part.now; nodes = plane.now.tree }) (drop (i + 1) l)) }
+{
+    let mut walker = plane.copy(alloc)?;
+    let mut members = Vec::new(alloc);
+    let count = push_members(&mut members, b, n, part, &mut walker)?;
+    let last = last_line(alloc, next(&mut walker))?;
+    let mut text = list_line(alloc, b, count)?;
+    text.extend_from_slice(&members)?;
+    text.extend_from_slice(&last)?;
+    Ok(text)
+}
+
+// The lines of the next n members of a block, or that of code 5.
+fn list_block(
+    alloc: Global,
+    b: u32,
+    n: u32,
+    block: &EmbeddedBlock,
+) -> Result<Vec<u8>, AllocError>
+    ensures { IfOk result (λ text. TellsBlock block.now.tree block.now.entry no_more (IsListing b n) text.items) }
+{
+    match block.outcome() {
+        Outcome::Plane(plane) => list_plane(alloc, b, n, block.part(), plane),
+        Outcome::Not(_, _, _) => Code::NonPlanar.line(alloc),
+    }
+}
 
 /// Carries out `list`: the lines of the next n members of block `b`, or code 1 or 5. Nothing changes.
 pub(crate) fn carry_list(
@@ -17,5 +101,8 @@ pub(crate) fn carry_list(
     ensures { (s : State) → s.present.entries ≡ map view_entry blocks.now
         → IfOk result (λ text. ListStep (map view_tree blocks.now) b n s text.items s) }
 {
-    Err(AllocError)
+    match blocks.get(b as usize) {
+        Some(block) => list_block(alloc, b, n, block),
+        None => Code::NoBlock.line(alloc),
+    }
 }

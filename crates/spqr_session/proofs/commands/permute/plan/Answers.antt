@@ -1,0 +1,15 @@
+use Rattle.spqr_session.specs.Embedded.{view_tree, no_view, view_at}
+use Rattle.spqr_session.specs.Commands.Permute.{permute_codes, permute_ladder, IsPermuted}
+use Rattle.spqr_session.specs.Planned.{IsPlan, IsPlanAt}
+use Rattle.std.proofs.Common.{map}
+use Rattle.spqr_session.proofs.Steps.{ok-map}
+use Rattle.spqr_session.proofs.Plans.{plan-found}
+use Rattle.spqr_session.proofs.commands.permute.plan.Goals as goal
+
+pub returns-in-Some : goal.returns-in-Some
+returns-in-Some c =
+    let views = c.args.blocks.now in
+    let v = c.in-Some.block.now in
+    let found = c.in-Some.ensures.lookup.3 in
+    λ s present. ok-map c.plan_block.result (IsPlan (permute_codes c.args.k c.args.keys.now v.tree v.entry) (IsPermuted c.args.k c.args.keys.now) v) (IsPlanAt (permute_ladder (map view_tree views) c.args.b c.args.k c.args.keys.now s) (IsPermuted c.args.k c.args.keys.now) views c.args.b)
+    (λ x h. plan-found (permute_codes c.args.k c.args.keys.now) (IsPermuted c.args.k c.args.keys.now) views c.args.b s present v x found.0 (found.1 no_view) h) c.plan_block.ensures

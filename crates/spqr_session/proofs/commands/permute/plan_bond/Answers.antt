@@ -1,0 +1,50 @@
+use Rattle.std.proofs.Common.{◌≡◌, ℕ, ◌<◌, true, false, List, length, map, IsPermutation, sym, ap, ◌∙◌, subst}
+use Rattle.multigraph.specs.Part.{Rises, IsNumbered}
+use Rattle.pair_split.specs.Tutte.{Node, node_at}
+use Rattle.pair_split.specs.declared.components.Item.{Item}
+use Rattle.pair_split.specs.declared.components.Kind.TheVariants.{P}
+use Rattle.skeletons.specs.Items.{item_key, node_keys}
+use Rattle.skeletons.specs.Moves.{permute}
+use Rattle.spqr_session.specs.Commands.Permute.{inner_edges, permute_codes, IsPermuted}
+use Rattle.spqr_session.specs.Planned.{IsPlan, IsMovePlan}
+use Rattle.spqr_session.proofs.Steps.{ok-map}
+use Rattle.spqr_session.proofs.Planes.{seen-plane, seen-not}
+use Rattle.spqr_session.proofs.PermutePlans.{test-right, test-wrong, seen-tree, own-rises, keys-right, keys-wrong, order-refused, plane-refused, permute-plan}
+use Rattle.spqr_session.proofs.commands.permute.plan_bond.Goals as goal
+
+-- the tree's own keys rise
+pub are_arranged-requires : goal.are_arranged-requires
+are_arranged-requires c =
+    let v = c.args.block.now in
+    subst (λ (items : List Item). Rises (map item_key items)) (sym (c.items.ensures ∙ ap (λ (nodes : List Node). (node_at nodes c.args.k).items) c.tree.ensures))
+    (own-rises v c.args.k (subst IsNumbered c.part.ensures c.graph.ensures.numbered) (seen-tree v c.outcome-outcome.result.now c.outcome-outcome.ensures.view c.outcome-outcome.ensures.right) c.requires.node)
+
+-- code 4
+pub returns-then-not-branch : goal.returns-then-not-branch
+returns-then-not-branch c =
+    let v = c.args.block.now in
+    let own : map item_key c.items.result.now ≡ node_keys v.tree.nodes c.args.k = ap (map item_key) (c.items.ensures ∙ ap (λ (nodes : List Node). (node_at nodes c.args.k).items) c.tree.ensures) in
+    let wrong = test-wrong c.in_ok-are_arranged.field-0 (map item_key c.items.result.now) c.deref.result.now (node_keys v.tree.nodes c.args.k) (inner_edges v.tree c.args.keys.now) c.in_ok-are_arranged.ensures own (c.deref.ensures.value ∙ c.in_ok-own.ensures) c.if-not-branch.true in
+    order-refused v c.args.k c.args.keys.now c.requires.node c.requires.kind
+    (keys-wrong v c.args.k (subst IsNumbered c.part.ensures c.graph.ensures.numbered) (seen-tree v c.outcome-outcome.result.now c.outcome-outcome.ensures.view c.outcome-outcome.ensures.right) c.requires.node c.args.keys.now wrong)
+
+-- the plan for a block in the plane
+pub returns-in-Plane : goal.returns-in-Plane
+returns-in-Plane c =
+    let v = c.args.block.now in
+    let p = c.in-Plane.plane in
+    let own : map item_key c.items.result.now ≡ node_keys v.tree.nodes c.args.k = ap (map item_key) (c.items.ensures ∙ ap (λ (nodes : List Node). (node_at nodes c.args.k).items) c.tree.ensures) in
+    let right = test-right c.in_ok-are_arranged.field-0 (map item_key c.items.result.now) c.deref.result.now (node_keys v.tree.nodes c.args.k) (inner_edges v.tree c.args.keys.now) c.in_ok-are_arranged.ensures own (c.deref.ensures.value ∙ c.in_ok-own.ensures) c.if-not-branch.false in
+    let good = keys-right v c.args.k (subst IsNumbered c.part.ensures c.graph.ensures.numbered) (seen-tree v c.outcome-outcome.result.now c.outcome-outcome.ensures.view c.outcome-outcome.ensures.right) c.requires.node c.args.keys.now right in
+    let seen = seen-plane v c.outcome-outcome.result.now p c.outcome-outcome.ensures.view c.outcome-outcome.ensures.right c.in-Plane.is in
+    ok-map c.plan_plane.result (IsMovePlan (permute c.args.k c.deref-in-Plane.result.now) c.args.k p) (IsPlan (permute_codes c.args.k c.args.keys.now v.tree v.entry) (IsPermuted c.args.k c.args.keys.now) v)
+    (λ x h. permute-plan v c.args.k c.args.keys.now c.requires.node c.requires.kind p seen good c.deref-in-Plane.result.now x (c.deref-in-Plane.ensures.value ∙ c.in_ok-own.ensures) h) c.plan_plane.ensures
+
+-- code 5
+pub returns : goal.returns
+returns c =
+    let v = c.args.block.now in
+    let own : map item_key c.items.result.now ≡ node_keys v.tree.nodes c.args.k = ap (map item_key) (c.items.ensures ∙ ap (λ (nodes : List Node). (node_at nodes c.args.k).items) c.tree.ensures) in
+    let right = test-right c.in_ok-are_arranged.field-0 (map item_key c.items.result.now) c.deref.result.now (node_keys v.tree.nodes c.args.k) (inner_edges v.tree c.args.keys.now) c.in_ok-are_arranged.ensures own (c.deref.ensures.value ∙ c.in_ok-own.ensures) c.if-not-branch.false in
+    let good = keys-right v c.args.k (subst IsNumbered c.part.ensures c.graph.ensures.numbered) (seen-tree v c.outcome-outcome.result.now c.outcome-outcome.ensures.view c.outcome-outcome.ensures.right) c.requires.node c.args.keys.now right in
+    plane-refused v c.args.k c.args.keys.now c.requires.node c.requires.kind good (seen-not v c.outcome-outcome.result.now c.in-Not.field-0 c.in-Not.field-1 c.in-Not.field-2 c.outcome-outcome.ensures.view c.in-Not.is)
