@@ -17,9 +17,16 @@ pub mod Plans
 pub mod MovesCarried
 pub mod HistoryCarried
 pub mod MembersCarried
+pub mod GivenParts
+pub mod Takings
+pub mod LowestPlans
+pub mod TakeCarried
+pub mod ConvertCarried
 pub mod Planes
 pub mod MovePlans
 pub mod WalkPlans
+pub mod TakePlans
+pub mod ConvertPlans
 pub mod Chains
 pub mod Steps
 pub mod Grouped

@@ -1,0 +1,23 @@
+use Rattle.std.proofs.Common.{◌≡◌, ℕ, List, sym, subst}
+use Rattle.skel_embed.specs.Block.{BlockState, lock_at}
+use Rattle.skel_embed.specs.Taken.{IsTakeRefusal}
+use Rattle.skel_embed.specs.declared.taking.TakeFault.{TakeFault}
+use Rattle.spqr_session.specs.Planned.{IsTakePlan}
+use Rattle.spqr_session.specs.declared.planned.Planned.TheVariants.{Change}
+use Rattle.spqr_session.proofs.TakePlans.{locked-out, taken-plane}
+use Rattle.spqr_session.proofs.commands.take.take_of_plane.Goals as goal
+
+pub returns-in-Ok : goal.returns-in-Ok
+returns-in-Ok c = ?
+
+pub returns-in-BadRotation : goal.returns-in-BadRotation
+returns-in-BadRotation c = subst (λ (f : TakeFault). IsTakeRefusal c.in_ok-copy.copy c.args.part.now c.args.lists.now f) c.in-BadRotation.is c.in-Err.ensures.refused.0
+
+pub returns-in-NotGenusZero : goal.returns-in-NotGenusZero
+returns-in-NotGenusZero c = subst (λ (f : TakeFault). IsTakeRefusal c.in_ok-copy.copy c.args.part.now c.args.lists.now f) c.in-NotGenusZero.is c.in-Err.ensures.refused.0
+
+pub returns-in-Locked : goal.returns-in-Locked
+returns-in-Locked c =
+    locked-out c.args.lists.now c.args.part.now c.args.plane.now c.in-Locked.k
+    (subst (λ (p : BlockState). IsTakeRefusal p c.args.part.now c.args.lists.now (Locked c.in-Locked.k)) c.in_ok-copy.ensures
+    (subst (λ (f : TakeFault). IsTakeRefusal c.in_ok-copy.copy c.args.part.now c.args.lists.now f) c.in-Locked.is c.in-Err.ensures.refused.0))
