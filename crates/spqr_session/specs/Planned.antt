@@ -1,8 +1,11 @@
 -- What a command that changes a block has planned, and what is made of it.
 use Rattle.std.specs.Prelude.{◌≡◌, ℕ, ◌+◌, ◌<◌, ◌≤◌, ◌^◌, ◌⊎◌, Bool, true, false, List, length, Option, None, Some, ⊤}
+use Rattle.multigraph.specs.Part.{GraphPart}
+use Rattle.rotations.specs.PartLists.{IsFirstBadInPart}
 use Rattle.skeletons.specs.Moves.{Move}
 use Rattle.skeletons.specs.Lists.{IsRank}
 use Rattle.skel_embed.specs.Block.{BlockState, lock_at}
+use Rattle.skel_embed.specs.Taken.{IsNotPlane}
 use Rattle.embed_enum.specs.Walk.{IsMemberList, KeepsRest}
 use Rattle.embed_moves.specs.Made.{IsMade, IsLeastHeld, NoneHeld}
 use Rattle.embed_moves.specs.Made as made
@@ -11,11 +14,13 @@ use Rattle.spqr_session.specs.Trees.{BlockTree}
 use Rattle.spqr_session.specs.State.{Embedding}
 use Rattle.spqr_session.specs.Embedded.{BlockView, view_at}
 use Rattle.spqr_session.specs.Board.{BoardView, changed_board}
-use Rattle.spqr_session.specs.Codes.{Ladder, code_text, first_code}
+use Rattle.spqr_session.specs.Codes.{Ladder, IsLowest, NoneApplies, code_text, first_code}
 use Rattle.spqr_session.specs.declared.code.Code.{Code}
-use Rattle.spqr_session.specs.declared.code.Code.TheVariants.{CountOver, RankOut, Locked}
+use Rattle.spqr_session.specs.declared.code.Code.TheVariants.{NonPlanar, BadRotation, NotGenusZero, CountOver, RankOut, Locked}
 use Rattle.spqr_session.specs.BlockCodes.{planar_codes}
 use Rattle.spqr_session.specs.Members.{StandsBehind, StandsLast}
+use Rattle.spqr_session.specs.Commands.Take.{IsLockedOut, IsTaken}
+use Rattle.spqr_session.specs.Commands.Convert.{conversion_text}
 use Rattle.spqr_session.specs.declared.planned.Planned.{Planned}
 use Rattle.spqr_session.specs.declared.planned.Planned.TheVariants.{Refused, End, Change}
 
@@ -115,3 +120,45 @@ abbrev pub IsSettled : ℕ → Planned → BoardView → List ℕ → BoardView 
 IsSettled b (Refused code) before text after = (text ≡ code_text code) × (after ≡ before)
 IsSettled b End before text after = (text ≡ end_text) × (after ≡ before)
 IsSettled b (Change p) before text after = (text ≡ ok_text) × (after ≡ changed_board before b (embedding_of p))
+
+-- the plan of a command whose codes are no ladder, for a block that is seen so: the lowest code that applies, or where there is none
+-- the block in its new embedding
+abbrev pub IsLowestPlan : (Code → Type 0) → (BlockTree → Embedding → Embedding → Type 0) → BlockView → Planned → Type 0
+IsLowestPlan applies IsChange v (Refused code) = IsLowest applies code
+IsLowestPlan applies IsChange v End = ⊥
+IsLowestPlan applies IsChange v (Change p) = NoneApplies applies × IsChangeOf IsChange v p
+
+-- and for block b among these
+abbrev pub IsLowestPlanAt : (Code → Type 0) → (BlockTree → Embedding → Embedding → Type 0) → List BlockView → ℕ → Planned → Type 0
+IsLowestPlanAt applies IsChange views b (Refused code) = IsLowest applies code
+IsLowestPlanAt applies IsChange views b End = ⊥
+IsLowestPlanAt applies IsChange views b (Change p) = (b < length views) × NoneApplies applies × IsChangeOf IsChange (view_at views b) p
+
+-- codes 6, 7 and 12 of lists that are taken in as the rotation system of a block that stands at e
+abbrev pub TakenCodes : List (ℕ × List ℕ) → BlockTree → Embedding → Code → Type 0
+TakenCodes entries tree e (BadRotation v) = IsFirstBadInPart tree.part entries v
+TakenCodes entries tree e (NotGenusZero v x f) = IsNotPlane tree.part entries v x f
+TakenCodes entries tree e (Locked k) = IsLockedOut tree entries e k
+TakenCodes entries tree e code = ⊥
+
+-- code 5, and these
+abbrev pub EntryTakenCodes : List (ℕ × List ℕ) → BlockTree → Option Embedding → Code → Type 0
+EntryTakenCodes entries tree None code = code ≡ NonPlanar
+EntryTakenCodes entries tree (Some e) code = TakenCodes entries tree e code
+
+-- the plan of taking lists in as the rotation system of a block in the plane, which is that part of a graph: refused, or taken
+abbrev pub IsTakePlan : GraphPart → List (ℕ × List ℕ) → BlockState → Planned → Type 0
+IsTakePlan part entries p (Refused code) = TakenCodes entries (record { part = part; nodes = p.tree }) (embedding_of p) code
+IsTakePlan part entries p End = ⊥
+IsTakePlan part entries p (Change q) = KeepsBlock p q × IsTaken entries (record { part = part; nodes = p.tree }) (embedding_of p) (embedding_of q)
+
+-- the text is the lines of the moves from the block that is seen to another embedding of it
+abbrev pub TellsMoves : BlockView → BlockState → List ℕ → Type 0
+TellsMoves v p text = (old : Embedding) → v.entry ≡ Some old → text ≡ conversion_text v.tree old (embedding_of p)
+
+-- the plan is carried out with its moves told: the line of the code or `end`, and nothing changes; or the lines of the moves, and the
+-- block is changed
+abbrev pub IsConverted : ℕ → Planned → BoardView → List ℕ → BoardView → Type 0
+IsConverted b (Refused code) before text after = (text ≡ code_text code) × (after ≡ before)
+IsConverted b End before text after = (text ≡ end_text) × (after ≡ before)
+IsConverted b (Change p) before text after = TellsMoves (view_at before.views b) p text × (after ≡ changed_board before b (embedding_of p))

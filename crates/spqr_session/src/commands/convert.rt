@@ -2,13 +2,71 @@
 ghost use Rattle.std.specs.Prelude.{◌≡◌, map, IfOk, OnErr};
 ghost use Rattle.spqr_session.specs.Embedded.{view_tree};
 ghost use Rattle.spqr_session.specs.Board.{board_state, IsCarried};
+ghost use Rattle.spqr_session.specs.Planned.{FitsBlock, MayStand, TellsMoves, IsConverted};
 ghost use Rattle.spqr_session.specs.Commands.Convert.{ConvertRankStep, ConvertToStep};
 
+use super::take::plan_take;
+use super::walk::plan_rank;
 use crate::board::Board;
+use crate::embedded::EmbeddedBlock;
+use crate::planned::Planned;
+use embed_convert::moves;
 use rotations::Lists;
+use skel_embed::{Outcome, PlaneBlock};
+use spqr_script::{end_line, moves_lines};
 use std::alloc::{AllocError, Global};
 
-/// Carries out `convert B rank R`.
+// The lines of the moves from a block to one that can take its place.
+fn lines_to(alloc: Global, block: &EmbeddedBlock, plane: &PlaneBlock) -> Result<Vec<u8>, AllocError>
+    requires { FitsBlock block.now plane.now }
+    ensures { IfOk result (λ text. TellsMoves block.now plane.now text.items) }
+{
+    let _ = plane.graph();
+    match block.outcome() {
+        Outcome::Plane(present) => {
+            let list = moves(alloc, present, plane)?;
+            moves_lines(alloc, block.part(), &list)
+        }
+        Outcome::Not(_, _, _) => unreachable!(),
+    }
+}
+
+// Puts the block on the board as it was planned, and answers with the lines of the moves that lead there.
+fn move_to(
+    alloc: Global,
+    board: &mut Board,
+    b: u32,
+    plane: PlaneBlock,
+) -> Result<Vec<u8>, AllocError>
+    requires { MayStand board.old.views b (Planned.Change plane) }
+    ensures done { IfOk result (λ text. IsConverted b (Planned.Change plane) board.old text.items board.new) }
+    ensures memory { OnErr result (board.new ≡ board.old) }
+{
+    let text = lines_to(alloc, &board.blocks()[b as usize], &plane)?;
+    board.put(alloc, b, plane)?;
+    Ok(text)
+}
+
+// Carries out what was planned for block `b`, with its moves told.
+fn convert(
+    alloc: Global,
+    board: &mut Board,
+    b: u32,
+    planned: Planned,
+) -> Result<Vec<u8>, AllocError>
+    requires { MayStand board.old.views b planned }
+    ensures done { IfOk result (λ text. IsConverted b planned board.old text.items board.new) }
+    ensures memory { OnErr result (board.new ≡ board.old) }
+{
+    match planned {
+        Planned::Refused(code) => code.line(alloc),
+        Planned::End => end_line(alloc),
+        Planned::Change(plane) => move_to(alloc, board, b, plane),
+    }
+}
+
+/// Carries out `convert B rank R`: to the member of this rank in the block's list, with the moves that lead there, or code 1, 5, 10
+/// or 11. Without memory the board stays as it was.
 pub(crate) fn carry_convert_rank(
     alloc: Global,
     board: &mut Board,
@@ -19,10 +77,12 @@ pub(crate) fn carry_convert_rank(
     ensures setting { IsCarried board.old.views board.new.views }
     ensures memory { OnErr result (board.new ≡ board.old) }
 {
-    Err(AllocError)
+    let planned = plan_rank(alloc, board.blocks(), b, r)?;
+    convert(alloc, board, b, planned)
 }
 
-/// Carries out `convert B to ROT`.
+/// Carries out `convert B to ROT`: to the rotation system that the lists are, with the moves that lead there, or code 1, 5, 6, 7 or
+/// 12. Without memory the board stays as it was.
 pub(crate) fn carry_convert_to(
     alloc: Global,
     board: &mut Board,
@@ -33,5 +93,6 @@ pub(crate) fn carry_convert_to(
     ensures setting { IsCarried board.old.views board.new.views }
     ensures memory { OnErr result (board.new ≡ board.old) }
 {
-    Err(AllocError)
+    let planned = plan_take(alloc, board.blocks(), b, lists)?;
+    convert(alloc, board, b, planned)
 }

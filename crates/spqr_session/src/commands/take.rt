@@ -1,14 +1,78 @@
 // `take B ROT`: lists of edges are taken in as the rotation system of a block.
 ghost use Rattle.std.specs.Prelude.{◌≡◌, map, IfOk, OnErr};
+ghost use Rattle.spqr_session.specs.State.{State};
 ghost use Rattle.spqr_session.specs.Embedded.{view_tree};
-ghost use Rattle.spqr_session.specs.Board.{board_state, IsCarried};
-ghost use Rattle.spqr_session.specs.Commands.Take.{TakeStep};
+ghost use Rattle.spqr_session.specs.Board.{family_on, board_state, IsCarried};
+ghost use Rattle.spqr_session.specs.Planned.{IsLowestPlan, IsLowestPlanAt, EntryTakenCodes, IsTakePlan};
+ghost use Rattle.spqr_session.specs.Commands.Take.{TakeApplies, IsTaken, TakeStep};
 
 use crate::board::Board;
+use crate::code::Code;
+use crate::embedded::EmbeddedBlock;
+use crate::planned::{Planned, settle};
+use multigraph::Part;
 use rotations::Lists;
+use skel_embed::{Outcome, PlaneBlock, TakeFault};
 use std::alloc::{AllocError, Global};
 
-/// Carries out `take`.
+// The plan for a block in the plane, which is that part: made on a copy.
+fn take_of_plane(
+    alloc: Global,
+    plane: &PlaneBlock,
+    part: &Part,
+    lists: &Lists,
+) -> Result<Planned, AllocError>
+    requires { part.now.graph ≡ plane.now.graph }
+    ensures { IfOk result (IsTakePlan part.now lists.now plane.now) }
+{
+    let mut copy = plane.copy(alloc)?;
+    match copy.take(alloc, part, lists) {
+        Ok(()) => {
+            let _ = copy.graph();
+            Ok(Planned::Change(copy))
+        }
+        Err(fault) => match fault {
+            TakeFault::BadRotation(v) => Ok(Planned::Refused(Code::BadRotation(v))),
+            TakeFault::NotGenusZero(v, e, f) => Ok(Planned::Refused(Code::NotGenusZero(v, e, f))),
+            TakeFault::Locked(k) => Ok(Planned::Refused(Code::Locked(k))),
+            TakeFault::Memory => Err(AllocError),
+        },
+    }
+}
+
+// The plan for a block.
+fn take_of_block(
+    alloc: Global,
+    block: &EmbeddedBlock,
+    lists: &Lists,
+) -> Result<Planned, AllocError>
+    ensures { IfOk result (IsLowestPlan (EntryTakenCodes lists.now block.now.tree block.now.entry) (IsTaken lists.now) block.now) }
+{
+    let _ = block.part().graph();
+    match block.outcome() {
+        Outcome::Plane(plane) => take_of_plane(alloc, plane, block.part(), lists),
+        Outcome::Not(_, _, _) => Ok(Planned::Refused(Code::NonPlanar)),
+    }
+}
+
+/// The plan for block `b` to stand at the rotation system that the lists are.
+pub(crate) fn plan_take(
+    alloc: Global,
+    blocks: &[EmbeddedBlock],
+    b: u32,
+    lists: &Lists,
+) -> Result<Planned, AllocError>
+    ensures { (s : State) → s.present ≡ family_on blocks.now
+        → IfOk result (IsLowestPlanAt (TakeApplies (map view_tree blocks.now) b lists.now s) (IsTaken lists.now) blocks.now b) }
+{
+    match blocks.get(b as usize) {
+        Some(block) => take_of_block(alloc, block, lists),
+        None => Ok(Planned::Refused(Code::NoBlock)),
+    }
+}
+
+/// Carries out `take`: the block stands at the rotation system that the lists are, or code 1, 5, 6, 7 or 12. Without memory the
+/// board stays as it was.
 pub(crate) fn carry_take(
     alloc: Global,
     board: &mut Board,
@@ -19,5 +83,6 @@ pub(crate) fn carry_take(
     ensures setting { IsCarried board.old.views board.new.views }
     ensures memory { OnErr result (board.new ≡ board.old) }
 {
-    Err(AllocError)
+    let planned = plan_take(alloc, board.blocks(), b, lists)?;
+    settle(alloc, board, b, planned)
 }
