@@ -5,7 +5,7 @@ use Rattle.spqr_session.specs.Trees.{BlockTree, tree_at}
 use Rattle.spqr_session.specs.Setting.{Setting, IsSetting}
 use Rattle.spqr_session.specs.State.{Embedding, State, entry_at, IsState}
 use Rattle.spqr_session.specs.Codes.{Applies, Carries}
-use Rattle.spqr_session.specs.BlockCodes.{read_ladder, ChangesBlock, changed, Silently}
+use Rattle.spqr_session.specs.BlockCodes.{read_ladder, ChangesBlock, Silently}
 use Rattle.spqr_session.specs.Members.{rank_codes, StandsAt}
 use Rattle.spqr_session.specs.Commands.Take.{TakeApplies, IsTaken}
 use Rattle.spqr_session.specs.Commands.Convert.{conversion_text, WithMoves, ConvertRankStep, ConvertToStep}
@@ -23,8 +23,7 @@ module _ (applies : Code → Type 0) (IsChange : BlockTree → Embedding → Emb
   pub with-moves : (text : List ℕ) (after : State) → Carries applies (ChangesBlock trees b (Silently IsChange)) s text after → (told : List ℕ) × Carries applies (ChangesBlock trees b (WithMoves IsChange)) s told after
   with-moves text after (inl p) = (text, inl p)
   with-moves text after (inr p) =
-      let c = p.1 in
-      (
+      let c = p.1 in (
         conversion_text (tree_at trees b) c.old c.new,
         inr (p.0, record { old = c.old; present = c.present; new = c.new; change = (c.change.0, refl); after_is = c.after_is }),
       )
@@ -42,26 +41,26 @@ moves-one IsChange tree old new other t u one p q = let e = one p.0 q.0 in (e, p
 
 -- ---- to a rank
 
-module _ (setting : Setting) (b : ℕ) (s : State) (is : IsSetting setting) (right : IsState setting s) where
+module _ (setting : Setting) (b r : ℕ) (s : State) (is : IsSetting setting) (right : IsState setting s) where
   -- one embedding stands at a rank
-  rank-new : (r : ℕ) (old new other : Embedding) → entry_at s.present b ≡ Some old → StandsAt r (tree_at setting.trees b) old new → StandsAt r (tree_at setting.trees b) old other → new ≡ other
-  rank-new r old new other at p q =
+  rank-new : (old new other : Embedding) → entry_at s.present b ≡ Some old → StandsAt r (tree_at setting.trees b) old new → StandsAt r (tree_at setting.trees b) old other → new ≡ other
+  rank-new old new other at p q =
       let l = entry-block setting s b old right at in
       let m = listed (tree_at setting.trees b) old (setting-tree setting is b l) (entry-right setting s b old right l at) in
       embedding-same new other (sym (p.rank m.list m.are).is_there ∙ (q.rank m.list m.are).is_there) (p.locks ∙ sym q.locks)
 
-  pub convert_rank-answers : (r : ℕ) → (text : List ℕ) × (after : State) × ConvertRankStep setting.trees b r s text after
-  convert_rank-answers r =
+  pub convert_rank-answers : (text : List ℕ) × (after : State) × ConvertRankStep setting.trees b r s text after
+  convert_rank-answers =
       let a = goto-answers setting b s is right r in
       let w = with-moves (Applies (read_ladder (rank_codes r) setting.trees b s)) (StandsAt r) setting.trees b s a.0 a.1 a.2 in
       (w.0, a.1, w.1)
 
-  pub convert_rank-one : (r : ℕ) (t u : List ℕ) (after other : State) → ConvertRankStep setting.trees b r s t after → ConvertRankStep setting.trees b r s u other → (t ≡ u) × (after ≡ other)
-  convert_rank-one r t u after other p q = ladder-one (read_ladder (rank_codes r) setting.trees b s) (rank-rises setting b s is right r) (ChangesBlock setting.trees b (WithMoves (StandsAt r))) s
-      (change-does (WithMoves (StandsAt r)) setting.trees b s (λ old new next x y at c d. moves-one (StandsAt r) (tree_at setting.trees b) old new next x y (λ m n. rank-new r old new next at m n) c d)) t u after other p q
+  pub convert_rank-one : (t u : List ℕ) (after other : State) → ConvertRankStep setting.trees b r s t after → ConvertRankStep setting.trees b r s u other → (t ≡ u) × (after ≡ other)
+  convert_rank-one t u after other p q = ladder-one (read_ladder (rank_codes r) setting.trees b s) (rank-rises setting b s is right r) (ChangesBlock setting.trees b (WithMoves (StandsAt r))) s
+      (change-does (WithMoves (StandsAt r)) setting.trees b s (λ old new next x y at c d. moves-one (StandsAt r) (tree_at setting.trees b) old new next x y (λ m n. rank-new old new next at m n) c d)) t u after other p q
 
-  pub convert_rank-keeps : (r : ℕ) (text : List ℕ) (after : State) → ConvertRankStep setting.trees b r s text after → IsState setting after
-  convert_rank-keeps r text after p =
+  pub convert_rank-keeps : (text : List ℕ) (after : State) → ConvertRankStep setting.trees b r s text after → IsState setting after
+  convert_rank-keeps text after p =
       let w = without-moves (Applies (read_ladder (rank_codes r) setting.trees b s)) (StandsAt r) setting.trees b s text after p in
       goto-keeps setting b s is right r w.0 after w.1
 

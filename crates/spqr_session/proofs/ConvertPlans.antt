@@ -1,5 +1,5 @@
 -- The lines of the moves from a block that is seen in the plane to one that can take its place.
-use Rattle.std.proofs.Common.{◌≡◌, ℕ, ◌<◌, List, [], ◌∷◌, length, map, Some, IsPermutation, All, refl, sym, ap, ◌∙◌, subst}
+use Rattle.std.proofs.Common.{◌≡◌, ℕ, ◌<◌, List, [], ◌∷◌, map, All, refl, sym, ap, ◌∙◌, subst}
 use Rattle.std.proofs.lemmas.List.Elements.{All-nil, All-cons, All-head, All-tail}
 use Rattle.std.proofs.lemmas.List.Sorted.{All-permutation}
 use Rattle.multigraph.specs.Graph.{Multigraph, edge_count}
@@ -16,7 +16,6 @@ use Rattle.skel_embed.specs.declared.moves.Move.TheVariants.{Flip, Permute}
 use Rattle.embed_moves.specs.Made.{Fits}
 use Rattle.spqr_script.specs.Node.{IsItemOf}
 use Rattle.spqr_script.specs.Answers.Moves.{moves_text, IsMoveOf}
-use Rattle.spqr_session.specs.Trees.{BlockTree}
 use Rattle.spqr_session.specs.State.{Embedding}
 use Rattle.spqr_session.specs.Embedded.{BlockView}
 use Rattle.spqr_session.specs.Commands.Convert.{value_of, conversion_text}

@@ -1,6 +1,6 @@
 -- Lists that are given for the vertices of a part, in the numbers of the whole graph: they are a rotation system of the part, one
 -- and no other, or have a least bad number.
-use Rattle.std.proofs.Common.{◌≡◌, ℕ, zero, suc, ◌+◌, ◌<◌, ◌≤◌, ◌⊎◌, ◌==◌, ◌&&◌, ◌||◌, Bool, true, false, not, List, [], ◌∷◌, length, map, slice_index, IsPermutation, All, Contains, inl, inr, refl, sym, ap, ◌∙◌, subst, arith}
+use Rattle.std.proofs.Common.{◌≡◌, ℕ, zero, suc, ◌+◌, ◌<◌, ◌⊎◌, ◌==◌, ◌&&◌, ◌||◌, Bool, true, not, List, [], ◌∷◌, length, map, slice_index, IsPermutation, All, Contains, inl, inr, refl, sym, ap, ◌∙◌, subst, arith}
 use Rattle.std.proofs.lemmas.Bool.{cases_Bool, cases_order, both_ways, and_parts, and_from, or_cases, or_left, or_right, eq-eqb, eqb-true, not_from_false, not_from_true, false_from_ne_true}
 use Rattle.std.proofs.lemmas.List.{get_or_default, get_or-map, ext_get_or, length-map, nil_from_length}
 use Rattle.std.proofs.lemmas.List.Elements.{All-nil, All-cons, All-head, All-tail, All-from_get_or}
@@ -11,19 +11,18 @@ use Rattle.permutations.specs.Cyclic.{first_or, turned}
 use Rattle.permutations.proofs.Search.{some-from, some-witness, some-none, least-passes, least-before}
 use Rattle.permutations.proofs.Members.{member-head}
 use Rattle.permutations.proofs.Turned.{turned-head, turned-permutation}
-use Rattle.multigraph.specs.Graph.{Multigraph, edge_count, incident_edges, numbers_below}
+use Rattle.multigraph.specs.Graph.{incident_edges, numbers_below}
 use Rattle.multigraph.specs.Part.{GraphPart, IsNumbered}
 use Rattle.multigraph.proofs.Below.{length-numbers_below, get_or-numbers_below}
 use Rattle.multigraph.proofs.Incident.{incident_at-edge}
 use Rattle.multigraph.proofs.Places.{rises-once}
 use Rattle.rotations.specs.Entries.{entry, IsNamed}
-use Rattle.rotations.specs.Rotation.{order_at, IsCyclicOrder, IsRotationSystem}
+use Rattle.rotations.specs.Rotation.{order_at, IsCyclicOrder}
 use Rattle.rotations.specs.PartLists.{outer_edges, outer_list, outer_order, ArrangePart, IsBadInPart, IsFirstBadInPart}
 use Rattle.rotations.proofs.Membership.{incident-distinct, member-edge}
 use Rattle.rotations.proofs.Arrangements.{permutation-member}
 use Rattle.faces.proofs.MapLists.{distinct-map}
 use Rattle.skel_embed.specs.Taken.{IsGiven}
-use Rattle.spqr_session.specs.Trees.{BlockTree}
 use Rattle.spqr_session.specs.Commands.Permute.{is_arrangement, inner_edges}
 use Rattle.spqr_session.proofs.Arranging.{arranged-passes, passes-arranged}
 use Rattle.spqr_session.proofs.MovesCarried.{inner-of_outer}

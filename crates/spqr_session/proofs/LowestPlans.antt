@@ -2,8 +2,8 @@
 use Rattle.std.proofs.Common.{◌≡◌, ℕ, true, List, map, Result, Ok, Err, IfOk, OnErr, inl, inr, refl, sym, ap, ◌∙◌, subst}
 use Rattle.std.specs.Global.{Vec}
 use Rattle.spqr_session.specs.Trees.{BlockTree}
-use Rattle.spqr_session.specs.State.{Embedding, State}
-use Rattle.spqr_session.specs.Embedded.{BlockView, view_tree, view_at}
+use Rattle.spqr_session.specs.State.{Embedding}
+use Rattle.spqr_session.specs.Embedded.{BlockView, view_tree}
 use Rattle.spqr_session.specs.Board.{BoardView, board_state, IsCarried}
 use Rattle.spqr_session.specs.Codes.{Ladder, rises_above, Applies, Carries}
 use Rattle.spqr_session.specs.BlockCodes.{ChangesBlock, Silently}
@@ -35,29 +35,35 @@ module _ (applies : Code → Type 0) (IsChange : BlockTree → Embedding → Emb
         → Carries applies (ChangesBlock (map view_tree before.views) b (Silently IsChange)) (board_state before) text (board_state after)
     lowest-settled (Refused code) text p q = inl (record { code = code; lowest = p; line = q.0; stays = ap board_state q.1 })
     lowest-settled End text p q = absurd p
-    lowest-settled (Change x) text p q = inr (p.1, record {
-      old = p.2.0.old;
-      present = entries-at before.views b ∙ p.2.0.present;
-      new = embedding_of x;
-      change = (subst (λ (t : BlockTree). IsChange t p.2.0.old (embedding_of x)) (sym (trees-at before.views b)) p.2.1, q.0);
-      after_is = ap board_state q.1 ∙ changed-seen before b (embedding_of x);
-    })
+    lowest-settled (Change x) text p q = inr (
+      p.1,
+      record {
+        old = p.2.0.old;
+        present = entries-at before.views b ∙ p.2.0.present;
+        new = embedding_of x;
+        change = (subst (λ (t : BlockTree). IsChange t p.2.0.old (embedding_of x)) (sym (trees-at before.views b)) p.2.1, q.0);
+        after_is = ap board_state q.1 ∙ changed-seen before b (embedding_of x);
+      },
+    )
 
     -- and so it is with the moves told
     pub lowest-converted : (planned : Planned) (text : List ℕ) → IsLowestPlanAt applies IsChange before.views b planned → IsConverted b planned before text after
         → Carries applies (ChangesBlock (map view_tree before.views) b (WithMoves IsChange)) (board_state before) text (board_state after)
     lowest-converted (Refused code) text p q = inl (record { code = code; lowest = p; line = q.0; stays = ap board_state q.1 })
     lowest-converted End text p q = absurd p
-    lowest-converted (Change x) text p q = inr (p.1, record {
-      old = p.2.0.old;
-      present = entries-at before.views b ∙ p.2.0.present;
-      new = embedding_of x;
-      change = (
-        subst (λ (t : BlockTree). IsChange t p.2.0.old (embedding_of x)) (sym (trees-at before.views b)) p.2.1,
-        q.0 p.2.0.old p.2.0.present ∙ ap (λ (t : BlockTree). conversion_text t p.2.0.old (embedding_of x)) (sym (trees-at before.views b)),
-      );
-      after_is = ap board_state q.1 ∙ changed-seen before b (embedding_of x);
-    })
+    lowest-converted (Change x) text p q = inr (
+      p.1,
+      record {
+        old = p.2.0.old;
+        present = entries-at before.views b ∙ p.2.0.present;
+        new = embedding_of x;
+        change = (
+          subst (λ (t : BlockTree). IsChange t p.2.0.old (embedding_of x)) (sym (trees-at before.views b)) p.2.1,
+          q.0 p.2.0.old p.2.0.present ∙ ap (λ (t : BlockTree). conversion_text t p.2.0.old (embedding_of x)) (sym (trees-at before.views b)),
+        );
+        after_is = ap board_state q.1 ∙ changed-seen before b (embedding_of x);
+      },
+    )
 
 -- trees and certificates stay, whether memory sufficed or not
 converted-carried : (b : ℕ) (planned : Planned) (before after : BoardView) (text : List ℕ) → IsConverted b planned before text after → IsCarried before.views after.views

@@ -7,14 +7,14 @@ use Rattle.spqr_script.specs.Answers.Change.{ok_text}
 use Rattle.spqr_session.specs.Trees.{BlockTree, tree_at}
 use Rattle.spqr_session.specs.Setting.{Setting, IsSetting}
 use Rattle.spqr_session.specs.State.{Embedding, State, entry_at, IsState}
-use Rattle.spqr_session.specs.Codes.{code_numbers, code_text, IsLowest, NoneApplies, Carries}
+use Rattle.spqr_session.specs.Codes.{code_numbers, code_text, IsLowest, NoneApplies}
 use Rattle.spqr_session.specs.BlockCodes.{ChangesBlock, changed, Silently}
 use Rattle.spqr_session.specs.Commands.Take.{TakeApplies, IsTaken, TakeStep}
 use Rattle.spqr_session.specs.Planned.{TakenCodes, EntryTakenCodes}
 use Rattle.spqr_session.specs.declared.code.Code.{Code}
 use Rattle.spqr_session.specs.declared.code.Code.TheVariants.{NoBlock, NonPlanar}
 use Rattle.spqr_session.proofs.OneStart.{setting-tree}
-use Rattle.spqr_session.proofs.Carried.{TellsOne, DoesOne, carries-one}
+use Rattle.spqr_session.proofs.Carried.{TellsOne, carries-one}
 use Rattle.spqr_session.proofs.Changes.{change-does, change-keeps, entry-block, silently-one}
 use Rattle.spqr_session.proofs.Takings.{taken-alone, entry-alone, taken-none, taken-one, taken-found, taken-right, entry-down, entry-lowest, outside-alone, alone-lowest, outside-lowest}
 
@@ -86,9 +86,9 @@ module _ (setting : Setting) (b : ℕ) (entries : List (ℕ × List ℕ)) (s : S
   take-answers = elim take-cases [
     | inl found ↦ (code_text found.0, s, inl (record { code = found.0; lowest = found.1; line = refl; stays = refl }))
     | inr found ↦ (
-      let due = found.1 in
-      (ok_text, changed s b due.new, inr (found.0, record { old = due.old; present = due.present; new = due.new; change = (due.taken, refl); after_is = refl }))
-    )
+        let due = found.1 in
+        (ok_text, changed s b due.new, inr (found.0, record { old = due.old; present = due.present; new = due.new; change = (due.taken, refl); after_is = refl }))
+        )
   ]
 
   pub take-one : (t u : List ℕ) (after other : State) → TakeStep setting.trees b entries s t after → TakeStep setting.trees b entries s u other → (t ≡ u) × (after ≡ other)

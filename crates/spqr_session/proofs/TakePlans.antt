@@ -1,5 +1,5 @@
 -- The plans of taking lists in: for a block that is seen in the plane, for one that is not, and for a block among others.
-use Rattle.std.proofs.Common.{◌≡◌, ℕ, ◌<◌, ◌≤◌, List, length, map, Option, None, Some, refl, sym, ap, ◌∙◌, subst, arith}
+use Rattle.std.proofs.Common.{◌≡◌, ℕ, ◌<◌, ◌≤◌, List, length, map, Option, None, refl, sym, ap, ◌∙◌, subst, arith}
 use Rattle.std.proofs.lemmas.List.{length-map}
 use Rattle.multigraph.specs.Graph.{Multigraph}
 use Rattle.multigraph.specs.Part.{GraphPart, IsNumbered}
@@ -8,14 +8,13 @@ use Rattle.skeletons.specs.Lists.{KeepsChoices}
 use Rattle.skel_embed.specs.Block.{BlockState, lock_at, IsBlockState}
 use Rattle.skel_embed.specs.Taken.{IsLeastOther}
 use Rattle.skel_embed.specs.Taken as taken
-use Rattle.spqr_session.specs.Trees.{BlockTree, tree_at}
-use Rattle.spqr_session.specs.State.{Embedding, State, entry_at}
+use Rattle.spqr_session.specs.Trees.{BlockTree}
+use Rattle.spqr_session.specs.State.{Embedding, State}
 use Rattle.spqr_session.specs.Embedded.{BlockView, view_tree, view_at}
 use Rattle.spqr_session.specs.Board.{family_on}
 use Rattle.spqr_session.specs.Codes.{IsLowest, NoneApplies}
 use Rattle.spqr_session.specs.Commands.Take.{IsLockedOut, TakeApplies, IsTaken}
 use Rattle.spqr_session.specs.Planned.{embedding_of, IsLowestPlan, IsLowestPlanAt, TakenCodes, EntryTakenCodes, IsTakePlan}
-use Rattle.spqr_session.specs.declared.code.Code.{Code}
 use Rattle.spqr_session.specs.declared.code.Code.TheVariants.{NoBlock, NonPlanar}
 use Rattle.spqr_session.specs.declared.planned.Planned.{Planned}
 use Rattle.spqr_session.specs.declared.planned.Planned.TheVariants.{Refused, End, Change}
@@ -43,8 +42,7 @@ pub taken-plane : (entries : List (ℕ × List ℕ)) (part : GraphPart) (p q : B
     → KeepsChoices p.tree (λ k. lock_at p.locks k) p.rotation q.rotation → IsTakePlan part entries p (Change q)
 taken-plane entries part p q g rest state given keeps =
     let graph : q.graph ≡ p.graph = ap (λ (x : BlockState). x.graph) rest in
-    let locks : q.locks ≡ p.locks = ap (λ (x : BlockState). x.locks) rest in
-    (
+    let locks : q.locks ≡ p.locks = ap (λ (x : BlockState). x.locks) rest in (
       record { graph = graph; tree = ap (λ (x : BlockState). x.tree) rest; locks = locks },
       record { given = given; plane = subst (λ (x : Multigraph). IsPlaneSystem x q.rotation) (graph ∙ sym g) state.plane; keeps = keeps; locks = locks },
     )
@@ -69,8 +67,7 @@ module _ (entries : List (ℕ × List ℕ)) (v : BlockView) where
         alone-lowest (EntryTakenCodes entries v.tree v.entry) code own (λ other a. entry-alone entries v.tree numbered seen.tree v.entry code other own a)
     take-planned End h = absurd h
     take-planned (Change q) h =
-        let made : IsTaken entries v.tree here (embedding_of q) = subst (λ (t : BlockTree). IsTaken entries t here (embedding_of q)) same-tree h.1 in
-        (
+        let made : IsTaken entries v.tree here (embedding_of q) = subst (λ (t : BlockTree). IsTaken entries t here (embedding_of q)) same-tree h.1 in (
           subst (λ (o : Option Embedding). NoneApplies (EntryTakenCodes entries v.tree o)) (sym seen.entry) (taken-none entries v.tree numbered seen.tree here (embedding_of q) made),
           (record { old = here; present = seen.entry; graph = h.0.graph ∙ seen.graph; nodes = h.0.tree ∙ seen.nodes; locks = h.0.locks }, made),
         )

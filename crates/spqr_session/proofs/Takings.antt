@@ -1,16 +1,15 @@
 -- Taking lists in as the rotation system of a block: which codes apply, that there is at most one, and what holds where none does.
-use Rattle.std.proofs.Common.{◌≡◌, ◌≢◌, ℕ, ◌+◌, ◌*◌, ◌<◌, ◌≤◌, ◌⊎◌, ◌&&◌, Bool, true, false, not, List, [], ◌∷◌, length, Option, None, Some, inl, inr, refl, sym, ap, ◌∙◌, subst, arith}
-use Rattle.std.proofs.lemmas.Bool.{cases_Bool, cases_eq, cases_lt, cases_order, both_ways, and_parts, and_from, not_from_false, not_from_true, false_from_ne_true}
+use Rattle.std.proofs.Common.{◌≡◌, ℕ, ◌+◌, ◌*◌, ◌<◌, ◌≤◌, ◌⊎◌, ◌&&◌, Bool, true, false, not, List, length, Option, None, Some, inl, inr, refl, sym, ap, ◌∙◌, subst, arith}
+use Rattle.std.proofs.lemmas.Bool.{cases_Bool, cases_eq, cases_order, both_ways, and_parts, and_from, not_from_false, not_from_true, false_from_ne_true}
 use Rattle.permutations.specs.Count.{some, least}
 use Rattle.permutations.proofs.Search.{some-none, least-below, least-passes, least-before}
-use Rattle.multigraph.specs.Graph.{Multigraph, edge_count}
-use Rattle.multigraph.specs.Part.{GraphPart, IsNumbered}
+use Rattle.multigraph.specs.Graph.{edge_count}
+use Rattle.multigraph.specs.Part.{IsNumbered}
 use Rattle.rotations.specs.PartLists.{IsFirstBadInPart}
 use Rattle.faces.specs.Euler.{face_count}
 use Rattle.pair_split.specs.Tutte.{is_before}
 use Rattle.skeletons.specs.Items as items
 use Rattle.skeletons.specs.Choices.{choice, IsPlaneSystem}
-use Rattle.skeletons.specs.Lists.{KeepsChoices}
 use Rattle.skeletons.specs.Moves.{is_same}
 use Rattle.skeletons.proofs.Before.{before-irreflexive, before-total}
 use Rattle.skel_embed.specs.Block.{lock_at}
@@ -18,7 +17,7 @@ use Rattle.skel_embed.specs.Taken.{IsGiven, IsNotPlane}
 use Rattle.skel_embed.proofs.Spheres.{one-component, plane-from_two}
 use Rattle.spqr_session.specs.Trees.{BlockTree, tree_at}
 use Rattle.spqr_session.specs.State.{Embedding, State, entry_at, IsEntry}
-use Rattle.spqr_session.specs.Codes.{code_number, code_numbers, IsLowest, NoneApplies}
+use Rattle.spqr_session.specs.Codes.{code_number, IsLowest, NoneApplies}
 use Rattle.spqr_session.specs.Commands.Take.{IsLockedOut, TakeApplies, IsTaken}
 use Rattle.spqr_session.specs.Planned.{TakenCodes, EntryTakenCodes}
 use Rattle.spqr_session.specs.declared.code.Code.{Code}
@@ -162,16 +161,19 @@ module _ (entries : List (ℕ × List ℕ)) (tree : BlockTree) (numbered : IsNum
     | inl t ↦
         let k = least (length tree.nodes) (is_other e r) in
         let both = and_parts (lock_at e.locks k) (not (is_same (choice tree.nodes r k) (choice tree.nodes e.rotation k))) (least-passes (length tree.nodes) (is_other e r) t) in
-        inl (Locked k, record {
-          system = r;
-          given = g;
-          plane = p;
-          within = least-below (length tree.nodes) (is_other e r) t;
-          locked = both.0;
-          other = λ q. both_ways (not (is_same (choice tree.nodes r k) (choice tree.nodes e.rotation k)))
-              (not_from_true (is_same (choice tree.nodes r k) (choice tree.nodes e.rotation k)) (same-passes (choice tree.nodes r k) (choice tree.nodes e.rotation k) q)) both.1;
-          none_before = λ j l on. same-choice e r j (least-before (length tree.nodes) (is_other e r) j l) on;
-        })
+        inl (
+          Locked k,
+          record {
+            system = r;
+            given = g;
+            plane = p;
+            within = least-below (length tree.nodes) (is_other e r) t;
+            locked = both.0;
+            other = λ q. both_ways (not (is_same (choice tree.nodes r k) (choice tree.nodes e.rotation k)))
+                (not_from_true (is_same (choice tree.nodes r k) (choice tree.nodes e.rotation k)) (same-passes (choice tree.nodes r k) (choice tree.nodes e.rotation k) q)) both.1;
+            none_before = λ j l on. same-choice e r j (least-before (length tree.nodes) (is_other e r) j l) on;
+          },
+        )
     | inr f ↦ inr (
       record { rotation = r; locks = e.locks },
       record { given = g; plane = p; keeps = λ j l on. same-choice e r j (some-none (length tree.nodes) (is_other e r) f j l) on; locks = refl },
@@ -188,14 +190,17 @@ module _ (entries : List (ℕ × List ℕ)) (tree : BlockTree) (numbered : IsNum
       by : (r : List (List ℕ)) → IsGiven tree.part entries r → Found e
       by r g = elim (cases_eq (tree.part.graph.vertex_count + face_count tree.part.graph r) (edge_count tree.part.graph + 2)) [
         | inl q ↦ plane-found e r g (record { system = g.system; plane = plane-from_two tree.part.graph block.graph block.block r q })
-        | inr n ↦ inl (NotGenusZero tree.part.graph.vertex_count (edge_count tree.part.graph) (face_count tree.part.graph r), record {
-          system = r;
-          given = g;
-          vertices = refl;
-          edges = refl;
-          faces = refl;
-          differs = n;
-        })
+        | inr n ↦ inl (
+          NotGenusZero tree.part.graph.vertex_count (edge_count tree.part.graph) (face_count tree.part.graph r),
+          record {
+            system = r;
+            given = g;
+            vertices = refl;
+            edges = refl;
+            faces = refl;
+            differs = n;
+          },
+        )
       ]
 
 -- what is taken is right

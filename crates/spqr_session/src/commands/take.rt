@@ -41,11 +41,7 @@ fn take_of_plane(
 }
 
 // The plan for a block.
-fn take_of_block(
-    alloc: Global,
-    block: &EmbeddedBlock,
-    lists: &Lists,
-) -> Result<Planned, AllocError>
+fn take_of_block(alloc: Global, block: &EmbeddedBlock, lists: &Lists) -> Result<Planned, AllocError>
     ensures { IfOk result (IsLowestPlan (EntryTakenCodes lists.now block.now.tree block.now.entry) (IsTaken lists.now) block.now) }
 {
     let _ = block.part().graph();

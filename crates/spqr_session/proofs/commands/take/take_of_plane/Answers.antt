@@ -1,4 +1,4 @@
-use Rattle.std.proofs.Common.{◌≡◌, ℕ, List, sym, subst}
+use Rattle.std.proofs.Common.{◌≡◌, subst}
 use Rattle.skeletons.specs.Lists.{KeepsChoices}
 use Rattle.skel_embed.specs.Block.{BlockState, lock_at}
 use Rattle.skel_embed.specs.Taken.{IsTakeRefusal}
