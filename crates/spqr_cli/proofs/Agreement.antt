@@ -2,7 +2,7 @@
 -- for what is left open.
 use Rattle.std.proofs.Common.{◌≡◌, ◌≢◌, ℕ, List, length, Option, None, Some, Ok, Err, IsSome, inl, inr, refl, sym, ap, ◌∙◌, subst, arith}
 use Rattle.std.specs.Bool.{⊤}
-use Rattle.std.proofs.lemmas.Bool.{true≢false, cases_lt}
+use Rattle.std.proofs.lemmas.Bool.{cases_lt}
 use Rattle.std.proofs.lemmas.List.{get_or_past}
 use Rattle.multigraph.specs.Graph.{Multigraph}
 use Rattle.kuratowski.specs.declared.subdivision.Subdivision.{Subdivision}
@@ -19,8 +19,8 @@ use Rattle.spqr_script.specs.declared.command.Command.{Command}
 use Rattle.spqr_script.proofs.Scripts.{apart, one_reading, one_bad_line}
 use Rattle.spqr_session.specs.Trees.{BlockTree, tree_at, AreBlockTrees}
 use Rattle.spqr_session.specs.Report.{IsReport}
-use Rattle.spqr_cli.specs.Words.{Names, form_of}
-use Rattle.spqr_cli.specs.Decision.{Sources, Work, Decision, SayDocument, SayCommands, AcceptsGraph, AcceptsScript, IsGmlReason, IsGraphReason, IsScriptReason, IsWork, IsDue}
+use Rattle.spqr_cli.specs.Words.{names_of}
+use Rattle.spqr_cli.specs.Decision.{Sources, Work, Decision, SayDocument, SayCommands, AcceptsGraph, AcceptsScript, IsGmlReason, IsGraphReason, IsScriptReason, IsWork, Task, Report, Summary, IsDue}
 use Rattle.spqr_cli.specs.Ending.{file_status, graph_status, script_status, refusal_status, refusal_text, status_of, IsTextOf}
 use Rattle.spqr_session.specs.Certificates.{certificate_at, IsCertificate, AreCertificates}
 use Rattle.spqr_session.specs.Setting.{IsSetting}
@@ -34,6 +34,11 @@ use Rattle.spqr_cli.specs.declared.refusal.GraphRefusal.TheVariants.{File, Gml, 
 use Rattle.spqr_cli.specs.declared.refusal.ScriptRefusal.{ScriptRefusal}
 use Rattle.spqr_cli.specs.declared.refusal.ScriptRefusal.TheVariants.{File as Script, Line}
 use Rattle.spqr_cli.specs.declared.status.Status.TheVariants.{ReadFault}
+use Rattle.made_graph.specs.Made.{made}
+use Rattle.made_graph.specs.Laws.{IsPlanarBlock}
+use Rattle.made_summary.specs.Summary.{IsSummary}
+use Rattle.made_summary.proofs.OneSummary.{one-summary}
+use Rattle.spqr_cli.proofs.Forms.{named-not_none, only-summary, asked-planar}
 use Rattle.spqr_session.proofs.Chains.{one-report}
 use Rattle.spqr_session.proofs.OneTree.{one-trees}
 
@@ -46,10 +51,6 @@ no_document : (bytes : List ℕ) (d : Document) (fault : GmlFault) → IsGmlReas
 no_document bytes d (Bad at) p q = p.0 d q
 no_document bytes d (End at) p q = p.0 d q
 no_document bytes d GmlMemory p q = p
-
--- words are not a form and none
-no_form : (o : Option Names) → IsSome o → o ≡ None → ⊥
-no_form o h e = true≢false (sym (subst (λ (x : Option Names). IsSome x) e h))
 
 -- a graph file is not accepted and refused
 graph_apart : OneDocument → (bytes : List ℕ) (d : Document) (named : NamedGraph) (r : GraphRefusal) → SayDocument bytes d → graph_of_document d ≡ Ok named → IsGraphReason bytes r → graph_status r ≢ ReadFault → ⊥
@@ -141,9 +142,16 @@ same_work one sources a b p q =
 work_same : (a b : Work) → AreAlike a b → a.setting.certificates ≡ b.setting.certificates → a ≡ b
 work_same a b e c = λ i. record { setting = record { document = e.document i; named = e.named i; structure = e.structure i; trees = e.trees i; certificates = c i }; commands = e.commands i }
 
+-- tasks are alike: summaries are the same
+abbrev AlikeTasks : Task → Task → Type 0
+AlikeTasks (Report a) (Report b) = AreAlike a b
+AlikeTasks (Report a) (Summary n seed) = ⊥
+AlikeTasks (Summary n seed) (Report b) = ⊥
+AlikeTasks (Summary n seed) (Summary m other) = (n ≡ m) × (seed ≡ other)
+
 -- decisions are alike
 abbrev Alike : Decision → Decision → Type 0
-Alike (Ok a) (Ok b) = AreAlike a b
+Alike (Ok a) (Ok b) = AlikeTasks a b
 Alike (Ok a) (Err r) = ⊥
 Alike (Err r) (Ok b) = ⊥
 Alike (Err NoForm) (Err NoForm) = ⊤
@@ -158,20 +166,22 @@ Alike (Err (OfScript r)) (Err (OfScript q)) = r ≡ q
 
 -- what is due is alike
 due_alike : OneDocument → (words : List (List ℕ)) (sources : Sources) (a b : Decision) → IsDue words sources a → IsDue words sources b → status_of a ≢ ReadFault → status_of b ≢ ReadFault → Alike a b
-due_alike one words sources (Ok a) (Ok b) p q n m = same_work one sources a b p.1 q.1
-due_alike one words sources (Ok a) (Err NoForm) p q n m = no_form (form_of words) p.0 q
-due_alike one words sources (Ok a) (Err (OfGraph r)) p q n m = graph_apart one sources.graph a.setting.document a.setting.named r p.1.graph p.1.setting.graph q.1 m
-due_alike one words sources (Ok a) (Err (OfScript r)) p q n m = script_apart sources.script a.commands r p.1.script q.2 m
-due_alike one words sources (Err NoForm) (Ok b) p q n m = no_form (form_of words) q.0 p
+due_alike one words sources (Ok (Summary k seed)) b p q n m = subst (λ (d : Decision). Alike (Ok (Summary k seed)) d) (sym (only-summary words sources b k seed p q)) (refl, refl)
+due_alike one words sources a (Ok (Summary k seed)) p q n m = subst (λ (d : Decision). Alike d (Ok (Summary k seed))) (sym (only-summary words sources a k seed q p)) (refl, refl)
+due_alike one words sources (Ok (Report a)) (Ok (Report b)) p q n m = same_work one sources a b p.1 q.1
+due_alike one words sources (Ok (Report a)) (Err NoForm) p q n m = named-not_none words p.0 q
+due_alike one words sources (Ok (Report a)) (Err (OfGraph r)) p q n m = graph_apart one sources.graph a.setting.document a.setting.named r p.1.graph p.1.setting.graph q.1 m
+due_alike one words sources (Ok (Report a)) (Err (OfScript r)) p q n m = script_apart sources.script a.commands r p.1.script q.2 m
+due_alike one words sources (Err NoForm) (Ok (Report b)) p q n m = named-not_none words q.0 p
 due_alike one words sources (Err NoForm) (Err NoForm) p q n m = tt
-due_alike one words sources (Err NoForm) (Err (OfGraph r)) p q n m = no_form (form_of words) q.0 p
-due_alike one words sources (Err NoForm) (Err (OfScript r)) p q n m = no_form (form_of words) q.0 p
-due_alike one words sources (Err (OfGraph r)) (Ok b) p q n m = graph_apart one sources.graph b.setting.document b.setting.named r q.1.graph q.1.setting.graph p.1 n
-due_alike one words sources (Err (OfGraph r)) (Err NoForm) p q n m = no_form (form_of words) p.0 q
+due_alike one words sources (Err NoForm) (Err (OfGraph r)) p q n m = named-not_none words q.0 p
+due_alike one words sources (Err NoForm) (Err (OfScript r)) p q n m = named-not_none words q.0 p
+due_alike one words sources (Err (OfGraph r)) (Ok (Report b)) p q n m = graph_apart one sources.graph b.setting.document b.setting.named r q.1.graph q.1.setting.graph p.1 n
+due_alike one words sources (Err (OfGraph r)) (Err NoForm) p q n m = named-not_none words p.0 q
 due_alike one words sources (Err (OfGraph r)) (Err (OfGraph s)) p q n m = graph_alike one sources.graph r s p.1 q.1 n m
 due_alike one words sources (Err (OfGraph r)) (Err (OfScript s)) p q n m = graph_apart one sources.graph q.1.document q.1.named r q.1.says q.1.graph p.1 n
-due_alike one words sources (Err (OfScript r)) (Ok b) p q n m = script_apart sources.script b.commands r q.1.script p.2 n
-due_alike one words sources (Err (OfScript r)) (Err NoForm) p q n m = no_form (form_of words) p.0 q
+due_alike one words sources (Err (OfScript r)) (Ok (Report b)) p q n m = script_apart sources.script b.commands r q.1.script p.2 n
+due_alike one words sources (Err (OfScript r)) (Err NoForm) p q n m = named-not_none words p.0 q
 due_alike one words sources (Err (OfScript r)) (Err (OfGraph s)) p q n m = graph_apart one sources.graph p.1.document p.1.named s p.1.says p.1.graph q.1 m
 due_alike one words sources (Err (OfScript r)) (Err (OfScript s)) p q n m = script_same sources.script r s p.2 q.2 n m
 
@@ -223,17 +233,26 @@ graph_same (Rule a) (Rule b) e o = ap (λ (f : GraphFault). Rule f) e
 report_alike : (a b : Work) (s t : List ℕ) → IsSetting b.setting → a ≡ b → IsReport a.setting a.commands s → IsReport b.setting b.commands t → s ≡ t
 report_alike a b s t is w p q = one-report b.setting b.commands s t is (subst (λ (x : Work). IsReport x.setting x.commands s) w p) q
 
--- the setting of a work that is due is right
-abbrev HasSetting : Decision → Type 0
-HasSetting (Ok work) = IsSetting work.setting
-HasSetting (Err r) = ⊤
+-- a made graph has one summary
+summary_alike : (n m seed other : ℕ) (s t : List ℕ) → IsPlanarBlock (made m other) → n ≡ m → seed ≡ other → IsSummary (made n seed) s → IsSummary (made m other) t → s ≡ t
+summary_alike n m seed other s t is e f p q = one-summary (made m other) s t is.one_block (subst (λ (k : ℕ × ℕ). IsSummary (made k.0 k.1) s) (λ i. (e i, f i)) p) q
 
-due_setting : (words : List (List ℕ)) (sources : Sources) (d : Decision) → IsDue words sources d → HasSetting d
-due_setting words sources (Ok work) h = h.1.setting
-due_setting words sources (Err r) h = tt
+-- the setting of a work that is due is right, and a graph that is asked for is a block
+abbrev IsSound : Decision → Type 0
+IsSound (Ok (Report work)) = IsSetting work.setting
+IsSound (Ok (Summary n seed)) = IsPlanarBlock (made n seed)
+IsSound (Err r) = ⊤
 
-text_alike : (a b : Decision) (s t : List ℕ) → HasSetting b → Alike a b → AgreeOnOpen a b → IsTextOf a s → IsTextOf b t → s ≡ t
-text_alike (Ok a) (Ok b) s t is e o p q = report_alike a b s t is (work_same a b e o) p q
+due_sound : (words : List (List ℕ)) (sources : Sources) (d : Decision) → IsDue words sources d → IsSound d
+due_sound words sources (Ok (Report work)) h = h.1.setting
+due_sound words sources (Ok (Summary n seed)) h = asked-planar words n seed h
+due_sound words sources (Err r) h = tt
+
+text_alike : (a b : Decision) (s t : List ℕ) → IsSound b → Alike a b → AgreeOnOpen a b → IsTextOf a s → IsTextOf b t → s ≡ t
+text_alike (Ok (Report a)) (Ok (Report b)) s t is e o p q = report_alike a b s t is (work_same a b e o) p q
+text_alike (Ok (Report a)) (Ok (Summary n seed)) s t is e o p q = absurd e
+text_alike (Ok (Summary n seed)) (Ok (Report b)) s t is e o p q = absurd e
+text_alike (Ok (Summary n seed)) (Ok (Summary m other)) s t is e o p q = summary_alike n m seed other s t is e.0 e.1 p q
 text_alike (Ok a) (Err r) s t is e o p q = absurd e
 text_alike (Err r) (Ok b) s t is e o p q = absurd e
 text_alike (Err NoForm) (Err NoForm) s t is e o p q = p ∙ sym q
@@ -247,15 +266,15 @@ text_alike (Err (OfScript r)) (Err (OfGraph k)) s t is e o p q = absurd e
 text_alike (Err (OfScript r)) (Err (OfScript k)) s t is e o p q = p ∙ ap (λ (x : ScriptRefusal). refusal_text (OfScript x)) e ∙ sym q
 
 pub one_text : OneDocument → (words : List (List ℕ)) (sources : Sources) (a b : Decision) (s t : List ℕ) → IsDue words sources a → IsDue words sources b → status_of a ≢ ReadFault → status_of b ≢ ReadFault → AgreeOnOpen a b → IsTextOf a s → IsTextOf b t → s ≡ t
-one_text one words sources a b s t p q n m o = text_alike a b s t (due_setting words sources b q) (due_alike one words sources a b p q n m) o
+one_text one words sources a b s t p q n m o = text_alike a b s t (due_sound words sources b q) (due_alike one words sources a b p q n m) o
 
 -- ---- works and refusals
 
-pub one_work : OneDocument → (words : List (List ℕ)) (sources : Sources) (a b : Work) → IsDue words sources (Ok a) → IsDue words sources (Ok b) → AreAlike a b
+pub one_work : OneDocument → (words : List (List ℕ)) (sources : Sources) (a b : Work) → IsDue words sources (Ok (Report a)) → IsDue words sources (Ok (Report b)) → AreAlike a b
 one_work one words sources a b p q = same_work one sources a b p.1 q.1
 
 -- where the words and the files are accepted, no refusal is due
-pub no_refusal : OneDocument → (words : List (List ℕ)) (sources : Sources) (refusal : Refusal) → IsSome (form_of words) → AcceptsGraph sources.graph → AcceptsScript sources.script → IsDue words sources (Err refusal) → refusal_status refusal ≢ ReadFault → ⊥
-no_refusal one words sources NoForm f g s q n = no_form (form_of words) f q
+pub no_refusal : OneDocument → (words : List (List ℕ)) (sources : Sources) (refusal : Refusal) → IsSome (names_of words) → AcceptsGraph sources.graph → AcceptsScript sources.script → IsDue words sources (Err refusal) → refusal_status refusal ≢ ReadFault → ⊥
+no_refusal one words sources NoForm f g s q n = named-not_none words f q
 no_refusal one words sources (OfGraph r) f g s q n = graph_apart one sources.graph g.document g.named r g.says g.graph q.1 n
 no_refusal one words sources (OfScript r) f g s q n = script_apart sources.script s.commands r s.says q.2 n

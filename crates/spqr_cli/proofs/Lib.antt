@@ -2,7 +2,9 @@
 pub mod Fronts
 pub mod Pieces
 pub mod Files
+pub mod Forms
 pub mod Decided
 pub mod Texts
 pub mod Agreement
 pub mod Complete
+pub mod Runs

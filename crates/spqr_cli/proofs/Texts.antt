@@ -1,10 +1,9 @@
 -- Texts that are written one after another: answers, and reports.
-use Rattle.std.proofs.Common.{◌≡◌, ℕ, ◌+◌, ◌<◌, List, [], ◌∷◌, ◌++◌, Option, Result, Ok, Err, inr, refl, length, take, drop, get_or, map, sym, ap, ◌∙◌, subst, append_assoc, append-nil, add-one, take-append-drop}
+use Rattle.std.proofs.Common.{◌≡◌, ℕ, ◌+◌, ◌<◌, List, [], ◌∷◌, ◌++◌, Option, Result, Ok, Err, inr, refl, length, take, drop, get_or, sym, ap, ◌∙◌, subst, append_assoc, append-nil, add-one, take-append-drop}
 use Rattle.std.specs.List.{concat}
 use Rattle.std.specs.Io.KnownBytes.{Appends}
 use Rattle.std.proofs.KnownBytes.{Appends-nil, Appends-trans}
 use Rattle.std.proofs.lemmas.List.Folds.{concat-append}
-use Rattle.std.proofs.lemmas.List.{get_or-map}
 use Rattle.std.proofs.Math.Seq.{take-suc}
 use Rattle.spqr_edge.specs.declared.Failed.{Failed}
 use Rattle.spqr_script.specs.declared.command.Command.{Command}
@@ -18,7 +17,6 @@ use Rattle.spqr_session.specs.Report.{IsReport}
 use Rattle.spqr_cli.specs.Front.{AppendsFront}
 use Rattle.spqr_cli.specs.Writing.{WritesAll, WritesFront, WritesAnswers, AppendsReport, AppendsReportFront, WritesReport}
 use Rattle.spqr_session.proofs.Chains.{chain-exists, chain-keeps, chain-join}
-use Rattle.spqr_session.proofs.Numbered.{concat-take_more}
 
 -- ---- answers
 

@@ -1,4 +1,4 @@
--- What a run decides before it writes: the work to be done, or why it is refused; and what is due for the words and the bytes.
+-- What a run decides before it writes: what is to be done, or why it is refused; and what is due for the words and the bytes.
 use Rattle.std.specs.Prelude.{◌≡◌, ◌≢◌, ℕ, ◌≤◌, List, length, Option, None, Some, Result, Ok, Err, IfSome, IsSome, ⊤}
 use Rattle.gml_text.specs.Document.{Document}
 use Rattle.gml_text.specs.Grammar.{Spells}
@@ -12,7 +12,8 @@ use Rattle.spqr_script.specs.Script.{Commands, IsFirstBadLine}
 use Rattle.spqr_script.specs.declared.command.Command.{Command}
 use Rattle.spqr_edge.specs.Device.{Files, contents}
 use Rattle.spqr_session.specs.Setting.{Setting, IsSetting}
-use Rattle.spqr_cli.specs.Words.{Names, form_of}
+use Rattle.command_words.specs.Form.{Make, form_of}
+use Rattle.spqr_cli.specs.Words.{Names, names_of}
 use Rattle.spqr_cli.specs.Reading.{IsFileReason, SomeBytes, told_file}
 use Rattle.spqr_cli.specs.declared.refusal.Refusal.{Refusal}
 use Rattle.spqr_cli.specs.declared.refusal.Refusal.TheVariants.{Usage, OfGraph, OfScript}
@@ -36,13 +37,18 @@ pub record Sources : Type 0 where
 -- where the shelf tells its files and the words name two, these are their bytes
 abbrev pub AreContents : List (List ℕ) → Option Files → Sources → Type 0
 AreContents words told sources =
-    IfSome told (λ files. IfSome (form_of words) (λ names.
+    IfSome told (λ files. IfSome (names_of words) (λ names.
     (sources.graph ≡ contents files names.graph) × (sources.script ≡ contents files names.script)))
 
--- what is to be done: the setting, and the commands
+-- what a report is on: the setting, and the commands
 pub record Work : Type 0 where
   pub setting : Setting
   pub commands : List Command
+
+-- what is to be done: the report on a work, or the summary of the graph that is made from a number, of so many edges or a few more
+pub data Task : Type 0 where
+  Report : Work → Task
+  Summary : ℕ → ℕ → Task
 
 -- the bytes of a graph file: within the limit, they spell the document
 pub record SayDocument (bytes : List ℕ) (d : Document) : Type 0 where
@@ -66,10 +72,10 @@ pub record AcceptsScript (bytes : List ℕ) : Type 0 where
   pub commands : List Command
   pub says : SayCommands bytes commands
 
--- the words are a form, and both files that they name are accepted
+-- the words name two files, and both are accepted
 pub record IsAccepted (words : List (List ℕ)) (files : Files) : Type 0 where
   pub names : Names
-  pub form : form_of words ≡ Some names
+  pub form : names_of words ≡ Some names
   pub graph : AcceptsGraph (contents files names.graph)
   pub script : AcceptsScript (contents files names.script)
 
@@ -109,16 +115,18 @@ ScriptFileSays told name commands = SomeBytes (told_file told name) (λ bytes. S
 abbrev pub ScriptFileRefused : Option Files → List ℕ → ScriptRefusal → Type 0
 ScriptFileRefused told name refusal = SomeBytes (told_file told name) (λ bytes. IsScriptReason bytes refusal)
 
--- a decision: the work to be done, or a refusal
+-- a decision: what is to be done, or a refusal
 abbrev pub Decision : Type 0
-Decision = Result Work Refusal
+Decision = Result Task Refusal
 
--- a decision that is due for the words, by the bytes. The script is refused only where the graph is accepted
+-- a decision that is due for the words, by the bytes. The script is refused only where the graph is accepted. For words that ask
+-- for a graph from a number nothing but its summary is due
 abbrev pub IsDue : List (List ℕ) → Sources → Decision → Type 0
-IsDue words sources (Ok work) = IsSome (form_of words) × IsWork sources work
+IsDue words sources (Ok (Report work)) = IsSome (names_of words) × IsWork sources work
+IsDue words sources (Ok (Summary n seed)) = form_of words ≡ Some (Make n seed)
 IsDue words sources (Err Usage) = form_of words ≡ None
-IsDue words sources (Err (OfGraph refusal)) = IsSome (form_of words) × IsGraphReason sources.graph refusal
-IsDue words sources (Err (OfScript refusal)) = IsSome (form_of words) × AcceptsGraph sources.graph × IsScriptReason sources.script refusal
+IsDue words sources (Err (OfGraph refusal)) = IsSome (names_of words) × IsGraphReason sources.graph refusal
+IsDue words sources (Err (OfScript refusal)) = IsSome (names_of words) × AcceptsGraph sources.graph × IsScriptReason sources.script refusal
 
 -- a refusal has a line: want of memory is none
 abbrev pub HasLine : GraphRefusal → Type 0
@@ -128,7 +136,7 @@ HasLine (Rule fault) = fault ≢ GraphMemory
 
 -- a decision has a text
 abbrev pub DecisionHasLine : Decision → Type 0
-DecisionHasLine (Ok work) = ⊤
+DecisionHasLine (Ok task) = ⊤
 DecisionHasLine (Err Usage) = ⊤
 DecisionHasLine (Err (OfGraph refusal)) = HasLine refusal
 DecisionHasLine (Err (OfScript refusal)) = ⊤

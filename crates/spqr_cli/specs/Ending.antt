@@ -6,9 +6,12 @@ use Rattle.spqr_script.specs.declared.refusals.Which.TheVariants.{GraphFile, Scr
 use Rattle.spqr_edge.specs.Device.{counted, Rose}
 use Rattle.spqr_cli.specs.declared.halt.Halt.{Halt}
 use Rattle.spqr_cli.specs.declared.halt.Halt.TheVariants.{Refused, Memory as OutOfMemory}
+use Rattle.spqr_session.specs.Machine.{IsStarted}
 use Rattle.spqr_session.specs.Report.{IsReport}
+use Rattle.made_graph.specs.Made.{made}
+use Rattle.made_summary.specs.Summary.{IsSummary}
 use Rattle.spqr_cli.specs.Seen.{ShelfSeen}
-use Rattle.spqr_cli.specs.Decision.{Sources, AreContents, Work, Decision, IsDue, DecisionHasLine}
+use Rattle.spqr_cli.specs.Decision.{Sources, AreContents, Work, Task, Report, Summary, Decision, IsDue, DecisionHasLine}
 use Rattle.spqr_cli.specs.declared.reading.FileFault.{FileFault}
 use Rattle.spqr_cli.specs.declared.reading.FileFault.TheVariants.{Failed, Long}
 use Rattle.spqr_cli.specs.declared.refusal.Refusal.{Refusal}
@@ -18,6 +21,8 @@ use Rattle.spqr_cli.specs.declared.refusal.ScriptRefusal.{ScriptRefusal}
 use Rattle.spqr_cli.specs.declared.refusal.GraphRefusal.TheVariants.{File, Gml, Rule}
 use Rattle.spqr_cli.specs.declared.refusal.ScriptRefusal.TheVariants.{File as Script, Line}
 use Rattle.spqr_cli.specs.declared.decision.Accepted.{Accepted}
+use Rattle.spqr_cli.specs.declared.decision.Plan.{Plan}
+use Rattle.spqr_cli.specs.declared.decision.Plan.TheVariants as plan
 use Rattle.spqr_cli.specs.declared.status.Status.{Status}
 use Rattle.spqr_cli.specs.declared.status.Status.TheVariants.{Done, Usage, ReadFault, TooLong, GmlRefused, GraphRefused, ScriptRefused}
 
@@ -35,9 +40,10 @@ refusal_text (OfGraph (Rule fault)) = rule_text fault
 refusal_text (OfScript (Script fault)) = file_text ScriptFile fault
 refusal_text (OfScript (Line line)) = script_text line
 
--- a text of a decision: a report, or the line of the refusal
+-- a text of a decision: a report, a summary, or the line of the refusal
 abbrev pub IsTextOf : Decision → List ℕ → Type 0
-IsTextOf (Ok work) text = IsReport work.setting work.commands text
+IsTextOf (Ok (Report work)) text = IsReport work.setting work.commands text
+IsTextOf (Ok (Summary n seed)) text = IsSummary (made n seed) text
 IsTextOf (Err refusal) text = text ≡ refusal_text refusal
 
 -- the status for a file that was not read
@@ -64,12 +70,13 @@ refusal_status (OfScript refusal) = script_status refusal
 
 -- the status of a decision, where nothing ends the run before
 abbrev pub status_of : Decision → Status
-status_of (Ok work) = Done
+status_of (Ok task) = Done
 status_of (Err refusal) = refusal_status refusal
 
 -- how many files are opened until a decision
 abbrev pub opens_of : Decision → ℕ
-opens_of (Ok work) = 2
+opens_of (Ok (Report work)) = 2
+opens_of (Ok (Summary n seed)) = 0
 opens_of (Err NoForm) = 0
 opens_of (Err (OfGraph refusal)) = 1
 opens_of (Err (OfScript refusal)) = 2
@@ -104,12 +111,22 @@ pub record IsDecided (words : List (List ℕ)) (before after : ShelfSeen) (decis
   pub opens : CountsOpens before.opens after.opens decision
   pub reads : CountsFor (status_of decision) before.faults after.faults
 
--- the decision that a call answers, where memory suffices: the work on what was accepted, or the refusal
+-- the work on what was accepted
 abbrev pub work_of : Accepted → Work
 work_of accepted = record { setting = accepted.session.setting; commands = accepted.commands.items }
 
--- a fact on the decision that a call answers; of want of memory nothing is said
-abbrev pub OnDecision : Result Accepted (Halt Refusal) → (Decision → Type 0) → Type 0
-OnDecision (Ok accepted) P = P (Ok (work_of accepted))
+-- what a plan is to do
+abbrev pub task_of : Plan → Task
+task_of (plan.Report accepted) = Report (work_of accepted)
+task_of (plan.Summary edges seed) = Summary edges seed
+
+-- a plan can be carried out: its session is at its start, or its number of edges is in the range
+abbrev pub IsReady : Plan → Type 0
+IsReady (plan.Report accepted) = IsStarted accepted.session
+IsReady (plan.Summary edges seed) = (6 ≤ edges) × (edges ≤ 20000)
+
+-- a fact on the decision that a call answers, where memory suffices: what its plan is to do, or the refusal
+abbrev pub OnDecision : Result Plan (Halt Refusal) → (Decision → Type 0) → Type 0
+OnDecision (Ok planned) P = P (Ok (task_of planned))
 OnDecision (Err (Refused refusal)) P = P (Err refusal)
 OnDecision (Err OutOfMemory) P = ⊤

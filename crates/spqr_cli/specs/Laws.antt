@@ -1,8 +1,11 @@
 -- What the definitions of a run say of one another.
-use Rattle.std.specs.Prelude.{◌≡◌, ◌≢◌, ◌↔◌, ℕ, List, None, Ok, Err, IsSome, ⊤}
+use Rattle.std.specs.Prelude.{◌≡◌, ◌≢◌, ◌↔◌, ℕ, List, None, Some, Ok, Err, IsSome, ⊤}
+use Rattle.made_graph.specs.Made.{made}
+use Rattle.made_graph.specs.Laws.{IsPlanarBlock}
+use Rattle.command_words.specs.Form.{Make, form_of}
 use Rattle.spqr_session.specs.Certificates.{certificate_at}
-use Rattle.spqr_cli.specs.Words.{form_of}
-use Rattle.spqr_cli.specs.Decision.{Sources, Work, Decision, AcceptsGraph, AcceptsScript, IsDue}
+use Rattle.spqr_cli.specs.Words.{names_of}
+use Rattle.spqr_cli.specs.Decision.{Sources, Work, Report, Summary, Decision, AcceptsGraph, AcceptsScript, IsDue}
 use Rattle.spqr_cli.specs.Ending.{IsTextOf, status_of}
 use Rattle.spqr_cli.specs.declared.refusal.Refusal.TheVariants.{OfGraph}
 use Rattle.spqr_cli.specs.declared.refusal.Refusal.{Refusal}
@@ -12,7 +15,7 @@ use Rattle.spqr_cli.specs.declared.status.Status.TheVariants.{ReadFault}
 -- two decisions agree on what their definitions leave open: the certificates of blocks that are not planar, and the place that
 -- is told of a fault in GML
 abbrev pub AgreeOnOpen : Decision → Decision → Type 0
-AgreeOnOpen (Ok a) (Ok b) = a.setting.certificates ≡ b.setting.certificates
+AgreeOnOpen (Ok (Report a)) (Ok (Report b)) = a.setting.certificates ≡ b.setting.certificates
 AgreeOnOpen (Err (OfGraph (Gml fault))) (Err (OfGraph (Gml other))) = fault ≡ other
 AgreeOnOpen a b = ⊤
 
@@ -40,10 +43,20 @@ pub record AreAlike (a b : Work) : Type 0 where
 -- works that are due for the same words and bytes are so, their trees included
 abbrev pub OneWork : Type 0
 OneWork =
-    (words : List (List ℕ)) (sources : Sources) (a b : Work) → IsDue words sources (Ok a) → IsDue words sources (Ok b) → AreAlike a b
+    (words : List (List ℕ)) (sources : Sources) (a b : Work) → IsDue words sources (Ok (Report a)) → IsDue words sources (Ok (Report b)) → AreAlike a b
 
--- where the words are a form and both files are accepted, no refusal is due, a read that failed aside
+-- where the words name two files and both are accepted, no refusal is due, a read that failed aside
 abbrev pub NoRefusal : Type 0
 NoRefusal =
-    (words : List (List ℕ)) (sources : Sources) (refusal : Refusal) → IsSome (form_of words) → AcceptsGraph sources.graph
+    (words : List (List ℕ)) (sources : Sources) (refusal : Refusal) → IsSome (names_of words) → AcceptsGraph sources.graph
     → AcceptsScript sources.script → IsDue words sources (Err refusal) → status_of (Err refusal) ≢ ReadFault → ⊥
+
+-- for words that ask for a graph from a number its summary is the only decision that is due
+abbrev pub OneSummary : Type 0
+OneSummary =
+    (words : List (List ℕ)) (sources : Sources) (decision : Decision) (n seed : ℕ) → form_of words ≡ Some (Make n seed)
+    → IsDue words sources decision → decision ≡ Ok (Summary n seed)
+
+-- and that graph is one block with a plane rotation system
+abbrev pub AskedIsPlanarBlock : Type 0
+AskedIsPlanarBlock = (words : List (List ℕ)) (n seed : ℕ) → form_of words ≡ Some (Make n seed) → IsPlanarBlock (made n seed)

@@ -1,21 +1,17 @@
--- The words that the program is called with.
-use Rattle.std.specs.Prelude.{ℕ, Bool, true, not, ◌&&◌, ◌==◌, if◌then◌else◌, List, [], ◌∷◌, Option, None, Some, bytes_eq, codes}
+-- The words that the program is called with, and the files that they name.
+use Rattle.std.specs.Prelude.{ℕ, List, Option, None, Some, option_and_then}
+use Rattle.command_words.specs.Form.{Asked, Run, Make, form_of}
 
 -- the names of the graph file and of the script file
 pub record Names : Type 0 where
   pub graph : List ℕ
   pub script : List ℕ
 
--- a word that does not begin with `-`
-abbrev pub is_plain : List ℕ → Bool
-is_plain [] = true
-is_plain (first ∷ others) = not (first == 45)
+-- the names of the files on which a report is asked for; a summary is asked for on none
+abbrev pub names_in : Asked → Option Names
+names_in (Run graph script) = Some (record { graph = graph; script = script })
+names_in (Make n seed) = None
 
--- the names in the words `run GRAPH SCRIPT`, where no word begins with `-`; words that are no such form give none
-abbrev pub form_of : List (List ℕ) → Option Names
-form_of [] = None
-form_of (command ∷ []) = None
-form_of (command ∷ graph ∷ []) = None
-form_of (command ∷ graph ∷ script ∷ []) =
-    (if bytes_eq command (codes "run") && is_plain graph && is_plain script then Some (record { graph = graph; script = script }) else None)
-form_of (command ∷ graph ∷ script ∷ another ∷ others) = None
+-- the names in the words `run GRAPH SCRIPT`; other words name no files
+abbrev pub names_of : List (List ℕ) → Option Names
+names_of words = option_and_then names_in (form_of words)

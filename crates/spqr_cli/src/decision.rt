@@ -1,23 +1,21 @@
-// What is decided before anything is written: the work to be done, or the first refusal.
+// What is decided before anything is written: what is to be done, or the first refusal.
 ghost use Rattle.std.specs.Prelude.{◌≡◌, ◌≤◌, ⊤, Ok, IfOk, length, map, string_bytes};
 ghost use Rattle.spqr_edge.specs.Device.{CountsCall};
 ghost use Rattle.gml_graph.specs.Answer.{graph_of_document};
 ghost use Rattle.spqr_cli.specs.Outcome.{Answers};
 ghost use Rattle.spqr_session.specs.Machine.{IsStarted};
 ghost use Rattle.spqr_cli.specs.Decision.{graph_limit, script_limit, SayDocument, SayCommands, IsGraphReason, IsScriptReason, GraphFileSays, GraphFileRefused, ScriptFileSays, ScriptFileRefused, HasLine};
-ghost use Rattle.spqr_cli.specs.Ending.{refusal_status, graph_status, script_status, CountsFaults, IsDecided, OnDecision};
+ghost use Rattle.spqr_cli.specs.Ending.{refusal_status, graph_status, script_status, CountsFaults, IsDecided, IsReady, OnDecision};
 ghost use Rattle.spqr_cli.specs.Seen.{seen_shelf};
 
 use crate::halt::Halt;
+use crate::methods::{block_embedder, block_splitter};
 use crate::reading::read_file;
 use crate::refusal::{GraphRefusal, Refusal, ScriptRefusal};
 use crate::stages::{commands_of, document_of, graph_of};
-use crate::words::form_of;
-use contract_embed::ContractEmbedder;
+use command_words::{Form, form_of};
 use gml_graph::Named;
 use gml_text::Doc;
-use pair_split::PairSplitter;
-use quick_embed::QuickEmbedder;
 use spqr_edge::Shelf;
 use spqr_script::Command;
 use spqr_session::Session;
@@ -29,23 +27,35 @@ const GRAPH_LIMIT: usize = 16_777_216;
 // The greatest length of the script file.
 const SCRIPT_LIMIT: usize = 1_048_576;
 
-/// The work to be done: a session on the graph file, and the commands of the script.
+/// What a report is on: a session on the graph file, and the commands of the script.
 #[derive(Drop)]
 pub struct Accepted {
     pub session: Session,
     pub commands: Vec<Command>,
 }
 
-// A session on a document and its graph: blocks are split by pairs of vertices, and triconnected graphs embedded quickly.
+/// What is to be done.
+#[derive(Drop)]
+pub enum Plan {
+    /// The report on two files.
+    Report(Accepted),
+    /// The summary of the graph that is made from a number, of so many edges or a few more.
+    Summary { edges: u32, seed: u64 },
+}
+
+// A session on a document and its graph.
 fn started(alloc: Global, doc: Doc, named: Named) -> Result<Session, AllocError>
     requires { graph_of_document doc ≡ Ok named }
     ensures parts { IfOk result (λ s. (s.setting.document ≡ doc) × (s.setting.named ≡ named)) }
     ensures started { IfOk result IsStarted }
 {
-    let mut embedder = QuickEmbedder {
-        fallback: ContractEmbedder,
-    };
-    Session::start(alloc, doc, named, &mut PairSplitter::new(), &mut embedder)
+    Session::start(
+        alloc,
+        doc,
+        named,
+        &mut block_splitter(),
+        &mut block_embedder(),
+    )
 }
 
 // A session on what the bytes of the graph file say.
@@ -124,30 +134,35 @@ fn accept_script<S: Shelf>(
     }
 }
 
-/// Decides on the words and the two files, in this order: the form of the words, the graph file, the script file. Each file
-/// is opened only where all before it is accepted.
+/// Decides on the words and the two files that they name, in this order: the form of the words, the graph file, the script
+/// file. Each file is opened only where all before it is accepted; none is where a summary is asked for.
 pub fn decide<S: Shelf>(
     alloc: Global,
     words: &[String],
     shelf: &mut S,
-) -> Result<Accepted, Halt<Refusal>>
+) -> Result<Plan, Halt<Refusal>>
     ensures decided { OnDecision result (IsDecided (map string_bytes words.now)
         (seen_shelf (S.files shelf.old) (S.opens shelf.old) (S.faults shelf.old))
         (seen_shelf (S.files shelf.new) (S.opens shelf.new) (S.faults shelf.new))) }
-    ensures started { Answers result (λ a. IsStarted a.session) (λ _. ⊤) }
+    ensures ready { Answers result IsReady (λ _. ⊤) }
     ensures faults { CountsFaults refusal_status (S.faults shelf.old) (S.faults shelf.new) result }
 {
-    let Some(form) = form_of(words) else {
+    let Some(form) = form_of(alloc, words)? else {
         return Err(Halt::Refused(Refusal::Usage));
     };
-    let session = match accept_graph(alloc, shelf, form.graph) {
-        Ok(session) => session,
-        Err(Halt::Refused(refusal)) => return Err(Halt::Refused(Refusal::OfGraph(refusal))),
-        Err(Halt::Memory) => return Err(Halt::Memory),
-    };
-    match accept_script(alloc, shelf, form.script) {
-        Ok(commands) => Ok(Accepted { session, commands }),
-        Err(Halt::Refused(refusal)) => Err(Halt::Refused(Refusal::OfScript(refusal))),
-        Err(Halt::Memory) => Err(Halt::Memory),
+    match form {
+        Form::Run { graph, script } => {
+            let session = match accept_graph(alloc, shelf, graph) {
+                Ok(session) => session,
+                Err(Halt::Refused(refusal)) => return Err(Halt::Refused(Refusal::OfGraph(refusal))),
+                Err(Halt::Memory) => return Err(Halt::Memory),
+            };
+            match accept_script(alloc, shelf, script) {
+                Ok(commands) => Ok(Plan::Report(Accepted { session, commands })),
+                Err(Halt::Refused(refusal)) => Err(Halt::Refused(Refusal::OfScript(refusal))),
+                Err(Halt::Memory) => Err(Halt::Memory),
+            }
+        }
+        Form::Make { edges, seed } => Ok(Plan::Summary { edges, seed }),
     }
 }

@@ -1,13 +1,13 @@
 // What the definitions of a run say of one another.
 ghost use Rattle.std.specs.Prelude.{◌≢◌};
-ghost use Rattle.spqr_cli.specs.Laws.{OneStatus, OneText, OneWork, NoRefusal};
+ghost use Rattle.spqr_cli.specs.Laws.{AskedIsPlanarBlock, OneStatus, OneSummary, OneText, OneWork, NoRefusal};
 ghost use Rattle.spqr_cli.specs.Run.{CountsReads, CountsPuts};
 ghost use Rattle.spqr_cli.specs.declared.status.Status.{Status};
 
 /// Decisions that are due for the same words and bytes have one status and one text, a read that failed aside: the text as far as
 /// the place of a fault in GML is the same, which the definitions leave open. So each status of a run comes exactly where it is
-/// due, and each report is the only one that is due: blocks and trees are determined by the graph. Where the words and both files
-/// are accepted, no refusal is due. Works that are due are the same.
+/// due, and each report is the only one that is due: blocks and trees are determined by the graph. Where the words name two files
+/// and both are accepted, no refusal is due. Works that are due are the same.
 pub fn decisions()
     ensures status { OneStatus }
     ensures text { OneText }
@@ -16,6 +16,13 @@ pub fn decisions()
 {
     gml_text::laws::spelling();
 }
+
+/// For words that ask for a graph from a number its summary is the only decision that is due, and there is one: the graph is one
+/// block with a plane rotation system.
+pub fn made_graphs()
+    ensures summary { OneSummary }
+    ensures planar { AskedIsPlanarBlock }
+{}
 
 /// A shelf whose count of faults stays at 0 is never the reason of a read fault, and such a sink never that of a write fault.
 pub fn sure_devices()

@@ -1,17 +1,20 @@
 // The whole run, from the words to the status.
-ghost use Rattle.std.specs.Prelude.{Err, map, string_bytes};
+ghost use Rattle.std.specs.Prelude.{◌≤◌, Err, map, string_bytes};
 ghost use Rattle.spqr_session.specs.Machine.{IsStarted};
 ghost use Rattle.spqr_cli.specs.Writing.{WritesAnswers, WritesReport};
-ghost use Rattle.spqr_cli.specs.Decision.{DecisionHasLine};
+ghost use Rattle.spqr_cli.specs.Decision.{DecisionHasLine, Summary};
+ghost use Rattle.spqr_cli.specs.Ending.{IsReady, task_of};
 ghost use Rattle.spqr_cli.specs.Seen.{seen, seen_shelf, seen_sink};
-ghost use Rattle.spqr_cli.specs.Run.{CountsPut, RefusesWith, CountsPuts, IsRun};
+ghost use Rattle.spqr_cli.specs.Run.{CarriesOut, CountsPut, RefusesWith, CountsPuts, IsRun};
 
-use crate::decision::{Accepted, decide};
+use crate::decision::{Accepted, Plan, decide};
 use crate::halt::Halt;
 use crate::laws::decisions;
+use crate::methods::{block_embedder, block_splitter};
 use crate::refusal::Refusal;
 use crate::status::Status;
 use crate::writing::put_text;
+use made_summary::summary;
 use spqr_edge::{Failed, Shelf, Sink};
 use spqr_script::Command;
 use spqr_session::Session;
@@ -55,6 +58,44 @@ fn write_report<K: Sink>(
     write_answers(alloc, &mut session, &commands, sink)
 }
 
+// Writes the summary of the graph that is made from a number, and gives the status.
+fn write_summary<K: Sink>(alloc: Global, edges: u32, seed: u64, sink: &mut K) -> Status
+    requires least { 6 ≤ edges }
+    requires most { edges ≤ 20000 }
+    ensures summary { CarriesOut (Summary edges seed) (K.written sink.old) (K.written sink.new) result }
+    ensures faults { CountsPuts (K.faults sink.old) (K.faults sink.new) result }
+{
+    match summary(
+        alloc,
+        edges,
+        seed,
+        &mut block_splitter(),
+        &mut block_embedder(),
+    ) {
+        Ok(text) => match put_text(sink, &text) {
+            Ok(()) => Status::Done,
+            Err(_) => Status::WriteFault,
+        },
+        Err(_) => Status::Memory,
+    }
+}
+
+// Carries out what is to be done, and gives the status.
+fn carry_out<K: Sink>(alloc: Global, plan: Plan, sink: &mut K) -> Status
+    requires { IsReady plan }
+    ensures text { CarriesOut (task_of plan) (K.written sink.old) (K.written sink.new) result }
+    ensures faults { CountsPuts (K.faults sink.old) (K.faults sink.new) result }
+{
+    match plan {
+        Plan::Report(accepted) => match write_report(alloc, accepted, sink) {
+            Ok(()) => Status::Done,
+            Err(Halt::Refused(_)) => Status::WriteFault,
+            Err(Halt::Memory) => Status::Memory,
+        },
+        Plan::Summary { edges, seed } => write_summary(alloc, edges, seed, sink),
+    }
+}
+
 // Writes the line of a refusal, and gives its status.
 fn refuse<K: Sink>(alloc: Global, refusal: &Refusal, sink: &mut K) -> Status
     requires { DecisionHasLine (Err refusal.now) }
@@ -70,8 +111,8 @@ fn refuse<K: Sink>(alloc: Global, refusal: &Refusal, sink: &mut K) -> Status
     }
 }
 
-/// The whole run: decides on the words and the files, then writes the report or the line of the refusal, and gives the
-/// status.
+/// The whole run: decides on the words and the files that they name, then writes the report, the summary or the line of the
+/// refusal, and gives the status.
 pub fn run<S: Shelf, K: Sink>(
     alloc: Global,
     words: &[String],
@@ -86,11 +127,7 @@ pub fn run<S: Shelf, K: Sink>(
         result }
 {
     match decide(alloc, words, shelf) {
-        Ok(accepted) => match write_report(alloc, accepted, sink) {
-            Ok(()) => Status::Done,
-            Err(Halt::Refused(_)) => Status::WriteFault,
-            Err(Halt::Memory) => Status::Memory,
-        },
+        Ok(plan) => carry_out(alloc, plan, sink),
         Err(Halt::Refused(refusal)) => {
             // That the work is not due is seen from the law on decisions.
             decisions();

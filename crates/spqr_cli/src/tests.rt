@@ -24,12 +24,12 @@ const K4_HEAD: &[u8] =
     b"graph 4 6\nvertex 0 0\nvertex 1 1\nvertex 2 2\nvertex 3 3\nblock 0: 0 1 2 3 4 5\n\
     node 0 R 0 1 2 3 | 0:0-1 1:0-2 2:0-3 3:1-2 4:1-3 5:2-3\nplanar 0\n";
 
-// The words `run g s`.
-fn run_words(alloc: Global) -> Result<Vec<String>, AllocError> {
+// The words of a line, which are parted by single spaces.
+fn words_of(alloc: Global, line: &str) -> Result<Vec<String>, AllocError> {
     let mut words = Vec::new(alloc);
-    words.push(String::from_str(alloc, "run")?)?;
-    words.push(String::from_str(alloc, "g")?)?;
-    words.push(String::from_str(alloc, "s")?)?;
+    for word in line.split(' ') {
+        words.push(String::from_str(alloc, word)?)?;
+    }
     Ok(words)
 }
 
@@ -42,7 +42,7 @@ fn answer(
 ) -> Result<(Status, Vec<u8>), Fail>
     requires { 0 < piece }
 {
-    let words = run_words(alloc)?;
+    let words = words_of(alloc, "run g s")?;
     let held = [
         MemFile {
             name: "g",
@@ -455,7 +455,7 @@ fn no_put_follows_a_failed_one(rt: HostRuntime) -> Result<(), Fail> {
             faults: 0,
         };
         assert_eq!(rt;
-            run(alloc, &run_words(alloc)?, &mut shelf, &mut sink),
+            run(alloc, &words_of(alloc, "run g s")?, &mut shelf, &mut sink),
             status
         );
         assert_eq!(rt; sink.puts, puts);
@@ -505,25 +505,65 @@ fn limits_are_kept(rt: HostRuntime) -> Result<(), Fail> {
     Ok(())
 }
 
-#[test]
-fn other_words_are_refused(rt: HostRuntime) -> Result<(), Fail> {
-    let alloc = rt.alloc();
-    let mut words = Vec::new(alloc);
-    words.push(String::from_str(alloc, "run")?)?;
-    words.push(String::from_str(alloc, "a")?)?;
+// What a run on the words of a line, over no files, answers and writes. Puts of these numbers fail.
+fn answer_to(
+    alloc: Global,
+    line: &str,
+    failing: &[u64],
+    piece: usize,
+) -> Result<(Status, Vec<u8>), Fail>
+    requires { 0 < piece }
+{
+    let words = words_of(alloc, line)?;
     let mut shelf = MemShelf::new(&[], &[]);
-    let mut sink = MemSink::new(alloc, &[], 1000);
-    assert_eq!(rt; run(alloc, &words, &mut shelf, &mut sink), Status::Usage);
-    assert_eq!(rt;
-        sink.bytes(),
-        b"usage: spqr run GRAPH SCRIPT | spqr make N SEED\n".as_slice()
-    );
-    words.push(String::from_str(alloc, "b")?)?;
-    let mut sink = MemSink::new(alloc, &[], 1000);
-    assert_eq!(rt;
-        run(alloc, &words, &mut shelf, &mut sink),
-        Status::ReadFault
-    );
-    assert_eq!(rt; sink.bytes(), b"refused read graph\n".as_slice());
+    let mut sink = MemSink::new(alloc, failing, piece);
+    let status = run(alloc, &words, &mut shelf, &mut sink);
+    Ok((status, sink.bytes().to_vec(alloc)?))
+}
+
+const USAGE: &[u8] = b"usage: spqr run GRAPH SCRIPT | spqr make N SEED\n";
+
+const K4_SUMMARY: &[u8] = b"made 4 6\nnodes S 0 P 0 R 1\ncount 2\nfirst 0: 0 1 2\nlast 0: 0 2 1\n";
+
+// Words, with the status and the text of a run on them over no files.
+static WORDS: [(&str, Status, &[u8]); 11] = [
+    ("run a", Status::Usage, USAGE),
+    ("run a b", Status::ReadFault, b"refused read graph\n"),
+    ("run a -b", Status::Usage, USAGE),
+    ("make 6 1", Status::Done, K4_SUMMARY),
+    ("make 6 18446744073709551615", Status::Done, K4_SUMMARY),
+    (
+        "make 7 1",
+        Status::Done,
+        b"made 5 8\nnodes S 1 P 1 R 1\ncount 4\nfirst 0: 0 1 2\nlast 0: 0 2 1\n",
+    ),
+    ("make 5 1", Status::Usage, USAGE),
+    ("make 20001 1", Status::Usage, USAGE),
+    ("make 6 18446744073709551616", Status::Usage, USAGE),
+    ("make 6 -1", Status::Usage, USAGE),
+    ("make 6", Status::Usage, USAGE),
+];
+
+#[test]
+fn words_and_their_texts(rt: HostRuntime) -> Result<(), Fail> {
+    for (line, status, text) in WORDS {
+        let (found, written) = answer_to(rt.alloc(), line, &[], 1000)?;
+        assert_eq!(rt; found, status);
+        assert_eq!(rt; written.as_slice(), text);
+    }
+    Ok(())
+}
+
+#[test]
+fn a_put_of_a_summary_fails(rt: HostRuntime) -> Result<(), Fail> {
+    for (call, status, text) in [
+        (0, Status::WriteFault, b"".as_slice()),
+        (4, Status::WriteFault, b"made"),
+        (1000, Status::Done, K4_SUMMARY),
+    ] {
+        let (found, written) = answer_to(rt.alloc(), "make 6 1", &[call], 1)?;
+        assert_eq!(rt; found, status);
+        assert_eq!(rt; written.as_slice(), text);
+    }
     Ok(())
 }
