@@ -1,6 +1,6 @@
 -- Keys in the numbers of a block, and that they are an arrangement of a node's keys exactly where they are one in the numbers
 -- of the whole graph.
-use Rattle.std.proofs.Common.{◌≡◌, ℕ, ◌<◌, ◌==◌, Bool, true, false, List, [], ◌∷◌, length, map, slice_index, get_or, Option, None, Some, All, IsPermutation, inl, inr, refl, sym, ap, ap₂, ◌∙◌, subst, arith}
+use Rattle.std.proofs.Common.{◌≡◌, ℕ, ◌<◌, ◌==◌, true, false, List, [], ◌∷◌, length, slice_index, get_or, Option, None, Some, All, IsPermutation, inl, inr, refl, sym, ap₂, ◌∙◌, subst, arith}
 use Rattle.std.specs.List.Sorted.{IsSorted}
 use Rattle.std.specs.Ordering.{nat_cmp}
 use Rattle.std.proofs.lemmas.Bool.{cases_Bool, eq-eqb, eqb-true, false_from_ne_true}
@@ -8,7 +8,7 @@ use Rattle.std.proofs.lemmas.List.{get_or_default}
 use Rattle.std.proofs.lemmas.List.Elements.{All-head, All-tail, Contains-get_or}
 use Rattle.std.proofs.lemmas.List.Sorted.{All-permutation, Contains-permutation, IsPermutation-map, IsPermutation-sym, IsPermutation-trans}
 use Rattle.permutations.specs.Count.{some, least}
-use Rattle.permutations.specs.Members.{is_member, is_distinct}
+use Rattle.permutations.specs.Members.{is_distinct}
 use Rattle.permutations.proofs.Arrangements.{all-member, permutation-distinct}
 use Rattle.permutations.proofs.Search.{least-is, least-none, least-passes, none-some}
 use Rattle.faces.proofs.MapLists.{distinct-map}

@@ -1,5 +1,5 @@
 -- The lines of the members that a walk passes, and whether one more follows.
-use Rattle.std.proofs.Common.{◌≡◌, ℕ, ◌+◌, ◌<◌, ◌≤◌, Bool, true, false, nat_lt, if◌then◌else◌, List, [], ◌∷◌, ◌++◌, length, map, take, drop, Result, IfOk, inl, inr, refl, sym, ap, ◌∙◌, subst, arith, append_assoc}
+use Rattle.std.proofs.Common.{◌≡◌, ℕ, ◌+◌, ◌<◌, ◌≤◌, Bool, true, false, nat_lt, if◌then◌else◌, List, [], ◌∷◌, ◌++◌, length, map, take, drop, Result, IfOk, inl, inr, refl, sym, ap, ◌∙◌, arith, append_assoc}
 use Rattle.std.specs.Global.{Vec}
 use Rattle.std.specs.List.{concat}
 use Rattle.std.proofs.lemmas.Bool.{cases_Bool, cases_lt, lt-ltb, ltb-true, false_from_ne_true}
@@ -13,12 +13,10 @@ use Rattle.embed_enum.proofs.Places.{follows-more, follows-all}
 use Rattle.spqr_script.specs.Answers.Change.{end_text}
 use Rattle.spqr_script.specs.Answers.List.{list_text, more_text}
 use Rattle.spqr_script.specs.Answers.Rotation.{rotation_text}
-use Rattle.spqr_session.specs.State.{Embedding}
 use Rattle.spqr_session.specs.Embedded.{BlockView}
 use Rattle.spqr_session.specs.BlockCodes.{no_more, TellsBlock}
-use Rattle.spqr_session.specs.Members.{AreMembers}
 use Rattle.spqr_session.specs.Commands.Listing.{members_text, IsListing}
-use Rattle.spqr_session.proofs.Planes.{seen_embedding, SeenPlane, same-list, told-entry}
+use Rattle.spqr_session.proofs.Planes.{SeenPlane, same-list, told-entry}
 use Rattle.spqr_session.proofs.Steps.{text-map}
 
 -- ---- one member more

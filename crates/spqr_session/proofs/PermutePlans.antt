@@ -1,11 +1,11 @@
 -- The plans of permutes.
-use Rattle.std.proofs.Common.{◌≡◌, ℕ, ◌<◌, Bool, true, false, not, List, [], ◌∷◌, length, map, Option, None, Some, All, IsPermutation, refl, sym, ap, ◌∙◌, subst}
+use Rattle.std.proofs.Common.{◌≡◌, ℕ, ◌<◌, Bool, true, false, not, List, ◌∷◌, length, Option, None, Some, All, IsPermutation, sym, ap, ◌∙◌, subst}
 use Rattle.std.specs.Prelude.{◌↔◌, IsTrue}
 use Rattle.std.proofs.lemmas.Bool.{both_ways, lt-ltb}
 use Rattle.permutations.specs.Members.{is_distinct}
 use Rattle.multigraph.specs.Part.{Rises, IsNumbered}
 use Rattle.multigraph.proofs.Places.{rises-once}
-use Rattle.pair_split.specs.Tutte.{Node, node_at}
+use Rattle.pair_split.specs.Tutte.{node_at}
 use Rattle.pair_split.specs.declared.components.Kind.{Kind}
 use Rattle.pair_split.specs.declared.components.Kind.TheVariants.{P}
 use Rattle.skeletons.specs.Items.{node_keys, IsBlockTree}

@@ -29,8 +29,10 @@ fn push_members(
     walker: &mut PlaneBlock,
 ) -> Result<u32, AllocError>
     requires { walker.old.graph ≡ part.now.graph }
-    ensures count { IfOk result (λ t. (l : List (List (List ℕ))) (i : ℕ) → IsMemberList walker.old l → IsRank l walker.old.rotation i → t ≡ length (take n (drop (i + 1) l))) }
-    ensures stands { IfOk result (λ t. (l : List (List (List ℕ))) (i : ℕ) → IsMemberList walker.old l → IsRank l walker.old.rotation i → IsMemberList walker.new l × IsRank l walker.new.rotation (i + t)) }
+    ensures count { IfOk result (λ t. (l : List (List (List ℕ))) (i : ℕ) → IsMemberList walker.old l → IsRank l walker.old.rotation i
+        → t ≡ length (take n (drop (i + 1) l))) }
+    ensures stands { IfOk result (λ t. (l : List (List (List ℕ))) (i : ℕ) → IsMemberList walker.old l → IsRank l walker.old.rotation i
+        → IsMemberList walker.new l × IsRank l walker.new.rotation (i + t)) }
     ensures lines { IfOk result (λ t. (l : List (List (List ℕ))) (i : ℕ) → IsMemberList walker.old l → IsRank l walker.old.rotation i
         → out.new.items ≡ out.old.items ++ concat (map (rotation_text part.now b) (take n (drop (i + 1) l)))) }
 {
@@ -77,12 +79,7 @@ fn list_plane(
 }
 
 // The lines of the next n members of a block, or that of code 5.
-fn list_block(
-    alloc: Global,
-    b: u32,
-    n: u32,
-    block: &EmbeddedBlock,
-) -> Result<Vec<u8>, AllocError>
+fn list_block(alloc: Global, b: u32, n: u32, block: &EmbeddedBlock) -> Result<Vec<u8>, AllocError>
     ensures { IfOk result (λ text. TellsBlock block.now.tree block.now.entry no_more (IsListing b n) text.items) }
 {
     match block.outcome() {

@@ -36,11 +36,7 @@ fn inner_key(block: &EmbeddedBlock, key: u32) -> u32
 }
 
 // The keys in the numbers of a block.
-fn inner_keys(
-    alloc: Global,
-    block: &EmbeddedBlock,
-    keys: &[u32],
-) -> Result<Vec<u32>, AllocError>
+fn inner_keys(alloc: Global, block: &EmbeddedBlock, keys: &[u32]) -> Result<Vec<u32>, AllocError>
     ensures { IfOk result (λ own. own.items ≡ inner_edges block.now.tree keys.now) }
 {
     let mut own = Vec::with_capacity(alloc, keys.len())?;
@@ -78,12 +74,7 @@ fn are_arranged(alloc: Global, items: &[Item], keys: &[u32]) -> Result<bool, All
 // ---- the plan
 
 // The plan for a block in the plane with this bond, and an arrangement of its keys in the block's numbers: made on a copy.
-fn plan_plane(
-    alloc: Global,
-    plane: &PlaneBlock,
-    k: u32,
-    own: &[u32],
-) -> Result<Planned, AllocError>
+fn plan_plane(alloc: Global, plane: &PlaneBlock, k: u32, own: &[u32]) -> Result<Planned, AllocError>
     requires node { k < length plane.now.tree }
     requires kind { (node_at plane.now.tree k).kind ≡ P }
     requires arrangement { IsPermutation (node_keys plane.now.tree k) own.now }

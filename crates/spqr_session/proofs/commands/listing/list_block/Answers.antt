@@ -1,4 +1,4 @@
-use Rattle.std.proofs.Common.{◌≡◌, sym, ap, ◌∙◌}
+use Rattle.std.proofs.Common.{sym, ap, ◌∙◌}
 use Rattle.multigraph.specs.Part.{GraphPart}
 use Rattle.spqr_session.proofs.Planes.{seen-plane}
 use Rattle.spqr_session.proofs.MemberLines.{listing-told}

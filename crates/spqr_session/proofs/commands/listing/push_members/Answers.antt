@@ -19,13 +19,16 @@ returns-then-not-next-clause-count c = λ l i m k.
     sym (passed-count l i c.loop-turn.turn c.loop-turn.walker.rotation h.1) ∙ ap (λ (x : List (List (List ℕ))). length x) (passed-all l i c.loop-turn.turn c.args.n e (omega (arith, c.loop-turn-test.true)))
 
 pub loop-turn-preserved : goal.loop-turn-preserved
-loop-turn-preserved c = (c.next.ensures.rest.graph ∙ c.loop-turn.invariant.0, λ l i m k.
-    let h = c.loop-turn.invariant.1 l i m k in
-    let t = c.loop-turn.turn in
-    let n : i + t + 1 ≡ i + (t + 1) = omega arith in
-    let r : IsRank l c.next.new.p.rotation (i + (t + 1)) = subst (IsRank l c.next.new.p.rotation) n (c.next.ensures.next l (i + t) h.0 h.1 c.if-not-next.false) in
-    let line = c.in_ok-push_rotation_line.ensures ∙ ap (λ (x : List (List ℕ)). c.loop-turn.out.items ++ rotation_text c.args.part.now c.args.b x) c.rotation.ensures.value in
-    (c.next.ensures.list l h.0, r, lines-more l i (rotation_text c.args.part.now c.args.b) t c.next.new.p.rotation c.args.out.now.items c.loop-turn.out.items c.push_rotation_line.new.out.items r h.2 line))
+loop-turn-preserved c = (
+  c.next.ensures.rest.graph ∙ c.loop-turn.invariant.0,
+  λ l i m k.
+      let h = c.loop-turn.invariant.1 l i m k in
+      let t = c.loop-turn.turn in
+      let n : i + t + 1 ≡ i + (t + 1) = omega arith in
+      let r : IsRank l c.next.new.p.rotation (i + (t + 1)) = subst (IsRank l c.next.new.p.rotation) n (c.next.ensures.next l (i + t) h.0 h.1 c.if-not-next.false) in
+      let line = c.in_ok-push_rotation_line.ensures ∙ ap (λ (x : List (List ℕ)). c.loop-turn.out.items ++ rotation_text c.args.part.now c.args.b x) c.rotation.ensures.value in
+      (c.next.ensures.list l h.0, r, lines-more l i (rotation_text c.args.part.now c.args.b) t c.next.new.p.rotation c.args.out.now.items c.loop-turn.out.items c.push_rotation_line.new.out.items r h.2 line),
+)
 
 pub returns-then-not-next-clause-lines : goal.returns-then-not-next-clause-lines
 returns-then-not-next-clause-lines c = λ l i m k.

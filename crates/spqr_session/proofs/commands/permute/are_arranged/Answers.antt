@@ -1,4 +1,4 @@
-use Rattle.std.proofs.Common.{◌≡◌, List, ℕ, map, IsPermutation, sym, subst, ◌∙◌}
+use Rattle.std.proofs.Common.{List, ℕ, map, IsPermutation, sym, subst, ◌∙◌}
 use Rattle.skeletons.specs.Items.{item_key}
 use Rattle.spqr_session.proofs.InnerKeys.{sorted-arranged, arranged-sorted}
 use Rattle.spqr_session.proofs.commands.permute.are_arranged.Goals as goal

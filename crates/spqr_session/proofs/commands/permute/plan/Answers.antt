@@ -1,4 +1,4 @@
-use Rattle.spqr_session.specs.Embedded.{view_tree, no_view, view_at}
+use Rattle.spqr_session.specs.Embedded.{view_tree, no_view}
 use Rattle.spqr_session.specs.Commands.Permute.{permute_codes, permute_ladder, IsPermuted}
 use Rattle.spqr_session.specs.Planned.{IsPlan, IsPlanAt}
 use Rattle.std.proofs.Common.{map}

@@ -1,8 +1,7 @@
-use Rattle.std.proofs.Common.{◌≡◌, ℕ, ◌<◌, true, false, List, length, map, IsPermutation, sym, ap, ◌∙◌, subst}
+use Rattle.std.proofs.Common.{◌≡◌, true, false, List, map, sym, ap, ◌∙◌, subst}
 use Rattle.multigraph.specs.Part.{Rises, IsNumbered}
 use Rattle.pair_split.specs.Tutte.{Node, node_at}
 use Rattle.pair_split.specs.declared.components.Item.{Item}
-use Rattle.pair_split.specs.declared.components.Kind.TheVariants.{P}
 use Rattle.skeletons.specs.Items.{item_key, node_keys}
 use Rattle.skeletons.specs.Moves.{permute}
 use Rattle.spqr_session.specs.Commands.Permute.{inner_edges, permute_codes, IsPermuted}
