@@ -29,5 +29,10 @@ pub mod Leaving
 pub mod Down
 pub mod Going
 pub mod Coming
+pub mod Depth
 pub mod Beginning
+pub mod AsFar
+pub mod Onward
 pub mod Turned
+pub mod SplitOff
+pub mod ChildLeft
