@@ -1,5 +1,5 @@
 -- How many turns are left: the depth of a vertex, and the darts that are left.
-use Rattle.std.proofs.Common.{◌≡◌, ◌≢◌, ℕ, zero, suc, ◌+◌, ◌-◌, ◌<◌, ◌≤◌, inl, inr, Bool, true, false, ◌==◌, List, [], ◌∷◌, length, slice_index, slice_set, refl, sym, ap, ◌∙◌, subst, arith, Contains}
+use Rattle.std.proofs.Common.{◌≡◌, ◌≢◌, ℕ, zero, suc, ◌+◌, ◌-◌, ◌<◌, ◌≤◌, inl, inr, Bool, true, if◌then◌else◌, ◌==◌, List, [], ◌∷◌, length, slice_index, slice_set, refl, sym, ap, ◌∙◌, subst, arith, Contains}
 use Rattle.std.proofs.lemmas.Bool.{cases_eq, cases_lt, eq-eqb, ne_eqb}
 use Rattle.std.proofs.lemmas.List.Elements.{All-tail}
 use Rattle.permutations.proofs.Members.{distinct-tail}
@@ -19,9 +19,11 @@ depth-of parent zero x = 0
 depth-of parent (suc fuel) x = (if x == 0 then 0 else depth-of parent fuel (parent x) + 1)
 
 depth-root : (parent : ℕ → ℕ) (fuel x : ℕ) → x ≡ 0 → depth-of parent (suc fuel) x ≡ 0
+  unfolding depth-of
 depth-root parent fuel x e = ap (λ (b : Bool). (if b then 0 else depth-of parent fuel (parent x) + 1)) (eq-eqb x 0 e)
 
 depth-step : (parent : ℕ → ℕ) (fuel x : ℕ) → x ≢ 0 → depth-of parent (suc fuel) x ≡ depth-of parent fuel (parent x) + 1
+  unfolding depth-of
 depth-step parent fuel x e = ap (λ (b : Bool). (if b then 0 else depth-of parent fuel (parent x) + 1)) (ne_eqb x 0 e)
 
 module _ (n m : ℕ) (parent degree : ℕ → ℕ) (dart : ℕ → ℕ → Dart) (palm : IsPalm n m parent degree dart) where

@@ -36,3 +36,5 @@ pub mod Onward
 pub mod Turned
 pub mod SplitOff
 pub mod ChildLeft
+pub mod WentBack
+pub mod Finished
