@@ -19,11 +19,11 @@ depth-of parent zero x = 0
 depth-of parent (suc fuel) x = (if x == 0 then 0 else depth-of parent fuel (parent x) + 1)
 
 depth-root : (parent : ℕ → ℕ) (fuel x : ℕ) → x ≡ 0 → depth-of parent (suc fuel) x ≡ 0
-  unfolding depth-of
+unfolding depth-of
 depth-root parent fuel x e = ap (λ (b : Bool). (if b then 0 else depth-of parent fuel (parent x) + 1)) (eq-eqb x 0 e)
 
 depth-step : (parent : ℕ → ℕ) (fuel x : ℕ) → x ≢ 0 → depth-of parent (suc fuel) x ≡ depth-of parent fuel (parent x) + 1
-  unfolding depth-of
+unfolding depth-of
 depth-step parent fuel x e = ap (λ (b : Bool). (if b then 0 else depth-of parent fuel (parent x) + 1)) (ne_eqb x 0 e)
 
 module _ (n m : ℕ) (parent degree : ℕ → ℕ) (dart : ℕ → ℕ → Dart) (palm : IsPalm n m parent degree dart) where

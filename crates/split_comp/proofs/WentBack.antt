@@ -1,5 +1,5 @@
 -- The pass goes back to a parent: all that it has to know of it, and what it has become.
-use Rattle.std.proofs.Common.{◌≡◌, ◌≢◌, ℕ, ◌+◌, ◌<◌, ◌≤◌, inl, inr, true, List, length, slice_index, refl, sym, ap, ◌∙◌, subst, arith}
+use Rattle.std.proofs.Common.{◌≡◌, ◌≢◌, ℕ, ◌+◌, ◌<◌, ◌≤◌, inl, inr, true, List, length, Result, Ok, Err, IfOk, slice_index, refl, sym, ap, ◌∙◌, subst, arith}
 use Rattle.permutations.specs.Members.{is_member}
 use Rattle.permutations.proofs.Count.{count-within}
 use Rattle.permutations.proofs.Arrangements.{count-list}
@@ -9,6 +9,11 @@ use Rattle.split_comp.specs.Palm.{tree_degree, tree_parent}
 use Rattle.split_comp.specs.Pass.{NumberedTree, IsNumbered, PassState, at_place, IsPass, IsPassed, IsGoing, IsAsFar, IsCome, IsTurned}
 use Rattle.split_comp.proofs.Depth.{parent-less, parent-dart, back-turned}
 use Rattle.split_comp.proofs.AsFar.{come-through}
+
+-- two clauses of one call
+pub both-ok : {X Y : Type 0} (r : Result X Y) (P Q R : X → Type 0) → ((x : X) → P x → Q x → R x) → IfOk r P → IfOk r Q → IfOk r R
+both-ok (Ok x) P Q R f a b = f x a b
+both-ok (Err e) P Q R f a b = a
 
 -- a vertex has no more darts than there are edges
 degree-few : (g : Multigraph) (t : NumberedTree) → IsNumbered g t → (x : ℕ) → x < g.vertex_count → tree_degree t.palm t.vertex x ≤ edge_count g
