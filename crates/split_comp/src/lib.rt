@@ -6,3 +6,4 @@ mod edges;
 mod items;
 mod pass;
 mod tree;
+mod writing;
