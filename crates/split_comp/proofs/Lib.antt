@@ -7,6 +7,7 @@ pub mod Pushed
 pub mod Begins
 pub mod Added
 pub mod Walk
+pub mod Palm
 pub mod Renamed
 pub mod Reordered
 pub mod Lying
@@ -31,3 +32,4 @@ pub mod Going
 pub mod Coming
 pub mod Beginning
 pub mod Turned
+mod CountedParts

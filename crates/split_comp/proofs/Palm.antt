@@ -1,8 +1,9 @@
 -- The palm tree of a block, by the numbers of its vertices: the intervals of descendants, the darts, and what fronds reach.
-use Rattle.std.proofs.Common.{◌≡◌, ◌≢◌, ℕ, zero, suc, ◌+◌, ◌-◌, ◌<◌, ◌≤◌, ◌⊎◌, ◌↔◌, inl, inr, Bool, true, false, not, ◌&&◌, ◌==◌, ltb, leb, if◌then◌else◌, List, length, Option, None, Some, slice_index, refl, sym, ap, ◌∙◌, subst, arith}
-use Rattle.std.proofs.lemmas.Bool.{cases_Bool, cases_lt, cases_eq, both_ways, false_from_ne_true, true≢false, and_from, and_parts, and_cases, and_left, and_right, not-true, not-false, eq-eqb, eqb-true, ne_eqb, lt-ltb, le-ltb, ltb-true, ltb-false, le-leb, lt-leb, leb-true, leb-false}
+use Rattle.std.proofs.Common.{◌≡◌, ◌≢◌, ℕ, zero, suc, ◌+◌, ◌-◌, ◌<◌, ◌≤◌, ◌⊎◌, ◌↔◌, inl, inr, Bool, true, false, not, ◌&&◌, ◌==◌, ltb, leb, List, [], ◌∷◌, length, Option, None, Some, slice_index, refl, sym, ap, ◌∙◌, subst, arith}
+use Rattle.std.proofs.lemmas.Bool.{cases_Bool, cases_lt, cases_eq, both_ways, false_from_ne_true, true≢false, and_from, and_parts, not-true, not-false, eq-eqb, eqb-true, ne_eqb, lt-ltb, ltb-true, ltb-false, le-leb, leb-true}
 use Rattle.std.proofs.lemmas.List.{get_or_default}
-use Rattle.permutations.specs.Members.{is_member}
+use Rattle.permutations.specs.Members.{is_member, is_distinct}
+use Rattle.permutations.proofs.Members.{distinct-head, distinct-tail}
 use Rattle.permutations.proofs.Arrangements.{member-at, contains-from_member}
 use Rattle.multigraph.specs.Graph.{Multigraph, edge_count, ends_of, is_end, other_end, IsGraph}
 use Rattle.multigraph.proofs.OtherEnd.{is_end-cases, other_end-of_first, other_end-of_second, other_end-in, other_end-differs, other_end-twice, end-in}
@@ -11,7 +12,6 @@ use Rattle.graph_theory.specs.Side.{IsCommon}
 use Rattle.graph_theory.proofs.Ends.{end-cases}
 use Rattle.graph_theory.proofs.Crossings.{TwoCommon}
 use Rattle.palm_tree.specs.PalmTree.{PalmTreeLists, number_of, parent_of, is_frond, darts_of, Climbs, IsDescendant, IsParentEdge, IsFrondFrom, BeginsAt, IsReached, IsLow1, IsLow2, AreParents, IsPalmTree}
-use Rattle.palm_tree.proofs.Orders.{distinct-places}
 use Rattle.pair_split.specs.Skeleton.{SameEnds}
 use Rattle.pair_split.proofs.GraphSides.{block-two_common}
 use Rattle.split_comp.specs.declared.items.Dart.{Dart}
@@ -39,6 +39,13 @@ some-differs x e = true≢false (ap told e)
 option-cases : (o : Option ℕ) → (o ≡ None) ⊎ ((x : ℕ) × (o ≡ Some x))
 option-cases None = inl refl
 option-cases (Some x) = inr (x, refl)
+
+-- a list without repetition has different numbers at different places
+distinct-places : (l : List ℕ) (i j : ℕ) → is_distinct l ≡ true → i < j → j < length l → slice_index l i ≢ slice_index l j
+distinct-places [] i j d a b e = absurd (omega arith)
+distinct-places (z ∷ l) i zero d a b e = absurd (omega arith)
+distinct-places (z ∷ l) zero (suc j) d a b e = both_ways (is_member z l) (distinct-head z l d) (ap (λ (k : ℕ). is_member k l) e ∙ member-at l j 0 (omega arith))
+distinct-places (z ∷ l) (suc i) (suc j) d a b e = distinct-places l i j (distinct-tail z l d) (omega arith) (omega arith) e
 
 -- steps to the parent from z to y, and on to x
 climbs-join : (t : PalmTreeLists) (k x y z : ℕ) → Climbs t k z y → IsDescendant t x y → IsDescendant t x z
@@ -358,7 +365,6 @@ module _ (g : Multigraph) (t : PalmTreeLists) (vertex : List ℕ) (graph : IsGra
   reached-frond : (c y : ℕ) → c < n → IsReached g t (at c) y → IsFrondTo degree dart last c y
   reached-frond c y l r =
       let zl : r.lower < n = end-in g r.lower r.edge graph r.frond.is_edge r.frond.at_lower in
-      let x : ℕ = number_of t r.lower in
       let xl : number_of t r.lower < n = p.numbers.below r.lower zl in
       let e : at (number_of t r.lower) ≡ r.lower = at-number r.lower zl in
       let k = dart-place (number_of t r.lower) r.edge xl (inr (subst (λ (w : ℕ). IsFrondFrom g t w r.edge) (sym e) r.frond)) in
@@ -392,7 +398,6 @@ module _ (g : Multigraph) (t : PalmTreeLists) (vertex : List ℕ) (graph : IsGra
     | inl w ↦ elim (low2-far u k l m).among [
       | inl e ↦ absurd (omega (arith, e, w.1, a.number (dart u k).far (far-in u k l m), (tree-far u k l m h).1))
       | inr r ↦
-          let x : ℕ = slice_index t.low2 (at (dart u k).far) in
           let apart : slice_index t.low2 (at (dart u k).far) ≢ (dart u k).reach = λ e. r.1 (e ∙ tree-reach u k l m h) in
           let least : (dart u k).reach ≤ slice_index t.low2 (at (dart u k).far) = (low1-far u k l m h).least (slice_index t.low2 (at (dart u k).far)) r.0 in
           (slice_index t.low2 (at (dart u k).far), reached-frond (dart u k).far (slice_index t.low2 (at (dart u k).far)) (far-in u k l m) r.0, omega (arith, apart, least), w.1)
