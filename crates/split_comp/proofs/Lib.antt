@@ -7,6 +7,7 @@ pub mod Pushed
 pub mod Begins
 pub mod Added
 pub mod Walk
+pub mod Palm
 pub mod Renamed
 pub mod Reordered
 pub mod Lying
@@ -38,3 +39,4 @@ pub mod SplitOff
 pub mod ChildLeft
 pub mod WentBack
 pub mod Finished
+mod CountedParts

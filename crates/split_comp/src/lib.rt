@@ -7,3 +7,4 @@ mod items;
 mod pass;
 mod tree;
 mod turning;
+mod writing;
