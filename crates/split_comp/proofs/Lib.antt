@@ -31,6 +31,7 @@ pub mod Down
 pub mod Going
 pub mod Coming
 pub mod Depth
+pub mod OneBlock
 pub mod Beginning
 pub mod AsFar
 pub mod Onward
@@ -40,3 +41,4 @@ pub mod ChildLeft
 pub mod WentBack
 pub mod Finished
 mod CountedParts
+pub mod SearchEnd

@@ -5,6 +5,9 @@ mod cuts;
 mod edges;
 mod items;
 mod pass;
+mod splitter;
 mod tree;
 mod turning;
 mod writing;
+
+pub use splitter::SearchSplitter;
