@@ -1,6 +1,6 @@
 -- A graph that is one block is connected.
-use Rattle.std.proofs.Common.{◌≡◌, ℕ, ◌<◌, inl, inr, true, ◌==◌, List, [], ◌∷◌, sym, subst, arith}
-use Rattle.std.proofs.lemmas.Bool.{eqb-true, or_cases}
+use Rattle.std.proofs.Common.{◌≡◌, ℕ, ◌<◌, inl, inr, true, ◌==◌, List, [], ◌∷◌, sym, subst}
+use Rattle.std.proofs.lemmas.Bool.{eqb-true, or_cases, true≢false}
 use Rattle.permutations.specs.Members.{is_member}
 use Rattle.permutations.specs.Relation.{connected}
 use Rattle.permutations.proofs.Relation.{connected-reflexive, connected-symmetric, connected-transitive}
@@ -20,7 +20,7 @@ end-first g e z l i = elim (is_end-cases g z e i) [
 
 -- so is the first vertex of a walk with each edge of the walk
 walk-first : (g : Multigraph) (x : ℕ) (es : List ℕ) → IsWalk g x es → (e : ℕ) → is_member e es ≡ true → connected g.ends x (ends_of g e).0 ≡ true
-walk-first g x [] w e m = absurd (omega (arith, m))
+walk-first g x [] w e m = absurd (true≢false (sym m))
 walk-first g x (h ∷ es) w e m = elim (or_cases (h == e) (is_member e es) m) [
   | inl q ↦ subst (λ (y : ℕ). connected g.ends x (ends_of g y).0 ≡ true) (eqb-true h e q) (end-first g h x w.0.0 w.0.1)
   | inr r ↦ connected-transitive g.ends x (other_end g h x) (ends_of g e).0 (other-connected g h x w.0.0 w.0.1) (walk-first g (other_end g h x) es w.1 e r)

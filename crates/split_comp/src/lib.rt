@@ -11,3 +11,6 @@ mod turning;
 mod writing;
 
 pub use splitter::SearchSplitter;
+
+#[cfg(test)]
+mod tests;
