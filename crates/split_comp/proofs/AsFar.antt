@@ -1,5 +1,5 @@
 -- What the pass does between two darts leaves it where it stands.
-use Rattle.std.proofs.Common.{◌≡◌, ℕ, ◌<◌, ◌≤◌, inl, inr, Bool, true, false, List, length, slice_index, ap, ◌∙◌, subst}
+use Rattle.std.proofs.Common.{ℕ, inl, inr, Bool, true, false, List, length, slice_index, ap, ◌∙◌}
 use Rattle.std.proofs.lemmas.Bool.{cases_Bool, cases_lt}
 use Rattle.multigraph.specs.Graph.{Multigraph}
 use Rattle.split_comp.specs.Pass.{PassState, IsAsFar, IsCome, IsJoined, IsDartNoted, IsFrondAdded, IsTreeAdded, pushed, new_frond, new_tree}

@@ -1,14 +1,13 @@
 -- The dart to a child is finished, for the values that the code has.
-use Rattle.std.proofs.Common.{◌≡◌, ℕ, ◌+◌, ◌-◌, ◌*◌, ◌<◌, ◌≤◌, inl, inr, true, false, length, take, refl, sym, ap, ◌∙◌, subst, arith}
+use Rattle.std.proofs.Common.{◌≡◌, ℕ, ◌+◌, ◌-◌, ◌*◌, ◌<◌, ◌≤◌, inl, inr, true, false, length, take, sym, ap, ◌∙◌, subst, arith}
 use Rattle.std.proofs.lemmas.Bool.{cases_lt}
 use Rattle.std.proofs.lemmas.List.{length-take-le}
 use Rattle.multigraph.specs.Graph.{Multigraph}
 use Rattle.split_comp.specs.declared.items.Item.{Item}
-use Rattle.split_comp.specs.declared.items.Triple.{Triple}
 use Rattle.split_comp.specs.declared.items.Dart.{Dart}
 use Rattle.split_comp.specs.Cuts.{cut}
 use Rattle.split_comp.specs.Noting.{IsNoted}
-use Rattle.split_comp.specs.Palm.{tree_dart, tree_degree, tree_parent}
+use Rattle.split_comp.specs.Palm.{tree_dart}
 use Rattle.split_comp.specs.Pass.{NumberedTree, IsNumbered, PassState, at_place, IsPass, IsBack, IsFronted, IsAsFar, IsReduced, IsEjected, CanEject, CanJoin, IsFrondAdded, IsDartNoted, IsMetDropped, IsWhole, last_dart, new_frond, pushed, cuts_dropped, next_name, goes, weight}
 use Rattle.split_comp.proofs.Leaving.{child-can, child-fronted, noted-pass, killed-pass, base-within, base-rises}
 use Rattle.split_comp.proofs.AsFar.{frond-far}
@@ -105,7 +104,7 @@ module _ (g : Multigraph) (t : NumberedTree) (numbered : IsNumbered g t) (s : Pa
     later-left v start reach dropped new here from to d late noted =
         let n = there.later late in (
           subst (IsPass g t) (sym n.2) (noted-pass g t numbered s.done s b r.no_triangle last-cut kept late n.0
-          (subst (λ (y : ℕ). IsNoted (at_place s.base s.at) (record { start = at_place s.start s.done; up = y; low = s.at }) (take (at_place s.base s.done) s.cuts) n.0) (ap (λ (x : Dart). x.reach) (sym dart-is)) n.1)),
+              (subst (λ (y : ℕ). IsNoted (at_place s.base s.at) (record { start = at_place s.start s.done; up = y; low = s.at }) (take (at_place s.base s.done) s.cuts) n.0) (ap (λ (x : Dart). x.reach) (sym dart-is)) n.1)),
           record { at = ap (λ (z : PassState). z.at) n.2; done = ap (λ (z : PassState). z.done) n.2; gone = ap (λ (z : PassState). z.gone) n.2 },
         )
       where

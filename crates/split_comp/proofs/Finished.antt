@@ -3,7 +3,7 @@ use Rattle.std.proofs.Common.{◌≡◌, ℕ, ◌+◌, ◌-◌, ◌<◌, ◌≤�
 use Rattle.multigraph.specs.Graph.{Multigraph}
 use Rattle.split_comp.specs.declared.items.Item.{Item}
 use Rattle.split_comp.specs.Stack.{item, entry}
-use Rattle.split_comp.specs.Pass.{NumberedTree, IsNumbered, PassState, IsPass, IsPassed, IsGoing, HasTurns, IsTurned, goes}
+use Rattle.split_comp.specs.Pass.{NumberedTree, IsNumbered, PassState, IsPassed, IsGoing, HasTurns, IsTurned, goes}
 use Rattle.split_comp.proofs.Entries.{stack-contains}
 use Rattle.split_comp.proofs.Depth.{no-turns}
 use Rattle.permutations.proofs.Filter.{filter-yes}

@@ -1,5 +1,5 @@
 -- A frond was pushed: it is joined with the one below, or noted, and the pass goes on.
-use Rattle.std.proofs.Common.{◌≡◌, ℕ, ◌<◌, ◌≤◌, inl, inr, Bool, true, false, length, refl, sym, ap, ◌∙◌, subst, arith}
+use Rattle.std.proofs.Common.{◌≡◌, ℕ, ◌<◌, ◌≤◌, inl, inr, Bool, length, refl, sym, ap, ◌∙◌, subst, arith}
 use Rattle.std.proofs.lemmas.Bool.{cases_Bool, cases_lt}
 use Rattle.multigraph.specs.Graph.{Multigraph}
 use Rattle.split_comp.specs.declared.items.Item.{Item}

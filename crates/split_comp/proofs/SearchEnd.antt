@@ -23,7 +23,7 @@ use Rattle.pair_split.proofs.Finish.{state-end}
 use Rattle.pair_split.proofs.SplitSteps.{start-state, start-split}
 use Rattle.pair_split.proofs.WritingSteps.{state-listed}
 use Rattle.split_comp.specs.declared.items.Item.{Item}
-use Rattle.split_comp.specs.Stack.{entry, family}
+use Rattle.split_comp.specs.Stack.{entry}
 use Rattle.split_comp.specs.Palm.{AreVertices, tree_dart, tree_degree, tree_parent, AreDrawn, IsPalm}
 use Rattle.split_comp.specs.Pass.{NumberedTree, IsNumbered, PassState, IsPass, IsPassed, HasTurns, drawn, drawn_items, drawn_family, entry_total}
 use Rattle.split_comp.proofs.Palm.{palm-facts, palm-drawn}

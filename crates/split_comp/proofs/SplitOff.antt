@@ -1,6 +1,5 @@
 -- One component is split off where the search has come back, for the values that the code has.
-use Rattle.std.proofs.Common.{◌≡◌, ℕ, ◌+◌, ◌-◌, ◌*◌, ◌<◌, ◌≤◌, inl, inr, Bool, true, false, not, ◌&&◌, Option, None, Some, List, length, filter, take, drop, refl, sym, ap, ◌∙◌, subst, arith}
-use Rattle.std.proofs.lemmas.Bool.{cases_Bool}
+use Rattle.std.proofs.Common.{◌≡◌, ℕ, ◌+◌, ◌-◌, ◌*◌, ◌<◌, ◌≤◌, Bool, true, false, not, Option, None, Some, List, length, filter, drop, refl, sym, ap, ◌∙◌, subst, arith}
 use Rattle.std.proofs.lemmas.List.{length-take-le, length-drop}
 use Rattle.std.proofs.lemmas.List.Filters.{length-filter_both}
 use Rattle.std.proofs.lemmas.List.Elements.{Contains-get_or}
@@ -11,7 +10,7 @@ use Rattle.split_comp.specs.declared.items.Triple.{Triple}
 use Rattle.split_comp.specs.Stack.{no_item, item, entry}
 use Rattle.split_comp.specs.Cuts.{cut}
 use Rattle.split_comp.specs.Sides.{is_frond_to}
-use Rattle.split_comp.specs.Pass.{NumberedTree, IsNumbered, PassState, at_place, IsRaised, IsBack, IsAsFar, IsReduced, IsReducedOnce, IsEjected, CanEject, CanJoin, IsTreeAdded, IsTriangle, IsStale, IsStaleDropped, IsCutTo, IsFrondFound, IsApart, number_apart, top_item, below_item, new_tree, pushed, cuts_dropped, next_name, goes, lowered, weight}
+use Rattle.split_comp.specs.Pass.{NumberedTree, IsNumbered, PassState, at_place, IsRaised, IsBack, IsAsFar, IsReducedOnce, IsEjected, CanEject, CanJoin, IsTreeAdded, IsTriangle, IsStale, IsStaleDropped, IsCutTo, IsFrondFound, IsApart, number_apart, top_item, below_item, new_tree, pushed, cuts_dropped, next_name, goes, lowered, weight}
 use Rattle.split_comp.proofs.Entries.{stack-contains}
 use Rattle.split_comp.proofs.Firsts.{lowered-length}
 use Rattle.split_comp.proofs.Reducing.{stale-back, triangle-can, triangle-raised, triangle-starts, added-can, added-back}

@@ -1,5 +1,5 @@
 -- The pass goes back to a parent: all that it has to know of it, and what it has become.
-use Rattle.std.proofs.Common.{◌≡◌, ◌≢◌, ℕ, ◌+◌, ◌<◌, ◌≤◌, inl, inr, true, List, length, Result, Ok, Err, IfOk, slice_index, refl, sym, ap, ◌∙◌, subst, arith}
+use Rattle.std.proofs.Common.{◌≡◌, ◌≢◌, ℕ, ◌+◌, ◌<◌, ◌≤◌, inl, inr, Result, Ok, Err, IfOk, slice_index, refl, sym, ap, subst, arith}
 use Rattle.permutations.specs.Members.{is_member}
 use Rattle.permutations.proofs.Count.{count-within}
 use Rattle.permutations.proofs.Arrangements.{count-list}

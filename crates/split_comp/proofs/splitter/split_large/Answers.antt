@@ -1,4 +1,4 @@
-use Rattle.std.proofs.Common.{◌+◌, ◌*◌, ◌≤◌, ℕ, List, [], length, replicate, ◌∙◌, sym, subst, ap, arith}
+use Rattle.std.proofs.Common.{ℕ, List, [], length, replicate, ◌∙◌, sym, subst, ap, arith}
 use Rattle.std.proofs.lemmas.Result.{IfOk-weaker}
 use Rattle.pair_split.specs.Cuts.{state_of}
 use Rattle.pair_split.specs.Edges.{family_skeleton}

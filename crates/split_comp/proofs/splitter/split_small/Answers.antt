@@ -1,6 +1,5 @@
-use Rattle.std.proofs.Common.{◌+◌, ◌≤◌, ℕ, [], ◌∙◌, refl, sym, subst, ap, arith}
+use Rattle.std.proofs.Common.{ℕ, [], ◌∙◌, refl, sym, subst, ap, arith}
 use Rattle.std.proofs.lemmas.Result.{IfOk-weaker}
-use Rattle.multigraph.specs.Graph.{edge_count}
 use Rattle.pair_split.specs.Cuts.{state_of}
 use Rattle.pair_split.specs.Lumps.{family_of}
 use Rattle.pair_split.specs.Split.{IsSplit}

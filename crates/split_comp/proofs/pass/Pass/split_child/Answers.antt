@@ -5,8 +5,10 @@ use Rattle.split_comp.proofs.ChildLeft.{whole-can, whole-up, whole-within, whole
 use Rattle.split_comp.proofs.pass.Pass.split_child.Goals as goal
 
 pub eject-requires : goal.eject-requires
-eject-requires g c = record { can = whole-can c.args.g.now c.args.tree.now c.requires.numbered c.args.self.now c.requires.reduced c.requires.whole c.here-v.result c.start_of-start.result c.args.reach c.drop_cuts.new.self c.here-v.ensures (c.start_of-start.ensures ∙ ap (slice_index c.args.self.now.start) c.child.ensures) c.requires.reach
-    (c.drop_cuts.ensures ∙ ap (cuts_dropped c.args.self.now) (c.base_of.ensures ∙ ap (slice_index c.args.self.now.base) c.child-2.ensures)) }
+eject-requires g c = record {
+  can = whole-can c.args.g.now c.args.tree.now c.requires.numbered c.args.self.now c.requires.reduced c.requires.whole c.here-v.result c.start_of-start.result c.args.reach c.drop_cuts.new.self c.here-v.ensures (c.start_of-start.ensures ∙ ap (slice_index c.args.self.now.start) c.child.ensures) c.requires.reach
+      (c.drop_cuts.ensures ∙ ap (cuts_dropped c.args.self.now) (c.base_of.ensures ∙ ap (slice_index c.args.self.now.base) c.child-2.ensures));
+}
 
 pub add_frond-requires-clause-can : goal.add_frond-requires-clause-can
 add_frond-requires-clause-can g c = whole-joins c.args.g.now c.args.tree.now c.requires.numbered c.args.self.now c.requires.reduced c.requires.whole c.here-v.result c.start_of-start.result c.args.reach c.drop_cuts.new.self c.here-v.ensures (c.start_of-start.ensures ∙ ap (slice_index c.args.self.now.start) c.child.ensures) c.requires.reach
@@ -28,6 +30,11 @@ returns-clause-left g c = IfOk-weaker c.add_frond.result _ (λ x. IsPass c.args.
 
 pub returns-clause-cost : goal.returns-clause-cost
 returns-clause-cost g c = IfOk-weaker c.add_frond.result _ (λ x. c.add_frond.new.steps + weight c.add_frond.new.self ≤ c.args.steps.now + weight c.args.self.now + 10)
-    (λ x a. omega (arith, a, c.eject.ensures.at_most, whole-weight c.args.g.now c.args.tree.now c.requires.numbered c.args.self.now c.requires.reduced c.requires.whole c.here-v.result c.start_of-start.result c.args.reach c.drop_cuts.new.self c.here-v.ensures (c.start_of-start.ensures ∙ ap (slice_index c.args.self.now.start) c.child.ensures) c.requires.reach
-    (c.drop_cuts.ensures ∙ ap (cuts_dropped c.args.self.now) (c.base_of.ensures ∙ ap (slice_index c.args.self.now.base) c.child-2.ensures)) c.eject.new.self c.in_ok-name.ensures.ejected))
+    (λ x a. omega (
+      arith,
+      a,
+      c.eject.ensures.at_most,
+      whole-weight c.args.g.now c.args.tree.now c.requires.numbered c.args.self.now c.requires.reduced c.requires.whole c.here-v.result c.start_of-start.result c.args.reach c.drop_cuts.new.self c.here-v.ensures (c.start_of-start.ensures ∙ ap (slice_index c.args.self.now.start) c.child.ensures) c.requires.reach
+          (c.drop_cuts.ensures ∙ ap (cuts_dropped c.args.self.now) (c.base_of.ensures ∙ ap (slice_index c.args.self.now.base) c.child-2.ensures)) c.eject.new.self c.in_ok-name.ensures.ejected,
+    ))
     c.add_frond.ensures.cost

@@ -1,6 +1,6 @@
 use Rattle.std.proofs.Common.{◌+◌, ◌≤◌, true, slice_index, ap, ◌∙◌, arith}
 use Rattle.std.proofs.lemmas.Result.{IfOk-weaker}
-use Rattle.split_comp.specs.Pass.{PassState, IsReducedOnce, weight}
+use Rattle.split_comp.specs.Pass.{IsReducedOnce, weight}
 use Rattle.split_comp.proofs.SplitOff.{apart-one, end-start, end-can, end-few, end-low, end-low-apart, end-weight, end-joins, end-once}
 use Rattle.split_comp.proofs.pass.Pass.split_pair.Goals as goal
 
