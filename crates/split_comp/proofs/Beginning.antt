@@ -1,5 +1,5 @@
 -- The state at the start: all edges are in the rest.
-use Rattle.std.proofs.Common.{◌≡◌, ◌≢◌, ℕ, zero, suc, ◌*◌, ◌<◌, ◌≤◌, inl, inr, true, List, [], ◌∷◌, ◌++◌, length, map, replicate, slice_index, refl, sym, ap, ◌∙◌, subst, arith, Contains}
+use Rattle.std.proofs.Common.{◌≡◌, ◌≢◌, ℕ, zero, suc, ◌+◌, ◌<◌, ◌≤◌, inl, inr, true, List, [], ◌∷◌, ◌++◌, length, map, replicate, slice_index, refl, sym, ap, ◌∙◌, subst, arith, Contains}
 use Rattle.std.proofs.lemmas.Bool.{cases_Bool, cases_lt, both_ways, lt-ltb}
 use Rattle.std.proofs.lemmas.List.{length-replicate, get_or-replicate, get_or_past, length-append, map-append}
 use Rattle.std.proofs.lemmas.List.Elements.{Contains-append_cases, Contains-append_left, Contains-append_right}
@@ -16,9 +16,10 @@ use Rattle.pair_split.proofs.Start.{state-start}
 use Rattle.split_comp.specs.declared.items.Dart.{Dart}
 use Rattle.split_comp.specs.Palm.{tree_dart, tree_degree, tree_parent, dart_entry, AreDrawn, IsPalm}
 use Rattle.split_comp.specs.Walk.{IsWalk, AreLeft}
-use Rattle.split_comp.specs.Pass.{NumberedTree, IsNumbered, PassState, at_place, drawn, IsPass}
+use Rattle.split_comp.specs.Pass.{NumberedTree, IsNumbered, PassState, at_place, drawn, IsPass, HasTurns}
 use Rattle.split_comp.proofs.Renamed.{renamed-tight}
 use Rattle.split_comp.proofs.Walk.{walk-start, left-free, left-on_path}
+use Rattle.split_comp.proofs.Depth.{depth-of, depth-top, depth-deeper}
 
 module _ (g : Multigraph) (t : NumberedTree) (numbered : IsNumbered g t) (palm : IsPalm g.vertex_count (edge_count g) (tree_parent t.palm t.vertex) (tree_degree t.palm t.vertex) (tree_dart g t.palm t.vertex))
     (are-drawn : AreDrawn g t.vertex g.vertex_count (tree_degree t.palm t.vertex) (tree_dart g t.palm t.vertex)) where
@@ -149,9 +150,9 @@ module _ (g : Multigraph) (t : NumberedTree) (numbered : IsNumbered g t) (palm :
           let w = rest-edge (edge_count g) (omega arith) x c in
           subst (λ (y : Entry). (drawn g t.vertex y).name ≡ y.name) (sym w.2) (ap (λ (y : Entry). y.name) (drawn-edge w.0 w.1) ∙ sym (of-edge-name w.0 w.1))
 
-  module _ (s : PassState) (now : s ≡ record { at = 0; done = g.vertex_count; items = []; cuts = []; first = replicate g.vertex_count 4294967295; start = replicate g.vertex_count 0; base = replicate g.vertex_count 0; gone = replicate g.vertex_count 0; total = edge_count g; turns = 2 * edge_count g; parts = [] }) where
+  module _ (s : PassState) (now : s ≡ record { at = 0; done = g.vertex_count; items = []; cuts = []; first = replicate g.vertex_count 4294967295; start = replicate g.vertex_count 0; base = replicate g.vertex_count 0; gone = replicate g.vertex_count 0; total = edge_count g; parts = [] }) where
     abbrev began : PassState
-    began = record { at = 0; done = g.vertex_count; items = []; cuts = []; first = replicate g.vertex_count 4294967295; start = replicate g.vertex_count 0; base = replicate g.vertex_count 0; gone = replicate g.vertex_count 0; total = edge_count g; turns = 2 * edge_count g; parts = [] }
+    began = record { at = 0; done = g.vertex_count; items = []; cuts = []; first = replicate g.vertex_count 4294967295; start = replicate g.vertex_count 0; base = replicate g.vertex_count 0; gone = replicate g.vertex_count 0; total = edge_count g; parts = [] }
 
     gone-size : length began.gone ≡ g.vertex_count
     gone-size = length-replicate g.vertex_count 0
@@ -233,3 +234,15 @@ module _ (g : Multigraph) (t : NumberedTree) (numbered : IsNumbered g t) (palm :
 
     pub begin-pass : IsPass g t s
     begin-pass = subst (IsPass g t) (sym now) began-pass
+
+    -- one turn for each edge and one for each vertex is enough
+    pub begin-turns : HasTurns g t s (g.vertex_count + edge_count g)
+    begin-turns = subst (λ (z : PassState). HasTurns g t z (g.vertex_count + edge_count g)) (sym now) (record {
+      depth = λ x. depth-of parent (suc x) x;
+      top = depth-top n m parent degree dart palm;
+      deeper = depth-deeper n m parent degree dart palm;
+      rest = rest;
+      is_family = fam;
+      left = left (at_place began.gone) none;
+      enough = omega (arith, rest-size (edge_count g) (omega arith));
+    })

@@ -138,13 +138,13 @@ module _ (g : Multigraph) (t : NumberedTree) (numbered : IsNumbered g t) (w : �
   w-path : IsOnPath last w w
   w-path = (omega arith, b.raised.palm.above w)
 
-  base-within : at_place s.base w ≤ length s.cuts
+  pub base-within : at_place s.base w ≤ length s.cuts
   base-within = b.raised.below.base_within w w-not w-path
 
   parent-not : tree_parent t.palm t.vertex w ≢ 0
   parent-not e = b.raised.not_root (sym b.raised.parent ∙ e)
 
-  base-rises : at_place s.base s.at ≤ at_place s.base w
+  pub base-rises : at_place s.base s.at ≤ at_place s.base w
   base-rises = subst (λ (y : ℕ). at_place s.base y ≤ at_place s.base w) b.raised.parent (b.raised.below.base_rises w w-not parent-not w-path)
 
   old-sound : AreSound (at_place s.start s.at) s.at (take start s.items) (drop (at_place s.base s.at) (take (at_place s.base w) s.cuts))

@@ -7,6 +7,7 @@ pub mod Pushed
 pub mod Begins
 pub mod Added
 pub mod Walk
+pub mod Palm
 pub mod Renamed
 pub mod Reordered
 pub mod Lying
@@ -29,5 +30,15 @@ pub mod Leaving
 pub mod Down
 pub mod Going
 pub mod Coming
+pub mod Depth
+pub mod OneBlock
 pub mod Beginning
+pub mod AsFar
+pub mod Onward
 pub mod Turned
+pub mod SplitOff
+pub mod ChildLeft
+pub mod WentBack
+pub mod Finished
+mod CountedParts
+pub mod SearchEnd

@@ -1,20 +1,18 @@
 -- One turn of the pass: a frond is gone along, or the search goes down.
-use Rattle.std.proofs.Common.{◌≡◌, ◌≢◌, ℕ, ◌<◌, ◌≤◌, inl, inr, Bool, true, false, length, slice_index_or, refl, sym, ap, ◌∙◌, subst, arith}
-use Rattle.std.proofs.lemmas.Bool.{cases_Bool, cases_lt}
+use Rattle.std.proofs.Common.{◌≡◌, ◌≢◌, ℕ, ◌<◌, Bool, true, false, slice_index_or, sym, ap, ◌∙◌, subst, arith}
 use Rattle.std.proofs.lemmas.List.{get_or_default}
 use Rattle.multigraph.specs.Graph.{Multigraph}
-use Rattle.split_comp.specs.declared.items.Item.{Item}
 use Rattle.split_comp.specs.declared.items.Dart.{Dart}
-use Rattle.split_comp.specs.Stack.{item}
 use Rattle.split_comp.specs.Palm.{tree_dart, tree_degree, tree_parent}
-use Rattle.split_comp.specs.Noting.{IsNoted}
-use Rattle.split_comp.specs.Pass.{NumberedTree, IsNumbered, PassState, at_place, IsPass, IsRaised, IsBack, IsPassed, IsFronted, IsTreeAdded, CanJoin, IsParallel, IsJoined, IsFrondAdded, IsDartNoted, joined_item, pushed, gone_along, gone_down, gone_back, new_frond, new_tree}
-use Rattle.split_comp.proofs.Entries.{item-last, length-push}
-use Rattle.split_comp.proofs.Fronted.{fronted-can, joined-pass, first-pass, later-pass}
+use Rattle.split_comp.specs.Pass.{NumberedTree, IsNumbered, PassState, at_place, IsPass, IsRaised, IsBack, IsPassed, IsFronted, IsTreeAdded, CanJoin, IsJoined, IsFrondAdded, IsAsFar, IsCome, IsTurned, pushed, gone_along, gone_down, gone_back, new_frond, new_tree}
+use Rattle.split_comp.proofs.Entries.{length-push}
 use Rattle.split_comp.proofs.Reducing.{added-can, added-back}
 use Rattle.split_comp.proofs.Coming.{come-raised, come-passed}
 use Rattle.split_comp.proofs.Down.{down-pass}
 use Rattle.split_comp.proofs.Going.{frond-fronted}
+use Rattle.split_comp.proofs.Depth.{down-turned, frond-turned}
+use Rattle.split_comp.proofs.AsFar.{frond-far, tree-far}
+use Rattle.split_comp.proofs.Onward.{fronted-joins, fronted-added}
 
 module _ (g : Multigraph) (t : NumberedTree) (numbered : IsNumbered g t) (s : PassState) (p : IsPass g t s) (more : at_place s.gone s.at < tree_degree t.palm t.vertex s.at) (frond : (tree_dart g t.palm t.vertex s.at (at_place s.gone s.at)).tree ≡ false) where
   abbrev d : Dart
@@ -26,33 +24,11 @@ module _ (g : Multigraph) (t : NumberedTree) (numbered : IsNumbered g t) (s : Pa
   fronted : IsFronted g t old
   fronted = frond-fronted g t numbered s p more frond
 
-  height : fronted.height ≡ length s.items
-  height = omega (arith, fronted.size, length-push s.items (new_frond d.edge s.at d.far (gone_along s s.at)))
-
   pub frond-can : CanJoin g t.vertex old
-  frond-can par = fronted-can g t numbered old fronted par
+  frond-can par = fronted-joins g t numbered (gone_along s s.at) d.edge d.far fronted par
 
   pub frond-added : (new : PassState) → IsFrondAdded g t.vertex d.edge s.at d.far (gone_along s s.at) new → IsPass g t new
-  frond-added new a = elim (cases_Bool a.joined) [
-    | inl y ↦
-        let j = subst (λ (b : Bool). IsJoined g t.vertex old a.mid b) y a.join in
-        subst (IsPass g t) (sym (a.whole y ∙ (j.1.2 ∙ ap (λ (m : PassState). pushed m (joined_item g old)) j.1.1.now))) (joined-pass g t numbered old fronted j.0 j.1.0 j.1.1)
-    | inr y ↦
-        let j = subst (λ (b : Bool). IsJoined g t.vertex old a.mid b) y a.join in
-        let noted = a.noted y in
-        apart a.mid j.0 j.1 new noted
-  ]
-    where
-      apart : (mid : PassState) → mid ≡ old → (IsParallel old → ⊥) → (new : PassState) → IsDartNoted s.at (length s.items) d.far mid new → IsPass g t new
-      apart mid e none new noted = elim (cases_lt (at_place mid.start s.at) (length s.items)) [
-        | inl l ↦
-            let n = noted.later l in
-            subst (IsPass g t) (sym (n.2 ∙ ap (λ (m : PassState). record m { cuts = n.0 }) e)) (later-pass g t numbered old fronted none (omega (arith, height, subst (λ (m : PassState). at_place m.start s.at < length s.items) e l)) n.0
-            (subst (λ (k : ℕ). IsNoted (at_place old.base s.at) (record { start = k; up = (item old.items k).up; low = s.at }) old.cuts n.0) (sym height)
-            (subst (λ (m : PassState). IsNoted (at_place m.base s.at) (record { start = length s.items; up = (item old.items (length s.items)).up; low = s.at }) m.cuts n.0) e
-            (subst (λ (u : ℕ). IsNoted (at_place mid.base s.at) (record { start = length s.items; up = u; low = s.at }) mid.cuts n.0) (sym (ap (λ (z : Item). z.up) (item-last s.items (new_frond d.edge s.at d.far (gone_along s s.at)) (length s.items) refl))) n.1))))
-        | inr l ↦ subst (IsPass g t) (sym (noted.first l ∙ e)) (first-pass g t numbered old fronted none (omega (arith, height, subst (λ (m : PassState). length s.items ≤ at_place m.start s.at) e l)))
-      ]
+  frond-added new a = fronted-added g t numbered (gone_along s s.at) d.edge d.far fronted new a
 
 -- the same, for the values that the code has
 module _ (g : Multigraph) (t : NumberedTree) (numbered : IsNumbered g t) (s : PassState) (p : IsPass g t s) (more : at_place s.gone s.at < tree_degree t.palm t.vertex s.at) (v k : ℕ) (here : v ≡ s.at) (read : k ≡ slice_index_or s.gone v k) (dart : Dart) (is : dart ≡ tree_dart g t.palm t.vertex v k) where
@@ -64,6 +40,9 @@ module _ (g : Multigraph) (t : NumberedTree) (numbered : IsNumbered g t) (s : Pa
 
   pub along-child : dart.tree ≡ true → (new : PassState) → new ≡ gone_down s dart.far → IsPass g t new
   along-child tree new e = subst (IsPass g t) (sym (e ∙ ap (λ (x : Dart). gone_down s x.far) same)) (down-pass g t s p more (ap (λ (x : Dart). x.tree) (sym same) ∙ tree))
+
+  pub along-child-turned : dart.tree ≡ true → (new : PassState) → new ≡ gone_down s dart.far → IsTurned g t s new
+  along-child-turned tree new e = down-turned g t s p more (ap (λ (x : Dart). x.tree) (sym same) ∙ tree) new (e ∙ ap (λ (x : Dart). gone_down s x.far) same)
 
   module _ (frond : dart.tree ≡ false) (mid : PassState) (e : mid ≡ gone_along s v) where
     f : (tree_dart g t.palm t.vertex s.at (at_place s.gone s.at)).tree ≡ false
@@ -77,6 +56,9 @@ module _ (g : Multigraph) (t : NumberedTree) (numbered : IsNumbered g t) (s : Pa
 
     pub along-frond : (new : PassState) → IsFrondAdded g t.vertex dart.edge v dart.far mid new → IsPass g t new
     along-frond new a = frond-added g t numbered s p more f new (subst (λ (x : Dart × ℕ × PassState). IsFrondAdded g t.vertex x.0.edge x.1 x.0.far x.2 new) (λ i. (same i, here i, mid-same i)) a)
+
+    pub along-frond-turned : (new : PassState) → IsFrondAdded g t.vertex dart.edge v dart.far mid new → IsTurned g t s new
+    along-frond-turned new a = frond-turned g t s p more new (subst (λ (z : PassState). IsAsFar z new) mid-same (frond-far g t.vertex dart.edge v dart.far mid new a))
 
 -- the search comes back to a parent that is not the root
 module _ (g : Multigraph) (t : NumberedTree) (numbered : IsNumbered g t) (s : PassState) (p : IsPass g t s) (all : at_place s.gone s.at ≡ tree_degree t.palm t.vertex s.at) (not-top : s.at ≢ 0) (inner : tree_parent t.palm t.vertex s.at ≢ 0) where
@@ -121,6 +103,11 @@ module _ (g : Multigraph) (t : NumberedTree) (numbered : IsNumbered g t) (s : Pa
     pub came-back : (new : PassState) → IsTreeAdded g t.vertex dart.edge v w start mid new → IsBack g t s.at new
     came-back new a = come-back new a.joined (subst (λ (m : PassState). IsJoined g t.vertex m new a.joined) came-is a.join)
 
+    pub came-there : (new : PassState) → IsTreeAdded g t.vertex dart.edge v w start mid new → IsCome v s new
+    came-there new a =
+        let f = tree-far g t.vertex dart.edge v w start mid new a in
+        record { at = f.at ∙ ap (λ (z : PassState). z.at) e; done = f.done ∙ (ap (λ (z : PassState). z.done) e ∙ here); gone = f.gone ∙ ap (λ (z : PassState). z.gone) e }
+
 -- the search comes back to the root
 module _ (g : Multigraph) (t : NumberedTree) (numbered : IsNumbered g t) (s : PassState) (p : IsPass g t s) (all : at_place s.gone s.at ≡ tree_degree t.palm t.vertex s.at) (not-top : s.at ≢ 0) (outer : tree_parent t.palm t.vertex s.at ≡ 0)
     (v k w start : ℕ) (up : v ≡ tree_parent t.palm t.vertex s.at) (here : w ≡ s.at) (read : k ≡ slice_index_or s.gone v k) (from : start ≡ slice_index_or s.start w start) (dart : Dart) (is : dart ≡ tree_dart g t.palm t.vertex v k) (mid : PassState) (e : mid ≡ gone_back (gone_along s v) v w) where
@@ -133,3 +120,10 @@ module _ (g : Multigraph) (t : NumberedTree) (numbered : IsNumbered g t) (s : Pa
   pub came-home : (new : PassState) → new ≡ pushed mid (new_tree dart.edge v w start) → IsPassed g t new
   came-home new q = subst (IsPassed g t) (sym (q ∙ ((λ i. pushed (e i) (new_tree (is i).edge v w start)) ∙ (λ i. pushed (gone_back (gone_along s (up i)) (up i) (here i)) (new_tree (tree_dart g t.palm t.vertex (up i) (root-next i)).edge (up i) (here i) (root-starts i))))))
       (come-passed g t numbered s p all not-top outer)
+
+  pub came-root : (new : PassState) → new ≡ pushed mid (new_tree dart.edge v w start) → IsCome v s new
+  came-root new q = record {
+    at = ap (λ (z : PassState). z.at) q ∙ ap (λ (z : PassState). z.at) e;
+    done = ap (λ (z : PassState). z.done) q ∙ (ap (λ (z : PassState). z.done) e ∙ here);
+    gone = ap (λ (z : PassState). z.gone) q ∙ ap (λ (z : PassState). z.gone) e;
+  }

@@ -15,13 +15,14 @@ use Rattle.pair_split.specs.declared.components.Kind.{Kind}
 use Rattle.pair_split.specs.declared.components.Kind.TheVariants.{B}
 use Rattle.split_comp.specs.declared.items.Item.{Item}
 use Rattle.split_comp.specs.declared.items.Triple.{Triple}
+use Rattle.split_comp.specs.declared.items.Dart.{Dart}
 use Rattle.split_comp.specs.Stack.{item, entry, owner, family, IsStack, IsSorted, IsTopped, IsClean, IsAtop, AreFirst}
 use Rattle.split_comp.specs.Palm.{AreVertices, tree_dart, tree_degree, tree_parent, IsFrondTo, IsPalm}
 use Rattle.split_comp.specs.Walk.{IsWalk, AreLeft}
 use Rattle.split_comp.specs.Cuts.{cut, AreSound, AreComplete, AreSoundAt, AreCompleteAt}
 use Rattle.split_comp.specs.Frames.{AreFrames, AreReached, AreAhead, AreCutsBelow, AreCuts}
 use Rattle.split_comp.specs.Sides.{is_frond_to}
-use Rattle.split_comp.specs.Noting.{IsNoted}
+use Rattle.split_comp.specs.Noting.{IsNoted, IsDropped}
 
 -- a palm tree, and the vertex with each number
 pub record NumberedTree : Type 0 where
@@ -47,7 +48,6 @@ pub record PassState : Type 0 where
   pub base : List ℕ
   pub gone : List ℕ
   pub total : ℕ
-  pub turns : ℕ
   pub parts : List Cut
 
 -- the place is one that touches vertex x
@@ -65,10 +65,6 @@ gone_along s v = record s { gone = slice_set s.gone v (slice_index s.gone v + 1)
 -- what the steps of the pass are paid by: entries and cuts
 abbrev pub weight : PassState → ℕ
 weight s = 8 * length s.items + 2 * length s.cuts
-
--- one turn less is left
-abbrev pub turned : PassState → PassState
-turned s = record s { turns = s.turns - 1 }
 
 -- the search goes down to vertex w
 abbrev pub gone_down : PassState → ℕ → PassState
@@ -341,3 +337,83 @@ pub record IsStale (v base : ℕ) (s : PassState) : Type 0 where
 abbrev pub IsStaleDropped : ℕ → ℕ → PassState → PassState → Bool → Type 0
 IsStaleDropped v base old new true = IsStale v base old × (new ≡ cuts_dropped old (length old.cuts - 1))
 IsStaleDropped v base old new false = (new ≡ old) × (IsStale v base old → ⊥)
+
+-- the last cut from place base on has the upper end v
+pub record IsCutTo (v base : ℕ) (s : PassState) : Type 0 where
+  pub some : base < length s.cuts
+  pub up : (cut s.cuts (length s.cuts - 1)).up ≡ v
+
+-- the answer is the last cut, where it is so
+abbrev pub IsCutFound : ℕ → ℕ → PassState → Option Triple → Type 0
+IsCutFound v base s None = IsCutTo v base s → ⊥
+IsCutFound v base s (Some c) = IsCutTo v base s × (c ≡ cut s.cuts (length s.cuts - 1))
+
+-- a frond that stays apart is pushed again
+abbrev pub IsApart : Option ℕ → ℕ → ℕ → ℕ → PassState → PassState → Type 0
+IsApart None up low start old new = new ≡ old
+IsApart (Some name) up low start old new = new ≡ pushed old (record { name = name; up = up; low = low; tree = false; start = start })
+
+-- how many entries stay apart
+abbrev pub number_apart : Option ℕ → ℕ
+number_apart None = 0
+number_apart (Some name) = 1
+
+-- the cuts from place base on before which the vertex v is met were dropped
+abbrev pub IsMetDropped : ℕ → ℕ → PassState → PassState → Type 0
+IsMetDropped v base old new = (cuts : List Triple) × IsDropped base (slice_index old.first v) old.cuts cuts × (new ≡ record old { cuts = cuts })
+
+-- a dart of this class has all from place start on as a side, and two entries are left beside it
+pub record IsWhole (class start : ℕ) (s : PassState) : Type 0 where
+  pub class_two : class ≡ 2
+  pub two : length s.items - start + 2 ≤ s.total
+
+-- the answer tells whether it is so
+abbrev pub IsWholeTest : ℕ → ℕ → PassState → Bool → Type 0
+IsWholeTest class start s true = IsWhole class start s
+IsWholeTest class start s false = IsWhole class start s → ⊥
+
+-- the search stands where it stood
+pub record IsAsFar (old new : PassState) : Type 0 where
+  pub at : new.at ≡ old.at
+  pub done : new.done ≡ old.done
+  pub gone : new.gone ≡ old.gone
+
+-- it came back to vertex v
+pub record IsCome (v : ℕ) (old new : PassState) : Type 0 where
+  pub at : new.at ≡ v
+  pub done : new.done ≡ old.at
+  pub gone : new.gone ≡ slice_set old.gone v (slice_index old.gone v + 1)
+
+-- where it has come back nothing more is to be split off but what all below the child may make
+pub record IsReduced (g : Multigraph) (t : NumberedTree) (s : PassState) : Type 0 where
+  pub back : IsBack g t s.done s
+  pub no_triangle : IsTriangle s → ⊥
+  pub no_cut : IsCutTo s.at (slice_index s.base s.done) s → ⊥
+
+-- a component was split off, or a cut was dropped; or there is nothing more
+abbrev pub IsReducedOnce : Multigraph → NumberedTree → PassState → PassState → Bool → Type 0
+IsReducedOnce g t old new true = IsBack g t old.done new × IsAsFar old new
+IsReducedOnce g t old new false = (new ≡ old) × IsReduced g t old
+
+-- what was gone along last where the search is
+abbrev pub last_dart : Multigraph → NumberedTree → PassState → Dart
+last_dart g t s = tree_dart g t.palm t.vertex s.at (slice_index s.gone s.at - 1)
+
+-- k turns are enough: one for each dart that is left, and one for each vertex that was not entered
+pub record HasTurns (g : Multigraph) (t : NumberedTree) (s : PassState) (k : ℕ) : Type 0 where
+  pub depth : ℕ → ℕ
+  pub top : depth 0 ≡ 0
+  pub deeper : (x : ℕ) → x < g.vertex_count → x ≢ 0 → depth x ≡ depth (tree_parent t.palm t.vertex x) + 1
+  pub rest : List Entry
+  pub is_family : IsFamily rest
+  pub left : AreLeft g.vertex_count (tree_degree t.palm t.vertex) (tree_dart g t.palm t.vertex) (at_place s.gone) rest
+  pub enough : length rest + s.done ≤ k + depth s.at + 1
+
+-- one turn was taken
+abbrev pub IsTurned : Multigraph → NumberedTree → PassState → PassState → Type 0
+IsTurned g t old new = (k : ℕ) → HasTurns g t old (k + 1) → HasTurns g t new k
+
+-- the answer tells whether the pass is over
+abbrev pub IsOverTest : Multigraph → NumberedTree → PassState → Bool → Type 0
+IsOverTest g t s true = IsPassed g t s
+IsOverTest g t s false = IsPass g t s

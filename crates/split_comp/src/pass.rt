@@ -5,7 +5,8 @@ ghost use Rattle.multigraph.specs.Graph.{edge_count, IsGraph};
 ghost use Rattle.split_comp.specs.Stack.{item};
 ghost use Rattle.split_comp.specs.Noting.{IsLastCut};
 ghost use Rattle.split_comp.specs.Palm.{tree_degree, tree_parent};
-ghost use Rattle.split_comp.specs.Pass.{IsNumbered, IsPass, IsBack, IsPassed, weight, PassState, CanEject, IsEjected, CanJoin, IsTriangleTest, IsStaleDropped, top_item, IsParallel, IsJoined, IsDartNoted, IsFrondAdded, IsTreeAdded, IsParallelTest, pushed, gone_along, gone_down, gone_back, cuts_dropped, turned, lowered, next_name, goes, new_frond, new_tree};
+ghost use Rattle.pair_split.specs.Lumps.{family_of};
+ghost use Rattle.split_comp.specs.Pass.{IsNumbered, IsPass, IsBack, IsPassed, weight, PassState, CanEject, IsEjected, CanJoin, IsTriangleTest, IsStaleDropped, top_item, IsParallel, IsJoined, IsDartNoted, IsFrondAdded, IsTreeAdded, IsParallelTest, IsFrondFound, IsCutFound, IsApart, number_apart, IsMetDropped, IsWholeTest, IsCome, IsTurned, drawn_items, pushed, gone_along, gone_down, gone_back, cuts_dropped, lowered, next_name, goes, new_frond, new_tree};
 
 use crate::cuts::{drop_behind, note};
 use crate::edges::{edges_of, frond_to};
@@ -21,7 +22,7 @@ use std::sync::ledger::Ledger;
 /// Where the pass stands. Vertices go by their numbers: the one where the search is, and the last one that is finished; the
 /// stack of entries; its cuts; for each vertex the first place of the stack that touches it, the places of the stack and of
 /// the cuts when it was entered, and how many of its darts have been gone along and back; how many entries the current family
-/// has; how many turns are left; and the finished components.
+/// has; and the finished components.
 #[derive(Drop)]
 pub(crate) struct Pass {
     at: u32,
@@ -33,7 +34,6 @@ pub(crate) struct Pass {
     base: Vec<usize>,
     gone: Vec<usize>,
     total: usize,
-    turns: usize,
     parts: Vec<Cut>,
 }
 
@@ -43,13 +43,13 @@ impl Model for Pass {
 
     ghost Value = { PassState };
 
-    ghost view = { λ s. record { at = s.at; done = s.done; items = s.items.items; cuts = s.cuts.items; first = s.first.items; start = s.start.items; base = s.base.items; gone = s.gone.items; total = s.total; turns = s.turns; parts = s.parts.items } };
+    ghost view = { λ s. record { at = s.at; done = s.done; items = s.items.items; cuts = s.cuts.items; first = s.first.items; start = s.start.items; base = s.base.items; gone = s.gone.items; total = s.total; parts = s.parts.items } };
 }
 
 impl Pass {
     /// The start, in a graph of n vertices and m edges.
     pub(crate) fn new(alloc: Global, n: u32, m: u32) -> Result<Pass, AllocError>
-        ensures { IfOk result (λ s. s ≡ record { at = 0; done = n; items = []; cuts = []; first = replicate n 4294967295; start = replicate n 0; base = replicate n 0; gone = replicate n 0; total = m; turns = 2 * m; parts = [] }) }
+        ensures { IfOk result (λ s. s ≡ record { at = 0; done = n; items = []; cuts = []; first = replicate n 4294967295; start = replicate n 0; base = replicate n 0; gone = replicate n 0; total = m; parts = [] }) }
     {
         let vertices = n as usize;
         Ok(Pass {
@@ -62,7 +62,6 @@ impl Pass {
             base: vec![in alloc; 0; vertices]?,
             gone: vec![in alloc; 0; vertices]?,
             total: m as usize,
-            turns: 2 * m as usize,
             parts: Vec::new(alloc),
         })
     }
@@ -102,7 +101,7 @@ impl Pass {
     }
 
     // The last cut is no more.
-    fn drop_cut(&mut self)
+    pub(crate) fn drop_cut(&mut self)
         requires { 1 ≤ length self.old.cuts }
         ensures { self.new ≡ cuts_dropped self.old (length self.old.cuts - 1) }
     {
@@ -110,7 +109,7 @@ impl Pass {
     }
 
     // The cuts from place `k` on are no more.
-    fn drop_cuts(&mut self, k: usize)
+    pub(crate) fn drop_cuts(&mut self, k: usize)
         ensures { self.new ≡ cuts_dropped self.old k }
     {
         self.cuts.truncate(k);
@@ -144,17 +143,9 @@ impl Pass {
         self.done = w;
     }
 
-    // One turn less is left.
-    fn note_turn(&mut self)
-        requires { 1 ≤ self.old.turns }
-        ensures { self.new ≡ turned self.old }
-    {
-        self.turns -= 1;
-    }
-
     // Makes the entries from place `k` on a finished component, with a virtual edge between `up` and `low`: all of them, or all
     // but a frond from `low` to `up`.
-    fn eject<L: Ledger>(
+    pub(crate) fn eject<L: Ledger>(
         &mut self,
         alloc: Global,
         g: &Graph,
@@ -190,7 +181,7 @@ impl Pass {
     }
 
     // The entry at place `i`.
-    fn item_at(&self, i: usize) -> Item
+    pub(crate) fn item_at(&self, i: usize) -> Item
         requires { i < length self.now.items }
         ensures { result ≡ item self.now.items i }
     {
@@ -198,10 +189,48 @@ impl Pass {
     }
 
     // How many entries the stack has.
-    fn height(&self) -> usize
+    pub(crate) fn height(&self) -> usize
         ensures { result ≡ length self.now.items }
     {
         self.items.len()
+    }
+
+    // The vertex where the search is.
+    pub(crate) fn here(&self) -> u32
+        ensures { result ≡ self.now.at }
+    {
+        self.at
+    }
+
+    // The last vertex that is finished: the child from which the search has come back.
+    pub(crate) fn child(&self) -> u32
+        ensures { result ≡ self.now.done }
+    {
+        self.done
+    }
+
+    // How many entries the stack had when the vertex was entered.
+    pub(crate) fn start_of(&self, v: u32) -> usize
+        requires { v < length self.now.start }
+        ensures { result ≡ slice_index self.now.start v }
+    {
+        self.start[v as usize]
+    }
+
+    // How many cuts there were when the vertex was entered.
+    pub(crate) fn base_of(&self, v: u32) -> usize
+        requires { v < length self.now.base }
+        ensures { result ≡ slice_index self.now.base v }
+    {
+        self.base[v as usize]
+    }
+
+    // How many darts of the vertex have been gone along and back.
+    pub(crate) fn gone_of(&self, v: u32) -> usize
+        requires { v < length self.now.gone }
+        ensures { result ≡ slice_index self.now.gone v }
+    {
+        self.gone[v as usize]
     }
 
     // Whether the last entry is parallel to a frond right below it, and four entries are left.
@@ -274,7 +303,7 @@ impl Pass {
 
     // A dart of `v` is on the stack, from place `s` on, with the least upper end `up`: where it is not the first one, the stack
     // may be cut there.
-    fn note_dart<L: Ledger>(
+    pub(crate) fn note_dart<L: Ledger>(
         &mut self,
         v: u32,
         s: usize,
@@ -302,7 +331,7 @@ impl Pass {
     }
 
     // Pushes a frond from `v` to `up`.
-    fn add_frond<L: Ledger>(
+    pub(crate) fn add_frond<L: Ledger>(
         &mut self,
         alloc: Global,
         g: &Graph,
@@ -339,7 +368,7 @@ impl Pass {
     }
 
     // Pushes a tree edge from `v` to `low`, to which the entries from place `start` on belong.
-    fn add_tree_edge<L: Ledger>(
+    pub(crate) fn add_tree_edge<L: Ledger>(
         &mut self,
         alloc: Global,
         g: &Graph,
@@ -371,7 +400,7 @@ impl Pass {
     }
 
     // Whether the last two entries are tree edges that no other entry meets between them.
-    fn is_triangle(&self) -> bool
+    pub(crate) fn is_triangle(&self) -> bool
         requires two { 2 ≤ length self.now.items }
         requires low { (top_item self.now).low < length self.now.first }
         ensures { IsTriangleTest self.now result }
@@ -385,7 +414,7 @@ impl Pass {
     }
 
     // Drops the last cut, where it is one of `v` and the lower vertex of the last entry.
-    fn drop_stale(&mut self, v: u32, base: usize) -> bool
+    pub(crate) fn drop_stale(&mut self, v: u32, base: usize) -> bool
         requires { 1 ≤ length self.old.items }
         ensures { IsStaleDropped v base self.old self.new result }
     {
@@ -401,8 +430,84 @@ impl Pass {
         }
     }
 
+    // The last cut from place `base` on, where it has the upper end `v`.
+    pub(crate) fn cut_to(&self, v: u32, base: usize) -> Option<Triple>
+        ensures { IsCutFound v base self.now result }
+    {
+        match self.last_cut(base) {
+            Some(cut) => {
+                if cut.up == v {
+                    return Some(cut);
+                }
+                None
+            }
+            None => None,
+        }
+    }
+
+    // The name of a frond from `low` to `up` from place `k` on, if there is one.
+    pub(crate) fn frond_from<L: Ledger>(
+        &self,
+        k: usize,
+        up: u32,
+        low: u32,
+        steps: &mut Steps<L>,
+    ) -> Option<u32>
+        requires { k ≤ length self.now.items }
+        ensures found { IsFrondFound up low (drop k self.now.items) result }
+        ensures at_most { steps.new + k ≤ steps.old + length self.now.items }
+        ensures rises { steps.old ≤ steps.new }
+    {
+        frond_to(&self.items[k..], up, low, steps)
+    }
+
+    // Pushes a frond from `low` to `up` that stays apart, if there is one.
+    pub(crate) fn push_apart(
+        &mut self,
+        frond: Option<u32>,
+        up: u32,
+        low: u32,
+        start: usize,
+    ) -> Result<(), AllocError>
+        requires up { up < length self.old.first }
+        requires low { low < length self.old.first }
+        ensures apart { IfOk result (λ _. IsApart frond up low start self.old self.new) }
+        ensures weight { IfOk result (λ _. weight self.new ≡ weight self.old + 8 * number_apart frond) }
+    {
+        match frond {
+            Some(name) => self.push(Item {
+                name,
+                up,
+                low,
+                tree: false,
+                start,
+            }),
+            None => Ok(()),
+        }
+    }
+
+    // Whether a dart of this class has all from place `start` on as a side, and two entries are left beside it.
+    pub(crate) fn is_whole(&self, class: u32, start: usize) -> bool
+        requires { start ≤ length self.now.items }
+        ensures { IsWholeTest class start self.now result }
+    {
+        class == 2 && self.total >= self.items.len() - start + 2
+    }
+
+    // Drops the cuts from place `base` on before which the vertex `v` is met.
+    pub(crate) fn drop_met<L: Ledger>(&mut self, v: u32, base: usize, steps: &mut Steps<L>)
+        requires first { v < length self.old.first }
+        requires base { base ≤ length self.old.cuts }
+        ensures dropped { IsMetDropped v base self.old self.new }
+        ensures cost { steps.new + weight self.new ≤ steps.old + weight self.old }
+        ensures rises { steps.old ≤ steps.new }
+    {
+        let first = self.first[v as usize];
+        drop_behind(&mut self.cuts, base, first, steps);
+    }
+
     // Goes along the next dart of the vertex where the search is: a frond is pushed, or the search goes down.
-    fn go_along<L: Ledger>(
+    pub(crate) fn go_along<L: Ledger>(
         &mut self,
         alloc: Global,
         g: &Graph,
@@ -414,7 +519,9 @@ impl Pass {
         requires more { slice_index self.old.gone self.old.at < tree_degree tree.now.palm tree.now.vertex self.old.at }
         requires fits { slice_index self.old.gone self.old.at + 1 < 18446744073709551616 }
         ensures gone { IfOk result (λ _. IsPass g.now tree.now self.new) }
+        ensures turned { IfOk result (λ _. IsTurned g.now tree.now self.old self.new) }
         ensures cost { IfOk result (λ _. steps.new + weight self.new ≤ steps.old + weight self.old + 10) }
+        ensures at_most { steps.new ≤ steps.old + weight self.old + 2 }
         ensures rises { steps.old ≤ steps.new }
     {
         let v = self.at;
@@ -428,7 +535,7 @@ impl Pass {
     }
 
     // Comes back to the parent `v`, which is not the root, when all darts have been gone along.
-    fn come_back<L: Ledger>(
+    pub(crate) fn come_back<L: Ledger>(
         &mut self,
         alloc: Global,
         g: &Graph,
@@ -446,7 +553,9 @@ impl Pass {
         requires dart_left { slice_index self.old.gone v < tree_degree tree.now.palm tree.now.vertex v }
         requires fits { slice_index self.old.gone v + 1 < 18446744073709551616 }
         ensures back { IfOk result (λ _. IsBack g.now tree.now self.old.at self.new) }
+        ensures come { IfOk result (λ _. IsCome v self.old self.new) }
         ensures cost { IfOk result (λ _. steps.new + weight self.new ≤ steps.old + weight self.old + 8) }
+        ensures at_most { steps.new ≤ steps.old + 2 }
         ensures rises { steps.old ≤ steps.new }
     {
         let w = self.at;
@@ -458,7 +567,7 @@ impl Pass {
     }
 
     // Comes back to the root, when all darts have been gone along: the pass is over.
-    fn come_home(&mut self, g: &Graph, tree: &Tree, v: u32) -> Result<(), AllocError>
+    pub(crate) fn come_home(&mut self, g: &Graph, tree: &Tree, v: u32) -> Result<(), AllocError>
         requires numbered { IsNumbered g.now tree.now }
         requires pass { IsPass g.now tree.now self.old }
         requires all { slice_index self.old.gone self.old.at ≡ tree_degree tree.now.palm tree.now.vertex self.old.at }
@@ -469,6 +578,7 @@ impl Pass {
         requires dart_left { slice_index self.old.gone v < tree_degree tree.now.palm tree.now.vertex v }
         requires fits { slice_index self.old.gone v + 1 < 18446744073709551616 }
         ensures home { IfOk result (λ _. IsPassed g.now tree.now self.new) }
+        ensures come { IfOk result (λ _. IsCome v self.old self.new) }
         ensures cost { IfOk result (λ _. weight self.new ≤ weight self.old + 8) }
     {
         let w = self.at;
@@ -483,5 +593,29 @@ impl Pass {
             tree: true,
             start,
         })
+    }
+
+    /// The edges that are left when the pass is over.
+    pub(crate) fn edges<L: Ledger>(
+        &self,
+        alloc: Global,
+        g: &Graph,
+        tree: &Tree,
+        steps: &mut Steps<L>,
+    ) -> Result<Vec<NamedEdge>, AllocError>
+        requires numbered { IsNumbered g.now tree.now }
+        requires passed { IsPassed g.now tree.now self.now }
+        ensures edges { IfOk result (λ edges. family_of edges.items ≡ drawn_items g.now tree.now.vertex self.now.items) }
+        ensures at_most { steps.new ≤ steps.old + length self.now.items }
+        ensures rises { steps.old ≤ steps.new }
+    {
+        edges_of(alloc, g, tree, &self.items, false, 0, 0, steps)
+    }
+
+    /// The finished components.
+    pub(crate) fn parts(&self) -> &[Cut]
+        ensures { result.now ≡ self.now.parts }
+    {
+        &self.parts
     }
 }
