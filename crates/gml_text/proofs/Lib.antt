@@ -7,10 +7,16 @@ mod NumberPasses
 mod NumberWords
 mod NextItem
 mod PassesNumber
+mod OtherRest
+mod WordBreaks
 mod Frames
 mod Completes
+mod Closing
+mod ItemBreaks
 mod Depth
 mod Steps
+mod Refusals
+mod Fronts
 pub mod ReadDocument
 mod Lines
 pub mod Written
