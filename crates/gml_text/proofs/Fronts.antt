@@ -1,12 +1,14 @@
 -- Fronts of documents: those of a front are fronts, bytes have one longest, and where bytes break off is its end.
 use Rattle.std.proofs.Common.{◌≡◌, ℕ, zero, suc, ◌-◌, ◌<◌, ◌≤◌, List, [], ◌∷◌, ◌++◌, length, take, refl, sym, ap, subst, ◌∙◌, inl, inr, arith, append_assoc}
 use Rattle.std.proofs.lemmas.Bool.{cases_lt}
-use Rattle.std.proofs.lemmas.List.{length-append, take_at}
+use Rattle.std.proofs.lemmas.List.{append-nil, length-append, take_all, take_at}
 use Rattle.gml_text.specs.Document.{Document}
 use Rattle.gml_text.specs.Grammar.{Spells}
 use Rattle.gml_text.specs.Breaks.{Breaks}
 use Rattle.gml_text.specs.Front.{Front, At}
-use Rattle.gml_text.specs.Faults.{IsNoDocument}
+use Rattle.gml_text.specs.Faults.{IsNoDocument, IsFault}
+use Rattle.gml_text.specs.declared.document.GmlFault.{GmlFault}
+use Rattle.gml_text.specs.declared.document.GmlFault.TheVariants.{Bad, End, Memory}
 
 -- the bytes spell a document
 abbrev pub IsDocument : List ℕ → Type 0
@@ -19,6 +21,25 @@ front_front front more f = (more ++ f.0, f.1, subst (λ (xs : List ℕ). Spells 
 -- one place at most
 pub at_one : (bytes : List ℕ) (m n : ℕ) → At bytes m → At bytes n → m ≡ n
 at_one bytes m n a b = omega (arith, a.longest n b.within b.front, b.longest m a.within a.front)
+
+-- a document is its own longest front
+pub whole_at : (bytes : List ℕ) (d : Document) → Spells bytes d → At bytes (length bytes)
+whole_at bytes d s =
+    record {
+      within = omega arith;
+      front = ([], d, subst (λ (xs : List ℕ). Spells xs d) (sym (append-nil (take (length bytes) bytes) ∙ take_all (length bytes) bytes (omega arith))) s);
+      longest = λ n within f. within;
+    }
+
+-- one fault at most
+pub fault_one : (bytes : List ℕ) (one other : GmlFault) → IsFault one bytes → IsFault other bytes → (one ≡ Memory → ⊥) → (other ≡ Memory → ⊥) → one ≡ other
+fault_one bytes (Bad m) (Bad n) p q of_one of_other = ap (λ (at : ℕ). Bad at) (at_one bytes m n p.1 q.1)
+fault_one bytes (Bad m) (End n) p q of_one of_other = absurd (omega (arith, at_one bytes m n p.1 q.1, p.2, q.2))
+fault_one bytes (End m) (Bad n) p q of_one of_other = absurd (omega (arith, at_one bytes m n p.1 q.1, p.2, q.2))
+fault_one bytes (End m) (End n) p q of_one of_other = ap (λ (at : ℕ). End at) (at_one bytes m n p.1 q.1)
+fault_one bytes Memory other p q of_one of_other = absurd (of_one refl)
+fault_one bytes (Bad m) Memory p q of_one of_other = absurd (of_other refl)
+fault_one bytes (End m) Memory p q of_one of_other = absurd (of_other refl)
 
 -- a prefix that is longer than the front has the next byte too
 record NextByte (front tail prefix : List ℕ) : Type 0 where

@@ -22,3 +22,4 @@ mod Lines
 pub mod Written
 pub mod OneDocument
 mod Examples
+mod FrontExamples

@@ -95,8 +95,10 @@ refused_open old bytes value behind key k o deep within =
   where
     split : bytes ≡ ((k.stands.gap ++ key) ++ o.gap) ++ (91 ∷ behind)
     split = key_split key bytes value k o.gap (91 ∷ behind) o.whole
+
     ends : (more : List ℕ) → is_behind_word more ≡ true → is_behind_word (o.gap ++ more) ≡ true
     ends more h = gap_behind o.gap (91 ∷ behind) more (sym (ap is_behind_word o.whole) ∙ k.ends) h
+
     quotes : WholePair (((k.stands.gap ++ key) ++ o.gap) ++ (34 ∷ 34 ∷ []))
     quotes =
         record {
@@ -105,8 +107,10 @@ refused_open old bytes value behind key k o deep within =
           stands = key_before key bytes value k o.gap (34 ∷ 34 ∷ []) (ends (34 ∷ 34 ∷ []) refl);
           whole = record { text = []; stands = inr (record { stands = record { gap = o.gap; whole = refl; is_gap = o.is_gap }; no_quote = refl }) };
         }
+
     first : (b : ℕ) (r : List ℕ) → 91 ∷ behind ≡ b ∷ r → 91 ≡ b
     first b r e = cc
+
     never : (others : List ℕ) → NeverFinishes old (((k.stands.gap ++ key) ++ o.gap) ++ (91 ∷ others))
     never others =
         too_deep old (((k.stands.gap ++ key) ++ o.gap) ++ (91 ∷ others)) (o.gap ++ (91 ∷ others)) others key

@@ -163,8 +163,10 @@ number_breaks word i part leads stuck fails =
   where
     within : (b : ℕ) (rest : List ℕ) → drop i word ≡ b ∷ rest → i < length word
     within b rest e = omega (arith, ap length e, length-drop i word)
+
     same : (b : ℕ) (rest : List ℕ) → drop i word ≡ b ∷ rest → get_or word i 0 ≡ b
     same b rest e = let both : get_or word i 0 ∷ drop (i + 1) word ≡ b ∷ rest = sym (drop_more word i 0 (within b rest e)) ∙ e in cc
+
     stuck_at : (b : ℕ) (rest : List ℕ) → drop i word ≡ b ∷ rest → step part b ≡ None
     stuck_at b rest e = subst (λ (x : ℕ). step part x ≡ None) (same b rest e) (stuck (within b rest e))
 
