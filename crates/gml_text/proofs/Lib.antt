@@ -7,12 +7,19 @@ mod NumberPasses
 mod NumberWords
 mod NextItem
 mod PassesNumber
+mod OtherRest
+mod WordBreaks
 mod Frames
 mod Completes
+mod Closing
+mod ItemBreaks
 mod Depth
 mod Steps
+mod Refusals
+mod Fronts
 pub mod ReadDocument
 mod Lines
 pub mod Written
 pub mod OneDocument
 mod Examples
+mod FrontExamples

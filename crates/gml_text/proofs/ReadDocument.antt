@@ -1,14 +1,19 @@
 -- From the bytes that have been read to the document that all of them spell.
-use Rattle.std.proofs.Common.{◌≡◌, ℕ, ◌-◌, ◌≤◌, Bool, true, false, cond, eqb, List, [], length, refl, sym, subst, arith}
+use Rattle.std.proofs.Common.{◌≡◌, ℕ, ◌-◌, ◌≤◌, Bool, true, false, cond, eqb, List, [], ◌∷◌, ◌++◌, length, refl, sym, ap, subst, ◌∙◌, inr, arith, append_assoc}
 use Rattle.gml_text.specs.Document.{Document, empty, number, string, list, IsWithinDepth}
 use Rattle.gml_text.specs.Grammar.{PairsStand, Spells}
 use Rattle.gml_text.specs.WellFormed.{AreTokens, IsWellFormed}
-use Rattle.std.proofs.lemmas.Bool.{eqb-false}
+use Rattle.gml_text.specs.Reading.{Follows}
+use Rattle.gml_text.specs.Breaks.{Breaks}
+use Rattle.gml_text.specs.Front.{At}
+use Rattle.std.proofs.lemmas.Bool.{eqb-true, eqb-false}
 use Rattle.gml_text.specs.Faults.{IsNoDocument, IsFault}
 use Rattle.gml_text.specs.declared.document.GmlFault.{GmlFault}
 use Rattle.gml_text.specs.declared.document.GmlFault.TheVariants.{Bad, End}
-use Rattle.gml_text.specs.Partial.{Frame, plug, Completes, frames_of, pairs_of, Advances, IsOver, IsRefused, IsRead}
+use Rattle.gml_text.specs.Partial.{Frame, plug, Completes, frames_of, pairs_of, Advances, IsOver, NeverFinishes, IsRefused, IsRead}
 use Rattle.gml_text.specs.declared.partial.Partial.{Partial}
+use Rattle.gml_text.proofs.OtherRest.{alike_front, alike_byte, follows_same}
+use Rattle.gml_text.proofs.Fronts.{IsDocument, breaks_at}
 
 -- the pairs that stand somewhere have keys for keys, and numbers for numbers
 pub pairs_tokens : (d : Document) (bytes rest : List ℕ) → PairsStand d bytes rest → AreTokens d
@@ -33,8 +38,10 @@ of_spells bytes d s = (d, s.rest, s.pairs, (s.gap, refl))
 pub read_none : (p : Partial) (bytes : List ℕ) → frames_of p ≡ [] → pairs_of p ≡ empty → IsRead bytes p bytes
 read_none p bytes e f =
     record {
-      forth = λ d c. subst (λ (fs : List Frame). Completes fs (pairs_of p) bytes d) (sym e) (subst (λ (ps : Document). Completes [] ps bytes d) (sym f) c);
-      back = λ d c. subst (λ (ps : Document). Completes [] ps bytes d) f (subst (λ (fs : List Frame). Completes fs (pairs_of p) bytes d) e c);
+      read = [];
+      split = refl;
+      forth = λ more follows d c. subst (λ (fs : List Frame). Completes fs (pairs_of p) more d) (sym e) (subst (λ (ps : Document). Completes [] ps more d) (sym f) c);
+      back = λ more follows d c. subst (λ (ps : Document). Completes [] ps more d) f (subst (λ (fs : List Frame). Completes fs (pairs_of p) more d) e c);
       within =
           subst (λ (fs : List Frame). IsWithinDepth (plug fs (pairs_of p))) (sym e)
           (let within : IsWithinDepth empty = omega arith in subst (λ (ps : Document). IsWithinDepth ps) (sym f) within);
@@ -44,20 +51,57 @@ read_none p bytes e f =
 -- one item more
 pub read_more : (bytes rest behind : List ℕ) (p q : Partial) → IsRead bytes p rest → Advances p rest q behind → IsRead bytes q behind
 read_more bytes rest behind p q r a =
-    record { forth = λ d c. a.forth d (r.forth d c); back = λ d c. r.back d (a.back d c); within = a.within; shorter = omega (arith, r.shorter, a.shorter) }
+    record {
+      read = r.read ++ a.read;
+      split = r.split ∙ ap (λ (xs : List ℕ). r.read ++ xs) a.split ∙ sym (append_assoc r.read a.read behind);
+      forth = λ more f d c. a.forth more f d (r.forth (a.read ++ more) (follows more) d (subst (λ (xs : List ℕ). Completes [] empty xs d) (append_assoc r.read a.read more) c));
+      back = λ more f d c. subst (λ (xs : List ℕ). Completes [] empty xs d) (sym (append_assoc r.read a.read more)) (r.back (a.read ++ more) (follows more) d (a.back more f d c));
+      within = a.within;
+      shorter = omega (arith, r.shorter, a.shorter);
+    }
+  where
+    follows : (more : List ℕ) → Follows (a.read ++ more) rest
+    follows more = subst (λ (xs : List ℕ). Follows (a.read ++ more) xs) (sym a.split) (inr (alike_front a.read more behind a.some))
 
 -- all read
 pub read_all : (bytes rest : List ℕ) (p : Partial) → IsRead bytes p rest → IsOver p rest → Spells bytes (pairs_of p)
-read_all bytes rest p r o = spells_of bytes (pairs_of p) (r.back (pairs_of p) o.back) o.within
+read_all bytes rest p r o =
+    subst (λ (xs : List ℕ). Spells xs (pairs_of p)) (sym r.split)
+    (spells_of (r.read ++ rest) (pairs_of p) (r.back rest (follows_same rest) (pairs_of p) o.back) o.within)
 
 -- no document goes on
-pub read_refused : (bytes rest : List ℕ) (p : Partial) → IsRead bytes p rest → IsRefused p rest → IsNoDocument bytes
-read_refused bytes rest p r no_more d s = no_more d (r.forth d (of_spells bytes d s)) s.depth
+read_never : (bytes rest more : List ℕ) (p : Partial) (r : IsRead bytes p rest) → Follows more rest → NeverFinishes p more → IsNoDocument (r.read ++ more)
+read_never bytes rest more p r follows never d s = never d (r.forth more follows d (of_spells (r.read ++ more) d s)) s.depth
+
+pub read_breaks : (bytes rest : List ℕ) (p : Partial) (left : ℕ) → IsRead bytes p rest → IsRefused p rest left → Breaks IsDocument IsNoDocument bytes left
+read_breaks bytes rest p left r b =
+    record {
+      front = r.read ++ b.front;
+      tail = b.tail;
+      split = r.split ∙ ap (λ (xs : List ℕ). r.read ++ xs) b.split ∙ sym (append_assoc r.read b.front b.tail);
+      count = b.count;
+      more = b.more;
+      whole = (
+        b.whole.1,
+        subst (λ (xs : List ℕ). Spells xs b.whole.1) (sym (append_assoc r.read b.front b.more))
+            (spells_of (r.read ++ (b.front ++ b.more)) b.whole.1 (r.back (b.front ++ b.more) b.whole.0 b.whole.1 b.whole.2) b.whole.3),
+      );
+      breaks = λ c others more e.
+          subst IsNoDocument (sym (append_assoc r.read b.front (c ∷ more)))
+          (read_never bytes rest (b.front ++ (c ∷ more)) p r (follows c others more e) (b.breaks c others more e));
+      none = subst IsNoDocument (sym r.split) (read_never bytes rest rest p r (follows_same rest) b.none);
+    }
+  where
+    follows : (c : ℕ) (others more : List ℕ) → b.tail ≡ c ∷ others → Follows (b.front ++ (c ∷ more)) rest
+    follows c others more e =
+        subst (λ (xs : List ℕ). Follows (b.front ++ (c ∷ more)) xs) (sym (b.split ∙ ap (λ (xs : List ℕ). b.front ++ xs) e)) (inr (alike_byte b.front c more others))
 
 -- and the fault says so
-fault_at : (t : Bool) (bytes : List ℕ) (left : ℕ) → eqb left 0 ≡ t → IsNoDocument bytes → left ≤ length bytes → IsFault (cond t (End (length bytes)) (Bad (length bytes - left))) bytes
-fault_at true bytes left e none within = (none, refl)
-fault_at false bytes left e none within = (none, let some : left ≡ 0 → ⊥ = eqb-false left 0 e in omega arith)
+fault_at : (t : Bool) (bytes : List ℕ) (left : ℕ) → eqb left 0 ≡ t → Breaks IsDocument IsNoDocument bytes left → left ≤ length bytes → IsFault (cond t (End (length bytes)) (Bad (length bytes - left))) bytes
+fault_at true bytes left e b within =
+    let all : length bytes - left ≡ length bytes = omega (arith, eqb-true left 0 e) in
+    (b.none, subst (λ (n : ℕ). At bytes n) all (breaks_at bytes left b), refl)
+fault_at false bytes left e b within = (b.none, breaks_at bytes left b, let some : left ≡ 0 → ⊥ = eqb-false left 0 e in omega arith)
 
-pub fault_is : (bytes : List ℕ) (left : ℕ) (f : GmlFault) → IsNoDocument bytes → left ≤ length bytes → f ≡ cond (eqb left 0) (End (length bytes)) (Bad (length bytes - left)) → IsFault f bytes
-fault_is bytes left f none within e = subst (λ (g : GmlFault). IsFault g bytes) (sym e) (fault_at (eqb left 0) bytes left refl none within)
+pub fault_is : (bytes : List ℕ) (left : ℕ) (f : GmlFault) → Breaks IsDocument IsNoDocument bytes left → left ≤ length bytes → f ≡ cond (eqb left 0) (End (length bytes)) (Bad (length bytes - left)) → IsFault f bytes
+fault_is bytes left f b within e = subst (λ (g : GmlFault). IsFault g bytes) (sym e) (fault_at (eqb left 0) bytes left refl b within)

@@ -2,6 +2,7 @@
 use Rattle.std.specs.Prelude.{◌≡◌, ℕ, ◌<◌, List, length}
 use Rattle.gml_text.specs.Document.{Document}
 use Rattle.gml_text.specs.Grammar.{Spells}
+use Rattle.gml_text.specs.Front.{At}
 use Rattle.gml_text.specs.declared.document.GmlFault.{GmlFault}
 use Rattle.gml_text.specs.declared.document.GmlFault.TheVariants.{Bad, End, Memory}
 
@@ -9,8 +10,9 @@ use Rattle.gml_text.specs.declared.document.GmlFault.TheVariants.{Bad, End, Memo
 abbrev pub IsNoDocument : List ℕ → Type 0
 IsNoDocument bytes = (d : Document) → Spells bytes d → ⊥
 
--- no document is spelled, and the place is at the end of the bytes or before it; want of memory says nothing
+-- no document is spelled, and the place is the length of the longest front: the end of the bytes, or before it; want of memory
+-- says nothing
 abbrev pub IsFault : GmlFault → List ℕ → Type 0
-IsFault (Bad at) bytes = IsNoDocument bytes × (at < length bytes)
-IsFault (End at) bytes = IsNoDocument bytes × (at ≡ length bytes)
+IsFault (Bad at) bytes = IsNoDocument bytes × At bytes at × (at < length bytes)
+IsFault (End at) bytes = IsNoDocument bytes × At bytes at × (at ≡ length bytes)
 IsFault Memory bytes = Unit {0}

@@ -9,7 +9,9 @@ pub mod Recognised
 pub mod Grammar
 pub mod Reading
 pub mod Items
+pub mod Breaks
 pub mod Partial
+pub mod Front
 pub mod Faults
 pub mod Layout
 pub mod WellFormed

@@ -1,8 +1,10 @@
 -- A document of which some pairs have been read, with the lists that are open.
-use Rattle.std.specs.Prelude.{◌≡◌, ℕ, ◌<◌, ◌≤◌, true, List, [], ◌∷◌, length, Option, Some, None, Result, Ok, Err}
+use Rattle.std.specs.Prelude.{◌≡◌, ℕ, ◌<◌, ◌≤◌, true, List, [], ◌∷◌, ◌++◌, length, Option, Some, None, Result, Ok, Err}
 use Rattle.gml_text.specs.Document.{Document, empty, number, string, list, append, IsWithinDepth}
 use Rattle.gml_text.specs.Grammar.{is_gap, CloseStands, PairsStand}
 use Rattle.gml_text.specs.Pairs.{document_of, pair_before}
+use Rattle.gml_text.specs.Reading.{Follows}
+use Rattle.gml_text.specs.Breaks.{Breaks}
 use Rattle.gml_text.specs.declared.document.Value.{Value}
 use Rattle.gml_text.specs.declared.partial.Stop.{Stop}
 use Rattle.gml_text.specs.declared.partial.Stop.TheVariants.{Fault, Memory}
@@ -55,10 +57,13 @@ Finishes p bytes d = Completes (frames_of p) (pairs_of p) bytes d
 abbrev pub IsPartial : Partial → Type 0
 IsPartial p = IsWithinDepth (plug (frames_of p) (pairs_of p))
 
--- the same documents are completed by these bytes, and after a step by those behind
+-- some bytes are read in a step: whatever may stand behind them, the same documents are completed before it and after it
 pub record Advances (old : Partial) (bytes : List ℕ) (new : Partial) (behind : List ℕ) : Type 0 where
-  pub forth : (d : Document) → Finishes old bytes d → Finishes new behind d
-  pub back : (d : Document) → Finishes new behind d → Finishes old bytes d
+  pub read : List ℕ
+  pub split : bytes ≡ read ++ behind
+  pub some : 0 < length read
+  pub forth : (more : List ℕ) → Follows more behind → (d : Document) → Finishes old (read ++ more) d → Finishes new more d
+  pub back : (more : List ℕ) → Follows more behind → (d : Document) → Finishes new more d → Finishes old (read ++ more) d
   pub within : IsPartial new
   pub shorter : length behind < length bytes
 
@@ -68,9 +73,17 @@ pub record IsOver (p : Partial) (bytes : List ℕ) : Type 0 where
   pub back : Finishes p bytes (pairs_of p)
   pub within : IsWithinDepth (pairs_of p)
 
--- what is left completes no document
-abbrev pub IsRefused : Partial → List ℕ → Type 0
-IsRefused p bytes = (d : Document) → Finishes p bytes d → IsWithinDepth d → ⊥
+-- bytes in the place of those that are left complete a document
+abbrev pub CanFinish : Partial → List ℕ → List ℕ → Type 0
+CanFinish p rest bytes = Follows bytes rest × (d : Document) × Finishes p bytes d × IsWithinDepth d
+
+-- and these complete none
+abbrev pub NeverFinishes : Partial → List ℕ → Type 0
+NeverFinishes p bytes = (d : Document) → Finishes p bytes d → IsWithinDepth d → ⊥
+
+-- no document goes on where so many bytes are left
+abbrev pub IsRefused : Partial → List ℕ → ℕ → Type 0
+IsRefused p bytes left = Breaks (CanFinish p bytes) (NeverFinishes p) bytes left
 
 -- one more pair, or one more list open
 abbrev pub IsTaken : List ℕ → Found → Partial → Partial → Type 0
@@ -104,12 +117,15 @@ pub record IsOpened (key : List ℕ) (old new : Partial) : Type 0 where
 abbrev pub Stepped : Partial → List ℕ → Result (Option (Bor (List ℕ))) Stop → Partial → Type 0
 Stepped old bytes (Ok (Some behind)) new = Advances old bytes new behind.now
 Stepped old bytes (Ok None) new = IsOver old bytes × (new ≡ old)
-Stepped old bytes (Err (Fault left)) new = IsRefused old bytes × (left ≤ length bytes)
+Stepped old bytes (Err (Fault left)) new = IsRefused old bytes left × (left ≤ length bytes)
 Stepped old bytes (Err Memory) new = Unit {0}
 
--- some of the bytes have been read: these documents are spelled, whatever their depth, which the rest completes
+-- some of the bytes have been read: whatever may stand behind them, the documents that are spelled, whatever their depth, are
+-- those that it completes
 pub record IsRead (bytes : List ℕ) (p : Partial) (rest : List ℕ) : Type 0 where
-  pub forth : (d : Document) → Completes [] empty bytes d → Finishes p rest d
-  pub back : (d : Document) → Finishes p rest d → Completes [] empty bytes d
+  pub read : List ℕ
+  pub split : bytes ≡ read ++ rest
+  pub forth : (more : List ℕ) → Follows more rest → (d : Document) → Completes [] empty (read ++ more) d → Finishes p more d
+  pub back : (more : List ℕ) → Follows more rest → (d : Document) → Finishes p more d → Completes [] empty (read ++ more) d
   pub within : IsPartial p
   pub shorter : length rest ≤ length bytes

@@ -1,5 +1,5 @@
 -- What stands next, as it is read.
-use Rattle.std.specs.Prelude.{◌≡◌, ℕ, true, cond, ◌==◌, List, [], ◌∷◌, ◌++◌}
+use Rattle.std.specs.Prelude.{◌≡◌, ℕ, ◌⊎◌, true, cond, ◌==◌, List, [], ◌∷◌, ◌++◌}
 use Rattle.std.specs.List.{list_all}
 use Rattle.gml_text.specs.Bytes.{is_white, is_line_end, is_word_byte, is_no_quote}
 use Rattle.gml_text.specs.Grammar.{is_behind_word}
@@ -24,3 +24,15 @@ pub record IsWord (word bytes rest : List ℕ) : Type 0 where
 pub record IsQuoted (text bytes rest : List ℕ) : Type 0 where
   pub whole : bytes ≡ text ++ (34 ∷ rest)
   pub no_quote : list_all is_no_quote text ≡ true
+
+-- the same byte comes first
+pub record BeginAlike (one two : List ℕ) : Type 0 where
+  pub first : ℕ
+  pub more : List ℕ
+  pub rest : List ℕ
+  pub of_one : one ≡ first ∷ more
+  pub of_two : two ≡ first ∷ rest
+
+-- bytes that may stand behind a token in the place of the rest: their first byte is that of the rest, or they go on no word
+abbrev pub Follows : List ℕ → List ℕ → Type 0
+Follows bytes rest = (is_behind_word bytes ≡ true) ⊎ BeginAlike bytes rest

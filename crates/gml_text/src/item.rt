@@ -1,7 +1,8 @@
 // One item of a document: a key with the beginning of its value, a closing bracket, or the end.
 
 ghost use Rattle.std.specs.Prelude.{◌≡◌, ◌≤◌, ◌<◌, ℕ, List, ◌∷◌, length, IfOk, IfErr, IfSome, MatchOption, MatchResult};
-ghost use Rattle.gml_text.specs.Items.{FoundStands, NoValue, ItemStands, Stuck, IsShorter};
+ghost use Rattle.gml_text.specs.Items.{FoundStands, ItemStands, IsShorter};
+ghost use Rattle.gml_text.specs.Breaks.{ValueBreaks, PairBreaks};
 
 use crate::number::number_fault;
 use crate::scan::{after_gap, key_fault, split_quoted, split_word};
@@ -34,7 +35,7 @@ fn behind_byte(byte: u8, bytes: &[u8]) -> Option<&[u8]>
 
 // The beginning of a value behind a gap, and what stands behind it; an Err is how many bytes are left where no value goes on.
 fn next_value(bytes: &[u8]) -> Result<(Found<'_>, &[u8]), usize>
-    ensures found { MatchResult result (λ found. FoundStands found.0 bytes.now found.1.now) (λ left. NoValue bytes.now) }
+    ensures found { MatchResult result (λ found. FoundStands found.0 bytes.now found.1.now) (λ left. ValueBreaks bytes.now left) }
     ensures shorter { IfOk result (λ found. length found.1.now ≤ length bytes.now) }
     ensures within { IfErr result (λ left. left ≤ length bytes.now) }
 {
@@ -59,7 +60,7 @@ fn next_value(bytes: &[u8]) -> Result<(Found<'_>, &[u8]), usize>
 
 // The item that stands next; an Err is how many bytes are left where no document goes on.
 pub(crate) fn next_item(bytes: &[u8]) -> Result<Item<'_>, usize>
-    ensures item { MatchResult result (λ item. ItemStands item bytes.now) (λ left. Stuck bytes.now) }
+    ensures item { MatchResult result (λ item. ItemStands item bytes.now) (λ left. PairBreaks bytes.now left) }
     ensures shorter { IfOk result (λ item. IsShorter item bytes.now) }
     ensures within { IfErr result (λ left. left ≤ length bytes.now) }
 {

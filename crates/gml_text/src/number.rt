@@ -1,7 +1,8 @@
 // Numbers, recognised byte by byte.
 
-ghost use Rattle.std.specs.Prelude.{◌≡◌, ◌≤◌, length, is_none, IfSome, Some};
+ghost use Rattle.std.specs.Prelude.{◌≡◌, ◌-◌, ◌≤◌, length, is_none, IfSome, Some};
 ghost use Rattle.gml_text.specs.Recognised.{on, begin, step, is_whole, passes};
+ghost use Rattle.gml_text.specs.Breaks.{NumberBreaks};
 ghost use Rattle.gml_text.specs.declared.number.Part.TheVariants.{Nothing};
 
 use crate::classes::{is_digit, is_either, is_mark, is_sign};
@@ -110,6 +111,7 @@ fn on(met: bool, part: Part) -> Option<Part>
 // None where the word is a number, else how many of its bytes some number begins with.
 pub(crate) fn number_fault(word: &[u8]) -> Option<usize>
     ensures number { is_none result ≡ passes (Some Nothing) word.now }
+    ensures breaks { IfSome result (λ n. NumberBreaks word.now (length word.now - n)) }
     ensures within { IfSome result (λ n. n ≤ length word.now) }
 {
     let mut part = Part::Nothing;

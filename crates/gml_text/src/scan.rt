@@ -1,10 +1,11 @@
 // Gaps, words and strings at the front of some bytes.
 
-ghost use Rattle.std.specs.Prelude.{◌≡◌, ◌+◌, ◌<◌, ◌≤◌, ℕ, List, false, true, length, is_none, IfSome, MatchOption};
+ghost use Rattle.std.specs.Prelude.{◌≡◌, ◌+◌, ◌-◌, ◌<◌, ◌≤◌, ℕ, List, false, true, length, is_none, IfSome, MatchOption};
 ghost use Rattle.std.specs.List.{list_all};
 ghost use Rattle.gml_text.specs.Bytes.{is_no_quote};
 ghost use Rattle.gml_text.specs.Grammar.{is_key};
 ghost use Rattle.gml_text.specs.Reading.{after_gap, IsWord, IsQuoted};
+ghost use Rattle.gml_text.specs.Breaks.{KeyBreaks};
 
 use crate::classes::{ends_word, is_key_byte, is_letter, is_line_end, is_white};
 
@@ -55,6 +56,7 @@ pub(crate) fn split_quoted(bytes: &[u8]) -> Option<(&[u8], &[u8])>
 // None where the word is a key, else how many of its bytes some key begins with.
 pub(crate) fn key_fault(word: &[u8]) -> Option<usize>
     ensures key { is_none result ≡ is_key word.now }
+    ensures breaks { IfSome result (λ n. KeyBreaks word.now (length word.now - n)) }
     ensures within { IfSome result (λ n. n ≤ length word.now) }
 {
     if word.is_empty() || !is_letter(word[0]) {

@@ -112,6 +112,33 @@ fn each_prefix_of_a_document(rt: HostRuntime) -> Result<(), Fail> {
 }
 
 #[test]
+fn each_front_of_a_graph(rt: HostRuntime) -> Result<(), Fail> {
+    let text = b"graph [ node [ id 0 ] ]";
+    assert_eq!(rt; text.len(), 23);
+    for n in 0..24 {
+        let expected = if n == 0 || n == 23 {
+            ('o', 0)
+        } else {
+            ('e', n)
+        };
+        assert_eq!(rt; answer(rt.alloc(), &text[..n]), expected);
+    }
+    Ok(())
+}
+
+#[test]
+fn a_byte_that_goes_on_no_front(rt: HostRuntime) -> Result<(), Fail> {
+    let text = b"graph [ node [ id 0 ] ]";
+    for n in 0..24 {
+        let mut broken = Vec::from_slice(rt.alloc(), &text[..n])?;
+        broken.push(b'\\')?;
+        broken.extend_from_slice(&text[n..])?;
+        assert_eq!(rt; answer(rt.alloc(), broken.as_slice()), ('b', n));
+    }
+    Ok(())
+}
+
+#[test]
 fn what_is_read_is_written_in_the_layout(rt: HostRuntime) -> Result<(), Fail> {
     let text =
         "# x\nCreator \"yFiles\" graph [ directed 1 node [ id 7 label \"é &amp; b\" graphics [ x 1.5E+3 y -INF ] ] node [ id -2 ] edge [ source 7 target -2 w_2 .5 ] ]";
