@@ -1,10 +1,10 @@
 // The methods by which blocks are split and embedded, for reports and for summaries.
 
 use contract_embed::ContractEmbedder;
-use pair_split::PairSplitter as BlockSplitter;
 use quick_embed::QuickEmbedder;
+use split_comp::SearchSplitter as BlockSplitter;
 
-/// How blocks are split: by pairs of vertices.
+/// How blocks are split: along a palm tree.
 pub fn block_splitter() -> BlockSplitter {
     BlockSplitter::new()
 }
