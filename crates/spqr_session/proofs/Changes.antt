@@ -63,8 +63,7 @@ module _ (suits : Kind → Bool) (trees : List BlockTree) (b k : ℕ) (s : State
       let two = rung-none NoNode no_node ((WrongKind, wrong_kind) ∷ (NonPlanar, not_planar) ∷ rest) one.1 in
       let three = rung-none WrongKind wrong_kind ((NonPlanar, not_planar) ∷ rest) two.1 in
       let four = rung-none NonPlanar not_planar rest three.1 in
-      let p = planar-entry (entry_at s.present b) four.0 in
-      (
+      let p = planar-entry (entry_at s.present b) four.0 in (
         record {
           block = in-block trees b one.0;
           node = ltb-true k (length (tree_at trees b).nodes) (held (is_node (tree_at trees b) k) two.0);

@@ -81,11 +81,13 @@ at-right tree old new r t right p = let l = listed tree old t right in member-ri
 at-rank : (tree : BlockTree) (old : Embedding) (r : ℕ) → IsBlockTree tree.part.graph tree.nodes → IsEntry tree None (Some old) → r < member_count tree old → (new : Embedding) × StandsAt r tree old new
 at-rank tree old r t right below =
     let l = listed tree old t right in
-    let new : Embedding = record { rotation = slice_index_or l.list r []; locks = old.locks } in
-    (new, record {
-      rank = λ m a. subst (λ (x : List (List (List ℕ))). IsRank x (slice_index_or l.list r []) r) (lists-one tree old l.list m l.are a) (record { within = omega (arith, below, l.counted); is_there = refl });
-      locks = refl;
-    })
+    let new : Embedding = record { rotation = slice_index_or l.list r []; locks = old.locks } in (
+      new,
+      record {
+        rank = λ m a. subst (λ (x : List (List (List ℕ))). IsRank x (slice_index_or l.list r []) r) (lists-one tree old l.list m l.are a) (record { within = omega (arith, below, l.counted); is_there = refl });
+        locks = refl;
+      },
+    )
 
 -- a test of a rank
 rank-below : (r n : ℕ) → not (nat_lt r n) ≡ false → r < n
@@ -130,11 +132,13 @@ module _ (setting : Setting) (b : ℕ) (s : State) (is : IsSetting setting) (rig
 
   pub list-answers : (n : ℕ) → (text : List ℕ) × (after : State) × ListStep setting.trees b n s text after
   list-answers n = read-answers no_more (λ tree e. refl) (IsListing b n) setting.trees b s (λ l e p none.
-      let m = listed here e (tree-of l) (entry-right setting s b e right l p) in
-      (members_text b n here (drop (m.place + 1) m.list), λ k i a x.
-          let same = lists-one here e m.list k m.are a in
-          let place : m.place ≡ i = ranks-one here e k e.rotation m.place i a (subst (λ (z : List (List (List ℕ))). IsRank z e.rotation m.place) same m.rank) x in
-          ap (λ (z : List (List (List ℕ))). members_text b n here (drop (m.place + 1) z)) same ∙ ap (λ (z : ℕ). members_text b n here (drop (z + 1) k)) place))
+      let m = listed here e (tree-of l) (entry-right setting s b e right l p) in (
+        members_text b n here (drop (m.place + 1) m.list),
+        λ k i a x.
+            let same = lists-one here e m.list k m.are a in
+            let place : m.place ≡ i = ranks-one here e k e.rotation m.place i a (subst (λ (z : List (List (List ℕ))). IsRank z e.rotation m.place) same m.rank) x in
+            ap (λ (z : List (List (List ℕ))). members_text b n here (drop (m.place + 1) z)) same ∙ ap (λ (z : ℕ). members_text b n here (drop (z + 1) k)) place,
+      ))
 
   pub list-one : (n : ℕ) (t u : List ℕ) (after other : State) → ListStep setting.trees b n s t after → ListStep setting.trees b n s u other → (t ≡ u) × (after ≡ other)
   list-one n t u after other p q = read-one no_more (λ tree e. refl) (IsListing b n) setting.trees b s (λ e at x y c d.
@@ -219,9 +223,9 @@ module _ (setting : Setting) (b : ℕ) (s : State) (is : IsSetting setting) (rig
             (ok_text, changed s b new, inr (record { old = e; present = p; new = new; change = (behind, refl); after_is = refl }))
         | inr n ↦
             let last : StandsLast here e = λ l k a x.
-                let same = lists-one here e m.list l m.are a in
-                let place : m.place ≡ k = ranks-one here e l e.rotation m.place k a (subst (λ (z : List (List (List ℕ))). IsRank z e.rotation m.place) same m.rank) x in
-                omega (arith, n, m.rank.within, place, ap (λ (z : List (List (List ℕ))). length z) same) in
+            let same = lists-one here e m.list l m.are a in
+            let place : m.place ≡ k = ranks-one here e l e.rotation m.place k a (subst (λ (z : List (List (List ℕ))). IsRank z e.rotation m.place) same m.rank) x in
+            omega (arith, n, m.rank.within, place, ap (λ (z : List (List (List ℕ))). length z) same) in
             (end_text, s, inl (record { embedding = e; present = p; answer = (last, refl); stays = refl }))
       ]
 

@@ -96,8 +96,7 @@ module _ (v : BlockView) (p : BlockState) (seen : SeenPlane v p) where
   mirror-plan End h = absurd h
   mirror-plan (Change q) h =
       let n = length v.tree.nodes in
-      let none : some n (is_held v.tree here) ≡ false = none-some n (is_held v.tree here) (λ j l. sym (held-same j) ∙ h.0 j (subst (λ (t : List Node). j < length t) (sym seen.nodes) l)) in
-      (
+      let none : some n (is_held v.tree here) ≡ false = none-some n (is_held v.tree here) (λ j l. sym (held-same j) ∙ h.0 j (subst (λ (t : List Node). j < length t) (sym seen.nodes) l)) in (
         mirror-codes None (rung-missed (Locked (least n (is_held v.tree here))) (some n (is_held v.tree here)) [] None none refl),
         (
           record {

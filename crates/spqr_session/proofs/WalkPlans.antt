@@ -63,10 +63,9 @@ module _ (v : BlockView) (p : BlockState) (seen : SeenPlane v p) where
   rank-plan r (Change q) h =
       let l = its-list v p seen in
       let at = h.1 l.list (own-list v p seen) in
-      let in_list : not (nat_lt r (member_count v.tree here)) ≡ false = ap not (lt-ltb r (member_count v.tree here) (omega (arith, at.0.within, l.counted))) in
-      (
+      let in_list : not (nat_lt r (member_count v.tree here)) ≡ false = ap not (lt-ltb r (member_count v.tree here) (omega (arith, at.0.within, l.counted))) in (
         rank-code r None (rung-missed CountOver (is_over (member_count v.tree here)) ((RankOut (member_count v.tree here), not (nat_lt r (member_count v.tree here))) ∷ []) None (not-over v p seen at.1)
-        (rung-missed (RankOut (member_count v.tree here)) (not (nat_lt r (member_count v.tree here))) [] None in_list refl)),
+            (rung-missed (RankOut (member_count v.tree here)) (not (nat_lt r (member_count v.tree here))) [] None in_list refl)),
         (rest-fits q h.0, record { rank = λ m a. (h.1 m (same-list v p seen m a)).0; locks = h.0.locks }),
       )
 

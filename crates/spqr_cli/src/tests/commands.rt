@@ -40,7 +40,14 @@ static MOVES: [Row; 10] = [
     // Undo and redo on K4.
     Row {
         vertices: &[b"0", b"1", b"2", b"3"],
-        edges: &[(b"0", b"1"), (b"0", b"2"), (b"0", b"3"), (b"1", b"2"), (b"1", b"3"), (b"2", b"3")],
+        edges: &[
+            (b"0", b"1"),
+            (b"0", b"2"),
+            (b"0", b"3"),
+            (b"1", b"2"),
+            (b"1", b"3"),
+            (b"2", b"3"),
+        ],
         times: 1,
         script: b"undo\n\
             flip 0 0\n\
@@ -58,7 +65,20 @@ static MOVES: [Row; 10] = [
     // K3,3 and a triangle: one block is not planar.
     Row {
         vertices: &[b"0", b"1", b"2", b"3", b"4", b"5", b"6", b"7"],
-        edges: &[(b"0", b"3"), (b"0", b"4"), (b"0", b"5"), (b"1", b"3"), (b"1", b"4"), (b"1", b"5"), (b"2", b"3"), (b"2", b"4"), (b"2", b"5"), (b"5", b"6"), (b"6", b"7"), (b"5", b"7")],
+        edges: &[
+            (b"0", b"3"),
+            (b"0", b"4"),
+            (b"0", b"5"),
+            (b"1", b"3"),
+            (b"1", b"4"),
+            (b"1", b"5"),
+            (b"2", b"3"),
+            (b"2", b"4"),
+            (b"2", b"5"),
+            (b"5", b"6"),
+            (b"6", b"7"),
+            (b"5", b"7"),
+        ],
         times: 1,
         script: b"mirror 0\n\
             show 1\n\
@@ -80,7 +100,19 @@ static MOVES: [Row; 10] = [
     // A flip of one of two K4 on an edge, and of it once more.
     Row {
         vertices: &[b"0", b"1", b"2", b"3", b"4", b"5"],
-        edges: &[(b"0", b"1"), (b"0", b"2"), (b"0", b"3"), (b"1", b"2"), (b"1", b"3"), (b"2", b"3"), (b"0", b"4"), (b"0", b"5"), (b"1", b"4"), (b"1", b"5"), (b"4", b"5")],
+        edges: &[
+            (b"0", b"1"),
+            (b"0", b"2"),
+            (b"0", b"3"),
+            (b"1", b"2"),
+            (b"1", b"3"),
+            (b"2", b"3"),
+            (b"0", b"4"),
+            (b"0", b"5"),
+            (b"1", b"4"),
+            (b"1", b"5"),
+            (b"4", b"5"),
+        ],
         times: 1,
         script: b"show 0\n\
             flip 0 1\n\
@@ -96,7 +128,19 @@ static MOVES: [Row; 10] = [
     // The groups of the bond permuted.
     Row {
         vertices: &[b"0", b"1", b"2", b"3", b"4", b"5"],
-        edges: &[(b"0", b"1"), (b"0", b"2"), (b"0", b"3"), (b"1", b"2"), (b"1", b"3"), (b"2", b"3"), (b"0", b"4"), (b"0", b"5"), (b"1", b"4"), (b"1", b"5"), (b"4", b"5")],
+        edges: &[
+            (b"0", b"1"),
+            (b"0", b"2"),
+            (b"0", b"3"),
+            (b"1", b"2"),
+            (b"1", b"3"),
+            (b"2", b"3"),
+            (b"0", b"4"),
+            (b"0", b"5"),
+            (b"1", b"4"),
+            (b"1", b"5"),
+            (b"4", b"5"),
+        ],
         times: 1,
         script: b"permute 0 0 0 6 1\n\
             show 0\n",
@@ -106,7 +150,19 @@ static MOVES: [Row; 10] = [
     // A refused command between undo and redo keeps what can be redone.
     Row {
         vertices: &[b"0", b"1", b"2", b"3", b"4", b"5"],
-        edges: &[(b"0", b"1"), (b"0", b"2"), (b"0", b"3"), (b"1", b"2"), (b"1", b"3"), (b"2", b"3"), (b"0", b"4"), (b"0", b"5"), (b"1", b"4"), (b"1", b"5"), (b"4", b"5")],
+        edges: &[
+            (b"0", b"1"),
+            (b"0", b"2"),
+            (b"0", b"3"),
+            (b"1", b"2"),
+            (b"1", b"3"),
+            (b"2", b"3"),
+            (b"0", b"4"),
+            (b"0", b"5"),
+            (b"1", b"4"),
+            (b"1", b"5"),
+            (b"4", b"5"),
+        ],
         times: 1,
         script: b"flip 0 1\n\
             undo\n\
@@ -124,7 +180,19 @@ static MOVES: [Row; 10] = [
     // A permute to the present order is a change: it can be undone, and nothing can be redone after it.
     Row {
         vertices: &[b"0", b"1", b"2", b"3", b"4", b"5"],
-        edges: &[(b"0", b"1"), (b"0", b"2"), (b"0", b"3"), (b"1", b"2"), (b"1", b"3"), (b"2", b"3"), (b"0", b"4"), (b"0", b"5"), (b"1", b"4"), (b"1", b"5"), (b"4", b"5")],
+        edges: &[
+            (b"0", b"1"),
+            (b"0", b"2"),
+            (b"0", b"3"),
+            (b"1", b"2"),
+            (b"1", b"3"),
+            (b"2", b"3"),
+            (b"0", b"4"),
+            (b"0", b"5"),
+            (b"1", b"4"),
+            (b"1", b"5"),
+            (b"4", b"5"),
+        ],
         times: 1,
         script: b"flip 0 1\n\
             undo\n\
@@ -142,7 +210,14 @@ static MOVES: [Row; 10] = [
     // A mirror image is taken back.
     Row {
         vertices: &[b"0", b"1", b"2", b"3"],
-        edges: &[(b"0", b"1"), (b"0", b"2"), (b"0", b"3"), (b"1", b"2"), (b"1", b"3"), (b"2", b"3")],
+        edges: &[
+            (b"0", b"1"),
+            (b"0", b"2"),
+            (b"0", b"3"),
+            (b"1", b"2"),
+            (b"1", b"3"),
+            (b"2", b"3"),
+        ],
         times: 1,
         script: b"mirror 0\n\
             show 0\n\
@@ -162,7 +237,19 @@ static MOVES: [Row; 10] = [
     // Locks: they refuse, and undo takes them back.
     Row {
         vertices: &[b"0", b"1", b"2", b"3", b"4", b"5"],
-        edges: &[(b"0", b"1"), (b"0", b"2"), (b"0", b"3"), (b"1", b"2"), (b"1", b"3"), (b"2", b"3"), (b"0", b"4"), (b"0", b"5"), (b"1", b"4"), (b"1", b"5"), (b"4", b"5")],
+        edges: &[
+            (b"0", b"1"),
+            (b"0", b"2"),
+            (b"0", b"3"),
+            (b"1", b"2"),
+            (b"1", b"3"),
+            (b"2", b"3"),
+            (b"0", b"4"),
+            (b"0", b"5"),
+            (b"1", b"4"),
+            (b"1", b"5"),
+            (b"4", b"5"),
+        ],
         times: 1,
         script: b"lock 0 0\n\
             count 0\n\
@@ -188,7 +275,14 @@ static MOVES: [Row; 10] = [
     // A locked node is freed; a lock that is set already is a change.
     Row {
         vertices: &[b"0", b"1", b"2", b"3"],
-        edges: &[(b"0", b"1"), (b"0", b"2"), (b"0", b"3"), (b"1", b"2"), (b"1", b"3"), (b"2", b"3")],
+        edges: &[
+            (b"0", b"1"),
+            (b"0", b"2"),
+            (b"0", b"3"),
+            (b"1", b"2"),
+            (b"1", b"3"),
+            (b"2", b"3"),
+        ],
         times: 1,
         script: b"lock 0 0\n\
             flip 0 0\n\
@@ -254,7 +348,13 @@ static LISTS: [Row; 16] = [
     // A square with a diagonal.
     Row {
         vertices: &[b"0", b"1", b"2", b"3"],
-        edges: &[(b"0", b"1"), (b"1", b"2"), (b"2", b"3"), (b"3", b"0"), (b"0", b"2")],
+        edges: &[
+            (b"0", b"1"),
+            (b"1", b"2"),
+            (b"2", b"3"),
+            (b"3", b"0"),
+            (b"0", b"2"),
+        ],
         times: 1,
         script: b"show 0\n\
             count 0\n",
@@ -264,7 +364,14 @@ static LISTS: [Row; 16] = [
     // K2,3.
     Row {
         vertices: &[b"0", b"1", b"2", b"3", b"4"],
-        edges: &[(b"0", b"2"), (b"1", b"2"), (b"0", b"3"), (b"1", b"3"), (b"0", b"4"), (b"1", b"4")],
+        edges: &[
+            (b"0", b"2"),
+            (b"1", b"2"),
+            (b"0", b"3"),
+            (b"1", b"3"),
+            (b"0", b"4"),
+            (b"1", b"4"),
+        ],
         times: 1,
         script: b"count 0\n\
             list 0 5\n",
@@ -276,7 +383,13 @@ static LISTS: [Row; 16] = [
     // A pentagon.
     Row {
         vertices: &[b"0", b"1", b"2", b"3", b"4"],
-        edges: &[(b"0", b"1"), (b"1", b"2"), (b"2", b"3"), (b"3", b"4"), (b"4", b"0")],
+        edges: &[
+            (b"0", b"1"),
+            (b"1", b"2"),
+            (b"2", b"3"),
+            (b"3", b"4"),
+            (b"4", b"0"),
+        ],
         times: 1,
         script: b"count 0\n\
             flip 0 0\n",
@@ -286,7 +399,19 @@ static LISTS: [Row; 16] = [
     // Two K4 on an edge: ranks, and moves between members.
     Row {
         vertices: &[b"0", b"1", b"2", b"3", b"4", b"5"],
-        edges: &[(b"0", b"1"), (b"0", b"2"), (b"0", b"3"), (b"1", b"2"), (b"1", b"3"), (b"2", b"3"), (b"0", b"4"), (b"0", b"5"), (b"1", b"4"), (b"1", b"5"), (b"4", b"5")],
+        edges: &[
+            (b"0", b"1"),
+            (b"0", b"2"),
+            (b"0", b"3"),
+            (b"1", b"2"),
+            (b"1", b"3"),
+            (b"2", b"3"),
+            (b"0", b"4"),
+            (b"0", b"5"),
+            (b"1", b"4"),
+            (b"1", b"5"),
+            (b"4", b"5"),
+        ],
         times: 1,
         script: b"show 0\n\
             count 0\n\
@@ -319,7 +444,18 @@ static LISTS: [Row; 16] = [
     // Two K4 without the edge.
     Row {
         vertices: &[b"0", b"1", b"2", b"3", b"4", b"5"],
-        edges: &[(b"0", b"2"), (b"0", b"3"), (b"1", b"2"), (b"1", b"3"), (b"2", b"3"), (b"0", b"4"), (b"0", b"5"), (b"1", b"4"), (b"1", b"5"), (b"4", b"5")],
+        edges: &[
+            (b"0", b"2"),
+            (b"0", b"3"),
+            (b"1", b"2"),
+            (b"1", b"3"),
+            (b"2", b"3"),
+            (b"0", b"4"),
+            (b"0", b"5"),
+            (b"1", b"4"),
+            (b"1", b"5"),
+            (b"4", b"5"),
+        ],
         times: 1,
         script: b"count 0\n\
             show 0\n\
@@ -367,7 +503,14 @@ static LISTS: [Row; 16] = [
     // K4: its members, and what is taken in.
     Row {
         vertices: &[b"0", b"1", b"2", b"3"],
-        edges: &[(b"0", b"1"), (b"0", b"2"), (b"0", b"3"), (b"1", b"2"), (b"1", b"3"), (b"2", b"3")],
+        edges: &[
+            (b"0", b"1"),
+            (b"0", b"2"),
+            (b"0", b"3"),
+            (b"1", b"2"),
+            (b"1", b"3"),
+            (b"2", b"3"),
+        ],
         times: 1,
         script: b"goto 0 2\n\
             take 0 0: 0 1 2; 1: 0 4 3; 2: 1 3 5; 3: 2 4 5\n\
@@ -388,7 +531,18 @@ static LISTS: [Row; 16] = [
     // To a member that is given.
     Row {
         vertices: &[b"0", b"1", b"2", b"3", b"4", b"5"],
-        edges: &[(b"0", b"2"), (b"0", b"3"), (b"1", b"2"), (b"1", b"3"), (b"2", b"3"), (b"0", b"4"), (b"0", b"5"), (b"1", b"4"), (b"1", b"5"), (b"4", b"5")],
+        edges: &[
+            (b"0", b"2"),
+            (b"0", b"3"),
+            (b"1", b"2"),
+            (b"1", b"3"),
+            (b"2", b"3"),
+            (b"0", b"4"),
+            (b"0", b"5"),
+            (b"1", b"4"),
+            (b"1", b"5"),
+            (b"4", b"5"),
+        ],
         times: 1,
         script: b"convert 0 to 0: 0 5 6 1; 1: 2 3 8 7; 2: 0 4 2; 3: 1 3 4; 4: 5 7 9; 5: 6 9 8\n\
             rank 0\n\
@@ -401,7 +555,20 @@ static LISTS: [Row; 16] = [
     // A triangle beside a block that is not planar.
     Row {
         vertices: &[b"0", b"1", b"2", b"3", b"4", b"5", b"6", b"7"],
-        edges: &[(b"0", b"3"), (b"0", b"4"), (b"0", b"5"), (b"1", b"3"), (b"1", b"4"), (b"1", b"5"), (b"2", b"3"), (b"2", b"4"), (b"2", b"5"), (b"5", b"6"), (b"6", b"7"), (b"5", b"7")],
+        edges: &[
+            (b"0", b"3"),
+            (b"0", b"4"),
+            (b"0", b"5"),
+            (b"1", b"3"),
+            (b"1", b"4"),
+            (b"1", b"5"),
+            (b"2", b"3"),
+            (b"2", b"4"),
+            (b"2", b"5"),
+            (b"5", b"6"),
+            (b"6", b"7"),
+            (b"5", b"7"),
+        ],
         times: 1,
         script: b"take 1 5: 11 9; 6: 10 9; 7: 11 10\n\
             show 1\n\
@@ -421,7 +588,14 @@ static LISTS: [Row; 16] = [
     // What is taken in keeps the choices of locked nodes.
     Row {
         vertices: &[b"0", b"1", b"2", b"3"],
-        edges: &[(b"0", b"1"), (b"0", b"2"), (b"0", b"3"), (b"1", b"2"), (b"1", b"3"), (b"2", b"3")],
+        edges: &[
+            (b"0", b"1"),
+            (b"0", b"2"),
+            (b"0", b"3"),
+            (b"1", b"2"),
+            (b"1", b"3"),
+            (b"2", b"3"),
+        ],
         times: 1,
         script: b"lock 0 0\n\
             take 0 0: 0 2 1; 1: 0 3 4; 2: 1 5 3; 3: 2 4 5\n\
@@ -437,7 +611,14 @@ static LISTS: [Row; 16] = [
     // A next that answers end keeps what can be redone, one that answers ok drops it.
     Row {
         vertices: &[b"0", b"1", b"2", b"3"],
-        edges: &[(b"0", b"1"), (b"0", b"2"), (b"0", b"3"), (b"1", b"2"), (b"1", b"3"), (b"2", b"3")],
+        edges: &[
+            (b"0", b"1"),
+            (b"0", b"2"),
+            (b"0", b"3"),
+            (b"1", b"2"),
+            (b"1", b"3"),
+            (b"2", b"3"),
+        ],
         times: 1,
         script: b"goto 0 1\n\
             lock 0 0\n\
@@ -461,7 +642,14 @@ static LISTS: [Row; 16] = [
     // The first member, from any other.
     Row {
         vertices: &[b"0", b"1", b"2", b"3"],
-        edges: &[(b"0", b"1"), (b"0", b"2"), (b"0", b"3"), (b"1", b"2"), (b"1", b"3"), (b"2", b"3")],
+        edges: &[
+            (b"0", b"1"),
+            (b"0", b"2"),
+            (b"0", b"3"),
+            (b"1", b"2"),
+            (b"1", b"3"),
+            (b"2", b"3"),
+        ],
         times: 1,
         script: b"next 0\n\
             first 0\n\

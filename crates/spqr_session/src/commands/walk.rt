@@ -49,11 +49,7 @@ fn plan_first(alloc: Global, blocks: &[EmbeddedBlock], b: u32) -> Result<Planned
 }
 
 /// Carries out `first`: to the first member of the block's list, or code 1 or 5. Without memory the board stays as it was.
-pub(crate) fn carry_first(
-    alloc: Global,
-    board: &mut Board,
-    b: u32,
-) -> Result<Vec<u8>, AllocError>
+pub(crate) fn carry_first(alloc: Global, board: &mut Board, b: u32) -> Result<Vec<u8>, AllocError>
     ensures step { IfOk result (λ text.
         FirstStep (map view_tree board.old.views) b (board_state board.old) text.items (board_state board.new)) }
     ensures setting { IsCarried board.old.views board.new.views }
