@@ -46,7 +46,7 @@ has-answer setting before (command.List b n) is right = list-answers setting b b
 has-answer setting before (command.Count b) is right = count-answers setting b before is right
 has-answer setting before (command.Rank b) is right = rank-answers setting b before is right
 has-answer setting before (command.Goto b r) is right = goto-answers setting b before is right r
-has-answer setting before (command.ConvertRank b r) is right = convert_rank-answers setting b before is right r
+has-answer setting before (command.ConvertRank b r) is right = convert_rank-answers setting b r before is right
 has-answer setting before (command.ConvertTo b entries) is right = convert_to-answers setting b entries before is right
 has-answer setting before (command.Take b entries) is right = take-answers setting b entries before is right
 
@@ -70,7 +70,7 @@ one-answer setting before (command.List b n) s t after other is right p q = list
 one-answer setting before (command.Count b) s t after other is right p q = count-one setting b before is right s t after other p q
 one-answer setting before (command.Rank b) s t after other is right p q = rank-one setting b before is right s t after other p q
 one-answer setting before (command.Goto b r) s t after other is right p q = goto-one setting b before is right r s t after other p q
-one-answer setting before (command.ConvertRank b r) s t after other is right p q = convert_rank-one setting b before is right r s t after other p q
+one-answer setting before (command.ConvertRank b r) s t after other is right p q = convert_rank-one setting b r before is right s t after other p q
 one-answer setting before (command.ConvertTo b entries) s t after other is right p q = convert_to-one setting b entries before is right s t after other p q
 one-answer setting before (command.Take b entries) s t after other is right p q = take-one setting b entries before is right s t after other p q
 
@@ -93,7 +93,7 @@ step-keeps setting before (command.List b n) text after is right p = list-keeps 
 step-keeps setting before (command.Count b) text after is right p = count-keeps setting b before is right text after p
 step-keeps setting before (command.Rank b) text after is right p = rank-keeps setting b before is right text after p
 step-keeps setting before (command.Goto b r) text after is right p = goto-keeps setting b before is right r text after p
-step-keeps setting before (command.ConvertRank b r) text after is right p = convert_rank-keeps setting b before is right r text after p
+step-keeps setting before (command.ConvertRank b r) text after is right p = convert_rank-keeps setting b r before is right text after p
 step-keeps setting before (command.ConvertTo b entries) text after is right p = convert_to-keeps setting b entries before is right text after p
 step-keeps setting before (command.Take b entries) text after is right p = take-keeps setting b entries before is right text after p
 
