@@ -61,11 +61,11 @@ module _ (l : List (List (List ℕ))) (i : ℕ) where
 -- ---- the whole text
 
 -- head, members and last line
-pub members-whole : (b n t : ℕ) (part : GraphPart) (ahead : List (List (List ℕ))) (more : Bool) (members last head front text : List ℕ) → t ≡ length (take n ahead) → members ≡ concat (map (rotation_text part b) (take n ahead)) → more ≡ nat_lt n (length ahead)
-    → last ≡ (if more then more_text else end_text) → head ≡ list_text b t → front ≡ head ++ members → text ≡ front ++ last
+pub members-whole : (b n t : ℕ) (part : GraphPart) (ahead : List (List (List ℕ))) (more : Bool) (last head front text : List ℕ) → t ≡ length (take n ahead) → more ≡ nat_lt n (length ahead)
+    → last ≡ (if more then more_text else end_text) → head ≡ list_text b t → front ≡ head ++ concat (map (rotation_text part b) (take n ahead)) → text ≡ front ++ last
     → text ≡ list_text b (length (take n ahead)) ++ concat (map (rotation_text part b) (take n ahead)) ++ (if nat_lt n (length ahead) then more_text else end_text)
-members-whole b n t part ahead more members last head front text count lines follows end first second third =
-    third ∙ ap (λ (x : List ℕ). x ++ last) (second ∙ ap (λ (x : List ℕ). x ++ members) (first ∙ ap (list_text b) count) ∙ ap (λ (x : List ℕ). list_text b (length (take n ahead)) ++ x) lines)
+members-whole b n t part ahead more last head front text count follows end first second third =
+    third ∙ ap (λ (x : List ℕ). x ++ last) (second ∙ ap (λ (x : List ℕ). x ++ concat (map (rotation_text part b) (take n ahead))) (first ∙ ap (list_text b) count))
     ∙ ap (λ (x : List ℕ). list_text b (length (take n ahead)) ++ concat (map (rotation_text part b) (take n ahead)) ++ x) (end ∙ ap (λ (x : Bool). if x then more_text else end_text) follows)
 
 -- what is told of a block that is seen in the plane

@@ -19,6 +19,20 @@ use skel_embed::{Outcome, PlaneBlock};
 use spqr_script::{end_line, list_line, more_line, push_rotation_line};
 use std::alloc::{AllocError, Global};
 
+// How many members follow, up to n: a copy of the block walks.
+fn count_following(alloc: Global, n: u32, plane: &PlaneBlock) -> Result<u32, AllocError>
+    ensures { IfOk result (λ t. (l : List (List (List ℕ))) (i : ℕ) → IsMemberList plane.now l → IsRank l plane.now.rotation i
+        → t ≡ length (take n (drop (i + 1) l))) }
+{
+    let mut walker = plane.copy(alloc)?;
+    for turn in 0..n {
+        if !next(&mut walker) {
+            return Ok(turn);
+        }
+    }
+    Ok(n)
+}
+
 // Goes to the next members, n of them or all where they are fewer, puts the line of each behind a text, and answers how many they
 // are.
 fn push_members(
@@ -56,7 +70,8 @@ fn last_line(alloc: Global, more: bool) -> Result<Vec<u8>, AllocError>
     }
 }
 
-// The lines of the next n members of a block in the plane: a copy of it walks.
+// The lines of the next n members of a block in the plane. They are counted first, so that each line is written once and in its
+// place; then a copy of the block walks.
 fn list_plane(
     alloc: Global,
     b: u32,
@@ -68,12 +83,11 @@ fn list_plane(
     ensures { IfOk result (λ text. (l : List (List (List ℕ))) (i : ℕ) → IsMemberList plane.now l → IsRank l plane.now.rotation i
         → text.items ≡ members_text b n (record { part = part.now; nodes = plane.now.tree }) (drop (i + 1) l)) }
 {
-    let mut walker = plane.copy(alloc)?;
-    let mut members = Vec::new(alloc);
-    let count = push_members(&mut members, b, n, part, &mut walker)?;
-    let last = last_line(alloc, next(&mut walker))?;
+    let count = count_following(alloc, n, plane)?;
     let mut text = list_line(alloc, b, count)?;
-    text.extend_from_slice(&members)?;
+    let mut walker = plane.copy(alloc)?;
+    push_members(&mut text, b, n, part, &mut walker)?;
+    let last = last_line(alloc, next(&mut walker))?;
     text.extend_from_slice(&last)?;
     Ok(text)
 }
