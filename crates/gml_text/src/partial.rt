@@ -76,7 +76,8 @@ impl Partial {
         match self.open_lists.pop() {
             None => Ok(false),
             Some(OpenList { before, key }) => {
-                let inner = mem::replace(&mut self.pairs, before);
+                let mut inner = mem::replace(&mut self.pairs, before);
+                inner.shrink_to_fit();
                 let value = Value::List(Pairs::of(inner));
                 self.pairs.push(Pair { key, value })?;
                 Ok(true)
