@@ -91,18 +91,18 @@ impl Partial {
     {
         match found {
             Found::Number(text) => {
-                let value = Value::Num(bytes_of(alloc, text)?);
-                self.add(bytes_of(alloc, key)?, value)?;
+                let value = Value::Num(Bytes::from_slice(alloc, text)?);
+                self.add(Bytes::from_slice(alloc, key)?, value)?;
                 Ok(true)
             }
             Found::Text(text) => {
-                let value = Value::Str(bytes_of(alloc, text)?);
-                self.add(bytes_of(alloc, key)?, value)?;
+                let value = Value::Str(Bytes::from_slice(alloc, text)?);
+                self.add(Bytes::from_slice(alloc, key)?, value)?;
                 Ok(true)
             }
             Found::Open => {
                 if self.open_lists.len() < DEPTH {
-                    self.open(alloc, bytes_of(alloc, key)?)?;
+                    self.open(alloc, Bytes::from_slice(alloc, key)?)?;
                     Ok(true)
                 } else {
                     Ok(false)
@@ -153,11 +153,4 @@ impl Partial {
             },
         }
     }
-}
-
-// A copy of some bytes.
-fn bytes_of(alloc: Global, bytes: &[u8]) -> Result<Bytes, AllocError>
-    ensures { IfOk result (λ copy. copy ≡ bytes.now) }
-{
-    Ok(Bytes::of(Vec::from_slice(alloc, bytes)?))
 }
