@@ -71,10 +71,6 @@ ends_closed (frame ∷ frames) pairs gap is = (
 pub completes_closed : (frames : List Frame) (pairs more : Document) (bytes gap : List ℕ) → is_gap false gap ≡ true → PairsStand more bytes (gap ++ brackets frames) → Completes frames pairs bytes (plug frames (append pairs more))
 completes_closed frames pairs more bytes gap is s = (more, gap ++ brackets frames, s, ends_closed frames (append pairs more) gap is)
 
--- a gap and the brackets alone
-pub gap_closed : (frames : List Frame) (pairs : Document) (gap : List ℕ) → is_gap false gap ≡ true → Completes frames pairs (gap ++ brackets frames) (plug frames (append pairs empty))
-gap_closed frames pairs gap is = completes_closed frames pairs empty (gap ++ brackets frames) gap is refl
-
 -- two quotes are a value
 pub quotes_value : WholeValue (34 ∷ 34 ∷ [])
 quotes_value = record { text = []; stands = inr (record { stands = record { gap = []; whole = refl; is_gap = refl }; no_quote = refl }) }

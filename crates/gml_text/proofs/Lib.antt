@@ -16,7 +16,7 @@ mod ItemBreaks
 mod Depth
 mod Steps
 mod Refusals
-mod Fronts
+pub mod Fronts
 pub mod ReadDocument
 mod Lines
 pub mod Written

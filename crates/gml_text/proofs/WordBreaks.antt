@@ -2,7 +2,7 @@
 use Rattle.std.proofs.Common.{◌≡◌, ℕ, ◌+◌, ◌-◌, ◌<◌, ◌≤◌, Bool, true, false, not, ◌&&◌, Option, Some, None, List, [], ◌∷◌, ◌++◌, length, get_or, take, drop, suc, zero, refl, sym, ap, subst, ◌∙◌, inl, inr, arith, append_assoc}
 use Rattle.std.specs.List.{list_all}
 use Rattle.std.proofs.lemmas.Bool.{false≢true, cases_Bool}
-use Rattle.std.proofs.lemmas.List.{append-nil, take-append-drop, drop_more, drop_all, take_more, length-drop}
+use Rattle.std.proofs.lemmas.List.{append-nil, take-append-drop, drop_more, drop_all, length-drop}
 use Rattle.gml_text.specs.Bytes.{is_letter, is_key_byte, ends_word, is_word_byte}
 use Rattle.gml_text.specs.Grammar.{is_key, is_behind_word}
 use Rattle.gml_text.specs.Reading.{IsWord}
@@ -132,13 +132,6 @@ completion_passes Special = refl
 -- these bytes lead to this part
 abbrev pub LeadsTo : List ℕ → Part → Type 0
 LeadsTo bytes part = (more : List ℕ) → passes (Some part) more ≡ passes (Some Nothing) (bytes ++ more)
-
--- one byte more
-pub leads_more : (word : List ℕ) (i : ℕ) (part next : Part) → i < length word → LeadsTo (take i word) part → step part (get_or word i 0) ≡ Some next → LeadsTo (take (i + 1) word) next
-leads_more word i part next within leads e more =
-    ap (λ (p : Option Part). passes p more) (sym e)
-    ∙ leads (get_or word i 0 ∷ more)
-    ∙ ap (passes (Some Nothing)) (sym (ap (λ (xs : List ℕ). xs ++ more) (take_more word i 0 within) ∙ append_assoc (take i word) (get_or word i 0 ∷ []) more))
 
 -- what is left completes a number exactly where the whole is one
 pub leads_rest : (word : List ℕ) (i : ℕ) (part : Part) → LeadsTo (take i word) part → passes (Some part) (drop i word) ≡ passes (Some Nothing) word

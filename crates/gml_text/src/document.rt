@@ -1,17 +1,18 @@
 // Documents: pairs of a key and a value, which may be pairs again.
 
-ghost use Rattle.std.specs.Prelude.{◌≡◌};
+ghost use Rattle.std.specs.Prelude.{◌≡◌, IfOk};
 ghost use Rattle.gml_text.specs.Pairs.{document_of};
 ghost use Rattle.gml_text.specs.WellFormed.{IsWellFormed};
 ghost use Rattle.gml_text.specs.declared.document.GmlFault.TheVariants.{Memory};
 
-use std::alloc::{AllocError, AllocFailed};
+use smallvec::SmallVec;
+use std::alloc::{AllocError, AllocFailed, Global};
 use std::marker::Model;
 
-/// A list of bytes. Contracts see the list.
+/// A list of bytes, up to 16 of them without an allocation. Contracts see the list.
 #[derive(Drop)]
 pub struct Bytes {
-    held: Vec<u8>,
+    held: SmallVec<u8, 16>,
 }
 
 impl Model for Bytes {
@@ -23,11 +24,12 @@ impl Model for Bytes {
 }
 
 impl Bytes {
-    /// The bytes of a vector.
-    pub fn of(held: Vec<u8>) -> Bytes
-        ensures { result ≡ held.items }
+    /// A copy of some bytes.
+    pub fn from_slice(alloc: Global, bytes: &[u8]) -> Result<Bytes, AllocError>
+        ensures { IfOk result (λ copy. copy ≡ bytes.now) }
     {
-        Bytes { held }
+        let held = SmallVec::from_slice(alloc, bytes)?;
+        Ok(Bytes { held })
     }
 
     /// The bytes, in order.

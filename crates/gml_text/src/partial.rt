@@ -76,7 +76,8 @@ impl Partial {
         match self.open_lists.pop() {
             None => Ok(false),
             Some(OpenList { before, key }) => {
-                let inner = mem::replace(&mut self.pairs, before);
+                let mut inner = mem::replace(&mut self.pairs, before);
+                inner.shrink_to_fit();
                 let value = Value::List(Pairs::of(inner));
                 self.pairs.push(Pair { key, value })?;
                 Ok(true)
@@ -90,18 +91,18 @@ impl Partial {
     {
         match found {
             Found::Number(text) => {
-                let value = Value::Num(bytes_of(alloc, text)?);
-                self.add(bytes_of(alloc, key)?, value)?;
+                let value = Value::Num(Bytes::from_slice(alloc, text)?);
+                self.add(Bytes::from_slice(alloc, key)?, value)?;
                 Ok(true)
             }
             Found::Text(text) => {
-                let value = Value::Str(bytes_of(alloc, text)?);
-                self.add(bytes_of(alloc, key)?, value)?;
+                let value = Value::Str(Bytes::from_slice(alloc, text)?);
+                self.add(Bytes::from_slice(alloc, key)?, value)?;
                 Ok(true)
             }
             Found::Open => {
                 if self.open_lists.len() < DEPTH {
-                    self.open(alloc, bytes_of(alloc, key)?)?;
+                    self.open(alloc, Bytes::from_slice(alloc, key)?)?;
                     Ok(true)
                 } else {
                     Ok(false)
@@ -152,11 +153,4 @@ impl Partial {
             },
         }
     }
-}
-
-// A copy of some bytes.
-fn bytes_of(alloc: Global, bytes: &[u8]) -> Result<Bytes, AllocError>
-    ensures { IfOk result (λ copy. copy ≡ bytes.now) }
-{
-    Ok(Bytes::of(Vec::from_slice(alloc, bytes)?))
 }

@@ -11,7 +11,7 @@ use Rattle.gml_text.proofs.partial.Partial.close.Goals as goal
 
 pub returns-in_ok-push-in-Some : goal.returns-in_ok-push-in-Some
 returns-in_ok-push-in-Some c =
-    let inner : c.of.result ≡ document_of c.args.self.now.pairs.items = c.of.ensures ∙ ap (λ v. document_of v.items) c.replace-inner.ensures.value in
+    let inner : c.of.result ≡ document_of c.args.self.now.pairs.items = c.of.ensures ∙ ap document_of c.shrink_to_fit.ensures.items ∙ ap (λ v. document_of v.items) c.replace-inner.ensures.value in
     record {
       frame = record { before = document_of c.in-Some.field-0.before.items; key = c.in-Some.field-0.key };
       frames =

@@ -8,7 +8,7 @@ use Rattle.gml_text.proofs.partial.Partial.take_pair.Goals as goal
 pub returns-in_ok-open-in-Open : goal.returns-in_ok-open-in-Open
 returns-in_ok-open-in-Open c =
     let h = c.in_ok-open-in-Open.ensures in
-    let k = c.in_ok-bytes_of-in-Open.ensures in
+    let k = c.in_ok-from_slice-in-Open.ensures in
     let l = c.len.ensures in
     let m = c.if-len-lt-DEPTH.true in
     subst (λ (f : Found). IsTaken c.args.key.now f c.args.self.now c.open.new.self) (sym c.in-Open.is)
