@@ -10,111 +10,11 @@ import subprocess
 import sys
 import time
 
+from kinds import (bipartite, bundle, bundles, cactus, cycle, grid, grown, ladder, nest, path, series_parallel, star, triangulation, wheel)
+
 PROGRAM = os.path.abspath(sys.argv[1])
 DATA = os.path.join(os.path.dirname(os.path.abspath(__file__)), "data")
 LIMIT = 60
-
-
-def cycle(n):
-    return n, [(v, (v + 1) % n) for v in range(n)]
-
-
-def path(n):
-    return n, [(v, v + 1) for v in range(n - 1)]
-
-
-def star(n):
-    return n, [(0, v) for v in range(1, n)]
-
-
-def ladder(n):
-    half = n // 2
-    return 2 * half, [(v, v + 1) for v in range(half - 1)] + [(half + v, half + v + 1) for v in range(half - 1)] + [(v, half + v) for v in range(half)]
-
-
-def nest(n):
-    """Triangles in one another, joined by a path at one corner: each lies between two vertices of the one outside."""
-    ends, a, b = [(0, 1)], 0, 1
-    for v in range(2, n):
-        ends += [(a, v), (v, b)]
-        a, b = v, b if v % 2 else a
-    return n, ends
-
-
-def bundle(n):
-    return 2, [(0, 1)] * (5 * n // 2)
-
-
-def bundles(n):
-    count = n // 20
-    return count, [(v, (v + 1) % count) for v in range(count) for _ in range(36)]
-
-
-def cactus(n):
-    triangles = 3 * n // 10
-    return 2 * triangles + 1, [pair for t in range(triangles) for pair in ((2 * t, 2 * t + 1), (2 * t + 1, 2 * t + 2), (2 * t + 2, 2 * t))]
-
-
-def bipartite(n):
-    return n, [(side, v) for v in range(2, n) for side in (0, 1)]
-
-
-def wheel(n):
-    return n, [(0, v) for v in range(1, n)] + [(v, v % (n - 1) + 1) for v in range(1, n)]
-
-
-def series_parallel(n):
-    draw, ends, vertices = random.Random(1), [(0, 1), (0, 1)], 2
-    while vertices < n:
-        e = draw.randrange(len(ends))
-        a, b = ends[e]
-        ends[e] = (a, vertices)
-        ends.append((vertices, b))
-        vertices += 1
-        if draw.random() < 0.7:
-            ends.append(ends[draw.randrange(len(ends))])
-    return vertices, ends
-
-
-def grown(n):
-    state, ends, vertices = 1, [(0, 1), (0, 2), (0, 3), (1, 2), (1, 3), (2, 3)], 4
-    while len(ends) < n:
-        state = (state * 6364136223846793005 + 1442695040888963407) % 2**64
-        edge = (state // 2**32) % len(ends)
-        state = (state * 6364136223846793005 + 1442695040888963407) % 2**64
-        operation, (u, w) = state // 2**62, ends[edge]
-        if operation == 0:
-            ends[edge] = (u, vertices)
-            ends.append((vertices, w))
-            vertices += 1
-        elif operation == 1:
-            ends.append((u, w))
-        elif operation == 2:
-            ends += [(u, vertices), (vertices, w)]
-            vertices += 1
-        else:
-            y, z = vertices, vertices + 1
-            ends += [(u, y), (u, z), (w, y), (w, z), (y, z)]
-            vertices += 2
-    return vertices, ends
-
-
-def grid(n):
-    side = int(n**0.5)
-    at = lambda x, y: x * side + y
-    return side * side, [(at(x, y), at(x + 1, y)) for x in range(side - 1) for y in range(side)] + [(at(x, y), at(x, y + 1)) for x in range(side) for y in range(side - 1)]
-
-
-def triangulation(n):
-    n = 16660 * n // 20000
-    draw, faces, ends = random.Random(1), [(0, 1, 2), (0, 2, 1)], {(0, 1), (0, 2), (1, 2)}
-    for v in range(3, n):
-        place = draw.randrange(len(faces))
-        a, b, c = faces[place]
-        faces[place] = (a, b, v)
-        faces += [(b, c, v), (c, a, v)]
-        ends |= {(a, v), (b, v), (c, v)}
-    return n, sorted(ends)
 
 
 KINDS = [cycle, path, star, ladder, nest, bundle, bundles, cactus, bipartite, wheel, series_parallel, grown, grid, triangulation]
