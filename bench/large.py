@@ -18,9 +18,17 @@ LIMIT = 60
 
 
 KINDS = [cycle, path, star, ladder, nest, bundle, bundles, cactus, bipartite, wheel, series_parallel, grown, grid, triangulation]
-# The kinds with a crossing edge, between these two vertices of n; a wheel needs two chords.
-CROSSED = {ladder: lambda n: [(1, n // 2 - 2), (n // 2 + 3, n - 5)], wheel: lambda n: [(1, n // 2), (n // 4, 3 * n // 4)], grid: lambda n: [(0, n - 1), (int(n**0.5) * 3 + 5, n - int(n**0.5) * 4)],
-           triangulation: lambda n: [(3, n - 1), (4, n - 2), (5, n - 3)]}
+# Edges that make a graph of a kind nonplanar, by its number of vertices: one, or as many as it needs.
+CROSSED = {
+    ladder: lambda n: [(1, n // 2 - 2), (n // 2 + 3, n - 5)],
+    nest: lambda n: [(0, n - 1), (5, n // 2), (9, n // 3)],
+    bipartite: lambda n: [(0, 1), (2, n // 2), (n // 2, n - 1), (n - 1, 2)],
+    wheel: lambda n: [(1, n // 2), (n // 4, 3 * n // 4)],
+    series_parallel: lambda n: [(n - 1, n // 2), (n // 3, n // 4), (7, n - 9)],
+    grown: lambda n: [(5, n - 1), (n // 2, n // 3)],
+    grid: lambda n: [(0, n - 1), (int(n**0.5) * 3 + 5, n - int(n**0.5) * 4)],
+    triangulation: lambda n: [(3, n - 1), (4, n - 2), (5, n - 3)],
+}
 
 
 def write(name, vertices, ends):
