@@ -1,5 +1,5 @@
 -- Decisions that are due for the same words and bytes are alike, a read that failed aside: so they have one status, and one text but
--- for what is left open.
+-- for the certificates.
 use Rattle.std.proofs.Common.{◌≡◌, ◌≢◌, ℕ, List, length, Option, None, Some, Ok, Err, IsSome, inl, inr, refl, sym, ap, ◌∙◌, subst, arith}
 use Rattle.std.specs.Bool.{⊤}
 use Rattle.std.proofs.lemmas.Bool.{cases_lt}
@@ -14,6 +14,7 @@ use Rattle.gml_graph.specs.Answer.{graph_of_document}
 use Rattle.gml_graph.specs.declared.fault.GraphFault.{GraphFault}
 use Rattle.gml_text.specs.Grammar.{Spells}
 use Rattle.gml_text.specs.declared.document.GmlFault.{GmlFault}
+use Rattle.gml_text.proofs.Fronts.{fault_one}
 use Rattle.gml_text.specs.declared.document.GmlFault.TheVariants.{Bad, End, Memory as GmlMemory}
 use Rattle.spqr_script.specs.declared.command.Command.{Command}
 use Rattle.spqr_script.proofs.Scripts.{apart, one_reading, one_bad_line}
@@ -61,13 +62,23 @@ graph_apart one bytes d named (Rule fault) s g p n =
     let e : d ≡ p.1.0 = one bytes d p.1.0 s.spelled p.1.1 in
     let both : Ok named ≡ Err fault = sym g ∙ ap graph_of_document e ∙ p.1.2 in cc
 
--- refusals of a graph file are alike: the same, but for the place of a fault in GML
+-- bytes are refused for one fault in GML
+gml_same : (bytes : List ℕ) (a b : GmlFault) → IsGmlReason bytes a → IsGmlReason bytes b → a ≡ b
+gml_same bytes (Bad m) (Bad n) p q = fault_one bytes (Bad m) (Bad n) p q (λ e. (let both : Bad m ≡ GmlMemory = e in cc)) (λ e. (let both : Bad n ≡ GmlMemory = e in cc))
+gml_same bytes (Bad m) (End n) p q = fault_one bytes (Bad m) (End n) p q (λ e. (let both : Bad m ≡ GmlMemory = e in cc)) (λ e. (let both : End n ≡ GmlMemory = e in cc))
+gml_same bytes (End m) (Bad n) p q = fault_one bytes (End m) (Bad n) p q (λ e. (let both : End m ≡ GmlMemory = e in cc)) (λ e. (let both : Bad n ≡ GmlMemory = e in cc))
+gml_same bytes (End m) (End n) p q = fault_one bytes (End m) (End n) p q (λ e. (let both : End m ≡ GmlMemory = e in cc)) (λ e. (let both : End n ≡ GmlMemory = e in cc))
+gml_same bytes (Bad m) GmlMemory p q = absurd q
+gml_same bytes (End m) GmlMemory p q = absurd q
+gml_same bytes GmlMemory b p q = absurd p
+
+-- refusals of a graph file are alike: they are the same
 abbrev AlikeGraph : GraphRefusal → GraphRefusal → Type 0
 AlikeGraph (File a) (File b) = a ≡ b
 AlikeGraph (File a) (Gml b) = ⊥
 AlikeGraph (File a) (Rule b) = ⊥
 AlikeGraph (Gml a) (File b) = ⊥
-AlikeGraph (Gml a) (Gml b) = ⊤
+AlikeGraph (Gml a) (Gml b) = a ≡ b
 AlikeGraph (Gml a) (Rule b) = ⊥
 AlikeGraph (Rule a) (File b) = ⊥
 AlikeGraph (Rule a) (Gml b) = ⊥
@@ -80,7 +91,7 @@ graph_alike one bytes (File Long) (File Long) p o n m = refl
 graph_alike one bytes (File Long) (Gml fault) p o n m = absurd (omega (arith, p, o.0))
 graph_alike one bytes (File Long) (Rule fault) p o n m = absurd (omega (arith, p, o.0))
 graph_alike one bytes (Gml fault) (File Long) p o n m = absurd (omega (arith, o, p.0))
-graph_alike one bytes (Gml fault) (Gml other) p o n m = tt
+graph_alike one bytes (Gml fault) (Gml other) p o n m = gml_same bytes fault other p.1 o.1
 graph_alike one bytes (Gml fault) (Rule other) p o n m = absurd (no_document bytes o.1.0 fault p.1 o.1.1)
 graph_alike one bytes (Rule fault) (File Long) p o n m = absurd (omega (arith, o, p.0))
 graph_alike one bytes (Rule fault) (Gml other) p o n m = absurd (no_document bytes p.1.0 other o.1 p.1.1)
@@ -217,17 +228,17 @@ one_status one words sources a b p q n m = status_alike a b (due_alike one words
 
 -- ---- one text
 
--- with the place of a fault in GML, refusals that are alike are the same
-graph_same : (r q : GraphRefusal) → AlikeGraph r q → AgreeOnOpen (Err (OfGraph r)) (Err (OfGraph q)) → r ≡ q
-graph_same (File a) (File b) e o = ap (λ (f : FileFault). File f) e
-graph_same (File a) (Gml b) e o = absurd e
-graph_same (File a) (Rule b) e o = absurd e
-graph_same (Gml a) (File b) e o = absurd e
-graph_same (Gml a) (Gml b) e o = ap (λ (f : GmlFault). Gml f) o
-graph_same (Gml a) (Rule b) e o = absurd e
-graph_same (Rule a) (File b) e o = absurd e
-graph_same (Rule a) (Gml b) e o = absurd e
-graph_same (Rule a) (Rule b) e o = ap (λ (f : GraphFault). Rule f) e
+-- refusals that are alike are the same
+graph_same : (r q : GraphRefusal) → AlikeGraph r q → r ≡ q
+graph_same (File a) (File b) e = ap (λ (f : FileFault). File f) e
+graph_same (File a) (Gml b) e = absurd e
+graph_same (File a) (Rule b) e = absurd e
+graph_same (Gml a) (File b) e = absurd e
+graph_same (Gml a) (Gml b) e = ap (λ (f : GmlFault). Gml f) e
+graph_same (Gml a) (Rule b) e = absurd e
+graph_same (Rule a) (File b) e = absurd e
+graph_same (Rule a) (Gml b) e = absurd e
+graph_same (Rule a) (Rule b) e = ap (λ (f : GraphFault). Rule f) e
 
 -- a work has one report
 report_alike : (a b : Work) (s t : List ℕ) → IsSetting b.setting → a ≡ b → IsReport a.setting a.commands s → IsReport b.setting b.commands t → s ≡ t
@@ -259,7 +270,7 @@ text_alike (Err NoForm) (Err NoForm) s t is e o p q = p ∙ sym q
 text_alike (Err NoForm) (Err (OfGraph r)) s t is e o p q = absurd e
 text_alike (Err NoForm) (Err (OfScript r)) s t is e o p q = absurd e
 text_alike (Err (OfGraph r)) (Err NoForm) s t is e o p q = absurd e
-text_alike (Err (OfGraph r)) (Err (OfGraph k)) s t is e o p q = p ∙ ap (λ (x : GraphRefusal). refusal_text (OfGraph x)) (graph_same r k e o) ∙ sym q
+text_alike (Err (OfGraph r)) (Err (OfGraph k)) s t is e o p q = p ∙ ap (λ (x : GraphRefusal). refusal_text (OfGraph x)) (graph_same r k e) ∙ sym q
 text_alike (Err (OfGraph r)) (Err (OfScript k)) s t is e o p q = absurd e
 text_alike (Err (OfScript r)) (Err NoForm) s t is e o p q = absurd e
 text_alike (Err (OfScript r)) (Err (OfGraph k)) s t is e o p q = absurd e

@@ -7,16 +7,12 @@ use Rattle.spqr_session.specs.Certificates.{certificate_at}
 use Rattle.spqr_cli.specs.Words.{names_of}
 use Rattle.spqr_cli.specs.Decision.{Sources, Work, Report, Summary, Decision, AcceptsGraph, AcceptsScript, IsDue}
 use Rattle.spqr_cli.specs.Ending.{IsTextOf, status_of}
-use Rattle.spqr_cli.specs.declared.refusal.Refusal.TheVariants.{OfGraph}
 use Rattle.spqr_cli.specs.declared.refusal.Refusal.{Refusal}
-use Rattle.spqr_cli.specs.declared.refusal.GraphRefusal.TheVariants.{Gml}
 use Rattle.spqr_cli.specs.declared.status.Status.TheVariants.{ReadFault}
 
--- two decisions agree on what their definitions leave open: the certificates of blocks that are not planar, and the place that
--- is told of a fault in GML
+-- two decisions agree on what their definitions leave open: the certificates of blocks that are not planar
 abbrev pub AgreeOnOpen : Decision → Decision → Type 0
 AgreeOnOpen (Ok (Report a)) (Ok (Report b)) = a.setting.certificates ≡ b.setting.certificates
-AgreeOnOpen (Err (OfGraph (Gml fault))) (Err (OfGraph (Gml other))) = fault ≡ other
 AgreeOnOpen a b = ⊤
 
 -- decisions that are due for the same words and bytes have one status, a read that failed aside

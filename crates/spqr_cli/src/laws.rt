@@ -5,9 +5,9 @@ ghost use Rattle.spqr_cli.specs.Run.{CountsReads, CountsPuts};
 ghost use Rattle.spqr_cli.specs.declared.status.Status.{Status};
 
 /// Decisions that are due for the same words and bytes have one status and one text, a read that failed aside: the text as far as
-/// the place of a fault in GML is the same, which the definitions leave open. So each status of a run comes exactly where it is
-/// due, and each report is the only one that is due: blocks and trees are determined by the graph. Where the words name two files
-/// and both are accepted, no refusal is due. Works that are due are the same.
+/// the certificates are the same, which the definitions leave open. So each status of a run comes exactly where it is due, and each
+/// report is the only one that is due: blocks and trees are determined by the graph, and the place of a fault in GML by the bytes.
+/// Where the words name two files and both are accepted, no refusal is due. Works that are due are the same.
 pub fn decisions()
     ensures status { OneStatus }
     ensures text { OneText }
