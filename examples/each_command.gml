@@ -1,0 +1,14 @@
+# The complete graph on four vertices, with the edge 0-1 twice.
+graph [
+  node [ id 0 ]
+  node [ id 1 ]
+  node [ id 2 ]
+  node [ id 3 ]
+  edge [ source 0 target 1 ]
+  edge [ source 0 target 2 ]
+  edge [ source 0 target 3 ]
+  edge [ source 1 target 2 ]
+  edge [ source 1 target 3 ]
+  edge [ source 2 target 3 ]
+  edge [ source 0 target 1 ]
+]
