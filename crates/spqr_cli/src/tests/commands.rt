@@ -702,23 +702,26 @@ fn last_bytes(text: &[u8], wanted: usize) -> &[u8] {
     }
 }
 
-// What follows the head of the report on each row.
-fn answers_are(rt: HostRuntime, rows: &[Row]) -> Result<(), Fail> {
+// Whether on each row the report ends with these answers.
+fn are_answers(alloc: Global, rows: &[Row]) -> Result<bool, Fail> {
     for row in rows {
-        let graph = graph_text(rt.alloc(), row)?;
-        let (found, written) = answer(rt.alloc(), (&graph, row.script), (&[], &[]), 1000)?;
-        assert_eq!(rt; found, Status::Done);
-        assert_eq!(rt; last_bytes(&written, row.answers.len()), row.answers);
+        let graph = graph_text(alloc, row)?;
+        let (found, written) = answer(alloc, (&graph, row.script), (&[], &[]), 1000)?;
+        if found != Status::Done || last_bytes(&written, row.answers.len()) != row.answers {
+            return Ok(false);
+        }
     }
-    Ok(())
+    Ok(true)
 }
 
 #[test]
 fn moves_locks_and_history(rt: HostRuntime) -> Result<(), Fail> {
-    answers_are(rt, &MOVES)
+    assert!(rt; are_answers(rt.alloc(), &MOVES)?);
+    Ok(())
 }
 
 #[test]
 fn lists_ranks_and_conversions(rt: HostRuntime) -> Result<(), Fail> {
-    answers_are(rt, &LISTS)
+    assert!(rt; are_answers(rt.alloc(), &LISTS)?);
+    Ok(())
 }
