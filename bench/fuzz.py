@@ -37,24 +37,28 @@ LAST_GAP = re.compile(GAP)
 ENDINGS = b"", b"0", b"\n0", b'"', b"nf", b"f", b"an", b"n"
 
 
-def run_of(text):
-    """The pairs and how many lists are open behind them, where the text is a run; else None. A list is a Python list."""
+def items_of(text):
+    """The pairs, how many lists are open behind them, and where the last item that the grammar allows ends. A list is a Python list."""
     pairs, outer, at = [], [], 0
     while match := ITEM.match(text, at):
-        at = match.end()
-        if match["close"]:
-            if not outer:
-                return None
+        if match["close"] and outer:
             pairs = outer.pop()
-        elif match["open"]:
-            if len(outer) == 32:
-                return None
+        elif match["open"] and len(outer) < 32:
             pairs.append((match["key"], []))
             outer.append(pairs)
             pairs = pairs[-1][1]
-        else:
+        elif match["text"]:
             pairs.append((match["key"], match["text"]))
-    return (outer[0] if outer else pairs, len(outer)) if LAST_GAP.fullmatch(text, at) else None
+        else:
+            break
+        at = match.end()
+    return outer[0] if outer else pairs, len(outer), at
+
+
+def run_of(text):
+    """The pairs and how many lists are open behind them, where the text is a run; else None."""
+    pairs, open_lists, at = items_of(text)
+    return (pairs, open_lists) if LAST_GAP.fullmatch(text, at) else None
 
 
 def is_front(text):
@@ -62,8 +66,8 @@ def is_front(text):
 
 
 def longest_front(text):
-    """What a front begins with is one, so halving finds it."""
-    front, other = 0, len(text) + 1
+    """A run is a front, and what a front begins with is one; so halving finds it."""
+    front, other = items_of(text)[2], len(text) + 1
     while other - front > 1:
         middle = (front + other) // 2
         front, other = (middle, other) if is_front(text[:middle]) else (front, middle)
@@ -412,5 +416,5 @@ if __name__ == "__main__":
     if len(sys.argv) != 4:
         sys.exit(__doc__)
     PROGRAM, TOTAL, SEED = os.path.abspath(sys.argv[1]), int(sys.argv[2]), int(sys.argv[3])
-    with tempfile.TemporaryDirectory() as FOLDER:
+    with tempfile.TemporaryDirectory(dir="/dev/shm" if os.path.isdir("/dev/shm") else None) as FOLDER:
         main()
