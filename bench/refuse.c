@@ -1,5 +1,5 @@
-/* Loaded before the C library, this has the allocation with the number in the environment's REFUSED fail, and tells at the end
-   on standard error how many there were. */
+/* Loaded before the C library, this has the allocation with the number in the environment's REFUSED fail, and where a + follows the
+   number all later ones too. It tells at the end on standard error how many there were. */
 #define _GNU_SOURCE
 #include <dlfcn.h>
 #include <stdio.h>
@@ -7,14 +7,18 @@
 
 static long asked = 0;
 static long refused = -1;
+static int later_too = 0;
 
 static int is_refused(void)
 {
     if (refused < 0) {
         const char *number = getenv("REFUSED");
-        refused = number ? atol(number) : 0;
+        char *end = NULL;
+        refused = number ? strtol(number, &end, 10) : 0;
+        later_too = end && *end == '+';
     }
-    return ++asked == refused;
+    asked++;
+    return asked == refused || (later_too && asked > refused);
 }
 
 void *malloc(size_t size)
