@@ -4,7 +4,7 @@ use Rattle.std.proofs.lemmas.Bool.{cases_eq, or_cases, or_left, eq-eqb, eqb-true
 use Rattle.std.proofs.lemmas.List.{get_or_push, get_or_append_left, length_push}
 use Rattle.permutations.specs.Members.{is_member}
 use Rattle.permutations.proofs.Arrangements.{member-at, contains-from_member, member-from_contains}
-use Rattle.multigraph.specs.Graph.{Multigraph, edge_count, ends_of, is_end, IsGraph}
+use Rattle.multigraph.specs.Graph.{Multigraph, edge_count, ends_of, is_end, IsGraph, IsWithinLimits}
 use Rattle.multigraph.specs.Part.{Rises}
 use Rattle.multigraph.proofs.Below.{filter_below-has, filter_below-only, filter_below-at, filter_below-rises}
 use Rattle.graph_theory.specs.Path.{walk_vertices, IsPath}
@@ -24,7 +24,7 @@ use Rattle.skeleton_runs.specs.Laws.{PathThrough}
 use Rattle.skeleton_runs.proofs.Items.{met-edge_end}
 use Rattle.skeleton_runs.proofs.ItemPaths.{path-through}
 use Rattle.skeleton_runs.proofs.NodeFits.{vertex-fits, item-first, item-second}
-use Rattle.skeleton_runs.proofs.SkeletonGraph.{skeleton-graph, graph-edges, edge-item, graph-ends, place-at}
+use Rattle.skeleton_runs.proofs.SkeletonGraph.{skeleton-limits, graph-edges, edge-item, graph-ends, place-at}
 use Rattle.block_obstruct.specs.Listing.{note_of}
 use Rattle.block_obstruct.specs.Towards.{item_in}
 use Rattle.block_obstruct.specs.Routes.{route_start, route_end, route_vertices, route_at, EndsRoute, AreRoutes}
@@ -72,12 +72,12 @@ module _ (g : Multigraph) (nodes : List Node) (b : IsBlockTree g nodes) (k : ℕ
   in_group i e = has_in_group comps k e (node_item nodes k i).what ≡ true
 
   -- there are few vertices
-  pub vertices-few : length (node_at nodes k).vertices < 2 ^ 32
-  vertices-few = omega (arith, (skeleton-graph g nodes b k kl).few_vertices)
+  pub vertices-few : IsWithinLimits g → length (node_at nodes k).vertices < 2 ^ 32
+  vertices-few limits = omega (arith, (skeleton-limits g nodes b k kl limits).few_vertices)
 
   -- there are few items
-  pub items-few : count < 2 ^ 32
-  items-few = omega (arith, (skeleton-graph g nodes b k kl).few_edges, graph-edges g nodes b k kl)
+  pub items-few : IsWithinLimits g → count < 2 ^ 32
+  items-few limits = omega (arith, (skeleton-limits g nodes b k kl limits).few_edges, graph-edges g nodes b k kl)
 
   -- the ends of an item differ
   pub ends-apart : (i : ℕ) → i < count → (node_item nodes k i).a ≢ (node_item nodes k i).b

@@ -24,13 +24,13 @@ begins-at g edges x y n p = first p.along p.path p.among
   where
     first : (es : List ℕ) → IsPath g x es y → ((e : ℕ) → is_member e es ≡ true → is_member e edges ≡ true) → IsEndOf g edges x
     first [] q among = absurd (n q.arrives)
-    first (e ∷ es) q among = record { edge = e; among = contains-from_member edges e (among e (member-head e es)); ends_there = q.walk.0.1 }
+    first (e ∷ es) q among = record { edge = e; among = contains-from_member edges e (among e (member-head e es)); is_edge = q.walk.0.0; ends_there = q.walk.0.1 }
 
 -- so is the last
 pub ends-at : (g : Multigraph) (edges : List ℕ) (x y : ℕ) → x ≢ y → PathAlong g edges x y → IsEndOf g edges y
 ends-at g edges x y n p = elim (met-edge_end g x p.along p.path.walk y (subst (λ (z : ℕ). is_member z (walk_vertices g x p.along) ≡ true) p.path.arrives (last-met g x p.along))) [
   | inl q ↦ absurd (n (sym q))
-  | inr f ↦ record { edge = f.0; among = contains-from_member edges f.0 (p.among f.0 f.1); ends_there = f.2 }
+  | inr f ↦ record { edge = f.0; among = contains-from_member edges f.0 (p.among f.0 f.1); is_edge = walk-edge g x p.along p.path.walk f.0 f.1; ends_there = f.2 }
 ]
 
 module _ (g : Multigraph) (edges : List ℕ) (part : GraphPart) (h : IsPart g edges part) where

@@ -2,14 +2,13 @@
 
 ghost use Rattle.std.specs.Prelude.{◌≡◌, ◌<◌, ◌^◌, true, length, map, IfOk};
 ghost use Rattle.permutations.specs.Members.{is_member};
-ghost use Rattle.multigraph.specs.Graph.{Multigraph, IsGraph};
-ghost use Rattle.multigraph.specs.Build.{multigraph_of};
+ghost use Rattle.multigraph.specs.Graph.{Multigraph, IsWithinLimits};
 ghost use Rattle.multigraph.specs.Part.{Rises};
 ghost use Rattle.pair_split.specs.Tutte.{node_at};
 ghost use Rattle.skeletons.specs.Items.{IsBlockTree};
 ghost use Rattle.skeletons.specs.Families.{place_of, end_places, skeleton_graph};
 
-use multigraph::{BuildFault, Graph};
+use multigraph::Graph;
 use spqr_tree::Tree;
 use std::alloc::{AllocError, Global};
 
@@ -29,7 +28,7 @@ fn place_of(list: &[u32], x: u32) -> u32
 // The ends of the items of node k, by their places among the vertices.
 fn ends_of_items(alloc: Global, tree: &Tree, k: u32) -> Result<Vec<(u32, u32)>, AllocError>
     requires node { k < length tree.now }
-    requires block { (g : Multigraph) × IsBlockTree g tree.now }
+    requires block { (g : Multigraph) × IsBlockTree g tree.now × IsWithinLimits g }
     ensures ends { IfOk result (λ ends. ends.items ≡ map (end_places (node_at tree.now k).vertices) (node_at tree.now k).items) }
     ensures few { IfOk result (λ _. length (node_at tree.now k).vertices < 2 ^ 32) }
 {
@@ -41,30 +40,13 @@ fn ends_of_items(alloc: Global, tree: &Tree, k: u32) -> Result<Vec<(u32, u32)>, 
     Ok(ends)
 }
 
-// The multigraph of n vertices and these ends, which are known to be sound.
-fn build(alloc: Global, n: u32, ends: &[(u32, u32)]) -> Result<Graph, AllocError>
-    requires { IsGraph (multigraph_of n ends.now) }
-    ensures { IfOk result (λ graph. graph ≡ multigraph_of n ends.now) }
-{
-    match Graph::build(alloc, n, ends) {
-        Ok(graph) => Ok(graph),
-        Err(fault) => match fault {
-            BuildFault::Memory => Err(AllocError),
-            BuildFault::TooManyVertices(_)
-            | BuildFault::TooManyEdges(_)
-            | BuildFault::EndOut(_)
-            | BuildFault::Loop(_) => unreachable!(),
-        },
-    }
-}
-
 /// The skeleton of node `k` of the tree of a block, as a graph of its own: its vertices and its items by their places, the lesser
 /// end of each item first (Tutte 1966). Takes time n log n for n items.
 pub fn skeleton(alloc: Global, tree: &Tree, k: u32) -> Result<Graph, AllocError>
     requires node { k < length tree.now }
-    requires block { (g : Multigraph) × IsBlockTree g tree.now }
+    requires block { (g : Multigraph) × IsBlockTree g tree.now × IsWithinLimits g }
     ensures { IfOk result (λ graph. graph ≡ skeleton_graph tree.now k) }
 {
     let ends = ends_of_items(alloc, tree, k)?;
-    build(alloc, tree.vertices(k).len() as u32, &ends)
+    Graph::of_ends(alloc, tree.vertices(k).len() as u32, ends)
 }

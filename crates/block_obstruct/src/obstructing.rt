@@ -45,6 +45,8 @@ fn item_routes(alloc: Global, g: &Graph, tree: &Tree, k: u32) -> Result<Vec<Numb
     requires block { IsBlockTree g.now tree.now }
     ensures { IfOk result (λ routes. AreItemRoutes g.now tree.now k (length (node_at tree.now k).items) routes.items) }
 {
+    // A graph has few edges, so the node has few items.
+    let _ = g.edge_count();
     let parts = groups(alloc, g, tree, k)?;
     routes_through(alloc, g, tree, k, &parts)
 }

@@ -8,7 +8,7 @@ use Rattle.permutations.specs.Members.{is_member}
 use Rattle.permutations.proofs.Count.{count-yes, count-no}
 use Rattle.permutations.proofs.Leaders.{leads-before, leader-related, leader-le, leader-leads}
 use Rattle.permutations.proofs.Arrangements.{contains-from_member, member-from_contains}
-use Rattle.multigraph.specs.Graph.{Multigraph, edge_count, numbers_below, IsGraph}
+use Rattle.multigraph.specs.Graph.{Multigraph, edge_count, numbers_below, IsWithinLimits}
 use Rattle.multigraph.proofs.Below.{filter_below-has, filter_below-only, filter_below-rises}
 use Rattle.blocks.specs.Numbering.{same_label}
 use Rattle.blocks.specs.Blocks.{AreBlocks}
@@ -158,5 +158,5 @@ collected g numbers total lists n p = record {
         back h = omega arith
 
 -- there are as many numbers as edges, and few enough to count
-pub numbers-few : (g : Multigraph) → IsGraph g → (numbers : List ℕ) (total : ℕ) → AreBlockNumbers g numbers total → length numbers < 2147483648
-numbers-few g gg numbers total n = omega (arith, n.numbering.places, n.labelled, gg.few_edges)
+pub numbers-few : (g : Multigraph) → IsWithinLimits g → (numbers : List ℕ) (total : ℕ) → AreBlockNumbers g numbers total → length numbers < 2147483648
+numbers-few g limits numbers total n = omega (arith, n.numbering.places, n.labelled, limits.few_edges)

@@ -1,6 +1,6 @@
 // Depth-first search with a stack of its own, and the low points of the vertices.
 ghost use Rattle.std.specs.Prelude.{◌≡◌, ◌+◌, ◌-◌, ◌<◌, ◌≤◌, ◌⊎◌, ℕ, true, false, [], map, length, IfOk, slice_index, slice_get};
-ghost use Rattle.multigraph.specs.Graph.{edge_count, is_end, IsGraph};
+ghost use Rattle.multigraph.specs.Graph.{edge_count, is_end, IsGraph, IsWithinLimits};
 ghost use Rattle.blocks.specs.State.{SearchState, fresh, looked_further, frond_noted, root_noted, child_noted, left};
 ghost use Rattle.blocks.specs.Searching.{flag, degree, IsSearching, IsLast, IsSeenAt, IsTurned, IsExplored, IsOver};
 ghost use Rattle.blocks.specs.Spread.{IsSpreadOrder, IsSpread};
@@ -179,6 +179,7 @@ impl Search {
     // The edge is seen at `vertex`, the last of the path.
     fn see(&mut self, graph: &Graph, vertex: u32, edge: u32) -> Result<(), AllocError>
         requires graph { IsGraph graph.now }
+        requires limits { IsWithinLimits graph.now }
         requires searching { IsSearching graph.now self.old }
         requires last { IsLast self.old vertex }
         requires edge_in { edge < edge_count graph.now }
@@ -272,6 +273,7 @@ impl Search {
     pub(crate) fn of(alloc: Global, graph: &Graph) -> Result<Search, AllocError>
         ensures over { IfOk result (λ s. IsOver graph.now s) }
         ensures graph { IfOk result (λ _. IsGraph graph.now) }
+        ensures limits { IfOk result (λ _. IsWithinLimits graph.now) }
     {
         let mut search = Search::new(alloc, graph)?;
         for root in 0..graph.vertex_count() {

@@ -3,7 +3,7 @@ use Rattle.std.proofs.Common.{◌≡◌, ◌≢◌, ℕ, ◌<◌, ◌≤◌, inl
 use Rattle.std.proofs.lemmas.Bool.{both_ways}
 use Rattle.permutations.proofs.Count.{count-all}
 use Rattle.permutations.proofs.Injection.{count-injection}
-use Rattle.multigraph.specs.Graph.{Multigraph, edge_count, ends_of, is_end, other_end, IsGraph}
+use Rattle.multigraph.specs.Graph.{Multigraph, edge_count, ends_of, is_end, other_end, IsGraph, IsWithinLimits}
 use Rattle.multigraph.proofs.OtherEnd.{is_end-first, is_end-second, is_end-cases, is_end-from_first, is_end-from_second, other_end-of_first, other_end-of_second, other_end-in, other_end-is_end, other_end-twice, other_end-differs, end-in}
 use Rattle.graph_theory.specs.Triconnected.{IsSimple}
 use Rattle.contractions.specs.Contraction.{are_joined, is_kept, IsContraction}
@@ -99,12 +99,17 @@ module _ (g h : Multigraph) (i : IsGraph g) (s : IsSimple g) (e x y : ℕ) (edge
   -- the contraction is a graph
   pub graph-contracted : IsGraph h
   graph-contracted = record {
-    few_vertices = omega (arith, i.few_vertices, c.fewer);
-    few_edges = omega (arith, i.few_edges, edge_count-contracted);
     first_in = λ k l. subst (λ (q : ℕ). q < h.vertex_count) (sym (c.first_ends k l)) (c.vertices (ends_of g (edge k)).0 (i.first_in (edge k) (c.edges k l)));
     second_in = λ k l. subst (λ (q : ℕ). q < h.vertex_count) (sym (c.second_ends k l)) (c.vertices (ends_of g (edge k)).1 (i.second_in (edge k) (c.edges k l)));
     no_loop = λ k l d. no_loop (edge k) (ends_of g (edge k)).0 (c.edges k l) (c.edges_kept k l) (is_end-first g (edge k))
         (sym (c.first_ends k l) ∙ (d ∙ (c.second_ends k l ∙ ap vertex (sym (other_end-of_first g (edge k) (ends_of g (edge k)).0 refl)))));
+  }
+
+  -- and no larger
+  pub limits-contracted : IsWithinLimits g → IsWithinLimits h
+  limits-contracted limits = record {
+    few_vertices = omega (arith, limits.few_vertices, c.fewer);
+    few_edges = omega (arith, limits.few_edges, edge_count-contracted);
   }
 
   -- an end of an edge becomes an end of it

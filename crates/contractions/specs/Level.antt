@@ -1,7 +1,7 @@
 -- A graph with an edge that is to be contracted.
 use Rattle.std.specs.Prelude.{◌≡◌, ℕ, ◌<◌, ◌≤◌, true, slice_index}
 use Rattle.permutations.specs.Count.{some}
-use Rattle.multigraph.specs.Graph.{Multigraph, IsGraph, edge_count, is_end, other_end}
+use Rattle.multigraph.specs.Graph.{Multigraph, IsGraph, IsWithinLimits, edge_count, is_end, other_end}
 use Rattle.graph_theory.specs.Triconnected.{IsTriconnected}
 use Rattle.contractions.specs.Contraction.{IsContractible, common_count, is_private}
 use Rattle.contractions.specs.Contracted.{kept_edges, contracted}
@@ -15,9 +15,10 @@ pub record IsOriented (g : Multigraph) (edge x y : ℕ) : Type 0 where
   pub contractible : IsContractible g x y
   pub private : common_count g x y ≤ 2 → some (edge_count g) (is_private g edge x y) ≡ true
 
--- a triconnected graph of five vertices or more, with such an edge and the edges that stay when it is contracted
+-- a triconnected graph of five vertices or more, within the limits, with such an edge and the edges that stay when it is contracted
 pub record IsLevel (level : Level) : Type 0 where
   pub graph : IsGraph level.graph
+  pub limits : IsWithinLimits level.graph
   pub triconnected : IsTriconnected level.graph
   pub five : 5 ≤ level.graph.vertex_count
   pub oriented : IsOriented level.graph level.edge level.x level.y

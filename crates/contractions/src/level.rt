@@ -2,8 +2,7 @@
 
 ghost use Rattle.std.specs.Prelude.{◌≡◌, ◌≢◌, ◌+◌, ◌<◌, ◌≤◌, ◌==◌, ◌&&◌, ℕ, true, false, not, length, map, slice_index_or, IfOk, IfSome, MatchOption};
 ghost use Rattle.permutations.specs.Count.{some};
-ghost use Rattle.multigraph.specs.Graph.{IsGraph, edge_count, ends_of, is_end, other_end};
-ghost use Rattle.multigraph.specs.Build.{multigraph_of};
+ghost use Rattle.multigraph.specs.Graph.{edge_count, ends_of, is_end, other_end};
 ghost use Rattle.graph_theory.specs.Triconnected.{IsTriconnected};
 ghost use Rattle.contractions.specs.Contraction.{are_joined, is_kept, is_private, IsContractible};
 ghost use Rattle.contractions.specs.Contracted.{without_number, contracted_vertex, kept_edges, contracted_ends, contracted};
@@ -11,7 +10,7 @@ ghost use Rattle.contractions.specs.Level.{IsOriented, IsLevel, contraction};
 ghost use Rattle.contractions.specs.Marks.{AreNeighbourMarks, AreNeighbourMarksBelow};
 
 use crate::contractible::contractible_edge;
-use multigraph::{BuildFault, Graph};
+use multigraph::Graph;
 use std::alloc::{AllocError, Global};
 
 /// A graph with an edge that may be contracted, and what is left when it is: a step on the way from a triconnected graph to
@@ -180,23 +179,6 @@ fn contracted_ends(
     Ok(ends)
 }
 
-// The multigraph of n vertices and these ends, which are known to be sound.
-fn build(alloc: Global, n: u32, ends: &[(u32, u32)]) -> Result<Graph, AllocError>
-    requires { IsGraph (multigraph_of n ends.now) }
-    ensures { IfOk result (λ graph. graph ≡ multigraph_of n ends.now) }
-{
-    match Graph::build(alloc, n, ends) {
-        Ok(graph) => Ok(graph),
-        Err(fault) => match fault {
-            BuildFault::Memory => Err(AllocError),
-            BuildFault::TooManyVertices(_)
-            | BuildFault::TooManyEdges(_)
-            | BuildFault::EndOut(_)
-            | BuildFault::Loop(_) => unreachable!(),
-        },
-    }
-}
-
 impl Level {
     /// The triconnected graph with the first of its edges that may be contracted (Thomassen 1980); an `Err` for want of
     /// memory.
@@ -224,6 +206,6 @@ impl Level {
         ensures { IfOk result (λ h. h ≡ contraction self.now) }
     {
         let ends = contracted_ends(alloc, &self.graph, self.x, self.y, &self.kept)?;
-        build(alloc, self.graph.vertex_count() - 1, &ends)
+        Graph::of_ends(alloc, self.graph.vertex_count() - 1, ends)
     }
 }

@@ -7,7 +7,7 @@ use Rattle.permutations.specs.Permutation.{Permutes}
 use Rattle.permutations.specs.Relation.{connected, leads}
 use Rattle.permutations.proofs.Permutations.{permutes-ext}
 use Rattle.permutations.proofs.Count.{count-within}
-use Rattle.multigraph.specs.Graph.{Multigraph, IsGraph, edge_count, ends_of, other_end}
+use Rattle.multigraph.specs.Graph.{Multigraph, IsGraph, IsWithinLimits, edge_count, ends_of, other_end}
 use Rattle.multigraph.proofs.OtherEnd.{other_end-of_first, other_end-of_second}
 use Rattle.rotations.specs.Rotation.{IsRotationSystem}
 use Rattle.faces.specs.Euler.{dart_count, face_step, begins_face, is_isolated, face_count, component_count}
@@ -70,9 +70,9 @@ steps-faces g r s ok system all =
     ap (λ n. count n (begins_orbit n (slice_index s))) all.darts
     ∙ sym (starts-ext (dart_count g) (face_step g r) (slice_index s) (λ d l. sym (all.each d l)) (face_back g r, face_step-permutes g r ok system))
 
--- the limits of a graph keep all its numbers small
-pub faces-few : (g : Multigraph) (r : List (List ℕ)) → IsGraph g → face_count g r ≤ 120000
-faces-few g r ok = omega (arith, count-within (dart_count g) (begins_face g r), count-within g.vertex_count (is_isolated g), ok.few_vertices, ok.few_edges)
+-- the limits keep all its numbers small
+pub faces-few : (g : Multigraph) (r : List (List ℕ)) → IsWithinLimits g → face_count g r ≤ 120000
+faces-few g r limits = omega (arith, count-within (dart_count g) (begins_face g r), count-within g.vertex_count (is_isolated g), limits.few_vertices, limits.few_edges)
 
-pub components-few : (g : Multigraph) → IsGraph g → component_count g ≤ 20000
-components-few g ok = omega (arith, count-within g.vertex_count (leads (connected g.ends)), ok.few_vertices)
+pub components-few : (g : Multigraph) → IsWithinLimits g → component_count g ≤ 20000
+components-few g limits = omega (arith, count-within g.vertex_count (leads (connected g.ends)), limits.few_vertices)

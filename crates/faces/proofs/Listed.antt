@@ -12,7 +12,7 @@ use Rattle.permutations.specs.Permutation.{iterate, reaches}
 use Rattle.permutations.proofs.Search.{some-from, some-witness, some-more, some-ext, least-ext}
 use Rattle.permutations.proofs.Relation.{same-tests}
 use Rattle.permutations.proofs.Iterates.{iterate-ext}
-use Rattle.multigraph.specs.Graph.{Multigraph, IsGraph}
+use Rattle.multigraph.specs.Graph.{Multigraph, IsGraph, IsWithinLimits}
 use Rattle.multigraph.proofs.OtherEnd.{end-in}
 use Rattle.faces.specs.Euler.{tail, dart_count}
 use Rattle.faces.specs.Marks.{IsPermutationBelow, is_marked}
@@ -116,8 +116,8 @@ pub listed-all : (g : Multigraph) (f : ℕ → ℕ) (order : List ℕ) (k : ℕ)
 listed-all g f order k marks lists e m l = m.listed ∙ ap (λ ds. map (orbit_pairs g f) (filter (is_least g f) ds)) (take_all k order l ∙ e)
 
 -- there are at most as many as darts
-pub lists-few : (g : Multigraph) (f : ℕ → ℕ) → IsGraph g → length (orbit_lists g f) ≤ 100000
-lists-few g f ok = omega (arith, length-map (filter (is_least g f) (darts_in_order g)) (orbit_pairs g f), length-filter (is_least g f) (darts_in_order g), count_by-le-length (is_least g f) (darts_in_order g), order-few g g.vertex_count (darts_in_order g) (order-all g ok), ok.few_edges)
+pub lists-few : (g : Multigraph) (f : ℕ → ℕ) → IsGraph g → IsWithinLimits g → length (orbit_lists g f) ≤ 100000
+lists-few g f ok limits = omega (arith, length-map (filter (is_least g f) (darts_in_order g)) (orbit_pairs g f), length-filter (is_least g f) (darts_in_order g), count_by-le-length (is_least g f) (darts_in_order g), order-few g g.vertex_count (darts_in_order g) (order-all g ok), limits.few_edges)
 
 -- two functions that agree on the darts list the same pairs
 pub along-ext : (n : ℕ) (g : Multigraph) (f h : ℕ → ℕ) → IsPermutationBelow n f → ((x : ℕ) → x < n → f x ≡ h x) → (d k : ℕ) → d < n → pairs_along g f d k ≡ pairs_along g h d k

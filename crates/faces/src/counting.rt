@@ -1,6 +1,6 @@
 // Euler's sum of a rotation system.
 ghost use Rattle.faces.specs.Euler.{IsPlane, component_count, face_count};
-ghost use Rattle.multigraph.specs.Graph.{IsGraph, edge_count};
+ghost use Rattle.multigraph.specs.Graph.{IsGraph, IsWithinLimits, edge_count};
 ghost use Rattle.rotations.specs.Rotation.{IsRotationSystem};
 ghost use Rattle.std.specs.Prelude.{◌↔◌, ◌≡◌, IfOk, IsTrue};
 
@@ -15,6 +15,7 @@ use std::alloc::{AllocError, Global};
 // How many faces the rotation system has, an isolated vertex counting one.
 fn count_faces(alloc: Global, g: &Graph, r: &Rotation) -> Result<u32, AllocError>
     requires graph { IsGraph g.now }
+    requires limits { IsWithinLimits g.now }
     requires system { IsRotationSystem g.now r.now }
     ensures { IfOk result (λ faces. faces ≡ face_count g.now r.now) }
 {

@@ -1,7 +1,7 @@
 // Darts: edges as they leave one of their ends.
 ghost use Rattle.faces.specs.Euler.{dart_count, dart_from};
 ghost use Rattle.faces.specs.Trace.{darts_from_below, darts_in_order, pair_of};
-ghost use Rattle.multigraph.specs.Graph.{IsGraph, edge_count, incident_edges};
+ghost use Rattle.multigraph.specs.Graph.{IsGraph, IsWithinLimits, edge_count, incident_edges};
 ghost use Rattle.std.specs.Prelude.{◌++◌, ◌<◌, ◌≡◌, IfOk, map};
 
 use multigraph::Graph;
@@ -39,6 +39,7 @@ pub(crate) fn pair_of(graph: &Graph, dart: u32) -> (u32, u32)
 pub(crate) fn darts_in_order(alloc: Global, graph: &Graph) -> Result<Vec<u32>, AllocError>
     ensures order { IfOk result (λ darts. darts.items ≡ darts_in_order graph.now) }
     ensures graph { IsGraph graph.now }
+    ensures limits { IsWithinLimits graph.now }
 {
     let mut darts = Vec::with_capacity(alloc, 2 * graph.edge_count() as usize)?;
     for vertex in 0..graph.vertex_count() {

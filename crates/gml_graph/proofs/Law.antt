@@ -5,7 +5,7 @@ use Rattle.std.proofs.lemmas.Cmp.{int_eq_equiv}
 use Rattle.std.proofs.lemmas.Map.Keys.{IsDistinct-push}
 use Rattle.std.specs.List.{IsDistinct, list_any}
 use Rattle.std.specs.Ordering.{int_eq}
-use Rattle.multigraph.specs.Graph.{IsGraph, max_vertices, max_edges}
+use Rattle.multigraph.specs.Graph.{IsGraph, IsWithinLimits, max_vertices, max_edges}
 use Rattle.multigraph.specs.Build.{multigraph_of}
 use Rattle.gml_text.specs.Document.{Document, empty}
 use Rattle.gml_graph.specs.Named.{NamedGraph, IsNamed}
@@ -17,7 +17,7 @@ use Rattle.gml_graph.specs.declared.fault.GraphFault.{GraphFault}
 use Rattle.gml_graph.specs.declared.fault.GraphFault.TheVariants.{SameId, TooManyVertices, TooManyEdges}
 use Rattle.gml_graph.proofs.Each.{one_more-accepted, each_below-length}
 use Rattle.gml_graph.proofs.Steps.{said_ids-accepted}
-use Rattle.gml_graph.proofs.Sound.{edge_ends-graph}
+use Rattle.gml_graph.proofs.Sound.{edge_ends-graph, edge_ends-limits}
 
 -- an id that is accepted is none of the earlier ones
 pub id_among-new : (ids : List ℤ) (k : ℕ) (reading : Reading) (id : ℤ) → id_among ids k reading ≡ Ok id → list_any (int_eq id) ids ≡ false
@@ -43,34 +43,34 @@ node_ids-distinct nodes (suc k) ids l h =
     subst (λ (l : List ℤ). IsDistinct int_eq l) (sym m.all) (IsDistinct-push int_eq_equiv m.before m.last before new)
 
 -- the graph of ids and ends that are accepted
-pub with_ends-sound : (ids : List ℤ) (edges : List Document) (n : NamedGraph) → length ids ≤ max_vertices → length edges ≤ max_edges → IsDistinct int_eq ids → with_ends ids (edge_ends ids edges) ≡ Ok n → IsGraph n.graph × IsNamed n
+pub with_ends-sound : (ids : List ℤ) (edges : List Document) (n : NamedGraph) → length ids ≤ max_vertices → length edges ≤ max_edges → IsDistinct int_eq ids → with_ends ids (edge_ends ids edges) ≡ Ok n → IsGraph n.graph × IsWithinLimits n.graph × IsNamed n
 with_ends-sound ids edges n few many distinct h = by_result (edge_ends ids edges) refl h
   where
-    by_result : (r : Result (List (ℕ × ℕ)) GraphFault) → edge_ends ids edges ≡ r → with_ends ids r ≡ Ok n → IsGraph n.graph × IsNamed n
+    by_result : (r : Result (List (ℕ × ℕ)) GraphFault) → edge_ends ids edges ≡ r → with_ends ids r ≡ Ok n → IsGraph n.graph × IsWithinLimits n.graph × IsNamed n
     by_result (Err e) same r = absurd (cc)
     by_result (Ok ends) same r =
         let z : record { graph = multigraph_of (length ids) ends; ids = ids } ≡ n = cc in
-        subst (λ (m : NamedGraph). IsGraph m.graph × IsNamed m) z (edge_ends-graph ids edges ends few many same, record { count = refl; distinct = distinct })
+        subst (λ (m : NamedGraph). IsGraph m.graph × IsWithinLimits m.graph × IsNamed m) z (edge_ends-graph ids edges ends same, edge_ends-limits ids edges ends few many same, record { count = refl; distinct = distinct })
 
-pub with_ids-sound : (nodes edges : List Document) (n : NamedGraph) → length nodes ≤ max_vertices → length edges ≤ max_edges → with_ids edges (node_ids nodes) ≡ Ok n → IsGraph n.graph × IsNamed n
+pub with_ids-sound : (nodes edges : List Document) (n : NamedGraph) → length nodes ≤ max_vertices → length edges ≤ max_edges → with_ids edges (node_ids nodes) ≡ Ok n → IsGraph n.graph × IsWithinLimits n.graph × IsNamed n
 with_ids-sound nodes edges n few many h = by_result (node_ids nodes) refl h
   where
-    by_result : (r : Result (List ℤ) GraphFault) → node_ids nodes ≡ r → with_ids edges r ≡ Ok n → IsGraph n.graph × IsNamed n
+    by_result : (r : Result (List ℤ) GraphFault) → node_ids nodes ≡ r → with_ids edges r ≡ Ok n → IsGraph n.graph × IsWithinLimits n.graph × IsNamed n
     by_result (Err e) same r = absurd (cc)
     by_result (Ok ids) same r = with_ends-sound ids edges n (omega (arith, each_below-length (node_id nodes) (length nodes) ids same)) many (node_ids-distinct nodes (length nodes) ids (omega arith) same) r
 
-pub graph_between-sound : (nodes edges : List Document) (n : NamedGraph) → graph_between nodes edges ≡ Ok n → IsGraph n.graph × IsNamed n
+pub graph_between-sound : (nodes edges : List Document) (n : NamedGraph) → graph_between nodes edges ≡ Ok n → IsGraph n.graph × IsWithinLimits n.graph × IsNamed n
 graph_between-sound nodes edges n h = by_vertices (nat_lt max_vertices (length nodes)) (nat_lt max_edges (length edges)) refl refl h
   where
     below : (m k : ℕ) → nat_lt m k ≡ false → k ≤ m
     below m k e = grind (arith, nat_tests)
 
-    by_vertices : (big wide : Bool) → nat_lt max_vertices (length nodes) ≡ big → nat_lt max_edges (length edges) ≡ wide → let v : Result NamedGraph GraphFault = Err (TooManyVertices (length nodes)) in let e : Result NamedGraph GraphFault = Err (TooManyEdges (length edges)) in cond big v (cond wide e (with_ids edges (node_ids nodes))) ≡ Ok n → IsGraph n.graph × IsNamed n
+    by_vertices : (big wide : Bool) → nat_lt max_vertices (length nodes) ≡ big → nat_lt max_edges (length edges) ≡ wide → let v : Result NamedGraph GraphFault = Err (TooManyVertices (length nodes)) in let e : Result NamedGraph GraphFault = Err (TooManyEdges (length edges)) in cond big v (cond wide e (with_ids edges (node_ids nodes))) ≡ Ok n → IsGraph n.graph × IsWithinLimits n.graph × IsNamed n
     by_vertices true wide b w r = absurd (cc)
     by_vertices false true b w r = absurd (cc)
     by_vertices false false b w r = with_ids-sound nodes edges n (below max_vertices (length nodes) b) (below max_edges (length edges) w) r
 
-pub graph_among-sound : (graphs : List Document) (n : NamedGraph) → graph_among graphs ≡ Ok n → IsGraph n.graph × IsNamed n
+pub graph_among-sound : (graphs : List Document) (n : NamedGraph) → graph_among graphs ≡ Ok n → IsGraph n.graph × IsWithinLimits n.graph × IsNamed n
 graph_among-sound [] n h = absurd (cc)
 graph_among-sound (g ∷ []) n h = graph_between-sound (lists_under (codes "node") g) (lists_under (codes "edge") g) n h
 graph_among-sound (g ∷ (f ∷ gs)) n h = absurd (cc)

@@ -6,7 +6,7 @@ use Rattle.std.proofs.lemmas.Bool.{cases_lt}
 use Rattle.std.proofs.lemmas.Bool.Decides.{nat_tests}
 use Rattle.std.proofs.lemmas.List.Quantifiers.{position-Some}
 use Rattle.std.specs.Ordering.{int_eq}
-use Rattle.multigraph.specs.Graph.{IsGraph, max_vertices, max_edges}
+use Rattle.multigraph.specs.Graph.{IsGraph, IsWithinLimits, max_vertices, max_edges}
 use Rattle.multigraph.specs.Build.{multigraph_of}
 use Rattle.gml_text.specs.Document.{Document, empty}
 use Rattle.gml_graph.specs.Lists.{first_under}
@@ -65,13 +65,11 @@ ends_among-accepted ids k (Whole s) Missing ends h = absurd (cc)
 ends_among-accepted ids k (Whole s) NotWhole ends h = absurd (cc)
 ends_among-accepted ids k (Whole s) (Whole t) ends h = ends_between-accepted ids k s t (position (int_eq s) ids) (position (int_eq t) ids) ends refl refl h
 
--- the multigraph of accepted ends is one within the limits and without loops
-pub edge_ends-graph : (ids : List ℤ) (edges : List Document) (ends : List (ℕ × ℕ)) → length ids ≤ max_vertices → length edges ≤ max_edges → edge_ends ids edges ≡ Ok ends → IsGraph (multigraph_of (length ids) ends)
-edge_ends-graph ids edges ends few many h =
+-- the multigraph of accepted ends is a graph
+pub edge_ends-graph : (ids : List ℤ) (edges : List Document) (ends : List (ℕ × ℕ)) → edge_ends ids edges ≡ Ok ends → IsGraph (multigraph_of (length ids) ends)
+edge_ends-graph ids edges ends h =
     let size : length ends ≡ length edges = each_below-length (λ k. ends_by ids k (get_or edges k empty)) (length edges) ends h in
     record {
-      few_vertices = few;
-      few_edges = omega arith;
       first_in = λ e l. (at e (omega arith)).first_in;
       second_in = λ e l. (at e (omega arith)).second_in;
       no_loop = λ e l. (at e (omega arith)).no_loop;
@@ -79,3 +77,9 @@ edge_ends-graph ids edges ends few many h =
   where
     at : (e : ℕ) → e < length edges → AreEnds (length ids) (get_or ends e (0, 0))
     at e l = ends_among-accepted ids e (first_under (codes "source") (get_or edges e empty)) (first_under (codes "target") (get_or edges e empty)) (get_or ends e (0, 0)) (each_below-at (λ k. ends_by ids k (get_or edges k empty)) (length edges) ends e (0, 0) h l)
+
+-- within the limits, where the lists are
+pub edge_ends-limits : (ids : List ℤ) (edges : List Document) (ends : List (ℕ × ℕ)) → length ids ≤ max_vertices → length edges ≤ max_edges → edge_ends ids edges ≡ Ok ends → IsWithinLimits (multigraph_of (length ids) ends)
+edge_ends-limits ids edges ends few many h =
+    let size : length ends ≡ length edges = each_below-length (λ k. ends_by ids k (get_or edges k empty)) (length edges) ends h in
+    record { few_vertices = few; few_edges = omega arith }

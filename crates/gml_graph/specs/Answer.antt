@@ -2,7 +2,7 @@
 use Rattle.std.specs.Prelude.{◌≡◌, ℕ, zero, suc, ℤ, nat_lt, ◌==◌, if◌then◌else◌, List, [], ◌∷◌, ◌++◌, length, take, position, slice_index_or, Option, Some, None, Result, Ok, Err, codes}
 use Rattle.std.specs.Ordering.{int_eq}
 use Rattle.std.specs.List.{list_any}
-use Rattle.multigraph.specs.Graph.{IsGraph, max_vertices, max_edges}
+use Rattle.multigraph.specs.Graph.{IsGraph, IsWithinLimits, max_vertices, max_edges}
 use Rattle.gml_text.specs.Document.{Document, empty}
 use Rattle.gml_graph.specs.Named.{NamedGraph, IsNamed}
 use Rattle.gml_graph.specs.Lists.{lists_under, first_under}
@@ -104,7 +104,7 @@ graph_of_document d = graph_among (lists_under (codes "graph") d)
 
 -- a document's graph is within the limits and without loops, and each vertex has an id of its own
 abbrev pub HasSoundGraph : Document → Type 0
-HasSoundGraph d = (n : NamedGraph) → graph_of_document d ≡ Ok n → IsGraph n.graph × IsNamed n
+HasSoundGraph d = (n : NamedGraph) → graph_of_document d ≡ Ok n → IsGraph n.graph × IsWithinLimits n.graph × IsNamed n
 
 -- a fault is the refusal that is due, or want of memory, which may come at any
 abbrev pub Refuses : {A : Type 0} → Result A GraphFault → GraphFault → Type 0

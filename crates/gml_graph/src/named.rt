@@ -1,8 +1,6 @@
 // A graph whose vertices have ids, and the one of a document.
 
 ghost use Rattle.std.specs.Prelude.{◌≡◌, ◌≢◌, ◌↔◌, ◌<◌, ℕ, Some, Ok, IsNone, IfOk, MatchResult, length, map, slice_get};
-ghost use Rattle.multigraph.specs.Graph.{IsGraph};
-ghost use Rattle.multigraph.specs.Build.{multigraph_of};
 ghost use Rattle.gml_text.specs.Pairs.{document_of};
 ghost use Rattle.gml_graph.specs.Named.{IsNamed};
 ghost use Rattle.gml_graph.specs.Answer.{Refuses, graph_between, graph_in, graph_of_document};
@@ -13,8 +11,8 @@ use crate::ids::Ids;
 use crate::lists::lists_under;
 use crate::nodes::node_ids;
 use gml_text::{Doc, Pair, Pairs};
-use multigraph::{BuildFault, Graph};
-use std::alloc::{AllocError, Global};
+use multigraph::Graph;
+use std::alloc::Global;
 use std::marker::Model;
 
 const MAX_VERTICES: usize = 20_000;
@@ -65,23 +63,6 @@ impl Named {
     }
 }
 
-// The multigraph of `n` vertices and these ends, which are known to be sound.
-fn build(alloc: Global, n: u32, ends: &[(u32, u32)]) -> Result<Graph, AllocError>
-    requires { IsGraph (multigraph_of n ends.now) }
-    ensures { IfOk result (λ graph. graph ≡ multigraph_of n ends.now) }
-{
-    match Graph::build(alloc, n, ends) {
-        Ok(graph) => Ok(graph),
-        Err(fault) => match fault {
-            BuildFault::Memory => Err(AllocError),
-            BuildFault::TooManyVertices(_)
-            | BuildFault::TooManyEdges(_)
-            | BuildFault::EndOut(_)
-            | BuildFault::Loop(_) => unreachable!(),
-        },
-    }
-}
-
 // The graph of these nodes and edges, or the first refusal.
 fn graph_between(alloc: Global, nodes: &[&Pairs], edges: &[&Pairs]) -> Result<Named, GraphFault>
     ensures { MatchResult result
@@ -96,7 +77,7 @@ fn graph_between(alloc: Global, nodes: &[&Pairs], edges: &[&Pairs]) -> Result<Na
     }
     let ids = node_ids(alloc, nodes)?;
     let ends = edge_ends(alloc, &ids, edges)?;
-    let graph = build(alloc, ids.len(), ends.as_slice())?;
+    let graph = Graph::of_ends(alloc, ids.len(), ends)?;
     Ok(Named { graph, ids })
 }
 

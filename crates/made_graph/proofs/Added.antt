@@ -4,7 +4,7 @@ use Rattle.std.proofs.lemmas.Bool.{cases_eq, cases_lt, both_ways, false_from_ne_
 use Rattle.std.proofs.lemmas.List.{get_or_append_left, get_or-append-add, get_or_push, length-append, get_or-set_same, get_or-set_other, length-set}
 use Rattle.permutations.specs.Members.{is_member, is_distinct}
 use Rattle.permutations.proofs.Members.{member-head, member-tail, member-cases, no_member-cons, distinct-cons, distinct-head, distinct-tail}
-use Rattle.multigraph.specs.Graph.{Multigraph, edge_count, ends_of, is_end, other_end, max_vertices, max_edges, IsGraph}
+use Rattle.multigraph.specs.Graph.{Multigraph, edge_count, ends_of, is_end, other_end, IsGraph}
 use Rattle.multigraph.proofs.OtherEnd.{is_end-from_first, is_end-from_second, is_end-cases, other_end-of_first, other_end-of_second, end-in}
 use Rattle.graph_theory.specs.Path.{walk_end, walk_starts, IsWalk, IsCycle}
 use Rattle.graph_theory.specs.Block.{SameBlock, IsOneBlock}
@@ -47,10 +47,8 @@ module _ (g : Multigraph) (n : ℕ) (links : List (ℕ × ℕ)) where
   ]
 
   -- sound edges make a graph
-  pub added-graph : IsGraph g → g.vertex_count ≤ n → n ≤ max_vertices → edge_count g + length links ≤ max_edges → ((k : ℕ) → k < length links → AreSound n (get_or links k (0, 0))) → IsGraph (added g n links)
-  added-graph ok more few_vertices few_edges sound = record {
-    few_vertices = few_vertices;
-    few_edges = omega (arith, few_edges, added-count);
+  pub added-graph : IsGraph g → g.vertex_count ≤ n → ((k : ℕ) → k < length links → AreSound n (get_or links k (0, 0))) → IsGraph (added g n links)
+  added-graph ok more sound = record {
     first_in = λ e l. elim (added-cases e l) [
       | inl i ↦ let h = ok.first_in e i in subst (λ (p : ℕ × ℕ). p.0 < n) (sym (added-old e i)) (omega (arith, h, more))
       | inr i ↦ subst (λ (p : ℕ × ℕ). p.0 < n) (sym (ap (ends_of (added g n links)) i.2 ∙ added-new i.0)) (sound i.0 i.1).first_in
@@ -97,7 +95,7 @@ module _ (g : Multigraph) (n : ℕ) (links : List (ℕ × ℕ)) where
       ]
 
 -- an edge subdivided
-module _ (g : Multigraph) (ok : IsGraph g) (one : IsOneBlock g) (two : 2 ≤ edge_count g) (e : ℕ) (le : e < edge_count g) (few : g.vertex_count + 1 ≤ max_vertices) (room : edge_count g + 1 ≤ max_edges) where
+module _ (g : Multigraph) (ok : IsGraph g) (one : IsOneBlock g) (two : 2 ≤ edge_count g) (e : ℕ) (le : e < edge_count g) where
   abbrev h : Multigraph
   h = subdivided g e
 
@@ -143,8 +141,6 @@ module _ (g : Multigraph) (ok : IsGraph g) (one : IsOneBlock g) (two : 2 ≤ edg
   -- it is a graph
   pub half-graph : IsGraph h
   half-graph = record {
-    few_vertices = few;
-    few_edges = omega (arith, room, half-count);
     first_in = λ k l. elim (half-cases k l) [
       | inl i ↦ let t = ok.first_in k i.0 in subst (λ (p : ℕ × ℕ). p.0 < z + 1) (sym (half-old k i.0 i.1)) (omega (arith, t))
       | inr i ↦ elim i [

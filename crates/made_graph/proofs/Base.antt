@@ -14,8 +14,6 @@ use Rattle.made_graph.specs.Laws.{IsPlanarBlock}
 -- it is a graph
 tetrahedron-ok : IsGraph tetrahedron
 tetrahedron-ok = record {
-  few_vertices = omega arith;
-  few_edges = omega arith;
   first_in = λ e l. ltb-true (ends_of tetrahedron e).0 4 (agree_below_at (λ f. ltb (ends_of tetrahedron f).0 4) (λ f. true) 6 e refl l);
   second_in = λ e l. ltb-true (ends_of tetrahedron e).1 4 (agree_below_at (λ f. ltb (ends_of tetrahedron f).1 4) (λ f. true) 6 e refl l);
   no_loop = λ e l. eqb-false (ends_of tetrahedron e).0 (ends_of tetrahedron e).1 (agree_below_at (λ f. (ends_of tetrahedron f).0 == (ends_of tetrahedron f).1) (λ f. false) 6 e refl l);

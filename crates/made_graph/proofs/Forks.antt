@@ -4,7 +4,7 @@ use Rattle.std.proofs.lemmas.Bool.{cases_eq, cases_lt}
 use Rattle.multigraph.specs.Graph.{Multigraph, edge_count, ends_of, is_end}
 use Rattle.multigraph.proofs.OtherEnd.{is_end-cases, is_end-from_first, is_end-from_second}
 use Rattle.made_graph.specs.Made.{tetrahedron, subdivided, drawn, edge_drawn, operation_drawn, turned, made_within}
-use Rattle.made_graph.specs.Laws.{HasFork, HasRoom, IsPlanarBlock, MadeHasFork}
+use Rattle.made_graph.specs.Laws.{HasFork, IsPlanarBlock, MadeHasFork}
 use Rattle.made_graph.proofs.Added.{added, added-in, added-old, half-count, half-old, half-here, half-new}
 use Rattle.made_graph.proofs.Growth.{IsGrowing, grown-cases, edge-drawn, turned-growing, tetrahedron-growing, within-more, within-over}
 
@@ -37,15 +37,9 @@ record Comes (g : Multigraph) (e v k : ℕ) : Type 0 where
   there : is_end (subdivided g e) v edge ≡ true
 
 -- a planar block with an edge subdivided
-module _ (g : Multigraph) (p : IsPlanarBlock g) (two : 2 ≤ edge_count g) (room : HasRoom g) (e : ℕ) (le : e < edge_count g) where
-  few : g.vertex_count + 1 ≤ 20000
-  few = let r = room.vertices in omega (arith, r)
-
-  more : edge_count g + 1 ≤ 50000
-  more = let r = room.edges in omega (arith, r)
-
+module _ (g : Multigraph) (p : IsPlanarBlock g) (two : 2 ≤ edge_count g) (e : ℕ) (le : e < edge_count g) where
   count-is : edge_count (subdivided g e) ≡ edge_count g + 1
-  count-is = half-count g p.is_graph p.one_block two e le few more
+  count-is = half-count g p.is_graph p.one_block two e le
 
   comes : (v k : ℕ) → k < edge_count g → is_end g v k ≡ true → Comes g e v k
   comes v k l t = elim (cases_eq k e) [
@@ -54,20 +48,20 @@ module _ (g : Multigraph) (p : IsPlanarBlock g) (two : 2 ≤ edge_count g) (room
         edge = k;
         is = inl refl;
         inside = omega (arith, l, count-is);
-        there = is_end-from_first (subdivided g e) v k (ap (λ z. (ends_of (subdivided g e) z).0) i ∙ ap (λ (q : ℕ × ℕ). q.0) (half-here g p.is_graph p.one_block two e le few more) ∙ a);
+        there = is_end-from_first (subdivided g e) v k (ap (λ z. (ends_of (subdivided g e) z).0) i ∙ ap (λ (q : ℕ × ℕ). q.0) (half-here g p.is_graph p.one_block two e le) ∙ a);
       }
       | inr a ↦ record {
         edge = edge_count g;
         is = inr (i, refl);
         inside = omega (arith, count-is);
-        there = is_end-from_second (subdivided g e) v (edge_count g) (ap (λ (q : ℕ × ℕ). q.1) (half-new g p.is_graph p.one_block two e le few more) ∙ a);
+        there = is_end-from_second (subdivided g e) v (edge_count g) (ap (λ (q : ℕ × ℕ). q.1) (half-new g p.is_graph p.one_block two e le) ∙ a);
       }
     ]
     | inr n ↦ record {
       edge = k;
       is = inl refl;
       inside = omega (arith, l, count-is);
-      there = ap (λ (q : ℕ × ℕ). (q.0 == v) || (q.1 == v)) (half-old g p.is_graph p.one_block two e le few more k l n) ∙ t;
+      there = ap (λ (q : ℕ × ℕ). (q.0 == v) || (q.1 == v)) (half-old g p.is_graph p.one_block two e le k l n) ∙ t;
     }
   ]
 
@@ -100,22 +94,21 @@ module _ (g : Multigraph) (p : IsPlanarBlock g) (two : 2 ≤ edge_count g) (room
       }
 
 -- a turn
-turned-fork : (n : ℕ) (g : Multigraph) (x : ℕ) → n ≤ 20000 → edge_count g < n → IsGrowing n g → HasFork g → HasFork (turned g x)
-turned-fork n g x small l t f =
+turned-fork : (n : ℕ) (g : Multigraph) (x : ℕ) → edge_count g < n → IsGrowing n g → HasFork g → HasFork (turned g x)
+turned-fork n g x l t f =
     let a = t.fewer in
     let s = t.six in
-    let room : HasRoom g = record { vertices = omega (arith, a, l, small); edges = omega (arith, l, small) } in
     let e : ℕ = edge_drawn (drawn x) (edge_count g) in
     let le : e < edge_count g = edge-drawn (drawn x) (edge_count g) (omega (arith, s)) in
-    grown-cases HasFork g e (operation_drawn (drawn (drawn x))) (half-fork g t.planar (omega (arith, s)) room e le f)
+    grown-cases HasFork g e (operation_drawn (drawn (drawn x))) (half-fork g t.planar (omega (arith, s)) e le f)
     (added-fork g g.vertex_count (ends_of g e ∷ []) f)
     (added-fork g (g.vertex_count + 1) (((ends_of g e).0, g.vertex_count) ∷ (g.vertex_count, (ends_of g e).1) ∷ []) f)
     (added-fork g (g.vertex_count + 2) (((ends_of g e).0, g.vertex_count) ∷ ((ends_of g e).0, g.vertex_count + 1) ∷ ((ends_of g e).1, g.vertex_count) ∷ ((ends_of g e).1, g.vertex_count + 1) ∷ (g.vertex_count, g.vertex_count + 1) ∷ []) f)
 
-within-fork : (turns n : ℕ) (g : Multigraph) (x : ℕ) → n ≤ 20000 → IsGrowing n g → HasFork g → HasFork (made_within turns n g x)
-within-fork zero n g x small t f = f
-within-fork (suc turns) n g x small t f = elim (cases_lt (edge_count g) n) [
-  | inl l ↦ subst HasFork (sym (within-more turns n g x l)) (within-fork turns n (turned g x) (drawn (drawn x)) small (turned-growing n g x small l t) (turned-fork n g x small l t f))
+within-fork : (turns n : ℕ) (g : Multigraph) (x : ℕ) → IsGrowing n g → HasFork g → HasFork (made_within turns n g x)
+within-fork zero n g x t f = f
+within-fork (suc turns) n g x t f = elim (cases_lt (edge_count g) n) [
+  | inl l ↦ subst HasFork (sym (within-more turns n g x l)) (within-fork turns n (turned g x) (drawn (drawn x)) (turned-growing n g x l t) (turned-fork n g x l t f))
   | inr l ↦ subst HasFork (sym (within-over (suc turns) n g x l)) f
 ]
 
@@ -139,4 +132,4 @@ tetrahedron-fork = record {
 
 -- so at the end some vertex has three
 pub made-fork : MadeHasFork
-made-fork n seed l k = within-fork n n tetrahedron seed k (tetrahedron-growing n l) tetrahedron-fork
+made-fork n seed l = within-fork n n tetrahedron seed (tetrahedron-growing n l) tetrahedron-fork

@@ -5,7 +5,7 @@ use Rattle.std.proofs.lemmas.Nat.{mod_below}
 use Rattle.std.proofs.lemmas.List.{length-append, length-set}
 use Rattle.multigraph.specs.Graph.{Multigraph, edge_count, ends_of}
 use Rattle.made_graph.specs.Made.{tetrahedron, subdivided, doubled, with_path, with_tetrahedron, grown, drawn, edge_drawn, operation_drawn, turned, made_within}
-use Rattle.made_graph.specs.Laws.{IsPlanarBlock, HasRoom, MadeIsPlanarBlock, MadeIsOfSize}
+use Rattle.made_graph.specs.Laws.{IsPlanarBlock, MadeIsPlanarBlock, MadeIsOfSize}
 use Rattle.made_graph.proofs.PlanarBlocks.{subdividing-keeps, doubling-keeps, path-keeps, tetrahedron-keeps}
 use Rattle.made_graph.proofs.Base.{tetrahedron-planar}
 
@@ -19,20 +19,21 @@ grown-cases P g e operation s d p t = choose (operation == 0) (operation == 1) (
     choose false false true = p
     choose false false false = t
 
--- how much a graph grew: at least by one edge, at most by five, and by no more vertices than edges
+-- how much a graph grew: at least by one edge, at most by five, and by no more vertices than edges, at most by two
 pub record IsMore (g h : Multigraph) : Type 0 where
   pub some : edge_count g + 1 ≤ edge_count h
   pub five : edge_count h ≤ edge_count g + 5
   pub vertices : h.vertex_count + edge_count g ≤ edge_count h + g.vertex_count
+  pub two : h.vertex_count ≤ g.vertex_count + 2
 
 pub grown-more : (g : Multigraph) (e operation : ℕ) → IsMore g (grown g e operation)
 grown-more g e operation = grown-cases (IsMore g) g e operation
     (let l = length-append (slice_set g.ends e ((ends_of g e).0, g.vertex_count)) ((g.vertex_count, (ends_of g e).1) ∷ []) in let k = length-set g.ends e ((ends_of g e).0, g.vertex_count) in
-    record { some = omega (arith, l, k); five = omega (arith, l, k); vertices = omega (arith, l, k) })
-    (let l = length-append g.ends (ends_of g e ∷ []) in record { some = omega (arith, l); five = omega (arith, l); vertices = omega (arith, l) })
-    (let l = length-append g.ends (((ends_of g e).0, g.vertex_count) ∷ (g.vertex_count, (ends_of g e).1) ∷ []) in record { some = omega (arith, l); five = omega (arith, l); vertices = omega (arith, l) })
+    record { some = omega (arith, l, k); five = omega (arith, l, k); vertices = omega (arith, l, k); two = omega arith })
+    (let l = length-append g.ends (ends_of g e ∷ []) in record { some = omega (arith, l); five = omega (arith, l); vertices = omega (arith, l); two = omega arith })
+    (let l = length-append g.ends (((ends_of g e).0, g.vertex_count) ∷ (g.vertex_count, (ends_of g e).1) ∷ []) in record { some = omega (arith, l); five = omega (arith, l); vertices = omega (arith, l); two = omega arith })
     (let l = length-append g.ends (((ends_of g e).0, g.vertex_count) ∷ ((ends_of g e).0, g.vertex_count + 1) ∷ ((ends_of g e).1, g.vertex_count) ∷ ((ends_of g e).1, g.vertex_count + 1) ∷ (g.vertex_count, g.vertex_count + 1) ∷ []) in
-    record { some = omega (arith, l); five = omega (arith, l); vertices = omega (arith, l) })
+    record { some = omega (arith, l); five = omega (arith, l); vertices = omega (arith, l); two = omega arith })
 
 -- what stays true of the graph
 pub record IsGrowing (n : ℕ) (g : Multigraph) : Type 0 where
@@ -49,20 +50,19 @@ pub turned-more : (g : Multigraph) (x : ℕ) → IsMore g (turned g x)
 turned-more g x = grown-more g (edge_drawn (drawn x) (edge_count g)) (operation_drawn (drawn (drawn x)))
 
 -- a turn keeps it
-pub turned-growing : (n : ℕ) (g : Multigraph) (x : ℕ) → n ≤ 20000 → edge_count g < n → IsGrowing n g → IsGrowing n (turned g x)
-turned-growing n g x small l t =
+pub turned-growing : (n : ℕ) (g : Multigraph) (x : ℕ) → edge_count g < n → IsGrowing n g → IsGrowing n (turned g x)
+turned-growing n g x l t =
     let f = t.fewer in
     let s = t.six in
     let more = turned-more g x in
     let a = more.some in
     let b = more.five in
     let c = more.vertices in
-    let room : HasRoom g = record { vertices = omega (arith, f, l, small); edges = omega (arith, l, small) } in
     let e : ℕ = edge_drawn (drawn x) (edge_count g) in
     let le : e < edge_count g = edge-drawn (drawn x) (edge_count g) (omega (arith, s)) in
     let two : 2 ≤ edge_count g = omega (arith, s) in
     record {
-      planar = grown-cases IsPlanarBlock g e (operation_drawn (drawn (drawn x))) (subdividing-keeps g t.planar two room e le) (doubling-keeps g t.planar two room e le) (path-keeps g t.planar two room e le) (tetrahedron-keeps g t.planar two room e le);
+      planar = grown-cases IsPlanarBlock g e (operation_drawn (drawn (drawn x))) (subdividing-keeps g t.planar two e le) (doubling-keeps g t.planar two e le) (path-keeps g t.planar two e le) (tetrahedron-keeps g t.planar two e le);
       six = omega (arith, s, a);
       few = omega (arith, l, b);
       fewer = omega (arith, f, c);
@@ -77,10 +77,10 @@ within-over zero n g x l = refl
 within-over (suc turns) n g x l = ap (λ t. cond t (made_within turns n (turned g x) (drawn (drawn x))) g) (le-ltb (edge_count g) n l)
 
 -- turns keep it
-within-growing : (turns n : ℕ) (g : Multigraph) (x : ℕ) → n ≤ 20000 → IsGrowing n g → IsGrowing n (made_within turns n g x)
-within-growing zero n g x small t = t
-within-growing (suc turns) n g x small t = elim (cases_lt (edge_count g) n) [
-  | inl l ↦ subst (IsGrowing n) (sym (within-more turns n g x l)) (within-growing turns n (turned g x) (drawn (drawn x)) small (turned-growing n g x small l t))
+within-growing : (turns n : ℕ) (g : Multigraph) (x : ℕ) → IsGrowing n g → IsGrowing n (made_within turns n g x)
+within-growing zero n g x t = t
+within-growing (suc turns) n g x t = elim (cases_lt (edge_count g) n) [
+  | inl l ↦ subst (IsGrowing n) (sym (within-more turns n g x l)) (within-growing turns n (turned g x) (drawn (drawn x)) (turned-growing n g x l t))
   | inr l ↦ subst (IsGrowing n) (sym (within-over (suc turns) n g x l)) t
 ]
 
@@ -115,8 +115,8 @@ tetrahedron-growing n l = record { planar = tetrahedron-planar; six = omega arit
 
 -- made graphs are planar blocks
 pub made-planar : MadeIsPlanarBlock
-made-planar n seed l k = (within-growing n n tetrahedron seed k (tetrahedron-growing n l)).planar
+made-planar n seed l = (within-growing n n tetrahedron seed (tetrahedron-growing n l)).planar
 
 -- of the size that was asked for
 pub made-size : MadeIsOfSize
-made-size n seed l k = let t = within-growing n n tetrahedron seed k (tetrahedron-growing n l) in record { edges_reach = within-enough n n tetrahedron seed (omega arith); edges_end = t.few; vertices_fewer = t.fewer }
+made-size n seed l = let t = within-growing n n tetrahedron seed (tetrahedron-growing n l) in record { edges_reach = within-enough n n tetrahedron seed (omega arith); edges_end = t.few; vertices_fewer = t.fewer }

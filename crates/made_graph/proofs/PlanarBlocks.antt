@@ -4,7 +4,7 @@ use Rattle.std.proofs.lemmas.Bool.{cases_eq}
 use Rattle.permutations.specs.Members.{is_member}
 use Rattle.permutations.proofs.Members.{member-head, member-tail}
 use Rattle.dart_maps.proofs.Plane.{same-defect-plane, same-defect-ext}
-use Rattle.multigraph.specs.Graph.{Multigraph, edge_count, ends_of, is_end, max_vertices, max_edges, IsGraph}
+use Rattle.multigraph.specs.Graph.{Multigraph, edge_count, ends_of, is_end, IsGraph}
 use Rattle.multigraph.proofs.OtherEnd.{is_end-from_first, is_end-from_second}
 use Rattle.graph_theory.specs.Path.{IsCycle}
 use Rattle.graph_theory.specs.Block.{SameBlock, IsOneBlock}
@@ -14,7 +14,7 @@ use Rattle.faces.proofs.MapVertices.{map-vertex}
 use Rattle.faces.proofs.MapCounts.{plane-map, map-plane}
 use Rattle.faces.proofs.MapToLists.{map-orders}
 use Rattle.made_graph.specs.Made.{subdivided, doubled, with_path, with_tetrahedron}
-use Rattle.made_graph.specs.Laws.{IsPlanarBlock, HasRoom, KeepsPlanarBlocks}
+use Rattle.made_graph.specs.Laws.{IsPlanarBlock, KeepsPlanarBlocks}
 use Rattle.made_graph.proofs.Drawn.{IsDrawn}
 use Rattle.made_graph.proofs.Grown.{Drawing, double-drawn, subdivide-drawn, path-drawn, tetrahedron-drawn}
 use Rattle.made_graph.proofs.Rounds.{Leads, leads-forth, leads-back, two-cycle, three-cycle, four-cycle}
@@ -45,7 +45,7 @@ from-drawing g ok one d = from (subst (λ (m : ℕ). IsDrawn m g d.next d.previo
           plane = map-plane g r.0 ok r.1 (same-defect-plane (edge_count g) d.next (dart_after g r.0) (same-defect-ext (edge_count g) d.next (dart_after g r.0) (λ c l. sym (r.2 c l))) t.plane);
         }
 
-module _ (g : Multigraph) (p : IsPlanarBlock g) (room : HasRoom g) (e : ℕ) (le : e < edge_count g) where
+module _ (g : Multigraph) (p : IsPlanarBlock g) (e : ℕ) (le : e < edge_count g) where
   abbrev m : ℕ
   m = edge_count g
 
@@ -86,7 +86,7 @@ module _ (g : Multigraph) (p : IsPlanarBlock g) (room : HasRoom g) (e : ℕ) (le
 
   -- an edge doubled
   double-graph : IsGraph (doubled g e)
-  double-graph = added-graph g n (ends_of g e ∷ []) p.is_graph (omega arith) p.is_graph.few_vertices (let r = room.edges in omega (arith, r)) sound
+  double-graph = added-graph g n (ends_of g e ∷ []) p.is_graph (omega arith) sound
     where
       sound : (k : ℕ) → k < 1 → AreSound n (get_or (ends_of g e ∷ []) k (0, 0))
       sound zero l = record { first_in = u-in; second_in = w-in; differ = apart }
@@ -109,11 +109,7 @@ module _ (g : Multigraph) (p : IsPlanarBlock g) (room : HasRoom g) (e : ℕ) (le
   -- an edge subdivided
   pub subdivide-block : 2 ≤ edge_count g → IsPlanarBlock (subdivided g e)
   subdivide-block two =
-      let v = room.vertices in
-      let r = room.edges in
-      let few : n + 1 ≤ max_vertices = omega (arith, v) in
-      let more : m + 1 ≤ max_edges = omega (arith, r) in
-      from-drawing (subdivided g e) (half-graph g p.is_graph p.one_block two e le few more) (half-block g p.is_graph p.one_block two e le few more)
+      from-drawing (subdivided g e) (half-graph g p.is_graph p.one_block two e le) (half-block g p.is_graph p.one_block two e le)
       (subdivide-drawn m g (dart_after g p.system) (dart_before g p.system) (to-drawn g p) e le)
 
   -- a path beside an edge
@@ -121,7 +117,7 @@ module _ (g : Multigraph) (p : IsPlanarBlock g) (room : HasRoom g) (e : ℕ) (le
   path_links = (u, n) ∷ (n, w) ∷ []
 
   path-graph : IsGraph (with_path g e)
-  path-graph = added-graph g (n + 1) path_links p.is_graph (omega arith) (let v = room.vertices in omega (arith, v)) (let r = room.edges in omega (arith, r)) sound
+  path-graph = added-graph g (n + 1) path_links p.is_graph (omega arith) sound
     where
       sound : (k : ℕ) → k < 2 → AreSound (n + 1) (get_or path_links k (0, 0))
       sound zero l = record { first_in = omega (arith, u-in); second_in = omega arith; differ = λ i. omega (arith, u-in, i) }
@@ -152,7 +148,7 @@ module _ (g : Multigraph) (p : IsPlanarBlock g) (room : HasRoom g) (e : ℕ) (le
   tetrahedron_links = (u, n) ∷ (u, n + 1) ∷ (w, n) ∷ (w, n + 1) ∷ (n, n + 1) ∷ []
 
   tetrahedron-graph : IsGraph (with_tetrahedron g e)
-  tetrahedron-graph = added-graph g (n + 2) tetrahedron_links p.is_graph (omega arith) (let v = room.vertices in omega (arith, v)) (let r = room.edges in omega (arith, r)) sound
+  tetrahedron-graph = added-graph g (n + 2) tetrahedron_links p.is_graph (omega arith) sound
     where
       sound : (k : ℕ) → k < 5 → AreSound (n + 2) (get_or tetrahedron_links k (0, 0))
       sound zero l = record { first_in = omega (arith, u-in); second_in = omega arith; differ = λ i. omega (arith, u-in, i) }
@@ -213,13 +209,13 @@ module _ (g : Multigraph) (p : IsPlanarBlock g) (room : HasRoom g) (e : ℕ) (le
 
 -- as statements
 pub subdividing-keeps : KeepsPlanarBlocks subdivided
-subdividing-keeps g p two room e l = subdivide-block g p room e l two
+subdividing-keeps g p two e l = subdivide-block g p e l two
 
 pub doubling-keeps : KeepsPlanarBlocks doubled
-doubling-keeps g p two room e l = double-block g p room e l
+doubling-keeps g p two e l = double-block g p e l
 
 pub path-keeps : KeepsPlanarBlocks with_path
-path-keeps g p two room e l = path-block g p room e l
+path-keeps g p two e l = path-block g p e l
 
 pub tetrahedron-keeps : KeepsPlanarBlocks with_tetrahedron
-tetrahedron-keeps g p two room e l = tetrahedron-block g p room e l
+tetrahedron-keeps g p two e l = tetrahedron-block g p e l

@@ -1,6 +1,6 @@
 -- What is proved of graphs that are made from a number, as statements.
 use Rattle.std.specs.Prelude.{◌≡◌, ◌≢◌, true, ℕ, ◌+◌, ◌<◌, ◌≤◌, true, List}
-use Rattle.multigraph.specs.Graph.{Multigraph, edge_count, is_end, max_vertices, max_edges, IsGraph}
+use Rattle.multigraph.specs.Graph.{Multigraph, edge_count, is_end, IsGraph}
 use Rattle.graph_theory.specs.Block.{IsOneBlock}
 use Rattle.rotations.specs.Rotation.{IsRotationSystem}
 use Rattle.faces.specs.Euler.{IsPlane}
@@ -14,15 +14,10 @@ pub record IsPlanarBlock (g : Multigraph) : Type 0 where
   pub is_system : IsRotationSystem g system
   pub plane : IsPlane g system
 
--- the graph is far enough from the limits that two vertices and five edges more can be taken
-pub record HasRoom (g : Multigraph) : Type 0 where
-  pub vertices : g.vertex_count + 2 ≤ max_vertices
-  pub edges : edge_count g + 5 ≤ max_edges
-
 -- an operation on an edge leads from a planar block of two edges or more to one. (One edge alone is a block, and subdivided it is
 -- none)
 abbrev pub KeepsPlanarBlocks : (Multigraph → ℕ → Multigraph) → Type 0
-KeepsPlanarBlocks operation = (g : Multigraph) → IsPlanarBlock g → 2 ≤ edge_count g → HasRoom g → (e : ℕ) → e < edge_count g → IsPlanarBlock (operation g e)
+KeepsPlanarBlocks operation = (g : Multigraph) → IsPlanarBlock g → 2 ≤ edge_count g → (e : ℕ) → e < edge_count g → IsPlanarBlock (operation g e)
 
 -- so does each of the operations
 abbrev pub SubdividingKeeps : Type 0
@@ -61,12 +56,12 @@ pub record HasFork (g : Multigraph) : Type 0 where
 
 -- made graphs are planar blocks
 abbrev pub MadeIsPlanarBlock : Type 0
-MadeIsPlanarBlock = (n seed : ℕ) → 6 ≤ n → n ≤ 20000 → IsPlanarBlock (made n seed)
+MadeIsPlanarBlock = (n seed : ℕ) → 6 ≤ n → IsPlanarBlock (made n seed)
 
 -- and no polygons
 abbrev pub MadeHasFork : Type 0
-MadeHasFork = (n seed : ℕ) → 6 ≤ n → n ≤ 20000 → HasFork (made n seed)
+MadeHasFork = (n seed : ℕ) → 6 ≤ n → HasFork (made n seed)
 
 -- made graphs are of the size that was asked for
 abbrev pub MadeIsOfSize : Type 0
-MadeIsOfSize = (n seed : ℕ) → 6 ≤ n → n ≤ 20000 → IsOfSize n (made n seed)
+MadeIsOfSize = (n seed : ℕ) → 6 ≤ n → IsOfSize n (made n seed)

@@ -1,30 +1,11 @@
 // The graph that is made.
-ghost use Rattle.std.specs.Prelude.{◌≡◌, ◌<◌, ◌≤◌, IfOk};
-ghost use Rattle.multigraph.specs.Graph.{IsGraph};
-ghost use Rattle.multigraph.specs.Build.{multigraph_of};
+ghost use Rattle.std.specs.Prelude.{◌≡◌, ◌≤◌, IfOk};
 ghost use Rattle.made_graph.specs.Made.{made};
 
 use crate::drawing::{drawn, edge_drawn, operation_drawn};
 use crate::growing::grow;
-use multigraph::{BuildFault, Graph};
+use multigraph::Graph;
 use std::alloc::{AllocError, Global};
-
-// The multigraph of n vertices and these ends, which are known to be sound.
-fn build(alloc: Global, n: u32, ends: &[(u32, u32)]) -> Result<Graph, AllocError>
-    requires { IsGraph (multigraph_of n ends.now) }
-    ensures { IfOk result (λ graph. graph ≡ multigraph_of n ends.now) }
-{
-    match Graph::build(alloc, n, ends) {
-        Ok(graph) => Ok(graph),
-        Err(fault) => match fault {
-            BuildFault::Memory => Err(AllocError),
-            BuildFault::TooManyVertices(_)
-            | BuildFault::TooManyEdges(_)
-            | BuildFault::EndOut(_)
-            | BuildFault::Loop(_) => unreachable!(),
-        },
-    }
-}
 
 // The ends of the edges of the complete graph on four vertices.
 const TETRAHEDRON: [(u32, u32); 6] = [(0, 1), (0, 2), (0, 3), (1, 2), (1, 3), (2, 3)];
@@ -47,5 +28,5 @@ pub fn make_graph(alloc: Global, n: u32, seed: u64) -> Result<Graph, AllocError>
         let edge = edge_drawn(first, ends.len() as u32);
         vertices = grow(&mut ends, vertices, edge, operation_drawn(x))?;
     }
-    build(alloc, vertices, &ends)
+    Graph::of_ends(alloc, vertices, ends)
 }

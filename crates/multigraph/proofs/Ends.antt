@@ -4,22 +4,22 @@ use Rattle.std.specs.List.{Contains, dedup}
 use Rattle.std.specs.List.Sorted.{IsPermutation, IsSorted}
 use Rattle.std.specs.Ordering.{nat_cmp}
 use Rattle.std.proofs.lemmas.Bool.{cases_lt}
-use Rattle.std.proofs.lemmas.List.{take_more, length_push, get_or_push, get_or_append_left, get_or_default}
+use Rattle.std.proofs.lemmas.List.{take_more, length_push, get_or_push, get_or_append_left}
 use Rattle.std.proofs.lemmas.List.Elements.{Contains-append_left, Contains-push, Contains-push_cases, Contains-get_or}
 use Rattle.std.proofs.lemmas.List.Sorted.{Contains-permutation, IsPermutation-sym}
 use Rattle.std.specs.List.Retain.{IsFiltered, DiffersFromLast}
 use Rattle.std.proofs.lemmas.List.Filters.{dedup_is}
 use Rattle.std.proofs.lemmas.List.Kept.{Contains-dedup_nat, Contains-from_dedup, AllPairs-from_increasing}
 use Rattle.std.proofs.lemmas.Map.Keys.{IsStrictlyIncreasing-dedup}
-use Rattle.multigraph.specs.Graph.{Multigraph, edge_count, ends_of, is_end, max_vertices, IsGraph}
+use Rattle.multigraph.specs.Graph.{Multigraph, edge_count, ends_of, is_end, max_vertices, IsGraph, IsWithinLimits}
 use Rattle.multigraph.specs.Build.{multigraph_of}
 use Rattle.multigraph.specs.Part.{Rises, IsEndOf, AreEnds, AreInnerEnds}
 use Rattle.multigraph.proofs.OtherEnd.{is_end-first, is_end-second, is_end-cases}
 use Rattle.multigraph.proofs.Places.{rises-short}
 
 -- one edge more, with its two ends behind the others
-pub ends-more : (g : Multigraph) (edges ends : List ℕ) (e : ℕ) → AreEnds g edges ends → AreEnds g (edges ++ e ∷ []) ((ends ++ (ends_of g e).0 ∷ []) ++ (ends_of g e).1 ∷ [])
-ends-more g edges ends e h v = (found, held)
+pub ends-more : (g : Multigraph) (edges ends : List ℕ) (e : ℕ) → e < edge_count g → AreEnds g edges ends → AreEnds g (edges ++ e ∷ []) ((ends ++ (ends_of g e).0 ∷ []) ++ (ends_of g e).1 ∷ [])
+ends-more g edges ends e l h v = (found, held)
   where
     first : List ℕ
     first = ends ++ (ends_of g e).0 ∷ []
@@ -27,10 +27,10 @@ ends-more g edges ends e h v = (found, held)
     found : Contains ((ends ++ (ends_of g e).0 ∷ []) ++ (ends_of g e).1 ∷ []) v → IsEndOf g (edges ++ e ∷ []) v
     found c = elim (Contains-push_cases (ends ++ (ends_of g e).0 ∷ []) (ends_of g e).1 v c) [
       | inl d ↦ elim (Contains-push_cases ends (ends_of g e).0 v d) [
-        | inl old ↦ let w = (h v).0 old in record { edge = w.edge; among = Contains-append_left edges (e ∷ []) w.edge w.among; ends_there = w.ends_there }
-        | inr q ↦ record { edge = e; among = Contains-push edges e; ends_there = subst (λ (u : ℕ). is_end g u e ≡ true) q (is_end-first g e) }
+        | inl old ↦ let w = (h v).0 old in record { edge = w.edge; among = Contains-append_left edges (e ∷ []) w.edge w.among; is_edge = w.is_edge; ends_there = w.ends_there }
+        | inr q ↦ record { edge = e; among = Contains-push edges e; is_edge = l; ends_there = subst (λ (u : ℕ). is_end g u e ≡ true) q (is_end-first g e) }
       ]
-      | inr q ↦ record { edge = e; among = Contains-push edges e; ends_there = subst (λ (u : ℕ). is_end g u e ≡ true) q (is_end-second g e) }
+      | inr q ↦ record { edge = e; among = Contains-push edges e; is_edge = l; ends_there = subst (λ (u : ℕ). is_end g u e ≡ true) q (is_end-second g e) }
     ]
 
     at_end : is_end g v e ≡ true → Contains ((ends ++ (ends_of g e).0 ∷ []) ++ (ends_of g e).1 ∷ []) v
@@ -41,17 +41,17 @@ ends-more g edges ends e h v = (found, held)
 
     held : IsEndOf g (edges ++ e ∷ []) v → Contains ((ends ++ (ends_of g e).0 ∷ []) ++ (ends_of g e).1 ∷ []) v
     held w = elim (Contains-push_cases edges e w.edge w.among) [
-      | inl old ↦ Contains-append_left (ends ++ (ends_of g e).0 ∷ []) ((ends_of g e).1 ∷ []) v (Contains-append_left ends ((ends_of g e).0 ∷ []) v ((h v).1 (record { edge = w.edge; among = old; ends_there = w.ends_there })))
+      | inl old ↦ Contains-append_left (ends ++ (ends_of g e).0 ∷ []) ((ends_of g e).1 ∷ []) v (Contains-append_left ends ((ends_of g e).0 ∷ []) v ((h v).1 (record { edge = w.edge; among = old; is_edge = w.is_edge; ends_there = w.ends_there })))
       | inr q ↦ at_end (subst (λ (f : ℕ). is_end g v f ≡ true) (sym q) w.ends_there)
     ]
 
 -- the same in a list of edges, by what two pushes gave
-pub ends-more-by : (g : Multigraph) (edges : List ℕ) (k : ℕ) (old new : List ℕ) (pair : ℕ × ℕ) → k < length edges → pair ≡ ends_of g (get_or edges k 0) → new ≡ (old ++ pair.0 ∷ []) ++ pair.1 ∷ [] → AreEnds g (take k edges) old → AreEnds g (take (k + 1) edges) new
-ends-more-by g edges k old new pair l is e h =
+pub ends-more-by : (g : Multigraph) (edges : List ℕ) (k : ℕ) (old new : List ℕ) (pair : ℕ × ℕ) → k < length edges → get_or edges k 0 < edge_count g → pair ≡ ends_of g (get_or edges k 0) → new ≡ (old ++ pair.0 ∷ []) ++ pair.1 ∷ [] → AreEnds g (take k edges) old → AreEnds g (take (k + 1) edges) new
+ends-more-by g edges k old new pair l m is e h =
     let f : new ≡ (old ++ (ends_of g (get_or edges k 0)).0 ∷ []) ++ (ends_of g (get_or edges k 0)).1 ∷ [] = e ∙ ap (λ (x : ℕ × ℕ). (old ++ x.0 ∷ []) ++ x.1 ∷ []) is in
     subst (λ (xs : List ℕ). AreEnds g (take (k + 1) edges) xs) (sym f)
     (subst (λ (xs : List ℕ). AreEnds g xs ((old ++ (ends_of g (get_or edges k 0)).0 ∷ []) ++ (ends_of g (get_or edges k 0)).1 ∷ [])) (sym (take_more edges k 0 l))
-    (ends-more g (take k edges) old (get_or edges k 0) h))
+    (ends-more g (take k edges) old (get_or edges k 0) m h))
 
 -- the ends sorted, each once, are the ends
 pub ends-sorted : (g : Multigraph) (edges ends sorted once : List ℕ) → AreEnds g edges ends → IsPermutation ends sorted → IsFiltered (DiffersFromLast eqb) [] sorted once → AreEnds g edges once
@@ -63,14 +63,14 @@ pub once-rises : (sorted once : List ℕ) → IsSorted nat_cmp sorted → IsFilt
 once-rises sorted once s f = subst (λ (l : List ℕ). Rises l) (sym (dedup_is eqb sorted once f)) (λ i j less within. AllPairs-from_increasing (dedup eqb sorted) (IsStrictlyIncreasing-dedup sorted s) i j 0 less within)
 
 -- the first end of one of the edges is among the vertices
-pub ends-first : (g : Multigraph) (edges vertices : List ℕ) (k : ℕ) → AreEnds g edges vertices → k < length edges → Contains vertices (ends_of g (get_or edges k 0)).0
-ends-first g edges vertices k h l =
-    (h (ends_of g (get_or edges k 0)).0).1 (record { edge = get_or edges k 0; among = Contains-get_or edges k 0 l; ends_there = is_end-first g (get_or edges k 0) })
+pub ends-first : (g : Multigraph) (edges vertices : List ℕ) (k : ℕ) → AreEnds g edges vertices → k < length edges → get_or edges k 0 < edge_count g → Contains vertices (ends_of g (get_or edges k 0)).0
+ends-first g edges vertices k h l m =
+    (h (ends_of g (get_or edges k 0)).0).1 (record { edge = get_or edges k 0; among = Contains-get_or edges k 0 l; is_edge = m; ends_there = is_end-first g (get_or edges k 0) })
 
 -- so is its second end
-pub ends-second : (g : Multigraph) (edges vertices : List ℕ) (k : ℕ) → AreEnds g edges vertices → k < length edges → Contains vertices (ends_of g (get_or edges k 0)).1
-ends-second g edges vertices k h l =
-    (h (ends_of g (get_or edges k 0)).1).1 (record { edge = get_or edges k 0; among = Contains-get_or edges k 0 l; ends_there = is_end-second g (get_or edges k 0) })
+pub ends-second : (g : Multigraph) (edges vertices : List ℕ) (k : ℕ) → AreEnds g edges vertices → k < length edges → get_or edges k 0 < edge_count g → Contains vertices (ends_of g (get_or edges k 0)).1
+ends-second g edges vertices k h l m =
+    (h (ends_of g (get_or edges k 0)).1).1 (record { edge = get_or edges k 0; among = Contains-get_or edges k 0 l; is_edge = m; ends_there = is_end-second g (get_or edges k 0) })
 
 -- the places of the ends of one edge more
 pub inner-more : (g : Multigraph) (edges vertices : List ℕ) (ends : List (ℕ × ℕ)) (e p q : ℕ) → AreInnerEnds g edges vertices ends → p < length vertices → get_or vertices p 0 ≡ (ends_of g e).0 → q < length vertices → get_or vertices q 0 ≡ (ends_of g e).1 → AreInnerEnds g (edges ++ e ∷ []) vertices (ends ++ (p, q) ∷ [])
@@ -116,27 +116,23 @@ inner-more-by g edges vertices k old new p q l h p_in p_is q_in q_is e =
     (inner-more g (take k edges) vertices old (get_or edges k 0) p q h p_in p_is q_in q_is))
 
 -- each vertex is one of the whole graph
-pub ends-in : (g : Multigraph) (edges vertices : List ℕ) → IsGraph g → ((i : ℕ) → i < length edges → get_or edges i 0 < edge_count g) → AreEnds g edges vertices → (i : ℕ) → i < length vertices → get_or vertices i 0 < g.vertex_count
-ends-in g edges vertices ok within h i l = from ((h (get_or vertices i 0)).0 (Contains-get_or vertices i 0 l))
+pub ends-in : (g : Multigraph) (edges vertices : List ℕ) → IsGraph g → AreEnds g edges vertices → (i : ℕ) → i < length vertices → get_or vertices i 0 < g.vertex_count
+ends-in g edges vertices ok h i l = from ((h (get_or vertices i 0)).0 (Contains-get_or vertices i 0 l))
   where
     from : IsEndOf g edges (get_or vertices i 0) → get_or vertices i 0 < g.vertex_count
     from w =
-        let is : get_or edges w.among.0 0 ≡ w.edge = get_or_default edges w.among.0 0 w.edge w.among.1 ∙ w.among.2 in
-        let edge_in : w.edge < edge_count g = subst (λ (e : ℕ). e < edge_count g) is (within w.among.0 w.among.1) in
         elim (is_end-cases g (get_or vertices i 0) w.edge w.ends_there) [
-          | inl q ↦ subst (λ (v : ℕ). v < g.vertex_count) q (ok.first_in w.edge edge_in)
-          | inr q ↦ subst (λ (v : ℕ). v < g.vertex_count) q (ok.second_in w.edge edge_in)
+          | inl q ↦ subst (λ (v : ℕ). v < g.vertex_count) q (ok.first_in w.edge w.is_edge)
+          | inr q ↦ subst (λ (v : ℕ). v < g.vertex_count) q (ok.second_in w.edge w.is_edge)
         ]
 
 -- there are at most as many as a graph has
-pub ends-few : (g : Multigraph) (edges vertices : List ℕ) → IsGraph g → ((i : ℕ) → i < length edges → get_or edges i 0 < edge_count g) → Rises vertices → AreEnds g edges vertices → length vertices ≤ max_vertices
-ends-few g edges vertices ok within rising are = omega (arith, ok.few_vertices, rises-short vertices g.vertex_count rising (ends-in g edges vertices ok within are))
+pub ends-few : (g : Multigraph) (edges vertices : List ℕ) → IsGraph g → IsWithinLimits g → Rises vertices → AreEnds g edges vertices → length vertices ≤ max_vertices
+ends-few g edges vertices ok limits rising are = omega (arith, limits.few_vertices, rises-short vertices g.vertex_count rising (ends-in g edges vertices ok are))
 
 -- the part is a graph
 pub inner-graph : (g : Multigraph) (edges vertices : List ℕ) (ends : List (ℕ × ℕ)) → IsGraph g → Rises edges → ((i : ℕ) → i < length edges → get_or edges i 0 < edge_count g) → Rises vertices → AreEnds g edges vertices → AreInnerEnds g edges vertices ends → IsGraph (multigraph_of (length vertices) ends)
 inner-graph g edges vertices ends ok rising within vertices_rise are inner = record {
-  few_vertices = ends-few g edges vertices ok within vertices_rise are;
-  few_edges = omega (arith, ok.few_edges, inner.each, rises-short edges (edge_count g) rising within);
   first_in = λ e l. inner.first_in e (omega (arith, inner.each));
   second_in = λ e l. inner.second_in e (omega (arith, inner.each));
   no_loop = λ e l same.
@@ -145,8 +141,19 @@ inner-graph g edges vertices ends ok rising within vertices_rise are inner = rec
 }
 
 -- the same, by the names that the ends and their number have
-pub inner-graph-by : (g : Multigraph) (edges vertices lent : List ℕ) (ends lent_ends : List (ℕ × ℕ)) (n : ℕ) → IsGraph g → Rises edges → ((i : ℕ) → i < length edges → get_or edges i 0 < edge_count g) → Rises vertices → AreEnds g edges vertices → lent ≡ vertices → AreInnerEnds g edges lent ends → lent_ends ≡ ends → n ≡ length vertices → IsGraph (multigraph_of n lent_ends)
-inner-graph-by g edges vertices lent ends lent_ends n ok rising within vertices_rise are same inner same_ends many =
-    subst (λ (k : ℕ). IsGraph (multigraph_of k lent_ends)) (sym many)
-    (subst (λ (l : List (ℕ × ℕ)). IsGraph (multigraph_of (length vertices) l)) (sym same_ends)
-    (inner-graph g edges vertices ends ok rising within vertices_rise are (subst (λ (l : List ℕ). AreInnerEnds g edges l ends) same inner)))
+pub inner-graph-by : (g : Multigraph) (edges vertices lent : List ℕ) (ends : List (ℕ × ℕ)) (n : ℕ) → IsGraph g → Rises edges → ((i : ℕ) → i < length edges → get_or edges i 0 < edge_count g) → Rises vertices → AreEnds g edges vertices → lent ≡ vertices → AreInnerEnds g edges lent ends → n ≡ length vertices → IsGraph (multigraph_of n ends)
+inner-graph-by g edges vertices lent ends n ok rising within vertices_rise are same inner many =
+    subst (λ (k : ℕ). IsGraph (multigraph_of k ends)) (sym many)
+    (inner-graph g edges vertices ends ok rising within vertices_rise are (subst (λ (l : List ℕ). AreInnerEnds g edges l ends) same inner))
+
+-- the part is within the limits, where the whole is
+pub inner-limits : (g : Multigraph) (edges vertices : List ℕ) (ends : List (ℕ × ℕ)) → IsGraph g → IsWithinLimits g → Rises edges → ((i : ℕ) → i < length edges → get_or edges i 0 < edge_count g) → Rises vertices → AreEnds g edges vertices → length ends ≡ length edges → IsWithinLimits (multigraph_of (length vertices) ends)
+inner-limits g edges vertices ends ok limits rising within vertices_rise are each = record {
+  few_vertices = ends-few g edges vertices ok limits vertices_rise are;
+  few_edges = omega (arith, limits.few_edges, each, rises-short edges (edge_count g) rising within);
+}
+
+-- the same, by the names that the ends and their number have
+pub inner-limits-by : (g : Multigraph) (edges vertices lent : List ℕ) (ends : List (ℕ × ℕ)) (n : ℕ) → IsGraph g → IsWithinLimits g → Rises edges → ((i : ℕ) → i < length edges → get_or edges i 0 < edge_count g) → Rises vertices → AreEnds g edges vertices → AreInnerEnds g edges lent ends → n ≡ length vertices → IsWithinLimits (multigraph_of n ends)
+inner-limits-by g edges vertices lent ends n ok limits rising within vertices_rise are inner many =
+    subst (λ (k : ℕ). IsWithinLimits (multigraph_of k ends)) (sym many) (inner-limits g edges vertices ends ok limits rising within vertices_rise are inner.each)

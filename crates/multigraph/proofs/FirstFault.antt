@@ -1,7 +1,7 @@
 -- A multigraph has at most one first fault.
 use Rattle.std.proofs.Common.{◌≡◌, ◌≢◌, ℕ, ◌<◌, refl, sym, ap, ◌∙◌, subst, inl, inr, arith}
 use Rattle.std.proofs.lemmas.Bool.{cases_order}
-use Rattle.multigraph.specs.Graph.{Multigraph, edge_count, IsGraph}
+use Rattle.multigraph.specs.Graph.{Multigraph, edge_count, IsGraph, IsWithinLimits}
 use Rattle.multigraph.specs.Build.{IsSound, IsReached, HasEndOut, IsLoop, IsFirstFault}
 use Rattle.multigraph.specs.declared.faults.BuildFault.{BuildFault}
 use Rattle.multigraph.specs.declared.faults.BuildFault.TheVariants.{TooManyVertices, TooManyEdges, EndOut, Loop, Memory}
@@ -36,18 +36,18 @@ not_both g d e rd out re loop =
 pub first-one : (g : Multigraph) (a b : BuildFault) → IsFirstFault g a → IsFirstFault g b → a ≢ Memory → b ≢ Memory → a ≡ b
 first-one g (TooManyVertices n) (TooManyVertices m) p q x y = ap TooManyVertices (p.0 ∙ sym q.0)
 first-one g (TooManyVertices n) (TooManyEdges m) p q x y = absurd (omega (arith, p.0, p.1, q.2))
-first-one g (TooManyVertices n) (EndOut e) p q x y = absurd (omega (arith, p.0, p.1, q.0.few_vertices))
-first-one g (TooManyVertices n) (Loop e) p q x y = absurd (omega (arith, p.0, p.1, q.0.few_vertices))
+first-one g (TooManyVertices n) (EndOut e) p q x y = absurd (omega (arith, p.0, p.1, q.0.limits.few_vertices))
+first-one g (TooManyVertices n) (Loop e) p q x y = absurd (omega (arith, p.0, p.1, q.0.limits.few_vertices))
 first-one g (TooManyEdges n) (TooManyVertices m) p q x y = absurd (omega (arith, q.0, q.1, p.2))
 first-one g (TooManyEdges n) (TooManyEdges m) p q x y = ap TooManyEdges (p.0 ∙ sym q.0)
-first-one g (TooManyEdges n) (EndOut e) p q x y = absurd (omega (arith, p.0, p.1, q.0.few_edges))
-first-one g (TooManyEdges n) (Loop e) p q x y = absurd (omega (arith, p.0, p.1, q.0.few_edges))
-first-one g (EndOut d) (TooManyVertices m) p q x y = absurd (omega (arith, q.0, q.1, p.0.few_vertices))
-first-one g (EndOut d) (TooManyEdges m) p q x y = absurd (omega (arith, q.0, q.1, p.0.few_edges))
+first-one g (TooManyEdges n) (EndOut e) p q x y = absurd (omega (arith, p.0, p.1, q.0.limits.few_edges))
+first-one g (TooManyEdges n) (Loop e) p q x y = absurd (omega (arith, p.0, p.1, q.0.limits.few_edges))
+first-one g (EndOut d) (TooManyVertices m) p q x y = absurd (omega (arith, q.0, q.1, p.0.limits.few_vertices))
+first-one g (EndOut d) (TooManyEdges m) p q x y = absurd (omega (arith, q.0, q.1, p.0.limits.few_edges))
 first-one g (EndOut d) (EndOut e) p q x y = ap EndOut (same_edge g (HasEndOut g) (HasEndOut g) d e (sound-in g) (sound-in g) p.0 p.1 q.0 q.1)
 first-one g (EndOut d) (Loop e) p q x y = absurd (not_both g d e p.0 p.1 q.0 q.1)
-first-one g (Loop d) (TooManyVertices m) p q x y = absurd (omega (arith, q.0, q.1, p.0.few_vertices))
-first-one g (Loop d) (TooManyEdges m) p q x y = absurd (omega (arith, q.0, q.1, p.0.few_edges))
+first-one g (Loop d) (TooManyVertices m) p q x y = absurd (omega (arith, q.0, q.1, p.0.limits.few_vertices))
+first-one g (Loop d) (TooManyEdges m) p q x y = absurd (omega (arith, q.0, q.1, p.0.limits.few_edges))
 first-one g (Loop d) (EndOut e) p q x y = absurd (not_both g e d q.0 q.1 p.0 p.1)
 first-one g (Loop d) (Loop e) p q x y = ap Loop (same_edge g (IsLoop g) (IsLoop g) d e (sound-apart g) (sound-apart g) p.0 p.1 q.0 q.1)
 first-one g Memory b p q x y = absurd (x refl)
@@ -57,10 +57,10 @@ first-one g a Memory p q x y = absurd (y refl)
 graph-sound : (g : Multigraph) (e : ℕ) → IsGraph g → e < edge_count g → IsSound g e
 graph-sound g e ok l = record { first_in = ok.first_in e l; second_in = ok.second_in e l; no_loop = ok.no_loop e l }
 
--- a graph has none
-pub first-none : (g : Multigraph) (a : BuildFault) → IsGraph g → IsFirstFault g a → a ≡ Memory
-first-none g (TooManyVertices n) ok p = absurd (omega (arith, p.0, p.1, ok.few_vertices))
-first-none g (TooManyEdges n) ok p = absurd (omega (arith, p.0, p.1, ok.few_edges))
-first-none g (EndOut e) ok p = absurd (sound-in g e (graph-sound g e ok p.0.is_edge) p.1)
-first-none g (Loop e) ok p = absurd (sound-apart g e (graph-sound g e ok p.0.is_edge) p.1)
-first-none g Memory ok p = refl
+-- a graph within the limits has none
+pub first-none : (g : Multigraph) (a : BuildFault) → IsGraph g → IsWithinLimits g → IsFirstFault g a → a ≡ Memory
+first-none g (TooManyVertices n) ok limits p = absurd (omega (arith, p.0, p.1, limits.few_vertices))
+first-none g (TooManyEdges n) ok limits p = absurd (omega (arith, p.0, p.1, limits.few_edges))
+first-none g (EndOut e) ok limits p = absurd (sound-in g e (graph-sound g e ok p.0.is_edge) p.1)
+first-none g (Loop e) ok limits p = absurd (sound-apart g e (graph-sound g e ok p.0.is_edge) p.1)
+first-none g Memory ok limits p = refl

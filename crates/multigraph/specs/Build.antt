@@ -1,6 +1,6 @@
 -- For which fault no graph is built: the first in the order too many vertices, too many edges, then the least faulty edge.
 use Rattle.std.specs.Prelude.{◌≡◌, ℕ, ◌<◌, ◌≤◌, ◌≢◌, ◌⊎◌, List}
-use Rattle.multigraph.specs.Graph.{Multigraph, edge_count, ends_of, max_vertices, max_edges}
+use Rattle.multigraph.specs.Graph.{Multigraph, edge_count, ends_of, max_vertices, max_edges, IsWithinLimits}
 use Rattle.multigraph.specs.declared.faults.BuildFault.{BuildFault}
 use Rattle.multigraph.specs.declared.faults.BuildFault.TheVariants.{TooManyVertices, TooManyEdges, EndOut, Loop, Memory}
 
@@ -16,8 +16,7 @@ pub record IsSound (g : Multigraph) (e : ℕ) : Type 0 where
 
 -- the multigraph is within the limits, e is one of its edges, and every edge before it is sound
 pub record IsReached (g : Multigraph) (e : ℕ) : Type 0 where
-  pub few_vertices : g.vertex_count ≤ max_vertices
-  pub few_edges : edge_count g ≤ max_edges
+  pub limits : IsWithinLimits g
   pub is_edge : e < edge_count g
   pub sound_before : (k : ℕ) → k < e → IsSound g k
 

@@ -38,10 +38,13 @@ max_vertices = 20000
 abbrev pub max_edges : ℕ
 max_edges = 50000
 
--- a multigraph without loops, all ends among its vertices, within the limits
-pub record IsGraph (g : Multigraph) : Type 0 where
+-- a multigraph that is small enough for the program
+pub record IsWithinLimits (g : Multigraph) : Type 0 where
   pub few_vertices : g.vertex_count ≤ max_vertices
   pub few_edges : edge_count g ≤ max_edges
+
+-- a multigraph without loops, all ends among its vertices, of any size
+pub record IsGraph (g : Multigraph) : Type 0 where
   pub first_in : (e : ℕ) → e < edge_count g → (ends_of g e).0 < g.vertex_count
   pub second_in : (e : ℕ) → e < edge_count g → (ends_of g e).1 < g.vertex_count
   pub no_loop : (e : ℕ) → e < edge_count g → (ends_of g e).0 ≢ (ends_of g e).1

@@ -1,7 +1,7 @@
 -- The part of a multigraph that some of its edges make with their ends, under numbers of its own.
 use Rattle.std.specs.Prelude.{◌≡◌, ◌≢◌, ℕ, ◌<◌, ◌↔◌, true, List, length, Option, None, Some, slice_index, slice_index_or}
 use Rattle.std.specs.List.{Contains}
-use Rattle.multigraph.specs.Graph.{Multigraph, edge_count, ends_of, is_end, IsGraph}
+use Rattle.multigraph.specs.Graph.{Multigraph, edge_count, ends_of, is_end, IsGraph, IsWithinLimits}
 
 -- a graph of its own, and the vertex and the edge of the whole graph that each of its vertices and edges is
 pub record GraphPart : Type 0 where
@@ -13,9 +13,10 @@ pub record GraphPart : Type 0 where
 abbrev pub Rises : List ℕ → Type 0
 Rises l = (i j : ℕ) → i < j → j < length l → slice_index l i < slice_index l j
 
--- the part is a graph, each of its vertices and edges has a number in the whole graph, and these rise
+-- the part is a graph within the limits, each of its vertices and edges has a number in the whole graph, and these rise
 pub record IsNumbered (part : GraphPart) : Type 0 where
   pub is_graph : IsGraph part.graph
+  pub limits : IsWithinLimits part.graph
   pub vertex_each : length part.vertices ≡ part.graph.vertex_count
   pub edge_each : length part.edges ≡ edge_count part.graph
   pub vertices_rise : Rises part.vertices
@@ -26,10 +27,11 @@ pub record IsPlace (list : List ℕ) (x : ℕ) (answer : Option ℕ) : Type 0 wh
   pub some : (i : ℕ) → (answer ≡ Some i) ↔ ((i < length list) × (slice_index list i ≡ x))
   pub none : (answer ≡ None) ↔ ((i : ℕ) → i < length list → slice_index list i ≢ x)
 
--- v is an end of one of these edges
+-- v is an end of one of these edges, which is one of g
 pub record IsEndOf (g : Multigraph) (edges : List ℕ) (v : ℕ) : Type 0 where
   pub edge : ℕ
   pub among : Contains edges edge
+  pub is_edge : edge < edge_count g
   pub ends_there : is_end g v edge ≡ true
 
 -- the vertices are exactly the ends of these edges

@@ -1,7 +1,7 @@
 // Why a list of ends is no graph, and the search for the first fault.
 
 ghost use Rattle.std.specs.Prelude.{◌≤◌, length, MatchResult};
-ghost use Rattle.multigraph.specs.Graph.{max_vertices, max_edges, IsGraph};
+ghost use Rattle.multigraph.specs.Graph.{max_vertices, max_edges, IsGraph, IsWithinLimits};
 ghost use Rattle.multigraph.specs.Build.{multigraph_of, IsFirstFault};
 
 use thiserror::Error;
@@ -30,7 +30,8 @@ pub enum BuildFault {
 pub(crate) fn check_ends(n: u32, ends: &[(u32, u32)]) -> Result<(), BuildFault>
     requires few_vertices { n ≤ max_vertices }
     requires few_edges { length ends.now ≤ max_edges }
-    ensures { MatchResult result (λ _. IsGraph (multigraph_of n ends.now)) (λ fault. IsFirstFault (multigraph_of n ends.now) fault) }
+    ensures faults { MatchResult result (λ _. IsGraph (multigraph_of n ends.now)) (λ fault. IsFirstFault (multigraph_of n ends.now) fault) }
+    ensures limits { IsWithinLimits (multigraph_of n ends.now) }
 {
     for (e, pair) in ends.iter().enumerate() {
         let (first, second) = *pair;

@@ -1,13 +1,13 @@
 // Laws on the first fault, over the definitions alone.
 
 ghost use Rattle.std.specs.Prelude.{◌≡◌, ◌≢◌};
-ghost use Rattle.multigraph.specs.Graph.{Multigraph, IsGraph};
+ghost use Rattle.multigraph.specs.Graph.{Multigraph, IsGraph, IsWithinLimits};
 ghost use Rattle.multigraph.specs.Build.{IsFirstFault};
 ghost use Rattle.multigraph.specs.declared.faults.BuildFault.{BuildFault};
 ghost use Rattle.multigraph.specs.declared.faults.BuildFault.TheVariants.{Memory};
 
-/// A multigraph has at most one first fault, and what is a graph has none; want of memory is left out.
+/// A multigraph has at most one first fault, and a graph within the limits has none; want of memory is left out.
 pub fn first_fault()
     ensures one { (g : Multigraph) (a b : BuildFault) → IsFirstFault g a → IsFirstFault g b → a ≢ Memory → b ≢ Memory → a ≡ b }
-    ensures none { (g : Multigraph) (a : BuildFault) → IsGraph g → IsFirstFault g a → a ≡ Memory }
+    ensures none { (g : Multigraph) (a : BuildFault) → IsGraph g → IsWithinLimits g → IsFirstFault g a → a ≡ Memory }
 {}

@@ -2,7 +2,7 @@
 
 ghost use Rattle.std.specs.Prelude.{◌≡◌, ◌<◌, ◌≤◌, ◌^◌, ℕ, length, IfOk, slice_index};
 ghost use Rattle.std.specs.List.{Contains};
-ghost use Rattle.multigraph.specs.Graph.{edge_count, max_vertices, IsGraph};
+ghost use Rattle.multigraph.specs.Graph.{edge_count, max_vertices, IsGraph, IsWithinLimits};
 ghost use Rattle.multigraph.specs.Build.{multigraph_of};
 ghost use Rattle.multigraph.specs.Part.{GraphPart, Rises, IsNumbered, IsPlace, AreEnds, AreInnerEnds, IsPart};
 
@@ -83,7 +83,7 @@ impl Graph {
     {
         let vertices = end_vertices(alloc, self, edges)?;
         let ends = inner_ends(alloc, self, edges, &vertices)?;
-        let graph = Graph::of_ends(alloc, vertices.len() as u32, &ends)?;
+        let graph = Graph::of_ends(alloc, vertices.len() as u32, ends)?;
         Ok(Part {
             graph,
             vertices,
@@ -99,6 +99,7 @@ fn end_vertices(alloc: Global, graph: &Graph, edges: &[u32]) -> Result<Vec<u32>,
     ensures ends { IfOk result (λ vertices. AreEnds graph.now edges.now vertices.items) }
     ensures few { IfOk result (λ vertices. length vertices.items ≤ max_vertices) }
     ensures graph { IsGraph graph.now }
+    ensures limits { IsWithinLimits graph.now }
 {
     // A graph has few vertices.
     let _ = graph.vertex_count();

@@ -1,7 +1,7 @@
 // A multigraph with the edges at each vertex.
 
 ghost use Rattle.std.specs.Prelude.{◌≡◌, ◌<◌, length, IsTrue, IfOk, IfErr};
-ghost use Rattle.multigraph.specs.Graph.{Multigraph, edge_count, ends_of, is_end, incident_edges, other_end, IsGraph};
+ghost use Rattle.multigraph.specs.Graph.{Multigraph, edge_count, ends_of, is_end, incident_edges, other_end, IsGraph, IsWithinLimits};
 ghost use Rattle.multigraph.specs.Build.{multigraph_of, IsFirstFault};
 
 use crate::faults::{BuildFault, check_ends};
@@ -23,7 +23,7 @@ pub struct Graph {
 }
 
 impl Model for Graph {
-    ghost use Rattle.multigraph.specs.Graph.{Multigraph, IsGraph};
+    ghost use Rattle.multigraph.specs.Graph.{Multigraph, IsGraph, IsWithinLimits};
     ghost use Rattle.multigraph.specs.Build.{multigraph_of};
     ghost use Rattle.multigraph.specs.Incidence.{ListsEdges};
 
@@ -31,7 +31,7 @@ impl Model for Graph {
 
     ghost view = { λ g. multigraph_of g.vertices g.ends.items };
 
-    ghost invariant = { λ g. IsGraph (multigraph_of g.vertices g.ends.items) × ListsEdges (multigraph_of g.vertices g.ends.items) g.incident.items };
+    ghost invariant = { λ g. IsGraph (multigraph_of g.vertices g.ends.items) × IsWithinLimits (multigraph_of g.vertices g.ends.items) × ListsEdges (multigraph_of g.vertices g.ends.items) g.incident.items };
 }
 
 impl Graph {
@@ -42,6 +42,7 @@ impl Graph {
     pub fn build(alloc: Global, n: u32, ends: &[(u32, u32)]) -> Result<Graph, BuildFault>
         ensures built { IfOk result (λ g. g ≡ multigraph_of n ends.now) }
         ensures graph { IfOk result IsGraph }
+        ensures limits { IfOk result IsWithinLimits }
         ensures refused { IfErr result (λ fault. IsFirstFault (multigraph_of n ends.now) fault) }
     {
         if n > MAX_VERTICES {
@@ -51,21 +52,24 @@ impl Graph {
             return Err(BuildFault::TooManyEdges(ends.len()));
         }
         check_ends(n, ends)?;
-        Graph::assemble(alloc, n, ends)
+        let Ok(kept) = Vec::from_slice(alloc, ends) else {
+            return Err(BuildFault::Memory);
+        };
+        match Graph::of_ends(alloc, n, kept) {
+            Ok(g) => Ok(g),
+            Err(_) => Err(BuildFault::Memory),
+        }
     }
 
-    // The graph of ends that are known to be sound.
-    fn assemble(alloc: Global, n: u32, ends: &[(u32, u32)]) -> Result<Graph, BuildFault>
-        requires { IsGraph (multigraph_of n ends.now) }
-        ensures built { IfOk result (λ g. g ≡ multigraph_of n ends.now) }
-        ensures refused { IfErr result (λ fault. fault ≡ BuildFault.Memory) }
+    /// The multigraph of `n` vertices whose edge e has the ends `ends[e]`, where the ends are known to be sound and few.
+    ///
+    /// Keeps the vector of the ends: nothing is looked through again, and nothing is copied.
+    pub fn of_ends(alloc: Global, n: u32, ends: Vec<(u32, u32)>) -> Result<Graph, AllocError>
+        requires graph { IsGraph (multigraph_of n ends.items) }
+        requires limits { IsWithinLimits (multigraph_of n ends.items) }
+        ensures { IfOk result (λ g. g ≡ multigraph_of n ends.items) }
     {
-        let Ok(incident) = incident_lists(alloc, n, ends) else {
-            return Err(BuildFault::Memory);
-        };
-        let Ok(ends) = Vec::from_slice(alloc, ends) else {
-            return Err(BuildFault::Memory);
-        };
+        let incident = incident_lists(alloc, n, &ends)?;
         Ok(Graph {
             vertices: n,
             ends,
@@ -73,28 +77,19 @@ impl Graph {
         })
     }
 
-    // The graph of ends that are known to be sound, where only memory can run out.
-    pub(crate) fn of_ends(alloc: Global, n: u32, ends: &[(u32, u32)]) -> Result<Graph, AllocError>
-        requires { IsGraph (multigraph_of n ends.now) }
-        ensures { IfOk result (λ g. g ≡ multigraph_of n ends.now) }
-    {
-        match Graph::assemble(alloc, n, ends) {
-            Ok(g) => Ok(g),
-            Err(_) => Err(AllocError),
-        }
-    }
-
     /// The same graph once more.
     pub fn copy(&self, alloc: Global) -> Result<Graph, AllocError>
         ensures { IfOk result (λ g. g ≡ self.now) }
     {
-        Graph::of_ends(alloc, self.vertices, &self.ends)
+        let ends = Vec::from_slice(alloc, &self.ends)?;
+        Graph::of_ends(alloc, self.vertices, ends)
     }
 
     /// The number of vertices.
     pub fn vertex_count(&self) -> u32
         ensures value { result ≡ self.now.vertex_count }
         ensures graph { IsGraph self.now }
+        ensures limits { IsWithinLimits self.now }
     {
         self.vertices
     }
@@ -103,6 +98,7 @@ impl Graph {
     pub fn edge_count(&self) -> u32
         ensures value { result ≡ edge_count self.now }
         ensures graph { IsGraph self.now }
+        ensures limits { IsWithinLimits self.now }
     {
         self.ends.len() as u32
     }
@@ -112,6 +108,7 @@ impl Graph {
         requires { e < edge_count self.now }
         ensures value { result ≡ ends_of self.now e }
         ensures graph { IsGraph self.now }
+        ensures limits { IsWithinLimits self.now }
     {
         self.ends[e as usize]
     }
@@ -129,6 +126,7 @@ impl Graph {
         requires { v < self.now.vertex_count }
         ensures value { result.now ≡ incident_edges self.now v }
         ensures graph { IsGraph self.now }
+        ensures limits { IsWithinLimits self.now }
     {
         self.incident[v as usize].as_slice()
     }

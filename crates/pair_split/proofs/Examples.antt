@@ -88,8 +88,6 @@ below-three Q a b c (suc (suc (suc e))) l = absurd (omega (arith, l))
 
 three-graph : IsGraph three
 three-graph = record {
-  few_vertices = omega arith;
-  few_edges = omega arith;
   first_in = below-three (λ e. (ends_of three e).0 < 2) (omega arith) (omega arith) (omega arith);
   second_in = below-three (λ e. (ends_of three e).1 < 2) (omega arith) (omega arith) (omega arith);
   no_loop = below-three (λ e. (ends_of three e).0 ≢ (ends_of three e).1) zero-one zero-one zero-one;

@@ -4,7 +4,7 @@ use Rattle.std.proofs.lemmas.Bool.{cases_Bool, cases_lt, true≢false, false_fro
 use Rattle.std.proofs.lemmas.List.{length-replicate, take_more, drop_more, take-append-drop}
 use Rattle.permutations.specs.Members.{is_member, is_distinct}
 use Rattle.permutations.proofs.Members.{member-head, member-cases, member-append_left, member-append_cases, distinct-append_apart}
-use Rattle.multigraph.specs.Graph.{Multigraph, IsGraph}
+use Rattle.multigraph.specs.Graph.{Multigraph, IsGraph, IsWithinLimits}
 use Rattle.palm_tree.specs.State.{SearchState}
 use Rattle.palm_tree.specs.Searching.{IsOver}
 use Rattle.palm_tree.specs.Growing.{AreSizes, HasRoom, AreNumbersSoFar}
@@ -100,9 +100,9 @@ module _ (g : Multigraph) (gg : IsGraph g) (s : SearchState) (o : IsOver g s) (s
       parent d = subst (λ (k : ℕ). is_member (get_or s.parent k 0) (take i s.order) ≡ true) (sym e) (o.searching.ordered.behind_parent i l (subst (λ (k : ℕ). 0 < get_or s.depth k 0) e d))
 
   -- the vertex is one, its parent too, and the number can be counted on
-  pub number-can : (i v : ℕ) (number : List ℕ) → i < length s.order → v ≡ get_or s.order i 0 → AreNumbersSoFar g s size offset (take i s.order) number
+  pub number-can : IsWithinLimits g → (i v : ℕ) (number : List ℕ) → i < length s.order → v ≡ get_or s.order i 0 → AreNumbersSoFar g s size offset (take i s.order) number
       → (v < g.vertex_count) × (0 < get_or s.depth v 0 → (get_or s.parent v 0 < g.vertex_count) × (get_or number (get_or s.parent v 0) 0 + 1 + get_or offset v 0 < 4294967296))
-  number-can i v number l e a = (vl, λ d. (parent-in g gg s o v vl d, omega (arith, room v vl d, a.few (get_or s.parent v 0) (parent d), gg.few_vertices)))
+  number-can limits i v number l e a = (vl, λ d. (parent-in g gg s o v vl d, omega (arith, room v vl d, a.few (get_or s.parent v 0) (parent d), limits.few_vertices)))
     where
       vl : v < g.vertex_count
       vl = omega (arith, e, order-in g gg s o i l)

@@ -7,7 +7,7 @@ use Rattle.permutations.proofs.Members.{member-head, member-cases, member-append
 use Rattle.permutations.proofs.Arrangements.{member-at}
 use Rattle.permutations.proofs.Sums.{sum_below-ext, sum_below-zero}
 use Rattle.permutations.proofs.Relation.{same-tests}
-use Rattle.multigraph.specs.Graph.{Multigraph, IsGraph}
+use Rattle.multigraph.specs.Graph.{Multigraph, IsGraph, IsWithinLimits}
 use Rattle.palm_tree.specs.State.{SearchState}
 use Rattle.palm_tree.specs.Searching.{IsOver}
 use Rattle.palm_tree.specs.Growing.{is_child, size_among, AreSizes, AreChildren, AreOffsetsSoFar, AreOffsets}
@@ -155,13 +155,13 @@ module _ (g : Multigraph) (gg : IsGraph g) (s : SearchState) (o : IsOver g s) (s
         (place-given (take i children) offset filled c a w.0 w.1 out (taken-in i))))
 
     -- a child and its parent have places, and what is filled can be added to
-    pub place-can : (i c : ℕ) (offset filled : List ℕ) → i < length children → c ≡ get_or children i 0 → AreOffsetsSoFar g s size (take i children) offset filled
+    pub place-can : IsWithinLimits g → (i c : ℕ) (offset filled : List ℕ) → i < length children → c ≡ get_or children i 0 → AreOffsetsSoFar g s size (take i children) offset filled
         → (c < g.vertex_count) × (get_or s.parent c 0 < g.vertex_count) × (get_or filled (get_or s.parent c 0) 0 + get_or size c 0 < 4294967296)
-    place-can i c offset filled l e a =
+    place-can limits i c offset filled l e a =
         let w = k.within c (subst (λ (x : ℕ). is_member x children ≡ true) (sym e) (member-at children i 0 l)) in
         let out : is_member c (take i children) ≡ false = subst (λ (x : ℕ). is_member x (take i children) ≡ false) (sym e) (taken-out i l) in
         let pl = parent-in g gg s o c w.0 w.1 in
-        (w.0, pl, omega (arith, place-fits (take i children) offset filled c a w.0 w.1 out (taken-in i), z.few (get_or s.parent c 0) pl, gg.few_vertices))
+        (w.0, pl, omega (arith, place-fits (take i children) offset filled c a w.0 w.1 out (taken-in i), z.few (get_or s.parent c 0) pl, limits.few_vertices))
 
     -- all children have their places
     pub offsets-over : (given offset filled : List ℕ) → given ≡ children → AreOffsetsSoFar g s size given offset filled → AreOffsets g s size children offset

@@ -6,7 +6,7 @@ use Rattle.permutations.specs.Count.{sum_below}
 use Rattle.permutations.specs.Members.{is_member}
 use Rattle.permutations.proofs.Members.{member-head}
 use Rattle.permutations.proofs.Sums.{sum_below-ext, sum_below-le, sum_below-zero, sum_below-const}
-use Rattle.multigraph.specs.Graph.{Multigraph, IsGraph}
+use Rattle.multigraph.specs.Graph.{Multigraph, IsGraph, IsWithinLimits}
 use Rattle.palm_tree.specs.State.{SearchState}
 use Rattle.palm_tree.specs.Searching.{IsOver}
 use Rattle.palm_tree.specs.Growing.{is_child, size_among, AreSizesSoFar}
@@ -263,10 +263,10 @@ module _ (g : Multigraph) (gg : IsGraph g) (s : SearchState) (o : IsOver g s) wh
       (size-handed size i l a (subst (λ (z : ℕ). 0 < get_or s.depth z 0) ev d))
 
   -- the sizes can be added
-  pub size-fits : (size : List ℕ) (i v p : ℕ) → i < length s.order → AreSizesSoFar g s size (drop (i + 1) s.order) → v ≡ get_or s.order i 0 → 0 < get_or s.depth v 0 → p ≡ get_or s.parent v 0 → (p < length size) × (v < length size) × (get_or size p 0 + get_or size v 0 < 4294967296)
-  size-fits size i v p l a ev d ep =
+  pub size-fits : IsWithinLimits g → (size : List ℕ) (i v p : ℕ) → i < length s.order → AreSizesSoFar g s size (drop (i + 1) s.order) → v ≡ get_or s.order i 0 → 0 < get_or s.depth v 0 → p ≡ get_or s.parent v 0 → (p < length size) × (v < length size) × (get_or size p 0 + get_or size v 0 < 4294967296)
+  size-fits limits size i v p l a ev d ep =
       let ep' : p ≡ get_or s.parent (get_or s.order i 0) 0 = ep ∙ ap (λ (z : ℕ). get_or s.parent z 0) ev in
       let vl : v < g.vertex_count = omega (arith, ev, order-in g gg s o i l) in
       let pl : p < g.vertex_count = omega (arith, ep, parent-in g gg s o v vl d) in
       let two = two-fit size i l a (subst (λ (z : ℕ). 0 < get_or s.depth z 0) ev d) in
-      (omega (arith, pl, a.places), omega (arith, vl, a.places), omega (arith, two, ap (λ (z : ℕ). get_or size z 0) ep', ap (λ (z : ℕ). get_or size z 0) ev, gg.few_vertices))
+      (omega (arith, pl, a.places), omega (arith, vl, a.places), omega (arith, two, ap (λ (z : ℕ). get_or size z 0) ep', ap (λ (z : ℕ). get_or size z 0) ev, limits.few_vertices))

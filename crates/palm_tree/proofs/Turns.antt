@@ -3,7 +3,7 @@ use Rattle.std.proofs.Common.{◌≡◌, ℕ, ◌+◌, ◌-◌, ◌<◌, ◌≤�
 use Rattle.std.proofs.lemmas.Bool.{cases_lt}
 use Rattle.std.proofs.lemmas.List.{length-take-le}
 use Rattle.permutations.proofs.Injection.{pigeonhole}
-use Rattle.multigraph.specs.Graph.{Multigraph, edge_count, is_end, other_end, incident_edges, IsGraph}
+use Rattle.multigraph.specs.Graph.{Multigraph, edge_count, is_end, other_end, incident_edges, IsGraph, IsWithinLimits}
 use Rattle.multigraph.proofs.Incident.{length-incident, incident_at-edge, incident_at-end}
 use Rattle.palm_tree.specs.State.{SearchState, frond_noted, child_noted, looked_further, left}
 use Rattle.palm_tree.specs.Searching.{flag, degree, IsOnPath, IsSearching, IsLast, IsSeenAt, IsTurned, looks_left}
@@ -22,14 +22,14 @@ path-short g visited parent depth path p = elim (cases_lt g.vertex_count (length
     twice a (i, j, l, m, e) = absurd (omega (arith, p.deep i (omega arith), p.deep j (omega arith), ap (λ (z : ℕ). get_or depth z 0) e))
 
 -- the depth of the last vertex of the path can be counted on
-pub depth-fits : (g : Multigraph) → IsGraph g → (s : SearchState) (v : ℕ) → IsSearching g s → IsLast s v → get_or s.depth v 0 + 1 < 4294967296
-depth-fits g gg s v k l =
+pub depth-fits : (g : Multigraph) → IsWithinLimits g → (s : SearchState) (v : ℕ) → IsSearching g s → IsLast s v → get_or s.depth v 0 + 1 < 4294967296
+depth-fits g limits s v k l =
     let d : get_or s.depth v 0 ≡ l.place = ap (λ (z : ℕ). get_or s.depth z 0) (sym l.is) ∙ k.on_path.deep l.place (omega (arith, l.last)) in
-    omega (arith, l.last, path-short g s.visited s.parent s.depth s.path k.on_path, gg.few_vertices)
+    omega (arith, l.last, path-short g s.visited s.parent s.depth s.path k.on_path, limits.few_vertices)
 
 -- a number of edges at a vertex can be counted on
-pub degree-fits : (g : Multigraph) → IsGraph g → (v x : ℕ) → x < degree g v → x + 1 < 4294967296
-degree-fits g gg v x h = omega (arith, length-incident g v, gg.few_edges)
+pub degree-fits : (g : Multigraph) → IsWithinLimits g → (v x : ℕ) → x < degree g v → x + 1 < 4294967296
+degree-fits g limits v x h = omega (arith, length-incident g v, limits.few_edges)
 
 -- the state after an edge to an ancestor was noted
 pub frond-seen : (g : Multigraph) → IsGraph g → (s new : SearchState) (v e w : ℕ) → IsSearching g s → IsLast s v → e < edge_count g → is_end g v e ≡ true → flag s.seen e ≡ false → w ≡ other_end g e v → flag s.visited w ≡ true → new ≡ frond_noted s v e → IsSeenAt g s new v e
@@ -84,5 +84,5 @@ next-edge g v x e edges q l ee =
     (subst (λ (z : ℕ). z < edge_count g) f (incident_at-edge g v x 0 l), subst (λ (z : ℕ). is_end g v z ≡ true) f (incident_at-end g v x 0 l))
 
 -- the place of the next look can be counted on
-pub position-fits : (g : Multigraph) → IsGraph g → (s mid : SearchState) (v e : ℕ) → get_or s.position v 0 < degree g v → IsSeenAt g s mid v e → get_or mid.position v 0 + 1 < 4294967296
-position-fits g gg s mid v e l a = omega (arith, degree-fits g gg v (get_or s.position v 0) l, ap (λ (p : List ℕ). get_or p v 0) a.position)
+pub position-fits : (g : Multigraph) → IsWithinLimits g → (s mid : SearchState) (v e : ℕ) → get_or s.position v 0 < degree g v → IsSeenAt g s mid v e → get_or mid.position v 0 + 1 < 4294967296
+position-fits g limits s mid v e l a = omega (arith, degree-fits g limits v (get_or s.position v 0) l, ap (λ (p : List ℕ). get_or p v 0) a.position)

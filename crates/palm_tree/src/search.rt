@@ -1,6 +1,6 @@
 // Depth-first search from one vertex, with a stack of its own.
 ghost use Rattle.std.specs.Prelude.{◌≡◌, ◌+◌, ◌*◌, ◌-◌, ◌<◌, ◌≤◌, true, [], length, IfOk, slice_index, slice_get};
-ghost use Rattle.multigraph.specs.Graph.{edge_count, is_end, IsGraph};
+ghost use Rattle.multigraph.specs.Graph.{edge_count, is_end, IsGraph, IsWithinLimits};
 ghost use Rattle.palm_tree.specs.PalmTree.{IsConnected};
 ghost use Rattle.palm_tree.specs.State.{SearchState, fresh, looked_further, frond_noted, root_noted, child_noted, left};
 ghost use Rattle.palm_tree.specs.Searching.{flag, degree, turns_left, IsSearching, IsLast, IsSeenAt, IsTurned, IsExplored, IsOver};
@@ -159,6 +159,7 @@ impl Search {
     // The edge is seen at `vertex`, the last of the path.
     fn see(&mut self, graph: &Graph, vertex: u32, edge: u32) -> Result<(), AllocError>
         requires graph { IsGraph graph.now }
+        requires limits { IsWithinLimits graph.now }
         requires searching { IsSearching graph.now self.old }
         requires last { IsLast self.old vertex }
         requires edge_in { edge < edge_count graph.now }
@@ -230,6 +231,7 @@ impl Search {
         requires connected { IsConnected graph.now }
         ensures over { IfOk result (λ s. IsOver graph.now s) }
         ensures graph { IsGraph graph.now }
+        ensures limits { IsWithinLimits graph.now }
         ensures cost { steps.new ≤ steps.old + 4 * edge_count graph.now + graph.now.vertex_count }
         ensures rises { steps.old ≤ steps.new }
     {

@@ -1,6 +1,6 @@
 // How many vertices each vertex and its descendants are.
 ghost use Rattle.std.specs.Prelude.{◌≡◌, ◌+◌, ◌<◌, ◌≤◌, ◌^◌, length, drop, IfOk, slice_index, slice_set};
-ghost use Rattle.multigraph.specs.Graph.{IsGraph};
+ghost use Rattle.multigraph.specs.Graph.{IsGraph, IsWithinLimits};
 ghost use Rattle.palm_tree.specs.Searching.{IsOver};
 ghost use Rattle.palm_tree.specs.Growing.{AreSizesSoFar, AreSizes};
 
@@ -24,6 +24,7 @@ fn add_size(sizes: &mut Vec<u32>, vertex: u32, other: u32)
 // Hands the size of the vertex on to its parent, where it has one.
 fn hand_on(sizes: &mut Vec<u32>, graph: &Graph, search: &Search, vertex: u32, place: usize)
     requires graph { IsGraph graph.now }
+    requires limits { IsWithinLimits graph.now }
     requires over { IsOver graph.now search.now }
     requires within { place < length search.now.order }
     requires vertex { vertex ≡ slice_index search.now.order place }

@@ -1,9 +1,9 @@
 -- Three graphs without a plane rotation system, computed: K5, K3,3, and the Petersen graph, which has a subdivision of K3,3.
-use Rattle.std.proofs.Common.{◌≡◌, ℕ, ◌<◌, ◌≤◌, true, false, not, ◌&&◌, ◌==◌, ltb, List, [], ◌∷◌, refl, arith, ltb-true}
+use Rattle.std.proofs.Common.{◌≡◌, ℕ, ◌<◌, ◌≤◌, true, false, not, ◌&&◌, ◌==◌, ltb, List, [], ◌∷◌, refl, ltb-true}
 use Rattle.std.proofs.lemmas.Bool.{and_parts, not-true, not-false, eqb-false}
 use Rattle.permutations.specs.Count.{some}
 use Rattle.permutations.proofs.Search.{some-none}
-use Rattle.multigraph.specs.Graph.{Multigraph, IsGraph, edge_count, ends_of, max_vertices, max_edges}
+use Rattle.multigraph.specs.Graph.{Multigraph, IsGraph, edge_count, ends_of}
 use Rattle.rotations.specs.Rotation.{IsRotationSystem}
 use Rattle.faces.specs.Euler.{IsPlane}
 use Rattle.kuratowski.specs.Subdivision.{branch_count, pattern_edges, IsWritten}
@@ -12,12 +12,9 @@ use Rattle.kuratowski.specs.declared.subdivision.Pattern.TheVariants.{K5, K33}
 use Rattle.kuratowski.proofs.Checked.{checked}
 use Rattle.planarity.proofs.SubdivisionExcludes.{subdivision-excludes}
 
--- a small multigraph whose ends pass this test is a graph
-graph-computed : (g : Multigraph) → g.vertex_count ≤ max_vertices → edge_count g ≤ max_edges
-    → some (edge_count g) (λ e. not ((ltb (ends_of g e).0 g.vertex_count && ltb (ends_of g e).1 g.vertex_count) && not ((ends_of g e).0 == (ends_of g e).1))) ≡ false → IsGraph g
-graph-computed g v m h = record {
-  few_vertices = v;
-  few_edges = m;
+-- a multigraph whose ends pass this test is a graph
+graph-computed : (g : Multigraph) → some (edge_count g) (λ e. not ((ltb (ends_of g e).0 g.vertex_count && ltb (ends_of g e).1 g.vertex_count) && not ((ends_of g e).0 == (ends_of g e).1))) ≡ false → IsGraph g
+graph-computed g h = record {
   first_in = λ e l. ltb-true (ends_of g e).0 g.vertex_count (ranges e l).0;
   second_in = λ e l. ltb-true (ends_of g e).1 g.vertex_count (ranges e l).1;
   no_loop = λ e l. eqb-false (ends_of g e).0 (ends_of g e).1 (not-true ((ends_of g e).0 == (ends_of g e).1) (each e l).1);
@@ -40,13 +37,13 @@ five-written : IsWritten (pattern_graph K5) K5 (0 ∷ 1 ∷ 2 ∷ 3 ∷ 4 ∷ []
 five-written = checked (pattern_graph K5) K5 (0 ∷ 1 ∷ 2 ∷ 3 ∷ 4 ∷ []) ((0 ∷ []) ∷ (1 ∷ []) ∷ (2 ∷ []) ∷ (3 ∷ []) ∷ (4 ∷ []) ∷ (5 ∷ []) ∷ (6 ∷ []) ∷ (7 ∷ []) ∷ (8 ∷ []) ∷ (9 ∷ []) ∷ []) refl refl refl refl refl
 
 five-not_plane : (r : List (List ℕ)) → IsRotationSystem (pattern_graph K5) r → IsPlane (pattern_graph K5) r → ⊥
-five-not_plane r s p = subdivision-excludes (pattern_graph K5) r (graph-computed (pattern_graph K5) (omega arith) (omega arith) refl) s p K5 _ _ five-written.subdivision
+five-not_plane r s p = subdivision-excludes (pattern_graph K5) r (graph-computed (pattern_graph K5) refl) s p K5 _ _ five-written.subdivision
 
 six-written : IsWritten (pattern_graph K33) K33 (0 ∷ 1 ∷ 2 ∷ 3 ∷ 4 ∷ 5 ∷ []) ((0 ∷ []) ∷ (1 ∷ []) ∷ (2 ∷ []) ∷ (3 ∷ []) ∷ (4 ∷ []) ∷ (5 ∷ []) ∷ (6 ∷ []) ∷ (7 ∷ []) ∷ (8 ∷ []) ∷ [])
 six-written = checked (pattern_graph K33) K33 (0 ∷ 1 ∷ 2 ∷ 3 ∷ 4 ∷ 5 ∷ []) ((0 ∷ []) ∷ (1 ∷ []) ∷ (2 ∷ []) ∷ (3 ∷ []) ∷ (4 ∷ []) ∷ (5 ∷ []) ∷ (6 ∷ []) ∷ (7 ∷ []) ∷ (8 ∷ []) ∷ []) refl refl refl refl refl
 
 six-not_plane : (r : List (List ℕ)) → IsRotationSystem (pattern_graph K33) r → IsPlane (pattern_graph K33) r → ⊥
-six-not_plane r s p = subdivision-excludes (pattern_graph K33) r (graph-computed (pattern_graph K33) (omega arith) (omega arith) refl) s p K33 _ _ six-written.subdivision
+six-not_plane r s p = subdivision-excludes (pattern_graph K33) r (graph-computed (pattern_graph K33) refl) s p K33 _ _ six-written.subdivision
 
 -- the Petersen graph: the pentagon 0 1 2 3 4, the star 5 7 9 6 8, and an edge from each vertex of the one to one of the other
 abbrev petersen : Multigraph
@@ -61,4 +58,4 @@ petersen-written : IsWritten petersen K33 (0 ∷ 2 ∷ 8 ∷ 1 ∷ 3 ∷ 5 ∷ [
 petersen-written = checked petersen K33 (0 ∷ 2 ∷ 8 ∷ 1 ∷ 3 ∷ 5 ∷ []) ((0 ∷ []) ∷ (4 ∷ 3 ∷ []) ∷ (5 ∷ []) ∷ (1 ∷ []) ∷ (2 ∷ []) ∷ (7 ∷ 10 ∷ []) ∷ (13 ∷ 6 ∷ []) ∷ (8 ∷ []) ∷ (14 ∷ []) ∷ []) refl refl refl refl refl
 
 petersen-not_plane : (r : List (List ℕ)) → IsRotationSystem petersen r → IsPlane petersen r → ⊥
-petersen-not_plane r s p = subdivision-excludes petersen r (graph-computed petersen (omega arith) (omega arith) refl) s p K33 _ _ petersen-written.subdivision
+petersen-not_plane r s p = subdivision-excludes petersen r (graph-computed petersen refl) s p K33 _ _ petersen-written.subdivision

@@ -7,7 +7,7 @@ use Rattle.permutations.specs.Members.{is_member}
 use Rattle.permutations.specs.Cyclic.{first_or, successor, turned}
 use Rattle.permutations.proofs.Successor.{successor-member, first_or-member}
 use Rattle.permutations.proofs.Turned.{turned-member, turned-distinct, turned-length, turned-permutation, turned-successor, turned-first_or}
-use Rattle.multigraph.specs.Graph.{Multigraph, incident_edges, IsGraph}
+use Rattle.multigraph.specs.Graph.{Multigraph, incident_edges, IsWithinLimits}
 use Rattle.multigraph.proofs.Incident.{incident-rises}
 use Rattle.ring_arena.specs.Links.{Links, AreInverse, AreAlone}
 use Rattle.rotations.specs.Entries.{list_at}
@@ -182,10 +182,10 @@ given-least g entries v e a l m =
     some (x ∷ xs) m = omega arith
 
 -- at the end the rings keep a rotation system
-pub built-rings : (g : Multigraph) (entries : List (ℕ × List ℕ)) (tails : List ℕ) (links : Links) (rings : List Ring) → IsGraph g → AreArranged g entries → AreTails g tails → AreBuilt g entries tails links rings g.vertex_count → AreRings tails links.next links.prev rings
-built-rings g entries tails links rings ok a t r = record {
-  few = omega (arith, t.long, ok.few_edges);
-  few_rings = omega (arith, r.rings_long, ok.few_vertices);
+pub built-rings : (g : Multigraph) (entries : List (ℕ × List ℕ)) (tails : List ℕ) (links : Links) (rings : List Ring) → IsWithinLimits g → AreArranged g entries → AreTails g tails → AreBuilt g entries tails links rings g.vertex_count → AreRings tails links.next links.prev rings
+built-rings g entries tails links rings limits a t r = record {
+  few = omega (arith, t.long, limits.few_edges);
+  few_rings = omega (arith, r.rings_long, limits.few_vertices);
   next_long = r.long;
   prev_long = r.inverse.long ∙ r.long;
   permutes = r.inverse.permutes;

@@ -8,16 +8,13 @@ use Rattle.std.proofs.lemmas.List.{get_or_default, get_or-set_same, get_or-set_o
 use Rattle.permutations.specs.Members.{is_member}
 use Rattle.multigraph.specs.Part.{Rises, IsPlace}
 use Rattle.multigraph.proofs.Places.{rises-once, place-missed}
-use Rattle.multigraph.specs.Graph.{Multigraph, edge_count, max_edges, IsGraph}
+use Rattle.multigraph.specs.Graph.{Multigraph, edge_count, max_edges, IsWithinLimits}
 use Rattle.rotations.specs.Rotation.{order_at}
 use Rattle.faces.proofs.MapLists.{successor-map}
 use Rattle.pair_split.proofs.Links.{stands-in}
 use Rattle.permutations.specs.Cyclic.{successor}
 use Rattle.permutations.proofs.Successor.{successor-member}
 use Rattle.skeletons.proofs.Places.{place-below, place-holds}
-use Rattle.multigraph.specs.Build.{IsFirstFault}
-use Rattle.multigraph.specs.declared.faults.BuildFault.{BuildFault}
-use Rattle.multigraph.specs.declared.faults.BuildFault.TheVariants.{TooManyVertices, TooManyEdges, EndOut, Loop, Memory}
 use Rattle.pair_split.specs.Tutte.{Node, components, node_at, node_item, IsTutte}
 use Rattle.pair_split.specs.declared.components.Item.{Item}
 use Rattle.pair_split.specs.declared.components.What.TheVariants.{Real}
@@ -26,7 +23,7 @@ use Rattle.skeletons.specs.Families.{place_of, skeleton_graph, system_at, AreSke
 use Rattle.skeletons.proofs.NodeItems.{nth_item, node-in, stands-of, item-of, keys-once, item-vertex}
 use Rattle.skeletons.proofs.Places.{round-item, item-round}
 use Rattle.skeleton_runs.proofs.NodeFits.{item-first, item-second}
-use Rattle.skeleton_runs.proofs.SkeletonGraph.{skeleton-graph, graph-edges}
+use Rattle.skeleton_runs.proofs.SkeletonGraph.{skeleton-limits, graph-edges}
 use Rattle.skel_compose.specs.Homes.{home_at, IsHome, HasHomes}
 use Rattle.skel_compose.proofs.Back.{items-rise}
 
@@ -82,28 +79,17 @@ module _ (items : List Item) (key low high mid : ℕ) (r : Rises (map item_key i
     ),
   )
 
--- a graph is built without fault
-pub no-fault : (g : Multigraph) → IsGraph g → (f : BuildFault) → IsFirstFault g f → f ≢ Memory → ⊥
-no-fault g ok (TooManyVertices n) h m = omega (arith, h.0, h.1, ok.few_vertices)
-no-fault g ok (TooManyEdges n) h m = omega (arith, h.0, h.1, ok.few_edges)
-no-fault g ok (EndOut e) h m = elim h.1 [
-  | inl l ↦ omega (arith, l, ok.first_in e h.0.is_edge)
-  | inr l ↦ omega (arith, l, ok.second_in e h.0.is_edge)
-]
-no-fault g ok (Loop e) h m = ok.no_loop e h.0.is_edge h.1.1
-no-fault g ok Memory h m = m refl
-
 -- an item as it is read from its list
 pub is-home : (nodes : List Node) (k i e : ℕ) (items : List Item) → items ≡ (node_at nodes k).items → i < length items → (nth_item items i).what ≡ Real e → IsHome nodes k i e
 is-home nodes k i e items q l w = record { is_item = subst (λ (z : List Item). i < length z) q l; is_edge = sym (ap (λ (z : List Item). (nth_item z i).what) q) ∙ w }
 
 module _ (g : Multigraph) (nodes : List Node) (b : IsBlockTree g nodes) (k : ℕ) (d : k < length nodes) where
   -- the items and the vertices of a node are few
-  pub items-few : length (node_at nodes k).items ≤ max_edges
-  items-few = subst (λ n. n ≤ max_edges) (graph-edges g nodes b k d) (skeleton-graph g nodes b k d).few_edges
+  pub items-few : IsWithinLimits g → length (node_at nodes k).items ≤ max_edges
+  items-few limits = subst (λ n. n ≤ max_edges) (graph-edges g nodes b k d) (skeleton-limits g nodes b k d limits).few_edges
 
-  pub vertices-few : length (node_at nodes k).vertices ≤ 20000
-  vertices-few = (skeleton-graph g nodes b k d).few_vertices
+  pub vertices-few : IsWithinLimits g → length (node_at nodes k).vertices ≤ 20000
+  vertices-few limits = (skeleton-limits g nodes b k d limits).few_vertices
 
   -- the ends of an item are among the vertices
   pub ends-held : (items : List Item) (vertices : List ℕ) (i : ℕ) → items ≡ (node_at nodes k).items → vertices ≡ (node_at nodes k).vertices → i < length items

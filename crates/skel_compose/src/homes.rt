@@ -1,7 +1,7 @@
 // The homes of the edges: of each edge of the block the node and the item that it is.
 
 ghost use Rattle.std.specs.Prelude.{◌≡◌, ◌+◌, ◌<◌, length, replicate, IfOk};
-ghost use Rattle.multigraph.specs.Graph.{edge_count};
+ghost use Rattle.multigraph.specs.Graph.{edge_count, IsWithinLimits};
 ghost use Rattle.skeletons.specs.Items.{IsBlockTree};
 ghost use Rattle.skel_compose.specs.Homes.{HasHomes};
 
@@ -14,6 +14,7 @@ use std::alloc::{AllocError, Global};
 fn put_homes(g: &Graph, tree: &Tree, k: u32, homes: &mut [(u32, u32)])
     requires node { k < length tree.now }
     requires block { IsBlockTree g.now tree.now }
+    requires limits { IsWithinLimits g.now }
     requires before { HasHomes g.now tree.now k 0 homes.old }
     ensures { HasHomes g.now tree.now (k + 1) 0 homes.new }
 {

@@ -2,7 +2,7 @@
 
 ghost use Rattle.std.specs.Prelude.{◌≡◌, ◌<◌, ℕ, true, List, length};
 ghost use Rattle.permutations.specs.Cyclic.{successor};
-ghost use Rattle.multigraph.specs.Graph.{Multigraph, edge_count, is_end};
+ghost use Rattle.multigraph.specs.Graph.{Multigraph, edge_count, is_end, IsWithinLimits};
 ghost use Rattle.rotations.specs.Rotation.{order_at, IsRotationSystem};
 ghost use Rattle.pair_split.specs.Tutte.{node_at, node_item};
 ghost use Rattle.pair_split.specs.declared.components.What.TheVariants.{Link};
@@ -18,7 +18,7 @@ use spqr_tree::Tree;
 
 // The item that follows item i of node k round v, one of its ends.
 fn item_behind(tree: &Tree, members: &[Rotation], k: u32, i: u32, v: u32) -> u32
-    requires block { (g : Multigraph) × IsBlockTree g tree.now }
+    requires block { (g : Multigraph) × IsBlockTree g tree.now × IsWithinLimits g }
     requires systems { AreSkeletonSystems tree.now members.now }
     requires node { k < length tree.now }
     requires item { i < length (node_at tree.now k).items }
@@ -33,7 +33,7 @@ fn item_behind(tree: &Tree, members: &[Rotation], k: u32, i: u32, v: u32) -> u32
 
 // The item of node j that is the link back to node k, where item i of node k is the link to j.
 fn link_back(tree: &Tree, k: u32, i: u32, j: u32) -> u32
-    requires block { (g : Multigraph) × IsBlockTree g tree.now }
+    requires block { (g : Multigraph) × IsBlockTree g tree.now × IsWithinLimits g }
     requires node { k < length tree.now }
     requires item { i < length (node_at tree.now k).items }
     requires link { (node_item tree.now k i).what ≡ Link j }
@@ -55,6 +55,7 @@ pub(crate) fn edge_behind(
     e: u32,
 ) -> u32
     requires block { IsBlockTree g.now tree.now }
+    requires limits { IsWithinLimits g.now }
     requires systems { AreSkeletonSystems tree.now members.now }
     requires homes { HasHomes g.now tree.now (length tree.now) 0 homes.now }
     requires edge { e < edge_count g.now }

@@ -106,6 +106,8 @@ pub fn embed_by_skeletons<E: Embedder>(
     requires { IsBlockTree g t }
     ensures { IfOk result (IsFoundBySkeletons g t) }
 {
+    // A graph is within the limits, and so are the skeletons.
+    let _ = g.vertex_count();
     match members_of(alloc, &t, embedder)? {
         Members::Plane(list) => Ok(BySkeletons::Plane(in_plane(alloc, g, t, &list)?)),
         Members::Not(k, skeleton, s) => Ok(BySkeletons::Not(g, t, k, skeleton, s)),

@@ -1,7 +1,7 @@
 // The rotation systems of the skeletons of which the first plane rotation system of the block is composed.
 
 ghost use Rattle.std.specs.Prelude.{◌≡◌, ◌<◌, length, IfOk};
-ghost use Rattle.multigraph.specs.Graph.{Multigraph};
+ghost use Rattle.multigraph.specs.Graph.{Multigraph, IsWithinLimits};
 ghost use Rattle.skeletons.specs.Items.{IsBlockTree};
 ghost use Rattle.skel_embed.specs.Members.{IsMember, AreMembers};
 
@@ -37,7 +37,7 @@ fn member_of<E: Embedder>(
     embedder: &mut E,
 ) -> Result<Member, AllocError>
     requires node { k < length tree.now }
-    requires block { (g : Multigraph) × IsBlockTree g tree.now }
+    requires block { (g : Multigraph) × IsBlockTree g tree.now × IsWithinLimits g }
     ensures { IfOk result (IsMember tree.now k) }
 {
     let graph = skeleton(alloc, tree, k)?;
@@ -56,7 +56,7 @@ pub(crate) fn members_of<E: Embedder>(
     tree: &Tree,
     embedder: &mut E,
 ) -> Result<Members, AllocError>
-    requires block { (g : Multigraph) × IsBlockTree g tree.now }
+    requires block { (g : Multigraph) × IsBlockTree g tree.now × IsWithinLimits g }
     ensures { IfOk result (AreMembers tree.now) }
 {
     let mut list = Vec::new(alloc);

@@ -8,7 +8,7 @@ use Rattle.permutations.proofs.Count.{count-subset}
 use Rattle.permutations.proofs.Members.{member-cases, no_member-cons, no_member-head, no_member-tail, distinct-cons}
 use Rattle.permutations.proofs.Arrangements.{contains-from_member, member-at, all-member, count-list}
 use Rattle.permutations.proofs.Relation.{connected-link, connected-reflexive, connected-symmetric, connected-transitive, connected-least-typed}
-use Rattle.multigraph.specs.Graph.{Multigraph, edge_count, ends_of, IsGraph}
+use Rattle.multigraph.specs.Graph.{Multigraph, edge_count, ends_of, IsGraph, IsWithinLimits}
 use Rattle.multigraph.specs.Part.{Rises}
 use Rattle.multigraph.proofs.Places.{rises-once, rises-short}
 use Rattle.graph_theory.specs.Triconnected.{avoids, ends_without, IsConnectedWithout, AreParallel, IsSimple, IsTriconnected}
@@ -105,20 +105,25 @@ module _ (g : Multigraph) (nodes : List Node) (b : IsBlockTree g nodes) (k : ℕ
   -- it is a graph
   pub skeleton-graph : IsGraph (skeleton_graph nodes k)
   skeleton-graph = record {
-    few_vertices = omega (arith, b.graph.few_vertices, rises-short vertices g.vertex_count rise (λ i m. vertex-fits g nodes tree b.graph k (get_or vertices i 0) (member-at vertices i 0 m)));
+    first_in = λ e m. subst (λ (z : ℕ × ℕ). z.0 < length vertices) (sym (graph-ends e (edge-item e m))) (place-below vertices (node_item nodes k e).a (item-first g nodes tree k e l (edge-item e m)));
+    second_in = λ e m. subst (λ (z : ℕ × ℕ). z.1 < length vertices) (sym (graph-ends e (edge-item e m))) (place-below vertices (node_item nodes k e).b (item-second g nodes tree k e l (edge-item e m)));
+    no_loop = λ e m. subst (λ (z : ℕ × ℕ). z.0 ≢ z.1) (sym (graph-ends e (edge-item e m))) (λ q.
+        omega (arith, tree.in_order.ends_rise k e (edge-item e m), place-once vertices (node_item nodes k e).a (node_item nodes k e).b (item-first g nodes tree k e l (edge-item e m)) (item-second g nodes tree k e l (edge-item e m)) q));
+  }
+
+  -- and no larger than the block
+  pub skeleton-limits : IsWithinLimits g → IsWithinLimits (skeleton_graph nodes k)
+  skeleton-limits limits = record {
+    few_vertices = omega (arith, limits.few_vertices, rises-short vertices g.vertex_count rise (λ i m. vertex-fits g nodes tree b.graph k (get_or vertices i 0) (member-at vertices i 0 m)));
     few_edges = omega (
       arith,
-      b.graph.few_edges,
+      limits.few_edges,
       graph-edges,
       keys-number,
       rises-short (node_keys nodes k) (edge_count g) (tree.in_order.keys_rise k l) (λ i m.
           let here : i < length items = subst (λ z. i < z) keys-number m in
           subst (λ z. z < edge_count g) (sym (get_or-map item_key items i (record { key = 0; a = 0; b = 0; what = Real 0 }) 0 here)) (key-fits g nodes tree k i here)),
     );
-    first_in = λ e m. subst (λ (z : ℕ × ℕ). z.0 < length vertices) (sym (graph-ends e (edge-item e m))) (place-below vertices (node_item nodes k e).a (item-first g nodes tree k e l (edge-item e m)));
-    second_in = λ e m. subst (λ (z : ℕ × ℕ). z.1 < length vertices) (sym (graph-ends e (edge-item e m))) (place-below vertices (node_item nodes k e).b (item-second g nodes tree k e l (edge-item e m)));
-    no_loop = λ e m. subst (λ (z : ℕ × ℕ). z.0 ≢ z.1) (sym (graph-ends e (edge-item e m))) (λ q.
-        omega (arith, tree.in_order.ends_rise k e (edge-item e m), place-once vertices (node_item nodes k e).a (node_item nodes k e).b (item-first g nodes tree k e l (edge-item e m)) (item-second g nodes tree k e l (edge-item e m)) q));
   }
 
   -- the edge at a place of the skeleton as pairs

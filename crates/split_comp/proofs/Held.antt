@@ -123,9 +123,9 @@ module _ (g : Multigraph) (t : NumberedTree) (numbered : IsNumbered g t) (s : Pa
       is_prime = subst (λ (l : List Entry). IsPrime (own ∷ l)) side-items (minimal-prime (drawn_family g t.vertex s.items rest) side own sep-drawn drawn-tight
           (renamed-minimal n vertex apart f K (λ x c. drawn-name x) held.ends side (least-minimal s.items rest side cut.off least)));
       two = omega (arith, side-length, sep.two_inside);
-      few = omega (arith, held.few, numbered.graph.few_edges);
+      few = omega (arith, held.few, numbered.limits.few_edges);
       total = omega (arith, side-length, held.total, length-sides K side);
-      fits = omega (arith, held.few, numbered.graph.few_edges);
+      fits = omega (arith, held.few, numbered.limits.few_edges);
     }
 
     -- two entries or more went

@@ -491,7 +491,7 @@ module _ (g : Multigraph) (t : NumberedTree) (numbered : IsNumbered g t) (w : �
               none-here u = none (length (drop (at_place s.base w) now) + k) (omega (arith, l, ap length split-c, length-append (drop (at_place s.base w) now) d.popped)) (ap (λ (c : List Triple). (cut c (length (drop (at_place s.base w) now) + k)).up) split-c ∙ u)
 
           few : length s.items < 4294967295
-          few = omega (arith, b.raised.held.few, b.raised.held.total, family-length, numbered.graph.few_edges)
+          few = omega (arith, b.raised.held.few, b.raised.held.total, family-length, numbered.limits.few_edges)
 
       not-met : (k : ℕ) → k < length (drop (at_place s.base w) now) → IsBefore s.items (cut (drop (at_place s.base w) now) k).start s.at → ⊥
       not-met k l m =

@@ -40,7 +40,7 @@ module _ (g : Multigraph) (t : NumberedTree) (numbered : IsNumbered g t) (w : â„
   h-here = omega (arith, b.raised.atop.size)
 
   h-few : b.raised.height < 4294967295
-  h-few = omega (arith, b.raised.held.few, b.raised.held.total, length-append (entries s.items) b.raised.rest, length-map s.items entry, h-here, numbered.graph.few_edges)
+  h-few = omega (arith, b.raised.held.few, b.raised.held.total, length-append (entries s.items) b.raised.rest, length-map s.items entry, h-here, numbered.limits.few_edges)
     where
       entries : List Item â†’ List Entry
       entries l = map entry l

@@ -1,7 +1,7 @@
 -- The components that the pass leaves are those of the block.
 use Rattle.std.proofs.Common.{◌≡◌, ◌≢◌, ℕ, suc, ◌+◌, ◌*◌, ◌^◌, ◌<◌, ◌≤◌, List, [], ◌∷◌, ◌++◌, length, map, replicate, refl, sym, ap, ◌∙◌, subst, arith}
 use Rattle.std.proofs.lemmas.List.{length-map, append-nil, length-append, map_push}
-use Rattle.multigraph.specs.Graph.{Multigraph, edge_count, ends_of, IsGraph, numbers_below}
+use Rattle.multigraph.specs.Graph.{Multigraph, edge_count, ends_of, IsGraph, IsWithinLimits, numbers_below}
 use Rattle.multigraph.proofs.Below.{length-numbers_below}
 use Rattle.graph_theory.specs.Block.{IsOneBlock}
 use Rattle.palm_tree.specs.PalmTree.{IsPalmTree}
@@ -30,9 +30,9 @@ use Rattle.split_comp.proofs.Palm.{palm-facts, palm-drawn}
 use Rattle.split_comp.proofs.Beginning.{begin-pass, begin-turns}
 
 -- the start of the pass
-module _ (g : Multigraph) (graph : IsGraph g) (block : IsOneBlock g) (large : 3 ≤ edge_count g) (t : NumberedTree) (tree : IsPalmTree g t.palm) (vertices : AreVertices g.vertex_count t.palm t.vertex) where
+module _ (g : Multigraph) (graph : IsGraph g) (limits : IsWithinLimits g) (block : IsOneBlock g) (large : 3 ≤ edge_count g) (t : NumberedTree) (tree : IsPalmTree g t.palm) (vertices : AreVertices g.vertex_count t.palm t.vertex) where
   pub is-numbered : IsNumbered g t
-  is-numbered = record { graph = graph; block = block; large = large; palm = tree; vertices = vertices }
+  is-numbered = record { graph = graph; limits = limits; block = block; large = large; palm = tree; vertices = vertices }
 
   palm : IsPalm g.vertex_count (edge_count g) (tree_parent t.palm t.vertex) (tree_degree t.palm t.vertex) (tree_dart g t.palm t.vertex)
   palm = palm-facts g t.palm t.vertex graph block tree (omega (arith, large)) vertices
@@ -81,7 +81,7 @@ module _ (g : Multigraph) (t : NumberedTree) (numbered : IsNumbered g t) (s : Pa
       entries l = map entry l
 
   pub left-few : edge_count g + length s.parts < 2 ^ 32
-  left-few = omega (arith, p.held.few, numbered.graph.few_edges)
+  left-few = omega (arith, p.held.few, numbered.limits.few_edges)
 
   -- what it takes to write them out
   pub left-cost : 2 * (length s.parts + entry_total s.parts + length edges) ≤ 6 * edge_count g

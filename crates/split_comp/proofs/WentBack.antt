@@ -43,7 +43,7 @@ module _ (g : Multigraph) (t : NumberedTree) (numbered : IsNumbered g t) (s : Pa
     back-left = subst (λ (y : ℕ). at_place s.gone y < tree_degree t.palm t.vertex y) (sym up) (parent-dart g t s p not-root)
 
     pub back-fits : at_place s.gone v + 1 < 18446744073709551616
-    back-fits = omega (arith, back-left, degree-few g t numbered v back-within, numbered.graph.few_edges)
+    back-fits = omega (arith, back-left, degree-few g t numbered v back-within, numbered.limits.few_edges)
 
     pub come-turned : (new : PassState) → IsCome v s new → IsTurned g t s new
     come-turned new c = back-turned g t s p all not-root new (subst (λ (y : ℕ). IsCome y s new) up c)

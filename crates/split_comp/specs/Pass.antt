@@ -1,6 +1,6 @@
 -- The state of the pass along a palm tree, and what holds of it.
 use Rattle.std.specs.Prelude.{◌≡◌, ◌≢◌, ℕ, ◌+◌, ◌*◌, ◌-◌, ◌<◌, ◌≤◌, ◌⊎◌, Bool, true, false, if◌then◌else◌, nat_lt, List, [], ◌∷◌, ◌++◌, length, map, filter, take, drop, slice_index, slice_set, Contains, Option, None, Some, not, ◌&&◌}
-use Rattle.multigraph.specs.Graph.{Multigraph, edge_count, IsGraph}
+use Rattle.multigraph.specs.Graph.{Multigraph, edge_count, IsGraph, IsWithinLimits}
 use Rattle.graph_theory.specs.Block.{IsOneBlock}
 use Rattle.palm_tree.specs.PalmTree.{PalmTreeLists, IsPalmTree}
 use Rattle.pair_split.specs.Family.{Entry, IsFamily, IsPrime}
@@ -29,9 +29,10 @@ pub record NumberedTree : Type 0 where
   pub palm : PalmTreeLists
   pub vertex : List ℕ
 
--- it is one of a block of three edges or more
+-- it is one of a block of three edges or more, within the limits
 pub record IsNumbered (g : Multigraph) (t : NumberedTree) : Type 0 where
   pub graph : IsGraph g
+  pub limits : IsWithinLimits g
   pub block : IsOneBlock g
   pub large : 3 ≤ edge_count g
   pub palm : IsPalmTree g t.palm

@@ -88,4 +88,4 @@ only-summary words sources (Err refusal) n seed e d = absurd (making-not_refused
 
 -- the graph is one block with a plane rotation system
 pub asked-planar : AskedIsPlanarBlock
-asked-planar words n seed e = let r : (6 ≤ n) × (n ≤ 20000) = make-range words n seed e in made-planar n seed r.0 r.1
+asked-planar words n seed e = let r : (6 ≤ n) × (n ≤ 20000) = make-range words n seed e in made-planar n seed r.0

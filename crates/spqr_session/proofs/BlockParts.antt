@@ -148,7 +148,7 @@ module _ (g : Multigraph) (edges : List ℕ) (part : GraphPart) (h : IsPart g ed
         let within : (e : ℕ) → is_member e c.along ≡ true → is_member e edges ≡ true = λ e m.
         closed (slice_index edges i) e (member-at edges i 0 li) (walk-edge g c.start c.along c.cycle.walk e m) (inr (record { start = c.start; along = c.along; cycle = c.cycle; first_on = c.first_on; second_on = m })) in
         let first = first-edge g c.start c.along c.cycle.two c.cycle.walk in
-        let v : Contains part.vertices c.start = (h.vertices c.start).1 (record { edge = first.0; among = contains-from_member edges first.0 (within first.0 first.1); ends_there = first.2 }) in
+        let v : Contains part.vertices c.start = (h.vertices c.start).1 (record { edge = first.0; among = contains-from_member edges first.0 (within first.0 first.1); is_edge = walk-edge g c.start c.along c.cycle.walk first.0 first.1; ends_there = first.2 }) in
         let at : outer v.0 ≡ c.start = get_or_default part.vertices v.0 0 c.start v.1 ∙ v.2 in
         inr (inner-cycle v.0 i j c.along v.1 li lj (subst (λ (z : ℕ). IsCycle g z c.along) (sym at) c.cycle) within c.first_on c.second_on)
   ]

@@ -7,7 +7,7 @@ use Rattle.block_obstruct.proofs.ItemRoutes.{vertices-few, member-of}
 use Rattle.block_obstruct.proofs.node_graph.ends_of_items.Goals as goal
 
 pub place_of-requires-clause-few : goal.place_of-requires-clause-few
-place_of-requires-clause-few c = subst (λ (z : List ℕ). length z < 2 ^ 32) (sym c.vertices-vertices.ensures) (vertices-few c.requires.block.0 c.args.tree.now c.requires.block.1 c.args.k c.requires.node)
+place_of-requires-clause-few c = subst (λ (z : List ℕ). length z < 2 ^ 32) (sym c.vertices-vertices.ensures) (vertices-few c.requires.block.0 c.args.tree.now c.requires.block.1 c.args.k c.requires.node c.requires.block.2)
 
 pub place_of-requires-clause-held : goal.place_of-requires-clause-held
 place_of-requires-clause-held c =
@@ -19,7 +19,7 @@ place_of-requires-clause-held c =
     (item-first g nodes c.requires.block.1.tree c.args.k i c.requires.node l)
 
 pub place_of-requires-in-loop-item-clause-few : goal.place_of-requires-in-loop-item-clause-few
-place_of-requires-in-loop-item-clause-few c = subst (λ (z : List ℕ). length z < 2 ^ 32) (sym c.vertices-vertices.ensures) (vertices-few c.requires.block.0 c.args.tree.now c.requires.block.1 c.args.k c.requires.node)
+place_of-requires-in-loop-item-clause-few c = subst (λ (z : List ℕ). length z < 2 ^ 32) (sym c.vertices-vertices.ensures) (vertices-few c.requires.block.0 c.args.tree.now c.requires.block.1 c.args.k c.requires.node c.requires.block.2)
 
 pub place_of-requires-in-loop-item-clause-held : goal.place_of-requires-in-loop-item-clause-held
 place_of-requires-in-loop-item-clause-held c =
@@ -31,4 +31,4 @@ place_of-requires-in-loop-item-clause-held c =
     (item-second g nodes c.requires.block.1.tree c.args.k i c.requires.node l)
 
 pub returns-clause-few : goal.returns-clause-few
-returns-clause-few c = vertices-few c.requires.block.0 c.args.tree.now c.requires.block.1 c.args.k c.requires.node
+returns-clause-few c = vertices-few c.requires.block.0 c.args.tree.now c.requires.block.1 c.args.k c.requires.node c.requires.block.2

@@ -10,7 +10,7 @@ use Rattle.blocks.proofs.structure.split.Goals as goal
 pub places_of-requires-clause-few : goal.places_of-requires-clause-few
 places_of-requires-clause-few c =
     subst (λ (z : List ℕ). length z < 2147483648) (sym c.deref.ensures.value)
-    (numbers-few c.args.graph.now c.in_ok-search.ensures.graph c.in_ok-numbers.numbers.items c.in_ok-numbers.blocks (c.in_ok-numbers.ensures {u = tt}))
+    (numbers-few c.args.graph.now c.in_ok-search.ensures.limits c.in_ok-numbers.numbers.items c.in_ok-numbers.blocks (c.in_ok-numbers.ensures {u = tt}))
 
 pub places_of-requires-clause-within : goal.places_of-requires-clause-within
 places_of-requires-clause-within c =

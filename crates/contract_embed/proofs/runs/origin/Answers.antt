@@ -16,12 +16,12 @@ edge-in level k d e l q =
 
 pub overflow_mul-result : goal.overflow_mul-result
 overflow_mul-result c =
-    let h : 2 * c.index.result.now ≤ 100000 = omega (arith, edge-in c.args.level.now c.requires.level c.args.dart c.index.result.now c.requires.dart c.index.ensures, c.requires.level.graph.few_edges) in
+    let h : 2 * c.index.result.now ≤ 100000 = omega (arith, edge-in c.args.level.now c.requires.level c.args.dart c.index.result.now c.requires.dart c.index.ensures, c.requires.level.limits.few_edges) in
     Fits-le h (Fits-lit tt)
 
 pub overflow_add-result : goal.overflow_add-result
 overflow_add-result c =
-    let h : 2 * c.index.result.now + c.args.dart % 2 ≤ 100001 = omega (arith, edge-in c.args.level.now c.requires.level c.args.dart c.index.result.now c.requires.dart c.index.ensures, c.requires.level.graph.few_edges) in
+    let h : 2 * c.index.result.now + c.args.dart % 2 ≤ 100001 = omega (arith, edge-in c.args.level.now c.requires.level c.args.dart c.index.result.now c.requires.dart c.index.ensures, c.requires.level.limits.few_edges) in
     Fits-le h (Fits-lit tt)
 
 pub returns-clause-within : goal.returns-clause-within

@@ -4,12 +4,12 @@ use Rattle.kuratowski.specs.declared.subdivision.Pattern.TheVariants.{K5}
 use Rattle.kuratowski.specs.Subdivision.{IsSubdivision}
 use Rattle.contract_obstruct.specs.Crossing.{AreEdges}
 use Rattle.contract_obstruct.specs.Triple.{triple_branch, triple_paths}
-use Rattle.contractions.proofs.LevelFacts.{level-graph}
+use Rattle.contractions.proofs.LevelFacts.{level-limits}
 use Rattle.contract_obstruct.proofs.Tripled.{among_a, among_b, among_c, edges_of, triple-found}
 use Rattle.contract_obstruct.proofs.triple.triple.Goals as goal
 
 pub triple_from-requires-clause-few : goal.triple_from-requires-clause-few
-triple_from-requires-clause-few c = omega (arith, c.requires.steps.are_steps.each, (level-graph c.args.level.now c.requires.level).few_edges)
+triple_from-requires-clause-few c = omega (arith, c.requires.steps.are_steps.each, (level-limits c.args.level.now c.requires.level).few_edges)
 
 pub triple_from-requires-clause-third : goal.triple_from-requires-clause-third
 triple_from-requires-clause-third c =

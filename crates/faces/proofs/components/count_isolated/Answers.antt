@@ -7,5 +7,5 @@ use Rattle.faces.proofs.components.count_isolated.Goals as goal
 pub overflow_add-isolated : goal.overflow_add-isolated
 overflow_add-isolated c =
     let few = count-within c.loop-vertex.vertex (is_isolated c.args.graph.now) in
-    let limit = c.vertex_count-vertex-end.ensures.graph.few_vertices in
+    let limit = c.vertex_count-vertex-end.ensures.limits.few_vertices in
     omega arith

@@ -11,7 +11,7 @@ count_orbits-requires-clause-permutation c =
 
 pub count_orbits-requires-clause-few : goal.count_orbits-requires-clause-few
 count_orbits-requires-clause-few c =
-    let few = c.requires.graph.few_edges in
+    let few = c.requires.limits.few_edges in
     let long : length c.deref.result.now ≡ 2 * edge_count c.args.g.now = ap length c.deref.ensures.value ∙ c.in_ok-steps.ensures.darts in
     omega arith
 
@@ -19,7 +19,7 @@ pub overflow_add-result : goal.overflow_add-result
 overflow_add-result c =
     let steps = subst (AreFaceSteps c.args.g.now c.args.r.now) (sym c.deref.ensures.value) c.in_ok-steps.ensures in
     let faces = steps-faces c.args.g.now c.args.r.now c.deref.result.now c.requires.graph c.requires.system steps in
-    let few = faces-few c.args.g.now c.args.r.now c.requires.graph in
+    let few = faces-few c.args.g.now c.args.r.now c.requires.limits in
     omega arith
 
 pub returns : goal.returns

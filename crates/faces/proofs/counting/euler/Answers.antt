@@ -12,17 +12,17 @@ plane_test a b sum other e h = (λ t. sym e ∙ eqb-true a b t ∙ h, λ p. eq-e
 
 pub overflow_add-plane : goal.overflow_add-plane
 overflow_add-plane c =
-    let few = faces-few c.args.g.now c.args.r.now c.vertex_count-v.ensures.graph in
+    let few = faces-few c.args.g.now c.args.r.now c.vertex_count-v.ensures.limits in
     omega arith
 
 pub overflow_mul-plane : goal.overflow_mul-plane
 overflow_mul-plane c =
-    let few = components-few c.args.g.now c.vertex_count-v.ensures.graph in
+    let few = components-few c.args.g.now c.vertex_count-v.ensures.limits in
     omega arith
 
 pub overflow_add-plane-2 : goal.overflow_add-plane-2
 overflow_add-plane-2 c =
-    let few = components-few c.args.g.now c.vertex_count-v.ensures.graph in
+    let few = components-few c.args.g.now c.vertex_count-v.ensures.limits in
     omega arith
 
 pub returns-clause-plane : goal.returns-clause-plane

@@ -23,7 +23,7 @@ list_orbits-requires-clause-permutation c =
 pub of-requires : goal.of-requires
 of-requires c =
     let images = c.deref.result.now in
-    let few : length (orbit_lists c.args.g.now (slice_index images)) ≤ 100000 = lists-few c.args.g.now (slice_index images) c.darts_in_order.ensures.graph in
+    let few : length (orbit_lists c.args.g.now (slice_index images)) ≤ 100000 = lists-few c.args.g.now (slice_index images) c.darts_in_order.ensures.graph c.darts_in_order.ensures.limits in
     rw c.in_ok-faces.ensures few
 
 pub returns : goal.returns

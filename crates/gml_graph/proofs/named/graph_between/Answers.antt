@@ -4,14 +4,20 @@ use Rattle.std.proofs.lemmas.List.{length-map}
 use Rattle.multigraph.specs.Graph.{max_vertices, max_edges}
 use Rattle.gml_text.specs.Document.{Document}
 use Rattle.gml_graph.proofs.Each.{each_below-length}
-use Rattle.gml_graph.proofs.Sound.{edge_ends-graph}
+use Rattle.gml_graph.proofs.Sound.{edge_ends-graph, edge_ends-limits}
 use Rattle.gml_graph.specs.Answer.{node_id}
 use Rattle.gml_graph.proofs.named.graph_between.Goals as goal
 
-pub build-requires : goal.build-requires
-build-requires c =
+pub of_ends-requires-clause-graph : goal.of_ends-requires-clause-graph
+of_ends-requires-clause-graph c =
+    let edges : List Document = map (λ edge. edge.now) c.args.edges.now in
+    rw c.len.ensures (edge_ends-graph c.in_ok-ids.ids edges c.in_ok-ends.ends.items c.in_ok-ends.ensures)
+
+-- within the limits, as there are not too many nodes and edges
+pub of_ends-requires-clause-limits : goal.of_ends-requires-clause-limits
+of_ends-requires-clause-limits c =
     let nodes : List Document = map (λ node. node.now) c.args.nodes.now in
     let edges : List Document = map (λ edge. edge.now) c.args.edges.now in
     let few : length c.in_ok-ids.ids ≤ max_vertices = omega (arith, each_below-length (node_id nodes) (length nodes) c.in_ok-ids.ids c.in_ok-ids.ensures, length-map c.args.nodes.now (λ node. node.now), c.if-nodes-gt-MAX_VERTICES.false) in
     let many : length edges ≤ max_edges = omega (arith, length-map c.args.edges.now (λ edge. edge.now), c.if-edges-gt-MAX_EDGES.false) in
-    rw (c.len.ensures, c.as_slice.ensures.value) (edge_ends-graph c.in_ok-ids.ids edges c.in_ok-ends.ends.items few many c.in_ok-ends.ensures)
+    rw c.len.ensures (edge_ends-limits c.in_ok-ids.ids edges c.in_ok-ends.ends.items few many c.in_ok-ends.ensures)

@@ -1,9 +1,8 @@
 use Rattle.std.proofs.Common.{◌≡◌, ◌<◌, ◌≤◌, length, sym, ap, ◌∙◌, subst, arith, IfOk}
 use Rattle.std.proofs.lemmas.Grind.{common_steps}
-use Rattle.multigraph.specs.Graph.{IsGraph}
 use Rattle.multigraph.specs.Build.{multigraph_of}
 use Rattle.made_graph.specs.Made.{drawn, edge_drawn}
-use Rattle.made_graph.proofs.Turns.{making-step, making-over, making-graph}
+use Rattle.made_graph.proofs.Turns.{making-step, making-over, making-graph, making-limits}
 use Rattle.made_graph.proofs.making.make_graph.Goals as goal
 
 pub loop-first-preserved : goal.loop-first-preserved
@@ -13,14 +12,17 @@ loop-first-preserved c =
     making-step c.args.n c.args.seed (multigraph_of c.loop-first.vertices c.loop-first.ends.items) (multigraph_of c.in_ok-vertices.vertices c.grow.new.ends.items) c.loop-first.x
     c.edge_drawn-edge.result c.operation_drawn.result c.drawn-x.result less (c.drawn-x.ensures ∙ ap drawn c.drawn-first.ensures) edge c.operation_drawn.ensures c.in_ok-vertices.ensures c.loop-first.invariant
 
-pub build-requires : goal.build-requires
-build-requires c =
+pub of_ends-requires-clause-graph : goal.of_ends-requires-clause-graph
+of_ends-requires-clause-graph c =
     let reach : c.args.n ≤ length c.loop-first.ends.items = grind (arith, common_steps) in
-    subst (λ l. IsGraph (multigraph_of c.loop-first.vertices l)) (sym c.deref.ensures.value)
-    (making-graph c.args.n c.args.seed (multigraph_of c.loop-first.vertices c.loop-first.ends.items) c.loop-first.x c.requires.least c.requires.most reach c.loop-first.invariant)
+    making-graph c.args.n c.args.seed (multigraph_of c.loop-first.vertices c.loop-first.ends.items) c.loop-first.x c.requires.least reach c.loop-first.invariant
+
+pub of_ends-requires-clause-limits : goal.of_ends-requires-clause-limits
+of_ends-requires-clause-limits c =
+    making-limits c.args.n c.args.seed (multigraph_of c.loop-first.vertices c.loop-first.ends.items) c.loop-first.x c.requires.most c.loop-first.invariant
 
 pub returns : goal.returns
 returns c =
     let reach : c.args.n ≤ length c.loop-first.ends.items = grind (arith, common_steps) in
-    subst (λ h. IfOk c.build.result (λ graph. graph ≡ h)) (ap (multigraph_of c.loop-first.vertices) c.deref.ensures.value
-    ∙ sym (making-over c.args.n c.args.seed (multigraph_of c.loop-first.vertices c.loop-first.ends.items) c.loop-first.x reach c.loop-first.invariant)) c.build.ensures
+    subst (λ h. IfOk c.of_ends.result (λ graph. graph ≡ h))
+    (sym (making-over c.args.n c.args.seed (multigraph_of c.loop-first.vertices c.loop-first.ends.items) c.loop-first.x reach c.loop-first.invariant)) c.of_ends.ensures

@@ -12,26 +12,26 @@ use Rattle.made_summary.specs.Summary.{IsSummary}
 use Rattle.made_summary.proofs.summing.summary.Goals as goal
 
 pub split-requires : goal.split-requires
-split-requires g c = subst IsOneBlock (sym c.in_ok-graph.ensures) (made-planar c.args.n c.args.seed c.requires.least c.requires.most).one_block
+split-requires g c = subst IsOneBlock (sym c.in_ok-graph.ensures) (made-planar c.args.n c.args.seed c.requires.least).one_block
 
 pub assemble-requires-clause-block : goal.assemble-requires-clause-block
-assemble-requires-clause-block g c = subst IsOneBlock (sym c.in_ok-graph.ensures) (made-planar c.args.n c.args.seed c.requires.least c.requires.most).one_block
+assemble-requires-clause-block g c = subst IsOneBlock (sym c.in_ok-graph.ensures) (made-planar c.args.n c.args.seed c.requires.least).one_block
 
 pub plane_block-requires : goal.plane_block-requires
 plane_block-requires g c =
     let made_is = sym c.in_ok-graph.ensures in
-    let planar = made-planar c.args.n c.args.seed c.requires.least c.requires.most in
+    let planar = made-planar c.args.n c.args.seed c.requires.least in
     record { graph = subst IsGraph made_is planar.is_graph; block = subst IsOneBlock made_is planar.one_block; tree = c.in_ok-tree.ensures }
 
 pub summary_of-requires-clause-fork : goal.summary_of-requires-clause-fork
 summary_of-requires-clause-fork g c =
     let outcome = subst (IsOutcome c.in_ok-graph.graph c.in_ok-tree.tree) c.in-Plane.is c.in_ok-block.ensures in
-    subst HasFork (sym (outcome.0 ∙ c.in_ok-graph.ensures)) (made-fork c.args.n c.args.seed c.requires.least c.requires.most)
+    subst HasFork (sym (outcome.0 ∙ c.in_ok-graph.ensures)) (made-fork c.args.n c.args.seed c.requires.least)
 
 pub unreachable-requires : goal.unreachable-requires
 unreachable-requires g c =
     let s = c.in-Not.field-2 in
-    let planar = made-planar c.args.n c.args.seed c.requires.least c.requires.most in
+    let planar = made-planar c.args.n c.args.seed c.requires.least in
     let outcome = subst (IsOutcome c.in_ok-graph.graph c.in_ok-tree.tree) c.in-Not.is c.in_ok-block.ensures in
     let written = subst (λ h. IsWritten h s.kind s.branch s.paths) c.in_ok-graph.ensures outcome.2 in
     subdivision-excludes (made c.args.n c.args.seed) planar.system planar.is_graph planar.is_system planar.plane s.kind s.branch s.paths written.subdivision

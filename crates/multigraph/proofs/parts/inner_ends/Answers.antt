@@ -7,12 +7,12 @@ use Rattle.multigraph.proofs.parts.inner_ends.Goals as goal
 pub place_of-requires-clause-held : goal.place_of-requires-clause-held
 place_of-requires-clause-held c =
     subst (λ (x : ℕ × ℕ). Contains c.args.vertices.now x.0) (sym c.ends-first.ensures.value)
-    (ends-first c.args.graph.now c.args.edges.now c.args.vertices.now c.loop-edge.edge-index c.requires.held c.loop-edge-test.true)
+    (ends-first c.args.graph.now c.args.edges.now c.args.vertices.now c.loop-edge.edge-index c.requires.held c.loop-edge-test.true (c.requires.within c.loop-edge.edge-index c.loop-edge-test.true))
 
 pub place_of-requires-in-loop-edge-clause-held : goal.place_of-requires-in-loop-edge-clause-held
 place_of-requires-in-loop-edge-clause-held c =
     subst (λ (x : ℕ × ℕ). Contains c.args.vertices.now x.1) (sym c.ends-first.ensures.value)
-    (ends-second c.args.graph.now c.args.edges.now c.args.vertices.now c.loop-edge.edge-index c.requires.held c.loop-edge-test.true)
+    (ends-second c.args.graph.now c.args.edges.now c.args.vertices.now c.loop-edge.edge-index c.requires.held c.loop-edge-test.true (c.requires.within c.loop-edge.edge-index c.loop-edge-test.true))
 
 -- the places of the ends of this edge stand behind the others
 pub loop-edge-preserved : goal.loop-edge-preserved

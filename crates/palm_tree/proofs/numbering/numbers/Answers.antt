@@ -11,7 +11,7 @@ give_number-requires-clause-number_within g c =
     let q : c.order-vertex-items.result.now ≡ c.args.search.now.order = c.order-vertex-items.ensures in
     let l : c.loop-vertex.vertex-index < length c.args.search.now.order = omega (arith, c.loop-vertex-test.true, ap (length {A = ℕ}) q) in
     let e : get_or c.order-vertex-items.result.now c.loop-vertex.vertex-index 0 ≡ get_or c.args.search.now.order c.loop-vertex.vertex-index 0 = ap (λ (z : List ℕ). get_or z c.loop-vertex.vertex-index 0) q in
-    let w = number-can c.args.graph.now c.requires.graph c.args.search.now c.requires.over c.args.sizes.now c.args.offset.now c.requires.sizes c.requires.room c.loop-vertex.vertex-index (get_or c.order-vertex-items.result.now c.loop-vertex.vertex-index 0) c.loop-vertex.number.items l e c.loop-vertex.invariant.0 in
+    let w = number-can c.args.graph.now c.requires.graph c.args.search.now c.requires.over c.args.sizes.now c.args.offset.now c.requires.sizes c.requires.room c.vertex_count.ensures.limits c.loop-vertex.vertex-index (get_or c.order-vertex-items.result.now c.loop-vertex.vertex-index 0) c.loop-vertex.number.items l e c.loop-vertex.invariant.0 in
     omega (arith, w.0, c.loop-vertex.invariant.0.places)
 
 pub give_number-requires-clause-offset_within : goal.give_number-requires-clause-offset_within
@@ -19,7 +19,7 @@ give_number-requires-clause-offset_within g c =
     let q : c.order-vertex-items.result.now ≡ c.args.search.now.order = c.order-vertex-items.ensures in
     let l : c.loop-vertex.vertex-index < length c.args.search.now.order = omega (arith, c.loop-vertex-test.true, ap (length {A = ℕ}) q) in
     let e : get_or c.order-vertex-items.result.now c.loop-vertex.vertex-index 0 ≡ get_or c.args.search.now.order c.loop-vertex.vertex-index 0 = ap (λ (z : List ℕ). get_or z c.loop-vertex.vertex-index 0) q in
-    let w = number-can c.args.graph.now c.requires.graph c.args.search.now c.requires.over c.args.sizes.now c.args.offset.now c.requires.sizes c.requires.room c.loop-vertex.vertex-index (get_or c.order-vertex-items.result.now c.loop-vertex.vertex-index 0) c.loop-vertex.number.items l e c.loop-vertex.invariant.0 in
+    let w = number-can c.args.graph.now c.requires.graph c.args.search.now c.requires.over c.args.sizes.now c.args.offset.now c.requires.sizes c.requires.room c.vertex_count.ensures.limits c.loop-vertex.vertex-index (get_or c.order-vertex-items.result.now c.loop-vertex.vertex-index 0) c.loop-vertex.number.items l e c.loop-vertex.invariant.0 in
     omega (arith, w.0, c.requires.places)
 
 pub give_number-requires-clause-parent_within : goal.give_number-requires-clause-parent_within
@@ -27,7 +27,7 @@ give_number-requires-clause-parent_within g c =
     let q : c.order-vertex-items.result.now ≡ c.args.search.now.order = c.order-vertex-items.ensures in
     let l : c.loop-vertex.vertex-index < length c.args.search.now.order = omega (arith, c.loop-vertex-test.true, ap (length {A = ℕ}) q) in
     let e : get_or c.order-vertex-items.result.now c.loop-vertex.vertex-index 0 ≡ get_or c.args.search.now.order c.loop-vertex.vertex-index 0 = ap (λ (z : List ℕ). get_or z c.loop-vertex.vertex-index 0) q in
-    let w = number-can c.args.graph.now c.requires.graph c.args.search.now c.requires.over c.args.sizes.now c.args.offset.now c.requires.sizes c.requires.room c.loop-vertex.vertex-index (get_or c.order-vertex-items.result.now c.loop-vertex.vertex-index 0) c.loop-vertex.number.items l e c.loop-vertex.invariant.0 in
+    let w = number-can c.args.graph.now c.requires.graph c.args.search.now c.requires.over c.args.sizes.now c.args.offset.now c.requires.sizes c.requires.room c.vertex_count.ensures.limits c.loop-vertex.vertex-index (get_or c.order-vertex-items.result.now c.loop-vertex.vertex-index 0) c.loop-vertex.number.items l e c.loop-vertex.invariant.0 in
     omega (arith, w.0, c.requires.over.searching.places.parent)
 
 pub give_number-requires-clause-depth_within : goal.give_number-requires-clause-depth_within
@@ -35,7 +35,7 @@ give_number-requires-clause-depth_within g c =
     let q : c.order-vertex-items.result.now ≡ c.args.search.now.order = c.order-vertex-items.ensures in
     let l : c.loop-vertex.vertex-index < length c.args.search.now.order = omega (arith, c.loop-vertex-test.true, ap (length {A = ℕ}) q) in
     let e : get_or c.order-vertex-items.result.now c.loop-vertex.vertex-index 0 ≡ get_or c.args.search.now.order c.loop-vertex.vertex-index 0 = ap (λ (z : List ℕ). get_or z c.loop-vertex.vertex-index 0) q in
-    let w = number-can c.args.graph.now c.requires.graph c.args.search.now c.requires.over c.args.sizes.now c.args.offset.now c.requires.sizes c.requires.room c.loop-vertex.vertex-index (get_or c.order-vertex-items.result.now c.loop-vertex.vertex-index 0) c.loop-vertex.number.items l e c.loop-vertex.invariant.0 in
+    let w = number-can c.args.graph.now c.requires.graph c.args.search.now c.requires.over c.args.sizes.now c.args.offset.now c.requires.sizes c.requires.room c.vertex_count.ensures.limits c.loop-vertex.vertex-index (get_or c.order-vertex-items.result.now c.loop-vertex.vertex-index 0) c.loop-vertex.number.items l e c.loop-vertex.invariant.0 in
     omega (arith, w.0, c.requires.over.searching.places.depth)
 
 pub give_number-requires-clause-above_within : goal.give_number-requires-clause-above_within
@@ -43,7 +43,7 @@ give_number-requires-clause-above_within g c =
     let q : c.order-vertex-items.result.now ≡ c.args.search.now.order = c.order-vertex-items.ensures in
     let l : c.loop-vertex.vertex-index < length c.args.search.now.order = omega (arith, c.loop-vertex-test.true, ap (length {A = ℕ}) q) in
     let e : get_or c.order-vertex-items.result.now c.loop-vertex.vertex-index 0 ≡ get_or c.args.search.now.order c.loop-vertex.vertex-index 0 = ap (λ (z : List ℕ). get_or z c.loop-vertex.vertex-index 0) q in
-    let w = number-can c.args.graph.now c.requires.graph c.args.search.now c.requires.over c.args.sizes.now c.args.offset.now c.requires.sizes c.requires.room c.loop-vertex.vertex-index (get_or c.order-vertex-items.result.now c.loop-vertex.vertex-index 0) c.loop-vertex.number.items l e c.loop-vertex.invariant.0 in
+    let w = number-can c.args.graph.now c.requires.graph c.args.search.now c.requires.over c.args.sizes.now c.args.offset.now c.requires.sizes c.requires.room c.vertex_count.ensures.limits c.loop-vertex.vertex-index (get_or c.order-vertex-items.result.now c.loop-vertex.vertex-index 0) c.loop-vertex.number.items l e c.loop-vertex.invariant.0 in
     λ d. omega (arith, (w.1 d).0, c.loop-vertex.invariant.0.places)
 
 pub give_number-requires-clause-fits : goal.give_number-requires-clause-fits
@@ -51,7 +51,7 @@ give_number-requires-clause-fits g c =
     let q : c.order-vertex-items.result.now ≡ c.args.search.now.order = c.order-vertex-items.ensures in
     let l : c.loop-vertex.vertex-index < length c.args.search.now.order = omega (arith, c.loop-vertex-test.true, ap (length {A = ℕ}) q) in
     let e : get_or c.order-vertex-items.result.now c.loop-vertex.vertex-index 0 ≡ get_or c.args.search.now.order c.loop-vertex.vertex-index 0 = ap (λ (z : List ℕ). get_or z c.loop-vertex.vertex-index 0) q in
-    let w = number-can c.args.graph.now c.requires.graph c.args.search.now c.requires.over c.args.sizes.now c.args.offset.now c.requires.sizes c.requires.room c.loop-vertex.vertex-index (get_or c.order-vertex-items.result.now c.loop-vertex.vertex-index 0) c.loop-vertex.number.items l e c.loop-vertex.invariant.0 in
+    let w = number-can c.args.graph.now c.requires.graph c.args.search.now c.requires.over c.args.sizes.now c.args.offset.now c.requires.sizes c.requires.room c.vertex_count.ensures.limits c.loop-vertex.vertex-index (get_or c.order-vertex-items.result.now c.loop-vertex.vertex-index 0) c.loop-vertex.number.items l e c.loop-vertex.invariant.0 in
     λ d. (w.1 d).1
 
 pub loop-vertex-preserved : goal.loop-vertex-preserved

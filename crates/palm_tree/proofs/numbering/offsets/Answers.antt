@@ -12,27 +12,27 @@ loop-child-init g c = (
 
 pub give_place-requires-clause-offset_within : goal.give_place-requires-clause-offset_within
 give_place-requires-clause-offset_within g c =
-    let w = place-can c.args.graph.now c.requires.graph c.args.search.now c.requires.over c.args.sizes.now c.requires.sizes c.args.children.now c.requires.children c.loop-child.child-index (get_or c.args.children.now c.loop-child.child-index 0) c.loop-child.offset.items c.loop-child.filled.items c.loop-child-test.true refl c.loop-child.invariant.0 in
+    let w = place-can c.args.graph.now c.requires.graph c.args.search.now c.requires.over c.args.sizes.now c.requires.sizes c.args.children.now c.requires.children c.vertex_count.ensures.limits c.loop-child.child-index (get_or c.args.children.now c.loop-child.child-index 0) c.loop-child.offset.items c.loop-child.filled.items c.loop-child-test.true refl c.loop-child.invariant.0 in
     omega (arith, w.0, c.loop-child.invariant.0.offset_places)
 
 pub give_place-requires-clause-parent_within : goal.give_place-requires-clause-parent_within
 give_place-requires-clause-parent_within g c =
-    let w = place-can c.args.graph.now c.requires.graph c.args.search.now c.requires.over c.args.sizes.now c.requires.sizes c.args.children.now c.requires.children c.loop-child.child-index (get_or c.args.children.now c.loop-child.child-index 0) c.loop-child.offset.items c.loop-child.filled.items c.loop-child-test.true refl c.loop-child.invariant.0 in
+    let w = place-can c.args.graph.now c.requires.graph c.args.search.now c.requires.over c.args.sizes.now c.requires.sizes c.args.children.now c.requires.children c.vertex_count.ensures.limits c.loop-child.child-index (get_or c.args.children.now c.loop-child.child-index 0) c.loop-child.offset.items c.loop-child.filled.items c.loop-child-test.true refl c.loop-child.invariant.0 in
     omega (arith, w.0, c.requires.over.searching.places.parent)
 
 pub give_place-requires-clause-sizes_within : goal.give_place-requires-clause-sizes_within
 give_place-requires-clause-sizes_within g c =
-    let w = place-can c.args.graph.now c.requires.graph c.args.search.now c.requires.over c.args.sizes.now c.requires.sizes c.args.children.now c.requires.children c.loop-child.child-index (get_or c.args.children.now c.loop-child.child-index 0) c.loop-child.offset.items c.loop-child.filled.items c.loop-child-test.true refl c.loop-child.invariant.0 in
+    let w = place-can c.args.graph.now c.requires.graph c.args.search.now c.requires.over c.args.sizes.now c.requires.sizes c.args.children.now c.requires.children c.vertex_count.ensures.limits c.loop-child.child-index (get_or c.args.children.now c.loop-child.child-index 0) c.loop-child.offset.items c.loop-child.filled.items c.loop-child-test.true refl c.loop-child.invariant.0 in
     omega (arith, w.0, c.requires.sizes.places)
 
 pub give_place-requires-clause-filled_within : goal.give_place-requires-clause-filled_within
 give_place-requires-clause-filled_within g c =
-    let w = place-can c.args.graph.now c.requires.graph c.args.search.now c.requires.over c.args.sizes.now c.requires.sizes c.args.children.now c.requires.children c.loop-child.child-index (get_or c.args.children.now c.loop-child.child-index 0) c.loop-child.offset.items c.loop-child.filled.items c.loop-child-test.true refl c.loop-child.invariant.0 in
+    let w = place-can c.args.graph.now c.requires.graph c.args.search.now c.requires.over c.args.sizes.now c.requires.sizes c.args.children.now c.requires.children c.vertex_count.ensures.limits c.loop-child.child-index (get_or c.args.children.now c.loop-child.child-index 0) c.loop-child.offset.items c.loop-child.filled.items c.loop-child-test.true refl c.loop-child.invariant.0 in
     omega (arith, w.1, c.loop-child.invariant.0.filled_places)
 
 pub give_place-requires-clause-fits : goal.give_place-requires-clause-fits
 give_place-requires-clause-fits g c =
-    let w = place-can c.args.graph.now c.requires.graph c.args.search.now c.requires.over c.args.sizes.now c.requires.sizes c.args.children.now c.requires.children c.loop-child.child-index (get_or c.args.children.now c.loop-child.child-index 0) c.loop-child.offset.items c.loop-child.filled.items c.loop-child-test.true refl c.loop-child.invariant.0 in
+    let w = place-can c.args.graph.now c.requires.graph c.args.search.now c.requires.over c.args.sizes.now c.requires.sizes c.args.children.now c.requires.children c.vertex_count.ensures.limits c.loop-child.child-index (get_or c.args.children.now c.loop-child.child-index 0) c.loop-child.offset.items c.loop-child.filled.items c.loop-child-test.true refl c.loop-child.invariant.0 in
     w.2
 
 pub loop-child-preserved : goal.loop-child-preserved

@@ -12,17 +12,17 @@ parent_of-requires c = omega (arith, order-in c.args.graph.now c.requires.graph 
 pub add_size-requires-clause-within : goal.add_size-requires-clause-within
 add_size-requires-clause-within c =
     let d : 0 < get_or c.args.search.now.depth c.args.vertex 0 = omega (arith, c.if-depth_of-gt0.true, c.depth_of.ensures) in
-    (size-fits c.args.graph.now c.requires.graph c.args.search.now c.requires.over c.args.sizes.now.items c.args.place c.args.vertex c.parent_of.result c.requires.within c.requires.sizes c.requires.vertex d c.parent_of.ensures).0
+    (size-fits c.args.graph.now c.requires.graph c.args.search.now c.requires.over c.requires.limits c.args.sizes.now.items c.args.place c.args.vertex c.parent_of.result c.requires.within c.requires.sizes c.requires.vertex d c.parent_of.ensures).0
 
 pub add_size-requires-clause-other_within : goal.add_size-requires-clause-other_within
 add_size-requires-clause-other_within c =
     let d : 0 < get_or c.args.search.now.depth c.args.vertex 0 = omega (arith, c.if-depth_of-gt0.true, c.depth_of.ensures) in
-    (size-fits c.args.graph.now c.requires.graph c.args.search.now c.requires.over c.args.sizes.now.items c.args.place c.args.vertex c.parent_of.result c.requires.within c.requires.sizes c.requires.vertex d c.parent_of.ensures).1
+    (size-fits c.args.graph.now c.requires.graph c.args.search.now c.requires.over c.requires.limits c.args.sizes.now.items c.args.place c.args.vertex c.parent_of.result c.requires.within c.requires.sizes c.requires.vertex d c.parent_of.ensures).1
 
 pub add_size-requires-clause-fits : goal.add_size-requires-clause-fits
 add_size-requires-clause-fits c =
     let d : 0 < get_or c.args.search.now.depth c.args.vertex 0 = omega (arith, c.if-depth_of-gt0.true, c.depth_of.ensures) in
-    (size-fits c.args.graph.now c.requires.graph c.args.search.now c.requires.over c.args.sizes.now.items c.args.place c.args.vertex c.parent_of.result c.requires.within c.requires.sizes c.requires.vertex d c.parent_of.ensures).2
+    (size-fits c.args.graph.now c.requires.graph c.args.search.now c.requires.over c.requires.limits c.args.sizes.now.items c.args.place c.args.vertex c.parent_of.result c.requires.within c.requires.sizes c.requires.vertex d c.parent_of.ensures).2
 
 pub returns-then-depth_of-gt0 : goal.returns-then-depth_of-gt0
 returns-then-depth_of-gt0 c =

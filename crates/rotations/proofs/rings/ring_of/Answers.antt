@@ -12,4 +12,4 @@ dart_at-requires-clause-is_edge c =
 
 -- there are at most as many edges at a vertex as edges
 pub overflow_cast-result : goal.overflow_cast-result
-overflow_cast-result c = omega (arith, ap length c.incident-edges.ensures.value, length-incident c.args.g.now c.args.v, c.incident-edges.ensures.graph.few_edges)
+overflow_cast-result c = omega (arith, ap length c.incident-edges.ensures.value, length-incident c.args.g.now c.args.v, c.incident-edges.ensures.limits.few_edges)

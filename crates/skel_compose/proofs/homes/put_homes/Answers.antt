@@ -7,7 +7,7 @@ use Rattle.skel_compose.proofs.homes.put_homes.Goals.{in-Real, in_default}
 use Rattle.skel_compose.proofs.homes.put_homes.Goals as goal
 
 pub overflow_cast-i-end : goal.overflow_cast-i-end
-overflow_cast-i-end c = omega (arith, ap length c.items-items.ensures, items-few c.args.g.now c.args.tree.now c.requires.block c.args.k c.requires.node)
+overflow_cast-i-end c = omega (arith, ap length c.items-items.ensures, items-few c.args.g.now c.args.tree.now c.requires.block c.args.k c.requires.node c.requires.limits)
 
 pub bounds-homes-e : goal.bounds-homes-e
 bounds-homes-e c = home-below c.args.g.now c.args.tree.now c.requires.block.tree c.args.k c.loop-i.i c.in-Real.e (length c.loop-i.homes) c.loop-i.invariant.each

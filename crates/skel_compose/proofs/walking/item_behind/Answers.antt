@@ -8,7 +8,7 @@ use Rattle.skel_compose.proofs.Found.{vertices-few, order-is, order-has, behind-
 use Rattle.skel_compose.proofs.walking.item_behind.Goals as goal
 
 pub place_of-place-requires-clause-few : goal.place_of-place-requires-clause-few
-place_of-place-requires-clause-few c = omega (arith, ap length c.vertices.ensures, vertices-few c.requires.block.0 c.args.tree.now c.requires.block.1 c.args.k c.requires.node)
+place_of-place-requires-clause-few c = omega (arith, ap length c.vertices.ensures, vertices-few c.requires.block.0 c.args.tree.now c.requires.block.1 c.args.k c.requires.node c.requires.block.2)
 
 pub place_of-place-requires-clause-held : goal.place_of-place-requires-clause-held
 place_of-place-requires-clause-held c = ap (is_member c.args.v) c.vertices.ensures ∙ item-vertex c.requires.block.0 c.args.tree.now c.requires.block.1.tree c.args.k c.args.v c.args.i c.requires.node c.requires.item c.requires.end

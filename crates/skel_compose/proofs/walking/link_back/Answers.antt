@@ -24,7 +24,7 @@ item_with_key-requires-clause-few c = omega (
   arith,
   ap length c.items.ensures,
   items-few c.requires.block.0 c.args.tree.now c.requires.block.1 c.args.j
-      (link-node c.requires.block.0 c.args.tree.now c.requires.block.1.tree c.args.k c.args.i c.args.j c.requires.item c.requires.link),
+      (link-node c.requires.block.0 c.args.tree.now c.requires.block.1.tree c.args.k c.args.i c.args.j c.requires.item c.requires.link) c.requires.block.2,
 )
 
 -- the link back has the key

@@ -19,23 +19,23 @@ pub grow-requires : goal.grow-requires
 grow-requires g c = record { connected = block-connected c.args.g.now c.requires.block }
 
 pub run-requires-clause-pass : goal.run-requires-clause-pass
-run-requires-clause-pass g c = start-pass c.args.g.now c.edge_count.ensures.graph c.requires.block c.requires.large c.in_ok-tree.tree c.in_ok-tree.ensures.tree c.in_ok-tree.ensures.vertices c.in_ok-pass.pass
+run-requires-clause-pass g c = start-pass c.args.g.now c.edge_count.ensures.graph c.edge_count.ensures.limits c.requires.block c.requires.large c.in_ok-tree.tree c.in_ok-tree.ensures.tree c.in_ok-tree.ensures.vertices c.in_ok-pass.pass
     (c.in_ok-pass.ensures ∙ (λ i. record { at = 0; done = c.vertex_count.ensures.value i; items = []; cuts = []; first = replicate (c.vertex_count.ensures.value i) 4294967295; start = replicate (c.vertex_count.ensures.value i) 0; base = replicate (c.vertex_count.ensures.value i) 0; gone = replicate (c.vertex_count.ensures.value i) 0; total = c.edge_count.ensures.value i; parts = [] }))
 
 pub run-requires-clause-turns : goal.run-requires-clause-turns
-run-requires-clause-turns g c = start-turns c.args.g.now c.edge_count.ensures.graph c.requires.block c.requires.large c.in_ok-tree.tree c.in_ok-tree.ensures.tree c.in_ok-tree.ensures.vertices c.in_ok-pass.pass
+run-requires-clause-turns g c = start-turns c.args.g.now c.edge_count.ensures.graph c.edge_count.ensures.limits c.requires.block c.requires.large c.in_ok-tree.tree c.in_ok-tree.ensures.tree c.in_ok-tree.ensures.vertices c.in_ok-pass.pass
     (c.in_ok-pass.ensures ∙ (λ i. record { at = 0; done = c.vertex_count.ensures.value i; items = []; cuts = []; first = replicate (c.vertex_count.ensures.value i) 4294967295; start = replicate (c.vertex_count.ensures.value i) 0; base = replicate (c.vertex_count.ensures.value i) 0; gone = replicate (c.vertex_count.ensures.value i) 0; total = c.edge_count.ensures.value i; parts = [] }))
 
 pub kind_of_all-kind-requires-clause-family : goal.kind_of_all-kind-requires-clause-family
-kind_of_all-kind-requires-clause-family g c = left-family c.args.g.now c.in_ok-tree.tree (is-numbered c.args.g.now c.edge_count.ensures.graph c.requires.block c.requires.large c.in_ok-tree.tree c.in_ok-tree.ensures.tree c.in_ok-tree.ensures.vertices) c.run.new.self c.in_ok-run.ensures.passed c.deref.result.now (ap family_of c.deref.ensures.value ∙ c.in_ok-edges.ensures.edges)
+kind_of_all-kind-requires-clause-family g c = left-family c.args.g.now c.in_ok-tree.tree (is-numbered c.args.g.now c.edge_count.ensures.graph c.edge_count.ensures.limits c.requires.block c.requires.large c.in_ok-tree.tree c.in_ok-tree.ensures.tree c.in_ok-tree.ensures.vertices) c.run.new.self c.in_ok-run.ensures.passed c.deref.result.now (ap family_of c.deref.ensures.value ∙ c.in_ok-edges.ensures.edges)
 
 pub write-requires-clause-listed : goal.write-requires-clause-listed
 write-requires-clause-listed g c = subst (λ (y : ℕ × List Cut). IsListed y.0 (state_of y.1 c.deref-2.result.now)) (λ i. (sym c.edge_count-2.ensures.value i, sym c.parts.ensures i))
-    (left-listed c.args.g.now c.in_ok-tree.tree (is-numbered c.args.g.now c.edge_count.ensures.graph c.requires.block c.requires.large c.in_ok-tree.tree c.in_ok-tree.ensures.tree c.in_ok-tree.ensures.vertices) c.run.new.self c.in_ok-run.ensures.passed c.deref-2.result.now (ap family_of c.deref-2.ensures.value ∙ c.in_ok-edges.ensures.edges))
+    (left-listed c.args.g.now c.in_ok-tree.tree (is-numbered c.args.g.now c.edge_count.ensures.graph c.edge_count.ensures.limits c.requires.block c.requires.large c.in_ok-tree.tree c.in_ok-tree.ensures.tree c.in_ok-tree.ensures.vertices) c.run.new.self c.in_ok-run.ensures.passed c.deref-2.result.now (ap family_of c.deref-2.ensures.value ∙ c.in_ok-edges.ensures.edges))
 
 pub returns-clause-split : goal.returns-clause-split
 returns-clause-split g c = IfOk-weaker c.write.result _ (λ (comps : Comps). IsSplit c.args.g.now comps.list)
-    (λ comps w. left-split c.args.g.now c.in_ok-tree.tree (is-numbered c.args.g.now c.edge_count.ensures.graph c.requires.block c.requires.large c.in_ok-tree.tree c.in_ok-tree.ensures.tree c.in_ok-tree.ensures.vertices) c.run.new.self c.in_ok-run.ensures.passed c.deref-2.result.now (ap family_of c.deref-2.ensures.value ∙ c.in_ok-edges.ensures.edges) c.kind_of_all-kind.result comps.list
+    (λ comps w. left-split c.args.g.now c.in_ok-tree.tree (is-numbered c.args.g.now c.edge_count.ensures.graph c.edge_count.ensures.limits c.requires.block c.requires.large c.in_ok-tree.tree c.in_ok-tree.ensures.tree c.in_ok-tree.ensures.vertices) c.run.new.self c.in_ok-run.ensures.passed c.deref-2.result.now (ap family_of c.deref-2.ensures.value ∙ c.in_ok-edges.ensures.edges) c.kind_of_all-kind.result comps.list
     (subst (λ (edges : List NamedEdge). IsSkeleton c.kind_of_all-kind.result (family_skeleton (family_of edges))) (c.deref.ensures.value ∙ sym c.deref-2.ensures.value) c.kind_of_all-kind.ensures.skeleton) c.kind_of_all-kind.ensures.large
     (subst (λ (y : ℕ × List Cut). AreComponents y.0 (state_of y.1 c.deref-2.result.now) c.kind_of_all-kind.result comps.list) (λ i. (c.edge_count-2.ensures.value i, c.parts.ensures i)) w))
     c.write.ensures.components
@@ -46,8 +46,8 @@ returns-clause-at_most g c = omega (
   c.write.ensures.at_most,
   ap (λ (parts : List Cut). length parts) c.parts.ensures,
   ap entry_total c.parts.ensures,
-  left-cost c.args.g.now c.in_ok-tree.tree (is-numbered c.args.g.now c.edge_count.ensures.graph c.requires.block c.requires.large c.in_ok-tree.tree c.in_ok-tree.ensures.tree c.in_ok-tree.ensures.vertices) c.run.new.self c.in_ok-run.ensures.passed c.deref-2.result.now (ap family_of c.deref-2.ensures.value ∙ c.in_ok-edges.ensures.edges),
-  left-items c.args.g.now c.in_ok-tree.tree (is-numbered c.args.g.now c.edge_count.ensures.graph c.requires.block c.requires.large c.in_ok-tree.tree c.in_ok-tree.ensures.tree c.in_ok-tree.ensures.vertices) c.run.new.self c.in_ok-run.ensures.passed c.deref-2.result.now (ap family_of c.deref-2.ensures.value ∙ c.in_ok-edges.ensures.edges),
+  left-cost c.args.g.now c.in_ok-tree.tree (is-numbered c.args.g.now c.edge_count.ensures.graph c.edge_count.ensures.limits c.requires.block c.requires.large c.in_ok-tree.tree c.in_ok-tree.ensures.tree c.in_ok-tree.ensures.vertices) c.run.new.self c.in_ok-run.ensures.passed c.deref-2.result.now (ap family_of c.deref-2.ensures.value ∙ c.in_ok-edges.ensures.edges),
+  left-items c.args.g.now c.in_ok-tree.tree (is-numbered c.args.g.now c.edge_count.ensures.graph c.edge_count.ensures.limits c.requires.block c.requires.large c.in_ok-tree.tree c.in_ok-tree.ensures.tree c.in_ok-tree.ensures.vertices) c.run.new.self c.in_ok-run.ensures.passed c.deref-2.result.now (ap family_of c.deref-2.ensures.value ∙ c.in_ok-edges.ensures.edges),
   c.in_ok-edges.ensures.at_most,
   c.in_ok-run.ensures.at_most,
   ap (λ (s : PassState). length s.items) c.in_ok-pass.ensures,

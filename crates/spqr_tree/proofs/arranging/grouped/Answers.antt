@@ -5,8 +5,8 @@ use Rattle.spqr_tree.proofs.arranging.grouped.Goals as goal
 
 -- the components are few, as the edges are
 pub groups_of-requires-clause-few : goal.groups_of-requires-clause-few
-groups_of-requires-clause-few c = omega (arith, few-components c.args.g.now c.args.comps.now c.requires.split (one_block-tight c.args.g.now c.requires.block), c.edge_count.ensures.graph.few_edges)
+groups_of-requires-clause-few c = omega (arith, few-components c.args.g.now c.args.comps.now c.requires.split (one_block-tight c.args.g.now c.requires.block), c.edge_count.ensures.limits.few_edges)
 
 -- so are the groups
 pub returns-clause-few : goal.returns-clause-few
-returns-clause-few c = omega (arith, c.in_ok-flood.ensures.number, few-components c.args.g.now c.args.comps.now c.requires.split (one_block-tight c.args.g.now c.requires.block), c.edge_count.ensures.graph.few_edges)
+returns-clause-few c = omega (arith, c.in_ok-flood.ensures.number, few-components c.args.g.now c.args.comps.now c.requires.split (one_block-tight c.args.g.now c.requires.block), c.edge_count.ensures.limits.few_edges)

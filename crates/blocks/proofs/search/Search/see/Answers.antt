@@ -8,7 +8,7 @@ returns-then-is_visited c =
     (sym c.is_seen.ensures ∙ c.if-is_seen.false) c.other_end-end.ensures (sym c.is_visited.ensures ∙ c.if-is_visited.true) c.depth_of-reached.ensures c.note_frond.ensures
 
 pub note_child-requires-clause-shallow : goal.note_child-requires-clause-shallow
-note_child-requires-clause-shallow c = depth-fits c.args.graph.now c.requires.graph c.args.self.now c.args.vertex c.requires.searching c.requires.last
+note_child-requires-clause-shallow c = depth-fits c.args.graph.now c.requires.limits c.args.self.now c.args.vertex c.requires.searching c.requires.last
 
 pub returns : goal.returns
 returns c =

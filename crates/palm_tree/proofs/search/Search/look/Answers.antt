@@ -15,7 +15,7 @@ see-requires-clause-end c =
     (subst (λ (x : ℕ). x < degree c.args.graph.now c.args.vertex) (sym c.position_of-position.ensures) c.requires.more) refl).1
 
 pub look_further-requires-clause-fits : goal.look_further-requires-clause-fits
-look_further-requires-clause-fits c = position-fits c.args.graph.now c.requires.graph c.args.self.now c.see.new.self c.args.vertex (get_or c.incident.result.now c.position_of-position.result 0) c.requires.more (c.in_ok-see.ensures {u = tt})
+look_further-requires-clause-fits c = position-fits c.args.graph.now c.incident.ensures.limits c.args.self.now c.see.new.self c.args.vertex (get_or c.incident.result.now c.position_of-position.result 0) c.requires.more (c.in_ok-see.ensures {u = tt})
 
 pub returns : goal.returns
 returns c =
