@@ -65,7 +65,9 @@ fn add_children<L: Ledger>(
 fn reversed(alloc: Global, edges: &[u32]) -> Result<Vec<u32>, AllocError>
     ensures { IfOk result (λ l. l.items ≡ reverse edges.now) }
 {
-    Ok(edges.iter().rev().copied().collect(alloc)?)
+    let mut backwards = edges.to_vec(alloc)?;
+    backwards.reverse();
+    Ok(backwards)
 }
 
 // The children in the order in which they are numbered: first, from the last edge to the first, those that do not hang, and

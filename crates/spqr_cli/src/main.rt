@@ -37,9 +37,11 @@ use std::process::ExitCode;
 
 // The words after the program's name.
 fn words_of(rt: &HostRuntime) -> io::Result<Vec<String>> {
-    let mut words = env::args(rt)?;
-    let _ = words.next();
-    Ok(words.collect(rt.alloc())?)
+    let mut words = Vec::new(rt.alloc());
+    for word in env::args(rt)?.skip(1) {
+        words.push(word)?;
+    }
+    Ok(words)
 }
 
 fn main(rt: HostRuntime) -> ExitCode {

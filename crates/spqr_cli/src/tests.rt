@@ -1,11 +1,13 @@
 // Worked runs, over devices in memory.
-ghost use Rattle.std.specs.Prelude.{◌<◌, None};
+ghost use Rattle.std.specs.Prelude.{◌<◌};
 
 mod commands;
+mod devices;
+mod hostile;
 
 use crate::run::run;
 use crate::status::Status;
-use spqr_edge::{Failed, MemFile, MemShelf, MemSink, Sink};
+use spqr_edge::{MemFile, MemShelf, MemSink};
 use std::alloc::{AllocError, Global};
 use std::test::Fail;
 
@@ -373,97 +375,6 @@ fn blocks_and_their_embeddings(rt: HostRuntime) -> Result<(), Fail> {
 }
 
 #[test]
-fn each_call_of_the_shelf_fails(rt: HostRuntime) -> Result<(), Fail> {
-    for (call, status, text) in [
-        (0, Status::ReadFault, b"refused read graph\n".as_slice()),
-        (1, Status::ReadFault, b"refused read graph\n"),
-        (2, Status::ReadFault, b"refused read graph\n"),
-        (3, Status::ReadFault, b"refused read script\n"),
-        (4, Status::ReadFault, b"refused read script\n"),
-        (5, Status::ReadFault, b"refused read script\n"),
-        (6, Status::Done, K4_REPORT),
-    ] {
-        let (found, written) = answer(rt.alloc(), (K4, K4_PLANE), (&[call], &[]), 1000)?;
-        assert_eq!(rt; found, status);
-        assert_eq!(rt; written.as_slice(), text);
-    }
-    Ok(())
-}
-
-#[test]
-fn each_call_of_the_sink_fails(rt: HostRuntime) -> Result<(), Fail> {
-    for (call, piece, status, text) in [
-        (0, 1000, Status::WriteFault, b"".as_slice()),
-        (1, 1000, Status::WriteFault, K4_HEAD),
-        (2, 1000, Status::Done, K4_REPORT),
-        (5, 1, Status::WriteFault, b"graph"),
-        (1000, 1, Status::Done, K4_REPORT),
-    ] {
-        let (found, written) = answer(rt.alloc(), (K4, K4_PLANE), (&[], &[call]), piece)?;
-        assert_eq!(rt; found, status);
-        assert_eq!(rt; written.as_slice(), text);
-    }
-    Ok(())
-}
-
-// A sink whose put of this number, counted from 0, fails, and so do all behind it. It counts its puts.
-#[derive(Drop)]
-struct Broken {
-    first: u64,
-    puts: u64,
-    faults: u64,
-}
-
-impl Sink for Broken {
-    ghost written = { λ s. None };
-
-    ghost faults = { λ s. s.faults };
-
-    fn put(&mut self, piece: &[u8]) -> Result<usize, Failed> {
-        let fails = self.first <= self.puts;
-        self.puts = self.puts.saturating_add(1);
-        if fails {
-            self.faults = self.faults.saturating_add(1);
-            return Err(Failed);
-        }
-        Ok(piece.len())
-    }
-}
-
-#[test]
-fn no_put_follows_a_failed_one(rt: HostRuntime) -> Result<(), Fail> {
-    let alloc = rt.alloc();
-    let held = [
-        MemFile {
-            name: "g",
-            bytes: K4,
-        },
-        MemFile {
-            name: "s",
-            bytes: K4_PLANE,
-        },
-    ];
-    for (first, status, puts) in [
-        (0, Status::WriteFault, 1),
-        (1, Status::WriteFault, 2),
-        (2, Status::Done, 2),
-    ] {
-        let mut shelf = MemShelf::new(&held, &[]);
-        let mut sink = Broken {
-            first,
-            puts: 0,
-            faults: 0,
-        };
-        assert_eq!(rt;
-            run(alloc, &words_of(alloc, "run g s")?, &mut shelf, &mut sink),
-            status
-        );
-        assert_eq!(rt; sink.puts, puts);
-    }
-    Ok(())
-}
-
-#[test]
 fn statuses_have_numbers(rt: HostRuntime) {
     for (status, number) in [
         (Status::Done, 0),
@@ -478,31 +389,6 @@ fn statuses_have_numbers(rt: HostRuntime) {
     ] {
         assert_eq!(rt; status.number(), number);
     }
-}
-
-#[test]
-fn limits_are_kept(rt: HostRuntime) -> Result<(), Fail> {
-    let alloc = rt.alloc();
-    let spaces = vec![in alloc; b' '; 16_777_217]?;
-    let (found, written) = answer(alloc, (&spaces, b""), (&[], &[]), 1000)?;
-    assert_eq!(rt; found, Status::TooLong);
-    assert_eq!(rt; written.as_slice(), b"refused long graph\n".as_slice());
-    let blanks = vec![in alloc; b' '; 1_048_577]?;
-    let (found, written) = answer(alloc, (K4, &blanks), (&[], &[]), 1000)?;
-    assert_eq!(rt; found, Status::TooLong);
-    assert_eq!(rt; written.as_slice(), b"refused long script\n".as_slice());
-    let mut nodes = Vec::from_slice(alloc, b"graph [ ")?;
-    for _ in 0..20_001 {
-        nodes.extend_from_slice(b"node [ ] ")?;
-    }
-    nodes.push(b']')?;
-    let (found, written) = answer(alloc, (&nodes, b""), (&[], &[]), 1000)?;
-    assert_eq!(rt; found, Status::GraphRefused);
-    assert_eq!(rt;
-        written.as_slice(),
-        b"refused graph vertices 20001\n".as_slice()
-    );
-    Ok(())
 }
 
 // What a run on the words of a line, over no files, answers and writes. Puts of these numbers fail.
@@ -548,20 +434,6 @@ static WORDS: [(&str, Status, &[u8]); 11] = [
 fn words_and_their_texts(rt: HostRuntime) -> Result<(), Fail> {
     for (line, status, text) in WORDS {
         let (found, written) = answer_to(rt.alloc(), line, &[], 1000)?;
-        assert_eq!(rt; found, status);
-        assert_eq!(rt; written.as_slice(), text);
-    }
-    Ok(())
-}
-
-#[test]
-fn a_put_of_a_summary_fails(rt: HostRuntime) -> Result<(), Fail> {
-    for (call, status, text) in [
-        (0, Status::WriteFault, b"".as_slice()),
-        (4, Status::WriteFault, b"made"),
-        (1000, Status::Done, K4_SUMMARY),
-    ] {
-        let (found, written) = answer_to(rt.alloc(), "make 6 1", &[call], 1)?;
         assert_eq!(rt; found, status);
         assert_eq!(rt; written.as_slice(), text);
     }

@@ -1,7 +1,10 @@
 // Devices in memory: some fail at chosen calls, some never do.
-ghost use Rattle.std.specs.Prelude.{◌≡◌, ◌↔◌, ◌<◌, ◌≤◌, ◌++◌, Some, None, IsTrue, IsSome, Contains, length, List, [], take as front};
+ghost use Rattle.std.specs.Prelude.{◌≡◌, ◌↔◌, ◌<◌, ◌≤◌, ◌+◌, ◌-◌, ◌++◌, ◌⊎◌, min, Ok, Some, None, IsTrue, IsSome, IsNone, IsOk, IfOk, OnErr, MatchResult, Contains, length, vec_len, List, [], take as front};
+ghost use Rattle.std.specs.Io.{ReadsAtMost, WritesAtMost};
+ghost use Rattle.std.specs.Io.KnownBytes.{ReadConsumes, WriteAppends};
 ghost use Rattle.std.specs.Option.{option_copied};
-ghost use Rattle.spqr_edge.specs.Device.{counted};
+ghost use Rattle.std.specs.Vec.{vec_capacity};
+ghost use Rattle.spqr_edge.specs.Device.{contents, counted, HasCause, CountsCall, Opens};
 ghost use Rattle.spqr_edge.specs.Memory.{bytes_of};
 
 use crate::faults::Faults;
@@ -68,7 +71,17 @@ impl<'a> SureShelf<'a> {
         held(self.files, name).is_some()
     }
 
-    /// Closes the open file.
+    // Opens the file of this name, or no byte where it holds none.
+    fn turn_to(&mut self, name: &str)
+        ensures left { self.new.left.now ≡ contents (bytes_of self.old.files.now) name.now }
+        ensures files { self.new.files ≡ self.old.files }
+        ensures opens { self.new.opens ≡ counted self.old.opens }
+    {
+        self.opens = self.opens.saturating_add(1);
+        self.left = held(self.files, name).unwrap_or(&[]);
+    }
+
+    // Closes the open file.
     fn close(&mut self)
         ensures closed { self.new.left.now ≡ [] }
         ensures files { self.new.files ≡ self.old.files }
@@ -89,13 +102,26 @@ impl<'a> Shelf for SureShelf<'a> {
 
     ghost left_told = { λ s told. told };
 
-    fn open(&mut self, name: &str) -> Result<(), Failed> {
-        self.opens = self.opens.saturating_add(1);
-        self.left = held(self.files, name).unwrap_or(&[]);
+    fn open(&mut self, name: &str) -> Result<(), Failed>
+        ensures files { self.new.files ≡ self.old.files }
+        ensures bytes { Opens (Some (bytes_of self.old.files.now)) name.now (Some self.new.left.now) result }
+        ensures counted { self.new.opens ≡ counted self.old.opens }
+        ensures cause { HasCause 0 0 result }
+        ensures sure { IsOk result }
+    {
+        self.turn_to(name);
         Ok(())
     }
 
-    fn read(&mut self, buf: &mut [u8]) -> Result<usize, Failed> {
+    fn read(&mut self, buf: &mut [u8]) -> Result<usize, Failed>
+        requires { 0 < length buf.old }
+        ensures files { self.new.files ≡ self.old.files }
+        ensures count { ReadsAtMost result buf.new }
+        ensures bytes { ReadConsumes (Some self.old.left.now) (Some self.new.left.now) result buf.new }
+        ensures opens { self.new.opens ≡ self.old.opens }
+        ensures cause { HasCause 0 0 result }
+        ensures sure { IsOk result }
+    {
         Ok(take(&mut self.left, buf))
     }
 }
@@ -148,16 +174,38 @@ impl<'a> Shelf for MemShelf<'a> {
 
     ghost left_told = { λ s told. told };
 
-    fn open(&mut self, name: &str) -> Result<(), Failed> {
-        let opened = self.shelf.open(name);
+    fn open(&mut self, name: &str) -> Result<(), Failed>
+        ensures files { self.new.shelf.files ≡ self.old.shelf.files }
+        ensures bytes { Opens (Some (bytes_of self.old.shelf.files.now)) name.now (Some self.new.shelf.left.now) result }
+        ensures counted { self.new.shelf.opens ≡ counted self.old.shelf.opens }
+        ensures cause { HasCause self.old.faults self.new.faults result }
+        ensures fails { MatchResult result
+            (λ _. ¬ Contains self.old.failing.now self.old.calls × IsSome (bytes_of self.old.shelf.files.now name.now))
+            (λ _. Contains self.old.failing.now self.old.calls ⊎ IsNone (bytes_of self.old.shelf.files.now name.now)) }
+        ensures calls { self.new.calls ≡ counted self.old.calls }
+        ensures failing { self.new.failing ≡ self.old.failing }
+    {
+        self.shelf.turn_to(name);
         if self.fails_now() || !self.shelf.holds(name) {
             self.shelf.close();
             return Err(self.faults.note());
         }
-        opened
+        Ok(())
     }
 
-    fn read(&mut self, buf: &mut [u8]) -> Result<usize, Failed> {
+    fn read(&mut self, buf: &mut [u8]) -> Result<usize, Failed>
+        requires { 0 < length buf.old }
+        ensures files { self.new.shelf.files ≡ self.old.shelf.files }
+        ensures count { ReadsAtMost result buf.new }
+        ensures bytes { ReadConsumes (Some self.old.shelf.left.now) (Some self.new.shelf.left.now) result buf.new }
+        ensures opens { self.new.shelf.opens ≡ self.old.shelf.opens }
+        ensures cause { HasCause self.old.faults self.new.faults result }
+        ensures fails { MatchResult result
+            (λ _. ¬ Contains self.old.failing.now self.old.calls)
+            (λ _. Contains self.old.failing.now self.old.calls) }
+        ensures calls { self.new.calls ≡ counted self.old.calls }
+        ensures failing { self.new.failing ≡ self.old.failing }
+    {
         if self.fails_now() {
             return Err(self.faults.note());
         }
@@ -209,14 +257,30 @@ impl<'a> Sink for MemSink<'a> {
 
     ghost faults = { λ s. s.faults };
 
-    fn put(&mut self, piece: &[u8]) -> Result<usize, Failed> {
+    fn put(&mut self, piece: &[u8]) -> Result<usize, Failed>
+        requires { 0 < length piece.now }
+        ensures some { IfOk result (λ n. 0 < n) }
+        ensures count { WritesAtMost result piece.now }
+        ensures bytes { WriteAppends (Some self.old.bytes.items) (Some self.new.bytes.items) result piece.now }
+        ensures cause { HasCause self.old.faults self.new.faults result }
+        ensures taken { IfOk result (λ n. n ≡ min self.old.greatest (length piece.now)) }
+        ensures listed { IfOk result (λ _. ¬ Contains self.old.failing.now self.old.calls) }
+        ensures fails { OnErr result (Contains self.old.failing.now self.old.calls ⊎
+            (vec_capacity self.old.bytes < vec_len self.old.bytes + min self.old.greatest (length piece.now))) }
+        ensures calls { self.new.calls ≡ counted self.old.calls }
+        ensures failing { self.new.failing ≡ self.old.failing }
+        ensures greatest { self.new.greatest ≡ self.old.greatest }
+    {
         let fails = self.failing.contains(&self.calls);
         self.calls = self.calls.saturating_add(1);
-        let taken = self.greatest.min(piece.len());
-        if fails || self.bytes.extend_from_slice(&piece[..taken]).is_err() {
+        if fails {
             return Err(self.faults.note());
         }
-        Ok(taken)
+        let taken = self.greatest.min(piece.len());
+        match self.bytes.extend_from_slice(&piece[..taken]) {
+            Ok(()) => Ok(taken),
+            Err(_) => Err(self.faults.note()),
+        }
     }
 }
 
@@ -248,7 +312,16 @@ impl Sink for SureSink {
 
     ghost faults = { λ s. 0 };
 
-    fn put(&mut self, piece: &[u8]) -> Result<usize, Failed> {
+    fn put(&mut self, piece: &[u8]) -> Result<usize, Failed>
+        requires { 0 < length piece.now }
+        ensures some { IfOk result (λ n. 0 < n) }
+        ensures count { WritesAtMost result piece.now }
+        ensures bytes { WriteAppends None None result piece.now }
+        ensures cause { HasCause 0 0 result }
+        ensures all { result ≡ Ok (length piece.now) }
+        ensures front { self.new.front.items ≡ self.old.front.items ++
+            front (vec_capacity self.old.front - vec_len self.old.front) piece.now }
+    {
         let room = self.front.capacity() - self.front.len();
         let _ = self
             .front

@@ -79,6 +79,6 @@ fn real_files_are_read(rt: HostRuntime) -> Result<(), Fail> {
 #[test]
 fn standard_output_takes_bytes(rt: HostRuntime) -> Result<(), Fail> {
     let mut sink = OutSink::new(&rt);
-    assert_eq!(rt; sink.put(b"x"), Ok(1));
+    assert_eq!(rt; sink.put(b"xy"), Ok(2));
     Ok(())
 }
