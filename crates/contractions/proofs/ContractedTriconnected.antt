@@ -9,7 +9,7 @@ use Rattle.multigraph.proofs.OtherEnd.{is_end-first, other_end-of_first, other_e
 use Rattle.graph_theory.specs.Triconnected.{ends_without, IsConnectedWithout, IsTriconnected}
 use Rattle.graph_theory.proofs.Ends.{end-cases}
 use Rattle.contractions.specs.Contraction.{are_joined, is_kept, IsContractible, IsContraction}
-use Rattle.contractions.proofs.Removed.{step-without, least-without}
+use Rattle.graph_theory.proofs.Removed.{step-without, least-without}
 use Rattle.contractions.proofs.Outside.{out-two, out-three, two-out, three-out}
 use Rattle.contractions.proofs.Joined.{joined-edge, kept-from, dropped-joined}
 use Rattle.contractions.proofs.Contracted.{first-in, second-in, ends-apart, end-forth, other-forth, simple-contracted}

@@ -10,7 +10,7 @@ use Rattle.multigraph.specs.Graph.{Multigraph, edge_count, is_end, other_end, Is
 use Rattle.multigraph.proofs.OtherEnd.{other_end-in, end-in}
 use Rattle.graph_theory.specs.Triconnected.{ends_without, IsTriconnected}
 use Rattle.contractions.specs.Contraction.{ContractibleEdge, is_contractible}
-use Rattle.contractions.proofs.Removed.{kept-without}
+use Rattle.graph_theory.proofs.Removed.{kept-without}
 use Rattle.contractions.proofs.Neighbours.{neighbour, attach}
 use Rattle.contractions.proofs.Tests.{TwoApart, connected_without-fails, contractible-fails, contractible-true}
 use Rattle.contractions.proofs.Growth.{grown}

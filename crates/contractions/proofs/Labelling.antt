@@ -6,7 +6,7 @@ use Rattle.permutations.specs.Relation.{connected}
 use Rattle.permutations.proofs.Relation.{connected-reflexive, connected-transitive, connected-symmetric}
 use Rattle.multigraph.specs.Graph.{Multigraph, IsGraph, edge_count, ends_of}
 use Rattle.graph_theory.specs.Triconnected.{avoids, ends_without, IsConnectedWithout}
-use Rattle.contractions.proofs.Removed.{link-without, least-without}
+use Rattle.graph_theory.proofs.Removed.{link-without, least-without}
 use Rattle.contractions.specs.Labels.{renamed, IsLabelling, AreAlike}
 
 -- what a label that is replaced becomes

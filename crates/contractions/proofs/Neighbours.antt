@@ -12,7 +12,7 @@ use Rattle.multigraph.specs.Graph.{Multigraph, edge_count, is_end, other_end, in
 use Rattle.multigraph.proofs.OtherEnd.{other_end-differs, other_end-is_end, other_end-twice}
 use Rattle.multigraph.proofs.Incident.{incident-has}
 use Rattle.graph_theory.specs.Triconnected.{ends_without, IsTriconnected}
-use Rattle.contractions.proofs.Removed.{closed-without, kept-without, step-without}
+use Rattle.graph_theory.proofs.Removed.{closed-without, kept-without, step-without}
 use Rattle.contractions.proofs.Outside.{outside, out-two, out-three, two-out, three-out}
 
 -- a vertex that is connected with another one has an edge to a vertex that is not removed

@@ -8,6 +8,8 @@ pub mod Arcs
 pub mod Exchange
 pub mod Crossings
 pub mod Connection
+pub mod Joined
+pub mod Removed
 pub mod Examples
 pub mod Chains
 pub mod TreePaths

@@ -1,5 +1,6 @@
 -- Walks, paths, cycles and blocks of a multigraph.
 pub mod Path
+pub mod Joined
 pub mod Block
 pub mod Side
 pub mod Triconnected
