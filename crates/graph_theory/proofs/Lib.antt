@@ -7,6 +7,7 @@ pub mod Cycles
 pub mod Arcs
 pub mod Exchange
 pub mod Crossings
+pub mod Counting
 pub mod Connection
 pub mod Joined
 pub mod Removed

@@ -3,6 +3,7 @@ pub mod Path
 pub mod Joined
 pub mod Block
 pub mod Side
+pub mod Separation
 pub mod Triconnected
 pub mod SearchTree
 pub mod Laws

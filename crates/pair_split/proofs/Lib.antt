@@ -29,6 +29,7 @@ pub mod PrimeRigid
 pub mod ThreeEntries
 pub mod SameEntries
 pub mod GraphSides
+pub mod Separations
 pub mod Marking
 pub mod Searching
 pub mod KindOf
