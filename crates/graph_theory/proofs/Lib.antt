@@ -11,6 +11,7 @@ pub mod Counting
 pub mod Connection
 pub mod Joined
 pub mod Removed
+pub mod Labelling
 pub mod Triconnected
 pub mod Examples
 pub mod Chains

@@ -1,5 +1,5 @@
 -- What is connected when vertices are removed.
-use Rattle.std.proofs.Common.{◌≡◌, ℕ, ◌<◌, inl, inr, Bool, true, false, not, List, [], ◌∷◌, get_or, refl, sym, ◌∙◌, subst, arith, All, Contains}
+use Rattle.std.proofs.Common.{◌≡◌, ℕ, ◌<◌, ◌⊎◌, inl, inr, Bool, true, false, not, List, [], ◌∷◌, get_or, refl, sym, ◌∙◌, subst, arith, All, Contains}
 use Rattle.std.specs.List.{filter}
 use Rattle.std.proofs.lemmas.Bool.{cases_Bool, and_parts, and_from, not-true, not_from_false, true≢false}
 use Rattle.std.proofs.lemmas.List.{get_or_default}
@@ -18,7 +18,7 @@ use Rattle.graph_theory.proofs.Walks.{edge-met}
 use Rattle.graph_theory.proofs.Joined.{joined-ends, joined-least-typed, joined-path, path-joined}
 
 -- what a list has is kept where it passes
-contains-filter : {X : Type 0} (p : X → Bool) (xs : List X) → All (λ x. p x ≡ true → Contains (filter p xs) x) xs
+pub contains-filter : {X : Type 0} (p : X → Bool) (xs : List X) → All (λ x. p x ≡ true → Contains (filter p xs) x) xs
 contains-filter p [] = λ k d l. absurd (omega arith)
 contains-filter p (y ∷ xs) = All-cons (λ x. p x ≡ true → Contains (filter p (y ∷ xs)) x) y xs
     (λ t. subst (λ (l : List _). Contains l y) (sym (filter-yes p y xs t)) (0, omega arith, refl))
@@ -30,8 +30,12 @@ contains-filter p (y ∷ xs) = All-cons (λ x. p x ≡ true → Contains (filter
     xs (contains-filter p xs))
 
 -- an edge neither end of which is removed avoids the removed vertices
-avoids-from : (removed : List ℕ) (link : ℕ × ℕ) → is_member link.0 removed ≡ false → is_member link.1 removed ≡ false → avoids removed link ≡ true
+pub avoids-from : (removed : List ℕ) (link : ℕ × ℕ) → is_member link.0 removed ≡ false → is_member link.1 removed ≡ false → avoids removed link ≡ true
 avoids-from removed link a b = and_from (not (is_member link.0 removed)) (not (is_member link.1 removed)) (not_from_false (is_member link.0 removed) a) (not_from_false (is_member link.1 removed) b)
+
+-- an edge with an end that is removed does not avoid them
+pub avoids-not : (removed : List ℕ) (link : ℕ × ℕ) → (is_member link.0 removed ≡ true) ⊎ (is_member link.1 removed ≡ true) → avoids removed link ≡ false
+avoids-not removed link h = elim h [ inl a ↦ grind (arith, a) | inr a ↦ grind (arith, a, cases_Bool (is_member link.0 removed)) ]
 
 -- neither end of an edge that avoids the removed vertices is removed
 avoids-parts : (removed : List ℕ) (link : ℕ × ℕ) → avoids removed link ≡ true → (is_member link.0 removed ≡ false) × (is_member link.1 removed ≡ false)

@@ -5,5 +5,6 @@ pub mod Block
 pub mod Side
 pub mod Separation
 pub mod Triconnected
+pub mod Labels
 pub mod SearchTree
 pub mod Laws

@@ -22,7 +22,6 @@ pub mod Minimal
 pub mod Names
 pub mod Degrees
 pub mod LumpSides
-pub mod Labelling
 pub mod PrimeSimple
 pub mod Candidates
 pub mod PrimeRigid
