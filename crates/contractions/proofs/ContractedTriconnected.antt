@@ -7,9 +7,10 @@ use Rattle.permutations.proofs.Relation.{connected-reflexive, connected-symmetri
 use Rattle.multigraph.specs.Graph.{Multigraph, edge_count, ends_of, is_end, other_end, IsGraph}
 use Rattle.multigraph.proofs.OtherEnd.{is_end-first, other_end-of_first, other_end-is_end, other_end-differs, other_end-twice, other_end-in, end-in}
 use Rattle.graph_theory.specs.Triconnected.{ends_without, IsConnectedWithout, IsTriconnected}
+use Rattle.graph_theory.proofs.Triconnected.{first-four}
 use Rattle.graph_theory.proofs.Ends.{end-cases}
 use Rattle.contractions.specs.Contraction.{are_joined, is_kept, IsContractible, IsContraction}
-use Rattle.contractions.proofs.Removed.{step-without, least-without}
+use Rattle.graph_theory.proofs.Removed.{step-without, least-without}
 use Rattle.contractions.proofs.Outside.{out-two, out-three, two-out, three-out}
 use Rattle.contractions.proofs.Joined.{joined-edge, kept-from, dropped-joined}
 use Rattle.contractions.proofs.Contracted.{first-in, second-in, ends-apart, end-forth, other-forth, simple-contracted}
@@ -150,7 +151,7 @@ module _ (g h : Multigraph) (i : IsGraph g) (t : IsTriconnected g) (e x y : ℕ)
   pub triconnected-contracted : 5 ≤ g.vertex_count → IsContractible g x y → IsTriconnected h
   triconnected-contracted five k = record {
     simple = simple-contracted g h i t.simple e x y edge vertex c;
-    four = omega (arith, c.fewer);
+    four = first-four h (omega (arith, five, c.fewer));
     stays_connected = λ a b. elim (cases_eq a (vertex x)) [
       | inl d ↦ elim (cases_eq b (vertex x)) [
         | inl r ↦ subst (λ (p : ℕ). IsConnectedWithout h (p ∷ b ∷ [])) (sym d) (subst (λ (q : ℕ). IsConnectedWithout h (vertex x ∷ q ∷ [])) (sym r) both-merged)

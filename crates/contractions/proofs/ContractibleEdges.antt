@@ -9,8 +9,9 @@ use Rattle.permutations.proofs.Relation.{connected-symmetric, connected-transiti
 use Rattle.multigraph.specs.Graph.{Multigraph, edge_count, is_end, other_end, IsGraph}
 use Rattle.multigraph.proofs.OtherEnd.{other_end-in, end-in}
 use Rattle.graph_theory.specs.Triconnected.{ends_without, IsTriconnected}
+use Rattle.graph_theory.proofs.Triconnected.{four-vertices}
 use Rattle.contractions.specs.Contraction.{ContractibleEdge, is_contractible}
-use Rattle.contractions.proofs.Removed.{kept-without}
+use Rattle.graph_theory.proofs.Removed.{kept-without}
 use Rattle.contractions.proofs.Neighbours.{neighbour, attach}
 use Rattle.contractions.proofs.Tests.{TwoApart, connected_without-fails, contractible-fails, contractible-true}
 use Rattle.contractions.proofs.Growth.{grown}
@@ -130,7 +131,7 @@ grow-ends g i t (suc fuel) x y z u p l = elim (grow g i t x y z u p) [
 -- a triconnected graph has an edge that may be contracted
 pub contractible_exists : (g : Multigraph) → IsGraph g → IsTriconnected g → ContractibleEdge g
 contractible_exists g i t =
-    let e = neighbour g i t 0 0 0 (omega (arith, t.four)) in
+    let e = neighbour g i t 0 0 0 (omega (arith, four-vertices g t)) in
     elim (edge-cases g i t e.0 0 (other_end g e.0 0) e.1 e.2 refl) [
       | inl c ↦ c
       | inr z ↦

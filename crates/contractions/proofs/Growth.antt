@@ -9,7 +9,7 @@ use Rattle.permutations.proofs.Relation.{connected-reflexive, connected-symmetri
 use Rattle.multigraph.specs.Graph.{Multigraph, edge_count, is_end, other_end, IsGraph}
 use Rattle.multigraph.proofs.OtherEnd.{other_end-differs}
 use Rattle.graph_theory.specs.Triconnected.{ends_without, IsTriconnected}
-use Rattle.contractions.proofs.Removed.{step-without, closed-without, kept-without}
+use Rattle.graph_theory.proofs.Removed.{step-without, closed-without, kept-without}
 use Rattle.contractions.proofs.Counting.{count-gained}
 use Rattle.contractions.proofs.Outside.{out-two, out-three, two-out, three-out}
 

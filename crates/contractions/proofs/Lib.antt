@@ -1,5 +1,4 @@
 -- The lemmas on triconnected graphs and on contracting their edges.
-pub mod Removed
 pub mod Outside
 pub mod Counting
 pub mod Neighbours

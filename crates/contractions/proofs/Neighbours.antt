@@ -12,7 +12,8 @@ use Rattle.multigraph.specs.Graph.{Multigraph, edge_count, is_end, other_end, in
 use Rattle.multigraph.proofs.OtherEnd.{other_end-differs, other_end-is_end, other_end-twice}
 use Rattle.multigraph.proofs.Incident.{incident-has}
 use Rattle.graph_theory.specs.Triconnected.{ends_without, IsTriconnected}
-use Rattle.contractions.proofs.Removed.{closed-without, kept-without, step-without}
+use Rattle.graph_theory.proofs.Triconnected.{four-vertices}
+use Rattle.graph_theory.proofs.Removed.{closed-without, kept-without, step-without}
 use Rattle.contractions.proofs.Outside.{outside, out-two, out-three, two-out, three-out}
 
 -- a vertex that is connected with another one has an edge to a vertex that is not removed
@@ -43,7 +44,7 @@ pub neighbour : (g : Multigraph) → IsGraph g → IsTriconnected g → (v a b :
 neighbour g i t v a b l =
     let c : (c : ℕ) × (c ≢ v) × ((q : ℕ) → q ≢ v → c ≢ q → q ≢ a) = beside v a in
     let d : (d : ℕ) × (d ≢ v) × ((q : ℕ) → q ≢ v → d ≢ q → q ≢ b) = beside v b in
-    let w = outside g.vertex_count (v ∷ c.0 ∷ d.0 ∷ []) (omega (arith, t.four)) in
+    let w = outside g.vertex_count (v ∷ c.0 ∷ d.0 ∷ []) (omega (arith, four-vertices g t)) in
     let o = three-out v c.0 d.0 w.0 w.2 in
     let e = edge-without g (c.0 ∷ d.0 ∷ []) v w.0 (t.stays_connected c.0 d.0 v w.0 l w.1 (out-two c.0 d.0 v c.1 d.1) (out-two c.0 d.0 w.0 o.1 o.2)) o.0 in
     let n : other_end g e.0 v ≢ v = other_end-differs g e.0 v i e.1 e.2 in

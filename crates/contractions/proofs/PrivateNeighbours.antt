@@ -11,7 +11,7 @@ use Rattle.multigraph.specs.Graph.{Multigraph, edge_count, is_end, other_end, Is
 use Rattle.multigraph.proofs.OtherEnd.{other_end-is_end, other_end-twice, other_end-in, end-in}
 use Rattle.graph_theory.specs.Triconnected.{IsTriconnected}
 use Rattle.contractions.specs.Contraction.{IsContractible, ContractibleEdge, are_joined, is_common, common_count, is_private}
-use Rattle.contractions.proofs.Removed.{closed-without}
+use Rattle.graph_theory.proofs.Removed.{closed-without}
 use Rattle.contractions.proofs.Outside.{outside, out-two, two-out}
 use Rattle.contractions.proofs.Tests.{contractible-turned}
 use Rattle.contractions.proofs.Counting.{count-two}

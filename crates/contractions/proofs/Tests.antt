@@ -9,7 +9,7 @@ use Rattle.permutations.proofs.Relation.{connected-reflexive, connected-symmetri
 use Rattle.multigraph.specs.Graph.{Multigraph, edge_count, ends_of, IsGraph}
 use Rattle.graph_theory.specs.Triconnected.{ends_without, IsConnectedWithout, IsTriconnected}
 use Rattle.contractions.specs.Contraction.{IsContractible, is_connected_without, is_contractible}
-use Rattle.contractions.proofs.Removed.{least-without, link-without, same-without}
+use Rattle.graph_theory.proofs.Removed.{least-without, link-without, same-without}
 use Rattle.contractions.proofs.Outside.{out-two, out-three, two-out, three-out}
 
 -- two vertices that are left, not connected

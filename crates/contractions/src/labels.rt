@@ -1,12 +1,12 @@
 // Whether a graph stays connected when three vertices are removed, by labels of the vertices.
 
-ghost use Rattle.std.specs.Prelude.{◌≡◌, ◌<◌, ◌≤◌, ◌+◌, ◌↔◌, ℕ, [], ◌∷◌, true, false, length, slice_index, IfOk};
+ghost use Rattle.std.specs.Prelude.{◌≡◌, ◌<◌, ◌≤◌, ◌↔◌, ℕ, [], ◌∷◌, true, false, length, slice_index, IfOk};
 ghost use Rattle.permutations.specs.Members.{is_member};
-ghost use Rattle.multigraph.specs.Graph.{edge_count};
 ghost use Rattle.graph_theory.specs.Triconnected.{IsConnectedWithout};
-ghost use Rattle.contractions.specs.Labels.{renamed, IsLabelling, AreAlike};
+ghost use Rattle.graph_theory.specs.Labels.{label_at, IsLabelling};
+ghost use Rattle.contractions.specs.Labels.{AreAlike};
 
-use crate::numbers::numbers_below;
+use graph_theory::labels::{merge, own_labels};
 use multigraph::Graph;
 use std::alloc::{AllocError, Global};
 
@@ -17,43 +17,15 @@ fn is_removed(x: u32, y: u32, z: u32, vertex: u32) -> bool
     x == vertex || y == vertex || z == vertex
 }
 
-// Replaces a label by another one.
-fn relabel(labels: &mut [u32], from: u32, to: u32)
-    ensures { (v : ℕ) → v < length labels.old → slice_index labels.new v ≡ renamed from to (slice_index labels.old v) }
-{
-    for label in labels.iter_mut() {
-        if *label == from {
-            *label = to;
-        }
-    }
-}
-
-// Makes the labels of the two ends of an edge one, if neither is removed.
-fn merge(g: &Graph, labels: &mut [u32], x: u32, y: u32, z: u32, edge: u32)
-    requires edge_in { edge < edge_count g.now }
-    requires number { length labels.old ≡ g.now.vertex_count }
-    requires before { IsLabelling g.now (x ∷ y ∷ z ∷ []) edge (slice_index labels.old) }
-    ensures { IsLabelling g.now (x ∷ y ∷ z ∷ []) (edge + 1) (slice_index labels.new) }
-{
-    let (first, second) = g.ends(edge);
-    if is_removed(x, y, z, first) || is_removed(x, y, z, second) {
-        return;
-    }
-    let from = labels[first as usize];
-    let to = labels[second as usize];
-    if from != to {
-        relabel(labels, from, to);
-    }
-}
-
 // Labels of the vertices, equal just where they stay connected when the three are removed.
 fn labels_without(alloc: Global, g: &Graph, x: u32, y: u32, z: u32) -> Result<Vec<u32>, AllocError>
-    ensures labelling { IfOk result (λ labels. IsLabelling g.now (x ∷ y ∷ z ∷ []) (edge_count g.now) (slice_index labels.items)) }
+    ensures labelling { IfOk result (λ labels. IsLabelling g.now.ends (x ∷ y ∷ z ∷ []) (label_at labels.items)) }
     ensures number { IfOk result (λ labels. length labels.items ≡ g.now.vertex_count) }
 {
-    let mut labels = numbers_below(alloc, g.vertex_count())?;
+    let mut labels = own_labels(alloc, g.vertex_count())?;
     for edge in 0..g.edge_count() {
-        merge(g, &mut labels, x, y, z, edge);
+        let (first, second) = g.ends(edge);
+        merge(&mut labels, &[x, y, z], first, second);
     }
     Ok(labels)
 }

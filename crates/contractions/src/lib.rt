@@ -10,7 +10,6 @@
 // triconnected.
 //
 // The lemmas that are used most (module of proofs/ in front):
-//   Removed     step-without, least-without, closed-without, kept-without: connection when vertices are removed
 //   Neighbours  neighbour, three_neighbours, incident-three: a third neighbour of each vertex of a triconnected graph
 //   Neighbours  attach: a vertex has a neighbour in each component that is left without it and two others
 //   Tests       connected_without-true, connected_without-from, contractible-true, contractible-from: the tests are exact

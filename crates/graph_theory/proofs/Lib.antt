@@ -7,7 +7,12 @@ pub mod Cycles
 pub mod Arcs
 pub mod Exchange
 pub mod Crossings
+pub mod Counting
 pub mod Connection
+pub mod Joined
+pub mod Removed
+pub mod Labelling
+pub mod Triconnected
 pub mod Examples
 pub mod Chains
 pub mod TreePaths

@@ -1,10 +1,13 @@
 -- What is proved of walks, paths, cycles and blocks, as statements.
-use Rattle.std.specs.Prelude.{◌≡◌, ℕ, ◌<◌, ◌↔◌, Bool, true, List}
+use Rattle.std.specs.Prelude.{◌≡◌, ℕ, ◌<◌, ◌↔◌, Bool, true, false, List}
+use Rattle.permutations.specs.Members.{is_member}
 use Rattle.permutations.specs.Relation.{connected}
 use Rattle.multigraph.specs.Graph.{Multigraph, edge_count, IsGraph}
-use Rattle.graph_theory.specs.Path.{IsPath}
+use Rattle.graph_theory.specs.Path.{IsPath, PathWithout}
+use Rattle.graph_theory.specs.Joined.{joined_where, PathWhere}
 use Rattle.graph_theory.specs.Block.{SameBlock}
 use Rattle.graph_theory.specs.Side.{IsCommon}
+use Rattle.graph_theory.specs.Triconnected.{ends_without}
 use Rattle.graph_theory.specs.SearchTree.{IsSearchForest, AreLowPoints, AreLabels}
 
 -- each edge is in the block of itself
@@ -30,6 +33,24 @@ ConnectedByPath = (g : Multigraph) (x y : ℕ) → connected g.ends x y ≡ true
 -- vertices that are joined by a path are connected by the ends of edges
 abbrev pub PathConnects : Type 0
 PathConnects = (g : Multigraph) (x : ℕ) (es : List ℕ) (y : ℕ) → IsPath g x es y → connected g.ends x y ≡ true
+
+-- vertices that edges which pass a test connect are joined by a path along such edges
+abbrev pub JoinedByPath : Type 0
+JoinedByPath = (g : Multigraph) (t : ℕ → Bool) (x y : ℕ) → joined_where g t x y ≡ true → PathWhere g t x y
+
+-- and such a path connects
+abbrev pub PathJoins : Type 0
+PathJoins = (g : Multigraph) (t : ℕ → Bool) (x y : ℕ) → PathWhere g t x y → joined_where g t x y ≡ true
+
+-- a vertex that is not removed, and one that is connected with it without those that are, are joined by a path that meets
+-- none of these
+abbrev pub ConnectedByPathWithout : Type 0
+ConnectedByPathWithout = (g : Multigraph) (removed : List ℕ) (x y : ℕ) → is_member x removed ≡ false
+    → connected (ends_without g removed) x y ≡ true → PathWithout g removed x y
+
+-- and such a path connects without them
+abbrev pub PathConnectsWithout : Type 0
+PathConnectsWithout = (g : Multigraph) (removed : List ℕ) (x y : ℕ) → PathWithout g removed x y → connected (ends_without g removed) x y ≡ true
 
 -- in a search forest two edges are in the same block exactly where their lower ends have the same label
 abbrev pub LabelsTellBlocks : Type 0

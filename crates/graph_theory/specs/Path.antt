@@ -1,6 +1,6 @@
 -- Walks, paths and cycles in a multigraph, as lists of edges from a vertex on.
-use Rattle.std.specs.Prelude.{◌≡◌, ℕ, ◌<◌, ◌≤◌, true, List, [], ◌∷◌, ◌++◌, length}
-use Rattle.permutations.specs.Members.{is_distinct}
+use Rattle.std.specs.Prelude.{◌≡◌, ℕ, ◌<◌, ◌≤◌, true, false, List, [], ◌∷◌, ◌++◌, length}
+use Rattle.permutations.specs.Members.{is_member, is_distinct}
 use Rattle.multigraph.specs.Graph.{Multigraph, edge_count, is_end, other_end}
 
 -- the vertex where these edges lead from x
@@ -27,6 +27,12 @@ pub record IsPath (g : Multigraph) (x : ℕ) (es : List ℕ) (y : ℕ) : Type 0 
   pub walk : IsWalk g x es
   pub arrives : walk_end g x es ≡ y
   pub vertices : is_distinct (walk_vertices g x es) ≡ true
+
+-- a path from x to y that meets none of the removed vertices
+pub record PathWithout (g : Multigraph) (removed : List ℕ) (x y : ℕ) : Type 0 where
+  pub along : List ℕ
+  pub path : IsPath g x along y
+  pub avoids : (v : ℕ) → is_member v (walk_vertices g x along) ≡ true → is_member v removed ≡ false
 
 -- a cycle from x: a walk of at least two different edges that returns to x and else meets no vertex twice. Two parallel
 -- edges are a cycle

@@ -3,15 +3,17 @@ use Rattle.std.proofs.Common.{◌≡◌, ◌≢◌, ℕ, ◌+◌, ◌≤◌, ◌
 use Rattle.std.proofs.lemmas.Bool.{cases_Bool, both_ways, not_from_false, and_from, eq-eqb, eqb-true, false_from_ne_true}
 use Rattle.std.proofs.lemmas.List.Elements.{All-contains}
 use Rattle.permutations.proofs.Members.{member-head, member-tail}
+use Rattle.graph_theory.specs.Labels.{IsLabelling}
+use Rattle.pair_split.specs.Edges.{family_skeleton}
 use Rattle.pair_split.specs.Family.{Entry, has_end, IsFamily, on_side, touches, IsTight, IsSeparation}
-use Rattle.pair_split.specs.Lumps.{side_of, removed, in_lump, IsClosed, IsLabelling}
+use Rattle.pair_split.specs.Lumps.{side_of, removed, in_lump, IsClosed}
 use Rattle.pair_split.specs.Search.{HasNoParallels}
 use Rattle.pair_split.proofs.Elements.{two-pass, length-weaker}
 use Rattle.pair_split.proofs.Sides.{touches-from_side, touching-on_side, common-from, length-sides, separation-from}
 use Rattle.pair_split.proofs.Names.{two-names}
 use Rattle.pair_split.proofs.Replaced.{first-end, second-end}
 use Rattle.pair_split.proofs.Degrees.{tight-degree, one-of_two}
-use Rattle.pair_split.proofs.LumpSides.{lump-from, lump-witness, lump-common, removed-cases, side_of-filter}
+use Rattle.pair_split.proofs.LumpSides.{closed-connected, lump-from, lump-witness, lump-common, removed-cases, side_of-filter}
 use Rattle.pair_split.proofs.PrimeSimple.{joins, joins-parallel}
 
 -- the lump of a closed class with two entries in it and two outside it is a side of a 2-separation
@@ -48,7 +50,7 @@ free-end a b e n = elim (cases_Bool (removed a b e.first)) [
     on : removed a b e.first ≡ true → removed a b e.second ≡ true → (x : ℕ) → (x ≡ a) ⊎ (x ≡ b) → has_end x e ≡ true
     on t u x i = elim (one-of_two a b e.first e.second x n (removed-cases a b e.first t) (removed-cases a b e.second u) i) [ inl j ↦ first-end x e j | inr j ↦ second-end x e j ]
 
-module _ (entries : List Entry) (family : IsFamily entries) (tight : IsTight entries) (simple : HasNoParallels entries) (a b : ℕ) (label : ℕ → ℕ) (labelling : IsLabelling entries a b label)
+module _ (entries : List Entry) (family : IsFamily entries) (tight : IsTight entries) (simple : HasNoParallels entries) (a b : ℕ) (label : ℕ → ℕ) (labelling : IsLabelling (family_skeleton entries) (a ∷ b ∷ []) label)
     (s : ℕ → Bool) (c : IsSeparation entries s a b) where
   -- whether the side touches z
   abbrev inside : ℕ → Bool
@@ -82,7 +84,7 @@ module _ (entries : List Entry) (family : IsFamily entries) (tight : IsTight ent
         two-pass (in_lump a b class) e f.entry entries (λ i. f.other (ap (λ (z : Entry). z.name) (sym i))) w f.within (lump-from a b class e x h m own) (lump-from a b class f.entry x f.end m own);
     few = length-weaker (in_lump a b class) (λ (z : Entry). s z.name) entries (λ f v l.
         let z = lump-witness a b class f l in
-        sym (inside-at z.0 f v z.1 z.2) ∙ (labelling.least inside inside-closed z.0 x (eqb-true (label z.0) (label x) z.3) ∙ (inside-at x e w h m ∙ t)));
+        sym (inside-at z.0 f v z.1 z.2) ∙ (closed-connected entries a b inside inside-closed z.0 x (labelling.only z.0 x (eqb-true (label z.0) (label x) z.3)) ∙ (inside-at x e w h m ∙ t)));
   }
     where
       class : ℕ → Bool

@@ -1,12 +1,13 @@
 -- A component with a link has at least three items; each side of a link has at least two edges, and the side of a component
 -- touches all its vertices.
-use Rattle.std.proofs.Common.{◌≡◌, ◌≢◌, ℕ, zero, suc, ◌<◌, ◌≤◌, ◌⊎◌, ◌==◌, ◌||◌, inl, inr, Bool, true, false, not, List, [], ◌∷◌, length, map, slice_index_or, refl, sym, ap, ◌∙◌, subst, arith, All}
+use Rattle.std.proofs.Common.{◌≡◌, ◌≢◌, ℕ, suc, ◌<◌, ◌≤◌, ◌⊎◌, ◌==◌, ◌||◌, inl, inr, Bool, true, false, not, List, [], ◌∷◌, length, map, slice_index_or, refl, sym, ap, ◌∙◌, subst, arith, All}
 use Rattle.std.proofs.lemmas.Bool.{cases_eq, both_ways, not-true, not_from_false, true≢false, or_cases, or_left, eq-eqb, eqb-true, ne_eqb, false_from_ne_true}
 use Rattle.std.proofs.lemmas.List.{length-map}
 use Rattle.std.proofs.lemmas.List.Elements.{All-contains}
 use Rattle.permutations.specs.Members.{is_distinct}
 use Rattle.permutations.proofs.Members.{distinct-head, distinct-tail, no_member-head, no_member-tail}
 use Rattle.multigraph.specs.Graph.{Multigraph, edge_count, is_end}
+use Rattle.graph_theory.proofs.Counting.{Two, two-others}
 use Rattle.pair_split.specs.Family.{Entry, has_end, is_common, IsTight, IsFamily}
 use Rattle.pair_split.specs.Edges.{graph_family, family_skeleton}
 use Rattle.pair_split.specs.Skeleton.{is_end_of, is_vertex, HasVertices, IsOfKind}
@@ -141,12 +142,6 @@ vertex-item (piece ∷ pieces) v h = elim (or_cases (is_end_of v (piece_ends pie
   | inr a ↦ let w = vertex-item pieces v a in (suc w.0, omega (arith, w.1), w.2)
 ]
 
--- of three or more places two are not this one
-two-others : (n h : ℕ) → 3 ≤ n → (i j : ℕ) × (i < n) × (j < n) × (i ≢ j) × (i ≢ h) × (j ≢ h)
-two-others n zero l = (1, 2, omega (arith, l), omega (arith, l), λ e. omega (arith, e), λ e. omega (arith, e), λ e. omega (arith, e))
-two-others n (suc zero) l = (0, 2, omega (arith, l), omega (arith, l), λ e. omega (arith, e), λ e. omega (arith, e), λ e. omega (arith, e))
-two-others n (suc (suc h)) l = (0, 1, omega (arith, l), omega (arith, l), λ e. omega (arith, e), λ e. omega (arith, e), λ e. omega (arith, e))
-
 module _ (g : Multigraph) (comps : List Comp) (s : IsSplit g comps) (tight : IsTight (graph_family g)) where
   -- a component with a link has at least three items
   pub three-items : (k j : ℕ) → LinksTo comps k j → 3 ≤ length (items_of comps k)
@@ -178,18 +173,8 @@ module _ (g : Multigraph) (comps : List Comp) (s : IsSplit g comps) (tight : IsT
             n (group-once g comps s k t.edge i h b l.0 t.edge_in t.in_group (in_group-link g comps s k j t.edge (item_at comps k h).what l.1 ∙ y))),
       )
 
-  -- two edges on a side
-  pub record TwoEdges (t : ℕ → Bool) : Type 0 where
-    pub first : ℕ
-    pub second : ℕ
-    pub differ : first ≢ second
-    pub first_in : first < edge_count g
-    pub second_in : second < edge_count g
-    pub first_on : t first ≡ true
-    pub second_on : t second ≡ true
-
   -- each side of a link has at least two edges
-  pub side-two : (k j : ℕ) → LinksTo comps k j → TwoEdges (side comps k j)
+  pub side-two : (k j : ℕ) → LinksTo comps k j → Two (edge_count g) (side comps k j)
   side-two k j l =
       let b : LinksTo comps j k = link-back comps s.linked k j l in
       let w = two-others (length (items_of comps j)) b.0 (three-items j k b) in

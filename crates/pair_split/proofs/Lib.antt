@@ -22,13 +22,13 @@ pub mod Minimal
 pub mod Names
 pub mod Degrees
 pub mod LumpSides
-pub mod Labelling
 pub mod PrimeSimple
 pub mod Candidates
 pub mod PrimeRigid
 pub mod ThreeEntries
 pub mod SameEntries
 pub mod GraphSides
+pub mod Separations
 pub mod Marking
 pub mod Searching
 pub mod KindOf

@@ -2,10 +2,15 @@
 use Rattle.std.proofs.Common.{◌≡◌, ℕ, ◌⊎◌, inl, inr, Bool, true, false, not, List, [], ◌∷◌, filter, refl, sym, ap, ◌∙◌, subst, Contains}
 use Rattle.std.proofs.lemmas.Bool.{cases_Bool, both_ways, not-true, not_from_false, true≢false, or_cases, and_parts, and_from, or_left, or_right}
 use Rattle.permutations.specs.Members.{is_distinct}
+use Rattle.permutations.specs.Relation.{connected}
+use Rattle.permutations.proofs.Relation.{connected-closed}
+use Rattle.graph_theory.specs.Triconnected.{avoids}
+use Rattle.pair_split.specs.Edges.{entry_ends, family_skeleton}
+use Rattle.pair_split.proofs.GraphFamily.{all-from_contained}
 use Rattle.permutations.proofs.Members.{member-cases}
 use Rattle.pair_split.specs.Lumps.{side_of, removed, reached, in_lump, IsClosed}
 use Rattle.pair_split.specs.Family.{Entry, has_end, names, on_side, is_common}
-use Rattle.pair_split.proofs.Elements.{filter-same}
+use Rattle.pair_split.proofs.Elements.{filter-same, filter-contains, map-contains}
 use Rattle.pair_split.proofs.Sides.{common-inside, common-outside}
 use Rattle.pair_split.proofs.Names.{side_of-at}
 use Rattle.pair_split.proofs.Replaced.{end-cases, first-end, second-end}
@@ -36,6 +41,20 @@ closed-ends entries a b class closed e x z c h k m n = go (end-cases x e h) (end
     go (inr i) (inr j) = ap class (i ∙ sym j)
     go (inl i) (inr j) = ap class i ∙ (closed e c (subst (λ (w : ℕ). removed a b w ≡ false) i m) (subst (λ (w : ℕ). removed a b w ≡ false) j n) ∙ ap class (sym j))
     go (inr i) (inl j) = ap class i ∙ (sym (closed e c (subst (λ (w : ℕ). removed a b w ≡ false) j n) (subst (λ (w : ℕ). removed a b w ≡ false) i m)) ∙ ap class (sym j))
+
+-- a closed class holds all vertices that stay connected, or none of them
+pub closed-connected : (entries : List Entry) (a b : ℕ) (class : ℕ → Bool) → IsClosed entries a b class
+    → (x y : ℕ) → connected (filter (avoids (a ∷ b ∷ [])) (family_skeleton entries)) x y ≡ true → class x ≡ class y
+closed-connected entries a b class closed x y c = connected-closed (filter (avoids (a ∷ b ∷ [])) (family_skeleton entries)) class
+    (all-from_contained (λ (link : ℕ × ℕ). class link.0 ≡ class link.1) (filter (avoids (a ∷ b ∷ [])) (family_skeleton entries)) each)
+    x y c
+  where
+    each : (link : ℕ × ℕ) → Contains (filter (avoids (a ∷ b ∷ [])) (family_skeleton entries)) link → class link.0 ≡ class link.1
+    each link d =
+        let f = filter-contains (avoids (a ∷ b ∷ [])) link (family_skeleton entries) d in
+        let e = map-contains entry_ends link entries f.0 in
+        let v = and_parts (not (removed a b e.0.first)) (not (removed a b e.0.second)) (subst (λ (z : ℕ × ℕ). avoids (a ∷ b ∷ []) z ≡ true) (sym e.2) f.1) in
+        subst (λ (z : ℕ × ℕ). class z.0 ≡ class z.1) e.2 (closed e.0 e.1 (not-true (removed a b e.0.first) v.0) (not-true (removed a b e.0.second) v.1))
 
 -- each end of an entry of the lump of a closed class is in the class, or removed
 pub lump-end : (entries : List Entry) (a b : ℕ) (class : ℕ → Bool) → IsClosed entries a b class → (e : Entry) (x : ℕ) → Contains entries e → in_lump a b class e ≡ true → has_end x e ≡ true → removed a b x ≡ false → class x ≡ true

@@ -1,22 +1,20 @@
 -- Steps of the loops over the edges: one edge more.
 use Rattle.std.proofs.Common.{◌≡◌, ℕ, ◌+◌, ◌<◌, ◌⊎◌, inl, inr, Bool, true, false, ◌&&◌, ◌||◌, ◌==◌, List, [], ◌∷◌, ◌++◌, length, take, slice_index_or, slice_set, sym, ap, ◌∙◌, subst, arith}
 use Rattle.std.proofs.lemmas.Bool.{cases_Bool, cases_eq, eq-eqb, ne_eqb}
-use Rattle.std.proofs.lemmas.List.{get_or_default, get_or-set_same, get_or-set_other, map-append, take_more}
+use Rattle.std.proofs.lemmas.List.{get_or-set_same, get_or-set_other, map-append, take_more}
 use Rattle.pair_split.specs.Family.{Entry}
-use Rattle.pair_split.specs.Lumps.{entry_of, family_of, label_at, renamed, side_of, marked}
+use Rattle.pair_split.specs.Edges.{entry_ends, family_skeleton}
+use Rattle.pair_split.specs.Lumps.{entry_of, family_of, side_of, marked}
 use Rattle.pair_split.specs.declared.family.NamedEdge.{NamedEdge}
 
 -- the family of one edge more
 pub family-more : (edges : List NamedEdge) (i : ℕ) (d : NamedEdge) → i < length edges → family_of (take (i + 1) edges) ≡ family_of (take i edges) ++ entry_of (slice_index_or edges i d) ∷ []
 family-more edges i d l = ap family_of (take_more edges i d l) ∙ map-append entry_of (take i edges) (slice_index_or edges i d ∷ [])
 
--- a label within the list
-pub label-within : (labels : List ℕ) (x d : ℕ) → x < length labels → label_at labels x ≡ slice_index_or labels x d
-label-within labels x d l = get_or_default labels x x d l
-
--- a label that is replaced by one below n stays below n
-pub renamed-below : (n from to x : ℕ) → to < n → x < n → renamed from to x < n
-renamed-below n from to x l m = elim (cases_eq x from) [ inl e ↦ rw (eq-eqb x from e) l | inr k ↦ rw (ne_eqb x from k) m ]
+-- and its skeleton
+pub skeleton-more : (edges : List NamedEdge) (i : ℕ) (d : NamedEdge) → i < length edges
+    → family_skeleton (family_of (take (i + 1) edges)) ≡ family_skeleton (family_of (take i edges)) ++ ((slice_index_or edges i d).first, (slice_index_or edges i d).second) ∷ []
+skeleton-more edges i d l = ap family_skeleton (family-more edges i d l) ∙ map-append entry_ends (family_of (take i edges)) (entry_of (slice_index_or edges i d) ∷ [])
 
 -- a side of one entry more
 side_of-more : (entries : List Entry) (e : Entry) (test : Entry → Bool) (n : ℕ) → side_of (entries ++ e ∷ []) test n ≡ (side_of entries test n || ((e.name == n) && test e))

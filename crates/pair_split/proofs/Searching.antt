@@ -1,13 +1,15 @@
 -- The search for a smallest side of a 2-separation: what each step of it gives.
-use Rattle.std.proofs.Common.{◌≡◌, ℕ, ◌+◌, ◌<◌, ◌≤◌, inl, inr, Bool, true, ◌||◌, ◌==◌, List, length, slice_index_or, sym, ap, ◌∙◌, subst, arith, Contains, All}
+use Rattle.std.proofs.Common.{◌≡◌, ℕ, ◌+◌, ◌<◌, ◌≤◌, inl, inr, Bool, true, ◌||◌, ◌==◌, List, [], ◌∷◌, length, slice_index_or, sym, ap, ◌∙◌, subst, arith, Contains, All}
 use mathlib.Core.Path.{fun_ext}
 use Rattle.std.proofs.lemmas.Bool.{cases_order}
 use Rattle.std.proofs.lemmas.List.{length-map, get_or-map, get_or_default}
 use Rattle.std.proofs.lemmas.List.Elements.{All-map, All-contains, Contains-get_or}
 use Rattle.pair_split.specs.Family.{Entry, has_end, names, on_side, IsSeparation}
-use Rattle.pair_split.specs.Edges.{entry_ends}
+use Rattle.graph_theory.specs.Labels.{label_at, IsLabelling, AreLabelsBelow}
+use Rattle.graph_theory.proofs.Removed.{avoids-from}
+use Rattle.pair_split.specs.Edges.{entry_ends, family_skeleton}
 use Rattle.pair_split.specs.Skeleton.{SameEnds}
-use Rattle.pair_split.specs.Lumps.{entry_of, family_of, HaveEndsBelow, HaveNamesBelow, AreLabelsBelow, side_of, in_lump, IsClosed, IsLabelling, label_at, has_label, lump_size, marked, AreParallelAt}
+use Rattle.pair_split.specs.Lumps.{entry_of, family_of, HaveEndsBelow, HaveNamesBelow, side_of, in_lump, IsClosed, has_label, lump_size, marked, AreParallelAt}
 use Rattle.pair_split.specs.Search.{IsSearchable, HasNoParallels, IsBest, IsLeastAt, IsLeastBefore, IsMinimalSide}
 use Rattle.pair_split.specs.declared.family.NamedEdge.{NamedEdge}
 use Rattle.pair_split.specs.declared.search.Side.{Side}
@@ -47,7 +49,7 @@ end-below edges n ends entry x c h =
     elim (end-cases x (entry_of e.0) (subst (λ (z : Entry). has_end x z ≡ true) (sym e.2) h)) [ inl i ↦ subst (λ (z : ℕ). z < n) (sym i) b.0 | inr i ↦ subst (λ (z : ℕ). z < n) (sym i) b.1 ]
 
 -- a lump with two entries in it and two outside it, as the best side
-pub best-lump : (edges : List NamedEdge) (labels : List ℕ) (a b label bound : ℕ) (side : Side) → IsSearchable (family_of edges) → IsLabelling (family_of edges) a b (label_at labels) → HaveNamesBelow bound edges
+pub best-lump : (edges : List NamedEdge) (labels : List ℕ) (a b label bound : ℕ) (side : Side) → IsSearchable (family_of edges) → IsLabelling (family_skeleton (family_of edges)) (a ∷ b ∷ []) (label_at labels) → HaveNamesBelow bound edges
     → side.first ≡ a → side.second ≡ b → side.size ≡ lump_size (family_of edges) a b labels label → 2 ≤ side.size → side.size + 2 ≤ length edges
     → ((n : ℕ) → marked side.marks.items n ≡ side_of (family_of edges) (in_lump a b (has_label labels label)) n) → length side.marks.items ≡ bound → IsBest (family_of edges) side
 best-lump edges labels a b label bound side searchable labelling names first second size two rest marks number = record {
@@ -67,10 +69,11 @@ best-lump edges labels a b label bound side searchable labelling names first sec
     entries = family_of edges
 
     closed : IsClosed (family_of edges) a b (has_label labels label)
-    closed e c m n = ap (λ (z : ℕ). z == label) (labelling.closed e c m n)
+    closed e c m n = ap (λ (z : ℕ). z == label)
+        (labelling.agree (entry_ends e) (contains-map entry_ends e (family_of edges) c) (avoids-from (a ∷ b ∷ []) (entry_ends e) m n))
 
 -- a size that is no larger than that of any lump is that of a least side between the two vertices
-pub least-between : (edges : List NamedEdge) (labels : List ℕ) (n a b size : ℕ) → IsSearchable (family_of edges) → HasNoParallels (family_of edges) → HaveEndsBelow n edges → IsLabelling (family_of edges) a b (label_at labels) → AreLabelsBelow n labels
+pub least-between : (edges : List NamedEdge) (labels : List ℕ) (n a b size : ℕ) → IsSearchable (family_of edges) → HasNoParallels (family_of edges) → HaveEndsBelow n edges → IsLabelling (family_skeleton (family_of edges)) (a ∷ b ∷ []) (label_at labels) → AreLabelsBelow n labels
     → ((label : ℕ) → label < n → label_at labels label ≡ label → 2 ≤ lump_size (family_of edges) a b labels label → lump_size (family_of edges) a b labels label + 2 ≤ length edges → size ≤ lump_size (family_of edges) a b labels label)
     → IsLeastAt (family_of edges) a b size
 least-between edges labels n a b size searchable simple ends labelling below least s c = smallest (lump-inside (family_of edges) searchable.family searchable.tight simple a b (label_at labels) labelling s c)

@@ -1,8 +1,11 @@
 -- What is proved of split components, as statements.
-use Rattle.std.specs.Prelude.{◌≡◌, ◌≢◌, ℕ, ◌<◌, true, false, not, List, length}
+use Rattle.std.specs.Prelude.{◌≡◌, ◌≢◌, ℕ, ◌<◌, Bool, true, false, not, List, length}
 use Rattle.permutations.specs.Relation.{connected}
 use Rattle.multigraph.specs.Graph.{Multigraph, edge_count, is_end}
 use Rattle.graph_theory.specs.Block.{IsOneBlock}
+use Rattle.graph_theory.specs.Separation.{other_side, IsSeparation, AreSameSide}
+use Rattle.pair_split.specs.Family.{IsSeparation as IsFamilySeparation}
+use Rattle.pair_split.specs.Edges.{graph_family}
 use Rattle.pair_split.specs.Skeleton.{is_end_of, is_vertex}
 use Rattle.pair_split.specs.Split.{items_of, item_at, piece_ends, skeleton, all_links, is_beyond, side, LinksTo, IsTree, AreLinked, IsSplit}
 use Rattle.pair_split.specs.Tutte.{has_in_group}
@@ -48,6 +51,24 @@ GroupsMeetInEnds = (g : Multigraph) (comps : List Comp) → IsSplit g comps → 
 abbrev pub SidesHaveTwoEdges : Type 0
 SidesHaveTwoEdges = (g : Multigraph) (comps : List Comp) → IsOneBlock g → IsSplit g comps → (k j : ℕ) → LinksTo comps k j
     → (e f : ℕ) × (e ≢ f) × (e < edge_count g) × (f < edge_count g) × (side comps k j e ≡ true) × (side comps k j f ≡ true)
+
+-- the two sides of each link are a 2-separation
+abbrev pub LinksAreSeparations : Type 0
+LinksAreSeparations = (g : Multigraph) (comps : List Comp) → IsOneBlock g → IsSplit g comps
+    → (k j : ℕ) → LinksTo comps k j → IsSeparation g (side comps k j)
+
+-- the side of the link back is the other side
+abbrev pub LinksBackAreOpposite : Type 0
+LinksBackAreOpposite = (g : Multigraph) (comps : List Comp) → IsSplit g comps
+    → (k j : ℕ) → LinksTo comps k j → AreSameSide g (side comps j k) (other_side (side comps k j))
+
+-- a 2-separation of a graph is one of its family
+abbrev pub SeparationsOfFamily : Type 0
+SeparationsOfFamily = (g : Multigraph) (s : ℕ → Bool) → IsSeparation g s → (p q : ℕ) × IsFamilySeparation (graph_family g) s p q
+
+-- and the other way round
+abbrev pub SeparationsOfGraph : Type 0
+SeparationsOfGraph = (g : Multigraph) (s : ℕ → Bool) (p q : ℕ) → IsFamilySeparation (graph_family g) s p q → IsSeparation g s
 
 -- each vertex of a component has an edge on the component's own side of each of its links
 abbrev pub VerticesOnOwnSide : Type 0

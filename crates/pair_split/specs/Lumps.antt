@@ -1,6 +1,7 @@
 -- What a family falls into when two vertices are removed.
-use Rattle.std.specs.Prelude.{◌≡◌, ℕ, ◌<◌, Bool, false, not, cond, ◌&&◌, ◌||◌, ◌==◌, List, [], ◌∷◌, length, map, filter, slice_index_or, All, Contains}
+use Rattle.std.specs.Prelude.{◌≡◌, ℕ, ◌<◌, Bool, false, not, ◌&&◌, ◌||◌, ◌==◌, List, [], ◌∷◌, length, map, filter, slice_index_or, All, Contains}
 use Rattle.permutations.specs.Members.{is_member}
+use Rattle.graph_theory.specs.Labels.{label_at}
 use Rattle.pair_split.specs.Family.{Entry}
 use Rattle.pair_split.specs.Edges.{entry_ends}
 use Rattle.pair_split.specs.Skeleton.{SameEnds}
@@ -42,25 +43,6 @@ in_lump a b class e = reached a b class e.first || reached a b class e.second
 -- entries that have neither vertex as an end have both ends in the class or none
 abbrev pub IsClosed : List Entry → ℕ → ℕ → (ℕ → Bool) → Type 0
 IsClosed entries a b class = (e : Entry) → Contains entries e → removed a b e.first ≡ false → removed a b e.second ≡ false → class e.first ≡ class e.second
-
--- the label of a vertex: vertices without one have themselves
-abbrev pub label_at : List ℕ → ℕ → ℕ
-label_at labels x = slice_index_or labels x x
-
--- labels that tell what is connected when a and b are removed: an entry that has neither as an end has one label at both
--- ends; each class that is closed holds all vertices of a label or none; and a label is that of the vertex of its number
-pub record IsLabelling (entries : List Entry) (a b : ℕ) (label : ℕ → ℕ) : Type 0 where
-  pub closed : (e : Entry) → Contains entries e → removed a b e.first ≡ false → removed a b e.second ≡ false → label e.first ≡ label e.second
-  pub least : (class : ℕ → Bool) → IsClosed entries a b class → (x y : ℕ) → label x ≡ label y → class x ≡ class y
-  pub own : (x : ℕ) → label (label x) ≡ label x
-
--- the labels of the vertices below n are below n
-abbrev pub AreLabelsBelow : ℕ → List ℕ → Type 0
-AreLabelsBelow n labels = (x : ℕ) → x < n → label_at labels x < n
-
--- a label, where one is replaced by another
-abbrev pub renamed : ℕ → ℕ → ℕ → ℕ
-renamed from to label = cond (label == from) to label
 
 -- the vertices of one label, as a test
 abbrev pub has_label : List ℕ → ℕ → ℕ → Bool

@@ -1,18 +1,14 @@
 -- Skeletons: graphs given by the two ends of each edge, their vertices being the ends; and their kinds (Tutte 1966).
-use Rattle.std.specs.Prelude.{◌≡◌, ◌≢◌, ℕ, ◌<◌, ◌≤◌, ◌⊎◌, Bool, true, false, ◌||◌, ◌==◌, List, [], ◌∷◌, length, filter, slice_index_or, All}
-use Rattle.permutations.specs.Members.{is_member, is_distinct}
+use Rattle.std.specs.Prelude.{◌≡◌, ◌≢◌, ℕ, ◌≤◌, Bool, true, false, ◌||◌, ◌==◌, List, [], ◌∷◌, length, filter, All}
 use Rattle.permutations.specs.Relation.{connected}
-use Rattle.graph_theory.specs.Triconnected.{avoids}
+pub use Rattle.graph_theory.specs.Triconnected.{SameEnds}
+use Rattle.graph_theory.specs.Triconnected.{AreConnectedWithout, HasAtLeast, AreTriconnected}
 use Rattle.pair_split.specs.declared.components.Kind.{Kind}
 use Rattle.pair_split.specs.declared.components.Kind.TheVariants.{S, P, R, B}
 
 -- whether v is one of the two ends
 abbrev pub is_end_of : ℕ → ℕ × ℕ → Bool
 is_end_of v ends = (ends.0 == v) || (ends.1 == v)
-
--- the same two ends, in this order or the other
-abbrev pub SameEnds : ℕ × ℕ → ℕ × ℕ → Type 0
-SameEnds p q = ((p.0 ≡ q.0) × (p.1 ≡ q.1)) ⊎ ((p.0 ≡ q.1) × (p.1 ≡ q.0))
 
 -- whether v is a vertex of the skeleton: an end of one of its edges
 abbrev pub is_vertex : List (ℕ × ℕ) → ℕ → Bool
@@ -23,18 +19,17 @@ is_vertex (ends ∷ skeleton) v = is_end_of v ends || is_vertex skeleton v
 abbrev pub degree : List (ℕ × ℕ) → ℕ → ℕ
 degree skeleton v = length (filter (is_end_of v) skeleton)
 
--- the skeleton has at least n vertices: these
-pub record HasVertices (n : ℕ) (skeleton : List (ℕ × ℕ)) : Type 0 where
-  pub vertices : List ℕ
-  pub enough : n ≤ length vertices
-  pub distinct : is_distinct vertices ≡ true
-  pub are_vertices : All (λ v. is_vertex skeleton v ≡ true) vertices
+-- v is a vertex of the skeleton
+abbrev pub IsVertexIn : List (ℕ × ℕ) → ℕ → Type 0
+IsVertexIn skeleton v = is_vertex skeleton v ≡ true
+
+-- the skeleton has at least n vertices
+abbrev pub HasVertices : ℕ → List (ℕ × ℕ) → Type 0
+HasVertices n skeleton = HasAtLeast n (IsVertexIn skeleton)
 
 -- when the vertices are removed, the others stay connected, by edges that have none of these as an end
 abbrev pub StaysConnectedWithout : List (ℕ × ℕ) → List ℕ → Type 0
-StaysConnectedWithout skeleton removed =
-    (u v : ℕ) → is_vertex skeleton u ≡ true → is_vertex skeleton v ≡ true → is_member u removed ≡ false → is_member v removed ≡ false
-    → connected (filter (avoids removed) skeleton) u v ≡ true
+StaysConnectedWithout skeleton removed = AreConnectedWithout (IsVertexIn skeleton) skeleton removed
 
 -- a polygon: connected, with at least three vertices and two edges at each
 pub record IsPolygon (skeleton : List (ℕ × ℕ)) : Type 0 where
@@ -53,12 +48,9 @@ pub record IsBond (skeleton : List (ℕ × ℕ)) : Type 0 where
   pub two : HasPoles skeleton
   pub three : 3 ≤ length skeleton
 
--- triconnected: simple, with at least four vertices, and connected when any two or fewer vertices are removed. The two
--- numbers may be equal, and need not be vertices
-pub record IsRigid (skeleton : List (ℕ × ℕ)) : Type 0 where
-  pub simple : (i j : ℕ) → i < length skeleton → j < length skeleton → SameEnds (slice_index_or skeleton i (0, 0)) (slice_index_or skeleton j (0, 0)) → i ≡ j
-  pub four : HasVertices 4 skeleton
-  pub stays_connected : (a b : ℕ) → StaysConnectedWithout skeleton (a ∷ b ∷ [])
+-- triconnected: its vertices and the ends of its edges are
+abbrev pub IsRigid : List (ℕ × ℕ) → Type 0
+IsRigid skeleton = AreTriconnected (IsVertexIn skeleton) skeleton
 
 -- one or two edges that join the same two vertices
 pub record IsSmall (skeleton : List (ℕ × ℕ)) : Type 0 where

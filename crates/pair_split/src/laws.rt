@@ -11,8 +11,9 @@
 //   Groups          group-some, group-once, group-common, end-touched: the groups of the items of a component
 //   SkeletonFamily  common-lift, lift-common, skeleton-tight: a skeleton as a family
 //   LargeSides      three-items, side-two, node-touch: how large components and sides are
+//   Separations     separation-from, link-separation, separation-family: 2-separations of a graph
 
-ghost use Rattle.pair_split.specs.Laws.{AnyRoot, BeyondALink, BeyondOneLink, GroupsMeetInEnds, InAGroup, InOneGroup, LinksConnect, OnOneSide, SidesHaveTwoEdges, VerticesOnOwnSide};
+ghost use Rattle.pair_split.specs.Laws.{AnyRoot, BeyondALink, BeyondOneLink, GroupsMeetInEnds, InAGroup, InOneGroup, LinksAreSeparations, LinksBackAreOpposite, LinksConnect, OnOneSide, SeparationsOfFamily, SeparationsOfGraph, SidesHaveTwoEdges, VerticesOnOwnSide};
 
 /// The law that the links of components are a tree in the usual sense: they connect all components, and from each component
 /// each other one lies beyond exactly one link; so any component may be the root.
@@ -31,9 +32,17 @@ pub fn groups_part_the_edges()
     ensures ends { GroupsMeetInEnds }
 {}
 
-/// The law that each link of split components of a block is a 2-separation: each side has at least two edges, and touches
-/// all vertices of the component on it.
+/// The law that each link of split components of a block is a 2-separation of it: each side has at least two edges and is the
+/// other side of the link back, just two vertices have edges of both, and each side touches all vertices of the component on it.
 pub fn links_are_separations()
+    ensures separation { LinksAreSeparations }
+    ensures opposite { LinksBackAreOpposite }
     ensures large { SidesHaveTwoEdges }
     ensures touched { VerticesOnOwnSide }
+{}
+
+/// The law that the 2-separations of a graph are those of its family.
+pub fn separations_are_those_of_the_family()
+    ensures of_family { SeparationsOfFamily }
+    ensures of_graph { SeparationsOfGraph }
 {}

@@ -3,10 +3,11 @@
 // Two parallel entries are such a side. In a family without parallel entries each side of a 2-separation between two vertices
 // contains a lump of these, and that lump is a side as well: so the smallest lump will do.
 
-ghost use Rattle.std.specs.Prelude.{◌≡◌, ◌+◌, ◌<◌, ◌≤◌, ◌^◌, ◌||◌, ◌==◌, ◌↔◌, ℕ, true, length, None, IfOk, IfSome};
-ghost use Rattle.pair_split.specs.Edges.{entry_ends};
+ghost use Rattle.std.specs.Prelude.{◌≡◌, ◌+◌, ◌<◌, ◌≤◌, ◌^◌, ◌||◌, ◌==◌, ◌↔◌, ℕ, [], ◌∷◌, true, length, None, IfOk, IfSome};
+ghost use Rattle.graph_theory.specs.Labels.{IsLabelling, label_at};
+ghost use Rattle.pair_split.specs.Edges.{entry_ends, family_skeleton};
 ghost use Rattle.pair_split.specs.Skeleton.{SameEnds};
-ghost use Rattle.pair_split.specs.Lumps.{entry_of, family_of, IsLabelling, label_at, lump_size, marked, AreParallelAt};
+ghost use Rattle.pair_split.specs.Lumps.{entry_of, family_of, lump_size, marked, AreParallelAt};
 ghost use Rattle.pair_split.specs.Search.{AreSearchable, HasNoParallels, IsBest, IsLeastAt, IsLeastBefore, IsSearched};
 
 use crate::family::NamedEdge;
@@ -36,7 +37,7 @@ fn better_side(
     best: Side,
 ) -> Result<Side, AllocError>
     requires edges { AreSearchable edges.now (length labels.now) bound }
-    requires labelling { IsLabelling (family_of edges.now) a b (label_at labels.now) }
+    requires labelling { IsLabelling (family_skeleton (family_of edges.now)) (a ∷ b ∷ []) (label_at labels.now) }
     requires best { IsBest (family_of edges.now) best }
     ensures best { IfOk result (IsBest (family_of edges.now)) }
     ensures no_larger { IfOk result (λ side. side.size ≤ best.size) }
@@ -66,7 +67,7 @@ fn best_of_lumps(
     best: Side,
 ) -> Result<Side, AllocError>
     requires edges { AreSearchable edges.now (length labels.now) bound }
-    requires labelling { IsLabelling (family_of edges.now) a b (label_at labels.now) }
+    requires labelling { IsLabelling (family_skeleton (family_of edges.now)) (a ∷ b ∷ []) (label_at labels.now) }
     requires few { length labels.now < 2 ^ 32 }
     requires best { IsBest (family_of edges.now) best }
     ensures best { IfOk result (IsBest (family_of edges.now)) }

@@ -6,6 +6,7 @@ use Rattle.multigraph.specs.Graph.{Multigraph, IsGraph, edge_count, is_end, othe
 use Rattle.multigraph.proofs.OtherEnd.{end-in}
 use Rattle.rotations.specs.Rotation.{order_at, IsRotationSystem}
 use Rattle.graph_theory.specs.Triconnected.{IsTriconnected}
+use Rattle.graph_theory.proofs.Triconnected.{four-vertices}
 use Rattle.contractions.specs.Contraction.{are_joined, common_count, is_private, ContractibleEdge, IsContraction}
 use Rattle.contractions.specs.Contracted.{contracted, contracted_edge, contracted_vertex}
 use Rattle.contractions.proofs.Contracted.{graph-contracted}
@@ -77,7 +78,7 @@ plane-or_subdivision g ok tri = go (suc g.vertex_count) g (omega arith) ok tri
     go zero g l ok tri = absurd (omega (arith, l))
     go (suc fuel) g l ok tri = elim (cases_eq g.vertex_count 4) [
       | inl e ↦ inl (four_vertices-plane g ok tri e)
-      | inr n ↦ larger (omega (arith, n, tri.four)) (contractible_exists g ok tri) (go fuel)
+      | inr n ↦ larger (omega (arith, n, four-vertices g tri)) (contractible_exists g ok tri) (go fuel)
     ]
       where
         larger : 5 ≤ g.vertex_count → (c : ContractibleEdge g) → ((k : Multigraph) → k.vertex_count < fuel → IsGraph k → IsTriconnected k → HasPlane k ⊎ HasSubdivision k) → HasPlane g ⊎ HasSubdivision g

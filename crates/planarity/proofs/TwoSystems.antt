@@ -6,6 +6,7 @@ use Rattle.permutations.proofs.Search.{some-witness}
 use Rattle.multigraph.specs.Graph.{Multigraph, IsGraph, edge_count, is_end, other_end}
 use Rattle.rotations.specs.Rotation.{IsRotationSystem}
 use Rattle.graph_theory.specs.Triconnected.{IsTriconnected}
+use Rattle.graph_theory.proofs.Triconnected.{four-vertices}
 use Rattle.contractions.specs.Contraction.{are_joined, is_common, common_count, is_private, ContractibleEdge, IsContraction}
 use Rattle.contractions.specs.Contracted.{contracted, contracted_edge, contracted_vertex}
 use Rattle.contractions.proofs.Neighbours.{incident-three}
@@ -121,7 +122,7 @@ module _ (g : Multigraph) (ok : IsGraph g) (tri : IsTriconnected g) (o : Oriente
         | inl e ↦ inl (tells r q s t plane plane_too a b e)
         | inr e ↦ elim (before c.small b.small c.system b.system c.plane b.plane) [
           | inl f ↦ inr (sym (mirror-image-twice g r s) ∙ ap mirror_image (tells (mirror_image r) q sm t pm plane_too c b f))
-          | inr f ↦ absurd (mirror-image-differs g r s 0 (omega (arith, tri.four)) (incident-three g ok tri 0 (omega (arith, tri.four))) (tells (mirror_image r) r sm s pm plane c a (f ∙ sym e)))
+          | inr f ↦ absurd (mirror-image-differs g r s 0 (omega (arith, four-vertices g tri)) (incident-three g ok tri 0 (omega (arith, four-vertices g tri))) (tells (mirror_image r) r sm s pm plane c a (f ∙ sym e)))
         ]
       ]
 
@@ -133,7 +134,7 @@ two-systems g ok tri r q s t plane plane_too = go (suc g.vertex_count) g (omega 
     go zero g l ok tri r q s t plane plane_too = absurd (omega (arith, l))
     go (suc fuel) g l ok tri r q s t plane plane_too = elim (cases_eq g.vertex_count 4) [
       | inl e ↦ four_vertices-two g ok tri e r q s t plane plane_too
-      | inr n ↦ larger (omega (arith, n, tri.four)) (oriented g ok tri (omega (arith, n, tri.four)) (contractible_exists g ok tri) (few-common g ok tri r s plane (contractible_exists g ok tri))) (go fuel)
+      | inr n ↦ larger (omega (arith, n, four-vertices g tri)) (oriented g ok tri (omega (arith, n, four-vertices g tri)) (contractible_exists g ok tri) (few-common g ok tri r s plane (contractible_exists g ok tri))) (go fuel)
     ]
       where
         larger : 5 ≤ g.vertex_count → (o : OrientedEdge g)
@@ -148,4 +149,4 @@ two-systems g ok tri r q s t plane plane_too = go (suc g.vertex_count) g (omega 
 
 -- the mirror image of a plane rotation system is another one
 pub mirror-another : (g : Multigraph) → IsGraph g → IsTriconnected g → (r : List (List ℕ)) → IsRotationSystem g r → IsPlane g r → IsRotationSystem g (mirror_image r) × IsPlane g (mirror_image r) × (mirror_image r ≢ r)
-mirror-another g ok tri r s plane = (mirror-system g r s, mirror-image-plane g r ok s plane, mirror-image-differs g r s 0 (omega (arith, tri.four)) (incident-three g ok tri 0 (omega (arith, tri.four))))
+mirror-another g ok tri r s plane = (mirror-system g r s, mirror-image-plane g r ok s plane, mirror-image-differs g r s 0 (omega (arith, four-vertices g tri)) (incident-three g ok tri 0 (omega (arith, four-vertices g tri))))

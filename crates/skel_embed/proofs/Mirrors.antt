@@ -7,6 +7,7 @@ use Rattle.permutations.proofs.NormalForm.{from_least-member, from_least-predece
 use Rattle.permutations.proofs.Successor.{predecessor-reverse}
 use Rattle.multigraph.specs.Graph.{Multigraph, incident_edges, IsGraph}
 use Rattle.graph_theory.specs.Triconnected.{IsTriconnected}
+use Rattle.graph_theory.proofs.Triconnected.{four-vertices}
 use Rattle.contractions.proofs.Neighbours.{incident-three}
 use Rattle.skel_compose.proofs.Rounds.{round-member}
 use Rattle.rotations.specs.Rotation.{order_at, IsRotationSystem}
@@ -38,10 +39,10 @@ own-right g r s l x e h = subst (λ z. successor (order_at r 0) z ≤ predecesso
 
 -- a vertex of a triconnected graph has an edge, and the first one is in the order
 pub three : (g : Multigraph) → IsGraph g → IsTriconnected g → 0 < length (incident_edges g 0)
-three g ok t = let n : 3 ≤ length (incident_edges g 0) = incident-three g ok t 0 (omega (arith, t.four)) in omega (arith, n)
+three g ok t = let n : 3 ≤ length (incident_edges g 0) = incident-three g ok t 0 (omega (arith, four-vertices g t)) in omega (arith, n)
 
 pub first-member : (g : Multigraph) → IsGraph g → IsTriconnected g → (r : List (List ℕ)) → IsRotationSystem g r → (edges : List ℕ) → edges ≡ incident_edges g 0 → is_member (get_or edges 0 0) (order_at r 0) ≡ true
-first-member g ok t r s edges e = round-member g r s 0 (get_or edges 0 0) (omega (arith, t.four)) (ap (λ (z : List ℕ). get_or z 0 0) e) (three g ok t)
+first-member g ok t r s edges e = round-member g r s 0 (get_or edges 0 0) (omega (arith, four-vertices g t)) (ap (λ (z : List ℕ). get_or z 0 0) e) (three g ok t)
 
 -- the first of a list
 pub first-of : (l edges : List ℕ) → edges ≡ l → get_or edges 0 0 ≡ first_or 0 l

@@ -21,8 +21,8 @@ use Rattle.pair_split.specs.declared.components.Comp.{Comp}
 use Rattle.pair_split.specs.declared.components.Kind.TheVariants.{P, B}
 use Rattle.pair_split.proofs.Elements.{filter-contains}
 use Rattle.pair_split.proofs.Groups.{group-some}
-use Rattle.skeleton_runs.specs.Joined.{ends_where, joined_where, avoiding}
-use Rattle.skeleton_runs.proofs.Joined.{joined-more}
+use Rattle.graph_theory.specs.Joined.{ends_where, joined_where, avoiding}
+use Rattle.graph_theory.proofs.Joined.{joined-more}
 use Rattle.skeleton_runs.proofs.Items.{ends-two, in_item, skeleton-at, skeleton-in, in-skeleton, item-vertex, item-ends_differ, item-at, item-meet, item-reach, item-joined}
 use Rattle.skeleton_runs.proofs.Sturdy.{at, sturdy-simple, sturdy-linked}
 use Rattle.skeleton_runs.proofs.EdgesInOrder.{met-edge, met-end}

@@ -17,7 +17,7 @@ use Rattle.faces.specs.Maps.{dart_after, dart_before}
 use Rattle.faces.proofs.DartLemmas.{dart_from-edge}
 use Rattle.faces.proofs.MapSteps.{map-permutes}
 use Rattle.faces.proofs.MapCounts.{plane-map}
-use Rattle.skeleton_runs.specs.Joined.{joined_where, avoiding}
+use Rattle.graph_theory.specs.Joined.{joined_where, avoiding}
 use Rattle.skeleton_runs.proofs.EdgesInOrder.{met-edge, met-end, edges-in_order}
 use Rattle.skeleton_runs.proofs.Opened.{left-permutes, around-joined, around-apart}
 

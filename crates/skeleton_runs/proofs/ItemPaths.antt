@@ -6,7 +6,7 @@ use Rattle.pair_split.specs.Skeleton.{is_end_of}
 use Rattle.pair_split.specs.Split.{items_of, item_at, piece_ends}
 use Rattle.pair_split.specs.Tutte.{components, node_item}
 use Rattle.pair_split.specs.declared.components.Piece.{Piece}
-use Rattle.skeleton_runs.specs.Joined.{PathWhere}
+use Rattle.graph_theory.specs.Joined.{PathWhere}
 use Rattle.skeleton_runs.specs.Laws.{ItemIsPath}
 use Rattle.skeleton_runs.proofs.Items.{in_item, item-path, item-path_vertex}
 use Rattle.skeletons.proofs.NodeItems.{node-piece, comp-in, piece-in}

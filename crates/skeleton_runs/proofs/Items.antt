@@ -17,7 +17,7 @@ use Rattle.pair_split.specs.declared.components.Comp.{Comp}
 use Rattle.pair_split.specs.declared.components.What.TheVariants.{Real}
 use Rattle.pair_split.proofs.Groups.{group-some, group-common, Touched, end-touched}
 use Rattle.pair_split.proofs.LargeSides.{vertex-item}
-use Rattle.skeleton_runs.specs.Joined.{joined_where, avoiding, PathWhere}
+use Rattle.graph_theory.specs.Joined.{joined_where, avoiding, PathWhere}
 use Rattle.skeleton_runs.proofs.Reach.{reach, reach-both, reach-path}
 
 -- an item with the two ends u and v has them as its pair

@@ -1,5 +1,4 @@
--- The lemmas on connection by some edges, on sides of a tree, and on plane rotation systems.
-pub mod Joined
+-- The lemmas on sides of a tree and on plane rotation systems.
 pub mod Reach
 pub mod EdgesInOrder
 pub mod Opened

@@ -22,8 +22,8 @@ use Rattle.faces.specs.Maps.{dart_after, dart_before}
 use Rattle.faces.proofs.DartLemmas.{dart-edge, tail-end, tail-first, tail-second, dart_from-edge, dart_from-below, dart_from-tail}
 use Rattle.faces.proofs.MapSteps.{tail-twin, map-permutes}
 use Rattle.faces.proofs.MapVertices.{vertex-tail, tail-vertex}
-use Rattle.skeleton_runs.specs.Joined.{joined_where, avoiding}
-use Rattle.skeleton_runs.proofs.Joined.{joined-least-typed}
+use Rattle.graph_theory.specs.Joined.{joined_where, avoiding}
+use Rattle.graph_theory.proofs.Joined.{joined-least-typed}
 
 -- a map of darts, and a test that says the same of all darts of a vertex: those that pass it are opened
 module _ (m : ℕ) (next back : ℕ → ℕ) (b : IsMap m next back) (p : ℕ → Bool) (kept : (d : ℕ) → d < 2 * m → p (next d) ≡ p d) where

@@ -8,8 +8,8 @@ use Rattle.graph_theory.specs.Block.{IsOneBlock}
 use Rattle.graph_theory.specs.Side.{IsCommon}
 use Rattle.graph_theory.proofs.Crossings.{TwoCommon, cycle-two_common}
 use Rattle.graph_theory.proofs.Ends.{other-is_end, other-differs, end-cases}
-use Rattle.skeleton_runs.specs.Joined.{ends_where, joined_where, avoiding, PathWhere}
-use Rattle.skeleton_runs.proofs.Joined.{joined-other, joined-more, joined-avoiding, joined-path}
+use Rattle.graph_theory.specs.Joined.{ends_where, joined_where, avoiding, PathWhere}
+use Rattle.graph_theory.proofs.Joined.{joined-other, joined-more, joined-avoiding, joined-path}
 
 -- a division of the edges of a block, with edges on both sides, has two common vertices
 pub divided-two : (g : Multigraph) → IsOneBlock g → (s : ℕ → Bool) (e f : ℕ) → e < edge_count g → f < edge_count g → s e ≡ true → s f ≡ false → TwoCommon g s

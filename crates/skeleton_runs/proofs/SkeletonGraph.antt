@@ -12,6 +12,7 @@ use Rattle.multigraph.specs.Graph.{Multigraph, edge_count, ends_of, IsGraph, IsW
 use Rattle.multigraph.specs.Part.{Rises}
 use Rattle.multigraph.proofs.Places.{rises-once, rises-short}
 use Rattle.graph_theory.specs.Triconnected.{avoids, ends_without, IsConnectedWithout, AreParallel, IsSimple, IsTriconnected}
+use Rattle.graph_theory.proofs.Triconnected.{first-four}
 use Rattle.pair_split.specs.Skeleton.{SameEnds, is_vertex, IsRigid, IsOfKind}
 use Rattle.pair_split.specs.Split.{piece_ends, skeleton}
 use Rattle.pair_split.specs.Tutte.{Node, components, node_at, node_item, IsTutte}
@@ -264,7 +265,7 @@ module _ (g : Multigraph) (nodes : List Node) (b : IsBlockTree g nodes) (k : ℕ
 
     -- it is triconnected
     pub rigid-triconnected : IsTriconnected (skeleton_graph nodes k)
-    rigid-triconnected = record { simple = graph-simple; four = graph-four; stays_connected = graph-stays }
+    rigid-triconnected = record { simple = graph-simple; four = first-four (skeleton_graph nodes k) graph-four; stays_connected = graph-stays }
 
 -- the skeleton of a triconnected node is a graph and triconnected
 pub skeleton-triconnected : SkeletonIsTriconnected

@@ -1,3 +1,2 @@
--- Connection by some of a graph's edges, and laws on the skeletons of a block.
-pub mod Joined
+-- Laws on the skeletons of a block.
 pub mod Laws

@@ -10,7 +10,6 @@
 // (Tutte 1966; Di Battista and Tamassia 1996), and that of a triconnected node is a triconnected graph.
 //
 // The lemmas that are used most (module of proofs/ in front):
-//   Joined         joined-least-typed, joined-closed, joined-more, joined-path, path-joined: connection by edges that pass a test
 //   Reach          reach, reach-both, reach-path: edges of a block that meet the others in two vertices alone
 //   EdgesInOrder   edges-in_order: edges met in this order round a vertex, as darts of a restriction
 //   Opened         around-joined, around-apart: connection in a restriction with a vertex opened

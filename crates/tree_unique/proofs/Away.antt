@@ -10,10 +10,10 @@ use Rattle.pair_split.specs.declared.components.Comp.{Comp}
 use Rattle.pair_split.specs.declared.components.What.{What}
 use Rattle.pair_split.specs.declared.components.What.TheVariants.{Real, Link}
 use Rattle.pair_split.proofs.GraphFamily.{one_block-tight}
-use Rattle.pair_split.proofs.LargeSides.{TwoEdges, three-items, side-two}
+use Rattle.pair_split.proofs.LargeSides.{three-items, side-two}
 use Rattle.pair_split.proofs.TreeSides.{link-from, beyond-apart, beyond-some}
-use Rattle.tree_unique.specs.Separations.{AreSameSide}
-use Rattle.tree_unique.proofs.Counting.{two-others, third-other}
+use Rattle.graph_theory.specs.Separation.{AreSameSide}
+use Rattle.graph_theory.proofs.Counting.{Two, two-others, third-other}
 use Rattle.tree_unique.proofs.Toward.{toward}
 use Rattle.tree_unique.proofs.Items.{place, index-in, chosen, chosen-in, link-place}
 
@@ -73,7 +73,7 @@ module _ (g : Multigraph) (block : IsOneBlock g) (comps : List Comp) (s : IsSpli
   same-from : (k j i : ℕ) (l : LinksTo comps k j) (m : LinksTo comps k i) → AreSameSide g (side comps k j) (side comps k i) → j ≡ i
   same-from k j i l m same =
       let lk : k < length comps = link-from comps s.linked k j l in
-      let t : TwoEdges g comps s (one_block-tight g block) (side comps k j) = side-two g comps s (one_block-tight g block) k j l in
+      let t : Two (edge_count g) (side comps k j) = side-two g comps s (one_block-tight g block) k j l in
       let p : l.0 ≡ m.0 = sym (link-place g comps s k lk j t.first l t.first_in t.first_on) ∙ link-place g comps s k lk i t.first m t.first_in (sym (same t.first t.first_in) ∙ t.first_on) in
       ap number_of (sym (l.1).1 ∙ ap (λ u. (item_at comps k u).what) p ∙ (m.1).1)
 
@@ -92,7 +92,7 @@ module _ (g : Multigraph) (block : IsOneBlock g) (comps : List Comp) (s : IsSpli
           let on : side comps h i (chosen g comps s k lk r.0) ≡ true = away h i k v.0 r.0 (chosen g comps s k lk r.0) m (subst (λ z. is_beyond comps h z k ≡ true) p w.2) v.1 v.2 lk r.1 r.3 e.0 e.1 in
           r.2 (sym e.1 ∙ link-place g comps s k lk j (chosen g comps s k lk r.0) l e.0 (same (chosen g comps s k lk r.0) e.0 ∙ on))
       | inr p ↦
-          let t : TwoEdges g comps s (one_block-tight g block) (side comps k j) = side-two g comps s (one_block-tight g block) k j l in
+          let t : Two (edge_count g) (side comps k j) = side-two g comps s (one_block-tight g block) k j l in
           let apart : l.0 ≢ (v.1).0 = λ d. q (ap number_of (sym ((v.1).1).1 ∙ ap (λ u. (item_at comps k u).what) (sym d) ∙ (l.1).1)) in
           let on : side comps h w.0 t.first ≡ true = away h w.0 k v.0 l.0 t.first w.1 w.2 v.1 v.2 lk (l.1).0 apart t.first_in (link-place g comps s k lk j t.first l t.first_in t.first_on) in
           let d : (w.1).0 ≡ m.0 = sym (link-place g comps s h lh w.0 t.first w.1 t.first_in on) ∙ link-place g comps s h lh i t.first m t.first_in (sym (same t.first t.first_in) ∙ t.first_on) in

@@ -7,7 +7,7 @@ use Rattle.graph_theory.specs.Block.{IsOneBlock}
 use Rattle.pair_split.specs.Skeleton.{IsPolygon, IsRigid}
 use Rattle.pair_split.specs.Split.{items_of, item_at, piece_ends, skeleton, IsSplit}
 use Rattle.pair_split.specs.declared.components.Comp.{Comp}
-use Rattle.tree_unique.specs.Separations.{other_side}
+use Rattle.graph_theory.specs.Separation.{other_side}
 use Rattle.tree_unique.proofs.Items.{end-cases, first-end, second-end, end-of_two, is_at, place, place-in, PlaceAt, at-edge, edges-at, edges-at_place}
 use Rattle.tree_unique.proofs.SkeletonKinds.{IsSimpleAt, polygon-two, polygon-simple, rigid-simple, rigid-apart}
 use Rattle.tree_unique.proofs.Splits.{HalfAt, Halves, halves, IsParted, parted-other, NoneParted, parted-none, colour, coloured, colour-edge, ColouredAt, coloured-at, end-off}

@@ -5,7 +5,7 @@ use Rattle.std.proofs.lemmas.Bool.{cases_Bool}
 use Rattle.permutations.specs.Count.{count, sum_below}
 use Rattle.permutations.proofs.Count.{count-positive, count-none}
 use Rattle.permutations.proofs.Sums.{count-sum, sum_below-add, sum_below-same}
-use Rattle.tree_unique.proofs.Counting.{bit, one-of, one-only, count-three_parts}
+use Rattle.graph_theory.proofs.Counting.{bit, one-of, one-only, count-three_parts}
 
 -- in two corners that are neighbours along the first division, and in the other two
 abbrev pub first_common : Bool → Bool → Bool → Bool → Bool

@@ -7,19 +7,20 @@ use Rattle.multigraph.specs.Graph.{Multigraph, edge_count, is_end}
 use Rattle.graph_theory.specs.Block.{IsOneBlock}
 use Rattle.graph_theory.specs.Side.{IsCommon}
 use Rattle.pair_split.specs.Skeleton.{IsOfKind}
-use Rattle.pair_split.specs.Split.{component_at, item_at, piece_ends, skeleton, side, LinksTo, IsSplit}
+use Rattle.pair_split.specs.Split.{component_at, skeleton, side, LinksTo, IsSplit}
 use Rattle.pair_split.specs.declared.components.Comp.{Comp}
 use Rattle.pair_split.specs.declared.components.Kind.{Kind}
 use Rattle.pair_split.specs.declared.components.Kind.TheVariants.{S, P, R, B}
 use Rattle.pair_split.proofs.GraphFamily.{one_block-tight}
 use Rattle.pair_split.proofs.Groups.{side-other}
-use Rattle.pair_split.proofs.LargeSides.{TwoEdges, three-items, side-two}
+use Rattle.pair_split.proofs.LargeSides.{three-items}
 use Rattle.pair_split.proofs.Subtrees.{link-in}
 use Rattle.pair_split.proofs.TreeSides.{link-from, link-back, link-differs}
-use Rattle.tree_unique.specs.Separations.{other_side, IsSeparation, DoCross, IsGood, AreSameSide}
+use Rattle.pair_split.proofs.Separations.{link-separation}
+use Rattle.graph_theory.specs.Separation.{other_side, IsSeparation, DoCross, IsGood, AreSameSide}
 use Rattle.tree_unique.proofs.Corners.{first_common, all_four, AreCorners, bond-type, ring-type, RingType}
-use Rattle.tree_unique.proofs.Sides.{touches, vertex_bound, end-below, EdgeAt, touches-from, touching, touches-ext, both, separation-from, corner-tests}
-use Rattle.tree_unique.proofs.Items.{end-cases, is_at, place, link-place, place-link}
+use Rattle.tree_unique.proofs.Sides.{touches, vertex_bound, end-below, EdgeAt, touches-from, touching, touches-ext, both, corner-tests}
+use Rattle.tree_unique.proofs.Items.{is_at, place, link-place, place-link}
 use Rattle.tree_unique.proofs.BondType.{MeetInEnds, bond-rigid, bond-polygon}
 use Rattle.tree_unique.proofs.RingType.{IsRing, ring-bond, ring-rigid}
 
@@ -59,23 +60,6 @@ cross-other g s t x h c = record {
     at p q y e = sym (some-ext (edge_count g) p q e) ∙ y
 
 module _ (g : Multigraph) (block : IsOneBlock g) (comps : List Comp) (s : IsSplit g comps) where
-  -- the two sides of a link are a 2-separation
-  pub link-separation : (k j : ℕ) → LinksTo comps k j → IsSeparation g (side comps k j)
-  link-separation k j l = separation-from g block (side comps k j)
-      (record { first = i.first; second = i.second; differ = i.differ; first_in = i.first_in; second_in = i.second_in; first_on = i.first_on; second_on = i.second_on })
-      (record { first = o.first; second = o.second; differ = o.differ; first_in = o.first_in; second_in = o.second_in; first_on = back o.first o.first_in o.first_on; second_on = back o.second o.second_in o.second_on })
-      (piece_ends (item_at comps k l.0)).0 (piece_ends (item_at comps k l.0)).1
-      (λ v c. end-cases v (piece_ends (item_at comps k l.0)) ((s.sides_meet k j l.0 l.1 v).0 c))
-    where
-      i : TwoEdges g comps s (one_block-tight g block) (side comps k j)
-      i = side-two g comps s (one_block-tight g block) k j l
-
-      o : TwoEdges g comps s (one_block-tight g block) (side comps j k)
-      o = side-two g comps s (one_block-tight g block) j k (link-back comps s.linked k j l)
-
-      back : (e : ℕ) → e < edge_count g → side comps j k e ≡ true → not (side comps k j e) ≡ true
-      back e b h = sym (side-other g comps s j k e (link-back comps s.linked k j l) b) ∙ h
-
   -- a component with a link is not small
   not-small : (k j : ℕ) → LinksTo comps k j → (component_at comps k).kind ≢ B
   not-small k j l e = link-differs comps s.linked k j l (omega (arith, s.of_kind.small_alone k (link-from comps s.linked k j l) e, link-from comps s.linked k j l, link-in comps s.linked k j l))
@@ -107,7 +91,7 @@ module _ (g : Multigraph) (block : IsOneBlock g) (comps : List Comp) (s : IsSpli
     d v = touches g (both (other_side own) x) v
 
     corners : AreCorners n a b c d
-    corners = corner-tests g block own x (link-separation j k (link-back comps s.linked k j l)) separation cross
+    corners = corner-tests g block own x (link-separation g block comps s j k (link-back comps s.linked k j l)) separation cross
 
     -- the edges of the own side are those of the other places
     own-place : (e : ℕ) → e < edge_count g → own e ≡ true → place g comps s k lk e ≢ h
@@ -233,7 +217,7 @@ module _ (g : Multigraph) (block : IsOneBlock g) (comps : List Comp) (s : IsSpli
   pub link-good : ((k j : ℕ) → LinksTo comps k j → (component_at comps k).kind ≡ S → (component_at comps j).kind ≡ S → ⊥)
       → ((k j : ℕ) → LinksTo comps k j → (component_at comps k).kind ≡ P → (component_at comps j).kind ≡ P → ⊥)
       → (k j : ℕ) → LinksTo comps k j → IsGood g (side comps k j)
-  link-good no_polygons no_bonds k j l = record { separation = link-separation k j l; uncrossed = uncrossed }
+  link-good no_polygons no_bonds k j l = record { separation = link-separation g block comps s k j l; uncrossed = uncrossed }
     where
       back : LinksTo comps j k
       back = link-back comps s.linked k j l

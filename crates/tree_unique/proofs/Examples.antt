@@ -2,7 +2,7 @@
 -- bond have none.
 use Rattle.std.proofs.Common.{◌≡◌, ℕ, Bool, true, false, List, [], ◌∷◌, length, refl, Contains}
 use Rattle.multigraph.specs.Graph.{Multigraph}
-use Rattle.tree_unique.specs.Separations.{IsGood}
+use Rattle.graph_theory.specs.Separation.{IsGood}
 use Rattle.tree_unique.proofs.Tested.{side_of, table, separations, good, good-listed, listed-good}
 
 -- a square with a chord: edges 0 to 3 round the square, and edge 4 between vertices 0 and 2

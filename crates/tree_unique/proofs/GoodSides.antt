@@ -14,13 +14,12 @@ use Rattle.pair_split.specs.declared.components.Kind.{Kind}
 use Rattle.pair_split.specs.declared.components.Kind.TheVariants.{S, P, R, B}
 use Rattle.pair_split.proofs.Groups.{what-cases, side-other}
 use Rattle.pair_split.proofs.TreeSides.{link-back}
-use Rattle.tree_unique.specs.Separations.{other_side, IsGood, AreSameSide}
-use Rattle.tree_unique.proofs.Counting.{Two, two-of}
-use Rattle.tree_unique.proofs.Sides.{separation-from}
+use Rattle.graph_theory.specs.Separation.{other_side, IsGood, AreSameSide}
+use Rattle.graph_theory.proofs.Counting.{Two, two-of}
 use Rattle.tree_unique.proofs.Toward.{sink}
 use Rattle.tree_unique.proofs.Items.{end-cases, other-end, first-end, second-end, is_at, place, place-in, ends-differ, PlaceAt, at-edge, edges-at, chosen, chosen-in, link-place, place-link, place-real, skeleton-length}
 use Rattle.tree_unique.proofs.SkeletonKinds.{IsSimpleAt, polygon-two, bond-ends, rigid-simple, rigid-apart}
-use Rattle.tree_unique.proofs.Crossed.{link-separation}
+use Rattle.pair_split.proofs.Separations.{separation-from, link-separation}
 
 module _ (g : Multigraph) (block : IsOneBlock g) (comps : List Comp) (s : IsSplit g comps) (x : ℕ → Bool) (good : IsGood g x) where
   abbrev m : ℕ

@@ -10,7 +10,7 @@ use Rattle.pair_split.specs.declared.components.Kind.{Kind}
 use Rattle.pair_split.specs.declared.components.Kind.TheVariants.{S, P, R, B}
 use Rattle.pair_split.proofs.Groups.{same-end}
 use Rattle.pair_split.proofs.LargeSides.{ThreeVertices, three-vertices}
-use Rattle.tree_unique.proofs.Counting.{Two, two-of}
+use Rattle.graph_theory.proofs.Counting.{Two, two-of}
 use Rattle.tree_unique.proofs.Items.{other-end, end-cases, is_at, vertex-at}
 use Rattle.tree_unique.proofs.SkeletonKinds.{degree-count, polygon-two, rigid-apart, fourth-vertex}
 

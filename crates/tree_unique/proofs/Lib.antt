@@ -1,5 +1,4 @@
 -- The lemmas on good 2-separations and on two trees of one block.
-pub mod Counting
 pub mod Corners
 pub mod Sides
 pub mod Toward

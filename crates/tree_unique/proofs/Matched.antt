@@ -10,7 +10,7 @@ use Rattle.pair_split.specs.Split.{item_at, is_beyond, side, LinksTo, IsSplit}
 use Rattle.pair_split.specs.declared.components.Comp.{Comp}
 use Rattle.pair_split.proofs.Groups.{what-cases, side-other}
 use Rattle.pair_split.proofs.TreeSides.{link-back, beyond-other}
-use Rattle.tree_unique.specs.Separations.{AreSameSide}
+use Rattle.graph_theory.specs.Separation.{AreSameSide}
 use Rattle.tree_unique.proofs.Toward.{sink}
 use Rattle.tree_unique.proofs.Items.{place, place-in, place-any, place-link, place-real}
 use Rattle.tree_unique.proofs.Away.{side-within, places-tell}

@@ -7,8 +7,8 @@ use Rattle.graph_theory.specs.Block.{IsOneBlock}
 use Rattle.pair_split.specs.Skeleton.{IsBond, IsRigid}
 use Rattle.pair_split.specs.Split.{items_of, item_at, piece_ends, skeleton, IsSplit}
 use Rattle.pair_split.specs.declared.components.Comp.{Comp}
-use Rattle.tree_unique.specs.Separations.{other_side}
-use Rattle.tree_unique.proofs.Counting.{two-others}
+use Rattle.graph_theory.specs.Separation.{other_side}
+use Rattle.graph_theory.proofs.Counting.{two-others}
 use Rattle.tree_unique.proofs.Items.{end-of_two, is_at, place, place-in, PlaceAt, at-edge, edges-at_place, vertex-at}
 use Rattle.tree_unique.proofs.SkeletonKinds.{bond-ends, rigid-simple, rigid-apart, fourth-vertex}
 use Rattle.tree_unique.proofs.Splits.{HalfAt, Halves, halves, IsParted, parted-other, NoneParted, parted-none, find-parted, colour, colour-own, coloured, colour-other, ColouredAt, coloured-at}

@@ -17,9 +17,10 @@ use Rattle.pair_split.specs.declared.components.What.{What}
 use Rattle.pair_split.specs.declared.components.What.TheVariants.{Real, Link}
 use Rattle.pair_split.proofs.GraphFamily.{one_block-tight}
 use Rattle.pair_split.proofs.GraphSides.{common-same}
+use Rattle.graph_theory.proofs.Counting.{Two}
 use Rattle.pair_split.proofs.Groups.{what-cases, same-end, same-end_back}
-use Rattle.pair_split.proofs.LargeSides.{TwoEdges, side-two}
-use Rattle.tree_unique.specs.Separations.{AreSameSide}
+use Rattle.pair_split.proofs.LargeSides.{side-two}
+use Rattle.graph_theory.specs.Separation.{AreSameSide}
 use Rattle.tree_unique.proofs.Items.{is_at, skeleton-at, skeleton-length, place, place-in, link-place, place-link, place-real, real-place}
 use Rattle.tree_unique.proofs.Rising.{HasAll, rises-same, members-same, rising-pairs}
 use Rattle.tree_unique.proofs.KindOnce.{kind-once}
@@ -62,7 +63,7 @@ module _ (g : Multigraph) (block : IsOneBlock g) (comps : List Comp) (s : IsSpli
   real-link : (f j : ℕ) → (item_at comps k i).what ≡ Real f → (item_at others x i).what ≡ Link j → ⊥
   real-link f j r q =
       let l : LinksTo others x j = (i, (lo, q)) in
-      let w : TwoEdges g others t (one_block-tight g block) (side others x j) = side-two g others t (one_block-tight g block) x j l in
+      let w : Two (edge_count g) (side others x j) = side-two g others t (one_block-tight g block) x j l in
       w.differ (place-real g comps s k lk i w.first f w.first_in (same w.first w.first_in ∙ link-place g others t x lx j w.first l w.first_in w.first_on) r
       ∙ sym (place-real g comps s k lk i w.second f w.second_in (same w.second w.second_in ∙ link-place g others t x lx j w.second l w.second_in w.second_on) r))
 
@@ -98,7 +99,7 @@ module _ (g : Multigraph) (block : IsOneBlock g) (comps : List Comp) (s : IsSpli
       link-real : (j f : ℕ) → (item_at comps k i).what ≡ Link j → (item_at others x i).what ≡ Real f → ⊥
       link-real j f r q =
           let l : LinksTo comps k j = (i, (li, r)) in
-          let w : TwoEdges g comps s (one_block-tight g block) (side comps k j) = side-two g comps s (one_block-tight g block) k j l in
+          let w : Two (edge_count g) (side comps k j) = side-two g comps s (one_block-tight g block) k j l in
           w.differ (place-real g others t x lx i w.first f w.first_in (sym (same w.first w.first_in) ∙ link-place g comps s k lk j w.first l w.first_in w.first_on) q
           ∙ sym (place-real g others t x lx i w.second f w.second_in (sym (same w.second w.second_in) ∙ link-place g comps s k lk j w.second l w.second_in w.second_on) q))
 
@@ -112,7 +113,7 @@ module _ (g : Multigraph) (block : IsOneBlock g) (comps : List Comp) (s : IsSpli
     | inr r ↦ elim (what-cases (item_at others x i).what) [
       | inl q ↦
           let l : LinksTo comps k r.0 = (i, (li, r.1)) in
-          let w : TwoEdges g comps s (one_block-tight g block) (side comps k r.0) = side-two g comps s (one_block-tight g block) k r.0 l in
+          let w : Two (edge_count g) (side comps k r.0) = side-two g comps s (one_block-tight g block) k r.0 l in
           absurd (w.differ (place-real g others t x lx i w.first q.0 w.first_in (sym (same w.first w.first_in) ∙ link-place g comps s k lk r.0 w.first l w.first_in w.first_on) q.1
           ∙ sym (place-real g others t x lx i w.second q.0 w.second_in (sym (same w.second w.second_in) ∙ link-place g comps s k lk r.0 w.second l w.second_in w.second_on) q.1)))
       | inr q ↦ inr (r.0, q.0, r.1, q.1)
@@ -148,7 +149,7 @@ module _ (g : Multigraph) (block : IsOneBlock g) (nodes : List Node) (t : IsTutt
       link : (j : ℕ) → (item_at comps k i).what ≡ Link j → IsLeast i (least (edge_count g) (side comps k j))
       link j r =
           let m : LinksTo comps k j = (i, (li, r)) in
-          let w : TwoEdges g comps t.split (one_block-tight g block) (side comps k j) = side-two g comps t.split (one_block-tight g block) k j m in
+          let w : Two (edge_count g) (side comps k j) = side-two g comps t.split (one_block-tight g block) k j m in
           let found = some-from (edge_count g) (side comps k j) w.first w.first_in w.first_on in
           let below = least-below (edge_count g) (side comps k j) found in
           record {

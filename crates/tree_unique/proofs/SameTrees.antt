@@ -15,7 +15,7 @@ use Rattle.pair_split.specs.declared.components.What.TheVariants.{Real, Link}
 use Rattle.pair_split.proofs.Groups.{side-other}
 use Rattle.pair_split.proofs.Subtrees.{link-in}
 use Rattle.pair_split.proofs.TreeSides.{link-back}
-use Rattle.tree_unique.specs.Separations.{AreSameSide}
+use Rattle.graph_theory.specs.Separation.{AreSameSide}
 use Rattle.tree_unique.specs.Laws.{LinksAreGood, GoodAreLinks, SidesTellLinks, TreesAreEqual}
 use Rattle.tree_unique.proofs.Away.{side-tells, places-tell}
 use Rattle.tree_unique.proofs.Crossed.{link-good}

@@ -1,5 +1,5 @@
 -- Sides of a block's edges: the vertices that they touch and share; the corners of two 2-separations that cross.
-use Rattle.std.proofs.Common.{◌≡◌, ℕ, ◌+◌, ◌<◌, ◌≤◌, ◌⊎◌, inl, inr, Bool, true, false, not, ◌&&◌, ◌||◌, sym, ap, ap₂, ◌∙◌, arith}
+use Rattle.std.proofs.Common.{◌≡◌, ℕ, ◌+◌, ◌<◌, ◌≤◌, inl, inr, Bool, true, false, not, ◌&&◌, ◌||◌, sym, ap, ap₂, ◌∙◌, arith}
 use Rattle.std.proofs.lemmas.Bool.{cases_Bool, and_from, and_parts, or_cases, or_left, or_right, not-true, not_from_false}
 use Rattle.permutations.specs.Count.{count, some, sum_below}
 use Rattle.permutations.proofs.Count.{count-ext}
@@ -11,10 +11,9 @@ use Rattle.multigraph.proofs.OtherEnd.{is_end-cases}
 use Rattle.graph_theory.specs.Block.{IsOneBlock}
 use Rattle.graph_theory.specs.Side.{IsCommon}
 use Rattle.graph_theory.proofs.Crossings.{TwoCommon}
-use Rattle.pair_split.proofs.Degrees.{one-of_two}
 use Rattle.pair_split.proofs.GraphSides.{block-two_common}
-use Rattle.tree_unique.specs.Separations.{other_side, IsSeparation, DoCross, AreSameSide}
-use Rattle.tree_unique.proofs.Counting.{Two, two-count, two-most}
+use Rattle.graph_theory.specs.Separation.{other_side, IsSeparation, DoCross, AreSameSide}
+use Rattle.graph_theory.proofs.Counting.{two-count, two-most}
 use Rattle.tree_unique.proofs.Corners.{first_common, second_common, corner_common, AreCorners}
 
 -- whether some edge on the side s has the end v
@@ -114,22 +113,6 @@ shared-two g s i =
       second_on = common-shared g s i.second i.second_common;
     }) in
     omega (arith, most, least)
-
--- a side with two edges, of which the other side has two, and which have no common vertices but two, is one of a 2-separation
-pub separation-from : (g : Multigraph) → IsOneBlock g → (s : ℕ → Bool) → Two (edge_count g) s → Two (edge_count g) (other_side s)
-    → (p q : ℕ) → ((v : ℕ) → IsCommon g s v → (v ≡ p) ⊎ (v ≡ q)) → IsSeparation g s
-separation-from g block s i o p q only =
-    let w : TwoCommon g s = block-two_common g block s i.first o.first i.first_in o.first_in i.first_on (not-true (s o.first) o.first_on) in
-    record {
-      first = w.first;
-      second = w.second;
-      differ = w.differ;
-      first_common = w.first_common;
-      second_common = w.second_common;
-      no_other = λ v c. one-of_two p q w.first w.second v w.differ (only w.first w.first_common) (only w.second w.second_common) (only v c);
-      two_inside = two-count (edge_count g) s i;
-      two_outside = two-count (edge_count g) (other_side s) o;
-    }
 
 -- the corners
 abbrev pub both : (ℕ → Bool) → (ℕ → Bool) → ℕ → Bool

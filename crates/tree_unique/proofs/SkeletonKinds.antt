@@ -19,7 +19,7 @@ use Rattle.pair_split.proofs.Elements.{contains-here, contains-later, filter-con
 use Rattle.pair_split.proofs.GraphFamily.{all-from_contained}
 use Rattle.pair_split.proofs.Groups.{same-end, same-end_back}
 use Rattle.pair_split.proofs.LargeSides.{three-vertices}
-use Rattle.tree_unique.proofs.Counting.{bit, third-of}
+use Rattle.graph_theory.proofs.Counting.{bit, third-of}
 use Rattle.tree_unique.proofs.Items.{first-end, second-end, end-of_two, same-pairs, is_at, skeleton-at, skeleton-length, at-vertex}
 
 -- the first number in front

@@ -11,7 +11,7 @@ use Rattle.graph_theory.proofs.Crossings.{TwoCommon}
 use Rattle.pair_split.specs.Split.{items_of, item_at, piece_ends, IsSplit}
 use Rattle.pair_split.specs.declared.components.Comp.{Comp}
 use Rattle.pair_split.proofs.GraphSides.{block-two_common}
-use Rattle.tree_unique.specs.Separations.{other_side}
+use Rattle.graph_theory.specs.Separation.{other_side}
 use Rattle.tree_unique.proofs.Items.{first-end, second-end, is_at, place, place-in, ends-differ, PlaceAt, at-edge, edges-at_place, chosen, chosen-in}
 use Rattle.tree_unique.proofs.SkeletonKinds.{IsSimpleAt}
 

@@ -8,9 +8,9 @@ use Rattle.permutations.proofs.Search.{some-ext, some-none}
 use Rattle.multigraph.specs.Graph.{Multigraph, edge_count, ends_of, is_end}
 use Rattle.multigraph.proofs.OtherEnd.{is_end-cases}
 use Rattle.pair_split.proofs.Elements.{contains-here, contains-cases, contains-none, contains-filter, filter-contains, contains-map}
-use Rattle.tree_unique.specs.Separations.{other_side, IsSeparation, DoCross, IsGood, AreSameSide}
+use Rattle.graph_theory.specs.Separation.{other_side, IsSeparation, DoCross, IsGood, AreSameSide}
 use Rattle.pair_split.proofs.GraphSides.{common-same}
-use Rattle.tree_unique.proofs.Counting.{Two, two-of, two-count, two-most, third-of}
+use Rattle.graph_theory.proofs.Counting.{Two, two-of, two-count, two-most, third-of}
 use Rattle.tree_unique.proofs.Sides.{is_shared, common-shared, shared-common}
 
 -- all lists of n truth values

@@ -4,7 +4,7 @@ use Rattle.multigraph.specs.Graph.{Multigraph}
 use Rattle.graph_theory.specs.Block.{IsOneBlock}
 use Rattle.pair_split.specs.Split.{side, LinksTo}
 use Rattle.pair_split.specs.Tutte.{Node, components, IsTutte}
-use Rattle.tree_unique.specs.Separations.{IsGood, AreSameSide}
+use Rattle.graph_theory.specs.Separation.{IsGood, AreSameSide}
 
 -- the two sides of each link are a good 2-separation
 abbrev pub LinksAreGood : Type 0

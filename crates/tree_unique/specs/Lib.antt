@@ -1,3 +1,2 @@
 -- The tree of a block is the only one.
-pub mod Separations
 pub mod Laws

@@ -2,7 +2,7 @@
 //
 // A 2-separation of a graph is a division of its edges into two sides of at least two edges each, of which just two vertices have
 // edges of both. Two divisions cross where each side of the one has an edge in common with each side of the other; a
-// 2-separation is good where it crosses no other. The crate defines these (specs/Separations.antt) and proves the laws below:
+// 2-separation is good where it crosses no other. graph_theory defines these (specs/Separation.antt); proved are the laws below:
 // the pairs of sides of the links of a block's tree are exactly the good 2-separations, each of one link; and two trees of one
 // block are equal, in their numbering too. There is no code here.
 //
@@ -16,7 +16,7 @@
 //
 // The lemmas (module of proofs/ in front):
 //   Corners         corners of two crossing 2-separations: bond-type, ring-type
-//   Sides           touches-from, common-shared, separation-from, corner-tests: sides of a block's edges
+//   Sides           touches-from, common-shared, corner-tests: sides of a block's edges
 //   Toward, Away    beyond-nest, sink, away, side-within, side-tells, places-tell: the sides of links, seen from afar
 //   Items           place, at-edge, edges-at, link-place, place-real: edges by the item of a component in whose group they are
 //   SkeletonKinds   polygon-two, polygon-simple, rigid-simple, rigid-apart: skeletons of the kinds

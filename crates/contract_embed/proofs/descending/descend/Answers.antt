@@ -1,6 +1,7 @@
-use Rattle.std.proofs.Common.{List, sym, subst}
+use Rattle.std.proofs.Common.{List, sym, subst, arith}
 use Rattle.multigraph.specs.Graph.{Multigraph}
 use Rattle.graph_theory.specs.Triconnected.{IsTriconnected}
+use Rattle.graph_theory.proofs.Triconnected.{four-vertices}
 use Rattle.contractions.specs.Level.{contraction}
 use Rattle.contract_embed.specs.Chain.{IsChain}
 use Rattle.contractions.specs.declared.level.Level.{Level}
@@ -17,3 +18,6 @@ down-preserved c =
           (chain-push g c.down.levels.items c.down.bottom level c.down.invariant.0 c.in_ok-level.ensures.graph c.in_ok-level.ensures.level),
       level-triconnected level c.in_ok-level.ensures.level,
     )
+
+pub returns-clause-four : goal.returns-clause-four
+returns-clause-four c = omega (arith, four-vertices c.down.bottom c.down.invariant.1, c.down-test.false, c.vertex_count.ensures.value)

@@ -1,5 +1,6 @@
 use Rattle.std.proofs.Common.{◌≡◌, ◌+◌, ◌<◌, ◌≤◌, ℕ, length}
-use Rattle.pair_split.specs.Lumps.{family_of, label_at, lump_size}
+use Rattle.graph_theory.specs.Labels.{label_at}
+use Rattle.pair_split.specs.Lumps.{family_of, lump_size}
 use Rattle.pair_split.specs.Search.{IsBest}
 use Rattle.pair_split.proofs.search.best_of_lumps.Given as goal
 

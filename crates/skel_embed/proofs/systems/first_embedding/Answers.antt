@@ -5,6 +5,7 @@ use Rattle.rotations.specs.Rotation.{order_at, IsRotationSystem}
 use Rattle.faces.specs.Euler.{IsPlane}
 use Rattle.faces.proofs.MapMirror.{mirror-system, mirror-image-plane}
 use Rattle.planarity.specs.Embedding.{IsEmbedding}
+use Rattle.graph_theory.proofs.Triconnected.{four-vertices}
 use Rattle.skel_embed.specs.Fan.{TurnsRight}
 use Rattle.skel_embed.proofs.Mirrors.{three, first-member, first-of, own-right, mirror-right}
 use Rattle.skel_embed.proofs.systems.first_embedding.Goals as goal
@@ -19,7 +20,7 @@ pub pred-requires : goal.pred-requires
 pred-requires c c' = contains-from_member (order_at c'.in-Plane.r 0) (get_or c'.incident.result.now 0 0) (first-member c'.args.g.now c'.incident.ensures.graph c'.requires c'.in-Plane.r (subst (IsEmbedding c'.args.g.now) c'.in-Plane.is (c'.in_ok-s.ensures {u = tt})).0 c'.incident.result.now c'.incident.ensures.value)
 
 pub returns-then-succ-pred-clause-right : goal.returns-then-succ-pred-clause-right
-returns-then-succ-pred-clause-right c c' = own-right c'.args.g.now c'.in-Plane.r (subst (IsEmbedding c'.args.g.now) c'.in-Plane.is (c'.in_ok-s.ensures {u = tt})).0 (omega (arith, c'.requires.four)) (get_or c'.incident.result.now 0 0) (first-of (incident_edges c'.args.g.now 0) c'.incident.result.now c'.incident.ensures.value)
+returns-then-succ-pred-clause-right c c' = own-right c'.args.g.now c'.in-Plane.r (subst (IsEmbedding c'.args.g.now) c'.in-Plane.is (c'.in_ok-s.ensures {u = tt})).0 (omega (arith, four-vertices c'.args.g.now c'.requires)) (get_or c'.incident.result.now 0 0) (first-of (incident_edges c'.args.g.now 0) c'.incident.result.now c'.incident.ensures.value)
     (omega (arith, c'.if-succ-pred.true, c'.succ.ensures, c'.pred.ensures))
 
 pub returns-in_ok-mirror-in-Plane-clause-embedding : goal.returns-in_ok-mirror-in-Plane-clause-embedding
@@ -30,5 +31,5 @@ returns-in_ok-mirror-in-Plane-clause-embedding c c' =
 
 pub returns-in_ok-mirror-in-Plane-clause-right : goal.returns-in_ok-mirror-in-Plane-clause-right
 returns-in_ok-mirror-in-Plane-clause-right c c' = subst TurnsRight (sym (c'.in_ok-mirror-in-Plane.ensures {u = tt}))
-    (mirror-right c'.args.g.now c'.in-Plane.r (subst (IsEmbedding c'.args.g.now) c'.in-Plane.is (c'.in_ok-s.ensures {u = tt})).0 (omega (arith, c'.requires.four)) (get_or c'.incident.result.now 0 0) (first-of (incident_edges c'.args.g.now 0) c'.incident.result.now c'.incident.ensures.value)
+    (mirror-right c'.args.g.now c'.in-Plane.r (subst (IsEmbedding c'.args.g.now) c'.in-Plane.is (c'.in_ok-s.ensures {u = tt})).0 (omega (arith, four-vertices c'.args.g.now c'.requires)) (get_or c'.incident.result.now 0 0) (first-of (incident_edges c'.args.g.now 0) c'.incident.result.now c'.incident.ensures.value)
     (omega (arith, c'.if-succ-pred.false, c'.succ.ensures, c'.pred.ensures)))

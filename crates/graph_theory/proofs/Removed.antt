@@ -1,19 +1,24 @@
 -- What is connected when vertices are removed.
-use Rattle.std.proofs.Common.{◌≡◌, ℕ, ◌<◌, inl, inr, Bool, true, false, not, List, [], ◌∷◌, get_or, refl, sym, ◌∙◌, subst, arith, All, Contains}
+use Rattle.std.proofs.Common.{◌≡◌, ℕ, ◌<◌, ◌⊎◌, inl, inr, Bool, true, false, not, List, [], ◌∷◌, get_or, refl, sym, ◌∙◌, subst, arith, All, Contains}
 use Rattle.std.specs.List.{filter}
-use Rattle.std.proofs.lemmas.Bool.{cases_Bool, and_parts, and_from, not-true, not_from_false}
+use Rattle.std.proofs.lemmas.Bool.{cases_Bool, and_parts, and_from, not-true, not_from_false, true≢false}
 use Rattle.std.proofs.lemmas.List.{get_or_default}
 use Rattle.std.proofs.lemmas.List.Elements.{All-filter, All-cons, All-weaker, filter_passes, filter_agree, Contains-append_right}
 use Rattle.permutations.specs.Members.{is_member}
 use Rattle.permutations.specs.Relation.{connected}
+use Rattle.permutations.proofs.Members.{member-head, member-tail, member-cases}
 use Rattle.permutations.proofs.Filter.{filter-yes, filter-no}
-use Rattle.permutations.proofs.Relation.{connected-symmetric, connected-link, connected-least-typed, same-tests}
+use Rattle.permutations.proofs.Relation.{connected-reflexive, connected-symmetric, connected-transitive, connected-link, connected-least-typed, same-tests}
 use Rattle.multigraph.specs.Graph.{Multigraph, edge_count, ends_of, is_end, other_end}
-use Rattle.multigraph.proofs.OtherEnd.{is_end-first, is_end-second, is_end-cases, other_end-cases, other_end-of_first}
+use Rattle.multigraph.proofs.OtherEnd.{is_end-first, is_end-second, is_end-cases, other_end-cases, other_end-of_first, other_end-is_end}
+use Rattle.graph_theory.specs.Path.{walk_vertices, IsWalk, PathWithout}
+use Rattle.graph_theory.specs.Joined.{ends_where, joined_where, PathWhere}
 use Rattle.graph_theory.specs.Triconnected.{avoids, ends_without}
+use Rattle.graph_theory.proofs.Walks.{edge-met}
+use Rattle.graph_theory.proofs.Joined.{joined-ends, joined-least-typed, joined-path, path-joined}
 
 -- what a list has is kept where it passes
-contains-filter : {X : Type 0} (p : X → Bool) (xs : List X) → All (λ x. p x ≡ true → Contains (filter p xs) x) xs
+pub contains-filter : {X : Type 0} (p : X → Bool) (xs : List X) → All (λ x. p x ≡ true → Contains (filter p xs) x) xs
 contains-filter p [] = λ k d l. absurd (omega arith)
 contains-filter p (y ∷ xs) = All-cons (λ x. p x ≡ true → Contains (filter p (y ∷ xs)) x) y xs
     (λ t. subst (λ (l : List _). Contains l y) (sym (filter-yes p y xs t)) (0, omega arith, refl))
@@ -25,8 +30,12 @@ contains-filter p (y ∷ xs) = All-cons (λ x. p x ≡ true → Contains (filter
     xs (contains-filter p xs))
 
 -- an edge neither end of which is removed avoids the removed vertices
-avoids-from : (removed : List ℕ) (link : ℕ × ℕ) → is_member link.0 removed ≡ false → is_member link.1 removed ≡ false → avoids removed link ≡ true
+pub avoids-from : (removed : List ℕ) (link : ℕ × ℕ) → is_member link.0 removed ≡ false → is_member link.1 removed ≡ false → avoids removed link ≡ true
 avoids-from removed link a b = and_from (not (is_member link.0 removed)) (not (is_member link.1 removed)) (not_from_false (is_member link.0 removed) a) (not_from_false (is_member link.1 removed) b)
+
+-- an edge with an end that is removed does not avoid them
+pub avoids-not : (removed : List ℕ) (link : ℕ × ℕ) → (is_member link.0 removed ≡ true) ⊎ (is_member link.1 removed ≡ true) → avoids removed link ≡ false
+avoids-not removed link h = elim h [ inl a ↦ grind (arith, a) | inr a ↦ grind (arith, a, cases_Bool (is_member link.0 removed)) ]
 
 -- neither end of an edge that avoids the removed vertices is removed
 avoids-parts : (removed : List ℕ) (link : ℕ × ℕ) → avoids removed link ≡ true → (is_member link.0 removed ≡ false) × (is_member link.1 removed ≡ false)
@@ -97,3 +106,46 @@ kept-without g removed u v m c = not-true (is_member v removed)
 -- the same vertices removed in another order
 pub same-without : (g : Multigraph) (removed others : List ℕ) → ((v : ℕ) → is_member v removed ≡ is_member v others) → ends_without g removed ≡ ends_without g others
 same-without g removed others h = filter_agree (avoids removed) (avoids others) (λ link. rw (h link.0, h link.1) refl) g.ends
+
+-- an end of an edge that avoids the removed vertices is none of them
+avoids-end : (g : Multigraph) (removed : List ℕ) (e z : ℕ) → avoids removed (ends_of g e) ≡ true → is_end g z e ≡ true → is_member z removed ≡ false
+avoids-end g removed e z a i =
+    let w = avoids-parts removed (ends_of g e) a in
+    elim (is_end-cases g z e i) [ inl h ↦ subst (λ (k : ℕ). is_member k removed ≡ false) h w.0 | inr h ↦ subst (λ (k : ℕ). is_member k removed ≡ false) h w.1 ]
+
+-- whether edge e avoids the removed vertices
+abbrev edge_avoids : Multigraph → List ℕ → ℕ → Bool
+edge_avoids g removed e = avoids removed (ends_of g e)
+
+-- a walk along such edges, from a vertex that is not removed, meets no removed one
+walk-avoids : (g : Multigraph) (removed : List ℕ) (x : ℕ) (es : List ℕ) → is_member x removed ≡ false → IsWalk g x es
+    → ((e : ℕ) → is_member e es ≡ true → edge_avoids g removed e ≡ true) → (z : ℕ) → is_member z (walk_vertices g x es) ≡ true → is_member z removed ≡ false
+walk-avoids g removed x [] n w h z m = elim (member-cases z x [] m) [ inl i ↦ subst (λ (k : ℕ). is_member k removed ≡ false) i n | inr k ↦ absurd (true≢false (sym k)) ]
+walk-avoids g removed x (e ∷ es) n w h z m = elim (member-cases z x (walk_vertices g (other_end g e x) es) m) [
+  | inl i ↦ subst (λ (k : ℕ). is_member k removed ≡ false) i n
+  | inr k ↦ walk-avoids g removed (other_end g e x) es (avoids-end g removed e (other_end g e x) (h e (member-head e es)) (other_end-is_end g e x)) w.1 (λ f o. h f (member-tail f e es o)) z k
+]
+
+-- a vertex that is not removed, and one that is connected with it, are joined by a path that meets no removed one
+pub path-without : (g : Multigraph) (removed : List ℕ) (x y : ℕ) → is_member x removed ≡ false → connected (ends_without g removed) x y ≡ true → PathWithout g removed x y
+path-without g removed x y n c =
+    let ends : List (ℕ × ℕ) = ends_where g (edge_avoids g removed) in
+    let j : joined_where g (edge_avoids g removed) x y ≡ true = least-without g removed (λ u v. joined_where g (edge_avoids g removed) u v ≡ true)
+    (connected-reflexive ends) (connected-symmetric ends) (connected-transitive ends)
+    (λ e l a b. joined-ends g (edge_avoids g removed) e l (avoids-from removed (ends_of g e) a b)) x y c in
+    let p : PathWhere g (edge_avoids g removed) x y = joined-path g (edge_avoids g removed) x y j in
+    record { along = p.along; path = p.path; avoids = walk-avoids g removed x p.along n p.path.walk p.passes }
+
+-- what such a path joins is connected
+pub without-path : (g : Multigraph) (removed : List ℕ) (x y : ℕ) → PathWithout g removed x y → connected (ends_without g removed) x y ≡ true
+without-path g removed x y p = joined-least-typed g (edge_avoids g removed) (λ u v. connected (ends_without g removed) u v ≡ true)
+    (connected-reflexive (ends_without g removed)) (connected-symmetric (ends_without g removed)) (connected-transitive (ends_without g removed))
+    (λ e l a. let w = avoids-parts removed (ends_of g e) a in link-without g removed e l w.0 w.1)
+    x y
+    (path-joined g (edge_avoids g removed) x y (record {
+      along = p.along;
+      path = p.path;
+      passes = λ e m. avoids-from removed (ends_of g e)
+          (p.avoids (ends_of g e).0 (edge-met g x p.along p.path.walk e (ends_of g e).0 m (is_end-first g e)))
+          (p.avoids (ends_of g e).1 (edge-met g x p.along p.path.walk e (ends_of g e).1 m (is_end-second g e)));
+    }))

@@ -1,31 +1,33 @@
 -- Connection by those edges that pass a test: it is the least relation that has their ends, and it is by paths.
-use Rattle.std.proofs.Common.{◌≡◌, ◌≢◌, ℕ, ◌<◌, inl, inr, Bool, true, false, not, ◌==◌, List, [], ◌∷◌, ◌++◌, reverse, filter, refl, sym, ap, ◌∙◌, subst, Contains}
+use Rattle.std.proofs.Common.{◌≡◌, ◌≢◌, ℕ, ◌<◌, inl, inr, Bool, true, false, not, ◌==◌, List, [], ◌∷◌, ◌++◌, reverse, filter, length, get_or, refl, sym, ap, ◌∙◌, subst, arith, Contains}
 use Rattle.std.proofs.lemmas.Bool.{both_ways, and_parts, or_cases, eq-eqb, eqb-true, ne_eqb, not-true}
+use Rattle.std.proofs.lemmas.List.{get_or-map, length-map}
+use Rattle.std.proofs.lemmas.List.Elements.{Contains-get_or}
 use Rattle.permutations.specs.Members.{is_member}
 use Rattle.permutations.proofs.Members.{member-head, member-tail, member-cases, member-append_cases, member-reverse}
 use Rattle.permutations.proofs.Relation.{connected-reflexive, connected-symmetric, connected-transitive, connected-link, connected-least-typed}
 use Rattle.multigraph.specs.Graph.{Multigraph, edge_count, ends_of, is_end, other_end, numbers_below}
-use Rattle.multigraph.proofs.Below.{filter_below-has, filter_below-only}
+use Rattle.multigraph.proofs.Below.{filter_below-has, filter_below-at}
 use Rattle.multigraph.proofs.OtherEnd.{is_end-first, is_end-second, other_end-cases}
 use Rattle.graph_theory.specs.Path.{walk_end, IsWalk, IsPath}
+use Rattle.graph_theory.specs.Joined.{ends_where, joined_where, avoiding, PathWhere}
 use Rattle.graph_theory.proofs.Walks.{end-append, walk-append}
 use Rattle.graph_theory.proofs.Reversal.{end-reverse, walk-reverse}
 use Rattle.graph_theory.proofs.Paths.{walk_to_path, Shortened}
 use Rattle.graph_theory.proofs.Connection.{first-is_end, other-first}
-use Rattle.pair_split.proofs.Elements.{contains-map, map-contains}
-use Rattle.pair_split.proofs.GraphFamily.{all-from_contained}
-use Rattle.skeleton_runs.specs.Joined.{ends_where, joined_where, avoiding, PathWhere}
 
 -- the ends of an edge that passes are a link
 pub ends-contained : (g : Multigraph) (t : ℕ → Bool) (e : ℕ) → e < edge_count g → t e ≡ true → Contains (ends_where g t) (ends_of g e)
-ends-contained g t e l h = contains-map (ends_of g) e (filter t (numbers_below (edge_count g))) (filter_below-has t (edge_count g) e l h)
+ends-contained g t e l h =
+    let c : Contains (filter t (numbers_below (edge_count g))) e = filter_below-has t (edge_count g) e l h in
+    (c.0, omega (arith, c.1, length-map (filter t (numbers_below (edge_count g))) (ends_of g)), get_or-map (ends_of g) (filter t (numbers_below (edge_count g))) c.0 e (ends_of g e) c.1 ∙ ap (ends_of g) c.2)
 
 -- each link is the ends of an edge that passes
 pub contained-ends : (g : Multigraph) (t : ℕ → Bool) (link : ℕ × ℕ) → Contains (ends_where g t) link → (e : ℕ) × (e < edge_count g) × (t e ≡ true) × (ends_of g e ≡ link)
 contained-ends g t link c =
-    let w = map-contains (ends_of g) link (filter t (numbers_below (edge_count g))) c in
-    let b = filter_below-only t (edge_count g) w.0 w.1 in
-    (w.0, b.0, b.1, w.2)
+    let l : c.0 < length (filter t (numbers_below (edge_count g))) = omega (arith, c.1, length-map (filter t (numbers_below (edge_count g))) (ends_of g)) in
+    let b = filter_below-at t (edge_count g) c.0 0 l in
+    (get_or (filter t (numbers_below (edge_count g))) c.0 0, b.0, b.1, sym (get_or-map (ends_of g) (filter t (numbers_below (edge_count g))) c.0 0 link l) ∙ c.2)
 
 -- the two ends of an edge that passes are joined
 pub joined-ends : (g : Multigraph) (t : ℕ → Bool) (e : ℕ) → e < edge_count g → t e ≡ true → joined_where g t (ends_of g e).0 (ends_of g e).1 ≡ true
@@ -48,8 +50,9 @@ pub joined-least-typed : (g : Multigraph) (t : ℕ → Bool) (S : ℕ → ℕ �
     → ((e : ℕ) → e < edge_count g → t e ≡ true → S (ends_of g e).0 (ends_of g e).1)
     → (x y : ℕ) → joined_where g t x y ≡ true → S x y
 joined-least-typed g t S r s tr each x y c = connected-least-typed (ends_where g t) S r s tr
-    (all-from_contained (λ (link : ℕ × ℕ). S link.0 link.1) (ends_where g t) (λ link d.
-    let w = contained-ends g t link d in subst (λ (z : ℕ × ℕ). S z.0 z.1) w.3 (each w.0 w.1 w.2))) x y c
+    (λ k d l.
+    let w = contained-ends g t (get_or (ends_where g t) k d) (Contains-get_or (ends_where g t) k d l) in
+    subst (λ (z : ℕ × ℕ). S z.0 z.1) w.3 (each w.0 w.1 w.2)) x y c
 
 -- a test that the ends of each edge that passes share is constant on what is joined
 pub joined-closed : (g : Multigraph) (t a : ℕ → Bool) → ((e : ℕ) → e < edge_count g → t e ≡ true → a (ends_of g e).0 ≡ a (ends_of g e).1) → (x y : ℕ) → joined_where g t x y ≡ true → a x ≡ a y
