@@ -141,9 +141,12 @@ impl Rotation {
         RotIter::from(&self.nodes, ring.first, ring.degree)
     }
 
-    /// The rings on which it is kept, with two nodes for each edge: an edge has one of them at each of its ends.
+    /// The rings on which it is kept, with two nodes for each edge e, 2e and 2e + 1: one stands at each of its ends.
     ///
-    /// Round each vertex the node behind that of an edge is that of the edge which follows it there.
+    /// Round each vertex the node behind that of an edge is that of the edge which follows it there. Node 2e stands at the end
+    /// that the graph names first; this the contract can't say, since the cyclic orders are also those of the graph in which the
+    /// two ends of e have changed places. It says that the two nodes leave the two ends, one each, of whatever graph the value
+    /// is a rotation system of.
     pub fn rings(&self) -> &Rings
         ensures { (tails : List ℕ) × StandOnRings self.now result.now tails }
     {
