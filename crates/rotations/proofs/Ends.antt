@@ -2,7 +2,7 @@
 use Rattle.std.proofs.Common.{◌≡◌, ◌≢◌, ℕ, ◌+◌, ◌-◌, ◌*◌, ◌/◌, ◌<◌, ◌⊎◌, true, List, length, get_or, sym, ap, ◌∙◌, subst, inl, inr, arith}
 use Rattle.std.proofs.lemmas.Bool.{cases_lt}
 use Rattle.permutations.specs.Members.{is_member}
-use Rattle.multigraph.specs.Graph.{Multigraph, IsGraph, edge_count, ends_of, is_end, incident_edges}
+use Rattle.multigraph.specs.Graph.{Multigraph, IsGraph, edge_count, ends_of, incident_edges}
 use Rattle.multigraph.proofs.OtherEnd.{is_end-first, is_end-second}
 use Rattle.rotations.specs.Rotation.{order_at, IsRotationSystem}
 use Rattle.rotations.specs.Rings.{dart_at, LeaveEnds}
