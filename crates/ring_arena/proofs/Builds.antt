@@ -62,6 +62,7 @@ module _ (next prev : ℕ → ℕ) (n : ℕ) (base : Ptr) (nodes : List Node) (a
         let number_prev : number_at base node.prev ≡ prev k = ap (number_at base) is.prev_place ∙ number-place base inb (prev k) in
         record {
           numbered = is.numbered;
+          followed = is.followed ∙ sym number_next;
           next_in = rw (number_next, l) (in_next k within);
           next_place = is.next_place ∙ ap (place_of base) (sym number_next);
           prev_in = rw (number_prev, l) (in_prev k within);

@@ -47,11 +47,11 @@ next-long base nodes = length-map nodes (λ (n : Node). number_at base n.next)
 pub prev-long : (base : Ptr) (nodes : List Node) → length (links_of base nodes).prev ≡ length nodes
 prev-long base nodes = length-map nodes (λ (n : Node). number_at base n.prev)
 
--- the node behind a node is the one at its place
-pub behind_number : (base : Ptr) (nodes : List Node) (k : ℕ) (node other : Node) → AreNodes base nodes → slice_get nodes k ≡ Some node
-    → slice_get nodes (number_at base node.next) ≡ Some other → other.number ≡ slice_index (links_of base nodes).next k
-behind_number base nodes k node other are e f = (are.each (number_at base node.next) other f).numbered ∙ sym (next_link base nodes k node e)
+-- the number of the node behind a node stands in it
+pub after_number : (base : Ptr) (nodes : List Node) (k : ℕ) (node : Node) → AreNodes base nodes → slice_get nodes k ≡ Some node → node.after ≡ slice_index (links_of base nodes).next k
+after_number base nodes k node are e = (are.each k node e).followed ∙ sym (next_link base nodes k node e)
 
+-- the node before a node is the one at its place
 pub before_number : (base : Ptr) (nodes : List Node) (k : ℕ) (node other : Node) → AreNodes base nodes → slice_get nodes k ≡ Some node
     → slice_get nodes (number_at base node.prev) ≡ Some other → other.number ≡ slice_index (links_of base nodes).prev k
 before_number base nodes k node other are e f = (are.each (number_at base node.prev) other f).numbered ∙ sym (prev_link base nodes k node e)
@@ -68,13 +68,14 @@ nodes-set base nodes i y are is = record {
 }
 
 -- a node with other places
-pub node-placed : (base : Ptr) (count k : ℕ) (node : Node) (i j : ℕ) (next prev : Ptr) → InBlock base → node.number ≡ k → i < count → next ≡ place_of base i → j < count → prev ≡ place_of base j
-    → IsNode base count k (record { number = node.number; next = next; prev = prev })
-node-placed base count k node i j next prev inb e l u m v =
+pub node-placed : (base : Ptr) (count k : ℕ) (node : Node) (after i j : ℕ) (next prev : Ptr) → InBlock base → node.number ≡ k → after ≡ i → i < count → next ≡ place_of base i → j < count → prev ≡ place_of base j
+    → IsNode base count k (record { number = node.number; after = after; next = next; prev = prev })
+node-placed base count k node after i j next prev inb e a l u m v =
     let number_next : number_at base next ≡ i = ap (number_at base) u ∙ number-place base inb i in
     let number_prev : number_at base prev ≡ j = ap (number_at base) v ∙ number-place base inb j in
     record {
       numbered = e;
+      followed = a ∙ sym number_next;
       next_in = subst (λ (n : ℕ). n < count) (sym number_next) l;
       next_place = u ∙ ap (place_of base) (sym number_next);
       prev_in = subst (λ (n : ℕ). n < count) (sym number_prev) m;
@@ -84,15 +85,15 @@ node-placed base count k node i j next prev inb e l u m v =
 -- a's place behind it is written, then b's place before it
 pub relinked : (base : Ptr) (nodes : List Node) (a b : ℕ) (at_a at_b : Node) (to from : Ptr) → AreNodes base nodes → a < length nodes → b < length nodes
     → at_a ≡ get_or nodes a at_a → to ≡ place_of base b → from ≡ place_of base a
-    → at_b ≡ get_or (slice_set nodes a (record { number = at_a.number; next = to; prev = at_a.prev })) b at_b
-    → AreRelinked base nodes base (slice_set (slice_set nodes a (record { number = at_a.number; next = to; prev = at_a.prev })) b (record { number = at_b.number; next = at_b.next; prev = from })) a b
+    → at_b ≡ get_or (slice_set nodes a (record { number = at_a.number; after = b; next = to; prev = at_a.prev })) b at_b
+    → AreRelinked base nodes base (slice_set (slice_set nodes a (record { number = at_a.number; after = b; next = to; prev = at_a.prev })) b (record { number = at_b.number; after = at_b.after; next = at_b.next; prev = from })) a b
 relinked base nodes a b at_a at_b to from are la lb ea et ef eb =
-    let new_a : Node = record { number = at_a.number; next = to; prev = at_a.prev } in
+    let new_a : Node = record { number = at_a.number; after = b; next = to; prev = at_a.prev } in
     let mid : List Node = slice_set nodes a new_a in
-    let new_b : Node = record { number = at_b.number; next = at_b.next; prev = from } in
+    let new_b : Node = record { number = at_b.number; after = at_b.after; next = at_b.next; prev = from } in
     let lm : length mid ≡ length nodes = length-set nodes a new_a in
     let is_a = are.each a at_a (read_item nodes a at_a la ea) in
-    let are_mid : AreNodes base mid = nodes-set base nodes a new_a are (node-placed base (length nodes) a at_a b (number_at base at_a.prev) to at_a.prev are.in_block is_a.numbered lb et is_a.prev_in is_a.prev_place) in
+    let are_mid : AreNodes base mid = nodes-set base nodes a new_a are (node-placed base (length nodes) a at_a b b (number_at base at_a.prev) to at_a.prev are.in_block is_a.numbered refl lb et is_a.prev_in is_a.prev_place) in
     let lb' : b < length mid = subst (λ (n : ℕ). b < n) (sym lm) lb in
     let la' : a < length mid = subst (λ (n : ℕ). a < n) (sym lm) la in
     let is_b = are_mid.each b at_b (read_item mid b at_b lb' eb) in
@@ -100,22 +101,22 @@ relinked base nodes a b at_a at_b to from are la lb ea et ef eb =
     record {
       in_place = refl;
       count = length-set mid b new_b ∙ lm;
-      nodes = nodes-set base mid b new_b are_mid (node-placed base (length mid) b at_b (number_at base at_b.next) a at_b.next from are.in_block is_b.numbered is_b.next_in is_b.next_place la' ef);
+      nodes = nodes-set base mid b new_b are_mid (node-placed base (length mid) b at_b at_b.after (number_at base at_b.next) a at_b.next from are.in_block is_b.numbered is_b.followed is_b.next_in is_b.next_place la' ef);
       next = map-set_same f mid b new_b at_b (ap f eb) ∙ map-set f nodes a new_a ∙ ap (slice_set (map f nodes) a) (ap (number_at base) et ∙ number-place base are.in_block b);
       prev = map-set g mid b new_b ∙ ap (λ (l : List ℕ). slice_set l b (g new_b)) (map-set_same g nodes a new_a at_a (ap g ea)) ∙ ap (slice_set (map g nodes) b) (ap (number_at base) ef ∙ number-place base are.in_block a);
     }
 
 -- the two places of a node are exchanged
-pub places-exchanged : (base : Ptr) (nodes : List Node) (k : ℕ) (node : Node) → AreNodes base nodes → k < length nodes → node ≡ get_or nodes k node
-    → AreTurned base nodes base (slice_set nodes k (record { number = node.number; next = node.prev; prev = node.next })) k
-places-exchanged base nodes k node are l e =
-    let new : Node = record { number = node.number; next = node.prev; prev = node.next } in
+pub places-exchanged : (base : Ptr) (nodes : List Node) (k before : ℕ) (node : Node) → AreNodes base nodes → k < length nodes → node ≡ get_or nodes k node → before ≡ number_at base node.prev
+    → AreTurned base nodes base (slice_set nodes k (record { number = node.number; after = before; next = node.prev; prev = node.next })) k
+places-exchanged base nodes k before node are l e b =
+    let new : Node = record { number = node.number; after = before; next = node.prev; prev = node.next } in
     let held = read_item nodes k node l e in let is = are.each k node held in
     let f : Node → ℕ = λ n. number_at base n.next in let g : Node → ℕ = λ n. number_at base n.prev in
     record {
       in_place = refl;
       count = length-set nodes k new;
-      nodes = nodes-set base nodes k new are (record { numbered = is.numbered; next_in = is.prev_in; next_place = is.prev_place; prev_in = is.next_in; prev_place = is.next_place });
+      nodes = nodes-set base nodes k new are (record { numbered = is.numbered; followed = b; next_in = is.prev_in; next_place = is.prev_place; prev_in = is.next_in; prev_place = is.next_place });
       next = map-set f nodes k new ∙ ap (slice_set (map f nodes) k) (sym (prev_link base nodes k node held));
       prev = map-set g nodes k new ∙ ap (slice_set (map g nodes) k) (sym (next_link base nodes k node held));
     }

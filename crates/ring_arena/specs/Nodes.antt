@@ -1,4 +1,5 @@
--- How rings are kept: nodes side by side in a block, each with its number and the places of the node behind it and before it.
+-- How rings are kept: nodes side by side in a block, each with its number, the places of the node behind it and before it, and
+-- the number of the node behind it.
 use Rattle.std.specs.Prelude.{◌≡◌, ℕ, ◌-◌, ◌*◌, ◌/◌, ◌<◌, ◌≤◌, List, map, length, slice_get, slice_index, slice_set, Some}
 use denote.RawPtr.{Ptr, InBlock, count_of, ◌+ₚ◌}
 use Rattle.ring_arena.specs.declared.arena.Node.{Node}
@@ -24,9 +25,10 @@ number_at base place = (count_of place - count_of base) / node_size
 abbrev pub links_of : Ptr → List Node → Links
 links_of base nodes = record { next = map (λ node. number_at base node.next) nodes; prev = map (λ node. number_at base node.prev) nodes }
 
--- a node has its number, and its places are those of nodes
+-- a node has its number and that of the node behind it, and its places are those of nodes
 pub record IsNode (base : Ptr) (count number : ℕ) (node : Node) : Type 0 where
   pub numbered : node.number ≡ number
+  pub followed : node.after ≡ number_at base node.next
   pub next_in : number_at base node.next < count
   pub next_place : node.next ≡ place_of base (number_at base node.next)
   pub prev_in : number_at base node.prev < count
@@ -61,5 +63,6 @@ pub record AreTurned (base : Ptr) (old : List Node) (new_base : Ptr) (new : List
 -- a node with its number, and the places of these nodes behind it and before it
 pub record IsLinked (base : Ptr) (number next prev : ℕ) (node : Node) : Type 0 where
   pub numbered : node.number ≡ number
+  pub followed : node.after ≡ next
   pub next_place : node.next ≡ place_of base next
   pub prev_place : node.prev ≡ place_of base prev

@@ -11,10 +11,12 @@ use std::alloc::{AllocError, Global};
 use std::fmt;
 use std::marker::Model;
 
-// A node: its number, and where the nodes behind it and before it lie.
+// A node: its number, and where the nodes behind it and before it lie. The number of the node behind it stands in it too, so that
+// a step reads one node and not two.
 #[derive(Clone, Copy, Drop)]
 struct Node {
     number: u32,
+    after: u32,
     next: *const Node,
     prev: *const Node,
 }
@@ -84,7 +86,7 @@ impl Rings {
         ensures value { result ≡ slice_index self.now.next d }
         ensures within { result < length self.now.next }
     {
-        behind(&self.nodes, self.nodes[d as usize].next).number
+        self.nodes[d as usize].after
     }
 
     /// The node before node `d` on its ring.
@@ -102,10 +104,10 @@ impl Rings {
         requires second { b < length self.old.next }
         ensures { AreNow self.old self.new (exchange a b (slice_index self.old.next)) }
     {
-        let behind_a = self.next(a) as usize;
-        let behind_b = self.next(b) as usize;
-        link(&mut self.nodes, a as usize, behind_b);
-        link(&mut self.nodes, b as usize, behind_a);
+        let behind_a = self.next(a);
+        let behind_b = self.next(b);
+        link(&mut self.nodes, a, behind_b);
+        link(&mut self.nodes, b, behind_a);
     }
 
     /// Takes node `d` out of its ring: it is alone then, and the nodes before and behind it follow one another.
@@ -158,22 +160,29 @@ fn node_at(nodes: &Vec<Node>, number: u32, next: u32, prev: u32) -> Node
 {
     Node {
         number,
+        after: next,
         next: place(nodes, next as usize),
         prev: place(nodes, prev as usize),
     }
 }
 
 // Node b comes behind node a, and node a before node b. Nothing else is written.
-fn link(nodes: &mut Vec<Node>, a: usize, b: usize)
+fn link(nodes: &mut Vec<Node>, a: u32, b: u32)
     requires nodes { AreNodes (vec_ptr nodes.old) nodes.old.items }
     requires first { a < length nodes.old.items }
     requires second { b < length nodes.old.items }
     ensures { AreRelinked (vec_ptr nodes.old) nodes.old.items (vec_ptr nodes.new) nodes.new.items a b }
 {
-    let from = place(nodes, a);
-    let to = place(nodes, b);
-    nodes[a].next = to;
-    nodes[b].prev = from;
+    let from = place(nodes, a as usize);
+    let to = place(nodes, b as usize);
+    let node = nodes[a as usize];
+    nodes[a as usize] = Node {
+        number: node.number,
+        after: b,
+        next: to,
+        prev: node.prev,
+    };
+    nodes[b as usize].prev = from;
 }
 
 // Exchanges what is behind node k and what is before it, and answers the node that was behind it.
@@ -184,11 +193,12 @@ fn turn(nodes: &mut Vec<Node>, k: usize) -> usize
     ensures after { result ≡ slice_index (links_of (vec_ptr nodes.old) nodes.old.items).next k }
 {
     let node = nodes[k];
-    let after = behind(nodes, node.next).number;
+    let before = behind(nodes, node.prev).number;
     nodes[k] = Node {
         number: node.number,
+        after: before,
         next: node.prev,
         prev: node.next,
     };
-    after as usize
+    node.after as usize
 }

@@ -1,9 +1,9 @@
 -- What the calls that change a rotation system leave, by what the steps of their bodies say.
-use Rattle.std.proofs.Common.{◌≡◌, ◌≢◌, ℕ, ◌+◌, ◌*◌, ◌<◌, ◌≤◌, true, List, [], ◌∷◌, ◌++◌, length, map, get_or, reverse, refl, sym, ap, ◌∙◌, subst, inl, inr, arith}
+use Rattle.std.proofs.Common.{◌≡◌, ◌≢◌, ℕ, ◌+◌, ◌*◌, ◌/◌, ◌<◌, ◌≤◌, true, List, [], ◌∷◌, ◌++◌, length, get_or, reverse, refl, sym, ap, ◌∙◌, subst, inl, inr, arith}
 use Rattle.std.specs.List.{Contains}
-use Rattle.std.proofs.lemmas.List.{length-map, get_or-map, ext_get_or, nil_from_length}
+use Rattle.std.proofs.lemmas.List.{length-map, get_or-map, ext_get_or}
 use Rattle.std.proofs.lemmas.Bool.{cases_eq}
-use Rattle.permutations.specs.Members.{is_member, is_distinct}
+use Rattle.permutations.specs.Members.{is_member}
 use Rattle.permutations.specs.Cyclic.{first_or, successor, predecessor, from_least}
 use Rattle.permutations.specs.Exchange.{exchange}
 use Rattle.permutations.proofs.Members.{member-head, member-append_right}
@@ -16,6 +16,7 @@ use Rattle.rotations.specs.declared.rings.Ring.{Ring}
 use Rattle.rotations.proofs.Membership.{member-from_contains, contains-from_member}
 use Rattle.rotations.proofs.Steps.{order-ring, kept-dart, kept-next_in}
 use Rattle.rotations.proofs.Reorder.{length-turns}
+use Rattle.rotations.proofs.Ends.{leave-ends}
 use Rattle.rotations.proofs.Runs.{Parting, parting, first-in, last-in, in-order, last-cut, before-run, before-whole, before-is_last}
 use Rattle.rotations.proofs.Moves.{IsMadeAt, run-moved}
 use Rattle.rotations.proofs.Turning.{round-turned, whole-turned, run-turned}
@@ -71,8 +72,13 @@ module _ (tails : List ℕ) (old : Links) (rings : List Ring) (k : AreRings tail
         ap (λ (x : ℕ). get_or old.prev (dart_at tails v x) 0) (sym (successor-predecessor (order_at (orders old.next rings) v) e (k.rounds v (there v e m)).distinct))
         ∙ ((k.linked v (there v e m)).back (predecessor (order_at (orders old.next rings) v) e) (predecessor-member (order_at (orders old.next rings) v) e (at v e m))
         ∙ ap (λ (q : List (List ℕ)). dart_at tails v (predecessor (order_at q v) e)) is);
+    ends = λ g ok s. leave-ends g r tails ok s (λ v e m. darts-there v e tails refl (round v e m)) (λ v e m. (k.rounds v (there v e (round v e m))).tail e (at v e (round v e m)))
+        (λ d l. subst (λ (q : List (List ℕ)). is_member (d / 2) (order_at q (get_or tails d 0)) ≡ true) is (k.each d l));
   }
     where
+      round : (v e : ℕ) → is_member e (order_at r v) ≡ true → Contains (order_at r v) e
+      round v e m = contains-from_member (order_at r v) e m
+
       back : (v e : ℕ) → Contains (order_at r v) e → Contains (order_at (orders old.next rings) v) e
       back v e m = subst (λ (q : List (List ℕ)). Contains (order_at q v) e) (sym is) m
 

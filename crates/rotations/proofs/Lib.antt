@@ -9,6 +9,7 @@ mod Links
 mod Turns
 mod Cycles
 mod Reorder
+mod Ends
 mod Runs
 mod Moves
 mod Turning

@@ -1,9 +1,9 @@
 -- New cyclic orders of the same edges, told by new rings: the walks give them, and they are kept.
-use Rattle.std.proofs.Common.{◌≡◌, ℕ, zero, suc, ◌<◌, ◌≤◌, true, List, [], ◌∷◌, length, get_or, refl, sym, ap, ◌∙◌, subst, inl, inr, arith}
+use Rattle.std.proofs.Common.{◌≡◌, ℕ, zero, suc, ◌/◌, ◌<◌, ◌≤◌, true, List, [], ◌∷◌, length, get_or, refl, sym, ap, ◌∙◌, subst, inl, inr, arith}
 use Rattle.std.proofs.lemmas.List.{get_or-map, length-map, nil_from_length}
 use Rattle.std.proofs.lemmas.Bool.{cases_eq, true≢false}
 use Rattle.permutations.specs.Members.{is_member, is_distinct}
-use Rattle.permutations.specs.Cyclic.{first_or, successor, least_or, from_least}
+use Rattle.permutations.specs.Cyclic.{first_or, successor, from_least}
 use Rattle.permutations.proofs.Members.{member-head, member-tail}
 use Rattle.permutations.proofs.Arrangements.{length-from_members}
 use Rattle.permutations.proofs.NormalForm.{least-same, least-first_member, from_least-first_or, from_least-member, from_least-distinct, from_least-successor}
@@ -11,6 +11,8 @@ use Rattle.ring_arena.specs.Links.{Links, AreInverse}
 use Rattle.rotations.specs.Rotation.{order_at}
 use Rattle.rotations.specs.Rings.{dart_at, turns, orders, StandRound, AreLinked, AreRings}
 use Rattle.rotations.specs.declared.rings.Ring.{Ring}
+use Rattle.rotations.proofs.Membership.{contains-from_member}
+use Rattle.rotations.proofs.Steps.{order-ring}
 use Rattle.rotations.proofs.Links.{linked-back}
 use Rattle.rotations.proofs.Turns.{turns-order}
 
@@ -97,8 +99,14 @@ module _ (tails : List ℕ) (old new : Links) (rings : List Ring) (k : AreRings 
     rounds = λ w l. subst (λ (o : List ℕ). StandRound tails w o) (sym (new-order w l)) (new-round w l);
     linked = λ w l. subst (λ (o : List ℕ). AreLinked tails new.next new.prev w o o) (sym (new-order w l)) (new-linked w l);
     least = λ w e l m. begins-least w e l (subst (λ (o : List ℕ). is_member e o ≡ true) (new-order w l) m);
+    each = λ d l. still (get_or tails d 0) (d / 2) (k.each d l);
   }
     where
+      still : (w e : ℕ) → is_member e (order_at (orders old.next rings) w) ≡ true → is_member e (order_at (orders new.next rings) w) ≡ true
+      still w e m =
+          let l : w < length rings = order-ring old.next rings w e (contains-from_member (order_at (orders old.next rings) w) e m) in
+          subst (λ (o : List ℕ). is_member e o ≡ true) (sym (new-order w l)) (from_least-member (R w) e ∙ ((is w l).members e ∙ m))
+
       positive : (w : ℕ) (other : Ring) → w < length rings → 0 < (get_or rings w other).degree → 0 < length (order_at (orders old.next rings) w)
       positive w other l some = omega (arith, ap length (get_or-map (λ (ring : Ring). turns old.next ring.first ring.degree) rings w other [] l), length-turns old.next (get_or rings w other).first (get_or rings w other).degree)
 

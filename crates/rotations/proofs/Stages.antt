@@ -1,21 +1,22 @@
 -- The rings of the first vertices are built, and at the end they keep the rotation system that was given.
-use Rattle.std.proofs.Common.{◌≡◌, ◌≢◌, ℕ, ◌+◌, ◌<◌, ◌≤◌, true, List, [], ◌∷◌, ◌++◌, length, get_or, replicate, refl, sym, ap, ◌∙◌, subst, inl, inr, arith}
-use Rattle.std.proofs.lemmas.List.{length-map, length_push, get_or_push, get_or_append_left, get_or-map, get_or-replicate, length-replicate, nil_from_length}
+use Rattle.std.proofs.Common.{◌≡◌, ◌≢◌, ℕ, ◌+◌, ◌<◌, ◌≤◌, true, List, [], ◌∷◌, ◌++◌, length, get_or, ◌*◌, ◌/◌, refl, sym, ap, ◌∙◌, subst, inl, inr, arith}
+use Rattle.std.proofs.lemmas.List.{length-map, length_push, get_or_push, get_or_append_left, get_or-map, nil_from_length}
 use Rattle.std.proofs.lemmas.List.Sorted.{length_permutation, IsPermutation-trans}
 use Rattle.std.proofs.lemmas.Bool.{cases_eq, true≢false}
 use Rattle.permutations.specs.Members.{is_member}
-use Rattle.permutations.specs.Cyclic.{first_or, successor, turned}
-use Rattle.permutations.proofs.Successor.{successor-member, first_or-member}
+use Rattle.permutations.specs.Cyclic.{first_or, turned}
+use Rattle.permutations.proofs.Successor.{first_or-member}
 use Rattle.permutations.proofs.Turned.{turned-member, turned-distinct, turned-length, turned-permutation, turned-successor, turned-first_or}
-use Rattle.multigraph.specs.Graph.{Multigraph, incident_edges, IsWithinLimits}
+use Rattle.multigraph.specs.Graph.{Multigraph, edge_count, ends_of, is_end, incident_edges, IsGraph, IsWithinLimits}
 use Rattle.multigraph.proofs.Incident.{incident-rises}
+use Rattle.multigraph.proofs.OtherEnd.{is_end-first, is_end-second}
 use Rattle.ring_arena.specs.Links.{Links, AreInverse, AreAlone}
 use Rattle.rotations.specs.Entries.{list_at}
 use Rattle.rotations.specs.Given.{AreArranged, given_order}
 use Rattle.rotations.specs.Rotation.{order_at, IsRotationSystem, IsCyclicOrder}
 use Rattle.rotations.specs.Rings.{dart_at, turns, orders, StandRound, AreLinked, AreRings, AreTails, IsRingOf}
 use Rattle.rotations.specs.declared.rings.Ring.{Ring}
-use Rattle.rotations.proofs.Membership.{incident-distinct}
+use Rattle.rotations.proofs.Membership.{incident-distinct, incident-member}
 use Rattle.rotations.proofs.Arrangements.{permutation-member, permutation-member_back, permutation-distinct}
 use Rattle.rotations.proofs.Darts.{dart-in, stand_round}
 use Rattle.rotations.proofs.Links.{first_is, place-of, linked-back}
@@ -195,6 +196,7 @@ built-rings g entries tails links rings limits a t r = record {
   rounds = λ v l. subst (λ (o : List ℕ). StandRound tails v o) (sym (is v l)) (order-round g entries tails v a t (inside v l));
   linked = λ v l. subst (λ (o : List ℕ). AreLinked tails links.next links.prev v o o) (sym (is v l)) (order-linked g entries tails links.next links.prev v a t (inside v l) (r.linked v (inside v l)));
   least = λ v e l m. subst (λ (o : List ℕ). first_or 0 o ≤ e) (sym (is v l)) (given-least g entries v e a (inside v l) (subst (λ (o : List ℕ). is_member e o ≡ true) (is v l) m));
+  each = λ d l. each-round d (omega (arith, l, t.long));
 }
   where
     inside : (v : ℕ) → v < length rings → v < g.vertex_count
@@ -209,6 +211,23 @@ built-rings g entries tails links rings limits a t r = record {
         let m = least-given g entries k a (inside k l) (omega (arith, is.degree)) in
         let d = (given-round g entries tails k a t (inside k l)).darts (first_or 0 (incident_edges g k)) m in
         omega (arith, is.first some, dart-in tails k (first_or 0 (incident_edges g k)) (length links.next) (omega (arith, r.long, d)))
+
+    -- an edge stands round its ends
+    at-end : (v e : ℕ) → e < edge_count g → v < g.vertex_count → is_end g v e ≡ true → is_member e (order_at (orders links.next rings) v) ≡ true
+    at-end v e l m at_v = subst (λ (o : List ℕ). is_member e o ≡ true) (sym (is v (omega (arith, m, r.rings_long))))
+        (turned-member (list_at entries v) (first_or 0 (incident_edges g v)) e ∙ permutation-member (incident_edges g v) (list_at entries v) e (a.arranged v m) (incident-member g v e l at_v))
+
+    each-round : (d : ℕ) → d < 2 * edge_count g → is_member (d / 2) (order_at (orders links.next rings) (get_or tails d 0)) ≡ true
+    each-round d l =
+        let e : ℕ = d / 2 in
+        let inside_e : e < edge_count g = omega (arith, l) in
+        elim (cases_eq d (2 * (d / 2))) [
+          | inl even ↦ subst (λ (v : ℕ). is_member e (order_at (orders links.next rings) v) ≡ true) (sym (ap (λ (k : ℕ). get_or tails k 0) even ∙ t.first e inside_e))
+              (at-end (ends_of g e).0 e inside_e (ok.first_in e inside_e) (is_end-first g e))
+          | inr odd ↦ subst (λ (v : ℕ). is_member e (order_at (orders links.next rings) v) ≡ true)
+              (sym (ap (λ (k : ℕ). get_or tails k 0) (let next : d ≡ 2 * (d / 2) + 1 = omega (arith, odd) in next) ∙ t.second e inside_e))
+              (at-end (ends_of g e).1 e inside_e (ok.second_in e inside_e) (is_end-second g e))
+        ]
 
 -- the orders that are given make a rotation system
 pub given-system : (g : Multigraph) (entries : List (ℕ × List ℕ)) (r : List (List ℕ)) → AreArranged g entries → length r ≡ g.vertex_count → ((v : ℕ) → v < g.vertex_count → order_at r v ≡ given_order g entries v) → IsRotationSystem g r

@@ -1,13 +1,13 @@
 -- A rotation system as it is kept: for each dart the one that follows it round its vertex, and the one that it follows.
 -- Each edge e has two darts: 2e leaves its first end, 2e + 1 its second.
-use Rattle.std.specs.Prelude.{◌≡◌, ℕ, zero, suc, ◌+◌, ◌*◌, ◌/◌, ◌<◌, ◌≤◌, ◌==◌, if◌then◌else◌, true, List, [], ◌∷◌, length, map, slice_index, slice_index_or}
+use Rattle.std.specs.Prelude.{◌≡◌, ℕ, zero, suc, ◌+◌, ◌*◌, ◌/◌, ◌<◌, ◌≤◌, ◌==◌, ◌⊎◌, if◌then◌else◌, true, List, [], ◌∷◌, length, map, slice_index, slice_index_or}
 use Rattle.std.specs.List.{All, Contains}
 use Rattle.permutations.specs.Cyclic.{first_or, successor, predecessor}
 use Rattle.permutations.specs.Members.{is_member, is_distinct}
 use Rattle.permutations.specs.Permutation.{Permutes}
-use Rattle.multigraph.specs.Graph.{Multigraph, max_vertices, edge_count, ends_of, incident_edges}
+use Rattle.multigraph.specs.Graph.{Multigraph, IsGraph, max_vertices, edge_count, ends_of, incident_edges}
 use Rattle.ring_arena.specs.Links.{Links}
-use Rattle.rotations.specs.Rotation.{order_at}
+use Rattle.rotations.specs.Rotation.{order_at, IsRotationSystem}
 use Rattle.rotations.specs.declared.rings.Ring.{Ring}
 
 -- the most darts that a graph has
@@ -50,6 +50,7 @@ pub record AreRings (tails next prev : List ℕ) (rings : List Ring) : Type 0 wh
   pub rounds : (v : ℕ) → v < length rings → StandRound tails v (order_at (orders next rings) v)
   pub linked : (v : ℕ) → v < length rings → AreLinked tails next prev v (order_at (orders next rings) v) (order_at (orders next rings) v)
   pub least : (v e : ℕ) → v < length rings → is_member e (order_at (orders next rings) v) ≡ true → first_or 0 (order_at (orders next rings) v) ≤ e
+  pub each : (d : ℕ) → d < length tails → is_member (d / 2) (order_at (orders next rings) (slice_index tails d)) ≡ true
 
 -- the vertices that the darts of g leave
 pub record AreTails (g : Multigraph) (tails : List ℕ) : Type 0 where
@@ -62,11 +63,20 @@ pub record IsRingOf (g : Multigraph) (tails : List ℕ) (v : ℕ) (ring : Ring) 
   pub degree : ring.degree ≡ length (incident_edges g v)
   pub first : 0 < ring.degree → ring.first ≡ dart_at tails v (first_or 0 (incident_edges g v))
 
+-- there are two nodes for each edge of g, and they leave its two ends, one each. Which of the ends is the first cyclic orders do not
+-- tell: they are also those of the graph in which the two ends have changed places.
+pub record LeaveEnds (g : Multigraph) (tails : List ℕ) : Type 0 where
+  pub count : length tails ≡ 2 * edge_count g
+  pub ends : (e : ℕ) → e < edge_count g → ((slice_index tails (2 * e) ≡ (ends_of g e).0) × (slice_index tails (2 * e + 1) ≡ (ends_of g e).1))
+      ⊎ ((slice_index tails (2 * e) ≡ (ends_of g e).1) × (slice_index tails (2 * e + 1) ≡ (ends_of g e).0))
+
 -- rings on which cyclic orders are kept: each node leaves a vertex, an edge round v has one of its two nodes there, and behind
--- and before this node stand those of the edges that follow and precede it round v
+-- and before this node stand those of the edges that follow and precede it round v. Of whatever graph the orders are a rotation
+-- system, the two nodes of an edge leave its two ends.
 pub record StandOnRings (r : List (List ℕ)) (links : Links) (tails : List ℕ) : Type 0 where
   pub leaves_each : length tails ≡ length links.next
   pub node : (v e : ℕ) → Contains (order_at r v) e → dart_at tails v e < length links.next
   pub leaves : (v e : ℕ) → Contains (order_at r v) e → slice_index tails (dart_at tails v e) ≡ v
   pub next : (v e : ℕ) → Contains (order_at r v) e → slice_index links.next (dart_at tails v e) ≡ dart_at tails v (successor (order_at r v) e)
   pub prev : (v e : ℕ) → Contains (order_at r v) e → slice_index links.prev (dart_at tails v e) ≡ dart_at tails v (predecessor (order_at r v) e)
+  pub ends : (g : Multigraph) → IsGraph g → IsRotationSystem g r → LeaveEnds g tails

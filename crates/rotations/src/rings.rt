@@ -14,6 +14,13 @@ pub(crate) struct Ring {
     pub(crate) degree: u32,
 }
 
+// What never changes in a rotation system: the vertex that each dart leaves, and the ring of each vertex.
+#[derive(Debug, Drop)]
+pub(crate) struct Frame {
+    pub(crate) tails: Vec<u32>,
+    pub(crate) rings: Vec<Ring>,
+}
+
 // The dart of edge e that leaves v, one of its ends.
 pub(crate) fn dart_at(tails: &[u32], v: u32, e: u32) -> u32
     requires is_edge { 2 * e + 1 < length tails.now }

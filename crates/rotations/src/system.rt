@@ -14,22 +14,23 @@ use crate::entries::Lists;
 use crate::faults::RotFault;
 use crate::linking::link;
 use crate::outer::{check_part, inner_lists};
-use crate::rings::{Ring, dart_at, ring_of, tails_of};
+use crate::rings::{Frame, dart_at, ring_of, tails_of};
 use crate::round::RotIter;
 use multigraph::{Graph, Part};
 use ring_arena::Rings;
 use std::alloc::{AllocError, Global};
 use std::marker::Model;
+use std::rc::Rc;
 
 /// A rotation system: for each vertex a cyclic order of the edges at it.
 ///
 /// It is kept without the graph, as one ring of darts round each vertex: a step takes constant time, and a run of edges is moved
-/// without looking at it. The dart of edge e at its first end is node 2e, that at its second node 2e + 1.
+/// without looking at it. The dart of edge e at its first end is node 2e, that at its second node 2e + 1. Copies share what never
+/// changes: the vertex that each dart leaves, and the first dart and the number of darts of each vertex.
 #[derive(Debug, Drop)]
 pub struct Rotation {
-    tails: Vec<u32>,
     nodes: Rings,
-    rings: Vec<Ring>,
+    frame: Rc<Frame>,
 }
 
 impl Model for Rotation {
@@ -39,9 +40,9 @@ impl Model for Rotation {
 
     ghost use Rattle.rotations.specs.Rings.{orders, AreRings};
 
-    ghost view = { λ r. orders r.nodes.next r.rings.items };
+    ghost view = { λ r. orders r.nodes.next r.frame.value.rings.items };
 
-    ghost invariant = { λ r. AreRings r.tails.items r.nodes.next r.nodes.prev r.rings.items };
+    ghost invariant = { λ r. AreRings r.frame.value.tails.items r.nodes.next r.nodes.prev r.frame.value.rings.items };
 }
 
 impl Rotation {
@@ -100,18 +101,15 @@ impl Rotation {
             rings.push(ring_of(g, &tails, v))?;
             at = after;
         }
-        Ok(Rotation {
-            tails,
-            nodes,
-            rings,
-        })
+        let frame = Rc::new(alloc, Frame { tails, rings })?;
+        Ok(Rotation { nodes, frame })
     }
 
     /// The number of vertices.
     pub fn vertex_count(&self) -> u32
         ensures { result ≡ length self.now }
     {
-        self.rings.len() as u32
+        self.frame.rings.len() as u32
     }
 
     /// The edge that follows edge `e` round `v`.
@@ -119,7 +117,7 @@ impl Rotation {
         requires { Contains (order_at self.now v) e }
         ensures { result ≡ successor (order_at self.now v) e }
     {
-        let dart = dart_at(&self.tails, v, e);
+        let dart = dart_at(&self.frame.tails, v, e);
         self.nodes.next(dart) / 2
     }
 
@@ -128,7 +126,7 @@ impl Rotation {
         requires { Contains (order_at self.now v) e }
         ensures { result ≡ predecessor (order_at self.now v) e }
     {
-        let dart = dart_at(&self.tails, v, e);
+        let dart = dart_at(&self.frame.tails, v, e);
         self.nodes.prev(dart) / 2
     }
 
@@ -137,13 +135,16 @@ impl Rotation {
         requires { v < length self.now }
         ensures { result ≡ order_at self.now v }
     {
-        let ring = self.rings[v as usize];
+        let ring = self.frame.rings[v as usize];
         RotIter::from(&self.nodes, ring.first, ring.degree)
     }
 
-    /// The rings on which it is kept, with two nodes for each edge: an edge has one of them at each of its ends.
+    /// The rings on which it is kept, with two nodes for each edge e, 2e and 2e + 1: one stands at each of its ends.
     ///
-    /// Round each vertex the node behind that of an edge is that of the edge which follows it there.
+    /// Round each vertex the node behind that of an edge is that of the edge which follows it there. Node 2e stands at the end
+    /// that the graph names first; this the contract can't say, since the cyclic orders are also those of the graph in which the
+    /// two ends of e have changed places. It says that the two nodes leave the two ends, one each, of whatever graph the value
+    /// is a rotation system of.
     pub fn rings(&self) -> &Rings
         ensures { (tails : List ℕ) × StandOnRings self.now result.now tails }
     {
@@ -157,9 +158,9 @@ impl Rotation {
         ensures moved { IsRunMoved (order_at self.old v) (order_at self.new v) first last after }
         ensures elsewhere { IsKeptElsewhere self.old self.new v }
     {
-        let before = dart_at(&self.tails, v, self.pred(v, first));
-        let back = dart_at(&self.tails, v, last);
-        let place = dart_at(&self.tails, v, after);
+        let before = dart_at(&self.frame.tails, v, self.pred(v, first));
+        let back = dart_at(&self.frame.tails, v, last);
+        let place = dart_at(&self.frame.tails, v, after);
         self.nodes.exchange(before, back);
         self.nodes.exchange(place, back);
     }
@@ -174,13 +175,13 @@ impl Rotation {
     {
         let _ = self.nodes.len();
         let edge_before = self.pred(v, first);
-        let head = dart_at(&self.tails, v, first);
+        let head = dart_at(&self.frame.tails, v, first);
         if edge_before == last {
             self.nodes.reverse(head);
             return;
         }
-        let before = dart_at(&self.tails, v, edge_before);
-        let end = dart_at(&self.tails, v, last);
+        let before = dart_at(&self.frame.tails, v, edge_before);
+        let end = dart_at(&self.frame.tails, v, last);
         self.nodes.exchange(before, end);
         self.nodes.reverse(head);
         self.nodes.exchange(before, head);
@@ -203,7 +204,7 @@ impl Rotation {
         ensures elsewhere { IsKeptElsewhere self.old self.new v }
     {
         let _ = self.nodes.len();
-        let ring = self.rings[v as usize];
+        let ring = self.frame.rings[v as usize];
         if ring.degree > 0 {
             self.nodes.reverse(ring.first);
         }
@@ -213,14 +214,9 @@ impl Rotation {
     pub fn copy(&self, alloc: Global) -> Result<Rotation, AllocError>
         ensures { IfOk result (λ r. r ≡ self.now) }
     {
-        let tails = Vec::from_slice(alloc, &self.tails)?;
         let nodes = self.nodes.copy(alloc)?;
-        let rings = Vec::from_slice(alloc, &self.rings)?;
-        Ok(Rotation {
-            tails,
-            nodes,
-            rings,
-        })
+        let frame = self.frame.clone()?;
+        Ok(Rotation { nodes, frame })
     }
 
     /// Whether the other has as many vertices and the same cyclic order at each.

@@ -204,10 +204,11 @@ fn moves_and_turns_runs(rt: HostRuntime) -> Result<(), Fail> {
         ],
     )?;
     let mut r = Rotation::from_lists(alloc, &g, &lists)?;
-    let rows: [(u32, Change, &[u32]); 12] = [
+    let rows: [(u32, Change, &[u32]); 13] = [
         (0, Change::Move(1, 2, 4), &[0, 3, 4, 1, 2]),
         (0, Change::Move(0, 0, 2), &[0, 1, 2, 3, 4]),
         (0, Change::Move(0, 1, 4), &[0, 1, 2, 3, 4]),
+        (0, Change::Move(0, 3, 4), &[0, 1, 2, 3, 4]),
         (0, Change::Turn(1, 3), &[0, 3, 2, 1, 4]),
         (0, Change::Turn(1, 0), &[0, 4, 1, 2, 3]),
         (0, Change::Turn(2, 2), &[0, 4, 1, 2, 3]),
