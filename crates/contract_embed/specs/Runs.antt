@@ -26,10 +26,10 @@ pub record FitsAt (level : Level) (next : List ℕ) (first last d : ℕ) : Type 
   pub run_of_y : leaves level d ≡ level.y → slice_index next d ≢ first → leaves level (slice_index next d) ≡ level.y
   pub common : leaves level d ≡ level.x → are_joined level.graph level.y (tail level.graph (twin (origin level d))) ≡ true → (d ≡ first) ⊎ (d ≡ last)
 
--- round the merged vertex the darts fall in runs from `first` to `last`
+-- there is a rotation system with these steps, and in it the darts round the merged vertex fall in runs from `first` to `last`
 abbrev pub HaveRuns : Level → List ℕ → ℕ → ℕ → Type 0
 HaveRuns level next first last =
-    (s : List (List ℕ)) → AreSteps (contraction level) s next → FallsInRuns level.graph (contraction level) level.x level.y (edge_before level) s first last
+    (s : List (List ℕ)) × AreSteps (contraction level) s next × FallsInRuns level.graph (contraction level) level.x level.y (edge_before level) s first last
 
 -- the steps on the darts of the graph, when those from the first k darts of the contraction are carried over
 pub record CarriedBelow (level : Level) (next : List ℕ) (k : ℕ) (wide : List ℕ) : Type 0 where

@@ -47,7 +47,7 @@ pub(crate) fn before(level: &Level, next: &[u32], d: u32) -> u32
             return dart;
         }
     }
-    0
+    unreachable!()
 }
 
 // The dart of the graph that the dart of the contraction was.

@@ -20,6 +20,7 @@ use Rattle.contractions.specs.declared.level.Level.{Level}
 use Rattle.contract_obstruct.specs.declared.crossing.Piece.{Piece}
 use Rattle.contractions.proofs.LevelFacts.{level-contraction, level-graph, level-triconnected}
 use Rattle.contract_obstruct.proofs.Alternating.{round-in, first, part-told}
+use Rattle.contract_obstruct.proofs.OneSystem.{around-in}
 
 -- the edge f leads from y to where the first edge of the piece leads
 pub record ToTip (level : Level) (piece : Piece) (f : ℕ) : Type 0 where
@@ -36,7 +37,7 @@ module _ (level : Level) (k : IsLevel level) (s : List (List ℕ)) (next : List 
   Among l = (z : ℕ) → is_member z l ≡ true → z < edge_count h
 
   among : Among (listed a ++ (listed b ++ listed c))
-  among z m = (round-in level k s are.system z (sym (IsTurn-member (order_at s (contracted_vertex level.x level.y level.x)) (listed a ++ (listed b ++ listed c)) z (triple.around s are)) ∙ m)).0
+  among z m = (round-in level k s are.system z (sym (IsTurn-member (order_at s (contracted_vertex level.x level.y level.x)) (listed a ++ (listed b ++ listed c)) z (around-in level next (listed a ++ (listed b ++ listed c)) triple.around s are)) ∙ m)).0
 
   pub among_a : Among (listed a)
   among_a z m = among z (member-append_left z (listed a) (listed b ++ listed c) m)
@@ -67,5 +68,5 @@ module _ (level : Level) (k : IsLevel level) (s : List (List ℕ)) (next : List 
       (sym (λ i. five_paths level.graph level.edge (edge_before level) (tip level c) (tip level b) (tip level a) (edge_before level c.first) (edge_before level b.first) (edge_before level a.first) to_c to_b to_a
       (part-told level k s next are c.first b.behind.items (edges_of c b among_c among_b) i) (part-told level k s next are b.first a.behind.items (edges_of b a among_b among_a) i) (part-told level k s next are a.first c.behind.items (edges_of a c among_a among_c) i)))
       (three-found level.graph h level.edge level.x level.y (edge_before level) (contracted_vertex level.x level.y) k.graph (level-graph level k) (level-contraction level k) s are.system plane (level-triconnected level k)
-      a.first b.first c.first a.behind.items b.behind.items c.behind.items (triple.around s are) (tip level a) (tip level b) (tip level c) ta.0 tb.0 tc.0
+      a.first b.first c.first a.behind.items b.behind.items c.behind.items (around-in level next (listed a ++ (listed b ++ listed c)) triple.around s are) (tip level a) (tip level b) (tip level c) ta.0 tb.0 tc.0
       (edge_before level a.first) (edge_before level b.first) (edge_before level c.first) to_a to_b to_c ta.1 tb.1 tc.1 (spoke a to_a sa) (spoke b to_b sb) (spoke c to_c sc))

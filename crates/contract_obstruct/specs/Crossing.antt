@@ -30,9 +30,9 @@ part_of h next w i passed = arcs_of next (map (dart_from h w) (i ∷ reverse pas
 abbrev pub listed : Piece → List ℕ
 listed piece = piece.first ∷ piece.behind.items
 
--- these are the edges round the merged vertex, in their order
+-- there is a rotation system with these steps, and in it these are the edges round the merged vertex, in their order
 abbrev pub IsAround : Level → List ℕ → List ℕ → Type 0
-IsAround level next l = (s : List (List ℕ)) → AreSteps (contraction level) s next → IsTurn (order_at s (merged_vertex level)) l
+IsAround level next l = (s : List (List ℕ)) × AreSteps (contraction level) s next × IsTurn (order_at s (merged_vertex level)) l
 
 -- the pieces make up the way round the merged vertex; the first edges of a and c lead from x, that of b to a neighbour of y,
 -- and that of d does not lead from x

@@ -41,7 +41,8 @@ pub record ShowsNothing (level : Level) (l : List ℕ) : Type 0 where
   pub no_triple : (i j : ℕ) → IsTripleAt level l i j → ⊥
   pub no_crossing : (i j k : ℕ) → IsCrossingAt level l i j k → ⊥
 
--- round the merged vertex the darts do not fall in runs
+-- there is a rotation system with these steps, and in it the darts round the merged vertex do not fall in runs
 abbrev pub HaveNoRuns : Level → List ℕ → Type 0
 HaveNoRuns level next =
-    (s : List (List ℕ)) (first last : ℕ) → AreSteps (contraction level) s next → FallsInRuns level.graph (contraction level) level.x level.y (edge_before level) s first last → ⊥
+    (s : List (List ℕ)) × AreSteps (contraction level) s next
+    × ((first last : ℕ) → FallsInRuns level.graph (contraction level) level.x level.y (edge_before level) s first last → ⊥)

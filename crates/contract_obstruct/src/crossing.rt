@@ -71,7 +71,7 @@ pub(crate) fn joining(g: &Graph, y: u32, p: u32) -> u32
             return edge;
         }
     }
-    0
+    unreachable!()
 }
 
 // The edges of the circle from where an edge leads, back over those behind it.

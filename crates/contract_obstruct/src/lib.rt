@@ -14,6 +14,7 @@
 // The lemmas that crates above use (module of proofs/ in front):
 //   BelowNext  below-next: what holds below k and of k holds below k + 1
 //   Orders     turns-order: the cyclic order of a vertex, read from steps; steps-in: steps lead to darts
+//   OneSystem  one-system: steps are those of one rotation system
 #![tactic(auto)]
 
 mod arcs;

@@ -190,13 +190,10 @@ fn split_branch(
 
 // The vertex of K5 over which vertex i of K3,3 stands.
 fn split_over(m: usize, off: (usize, usize), on: (usize, usize), i: usize) -> usize
+    requires { i < 6 }
     ensures { result ≡ split_over m off.0 off.1 on.0 on.1 i }
 {
-    let over = [m, on.0, on.1, m, off.0, off.1];
-    match over.get(i) {
-        Some(vertex) => *vertex,
-        None => 0,
-    }
+    [m, on.0, on.1, m, off.0, off.1][i]
 }
 
 // The paths of K3,3.

@@ -17,11 +17,16 @@ pub triple-requires-clause-triple : goal.triple-requires-clause-triple
 triple-requires-clause-triple c =
     let level = c.args.level.now in
     let l = c.args.order.now in
+    let s = c.requires.around.0 in
     record {
-      around = λ s are. subst (IsTurn (order_at s (merged_vertex level)))
-          (three-segments l c.args.places.0 c.args.places.1 (omega (arith, c.requires.rise))
-          ∙ sym (λ t. c.in_ok-a.ensures.whole t ++ (c.in_ok-b.ensures.whole t ++ c.in_ok-c.ensures.whole t)))
-          (c.requires.around s are);
+      around = (
+        s,
+        c.requires.around.1,
+        subst (IsTurn (order_at s (merged_vertex level)))
+            (three-segments l c.args.places.0 c.args.places.1 (omega (arith, c.requires.rise))
+            ∙ sym (λ t. c.in_ok-a.ensures.whole t ++ (c.in_ok-b.ensures.whole t ++ c.in_ok-c.ensures.whole t)))
+            c.requires.around.2,
+      );
       first = common level c.in_ok-a.a _ c.in_ok-a.ensures.first c.requires.first;
       second = common level c.in_ok-b.b _ c.in_ok-b.ensures.first c.requires.second;
       third = common level c.in_ok-c.c _ c.in_ok-c.ensures.first c.requires.third;
