@@ -19,7 +19,7 @@ use Rattle.planarity.proofs.FoundCircle.{IsTip, tip-first, tip-second, tip-eithe
 use Rattle.contractions.specs.Level.{IsLevel, contraction, edge_before}
 use Rattle.contract_obstruct.specs.Steps.{AreSteps}
 use Rattle.contract_obstruct.specs.Crossing.{near_end, part_of, listed, AreCrossing, AreEdges, crossing_paths, crossing_branch}
-use Rattle.contract_obstruct.specs.declared.crossing.Piece.{Piece}
+use Rattle.contract_obstruct.specs.declared.crossing.Sector.{Sector}
 use Rattle.contractions.specs.declared.level.Level.{Level}
 use Rattle.contractions.proofs.LevelFacts.{level-contraction, level-graph, level-triconnected}
 use Rattle.contract_obstruct.proofs.ArcsTold.{arcs-told}
@@ -77,7 +77,7 @@ module _ (level : Level) (k : IsLevel level) where
     pub part-told : (i : ℕ) (passed : List ℕ) → AreEdges h i passed → part_of h next w i passed ≡ arc_edges h s (map (dart_from h w) (i ∷ reverse passed))
     part-told i passed l = arcs-told h s next (level-graph level k) are (map (dart_from h w) (i ∷ reverse passed)) (mapped-below h w (i ∷ reverse passed) l)
 
-    module _ (plane : IsPlane h s) (a b c d : Piece) (cross : AreCrossing level next a b c d) where
+    module _ (plane : IsPlane h s) (a b c d : Sector) (cross : AreCrossing level next a b c d) where
       all : List ℕ
       all = listed a ++ (listed b ++ (listed c ++ listed d))
 
@@ -99,7 +99,7 @@ module _ (level : Level) (k : IsLevel level) where
       pub in_d : Among (listed d)
       in_d z m = among z (member-append_right z (listed a) (listed b ++ (listed c ++ listed d)) (member-append_right z (listed b) (listed c ++ listed d) (member-append_right z (listed c) (listed d) m)))
 
-      pub edges : (p q : Piece) → Among (listed p) → Among (listed q) → AreEdges h p.first q.behind.items
+      pub edges : (p q : Sector) → Among (listed p) → Among (listed q) → AreEdges h p.first q.behind.items
       edges p q u v z m = elim (member-cases z p.first (reverse q.behind.items) m) [
         | inl e ↦ subst (λ i. i < edge_count h) e (u p.first (member-head p.first p.behind.items)).0
         | inr r ↦ (v z (member-tail z q.first q.behind.items (sym (member-reverse z q.behind.items) ∙ r))).0

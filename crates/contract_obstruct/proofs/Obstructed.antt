@@ -20,7 +20,7 @@ use Rattle.planarity.proofs.FoundTurn.{turn-alternates, common-edge}
 use Rattle.contractions.specs.Level.{IsLevel, contraction, edge_before}
 use Rattle.contract_obstruct.specs.Steps.{AreSteps}
 use Rattle.contract_obstruct.specs.Obstruction.{HaveNoRuns}
-use Rattle.contract_obstruct.specs.Pieces.{IsCommonEdge}
+use Rattle.contract_obstruct.specs.Sectors.{IsCommonEdge}
 use Rattle.contract_obstruct.specs.Obstruction.{rotated, StandForEdges, IsTripleAt, IsCrossingAt, ShowsNothing}
 use Rattle.contractions.specs.declared.level.Level.{Level}
 use Rattle.contract_obstruct.proofs.Alternating.{round-in}

@@ -17,19 +17,19 @@ use Rattle.contract_obstruct.specs.Steps.{AreSteps}
 use Rattle.contract_obstruct.specs.Crossing.{listed, AreEdges}
 use Rattle.contract_obstruct.specs.Triple.{tip, AreTriple, triple_branch, triple_paths}
 use Rattle.contractions.specs.declared.level.Level.{Level}
-use Rattle.contract_obstruct.specs.declared.crossing.Piece.{Piece}
+use Rattle.contract_obstruct.specs.declared.crossing.Sector.{Sector}
 use Rattle.contractions.proofs.LevelFacts.{level-contraction, level-graph, level-triconnected}
 use Rattle.contract_obstruct.proofs.Alternating.{round-in, first, part-told}
 use Rattle.contract_obstruct.proofs.OneSystem.{around-in}
 
--- the edge f leads from y to where the first edge of the piece leads
-pub record ToTip (level : Level) (piece : Piece) (f : ℕ) : Type 0 where
+-- the edge f leads from y to where the first edge of the sector leads
+pub record ToTip (level : Level) (sector : Sector) (f : ℕ) : Type 0 where
   pub within : f < edge_count level.graph
   pub leaves : is_end level.graph level.y f ≡ true
-  pub arrives : other_end level.graph f level.y ≡ tip level piece
+  pub arrives : other_end level.graph f level.y ≡ tip level sector
 
 module _ (level : Level) (k : IsLevel level) (s : List (List ℕ)) (next : List ℕ) (are : AreSteps (contraction level) s next) (plane : IsPlane (contraction level) s)
-    (a b c : Piece) (triple : AreTriple level next a b c) where
+    (a b c : Sector) (triple : AreTriple level next a b c) where
   abbrev h : Multigraph
   h = contraction level
 
@@ -48,13 +48,13 @@ module _ (level : Level) (k : IsLevel level) (s : List (List ℕ)) (next : List 
   pub among_c : Among (listed c)
   among_c z m = among z (member-append_right z (listed a) (listed b ++ listed c) (member-append_right z (listed b) (listed c) m))
 
-  pub edges_of : (p q : Piece) → Among (listed p) → Among (listed q) → AreEdges h p.first q.behind.items
+  pub edges_of : (p q : Sector) → Among (listed p) → Among (listed q) → AreEdges h p.first q.behind.items
   edges_of p q u v z m = elim (member-cases z p.first (reverse q.behind.items) m) [
     | inl e ↦ subst (λ i. i < edge_count h) e (u p.first (member-head p.first p.behind.items))
     | inr r ↦ v z (member-tail z q.first q.behind.items (sym (member-reverse z q.behind.items) ∙ r))
   ]
 
-  spoke : (p : Piece) (f : ℕ) → ToTip level p f → IsSpoke level.graph level.y (tip level p) f
+  spoke : (p : Sector) (f : ℕ) → ToTip level p f → IsSpoke level.graph level.y (tip level p) f
   spoke p f t = record { is_edge = t.within; leaves = t.leaves; arrives = t.arrives }
 
   -- so there is a subdivision

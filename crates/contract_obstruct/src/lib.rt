@@ -19,15 +19,13 @@
 
 mod arcs;
 mod crossing;
-mod darts;
 mod lifting;
 mod obstructing;
 mod paths;
-mod pieces;
 mod rounds;
+mod sectors;
 mod triple;
 
-pub use darts::{dart_from, twin};
 pub use lifting::lift;
 pub use obstructing::obstruct;
 pub use rounds::round;

@@ -6,7 +6,7 @@ use Rattle.planarity.specs.Circle.{leads_near}
 use Rattle.contractions.specs.Level.{edge_before}
 use Rattle.contract_obstruct.specs.Crossing.{merged_vertex}
 use Rattle.contract_obstruct.proofs.Segments.{four-segments}
-use Rattle.contract_obstruct.proofs.pieces.crossing_at.Goals as goal
+use Rattle.contract_obstruct.proofs.sectors.crossing_at.Goals as goal
 
 pub crossing-requires-clause-crossing : goal.crossing-requires-clause-crossing
 crossing-requires-clause-crossing c =

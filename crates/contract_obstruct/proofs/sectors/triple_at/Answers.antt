@@ -3,14 +3,14 @@ use Rattle.permutations.specs.Cyclic.{IsTurn}
 use Rattle.rotations.specs.Rotation.{order_at}
 use Rattle.contract_obstruct.specs.Crossing.{merged_vertex}
 use Rattle.contract_obstruct.specs.Triple.{LeadsToCommon}
-use Rattle.contract_obstruct.specs.Pieces.{IsCommonEdge}
+use Rattle.contract_obstruct.specs.Sectors.{IsCommonEdge}
 use Rattle.contractions.specs.declared.level.Level.{Level}
-use Rattle.contract_obstruct.specs.declared.crossing.Piece.{Piece}
+use Rattle.contract_obstruct.specs.declared.crossing.Sector.{Sector}
 use Rattle.contract_obstruct.proofs.Segments.{three-segments}
-use Rattle.contract_obstruct.proofs.pieces.triple_at.Goals as goal
+use Rattle.contract_obstruct.proofs.sectors.triple_at.Goals as goal
 
 -- what holds of its first edge
-common : (level : Level) (p : Piece) (z : ℕ) → p.first ≡ z → IsCommonEdge level z → LeadsToCommon level p
+common : (level : Level) (p : Sector) (z : ℕ) → p.first ≡ z → IsCommonEdge level z → LeadsToCommon level p
 common level p z e h = let w : IsCommonEdge level p.first = subst (IsCommonEdge level) (sym e) h in record { leaves = w.0; common = w.1 }
 
 pub triple-requires-clause-triple : goal.triple-requires-clause-triple
