@@ -32,7 +32,7 @@ fn carry(level: &Level, next: &[u32], wide: &mut [u32], dart: u32)
 }
 
 // The steps on the darts of the edges that stay; each other dart is alone.
-fn carried(alloc: Global, level: &Level, next: &[u32]) -> Result<Vec<u32>, AllocError>
+fn carry_all(alloc: Global, level: &Level, next: &[u32]) -> Result<Vec<u32>, AllocError>
     requires level { IsLevel level.now }
     requires steps { ArePlaneSteps (contraction level.now) next.now }
     ensures { IfOk result (λ wide. CarriedBelow level.now next.now (dart_count (contraction level.now)) wide.items) }
@@ -99,7 +99,7 @@ pub(crate) fn expand(
     requires runs { HaveRuns level.now next.now first last }
     ensures { IfOk result (λ wide. ArePlaneSteps level.now.graph wide.items) }
 {
-    let mut wide = carried(alloc, level, next)?;
+    let mut wide = carry_all(alloc, level, next)?;
     let marks = neighbour_marks(alloc, &level.graph, level.y)?;
     part(level, &marks, next, &mut wide, first, last);
     Ok(wide)

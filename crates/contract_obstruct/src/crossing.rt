@@ -12,7 +12,7 @@ ghost use Rattle.contract_obstruct.specs.Steps.{ArePlaneSteps};
 ghost use Rattle.contract_obstruct.specs.Crossing.{merged_vertex, near_end, part_of, side_of, crossing_spokes, crossing_paths, IsCrossing, AreCrossing, AreEdges};
 
 use crate::arcs::arcs;
-use crate::paths::{edges_before, is_end, lifted, number_at, other_end, reversed};
+use crate::paths::{edges_before, is_end, lift_path, number_at, other_end, reverse};
 use contractions::{Level, contracted_vertex};
 use kuratowski::{Pattern, Subdivision};
 use multigraph::{Graph, NumberLists, Numbers};
@@ -60,7 +60,7 @@ fn near_end(g: &Graph, x: u32, y: u32, edge: u32) -> u32
 }
 
 // The first edge that joins y with p.
-pub(crate) fn joining(g: &Graph, y: u32, p: u32) -> u32
+pub(crate) fn joining_edge(g: &Graph, y: u32, p: u32) -> u32
     requires { are_joined g.now y p ≡ true }
     ensures within { result < edge_count g.now }
     ensures leaves { is_end g.now y result ≡ true }
@@ -89,7 +89,7 @@ fn part(
 {
     let mut round = Vec::new(alloc);
     round.push(first)?;
-    let back = reversed(alloc, &sector.behind)?;
+    let back = reverse(alloc, &sector.behind)?;
     round.extend_from_slice(&back)?;
     arcs(alloc, h, next, merged_vertex(level), &round)
 }
@@ -111,7 +111,7 @@ pub(crate) fn side(
 {
     let round = part(alloc, level, h, next, first, sector)?;
     let edges = edges_before(alloc, &level.kept, &round)?;
-    lifted(alloc, &level.graph, level.edge, from, &edges, to)
+    lift_path(alloc, &level.graph, level.edge, from, &edges, to)
 }
 
 // Appends a path of one edge.
@@ -136,7 +136,7 @@ pub(crate) fn push_back(
 ) -> Result<(), AllocError>
     ensures { IfOk result (λ _. paths.new.items ≡ paths.old.items ++ (reverse path.now) ∷ []) }
 {
-    paths.push(Numbers::of(reversed(alloc, path.as_slice())?))?;
+    paths.push(Numbers::of(reverse(alloc, path.as_slice())?))?;
     Ok(())
 }
 
@@ -152,7 +152,7 @@ fn near_edge(level: &Level, i: u32) -> u32
     if is_end(&level.graph, level.y, edge) {
         return edge;
     }
-    joining(
+    joining_edge(
         &level.graph,
         level.y,
         other_end(&level.graph, edge, level.x),

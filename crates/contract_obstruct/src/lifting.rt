@@ -8,7 +8,7 @@ ghost use Rattle.planarity.specs.Lift.{spokes, leaves_by, spokes_on, spokes_off,
 ghost use Rattle.contractions.specs.Level.{IsLevel, contraction};
 ghost use Rattle.contract_obstruct.specs.Lifting.{with_number, lifted_path, IsLifted, IsSplit};
 
-use crate::paths::{edges_before, is_listed, lifted, number_at, path_between, touches};
+use crate::paths::{edges_before, is_listed, lift_path, number_at, path_between, touches};
 use contractions::{Level, contracted_vertex};
 use kuratowski::{Pattern, Subdivision};
 use multigraph::{NumberLists, Numbers};
@@ -94,7 +94,7 @@ fn lifted_path(
     let edges = edges_before(alloc, &level.kept, &path)?;
     let from = number_at(branch, pair.0);
     let to = number_at(branch, pair.1);
-    lifted(alloc, &level.graph, level.edge, from, &edges, to)
+    lift_path(alloc, &level.graph, level.edge, from, &edges, to)
 }
 
 // All paths lifted.

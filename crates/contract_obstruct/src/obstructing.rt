@@ -152,7 +152,7 @@ fn crossing_places(level: &Level, marks: &[bool], order: &[u32]) -> Option<(usiz
 }
 
 // The subdivision that edges show from place 0 on.
-fn shown(
+fn obstruction_at_start(
     alloc: Global,
     level: &Level,
     h: &Graph,
@@ -182,7 +182,7 @@ fn shown(
 }
 
 // The order from place m on.
-fn rotated(alloc: Global, order: &[u32], m: usize) -> Result<Vec<u32>, AllocError>
+fn rotate(alloc: Global, order: &[u32], m: usize) -> Result<Vec<u32>, AllocError>
     requires { m ≤ length order.now }
     ensures { IfOk result (λ turned. turned.items ≡ rotated order.now m) }
 {
@@ -203,8 +203,8 @@ pub fn obstruct(alloc: Global, level: &Level, next: &[u32]) -> Result<Subdivisio
     let order = round(alloc, &h, next, merged_vertex(level))?;
     let marks = neighbour_marks(alloc, &level.graph, level.y)?;
     for m in 0..order.len() {
-        let turned = rotated(alloc, &order, m)?;
-        if let Some(s) = shown(alloc, level, &h, next, &marks, &turned)? {
+        let turned = rotate(alloc, &order, m)?;
+        if let Some(s) = obstruction_at_start(alloc, level, &h, next, &marks, &turned)? {
             return Ok(s);
         }
     }

@@ -8,7 +8,7 @@ ghost use Rattle.contract_obstruct.specs.Steps.{ArePlaneSteps};
 ghost use Rattle.contract_obstruct.specs.Crossing.{AreEdges};
 ghost use Rattle.contract_obstruct.specs.Triple.{tip, LeadsToCommon, AreTriple, IsTriple, triple_spokes, triple_paths};
 
-use crate::crossing::{Sector, edge_before, joining, push_back, push_edge, side};
+use crate::crossing::{Sector, edge_before, joining_edge, push_back, push_edge, side};
 use crate::paths::other_end;
 use contractions::Level;
 use kuratowski::{Pattern, Subdivision};
@@ -37,7 +37,7 @@ fn common_edge(level: &Level, sector: &Sector) -> u32
     ensures leaves { is_end level.now.graph level.now.y result ≡ true }
     ensures arrives { other_end level.now.graph result level.now.y ≡ tip level.now sector.now }
 {
-    joining(&level.graph, level.y, tip(level, sector))
+    joining_edge(&level.graph, level.y, tip(level, sector))
 }
 
 // The paths that are single edges.

@@ -1,7 +1,7 @@
 use Rattle.std.proofs.Common.{ℕ, Option, MatchOption, subst}
 use Rattle.contract_embed.specs.Runs.{HaveRuns}
 use Rattle.contract_obstruct.specs.Obstruction.{HaveNoRuns}
-use Rattle.contract_embed.proofs.answers.expanded.Goals as goal
+use Rattle.contract_embed.proofs.answers.expand_runs.Goals as goal
 
 pub expand-requires-clause-first : goal.expand-requires-clause-first
 expand-requires-clause-first c =
