@@ -1,4 +1,4 @@
--- Vertices with edges of two different numbers.
+-- Of private functions: vertices with edges of two different numbers.
 use Rattle.std.specs.Prelude.{ℕ, Bool, not, ◌==◌, List, length, slice_index}
 use Rattle.permutations.specs.Count.{some}
 

@@ -1,4 +1,4 @@
--- What the steps from a finished search to the blocks give.
+-- Of private functions: what the steps from a finished search to the blocks give.
 use Rattle.std.specs.Prelude.{◌≡◌, ℕ, ◌<◌, ◌≤◌, ◌↔◌, ◌⊎◌, ◌==◌, Bool, true, false, List, [], length, filter, slice_index, slice_index_or}
 use Rattle.permutations.specs.Relation.{class_count}
 use Rattle.multigraph.specs.Graph.{Multigraph, edge_count, numbers_below}
@@ -7,11 +7,19 @@ use Rattle.blocks.specs.State.{SearchState}
 use Rattle.blocks.specs.Searching.{flag}
 use Rattle.blocks.specs.Numbering.{IsNumbering, same_label}
 
+-- v is a root, or nothing leads from it or below it past its parent
+abbrev pub IsHead : SearchState → ℕ → Type 0
+IsHead s v = (slice_index s.depth v ≡ 0) ⊎ (slice_index s.depth (slice_index s.parent v) ≤ slice_index s.low v)
+
+-- v is no root, and something does
+abbrev pub IsNoHead : SearchState → ℕ → Type 0
+IsNoHead s v = (0 < slice_index s.depth v) × (slice_index s.low v < slice_index s.depth (slice_index s.parent v))
+
 -- the flags of the first k vertices: whether nothing leads from the vertex or below it past its parent, or it is a root
 pub record AreHeads (s : SearchState) (k : ℕ) (heads : List Bool) : Type 0 where
   pub places : length heads ≡ k
-  pub head : (v : ℕ) → v < k → flag heads v ≡ true → (slice_index s.depth v ≡ 0) ⊎ (slice_index s.depth (slice_index s.parent v) ≤ slice_index s.low v)
-  pub other : (v : ℕ) → v < k → flag heads v ≡ false → (0 < slice_index s.depth v) × (slice_index s.low v < slice_index s.depth (slice_index s.parent v))
+  pub head : (v : ℕ) → v < k → flag heads v ≡ true → IsHead s v
+  pub other : (v : ℕ) → v < k → flag heads v ≡ false → IsNoHead s v
 
 -- the flags of the first k vertices: whether the vertex is a root
 pub record AreRoots (s : SearchState) (k : ℕ) (roots : List Bool) : Type 0 where

@@ -1,4 +1,4 @@
--- Classes of equal labels, numbered in order of their first places.
+-- State of a loop: classes of equal labels, numbered in order of their first places.
 use Rattle.std.specs.Prelude.{◌≡◌, ℕ, ◌<◌, ◌==◌, Bool, true, List, length, slice_index}
 use Rattle.permutations.specs.Count.{count}
 use Rattle.permutations.specs.Relation.{leads}

@@ -1,4 +1,4 @@
--- Labels that are spread from parents to children along an order.
+-- State of a loop: labels that are spread from parents to children along an order.
 use Rattle.std.specs.Prelude.{◌≡◌, ℕ, ◌<◌, true, false, Bool, List, length, take, slice_index}
 use Rattle.permutations.specs.Members.{is_member, is_distinct}
 use Rattle.blocks.specs.Searching.{flag}

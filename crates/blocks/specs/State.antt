@@ -1,4 +1,4 @@
--- What a depth-first search knows, as lists.
+-- State of a loop: what a depth-first search knows, as lists.
 use Rattle.std.specs.Prelude.{ℕ, ◌+◌, ◌-◌, Bool, true, false, min, nat_lt, if◌then◌else◌, List, [], ◌∷◌, ◌++◌, length, take, replicate, slice_index, slice_set}
 use Rattle.multigraph.specs.Graph.{Multigraph, edge_count}
 

@@ -4,7 +4,7 @@ ghost use Rattle.multigraph.specs.Graph.{edge_count, is_end, IsGraph, IsWithinLi
 ghost use Rattle.blocks.specs.State.{SearchState, fresh, looked_further, frond_noted, root_noted, child_noted, left};
 ghost use Rattle.blocks.specs.Searching.{flag, degree, IsSearching, IsLast, IsSeenAt, IsTurned, IsExplored, IsOver};
 ghost use Rattle.blocks.specs.Spread.{IsSpreadOrder, IsSpread};
-ghost use Rattle.blocks.specs.Finding.{AreHeads, AreRoots, AreBlockNumbers};
+ghost use Rattle.blocks.specs.Finding.{IsHead, IsNoHead, AreHeads, AreRoots, AreBlockNumbers};
 ghost use Rattle.blocks.specs.Blocks.{AreComponents};
 
 use crate::numbering::number_classes;
@@ -288,8 +288,8 @@ impl Search {
         requires parent_within { vertex < length self.now.parent }
         requires low_within { vertex < length self.now.low }
         requires grandparent_within { 0 < slice_index self.now.depth vertex → slice_index self.now.parent vertex < length self.now.depth }
-        ensures head { result ≡ true → (slice_index self.now.depth vertex ≡ 0) ⊎ (slice_index self.now.depth (slice_index self.now.parent vertex) ≤ slice_index self.now.low vertex) }
-        ensures other { result ≡ false → (0 < slice_index self.now.depth vertex) × (slice_index self.now.low vertex < slice_index self.now.depth (slice_index self.now.parent vertex)) }
+        ensures head { result ≡ true → IsHead self.now vertex }
+        ensures other { result ≡ false → IsNoHead self.now vertex }
     {
         if self.depth[vertex as usize] == 0 {
             return true;

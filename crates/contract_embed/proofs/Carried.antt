@@ -25,6 +25,7 @@ use Rattle.contractions.specs.Level.{IsLevel, contraction, edge_before}
 use Rattle.contract_obstruct.specs.Steps.{AreSteps, ArePlaneSteps}
 use Rattle.contract_embed.specs.Steps.{AgreeBelow, first_dart, rejoined}
 use Rattle.contract_embed.specs.Runs.{origin, CarriedBelow, HaveRuns}
+use Rattle.contract_embed.proofs.RunsTold.{runs-in}
 use Rattle.contractions.specs.declared.level.Level.{Level}
 use Rattle.contractions.proofs.LevelFacts.{level-contraction, level-graph}
 
@@ -110,7 +111,7 @@ module _ (level : Level) (k : IsLevel level) (next : List ℕ) where
       → ArePlaneSteps level.graph wide
   expanded-steps p first last runs narrow wide b c d end behind middle early late turn back lc ec ld ed end_is behind_is middle_is early_is late_is turn_is back_is long agree =
       let w = expanded-system level.graph (contraction level) level.edge level.x level.y (edge_before level) (contracted_vertex level.x level.y) k.graph (level-graph level k) (level-contraction level k)
-      k.triconnected.simple p.system p.are_steps.system p.plane first last (runs p.system p.are_steps) in
+      k.triconnected.simple p.system p.are_steps.system p.plane first last (runs-in level next first last runs p.system p.are_steps) in
       record {
         system = w.0;
         are_steps = record { system = w.1; each = long; steps = λ z l. all z l ∙ sym (w.3 z l) };

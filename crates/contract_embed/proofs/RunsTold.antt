@@ -17,6 +17,7 @@ use Rattle.contract_obstruct.specs.Obstruction.{HaveNoRuns}
 use Rattle.contractions.specs.declared.level.Level.{Level}
 use Rattle.contractions.proofs.LevelFacts.{level-contraction, level-graph}
 use Rattle.contract_obstruct.proofs.Orders.{steps-in}
+use Rattle.contract_obstruct.proofs.OneSystem.{one-system}
 
 module _ (level : Level) (k : IsLevel level) (next : List ℕ) where
   abbrev h : Multigraph
@@ -42,12 +43,12 @@ module _ (level : Level) (k : IsLevel level) (next : List ℕ) where
       (l, (r.before_first, ap (leaves level) (a.steps (dart_before (contraction level) s first) l ∙ m.forth_back first r.first_dart) ∙ r.first_leaves))
 
   -- no turn from x to y
-  pub none-last : ((d : ℕ) → d < dart_count (contraction level) → Turns level next level.x level.y d → ⊥) → HaveNoRuns level next
-  none-last n s first last a r = n last r.last_dart (turn-last s first last a r)
+  pub none-last : (s : List (List ℕ)) → AreSteps (contraction level) s next → ((d : ℕ) → d < dart_count (contraction level) → Turns level next level.x level.y d → ⊥) → HaveNoRuns level next
+  none-last s a n = (s, a, λ first last r. n last r.last_dart (turn-last s first last a r))
 
   -- no turn from y to x
-  pub none-first : ((d : ℕ) → d < dart_count (contraction level) → Turns level next level.y level.x d → ⊥) → HaveNoRuns level next
-  none-first n s first last a r = let w = turn-first s first last a r in n (dart_before (contraction level) s first) w.0 w.1
+  pub none-first : (s : List (List ℕ)) → AreSteps (contraction level) s next → ((d : ℕ) → d < dart_count (contraction level) → Turns level next level.y level.x d → ⊥) → HaveNoRuns level next
+  none-first s a n = (s, a, λ first last r. let w = turn-first s first last a r in n (dart_before (contraction level) s first) w.0 w.1)
 
   -- a turn from x to y is the last dart
   same-last : (s : List (List ℕ)) (first last : ℕ) → AreSteps (contraction level) s next → Falls s first last → (d : ℕ) → d < dart_count (contraction level) → Turns level next level.x level.y d → d ≡ last
@@ -72,27 +73,41 @@ module _ (level : Level) (k : IsLevel level) (next : List ℕ) where
   }
 
   -- the turns that were found, at darts that do not fit or are the same
-  pub none-fits : (last end : ℕ) → last < dart_count (contraction level) → end < dart_count (contraction level) → Turns level next level.x level.y last → Turns level next level.y level.x end
+  pub none-fits : (s : List (List ℕ)) → AreSteps (contraction level) s next → (last end : ℕ) → last < dart_count (contraction level) → end < dart_count (contraction level) → Turns level next level.x level.y last → Turns level next level.y level.x end
       → (slice_index next end ≢ last → ((d : ℕ) → d < dart_count (contraction level) → FitsAt level next (slice_index next end) last d) → ⊥) → HaveNoRuns level next
-  none-fits last end ll le tl te n s f l a r =
-      let p : last ≡ l = same-last s f l a r last ll tl in
-      let q : slice_index next end ≡ f = same-first s f l a r end le te in
-      n (λ e. r.two (sym q ∙ e ∙ p)) (subst (λ z. (d : ℕ) → d < dart_count (contraction level) → FitsAt level next z last d) (sym q)
-      (subst (λ z. (d : ℕ) → d < dart_count (contraction level) → FitsAt level next f z d) (sym p) (fits s f l a r)))
+  none-fits s a last end ll le tl te n = (
+    s,
+    a,
+    λ f l r.
+        let p : last ≡ l = same-last s f l a r last ll tl in
+        let q : slice_index next end ≡ f = same-first s f l a r end le te in
+        n (λ e. r.two (sym q ∙ e ∙ p)) (subst (λ z. (d : ℕ) → d < dart_count (contraction level) → FitsAt level next z last d) (sym q)
+        (subst (λ z. (d : ℕ) → d < dart_count (contraction level) → FitsAt level next f z d) (sym p) (fits s f l a r))),
+  )
 
   -- where they fit, there are runs
-  pub some-fits : (last end : ℕ) → last < dart_count (contraction level) → end < dart_count (contraction level) → Turns level next level.x level.y last → Turns level next level.y level.x end
+  pub some-fits : (s : List (List ℕ)) → AreSteps (contraction level) s next → (last end : ℕ) → last < dart_count (contraction level) → end < dart_count (contraction level) → Turns level next level.x level.y last → Turns level next level.y level.x end
       → slice_index next end ≢ last → ((d : ℕ) → d < dart_count (contraction level) → FitsAt level next (slice_index next end) last d) → HaveRuns level next (slice_index next end) last
-  some-fits last end ll le tl te n fit s a = record {
-    first_dart = steps-in (contraction level) (level-graph level k) s next a end le;
-    last_dart = ll;
-    first_leaves = te.1;
-    last_leaves = tl.0;
-    two = n;
-    before_first = ap (leaves level) (permutes-back (dart_count (contraction level)) (dart_after (contraction level) s) (dart_before (contraction level) s)
-        (map-permutes (contraction level) s (level-graph level k) a.system) end (slice_index next end) le (sym (a.steps end le))) ∙ te.0;
-    after_last = ap (leaves level) (sym (a.steps last ll)) ∙ tl.1;
-    run_of_x = λ d l e m. ap (leaves level) (sym (a.steps d l)) ∙ (fit d l).run_of_x e m;
-    run_of_y = λ d l e m. ap (leaves level) (sym (a.steps d l)) ∙ (fit d l).run_of_y e (λ q. m (sym (a.steps d l) ∙ q));
-    common = λ d l. (fit d l).common;
-  }
+  some-fits s a last end ll le tl te n fit = (
+    s,
+    a,
+    record {
+      first_dart = steps-in (contraction level) (level-graph level k) s next a end le;
+      last_dart = ll;
+      first_leaves = te.1;
+      last_leaves = tl.0;
+      two = n;
+      before_first = ap (leaves level) (permutes-back (dart_count (contraction level)) (dart_after (contraction level) s) (dart_before (contraction level) s)
+          (map-permutes (contraction level) s (level-graph level k) a.system) end (slice_index next end) le (sym (a.steps end le))) ∙ te.0;
+      after_last = ap (leaves level) (sym (a.steps last ll)) ∙ tl.1;
+      run_of_x = λ d l e m. ap (leaves level) (sym (a.steps d l)) ∙ (fit d l).run_of_x e m;
+      run_of_y = λ d l e m. ap (leaves level) (sym (a.steps d l)) ∙ (fit d l).run_of_y e (λ q. m (sym (a.steps d l) ∙ q));
+      common = λ d l. (fit d l).common;
+    },
+  )
+
+-- they fall so in each rotation system with these steps
+pub runs-in : (level : Level) (next : List ℕ) (first last : ℕ) → HaveRuns level next first last → (s : List (List ℕ)) → AreSteps (contraction level) s next
+    → FallsInRuns level.graph (contraction level) level.x level.y (edge_before level) s first last
+runs-in level next first last w s a =
+    subst (λ (r : List (List ℕ)). FallsInRuns level.graph (contraction level) level.x level.y (edge_before level) r first last) (one-system (contraction level) next w.0 s w.1 a) w.2

@@ -7,6 +7,7 @@ use Rattle.planarity.specs.Expansion.{moved, FallsInRuns}
 use Rattle.contractions.specs.declared.level.Level.{Level}
 use Rattle.contractions.specs.Level.{contraction, edge_before}
 use Rattle.contract_obstruct.specs.Steps.{AreSteps}
+use Rattle.contract_embed.specs.Steps.{first_dart, rejoined}
 
 -- the dart of the graph that dart d of the contraction was
 abbrev pub origin : Level → ℕ → ℕ
@@ -26,10 +27,23 @@ pub record FitsAt (level : Level) (next : List ℕ) (first last d : ℕ) : Type 
   pub run_of_y : leaves level d ≡ level.y → slice_index next d ≢ first → leaves level (slice_index next d) ≡ level.y
   pub common : leaves level d ≡ level.x → are_joined level.graph level.y (tail level.graph (twin (origin level d))) ≡ true → (d ≡ first) ⊎ (d ≡ last)
 
--- round the merged vertex the darts fall in runs from `first` to `last`
+-- no dart of the contraction turns so
+abbrev pub NoTurn : Level → List ℕ → ℕ → ℕ → Type 0
+NoTurn level next from to = (d : ℕ) → d < dart_count (contraction level) → Turns level next from to d → ⊥
+
+-- dart d does
+abbrev pub TurnsAt : Level → List ℕ → ℕ → ℕ → ℕ → Type 0
+TurnsAt level next from to d = (d < dart_count (contraction level)) × Turns level next from to d
+
+-- there is a rotation system with these steps, and in it the darts round the merged vertex fall in runs from `first` to `last`
 abbrev pub HaveRuns : Level → List ℕ → ℕ → ℕ → Type 0
 HaveRuns level next first last =
-    (s : List (List ℕ)) → AreSteps (contraction level) s next → FallsInRuns level.graph (contraction level) level.x level.y (edge_before level) s first last
+    (s : List (List ℕ)) × AreSteps (contraction level) s next × FallsInRuns level.graph (contraction level) level.x level.y (edge_before level) s first last
+
+-- f with the edge between where dart d leads and y put in again, if there is one
+abbrev pub joined_again : Level → ℕ → ℕ → ℕ → (ℕ → ℕ) → ℕ → ℕ
+joined_again level d p q =
+    rejoined (are_joined level.graph level.y (tail level.graph (twin d))) (first_dart level.graph (tail level.graph (twin d)) level.y) p q
 
 -- the steps on the darts of the graph, when those from the first k darts of the contraction are carried over
 pub record CarriedBelow (level : Level) (next : List ℕ) (k : ℕ) (wide : List ℕ) : Type 0 where

@@ -1,5 +1,5 @@
 -- Changes of the steps of a rotation system.
-use Rattle.std.specs.Prelude.{◌≡◌, ℕ, ◌<◌, Bool, ◌&&◌, ◌==◌, cond}
+use Rattle.std.specs.Prelude.{◌≡◌, ℕ, ◌<◌, Bool, ◌&&◌, ◌==◌, cond, List, slice_index}
 use Rattle.permutations.specs.Count.{least}
 use Rattle.multigraph.specs.Graph.{Multigraph}
 use Rattle.dart_maps.specs.Map.{twin}
@@ -9,6 +9,10 @@ use Rattle.faces.specs.Euler.{tail, dart_count}
 -- two functions are the same below n
 abbrev pub AgreeBelow : ℕ → (ℕ → ℕ) → (ℕ → ℕ) → Type 0
 AgreeBelow n f h = (d : ℕ) → d < n → f d ≡ h d
+
+-- what the new list gives below n is what the old one gave, changed
+abbrev pub IsChangedBy : ℕ → List ℕ → List ℕ → ((ℕ → ℕ) → ℕ → ℕ) → Type 0
+IsChangedBy n old new change = (f : ℕ → ℕ) → AgreeBelow n (slice_index old) f → AgreeBelow n (slice_index new) (change f)
 
 -- whether dart d leads from u to v
 abbrev pub leads : Multigraph → ℕ → ℕ → ℕ → Bool

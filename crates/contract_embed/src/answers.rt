@@ -11,7 +11,7 @@ use crate::expanding::expand;
 use crate::rounds::rotation;
 use crate::runs::runs;
 use contractions::Level;
-use kuratowski::{Subdivision, written};
+use kuratowski::{Subdivision, written_form};
 use multigraph::Graph;
 use planarity::Embedded;
 use std::alloc::{AllocError, Global};
@@ -24,7 +24,7 @@ pub(crate) enum Answer {
 }
 
 // The steps of a plane rotation system of the graph, from those of one of its contraction, if these fall in runs.
-pub(crate) fn expanded(
+pub(crate) fn expand_runs(
     alloc: Global,
     level: &Level,
     next: &[u32],
@@ -42,7 +42,7 @@ pub(crate) fn expanded(
 }
 
 // The answer as an embedder gives it.
-pub(crate) fn embedded(alloc: Global, g: &Graph, answer: Answer) -> Result<Embedded, AllocError>
+pub(crate) fn embedding(alloc: Global, g: &Graph, answer: Answer) -> Result<Embedded, AllocError>
     requires { IsAnswer g.now answer }
     ensures { IfOk result (IsEmbedding g.now) }
 {
@@ -52,7 +52,7 @@ pub(crate) fn embedded(alloc: Global, g: &Graph, answer: Answer) -> Result<Embed
             Ok(Embedded::Plane(r))
         }
         Answer::Not(s) => {
-            let w = written(alloc, g, s)?;
+            let w = written_form(alloc, g, s)?;
             Ok(Embedded::Not(w))
         }
     }

@@ -8,7 +8,7 @@ ghost use Rattle.contract_embed.specs.Chain.{IsChain};
 ghost use Rattle.contract_embed.specs.Answer.{IsAnswer};
 ghost use Rattle.contract_obstruct.specs.Steps.{ArePlaneSteps};
 
-use crate::answers::{Answer, embedded, expanded};
+use crate::answers::{Answer, embedding, expand_runs};
 use crate::descending::{Descent, descend};
 use crate::tetrahedron::tetrahedron_steps;
 use contract_obstruct::{lift, obstruct};
@@ -23,7 +23,7 @@ fn climb_plane(alloc: Global, level: &Level, next: &[u32]) -> Result<Answer, All
     requires steps { ArePlaneSteps (contraction level.now) next.now }
     ensures { IfOk result (IsAnswer level.now.graph) }
 {
-    let found = expanded(alloc, level, next)?;
+    let found = expand_runs(alloc, level, next)?;
     match found {
         Some(wide) => Ok(Answer::Plane(wide)),
         None => {
@@ -79,6 +79,6 @@ impl Embedder for ContractEmbedder {
         let Descent { levels, bottom } = descend(alloc, g)?;
         let steps = tetrahedron_steps(alloc, &bottom)?;
         let answer = ascend(alloc, g, &bottom, levels, Answer::Plane(steps))?;
-        embedded(alloc, g, answer)
+        embedding(alloc, g, answer)
     }
 }

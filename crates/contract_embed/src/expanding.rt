@@ -9,14 +9,14 @@ ghost use Rattle.faces.specs.Euler.{tail, dart_count};
 ghost use Rattle.contractions.specs.Level.{IsLevel, contraction};
 ghost use Rattle.contractions.specs.Marks.{AreNeighbourMarks};
 ghost use Rattle.contract_obstruct.specs.Steps.{ArePlaneSteps};
-ghost use Rattle.contract_embed.specs.Steps.{AgreeBelow, first_dart, rejoined};
-ghost use Rattle.contract_embed.specs.Runs.{CarriedBelow, HaveRuns};
+ghost use Rattle.contract_embed.specs.Steps.{IsChangedBy};
+ghost use Rattle.contract_embed.specs.Runs.{joined_again, CarriedBelow, HaveRuns};
 
-use crate::darts::{arrives_at_mark, first_dart, head};
+use crate::darts::{arrives_at_mark, first_dart};
 use crate::runs::{after, before, dart_count, origin};
 use crate::steps::{exchange, insert};
-use contract_obstruct::{dart_from, twin};
 use contractions::{Level, neighbour_marks, numbers_below};
+use faces::{dart_from, head, twin};
 use std::alloc::{AllocError, Global};
 
 // Carries the step from one dart over.
@@ -32,12 +32,12 @@ fn carry(level: &Level, next: &[u32], wide: &mut [u32], dart: u32)
 }
 
 // The steps on the darts of the edges that stay; each other dart is alone.
-fn carried(alloc: Global, level: &Level, next: &[u32]) -> Result<Vec<u32>, AllocError>
+fn carry_all(alloc: Global, level: &Level, next: &[u32]) -> Result<Vec<u32>, AllocError>
     requires level { IsLevel level.now }
     requires steps { ArePlaneSteps (contraction level.now) next.now }
     ensures { IfOk result (λ wide. CarriedBelow level.now next.now (dart_count (contraction level.now)) wide.items) }
 {
-    let mut wide = numbers_below(alloc, crate::darts::dart_count(&level.graph))?;
+    let mut wide = numbers_below(alloc, faces::dart_count(&level.graph))?;
     for dart in 0..dart_count(level) {
         carry(level, next, &mut wide, dart);
     }
@@ -53,7 +53,7 @@ fn join_again(level: &Level, marks: &[bool], wide: &mut [u32], dart: u32, p: u32
     requires dart { dart < dart_count level.now.graph }
     requires first { p < dart_count level.now.graph }
     requires second { q < dart_count level.now.graph }
-    ensures { (f : ℕ → ℕ) → AgreeBelow (dart_count level.now.graph) (slice_index wide.old) f → AgreeBelow (dart_count level.now.graph) (slice_index wide.new) (rejoined (are_joined level.now.graph level.now.y (tail level.now.graph (twin dart))) (first_dart level.now.graph (tail level.now.graph (twin dart)) level.now.y) p q f) }
+    ensures { IsChangedBy (dart_count level.now.graph) wide.old wide.new (joined_again level.now dart p q) }
 {
     if arrives_at_mark(&level.graph, marks, level.y, dart) {
         let joining = first_dart(&level.graph, head(&level.graph, dart), level.y);
@@ -99,7 +99,7 @@ pub(crate) fn expand(
     requires runs { HaveRuns level.now next.now first last }
     ensures { IfOk result (λ wide. ArePlaneSteps level.now.graph wide.items) }
 {
-    let mut wide = carried(alloc, level, next)?;
+    let mut wide = carry_all(alloc, level, next)?;
     let marks = neighbour_marks(alloc, &level.graph, level.y)?;
     part(level, &marks, next, &mut wide, first, last);
     Ok(wide)

@@ -7,11 +7,12 @@ ghost use Rattle.faces.specs.Euler.{tail, dart_count};
 ghost use Rattle.contractions.specs.Level.{IsLevel, contraction};
 ghost use Rattle.contractions.specs.Marks.{AreNeighbourMarks};
 ghost use Rattle.contract_obstruct.specs.Steps.{ArePlaneSteps};
-ghost use Rattle.contract_embed.specs.Runs.{origin, leaves, Turns, FitsAt, HaveRuns};
+ghost use Rattle.contract_embed.specs.Runs.{origin, leaves, Turns, NoTurn, TurnsAt, FitsAt, HaveRuns};
 ghost use Rattle.contract_obstruct.specs.Obstruction.{HaveNoRuns};
 
-use crate::darts::{arrives_at_mark, tail};
+use crate::darts::arrives_at_mark;
 use contractions::{Level, neighbour_marks};
+use faces::tail;
 use std::alloc::{AllocError, Global};
 
 // How many darts the contraction has.
@@ -47,7 +48,7 @@ pub(crate) fn before(level: &Level, next: &[u32], d: u32) -> u32
             return dart;
         }
     }
-    0
+    unreachable!()
 }
 
 // The dart of the graph that the dart of the contraction was.
@@ -84,7 +85,7 @@ fn turns_at(level: &Level, next: &[u32], from: u32, to: u32, dart: u32) -> bool
 fn turn(level: &Level, next: &[u32], from: u32, to: u32) -> Option<u32>
     requires level { IsLevel level.now }
     requires steps { ArePlaneSteps (contraction level.now) next.now }
-    ensures { MatchOption result ((d : ℕ) → d < dart_count (contraction level.now) → Turns level.now next.now from to d → ⊥) (λ d. (d < dart_count (contraction level.now)) × Turns level.now next.now from to d) }
+    ensures { MatchOption result (NoTurn level.now next.now from to) (TurnsAt level.now next.now from to) }
 {
     for dart in 0..dart_count(level) {
         if turns_at(level, next, from, to, dart) {

@@ -1,18 +1,18 @@
 // Steps round the vertices, as a list that gives for each dart the one that follows it, and their changes.
 
-ghost use Rattle.std.specs.Prelude.{◌<◌, ℕ, length, slice_index};
+ghost use Rattle.std.specs.Prelude.{◌<◌, length};
 ghost use Rattle.permutations.specs.Exchange.{exchange};
 ghost use Rattle.dart_maps.specs.Map.{twin};
 ghost use Rattle.dart_maps.specs.Changes.{inserted};
-ghost use Rattle.contract_embed.specs.Steps.{AgreeBelow};
+ghost use Rattle.contract_embed.specs.Steps.{IsChangedBy};
 
-use contract_obstruct::twin;
+use faces::twin;
 
 // Exchanges what follows p and what follows q.
 pub(crate) fn exchange(next: &mut [u32], p: u32, q: u32)
     requires first { p < length next.old }
     requires second { q < length next.old }
-    ensures { (f : ℕ → ℕ) → AgreeBelow (length next.old) (slice_index next.old) f → AgreeBelow (length next.old) (slice_index next.new) (exchange p q f) }
+    ensures { IsChangedBy (length next.old) next.old next.new (exchange p q) }
 {
     next.swap(p as usize, q as usize);
 }
@@ -23,7 +23,7 @@ pub(crate) fn insert(next: &mut [u32], d: u32, p: u32, q: u32)
     requires twin_in { twin d < length next.old }
     requires first { p < length next.old }
     requires second { q < length next.old }
-    ensures { (f : ℕ → ℕ) → AgreeBelow (length next.old) (slice_index next.old) f → AgreeBelow (length next.old) (slice_index next.new) (inserted d p q f) }
+    ensures { IsChangedBy (length next.old) next.old next.new (inserted d p q) }
 {
     exchange(next, p, d);
     exchange(next, q, twin(d));

@@ -5,7 +5,8 @@ ghost use Rattle.graph_theory.specs.Triconnected.{IsTriconnected};
 ghost use Rattle.contract_obstruct.specs.Steps.{ArePlaneSteps};
 ghost use Rattle.contract_embed.specs.Tetrahedron.{turn};
 
-use crate::darts::{dart_count, first_dart, head, tail};
+use crate::darts::first_dart;
+use faces::{dart_count, head, tail};
 use multigraph::Graph;
 use std::alloc::{AllocError, Global};
 

@@ -19,10 +19,11 @@ use Rattle.planarity.proofs.FoundCircle.{IsTip, tip-first, tip-second, tip-eithe
 use Rattle.contractions.specs.Level.{IsLevel, contraction, edge_before}
 use Rattle.contract_obstruct.specs.Steps.{AreSteps}
 use Rattle.contract_obstruct.specs.Crossing.{near_end, part_of, listed, AreCrossing, AreEdges, crossing_paths, crossing_branch}
-use Rattle.contract_obstruct.specs.declared.crossing.Piece.{Piece}
+use Rattle.contract_obstruct.specs.declared.crossing.Sector.{Sector}
 use Rattle.contractions.specs.declared.level.Level.{Level}
 use Rattle.contractions.proofs.LevelFacts.{level-contraction, level-graph, level-triconnected}
 use Rattle.contract_obstruct.proofs.ArcsTold.{arcs-told}
+use Rattle.contract_obstruct.proofs.OneSystem.{around-in}
 
 -- darts of edges are darts
 mapped-below : (h : Multigraph) (w : ℕ) (l : List ℕ) → ((i : ℕ) → is_member i l ≡ true → i < edge_count h) → (z : ℕ) → is_member z (map (dart_from h w) l) ≡ true → z < dart_count h
@@ -76,7 +77,7 @@ module _ (level : Level) (k : IsLevel level) where
     pub part-told : (i : ℕ) (passed : List ℕ) → AreEdges h i passed → part_of h next w i passed ≡ arc_edges h s (map (dart_from h w) (i ∷ reverse passed))
     part-told i passed l = arcs-told h s next (level-graph level k) are (map (dart_from h w) (i ∷ reverse passed)) (mapped-below h w (i ∷ reverse passed) l)
 
-    module _ (plane : IsPlane h s) (a b c d : Piece) (cross : AreCrossing level next a b c d) where
+    module _ (plane : IsPlane h s) (a b c d : Sector) (cross : AreCrossing level next a b c d) where
       all : List ℕ
       all = listed a ++ (listed b ++ (listed c ++ listed d))
 
@@ -84,7 +85,7 @@ module _ (level : Level) (k : IsLevel level) where
       Among l = (z : ℕ) → is_member z l ≡ true → (z < edge_count h) × (is_end h w z ≡ true)
 
       among : Among (listed a ++ (listed b ++ (listed c ++ listed d)))
-      among z m = round-in s are.system z (sym (IsTurn-member (order_at s w) (listed a ++ (listed b ++ (listed c ++ listed d))) z (cross.around s are)) ∙ m)
+      among z m = round-in s are.system z (sym (IsTurn-member (order_at s w) (listed a ++ (listed b ++ (listed c ++ listed d))) z (around-in level next (listed a ++ (listed b ++ (listed c ++ listed d))) cross.around s are)) ∙ m)
 
       pub in_a : Among (listed a)
       in_a z m = among z (member-append_left z (listed a) (listed b ++ (listed c ++ listed d)) m)
@@ -98,7 +99,7 @@ module _ (level : Level) (k : IsLevel level) where
       pub in_d : Among (listed d)
       in_d z m = among z (member-append_right z (listed a) (listed b ++ (listed c ++ listed d)) (member-append_right z (listed b) (listed c ++ listed d) (member-append_right z (listed c) (listed d) m)))
 
-      pub edges : (p q : Piece) → Among (listed p) → Among (listed q) → AreEdges h p.first q.behind.items
+      pub edges : (p q : Sector) → Among (listed p) → Among (listed q) → AreEdges h p.first q.behind.items
       edges p q u v z m = elim (member-cases z p.first (reverse q.behind.items) m) [
         | inl e ↦ subst (λ i. i < edge_count h) e (u p.first (member-head p.first p.behind.items)).0
         | inr r ↦ (v z (member-tail z q.first q.behind.items (sym (member-reverse z q.behind.items) ∙ r))).0
@@ -119,6 +120,6 @@ module _ (level : Level) (k : IsLevel level) where
           (sym (λ i. six_paths g level.edge (edge_before level) (other_end g (edge_before level d.first) level.y) (other_end g (edge_before level c.first) level.x) (near_end g level.x level.y (edge_before level b.first)) (other_end g (edge_before level a.first) level.x)
           (edge_before level d.first) (edge_before level c.first) near (edge_before level a.first) (part-told d.first c.behind.items (edges d c in_d in_c) i) (part-told c.first b.behind.items (edges c b in_c in_b) i) (part-told b.first a.behind.items (edges b a in_b in_a) i) (part-told a.first d.behind.items (edges a d in_a in_d) i)))
           (four-found g h level.edge level.x level.y (edge_before level) (contracted_vertex level.x level.y) k.graph (level-graph level k) (level-contraction level k) s are.system plane (level-triconnected level k)
-          a.first b.first c.first d.first a.behind.items b.behind.items c.behind.items d.behind.items (cross.around s are)
+          a.first b.first c.first d.first a.behind.items b.behind.items c.behind.items d.behind.items (around-in level next (listed a ++ (listed b ++ (listed c ++ listed d))) cross.around s are)
           (other_end g (edge_before level a.first) level.x) (near_end g level.x level.y (edge_before level b.first)) (other_end g (edge_before level c.first) level.x) (other_end g (edge_before level d.first) level.y)
           ta.0 (near-tip b.first ib.0 ib.1) tc.0 td.0 (edge_before level a.first) near (edge_before level c.first) (edge_before level d.first) ta.1 (record { is_edge = l; leaves = t; arrives = e }) tc.1 td.1)

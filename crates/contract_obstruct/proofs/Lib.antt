@@ -1,6 +1,7 @@
 -- Lemmas on the certificates that contractions give.
 pub mod BelowNext
 pub mod Orders
+pub mod OneSystem
 mod LiftedLevel
 mod LiftedCases
 mod ArcsTold

@@ -20,10 +20,11 @@ use Rattle.planarity.proofs.FoundTurn.{turn-alternates, common-edge}
 use Rattle.contractions.specs.Level.{IsLevel, contraction, edge_before}
 use Rattle.contract_obstruct.specs.Steps.{AreSteps}
 use Rattle.contract_obstruct.specs.Obstruction.{HaveNoRuns}
-use Rattle.contract_obstruct.specs.Pieces.{IsCommonEdge}
+use Rattle.contract_obstruct.specs.Sectors.{IsCommonEdge}
 use Rattle.contract_obstruct.specs.Obstruction.{rotated, StandForEdges, IsTripleAt, IsCrossingAt, ShowsNothing}
 use Rattle.contractions.specs.declared.level.Level.{Level}
 use Rattle.contract_obstruct.proofs.Alternating.{round-in}
+use Rattle.contract_obstruct.proofs.OneSystem.{no_runs-in}
 use Rattle.contractions.proofs.LevelFacts.{level-contraction, level-graph, level-edges, level-kept}
 use Rattle.contract_obstruct.proofs.Rotations.{at-join, rotated-turn, turn-last, turn-rotated}
 
@@ -187,7 +188,7 @@ module _ (level : Level) (k : IsLevel level) where
 
         with-private : (f : ℕ) × (f < edge_count g) × (is_private g e x y f ≡ true) → ⊥
         with-private f = elim (turn-alternates g h e x y (edge_before level) vertex k.graph (level-graph level k) (level-contraction level k) simple s are.system k.triconnected f.0 f.1 f.2) [
-          | inl t ↦ none s _ _ are (runs-together g h e x y (edge_before level) vertex k.graph (level-graph level k) (level-contraction level k) simple s are.system near
+          | inl t ↦ no_runs-in level next none s are _ _ (runs-together g h e x y (edge_before level) vertex k.graph (level-graph level k) (level-contraction level k) simple s are.system near
               (λ i l u v. or_right (is_end g y (edge_before level i)) (are_joined g y (other_end g (edge_before level i) x)) v) x_in t)
           | inr a ↦ let w = crossing-shown order a in (at w.0 w.1).no_crossing ((w.2).0) ((w.2).1) ((w.2).2) ((w.2).3)
         ]

@@ -4,7 +4,7 @@ use Rattle.std.proofs.lemmas.List.{take-append-drop, drop-drop, take_all, length
 use Rattle.std.proofs.Math.Seq.{drop-cons}
 use Rattle.permutations.specs.Cyclic.{IsTurn}
 use Rattle.permutations.proofs.CyclicSame.{IsTurn-trans}
-use Rattle.contract_obstruct.specs.Pieces.{segment}
+use Rattle.contract_obstruct.specs.Sectors.{segment}
 
 -- a segment begins with its first member
 pub segment-first : (l : List ℕ) (i j : ℕ) → i < j → i < length l → get_or l i 0 ∷ segment l (i + 1) j ≡ segment l i j

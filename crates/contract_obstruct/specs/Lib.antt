@@ -3,6 +3,6 @@ pub mod Steps
 pub mod Arcs
 pub mod Crossing
 pub mod Triple
-pub mod Pieces
+pub mod Sectors
 pub mod Obstruction
 pub mod Lifting

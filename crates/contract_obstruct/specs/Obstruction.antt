@@ -1,12 +1,12 @@
 -- Places in a cyclic order round the merged vertex of a level that show a subdivision.
-use Rattle.std.specs.Prelude.{◌≡◌, ℕ, ◌<◌, true, false, List, ◌++◌, take, drop, length, slice_index}
+use Rattle.std.specs.Prelude.{◌≡◌, ℕ, ◌<◌, ◌≤◌, true, false, List, ◌++◌, take, drop, length, slice_index}
 use Rattle.multigraph.specs.Graph.{edge_count, is_end}
 use Rattle.planarity.specs.Circle.{leads_near}
 use Rattle.planarity.specs.Expansion.{FallsInRuns}
 use Rattle.contractions.specs.declared.level.Level.{Level}
 use Rattle.contractions.specs.Level.{contraction, edge_before}
 use Rattle.contract_obstruct.specs.Steps.{AreSteps}
-use Rattle.contract_obstruct.specs.Pieces.{IsCommonEdge}
+use Rattle.contract_obstruct.specs.Sectors.{IsCommonEdge}
 
 -- a list from place m on, and then what stands before
 abbrev pub rotated : List ℕ → ℕ → List ℕ
@@ -15,6 +15,37 @@ rotated l m = drop m l ++ take m l
 -- its members stand for edges of the graph
 abbrev pub StandForEdges : Level → List ℕ → Type 0
 StandForEdges level l = (t : ℕ) → t < length l → edge_before level (slice_index l t) < edge_count level.graph
+
+-- the edge that stands for i leads from x
+abbrev pub LeadsFromX : Level → ℕ → Type 0
+LeadsFromX level i = is_end level.graph level.x (edge_before level i) ≡ true
+
+-- between two places of the list no edge leads from x
+abbrev pub NoneFromX : Level → List ℕ → ℕ → ℕ → Type 0
+NoneFromX level l from to = (t : ℕ) → from ≤ t → t < to → LeadsFromX level (slice_index l t) → ⊥
+
+-- at place t between them one does
+abbrev pub IsPlaceFromX : Level → List ℕ → ℕ → ℕ → ℕ → Type 0
+IsPlaceFromX level l from to t = (from ≤ t) × (t < to) × LeadsFromX level (slice_index l t)
+
+-- from one place on no edge leads to a common neighbour
+abbrev pub NoneCommon : Level → List ℕ → ℕ → Type 0
+NoneCommon level l from = (t : ℕ) → from ≤ t → t < length l → IsCommonEdge level (slice_index l t) → ⊥
+
+-- the first place from there on whose edge does is t
+abbrev pub IsFirstCommon : Level → List ℕ → ℕ → ℕ → Type 0
+IsFirstCommon level l from t =
+    (from ≤ t) × (t < length l) × IsCommonEdge level (slice_index l t) × ((u : ℕ) → from ≤ u → u < t → IsCommonEdge level (slice_index l u) → ⊥)
+
+-- no edges lead from x before place j, place 0 aside, and behind it
+abbrev pub NoneRound : Level → List ℕ → ℕ → Type 0
+NoneRound level l j =
+    (i k : ℕ) → 0 < i → i < j → j < k → k < length l → LeadsFromX level (slice_index l i) → LeadsFromX level (slice_index l k) → ⊥
+
+-- the edges at these two places do
+abbrev pub AreRound : Level → List ℕ → ℕ → ℕ × ℕ → Type 0
+AreRound level l j p =
+    (0 < p.0) × (p.0 < j) × (j < p.1) × (p.1 < length l) × LeadsFromX level (slice_index l p.0) × LeadsFromX level (slice_index l p.1)
 
 -- the edges at places 0, i and j lead to common neighbours
 pub record IsTripleAt (level : Level) (l : List ℕ) (i j : ℕ) : Type 0 where
@@ -41,7 +72,8 @@ pub record ShowsNothing (level : Level) (l : List ℕ) : Type 0 where
   pub no_triple : (i j : ℕ) → IsTripleAt level l i j → ⊥
   pub no_crossing : (i j k : ℕ) → IsCrossingAt level l i j k → ⊥
 
--- round the merged vertex the darts do not fall in runs
+-- there is a rotation system with these steps, and in it the darts round the merged vertex do not fall in runs
 abbrev pub HaveNoRuns : Level → List ℕ → Type 0
 HaveNoRuns level next =
-    (s : List (List ℕ)) (first last : ℕ) → AreSteps (contraction level) s next → FallsInRuns level.graph (contraction level) level.x level.y (edge_before level) s first last → ⊥
+    (s : List (List ℕ)) × AreSteps (contraction level) s next
+    × ((first last : ℕ) → FallsInRuns level.graph (contraction level) level.x level.y (edge_before level) s first last → ⊥)

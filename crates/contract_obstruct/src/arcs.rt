@@ -7,8 +7,8 @@ ghost use Rattle.multigraph.specs.Graph.{edge_count};
 ghost use Rattle.faces.specs.Euler.{dart_from};
 ghost use Rattle.contract_obstruct.specs.Arcs.{along, arc_of, arcs_of};
 
-use crate::darts::{dart_from, twin};
 use crate::paths::number_at;
+use faces::{dart_from, twin};
 use multigraph::Graph;
 use std::alloc::{AllocError, Global};
 

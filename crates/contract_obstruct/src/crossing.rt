@@ -9,10 +9,10 @@ ghost use Rattle.planarity.specs.Lift.{lifted};
 ghost use Rattle.planarity.specs.Circle.{leads_near};
 ghost use Rattle.contractions.specs.Level.{IsLevel, contraction, edge_before};
 ghost use Rattle.contract_obstruct.specs.Steps.{ArePlaneSteps};
-ghost use Rattle.contract_obstruct.specs.Crossing.{merged_vertex, near_end, part_of, crossing_paths, crossing_branch, AreCrossing, AreEdges};
+ghost use Rattle.contract_obstruct.specs.Crossing.{merged_vertex, near_end, part_of, side_of, crossing_spokes, crossing_paths, IsCrossing, AreCrossing, AreEdges};
 
 use crate::arcs::arcs;
-use crate::paths::{edges_before, is_end, lifted, number_at, other_end, reversed};
+use crate::paths::{edges_before, is_end, lift_path, number_at, other_end, reverse};
 use contractions::{Level, contracted_vertex};
 use kuratowski::{Pattern, Subdivision};
 use multigraph::{Graph, NumberLists, Numbers};
@@ -20,18 +20,18 @@ use std::alloc::{AllocError, Global};
 
 /// An edge round a vertex, and those behind it up to the next edge of interest.
 #[derive(Debug, Drop)]
-pub(crate) struct Piece {
+pub(crate) struct Sector {
     pub first: u32,
     pub behind: Vec<u32>,
 }
 
-/// The way round the merged vertex in four pieces.
+/// The way round the merged vertex in four sectors.
 #[derive(Debug, Drop)]
 pub(crate) struct Quarters {
-    pub a: Piece,
-    pub b: Piece,
-    pub c: Piece,
-    pub d: Piece,
+    pub a: Sector,
+    pub b: Sector,
+    pub c: Sector,
+    pub d: Sector,
 }
 
 // The merged vertex.
@@ -60,7 +60,7 @@ fn near_end(g: &Graph, x: u32, y: u32, edge: u32) -> u32
 }
 
 // The first edge that joins y with p.
-pub(crate) fn joining(g: &Graph, y: u32, p: u32) -> u32
+pub(crate) fn joining_edge(g: &Graph, y: u32, p: u32) -> u32
     requires { are_joined g.now y p ≡ true }
     ensures within { result < edge_count g.now }
     ensures leaves { is_end g.now y result ≡ true }
@@ -71,7 +71,7 @@ pub(crate) fn joining(g: &Graph, y: u32, p: u32) -> u32
             return edge;
         }
     }
-    0
+    unreachable!()
 }
 
 // The edges of the circle from where an edge leads, back over those behind it.
@@ -81,15 +81,15 @@ fn part(
     h: &Graph,
     next: &[u32],
     first: u32,
-    piece: &Piece,
+    sector: &Sector,
 ) -> Result<Vec<u32>, AllocError>
     requires few { length next.now ≤ 100000 }
-    requires edges_in { AreEdges h.now first piece.now.behind.items }
-    ensures { IfOk result (λ edges. edges.items ≡ part_of h.now next.now (merged_vertex level.now) first piece.now.behind.items) }
+    requires edges_in { AreEdges h.now first sector.now.behind.items }
+    ensures { IfOk result (λ edges. edges.items ≡ part_of h.now next.now (merged_vertex level.now) first sector.now.behind.items) }
 {
     let mut round = Vec::new(alloc);
     round.push(first)?;
-    let back = reversed(alloc, &piece.behind)?;
+    let back = reverse(alloc, &sector.behind)?;
     round.extend_from_slice(&back)?;
     arcs(alloc, h, next, merged_vertex(level), &round)
 }
@@ -101,17 +101,17 @@ pub(crate) fn side(
     h: &Graph,
     next: &[u32],
     first: u32,
-    piece: &Piece,
+    sector: &Sector,
     from: u32,
     to: u32,
 ) -> Result<Numbers, AllocError>
     requires few { length next.now ≤ 100000 }
-    requires edges_in { AreEdges h.now first piece.now.behind.items }
-    ensures { IfOk result (λ path. path ≡ lifted level.now.graph level.now.edge from (map (edge_before level.now) (part_of h.now next.now (merged_vertex level.now) first piece.now.behind.items)) to) }
+    requires edges_in { AreEdges h.now first sector.now.behind.items }
+    ensures { IfOk result (λ path. path ≡ side_of level.now h.now next.now first sector.now from to) }
 {
-    let round = part(alloc, level, h, next, first, piece)?;
+    let round = part(alloc, level, h, next, first, sector)?;
     let edges = edges_before(alloc, &level.kept, &round)?;
-    lifted(alloc, &level.graph, level.edge, from, &edges, to)
+    lift_path(alloc, &level.graph, level.edge, from, &edges, to)
 }
 
 // Appends a path of one edge.
@@ -136,7 +136,7 @@ pub(crate) fn push_back(
 ) -> Result<(), AllocError>
     ensures { IfOk result (λ _. paths.new.items ≡ paths.old.items ++ (reverse path.now) ∷ []) }
 {
-    paths.push(Numbers::of(reversed(alloc, path.as_slice())?))?;
+    paths.push(Numbers::of(reverse(alloc, path.as_slice())?))?;
     Ok(())
 }
 
@@ -152,7 +152,7 @@ fn near_edge(level: &Level, i: u32) -> u32
     if is_end(&level.graph, level.y, edge) {
         return edge;
     }
-    joining(
+    joining_edge(
         &level.graph,
         level.y,
         other_end(&level.graph, edge, level.x),
@@ -165,7 +165,7 @@ fn crossing_spokes(
     level: &Level,
     round: &Quarters,
 ) -> Result<Vec<Numbers>, AllocError>
-    ensures { IfOk result (λ paths. paths.items ≡ (level.now.edge ∷ []) ∷ (edge_before level.now round.now.c.first ∷ []) ∷ (edge_before level.now round.now.a.first ∷ []) ∷ (edge_before level.now round.now.d.first ∷ []) ∷ []) }
+    ensures { IfOk result (λ paths. paths.items ≡ crossing_spokes level.now round.now.a round.now.c round.now.d) }
 {
     let mut paths = Vec::new(alloc);
     push_edge(alloc, &mut paths, level.edge)?;
@@ -225,7 +225,7 @@ fn crossing_from(
     requires third { AreEdges h.now round.now.c.first round.now.b.behind.items }
     requires second { AreEdges h.now round.now.b.first round.now.a.behind.items }
     requires first { AreEdges h.now round.now.a.first round.now.d.behind.items }
-    requires is { IsSubdivision level.now.graph Pattern.K33 (crossing_branch level.now round.now.a round.now.b round.now.c round.now.d) (crossing_paths level.now h.now next.now round.now.a round.now.b round.now.c round.now.d near) }
+    requires is { IsCrossing level.now h.now next.now round.now.a round.now.b round.now.c round.now.d near }
     ensures { IfOk result (λ r. IsSubdivision level.now.graph r.kind r.branch r.paths) }
 {
     let at_a = other_end(&level.graph, edge_before(level, round.a.first), level.x);

@@ -14,19 +14,18 @@
 // The lemmas that crates above use (module of proofs/ in front):
 //   BelowNext  below-next: what holds below k and of k holds below k + 1
 //   Orders     turns-order: the cyclic order of a vertex, read from steps; steps-in: steps lead to darts
+//   OneSystem  one-system: steps are those of one rotation system
 #![tactic(auto)]
 
 mod arcs;
 mod crossing;
-mod darts;
 mod lifting;
 mod obstructing;
 mod paths;
-mod pieces;
 mod rounds;
+mod sectors;
 mod triple;
 
-pub use darts::{dart_from, twin};
 pub use lifting::lift;
 pub use obstructing::obstruct;
 pub use rounds::round;

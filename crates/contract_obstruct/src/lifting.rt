@@ -6,9 +6,9 @@ ghost use Rattle.kuratowski.specs.Subdivision.{branch_at, branch_count, pattern_
 ghost use Rattle.contractions.specs.Contracted.{contracted_vertex};
 ghost use Rattle.planarity.specs.Lift.{spokes, leaves_by, spokes_on, spokes_off, lifted_branch, lifted_paths, split_branch, split_over, split_paths};
 ghost use Rattle.contractions.specs.Level.{IsLevel, contraction};
-ghost use Rattle.contract_obstruct.specs.Lifting.{with_number, lifted_path};
+ghost use Rattle.contract_obstruct.specs.Lifting.{with_number, lifted_path, IsLifted, IsSplit};
 
-use crate::paths::{edges_before, is_listed, lifted, number_at, path_between, touches};
+use crate::paths::{edges_before, is_listed, lift_path, number_at, path_between, touches};
 use contractions::{Level, contracted_vertex};
 use kuratowski::{Pattern, Subdivision};
 use multigraph::{NumberLists, Numbers};
@@ -94,7 +94,7 @@ fn lifted_path(
     let edges = edges_before(alloc, &level.kept, &path)?;
     let from = number_at(branch, pair.0);
     let to = number_at(branch, pair.1);
-    lifted(alloc, &level.graph, level.edge, from, &edges, to)
+    lift_path(alloc, &level.graph, level.edge, from, &edges, to)
 }
 
 // All paths lifted.
@@ -146,7 +146,7 @@ fn lift_at(
 ) -> Result<Subdivision, AllocError>
     requires of { IsSubdivision (contraction level.now) s.now.kind s.now.branch s.now.paths }
     requires few { (contraction level.now).vertex_count < 20000 }
-    requires lifted { let branch = lifted_branch (contracted_vertex level.now.x level.now.y level.now.x) foot (with_number level.now.y) s.now.branch in IsSubdivision level.now.graph s.now.kind branch (lifted_paths level.now.graph level.now.edge (slice_index level.now.kept.items) s.now.kind s.now.paths branch) }
+    requires lifted { IsLifted level.now foot s.now.kind s.now.branch s.now.paths }
     ensures { IfOk result (λ r. IsSubdivision level.now.graph r.kind r.branch r.paths) }
 {
     let branch = lifted_branch(alloc, level, foot, s.branch.as_slice())?;
@@ -190,13 +190,10 @@ fn split_branch(
 
 // The vertex of K5 over which vertex i of K3,3 stands.
 fn split_over(m: usize, off: (usize, usize), on: (usize, usize), i: usize) -> usize
+    requires { i < 6 }
     ensures { result ≡ split_over m off.0 off.1 on.0 on.1 i }
 {
-    let over = [m, on.0, on.1, m, off.0, off.1];
-    match over.get(i) {
-        Some(vertex) => *vertex,
-        None => 0,
-    }
+    [m, on.0, on.1, m, off.0, off.1][i]
 }
 
 // The paths of K3,3.
@@ -234,7 +231,7 @@ fn lift_split(
 ) -> Result<Subdivision, AllocError>
     requires of { IsSubdivision (contraction level.now) Pattern.K5 s.now.branch s.now.paths }
     requires few { (i : ℕ) → slice_index s.now.branch i < 20000 }
-    requires lifted { let branch = split_branch level.now.x level.now.y (with_number level.now.y) s.now.branch off.0 off.1 on.0 on.1 in IsSubdivision level.now.graph Pattern.K33 branch (split_paths level.now.graph level.now.edge (slice_index level.now.kept.items) s.now.paths m off.0 off.1 on.0 on.1 branch) }
+    requires lifted { IsSplit level.now m off on s.now.branch s.now.paths }
     ensures { IfOk result (λ r. IsSubdivision level.now.graph r.kind r.branch r.paths) }
 {
     let branch = split_branch(alloc, level, s.branch.as_slice(), off, on)?;

@@ -11,13 +11,13 @@ ghost use Rattle.contractions.specs.Marks.{AreNeighbourMarks};
 ghost use Rattle.contract_obstruct.specs.Steps.{ArePlaneSteps};
 ghost use Rattle.contract_obstruct.specs.Obstruction.{HaveNoRuns};
 ghost use Rattle.contract_obstruct.specs.Crossing.{IsAround};
-ghost use Rattle.contract_obstruct.specs.Pieces.{IsCommonEdge};
-ghost use Rattle.contract_obstruct.specs.Obstruction.{rotated, StandForEdges, IsTripleAt, IsCrossingAt, ShowsNothing};
+ghost use Rattle.contract_obstruct.specs.Sectors.{IsCommonEdge};
+ghost use Rattle.contract_obstruct.specs.Obstruction.{rotated, StandForEdges, NoneFromX, IsPlaceFromX, NoneCommon, IsFirstCommon, NoneRound, AreRound, IsTripleAt, IsCrossingAt, ShowsNothing};
 
 use crate::crossing::{edge_before, merged_vertex};
 use crate::paths::is_end;
-use crate::pieces::{crossing_at, triple_at};
 use crate::rounds::round;
+use crate::sectors::{crossing_at, triple_at};
 use contractions::{Level, neighbour_marks};
 use kuratowski::Subdivision;
 use multigraph::Graph;
@@ -71,7 +71,7 @@ fn is_common(level: &Level, marks: &[bool], i: u32) -> bool
 // The first place between two whose edge leads from x.
 fn place_from_x(level: &Level, order: &[u32], from: usize, to: usize) -> Option<usize>
     requires within { to ≤ length order.now }
-    ensures { MatchOption result ((t : ℕ) → from ≤ t → t < to → is_end level.now.graph level.now.x (edge_before level.now (slice_index order.now t)) ≡ true → ⊥) (λ t. (from ≤ t) × (t < to) × (is_end level.now.graph level.now.x (edge_before level.now (slice_index order.now t)) ≡ true)) }
+    ensures { MatchOption result (NoneFromX level.now order.now from to) (IsPlaceFromX level.now order.now from to) }
 {
     for place in from..to {
         if is_from_x(level, order[place]) {
@@ -86,7 +86,7 @@ fn common_place(level: &Level, marks: &[bool], order: &[u32], from: usize) -> Op
     requires number { length marks.now ≡ level.now.graph.vertex_count }
     requires marks { AreNeighbourMarks level.now.graph level.now.y marks.now }
     requires edges { StandForEdges level.now order.now }
-    ensures { MatchOption result ((t : ℕ) → from ≤ t → t < length order.now → IsCommonEdge level.now (slice_index order.now t) → ⊥) (λ t. (from ≤ t) × (t < length order.now) × IsCommonEdge level.now (slice_index order.now t) × ((u : ℕ) → from ≤ u → u < t → IsCommonEdge level.now (slice_index order.now u) → ⊥)) }
+    ensures { MatchOption result (NoneCommon level.now order.now from) (IsFirstCommon level.now order.now from) }
 {
     for place in from..order.len() {
         if is_common(level, marks, order[place]) {
@@ -119,7 +119,7 @@ fn triple_places(level: &Level, marks: &[bool], order: &[u32]) -> Option<(usize,
 // The places before and behind place j of edges that lead from x.
 fn places_round(level: &Level, order: &[u32], j: usize) -> Option<(usize, usize)>
     requires within { j < length order.now }
-    ensures { MatchOption result ((i k : ℕ) → 0 < i → i < j → j < k → k < length order.now → is_end level.now.graph level.now.x (edge_before level.now (slice_index order.now i)) ≡ true → is_end level.now.graph level.now.x (edge_before level.now (slice_index order.now k)) ≡ true → ⊥) (λ p. (0 < p.0) × (p.0 < j) × (j < p.1) × (p.1 < length order.now) × (is_end level.now.graph level.now.x (edge_before level.now (slice_index order.now p.0)) ≡ true) × (is_end level.now.graph level.now.x (edge_before level.now (slice_index order.now p.1)) ≡ true)) }
+    ensures { MatchOption result (NoneRound level.now order.now j) (AreRound level.now order.now j) }
 {
     let Some(i) = place_from_x(level, order, 1, j) else {
         return None;
@@ -152,7 +152,7 @@ fn crossing_places(level: &Level, marks: &[bool], order: &[u32]) -> Option<(usiz
 }
 
 // The subdivision that edges show from place 0 on.
-fn shown(
+fn obstruction_at_start(
     alloc: Global,
     level: &Level,
     h: &Graph,
@@ -182,7 +182,7 @@ fn shown(
 }
 
 // The order from place m on.
-fn rotated(alloc: Global, order: &[u32], m: usize) -> Result<Vec<u32>, AllocError>
+fn rotate(alloc: Global, order: &[u32], m: usize) -> Result<Vec<u32>, AllocError>
     requires { m ≤ length order.now }
     ensures { IfOk result (λ turned. turned.items ≡ rotated order.now m) }
 {
@@ -203,8 +203,8 @@ pub fn obstruct(alloc: Global, level: &Level, next: &[u32]) -> Result<Subdivisio
     let order = round(alloc, &h, next, merged_vertex(level))?;
     let marks = neighbour_marks(alloc, &level.graph, level.y)?;
     for m in 0..order.len() {
-        let turned = rotated(alloc, &order, m)?;
-        if let Some(s) = shown(alloc, level, &h, next, &marks, &turned)? {
+        let turned = rotate(alloc, &order, m)?;
+        if let Some(s) = obstruction_at_start(alloc, level, &h, next, &marks, &turned)? {
             return Ok(s);
         }
     }

@@ -71,7 +71,7 @@ pub(crate) fn edges_before(
 }
 
 // A path lifted: the edge e comes where the next edge is not at the vertex that is reached.
-pub(crate) fn lifted(
+pub(crate) fn lift_path(
     alloc: Global,
     g: &Graph,
     e: u32,
@@ -124,7 +124,7 @@ pub(crate) fn is_listed(pairs: &[(usize, usize)], i: usize, j: usize) -> bool
 }
 
 // The same edges in the other direction.
-pub(crate) fn reversed(alloc: Global, path: &[u32]) -> Result<Vec<u32>, AllocError>
+pub(crate) fn reverse(alloc: Global, path: &[u32]) -> Result<Vec<u32>, AllocError>
     ensures { IfOk result (λ edges. edges.items ≡ reverse path.now) }
 {
     path.iter().rev().copied().collect(alloc)
@@ -146,7 +146,7 @@ pub(crate) fn path_between(
             return Vec::from_slice(alloc, paths[k].as_slice());
         }
         if leads(*pair, j, i) {
-            return reversed(alloc, paths[k].as_slice());
+            return reverse(alloc, paths[k].as_slice());
         }
     }
     Ok(Vec::new(alloc))

@@ -5,7 +5,7 @@ ghost use Rattle.rotations.specs.Rings.{turns};
 ghost use Rattle.rotations.specs.Rotation.{order_at};
 ghost use Rattle.contract_obstruct.specs.Steps.{AreSteps, ArePlaneSteps};
 
-use crate::darts::dart_from;
+use faces::dart_from;
 use multigraph::Graph;
 use std::alloc::{AllocError, Global};
 

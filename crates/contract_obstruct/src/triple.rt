@@ -6,38 +6,38 @@ ghost use Rattle.kuratowski.specs.Subdivision.{IsSubdivision};
 ghost use Rattle.contractions.specs.Level.{IsLevel, contraction, edge_before};
 ghost use Rattle.contract_obstruct.specs.Steps.{ArePlaneSteps};
 ghost use Rattle.contract_obstruct.specs.Crossing.{AreEdges};
-ghost use Rattle.contract_obstruct.specs.Triple.{tip, LeadsToCommon, AreTriple, triple_branch, triple_paths};
+ghost use Rattle.contract_obstruct.specs.Triple.{tip, LeadsToCommon, AreTriple, IsTriple, triple_spokes, triple_paths};
 
-use crate::crossing::{Piece, edge_before, joining, push_back, push_edge, side};
+use crate::crossing::{Sector, edge_before, joining_edge, push_back, push_edge, side};
 use crate::paths::other_end;
 use contractions::Level;
 use kuratowski::{Pattern, Subdivision};
 use multigraph::{Graph, NumberLists, Numbers};
 use std::alloc::{AllocError, Global};
 
-/// The way round the merged vertex in three pieces.
+/// The way round the merged vertex in three sectors.
 #[derive(Debug, Drop)]
 pub(crate) struct Thirds {
-    pub a: Piece,
-    pub b: Piece,
-    pub c: Piece,
+    pub a: Sector,
+    pub b: Sector,
+    pub c: Sector,
 }
 
-// Where the first edge of the piece leads from x.
-fn tip(level: &Level, piece: &Piece) -> u32
-    ensures { result ≡ tip level.now piece.now }
+// Where the first edge of the sector leads from x.
+fn tip(level: &Level, sector: &Sector) -> u32
+    ensures { result ≡ tip level.now sector.now }
 {
-    other_end(&level.graph, edge_before(level, piece.first), level.x)
+    other_end(&level.graph, edge_before(level, sector.first), level.x)
 }
 
 // An edge from y to there.
-fn common_edge(level: &Level, piece: &Piece) -> u32
-    requires { LeadsToCommon level.now piece.now }
+fn common_edge(level: &Level, sector: &Sector) -> u32
+    requires { LeadsToCommon level.now sector.now }
     ensures within { result < edge_count level.now.graph }
     ensures leaves { is_end level.now.graph level.now.y result ≡ true }
-    ensures arrives { other_end level.now.graph result level.now.y ≡ tip level.now piece.now }
+    ensures arrives { other_end level.now.graph result level.now.y ≡ tip level.now sector.now }
 {
-    joining(&level.graph, level.y, tip(level, piece))
+    joining_edge(&level.graph, level.y, tip(level, sector))
 }
 
 // The paths that are single edges.
@@ -47,7 +47,7 @@ fn triple_spokes(
     round: &Thirds,
     to: (u32, u32, u32),
 ) -> Result<Vec<Numbers>, AllocError>
-    ensures { IfOk result (λ paths. paths.items ≡ (level.now.edge ∷ []) ∷ (edge_before level.now round.now.c.first ∷ []) ∷ (edge_before level.now round.now.b.first ∷ []) ∷ (edge_before level.now round.now.a.first ∷ []) ∷ (to.2 ∷ []) ∷ (to.1 ∷ []) ∷ (to.0 ∷ []) ∷ []) }
+    ensures { IfOk result (λ paths. paths.items ≡ triple_spokes level.now round.now.a round.now.b round.now.c to.0 to.1 to.2) }
 {
     let mut paths = Vec::new(alloc);
     push_edge(alloc, &mut paths, level.edge)?;
@@ -99,7 +99,7 @@ fn triple_from(
     requires third { AreEdges h.now round.now.c.first round.now.b.behind.items }
     requires second { AreEdges h.now round.now.b.first round.now.a.behind.items }
     requires first { AreEdges h.now round.now.a.first round.now.c.behind.items }
-    requires is { IsSubdivision level.now.graph Pattern.K5 (triple_branch level.now round.now.a round.now.b round.now.c) (triple_paths level.now h.now next.now round.now.a round.now.b round.now.c to.0 to.1 to.2) }
+    requires is { IsTriple level.now h.now next.now round.now.a round.now.b round.now.c to.0 to.1 to.2 }
     ensures { IfOk result (λ r. IsSubdivision level.now.graph r.kind r.branch r.paths) }
 {
     let ends = [

@@ -12,7 +12,6 @@ pub mod ContractedTriconnected
 pub mod ContractionMade
 mod Labelling
 mod Tried
-mod Neighbouring
 mod Naming
 pub mod LevelFacts
 mod PairsRemoved

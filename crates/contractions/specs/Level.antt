@@ -1,11 +1,17 @@
 -- A graph with an edge that is to be contracted.
 use Rattle.std.specs.Prelude.{◌≡◌, ℕ, ◌<◌, ◌≤◌, true, slice_index}
 use Rattle.permutations.specs.Count.{some}
-use Rattle.multigraph.specs.Graph.{Multigraph, IsGraph, IsWithinLimits, edge_count, is_end, other_end}
+use Rattle.multigraph.specs.Graph.{Multigraph, IsGraph, IsWithinLimits, edge_count, is_end, other_end, ends_of}
 use Rattle.graph_theory.specs.Triconnected.{IsTriconnected}
 use Rattle.contractions.specs.Contraction.{IsContractible, common_count, is_private}
 use Rattle.contractions.specs.Contracted.{kept_edges, contracted}
 use Rattle.contractions.specs.declared.level.Level.{Level}
+
+-- the edge may be contracted, and none before it
+pub record IsFirstContractible (g : Multigraph) (edge : ℕ) : Type 0 where
+  pub edge_in : edge < edge_count g
+  pub contractible : IsContractible g (ends_of g edge).0 (ends_of g edge).1
+  pub first : (f : ℕ) → f < edge → IsContractible g (ends_of g f).0 (ends_of g f).1 → ⊥
 
 -- an edge between x and y that may be contracted; y has an edge of its own if there are at most two common neighbours
 pub record IsOriented (g : Multigraph) (edge x y : ℕ) : Type 0 where

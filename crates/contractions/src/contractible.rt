@@ -1,9 +1,9 @@
 // The edges of a triconnected graph that may be contracted, each tried with every third vertex.
 
-ghost use Rattle.std.specs.Prelude.{◌≡◌, ◌≢◌, ◌<◌, ◌↔◌, [], ◌∷◌, true, IfOk};
-ghost use Rattle.multigraph.specs.Graph.{edge_count, ends_of};
+ghost use Rattle.std.specs.Prelude.{◌≡◌, ◌≢◌, ◌↔◌, [], ◌∷◌, true, IfOk};
 ghost use Rattle.graph_theory.specs.Triconnected.{IsConnectedWithout, IsTriconnected};
 ghost use Rattle.contractions.specs.Contraction.{IsContractible};
+ghost use Rattle.contractions.specs.Level.{IsFirstContractible};
 
 use crate::labels::is_connected_without;
 use multigraph::Graph;
@@ -35,8 +35,7 @@ fn is_contractible(alloc: Global, g: &Graph, x: u32, y: u32) -> Result<bool, All
 // The first edge that may be contracted.
 pub(crate) fn contractible_edge(alloc: Global, g: &Graph) -> Result<u32, AllocError>
     requires { IsTriconnected g.now }
-    ensures within { IfOk result (λ edge. edge < edge_count g.now) }
-    ensures contractible { IfOk result (λ edge. IsContractible g.now (ends_of g.now edge).0 (ends_of g.now edge).1) }
+    ensures first { IfOk result (IsFirstContractible g.now) }
 {
     for edge in 0..g.edge_count() {
         let (first, second) = g.ends(edge);
@@ -44,5 +43,5 @@ pub(crate) fn contractible_edge(alloc: Global, g: &Graph) -> Result<u32, AllocEr
             return Ok(edge);
         }
     }
-    Ok(0)
+    unreachable!()
 }

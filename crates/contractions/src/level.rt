@@ -6,7 +6,7 @@ ghost use Rattle.multigraph.specs.Graph.{edge_count, ends_of, is_end, other_end}
 ghost use Rattle.graph_theory.specs.Triconnected.{IsTriconnected};
 ghost use Rattle.contractions.specs.Contraction.{are_joined, is_kept, is_private, IsContractible};
 ghost use Rattle.contractions.specs.Contracted.{without_number, contracted_vertex, kept_edges, contracted_ends, contracted};
-ghost use Rattle.contractions.specs.Level.{IsOriented, IsLevel, contraction};
+ghost use Rattle.contractions.specs.Level.{IsFirstContractible, IsOriented, IsLevel, contraction};
 ghost use Rattle.contractions.specs.Marks.{AreNeighbourMarks, AreNeighbourMarksBelow};
 
 use crate::contractible::contractible_edge;
@@ -187,6 +187,7 @@ impl Level {
         requires five { 5 ≤ graph.vertex_count }
         ensures level { IfOk result IsLevel }
         ensures graph { IfOk result (λ level. level.graph ≡ graph) }
+        ensures first { IfOk result (λ level. IsFirstContractible level.graph level.edge) }
     {
         let edge = contractible_edge(alloc, &graph)?;
         let (x, y) = orient(alloc, &graph, edge)?;

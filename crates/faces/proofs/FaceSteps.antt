@@ -10,8 +10,8 @@ use Rattle.permutations.proofs.Count.{count-within}
 use Rattle.multigraph.specs.Graph.{Multigraph, IsGraph, IsWithinLimits, edge_count, ends_of, other_end}
 use Rattle.multigraph.proofs.OtherEnd.{other_end-of_first, other_end-of_second}
 use Rattle.rotations.specs.Rotation.{IsRotationSystem}
-use Rattle.faces.specs.Euler.{dart_count, face_step, begins_face, is_isolated, face_count, component_count}
-use Rattle.faces.specs.Marks.{IsPermutationBelow, begins_orbit}
+use Rattle.faces.specs.Euler.{dart_count, face_step, begins_orbit, is_isolated, face_count, component_count}
+use Rattle.faces.specs.Marks.{IsPermutationBelow}
 use Rattle.faces.specs.Steps.{AreStepsBelow, AreFaceSteps}
 use Rattle.faces.proofs.DartLemmas.{onward, face_back, face_step-permutes, tail-first, tail-second}
 use Rattle.faces.proofs.Starts.{starts-ext}
@@ -65,14 +65,14 @@ steps-permutation g r s ok system all = (
 )
 
 -- their orbits are the faces
-pub steps-faces : (g : Multigraph) (r : List (List ℕ)) (s : List ℕ) → IsGraph g → IsRotationSystem g r → AreFaceSteps g r s → count (length s) (begins_orbit (length s) (slice_index s)) ≡ count (dart_count g) (begins_face g r)
+pub steps-faces : (g : Multigraph) (r : List (List ℕ)) (s : List ℕ) → IsGraph g → IsRotationSystem g r → AreFaceSteps g r s → count (length s) (begins_orbit (length s) (slice_index s)) ≡ count (dart_count g) (begins_orbit (dart_count g) (face_step g r))
 steps-faces g r s ok system all =
     ap (λ n. count n (begins_orbit n (slice_index s))) all.darts
     ∙ sym (starts-ext (dart_count g) (face_step g r) (slice_index s) (λ d l. sym (all.each d l)) (face_back g r, face_step-permutes g r ok system))
 
 -- the limits keep all its numbers small
 pub faces-few : (g : Multigraph) (r : List (List ℕ)) → IsWithinLimits g → face_count g r ≤ 120000
-faces-few g r limits = omega (arith, count-within (dart_count g) (begins_face g r), count-within g.vertex_count (is_isolated g), limits.few_vertices, limits.few_edges)
+faces-few g r limits = omega (arith, count-within (dart_count g) (begins_orbit (dart_count g) (face_step g r)), count-within g.vertex_count (is_isolated g), limits.few_vertices, limits.few_edges)
 
 pub components-few : (g : Multigraph) → IsWithinLimits g → component_count g ≤ 20000
 components-few g limits = omega (arith, count-within g.vertex_count (leads (connected g.ends)), limits.few_vertices)

@@ -16,7 +16,7 @@ use Rattle.multigraph.proofs.Incident.{incident-has, incident_at-edge, incident_
 use Rattle.rotations.specs.Rotation.{IsRotationSystem}
 use Rattle.dart_maps.specs.Map as maps
 use Rattle.dart_maps.proofs.Euler.{euler}
-use Rattle.faces.specs.Euler.{tail, dart_from, dart_count, face_step, begins_face, is_isolated, face_count, component_count, IsPlane}
+use Rattle.faces.specs.Euler.{tail, dart_from, dart_count, face_step, begins_orbit, is_isolated, face_count, component_count, IsPlane}
 use Rattle.faces.specs.Search.{is_neighbour}
 use Rattle.faces.specs.Maps.{dart_after, dart_before, IsPlaneMap}
 use Rattle.faces.proofs.DartLemmas.{dart-edge, tail-end, dart_from-below, dart_from-tail, face_back, face_step-permutes}
@@ -103,7 +103,7 @@ map-components g r ok s = omega (
 )
 
 -- the faces of the map are the faces that have darts
-map-face_orbits : (g : Multigraph) (r : List (List ℕ)) → IsGraph g → IsRotationSystem g r → maps.face_count (edge_count g) (dart_after g r) ≡ count (dart_count g) (begins_face g r)
+map-face_orbits : (g : Multigraph) (r : List (List ℕ)) → IsGraph g → IsRotationSystem g r → maps.face_count (edge_count g) (dart_after g r) ≡ count (dart_count g) (begins_orbit (dart_count g) (face_step g r))
 map-face_orbits g r ok s =
     orbit-count-ext (dart_count g) (maps.face (dart_after g r)) (face_step g r) (λ d l. map-face g r d ok l)
     ∙ class_count-ext (dart_count g) (same_orbit (dart_count g) (face_step g r)) (reaches (dart_count g) (face_step g r)) (λ c d l k. orbit-reaches (dart_count g) (face_step g r) (face_back g r) (face_step-permutes g r ok s) c d l)

@@ -10,7 +10,8 @@ use Rattle.permutations.proofs.Search.{some-from, least-is}
 use Rattle.permutations.proofs.Iterates.{iterate-between}
 use Rattle.multigraph.specs.Graph.{Multigraph}
 use Rattle.faces.specs.Marks.{IsPermutationBelow, is_marked}
-use Rattle.faces.specs.Trace.{pair_of, pairs_along, orbit_length}
+use Rattle.permutations.specs.Ring.{orbit_length}
+use Rattle.faces.specs.Trace.{pair_of, pairs_along}
 use Rattle.faces.proofs.Walk.{Walked, walked-none, walked-more, walked-back}
 
 -- the walk so far, the pairs that it passed, and that it was not back at its start

@@ -26,17 +26,17 @@ face_step g r d =
 abbrev pub dart_count : Multigraph → ℕ
 dart_count g = 2 * edge_count g
 
--- a dart begins its face: no smaller dart is in its orbit
-abbrev pub begins_face : Multigraph → List (List ℕ) → ℕ → Bool
-begins_face g r d = not (some d (λ c. reaches (dart_count g) (face_step g r) d c))
+-- a number begins its orbit under f: no smaller one is among its images
+abbrev pub begins_orbit : ℕ → (ℕ → ℕ) → ℕ → Bool
+begins_orbit n f x = not (some x (λ y. reaches n f x y))
 
 -- whether v has no edge
 abbrev pub is_isolated : Multigraph → ℕ → Bool
 is_isolated g v = length (incident_edges g v) == 0
 
--- the number of faces: an isolated vertex counts one
+-- the number of faces, each counted by the dart that begins it: an isolated vertex counts one
 abbrev pub face_count : Multigraph → List (List ℕ) → ℕ
-face_count g r = count (dart_count g) (begins_face g r) + count g.vertex_count (is_isolated g)
+face_count g r = count (dart_count g) (begins_orbit (dart_count g) (face_step g r)) + count g.vertex_count (is_isolated g)
 
 -- the number of components: the classes of vertices that edges connect
 abbrev pub component_count : Multigraph → ℕ

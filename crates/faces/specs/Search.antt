@@ -1,4 +1,4 @@
--- What a search does at one vertex: its unmarked neighbours are marked, and wait.
+-- State of a loop: what a search does at one vertex; its unmarked neighbours are marked, and wait.
 use Rattle.std.specs.Prelude.{◌≡◌, ℕ, ◌+◌, Bool, not, ◌&&◌, ◌||◌, ◌==◌, List, length, slice_index, count_by}
 use Rattle.permutations.specs.Count.{some}
 use Rattle.permutations.specs.Members.{is_member}

@@ -1,4 +1,4 @@
--- The face steps of the darts, as a list.
+-- State of a loop: the face steps of the darts, as a list.
 use Rattle.std.specs.Prelude.{◌≡◌, ℕ, ◌<◌, List, length, slice_index}
 use Rattle.multigraph.specs.Graph.{Multigraph}
 use Rattle.faces.specs.Euler.{dart_count, face_step}

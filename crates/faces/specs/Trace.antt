@@ -1,8 +1,9 @@
 -- The lists of the faces. A dart stands for the pair of the vertex that it leaves and its edge; darts are ordered by their
 -- vertex, then by their edge. Each face is listed along its steps from its least pair on, and the faces in order of these.
-use Rattle.std.specs.Prelude.{ℕ, zero, suc, ◌+◌, ◌/◌, Bool, not, ◌&&◌, ◌||◌, ◌==◌, nat_lt, List, [], ◌∷◌, ◌++◌, map, filter}
-use Rattle.permutations.specs.Count.{some, least}
+use Rattle.std.specs.Prelude.{ℕ, zero, suc, ◌/◌, Bool, not, ◌&&◌, ◌||◌, ◌==◌, nat_lt, List, [], ◌∷◌, ◌++◌, map, filter}
+use Rattle.permutations.specs.Count.{some}
 use Rattle.permutations.specs.Permutation.{iterate, reaches}
+use Rattle.permutations.specs.Ring.{orbit_length}
 use Rattle.multigraph.specs.Graph.{Multigraph, incident_edges}
 use Rattle.faces.specs.Euler.{tail, dart_from, dart_count, face_step}
 
@@ -27,10 +28,6 @@ darts_in_order g = darts_from_below g g.vertex_count
 -- whether d is the least dart of its orbit under f
 abbrev pub is_least : Multigraph → (ℕ → ℕ) → ℕ → Bool
 is_least g f d = not (some (dart_count g) (λ c. reaches (dart_count g) f d c && precedes g c d))
-
--- how long an orbit is: the fewest steps, one at least, that lead from d back to d
-abbrev pub orbit_length : ℕ → (ℕ → ℕ) → ℕ → ℕ
-orbit_length n f d = least n (λ k. iterate f (k + 1) d == d) + 1
 
 -- the pairs of the first k darts from d on along the steps of f
 abbrev pub pairs_along : Multigraph → (ℕ → ℕ) → ℕ → ℕ → List (ℕ × ℕ)

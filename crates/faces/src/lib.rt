@@ -8,7 +8,7 @@
 // `euler` counts the four numbers and says whether the rotation system is plane. `trace` lists the faces, each from its least
 // pair of a vertex and an edge on. Both take linear time, with vectors of their own and no recursion: they walk along each
 // face once and mark what they pass, and search each component once. Their contracts are exact; want of memory alone has no
-// cause in a clause.
+// cause in a clause. `dart_from`, `tail`, `head` and `twin` are the one home of darts as numbers.
 #![tactic(auto)]
 
 mod components;
@@ -24,6 +24,7 @@ mod tests;
 mod tracing;
 
 pub use counting::euler;
+pub use darts::{dart_count, dart_from, head, tail, twin};
 pub use laws::{
     eulers_inequality, faces_of_block_are_simple, maps_are_rotation_systems, mirror_image,
     restriction_keeps_plane, rotation_system_is_map,

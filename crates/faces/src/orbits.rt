@@ -1,5 +1,6 @@
 // Orbits of a permutation that is given by the image of each number.
-ghost use Rattle.faces.specs.Marks.{IsPermutationBelow, begins_orbit, is_marked};
+ghost use Rattle.faces.specs.Euler.{begins_orbit};
+ghost use Rattle.faces.specs.Marks.{AddsOrbit, AreWholeOrbits, IsPermutationBelow, is_marked};
 ghost use Rattle.permutations.specs.Count.{count};
 ghost use Rattle.permutations.specs.Permutation.{reaches};
 ghost use Rattle.std.specs.Prelude.{
@@ -21,9 +22,9 @@ fn mark_orbit(images: &[u32], marks: &mut [bool], start: usize)
     requires permutation { IsPermutationBelow (length images.now) (slice_index images.now) }
     requires same_length { length marks.old ≡ length images.now }
     requires start_in { start < length images.now }
-    requires whole_orbits { (x : ℕ) → x < length images.now → is_marked marks.old (slice_index images.now x) ≡ is_marked marks.old x }
+    requires whole_orbits { AreWholeOrbits (length images.now) (slice_index images.now) marks.old }
     requires unmarked { is_marked marks.old start ≡ false }
-    ensures { (x : ℕ) → is_marked marks.new x ≡ (is_marked marks.old x || reaches (length images.now) (slice_index images.now) start x) }
+    ensures { AddsOrbit (length images.now) (slice_index images.now) start marks.old marks.new }
 {
     let mut place = start;
     while !marks[place] {

@@ -1,6 +1,6 @@
 // Tracing the faces of a rotation system.
 ghost use Rattle.faces.specs.Euler.{dart_count};
-ghost use Rattle.faces.specs.Marks.{IsPermutationBelow, is_marked};
+ghost use Rattle.faces.specs.Marks.{AddsOrbit, AreWholeOrbits, IsPermutationBelow, is_marked};
 ghost use Rattle.faces.specs.Trace.{darts_in_order, face_lists, orbit_lists, orbit_pairs};
 ghost use Rattle.multigraph.specs.Graph.{IsGraph};
 ghost use Rattle.permutations.specs.Permutation.{reaches};
@@ -26,9 +26,9 @@ fn walk_orbit(
     requires darts { length images.now ≡ dart_count graph.now }
     requires same_length { length marks.old ≡ dart_count graph.now }
     requires start_in { start < dart_count graph.now }
-    requires whole_orbits { (x : ℕ) → x < dart_count graph.now → is_marked marks.old (slice_index images.now x) ≡ is_marked marks.old x }
+    requires whole_orbits { AreWholeOrbits (dart_count graph.now) (slice_index images.now) marks.old }
     requires unmarked { is_marked marks.old start ≡ false }
-    ensures marked { IfOk result (λ _. (x : ℕ) → is_marked marks.new x ≡ (is_marked marks.old x || reaches (dart_count graph.now) (slice_index images.now) start x)) }
+    ensures marked { IfOk result (λ _. AddsOrbit (dart_count graph.now) (slice_index images.now) start marks.old marks.new) }
     ensures listed { IfOk result (λ face. face ≡ orbit_pairs graph.now (slice_index images.now) start) }
 {
     let mut pairs = Vec::new(alloc);

@@ -1,8 +1,8 @@
 -- What a check of a subdivision asks, step by step: the branch vertices in their written order, and marks on the vertices that
 -- were met, so that none is met twice.
-use Rattle.std.specs.Prelude.{ℕ, Bool, true, false, not, ◌&&◌, ◌==◌, nat_lt, List, [], ◌∷◌, replicate, slice_index_or, slice_set}
+use Rattle.std.specs.Prelude.{◌≡◌, ℕ, ◌<◌, Bool, true, false, not, ◌&&◌, ◌==◌, nat_lt, List, [], ◌∷◌, replicate, slice_index_or, slice_set, length}
 use Rattle.multigraph.specs.Graph.{Multigraph, edge_count, is_end, other_end}
-use Rattle.graph_theory.specs.Path.{walk_end}
+use Rattle.graph_theory.specs.Path.{walk_starts, walk_end}
 use Rattle.kuratowski.specs.declared.subdivision.Pattern.{Pattern}
 use Rattle.kuratowski.specs.declared.subdivision.Pattern.TheVariants.{K5, K33}
 use Rattle.kuratowski.specs.Subdivision.{branch_at, inner_vertices}
@@ -43,6 +43,10 @@ abbrev pub is_free_walk : Multigraph → List Bool → ℕ → List ℕ → Bool
 is_free_walk g marks x [] = true
 is_free_walk g marks x (e ∷ es) = not (is_taken marks x) && (is_edge_at g x e && is_free_walk g (slice_set marks x true) (other_end g e x) es)
 
+-- they are such a walk to y, and the vertices at which they are entered are marked too
+abbrev pub IsFreeWalkTo : Multigraph → List Bool → ℕ → List ℕ → List Bool → ℕ → Type 0
+IsFreeWalkTo g marks x es new y = (is_free_walk g marks x es ≡ true) × (y ≡ walk_end g x es) × (new ≡ marked_also marks (walk_starts g x es))
+
 -- whether these edges, at least one, are a walk from x to y with no marked vertex inside, and none twice
 abbrev pub is_free_path : Multigraph → List Bool → ℕ → List ℕ → ℕ → Bool
 is_free_path g marks x [] y = false
@@ -56,3 +60,7 @@ are_free_paths g marks branch (pair ∷ pairs) [] = false
 are_free_paths g marks branch (pair ∷ pairs) (path ∷ paths) =
     is_free_path g marks (branch_at branch pair.0) path (branch_at branch pair.1)
     && are_free_paths g (marked_also marks (inner_vertices g (branch_at branch pair.0) path)) branch pairs paths
+
+-- the two numbers of each pair are places of the list
+abbrev pub ArePlaces : List (ℕ × ℕ) → List ℕ → Type 0
+ArePlaces pairs branch = (k : ℕ) → k < length pairs → ((slice_index_or pairs k (0, 0)).0 < length branch) × ((slice_index_or pairs k (0, 0)).1 < length branch)

@@ -4,7 +4,7 @@ ghost use Rattle.std.specs.Prelude.{◌≡◌, ◌<◌, ◌↔◌, ◌&&◌, ℕ
 ghost use Rattle.multigraph.specs.Graph.{IsGraph, edge_count, other_end};
 ghost use Rattle.graph_theory.specs.Path.{walk_starts, walk_end};
 ghost use Rattle.kuratowski.specs.Subdivision.{branch_at, branch_count, pattern_edges, inner_vertices, IsSubdivision, IsWritten};
-ghost use Rattle.kuratowski.specs.Checking.{is_in_order, no_marks, is_taken, marked_also, are_free, is_edge_at, is_free_walk, is_free_path, are_free_paths};
+ghost use Rattle.kuratowski.specs.Checking.{is_in_order, no_marks, is_taken, marked_also, are_free, is_edge_at, is_free_walk, IsFreeWalkTo, ArePlaces, is_free_path, are_free_paths};
 
 use crate::subdivision::{Pattern, Subdivision};
 use multigraph::{Graph, Numbers};
@@ -85,7 +85,7 @@ fn follow(g: &Graph, vertex: u32, edge: u32) -> Option<u32>
 // Walks along the edges from a vertex and marks each vertex where an edge is entered, as long as they are a walk and the
 // vertex has no mark yet. Returns where they lead.
 fn walk(g: &Graph, marks: &mut [bool], from: u32, edges: &[u32]) -> Option<u32>
-    ensures { MatchOption result (is_free_walk g.now marks.old from edges.now ≡ false) (λ y. (is_free_walk g.now marks.old from edges.now ≡ true) × (y ≡ walk_end g.now from edges.now) × (marks.new ≡ marked_also marks.old (walk_starts g.now from edges.now))) }
+    ensures { MatchOption result (is_free_walk g.now marks.old from edges.now ≡ false) (IsFreeWalkTo g.now marks.old from edges.now marks.new) }
 {
     let mut at = from;
     for edge in edges {
@@ -126,7 +126,7 @@ fn walk_paths(
     paths: &[Numbers],
 ) -> bool
     requires one_each { length paths.now ≡ length pairs.now }
-    requires within { (k : ℕ) → k < length pairs.now → ((slice_index_or pairs.now k (0, 0)).0 < length branch.now) × ((slice_index_or pairs.now k (0, 0)).1 < length branch.now) }
+    requires within { ArePlaces pairs.now branch.now }
     ensures { result ≡ are_free_paths g.now marks.old branch.now pairs.now paths.now }
 {
     for (k, pair) in pairs.iter().enumerate() {
@@ -149,7 +149,7 @@ fn meets_once(
     paths: &[Numbers],
 ) -> bool
     requires one_each { length paths.now ≡ length pairs.now }
-    requires within { (k : ℕ) → k < length pairs.now → ((slice_index_or pairs.now k (0, 0)).0 < length branch.now) × ((slice_index_or pairs.now k (0, 0)).1 < length branch.now) }
+    requires within { ArePlaces pairs.now branch.now }
     ensures { result ≡ (are_free marks.old branch.now && are_free_paths g.now (marked_also marks.old branch.now) branch.now pairs.now paths.now) }
 {
     mark_all(marks, branch) && walk_paths(g, marks, branch, pairs, paths)

@@ -22,7 +22,7 @@ mod ordering;
 mod subdivision;
 
 pub use checking::{check, is_subdivision};
-pub use ordering::written;
+pub use ordering::written_form;
 pub use subdivision::{Pattern, Subdivision};
 
 #[cfg(test)]

@@ -1,6 +1,6 @@
 // Certificates of small graphs, right ones and near misses, and their written form.
 
-use crate::{Pattern, Subdivision, check, is_subdivision, written};
+use crate::{Pattern, Subdivision, check, is_subdivision, written_form};
 use multigraph::{Graph, NumberLists, Numbers};
 use std::alloc::{AllocError, Global};
 use std::test::Fail;
@@ -249,7 +249,7 @@ fn is_written_as(alloc: Global, g: &Graph, row: &Row, form: &Row) -> Result<bool
     if !is_subdivision(alloc, g, &s)? {
         return Ok(false);
     }
-    let w = written(alloc, g, s)?;
+    let w = written_form(alloc, g, s)?;
     Ok(is_of(&w, form.branch, form.paths))
 }
 

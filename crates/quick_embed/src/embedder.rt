@@ -9,7 +9,7 @@ ghost use Rattle.planarity.specs.Embedding.{IsEmbedding};
 
 use crate::finders::{Finder, LeftRight};
 use faces::euler;
-use kuratowski::{Subdivision, is_subdivision, written};
+use kuratowski::{Subdivision, is_subdivision, written_form};
 use multigraph::Graph;
 use planarity::{Embedded, Embedder};
 use rotations::{Lists, RotFault, Rotation};
@@ -51,7 +51,7 @@ fn obstruction(
     if !is_subdivision(alloc, g, &proposed)? {
         return Ok(None);
     }
-    Ok(Some(written(alloc, g, proposed)?))
+    Ok(Some(written_form(alloc, g, proposed)?))
 }
 
 /// The first proposal of the finder that is accepted: a plane rotation system of the graph, which may be any, or a subdivision of

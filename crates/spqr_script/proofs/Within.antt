@@ -11,7 +11,8 @@ use Rattle.multigraph.proofs.OtherEnd.{end-in}
 use Rattle.graph_theory.specs.Path.{IsWalk}
 use Rattle.rotations.specs.Rotation.{order_at, IsRotationSystem}
 use Rattle.faces.specs.Euler.{tail, dart_count, face_step}
-use Rattle.faces.specs.Trace.{pair_of, darts_in_order, is_least, orbit_length, pairs_along, orbit_pairs, face_lists}
+use Rattle.permutations.specs.Ring.{orbit_length}
+use Rattle.faces.specs.Trace.{pair_of, darts_in_order, is_least, pairs_along, orbit_pairs, face_lists}
 use Rattle.faces.proofs.DartLemmas.{dart-edge, tail-end, face_step-permutes}
 use Rattle.faces.proofs.Order.{order-all}
 use Rattle.kuratowski.specs.Subdivision.{branch_at, path_at, pattern_edges, pair_at, IsSubdivision}

@@ -2,7 +2,7 @@ use Rattle.std.proofs.Common.{arith}
 use Rattle.contract_embed.proofs.Carried.{some-before}
 use Rattle.contract_embed.proofs.runs.before.Goals as goal
 
-pub returns-clause-follows : goal.returns-clause-follows
-returns-clause-follows c =
+pub unreachable-requires : goal.unreachable-requires
+unreachable-requires c =
     let w = some-before c.args.level.now c.requires.level c.args.next.now c.requires.steps c.args.d c.requires.dart in
-    absurd (c.loop-dart.invariant w.0 (omega (arith, w.1, c.dart_count-dart-end.ensures.value, c.loop-dart-test.false)) w.2)
+    c.loop-dart.invariant w.0 (omega (arith, w.1, c.dart_count-dart-end.ensures.value, c.loop-dart-test.false)) w.2

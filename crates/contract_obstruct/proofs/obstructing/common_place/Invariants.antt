@@ -1,5 +1,5 @@
 use Rattle.std.proofs.Common.{◌<◌, ◌≤◌, ℕ, slice_index}
-use Rattle.contract_obstruct.specs.Pieces.{IsCommonEdge}
+use Rattle.contract_obstruct.specs.Sectors.{IsCommonEdge}
 use Rattle.contract_obstruct.proofs.obstructing.common_place.Given as goal
 
 abbrev pub invariant-loop-place : goal.invariant-loop-place

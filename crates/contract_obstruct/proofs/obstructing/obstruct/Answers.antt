@@ -12,15 +12,17 @@ use Rattle.contract_obstruct.proofs.Obstructed.{rotated-edges, something-shown}
 use Rattle.contract_obstruct.proofs.Rotations.{rotated-turn}
 use Rattle.contract_obstruct.proofs.obstructing.obstruct.Goals as goal
 
-pub shown-requires-clause-around : goal.shown-requires-clause-around
-shown-requires-clause-around c = λ s a.
+pub obstruction_at_start-requires-clause-around : goal.obstruction_at_start-requires-clause-around
+obstruction_at_start-requires-clause-around c =
     let level = c.args.level.now in
+    let s = c.requires.steps.system in
+    let a = c.requires.steps.are_steps in
     let o = order_at s (merged_vertex level) in
     let same : c.in_ok-order.order.items ≡ o = c.in_ok-order.ensures s (subst (λ (h : Multigraph). AreSteps h s c.args.next.now) (sym c.in_ok-h.ensures) a) ∙ ap (order_at s) c.merged_vertex.ensures in
-    subst (IsTurn o) (sym (c.deref-in-loop-m-2.ensures.value ∙ c.in_ok-turned.ensures ∙ ap (λ (z : List ℕ). rotated z c.loop-m.m) c.deref.ensures.value)) (rotated-turn o c.in_ok-order.order.items c.loop-m.m same)
+    (s, a, subst (IsTurn o) (sym (c.deref-in-loop-m-2.ensures.value ∙ c.in_ok-turned.ensures ∙ ap (λ (z : List ℕ). rotated z c.loop-m.m) c.deref.ensures.value)) (rotated-turn o c.in_ok-order.order.items c.loop-m.m same))
 
-pub shown-requires-clause-edges : goal.shown-requires-clause-edges
-shown-requires-clause-edges c =
+pub obstruction_at_start-requires-clause-edges : goal.obstruction_at_start-requires-clause-edges
+obstruction_at_start-requires-clause-edges c =
     let level = c.args.level.now in
     let s = c.requires.steps.system in
     let o = order_at s (merged_vertex level) in

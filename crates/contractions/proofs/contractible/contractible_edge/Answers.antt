@@ -15,8 +15,5 @@ loop-edge-preserved c = λ f l h. elim (cases_eq c.loop-edge.edge f) [
   | inr n ↦ c.loop-edge.invariant f (omega arith) h
 ]
 
-pub returns-clause-within : goal.returns-clause-within
-returns-clause-within c = absurd (some-contractible c.args.g.now c.edge_count-edge-end.ensures.graph c.requires (λ f l. c.loop-edge.invariant f (omega (arith, c.edge_count-edge-end.ensures.value, c.loop-edge-test.false))))
-
-pub returns-clause-contractible : goal.returns-clause-contractible
-returns-clause-contractible c = absurd (some-contractible c.args.g.now c.edge_count-edge-end.ensures.graph c.requires (λ f l. c.loop-edge.invariant f (omega (arith, c.edge_count-edge-end.ensures.value, c.loop-edge-test.false))))
+pub unreachable-requires : goal.unreachable-requires
+unreachable-requires c = some-contractible c.args.g.now c.edge_count-edge-end.ensures.graph c.requires (λ f l. c.loop-edge.invariant f (omega (arith, c.edge_count-edge-end.ensures.value, c.loop-edge-test.false)))

@@ -4,8 +4,8 @@ use Rattle.multigraph.specs.Graph.{edge_count, incident_edges}
 use Rattle.multigraph.proofs.Incident.{incident_at-edge}
 use Rattle.faces.proofs.darts.push_darts.Goals as goal
 
-pub dart_from-requires-clause-edge_in : goal.dart_from-requires-clause-edge_in
-dart_from-requires-clause-edge_in c =
+pub dart_from-requires : goal.dart_from-requires
+dart_from-requires c =
     let g = c.args.graph.now in
     let edges = c.incident-edge-items.ensures.value in
     let l : c.loop-edge.edge-index < length (incident_edges g c.args.vertex) = subst (λ s. c.loop-edge.edge-index < length s) edges c.loop-edge-test.true in

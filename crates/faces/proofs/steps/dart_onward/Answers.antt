@@ -15,7 +15,7 @@ succ-requires c =
     let vertex_in = end-in g v e c.requires.graph c.requires.edge_in c.requires.end in
     contains-from_member (order_at r v) e (order-member g r v e c.requires.system vertex_in c.requires.edge_in c.requires.end)
 
-pub dart_from-requires-clause-edge_in : goal.dart_from-requires-clause-edge_in
-dart_from-requires-clause-edge_in c =
+pub dart_from-requires : goal.dart_from-requires
+dart_from-requires c =
     let next_in = onward-edge c.args.graph.now c.args.rotation.now c.args.vertex c.args.edge c.requires.graph c.requires.system c.requires.edge_in c.requires.end in
     omega arith

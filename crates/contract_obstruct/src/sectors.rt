@@ -7,9 +7,9 @@ ghost use Rattle.planarity.specs.Circle.{leads_near};
 ghost use Rattle.contractions.specs.Level.{IsLevel, contraction, edge_before};
 ghost use Rattle.contract_obstruct.specs.Steps.{ArePlaneSteps};
 ghost use Rattle.contract_obstruct.specs.Crossing.{listed, IsAround};
-ghost use Rattle.contract_obstruct.specs.Pieces.{segment, IsCommonEdge};
+ghost use Rattle.contract_obstruct.specs.Sectors.{segment, IsCommonEdge};
 
-use crate::crossing::{Piece, Quarters, crossing};
+use crate::crossing::{Quarters, Sector, crossing};
 use crate::triple::{Thirds, triple};
 use contractions::Level;
 use kuratowski::Subdivision;
@@ -17,7 +17,7 @@ use multigraph::Graph;
 use std::alloc::{AllocError, Global};
 
 // The members from one place on, before another.
-fn piece(alloc: Global, order: &[u32], from: usize, to: usize) -> Result<Piece, AllocError>
+fn sector(alloc: Global, order: &[u32], from: usize, to: usize) -> Result<Sector, AllocError>
     requires some { from < to }
     requires within { to ≤ length order.now }
     ensures first { IfOk result (λ p. p.first ≡ slice_index order.now from) }
@@ -25,7 +25,7 @@ fn piece(alloc: Global, order: &[u32], from: usize, to: usize) -> Result<Piece, 
 {
     let first = order[from];
     let behind = Vec::from_slice(alloc, &order[from + 1..to])?;
-    Ok(Piece { first, behind })
+    Ok(Sector { first, behind })
 }
 
 /// K3,3, where the edges at places 0, i, j and k alternate.
@@ -51,10 +51,10 @@ pub(crate) fn crossing_at(
     requires fourth { is_end level.now.graph level.now.x (edge_before level.now (slice_index order.now 0)) ≡ false }
     ensures { IfOk result (λ r. IsSubdivision level.now.graph r.kind r.branch r.paths) }
 {
-    let d = piece(alloc, order, 0, places.0)?;
-    let a = piece(alloc, order, places.0, places.1)?;
-    let b = piece(alloc, order, places.1, places.2)?;
-    let c = piece(alloc, order, places.2, order.len())?;
+    let d = sector(alloc, order, 0, places.0)?;
+    let a = sector(alloc, order, places.0, places.1)?;
+    let b = sector(alloc, order, places.1, places.2)?;
+    let c = sector(alloc, order, places.2, order.len())?;
     crossing(alloc, level, h, next, &Quarters { a, b, c, d })
 }
 
@@ -79,8 +79,8 @@ pub(crate) fn triple_at(
     requires third { IsCommonEdge level.now (slice_index order.now places.1) }
     ensures { IfOk result (λ r. IsSubdivision level.now.graph r.kind r.branch r.paths) }
 {
-    let a = piece(alloc, order, 0, places.0)?;
-    let b = piece(alloc, order, places.0, places.1)?;
-    let c = piece(alloc, order, places.1, order.len())?;
+    let a = sector(alloc, order, 0, places.0)?;
+    let b = sector(alloc, order, places.0, places.1)?;
+    let c = sector(alloc, order, places.1, order.len())?;
     triple(alloc, level, h, next, &Thirds { a, b, c })
 }

@@ -3,25 +3,30 @@ use Rattle.permutations.specs.Cyclic.{IsTurn}
 use Rattle.rotations.specs.Rotation.{order_at}
 use Rattle.contract_obstruct.specs.Crossing.{merged_vertex}
 use Rattle.contract_obstruct.specs.Triple.{LeadsToCommon}
-use Rattle.contract_obstruct.specs.Pieces.{IsCommonEdge}
+use Rattle.contract_obstruct.specs.Sectors.{IsCommonEdge}
 use Rattle.contractions.specs.declared.level.Level.{Level}
-use Rattle.contract_obstruct.specs.declared.crossing.Piece.{Piece}
+use Rattle.contract_obstruct.specs.declared.crossing.Sector.{Sector}
 use Rattle.contract_obstruct.proofs.Segments.{three-segments}
-use Rattle.contract_obstruct.proofs.pieces.triple_at.Goals as goal
+use Rattle.contract_obstruct.proofs.sectors.triple_at.Goals as goal
 
 -- what holds of its first edge
-common : (level : Level) (p : Piece) (z : ℕ) → p.first ≡ z → IsCommonEdge level z → LeadsToCommon level p
+common : (level : Level) (p : Sector) (z : ℕ) → p.first ≡ z → IsCommonEdge level z → LeadsToCommon level p
 common level p z e h = let w : IsCommonEdge level p.first = subst (IsCommonEdge level) (sym e) h in record { leaves = w.0; common = w.1 }
 
 pub triple-requires-clause-triple : goal.triple-requires-clause-triple
 triple-requires-clause-triple c =
     let level = c.args.level.now in
     let l = c.args.order.now in
+    let s = c.requires.around.0 in
     record {
-      around = λ s are. subst (IsTurn (order_at s (merged_vertex level)))
-          (three-segments l c.args.places.0 c.args.places.1 (omega (arith, c.requires.rise))
-          ∙ sym (λ t. c.in_ok-a.ensures.whole t ++ (c.in_ok-b.ensures.whole t ++ c.in_ok-c.ensures.whole t)))
-          (c.requires.around s are);
+      around = (
+        s,
+        c.requires.around.1,
+        subst (IsTurn (order_at s (merged_vertex level)))
+            (three-segments l c.args.places.0 c.args.places.1 (omega (arith, c.requires.rise))
+            ∙ sym (λ t. c.in_ok-a.ensures.whole t ++ (c.in_ok-b.ensures.whole t ++ c.in_ok-c.ensures.whole t)))
+            c.requires.around.2,
+      );
       first = common level c.in_ok-a.a _ c.in_ok-a.ensures.first c.requires.first;
       second = common level c.in_ok-b.b _ c.in_ok-b.ensures.first c.requires.second;
       third = common level c.in_ok-c.c _ c.in_ok-c.ensures.first c.requires.third;

@@ -1,6 +1,6 @@
 use Rattle.std.proofs.Common.{◌≡◌, ◌++◌, drop}
 use Rattle.planarity.specs.Lift.{lifted}
-use Rattle.contract_obstruct.proofs.paths.lifted.Given as goal
+use Rattle.contract_obstruct.proofs.paths.lift_path.Given as goal
 
 abbrev pub invariant-loop-edge : goal.invariant-loop-edge
 invariant-loop-edge l = l.edges.items ++ lifted l.g l.e l.at (drop l.edge-index l.path) l.to ≡ lifted l.g l.e l.from l.path l.to
