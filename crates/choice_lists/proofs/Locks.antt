@@ -3,7 +3,7 @@ use Rattle.std.proofs.Common.{◌≡◌, ℕ, zero, suc, ◌+◌, inl, inr, Bool
 use Rattle.std.proofs.lemmas.Bool.{cases_Bool, both_ways}
 use Rattle.choice_lists.specs.Products.{IsSelection, AreDigits}
 use Rattle.choice_lists.specs.Order.{IsAt}
-use Rattle.choice_lists.specs.Locks.{digits_from, locked_from, locked_lists, radices_from}
+use Rattle.choice_lists.specs.Locks.{digits_from, locked_from, radices_from}
 use Rattle.choice_lists.proofs.Places.{At, Has, has-from, contains-from, Ascends}
 
 -- agreement at the locked places, the places counted from k on
@@ -65,10 +65,6 @@ selection-locked {X} k locked (c ∷ cs) (x ∷ v) (y ∷ w) s h a =
       | inl t ↦ rw t (contains-from (x ∷ []) y (0, agree-first k locked x y v w a t))
       | inr f ↦ rw f h.0
     ]
-
--- the vector itself is one
-pub locked-itself : {X : Type 0} (locked : ℕ → Bool) (cs : List (List X)) (v : List X) → IsSelection cs v → IsSelection (locked_lists locked v cs) v
-locked-itself locked cs v s = selection-locked 0 locked cs v v s s (λ j d l. refl)
 
 -- rising lists rise with places locked
 pub locked-ascend : {X : Type 0} (before : X → X → Bool) (k : ℕ) (locked : ℕ → Bool) (cs : List (List X)) (v : List X)

@@ -52,15 +52,6 @@ selection-digits [] (x ∷ v) h = absurd h
 selection-digits (c ∷ cs) [] h = absurd h
 selection-digits (c ∷ cs) (x ∷ v) h = let r = selection-digits cs v h.1 in let m = has-from c x h.0 in (m.0 ∷ r.0, (at-is c m.0 x m.1, r.1))
 
--- with digits it is a selection
-pub digits-selection : {X : Type 0} (cs : List (List X)) (v : List X) (ds : List ℕ) → AreDigits cs v ds → IsSelection cs v
-digits-selection [] [] [] h = tt
-digits-selection [] [] (d ∷ ds) h = absurd h
-digits-selection [] (x ∷ v) ds h = absurd h
-digits-selection (c ∷ cs) [] ds h = absurd h
-digits-selection (c ∷ cs) (x ∷ v) [] h = absurd h
-digits-selection (c ∷ cs) (x ∷ v) (d ∷ ds) h = (contains-from c x (d, at-from c d x h.0.0 h.0.1), digits-selection cs v ds h.1)
-
 -- each selection is a member
 pub selection-has : {X : Type 0} (cs : List (List X)) (v : List X) → IsSelection cs v → Has (product cs) v
 selection-has cs v h = let d = selection-digits cs v h in (radix_number (map length cs) d.0, product-at cs v d.0 d.1)

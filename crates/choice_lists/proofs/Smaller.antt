@@ -66,12 +66,6 @@ ascends-distinct [] a = refl
 ascends-distinct (x ∷ l) a =
     distinct-cons x l (false_from_ne_true (is_member x l) (λ m. let h = has-member l x m in absurd (omega (arith, ltb-true x x (a.0 h.0 x h.1))))) (ascends-distinct l a.1)
 
--- a falling list has none
-pub descends-distinct : (l : List ℕ) → Ascends (λ x y. nat_lt y x) l → is_distinct l ≡ true
-descends-distinct [] a = refl
-descends-distinct (x ∷ l) a =
-    distinct-cons x l (false_from_ne_true (is_member x l) (λ m. let h = has-member l x m in absurd (omega (arith, ltb-true x x (a.0 h.0 x h.1))))) (descends-distinct l a.1)
-
 -- two arrangements with one first member: the others are arrangements of each other
 pub permutation-tail : (x : ℕ) (l k : List ℕ) → is_distinct (x ∷ l) ≡ true → IsPermutation (x ∷ l) (x ∷ k) → IsPermutation l k
 permutation-tail x l k d p = permutation-from_members l k (distinct-tail x l d) (distinct-tail x k e) same

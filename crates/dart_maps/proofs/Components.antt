@@ -1,11 +1,11 @@
 -- Components of a map: the relation that its steps and its twins generate.
-use Rattle.std.proofs.Common.{◌≡◌, ℕ, zero, suc, ◌*◌, ◌<◌, ◌≤◌, inl, inr, Bool, true, cond, not, ◌&&◌, ◌||◌, ◌==◌, ltb, sym, subst, arith, eqb-true}
+use Rattle.std.proofs.Common.{◌≡◌, ℕ, zero, suc, ◌*◌, ◌<◌, ◌≤◌, inl, inr, Bool, true, cond, not, ◌&&◌, ◌||◌, ◌==◌, sym, subst, arith, eqb-true}
 use Rattle.std.proofs.lemmas.Bool.{cases_eq}
 use Rattle.permutations.specs.Relation.{IsEquivalence, join, connected}
 use Rattle.permutations.proofs.Relation.{same-tests, join-old, join-link, join-least, join-equivalence, connected-equivalence}
 use Rattle.permutations.proofs.Classes.{class_count-ext}
-use Rattle.permutations.proofs.Orbits.{orbit-least, test-equivalence, test-agrees, agrees-test, outside-equivalence, outside-below, outside}
-use Rattle.dart_maps.specs.Map.{twin, face, IsMap, dart_links, same_vertex, same_face, same_component, component_count}
+use Rattle.permutations.proofs.Orbits.{orbit-least, test-equivalence, test-agrees, agrees-test}
+use Rattle.dart_maps.specs.Map.{twin, face, dart_links, same_vertex, same_face, same_component, component_count}
 use Rattle.dart_maps.proofs.Darts.{twin-below}
 
 -- being in one component is an equivalence
@@ -78,7 +78,3 @@ component-ext m f h s x y = same-tests (same_component m f x y) (same_component 
 -- maps that agree on all darts have equally many components
 pub component-count-ext : (m : ℕ) (f h : ℕ → ℕ) → ((d : ℕ) → d < 2 * m → f d ≡ h d) → component_count m f ≡ component_count m h
 component-count-ext m f h s = class_count-ext (2 * m) (same_component m f) (same_component m h) (λ x y l k. component-ext m f h s x y)
-
--- out of range each number is a component of its own
-pub component-outside : (m : ℕ) (f g : ℕ → ℕ) → IsMap m f g → (x y : ℕ) → 2 * m ≤ x → same_component m f x y ≡ true → x ≡ y
-component-outside m f g b x y l t = outside (2 * m) x y l (component-least m f (λ u v. (u == v) || (ltb u (2 * m) && ltb v (2 * m))) (outside-equivalence (2 * m)) (λ d k. outside-below (2 * m) d (f d) k (b.forth d k)) (λ d k. outside-below (2 * m) d (twin d) k (twin-below m d k)) x y t)

@@ -21,7 +21,7 @@ use Rattle.dart_maps.specs.Path.{Avoids, IsFresh, IsFreshPath, path_inserted, pa
 use Rattle.dart_maps.proofs.Steps.{back_after}
 use Rattle.dart_maps.proofs.Components.{component-equivalence}
 use Rattle.dart_maps.proofs.Euler.{euler}
-use Rattle.dart_maps.proofs.Plane.{same-defect-over, same-defect-plane}
+use Rattle.dart_maps.proofs.Plane.{same-defect-over}
 use Rattle.dart_maps.proofs.Insert.{still-apart, still-together, insert-across, first-map, first-defect, faces-apart, still-alone, old-faces, passes, insert-defect}
 
 -- a dart whose edge another dart's edge is not
@@ -191,10 +191,6 @@ pub path-defect : (m : ℕ) (path : List ℕ) (f g : ℕ → ℕ) → IsMap m f 
 path-defect m [] f g b p d q t w = loose-insert m f g b p d [] q t w
 path-defect m (c ∷ path) f g b p d q t w = same-defect-over m f (exchange p d f) (path_inserted (twin d) c path q (exchange p d f)) (loose-defect m f g b p d (c ∷ path) q t)
     (path-defect m path (exchange p d f) (back_after p d g) (loose-map m f g b p d (c ∷ path) q t) (twin d) c q (fresh-step m f p d c path q t) (loose-faces m f g b p d (c ∷ path) q t w))
-
--- so a plane map stays plane
-pub path-plane : (m : ℕ) (path : List ℕ) (f g : ℕ → ℕ) → IsMap m f g → (p d q : ℕ) → IsFreshPath m f p d path q → same_face m f (twin p) (twin q) ≡ true → IsPlane m f → IsPlane m (path_inserted p d path q f)
-path-plane m path f g b p d q t w h = same-defect-plane m f (path_inserted p d path q f) (path-defect m path f g b p d q t w) h
 
 -- a path put in between corners of different faces of one component raises the defect by two
 pub path-across : (m : ℕ) (path : List ℕ) (f g : ℕ → ℕ) → IsMap m f g → (p d q : ℕ) → IsFreshPath m f p d path q → same_component m f p q ≡ true → same_face m f (twin p) (twin q) ≡ false → vertex_count m f + face_count m f + 2 * component_count m (path_inserted p d path q f) ≡ vertex_count m (path_inserted p d path q f) + face_count m (path_inserted p d path q f) + 2 * component_count m f + 2

@@ -4,12 +4,11 @@ use Rattle.std.proofs.lemmas.Bool.{both_ways, false_from_ne_true}
 use Rattle.permutations.specs.Exchange.{exchange}
 use Rattle.dart_maps.specs.Map.{twin, IsMap, same_vertex, same_face, same_component, vertex_count, face_count, component_count, IsPlane, SameDefect}
 use Rattle.dart_maps.proofs.Components.{vertex-component}
-use Rattle.permutations.specs.Exchange.{unlink, taken_out, restricted}
-use Rattle.permutations.proofs.Unlinking.{unlink-permutes}
+use Rattle.permutations.specs.Exchange.{taken_out, restricted}
 use Rattle.permutations.proofs.TakenOut.{taken-out-permutes}
 use Rattle.permutations.proofs.Restriction.{restricted-taken-out}
 use Rattle.dart_maps.proofs.Steps.{back_after, step-map, split-split, split-merge, merge-split, merge-merge, merge-apart, merge-within, split-defect, components-stay}
-use Rattle.dart_maps.proofs.Euler.{euler, counts-ext, plane-ext, unlink-defect, taken-out-defect}
+use Rattle.dart_maps.proofs.Euler.{euler, counts-ext, plane-ext, taken-out-defect}
 
 -- a map that is no further from plane than a plane one is plane
 pub defect-plane : (m : ℕ) (f : ℕ → ℕ) → IsPlane m f → (h k : ℕ → ℕ) → IsMap m h k → vertex_count m f + face_count m f + 2 * component_count m h ≤ vertex_count m h + face_count m h + 2 * component_count m f → IsPlane m h
@@ -60,10 +59,6 @@ corner-cut m f g b h p q l k d v w = false_from_ne_true (same_component m (excha
 -- two corners of one vertex that stay connected when the vertex is split there are in different faces
 pub corner-keep : (m : ℕ) (f g : ℕ → ℕ) → IsMap m f g → IsPlane m f → (p q : ℕ) → p < 2 * m → q < 2 * m → (p ≡ q → ⊥) → same_vertex m f p q ≡ true → same_component m (exchange p q f) p q ≡ true → same_face m f (twin p) (twin q) ≡ false
 corner-keep m f g b h p q l k d v c = false_from_ne_true (same_face m f (twin p) (twin q)) (λ t. both_ways (same_component m (exchange p q f) p q) (corner-cut m f g b h p q l k d v t) c)
-
--- taking out a dart keeps a map plane
-pub unlink-plane : (m : ℕ) (f g : ℕ → ℕ) → IsMap m f g → IsPlane m f → (d : ℕ) → d < 2 * m → IsPlane m (unlink d f)
-unlink-plane m f g b p d l = defect-plane m f p (unlink d f) (unlink d g) (unlink-permutes (2 * m) d f g b l) (unlink-defect m f g b d l)
 
 -- taking out darts keeps a map plane
 pub taken-out-plane : (m : ℕ) (f g : ℕ → ℕ) → IsMap m f g → IsPlane m f → (keep : ℕ → Bool) (k : ℕ) → k ≤ 2 * m → IsPlane m (taken_out keep k f)

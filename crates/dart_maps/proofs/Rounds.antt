@@ -9,15 +9,11 @@ use Rattle.permutations.specs.Exchange.{restricted}
 use Rattle.permutations.proofs.Restriction.{restricted-taken-out}
 use Rattle.permutations.proofs.Removal.{taken_out-follows}
 use Rattle.dart_maps.specs.Map.{IsMap}
-use Rattle.dart_maps.specs.Order.{one_of_three, one_of_four, MetInTurn, MetInOrder}
+use Rattle.dart_maps.specs.Order.{one_of_four, MetInOrder}
 
 -- members of a list of four
 four-member : (a b c d z : ℕ) → one_of_four a b c d z ≡ is_member z (a ∷ b ∷ c ∷ d ∷ [])
 four-member a b c d z = grind (arith, eqb_tells)
-
--- members of a list of three
-three-member : (a b c z : ℕ) → one_of_three a b c z ≡ is_member z (a ∷ b ∷ c ∷ [])
-three-member a b c z = grind (arith, eqb_tells)
 
 -- four darts met in this order on the ring of one of their vertex's darts
 pub ring-in-order : (m : ℕ) (f g : ℕ → ℕ) → IsMap m f g → (v a b c d : ℕ) → v < 2 * m → (a < 2 * m) × (b < 2 * m) × (c < 2 * m) × (d < 2 * m) → (a ≡ b → ⊥) → (a ≡ c → ⊥) → (a ≡ d → ⊥) → (b ≡ c → ⊥) → (b ≡ d → ⊥) → (c ≡ d → ⊥) → FollowsAround (ring (2 * m) f v) (a ∷ b ∷ c ∷ d ∷ []) → MetInOrder m f a b c d
@@ -49,28 +45,3 @@ ring-in-order m f g e v a b c d l r ab ac ad bc bd cd h = record { darts = r; di
 
     sd : successor (a ∷ b ∷ c ∷ d ∷ []) d ≡ a
     sd = rw (ne_eqb a d ad, ne_eqb b d bd, ne_eqb c d cd, eq-eqb d d refl) refl
-
--- three darts met in this order on the ring of one of their vertex's darts
-pub ring-in-turn : (m : ℕ) (f g : ℕ → ℕ) → IsMap m f g → (v a b c : ℕ) → v < 2 * m → (a < 2 * m) × (b < 2 * m) × (c < 2 * m) → (a ≡ b → ⊥) → (a ≡ c → ⊥) → (b ≡ c → ⊥) → FollowsAround (ring (2 * m) f v) (a ∷ b ∷ c ∷ []) → MetInTurn m f a b c
-ring-in-turn m f g e v a b c l r ab ac bc h = record { darts = r; different = ab; first = step a b (r.0) ma sa; second = step b c (r.1) mb sb; third = step c a (r.2) mc sc }
-  where
-    step : (x y : ℕ) → x < 2 * m → is_member x (a ∷ b ∷ c ∷ []) ≡ true → successor (a ∷ b ∷ c ∷ []) x ≡ y → restricted (2 * m) (one_of_three a b c) f x ≡ y
-    step x y k t s = restricted-taken-out (2 * m) (one_of_three a b c) f g e x k ∙ taken_out-follows (2 * m) (one_of_three a b c) f g e v l (a ∷ b ∷ c ∷ []) (λ z n. three-member a b c z) h x t ∙ s
-
-    ma : is_member a (a ∷ b ∷ c ∷ []) ≡ true
-    ma = sym (three-member a b c a) ∙ grind (arith, eqb_tells)
-
-    mb : is_member b (a ∷ b ∷ c ∷ []) ≡ true
-    mb = sym (three-member a b c b) ∙ grind (arith, eqb_tells)
-
-    mc : is_member c (a ∷ b ∷ c ∷ []) ≡ true
-    mc = sym (three-member a b c c) ∙ grind (arith, eqb_tells)
-
-    sa : successor (a ∷ b ∷ c ∷ []) a ≡ b
-    sa = rw (eq-eqb a a refl) refl
-
-    sb : successor (a ∷ b ∷ c ∷ []) b ≡ c
-    sb = rw (ne_eqb a b ab, eq-eqb b b refl) refl
-
-    sc : successor (a ∷ b ∷ c ∷ []) c ≡ a
-    sc = rw (ne_eqb a c ac, ne_eqb b c bc, eq-eqb c c refl) refl

@@ -37,11 +37,6 @@ pub avoids-off : (c x : ℕ) (path : List ℕ) → Avoids c path → x / 2 ≡ c
 avoids-off c x [] a e = refl
 avoids-off c x (p ∷ path) a e = or_from (x / 2 == p / 2) (on_path x path) (ne_eqb (x / 2) (p / 2) (λ i. a.0 (sym i ∙ e))) (avoids-off c x path a.1 e)
 
--- a list that avoids an edge avoids it by each of its darts
-avoids-same : (c d : ℕ) (path : List ℕ) → c / 2 ≡ d / 2 → Avoids c path → Avoids d path
-avoids-same c d [] e a = tt
-avoids-same c d (p ∷ path) e a = (λ i. a.0 (i ∙ sym e), avoids-same c d path e a.1)
-
 -- the end of a path is of another edge than a dart whose edge the path and its start avoid
 pub end-apart : (c d : ℕ) (path : List ℕ) → (c / 2 ≡ d / 2 → ⊥) → Avoids d path → path_end c path / 2 ≡ d / 2 → ⊥
 end-apart c d [] n a = n

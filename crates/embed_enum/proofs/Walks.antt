@@ -5,7 +5,7 @@ use Rattle.pair_split.specs.Tutte.{Node, node_at}
 use Rattle.multigraph.specs.Graph.{Multigraph}
 use Rattle.choice_lists.proofs.ToldByChoices.{product_to}
 use Rattle.skeletons.specs.Choices.{choice, Precedes, IsPlaneSystem}
-use Rattle.skeletons.specs.Lists.{KeepsChoices, IsListOf, IsKept, IsKeptList, IsRank, choice_count, list_count}
+use Rattle.skeletons.specs.Lists.{KeepsChoices, IsListOf, IsKept, IsKeptList, IsRank, list_count}
 use Rattle.skel_embed.specs.Block.{BlockState, lock_at, IsBlockState}
 use Rattle.embed_enum.specs.Digits.{digit_of, radix_at, digit_at, number_to}
 use Rattle.embed_enum.specs.Walk.{IsMemberList, KeepsRest}
@@ -50,12 +50,6 @@ open-digit old new h k n =
 pub locked-digit : (nodes : List Node) (locked : ℕ → Bool) (r : List (List ℕ)) (k : ℕ) → locked k ≡ true → digit_at nodes locked r k ≡ 0
 locked-digit nodes locked r k y = ap (λ z. cond z 0 (digit_of (node_at nodes k).kind (choice nodes r k))) y
 
-pub locked-radix : (nodes : List Node) (locked : ℕ → Bool) (k : ℕ) → locked k ≡ true → radix_at nodes locked k ≡ 1
-locked-radix nodes locked k y = ap (λ z. cond z 1 (choice_count (node_at nodes k).kind (length (node_at nodes k).items))) y
-
-pub open-radix : (nodes : List Node) (locked : ℕ → Bool) (k : ℕ) → locked k ≡ false → radix_at nodes locked k ≡ choice_count (node_at nodes k).kind (length (node_at nodes k).items)
-open-radix nodes locked k n = ap (λ z. cond z 1 (choice_count (node_at nodes k).kind (length (node_at nodes k).items))) n
-
 -- the same choice, the same digit
 pub same-digit : (nodes : List Node) (locked : ℕ → Bool) (r q : List (List ℕ)) (k : ℕ) → choice nodes q k ≡ choice nodes r k → digit_at nodes locked q k ≡ digit_at nodes locked r k
 same-digit nodes locked r q k e = ap (λ (z : List ℕ). cond (locked k) 0 (digit_of (node_at nodes k).kind z)) e
@@ -69,10 +63,6 @@ rest-itself s = record { graph = refl; tree = refl; locks = refl }
 
 pub rest-then : (a b c : BlockState) → KeepsRest a b → KeepsRest b c → KeepsRest a c
 rest-then a b c f h = record { graph = h.graph ∙ f.graph; tree = h.tree ∙ f.tree; locks = h.locks ∙ f.locks }
-
--- nothing reset yet
-pub reset-begins : (s : BlockState) (from : ℕ) → AreReset s s from from
-reset-begins s from = record { rest = rest-itself s; kept = λ j l h. refl; first = λ j a b n. absurd (omega (arith, a, b)) }
 
 -- one node more: locked
 pub reset-locked : (old new : BlockState) (from k : ℕ) → AreReset old new from k → lock_at old.locks k ≡ true → AreReset old new from (k + 1)

@@ -1,35 +1,18 @@
 -- Reading decimal digits one after another.
-use Rattle.std.proofs.Common.{◌≡◌, ℕ, ◌+◌, ◌-◌, ◌*◌, ◌/◌, ◌<◌, ◌≤◌, true, false, ◌&&◌, nat_le, if◌then◌else◌, List, [], ◌∷◌, length, drop, Option, Some, None, refl, arith, length-drop}
+use Rattle.std.proofs.Common.{◌≡◌, ℕ, ◌+◌, ◌-◌, ◌*◌, ◌/◌, ◌<◌, ◌≤◌, ◌&&◌, nat_le, if◌then◌else◌, List, [], ◌∷◌, length, drop, Option, Some, None, arith, length-drop}
 use Rattle.std.proofs.lemmas.Bool.Decides.{nat_tests}
 use Rattle.std.specs.Char.{is_ascii_digit}
 use Rattle.std.specs.List.{list_all}
-use Rattle.gml_graph.specs.Number.{spelled_after, digits_up_to}
+use Rattle.gml_graph.specs.Number.{spelled_after}
 
 -- the number that digits spell behind those of n, where it is at most `most`
 abbrev pub up_to_after : ℕ → ℕ → List ℕ → Option ℕ
 up_to_after most n ds = (if list_all is_ascii_digit ds && nat_le (spelled_after n ds) most then Some (spelled_after n ds) else None)
 
--- before the first digit
-pub digits_up_to-start : (most : ℕ) (ds : List ℕ) → 0 < length ds → digits_up_to most ds ≡ up_to_after most 0 ds
-digits_up_to-start most [] h = absurd (omega arith)
-digits_up_to-start most (d ∷ ds) h = refl
-
--- one more digit
-pub up_to_after-digit : (most n d : ℕ) (ds : List ℕ) → is_ascii_digit d ≡ true → up_to_after most n (d ∷ ds) ≡ up_to_after most (n * 10 + (d - 48)) ds
-up_to_after-digit most n d ds h = rw h
-
--- a byte that is no digit
-pub up_to_after-other : (most n d : ℕ) (ds : List ℕ) → is_ascii_digit d ≡ false → up_to_after most n (d ∷ ds) ≡ None
-up_to_after-other most n d ds h = rw h
-
 -- more digits make the number no less
 pub spelled_after-le : (n : ℕ) (ds : List ℕ) → n ≤ spelled_after n ds
 spelled_after-le n [] = omega arith
 spelled_after-le n (d ∷ ds) = omega (arith, spelled_after-le (n * 10 + (d - 48)) ds)
-
--- a number that is too great stays so
-pub up_to_after-great : (most n : ℕ) (ds : List ℕ) → most < n → up_to_after most n ds ≡ None
-up_to_after-great most n ds h = let e : most < spelled_after n ds = omega (arith, spelled_after-le n ds) in grind (arith, nat_tests)
 
 -- one more digit makes it too great
 pub up_to_after-full : (most n : ℕ) (ds : List ℕ) → 0 < length ds → most / 10 < n → up_to_after most n ds ≡ None

@@ -5,3 +5,4 @@ pub mod Steps
 pub mod Places
 pub mod Sound
 pub mod Law
+pub mod Behind

@@ -5,6 +5,7 @@ ghost use Rattle.std.specs.List.{IsDistinct, list_any};
 ghost use Rattle.std.specs.Ordering.{int_eq};
 ghost use Rattle.multigraph.specs.Graph.{max_vertices};
 
+use crate::hashing::BehindAllIds;
 use indexmap::IndexSet;
 use std::alloc::{AllocError, Global};
 use std::marker::Model;
@@ -12,7 +13,7 @@ use std::marker::Model;
 /// Ids, each once, in the order in which they were added; at most as many as a graph has vertices. Contracts see the list.
 #[derive(Drop)]
 pub struct Ids {
-    held: IndexSet<i64>,
+    held: IndexSet<i64, BehindAllIds>,
 }
 
 impl Model for Ids {
@@ -29,11 +30,15 @@ impl Model for Ids {
 }
 
 impl Ids {
-    /// No ids, with room for `n`.
-    pub fn with_room(alloc: Global, n: usize) -> Result<Ids, AllocError>
+    /// No ids, with room for `n`, which will be found by such hashers.
+    pub(crate) fn with_room(
+        alloc: Global,
+        n: usize,
+        hashers: BehindAllIds,
+    ) -> Result<Ids, AllocError>
         ensures { IfOk result (λ ids. ids ≡ []) }
     {
-        let held = IndexSet::with_capacity(alloc, n)?;
+        let held = IndexSet::with_capacity_and_hasher(alloc, n, hashers)?;
         Ok(Ids { held })
     }
 

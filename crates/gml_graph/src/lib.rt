@@ -13,6 +13,7 @@
 
 mod edges;
 mod fault;
+mod hashing;
 mod ids;
 pub mod laws;
 mod lists;

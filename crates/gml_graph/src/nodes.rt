@@ -5,6 +5,7 @@ ghost use Rattle.multigraph.specs.Graph.{max_vertices};
 ghost use Rattle.gml_graph.specs.Answer.{Refuses, and_one_more, id_among, node_ids};
 
 use crate::fault::GraphFault;
+use crate::hashing::BehindAllIds;
 use crate::ids::Ids;
 use crate::lists::first_under;
 use crate::reading::Reading;
@@ -36,7 +37,7 @@ pub(crate) fn node_ids(alloc: Global, nodes: &[&Pairs]) -> Result<Ids, GraphFaul
         (λ ids. node_ids (map (λ node. node.now) nodes.now) ≡ Ok ids)
         (Refuses (node_ids (map (λ node. node.now) nodes.now))) }
 {
-    let mut ids = Ids::with_room(alloc, nodes.len())?;
+    let mut ids = Ids::with_room(alloc, nodes.len(), BehindAllIds::of(nodes))?;
     for (k, node) in nodes.iter().enumerate() {
         add_id(&mut ids, k as u32, first_under(node.as_slice(), b"id"))?;
     }

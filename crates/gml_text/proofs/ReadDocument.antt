@@ -10,7 +10,7 @@ use Rattle.std.proofs.lemmas.Bool.{eqb-true, eqb-false}
 use Rattle.gml_text.specs.Faults.{IsNoDocument, IsFault}
 use Rattle.gml_text.specs.declared.document.GmlFault.{GmlFault}
 use Rattle.gml_text.specs.declared.document.GmlFault.TheVariants.{Bad, End}
-use Rattle.gml_text.specs.Partial.{Frame, plug, Completes, frames_of, pairs_of, Advances, IsOver, NeverFinishes, IsRefused, IsRead}
+use Rattle.gml_text.specs.Partial.{Completes, pairs_of, Advances, IsOver, NeverFinishes, IsRefused, IsRead}
 use Rattle.gml_text.specs.declared.partial.Partial.{Partial}
 use Rattle.gml_text.proofs.OtherRest.{alike_front, alike_byte, follows_same}
 use Rattle.gml_text.proofs.Fronts.{IsDocument, breaks_at}
@@ -33,20 +33,6 @@ spells_of bytes d c within =
 
 of_spells : (bytes : List ℕ) (d : Document) → Spells bytes d → Completes [] empty bytes d
 of_spells bytes d s = (d, s.rest, s.pairs, (s.gap, refl))
-
--- nothing read
-pub read_none : (p : Partial) (bytes : List ℕ) → frames_of p ≡ [] → pairs_of p ≡ empty → IsRead bytes p bytes
-read_none p bytes e f =
-    record {
-      read = [];
-      split = refl;
-      forth = λ more follows d c. subst (λ (fs : List Frame). Completes fs (pairs_of p) more d) (sym e) (subst (λ (ps : Document). Completes [] ps more d) (sym f) c);
-      back = λ more follows d c. subst (λ (ps : Document). Completes [] ps more d) f (subst (λ (fs : List Frame). Completes fs (pairs_of p) more d) e c);
-      within =
-          subst (λ (fs : List Frame). IsWithinDepth (plug fs (pairs_of p))) (sym e)
-          (let within : IsWithinDepth empty = omega arith in subst (λ (ps : Document). IsWithinDepth ps) (sym f) within);
-      shorter = omega arith;
-    }
 
 -- one item more
 pub read_more : (bytes rest behind : List ℕ) (p q : Partial) → IsRead bytes p rest → Advances p rest q behind → IsRead bytes q behind

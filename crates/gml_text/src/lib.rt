@@ -9,6 +9,7 @@
 #![tactic(auto)]
 
 mod classes;
+mod copying;
 pub mod document;
 mod item;
 pub mod laws;

@@ -1,7 +1,7 @@
 -- What stays true while turns are made.
-use Rattle.std.proofs.Common.{◌≡◌, ℕ, ◌+◌, ◌<◌, ◌≤◌, refl, sym, ap, ◌∙◌, subst, arith}
+use Rattle.std.proofs.Common.{◌≡◌, ℕ, ◌+◌, ◌<◌, ◌≤◌, sym, ap, ◌∙◌, subst, arith}
 use Rattle.multigraph.specs.Graph.{Multigraph, edge_count, IsGraph, IsWithinLimits}
-use Rattle.made_graph.specs.Made.{tetrahedron, grown, drawn, edge_drawn, operation_drawn, turned, made_within, made}
+use Rattle.made_graph.specs.Made.{grown, drawn, edge_drawn, operation_drawn, turned, made_within, made}
 use Rattle.made_graph.proofs.Growth.{turned-more, made-turn, within-over, made-planar}
 
 -- the graph that is made is made from this graph and this number
@@ -11,9 +11,6 @@ pub record IsMaking (n seed : ℕ) (g : Multigraph) (x : ℕ) : Type 0 where
   pub few : edge_count g ≤ n + 4
   pub fewer : g.vertex_count + 2 ≤ edge_count g
   pub below : g.vertex_count < n
-
-pub making-start : (n seed : ℕ) → 6 ≤ n → IsMaking n seed tetrahedron seed
-making-start n seed l = record { leads = refl; six = omega arith; few = omega (arith, l); fewer = omega arith; below = omega (arith, l) }
 
 pub making-turn : (n seed : ℕ) (g : Multigraph) (x : ℕ) → edge_count g < n → IsMaking n seed g x → IsMaking n seed (turned g x) (drawn (drawn x))
 making-turn n seed g x l t =

@@ -39,17 +39,6 @@ before-second [] x y b = absurd b
 before-second (z ∷ l) x y (inl p) = member-tail y z l p.1
 before-second (z ∷ l) x y (inr b) = member-tail y z l (before-second l x y b)
 
--- of two different members one stands before the other
-pub before-either : (l : List ℕ) (x y : ℕ) → is_member x l ≡ true → is_member y l ≡ true → x ≢ y → IsBefore l x y ⊎ IsBefore l y x
-before-either [] x y a b n = absurd (true≢false (sym a))
-before-either (z ∷ l) x y a b n = by (member-cases x z l a) (member-cases y z l b) (before-either l x y)
-  where
-    by : (z ≡ x) ⊎ (is_member x l ≡ true) → (z ≡ y) ⊎ (is_member y l ≡ true) → (is_member x l ≡ true → is_member y l ≡ true → x ≢ y → IsBefore l x y ⊎ IsBefore l y x) → IsBefore (z ∷ l) x y ⊎ IsBefore (z ∷ l) y x
-    by (inl p) (inl q) r = absurd (n (sym p ∙ q))
-    by (inl p) (inr q) r = inl (inl (p, q))
-    by (inr p) (inl q) r = inr (inl (q, p))
-    by (inr p) (inr q) r = elim (r p q n) [ inl c ↦ inl (inr c) | inr c ↦ inr (inr c) ]
-
 -- in a list joined of two
 pub before-left : (l k : List ℕ) (x y : ℕ) → IsBefore l x y → IsBefore (l ++ k) x y
 before-left [] k x y b = absurd b

@@ -68,10 +68,6 @@ module _ (g : Multigraph) (gg : IsGraph g) (s : SearchState) (k : IsSearching g 
         sym (connected-value g.ends (flag s.visited) (λ e d m. subst (λ (r : ℕ × ℕ). flag s.visited r.0 ≡ flag s.visited r.1) (get_or_default g.ends e (0, 0) d m) (ends-alike e m)) 0 u (c 0 u z l)) ∙ v;
   }
 
--- where there is no vertex, the search is over before it begins
-pub none-over : (g : Multigraph) → g.vertex_count ≡ 0 → IsOver g (fresh g)
-none-over g e = record { searching = fresh-searching g; empty = refl; visited = λ v l. absurd (omega arith) }
-
 -- as many numbers below k are kept as pass the test
 kept-count : (p : ℕ → Bool) (k : ℕ) → length (filter p (numbers_below k)) ≡ count k p
 kept-count p zero = refl

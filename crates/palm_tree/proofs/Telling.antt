@@ -1,12 +1,8 @@
 -- Lists that tell a function of the first numbers, one number further.
-use Rattle.std.proofs.Common.{◌≡◌, ℕ, ◌+◌, inl, inr, List, [], ◌∷◌, ◌++◌, refl, sym, ap, ◌∙◌, arith, length-append}
+use Rattle.std.proofs.Common.{◌≡◌, ℕ, ◌+◌, inl, inr, List, [], ◌∷◌, ◌++◌, sym, ap, ◌∙◌, arith, length-append}
 use Rattle.std.proofs.lemmas.Bool.{cases_lt}
 use Rattle.std.proofs.lemmas.List.{get_or_append_left, get_or_push}
 use Rattle.palm_tree.specs.Growing.{Tells}
-
--- nothing is told yet
-pub tells-none : {A : Type 0} (d : A) (f : ℕ → A) → Tells d f 0 []
-tells-none d f = record { places = refl; at = λ j l. absurd (omega arith) }
 
 -- one number further
 pub tells-more : {A : Type 0} (d : A) (f : ℕ → A) (k : ℕ) (l : List A) (x : A) → Tells d f k l → x ≡ f k → Tells d f (k + 1) (l ++ x ∷ [])

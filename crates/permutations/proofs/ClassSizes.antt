@@ -6,7 +6,7 @@ use Rattle.permutations.specs.Relation.{IsEquivalence, leads, leader, class_coun
 use Rattle.permutations.proofs.Count.{count-ext, count-single, count-none}
 use Rattle.permutations.proofs.Relation.{same-tests}
 use Rattle.permutations.proofs.Leaders.{leader-related, leader-le, leader-leads, leads-leader, leader-same}
-use Rattle.permutations.proofs.Sums.{sum_below-ext, sum_below-le, sum_below-same, sum_below-times, count-exchange, count-sum}
+use Rattle.permutations.proofs.Sums.{sum_below-ext, sum_below-same, sum_below-times, count-exchange, count-sum}
 
 -- related numbers have classes of one size
 pub class_size-same : (n : ℕ) (t : ℕ → Bool) (r : ℕ → ℕ → Bool) (x y : ℕ) → IsEquivalence r → r x y ≡ true → class_size n t r x ≡ class_size n t r y
@@ -46,15 +46,6 @@ class-sum n t r e =
 -- term by term
 least-terms : (n : ℕ) (t : ℕ → Bool) (r : ℕ → ℕ → Bool) (k : ℕ) → ((x : ℕ) → x < n → leads r x ≡ true → k ≤ class_size n t r x) → (x : ℕ) → x < n → cond (leads r x) k 0 ≤ cond (leads r x) (class_size n t r x) 0
 least-terms n t r k h x l = elim (cases_Bool (leads r x)) [ inl y ↦ rw y (h x l y) | inr y ↦ rw y (omega arith) ]
-
--- where each class has at least k members, there are at least k times as many members as classes
-pub class-least-size : (n : ℕ) (t : ℕ → Bool) (r : ℕ → ℕ → Bool) (k : ℕ) → IsEquivalence r → ((x : ℕ) → x < n → leads r x ≡ true → k ≤ class_size n t r x) → k * class_count n r ≤ count n t
-class-least-size n t r k e h = omega (
-  arith,
-  class-sum n t r e,
-  sum_below-times n (leads r) k,
-  sum_below-le n (λ x. cond (leads r x) k 0) (λ x. cond (leads r x) (class_size n t r x) 0) (least-terms n t r k h),
-)
 
 -- where each class has at least k members, and there are no more than k for each, each class has exactly k
 pub class-exact-size : (n : ℕ) (t : ℕ → Bool) (r : ℕ → ℕ → Bool) (k : ℕ) → IsEquivalence r → ((x : ℕ) → x < n → leads r x ≡ true → k ≤ class_size n t r x) → count n t ≤ k * class_count n r → (x : ℕ) → x < n → class_size n t r x ≡ k

@@ -1,21 +1,17 @@
 -- Members met in a given order: along a list, and on the way round a cyclic order.
-use Rattle.std.proofs.Common.{◌≡◌, ◌≢◌, ℕ, ◌⊎◌, inl, inr, Bool, true, false, ◌==◌, List, [], ◌∷◌, ◌++◌, filter, reverse, refl, sym, ap, ◌∙◌, subst, arith, append_assoc}
-use Rattle.std.proofs.lemmas.Bool.{cases_Bool, both_ways, false_from_ne_true, ne_eqb}
+use Rattle.std.proofs.Common.{◌≡◌, ◌≢◌, ℕ, ◌⊎◌, inl, inr, Bool, true, false, ◌==◌, List, [], ◌∷◌, ◌++◌, filter, refl, sym, ap, ◌∙◌, subst, append_assoc}
+use Rattle.std.proofs.lemmas.Bool.{both_ways, false_from_ne_true, ne_eqb}
 use Rattle.std.proofs.lemmas.List.Elements.{filter-append}
 use Rattle.permutations.specs.Members.{is_member, is_distinct}
 use Rattle.permutations.specs.Cyclic.{successor, IsTurn, Follows, FollowsAround}
-use Rattle.permutations.proofs.Members.{member-head, member-cases, no_member-head, no_member-tail, no_member-cons, member-append_right, member-append_cases, member-reverse, distinct-head, distinct-tail, distinct-append_right, distinct-append_apart, CutAt, cut_at}
-use Rattle.permutations.proofs.Filter.{filter-yes, member-filter_parts, distinct-filter, filter-none, filter-ext, filter-weaker, filter-reverse}
-use Rattle.permutations.proofs.Turned.{IsTurn-refl, IsTurn-sym, IsTurn-same, IsTurn-member, IsTurn-distinct, IsTurn-successor, IsTurn-reverse, IsTurn-filter}
+use Rattle.permutations.proofs.Members.{member-head, member-cases, no_member-head, no_member-tail, no_member-cons, member-append_right, member-append_cases, distinct-head, distinct-tail, distinct-append_right, distinct-append_apart, CutAt, cut_at}
+use Rattle.permutations.proofs.Filter.{filter-yes, member-filter_parts, distinct-filter, filter-none, filter-ext}
+use Rattle.permutations.proofs.Turned.{IsTurn-refl, IsTurn-sym, IsTurn-same, IsTurn-member, IsTurn-distinct, IsTurn-successor, IsTurn-filter}
 use Rattle.permutations.proofs.CyclicSame.{IsTurn-trans}
 
 -- who is met is a member
 pub follows-member : (l k : List ℕ) (x : ℕ) → Follows l k → is_member x k ≡ true → is_member x l ≡ true
 follows-member l k x f m = (member-filter_parts (λ z. is_member z k) l x (ap (is_member x) f ∙ m)).0
-
--- along a list without repetition nobody is met twice
-pub follows-distinct : (l k : List ℕ) → Follows l k → is_distinct l ≡ true → is_distinct k ≡ true
-follows-distinct l k f h = subst (λ (z : List ℕ). is_distinct z ≡ true) f (distinct-filter (λ z. is_member z k) l h)
 
 -- nobody is met in every list
 pub follows-nil : (l : List ℕ) → Follows l []
@@ -39,42 +35,6 @@ follows-cons a x b k h f =
 
     behind : (z : ℕ) → is_member z b ≡ true → p z ≡ is_member z k
     behind z m = rw (ne_eqb x z (λ e. both_ways (is_member z b) (subst (λ (v : ℕ). is_member v b ≡ false) e (distinct-head x b (distinct-append_right a (x ∷ b) h))) m)) refl
-
--- in a list without repetition those that are met behind x stand behind x
-pub follows-behind : (a : List ℕ) (x : ℕ) (b k : List ℕ) → is_distinct (a ++ x ∷ b) ≡ true → Follows (a ++ x ∷ b) (x ∷ k) → Follows b k
-follows-behind a x b k h f = sym (filter-ext p (λ z. is_member z k) b behind) ∙ tail (filter p a) absent front
-  where
-    p : ℕ → Bool
-    p z = is_member z (x ∷ k)
-
-    behind : (z : ℕ) → is_member z b ≡ true → p z ≡ is_member z k
-    behind z m = rw (ne_eqb x z (λ e. both_ways (is_member z b) (subst (λ (v : ℕ). is_member v b ≡ false) e (distinct-head x b (distinct-append_right a (x ∷ b) h))) m)) refl
-
-    front : filter p a ++ x ∷ filter p b ≡ x ∷ k
-    front = ap (λ (z : List ℕ). filter p a ++ z) (sym (filter-yes p x b (member-head x k))) ∙ sym (filter-append p a (x ∷ b)) ∙ f
-
-    absent : is_member x (filter p a) ≡ false
-    absent = false_from_ne_true (is_member x (filter p a)) (λ m. both_ways (is_member x (x ∷ b)) (distinct-append_apart a (x ∷ b) h x (member-filter_parts p a x m).0) (member-head x b))
-
-    tail : (u : List ℕ) → is_member x u ≡ false → u ++ x ∷ filter p b ≡ x ∷ k → filter p b ≡ k
-    tail [] n e = cc
-    tail (y ∷ u) n e = absurd (no_member-head x y u n (cc))
-
--- those met among those met
-pub follows-trans : (l k m : List ℕ) → Follows l k → Follows k m → Follows l m
-follows-trans l k m f g = sym (filter-weaker (λ z. is_member z m) (λ z. is_member z k) l (λ z t. follows-member k m z g t)) ∙ ap (filter (λ z. is_member z m)) f ∙ g
-
--- in the list reversed the order is reversed
-pub follows-reverse : (l k : List ℕ) → Follows l k → Follows (reverse l) (reverse k)
-follows-reverse l k f = filter-ext (λ z. is_member z (reverse k)) (λ z. is_member z k) (reverse l) (λ z m. member-reverse z k) ∙ filter-reverse (λ z. is_member z k) l ∙ ap reverse f
-
--- who passes the test is met as before among those that do
-pub follows-filter : (p : ℕ → Bool) (l k : List ℕ) → ((x : ℕ) → is_member x k ≡ true → p x ≡ true) → Follows l k → Follows (filter p l) k
-follows-filter p l k h f = filter-weaker (λ z. is_member z k) p l h ∙ f
-
--- who is met among those that pass a test is met among all
-pub filter-follows : (p : ℕ → Bool) (l k : List ℕ) → ((x : ℕ) → is_member x k ≡ true → p x ≡ true) → Follows (filter p l) k → Follows l k
-filter-follows p l k h f = sym (filter-weaker (λ z. is_member z k) p l h) ∙ f
 
 -- each member of a list without repetition is met
 pub follows-one : (l : List ℕ) (x : ℕ) → is_distinct l ≡ true → is_member x l ≡ true → Follows l (x ∷ [])
@@ -107,10 +67,6 @@ follows-either l x y h m n d = at (cut_at x l m)
             e : l ≡ w.front ++ y ∷ (w.back ++ x ∷ c.back)
             e = c.is ∙ ap (λ (z : List ℕ). z ++ x ∷ c.back) w.is ∙ append_assoc w.front (y ∷ w.back) (x ∷ c.back)
 
--- two members are not met in both orders
-pub follows-not_both : (l : List ℕ) (x y : ℕ) → x ≢ y → Follows l (x ∷ y ∷ []) → Follows l (y ∷ x ∷ []) → ⊥
-follows-not_both l x y d f g = let e : x ∷ y ∷ [] ≡ y ∷ x ∷ [] = sym f ∙ filter-ext (λ z. is_member z (x ∷ y ∷ [])) (λ z. is_member z (y ∷ x ∷ [])) l (λ z m. grind (arith, cases_Bool (x == z), cases_Bool (y == z))) ∙ g in d (cc)
-
 -- what is met along a list is met on the way round
 pub follows-around : (l k : List ℕ) → Follows l k → FollowsAround l k
 follows-around l k f = IsTurn-same (filter (λ z. is_member z k) l) k k f (IsTurn-refl k)
@@ -132,30 +88,6 @@ around-turn l m k t f = IsTurn-trans (filter (λ z. is_member z k) m) (filter (�
 pub around-turned : (l k m : List ℕ) → FollowsAround l k → IsTurn k m → FollowsAround l m
 around-turned l k m f t = IsTurn-same (filter (λ z. is_member z m) l) (filter (λ z. is_member z k) l) m
     (filter-ext (λ z. is_member z m) (λ z. is_member z k) l (λ z _. IsTurn-member k m z t)) (IsTurn-trans (filter (λ z. is_member z k) l) k m f t)
-
--- those met among those met
-pub around-trans : (l k m : List ℕ) → FollowsAround l k → FollowsAround k m → FollowsAround l m
-around-trans l k m f g = IsTurn-trans (filter q l) (filter q k) m
-    (IsTurn-same (filter q l) (filter q (filter (λ z. is_member z k) l)) (filter q k)
-    (sym (filter-weaker q (λ z. is_member z k) l (λ z t. around-member k m z g t)))
-    (IsTurn-filter q (filter (λ z. is_member z k) l) k f)) g
-  where
-    q : ℕ → Bool
-    q z = is_member z m
-
--- on the way back the order is reversed
-pub around-reverse : (l k : List ℕ) → FollowsAround l k → FollowsAround (reverse l) (reverse k)
-around-reverse l k f = IsTurn-same (filter (λ z. is_member z (reverse k)) (reverse l)) (reverse (filter (λ z. is_member z k) l)) (reverse k)
-    (filter-ext (λ z. is_member z (reverse k)) (λ z. is_member z k) (reverse l) (λ z m. member-reverse z k) ∙ filter-reverse (λ z. is_member z k) l)
-    (IsTurn-reverse (filter (λ z. is_member z k) l) k f)
-
--- who passes the test is met as before on the way round those that do
-pub around-filter : (p : ℕ → Bool) (l k : List ℕ) → ((x : ℕ) → is_member x k ≡ true → p x ≡ true) → FollowsAround l k → FollowsAround (filter p l) k
-around-filter p l k h f = IsTurn-same (filter (λ z. is_member z k) (filter p l)) (filter (λ z. is_member z k) l) k (filter-weaker (λ z. is_member z k) p l h) f
-
--- who is met on the way round those that pass a test is met on the way round all
-pub filter-around : (p : ℕ → Bool) (l k : List ℕ) → ((x : ℕ) → is_member x k ≡ true → p x ≡ true) → FollowsAround (filter p l) k → FollowsAround l k
-filter-around p l k h f = IsTurn-same (filter (λ z. is_member z k) l) (filter (λ z. is_member z k) (filter p l)) k (sym (filter-weaker (λ z. is_member z k) p l h)) f
 
 -- where those that pass the test are the ones met, each is followed among them by the next
 pub around-successor : (p : ℕ → Bool) (l k : List ℕ) (x : ℕ) → is_distinct l ≡ true → ((z : ℕ) → is_member z l ≡ true → p z ≡ is_member z k) → FollowsAround l k → successor (filter p l) x ≡ successor k x

@@ -75,10 +75,6 @@ IsTurn-turned l k y t h m = ap (λ (z : List ℕ). turned z y) t.before ∙ swap
 pub IsTurn-head : (l : List ℕ) (y : ℕ) (r : List ℕ) → IsTurn l (y ∷ r) → is_distinct l ≡ true → turned l y ≡ y ∷ r
 IsTurn-head l y r t h = IsTurn-turned l (y ∷ r) y t h (sym (IsTurn-member l (y ∷ r) y t) ∙ member-head y r) ∙ turned-first y r
 
--- turning twice is turning once
-pub turned-twice : (l : List ℕ) (x y : ℕ) → is_distinct l ≡ true → is_member y l ≡ true → turned (turned l x) y ≡ turned l y
-turned-twice l x y h m = sym (IsTurn-turned l (turned l x) y (turned-turn l x) h m)
-
 -- the successor at the cut of a list without repetition
 outside : (u : List ℕ) (w : ℕ) (s : List ℕ) → is_distinct (u ++ w ∷ s) ≡ true → successor (u ++ w ∷ s) w ≡ first_or (first_or w u) s
 outside u w s h = successor-cut u w s (false_from_ne_true (is_member w u) (λ m. both_ways (is_member w (w ∷ s)) (distinct-append_apart u (w ∷ s) h w m) (member-head w s)))

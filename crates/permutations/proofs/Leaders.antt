@@ -85,7 +85,3 @@ leads_in-once d r x y h k a b = elim (cases_order x y) [
     | inr l ↦ absurd (both_ways (r y x) (leads_in-before d r x y h l (leads_in-member d r y k)) b)
   ]
 ]
-
--- what leads its class and is a member of d leads among them
-pub leads-leads_in : (d : ℕ → Bool) (r : ℕ → ℕ → Bool) (x : ℕ) → d x ≡ true → leads r x ≡ true → leads_in d r x ≡ true
-leads-leads_in d r x h k = leads_in-from d r x h (λ y l t. leads-before r x y k l)

@@ -1,11 +1,11 @@
 -- The normal form of a cyclic order: the list from its least member on; and the normal form of its mirror.
-use Rattle.std.proofs.Common.{◌≡◌, ℕ, ◌≤◌, min, inl, inr, true, false, List, [], ◌∷◌, reverse, refl, sym, ap, ◌∙◌, subst, arith, IsPermutation}
+use Rattle.std.proofs.Common.{◌≡◌, ℕ, ◌≤◌, min, inl, inr, true, false, List, [], ◌∷◌, reverse, refl, sym, ap, ◌∙◌, subst, arith}
 use Rattle.std.proofs.lemmas.Bool.{cases_lt, both_ways, true≢false}
 use Rattle.std.proofs.lemmas.List.{reverse-append, reverse-reverse}
 use Rattle.permutations.specs.Members.{is_member, is_distinct}
 use Rattle.permutations.specs.Cyclic.{first_or, least_or, from_least, successor, predecessor, turned, IsTurn}
 use Rattle.permutations.proofs.Members.{member-head, member-tail, member-cases, member-reverse, distinct-head, distinct-reverse}
-use Rattle.permutations.proofs.Turned.{turned-cut, turned-first, turned-turn, turned-first_or, turned-member, turned-distinct, turned-permutation, turned-successor, turned-predecessor, IsTurn-sym, IsTurn-member, IsTurn-reverse}
+use Rattle.permutations.proofs.Turned.{turned-cut, turned-first, turned-turn, turned-first_or, turned-member, turned-distinct, turned-successor, turned-predecessor, IsTurn-sym, IsTurn-member, IsTurn-reverse}
 use Rattle.permutations.proofs.CyclicSame.{IsTurn-trans, IsTurn-turned}
 
 -- the least of x and a list is no greater than x
@@ -89,10 +89,6 @@ from_least-member l x = turned-member l (least_or (first_or 0 l) l) x
 -- the normal form has no repetition where the list has none
 pub from_least-distinct : (l : List ℕ) → is_distinct l ≡ true → is_distinct (from_least l) ≡ true
 from_least-distinct l h = turned-distinct l (least_or (first_or 0 l) l) h
-
--- the normal form is an arrangement of the members
-pub from_least-permutation : (l : List ℕ) → IsPermutation l (from_least l)
-from_least-permutation l = turned-permutation l (least_or (first_or 0 l) l)
 
 -- the normal form leaves each member its successor
 pub from_least-successor : (l : List ℕ) (x : ℕ) → is_distinct l ≡ true → successor (from_least l) x ≡ successor l x

@@ -153,20 +153,3 @@ connected-apart links a h x y t f = false_from_ne_true (connected links x y) (λ
 -- links that are connected by others add nothing to them: order and repetition do not matter
 pub connected-subset : (links others : List (ℕ × ℕ)) → All (λ link. connected others link.0 link.1 ≡ true) links → (x y : ℕ) → connected links x y ≡ true → connected others x y ≡ true
 connected-subset links others a x y h = connected-least links (connected others) (connected-equivalence others) a x y h
-
--- lists of links, each connected by the other list, connect the same numbers
-pub connected-same : (links others : List (ℕ × ℕ)) → All (λ link. connected others link.0 link.1 ≡ true) links → All (λ link. connected links link.0 link.1 ≡ true) others → (x y : ℕ) → connected links x y ≡ connected others x y
-connected-same links others a b x y = same-tests (connected links x y) (connected others x y) (connected-subset links others a x y) (connected-subset others links b x y)
-
--- links with their ends below n: a number from n on is connected to itself alone
-pub connected-bound : (n : ℕ) (links : List (ℕ × ℕ)) → All (λ link. (link.0 < n) × (link.1 < n)) links → (x y : ℕ) → n ≤ x → connected links x y ≡ true → x ≡ y
-connected-bound n links a x y l h = elim (connected-least-typed links S (λ u. inl refl) s t (All-weaker (λ k. (k.0 < n) × (k.1 < n)) (λ k. S k.0 k.1) (λ k b. inr b) links a) x y h) [ inl e ↦ e | inr b ↦ absurd (omega (arith, b.0)) ]
-  where
-    S : ℕ → ℕ → Type 0
-    S u v = (u ≡ v) ⊎ ((u < n) × (v < n))
-
-    s : (u v : ℕ) → S u v → S v u
-    s u v k = elim k [ inl e ↦ inl (sym e) | inr b ↦ inr (b.1, b.0) ]
-
-    t : (u v w : ℕ) → S u v → S v w → S u w
-    t u v w k m = elim k [ inl e ↦ subst (λ (z : ℕ). S z w) (sym e) m | inr b ↦ elim m [ inl d ↦ inr (b.0, omega (arith, b.1)) | inr c ↦ inr (b.0, c.1) ] ]

@@ -1,19 +1,18 @@
 -- The ring of a number under a permutation: its orbit as a list without repetition, whose successor is the permutation.
-use Rattle.std.proofs.Common.{◌≡◌, ◌≢◌, ℕ, zero, suc, ◌+◌, ◌-◌, ◌<◌, ◌≤◌, inl, inr, Bool, true, ◌==◌, List, ◌∷◌, ◌++◌, length, reverse, refl, sym, ap, ◌∙◌, subst, arith, add-one}
+use Rattle.std.proofs.Common.{◌≡◌, ◌≢◌, ℕ, zero, suc, ◌+◌, ◌-◌, ◌<◌, ◌≤◌, inl, inr, Bool, true, ◌==◌, List, ◌∷◌, ◌++◌, length, refl, sym, ap, ◌∙◌, subst, arith, add-one}
 use Rattle.std.proofs.lemmas.Bool.{cases_Bool, both_ways, true≢false, false_from_ne_true, eqb-true, eqb-false, eq-eqb}
 use Rattle.permutations.specs.Count.{some, least}
 use Rattle.permutations.specs.Members.{is_member, is_distinct}
-use Rattle.permutations.specs.Cyclic.{first_or, successor, predecessor, turned, IsTurn}
+use Rattle.permutations.specs.Cyclic.{first_or, successor, predecessor, turned}
 use Rattle.permutations.specs.Permutation.{Permutes, iterate, same_orbit}
 use Rattle.permutations.specs.Ring.{images, orbit_length, ring}
 use Rattle.permutations.proofs.Search.{some-from, least-below, least-passes, least-before}
 use Rattle.permutations.proofs.Relation.{same-tests}
-use Rattle.permutations.proofs.Members.{member-head, member-tail, member-cases, distinct-cons, distinct-reverse, member-reverse}
+use Rattle.permutations.proofs.Members.{member-head, member-tail, member-cases, distinct-cons}
 use Rattle.permutations.proofs.Successor.{successor-cut, successor-member, successor-absent, predecessor-member, successor-predecessor}
-use Rattle.permutations.proofs.Turned.{turned-first, turned-turn}
+use Rattle.permutations.proofs.Turned.{turned-first}
 use Rattle.permutations.proofs.CyclicSame.{turned-from_successor}
 use Rattle.permutations.proofs.Chains.{apart-front, chain-typed}
-use Rattle.permutations.proofs.Permutations.{permutes-inverse}
 use Rattle.permutations.proofs.Orbits.{orbit-equivalence, orbit-step, orbit-kept}
 use Rattle.permutations.proofs.Iterates.{iterate-below, iterate-first, iterate-more, iterate-between, iterate-orbit, period}
 
@@ -168,24 +167,3 @@ ring-from_list n f g b l h s y k m = sym (ap (λ (z : List ℕ). turned z y) w.1
 -- the ring of another number of the orbit is the same, turned to it
 pub ring-turn : (n : ℕ) (f g : ℕ → ℕ) → Permutes n f g → (x y : ℕ) → x < n → is_member y (ring n f x) ≡ true → ring n f y ≡ turned (ring n f x) y
 ring-turn n f g b x y l m = ring-from_list n f g b (ring n f x) (ring-distinct n f g b x l) (ring-successor n f g b x l) y (ring-below n f g b x l y m) m
-
--- the rings of numbers of one orbit are turns of each other
-pub ring-turns : (n : ℕ) (f g : ℕ → ℕ) → Permutes n f g → (x y : ℕ) → x < n → same_orbit n f x y ≡ true → IsTurn (ring n f x) (ring n f y)
-ring-turns n f g b x y l m = subst (IsTurn (ring n f x)) (sym (ring-turn n f g b x y l (ring-member n f g b x l y ∙ m))) (turned-turn (ring n f x) y)
-
--- the ring under the inverse is the ring reversed, turned to x
-pub ring-inverse : (n : ℕ) (f g : ℕ → ℕ) → Permutes n f g → (x : ℕ) → x < n → ring n g x ≡ turned (reverse (ring n f x)) x
-ring-inverse n f g b x l = ring-from_list n g f (permutes-inverse n f g b) (reverse (ring n f x)) (distinct-reverse (ring n f x) (ring-distinct n f g b x l))
-    (λ z m. ring-predecessor n f g b x l z (sym (member-reverse z (ring n f x)) ∙ m)) x l (member-reverse x (ring n f x) ∙ ring-itself n f g b x l)
-
--- permutations that agree on the ring of x have the same ring of x
-pub ring-ext : (n : ℕ) (f g h k : ℕ → ℕ) → Permutes n f g → Permutes n h k → (x : ℕ) → x < n → ((z : ℕ) → is_member z (ring n f x) ≡ true → f z ≡ h z) → ring n h x ≡ ring n f x
-ring-ext n f g h k b c x l e =
-    ring-from_list n h k c (ring n f x) (ring-distinct n f g b x l) (λ z m. ring-successor n f g b x l z m ∙ e z m) x l (ring-itself n f g b x l)
-    ∙ (let w : (r : List ℕ) × (ring n f x ≡ x ∷ r) = ring-first n f g b x l in ap (λ (z : List ℕ). turned z x) w.1 ∙ turned-first x w.0 ∙ sym w.1)
-
--- permutations with the same ring of x agree on it
-pub ring-same : (n : ℕ) (f g h k : ℕ → ℕ) → Permutes n f g → Permutes n h k → (x : ℕ) → x < n → ring n f x ≡ ring n h x → (z : ℕ) → same_orbit n f x z ≡ true → f z ≡ h z
-ring-same n f g h k b c x l e z m =
-    let q : is_member z (ring n f x) ≡ true = ring-member n f g b x l z ∙ m in
-    sym (ring-successor n f g b x l z q) ∙ ap (λ (r : List ℕ). successor r z) e ∙ ring-successor n h k c x l z (ap (is_member z) (sym e) ∙ q)

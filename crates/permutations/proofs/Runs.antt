@@ -1,6 +1,6 @@
 -- Cyclic orders cut into runs: the cut is unique but for where it begins; runs turned, filtered and reversed.
 use Rattle.std.proofs.Common.{◌≡◌, ◌≢◌, ℕ, ◌<◌, inl, inr, Bool, true, ◌==◌, List, [], ◌∷◌, ◌++◌, length, map, filter, reverse, refl, sym, ap, ap₂, ◌∙◌, subst, arith, append_assoc, append-nil, All}
-use Rattle.std.proofs.lemmas.Bool.{both_ways, true≢false, eq-eqb, ne_eqb}
+use Rattle.std.proofs.lemmas.Bool.{both_ways, true≢false}
 use Rattle.std.proofs.lemmas.List.{reverse-append, map-append, length-append, length-reverse}
 use Rattle.std.proofs.lemmas.List.Elements.{All-head, All-tail, All-weaker, All-map, filter-append}
 use Rattle.std.proofs.lemmas.List.Sorted.{All-permutation, IsPermutation-reverse}
@@ -9,7 +9,6 @@ use Rattle.permutations.specs.Cyclic.{first_or, successor, turned, IsTurn}
 use Rattle.permutations.specs.Runs.{joined, group_keys, IsGroup, InRuns, mirrored}
 use Rattle.permutations.proofs.Relation.{same-tests}
 use Rattle.permutations.proofs.Members.{member-head, member-tail, member-append_left, member-append_right, member-append_cases, member-reverse, distinct-head, distinct-tail, distinct-append_left, distinct-append_right, distinct-append_apart, distinct-reverse, CutAt, cut_at}
-use Rattle.permutations.proofs.Filter.{filter-all, filter-none}
 use Rattle.permutations.proofs.Successor.{successor-cut}
 use Rattle.permutations.proofs.Turned.{turned-first, IsTurn-sym, IsTurn-member, IsTurn-distinct, IsTurn-successor, IsTurn-permutation, IsTurn-reverse, IsTurn-map, IsTurn-filter}
 use Rattle.permutations.proofs.CyclicSame.{append-split, IsTurn-trans, IsTurn-head}
@@ -254,14 +253,6 @@ runs-picked key l gs p pick r a = subst (IsTurn (filter p l)) (picked gs a) (IsT
     picked : (gs : List (ℕ × List ℕ)) → All (λ g. filter p g.1 ≡ pick g ∷ []) gs → filter p (joined gs) ≡ map pick gs
     picked [] a = refl
     picked (g ∷ gs) a = filter-append p g.1 (joined gs) ∙ ap (λ (v : List ℕ). v ++ filter p (joined gs)) (All-head (λ g. filter p g.1 ≡ pick g ∷ []) g gs a) ∙ ap (λ (v : List ℕ). pick g ∷ v) (picked gs (All-tail (λ g. filter p g.1 ≡ pick g ∷ []) g gs a))
-
--- a group is what has its key, in the order of the whole
-pub first-group_filter : (key : ℕ → ℕ) (g : ℕ × List ℕ) (gs : List (ℕ × List ℕ)) → is_distinct (group_keys (g ∷ gs)) ≡ true → All (IsGroup key) (g ∷ gs) → filter (λ x. key x == g.0) (joined (g ∷ gs)) ≡ g.1
-first-group_filter key g gs h a =
-    filter-append (λ x. key x == g.0) g.1 (joined gs)
-    ∙ ap (λ (v : List ℕ). v ++ filter (λ x. key x == g.0) (joined gs)) (filter-all (λ x. key x == g.0) g.1 (λ x m. eq-eqb (key x) g.0 ((All-head (IsGroup key) g gs a).same_key x m)))
-    ∙ ap (λ (v : List ℕ). g.1 ++ v) (filter-none (λ x. key x == g.0) (joined gs) (λ x m. ne_eqb (key x) g.0 (other-groups key g gs x h a m)))
-    ∙ append-nil g.1
 
 -- the groups in the opposite order, each written backwards, make the whole written backwards
 pub joined-mirrored : (gs : List (ℕ × List ℕ)) → joined (reverse (map mirrored gs)) ≡ reverse (joined gs)

@@ -9,7 +9,7 @@ use Rattle.permutations.specs.Runs.{joined, group_keys, IsGroup, InRuns}
 use Rattle.permutations.proofs.Members.{member-append_left, member-append_right}
 use Rattle.permutations.proofs.Filter.{filter-all, filter-none}
 use Rattle.permutations.proofs.Turned.{IsTurn-distinct, IsTurn-map, IsTurn-permutation, IsTurn-swap, IsTurn-member}
-use Rattle.permutations.proofs.Runs.{joined-append, joined-member, joined-key, first-group, other-groups, runs-turn}
+use Rattle.permutations.proofs.Runs.{joined-append, joined-key, other-groups}
 
 -- each group is what has its key, in the order of the whole
 pub group-filter : (key : ℕ → ℕ) (us : List (ℕ × List ℕ)) (g : ℕ × List ℕ) (vs : List (ℕ × List ℕ)) → is_distinct (group_keys (us ++ g ∷ vs)) ≡ true → All (IsGroup key) (us ++ g ∷ vs)
@@ -52,21 +52,6 @@ groups-behind key us (g ∷ vs) h a l e = ap₂ ◌∷◌ (λ i. (g.0, same i)) 
 -- the keys, in their order, tell the groups
 pub groups-by_key : (key : ℕ → ℕ) (l : List ℕ) (gs : List (ℕ × List ℕ)) → InRuns key l gs → map (λ k. (k, filter (λ x. key x == k) (joined gs))) (group_keys gs) ≡ gs
 groups-by_key key l gs r = groups-behind key [] gs r.once r.groups (joined gs) refl
-
--- a member is in the group of its key, with all members of that key
-pub group-of : (key : ℕ → ℕ) (l : List ℕ) (gs : List (ℕ × List ℕ)) (x : ℕ) → InRuns key l gs → is_member x l ≡ true
-    → (us : List (ℕ × List ℕ)) × (g : ℕ × List ℕ) × (vs : List (ℕ × List ℕ)) × (gs ≡ us ++ g ∷ vs) × (g.0 ≡ key x) × ((y : ℕ) → is_member y l ≡ true → key y ≡ key x → is_member y g.1 ≡ true)
-group-of key l gs x r m = at (joined-member gs x (IsTurn-member l (joined gs) x r.around ∙ m))
-  where
-    at : (us : List (ℕ × List ℕ)) × (g : ℕ × List ℕ) × (vs : List (ℕ × List ℕ)) × (gs ≡ us ++ g ∷ vs) × (is_member x g.1 ≡ true)
-        → (us : List (ℕ × List ℕ)) × (g : ℕ × List ℕ) × (vs : List (ℕ × List ℕ)) × (gs ≡ us ++ g ∷ vs) × (g.0 ≡ key x) × ((y : ℕ) → is_member y l ≡ true → key y ≡ key x → is_member y g.1 ≡ true)
-    at w = (w.0, w.1, w.2, w.3, sym own, λ y n e. first-group key w.1 (w.2 ++ w.0) y t.once t.groups (IsTurn-member l (joined (w.1 ∷ (w.2 ++ w.0))) y t.around ∙ n) (e ∙ own))
-      where
-        t : InRuns key l (w.1 ∷ (w.2 ++ w.0))
-        t = runs-turn key l gs (w.1 ∷ (w.2 ++ w.0)) r (record { front = w.0; back = w.1 ∷ w.2; before = w.3; after = refl })
-
-        own : key x ≡ w.1.0
-        own = (All-head (IsGroup key) w.1 (w.2 ++ w.0) t.groups).same_key x w.4
 
 -- the keys are those of the members
 pub keys-member : (key : ℕ → ℕ) (l : List ℕ) (gs : List (ℕ × List ℕ)) (x : ℕ) → InRuns key l gs → is_member x l ≡ true → is_member (key x) (group_keys gs) ≡ true

@@ -45,10 +45,6 @@ pub least-none : (n : ℕ) (p : ℕ → Bool) → some n p ≡ false → least n
 least-none zero p h = refl
 least-none (suc n) p h = let w = or_parts (some n p) (p n) h in rw (w.0, w.1) (omega arith)
 
--- the least is at most n
-pub least-within : (n : ℕ) (p : ℕ → Bool) → least n p ≤ n
-least-within n p = elim (cases_Bool (some n p)) [ inl a ↦ omega (arith, least-below n p a) | inr b ↦ omega (arith, least-none n p b) ]
-
 -- each number below the least fails
 pub least-before : (n : ℕ) (p : ℕ → Bool) (x : ℕ) → x < least n p → p x ≡ false
 least-before zero p x l = absurd (omega arith)

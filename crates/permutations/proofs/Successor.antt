@@ -145,7 +145,3 @@ successor-predecessor l x h = sym (predecessor-reverse l (predecessor l x)) ∙ 
 -- members with one successor are equal
 pub successor-injective : (l : List ℕ) (x y : ℕ) → is_distinct l ≡ true → successor l x ≡ successor l y → x ≡ y
 successor-injective l x y h e = sym (predecessor-successor l x h) ∙ ap (predecessor l) e ∙ predecessor-successor l y h
-
--- members with one predecessor are equal
-pub predecessor-injective : (l : List ℕ) (x y : ℕ) → is_distinct l ≡ true → predecessor l x ≡ predecessor l y → x ≡ y
-predecessor-injective l x y h e = sym (successor-predecessor l x h) ∙ ap (successor l) e ∙ successor-predecessor l y h

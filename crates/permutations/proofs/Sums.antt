@@ -1,5 +1,5 @@
 -- Sums over the numbers below a bound, and counts as sums.
-use Rattle.std.proofs.Common.{◌≡◌, ℕ, zero, suc, ◌+◌, ◌*◌, ◌<◌, ◌≤◌, inl, inr, Bool, cond, refl, sym, ap, ◌∙◌, arith, add-one}
+use Rattle.std.proofs.Common.{◌≡◌, ℕ, zero, suc, ◌+◌, ◌*◌, ◌<◌, ◌≤◌, inl, inr, Bool, cond, refl, sym, ap, ◌∙◌, arith}
 use Rattle.std.proofs.lemmas.Bool.{cases_Bool, cases_eq}
 use Rattle.permutations.specs.Count.{count, sum_below}
 
@@ -7,10 +7,6 @@ use Rattle.permutations.specs.Count.{count, sum_below}
 pub sum_below-ext : (n : ℕ) (f g : ℕ → ℕ) → ((x : ℕ) → x < n → f x ≡ g x) → sum_below n f ≡ sum_below n g
 sum_below-ext zero f g h = refl
 sum_below-ext (suc n) f g h = rw (sum_below-ext n f g (λ x l. h x (omega arith)), h n (omega arith)) refl
-
--- the sum one number further
-pub sum_below-more : (n : ℕ) (f : ℕ → ℕ) → sum_below (n + 1) f ≡ sum_below n f + f n
-sum_below-more n f = rw add-one refl
 
 -- the sum of sums of two functions
 pub sum_below-add : (n : ℕ) (f g : ℕ → ℕ) → sum_below n (λ x. f x + g x) ≡ sum_below n f + sum_below n g

@@ -6,10 +6,6 @@ use Rattle.dart_maps.specs.Map.{twin}
 use Rattle.dart_maps.proofs.Darts.{twin-below}
 use Rattle.skeleton_planes.proofs.Seams.{IsOff, AreFacing, AreJoined}
 
--- numbers that a function tells apart differ
-pub told-apart : {X : Type 0} (f : ℕ → X) (x y : ℕ) → (f x ≡ f y → ⊥) → x ≡ y → ⊥
-told-apart f x y n e = n (ap f e)
-
 -- darts on different sides differ
 pub sides-differ : (side : ℕ → Bool) (x y : ℕ) → side x ≡ true → side y ≡ false → x ≡ y → ⊥
 sides-differ side x y h k e = both_ways (side y) k (subst (λ (z : ℕ). side z ≡ true) e h)

@@ -4,9 +4,6 @@ use Rattle.std.proofs.lemmas.Bool.{cases_Bool, cases_lt}
 use Rattle.multigraph.specs.Graph.{Multigraph}
 use Rattle.split_comp.specs.Pass.{PassState, IsAsFar, IsCome, IsJoined, IsDartNoted, IsFrondAdded, IsTreeAdded, pushed, new_frond, new_tree}
 
-pub far-through : (a b c : PassState) → IsAsFar a b → IsAsFar b c → IsAsFar a c
-far-through a b c p q = record { at = q.at ∙ p.at; done = q.done ∙ p.done; gone = q.gone ∙ p.gone }
-
 -- what has come back stays there
 pub come-through : (v : ℕ) (a b c : PassState) → IsCome v a b → IsAsFar b c → IsCome v a c
 come-through v a b c p q = record { at = q.at ∙ p.at; done = q.done ∙ p.done; gone = q.gone ∙ p.gone }

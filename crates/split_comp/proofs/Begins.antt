@@ -1,7 +1,5 @@
 -- Darts of the palm tree in the graph: their edges, and the vertices with the numbers.
-use Rattle.std.proofs.Common.{◌≡◌, ℕ, ◌+◌, ◌<◌, inl, inr, true, List, length, slice_index, slice_set, sym, ap, ◌∙◌, subst, arith}
-use Rattle.std.proofs.lemmas.Bool.{cases_eq}
-use Rattle.std.proofs.lemmas.List.{get_or-set_same, get_or-set_other}
+use Rattle.std.proofs.Common.{◌≡◌, ℕ, ◌+◌, ◌<◌, inl, inr, true, List, length, slice_index, sym, ap, ◌∙◌, subst, arith}
 use Rattle.permutations.proofs.Arrangements.{member-at}
 use Rattle.multigraph.specs.Graph.{Multigraph, edge_count, is_end, other_end}
 use Rattle.multigraph.proofs.OtherEnd.{other_end-is_end, other_end-in}
@@ -42,11 +40,3 @@ numbers-noted g t vertex p size h = record {
   within = λ x l. let w = p.numbers.each x l in omega (arith, w.1, ap (slice_index vertex) w.2, h w.0 w.1);
   number = λ x l. let w = p.numbers.each x l in ap (number_of t) (sym (ap (slice_index vertex) w.2) ∙ h w.0 w.1) ∙ w.2;
 }
-
--- one more vertex is noted
-pub number-noted : (g : Multigraph) (t : PalmTreeLists) (vertex : List ℕ) (v : ℕ) → IsPalmTree g t → length vertex ≡ g.vertex_count → v < g.vertex_count → ((u : ℕ) → u < v → slice_index vertex (number_of t u) ≡ u)
-    → (u : ℕ) → u < v + 1 → slice_index (slice_set vertex (number_of t v) v) (number_of t u) ≡ u
-number-noted g t vertex v p size l h u m = elim (cases_eq u v) [
-  | inl e ↦ ap (λ (z : ℕ). slice_index (slice_set vertex (number_of t v) v) (number_of t z)) e ∙ (get_or-set_same vertex (number_of t v) v 0 (omega (arith, size, p.numbers.below v l)) ∙ sym e)
-  | inr n ↦ get_or-set_other vertex (number_of t v) (number_of t u) v 0 (λ e. n (p.numbers.differ u v (omega (arith, m, l)) l e)) ∙ h u (omega (arith, m, n))
-]

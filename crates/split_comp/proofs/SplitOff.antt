@@ -17,10 +17,6 @@ use Rattle.split_comp.proofs.Reducing.{stale-back, triangle-can, triangle-raised
 use Rattle.split_comp.proofs.Pairing.{pair-can, alone-raised, alone-starts, both-raised, both-starts}
 use Rattle.split_comp.proofs.AsFar.{tree-far}
 
--- the child from which the search has come back
-pub back-here : (g : Multigraph) (t : NumberedTree) (w : ℕ) (s : PassState) → IsBack g t w s → IsBack g t s.done s
-back-here g t w s b = subst (λ (y : ℕ). IsBack g t y s) (sym b.raised.from) b
-
 -- one entry stays apart at most
 pub apart-one : (frond : Option ℕ) → number_apart frond ≤ 1
 apart-one None = omega arith

@@ -43,10 +43,6 @@ pub side-off_two : (stack : List Item) (rest : List Entry) → IsFamily (family 
 side-off_two stack rest f s i x l a c b = two-pass (λ (e : Entry). not (s e.name)) (entry (item stack i)) x (family stack rest)
     (λ e. not-rest stack rest f i x l c (ap (λ (y : Entry). y.name) e)) (stack-contains stack rest i l) (rest-contains stack rest x c) (not_from_false (s (item stack i).name) a) (not_from_false (s x.name) b)
 
--- two entries of the rest are two off the side
-pub side-rest_two : (stack : List Item) (rest : List Entry) (s : ℕ → Bool) (x y : Entry) → (x ≢ y) → Contains rest x → Contains rest y → s x.name ≡ false → s y.name ≡ false → 2 ≤ length (off_side s (family stack rest))
-side-rest_two stack rest s x y n c d a b = two-pass (λ (e : Entry). not (s e.name)) x y (family stack rest) n (rest-contains stack rest x c) (rest-contains stack rest y d) (not_from_false (s x.name) a) (not_from_false (s y.name) b)
-
 -- a vertex common to a side inside the stack: an entry on it, and one off it or of the rest
 pub record IsShared (stack : List Item) (rest : List Entry) (s : ℕ → Bool) (z : ℕ) : Type 0 where
   pub place : ℕ

@@ -1,13 +1,12 @@
 -- How a run is made of its parts: a decision, and what was written of a text of it.
 use Rattle.std.proofs.Common.{◌≡◌, ℕ, ◌<◌, ◌≤◌, List, Option, None, Some, Ok, Err, IfSome, IsSome, inl, inr, refl, sym, subst, arith}
 use Rattle.std.specs.Io.KnownBytes.{Appends}
-use Rattle.std.proofs.KnownBytes.{Keeps-refl}
 use Rattle.spqr_edge.specs.Device.{Files, counted}
 use Rattle.command_words.specs.Form.{form_of}
 use Rattle.spqr_cli.specs.Decision.{Sources, Task, Report, Summary, IsAccepted, IsDue}
 use Rattle.spqr_cli.specs.Ending.{refusal_text, refusal_status, CountsFor, IsDecided}
 use Rattle.spqr_cli.specs.Laws.{NoRefusal}
-use Rattle.spqr_cli.specs.Seen.{ShelfSeen, SinkSeen, Seen, seen}
+use Rattle.spqr_cli.specs.Seen.{Seen}
 use Rattle.spqr_cli.specs.Run.{AppendsFirst, CarriesOut, RefusesWith, Finishes, RunsShort, Ends, WritesDue, OnDone, FitsWords, CountsReads, CountsPuts, IsDoneOrMemory, NothingFailed, IsRun}
 use Rattle.spqr_cli.specs.declared.refusal.Refusal.{Refusal}
 use Rattle.spqr_cli.specs.declared.refusal.Refusal.TheVariants.{Usage as NoForm, OfGraph, OfScript}
@@ -223,16 +222,3 @@ module _ (none : NoRefusal) (words : List (List ℕ)) (before after : Seen) (ref
   }
 
 -- ---- want of memory
-
--- memory ran out before anything was written
-pub memory-run : (words : List (List ℕ)) (before after : ShelfSeen) (sink : SinkSeen) → after.faults ≡ before.faults → IsRun words (seen before sink) (seen after sink) Memory
-memory-run words before after sink e = record {
-  ends = inl (Keeps-refl sink.written);
-  done = tt;
-  making = λ n seed f. inl (Keeps-refl sink.written);
-  form = tt;
-  reads = omega (arith, e);
-  puts = refl;
-  complete = if-told before.files (λ files. IsAccepted words files → NothingFailed (seen before sink) (seen after sink) → IsDoneOrMemory Memory) (λ files accepted kept. tt);
-  complete_making = λ n seed f kept. tt;
-}

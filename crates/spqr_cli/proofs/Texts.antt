@@ -2,7 +2,7 @@
 use Rattle.std.proofs.Common.{◌≡◌, ℕ, ◌+◌, ◌<◌, List, [], ◌∷◌, ◌++◌, Option, Result, Ok, Err, inr, refl, length, take, drop, get_or, sym, ap, ◌∙◌, subst, append_assoc, append-nil, add-one, take-append-drop}
 use Rattle.std.specs.List.{concat}
 use Rattle.std.specs.Io.KnownBytes.{Appends}
-use Rattle.std.proofs.KnownBytes.{Appends-nil, Appends-trans}
+use Rattle.std.proofs.KnownBytes.{Appends-trans}
 use Rattle.std.proofs.lemmas.List.Folds.{concat-append}
 use Rattle.std.proofs.Math.Seq.{take-suc}
 use Rattle.spqr_edge.specs.declared.Failed.{Failed}
@@ -23,10 +23,6 @@ use Rattle.spqr_session.proofs.Chains.{chain-exists, chain-keeps, chain-join}
 -- one text behind others
 concat-one : (texts : List (List ℕ)) (t : List ℕ) → concat (texts ++ t ∷ []) ≡ concat texts ++ t
 concat-one texts t = concat-append texts (t ∷ []) ∙ ap (λ (l : List ℕ). concat texts ++ l) (append-nil t)
-
--- none yet
-pub answers-none : (setting : Setting) (start : State) (commands : List Command) (before : Option (List ℕ)) → WritesAll setting start (take 0 commands) before before start
-answers-none setting start commands before = record { texts = []; answers = refl; written = Appends-nil before }
 
 module _ (setting : Setting) (start mid after : State) (commands : List Command) (i : ℕ) (command : Command) (t : List ℕ) (before now next : Option (List ℕ)) (within : i < length commands) (at : get_or commands i command ≡ command) where
   -- the chain of one command more

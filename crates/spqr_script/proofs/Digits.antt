@@ -2,12 +2,12 @@
 use Rattle.std.proofs.Common.{◌≡◌, ℕ, ◌+◌, ◌-◌, ◌*◌, ◌<◌, ◌≤◌, Bool, true, false, ◌&&◌, ◌==◌, cond, ltb, List, [], ◌∷◌, length, Option, Some, None, refl, sym, ap, subst, ◌∙◌, inl, inr, arith}
 use Rattle.std.specs.Char.{is_ascii_digit}
 use Rattle.std.specs.List.{list_all}
-use Rattle.std.proofs.lemmas.Bool.{and_parts, and_left, and_right, and_from, and_cases, eqb-false, ltb-true, ltb-false, lt-ltb, le-ltb, cond-true, cond-false}
+use Rattle.std.proofs.lemmas.Bool.{and_parts, and_left, and_right, and_cases, eqb-false, ltb-true, ltb-false, lt-ltb, le-ltb, cond-true, cond-false}
 use Rattle.std.proofs.lemmas.Option.{cond_some, none-some}
 use Rattle.std.proofs.lemmas.List.{nil_from_length}
-use Rattle.gml_graph.specs.Number.{are_digits, spelled_after}
-use Rattle.spqr_script.specs.Number.{number_below, value_of, index_limit}
-use Rattle.spqr_script.specs.Reading.{with_digit, index_of}
+use Rattle.gml_graph.specs.Number.{spelled_after}
+use Rattle.spqr_script.specs.Number.{number_below}
+use Rattle.spqr_script.specs.Reading.{with_digit}
 
 -- the number that the digits spell behind those of `value`
 abbrev pub number_behind : ℕ → ℕ → List ℕ → Option ℕ
@@ -47,29 +47,6 @@ digit_refused limit value digit rest e =
     ]
 
 -- ---- the smaller range, by the greater one
-
-pub index_none : (limit : ℕ) (text : List ℕ) → index_limit ≤ limit → number_below limit text ≡ None → index_of text ≡ None
-index_none limit text wide e =
-    elim (and_cases (are_digits text) (ltb (value_of text) limit) (none_is_no_digit (are_digits text) (ltb (value_of text) limit) (value_of text) e)) [
-      | inl other ↦ cond-false (are_digits text && ltb (value_of text) index_limit) (Some (value_of text)) None (and_left (are_digits text) (ltb (value_of text) index_limit) other)
-      | inr past ↦
-          let over : index_limit ≤ value_of text = omega (arith, ltb-false (value_of text) limit past) in
-          cond-false (are_digits text && ltb (value_of text) index_limit) (Some (value_of text)) None (and_right (are_digits text) (ltb (value_of text) index_limit) (le-ltb (value_of text) index_limit over))
-    ]
-
-pub index_small : (limit : ℕ) (text : List ℕ) (n : ℕ) → number_below limit text ≡ Some n → n < index_limit → index_of text ≡ Some n
-index_small limit text n e small =
-    let p = cond_some (are_digits text && ltb (value_of text) limit) (value_of text) n e in
-    let a = and_parts (are_digits text) (ltb (value_of text) limit) p.0 in
-    cond-true (are_digits text && ltb (value_of text) index_limit) (Some (value_of text)) None (and_from (are_digits text) (ltb (value_of text) index_limit) a.0 (lt-ltb (value_of text) index_limit (subst (λ (k : ℕ). k < index_limit) (sym p.1) small)))
-    ∙ ap (λ (k : ℕ). Some k) p.1
-
-pub index_large : (limit : ℕ) (text : List ℕ) (n : ℕ) → number_below limit text ≡ Some n → index_limit ≤ n → index_of text ≡ None
-index_large limit text n e large =
-    let p = cond_some (are_digits text && ltb (value_of text) limit) (value_of text) n e in
-    cond-false (are_digits text && ltb (value_of text) index_limit) (Some (value_of text)) None (and_right (are_digits text) (ltb (value_of text) index_limit) (le-ltb (value_of text) index_limit (subst (λ (k : ℕ). index_limit ≤ k) (sym p.1) large)))
-
--- ---- the loop over the digits
 
 pub number_refused : (limit value digit : ℕ) (text rest after : List ℕ) → (length text == 0) ≡ false → number_behind limit value rest ≡ number_behind limit 0 text → rest ≡ digit ∷ after
     → with_digit limit value digit ≡ None → None ≡ number_below limit text

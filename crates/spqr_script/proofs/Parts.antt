@@ -42,9 +42,6 @@ begins_before : (bs after : List ℕ) → begins_word (bs ++ 59 ∷ after) ≡ b
 begins_before [] after = refl
 begins_before (b ∷ bs) after = refl
 
-onto_first_before : (b : ℕ) (w : List ℕ) (ws back : List (List ℕ)) → onto_first b ((w ∷ ws) ++ back) ≡ onto_first b (w ∷ ws) ++ back
-onto_first_before b w ws back = refl
-
 tokens_before : (part after : List ℕ) → tokens_of (part ++ 59 ∷ after) ≡ tokens_of part ++ (59 ∷ []) ∷ tokens_of after
 unfolding tokens_of
 tokens_before [] after = refl

@@ -51,11 +51,6 @@ first-behind [] rest e = refl
 first-behind ((c, true) ∷ front) rest e = absurd (let both : Some c ≡ None = e in cc)
 first-behind ((c, false) ∷ front) rest e = first-behind front rest e
 
-pub first-front : (front rest : Ladder) (c : Code) → first_code front ≡ Some c → first_code (front ++ rest) ≡ Some c
-first-front [] rest c e = absurd (let both : None ≡ Some c = e in cc)
-first-front ((d, true) ∷ front) rest c e = e
-first-front ((d, false) ∷ front) rest c e = first-front front rest c e
-
 pub none-front : (front rest : Ladder) → first_code (front ++ rest) ≡ None → first_code front ≡ None
 none-front [] rest e = refl
 none-front ((c, true) ∷ front) rest e = e

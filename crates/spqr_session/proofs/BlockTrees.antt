@@ -22,10 +22,6 @@ use Rattle.spqr_session.proofs.Views.{trees-at, certificates-at}
 pub node-of_part : (part : GraphPart) (nodes : List Node) (k : ℕ) → IsGraph part.graph → IsTutte part.graph nodes → k < length nodes → IsNodeOf part (node_at nodes k)
 node-of_part part nodes k is t l = record { vertices = tutte-vertices part.graph nodes is t k l; items = tutte-items part.graph nodes is t k }
 
--- no block yet
-pub no_blocks : (g : Multigraph) (blocks : List (List ℕ)) (views : List BlockView) → views ≡ [] → AreStartBlocks g blocks 0 views
-no_blocks g blocks views e = record { one_each = ap (λ (l : List BlockView). length l) e; each = λ b l. absurd (omega (arith, l)) }
-
 -- one more
 pub block-more : (g : Multigraph) (blocks : List (List ℕ)) (n : ℕ) (views more : List BlockView) (v : BlockView) → AreStartBlocks g blocks n views → IsStartBlock g (block_at blocks n) v → more ≡ views ++ v ∷ [] → AreStartBlocks g blocks (n + 1) more
 block-more g blocks n views more v f is e = subst (AreStartBlocks g blocks (n + 1)) (sym e) (record {

@@ -12,9 +12,9 @@ use Rattle.spqr_session.specs.BlockCodes.{has_choices, node_ladder, ChangesBlock
 use Rattle.spqr_session.specs.Embedded.{view_tree, view_at}
 use Rattle.spqr_session.specs.Commands.History.{is_none, undo_ladder, redo_ladder, Undoes, Redoes, UndoStep, RedoStep}
 use Rattle.spqr_session.specs.Commands.Lock.{IsLockSet, LockStep}
-use Rattle.spqr_session.specs.Board.{BoardView, board_state, changed_board, IsUndone, IsRedone, StandsAt}
+use Rattle.spqr_session.specs.Board.{BoardView, board_state, changed_board, StandsAt}
 use Rattle.spqr_session.proofs.Views.{entries-at, trees-at}
-use Rattle.spqr_session.proofs.Ladders.{rung-hit, rung-missed, refused-first, carried-out}
+use Rattle.spqr_session.proofs.Ladders.{rung-hit, refused-first, carried-out}
 use Rattle.spqr_session.proofs.Changes.{NodeFacts, node-facts}
 use Rattle.spqr_session.proofs.Plans.{changed-seen}
 
@@ -24,32 +24,12 @@ stands-at board b e l p = record { within = l; entry = sym (entries-at board.vie
 
 -- ---- undo and redo
 
--- undo and redo are those of the state
-pub undone-state : (before after : BoardView) → IsUndone before after → Undoes (board_state before) ok_text (board_state after)
-undone-state before after h = record { family = h.family; others = h.others; nearest = h.nearest; after_is = λ i. record { present = h.stands i; earlier = h.earlier i; later = h.later i }; answer = refl }
-
-pub redone-state : (before after : BoardView) → IsRedone before after → Redoes (board_state before) ok_text (board_state after)
-redone-state before after h = record { family = h.family; others = h.others; nearest = h.nearest; after_is = λ i. record { present = h.stands i; earlier = h.earlier i; later = h.later i }; answer = refl }
-
 -- what is answered where nothing is earlier, or later
 pub undo-refused : (board : BoardView) (text : List ℕ) → is_none board.earlier ≡ true → text ≡ code_text NothingToUndo → UndoStep (board_state board) text (board_state board)
 undo-refused board text e t = refused-first (undo_ladder (board_state board)) refl Undoes (board_state board) NothingToUndo text (rung-hit NothingToUndo (is_none board.earlier) [] e) t
 
 pub redo-refused : (board : BoardView) (text : List ℕ) → is_none board.later ≡ true → text ≡ code_text NothingToRedo → RedoStep (board_state board) text (board_state board)
 redo-refused board text e t = refused-first (redo_ladder (board_state board)) refl Redoes (board_state board) NothingToRedo text (rung-hit NothingToRedo (is_none board.later) [] e) t
-
--- and where something is
-pub undo-done : (before after : BoardView) (text : List ℕ) → is_none before.earlier ≡ false → IsUndone before after → text ≡ ok_text → UndoStep (board_state before) text (board_state after)
-undo-done before after text e h t =
-    carried-out (undo_ladder (board_state before)) refl Undoes (board_state before) text (board_state after) (rung-missed NothingToUndo (is_none before.earlier) [] None e refl)
-    (subst (λ (x : List ℕ). Undoes (board_state before) x (board_state after)) (sym t) (undone-state before after h))
-
-pub redo-done : (before after : BoardView) (text : List ℕ) → is_none before.later ≡ false → IsRedone before after → text ≡ ok_text → RedoStep (board_state before) text (board_state after)
-redo-done before after text e h t =
-    carried-out (redo_ladder (board_state before)) refl Redoes (board_state before) text (board_state after) (rung-missed NothingToRedo (is_none before.later) [] None e refl)
-    (subst (λ (x : List ℕ). Redoes (board_state before) x (board_state after)) (sym t) (redone-state before after h))
-
--- ---- locks
 
 -- the embedding with the lock
 abbrev pub lock-new : Bool → ℕ → Embedding → Embedding

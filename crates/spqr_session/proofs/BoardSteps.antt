@@ -1,5 +1,5 @@
 -- What the board's functions do to its blocks and its history.
-use Rattle.std.proofs.Common.{◌≡◌, ℕ, zero, suc, ◌+◌, ◌<◌, ◌≤◌, Bool, not, nat_lt, List, [], ◌∷◌, length, map, take, drop, get_or, slice_set, add-one, None, Some, refl, sym, ap, ◌∙◌, subst, arith, All}
+use Rattle.std.proofs.Common.{◌≡◌, ℕ, zero, suc, ◌+◌, ◌<◌, ◌≤◌, Bool, not, nat_lt, List, [], ◌∷◌, length, map, take, drop, get_or, slice_set, add-one, Some, refl, sym, ap, ◌∙◌, subst, arith, All}
 use Rattle.std.proofs.lemmas.List.{length-map, length-take-le, length-reverse}
 use Rattle.std.proofs.lemmas.Bool.{lt-ltb, le-ltb}
 use Rattle.std.proofs.Math.Seq.{drop-cons}
@@ -49,11 +49,6 @@ can-undo trees f log l = ap (nat_lt 0) (sym (length-reverse (take log.cursor log
 
 pub can-redo : (trees : List BlockTree) (f : Family) (log : UndoHistory) → nat_lt log.cursor (length log.steps) ≡ not (is_none (walk (redone trees) f (steps_after log)))
 can-redo trees f log = dropped log.cursor log.steps ∙ walked (redone trees) f (steps_after log)
-
--- a block with an embedding is planar
-pub planar-of : (part : GraphPart) (outcome : Outcome) (e : Embedding) → (block_view part outcome).entry ≡ Some e → (block_view part outcome).certificate ≡ None
-planar-of part (Plane p) e h = refl
-planar-of part (Not g t s) e h = let no : None ≡ Some e = h in cc
 
 -- a block in the plane put in the place of another one is right
 pub replaced-right : (part : GraphPart) (outcome : Outcome) (p : BlockState) → IsEmbedded part outcome → IsBlockState p → p.graph ≡ part.graph → p.tree ≡ (block_view part outcome).tree.nodes → IsEmbedded part (Plane p)

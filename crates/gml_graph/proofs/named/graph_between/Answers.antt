@@ -1,11 +1,12 @@
 -- Accepted ends are those of a graph.
-use Rattle.std.proofs.Common.{◌≤◌, List, length, map, arith}
+use Rattle.std.proofs.Common.{rules, ◌≤◌, List, length, map, arith}
 use Rattle.std.proofs.lemmas.List.{length-map}
 use Rattle.multigraph.specs.Graph.{max_vertices, max_edges}
 use Rattle.gml_text.specs.Document.{Document}
+use Rattle.gml_graph.proofs.Behind.{refused-behind}
 use Rattle.gml_graph.proofs.Each.{each_below-length}
 use Rattle.gml_graph.proofs.Sound.{edge_ends-graph, edge_ends-limits}
-use Rattle.gml_graph.specs.Answer.{node_id}
+use Rattle.gml_graph.specs.Answer.{Refuses, graph_between, node_id}
 use Rattle.gml_graph.proofs.named.graph_between.Goals as goal
 
 pub of_ends-requires-clause-graph : goal.of_ends-requires-clause-graph
@@ -21,3 +22,11 @@ of_ends-requires-clause-limits c =
     let few : length c.in_ok-ids.ids ≤ max_vertices = omega (arith, each_below-length (node_id nodes) (length nodes) c.in_ok-ids.ids c.in_ok-ids.ensures, length-map c.args.nodes.now (λ node. node.now), c.if-nodes-gt-MAX_VERTICES.false) in
     let many : length edges ≤ max_edges = omega (arith, length-map c.args.edges.now (λ edge. edge.now), c.if-edges-gt-MAX_EDGES.false) in
     rw c.len.ensures (edge_ends-limits c.in_ok-ids.ids edges c.in_ok-ends.ends.items few many c.in_ok-ends.ensures)
+
+pub returns-in_err-ends : goal.returns-in_err-ends
+returns-in_err-ends c =
+    let nodes : List Document = map (λ node. node.now) c.args.nodes.now in
+    let edges : List Document = map (λ edge. edge.now) c.args.edges.now in
+    let refuses : Refuses (graph_between nodes edges) c.in_err-ends.field-0.0 =
+    refused-behind nodes edges c.in_ok-ids.ids c.in_err-ends.field-0.0 (omega (arith, length-map c.args.nodes.now (λ node. node.now), c.if-nodes-gt-MAX_VERTICES.false)) (omega (arith, length-map c.args.edges.now (λ edge. edge.now), c.if-edges-gt-MAX_EDGES.false)) c.in_ok-ids.ensures c.in_err-ends.ensures in
+    search rules
