@@ -6,7 +6,7 @@ use Rattle.spqr_tree.proofs.SkeletonMade.{place-there, place-not_missed, vertice
 use Rattle.spqr_tree.proofs.tree.Tree.place.Goals as goal
 
 pub overflow_cast-result : goal.overflow_cast-result
-overflow_cast-result c = omega (arith, c.in-Ok.ensures.bound, ap length c.vertices.ensures, vertices-few c.requires.block.0 c.args.self.now c.requires.block.1 c.args.k c.requires.node)
+overflow_cast-result c = omega (arith, c.in-Ok.ensures.bound, ap length c.vertices.ensures, vertices-few c.requires.block.0 c.args.self.now c.requires.block.1 c.args.k c.requires.node c.requires.block.2)
 
 pub unreachable-requires : goal.unreachable-requires
 unreachable-requires c = place-not_missed c.vertices.result.now c.args.v c.in-Err.field-0 (vertices-rise c.requires.block.0 c.args.self.now c.requires.block.1 c.args.k c.requires.node c.vertices.result.now c.vertices.ensures)
