@@ -159,13 +159,13 @@ fn what_is_read_is_written_in_the_layout(rt: HostRuntime) -> Result<(), Fail> {
 // How many pairs stand in the lists of the copies of its pairs, and whether each copy has its key.
 fn copied(alloc: Global, text: &[u8]) -> Result<(usize, bool), Fail> {
     let document = read(alloc, text)?;
-    let mut inner = 0;
+    let mut inner: usize = 0;
     let mut same = true;
     for pair in document.pairs() {
         let copy = pair.copy(alloc)?;
         same = same && copy.key.as_slice() == pair.key.as_slice();
         if let Value::List(pairs) = &copy.value {
-            inner += pairs.as_slice().len();
+            inner = inner.wrapping_add(pairs.as_slice().len());
         }
     }
     Ok((inner, same))

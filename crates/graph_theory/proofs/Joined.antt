@@ -4,7 +4,7 @@ use Rattle.std.proofs.lemmas.Bool.{both_ways, and_parts, or_cases, eq-eqb, eqb-t
 use Rattle.std.proofs.lemmas.List.{get_or-map, length-map}
 use Rattle.std.proofs.lemmas.List.Elements.{Contains-get_or}
 use Rattle.permutations.specs.Members.{is_member}
-use Rattle.permutations.proofs.Members.{member-cases, member-append_cases, member-reverse}
+use Rattle.permutations.proofs.Members.{member-head, member-tail, member-cases, member-append_cases, member-reverse}
 use Rattle.permutations.proofs.Relation.{connected-reflexive, connected-symmetric, connected-transitive, connected-link, connected-least-typed}
 use Rattle.multigraph.specs.Graph.{Multigraph, edge_count, ends_of, is_end, other_end, numbers_below}
 use Rattle.multigraph.proofs.Below.{filter_below-has, filter_below-at}
@@ -111,3 +111,14 @@ joined-path g t x y c =
     let j : WalkWhere g t x y = joined-walk g t x y c in
     let s : Shortened g x j.along = walk_to_path g x j.along j.walk in
     record { along = s.along; path = subst (IsPath g x s.along) j.arrives s.path; passes = λ e m. j.passes e (s.edges_from e m) }
+
+-- what a walk along edges that pass leads to is joined
+walk-joined : (g : Multigraph) (t : ℕ → Bool) (x : ℕ) (es : List ℕ) → IsWalk g x es → ((e : ℕ) → is_member e es ≡ true → t e ≡ true) → joined_where g t x (walk_end g x es) ≡ true
+walk-joined g t x [] w p = connected-reflexive (ends_where g t) x
+walk-joined g t x (e ∷ es) w p = connected-transitive (ends_where g t) x (other_end g e x) (walk_end g (other_end g e x) es)
+    (joined-other g t e x w.0.0 (p e (member-head e es)) w.0.1)
+    (walk-joined g t (other_end g e x) es w.1 (λ h m. p h (member-tail h e es m)))
+
+-- what a path along edges that pass joins is joined
+pub path-joined : (g : Multigraph) (t : ℕ → Bool) (x y : ℕ) → PathWhere g t x y → joined_where g t x y ≡ true
+path-joined g t x y w = subst (λ z. joined_where g t x z ≡ true) w.path.arrives (walk-joined g t x w.along w.path.walk w.passes)

@@ -183,8 +183,8 @@ given-least g entries v e a l m =
     some (x ∷ xs) m = omega arith
 
 -- at the end the rings keep a rotation system
-pub built-rings : (g : Multigraph) (entries : List (ℕ × List ℕ)) (tails : List ℕ) (links : Links) (rings : List Ring) → IsWithinLimits g → AreArranged g entries → AreTails g tails → AreBuilt g entries tails links rings g.vertex_count → AreRings tails links.next links.prev rings
-built-rings g entries tails links rings limits a t r = record {
+pub built-rings : (g : Multigraph) (entries : List (ℕ × List ℕ)) (tails : List ℕ) (links : Links) (rings : List Ring) → IsGraph g → IsWithinLimits g → AreArranged g entries → AreTails g tails → AreBuilt g entries tails links rings g.vertex_count → AreRings tails links.next links.prev rings
+built-rings g entries tails links rings ok limits a t r = record {
   few = omega (arith, t.long, limits.few_edges);
   few_rings = omega (arith, r.rings_long, limits.few_vertices);
   next_long = r.long;

@@ -37,7 +37,7 @@ loop-v-preserved c = record {
 pub invariant_of-result : goal.invariant_of-result
 invariant_of-result c =
     subst (λ (f : Frame). AreRings f.tails.items c.loop-v.nodes.next c.loop-v.nodes.prev f.rings.items) (sym c.in_ok-frame.ensures.ok)
-    (built-rings c.args.g.now c.args.lists.now c.in_ok-tails.tails.items c.loop-v.nodes c.loop-v.rings.items c.vertex_count.ensures.limits c.requires c.in_ok-tails.ensures
+    (built-rings c.args.g.now c.args.lists.now c.in_ok-tails.tails.items c.loop-v.nodes c.loop-v.rings.items c.vertex_count.ensures.graph c.vertex_count.ensures.limits c.requires c.in_ok-tails.ensures
     (subst (λ (v : ℕ). AreBuilt c.args.g.now c.args.lists.now c.in_ok-tails.tails.items c.loop-v.nodes c.loop-v.rings.items v) (omega (arith, c.loop-v-test.false, c.loop-v.auto.v-end, c.vertex_count-v-end.ensures.value)) c.loop-v.invariant.built))
 
 pub returns-clause-orders : goal.returns-clause-orders
