@@ -41,10 +41,3 @@ with-is x y v = elim (cases_lt v y) [
   where
     kept : (u : ℕ) → (u ≡ y → ⊥) → contracted_vertex x y u ≡ without_number y u
     kept u n = ap (λ (b : Bool). without_number y (if b then x else u)) (false_from_ne_true (u == y) (λ t. n (eqb-true u y t)))
-
--- branch vertices are less than 20,000
-pub branch-less : (level : Level) → IsLevel level → (kind : Pattern) (branch : List ℕ) (paths : List (List ℕ)) → IsSubdivision (contraction level) kind branch paths → (i : ℕ) → slice_index branch i < 20000
-branch-less level k kind branch paths s i = elim (cases_lt i (length branch)) [
-  | inl a ↦ omega (arith, s.branch_in i (omega (arith, a, s.branches)), is-less level k)
-  | inr a ↦ omega (arith, get_or_past branch i 0 a)
-]
