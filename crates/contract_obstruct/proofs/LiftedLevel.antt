@@ -1,10 +1,7 @@
 -- The contraction of a level, as the lemmas on lifting want it.
-use Rattle.std.proofs.Common.{◌≡◌, ℕ, ◌+◌, ◌-◌, ◌<◌, ◌≤◌, ◌==◌, inl, inr, Bool, false, nat_lt, if◌then◌else◌, List, length, slice_index, ap, ◌∙◌, arith}
+use Rattle.std.proofs.Common.{◌≡◌, ℕ, ◌+◌, ◌-◌, ◌<◌, ◌≤◌, ◌==◌, inl, inr, Bool, false, nat_lt, if◌then◌else◌, ap, ◌∙◌, arith}
 use Rattle.std.proofs.lemmas.Bool.{cases_lt, lt-ltb, eqb-true, false_from_ne_true, ltb-true}
-use Rattle.std.proofs.lemmas.List.{get_or_past}
 use Rattle.contractions.specs.Contracted.{contracted_vertex, without_number}
-use Rattle.kuratowski.specs.declared.subdivision.Pattern.{Pattern}
-use Rattle.kuratowski.specs.Subdivision.{IsSubdivision}
 use Rattle.contractions.specs.Level.{IsLevel, contraction}
 use Rattle.contract_obstruct.specs.Lifting.{with_number}
 use Rattle.contractions.specs.declared.level.Level.{Level}
