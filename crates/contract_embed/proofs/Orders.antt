@@ -24,24 +24,6 @@ listed-push f k x l e h y = (length-append l (x ∷ []) ∙ ap (λ n. n + 1) e, 
       | inr n ↦ get_or-append l (x ∷ []) 0 d (omega (arith, e)) ∙ h d (omega arith)
     ]
 
--- one entry more
-pub orders-push : (s : List (List ℕ)) (k : ℕ) (entries : List (ℕ × List ℕ)) (edges : List ℕ) → AreOrdersBelow s k entries → edges ≡ order_at s k → AreOrdersBelow s (k + 1) (entries ++ (k, edges) ∷ [])
-orders-push s k entries edges a e = record {
-  each = length-append entries ((k, edges) ∷ []) ∙ ap (λ n. n + 1) a.each;
-  vertex = λ v l. elim (cases_eq v k) [
-    | inl q ↦ ap (λ (p : ℕ × List ℕ). p.0) (ap (entry (entries ++ (k, edges) ∷ [])) (q ∙ sym a.each) ∙ get_or-append_seam entries (k, edges) [] (0, [])) ∙ sym q
-    | inr n ↦ ap (λ (p : ℕ × List ℕ). p.0) (get_or-append entries ((k, edges) ∷ []) (0, []) v (omega (arith, a.each))) ∙ a.vertex v (omega arith)
-  ];
-  order = λ v l. elim (cases_eq v k) [
-    | inl q ↦ ap (λ (p : ℕ × List ℕ). p.1) (ap (entry (entries ++ (k, edges) ∷ [])) (q ∙ sym a.each) ∙ get_or-append_seam entries (k, edges) [] (0, [])) ∙ (e ∙ ap (order_at s) (sym q))
-    | inr n ↦ ap (λ (p : ℕ × List ℕ). p.1) (get_or-append entries ((k, edges) ∷ []) (0, []) v (omega (arith, a.each))) ∙ a.order v (omega arith)
-  ];
-}
-
--- the next vertex is above those so far
-pub orders-above : (s : List (List ℕ)) (k : ℕ) (entries : List (ℕ × List ℕ)) → AreOrdersBelow s k entries → IsAbove entries k
-orders-above s k entries a l = omega (arith, a.vertex (length entries - 1) (omega (arith, a.each)), a.each)
-
 -- the list at the first entry for v
 list-found : (l : List (ℕ × List ℕ)) (v k : ℕ) → k < length l → ((i : ℕ) → i < k → (entry l i).0 ≢ v) → (entry l k).0 ≡ v → list_at l v ≡ (entry l k).1
 list-found [] v k l h e = absurd (omega arith)

@@ -1,10 +1,7 @@
 -- The contraction of a level, as the lemmas on lifting want it.
-use Rattle.std.proofs.Common.{◌≡◌, ℕ, ◌+◌, ◌-◌, ◌<◌, ◌≤◌, ◌==◌, inl, inr, Bool, false, nat_lt, if◌then◌else◌, List, length, slice_index, ap, ◌∙◌, arith}
+use Rattle.std.proofs.Common.{◌≡◌, ℕ, ◌+◌, ◌-◌, ◌<◌, ◌≤◌, ◌==◌, inl, inr, Bool, false, nat_lt, if◌then◌else◌, ap, ◌∙◌, arith}
 use Rattle.std.proofs.lemmas.Bool.{cases_lt, lt-ltb, eqb-true, false_from_ne_true, ltb-true}
-use Rattle.std.proofs.lemmas.List.{get_or_past}
 use Rattle.contractions.specs.Contracted.{contracted_vertex, without_number}
-use Rattle.kuratowski.specs.declared.subdivision.Pattern.{Pattern}
-use Rattle.kuratowski.specs.Subdivision.{IsSubdivision}
 use Rattle.contractions.specs.Level.{IsLevel, contraction}
 use Rattle.contract_obstruct.specs.Lifting.{with_number}
 use Rattle.contractions.specs.declared.level.Level.{Level}
@@ -41,10 +38,3 @@ with-is x y v = elim (cases_lt v y) [
   where
     kept : (u : ℕ) → (u ≡ y → ⊥) → contracted_vertex x y u ≡ without_number y u
     kept u n = ap (λ (b : Bool). without_number y (if b then x else u)) (false_from_ne_true (u == y) (λ t. n (eqb-true u y t)))
-
--- branch vertices are less than 20,000
-pub branch-less : (level : Level) → IsLevel level → (kind : Pattern) (branch : List ℕ) (paths : List (List ℕ)) → IsSubdivision (contraction level) kind branch paths → (i : ℕ) → slice_index branch i < 20000
-branch-less level k kind branch paths s i = elim (cases_lt i (length branch)) [
-  | inl a ↦ omega (arith, s.branch_in i (omega (arith, a, s.branches)), is-less level k)
-  | inr a ↦ omega (arith, get_or_past branch i 0 a)
-]

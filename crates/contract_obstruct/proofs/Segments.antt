@@ -1,17 +1,9 @@
 -- A list cut at places.
-use Rattle.std.proofs.Common.{◌≡◌, ℕ, suc, ◌+◌, ◌-◌, ◌<◌, ◌≤◌, List, ◌∷◌, ◌++◌, length, take, drop, get_or, sym, ap, ◌∙◌, append_assoc, arith}
+use Rattle.std.proofs.Common.{◌≡◌, ℕ, ◌+◌, ◌-◌, ◌≤◌, List, ◌++◌, length, drop, sym, ap, ◌∙◌, append_assoc, arith}
 use Rattle.std.proofs.lemmas.List.{take-append-drop, drop-drop, take_all, length-drop}
-use Rattle.std.proofs.Math.Seq.{drop-cons}
 use Rattle.permutations.specs.Cyclic.{IsTurn}
 use Rattle.permutations.proofs.CyclicSame.{IsTurn-trans}
 use Rattle.contract_obstruct.specs.Sectors.{segment}
-
--- a segment begins with its first member
-pub segment-first : (l : List ℕ) (i j : ℕ) → i < j → i < length l → get_or l i 0 ∷ segment l (i + 1) j ≡ segment l i j
-segment-first l i j p q =
-    let e : suc (j - (i + 1)) ≡ j - i = omega arith in
-    let f : i + 1 ≡ suc i = omega arith in
-    (ap (λ n. get_or l i 0 ∷ take (j - (i + 1)) (drop n l)) f ∙ ap (take (suc (j - (i + 1)))) (sym (drop-cons l i 0 q))) ∙ ap (λ n. take n (drop i l)) e
 
 -- the rest of a list is a segment and what comes behind
 rest-cut : (l : List ℕ) (i j : ℕ) → i ≤ j → drop i l ≡ segment l i j ++ drop j l

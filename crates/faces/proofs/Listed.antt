@@ -27,10 +27,6 @@ pub record ListedBelow (g : Multigraph) (f : ℕ → ℕ) (order : List ℕ) (k 
   pub marked : (x : ℕ) → is_marked marks x ≡ some k (λ i. reaches (dart_count g) f (get_or order i 0) x)
   pub listed : lists ≡ map (orbit_pairs g f) (filter (is_least g f) (take k order))
 
--- at first
-pub listed-none : (g : Multigraph) (f : ℕ → ℕ) (order : List ℕ) (marks : List Bool) → ((x : ℕ) → is_marked marks x ≡ false) → ListedBelow g f order 0 marks []
-listed-none g f order marks e = record { marked = e; listed = refl }
-
 -- a dart's image is marked exactly where it is
 pub listed-whole : (g : Multigraph) (f : ℕ → ℕ) (order : List ℕ) (v k : ℕ) (marks : List Bool) (lists : List (List (ℕ × ℕ))) → IsPermutationBelow (dart_count g) f → InOrder g v order → ListedBelow g f order k marks lists → k ≤ length order
     → (x : ℕ) → x < dart_count g → is_marked marks (f x) ≡ is_marked marks x
