@@ -4,21 +4,19 @@ use Rattle.std.proofs.lemmas.Bool.{cases_eq, or_cases, or_left, eq-eqb, eqb-true
 use Rattle.std.proofs.lemmas.List.{get_or_push, get_or_append_left, length_push}
 use Rattle.permutations.specs.Members.{is_member}
 use Rattle.permutations.proofs.Arrangements.{member-at, contains-from_member, member-from_contains}
-use Rattle.multigraph.specs.Graph.{Multigraph, edge_count, ends_of, is_end, IsGraph}
+use Rattle.multigraph.specs.Graph.{Multigraph, edge_count, is_end}
 use Rattle.multigraph.specs.Part.{Rises}
 use Rattle.multigraph.proofs.Below.{filter_below-has, filter_below-only, filter_below-at, filter_below-rises}
 use Rattle.graph_theory.specs.Path.{walk_vertices, IsPath}
 use Rattle.graph_theory.proofs.Walks.{walk-edge}
-use Rattle.pair_split.specs.Split.{piece_ends, item_at}
-use Rattle.pair_split.specs.Skeleton.{is_end_of}
-use Rattle.pair_split.specs.Tutte.{Node, components, node_at, node_item, has_in_group, group, IsTutte}
+use Rattle.pair_split.specs.Tutte.{Node, components, node_at, node_item, has_in_group, IsTutte}
 use Rattle.pair_split.specs.declared.components.Comp.{Comp}
 use Rattle.pair_split.specs.declared.components.What.{What}
 use Rattle.pair_split.specs.declared.components.Item.{Item}
 use Rattle.pair_split.proofs.Groups.{group-once, group-common}
 use Rattle.kuratowski.specs.Subdivision.{inner_vertices}
-use Rattle.skeletons.specs.Items.{ends_item, has_vertex, IsBlockTree}
-use Rattle.skeletons.specs.Families.{place_of, skeleton_graph}
+use Rattle.skeletons.specs.Items.{ends_item, IsBlockTree}
+use Rattle.skeletons.specs.Families.{skeleton_graph}
 use Rattle.skeletons.proofs.NodeItems.{piece-in, what-at, ends-at, group-item, item-edge, edge-end}
 use Rattle.skeleton_runs.specs.Laws.{PathThrough}
 use Rattle.skeleton_runs.proofs.Items.{met-edge_end}
@@ -28,20 +26,12 @@ use Rattle.skeleton_runs.proofs.SkeletonGraph.{skeleton-graph, graph-edges, edge
 use Rattle.block_obstruct.specs.Listing.{note_of}
 use Rattle.block_obstruct.specs.Towards.{item_in}
 use Rattle.block_obstruct.specs.Routes.{route_start, route_end, route_vertices, route_at, EndsRoute, AreRoutes}
-use Rattle.block_obstruct.specs.Groups.{IsInGroup, AreOwners, noted_with, AreParted, PathAlong, IsItemRoute, AreItemRoutes}
+use Rattle.block_obstruct.specs.Groups.{AreOwners, noted_with, AreParted, PathAlong, IsItemRoute, AreItemRoutes}
 use Rattle.block_obstruct.proofs.Lifted.{inside-met}
-
--- what an item has among the vertices of a node, where the two lists are read elsewhere
-pub member-of : (vertices others : List ℕ) (items pieces : List Item) (i : ℕ) (end : Item → ℕ) → vertices ≡ others → items ≡ pieces → is_member (end (item_in pieces i)) others ≡ true → is_member (end (item_in items i)) vertices ≡ true
-member-of vertices others items pieces i end p q m = subst (λ (z : List ℕ). is_member (end (item_in items i)) z ≡ true) (sym p) (subst (λ (z : List Item). is_member (end (item_in z i)) others ≡ true) (sym q) m)
 
 -- a path between the ends of an item, where the lists are read elsewhere
 pub path-of : (g : Multigraph) (edges others : List ℕ) (items pieces : List Item) (i : ℕ) → edges ≡ others → items ≡ pieces → PathAlong g others (item_in pieces i).a (item_in pieces i).b → PathAlong g edges (item_in items i).a (item_in items i).b
 path-of g edges others items pieces i p q w = subst (λ (z : List ℕ). PathAlong g z (item_in items i).a (item_in items i).b) (sym p) (subst (λ (z : List Item). PathAlong g others (item_in z i).a (item_in z i).b) (sym q) w)
-
--- no item yet
-pub routes-none : (g : Multigraph) (nodes : List Node) (k : ℕ) → AreItemRoutes g nodes k 0 []
-routes-none g nodes k = record { each = refl; routes_are = λ i l. absurd (omega (arith, l)) }
 
 -- the path of one item more
 pub routes-more : (g : Multigraph) (nodes : List Node) (k n : ℕ) (routes : List (List ℕ)) (along : List ℕ) → AreItemRoutes g nodes k n routes → IsItemRoute g nodes k n along → AreItemRoutes g nodes k (n + 1) (routes ++ along ∷ [])
@@ -70,10 +60,6 @@ module _ (g : Multigraph) (nodes : List Node) (b : IsBlockTree g nodes) (k : ℕ
 
   abbrev in_group : ℕ → ℕ → Type 0
   in_group i e = has_in_group comps k e (node_item nodes k i).what ≡ true
-
-  -- there are few vertices
-  pub vertices-few : length (node_at nodes k).vertices < 2 ^ 32
-  vertices-few = omega (arith, (skeleton-graph g nodes b k kl).few_vertices)
 
   -- there are few items
   pub items-few : count < 2 ^ 32

@@ -7,4 +7,3 @@ pub mod SearchSteps
 pub mod PartPaths
 pub mod ItemRoutes
 pub mod Loops
-pub mod NodePlaces

@@ -1,9 +1,8 @@
 -- Numbers on a list, each once: one more is put on it, and there are no more than marks.
 use Rattle.std.proofs.Common.{◌≡◌, ◌≢◌, ℕ, ◌<◌, ◌≤◌, inl, inr, Bool, true, false, List, [], ◌∷◌, ◌++◌, length, replicate, set, slice_index_or, refl, sym, ap, ◌∙◌, subst, arith, append-nil, append_assoc}
-use Rattle.std.proofs.lemmas.Bool.{cases_Bool, cases_eq, both_ways, true≢false, false_from_ne_true}
+use Rattle.std.proofs.lemmas.Bool.{cases_Bool, cases_eq, both_ways, true≢false}
 use Rattle.std.proofs.lemmas.List.{length-set, get_or-set_same, get_or-set_other, length-replicate, get_or-replicate}
-use Rattle.permutations.specs.Count.{count}
-use Rattle.permutations.specs.Members.{is_member, is_distinct}
+use Rattle.permutations.specs.Members.{is_member}
 use Rattle.permutations.proofs.Count.{count-within}
 use Rattle.permutations.proofs.Members.{member-head, member-cases, member-append_left, member-append_right, member-append_cases, no_member-cons, distinct-append}
 use Rattle.permutations.proofs.Arrangements.{count-list}
@@ -75,10 +74,6 @@ grows-more marks notes list x note a l h = record {
 
 pub held-more : (list : List ℕ) (x : ℕ) → is_member x (list ++ x ∷ []) ≡ true
 held-more = push-same
-
--- a number with a mark stands on the list
-pub held-marked : (marks : List Bool) (notes list : List ℕ) (x : ℕ) → AreListed marks notes list → x < length marks → slice_index_or marks x false ≡ true → is_member x list ≡ true
-held-marked marks notes list x a l h = sym (a.marked x l) ∙ h
 
 -- no number stands on the list at first
 pub listed-none : (n : ℕ) → AreListed (replicate n false) (replicate n 0) []

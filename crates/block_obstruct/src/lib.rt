@@ -4,7 +4,7 @@
 // for the edges on its far side (Tutte 1966). These edges, the group of the item, have a path between the item's ends, and two
 // groups share no vertices but common ends of their items. So a subdivision in the skeleton becomes one in the block when each of
 // its edges is replaced by such a path, its route. `lift` does so for any two graphs and any routes, and promises that the written
-// form is kept; `obstruct_block` finds the routes of a node, and `skeleton` makes its skeleton as a graph of its own.
+// form is kept; `obstruct_block` finds the routes of a node.
 //
 // The groups of all items are found in one pass: a search from the node through the links of the tree tells for each other node
 // which item leads there. A route is found by a search in the order of distance (Moore 1959) in the part of the block that a group
@@ -23,13 +23,11 @@
 mod groups;
 mod lifting;
 mod listing;
-mod node_graph;
 mod obstructing;
 mod search;
 mod towards;
 
 pub use lifting::lift;
-pub use node_graph::skeleton;
 pub use obstructing::obstruct_block;
 
 #[cfg(test)]

@@ -4,7 +4,7 @@ ghost use Rattle.std.specs.Prelude.{◌≡◌, IfOk};
 ghost use Rattle.graph_theory.specs.Block.{IsOneBlock};
 ghost use Rattle.skeletons.specs.Items.{IsBlockTree};
 
-use crate::{obstruct_block, skeleton};
+use crate::obstruct_block;
 use blocks::is_one_block;
 use kuratowski::{Pattern, Subdivision, check};
 use multigraph::{Graph, NumberLists, Numbers};
@@ -169,7 +169,7 @@ fn is_carried(alloc: Global, row: &Row) -> Result<bool, Fail> {
     if tree.node_count() == 0 || tree.kind(0) != Kind::R {
         return Err(Fail::from("no triconnected node"));
     }
-    let inner = skeleton(alloc, &tree, 0)?;
+    let inner = tree.skeleton(alloc, 0)?;
     let s = certificate(alloc, row)?;
     if !check(alloc, &inner, &s)? {
         return Err(Fail::from("no certificate"));

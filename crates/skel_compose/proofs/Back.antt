@@ -6,7 +6,7 @@ use Rattle.permutations.proofs.Search.{some-from, least-passes, least-first, lea
 use Rattle.multigraph.specs.Graph.{Multigraph, edge_count, is_end}
 use Rattle.multigraph.specs.Part.{Rises}
 use Rattle.pair_split.specs.Split.{side, LinksTo, IsSplit}
-use Rattle.pair_split.specs.Tutte.{Node, components, node_at, node_item, key_of, has_in_group, group, IsTutte}
+use Rattle.pair_split.specs.Tutte.{Node, components, node_at, node_item, key_of, has_in_group, IsTutte}
 use Rattle.pair_split.specs.declared.components.Comp.{Comp}
 use Rattle.pair_split.specs.declared.components.Item.{Item}
 use Rattle.pair_split.specs.declared.components.What.{What}

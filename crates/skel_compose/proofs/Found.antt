@@ -1,55 +1,25 @@
--- Places found by binary search, and the homes of edges.
-use Rattle.std.proofs.Common.{◌≡◌, ◌≢◌, ℕ, ◌+◌, ◌<◌, ◌≤◌, inl, inr, true, List, [], length, get_or, slice_index, slice_set, map, None, Ok, Err, refl, sym, ap, ap₂, ◌∙◌, subst, arith}
-use Rattle.std.specs.List.Sorted.{IsBinarySearchResult}
-use Rattle.std.specs.Ordering.{nat_cmp}
+-- Items found by binary search, and the homes of edges.
+use Rattle.std.proofs.Common.{◌≡◌, ℕ, ◌+◌, ◌<◌, ◌≤◌, inl, inr, true, List, [], length, get_or, slice_set, map, sym, ap, ap₂, ◌∙◌, subst, arith}
 use Rattle.std.proofs.lemmas.Bool.{cases_eq, cases_lt}
-use Rattle.std.proofs.lemmas.List.Sorted.{searched}
 use Rattle.std.proofs.lemmas.List.{get_or_default, get_or-set_same, get_or-set_other, length-set}
 use Rattle.permutations.specs.Members.{is_member}
-use Rattle.multigraph.specs.Part.{Rises, IsPlace}
-use Rattle.multigraph.proofs.Places.{rises-once, place-missed}
-use Rattle.multigraph.specs.Graph.{Multigraph, edge_count, max_edges, IsGraph}
+use Rattle.multigraph.specs.Part.{Rises}
+use Rattle.multigraph.specs.Graph.{Multigraph, edge_count, max_edges}
 use Rattle.rotations.specs.Rotation.{order_at}
 use Rattle.faces.proofs.MapLists.{successor-map}
 use Rattle.pair_split.proofs.Links.{stands-in}
 use Rattle.permutations.specs.Cyclic.{successor}
 use Rattle.permutations.proofs.Successor.{successor-member}
-use Rattle.skeletons.proofs.Places.{place-below, place-holds}
-use Rattle.multigraph.specs.Build.{IsFirstFault}
-use Rattle.multigraph.specs.declared.faults.BuildFault.{BuildFault}
-use Rattle.multigraph.specs.declared.faults.BuildFault.TheVariants.{TooManyVertices, TooManyEdges, EndOut, Loop, Memory}
 use Rattle.pair_split.specs.Tutte.{Node, components, node_at, node_item, IsTutte}
 use Rattle.pair_split.specs.declared.components.Item.{Item}
 use Rattle.pair_split.specs.declared.components.What.TheVariants.{Real}
 use Rattle.skeletons.specs.Items.{item_key, ends_item, has_vertex, IsBlockTree}
-use Rattle.skeletons.specs.Families.{place_of, skeleton_graph, system_at, AreSkeletonSystems, keys_in}
+use Rattle.skeletons.specs.Families.{place_of, system_at, AreSkeletonSystems, keys_in}
 use Rattle.skeletons.proofs.NodeItems.{nth_item, node-in, stands-of, item-of, keys-once, item-vertex}
 use Rattle.skeletons.proofs.Places.{round-item, item-round}
-use Rattle.skeleton_runs.proofs.NodeFits.{item-first, item-second}
 use Rattle.skeleton_runs.proofs.SkeletonGraph.{skeleton-graph, graph-edges}
 use Rattle.skel_compose.specs.Homes.{home_at, IsHome, HasHomes}
 use Rattle.skel_compose.proofs.Back.{items-rise}
-
--- what stands at a place of a rising list has it
-pub place-found : (l : List ℕ) (x i : ℕ) → Rises l → is_member x l ≡ true → i < length l → get_or l i 0 ≡ x → i ≡ place_of l x
-place-found l x i r m h e = rises-once l r i (place_of l x) h (place-below l x m) (e ∙ sym (place-holds l x m))
-
--- along a rising list no number falls
-rises-weak : (l : List ℕ) → Rises l → (i j : ℕ) → i ≤ j → j < length l → get_or l i 0 ≤ get_or l j 0
-rises-weak l r i j le lt = elim (cases_eq i j) [
-  | inl e ↦ omega (arith, ap (λ (k : ℕ). get_or l k 0) e)
-  | inr n ↦ omega (arith, r i j (omega (arith, le, n)) lt)
-]
-
--- a search that ends at the number
-pub place-there : (l : List ℕ) (x i : ℕ) → Rises l → is_member x l ≡ true → IsBinarySearchResult (λ y. nat_cmp y x) l (Ok i) → i ≡ place_of l x
-place-there l x i r m h = let s = searched l x (Ok i) h (rises-weak l r) in place-found l x i r m s.0 s.1
-
--- a member is found
-pub place-not_missed : (l : List ℕ) (x i : ℕ) → Rises l → is_member x l ≡ true → IsBinarySearchResult (λ y. nat_cmp y x) l (Err i) → ⊥
-place-not_missed l x i r m h =
-    let p : IsPlace l x None = place-missed l x i r h in
-    p.none.0 refl (place_of l x) (place-below l x m) (place-holds l x m)
 
 -- the narrowing of a search by key, to the left and to the right
 module _ (items : List Item) (key low high mid : ℕ) (r : Rises (map item_key items)) (fits : high ≤ length items) (between : (i : ℕ) → i < length items → (nth_item items i).key ≡ key → (low ≤ i) × (i < high)) where
@@ -82,37 +52,14 @@ module _ (items : List Item) (key low high mid : ℕ) (r : Rises (map item_key i
     ),
   )
 
--- a graph is built without fault
-pub no-fault : (g : Multigraph) → IsGraph g → (f : BuildFault) → IsFirstFault g f → f ≢ Memory → ⊥
-no-fault g ok (TooManyVertices n) h m = omega (arith, h.0, h.1, ok.few_vertices)
-no-fault g ok (TooManyEdges n) h m = omega (arith, h.0, h.1, ok.few_edges)
-no-fault g ok (EndOut e) h m = elim h.1 [
-  | inl l ↦ omega (arith, l, ok.first_in e h.0.is_edge)
-  | inr l ↦ omega (arith, l, ok.second_in e h.0.is_edge)
-]
-no-fault g ok (Loop e) h m = ok.no_loop e h.0.is_edge h.1.1
-no-fault g ok Memory h m = m refl
-
 -- an item as it is read from its list
 pub is-home : (nodes : List Node) (k i e : ℕ) (items : List Item) → items ≡ (node_at nodes k).items → i < length items → (nth_item items i).what ≡ Real e → IsHome nodes k i e
 is-home nodes k i e items q l w = record { is_item = subst (λ (z : List Item). i < length z) q l; is_edge = sym (ap (λ (z : List Item). (nth_item z i).what) q) ∙ w }
 
 module _ (g : Multigraph) (nodes : List Node) (b : IsBlockTree g nodes) (k : ℕ) (d : k < length nodes) where
-  -- the items and the vertices of a node are few
+  -- the items of a node are few
   pub items-few : length (node_at nodes k).items ≤ max_edges
   items-few = subst (λ n. n ≤ max_edges) (graph-edges g nodes b k d) (skeleton-graph g nodes b k d).few_edges
-
-  pub vertices-few : length (node_at nodes k).vertices ≤ 20000
-  vertices-few = (skeleton-graph g nodes b k d).few_vertices
-
-  -- the ends of an item are among the vertices
-  pub ends-held : (items : List Item) (vertices : List ℕ) (i : ℕ) → items ≡ (node_at nodes k).items → vertices ≡ (node_at nodes k).vertices → i < length items
-      → (is_member (nth_item items i).a vertices ≡ true) × (is_member (nth_item items i).b vertices ≡ true)
-  ends-held items vertices i e q l =
-      let m : i < length (node_at nodes k).items = subst (λ (z : List Item). i < length z) e l in (
-        ap₂ (λ (z : List Item) (u : List ℕ). is_member (nth_item z i).a u) e q ∙ item-first g nodes b.tree k i d m,
-        ap₂ (λ (z : List Item) (u : List ℕ). is_member (nth_item z i).b u) e q ∙ item-second g nodes b.tree k i d m,
-      )
 
   module _ (family : List (List (List ℕ))) (f : AreSkeletonSystems nodes family) (v i : ℕ) (l : i < length (node_at nodes k).items) (end : ends_item v (node_item nodes k i) ≡ true) where
     abbrev order : List ℕ
@@ -122,9 +69,9 @@ module _ (g : Multigraph) (nodes : List Node) (b : IsBlockTree g nodes) (k : ℕ
     has = item-vertex g nodes b.tree k v i d l end
 
     -- the order of the member at the place that was found
-    pub order-is : (member : List (List ℕ)) (vertices : List ℕ) (p : ℕ) → member ≡ get_or family k member → vertices ≡ (node_at nodes k).vertices → p ≡ place_of vertices v
+    pub order-is : (member : List (List ℕ)) (p : ℕ) → member ≡ get_or family k member → p ≡ place_of (node_at nodes k).vertices v
         → order_at member p ≡ order_at (system_at family k) (place_of (node_at nodes k).vertices v)
-    order-is member vertices p e q h = ap₂ order_at (e ∙ get_or_default family k member [] (subst (λ n. k < n) (sym f.each) d)) (h ∙ ap (λ (z : List ℕ). place_of z v) q)
+    order-is member p e h = ap₂ order_at (e ∙ get_or_default family k member [] (subst (λ n. k < n) (sym f.each) d)) h
 
     -- has the item
     pub order-has : is_member i (order_at (system_at family k) (place_of (node_at nodes k).vertices v)) ≡ true

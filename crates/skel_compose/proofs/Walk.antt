@@ -1,5 +1,5 @@
 -- The walk in the tree from an edge to the one that follows it round a vertex.
-use Rattle.std.proofs.Common.{◌≡◌, ◌≢◌, ℕ, ◌+◌, ◌<◌, inl, inr, Bool, true, false, List, length, refl, sym, ap, ◌∙◌, subst, arith, eq-eqb, eqb-true}
+use Rattle.std.proofs.Common.{◌≡◌, ◌≢◌, ℕ, ◌+◌, ◌<◌, inl, inr, true, false, List, length, refl, sym, ap, ◌∙◌, subst, arith, eqb-true}
 use Rattle.std.proofs.lemmas.Bool.{cases_eq, both_ways, false_from_ne_true, not_from_false, not_from_true}
 use Rattle.permutations.specs.Count.{count}
 use Rattle.permutations.specs.Members.{is_member, is_distinct}
@@ -15,16 +15,15 @@ use Rattle.faces.proofs.DartLemmas.{order-distinct}
 use Rattle.pair_split.specs.Split.{piece_ends, item_at, is_beyond, side, LinksTo, StandsFor, IsSplit, AreLinked}
 use Rattle.pair_split.specs.Tutte.{Node, components, node_at, node_item, has_in_group, group, IsTutte}
 use Rattle.pair_split.specs.declared.components.Comp.{Comp}
-use Rattle.pair_split.specs.declared.components.What.{What}
 use Rattle.pair_split.specs.declared.components.What.TheVariants.{Real, Link}
 use Rattle.pair_split.proofs.Groups.{same-end, side-other, in_group-real}
 use Rattle.pair_split.proofs.Subtrees.{link-in}
 use Rattle.pair_split.proofs.TreeSides.{beyond-near, beyond-far}
-use Rattle.skeletons.specs.Items.{ends_item, keys_at, has_vertex, IsBlockTree}
+use Rattle.skeletons.specs.Items.{ends_item, has_vertex, IsBlockTree}
 use Rattle.skeletons.specs.Families.{system_at, AreSkeletonSystems, keys_in, FollowsFamily}
 use Rattle.skeletons.proofs.KeyRuns.{order-successor}
 use Rattle.skeletons.proofs.NodeItems.{number, comp-in, node-in, stands-of, ends-at, keys-once, group-is, group-item, item-vertex, edge-end, group-at, key-edge}
-use Rattle.skeletons.proofs.Places.{keys-round_once, keys-round_members}
+use Rattle.skeletons.proofs.Places.{keys-round_members}
 use Rattle.skeletons.proofs.Towards.{count-less, side-group, group-side, link-vertex, beyond-falls}
 use Rattle.skeleton_planes.proofs.Complements.{follows-itself}
 

@@ -27,7 +27,8 @@ fn edges_round(
     requires systems { AreSkeletonSystems tree.now members.now }
     requires homes { HasHomes g.now tree.now (length tree.now) 0 homes.now }
     requires vertex { v < g.now.vertex_count }
-    ensures { IfOk result (λ edges. (r : List (List ℕ)) → IsRotationSystem g.now r → FollowsFamily tree.now members.now r → edges.items ≡ order_at r v) }
+    ensures { IfOk result (λ edges. (r : List (List ℕ)) → IsRotationSystem g.now r
+        → FollowsFamily tree.now members.now r → edges.items ≡ order_at r v) }
 {
     let mut edges = Vec::with_capacity(alloc, g.degree(v) as usize)?;
     let mut e = g.incident(v)[0];
@@ -42,7 +43,8 @@ fn edges_round(
 fn orders(alloc: Global, g: &Graph, tree: &Tree, members: &[Rotation]) -> Result<Lists, AllocError>
     requires block { IsBlockTree g.now tree.now }
     requires systems { AreSkeletonSystems tree.now members.now }
-    ensures { IfOk result (λ lists. (r : List (List ℕ)) → IsRotationSystem g.now r → FollowsFamily tree.now members.now r → lists ≡ orders_below r g.now.vertex_count) }
+    ensures { IfOk result (λ lists. (r : List (List ℕ)) → IsRotationSystem g.now r
+        → FollowsFamily tree.now members.now r → lists ≡ orders_below r g.now.vertex_count) }
 {
     let homes = homes_of(alloc, g, tree)?;
     let mut lists = Lists::new(alloc);

@@ -6,9 +6,9 @@
 // run beyond it. The run of the link back, as the node beyond sees it, ends where that run begins, so there the item behind the
 // link back is the next to be looked at. The walk goes straight to the node of the edge that it finds.
 //
-// `compose` gives the one rotation system that follows a family, and fails for want of memory alone; `skeleton` gives the
-// skeleton of a node as a graph of its own. Nothing is spliced, and nothing recurses. All walks together pass each link at most
-// twice at each of its ends, and each step takes a binary search in a node.
+// `compose` gives the one rotation system that follows a family, and fails for want of memory alone. Nothing is spliced, and
+// nothing recurses. All walks together pass each link at most twice at each of its ends, and each step takes a binary search in
+// a node.
 //
 // The lemmas (module of proofs/ in front):
 //   Back     back-key: the key of the link back is the first key of the node, but that of the link itself
@@ -17,10 +17,8 @@
 #![tactic(auto)]
 
 mod composing;
-mod graphs;
 mod homes;
 mod searching;
 mod walking;
 
 pub use composing::compose;
-pub use graphs::skeleton;

@@ -1,26 +1,11 @@
-// Places in rising lists, by binary search.
+// An item by its key, by binary search.
 
-ghost use Rattle.std.specs.Prelude.{◌≡◌, ◌<◌, ◌^◌, ℕ, true, length, map};
-ghost use Rattle.permutations.specs.Members.{is_member};
+ghost use Rattle.std.specs.Prelude.{◌≡◌, ◌<◌, ◌^◌, ℕ, length, map};
 ghost use Rattle.multigraph.specs.Part.{Rises};
 ghost use Rattle.skeletons.specs.Items.{item_key};
-ghost use Rattle.skeletons.specs.Families.{place_of};
 ghost use Rattle.skeletons.proofs.NodeItems.{nth_item};
 
 use pair_split::Item;
-
-// The place of a member of a rising list.
-pub(crate) fn place_of(list: &[u32], x: u32) -> u32
-    requires rising { Rises list.now }
-    requires few { length list.now < 2 ^ 32 }
-    requires held { is_member x list.now ≡ true }
-    ensures { result ≡ place_of list.now x }
-{
-    match list.binary_search(&x) {
-        Ok(i) => i as u32,
-        Err(_) => unreachable!(),
-    }
-}
 
 // The place of the item with this key among items whose keys rise.
 pub(crate) fn item_with_key(items: &[Item], key: u32) -> u32

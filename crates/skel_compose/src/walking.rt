@@ -10,7 +10,7 @@ ghost use Rattle.skeletons.specs.Items.{ends_item, IsBlockTree};
 ghost use Rattle.skeletons.specs.Families.{AreSkeletonSystems, keys_in, FollowsFamily};
 ghost use Rattle.skel_compose.specs.Homes.{HasHomes};
 
-use crate::searching::{item_with_key, place_of};
+use crate::searching::item_with_key;
 use multigraph::Graph;
 use pair_split::What;
 use rotations::Rotation;
@@ -25,10 +25,10 @@ fn item_behind(tree: &Tree, members: &[Rotation], k: u32, i: u32, v: u32) -> u32
     requires end { ends_item v (node_item tree.now k i) ≡ true }
     ensures item { result < length (node_at tree.now k).items }
     ensures end { ends_item v (node_item tree.now k result) ≡ true }
-    ensures key { (node_item tree.now k result).key ≡ successor (keys_in tree.now members.now k v) (node_item tree.now k i).key }
+    ensures key { (node_item tree.now k result).key
+        ≡ successor (keys_in tree.now members.now k v) (node_item tree.now k i).key }
 {
-    let place = place_of(tree.vertices(k), v);
-    members[k as usize].succ(place, i)
+    members[k as usize].succ(tree.place(k, v), i)
 }
 
 // The item of node j that is the link back to node k, where item i of node k is the link to j.
@@ -59,7 +59,8 @@ pub(crate) fn edge_behind(
     requires homes { HasHomes g.now tree.now (length tree.now) 0 homes.now }
     requires edge { e < edge_count g.now }
     requires end { is_end g.now v e ≡ true }
-    ensures { (r : List (List ℕ)) → IsRotationSystem g.now r → FollowsFamily tree.now members.now r → result ≡ successor (order_at r v) e }
+    ensures { (r : List (List ℕ)) → IsRotationSystem g.now r → FollowsFamily tree.now members.now r
+        → result ≡ successor (order_at r v) e }
 {
     let (mut k, mut i) = homes[e as usize];
     for _links in 0..tree.node_count() {

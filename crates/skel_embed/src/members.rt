@@ -11,7 +11,6 @@ use multigraph::Graph;
 use pair_split::Kind;
 use planarity::{Embedded, Embedder};
 use rotations::Rotation;
-use skel_compose::skeleton;
 use spqr_tree::Tree;
 use std::alloc::{AllocError, Global};
 
@@ -40,7 +39,7 @@ fn member_of<E: Embedder>(
     requires block { (g : Multigraph) × IsBlockTree g tree.now }
     ensures { IfOk result (IsMember tree.now k) }
 {
-    let graph = skeleton(alloc, tree, k)?;
+    let graph = tree.skeleton(alloc, k)?;
     if tree.kind(k) != Kind::R {
         return Ok(Member::Plane(fan(alloc, &graph)?));
     }

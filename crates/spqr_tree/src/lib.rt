@@ -9,6 +9,7 @@ pub mod laws;
 mod lists;
 mod naming;
 mod ranking;
+mod skeleton;
 #[cfg(test)]
 mod tests;
 mod tour;
