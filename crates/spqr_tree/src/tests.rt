@@ -112,7 +112,7 @@ type TreeRow = (
     &'static [&'static [u32]],
 );
 
-static TREES: [TreeRow; 5] = [
+static TREES: [TreeRow; 7] = [
     (2, "01", &["B 0 1 | 0:0-1"], &[&[0]]),
     // a cycle of four edges, which is one polygon; a chord makes two triangles and a bond of it
     (
@@ -154,6 +154,40 @@ static TREES: [TreeRow; 5] = [
             &[0, 1, 1, 1, 1, 1, 6, 6, 6, 6, 6],
             &[0, 1, 2, 3, 4, 5, 0, 0, 0, 0, 0],
             &[0, 0, 0, 0, 0, 0, 6, 7, 8, 9, 10],
+        ],
+    ),
+    // a triconnected graph, a bundle and a triangle beside it, and a bundle beside the triangle; rooted at the first
+    (
+        5,
+        "01 02 03 14 13 23 42 02 42",
+        &[
+            "R 0 1 2 3 | 0:0-1 1:0-2@1 2:0-3 3:1-2@2 4:1-3 5:2-3",
+            "P 0 2 | 0:0-2@0 1:0-2 7:0-2",
+            "S 1 2 4 | 0:1-2@0 3:1-4 6:2-4@3",
+            "P 2 4 | 0:2-4@2 6:2-4 8:2-4",
+        ],
+        &[
+            &[0, 1, 2, 3, 4, 5, 3, 1, 3],
+            &[0, 1, 0, 0, 0, 0, 0, 7, 0],
+            &[0, 0, 0, 3, 0, 0, 6, 0, 6],
+            &[0, 0, 0, 0, 0, 0, 6, 0, 8],
+        ],
+    ),
+    // the same, rooted at the last
+    (
+        5,
+        "42 01 02 03 14 13 23 42 02",
+        &[
+            "R 0 1 2 3 | 0:1-2@2 1:0-1 2:0-2@1 3:0-3 5:1-3 6:2-3",
+            "P 0 2 | 0:0-2@0 2:0-2 8:0-2",
+            "S 1 2 4 | 0:2-4@3 1:1-2@0 4:1-4",
+            "P 2 4 | 0:2-4 1:2-4@2 7:2-4",
+        ],
+        &[
+            &[0, 1, 2, 3, 0, 5, 6, 0, 2],
+            &[0, 0, 2, 0, 0, 0, 0, 0, 8],
+            &[0, 1, 1, 1, 4, 1, 1, 0, 1],
+            &[0, 1, 1, 1, 1, 1, 1, 7, 1],
         ],
     ),
 ];
@@ -203,11 +237,13 @@ fn assembles_trees(rt: HostRuntime) -> Result<(), Fail> {
         let tree = Tree::assemble(rt.alloc(), &graph, comps)?;
         let copy = tree.copy(rt.alloc())?;
         assert_eq!(rt; tree.node_count() as usize, nodes.len());
+        assert_eq!(rt; copy.node_count() as usize, nodes.len());
         for k in 0..tree.node_count() {
             let node = nodes.get(k as usize).copied().unwrap_or("");
             let keys = groups.get(k as usize).copied().unwrap_or(&[]);
             assert_eq!(rt; node_text(rt.alloc(), &tree, k)?.as_str(), node);
             assert_eq!(rt; node_text(rt.alloc(), &copy, k)?.as_str(), node);
+            assert_eq!(rt; copy.items(k), tree.items(k));
             assert_eq!(rt; groups_at(rt.alloc(), &graph, &tree, k)?.as_slice(), keys);
             assert_eq!(rt; groups_at(rt.alloc(), &graph, &copy, k)?.as_slice(), keys);
         }
