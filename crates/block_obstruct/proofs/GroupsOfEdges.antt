@@ -1,14 +1,13 @@
 -- The groups of the edges, noted node by node, and the edges by their notes.
-use Rattle.std.proofs.Common.{◌≡◌, ◌≢◌, ℕ, ◌+◌, ◌<◌, ◌⊎◌, ◌==◌, inl, inr, true, List, [], ◌∷◌, ◌++◌, length, replicate, set, filter, get_or, slice_index_or, refl, sym, ap, ◌∙◌, subst, arith}
+use Rattle.std.proofs.Common.{◌≡◌, ℕ, ◌+◌, ◌<◌, ◌⊎◌, ◌==◌, inl, inr, List, [], ◌∷◌, ◌++◌, length, replicate, set, get_or, refl, sym, ap, ◌∙◌, subst, arith}
 use Rattle.std.proofs.lemmas.Bool.{cases_eq, eq-eqb, ne_eqb}
 use Rattle.std.proofs.lemmas.List.{length-set, get_or-set_same, get_or-set_other, length-replicate, get_or-replicate}
-use Rattle.multigraph.specs.Graph.{Multigraph, edge_count, numbers_below}
+use Rattle.multigraph.specs.Graph.{Multigraph, edge_count}
 use Rattle.multigraph.proofs.Below.{filter_below-yes, filter_below-no}
-use Rattle.pair_split.specs.Split.{StandsFor, side}
 use Rattle.pair_split.specs.Tutte.{Node, components, node_at, node_item, has_in_group, IsTutte}
 use Rattle.pair_split.specs.declared.components.Comp.{Comp}
 use Rattle.pair_split.specs.declared.components.What.{What}
-use Rattle.pair_split.specs.declared.components.What.TheVariants.{Real, Link}
+use Rattle.pair_split.specs.declared.components.What.TheVariants.{Real}
 use Rattle.pair_split.proofs.Groups.{side-at, in_group-link}
 use Rattle.pair_split.proofs.Links.{stands-in}
 use Rattle.skeletons.proofs.NodeItems.{node-in, stands-of, item-of}

@@ -1,5 +1,5 @@
 -- The states of the loops over the items of a node and over the edges at a vertex, step by step.
-use Rattle.std.proofs.Common.{◌≡◌, ◌≢◌, ℕ, ◌+◌, ◌<◌, ◌≤◌, ◌⊎◌, inl, inr, Bool, true, false, List, [], length, set, slice_index_or, refl, sym, ap, ◌∙◌, subst, arith}
+use Rattle.std.proofs.Common.{◌≡◌, ◌≢◌, ℕ, ◌+◌, ◌<◌, ◌⊎◌, inl, inr, Bool, true, false, List, length, set, refl, sym, ap, ◌∙◌, subst, arith}
 use Rattle.std.proofs.lemmas.Bool.{cases_eq}
 use Rattle.std.proofs.lemmas.List.{length-set, get_or-set_same, get_or-set_other}
 use Rattle.permutations.specs.Members.{is_member}
@@ -7,7 +7,7 @@ use Rattle.pair_split.specs.declared.components.Item.{Item}
 use Rattle.pair_split.specs.declared.components.What.{What}
 use Rattle.pair_split.specs.declared.components.What.TheVariants.{Real, Link}
 use Rattle.block_obstruct.specs.Listing.{note_of, AreListed, Grows}
-use Rattle.block_obstruct.specs.Towards.{item_in, HaveItem, IsItem}
+use Rattle.block_obstruct.specs.Towards.{item_in, HaveItem}
 use Rattle.block_obstruct.proofs.Listed.{grows-none, grows-member, grows-next}
 
 -- the number of an edge or a link

@@ -1,15 +1,15 @@
 -- The search from the root: what it has noted, that it reaches what is connected with the root, and the way back.
-use Rattle.std.proofs.Common.{◌≡◌, ◌≢◌, ℕ, zero, suc, ◌+◌, ◌<◌, ◌≤◌, inl, inr, Bool, true, false, List, [], ◌∷◌, ◌++◌, length, slice_index_or, refl, sym, ap, ◌∙◌, subst, arith, Contains}
-use Rattle.std.proofs.lemmas.Bool.{cases_Bool, cases_eq, cases_lt, both_ways, true≢false, false_from_ne_true}
-use Rattle.std.proofs.lemmas.List.{get_or_append_left, get_or_default, length-append}
+use Rattle.std.proofs.Common.{◌≡◌, ◌≢◌, ℕ, ◌+◌, ◌<◌, ◌≤◌, inl, inr, Bool, true, false, List, [], ◌∷◌, ◌++◌, length, slice_index_or, refl, sym, ap, ◌∙◌, subst, arith, Contains}
+use Rattle.std.proofs.lemmas.Bool.{cases_eq, cases_lt, true≢false, false_from_ne_true}
+use Rattle.std.proofs.lemmas.List.{get_or_default, length-append}
 use Rattle.permutations.specs.Members.{is_member, is_distinct}
 use Rattle.permutations.specs.Relation.{connected}
-use Rattle.permutations.proofs.Members.{member-head, member-cases, member-append_cases, no_member-cons, distinct-append}
+use Rattle.permutations.proofs.Members.{member-cases, member-append_cases, no_member-cons, distinct-append}
 use Rattle.permutations.proofs.Arrangements.{member-at}
 use Rattle.permutations.proofs.Relation.{same-tests, connected-closed}
 use Rattle.multigraph.specs.Graph.{Multigraph, edge_count, ends_of, is_end, other_end, IsGraph}
 use Rattle.multigraph.proofs.OtherEnd.{is_end-first, is_end-second, other_end-of_first, other_end-of_second, other_end-is_end, other_end-twice}
-use Rattle.graph_theory.specs.Path.{walk_end, walk_starts, walk_vertices, IsWalk, IsPath}
+use Rattle.graph_theory.specs.Path.{walk_starts, IsWalk, IsPath}
 use Rattle.graph_theory.proofs.Walks.{end-append, starts-append, walk-append}
 use Rattle.kuratowski.proofs.Checked.{distinct-places}
 use Rattle.pair_split.proofs.GraphFamily.{all-from_contained}

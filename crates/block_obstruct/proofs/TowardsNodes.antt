@@ -1,20 +1,18 @@
 -- The search from a node through the links: what it has noted, and that it reaches each node.
-use Rattle.std.proofs.Common.{◌≡◌, ◌≢◌, ℕ, ◌+◌, ◌<◌, ◌≤◌, ◌||◌, ◌==◌, inl, inr, Bool, true, false, List, [], ◌∷◌, ◌++◌, length, slice_index_or, refl, sym, ap, ◌∙◌, subst, arith, Contains}
-use Rattle.std.proofs.lemmas.Bool.{cases_Bool, cases_eq, cases_lt, both_ways, or_cases, or_left, or_right, eq-eqb, eqb-true}
+use Rattle.std.proofs.Common.{◌≡◌, ◌≢◌, ℕ, ◌+◌, ◌<◌, ◌≤◌, ◌||◌, ◌==◌, inl, inr, Bool, true, List, [], length, slice_index_or, refl, sym, ap, ◌∙◌, subst, arith, Contains}
+use Rattle.std.proofs.lemmas.Bool.{cases_Bool, cases_eq, both_ways, or_cases, or_left, or_right, eq-eqb, eqb-true}
 use Rattle.std.proofs.lemmas.List.{get_or_default, get_or_append_left}
 use Rattle.permutations.specs.Members.{is_member}
 use Rattle.permutations.proofs.Arrangements.{contains-from_member, member-at}
 use Rattle.permutations.proofs.Relation.{same-tests, connected-closed}
 use Rattle.multigraph.specs.Graph.{Multigraph}
-use Rattle.pair_split.specs.Split.{all_links, is_beyond, LinksTo, StandsFor}
+use Rattle.pair_split.specs.Split.{all_links, is_beyond, LinksTo}
 use Rattle.pair_split.specs.Tutte.{Node, components, node_at, IsTutte}
-use Rattle.pair_split.specs.declared.components.Item.{Item}
 use Rattle.pair_split.specs.declared.components.Comp.{Comp}
-use Rattle.pair_split.specs.declared.components.What.{What}
-use Rattle.pair_split.specs.declared.components.What.TheVariants.{Real, Link}
+use Rattle.pair_split.specs.declared.components.What.TheVariants.{Link}
 use Rattle.pair_split.proofs.GraphFamily.{all-from_contained}
 use Rattle.pair_split.proofs.Links.{contained-link}
-use Rattle.pair_split.proofs.TreeSides.{all-linked, beyond-far, beyond-near, beyond-along, link-back, link-from}
+use Rattle.pair_split.proofs.TreeSides.{all-linked, beyond-far, beyond-near, beyond-along, link-back}
 use Rattle.pair_split.proofs.Subtrees.{link-in}
 use Rattle.skeletons.proofs.NodeItems.{comp-in, node-in, stands-of, item-of}
 use Rattle.block_obstruct.specs.Listing.{note_of, Grows}

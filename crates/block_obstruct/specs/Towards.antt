@@ -1,8 +1,8 @@
 -- Which item of a node leads towards another node.
 use Rattle.std.specs.Prelude.{◌≡◌, ◌≢◌, ℕ, ◌<◌, true, List, length, slice_index_or}
 use Rattle.permutations.specs.Members.{is_member}
-use Rattle.pair_split.specs.Split.{is_beyond, LinksTo}
-use Rattle.pair_split.specs.Tutte.{Node, components, node_at, node_item}
+use Rattle.pair_split.specs.Split.{is_beyond}
+use Rattle.pair_split.specs.Tutte.{Node, components, node_at}
 use Rattle.pair_split.specs.declared.components.Item.{Item}
 use Rattle.pair_split.specs.declared.components.What.{What}
 use Rattle.pair_split.specs.declared.components.What.TheVariants.{Real, Link}
@@ -27,6 +27,10 @@ LeadBelow items n = (h : ℕ) → HaveItem items (Link h) → h < n
 -- item i of node k is a link, and node x is on its side
 abbrev pub IsTowards : List Node → ℕ → ℕ → ℕ → Type 0
 IsTowards nodes k i x = (j : ℕ) × IsItem (node_at nodes k).items i (Link j) × (is_beyond (components nodes) k j x ≡ true)
+
+-- for each node but k the item of node k that leads towards it is noted
+abbrev pub AreTowards : List Node → ℕ → List ℕ → Type 0
+AreTowards nodes k notes = (x : ℕ) → x < length nodes → x ≢ k → IsTowards nodes k (note_of notes x) x
 
 -- for each node on the list the item of node k that leads towards it is noted; the nodes that node k has links to are on the
 -- list, and so are those that the first q nodes of the list have links to, but for k

@@ -21,7 +21,8 @@ fn add_route(
 ) -> Result<(), AllocError>
     requires edge { edge < edge_count inner.now }
     requires one_each { length routes.now ≡ edge_count inner.now }
-    ensures { IfOk result (λ _. along.new.items ≡ along.old.items ++ route_from inner.now routes.now edge from) }
+    ensures { IfOk result (λ _. along.new.items
+        ≡ along.old.items ++ route_from inner.now routes.now edge from) }
 {
     let route = routes[edge as usize].as_slice();
     if inner.ends(edge).0 == from {
@@ -65,7 +66,8 @@ fn lift_paths(
 ) -> Result<Vec<Numbers>, AllocError>
     requires one_each { length routes.now ≡ edge_count inner.now }
     requires subdivision { IsSubdivision inner.now kind branch.now paths.now }
-    ensures { IfOk result (λ lifted. lifted.items ≡ lifted_paths inner.now routes.now kind branch.now paths.now) }
+    ensures { IfOk result (λ lifted. lifted.items
+        ≡ lifted_paths inner.now routes.now kind branch.now paths.now) }
 {
     let mut lifted = Vec::new(alloc);
     for (k, pair) in kind.edges().iter().enumerate() {
@@ -106,7 +108,8 @@ pub fn lift(
     ensures written { IfOk result (λ w. IsWritten outer.now w.kind w.branch w.paths) }
     ensures kind { IfOk result (λ w. w.kind ≡ s.now.kind) }
     ensures branches { IfOk result (λ w. w.branch ≡ lifted_branches vertex.now s.now.branch) }
-    ensures paths { IfOk result (λ w. w.paths ≡ lifted_paths inner.now routes.now s.now.kind s.now.branch s.now.paths) }
+    ensures paths { IfOk result (λ w. w.paths
+        ≡ lifted_paths inner.now routes.now s.now.kind s.now.branch s.now.paths) }
     ensures graph { IfOk result (λ _. IsGraph inner.now) }
 {
     let _ = inner.vertex_count();

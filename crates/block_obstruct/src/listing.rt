@@ -18,7 +18,8 @@ pub(crate) fn add(
     requires within { x < length marks.old }
     ensures listed { IfOk result (λ _. AreListed marks.new notes.new list.new.items) }
     ensures size { IfOk result (λ _. length marks.new ≡ length marks.old) }
-    ensures grows { IfOk result (λ _. Grows (λ y m. (y ≡ x) × (m ≡ note)) list.old.items notes.old list.new.items notes.new) }
+    ensures grows { IfOk result (λ _. Grows (λ y m. (y ≡ x) × (m ≡ note))
+        list.old.items notes.old list.new.items notes.new) }
     ensures held { IfOk result (λ _. is_member x list.new.items ≡ true) }
 {
     if marks[x as usize] {

@@ -27,8 +27,10 @@ fn visit(
     requires places { length marks.old ≡ g.now.vertex_count }
     ensures listed { IfOk result (λ _. AreListed marks.new notes.new list.new.items) }
     ensures size { IfOk result (λ _. length marks.new ≡ length marks.old) }
-    ensures grows { IfOk result (λ _. Grows (λ y e. LeadsFrom g.now x y e) list.old.items notes.old list.new.items notes.new) }
-    ensures met { IfOk result (λ _. (e : ℕ) → e < edge_count g.now → is_end g.now x e ≡ true → is_member (other_end g.now e x) list.new.items ≡ true) }
+    ensures grows { IfOk result (λ _. Grows (λ y e. LeadsFrom g.now x y e)
+        list.old.items notes.old list.new.items notes.new) }
+    ensures met { IfOk result (λ _. (e : ℕ) → e < edge_count g.now → is_end g.now x e ≡ true
+        → is_member (other_end g.now e x) list.new.items ≡ true) }
 {
     for edge in g.incident(x) {
         let y = g.other_end(*edge, x);
@@ -111,7 +113,8 @@ fn path_between(alloc: Global, g: &Graph, from: u32, to: u32) -> Result<Vec<u32>
 
 // The edges of the whole graph that these edges of a part are.
 fn whole_edges(alloc: Global, part: &Part, edges: &[u32]) -> Result<Numbers, AllocError>
-    requires { (i : ℕ) → i < length edges.now → slice_index edges.now i < edge_count part.now.graph }
+    requires { (i : ℕ) → i < length edges.now
+        → slice_index edges.now i < edge_count part.now.graph }
     ensures { IfOk result (λ along. along ≡ map (λ e. slice_index part.now.edges e) edges.now) }
 {
     let mut along = Vec::with_capacity(alloc, edges.len())?;
@@ -134,7 +137,8 @@ pub(crate) fn path_along(
     requires apart { from ≢ to }
     requires path { PathAlong g.now edges.now from to }
     ensures path { IfOk result (λ along. IsPath g.now from along to) }
-    ensures among { IfOk result (λ along. (e : ℕ) → is_member e along ≡ true → is_member e edges.now ≡ true) }
+    ensures among { IfOk result (λ along. (e : ℕ) → is_member e along ≡ true
+        → is_member e edges.now ≡ true) }
 {
     let part = g.part(alloc, edges)?;
     let Some(first) = part.inner_vertex(from) else {

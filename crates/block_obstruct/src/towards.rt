@@ -6,8 +6,8 @@ ghost use Rattle.permutations.specs.Members.{is_member};
 ghost use Rattle.multigraph.specs.Graph.{Multigraph};
 ghost use Rattle.pair_split.specs.Tutte.{node_at, IsTutte};
 ghost use Rattle.pair_split.specs.declared.components.What.TheVariants.{Link};
-ghost use Rattle.block_obstruct.specs.Listing.{AreListed, Grows, note_of};
-ghost use Rattle.block_obstruct.specs.Towards.{HaveItem, IsItem, LeadBelow, IsTowards};
+ghost use Rattle.block_obstruct.specs.Listing.{AreListed, Grows};
+ghost use Rattle.block_obstruct.specs.Towards.{HaveItem, IsItem, LeadBelow, AreTowards};
 
 use crate::listing::add;
 use pair_split::{Item, What};
@@ -26,8 +26,10 @@ fn begin(
     requires few { length items.now < 2 ^ 32 }
     ensures listed { IfOk result (λ _. AreListed marks.new notes.new list.new.items) }
     ensures size { IfOk result (λ _. length marks.new ≡ length marks.old) }
-    ensures grows { IfOk result (λ _. Grows (λ y m. IsItem items.now m (Link y)) list.old.items notes.old list.new.items notes.new) }
-    ensures met { IfOk result (λ _. (h : ℕ) → HaveItem items.now (Link h) → is_member h list.new.items ≡ true) }
+    ensures grows { IfOk result (λ _. Grows (λ y m. IsItem items.now m (Link y))
+        list.old.items notes.old list.new.items notes.new) }
+    ensures met { IfOk result (λ _. (h : ℕ) → HaveItem items.now (Link h)
+        → is_member h list.new.items ≡ true) }
 {
     for (i, item) in items.iter().enumerate() {
         if let What::Link(j) = item.what {
@@ -50,8 +52,10 @@ fn spread(
     requires below { LeadBelow items.now (length marks.old) }
     ensures listed { IfOk result (λ _. AreListed marks.new notes.new list.new.items) }
     ensures size { IfOk result (λ _. length marks.new ≡ length marks.old) }
-    ensures grows { IfOk result (λ _. Grows (λ y m. (m ≡ note) × (y ≢ k) × HaveItem items.now (Link y)) list.old.items notes.old list.new.items notes.new) }
-    ensures met { IfOk result (λ _. (h : ℕ) → HaveItem items.now (Link h) → h ≢ k → is_member h list.new.items ≡ true) }
+    ensures grows { IfOk result (λ _. Grows (λ y m. (m ≡ note) × (y ≢ k) × HaveItem items.now (Link y))
+        list.old.items notes.old list.new.items notes.new) }
+    ensures met { IfOk result (λ _. (h : ℕ) → HaveItem items.now (Link h) → h ≢ k
+        → is_member h list.new.items ≡ true) }
 {
     for item in items {
         if let What::Link(h) = item.what {
@@ -77,7 +81,7 @@ fn reach(
     requires listed { AreListed marks.old notes.old list.old.items }
     requires empty { list.old.items ≡ [] }
     requires size { length marks.old ≡ length tree.now }
-    ensures { IfOk result (λ _. (x : ℕ) → x < length tree.now → x ≢ k → IsTowards tree.now k (note_of notes.new x) x) }
+    ensures { IfOk result (λ _. AreTowards tree.now k notes.new) }
 {
     begin(tree.items(k), marks, notes, list)?;
     for q in 0..tree.node_count() {
@@ -96,7 +100,7 @@ pub(crate) fn towards(alloc: Global, tree: &Tree, k: u32) -> Result<Vec<u32>, Al
     requires tree { (g : Multigraph) × IsTutte g tree.now }
     requires few { length (node_at tree.now k).items < 2 ^ 32 }
     ensures places { IfOk result (λ notes. length notes.items ≡ length tree.now) }
-    ensures towards { IfOk result (λ notes. (x : ℕ) → x < length tree.now → x ≢ k → IsTowards tree.now k (note_of notes.items x) x) }
+    ensures towards { IfOk result (λ notes. AreTowards tree.now k notes.items) }
 {
     let n = tree.node_count() as usize;
     let mut marks = vec![in alloc; false; n]?;

@@ -9,14 +9,14 @@ ghost use Rattle.spqr_tree.specs.Ranking.{ranks_of};
 ghost use Rattle.spqr_tree.specs.Assembly.{IsArranged};
 
 use crate::flood::{Flood, groups_of};
-use crate::naming::arranged;
-use crate::ranking::{places, ranked};
+use crate::naming::place_groups;
+use crate::ranking::{places, ranks};
 use multigraph::Graph;
 use pair_split::Comp;
 use std::alloc::{AllocError, Global};
 
 // The groups of the components of a block.
-fn grouped(alloc: Global, g: &Graph, comps: &[Comp]) -> Result<Flood, AllocError>
+fn groups_of_block(alloc: Global, g: &Graph, comps: &[Comp]) -> Result<Flood, AllocError>
     requires block { IsOneBlock g.now }
     requires split { IsSplit g.now comps.now }
     ensures groups { IfOk result (λ s. AreGroups comps.now (group_of s.lead) s.groups) }
@@ -44,9 +44,9 @@ fn arrange_groups(
     requires few { length groups.now < 4294967295 }
     ensures { IfOk result (λ r. IsArranged g.now r.0.items (ranks_of r.1.items)) }
 {
-    let ranks = ranked(alloc, groups)?;
+    let ranks = ranks(alloc, groups)?;
     let places = places(alloc, &ranks)?;
-    let all = arranged(alloc, lead, groups, &places, &ranks)?;
+    let all = place_groups(alloc, lead, groups, &places, &ranks)?;
     Ok((all, ranks))
 }
 
@@ -60,6 +60,6 @@ pub(crate) fn arrange(
     requires split { IsSplit g.now comps.now }
     ensures { IfOk result (λ r. IsArranged g.now r.0.items (ranks_of r.1.items)) }
 {
-    let flood = grouped(alloc, g, comps)?;
+    let flood = groups_of_block(alloc, g, comps)?;
     arrange_groups(alloc, g, comps, flood.table(), flood.list())
 }

@@ -9,9 +9,9 @@ ghost use Rattle.spqr_tree.specs.Assembly.{IsArranged, IsNodeOf, AreNodes};
 ghost use Rattle.spqr_tree.specs.Keys.{nth_item, parent_at, link_key, AreWithin, AreApart, IsRooted, HaveKeys};
 
 use crate::arranging::arrange;
-use crate::keys::{keyed, rooted};
+use crate::keys::{items_by_key, parents_and_least};
 use crate::lists::ItemList;
-use crate::tour::toured;
+use crate::tour::tour_of;
 use crate::tree::{Tree, TreeNode};
 use multigraph::{Graph, Numbers};
 use pair_split::{Comp, Comps};
@@ -28,9 +28,10 @@ fn node_of(
     requires within { AreWithin comp.now.items (length least.now) }
     requires apart { AreApart parent least.now comp.now.items }
     ensures node { IfOk result (λ node. IsNodeOf comp.now vertices.now node) }
-    ensures keys { IfOk result (λ node. (i : ℕ) → i < length node.items → (nth_item node.items i).key ≡ link_key parent least.now (nth_item node.items i).what) }
+    ensures keys { IfOk result (λ node. (i : ℕ) → i < length node.items
+        → (nth_item node.items i).key ≡ link_key parent least.now (nth_item node.items i).what) }
 {
-    let items = keyed(alloc, comp.items.as_slice(), parent, least)?;
+    let items = items_by_key(alloc, comp.items.as_slice(), parent, least)?;
     Ok(TreeNode {
         kind: comp.kind,
         vertices: Numbers::of(Vec::from_slice(alloc, vertices)?),
@@ -48,8 +49,10 @@ fn nodes_of(
 ) -> Result<Vec<TreeNode>, AllocError>
     requires number { length ranks.now ≡ length comps.now }
     requires places { length parents.now ≡ length comps.now }
-    requires within { (k : ℕ) → k < length comps.now → AreWithin (items_of comps.now k) (length least.now) }
-    requires apart { (k : ℕ) → k < length comps.now → AreApart (parent_at parents.now k) least.now (items_of comps.now k) }
+    requires within { (k : ℕ) → k < length comps.now
+        → AreWithin (items_of comps.now k) (length least.now) }
+    requires apart { (k : ℕ) → k < length comps.now
+        → AreApart (parent_at parents.now k) least.now (items_of comps.now k) }
     ensures nodes { IfOk result (λ nodes. AreNodes comps.now (ranks_of ranks.now) nodes.items) }
     ensures keys { IfOk result (λ nodes. HaveKeys parents.now least.now nodes.items) }
 {
@@ -75,7 +78,7 @@ fn finish(
     ensures { IfOk result (IsTutte g.now) }
 {
     let nodes = nodes_of(alloc, comps, ranks, parents, least)?;
-    let tour = toured(alloc, &nodes, g.edge_count())?;
+    let tour = tour_of(alloc, &nodes, g.edge_count())?;
     Ok(Tree {
         nodes,
         places: tour.places,
@@ -94,7 +97,7 @@ fn tree_of(
     requires arranged { IsArranged g.now comps.now (ranks_of ranks.now) }
     ensures { IfOk result (IsTutte g.now) }
 {
-    let (parents, least) = rooted(alloc, g, comps)?;
+    let (parents, least) = parents_and_least(alloc, g, comps)?;
     finish(alloc, g, comps, ranks, &parents, &least)
 }
 

@@ -208,7 +208,13 @@ impl Flood {
 
     // The piece was looked at.
     fn keep(&mut self, piece: Piece) -> Result<(), AllocError>
-        ensures { IfOk result (λ _. self.new ≡ record { live = self.old.live; lead = self.old.lead; groups = self.old.groups; done = self.old.done ++ piece ∷ []; stack = self.old.stack }) }
+        ensures { IfOk result (λ _. self.new ≡ record {
+          live = self.old.live;
+          lead = self.old.lead;
+          groups = self.old.groups;
+          done = self.old.done ++ piece ∷ [];
+          stack = self.old.stack;
+        }) }
     {
         self.done.push(piece)?;
         Ok(())
@@ -221,7 +227,8 @@ impl Flood {
         ensures flooding { IfOk result (λ _. IsFlooding comps.now kind self.new) }
         ensures groups { IfOk result (λ _. self.new.groups ≡ self.old.groups) }
         ensures kept { IfOk result (λ _. KeepsLed self.old.lead self.new.lead) }
-        ensures falls { IfOk result (λ _. pieces_left comps.now self.new ≤ pieces_left comps.now self.old) }
+        ensures falls { IfOk result
+            (λ _. pieces_left comps.now self.new ≤ pieces_left comps.now self.old) }
     {
         if let What::Link(d) = piece.what {
             if self.is_absorbed(comps, kind, d) {
@@ -280,7 +287,8 @@ impl Flood {
         requires few { length self.old.groups < 4294967295 }
         requires within { c < length comps.now }
         requires none { group_of self.old.lead c ≡ 4294967295 }
-        ensures flooding { IfOk result (λ _. IsFlooding comps.now (component_at comps.now c).kind self.new) }
+        ensures flooding { IfOk result
+            (λ _. IsFlooding comps.now (component_at comps.now c).kind self.new) }
         ensures groups { IfOk result (λ _. self.new.groups ≡ self.old.groups) }
         ensures kept { IfOk result (λ _. KeepsLed self.old.lead self.new.lead) }
         ensures led { IfOk result (λ _. IsLed self.new.lead c) }
@@ -291,7 +299,8 @@ impl Flood {
 
     // The group in work is finished.
     fn finish(&mut self, alloc: Global, kind: Kind) -> Result<(), AllocError>
-        ensures groups { IfOk result (λ _. self.new.groups ≡ self.old.groups ++ record { kind = kind; items = self.old.done } ∷ []) }
+        ensures groups { IfOk result (λ _. self.new.groups
+            ≡ self.old.groups ++ record { kind = kind; items = self.old.done } ∷ []) }
         ensures done { IfOk result (λ _. self.new.done ≡ []) }
         ensures live { IfOk result (λ _. self.new.live ≡ self.old.live) }
         ensures lead { IfOk result (λ _. self.new.lead ≡ self.old.lead) }

@@ -11,7 +11,7 @@ use pair_split::{Comp, Piece, PieceList, What};
 use std::alloc::{AllocError, Global};
 
 // What stands for the place where a link leads.
-fn renamed(lead: &[u32], places: &[u32], what: What) -> What
+fn rename(lead: &[u32], places: &[u32], what: What) -> What
     ensures { result ≡ renamed (λ x. value_at places.now (group_of lead.now x)) what }
 {
     match what {
@@ -21,10 +21,10 @@ fn renamed(lead: &[u32], places: &[u32], what: What) -> What
 }
 
 // The piece with its lesser end first, leading to a place.
-fn placed(lead: &[u32], places: &[u32], piece: Piece) -> Piece
+fn place_piece(lead: &[u32], places: &[u32], piece: Piece) -> Piece
     ensures { result ≡ placed (λ x. value_at places.now (group_of lead.now x)) piece }
 {
-    let what = renamed(lead, places, piece.what);
+    let what = rename(lead, places, piece.what);
     Piece {
         a: piece.a.min(piece.b),
         b: piece.a.max(piece.b),
@@ -33,31 +33,33 @@ fn placed(lead: &[u32], places: &[u32], piece: Piece) -> Piece
 }
 
 // The pieces so.
-fn placed_all(
+fn place_pieces(
     alloc: Global,
     lead: &[u32],
     places: &[u32],
     pieces: &[Piece],
 ) -> Result<Vec<Piece>, AllocError>
-    ensures { IfOk result (λ all. all.items ≡ map (placed (λ x. value_at places.now (group_of lead.now x))) pieces.now) }
+    ensures { IfOk result (λ all. all.items
+        ≡ map (placed (λ x. value_at places.now (group_of lead.now x))) pieces.now) }
 {
     let mut all = Vec::with_capacity(alloc, pieces.len())?;
     for piece in pieces {
-        all.push(placed(lead, places, *piece))?;
+        all.push(place_piece(lead, places, *piece))?;
     }
     Ok(all)
 }
 
 // One group, with its pieces so.
-fn placed_group(
+fn place_group(
     alloc: Global,
     lead: &[u32],
     places: &[u32],
     group: &Comp,
 ) -> Result<Comp, AllocError>
-    ensures { IfOk result (λ comp. comp ≡ placed_group (λ x. value_at places.now (group_of lead.now x)) group.now) }
+    ensures { IfOk result (λ comp. comp
+        ≡ placed_group (λ x. value_at places.now (group_of lead.now x)) group.now) }
 {
-    let pieces = placed_all(alloc, lead, places, group.items.as_slice())?;
+    let pieces = place_pieces(alloc, lead, places, group.items.as_slice())?;
     Ok(Comp {
         kind: group.kind,
         items: PieceList::of(pieces),
@@ -65,20 +67,22 @@ fn placed_group(
 }
 
 // The groups in their order.
-pub(crate) fn arranged(
+pub(crate) fn place_groups(
     alloc: Global,
     lead: &[u32],
     groups: &[Comp],
     places: &[u32],
     ranked: &[(Vec<u32>, u32)],
 ) -> Result<Vec<Comp>, AllocError>
-    requires { (i : ℕ) → i < length ranked.now → (rank_at (ranks_of ranked.now) i).1 < length groups.now }
-    ensures { IfOk result (λ all. all.items ≡ in_order (λ x. value_at places.now (group_of lead.now x)) groups.now (ranks_of ranked.now)) }
+    requires { (i : ℕ) → i < length ranked.now
+        → (rank_at (ranks_of ranked.now) i).1 < length groups.now }
+    ensures { IfOk result (λ all. all.items ≡ in_order
+        (λ x. value_at places.now (group_of lead.now x)) groups.now (ranks_of ranked.now)) }
 {
     let mut all = Vec::with_capacity(alloc, ranked.len())?;
     for i in 0..ranked.len() {
         let group = &groups[ranked[i].1 as usize];
-        all.push(placed_group(alloc, lead, places, group)?)?;
+        all.push(place_group(alloc, lead, places, group)?)?;
     }
     Ok(all)
 }

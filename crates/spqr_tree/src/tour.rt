@@ -45,7 +45,8 @@ fn items_at(nodes: &[TreeNode], k: u32) -> &[Item]
 
 // The node whose first item is edge 0.
 fn root_of(nodes: &[TreeNode]) -> u32
-    requires { (g : Multigraph) × IsTutte g nodes.now × (0 < edge_count g) × (length nodes.now < 4294967296) }
+    requires { (g : Multigraph) × IsTutte g nodes.now × (0 < edge_count g)
+        × (length nodes.now < 4294967296) }
     ensures within { result < length nodes.now }
     ensures first { what_at nodes.now result 0 ≡ Real 0 }
 {
@@ -88,7 +89,12 @@ impl Tour {
     // Notes how many edges were met as a bound of the node.
     fn note(&mut self) -> Result<(), AllocError>
         requires { self.old.at < length self.old.bounds }
-        ensures { IfOk result (λ _. self.new ≡ record { at = self.old.at; met = self.old.met; places = self.old.places; bounds = noted self.old }) }
+        ensures { IfOk result (λ _. self.new ≡ record {
+          at = self.old.at;
+          met = self.old.met;
+          places = self.old.places;
+          bounds = noted self.old;
+        }) }
     {
         self.bounds[self.at as usize].push(self.met)?;
         Ok(())
@@ -106,7 +112,12 @@ impl Tour {
     fn meet(&mut self, e: u32)
         requires place { e < length self.old.places }
         requires few { self.old.met < 4294967295 }
-        ensures { self.new ≡ record { at = self.old.at; met = self.old.met + 1; places = slice_set self.old.places e self.old.met; bounds = self.old.bounds } }
+        ensures { self.new ≡ record {
+          at = self.old.at;
+          met = self.old.met + 1;
+          places = slice_set self.old.places e self.old.met;
+          bounds = self.old.bounds;
+        } }
     {
         self.places[e as usize] = self.met;
         self.met += 1;
@@ -117,8 +128,10 @@ impl Tour {
         requires tree { (g : Multigraph) × IsTutte g nodes.now × (0 < edge_count g) }
         requires touring { IsTouring nodes.now self.old }
         ensures touring { IfOk result (λ done. done ≡ false → IsTouring nodes.now self.new) }
-        ensures falls { IfOk result (λ done. tour_left nodes.now self.new.bounds < tour_left nodes.now self.old.bounds) }
-        ensures toured { IfOk result (λ done. done ≡ true → AreToured nodes.now self.new.places self.new.bounds) }
+        ensures falls { IfOk result
+            (λ done. tour_left nodes.now self.new.bounds < tour_left nodes.now self.old.bounds) }
+        ensures toured { IfOk result (λ done. done ≡ true
+            → AreToured nodes.now self.new.places self.new.bounds) }
     {
         self.note()?;
         let items = items_at(nodes, self.at);
@@ -141,8 +154,9 @@ impl Tour {
 }
 
 // The places of the m edges, and the bounds of the nodes.
-pub(crate) fn toured(alloc: Global, nodes: &[TreeNode], m: u32) -> Result<Tour, AllocError>
-    requires tree { (g : Multigraph) × IsTutte g nodes.now × (0 < edge_count g) × (m ≡ edge_count g) }
+pub(crate) fn tour_of(alloc: Global, nodes: &[TreeNode], m: u32) -> Result<Tour, AllocError>
+    requires tree { (g : Multigraph) × IsTutte g nodes.now × (0 < edge_count g)
+        × (m ≡ edge_count g) }
     requires few { length nodes.now < 4294967296 }
     ensures { IfOk result (λ tour. AreToured nodes.now tour.places tour.bounds) }
 {

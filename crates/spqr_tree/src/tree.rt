@@ -107,7 +107,7 @@ impl Tree {
         Ok(Tree {
             nodes,
             places: Vec::from_slice(alloc, &self.places)?,
-            bounds: copied_lists(alloc, &self.bounds)?,
+            bounds: copy_lists(alloc, &self.bounds)?,
         })
     }
 }
@@ -116,14 +116,15 @@ impl Tree {
 fn bounds_up_to(bounds: &[u32], place: u32) -> usize
     requires { IsNonDecreasingBy (λ x. x) bounds.now }
     ensures up_to { (y : ℕ) → y < result → slice_index bounds.now y ≤ place }
-    ensures above { (y : ℕ) → result ≤ y → y < length bounds.now → place < slice_index bounds.now y }
+    ensures above { (y : ℕ) → result ≤ y → y < length bounds.now
+        → place < slice_index bounds.now y }
     ensures within { result ≤ length bounds.now }
 {
     bounds.partition_point(|bound| *bound <= place)
 }
 
 // A copy of the lists.
-fn copied_lists(alloc: Global, lists: &[Numbers]) -> Result<Vec<Numbers>, AllocError>
+fn copy_lists(alloc: Global, lists: &[Numbers]) -> Result<Vec<Numbers>, AllocError>
     ensures { IfOk result (λ copies. copies.items ≡ lists.now) }
 {
     let mut copies = Vec::with_capacity(alloc, lists.len())?;

@@ -1,5 +1,5 @@
 -- One item more: where it is an edge, the number is noted.
-use Rattle.std.proofs.Common.{◌≡◌, ℕ, length, refl, arith}
+use Rattle.std.proofs.Common.{◌≡◌, refl, arith}
 use Rattle.block_obstruct.proofs.Loops.{noted-none, noted-edge, noted-other}
 use Rattle.block_obstruct.proofs.groups.note_far.Goals as goal
 use Rattle.block_obstruct.proofs.groups.note_far.Goals.{in-Real, in_default}

@@ -1,5 +1,5 @@
 -- One item more: where it is an edge, its place is noted.
-use Rattle.std.proofs.Common.{◌≡◌, ℕ, length, refl, arith}
+use Rattle.std.proofs.Common.{arith}
 use Rattle.pair_split.specs.declared.components.What.TheVariants.{Real}
 use Rattle.block_obstruct.specs.Towards.{IsItem}
 use Rattle.block_obstruct.proofs.Loops.{noted-none, noted-edge, noted-other}

@@ -1,5 +1,5 @@
 -- The link at one place more: the node where it leads is put on the list, with this place.
-use Rattle.std.proofs.Common.{◌≡◌, ◌∙◌, ℕ, length, refl, sym, arith}
+use Rattle.std.proofs.Common.{◌≡◌, ◌∙◌, length, refl, sym, arith}
 use Rattle.pair_split.specs.declared.components.What.TheVariants.{Link}
 use Rattle.block_obstruct.specs.Towards.{item_in, IsItem}
 use Rattle.block_obstruct.proofs.Loops.{steps-none, steps-more, steps-skip, link-once}

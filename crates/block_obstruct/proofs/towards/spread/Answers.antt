@@ -1,5 +1,5 @@
 -- The link of one item more: the node where it leads is put on the list, unless it is node k.
-use Rattle.std.proofs.Common.{◌≡◌, ◌≢◌, ◌∙◌, ℕ, length, refl, sym, arith}
+use Rattle.std.proofs.Common.{◌≡◌, ◌≢◌, ◌∙◌, length, refl, sym, arith}
 use Rattle.pair_split.specs.declared.components.What.TheVariants.{Link}
 use Rattle.block_obstruct.specs.Towards.{item_in, HaveItem}
 use Rattle.block_obstruct.proofs.Loops.{steps-none, steps-more, steps-skip, link-once}

@@ -15,8 +15,8 @@ places-requires-clause-within c = subst (λ (l : List (Vec ℕ Global × ℕ)). 
     omega (arith, ranks-within c.args.groups.now (ranks_of c.in_ok-ranks.ranks.items) c.in_ok-ranks.ensures i m, c.in_ok-ranks.ensures.number, length-map c.in_ok-ranks.ranks.items rank_of))
 
 -- the number of a rank is that of a group
-pub arranged-requires : goal.arranged-requires
-arranged-requires c = subst (λ (l : List (Vec ℕ Global × ℕ)). (i : ℕ) → i < length l → (rank_at (ranks_of l) i).1 < length c.args.groups.now) (sym c.deref-3.ensures.value) (λ i l.
+pub place_groups-requires : goal.place_groups-requires
+place_groups-requires c = subst (λ (l : List (Vec ℕ Global × ℕ)). (i : ℕ) → i < length l → (rank_at (ranks_of l) i).1 < length c.args.groups.now) (sym c.deref-3.ensures.value) (λ i l.
     ranks-within c.args.groups.now (ranks_of c.in_ok-ranks.ranks.items) c.in_ok-ranks.ensures i (subst (λ z. i < z) (sym (length-map c.in_ok-ranks.ranks.items rank_of)) l))
 
 -- the groups in order

@@ -17,8 +17,8 @@ pub nodes_of-requires-clause-apart : goal.nodes_of-requires-clause-apart
 nodes_of-requires-clause-apart c = λ k l. rooted-apart c.args.g.now c.args.comps.now c.requires.arranged.split (one_block-tight c.args.g.now c.requires.block) c.args.parents.now c.args.least.now c.requires.rooted k
 
 -- the nodes are the tree
-pub toured-requires-clause-tree : goal.toured-requires-clause-tree
-toured-requires-clause-tree c = (
+pub tour_of-requires-clause-tree : goal.tour_of-requires-clause-tree
+tour_of-requires-clause-tree c = (
   c.args.g.now,
   subst (λ (t : List Node). IsTutte c.args.g.now t) (sym c.deref.ensures.value) (tutte-made c.args.g.now c.args.comps.now (ranks_of c.args.ranks.now) c.args.parents.now c.args.least.now c.in_ok-nodes.nodes.items c.requires.block c.requires.arranged c.requires.rooted c.in_ok-nodes.ensures.nodes c.in_ok-nodes.ensures.keys),
   c.requires.block.has_edge,

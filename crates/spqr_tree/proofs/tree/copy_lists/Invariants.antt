@@ -1,5 +1,5 @@
 use Rattle.std.proofs.Common.{◌≡◌, take}
-use Rattle.spqr_tree.proofs.tree.copied_lists.Given as goal
+use Rattle.spqr_tree.proofs.tree.copy_lists.Given as goal
 
 abbrev pub invariant-loop-list : goal.invariant-loop-list
 invariant-loop-list l = l.copies.items ≡ take l.list-index l.lists

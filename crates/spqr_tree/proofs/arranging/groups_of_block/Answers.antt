@@ -1,7 +1,7 @@
 use Rattle.std.proofs.Common.{arith}
 use Rattle.pair_split.proofs.GraphFamily.{one_block-tight}
 use Rattle.spqr_tree.proofs.FewComponents.{few-components}
-use Rattle.spqr_tree.proofs.arranging.grouped.Goals as goal
+use Rattle.spqr_tree.proofs.arranging.groups_of_block.Goals as goal
 
 -- the components are few, as the edges are
 pub groups_of-requires-clause-few : goal.groups_of-requires-clause-few

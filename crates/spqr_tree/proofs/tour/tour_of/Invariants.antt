@@ -1,5 +1,5 @@
 use Rattle.spqr_tree.specs.Tour.{IsTouring, tour_left}
-use Rattle.spqr_tree.proofs.tour.toured.Given as goal
+use Rattle.spqr_tree.proofs.tour.tour_of.Given as goal
 
 abbrev pub invariant-loop-tour : goal.invariant-loop-tour
 invariant-loop-tour l = IsTouring l.nodes l.tour

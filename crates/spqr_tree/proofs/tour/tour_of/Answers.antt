@@ -2,7 +2,7 @@ use Rattle.std.proofs.Common.{subst, arith}
 use Rattle.spqr_tree.specs.Tour.{HasBegun}
 use Rattle.spqr_tree.proofs.UpLinks.{edge-within}
 use Rattle.spqr_tree.proofs.Touring.{tour-begins}
-use Rattle.spqr_tree.proofs.tour.toured.Goals as goal
+use Rattle.spqr_tree.proofs.tour.tour_of.Goals as goal
 
 -- the walk begins at the root
 pub loop-tour-init : goal.loop-tour-init
