@@ -47,7 +47,8 @@ pub fn merge(labels: &mut [u32], removed: &[u32], first: u32, second: u32)
     requires first_in { first < length labels.old }
     requires second_in { second < length labels.old }
     requires within { AreLabelsBelow (length labels.old) labels.old }
-    ensures merged { (links : List (ℕ × ℕ)) → IsLabelling links removed.now (label_at labels.old) → IsLabelling (links ++ (first, second) ∷ []) removed.now (label_at labels.new) }
+    ensures merged { (links : List (ℕ × ℕ)) → IsLabelling links removed.now (label_at labels.old)
+        → IsLabelling (links ++ (first, second) ∷ []) removed.now (label_at labels.new) }
     ensures within { AreLabelsBelow (length labels.old) labels.new }
 {
     if is_removed(removed, first) || is_removed(removed, second) {
