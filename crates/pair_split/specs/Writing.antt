@@ -1,4 +1,4 @@
--- The components of a state of splitting, as the code writes them out.
+-- State of a loop: the components of a state of splitting, as they are written out.
 use Rattle.std.specs.Prelude.{◌≡◌, ℕ, ◌+◌, ◌<◌, List, ◌∷◌, [], length, slice_index_or, All, Contains}
 use Rattle.pair_split.specs.Family.{Entry}
 use Rattle.pair_split.specs.Lumps.{entry_of, family_of, HaveNamesBelow}
@@ -19,6 +19,10 @@ pub record IsListed (m : ℕ) (state : SplitState) : Type 0 where
 abbrev pub AreUps : ℕ → SplitState → List ℕ → Type 0
 AreUps m state ups = (k : ℕ) (entry : Entry) (c : ℕ) → Contains (layer state k) entry → entry.name ≡ m + c → slice_index_or ups c 0 ≡ k
 
+-- where one of the entries is the virtual edge of component k, the layer in which it stands is noted for it
+abbrev pub IsNotedFor : ℕ → SplitState → ℕ → List ℕ → List Entry → Type 0
+IsNotedFor m state k ups entries = (entry : Entry) → Contains entries entry → entry.name ≡ m + k → Contains (layer state (slice_index_or ups k 0)) entry
+
 -- all names of finished components are below n
 abbrev pub HavePartNamesBelow : ℕ → List Cut → Type 0
 HavePartNamesBelow n parts = All (λ part. (part.own.name < n) × HaveNamesBelow n part.edges) parts
@@ -32,5 +36,5 @@ pub record ArePartsWritten (m : ℕ) (parts : List Cut) (ups : List ℕ) (n : �
   pub number : length comps ≡ n
   pub kinds : (k : ℕ) → k < n → (component_at comps k).kind ≡ (cut_at parts k).kind
   pub written : (k : ℕ) → k < n → (state : SplitState)
-      → ((entry : Entry) → Contains (entry_of (cut_at parts k).own ∷ family_of (cut_at parts k).edges) entry → entry.name ≡ m + k → Contains (layer state (slice_index_or ups k 0)) entry)
+      → IsNotedFor m state k ups (entry_of (cut_at parts k).own ∷ family_of (cut_at parts k).edges)
       → AreWritten m state k (entry_of (cut_at parts k).own ∷ family_of (cut_at parts k).edges) (component_at comps k).items

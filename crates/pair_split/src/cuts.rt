@@ -85,7 +85,8 @@ fn marked_edges(
     marks: &[bool],
 ) -> Result<Vec<NamedEdge>, AllocError>
     requires { HaveNamesBelow (length marks.now) edges.now }
-    ensures { IfOk result (λ kept. family_of kept.items ≡ on_side (marked marks.now) (family_of edges.now)) }
+    ensures { IfOk result (λ kept. family_of kept.items
+        ≡ on_side (marked marks.now) (family_of edges.now)) }
 {
     let mut kept = Vec::new(alloc);
     for edge in edges {
@@ -104,7 +105,8 @@ fn other_edges(
     marks: &[bool],
 ) -> Result<Vec<NamedEdge>, AllocError>
     requires { HaveNamesBelow (length marks.now) edges.now }
-    ensures { IfOk result (λ kept. family_of kept.items ≡ entry_of own ∷ off_side (marked marks.now) (family_of edges.now)) }
+    ensures { IfOk result (λ kept. family_of kept.items
+        ≡ entry_of own ∷ off_side (marked marks.now) (family_of edges.now)) }
 {
     let mut kept = Vec::new(alloc);
     kept.push(own)?;
@@ -156,8 +158,10 @@ impl Splitting {
     pub(crate) fn of(alloc: Global, g: &Graph) -> Result<Splitting, AllocError>
         ensures parts { IfOk result (λ s. s.parts.items ≡ []) }
         ensures current { IfOk result (λ s. family_of s.current.items ≡ graph_family g.now) }
-        ensures state { IfOk result (λ s. IsSplitState g.now (state_of s.parts.items s.current.items)) }
-        ensures large { IsOneBlock g.now → 3 ≤ edge_count g.now → IfOk result (λ s. IsSplitting g.now s.parts.items s.current.items) }
+        ensures state { IfOk result
+            (λ s. IsSplitState g.now (state_of s.parts.items s.current.items)) }
+        ensures large { IsOneBlock g.now → 3 ≤ edge_count g.now
+            → IfOk result (λ s. IsSplitting g.now s.parts.items s.current.items) }
     {
         let current = edges_of(alloc, g)?;
         Ok(Splitting {

@@ -43,7 +43,8 @@ fn mark_along(edges: &[NamedEdge], labels: &[u32], a: u32, b: u32, label: u32, m
     requires ends { HaveEndsBelow (length labels.now) edges.now }
     requires names { HaveNamesBelow (length marks.old) edges.now }
     requires unmarked { (n : ℕ) → marked marks.old n ≡ false }
-    ensures { (n : ℕ) → marked marks.new n ≡ side_of (family_of edges.now) (in_lump a b (has_label labels.now label)) n }
+    ensures { (n : ℕ) → marked marks.new n
+        ≡ side_of (family_of edges.now) (in_lump a b (has_label labels.now label)) n }
 {
     for edge in edges {
         if is_in_lump(labels, a, b, label, *edge) {
@@ -64,7 +65,8 @@ pub(crate) fn mark_lump(
 ) -> Result<Vec<bool>, AllocError>
     requires ends { HaveEndsBelow (length labels.now) edges.now }
     requires names { HaveNamesBelow bound edges.now }
-    ensures marks { IfOk result (λ marks. (n : ℕ) → marked marks.items n ≡ side_of (family_of edges.now) (in_lump a b (has_label labels.now label)) n) }
+    ensures marks { IfOk result (λ marks. (n : ℕ) → marked marks.items n
+        ≡ side_of (family_of edges.now) (in_lump a b (has_label labels.now label)) n) }
     ensures number { IfOk result (λ marks. length marks.items ≡ bound) }
 {
     let mut marks = vec![in alloc; false; bound]?;

@@ -35,9 +35,11 @@ fn write_state(
     splitting: &Splitting,
     kind: Kind,
 ) -> Result<Comps, AllocError>
-    requires state { IsSplitState g.now (state_of splitting.now.parts.items splitting.now.current.items) }
+    requires state { IsSplitState g.now
+        (state_of splitting.now.parts.items splitting.now.current.items) }
     requires few { length splitting.now.parts.items ≤ edge_count g.now }
-    ensures { IfOk result (λ comps. AreComponents (edge_count g.now) (state_of splitting.now.parts.items splitting.now.current.items) kind comps.list) }
+    ensures { IfOk result (λ comps. AreComponents (edge_count g.now)
+        (state_of splitting.now.parts.items splitting.now.current.items) kind comps.list) }
 {
     write(
         alloc,

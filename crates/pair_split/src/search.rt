@@ -41,7 +41,9 @@ fn better_side(
     requires best { IsBest (family_of edges.now) best }
     ensures best { IfOk result (IsBest (family_of edges.now)) }
     ensures no_larger { IfOk result (λ side. side.size ≤ best.size) }
-    ensures lump { IfOk result (λ side. 2 ≤ lump_size (family_of edges.now) a b labels.now label → lump_size (family_of edges.now) a b labels.now label + 2 ≤ length edges.now → side.size ≤ lump_size (family_of edges.now) a b labels.now label) }
+    ensures lump { IfOk result (λ side. 2 ≤ lump_size (family_of edges.now) a b labels.now label
+        → lump_size (family_of edges.now) a b labels.now label + 2 ≤ length edges.now
+        → side.size ≤ lump_size (family_of edges.now) a b labels.now label) }
 {
     let size = size_of_lump(edges, labels, a, b, label);
     if size < 2 || best.size <= size || edges.len() - size < 2 {
@@ -72,7 +74,11 @@ fn best_of_lumps(
     requires best { IsBest (family_of edges.now) best }
     ensures best { IfOk result (IsBest (family_of edges.now)) }
     ensures no_larger { IfOk result (λ side. side.size ≤ best.size) }
-    ensures lumps { IfOk result (λ side. (label : ℕ) → label < length labels.now → label_at labels.now label ≡ label → 2 ≤ lump_size (family_of edges.now) a b labels.now label → lump_size (family_of edges.now) a b labels.now label + 2 ≤ length edges.now → side.size ≤ lump_size (family_of edges.now) a b labels.now label) }
+    ensures lumps { IfOk result (λ side. (label : ℕ) → label < length labels.now
+        → label_at labels.now label ≡ label
+        → 2 ≤ lump_size (family_of edges.now) a b labels.now label
+        → lump_size (family_of edges.now) a b labels.now label + 2 ≤ length edges.now
+        → side.size ≤ lump_size (family_of edges.now) a b labels.now label) }
 {
     let mut best = best;
     for label in 0..labels.len() as u32 {
@@ -159,8 +165,10 @@ pub(crate) fn are_parallel(e: NamedEdge, f: NamedEdge) -> bool
 // The place of the first entry behind i that is parallel to it.
 fn parallel_behind(edges: &[NamedEdge], i: usize) -> Option<usize>
     requires { i < length edges.now }
-    ensures found { IfSome result (λ j. (i < j) × (j < length edges.now) × AreParallelAt edges.now i j) }
-    ensures none { result ≡ None → (j : ℕ) → i < j → j < length edges.now → AreParallelAt edges.now i j → ⊥ }
+    ensures found { IfSome result (λ j. (i < j) × (j < length edges.now)
+        × AreParallelAt edges.now i j) }
+    ensures none { result ≡ None → (j : ℕ) → i < j → j < length edges.now
+        → AreParallelAt edges.now i j → ⊥ }
 {
     for j in i + 1..edges.len() {
         if are_parallel(edges[i], edges[j]) {
@@ -172,8 +180,10 @@ fn parallel_behind(edges: &[NamedEdge], i: usize) -> Option<usize>
 
 // The places of two parallel entries.
 fn parallel_places(edges: &[NamedEdge]) -> Option<(usize, usize)>
-    ensures found { IfSome result (λ p. (p.0 < p.1) × (p.1 < length edges.now) × AreParallelAt edges.now p.0 p.1) }
-    ensures none { result ≡ None → (i j : ℕ) → i < j → j < length edges.now → AreParallelAt edges.now i j → ⊥ }
+    ensures found { IfSome result (λ p. (p.0 < p.1) × (p.1 < length edges.now)
+        × AreParallelAt edges.now p.0 p.1) }
+    ensures none { result ≡ None → (i j : ℕ) → i < j → j < length edges.now
+        → AreParallelAt edges.now i j → ⊥ }
 {
     for i in 0..edges.len() {
         if let Some(j) = parallel_behind(edges, i) {
@@ -193,7 +203,8 @@ fn parallel_side(
     requires first_in { e.name < bound }
     requires second_in { f.name < bound }
     ensures ends { IfOk result (λ side. (side.first ≡ e.first) × (side.second ≡ e.second)) }
-    ensures marks { IfOk result (λ side. (n : ℕ) → marked side.marks.items n ≡ ((n == e.name) || (n == f.name))) }
+    ensures marks { IfOk result (λ side. (n : ℕ) → marked side.marks.items n
+        ≡ ((n == e.name) || (n == f.name))) }
     ensures number { IfOk result (λ side. length side.marks.items ≡ bound) }
 {
     let mut marks = vec![in alloc; false; bound]?;

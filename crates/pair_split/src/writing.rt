@@ -1,11 +1,11 @@
 // The components of a state of splitting, written out.
 
-ghost use Rattle.std.specs.Prelude.{◌≡◌, ◌+◌, ◌<◌, ◌≤◌, ◌^◌, ◌++◌, ◌∷◌, [], ℕ, List, length, IfOk, slice_index_or, Contains};
+ghost use Rattle.std.specs.Prelude.{◌≡◌, ◌+◌, ◌<◌, ◌^◌, ◌++◌, ◌∷◌, [], ℕ, List, length, IfOk, slice_index_or, Contains};
 ghost use Rattle.pair_split.specs.Family.{Entry};
 ghost use Rattle.pair_split.specs.Lumps.{entry_of, family_of, HaveNamesBelow};
 ghost use Rattle.pair_split.specs.State.{SplitState, layer, IsWritten, AreWritten, AreComponents};
 ghost use Rattle.pair_split.specs.Cuts.{state_of};
-ghost use Rattle.pair_split.specs.Writing.{IsListed, AreUps, HavePartNamesBelow, ArePartsWritten};
+ghost use Rattle.pair_split.specs.Writing.{IsListed, AreUps, IsNotedFor, HavePartNamesBelow, ArePartsWritten};
 
 use crate::components::{Comp, Comps, Kind, Piece, What};
 use crate::cuts::Cut;
@@ -16,8 +16,10 @@ use std::alloc::{AllocError, Global};
 // Notes for each virtual edge among these that it stands in this layer.
 fn note_layer(ups: &mut [u32], edges: &[NamedEdge], m: u32, layer: u32)
     requires { HaveNamesBelow (m + length ups.old) edges.now }
-    ensures noted { (entry : Entry) (c : ℕ) → Contains (family_of edges.now) entry → entry.name ≡ m + c → slice_index_or ups.new c 0 ≡ layer }
-    ensures kept { (c : ℕ) → ((entry : Entry) → Contains (family_of edges.now) entry → entry.name ≡ m + c → ⊥) → slice_index_or ups.new c 0 ≡ slice_index_or ups.old c 0 }
+    ensures noted { (entry : Entry) (c : ℕ) → Contains (family_of edges.now) entry
+        → entry.name ≡ m + c → slice_index_or ups.new c 0 ≡ layer }
+    ensures kept { (c : ℕ) → ((entry : Entry) → Contains (family_of edges.now) entry
+        → entry.name ≡ m + c → ⊥) → slice_index_or ups.new c 0 ≡ slice_index_or ups.old c 0 }
 {
     for edge in edges {
         if edge.name >= m {
@@ -59,7 +61,9 @@ fn ups_of(
 // What an entry of component k stands for.
 fn what_of(edge: NamedEdge, m: u32, k: u32, ups: &[u32]) -> What
     requires { edge.name < m + length ups.now }
-    ensures { (state : SplitState) → (edge.name ≡ m + k → Contains (layer state (slice_index_or ups.now k 0)) (entry_of edge)) → IsWritten m state k (entry_of edge) result }
+    ensures { (state : SplitState) → (edge.name ≡ m + k
+        → Contains (layer state (slice_index_or ups.now k 0)) (entry_of edge))
+        → IsWritten m state k (entry_of edge) result }
 {
     if edge.name < m {
         return What::Real(edge.name);
@@ -80,7 +84,10 @@ fn push_piece(
     ups: &[u32],
 ) -> Result<(), AllocError>
     requires { edge.name < m + length ups.now }
-    ensures { IfOk result (λ _. (state : SplitState) (entries : List Entry) → (edge.name ≡ m + k → Contains (layer state (slice_index_or ups.now k 0)) (entry_of edge)) → AreWritten m state k entries pieces.old.items → AreWritten m state k (entries ++ entry_of edge ∷ []) pieces.new.items) }
+    ensures { IfOk result (λ _. (state : SplitState) (entries : List Entry) → (edge.name ≡ m + k
+        → Contains (layer state (slice_index_or ups.now k 0)) (entry_of edge))
+        → AreWritten m state k entries pieces.old.items
+        → AreWritten m state k (entries ++ entry_of edge ∷ []) pieces.new.items) }
 {
     pieces.push(Piece {
         a: edge.first,
@@ -99,7 +106,10 @@ fn push_pieces(
     ups: &[u32],
 ) -> Result<(), AllocError>
     requires { HaveNamesBelow (m + length ups.now) edges.now }
-    ensures { IfOk result (λ _. (state : SplitState) (entries : List Entry) → ((entry : Entry) → Contains (family_of edges.now) entry → entry.name ≡ m + k → Contains (layer state (slice_index_or ups.now k 0)) entry) → AreWritten m state k entries pieces.old.items → AreWritten m state k (entries ++ family_of edges.now) pieces.new.items) }
+    ensures { IfOk result (λ _. (state : SplitState) (entries : List Entry)
+        → IsNotedFor m state k ups.now (family_of edges.now)
+        → AreWritten m state k entries pieces.old.items
+        → AreWritten m state k (entries ++ family_of edges.now) pieces.new.items) }
 {
     for edge in edges {
         push_piece(pieces, *edge, m, k, ups)?;
@@ -112,7 +122,9 @@ fn part_of(alloc: Global, cut: &Cut, m: u32, k: u32, ups: &[u32]) -> Result<Comp
     requires own { cut.now.own.name < m + length ups.now }
     requires names { HaveNamesBelow (m + length ups.now) cut.now.edges }
     ensures kind { IfOk result (λ comp. comp.kind ≡ cut.now.kind) }
-    ensures written { IfOk result (λ comp. (state : SplitState) → ((entry : Entry) → Contains (entry_of cut.now.own ∷ family_of cut.now.edges) entry → entry.name ≡ m + k → Contains (layer state (slice_index_or ups.now k 0)) entry) → AreWritten m state k (entry_of cut.now.own ∷ family_of cut.now.edges) comp.items) }
+    ensures written { IfOk result (λ comp. (state : SplitState)
+        → IsNotedFor m state k ups.now (entry_of cut.now.own ∷ family_of cut.now.edges)
+        → AreWritten m state k (entry_of cut.now.own ∷ family_of cut.now.edges) comp.items) }
 {
     let mut pieces = Vec::new(alloc);
     push_piece(&mut pieces, cut.own, m, k, ups)?;
@@ -134,7 +146,9 @@ fn last_of(
 ) -> Result<Comp, AllocError>
     requires { HaveNamesBelow (m + length ups.now) current.now }
     ensures kind { IfOk result (λ comp. comp.kind ≡ kind) }
-    ensures written { IfOk result (λ comp. (state : SplitState) → ((entry : Entry) → Contains (family_of current.now) entry → entry.name ≡ m + k → Contains (layer state (slice_index_or ups.now k 0)) entry) → AreWritten m state k (family_of current.now) comp.items) }
+    ensures written { IfOk result (λ comp. (state : SplitState)
+        → IsNotedFor m state k ups.now (family_of current.now)
+        → AreWritten m state k (family_of current.now) comp.items) }
 {
     let mut pieces = Vec::new(alloc);
     push_pieces(&mut pieces, current, m, k, ups)?;
@@ -148,7 +162,8 @@ fn last_of(
 fn write_parts(alloc: Global, parts: &[Cut], m: u32, ups: &[u32]) -> Result<Vec<Comp>, AllocError>
     requires names { HavePartNamesBelow (m + length ups.now) parts.now }
     requires few { length parts.now < 2 ^ 32 }
-    ensures { IfOk result (λ comps. ArePartsWritten m parts.now ups.now (length parts.now) comps.items) }
+    ensures { IfOk result
+        (λ comps. ArePartsWritten m parts.now ups.now (length parts.now) comps.items) }
 {
     let mut comps = Vec::new(alloc);
     for (k, cut) in parts.iter().enumerate() {
@@ -167,7 +182,8 @@ pub(crate) fn write(
 ) -> Result<Comps, AllocError>
     requires listed { IsListed m (state_of parts.now current.now) }
     requires few { m + length parts.now < 2 ^ 32 }
-    ensures { IfOk result (λ comps. AreComponents m (state_of parts.now current.now) kind comps.list) }
+    ensures { IfOk result
+        (λ comps. AreComponents m (state_of parts.now current.now) kind comps.list) }
 {
     let ups = ups_of(alloc, parts, current, m)?;
     let mut comps = write_parts(alloc, parts, m, &ups)?;
