@@ -31,6 +31,12 @@ fn reads_back_a_graph(rt: HostRuntime) -> Result<(), Fail> {
     let again = g.copy(rt.alloc())?;
     assert_eq!(rt; again.vertex_count(), 5);
     assert_eq!(rt; again.edge_count(), 6);
+    for e in 0..g.edge_count() {
+        assert_eq!(rt; again.ends(e), g.ends(e));
+    }
+    for v in 0..g.vertex_count() {
+        assert_eq!(rt; again.incident(v), g.incident(v));
+    }
     Ok(())
 }
 
