@@ -22,5 +22,5 @@ of_ends-requires-clause-limits c = subst IsWithinLimits (sym (ap₂ multigraph_o
 pub returns-clause-triconnected : goal.returns-clause-triconnected
 returns-clause-triconnected c = λ rigid. IfOk-weaker c.of_ends.result _ IsTriconnected
     (λ g e. subst IsTriconnected (sym (e ∙ ap₂ multigraph_of (ap length c.vertices.ensures) c.in_ok-ends.ensures))
-        (skeleton-triconnected c.requires.block.0 c.args.self.now c.requires.block.1 c.args.k (c.requires.node, rigid)).1)
+    (skeleton-triconnected c.requires.block.0 c.args.self.now c.requires.block.1 c.args.k (c.requires.node, rigid)).1)
     c.of_ends.ensures
