@@ -131,13 +131,13 @@ impl Graph {
         self.incident[v as usize].as_slice()
     }
 
-    /// The end of edge `e` that is not `v`, one of its ends.
+    /// The end of edge `e` that is not `v`, one of its ends. Found without a branch: searches ask for it at random.
     pub fn other_end(&self, e: u32, v: u32) -> u32
         requires edge { e < edge_count self.now }
         requires end { IsTrue (is_end self.now v e) }
         ensures { result ≡ other_end self.now e v }
     {
         let (first, second) = self.ends[e as usize];
-        if first == v { second } else { first }
+        first + second - v
     }
 }
