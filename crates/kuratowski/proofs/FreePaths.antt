@@ -5,18 +5,11 @@ use Rattle.std.proofs.Math.Seq.{drop-cons}
 use Rattle.permutations.specs.Members.{is_member, is_distinct}
 use Rattle.permutations.proofs.Members.{no_member-cons, no_member-append, distinct-cons, distinct-append}
 use Rattle.multigraph.specs.Graph.{Multigraph, edge_count, is_end, is_edge_at, other_end}
+use Rattle.multigraph.proofs.OtherEnd.{edge_at-parts, edge_at-from}
 use Rattle.graph_theory.specs.Path.{walk_end, walk_starts, IsWalk, IsPath}
 use Rattle.kuratowski.specs.Subdivision.{branch_at, inner_vertices, all_inner}
 use Rattle.kuratowski.specs.Checking.{is_taken, marked_also, are_free, is_free_walk, is_free_path, are_free_paths}
 use Rattle.kuratowski.proofs.Marks.{taken-also, free-append, free-each, free-distinct}
-
--- what an edge at a vertex is
-edge-parts : (g : Multigraph) (x e : ℕ) → is_edge_at g x e ≡ true → (e < edge_count g) × (is_end g x e ≡ true)
-edge-parts g x e h = let p = and_parts (ltb e (edge_count g)) (is_end g x e) h in (ltb-true e (edge_count g) p.0, p.1)
-
--- an edge with this end is one at it
-edge-from : (g : Multigraph) (x e : ℕ) → e < edge_count g → is_end g x e ≡ true → is_edge_at g x e ≡ true
-edge-from g x e l i = and_from (ltb e (edge_count g)) (is_end g x e) (lt-ltb e (edge_count g) l) i
 
 -- a walk without marks is one
 pub free_walk-walk : (g : Multigraph) (m : List Bool) (x : ℕ) (es : List ℕ) → is_free_walk g m x es ≡ true → IsWalk g x es
@@ -24,7 +17,7 @@ free_walk-walk g m x [] h = tt
 free_walk-walk g m x (e ∷ es) h =
     let p = and_parts (not (is_taken m x)) (is_edge_at g x e && is_free_walk g (set m x true) (other_end g e x) es) h in
     let q = and_parts (is_edge_at g x e) (is_free_walk g (set m x true) (other_end g e x) es) p.1 in
-    (edge-parts g x e q.0, free_walk-walk g (set m x true) (other_end g e x) es q.1)
+    (edge_at-parts g x e q.0, free_walk-walk g (set m x true) (other_end g e x) es q.1)
 
 -- the vertices at which its edges are entered have no marks
 pub free_walk-free : (g : Multigraph) (m : List Bool) (x : ℕ) (es : List ℕ) → is_free_walk g m x es ≡ true → are_free m (walk_starts g x es) ≡ true
@@ -40,7 +33,7 @@ free_walk-from g m x [] w f = refl
 free_walk-from g m x (e ∷ es) w f =
     let p = and_parts (not (is_taken m x)) (are_free (set m x true) (walk_starts g (other_end g e x) es)) f in
     and_from (not (is_taken m x)) (is_edge_at g x e && is_free_walk g (set m x true) (other_end g e x) es) p.0
-    (and_from (is_edge_at g x e) (is_free_walk g (set m x true) (other_end g e x) es) (edge-from g x e w.0.0 w.0.1) (free_walk-from g (set m x true) (other_end g e x) es w.1 p.1))
+    (and_from (is_edge_at g x e) (is_free_walk g (set m x true) (other_end g e x) es) (edge_at-from g x e w.0.0 w.0.1) (free_walk-from g (set m x true) (other_end g e x) es w.1 p.1))
 
 -- the vertices inside a path without marks have none
 pub free_path-free : (g : Multigraph) (m : List Bool) (x : ℕ) (es : List ℕ) (y : ℕ) → is_free_path g m x es y ≡ true → are_free m (inner_vertices g x es) ≡ true
@@ -54,7 +47,7 @@ free_path-free g m x (e ∷ es) y h =
 pub free_path-path : (g : Multigraph) (m : List Bool) (x : ℕ) (es : List ℕ) (y : ℕ) → is_taken m x ≡ true → is_taken m y ≡ true → x ≢ y → is_free_path g m x es y ≡ true → IsPath g x es y
 free_path-path g m x [] y a b n h = absurd (true≢false (sym h))
 free_path-path g m x (e ∷ es) y a b n h = record {
-  walk = (edge-parts g x e p.0, free_walk-walk g m z es q.0);
+  walk = (edge_at-parts g x e p.0, free_walk-walk g m z es q.0);
   arrives = arrives;
   vertices = subst (λ (w : ℕ). is_distinct (x ∷ (walk_starts g z es ++ w ∷ [])) ≡ true) (sym arrives)
       (distinct-cons x (walk_starts g z es ++ y ∷ [])
@@ -85,7 +78,7 @@ free_path-path g m x (e ∷ es) y a b n h = record {
 pub free_path-from : (g : Multigraph) (m : List Bool) (x : ℕ) (es : List ℕ) (y : ℕ) → x ≢ y → IsPath g x es y → are_free m (inner_vertices g x es) ≡ true → is_free_path g m x es y ≡ true
 free_path-from g m x [] y n p f = absurd (n p.arrives)
 free_path-from g m x (e ∷ es) y n p f =
-    and_from (is_edge_at g x e) (is_free_walk g m (other_end g e x) es && (walk_end g (other_end g e x) es == y)) (edge-from g x e p.walk.0.0 p.walk.0.1)
+    and_from (is_edge_at g x e) (is_free_walk g m (other_end g e x) es && (walk_end g (other_end g e x) es == y)) (edge_at-from g x e p.walk.0.0 p.walk.0.1)
     (and_from (is_free_walk g m (other_end g e x) es) (walk_end g (other_end g e x) es == y) (free_walk-from g m (other_end g e x) es p.walk.1 f) (eq-eqb (walk_end g (other_end g e x) es) y p.arrives))
 
 -- the two branch vertices of each pair are different and marked

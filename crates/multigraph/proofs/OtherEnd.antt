@@ -1,7 +1,7 @@
 -- The two ends of an edge, and the one that is not a given end.
-use Rattle.std.proofs.Common.{◌≡◌, ℕ, ◌<◌, true, false, ◌⊎◌, ◌≢◌, ◌∙◌, eqb, refl, sym, subst, inl, inr, arith}
-use Rattle.std.proofs.lemmas.Bool.{eqb-true, eq-eqb, ne_eqb, or_from, cases_eq, or_cases, or_left, or_right}
-use Rattle.multigraph.specs.Graph.{Multigraph, edge_count, ends_of, is_end, other_end, IsGraph}
+use Rattle.std.proofs.Common.{◌≡◌, ℕ, ◌<◌, true, false, ◌⊎◌, ◌≢◌, ◌∙◌, eqb, ltb, refl, sym, subst, inl, inr, arith}
+use Rattle.std.proofs.lemmas.Bool.{eqb-true, eq-eqb, ne_eqb, or_from, cases_eq, or_cases, or_left, or_right, and_parts, and_from, ltb-true, lt-ltb}
+use Rattle.multigraph.specs.Graph.{Multigraph, edge_count, ends_of, is_end, is_edge_at, other_end, IsGraph}
 
 -- the first end is an end
 pub is_end-first : (g : Multigraph) (e : ℕ) → is_end g (ends_of g e).0 e ≡ true
@@ -78,3 +78,11 @@ is_end-from_first g v e h = subst (λ (w : ℕ). is_end g w e ≡ true) h (is_en
 -- a vertex that is the second end is an end
 pub is_end-from_second : (g : Multigraph) (v e : ℕ) → (ends_of g e).1 ≡ v → is_end g v e ≡ true
 is_end-from_second g v e h = subst (λ (w : ℕ). is_end g w e ≡ true) h (is_end-second g e)
+
+-- what an edge at a vertex is
+pub edge_at-parts : (g : Multigraph) (v e : ℕ) → is_edge_at g v e ≡ true → (e < edge_count g) × (is_end g v e ≡ true)
+edge_at-parts g v e h = let p = and_parts (ltb e (edge_count g)) (is_end g v e) h in (ltb-true e (edge_count g) p.0, p.1)
+
+-- an edge with this end is one at it
+pub edge_at-from : (g : Multigraph) (v e : ℕ) → e < edge_count g → is_end g v e ≡ true → is_edge_at g v e ≡ true
+edge_at-from g v e l i = and_from (ltb e (edge_count g)) (is_end g v e) (lt-ltb e (edge_count g) l) i

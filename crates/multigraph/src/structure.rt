@@ -141,12 +141,12 @@ impl Graph {
         first + second - v
     }
 
-    /// Whether `e` is an edge, and `v` one of its ends.
+    /// Whether `e` is an edge, and `v` one of its ends. Both ends are compared without a branch between them.
     pub fn is_edge_at(&self, e: u32, v: u32) -> bool
         ensures { result ≡ is_edge_at self.now v e }
     {
         match self.ends.get(e as usize) {
-            Some((first, second)) => *first == v || *second == v,
+            Some((first, second)) => (*first == v) | (*second == v),
             None => false,
         }
     }

@@ -2,11 +2,12 @@
 use Rattle.std.proofs.Common.{◌≡◌, ℕ, zero, suc, ◌<◌, Bool, true, false, cond, List, [], ◌∷◌, ◌++◌, length, get_or, refl, sym, ◌∙◌, subst, inl, inr, arith}
 use Rattle.std.specs.List.{filter, Contains}
 use Rattle.std.proofs.lemmas.List.Elements.{Contains-append_right}
-use Rattle.std.proofs.lemmas.Bool.{cases_Bool, false_from_ne_true}
+use Rattle.std.proofs.lemmas.Bool.{cases_Bool, false_from_ne_true, true≢false}
 use Rattle.permutations.specs.Members.{is_member, is_distinct}
 use Rattle.permutations.proofs.Members.{member-head, member-tail, cut_at, distinct-append, no_member-cons}
-use Rattle.multigraph.specs.Graph.{Multigraph, edge_count, is_end, numbers_below, incident_edges}
+use Rattle.multigraph.specs.Graph.{Multigraph, edge_count, is_end, is_edge_at, numbers_below, incident_edges}
 use Rattle.multigraph.proofs.Below.{filter_below-suc, filter_below-only}
+use Rattle.multigraph.proofs.OtherEnd.{edge_at-parts, edge_at-from}
 use Rattle.multigraph.proofs.Incident.{incident-has, incident-edge, incident-end}
 
 -- what stands at a place of a list is a member
@@ -64,3 +65,12 @@ incident-no_end g v e h = false_from_ne_true (is_member e (incident_edges g v)) 
   where
     apart : true ≡ false → ⊥
     apart e = cc
+
+-- what is no edge at v is none of those at v
+pub is_edge_at-no : (g : Multigraph) (v e : ℕ) → is_edge_at g v e ≡ false → is_member e (incident_edges g v) ≡ false
+is_edge_at-no g v e h = false_from_ne_true (is_member e (incident_edges g v))
+    (λ m. absurd (true≢false (sym (edge_at-from g v e (member-edge g v e m) (member-end g v e m)) ∙ h)))
+
+-- an edge at v is one of those at v
+pub is_edge_at-member : (g : Multigraph) (v e : ℕ) → is_edge_at g v e ≡ true → is_member e (incident_edges g v) ≡ true
+is_edge_at-member g v e h = let p = edge_at-parts g v e h in incident-member g v e p.0 p.1

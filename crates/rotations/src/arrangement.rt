@@ -7,7 +7,7 @@ ghost use Rattle.std.specs.Prelude.{◌≡◌, ◌≢◌, ◌+◌, ◌≤◌, �
 ghost use Rattle.std.specs.List.{All};
 ghost use Rattle.std.specs.List.Sorted.{IsPermutation};
 ghost use Rattle.permutations.specs.Members.{is_member};
-ghost use Rattle.multigraph.specs.Graph.{edge_count, incident_edges};
+ghost use Rattle.multigraph.specs.Graph.{max_vertices, edge_count, incident_edges};
 ghost use Rattle.rotations.specs.Given.{AreArranged, IsRefusal};
 
 use crate::entries::Lists;
@@ -57,15 +57,11 @@ fn is_arrangement(g: &Graph, v: u32, list: &[u32], seen: &mut [u32]) -> bool
 
 // Whether e is an edge at v that was not met in this list, which is then noted.
 fn is_new(g: &Graph, v: u32, e: u32, seen: &mut [u32]) -> bool
-    requires vertex { v < g.now.vertex_count }
+    requires vertex { v < max_vertices }
     requires long { length seen.old ≡ edge_count g.now }
     ensures { MatchBool result ((is_member e (incident_edges g.now v) ≡ true) × (slice_index seen.old e ≢ v + 1) × (seen.new ≡ slice_set seen.old e (v + 1))) (((is_member e (incident_edges g.now v) ≡ false) ⊎ (slice_index seen.old e ≡ v + 1)) × (seen.new ≡ seen.old)) }
 {
-    if e >= g.edge_count() {
-        return false;
-    }
-    let (first, second) = g.ends(e);
-    if first != v && second != v {
+    if !g.is_edge_at(e, v) {
         return false;
     }
     if seen[e as usize] == v + 1 {
