@@ -13,7 +13,7 @@ use Rattle.pair_split.proofs.Links.{stands-in}
 use Rattle.skeletons.proofs.NodeItems.{node-in, stands-of, item-of}
 use Rattle.block_obstruct.specs.Listing.{note_of}
 use Rattle.block_obstruct.specs.Towards.{HaveItem, IsItem, IsTowards}
-use Rattle.block_obstruct.specs.Groups.{IsInGroup, AreNoted, AreOwners, noted_with, AreParted}
+use Rattle.block_obstruct.specs.Groups.{IsInGroup, AreNoted, AreOwners, noted_with}
 
 module _ (g : Multigraph) (nodes : List Node) (t : IsTutte g nodes) (k : ℕ) where
   abbrev comps : List Comp
@@ -48,20 +48,3 @@ module _ (g : Multigraph) (nodes : List Node) (t : IsTutte g nodes) (k : ℕ) wh
       let w = t.split.covers.present e l in
       let i = item-of g nodes t w.0 w.1 (Real e) w.2 in
       a w.0 e (subst (λ z. w.0 < z) q (node-in g nodes t w.0 (stands-in comps w.0 w.1 (Real e) w.2))) (w.1, i.0, i.1)
-
--- no number yet
-pub parted-none : (notes : List ℕ) (count : ℕ) → AreParted notes 0 count (replicate count [])
-parted-none notes count = record { each = length-replicate count []; parts = λ i l. get_or-replicate count i [] [] l }
-
--- one number more, behind the list of its note
-pub parted-more : (notes : List ℕ) (e count i : ℕ) (old new : List (List ℕ)) → AreParted notes e count old → note_of notes e ≡ i → i < count → new ≡ set old i (get_or old i [] ++ e ∷ []) → AreParted notes (e + 1) count new
-parted-more notes e count i old new a n l q = subst (λ (z : List (List ℕ)). AreParted notes (e + 1) count z) (sym q) (record {
-  each = length-set old i (get_or old i [] ++ e ∷ []) ∙ a.each;
-  parts = λ v m. elim (cases_eq v i) [
-    | inl s ↦ subst (λ (z : ℕ). get_or (set old i (get_or old i [] ++ e ∷ [])) z [] ≡ noted_with notes (e + 1) z) (sym s)
-        (get_or-set_same old i (get_or old i [] ++ e ∷ []) [] (omega (arith, l, a.each))
-        ∙ (ap (λ (xs : List ℕ). xs ++ e ∷ []) (a.parts i l) ∙ sym (filter_below-yes (λ f. note_of notes f == i) e (eq-eqb (note_of notes e) i n))))
-    | inr d ↦ get_or-set_other old i v (get_or old i [] ++ e ∷ []) [] d
-        ∙ (a.parts v m ∙ sym (filter_below-no (λ f. note_of notes f == v) e (ne_eqb (note_of notes e) v (λ s. d (sym s ∙ n)))))
-  ];
-})

@@ -26,7 +26,8 @@ use Rattle.skeleton_runs.proofs.SkeletonGraph.{skeleton-limits, graph-edges, edg
 use Rattle.block_obstruct.specs.Listing.{note_of}
 use Rattle.block_obstruct.specs.Towards.{item_in}
 use Rattle.block_obstruct.specs.Routes.{route_start, route_end, route_vertices, route_at, EndsRoute, AreRoutes}
-use Rattle.block_obstruct.specs.Groups.{AreOwners, noted_with, AreParted, PathAlong, IsItemRoute, AreItemRoutes}
+use Rattle.multigraph.specs.Buckets.{ArePlaces}
+use Rattle.block_obstruct.specs.Groups.{AreOwners, noted_with, PathAlong, IsItemRoute, AreItemRoutes}
 use Rattle.block_obstruct.proofs.Lifted.{inside-met}
 
 -- a path between the ends of an item, where the lists are read elsewhere
@@ -69,17 +70,17 @@ module _ (g : Multigraph) (nodes : List Node) (b : IsBlockTree g nodes) (k : ℕ
   pub ends-apart : (i : ℕ) → i < count → (node_item nodes k i).a ≢ (node_item nodes k i).b
   ends-apart i l q = omega (arith, tree.in_order.ends_rise k i l, q)
 
-  module _ (notes : List ℕ) (lists : List (List ℕ)) (o : AreOwners g nodes k notes) (p : AreParted notes (edge_count g) count lists) where
+  module _ (notes : List ℕ) (lists : List (List ℕ)) (o : AreOwners g nodes k notes) (p : ArePlaces notes (edge_count g) count lists) where
     abbrev part : ℕ → List ℕ
     part i = slice_index_or lists i []
 
     -- the edges in the group of an item rise
     pub group-rises : (i : ℕ) → i < count → Rises (part i)
-    group-rises i l = subst (λ (z : List ℕ). Rises z) (sym (p.parts i l)) (λ x y c d. filter_below-rises (λ e. note_of notes e == i) (edge_count g) x y 0 c d)
+    group-rises i l = subst (λ (z : List ℕ). Rises z) (sym (p.places i l)) (λ x y c d. filter_below-rises (λ e. note_of notes e == i) (edge_count g) x y 0 c d)
 
     -- they are edges
     pub group-below : (i : ℕ) → i < count → (x : ℕ) → x < length (part i) → slice_index (part i) x < edge_count g
-    group-below i l = subst (λ (z : List ℕ). (x : ℕ) → x < length z → slice_index z x < edge_count g) (sym (p.parts i l)) (λ x c. (filter_below-at (λ e. note_of notes e == i) (edge_count g) x 0 c).0)
+    group-below i l = subst (λ (z : List ℕ). (x : ℕ) → x < length z → slice_index z x < edge_count g) (sym (p.places i l)) (λ x c. (filter_below-at (λ e. note_of notes e == i) (edge_count g) x 0 c).0)
 
     -- an edge in the group of the item is among them
     group-has : (i e : ℕ) → i < count → e < edge_count g → in_group i e → is_member e (part i) ≡ true
@@ -87,13 +88,13 @@ module _ (g : Multigraph) (nodes : List Node) (b : IsBlockTree g nodes) (k : ℕ
         let w = o e le in
         let same : note_of notes e ≡ i = group-once g comps tree.split k e (note_of notes e) i (piece-in g nodes tree k (note_of notes e) w.0) (piece-in g nodes tree k i l) le
         (ap (λ (z : What). has_in_group comps k e z) (what-at g nodes tree k (note_of notes e) w.0) ∙ w.1) (ap (λ (z : What). has_in_group comps k e z) (what-at g nodes tree k i l) ∙ m) in
-        subst (λ (z : List ℕ). is_member e z ≡ true) (sym (p.parts i l))
+        subst (λ (z : List ℕ). is_member e z ≡ true) (sym (p.places i l))
         (member-from_contains (noted_with notes (edge_count g) i) e (filter_below-has (λ f. note_of notes f == i) (edge_count g) e le (eq-eqb (note_of notes e) i same)))
 
     -- what is among them is in the group of the item
     group-only : (i e : ℕ) → i < count → is_member e (part i) ≡ true → in_group i e
     group-only i e l m =
-        let w = filter_below-only (λ f. note_of notes f == i) (edge_count g) e (contains-from_member (noted_with notes (edge_count g) i) e (subst (λ (z : List ℕ). is_member e z ≡ true) (p.parts i l) m)) in
+        let w = filter_below-only (λ f. note_of notes f == i) (edge_count g) e (contains-from_member (noted_with notes (edge_count g) i) e (subst (λ (z : List ℕ). is_member e z ≡ true) (p.places i l) m)) in
         subst (λ (z : ℕ). in_group z e) (eqb-true (note_of notes e) i w.1) (o e w.0).1
 
     -- there is a path along them between the ends of the item

@@ -2,6 +2,7 @@
 use Rattle.std.specs.Prelude.{◌≡◌, ℕ, ◌<◌, true, ◌==◌, List, [], length, filter, slice_index_or}
 use Rattle.permutations.specs.Members.{is_member}
 use Rattle.multigraph.specs.Graph.{Multigraph, edge_count, numbers_below}
+use Rattle.multigraph.specs.Buckets.{ArePlaces}
 use Rattle.graph_theory.specs.Path.{IsPath}
 use Rattle.pair_split.specs.Tutte.{Node, components, node_at, node_item, has_in_group}
 use Rattle.pair_split.specs.declared.components.What.TheVariants.{Real}
@@ -24,14 +25,9 @@ AreOwners g nodes k notes = (e : ℕ) → e < edge_count g → IsInGroup nodes k
 abbrev pub noted_with : List ℕ → ℕ → ℕ → List ℕ
 noted_with notes n i = filter (λ e. note_of notes e == i) (numbers_below n)
 
--- the lists hold, for each note, those of the first n numbers that have it
-pub record AreParted (notes : List ℕ) (n count : ℕ) (lists : List (List ℕ)) : Type 0 where
-  pub each : length lists ≡ count
-  pub parts : (i : ℕ) → i < count → slice_index_or lists i [] ≡ noted_with notes n i
-
 -- the lists hold, for each item of node k, the edges in its group, rising
 abbrev pub AreGroupLists : Multigraph → List Node → ℕ → List (List ℕ) → Type 0
-AreGroupLists g nodes k lists = (notes : List ℕ) × AreOwners g nodes k notes × AreParted notes (edge_count g) (length (node_at nodes k).items) lists
+AreGroupLists g nodes k lists = (notes : List ℕ) × AreOwners g nodes k notes × ArePlaces notes (edge_count g) (length (node_at nodes k).items) lists
 
 -- a path of g from one vertex to another along some of these edges
 pub record PathAlong (g : Multigraph) (edges : List ℕ) (x y : ℕ) : Type 0 where

@@ -12,7 +12,8 @@ use Rattle.multigraph.specs.Graph.{Multigraph, edge_count, numbers_below, IsWith
 use Rattle.multigraph.proofs.Below.{filter_below-has, filter_below-only, filter_below-rises}
 use Rattle.blocks.specs.Numbering.{same_label}
 use Rattle.blocks.specs.Blocks.{AreBlocks}
-use Rattle.blocks.specs.Finding.{AreBlockNumbers, ArePlaces}
+use Rattle.multigraph.specs.Buckets.{ArePlaces}
+use Rattle.blocks.specs.Finding.{AreBlockNumbers}
 use Rattle.blocks.proofs.Numbered.{same-equivalence}
 
 -- one more number adds at most one
@@ -158,5 +159,5 @@ collected g numbers total lists n p = record {
         back h = omega arith
 
 -- there are as many numbers as edges, and few enough to count
-pub numbers-few : (g : Multigraph) → IsWithinLimits g → (numbers : List ℕ) (total : ℕ) → AreBlockNumbers g numbers total → length numbers < 2147483648
+pub numbers-few : (g : Multigraph) → IsWithinLimits g → (numbers : List ℕ) (total : ℕ) → AreBlockNumbers g numbers total → length numbers < 4294967296
 numbers-few g limits numbers total n = omega (arith, n.numbering.places, n.labelled, limits.few_edges)

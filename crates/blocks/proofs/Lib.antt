@@ -15,7 +15,6 @@ mod Numbered
 mod Spreading
 mod Heads
 mod Found
-mod Places
 mod Meeting
 mod Collected
 mod Rising

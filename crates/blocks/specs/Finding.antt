@@ -34,8 +34,3 @@ pub record AreBlockNumbers (g : Multigraph) (numbers : List ℕ) (total : ℕ) :
   pub numbering : IsNumbering labels numbers
   pub counted : total ≡ class_count (length labels) (same_label labels)
   pub same : (e f : ℕ) → e < edge_count g → f < edge_count g → (slice_index labels e ≡ slice_index labels f) ↔ SameBlock g e f
-
--- the lists of the places of each number, rising
-pub record ArePlaces (numbers : List ℕ) (k total : ℕ) (lists : List (List ℕ)) : Type 0 where
-  pub counted : length lists ≡ total
-  pub places : (b : ℕ) → b < total → slice_index_or lists b [] ≡ filter (λ e. slice_index numbers e == b) (numbers_below k)

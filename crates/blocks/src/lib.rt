@@ -11,7 +11,6 @@
 
 mod cuts;
 pub mod laws;
-mod lists;
 mod numbering;
 mod one_block;
 mod search;

@@ -3,9 +3,8 @@ ghost use Rattle.std.specs.Prelude.{◌≡◌, ◌<◌, length, IfOk, slice_inde
 ghost use Rattle.blocks.specs.Blocks.{BlockStructure, IsBlockStructure, block_at};
 
 use crate::cuts::cut_vertices;
-use crate::lists::places_of;
 use crate::search::{Search, number_blocks, number_components};
-use multigraph::{Graph, Numbers};
+use multigraph::{Graph, Numbers, places_of};
 use std::alloc::{AllocError, Global};
 use std::marker::Model;
 
@@ -78,7 +77,7 @@ pub fn split(alloc: Global, graph: &Graph) -> Result<Blocks, AllocError>
 {
     let search = Search::of(alloc, graph)?;
     let (numbers, blocks) = number_blocks(alloc, graph, &search)?;
-    let lists = places_of(alloc, &numbers, blocks)?;
+    let lists = places_of(alloc, &numbers, blocks as usize)?;
     let cut = cut_vertices(alloc, graph, &numbers)?;
     let (components, total) = number_components(alloc, graph, &search)?;
     Ok(Blocks {

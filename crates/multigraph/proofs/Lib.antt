@@ -3,6 +3,7 @@ pub mod Below
 pub mod Incident
 pub mod OtherEnd
 pub mod Places
+mod PlacesOf
 mod Collecting
 pub mod Ends
 mod FirstFault

@@ -4,3 +4,4 @@ pub mod Build
 pub mod Incidence
 pub mod Part
 pub mod Marks
+pub mod Buckets

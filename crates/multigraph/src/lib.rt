@@ -9,6 +9,7 @@
 // `Numbers` and `NumberLists` are lists that contracts see as lists.
 #![tactic(auto)]
 
+mod buckets;
 mod faults;
 mod incidence;
 pub mod laws;
@@ -16,6 +17,7 @@ mod lists;
 mod parts;
 mod structure;
 
+pub use buckets::places_of;
 pub use faults::BuildFault;
 pub use lists::{NumberLists, Numbers};
 pub use parts::Part;

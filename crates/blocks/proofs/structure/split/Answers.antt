@@ -2,14 +2,14 @@ use Rattle.std.proofs.Common.{◌<◌, ℕ, List, length, filter, sym, subst, ge
 use Rattle.multigraph.specs.Graph.{incident_edges, numbers_below}
 use Rattle.blocks.specs.Cuts.{meets_two}
 use Rattle.blocks.specs.Blocks.{AreCutVertices}
-use Rattle.blocks.specs.Finding.{ArePlaces}
+use Rattle.multigraph.specs.Buckets.{ArePlaces}
 use Rattle.blocks.proofs.Collected.{number-in, numbers-few, collected}
 use Rattle.blocks.proofs.Meeting.{cuts-right}
 use Rattle.blocks.proofs.structure.split.Goals as goal
 
 pub places_of-requires-clause-few : goal.places_of-requires-clause-few
 places_of-requires-clause-few c =
-    subst (λ (z : List ℕ). length z < 2147483648) (sym c.deref.ensures.value)
+    subst (λ (z : List ℕ). length z < 4294967296) (sym c.deref.ensures.value)
     (numbers-few c.args.graph.now c.in_ok-search.ensures.limits c.in_ok-numbers.numbers.items c.in_ok-numbers.blocks (c.in_ok-numbers.ensures {u = tt}))
 
 pub places_of-requires-clause-within : goal.places_of-requires-clause-within
