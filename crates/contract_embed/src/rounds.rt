@@ -1,8 +1,7 @@
 // From the steps of a rotation system to the system itself.
 
 ghost use Rattle.std.specs.Prelude.{ℕ, List, IfOk};
-ghost use Rattle.rotations.specs.Rotation.{IsRotationSystem};
-ghost use Rattle.faces.specs.Euler.{IsPlane};
+ghost use Rattle.faces.specs.Euler.{IsPlaneSystem};
 ghost use Rattle.contract_obstruct.specs.Steps.{AreSteps, ArePlaneSteps};
 ghost use Rattle.contract_embed.specs.Entries.{AreOrdersBelow};
 
@@ -27,8 +26,7 @@ fn rounds(alloc: Global, g: &Graph, next: &[u32]) -> Result<Lists, AllocError>
 // The rotation system with these steps.
 pub(crate) fn rotation(alloc: Global, g: &Graph, next: &[u32]) -> Result<Rotation, AllocError>
     requires { ArePlaneSteps g.now next.now }
-    ensures system { IfOk result (IsRotationSystem g.now) }
-    ensures plane { IfOk result (IsPlane g.now) }
+    ensures { IfOk result (IsPlaneSystem g.now) }
 {
     let lists = rounds(alloc, g, next)?;
     match Rotation::from_lists(alloc, g, &lists) {

@@ -1,7 +1,7 @@
 // The moves from one member to another.
 
 ghost use Rattle.std.specs.Prelude.{◌≡◌, ◌<◌, ◌++◌, length, option_to_list, IfOk, OnOk};
-ghost use Rattle.skeletons.specs.Choices.{IsPlaneSystem};
+ghost use Rattle.faces.specs.Euler.{IsPlaneSystem};
 ghost use Rattle.skeletons.specs.Moves.{Lead, move_at, moves_between};
 ghost use Rattle.skel_embed.specs.Values.{as_moves};
 

@@ -21,7 +21,8 @@ use Rattle.choice_lists.proofs.Products.{product-at, product-ascends}
 use Rattle.choice_lists.proofs.Choices.{before-never, bond-at, rigid-first, rigid-second, choice_list-ascends}
 use Rattle.choice_lists.proofs.ToldByChoices.{values_from, values-map, values-back}
 use Rattle.skeletons.specs.Items.{IsBlockTree}
-use Rattle.skeletons.specs.Choices.{choice, IsPlaneSystem}
+use Rattle.faces.specs.Euler.{IsPlaneSystem}
+use Rattle.skeletons.specs.Choices.{choice}
 use Rattle.skeletons.specs.Families.{IsPossibleFor}
 use Rattle.skeletons.specs.Lists.{IsKept, IsKeptList, IsRank, choice_count, list_count}
 use Rattle.skeletons.proofs.Vertices.{least-has}

@@ -4,7 +4,8 @@ use Rattle.std.proofs.lemmas.Bool.{cases_Bool, cases_eq, cases_order, both_ways}
 use Rattle.pair_split.specs.Tutte.{Node, node_at}
 use Rattle.multigraph.specs.Graph.{Multigraph}
 use Rattle.choice_lists.proofs.ToldByChoices.{product_to}
-use Rattle.skeletons.specs.Choices.{choice, Precedes, IsPlaneSystem}
+use Rattle.faces.specs.Euler.{IsPlaneSystem}
+use Rattle.skeletons.specs.Choices.{choice, Precedes}
 use Rattle.skeletons.specs.Lists.{KeepsChoices, IsListOf, IsKept, IsKeptList, IsRank, list_count}
 use Rattle.skel_embed.specs.Block.{BlockState, lock_at, IsBlockState}
 use Rattle.embed_enum.specs.Digits.{digit_of, radix_at, digit_at, number_to}

@@ -2,7 +2,8 @@
 use Rattle.std.proofs.Common.{◌≡◌, ◌≢◌, ℕ, ◌<◌, List, length, sym, ap, ◌∙◌, subst, IsPermutation}
 use Rattle.permutations.specs.Cyclic.{from_least}
 use Rattle.skeletons.specs.Items.{node_keys}
-use Rattle.skeletons.specs.Choices.{choice, IsPlaneSystem}
+use Rattle.faces.specs.Euler.{IsPlaneSystem}
+use Rattle.skeletons.specs.Choices.{choice}
 use Rattle.skeletons.specs.Moves.{permute}
 use Rattle.skeletons.proofs.Moved.{move-others}
 use Rattle.skeleton_runs.proofs.Contiguous.{plane-contiguous}

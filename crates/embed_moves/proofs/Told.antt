@@ -6,7 +6,8 @@ use Rattle.multigraph.specs.Graph.{Multigraph}
 use Rattle.pair_split.specs.Tutte.{Node}
 use Rattle.pair_split.specs.declared.components.Kind.TheVariants.{P}
 use Rattle.skeletons.specs.Items.{node_keys, IsBlockTree}
-use Rattle.skeletons.specs.Choices.{choice, IsPlaneSystem}
+use Rattle.faces.specs.Euler.{IsPlaneSystem}
+use Rattle.skeletons.specs.Choices.{choice}
 use Rattle.skeletons.specs.Moves.{permute, IsNodeOfKind, PermuteLeads}
 use Rattle.skeletons.proofs.Moved.{permute-exists, move-others, permute-sets}
 use Rattle.skeleton_runs.proofs.Contiguous.{plane-contiguous}

@@ -7,7 +7,7 @@ use Rattle.permutations.specs.Relation.{connected, class_count}
 use Rattle.permutations.specs.Permutation.{reaches}
 use Rattle.multigraph.specs.Graph.{Multigraph, edge_count, ends_of, other_end, incident_edges}
 use Rattle.permutations.specs.Cyclic.{successor}
-use Rattle.rotations.specs.Rotation.{order_at}
+use Rattle.rotations.specs.Rotation.{order_at, IsRotationSystem}
 
 -- the vertex that a dart leaves
 abbrev pub tail : Multigraph → ℕ → ℕ
@@ -45,3 +45,8 @@ component_count g = class_count g.vertex_count (connected g.ends)
 -- a rotation system is plane where V + F = E + 2C
 abbrev pub IsPlane : Multigraph → List (List ℕ) → Type 0
 IsPlane g r = g.vertex_count + face_count g r ≡ edge_count g + 2 * component_count g
+
+-- r is a plane rotation system of g
+pub record IsPlaneSystem (g : Multigraph) (r : List (List ℕ)) : Type 0 where
+  pub system : IsRotationSystem g r
+  pub plane : IsPlane g r

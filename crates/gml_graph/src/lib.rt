@@ -15,11 +15,11 @@ mod edges;
 mod fault;
 mod hashing;
 mod ids;
+mod integers;
 pub mod laws;
 mod lists;
 mod named;
 mod nodes;
-mod reading;
 
 pub use fault::GraphFault;
 pub use named::{Named, graph_of};

@@ -7,8 +7,8 @@ ghost use Rattle.gml_graph.specs.Answer.{Refuses, and_one_more, id_among, node_i
 use crate::fault::GraphFault;
 use crate::hashing::BehindAllIds;
 use crate::ids::Ids;
+use crate::integers::Reading;
 use crate::lists::first_under;
-use crate::reading::Reading;
 use gml_text::Pairs;
 use std::alloc::Global;
 

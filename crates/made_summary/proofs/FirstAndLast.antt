@@ -8,7 +8,8 @@ use Rattle.faces.specs.Maps.{mirror_image}
 use Rattle.pair_split.specs.Tutte.{Node}
 use Rattle.choice_lists.specs.Choices.{mirror_choice}
 use Rattle.skeletons.specs.Items.{IsBlockTree}
-use Rattle.skeletons.specs.Choices.{choice, Precedes, IsPlaneSystem}
+use Rattle.faces.specs.Euler.{IsPlaneSystem}
+use Rattle.skeletons.specs.Choices.{choice, Precedes}
 use Rattle.skeletons.specs.Lists.{IsFullList, IsKeptList}
 use Rattle.skeletons.proofs.Leading.{unlocked-full}
 use Rattle.skeletons.proofs.Moved.{mirror-turns}

@@ -2,7 +2,7 @@
 use Rattle.std.proofs.Common.{◌≡◌, ℕ, inl, inr, List, length, sym, ap, ◌∙◌, subst, arith}
 use Rattle.std.proofs.lemmas.Bool.{both_ways, cases_eq, cases_lt}
 use Rattle.pair_split.specs.Tutte.{Node, node_at}
-use Rattle.skeletons.specs.Choices.{IsPlaneSystem}
+use Rattle.faces.specs.Euler.{IsPlaneSystem}
 use Rattle.skeletons.specs.Lists.{IsFullList}
 use Rattle.skeletons.proofs.Before.{list-unique}
 use Rattle.tree_unique.proofs.SameTrees.{trees-equal}

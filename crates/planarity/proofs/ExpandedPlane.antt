@@ -13,7 +13,7 @@ use Rattle.contractions.specs.Contraction.{are_joined, is_kept, IsContraction}
 use Rattle.dart_maps.specs.Map.{twin, face, same_face, IsMap}
 use Rattle.dart_maps.proofs.Darts.{twin-twin, twin-below, twin-edge, face-twin}
 use Rattle.dart_maps.proofs.Euler.{plane-ext}
-use Rattle.faces.specs.Euler.{tail, dart_from, dart_count, IsPlane}
+use Rattle.faces.specs.Euler.{tail, dart_from, dart_count, IsPlane, IsPlaneSystem}
 use Rattle.faces.specs.Maps.{dart_after, dart_before}
 use Rattle.faces.proofs.DartLemmas.{dart_from-edge}
 use Rattle.faces.proofs.MapSteps.{tail-in, before-tail, map-permutes}
@@ -500,7 +500,7 @@ module _ (g h : Multigraph) (e x y : ℕ) (edge vertex : ℕ → ℕ) (ok : IsGr
 
 -- so where it falls in runs it is made by a plane rotation system of g
 pub runs-expand : (g h : Multigraph) (e x y : ℕ) (edge vertex : ℕ → ℕ) → IsGraph g → IsGraph h → IsContraction g h e x y edge vertex → IsSimple g → (t : List (List ℕ)) → IsRotationSystem h t → IsPlane h t → (first last : ℕ) → FallsInRuns g h x y edge t first last
-    → (r : List (List ℕ)) × IsRotationSystem g r × IsPlane g r × IsContractedSystem g h e x y edge r t
+    → (r : List (List ℕ)) × IsPlaneSystem g r × IsContractedSystem g h e x y edge r t
 runs-expand g h e x y edge vertex ok okh con simple t st plane first last runs =
     let w = expanded-system g h e x y edge vertex ok okh con simple t st plane first last runs in
-    (w.0, w.1, w.2, expanded-contracts g h e x y edge vertex ok okh con simple t st plane first last runs w.0 w.1 w.3)
+    (w.0, record { system = w.1; plane = w.2 }, expanded-contracts g h e x y edge vertex ok okh con simple t st plane first last runs w.0 w.1 w.3)

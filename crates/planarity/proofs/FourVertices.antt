@@ -17,7 +17,7 @@ use Rattle.contractions.proofs.Joined.{joined-from, joined-turned, joined-in, jo
 use Rattle.contractions.proofs.Outside.{outside}
 use Rattle.contractions.proofs.Neighbours.{neighbour}
 use Rattle.dart_maps.specs.Map.{IsMap}
-use Rattle.faces.specs.Euler.{dart_count, IsPlane}
+use Rattle.faces.specs.Euler.{dart_count, IsPlane, IsPlaneSystem}
 use Rattle.faces.specs.Maps.{dart_after, dart_before, mirror_image}
 use Rattle.faces.proofs.MapSteps.{map-permutes}
 use Rattle.faces.proofs.MapMirror.{mirror-system, mirror-after}
@@ -76,8 +76,8 @@ module _ (g : Multigraph) (i : IsGraph g) (t : IsTriconnected g) (four : g.verte
   }
 
   -- it has a plane rotation system
-  pub four_vertices-plane : (r : List (List ℕ)) × IsRotationSystem g r × IsPlane g r
-  four_vertices-plane = let c : IsCarried tetrahedron g drawn = carried tetrahedron g alike drawn drawn-system in (c.orders, c.system, c.plane drawn-plane)
+  pub four_vertices-plane : (r : List (List ℕ)) × IsPlaneSystem g r
+  four_vertices-plane = let c : IsCarried tetrahedron g drawn = carried tetrahedron g alike drawn drawn-system in (c.orders, record { system = c.system; plane = c.plane drawn-plane })
 
   -- the steps round the vertices, seen in the tetrahedron
   after-there : (r : List (List ℕ)) → IsRotationSystem g r → (c : IsCarried g tetrahedron r) → (d : ℕ) → d < dart_count g → dart_after g r d ≡ carry tetrahedron g (dart_after tetrahedron c.orders (carry g tetrahedron d))

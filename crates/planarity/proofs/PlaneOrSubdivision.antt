@@ -4,7 +4,7 @@ use Rattle.std.proofs.lemmas.Bool.{cases_eq, or_right}
 use Rattle.permutations.proofs.Search.{some-witness}
 use Rattle.multigraph.specs.Graph.{Multigraph, IsGraph, edge_count, is_end, other_end}
 use Rattle.multigraph.proofs.OtherEnd.{end-in}
-use Rattle.rotations.specs.Rotation.{order_at, IsRotationSystem}
+use Rattle.rotations.specs.Rotation.{order_at}
 use Rattle.graph_theory.specs.Triconnected.{IsTriconnected}
 use Rattle.graph_theory.proofs.Triconnected.{four-vertices}
 use Rattle.contractions.specs.Contraction.{are_joined, common_count, is_private, ContractibleEdge, IsContraction}
@@ -17,7 +17,7 @@ use Rattle.contractions.proofs.PrivateNeighbours.{OrientedEdge, oriented}
 use Rattle.kuratowski.specs.Subdivision.{IsWritten}
 use Rattle.kuratowski.specs.declared.subdivision.Pattern.{Pattern}
 use Rattle.kuratowski.proofs.WrittenForm.{written_form}
-use Rattle.faces.specs.Euler.{IsPlane}
+use Rattle.faces.specs.Euler.{IsPlaneSystem}
 use Rattle.planarity.specs.Alternation.{StandTogether}
 use Rattle.planarity.specs.Circle.{leads_near}
 use Rattle.planarity.proofs.ExpandedPlane.{expanded-system}
@@ -29,7 +29,7 @@ use Rattle.planarity.proofs.FourVertices.{four_vertices-plane}
 
 -- a plane rotation system of the graph
 abbrev HasPlane : Multigraph → Type 0
-HasPlane g = (r : List (List ℕ)) × IsRotationSystem g r × IsPlane g r
+HasPlane g = (r : List (List ℕ)) × IsPlaneSystem g r
 
 -- a subdivision of the graph with an edge contracted
 lifts : (g : Multigraph) → IsGraph g → IsTriconnected g → (e x y : ℕ) → e < edge_count g → is_end g x e ≡ true → other_end g e x ≡ y → HasSubdivision (contracted g e x y) → HasSubdivision g
@@ -40,7 +40,7 @@ lifts g ok tri e x y l i o s =
 -- a plane rotation system of the graph with an edge contracted, the second end of which has a private neighbour
 turns : (g : Multigraph) → IsGraph g → IsTriconnected g → 5 ≤ g.vertex_count → (o : OrientedEdge g) → HasPlane (contracted g o.edge o.first o.second) → HasPlane g ⊎ HasSubdivision g
 turns g ok tri five o t =
-    elim (turn-cases g h o.edge o.first o.second edge vertex ok okh con tri.simple t.0 t.1 t.2 trih tri f.0 f.1 f.2) [ inl w ↦ inl (expands w) | inr s ↦ inr s ]
+    elim (turn-cases g h o.edge o.first o.second edge vertex ok okh con tri.simple t.0 t.1.system t.1.plane trih tri f.0 f.1 f.2) [ inl w ↦ inl (expands w) | inr s ↦ inr s ]
   where
     h : Multigraph
     h = contracted g o.edge o.first o.second
@@ -65,10 +65,10 @@ turns g ok tri five o t =
 
     expands : StandTogether (λ i. is_end g o.first (edge i)) (leads_near g o.first o.second edge) (order_at t.0 (vertex o.first)) → HasPlane g
     expands w =
-        let runs = runs-together g h o.edge o.first o.second edge vertex ok okh con tri.simple t.0 t.1 (leads_near g o.first o.second edge)
+        let runs = runs-together g h o.edge o.first o.second edge vertex ok okh con tri.simple t.0 t.1.system (leads_near g o.first o.second edge)
         (λ i l u v. or_right (is_end g o.second (edge i)) (are_joined g o.second (other_end g (edge i) o.first)) v) (end-in g o.first o.edge ok o.edge_in o.first_end) w in
-        let r = expanded-system g h o.edge o.first o.second edge vertex ok okh con tri.simple t.0 t.1 t.2 _ _ runs in
-        (r.0, r.1, r.2)
+        let r = expanded-system g h o.edge o.first o.second edge vertex ok okh con tri.simple t.0 t.1.system t.1.plane _ _ runs in
+        (r.0, record { system = r.1; plane = r.2 })
 
 -- by induction on the number of vertices
 pub plane-or_subdivision : (g : Multigraph) → IsGraph g → IsTriconnected g → HasPlane g ⊎ HasSubdivision g
@@ -101,7 +101,7 @@ plane-or_subdivision g ok tri = go (suc g.vertex_count) g (omega arith) ok tri
                 let okh = graph-contracted g (contracted g c.edge c.first c.second) ok tri.simple c.edge c.first c.second (contracted_edge g c.edge c.first c.second) (contracted_vertex c.first c.second) con in
                 let trih = triconnected-contracted g (contracted g c.edge c.first c.second) ok tri c.edge c.first c.second (contracted_edge g c.edge c.first c.second) (contracted_vertex c.first c.second) con five c.contractible in
                 elim (before (contracted g c.edge c.first c.second) (omega (arith, con.fewer, l)) okh trih) [
-                  | inl t ↦ inr (common-subdivision g (contracted g c.edge c.first c.second) c.edge c.first c.second (contracted_edge g c.edge c.first c.second) (contracted_vertex c.first c.second) ok okh con tri.simple t.0 t.1 t.2 trih b)
+                  | inl t ↦ inr (common-subdivision g (contracted g c.edge c.first c.second) c.edge c.first c.second (contracted_edge g c.edge c.first c.second) (contracted_vertex c.first c.second) ok okh con tri.simple t.0 t.1.system t.1.plane trih b)
                   | inr s ↦ inr (lifts g ok tri c.edge c.first c.second c.edge_in c.first_end c.second_end s)
                 ]
 
@@ -113,7 +113,7 @@ plane-or_subdivision g ok tri = go (suc g.vertex_count) g (omega arith) ok tri
 
 -- with the subdivision in its written form
 pub plane-or_written : (g : Multigraph) → IsGraph g → IsTriconnected g
-    → ((r : List (List ℕ)) × IsRotationSystem g r × IsPlane g r) ⊎ ((kind : Pattern) × (branch : List ℕ) × (paths : List (List ℕ)) × IsWritten g kind branch paths)
+    → ((r : List (List ℕ)) × IsPlaneSystem g r) ⊎ ((kind : Pattern) × (branch : List ℕ) × (paths : List (List ℕ)) × IsWritten g kind branch paths)
 plane-or_written g ok tri = elim (plane-or_subdivision g ok tri) [
   | inl r ↦ inl r
   | inr s ↦ let w = written_form g s.kind s.branch s.paths s.is in inr (s.kind, w.0, w.1, w.2)

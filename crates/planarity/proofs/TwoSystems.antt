@@ -17,7 +17,7 @@ use Rattle.contractions.proofs.ContractedTriconnected.{triconnected-contracted}
 use Rattle.contractions.proofs.ContractionMade.{contracted-is}
 use Rattle.contractions.proofs.ContractibleEdges.{contractible_exists}
 use Rattle.contractions.proofs.PrivateNeighbours.{OrientedEdge, oriented}
-use Rattle.faces.specs.Euler.{IsPlane}
+use Rattle.faces.specs.Euler.{IsPlane, IsPlaneSystem}
 use Rattle.faces.specs.Maps.{mirror_image}
 use Rattle.faces.proofs.MapMirror.{mirror-system, mirror-image-twice, mirror-image-plane, mirror-image-differs}
 use Rattle.planarity.specs.Expansion.{IsContractedSystem}
@@ -148,5 +148,5 @@ two-systems g ok tri r q s t plane plane_too = go (suc g.vertex_count) g (omega 
             r q s t plane plane_too
 
 -- the mirror image of a plane rotation system is another one
-pub mirror-another : (g : Multigraph) → IsGraph g → IsTriconnected g → (r : List (List ℕ)) → IsRotationSystem g r → IsPlane g r → IsRotationSystem g (mirror_image r) × IsPlane g (mirror_image r) × (mirror_image r ≢ r)
-mirror-another g ok tri r s plane = (mirror-system g r s, mirror-image-plane g r ok s plane, mirror-image-differs g r s 0 (omega (arith, four-vertices g tri)) (incident-three g ok tri 0 (omega (arith, four-vertices g tri))))
+pub mirror-another : (g : Multigraph) → IsGraph g → IsTriconnected g → (r : List (List ℕ)) → IsRotationSystem g r → IsPlane g r → IsPlaneSystem g (mirror_image r) × (mirror_image r ≢ r)
+mirror-another g ok tri r s plane = (record { system = mirror-system g r s; plane = mirror-image-plane g r ok s plane }, mirror-image-differs g r s 0 (omega (arith, four-vertices g tri)) (incident-three g ok tri 0 (omega (arith, four-vertices g tri))))

@@ -5,7 +5,7 @@ use Rattle.rotations.specs.Rotation.{IsRotationSystem}
 use Rattle.graph_theory.specs.Triconnected.{IsSimple, IsConnectedWithout, IsTriconnected}
 use Rattle.contractions.specs.Contraction.{are_joined, IsContractible, IsContraction}
 use Rattle.dart_maps.specs.Map.{twin}
-use Rattle.faces.specs.Euler.{tail, dart_count, IsPlane}
+use Rattle.faces.specs.Euler.{tail, dart_count, IsPlane, IsPlaneSystem}
 use Rattle.faces.specs.Maps.{dart_after}
 use Rattle.planarity.specs.Expansion.{IsContractedSystem, FallsInRuns}
 
@@ -63,4 +63,4 @@ ContractedSystemTells = (g h : Multigraph) (e x y : ℕ) (edge vertex : ℕ → 
 abbrev pub RunsExpand : Type 0
 RunsExpand = (g h : Multigraph) (e x y : ℕ) (edge vertex : ℕ → ℕ) → IsGraph g → IsGraph h → IsContraction g h e x y edge vertex → IsSimple g
     → (s : List (List ℕ)) → IsRotationSystem h s → IsPlane h s → (first last : ℕ) → FallsInRuns g h x y edge s first last
-    → (r : List (List ℕ)) × IsRotationSystem g r × IsPlane g r × IsContractedSystem g h e x y edge r s
+    → (r : List (List ℕ)) × IsPlaneSystem g r × IsContractedSystem g h e x y edge r s

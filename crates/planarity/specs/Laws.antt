@@ -3,7 +3,7 @@ use Rattle.std.specs.Prelude.{◌≡◌, ◌≢◌, ℕ, ◌⊎◌, List}
 use Rattle.multigraph.specs.Graph.{Multigraph, IsGraph}
 use Rattle.rotations.specs.Rotation.{IsRotationSystem}
 use Rattle.graph_theory.specs.Triconnected.{IsTriconnected}
-use Rattle.faces.specs.Euler.{IsPlane}
+use Rattle.faces.specs.Euler.{IsPlane, IsPlaneSystem}
 use Rattle.faces.specs.Maps.{mirror_image}
 use Rattle.kuratowski.specs.Subdivision.{IsSubdivision, IsWritten}
 use Rattle.kuratowski.specs.declared.subdivision.Pattern.{Pattern}
@@ -21,9 +21,9 @@ TwoPlaneSystems = (g : Multigraph) → IsGraph g → IsTriconnected g
 -- the mirror image of a plane rotation system of a triconnected graph is another one: so there are exactly two, or none
 abbrev pub MirrorIsAnother : Type 0
 MirrorIsAnother = (g : Multigraph) → IsGraph g → IsTriconnected g → (r : List (List ℕ)) → IsRotationSystem g r → IsPlane g r
-    → IsRotationSystem g (mirror_image r) × IsPlane g (mirror_image r) × (mirror_image r ≢ r)
+    → IsPlaneSystem g (mirror_image r) × (mirror_image r ≢ r)
 
 -- a triconnected graph has a plane rotation system, or a subdivision of K5 or K3,3 in its written form
 abbrev pub PlaneOrSubdivision : Type 0
 PlaneOrSubdivision = (g : Multigraph) → IsGraph g → IsTriconnected g
-    → ((r : List (List ℕ)) × IsRotationSystem g r × IsPlane g r) ⊎ ((kind : Pattern) × (branch : List ℕ) × (paths : List (List ℕ)) × IsWritten g kind branch paths)
+    → ((r : List (List ℕ)) × IsPlaneSystem g r) ⊎ ((kind : Pattern) × (branch : List ℕ) × (paths : List (List ℕ)) × IsWritten g kind branch paths)

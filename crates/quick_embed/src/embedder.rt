@@ -2,7 +2,7 @@
 
 ghost use Rattle.std.specs.Prelude.{IfOk, IfSome};
 ghost use Rattle.rotations.specs.Rotation.{IsRotationSystem};
-ghost use Rattle.faces.specs.Euler.{IsPlane};
+ghost use Rattle.faces.specs.Euler.{IsPlaneSystem};
 ghost use Rattle.kuratowski.specs.Subdivision.{IsWritten};
 ghost use Rattle.graph_theory.specs.Triconnected.{IsTriconnected};
 ghost use Rattle.planarity.specs.Embedding.{IsEmbedding};
@@ -28,8 +28,7 @@ fn system(alloc: Global, g: &Graph, lists: &Lists) -> Result<Option<Rotation>, A
 
 // The rotation system of the lists, if they are one and it is plane.
 fn plane_system(alloc: Global, g: &Graph, lists: &Lists) -> Result<Option<Rotation>, AllocError>
-    ensures system { IfOk result (λ answer. IfSome answer (IsRotationSystem g.now)) }
-    ensures plane { IfOk result (λ answer. IfSome answer (IsPlane g.now)) }
+    ensures { IfOk result (λ answer. IfSome answer (IsPlaneSystem g.now)) }
 {
     let Some(r) = system(alloc, g, lists)? else {
         return Ok(None);

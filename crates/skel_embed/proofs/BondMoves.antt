@@ -17,7 +17,8 @@ use Rattle.pair_split.specs.Tutte.{Node, group}
 use Rattle.pair_split.specs.declared.components.Kind.TheVariants.{P}
 use Rattle.skeletons.specs.Items.{node_keys, has_vertex, least_vertex, greatest_vertex, IsBlockTree}
 use Rattle.skeletons.specs.Round.{keys_round}
-use Rattle.skeletons.specs.Choices.{choice, IsPlaneSystem}
+use Rattle.faces.specs.Euler.{IsPlaneSystem}
+use Rattle.skeletons.specs.Choices.{choice}
 use Rattle.skeletons.specs.Families.{system_at}
 use Rattle.skeletons.specs.Moves.{AreRegrouped, IsNodeOfKind, PermuteLeads}
 use Rattle.skeletons.proofs.KeyRuns.{met-runs}

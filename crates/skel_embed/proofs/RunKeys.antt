@@ -22,7 +22,8 @@ use Rattle.pair_split.specs.declared.components.Kind.{Kind}
 use Rattle.pair_split.specs.declared.components.Kind.TheVariants.{P, R}
 use Rattle.skeletons.specs.Items.{node_keys, keys_at, has_vertex, least_vertex, item_key, IsBlockTree}
 use Rattle.skeletons.specs.Round.{keys_met, keys_round}
-use Rattle.skeletons.specs.Choices.{choice_of_kind, choice, IsPlaneSystem}
+use Rattle.faces.specs.Euler.{IsPlaneSystem}
+use Rattle.skeletons.specs.Choices.{choice_of_kind, choice}
 use Rattle.skeletons.specs.Moves.{IsNodeOfKind}
 use Rattle.skeletons.proofs.NodeItems.{node-pieces}
 use Rattle.skeletons.proofs.KeyRuns.{met-runs}

@@ -14,7 +14,8 @@ use Rattle.faces.proofs.MapMirror.{mirror-system, mirror-image-plane}
 use Rattle.pair_split.specs.Tutte.{group}
 use Rattle.pair_split.specs.declared.components.Kind.TheVariants.{P, R}
 use Rattle.skeletons.specs.Items.{node_keys, has_vertex, least_vertex}
-use Rattle.skeletons.specs.Choices.{choice, IsPlaneSystem}
+use Rattle.faces.specs.Euler.{IsPlaneSystem}
+use Rattle.skeletons.specs.Choices.{choice}
 use Rattle.skeletons.specs.Moves.{Move, flip, permute, moved_node, IsNodeOfKind, MoveLeads, FlipLeads, PermuteLeads}
 use Rattle.skeletons.proofs.KeyRuns.{met-runs}
 use Rattle.skeletons.proofs.Vertices.{least-has}

@@ -5,7 +5,8 @@ use Rattle.multigraph.specs.Graph.{Multigraph}
 use Rattle.rotations.specs.Rotation.{order_at}
 use Rattle.pair_split.specs.Tutte.{Node, node_at, is_before}
 use Rattle.skeletons.specs.Items.{least_vertex}
-use Rattle.skeletons.specs.Choices.{choice_of_kind, Precedes, IsPlaneSystem}
+use Rattle.faces.specs.Euler.{IsPlaneSystem}
+use Rattle.skeletons.specs.Choices.{choice_of_kind, Precedes}
 use Rattle.skeletons.specs.Families.{place_of, skeleton_graph, system_at, keys_of, IsPossible}
 
 -- the choice that a rotation system of its skeleton gives node k

@@ -5,8 +5,8 @@ use Rattle.multigraph.specs.Graph.{edge_count}
 use Rattle.multigraph.specs.Part.{GraphPart}
 use Rattle.rotations.specs.Rotation.{order_at, IsRotationSystem}
 use Rattle.rotations.specs.PartLists.{ArrangePart, IsFirstBadInPart, outer_order}
-use Rattle.faces.specs.Euler.{face_count}
-use Rattle.skeletons.specs.Choices.{choice, IsPlaneSystem}
+use Rattle.faces.specs.Euler.{face_count, IsPlaneSystem}
+use Rattle.skeletons.specs.Choices.{choice}
 use Rattle.skel_embed.specs.Block.{BlockState, lock_at}
 use Rattle.skel_embed.specs.declared.taking.TakeFault.{TakeFault}
 use Rattle.skel_embed.specs.declared.taking.TakeFault.TheVariants.{BadRotation, NotGenusZero, Locked, Memory}

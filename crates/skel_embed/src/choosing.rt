@@ -5,7 +5,8 @@ ghost use Rattle.rotations.specs.Rotation.{order_at};
 ghost use Rattle.pair_split.specs.Tutte.{node_at, group};
 ghost use Rattle.pair_split.specs.declared.components.Kind.TheVariants.{P, R};
 ghost use Rattle.skeletons.specs.Items.{IsBlockTree, least_vertex};
-ghost use Rattle.skeletons.specs.Choices.{choice, IsPlaneSystem};
+ghost use Rattle.faces.specs.Euler.{IsPlaneSystem};
+ghost use Rattle.skeletons.specs.Choices.{choice};
 ghost use Rattle.skel_embed.specs.Block.{AreChoices};
 ghost use Rattle.skel_embed.specs.Taken.{begins_run, IsFirstOther, NoneOther};
 

@@ -3,7 +3,7 @@
 ghost use Rattle.std.specs.Prelude.{◌≡◌, IfOk, IfErr};
 ghost use Rattle.multigraph.specs.Graph.{Multigraph};
 ghost use Rattle.graph_theory.specs.Block.{IsOneBlock};
-ghost use Rattle.skeletons.specs.Choices.{IsPlaneSystem};
+ghost use Rattle.faces.specs.Euler.{IsPlaneSystem};
 ghost use Rattle.skel_embed.specs.Taken.{IsGiven, IsGivenRefusal};
 
 use faces::euler;

@@ -27,7 +27,8 @@ use Rattle.choice_lists.proofs.Products.{at-first, at-last}
 use Rattle.choice_lists.proofs.ToldByChoices.{product_to, AreTold, ListedByVectors, listed-by_vectors}
 use Rattle.skeletons.specs.Items.{item_key, node_keys, has_vertex, least_vertex, IsBlockTree}
 use Rattle.skeletons.specs.Round.{keys_round}
-use Rattle.skeletons.specs.Choices.{choice_of_kind, choice, Precedes, IsPlaneSystem}
+use Rattle.faces.specs.Euler.{IsPlaneSystem}
+use Rattle.skeletons.specs.Choices.{choice_of_kind, choice, Precedes}
 use Rattle.skeletons.specs.Lists.{IsKept, IsKeptList, cyclic_orders, choice_count, count_below, list_count}
 use Rattle.skeletons.specs.Families.{IsPossible, IsPossibleFor}
 use Rattle.skeletons.specs.Laws.{KeptListExists, LastIsMirrorOfFirst}

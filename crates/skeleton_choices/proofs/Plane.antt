@@ -10,7 +10,7 @@ use Rattle.permutations.proofs.Turned.{IsTurn-refl, IsTurn-swap}
 use Rattle.permutations.proofs.NormalForm.{mirror-twice, from_least-same, from_least-first_or, least_or-le}
 use Rattle.multigraph.specs.Graph.{Multigraph}
 use Rattle.rotations.specs.Rotation.{order_at, IsRotationSystem}
-use Rattle.faces.specs.Euler.{IsPlane}
+use Rattle.faces.specs.Euler.{IsPlane, IsPlaneSystem}
 use Rattle.faces.specs.Maps.{mirror_image}
 use Rattle.faces.proofs.MapMirror.{mirror-system, mirror-image-plane}
 use Rattle.pair_split.specs.Skeleton.{HasPoles, IsOfKind}
@@ -21,7 +21,7 @@ use Rattle.pair_split.specs.declared.components.Kind.TheVariants.{P, R}
 use Rattle.choice_lists.proofs.Choices.{mirror-differs, mirror-is}
 use Rattle.skeletons.specs.Items.{has_vertex, least_vertex, greatest_vertex, IsBlockTree}
 use Rattle.skeletons.specs.Round.{keys_round, IsContiguous}
-use Rattle.skeletons.specs.Choices.{choice_of_kind, choice, IsPlaneSystem}
+use Rattle.skeletons.specs.Choices.{choice_of_kind, choice}
 use Rattle.skeletons.specs.Moves.{Move, flip, permute, moved_node, IsNodeOfKind, FlipLeads, PermuteLeads, MoveLeads}
 use Rattle.skeletons.specs.Families.{skeleton_graph, system_at, AreSkeletonSystems, FollowsFamily}
 use Rattle.skeletons.specs.Laws.{MoveKeepsPlane}

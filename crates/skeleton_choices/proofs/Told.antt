@@ -16,7 +16,7 @@ use Rattle.multigraph.proofs.Below.{get_or-numbers_below, length-numbers_below}
 use Rattle.multigraph.proofs.Places.{rises-once}
 use Rattle.contractions.proofs.Neighbours.{incident-three}
 use Rattle.rotations.specs.Rotation.{order_at, IsRotationSystem, IsCyclicOrder}
-use Rattle.faces.specs.Euler.{IsPlane}
+use Rattle.faces.specs.Euler.{IsPlane, IsPlaneSystem}
 use Rattle.faces.proofs.MapLists.{map-member}
 use Rattle.faces.proofs.MapMirror.{order-least}
 use Rattle.planarity.proofs.TwoSystems.{two-systems}
@@ -28,7 +28,7 @@ use Rattle.pair_split.specs.declared.components.Kind.TheVariants.{S, P, R, B}
 use Rattle.pair_split.specs.declared.components.Item.{Item}
 use Rattle.skeletons.specs.Items.{ends_item, item_key, keys_at, node_keys, has_vertex, least_vertex, greatest_vertex, IsBlockTree}
 use Rattle.skeletons.specs.Round.{keys_round}
-use Rattle.skeletons.specs.Choices.{choice_of_kind, choice, IsPlaneSystem}
+use Rattle.skeletons.specs.Choices.{choice_of_kind, choice}
 use Rattle.skeletons.specs.Moves.{IsNodeOfKind}
 use Rattle.skeletons.specs.Families.{place_of, skeleton_graph, system_at, AreSkeletonSystems, keys_of, StandInOrder, FollowsFamily, IsPossibleFor, IsPossible}
 use Rattle.skeletons.specs.Laws.{ChoicesTell, ChoiceIsPossible, SelectionExists}

@@ -19,7 +19,7 @@ use Rattle.pair_split.specs.Tutte.{Node, components, node_at}
 use Rattle.pair_split.specs.declared.components.Kind.TheVariants.{P}
 use Rattle.skeletons.specs.Items.{least_vertex, greatest_vertex, IsBlockTree}
 use Rattle.skeletons.specs.Families.{place_of, skeleton_graph}
-use Rattle.skeletons.specs.Choices.{IsPlaneSystem}
+use Rattle.faces.specs.Euler.{IsPlaneSystem}
 use Rattle.skeletons.specs.Moves.{IsNodeOfKind}
 use Rattle.skeletons.proofs.Vertices.{least-has, greatest-has, poles-differ}
 use Rattle.skeleton_runs.proofs.SkeletonGraph.{place-below, place-once}

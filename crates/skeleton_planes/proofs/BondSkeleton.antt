@@ -16,7 +16,7 @@ use Rattle.rotations.specs.Rotation.{order_at, IsRotationSystem}
 use Rattle.dart_maps.specs.Map.{twin, face, same_vertex}
 use Rattle.dart_maps.proofs.Darts.{twin-edge, twin-cases}
 use Rattle.dart_maps.proofs.Bond.{bond-plane, bond-plane-back}
-use Rattle.faces.specs.Euler.{IsPlane}
+use Rattle.faces.specs.Euler.{IsPlane, IsPlaneSystem}
 use Rattle.faces.specs.Maps.{dart_after, dart_before, mirror_image}
 use Rattle.faces.proofs.DartLemmas.{order-distinct}
 use Rattle.faces.proofs.MapSteps.{tail-in}
@@ -31,7 +31,6 @@ use Rattle.pair_split.specs.Tutte.{Node, components, node_at, node_item}
 use Rattle.pair_split.proofs.GraphFamily.{contains-below}
 use Rattle.skeletons.specs.Items.{IsBlockTree}
 use Rattle.skeletons.specs.Families.{place_of, skeleton_graph}
-use Rattle.skeletons.specs.Choices.{IsPlaneSystem}
 use Rattle.skeletons.proofs.NodeItems.{piece-in, node-piece, edge-item}
 use Rattle.skeleton_runs.proofs.Items.{skeleton-at, skeleton-in}
 use Rattle.skeleton_runs.proofs.SkeletonGraph.{skeleton-graph, graph-edges, graph-ends}

@@ -14,7 +14,7 @@ use Rattle.multigraph.specs.Graph.{Multigraph, IsGraph, edge_count, numbers_belo
 use Rattle.multigraph.proofs.Below.{length-numbers_below}
 use Rattle.rotations.specs.Rotation.{order_at, IsRotationSystem}
 use Rattle.rotations.proofs.Membership.{member-edge, member-end}
-use Rattle.faces.specs.Euler.{dart_from, IsPlane}
+use Rattle.faces.specs.Euler.{dart_from, IsPlane, IsPlaneSystem}
 use Rattle.faces.proofs.DartLemmas.{order-distinct, member-incident, dart_from-edge, dart_from-tail}
 use Rattle.pair_split.specs.Skeleton.{IsPolygon, HasPoles, IsSmall, IsOfKind}
 use Rattle.pair_split.specs.Split.{skeleton, items_of, piece_ends}
@@ -24,7 +24,6 @@ use Rattle.pair_split.specs.declared.components.Kind.TheVariants.{S, P, B}
 use Rattle.pair_split.proofs.GraphFamily.{numbers-distinct, below-contains, contains-below}
 use Rattle.skeletons.specs.Items.{IsBlockTree}
 use Rattle.skeletons.specs.Families.{place_of, skeleton_graph}
-use Rattle.skeletons.specs.Choices.{IsPlaneSystem}
 use Rattle.skeletons.specs.Moves.{IsNodeOfKind}
 use Rattle.skeletons.proofs.NodeItems.{comp-in, vertex-end, node-pieces}
 use Rattle.skeletons.proofs.Systems.{same-turns}

@@ -6,12 +6,11 @@ use Rattle.rotations.specs.Rotation.{order_at, IsCyclicOrder, IsRotationSystem}
 use Rattle.dart_maps.specs.Map as maps
 use Rattle.dart_maps.specs.Map.{twin, IsMap, same_vertex, same_component}
 use Rattle.dart_maps.specs.Changes.{glued}
-use Rattle.faces.specs.Euler.{IsPlane}
+use Rattle.faces.specs.Euler.{IsPlane, IsPlaneSystem}
 use Rattle.pair_split.specs.Tutte.{Node}
 use Rattle.pair_split.specs.declared.components.Kind.TheVariants.{S, P, B}
 use Rattle.skeletons.specs.Items.{IsBlockTree}
 use Rattle.skeletons.specs.Families.{skeleton_graph}
-use Rattle.skeletons.specs.Choices.{IsPlaneSystem}
 use Rattle.skeletons.specs.Moves.{IsNodeOfKind}
 use Rattle.skeleton_planes.specs.Bridges.{IsNoBridge}
 

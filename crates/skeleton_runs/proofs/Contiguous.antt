@@ -22,7 +22,7 @@ use Rattle.pair_split.proofs.TreeSides.{link-from, link-back, link-differs}
 use Rattle.pair_split.proofs.Groups.{what-cases, same-end_back, side-other, in_group-link, group-some}
 use Rattle.skeletons.specs.Items.{has_vertex, IsBlockTree}
 use Rattle.skeletons.specs.Round.{StandInRuns}
-use Rattle.skeletons.specs.Choices.{IsPlaneSystem}
+use Rattle.faces.specs.Euler.{IsPlaneSystem}
 use Rattle.skeletons.specs.Laws.{PlaneIsContiguous}
 use Rattle.skeleton_runs.proofs.EdgesInOrder.{met-edge, met-end}
 use Rattle.skeleton_runs.proofs.Items.{in_item, item-at, item-ends_differ}

@@ -15,7 +15,8 @@ use Rattle.pair_split.specs.declared.components.Kind.{Kind}
 use Rattle.pair_split.specs.declared.components.Kind.TheVariants.{S, P, R, B}
 use Rattle.skeletons.specs.Items.{node_keys, least_vertex, IsBlockTree}
 use Rattle.skeletons.specs.Round.{keys_round, IsContiguous}
-use Rattle.skeletons.specs.Choices.{choice_of_kind, choice, IsPlaneSystem}
+use Rattle.faces.specs.Euler.{IsPlaneSystem}
+use Rattle.skeletons.specs.Choices.{choice_of_kind, choice}
 use Rattle.skeletons.specs.Moves.{Move, flip, permute, moved_node, IsNodeOfKind, MoveLeads, Lead, is_same, move_of_kind, move_at, moves_below, moves_between}
 use Rattle.skeletons.specs.Lists.{IsListOf, IsKept, IsKeptList, IsReached, IsReachedList}
 use Rattle.skeletons.specs.Laws.{MovesNameDifferent, UnlockedListIsFull}

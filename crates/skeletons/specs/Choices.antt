@@ -1,8 +1,5 @@
 -- The choice of a node, and the order of rotation systems by their choices.
 use Rattle.std.specs.Prelude.{◌≡◌, ℕ, zero, suc, ◌<◌, Bool, true, false, not, ◌&&◌, ◌||◌, List, [], length}
-use Rattle.rotations.specs.Rotation.{IsRotationSystem}
-use Rattle.multigraph.specs.Graph.{Multigraph}
-use Rattle.faces.specs.Euler.{IsPlane}
 use Rattle.pair_split.specs.Tutte.{Node, node_at, is_before}
 use Rattle.pair_split.specs.declared.components.Kind.{Kind}
 use Rattle.pair_split.specs.declared.components.Kind.TheVariants.{S, P, R, B}
@@ -35,8 +32,3 @@ precedes_below nodes r q (suc n) = precedes_below nodes r q n || (not (precedes_
 -- whether r comes before q
 abbrev pub precedes : List Node → List (List ℕ) → List (List ℕ) → Bool
 precedes nodes r q = precedes_below nodes r q (length nodes)
-
--- r is a plane rotation system of g
-pub record IsPlaneSystem (g : Multigraph) (r : List (List ℕ)) : Type 0 where
-  pub system : IsRotationSystem g r
-  pub plane : IsPlane g r

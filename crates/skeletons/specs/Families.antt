@@ -9,7 +9,7 @@ use Rattle.pair_split.specs.declared.components.Kind.{Kind}
 use Rattle.pair_split.specs.declared.components.Kind.TheVariants.{S, P, R, B}
 use Rattle.pair_split.specs.declared.components.Item.{Item}
 use Rattle.skeletons.specs.Items.{node_keys, has_vertex, least_vertex}
-use Rattle.skeletons.specs.Choices.{IsPlaneSystem}
+use Rattle.faces.specs.Euler.{IsPlaneSystem}
 
 -- the place of x in the list, from 0; the length where it is no member
 abbrev pub place_of : List ℕ → ℕ → ℕ

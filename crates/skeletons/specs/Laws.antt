@@ -5,13 +5,13 @@ use Rattle.permutations.specs.Runs.{group_keys, InRuns}
 use Rattle.multigraph.specs.Graph.{Multigraph, IsGraph}
 use Rattle.graph_theory.specs.Triconnected.{IsTriconnected}
 use Rattle.rotations.specs.Rotation.{IsRotationSystem}
-use Rattle.faces.specs.Euler.{IsPlane}
+use Rattle.faces.specs.Euler.{IsPlane, IsPlaneSystem}
 use Rattle.faces.specs.Maps.{mirror_image}
 use Rattle.pair_split.specs.Tutte.{Node, IsTutte}
 use Rattle.pair_split.specs.declared.components.Kind.TheVariants.{P, R}
 use Rattle.skeletons.specs.Items.{keys_at, has_vertex, node_keys, IsBlockTree}
 use Rattle.skeletons.specs.Round.{keys_met, keys_round, IsContiguous}
-use Rattle.skeletons.specs.Choices.{choice, Precedes, precedes, IsPlaneSystem}
+use Rattle.skeletons.specs.Choices.{choice, Precedes, precedes}
 use Rattle.skeletons.specs.Moves.{IsNodeOfKind, FlipLeads, PermuteLeads, Move, moved_node, MoveLeads, Lead, moves_between}
 use Rattle.skeletons.specs.Lists.{IsFullList, IsKept, IsKeptList, IsReached, IsReachedList, list_count}
 use Rattle.skeletons.specs.Families.{skeleton_graph, system_at, AreSkeletonSystems, FollowsFamily, IsPossible}

@@ -5,7 +5,8 @@ use Rattle.multigraph.specs.Graph.{Multigraph}
 use Rattle.pair_split.specs.Tutte.{Node, node_at}
 use Rattle.pair_split.specs.declared.components.Kind.{Kind}
 use Rattle.pair_split.specs.declared.components.Kind.TheVariants.{S, P, R, B}
-use Rattle.skeletons.specs.Choices.{choice, Precedes, IsPlaneSystem}
+use Rattle.faces.specs.Euler.{IsPlaneSystem}
+use Rattle.skeletons.specs.Choices.{choice, Precedes}
 use Rattle.skeletons.specs.Moves.{Move, moved_node, Lead}
 
 -- the members of l are the rotation systems with the property M, each before all later ones

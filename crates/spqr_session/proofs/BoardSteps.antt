@@ -7,7 +7,7 @@ use Rattle.multigraph.specs.Graph.{Multigraph}
 use Rattle.multigraph.specs.Part.{GraphPart}
 use Rattle.pair_split.specs.Tutte.{Node}
 use Rattle.skeletons.specs.Items.{IsBlockTree}
-use Rattle.skeletons.specs.Choices.{IsPlaneSystem}
+use Rattle.faces.specs.Euler.{IsPlaneSystem}
 use Rattle.skeletons.specs.Moves.{Move, moves_between}
 use Rattle.skel_embed.specs.Block.{BlockState, lock_at, IsBlockState}
 use Rattle.skel_embed.specs.declared.planes.Outcome.{Outcome}

@@ -7,7 +7,7 @@ use Rattle.multigraph.specs.Part.{GraphPart}
 use Rattle.pair_split.specs.Tutte.{Node, node_at}
 use Rattle.pair_split.specs.declared.components.Item.{Item}
 use Rattle.skeletons.specs.Items as items
-use Rattle.skeletons.specs.Choices.{IsPlaneSystem}
+use Rattle.faces.specs.Euler.{IsPlaneSystem}
 use Rattle.skeletons.specs.Moves as theory
 use Rattle.skel_embed.specs.Block.{BlockState, IsBlockState}
 use Rattle.skel_embed.specs.Values.{as_move, as_moves}

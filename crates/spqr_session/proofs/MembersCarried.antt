@@ -7,7 +7,8 @@ use Rattle.std.proofs.lemmas.List.Elements.{Contains-get_or}
 use Rattle.multigraph.specs.Graph.{Multigraph}
 use Rattle.pair_split.specs.Tutte.{Node}
 use Rattle.skeletons.specs.Items.{IsBlockTree}
-use Rattle.skeletons.specs.Choices.{Precedes, IsPlaneSystem}
+use Rattle.faces.specs.Euler.{IsPlaneSystem}
+use Rattle.skeletons.specs.Choices.{Precedes}
 use Rattle.skeletons.specs.Lists.{IsKept, IsKeptList, IsRank, list_count}
 use Rattle.skeletons.proofs.Before.{not-both, kept-unique}
 use Rattle.skeleton_choices.proofs.Listed.{list-exists}

@@ -11,7 +11,7 @@ use Rattle.rotations.specs.Rotation.{order_at, IsRotationSystem}
 use Rattle.faces.proofs.DartLemmas.{order-distinct}
 use Rattle.pair_split.specs.Tutte.{Node, group}
 use Rattle.skeletons.specs.Items.{has_vertex, least_vertex, IsBlockTree}
-use Rattle.skeletons.specs.Choices.{IsPlaneSystem}
+use Rattle.faces.specs.Euler.{IsPlaneSystem}
 use Rattle.skeletons.specs.Moves.{Move, flip, permute, moved_node, AreRegrouped, OthersStay, MoveLeads, Lead, moves_between}
 use Rattle.skeletons.proofs.Moved.{flip-exists, permute-exists}
 use Rattle.skeletons.proofs.Systems.{order-written}

@@ -13,7 +13,7 @@ use Rattle.faces.proofs.MapMirror.{mirror-system, mirror-image-plane}
 use Rattle.pair_split.specs.Tutte.{Node, node_at}
 use Rattle.pair_split.specs.declared.components.Item.{Item}
 use Rattle.skeletons.specs.Items.{node_keys, item_key, IsBlockTree}
-use Rattle.skeletons.specs.Choices.{IsPlaneSystem}
+use Rattle.faces.specs.Euler.{IsPlaneSystem}
 use Rattle.pair_split.specs.declared.components.Kind.TheVariants.{P, R}
 use Rattle.skeletons.specs.Moves.{Move, flip, permute, IsNodeOfKind, MoveLeads}
 use Rattle.skeletons.proofs.Moved.{flip-exists, permute-exists, move-unique}

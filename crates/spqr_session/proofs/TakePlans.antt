@@ -3,7 +3,7 @@ use Rattle.std.proofs.Common.{◌≡◌, ℕ, ◌<◌, ◌≤◌, List, length, 
 use Rattle.std.proofs.lemmas.List.{length-map}
 use Rattle.multigraph.specs.Graph.{Multigraph}
 use Rattle.multigraph.specs.Part.{GraphPart, IsNumbered}
-use Rattle.skeletons.specs.Choices.{IsPlaneSystem}
+use Rattle.faces.specs.Euler.{IsPlaneSystem}
 use Rattle.skeletons.specs.Lists.{KeepsChoices}
 use Rattle.skel_embed.specs.Block.{BlockState, lock_at, IsBlockState}
 use Rattle.skel_embed.specs.Taken.{IsLeastOther}

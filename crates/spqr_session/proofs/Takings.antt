@@ -6,10 +6,10 @@ use Rattle.permutations.proofs.Search.{some-none, least-below, least-passes, lea
 use Rattle.multigraph.specs.Graph.{edge_count}
 use Rattle.multigraph.specs.Part.{IsNumbered}
 use Rattle.rotations.specs.PartLists.{IsFirstBadInPart}
-use Rattle.faces.specs.Euler.{face_count}
+use Rattle.faces.specs.Euler.{face_count, IsPlaneSystem}
 use Rattle.pair_split.specs.Tutte.{is_before}
 use Rattle.skeletons.specs.Items as items
-use Rattle.skeletons.specs.Choices.{choice, IsPlaneSystem}
+use Rattle.skeletons.specs.Choices.{choice}
 use Rattle.skeletons.specs.Moves.{is_same}
 use Rattle.skeletons.proofs.Before.{before-irreflexive, before-total}
 use Rattle.skel_embed.specs.Block.{lock_at}

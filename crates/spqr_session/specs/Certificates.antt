@@ -3,7 +3,7 @@ use Rattle.std.specs.Prelude.{◌≡◌, ℕ, ◌<◌, List, length, slice_index
 use Rattle.multigraph.specs.Graph.{Multigraph}
 use Rattle.kuratowski.specs.Subdivision.{IsWritten}
 use Rattle.kuratowski.specs.declared.subdivision.Subdivision.{Subdivision}
-use Rattle.skeletons.specs.Choices.{IsPlaneSystem}
+use Rattle.faces.specs.Euler.{IsPlaneSystem}
 use Rattle.spqr_session.specs.Trees.{BlockTree, tree_at}
 
 -- the certificate of block b; none where there is none

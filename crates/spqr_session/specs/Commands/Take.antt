@@ -1,7 +1,8 @@
 -- `take B ROT`: lists of edges are taken in as the rotation system of a block.
 use Rattle.std.specs.Prelude.{◌≡◌, ◌≢◌, ℕ, ◌<◌, ◌≤◌, true, List, length, Option, None, Some}
 use Rattle.rotations.specs.PartLists.{IsFirstBadInPart}
-use Rattle.skeletons.specs.Choices.{choice, IsPlaneSystem}
+use Rattle.faces.specs.Euler.{IsPlaneSystem}
+use Rattle.skeletons.specs.Choices.{choice}
 use Rattle.skeletons.specs.Lists.{KeepsChoices}
 use Rattle.skel_embed.specs.Block.{lock_at}
 use Rattle.skel_embed.specs.Taken.{IsGiven, IsNotPlane}

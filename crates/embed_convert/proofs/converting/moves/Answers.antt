@@ -2,7 +2,7 @@ use Rattle.std.proofs.Common.{◌≡◌, List, length, map, sym, ap, ◌∙◌, 
 use Rattle.std.specs.Prelude.{option_to_list}
 use Rattle.std.proofs.lemmas.List.{map-append}
 use Rattle.multigraph.specs.Graph.{Multigraph}
-use Rattle.skeletons.specs.Choices.{IsPlaneSystem}
+use Rattle.faces.specs.Euler.{IsPlaneSystem}
 use Rattle.skeletons.specs.Moves.{Move, Lead, moves_below, moves_between}
 use Rattle.skeleton_choices.proofs.Reached.{lead}
 use Rattle.skel_embed.specs.Values.{as_move}

@@ -22,5 +22,5 @@ pub returns-in-Plane : goal.returns-in-Plane
 returns-in-Plane c c' =
     let e = subst (λ (z : Multigraph). IsEmbedding z (Plane c'.in-Plane.r)) c'.in_ok-graph.ensures.skeleton (subst (IsEmbedding c'.in_ok-graph.graph) c'.in-Plane.is (c'.in_ok-r.ensures.embedding)) in
     rigid-first c'.requires.block.0 c'.args.tree.now c'.requires.block.1 c'.args.k c'.requires.node c'.in-Plane.r
-    (rigid-is (node_at c'.args.tree.now c'.args.k).kind c'.kind.result c'.kind.ensures (sym c'.ne.ensures ∙ c'.if-ne.false)) e.0 e.1
+    (rigid-is (node_at c'.args.tree.now c'.args.k).kind c'.kind.result c'.kind.ensures (sym c'.ne.ensures ∙ c'.if-ne.false)) e.system e.plane
     (subst TurnsRightWherePlane c'.in-Plane.is c'.in_ok-r.ensures.right)
