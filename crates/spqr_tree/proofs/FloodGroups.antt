@@ -55,13 +55,13 @@ module _ (comps : List Comp) (split : AreSplit comps) where
       apart = r.finished.apart;
     }
 
-    items-are : items_of comps c ≡ [] ++ reverse (reverse (s.stack ++ items_of comps c))
-    items-are = sym (reverse-twice (s.stack ++ items_of comps c) ∙ ap (λ (z : List Piece). z ++ items_of comps c) r.none_left)
+    items-are : items_of comps c ≡ [] ++ reverse (reverse (items_of comps c))
+    items-are = sym (reverse-twice (items_of comps c))
 
-    still-live : AreLive next.lead next.live
-    still-live = live-taken s.lead next.lead s.live next.live c r.live (subst (λ z. c < z) (sym r.places) l) none started.live started.places started-led started.kept
+    still-live : AreLive comps next.lead next.live
+    still-live = live-taken comps s.lead next.lead s.live next.live c r.live (subst (λ z. c < z) (sym r.places) l) started.live started.places started-led started.kept
 
-    plain : IsFlooding comps (component_at comps c).kind (record { live = next.live; lead = next.lead; groups = s.groups; done = []; stack = reverse (s.stack ++ items_of comps c) })
+    plain : IsFlooding comps (component_at comps c).kind (record { live = next.live; lead = next.lead; groups = s.groups; done = []; stack = reverse (items_of comps c) })
     plain = record {
       live = still-live;
       places = started.places ∙ r.places;
@@ -72,7 +72,7 @@ module _ (comps : List Comp) (split : AreSplit comps) where
       settled = λ q d h. absurd (contains-none q h);
     }
 
-    same : record { live = next.live; lead = next.lead; groups = s.groups; done = []; stack = reverse (s.stack ++ items_of comps c) } ≡ next
+    same : record { live = next.live; lead = next.lead; groups = s.groups; done = []; stack = reverse (items_of comps c) } ≡ next
     same = λ i. record { live = next.live; lead = next.lead; groups = sym started.groups i; done = sym (started.done ∙ r.none_done) i; stack = sym started.stack i }
 
     pub started-floods : IsFlooding comps (component_at comps c).kind next

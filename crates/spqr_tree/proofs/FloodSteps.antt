@@ -122,8 +122,8 @@ module _ (comps : List Comp) (split : AreSplit comps) (kind : Kind) (s : FloodSt
     still-led : (x : ℕ) → IsLed s.lead x → IsLed next.lead x
     still-led x h z = h (sym (taken-kept x h) ∙ z)
 
-    still-live : AreLive next.lead next.live
-    still-live = live-taken s.lead next.lead s.live next.live d f.live (subst (λ z. d < z) (sym f.places) (link-within d to-d)) absorbed.1 taken.live taken.places (λ z. absurd (omega (arith, f.few, taken.into, z))) taken.kept
+    still-live : AreLive comps next.lead next.live
+    still-live = live-taken comps s.lead next.lead s.live next.live d f.live (subst (λ z. d < z) (sym f.places) (link-within d to-d)) taken.live taken.places (λ z. absurd (omega (arith, f.few, taken.into, z))) taken.kept
 
     plain : IsFlooding comps kind (record { live = next.live; lead = next.lead; groups = s.groups; done = s.done; stack = next.stack })
     plain = record {

@@ -1,4 +1,5 @@
--- The state of putting components into groups, one component after the other.
+-- State of a loop: the components that are put into groups, one after the other. They are moved, so no list of them is left:
+-- in all that is said here `comps` is the list as it was.
 use Rattle.std.specs.Prelude.{◌≡◌, ◌≢◌, ℕ, ◌+◌, ◌<◌, ◌≤◌, ◌⊎◌, ◌==◌, ◌&&◌, Bool, cond, List, [], ◌∷◌, ◌++◌, reverse, length, slice_index_or, Contains, Some, None}
 use Rattle.permutations.specs.Count.{sum_below}
 use Rattle.multigraph.specs.Graph.{Multigraph}
@@ -11,9 +12,9 @@ use Rattle.pair_split.specs.declared.components.Piece.{Piece}
 use Rattle.pair_split.specs.declared.components.Comp.{Comp}
 use Rattle.spqr_tree.specs.Merged.{how_many, is_outer, IsGroup, NoneAlike}
 
--- the live components, each under its key, and the key of each component
+-- the live components, each under its key, and the key of each component, live or not
 pub record LiveState : Type 0 where
-  pub slab : Slab ℕ
+  pub slab : Slab Comp
   pub keys : List ℕ
 
 -- the live components, the group of each component, the groups that are finished, and the pieces of the group in work: those
@@ -37,15 +38,24 @@ IsLed lead c = group_of lead c ≢ 4294967295
 abbrev pub key_of : LiveState → ℕ → ℕ
 key_of live c = slice_index_or live.keys c 0
 
--- the components below n are live, each under its key, and no others have a key
-pub record AreHeld (live : LiveState) (n : ℕ) : Type 0 where
+-- the components below n are live, each under a key of its own
+pub record AreHeld (comps : List Comp) (live : LiveState) (n : ℕ) : Type 0 where
   pub places : length live.keys ≡ n
-  pub held : (x : ℕ) → x < n → get live.slab (key_of live x) ≡ Some x
+  pub differ : (x y : ℕ) → x < n → y < n → key_of live x ≡ key_of live y → x ≡ y
+  pub held : (x : ℕ) → x < n → get live.slab (key_of live x) ≡ Some (component_at comps x)
 
--- the live components are those in no group
-pub record AreLive (lead : List ℕ) (live : LiveState) : Type 0 where
+-- one component more is live, under a key that was free
+pub record IsAdded (live next : LiveState) (comp : Comp) : Type 0 where
+  pub key : ℕ
+  pub free : get live.slab key ≡ None
+  pub keys : next.keys ≡ live.keys ++ key ∷ []
+  pub slab : Updates live.slab next.slab key (Some comp)
+
+-- each component has a key of its own, under which it is held just where it is in no group
+pub record AreLive (comps : List Comp) (lead : List ℕ) (live : LiveState) : Type 0 where
   pub places : length live.keys ≡ length lead
-  pub held : (x : ℕ) → x < length lead → group_of lead x ≡ 4294967295 → get live.slab (key_of live x) ≡ Some x
+  pub differ : (x y : ℕ) → x < length lead → y < length lead → key_of live x ≡ key_of live y → x ≡ y
+  pub held : (x : ℕ) → x < length lead → group_of lead x ≡ 4294967295 → get live.slab (key_of live x) ≡ Some (component_at comps x)
   pub gone : (x : ℕ) → x < length lead → IsLed lead x → get live.slab (key_of live x) ≡ None
 
 -- component d was taken out of the live ones, and no other
@@ -72,7 +82,7 @@ IsAbsorbed comps lead kind d = IsMerged kind × (group_of lead d ≡ 4294967295)
 
 -- a group of this kind is in work
 pub record IsFlooding (comps : List Comp) (kind : Kind) (s : FloodState) : Type 0 where
-  pub live : AreLive s.lead s.live
+  pub live : AreLive comps s.lead s.live
   pub places : length s.lead ≡ length comps
   pub few : length s.groups < 4294967295
   pub led : (x : ℕ) → IsLed s.lead x → group_of s.lead x ≤ length s.groups
@@ -82,7 +92,7 @@ pub record IsFlooding (comps : List Comp) (kind : Kind) (s : FloodState) : Type 
 
 -- no group is in work
 pub record IsResting (comps : List Comp) (s : FloodState) : Type 0 where
-  pub live : AreLive s.lead s.live
+  pub live : AreLive comps s.lead s.live
   pub places : length s.lead ≡ length comps
   pub led : (x : ℕ) → IsLed s.lead x → group_of s.lead x < length s.groups
   pub finished : AreFinished comps s.lead s.groups
@@ -123,4 +133,4 @@ pub record IsStarted (comps : List Comp) (s next : FloodState) (c : ℕ) : Type 
   pub places : length next.lead ≡ length s.lead
   pub into : group_of next.lead c ≡ length s.groups
   pub kept : (x : ℕ) → x ≢ c → group_of next.lead x ≡ group_of s.lead x
-  pub stack : next.stack ≡ reverse (s.stack ++ items_of comps c)
+  pub stack : next.stack ≡ reverse (items_of comps c)

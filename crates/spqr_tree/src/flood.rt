@@ -1,12 +1,13 @@
 // The groups of components that are merged: bonds with bonds and polygons with polygons, where links join them.
 
-ghost use Rattle.std.specs.Prelude.{◌≡◌, ◌+◌, ◌<◌, ◌≤◌, ◌↔◌, ◌++◌, ◌^◌, ℕ, true, [], ◌∷◌, length, IfOk, IfSome, None};
-ghost use Rattle.pair_split.specs.Split.{component_at, items_of};
-ghost use Rattle.slab.specs.Slab.{ContainsKey};
+ghost use Rattle.std.specs.Prelude.{◌≡◌, ◌+◌, ◌<◌, ◌≤◌, ◌↔◌, ◌++◌, ◌^◌, ℕ, true, List, [], ◌∷◌, length, IsSomeAnd, IfOk, IfSome, Some, None};
+ghost use Rattle.pair_split.specs.Split.{component_at};
+ghost use Rattle.pair_split.specs.declared.components.Comp.{Comp};
+ghost use Rattle.slab.specs.Slab.{get, ContainsKey};
 ghost use Rattle.spqr_tree.specs.Merged.{is_outer, AreGroups};
-ghost use Rattle.spqr_tree.specs.Flood.{group_of, key_of, AreHeld, AreLive, IsTakenOut, IsLed, IsMerged, AreSplit, AreFinished, IsAbsorbed, IsFlooding, IsResting, KeepsLed, with_piece, pieces_left, IsPushed, IsTaken, IsStarted};
+ghost use Rattle.spqr_tree.specs.Flood.{group_of, key_of, AreHeld, IsAdded, AreLive, IsTakenOut, IsLed, IsMerged, AreSplit, AreFinished, IsAbsorbed, IsFlooding, IsResting, KeepsLed, with_piece, pieces_left, IsPushed, IsTaken, IsStarted};
 
-use pair_split::{Comp, Kind, Piece, PieceList, What};
+use pair_split::{Comp, CompList, Kind, Piece, PieceList, What};
 use slab::Slab;
 use std::alloc::{AllocError, Global};
 use std::marker::Model;
@@ -15,10 +16,10 @@ use std::mem;
 // The number of the group of a component that is in none.
 pub(crate) const NO_GROUP: u32 = 4294967295;
 
-// The live components, those that are in no group yet, and the key of each component.
+// The live components, those that are in no group yet, and the key under which each component was put in.
 #[derive(Drop)]
 struct Live {
-    slab: Slab<u32>,
+    slab: Slab<Comp>,
     keys: Vec<usize>,
 }
 
@@ -31,26 +32,25 @@ impl Model for Live {
 }
 
 impl Live {
-    // All n components are live.
-    fn new(alloc: Global, n: u32) -> Result<Live, AllocError>
-        ensures { IfOk result (λ live. AreHeld live n) }
+    // All these components are live.
+    fn new(alloc: Global, comps: Vec<Comp>) -> Result<Live, AllocError>
+        ensures { IfOk result (λ live. AreHeld comps.items live (length comps.items)) }
     {
         let mut live = Live {
             slab: Slab::new(alloc),
             keys: Vec::new(alloc),
         };
-        for c in 0..n {
-            live.add(c)?;
+        for comp in comps {
+            live.add(comp)?;
         }
         Ok(live)
     }
 
-    // Component c is live, after those below it.
-    fn add(&mut self, c: u32) -> Result<(), AllocError>
-        requires { AreHeld self.old c }
-        ensures { IfOk result (λ _. AreHeld self.new (c + 1)) }
+    // One component more is live.
+    fn add(&mut self, comp: Comp) -> Result<(), AllocError>
+        ensures { IfOk result (λ _. IsAdded self.old self.new comp) }
     {
-        let key = self.slab.insert(c)?;
+        let key = self.slab.insert(comp)?;
         self.keys.push(key)?;
         Ok(())
     }
@@ -63,12 +63,29 @@ impl Live {
         self.slab.contains(self.keys[d as usize])
     }
 
-    // Component d is live no more.
-    fn remove(&mut self, d: u32)
-        requires { d < length self.old.keys }
-        ensures { IsTakenOut self.old self.new d }
+    // Whether component d is live and of this kind.
+    fn is_of_kind(&self, d: u32, kind: Kind) -> bool
+        requires { d < length self.now.keys }
+        ensures { (result ≡ true)
+            ↔ IsSomeAnd (get self.now.slab (key_of self.now d)) (λ comp. comp.kind ≡ kind) }
     {
-        self.slab.try_remove(self.keys[d as usize]);
+        match self.slab.get(self.keys[d as usize]) {
+            Some(comp) => comp.kind == kind,
+            None => false,
+        }
+    }
+
+    // Component d, which is live no more.
+    fn take(&mut self, d: u32) -> Comp
+        requires place { d < length self.old.keys }
+        requires live { ContainsKey self.old.slab (key_of self.old d) }
+        ensures comp { get self.old.slab (key_of self.old d) ≡ Some result }
+        ensures out { IsTakenOut self.old self.new d }
+    {
+        match self.slab.try_remove(self.keys[d as usize]) {
+            Some(comp) => comp,
+            None => unreachable!(),
+        }
     }
 }
 
@@ -136,17 +153,17 @@ fn push_outer(
 }
 
 impl Flood {
-    // No component is in a group yet.
-    fn new(alloc: Global, n: usize) -> Result<Flood, AllocError>
-        requires few { n < 4294967295 }
-        ensures live { IfOk result (λ s. AreLive s.lead s.live) }
+    // None of these components is in a group yet.
+    fn new(alloc: Global, comps: Vec<Comp>) -> Result<Flood, AllocError>
+        ensures live { IfOk result (λ s. AreLive comps.items s.lead s.live) }
         ensures none { IfOk result (λ s. (x : ℕ) → group_of s.lead x ≡ 4294967295) }
-        ensures places { IfOk result (λ s. length s.lead ≡ n) }
+        ensures places { IfOk result (λ s. length s.lead ≡ length comps.items) }
         ensures empty { IfOk result (λ s. (s.groups ≡ []) × (s.done ≡ []) × (s.stack ≡ [])) }
     {
+        let lead = vec![in alloc; NO_GROUP; comps.len()]?;
         Ok(Flood {
-            live: Live::new(alloc, n as u32)?,
-            lead: vec![in alloc; NO_GROUP; n]?,
+            live: Live::new(alloc, comps)?,
+            lead,
             groups: Vec::new(alloc),
             done: Vec::new(alloc),
             stack: Vec::new(alloc),
@@ -169,7 +186,8 @@ impl Flood {
 
     // Whether component d is in no group yet.
     fn is_live(&self, d: u32) -> bool
-        requires live { AreLive self.now.lead self.now.live }
+        ghost comps: { List Comp }
+        requires live { AreLive comps self.now.lead self.now.live }
         requires place { d < length self.now.lead }
         ensures { (result ≡ true) ↔ (group_of self.now.lead d ≡ 4294967295) }
     {
@@ -177,32 +195,28 @@ impl Flood {
     }
 
     // Whether component d is of this kind and in no group, and has to be merged with its like.
-    fn is_absorbed(&self, comps: &[Comp], kind: Kind, d: u32) -> bool
-        requires live { AreLive self.now.lead self.now.live }
+    fn is_absorbed(&self, kind: Kind, d: u32) -> bool
+        ghost comps: { List Comp }
+        requires live { AreLive comps self.now.lead self.now.live }
         requires place { d < length self.now.lead }
-        requires within { d < length comps.now }
-        ensures { (result ≡ true) ↔ IsAbsorbed comps.now self.now.lead kind d }
+        ensures { (result ≡ true) ↔ IsAbsorbed comps self.now.lead kind d }
     {
-        is_merged(kind) && self.is_live(d) && comps[d as usize].kind == kind
+        is_merged(kind) && self.live.is_of_kind(d, kind)
     }
 
-    // Puts component d into the group in work.
-    fn absorb(&mut self, comps: &[Comp], d: u32) -> Result<(), AllocError>
-        requires within { d < length comps.now }
+    // Puts component d, which is in no group, into the group in work.
+    fn absorb(&mut self, d: u32) -> Result<(), AllocError>
+        ghost comps: { List Comp }
         requires place { d < length self.old.lead }
-        requires live { AreLive self.old.lead self.old.live }
+        requires live { AreLive comps self.old.lead self.old.live }
+        requires none { group_of self.old.lead d ≡ 4294967295 }
         requires few { length self.old.groups < 4294967295 }
-        ensures { IfOk result (λ _. IsTaken comps.now self.old self.new d) }
+        ensures { IfOk result (λ _. IsTaken comps self.old self.new d) }
     {
+        let comp = self.live.take(d);
         let k = self.groups.len() as u32;
-        push_outer(
-            &mut self.stack,
-            comps[d as usize].items.as_slice(),
-            &self.lead,
-            k,
-        )?;
+        push_outer(&mut self.stack, comp.items.as_slice(), &self.lead, k)?;
         self.lead[d as usize] = k;
-        self.live.remove(d);
         Ok(())
     }
 
@@ -221,18 +235,19 @@ impl Flood {
     }
 
     // One piece of the group in work is looked at.
-    fn look(&mut self, comps: &[Comp], kind: Kind, piece: Piece) -> Result<(), AllocError>
-        requires split { AreSplit comps.now }
-        requires flooding { IsFlooding comps.now kind (with_piece self.old piece) }
-        ensures flooding { IfOk result (λ _. IsFlooding comps.now kind self.new) }
+    fn look(&mut self, kind: Kind, piece: Piece) -> Result<(), AllocError>
+        ghost comps: { List Comp }
+        requires split { AreSplit comps }
+        requires flooding { IsFlooding comps kind (with_piece self.old piece) }
+        ensures flooding { IfOk result (λ _. IsFlooding comps kind self.new) }
         ensures groups { IfOk result (λ _. self.new.groups ≡ self.old.groups) }
         ensures kept { IfOk result (λ _. KeepsLed self.old.lead self.new.lead) }
         ensures falls { IfOk result
-            (λ _. pieces_left comps.now self.new ≤ pieces_left comps.now self.old) }
+            (λ _. pieces_left comps self.new ≤ pieces_left comps self.old) }
     {
         if let What::Link(d) = piece.what {
-            if self.is_absorbed(comps, kind, d) {
-                self.absorb(comps, d)?;
+            if self.is_absorbed(kind, d) {
+                self.absorb(d)?;
                 return Ok(());
             }
         }
@@ -249,52 +264,54 @@ impl Flood {
     }
 
     // Looks at all pieces of the group in work.
-    fn explore(&mut self, comps: &[Comp], kind: Kind) -> Result<(), AllocError>
-        requires split { AreSplit comps.now }
-        requires flooding { IsFlooding comps.now kind self.old }
-        ensures flooding { IfOk result (λ _. IsFlooding comps.now kind self.new) }
+    fn explore(&mut self, kind: Kind) -> Result<(), AllocError>
+        ghost comps: { List Comp }
+        requires split { AreSplit comps }
+        requires flooding { IsFlooding comps kind self.old }
+        ensures flooding { IfOk result (λ _. IsFlooding comps kind self.new) }
         ensures groups { IfOk result (λ _. self.new.groups ≡ self.old.groups) }
         ensures kept { IfOk result (λ _. KeepsLed self.old.lead self.new.lead) }
         ensures empty { IfOk result (λ _. self.new.stack ≡ []) }
     {
         while let Some(piece) = self.next() {
-            self.look(comps, kind, piece)?;
+            self.look(kind, piece)?;
         }
         Ok(())
     }
 
-    // Puts component c into a new group.
-    fn start(&mut self, comps: &[Comp], c: u32) -> Result<(), AllocError>
-        requires within { c < length comps.now }
+    // Puts component c, which is in none, into a new group; the kind of it.
+    fn start(&mut self, c: u32) -> Kind
+        ghost comps: { List Comp }
         requires place { c < length self.old.lead }
-        requires live { AreLive self.old.lead self.old.live }
+        requires live { AreLive comps self.old.lead self.old.live }
+        requires none { group_of self.old.lead c ≡ 4294967295 }
         requires few { length self.old.groups < 4294967295 }
-        ensures { IfOk result (λ _. IsStarted comps.now self.old self.new c) }
+        ensures kind { result ≡ (component_at comps c).kind }
+        ensures started { IsStarted comps self.old self.new c }
     {
-        self.stack
-            .extend_from_slice(comps[c as usize].items.as_slice())?;
+        let comp = self.live.take(c);
+        let kind = comp.kind;
+        self.stack = comp.items.into_vec();
         // The first piece is looked at first.
         self.stack.reverse();
         self.lead[c as usize] = self.groups.len() as u32;
-        self.live.remove(c);
-        Ok(())
+        kind
     }
 
-    // Begins a group with component c, which is in none.
-    fn begin(&mut self, comps: &[Comp], c: u32) -> Result<(), AllocError>
-        requires split { AreSplit comps.now }
-        requires resting { IsResting comps.now self.old }
+    // Begins a group with component c, which is in none; the kind of it.
+    fn begin(&mut self, c: u32) -> Kind
+        ghost comps: { List Comp }
+        requires split { AreSplit comps }
+        requires resting { IsResting comps self.old }
         requires few { length self.old.groups < 4294967295 }
-        requires within { c < length comps.now }
+        requires within { c < length comps }
         requires none { group_of self.old.lead c ≡ 4294967295 }
-        ensures flooding { IfOk result
-            (λ _. IsFlooding comps.now (component_at comps.now c).kind self.new) }
-        ensures groups { IfOk result (λ _. self.new.groups ≡ self.old.groups) }
-        ensures kept { IfOk result (λ _. KeepsLed self.old.lead self.new.lead) }
-        ensures led { IfOk result (λ _. IsLed self.new.lead c) }
+        ensures flooding { IsFlooding comps result self.new }
+        ensures groups { self.new.groups ≡ self.old.groups }
+        ensures kept { KeepsLed self.old.lead self.new.lead }
+        ensures led { IsLed self.new.lead c }
     {
-        self.start(comps, c)?;
-        Ok(())
+        self.start(c)
     }
 
     // The group in work is finished.
@@ -315,37 +332,39 @@ impl Flood {
     }
 
     // Makes the group of component c, which is in none yet.
-    fn add_group(&mut self, alloc: Global, comps: &[Comp], c: u32) -> Result<(), AllocError>
-        requires split { AreSplit comps.now }
-        requires resting { IsResting comps.now self.old }
+    fn add_group(&mut self, alloc: Global, c: u32) -> Result<(), AllocError>
+        ghost comps: { List Comp }
+        requires split { AreSplit comps }
+        requires resting { IsResting comps self.old }
         requires few { length self.old.groups < 4294967295 }
-        requires within { c < length comps.now }
+        requires within { c < length comps }
         requires none { group_of self.old.lead c ≡ 4294967295 }
-        ensures resting { IfOk result (λ _. IsResting comps.now self.new) }
+        ensures resting { IfOk result (λ _. IsResting comps self.new) }
         ensures number { IfOk result (λ _. length self.new.groups ≡ length self.old.groups + 1) }
         ensures kept { IfOk result (λ _. KeepsLed self.old.lead self.new.lead) }
         ensures led { IfOk result (λ _. IsLed self.new.lead c) }
     {
-        let kind = comps[c as usize].kind;
-        self.begin(comps, c)?;
-        self.explore(comps, kind)?;
+        let kind = self.begin(c);
+        self.explore(kind)?;
         self.finish(alloc, kind)?;
         Ok(())
     }
 }
 
 // The groups of all components.
-pub(crate) fn groups_of(alloc: Global, comps: &[Comp]) -> Result<Flood, AllocError>
-    requires split { AreSplit comps.now }
-    requires few { length comps.now < 4294967295 }
-    ensures groups { IfOk result (λ s. AreGroups comps.now (group_of s.lead) s.groups) }
-    ensures finished { IfOk result (λ s. AreFinished comps.now s.lead s.groups) }
-    ensures number { IfOk result (λ s. length s.groups ≤ length comps.now) }
+pub(crate) fn groups_of(alloc: Global, list: CompList) -> Result<Flood, AllocError>
+    ghost comps: { List Comp }
+    requires same { list ≡ comps }
+    requires split { AreSplit comps }
+    requires few { length comps < 4294967295 }
+    ensures groups { IfOk result (λ s. AreGroups comps (group_of s.lead) s.groups) }
+    ensures finished { IfOk result (λ s. AreFinished comps s.lead s.groups) }
+    ensures number { IfOk result (λ s. length s.groups ≤ length comps) }
 {
-    let mut flood = Flood::new(alloc, comps.len())?;
-    for c in 0..comps.len() as u32 {
+    let mut flood = Flood::new(alloc, list.into_vec())?;
+    for c in 0..flood.table().len() as u32 {
         if flood.is_live(c) {
-            flood.add_group(alloc, comps, c)?;
+            flood.add_group(alloc, c)?;
         }
     }
     Ok(flood)

@@ -23,5 +23,5 @@ place_groups-requires c = subst (λ (l : List (Vec ℕ Global × ℕ)). (i : ℕ
 pub returns : goal.returns
 returns c = subst (λ (l : List Comp). IsArranged c.args.g.now l (ranks_of c.in_ok-ranks.ranks.items))
     (sym (c.in_ok-all.ensures ∙ (λ i. in_order (λ x. value_at (c.deref-2.ensures.value i) (group_of c.args.lead.now x)) c.args.groups.now (ranks_of (c.deref-3.ensures.value i)))))
-    (arranged c.args.g.now c.requires.block c.args.comps.now c.requires.split c.args.lead.now c.args.groups.now c.requires.groups c.requires.finished c.requires.few (ranks_of c.in_ok-ranks.ranks.items) c.in_ok-ranks.ensures
+    (arranged c.args.g.now c.requires.block c.requires.groups.0 c.requires.groups.1 c.args.lead.now c.args.groups.now c.requires.groups.2 c.requires.groups.3 c.requires.few (ranks_of c.in_ok-ranks.ranks.items) c.in_ok-ranks.ensures
     c.in_ok-places.places.items (subst (λ (l : List (Vec ℕ Global × ℕ)). ArePlaces (ranks_of l) c.in_ok-places.places.items) c.deref.ensures.value c.in_ok-places.ensures))

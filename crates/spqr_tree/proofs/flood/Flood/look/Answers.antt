@@ -6,29 +6,26 @@ use Rattle.spqr_tree.proofs.flood.Flood.look.Goals as goal
 use Rattle.spqr_tree.proofs.flood.Flood.look.Goals.{in-Link+else-is_absorbed, in_default}
 
 -- a link leads to a component
-pub is_absorbed-requires-clause-within : goal.is_absorbed-requires-clause-within
-is_absorbed-requires-clause-within c = link-within c.args.comps.now c.requires.split c.args.kind c.args.self.now c.args.piece c.requires.flooding c.in-Link.d c.in-Link.is
+pub is_absorbed-requires : goal.is_absorbed-requires
+is_absorbed-requires g c = (c.requires.1.live, subst (λ z. c.in-Link.d < z) (sym c.requires.1.places) (link-within g.comps c.requires.0 c.args.kind c.args.self.now c.args.piece c.requires.1 c.in-Link.d c.in-Link.is))
 
-pub is_absorbed-requires-clause-place : goal.is_absorbed-requires-clause-place
-is_absorbed-requires-clause-place c = subst (λ z. c.in-Link.d < z) (sym c.requires.flooding.places) (link-within c.args.comps.now c.requires.split c.args.kind c.args.self.now c.args.piece c.requires.flooding c.in-Link.d c.in-Link.is)
-
-pub absorb-requires-clause-within : goal.absorb-requires-clause-within
-absorb-requires-clause-within c = link-within c.args.comps.now c.requires.split c.args.kind c.args.self.now c.args.piece c.requires.flooding c.in-Link.d c.in-Link.is
-
-pub absorb-requires-clause-place : goal.absorb-requires-clause-place
-absorb-requires-clause-place c = subst (λ z. c.in-Link.d < z) (sym c.requires.flooding.places) (link-within c.args.comps.now c.requires.split c.args.kind c.args.self.now c.args.piece c.requires.flooding c.in-Link.d c.in-Link.is)
+pub absorb-requires : goal.absorb-requires
+absorb-requires g c = (
+  subst (λ z. c.in-Link.d < z) (sym c.requires.1.places) (link-within g.comps c.requires.0 c.args.kind c.args.self.now c.args.piece c.requires.1 c.in-Link.d c.in-Link.is),
+  (c.requires.1.live, ((c.is_absorbed.ensures.0 c.if-is_absorbed.true).1, c.requires.1.few)),
+)
 
 -- a component is taken into the group in work
 pub returns-then-is_absorbed-clause-flooding : goal.returns-then-is_absorbed-clause-flooding
-returns-then-is_absorbed-clause-flooding c = taken-floods c.args.comps.now c.requires.split c.args.kind c.args.self.now c.args.piece c.requires.flooding c.in-Link.d c.in-Link.is (c.is_absorbed.ensures.0 c.if-is_absorbed.true) c.absorb.new.self c.in_ok-absorb.ensures
+returns-then-is_absorbed-clause-flooding g c = taken-floods g.comps c.requires.0 c.args.kind c.args.self.now c.args.piece c.requires.1 c.in-Link.d c.in-Link.is (c.is_absorbed.ensures.0 c.if-is_absorbed.true) c.absorb.new.self c.in_ok-absorb.ensures
 
 -- and fewer pieces are left
 pub returns-then-is_absorbed-clause-falls : goal.returns-then-is_absorbed-clause-falls
-returns-then-is_absorbed-clause-falls c = taken-falls c.args.comps.now c.requires.split c.args.kind c.args.self.now c.args.piece c.requires.flooding c.in-Link.d c.in-Link.is (c.is_absorbed.ensures.0 c.if-is_absorbed.true) c.absorb.new.self c.in_ok-absorb.ensures
+returns-then-is_absorbed-clause-falls g c = taken-falls g.comps c.requires.0 c.args.kind c.args.self.now c.args.piece c.requires.1 c.in-Link.d c.in-Link.is (c.is_absorbed.ensures.0 c.if-is_absorbed.true) c.absorb.new.self c.in_ok-absorb.ensures
 
 -- a piece that leads to no such component is done
 pub returns-clause-flooding : goal.returns-clause-flooding
-returns-clause-flooding c = subst (IsFlooding c.args.comps.now c.args.kind) (sym c.in_ok-keep.ensures) (done-floods c.args.comps.now c.requires.split c.args.kind c.args.self.now c.args.piece c.requires.flooding (elim c.match-piece.branch [
-  | in-Link+else-is_absorbed w ↦ λ d e a. true≢false (sym (w.is_absorbed.ensures.1 (subst (IsAbsorbed c.args.comps.now c.args.self.now.lead c.args.kind) (same-link d w.in-Link.d (sym e ∙ w.in-Link.is)) a)) ∙ w.if-is_absorbed.false)
+returns-clause-flooding g c = subst (IsFlooding g.comps c.args.kind) (sym c.in_ok-keep.ensures) (done-floods g.comps c.requires.0 c.args.kind c.args.self.now c.args.piece c.requires.1 (elim c.match-piece.branch [
+  | in-Link+else-is_absorbed w ↦ λ d e a. true≢false (sym (w.is_absorbed.ensures.1 (subst (IsAbsorbed g.comps c.args.self.now.lead c.args.kind) (same-link d w.in-Link.d (sym e ∙ w.in-Link.is)) a)) ∙ w.if-is_absorbed.false)
   | in_default w ↦ λ d e a. w.in_default.not-Link d e
 ]))
