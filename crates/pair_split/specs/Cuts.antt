@@ -1,4 +1,4 @@
--- The state of splitting as the code has it.
+-- State of a loop: splitting as the code has it.
 use Rattle.std.specs.Prelude.{◌+◌, ◌≤◌, List, length, map}
 use Rattle.multigraph.specs.Graph.{Multigraph, edge_count, IsGraph}
 use Rattle.pair_split.specs.Lumps.{entry_of, family_of, HaveEndsBelow}

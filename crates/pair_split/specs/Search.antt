@@ -1,4 +1,4 @@
--- The search for a 2-separation of a family with the fewest entries on its side.
+-- State of a loop: the search for a 2-separation of a family with the fewest entries on its side.
 use Rattle.std.specs.Prelude.{◌≡◌, ℕ, ◌<◌, ◌≤◌, ◌⊎◌, Bool, List, length, All, Contains, Option, MatchOption}
 use Rattle.pair_split.specs.Family.{Entry, on_side, IsFamily, IsTight, IsSeparation}
 use Rattle.pair_split.specs.Edges.{entry_ends}

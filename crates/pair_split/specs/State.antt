@@ -1,4 +1,4 @@
--- The state of splitting a graph: the components that are finished, and the current family, which is still to be split.
+-- State of a loop: a graph that is split, by the components that are finished and the current family, still to be split.
 -- Entries go by names: edge e of the graph is e, and the virtual edge of component c is m + c, where m is the number of edges.
 -- A virtual edge stands in its own component and in a later one; the current family is the last of all.
 use Rattle.std.specs.Prelude.{◌≡◌, ◌≢◌, ℕ, ◌+◌, ◌<◌, ◌≤◌, ◌⊎◌, ◌↔◌, Bool, true, false, List, [], ◌∷◌, ◌++◌, length, map, slice_index_or, Contains}
