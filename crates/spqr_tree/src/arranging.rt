@@ -22,6 +22,7 @@ fn groups_of_block(alloc: Global, g: &Graph, comps: CompList) -> Result<Flood, A
     requires split { IsSplit g.now comps }
     ensures groups { IfOk result (λ s. AreGroups comps (group_of s.lead) s.groups) }
     ensures finished { IfOk result (λ s. AreFinished comps s.lead s.groups) }
+    ensures places { IfOk result (λ s. length s.lead ≡ length comps) }
     ensures few { IfOk result (λ s. length s.groups < 4294967295) }
 {
     // A graph has few edges, so the components are few.
@@ -39,7 +40,8 @@ fn arrange_groups(
 ) -> Result<(Vec<Comp>, Vec<(Vec<u32>, u32)>), AllocError>
     requires block { IsOneBlock g.now }
     requires groups { (comps : List Comp) × IsSplit g.now comps
-        × AreGroups comps (group_of lead.now) groups.now × AreFinished comps lead.now groups.now }
+        × AreGroups comps (group_of lead.now) groups.now × AreFinished comps lead.now groups.now
+        × (length lead.now ≡ length comps) }
     requires few { length groups.now < 4294967295 }
     ensures { IfOk result (λ r. IsArranged g.now r.0.items (ranks_of r.1.items)) }
 {

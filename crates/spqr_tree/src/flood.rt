@@ -1,10 +1,12 @@
 // The groups of components that are merged: bonds with bonds and polygons with polygons, where links join them.
 
 ghost use Rattle.std.specs.Prelude.{◌≡◌, ◌+◌, ◌<◌, ◌≤◌, ◌↔◌, ◌++◌, ◌^◌, ℕ, true, List, [], ◌∷◌, length, IsSomeAnd, IfOk, IfSome, Some, None};
-ghost use Rattle.pair_split.specs.Split.{component_at};
+ghost use Rattle.pair_split.specs.Split.{component_at, items_of};
 ghost use Rattle.pair_split.specs.declared.components.Comp.{Comp};
+ghost use Rattle.pair_split.specs.declared.components.What.TheVariants.{Link};
 ghost use Rattle.slab.specs.Slab.{get, ContainsKey};
 ghost use Rattle.spqr_tree.specs.Merged.{is_outer, AreGroups};
+ghost use Rattle.spqr_tree.specs.Keys.{AreWithin};
 ghost use Rattle.spqr_tree.specs.Flood.{group_of, key_of, AreHeld, IsAdded, AreLive, IsTakenOut, IsLed, IsMerged, AreSplit, AreFinished, IsAbsorbed, IsFlooding, IsResting, KeepsLed, with_piece, pieces_left, IsPushed, IsTaken, IsStarted};
 
 use pair_split::{Comp, CompList, Kind, Piece, PieceList, What};
@@ -110,12 +112,10 @@ impl Model for Flood {
 
 // The number of the group of component c.
 pub(crate) fn group_of(lead: &[u32], c: u32) -> u32
+    requires { c < length lead.now }
     ensures { result ≡ group_of lead.now c }
 {
-    match lead.get(c as usize) {
-        Some(k) => *k,
-        None => NO_GROUP,
-    }
+    lead[c as usize]
 }
 
 // Whether components of this kind are merged where links join them.
@@ -127,6 +127,7 @@ fn is_merged(kind: Kind) -> bool
 
 // Whether the piece is no link into group k.
 fn is_outer(lead: &[u32], k: u32, what: What) -> bool
+    requires { (j : ℕ) → what ≡ Link j → j < length lead.now }
     ensures { result ≡ is_outer (group_of lead.now) k what }
 {
     match what {
@@ -142,6 +143,7 @@ fn push_outer(
     lead: &[u32],
     k: u32,
 ) -> Result<(), AllocError>
+    requires { AreWithin pieces.now (length lead.now) }
     ensures { IfOk result (λ _. IsPushed stack.old.items stack.new.items lead.now k pieces.now) }
 {
     for piece in pieces {
@@ -210,6 +212,7 @@ impl Flood {
         requires place { d < length self.old.lead }
         requires live { AreLive comps self.old.lead self.old.live }
         requires none { group_of self.old.lead d ≡ 4294967295 }
+        requires links { AreWithin (items_of comps d) (length self.old.lead) }
         requires few { length self.old.groups < 4294967295 }
         ensures { IfOk result (λ _. IsTaken comps self.old self.new d) }
     {
@@ -360,6 +363,7 @@ pub(crate) fn groups_of(alloc: Global, list: CompList) -> Result<Flood, AllocErr
     ensures groups { IfOk result (λ s. AreGroups comps (group_of s.lead) s.groups) }
     ensures finished { IfOk result (λ s. AreFinished comps s.lead s.groups) }
     ensures number { IfOk result (λ s. length s.groups ≤ length comps) }
+    ensures places { IfOk result (λ s. length s.lead ≡ length comps) }
 {
     let mut flood = Flood::new(alloc, list.into_vec())?;
     for c in 0..flood.table().len() as u32 {

@@ -1,5 +1,8 @@
-use Rattle.std.proofs.Common.{◌<◌, ◌∙◌, sym, subst}
+use Rattle.std.proofs.Common.{◌<◌, [], refl, length, ◌∙◌, sym, subst}
 use Rattle.std.proofs.lemmas.Bool.{true≢false}
+use Rattle.pair_split.specs.Split.{items_of}
+use Rattle.pair_split.specs.declared.components.Kind.TheVariants.{B}
+use Rattle.spqr_tree.proofs.OrderCode.{items-within}
 use Rattle.spqr_tree.specs.Flood.{IsAbsorbed, IsFlooding}
 use Rattle.spqr_tree.proofs.FloodSteps.{same-link, link-within, taken-floods, taken-falls, done-floods}
 use Rattle.spqr_tree.proofs.flood.Flood.look.Goals as goal
@@ -12,7 +15,7 @@ is_absorbed-requires g c = (c.requires.1.live, subst (λ z. c.in-Link.d < z) (sy
 pub absorb-requires : goal.absorb-requires
 absorb-requires g c = (
   subst (λ z. c.in-Link.d < z) (sym c.requires.1.places) (link-within g.comps c.requires.0 c.args.kind c.args.self.now c.args.piece c.requires.1 c.in-Link.d c.in-Link.is),
-  (c.requires.1.live, ((c.is_absorbed.ensures.0 c.if-is_absorbed.true).1, c.requires.1.few)),
+  (c.requires.1.live, ((c.is_absorbed.ensures.0 c.if-is_absorbed.true).1, (items-within g.comps c.requires.0.1.linked c.in-Link.d (record { kind = B; items = [] }) (items_of g.comps c.in-Link.d) (length c.args.self.now.lead) (link-within g.comps c.requires.0 c.args.kind c.args.self.now c.args.piece c.requires.1 c.in-Link.d c.in-Link.is) refl c.requires.1.places, c.requires.1.few))),
 )
 
 -- a component is taken into the group in work
