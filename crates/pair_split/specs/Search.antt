@@ -4,7 +4,7 @@ use Rattle.pair_split.specs.Family.{Entry, on_side, IsFamily, IsTight, IsSeparat
 use Rattle.pair_split.specs.Edges.{entry_ends}
 use Rattle.pair_split.specs.Skeleton.{SameEnds}
 use Rattle.pair_split.specs.Minimal.{IsMinimal}
-use Rattle.pair_split.specs.Lumps.{family_of, HaveEndsBelow, HaveNamesBelow, marked}
+use Rattle.pair_split.specs.Bridges.{family_of, HaveEndsBelow, HaveNamesBelow, marked}
 use Rattle.pair_split.specs.declared.family.NamedEdge.{NamedEdge}
 use Rattle.pair_split.specs.declared.search.Side.{Side}
 

@@ -16,7 +16,7 @@ use Rattle.pair_split.proofs.GraphFamily.{one_block-tight}
 use Rattle.pair_split.proofs.Links.{no_piece}
 use Rattle.pair_split.proofs.Subtrees.{link-in}
 use Rattle.spqr_tree.specs.Merged.{how_many, renamed, redirect, IsSymmetric, AreGroups, AreRearranged}
-use Rattle.spqr_tree.specs.Flood.{group_of, AreFinished}
+use Rattle.spqr_tree.specs.Merging.{group_of, AreFinished}
 use Rattle.spqr_tree.specs.Ranking.{Rank, rank_at, AreVertices, AreRanked, ArePlaces, value_at, placed, placed_group, in_order}
 use Rattle.spqr_tree.specs.Keys.{AreWithin}
 use Rattle.spqr_tree.specs.Assembly.{IsArranged}

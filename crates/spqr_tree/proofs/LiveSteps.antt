@@ -7,7 +7,7 @@ use Rattle.slab.specs.Slab.{get}
 use Rattle.pair_split.specs.Split.{component_at}
 use Rattle.pair_split.specs.declared.components.Kind.TheVariants.{B}
 use Rattle.pair_split.specs.declared.components.Comp.{Comp}
-use Rattle.spqr_tree.specs.Flood.{group_of, IsLed, LiveState, key_of, AreHeld, IsAdded, AreLive, IsTakenOut}
+use Rattle.spqr_tree.specs.Merging.{group_of, IsLed, LiveState, key_of, AreHeld, IsAdded, AreLive, IsTakenOut}
 
 -- one component more is held
 module _ (comps : List Comp) (live next : LiveState) (n : ℕ) (h : AreHeld comps live n) (added : IsAdded live next (component_at comps n)) where

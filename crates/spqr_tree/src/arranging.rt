@@ -5,11 +5,11 @@ ghost use Rattle.graph_theory.specs.Block.{IsOneBlock};
 ghost use Rattle.pair_split.specs.Split.{IsSplit};
 ghost use Rattle.pair_split.specs.declared.components.Comp.{Comp};
 ghost use Rattle.spqr_tree.specs.Merged.{AreGroups};
-ghost use Rattle.spqr_tree.specs.Flood.{group_of, AreFinished};
+ghost use Rattle.spqr_tree.specs.Merging.{group_of, AreFinished};
 ghost use Rattle.spqr_tree.specs.Ranking.{ranks_of};
 ghost use Rattle.spqr_tree.specs.Assembly.{IsArranged};
 
-use crate::flood::{Flood, groups_of};
+use crate::merging::{Merging, groups_of};
 use crate::naming::place_groups;
 use crate::ranking::{places, ranks};
 use multigraph::Graph;
@@ -17,7 +17,7 @@ use pair_split::{Comp, CompList};
 use std::alloc::{AllocError, Global};
 
 // The groups of the components of a block.
-fn groups_of_block(alloc: Global, g: &Graph, comps: CompList) -> Result<Flood, AllocError>
+fn groups_of_block(alloc: Global, g: &Graph, comps: CompList) -> Result<Merging, AllocError>
     requires block { IsOneBlock g.now }
     requires split { IsSplit g.now comps }
     ensures groups { IfOk result (λ s. AreGroups comps (group_of s.lead) s.groups) }
@@ -27,8 +27,8 @@ fn groups_of_block(alloc: Global, g: &Graph, comps: CompList) -> Result<Flood, A
 {
     // A graph has few edges, so the components are few.
     let _ = g.edge_count();
-    let flood = groups_of(alloc, comps)?;
-    Ok(flood)
+    let merging = groups_of(alloc, comps)?;
+    Ok(merging)
 }
 
 // The groups in the order of their vertices, and the vertices of each.
@@ -61,6 +61,6 @@ pub(crate) fn arrange(
     requires split { IsSplit g.now comps }
     ensures { IfOk result (λ r. IsArranged g.now r.0.items (ranks_of r.1.items)) }
 {
-    let flood = groups_of_block(alloc, g, comps)?;
-    arrange_groups(alloc, g, flood.table(), flood.list())
+    let merging = groups_of_block(alloc, g, comps)?;
+    arrange_groups(alloc, g, merging.table(), merging.list())
 }

@@ -5,10 +5,10 @@ ghost use Rattle.pair_split.specs.Split.{items_of};
 ghost use Rattle.pair_split.specs.declared.components.What.TheVariants.{Link};
 ghost use Rattle.spqr_tree.specs.Merged.{renamed};
 ghost use Rattle.spqr_tree.specs.Keys.{AreWithin};
-ghost use Rattle.spqr_tree.specs.Flood.{group_of};
+ghost use Rattle.spqr_tree.specs.Merging.{group_of};
 ghost use Rattle.spqr_tree.specs.Ranking.{ranks_of, rank_at, value_at, placed, placed_group, in_order};
 
-use crate::flood::group_of;
+use crate::merging::group_of;
 use pair_split::{Comp, Piece, PieceList, What};
 use std::alloc::{AllocError, Global};
 

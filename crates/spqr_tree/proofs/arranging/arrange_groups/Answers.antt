@@ -3,7 +3,7 @@ use Rattle.std.specs.declared.alloc.Global.{Global}
 use Rattle.std.proofs.lemmas.List.{length-map}
 use Rattle.pair_split.specs.Split.{items_of}
 use Rattle.pair_split.specs.declared.components.Comp.{Comp}
-use Rattle.spqr_tree.specs.Flood.{group_of}
+use Rattle.spqr_tree.specs.Merging.{group_of}
 use Rattle.spqr_tree.specs.Ranking.{rank_at, rank_of, ranks_of, value_at, in_order, ArePlaces}
 use Rattle.spqr_tree.specs.Keys.{AreWithin}
 use Rattle.spqr_tree.specs.Assembly.{IsArranged}

@@ -9,4 +9,4 @@ groups_of-requires c = (refl, ((c.args.g.now, c.requires.split), omega (arith, f
 
 -- so are the groups
 pub returns-clause-few : goal.returns-clause-few
-returns-clause-few c = omega (arith, c.in_ok-flood.ensures.number, few-components c.args.g.now c.args.comps c.requires.split (one_block-tight c.args.g.now c.requires.block), c.edge_count.ensures.limits.few_edges)
+returns-clause-few c = omega (arith, c.in_ok-merging.ensures.number, few-components c.args.g.now c.args.comps c.requires.split (one_block-tight c.args.g.now c.requires.block), c.edge_count.ensures.limits.few_edges)

@@ -1,4 +1,0 @@
-use Rattle.spqr_tree.proofs.flood.Flood.begin.Given as goal
-
-abbrev pub ghost-start : goal.ghost-start
-ghost-start g a = g.comps
