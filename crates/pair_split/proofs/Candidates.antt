@@ -1,4 +1,4 @@
--- The lumps of two vertices that are sides of 2-separations, and that one of them lies inside each side of a 2-separation.
+-- The bridges of two vertices that are sides of 2-separations, and that one of them lies inside each side of a 2-separation.
 use Rattle.std.proofs.Common.{◌≡◌, ◌≢◌, ℕ, ◌+◌, ◌≤◌, ◌⊎◌, inl, inr, Bool, true, false, ◌==◌, List, [], ◌∷◌, length, filter, refl, sym, ap, ◌∙◌, subst, arith, Contains}
 use Rattle.std.proofs.lemmas.Bool.{cases_Bool, both_ways, not_from_false, and_from, eq-eqb, eqb-true, false_from_ne_true}
 use Rattle.std.proofs.lemmas.List.Elements.{All-contains}
@@ -6,36 +6,36 @@ use Rattle.permutations.proofs.Members.{member-head, member-tail}
 use Rattle.graph_theory.specs.Labels.{IsLabelling}
 use Rattle.pair_split.specs.Edges.{family_skeleton}
 use Rattle.pair_split.specs.Family.{Entry, has_end, IsFamily, on_side, touches, IsTight, IsSeparation}
-use Rattle.pair_split.specs.Lumps.{side_of, removed, in_lump, IsClosed}
+use Rattle.pair_split.specs.Bridges.{side_of, removed, in_bridge, IsClosed}
 use Rattle.pair_split.specs.Search.{HasNoParallels}
 use Rattle.pair_split.proofs.Elements.{two-pass, length-weaker}
 use Rattle.pair_split.proofs.Sides.{touches-from_side, touching-on_side, common-from, length-sides, separation-from}
 use Rattle.pair_split.proofs.Names.{two-names}
 use Rattle.pair_split.proofs.Replaced.{first-end, second-end}
 use Rattle.pair_split.proofs.Degrees.{tight-degree, one-of_two}
-use Rattle.pair_split.proofs.LumpSides.{closed-connected, lump-from, lump-witness, lump-common, removed-cases, side_of-filter}
+use Rattle.pair_split.proofs.BridgeSides.{closed-connected, bridge-from, bridge-witness, bridge-common, removed-cases, side_of-filter}
 use Rattle.pair_split.proofs.PrimeSimple.{joins, joins-parallel}
 
--- the lump of a closed class with two entries in it and two outside it is a side of a 2-separation
-pub lump-separation : (entries : List Entry) → IsFamily entries → IsTight entries → (a b : ℕ) (class : ℕ → Bool) → IsClosed entries a b class
-    → 2 ≤ length (filter (in_lump a b class) entries) → length (filter (in_lump a b class) entries) + 2 ≤ length entries → IsSeparation entries (side_of entries (in_lump a b class)) a b
-lump-separation entries family tight a b class closed two rest =
-    separation-from entries (side_of entries (in_lump a b class)) a b tight
+-- the bridge of a closed class with two entries in it and two outside it is a side of a 2-separation
+pub bridge-separation : (entries : List Entry) → IsFamily entries → IsTight entries → (a b : ℕ) (class : ℕ → Bool) → IsClosed entries a b class
+    → 2 ≤ length (filter (in_bridge a b class) entries) → length (filter (in_bridge a b class) entries) + 2 ≤ length entries → IsSeparation entries (side_of entries (in_bridge a b class)) a b
+bridge-separation entries family tight a b class closed two rest =
+    separation-from entries (side_of entries (in_bridge a b class)) a b tight
     (subst (λ (l : List Entry). 2 ≤ length l) (sym same) two)
-    (omega (arith, rest, ap length same, length-sides entries (side_of entries (in_lump a b class))))
-    (lump-common entries family.names_once a b class closed)
+    (omega (arith, rest, ap length same, length-sides entries (side_of entries (in_bridge a b class))))
+    (bridge-common entries family.names_once a b class closed)
   where
-    same : on_side (side_of entries (in_lump a b class)) entries ≡ filter (in_lump a b class) entries
-    same = side_of-filter entries (in_lump a b class) family.names_once
+    same : on_side (side_of entries (in_bridge a b class)) entries ≡ filter (in_bridge a b class) entries
+    same = side_of-filter entries (in_bridge a b class) family.names_once
 
--- the lump of a vertex's label, with two entries or more, none of them off the side s
-pub record LumpInside (entries : List Entry) (s : ℕ → Bool) (a b : ℕ) (label : ℕ → ℕ) : Type 0 where
+-- the bridge of a vertex's label, with two entries or more, none of them off the side s
+pub record BridgeInside (entries : List Entry) (s : ℕ → Bool) (a b : ℕ) (label : ℕ → ℕ) : Type 0 where
   pub vertex : ℕ
   pub entry : Entry
   pub within : Contains entries entry
   pub end : has_end vertex entry ≡ true
-  pub two : 2 ≤ length (filter (in_lump a b (λ z. label z == label vertex)) entries)
-  pub few : length (filter (in_lump a b (λ z. label z == label vertex)) entries) ≤ length (on_side s entries)
+  pub two : 2 ≤ length (filter (in_bridge a b (λ z. label z == label vertex)) entries)
+  pub few : length (filter (in_bridge a b (λ z. label z == label vertex)) entries) ≤ length (on_side s entries)
 
 -- an entry has an end that is not removed, or joins the two vertices that are
 free-end : (a b : ℕ) (e : Entry) → e.first ≢ e.second → ((x : ℕ) × (has_end x e ≡ true) × (removed a b x ≡ false)) ⊎ (joins a b e ≡ true)
@@ -73,17 +73,17 @@ module _ (entries : List Entry) (family : IsFamily entries) (tight : IsTight ent
   inside-closed : IsClosed entries a b inside
   inside-closed e w m n = inside-at e.first e w (first-end e.first e refl) m ∙ sym (inside-at e.second e w (second-end e.second e refl) n)
 
-  -- the lump of a free end of an entry of the side
-  lump-at : (e : Entry) (x : ℕ) → Contains entries e → s e.name ≡ true → has_end x e ≡ true → removed a b x ≡ false → LumpInside entries s a b label
-  lump-at e x w t h m = record {
+  -- the bridge of a free end of an entry of the side
+  bridge-at : (e : Entry) (x : ℕ) → Contains entries e → s e.name ≡ true → has_end x e ≡ true → removed a b x ≡ false → BridgeInside entries s a b label
+  bridge-at e x w t h m = record {
     vertex = x;
     entry = e;
     within = w;
     end = h;
     two = let f = tight-degree entries family tight (omega (arith, c.two_inside, length-sides entries s)) e x w h in
-        two-pass (in_lump a b class) e f.entry entries (λ i. f.other (ap (λ (z : Entry). z.name) (sym i))) w f.within (lump-from a b class e x h m own) (lump-from a b class f.entry x f.end m own);
-    few = length-weaker (in_lump a b class) (λ (z : Entry). s z.name) entries (λ f v l.
-        let z = lump-witness a b class f l in
+        two-pass (in_bridge a b class) e f.entry entries (λ i. f.other (ap (λ (z : Entry). z.name) (sym i))) w f.within (bridge-from a b class e x h m own) (bridge-from a b class f.entry x f.end m own);
+    few = length-weaker (in_bridge a b class) (λ (z : Entry). s z.name) entries (λ f v l.
+        let z = bridge-witness a b class f l in
         sym (inside-at z.0 f v z.1 z.2) ∙ (closed-connected entries a b inside inside-closed z.0 x (labelling.only z.0 x (eqb-true (label z.0) (label x) z.3)) ∙ (inside-at x e w h m ∙ t)));
   }
     where
@@ -93,16 +93,16 @@ module _ (entries : List Entry) (family : IsFamily entries) (tight : IsTight ent
       own : class x ≡ true
       own = eq-eqb (label x) (label x) refl
 
-  -- each side of a 2-separation has a lump inside it
-  pub lump-inside : LumpInside entries s a b label
-  lump-inside =
+  -- each side of a 2-separation has a bridge inside it
+  pub bridge-inside : BridgeInside entries s a b label
+  bridge-inside =
       let w = two-names entries (λ e. s e.name) family.names_once c.two_inside in
       let e-loop : w.0.first ≢ w.0.second = All-contains (λ (z : Entry). z.first ≢ z.second) entries w.0 family.no_loops w.2 in
       let f-loop : w.1.first ≢ w.1.second = All-contains (λ (z : Entry). z.first ≢ z.second) entries w.1 family.no_loops w.3 in
       elim (free-end a b w.0 e-loop) [
-        | inl x ↦ lump-at w.0 x.0 w.2 w.4 x.1 x.2
+        | inl x ↦ bridge-at w.0 x.0 w.2 w.4 x.1 x.2
         | inr j ↦ elim (free-end a b w.1 f-loop) [
-          | inl x ↦ lump-at w.1 x.0 w.3 w.5 x.1 x.2
+          | inl x ↦ bridge-at w.1 x.0 w.3 w.5 x.1 x.2
           | inr k ↦ absurd (w.6 (simple w.0 w.1 w.2 w.3 (joins-parallel a b w.0 w.1 c.differ j k)))
         ]
       ]

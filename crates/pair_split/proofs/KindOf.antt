@@ -4,7 +4,7 @@ use Rattle.std.proofs.lemmas.List.Elements.{All-map}
 use Rattle.pair_split.specs.Family.{Entry, IsFamily, IsTight, IsPrime}
 use Rattle.pair_split.specs.Edges.{entry_ends, family_skeleton}
 use Rattle.pair_split.specs.Skeleton.{SameEnds, IsSkeleton}
-use Rattle.pair_split.specs.Lumps.{entry_of, family_of}
+use Rattle.pair_split.specs.Bridges.{entry_of, family_of}
 use Rattle.pair_split.specs.declared.family.NamedEdge.{NamedEdge}
 use Rattle.pair_split.specs.declared.components.Kind.TheVariants.{S, P, R}
 use Rattle.pair_split.proofs.PrimeRigid.{prime-rigid}

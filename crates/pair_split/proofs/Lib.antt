@@ -5,7 +5,7 @@ pub mod GraphFamily
 pub mod Layers
 pub mod Places
 pub mod Start
-pub mod Eject
+pub mod SplitOff
 pub mod Links
 pub mod Subtrees
 pub mod Written
@@ -21,7 +21,7 @@ pub mod Replaced
 pub mod Minimal
 pub mod Names
 pub mod Degrees
-pub mod LumpSides
+pub mod BridgeSides
 pub mod PrimeSimple
 pub mod Candidates
 pub mod PrimeRigid

@@ -4,7 +4,7 @@ use Rattle.std.proofs.lemmas.Bool.{cases_Bool, cases_eq, eq-eqb, ne_eqb}
 use Rattle.std.proofs.lemmas.List.{get_or-set_same, get_or-set_other, map-append, take_more}
 use Rattle.pair_split.specs.Family.{Entry}
 use Rattle.pair_split.specs.Edges.{entry_ends, family_skeleton}
-use Rattle.pair_split.specs.Lumps.{entry_of, family_of, side_of, marked}
+use Rattle.pair_split.specs.Bridges.{entry_of, family_of, side_of, marked}
 use Rattle.pair_split.specs.declared.family.NamedEdge.{NamedEdge}
 
 -- the family of one edge more

@@ -6,7 +6,7 @@ use Rattle.permutations.proofs.Relation.{same-tests}
 use Rattle.permutations.specs.Members.{is_member, is_distinct}
 use Rattle.permutations.proofs.Members.{member-head, member-tail, member-cases, distinct-head, distinct-tail}
 use Rattle.permutations.proofs.Filter.{filter-yes, filter-no}
-use Rattle.pair_split.specs.Lumps.{side_of}
+use Rattle.pair_split.specs.Bridges.{side_of}
 use Rattle.pair_split.specs.Family.{Entry, names, on_side}
 use Rattle.pair_split.proofs.Elements.{contains-here, contains-later, contains-cases, contains-none, some-element, filter-contains}
 

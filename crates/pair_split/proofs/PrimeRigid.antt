@@ -6,7 +6,7 @@ use Rattle.std.proofs.lemmas.List.Elements.{All-contains, All-cons, All-nil, Con
 use Rattle.permutations.specs.Relation.{connected}
 use Rattle.permutations.proofs.Relation.{same-tests, connected-link, connected-reflexive, connected-symmetric, connected-transitive}
 use Rattle.graph_theory.specs.Triconnected.{avoids}
-use Rattle.pair_split.specs.Lumps.{side_of, removed, in_lump, IsClosed}
+use Rattle.pair_split.specs.Bridges.{side_of, removed, in_bridge, IsClosed}
 use Rattle.pair_split.specs.Family.{Entry, has_end, IsFamily, touches, IsPrime}
 use Rattle.pair_split.specs.Edges.{entry_ends, family_skeleton}
 use Rattle.pair_split.specs.Skeleton.{SameEnds, is_vertex, HasVertices, StaysConnectedWithout, IsRigid}
@@ -14,7 +14,7 @@ use Rattle.pair_split.proofs.Elements.{contains-map, contains-filter, two-pass, 
 use Rattle.pair_split.proofs.Sides.{touches-from, touching-entry, separation-from}
 use Rattle.pair_split.proofs.Names.{same-place, two-names, side_of-at}
 use Rattle.pair_split.proofs.Replaced.{first-end, second-end}
-use Rattle.pair_split.proofs.LumpSides.{lump-from, lump-end, lump-common}
+use Rattle.pair_split.proofs.BridgeSides.{bridge-from, bridge-end, bridge-common}
 use Rattle.pair_split.proofs.Degrees.{tight-degree}
 use Rattle.pair_split.proofs.PrimeSimple.{prime-simple, joins, joins-parallel, outside-end, other-end, touched-vertex}
 
@@ -146,11 +146,11 @@ module _ (entries : List Entry) (family : IsFamily entries) (prime : IsPrime ent
 
       -- no vertex is apart from u
       not_apart : (v : ℕ) → touches entries u ≡ true → touches entries v ≡ true → removed a b u ≡ false → removed a b v ≡ false → connected links u v ≡ false → ⊥
-      not_apart v tu tv mu mv n = prime.none (side_of entries (in_lump a b class)) a b (separation-from entries (side_of entries (in_lump a b class)) a b prime.tight
-          (pass-two (λ (e : Entry). side_of entries (in_lump a b class) e.name) u tu (λ e c h. side_of-at entries (in_lump a b class) family.names_once e c ∙ lump-from a b class e u h mu (connected-reflexive links u)))
-          (pass-two (λ (e : Entry). not (side_of entries (in_lump a b class) e.name)) v tv (λ e c h. not_from_false (side_of entries (in_lump a b class) e.name)
-          (side_of-at entries (in_lump a b class) family.names_once e c ∙ false_from_ne_true (in_lump a b class e) (λ t. both_ways (connected links u v) n (lump-end entries a b class class-closed e v c t h mv)))))
-          (lump-common entries family.names_once a b class class-closed))
+      not_apart v tu tv mu mv n = prime.none (side_of entries (in_bridge a b class)) a b (separation-from entries (side_of entries (in_bridge a b class)) a b prime.tight
+          (pass-two (λ (e : Entry). side_of entries (in_bridge a b class) e.name) u tu (λ e c h. side_of-at entries (in_bridge a b class) family.names_once e c ∙ bridge-from a b class e u h mu (connected-reflexive links u)))
+          (pass-two (λ (e : Entry). not (side_of entries (in_bridge a b class) e.name)) v tv (λ e c h. not_from_false (side_of entries (in_bridge a b class) e.name)
+          (side_of-at entries (in_bridge a b class) family.names_once e c ∙ false_from_ne_true (in_bridge a b class e) (λ t. both_ways (connected links u v) n (bridge-end entries a b class class-closed e v c t h mv)))))
+          (bridge-common entries family.names_once a b class class-closed))
 
     -- when two vertices or fewer are removed, the others stay connected
     pub prime-stays_connected : StaysConnectedWithout (family_skeleton entries) (a ∷ b ∷ [])

@@ -9,7 +9,7 @@ use Rattle.graph_theory.specs.Labels.{label_at, IsLabelling, AreLabelsBelow}
 use Rattle.graph_theory.proofs.Removed.{avoids-from}
 use Rattle.pair_split.specs.Edges.{entry_ends, family_skeleton}
 use Rattle.pair_split.specs.Skeleton.{SameEnds}
-use Rattle.pair_split.specs.Lumps.{entry_of, family_of, HaveEndsBelow, HaveNamesBelow, side_of, in_lump, IsClosed, has_label, lump_size, marked, AreParallelAt}
+use Rattle.pair_split.specs.Bridges.{entry_of, family_of, HaveEndsBelow, HaveNamesBelow, side_of, in_bridge, IsClosed, has_label, bridge_size, marked, AreParallelAt}
 use Rattle.pair_split.specs.Search.{IsSearchable, HasNoParallels, IsBest, IsLeastAt, IsLeastBefore, IsMinimalSide}
 use Rattle.pair_split.specs.declared.family.NamedEdge.{NamedEdge}
 use Rattle.pair_split.specs.declared.search.Side.{Side}
@@ -18,9 +18,9 @@ use Rattle.pair_split.proofs.Sides.{Touching, common-inside, on_side-ext, length
 use Rattle.pair_split.proofs.Replaced.{end-cases}
 use Rattle.pair_split.proofs.Names.{same-place}
 use Rattle.pair_split.proofs.Marking.{nothing}
-use Rattle.pair_split.proofs.LumpSides.{side_of-filter}
+use Rattle.pair_split.proofs.BridgeSides.{side_of-filter}
 use Rattle.pair_split.proofs.PrimeSimple.{pair, pair-few, parallel-separation}
-use Rattle.pair_split.proofs.Candidates.{lump-separation, LumpInside, lump-inside}
+use Rattle.pair_split.proofs.Candidates.{bridge-separation, BridgeInside, bridge-inside}
 
 -- sides that agree separate alike
 pub separation-ext : (entries : List Entry) (s t : ℕ → Bool) (p q : ℕ) → ((n : ℕ) → s n ≡ t n) → IsSeparation entries s p q → IsSeparation entries t p q
@@ -48,19 +48,19 @@ end-below edges n ends entry x c h =
     let b = All-contains (λ (edge : NamedEdge). (edge.first < n) × (edge.second < n)) edges e.0 ends e.1 in
     elim (end-cases x (entry_of e.0) (subst (λ (z : Entry). has_end x z ≡ true) (sym e.2) h)) [ inl i ↦ subst (λ (z : ℕ). z < n) (sym i) b.0 | inr i ↦ subst (λ (z : ℕ). z < n) (sym i) b.1 ]
 
--- a lump with two entries in it and two outside it, as the best side
-pub best-lump : (edges : List NamedEdge) (labels : List ℕ) (a b label bound : ℕ) (side : Side) → IsSearchable (family_of edges) → IsLabelling (family_skeleton (family_of edges)) (a ∷ b ∷ []) (label_at labels) → HaveNamesBelow bound edges
-    → side.first ≡ a → side.second ≡ b → side.size ≡ lump_size (family_of edges) a b labels label → 2 ≤ side.size → side.size + 2 ≤ length edges
-    → ((n : ℕ) → marked side.marks.items n ≡ side_of (family_of edges) (in_lump a b (has_label labels label)) n) → length side.marks.items ≡ bound → IsBest (family_of edges) side
-best-lump edges labels a b label bound side searchable labelling names first second size two rest marks number = record {
+-- a bridge with two entries in it and two outside it, as the best side
+pub best-bridge : (edges : List NamedEdge) (labels : List ℕ) (a b label bound : ℕ) (side : Side) → IsSearchable (family_of edges) → IsLabelling (family_skeleton (family_of edges)) (a ∷ b ∷ []) (label_at labels) → HaveNamesBelow bound edges
+    → side.first ≡ a → side.second ≡ b → side.size ≡ bridge_size (family_of edges) a b labels label → 2 ≤ side.size → side.size + 2 ≤ length edges
+    → ((n : ℕ) → marked side.marks.items n ≡ side_of (family_of edges) (in_bridge a b (has_label labels label)) n) → length side.marks.items ≡ bound → IsBest (family_of edges) side
+best-bridge edges labels a b label bound side searchable labelling names first second size two rest marks number = record {
   within = omega (arith, rest, length-map edges entry_of);
   found = λ l. record {
     separates = subst (λ (x : ℕ). IsSeparation entries (marked side.marks.items) x side.second) (sym first) (subst (λ (y : ℕ). IsSeparation entries (marked side.marks.items) a y) (sym second)
-        (separation-ext entries (side_of entries (in_lump a b (has_label labels label))) (marked side.marks.items) a b (λ n. sym (marks n))
-        (lump-separation entries searchable.family searchable.tight a b (has_label labels label) closed
+        (separation-ext entries (side_of entries (in_bridge a b (has_label labels label))) (marked side.marks.items) a b (λ n. sym (marks n))
+        (bridge-separation entries searchable.family searchable.tight a b (has_label labels label) closed
         (subst (λ (k : ℕ). 2 ≤ k) size two)
         (subst (λ (k : ℕ). k + 2 ≤ length entries) size (subst (λ (k : ℕ). side.size + 2 ≤ k) (sym (length-map edges entry_of)) rest)))));
-    size = ap length (on_side-ext entries (marked side.marks.items) (side_of entries (in_lump a b (has_label labels label))) marks ∙ side_of-filter entries (in_lump a b (has_label labels label)) searchable.family.names_once) ∙ sym size;
+    size = ap length (on_side-ext entries (marked side.marks.items) (side_of entries (in_bridge a b (has_label labels label))) marks ∙ side_of-filter entries (in_bridge a b (has_label labels label)) searchable.family.names_once) ∙ sym size;
     named = names-below edges bound side.marks.items names number;
   };
 }
@@ -72,13 +72,13 @@ best-lump edges labels a b label bound side searchable labelling names first sec
     closed e c m n = ap (λ (z : ℕ). z == label)
         (labelling.agree (entry_ends e) (contains-map entry_ends e (family_of edges) c) (avoids-from (a ∷ b ∷ []) (entry_ends e) m n))
 
--- a size that is no larger than that of any lump is that of a least side between the two vertices
+-- a size that is no larger than that of any bridge is that of a least side between the two vertices
 pub least-between : (edges : List NamedEdge) (labels : List ℕ) (n a b size : ℕ) → IsSearchable (family_of edges) → HasNoParallels (family_of edges) → HaveEndsBelow n edges → IsLabelling (family_skeleton (family_of edges)) (a ∷ b ∷ []) (label_at labels) → AreLabelsBelow n labels
-    → ((label : ℕ) → label < n → label_at labels label ≡ label → 2 ≤ lump_size (family_of edges) a b labels label → lump_size (family_of edges) a b labels label + 2 ≤ length edges → size ≤ lump_size (family_of edges) a b labels label)
+    → ((label : ℕ) → label < n → label_at labels label ≡ label → 2 ≤ bridge_size (family_of edges) a b labels label → bridge_size (family_of edges) a b labels label + 2 ≤ length edges → size ≤ bridge_size (family_of edges) a b labels label)
     → IsLeastAt (family_of edges) a b size
-least-between edges labels n a b size searchable simple ends labelling below least s c = smallest (lump-inside (family_of edges) searchable.family searchable.tight simple a b (label_at labels) labelling s c)
+least-between edges labels n a b size searchable simple ends labelling below least s c = smallest (bridge-inside (family_of edges) searchable.family searchable.tight simple a b (label_at labels) labelling s c)
   where
-    smallest : LumpInside (family_of edges) s a b (label_at labels) → size ≤ length (on_side s (family_of edges))
+    smallest : BridgeInside (family_of edges) s a b (label_at labels) → size ≤ length (on_side s (family_of edges))
     smallest w = omega (
       arith,
       w.few,

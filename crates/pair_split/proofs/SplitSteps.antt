@@ -10,14 +10,14 @@ use Rattle.pair_split.specs.Family.{Entry, names, on_side, off_side, IsFamily, I
 use Rattle.pair_split.specs.Edges.{graph_entry, graph_family, family_skeleton}
 use Rattle.graph_theory.specs.Block.{IsOneBlock}
 use Rattle.pair_split.specs.Skeleton.{IsSkeleton}
-use Rattle.pair_split.specs.Lumps.{entry_of, family_of, HaveEndsBelow, HaveNamesBelow, marked}
+use Rattle.pair_split.specs.Bridges.{entry_of, family_of, HaveEndsBelow, HaveNamesBelow, marked}
 use Rattle.pair_split.specs.Search.{IsSearchable, IsMinimalSide}
-use Rattle.pair_split.specs.State.{Part, SplitState, ejected, start_state, IsSplitState, AreComponents}
+use Rattle.pair_split.specs.State.{Part, SplitState, split_off, start_state, IsSplitState, AreComponents}
 use Rattle.pair_split.specs.Split.{IsSplit}
-use Rattle.pair_split.specs.Cuts.{part_of, state_of, IsSplitting}
+use Rattle.pair_split.specs.Splitting.{part_of, state_of, IsSplitting}
 use Rattle.pair_split.specs.declared.family.NamedEdge.{NamedEdge}
 use Rattle.pair_split.specs.declared.search.Side.{Side}
-use Rattle.pair_split.specs.declared.cuts.Cut.{Cut}
+use Rattle.pair_split.specs.declared.splitting.Finished.{Finished}
 use Rattle.pair_split.specs.declared.components.Comp.{Comp}
 use Rattle.pair_split.specs.declared.components.Kind.TheVariants.{B}
 use Rattle.pair_split.proofs.Elements.{contains-cases, contains-map, map-contains, filter-contains}
@@ -28,7 +28,7 @@ use Rattle.pair_split.proofs.Minimal.{minimal-prime}
 use Rattle.pair_split.proofs.Layers.{layer-current, current-layer}
 use Rattle.pair_split.proofs.Start.{state-start}
 use Rattle.pair_split.proofs.Places.{state-tight}
-use Rattle.pair_split.proofs.Eject.{family-cons, kept-family, state-eject}
+use Rattle.pair_split.proofs.SplitOff.{family-cons, kept-family, state-split_off}
 use Rattle.pair_split.proofs.Marking.{nothing}
 use Rattle.pair_split.proofs.SmallBlock.{small-split}
 use Rattle.pair_split.proofs.Searching.{separation-below}
@@ -46,7 +46,7 @@ family-ends : (edges : List NamedEdge) (n : ℕ) → HaveEndsBelow n edges → (
 family-ends edges n h entry c = let e = map-contains entry_of entry edges c in
     subst (λ (z : Entry). (z.first < n) × (z.second < n)) e.2 (All-contains (λ (edge : NamedEdge). (edge.first < n) × (edge.second < n)) edges e.0 h e.1)
 
-module _ (g : Multigraph) (graph : IsGraph g) (block : IsOneBlock g) (parts : List Cut) (current : List NamedEdge) (s : IsSplitting g parts current) where
+module _ (g : Multigraph) (graph : IsGraph g) (block : IsOneBlock g) (parts : List Finished) (current : List NamedEdge) (s : IsSplitting g parts current) where
   abbrev state : SplitState
   state = state_of parts current
 
@@ -96,11 +96,11 @@ module _ (g : Multigraph) (graph : IsGraph g) (block : IsOneBlock g) (parts : Li
     inside-prime = minimal-prime (family_of current) cut own minimal.separates current-tight minimal.minimal
 
     -- with the side made a finished component, the state is one of splitting the graph
-    pub eject-splitting : (new : Cut) (left : List NamedEdge) → entry_of new.own ≡ own → family_of new.edges ≡ on_side cut (family_of current) → family_of left ≡ own ∷ off_side cut (family_of current)
+    pub split_off-splitting : (new : Finished) (left : List NamedEdge) → entry_of new.own ≡ own → family_of new.edges ≡ on_side cut (family_of current) → family_of left ≡ own ∷ off_side cut (family_of current)
         → IsSkeleton new.kind (family_skeleton (own ∷ on_side cut (family_of current))) → new.kind ≢ B → IsSplitting g (parts ++ new ∷ []) left
-    eject-splitting new left is inside outside skeleton large = record {
+    split_off-splitting new left is inside outside skeleton large = record {
       graph = graph;
-      state = subst (IsSplitState g) (sym same) (state-eject g state s.state cut new.kind own (ap (λ (k : ℕ). edge_count g + k) (sym (length-map parts part_of))) minimal.separates skeleton large);
+      state = subst (IsSplitState g) (sym same) (state-split_off g state s.state cut new.kind own (ap (λ (k : ℕ). edge_count g + k) (sym (length-map parts part_of))) minimal.separates skeleton large);
       ends = ends-within left g.vertex_count (λ entry c. elim (contains-cases entry own (off_side cut (family_of current)) (subst (λ (l : List Entry). Contains l entry) outside c)) [
         | inl e ↦ subst (λ (z : Entry). (z.first < g.vertex_count) × (z.second < g.vertex_count)) e (separation-below current g.vertex_count s.ends cut side.first side.second minimal.separates)
         | inr o ↦ family-ends current g.vertex_count s.ends entry (filter-contains (λ (e : Entry). not (cut e.name)) entry (family_of current) o).0
@@ -115,22 +115,22 @@ module _ (g : Multigraph) (graph : IsGraph g) (block : IsOneBlock g) (parts : Li
         fresh-part : part_of new ≡ record { kind = new.kind; own = own; entries = on_side cut (family_of current) }
         fresh-part = λ i. record { kind = new.kind; own = is i; entries = inside i }
 
-        same : state_of (parts ++ new ∷ []) left ≡ ejected state cut new.kind own
+        same : state_of (parts ++ new ∷ []) left ≡ split_off state cut new.kind own
         same = λ i. record { parts = (map-append part_of parts (new ∷ []) ∙ ap (λ (p : Part). map part_of parts ++ p ∷ []) fresh-part) i; current = outside i }
 
     -- and fewer entries are left
-    pub eject-fewer : (left : List NamedEdge) → family_of left ≡ own ∷ off_side cut (family_of current) → length left < length current
-    eject-fewer left outside = omega (arith, length-map left entry_of, ap length outside, length-map current entry_of, length-sides (family_of current) cut, minimal.separates.two_inside)
+    pub split_off-fewer : (left : List NamedEdge) → family_of left ≡ own ∷ off_side cut (family_of current) → length left < length current
+    split_off-fewer left outside = omega (arith, length-map left entry_of, ap length outside, length-map current entry_of, length-sides (family_of current) cut, minimal.separates.two_inside)
 
 -- at the start nothing is split
-pub start-state : (g : Multigraph) → IsGraph g → (parts : List Cut) (current : List NamedEdge) → parts ≡ [] → family_of current ≡ graph_family g → IsSplitState g (state_of parts current)
+pub start-state : (g : Multigraph) → IsGraph g → (parts : List Finished) (current : List NamedEdge) → parts ≡ [] → family_of current ≡ graph_family g → IsSplitState g (state_of parts current)
 start-state g graph parts current none all = subst (IsSplitState g) (sym same) (state-start g graph)
   where
     same : state_of parts current ≡ start_state g
     same = λ i. record { parts = map part_of (none i); current = all i }
 
 -- the start of splitting a block of three or more edges
-pub start-splitting : (g : Multigraph) → IsGraph g → (parts : List Cut) (current : List NamedEdge) → parts ≡ [] → family_of current ≡ graph_family g → 3 ≤ edge_count g → IsSplitting g parts current
+pub start-splitting : (g : Multigraph) → IsGraph g → (parts : List Finished) (current : List NamedEdge) → parts ≡ [] → family_of current ≡ graph_family g → 3 ≤ edge_count g → IsSplitting g parts current
 start-splitting g graph parts current none all l = record {
   graph = graph;
   state = start-state g graph parts current none all;
@@ -171,5 +171,5 @@ pub rest-length : (edges : List NamedEdge) → 3 ≤ length edges → 2 ≤ leng
 rest-length edges l = omega (arith, l, ap length (first-rest edges l), length-map edges entry_of, length-map (take (length edges - 1) (drop 1 edges)) entry_of)
 
 -- the components of the start of a block of one edge or two are split components
-pub start-split : (g : Multigraph) → IsGraph g → IsOneBlock g → edge_count g ≤ 2 → (parts : List Cut) (current : List NamedEdge) → parts ≡ [] → family_of current ≡ graph_family g → (comps : List Comp) → AreComponents (edge_count g) (state_of parts current) B comps → IsSplit g comps
+pub start-split : (g : Multigraph) → IsGraph g → IsOneBlock g → edge_count g ≤ 2 → (parts : List Finished) (current : List NamedEdge) → parts ≡ [] → family_of current ≡ graph_family g → (comps : List Comp) → AreComponents (edge_count g) (state_of parts current) B comps → IsSplit g comps
 start-split g graph block few parts current none all comps w = small-split g graph block few comps (subst (λ (st : SplitState). AreComponents (edge_count g) st B comps) (λ i. record { parts = map part_of (none i); current = all i }) w)

@@ -6,13 +6,13 @@ use Rattle.std.proofs.lemmas.List.Elements.{Contains-append_left, Contains-push,
 use Rattle.multigraph.specs.Graph.{Multigraph, edge_count}
 use Rattle.pair_split.specs.Family.{Entry}
 use Rattle.pair_split.specs.Edges.{entry_ends}
-use Rattle.pair_split.specs.Lumps.{entry_of, family_of, HaveNamesBelow}
+use Rattle.pair_split.specs.Bridges.{entry_of, family_of, HaveNamesBelow}
 use Rattle.pair_split.specs.Split.{piece_ends, component_at, items_of}
 use Rattle.pair_split.specs.State.{Part, SplitState, part_at, own_at, layer, family_at, IsWritten, AreWritten, AreComponents, IsSplitState}
-use Rattle.pair_split.specs.Cuts.{part_of, state_of}
-use Rattle.pair_split.specs.Writing.{IsListed, AreUps, HavePartNamesBelow, cut_at, ArePartsWritten}
+use Rattle.pair_split.specs.Splitting.{part_of, state_of}
+use Rattle.pair_split.specs.Writing.{IsListed, AreUps, HavePartNamesBelow, finished_at, ArePartsWritten}
 use Rattle.pair_split.specs.declared.family.NamedEdge.{NamedEdge}
-use Rattle.pair_split.specs.declared.cuts.Cut.{Cut}
+use Rattle.pair_split.specs.declared.splitting.Finished.{Finished}
 use Rattle.pair_split.specs.declared.components.Comp.{Comp}
 use Rattle.pair_split.specs.declared.components.Piece.{Piece}
 use Rattle.pair_split.specs.declared.components.Kind.{Kind}
@@ -63,19 +63,19 @@ pub noted-all : (m at : ℕ) (edges : List NamedEdge) (i : ℕ) (old ups : List 
 noted-all m at edges i old ups l h = subst (λ (k : List NamedEdge). IsNoted m at k old ups) (take_all i edges l) h
 
 -- a component that is read at its place
-pub read-cut : (parts : List Cut) (k : ℕ) (cut : Cut) → k < length parts → cut ≡ slice_index_or parts k cut → cut ≡ cut_at parts k
-read-cut parts k cut l e = e ∙ get_or_default parts k cut _ l
+pub read-finished : (parts : List Finished) (k : ℕ) (finished : Finished) → k < length parts → finished ≡ slice_index_or parts k finished → finished ≡ finished_at parts k
+read-finished parts k finished l e = e ∙ get_or_default parts k finished _ l
 
 -- the finished component of the state
-pub part-cut : (parts : List Cut) (current : List NamedEdge) (k : ℕ) → k < length parts → part_at (state_of parts current) k ≡ part_of (cut_at parts k)
-part-cut parts current k l = get_or-map part_of parts k _ _ l
+pub part-finished : (parts : List Finished) (current : List NamedEdge) (k : ℕ) → k < length parts → part_at (state_of parts current) k ≡ part_of (finished_at parts k)
+part-finished parts current k l = get_or-map part_of parts k _ _ l
 
 -- its layer
-pub layer-cut : (parts : List Cut) (current : List NamedEdge) (k : ℕ) → k < length parts → layer (state_of parts current) k ≡ family_of (cut_at parts k).edges
-layer-cut parts current k l = layer-part (state_of parts current) k (omega (arith, l, length-map parts part_of)) ∙ ap (λ (part : Part). part.entries) (part-cut parts current k l)
+pub layer-finished : (parts : List Finished) (current : List NamedEdge) (k : ℕ) → k < length parts → layer (state_of parts current) k ≡ family_of (finished_at parts k).edges
+layer-finished parts current k l = layer-part (state_of parts current) k (omega (arith, l, length-map parts part_of)) ∙ ap (λ (part : Part). part.entries) (part-finished parts current k l)
 
 -- the last layer
-pub layer-last : (parts : List Cut) (current : List NamedEdge) → layer (state_of parts current) (length parts) ≡ family_of current
+pub layer-last : (parts : List Finished) (current : List NamedEdge) → layer (state_of parts current) (length parts) ≡ family_of current
 layer-last parts current = ap (layer (state_of parts current)) (sym (length-map parts part_of)) ∙ layer-current (state_of parts current)
 
 -- the current family is written out as component k
@@ -83,7 +83,7 @@ abbrev pub IsLastWritten : ℕ → List NamedEdge → List ℕ → ℕ → Comp 
 IsLastWritten m current ups k last =
     (s : SplitState) → ((entry : Entry) → Contains (family_of current) entry → entry.name ≡ m + k → Contains (layer s (slice_index_or ups k 0)) entry) → AreWritten m s k (family_of current) last.items
 
-module _ (m : ℕ) (parts : List Cut) (current : List NamedEdge) (listed : IsListed m (state_of parts current)) where
+module _ (m : ℕ) (parts : List Finished) (current : List NamedEdge) (listed : IsListed m (state_of parts current)) where
   abbrev state : SplitState
   state = state_of parts current
 
@@ -92,19 +92,19 @@ module _ (m : ℕ) (parts : List Cut) (current : List NamedEdge) (listed : IsLis
   layer-names k edges bound e b = names-within edges (m + bound) (all-from_contained (λ (entry : Entry). entry.name < m + bound) (family_of edges) (λ entry c.
       omega (arith, listed.below k entry (subst (λ (l : List Entry). Contains l entry) (sym e) c), b, length-map parts part_of)))
 
-  pub cut-names : (k bound : ℕ) → k < length parts → bound ≡ length parts → HaveNamesBelow (m + bound) (cut_at parts k).edges
-  cut-names k bound l b = layer-names k (cut_at parts k).edges bound (layer-cut parts current k l) b
+  pub finished-names : (k bound : ℕ) → k < length parts → bound ≡ length parts → HaveNamesBelow (m + bound) (finished_at parts k).edges
+  finished-names k bound l b = layer-names k (finished_at parts k).edges bound (layer-finished parts current k l) b
 
   pub last-names : (bound : ℕ) → bound ≡ length parts → HaveNamesBelow (m + bound) current
   last-names bound b = layer-names (length parts) current bound (layer-last parts current) b
 
   -- the name of a component's own virtual edge
-  pub own-name : (k : ℕ) → k < length parts → (cut_at parts k).own.name ≡ m + k
-  own-name k l = ap (λ (part : Part). part.own.name) (sym (part-cut parts current k l)) ∙ listed.own_names k (omega (arith, l, length-map parts part_of))
+  pub own-name : (k : ℕ) → k < length parts → (finished_at parts k).own.name ≡ m + k
+  own-name k l = ap (λ (part : Part). part.own.name) (sym (part-finished parts current k l)) ∙ listed.own_names k (omega (arith, l, length-map parts part_of))
 
   -- all names of finished components
   pub part-names : (bound : ℕ) → bound ≡ length parts → HavePartNamesBelow (m + bound) parts
-  part-names bound b k d l = subst (λ (cut : Cut). (cut.own.name < m + bound) × HaveNamesBelow (m + bound) cut.edges) (get_or_default parts k _ d l) (omega (arith, own-name k l, b, l), cut-names k bound l b)
+  part-names bound b k d l = subst (λ (finished : Finished). (finished.own.name < m + bound) × HaveNamesBelow (m + bound) finished.edges) (get_or_default parts k _ d l) (omega (arith, own-name k l, b, l), finished-names k bound l b)
 
   -- after a layer more is noted, the layers so far are
   pub ups-more : (n : ℕ) (edges : List NamedEdge) (old ups : List ℕ) → layer state n ≡ family_of edges
@@ -126,13 +126,13 @@ module _ (m : ℕ) (parts : List Cut) (current : List NamedEdge) (listed : IsLis
     noted-layer k entry c w s = subst (λ (z : ℕ). Contains (layer state z) entry) (sym (are k entry c w s)) w
 
     -- the entries of a finished component lie in the layers that are noted for them
-    part-noted : (k : ℕ) → k < length parts → (entry : Entry) → Contains (entry_of (cut_at parts k).own ∷ family_of (cut_at parts k).edges) entry → entry.name ≡ m + k → Contains (layer state (slice_index_or ups k 0)) entry
-    part-noted k l entry w s = elim (contains-cases entry (entry_of (cut_at parts k).own) (family_of (cut_at parts k).edges) w) [
+    part-noted : (k : ℕ) → k < length parts → (entry : Entry) → Contains (entry_of (finished_at parts k).own ∷ family_of (finished_at parts k).edges) entry → entry.name ≡ m + k → Contains (layer state (slice_index_or ups k 0)) entry
+    part-noted k l entry w s = elim (contains-cases entry (entry_of (finished_at parts k).own) (family_of (finished_at parts k).edges) w) [
       | inl i ↦
           let o = listed.own_listed k (omega (arith, l, length-map parts part_of)) in
-          let same : own_at state k ≡ entry = ap (λ (part : Part). part.own) (part-cut parts current k l) ∙ i in
+          let same : own_at state k ≡ entry = ap (λ (part : Part). part.own) (part-finished parts current k l) ∙ i in
           noted-layer o.0 entry k (subst (λ (z : Entry). Contains (layer state o.0) z) same o.1) s
-      | inr d ↦ noted-layer k entry k (subst (λ (z : List Entry). Contains z entry) (sym (layer-cut parts current k l)) d) s
+      | inr d ↦ noted-layer k entry k (subst (λ (z : List Entry). Contains z entry) (sym (layer-finished parts current k l)) d) s
     ]
 
     -- the components of the state, once its parts and its current family are written out
@@ -142,7 +142,7 @@ module _ (m : ℕ) (parts : List Cut) (current : List NamedEdge) (listed : IsLis
     all-written kind comps last w k h = record {
       number = omega (arith, length-append comps (last ∷ []), w.number, length-map parts part_of);
       last_kind = ap (λ (comp : Comp). comp.kind) (at-last (length (map part_of parts)) (length-map parts part_of)) ∙ k;
-      kinds = λ j l. ap (λ (comp : Comp). comp.kind) (at-part j (omega (arith, l, length-map parts part_of))) ∙ (w.kinds j (omega (arith, l, length-map parts part_of)) ∙ ap (λ (part : Part). part.kind) (sym (part-cut parts current j (omega (arith, l, length-map parts part_of)))));
+      kinds = λ j l. ap (λ (comp : Comp). comp.kind) (at-part j (omega (arith, l, length-map parts part_of))) ∙ (w.kinds j (omega (arith, l, length-map parts part_of)) ∙ ap (λ (part : Part). part.kind) (sym (part-finished parts current j (omega (arith, l, length-map parts part_of)))));
       written = λ j l. elim (cases_eq j (length parts)) [
         | inl i ↦ subst (λ (z : ℕ). AreWritten m state z (family_at state z) (items_of (comps ++ last ∷ []) z)) (sym i) last-written
         | inr d ↦ part-written j (omega (arith, l, d, length-map parts part_of))
@@ -158,8 +158,8 @@ module _ (m : ℕ) (parts : List Cut) (current : List NamedEdge) (listed : IsLis
         part-written : (j : ℕ) → j < length parts → AreWritten m state j (family_at state j) (items_of (comps ++ last ∷ []) j)
         part-written j l =
             subst (λ (es : List Entry). AreWritten m state j es (items_of (comps ++ last ∷ []) j))
-            (sym (family-part state j (omega (arith, l, length-map parts part_of)) ∙ (λ i. (part-cut parts current j l i).own ∷ layer-cut parts current j l i)))
-            (subst (λ (comp : Comp). AreWritten m state j (entry_of (cut_at parts j).own ∷ family_of (cut_at parts j).edges) comp.items) (sym (at-part j l))
+            (sym (family-part state j (omega (arith, l, length-map parts part_of)) ∙ (λ i. (part-finished parts current j l i).own ∷ layer-finished parts current j l i)))
+            (subst (λ (comp : Comp). AreWritten m state j (entry_of (finished_at parts j).own ∷ family_of (finished_at parts j).edges) comp.items) (sym (at-part j l))
             (w.written j l state (part-noted j l)))
 
         last-written : AreWritten m state (length parts) (family_at state (length parts)) (items_of (comps ++ last ∷ []) (length parts))
@@ -178,26 +178,26 @@ written-push m st k (x ∷ entries) [] entry piece w e h = absurd w
 written-push m st k (x ∷ entries) (p ∷ pieces) entry piece w e h = (w.0, written-push m st k entries pieces entry piece w.1 e h)
 
 -- one finished component more
-pub parts-more : (m : ℕ) (parts : List Cut) (ups : List ℕ) (n : ℕ) (comps : List Comp) (comp : Comp) (cut : Cut) → n < length parts → cut ≡ slice_index_or parts n cut → ArePartsWritten m parts ups n comps → comp.kind ≡ cut.kind
-    → ((state : SplitState) → ((entry : Entry) → Contains (entry_of cut.own ∷ family_of cut.edges) entry → entry.name ≡ m + n → Contains (layer state (slice_index_or ups n 0)) entry) → AreWritten m state n (entry_of cut.own ∷ family_of cut.edges) comp.items)
+pub parts-more : (m : ℕ) (parts : List Finished) (ups : List ℕ) (n : ℕ) (comps : List Comp) (comp : Comp) (finished : Finished) → n < length parts → finished ≡ slice_index_or parts n finished → ArePartsWritten m parts ups n comps → comp.kind ≡ finished.kind
+    → ((state : SplitState) → ((entry : Entry) → Contains (entry_of finished.own ∷ family_of finished.edges) entry → entry.name ≡ m + n → Contains (layer state (slice_index_or ups n 0)) entry) → AreWritten m state n (entry_of finished.own ∷ family_of finished.edges) comp.items)
     → ArePartsWritten m parts ups (n + 1) (comps ++ comp ∷ [])
-parts-more m parts ups n comps comp cut l r w k h = record {
+parts-more m parts ups n comps comp finished l r w k h = record {
   number = omega (arith, length-append comps (comp ∷ []), w.number);
   kinds = λ j b. elim (cases_eq j n) [
-    | inl i ↦ ap (λ (c : Comp). c.kind) (at-last j i) ∙ (k ∙ ap (λ (c : Cut). c.kind) (read-cut parts n cut l r ∙ ap (cut_at parts) (sym i)))
+    | inl i ↦ ap (λ (c : Comp). c.kind) (at-last j i) ∙ (k ∙ ap (λ (c : Finished). c.kind) (read-finished parts n finished l r ∙ ap (finished_at parts) (sym i)))
     | inr d ↦ ap (λ (c : Comp). c.kind) (at-part j (omega (arith, b, d))) ∙ w.kinds j (omega (arith, b, d))
   ];
   written = λ j b. elim (cases_eq j n) [
-    | inl i ↦ subst W (sym i) (subst (λ (c : Comp). V n (cut_at parts n) c) (sym (at-last n refl)) (subst (λ (c : Cut). V n c comp) (read-cut parts n cut l r) h))
-    | inr d ↦ subst (λ (c : Comp). V j (cut_at parts j) c) (sym (at-part j (omega (arith, b, d)))) (w.written j (omega (arith, b, d)))
+    | inl i ↦ subst W (sym i) (subst (λ (c : Comp). V n (finished_at parts n) c) (sym (at-last n refl)) (subst (λ (c : Finished). V n c comp) (read-finished parts n finished l r) h))
+    | inr d ↦ subst (λ (c : Comp). V j (finished_at parts j) c) (sym (at-part j (omega (arith, b, d)))) (w.written j (omega (arith, b, d)))
   ];
 }
   where
-    V : ℕ → Cut → Comp → Type 0
-    V j cut comp = (state : SplitState) → ((entry : Entry) → Contains (entry_of cut.own ∷ family_of cut.edges) entry → entry.name ≡ m + j → Contains (layer state (slice_index_or ups j 0)) entry) → AreWritten m state j (entry_of cut.own ∷ family_of cut.edges) comp.items
+    V : ℕ → Finished → Comp → Type 0
+    V j finished comp = (state : SplitState) → ((entry : Entry) → Contains (entry_of finished.own ∷ family_of finished.edges) entry → entry.name ≡ m + j → Contains (layer state (slice_index_or ups j 0)) entry) → AreWritten m state j (entry_of finished.own ∷ family_of finished.edges) comp.items
 
     W : ℕ → Type 0
-    W j = V j (cut_at parts j) (component_at (comps ++ comp ∷ []) j)
+    W j = V j (finished_at parts j) (component_at (comps ++ comp ∷ []) j)
 
     at-part : (j : ℕ) → j < n → component_at (comps ++ comp ∷ []) j ≡ component_at comps j
     at-part j b = get_or_append_left comps (comp ∷ []) _ j (omega (arith, b, w.number))

@@ -6,8 +6,8 @@ pub mod Split
 pub mod Tutte
 pub mod State
 pub mod Minimal
-pub mod Lumps
+pub mod Bridges
 pub mod Search
-pub mod Cuts
+pub mod Splitting
 pub mod Laws
 pub mod Writing

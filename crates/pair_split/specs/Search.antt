@@ -1,10 +1,10 @@
--- The search for a 2-separation of a family with the fewest entries on its side.
+-- State of a loop: the search for a 2-separation of a family with the fewest entries on its side.
 use Rattle.std.specs.Prelude.{◌≡◌, ℕ, ◌<◌, ◌≤◌, ◌⊎◌, Bool, List, length, All, Contains, Option, MatchOption}
 use Rattle.pair_split.specs.Family.{Entry, on_side, IsFamily, IsTight, IsSeparation}
 use Rattle.pair_split.specs.Edges.{entry_ends}
 use Rattle.pair_split.specs.Skeleton.{SameEnds}
 use Rattle.pair_split.specs.Minimal.{IsMinimal}
-use Rattle.pair_split.specs.Lumps.{family_of, HaveEndsBelow, HaveNamesBelow, marked}
+use Rattle.pair_split.specs.Bridges.{family_of, HaveEndsBelow, HaveNamesBelow, marked}
 use Rattle.pair_split.specs.declared.family.NamedEdge.{NamedEdge}
 use Rattle.pair_split.specs.declared.search.Side.{Side}
 

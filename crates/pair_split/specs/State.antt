@@ -1,4 +1,4 @@
--- The state of splitting a graph: the components that are finished, and the current family, which is still to be split.
+-- State of a loop: a graph that is split, by the components that are finished and the current family, still to be split.
 -- Entries go by names: edge e of the graph is e, and the virtual edge of component c is m + c, where m is the number of edges.
 -- A virtual edge stands in its own component and in a later one; the current family is the last of all.
 use Rattle.std.specs.Prelude.{◌≡◌, ◌≢◌, ℕ, ◌+◌, ◌<◌, ◌≤◌, ◌⊎◌, ◌↔◌, Bool, true, false, List, [], ◌∷◌, ◌++◌, length, map, slice_index_or, Contains}
@@ -80,8 +80,8 @@ start_state g = record { parts = []; current = graph_family g }
 
 -- the entries of the current family that pass the test are made a finished component of this kind, with the virtual edge v
 -- in their place
-abbrev pub ejected : SplitState → (ℕ → Bool) → Kind → Entry → SplitState
-ejected state cut kind v = record { parts = state.parts ++ record { kind = kind; own = v; entries = on_side cut state.current } ∷ []; current = v ∷ off_side cut state.current }
+abbrev pub split_off : SplitState → (ℕ → Bool) → Kind → Entry → SplitState
+split_off state cut kind v = record { parts = state.parts ++ record { kind = kind; own = v; entries = on_side cut state.current } ∷ []; current = v ∷ off_side cut state.current }
 
 -- all entries of component k, where the current family is the last component
 abbrev pub family_at : SplitState → ℕ → List Entry

@@ -1,10 +1,10 @@
 -- State of a loop: the components of a state of splitting, as they are written out.
 use Rattle.std.specs.Prelude.{◌≡◌, ℕ, ◌+◌, ◌<◌, List, ◌∷◌, [], length, slice_index_or, All, Contains}
 use Rattle.pair_split.specs.Family.{Entry}
-use Rattle.pair_split.specs.Lumps.{entry_of, family_of, HaveNamesBelow}
+use Rattle.pair_split.specs.Bridges.{entry_of, family_of, HaveNamesBelow}
 use Rattle.pair_split.specs.Split.{component_at}
 use Rattle.pair_split.specs.State.{SplitState, layer, own_at, AreWritten}
-use Rattle.pair_split.specs.declared.cuts.Cut.{Cut}
+use Rattle.pair_split.specs.declared.splitting.Finished.{Finished}
 use Rattle.pair_split.specs.declared.components.Comp.{Comp}
 use Rattle.pair_split.specs.declared.components.Kind.TheVariants.{B}
 
@@ -24,17 +24,17 @@ abbrev pub IsNotedFor : ℕ → SplitState → ℕ → List ℕ → List Entry �
 IsNotedFor m state k ups entries = (entry : Entry) → Contains entries entry → entry.name ≡ m + k → Contains (layer state (slice_index_or ups k 0)) entry
 
 -- all names of finished components are below n
-abbrev pub HavePartNamesBelow : ℕ → List Cut → Type 0
+abbrev pub HavePartNamesBelow : ℕ → List Finished → Type 0
 HavePartNamesBelow n parts = All (λ part. (part.own.name < n) × HaveNamesBelow n part.edges) parts
 
 -- finished component k
-abbrev pub cut_at : List Cut → ℕ → Cut
-cut_at parts k = slice_index_or parts k (record { kind = B; own = record { name = 0; first = 0; second = 0 }; edges = [] })
+abbrev pub finished_at : List Finished → ℕ → Finished
+finished_at parts k = slice_index_or parts k (record { kind = B; own = record { name = 0; first = 0; second = 0 }; edges = [] })
 
 -- the first n finished components are written out
-pub record ArePartsWritten (m : ℕ) (parts : List Cut) (ups : List ℕ) (n : ℕ) (comps : List Comp) : Type 0 where
+pub record ArePartsWritten (m : ℕ) (parts : List Finished) (ups : List ℕ) (n : ℕ) (comps : List Comp) : Type 0 where
   pub number : length comps ≡ n
-  pub kinds : (k : ℕ) → k < n → (component_at comps k).kind ≡ (cut_at parts k).kind
+  pub kinds : (k : ℕ) → k < n → (component_at comps k).kind ≡ (finished_at parts k).kind
   pub written : (k : ℕ) → k < n → (state : SplitState)
-      → IsNotedFor m state k ups (entry_of (cut_at parts k).own ∷ family_of (cut_at parts k).edges)
-      → AreWritten m state k (entry_of (cut_at parts k).own ∷ family_of (cut_at parts k).edges) (component_at comps k).items
+      → IsNotedFor m state k ups (entry_of (finished_at parts k).own ∷ family_of (finished_at parts k).edges)
+      → AreWritten m state k (entry_of (finished_at parts k).own ∷ family_of (finished_at parts k).edges) (component_at comps k).items

@@ -3,7 +3,7 @@
 ghost use Rattle.std.specs.Prelude.{◌≡◌, [], ◌∷◌, length, IfOk};
 ghost use Rattle.graph_theory.specs.Labels.{label_at, IsLabelling, AreLabelsBelow};
 ghost use Rattle.pair_split.specs.Edges.{family_skeleton};
-ghost use Rattle.pair_split.specs.Lumps.{family_of, HaveEndsBelow, removed};
+ghost use Rattle.pair_split.specs.Bridges.{family_of, HaveEndsBelow, removed};
 
 use crate::family::NamedEdge;
 use graph_theory::labels::{merge, own_labels};

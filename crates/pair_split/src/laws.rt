@@ -1,7 +1,7 @@
 // The laws of split components: each is a function without a body, whose contract is the theorem.
 //
 // The lemmas that are used most (module of proofs/ in front):
-//   Start, Eject, Finish state-start, state-eject, state-end: the state of splitting, from the graph to its split components
+//   Start, SplitOff, Finish state-start, state-split_off, state-end: the state of splitting, from the graph to its split components
 //   Places          state-tight, common-current, current-common: the current family tells what two sides have in common
 //   SmallBlock      small-split: blocks of one or two edges
 //   Links           link-contained, contained-link, side-home: links as a list of pairs; where an edge is

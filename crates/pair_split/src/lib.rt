@@ -23,25 +23,25 @@
 //   ThreeEntries    three-bond, three-polygon: a tight family of three entries
 //   GraphFamily     graph-is_family, one_block-tight: the family of a graph
 //   SameEntries     same-tight, same-separation, same-prime: the order of the entries does not matter
-//   LumpSides       lump-from, lump-end, lump-common: what a family falls into when two vertices are removed
-//   Candidates      lump-separation, lump-inside: which lumps are sides; each side contains one
+//   BridgeSides     bridge-from, bridge-end, bridge-common: what a family falls into when two vertices are removed
+//   Candidates      bridge-separation, bridge-inside: which bridges are sides; each side contains one
 #![tactic(auto)]
 
+mod bridges;
 mod components;
-mod cuts;
 mod family;
 mod labels;
 pub mod laws;
 mod lists;
-mod lumps;
 mod plain;
 mod search;
 mod splitter;
+mod splitting;
 mod writing;
 
 pub use components::{Comp, Comps, Item, Kind, Piece, What};
-pub use cuts::{Cut, EdgeList, kind_of, kind_of_all};
 pub use family::NamedEdge;
 pub use lists::{CompList, PieceList};
 pub use plain::PairSplitter;
 pub use splitter::Splitter;
+pub use splitting::{EdgeList, Finished, kind_of, kind_of_all};

@@ -34,6 +34,13 @@ impl PieceList {
     {
         self.held.as_slice()
     }
+
+    /// Its pieces, given away. Takes no memory.
+    pub fn into_vec(self) -> Vec<Piece>
+        ensures { result.items ≡ self }
+    {
+        self.held
+    }
 }
 
 /// A list of components.
@@ -64,5 +71,12 @@ impl CompList {
         ensures { result.now ≡ self.now }
     {
         self.held.as_slice()
+    }
+
+    /// Its components, given away. Takes no memory.
+    pub fn into_vec(self) -> Vec<Comp>
+        ensures { result.items ≡ self }
+    {
+        self.held
     }
 }

@@ -6,12 +6,12 @@ ghost use Rattle.graph_theory.specs.Block.{IsOneBlock};
 ghost use Rattle.pair_split.specs.Family.{IsPrime};
 ghost use Rattle.pair_split.specs.Split.{IsSplit};
 ghost use Rattle.pair_split.specs.State.{IsSplitState, AreComponents};
-ghost use Rattle.pair_split.specs.Lumps.{family_of};
-ghost use Rattle.pair_split.specs.Cuts.{state_of, IsSplitting};
+ghost use Rattle.pair_split.specs.Bridges.{family_of};
+ghost use Rattle.pair_split.specs.Splitting.{state_of, IsSplitting};
 
 use crate::components::{Comps, Kind};
-use crate::cuts::{Splitting, kind_of_all};
 use crate::splitter::Splitter;
+use crate::splitting::{Splitting, kind_of_all};
 use crate::writing::write;
 use multigraph::Graph;
 use std::alloc::{AllocError, Global};

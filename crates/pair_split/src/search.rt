@@ -1,18 +1,18 @@
 // The search for a 2-separation of a family, and for a side of one with the fewest entries.
 //
 // Two parallel entries are such a side. In a family without parallel entries each side of a 2-separation between two vertices
-// contains a lump of these, and that lump is a side as well: so the smallest lump will do.
+// contains a bridge of these, and that bridge is a side as well: so the smallest bridge will do.
 
 ghost use Rattle.std.specs.Prelude.{◌≡◌, ◌+◌, ◌<◌, ◌≤◌, ◌^◌, ◌||◌, ◌==◌, ◌↔◌, ℕ, [], ◌∷◌, true, length, None, IfOk, IfSome};
 ghost use Rattle.graph_theory.specs.Labels.{IsLabelling, label_at};
 ghost use Rattle.pair_split.specs.Edges.{entry_ends, family_skeleton};
 ghost use Rattle.pair_split.specs.Skeleton.{SameEnds};
-ghost use Rattle.pair_split.specs.Lumps.{entry_of, family_of, lump_size, marked, AreParallelAt};
+ghost use Rattle.pair_split.specs.Bridges.{entry_of, family_of, bridge_size, marked, AreParallelAt};
 ghost use Rattle.pair_split.specs.Search.{AreSearchable, HasNoParallels, IsBest, IsLeastAt, IsLeastBefore, IsSearched};
 
+use crate::bridges::{mark_bridge, size_of_bridge};
 use crate::family::NamedEdge;
 use crate::labels::labels_without;
-use crate::lumps::{mark_lump, size_of_lump};
 use std::alloc::{AllocError, Global};
 
 /// A side of a 2-separation: the two vertices that it has in common with the other side, how many entries it has, and a mark
@@ -25,7 +25,7 @@ pub(crate) struct Side {
     pub marks: Vec<bool>,
 }
 
-// The lump of the label as a side, if it is one with fewer entries than the best side so far.
+// The bridge of the label as a side, if it is one with fewer entries than the best side so far.
 fn better_side(
     alloc: Global,
     edges: &[NamedEdge],
@@ -41,15 +41,15 @@ fn better_side(
     requires best { IsBest (family_of edges.now) best }
     ensures best { IfOk result (IsBest (family_of edges.now)) }
     ensures no_larger { IfOk result (λ side. side.size ≤ best.size) }
-    ensures lump { IfOk result (λ side. 2 ≤ lump_size (family_of edges.now) a b labels.now label
-        → lump_size (family_of edges.now) a b labels.now label + 2 ≤ length edges.now
-        → side.size ≤ lump_size (family_of edges.now) a b labels.now label) }
+    ensures bridge { IfOk result (λ side. 2 ≤ bridge_size (family_of edges.now) a b labels.now label
+        → bridge_size (family_of edges.now) a b labels.now label + 2 ≤ length edges.now
+        → side.size ≤ bridge_size (family_of edges.now) a b labels.now label) }
 {
-    let size = size_of_lump(edges, labels, a, b, label);
+    let size = size_of_bridge(edges, labels, a, b, label);
     if size < 2 || best.size <= size || edges.len() - size < 2 {
         return Ok(best);
     }
-    let marks = mark_lump(alloc, edges, labels, a, b, label, bound)?;
+    let marks = mark_bridge(alloc, edges, labels, a, b, label, bound)?;
     Ok(Side {
         first: a,
         second: b,
@@ -58,8 +58,8 @@ fn better_side(
     })
 }
 
-// The best side so far, or the smallest lump that is a smaller one.
-fn best_of_lumps(
+// The best side so far, or the smallest bridge that is a smaller one.
+fn best_of_bridges(
     alloc: Global,
     edges: &[NamedEdge],
     labels: &[u32],
@@ -74,11 +74,11 @@ fn best_of_lumps(
     requires best { IsBest (family_of edges.now) best }
     ensures best { IfOk result (IsBest (family_of edges.now)) }
     ensures no_larger { IfOk result (λ side. side.size ≤ best.size) }
-    ensures lumps { IfOk result (λ side. (label : ℕ) → label < length labels.now
+    ensures bridges { IfOk result (λ side. (label : ℕ) → label < length labels.now
         → label_at labels.now label ≡ label
-        → 2 ≤ lump_size (family_of edges.now) a b labels.now label
-        → lump_size (family_of edges.now) a b labels.now label + 2 ≤ length edges.now
-        → side.size ≤ lump_size (family_of edges.now) a b labels.now label) }
+        → 2 ≤ bridge_size (family_of edges.now) a b labels.now label
+        → bridge_size (family_of edges.now) a b labels.now label + 2 ≤ length edges.now
+        → side.size ≤ bridge_size (family_of edges.now) a b labels.now label) }
 {
     let mut best = best;
     for label in 0..labels.len() as u32 {
@@ -110,7 +110,7 @@ fn best_between(
         return Ok(best);
     }
     let labels = labels_without(alloc, edges, n, a, b)?;
-    best_of_lumps(alloc, edges, &labels, a, b, bound, best)
+    best_of_bridges(alloc, edges, &labels, a, b, bound, best)
 }
 
 // The best side so far, or a smaller one of a 2-separation between a and a lesser vertex.

@@ -2,15 +2,15 @@
 
 ghost use Rattle.std.specs.Prelude.{◌≡◌, ◌+◌, ◌<◌, ◌^◌, ◌++◌, ◌∷◌, [], ℕ, List, length, IfOk, slice_index_or, Contains};
 ghost use Rattle.pair_split.specs.Family.{Entry};
-ghost use Rattle.pair_split.specs.Lumps.{entry_of, family_of, HaveNamesBelow};
+ghost use Rattle.pair_split.specs.Bridges.{entry_of, family_of, HaveNamesBelow};
 ghost use Rattle.pair_split.specs.State.{SplitState, layer, IsWritten, AreWritten, AreComponents};
-ghost use Rattle.pair_split.specs.Cuts.{state_of};
+ghost use Rattle.pair_split.specs.Splitting.{state_of};
 ghost use Rattle.pair_split.specs.Writing.{IsListed, AreUps, IsNotedFor, HavePartNamesBelow, ArePartsWritten};
 
 use crate::components::{Comp, Comps, Kind, Piece, What};
-use crate::cuts::Cut;
 use crate::family::NamedEdge;
 use crate::lists::{CompList, PieceList};
+use crate::splitting::Finished;
 use std::alloc::{AllocError, Global};
 
 // Notes for each virtual edge among these that it stands in this layer.
@@ -29,14 +29,14 @@ fn note_layer(ups: &mut [u32], edges: &[NamedEdge], m: u32, layer: u32)
 }
 
 // Notes for each virtual edge in which layer it stands besides its own component.
-fn note_layers(ups: &mut [u32], parts: &[Cut], current: &[NamedEdge], m: u32)
+fn note_layers(ups: &mut [u32], parts: &[Finished], current: &[NamedEdge], m: u32)
     requires listed { IsListed m (state_of parts.now current.now) }
     requires number { length ups.old ≡ length parts.now }
     requires few { length parts.now < 2 ^ 32 }
     ensures { AreUps m (state_of parts.now current.now) ups.new }
 {
-    for (k, cut) in parts.iter().enumerate() {
-        note_layer(ups, cut.edges.as_slice(), m, k as u32);
+    for (k, finished) in parts.iter().enumerate() {
+        note_layer(ups, finished.edges.as_slice(), m, k as u32);
     }
     note_layer(ups, current, m, parts.len() as u32);
 }
@@ -44,7 +44,7 @@ fn note_layers(ups: &mut [u32], parts: &[Cut], current: &[NamedEdge], m: u32)
 // For each virtual edge, the layer in which it stands besides its own component.
 fn ups_of(
     alloc: Global,
-    parts: &[Cut],
+    parts: &[Finished],
     current: &[NamedEdge],
     m: u32,
 ) -> Result<Vec<u32>, AllocError>
@@ -118,19 +118,26 @@ fn push_pieces(
 }
 
 // A finished component, written out.
-fn part_of(alloc: Global, cut: &Cut, m: u32, k: u32, ups: &[u32]) -> Result<Comp, AllocError>
-    requires own { cut.now.own.name < m + length ups.now }
-    requires names { HaveNamesBelow (m + length ups.now) cut.now.edges }
-    ensures kind { IfOk result (λ comp. comp.kind ≡ cut.now.kind) }
+fn part_of(
+    alloc: Global,
+    finished: &Finished,
+    m: u32,
+    k: u32,
+    ups: &[u32],
+) -> Result<Comp, AllocError>
+    requires own { finished.now.own.name < m + length ups.now }
+    requires names { HaveNamesBelow (m + length ups.now) finished.now.edges }
+    ensures kind { IfOk result (λ comp. comp.kind ≡ finished.now.kind) }
     ensures written { IfOk result (λ comp. (state : SplitState)
-        → IsNotedFor m state k ups.now (entry_of cut.now.own ∷ family_of cut.now.edges)
-        → AreWritten m state k (entry_of cut.now.own ∷ family_of cut.now.edges) comp.items) }
+        → IsNotedFor m state k ups.now (entry_of finished.now.own ∷ family_of finished.now.edges)
+        → AreWritten m state k (entry_of finished.now.own ∷ family_of finished.now.edges)
+        comp.items) }
 {
     let mut pieces = Vec::new(alloc);
-    push_piece(&mut pieces, cut.own, m, k, ups)?;
-    push_pieces(&mut pieces, cut.edges.as_slice(), m, k, ups)?;
+    push_piece(&mut pieces, finished.own, m, k, ups)?;
+    push_pieces(&mut pieces, finished.edges.as_slice(), m, k, ups)?;
     Ok(Comp {
-        kind: cut.kind,
+        kind: finished.kind,
         items: PieceList::of(pieces),
     })
 }
@@ -159,15 +166,20 @@ fn last_of(
 }
 
 // The finished components, written out.
-fn write_parts(alloc: Global, parts: &[Cut], m: u32, ups: &[u32]) -> Result<Vec<Comp>, AllocError>
+fn write_parts(
+    alloc: Global,
+    parts: &[Finished],
+    m: u32,
+    ups: &[u32],
+) -> Result<Vec<Comp>, AllocError>
     requires names { HavePartNamesBelow (m + length ups.now) parts.now }
     requires few { length parts.now < 2 ^ 32 }
     ensures { IfOk result
         (λ comps. ArePartsWritten m parts.now ups.now (length parts.now) comps.items) }
 {
     let mut comps = Vec::new(alloc);
-    for (k, cut) in parts.iter().enumerate() {
-        comps.push(part_of(alloc, cut, m, k as u32, ups)?)?;
+    for (k, finished) in parts.iter().enumerate() {
+        comps.push(part_of(alloc, finished, m, k as u32, ups)?)?;
     }
     Ok(comps)
 }
@@ -175,7 +187,7 @@ fn write_parts(alloc: Global, parts: &[Cut], m: u32, ups: &[u32]) -> Result<Vec<
 /// The components of the state, the current family being the last of this kind.
 pub(crate) fn write(
     alloc: Global,
-    parts: &[Cut],
+    parts: &[Finished],
     current: &[NamedEdge],
     kind: Kind,
     m: u32,

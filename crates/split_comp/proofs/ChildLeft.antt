@@ -8,7 +8,7 @@ use Rattle.split_comp.specs.declared.items.Dart.{Dart}
 use Rattle.split_comp.specs.Cuts.{cut}
 use Rattle.split_comp.specs.Noting.{IsNoted}
 use Rattle.split_comp.specs.Palm.{tree_dart}
-use Rattle.split_comp.specs.Pass.{NumberedTree, IsNumbered, PassState, at_place, IsPass, IsBack, IsFronted, IsAsFar, IsReduced, IsEjected, CanEject, CanJoin, IsFrondAdded, IsDartNoted, IsMetDropped, IsWhole, last_dart, new_frond, pushed, cuts_dropped, next_name, goes, weight}
+use Rattle.split_comp.specs.Pass.{NumberedTree, IsNumbered, PassState, at_place, IsPass, IsBack, IsFronted, IsAsFar, IsReduced, IsSplitOff, CanSplitOff, CanJoin, IsFrondAdded, IsDartNoted, IsMetDropped, IsWhole, last_dart, new_frond, pushed, cuts_dropped, next_name, goes, weight}
 use Rattle.split_comp.proofs.Leaving.{child-can, child-fronted, noted-pass, killed-pass, base-within, base-rises}
 use Rattle.split_comp.proofs.AsFar.{frond-far}
 use Rattle.split_comp.proofs.Onward.{fronted-joins, fronted-added}
@@ -41,10 +41,10 @@ module _ (g : Multigraph) (t : NumberedTree) (numbered : IsNumbered g t) (s : Pa
     reaches : reach ≡ (tree_dart g t.palm t.vertex s.at b.raised.place).reach
     reaches = to ∙ ap (λ (x : Dart). x.reach) (sym dart-is)
 
-    pub whole-can : CanEject g t.vertex (goes false reach v) start reach v dropped
-    whole-can = subst (λ (y : ℕ × ℕ × ℕ × PassState). CanEject g t.vertex (λ (x : Item). true) y.0 y.1 y.2 y.3) (λ i. (sym from i, sym reaches i, sym here i, sym d i)) (child-can g t numbered s.done s b r.no_triangle last-cut class-two whole.two)
+    pub whole-can : CanSplitOff g t.vertex (goes false reach v) start reach v dropped
+    whole-can = subst (λ (y : ℕ × ℕ × ℕ × PassState). CanSplitOff g t.vertex (λ (x : Item). true) y.0 y.1 y.2 y.3) (λ i. (sym from i, sym reaches i, sym here i, sym d i)) (child-can g t numbered s.done s b r.no_triangle last-cut class-two whole.two)
 
-    module _ (mid : PassState) (e : IsEjected g t.vertex (goes false reach v) start reach v dropped mid) where
+    module _ (mid : PassState) (e : IsSplitOff g t.vertex (goes false reach v) start reach v dropped mid) where
       pub whole-up : reach < length mid.first
       whole-up = omega (arith, ap (λ (z : PassState). length z.first) e.now, ap (λ (z : PassState). length z.first) d, b.raised.first.places, whole-can.up_in, numbered.vertices.places)
 
@@ -69,16 +69,16 @@ module _ (g : Multigraph) (t : NumberedTree) (numbered : IsNumbered g t) (s : Pa
         base-in,
       )
 
-    module _ (mid : PassState) (e : IsEjected g t.vertex (goes false reach v) start reach v dropped mid) (name : ℕ) (named : name ≡ next_name g dropped) where
-      ejected : IsEjected g t.vertex (λ x. true) (at_place s.start s.done) (tree_dart g t.palm t.vertex s.at b.raised.place).reach s.at (cuts_dropped s (at_place s.base s.done)) mid
-      ejected = subst (λ (y : ℕ × ℕ × ℕ × PassState). IsEjected g t.vertex (λ (x : Item). true) y.0 y.1 y.2 y.3 mid) (λ i. (from i, reaches i, here i, d i)) e
+    module _ (mid : PassState) (e : IsSplitOff g t.vertex (goes false reach v) start reach v dropped mid) (name : ℕ) (named : name ≡ next_name g dropped) where
+      split_off : IsSplitOff g t.vertex (λ x. true) (at_place s.start s.done) (tree_dart g t.palm t.vertex s.at b.raised.place).reach s.at (cuts_dropped s (at_place s.base s.done)) mid
+      split_off = subst (λ (y : ℕ × ℕ × ℕ × PassState). IsSplitOff g t.vertex (λ (x : Item). true) y.0 y.1 y.2 y.3 mid) (λ i. (from i, reaches i, here i, d i)) e
 
       at-mid : v ≡ mid.at
-      at-mid = here ∙ sym (ap (λ (z : PassState). z.at) ejected.now)
+      at-mid = here ∙ sym (ap (λ (z : PassState). z.at) split_off.now)
 
       fronted : IsFronted g t (pushed mid (new_frond name mid.at reach mid))
-      fronted = subst (λ (y : ℕ × ℕ × PassState). IsFronted g t (pushed y.2 (new_frond y.0 y.2.at y.1 y.2))) (λ i. (sym (named ∙ ap (next_name g) d) i, sym reaches i, sym ejected.now i))
-          (child-fronted g t numbered s.done s b r.no_triangle last-cut class-two whole.two mid ejected)
+      fronted = subst (λ (y : ℕ × ℕ × PassState). IsFronted g t (pushed y.2 (new_frond y.0 y.2.at y.1 y.2))) (λ i. (sym (named ∙ ap (next_name g) d) i, sym reaches i, sym split_off.now i))
+          (child-fronted g t numbered s.done s b r.no_triangle last-cut class-two whole.two mid split_off)
 
       pub whole-joins : CanJoin g t.vertex (pushed mid (new_frond name v reach mid))
       whole-joins = subst (λ (y : ℕ). CanJoin g t.vertex (pushed mid (new_frond name y reach mid))) (sym at-mid) (λ par. fronted-joins g t numbered mid name reach fronted par)
@@ -87,7 +87,7 @@ module _ (g : Multigraph) (t : NumberedTree) (numbered : IsNumbered g t) (s : Pa
       whole-left new a =
           let f = frond-far g t.vertex name v reach mid new a in (
             fronted-added g t numbered mid name reach fronted new (subst (λ (y : ℕ). IsFrondAdded g t.vertex name y reach mid new) at-mid a),
-            record { at = f.at ∙ ap (λ (z : PassState). z.at) ejected.now; done = f.done ∙ ap (λ (z : PassState). z.done) ejected.now; gone = f.gone ∙ ap (λ (z : PassState). z.gone) ejected.now },
+            record { at = f.at ∙ ap (λ (z : PassState). z.at) split_off.now; done = f.done ∙ ap (λ (z : PassState). z.done) split_off.now; gone = f.gone ∙ ap (λ (z : PassState). z.gone) split_off.now },
           )
 
   -- nothing is split off

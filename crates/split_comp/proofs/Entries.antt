@@ -8,7 +8,7 @@ use Rattle.pair_split.proofs.Elements.{contains-map, map-contains}
 use Rattle.permutations.specs.Members.{is_member, is_distinct}
 use Rattle.permutations.proofs.Members.{distinct-tail, distinct-append_apart}
 use Rattle.pair_split.proofs.Names.{same-place, name-member, member-name}
-use Rattle.pair_split.proofs.Eject.{family-cons}
+use Rattle.pair_split.proofs.SplitOff.{family-cons}
 use Rattle.pair_split.proofs.Replaced.{end-cases, first-end, second-end}
 use Rattle.pair_split.proofs.Sides.{touches-from}
 use Rattle.split_comp.specs.declared.items.Item.{Item}

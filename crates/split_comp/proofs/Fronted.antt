@@ -14,7 +14,7 @@ use Rattle.split_comp.specs.Cuts.{cut, IsLeastUp, AreSound, AreComplete}
 use Rattle.split_comp.specs.Frames.{AreAhead, AreCutsBelow}
 use Rattle.split_comp.specs.Sides.{IsCutOff, all_items, IsLeast}
 use Rattle.split_comp.specs.Noting.{IsNoted}
-use Rattle.split_comp.specs.Pass.{NumberedTree, IsNumbered, PassState, at_place, IsPass, IsFronted, IsParallel, IsEjected, CanEject, joined_item, top_item, pushed, next_name, lowered}
+use Rattle.split_comp.specs.Pass.{NumberedTree, IsNumbered, PassState, at_place, IsPass, IsFronted, IsParallel, IsSplitOff, CanSplitOff, joined_item, top_item, pushed, next_name, lowered}
 use Rattle.split_comp.proofs.Entries.{stack-contains, item-front, item-last, item-take, length-push}
 use Rattle.split_comp.proofs.Stretch.{side_at}
 use Rattle.split_comp.proofs.Renewed.{IsRenewed, frond-parts, stack-new, left-within, within-left, family-new}
@@ -22,8 +22,8 @@ use Rattle.split_comp.proofs.RenewedPath.{frames-new, reached-new, first-new}
 use Rattle.split_comp.proofs.Parallel.{few-clean, frond-clean, parallel-not, parallel-least, parallel-separates, last-frond}
 use Rattle.split_comp.proofs.Walk.{next-on-path}
 use Rattle.split_comp.proofs.Lying.{start-at, owner-frond, frond-owner}
-use Rattle.split_comp.proofs.Ejected.{eject-topped}
-use Rattle.split_comp.proofs.Held.{can-eject, held-ejected, item-name}
+use Rattle.split_comp.proofs.LeastSides.{split_off-topped}
+use Rattle.split_comp.proofs.Held.{can-split_off, held-split_off, item-name}
 use Rattle.split_comp.proofs.Alike.{IsAlike, alike-take, alike-sound, alike-complete}
 use Rattle.split_comp.proofs.Noted.{IsFront, cut-left, chain-rises, note-sound-new, note-sound-old, note-complete-new, note-complete-old}
 use Rattle.split_comp.proofs.Firsts.{cut-off, lowered-length, pushed-at, pushed-here, IsAlikeTo, sorted-to, ahead-to, alike-whole}
@@ -116,11 +116,11 @@ module _ (g : Multigraph) (t : NumberedTree) (numbered : IsNumbered g t) (s : Pa
     ends : ((top_item s).up < g.vertex_count) × ((top_item s).low < g.vertex_count)
     ends = let e = f.held.ends (entry (item s.items (length s.items - 1))) (stack-contains s.items f.rest (length s.items - 1) (omega (arith, f.size))) in (e.0, e.1)
 
-    pub fronted-can : CanEject g t.vertex (λ x. true) (length s.items - 2) (top_item s).up (top_item s).low s
-    fronted-can = can-eject g t numbered s f.rest f.held f.stands.left.is_family all_items k (top_item s).up (top_item s).low side off sep ends.0 ends.1 least (omega (arith, f.size))
+    pub fronted-can : CanSplitOff g t.vertex (λ x. true) (length s.items - 2) (top_item s).up (top_item s).low s
+    fronted-can = can-split_off g t numbered s f.rest f.held f.stands.left.is_family all_items k (top_item s).up (top_item s).low side off sep ends.0 ends.1 least (omega (arith, f.size))
 
     -- the two are joined
-    module _ (mid : PassState) (e : IsEjected g t.vertex (λ x. true) (length s.items - 2) (top_item s).up (top_item s).low s mid) where
+    module _ (mid : PassState) (e : IsSplitOff g t.vertex (λ x. true) (length s.items - 2) (top_item s).up (top_item s).low s mid) where
       abbrev x : Item
       x = joined_item g s
 
@@ -217,7 +217,7 @@ module _ (g : Multigraph) (t : NumberedTree) (numbered : IsNumbered g t) (s : Pa
           List-map l = map entry l
 
       joined-clean : IsClean now.items f.rest
-      joined-clean = frond-clean last s.done s.at k now.items f.rest stands-now renewed.size (eject-topped last s.done s.at k k all_items side x s.items now.items f.rest renewed least) (ap (λ (y : Item). y.tree) now-top ∙ frond) (ap (λ (y : Item). y.low) now-top ∙ x-low)
+      joined-clean = frond-clean last s.done s.at k now.items f.rest stands-now renewed.size (split_off-topped last s.done s.at k k all_items side x s.items now.items f.rest renewed least) (ap (λ (y : Item). y.tree) now-top ∙ frond) (ap (λ (y : Item). y.low) now-top ∙ x-low)
           (λ i l p.
           let q = frond-parts (item now.items k).up s.at (item now.items i) p in
           let same = now-same i l in
@@ -236,7 +236,7 @@ module _ (g : Multigraph) (t : NumberedTree) (numbered : IsNumbered g t) (s : Pa
         walk = f.walk;
         going = λ z. absurd (f.not_root z);
         left = f.left;
-        held = held-ejected g t numbered s f.rest f.held f.stands.left.is_family all_items k (top_item s).up (top_item s).low side off sep ends.0 ends.1 mid now x e (sym (ap (λ (p : PassState). p.parts) e.now)) (sym (ap (λ (p : PassState). p.total) e.now)) refl refl refl
+        held = held-split_off g t numbered s f.rest f.held f.stands.left.is_family all_items k (top_item s).up (top_item s).low side off sep ends.0 ends.1 mid now x e (sym (ap (λ (p : PassState). p.parts) e.now)) (sym (ap (λ (p : PassState). p.total) e.now)) refl refl refl
             (family-new last s.done s.at k k all_items side x s.items now.items f.rest renewed) (left-within last s.done s.at k k all_items side x s.items now.items f.rest renewed) (within-left last s.done s.at k k all_items side x s.items now.items f.rest renewed);
         stands = stands-now;
         frames = frames-new last s.done s.at k k all_items side x s.items now.items f.rest renewed (at_place s.start) (λ q. absurd (both_ways x.tree frond q)) f.frames starts;

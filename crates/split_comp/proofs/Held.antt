@@ -10,26 +10,26 @@ use Rattle.multigraph.specs.Graph.{Multigraph, edge_count}
 use Rattle.pair_split.specs.Family.{Entry, names, on_side, off_side, IsFamily, IsTight, IsSeparation, IsPrime}
 use Rattle.pair_split.specs.Skeleton.{SameEnds, IsSkeleton}
 use Rattle.pair_split.specs.Edges.{entry_ends, family_skeleton}
-use Rattle.pair_split.specs.State.{Part, SplitState, ejected, IsSplitState}
-use Rattle.pair_split.specs.Cuts.{part_of}
-use Rattle.pair_split.specs.Lumps.{entry_of}
-use Rattle.pair_split.specs.declared.cuts.Cut.{Cut}
+use Rattle.pair_split.specs.State.{Part, SplitState, split_off, IsSplitState}
+use Rattle.pair_split.specs.Splitting.{part_of}
+use Rattle.pair_split.specs.Bridges.{entry_of}
+use Rattle.pair_split.specs.declared.splitting.Finished.{Finished}
 use Rattle.pair_split.proofs.Elements.{contains-here, contains-later, contains-cases, contains-map, map-contains, contains-filter, filter-contains}
 use Rattle.pair_split.proofs.Names.{name-member, member-name}
 use Rattle.pair_split.proofs.GraphFamily.{one_block-tight}
 use Rattle.pair_split.proofs.Layers.{layer-current, current-layer}
 use Rattle.pair_split.proofs.Places.{state-tight}
-use Rattle.pair_split.proofs.Eject.{family-cons, kept-family, state-eject}
+use Rattle.pair_split.proofs.SplitOff.{family-cons, kept-family, state-split_off}
 use Rattle.pair_split.proofs.Minimal.{minimal-prime}
 use Rattle.pair_split.proofs.SameEntries.{IsWithin}
 use Rattle.pair_split.proofs.Sides.{length-sides}
 use Rattle.split_comp.specs.declared.items.Item.{Item}
 use Rattle.split_comp.specs.Stack.{item, entry, family}
 use Rattle.split_comp.specs.Sides.{IsCutOff, IsLeast}
-use Rattle.split_comp.specs.Pass.{NumberedTree, IsNumbered, PassState, drawn, drawn_items, drawn_family, next_name, own_entry, CanEject, IsEjected, entry_total, IsHeld}
+use Rattle.split_comp.specs.Pass.{NumberedTree, IsNumbered, PassState, drawn, drawn_items, drawn_family, next_name, own_entry, CanSplitOff, IsSplitOff, entry_total, IsHeld}
 use Rattle.split_comp.proofs.Entries.{stack-contains}
 use Rattle.split_comp.proofs.Stretch.{cut-is}
-use Rattle.split_comp.proofs.Ejected.{least-minimal}
+use Rattle.split_comp.proofs.LeastSides.{least-minimal}
 use Rattle.split_comp.proofs.Renamed.{renamed-family, renamed-separation, renamed-minimal}
 use Rattle.split_comp.proofs.Reordered.{state-reordered}
 
@@ -113,8 +113,8 @@ module _ (g : Multigraph) (t : NumberedTree) (numbered : IsNumbered g t) (s : Pa
     own-family : IsFamily (own ∷ on_side side (drawn_family g t.vertex s.items rest))
     own-family = family-cons own (on_side side (drawn_family g t.vertex s.items rest)) sep-drawn.differ own-fresh (kept-family (λ (e : Entry). side e.name) (drawn_family g t.vertex s.items rest) drawn-is_family)
 
-    pub can-eject : IsLeast s.items rest side → k ≤ length s.items → CanEject g t.vertex keeps k up low s
-    can-eject least within = record {
+    pub can-split_off : IsLeast s.items rest side → k ≤ length s.items → CanSplitOff g t.vertex keeps k up low s
+    can-split_off least within = record {
       within = within;
       ends = λ i l. let e = held.ends (entry (item s.items i)) (stack-contains s.items rest i l) in (omega (arith, e.0, numbered.vertices.places), omega (arith, e.1, numbered.vertices.places));
       up_in = omega (arith, up-in, numbered.vertices.places);
@@ -129,13 +129,13 @@ module _ (g : Multigraph) (t : NumberedTree) (numbered : IsNumbered g t) (s : Pa
     }
 
     -- two entries or more went
-    pub ejected-two : (mid : PassState) (e : IsEjected g t.vertex keeps k up low s mid) → 2 ≤ length e.edges
-    ejected-two mid e = omega (arith, sep.two_inside, side-length, sym (length-map e.edges entry_of), ap length e.are_edges, length-map (filter keeps (drop k s.items)) (λ (y : Item). drawn g t.vertex (entry y)))
+    pub split_off-two : (mid : PassState) (e : IsSplitOff g t.vertex keeps k up low s mid) → 2 ≤ length e.edges
+    split_off-two mid e = omega (arith, sep.two_inside, side-length, sym (length-map e.edges entry_of), ap length e.are_edges, length-map (filter keeps (drop k s.items)) (λ (y : Item). drawn g t.vertex (entry y)))
 
     -- afterwards
-    pub held-ejected : (old-mid new : PassState) (x : Item) → IsEjected g t.vertex keeps k up low s old-mid → new.parts ≡ old-mid.parts → new.total ≡ old-mid.total → x.name ≡ next_name g s → x.up ≡ up → x.low ≡ low
+    pub held-split_off : (old-mid new : PassState) (x : Item) → IsSplitOff g t.vertex keeps k up low s old-mid → new.parts ≡ old-mid.parts → new.total ≡ old-mid.total → x.name ≡ next_name g s → x.up ≡ up → x.low ≡ low
         → IsFamily (family new.items rest) → IsWithin (entry x ∷ off_side side (family s.items rest)) (family new.items rest) → IsWithin (family new.items rest) (entry x ∷ off_side side (family s.items rest)) → IsHeld g t.vertex new rest
-    held-ejected mid new x e same-parts same-total named x-up x-low fam into back = record {
+    held-split_off mid new x e same-parts same-total named x-up x-low fam into back = record {
       total = total;
       state = state-now;
       few = omega (arith, held.few, parts-length, new-total, edges-two, held.total, lengths);
@@ -144,8 +144,8 @@ module _ (g : Multigraph) (t : NumberedTree) (numbered : IsNumbered g t) (s : Pa
       ends = ends;
     }
       where
-        cut-new : Cut
-        cut-new = record { kind = e.kind; own = record { name = next_name g s; first = slice_index t.vertex up; second = slice_index t.vertex low }; edges = e.edges }
+        finished-new : Finished
+        finished-new = record { kind = e.kind; own = record { name = next_name g s; first = slice_index t.vertex up; second = slice_index t.vertex low }; edges = e.edges }
 
         parts-are : new.parts ≡ s.parts ++ record { kind = e.kind; own = record { name = next_name g s; first = slice_index t.vertex up; second = slice_index t.vertex low }; edges = e.edges } ∷ []
         parts-are = same-parts ∙ ap (λ (p : PassState). p.parts) e.now
@@ -165,7 +165,7 @@ module _ (g : Multigraph) (t : NumberedTree) (numbered : IsNumbered g t) (s : Pa
         lengths : length (on_side side K) + length (off_side side K) ≡ length K
         lengths = length-sides K side
 
-        entry-push : (l : List Cut) (c : Cut) → entry_total (l ++ c ∷ []) ≡ entry_total l + length c.edges
+        entry-push : (l : List Finished) (c : Finished) → entry_total (l ++ c ∷ []) ≡ entry_total l + length c.edges
         entry-push [] c = omega arith
         entry-push (y ∷ l) c = omega (arith, entry-push l c)
 
@@ -194,12 +194,12 @@ module _ (g : Multigraph) (t : NumberedTree) (numbered : IsNumbered g t) (s : Pa
         skeleton : IsSkeleton e.kind (family_skeleton (own ∷ on_side side (drawn_family g t.vertex s.items rest)))
         skeleton = subst (λ (l : List Entry). IsSkeleton e.kind (family_skeleton (own ∷ l))) (e.are_edges ∙ sym side-items) e.skeleton
 
-        ejected-state : IsSplitState g (ejected state side e.kind own)
-        ejected-state = state-eject g state held.state side e.kind own (ap (λ (z : ℕ). edge_count g + z) (sym (length-map s.parts part_of))) sep-drawn skeleton e.large
+        split_off-state : IsSplitState g (split_off state side e.kind own)
+        split_off-state = state-split_off g state held.state side e.kind own (ap (λ (z : ℕ). edge_count g + z) (sym (length-map s.parts part_of))) sep-drawn skeleton e.large
 
-        parts-same : (ejected state side e.kind own).parts ≡ map part_of new.parts
+        parts-same : (split_off state side e.kind own).parts ≡ map part_of new.parts
         parts-same = ap (λ (l : List Entry). map part_of s.parts ++ record { kind = e.kind; own = own; entries = l } ∷ []) (side-items ∙ sym e.are_edges)
-            ∙ (sym (map-append part_of s.parts (cut-new ∷ [])) ∙ ap (map part_of) (sym parts-are))
+            ∙ (sym (map-append part_of s.parts (finished-new ∷ [])) ∙ ap (map part_of) (sym parts-are))
 
         into-drawn : IsWithin (own ∷ off_side side (drawn_family g t.vertex s.items rest)) (drawn_family g t.vertex new.items rest)
         into-drawn y c = elim (contains-cases y own (off_side side (drawn_family g t.vertex s.items rest)) c) [
@@ -223,13 +223,13 @@ module _ (g : Multigraph) (t : NumberedTree) (numbered : IsNumbered g t) (s : Pa
 
         state-now : IsSplitState g (record { parts = map part_of new.parts; current = drawn_family g t.vertex new.items rest })
         state-now = subst (λ (p : List Part). IsSplitState g (record { parts = p; current = drawn_family g t.vertex new.items rest })) parts-same
-            (state-reordered g (ejected state side e.kind own) (drawn_family g t.vertex new.items rest) ejected-state (renamed-family n vertex apart f (family new.items rest) (λ y c. drawn-name y) ends fam) into-drawn back-drawn)
+            (state-reordered g (split_off state side e.kind own) (drawn_family g t.vertex new.items rest) split_off-state (renamed-family n vertex apart f (family new.items rest) (λ y c. drawn-name y) ends fam) into-drawn back-drawn)
 
   -- an entry of the rest is pushed
   pub held-pushed : (new : PassState) (left : List Entry) → new.parts ≡ s.parts → new.total ≡ s.total → IsFamily (family new.items left) → IsWithin (family s.items rest) (family new.items left) → IsWithin (family new.items left) (family s.items rest) → IsHeld g t.vertex new left
   held-pushed new left same-parts same-total fam into back = record {
     total = same-total ∙ (held.total ∙ same-length (family s.items rest) (family new.items left) fam-K fam into back);
-    state = subst (λ (p : List Cut). IsSplitState g (record { parts = map part_of p; current = drawn_family g t.vertex new.items left })) (sym same-parts)
+    state = subst (λ (p : List Finished). IsSplitState g (record { parts = map part_of p; current = drawn_family g t.vertex new.items left })) (sym same-parts)
         (state-reordered g state (drawn_family g t.vertex new.items left) held.state (renamed-family n vertex apart f (family new.items left) (λ y c. drawn-name y) (λ y c. held.ends y (back y c)) fam) (within-map (family s.items rest) (family new.items left) into) (within-map (family new.items left) (family s.items rest) back));
     few = omega (arith, held.few, ap length same-parts, same-total);
     entries = omega (arith, held.entries, ap entry_total same-parts, ap length same-parts, same-total);

@@ -15,14 +15,14 @@ use Rattle.split_comp.specs.Palm.{tree_dart, tree_degree, tree_parent, IsFrondTo
 use Rattle.split_comp.specs.Walk.{IsWalk}
 use Rattle.split_comp.specs.Cuts.{cut, IsSoundAt}
 use Rattle.split_comp.specs.Sides.{is_frond_to, IsCutOff, all_items, IsLeast}
-use Rattle.split_comp.specs.Pass.{NumberedTree, IsNumbered, PassState, IsHeld, at_place, IsRaised, IsBack, IsParallel, IsEjected, CanEject, joined_item, top_item, pushed, next_name, lowered}
+use Rattle.split_comp.specs.Pass.{NumberedTree, IsNumbered, PassState, IsHeld, at_place, IsRaised, IsBack, IsParallel, IsSplitOff, CanSplitOff, joined_item, top_item, pushed, next_name, lowered}
 use Rattle.split_comp.proofs.Entries.{item-ends, stack-contains, rest-contains, family-cases, item-front, item-last, item-take, length-push}
 use Rattle.split_comp.proofs.Stretch.{side_at, side-place, side-rest, side-two}
 use Rattle.split_comp.proofs.Renewed.{IsRenewed, frond-parts, left-within, within-left, family-new}
 use Rattle.split_comp.proofs.RenewedPath.{first-new}
 use Rattle.split_comp.proofs.Parallel.{parallel-not, parallel-least, parallel-separates}
 use Rattle.split_comp.proofs.Lying.{start-at, owner-tree, owner-frond}
-use Rattle.split_comp.proofs.Held.{can-eject, held-ejected, ejected-two, item-name}
+use Rattle.split_comp.proofs.Held.{can-split_off, held-split_off, split_off-two, item-name}
 use Rattle.split_comp.proofs.Walk.{next-on-path, left-on_path}
 use Rattle.split_comp.proofs.Returning.{replaced-sound, replaced-complete}
 use Rattle.split_comp.proofs.Firsts.{cut-off, lowered-length, pushed-at, pushed-here}
@@ -133,10 +133,10 @@ module _ (g : Multigraph) (t : NumberedTree) (numbered : IsNumbered g t) (w : �
     ends : ((top_item s).up < g.vertex_count) × ((top_item s).low < g.vertex_count)
     ends = let e = b.held.ends (entry (item s.items (length s.items - 1))) (stack-contains s.items b.rest (length s.items - 1) (omega (arith, b.atop.size))) in (e.0, e.1)
 
-    pub raised-can : CanEject g t.vertex (λ x. true) (length s.items - 2) (top_item s).up (top_item s).low s
-    raised-can = can-eject g t numbered s b.rest b.held stands.left.is_family all_items k (top_item s).up (top_item s).low side off sep ends.0 ends.1 least (omega (arith, b.atop.size))
+    pub raised-can : CanSplitOff g t.vertex (λ x. true) (length s.items - 2) (top_item s).up (top_item s).low s
+    raised-can = can-split_off g t numbered s b.rest b.held stands.left.is_family all_items k (top_item s).up (top_item s).low side off sep ends.0 ends.1 least (omega (arith, b.atop.size))
 
-    module _ (starts : (c : ℕ) → c < length (drop (at_place s.base w) s.cuts) → (cut (drop (at_place s.base w) s.cuts) c).start < b.height) (mid : PassState) (e : IsEjected g t.vertex (λ x. true) (length s.items - 2) (top_item s).up (top_item s).low s mid) where
+    module _ (starts : (c : ℕ) → c < length (drop (at_place s.base w) s.cuts) → (cut (drop (at_place s.base w) s.cuts) c).start < b.height) (mid : PassState) (e : IsSplitOff g t.vertex (λ x. true) (length s.items - 2) (top_item s).up (top_item s).low s mid) where
       abbrev x : Item
       x = joined_item g s
 
@@ -246,7 +246,7 @@ module _ (g : Multigraph) (t : NumberedTree) (numbered : IsNumbered g t) (w : �
       ]
 
       held-now : IsHeld g t.vertex now b.rest
-      held-now = held-ejected g t numbered s b.rest b.held stands.left.is_family all_items k (top_item s).up (top_item s).low side off sep ends.0 ends.1 mid now x e (sym (ap (λ (p : PassState). p.parts) e.now)) (sym (ap (λ (p : PassState). p.total) e.now)) refl refl refl
+      held-now = held-split_off g t numbered s b.rest b.held stands.left.is_family all_items k (top_item s).up (top_item s).low side off sep ends.0 ends.1 mid now x e (sym (ap (λ (p : PassState). p.parts) e.now)) (sym (ap (λ (p : PassState). p.total) e.now)) refl refl refl
           (family-new last s.done s.at k k all_items side x s.items now.items b.rest renewed) (left-within last s.done s.at k k all_items side x s.items now.items b.rest renewed) (within-left last s.done s.at k k all_items side x s.items now.items b.rest renewed)
 
       raised-joined : IsRaised g t w now
@@ -266,7 +266,7 @@ module _ (g : Multigraph) (t : NumberedTree) (numbered : IsNumbered g t) (w : �
           b.cut_lows
         where
           edges-some : s.total + 1 - length e.edges ≤ s.total
-          edges-some = omega (arith, ejected-two g t numbered s b.rest b.held stands.left.is_family all_items k (top_item s).up (top_item s).low side off sep ends.0 ends.1 mid e)
+          edges-some = omega (arith, split_off-two g t numbered s b.rest b.held stands.left.is_family all_items k (top_item s).up (top_item s).low side off sep ends.0 ends.1 mid e)
 
           none : (i : ℕ) → i < k → is_frond_to s.at (item now.items k).low (item now.items i) ≡ true → ⊥
           none i l p =

@@ -16,15 +16,15 @@ use Rattle.split_comp.specs.Cuts.{no_cut, cut, IsLeastUp, IsBefore, AreSound, Ar
 use Rattle.split_comp.specs.Frames.{AreAhead, AreCutsBelow}
 use Rattle.split_comp.specs.Sides.{IsCutOff, all_items, IsLeast}
 use Rattle.split_comp.specs.Noting.{IsNoted, IsDropped}
-use Rattle.split_comp.specs.Pass.{NumberedTree, IsNumbered, PassState, IsHeld, at_place, IsPass, IsRaised, IsBack, IsFronted, IsEjected, CanEject, IsTriangle, new_frond, pushed, cuts_dropped, next_name, lowered}
+use Rattle.split_comp.specs.Pass.{NumberedTree, IsNumbered, PassState, IsHeld, at_place, IsPass, IsRaised, IsBack, IsFronted, IsSplitOff, CanSplitOff, IsTriangle, new_frond, pushed, cuts_dropped, next_name, lowered}
 use Rattle.split_comp.proofs.Entries.{up-end, item-front, item-last, item-take, length-push, family-cases}
 use Rattle.split_comp.proofs.Stretch.{side_at, cut-is}
 use Rattle.split_comp.proofs.Renewed.{IsRenewed, stack-new, left-within, within-left, family-new}
 use Rattle.split_comp.proofs.RenewedPath.{frames-new, reached-new, first-new}
 use Rattle.split_comp.proofs.Lying.{tree-owner, darts-apart}
 use Rattle.split_comp.proofs.SplitSides.{none-left, none-whole, side-separates}
-use Rattle.split_comp.proofs.Ejected.{eject-topped}
-use Rattle.split_comp.proofs.Held.{can-eject, held-ejected, ejected-two, item-name}
+use Rattle.split_comp.proofs.LeastSides.{split_off-topped}
+use Rattle.split_comp.proofs.Held.{can-split_off, held-split_off, split_off-two, item-name}
 use Rattle.split_comp.proofs.Alike.{alike-take}
 use Rattle.split_comp.proofs.Noted.{IsFront, cut-left, cut-right, chain-rises, note-sound-new, note-sound-old, note-complete-new, note-complete-old}
 use Rattle.split_comp.proofs.Returning.{kill-sound, kill-complete}
@@ -180,22 +180,22 @@ module _ (g : Multigraph) (t : NumberedTree) (numbered : IsNumbered g t) (w : �
     held-dropped : IsHeld g t.vertex dropped b.raised.rest
     held-dropped = record { total = b.raised.held.total; state = b.raised.held.state; few = b.raised.held.few; entries = b.raised.held.entries; three = b.raised.held.three; ends = b.raised.held.ends }
 
-    pub child-can : CanEject g t.vertex (λ x. true) start dart.reach s.at dropped
-    child-can = can-eject g t numbered dropped b.raised.rest held-dropped stands.left.is_family all_items start dart.reach s.at side off sep reach-in v-in least (omega (arith, s-h, h-here))
+    pub child-can : CanSplitOff g t.vertex (λ x. true) start dart.reach s.at dropped
+    child-can = can-split_off g t numbered dropped b.raised.rest held-dropped stands.left.is_family all_items start dart.reach s.at side off sep reach-in v-in least (omega (arith, s-h, h-here))
 
-    module _ (mid : PassState) (e : IsEjected g t.vertex (λ x. true) start dart.reach s.at dropped mid) where
-      abbrev ejected : PassState
-      ejected = record dropped {
+    module _ (mid : PassState) (e : IsSplitOff g t.vertex (λ x. true) start dart.reach s.at dropped mid) where
+      abbrev split_off : PassState
+      split_off = record dropped {
         items = take start s.items;
         total = s.total + 1 - length e.edges;
         parts = s.parts ++ record { kind = e.kind; own = record { name = next_name g s; first = slice_index t.vertex dart.reach; second = slice_index t.vertex s.at }; edges = e.edges } ∷ [];
       }
 
       abbrev x : Item
-      x = new_frond (next_name g s) s.at dart.reach ejected
+      x = new_frond (next_name g s) s.at dart.reach split_off
 
       abbrev now : PassState
-      now = pushed ejected x
+      now = pushed split_off x
 
       front-length : length (take start s.items) ≡ start
       front-length = length-take-le start s.items (omega (arith, s-h, h-here))
@@ -230,11 +230,11 @@ module _ (g : Multigraph) (t : NumberedTree) (numbered : IsNumbered g t) (w : �
       starts z n p = below-path g t numbered w s b.raised z start n p (omega arith) (omega (arith, s-h, h-here))
 
       held-now : IsHeld g t.vertex now b.raised.rest
-      held-now = held-ejected g t numbered dropped b.raised.rest held-dropped stands.left.is_family all_items start dart.reach s.at side off sep reach-in v-in mid now x e (sym (ap (λ (p : PassState). p.parts) e.now)) (sym (ap (λ (p : PassState). p.total) e.now)) refl refl refl
+      held-now = held-split_off g t numbered dropped b.raised.rest held-dropped stands.left.is_family all_items start dart.reach s.at side off sep reach-in v-in mid now x e (sym (ap (λ (p : PassState). p.parts) e.now)) (sym (ap (λ (p : PassState). p.total) e.now)) refl refl refl
           (family-new last s.done s.at start start all_items side x s.items now.items b.raised.rest renewed) (left-within last s.done s.at start start all_items side x s.items now.items b.raised.rest renewed) (within-left last s.done s.at start start all_items side x s.items now.items b.raised.rest renewed)
 
       fewer : length (family now.items b.raised.rest) ≤ length (family s.items b.raised.rest)
-      fewer = omega (arith, held-now.total, b.raised.held.total, ejected-two g t numbered dropped b.raised.rest held-dropped stands.left.is_family all_items start dart.reach s.at side off sep reach-in v-in mid e)
+      fewer = omega (arith, held-now.total, b.raised.held.total, split_off-two g t numbered dropped b.raised.rest held-dropped stands.left.is_family all_items start dart.reach s.at side off sep reach-in v-in mid e)
 
       top-up : (item now.items start).up ≡ dart.reach
       top-up = ap (λ (y : Item). y.up) renewed.top
@@ -256,7 +256,7 @@ module _ (g : Multigraph) (t : NumberedTree) (numbered : IsNumbered g t) (w : �
         frond = ap (λ (y : Item). y.tree) renewed.top;
         low = ap (λ (y : Item). y.low) renewed.top;
         stands = stands-now;
-        topped = eject-topped last s.done s.at start start all_items side x s.items now.items b.raised.rest renewed least;
+        topped = split_off-topped last s.done s.at start start all_items side x s.items now.items b.raised.rest renewed least;
         frames = frames-new last s.done s.at start start all_items side x s.items now.items b.raised.rest renewed (at_place s.start) (λ q. absurd (both_ways x.tree refl q)) b.raised.frames starts;
         reached = reached-new last s.done s.at start start all_items side x s.items now.items b.raised.rest renewed (tree_dart g t.palm t.vertex) (at_place s.gone) (at_place s.start) b.raised.frames starts b.raised.reached;
         first = first-new last s.done s.at start start all_items side x s.items now.items b.raised.rest renewed g.vertex_count s.first now.first b.raised.first

@@ -12,7 +12,7 @@ pub mod Renamed
 pub mod Reordered
 pub mod Lying
 pub mod Parallel
-pub mod Ejected
+pub mod LeastSides
 pub mod Complete
 pub mod Noted
 pub mod Stretch

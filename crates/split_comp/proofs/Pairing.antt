@@ -10,7 +10,7 @@ use Rattle.split_comp.specs.declared.items.Triple.{Triple}
 use Rattle.split_comp.specs.Stack.{no_item, item, entry, family, owner, IsTreeAt, IsStack, IsReturned, AreFirst}
 use Rattle.split_comp.specs.Cuts.{cut, IsSoundAt, AreSoundAt, AreCompleteAt}
 use Rattle.split_comp.specs.Sides.{is_frond_to, IsCutOff, but_frond, IsLeast, HasNoTriangle}
-use Rattle.split_comp.specs.Pass.{NumberedTree, IsNumbered, PassState, IsHeld, at_place, IsRaised, IsBack, IsEjected, CanEject, IsTriangle, IsStale, IsFrondFound, top_item, new_tree, pushed, cuts_dropped, next_name, lowered, goes}
+use Rattle.split_comp.specs.Pass.{NumberedTree, IsNumbered, PassState, IsHeld, at_place, IsRaised, IsBack, IsSplitOff, CanSplitOff, IsTriangle, IsStale, IsFrondFound, top_item, new_tree, pushed, cuts_dropped, next_name, lowered, goes}
 use Rattle.split_comp.proofs.Entries.{low-end, stack-contains, item-front, item-last, item-take, length-push}
 use Rattle.split_comp.proofs.Stretch.{side_at}
 use Rattle.split_comp.proofs.Renewed.{IsRenewed, frond-parts, left-within, within-left, family-new}
@@ -18,7 +18,7 @@ use Rattle.split_comp.proofs.RenewedPath.{first-new}
 use Rattle.split_comp.proofs.Lying.{start-at, owner-end, dart-over, darts-apart}
 use Rattle.split_comp.proofs.LeastUp.{touching-tree}
 use Rattle.split_comp.proofs.SplitSides.{ups-behind, pair-separates, pair-least, pair-frond, fronds-once}
-use Rattle.split_comp.proofs.Held.{can-eject, held-ejected, ejected-two, item-name}
+use Rattle.split_comp.proofs.Held.{can-split_off, held-split_off, split_off-two, item-name}
 use Rattle.split_comp.proofs.Returning.{drop-sound, replaced-sound, replaced-complete}
 use Rattle.split_comp.proofs.Noted.{chain-rises, cut-left, cut-push}
 use Rattle.split_comp.proofs.Firsts.{cut-off, lowered-length, pushed-at, pushed-here}
@@ -134,15 +134,15 @@ module _ (g : Multigraph) (t : NumberedTree) (numbered : IsNumbered g t) (w : �
     held-dropped : IsHeld g t.vertex dropped b.raised.rest
     held-dropped = record { total = b.raised.held.total; state = b.raised.held.state; few = b.raised.held.few; entries = b.raised.held.entries; three = b.raised.held.three; ends = b.raised.held.ends }
 
-    pub pair-can : CanEject g t.vertex (goes true s.at c.low) k s.at c.low dropped
-    pair-can = can-eject g t numbered dropped b.raised.rest held-dropped stands.left.is_family (but_frond s.at c.low) k s.at c.low side off sep v-in low-in least (omega (arith, k-in))
+    pub pair-can : CanSplitOff g t.vertex (goes true s.at c.low) k s.at c.low dropped
+    pair-can = can-split_off g t numbered dropped b.raised.rest held-dropped stands.left.is_family (but_frond s.at c.low) k s.at c.low side off sep v-in low-in least (omega (arith, k-in))
 
-    module _ (mid : PassState) (e : IsEjected g t.vertex (goes true s.at c.low) k s.at c.low dropped mid) where
+    module _ (mid : PassState) (e : IsSplitOff g t.vertex (goes true s.at c.low) k s.at c.low dropped mid) where
       abbrev x : Item
       x = new_tree (next_name g s) s.at c.low start
 
       two : 2 ≤ length e.edges
-      two = ejected-two g t numbered dropped b.raised.rest held-dropped stands.left.is_family (but_frond s.at c.low) k s.at c.low side off sep v-in low-in mid e
+      two = split_off-two g t numbered dropped b.raised.rest held-dropped stands.left.is_family (but_frond s.at c.low) k s.at c.low side off sep v-in low-in mid e
 
       -- a state with these entries and first places
       abbrev after : List Item → List ℕ → PassState
@@ -251,7 +251,7 @@ module _ (g : Multigraph) (t : NumberedTree) (numbered : IsNumbered g t) (w : �
       module _ (j : ℕ) (items : List Item) (first : List ℕ) (renewed : IsRenewed b.raised.palm.last s.done s.at k j (but_frond s.at c.low) side x s.items items b.raised.rest)
           (firsts : AreFirst g.vertex_count s.done first items) (fronds : (i : ℕ) → 4 ≤ s.total → i < j → is_frond_to s.at (item items j).low (item items i) ≡ true → i + 1 ≡ j) where
         held-now : IsHeld g t.vertex (after items first) b.raised.rest
-        held-now = held-ejected g t numbered dropped b.raised.rest held-dropped stands.left.is_family (but_frond s.at c.low) k s.at c.low side off sep v-in low-in mid (after items first) x e (sym (ap (λ (p : PassState). p.parts) e.now)) (sym (ap (λ (p : PassState). p.total) e.now)) refl refl refl
+        held-now = held-split_off g t numbered dropped b.raised.rest held-dropped stands.left.is_family (but_frond s.at c.low) k s.at c.low side off sep v-in low-in mid (after items first) x e (sym (ap (λ (p : PassState). p.parts) e.now)) (sym (ap (λ (p : PassState). p.total) e.now)) refl refl refl
             (family-new b.raised.palm.last s.done s.at k j (but_frond s.at c.low) side x s.items items b.raised.rest renewed) (left-within b.raised.palm.last s.done s.at k j (but_frond s.at c.low) side x s.items items b.raised.rest renewed) (within-left b.raised.palm.last s.done s.at k j (but_frond s.at c.low) side x s.items items b.raised.rest renewed)
 
         pub pair-raised : IsRaised g t w (after items first)

@@ -3,7 +3,7 @@ use Rattle.std.proofs.Common.{◌≡◌, ◌≢◌, ℕ, ◌+◌, ◌<◌, ◌�
 use Rattle.std.proofs.lemmas.Bool.{cases_Bool, cases_lt, cases_eq, both_ways}
 use Rattle.multigraph.specs.Graph.{Multigraph}
 use Rattle.pair_split.specs.Family.{Entry}
-use Rattle.pair_split.specs.declared.cuts.Cut.{Cut}
+use Rattle.pair_split.specs.declared.splitting.Finished.{Finished}
 use Rattle.split_comp.specs.declared.items.Item.{Item}
 use Rattle.split_comp.specs.declared.items.Triple.{Triple}
 use Rattle.split_comp.specs.Stack.{item, family, owner, IsTreeAt, IsStack, IsSorted, IsReturned, AreFirst}
@@ -15,7 +15,7 @@ use Rattle.split_comp.specs.Pass.{NumberedTree, IsNumbered, PassState, IsHeld, a
 use Rattle.split_comp.proofs.Renewed.{IsRenewed, frond-parts, low-now, up-now, stack-new}
 use Rattle.split_comp.proofs.RenewedPath.{frames-new, reached-new}
 use Rattle.split_comp.proofs.Lying.{frond-owner}
-use Rattle.split_comp.proofs.Ejected.{eject-topped}
+use Rattle.split_comp.proofs.LeastSides.{split_off-topped}
 use Rattle.split_comp.proofs.Alike.{alike-take}
 use Rattle.split_comp.proofs.Fronted.{below-kept}
 
@@ -54,7 +54,7 @@ module _ (g : Multigraph) (t : NumberedTree) (numbered : IsNumbered g t) (w : �
         absurd (elim (b.frames.before z i n p k) [ inl q ↦ omega (arith, q, c.0, w-below.0, p.0) | inr q ↦ omega (arith, q, c.1, d, e) ])
   ]
 
-  module _ (k j : ℕ) (keeps : Item → Bool) (side : ℕ → Bool) (x : Item) (items : List Item) (first : List ℕ) (total : ℕ) (parts : List Cut) (cuts : List Triple)
+  module _ (k j : ℕ) (keeps : Item → Bool) (side : ℕ → Bool) (x : Item) (items : List Item) (first : List ℕ) (total : ℕ) (parts : List Finished) (cuts : List Triple)
       (r : IsRenewed last s.done s.at k j keeps side x s.items items b.rest) (least : IsLeast s.items b.rest side) (x-tree : x.tree ≡ true) (x-up : x.up ≡ s.at) (x-start : x.start ≡ at_place s.start w)
       (ups : (o : ℕ) → k ≤ o → o < length s.items → s.at ≤ (item s.items o).up) where
     abbrev now : PassState
@@ -183,7 +183,7 @@ module _ (g : Multigraph) (t : NumberedTree) (numbered : IsNumbered g t) (w : �
         up = ap (λ (y : Item). y.up) r.top ∙ x-up;
         start = ap (λ (y : Item). y.start) r.top ∙ x-start;
         sorted = sorted-now fewer;
-        topped = eject-topped last s.done s.at k j keeps side x s.items items b.rest r least;
+        topped = split_off-topped last s.done s.at k j keeps side x s.items items b.rest r least;
         behind = behind;
       };
       fronds = fronds;

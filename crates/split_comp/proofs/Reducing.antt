@@ -11,14 +11,14 @@ use Rattle.split_comp.specs.Palm.{tree_dart, tree_degree, tree_parent}
 use Rattle.split_comp.specs.Walk.{IsOnPath}
 use Rattle.split_comp.specs.Cuts.{no_cut, cut, IsBefore, IsSoundAt, AreSoundAt, AreCompleteAt}
 use Rattle.split_comp.specs.Sides.{is_frond_to, IsCutOff, all_items, IsLeast}
-use Rattle.split_comp.specs.Pass.{joined_item, NumberedTree, IsNumbered, PassState, IsHeld, at_place, IsRaised, IsBack, CanJoin, IsJoined, IsEjected, CanEject, IsTriangle, IsStale, top_item, below_item, new_tree, pushed, cuts_dropped, next_name, lowered}
+use Rattle.split_comp.specs.Pass.{joined_item, NumberedTree, IsNumbered, PassState, IsHeld, at_place, IsRaised, IsBack, CanJoin, IsJoined, IsSplitOff, CanSplitOff, IsTriangle, IsStale, top_item, below_item, new_tree, pushed, cuts_dropped, next_name, lowered}
 use Rattle.split_comp.proofs.Entries.{stack-contains, item-front, item-last, item-take, length-push}
 use Rattle.split_comp.proofs.Stretch.{side_at}
 use Rattle.split_comp.proofs.Renewed.{IsRenewed, left-within, within-left, family-new}
 use Rattle.split_comp.proofs.RenewedPath.{first-new}
 use Rattle.split_comp.proofs.Lying.{start-at, owner-tree}
 use Rattle.split_comp.proofs.SplitSides.{triangle-start, triangle-ups, triangle-separates, triangle-least, triangle-frond}
-use Rattle.split_comp.proofs.Held.{can-eject, held-ejected, ejected-two, item-name}
+use Rattle.split_comp.proofs.Held.{can-split_off, held-split_off, split_off-two, item-name}
 use Rattle.split_comp.proofs.Returning.{drop-sound, stale-complete, replaced-sound, replaced-complete}
 use Rattle.split_comp.proofs.Noted.{chain-rises, cut-left}
 use Rattle.split_comp.proofs.Firsts.{cut-off, lowered-length, pushed-at, pushed-here}
@@ -253,10 +253,10 @@ module _ (g : Multigraph) (t : NumberedTree) (numbered : IsNumbered g t) (w : �
     low-in : (below_item s).low < g.vertex_count
     low-in = (b.raised.held.ends (entry (item s.items k)) (stack-contains s.items b.raised.rest k k-in)).1
 
-    pub triangle-can : CanEject g t.vertex (λ x. true) (length s.items - 2) s.at (below_item s).low s
-    triangle-can = can-eject g t numbered s b.raised.rest b.raised.held stands.left.is_family all_items k s.at (below_item s).low side off sep v-in low-in least (omega (arith, two))
+    pub triangle-can : CanSplitOff g t.vertex (λ x. true) (length s.items - 2) s.at (below_item s).low s
+    triangle-can = can-split_off g t numbered s b.raised.rest b.raised.held stands.left.is_family all_items k s.at (below_item s).low side off sep v-in low-in least (omega (arith, two))
 
-    module _ (mid : PassState) (e : IsEjected g t.vertex (λ x. true) (length s.items - 2) s.at (below_item s).low s mid) where
+    module _ (mid : PassState) (e : IsSplitOff g t.vertex (λ x. true) (length s.items - 2) s.at (below_item s).low s mid) where
       abbrev x : Item
       x = new_tree (next_name g s) s.at (below_item s).low (below_item s).start
 
@@ -324,18 +324,18 @@ module _ (g : Multigraph) (t : NumberedTree) (numbered : IsNumbered g t) (w : �
       ]
 
       held-now : IsHeld g t.vertex now b.raised.rest
-      held-now = held-ejected g t numbered s b.raised.rest b.raised.held stands.left.is_family all_items k s.at (below_item s).low side off sep v-in low-in mid now x e (sym (ap (λ (p : PassState). p.parts) e.now)) (sym (ap (λ (p : PassState). p.total) e.now)) refl refl refl
+      held-now = held-split_off g t numbered s b.raised.rest b.raised.held stands.left.is_family all_items k s.at (below_item s).low side off sep v-in low-in mid now x e (sym (ap (λ (p : PassState). p.parts) e.now)) (sym (ap (λ (p : PassState). p.total) e.now)) refl refl refl
           (family-new b.raised.palm.last s.done s.at k k all_items side x s.items now.items b.raised.rest renewed) (left-within b.raised.palm.last s.done s.at k k all_items side x s.items now.items b.raised.rest renewed) (within-left b.raised.palm.last s.done s.at k k all_items side x s.items now.items b.raised.rest renewed)
 
       -- a frond from the new lower end is the entry below
       fronds : (i : ℕ) → 4 ≤ now.total → i < k → is_frond_to s.at (item now.items k).low (item now.items i) ≡ true → i + 1 ≡ k
       fronds i four l p = triangle-frond b.raised.palm.last s.done s.at (at_place s.start w) h s.items b.raised.rest back k k-h tri.tree alone
-          (omega (arith, four, ejected-two g t numbered s b.raised.rest b.raised.held stands.left.is_family all_items k s.at (below_item s).low side off sep v-in low-in mid e, b.raised.held.total)) i l
+          (omega (arith, four, split_off-two g t numbered s b.raised.rest b.raised.held stands.left.is_family all_items k s.at (below_item s).low side off sep v-in low-in mid e, b.raised.held.total)) i l
           (subst (λ (y : Item). is_frond_to s.at (below_item s).low y ≡ true) (now-same i l) (subst (λ (y : Item). is_frond_to s.at y.low (item now.items i) ≡ true) now-top p))
 
       pub triangle-raised : IsRaised g t w now
       triangle-raised = raised-now g t numbered w s b.raised k k all_items side x now.items now.first now.total now.parts s.cuts renewed least refl refl start-x ups held-now
-          (omega (arith, ejected-two g t numbered s b.raised.rest b.raised.held stands.left.is_family all_items k s.at (below_item s).low side off sep v-in low-in mid e))
+          (omega (arith, split_off-two g t numbered s b.raised.rest b.raised.held stands.left.is_family all_items k s.at (below_item s).low side off sep v-in low-in mid e))
           (first-new b.raised.palm.last s.done s.at k k all_items side x s.items now.items b.raised.rest renewed g.vertex_count s.first now.first b.raised.first
           (lowered-length (lowered s.first x.up (length (take k s.items))) x.low (length (take k s.items)) ∙ (lowered-length s.first x.up (length (take k s.items)) ∙ b.raised.first.places))
           (λ z. elim (pushed-at s.first x.up x.low (length (take k s.items)) z (omega (arith, v-in, b.raised.first.places)) (omega (arith, low-in, b.raised.first.places))) [

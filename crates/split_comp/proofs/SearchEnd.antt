@@ -10,10 +10,10 @@ use Rattle.pair_split.specs.Edges.{graph_entry, graph_family, family_skeleton}
 use Rattle.pair_split.specs.Skeleton.{IsSkeleton}
 use Rattle.pair_split.specs.Split.{IsSplit}
 use Rattle.pair_split.specs.State.{IsSplitState, AreComponents}
-use Rattle.pair_split.specs.Cuts.{part_of, state_of}
-use Rattle.pair_split.specs.Lumps.{entry_of, family_of}
+use Rattle.pair_split.specs.Splitting.{part_of, state_of}
+use Rattle.pair_split.specs.Bridges.{entry_of, family_of}
 use Rattle.pair_split.specs.Writing.{IsListed}
-use Rattle.pair_split.specs.declared.cuts.Cut.{Cut}
+use Rattle.pair_split.specs.declared.splitting.Finished.{Finished}
 use Rattle.pair_split.specs.declared.family.NamedEdge.{NamedEdge}
 use Rattle.pair_split.specs.declared.components.Comp.{Comp}
 use Rattle.pair_split.specs.declared.components.Kind.{Kind}
@@ -94,7 +94,7 @@ module _ (g : Multigraph) (t : NumberedTree) (numbered : IsNumbered g t) (s : Pa
   left-split kind comps skeleton large w = state-end g (state_of s.parts edges) state kind comps w numbered.block.at_edge skeleton (λ e. absurd (large e))
 
 -- a block of one edge or two
-module _ (g : Multigraph) (graph : IsGraph g) (block : IsOneBlock g) (small : edge_count g < 3) (parts : List Cut) (edges : List NamedEdge) (none : parts ≡ []) (all : family_of edges ≡ graph_family g) where
+module _ (g : Multigraph) (graph : IsGraph g) (block : IsOneBlock g) (small : edge_count g < 3) (parts : List Finished) (edges : List NamedEdge) (none : parts ≡ []) (all : family_of edges ≡ graph_family g) where
   pub small-listed : IsListed (edge_count g) (state_of parts edges)
   small-listed = state-listed g (state_of parts edges) (start-state g graph parts edges none all)
 

@@ -10,7 +10,7 @@ use Rattle.split_comp.specs.declared.items.Triple.{Triple}
 use Rattle.split_comp.specs.Stack.{no_item, item, entry}
 use Rattle.split_comp.specs.Cuts.{cut}
 use Rattle.split_comp.specs.Sides.{is_frond_to}
-use Rattle.split_comp.specs.Pass.{NumberedTree, IsNumbered, PassState, at_place, IsRaised, IsBack, IsAsFar, IsReducedOnce, IsEjected, CanEject, CanJoin, IsTreeAdded, IsTriangle, IsStale, IsStaleDropped, IsCutTo, IsFrondFound, IsApart, number_apart, top_item, below_item, new_tree, pushed, cuts_dropped, next_name, goes, lowered, weight}
+use Rattle.split_comp.specs.Pass.{NumberedTree, IsNumbered, PassState, at_place, IsRaised, IsBack, IsAsFar, IsReducedOnce, IsSplitOff, CanSplitOff, CanJoin, IsTreeAdded, IsTriangle, IsStale, IsStaleDropped, IsCutTo, IsFrondFound, IsApart, number_apart, top_item, below_item, new_tree, pushed, cuts_dropped, next_name, goes, lowered, weight}
 use Rattle.split_comp.proofs.Entries.{stack-contains}
 use Rattle.split_comp.proofs.Firsts.{lowered-length}
 use Rattle.split_comp.proofs.Reducing.{stale-back, triangle-can, triangle-raised, triangle-starts, added-can, added-back}
@@ -63,20 +63,20 @@ module _ (g : Multigraph) (t : NumberedTree) (numbered : IsNumbered g t) (s : Pa
     below-is : below ≡ below_item s
     below-is = read ∙ ap (item s.items) second
 
-    pub corner-can : CanEject g t.vertex (goes false v below.low) place v below.low s
-    corner-can = subst (λ (y : ℕ × ℕ × Item). CanEject g t.vertex (λ (x : Item). true) y.0 y.1 y.2.low s) (λ i. (sym second i, sym here i, sym below-is i)) (triangle-can g t numbered s.done s b tri fresh)
+    pub corner-can : CanSplitOff g t.vertex (goes false v below.low) place v below.low s
+    corner-can = subst (λ (y : ℕ × ℕ × Item). CanSplitOff g t.vertex (λ (x : Item). true) y.0 y.1 y.2.low s) (λ i. (sym second i, sym here i, sym below-is i)) (triangle-can g t numbered s.done s b tri fresh)
 
-    module _ (mid : PassState) (e : IsEjected g t.vertex (goes false v below.low) place v below.low s mid) (name : ℕ) (named : name ≡ next_name g s) where
-      ejected : IsEjected g t.vertex (λ x. true) (length s.items - 2) s.at (below_item s).low s mid
-      ejected = subst (λ (y : ℕ × ℕ × Item). IsEjected g t.vertex (λ (x : Item). true) y.0 y.1 y.2.low s mid) (λ i. (second i, here i, below-is i)) e
+    module _ (mid : PassState) (e : IsSplitOff g t.vertex (goes false v below.low) place v below.low s mid) (name : ℕ) (named : name ≡ next_name g s) where
+      split_off : IsSplitOff g t.vertex (λ x. true) (length s.items - 2) s.at (below_item s).low s mid
+      split_off = subst (λ (y : ℕ × ℕ × Item). IsSplitOff g t.vertex (λ (x : Item). true) y.0 y.1 y.2.low s mid) (λ i. (second i, here i, below-is i)) e
 
       abbrev now : PassState
       now = pushed mid (new_tree name v below.low below.start)
 
       raised : (r : IsRaised g t s.done now) × ((c : ℕ) → c < length (drop (at_place now.base s.done) now.cuts) → (cut (drop (at_place now.base s.done) now.cuts) c).start < r.height)
       raised = subst (λ (z : PassState). (r : IsRaised g t s.done z) × ((c : ℕ) → c < length (drop (at_place z.base s.done) z.cuts) → (cut (drop (at_place z.base s.done) z.cuts) c).start < r.height))
-          (λ i. pushed (sym ejected.now i) (new_tree (sym named i) (sym here i) (sym below-is i).low (sym below-is i).start))
-          (triangle-raised g t numbered s.done s b tri fresh mid ejected, triangle-starts g t numbered s.done s b tri fresh mid ejected)
+          (λ i. pushed (sym split_off.now i) (new_tree (sym named i) (sym here i) (sym below-is i).low (sym below-is i).start))
+          (triangle-raised g t numbered s.done s b tri fresh mid split_off, triangle-starts g t numbered s.done s b tri fresh mid split_off)
 
       pub corner-joins : CanJoin g t.vertex (pushed mid (new_tree name v below.low below.start))
       corner-joins = added-can g t numbered s.done now raised.0
@@ -98,14 +98,14 @@ module _ (g : Multigraph) (t : NumberedTree) (numbered : IsNumbered g t) (s : Pa
   -- a pair
   module _ (fresh : IsStale s.at (at_place s.base s.done) s → ⊥) (none : IsTriangle s → ⊥) (to : IsCutTo s.at (at_place s.base s.done) s) (v : ℕ) (last : Triple) (dropped : PassState)
       (here : v ≡ s.at) (is : last ≡ cut s.cuts (length s.cuts - 1)) (d : dropped ≡ cuts_dropped s (length s.cuts - 1)) where
-    pub end-can : CanEject g t.vertex (goes true v last.low) last.start v last.low dropped
-    end-can = subst (λ (y : ℕ × Triple × PassState). CanEject g t.vertex (goes true y.0 y.1.low) y.1.start y.0 y.1.low y.2) (λ i. (sym here i, sym is i, sym d i)) (pair-can g t numbered s.done s b fresh none to.some to.up)
+    pub end-can : CanSplitOff g t.vertex (goes true v last.low) last.start v last.low dropped
+    end-can = subst (λ (y : ℕ × Triple × PassState). CanSplitOff g t.vertex (goes true y.0 y.1.low) y.1.start y.0 y.1.low y.2) (λ i. (sym here i, sym is i, sym d i)) (pair-can g t numbered s.done s b fresh none to.some to.up)
 
     pub end-start : last.start ≤ length dropped.items
     end-start = end-can.within
 
     -- what is behind the cut is gone, and the cut
-    module _ (mid : PassState) (e : IsEjected g t.vertex (goes true v last.low) last.start v last.low dropped mid) where
+    module _ (mid : PassState) (e : IsSplitOff g t.vertex (goes true v last.low) last.start v last.low dropped mid) where
       pub end-low : last.low < length mid.first
       end-low = omega (arith, ap (λ (z : PassState). length z.first) e.now, ap (λ (z : PassState). length z.first) d, b.raised.first.places, end-can.low_in, numbered.vertices.places)
 
@@ -125,12 +125,12 @@ module _ (g : Multigraph) (t : NumberedTree) (numbered : IsNumbered g t) (s : Pa
       pub end-few : last.start + 2 + number_apart frond ≤ length dropped.items
       end-few = omega (arith, end-can.two, end-can.within, apart-few frond (drop last.start dropped.items) v last.low found, length-drop last.start dropped.items)
 
-      module _ (mid : PassState) (e : IsEjected g t.vertex (goes true v last.low) last.start v last.low dropped mid) (name : ℕ) (named : name ≡ next_name g dropped) (apart : PassState) (a : IsApart frond v last.low last.start mid apart) (start : ℕ) (from : start ≡ at_place s.start s.done) where
+      module _ (mid : PassState) (e : IsSplitOff g t.vertex (goes true v last.low) last.start v last.low dropped mid) (name : ℕ) (named : name ≡ next_name g dropped) (apart : PassState) (a : IsApart frond v last.low last.start mid apart) (start : ℕ) (from : start ≡ at_place s.start s.done) where
         abbrev c : Triple
         c = cut s.cuts (length s.cuts - 1)
 
-        taken : IsEjected g t.vertex (goes true s.at c.low) c.start s.at c.low (cuts_dropped s (length s.cuts - 1)) mid
-        taken = subst (λ (y : ℕ × Triple × PassState). IsEjected g t.vertex (goes true y.0 y.1.low) y.1.start y.0 y.1.low y.2 mid) (λ i. (here i, is i, d i)) e
+        taken : IsSplitOff g t.vertex (goes true s.at c.low) c.start s.at c.low (cuts_dropped s (length s.cuts - 1)) mid
+        taken = subst (λ (y : ℕ × Triple × PassState). IsSplitOff g t.vertex (goes true y.0 y.1.low) y.1.start y.0 y.1.low y.2 mid) (λ i. (here i, is i, d i)) e
 
         found-there : IsFrondFound s.at c.low (drop c.start s.items) frond
         found-there = subst (λ (y : ℕ × Triple × PassState). IsFrondFound y.0 y.1.low (drop y.1.start y.2.items) frond) (λ i. (here i, is i, d i)) found

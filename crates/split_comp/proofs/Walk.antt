@@ -9,7 +9,7 @@ use Rattle.std.proofs.lemmas.List.Elements.{All-contains}
 use Rattle.pair_split.proofs.Sides.{touching-entry, touches-from, length-sides, one-from_entry}
 use Rattle.pair_split.proofs.SameEntries.{IsWithin}
 use Rattle.pair_split.proofs.Replaced.{end-cases, first-end, second-end}
-use Rattle.pair_split.proofs.Eject.{kept-family, family-cons}
+use Rattle.pair_split.proofs.SplitOff.{kept-family, family-cons}
 use Rattle.split_comp.specs.declared.items.Dart.{Dart}
 use Rattle.split_comp.specs.Palm.{IsPalm, dart_entry}
 use Rattle.split_comp.specs.Walk.{IsOnPath, IsWalk, AreLeft, IsOneMore}

@@ -7,9 +7,9 @@ use Rattle.pair_split.specs.Family.{Entry, IsFamily, IsPrime}
 use Rattle.pair_split.specs.Edges.{graph_entry, entry_ends, family_skeleton}
 use Rattle.pair_split.specs.Skeleton.{SameEnds, IsSkeleton}
 use Rattle.pair_split.specs.State.{IsSplitState}
-use Rattle.pair_split.specs.Cuts.{part_of}
-use Rattle.pair_split.specs.Lumps.{family_of}
-use Rattle.pair_split.specs.declared.cuts.Cut.{Cut}
+use Rattle.pair_split.specs.Splitting.{part_of}
+use Rattle.pair_split.specs.Bridges.{family_of}
+use Rattle.pair_split.specs.declared.splitting.Finished.{Finished}
 use Rattle.pair_split.specs.declared.family.NamedEdge.{NamedEdge}
 use Rattle.pair_split.specs.declared.components.Kind.{Kind}
 use Rattle.pair_split.specs.declared.components.Kind.TheVariants.{B}
@@ -49,7 +49,7 @@ pub record PassState : Type 0 where
   pub base : List ℕ
   pub gone : List ℕ
   pub total : ℕ
-  pub parts : List Cut
+  pub parts : List Finished
 
 -- the place is one that touches vertex x
 abbrev pub lowered : List ℕ → ℕ → ℕ → List ℕ
@@ -92,7 +92,7 @@ abbrev pub next_name : Multigraph → PassState → ℕ
 next_name g s = edge_count g + length s.parts
 
 -- entries from place k on that pass the test were made a component of some kind, with a virtual edge between two vertices
-pub record IsEjected (g : Multigraph) (vertex : List ℕ) (keeps : Item → Bool) (k up low : ℕ) (old new : PassState) : Type 0 where
+pub record IsSplitOff (g : Multigraph) (vertex : List ℕ) (keeps : Item → Bool) (k up low : ℕ) (old new : PassState) : Type 0 where
   pub kind : Kind
   pub edges : List NamedEdge
   pub are_edges : family_of edges ≡ drawn_items g vertex (filter keeps (drop k old.items))
@@ -113,7 +113,7 @@ abbrev pub own_entry : Multigraph → List ℕ → ℕ → ℕ → PassState →
 own_entry g vertex up low s = record { name = next_name g s; first = slice_index vertex up; second = slice_index vertex low }
 
 -- what has to hold where entries are made a component
-pub record CanEject (g : Multigraph) (vertex : List ℕ) (keeps : Item → Bool) (k up low : ℕ) (s : PassState) : Type 0 where
+pub record CanSplitOff (g : Multigraph) (vertex : List ℕ) (keeps : Item → Bool) (k up low : ℕ) (s : PassState) : Type 0 where
   pub within : k ≤ length s.items
   pub ends : (i : ℕ) → i < length s.items → ((item s.items i).up < length vertex) × ((item s.items i).low < length vertex)
   pub up_in : up < length vertex
@@ -126,9 +126,9 @@ pub record CanEject (g : Multigraph) (vertex : List ℕ) (keeps : Item → Bool)
   pub fits : s.total < 4294967296
 
 -- how many entries the components have
-abbrev pub entry_total : List Cut → ℕ
+abbrev pub entry_total : List Finished → ℕ
 entry_total [] = 0
-entry_total (cut ∷ cuts) = length cut.edges + entry_total cuts
+entry_total (finished ∷ parts) = length finished.edges + entry_total parts
 
 -- the current family of the graph
 abbrev pub drawn_family : Multigraph → List ℕ → List Item → List Entry → List Entry
@@ -285,12 +285,12 @@ IsFrondFound up low items (Some name) = (i : ℕ) × (i < length items) × (is_f
 
 -- the last two entries were joined, or could not be
 abbrev pub IsJoined : Multigraph → List ℕ → PassState → PassState → Bool → Type 0
-IsJoined g vertex old new true = IsParallel old × ((mid : PassState) × IsEjected g vertex (λ x. true) (length old.items - 2) (top_item old).up (top_item old).low old mid × (new ≡ pushed mid (joined_item g old)))
+IsJoined g vertex old new true = IsParallel old × ((mid : PassState) × IsSplitOff g vertex (λ x. true) (length old.items - 2) (top_item old).up (top_item old).low old mid × (new ≡ pushed mid (joined_item g old)))
 IsJoined g vertex old new false = (new ≡ old) × (IsParallel old → ⊥)
 
 -- what has to hold where they may be joined
 abbrev pub CanJoin : Multigraph → List ℕ → PassState → Type 0
-CanJoin g vertex s = IsParallel s → CanEject g vertex (λ x. true) (length s.items - 2) (top_item s).up (top_item s).low s
+CanJoin g vertex s = IsParallel s → CanSplitOff g vertex (λ x. true) (length s.items - 2) (top_item s).up (top_item s).low s
 
 -- a dart of v was noted, which starts at s and has the least upper end up, unless it is the first one
 pub record IsDartNoted (v s up : ℕ) (old new : PassState) : Type 0 where

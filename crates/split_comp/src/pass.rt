@@ -5,15 +5,15 @@ ghost use Rattle.multigraph.specs.Graph.{edge_count, IsGraph};
 ghost use Rattle.split_comp.specs.Stack.{item};
 ghost use Rattle.split_comp.specs.Noting.{IsLastCut};
 ghost use Rattle.split_comp.specs.Palm.{tree_degree, tree_parent};
-ghost use Rattle.pair_split.specs.Lumps.{family_of};
-ghost use Rattle.split_comp.specs.Pass.{IsNumbered, IsPass, IsBack, IsPassed, weight, PassState, CanEject, IsEjected, CanJoin, IsTriangleTest, IsStaleDropped, top_item, IsParallel, IsJoined, IsDartNoted, IsFrondAdded, IsTreeAdded, IsParallelTest, IsFrondFound, IsCutFound, IsApart, number_apart, IsMetDropped, IsWholeTest, IsCome, IsTurned, drawn_items, pushed, gone_along, gone_down, gone_back, cuts_dropped, lowered, next_name, goes, new_frond, new_tree};
+ghost use Rattle.pair_split.specs.Bridges.{family_of};
+ghost use Rattle.split_comp.specs.Pass.{IsNumbered, IsPass, IsBack, IsPassed, weight, PassState, CanSplitOff, IsSplitOff, CanJoin, IsTriangleTest, IsStaleDropped, top_item, IsParallel, IsJoined, IsDartNoted, IsFrondAdded, IsTreeAdded, IsParallelTest, IsFrondFound, IsCutFound, IsApart, number_apart, IsMetDropped, IsWholeTest, IsCome, IsTurned, drawn_items, pushed, gone_along, gone_down, gone_back, cuts_dropped, lowered, next_name, goes, new_frond, new_tree};
 
 use crate::cuts::{drop_behind, note};
 use crate::edges::{edges_of, frond_to};
 use crate::items::{Dart, Item, Triple};
 use crate::tree::Tree;
 use multigraph::Graph;
-use pair_split::{Cut, EdgeList, NamedEdge, kind_of};
+use pair_split::{EdgeList, Finished, NamedEdge, kind_of};
 use palm_tree::Steps;
 use std::alloc::{AllocError, Global};
 use std::marker::Model;
@@ -34,7 +34,7 @@ pub(crate) struct Pass {
     base: Vec<usize>,
     gone: Vec<usize>,
     total: usize,
-    parts: Vec<Cut>,
+    parts: Vec<Finished>,
 }
 
 impl Model for Pass {
@@ -145,7 +145,7 @@ impl Pass {
 
     // Makes the entries from place `k` on a finished component, with a virtual edge between `up` and `low`: all of them, or all
     // but a frond from `low` to `up`.
-    pub(crate) fn eject<L: Ledger>(
+    pub(crate) fn split_off<L: Ledger>(
         &mut self,
         alloc: Global,
         g: &Graph,
@@ -156,8 +156,9 @@ impl Pass {
         low: u32,
         steps: &mut Steps<L>,
     ) -> Result<u32, AllocError>
-        requires can { CanEject g.now tree.now.vertex (goes apart up low) k up low self.old }
-        ensures ejected { IfOk result (λ _. IsEjected g.now tree.now.vertex (goes apart up low) k up low self.old self.new) }
+        requires can { CanSplitOff g.now tree.now.vertex (goes apart up low) k up low self.old }
+        ensures split_off { IfOk result
+            (λ _. IsSplitOff g.now tree.now.vertex (goes apart up low) k up low self.old self.new) }
         ensures name { IfOk result (λ name. name ≡ next_name g.now self.old) }
         ensures at_most { steps.new + k ≤ steps.old + length self.old.items }
         ensures rises { steps.old ≤ steps.new }
@@ -172,7 +173,7 @@ impl Pass {
         let kind = kind_of(own, &edges);
         self.total = self.total + 1 - edges.len();
         self.items.truncate(k);
-        self.parts.push(Cut {
+        self.parts.push(Finished {
             kind,
             own,
             edges: EdgeList::of(edges),
@@ -267,7 +268,7 @@ impl Pass {
     {
         let height = self.height();
         let top = self.item_at(height - 1);
-        let name = self.eject(alloc, g, tree, height - 2, false, top.up, top.low, steps)?;
+        let name = self.split_off(alloc, g, tree, height - 2, false, top.up, top.low, steps)?;
         let start = if top.tree { top.start } else { height - 2 };
         self.push(Item {
             name,
@@ -613,7 +614,7 @@ impl Pass {
     }
 
     /// The finished components.
-    pub(crate) fn parts(&self) -> &[Cut]
+    pub(crate) fn parts(&self) -> &[Finished]
         ensures { result.now ≡ self.now.parts }
     {
         &self.parts

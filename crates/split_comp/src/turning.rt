@@ -40,7 +40,7 @@ impl Pass {
         let start = self.start_of(self.child());
         self.drop_cut();
         let frond = self.frond_from(last.start, v, last.low, steps);
-        let name = self.eject(alloc, g, tree, last.start, true, v, last.low, steps)?;
+        let name = self.split_off(alloc, g, tree, last.start, true, v, last.low, steps)?;
         self.push_apart(frond, v, last.low, last.start)?;
         self.add_tree_edge(alloc, g, tree, name, v, last.low, start, steps)
     }
@@ -65,7 +65,7 @@ impl Pass {
         let v = self.here();
         let place = self.height() - 2;
         let below = self.item_at(place);
-        let name = self.eject(alloc, g, tree, place, false, v, below.low, steps)?;
+        let name = self.split_off(alloc, g, tree, place, false, v, below.low, steps)?;
         self.add_tree_edge(alloc, g, tree, name, v, below.low, below.start, steps)
     }
 
@@ -145,7 +145,7 @@ impl Pass {
         let v = self.here();
         let start = self.start_of(self.child());
         self.drop_cuts(self.base_of(self.child()));
-        let name = self.eject(alloc, g, tree, start, false, reach, v, steps)?;
+        let name = self.split_off(alloc, g, tree, start, false, reach, v, steps)?;
         self.add_frond(alloc, g, tree, name, v, reach, steps)
     }
 

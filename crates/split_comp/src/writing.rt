@@ -2,13 +2,13 @@
 
 ghost use Rattle.std.specs.Prelude.{◌≡◌, ◌+◌, ◌*◌, ◌<◌, ◌≤◌, ◌^◌, ◌++◌, ◌∷◌, [], ℕ, List, length, IfOk, slice_index_or, Contains};
 ghost use Rattle.pair_split.specs.Family.{Entry};
-ghost use Rattle.pair_split.specs.Lumps.{entry_of, family_of, HaveNamesBelow};
+ghost use Rattle.pair_split.specs.Bridges.{entry_of, family_of, HaveNamesBelow};
 ghost use Rattle.pair_split.specs.State.{SplitState, layer, IsWritten, AreWritten, AreComponents};
-ghost use Rattle.pair_split.specs.Cuts.{state_of};
+ghost use Rattle.pair_split.specs.Splitting.{state_of};
 ghost use Rattle.pair_split.specs.Writing.{IsListed, AreUps, HavePartNamesBelow, ArePartsWritten};
 ghost use Rattle.split_comp.specs.Pass.{entry_total};
 
-use pair_split::{Comp, CompList, Comps, Cut, Kind, NamedEdge, Piece, PieceList, What};
+use pair_split::{Comp, CompList, Comps, Finished, Kind, NamedEdge, Piece, PieceList, What};
 use palm_tree::Steps;
 use std::alloc::{AllocError, Global};
 use std::sync::ledger::Ledger;
@@ -37,7 +37,7 @@ fn note_layer<L: Ledger>(
 // Notes for each virtual edge in which layer it stands besides its own component.
 fn note_layers<L: Ledger>(
     ups: &mut [u32],
-    parts: &[Cut],
+    parts: &[Finished],
     current: &[NamedEdge],
     m: u32,
     steps: &mut Steps<L>,
@@ -48,9 +48,9 @@ fn note_layers<L: Ledger>(
     ensures ups { AreUps m (state_of parts.now current.now) ups.new }
     ensures cost { steps.new ≡ steps.old + length parts.now + entry_total parts.now + length current.now }
 {
-    for (k, cut) in parts.iter().enumerate() {
+    for (k, finished) in parts.iter().enumerate() {
         steps.tick();
-        note_layer(ups, cut.edges.as_slice(), m, k as u32, steps);
+        note_layer(ups, finished.edges.as_slice(), m, k as u32, steps);
     }
     note_layer(ups, current, m, parts.len() as u32, steps);
 }
@@ -58,7 +58,7 @@ fn note_layers<L: Ledger>(
 // For each virtual edge, the layer in which it stands besides its own component.
 fn ups_of<L: Ledger>(
     alloc: Global,
-    parts: &[Cut],
+    parts: &[Finished],
     current: &[NamedEdge],
     m: u32,
     steps: &mut Steps<L>,
@@ -135,25 +135,29 @@ fn push_pieces<L: Ledger>(
 // A finished component, written out.
 fn part_of<L: Ledger>(
     alloc: Global,
-    cut: &Cut,
+    finished: &Finished,
     m: u32,
     k: u32,
     ups: &[u32],
     steps: &mut Steps<L>,
 ) -> Result<Comp, AllocError>
-    requires own { cut.now.own.name < m + length ups.now }
-    requires names { HaveNamesBelow (m + length ups.now) cut.now.edges }
-    ensures kind { IfOk result (λ comp. comp.kind ≡ cut.now.kind) }
-    ensures written { IfOk result (λ comp. (state : SplitState) → ((entry : Entry) → Contains (entry_of cut.now.own ∷ family_of cut.now.edges) entry → entry.name ≡ m + k → Contains (layer state (slice_index_or ups.now k 0)) entry) → AreWritten m state k (entry_of cut.now.own ∷ family_of cut.now.edges) comp.items) }
-    ensures cost { IfOk result (λ _. steps.new ≡ steps.old + length cut.now.edges) }
-    ensures at_most { steps.new ≤ steps.old + length cut.now.edges }
+    requires own { finished.now.own.name < m + length ups.now }
+    requires names { HaveNamesBelow (m + length ups.now) finished.now.edges }
+    ensures kind { IfOk result (λ comp. comp.kind ≡ finished.now.kind) }
+    ensures written { IfOk result (λ comp. (state : SplitState) → ((entry : Entry)
+        → Contains (entry_of finished.now.own ∷ family_of finished.now.edges) entry
+        → entry.name ≡ m + k → Contains (layer state (slice_index_or ups.now k 0)) entry)
+        → AreWritten m state k (entry_of finished.now.own ∷ family_of finished.now.edges)
+        comp.items) }
+    ensures cost { IfOk result (λ _. steps.new ≡ steps.old + length finished.now.edges) }
+    ensures at_most { steps.new ≤ steps.old + length finished.now.edges }
     ensures rises { steps.old ≤ steps.new }
 {
     let mut pieces = Vec::new(alloc);
-    push_piece(&mut pieces, cut.own, m, k, ups)?;
-    push_pieces(&mut pieces, cut.edges.as_slice(), m, k, ups, steps)?;
+    push_piece(&mut pieces, finished.own, m, k, ups)?;
+    push_pieces(&mut pieces, finished.edges.as_slice(), m, k, ups, steps)?;
     Ok(Comp {
-        kind: cut.kind,
+        kind: finished.kind,
         items: PieceList::of(pieces),
     })
 }
@@ -186,7 +190,7 @@ fn last_of<L: Ledger>(
 // The finished components, written out.
 fn write_parts<L: Ledger>(
     alloc: Global,
-    parts: &[Cut],
+    parts: &[Finished],
     m: u32,
     ups: &[u32],
     steps: &mut Steps<L>,
@@ -199,9 +203,9 @@ fn write_parts<L: Ledger>(
     ensures rises { steps.old ≤ steps.new }
 {
     let mut comps = Vec::new(alloc);
-    for (k, cut) in parts.iter().enumerate() {
+    for (k, finished) in parts.iter().enumerate() {
         steps.tick();
-        comps.push(part_of(alloc, cut, m, k as u32, ups, steps)?)?;
+        comps.push(part_of(alloc, finished, m, k as u32, ups, steps)?)?;
     }
     Ok(comps)
 }
@@ -209,7 +213,7 @@ fn write_parts<L: Ledger>(
 /// The components of the state, the current family being the last of this kind.
 pub(crate) fn write<L: Ledger>(
     alloc: Global,
-    parts: &[Cut],
+    parts: &[Finished],
     current: &[NamedEdge],
     kind: Kind,
     m: u32,

@@ -24,7 +24,7 @@ use Rattle.spqr_tree.specs.Merged.{how_many, redirect, AreGroups, AreRearranged}
 use Rattle.spqr_tree.specs.Ranking.{Rank, rank_at}
 use Rattle.spqr_tree.specs.Assembly.{IsArranged, AreNodes}
 use Rattle.spqr_tree.proofs.MergeCounts.{number-ext, number-from, number-none}
-use Rattle.spqr_tree.proofs.JoinedFlood.{group-starts}
+use Rattle.spqr_tree.proofs.JoinedMerging.{group-starts}
 use Rattle.spqr_tree.proofs.RearrangedSplit.{rearranged-split}
 use Rattle.spqr_tree.proofs.KeysDiffer.{key_in}
 use Rattle.spqr_tree.proofs.SameCounts.{vertex-counted, HaveSamePieces, same-link_to, same-side}

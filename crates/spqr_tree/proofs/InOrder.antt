@@ -14,11 +14,14 @@ use Rattle.pair_split.specs.declared.components.Piece.{Piece}
 use Rattle.pair_split.specs.declared.components.Comp.{Comp}
 use Rattle.pair_split.proofs.GraphFamily.{one_block-tight}
 use Rattle.pair_split.proofs.Links.{no_piece}
+use Rattle.pair_split.proofs.Subtrees.{link-in}
 use Rattle.spqr_tree.specs.Merged.{how_many, renamed, redirect, IsSymmetric, AreGroups, AreRearranged}
-use Rattle.spqr_tree.specs.Flood.{group_of, AreFinished}
+use Rattle.spqr_tree.specs.Merging.{group_of, AreFinished}
 use Rattle.spqr_tree.specs.Ranking.{Rank, rank_at, AreVertices, AreRanked, ArePlaces, value_at, placed, placed_group, in_order}
+use Rattle.spqr_tree.specs.Keys.{AreWithin}
 use Rattle.spqr_tree.specs.Assembly.{IsArranged}
 use Rattle.spqr_tree.proofs.MergeCounts.{number-ext, number-map}
+use Rattle.spqr_tree.proofs.JoinedGrows.{like-parts, piece-home}
 use Rattle.spqr_tree.proofs.JoinedApart.{others-apart}
 use Rattle.spqr_tree.proofs.RearrangedSplit.{rearranged-split}
 use Rattle.spqr_tree.proofs.SameVertices.{same-vertices}
@@ -142,3 +145,9 @@ module _ (g : Multigraph) (one : IsOneBlock g) (comps : List Comp) (split : IsSp
 -- the number of each rank is below the number of the ranks
 pub ranks-within : (groups : List Comp) (ranks : List Rank) → AreRanked groups ranks → (i : ℕ) → i < length ranks → (rank_at ranks i).1 < length groups
 ranks-within groups ranks r i l = (r.vertices (rank_at ranks i) (Contains-get_or ranks i no_rank l)).0
+
+-- the links of a group lead to components
+pub group-within : (g : Multigraph) (comps : List Comp) (split : IsSplit g comps) (lead : ℕ → ℕ) (groups : List Comp) → AreGroups comps lead groups → (k : ℕ) → k < length groups → AreWithin (items_of groups k) (length comps)
+group-within g comps split lead groups grouped k l i j m e =
+    let home = piece-home g comps split lead k (component_at groups k).kind (items_of groups k) (grouped.each k l) i m in
+    link-in comps split.linked home.home j (home.place, (home.place_in, (like-parts (slice_index_or (items_of groups k) i no_piece) (item_at comps home.home home.place) home.passes).0 ∙ e))

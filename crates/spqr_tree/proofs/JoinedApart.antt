@@ -13,7 +13,7 @@ use Rattle.pair_split.proofs.Links.{no_piece, stands-in}
 use Rattle.pair_split.proofs.Subtrees.{link-in}
 use Rattle.spqr_tree.specs.Merged.{IsGroup, NoneAlike, AreGroups, AreRearranged}
 use Rattle.spqr_tree.proofs.MergeCounts.{number-some, gathered-from}
-use Rattle.spqr_tree.proofs.JoinedFlood.{is_link, is_link-true, link-is, link-outer, outer-link}
+use Rattle.spqr_tree.proofs.JoinedMerging.{is_link, is_link-true, link-is, link-outer, outer-link}
 use Rattle.spqr_tree.proofs.JoinedGrows.{like-parts, piece-home}
 use Rattle.spqr_tree.proofs.MergedSplit.{link-origin}
 use Rattle.spqr_tree.proofs.RearrangedSplit.{placed, rearranged-contraction, placed-kind}

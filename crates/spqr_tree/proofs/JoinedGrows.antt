@@ -19,7 +19,7 @@ use Rattle.spqr_tree.proofs.MergeSides.{beyond-respects}
 use Rattle.spqr_tree.proofs.MergeTouch.{ends-same, touches, side-opposite}
 use Rattle.spqr_tree.proofs.JoinedBonds.{same_ends, same_ends-from, same_ends-true, same-trans, AreJoined, joined-all, bonds-joined}
 use Rattle.spqr_tree.proofs.JoinedPolygons.{vertex-degree, polygons-joined}
-use Rattle.spqr_tree.proofs.JoinedFlood.{is_link, is_link-true, link-is, inner-link, link-inner, single-link}
+use Rattle.spqr_tree.proofs.JoinedMerging.{is_link, is_link-true, link-is, inner-link, link-inner, single-link}
 
 -- whether two pieces stand for the same and have the same ends
 abbrev pub is_this : What → What → Bool

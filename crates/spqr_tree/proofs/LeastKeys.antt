@@ -12,7 +12,7 @@ use Rattle.pair_split.specs.declared.components.What.TheVariants.{Real, Link}
 use Rattle.pair_split.specs.declared.components.Comp.{Comp}
 use Rattle.pair_split.proofs.Groups.{what-cases}
 use Rattle.spqr_tree.specs.Keys.{least_at, link_key, IsLeastKey}
-use Rattle.spqr_tree.proofs.FloodSteps.{same-link}
+use Rattle.spqr_tree.proofs.MergingSteps.{same-link}
 use Rattle.spqr_tree.proofs.KeysDiffer.{least-side}
 use Rattle.spqr_tree.proofs.SideSteps.{side-own, side-on, side-back}
 

@@ -5,7 +5,7 @@ pub mod MergeTouch
 pub mod JoinedBonds
 pub mod JoinedParity
 pub mod JoinedPolygons
-pub mod JoinedFlood
+pub mod JoinedMerging
 pub mod JoinedGrows
 pub mod SameVertices
 pub mod MergeItems
@@ -17,8 +17,8 @@ pub mod FewComponents
 pub mod JoinedApart
 pub mod KeysDiffer
 pub mod LiveSteps
-pub mod FloodSteps
-pub mod FloodGroups
+pub mod MergingSteps
+pub mod MergingGroups
 pub mod Vertices
 pub mod Ranks
 pub mod RankSteps

@@ -10,7 +10,7 @@ use Rattle.pair_split.specs.declared.components.Comp.{Comp}
 use Rattle.pair_split.proofs.Links.{no_piece, stands-in}
 use Rattle.spqr_tree.specs.Merged.{how_many, is_outer, gathered, IsJoined, renamed, redirect, IsSymmetric}
 use Rattle.spqr_tree.proofs.MergeCounts.{number-from, number-some, number-two, gathered-from, gathered-some, gathered-once}
-use Rattle.spqr_tree.proofs.JoinedFlood.{is_link}
+use Rattle.spqr_tree.proofs.JoinedMerging.{is_link}
 use Rattle.spqr_tree.proofs.JoinedGrows.{is_this, is_this-true, this-own, is_like, like-own, like-parts}
 
 -- the others are the components contracted: component x goes into number f x, and of the items of those that go there just

@@ -8,7 +8,7 @@ use Rattle.pair_split.specs.declared.components.Comp.{Comp}
 use Rattle.pair_split.proofs.Subtrees.{link-in, is_below, below-own, below-root, below-parent, below-rank}
 use Rattle.spqr_tree.specs.Merged.{renamed}
 use Rattle.pair_split.proofs.TreeSides.{link-from}
-use Rattle.spqr_tree.proofs.JoinedFlood.{link-outer, outer-link}
+use Rattle.spqr_tree.proofs.JoinedMerging.{link-outer, outer-link}
 use Rattle.spqr_tree.proofs.MergeItems.{IsContraction, origin, arrives, renamed-link}
 
 module _ (comps : List Comp) (a : AreLinked comps) (f : ℕ → ℕ) (others : List Comp) (c : IsContraction comps f others) where

@@ -20,7 +20,7 @@ use Rattle.spqr_tree.proofs.MergeSides.{IsOther, other-cases, beyond-respects, b
 use Rattle.spqr_tree.proofs.MergeTouch.{ends-same, side-where}
 use Rattle.spqr_tree.proofs.JoinedBonds.{same-trans}
 use Rattle.spqr_tree.proofs.JoinedPolygons.{end-vertex}
-use Rattle.spqr_tree.proofs.JoinedFlood.{link-outer, outer-link}
+use Rattle.spqr_tree.proofs.JoinedMerging.{link-outer, outer-link}
 use Rattle.spqr_tree.proofs.JoinedGrows.{vertex-item}
 use Rattle.spqr_tree.proofs.MergeItems.{IsContraction, origin, arrives, arrives-once, renamed-link, renamed-real}
 use Rattle.spqr_tree.proofs.MergeTree.{contracted-tree}

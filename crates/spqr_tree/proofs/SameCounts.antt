@@ -14,7 +14,7 @@ use Rattle.pair_split.proofs.GraphFamily.{all-from_contained}
 use Rattle.pair_split.proofs.Links.{no_piece, link-contained, contained-link}
 use Rattle.spqr_tree.specs.Merged.{how_many}
 use Rattle.spqr_tree.proofs.MergeCounts.{number-cons, number-from, number-some}
-use Rattle.spqr_tree.proofs.JoinedFlood.{is_link, is_link-true, link-is}
+use Rattle.spqr_tree.proofs.JoinedMerging.{is_link, is_link-true, link-is}
 
 -- one more counted
 or-count : (a b : Bool) (n m : ℕ) → b ≡ nat_lt 0 n → m ≡ cond a 1 0 + n → (a || b) ≡ nat_lt 0 m

@@ -1,4 +1,4 @@
--- Components with a root, the least edge beyond each link away from it, and the keys of items.
+-- State of a loop: components in order from a root, the least edge beyond each link away from it, and the keys of items.
 use Rattle.std.specs.Prelude.{◌≡◌, ◌≢◌, ℕ, ◌<◌, ◌≤◌, ◌⊎◌, Bool, true, false, ◌==◌, cond, List, [], ◌∷◌, ◌++◌, length, slice_index_or}
 use Rattle.permutations.specs.Count.{least}
 use Rattle.permutations.specs.Members.{is_member, is_distinct}

@@ -1,6 +1,6 @@
 -- Split components put together to the tree of a block.
 pub mod Merged
-pub mod Flood
+pub mod Merging
 pub mod Ranking
 pub mod Assembly
 pub mod Keys

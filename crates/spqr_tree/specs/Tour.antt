@@ -1,5 +1,5 @@
--- The walk round the tree from the node that has edge 0: over the items of each node in order, down each link, and back by the
--- first item. It gives each edge a place; the places of what is beyond a link stand together.
+-- State of a loop: the walk round the tree from the node that has edge 0, over the items of each node in order, down each
+-- link, and back by the first item. It gives each edge a place; the places of what is beyond a link stand together.
 use Rattle.std.specs.Prelude.{◌≡◌, ◌≢◌, ℕ, ◌+◌, ◌-◌, ◌<◌, ◌≤◌, Bool, true, ◌==◌, List, [], ◌∷◌, ◌++◌, length, slice_index_or, slice_set}
 use Rattle.permutations.specs.Count.{count, sum_below}
 use Rattle.pair_split.specs.Tutte.{Node, node_at, node_item}

@@ -1,46 +1,47 @@
 // The split components of a block put into groups, in the order of the tree.
 
-ghost use Rattle.std.specs.Prelude.{◌≡◌, ◌<◌, ◌≤◌, length, IfOk};
+ghost use Rattle.std.specs.Prelude.{◌≡◌, ◌<◌, ◌≤◌, List, length, IfOk};
 ghost use Rattle.graph_theory.specs.Block.{IsOneBlock};
 ghost use Rattle.pair_split.specs.Split.{IsSplit};
+ghost use Rattle.pair_split.specs.declared.components.Comp.{Comp};
 ghost use Rattle.spqr_tree.specs.Merged.{AreGroups};
-ghost use Rattle.spqr_tree.specs.Flood.{group_of, AreFinished};
+ghost use Rattle.spqr_tree.specs.Merging.{group_of, AreFinished};
 ghost use Rattle.spqr_tree.specs.Ranking.{ranks_of};
 ghost use Rattle.spqr_tree.specs.Assembly.{IsArranged};
 
-use crate::flood::{Flood, groups_of};
+use crate::merging::{Merging, groups_of};
 use crate::naming::place_groups;
 use crate::ranking::{places, ranks};
 use multigraph::Graph;
-use pair_split::Comp;
+use pair_split::{Comp, CompList};
 use std::alloc::{AllocError, Global};
 
 // The groups of the components of a block.
-fn groups_of_block(alloc: Global, g: &Graph, comps: &[Comp]) -> Result<Flood, AllocError>
+fn groups_of_block(alloc: Global, g: &Graph, comps: CompList) -> Result<Merging, AllocError>
     requires block { IsOneBlock g.now }
-    requires split { IsSplit g.now comps.now }
-    ensures groups { IfOk result (λ s. AreGroups comps.now (group_of s.lead) s.groups) }
-    ensures finished { IfOk result (λ s. AreFinished comps.now s.lead s.groups) }
+    requires split { IsSplit g.now comps }
+    ensures groups { IfOk result (λ s. AreGroups comps (group_of s.lead) s.groups) }
+    ensures finished { IfOk result (λ s. AreFinished comps s.lead s.groups) }
+    ensures places { IfOk result (λ s. length s.lead ≡ length comps) }
     ensures few { IfOk result (λ s. length s.groups < 4294967295) }
 {
     // A graph has few edges, so the components are few.
     let _ = g.edge_count();
-    let flood = groups_of(alloc, comps)?;
-    Ok(flood)
+    let merging = groups_of(alloc, comps)?;
+    Ok(merging)
 }
 
 // The groups in the order of their vertices, and the vertices of each.
 fn arrange_groups(
     alloc: Global,
     g: &Graph,
-    comps: &[Comp],
     lead: &[u32],
     groups: &[Comp],
 ) -> Result<(Vec<Comp>, Vec<(Vec<u32>, u32)>), AllocError>
     requires block { IsOneBlock g.now }
-    requires split { IsSplit g.now comps.now }
-    requires groups { AreGroups comps.now (group_of lead.now) groups.now }
-    requires finished { AreFinished comps.now lead.now groups.now }
+    requires groups { (comps : List Comp) × IsSplit g.now comps
+        × AreGroups comps (group_of lead.now) groups.now × AreFinished comps lead.now groups.now
+        × (length lead.now ≡ length comps) }
     requires few { length groups.now < 4294967295 }
     ensures { IfOk result (λ r. IsArranged g.now r.0.items (ranks_of r.1.items)) }
 {
@@ -54,12 +55,12 @@ fn arrange_groups(
 pub(crate) fn arrange(
     alloc: Global,
     g: &Graph,
-    comps: &[Comp],
+    comps: CompList,
 ) -> Result<(Vec<Comp>, Vec<(Vec<u32>, u32)>), AllocError>
     requires block { IsOneBlock g.now }
-    requires split { IsSplit g.now comps.now }
+    requires split { IsSplit g.now comps }
     ensures { IfOk result (λ r. IsArranged g.now r.0.items (ranks_of r.1.items)) }
 {
-    let flood = groups_of_block(alloc, g, comps)?;
-    arrange_groups(alloc, g, comps, flood.table(), flood.list())
+    let merging = groups_of_block(alloc, g, comps)?;
+    arrange_groups(alloc, g, merging.table(), merging.list())
 }

@@ -110,7 +110,7 @@ impl Tree {
         requires split { IsSplit g.now c.list }
         ensures { IfOk result (IsTutte g.now) }
     {
-        let (comps, ranks) = arrange(alloc, g, c.list.as_slice())?;
+        let (comps, ranks) = arrange(alloc, g, c.list)?;
         tree_of(alloc, g, &comps, &ranks)
     }
 }

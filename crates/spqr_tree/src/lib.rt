@@ -3,10 +3,10 @@
 
 mod arranging;
 mod assembly;
-mod flood;
 mod keys;
 pub mod laws;
 mod lists;
+mod merging;
 mod naming;
 mod ranking;
 mod skeleton;

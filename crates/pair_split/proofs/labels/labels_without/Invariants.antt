@@ -1,7 +1,7 @@
 use Rattle.std.proofs.Common.{◌≡◌, [], ◌∷◌, length, take}
 use Rattle.graph_theory.specs.Labels.{label_at, IsLabelling, AreLabelsBelow}
 use Rattle.pair_split.specs.Edges.{family_skeleton}
-use Rattle.pair_split.specs.Lumps.{family_of}
+use Rattle.pair_split.specs.Bridges.{family_of}
 use Rattle.pair_split.proofs.labels.labels_without.Given as goal
 
 abbrev pub invariant-loop-edge : goal.invariant-loop-edge

@@ -4,9 +4,9 @@ use Rattle.multigraph.specs.Graph.{edge_count}
 use Rattle.pair_split.specs.Edges.{family_skeleton}
 use Rattle.pair_split.specs.Skeleton.{IsSkeleton}
 use Rattle.pair_split.specs.Split.{IsSplit}
-use Rattle.pair_split.specs.Lumps.{family_of}
+use Rattle.pair_split.specs.Bridges.{family_of}
 use Rattle.pair_split.specs.State.{AreComponents}
-use Rattle.pair_split.specs.Cuts.{state_of}
+use Rattle.pair_split.specs.Splitting.{state_of}
 use Rattle.pair_split.specs.declared.components.Comps.{Comps}
 use Rattle.pair_split.specs.declared.family.NamedEdge.{NamedEdge}
 use Rattle.pair_split.proofs.Finish.{state-end}

@@ -1,7 +1,7 @@
 use Rattle.std.proofs.Common.{ℕ, IfOk, sym, subst}
 use Rattle.multigraph.specs.Graph.{edge_count}
 use Rattle.pair_split.specs.State.{SplitState, AreComponents}
-use Rattle.pair_split.specs.Cuts.{state_of}
+use Rattle.pair_split.specs.Splitting.{state_of}
 use Rattle.pair_split.specs.Writing.{IsListed}
 use Rattle.pair_split.proofs.WritingSteps.{state-listed}
 use Rattle.pair_split.proofs.plain.write_state.Goals as goal

@@ -1,4 +1,4 @@
-use Rattle.pair_split.specs.Lumps.{family_of}
+use Rattle.pair_split.specs.Bridges.{family_of}
 use Rattle.pair_split.specs.Search.{IsBest, IsLeastBefore}
 use Rattle.pair_split.proofs.search.best_at.Given as goal
 

@@ -1,6 +1,6 @@
 use Rattle.std.proofs.Common.{arith}
 use Rattle.std.proofs.lemmas.List.{length-map}
-use Rattle.pair_split.specs.Lumps.{entry_of, family_of}
+use Rattle.pair_split.specs.Bridges.{entry_of, family_of}
 use Rattle.pair_split.proofs.Searching.{no_parallels, parallel-minimal, best-minimal, least-none, separation-below}
 use Rattle.pair_split.proofs.search.minimal_side.Goals as goal
 

@@ -1,5 +1,5 @@
 use Rattle.std.proofs.Common.{◌<◌, ℕ}
-use Rattle.pair_split.specs.Lumps.{AreParallelAt}
+use Rattle.pair_split.specs.Bridges.{AreParallelAt}
 use Rattle.pair_split.proofs.search.parallel_behind.Given as goal
 
 abbrev pub invariant-loop-j : goal.invariant-loop-j

@@ -1,5 +1,5 @@
 use Rattle.std.proofs.Common.{◌<◌, ℕ, length}
-use Rattle.pair_split.specs.Lumps.{AreParallelAt}
+use Rattle.pair_split.specs.Bridges.{AreParallelAt}
 use Rattle.pair_split.proofs.search.parallel_places.Given as goal
 
 abbrev pub invariant-loop-i : goal.invariant-loop-i

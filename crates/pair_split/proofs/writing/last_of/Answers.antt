@@ -1,5 +1,5 @@
 use Rattle.std.proofs.Common.{[], List, sym, subst}
-use Rattle.pair_split.specs.Lumps.{family_of}
+use Rattle.pair_split.specs.Bridges.{family_of}
 use Rattle.pair_split.specs.State.{AreWritten}
 use Rattle.pair_split.specs.declared.components.Piece.{Piece}
 use Rattle.pair_split.proofs.writing.last_of.Goals as goal

@@ -1,6 +1,6 @@
 use Rattle.std.proofs.Common.{◌≡◌, ◌+◌, ℕ, take, slice_index_or, Contains}
 use Rattle.pair_split.specs.Family.{Entry}
-use Rattle.pair_split.specs.Lumps.{family_of}
+use Rattle.pair_split.specs.Bridges.{family_of}
 use Rattle.pair_split.proofs.writing.note_layer.Given as goal
 
 abbrev pub invariant-loop-edge : goal.invariant-loop-edge

@@ -1,6 +1,6 @@
 use Rattle.std.proofs.Common.{◌≡◌, ◌+◌, ◌++◌, List, take, slice_index_or, Contains}
 use Rattle.pair_split.specs.Family.{Entry}
-use Rattle.pair_split.specs.Lumps.{family_of}
+use Rattle.pair_split.specs.Bridges.{family_of}
 use Rattle.pair_split.specs.State.{SplitState, layer, AreWritten}
 use Rattle.pair_split.proofs.writing.push_pieces.Given as goal
 

@@ -1,6 +1,6 @@
 use Rattle.std.proofs.Common.{◌∙◌, ℕ, List, length, drop, sym, subst}
 use Rattle.std.proofs.lemmas.List.{take_at}
-use Rattle.pair_split.specs.Cuts.{state_of}
+use Rattle.pair_split.specs.Splitting.{state_of}
 use Rattle.pair_split.specs.Writing.{AreUps}
 use Rattle.pair_split.proofs.writing.ups_of.Goals as goal
 

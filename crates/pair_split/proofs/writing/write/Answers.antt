@@ -1,6 +1,6 @@
 use Rattle.std.proofs.Common.{ℕ, List, length, sym, ap, ◌∙◌, subst}
 use Rattle.pair_split.specs.State.{AreComponents}
-use Rattle.pair_split.specs.Cuts.{state_of}
+use Rattle.pair_split.specs.Splitting.{state_of}
 use Rattle.pair_split.specs.Writing.{ArePartsWritten}
 use Rattle.pair_split.specs.declared.components.Comp.{Comp}
 use Rattle.pair_split.proofs.WritingSteps.{part-names, last-names, all-written, IsLastWritten}

@@ -1,5 +1,5 @@
 use Rattle.std.proofs.Common.{◌≡◌, ◌+◌, take, filter}
-use Rattle.pair_split.specs.Lumps.{family_of}
+use Rattle.pair_split.specs.Bridges.{family_of}
 use Rattle.split_comp.specs.Pass.{drawn_items, goes}
 use Rattle.split_comp.proofs.edges.edges_of.Given as goal
 

@@ -1,7 +1,7 @@
 use Rattle.std.proofs.Common.{◌≡◌, ◌+◌, map}
 use Rattle.multigraph.specs.Graph.{numbers_below}
 use Rattle.pair_split.specs.Edges.{graph_entry}
-use Rattle.pair_split.specs.Lumps.{family_of}
+use Rattle.pair_split.specs.Bridges.{family_of}
 use Rattle.split_comp.proofs.splitter.graph_edges.Given as goal
 
 abbrev pub invariant-loop-e : goal.invariant-loop-e

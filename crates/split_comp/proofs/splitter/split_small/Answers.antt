@@ -1,7 +1,7 @@
 use Rattle.std.proofs.Common.{ℕ, [], ◌∙◌, refl, sym, subst, ap, arith}
 use Rattle.std.proofs.lemmas.Result.{IfOk-weaker}
-use Rattle.pair_split.specs.Cuts.{state_of}
-use Rattle.pair_split.specs.Lumps.{family_of}
+use Rattle.pair_split.specs.Splitting.{state_of}
+use Rattle.pair_split.specs.Bridges.{family_of}
 use Rattle.pair_split.specs.Split.{IsSplit}
 use Rattle.pair_split.specs.State.{AreComponents}
 use Rattle.pair_split.specs.Writing.{IsListed}

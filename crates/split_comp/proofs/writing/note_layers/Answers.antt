@@ -1,20 +1,20 @@
 use Rattle.std.proofs.Common.{◌+◌, List, length, sym, subst, ap, ◌∙◌, arith}
-use Rattle.pair_split.specs.Lumps.{family_of, HaveNamesBelow}
+use Rattle.pair_split.specs.Bridges.{family_of, HaveNamesBelow}
 use Rattle.pair_split.specs.declared.family.NamedEdge.{NamedEdge}
-use Rattle.pair_split.specs.declared.cuts.Cut.{Cut}
-use Rattle.pair_split.proofs.WritingSteps.{read-cut, layer-cut, layer-last, cut-names, last-names, ups-more, ups-all}
+use Rattle.pair_split.specs.declared.splitting.Finished.{Finished}
+use Rattle.pair_split.proofs.WritingSteps.{read-finished, layer-finished, layer-last, finished-names, last-names, ups-more, ups-all}
 use Rattle.split_comp.proofs.CountedParts.{total-more, total-all}
 use Rattle.split_comp.proofs.writing.note_layers.Goals as goal
 
 pub note_layer-requires : goal.note_layer-requires
 note_layer-requires g c = subst (λ (edges : List NamedEdge). HaveNamesBelow (c.args.m + length c.loop-k.ups) edges)
-    (sym (c.as_slice.ensures ∙ ap (λ (cut : Cut). cut.edges) (read-cut c.args.parts.now c.loop-k.k c.index-parts-k.result c.loop-k-test.true c.index-parts-k.is)))
-    (cut-names c.args.m c.args.parts.now c.args.current.now c.requires.listed c.loop-k.k (length c.loop-k.ups) c.loop-k-test.true (c.loop-k.auto.ups ∙ c.requires.number))
+    (sym (c.as_slice.ensures ∙ ap (λ (finished : Finished). finished.edges) (read-finished c.args.parts.now c.loop-k.k c.index-parts-k.result c.loop-k-test.true c.index-parts-k.is)))
+    (finished-names c.args.m c.args.parts.now c.args.current.now c.requires.listed c.loop-k.k (length c.loop-k.ups) c.loop-k-test.true (c.loop-k.auto.ups ∙ c.requires.number))
 
 pub loop-k-preserved : goal.loop-k-preserved
 loop-k-preserved g c = (
   ups-more c.args.m c.args.parts.now c.args.current.now c.requires.listed c.loop-k.k c.as_slice.result.now c.loop-k.ups c.note_layer.new.ups
-      (layer-cut c.args.parts.now c.args.current.now c.loop-k.k c.loop-k-test.true ∙ ap family_of (sym (c.as_slice.ensures ∙ ap (λ (cut : Cut). cut.edges) (read-cut c.args.parts.now c.loop-k.k c.index-parts-k.result c.loop-k-test.true c.index-parts-k.is))))
+      (layer-finished c.args.parts.now c.args.current.now c.loop-k.k c.loop-k-test.true ∙ ap family_of (sym (c.as_slice.ensures ∙ ap (λ (finished : Finished). finished.edges) (read-finished c.args.parts.now c.loop-k.k c.index-parts-k.result c.loop-k-test.true c.index-parts-k.is))))
       c.loop-k.invariant.0 (c.note_layer.ensures.noted, c.note_layer.ensures.kept),
   omega (arith, c.tick.ensures, c.note_layer.ensures.cost, c.loop-k.invariant.1, ap length c.as_slice.ensures, total-more c.args.parts.now c.loop-k.k c.index-parts-k.result c.loop-k-test.true c.index-parts-k.is),
 )

@@ -1,7 +1,7 @@
 use Rattle.std.proofs.Common.{◌≡◌, ◌+◌, ◌<◌, ℕ, take, slice_index_or, Contains}
 use Rattle.pair_split.specs.Family.{Entry}
 use Rattle.pair_split.specs.State.{layer}
-use Rattle.pair_split.specs.Cuts.{state_of}
+use Rattle.pair_split.specs.Splitting.{state_of}
 use Rattle.split_comp.specs.Pass.{entry_total}
 use Rattle.split_comp.proofs.writing.note_layers.Given as goal
 

@@ -1,5 +1,5 @@
 use Rattle.std.proofs.Common.{◌++◌, ◌∷◌, [], List, refl, sym, subst}
-use Rattle.pair_split.specs.Lumps.{entry_of}
+use Rattle.pair_split.specs.Bridges.{entry_of}
 use Rattle.pair_split.specs.State.{AreWritten}
 use Rattle.pair_split.specs.declared.components.Piece.{Piece}
 use Rattle.pair_split.proofs.WritingSteps.{written-push}

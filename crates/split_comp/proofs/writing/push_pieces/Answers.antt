@@ -1,7 +1,7 @@
 use Rattle.std.proofs.Common.{◌++◌, ◌∷◌, [], List, take, slice_index_or, sym, ap, ◌∙◌, subst, append_assoc, arith}
 use Rattle.std.proofs.lemmas.List.Elements.{Contains-get_or}
 use Rattle.pair_split.specs.Family.{Entry}
-use Rattle.pair_split.specs.Lumps.{entry_of, family_of}
+use Rattle.pair_split.specs.Bridges.{entry_of, family_of}
 use Rattle.pair_split.specs.State.{AreWritten}
 use Rattle.pair_split.proofs.Elements.{contains-map}
 use Rattle.pair_split.proofs.Marking.{nothing, family-more}

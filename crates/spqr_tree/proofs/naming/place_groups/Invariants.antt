@@ -1,5 +1,5 @@
 use Rattle.std.proofs.Common.{◌≡◌, take}
-use Rattle.spqr_tree.specs.Flood.{group_of}
+use Rattle.spqr_tree.specs.Merging.{group_of}
 use Rattle.spqr_tree.specs.Ranking.{value_at, ranks_of, in_order}
 use Rattle.spqr_tree.proofs.naming.place_groups.Given as goal
 

@@ -1,5 +1,5 @@
 use Rattle.std.proofs.Common.{◌≡◌, map, take}
-use Rattle.spqr_tree.specs.Flood.{group_of}
+use Rattle.spqr_tree.specs.Merging.{group_of}
 use Rattle.spqr_tree.specs.Ranking.{value_at, placed}
 use Rattle.spqr_tree.proofs.naming.place_pieces.Given as goal
 

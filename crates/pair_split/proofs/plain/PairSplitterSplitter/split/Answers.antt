@@ -3,7 +3,7 @@ use Rattle.std.proofs.lemmas.Result.{IfOk-weaker}
 use Rattle.multigraph.specs.Graph.{edge_count}
 use Rattle.pair_split.specs.Split.{IsSplit}
 use Rattle.pair_split.specs.State.{AreComponents}
-use Rattle.pair_split.specs.Cuts.{state_of}
+use Rattle.pair_split.specs.Splitting.{state_of}
 use Rattle.pair_split.specs.declared.components.Comps.{Comps}
 use Rattle.pair_split.specs.declared.components.Kind.TheVariants.{B}
 use Rattle.pair_split.proofs.SplitSteps.{start-split}

@@ -1,6 +1,6 @@
 use Rattle.std.proofs.Common.{◌≡◌, ap, ◌∙◌}
 use Rattle.std.proofs.lemmas.Result.{IfOk-weaker}
-use Rattle.pair_split.specs.Lumps.{family_of}
+use Rattle.pair_split.specs.Bridges.{family_of}
 use Rattle.split_comp.specs.Pass.{PassState, drawn_items}
 use Rattle.split_comp.proofs.Finished.{passed-ends, none-apart}
 use Rattle.split_comp.proofs.pass.Pass.edges.Goals as goal

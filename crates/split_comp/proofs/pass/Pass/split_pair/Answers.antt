@@ -7,24 +7,24 @@ use Rattle.split_comp.proofs.pass.Pass.split_pair.Goals as goal
 pub frond_from-frond-requires : goal.frond_from-frond-requires
 frond_from-frond-requires g c = end-start c.args.g.now c.args.tree.now c.requires.numbered c.args.self.now c.requires.back c.requires.fresh c.requires.no_triangle c.requires.cut c.here-v.result c.args.last c.drop_cut.new.self c.here-v.ensures c.requires.last c.drop_cut.ensures
 
-pub eject-requires : goal.eject-requires
-eject-requires g c = record { can = end-can c.args.g.now c.args.tree.now c.requires.numbered c.args.self.now c.requires.back c.requires.fresh c.requires.no_triangle c.requires.cut c.here-v.result c.args.last c.drop_cut.new.self c.here-v.ensures c.requires.last c.drop_cut.ensures }
+pub split_off-requires : goal.split_off-requires
+split_off-requires g c = record { can = end-can c.args.g.now c.args.tree.now c.requires.numbered c.args.self.now c.requires.back c.requires.fresh c.requires.no_triangle c.requires.cut c.here-v.result c.args.last c.drop_cut.new.self c.here-v.ensures c.requires.last c.drop_cut.ensures }
 
 pub push_apart-requires-clause-low : goal.push_apart-requires-clause-low
-push_apart-requires-clause-low g c = end-low c.args.g.now c.args.tree.now c.requires.numbered c.args.self.now c.requires.back c.requires.fresh c.requires.no_triangle c.requires.cut c.here-v.result c.args.last c.drop_cut.new.self c.here-v.ensures c.requires.last c.drop_cut.ensures c.eject.new.self c.in_ok-name.ensures.ejected
+push_apart-requires-clause-low g c = end-low c.args.g.now c.args.tree.now c.requires.numbered c.args.self.now c.requires.back c.requires.fresh c.requires.no_triangle c.requires.cut c.here-v.result c.args.last c.drop_cut.new.self c.here-v.ensures c.requires.last c.drop_cut.ensures c.split_off.new.self c.in_ok-name.ensures.split_off
 
 pub add_tree_edge-requires-clause-can : goal.add_tree_edge-requires-clause-can
 add_tree_edge-requires-clause-can g c = end-joins c.args.g.now c.args.tree.now c.requires.numbered c.args.self.now c.requires.back c.requires.fresh c.requires.no_triangle c.requires.cut c.here-v.result c.args.last c.drop_cut.new.self c.here-v.ensures c.requires.last c.drop_cut.ensures c.frond_from-frond.result c.frond_from-frond.ensures.found
-    c.eject.new.self c.in_ok-name.ensures.ejected c.in_ok-name.name c.in_ok-name.ensures.name c.push_apart.new.self c.in_ok-push_apart.ensures.apart c.start_of-start.result (c.start_of-start.ensures ∙ ap (slice_index c.args.self.now.start) c.child.ensures)
+    c.split_off.new.self c.in_ok-name.ensures.split_off c.in_ok-name.name c.in_ok-name.ensures.name c.push_apart.new.self c.in_ok-push_apart.ensures.apart c.start_of-start.result (c.start_of-start.ensures ∙ ap (slice_index c.args.self.now.start) c.child.ensures)
 
 pub add_tree_edge-requires-clause-low : goal.add_tree_edge-requires-clause-low
 add_tree_edge-requires-clause-low g c = end-low-apart c.args.g.now c.args.tree.now c.requires.numbered c.args.self.now c.requires.back c.requires.fresh c.requires.no_triangle c.requires.cut c.here-v.result c.args.last c.drop_cut.new.self c.here-v.ensures c.requires.last c.drop_cut.ensures c.frond_from-frond.result c.frond_from-frond.ensures.found
-    c.eject.new.self c.in_ok-name.ensures.ejected c.in_ok-name.name c.in_ok-name.ensures.name c.push_apart.new.self c.in_ok-push_apart.ensures.apart c.start_of-start.result (c.start_of-start.ensures ∙ ap (slice_index c.args.self.now.start) c.child.ensures)
+    c.split_off.new.self c.in_ok-name.ensures.split_off c.in_ok-name.name c.in_ok-name.ensures.name c.push_apart.new.self c.in_ok-push_apart.ensures.apart c.start_of-start.result (c.start_of-start.ensures ∙ ap (slice_index c.args.self.now.start) c.child.ensures)
 
 pub returns-clause-reduced : goal.returns-clause-reduced
 returns-clause-reduced g c = IfOk-weaker c.add_tree_edge.result _ (λ x. IsReducedOnce c.args.g.now c.args.tree.now c.args.self.now c.add_tree_edge.new.self true)
     (λ x a. end-once c.args.g.now c.args.tree.now c.requires.numbered c.args.self.now c.requires.back c.requires.fresh c.requires.no_triangle c.requires.cut c.here-v.result c.args.last c.drop_cut.new.self c.here-v.ensures c.requires.last c.drop_cut.ensures c.frond_from-frond.result c.frond_from-frond.ensures.found
-    c.eject.new.self c.in_ok-name.ensures.ejected c.in_ok-name.name c.in_ok-name.ensures.name c.push_apart.new.self c.in_ok-push_apart.ensures.apart c.start_of-start.result (c.start_of-start.ensures ∙ ap (slice_index c.args.self.now.start) c.child.ensures) c.add_tree_edge.new.self a)
+    c.split_off.new.self c.in_ok-name.ensures.split_off c.in_ok-name.name c.in_ok-name.ensures.name c.push_apart.new.self c.in_ok-push_apart.ensures.apart c.start_of-start.result (c.start_of-start.ensures ∙ ap (slice_index c.args.self.now.start) c.child.ensures) c.add_tree_edge.new.self a)
     c.add_tree_edge.ensures.added
 
 pub returns-clause-cost : goal.returns-clause-cost
@@ -33,10 +33,10 @@ returns-clause-cost g c = IfOk-weaker c.add_tree_edge.result _ (λ x. c.add_tree
       arith,
       a,
       c.frond_from-frond.ensures.at_most,
-      c.eject.ensures.at_most,
+      c.split_off.ensures.at_most,
       c.in_ok-push_apart.ensures.weight,
       apart-one c.frond_from-frond.result,
       end-few c.args.g.now c.args.tree.now c.requires.numbered c.args.self.now c.requires.back c.requires.fresh c.requires.no_triangle c.requires.cut c.here-v.result c.args.last c.drop_cut.new.self c.here-v.ensures c.requires.last c.drop_cut.ensures c.frond_from-frond.result c.frond_from-frond.ensures.found,
-      end-weight c.args.g.now c.args.tree.now c.requires.numbered c.args.self.now c.requires.back c.requires.fresh c.requires.no_triangle c.requires.cut c.here-v.result c.args.last c.drop_cut.new.self c.here-v.ensures c.requires.last c.drop_cut.ensures c.eject.new.self c.in_ok-name.ensures.ejected,
+      end-weight c.args.g.now c.args.tree.now c.requires.numbered c.args.self.now c.requires.back c.requires.fresh c.requires.no_triangle c.requires.cut c.here-v.result c.args.last c.drop_cut.new.self c.here-v.ensures c.requires.last c.drop_cut.ensures c.split_off.new.self c.in_ok-name.ensures.split_off,
     ))
     c.add_tree_edge.ensures.cost

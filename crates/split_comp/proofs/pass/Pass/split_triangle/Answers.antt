@@ -4,21 +4,21 @@ use Rattle.split_comp.specs.Pass.{IsReducedOnce, weight}
 use Rattle.split_comp.proofs.SplitOff.{corner-can, corner-joins, corner-low, corner-weight, corner-once, two-items}
 use Rattle.split_comp.proofs.pass.Pass.split_triangle.Goals as goal
 
-pub eject-requires : goal.eject-requires
-eject-requires g c = record { can = corner-can c.args.g.now c.args.tree.now c.requires.numbered c.args.self.now c.requires.back c.requires.fresh c.requires.triangle c.here-v.result (c.height-place.result - 2) c.item_at-below.result c.here-v.ensures (ap (λ (k : ℕ). k - 2) c.height-place.ensures) c.item_at-below.ensures }
+pub split_off-requires : goal.split_off-requires
+split_off-requires g c = record { can = corner-can c.args.g.now c.args.tree.now c.requires.numbered c.args.self.now c.requires.back c.requires.fresh c.requires.triangle c.here-v.result (c.height-place.result - 2) c.item_at-below.result c.here-v.ensures (ap (λ (k : ℕ). k - 2) c.height-place.ensures) c.item_at-below.ensures }
 
 pub add_tree_edge-requires-clause-can : goal.add_tree_edge-requires-clause-can
 add_tree_edge-requires-clause-can g c = corner-joins c.args.g.now c.args.tree.now c.requires.numbered c.args.self.now c.requires.back c.requires.fresh c.requires.triangle c.here-v.result (c.height-place.result - 2) c.item_at-below.result c.here-v.ensures (ap (λ (k : ℕ). k - 2) c.height-place.ensures) c.item_at-below.ensures
-    c.eject.new.self c.in_ok-name.ensures.ejected c.in_ok-name.name c.in_ok-name.ensures.name
+    c.split_off.new.self c.in_ok-name.ensures.split_off c.in_ok-name.name c.in_ok-name.ensures.name
 
 pub add_tree_edge-requires-clause-low : goal.add_tree_edge-requires-clause-low
 add_tree_edge-requires-clause-low g c = corner-low c.args.g.now c.args.tree.now c.requires.numbered c.args.self.now c.requires.back c.requires.fresh c.requires.triangle c.here-v.result (c.height-place.result - 2) c.item_at-below.result c.here-v.ensures (ap (λ (k : ℕ). k - 2) c.height-place.ensures) c.item_at-below.ensures
-    c.eject.new.self c.in_ok-name.ensures.ejected c.in_ok-name.name c.in_ok-name.ensures.name
+    c.split_off.new.self c.in_ok-name.ensures.split_off c.in_ok-name.name c.in_ok-name.ensures.name
 
 pub returns-clause-reduced : goal.returns-clause-reduced
 returns-clause-reduced g c = IfOk-weaker c.add_tree_edge.result _ (λ x. IsReducedOnce c.args.g.now c.args.tree.now c.args.self.now c.add_tree_edge.new.self true)
     (λ x a. corner-once c.args.g.now c.args.tree.now c.requires.numbered c.args.self.now c.requires.back c.requires.fresh c.requires.triangle c.here-v.result (c.height-place.result - 2) c.item_at-below.result c.here-v.ensures (ap (λ (k : ℕ). k - 2) c.height-place.ensures) c.item_at-below.ensures
-    c.eject.new.self c.in_ok-name.ensures.ejected c.in_ok-name.name c.in_ok-name.ensures.name c.add_tree_edge.new.self a)
+    c.split_off.new.self c.in_ok-name.ensures.split_off c.in_ok-name.name c.in_ok-name.ensures.name c.add_tree_edge.new.self a)
     c.add_tree_edge.ensures.added
 
 pub returns-clause-cost : goal.returns-clause-cost
@@ -26,10 +26,10 @@ returns-clause-cost g c = IfOk-weaker c.add_tree_edge.result _ (λ x. c.add_tree
     (λ x a. omega (
       arith,
       a,
-      c.eject.ensures.at_most,
+      c.split_off.ensures.at_most,
       c.height-place.ensures,
       two-items c.args.g.now c.args.tree.now c.requires.numbered c.args.self.now c.requires.back,
       corner-weight c.args.g.now c.args.tree.now c.requires.numbered c.args.self.now c.requires.back c.requires.fresh c.requires.triangle c.here-v.result (c.height-place.result - 2) c.item_at-below.result c.here-v.ensures (ap (λ (k : ℕ). k - 2) c.height-place.ensures) c.item_at-below.ensures
-          c.eject.new.self c.in_ok-name.ensures.ejected c.in_ok-name.name c.in_ok-name.ensures.name,
+          c.split_off.new.self c.in_ok-name.ensures.split_off c.in_ok-name.name c.in_ok-name.ensures.name,
     ))
     c.add_tree_edge.ensures.cost

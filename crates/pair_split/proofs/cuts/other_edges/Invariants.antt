@@ -1,7 +1,0 @@
-use Rattle.std.proofs.Common.{◌≡◌, ◌∷◌, take}
-use Rattle.pair_split.specs.Family.{off_side}
-use Rattle.pair_split.specs.Lumps.{entry_of, family_of, marked}
-use Rattle.pair_split.proofs.cuts.other_edges.Given as goal
-
-abbrev pub invariant-loop-edge : goal.invariant-loop-edge
-invariant-loop-edge l = family_of l.kept.items ≡ entry_of l.fn.own ∷ off_side (marked l.marks) (family_of (take l.edge-index l.edges))

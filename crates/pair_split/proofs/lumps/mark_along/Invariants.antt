@@ -1,6 +1,0 @@
-use Rattle.std.proofs.Common.{◌≡◌, ℕ, take}
-use Rattle.pair_split.specs.Lumps.{family_of, in_lump, has_label, marked, side_of}
-use Rattle.pair_split.proofs.lumps.mark_along.Given as goal
-
-abbrev pub invariant-loop-edge : goal.invariant-loop-edge
-invariant-loop-edge l = (n : ℕ) → marked l.marks n ≡ side_of (family_of (take l.edge-index l.edges)) (in_lump l.a l.b (has_label l.labels l.label)) n

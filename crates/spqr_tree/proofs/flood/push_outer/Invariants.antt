@@ -1,6 +1,0 @@
-use Rattle.std.proofs.Common.{take}
-use Rattle.spqr_tree.specs.Flood.{IsPushed}
-use Rattle.spqr_tree.proofs.flood.push_outer.Given as goal
-
-abbrev pub invariant-loop-piece : goal.invariant-loop-piece
-invariant-loop-piece l = IsPushed l.initial.stack.items l.stack.items l.lead l.k (take l.piece-index l.pieces)
