@@ -1,7 +1,7 @@
 -- The groups of the edges, noted node by node, and the edges by their notes.
-use Rattle.std.proofs.Common.{◌≡◌, ℕ, ◌+◌, ◌<◌, ◌⊎◌, ◌==◌, inl, inr, List, [], ◌∷◌, ◌++◌, length, replicate, set, get_or, refl, sym, ap, ◌∙◌, subst, arith}
+use Rattle.std.proofs.Common.{◌≡◌, ℕ, ◌+◌, ◌<◌, ◌⊎◌, ◌==◌, inl, inr, List, [], ◌∷◌, ◌++◌, length, set, get_or, refl, sym, ap, ◌∙◌, subst, arith}
 use Rattle.std.proofs.lemmas.Bool.{cases_eq, eq-eqb, ne_eqb}
-use Rattle.std.proofs.lemmas.List.{length-set, get_or-set_same, get_or-set_other, length-replicate, get_or-replicate}
+use Rattle.std.proofs.lemmas.List.{length-set, get_or-set_same, get_or-set_other}
 use Rattle.multigraph.specs.Graph.{Multigraph, edge_count}
 use Rattle.multigraph.proofs.Below.{filter_below-yes, filter_below-no}
 use Rattle.pair_split.specs.Tutte.{Node, components, node_at, node_item, has_in_group, IsTutte}
@@ -48,10 +48,6 @@ module _ (g : Multigraph) (nodes : List Node) (t : IsTutte g nodes) (k : ℕ) wh
       let w = t.split.covers.present e l in
       let i = item-of g nodes t w.0 w.1 (Real e) w.2 in
       a w.0 e (subst (λ z. w.0 < z) q (node-in g nodes t w.0 (stands-in comps w.0 w.1 (Real e) w.2))) (w.1, i.0, i.1)
-
--- no number yet
-pub parted-none : (notes : List ℕ) (count : ℕ) → AreParted notes 0 count (replicate count [])
-parted-none notes count = record { each = length-replicate count []; parts = λ i l. get_or-replicate count i [] [] l }
 
 -- one number more, behind the list of its note
 pub parted-more : (notes : List ℕ) (e count i : ℕ) (old new : List (List ℕ)) → AreParted notes e count old → note_of notes e ≡ i → i < count → new ≡ set old i (get_or old i [] ++ e ∷ []) → AreParted notes (e + 1) count new

@@ -27,4 +27,3 @@ pub mod Rounds
 pub mod InsertPath
 pub mod SmoothPaths
 pub mod Parts
-pub mod OneMore

@@ -3,7 +3,7 @@ use Rattle.std.proofs.Common.{◌≡◌, ◌≢◌, ℕ, ◌+◌, ◌<◌, ◌�
 use Rattle.permutations.specs.Permutation.{iterate}
 use Rattle.multigraph.specs.Graph.{Multigraph, edge_count, is_end, other_end, incident_edges}
 use Rattle.palm_tree.specs.State.{SearchState, frond_noted}
-use Rattle.palm_tree.specs.Searching.{flag, IsGrown, IsSeen, OnPath, IsSearching}
+use Rattle.palm_tree.specs.Searching.{flag, IsGrown, IsSeen, IsSearching}
 use Rattle.palm_tree.proofs.Writes.{number-same, number-other, flag-cases, flag-kept, flags-differ}
 use Rattle.palm_tree.proofs.Ancestors.{path-up}
 
@@ -57,9 +57,6 @@ module _ (g : Multigraph) (s : SearchState) (v e j i : ℕ) (k : IsSearching g s
   -- the edge leads to a proper ancestor
   upper-here : iterate (λ q. get_or s.parent q 0) (i + 1) v ≡ other_end g e v
   upper-here = ap (iterate (λ q. get_or s.parent q 0) (i + 1)) (sym f.here) ∙ (path-up g s.visited s.parent s.depth s.path k.on_path (i + 1) j f.within ∙ f.there)
-
-  on-here : OnPath s.path v
-  on-here = record { place = j + (i + 1); within = f.within; is = f.here }
 
   grown : IsGrown g s.visited s.parent s.depth s.parent_edge seen' lower'
   grown = record {

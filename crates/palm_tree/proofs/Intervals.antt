@@ -51,13 +51,6 @@ module _ (g : Multigraph) (gg : IsGraph g) (s : SearchState) (o : IsOver g s) wh
       rd : get_or s.depth r 0 ≡ 0
       rd = omega (arith, chain-depth g (λ k. get_or s.parent k 0) (λ k. get_or s.depth k 0) (λ k. get_or s.parent_edge k 0) (λ e. get_or s.lower e 0) (forest g gg s o) (get_or s.depth 0 0) 0 l (omega arith))
 
-  -- every vertex is below the root
-  pub below-root : (v : ℕ) → v < g.vertex_count → Below s 0 v
-  below-root v l = record { steps = get_or s.depth v 0; within = omega arith; leads = o.searching.one_root r (o.visited r (chain-in g (λ k. get_or s.parent k 0) (λ k. get_or s.depth k 0) (λ k. get_or s.parent_edge k 0) (λ e. get_or s.lower e 0) (forest g gg s o) (get_or s.depth v 0) v l (omega arith))) (omega (arith, chain-depth g (λ k. get_or s.parent k 0) (λ k. get_or s.depth k 0) (λ k. get_or s.parent_edge k 0) (λ e. get_or s.lower e 0) (forest g gg s o) (get_or s.depth v 0) v l (omega arith))) }
-    where
-      r : ℕ
-      r = iterate (λ k. get_or s.parent k 0) (get_or s.depth v 0) v
-
   module _ (size offset children number : List ℕ) (z : AreSizes g s size) (k : AreChildren g s children) (a : AreOffsets g s size children offset) (n : AreNumbersSoFar g s size offset s.order number) where
     pub root-number : (v : ℕ) → v < g.vertex_count → get_or s.depth v 0 ≡ 0 → get_or number v 0 ≡ 0
     root-number v l d = n.root v (order-member g gg s o v l) d

@@ -7,7 +7,6 @@ use Rattle.graph_theory.specs.SearchTree.{IsSearchForest}
 use Rattle.graph_theory.proofs.Connection.{first-is_end}
 use Rattle.palm_tree.specs.State.{SearchState}
 use Rattle.palm_tree.specs.Searching.{flag, degree, OnPath, IsSearching, IsOver}
-use Rattle.palm_tree.proofs.Writes.{flag-in}
 
 -- nothing is on an empty path
 pub off-empty : (path : List ℕ) → path ≡ [] → (v : ℕ) → OnPath path v → ⊥
@@ -31,10 +30,6 @@ over-seen g gg s o e l = from (incident-has g v e l (first-is_end g e))
         let f : get_or (incident_edges g v) c.0 0 ≡ e = get_or_default (incident_edges g v) c.0 0 e c.1 ∙ c.2 in
         subst (λ (z : ℕ). flag s.seen z ≡ true) f (o.searching.looked.looked v vl c.0 (omega (arith, done, c.1)))
 
--- a seen edge is an edge
-pub seen-in : (g : Multigraph) (s : SearchState) → IsSearching g s → (e : ℕ) → flag s.seen e ≡ true → e < edge_count g
-seen-in g s k e h = omega (arith, flag-in s.seen e h, k.places.seen)
-
 -- the search forest
 pub over-forest : (g : Multigraph) → IsGraph g → (s : SearchState) → IsOver g s → IsSearchForest g (λ v. get_or s.parent v 0) (λ v. get_or s.depth v 0) (λ v. get_or s.parent_edge v 0) (λ e. get_or s.lower e 0)
 over-forest g gg s o = record {
@@ -50,9 +45,3 @@ over-forest g gg s o = record {
   where
     k : IsSearching g s
     k = o.searching
-
--- the lower end of an edge is a vertex
-pub over-lower_in : (g : Multigraph) → IsGraph g → (s : SearchState) → IsOver g s → (e : ℕ) → e < length s.lower → get_or s.lower e 0 < g.vertex_count
-over-lower_in g gg s o e l =
-    let k = o.searching in
-    omega (arith, flag-in s.visited (get_or s.lower e 0) (k.edges.lower_visited e (over-seen g gg s o e (omega (arith, l, k.places.lower)))), k.places.visited)

@@ -51,9 +51,6 @@ module _ (g h : Multigraph) (e x y : ℕ) (edge vertex : ℕ → ℕ) (ok : IsGr
   abbrev middle : ℕ
   middle = dart_from g x e
 
-  abbrev big : ℕ → ℕ
-  big = carried g h e x y edge (dart_after h t)
-
   numbering : IsNumbering (dart_count h) (dart_count g) kept into (moved (place h edge))
   numbering = kept-numbering g h e x y edge vertex ok con
 
@@ -369,10 +366,6 @@ module _ (g h : Multigraph) (e x y : ℕ) (edge vertex : ℕ → ℕ) (ok : IsGr
   expanded-system =
       let w = map-orders g ok two two_back two-part.is_map (λ c d l k. two-part.vertices c d l k (all-live c l) (all-live d k)) in
       (w.0, w.1, map-plane g w.0 ok w.1 (plane-ext (edge_count g) two (dart_after g w.0) (λ d l. sym (w.2 d l)) two-part.plane), w.2)
-
-  -- each rotation system with these steps is plane
-  pub expanded-plane : (r : List (List ℕ)) → IsRotationSystem g r → ((d : ℕ) → d < dart_count g → dart_after g r d ≡ expanded g h e x y edge t first last d) → IsPlane g r
-  expanded-plane r s steps = map-plane g r ok s (plane-ext (edge_count g) two (dart_after g r) (λ d l. sym (steps d l)) two-part.plane)
 
   -- the darts that do not stay are alone in the map without the edges to common neighbours
   wide-gone : (z : ℕ) → z < dart_count g → stays g e x y z ≡ false → wide z ≡ z

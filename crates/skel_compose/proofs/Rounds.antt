@@ -1,7 +1,7 @@
 -- Cyclic orders read from the successors, and put into lists.
 use Rattle.std.proofs.Common.{◌≡◌, ◌≢◌, ℕ, zero, suc, ◌+◌, ◌-◌, ◌<◌, inl, inr, true, List, [], ◌∷◌, ◌++◌, length, get_or, refl, sym, ap, ap₂, ◌∙◌, subst, arith, append_assoc, append-nil, IsPermutation}
 use Rattle.std.proofs.lemmas.Bool.{eq-eqb, ne_eqb}
-use Rattle.std.proofs.lemmas.List.{get_or-map, length-map, map-append}
+use Rattle.std.proofs.lemmas.List.{get_or-map, length-map}
 use Rattle.permutations.specs.Cyclic.{first_or, successor, turned}
 use Rattle.permutations.specs.Members.{is_member, is_distinct}
 use Rattle.permutations.specs.Ring.{images}
@@ -54,13 +54,6 @@ entry-at r n v l = get_or-map (λ w. (w, order_at r w)) (numbers_below n) v 0 (0
 
 pub entries-number : (r : List (List ℕ)) (n : ℕ) → length (orders_below r n) ≡ n
 entries-number r n = length-map (numbers_below n) (λ v. (v, order_at r v)) ∙ length-numbers_below n
-
--- one entry more
-pub entries-more : (r : List (List ℕ)) (n : ℕ) (edges : List ℕ) → edges ≡ order_at r n → orders_below r n ++ (n, edges) ∷ [] ≡ orders_below r (n + 1)
-entries-more r n edges e = ap (λ (z : List ℕ). orders_below r n ++ (n, z) ∷ []) e ∙ sym (ap (orders_below r) one ∙ map-append (λ v. (v, order_at r v)) (numbers_below n) (n ∷ []))
-  where
-    one : n + 1 ≡ suc n
-    one = omega arith
 
 -- the next vertex is above those so far
 pub entries-above : (r : List (List ℕ)) (n : ℕ) → IsAbove (orders_below r n) n

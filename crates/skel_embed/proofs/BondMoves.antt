@@ -2,7 +2,7 @@
 use Rattle.std.proofs.Common.{◌≡◌, ◌≢◌, ℕ, ◌-◌, ◌<◌, true, List, [], ◌∷◌, ◌++◌, length, reverse, slice_index_or, refl, sym, ap, ◌∙◌, subst, arith, IsPermutation}
 use Rattle.std.proofs.lemmas.Bool.{both_ways}
 use Rattle.std.proofs.lemmas.List.{reverse-append, length-reverse}
-use Rattle.std.proofs.lemmas.List.Sorted.{IsPermutation-trans, IsPermutation-sym, IsPermutation-map, IsPermutation-refl}
+use Rattle.std.proofs.lemmas.List.Sorted.{IsPermutation-trans, IsPermutation-sym, IsPermutation-map}
 use Rattle.permutations.specs.Cyclic.{first_or, last_or, from_least, IsTurn}
 use Rattle.permutations.specs.Members.{is_member, is_distinct}
 use Rattle.permutations.specs.Runs.{group_keys, InRuns}
@@ -28,11 +28,6 @@ use Rattle.skeleton_runs.proofs.Contiguous.{plane-contiguous}
 use Rattle.skeleton_choices.proofs.Rounds.{map-reverse}
 use Rattle.skeleton_choices.proofs.Plane.{Parts, parts, same-round, plane-bond, choice-round}
 use Rattle.skel_embed.specs.Exchanges.{other_of, exchanged, AreExchanged, HasKeys}
-use Rattle.skel_embed.proofs.ExchangeSteps.{exchanged-same}
-
--- the same key twice: nothing changes
-pub exchanged-self : (key : ℕ → ℕ) (a b : ℕ) (l : List ℕ) → a ≡ b → AreExchanged key a b l l
-exchanged-self key a b l e gs r = record { before = gs; after = gs; runs_before = r; runs_after = r; same_groups = IsPermutation-refl gs; order = sym (exchanged-same a (group_keys gs)) ∙ ap (λ z. exchanged a z (group_keys gs)) e }
 
 -- groups cut where their keys are
 cut-keys : (gs : List (ℕ × List ℕ)) (a b : List ℕ) → group_keys gs ≡ a ++ b → (us : List (ℕ × List ℕ)) × (ws : List (ℕ × List ℕ)) × (gs ≡ us ++ ws) × (group_keys us ≡ a) × (group_keys ws ≡ b)
