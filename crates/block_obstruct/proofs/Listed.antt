@@ -36,7 +36,7 @@ push-other list x y n = same-tests (is_member y (list ++ x ∷ [])) (is_member y
     (λ m. member-append_left y list (x ∷ []) m)
 
 -- the number behind a list is a member
-push-same : (list : List ℕ) (x : ℕ) → is_member x (list ++ x ∷ []) ≡ true
+pub push-same : (list : List ℕ) (x : ℕ) → is_member x (list ++ x ∷ []) ≡ true
 push-same list x = member-append_right x list (x ∷ []) (member-head x [])
 
 -- a number without a mark does not stand on the list
@@ -71,9 +71,6 @@ grows-more marks notes list x note a l h = record {
     ]
   ];
 }
-
-pub held-more : (list : List ℕ) (x : ℕ) → is_member x (list ++ x ∷ []) ≡ true
-held-more = push-same
 
 -- there are no more numbers on the list than marks
 pub listed-few : (marks : List Bool) (notes list : List ℕ) → AreListed marks notes list → length list ≤ length marks

@@ -18,6 +18,5 @@ mod Found
 mod Places
 mod Meeting
 mod Collected
-mod Rising
 pub mod OneStructure
 mod OneBlock

@@ -3,8 +3,8 @@ use Rattle.std.proofs.Common.{◌≡◌, ℕ, ◌<◌, inl, inr, true, List, [],
 use Rattle.std.proofs.lemmas.List.{get_or_default}
 use Rattle.multigraph.specs.Graph.{Multigraph, edge_count, ends_of, incident_edges, IsGraph}
 use Rattle.multigraph.proofs.Incident.{incident-has}
+use Rattle.multigraph.proofs.OtherEnd.{is_end-first}
 use Rattle.graph_theory.specs.SearchTree.{IsSearchForest, LeadsTo, AreLowPoints}
-use Rattle.graph_theory.proofs.Connection.{first-is_end}
 use Rattle.blocks.specs.State.{SearchState}
 use Rattle.blocks.specs.Searching.{flag, degree, OnPath, SeenLeadsTo, IsSearching, IsOver}
 use Rattle.blocks.proofs.Writes.{flag-in}
@@ -15,7 +15,7 @@ off-empty path e v o = absurd (omega (arith, o.within, ap length e))
 
 -- every edge was seen
 pub over-seen : (g : Multigraph) → IsGraph g → (s : SearchState) → IsOver g s → (e : ℕ) → e < edge_count g → flag s.seen e ≡ true
-over-seen g gg s o e l = from (incident-has g v e l (first-is_end g e))
+over-seen g gg s o e l = from (incident-has g v e l (is_end-first g e))
   where
     v : ℕ
     v = (ends_of g e).0

@@ -17,7 +17,7 @@ use Rattle.planarity.specs.Expansion.{moved}
 use Rattle.dart_maps.proofs.Darts.{twin-below}
 use Rattle.planarity.proofs.ContractedDarts.{middle-below}
 use Rattle.planarity.proofs.JoinedDarts.{joined-dart, dart-turned, between-is}
-use Rattle.planarity.proofs.CarriedMaps.{IsNumbering, outer-live, outer-dead}
+use Rattle.dart_maps.proofs.CarriedMaps.{IsNumbering, outer-live, outer-dead}
 use Rattle.planarity.proofs.ContractedSystem.{kept-numbering}
 use Rattle.planarity.proofs.ExpandedApart.{carried}
 use Rattle.planarity.proofs.ExpandedPlane.{expanded-system}

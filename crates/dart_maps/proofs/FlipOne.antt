@@ -12,9 +12,10 @@ use Rattle.dart_maps.specs.Map.{twin, face, IsMap, same_vertex, same_component, 
 use Rattle.dart_maps.proofs.Darts.{twin-below}
 use Rattle.dart_maps.proofs.Components.{vertex-component, component-finer}
 use Rattle.permutations.proofs.Classes.{class_count-same}
+use Rattle.permutations.proofs.TurnedOver.{turned_over, turned-keeps, turned-outside, turned-inside, turned-permutes, turned-orbit}
 use Rattle.dart_maps.specs.Flip.{IsRun, IsFlipAtOne, IsFlipAlone}
 use Rattle.dart_maps.proofs.Steps.{back_after, step-map, faces-joined}
-use Rattle.dart_maps.proofs.TurnOver.{turned_over, turned-keeps, turned-outside, turned-inside, turned-permutes, turned-orbit, turned-faces, turned-vertices}
+use Rattle.dart_maps.proofs.TurnOver.{turned-faces, turned-vertices}
 use Rattle.dart_maps.proofs.FlipCounts.{test-apart}
 
 -- a map and the map with whole components turned over

@@ -13,6 +13,7 @@ pub mod Noncrossing
 pub mod LinkNoncrossing
 pub mod Glue
 pub mod Renumber
+pub mod CarriedMaps
 pub mod Bond
 pub mod TurnOver
 pub mod FlipCounts

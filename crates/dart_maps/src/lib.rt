@@ -32,7 +32,7 @@
 //   FourDarts    four-darts, frozen-here, frozen-elsewhere: the core of noncrossing, at a vertex of four darts
 //   Noncrossing  noncrossing, restricted-vertex, restricted-more; LinkNoncrossing link-noncrossing, turn-at
 //   Bond         bond-plane, bond-plane-back, involution-count, pairs-involution
-//   TurnOver     turned-faces, turned-orbit; Flip flip-vertex, flip-faces, flip-component, flip-defect; FlipOne one-faces
+//   TurnOver     turned-faces; Flip flip-vertex, flip-faces, flip-component, flip-defect; FlipOne one-faces
 //   Rounds       ring-in-order, ring-in-turn: the order round a vertex, from its ring as a list
 #![tactic(auto)]
 

@@ -8,7 +8,8 @@ use Rattle.permutations.specs.Permutation.{iterate}
 use Rattle.permutations.proofs.Members.{member-head, member-append, member-append_right, no_member-cons, distinct-append}
 use Rattle.permutations.proofs.Arrangements.{member-at}
 use Rattle.multigraph.specs.Graph.{Multigraph, edge_count, is_end, other_end, incident_edges}
-use Rattle.graph_theory.proofs.Ends.{other-is_end, other-other}
+use Rattle.multigraph.proofs.OtherEnd.{other_end-is_end}
+use Rattle.graph_theory.proofs.Ends.{other-other}
 use Rattle.palm_tree.specs.State.{SearchState, child_noted}
 use Rattle.palm_tree.specs.Searching.{flag, IsOnPath, IsGrown, IsSeen, IsOrdered, OnPath, IsSearching}
 use Rattle.palm_tree.proofs.Writes.{number-same, number-other, flag-same, flag-other, flag-cases, flag-kept, flags-differ}
@@ -161,7 +162,7 @@ module _ (g : Multigraph) (s : SearchState) (v e w k : ℕ) (b : IsSearching g s
   depth-here = ap (λ (z : ℕ). get_or s.depth z 0) (sym f.here) ∙ b.on_path.deep k (omega (arith, f.last))
 
   child-end : is_end g w e ≡ true
-  child-end = subst (λ (z : ℕ). is_end g z e ≡ true) f.leads (other-is_end g e v)
+  child-end = subst (λ (z : ℕ). is_end g z e ≡ true) f.leads (other_end-is_end g e v)
 
   child-leads : other_end g e w ≡ v
   child-leads = ap (other_end g e) (sym f.leads) ∙ other-other g e v f.is_end

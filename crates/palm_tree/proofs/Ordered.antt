@@ -5,6 +5,7 @@ use Rattle.std.proofs.lemmas.Bool.{cases_Bool, cases_lt, eq-eqb, eqb-true, both_
 use Rattle.permutations.specs.Members.{is_member, is_distinct}
 use Rattle.permutations.proofs.Filter.{distinct-filter}
 use Rattle.permutations.proofs.Arrangements.{member-at}
+use Rattle.permutations.proofs.Places.{places-differ}
 use Rattle.multigraph.specs.Graph.{Multigraph, edge_count, other_end, IsGraph}
 use Rattle.graph_theory.specs.Block.{IsOneBlock}
 use Rattle.graph_theory.specs.Side.{IsCommon}
@@ -18,7 +19,7 @@ use Rattle.palm_tree.specs.Searching.{IsOver}
 use Rattle.palm_tree.specs.Growing.{LowVertices, is_tree_edge, upper_end, begin_of, sort_key, hangs, tree_edges, lower_ends, numbering_order, IsBefore, IsSortedByKeys, AreEdges, AreLowVertices, AreSizes, AreChildren, AreOffsets, AreNumbersSoFar, AreFound}
 use Rattle.palm_tree.proofs.Grown.{forest, lower-end, lower-in, lower-deep, upper-in, upper-below, tree-upper, tree-is, parent-in, parent-depth}
 use Rattle.palm_tree.proofs.Lows.{first-in, second-in}
-use Rattle.palm_tree.proofs.Orders.{distinct-places, before-places, before-at, before-filter, filter-before, before-reverse, before-map, before-left, before-right}
+use Rattle.palm_tree.proofs.Orders.{before-places, before-at, before-filter, filter-before, before-reverse, before-map, before-left, before-right}
 use Rattle.palm_tree.proofs.Intervals.{Below, trans, same, up, comparable, deeper, in-order, strictly, child-number, children-rise}
 use Rattle.palm_tree.proofs.Palm.{dart-from, mark-tree, tree-mark, other-mark}
 use Rattle.palm_tree.proofs.LowPoints.{first-above, second-above, taken-all}
@@ -329,4 +330,4 @@ module _ (g : Multigraph) (gg : IsGraph g) (s : SearchState) (o : IsOver g s) (l
       child d dl td u = ap (other_end g d) (sym u) ∙ other-other g d (get_or s.lower d 0) (lower-end g gg s o d dl)
 
       differs : e ≢ f'
-      differs = distinct-places (darts_of t v) i j (subst (λ (x : List ℕ). is_distinct x ≡ true) (sym (f.darts.edges_at v vl)) (distinct-filter (λ d. begin_of g s d == v) edges q.distinct)) h l
+      differs = places-differ (darts_of t v) i j (subst (λ (x : List ℕ). is_distinct x ≡ true) (sym (f.darts.edges_at v vl)) (distinct-filter (λ d. begin_of g s d == v) edges q.distinct)) h l

@@ -4,7 +4,8 @@ use Rattle.std.proofs.lemmas.Bool.{cases_lt, both_ways}
 use Rattle.std.proofs.lemmas.List.{get_or_default}
 use Rattle.multigraph.specs.Graph.{Multigraph, edge_count, is_end, other_end, incident_edges, IsGraph}
 use Rattle.multigraph.proofs.Incident.{incident-has}
-use Rattle.graph_theory.proofs.Ends.{other-is_end, other-differs, end-in}
+use Rattle.multigraph.proofs.OtherEnd.{other_end-is_end}
+use Rattle.graph_theory.proofs.Ends.{other-differs, end-in}
 use Rattle.palm_tree.specs.State.{SearchState, frond_noted, child_noted}
 use Rattle.palm_tree.specs.Searching.{flag, degree, IsSearching, IsLast, OnPath, IsSeenAt}
 use Rattle.palm_tree.proofs.Writes.{flag-same, flag-kept}
@@ -29,7 +30,7 @@ unseen-on g s w e k l h m i u = elim (k.looked.finished w h) [
 
 -- the edge leads to a vertex that was visited
 pub see-frond : (g : Multigraph) → IsGraph g → (s : SearchState) (v e : ℕ) → IsSearching g s → IsLast s v → e < edge_count g → is_end g v e ≡ true → flag s.seen e ≡ false → flag s.visited (other_end g e v) ≡ true → IsSeenAt g s (frond_noted s v e) v e
-see-frond g gg s v e k l m i u h = made (unseen-on g s w e k (end-in g gg e w m (other-is_end g e v)) h m (other-is_end g e v) u)
+see-frond g gg s v e k l m i u h = made (unseen-on g s w e k (end-in g gg e w m (other_end-is_end g e v)) h m (other_end-is_end g e v) u)
   where
     w : ℕ
     w = other_end g e v
@@ -83,4 +84,4 @@ see-child g gg s v e k l m i u h = record {
     w = other_end g e v
 
     wl : w < g.vertex_count
-    wl = end-in g gg e w m (other-is_end g e v)
+    wl = end-in g gg e w m (other_end-is_end g e v)

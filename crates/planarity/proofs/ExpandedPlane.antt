@@ -23,7 +23,7 @@ use Rattle.faces.proofs.MapParts.{place}
 use Rattle.planarity.specs.Expansion.{moved, stays, FallsInRuns, IsContractedSystem}
 use Rattle.planarity.proofs.SimpleDarts.{tail-other, simple-dart}
 use Rattle.planarity.proofs.ContractedDarts.{stays-gone, stays-off, contracted-not_kept, middle-below, middle-tail, middle-twin, middle-cases, ends-differ, moved-tail, moved-twin, middle-not, stays-not, stays-kept, stays-edge}
-use Rattle.planarity.proofs.CarriedMaps.{IsNumbering}
+use Rattle.dart_maps.proofs.CarriedMaps.{IsNumbering}
 use Rattle.planarity.proofs.ContractedSystem.{kept-numbering}
 use Rattle.planarity.proofs.JoinedDarts.{joined-dart, dart-turned, dart-joined, dart_between, between-is, kept-away, dropped-from, Dropped, dropped-dart}
 use Rattle.planarity.proofs.ExpandedApart.{IsPart, carried, opened, opened_back, big-steps, big-alone, open-part, open-middle, open-last, open-end, open-other, open-contracted}

@@ -7,12 +7,13 @@ use Rattle.permutations.specs.Cyclic.{first_or, successor, predecessor, from_lea
 use Rattle.permutations.specs.Exchange.{exchange}
 use Rattle.permutations.proofs.Members.{member-head, member-append_right}
 use Rattle.permutations.proofs.Successor.{predecessor-member, successor-predecessor}
+use Rattle.permutations.proofs.Arrangements.{contains-from_member}
 use Rattle.ring_arena.specs.Links.{Links, AreInverse, AreNow, reversed_at}
 use Rattle.rotations.specs.Rotation.{order_at}
 use Rattle.rotations.specs.Rings.{dart_at, turns, orders, AreRings, StandOnRings}
 use Rattle.rotations.specs.Runs.{IsParted, IsOutside, IsRunMoved, IsRunTurned, IsKeptElsewhere, mirror_image}
 use Rattle.rotations.specs.declared.rings.Ring.{Ring}
-use Rattle.rotations.proofs.Membership.{member-from_contains, contains-from_member}
+use Rattle.rotations.proofs.Membership.{member-from_contains}
 use Rattle.rotations.proofs.Steps.{order-ring, kept-dart, kept-next_in}
 use Rattle.rotations.proofs.Reorder.{length-turns}
 use Rattle.rotations.proofs.Ends.{leave-ends}

@@ -8,8 +8,9 @@ use Rattle.std.proofs.lemmas.List.Sorted.{length_permutation}
 use Rattle.std.proofs.lemmas.Bool.{cases_eq, cases_Bool, eq-eqb, ne_eqb, both_ways, true≢false}
 use Rattle.permutations.specs.Members.{is_member, is_distinct}
 use Rattle.permutations.proofs.Members.{member-head, member-append_left, member-append_right, member-append_cases, member-cases, no_member-append, no_member-cons, distinct-append, distinct-append_apart}
+use Rattle.permutations.proofs.Arrangements.{member-at}
 use Rattle.multigraph.specs.Graph.{Multigraph, edge_count, incident_edges}
-use Rattle.rotations.proofs.Membership.{incident-distinct, member-edge, member-at}
+use Rattle.rotations.proofs.Membership.{incident-distinct, member-edge}
 use Rattle.rotations.proofs.Arrangements.{permutation-member_back, permutation-distinct, permutation-from_members}
 
 -- the edges of a front of the list of v: each is at v, none is there twice, and they are the ones that are marked v + 1

@@ -1,21 +1,22 @@
 -- Lists in the numbers of a whole graph, and the same lists in those of a part.
-use Rattle.std.proofs.Common.{◌≡◌, ◌≢◌, ℕ, zero, suc, ◌+◌, ◌-◌, ◌<◌, ◌≤◌, ◌⊎◌, true, false, cond, eqb, List, [], ◌∷◌, length, map, get_or, refl, sym, ap, ◌∙◌, subst, inl, inr, arith}
+use Rattle.std.proofs.Common.{◌≡◌, ◌≢◌, ℕ, zero, suc, ◌+◌, ◌-◌, ◌<◌, ◌≤◌, true, false, eqb, List, [], ◌∷◌, length, map, get_or, refl, sym, ap, ◌∙◌, subst, inl, inr, arith}
 use Rattle.std.specs.List.{Contains}
 use Rattle.std.specs.List.Sorted.{IsPermutation}
 use Rattle.std.proofs.lemmas.List.{length-map, map-append, get_or_default, nil_from_length}
 use Rattle.std.proofs.lemmas.List.Sorted.{IsPermutation-map, length_permutation}
-use Rattle.std.proofs.lemmas.Bool.{cases_eq, cases_lt, eq-eqb, ne_eqb, cond-true, cond-false, both_ways, true≢false, false_from_ne_true}
+use Rattle.std.proofs.lemmas.Bool.{cases_eq, cases_lt, eq-eqb, ne_eqb, cond-true, cond-false, both_ways, false_from_ne_true}
 use Rattle.permutations.specs.Members.{is_member}
 use Rattle.permutations.specs.Cyclic.{first_or, turned}
-use Rattle.permutations.proofs.Members.{member-head, member-tail, member-cases, member-append_left, cut_at}
+use Rattle.permutations.proofs.Members.{member-head, member-tail, member-append_left, cut_at}
 use Rattle.permutations.proofs.Turned.{turned-cut}
-use Rattle.multigraph.specs.Graph.{edge_count, incident_edges}
+use Rattle.permutations.proofs.Mapped.{map-member}
+use Rattle.multigraph.specs.Graph.{incident_edges}
 use Rattle.multigraph.specs.Part.{GraphPart, Rises, IsNumbered}
 use Rattle.multigraph.proofs.Places.{rises-once}
 use Rattle.rotations.specs.Entries.{entry, IsRising, IsNamed, list_at}
-use Rattle.rotations.specs.Given.{IsArranged, AreArranged, IsBad, IsFirstBad, given_order}
-use Rattle.rotations.specs.PartLists.{outer_edges, outer_list, ArrangePart, IsBadInPart, IsFirstBadInPart, outer_order, place_in, AreInnerBelow, IsFirstStranger}
-use Rattle.rotations.proofs.Membership.{member-edge, member-at}
+use Rattle.rotations.specs.Given.{IsArranged, AreArranged, IsFirstBad, given_order}
+use Rattle.rotations.specs.PartLists.{outer_edges, outer_list, ArrangePart, IsFirstBadInPart, outer_order, place_in, AreInnerBelow, IsFirstStranger}
+use Rattle.rotations.proofs.Membership.{member-edge}
 use Rattle.rotations.proofs.Arrangements.{permutation-member, permutation-member_back}
 use Rattle.rotations.proofs.Cursor.{list_at-found}
 
@@ -41,20 +42,12 @@ place-back (y ∷ ys) x m = elim (cases_eq y x) [
 pub place-at : (l : List ℕ) (i : ℕ) → Rises l → i < length l → place_in l (get_or l i 0) ≡ i
 place-at l i r m = place-first l (get_or l i 0) i m (λ j n e. omega (arith, rises-once l r j i (omega arith) m e)) refl
 
--- what stands in a mapped list is the image of a member
-pub member-map : (f : ℕ → ℕ) (l : List ℕ) (w : ℕ) → is_member w (map f l) ≡ true → (z : ℕ) × (is_member z l ≡ true) × (f z ≡ w)
-member-map f [] w m = absurd (true≢false (sym m))
-member-map f (x ∷ xs) w m = elim (member-cases w (f x) (map f xs) m) [
-  | inl e ↦ (x, member-head x xs, e)
-  | inr t ↦ let q = member-map f xs w t in (q.0, member-tail q.0 x xs q.1, q.2)
-]
-
 -- a list turned to a member, mapped
 pub map-turned : (f : ℕ → ℕ) (l : List ℕ) (y : ℕ) → is_member y l ≡ true → ((z : ℕ) → is_member z l ≡ true → f z ≡ f y → z ≡ y) → map f (turned l y) ≡ turned (map f l) (f y)
 map-turned f l y m one =
     let cut = cut_at y l m in
     let apart : is_member (f y) (map f cut.front) ≡ false = false_from_ne_true (is_member (f y) (map f cut.front)) (λ t.
-    let q = member-map f cut.front (f y) t in
+    let q = map-member f cut.front (f y) t in
     let at_l : is_member q.0 l ≡ true = subst (λ (o : List ℕ). is_member q.0 o ≡ true) (sym cut.is) (member-append_left q.0 cut.front (y ∷ cut.back) q.1) in
     both_ways (is_member y cut.front) cut.first (subst (λ (z : ℕ). is_member z cut.front ≡ true) (one q.0 at_l q.2) q.1)) in
     ap (map f) (ap (λ (o : List ℕ). turned o y) cut.is ∙ turned-cut cut.front y cut.back cut.first)

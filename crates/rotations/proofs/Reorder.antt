@@ -5,13 +5,12 @@ use Rattle.std.proofs.lemmas.Bool.{cases_eq, true≢false}
 use Rattle.permutations.specs.Members.{is_member, is_distinct}
 use Rattle.permutations.specs.Cyclic.{first_or, successor, from_least}
 use Rattle.permutations.proofs.Members.{member-head, member-tail}
-use Rattle.permutations.proofs.Arrangements.{length-from_members}
+use Rattle.permutations.proofs.Arrangements.{length-from_members, contains-from_member}
 use Rattle.permutations.proofs.NormalForm.{least-same, least-first_member, from_least-first_or, from_least-member, from_least-distinct, from_least-successor}
 use Rattle.ring_arena.specs.Links.{Links, AreInverse}
 use Rattle.rotations.specs.Rotation.{order_at}
 use Rattle.rotations.specs.Rings.{dart_at, turns, orders, StandRound, AreLinked, AreRings}
 use Rattle.rotations.specs.declared.rings.Ring.{Ring}
-use Rattle.rotations.proofs.Membership.{contains-from_member}
 use Rattle.rotations.proofs.Steps.{order-ring}
 use Rattle.rotations.proofs.Links.{linked-back}
 use Rattle.rotations.proofs.Turns.{turns-order}

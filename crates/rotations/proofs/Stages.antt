@@ -8,7 +8,6 @@ use Rattle.permutations.specs.Cyclic.{first_or, turned}
 use Rattle.permutations.proofs.Successor.{first_or-member}
 use Rattle.permutations.proofs.Turned.{turned-member, turned-distinct, turned-length, turned-permutation, turned-successor, turned-first_or}
 use Rattle.multigraph.specs.Graph.{Multigraph, edge_count, ends_of, is_end, incident_edges, IsGraph, IsWithinLimits}
-use Rattle.multigraph.proofs.Incident.{incident-rises}
 use Rattle.multigraph.proofs.OtherEnd.{is_end-first, is_end-second}
 use Rattle.ring_arena.specs.Links.{Links, AreInverse}
 use Rattle.rotations.specs.Entries.{list_at}
@@ -16,10 +15,10 @@ use Rattle.rotations.specs.Given.{AreArranged, given_order}
 use Rattle.rotations.specs.Rotation.{order_at, IsRotationSystem, IsCyclicOrder}
 use Rattle.rotations.specs.Rings.{dart_at, turns, orders, StandRound, AreLinked, AreRings, AreTails, IsRingOf}
 use Rattle.rotations.specs.declared.rings.Ring.{Ring}
-use Rattle.rotations.proofs.Membership.{incident-distinct, incident-member}
+use Rattle.rotations.proofs.Membership.{incident-distinct, incident-member, incident-least}
 use Rattle.rotations.proofs.Arrangements.{permutation-member, permutation-member_back, permutation-distinct}
 use Rattle.rotations.proofs.Darts.{dart-in, stand_round}
-use Rattle.rotations.proofs.Links.{first_is, place-of, linked-back}
+use Rattle.rotations.proofs.Links.{linked-back}
 use Rattle.rotations.proofs.Turns.{turns-order}
 
 -- the edges that are given for a vertex stand round it
@@ -141,21 +140,6 @@ pub built-orders : (g : Multigraph) (entries : List (ℕ × List ℕ)) (tails : 
 built-orders g entries tails links rings a t r v l =
     get_or-map (λ (ring : Ring). turns links.next ring.first ring.degree) rings v none [] (omega (arith, r.rings_long))
     ∙ ring-order g entries tails links.next links.prev v (get_or rings v none) a t l (r.linked v l) (r.ring v none l)
-
--- the first edge at a vertex is the least
-incident-least : (g : Multigraph) (v e : ℕ) → is_member e (incident_edges g v) ≡ true → first_or 0 (incident_edges g v) ≤ e
-incident-least g v e m =
-    let w = place-of (incident_edges g v) e m in
-    let inside : w.0 < length (incident_edges g v) = w.1 in
-    let here : get_or (incident_edges g v) w.0 0 ≡ e = w.2 in
-    elim (cases_eq w.0 0) [
-      | inl z ↦
-          let first : get_or (incident_edges g v) 0 0 ≡ e = ap (λ (k : ℕ). get_or (incident_edges g v) k 0) (sym z) ∙ here in
-          omega (arith, first_is 0 (incident_edges g v), first)
-      | inr n ↦
-          let rises : get_or (incident_edges g v) 0 0 < get_or (incident_edges g v) w.0 0 = incident-rises g v 0 w.0 0 (omega (arith, n)) inside in
-          omega (arith, first_is 0 (incident_edges g v), here, rises)
-    ]
 
 -- so is the first of the given order
 given-least : (g : Multigraph) (entries : List (ℕ × List ℕ)) (v e : ℕ) → AreArranged g entries → v < g.vertex_count → is_member e (given_order g entries v) ≡ true → first_or 0 (given_order g entries v) ≤ e

@@ -9,6 +9,7 @@ use Rattle.permutations.specs.Runs.{group_keys, InRuns}
 use Rattle.permutations.proofs.Arrangements.{permutation-from_members}
 use Rattle.permutations.proofs.NormalForm.{from_least-turn, same-from_least}
 use Rattle.permutations.proofs.Runs.{runs-turn}
+use Rattle.permutations.proofs.Places.{told-distinct}
 use Rattle.multigraph.specs.Graph.{Multigraph}
 use Rattle.multigraph.proofs.Places.{rises-once}
 use Rattle.rotations.specs.Rotation.{order_at, IsRotationSystem}
@@ -21,7 +22,6 @@ use Rattle.skeletons.specs.Choices.{choice, IsPlaneSystem}
 use Rattle.skeletons.specs.Families.{system_at}
 use Rattle.skeletons.specs.Moves.{AreRegrouped, IsNodeOfKind, PermuteLeads}
 use Rattle.skeletons.proofs.KeyRuns.{met-runs}
-use Rattle.skeletons.proofs.Rearranged.{distinct-places}
 use Rattle.skeletons.proofs.Vertices.{least-has, greatest-has, poles-differ, bond-keys}
 use Rattle.skeletons.proofs.Moved.{runs-keys}
 use Rattle.skeleton_runs.proofs.Contiguous.{plane-contiguous}
@@ -52,11 +52,6 @@ groups-written gs keys t = at (cut-keys gs t.front t.back t.before)
 
     at : (us : List (ℕ × List ℕ)) × (ws : List (ℕ × List ℕ)) × (gs ≡ us ++ ws) × (group_keys us ≡ t.front) × (group_keys ws ≡ t.back) → (hs : List (ℕ × List ℕ)) × IsTurn gs hs × (group_keys hs ≡ keys)
     at w = (w.1 ++ w.0, record { front = w.0; back = w.1; before = w.2; after = refl }, joined-keys w.0 w.1 ∙ ap (λ (z : List ℕ). z ++ group_keys w.0) w.4 ∙ ap (λ (z : List ℕ). t.back ++ z) w.3 ∙ sym t.after)
-
--- the first and the last of a list by their places
-pub first-place : (l : List ℕ) → slice_index_or l 0 0 ≡ first_or 0 l
-first-place [] = refl
-first-place (x ∷ l) = refl
 
 pub last-place : (l : List ℕ) → slice_index_or l (length l - 1) 0 ≡ last_or 0 l
 last-place [] = refl
@@ -90,7 +85,7 @@ module _ (g : Multigraph) (nodes : List Node) (b : IsBlockTree g nodes) (r : Lis
       at gs runs z m = runs-keys g nodes b r k v gs p.system h runs z ∙ bond-keys g nodes b k is v z h ∙ m
 
   keys-once : is_distinct (node_keys nodes k) ≡ true
-  keys-once = distinct-places (node_keys nodes k) (rises-once (node_keys nodes k) (b.tree.in_order.keys_rise k is.0))
+  keys-once = told-distinct (node_keys nodes k) (rises-once (node_keys nodes k) (b.tree.in_order.keys_rise k is.0))
 
   pub runs-arranged : (v : ℕ) (gs : List (ℕ × List ℕ)) → has_vertex nodes k v ≡ true → InRuns (group nodes k) (order_at r v) gs → IsPermutation (node_keys nodes k) (group_keys gs)
   runs-arranged v gs h runs = IsPermutation-sym (group_keys gs) (node_keys nodes k)

@@ -14,8 +14,7 @@ use Rattle.permutations.proofs.Turned.{IsTurn-member, IsTurn-length, IsTurn-perm
 use Rattle.multigraph.specs.Graph.{Multigraph, incident_edges}
 use Rattle.rotations.specs.Rotation.{order_at, IsRotationSystem, IsCyclicOrder}
 use Rattle.rotations.specs.Runs.{IsRun, IsOutside, IsRunMoved, IsKeptElsewhere}
-use Rattle.rotations.proofs.Membership.{incident-distinct}
-use Rattle.faces.proofs.MapMirror.{incident-least}
+use Rattle.rotations.proofs.Membership.{incident-distinct, incident-least}
 use Rattle.pair_split.specs.Tutte.{Node, group}
 use Rattle.skeletons.specs.Moves.{AreReversed}
 use Rattle.skeletons.proofs.Systems.{order-arranged}
