@@ -1,6 +1,7 @@
--- Numbers that are put on a list once, each with a note.
+-- State of a loop: numbers that are put on a list once, each with a note.
 use Rattle.std.specs.Prelude.{◌≡◌, ℕ, ◌<◌, Bool, true, false, List, ◌++◌, length, slice_index_or}
 use Rattle.permutations.specs.Members.{is_member, is_distinct}
+use Rattle.multigraph.specs.Marks.{is_marked}
 
 -- what is noted of x
 abbrev pub note_of : List ℕ → ℕ → ℕ
@@ -10,7 +11,7 @@ note_of notes x = slice_index_or notes x 0
 pub record AreListed (marks : List Bool) (notes list : List ℕ) : Type 0 where
   pub notes_each : length notes ≡ length marks
   pub within : (x : ℕ) → is_member x list ≡ true → x < length marks
-  pub marked : (x : ℕ) → x < length marks → slice_index_or marks x false ≡ is_member x list
+  pub marked : (x : ℕ) → x < length marks → is_marked marks x ≡ is_member x list
   pub once : is_distinct list ≡ true
 
 -- more numbers were put behind the list, each with a note that fits it; the notes of those that stood there are as they were

@@ -1,5 +1,5 @@
--- A search through a graph in the order of distance from a vertex, the root (breadth-first search; Moore 1959), and the way
--- from a vertex back to the root.
+-- State of a loop: a search through a graph in the order of distance from a vertex, the root (breadth-first search; Moore
+-- 1959), and the way from a vertex back to the root.
 use Rattle.std.specs.Prelude.{◌≡◌, ℕ, ◌+◌, ◌<◌, ◌≤◌, true, List, length, slice_index_or}
 use Rattle.permutations.specs.Members.{is_member, is_distinct}
 use Rattle.multigraph.specs.Graph.{Multigraph, edge_count, is_end, other_end}

@@ -29,7 +29,8 @@ fn add_route(
         along.extend_from_slice(route)?;
         return Ok(());
     }
-    let back: Vec<u32> = route.iter().rev().copied().collect(alloc)?;
+    let mut back = Vec::from_slice(alloc, route)?;
+    back.reverse();
     along.extend_from_slice(&back)?;
     Ok(())
 }

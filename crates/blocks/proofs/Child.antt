@@ -11,8 +11,9 @@ use Rattle.multigraph.specs.Graph.{Multigraph, edge_count, is_end, other_end, in
 use Rattle.multigraph.proofs.OtherEnd.{other_end-is_end}
 use Rattle.graph_theory.proofs.Ends.{other-other}
 use Rattle.blocks.specs.State.{SearchState, child_noted}
-use Rattle.blocks.specs.Searching.{flag, IsOnPath, IsGrown, IsSeen, IsLow, IsOrdered, OnPath, SeenLeadsTo, IsSearching}
-use Rattle.blocks.proofs.Writes.{number-same, number-other, flag-same, flag-other, flag-cases, flag-kept, flags-differ}
+use Rattle.multigraph.specs.Marks.{is_marked}
+use Rattle.blocks.specs.Searching.{IsOnPath, IsGrown, IsSeen, IsLow, IsOrdered, OnPath, SeenLeadsTo, IsSearching}
+use Rattle.blocks.proofs.Writes.{number-same, number-other, marked-same, marked-other, marked-cases, marked-kept, marks-differ}
 use Rattle.blocks.proofs.Ancestors.{iterate-kept}
 use Rattle.blocks.proofs.Leads.{upper-visited, leads-kept}
 
@@ -33,18 +34,18 @@ on-last path w = record {
 }
 
 -- the visited vertices in order, with one more at the end
-pub order-longer : (visited : List Bool) (order : List ℕ) (w : ℕ) → w < length visited → flag visited w ≡ false → is_distinct order ≡ true → ((v : ℕ) → is_member v order ≡ flag visited v) → (is_distinct (order ++ w ∷ []) ≡ true) × ((v : ℕ) → is_member v (order ++ w ∷ []) ≡ flag (set visited w true) v)
+pub order-longer : (visited : List Bool) (order : List ℕ) (w : ℕ) → w < length visited → is_marked visited w ≡ false → is_distinct order ≡ true → ((v : ℕ) → is_member v order ≡ is_marked visited v) → (is_distinct (order ++ w ∷ []) ≡ true) × ((v : ℕ) → is_member v (order ++ w ∷ []) ≡ is_marked (set visited w true) v)
 order-longer visited order w l f d m = (distinct-append order (w ∷ []) d refl apart, members)
   where
     apart : (z : ℕ) → is_member z order ≡ true → is_member z (w ∷ []) ≡ false
-    apart z h = no_member-cons z w [] (λ e. true≢false (sym h ∙ (m z ∙ (ap (flag visited) (sym e) ∙ f)))) refl
+    apart z h = no_member-cons z w [] (λ e. true≢false (sym h ∙ (m z ∙ (ap (is_marked visited) (sym e) ∙ f)))) refl
 
-    members : (v : ℕ) → is_member v (order ++ w ∷ []) ≡ flag (set visited w true) v
+    members : (v : ℕ) → is_member v (order ++ w ∷ []) ≡ is_marked (set visited w true) v
     members v = elim (cases_eq v w) [
-      | inl e ↦ subst (λ (z : ℕ). is_member z (order ++ w ∷ []) ≡ flag (set visited w true) z) (sym e) (member-append_right w order (w ∷ []) (member-head w []) ∙ sym (flag-same visited w l))
+      | inl e ↦ subst (λ (z : ℕ). is_member z (order ++ w ∷ []) ≡ is_marked (set visited w true) z) (sym e) (member-append_right w order (w ∷ []) (member-head w []) ∙ sym (marked-same visited w l))
       | inr n ↦
           let none : is_member v (w ∷ []) ≡ false = no_member-cons v w [] (λ e. n (sym e)) refl in
-          member-append v order (w ∷ []) ∙ (either (is_member v order) (is_member v (w ∷ [])) none ∙ (m v ∙ sym (flag-other visited w v n)))
+          member-append v order (w ∷ []) ∙ (either (is_member v order) (is_member v (w ∷ [])) none ∙ (m v ∙ sym (marked-other visited w v n)))
     ]
       where
         either : (a b : Bool) → b ≡ false → (a || b) ≡ a
@@ -53,12 +54,12 @@ order-longer visited order w l f d m = (distinct-append order (w ∷ []) d refl 
 -- edge e was seen for the first time at v, the last vertex of the path, and w at its other end was not visited
 pub record IsChild (g : Multigraph) (s : SearchState) (v e w k : ℕ) : Type 0 where
   pub edge_in : e < edge_count g
-  pub unseen : flag s.seen e ≡ false
+  pub unseen : is_marked s.seen e ≡ false
   pub is_end : is_end g v e ≡ true
   pub leads : other_end g e v ≡ w
   pub vertex_in : v < g.vertex_count
   pub child_in : w < g.vertex_count
-  pub unvisited : flag s.visited w ≡ false
+  pub unvisited : is_marked s.visited w ≡ false
   pub last : length s.path ≡ k + 1
   pub here : get_or s.path k 0 ≡ v
 
@@ -91,11 +92,11 @@ module _ (g : Multigraph) (s : SearchState) (v e w k : ℕ) (b : IsSearching g s
   order' = s.order ++ w ∷ []
 
   -- a visited vertex is another one, and a seen edge too
-  other : (u : ℕ) → flag s.visited u ≡ true → u ≢ w
-  other u h = flags-differ s.visited u w h f.unvisited
+  other : (u : ℕ) → is_marked s.visited u ≡ true → u ≢ w
+  other u h = marks-differ s.visited u w h f.unvisited
 
-  other-edge : (q : ℕ) → flag s.seen q ≡ true → q ≢ e
-  other-edge q h = flags-differ s.seen q e h f.unseen
+  other-edge : (q : ℕ) → is_marked s.seen q ≡ true → q ≢ e
+  other-edge q h = marks-differ s.seen q e h f.unseen
 
   w-in : w < length s.visited
   w-in = omega (arith, f.child_in, b.places.visited)
@@ -103,31 +104,31 @@ module _ (g : Multigraph) (s : SearchState) (v e w k : ℕ) (b : IsSearching g s
   e-in : e < length s.seen
   e-in = omega (arith, f.edge_in, b.places.seen)
 
-  visited-cases : (u : ℕ) → flag visited' u ≡ true → (u ≡ w) ⊎ (flag s.visited u ≡ true)
+  visited-cases : (u : ℕ) → is_marked visited' u ≡ true → (u ≡ w) ⊎ (is_marked s.visited u ≡ true)
   unfolding visited'
-  visited-cases u h = flag-cases s.visited w u h
+  visited-cases u h = marked-cases s.visited w u h
 
-  visited-kept : (u : ℕ) → flag s.visited u ≡ true → flag visited' u ≡ true
+  visited-kept : (u : ℕ) → is_marked s.visited u ≡ true → is_marked visited' u ≡ true
   unfolding visited'
-  visited-kept u h = flag-kept s.visited w u w-in h
+  visited-kept u h = marked-kept s.visited w u w-in h
 
-  visited-child : flag visited' w ≡ true
+  visited-child : is_marked visited' w ≡ true
   unfolding visited'
-  visited-child = flag-same s.visited w w-in
+  visited-child = marked-same s.visited w w-in
 
-  seen-cases : (q : ℕ) → flag seen' q ≡ true → (q ≡ e) ⊎ (flag s.seen q ≡ true)
+  seen-cases : (q : ℕ) → is_marked seen' q ≡ true → (q ≡ e) ⊎ (is_marked s.seen q ≡ true)
   unfolding seen'
-  seen-cases q h = flag-cases s.seen e q h
+  seen-cases q h = marked-cases s.seen e q h
 
-  seen-kept : (q : ℕ) → flag s.seen q ≡ true → flag seen' q ≡ true
+  seen-kept : (q : ℕ) → is_marked s.seen q ≡ true → is_marked seen' q ≡ true
   unfolding seen'
-  seen-kept q h = flag-kept s.seen e q e-in h
+  seen-kept q h = marked-kept s.seen e q e-in h
 
-  seen-here : flag seen' e ≡ true
+  seen-here : is_marked seen' e ≡ true
   unfolding seen'
-  seen-here = flag-same s.seen e e-in
+  seen-here = marked-same s.seen e e-in
 
-  parent-kept : (u : ℕ) → flag s.visited u ≡ true → get_or parent' u 0 ≡ get_or s.parent u 0
+  parent-kept : (u : ℕ) → is_marked s.visited u ≡ true → get_or parent' u 0 ≡ get_or s.parent u 0
   unfolding parent'
   parent-kept u h = number-other s.parent w u v (other u h)
 
@@ -135,7 +136,7 @@ module _ (g : Multigraph) (s : SearchState) (v e w k : ℕ) (b : IsSearching g s
   unfolding parent'
   parent-child = number-same s.parent w v (omega (arith, f.child_in, b.places.parent))
 
-  depth-kept : (u : ℕ) → flag s.visited u ≡ true → get_or depth' u 0 ≡ get_or s.depth u 0
+  depth-kept : (u : ℕ) → is_marked s.visited u ≡ true → get_or depth' u 0 ≡ get_or s.depth u 0
   unfolding depth'
   depth-kept u h = number-other s.depth w u (get_or s.depth v 0 + 1) (other u h)
 
@@ -143,7 +144,7 @@ module _ (g : Multigraph) (s : SearchState) (v e w k : ℕ) (b : IsSearching g s
   unfolding depth'
   depth-child = number-same s.depth w (get_or s.depth v 0 + 1) (omega (arith, f.child_in, b.places.depth))
 
-  edge-kept : (u : ℕ) → flag s.visited u ≡ true → get_or parent_edge' u 0 ≡ get_or s.parent_edge u 0
+  edge-kept : (u : ℕ) → is_marked s.visited u ≡ true → get_or parent_edge' u 0 ≡ get_or s.parent_edge u 0
   unfolding parent_edge'
   edge-kept u h = number-other s.parent_edge w u e (other u h)
 
@@ -151,7 +152,7 @@ module _ (g : Multigraph) (s : SearchState) (v e w k : ℕ) (b : IsSearching g s
   unfolding parent_edge'
   edge-child = number-same s.parent_edge w e (omega (arith, f.child_in, b.places.parent_edge))
 
-  low-kept : (u : ℕ) → flag s.visited u ≡ true → get_or low' u 0 ≡ get_or s.low u 0
+  low-kept : (u : ℕ) → is_marked s.visited u ≡ true → get_or low' u 0 ≡ get_or s.low u 0
   unfolding low'
   low-kept u h = number-other s.low w u (get_or s.depth v 0 + 1) (other u h)
 
@@ -159,7 +160,7 @@ module _ (g : Multigraph) (s : SearchState) (v e w k : ℕ) (b : IsSearching g s
   unfolding low'
   low-child = number-same s.low w (get_or s.depth v 0 + 1) (omega (arith, f.child_in, b.places.low))
 
-  lower-kept : (q : ℕ) → flag s.seen q ≡ true → get_or lower' q 0 ≡ get_or s.lower q 0
+  lower-kept : (q : ℕ) → is_marked s.seen q ≡ true → get_or lower' q 0 ≡ get_or s.lower q 0
   unfolding lower'
   lower-kept q h = number-other s.lower e q w (other-edge q h)
 
@@ -167,8 +168,8 @@ module _ (g : Multigraph) (s : SearchState) (v e w k : ℕ) (b : IsSearching g s
   unfolding lower'
   lower-here = number-same s.lower e w (omega (arith, f.edge_in, b.places.lower))
 
-  visited-here : flag s.visited v ≡ true
-  visited-here = subst (λ (z : ℕ). flag s.visited z ≡ true) f.here (b.on_path.visits k (omega (arith, f.last)))
+  visited-here : is_marked s.visited v ≡ true
+  visited-here = subst (λ (z : ℕ). is_marked s.visited z ≡ true) f.here (b.on_path.visits k (omega (arith, f.last)))
 
   depth-here : get_or s.depth v 0 ≡ k
   depth-here = ap (λ (z : ℕ). get_or s.depth z 0) (sym f.here) ∙ b.on_path.deep k (omega (arith, f.last))
@@ -210,8 +211,8 @@ module _ (g : Multigraph) (s : SearchState) (v e w k : ℕ) (b : IsSearching g s
       | inr c ↦ subst (λ (z : ℕ). z < g.vertex_count) (sym (ap (λ (q : ℕ). get_or path' q 0) c ∙ path-last)) f.child_in
     ];
     visits = λ j l. elim (place-cases j l) [
-      | inl a ↦ subst (λ (z : ℕ). flag visited' z ≡ true) (sym (path-kept j a)) (visited-kept (get_or s.path j 0) (b.on_path.visits j a))
-      | inr c ↦ subst (λ (z : ℕ). flag visited' z ≡ true) (sym (ap (λ (q : ℕ). get_or path' q 0) c ∙ path-last)) visited-child
+      | inl a ↦ subst (λ (z : ℕ). is_marked visited' z ≡ true) (sym (path-kept j a)) (visited-kept (get_or s.path j 0) (b.on_path.visits j a))
+      | inr c ↦ subst (λ (z : ℕ). is_marked visited' z ≡ true) (sym (ap (λ (q : ℕ). get_or path' q 0) c ∙ path-last)) visited-child
     ];
     deep = λ j l. elim (place-cases j l) [
       | inl a ↦ ap (λ (z : ℕ). get_or depth' z 0) (path-kept j a) ∙ (depth-kept (get_or s.path j 0) (b.on_path.visits j a) ∙ b.on_path.deep j a)
@@ -236,8 +237,8 @@ module _ (g : Multigraph) (s : SearchState) (v e w k : ℕ) (b : IsSearching g s
       | inr o ↦ subst (λ (z : ℕ). z < g.vertex_count) (sym (parent-kept u o)) (b.grown.parent_in u o (omega (arith, depth-kept u o)))
     ];
     parent_visited = λ u h d. elim (visited-cases u h) [
-      | inl q ↦ subst (λ (z : ℕ). flag visited' (get_or parent' z 0) ≡ true) (sym q) (subst (λ (z : ℕ). flag visited' z ≡ true) (sym parent-child) (visited-kept v visited-here))
-      | inr o ↦ subst (λ (z : ℕ). flag visited' z ≡ true) (sym (parent-kept u o)) (visited-kept (get_or s.parent u 0) (b.grown.parent_visited u o (omega (arith, depth-kept u o))))
+      | inl q ↦ subst (λ (z : ℕ). is_marked visited' (get_or parent' z 0) ≡ true) (sym q) (subst (λ (z : ℕ). is_marked visited' z ≡ true) (sym parent-child) (visited-kept v visited-here))
+      | inr o ↦ subst (λ (z : ℕ). is_marked visited' z ≡ true) (sym (parent-kept u o)) (visited-kept (get_or s.parent u 0) (b.grown.parent_visited u o (omega (arith, depth-kept u o))))
     ];
     parent_depth = λ u h d. elim (visited-cases u h) [
       | inl q ↦ subst (λ (z : ℕ). get_or depth' (get_or parent' z 0) 0 + 1 ≡ get_or depth' z 0) (sym q) (subst (λ (z : ℕ). get_or depth' z 0 + 1 ≡ get_or depth' w 0) (sym parent-child) (omega (arith, depth-child, depth-kept v visited-here)))
@@ -258,8 +259,8 @@ module _ (g : Multigraph) (s : SearchState) (v e w k : ℕ) (b : IsSearching g s
       | inr o ↦ ap (λ (z : ℕ). other_end g z u) (edge-kept u o) ∙ (b.grown.edge_leads u o (omega (arith, depth-kept u o)) ∙ sym (parent-kept u o))
     ];
     edge_seen = λ u h d. elim (visited-cases u h) [
-      | inl q ↦ subst (λ (z : ℕ). flag seen' (get_or parent_edge' z 0) ≡ true) (sym q) (subst (λ (z : ℕ). flag seen' z ≡ true) (sym edge-child) seen-here)
-      | inr o ↦ subst (λ (z : ℕ). flag seen' z ≡ true) (sym (edge-kept u o)) (seen-kept (get_or s.parent_edge u 0) (b.grown.edge_seen u o (omega (arith, depth-kept u o))))
+      | inl q ↦ subst (λ (z : ℕ). is_marked seen' (get_or parent_edge' z 0) ≡ true) (sym q) (subst (λ (z : ℕ). is_marked seen' z ≡ true) (sym edge-child) seen-here)
+      | inr o ↦ subst (λ (z : ℕ). is_marked seen' z ≡ true) (sym (edge-kept u o)) (seen-kept (get_or s.parent_edge u 0) (b.grown.edge_seen u o (omega (arith, depth-kept u o))))
     ];
     edge_lower = λ u h d. elim (visited-cases u h) [
       | inl q ↦ subst (λ (z : ℕ). get_or lower' (get_or parent_edge' z 0) 0 ≡ z) (sym q) (ap (λ (z : ℕ). get_or lower' z 0) edge-child ∙ lower-here)
@@ -276,8 +277,8 @@ module _ (g : Multigraph) (s : SearchState) (v e w k : ℕ) (b : IsSearching g s
       | inr o ↦ subst (λ (z : ℕ). is_end g z q ≡ true) (sym (lower-kept q o)) (b.edges.lower_end q o)
     ];
     lower_visited = λ q h. elim (seen-cases q h) [
-      | inl n ↦ subst (λ (z : ℕ). flag visited' (get_or lower' z 0) ≡ true) (sym n) (subst (λ (z : ℕ). flag visited' z ≡ true) (sym lower-here) visited-child)
-      | inr o ↦ subst (λ (z : ℕ). flag visited' z ≡ true) (sym (lower-kept q o)) (visited-kept (get_or s.lower q 0) (b.edges.lower_visited q o))
+      | inl n ↦ subst (λ (z : ℕ). is_marked visited' (get_or lower' z 0) ≡ true) (sym n) (subst (λ (z : ℕ). is_marked visited' z ≡ true) (sym lower-here) visited-child)
+      | inr o ↦ subst (λ (z : ℕ). is_marked visited' z ≡ true) (sym (lower-kept q o)) (visited-kept (get_or s.lower q 0) (b.edges.lower_visited q o))
     ];
     upper_above = λ q h. elim (seen-cases q h) [
       | inl n ↦ subst (λ (z : ℕ). (c : ℕ) × (c < get_or depth' (get_or lower' z 0) 0) × (iterate (λ r. get_or parent' r 0) (c + 1) (get_or lower' z 0) ≡ other_end g z (get_or lower' z 0))) (sym n)
@@ -286,7 +287,7 @@ module _ (g : Multigraph) (s : SearchState) (v e w k : ℕ) (b : IsSearching g s
     ];
   }
     where
-      upper : (q : ℕ) → flag s.seen q ≡ true → (c : ℕ) × (c < get_or depth' (get_or s.lower q 0) 0) × (iterate (λ r. get_or parent' r 0) (c + 1) (get_or s.lower q 0) ≡ other_end g q (get_or s.lower q 0))
+      upper : (q : ℕ) → is_marked s.seen q ≡ true → (c : ℕ) × (c < get_or depth' (get_or s.lower q 0) 0) × (iterate (λ r. get_or parent' r 0) (c + 1) (get_or s.lower q 0) ≡ other_end g q (get_or s.lower q 0))
       upper q o =
           let u = b.edges.upper_above q o in
           let h = b.edges.lower_visited q o in
@@ -338,7 +339,7 @@ module _ (g : Multigraph) (s : SearchState) (v e w k : ℕ) (b : IsSearching g s
       before : (q : ℕ) → q < length s.order → 0 < get_or depth' (get_or (s.order ++ w ∷ []) q 0) 0 → is_member (get_or parent' (get_or (s.order ++ w ∷ []) q 0) 0) (take q (s.order ++ w ∷ [])) ≡ true
       before q a d =
           let at : get_or (s.order ++ w ∷ []) q 0 ≡ get_or s.order q 0 = get_or_append_left s.order (w ∷ []) 0 q a in
-          let o : flag s.visited (get_or s.order q 0) ≡ true = sym (b.ordered.members (get_or s.order q 0)) ∙ member-at s.order q 0 a in
+          let o : is_marked s.visited (get_or s.order q 0) ≡ true = sym (b.ordered.members (get_or s.order q 0)) ∙ member-at s.order q 0 a in
           let x : 0 < get_or s.depth (get_or s.order q 0) 0 = omega (arith, depth-kept (get_or s.order q 0) o, ap (λ (z : ℕ). get_or depth' z 0) at, d) in
           let p : get_or parent' (get_or (s.order ++ w ∷ []) q 0) 0 ≡ get_or s.parent (get_or s.order q 0) 0 = ap (λ (z : ℕ). get_or parent' z 0) at ∙ parent-kept (get_or s.order q 0) o in
           let le : q ≤ length s.order = omega arith in

@@ -18,20 +18,21 @@ use Rattle.graph_theory.proofs.Connection.{other-first, other-connected}
 use Rattle.graph_theory.proofs.SameLabel.{same_label-block}
 use Rattle.graph_theory.proofs.BlockLabel.{block-same_label}
 use Rattle.blocks.specs.State.{SearchState}
-use Rattle.blocks.specs.Searching.{flag, IsSearching, IsOver}
+use Rattle.multigraph.specs.Marks.{is_marked}
+use Rattle.blocks.specs.Searching.{IsSearching, IsOver}
 use Rattle.blocks.specs.Spread.{IsSpreadOrder, IsSpread}
 use Rattle.blocks.specs.Numbering.{IsNumbering, same_label}
 use Rattle.blocks.specs.Blocks.{AreComponents}
 use Rattle.blocks.specs.Finding.{AreHeads, AreRoots, AreBlockNumbers}
-use Rattle.blocks.proofs.Writes.{flag-in}
+use Rattle.blocks.proofs.Writes.{marked-in}
 use Rattle.blocks.proofs.Over.{over-seen, over-forest, over-low, over-lower_in}
 
 -- a vertex in the order was visited
-order-visited : (s : SearchState) → ((v : ℕ) → is_member v s.order ≡ flag s.visited v) → (k : ℕ) → k < length s.order → flag s.visited (get_or s.order k 0) ≡ true
+order-visited : (s : SearchState) → ((v : ℕ) → is_member v s.order ≡ is_marked s.visited v) → (k : ℕ) → k < length s.order → is_marked s.visited (get_or s.order k 0) ≡ true
 order-visited s m k l = sym (m (get_or s.order k 0)) ∙ member-at s.order k 0 l
 
--- the order of the search spreads labels, where a vertex without a flag is no root
-pub over-order : (g : Multigraph) (s : SearchState) (own : List Bool) → IsOver g s → length own ≡ g.vertex_count → ((v : ℕ) → v < g.vertex_count → flag own v ≡ false → 0 < get_or s.depth v 0) → IsSpreadOrder (length s.parent) s.parent own s.order
+-- the order of the search spreads labels, where a vertex without a mark is no root
+pub over-order : (g : Multigraph) (s : SearchState) (own : List Bool) → IsOver g s → length own ≡ g.vertex_count → ((v : ℕ) → v < g.vertex_count → is_marked own v ≡ false → 0 < get_or s.depth v 0) → IsSpreadOrder (length s.parent) s.parent own s.order
 over-order g s own o e deep = record {
   parents = refl;
   owns = e ∙ sym k.places.parent;
@@ -44,7 +45,7 @@ over-order g s own o e deep = record {
     k = o.searching
 
     vertex : (j : ℕ) → j < length s.order → get_or s.order j 0 < g.vertex_count
-    vertex j l = omega (arith, flag-in s.visited (get_or s.order j 0) (order-visited s k.ordered.members j l), k.places.visited)
+    vertex j l = omega (arith, marked-in s.visited (get_or s.order j 0) (order-visited s k.ordered.members j l), k.places.visited)
 
 -- every vertex is in the order
 over-member : (g : Multigraph) (s : SearchState) → IsOver g s → (v : ℕ) → v < g.vertex_count → is_member v s.order ≡ true
@@ -53,11 +54,11 @@ over-member g s o v l = o.searching.ordered.members v ∙ o.visited v l
 -- the labels that are spread from the heads are those of the low points
 pub over-labels : (g : Multigraph) (s : SearchState) (heads : List Bool) (label : List ℕ) → IsOver g s → AreHeads s g.vertex_count heads → IsSpread s.parent heads s.order label → AreLabels g (λ v. get_or s.parent v 0) (λ v. get_or s.depth v 0) (λ v. get_or s.low v 0) (λ v. get_or label v 0)
 over-labels g s heads label o h p = record {
-  own = λ v l d c. elim (cases_Bool (flag heads v)) [
+  own = λ v l d c. elim (cases_Bool (is_marked heads v)) [
     | inl t ↦ p.of_own v (over-member g s o v l) t
     | inr f ↦ absurd (omega (arith, (h.other v l f).1))
   ];
-  same = λ v l d c. elim (cases_Bool (flag heads v)) [
+  same = λ v l d c. elim (cases_Bool (is_marked heads v)) [
     | inl t ↦ elim (h.head v l t) [ inl z ↦ absurd (omega arith) | inr z ↦ absurd (omega arith) ]
     | inr f ↦ p.of_parent v (over-member g s o v l) f
   ];
@@ -104,9 +105,9 @@ over-blocks g gg s heads label labels numbers total o h p e n c = record {
     at x l = ap (λ (z : List ℕ). get_or z x 0) e ∙ get_or-map (λ v. get_or label v 0) s.lower x 0 0 (omega (arith, l, o.searching.places.lower))
 
 -- every label that is spread is a vertex
-pub spread-within : (g : Multigraph) → IsGraph g → (s : SearchState) (own : List Bool) (label : List ℕ) → IsOver g s → ((v : ℕ) → v < g.vertex_count → flag own v ≡ false → 0 < get_or s.depth v 0) → IsSpread s.parent own s.order label → (fuel v : ℕ) → get_or s.depth v 0 < fuel → v < g.vertex_count → get_or label v 0 < g.vertex_count
+pub spread-within : (g : Multigraph) → IsGraph g → (s : SearchState) (own : List Bool) (label : List ℕ) → IsOver g s → ((v : ℕ) → v < g.vertex_count → is_marked own v ≡ false → 0 < get_or s.depth v 0) → IsSpread s.parent own s.order label → (fuel v : ℕ) → get_or s.depth v 0 < fuel → v < g.vertex_count → get_or label v 0 < g.vertex_count
 spread-within g gg s own label o deep p zero v f l = absurd (omega arith)
-spread-within g gg s own label o deep p (suc fuel) v f l = elim (cases_Bool (flag own v)) [
+spread-within g gg s own label o deep p (suc fuel) v f l = elim (cases_Bool (is_marked own v)) [
   | inl t ↦ subst (λ (z : ℕ). z < g.vertex_count) (sym (p.of_own v (over-member g s o v l) t)) l
   | inr h ↦
       let d = deep v l h in
@@ -118,7 +119,7 @@ spread-within g gg s own label o deep p (suc fuel) v f l = elim (cases_Bool (fla
 module _ (g : Multigraph) (gg : IsGraph g) (s : SearchState) (roots : List Bool) (label : List ℕ) (o : IsOver g s) (h : AreRoots s g.vertex_count roots) (p : IsSpread s.parent roots s.order label) where
   -- a vertex that is no root has the label of its parent
   label-parent : (v : ℕ) → v < g.vertex_count → 0 < get_or s.depth v 0 → get_or label v 0 ≡ get_or label (get_or s.parent v 0) 0
-  label-parent v l d = elim (cases_Bool (flag roots v)) [
+  label-parent v l d = elim (cases_Bool (is_marked roots v)) [
     | inl t ↦ absurd (omega (arith, h.root v l t))
     | inr f ↦ p.of_parent v (over-member g s o v l) f
   ]
@@ -126,7 +127,7 @@ module _ (g : Multigraph) (gg : IsGraph g) (s : SearchState) (roots : List Bool)
   -- every vertex is connected to its label
   label-connected : (fuel v : ℕ) → get_or s.depth v 0 < fuel → v < g.vertex_count → connected g.ends v (get_or label v 0) ≡ true
   label-connected zero v f l = absurd (omega arith)
-  label-connected (suc fuel) v f l = elim (cases_Bool (flag roots v)) [
+  label-connected (suc fuel) v f l = elim (cases_Bool (is_marked roots v)) [
     | inl t ↦ subst (λ (z : ℕ). connected g.ends v z ≡ true) (sym (p.of_own v (over-member g s o v l) t)) (connected-reflexive g.ends v)
     | inr q ↦
         let d = h.other v l q in
@@ -158,7 +159,7 @@ module _ (g : Multigraph) (gg : IsGraph g) (s : SearchState) (roots : List Bool)
       name : ℕ → ℕ
       name v = get_or label v 0
 
-      seen : flag s.seen e ≡ true
+      seen : is_marked s.seen e ≡ true
       seen = over-seen g gg s o e l
 
       z : ℕ
@@ -198,7 +199,7 @@ module _ (g : Multigraph) (gg : IsGraph g) (s : SearchState) (roots : List Bool)
   }
 
 -- the labels of the edges are vertices
-pub edge_labels-within : (g : Multigraph) → IsGraph g → (s : SearchState) (own : List Bool) (label labels : List ℕ) → IsOver g s → ((v : ℕ) → v < g.vertex_count → flag own v ≡ false → 0 < get_or s.depth v 0) → IsSpread s.parent own s.order label → labels ≡ map (λ v. get_or label v 0) s.lower → (i : ℕ) → i < length labels → get_or labels i 0 < g.vertex_count
+pub edge_labels-within : (g : Multigraph) → IsGraph g → (s : SearchState) (own : List Bool) (label labels : List ℕ) → IsOver g s → ((v : ℕ) → v < g.vertex_count → is_marked own v ≡ false → 0 < get_or s.depth v 0) → IsSpread s.parent own s.order label → labels ≡ map (λ v. get_or label v 0) s.lower → (i : ℕ) → i < length labels → get_or labels i 0 < g.vertex_count
 edge_labels-within g gg s own label labels o deep p e i l =
     let m : i < length s.lower = omega (arith, ap length e, length-map s.lower (λ v. get_or label v 0)) in
     let at : get_or labels i 0 ≡ get_or label (get_or s.lower i 0) 0 = ap (λ (z : List ℕ). get_or z i 0) e ∙ get_or-map (λ v. get_or label v 0) s.lower i 0 0 m in

@@ -4,15 +4,16 @@ use Rattle.std.proofs.lemmas.Bool.{cases_eq, cases_lt}
 use Rattle.permutations.specs.Permutation.{iterate}
 use Rattle.multigraph.specs.Graph.{Multigraph, edge_count, is_end, other_end, incident_edges}
 use Rattle.blocks.specs.State.{SearchState, frond_noted}
-use Rattle.blocks.specs.Searching.{flag, IsGrown, IsSeen, IsLow, OnPath, SeenLeadsTo, IsSearching}
-use Rattle.blocks.proofs.Writes.{number-same, number-other, flag-same, flag-cases, flag-kept, flags-differ}
+use Rattle.multigraph.specs.Marks.{is_marked}
+use Rattle.blocks.specs.Searching.{IsGrown, IsSeen, IsLow, OnPath, SeenLeadsTo, IsSearching}
+use Rattle.blocks.proofs.Writes.{number-same, number-other, marked-same, marked-cases, marked-kept, marks-differ}
 use Rattle.blocks.proofs.Ancestors.{path-up}
 use Rattle.blocks.proofs.Leads.{leads-kept}
 
 -- edge e was seen for the first time at v, at place j + i + 1 of the path, and leads to the vertex at place j
 pub record IsFrond (g : Multigraph) (s : SearchState) (v e j i : ℕ) : Type 0 where
   pub edge_in : e < edge_count g
-  pub unseen : flag s.seen e ≡ false
+  pub unseen : is_marked s.seen e ≡ false
   pub is_end : is_end g v e ≡ true
   pub vertex_in : v < g.vertex_count
   pub within : j + (i + 1) < length s.path
@@ -40,10 +41,10 @@ module _ (g : Multigraph) (s : SearchState) (v e j i : ℕ) (k : IsSearching g s
   low-in = omega (arith, f.vertex_in, k.places.low)
 
   -- a seen edge is another one
-  other : (q : ℕ) → flag s.seen q ≡ true → q ≢ e
-  other q h = flags-differ s.seen q e h f.unseen
+  other : (q : ℕ) → is_marked s.seen q ≡ true → q ≢ e
+  other q h = marks-differ s.seen q e h f.unseen
 
-  lower-kept : (q : ℕ) → flag s.seen q ≡ true → get_or lower' q 0 ≡ get_or s.lower q 0
+  lower-kept : (q : ℕ) → is_marked s.seen q ≡ true → get_or lower' q 0 ≡ get_or s.lower q 0
   unfolding lower'
   lower-kept q h = number-other s.lower e q v (other q h)
 
@@ -51,20 +52,20 @@ module _ (g : Multigraph) (s : SearchState) (v e j i : ℕ) (k : IsSearching g s
   unfolding lower'
   lower-here = number-same s.lower e v (omega (arith, f.edge_in, k.places.lower))
 
-  seen-kept : (q : ℕ) → flag s.seen q ≡ true → flag seen' q ≡ true
+  seen-kept : (q : ℕ) → is_marked s.seen q ≡ true → is_marked seen' q ≡ true
   unfolding seen'
-  seen-kept q h = flag-kept s.seen e q e-in h
+  seen-kept q h = marked-kept s.seen e q e-in h
 
-  seen-cases : (q : ℕ) → flag seen' q ≡ true → (q ≡ e) ⊎ (flag s.seen q ≡ true)
+  seen-cases : (q : ℕ) → is_marked seen' q ≡ true → (q ≡ e) ⊎ (is_marked s.seen q ≡ true)
   unfolding seen'
-  seen-cases q h = flag-cases s.seen e q h
+  seen-cases q h = marked-cases s.seen e q h
 
   -- the depth of v is its place on the path
   depth-here : get_or s.depth v 0 ≡ j + (i + 1)
   depth-here = ap (λ (z : ℕ). get_or s.depth z 0) (sym f.here) ∙ k.on_path.deep (j + (i + 1)) f.within
 
-  visited-here : flag s.visited v ≡ true
-  visited-here = subst (λ (z : ℕ). flag s.visited z ≡ true) f.here (k.on_path.visits (j + (i + 1)) f.within)
+  visited-here : is_marked s.visited v ≡ true
+  visited-here = subst (λ (z : ℕ). is_marked s.visited z ≡ true) f.here (k.on_path.visits (j + (i + 1)) f.within)
 
   -- the edge leads to a proper ancestor
   upper-here : iterate (λ q. get_or s.parent q 0) (i + 1) v ≡ other_end g e v
@@ -98,7 +99,7 @@ module _ (g : Multigraph) (s : SearchState) (v e j i : ℕ) (k : IsSearching g s
   unfolding reached seen'
   new-leads = record {
     edge = e;
-    is_seen = flag-same s.seen e e-in;
+    is_seen = marked-same s.seen e e-in;
     frond = λ q. other (get_or s.parent_edge v 0) (k.grown.edge_seen v visited-here (omega (arith, depth-here))) (ap (λ (z : ℕ). get_or s.parent_edge z 0) (sym lower-here) ∙ q);
     below = record { steps = 0; within = omega arith; leads = lower-here };
     reached = ap (λ (z : ℕ). get_or s.depth (other_end g e z) 0) lower-here;
@@ -123,8 +124,8 @@ module _ (g : Multigraph) (s : SearchState) (v e j i : ℕ) (k : IsSearching g s
       | inr o ↦ subst (λ (z : ℕ). is_end g z q ≡ true) (sym (lower-kept q o)) (k.edges.lower_end q o)
     ];
     lower_visited = λ q h. elim (seen-cases q h) [
-      | inl n ↦ subst (λ (z : ℕ). flag s.visited (get_or lower' z 0) ≡ true) (sym n) (subst (λ (z : ℕ). flag s.visited z ≡ true) (sym lower-here) visited-here)
-      | inr o ↦ subst (λ (z : ℕ). flag s.visited z ≡ true) (sym (lower-kept q o)) (k.edges.lower_visited q o)
+      | inl n ↦ subst (λ (z : ℕ). is_marked s.visited (get_or lower' z 0) ≡ true) (sym n) (subst (λ (z : ℕ). is_marked s.visited z ≡ true) (sym lower-here) visited-here)
+      | inr o ↦ subst (λ (z : ℕ). is_marked s.visited z ≡ true) (sym (lower-kept q o)) (k.edges.lower_visited q o)
     ];
     upper_above = λ q h. elim (seen-cases q h) [
       | inl n ↦ subst (λ (z : ℕ). (c : ℕ) × (c < get_or s.depth (get_or lower' z 0) 0) × (iterate (λ r. get_or s.parent r 0) (c + 1) (get_or lower' z 0) ≡ other_end g z (get_or lower' z 0))) (sym n)

@@ -3,11 +3,12 @@ use Rattle.std.proofs.Common.{◌≡◌, ◌≢◌, ℕ, zero, suc, ◌+◌, ◌
 use Rattle.std.proofs.lemmas.Bool.{cases_eq}
 use Rattle.multigraph.specs.Graph.{Multigraph, incident_edges}
 use Rattle.blocks.specs.State.{SearchState, looked_further}
-use Rattle.blocks.specs.Searching.{flag, degree, HasPlaces, IsLooked, OnPath, IsSearching, looks_left}
+use Rattle.multigraph.specs.Marks.{is_marked}
+use Rattle.blocks.specs.Searching.{degree, HasPlaces, IsLooked, OnPath, IsSearching, looks_left}
 use Rattle.blocks.proofs.Writes.{number-same, number-other}
 
 -- the edges looked at, with one more at v, a vertex of the path
-further-looked : (g : Multigraph) (s : SearchState) (v : ℕ) → v < g.vertex_count → HasPlaces g s → IsLooked g s.visited s.position s.seen s.path → OnPath s.path v → get_or s.position v 0 < degree g v → flag s.seen (get_or (incident_edges g v) (get_or s.position v 0) 0) ≡ true → IsLooked g s.visited (set s.position v (get_or s.position v 0 + 1)) s.seen s.path
+further-looked : (g : Multigraph) (s : SearchState) (v : ℕ) → v < g.vertex_count → HasPlaces g s → IsLooked g s.visited s.position s.seen s.path → OnPath s.path v → get_or s.position v 0 < degree g v → is_marked s.seen (get_or (incident_edges g v) (get_or s.position v 0) 0) ≡ true → IsLooked g s.visited (set s.position v (get_or s.position v 0 + 1)) s.seen s.path
 further-looked g s v l h k o d e = record {
   within = λ u m. elim (cases_eq u v) [
     | inl i ↦ subst (λ (z : ℕ). get_or (set s.position v (get_or s.position v 0 + 1)) z 0 ≤ degree g z) (sym i) (omega (arith, number-same s.position v (get_or s.position v 0 + 1) w))
@@ -26,17 +27,17 @@ further-looked g s v l h k o d e = record {
     w : v < length s.position
     w = omega (arith, h.position)
 
-    at : (u : ℕ) → u ≡ v → (j : ℕ) → j < get_or (set s.position v (get_or s.position v 0 + 1)) u 0 → flag s.seen (get_or (incident_edges g u) j 0) ≡ true
+    at : (u : ℕ) → u ≡ v → (j : ℕ) → j < get_or (set s.position v (get_or s.position v 0 + 1)) u 0 → is_marked s.seen (get_or (incident_edges g u) j 0) ≡ true
     at u i j t =
         let m : j < get_or s.position v 0 + 1 = omega (arith, t, ap (λ (z : ℕ). get_or (set s.position v (get_or s.position v 0 + 1)) z 0) i, number-same s.position v (get_or s.position v 0 + 1) w) in
-        subst (λ (z : ℕ). flag s.seen (get_or (incident_edges g z) j 0) ≡ true) (sym i)
+        subst (λ (z : ℕ). is_marked s.seen (get_or (incident_edges g z) j 0) ≡ true) (sym i)
         (elim (cases_eq j (get_or s.position v 0)) [
-          | inl q ↦ subst (λ (z : ℕ). flag s.seen (get_or (incident_edges g v) z 0) ≡ true) (sym q) e
+          | inl q ↦ subst (λ (z : ℕ). is_marked s.seen (get_or (incident_edges g v) z 0) ≡ true) (sym q) e
           | inr n ↦ k.looked v l j (omega arith)
         ])
 
 -- what holds between turns is kept
-pub further-kept : (g : Multigraph) (s : SearchState) (v : ℕ) → v < g.vertex_count → IsSearching g s → OnPath s.path v → get_or s.position v 0 < degree g v → flag s.seen (get_or (incident_edges g v) (get_or s.position v 0) 0) ≡ true → IsSearching g (looked_further s v)
+pub further-kept : (g : Multigraph) (s : SearchState) (v : ℕ) → v < g.vertex_count → IsSearching g s → OnPath s.path v → get_or s.position v 0 < degree g v → is_marked s.seen (get_or (incident_edges g v) (get_or s.position v 0) 0) ≡ true → IsSearching g (looked_further s v)
 further-kept g s v l k o d e = record {
   places = record {
     visited = k.places.visited;

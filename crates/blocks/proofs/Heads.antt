@@ -1,16 +1,16 @@
--- The flags by which labels are spread, for one vertex more.
+-- The marks by which labels are spread, for one vertex more.
 use Rattle.std.proofs.Common.{◌≡◌, ℕ, ◌+◌, ◌<◌, ◌≤◌, ◌⊎◌, inl, inr, Bool, true, false, List, [], ◌∷◌, ◌++◌, length, get_or, sym, ◌∙◌, subst, arith, length-append}
 use Rattle.std.proofs.lemmas.Bool.{cases_lt}
 use Rattle.std.proofs.lemmas.List.{get_or_append_left, get_or_push}
 use Rattle.blocks.specs.State.{SearchState}
-use Rattle.blocks.specs.Searching.{flag}
+use Rattle.multigraph.specs.Marks.{is_marked}
 use Rattle.blocks.specs.Finding.{AreHeads}
 
--- a place of a list with one flag more
-flag-place : (flags : List Bool) (k : ℕ) (b : Bool) (v : ℕ) → length flags ≡ k → v < k + 1 → ((v < k) × (flag (flags ++ b ∷ []) v ≡ flag flags v)) ⊎ ((v ≡ k) × (flag (flags ++ b ∷ []) v ≡ b))
-flag-place flags k b v e l = elim (cases_lt v k) [
-  | inl a ↦ inl (a, get_or_append_left flags (b ∷ []) false v (omega arith))
-  | inr c ↦ let q : v ≡ k = omega arith in inr (q, get_or_push flags b false v (e ∙ sym q))
+-- a place of a list with one mark more
+marked-place : (marks : List Bool) (k : ℕ) (b : Bool) (v : ℕ) → length marks ≡ k → v < k + 1 → ((v < k) × (is_marked (marks ++ b ∷ []) v ≡ is_marked marks v)) ⊎ ((v ≡ k) × (is_marked (marks ++ b ∷ []) v ≡ b))
+marked-place marks k b v e l = elim (cases_lt v k) [
+  | inl a ↦ inl (a, get_or_append_left marks (b ∷ []) false v (omega arith))
+  | inr c ↦ let q : v ≡ k = omega arith in inr (q, get_or_push marks b false v (e ∙ sym q))
 ]
 
 -- one vertex more
@@ -20,11 +20,11 @@ pub heads-more : (s : SearchState) (k : ℕ) (heads : List Bool) (b : Bool) → 
     → AreHeads s (k + 1) (heads ++ b ∷ [])
 heads-more s k heads b h raised not_raised = record {
   places = omega (arith, length-append heads (b ∷ []), h.places);
-  head = λ v l t. elim (flag-place heads k b v h.places l) [
+  head = λ v l t. elim (marked-place heads k b v h.places l) [
     | inl a ↦ h.head v a.0 (sym a.1 ∙ t)
     | inr c ↦ subst (λ (z : ℕ). (get_or s.depth z 0 ≡ 0) ⊎ (get_or s.depth (get_or s.parent z 0) 0 ≤ get_or s.low z 0)) (sym c.0) (raised (sym c.1 ∙ t))
   ];
-  other = λ v l t. elim (flag-place heads k b v h.places l) [
+  other = λ v l t. elim (marked-place heads k b v h.places l) [
     | inl a ↦ h.other v a.0 (sym a.1 ∙ t)
     | inr c ↦ subst (λ (z : ℕ). (0 < get_or s.depth z 0) × (get_or s.low z 0 < get_or s.depth (get_or s.parent z 0) 0)) (sym c.0) (not_raised (sym c.1 ∙ t))
   ];

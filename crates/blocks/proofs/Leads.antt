@@ -2,25 +2,26 @@
 use Rattle.std.proofs.Common.{◌≡◌, ℕ, ◌+◌, Bool, true, List, get_or, sym, ap, ◌∙◌, subst, arith}
 use Rattle.multigraph.specs.Graph.{Multigraph, other_end}
 use Rattle.graph_theory.specs.SearchTree.{IsBelow}
-use Rattle.blocks.specs.Searching.{flag, IsGrown, IsSeen, SeenLeadsTo}
+use Rattle.multigraph.specs.Marks.{is_marked}
+use Rattle.blocks.specs.Searching.{IsGrown, IsSeen, SeenLeadsTo}
 use Rattle.blocks.proofs.Ancestors.{chain, below-kept}
 
 -- the other end of a seen edge was visited
-pub upper-visited : (g : Multigraph) (visited : List Bool) (parent depth parent_edge : List ℕ) (seen : List Bool) (lower : List ℕ) → IsGrown g visited parent depth parent_edge seen lower → IsSeen g visited parent depth seen lower → (e : ℕ) → flag seen e ≡ true → flag visited (other_end g e (get_or lower e 0)) ≡ true
+pub upper-visited : (g : Multigraph) (visited : List Bool) (parent depth parent_edge : List ℕ) (seen : List Bool) (lower : List ℕ) → IsGrown g visited parent depth parent_edge seen lower → IsSeen g visited parent depth seen lower → (e : ℕ) → is_marked seen e ≡ true → is_marked visited (other_end g e (get_or lower e 0)) ≡ true
 upper-visited g visited parent depth parent_edge seen lower t d e h =
     let u = d.upper_above e h in
-    subst (λ (k : ℕ). flag visited k ≡ true) u.2
+    subst (λ (k : ℕ). is_marked visited k ≡ true) u.2
     (chain g visited parent depth parent_edge seen lower t (u.0 + 1) (get_or lower e 0) (d.lower_visited e h) (omega (arith, u.1))).0
 
 -- a seen edge that leads to a depth leads there still, where what is said of visited vertices and seen edges stays
 pub leads-kept : (g : Multigraph) (visited : List Bool) (parent depth parent_edge : List ℕ) (seen : List Bool) (lower : List ℕ)
     → IsGrown g visited parent depth parent_edge seen lower → IsSeen g visited parent depth seen lower
     → (parent' depth' parent_edge' : List ℕ) (seen' : List Bool) (lower' : List ℕ)
-    → ((u : ℕ) → flag visited u ≡ true → get_or parent' u 0 ≡ get_or parent u 0)
-    → ((u : ℕ) → flag visited u ≡ true → get_or depth' u 0 ≡ get_or depth u 0)
-    → ((u : ℕ) → flag visited u ≡ true → get_or parent_edge' u 0 ≡ get_or parent_edge u 0)
-    → ((e : ℕ) → flag seen e ≡ true → flag seen' e ≡ true)
-    → ((e : ℕ) → flag seen e ≡ true → get_or lower' e 0 ≡ get_or lower e 0)
+    → ((u : ℕ) → is_marked visited u ≡ true → get_or parent' u 0 ≡ get_or parent u 0)
+    → ((u : ℕ) → is_marked visited u ≡ true → get_or depth' u 0 ≡ get_or depth u 0)
+    → ((u : ℕ) → is_marked visited u ≡ true → get_or parent_edge' u 0 ≡ get_or parent_edge u 0)
+    → ((e : ℕ) → is_marked seen e ≡ true → is_marked seen' e ≡ true)
+    → ((e : ℕ) → is_marked seen e ≡ true → get_or lower' e 0 ≡ get_or lower e 0)
     → (v d : ℕ) → SeenLeadsTo g parent depth parent_edge seen lower v d → SeenLeadsTo g parent' depth' parent_edge' seen' lower' v d
 leads-kept g visited parent depth parent_edge seen lower t s parent' depth' parent_edge' seen' lower' same deep edge more low v d w = record {
   edge = w.edge;

@@ -5,7 +5,8 @@ use Rattle.std.proofs.lemmas.List.{get_or-take, length-take-le}
 use Rattle.permutations.proofs.Iterates.{iterate-sum}
 use Rattle.multigraph.specs.Graph.{Multigraph}
 use Rattle.blocks.specs.State.{SearchState, left}
-use Rattle.blocks.specs.Searching.{flag, degree, IsOnPath, IsLooked, IsLow, OnPath, SeenLeadsTo, IsSearching}
+use Rattle.multigraph.specs.Marks.{is_marked}
+use Rattle.blocks.specs.Searching.{degree, IsOnPath, IsLooked, IsLow, OnPath, SeenLeadsTo, IsSearching}
 use Rattle.blocks.proofs.Writes.{number-same, number-other}
 use Rattle.blocks.proofs.Ancestors.{chain}
 
@@ -27,8 +28,8 @@ module _ (g : Multigraph) (s : SearchState) (v k : ℕ) (b : IsSearching g s) (f
   path' : List ℕ
   path' = take (length s.path - 1) s.path
 
-  visited-here : flag s.visited v ≡ true
-  visited-here = subst (λ (z : ℕ). flag s.visited z ≡ true) f.here (b.on_path.visits k (omega (arith, f.last)))
+  visited-here : is_marked s.visited v ≡ true
+  visited-here = subst (λ (z : ℕ). is_marked s.visited z ≡ true) f.here (b.on_path.visits k (omega (arith, f.last)))
 
   depth-here : get_or s.depth v 0 ≡ k
   depth-here = ap (λ (z : ℕ). get_or s.depth z 0) (sym f.here) ∙ b.on_path.deep k (omega (arith, f.last))
@@ -55,7 +56,7 @@ module _ (g : Multigraph) (s : SearchState) (v k : ℕ) (b : IsSearching g s) (f
   on_path : IsOnPath g s.visited s.parent s.depth path'
   on_path = record {
     within = λ j l. let m : j < k = omega (arith, path-length) in subst (λ (z : ℕ). z < g.vertex_count) (sym (path-at j m)) (b.on_path.within j (omega (arith, f.last)));
-    visits = λ j l. let m : j < k = omega (arith, path-length) in subst (λ (z : ℕ). flag s.visited z ≡ true) (sym (path-at j m)) (b.on_path.visits j (omega (arith, f.last)));
+    visits = λ j l. let m : j < k = omega (arith, path-length) in subst (λ (z : ℕ). is_marked s.visited z ≡ true) (sym (path-at j m)) (b.on_path.visits j (omega (arith, f.last)));
     deep = λ j l. let m : j < k = omega (arith, path-length) in ap (λ (z : ℕ). get_or s.depth z 0) (path-at j m) ∙ b.on_path.deep j (omega (arith, f.last));
     from_parent = λ j l.
         let m : j + 1 < k = omega (arith, path-length) in
@@ -118,7 +119,7 @@ module _ (g : Multigraph) (s : SearchState) (v k : ℕ) (b : IsSearching g s) (f
       parent-in : p < g.vertex_count
       parent-in = b.grown.parent_in v visited-here d
 
-      parent-visited : flag s.visited p ≡ true
+      parent-visited : is_marked s.visited p ≡ true
       parent-visited = b.grown.parent_visited v visited-here d
 
       parent-depth : get_or s.depth p 0 + 1 ≡ get_or s.depth v 0

@@ -6,15 +6,16 @@ use Rattle.multigraph.proofs.Incident.{incident-has}
 use Rattle.multigraph.proofs.OtherEnd.{is_end-first}
 use Rattle.graph_theory.specs.SearchTree.{IsSearchForest, LeadsTo, AreLowPoints}
 use Rattle.blocks.specs.State.{SearchState}
-use Rattle.blocks.specs.Searching.{flag, degree, OnPath, SeenLeadsTo, IsSearching, IsOver}
-use Rattle.blocks.proofs.Writes.{flag-in}
+use Rattle.multigraph.specs.Marks.{is_marked}
+use Rattle.blocks.specs.Searching.{degree, OnPath, SeenLeadsTo, IsSearching, IsOver}
+use Rattle.blocks.proofs.Writes.{marked-in}
 
 -- nothing is on an empty path
 pub off-empty : (path : List ℕ) → path ≡ [] → (v : ℕ) → OnPath path v → ⊥
 off-empty path e v o = absurd (omega (arith, o.within, ap length e))
 
 -- every edge was seen
-pub over-seen : (g : Multigraph) → IsGraph g → (s : SearchState) → IsOver g s → (e : ℕ) → e < edge_count g → flag s.seen e ≡ true
+pub over-seen : (g : Multigraph) → IsGraph g → (s : SearchState) → IsOver g s → (e : ℕ) → e < edge_count g → is_marked s.seen e ≡ true
 over-seen g gg s o e l = from (incident-has g v e l (is_end-first g e))
   where
     v : ℕ
@@ -26,14 +27,14 @@ over-seen g gg s o e l = from (incident-has g v e l (is_end-first g e))
     done : get_or s.position v 0 ≡ degree g v
     done = elim (o.searching.looked.finished v (o.visited v vl)) [ inl a ↦ a | inr p ↦ absurd (off-empty s.path o.empty v p) ]
 
-    from : (q : ℕ) × (q < length (incident_edges g v)) × (get_or (incident_edges g v) q e ≡ e) → flag s.seen e ≡ true
+    from : (q : ℕ) × (q < length (incident_edges g v)) × (get_or (incident_edges g v) q e ≡ e) → is_marked s.seen e ≡ true
     from c =
         let f : get_or (incident_edges g v) c.0 0 ≡ e = get_or_default (incident_edges g v) c.0 0 e c.1 ∙ c.2 in
-        subst (λ (z : ℕ). flag s.seen z ≡ true) f (o.searching.looked.looked v vl c.0 (omega (arith, done, c.1)))
+        subst (λ (z : ℕ). is_marked s.seen z ≡ true) f (o.searching.looked.looked v vl c.0 (omega (arith, done, c.1)))
 
 -- a seen edge is an edge
-pub seen-in : (g : Multigraph) (s : SearchState) → IsSearching g s → (e : ℕ) → flag s.seen e ≡ true → e < edge_count g
-seen-in g s k e h = omega (arith, flag-in s.seen e h, k.places.seen)
+pub seen-in : (g : Multigraph) (s : SearchState) → IsSearching g s → (e : ℕ) → is_marked s.seen e ≡ true → e < edge_count g
+seen-in g s k e h = omega (arith, marked-in s.seen e h, k.places.seen)
 
 -- the search forest
 pub over-forest : (g : Multigraph) → IsGraph g → (s : SearchState) → IsOver g s → IsSearchForest g (λ v. get_or s.parent v 0) (λ v. get_or s.depth v 0) (λ v. get_or s.parent_edge v 0) (λ e. get_or s.lower e 0)
@@ -69,4 +70,4 @@ over-low g gg s o = record {
 pub over-lower_in : (g : Multigraph) → IsGraph g → (s : SearchState) → IsOver g s → (e : ℕ) → e < length s.lower → get_or s.lower e 0 < g.vertex_count
 over-lower_in g gg s o e l =
     let k = o.searching in
-    omega (arith, flag-in s.visited (get_or s.lower e 0) (k.edges.lower_visited e (over-seen g gg s o e (omega (arith, l, k.places.lower)))), k.places.visited)
+    omega (arith, marked-in s.visited (get_or s.lower e 0) (k.edges.lower_visited e (over-seen g gg s o e (omega (arith, l, k.places.lower)))), k.places.visited)

@@ -6,12 +6,13 @@ use Rattle.permutations.specs.Members.{is_member}
 use Rattle.permutations.proofs.Arrangements.{member-at}
 use Rattle.multigraph.specs.Graph.{Multigraph, other_end}
 use Rattle.blocks.specs.State.{SearchState, root_noted}
-use Rattle.blocks.specs.Searching.{flag, IsOnPath, IsGrown, IsSeen, IsLow, IsOrdered, OnPath, SeenLeadsTo, IsSearching}
-use Rattle.blocks.proofs.Writes.{number-same, number-other, flag-same, flag-cases, flag-kept, flags-differ}
+use Rattle.multigraph.specs.Marks.{is_marked}
+use Rattle.blocks.specs.Searching.{IsOnPath, IsGrown, IsSeen, IsLow, IsOrdered, OnPath, SeenLeadsTo, IsSearching}
+use Rattle.blocks.proofs.Writes.{number-same, number-other, marked-same, marked-cases, marked-kept, marks-differ}
 use Rattle.blocks.proofs.Leads.{upper-visited, leads-kept}
 use Rattle.blocks.proofs.Child.{on-last, order-longer}
 
-module _ (g : Multigraph) (s : SearchState) (r : ℕ) (b : IsSearching g s) (rl : r < g.vertex_count) (unvisited : flag s.visited r ≡ false) (empty : s.path ≡ []) where
+module _ (g : Multigraph) (s : SearchState) (r : ℕ) (b : IsSearching g s) (rl : r < g.vertex_count) (unvisited : is_marked s.visited r ≡ false) (empty : s.path ≡ []) where
   visited' : List Bool
   visited' = set s.visited r true
 
@@ -27,22 +28,22 @@ module _ (g : Multigraph) (s : SearchState) (r : ℕ) (b : IsSearching g s) (rl 
   r-in : r < length s.visited
   r-in = omega (arith, rl, b.places.visited)
 
-  other : (u : ℕ) → flag s.visited u ≡ true → u ≢ r
-  other u h = flags-differ s.visited u r h unvisited
+  other : (u : ℕ) → is_marked s.visited u ≡ true → u ≢ r
+  other u h = marks-differ s.visited u r h unvisited
 
-  visited-cases : (u : ℕ) → flag visited' u ≡ true → (u ≡ r) ⊎ (flag s.visited u ≡ true)
+  visited-cases : (u : ℕ) → is_marked visited' u ≡ true → (u ≡ r) ⊎ (is_marked s.visited u ≡ true)
   unfolding visited'
-  visited-cases u h = flag-cases s.visited r u h
+  visited-cases u h = marked-cases s.visited r u h
 
-  visited-kept : (u : ℕ) → flag s.visited u ≡ true → flag visited' u ≡ true
+  visited-kept : (u : ℕ) → is_marked s.visited u ≡ true → is_marked visited' u ≡ true
   unfolding visited'
-  visited-kept u h = flag-kept s.visited r u r-in h
+  visited-kept u h = marked-kept s.visited r u r-in h
 
-  visited-root : flag visited' r ≡ true
+  visited-root : is_marked visited' r ≡ true
   unfolding visited'
-  visited-root = flag-same s.visited r r-in
+  visited-root = marked-same s.visited r r-in
 
-  depth-kept : (u : ℕ) → flag s.visited u ≡ true → get_or depth' u 0 ≡ get_or s.depth u 0
+  depth-kept : (u : ℕ) → is_marked s.visited u ≡ true → get_or depth' u 0 ≡ get_or s.depth u 0
   unfolding depth'
   depth-kept u h = number-other s.depth r u 0 (other u h)
 
@@ -50,7 +51,7 @@ module _ (g : Multigraph) (s : SearchState) (r : ℕ) (b : IsSearching g s) (rl 
   unfolding depth'
   depth-root = number-same s.depth r 0 (omega (arith, rl, b.places.depth))
 
-  low-kept : (u : ℕ) → flag s.visited u ≡ true → get_or low' u 0 ≡ get_or s.low u 0
+  low-kept : (u : ℕ) → is_marked s.visited u ≡ true → get_or low' u 0 ≡ get_or s.low u 0
   unfolding low'
   low-kept u h = number-other s.low r u 0 (other u h)
 
@@ -78,16 +79,16 @@ module _ (g : Multigraph) (s : SearchState) (r : ℕ) (b : IsSearching g s) (rl 
   off u o = absurd (omega (arith, o.within, ap length empty))
 
   -- a vertex deeper than a root is not the root
-  deep-visited : (u : ℕ) → flag visited' u ≡ true → 0 < get_or depth' u 0 → flag s.visited u ≡ true
+  deep-visited : (u : ℕ) → is_marked visited' u ≡ true → 0 < get_or depth' u 0 → is_marked s.visited u ≡ true
   deep-visited u h d = elim (visited-cases u h) [ inl q ↦ absurd (omega (arith, d, depth-root, ap (λ (z : ℕ). get_or depth' z 0) q)) | inr o ↦ o ]
 
-  deep-old : (u : ℕ) → (h : flag visited' u ≡ true) → (d : 0 < get_or depth' u 0) → 0 < get_or s.depth u 0
+  deep-old : (u : ℕ) → (h : is_marked visited' u ≡ true) → (d : 0 < get_or depth' u 0) → 0 < get_or s.depth u 0
   deep-old u h d = omega (arith, d, depth-kept u (deep-visited u h d))
 
   on_path : IsOnPath g visited' s.parent depth' path'
   on_path = record {
     within = λ j l. subst (λ (z : ℕ). z < g.vertex_count) (sym (path-root j l)) rl;
-    visits = λ j l. subst (λ (z : ℕ). flag visited' z ≡ true) (sym (path-root j l)) visited-root;
+    visits = λ j l. subst (λ (z : ℕ). is_marked visited' z ≡ true) (sym (path-root j l)) visited-root;
     deep = λ j l. ap (λ (z : ℕ). get_or depth' z 0) (path-root j l) ∙ (depth-root ∙ sym (path-first j l));
     from_parent = λ j l. absurd (omega (arith, path-first (j + 1) l));
   }
@@ -148,7 +149,7 @@ module _ (g : Multigraph) (s : SearchState) (r : ℕ) (b : IsSearching g s) (rl 
       before : (q : ℕ) → q < length s.order → 0 < get_or depth' (get_or (s.order ++ r ∷ []) q 0) 0 → is_member (get_or s.parent (get_or (s.order ++ r ∷ []) q 0) 0) (take q (s.order ++ r ∷ [])) ≡ true
       before q a d =
           let at : get_or (s.order ++ r ∷ []) q 0 ≡ get_or s.order q 0 = get_or_append_left s.order (r ∷ []) 0 q a in
-          let o : flag s.visited (get_or s.order q 0) ≡ true = sym (b.ordered.members (get_or s.order q 0)) ∙ member-at s.order q 0 a in
+          let o : is_marked s.visited (get_or s.order q 0) ≡ true = sym (b.ordered.members (get_or s.order q 0)) ∙ member-at s.order q 0 a in
           let x : 0 < get_or s.depth (get_or s.order q 0) 0 = omega (arith, depth-kept (get_or s.order q 0) o, ap (λ (z : ℕ). get_or depth' z 0) at, d) in
           let le : q ≤ length s.order = omega arith in
           subst (λ (z : ℕ). is_member (get_or s.parent z 0) (take q (s.order ++ r ∷ [])) ≡ true) (sym at)

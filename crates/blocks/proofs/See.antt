@@ -7,8 +7,9 @@ use Rattle.multigraph.proofs.Incident.{incident-has}
 use Rattle.multigraph.proofs.OtherEnd.{other_end-is_end}
 use Rattle.graph_theory.proofs.Ends.{other-differs, end-in}
 use Rattle.blocks.specs.State.{SearchState, frond_noted, child_noted}
-use Rattle.blocks.specs.Searching.{flag, degree, IsSearching, IsLast, OnPath, IsSeenAt}
-use Rattle.blocks.proofs.Writes.{flag-same, flag-kept}
+use Rattle.multigraph.specs.Marks.{is_marked}
+use Rattle.blocks.specs.Searching.{degree, IsSearching, IsLast, OnPath, IsSeenAt}
+use Rattle.blocks.proofs.Writes.{marked-same, marked-kept}
 use Rattle.blocks.proofs.Frond.{frond-kept}
 use Rattle.blocks.proofs.Child.{child-kept, on-longer}
 
@@ -17,7 +18,7 @@ pub last-on : (s : SearchState) (v : ℕ) → IsLast s v → OnPath s.path v
 last-on s v l = record { place = l.place; within = omega (arith, l.last); is = l.is }
 
 -- a visited vertex with an unseen edge is on the path
-pub unseen-on : (g : Multigraph) (s : SearchState) (w e : ℕ) → IsSearching g s → w < g.vertex_count → flag s.visited w ≡ true → e < edge_count g → is_end g w e ≡ true → flag s.seen e ≡ false → OnPath s.path w
+pub unseen-on : (g : Multigraph) (s : SearchState) (w e : ℕ) → IsSearching g s → w < g.vertex_count → is_marked s.visited w ≡ true → e < edge_count g → is_end g w e ≡ true → is_marked s.seen e ≡ false → OnPath s.path w
 unseen-on g s w e k l h m i u = elim (k.looked.finished w h) [
   | inl a ↦ absurd (at a (incident-has g w e m i))
   | inr o ↦ o
@@ -26,10 +27,10 @@ unseen-on g s w e k l h m i u = elim (k.looked.finished w h) [
     at : get_or s.position w 0 ≡ degree g w → (q : ℕ) × (q < length (incident_edges g w)) × (get_or (incident_edges g w) q e ≡ e) → ⊥
     at a c =
         let f : get_or (incident_edges g w) c.0 0 ≡ e = get_or_default (incident_edges g w) c.0 0 e c.1 ∙ c.2 in
-        both_ways (flag s.seen e) u (subst (λ (z : ℕ). flag s.seen z ≡ true) f (k.looked.looked w l c.0 (omega (arith, a, c.1))))
+        both_ways (is_marked s.seen e) u (subst (λ (z : ℕ). is_marked s.seen z ≡ true) f (k.looked.looked w l c.0 (omega (arith, a, c.1))))
 
 -- the edge leads to a vertex that was visited
-pub see-frond : (g : Multigraph) → IsGraph g → (s : SearchState) (v e : ℕ) → IsSearching g s → IsLast s v → e < edge_count g → is_end g v e ≡ true → flag s.seen e ≡ false → flag s.visited (other_end g e v) ≡ true → IsSeenAt g s (frond_noted s v e (get_or s.depth (other_end g e v) 0)) v e
+pub see-frond : (g : Multigraph) → IsGraph g → (s : SearchState) (v e : ℕ) → IsSearching g s → IsLast s v → e < edge_count g → is_end g v e ≡ true → is_marked s.seen e ≡ false → is_marked s.visited (other_end g e v) ≡ true → IsSeenAt g s (frond_noted s v e (get_or s.depth (other_end g e v) 0)) v e
 see-frond g gg s v e k l m i u h = made (unseen-on g s w e k (end-in g gg e w m (other_end-is_end g e v)) h m (other_end-is_end g e v) u)
   where
     w : ℕ
@@ -52,7 +53,7 @@ see-frond g gg s v e k l m i u h = made (unseen-on g s w e k (end-in g gg e w m 
             here = ap (λ (z : ℕ). get_or s.path z 0) q ∙ l.is;
             there = o.is;
           });
-          seen = flag-same s.seen e (omega (arith, m, k.places.seen));
+          seen = marked-same s.seen e (omega (arith, m, k.places.seen));
           position = refl;
           on_path = last-on s v l;
           longer = omega arith;
@@ -60,7 +61,7 @@ see-frond g gg s v e k l m i u h = made (unseen-on g s w e k (end-in g gg e w m 
         }
 
 -- the edge leads to a vertex that was not visited
-pub see-child : (g : Multigraph) → IsGraph g → (s : SearchState) (v e : ℕ) → IsSearching g s → IsLast s v → e < edge_count g → is_end g v e ≡ true → flag s.seen e ≡ false → flag s.visited (other_end g e v) ≡ false → IsSeenAt g s (child_noted s v e (other_end g e v)) v e
+pub see-child : (g : Multigraph) → IsGraph g → (s : SearchState) (v e : ℕ) → IsSearching g s → IsLast s v → e < edge_count g → is_end g v e ≡ true → is_marked s.seen e ≡ false → is_marked s.visited (other_end g e v) ≡ false → IsSeenAt g s (child_noted s v e (other_end g e v)) v e
 see-child g gg s v e k l m i u h = record {
   searching = child-kept g s v e w l.place k (record {
     edge_in = m;
@@ -73,11 +74,11 @@ see-child g gg s v e k l m i u h = record {
     last = l.last;
     here = l.is;
   });
-  seen = flag-same s.seen e (omega (arith, m, k.places.seen));
+  seen = marked-same s.seen e (omega (arith, m, k.places.seen));
   position = refl;
   on_path = on-longer s.path w v (last-on s v l);
   longer = omega (arith, length-append s.path (w ∷ []));
-  visited = λ x t. flag-kept s.visited w x (omega (arith, wl, k.places.visited)) t;
+  visited = λ x t. marked-kept s.visited w x (omega (arith, wl, k.places.visited)) t;
 }
   where
     w : ℕ

@@ -5,7 +5,7 @@ use Rattle.std.proofs.lemmas.List.{take_more, take-append-drop, get_or_default}
 use Rattle.permutations.specs.Members.{is_member, is_distinct}
 use Rattle.permutations.proofs.Members.{member-head, member-cases, member-append_left, member-append_cases, distinct-append_left, distinct-append_apart}
 use Rattle.permutations.proofs.Arrangements.{contains-from_member}
-use Rattle.blocks.specs.Searching.{flag}
+use Rattle.multigraph.specs.Marks.{is_marked}
 use Rattle.blocks.specs.Spread.{IsSpreadOrder, IsSpread}
 use Rattle.blocks.proofs.Writes.{number-same, number-other}
 
@@ -25,25 +25,25 @@ not_before order k d l = false_from_ne_true (is_member (get_or order k 0) (take 
 
 -- one number more, with the label y, which is itself or the label of its parent
 pub spread-more : (n : ℕ) (parent : List ℕ) (own : List Bool) (order label : List ℕ) (k y : ℕ) → IsSpreadOrder n parent own order → length label ≡ n → k < length order → IsSpread parent own (take k order) label
-    → (flag own (get_or order k 0) ≡ true → y ≡ get_or order k 0)
-    → (flag own (get_or order k 0) ≡ false → y ≡ get_or label (get_or parent (get_or order k 0) 0) 0)
+    → (is_marked own (get_or order k 0) ≡ true → y ≡ get_or order k 0)
+    → (is_marked own (get_or order k 0) ≡ false → y ≡ get_or label (get_or parent (get_or order k 0) 0) 0)
     → IsSpread parent own (take (k + 1) order) (set label (get_or order k 0) y)
 spread-more n parent own order label k y o ln l s mine theirs = record {
   of_own = λ v m h. elim (cases v m) [
     | inl b ↦ number-other label x v y (other v b) ∙ s.of_own v b h
-    | inr e ↦ subst (λ (z : ℕ). get_or (set label x y) z 0 ≡ z) (sym e) (here ∙ mine (subst (λ (z : ℕ). flag own z ≡ true) e h))
+    | inr e ↦ subst (λ (z : ℕ). get_or (set label x y) z 0 ≡ z) (sym e) (here ∙ mine (subst (λ (z : ℕ). is_marked own z ≡ true) e h))
   ];
   of_parent = λ v m h. elim (cases v m) [
     | inl b ↦ number-other label x v y (other v b) ∙ (s.of_parent v b h ∙ sym (number-other label x (get_or parent v 0) y (other (get_or parent v 0) (s.parent_done v b h))))
     | inr e ↦
-        let f : flag own x ≡ false = subst (λ (z : ℕ). flag own z ≡ false) e h in
+        let f : is_marked own x ≡ false = subst (λ (z : ℕ). is_marked own z ≡ false) e h in
         let p : is_member (get_or parent x 0) (take k order) ≡ true = o.behind_parent k l f in
         subst (λ (z : ℕ). get_or (set label x y) z 0 ≡ get_or (set label x y) (get_or parent z 0) 0) (sym e)
         (here ∙ (theirs f ∙ sym (number-other label x (get_or parent x 0) y (other (get_or parent x 0) p))))
   ];
   parent_done = λ v m h. elim (cases v m) [
     | inl b ↦ longer (get_or parent v 0) (s.parent_done v b h)
-    | inr e ↦ longer (get_or parent v 0) (subst (λ (z : ℕ). is_member (get_or parent z 0) (take k order) ≡ true) (sym e) (o.behind_parent k l (subst (λ (z : ℕ). flag own z ≡ false) e h)))
+    | inr e ↦ longer (get_or parent v 0) (subst (λ (z : ℕ). is_member (get_or parent z 0) (take k order) ≡ true) (sym e) (o.behind_parent k l (subst (λ (z : ℕ). is_marked own z ≡ false) e h)))
   ];
 }
   where
@@ -76,5 +76,5 @@ order-in n parent own order o k v m = from (contains-from_member order v (subst 
     from c = subst (λ (z : ℕ). z < n) (get_or_default order c.0 0 v c.1 ∙ c.2) (o.within c.0 c.1)
 
 -- the parent of a number without a label of its own is below n
-pub parent-in : (n : ℕ) (parent : List ℕ) (own : List Bool) (order : List ℕ) → IsSpreadOrder n parent own order → (k : ℕ) → k < length order → flag own (get_or order k 0) ≡ false → get_or parent (get_or order k 0) 0 < n
+pub parent-in : (n : ℕ) (parent : List ℕ) (own : List Bool) (order : List ℕ) → IsSpreadOrder n parent own order → (k : ℕ) → k < length order → is_marked own (get_or order k 0) ≡ false → get_or parent (get_or order k 0) 0 < n
 parent-in n parent own order o k l h = order-in n parent own order o k (get_or parent (get_or order k 0) 0) (o.behind_parent k l h)

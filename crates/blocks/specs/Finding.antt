@@ -4,7 +4,7 @@ use Rattle.permutations.specs.Relation.{class_count}
 use Rattle.multigraph.specs.Graph.{Multigraph, edge_count, numbers_below}
 use Rattle.graph_theory.specs.Block.{SameBlock}
 use Rattle.blocks.specs.State.{SearchState}
-use Rattle.blocks.specs.Searching.{flag}
+use Rattle.multigraph.specs.Marks.{is_marked}
 use Rattle.blocks.specs.Numbering.{IsNumbering, same_label}
 
 -- v is a root, or nothing leads from it or below it past its parent
@@ -15,17 +15,17 @@ IsHead s v = (slice_index s.depth v ≡ 0) ⊎ (slice_index s.depth (slice_index
 abbrev pub IsNoHead : SearchState → ℕ → Type 0
 IsNoHead s v = (0 < slice_index s.depth v) × (slice_index s.low v < slice_index s.depth (slice_index s.parent v))
 
--- the flags of the first k vertices: whether nothing leads from the vertex or below it past its parent, or it is a root
+-- the marks of the first k vertices: whether nothing leads from the vertex or below it past its parent, or it is a root
 pub record AreHeads (s : SearchState) (k : ℕ) (heads : List Bool) : Type 0 where
   pub places : length heads ≡ k
-  pub head : (v : ℕ) → v < k → flag heads v ≡ true → IsHead s v
-  pub other : (v : ℕ) → v < k → flag heads v ≡ false → IsNoHead s v
+  pub head : (v : ℕ) → v < k → is_marked heads v ≡ true → IsHead s v
+  pub other : (v : ℕ) → v < k → is_marked heads v ≡ false → IsNoHead s v
 
--- the flags of the first k vertices: whether the vertex is a root
+-- the marks of the first k vertices: whether the vertex is a root
 pub record AreRoots (s : SearchState) (k : ℕ) (roots : List Bool) : Type 0 where
   pub places : length roots ≡ k
-  pub root : (v : ℕ) → v < k → flag roots v ≡ true → slice_index s.depth v ≡ 0
-  pub other : (v : ℕ) → v < k → flag roots v ≡ false → 0 < slice_index s.depth v
+  pub root : (v : ℕ) → v < k → is_marked roots v ≡ true → slice_index s.depth v ≡ 0
+  pub other : (v : ℕ) → v < k → is_marked roots v ≡ false → 0 < slice_index s.depth v
 
 -- the numbers of the blocks of the edges, in order of their least edges, and how many there are
 pub record AreBlockNumbers (g : Multigraph) (numbers : List ℕ) (total : ℕ) : Type 0 where

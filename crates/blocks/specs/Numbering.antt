@@ -2,7 +2,7 @@
 use Rattle.std.specs.Prelude.{◌≡◌, ℕ, ◌<◌, ◌==◌, Bool, true, List, length, slice_index}
 use Rattle.permutations.specs.Count.{count}
 use Rattle.permutations.specs.Relation.{leads}
-use Rattle.blocks.specs.Searching.{flag}
+use Rattle.multigraph.specs.Marks.{is_marked}
 
 -- whether two places have the same label
 abbrev pub same_label : List ℕ → ℕ → ℕ → Bool
@@ -18,9 +18,9 @@ pub record IsNumbering (labels numbers : List ℕ) : Type 0 where
 -- the first i places were numbered: which labels were met, the number of each of them, and how many there are
 pub record IsNumbered (labels : List ℕ) (i : ℕ) (met : List Bool) (number_of numbers : List ℕ) (classes : ℕ) : Type 0 where
   pub places : length numbers ≡ i
-  pub is_met : (j : ℕ) → j < i → flag met (slice_index labels j) ≡ true
+  pub is_met : (j : ℕ) → j < i → is_marked met (slice_index labels j) ≡ true
   pub is_number : (j : ℕ) → j < i → slice_index numbers j ≡ slice_index number_of (slice_index labels j)
-  pub first_place : (label : ℕ) → flag met label ≡ true → (j : ℕ) × (j < i) × (slice_index labels j ≡ label) × (leads (same_label labels) j ≡ true) × (slice_index number_of label ≡ count j (leads (same_label labels)))
-  pub below : (label : ℕ) → flag met label ≡ true → slice_index number_of label < classes
-  pub apart : (a b : ℕ) → flag met a ≡ true → flag met b ≡ true → slice_index number_of a ≡ slice_index number_of b → a ≡ b
+  pub first_place : (label : ℕ) → is_marked met label ≡ true → (j : ℕ) × (j < i) × (slice_index labels j ≡ label) × (leads (same_label labels) j ≡ true) × (slice_index number_of label ≡ count j (leads (same_label labels)))
+  pub below : (label : ℕ) → is_marked met label ≡ true → slice_index number_of label < classes
+  pub apart : (a b : ℕ) → is_marked met a ≡ true → is_marked met b ≡ true → slice_index number_of a ≡ slice_index number_of b → a ≡ b
   pub total : classes ≡ count i (leads (same_label labels))

@@ -1,7 +1,7 @@
 // Classes of equal labels, numbered in order of their first places.
 ghost use Rattle.std.specs.Prelude.{◌≡◌, ◌<◌, ◌+◌, ◌^◌, [], true, false, length, IfOk, slice_index, slice_set, ℕ};
 ghost use Rattle.permutations.specs.Relation.{class_count};
-ghost use Rattle.blocks.specs.Searching.{flag};
+ghost use Rattle.multigraph.specs.Marks.{is_marked};
 ghost use Rattle.blocks.specs.Numbering.{IsNumbering, IsNumbered, same_label};
 
 use std::alloc::{AllocError, Global};
@@ -11,8 +11,8 @@ fn meet(met: &mut [bool], number_of: &mut [u32], label: usize, classes: u32) -> 
     requires met_within { label < length met.old }
     requires number_within { label < length number_of.old }
     requires fits { classes + 1 < 2 ^ 32 }
-    ensures again { flag met.old label ≡ true → (met.new ≡ met.old) × (number_of.new ≡ number_of.old) × (result ≡ classes) }
-    ensures first { flag met.old label ≡ false → (met.new ≡ slice_set met.old label true) × (number_of.new ≡ slice_set number_of.old label classes) × (result ≡ classes + 1) }
+    ensures again { is_marked met.old label ≡ true → (met.new ≡ met.old) × (number_of.new ≡ number_of.old) × (result ≡ classes) }
+    ensures first { is_marked met.old label ≡ false → (met.new ≡ slice_set met.old label true) × (number_of.new ≡ slice_set number_of.old label classes) × (result ≡ classes + 1) }
 {
     if met[label] {
         return classes;
@@ -32,7 +32,7 @@ fn number_along(
     requires within { (i : ℕ) → i < length labels.now → slice_index labels.now i < length met.old }
     requires same_length { length number_of.old ≡ length met.old }
     requires few { length labels.now < 2 ^ 31 }
-    requires unmet { (label : ℕ) → flag met.old label ≡ false }
+    requires unmet { (label : ℕ) → is_marked met.old label ≡ false }
     requires none { numbers.old.items ≡ [] }
     ensures numbering { IfOk result (λ _. IsNumbering labels.now numbers.new.items) }
     ensures classes { IfOk result (λ classes. classes ≡ class_count (length labels.now) (same_label labels.now)) }

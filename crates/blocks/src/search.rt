@@ -2,7 +2,8 @@
 ghost use Rattle.std.specs.Prelude.{◌≡◌, ◌+◌, ◌-◌, ◌<◌, ◌≤◌, ◌⊎◌, ℕ, true, false, [], map, length, IfOk, slice_index, slice_get};
 ghost use Rattle.multigraph.specs.Graph.{edge_count, is_end, IsGraph, IsWithinLimits};
 ghost use Rattle.blocks.specs.State.{SearchState, fresh, looked_further, frond_noted, root_noted, child_noted, left};
-ghost use Rattle.blocks.specs.Searching.{flag, degree, IsSearching, IsLast, IsSeenAt, IsTurned, IsExplored, IsOver};
+ghost use Rattle.multigraph.specs.Marks.{is_marked};
+ghost use Rattle.blocks.specs.Searching.{degree, IsSearching, IsLast, IsSeenAt, IsTurned, IsExplored, IsOver};
 ghost use Rattle.blocks.specs.Spread.{IsSpreadOrder, IsSpread};
 ghost use Rattle.blocks.specs.Finding.{IsHead, IsNoHead, AreHeads, AreRoots, AreBlockNumbers};
 ghost use Rattle.blocks.specs.Blocks.{AreComponents};
@@ -140,7 +141,7 @@ impl Search {
     // Whether the vertex was visited.
     fn is_visited(&self, vertex: u32) -> bool
         requires { vertex < length self.now.visited }
-        ensures { result ≡ flag self.now.visited vertex }
+        ensures { result ≡ is_marked self.now.visited vertex }
     {
         self.visited[vertex as usize]
     }
@@ -148,7 +149,7 @@ impl Search {
     // Whether the edge was seen.
     fn is_seen(&self, edge: u32) -> bool
         requires { edge < length self.now.seen }
-        ensures { result ≡ flag self.now.seen edge }
+        ensures { result ≡ is_marked self.now.seen edge }
     {
         self.seen[edge as usize]
     }
@@ -245,10 +246,10 @@ impl Search {
         requires graph { IsGraph graph.now }
         requires searching { IsSearching graph.now self.old }
         requires root_in { root < graph.now.vertex_count }
-        requires unvisited { flag self.old.visited root ≡ false }
+        requires unvisited { is_marked self.old.visited root ≡ false }
         requires empty { self.old.path ≡ [] }
         ensures explored { IfOk result (λ _. IsExplored graph.now self.old self.new) }
-        ensures root { IfOk result (λ _. flag self.new.visited root ≡ true) }
+        ensures root { IfOk result (λ _. is_marked self.new.visited root ≡ true) }
     {
         self.note_root(root)?;
         self.explore(graph)
@@ -261,7 +262,7 @@ impl Search {
         requires root_in { root < graph.now.vertex_count }
         requires empty { self.old.path ≡ [] }
         ensures explored { IfOk result (λ _. IsExplored graph.now self.old self.new) }
-        ensures root { IfOk result (λ _. flag self.new.visited root ≡ true) }
+        ensures root { IfOk result (λ _. is_marked self.new.visited root ≡ true) }
     {
         if self.is_visited(root) {
             return Ok(());
@@ -297,7 +298,7 @@ impl Search {
         self.depth[self.parent[vertex as usize] as usize] <= self.low[vertex as usize]
     }
 
-    // The flags of the vertices past whose parent nothing leads, and of the roots.
+    // The marks of the vertices past whose parent nothing leads, and of the roots.
     fn heads(&self, alloc: Global, graph: &Graph) -> Result<Vec<bool>, AllocError>
         requires { IsOver graph.now self.now }
         ensures { IfOk result (λ heads. AreHeads self.now graph.now.vertex_count heads.items) }
@@ -309,7 +310,7 @@ impl Search {
         Ok(heads)
     }
 
-    // The flags of the roots.
+    // The marks of the roots.
     fn roots(&self, alloc: Global, graph: &Graph) -> Result<Vec<bool>, AllocError>
         requires { IsOver graph.now self.now }
         ensures { IfOk result (λ roots. AreRoots self.now graph.now.vertex_count roots.items) }
@@ -321,7 +322,7 @@ impl Search {
         Ok(roots)
     }
 
-    // The label of each vertex: itself where it has a flag, else the label of its parent.
+    // The label of each vertex: itself where it has a mark, else the label of its parent.
     fn labels(&self, alloc: Global, own: &[bool]) -> Result<Vec<u32>, AllocError>
         requires order { IsSpreadOrder (length self.now.parent) self.now.parent own.now self.now.order }
         ensures labels { IfOk result (λ label. IsSpread self.now.parent own.now self.now.order label.items) }

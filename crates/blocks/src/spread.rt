@@ -1,6 +1,6 @@
 // Labels that are spread from parents to children along an order.
 ghost use Rattle.std.specs.Prelude.{◌≡◌, ◌<◌, ℕ, true, false, map, length, IfOk, slice_index};
-ghost use Rattle.blocks.specs.Searching.{flag};
+ghost use Rattle.multigraph.specs.Marks.{is_marked};
 ghost use Rattle.blocks.specs.Spread.{IsSpreadOrder, IsSpread};
 
 use std::alloc::{AllocError, Global};
@@ -9,9 +9,9 @@ use std::alloc::{AllocError, Global};
 fn label_of(parent: &[u32], own: &[bool], label: &[u32], vertex: u32) -> u32
     requires own_within { vertex < length own.now }
     requires parent_within { vertex < length parent.now }
-    requires label_within { flag own.now vertex ≡ false → slice_index parent.now vertex < length label.now }
-    ensures of_own { flag own.now vertex ≡ true → result ≡ vertex }
-    ensures of_parent { flag own.now vertex ≡ false → result ≡ slice_index label.now (slice_index parent.now vertex) }
+    requires label_within { is_marked own.now vertex ≡ false → slice_index parent.now vertex < length label.now }
+    ensures of_own { is_marked own.now vertex ≡ true → result ≡ vertex }
+    ensures of_parent { is_marked own.now vertex ≡ false → result ≡ slice_index label.now (slice_index parent.now vertex) }
 {
     if own[vertex as usize] {
         return vertex;

@@ -1,4 +1,4 @@
--- What is known of a graph on the way up over its contractions.
+-- State of a loop: what is known of a graph on the way up over its contractions.
 use Rattle.multigraph.specs.Graph.{Multigraph}
 use Rattle.kuratowski.specs.Subdivision.{IsSubdivision}
 use Rattle.contract_obstruct.specs.Steps.{ArePlaneSteps}

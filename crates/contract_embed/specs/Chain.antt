@@ -1,4 +1,4 @@
--- Graphs that lead to one another by contractions.
+-- State of a loop: graphs that lead to one another by contractions.
 use Rattle.std.specs.Prelude.{◌≡◌, List, [], ◌∷◌}
 use Rattle.multigraph.specs.Graph.{Multigraph}
 use Rattle.contractions.specs.Level.{IsLevel, contraction}

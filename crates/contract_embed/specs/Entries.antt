@@ -1,4 +1,4 @@
--- Entries that give the cyclic orders of a rotation system.
+-- State of a loop: entries that give the cyclic orders of a rotation system.
 use Rattle.std.specs.Prelude.{◌≡◌, ℕ, ◌<◌, List, length}
 use Rattle.rotations.specs.Entries.{entry}
 use Rattle.rotations.specs.Rotation.{order_at}

@@ -1,3 +1,4 @@
+-- Rotation systems from contractions.
 pub mod Chain
 pub mod Steps
 pub mod Runs

@@ -1,4 +1,4 @@
--- Where the darts round the merged vertex of a contraction fall in two runs.
+-- State of a loop: where the darts round the merged vertex of a contraction fall in two runs.
 use Rattle.std.specs.Prelude.{◌≡◌, ◌≢◌, ℕ, ◌<◌, ◌⊎◌, true, List, length, slice_index}
 use Rattle.dart_maps.specs.Map.{twin}
 use Rattle.faces.specs.Euler.{tail, dart_count}

@@ -1,6 +1,7 @@
 // The runs of the darts round the merged vertex of a contraction: those that leave x, and those that leave y.
 
 ghost use Rattle.std.specs.Prelude.{◌≡◌, ◌<◌, ◌≤◌, ◌↔◌, ℕ, true, length, slice_index, IfOk, MatchOption};
+ghost use Rattle.multigraph.specs.Graph.{max_darts};
 ghost use Rattle.contractions.specs.Contraction.{are_joined};
 ghost use Rattle.dart_maps.specs.Map.{twin};
 ghost use Rattle.faces.specs.Euler.{tail, dart_count};
@@ -19,7 +20,7 @@ use std::alloc::{AllocError, Global};
 pub(crate) fn dart_count(level: &Level) -> u32
     requires { IsLevel level.now }
     ensures value { result ≡ dart_count (contraction level.now) }
-    ensures few { result ≤ 100000 }
+    ensures few { result ≤ max_darts }
 {
     2 * level.kept.len() as u32
 }

@@ -1,8 +1,10 @@
--- A list cut at places.
+-- A list cut at places, and sectors that are the segments of a way round.
 use Rattle.std.proofs.Common.{◌≡◌, ℕ, ◌+◌, ◌-◌, ◌≤◌, List, ◌++◌, length, drop, sym, ap, ◌∙◌, append_assoc, arith}
 use Rattle.std.proofs.lemmas.List.{take-append-drop, drop-drop, take_all, length-drop}
 use Rattle.permutations.specs.Cyclic.{IsTurn}
 use Rattle.permutations.proofs.CyclicSame.{IsTurn-trans}
+use Rattle.contractions.specs.declared.level.Level.{Level}
+use Rattle.contract_obstruct.specs.Crossing.{IsAround}
 use Rattle.contract_obstruct.specs.Sectors.{segment}
 
 -- the rest of a list is a segment and what comes behind
@@ -27,3 +29,7 @@ four-segments o l i j k p q t = IsTurn-trans o l (segment l i j ++ (segment l j 
   before = rest-cut l 0 i (omega arith) ∙ ap (λ (z : List ℕ). segment l 0 i ++ z) (rest-cut l i j p ∙ ap (λ (z : List ℕ). segment l i j ++ z) (rest-cut l j k q ∙ ap (λ (z : List ℕ). segment l j k ++ z) (rest-last l k)));
   after = sym (append_assoc (segment l i j) (segment l j k ++ segment l k (length l)) (segment l 0 i) ∙ ap (λ (z : List ℕ). segment l i j ++ z) (append_assoc (segment l j k) (segment l k (length l)) (segment l 0 i)));
 })
+
+-- a list is the way round the merged vertex where each list that turns into one that is turns into it
+pub around-by : (level : Level) (next l q : List ℕ) → ((o : List ℕ) → IsTurn o l → IsTurn o q) → IsAround level next l → IsAround level next q
+around-by level next l q turn around = (around.0, around.1, turn _ around.2)

@@ -1,4 +1,5 @@
--- Places in a cyclic order round the merged vertex of a level that show a subdivision.
+-- State of a loop: places in a cyclic order round the merged vertex of a level that show a subdivision; and, last, what it is
+-- for steps to have no runs there.
 use Rattle.std.specs.Prelude.{◌≡◌, ℕ, ◌<◌, ◌≤◌, true, false, List, ◌++◌, take, drop, length, slice_index}
 use Rattle.multigraph.specs.Graph.{edge_count, is_end}
 use Rattle.planarity.specs.Circle.{leads_near}

@@ -3,7 +3,7 @@
 ghost use Rattle.std.specs.Prelude.{◌≡◌, ◌≤◌, ◌<◌, ◌/◌, ℕ, true, length, map, IfOk};
 ghost use Rattle.permutations.specs.Members.{is_member};
 ghost use Rattle.permutations.specs.Ring.{orbit_length};
-ghost use Rattle.multigraph.specs.Graph.{edge_count};
+ghost use Rattle.multigraph.specs.Graph.{edge_count, max_darts};
 ghost use Rattle.faces.specs.Euler.{dart_from};
 ghost use Rattle.contract_obstruct.specs.Arcs.{along, arc_of, arcs_of};
 
@@ -21,7 +21,7 @@ fn along(next: &[u32], dart: u32) -> u32
 
 // How many darts the face has.
 fn face_length(next: &[u32], dart: u32) -> usize
-    requires { length next.now ≤ 100000 }
+    requires { length next.now ≤ max_darts }
     ensures { result ≡ orbit_length (length next.now) (along next.now) dart }
 {
     let mut at = along(next, dart);
@@ -36,7 +36,7 @@ fn face_length(next: &[u32], dart: u32) -> usize
 
 // The edges of the face of a dart, without this dart and without the one before it.
 fn arc(alloc: Global, next: &[u32], dart: u32) -> Result<Vec<u32>, AllocError>
-    requires { length next.now ≤ 100000 }
+    requires { length next.now ≤ max_darts }
     ensures { IfOk result (λ edges. edges.items ≡ map (λ c. c / 2) (arc_of next.now dart)) }
 {
     let mut edges = Vec::new(alloc);
@@ -58,7 +58,7 @@ pub(crate) fn arcs(
     w: u32,
     edges: &[u32],
 ) -> Result<Vec<u32>, AllocError>
-    requires few { length next.now ≤ 100000 }
+    requires few { length next.now ≤ max_darts }
     requires edges_in { (z : ℕ) → is_member z edges.now ≡ true → z < edge_count h.now }
     ensures { IfOk result (λ all. all.items ≡ arcs_of next.now (map (dart_from h.now w) edges.now)) }
 {

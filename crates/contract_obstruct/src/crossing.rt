@@ -2,7 +2,7 @@
 // y, and one not from x.
 
 ghost use Rattle.std.specs.Prelude.{◌≡◌, ◌≤◌, ◌<◌, ◌++◌, ◌∷◌, ℕ, [], true, length, map, reverse, slice_index, IfOk};
-ghost use Rattle.multigraph.specs.Graph.{edge_count, is_end, other_end};
+ghost use Rattle.multigraph.specs.Graph.{edge_count, is_end, other_end, max_darts};
 ghost use Rattle.contractions.specs.Contraction.{are_joined};
 ghost use Rattle.kuratowski.specs.Subdivision.{IsSubdivision};
 ghost use Rattle.planarity.specs.Lift.{lifted};
@@ -83,7 +83,7 @@ fn part(
     first: u32,
     sector: &Sector,
 ) -> Result<Vec<u32>, AllocError>
-    requires few { length next.now ≤ 100000 }
+    requires few { length next.now ≤ max_darts }
     requires edges_in { AreEdges h.now first sector.now.behind.items }
     ensures { IfOk result (λ edges. edges.items ≡ part_of h.now next.now (merged_vertex level.now) first sector.now.behind.items) }
 {
@@ -105,7 +105,7 @@ pub(crate) fn side(
     from: u32,
     to: u32,
 ) -> Result<Numbers, AllocError>
-    requires few { length next.now ≤ 100000 }
+    requires few { length next.now ≤ max_darts }
     requires edges_in { AreEdges h.now first sector.now.behind.items }
     ensures { IfOk result (λ path. path ≡ side_of level.now h.now next.now first sector.now from to) }
 {
@@ -184,7 +184,7 @@ fn crossing_paths(
     round: &Quarters,
     near: u32,
 ) -> Result<Vec<Numbers>, AllocError>
-    requires few { length next.now ≤ 100000 }
+    requires few { length next.now ≤ max_darts }
     requires fourth { AreEdges h.now round.now.d.first round.now.c.behind.items }
     requires third { AreEdges h.now round.now.c.first round.now.b.behind.items }
     requires second { AreEdges h.now round.now.b.first round.now.a.behind.items }
@@ -220,7 +220,7 @@ fn crossing_from(
     round: &Quarters,
     near: u32,
 ) -> Result<Subdivision, AllocError>
-    requires few { length next.now ≤ 100000 }
+    requires few { length next.now ≤ max_darts }
     requires fourth { AreEdges h.now round.now.d.first round.now.c.behind.items }
     requires third { AreEdges h.now round.now.c.first round.now.b.behind.items }
     requires second { AreEdges h.now round.now.b.first round.now.a.behind.items }

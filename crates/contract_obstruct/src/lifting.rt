@@ -1,6 +1,7 @@
 // A subdivision of the contraction of a level, lifted to a subdivision of its graph.
 
 ghost use Rattle.std.specs.Prelude.{◌≡◌, ◌<◌, ◌+◌, ℕ, [], ◌∷◌, false, length, map, slice_index, IfOk, MatchOption};
+ghost use Rattle.multigraph.specs.Graph.{max_vertices};
 ghost use Rattle.permutations.specs.Members.{is_member};
 ghost use Rattle.kuratowski.specs.Subdivision.{branch_at, branch_count, pattern_edges, IsSubdivision};
 ghost use Rattle.contractions.specs.Contracted.{contracted_vertex};
@@ -16,7 +17,7 @@ use std::alloc::{AllocError, Global};
 
 // The vertex whose number is v when y is left out.
 fn with_number(y: u32, v: u32) -> u32
-    requires { v < 20000 }
+    requires { v < max_vertices }
     ensures { result ≡ with_number y v }
 {
     if v < y { v } else { v + 1 }
@@ -122,7 +123,7 @@ fn lifted_branch(
     foot: u32,
     branch: &[u32],
 ) -> Result<Vec<u32>, AllocError>
-    requires { (i : ℕ) → i < length branch.now → slice_index branch.now i < 20000 }
+    requires { (i : ℕ) → i < length branch.now → slice_index branch.now i < max_vertices }
     ensures { IfOk result (λ made. made.items ≡ lifted_branch (contracted_vertex level.now.x level.now.y level.now.x) foot (with_number level.now.y) branch.now) }
 {
     let top = contracted_vertex(level.x, level.y, level.x);
@@ -145,7 +146,7 @@ fn lift_at(
     s: &Subdivision,
 ) -> Result<Subdivision, AllocError>
     requires of { IsSubdivision (contraction level.now) s.now.kind s.now.branch s.now.paths }
-    requires few { (contraction level.now).vertex_count < 20000 }
+    requires few { (contraction level.now).vertex_count < max_vertices }
     requires lifted { IsLifted level.now foot s.now.kind s.now.branch s.now.paths }
     ensures { IfOk result (λ r. IsSubdivision level.now.graph r.kind r.branch r.paths) }
 {
@@ -160,7 +161,7 @@ fn lift_at(
 
 // The vertex over which branch vertex i stands.
 fn vertex_over(level: &Level, branch: &[u32], i: usize) -> u32
-    requires { slice_index branch.now i < 20000 }
+    requires { slice_index branch.now i < max_vertices }
     ensures { result ≡ with_number level.now.y (branch_at branch.now i) }
 {
     with_number(level.y, number_at(branch, i))
@@ -174,7 +175,7 @@ fn split_branch(
     off: (usize, usize),
     on: (usize, usize),
 ) -> Result<Vec<u32>, AllocError>
-    requires { (i : ℕ) → slice_index branch.now i < 20000 }
+    requires { (i : ℕ) → slice_index branch.now i < max_vertices }
     ensures { IfOk result (λ made. made.items ≡ split_branch level.now.x level.now.y (with_number level.now.y) branch.now off.0 off.1 on.0 on.1) }
 {
     let made = [
@@ -230,7 +231,7 @@ fn lift_split(
     on: (usize, usize),
 ) -> Result<Subdivision, AllocError>
     requires of { IsSubdivision (contraction level.now) Pattern.K5 s.now.branch s.now.paths }
-    requires few { (i : ℕ) → slice_index s.now.branch i < 20000 }
+    requires few { (i : ℕ) → slice_index s.now.branch i < max_vertices }
     requires lifted { IsSplit level.now m off on s.now.branch s.now.paths }
     ensures { IfOk result (λ r. IsSubdivision level.now.graph r.kind r.branch r.paths) }
 {

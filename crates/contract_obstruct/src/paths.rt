@@ -127,7 +127,9 @@ pub(crate) fn is_listed(pairs: &[(usize, usize)], i: usize, j: usize) -> bool
 pub(crate) fn reverse(alloc: Global, path: &[u32]) -> Result<Vec<u32>, AllocError>
     ensures { IfOk result (λ edges. edges.items ≡ reverse path.now) }
 {
-    path.iter().rev().copied().collect(alloc)
+    let mut edges = Vec::from_slice(alloc, path)?;
+    edges.reverse();
+    Ok(edges)
 }
 
 // The path from i to j, where there is one for each of the pairs.

@@ -1,7 +1,7 @@
 // The subdivision of K5 where three edges round the merged vertex lead from x to common neighbours of x and y.
 
 ghost use Rattle.std.specs.Prelude.{◌≡◌, ◌≤◌, ◌<◌, ◌∷◌, [], true, length, IfOk};
-ghost use Rattle.multigraph.specs.Graph.{edge_count, is_end, other_end};
+ghost use Rattle.multigraph.specs.Graph.{edge_count, is_end, other_end, max_darts};
 ghost use Rattle.kuratowski.specs.Subdivision.{IsSubdivision};
 ghost use Rattle.contractions.specs.Level.{IsLevel, contraction, edge_before};
 ghost use Rattle.contract_obstruct.specs.Steps.{ArePlaneSteps};
@@ -69,7 +69,7 @@ fn triple_paths(
     round: &Thirds,
     to: (u32, u32, u32),
 ) -> Result<Vec<Numbers>, AllocError>
-    requires few { length next.now ≤ 100000 }
+    requires few { length next.now ≤ max_darts }
     requires third { AreEdges h.now round.now.c.first round.now.b.behind.items }
     requires second { AreEdges h.now round.now.b.first round.now.a.behind.items }
     requires first { AreEdges h.now round.now.a.first round.now.c.behind.items }
@@ -95,7 +95,7 @@ fn triple_from(
     round: &Thirds,
     to: (u32, u32, u32),
 ) -> Result<Subdivision, AllocError>
-    requires few { length next.now ≤ 100000 }
+    requires few { length next.now ≤ max_darts }
     requires third { AreEdges h.now round.now.c.first round.now.b.behind.items }
     requires second { AreEdges h.now round.now.b.first round.now.a.behind.items }
     requires first { AreEdges h.now round.now.a.first round.now.c.behind.items }

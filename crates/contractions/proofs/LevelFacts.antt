@@ -1,7 +1,7 @@
 -- What is known of a graph with an edge that is to be contracted, and of its contraction.
 use Rattle.std.proofs.Common.{◌≡◌, ℕ, ◌<◌, ◌≤◌, List, length, get_or, slice_index, sym, ap, ◌∙◌, subst, arith}
 use Rattle.std.proofs.lemmas.List.{length-map}
-use Rattle.multigraph.specs.Graph.{IsGraph, IsWithinLimits, edge_count}
+use Rattle.multigraph.specs.Graph.{IsGraph, IsWithinLimits, edge_count, max_edges}
 use Rattle.multigraph.proofs.Below.{length-filter_below}
 use Rattle.graph_theory.specs.Triconnected.{IsTriconnected}
 use Rattle.contractions.specs.Contraction.{IsContraction, is_kept}
@@ -37,7 +37,7 @@ pub level-edges : (level : Level) → IsLevel level → edge_count (contraction 
 level-edges level k = length-map (kept_edges level.graph level.edge level.x level.y) (contracted_ends level.graph level.x level.y) ∙ ap length (sym k.kept)
 
 -- there are not many
-pub level-few : (level : Level) → IsLevel level → length level.kept.items ≤ 50000
+pub level-few : (level : Level) → IsLevel level → length level.kept.items ≤ max_edges
 level-few level k = omega (arith, ap length k.kept, length-filter_below (is_kept level.graph level.edge level.x level.y) (edge_count level.graph), k.limits.few_edges)
 
 -- and each is an edge

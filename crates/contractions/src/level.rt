@@ -29,22 +29,6 @@ pub struct Level {
     pub kept: Vec<u32>,
 }
 
-// The end of the edge that is not v, where v is one of its ends.
-fn far_end(g: &Graph, v: u32, edge: u32) -> Option<u32>
-    requires { edge < edge_count g.now }
-    ensures far { MatchOption result (is_end g.now v edge ≡ false) (λ w. (is_end g.now v edge ≡ true) × (w ≡ other_end g.now edge v)) }
-    ensures within { IfSome result (λ w. w < g.now.vertex_count) }
-{
-    let (first, second) = g.ends(edge);
-    if first == v {
-        return Some(second);
-    }
-    if second == v {
-        return Some(first);
-    }
-    None
-}
-
 // Marks the far end of the edge, if x is an end of it.
 fn mark_far_end(g: &Graph, marks: &mut [bool], x: u32, edge: u32)
     requires edge_in { edge < edge_count g.now }
@@ -52,7 +36,7 @@ fn mark_far_end(g: &Graph, marks: &mut [bool], x: u32, edge: u32)
     requires before { AreNeighbourMarksBelow g.now x edge marks.old }
     ensures { AreNeighbourMarksBelow g.now x (edge + 1) marks.new }
 {
-    if let Some(vertex) = far_end(g, x, edge) {
+    if let Some(vertex) = g.far_end(edge, x) {
         marks[vertex as usize] = true;
     }
 }
@@ -76,7 +60,7 @@ fn leads_to_mark(g: &Graph, marks: &[bool], x: u32, y: u32, edge: u32) -> bool
     requires marks { AreNeighbourMarks g.now x marks.now }
     ensures { result ≡ (is_end g.now y edge && are_joined g.now x (other_end g.now edge y)) }
 {
-    match far_end(g, y, edge) {
+    match g.far_end(edge, y) {
         Some(vertex) => marks[vertex as usize],
         None => false,
     }
@@ -99,7 +83,7 @@ fn is_private(g: &Graph, marks: &[bool], e: u32, x: u32, y: u32, edge: u32) -> b
     requires marks { AreNeighbourMarks g.now x marks.now }
     ensures { result ≡ is_private g.now e x y edge }
 {
-    match far_end(g, y, edge) {
+    match g.far_end(edge, y) {
         Some(vertex) => edge != e && !marks[vertex as usize],
         None => false,
     }

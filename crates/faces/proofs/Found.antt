@@ -6,7 +6,7 @@ use Rattle.permutations.specs.Count.{count, some}
 use Rattle.permutations.specs.Relation.{leads}
 use Rattle.permutations.proofs.Search.{some-from, some-witness, some-more}
 use Rattle.permutations.proofs.Count.{count-yes, count-no, count-within}
-use Rattle.faces.specs.Marks.{is_marked}
+use Rattle.multigraph.specs.Marks.{is_marked}
 
 -- the numbers below d are done: what is related to them is marked, and those that lead are counted
 pub record FoundBelow (r : ℕ → ℕ → Bool) (d : ℕ) (marks : List Bool) (classes : ℕ) : Type 0 where

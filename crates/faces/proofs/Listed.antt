@@ -15,7 +15,8 @@ use Rattle.permutations.proofs.Iterates.{iterate-ext}
 use Rattle.multigraph.specs.Graph.{Multigraph, IsGraph, IsWithinLimits}
 use Rattle.multigraph.proofs.OtherEnd.{end-in}
 use Rattle.faces.specs.Euler.{tail, dart_count}
-use Rattle.faces.specs.Marks.{IsPermutationBelow, is_marked}
+use Rattle.faces.specs.Marks.{IsPermutationBelow}
+use Rattle.multigraph.specs.Marks.{is_marked}
 use Rattle.permutations.specs.Ring.{orbit_length}
 use Rattle.faces.specs.Trace.{pair_of, precedes, darts_in_order, is_least, pairs_along, orbit_pairs, orbit_lists}
 use Rattle.faces.proofs.DartLemmas.{dart-edge, tail-end}

@@ -7,7 +7,7 @@ use Rattle.permutations.proofs.Search.{some-more}
 use Rattle.permutations.specs.Members.{is_member}
 use Rattle.permutations.proofs.Members.{member-append}
 use Rattle.multigraph.specs.Graph.{Multigraph, incident_edges, other_end}
-use Rattle.faces.specs.Marks.{is_marked}
+use Rattle.multigraph.specs.Marks.{is_marked}
 use Rattle.faces.specs.Search.{LooksAlong, leads_to}
 use Rattle.faces.proofs.Walk.{marked-set, unmarked-less}
 

@@ -9,7 +9,7 @@ use Rattle.graph_theory.proofs.Connection.{ends-connected}
 use Rattle.multigraph.specs.Graph.{Multigraph, IsGraph, edge_count, ends_of, is_end, incident_edges, other_end}
 use Rattle.multigraph.proofs.Incident.{incident-has, incident_at-edge, incident_at-end}
 use Rattle.multigraph.proofs.OtherEnd.{is_end-first, is_end-second, is_end-cases, other_end-of_first, other_end-of_second, other_end-in}
-use Rattle.faces.specs.Marks.{is_marked}
+use Rattle.multigraph.specs.Marks.{is_marked}
 use Rattle.faces.specs.Search.{is_neighbour}
 use Rattle.faces.proofs.Found.{FoundBelow}
 

@@ -7,7 +7,7 @@ use Rattle.permutations.specs.Relation.{connected}
 use Rattle.permutations.specs.Members.{is_member}
 use Rattle.permutations.proofs.Relation.{same-tests, connected-reflexive, connected-transitive}
 use Rattle.multigraph.specs.Graph.{Multigraph, IsGraph, edge_count, ends_of, incident_edges}
-use Rattle.faces.specs.Marks.{is_marked}
+use Rattle.multigraph.specs.Marks.{is_marked}
 use Rattle.faces.specs.Search.{LooksAlong, is_neighbour}
 use Rattle.faces.proofs.Walk.{marked-set}
 use Rattle.faces.proofs.Looks.{marked-here, member-push, member-last}

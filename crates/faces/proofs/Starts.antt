@@ -6,7 +6,8 @@ use Rattle.permutations.specs.Permutation.{reaches}
 use Rattle.permutations.proofs.Search.{some-ext}
 use Rattle.permutations.proofs.Count.{count-ext}
 use Rattle.faces.specs.Euler.{begins_orbit}
-use Rattle.faces.specs.Marks.{IsPermutationBelow, is_marked}
+use Rattle.faces.specs.Marks.{IsPermutationBelow}
+use Rattle.multigraph.specs.Marks.{is_marked}
 use Rattle.faces.proofs.Reaching.{reaches-sides, reaches-through, reaches-image, reaches-ext}
 use Rattle.faces.proofs.Found.{FoundBelow}
 

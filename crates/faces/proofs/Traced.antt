@@ -9,7 +9,8 @@ use Rattle.permutations.specs.Permutation.{iterate}
 use Rattle.permutations.proofs.Search.{some-from, least-is}
 use Rattle.permutations.proofs.Iterates.{iterate-between}
 use Rattle.multigraph.specs.Graph.{Multigraph}
-use Rattle.faces.specs.Marks.{IsPermutationBelow, is_marked}
+use Rattle.faces.specs.Marks.{IsPermutationBelow}
+use Rattle.multigraph.specs.Marks.{is_marked}
 use Rattle.permutations.specs.Ring.{orbit_length}
 use Rattle.faces.specs.Trace.{pair_of, pairs_along}
 use Rattle.faces.proofs.Walk.{Walked, walked-none, walked-more, walked-back}

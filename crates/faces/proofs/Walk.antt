@@ -9,7 +9,8 @@ use Rattle.permutations.specs.Count.{some}
 use Rattle.permutations.specs.Permutation.{iterate, reaches}
 use Rattle.permutations.proofs.Search.{some-from, some-witness, some-more}
 use Rattle.permutations.proofs.Relation.{same-tests}
-use Rattle.faces.specs.Marks.{IsPermutationBelow, is_marked}
+use Rattle.faces.specs.Marks.{IsPermutationBelow}
+use Rattle.multigraph.specs.Marks.{is_marked}
 use Rattle.faces.specs.Search.{unmarked_count}
 use Rattle.permutations.proofs.Iterates.{iterate-more, reaches-steps}
 use Rattle.faces.proofs.Reaching.{steps-below, steps-reach}

@@ -3,7 +3,7 @@ use Rattle.std.specs.Prelude.{◌≡◌, ℕ, ◌+◌, Bool, not, ◌&&◌, ◌|
 use Rattle.permutations.specs.Count.{some}
 use Rattle.permutations.specs.Members.{is_member}
 use Rattle.multigraph.specs.Graph.{Multigraph, incident_edges, other_end}
-use Rattle.faces.specs.Marks.{is_marked}
+use Rattle.multigraph.specs.Marks.{is_marked}
 
 -- how many places are not marked
 abbrev pub unmarked_count : List Bool → ℕ

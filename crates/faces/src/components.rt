@@ -1,5 +1,5 @@
 // Components of a graph, counted by searches with a stack of their own.
-ghost use Rattle.faces.specs.Marks.{is_marked};
+ghost use Rattle.multigraph.specs.Marks.{is_marked};
 ghost use Rattle.faces.specs.Search.{LooksAlong};
 ghost use Rattle.faces.specs.Euler.{component_count, is_isolated};
 ghost use Rattle.multigraph.specs.Graph.{IsGraph, edge_count, ends_of, incident_edges};

@@ -2,7 +2,7 @@
 ghost use Rattle.dart_maps.specs.Map.{twin};
 ghost use Rattle.faces.specs.Euler.{dart_count, dart_from, tail};
 ghost use Rattle.faces.specs.Trace.{darts_from_below, darts_in_order, pair_of};
-ghost use Rattle.multigraph.specs.Graph.{IsGraph, IsWithinLimits, edge_count, incident_edges};
+ghost use Rattle.multigraph.specs.Graph.{IsGraph, IsWithinLimits, edge_count, incident_edges, max_darts};
 ghost use Rattle.std.specs.Prelude.{◌++◌, ◌<◌, ◌≡◌, IfOk, map, ◌*◌, ◌≤◌, ℕ};
 
 use multigraph::Graph;
@@ -11,7 +11,7 @@ use std::alloc::{AllocError, Global};
 /// How many darts the graph has.
 pub fn dart_count(graph: &Graph) -> u32
     ensures value { result ≡ dart_count graph.now }
-    ensures few { result ≤ 100000 }
+    ensures few { result ≤ max_darts }
     ensures graph { IsGraph graph.now }
 {
     2 * graph.edge_count()

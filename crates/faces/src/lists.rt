@@ -1,5 +1,6 @@
 // The lists of faces, seen as lists by contracts.
 ghost use Rattle.std.specs.Prelude.{[], ◌<◌, ◌≤◌, ◌≡◌, length, slice_index_or};
+ghost use Rattle.multigraph.specs.Graph.{max_darts};
 
 use std::marker::Model;
 
@@ -41,18 +42,19 @@ pub struct Faces {
 
 impl Model for Faces {
     ghost use Rattle.std.specs.Prelude.{List, length, ℕ, ◌≤◌};
+    ghost use Rattle.multigraph.specs.Graph.{max_darts};
 
     ghost Value = { List (List (ℕ × ℕ)) };
 
     ghost view = { λ list. list.faces.items };
 
-    ghost invariant = { λ list. length list.faces.items ≤ 100000 };
+    ghost invariant = { λ list. length list.faces.items ≤ max_darts };
 }
 
 impl Faces {
     // The list of these faces.
     pub(crate) fn of(faces: Vec<Face>) -> Faces
-        requires { length faces.items ≤ 100000 }
+        requires { length faces.items ≤ max_darts }
         ensures { result ≡ faces.items }
     {
         Faces { faces }

@@ -1,6 +1,7 @@
 // Orbits of a permutation that is given by the image of each number.
 ghost use Rattle.faces.specs.Euler.{begins_orbit};
-ghost use Rattle.faces.specs.Marks.{AddsOrbit, AreWholeOrbits, IsPermutationBelow, is_marked};
+ghost use Rattle.faces.specs.Marks.{AddsOrbit, AreWholeOrbits, IsPermutationBelow};
+ghost use Rattle.multigraph.specs.Marks.{is_marked};
 ghost use Rattle.permutations.specs.Count.{count};
 ghost use Rattle.permutations.specs.Permutation.{reaches};
 ghost use Rattle.std.specs.Prelude.{

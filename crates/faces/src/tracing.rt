@@ -1,6 +1,7 @@
 // Tracing the faces of a rotation system.
 ghost use Rattle.faces.specs.Euler.{dart_count};
-ghost use Rattle.faces.specs.Marks.{AddsOrbit, AreWholeOrbits, IsPermutationBelow, is_marked};
+ghost use Rattle.faces.specs.Marks.{AddsOrbit, AreWholeOrbits, IsPermutationBelow};
+ghost use Rattle.multigraph.specs.Marks.{is_marked};
 ghost use Rattle.faces.specs.Trace.{darts_in_order, face_lists, orbit_lists, orbit_pairs};
 ghost use Rattle.multigraph.specs.Graph.{IsGraph};
 ghost use Rattle.permutations.specs.Permutation.{reaches};

@@ -11,8 +11,8 @@ use Rattle.gml_text.specs.Document.{Document, empty}
 use Rattle.gml_graph.specs.Named.{NamedGraph, IsNamed}
 use Rattle.gml_graph.specs.Lists.{lists_under, first_under}
 use Rattle.gml_graph.specs.Answer.{each_below, said_ids, id_among, node_id, node_ids, edge_ends, with_ends, with_ids, graph_between, graph_among, HasSoundGraph}
-use Rattle.gml_graph.specs.declared.reading.Reading.{Reading}
-use Rattle.gml_graph.specs.declared.reading.Reading.TheVariants.{Missing, NotWhole, Whole}
+use Rattle.gml_graph.specs.declared.integers.Reading.{Reading}
+use Rattle.gml_graph.specs.declared.integers.Reading.TheVariants.{Missing, NotWhole, Whole}
 use Rattle.gml_graph.specs.declared.fault.GraphFault.{GraphFault}
 use Rattle.gml_graph.specs.declared.fault.GraphFault.TheVariants.{SameId, TooManyVertices, TooManyEdges}
 use Rattle.gml_graph.proofs.Each.{one_more-accepted, each_below-length}

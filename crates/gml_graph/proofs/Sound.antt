@@ -11,8 +11,8 @@ use Rattle.multigraph.specs.Build.{multigraph_of}
 use Rattle.gml_text.specs.Document.{Document, empty}
 use Rattle.gml_graph.specs.Lists.{first_under}
 use Rattle.gml_graph.specs.Answer.{each_below, ends_between, ends_among, ends_by, edge_ends}
-use Rattle.gml_graph.specs.declared.reading.Reading.{Reading}
-use Rattle.gml_graph.specs.declared.reading.Reading.TheVariants.{Missing, NotWhole, Whole}
+use Rattle.gml_graph.specs.declared.integers.Reading.{Reading}
+use Rattle.gml_graph.specs.declared.integers.Reading.TheVariants.{Missing, NotWhole, Whole}
 use Rattle.gml_graph.specs.declared.fault.GraphFault.{GraphFault}
 use Rattle.gml_graph.specs.declared.fault.GraphFault.TheVariants.{Loop}
 use Rattle.gml_graph.proofs.Each.{one_more-accepted, each_below-length}

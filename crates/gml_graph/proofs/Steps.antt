@@ -8,8 +8,8 @@ use Rattle.std.specs.List.{list_any}
 use Rattle.gml_text.specs.Document.{Document, empty}
 use Rattle.gml_graph.specs.Lists.{first_under}
 use Rattle.gml_graph.specs.Answer.{and_one_more, each_below, said_by, said_ids, id_among, node_id, node_ids, ends_between, ends_among, ends_by, edge_ends}
-use Rattle.gml_graph.specs.declared.reading.Reading.{Reading}
-use Rattle.gml_graph.specs.declared.reading.Reading.TheVariants.{Missing, NotWhole, Whole}
+use Rattle.gml_graph.specs.declared.integers.Reading.{Reading}
+use Rattle.gml_graph.specs.declared.integers.Reading.TheVariants.{Missing, NotWhole, Whole}
 use Rattle.gml_graph.specs.declared.fault.GraphFault.{GraphFault}
 use Rattle.gml_graph.specs.declared.fault.GraphFault.TheVariants.{SameId}
 use Rattle.gml_graph.proofs.Each.{one_more-accepted, each_below-more, each_below-refused}

@@ -6,8 +6,8 @@ use Rattle.multigraph.specs.Graph.{IsGraph, IsWithinLimits, max_vertices, max_ed
 use Rattle.gml_text.specs.Document.{Document, empty}
 use Rattle.gml_graph.specs.Named.{NamedGraph, IsNamed}
 use Rattle.gml_graph.specs.Lists.{lists_under, first_under}
-use Rattle.gml_graph.specs.declared.reading.Reading.{Reading}
-use Rattle.gml_graph.specs.declared.reading.Reading.TheVariants.{Missing, NotWhole, Whole}
+use Rattle.gml_graph.specs.declared.integers.Reading.{Reading}
+use Rattle.gml_graph.specs.declared.integers.Reading.TheVariants.{Missing, NotWhole, Whole}
 use Rattle.gml_graph.specs.declared.fault.GraphFault.{GraphFault}
 use Rattle.gml_graph.specs.declared.fault.GraphFault.TheVariants.{NoGraph, MoreGraphs, TooManyVertices, TooManyEdges, NodeNoId, NodeBadId, SameId, EdgeNoEnd, EdgeBadEnd, UnknownEnd, Loop, Memory}
 

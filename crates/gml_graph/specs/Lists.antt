@@ -2,8 +2,8 @@
 use Rattle.std.specs.Prelude.{ℕ, ℤ, if◌then◌else◌, bytes_eq, List, [], ◌∷◌, Option, Some, None}
 use Rattle.gml_text.specs.Document.{Document, empty, number, string, list}
 use Rattle.gml_graph.specs.Number.{whole_number}
-use Rattle.gml_graph.specs.declared.reading.Reading.{Reading}
-use Rattle.gml_graph.specs.declared.reading.Reading.TheVariants.{Missing, NotWhole, Whole}
+use Rattle.gml_graph.specs.declared.integers.Reading.{Reading}
+use Rattle.gml_graph.specs.declared.integers.Reading.TheVariants.{Missing, NotWhole, Whole}
 
 -- the lists under a key, in order; what has another key or is no list is passed over
 abbrev pub lists_under : List ℕ → Document → List Document

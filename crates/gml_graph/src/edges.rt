@@ -8,7 +8,7 @@ ghost use Rattle.gml_graph.specs.Answer.{Refuses, edge_ends, ends_among, ends_be
 use crate::fault::GraphFault;
 use crate::ids::Ids;
 use crate::lists::first_under;
-use crate::reading::Reading;
+use crate::integers::Reading;
 use gml_text::Pairs;
 use std::alloc::Global;
 

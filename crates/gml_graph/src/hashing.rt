@@ -1,7 +1,7 @@
 // The hashers by which ids are found.
 
 use crate::lists::first_under;
-use crate::reading::Reading;
+use crate::integers::Reading;
 use gml_text::Pairs;
 use std::hash::{BuildHasher, DefaultHasher, Hash};
 

@@ -19,7 +19,7 @@ pub mod laws;
 mod lists;
 mod named;
 mod nodes;
-mod reading;
+mod integers;
 
 pub use fault::GraphFault;
 pub use named::{Named, graph_of};

@@ -4,7 +4,7 @@ ghost use Rattle.std.specs.Prelude.{◌≡◌, map, IfOk};
 ghost use Rattle.gml_text.specs.Pairs.{document_of};
 ghost use Rattle.gml_graph.specs.Lists.{lists_under, first_under};
 
-use crate::reading::{Reading, whole_number};
+use crate::integers::{Reading, whole_number};
 use gml_text::{Pair, Pairs, Value};
 use std::alloc::{AllocError, Global};
 

@@ -8,7 +8,7 @@ use crate::fault::GraphFault;
 use crate::hashing::BehindAllIds;
 use crate::ids::Ids;
 use crate::lists::first_under;
-use crate::reading::Reading;
+use crate::integers::Reading;
 use gml_text::Pairs;
 use std::alloc::Global;
 

@@ -4,10 +4,10 @@ use Rattle.std.proofs.lemmas.Bool.{both_ways, false_from_ne_true, and_parts, and
 use Rattle.std.proofs.Math.Seq.{drop-cons}
 use Rattle.permutations.specs.Members.{is_member, is_distinct}
 use Rattle.permutations.proofs.Members.{no_member-cons, no_member-append, distinct-cons, distinct-append}
-use Rattle.multigraph.specs.Graph.{Multigraph, edge_count, is_end, other_end}
+use Rattle.multigraph.specs.Graph.{Multigraph, edge_count, is_end, is_edge_at, other_end}
 use Rattle.graph_theory.specs.Path.{walk_end, walk_starts, IsWalk, IsPath}
 use Rattle.kuratowski.specs.Subdivision.{branch_at, inner_vertices, all_inner}
-use Rattle.kuratowski.specs.Checking.{is_taken, marked_also, are_free, is_edge_at, is_free_walk, is_free_path, are_free_paths}
+use Rattle.kuratowski.specs.Checking.{is_taken, marked_also, are_free, is_free_walk, is_free_path, are_free_paths}
 use Rattle.kuratowski.proofs.Marks.{taken-also, free-append, free-each, free-distinct}
 
 -- what an edge at a vertex is

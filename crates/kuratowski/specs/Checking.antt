@@ -1,7 +1,7 @@
 -- What a check of a subdivision asks, step by step: the branch vertices in their written order, and marks on the vertices that
 -- were met, so that none is met twice.
 use Rattle.std.specs.Prelude.{◌≡◌, ℕ, ◌<◌, Bool, true, false, not, ◌&&◌, ◌==◌, nat_lt, List, [], ◌∷◌, replicate, slice_index_or, slice_set, length}
-use Rattle.multigraph.specs.Graph.{Multigraph, edge_count, is_end, other_end}
+use Rattle.multigraph.specs.Graph.{Multigraph, is_edge_at, other_end}
 use Rattle.graph_theory.specs.Path.{walk_starts, walk_end}
 use Rattle.kuratowski.specs.declared.subdivision.Pattern.{Pattern}
 use Rattle.kuratowski.specs.declared.subdivision.Pattern.TheVariants.{K5, K33}
@@ -33,10 +33,6 @@ marked_also marks (v ∷ vs) = marked_also (slice_set marks v true) vs
 abbrev pub are_free : List Bool → List ℕ → Bool
 are_free marks [] = true
 are_free marks (v ∷ vs) = not (is_taken marks v) && are_free (slice_set marks v true) vs
-
--- whether e is an edge at x
-abbrev pub is_edge_at : Multigraph → ℕ → ℕ → Bool
-is_edge_at g x e = nat_lt e (edge_count g) && is_end g x e
 
 -- whether these edges are a walk from x on which each is entered at a vertex that has no mark yet
 abbrev pub is_free_walk : Multigraph → List Bool → ℕ → List ℕ → Bool

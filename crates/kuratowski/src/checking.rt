@@ -1,10 +1,10 @@
 // The exact check of a subdivision, by marks on the vertices that were met.
 
 ghost use Rattle.std.specs.Prelude.{◌≡◌, ◌<◌, ◌↔◌, ◌&&◌, ℕ, true, false, not, length, IfOk, MatchOption, replicate, slice_set, slice_index_or};
-ghost use Rattle.multigraph.specs.Graph.{IsGraph, edge_count, other_end};
+ghost use Rattle.multigraph.specs.Graph.{IsGraph};
 ghost use Rattle.graph_theory.specs.Path.{walk_starts, walk_end};
 ghost use Rattle.kuratowski.specs.Subdivision.{branch_at, branch_count, pattern_edges, inner_vertices, IsSubdivision, IsWritten};
-ghost use Rattle.kuratowski.specs.Checking.{is_in_order, no_marks, is_taken, marked_also, are_free, is_edge_at, is_free_walk, IsFreeWalkTo, ArePlaces, is_free_path, are_free_paths};
+ghost use Rattle.kuratowski.specs.Checking.{is_in_order, no_marks, is_taken, marked_also, are_free, is_free_walk, IsFreeWalkTo, ArePlaces, is_free_path, are_free_paths};
 
 use crate::subdivision::{Pattern, Subdivision};
 use multigraph::{Graph, Numbers};
@@ -65,23 +65,6 @@ fn mark_all(marks: &mut [bool], vertices: &[u32]) -> bool
     true
 }
 
-// The other end of an edge at a vertex, or none where this is no edge at it.
-fn follow(g: &Graph, vertex: u32, edge: u32) -> Option<u32>
-    ensures { MatchOption result (is_edge_at g.now vertex edge ≡ false) (λ y. (is_edge_at g.now vertex edge ≡ true) × (y ≡ other_end g.now edge vertex)) }
-{
-    if edge >= g.edge_count() {
-        return None;
-    }
-    let (first, second) = g.ends(edge);
-    if first == vertex {
-        return Some(second);
-    }
-    if second == vertex {
-        return Some(first);
-    }
-    None
-}
-
 // Walks along the edges from a vertex and marks each vertex where an edge is entered, as long as they are a walk and the
 // vertex has no mark yet. Returns where they lead.
 fn walk(g: &Graph, marks: &mut [bool], from: u32, edges: &[u32]) -> Option<u32>
@@ -92,7 +75,7 @@ fn walk(g: &Graph, marks: &mut [bool], from: u32, edges: &[u32]) -> Option<u32>
         if !mark(marks, at) {
             return None;
         }
-        let Some(next) = follow(g, at, *edge) else {
+        let Some(next) = g.far_end(*edge, at) else {
             return None;
         };
         at = next;
@@ -108,7 +91,7 @@ fn walk_path(g: &Graph, marks: &mut [bool], from: u32, path: &[u32], to: u32) ->
     let Some((first, rest)) = path.split_first() else {
         return false;
     };
-    let Some(next) = follow(g, from, *first) else {
+    let Some(next) = g.far_end(*first, from) else {
         return false;
     };
     let Some(end) = walk(g, marks, next, rest) else {

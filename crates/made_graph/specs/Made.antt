@@ -2,6 +2,10 @@
 use Rattle.std.specs.Prelude.{ℕ, zero, suc, ◌+◌, ◌*◌, ◌/◌, ◌%◌, ◌^◌, ◌==◌, nat_lt, if◌then◌else◌, [], ◌∷◌, ◌++◌, slice_set}
 use Rattle.multigraph.specs.Graph.{Multigraph, edge_count, ends_of}
 
+-- the most edges that may be asked for
+abbrev pub max_asked : ℕ
+max_asked = 20000
+
 -- the complete graph on four vertices
 abbrev pub tetrahedron : Multigraph
 tetrahedron = record {

@@ -1,6 +1,6 @@
 // The graph that is made.
 ghost use Rattle.std.specs.Prelude.{◌≡◌, ◌≤◌, IfOk};
-ghost use Rattle.made_graph.specs.Made.{made};
+ghost use Rattle.made_graph.specs.Made.{made, max_asked};
 
 use crate::drawing::{drawn, edge_drawn, operation_drawn};
 use crate::growing::grow;
@@ -15,7 +15,7 @@ const TETRAHEDRON: [(u32, u32); 6] = [(0, 1), (0, 2), (0, 3), (1, 2), (1, 3), (2
 /// congruential generator (Lehmer 1951). An `Err` is want of memory.
 pub fn make_graph(alloc: Global, n: u32, seed: u64) -> Result<Graph, AllocError>
     requires least { 6 ≤ n }
-    requires most { n ≤ 20000 }
+    requires most { n ≤ max_asked }
     ensures { IfOk result (λ graph. graph ≡ made n seed) }
 {
     let mut ends = Vec::with_capacity(alloc, n as usize + 4)?;

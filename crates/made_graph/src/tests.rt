@@ -1,6 +1,7 @@
 // Worked rows: the first turns from the number 1.
 
 ghost use Rattle.std.specs.Prelude.{◌≤◌};
+ghost use Rattle.made_graph.specs.Made.{max_asked};
 
 use crate::make_graph;
 use multigraph::Graph;
@@ -10,7 +11,7 @@ use std::test::Fail;
 // How many vertices and edges the graph has, and the ends of its last edge.
 fn row(alloc: Global, n: u32, seed: u64) -> Result<(u32, u32, (u32, u32)), Fail>
     requires least { 6 ≤ n }
-    requires most { n ≤ 20000 }
+    requires most { n ≤ max_asked }
 {
     let graph = make_graph(alloc, n, seed)?;
     let edges = graph.edge_count();

@@ -6,7 +6,7 @@ ghost use Rattle.skel_embed.specs.Block.{lock_at};
 ghost use Rattle.skel_embed.specs.First.{IsFirst};
 ghost use Rattle.embed_enum.specs.Walk.{IsMemberList};
 ghost use Rattle.made_graph.specs.Laws.{HasFork};
-ghost use Rattle.made_graph.specs.Made.{made};
+ghost use Rattle.made_graph.specs.Made.{made, max_asked};
 ghost use Rattle.made_summary.specs.Summary.{IsSummary};
 ghost use Rattle.made_summary.specs.Text.{fitting};
 
@@ -89,7 +89,7 @@ pub fn summary<P: Splitter, E: Embedder>(
     embedder: &mut E,
 ) -> Result<Vec<u8>, AllocError>
     requires least { 6 ≤ n }
-    requires most { n ≤ 20000 }
+    requires most { n ≤ max_asked }
     ensures { IfOk result (λ text. IsSummary (made n seed) text.items) }
 {
     let graph = make_graph(alloc, n, seed)?;

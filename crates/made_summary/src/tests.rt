@@ -1,5 +1,6 @@
 // Worked rows, and a graph of some size twice.
 ghost use Rattle.std.specs.Prelude.{◌≤◌};
+ghost use Rattle.made_graph.specs.Made.{max_asked};
 
 use crate::summary;
 use contract_embed::ContractEmbedder;
@@ -11,7 +12,7 @@ use std::test::Fail;
 // The summary by the plain splitter, and the embedder that proposes and checks.
 fn text(alloc: Global, n: u32, seed: u64) -> Result<Vec<u8>, AllocError>
     requires least { 6 ≤ n }
-    requires most { n ≤ 20000 }
+    requires most { n ≤ max_asked }
 {
     let mut embedder = QuickEmbedder {
         fallback: ContractEmbedder,

@@ -1,5 +1,5 @@
 -- Multigraphs without loops: parallel edges are allowed. Vertices and edges are numbered from 0.
-use Rattle.std.specs.Prelude.{ℕ, zero, suc, ◌<◌, ◌≤◌, ◌≢◌, Bool, ◌||◌, ◌==◌, if◌then◌else◌, List, [], ◌∷◌, ◌++◌, length, filter, slice_index_or}
+use Rattle.std.specs.Prelude.{ℕ, zero, suc, ◌<◌, ◌≤◌, ◌≢◌, Bool, ◌&&◌, ◌||◌, ◌==◌, nat_lt, if◌then◌else◌, List, [], ◌∷◌, ◌++◌, length, filter, slice_index_or}
 
 -- a multigraph: how many vertices it has, and the first and the second end of each edge, in order of the edges
 pub record Multigraph : Type 0 where
@@ -17,6 +17,10 @@ ends_of g e = slice_index_or g.ends e (0, 0)
 -- whether v is an end of edge e
 abbrev pub is_end : Multigraph → ℕ → ℕ → Bool
 is_end g v e = ((ends_of g e).0 == v) || ((ends_of g e).1 == v)
+
+-- whether e is an edge, and at v
+abbrev pub is_edge_at : Multigraph → ℕ → ℕ → Bool
+is_edge_at g v e = nat_lt e (edge_count g) && is_end g v e
 
 -- the numbers below n, rising
 abbrev pub numbers_below : ℕ → List ℕ
@@ -37,6 +41,10 @@ max_vertices = 20000
 
 abbrev pub max_edges : ℕ
 max_edges = 50000
+
+-- the most darts that such a graph has, two for each edge
+abbrev pub max_darts : ℕ
+max_darts = 100000
 
 -- a multigraph that is small enough for the program
 pub record IsWithinLimits (g : Multigraph) : Type 0 where

@@ -1,5 +1,6 @@
--- Multigraphs: their vertices, edges and ends.
+-- Multigraphs: their vertices, edges and ends, and marks on these.
 pub mod Graph
 pub mod Build
 pub mod Incidence
 pub mod Part
+pub mod Marks

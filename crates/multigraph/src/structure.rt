@@ -1,7 +1,7 @@
 // A multigraph with the edges at each vertex.
 
-ghost use Rattle.std.specs.Prelude.{◌≡◌, ◌<◌, length, IsTrue, IfOk, IfErr};
-ghost use Rattle.multigraph.specs.Graph.{Multigraph, edge_count, ends_of, is_end, incident_edges, other_end, IsGraph, IsWithinLimits};
+ghost use Rattle.std.specs.Prelude.{◌≡◌, ◌<◌, true, false, length, IsTrue, IfOk, IfErr, IfSome, MatchOption};
+ghost use Rattle.multigraph.specs.Graph.{Multigraph, edge_count, ends_of, is_end, is_edge_at, incident_edges, other_end, IsGraph, IsWithinLimits};
 ghost use Rattle.multigraph.specs.Build.{multigraph_of, IsFirstFault};
 
 use crate::faults::{BuildFault, check_ends};
@@ -139,5 +139,32 @@ impl Graph {
     {
         let (first, second) = self.ends[e as usize];
         if first == v { second } else { first }
+    }
+
+    /// Whether `e` is an edge, and `v` one of its ends.
+    pub fn is_edge_at(&self, e: u32, v: u32) -> bool
+        ensures { result ≡ is_edge_at self.now v e }
+    {
+        match self.ends.get(e as usize) {
+            Some((first, second)) => *first == v || *second == v,
+            None => false,
+        }
+    }
+
+    /// The end of edge `e` that is not `v`; `None` exactly where `e` is no edge, or `v` none of its ends.
+    pub fn far_end(&self, e: u32, v: u32) -> Option<u32>
+        ensures value { MatchOption result
+            (is_edge_at self.now v e ≡ false)
+            (λ w. (is_edge_at self.now v e ≡ true) × (w ≡ other_end self.now e v)) }
+        ensures within { IfSome result (λ w. w < self.now.vertex_count) }
+    {
+        let (first, second) = *self.ends.get(e as usize)?;
+        if first == v {
+            return Some(second);
+        }
+        if second == v {
+            return Some(first);
+        }
+        None
     }
 }

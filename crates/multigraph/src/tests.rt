@@ -28,6 +28,10 @@ fn reads_back_a_graph(rt: HostRuntime) -> Result<(), Fail> {
     assert_eq!(rt; g.incident(2), [1, 3, 5].as_slice());
     assert_eq!(rt; g.incident(4), [].as_slice());
     assert_eq!(rt; g.other_end(4, 3), 1);
+    for (e, v, far) in [(4, 3, 1), (4, 1, 3), (4, 0, 99), (0, 0, 1), (6, 0, 99)] {
+        assert_eq!(rt; g.is_edge_at(e, v), far != 99);
+        assert_eq!(rt; number(g.far_end(e, v)), far);
+    }
     let again = g.copy(rt.alloc())?;
     assert_eq!(rt; again.vertex_count(), 5);
     assert_eq!(rt; again.edge_count(), 6);
@@ -60,6 +64,25 @@ fn names_the_first_fault(rt: HostRuntime) -> Result<(), Fail> {
     ];
     for (n, ends, expected) in rows {
         let text = answer(rt.alloc(), n, ends)?;
+        assert_eq!(rt; text.as_str(), expected);
+    }
+    Ok(())
+}
+
+#[test]
+fn shows_each_fault(rt: HostRuntime) -> Result<(), Fail> {
+    let rows = [
+        (
+            BuildFault::TooManyVertices(20_001),
+            "20001 vertices are too many",
+        ),
+        (BuildFault::TooManyEdges(50_001), "50001 edges are too many"),
+        (BuildFault::EndOut(7), "edge 7 has an end that is no vertex"),
+        (BuildFault::Loop(0), "edge 0 is a loop"),
+        (BuildFault::Memory, "out of memory"),
+    ];
+    for (fault, expected) in rows {
+        let text = format!(in rt.alloc(); "{fault}")?;
         assert_eq!(rt; text.as_str(), expected);
     }
     Ok(())

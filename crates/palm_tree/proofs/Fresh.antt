@@ -4,19 +4,20 @@ use Rattle.std.proofs.lemmas.Bool.{true≢false, cases_lt}
 use Rattle.std.proofs.lemmas.List.{get_or-replicate, length-replicate, get_or_past}
 use Rattle.multigraph.specs.Graph.{Multigraph, edge_count}
 use Rattle.palm_tree.specs.State.{fresh}
-use Rattle.palm_tree.specs.Searching.{flag, IsSearching}
+use Rattle.multigraph.specs.Marks.{is_marked}
+use Rattle.palm_tree.specs.Searching.{IsSearching}
 
--- a list of equal flags, none up
-pub flag-none : (n i : ℕ) → flag (replicate n false) i ≡ false
-flag-none n i = elim (cases_lt i n) [ inl a ↦ get_or-replicate n i false false a | inr b ↦ get_or_past (replicate n false) i false (omega (arith, length-replicate n false)) ]
+-- a list of equal marks, none set
+pub marked-none : (n i : ℕ) → is_marked (replicate n false) i ≡ false
+marked-none n i = elim (cases_lt i n) [ inl a ↦ get_or-replicate n i false false a | inr b ↦ get_or_past (replicate n false) i false (omega (arith, length-replicate n false)) ]
 
 -- a list of zeros
 pub number-none : (n i : ℕ) → get_or {A = ℕ} (replicate n 0) i 0 ≡ 0
 number-none n i = elim (cases_lt i n) [ inl a ↦ get_or-replicate n i 0 0 a | inr b ↦ get_or_past (replicate n 0) i 0 (omega (arith, length-replicate {A = ℕ} n 0)) ]
 
--- a fact about a flag that is up, where none is
-none : (X : Type 0) (n i : ℕ) → flag (replicate n false) i ≡ true → X
-none X n i h = absurd (true≢false (sym h ∙ flag-none n i))
+-- a fact about a mark that is there, where none is
+none : (X : Type 0) (n i : ℕ) → is_marked (replicate n false) i ≡ true → X
+none X n i h = absurd (true≢false (sym h ∙ marked-none n i))
 
 -- the fresh state is between turns
 pub fresh-searching : (g : Multigraph) → IsSearching g (fresh g)
@@ -58,7 +59,7 @@ fresh-searching g = record {
   };
   ordered = record {
     distinct = refl;
-    members = λ v. sym (flag-none g.vertex_count v);
+    members = λ v. sym (marked-none g.vertex_count v);
     behind_parent = λ k l d. absurd (omega arith);
   };
   one_root = λ v h d. none _ g.vertex_count v h;

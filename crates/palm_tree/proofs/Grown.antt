@@ -13,7 +13,7 @@ use Rattle.graph_theory.proofs.Ends.{end-in}
 use Rattle.palm_tree.specs.State.{SearchState}
 use Rattle.palm_tree.specs.Searching.{IsOver}
 use Rattle.palm_tree.specs.Growing.{is_tree_edge, upper_end, begin_of}
-use Rattle.palm_tree.proofs.Writes.{flag-in}
+use Rattle.palm_tree.proofs.Writes.{marked-in}
 use Rattle.palm_tree.proofs.Over.{over-forest, over-seen}
 
 module _ (g : Multigraph) (gg : IsGraph g) (s : SearchState) (o : IsOver g s) where
@@ -82,7 +82,7 @@ module _ (g : Multigraph) (gg : IsGraph g) (s : SearchState) (o : IsOver g s) wh
   order-member v l = o.searching.ordered.members v ∙ o.visited v l
 
   pub member-order : (v : ℕ) → is_member v s.order ≡ true → v < g.vertex_count
-  member-order v h = omega (arith, flag-in s.visited v (sym (o.searching.ordered.members v) ∙ h), o.searching.places.visited)
+  member-order v h = omega (arith, marked-in s.visited v (sym (o.searching.ordered.members v) ∙ h), o.searching.places.visited)
 
   pub order-in : (i : ℕ) → i < length s.order → get_or s.order i 0 < g.vertex_count
   order-in i l = member-order (get_or s.order i 0) (member-at s.order i 0 l)

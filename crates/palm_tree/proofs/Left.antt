@@ -4,7 +4,8 @@ use Rattle.std.proofs.lemmas.Bool.{cases_lt}
 use Rattle.std.proofs.lemmas.List.{get_or-take, length-take-le}
 use Rattle.multigraph.specs.Graph.{Multigraph}
 use Rattle.palm_tree.specs.State.{SearchState, left}
-use Rattle.palm_tree.specs.Searching.{flag, degree, IsOnPath, IsLooked, OnPath, IsSearching}
+use Rattle.multigraph.specs.Marks.{is_marked}
+use Rattle.palm_tree.specs.Searching.{degree, IsOnPath, IsLooked, OnPath, IsSearching}
 
 -- v is the last vertex of the path, at place k, and all its edges were looked at
 pub record IsDone (g : Multigraph) (s : SearchState) (v k : ℕ) : Type 0 where
@@ -38,7 +39,7 @@ module _ (g : Multigraph) (s : SearchState) (v k : ℕ) (b : IsSearching g s) (f
   on_path : IsOnPath g s.visited s.parent s.depth path'
   on_path = record {
     within = λ j l. let m : j < k = omega (arith, path-length) in subst (λ (z : ℕ). z < g.vertex_count) (sym (path-at j m)) (b.on_path.within j (omega (arith, f.last)));
-    visits = λ j l. let m : j < k = omega (arith, path-length) in subst (λ (z : ℕ). flag s.visited z ≡ true) (sym (path-at j m)) (b.on_path.visits j (omega (arith, f.last)));
+    visits = λ j l. let m : j < k = omega (arith, path-length) in subst (λ (z : ℕ). is_marked s.visited z ≡ true) (sym (path-at j m)) (b.on_path.visits j (omega (arith, f.last)));
     deep = λ j l. let m : j < k = omega (arith, path-length) in ap (λ (z : ℕ). get_or s.depth z 0) (path-at j m) ∙ b.on_path.deep j (omega (arith, f.last));
     from_parent = λ j l.
         let m : j + 1 < k = omega (arith, path-length) in

@@ -13,7 +13,7 @@ use Rattle.multigraph.specs.Graph.{Multigraph}
 use Rattle.palm_tree.specs.State.{SearchState}
 use Rattle.palm_tree.specs.Searching.{IsOver}
 use Rattle.palm_tree.specs.Growing.{IsBefore}
-use Rattle.palm_tree.proofs.Writes.{flag-in}
+use Rattle.palm_tree.proofs.Writes.{marked-in}
 
 -- different numbers below n are at most n
 pub short : (n : ℕ) (l : List ℕ) → is_distinct l ≡ true → ((x : ℕ) → is_member x l ≡ true → x < n) → length l ≤ n
@@ -21,7 +21,7 @@ short n l d w = omega (arith, count-list n (λ x. is_member x l) l d w (λ x h. 
 
 -- the order has no more places than there are vertices
 pub order-length : (g : Multigraph) (s : SearchState) → IsOver g s → length s.order ≤ g.vertex_count
-order-length g s o = short g.vertex_count s.order o.searching.ordered.distinct (λ v h. omega (arith, flag-in s.visited v (sym (o.searching.ordered.members v) ∙ h), o.searching.places.visited))
+order-length g s o = short g.vertex_count s.order o.searching.ordered.distinct (λ v h. omega (arith, marked-in s.visited v (sym (o.searching.ordered.members v) ∙ h), o.searching.places.visited))
 
 -- a member at an earlier place stands before
 pub before-places : (l : List ℕ) (i j : ℕ) → i < j → j < length l → IsBefore l (get_or l i 0) (get_or l j 0)

@@ -6,14 +6,15 @@ use Rattle.multigraph.proofs.Incident.{incident-has}
 use Rattle.multigraph.proofs.OtherEnd.{is_end-first}
 use Rattle.graph_theory.specs.SearchTree.{IsSearchForest}
 use Rattle.palm_tree.specs.State.{SearchState}
-use Rattle.palm_tree.specs.Searching.{flag, degree, OnPath, IsSearching, IsOver}
+use Rattle.multigraph.specs.Marks.{is_marked}
+use Rattle.palm_tree.specs.Searching.{degree, OnPath, IsSearching, IsOver}
 
 -- nothing is on an empty path
 pub off-empty : (path : List ℕ) → path ≡ [] → (v : ℕ) → OnPath path v → ⊥
 off-empty path e v o = absurd (omega (arith, o.within, ap length e))
 
 -- every edge was seen
-pub over-seen : (g : Multigraph) → IsGraph g → (s : SearchState) → IsOver g s → (e : ℕ) → e < edge_count g → flag s.seen e ≡ true
+pub over-seen : (g : Multigraph) → IsGraph g → (s : SearchState) → IsOver g s → (e : ℕ) → e < edge_count g → is_marked s.seen e ≡ true
 over-seen g gg s o e l = from (incident-has g v e l (is_end-first g e))
   where
     v : ℕ
@@ -25,10 +26,10 @@ over-seen g gg s o e l = from (incident-has g v e l (is_end-first g e))
     done : get_or s.position v 0 ≡ degree g v
     done = elim (o.searching.looked.finished v (o.visited v vl)) [ inl a ↦ a | inr p ↦ absurd (off-empty s.path o.empty v p) ]
 
-    from : (q : ℕ) × (q < length (incident_edges g v)) × (get_or (incident_edges g v) q e ≡ e) → flag s.seen e ≡ true
+    from : (q : ℕ) × (q < length (incident_edges g v)) × (get_or (incident_edges g v) q e ≡ e) → is_marked s.seen e ≡ true
     from c =
         let f : get_or (incident_edges g v) c.0 0 ≡ e = get_or_default (incident_edges g v) c.0 0 e c.1 ∙ c.2 in
-        subst (λ (z : ℕ). flag s.seen z ≡ true) f (o.searching.looked.looked v vl c.0 (omega (arith, done, c.1)))
+        subst (λ (z : ℕ). is_marked s.seen z ≡ true) f (o.searching.looked.looked v vl c.0 (omega (arith, done, c.1)))
 
 -- the search forest
 pub over-forest : (g : Multigraph) → IsGraph g → (s : SearchState) → IsOver g s → IsSearchForest g (λ v. get_or s.parent v 0) (λ v. get_or s.depth v 0) (λ v. get_or s.parent_edge v 0) (λ e. get_or s.lower e 0)

@@ -14,58 +14,59 @@ use Rattle.multigraph.proofs.OtherEnd.{is_end-first, is_end-second}
 use Rattle.graph_theory.proofs.Ends.{end-cases, end-in}
 use Rattle.palm_tree.specs.PalmTree.{IsConnected}
 use Rattle.palm_tree.specs.State.{SearchState, fresh, root_noted}
-use Rattle.palm_tree.specs.Searching.{flag, degree, IsGrown, IsSeen, IsSearching, IsOver, looks_left, turns_left}
-use Rattle.palm_tree.proofs.Writes.{flag-same}
+use Rattle.multigraph.specs.Marks.{is_marked}
+use Rattle.palm_tree.specs.Searching.{degree, IsGrown, IsSeen, IsSearching, IsOver, looks_left, turns_left}
+use Rattle.palm_tree.proofs.Writes.{marked-same}
 use Rattle.palm_tree.proofs.Ancestors.{chain}
-use Rattle.palm_tree.proofs.Fresh.{fresh-searching, flag-none, number-none}
+use Rattle.palm_tree.proofs.Fresh.{fresh-searching, marked-none, number-none}
 use Rattle.palm_tree.proofs.Root.{root-kept}
 use Rattle.palm_tree.proofs.Over.{off-empty}
 
 -- the state where the first vertex was visited is between turns
 pub start-searching : (g : Multigraph) → 0 < g.vertex_count → IsSearching g (root_noted (fresh g) 0)
-start-searching g l = root-kept g (fresh g) 0 (fresh-searching g) l (flag-none g.vertex_count 0) refl refl
+start-searching g l = root-kept g (fresh g) 0 (fresh-searching g) l (marked-none g.vertex_count 0) refl refl
 
 -- the other end of a seen edge was visited
-pub upper-visited : (g : Multigraph) (visited : List Bool) (parent depth parent_edge : List ℕ) (seen : List Bool) (lower : List ℕ) → IsGrown g visited parent depth parent_edge seen lower → IsSeen g visited parent depth seen lower → (e : ℕ) → flag seen e ≡ true → flag visited (other_end g e (get_or lower e 0)) ≡ true
+pub upper-visited : (g : Multigraph) (visited : List Bool) (parent depth parent_edge : List ℕ) (seen : List Bool) (lower : List ℕ) → IsGrown g visited parent depth parent_edge seen lower → IsSeen g visited parent depth seen lower → (e : ℕ) → is_marked seen e ≡ true → is_marked visited (other_end g e (get_or lower e 0)) ≡ true
 upper-visited g visited parent depth parent_edge seen lower t d e h =
     let u = d.upper_above e h in
-    subst (λ (k : ℕ). flag visited k ≡ true) u.2
+    subst (λ (k : ℕ). is_marked visited k ≡ true) u.2
     (chain g visited parent depth parent_edge seen lower t (u.0 + 1) (get_or lower e 0) (d.lower_visited e h) (omega (arith, u.1))).0
 
 module _ (g : Multigraph) (gg : IsGraph g) (s : SearchState) (k : IsSearching g s) (empty : s.path ≡ []) where
   -- an edge at a visited vertex was seen
-  visited-seen : (e v : ℕ) → e < edge_count g → is_end g v e ≡ true → flag s.visited v ≡ true → flag s.seen e ≡ true
+  visited-seen : (e v : ℕ) → e < edge_count g → is_end g v e ≡ true → is_marked s.visited v ≡ true → is_marked s.seen e ≡ true
   visited-seen e v l i h = from (incident-has g v e l i)
     where
       done : get_or s.position v 0 ≡ degree g v
       done = elim (k.looked.finished v h) [ inl a ↦ a | inr p ↦ absurd (off-empty s.path empty v p) ]
 
-      from : (q : ℕ) × (q < length (incident_edges g v)) × (get_or (incident_edges g v) q e ≡ e) → flag s.seen e ≡ true
+      from : (q : ℕ) × (q < length (incident_edges g v)) × (get_or (incident_edges g v) q e ≡ e) → is_marked s.seen e ≡ true
       from c =
           let f : get_or (incident_edges g v) c.0 0 ≡ e = get_or_default (incident_edges g v) c.0 0 e c.1 ∙ c.2 in
-          subst (λ (z : ℕ). flag s.seen z ≡ true) f (k.looked.looked v (end-in g gg e v l i) c.0 (omega (arith, done, c.1)))
+          subst (λ (z : ℕ). is_marked s.seen z ≡ true) f (k.looked.looked v (end-in g gg e v l i) c.0 (omega (arith, done, c.1)))
 
   -- an end of a seen edge was visited
-  seen-visited : (e z : ℕ) → is_end g z e ≡ true → flag s.seen e ≡ true → flag s.visited z ≡ true
+  seen-visited : (e z : ℕ) → is_end g z e ≡ true → is_marked s.seen e ≡ true → is_marked s.visited z ≡ true
   seen-visited e z i h = elim (end-cases g e (get_or s.lower e 0) z (k.edges.lower_end e h) i) [
-    | inl q ↦ subst (λ (x : ℕ). flag s.visited x ≡ true) (sym q) (k.edges.lower_visited e h)
-    | inr q ↦ subst (λ (x : ℕ). flag s.visited x ≡ true) (sym q) (upper-visited g s.visited s.parent s.depth s.parent_edge s.seen s.lower k.grown k.edges e h)
+    | inl q ↦ subst (λ (x : ℕ). is_marked s.visited x ≡ true) (sym q) (k.edges.lower_visited e h)
+    | inr q ↦ subst (λ (x : ℕ). is_marked s.visited x ≡ true) (sym q) (upper-visited g s.visited s.parent s.depth s.parent_edge s.seen s.lower k.grown k.edges e h)
   ]
 
   -- of the two ends of an edge both were visited or none
-  ends-alike : (e : ℕ) → e < edge_count g → flag s.visited (ends_of g e).0 ≡ flag s.visited (ends_of g e).1
-  ends-alike e l = same-tests (flag s.visited (ends_of g e).0) (flag s.visited (ends_of g e).1)
+  ends-alike : (e : ℕ) → e < edge_count g → is_marked s.visited (ends_of g e).0 ≡ is_marked s.visited (ends_of g e).1
+  ends-alike e l = same-tests (is_marked s.visited (ends_of g e).0) (is_marked s.visited (ends_of g e).1)
       (λ h. seen-visited e (ends_of g e).1 (is_end-second g e) (visited-seen e (ends_of g e).0 l (is_end-first g e) h))
       (λ h. seen-visited e (ends_of g e).0 (is_end-first g e) (visited-seen e (ends_of g e).1 l (is_end-second g e) h))
 
   -- where the graph is connected, the search is over
-  pub explored-over : IsConnected g → flag s.visited 0 ≡ true → IsOver g s
+  pub explored-over : IsConnected g → is_marked s.visited 0 ≡ true → IsOver g s
   explored-over c v = record {
     searching = k;
     empty = empty;
     visited = λ u l.
         let z : 0 < g.vertex_count = omega arith in
-        sym (connected-value g.ends (flag s.visited) (λ e d m. subst (λ (r : ℕ × ℕ). flag s.visited r.0 ≡ flag s.visited r.1) (get_or_default g.ends e (0, 0) d m) (ends-alike e m)) 0 u (c 0 u z l)) ∙ v;
+        sym (connected-value g.ends (is_marked s.visited) (λ e d m. subst (λ (r : ℕ × ℕ). is_marked s.visited r.0 ≡ is_marked s.visited r.1) (get_or_default g.ends e (0, 0) d m) (ends-alike e m)) 0 u (c 0 u z l)) ∙ v;
   }
 
 -- as many numbers below k are kept as pass the test
@@ -120,5 +121,5 @@ pub start-turns : (g : Multigraph) → IsGraph g → turns_left g (root_noted (f
 start-turns g gg = omega (arith, looks-all g g.vertex_count g.vertex_count, degree-sum g gg)
 
 -- the first vertex was visited then
-pub start-flag : (g : Multigraph) → 0 < g.vertex_count → flag (root_noted (fresh g) 0).visited 0 ≡ true
-start-flag g l = flag-same (replicate g.vertex_count false) 0 (omega (arith, length-replicate g.vertex_count false))
+pub start-marked : (g : Multigraph) → 0 < g.vertex_count → is_marked (root_noted (fresh g) 0).visited 0 ≡ true
+start-marked g l = marked-same (replicate g.vertex_count false) 0 (omega (arith, length-replicate g.vertex_count false))

@@ -6,7 +6,8 @@ use Rattle.permutations.proofs.Injection.{pigeonhole}
 use Rattle.multigraph.specs.Graph.{Multigraph, edge_count, is_end, other_end, incident_edges, IsGraph, IsWithinLimits}
 use Rattle.multigraph.proofs.Incident.{length-incident, incident_at-edge, incident_at-end}
 use Rattle.palm_tree.specs.State.{SearchState, frond_noted, child_noted, looked_further, left}
-use Rattle.palm_tree.specs.Searching.{flag, degree, IsOnPath, IsSearching, IsLast, IsSeenAt, IsTurned, looks_left}
+use Rattle.multigraph.specs.Marks.{is_marked}
+use Rattle.palm_tree.specs.Searching.{degree, IsOnPath, IsSearching, IsLast, IsSeenAt, IsTurned, looks_left}
 use Rattle.palm_tree.proofs.Further.{further-kept, looks-fewer}
 use Rattle.palm_tree.proofs.Left.{left-kept}
 use Rattle.palm_tree.proofs.See.{see-frond, see-child}
@@ -32,16 +33,16 @@ pub degree-fits : (g : Multigraph) → IsWithinLimits g → (v x : ℕ) → x < 
 degree-fits g limits v x h = omega (arith, length-incident g v, limits.few_edges)
 
 -- the state after an edge to an ancestor was noted
-pub frond-seen : (g : Multigraph) → IsGraph g → (s new : SearchState) (v e w : ℕ) → IsSearching g s → IsLast s v → e < edge_count g → is_end g v e ≡ true → flag s.seen e ≡ false → w ≡ other_end g e v → flag s.visited w ≡ true → new ≡ frond_noted s v e → IsSeenAt g s new v e
+pub frond-seen : (g : Multigraph) → IsGraph g → (s new : SearchState) (v e w : ℕ) → IsSearching g s → IsLast s v → e < edge_count g → is_end g v e ≡ true → is_marked s.seen e ≡ false → w ≡ other_end g e v → is_marked s.visited w ≡ true → new ≡ frond_noted s v e → IsSeenAt g s new v e
 frond-seen g gg s new v e w k l m i u ew h en =
     subst (λ (z : SearchState). IsSeenAt g s z v e) (sym en)
-    (see-frond g gg s v e k l m i u (subst (λ (z : ℕ). flag s.visited z ≡ true) ew h))
+    (see-frond g gg s v e k l m i u (subst (λ (z : ℕ). is_marked s.visited z ≡ true) ew h))
 
 -- the state after an edge to a vertex not visited before was noted
-pub child-seen : (g : Multigraph) → IsGraph g → (s new : SearchState) (v e w : ℕ) → IsSearching g s → IsLast s v → e < edge_count g → is_end g v e ≡ true → flag s.seen e ≡ false → w ≡ other_end g e v → flag s.visited w ≡ false → new ≡ child_noted s v e w → IsSeenAt g s new v e
+pub child-seen : (g : Multigraph) → IsGraph g → (s new : SearchState) (v e w : ℕ) → IsSearching g s → IsLast s v → e < edge_count g → is_end g v e ≡ true → is_marked s.seen e ≡ false → w ≡ other_end g e v → is_marked s.visited w ≡ false → new ≡ child_noted s v e w → IsSeenAt g s new v e
 child-seen g gg s new v e w k l m i u ew h en =
     subst (λ (z : SearchState). IsSeenAt g s z v e) (sym (en ∙ ap (child_noted s v e) ew))
-    (see-child g gg s v e k l m i u (subst (λ (z : ℕ). flag s.visited z ≡ false) ew h))
+    (see-child g gg s v e k l m i u (subst (λ (z : ℕ). is_marked s.visited z ≡ false) ew h))
 
 -- the state after a look
 pub look-turned : (g : Multigraph) (s mid new : SearchState) (v e : ℕ) → v < g.vertex_count → get_or s.position v 0 < degree g v → e ≡ get_or (incident_edges g v) (get_or s.position v 0) 0 → IsSeenAt g s mid v e → new ≡ looked_further mid v → IsTurned g s new
@@ -57,8 +58,8 @@ look-turned g s mid new v e l d ee a en = subst (IsTurned g s) (sym en) (record 
     more : get_or mid.position v 0 < degree g v
     more = omega (arith, at, d)
 
-    seen : flag mid.seen (get_or (incident_edges g v) (get_or mid.position v 0) 0) ≡ true
-    seen = subst (λ (z : ℕ). flag mid.seen z ≡ true) (ee ∙ ap (λ (z : ℕ). get_or (incident_edges g v) z 0) (sym at)) a.seen
+    seen : is_marked mid.seen (get_or (incident_edges g v) (get_or mid.position v 0) 0) ≡ true
+    seen = subst (λ (z : ℕ). is_marked mid.seen z ≡ true) (ee ∙ ap (λ (z : ℕ). get_or (incident_edges g v) z 0) (sym at)) a.seen
 
 -- the state after the last vertex of the path was left
 pub leave-turned : (g : Multigraph) (s new : SearchState) (v : ℕ) → IsSearching g s → IsLast s v → degree g v ≤ get_or s.position v 0 → new ≡ left s → IsTurned g s new

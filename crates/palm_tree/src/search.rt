@@ -3,7 +3,8 @@ ghost use Rattle.std.specs.Prelude.{◌≡◌, ◌+◌, ◌*◌, ◌-◌, ◌<�
 ghost use Rattle.multigraph.specs.Graph.{edge_count, is_end, IsGraph, IsWithinLimits};
 ghost use Rattle.palm_tree.specs.PalmTree.{IsConnected};
 ghost use Rattle.palm_tree.specs.State.{SearchState, fresh, looked_further, frond_noted, root_noted, child_noted, left};
-ghost use Rattle.palm_tree.specs.Searching.{flag, degree, turns_left, IsSearching, IsLast, IsSeenAt, IsTurned, IsExplored, IsOver};
+ghost use Rattle.multigraph.specs.Marks.{is_marked};
+ghost use Rattle.palm_tree.specs.Searching.{degree, turns_left, IsSearching, IsLast, IsSeenAt, IsTurned, IsExplored, IsOver};
 ghost use Rattle.palm_tree.specs.Growing.{is_tree_edge, parent_at, upper_end};
 
 use crate::steps::Steps;
@@ -120,7 +121,7 @@ impl Search {
     // Whether the vertex was visited.
     fn is_visited(&self, vertex: u32) -> bool
         requires { vertex < length self.now.visited }
-        ensures { result ≡ flag self.now.visited vertex }
+        ensures { result ≡ is_marked self.now.visited vertex }
     {
         self.visited[vertex as usize]
     }
@@ -128,7 +129,7 @@ impl Search {
     // Whether the edge was seen.
     fn is_seen(&self, edge: u32) -> bool
         requires { edge < length self.now.seen }
-        ensures { result ≡ flag self.now.seen edge }
+        ensures { result ≡ is_marked self.now.seen edge }
     {
         self.seen[edge as usize]
     }

@@ -5,14 +5,10 @@ use Rattle.std.specs.List.{All, Contains}
 use Rattle.permutations.specs.Cyclic.{first_or, successor, predecessor}
 use Rattle.permutations.specs.Members.{is_member, is_distinct}
 use Rattle.permutations.specs.Permutation.{Permutes}
-use Rattle.multigraph.specs.Graph.{Multigraph, IsGraph, max_vertices, edge_count, ends_of, incident_edges}
+use Rattle.multigraph.specs.Graph.{Multigraph, IsGraph, max_vertices, max_darts, edge_count, ends_of, incident_edges}
 use Rattle.ring_arena.specs.Links.{Links}
 use Rattle.rotations.specs.Rotation.{order_at, IsRotationSystem}
 use Rattle.rotations.specs.declared.rings.Ring.{Ring}
-
--- the most darts that a graph has
-abbrev pub max_darts : ℕ
-max_darts = 100000
 
 -- the dart of edge e that leaves v, one of its ends, by the vertices that the darts leave
 abbrev pub dart_at : List ℕ → ℕ → ℕ → ℕ

@@ -1,8 +1,8 @@
 // The darts round each vertex: the first of each ring, and the vertex that each dart leaves.
 
 ghost use Rattle.std.specs.Prelude.{◌≡◌, ◌+◌, ◌*◌, ◌<◌, ◌≤◌, length, IfOk};
-ghost use Rattle.multigraph.specs.Graph.{edge_count};
-ghost use Rattle.rotations.specs.Rings.{max_darts, dart_at, AreTails, IsRingOf};
+ghost use Rattle.multigraph.specs.Graph.{edge_count, max_darts};
+ghost use Rattle.rotations.specs.Rings.{dart_at, AreTails, IsRingOf};
 
 use multigraph::Graph;
 use std::alloc::{AllocError, Global};

@@ -1,4 +1,4 @@
--- The homes of the edges of a block: of each edge the node and the item that it is.
+-- State of a loop: the homes of the edges of a block, of each edge the node and the item that it is.
 use Rattle.std.specs.Prelude.{◌≡◌, ℕ, ◌<◌, List, length, slice_index_or}
 use Rattle.multigraph.specs.Graph.{Multigraph, edge_count}
 use Rattle.pair_split.specs.Tutte.{Node, node_at, node_item}

@@ -8,7 +8,7 @@ use Rattle.spqr_cli.specs.declared.halt.Halt.{Halt}
 use Rattle.spqr_cli.specs.declared.halt.Halt.TheVariants.{Refused, Memory as OutOfMemory}
 use Rattle.spqr_session.specs.Machine.{IsStarted}
 use Rattle.spqr_session.specs.Report.{IsReport}
-use Rattle.made_graph.specs.Made.{made}
+use Rattle.made_graph.specs.Made.{made, max_asked}
 use Rattle.made_summary.specs.Summary.{IsSummary}
 use Rattle.spqr_cli.specs.Seen.{ShelfSeen}
 use Rattle.spqr_cli.specs.Decision.{Sources, AreContents, Work, Task, Report, Summary, Decision, IsDue, DecisionHasLine}
@@ -123,7 +123,7 @@ task_of (plan.Summary edges seed) = Summary edges seed
 -- a plan can be carried out: its session is at its start, or its number of edges is in the range
 abbrev pub IsReady : Plan → Type 0
 IsReady (plan.Report accepted) = IsStarted accepted.session
-IsReady (plan.Summary edges seed) = (6 ≤ edges) × (edges ≤ 20000)
+IsReady (plan.Summary edges seed) = (6 ≤ edges) × (edges ≤ max_asked)
 
 -- a fact on the decision that a call answers, where memory suffices: what its plan is to do, or the refusal
 abbrev pub OnDecision : Result Plan (Halt Refusal) → (Decision → Type 0) → Type 0

@@ -1,5 +1,6 @@
 // The whole run, from the words to the status.
 ghost use Rattle.std.specs.Prelude.{◌≤◌, Err, map, string_bytes};
+ghost use Rattle.made_graph.specs.Made.{max_asked};
 ghost use Rattle.spqr_session.specs.Machine.{IsStarted};
 ghost use Rattle.spqr_cli.specs.Writing.{WritesAnswers, WritesReport};
 ghost use Rattle.spqr_cli.specs.Decision.{DecisionHasLine, Summary};
@@ -61,7 +62,7 @@ fn write_report<K: Sink>(
 // Writes the summary of the graph that is made from a number, and gives the status.
 fn write_summary<K: Sink>(alloc: Global, edges: u32, seed: u64, sink: &mut K) -> Status
     requires least { 6 ≤ edges }
-    requires most { edges ≤ 20000 }
+    requires most { edges ≤ max_asked }
     ensures summary { CarriesOut (Summary edges seed) (K.written sink.old) (K.written sink.new) result }
     ensures faults { CountsPuts (K.faults sink.old) (K.faults sink.new) result }
 {

@@ -1,26 +1,23 @@
-use Rattle.std.proofs.Common.{◌≡◌, true, false, ◌++◌, sym, subst, arith}
+use Rattle.std.proofs.Common.{◌≡◌, ℕ, List, true, false, ◌++◌, sym, subst, arith}
 use Rattle.permutations.specs.Cyclic.{IsTurn}
 use Rattle.multigraph.specs.Graph.{is_end}
-use Rattle.rotations.specs.Rotation.{order_at}
 use Rattle.planarity.specs.Circle.{leads_near}
 use Rattle.contractions.specs.Level.{edge_before}
-use Rattle.contract_obstruct.specs.Crossing.{merged_vertex}
-use Rattle.contract_obstruct.proofs.Segments.{four-segments}
+use Rattle.contract_obstruct.specs.Crossing.{listed}
+use Rattle.contract_obstruct.proofs.Segments.{four-segments, around-by}
 use Rattle.contract_obstruct.proofs.sectors.crossing_at.Goals as goal
 
 pub crossing-requires-clause-crossing : goal.crossing-requires-clause-crossing
 crossing-requires-clause-crossing c =
     let level = c.args.level.now in
     let l = c.args.order.now in
-    let s = c.requires.around.0 in
+    let order : List ℕ = listed c.in_ok-a.a ++ (listed c.in_ok-b.b ++ (listed c.in_ok-c.c ++ listed c.in_ok-d.d)) in
     record {
-      around = (
-        s,
-        c.requires.around.1,
-        subst (IsTurn (order_at s (merged_vertex level)))
-            (sym (λ t. c.in_ok-a.ensures.whole t ++ (c.in_ok-b.ensures.whole t ++ (c.in_ok-c.ensures.whole t ++ c.in_ok-d.ensures.whole t))))
-            (four-segments (order_at s (merged_vertex level)) l c.args.places.0 c.args.places.1 c.args.places.2 (omega (arith, c.requires.rise)) (omega (arith, c.requires.rise_on)) c.requires.around.2),
-      );
+      around = around-by level c.args.next.now l order
+          (λ o t. subst (IsTurn o)
+          (sym (λ i. c.in_ok-a.ensures.whole i ++ (c.in_ok-b.ensures.whole i ++ (c.in_ok-c.ensures.whole i ++ c.in_ok-d.ensures.whole i))))
+          (four-segments o l c.args.places.0 c.args.places.1 c.args.places.2 (omega (arith, c.requires.rise)) (omega (arith, c.requires.rise_on)) t))
+          c.requires.around;
       first = subst (λ z. is_end level.graph level.x (edge_before level z) ≡ true) (sym c.in_ok-a.ensures.first) c.requires.first;
       second = subst (λ z. leads_near level.graph level.x level.y (edge_before level) z ≡ true) (sym c.in_ok-b.ensures.first) c.requires.second;
       third = subst (λ z. is_end level.graph level.x (edge_before level z) ≡ true) (sym c.in_ok-c.ensures.first) c.requires.third;

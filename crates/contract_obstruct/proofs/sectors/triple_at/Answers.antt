@@ -1,12 +1,11 @@
-use Rattle.std.proofs.Common.{◌≡◌, ℕ, ◌++◌, sym, ◌∙◌, subst, arith}
+use Rattle.std.proofs.Common.{◌≡◌, ℕ, List, ◌++◌, sym, ◌∙◌, subst, arith}
 use Rattle.permutations.specs.Cyclic.{IsTurn}
-use Rattle.rotations.specs.Rotation.{order_at}
-use Rattle.contract_obstruct.specs.Crossing.{merged_vertex}
+use Rattle.contract_obstruct.specs.Crossing.{listed}
 use Rattle.contract_obstruct.specs.Triple.{LeadsToCommon}
 use Rattle.contract_obstruct.specs.Sectors.{IsCommonEdge}
 use Rattle.contractions.specs.declared.level.Level.{Level}
 use Rattle.contract_obstruct.specs.declared.crossing.Sector.{Sector}
-use Rattle.contract_obstruct.proofs.Segments.{three-segments}
+use Rattle.contract_obstruct.proofs.Segments.{three-segments, around-by}
 use Rattle.contract_obstruct.proofs.sectors.triple_at.Goals as goal
 
 -- what holds of its first edge
@@ -17,16 +16,14 @@ pub triple-requires-clause-triple : goal.triple-requires-clause-triple
 triple-requires-clause-triple c =
     let level = c.args.level.now in
     let l = c.args.order.now in
-    let s = c.requires.around.0 in
+    let order : List ℕ = listed c.in_ok-a.a ++ (listed c.in_ok-b.b ++ listed c.in_ok-c.c) in
     record {
-      around = (
-        s,
-        c.requires.around.1,
-        subst (IsTurn (order_at s (merged_vertex level)))
-            (three-segments l c.args.places.0 c.args.places.1 (omega (arith, c.requires.rise))
-            ∙ sym (λ t. c.in_ok-a.ensures.whole t ++ (c.in_ok-b.ensures.whole t ++ c.in_ok-c.ensures.whole t)))
-            c.requires.around.2,
-      );
+      around = around-by level c.args.next.now l order
+          (λ o t. subst (IsTurn o)
+          (three-segments l c.args.places.0 c.args.places.1 (omega (arith, c.requires.rise))
+          ∙ sym (λ i. c.in_ok-a.ensures.whole i ++ (c.in_ok-b.ensures.whole i ++ c.in_ok-c.ensures.whole i)))
+          t)
+          c.requires.around;
       first = common level c.in_ok-a.a _ c.in_ok-a.ensures.first c.requires.first;
       second = common level c.in_ok-b.b _ c.in_ok-b.ensures.first c.requires.second;
       third = common level c.in_ok-c.c _ c.in_ok-c.ensures.first c.requires.third;

@@ -1,6 +1,7 @@
 use Rattle.std.proofs.Common.{◌≡◌, true, sym, subst, arith, ap, below_more}
 use Rattle.blocks.specs.State.{SearchState}
-use Rattle.blocks.specs.Searching.{flag, IsSearching}
+use Rattle.multigraph.specs.Marks.{is_marked}
+use Rattle.blocks.specs.Searching.{IsSearching}
 use Rattle.blocks.proofs.Fresh.{fresh-searching}
 use Rattle.blocks.proofs.search.Search.of.Goals as goal
 
@@ -12,4 +13,4 @@ loop-root-init c =
 pub loop-root-preserved : goal.loop-root-preserved
 loop-root-preserved c =
     let x = c.in_ok-ensure_visited.ensures.explored in
-    (x.searching, x.empty, below_more (λ u. flag c.ensure_visited.new.self.visited u ≡ true) c.loop-root.root (λ u l. x.visited u (c.loop-root.invariant.2 u l)) c.in_ok-ensure_visited.ensures.root)
+    (x.searching, x.empty, below_more (λ u. is_marked c.ensure_visited.new.self.visited u ≡ true) c.loop-root.root (λ u l. x.visited u (c.loop-root.invariant.2 u l)) c.in_ok-ensure_visited.ensures.root)

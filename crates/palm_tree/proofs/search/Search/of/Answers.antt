@@ -1,7 +1,8 @@
 use Rattle.std.proofs.Common.{◌≡◌, ◌<◌, true, sym, subst, arith, ap, ◌∙◌}
 use Rattle.palm_tree.specs.State.{SearchState, fresh, root_noted}
-use Rattle.palm_tree.specs.Searching.{flag, IsSearching, turns_left}
-use Rattle.palm_tree.proofs.Start.{start-searching, start-turns, start-flag, explored-over}
+use Rattle.multigraph.specs.Marks.{is_marked}
+use Rattle.palm_tree.specs.Searching.{IsSearching, turns_left}
+use Rattle.palm_tree.proofs.Start.{start-searching, start-turns, start-marked, explored-over}
 use Rattle.palm_tree.proofs.search.Search.of.Goals as goal
 
 pub explore-requires-clause-searching : goal.explore-requires-clause-searching
@@ -20,7 +21,7 @@ returns-clause-over g c =
     let x = c.in_ok-explore.ensures.explored in
     let l : 0 < c.args.graph.now.vertex_count = omega (arith, c.if-vertices-eq0.false, c.vertex_count-vertices.ensures.value) in
     explored-over c.args.graph.now c.vertex_count-vertices.ensures.graph c.explore.new.self x.searching x.empty c.requires.connected
-    (x.visited 0 (subst (λ (s : SearchState). flag s.visited 0 ≡ true) (sym e) (start-flag c.args.graph.now l)))
+    (x.visited 0 (subst (λ (s : SearchState). is_marked s.visited 0 ≡ true) (sym e) (start-marked c.args.graph.now l)))
 
 pub returns-clause-cost : goal.returns-clause-cost
 returns-clause-cost g c =

@@ -1,7 +1,7 @@
 -- A number that one more digit makes too great is refused.
 use Rattle.std.proofs.Common.{sym, ◌∙◌}
 use Rattle.gml_graph.proofs.Digits.{up_to_after-full_at}
-use Rattle.gml_graph.proofs.reading.digits_up_to.Goals as goal
+use Rattle.gml_graph.proofs.integers.digits_up_to.Goals as goal
 
 pub returns-then-value-most : goal.returns-then-value-most
 returns-then-value-most c =

@@ -2,7 +2,7 @@
 use Rattle.std.proofs.Common.{◌≡◌, ◌+◌, ◌≤◌, drop}
 use Rattle.gml_graph.specs.Number.{digits_up_to}
 use Rattle.gml_graph.proofs.Digits.{up_to_after}
-use Rattle.gml_graph.proofs.reading.digits_up_to.Given as goal
+use Rattle.gml_graph.proofs.integers.digits_up_to.Given as goal
 
 abbrev pub invariant-loop-digit : goal.invariant-loop-digit
 invariant-loop-digit l = record {
