@@ -10,13 +10,13 @@ use Rattle.multigraph.proofs.OtherEnd.{other_end-is_end}
 use Rattle.graph_theory.specs.SearchTree.{IsBelow, IsSearchForest}
 use Rattle.graph_theory.proofs.Chains.{chain-depth}
 use Rattle.graph_theory.proofs.Ends.{end-in}
-use Rattle.palm_tree.specs.State.{SearchState}
+use Rattle.blocks.specs.Forest.{ForestState}
 use Rattle.palm_tree.specs.Searching.{IsOver}
 use Rattle.palm_tree.specs.Growing.{is_tree_edge, upper_end, begin_of}
-use Rattle.palm_tree.proofs.Writes.{marked-in}
+use Rattle.blocks.proofs.Writes.{marked-in}
 use Rattle.palm_tree.proofs.Over.{over-forest, over-seen}
 
-module _ (g : Multigraph) (gg : IsGraph g) (s : SearchState) (o : IsOver g s) where
+module _ (g : Multigraph) (gg : IsGraph g) (s : ForestState) (o : IsOver g s) where
   -- the tree as a search forest
   pub forest : IsSearchForest g (λ v. get_or s.parent v 0) (λ v. get_or s.depth v 0) (λ v. get_or s.parent_edge v 0) (λ e. get_or s.lower e 0)
   forest = over-forest g gg s o

@@ -11,7 +11,7 @@ use Rattle.permutations.proofs.Sums.{sum_below-zero}
 use Rattle.multigraph.specs.Graph.{Multigraph, IsGraph}
 use Rattle.graph_theory.specs.SearchTree.{IsBelow}
 use Rattle.graph_theory.proofs.Chains.{chain-in, chain-depth, below-transitive, below-parent, below-reflexive, below-depth, below-between}
-use Rattle.palm_tree.specs.State.{SearchState}
+use Rattle.blocks.specs.Forest.{ForestState}
 use Rattle.palm_tree.specs.Searching.{IsOver}
 use Rattle.palm_tree.specs.Growing.{AreSizes, AreChildren, AreOffsets, AreNumbersSoFar, IsBefore}
 use Rattle.palm_tree.proofs.Grown.{forest, order-member}
@@ -19,10 +19,10 @@ use Rattle.palm_tree.proofs.Totals.{sum-change, cond-yes, cond-no}
 use Rattle.palm_tree.proofs.SizesHanded.{both, second-no}
 
 -- z is v or below v
-abbrev pub Below : SearchState → ℕ → ℕ → Type 0
+abbrev pub Below : ForestState → ℕ → ℕ → Type 0
 Below s v z = IsBelow (λ k. get_or s.parent k 0) (λ k. get_or s.depth k 0) v z
 
-module _ (g : Multigraph) (gg : IsGraph g) (s : SearchState) (o : IsOver g s) where
+module _ (g : Multigraph) (gg : IsGraph g) (s : ForestState) (o : IsOver g s) where
   pub trans : (u v z : ℕ) → z < g.vertex_count → Below s u v → Below s v z → Below s u z
   trans u v z l a b = below-transitive g (λ k. get_or s.parent k 0) (λ k. get_or s.depth k 0) (λ k. get_or s.parent_edge k 0) (λ e. get_or s.lower e 0) (forest g gg s o) u v z l a b
 

@@ -5,13 +5,13 @@ use Rattle.permutations.specs.Members.{is_member}
 use Rattle.permutations.proofs.Members.{member-cases}
 use Rattle.multigraph.specs.Graph.{Multigraph, edge_count, IsGraph}
 use Rattle.graph_theory.proofs.Chains.{below-transitive, below-parent, below-reflexive}
-use Rattle.palm_tree.specs.State.{SearchState}
+use Rattle.blocks.specs.Forest.{ForestState}
 use Rattle.palm_tree.specs.Searching.{IsOver}
 use Rattle.palm_tree.specs.Growing.{LowVertices, taken, is_tree_edge, upper_end, LeadsFrom, IsTaken, AreLowSoFar}
 use Rattle.palm_tree.proofs.Taking.{Change, taken-change, change-taken, change-keeps}
 use Rattle.palm_tree.proofs.Grown.{forest, parent-in, parent-depth, lower-in, upper-in, order-in, order-from, parent-before}
 
-module _ (g : Multigraph) (gg : IsGraph g) (s : SearchState) (o : IsOver g s) where
+module _ (g : Multigraph) (gg : IsGraph g) (s : ForestState) (o : IsOver g s) where
   -- the parent of a vertex leads where it leads
   pub leads-up : (v x : ℕ) → v < g.vertex_count → 0 < get_or s.depth v 0 → LeadsFrom g s v x → LeadsFrom g s (get_or s.parent v 0) x
   leads-up v x l d w = record {

@@ -10,17 +10,17 @@ use Rattle.permutations.proofs.Filter.{filter-yes, filter-no, member-filter_part
 use Rattle.permutations.proofs.Places.{place-of}
 use Rattle.permutations.proofs.Mapped.{member-map}
 use Rattle.multigraph.specs.Graph.{Multigraph}
-use Rattle.palm_tree.specs.State.{SearchState}
+use Rattle.blocks.specs.Forest.{ForestState}
 use Rattle.palm_tree.specs.Searching.{IsOver}
 use Rattle.palm_tree.specs.Growing.{IsBefore}
-use Rattle.palm_tree.proofs.Writes.{marked-in}
+use Rattle.blocks.proofs.Writes.{marked-in}
 
 -- different numbers below n are at most n
 pub short : (n : ℕ) (l : List ℕ) → is_distinct l ≡ true → ((x : ℕ) → is_member x l ≡ true → x < n) → length l ≤ n
 short n l d w = omega (arith, count-list n (λ x. is_member x l) l d w (λ x h. refl), count-within n (λ x. is_member x l))
 
 -- the order has no more places than there are vertices
-pub order-length : (g : Multigraph) (s : SearchState) → IsOver g s → length s.order ≤ g.vertex_count
+pub order-length : (g : Multigraph) (s : ForestState) → IsOver g s → length s.order ≤ g.vertex_count
 order-length g s o = short g.vertex_count s.order o.searching.ordered.distinct (λ v h. omega (arith, marked-in s.visited v (sym (o.searching.ordered.members v) ∙ h), o.searching.places.visited))
 
 -- a member at an earlier place stands before
