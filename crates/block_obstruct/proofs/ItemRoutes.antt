@@ -4,7 +4,7 @@ use Rattle.std.proofs.lemmas.Bool.{cases_eq, or_cases, or_left, eq-eqb, eqb-true
 use Rattle.std.proofs.lemmas.List.{get_or_push, get_or_append_left, length_push}
 use Rattle.permutations.specs.Members.{is_member}
 use Rattle.permutations.proofs.Arrangements.{member-at, contains-from_member, member-from_contains}
-use Rattle.multigraph.specs.Graph.{Multigraph, edge_count, ends_of, is_end, IsGraph, IsWithinLimits}
+use Rattle.multigraph.specs.Graph.{Multigraph, edge_count, is_end, IsWithinLimits}
 use Rattle.multigraph.specs.Part.{Rises}
 use Rattle.multigraph.proofs.Below.{filter_below-has, filter_below-only, filter_below-at, filter_below-rises}
 use Rattle.graph_theory.specs.Path.{walk_vertices, IsPath}
@@ -15,6 +15,7 @@ use Rattle.pair_split.specs.declared.components.What.{What}
 use Rattle.pair_split.specs.declared.components.Item.{Item}
 use Rattle.pair_split.proofs.Groups.{group-once, group-common}
 use Rattle.kuratowski.specs.Subdivision.{inner_vertices}
+use Rattle.kuratowski.proofs.Meetings.{inside-met}
 use Rattle.skeletons.specs.Items.{ends_item, IsBlockTree}
 use Rattle.skeletons.specs.Families.{skeleton_graph}
 use Rattle.skeletons.proofs.NodeItems.{piece-in, what-at, ends-at, group-item, item-edge, edge-end}
@@ -28,7 +29,6 @@ use Rattle.block_obstruct.specs.Towards.{item_in}
 use Rattle.block_obstruct.specs.Routes.{route_start, route_end, route_vertices, route_at, EndsRoute, AreRoutes}
 use Rattle.multigraph.specs.Buckets.{ArePlaces}
 use Rattle.block_obstruct.specs.Groups.{AreOwners, noted_with, PathAlong, IsItemRoute, AreItemRoutes}
-use Rattle.block_obstruct.proofs.Lifted.{inside-met}
 
 -- a path between the ends of an item, where the lists are read elsewhere
 pub path-of : (g : Multigraph) (edges others : List ℕ) (items pieces : List Item) (i : ℕ) → edges ≡ others → items ≡ pieces → PathAlong g others (item_in pieces i).a (item_in pieces i).b → PathAlong g edges (item_in items i).a (item_in items i).b

@@ -1,10 +1,12 @@
 -- A subdivision carried over along routes is one, in its written form.
-use Rattle.std.proofs.Common.{◌≡◌, ◌≢◌, ℕ, suc, ◌<◌, ◌⊎◌, inl, inr, Bool, true, false, cond, List, [], ◌∷◌, ◌++◌, length, map, reverse, refl, sym, ap, ◌∙◌, subst, arith}
+use Rattle.std.proofs.Common.{◌≡◌, ◌≢◌, ℕ, suc, ◌<◌, ◌⊎◌, inl, inr, Bool, true, false, cond, List, [], ◌∷◌, ◌++◌, length, reverse, sym, ap, ◌∙◌, subst, arith}
 use Rattle.std.proofs.lemmas.Bool.{both_ways, cases_order, eq-eqb, ne_eqb, true≢false, false_from_ne_true}
 use Rattle.std.proofs.lemmas.List.{get_or-map, get_or_default, length-map}
 use Rattle.permutations.specs.Members.{is_member, is_distinct}
-use Rattle.permutations.proofs.Members.{member-head, member-tail, member-cases, member-append_left, member-append_cases, distinct-cons, distinct-head, distinct-tail, distinct-append, distinct-append_left, distinct-append_apart}
+use Rattle.permutations.proofs.Members.{member-head, member-tail, member-cases, member-append_cases, distinct-head, distinct-tail, distinct-append, distinct-append_left, distinct-append_apart}
 use Rattle.permutations.proofs.Arrangements.{contains-from_member, member-at}
+use Rattle.permutations.proofs.Places.{places-differ}
+use Rattle.permutations.proofs.Mapped.{map-member, member-map, distinct-map}
 use Rattle.multigraph.specs.Graph.{Multigraph, edge_count, ends_of, is_end, other_end, numbers_below, IsGraph}
 use Rattle.multigraph.proofs.Below.{length-numbers_below, get_or-numbers_below}
 use Rattle.multigraph.proofs.OtherEnd.{is_end-first, is_end-second, is_end-cases, other_end-cases, other_end-in, end-in}
@@ -15,43 +17,11 @@ use Rattle.graph_theory.proofs.Walks.{end-append, vertices-append, walk-append, 
 use Rattle.graph_theory.proofs.Paths.{path-none, path-reverse, path-reverse-met}
 use Rattle.kuratowski.specs.declared.subdivision.Pattern.{Pattern}
 use Rattle.kuratowski.specs.declared.subdivision.Pattern.TheVariants.{K5, K33}
-use Rattle.kuratowski.specs.Subdivision.{branch_count, branch_at, path_at, pair_at, pattern_edges, inner_vertices, IsSubdivision, IsWrittenOrder, IsWritten}
-use Rattle.kuratowski.proofs.Checked.{distinct-places, pair-rises}
-use Rattle.kuratowski.proofs.Meetings.{vertices_at, MeetAtBranches, subdivision-meetings, subdivision-from_meetings}
+use Rattle.kuratowski.specs.Subdivision.{branch_count, branch_at, path_at, pair_at, pattern_edges, IsSubdivision, IsWrittenOrder, IsWritten}
+use Rattle.kuratowski.proofs.Checked.{pair-rises}
+use Rattle.kuratowski.proofs.Meetings.{vertices_at, MeetAtBranches, subdivision-meetings, subdivision-from_meetings, met-parts}
 use Rattle.kuratowski.proofs.Reordering.{pair-once}
 use Rattle.block_obstruct.specs.Routes.{outer_vertex, route_at, route_start, route_end, route_vertices, EndsRoute, AreRoutes, route_from, lifted_walk, lifted_path, lifted_paths, lifted_branches}
-
--- a path between different vertices meets its first vertex, those inside, and its last
-met-inner : (g : Multigraph) (x : ℕ) (es : List ℕ) (y : ℕ) → IsPath g x es y → x ≢ y → walk_vertices g x es ≡ x ∷ (inner_vertices g x es ++ y ∷ [])
-met-inner g x [] y p n = absurd (n p.arrives)
-met-inner g x (e ∷ es) y p n = ap (λ (w : ℕ). x ∷ (walk_starts g (other_end g e x) es ++ w ∷ [])) p.arrives
-
--- a vertex of a path is an end or inside
-met-parts : (g : Multigraph) (x : ℕ) (es : List ℕ) (y : ℕ) → IsPath g x es y → x ≢ y → (z : ℕ) → is_member z (walk_vertices g x es) ≡ true → (x ≡ z) ⊎ (is_member z (inner_vertices g x es) ≡ true) ⊎ (y ≡ z)
-met-parts g x es y p n z m = elim (member-cases z x (inner_vertices g x es ++ y ∷ []) (subst (λ (l : List ℕ). is_member z l ≡ true) (met-inner g x es y p n) m)) [
-  | inl e ↦ inl e
-  | inr t ↦ inr (elim (member-append_cases z (inner_vertices g x es) (y ∷ []) t) [
-    | inl a ↦ inl a
-    | inr b ↦ inr (elim (member-cases z y [] b) [ inl e ↦ e | inr f ↦ absurd (true≢false (sym f)) ])
-  ])
-]
-
--- a vertex inside a path between different vertices is one of its vertices, and no end
-pub inside-met : (g : Multigraph) (x : ℕ) (es : List ℕ) (y : ℕ) → IsPath g x es y → x ≢ y → (z : ℕ) → is_member z (inner_vertices g x es) ≡ true → (is_member z (walk_vertices g x es) ≡ true) × (z ≢ x) × (z ≢ y)
-inside-met g x es y p n z m = (
-  subst (λ (l : List ℕ). is_member z l ≡ true) (sym is) (member-tail z x (inner ++ y ∷ []) (member-append_left z inner (y ∷ []) m)),
-  λ e. both_ways (is_member x (inner ++ y ∷ [])) (distinct-head x (inner ++ y ∷ []) d) (subst (λ (w : ℕ). is_member w (inner ++ y ∷ []) ≡ true) e (member-append_left z inner (y ∷ []) m)),
-  λ e. both_ways (is_member z (y ∷ [])) (distinct-append_apart inner (y ∷ []) (distinct-tail x (inner ++ y ∷ []) d) z m) (subst (λ (w : ℕ). is_member z (w ∷ []) ≡ true) e (member-head z [])),
-)
-  where
-    inner : List ℕ
-    inner = inner_vertices g x es
-
-    is : walk_vertices g x es ≡ x ∷ (inner ++ y ∷ [])
-    is = met-inner g x es y p n
-
-    d : is_distinct (x ∷ (inner ++ y ∷ [])) ≡ true
-    d = subst (λ (l : List ℕ). is_distinct l ≡ true) is p.vertices
 
 -- two paths, the second from where the first leads, that share no vertex else are one path
 pub path-append : (g : Multigraph) (x : ℕ) (es : List ℕ) (y : ℕ) (fs : List ℕ) (w : ℕ) → IsPath g x es y → IsPath g y fs w
@@ -67,31 +37,6 @@ path-append g x es y fs w p q apart = record {
 pub start-differs : (g : Multigraph) (x : ℕ) (es : List ℕ) (y : ℕ) → IsPath g x es y → (z : ℕ) → is_member z (walk_starts g x es) ≡ true → z ≢ y
 start-differs g x es y p z m q = both_ways (is_member z (walk_end g x es ∷ [])) (distinct-append_apart (walk_starts g x es) (walk_end g x es ∷ []) p.vertices z m)
     (subst (λ (w : ℕ). is_member w (walk_end g x es ∷ []) ≡ true) (p.arrives ∙ sym q) (member-head (walk_end g x es) []))
-
--- the image of a member is among the images
-pub member-map : (f : ℕ → ℕ) (x : ℕ) (xs : List ℕ) → is_member x xs ≡ true → is_member (f x) (map f xs) ≡ true
-member-map f x [] h = absurd (true≢false (sym h))
-member-map f x (y ∷ ys) h = elim (member-cases x y ys h) [
-  | inl e ↦ subst (λ (z : ℕ). is_member (f z) (f y ∷ map f ys) ≡ true) e (member-head (f y) (map f ys))
-  | inr m ↦ member-tail (f x) (f y) (map f ys) (member-map f x ys m)
-]
-
--- what is among the images is the image of a member
-pub map-member : (f : ℕ → ℕ) (y : ℕ) (xs : List ℕ) → is_member y (map f xs) ≡ true → (x : ℕ) × (is_member x xs ≡ true) × (f x ≡ y)
-map-member f y [] h = absurd (true≢false (sym h))
-map-member f y (x ∷ xs) h = elim (member-cases y (f x) (map f xs) h) [
-  | inl e ↦ (x, member-head x xs, e)
-  | inr m ↦ let w = map-member f y xs m in (w.0, member-tail w.0 x xs w.1, w.2)
-]
-
--- the images of different numbers are different, where the function tells the members apart
-pub distinct-map : (f : ℕ → ℕ) (xs : List ℕ) → ((x y : ℕ) → is_member x xs ≡ true → is_member y xs ≡ true → f x ≡ f y → x ≡ y) → is_distinct xs ≡ true → is_distinct (map f xs) ≡ true
-distinct-map f [] once d = refl
-distinct-map f (x ∷ xs) once d =
-    distinct-cons (f x) (map f xs) (false_from_ne_true (is_member (f x) (map f xs)) (λ m.
-    let w = map-member f (f x) xs m in
-    both_ways (is_member x xs) (distinct-head x xs d) (subst (λ (z : ℕ). is_member z xs ≡ true) (once w.0 x (member-tail w.0 x xs w.1) (member-head x xs) w.2) w.1)))
-    (distinct-map f xs (λ u v m n. once u v (member-tail u x xs m) (member-tail v x xs n)) (distinct-tail x xs d))
 
 -- two numbers that are each one of a and b are both
 two-of : (a b u v : ℕ) → (a ≡ u) ⊎ (b ≡ u) → (a ≡ v) ⊎ (b ≡ v) → u ≢ v → ((a ≡ u) × (b ≡ v)) ⊎ ((b ≡ u) × (a ≡ v))
@@ -109,7 +54,7 @@ pairs-of a b c d u v (inr p) (inr q) = inl (p.1 ∙ sym q.1, p.0 ∙ sym q.0)
 
 -- in a list without repetition equal members stand at one place
 place-same : (l : List ℕ) (i k : ℕ) → is_distinct l ≡ true → i < length l → k < length l → branch_at l i ≡ branch_at l k → i ≡ k
-place-same l i k d a b e = elim (cases_order i k) [ inl q ↦ q | inr (inl w) ↦ absurd (distinct-places l i k d w b e) | inr (inr w) ↦ absurd (distinct-places l k i d w a (sym e)) ]
+place-same l i k d a b e = elim (cases_order i k) [ inl q ↦ q | inr (inl w) ↦ absurd (places-differ l i k d w b e) | inr (inr w) ↦ absurd (places-differ l k i d w a (sym e)) ]
 
 module _ (inner outer : Multigraph) (vertex : List ℕ) (routes : List (List ℕ)) (ok : IsGraph inner) (r : AreRoutes inner outer vertex routes) where
   abbrev at : ℕ → ℕ
@@ -339,7 +284,7 @@ module _ (inner outer : Multigraph) (vertex : List ℕ) (routes : List (List ℕ
     lifted-common : (k j : ℕ) → k < count → j < count → k ≢ j → (z : ℕ) → OnLifted (begins k) (path_at paths k) z → OnLifted (begins j) (path_at paths j) z → is_member z branch' ≡ true
     lifted-common k j lk lj n z (inl c) (inl d) =
         let same : d.0 ≡ c.0 = at-once d.0 c.0 d.1 c.1 (d.3 ∙ sym c.3) in
-        subst (λ (w : ℕ). is_member w branch' ≡ true) c.3 (member-map at c.0 branch (old.common k j lk lj n c.0 c.2 (subst (λ (w : ℕ). is_member w (vertices_at inner kind branch paths j) ≡ true) same d.2)))
+        subst (λ (w : ℕ). is_member w branch' ≡ true) c.3 (member-map at branch c.0 (old.common k j lk lj n c.0 c.2 (subst (λ (w : ℕ). is_member w (vertices_at inner kind branch paths j) ≡ true) same d.2)))
     lifted-common k j lk lj n z (inl c) (inr d) = absurd (both_ways (is_member z vertex) d.3 (subst (λ (w : ℕ). is_member w vertex ≡ true) c.3 (at-member c.0 c.1)))
     lifted-common k j lk lj n z (inr c) (inl d) = absurd (both_ways (is_member z vertex) c.3 (subst (λ (w : ℕ). is_member w vertex ≡ true) d.3 (at-member d.0 d.1)))
     lifted-common k j lk lj n z (inr c) (inr d) =
@@ -350,7 +295,7 @@ module _ (inner outer : Multigraph) (vertex : List ℕ) (routes : List (List ℕ
 
     lifted-ends : (k : ℕ) → k < count → (z : ℕ) → is_member z (vertices_at outer kind branch' paths' k) ≡ true → is_member z branch' ≡ true → (branch_at branch' (pair_at kind k).0 ≡ z) ⊎ (branch_at branch' (pair_at kind k).1 ≡ z)
     lifted-ends k l z m b =
-        let w = map-member at z branch b in
+        let w = map-member at branch z b in
         elim (old.ends k l w.0 (met-back k l w.0 (branch-in w.0 w.1) (subst (λ (u : ℕ). is_member u (vertices_at outer kind branch' paths' k) ≡ true) (sym w.2) m)) w.1) [
           | inl q ↦ inl (branch-at (pair_at kind k).0 (first_in k l) ∙ ap at q ∙ w.2)
           | inr q ↦ inr (branch-at (pair_at kind k).1 (second_in k l) ∙ ap at q ∙ w.2)

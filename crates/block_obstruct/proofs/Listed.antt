@@ -1,7 +1,7 @@
 -- Numbers on a list, each once: one more is put on it, and there are no more than marks.
-use Rattle.std.proofs.Common.{◌≡◌, ◌≢◌, ℕ, ◌<◌, ◌≤◌, inl, inr, Bool, true, false, List, [], ◌∷◌, ◌++◌, length, replicate, set, slice_index_or, refl, sym, ap, ◌∙◌, subst, arith, append-nil, append_assoc}
+use Rattle.std.proofs.Common.{◌≡◌, ◌≢◌, ℕ, ◌<◌, ◌≤◌, inl, inr, Bool, true, false, List, [], ◌∷◌, ◌++◌, length, set, slice_index_or, refl, sym, ap, ◌∙◌, subst, arith, append-nil, append_assoc}
 use Rattle.std.proofs.lemmas.Bool.{cases_Bool, cases_eq, both_ways, true≢false}
-use Rattle.std.proofs.lemmas.List.{length-set, get_or-set_same, get_or-set_other, length-replicate, get_or-replicate}
+use Rattle.std.proofs.lemmas.List.{length-set, get_or-set_same, get_or-set_other}
 use Rattle.permutations.specs.Members.{is_member}
 use Rattle.permutations.proofs.Count.{count-within}
 use Rattle.permutations.proofs.Members.{member-head, member-cases, member-append_left, member-append_right, member-append_cases, no_member-cons, distinct-append}
@@ -36,7 +36,7 @@ push-other list x y n = same-tests (is_member y (list ++ x ∷ [])) (is_member y
     (λ m. member-append_left y list (x ∷ []) m)
 
 -- the number behind a list is a member
-push-same : (list : List ℕ) (x : ℕ) → is_member x (list ++ x ∷ []) ≡ true
+pub push-same : (list : List ℕ) (x : ℕ) → is_member x (list ++ x ∷ []) ≡ true
 push-same list x = member-append_right x list (x ∷ []) (member-head x [])
 
 -- a number without a mark does not stand on the list
@@ -70,18 +70,6 @@ grows-more marks notes list x note a l h = record {
       | inr g ↦ absurd (true≢false (sym g))
     ]
   ];
-}
-
-pub held-more : (list : List ℕ) (x : ℕ) → is_member x (list ++ x ∷ []) ≡ true
-held-more = push-same
-
--- no number stands on the list at first
-pub listed-none : (n : ℕ) → AreListed (replicate n false) (replicate n 0) []
-listed-none n = record {
-  notes_each = length-replicate n 0 ∙ sym (length-replicate n false);
-  within = λ x m. absurd (true≢false (sym m));
-  marked = λ x l. get_or-replicate n x false false (omega (arith, l, length-replicate n false));
-  once = refl;
 }
 
 -- there are no more numbers on the list than marks

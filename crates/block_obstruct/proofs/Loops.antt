@@ -1,5 +1,5 @@
 -- The states of the loops over the items of a node and over the edges at a vertex, step by step.
-use Rattle.std.proofs.Common.{◌≡◌, ◌≢◌, ℕ, ◌+◌, ◌<◌, ◌⊎◌, inl, inr, Bool, true, false, List, length, set, refl, sym, ap, ◌∙◌, subst, arith}
+use Rattle.std.proofs.Common.{◌≡◌, ◌≢◌, ℕ, ◌+◌, ◌<◌, ◌⊎◌, inl, inr, Bool, true, List, length, set, refl, sym, ap, ◌∙◌, subst, arith}
 use Rattle.std.proofs.lemmas.Bool.{cases_eq}
 use Rattle.std.proofs.lemmas.List.{length-set, get_or-set_same, get_or-set_other}
 use Rattle.permutations.specs.Members.{is_member}
@@ -15,18 +15,11 @@ abbrev number_of : What → ℕ
 number_of (Real e) = e
 number_of (Link j) = j
 
-abbrev is_link : What → Bool
-is_link (Real e) = false
-is_link (Link j) = true
-
 pub real-once : (e f : ℕ) → Real e ≡ Real f → e ≡ f
 real-once e f q = ap number_of q
 
 pub link-once : (e f : ℕ) → Link e ≡ Link f → e ≡ f
 link-once e f q = ap number_of q
-
-pub real-link : (e f : ℕ) → Real e ≡ Link f → ⊥
-real-link e f q = let w : false ≡ true = ap is_link q in absurd (cc)
 
 -- the first n items were looked at: each edge among them has a note that fits, and no other note was changed but of edges
 pub record Noted (fits : ℕ → ℕ → Type 0) (items : List Item) (n : ℕ) (start notes : List ℕ) : Type 0 where

@@ -7,6 +7,7 @@ use Rattle.permutations.specs.Relation.{connected}
 use Rattle.permutations.proofs.Members.{member-head, member-tail, member-cases}
 use Rattle.permutations.proofs.Relation.{connected-reflexive, connected-transitive, connected-symmetric}
 use Rattle.permutations.proofs.Arrangements.{contains-from_member, member-at}
+use Rattle.permutations.proofs.Mapped.{map-member, distinct-map}
 use Rattle.multigraph.specs.Graph.{Multigraph, edge_count, ends_of, is_end, other_end}
 use Rattle.multigraph.specs.Part.{GraphPart, IsPart, IsEndOf, IsPlace}
 use Rattle.multigraph.proofs.OtherEnd.{is_end-cases, is_end-from_first, is_end-from_second, other_end-cases, other_end-of_first, other_end-in}
@@ -16,7 +17,6 @@ use Rattle.graph_theory.proofs.Connection.{other-connected}
 use Rattle.graph_theory.proofs.Walks.{walk-edge, last-met}
 use Rattle.skeleton_runs.proofs.Items.{met-edge_end}
 use Rattle.block_obstruct.specs.Groups.{PathAlong}
-use Rattle.block_obstruct.proofs.Lifted.{distinct-map, map-member}
 
 -- the first vertex of a path along some edges is an end of one of them
 pub begins-at : (g : Multigraph) (edges : List ℕ) (x y : ℕ) → x ≢ y → PathAlong g edges x y → IsEndOf g edges x
@@ -154,7 +154,7 @@ module _ (g : Multigraph) (edges : List ℕ) (part : GraphPart) (h : IsPart g ed
   -- its edges are these
   pub outer-among : (v : ℕ) (es along : List ℕ) → IsWalk part.graph v es → along ≡ map (slice_index part.edges) es → (e : ℕ) → is_member e along ≡ true → is_member e edges ≡ true
   outer-among v es along w q e m =
-      let c = map-member (slice_index edges) e es (subst (λ (z : List ℕ). is_member e z ≡ true) (q ∙ ap (λ (z : List ℕ). map (slice_index z) es) h.edges_are) m) in
+      let c = map-member (slice_index edges) es e (subst (λ (z : List ℕ). is_member e z ≡ true) (q ∙ ap (λ (z : List ℕ). map (slice_index z) es) h.edges_are) m) in
       subst (λ (z : ℕ). is_member z edges ≡ true) c.2 (member-at edges c.0 0 (in-edges c.0 (walk-edge part.graph v es w c.0 c.1)))
 
   -- an end of one of these edges is a vertex of the part

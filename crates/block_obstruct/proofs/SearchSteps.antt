@@ -7,16 +7,16 @@ use Rattle.permutations.specs.Relation.{connected}
 use Rattle.permutations.proofs.Members.{member-cases, member-append_cases, no_member-cons, distinct-append}
 use Rattle.permutations.proofs.Arrangements.{member-at}
 use Rattle.permutations.proofs.Relation.{same-tests, connected-closed}
+use Rattle.permutations.proofs.Places.{same-place, place-of}
 use Rattle.multigraph.specs.Graph.{Multigraph, edge_count, ends_of, is_end, other_end, IsGraph}
 use Rattle.multigraph.proofs.OtherEnd.{is_end-first, is_end-second, other_end-of_first, other_end-of_second, other_end-is_end, other_end-twice}
 use Rattle.graph_theory.specs.Path.{walk_starts, IsWalk, IsPath}
 use Rattle.graph_theory.proofs.Walks.{end-append, starts-append, walk-append}
-use Rattle.kuratowski.proofs.Checked.{distinct-places}
 use Rattle.pair_split.proofs.GraphFamily.{all-from_contained}
 use Rattle.block_obstruct.specs.Listing.{note_of, AreListed, Grows}
 use Rattle.block_obstruct.specs.Search.{LeadsFrom, LeadsBack, IsSearch, IsSearched, IsOnWay}
 use Rattle.block_obstruct.proofs.Listed.{grows-member, listed-few}
-use Rattle.block_obstruct.proofs.TowardsNodes.{place, stays}
+use Rattle.block_obstruct.proofs.TowardsNodes.{stays}
 
 -- what was read at a place stands there
 pub read-at : (l : List ℕ) (q x : ℕ) → q < length l → x ≡ slice_index_or l q x → slice_index_or l q 0 ≡ x
@@ -26,26 +26,13 @@ read-at l q x b e = sym (e ∙ get_or_default l q x 0 b)
 pub read-member : (l : List ℕ) (q x : ℕ) → q < length l → x ≡ slice_index_or l q x → is_member x l ≡ true
 read-member l q x b e = subst (λ (z : ℕ). is_member z l ≡ true) (read-at l q x b e) (member-at l q 0 b)
 
--- in a list without repetition a member stands at one place
-place-once : (l : List ℕ) (i k : ℕ) → is_distinct l ≡ true → i < length l → k < length l → slice_index_or l i 0 ≡ slice_index_or l k 0 → i ≡ k
-place-once l i k d a b e = elim (cases_eq i k) [
-  | inl q ↦ q
-  | inr n ↦ absurd (differ n)
-]
-  where
-    differ : i ≢ k → ⊥
-    differ n = elim (cases_lt i k) [
-      | inl w ↦ distinct-places l i k d w b e
-      | inr w ↦ distinct-places l k i d (omega (arith, w, n)) a (sym e)
-    ]
-
 module _ (g : Multigraph) (ok : IsGraph g) (root : ℕ) where
   -- the root alone
   pub search-begin : (notes list : List ℕ) (start : List ℕ) → Grows (λ y m. (y ≡ root) × (m ≡ 0)) [] start list notes → is_member root list ≡ true → is_distinct list ≡ true → IsSearch g root notes list 0
   search-begin notes list start a h d = record {
     begun = long;
     root_first = first 0 long;
-    steps = λ p l m. absurd (differ p l (place-once list 0 p d long m (first 0 long ∙ sym (first p m))));
+    steps = λ p l m. absurd (differ p l (same-place list 0 p d long m (first 0 long ∙ sym (first p m))));
     closed = λ p e l. absurd (omega (arith, l));
   }
     where
@@ -56,7 +43,7 @@ module _ (g : Multigraph) (ok : IsGraph g) (root : ℕ) where
       first p l = (a.noted (slice_index_or list p 0) (member-at list p 0 l) refl).0
 
       long : 0 < length list
-      long = let w = place list root h in omega (arith, w.1)
+      long = let w = place-of list root h in omega (arith, w.1)
 
   -- the neighbours of the vertex at place q
   pub search-next : (notes list next_notes next_list : List ℕ) (q x : ℕ) → q < length list → slice_index_or list q 0 ≡ x → IsSearch g root notes list q → is_distinct next_list ≡ true
@@ -108,8 +95,8 @@ module _ (g : Multigraph) (ok : IsGraph g) (root : ℕ) where
       -- what stands behind the list is no member of it
       fresh : (p : ℕ) → p < length next_list → length list ≤ p → is_member (slice_index_or next_list p 0) list ≡ false
       fresh p m l = false_from_ne_true (is_member (slice_index_or next_list p 0) list) (λ h.
-          let w = place list (slice_index_or next_list p 0) h in
-          let q : w.0 ≡ p = place-once next_list w.0 p d (omega (arith, w.1, longer)) m (still w.0 w.1 ∙ w.2) in
+          let w = place-of list (slice_index_or next_list p 0) h in
+          let q : w.0 ≡ p = same-place next_list w.0 p d (omega (arith, w.1, longer)) m (still w.0 w.1 ∙ w.2) in
           omega (arith, q, w.1, l))
 
   -- no vertex stands at place q
@@ -135,7 +122,7 @@ module _ (g : Multigraph) (ok : IsGraph g) (root : ℕ) where
       where
         next : (e y : ℕ) → e < edge_count g → is_end g y e ≡ true → is_member y s.list ≡ true → is_member (other_end g e y) s.list ≡ true
         next e y l i m =
-            let w = place s.list y m in
+            let w = place-of s.list y m in
             subst (λ z. is_member (other_end g e z) s.list ≡ true) w.2 (s.search.closed w.0 e w.1 w.1 l (subst (λ z. is_end g z e ≡ true) (sym w.2) i))
 
         each : (link : ℕ × ℕ) → Contains g.ends link → is_member link.0 s.list ≡ is_member link.1 s.list
@@ -148,7 +135,7 @@ module _ (g : Multigraph) (ok : IsGraph g) (root : ℕ) where
 
     -- the way begins
     pub way-begin : (from : ℕ) → connected g.ends root from ≡ true → IsOnWay g s.list from [] from 0
-    way-begin from c = let w = place s.list from (reached from c) in record {
+    way-begin from c = let w = place-of s.list from (reached from c) in record {
       place = w.0;
       enough = omega (arith, w.1);
       stands = w.2;
@@ -162,7 +149,7 @@ module _ (g : Multigraph) (ok : IsGraph g) (root : ℕ) where
     fresh_at : (from : ℕ) (along : List ℕ) (at steps : ℕ) → IsOnWay g s.list from along at steps → (z : ℕ) → is_member z (walk_starts g from along) ≡ true → is_member z (at ∷ []) ≡ false
     fresh_at from along at steps w z m = no_member-cons z at [] (λ q.
         let v = w.behind z m in
-        let e : w.place ≡ v.0 = place-once s.list w.place v.0 s.once (omega (arith, w.enough)) v.1 (w.stands ∙ (q ∙ sym v.3)) in
+        let e : w.place ≡ v.0 = same-place s.list w.place v.0 s.once (omega (arith, w.enough)) v.1 (w.stands ∙ (q ∙ sym v.3)) in
         omega (arith, e, v.2)) refl
 
     -- a vertex on the way is one of the graph

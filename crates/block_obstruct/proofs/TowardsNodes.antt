@@ -1,10 +1,11 @@
 -- The search from a node through the links: what it has noted, and that it reaches each node.
 use Rattle.std.proofs.Common.{◌≡◌, ◌≢◌, ℕ, ◌+◌, ◌<◌, ◌≤◌, ◌||◌, ◌==◌, inl, inr, Bool, true, List, [], length, slice_index_or, refl, sym, ap, ◌∙◌, subst, arith, Contains}
 use Rattle.std.proofs.lemmas.Bool.{cases_Bool, cases_eq, both_ways, or_cases, or_left, or_right, eq-eqb, eqb-true}
-use Rattle.std.proofs.lemmas.List.{get_or_default, get_or_append_left}
+use Rattle.std.proofs.lemmas.List.{get_or_append_left}
 use Rattle.permutations.specs.Members.{is_member}
-use Rattle.permutations.proofs.Arrangements.{contains-from_member, member-at}
+use Rattle.permutations.proofs.Arrangements.{member-at}
 use Rattle.permutations.proofs.Relation.{same-tests, connected-closed}
+use Rattle.permutations.proofs.Places.{place-of}
 use Rattle.multigraph.specs.Graph.{Multigraph}
 use Rattle.pair_split.specs.Split.{all_links, is_beyond, LinksTo}
 use Rattle.pair_split.specs.Tutte.{Node, components, node_at, IsTutte}
@@ -18,10 +19,6 @@ use Rattle.skeletons.proofs.NodeItems.{comp-in, node-in, stands-of, item-of}
 use Rattle.block_obstruct.specs.Listing.{note_of, Grows}
 use Rattle.block_obstruct.specs.Towards.{HaveItem, IsItem, IsTowards, AreReached}
 use Rattle.block_obstruct.proofs.Listed.{grows-member}
-
--- a member stands at a place
-pub place : (l : List ℕ) (x : ℕ) → is_member x l ≡ true → (p : ℕ) × (p < length l) × (slice_index_or l p 0 ≡ x)
-place l x m = let c = contains-from_member l x m in (c.0, c.1, get_or_default l c.0 0 x c.1 ∙ c.2)
 
 -- what stands at a place stands there still when more is put behind the list
 pub stays : (P : ℕ → ℕ → Type 0) (l n k o : List ℕ) → Grows P l n k o → (p : ℕ) → p < length l → slice_index_or k p 0 ≡ slice_index_or l p 0
@@ -100,7 +97,7 @@ module _ (g : Multigraph) (nodes : List Node) (t : IsTutte g nodes) (k : ℕ) wh
         | inl m ↦ elim (cases_eq v k) [
           | inl e ↦ or_right (is_member v list) (v == k) (eq-eqb v k e)
           | inr d ↦
-              let w = place list u m in
+              let w = place-of list u m in
               or_left (is_member v list) (v == k) (r.closed w.0 v (omega (arith, w.1, b)) w.1 (subst (λ z. HaveItem (node_at nodes z).items (Link v)) (sym w.2) (links-back u v l)) d)
         ]
         | inr e ↦ or_left (is_member v list) (v == k) (r.near v (links-back k v (subst (λ z. LinksTo comps z v) (eqb-true u k e) l)))

@@ -4,7 +4,7 @@ use Rattle.permutations.specs.Permutation.{iterate}
 use Rattle.multigraph.specs.Graph.{Multigraph}
 use Rattle.graph_theory.specs.SearchTree.{IsBelow}
 use Rattle.multigraph.specs.Marks.{is_marked}
-use Rattle.blocks.specs.Searching.{IsOnPath, IsGrown}
+use Rattle.blocks.specs.Forest.{IsOnPath, IsGrown}
 
 -- steps to the parent stay among the visited vertices, and each goes up by one
 pub chain : (g : Multigraph) (visited : List Bool) (parent depth parent_edge : List ℕ) (seen : List Bool) (lower : List ℕ) → IsGrown g visited parent depth parent_edge seen lower → (i v : ℕ) → is_marked visited v ≡ true → i ≤ get_or depth v 0 → (is_marked visited (iterate (λ k. get_or parent k 0) i v) ≡ true) × (get_or depth (iterate (λ k. get_or parent k 0) i v) 0 + i ≡ get_or depth v 0)

@@ -8,10 +8,12 @@ use Rattle.permutations.specs.Permutation.{iterate}
 use Rattle.permutations.proofs.Members.{member-head, member-append, member-append_right, no_member-cons, distinct-append}
 use Rattle.permutations.proofs.Arrangements.{member-at}
 use Rattle.multigraph.specs.Graph.{Multigraph, edge_count, is_end, other_end, incident_edges}
-use Rattle.graph_theory.proofs.Ends.{other-is_end, other-other}
-use Rattle.blocks.specs.State.{SearchState, child_noted}
+use Rattle.multigraph.proofs.OtherEnd.{other_end-is_end}
+use Rattle.graph_theory.proofs.Ends.{other-other}
+use Rattle.blocks.specs.Forest.{ForestState, child_noted, IsForest}
 use Rattle.multigraph.specs.Marks.{is_marked}
-use Rattle.blocks.specs.Searching.{IsOnPath, IsGrown, IsSeen, IsLow, IsOrdered, OnPath, SeenLeadsTo, IsSearching}
+use Rattle.blocks.specs.Forest.{IsOnPath, IsGrown, IsSeen, IsOrdered, OnPath}
+use Rattle.blocks.specs.Searching.{IsLow, SeenLeadsTo}
 use Rattle.blocks.proofs.Writes.{number-same, number-other, marked-same, marked-other, marked-cases, marked-kept, marks-differ}
 use Rattle.blocks.proofs.Ancestors.{iterate-kept}
 use Rattle.blocks.proofs.Leads.{upper-visited, leads-kept}
@@ -51,7 +53,7 @@ order-longer visited order w l f d m = (distinct-append order (w ∷ []) d refl 
         either a b h = grind (arith, cases_Bool a, h)
 
 -- edge e was seen for the first time at v, the last vertex of the path, and w at its other end was not visited
-pub record IsChild (g : Multigraph) (s : SearchState) (v e w k : ℕ) : Type 0 where
+pub record IsChild (g : Multigraph) (s : ForestState) (v e w k : ℕ) : Type 0 where
   pub edge_in : e < edge_count g
   pub unseen : is_marked s.seen e ≡ false
   pub is_end : is_end g v e ≡ true
@@ -62,7 +64,7 @@ pub record IsChild (g : Multigraph) (s : SearchState) (v e w k : ℕ) : Type 0 w
   pub last : length s.path ≡ k + 1
   pub here : get_or s.path k 0 ≡ v
 
-module _ (g : Multigraph) (s : SearchState) (v e w k : ℕ) (b : IsSearching g s) (f : IsChild g s v e w k) where
+module _ (g : Multigraph) (s : ForestState) (v e w k : ℕ) (b : IsForest g s) (f : IsChild g s v e w k) where
   visited' : List Bool
   visited' = set s.visited w true
 
@@ -74,9 +76,6 @@ module _ (g : Multigraph) (s : SearchState) (v e w k : ℕ) (b : IsSearching g s
 
   parent_edge' : List ℕ
   parent_edge' = set s.parent_edge w e
-
-  low' : List ℕ
-  low' = set s.low w (get_or s.depth v 0 + 1)
 
   seen' : List Bool
   seen' = set s.seen e true
@@ -151,14 +150,6 @@ module _ (g : Multigraph) (s : SearchState) (v e w k : ℕ) (b : IsSearching g s
   unfolding parent_edge'
   edge-child = number-same s.parent_edge w e (omega (arith, f.child_in, b.places.parent_edge))
 
-  low-kept : (u : ℕ) → is_marked s.visited u ≡ true → get_or low' u 0 ≡ get_or s.low u 0
-  unfolding low'
-  low-kept u h = number-other s.low w u (get_or s.depth v 0 + 1) (other u h)
-
-  low-child : get_or low' w 0 ≡ get_or s.depth v 0 + 1
-  unfolding low'
-  low-child = number-same s.low w (get_or s.depth v 0 + 1) (omega (arith, f.child_in, b.places.low))
-
   lower-kept : (q : ℕ) → is_marked s.seen q ≡ true → get_or lower' q 0 ≡ get_or s.lower q 0
   unfolding lower'
   lower-kept q h = number-other s.lower e q w (other-edge q h)
@@ -174,7 +165,7 @@ module _ (g : Multigraph) (s : SearchState) (v e w k : ℕ) (b : IsSearching g s
   depth-here = ap (λ (z : ℕ). get_or s.depth z 0) (sym f.here) ∙ b.on_path.deep k (omega (arith, f.last))
 
   child-end : is_end g w e ≡ true
-  child-end = subst (λ (z : ℕ). is_end g z e ≡ true) f.leads (other-is_end g e v)
+  child-end = subst (λ (z : ℕ). is_end g z e ≡ true) f.leads (other_end-is_end g e v)
 
   child-leads : other_end g e w ≡ v
   child-leads = ap (other_end g e) (sym f.leads) ∙ other-other g e v f.is_end
@@ -292,41 +283,6 @@ module _ (g : Multigraph) (s : SearchState) (v e w k : ℕ) (b : IsSearching g s
           let h = b.edges.lower_visited q o in
           (u.0, omega (arith, u.1, depth-kept (get_or s.lower q 0) h), iterate-kept g s.visited s.parent s.depth s.parent_edge s.seen s.lower b.grown parent' parent-kept (u.0 + 1) (get_or s.lower q 0) h (omega (arith, u.1)) ∙ u.2)
 
-  low : IsLow g visited' parent' depth' parent_edge' low' seen' lower' path'
-  low = record {
-    at_most = λ u h. elim (visited-cases u h) [
-      | inl q ↦ subst (λ (z : ℕ). get_or low' z 0 ≤ get_or depth' z 0) (sym q) (omega (arith, low-child, depth-child))
-      | inr o ↦ omega (arith, low-kept u o, depth-kept u o, b.low.at_most u o)
-    ];
-    at_frond = λ q h n. elim (seen-cases q h) [
-      | inl m ↦ absurd (n (subst (λ (z : ℕ). get_or parent_edge' (get_or lower' z 0) 0 ≡ z) (sym m) (ap (λ (z : ℕ). get_or parent_edge' z 0) lower-here ∙ edge-child)))
-      | inr o ↦
-          let z = get_or s.lower q 0 in
-          let zv = b.edges.lower_visited q o in
-          let yv = upper-visited g s.visited s.parent s.depth s.parent_edge s.seen s.lower b.grown b.edges q o in
-          let n' = λ (x : get_or s.parent_edge z 0 ≡ q). n (ap (λ (r : ℕ). get_or parent_edge' r 0) (lower-kept q o) ∙ (edge-kept z zv ∙ x)) in
-          subst (λ (r : ℕ). get_or low' r 0 ≤ get_or depth' (other_end g q r) 0) (sym (lower-kept q o))
-          (omega (arith, low-kept z zv, depth-kept (other_end g q z) yv, b.low.at_frond q o n'))
-    ];
-    at_parent = λ u h d. elim (visited-cases u h) [
-      | inl q ↦ inr (subst (OnPath path') (sym q) on-child)
-      | inr o ↦
-          let x : 0 < get_or s.depth u 0 = omega (arith, depth-kept u o) in
-          elim (b.low.at_parent u o x) [
-            | inl a ↦ inl (subst (λ (z : ℕ). get_or low' z 0 ≤ get_or low' u 0) (sym (parent-kept u o)) (omega (arith, low-kept u o, low-kept (get_or s.parent u 0) (b.grown.parent_visited u o x))))
-            | inr p ↦ inr (on-kept u p)
-          ]
-    ];
-    witness = λ u h. elim (visited-cases u h) [
-      | inl q ↦ inl (subst (λ (z : ℕ). get_or low' z 0 ≡ get_or depth' z 0) (sym q) (low-child ∙ sym depth-child))
-      | inr o ↦ elim (b.low.witness u o) [
-        | inl a ↦ inl (low-kept u o ∙ (a ∙ sym (depth-kept u o)))
-        | inr l ↦ inr (subst (SeenLeadsTo g parent' depth' parent_edge' seen' lower' u) (sym (low-kept u o))
-            (leads-kept g s.visited s.parent s.depth s.parent_edge s.seen s.lower b.grown b.edges parent' depth' parent_edge' seen' lower' parent-kept depth-kept edge-kept seen-kept lower-kept u (get_or s.low u 0) l))
-      ]
-    ];
-  }
-
   ordered : IsOrdered visited' parent' depth' order'
   unfolding visited' order'
   ordered = record {
@@ -353,15 +309,14 @@ module _ (g : Multigraph) (s : SearchState) (v e w k : ℕ) (b : IsSearching g s
           (subst (λ (l : List ℕ). is_member v l ≡ true) (sym t) (b.ordered.members v ∙ visited-here))
 
   -- what holds between turns is kept
-  pub child-kept : IsSearching g (child_noted s v e w)
-  unfolding visited' parent' depth' parent_edge' low' seen' lower' path' order'
-  child-kept = record {
+  pub child-forest : IsForest g (child_noted s v e w)
+  unfolding visited' parent' depth' parent_edge' seen' lower' path' order'
+  child-forest = record {
     places = record {
       visited = length-set s.visited w true ∙ b.places.visited;
       parent = length-set s.parent w v ∙ b.places.parent;
       depth = length-set s.depth w (get_or s.depth v 0 + 1) ∙ b.places.depth;
       parent_edge = length-set s.parent_edge w e ∙ b.places.parent_edge;
-      low = length-set s.low w (get_or s.depth v 0 + 1) ∙ b.places.low;
       position = b.places.position;
       seen = length-set s.seen e true ∙ b.places.seen;
       lower = length-set s.lower e w ∙ b.places.lower;
@@ -377,6 +332,66 @@ module _ (g : Multigraph) (s : SearchState) (v e w k : ℕ) (b : IsSearching g s
       ];
     };
     edges = edges;
-    low = low;
     ordered = ordered;
   }
+
+  -- a root that was visited then was one before
+  pub child-roots : (u : ℕ) → is_marked (set s.visited w true) u ≡ true → get_or (set s.depth w (get_or s.depth v 0 + 1)) u 0 ≡ 0 → (is_marked s.visited u ≡ true) × (get_or s.depth u 0 ≡ 0)
+  unfolding visited' depth'
+  child-roots u h d = elim (visited-cases u h) [
+    | inl q ↦ absurd (omega (arith, d, depth-child, ap (λ (z : ℕ). get_or depth' z 0) q))
+    | inr o ↦ (o, sym (depth-kept u o) ∙ d)
+  ]
+
+  -- low points, with what holds of them between two turns
+  module _ (low : List ℕ) (low_each : length low ≡ g.vertex_count) (low_is : IsLow g s.visited s.parent s.depth s.parent_edge low s.seen s.lower s.path) where
+    low' : List ℕ
+    low' = set low w (get_or s.depth v 0 + 1)
+
+    low-kept : (u : ℕ) → is_marked s.visited u ≡ true → get_or low' u 0 ≡ get_or low u 0
+    unfolding low'
+    low-kept u h = number-other low w u (get_or s.depth v 0 + 1) (other u h)
+
+    low-child : get_or low' w 0 ≡ get_or s.depth v 0 + 1
+    unfolding low'
+    low-child = number-same low w (get_or s.depth v 0 + 1) (omega (arith, f.child_in, low_each))
+
+    is-low : IsLow g visited' parent' depth' parent_edge' low' seen' lower' path'
+    is-low = record {
+      at_most = λ u h. elim (visited-cases u h) [
+        | inl q ↦ subst (λ (z : ℕ). get_or low' z 0 ≤ get_or depth' z 0) (sym q) (omega (arith, low-child, depth-child))
+        | inr o ↦ omega (arith, low-kept u o, depth-kept u o, low_is.at_most u o)
+      ];
+      at_frond = λ q h n. elim (seen-cases q h) [
+        | inl m ↦ absurd (n (subst (λ (z : ℕ). get_or parent_edge' (get_or lower' z 0) 0 ≡ z) (sym m) (ap (λ (z : ℕ). get_or parent_edge' z 0) lower-here ∙ edge-child)))
+        | inr o ↦
+            let z = get_or s.lower q 0 in
+            let zv = b.edges.lower_visited q o in
+            let yv = upper-visited g s.visited s.parent s.depth s.parent_edge s.seen s.lower b.grown b.edges q o in
+            let n' = λ (x : get_or s.parent_edge z 0 ≡ q). n (ap (λ (r : ℕ). get_or parent_edge' r 0) (lower-kept q o) ∙ (edge-kept z zv ∙ x)) in
+            subst (λ (r : ℕ). get_or low' r 0 ≤ get_or depth' (other_end g q r) 0) (sym (lower-kept q o))
+            (omega (arith, low-kept z zv, depth-kept (other_end g q z) yv, low_is.at_frond q o n'))
+      ];
+      at_parent = λ u h d. elim (visited-cases u h) [
+        | inl q ↦ inr (subst (OnPath path') (sym q) on-child)
+        | inr o ↦
+            let x : 0 < get_or s.depth u 0 = omega (arith, depth-kept u o) in
+            elim (low_is.at_parent u o x) [
+              | inl a ↦ inl (subst (λ (z : ℕ). get_or low' z 0 ≤ get_or low' u 0) (sym (parent-kept u o)) (omega (arith, low-kept u o, low-kept (get_or s.parent u 0) (b.grown.parent_visited u o x))))
+              | inr p ↦ inr (on-kept u p)
+            ]
+      ];
+      witness = λ u h. elim (visited-cases u h) [
+        | inl q ↦ inl (subst (λ (z : ℕ). get_or low' z 0 ≡ get_or depth' z 0) (sym q) (low-child ∙ sym depth-child))
+        | inr o ↦ elim (low_is.witness u o) [
+          | inl a ↦ inl (low-kept u o ∙ (a ∙ sym (depth-kept u o)))
+          | inr l ↦ inr (subst (SeenLeadsTo g parent' depth' parent_edge' seen' lower' u) (sym (low-kept u o))
+              (leads-kept g s.visited s.parent s.depth s.parent_edge s.seen s.lower b.grown b.edges parent' depth' parent_edge' seen' lower' parent-kept depth-kept edge-kept seen-kept lower-kept u (get_or low u 0) l))
+        ]
+      ];
+    }
+
+    -- they are right of the state after
+    pub child-low : IsLow g (set s.visited w true) (set s.parent w v) (set s.depth w (get_or s.depth v 0 + 1)) (set s.parent_edge w e) (set low w (get_or s.depth v 0 + 1)) (set s.seen e true) (set s.lower e w) (s.path ++ w ∷ [])
+    unfolding visited' parent' depth' parent_edge' low' seen' lower' path'
+    child-low = is-low

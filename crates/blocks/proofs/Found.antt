@@ -11,9 +11,10 @@ use Rattle.permutations.proofs.Relation.{same-tests, connected-reflexive, connec
 use Rattle.permutations.proofs.Classes.{class_count-ext}
 use Rattle.permutations.proofs.Arrangements.{member-at}
 use Rattle.multigraph.specs.Graph.{Multigraph, edge_count, ends_of, is_end, other_end, IsGraph}
+use Rattle.multigraph.proofs.OtherEnd.{is_end-first}
 use Rattle.graph_theory.specs.SearchTree.{IsSearchForest, AreLowPoints, AreLabels}
 use Rattle.graph_theory.proofs.Ends.{other-other, end-cases, end-in}
-use Rattle.graph_theory.proofs.Connection.{first-is_end, other-first, other-connected}
+use Rattle.graph_theory.proofs.Connection.{other-first, other-connected}
 use Rattle.graph_theory.proofs.SameLabel.{same_label-block}
 use Rattle.graph_theory.proofs.BlockLabel.{block-same_label}
 use Rattle.blocks.specs.State.{SearchState}
@@ -150,7 +151,7 @@ module _ (g : Multigraph) (gg : IsGraph g) (s : SearchState) (roots : List Bool)
 
   -- the two ends of an edge have one label
   label-ends : (e : ℕ) → e < edge_count g → get_or label (ends_of g e).0 0 ≡ get_or label (ends_of g e).1 0
-  label-ends e l = elim (end-cases g e z (ends_of g e).0 lower-end (first-is_end g e)) [
+  label-ends e l = elim (end-cases g e z (ends_of g e).0 lower-end (is_end-first g e)) [
     | inl a ↦ ap name a ∙ (sym upper ∙ (ap name (ap (other_end g e) (sym a)) ∙ ap name (other-first g e)))
     | inr b ↦ ap name b ∙ (upper ∙ ap name (sym (other-other g e z lower-end) ∙ (ap (other_end g e) (sym b) ∙ other-first g e)))
   ]

@@ -3,16 +3,17 @@ use Rattle.std.proofs.Common.{◌≡◌, ℕ, inl, inr, true, false, get_or, rep
 use Rattle.std.proofs.lemmas.Bool.{true≢false, cases_lt}
 use Rattle.std.proofs.lemmas.List.{get_or-replicate, length-replicate, get_or_past}
 use Rattle.multigraph.specs.Graph.{Multigraph, edge_count}
-use Rattle.blocks.specs.State.{fresh}
+use Rattle.blocks.specs.State.{fresh as fresh_search}
+use Rattle.blocks.specs.Forest.{fresh, IsForest}
 use Rattle.multigraph.specs.Marks.{is_marked}
 use Rattle.blocks.specs.Searching.{IsSearching}
 
 -- a list of equal marks, none set
-marked-none : (n i : ℕ) → is_marked (replicate n false) i ≡ false
+pub marked-none : (n i : ℕ) → is_marked (replicate n false) i ≡ false
 marked-none n i = elim (cases_lt i n) [ inl a ↦ get_or-replicate n i false false a | inr b ↦ get_or_past (replicate n false) i false (omega (arith, length-replicate n false)) ]
 
 -- a list of zeros
-number-none : (n i : ℕ) → get_or {A = ℕ} (replicate n 0) i 0 ≡ 0
+pub number-none : (n i : ℕ) → get_or {A = ℕ} (replicate n 0) i 0 ≡ 0
 number-none n i = elim (cases_lt i n) [ inl a ↦ get_or-replicate n i 0 0 a | inr b ↦ get_or_past (replicate n 0) i 0 (omega (arith, length-replicate {A = ℕ} n 0)) ]
 
 -- a fact about a mark that is there, where none is
@@ -20,14 +21,13 @@ none : (X : Type 0) (n i : ℕ) → is_marked (replicate n false) i ≡ true →
 none X n i h = absurd (true≢false (sym h ∙ marked-none n i))
 
 -- the fresh state is between turns
-pub fresh-searching : (g : Multigraph) → IsSearching g (fresh g)
-fresh-searching g = record {
+pub fresh-forest : (g : Multigraph) → IsForest g (fresh g)
+fresh-forest g = record {
   places = record {
     visited = length-replicate g.vertex_count false;
     parent = length-replicate g.vertex_count 0;
     depth = length-replicate g.vertex_count 0;
     parent_edge = length-replicate g.vertex_count 0;
-    low = length-replicate g.vertex_count 0;
     position = length-replicate g.vertex_count 0;
     seen = length-replicate (edge_count g) false;
     lower = length-replicate (edge_count g) 0;
@@ -58,15 +58,22 @@ fresh-searching g = record {
     lower_visited = λ e h. none _ (edge_count g) e h;
     upper_above = λ e h. none _ (edge_count g) e h;
   };
+  ordered = record {
+    distinct = refl;
+    members = λ v. sym (marked-none g.vertex_count v);
+    behind_parent = λ k l d. absurd (omega arith);
+  };
+}
+
+-- so is the search with low points
+pub fresh-searching : (g : Multigraph) → IsSearching g (fresh_search g)
+fresh-searching g = record {
+  forest = fresh-forest g;
+  low_each = length-replicate g.vertex_count 0;
   low = record {
     at_most = λ v h. none _ g.vertex_count v h;
     at_frond = λ e h n. none _ (edge_count g) e h;
     at_parent = λ v h d. none _ g.vertex_count v h;
     witness = λ v h. none _ g.vertex_count v h;
-  };
-  ordered = record {
-    distinct = refl;
-    members = λ v. sym (marked-none g.vertex_count v);
-    behind_parent = λ k l d. absurd (omega arith);
   };
 }

@@ -3,15 +3,16 @@ use Rattle.std.proofs.Common.{◌≡◌, ◌≢◌, ℕ, ◌+◌, ◌<◌, ◌�
 use Rattle.std.proofs.lemmas.Bool.{cases_eq, cases_lt}
 use Rattle.permutations.specs.Permutation.{iterate}
 use Rattle.multigraph.specs.Graph.{Multigraph, edge_count, is_end, other_end, incident_edges}
-use Rattle.blocks.specs.State.{SearchState, frond_noted}
+use Rattle.blocks.specs.Forest.{ForestState, frond_noted, IsForest}
 use Rattle.multigraph.specs.Marks.{is_marked}
-use Rattle.blocks.specs.Searching.{IsGrown, IsSeen, IsLow, OnPath, SeenLeadsTo, IsSearching}
+use Rattle.blocks.specs.Forest.{IsGrown, IsSeen, OnPath}
+use Rattle.blocks.specs.Searching.{IsLow, SeenLeadsTo}
 use Rattle.blocks.proofs.Writes.{number-same, number-other, marked-same, marked-cases, marked-kept, marks-differ}
 use Rattle.blocks.proofs.Ancestors.{path-up}
 use Rattle.blocks.proofs.Leads.{leads-kept}
 
 -- edge e was seen for the first time at v, at place j + i + 1 of the path, and leads to the vertex at place j
-pub record IsFrond (g : Multigraph) (s : SearchState) (v e j i : ℕ) : Type 0 where
+pub record IsFrond (g : Multigraph) (s : ForestState) (v e j i : ℕ) : Type 0 where
   pub edge_in : e < edge_count g
   pub unseen : is_marked s.seen e ≡ false
   pub is_end : is_end g v e ≡ true
@@ -20,7 +21,7 @@ pub record IsFrond (g : Multigraph) (s : SearchState) (v e j i : ℕ) : Type 0 w
   pub here : get_or s.path (j + (i + 1)) 0 ≡ v
   pub there : get_or s.path j 0 ≡ other_end g e v
 
-module _ (g : Multigraph) (s : SearchState) (v e j i : ℕ) (k : IsSearching g s) (f : IsFrond g s v e j i) where
+module _ (g : Multigraph) (s : ForestState) (v e j i : ℕ) (k : IsForest g s) (f : IsFrond g s v e j i) where
   -- the depth that the edge leads to
   reached : ℕ
   reached = get_or s.depth (other_end g e v) 0
@@ -31,14 +32,8 @@ module _ (g : Multigraph) (s : SearchState) (v e j i : ℕ) (k : IsSearching g s
   lower' : List ℕ
   lower' = set s.lower e v
 
-  low' : List ℕ
-  low' = set s.low v (min (get_or s.low v 0) reached)
-
   e-in : e < length s.seen
   e-in = omega (arith, f.edge_in, k.places.seen)
-
-  low-in : v < length s.low
-  low-in = omega (arith, f.vertex_in, k.places.low)
 
   -- a seen edge is another one
   other : (q : ℕ) → is_marked s.seen q ≡ true → q ≢ e
@@ -73,21 +68,6 @@ module _ (g : Multigraph) (s : SearchState) (v e j i : ℕ) (k : IsSearching g s
 
   on-here : OnPath s.path v
   on-here = record { place = j + (i + 1); within = f.within; is = f.here }
-
-  -- the low point of v fell, the others stay
-  low-here : get_or low' v 0 ≡ min (get_or s.low v 0) reached
-  unfolding low'
-  low-here = number-same s.low v (min (get_or s.low v 0) reached) low-in
-
-  low-other : (u : ℕ) → u ≢ v → get_or low' u 0 ≡ get_or s.low u 0
-  unfolding low'
-  low-other u n = number-other s.low v u (min (get_or s.low v 0) reached) n
-
-  low-falls : (u : ℕ) → get_or low' u 0 ≤ get_or s.low u 0
-  low-falls u = elim (cases_eq u v) [
-    | inl q ↦ subst (λ (z : ℕ). get_or low' z 0 ≤ get_or s.low z 0) (sym q) (omega (arith, low-here))
-    | inr n ↦ omega (arith, low-other u n)
-  ]
 
   -- what led somewhere leads there still
   kept-leads : (u d : ℕ) → SeenLeadsTo g s.parent s.depth s.parent_edge s.seen s.lower u d → SeenLeadsTo g s.parent s.depth s.parent_edge seen' lower' u d
@@ -134,48 +114,15 @@ module _ (g : Multigraph) (s : SearchState) (v e j i : ℕ) (k : IsSearching g s
     ];
   }
 
-  low : IsLow g s.visited s.parent s.depth s.parent_edge low' seen' lower' s.path
-  unfolding reached
-  low = record {
-    at_most = λ u h. omega (arith, low-falls u, k.low.at_most u h);
-    at_frond = λ q h n. elim (seen-cases q h) [
-      | inl m ↦ subst (λ (z : ℕ). get_or low' (get_or lower' z 0) 0 ≤ get_or s.depth (other_end g z (get_or lower' z 0)) 0) (sym m)
-          (subst (λ (z : ℕ). get_or low' z 0 ≤ get_or s.depth (other_end g e z) 0) (sym lower-here) (omega (arith, low-here)))
-      | inr o ↦ subst (λ (z : ℕ). get_or low' z 0 ≤ get_or s.depth (other_end g q z) 0) (sym (lower-kept q o))
-          (omega (arith, low-falls (get_or s.lower q 0), k.low.at_frond q o (λ x. n (ap (λ (z : ℕ). get_or s.parent_edge z 0) (lower-kept q o) ∙ x))))
-    ];
-    at_parent = λ u h d. elim (cases_eq u v) [
-      | inl q ↦ inr (subst (OnPath s.path) (sym q) on-here)
-      | inr n ↦ elim (k.low.at_parent u h d) [ inl a ↦ inl (omega (arith, low-falls (get_or s.parent u 0), low-other u n)) | inr o ↦ inr o ]
-    ];
-    witness = λ u h. elim (cases_eq u v) [
-      | inl q ↦ subst (λ (z : ℕ). (get_or low' z 0 ≡ get_or s.depth z 0) ⊎ SeenLeadsTo g s.parent s.depth s.parent_edge seen' lower' z (get_or low' z 0)) (sym q) at-here
-      | inr n ↦ elim (k.low.witness u h) [
-        | inl a ↦ inl (low-other u n ∙ a)
-        | inr w ↦ inr (subst (SeenLeadsTo g s.parent s.depth s.parent_edge seen' lower' u) (sym (low-other u n)) (kept-leads u (get_or s.low u 0) w))
-      ]
-    ];
-  }
-    where
-      at-here : (get_or low' v 0 ≡ get_or s.depth v 0) ⊎ SeenLeadsTo g s.parent s.depth s.parent_edge seen' lower' v (get_or low' v 0)
-      at-here = elim (cases_lt reached (get_or s.low v 0)) [
-        | inl a ↦ let q : get_or low' v 0 ≡ reached = omega (arith, low-here) in inr (subst (SeenLeadsTo g s.parent s.depth s.parent_edge seen' lower' v) (sym q) new-leads)
-        | inr b ↦ let q : get_or low' v 0 ≡ get_or s.low v 0 = omega (arith, low-here) in elim (k.low.witness v visited-here) [
-          | inl a ↦ inl (q ∙ a)
-          | inr w ↦ inr (subst (SeenLeadsTo g s.parent s.depth s.parent_edge seen' lower' v) (sym q) (kept-leads v (get_or s.low v 0) w))
-        ]
-      ]
-
   -- what holds between turns is kept
-  pub frond-kept : IsSearching g (frond_noted s v e (get_or s.depth (other_end g e v) 0))
-  unfolding reached seen' lower' low'
-  frond-kept = record {
+  pub frond-forest : IsForest g (frond_noted s v e)
+  unfolding seen' lower'
+  frond-forest = record {
     places = record {
       visited = k.places.visited;
       parent = k.places.parent;
       depth = k.places.depth;
       parent_edge = k.places.parent_edge;
-      low = length-set s.low v (min (get_or s.low v 0) reached) ∙ k.places.low;
       position = k.places.position;
       seen = length-set s.seen e true ∙ k.places.seen;
       lower = length-set s.lower e v ∙ k.places.lower;
@@ -184,6 +131,65 @@ module _ (g : Multigraph) (s : SearchState) (v e j i : ℕ) (k : IsSearching g s
     grown = grown;
     looked = record { within = k.looked.within; looked = λ u l q h. seen-kept (get_or (incident_edges g u) q 0) (k.looked.looked u l q h); finished = k.looked.finished };
     edges = edges;
-    low = low;
     ordered = k.ordered;
   }
+
+  -- low points, with what holds of them between two turns
+  module _ (low : List ℕ) (low_each : length low ≡ g.vertex_count) (low_is : IsLow g s.visited s.parent s.depth s.parent_edge low s.seen s.lower s.path) where
+    low' : List ℕ
+    low' = set low v (min (get_or low v 0) reached)
+
+    low-in : v < length low
+    low-in = omega (arith, f.vertex_in, low_each)
+
+    -- the low point of v fell, the others stay
+    low-here : get_or low' v 0 ≡ min (get_or low v 0) reached
+    unfolding low'
+    low-here = number-same low v (min (get_or low v 0) reached) low-in
+
+    low-other : (u : ℕ) → u ≢ v → get_or low' u 0 ≡ get_or low u 0
+    unfolding low'
+    low-other u n = number-other low v u (min (get_or low v 0) reached) n
+
+    low-falls : (u : ℕ) → get_or low' u 0 ≤ get_or low u 0
+    low-falls u = elim (cases_eq u v) [
+      | inl q ↦ subst (λ (z : ℕ). get_or low' z 0 ≤ get_or low z 0) (sym q) (omega (arith, low-here))
+      | inr n ↦ omega (arith, low-other u n)
+    ]
+
+    is-low : IsLow g s.visited s.parent s.depth s.parent_edge low' seen' lower' s.path
+    unfolding reached
+    is-low = record {
+      at_most = λ u h. omega (arith, low-falls u, low_is.at_most u h);
+      at_frond = λ q h n. elim (seen-cases q h) [
+        | inl m ↦ subst (λ (z : ℕ). get_or low' (get_or lower' z 0) 0 ≤ get_or s.depth (other_end g z (get_or lower' z 0)) 0) (sym m)
+            (subst (λ (z : ℕ). get_or low' z 0 ≤ get_or s.depth (other_end g e z) 0) (sym lower-here) (omega (arith, low-here)))
+        | inr o ↦ subst (λ (z : ℕ). get_or low' z 0 ≤ get_or s.depth (other_end g q z) 0) (sym (lower-kept q o))
+            (omega (arith, low-falls (get_or s.lower q 0), low_is.at_frond q o (λ x. n (ap (λ (z : ℕ). get_or s.parent_edge z 0) (lower-kept q o) ∙ x))))
+      ];
+      at_parent = λ u h d. elim (cases_eq u v) [
+        | inl q ↦ inr (subst (OnPath s.path) (sym q) on-here)
+        | inr n ↦ elim (low_is.at_parent u h d) [ inl a ↦ inl (omega (arith, low-falls (get_or s.parent u 0), low-other u n)) | inr o ↦ inr o ]
+      ];
+      witness = λ u h. elim (cases_eq u v) [
+        | inl q ↦ subst (λ (z : ℕ). (get_or low' z 0 ≡ get_or s.depth z 0) ⊎ SeenLeadsTo g s.parent s.depth s.parent_edge seen' lower' z (get_or low' z 0)) (sym q) at-here
+        | inr n ↦ elim (low_is.witness u h) [
+          | inl a ↦ inl (low-other u n ∙ a)
+          | inr w ↦ inr (subst (SeenLeadsTo g s.parent s.depth s.parent_edge seen' lower' u) (sym (low-other u n)) (kept-leads u (get_or low u 0) w))
+        ]
+      ];
+    }
+      where
+        at-here : (get_or low' v 0 ≡ get_or s.depth v 0) ⊎ SeenLeadsTo g s.parent s.depth s.parent_edge seen' lower' v (get_or low' v 0)
+        at-here = elim (cases_lt reached (get_or low v 0)) [
+          | inl a ↦ let q : get_or low' v 0 ≡ reached = omega (arith, low-here) in inr (subst (SeenLeadsTo g s.parent s.depth s.parent_edge seen' lower' v) (sym q) new-leads)
+          | inr b ↦ let q : get_or low' v 0 ≡ get_or low v 0 = omega (arith, low-here) in elim (low_is.witness v visited-here) [
+            | inl a ↦ inl (q ∙ a)
+            | inr w ↦ inr (subst (SeenLeadsTo g s.parent s.depth s.parent_edge seen' lower' v) (sym q) (kept-leads v (get_or low v 0) w))
+          ]
+        ]
+
+    -- they are right of the state after
+    pub frond-low : IsLow g s.visited s.parent s.depth s.parent_edge (set low v (min (get_or low v 0) (get_or s.depth (other_end g e v) 0))) (set s.seen e true) (set s.lower e v) s.path
+    unfolding reached seen' lower' low'
+    frond-low = is-low

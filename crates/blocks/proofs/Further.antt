@@ -2,13 +2,13 @@
 use Rattle.std.proofs.Common.{◌≡◌, ◌≢◌, ℕ, zero, suc, ◌+◌, ◌<◌, ◌≤◌, inl, inr, true, List, length, get_or, set, refl, sym, ap, ◌∙◌, subst, arith, length-set}
 use Rattle.std.proofs.lemmas.Bool.{cases_eq}
 use Rattle.multigraph.specs.Graph.{Multigraph, incident_edges}
-use Rattle.blocks.specs.State.{SearchState, looked_further}
+use Rattle.blocks.specs.Forest.{ForestState, looked_further, IsForest}
 use Rattle.multigraph.specs.Marks.{is_marked}
-use Rattle.blocks.specs.Searching.{degree, HasPlaces, IsLooked, OnPath, IsSearching, looks_left}
+use Rattle.blocks.specs.Forest.{degree, HasPlaces, IsLooked, OnPath, looks_left}
 use Rattle.blocks.proofs.Writes.{number-same, number-other}
 
 -- the edges looked at, with one more at v, a vertex of the path
-further-looked : (g : Multigraph) (s : SearchState) (v : ℕ) → v < g.vertex_count → HasPlaces g s → IsLooked g s.visited s.position s.seen s.path → OnPath s.path v → get_or s.position v 0 < degree g v → is_marked s.seen (get_or (incident_edges g v) (get_or s.position v 0) 0) ≡ true → IsLooked g s.visited (set s.position v (get_or s.position v 0 + 1)) s.seen s.path
+further-looked : (g : Multigraph) (s : ForestState) (v : ℕ) → v < g.vertex_count → HasPlaces g s → IsLooked g s.visited s.position s.seen s.path → OnPath s.path v → get_or s.position v 0 < degree g v → is_marked s.seen (get_or (incident_edges g v) (get_or s.position v 0) 0) ≡ true → IsLooked g s.visited (set s.position v (get_or s.position v 0 + 1)) s.seen s.path
 further-looked g s v l h k o d e = record {
   within = λ u m. elim (cases_eq u v) [
     | inl i ↦ subst (λ (z : ℕ). get_or (set s.position v (get_or s.position v 0 + 1)) z 0 ≤ degree g z) (sym i) (omega (arith, number-same s.position v (get_or s.position v 0 + 1) w))
@@ -37,14 +37,13 @@ further-looked g s v l h k o d e = record {
         ])
 
 -- what holds between turns is kept
-pub further-kept : (g : Multigraph) (s : SearchState) (v : ℕ) → v < g.vertex_count → IsSearching g s → OnPath s.path v → get_or s.position v 0 < degree g v → is_marked s.seen (get_or (incident_edges g v) (get_or s.position v 0) 0) ≡ true → IsSearching g (looked_further s v)
-further-kept g s v l k o d e = record {
+pub further-forest : (g : Multigraph) (s : ForestState) (v : ℕ) → v < g.vertex_count → IsForest g s → OnPath s.path v → get_or s.position v 0 < degree g v → is_marked s.seen (get_or (incident_edges g v) (get_or s.position v 0) 0) ≡ true → IsForest g (looked_further s v)
+further-forest g s v l k o d e = record {
   places = record {
     visited = k.places.visited;
     parent = k.places.parent;
     depth = k.places.depth;
     parent_edge = k.places.parent_edge;
-    low = k.places.low;
     position = length-set s.position v (get_or s.position v 0 + 1) ∙ k.places.position;
     seen = k.places.seen;
     lower = k.places.lower;
@@ -53,7 +52,6 @@ further-kept g s v l k o d e = record {
   grown = k.grown;
   looked = further-looked g s v l k.places k.looked o d e;
   edges = k.edges;
-  low = k.low;
   ordered = k.ordered;
 }
 

@@ -3,7 +3,8 @@ use Rattle.std.proofs.Common.{◌≡◌, ℕ, ◌+◌, Bool, true, List, get_or,
 use Rattle.multigraph.specs.Graph.{Multigraph, other_end}
 use Rattle.graph_theory.specs.SearchTree.{IsBelow}
 use Rattle.multigraph.specs.Marks.{is_marked}
-use Rattle.blocks.specs.Searching.{IsGrown, IsSeen, SeenLeadsTo}
+use Rattle.blocks.specs.Forest.{IsGrown, IsSeen}
+use Rattle.blocks.specs.Searching.{SeenLeadsTo}
 use Rattle.blocks.proofs.Ancestors.{chain, below-kept}
 
 -- the other end of a seen edge was visited

@@ -1,22 +1,22 @@
 -- The lemmas on depth-first search.
-mod Writes
-mod Ancestors
-mod Further
-mod Leads
-mod Frond
-mod Child
-mod Root
-mod Left
+pub mod Writes
+pub mod Ancestors
+pub mod Further
+pub mod Leads
+pub mod Frond
+pub mod Child
+pub mod Root
+pub mod Left
+pub mod Seen
 mod See
-mod Turns
-mod Fresh
-mod Over
+pub mod Turns
+pub mod Fresh
+pub mod Over
 mod Numbered
 mod Spreading
 mod Heads
 mod Found
 mod Meeting
 mod Collected
-mod Rising
 pub mod OneStructure
 mod OneBlock

@@ -7,11 +7,12 @@ use Rattle.permutations.specs.Relation.{IsEquivalence, connected, leads, leader}
 use Rattle.permutations.proofs.Arrangements.{member-at}
 use Rattle.permutations.proofs.Leaders.{leader-related, leader-le, leader-leads}
 use Rattle.permutations.proofs.Relation.{connected-equivalence}
+use Rattle.permutations.proofs.Places.{place-of}
 use Rattle.multigraph.specs.Graph.{Multigraph, edge_count}
 use Rattle.multigraph.specs.Part.{Rises}
 use Rattle.graph_theory.specs.Block.{SameBlock}
+use Rattle.graph_theory.proofs.Rising.{HasMembers, rises-first, members-same}
 use Rattle.blocks.specs.Blocks.{BlockStructure, AreBlocks, AreCutVertices, AreComponents, IsBlockStructure}
-use Rattle.blocks.proofs.Rising.{HasMembers, place-of, rises-first, rises-same}
 
 -- the least edge of each block
 abbrev heads : List (List ℕ) → List ℕ
@@ -65,7 +66,7 @@ heads-members g p q a o x h = from (place-of (heads p) x h)
         subst (λ (y : ℕ). is_member y (heads q) ≡ true) is (member-at (heads q) w.0 0 (omega (arith, w.1)))
 
 one-heads : (g : Multigraph) (p q : List (List ℕ)) → AreBlocks g p → AreBlocks g q → heads p ≡ heads q
-one-heads g p q a o = rises-same (heads p) (heads q) (heads-rise g p a) (heads-rise g q o) (heads-members g p q a o) (heads-members g q p o a)
+one-heads g p q a o = members-same (heads p) (heads q) (heads-rise g p a) (heads-rise g q o) (heads-members g p q a o) (heads-members g q p o a)
 
 -- blocks with the same least edge have the same edges
 block-members : (g : Multigraph) (p q : List (List ℕ)) (b : ℕ) → AreBlocks g p → AreBlocks g q → b < length p → b < length q → get_or (get_or p b []) 0 0 ≡ get_or (get_or q b []) 0 0 → HasMembers (get_or p b []) (get_or q b [])
@@ -79,14 +80,14 @@ one-blocks : (g : Multigraph) (p q : List (List ℕ)) → AreBlocks g p → AreB
 one-blocks g p q a o = ext_get_or [] p q long (λ b within.
     let q_in : b < length q = omega (arith, within, long) in
     let same : get_or (get_or p b []) 0 0 ≡ get_or (get_or q b []) 0 0 = sym (heads-at p b within) ∙ (ap (λ (l : List ℕ). get_or l b 0) (one-heads g p q a o) ∙ heads-at q b q_in) in
-    rises-same (get_or p b []) (get_or q b []) (a.rising b within) (o.rising b q_in) (block-members g p q b a o within q_in same) (block-members g q p b o a q_in within (sym same)))
+    members-same (get_or p b []) (get_or q b []) (a.rising b within) (o.rising b q_in) (block-members g p q b a o within q_in same) (block-members g q p b o a q_in within (sym same)))
   where
     long : length p ≡ length q
     long = sym (length-map p (λ block. get_or block 0 0)) ∙ (ap length (one-heads g p q a o) ∙ length-map q (λ block. get_or block 0 0))
 
 -- the lists of cut vertices are equal
 one-cuts : (g : Multigraph) (p q : List ℕ) → AreCutVertices g p → AreCutVertices g q → p ≡ q
-one-cuts g p q a o = rises-same p q a.rising o.rising (λ v h. o.complete v (a.vertices v h) (a.sound v h)) (λ v h. a.complete v (o.vertices v h) (o.sound v h))
+one-cuts g p q a o = members-same p q a.rising o.rising (λ v h. o.complete v (a.vertices v h) (a.sound v h)) (λ v h. a.complete v (o.vertices v h) (o.sound v h))
 
 -- the lists of components are equal
 one-components : (g : Multigraph) (p q : List ℕ) (n k : ℕ) → AreComponents g p n → AreComponents g q k → p ≡ q

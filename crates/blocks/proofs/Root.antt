@@ -5,22 +5,20 @@ use Rattle.std.proofs.lemmas.List.{get_or_append_left, get_or_push, take-append-
 use Rattle.permutations.specs.Members.{is_member}
 use Rattle.permutations.proofs.Arrangements.{member-at}
 use Rattle.multigraph.specs.Graph.{Multigraph, other_end}
-use Rattle.blocks.specs.State.{SearchState, root_noted}
+use Rattle.blocks.specs.Forest.{ForestState, root_noted, IsForest}
 use Rattle.multigraph.specs.Marks.{is_marked}
-use Rattle.blocks.specs.Searching.{IsOnPath, IsGrown, IsSeen, IsLow, IsOrdered, OnPath, SeenLeadsTo, IsSearching}
+use Rattle.blocks.specs.Forest.{IsOnPath, IsGrown, IsSeen, IsOrdered, OnPath}
+use Rattle.blocks.specs.Searching.{IsLow, SeenLeadsTo}
 use Rattle.blocks.proofs.Writes.{number-same, number-other, marked-same, marked-cases, marked-kept, marks-differ}
 use Rattle.blocks.proofs.Leads.{upper-visited, leads-kept}
 use Rattle.blocks.proofs.Child.{on-last, order-longer}
 
-module _ (g : Multigraph) (s : SearchState) (r : ℕ) (b : IsSearching g s) (rl : r < g.vertex_count) (unvisited : is_marked s.visited r ≡ false) (empty : s.path ≡ []) where
+module _ (g : Multigraph) (s : ForestState) (r : ℕ) (b : IsForest g s) (rl : r < g.vertex_count) (unvisited : is_marked s.visited r ≡ false) (empty : s.path ≡ []) where
   visited' : List Bool
   visited' = set s.visited r true
 
   depth' : List ℕ
   depth' = set s.depth r 0
-
-  low' : List ℕ
-  low' = set s.low r 0
 
   path' : List ℕ
   path' = s.path ++ r ∷ []
@@ -50,14 +48,6 @@ module _ (g : Multigraph) (s : SearchState) (r : ℕ) (b : IsSearching g s) (rl 
   depth-root : get_or depth' r 0 ≡ 0
   unfolding depth'
   depth-root = number-same s.depth r 0 (omega (arith, rl, b.places.depth))
-
-  low-kept : (u : ℕ) → is_marked s.visited u ≡ true → get_or low' u 0 ≡ get_or s.low u 0
-  unfolding low'
-  low-kept u h = number-other s.low r u 0 (other u h)
-
-  low-root : get_or low' r 0 ≡ 0
-  unfolding low'
-  low-root = number-same s.low r 0 (omega (arith, rl, b.places.low))
 
   -- the path is the root alone
   path-is : path' ≡ r ∷ []
@@ -112,32 +102,6 @@ module _ (g : Multigraph) (s : SearchState) (r : ℕ) (b : IsSearching g s) (rl 
     upper_above = λ e h. let u = b.edges.upper_above e h in (u.0, omega (arith, u.1, depth-kept (get_or s.lower e 0) (b.edges.lower_visited e h)), u.2);
   }
 
-  low : IsLow g visited' s.parent depth' s.parent_edge low' s.seen s.lower path'
-  low = record {
-    at_most = λ u h. elim (visited-cases u h) [
-      | inl q ↦ subst (λ (z : ℕ). get_or low' z 0 ≤ get_or depth' z 0) (sym q) (omega (arith, low-root))
-      | inr o ↦ omega (arith, low-kept u o, depth-kept u o, b.low.at_most u o)
-    ];
-    at_frond = λ e h n.
-        let z = get_or s.lower e 0 in
-        omega (arith, low-kept z (b.edges.lower_visited e h), depth-kept (other_end g e z) (upper-visited g s.visited s.parent s.depth s.parent_edge s.seen s.lower b.grown b.edges e h), b.low.at_frond e h n);
-    at_parent = λ u h d.
-        let o = deep-visited u h d in
-        let x = deep-old u h d in
-        elim (b.low.at_parent u o x) [
-          | inl a ↦ inl (omega (arith, low-kept u o, low-kept (get_or s.parent u 0) (b.grown.parent_visited u o x)))
-          | inr p ↦ absurd (off u p)
-        ];
-    witness = λ u h. elim (visited-cases u h) [
-      | inl q ↦ inl (subst (λ (z : ℕ). get_or low' z 0 ≡ get_or depth' z 0) (sym q) (low-root ∙ sym depth-root))
-      | inr o ↦ elim (b.low.witness u o) [
-        | inl a ↦ inl (low-kept u o ∙ (a ∙ sym (depth-kept u o)))
-        | inr l ↦ inr (subst (SeenLeadsTo g s.parent depth' s.parent_edge s.seen s.lower u) (sym (low-kept u o))
-            (leads-kept g s.visited s.parent s.depth s.parent_edge s.seen s.lower b.grown b.edges s.parent depth' s.parent_edge s.seen s.lower (λ q m. refl) depth-kept (λ q m. refl) (λ q m. m) (λ q m. refl) u (get_or s.low u 0) l))
-      ]
-    ];
-  }
-
   ordered : IsOrdered visited' s.parent depth' (s.order ++ r ∷ [])
   unfolding visited'
   ordered = record {
@@ -159,15 +123,14 @@ module _ (g : Multigraph) (s : SearchState) (r : ℕ) (b : IsSearching g s) (rl 
       last q c d = absurd (omega (arith, d, ap (λ (z : ℕ). get_or depth' z 0) (get_or_push s.order r 0 q (sym c)), depth-root))
 
   -- what holds between turns is kept
-  pub root-kept : IsSearching g (root_noted s r)
-  unfolding visited' depth' low' path'
-  root-kept = record {
+  pub root-forest : IsForest g (root_noted s r)
+  unfolding visited' depth' path'
+  root-forest = record {
     places = record {
       visited = length-set s.visited r true ∙ b.places.visited;
       parent = b.places.parent;
       depth = length-set s.depth r 0 ∙ b.places.depth;
       parent_edge = b.places.parent_edge;
-      low = length-set s.low r 0 ∙ b.places.low;
       position = b.places.position;
       seen = b.places.seen;
       lower = b.places.lower;
@@ -183,6 +146,54 @@ module _ (g : Multigraph) (s : SearchState) (r : ℕ) (b : IsSearching g s) (rl 
       ];
     };
     edges = edges;
-    low = low;
     ordered = ordered;
   }
+
+  -- a root that was visited then is this one or was one before
+  pub root-roots : (u : ℕ) → is_marked (set s.visited r true) u ≡ true → get_or (set s.depth r 0) u 0 ≡ 0 → (u ≡ r) ⊎ ((is_marked s.visited u ≡ true) × (get_or s.depth u 0 ≡ 0))
+  unfolding visited' depth'
+  root-roots u h d = elim (visited-cases u h) [ inl q ↦ inl q | inr o ↦ inr (o, sym (depth-kept u o) ∙ d) ]
+
+  -- low points, with what holds of them between two turns
+  module _ (low : List ℕ) (low_each : length low ≡ g.vertex_count) (low_is : IsLow g s.visited s.parent s.depth s.parent_edge low s.seen s.lower s.path) where
+    low' : List ℕ
+    low' = set low r 0
+
+    low-kept : (u : ℕ) → is_marked s.visited u ≡ true → get_or low' u 0 ≡ get_or low u 0
+    unfolding low'
+    low-kept u h = number-other low r u 0 (other u h)
+
+    low-root : get_or low' r 0 ≡ 0
+    unfolding low'
+    low-root = number-same low r 0 (omega (arith, rl, low_each))
+
+    is-low : IsLow g visited' s.parent depth' s.parent_edge low' s.seen s.lower path'
+    is-low = record {
+      at_most = λ u h. elim (visited-cases u h) [
+        | inl q ↦ subst (λ (z : ℕ). get_or low' z 0 ≤ get_or depth' z 0) (sym q) (omega (arith, low-root))
+        | inr o ↦ omega (arith, low-kept u o, depth-kept u o, low_is.at_most u o)
+      ];
+      at_frond = λ e h n.
+          let z = get_or s.lower e 0 in
+          omega (arith, low-kept z (b.edges.lower_visited e h), depth-kept (other_end g e z) (upper-visited g s.visited s.parent s.depth s.parent_edge s.seen s.lower b.grown b.edges e h), low_is.at_frond e h n);
+      at_parent = λ u h d.
+          let o = deep-visited u h d in
+          let x = deep-old u h d in
+          elim (low_is.at_parent u o x) [
+            | inl a ↦ inl (omega (arith, low-kept u o, low-kept (get_or s.parent u 0) (b.grown.parent_visited u o x)))
+            | inr p ↦ absurd (off u p)
+          ];
+      witness = λ u h. elim (visited-cases u h) [
+        | inl q ↦ inl (subst (λ (z : ℕ). get_or low' z 0 ≡ get_or depth' z 0) (sym q) (low-root ∙ sym depth-root))
+        | inr o ↦ elim (low_is.witness u o) [
+          | inl a ↦ inl (low-kept u o ∙ (a ∙ sym (depth-kept u o)))
+          | inr l ↦ inr (subst (SeenLeadsTo g s.parent depth' s.parent_edge s.seen s.lower u) (sym (low-kept u o))
+              (leads-kept g s.visited s.parent s.depth s.parent_edge s.seen s.lower b.grown b.edges s.parent depth' s.parent_edge s.seen s.lower (λ q m. refl) depth-kept (λ q m. refl) (λ q m. m) (λ q m. refl) u (get_or low u 0) l))
+        ]
+      ];
+    }
+
+    -- they are right of the state after
+    pub root-low : IsLow g (set s.visited r true) s.parent (set s.depth r 0) s.parent_edge (set low r 0) s.seen s.lower (s.path ++ r ∷ [])
+    unfolding visited' depth' low' path'
+    root-low = is-low

@@ -7,9 +7,10 @@ use Rattle.multigraph.specs.Graph.{Multigraph, edge_count, is_end, other_end, in
 use Rattle.multigraph.proofs.Incident.{length-incident, incident_at-edge, incident_at-end}
 use Rattle.blocks.specs.State.{SearchState, frond_noted, child_noted, looked_further, left}
 use Rattle.multigraph.specs.Marks.{is_marked}
-use Rattle.blocks.specs.Searching.{degree, IsOnPath, IsSearching, IsLast, IsSeenAt, IsTurned, looks_left}
-use Rattle.blocks.proofs.Further.{further-kept, looks-fewer}
-use Rattle.blocks.proofs.Left.{left-kept}
+use Rattle.blocks.specs.Forest.{degree, IsOnPath, looks_left}
+use Rattle.blocks.specs.Searching.{forest_of, IsSearching, IsLast, IsSeenAt, IsTurned}
+use Rattle.blocks.proofs.Further.{further-forest, looks-fewer}
+use Rattle.blocks.proofs.Left.{IsDone, left-forest, left-low, left-each}
 use Rattle.blocks.proofs.See.{see-frond, see-child}
 
 -- the path has no more places than there are vertices
@@ -48,7 +49,7 @@ child-seen g gg s new v e w k l m i u ew h en =
 -- the state after a look
 pub look-turned : (g : Multigraph) (s mid new : SearchState) (v e : ℕ) → v < g.vertex_count → get_or s.position v 0 < degree g v → e ≡ get_or (incident_edges g v) (get_or s.position v 0) 0 → IsSeenAt g s mid v e → new ≡ looked_further mid v → IsTurned g s new
 look-turned g s mid new v e l d ee a en = subst (IsTurned g s) (sym en) (record {
-  searching = further-kept g mid v l a.searching a.on_path more seen;
+  searching = record { forest = further-forest g (forest_of mid) v l a.searching.forest a.on_path more seen; low_each = a.searching.low_each; low = a.searching.low };
   visited = a.visited;
   nearer = omega (arith, a.longer, looks-fewer g mid.position v g.vertex_count l (omega (arith, l, a.searching.places.position)) more, ap (λ (p : List ℕ). looks_left g p g.vertex_count) a.position);
 })
@@ -65,7 +66,7 @@ look-turned g s mid new v e l d ee a en = subst (IsTurned g s) (sym en) (record 
 -- the state after the last vertex of the path was left
 pub leave-turned : (g : Multigraph) (s new : SearchState) (v : ℕ) → IsSearching g s → IsLast s v → degree g v ≤ get_or s.position v 0 → new ≡ left s v → IsTurned g s new
 leave-turned g s new v k l d en = subst (IsTurned g s) (sym en) (record {
-  searching = left-kept g s v l.place k (record { last = l.last; here = l.is; looked = omega (arith, d, k.looked.within v vl) });
+  searching = record { forest = left-forest g (forest_of s) v l.place k.forest done; low_each = left-each g (forest_of s) v l.place k.forest done s.low k.low_each k.low; low = left-low g (forest_of s) v l.place k.forest done s.low k.low_each k.low };
   visited = λ u h. h;
   nearer =
       let le : length s.path - 1 ≤ length s.path = omega arith in
@@ -75,6 +76,9 @@ leave-turned g s new v k l d en = subst (IsTurned g s) (sym en) (record {
     vl : v < g.vertex_count
     vl = subst (λ (z : ℕ). z < g.vertex_count) l.is (k.on_path.within l.place (omega (arith, l.last)))
 
+    done : IsDone g (forest_of s) v l.place
+    done = record { last = l.last; here = l.is; looked = omega (arith, d, k.looked.within v vl) }
+
 -- the last vertex of the path is a vertex
 pub last-in : (g : Multigraph) (s : SearchState) (v : ℕ) → IsSearching g s → IsLast s v → v < g.vertex_count
 last-in g s v k l = subst (λ (z : ℕ). z < g.vertex_count) l.is (k.on_path.within l.place (omega (arith, l.last)))
@@ -83,7 +87,7 @@ last-in g s v k l = subst (λ (z : ℕ). z < g.vertex_count) l.is (k.on_path.wit
 pub parent-place : (g : Multigraph) (s : SearchState) (v : ℕ) → IsSearching g s → IsLast s v → 0 < get_or s.depth v 0 → get_or s.parent v 0 < length s.low
 parent-place g s v k l d =
     let h : is_marked s.visited v ≡ true = subst (λ (z : ℕ). is_marked s.visited z ≡ true) l.is (k.on_path.visits l.place (omega (arith, l.last))) in
-    omega (arith, k.grown.parent_in v h d, k.places.low)
+    omega (arith, k.grown.parent_in v h d, k.low_each)
 
 -- the edge that is looked at next is an edge at v
 pub next-edge : (g : Multigraph) (v x e : ℕ) (edges : List ℕ) → edges ≡ incident_edges g v → x < degree g v → e ≡ get_or edges x 0 → (e < edge_count g) × (is_end g v e ≡ true)

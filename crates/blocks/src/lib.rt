@@ -6,7 +6,8 @@
 // begins a block (Tarjan 1972; Hopcroft and Tarjan 1973). This crate finds the blocks in linear time with a stack of its own.
 // It promises that they are exactly the classes of that equivalence, each once, in order of their least edges, that the cut
 // vertices are those with edges of two blocks, and that the components are the classes that edges connect. `is_one_block`
-// tells whether a graph is one block.
+// tells whether a graph is one block. How the forest grows, turn by turn, without low points, is said and proved once, in
+// specs/Forest and the lemmas on it, for palm_tree too.
 #![tactic(auto)]
 
 mod cuts;

@@ -3,7 +3,8 @@ ghost use Rattle.std.specs.Prelude.{◌≡◌, ◌+◌, ◌-◌, ◌<◌, ◌≤
 ghost use Rattle.multigraph.specs.Graph.{edge_count, is_end, IsGraph, IsWithinLimits};
 ghost use Rattle.blocks.specs.State.{SearchState, fresh, looked_further, frond_noted, root_noted, child_noted, left};
 ghost use Rattle.multigraph.specs.Marks.{is_marked};
-ghost use Rattle.blocks.specs.Searching.{degree, IsSearching, IsLast, IsSeenAt, IsTurned, IsExplored, IsOver};
+ghost use Rattle.blocks.specs.Forest.{degree};
+ghost use Rattle.blocks.specs.Searching.{IsSearching, IsLast, IsSeenAt, IsTurned, IsExplored, IsOver};
 ghost use Rattle.blocks.specs.Spread.{IsSpreadOrder, IsSpread};
 ghost use Rattle.blocks.specs.Finding.{IsHead, IsNoHead, AreHeads, AreRoots, AreBlockNumbers};
 ghost use Rattle.blocks.specs.Blocks.{AreComponents};

@@ -17,7 +17,7 @@ use Rattle.planarity.specs.Expansion.{moved}
 use Rattle.dart_maps.proofs.Darts.{twin-below}
 use Rattle.planarity.proofs.ContractedDarts.{middle-below}
 use Rattle.planarity.proofs.JoinedDarts.{joined-dart, dart-turned, between-is}
-use Rattle.planarity.proofs.CarriedMaps.{IsNumbering, outer-live, outer-dead}
+use Rattle.dart_maps.proofs.CarriedMaps.{IsNumbering, outer-live, outer-dead}
 use Rattle.planarity.proofs.ContractedSystem.{kept-numbering}
 use Rattle.planarity.proofs.ExpandedApart.{carried}
 use Rattle.planarity.proofs.ExpandedPlane.{expanded-system}
@@ -39,10 +39,6 @@ module _ (level : Level) (k : IsLevel level) (next : List ℕ) where
   -- darts of different numbers were different
   origin-once : (c d : ℕ) → c < dart_count (contraction level) → d < dart_count (contraction level) → origin level c ≡ origin level d → c ≡ d
   origin-once c d l m e = sym (numbering.back_into c l) ∙ (ap (moved (place (contraction level) (edge_before level))) e ∙ numbering.back_into d m)
-
-  -- before the first dart each is alone
-  pub carried-start : (wide : List ℕ) → length wide ≡ dart_count level.graph → ((z : ℕ) → z < dart_count level.graph → slice_index wide z ≡ z) → CarriedBelow level next 0 wide
-  carried-start wide e h = record { each = e; carried = λ d l. absurd (omega arith); alone = λ z l n. h z l }
 
   -- one step more
   pub carried-next : (d : ℕ) (wide : List ℕ) → d < dart_count (contraction level) → CarriedBelow level next d wide → CarriedBelow level next (d + 1) (set wide (origin level d) (origin level (slice_index next d)))

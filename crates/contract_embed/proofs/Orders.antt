@@ -1,16 +1,17 @@
 -- The cyclic orders of a rotation system, read from its steps.
-use Rattle.std.proofs.Common.{◌≡◌, ◌≢◌, ℕ, zero, suc, ◌+◌, ◌-◌, ◌<◌, inl, inr, List, [], ◌∷◌, ◌++◌, length, get_or, slice_index, refl, sym, ap, ◌∙◌, subst, arith}
+use Rattle.std.proofs.Common.{◌≡◌, ℕ, ◌+◌, ◌-◌, ◌<◌, inl, inr, List, [], ◌∷◌, ◌++◌, length, get_or, slice_index, sym, ap, ◌∙◌, subst, arith}
 use Rattle.std.specs.List.Sorted.{IsPermutation}
-use Rattle.std.proofs.lemmas.Bool.{eq-eqb, ne_eqb, cases_eq}
+use Rattle.std.proofs.lemmas.Bool.{cases_eq}
 use Rattle.std.proofs.Math.ListN.{get_or-append}
 use Rattle.std.proofs.Math.Seq.{get_or-append_seam}
 use Rattle.std.proofs.lemmas.List.{same_lists, get_or_default, length-append}
 use Rattle.permutations.specs.Cyclic.{first_or, turned}
-use Rattle.permutations.proofs.Turned.{turned-first}
+use Rattle.permutations.proofs.Turned.{turned-own}
 use Rattle.multigraph.specs.Graph.{Multigraph, incident_edges}
-use Rattle.rotations.specs.Entries.{entry, list_at, IsAbove}
+use Rattle.rotations.specs.Entries.{list_at}
 use Rattle.rotations.specs.Given.{given_order, IsFirstBad}
 use Rattle.rotations.specs.Rotation.{order_at, IsRotationSystem}
+use Rattle.rotations.proofs.Cursor.{list_at-found}
 use Rattle.contract_obstruct.specs.Steps.{AreSteps}
 use Rattle.contract_embed.specs.Entries.{AreOrdersBelow}
 
@@ -24,20 +25,9 @@ listed-push f k x l e h y = (length-append l (x ∷ []) ∙ ap (λ n. n + 1) e, 
       | inr n ↦ get_or-append l (x ∷ []) 0 d (omega (arith, e)) ∙ h d (omega arith)
     ]
 
--- the list at the first entry for v
-list-found : (l : List (ℕ × List ℕ)) (v k : ℕ) → k < length l → ((i : ℕ) → i < k → (entry l i).0 ≢ v) → (entry l k).0 ≡ v → list_at l v ≡ (entry l k).1
-list-found [] v k l h e = absurd (omega arith)
-list-found (x ∷ xs) v zero l h e = rw (eq-eqb x.0 v e) refl
-list-found (x ∷ xs) v (suc k) l h e = rw (ne_eqb x.0 v (h 0 (omega arith))) (list-found xs v k (omega arith) (λ i m. h (suc i) (omega arith)) e)
-
 -- what is given for a vertex
 pub orders-given : (s : List (List ℕ)) (k : ℕ) (entries : List (ℕ × List ℕ)) → AreOrdersBelow s k entries → (v : ℕ) → v < k → list_at entries v ≡ order_at s v
-orders-given s k entries a v l = list-found entries v v (subst (λ n. v < n) (sym a.each) l) (λ i m q. absurd (omega (arith, a.vertex i (omega arith)))) (a.vertex v l) ∙ a.order v l
-
--- turned to its first member a list stays
-turned-own : (l : List ℕ) → turned l (first_or 0 l) ≡ l
-turned-own [] = refl
-turned-own (x ∷ xs) = turned-first x xs
+orders-given s k entries a v l = list_at-found entries v v (subst (λ n. v < n) (sym a.each) l) (λ i m q. absurd (omega (arith, a.vertex i (omega arith)))) (a.vertex v l) ∙ a.order v l
 
 -- the rotation system of these entries is the one whose steps were read
 pub orders-same : (g : Multigraph) (s r : List (List ℕ)) (next : List ℕ) (entries : List (ℕ × List ℕ)) → AreSteps g s next → ((v : ℕ) → v < g.vertex_count → list_at entries v ≡ order_at s v)

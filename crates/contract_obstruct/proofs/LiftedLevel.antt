@@ -6,10 +6,6 @@ use Rattle.contractions.specs.Level.{IsLevel, contraction}
 use Rattle.contract_obstruct.specs.Lifting.{with_number}
 use Rattle.contractions.specs.declared.level.Level.{Level}
 
--- the contraction has less than 20,000 vertices
-pub is-less : (level : Level) → IsLevel level → (contraction level).vertex_count < 20000
-is-less level k = omega (arith, k.limits.few_vertices, k.five)
-
 test_false : (a b : ℕ) → b ≤ a → nat_lt a b ≡ false
 test_false a b l = false_from_ne_true (nat_lt a b) (λ t. let w : a < b = ltb-true a b t in omega arith)
 

@@ -68,11 +68,6 @@ module _ (g : Multigraph) (s : List (List ℕ)) (next : List ℕ) (a : AreSteps 
   pub order-none : length (incident_edges g v) ≡ 0 → order_at s v ≡ []
   order-none e = nil_from_length (order_at s v) (length_permutation (incident_edges g v) (order_at s v) (a.system.orders v lv).arranged ∙ e)
 
--- the first member of a list is the one at its first place
-pub first-at : (l : List ℕ) → slice_index l 0 ≡ first_or 0 l
-first-at [] = refl
-first-at (x ∷ xs) = refl
-
 -- steps lead to darts
 pub steps-in : (g : Multigraph) → IsGraph g → (s : List (List ℕ)) (next : List ℕ) → AreSteps g s next → (d : ℕ) → d < dart_count g → slice_index next d < dart_count g
 steps-in g i s next a d l = subst (λ z. z < dart_count g) (sym (a.steps d l)) ((map-permutes g s i a.system).forth d l)

@@ -127,13 +127,6 @@ module _ (g h : Multigraph) (i : IsGraph g) (s : IsSimple g) (e x y : ℕ) (edge
         ∙ (c.first_ends k l ∙ ap vertex (sym (other_end-of_second g (edge k) p d (i.no_loop (edge k) (c.edges k l)))))
   ]
 
-  -- each end of an edge comes from one
-  pub end-back : (k w : ℕ) → k < edge_count h → is_end h w k ≡ true → (p : ℕ) × (is_end g p (edge k) ≡ true) × (vertex p ≡ w)
-  end-back k w l a = elim (is_end-cases h w k a) [
-    | inl d ↦ ((ends_of g (edge k)).0, is_end-first g (edge k), sym (c.first_ends k l) ∙ d)
-    | inr d ↦ ((ends_of g (edge k)).1, is_end-second g (edge k), sym (c.second_ends k l) ∙ d)
-  ]
-
   -- the contraction is simple
   pub simple-contracted : IsSimple h
   simple-contracted j k l m d = elim d [

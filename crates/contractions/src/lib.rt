@@ -16,7 +16,7 @@
 //   Growth      grown: a component that gets greater, of an edge and a third vertex that part the graph
 //   PrivateNeighbours orient, oriented: an edge named such that its second end has a private neighbour
 //   Joined      joined-edge, joined-from, simple-same: vertices that an edge joins; kept-from, dropped-joined, private-parts
-//   Contracted  end-forth, other-forth, end-back: the ends of an edge of a contraction, from those that it had
+//   Contracted  end-forth, other-forth: the ends of an edge of a contraction, from those that it had
 //   ContractedTriconnected  connected-contracted: what is connected stays so in a contraction
 //   LevelFacts  level-contraction, level-graph, level-triconnected, level-edges, level-few, level-kept: the contraction of a level
 #![tactic(auto)]

@@ -138,10 +138,6 @@ module _ (m : ℕ) (f g : ℕ → ℕ) (b : IsMap m f g) (d : ℕ) (l : d < 2 * 
   pub contract-plane-back : IsPlane m (contracted d f) → IsPlane m f
   contract-plane-back p = same-defect-plane m (contracted d f) f (same-defect-back m f (contracted d f) contract-defect) p
 
-  -- its inverse
-  pub contracted_back : ℕ → ℕ
-  contracted_back = dropped d (back_after (g d) (twin d) g)
-
   -- the contracted map is a map
   pub contracted-map : IsMap m (contracted d f) (dropped d (back_after (g d) (twin d) g))
   contracted-map = permutes-ext (2 * m) (dropped d (exchange (g d) (twin d) f)) (dropped d (back_after (g d) (twin d) g)) (contracted d f) (dropped d (back_after (g d) (twin d) g)) (dropped-map m (exchange (g d) (twin d) f) (back_after (g d) (twin d) g) merged-map d l) (λ x k. sym (contracted-dropped x k)) (λ x k. refl)

@@ -12,10 +12,11 @@ use Rattle.dart_maps.specs.Map.{twin, face, IsMap, same_vertex, same_face, same_
 use Rattle.dart_maps.proofs.Darts.{twin-twin, twin-below, face-permutes, face-exchange, face-twin}
 use Rattle.dart_maps.proofs.Components.{vertex-component, component-finer}
 use Rattle.permutations.proofs.Classes.{class_count-same}
+use Rattle.permutations.proofs.TurnedOver.{turned_over, turned-keeps, turned-outside, turned-inside, turned-permutes, turned-orbit}
 use Rattle.dart_maps.specs.Flip.{IsRun, IsFlip}
 use Rattle.dart_maps.proofs.Steps.{back_after, step-map}
 use Rattle.dart_maps.proofs.FlipCounts.{orbit-shift, count-exchange-together, count-exchange-apart, count-exchange-both}
-use Rattle.dart_maps.proofs.TurnOver.{turned_over, turned-keeps, turned-outside, turned-inside, turned-permutes, turned-orbit, crossed, crossed-inside, crossed-outside, turned-face, turned-faces, turned-vertices}
+use Rattle.dart_maps.proofs.TurnOver.{crossed, crossed-inside, crossed-outside, turned-face, turned-faces, turned-vertices}
 
 -- a map, a part of it, and the map with the part turned over
 module _ (m : ℕ) (f g h : ℕ → ℕ) (e : IsMap m f g) (t : ℕ → Bool) (a b p q : ℕ) (z : IsFlip m f h t a b p q) where

@@ -5,17 +5,17 @@ use Rattle.permutations.specs.Relation.{IsEquivalence}
 use Rattle.permutations.specs.Permutation.{orbit_count}
 use Rattle.permutations.specs.Exchange.{exchange}
 use Rattle.permutations.proofs.Relation.{same-tests}
-use Rattle.permutations.proofs.Classes.{class_count-ext}
 use Rattle.permutations.proofs.Permutations.{exchange-left, exchange-right, exchange-other, exchange-twice}
 use Rattle.permutations.proofs.Orbits.{orbit-least, orbit-equivalence, orbit-step, orbit-ext, orbit-count-ext}
 use Rattle.permutations.proofs.Transpositions.{exchange-count-join}
-use Rattle.dart_maps.specs.Map.{twin, face, IsMap, same_vertex, same_component, vertex_count, face_count, SameDefect}
+use Rattle.dart_maps.specs.Map.{twin, face, IsMap, same_vertex, same_component, vertex_count, face_count}
 use Rattle.dart_maps.proofs.Darts.{twin-below}
 use Rattle.dart_maps.proofs.Components.{vertex-component, component-finer}
 use Rattle.permutations.proofs.Classes.{class_count-same}
+use Rattle.permutations.proofs.TurnedOver.{turned_over, turned-keeps, turned-outside, turned-inside, turned-permutes, turned-orbit}
 use Rattle.dart_maps.specs.Flip.{IsRun, IsFlipAtOne, IsFlipAlone}
 use Rattle.dart_maps.proofs.Steps.{back_after, step-map, faces-joined}
-use Rattle.dart_maps.proofs.TurnOver.{turned_over, turned-keeps, turned-outside, turned-inside, turned-permutes, turned-orbit, turned-faces, turned-vertices}
+use Rattle.dart_maps.proofs.TurnOver.{turned-faces, turned-vertices}
 use Rattle.dart_maps.proofs.FlipCounts.{test-apart}
 
 -- a map and the map with whole components turned over
@@ -40,10 +40,6 @@ module _ (m : ℕ) (f g h : ℕ → ℕ) (e : IsMap m f g) (t : ℕ → Bool) (z
   alone-component c d = same-tests (same_component m h c d) (same_component m f c d)
       (component-finer m h f (λ u l. vertex-component m f u (h u) (sym (alone-vertex u (h u)) ∙ orbit-step (2 * m) h u l)) c d)
       (component-finer m f h (λ u l. vertex-component m h u (f u) (alone-vertex u (f u) ∙ orbit-step (2 * m) f u l)) c d)
-
-  -- so the defect stays
-  pub alone-defect : SameDefect m f h
-  alone-defect = omega (arith, class_count-ext (2 * m) (same_vertex m h) (same_vertex m f) (λ c d l k. alone-vertex c d), alone-faces, class_count-ext (2 * m) (same_component m h) (same_component m f) (λ c d l k. alone-component c d))
 
 -- a map and the map with a part turned over that stands in one run
 module _ (m : ℕ) (f g h : ℕ → ℕ) (e : IsMap m f g) (t : ℕ → Bool) (a b : ℕ) (z : IsFlipAtOne m f h t a b) where
@@ -209,7 +205,3 @@ module _ (m : ℕ) (f g h : ℕ → ℕ) (e : IsMap m f g) (t : ℕ → Bool) (a
   one-component c d = same-tests (same_component m h c d) (same_component m f c d)
       (component-finer m h f (λ u l. vertex-component m f u (h u) (one-step u l)) c d)
       (component-finer m f h (λ u l. vertex-component m h u (f u) (sym (one-vertex u (f u) l (e.forth u l)) ∙ orbit-step (2 * m) f u l)) c d)
-
-  -- so the defect stays
-  pub one-defect : SameDefect m f h
-  one-defect = omega (arith, one-vertices, one-faces, class_count-ext (2 * m) (same_component m h) (same_component m f) (λ c d l k. one-component c d))

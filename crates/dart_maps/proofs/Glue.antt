@@ -1,19 +1,19 @@
 -- Two components glued along an edge of each: the two-sum of plane maps is plane.
 use Rattle.std.proofs.Common.{◌≡◌, ℕ, zero, suc, ◌*◌, ◌<◌, inl, inr, Bool, true, false, not, refl, sym, ap, ◌∙◌, subst, arith, eq-eqb}
 use Rattle.std.proofs.lemmas.Bool.{cases_Bool, cases_eq, both_ways, false_from_ne_true, ne_eqb}
-use Rattle.permutations.specs.Relation.{IsEquivalence, join}
+use Rattle.permutations.specs.Relation.{IsEquivalence}
 use Rattle.permutations.specs.Permutation.{iterate}
 use Rattle.permutations.specs.Exchange.{exchange}
-use Rattle.permutations.proofs.Relation.{join-cases, join-ext, join-link}
+use Rattle.permutations.proofs.Relation.{join-cases, join-link}
 use Rattle.permutations.proofs.Permutations.{permutes-back, permutes-ext, exchange-left, exchange-right, exchange-other}
-use Rattle.permutations.proofs.Orbits.{orbit-equivalence, orbit-step, orbit-ext}
+use Rattle.permutations.proofs.Orbits.{orbit-equivalence, orbit-step}
 use Rattle.permutations.proofs.Transpositions.{exchange-join}
 use Rattle.dart_maps.specs.Map.{twin, face, IsMap, same_vertex, same_face, same_component, IsPlane, SameDefect}
 use Rattle.dart_maps.proofs.Darts.{twin-other, twin-below, face-twin}
 use Rattle.dart_maps.proofs.Components.{component-equivalence, component-next, component-twin, vertex-component, face-component}
 use Rattle.permutations.specs.Exchange.{restricted}
 use Rattle.permutations.proofs.Unlinking.{before-orbit}
-use Rattle.permutations.proofs.Restriction.{GoesOn, goes-restricted, restricted-permutes, restricted-alone, restricted-orbit}
+use Rattle.permutations.proofs.Restriction.{GoesOn, goes-restricted, restricted-permutes, restricted-alone}
 use Rattle.dart_maps.specs.Changes.{glued}
 use Rattle.dart_maps.specs.Order.{one_of_four}
 use Rattle.dart_maps.proofs.Steps.{back_after, step-map, face-join}
@@ -58,14 +58,6 @@ module _ (m : ℕ) (f g : ℕ → ℕ) (b : IsMap m f g) (d e : ℕ) (ld : d < 2
   -- the relation of vertices
   v : IsEquivalence (same_vertex m f)
   v = orbit-equivalence (2 * m) f
-
-  -- on the side of d, and on the side of e
-  near_d : ℕ → Type 0
-  near_d x = same_component m f d x ≡ true
-
-  -- on the side of e
-  near_e : ℕ → Type 0
-  near_e x = same_component m f e x ≡ true
 
   -- no dart is on both sides
   sides : (x y : ℕ) → same_component m f d x ≡ true → same_component m f e y ≡ true → x ≡ y → ⊥
@@ -278,17 +270,6 @@ module _ (m : ℕ) (f g : ℕ → ℕ) (b : IsMap m f g) (d e : ℕ) (ld : d < 2
   pub glue-plane : IsPlane m f → IsPlane m (glued d e f)
   glue-plane h = plane-ext m (restricted (2 * m) keep twice) (glued d e f) glued-restricted (restricted-plane m twice (back_after p q (back_after d e g)) twice-map (same-defect-plane m f twice twice-defect h) keep)
 
-  -- its inverse
-  pub glued_back : ℕ → ℕ
-  glued_back = restricted (2 * m) keep (back_after p q (back_after d e g))
-
   -- the glued map is a map
   pub glued-map : IsMap m (glued d e f) (restricted (2 * m) (λ x. not (one_of_four d (twin d) e (twin e) x)) (back_after (g (twin d)) (g (twin e)) (back_after d e g)))
   glued-map = permutes-ext (2 * m) (restricted (2 * m) keep twice) (restricted (2 * m) keep (back_after p q (back_after d e g))) (glued d e f) (restricted (2 * m) keep (back_after p q (back_after d e g))) (restricted-permutes (2 * m) keep twice (back_after p q (back_after d e g)) twice-map) (λ x l. sym (glued-restricted x l)) (λ x l. refl)
-
-  -- its vertices are the old ones, with those of d and e made one, and those of the twins
-  pub glued-vertex : (x y : ℕ) → one_of_four d (twin d) e (twin e) x ≡ false → one_of_four d (twin d) e (twin e) y ≡ false → same_vertex m (glued d e f) x y ≡ join (join (same_vertex m f) d e) (g (twin d)) (g (twin e)) x y
-  glued-vertex x y s t = sym (orbit-ext (2 * m) (restricted (2 * m) keep twice) (glued d e f) glued-restricted x y)
-      ∙ restricted-orbit (2 * m) keep twice (back_after p q (back_after d e g)) twice-map x y (kept x s) (kept y t)
-      ∙ exchange-join (2 * m) once (back_after d e g) once-map p q lp lq once-vertices x y
-      ∙ join-ext (same_vertex m once) (join (same_vertex m f) d e) p q (exchange-join (2 * m) f g b d e ld le (false_from_ne_true (same_vertex m f d e) (λ u. both_ways (same_component m f d e) apart (vertex-component m f d e u)))) x y

@@ -6,10 +6,10 @@ use Rattle.permutations.specs.Exchange.{exchange}
 use Rattle.permutations.proofs.Relation.{join-across, join-cases}
 use Rattle.permutations.proofs.Orbits.{orbit-equivalence}
 use Rattle.permutations.proofs.Transpositions.{exchange-join}
-use Rattle.dart_maps.specs.Map.{twin, face, IsMap, same_vertex, same_face, same_component, IsPlane, SameDefect}
+use Rattle.dart_maps.specs.Map.{twin, face, IsMap, same_vertex, same_face, same_component, SameDefect}
 use Rattle.dart_maps.proofs.Components.{component-equivalence, component-twin, vertex-component, face-component}
 use Rattle.dart_maps.proofs.Steps.{back_after, step-map, face-join}
-use Rattle.dart_maps.proofs.Plane.{same-defect-over, same-defect-plane, merge-split-defect, merge-apart-defect}
+use Rattle.dart_maps.proofs.Plane.{same-defect-over, merge-split-defect, merge-apart-defect}
 
 -- a map, corners a and p of two vertices and one face, and corners b and q of one face, in another component
 module _ (m : ℕ) (f g : ℕ → ℕ) (e : IsMap m f g) (a b p q : ℕ) (la : a < 2 * m) (lb : b < 2 * m) (lp : p < 2 * m) (lq : q < 2 * m) (apart : same_component m f a b ≡ false) (vertices : same_vertex m f a p ≡ false) (near : same_face m f (twin a) (twin p) ≡ true) (far : same_face m f (twin b) (twin q) ≡ true) where
@@ -51,11 +51,3 @@ module _ (m : ℕ) (f g : ℕ → ℕ) (e : IsMap m f g) (a b p q : ℕ) (la : a
   -- gluing keeps the defect
   pub glue-corners-defect : SameDefect m f (exchange p q (exchange a b f))
   glue-corners-defect = same-defect-over m f (exchange a b f) (exchange p q (exchange a b f)) (merge-apart-defect m f g e a b la lb apart) (merge-split-defect m (exchange a b f) (back_after a b g) once-map p q lp lq once-vertices once-faces)
-
-  -- so what comes of a plane map is plane
-  pub glue-corners-plane : IsPlane m f → IsPlane m (exchange p q (exchange a b f))
-  glue-corners-plane h = same-defect-plane m f (exchange p q (exchange a b f)) glue-corners-defect h
-
-  -- and it is a map
-  pub glue-corners-map : IsMap m (exchange p q (exchange a b f)) (back_after p q (back_after a b g))
-  glue-corners-map = step-map m (exchange a b f) (back_after a b g) once-map p q lp lq

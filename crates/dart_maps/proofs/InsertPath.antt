@@ -39,7 +39,7 @@ fresh-away m p d f (e ∷ path) a c h = (
 )
 
 -- a list that avoids an edge avoids it by each of its darts
-avoids-twin : (d : ℕ) (path : List ℕ) → Avoids d path → Avoids (twin d) path
+pub avoids-twin : (d : ℕ) (path : List ℕ) → Avoids d path → Avoids (twin d) path
 avoids-twin d [] a = tt
 avoids-twin d (p ∷ path) a = (λ i. a.0 (i ∙ twin-edge d), avoids-twin d path a.1)
 

@@ -13,6 +13,7 @@ pub mod Noncrossing
 pub mod LinkNoncrossing
 pub mod Glue
 pub mod Renumber
+pub mod CarriedMaps
 pub mod Bond
 pub mod TurnOver
 pub mod FlipCounts
@@ -27,4 +28,3 @@ pub mod Rounds
 pub mod InsertPath
 pub mod SmoothPaths
 pub mod Parts
-pub mod OneMore

@@ -66,10 +66,6 @@ module _ (m : ℕ) (f g : ℕ → ℕ) (e : IsMap m f g) (p : IsPlane m f) (d : 
   abbrev at : ℕ → Bool
   at z = same_vertex m f d z || same_vertex m f (twin d) z
 
-  -- one of the six darts
-  abbrev six : ℕ → Bool
-  six z = one_of_three d a b z || one_of_three (twin d) x y z
-
   -- the darts that stay: the six, and all of other vertices
   abbrev keep : ℕ → Bool
   keep z = not (same_vertex m f d z || same_vertex m f (twin d) z) || (one_of_three d a b z || one_of_three (twin d) x y z)

@@ -2,8 +2,7 @@
 use Rattle.std.proofs.Common.{◌≡◌, ℕ, suc, ◌*◌, ◌<◌, inl, inr, Bool, true, false, not, ◌||◌, refl, sym, ap, ◌∙◌, subst}
 use Rattle.std.proofs.lemmas.Bool.{cases_Bool, both_ways, false_from_ne_true}
 use Rattle.permutations.specs.Relation.{IsEquivalence}
-use Rattle.permutations.specs.Permutation.{Permutes, iterate}
-use Rattle.permutations.proofs.Permutations.{permutes-one-to-one}
+use Rattle.permutations.specs.Permutation.{iterate}
 use Rattle.permutations.proofs.Orbits.{orbit-equivalence, orbit-step}
 use Rattle.dart_maps.specs.Map.{IsMap, same_vertex, IsPlane}
 use Rattle.permutations.specs.Exchange.{restricted}
@@ -46,14 +45,6 @@ module _ (m : ℕ) (f g : ℕ → ℕ) (e : IsMap m f g) (p : IsPlane m f) (a b 
   -- the four darts alone, looked at round the vertex
   abbrev four : ℕ → ℕ
   four = restricted (2 * m) (one_of_four a b c d) f
-
-  -- it is a permutation
-  four-permutes : Permutes (2 * m) (restricted (2 * m) (one_of_four a b c d) f) (restricted (2 * m) (one_of_four a b c d) g)
-  four-permutes = restricted-permutes (2 * m) (one_of_four a b c d) f g e
-
-  -- so numbers with one image are one
-  same-image : (x y u v : ℕ) → x < 2 * m → y < 2 * m → four x ≡ u → four y ≡ v → u ≡ v → x ≡ y
-  same-image x y u v l k i j q = permutes-one-to-one (2 * m) four (restricted (2 * m) (one_of_four a b c d) g) four-permutes x y l k (i ∙ q ∙ sym j)
 
   -- the four are different
   ab : a ≡ b → ⊥

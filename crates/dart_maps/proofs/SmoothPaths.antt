@@ -2,10 +2,10 @@
 use Rattle.std.proofs.Common.{◌≡◌, ℕ, ◌/◌, inl, inr, false, List, [], ◌∷◌, refl, sym, ap, ◌∙◌}
 use Rattle.std.proofs.lemmas.Bool.{cases_eq}
 use Rattle.dart_maps.specs.Map.{twin, IsMap, IsPlane, SameDefect}
-use Rattle.dart_maps.proofs.Darts.{twin-edge}
 use Rattle.dart_maps.specs.Path.{IsThin, Avoids, IsThinPath, path_end, on_path, smoothed, AllAvoid, ApartFrom, AreThinPaths, all_smoothed}
 use Rattle.dart_maps.proofs.Plane.{same-defect-over, same-defect-plane, same-defect-back}
 use Rattle.dart_maps.proofs.Smooth.{smoothed-end, smoothed-other, smooth-path, end-apart, avoids-off}
+use Rattle.dart_maps.proofs.InsertPath.{avoids-twin}
 
 -- a dart whose edge a path and the dart before it avoid: it is not on the path, not that dart, and not the path's end
 off-path : (x c : ℕ) (path : List ℕ) → Avoids x (c ∷ path) → (on_path x path ≡ false) × (x ≡ c → ⊥) × (x ≡ path_end c path → ⊥)
@@ -15,20 +15,15 @@ off-path x c path a = (avoids-off x x path a.1 refl, λ e. a.0 (ap (λ (z : ℕ)
 smooth-away : (x y c : ℕ) (path : List ℕ) (f : ℕ → ℕ) → Avoids x (c ∷ path) → Avoids y (c ∷ path) → f x ≡ y → smoothed c path f x ≡ y
 smooth-away x y c path f a i e = let o = off-path x c path a in let n = off-path y c path i in smoothed-other c path f x o.0 o.1 (λ j. n.2 (sym e ∙ j)) ∙ e
 
--- the twin of a dart avoids what the dart avoids
-avoids-its-twin : (d : ℕ) (path : List ℕ) → Avoids d path → Avoids (twin d) path
-avoids-its-twin d [] a = tt
-avoids-its-twin d (p ∷ path) a = (λ i. a.0 (i ∙ twin-edge d), avoids-its-twin d path a.1)
-
 -- a thin path without common edges stays thin
 thin-stays : (c : ℕ) (path : List ℕ) (f : ℕ → ℕ) (b : ℕ) (other : List ℕ) → AllAvoid (b ∷ other) (c ∷ path) → IsThin f b other → IsThin (smoothed c path f) b other
 thin-stays c path f b [] a t = tt
-thin-stays c path f b (p ∷ other) a t = (smooth-away b p c path f a.0 a.1.0 t.0, smooth-away p b c path f a.1.0 a.0 t.1, thin-stays c path f (twin p) other (avoids-its-twin p (c ∷ path) a.1.0, a.1.1) t.2)
+thin-stays c path f b (p ∷ other) a t = (smooth-away b p c path f a.0 a.1.0 t.0, smooth-away p b c path f a.1.0 a.0 t.1, thin-stays c path f (twin p) other (avoids-twin p (c ∷ path) a.1.0, a.1.1) t.2)
 
 -- its end too has no edge in common
 end-avoids : (b : ℕ) (other l : List ℕ) → AllAvoid (b ∷ other) l → Avoids (path_end b other) l
 end-avoids b [] l a = a.0
-end-avoids b (p ∷ other) l a = end-avoids (twin p) other l (avoids-its-twin p l a.1.0, a.1.1)
+end-avoids b (p ∷ other) l a = end-avoids (twin p) other l (avoids-twin p l a.1.0, a.1.1)
 
 -- so it stays a thin path
 pub thin-path-stays : (m c : ℕ) (path : List ℕ) (f : ℕ → ℕ) (b : ℕ) (other : List ℕ) → AllAvoid (b ∷ other) (c ∷ path) → IsThinPath m f b other → IsThinPath m (smoothed c path f) b other

@@ -26,14 +26,13 @@
 //   ContractComponents contracted-component: what is connected stays so
 //   Smooth       smooth-path, smooth-plane, smooth-plane-back, smoothed-start, smoothed-end, smoothed-other
 //   SmoothPaths  smooth-paths, smooth-paths-plane, smooth-paths-plane-back, thin-path-stays: several paths
-//   Glue         glue-plane, glued-map, glued-vertex: the two-sum; GlueCorners glue-corners-defect, glue-corners-plane
+//   Glue         glue-plane, glued-map: the two-sum; GlueCorners glue-corners-defect
 //   Mirror       mirror-counts, mirror-plane
 //   Renumber     renumber-plane, renumber-plane-back, paired-count: a map within another
 //   FourDarts    four-darts, frozen-here, frozen-elsewhere: the core of noncrossing, at a vertex of four darts
 //   Noncrossing  noncrossing, restricted-vertex, restricted-more; LinkNoncrossing link-noncrossing, turn-at
 //   Bond         bond-plane, bond-plane-back, involution-count, pairs-involution
-//   TurnOver     turned-faces, turned-orbit; Flip flip-vertex, flip-faces, flip-component, flip-defect; FlipOne one-faces
-//   OneMore      one-more-behind, one-more-alone: a restriction with one dart more
+//   TurnOver     turned-faces; Flip flip-vertex, flip-faces, flip-component, flip-defect; FlipOne one-faces
 //   Rounds       ring-in-order, ring-in-turn: the order round a vertex, from its ring as a list
 #![tactic(auto)]
 

@@ -1,18 +1,13 @@
 -- The move of a node, one node after the other.
-use Rattle.std.proofs.Common.{◌≡◌, ◌≢◌, ℕ, ◌+◌, ◌<◌, Bool, true, false, not, cond, ◌&&◌, List, [], ◌++◌, length, refl, sym, ap, ap₂, ◌∙◌, subst, add-one}
+use Rattle.std.proofs.Common.{◌≡◌, ◌≢◌, ℕ, ◌+◌, ◌<◌, Bool, true, false, not, cond, ◌&&◌, List, [], ◌++◌, length, refl, sym, ap, ap₂, ◌∙◌, add-one}
 use Rattle.std.proofs.lemmas.Bool.{both_ways, false_from_ne_true}
 use Rattle.pair_split.specs.Tutte.{Node, node_at, is_before}
 use Rattle.skeletons.specs.Choices.{choice}
 use Rattle.skeletons.specs.Moves.{Move, moved_node, is_same, move_of_kind, move_at, moves_below, moves_between}
-use Rattle.skeletons.proofs.Before.{before-irreflexive, before-total}
-use Rattle.skeletons.proofs.Leading.{moves-name}
+use Rattle.skeletons.proofs.Before.{before-total}
+use Rattle.skeletons.proofs.Leading.{moves-name, is-same}
 use Rattle.std.proofs.lemmas.List.Elements.{All-weaker}
 use Rattle.embed_convert.specs.Laws.{MovesKeepLocks}
-
--- the test of two lists
-pub same-yes : (c d : List ℕ) → c ≡ d → is_same c d ≡ true
-same-yes c d e = subst (λ (z : List ℕ). is_same c z ≡ true) e
-    (ap (λ z. not z && not z) (false_from_ne_true (is_before c c) (before-irreflexive c)))
 
 pub same-no : (c d : List ℕ) → c ≢ d → is_same c d ≡ false
 same-no c d n = false_from_ne_true (is_same c d) (λ y. n (told (is_before c d) (is_before d c) refl refl y))
@@ -24,7 +19,7 @@ same-no c d n = false_from_ne_true (is_same c d) (λ y. n (told (is_before c d) 
 
 -- the move of a node at which the choices agree, and differ
 pub no-move : (nodes : List Node) (r q : List (List ℕ)) (k : ℕ) → choice nodes r k ≡ choice nodes q k → move_at nodes r q k ≡ []
-no-move nodes r q k e = ap (λ z. cond z [] (move_of_kind (node_at nodes k).kind k (choice nodes q k))) (same-yes (choice nodes r k) (choice nodes q k) e)
+no-move nodes r q k e = ap (λ z. cond z [] (move_of_kind (node_at nodes k).kind k (choice nodes q k))) (is-same (choice nodes r k) (choice nodes q k) e)
 
 pub some-move : (nodes : List Node) (r q : List (List ℕ)) (k : ℕ) → choice nodes r k ≢ choice nodes q k → move_at nodes r q k ≡ move_of_kind (node_at nodes k).kind k (choice nodes q k)
 some-move nodes r q k n = ap (λ z. cond z [] (move_of_kind (node_at nodes k).kind k (choice nodes q k))) (same-no (choice nodes r k) (choice nodes q k) n)

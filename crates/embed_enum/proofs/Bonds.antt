@@ -28,8 +28,8 @@ use Rattle.skeleton_choices.proofs.Told.{possible}
 use Rattle.skeleton_choices.proofs.Listed.{choice-normal, bond-keys_cut, rise}
 use Rattle.skel_embed.specs.Block.{BlockState, IsBlockState}
 use Rattle.skel_embed.specs.Exchanges.{other_of, exchanged}
+use Rattle.skel_embed.proofs.ExchangeSteps.{other-first, other-none}
 use Rattle.embed_enum.specs.Changes.{KeepsOthers}
-use Rattle.embed_enum.proofs.Swaps.{other-first, other-none}
 use Rattle.embed_enum.proofs.Placed.{placed, placed-all, placed-swap}
 
 -- the choice c has the keys of a bond, the first of them first

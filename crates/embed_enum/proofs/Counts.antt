@@ -36,11 +36,6 @@ orders-grow m (suc n) l = elim (cases_eq m (suc n)) [
   | inr d ↦ omega (arith, orders-grow m n (omega (arith, l, d)), orders-step n)
 ]
 
--- those of n + 1 items
-pub orders-factorial : (n : ℕ) → cyclic_orders (suc n) ≡ factorial n
-orders-factorial zero = refl
-orders-factorial (suc n) = ap (λ z. (n + 1) * z) (orders-factorial n)
-
 -- each node has a choice
 pub radix-positive : (nodes : List Node) (locked : ℕ → Bool) (k : ℕ) → 0 < radix_at nodes locked k
 radix-positive nodes locked k = by_lock (locked k)

@@ -15,12 +15,11 @@ use Rattle.skeletons.specs.Items.{item_key, node_keys}
 use Rattle.skeletons.specs.Choices.{choice}
 use Rattle.skeletons.specs.Lists.{cyclic_orders, choice_count}
 use Rattle.skeletons.specs.Moves.{IsNodeOfKind}
-use Rattle.skeleton_choices.proofs.Listed.{choice-normal}
+use Rattle.skeleton_choices.proofs.Listed.{choice-normal, orders-factorial}
 use Rattle.skel_embed.specs.Block.{BlockState, IsBlockState}
 use Rattle.embed_enum.specs.Digits.{rigid_digit, digit_of}
 use Rattle.embed_enum.specs.Changes.{KeepsOthers, node_digit}
 use Rattle.embed_enum.proofs.Ranks.{last-apart}
-use Rattle.embed_enum.proofs.Counts.{orders-factorial}
 use Rattle.embed_enum.proofs.States.{rigid-long}
 use Rattle.embed_enum.proofs.Bonds.{IsBondOf, bond-of, bond-long, bond-some, bond-last, bond-sorted}
 

@@ -17,8 +17,8 @@ use Rattle.skeleton_runs.proofs.Contiguous.{plane-contiguous}
 use Rattle.skeleton_choices.proofs.Listed.{choice-normal, mirror-same}
 use Rattle.skel_embed.specs.Block.{BlockState, IsBlockState}
 use Rattle.skel_embed.specs.Exchanges.{other_of, exchanged}
+use Rattle.skel_embed.proofs.ExchangeSteps.{other-first, other-second, other-none}
 use Rattle.embed_enum.specs.Changes.{KeepsOthers, IsChosen}
-use Rattle.embed_enum.proofs.Swaps.{other-first, other-second, other-none}
 use Rattle.embed_enum.proofs.Bonds.{IsBondOf, bond-of, bond-behind}
 
 -- a block whose rotation system and choices alone changed

@@ -9,6 +9,7 @@ use Rattle.permutations.proofs.Members.{member-head, member-tail, member-cases}
 use Rattle.permutations.proofs.Arrangements.{permutation-member, permutation-distinct, member-at}
 use Rattle.permutations.proofs.NormalForm.{from_least-same}
 use Rattle.permutations.proofs.Turned.{IsTurn-permutation}
+use Rattle.permutations.proofs.Places.{told-distinct}
 use Rattle.multigraph.proofs.Places.{rises-once}
 use Rattle.rotations.proofs.Arrangements.{permutation-from_members}
 use Rattle.pair_split.specs.Tutte.{node_at}
@@ -18,7 +19,6 @@ use Rattle.skeletons.specs.Items.{item_key, node_keys, least_vertex}
 use Rattle.skeletons.specs.Choices.{choice}
 use Rattle.skeletons.specs.Moves.{permute, IsNodeOfKind, PermuteLeads}
 use Rattle.skeletons.proofs.NodeItems.{edge-item}
-use Rattle.skeletons.proofs.Rearranged.{distinct-places}
 use Rattle.skeletons.proofs.Vertices.{least-has}
 use Rattle.skeletons.proofs.Moved.{move-others, permute-sets}
 use Rattle.skeleton_runs.proofs.Contiguous.{plane-contiguous}
@@ -158,15 +158,11 @@ choice-some s is k node =
 
 -- its keys differ
 pub keys-differ : (s : BlockState) → IsBlockState s → (k : ℕ) → k < length s.tree → is_distinct (node_keys s.tree k) ≡ true
-keys-differ s is k l = distinct-places (node_keys s.tree k) (rises-once (node_keys s.tree k) (is.block.tree.in_order.keys_rise k l))
+keys-differ s is k l = told-distinct (node_keys s.tree k) (rises-once (node_keys s.tree k) (is.block.tree.in_order.keys_rise k l))
 
 -- as many keys, and each of the node's among them
 pub arrangement-is : (own keys : List ℕ) → is_distinct own ≡ true → length own ≡ length keys → ((x : ℕ) → is_member x own ≡ true → is_member x keys ≡ true) → IsPermutation own keys
 arrangement-is own keys d l m = IsPermutation-sym keys own (permutation-from_members own keys d m l)
-
--- an arrangement has every key
-pub arrangement-has : (own keys : List ℕ) (x : ℕ) → IsPermutation own keys → is_member x own ≡ true → is_member x keys ≡ true
-arrangement-has own keys x p m = permutation-member own keys x p ∙ m
 
 -- one item's key more is among the keys
 pub keys-more : (items : List Item) (keys : List ℕ) (i : ℕ) (d : Item) → i < length items → ((x : ℕ) → is_member x (map item_key (take i items)) ≡ true → is_member x keys ≡ true) → is_member (item_key (slice_index_or items i d)) keys ≡ true

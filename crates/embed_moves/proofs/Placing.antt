@@ -1,6 +1,6 @@
 -- Keys brought into their places one after the other, by exchanges.
 use Rattle.std.proofs.Common.{◌≡◌, ℕ, zero, suc, ◌+◌, ◌-◌, ◌<◌, ◌≤◌, true, List, [], ◌∷◌, ◌++◌, length, take, drop, slice_index_or, refl, sym, ap, ◌∙◌, subst, arith}
-use Rattle.std.proofs.lemmas.List.{length-map, take-map, take_all, get_or-map, get_or-take, get_or-append_right, length-drop}
+use Rattle.std.proofs.lemmas.List.{length-map, take-map, take_all, get_or-map}
 use Rattle.permutations.specs.Cyclic.{first_or, from_least, turned, IsTurn}
 use Rattle.permutations.specs.Members.{is_member, is_distinct}
 use Rattle.permutations.proofs.Arrangements.{member-at}
@@ -85,6 +85,3 @@ module _ (keys : List ℕ) (place key : ℕ) (s : StandsAt keys place key) where
 
   pub target-first : (t : List ℕ) → t ≡ target → slice_index_or t 0 0 ≡ key
   target-first t e = ap (λ (z : List ℕ). slice_index_or z 0 0) (e ∙ ap (λ (z : List ℕ). z ++ take place keys) (ap (λ (z : List ℕ). drop place z) s.is ∙ drop-front s.front (key ∷ s.back) place s.before))
-
-pub key-behind : (keys : List ℕ) (place i : ℕ) → place < length keys → i < length keys → length keys - place ≤ i → slice_index_or keys (i - (length keys - place)) 0 ≡ slice_index_or (drop place keys ++ take place keys) i 0
-key-behind keys place i h k l = sym (get_or-append_right (drop place keys) (take place keys) (length keys - place) i 0 (length-drop place keys) l ∙ get_or-take place keys (i - (length keys - place)) 0 (omega (arith, h, k, l)))

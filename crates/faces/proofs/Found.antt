@@ -1,5 +1,5 @@
 -- Going up the numbers, with a mark on each that a smaller one is related to: those met unmarked lead their classes.
-use Rattle.std.proofs.Common.{◌≡◌, ℕ, zero, suc, ◌+◌, ◌<◌, ◌≤◌, Bool, true, false, not, ◌||◌, List, replicate, refl, sym, ap, ◌∙◌, inl, inr, arith}
+use Rattle.std.proofs.Common.{◌≡◌, ℕ, ◌+◌, ◌<◌, ◌≤◌, Bool, true, false, not, ◌||◌, List, sym, ap, ◌∙◌, inl, inr, arith}
 use Rattle.std.proofs.Math.Bool.{or-false}
 use Rattle.std.proofs.lemmas.Bool.{cases_Bool}
 use Rattle.permutations.specs.Count.{count, some}
@@ -12,16 +12,6 @@ use Rattle.multigraph.specs.Marks.{is_marked}
 pub record FoundBelow (r : ℕ → ℕ → Bool) (d : ℕ) (marks : List Bool) (classes : ℕ) : Type 0 where
   pub marked : (x : ℕ) → is_marked marks x ≡ some d (λ y. r y x)
   pub counted : classes ≡ count d (leads r)
-
--- nothing is marked in a list of false
-pub unmarked-replicate : (n x : ℕ) → is_marked (replicate n false) x ≡ false
-unmarked-replicate zero x = refl
-unmarked-replicate (suc n) zero = refl
-unmarked-replicate (suc n) (suc x) = unmarked-replicate n x
-
--- at first
-pub found-none : (r : ℕ → ℕ → Bool) (marks : List Bool) → ((x : ℕ) → is_marked marks x ≡ false) → FoundBelow r 0 marks 0
-found-none r marks e = record { marked = e; counted = refl }
 
 -- a marked number adds nothing
 pub found-skip : (r : ℕ → ℕ → Bool) (d : ℕ) (marks : List Bool) (classes : ℕ) → ((y x : ℕ) → y < d → r y d ≡ true → r d x ≡ true → r y x ≡ true)

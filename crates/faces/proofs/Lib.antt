@@ -14,6 +14,7 @@ pub mod Order
 pub mod Listed
 pub mod MapSteps
 pub mod MapVertices
+pub mod RestrictedConnection
 pub mod MapCounts
 pub mod MapMirror
 pub mod MapCorners

@@ -4,7 +4,7 @@ use Rattle.std.proofs.Common.{◌≡◌, ℕ, zero, suc, ◌+◌, ◌/◌, ◌<�
 use Rattle.std.specs.List.{All}
 use Rattle.std.proofs.Math.Bool.{or-false}
 use Rattle.std.proofs.lemmas.Bool.{cases_Bool, cases_order, and_parts}
-use Rattle.std.proofs.lemmas.List.{map-append, append-nil, take_all, length-map}
+use Rattle.std.proofs.lemmas.List.{map-append, append-nil, length-map}
 use Rattle.std.proofs.lemmas.List.Elements.{filter_more, All-from_get_or, All-head, All-tail}
 use Rattle.std.proofs.lemmas.List.Sums.{length-filter, count_by-le-length}
 use Rattle.permutations.specs.Count.{some}
@@ -108,10 +108,6 @@ listed-more g f order k before now lists pairs ok p o m l e h is = record {
 
     one : filter (is_least g f) (take (k + 1) order) ≡ filter (is_least g f) (take k order) ++ get_or order k 0 ∷ []
     one = filter_more (is_least g f) order k 0 l ∙ ap (λ b. filter (is_least g f) (take k order) ++ cond b (get_or order k 0 ∷ []) []) first
-
--- after the last dart all orbits are listed
-pub listed-all : (g : Multigraph) (f : ℕ → ℕ) (order : List ℕ) (k : ℕ) (marks : List Bool) (lists : List (List (ℕ × ℕ))) → order ≡ darts_in_order g → ListedBelow g f order k marks lists → length order ≤ k → lists ≡ orbit_lists g f
-listed-all g f order k marks lists e m l = m.listed ∙ ap (λ ds. map (orbit_pairs g f) (filter (is_least g f) ds)) (take_all k order l ∙ e)
 
 -- there are at most as many as darts
 pub lists-few : (g : Multigraph) (f : ℕ → ℕ) → IsGraph g → IsWithinLimits g → length (orbit_lists g f) ≤ 100000

@@ -11,11 +11,6 @@ use Rattle.multigraph.specs.Marks.{is_marked}
 use Rattle.faces.specs.Search.{LooksAlong, leads_to}
 use Rattle.faces.proofs.Walk.{marked-set, unmarked-less}
 
--- nothing is both
-pub and_not : (b : Bool) → (b && not b) ≡ false
-and_not true = refl
-and_not false = refl
-
 -- a mark on x reads true at x, and nothing changes elsewhere
 pub marked-here : (marks : List Bool) (x : ℕ) → x < length marks → is_marked (set marks x true) x ≡ true
 marked-here marks x l = marked-set marks x x l ∙ ap (λ b. is_marked marks x || b) (eq-eqb x x refl) ∙ or-true (is_marked marks x)
@@ -34,14 +29,6 @@ member-last x stack = member-push x x stack ∙ ap (λ b. is_member x stack || b
 -- one edge more leads to where it leads
 pub leads_to-more : (g : Multigraph) (v k x : ℕ) → leads_to g v (k + 1) x ≡ (leads_to g v k x || (other_end g (slice_index (incident_edges g v) k) v == x))
 leads_to-more g v k x = some-more k (λ i. other_end g (slice_index (incident_edges g v) i) v == x)
-
--- before the first edge
-pub looks-none : (g : Multigraph) (v : ℕ) (marks : List Bool) (stack : List ℕ) → LooksAlong g v 0 marks stack marks stack
-looks-none g v marks stack = record {
-  marked = λ x. sym (or-false (is_marked marks x));
-  waits = λ x. sym (ap (λ b. is_member x stack || b) (and_not (is_marked marks x)) ∙ or-false (is_member x stack));
-  rest = refl;
-}
 
 -- an edge that leads to a marked vertex changes nothing
 pub looks-skip : (g : Multigraph) (v k y : ℕ) (marks : List Bool) (stack : List ℕ) (new_marks : List Bool) (new_stack : List ℕ)

@@ -1,34 +1,10 @@
 -- Cyclic orders under other numbers.
-use Rattle.std.proofs.Common.{◌≡◌, ℕ, ◌≤◌, inl, inr, Bool, true, false, ◌==◌, List, [], ◌∷◌, map, filter, refl, sym, ap, ap₂, ◌∙◌, subst, arith}
-use Rattle.std.proofs.lemmas.Bool.{cases_Bool, cases_eq, eq-eqb, ne_eqb, both_ways, false_from_ne_true}
-use Rattle.permutations.specs.Members.{is_member, is_distinct}
+use Rattle.std.proofs.Common.{◌≡◌, ℕ, ◌≤◌, inl, inr, Bool, true, false, ◌==◌, List, [], ◌∷◌, map, filter, refl, sym, ap, ap₂, ◌∙◌, arith}
+use Rattle.std.proofs.lemmas.Bool.{cases_Bool, cases_eq, eq-eqb, ne_eqb, both_ways}
+use Rattle.permutations.specs.Members.{is_member}
 use Rattle.permutations.specs.Cyclic.{first_or, successor_from, successor}
-use Rattle.permutations.proofs.Members.{member-head, member-tail, member-cases, distinct-head, distinct-tail, distinct-cons}
+use Rattle.permutations.proofs.Members.{member-head, member-tail}
 use Rattle.permutations.proofs.Filter.{filter-yes, filter-no}
-
--- a member's value is among the values
-pub member-map : (f : ℕ → ℕ) (l : List ℕ) (z : ℕ) → is_member z l ≡ true → is_member (f z) (map f l) ≡ true
-member-map f [] z m = absurd (both_ways false refl m)
-member-map f (x ∷ xs) z m = elim (member-cases z x xs m) [
-  | inl e ↦ subst (λ k. is_member (f k) (map f (x ∷ xs)) ≡ true) e (member-head (f x) (map f xs))
-  | inr n ↦ member-tail (f z) (f x) (map f xs) (member-map f xs z n)
-]
-
--- each of the values is that of a member
-pub map-member : (f : ℕ → ℕ) (l : List ℕ) (y : ℕ) → is_member y (map f l) ≡ true → (z : ℕ) × (is_member z l ≡ true) × (f z ≡ y)
-map-member f [] y m = absurd (both_ways false refl m)
-map-member f (x ∷ xs) y m = elim (member-cases y (f x) (map f xs) m) [
-  | inl e ↦ (x, member-head x xs, e)
-  | inr n ↦ let w = map-member f xs y n in (w.0, member-tail w.0 x xs w.1, w.2)
-]
-
--- different members with different values give a list without repetition
-pub distinct-map : (f : ℕ → ℕ) (l : List ℕ) → ((y z : ℕ) → is_member y l ≡ true → is_member z l ≡ true → f y ≡ f z → y ≡ z) → is_distinct l ≡ true → is_distinct (map f l) ≡ true
-distinct-map f [] one d = refl
-distinct-map f (x ∷ xs) one d = distinct-cons (f x) (map f xs)
-    (false_from_ne_true (is_member (f x) (map f xs)) (λ t. let w = map-member f xs (f x) t in
-    both_ways (is_member x xs) (distinct-head x xs d) (subst (λ z. is_member z xs ≡ true) (one w.0 x (member-tail w.0 x xs w.1) (member-head x xs) w.2) w.1)))
-    (distinct-map f xs (λ y z m n. one y z (member-tail y x xs m) (member-tail z x xs n)) (distinct-tail x xs d))
 
 -- the first value is that of the first member
 first-map : (f : ℕ → ℕ) (start : ℕ) (l : List ℕ) → first_or (f start) (map f l) ≡ f (first_or start l)

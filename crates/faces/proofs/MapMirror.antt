@@ -1,20 +1,17 @@
 -- The mirror image of a rotation system.
-use Rattle.std.proofs.Common.{◌≡◌, ◌≢◌, ℕ, suc, ◌/◌, ◌<◌, ◌≤◌, true, List, [], ◌∷◌, length, reverse, get_or, IsPermutation, refl, sym, ap, ap₂, ◌∙◌, subst, arith, inl, inr}
+use Rattle.std.proofs.Common.{◌≡◌, ◌≢◌, ℕ, suc, ◌/◌, ◌<◌, ◌≤◌, true, List, [], ◌∷◌, length, reverse, get_or, IsPermutation, refl, sym, ap, ap₂, ◌∙◌, subst, arith}
 use Rattle.std.proofs.lemmas.List.{length-map}
 use Rattle.std.proofs.Math.ListN.{get_or-map}
-use Rattle.std.proofs.lemmas.List.Elements.{at_from_Contains}
-use Rattle.std.proofs.lemmas.Bool.{cases_eq}
 use Rattle.permutations.specs.Members.{is_member, is_distinct}
 use Rattle.permutations.specs.Cyclic.{first_or, successor, predecessor, from_least}
 use Rattle.permutations.proofs.Members.{member-tail, no_member-head, no_member-tail, distinct-head, member-reverse, distinct-reverse}
-use Rattle.permutations.proofs.Arrangements.{permutation-member, permutation-distinct, permutation-from_members, length-from_members, contains-from_member}
+use Rattle.permutations.proofs.Arrangements.{permutation-member, permutation-distinct, permutation-from_members, length-from_members}
 use Rattle.permutations.proofs.Successor.{predecessor-successor}
 use Rattle.permutations.proofs.Chains.{successor-next}
-use Rattle.permutations.proofs.NormalForm.{from_least-first, from_least-member, from_least-distinct, mirror-from_least, mirror-successor, mirror-twice}
+use Rattle.permutations.proofs.NormalForm.{from_least-member, from_least-distinct, mirror-from_least, mirror-successor, mirror-twice, written-first}
 use Rattle.multigraph.specs.Graph.{Multigraph, IsGraph, edge_count, incident_edges}
-use Rattle.multigraph.proofs.Incident.{incident-rises}
 use Rattle.rotations.specs.Rotation.{order_at, IsCyclicOrder, IsRotationSystem}
-use Rattle.rotations.proofs.Membership.{incident-distinct}
+use Rattle.rotations.proofs.Membership.{incident-distinct, incident-least}
 use Rattle.dart_maps.proofs.Euler.{counts-ext, plane-ext}
 use Rattle.dart_maps.proofs.Mirror.{mirror-counts, mirror-plane}
 use Rattle.faces.specs.Euler.{tail, dart_from, dart_count, face_count, IsPlane}
@@ -32,20 +29,6 @@ first-at : (l : List ℕ) → first_or 0 l ≡ get_or l 0 0
 first-at [] = refl
 first-at (x ∷ xs) = refl
 
--- the first edge at a vertex is the least
-pub incident-least : (g : Multigraph) (v e : ℕ) → is_member e (incident_edges g v) ≡ true → first_or 0 (incident_edges g v) ≤ e
-incident-least g v e m =
-    let w = at_from_Contains (incident_edges g v) e (contains-from_member (incident_edges g v) e m) in
-    let here : get_or (incident_edges g v) w.0 0 ≡ e = w.2 0 in
-    elim (cases_eq w.0 0) [
-      | inl z ↦
-          let first : get_or (incident_edges g v) 0 0 ≡ e = ap (λ k. get_or (incident_edges g v) k 0) (sym z) ∙ here in
-          omega (arith, first-at (incident_edges g v), first)
-      | inr n ↦
-          let rises : get_or (incident_edges g v) 0 0 < get_or (incident_edges g v) w.0 0 = incident-rises g v 0 w.0 0 (omega (arith, n)) w.1 in
-          omega (arith, first-at (incident_edges g v), here, rises)
-    ]
-
 -- so is the first edge round it
 pub order-least : (g : Multigraph) (r : List (List ℕ)) (v : ℕ) → IsRotationSystem g r → v < g.vertex_count → (e : ℕ) → is_member e (order_at r v) ≡ true → first_or 0 (order_at r v) ≤ e
 order-least g r v s l e m = omega (arith, (s.orders v l).least_first, incident-least g v e (member-incident g r v e s l m))
@@ -54,11 +37,6 @@ order-least g r v s l e m = omega (arith, (s.orders v l).least_first, incident-l
 mirror-first : (l : List ℕ) → is_distinct l ≡ true → ((e : ℕ) → is_member e l ≡ true → first_or 0 l ≤ e) → first_or 0 (from_least (reverse l)) ≡ first_or 0 l
 mirror-first [] d h = refl
 mirror-first (x ∷ xs) d h = ap (first_or 0) (mirror-from_least x xs d (λ z m. h z (member-tail z x xs m)))
-
--- a cyclic order that begins with its least edge is written as it should be
-written-first : (l : List ℕ) → ((e : ℕ) → is_member e l ≡ true → first_or 0 l ≤ e) → from_least l ≡ l
-written-first [] h = refl
-written-first (x ∷ xs) h = from_least-first x xs (λ z m. h z (member-tail z x xs m))
 
 -- the mirror holds the same edges
 mirror-arranged : (edges l : List ℕ) → is_distinct edges ≡ true → IsPermutation edges l → IsPermutation edges (from_least (reverse l))

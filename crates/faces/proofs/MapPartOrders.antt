@@ -8,15 +8,15 @@ use Rattle.permutations.proofs.Arrangements.{permutation-from_members}
 use Rattle.permutations.proofs.Filter.{member-filter_parts, filter-member, distinct-filter}
 use Rattle.permutations.proofs.Turned.{IsTurn-map, IsTurn-same}
 use Rattle.permutations.proofs.NormalForm.{least_or-le, from_least-turn, from_least-first_or, from_least-member, from_least-distinct}
+use Rattle.permutations.proofs.Mapped.{map-member, member-map, distinct-map}
 use Rattle.multigraph.specs.Graph.{Multigraph, IsGraph, edge_count, ends_of, is_end, numbers_below, incident_edges}
 use Rattle.multigraph.proofs.Below.{length-numbers_below, get_or-numbers_below}
 use Rattle.multigraph.proofs.OtherEnd.{is_end-cases, is_end-from_first, is_end-from_second}
 use Rattle.rotations.specs.Rotation.{order_at, IsCyclicOrder, IsRotationSystem}
-use Rattle.rotations.proofs.Membership.{incident-distinct, incident-member, member-edge, member-end}
+use Rattle.rotations.proofs.Membership.{incident-distinct, incident-member, member-edge, member-end, incident-least}
 use Rattle.faces.specs.Subgraph.{IsSubgraph, is_kept, IsRestriction}
 use Rattle.faces.proofs.DartLemmas.{order-distinct, order-member, member-incident}
-use Rattle.faces.proofs.MapMirror.{incident-least}
-use Rattle.faces.proofs.MapLists.{member-map, map-member, distinct-map, map-back, first-same}
+use Rattle.faces.proofs.MapLists.{map-back, first-same}
 use Rattle.faces.proofs.MapParts.{place, edge-kept, place-edge, edge-place}
 
 -- the first of a cyclic order in normal form is the least

@@ -10,6 +10,7 @@ use Rattle.permutations.proofs.Successor.{successor-member}
 use Rattle.permutations.proofs.Filter.{member-filter_parts, distinct-filter}
 use Rattle.permutations.proofs.Turned.{IsTurn-member, IsTurn-successor}
 use Rattle.permutations.proofs.Restriction.{restricted-alone, restricted-permutes}
+use Rattle.permutations.proofs.Mapped.{member-map}
 use Rattle.multigraph.specs.Graph.{Multigraph, IsGraph, edge_count, ends_of}
 use Rattle.rotations.specs.Rotation.{order_at, IsRotationSystem}
 use Rattle.rotations.proofs.Membership.{member-edge}
@@ -25,7 +26,7 @@ use Rattle.faces.proofs.DartLemmas.{dart-edge, dart_from-first, dart_from-second
 use Rattle.faces.proofs.MapSteps.{tail-in, map-permutes}
 use Rattle.faces.proofs.MapVertices.{tail-order}
 use Rattle.faces.proofs.MapCounts.{plane-map, map-plane}
-use Rattle.faces.proofs.MapLists.{member-map, successor-map}
+use Rattle.faces.proofs.MapLists.{successor-map}
 use Rattle.faces.proofs.MapRestricted.{restricted-order}
 
 -- the number in the part of an edge of g

@@ -11,6 +11,7 @@ use Rattle.permutations.proofs.TakenOut.{taken-out-permutes}
 use Rattle.permutations.proofs.Restriction.{restricted-taken-out}
 use Rattle.permutations.proofs.Rings.{ring-itself, ring-successor, ring-from_list}
 use Rattle.permutations.proofs.Removal.{ring-taken_out}
+use Rattle.permutations.proofs.Mapped.{map-member, member-map, distinct-map}
 use Rattle.multigraph.specs.Graph.{Multigraph, IsGraph}
 use Rattle.rotations.specs.Rotation.{order_at, IsRotationSystem}
 use Rattle.rotations.proofs.Membership.{member-edge, member-end}
@@ -18,7 +19,7 @@ use Rattle.faces.specs.Euler.{dart_from, dart_count}
 use Rattle.faces.specs.Maps.{dart_after, dart_before}
 use Rattle.faces.proofs.DartLemmas.{dart_from-edge, dart_from-below, order-distinct, member-incident}
 use Rattle.faces.proofs.MapSteps.{after-dart_from, map-permutes}
-use Rattle.faces.proofs.MapLists.{member-map, map-member, distinct-map, successor-map, filter-map}
+use Rattle.faces.proofs.MapLists.{successor-map, filter-map}
 
 -- darts of different edges from one vertex are different
 pub dart_from-once : (g : Multigraph) (w y z : ℕ) → dart_from g w y ≡ dart_from g w z → y ≡ z

@@ -13,18 +13,18 @@ use Rattle.permutations.proofs.Successor.{successor-absent}
 use Rattle.permutations.proofs.CyclicSame.{same-lists}
 use Rattle.permutations.proofs.NormalForm.{from_least-member, from_least-distinct, from_least-successor}
 use Rattle.permutations.proofs.Rings.{ring-distinct, ring-below, ring-successor, ring-member}
+use Rattle.permutations.proofs.Mapped.{map-member, member-map, distinct-map}
 use Rattle.multigraph.specs.Graph.{Multigraph, IsGraph, edge_count, is_end, numbers_below, incident_edges}
 use Rattle.multigraph.proofs.Below.{length-numbers_below, get_or-numbers_below}
 use Rattle.rotations.specs.Rotation.{order_at, IsCyclicOrder, IsRotationSystem}
-use Rattle.rotations.proofs.Membership.{incident-distinct, incident-member, member-edge, member-end}
+use Rattle.rotations.proofs.Membership.{incident-distinct, incident-member, member-edge, member-end, incident-least}
 use Rattle.dart_maps.specs.Map.{IsMap, same_vertex}
 use Rattle.faces.specs.Euler.{tail, dart_from, dart_count, is_isolated}
 use Rattle.faces.specs.Maps.{dart_after}
 use Rattle.faces.proofs.DartLemmas.{dart-edge, tail-end, dart_from-edge, dart_from-below, dart_from-tail, dart_from-of_dart, order-distinct, member-incident}
 use Rattle.faces.proofs.MapSteps.{tail-in, after-dart_from}
 use Rattle.faces.proofs.MapCounts.{end-not_isolated}
-use Rattle.faces.proofs.MapMirror.{incident-least}
-use Rattle.faces.proofs.MapLists.{member-map, map-member, distinct-map, successor-map, first-same}
+use Rattle.faces.proofs.MapLists.{successor-map, first-same}
 use Rattle.faces.proofs.MapRestricted.{dart_from-once}
 use Rattle.faces.proofs.MapPartOrders.{from_least-least}
 

@@ -5,17 +5,17 @@ use Rattle.permutations.specs.Members.{is_member}
 use Rattle.permutations.specs.Cyclic.{successor}
 use Rattle.permutations.specs.Relation.{IsEquivalence}
 use Rattle.permutations.specs.Permutation.{reaches, same_orbit}
-use Rattle.permutations.proofs.Members.{member-head, member-tail, distinct-head}
+use Rattle.permutations.proofs.Members.{member-tail, distinct-head}
 use Rattle.permutations.proofs.Orbits.{orbit-equivalence, orbit-step, orbit-ext}
 use Rattle.permutations.proofs.Iterates.{orbit-reaches}
 use Rattle.permutations.proofs.Chains.{chain-test}
 use Rattle.multigraph.specs.Graph.{Multigraph, IsGraph, edge_count, is_end, other_end}
-use Rattle.multigraph.proofs.OtherEnd.{other_end-is_end}
 use Rattle.rotations.specs.Rotation.{order_at, IsRotationSystem}
-use Rattle.graph_theory.specs.Path.{walk_end, IsCycle}
+use Rattle.graph_theory.specs.Path.{IsCycle}
 use Rattle.graph_theory.specs.Block.{CommonCycle, SameBlock, EdgesShareBlock}
 use Rattle.graph_theory.proofs.Walks.{walk-edge}
 use Rattle.graph_theory.proofs.Cycles.{BegunAt, cycle_from}
+use Rattle.graph_theory.proofs.Crossings.{last_edge}
 use Rattle.dart_maps.specs.Map.{twin, face}
 use Rattle.dart_maps.proofs.Darts.{twin-below}
 use Rattle.faces.specs.Euler.{tail, dart_count, face_step, IsPlane}
@@ -24,11 +24,6 @@ use Rattle.faces.proofs.DartLemmas.{dart-edge, tail-end, order-distinct, order-m
 use Rattle.faces.proofs.MapSteps.{tail-in, map-face, after-tail, after-edge, map-permutes}
 use Rattle.faces.proofs.MapBlocks.{cycle-some, cycle-meets, block-one_face}
 
--- the last edge of a walk is at the vertex where the walk ends
-last-edge : (g : Multigraph) (u h : ℕ) (hs : List ℕ) → (f : ℕ) × (is_member f (h ∷ hs) ≡ true) × (is_end g (walk_end g u (h ∷ hs)) f ≡ true)
-last-edge g u h [] = (h, member-head h [], other_end-is_end g h u)
-last-edge g u h (k ∷ ks) = let w = last-edge g (other_end g h u) k ks in (w.0, member-tail w.0 h (k ∷ ks) w.1, w.2)
-
 -- a cycle from v has an edge at v other than e
 cycle-other_edge : (g : Multigraph) (v : ℕ) (es : List ℕ) (e : ℕ) → IsCycle g v es → (f : ℕ) × (f < edge_count g) × (is_end g v f ≡ true) × (f ≢ e)
 cycle-other_edge g v [] e c = absurd (cycle-some g v c)
@@ -36,7 +31,7 @@ cycle-other_edge g v (h ∷ []) e c = absurd (omega (arith, c.two))
 cycle-other_edge g v (h ∷ k ∷ ks) e c = elim (cases_eq h e) [
   | inr n ↦ (h, (c.walk.0).0, (c.walk.0).1, n)
   | inl q ↦
-      let w = last-edge g (other_end g h v) k ks in (
+      let w = last_edge g (other_end g h v) k ks in (
         w.0,
         walk-edge g v (h ∷ k ∷ ks) c.walk w.0 (member-tail w.0 h (k ∷ ks) w.1),
         subst (λ z. is_end g z w.0 ≡ true) c.returns w.2,

@@ -1,10 +1,11 @@
 -- Neighbours: the other ends of the edges at a vertex.
 use Rattle.std.proofs.Common.{◌≡◌, ℕ, ◌<◌, Bool, true, ◌==◌, List, length, get_or, slice_index, inl, inr, refl, sym, ap, ◌∙◌, subst}
 use Rattle.std.proofs.lemmas.Bool.{eq-eqb, eqb-true}
-use Rattle.std.proofs.lemmas.List.Elements.{Contains-get_or, at_from_Contains, All-from_get_or}
+use Rattle.std.proofs.lemmas.List.Elements.{at_from_Contains, All-from_get_or}
 use Rattle.permutations.specs.Relation.{connected}
 use Rattle.permutations.proofs.Search.{some-from, some-witness, some-ext}
-use Rattle.permutations.proofs.Relation.{same-tests, connected-link, connected-symmetric, connected-transitive, connected-closed}
+use Rattle.permutations.proofs.Relation.{same-tests, connected-symmetric, connected-transitive, connected-closed}
+use Rattle.graph_theory.proofs.Connection.{ends-connected}
 use Rattle.multigraph.specs.Graph.{Multigraph, IsGraph, edge_count, ends_of, is_end, incident_edges, other_end}
 use Rattle.multigraph.proofs.Incident.{incident-has, incident_at-edge, incident_at-end}
 use Rattle.multigraph.proofs.OtherEnd.{is_end-first, is_end-second, is_end-cases, other_end-of_first, other_end-of_second, other_end-in}
@@ -38,10 +39,6 @@ pub neighbour-in : (g : Multigraph) (v x : ℕ) → IsGraph g → is_neighbour g
 neighbour-in g v x ok t =
     let w : (e : ℕ) × (e < edge_count g) × (is_end g v e ≡ true) × (other_end g e v ≡ x) = neighbour-edge g v x t in
     subst (λ z. z < g.vertex_count) w.3 (other_end-in g w.0 v ok w.1)
-
--- the ends of an edge are connected
-pub ends-connected : (g : Multigraph) (e : ℕ) → e < edge_count g → connected g.ends (ends_of g e).0 (ends_of g e).1 ≡ true
-ends-connected g e l = connected-link g.ends (ends_of g e).0 (ends_of g e).1 (Contains-get_or g.ends e (0, 0) l)
 
 -- what the two ends of each edge share, a vertex and its neighbours share
 pub neighbour-same : (g : Multigraph) (r : ℕ → ℕ → Type 0) → IsGraph g → ((e : ℕ) → e < edge_count g → r (ends_of g e).0 (ends_of g e).1) → ((x y : ℕ) → r x y → r y x) → (v x : ℕ) → is_neighbour g v x ≡ true → r v x

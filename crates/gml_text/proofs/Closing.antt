@@ -11,17 +11,17 @@ use Rattle.gml_text.proofs.Documents.{append-empty}
 use Rattle.gml_text.proofs.OtherRest.{stands_more}
 
 -- the choices of two gaps, where the one follows from the other
-pick_more : (white hash x y x' y' : Bool) → (x ≡ true → x' ≡ true) → (y ≡ true → y' ≡ true) → cond white x (hash && y) ≡ true → cond white x' (hash && y') ≡ true
+pub pick_more : (white hash x y x' y' : Bool) → (x ≡ true → x' ≡ true) → (y ≡ true → y' ≡ true) → cond white x (hash && y) ≡ true → cond white x' (hash && y') ≡ true
 pick_more true hash x y x' y' of_x of_y h = of_x h
 pick_more false true x y x' y' of_x of_y h = of_y h
 pick_more false false x y x' y' of_x of_y h = absurd (false≢true h)
 
-pick_line : (line x y x' y' : Bool) → (x ≡ true → x' ≡ true) → (y ≡ true → y' ≡ true) → cond line x y ≡ true → cond line x' y' ≡ true
+pub pick_line : (line x y x' y' : Bool) → (x ≡ true → x' ≡ true) → (y ≡ true → y' ≡ true) → cond line x y ≡ true → cond line x' y' ≡ true
 pick_line true x y x' y' of_x of_y h = of_x h
 pick_line false x y x' y' of_x of_y h = of_y h
 
 -- a gap is one at the end of the input too
-both_last : (gap : List ℕ) → (is_gap false gap ≡ true → is_gap true gap ≡ true) × (is_comment false gap ≡ true → is_comment true gap ≡ true)
+pub both_last : (gap : List ℕ) → (is_gap false gap ≡ true → is_gap true gap ≡ true) × (is_comment false gap ≡ true → is_comment true gap ≡ true)
 both_last [] = (λ _. refl, λ _. refl)
 both_last (b ∷ bs) =
     let rest = both_last bs in (

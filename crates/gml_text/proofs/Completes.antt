@@ -136,8 +136,6 @@ module _ (frames : List Frame) (pairs : Document) (bytes value within key : List
 
 -- the innermost list closed
 module _ (frame : Frame) (frames : List Frame) (pairs : Document) (bytes behind : List ℕ) (is_close : CloseStands bytes behind) where
-  abbrev After : Document → List ℕ → Document → Type 0
-  After inner rest d = Completes frames (closed frame inner) rest d
 
   close_forth : (more : Document) (rest : List ℕ) (d : Document) → PairsStand more bytes rest → Ends (frame ∷ frames) (append pairs more) rest d → Completes frames (closed frame pairs) behind d
   close_forth empty rest d s e =

@@ -1,5 +1,5 @@
 -- The layout of a document spells it.
-use Rattle.std.proofs.Common.{◌≡◌, ℕ, ◌+◌, ◌*◌, Bool, true, false, cond, ◌&&◌, eqb, List, [], ◌∷◌, ◌++◌, replicate, zero, suc, refl, sym, ap, subst, append_assoc}
+use Rattle.std.proofs.Common.{◌≡◌, ℕ, ◌+◌, ◌*◌, true, false, eqb, List, [], ◌∷◌, ◌++◌, replicate, zero, suc, refl, sym, ap, subst, append_assoc}
 use Rattle.std.specs.List.{list_all}
 use Rattle.std.proofs.lemmas.Bool.{false≢true}
 use Rattle.std.proofs.lemmas.List.{append-nil}
@@ -9,40 +9,19 @@ use Rattle.gml_text.specs.Document.{Document, empty, number, string, list}
 use Rattle.gml_text.specs.Grammar.{is_gap, is_comment, is_key, KeyStands, NumberStands, StringStands, OpenStands, CloseStands, PairsStand, Spells}
 use Rattle.gml_text.specs.Layout.{indent, number_line, string_line, open_line, close_line, lines, written}
 use Rattle.gml_text.specs.WellFormed.{AreTokens, IsWellFormed}
-
--- a choice of tests follows from another
-pick : (white hash a b c d : Bool) → (a ≡ true → c ≡ true) → (b ≡ true → d ≡ true) → cond white a (hash && b) ≡ true → cond white c (hash && d) ≡ true
-pick true hash a b c d f g h = f h
-pick false true a b c d f g h = g h
-pick false false a b c d f g h = h
-
-pick_line : (line a b c d : Bool) → (a ≡ true → c ≡ true) → (b ≡ true → d ≡ true) → cond line a b ≡ true → cond line c d ≡ true
-pick_line true a b c d f g h = f h
-pick_line false a b c d f g h = g h
+use Rattle.gml_text.proofs.Closing.{pick_more, pick_line, gap_last}
 
 -- a gap before another is one
 both_append : (a b : List ℕ) → is_gap false b ≡ true → (is_gap false a ≡ true → is_gap false (a ++ b) ≡ true) × (is_comment false a ≡ true → is_comment false (a ++ b) ≡ true)
 both_append [] b h = (λ _. h, λ e. absurd (false≢true e))
 both_append (x ∷ a) b h =
     let rest = both_append a b h in (
-      pick (is_white x) (eqb x 35) (is_gap false a) (is_comment false a) (is_gap false (a ++ b)) (is_comment false (a ++ b)) rest.0 rest.1,
+      pick_more (is_white x) (eqb x 35) (is_gap false a) (is_comment false a) (is_gap false (a ++ b)) (is_comment false (a ++ b)) rest.0 rest.1,
       pick_line (is_line_end x) (is_gap false a) (is_comment false a) (is_gap false (a ++ b)) (is_comment false (a ++ b)) rest.0 rest.1,
     )
 
 gap-append : (a b : List ℕ) → is_gap false a ≡ true → is_gap false b ≡ true → is_gap false (a ++ b) ≡ true
 gap-append a b of_a of_b = (both_append a b of_b).0 of_a
-
--- a gap is one at the end too
-both_last : (a : List ℕ) → (is_gap false a ≡ true → is_gap true a ≡ true) × (is_comment false a ≡ true → is_comment true a ≡ true)
-both_last [] = (λ e. e, λ _. refl)
-both_last (x ∷ a) =
-    let rest = both_last a in (
-      pick (is_white x) (eqb x 35) (is_gap false a) (is_comment false a) (is_gap true a) (is_comment true a) rest.0 rest.1,
-      pick_line (is_line_end x) (is_gap false a) (is_comment false a) (is_gap true a) (is_comment true a) rest.0 rest.1,
-    )
-
-gap_last : (a : List ℕ) → is_gap false a ≡ true → is_gap true a ≡ true
-gap_last a h = (both_last a).0 h
 
 -- spaces are a gap
 gap_spaces : (n : ℕ) → is_gap false (replicate n 32) ≡ true

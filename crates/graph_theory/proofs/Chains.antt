@@ -62,10 +62,6 @@ module _ (g : Multigraph) (parent depth parent_edge lower : ℕ → ℕ) (t : Is
   pub below-depth : (v z : ℕ) → z < g.vertex_count → (b : IsBelow parent depth v z) → depth v + b.steps ≡ depth z
   below-depth v z l b = subst (λ (k : ℕ). depth k + b.steps ≡ depth z) b.leads (chain-depth b.steps z l b.within)
 
-  -- an ancestor of a vertex is a vertex
-  pub below-in : (v z : ℕ) → z < g.vertex_count → IsBelow parent depth v z → v < g.vertex_count
-  below-in v z l b = subst (λ (k : ℕ). k < g.vertex_count) b.leads (chain-in b.steps z l b.within)
-
   -- two vertices below each other are one
   pub below-antisymmetric : (u v : ℕ) → u < g.vertex_count → v < g.vertex_count → IsBelow parent depth u v → IsBelow parent depth v u → u ≡ v
   below-antisymmetric u v l k a b =

@@ -5,6 +5,7 @@ use Rattle.std.proofs.lemmas.List.{get_or_default}
 use Rattle.permutations.specs.Relation.{connected}
 use Rattle.permutations.proofs.Relation.{connected-reflexive, connected-symmetric, connected-transitive, connected-link, connected-least-typed}
 use Rattle.multigraph.specs.Graph.{Multigraph, edge_count, ends_of, is_end, other_end}
+use Rattle.multigraph.proofs.OtherEnd.{is_end-first}
 use Rattle.graph_theory.specs.Path.{walk_end, IsWalk, IsPath}
 use Rattle.graph_theory.proofs.Walks.{end-append, walk-append}
 use Rattle.graph_theory.proofs.Reversal.{end-reverse, walk-reverse}
@@ -15,10 +16,6 @@ pub record Joined (g : Multigraph) (x y : ℕ) : Type 0 where
   pub along : List ℕ
   pub walk : IsWalk g x along
   pub arrives : walk_end g x along ≡ y
-
--- the first end of an edge is one of its ends
-pub first-is_end : (g : Multigraph) (e : ℕ) → is_end g (ends_of g e).0 e ≡ true
-first-is_end g e = grind (arith, eq-eqb (ends_of g e).0 (ends_of g e).0 refl)
 
 -- the other end than the first is the second
 pub other-first : (g : Multigraph) (e : ℕ) → other_end g e (ends_of g e).0 ≡ (ends_of g e).1
@@ -69,7 +66,7 @@ connected-joined g x y c = connected-least-typed g.ends (Joined g)
     })
     (λ e d l. subst (λ (p : ℕ × ℕ). Joined g p.0 p.1) (get_or_default g.ends e (0, 0) d l) (record {
       along = e ∷ [];
-      walk = ((l, first-is_end g e), tt);
+      walk = ((l, is_end-first g e), tt);
       arrives = other-first g e;
     }))
     x y c

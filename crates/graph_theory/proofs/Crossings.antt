@@ -4,10 +4,10 @@ use Rattle.std.proofs.lemmas.Bool.{cases_Bool, both_ways, false_from_ne_true, tr
 use Rattle.permutations.specs.Members.{is_member, is_distinct}
 use Rattle.permutations.proofs.Members.{member-head, member-tail, member-cases, member-append_right, no_member-head, distinct-append_left, distinct-head}
 use Rattle.multigraph.specs.Graph.{Multigraph, is_end, other_end}
+use Rattle.multigraph.proofs.OtherEnd.{other_end-is_end}
 use Rattle.graph_theory.specs.Path.{walk_end, walk_starts, IsWalk, IsCycle}
 use Rattle.graph_theory.specs.Block.{SameBlock}
 use Rattle.graph_theory.specs.Side.{IsCommon}
-use Rattle.graph_theory.proofs.Ends.{other-is_end}
 use Rattle.graph_theory.proofs.Walks.{starts-append, walk-left, walk-right, walk-edge}
 use Rattle.graph_theory.proofs.Cycles.{cycle-turn}
 use Rattle.graph_theory.proofs.Exchange.{cycle_with, BegunWith}
@@ -51,7 +51,7 @@ first_edge s b (e ∷ es) k m h = elim (answers-either b (s e)) [
 
 -- the last vertex of a walk with an edge is an end of one of its edges
 pub last_edge : (g : Multigraph) (x e : ℕ) (es : List ℕ) → (k : ℕ) × (is_member k (e ∷ es) ≡ true) × (is_end g (walk_end g x (e ∷ es)) k ≡ true)
-last_edge g x e [] = (e, member-head e [], other-is_end g e x)
+last_edge g x e [] = (e, member-head e [], other_end-is_end g e x)
 last_edge g x e (f ∷ es) = let r = last_edge g (other_end g e x) f es in (r.0, member-tail r.0 e (f ∷ es) r.1, r.2)
 
 -- two different common vertices of a side and the other one

@@ -2,7 +2,7 @@
 use Rattle.std.proofs.Common.{◌≡◌, ◌≢◌, ℕ, ◌<◌, ◌⊎◌, inl, inr, true, ◌||◌, ◌==◌, cond, refl, sym, ◌∙◌, arith}
 use Rattle.std.proofs.lemmas.Bool.{cases_Bool, both_ways, or_cases, eq-eqb, eqb-true}
 use Rattle.multigraph.specs.Graph.{Multigraph, edge_count, ends_of, is_end, other_end, IsGraph}
-use Rattle.multigraph.proofs.OtherEnd.{other_end-is_end, other_end-differs, end-in as of_end}
+use Rattle.multigraph.proofs.OtherEnd.{other_end-differs, end-in as of_end}
 
 -- going over to the other of two numbers
 across : (a b x : ℕ) → ℕ
@@ -12,10 +12,6 @@ across a b x = cond (a == x) b a
 across-across : (a b x : ℕ) → ((a == x) || (b == x)) ≡ true → across a b (across a b x) ≡ x
 unfolding across
 across-across a b x h = grind (arith, cases_Bool (a == x), cases_Bool (a == b), cases_Bool (a == a), eqb-true a x, eqb-true b x, eqb-true a b, eq-eqb a a refl, h)
-
--- the other end of an edge is one of its ends
-pub other-is_end : (g : Multigraph) (e x : ℕ) → is_end g (other_end g e x) e ≡ true
-other-is_end = other_end-is_end
 
 -- the other end of the other end is the end itself
 pub other-other : (g : Multigraph) (e x : ℕ) → is_end g x e ≡ true → other_end g e (other_end g e x) ≡ x

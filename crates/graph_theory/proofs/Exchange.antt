@@ -6,9 +6,10 @@ use Rattle.std.proofs.lemmas.List.{reverse-append, reverse-reverse}
 use Rattle.permutations.specs.Members.{is_member, is_distinct}
 use Rattle.permutations.proofs.Members.{member-head, member-cases, member-append_left, member-append_right, member-append_cases, member-append_comm, member-reverse, distinct-append_comm, distinct-append_right, distinct-head, distinct-reverse, cut_at, CutAt}
 use Rattle.multigraph.specs.Graph.{Multigraph, edge_count, is_end, other_end, IsGraph}
+use Rattle.multigraph.proofs.OtherEnd.{other_end-is_end}
 use Rattle.graph_theory.specs.Path.{walk_end, walk_starts, walk_vertices, IsWalk, IsPath, IsCycle}
 use Rattle.graph_theory.specs.Block.{CommonCycle, SameBlock}
-use Rattle.graph_theory.proofs.Ends.{other-is_end, other-differs}
+use Rattle.graph_theory.proofs.Ends.{other-differs}
 use Rattle.graph_theory.proofs.Walks.{end-append, vertices-append, walk-left, walk-right, walk-edge, first-met, last-met, met-cases, edge-met, edge-entered, first_passing, FirstPassing}
 use Rattle.graph_theory.proofs.Reversal.{end-reverse, walk-reverse, vertices-reverse}
 use Rattle.graph_theory.proofs.Cycles.{cycle-turn, cycle_of_paths}
@@ -238,10 +239,10 @@ ear_of_cycle g i t x es e f c me mf n ends = made (cycle_with g x es e c me)
             let l : f < edge_count g = walk-edge g (other_end g e b.start) b.rest b.cycle.walk.1 f m in
             ear_from g t b.start e b.rest b.cycle z.0 (other_end g f z.0)
             (edge-met g (other_end g e b.start) b.rest b.cycle.walk.1 f z.0 m z.1)
-            (edge-met g (other_end g e b.start) b.rest b.cycle.walk.1 f (other_end g f z.0) m (other-is_end g f z.0))
+            (edge-met g (other_end g e b.start) b.rest b.cycle.walk.1 f (other_end g f z.0) m (other_end-is_end g f z.0))
             (λ j. other-differs g i f z.0 l z.1 (sym j))
             (ends z.0 z.1)
-            (ends (other_end g f z.0) (other-is_end g f z.0))
+            (ends (other_end g f z.0) (other_end-is_end g f z.0))
 
 -- an ear of the vertices of a cycle, through an edge that is not on it, and an arc of the cycle are a cycle
 pub cycle_of_ear : (g : Multigraph) (x : ℕ) (es : List ℕ) → IsCycle g x es → (e h : ℕ) → is_member e es ≡ false → is_member h es ≡ true → Ear g (λ z. is_member z (walk_starts g x es)) e → CommonCycle g e h

@@ -14,7 +14,7 @@ use Rattle.graph_theory.specs.Joined.{ends_where, joined_where, avoiding, PathWh
 use Rattle.graph_theory.proofs.Walks.{end-append, walk-append}
 use Rattle.graph_theory.proofs.Reversal.{end-reverse, walk-reverse}
 use Rattle.graph_theory.proofs.Paths.{walk_to_path, Shortened}
-use Rattle.graph_theory.proofs.Connection.{first-is_end, other-first}
+use Rattle.graph_theory.proofs.Connection.{other-first}
 
 -- the ends of an edge that passes are a link
 pub ends-contained : (g : Multigraph) (t : ℕ → Bool) (e : ℕ) → e < edge_count g → t e ≡ true → Contains (ends_where g t) (ends_of g e)
@@ -99,7 +99,7 @@ joined-walk g t x y c = joined-least-typed g t (WalkWhere g t)
     })
     (λ e l p. record {
       along = e ∷ [];
-      walk = ((l, first-is_end g e), tt);
+      walk = ((l, is_end-first g e), tt);
       arrives = other-first g e;
       passes = λ h m. elim (member-cases h e [] m) [ inl q ↦ subst (λ z. t z ≡ true) q p | inr b ↦ absurd (both_ways (is_member h []) refl b) ];
     })

@@ -1,10 +1,10 @@
 -- Labels of what links connect when some numbers are removed, link by link.
-use Rattle.std.proofs.Common.{◌≡◌, ◌≢◌, ℕ, ◌<◌, ◌⊎◌, inl, inr, true, false, List, [], ◌∷◌, ◌++◌, length, filter, get_or, slice_index_or, refl, sym, ap, ◌∙◌, subst, arith, Contains}
+use Rattle.std.proofs.Common.{◌≡◌, ◌≢◌, ℕ, ◌<◌, ◌⊎◌, inl, inr, true, false, List, [], ◌∷◌, ◌++◌, length, filter, get_or, slice_index_or, refl, sym, ap, ◌∙◌, subst, Contains}
 use Rattle.std.proofs.lemmas.Bool.{cases_eq, both_ways, eq-eqb, ne_eqb}
 use Rattle.std.proofs.lemmas.List.{get_or_default}
 use Rattle.std.proofs.lemmas.List.Elements.{All-filter, filter_passes, filter-append, Contains-get_or, Contains-append_left, Contains-push, Contains-push_cases}
 use Rattle.permutations.specs.Relation.{connected}
-use Rattle.permutations.proofs.Relation.{connected-reflexive, connected-symmetric, connected-transitive, connected-link, connected-subset, connected-value}
+use Rattle.permutations.proofs.Relation.{connected-symmetric, connected-transitive, connected-link, connected-subset, connected-value}
 use Rattle.graph_theory.specs.Labels.{label_at, renamed, IsLabelling}
 use Rattle.graph_theory.specs.Triconnected.{avoids}
 use Rattle.graph_theory.proofs.Removed.{contains-filter}
@@ -32,14 +32,6 @@ renamed-to from to = elim (cases_eq to from) [ inl i ↦ renamed-from from to to
 -- where a label is replaced by itself, all stay
 pub renamed-same : (from to x : ℕ) → from ≡ to → renamed from to x ≡ x
 renamed-same from to x h = elim (cases_eq x from) [ inl e ↦ renamed-from from to x e ∙ sym (e ∙ h) | inr n ↦ renamed-other from to x n ]
-
--- where there are no links, each number has itself as its label
-pub labelling-start : (removed : List ℕ) (label : ℕ → ℕ) → ((x : ℕ) → label x ≡ x) → IsLabelling [] removed label
-labelling-start removed label h = record {
-  agree = λ link c a. absurd (omega (arith, c.1));
-  only = λ u v e. subst (λ (w : ℕ). connected [] u w ≡ true) (sym (h u) ∙ e ∙ h v) (connected-reflexive [] u);
-  own = λ x. h (label x);
-}
 
 -- what links connect, they connect with one link more
 connected-push : (removed : List ℕ) (links : List (ℕ × ℕ)) (link : ℕ × ℕ) (u v : ℕ) → connected (filter (avoids removed) links) u v ≡ true → connected (filter (avoids removed) (links ++ link ∷ [])) u v ≡ true

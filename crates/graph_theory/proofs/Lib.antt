@@ -1,5 +1,6 @@
 -- The lemmas on walks, paths, cycles and blocks.
 pub mod Ends
+pub mod Rising
 pub mod Walks
 pub mod Reversal
 pub mod Paths

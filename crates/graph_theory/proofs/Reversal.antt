@@ -2,8 +2,9 @@
 use Rattle.std.proofs.Common.{◌≡◌, ℕ, List, [], ◌∷◌, ◌++◌, reverse, refl, sym, ap, ◌∙◌, subst, append_assoc}
 use Rattle.std.proofs.lemmas.List.{reverse-append}
 use Rattle.multigraph.specs.Graph.{Multigraph, other_end}
+use Rattle.multigraph.proofs.OtherEnd.{other_end-is_end}
 use Rattle.graph_theory.specs.Path.{walk_end, walk_starts, walk_vertices, IsWalk}
-use Rattle.graph_theory.proofs.Ends.{other-is_end, other-other}
+use Rattle.graph_theory.proofs.Ends.{other-other}
 use Rattle.graph_theory.proofs.Walks.{end-append, vertices-append, walk-append}
 
 -- a list with one more in front, reversed
@@ -24,7 +25,7 @@ walk-reverse g x [] w = tt
 walk-reverse g x (e ∷ es) w =
     subst (IsWalk g (walk_end g (other_end g e x) es)) (sym (reverse-cons e es))
     (walk-append g (walk_end g (other_end g e x) es) (reverse es) (e ∷ []) (walk-reverse g (other_end g e x) es w.1)
-    (subst (λ (y : ℕ). IsWalk g y (e ∷ [])) (sym (end-reverse g (other_end g e x) es w.1)) ((w.0.0, other-is_end g e x), tt)))
+    (subst (λ (y : ℕ). IsWalk g y (e ∷ [])) (sym (end-reverse g (other_end g e x) es w.1)) ((w.0.0, other_end-is_end g e x), tt)))
 
 -- a walk backwards meets the same vertices in the other order
 pub vertices-reverse : (g : Multigraph) (x : ℕ) (es : List ℕ) → IsWalk g x es → walk_vertices g (walk_end g x es) (reverse es) ≡ reverse (walk_vertices g x es)

@@ -6,10 +6,11 @@ use Rattle.permutations.specs.Permutation.{iterate}
 use Rattle.permutations.proofs.Members.{member-head, member-tail, member-cases, member-append_left, member-append_right, no_member-cons, distinct-cons}
 use Rattle.permutations.proofs.Iterates.{iterate-more, iterate-first}
 use Rattle.multigraph.specs.Graph.{Multigraph, edge_count, other_end, IsGraph}
+use Rattle.multigraph.proofs.OtherEnd.{other_end-is_end}
 use Rattle.graph_theory.specs.Path.{walk_end, walk_vertices, IsWalk, IsPath}
 use Rattle.graph_theory.specs.Block.{CommonCycle}
 use Rattle.graph_theory.specs.SearchTree.{IsSearchForest}
-use Rattle.graph_theory.proofs.Ends.{other-is_end, other-other, end-in}
+use Rattle.graph_theory.proofs.Ends.{other-other, end-in}
 use Rattle.graph_theory.proofs.Cycles.{cycle_of_paths}
 use Rattle.graph_theory.proofs.Chains.{chain-in, chain-depth}
 
@@ -115,7 +116,7 @@ module _ (g : Multigraph) (parent depth parent_edge lower : ℕ → ℕ) (t : Is
 
       back : IsPath g y (e ∷ []) z
       back = record {
-        walk = ((l, other-is_end g e z), tt);
+        walk = ((l, other_end-is_end g e z), tt);
         arrives = other-other g e z (t.lower_end e l);
         vertices = subst (λ (k : ℕ). is_distinct (y ∷ (k ∷ [])) ≡ true) (sym (other-other g e z (t.lower_end e l))) (distinct-cons y (z ∷ []) (no_member-cons y z [] differ refl) refl);
       }

@@ -16,7 +16,7 @@
 //   Cycles      cycle-turn, cycle_from, cycle_of_paths: a cycle begun elsewhere, and made of two paths
 //   Arcs        cycle_arc: between two vertices of a cycle there is an arc with a given edge of it
 //   Exchange    ear_of_cycle, cycle_of_ear, block-transitive: in the same block is an equivalence
-//   Labelling   labelling-start, labelling-merge, labelling-value: labels of what links connect without removed numbers
+//   Labelling   labelling-merge, labelling-value: labels of what links connect without removed numbers
 //   Counting    two-count, two-of, third-of: counts of two
 //   Crossings   cycle-two_common, block-one_side: a cycle with edges on both sides of a division has two common vertices
 //   Connection  connected-path, path-connected: connection by links and by paths is the same

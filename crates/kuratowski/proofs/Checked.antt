@@ -1,9 +1,10 @@
 -- What the check asks is what a subdivision in its written form is.
 use Rattle.std.proofs.Common.{◌≡◌, ◌≢◌, ℕ, zero, suc, ◌<◌, ◌⊎◌, ◌↔◌, inl, inr, Bool, true, ◌&&◌, ltb, List, [], ◌∷◌, ◌++◌, length, get_or, refl, sym, ◌∙◌, subst, arith}
-use Rattle.std.proofs.lemmas.Bool.{both_ways, and_parts, and_from, ltb-true, lt-ltb, true≢false}
+use Rattle.std.proofs.lemmas.Bool.{and_parts, and_from, ltb-true, lt-ltb, true≢false}
 use Rattle.permutations.specs.Members.{is_member, is_distinct}
-use Rattle.permutations.proofs.Members.{distinct-head, distinct-tail, member-cases, member-append_cases, distinct-append_left}
+use Rattle.permutations.proofs.Members.{member-cases, member-append_cases, distinct-append_left}
 use Rattle.permutations.proofs.Arrangements.{member-at}
+use Rattle.permutations.proofs.Places.{places-differ}
 use Rattle.multigraph.specs.Graph.{Multigraph, IsGraph, other_end}
 use Rattle.multigraph.proofs.OtherEnd.{other_end-in}
 use Rattle.graph_theory.specs.Path.{walk_starts, IsWalk}
@@ -13,13 +14,6 @@ use Rattle.kuratowski.specs.Subdivision.{branch_count, pattern_edges, branch_at,
 use Rattle.kuratowski.specs.Checking.{is_in_order, is_less, no_marks, marked_also, are_free, are_free_paths}
 use Rattle.kuratowski.proofs.Marks.{taken-among, free-append, free-each, free-distinct, free-from, taken-at_first, taken-vertex}
 use Rattle.kuratowski.proofs.FreePaths.{HaveEnds, AreJoined, free_paths-free, free_paths-joined, free_paths-from}
-
--- two places of a list without repetition have different members
-pub distinct-places : (l : List ℕ) (i k : ℕ) → is_distinct l ≡ true → i < k → k < length l → get_or l i 0 ≢ get_or l k 0
-distinct-places [] i k d w h = absurd (omega arith)
-distinct-places (x ∷ l) i zero d w h = absurd (omega arith)
-distinct-places (x ∷ l) zero (suc k) d w h = λ e. both_ways (is_member x l) (distinct-head x l d) (subst (λ (z : ℕ). is_member z l ≡ true) (sym e) (member-at l k 0 (omega arith)))
-distinct-places (x ∷ l) (suc i) (suc k) d w h = distinct-places l i k (distinct-tail x l d) (omega arith) (omega arith)
 
 -- whether of each pair the first is less than the second and the second less than n
 all_rise : ℕ → List (ℕ × ℕ) → Bool
@@ -130,7 +124,7 @@ branches-ends kind m branch n d = λ k l.
     let j : ℕ = (pair_at kind k).1 in
     let wj : j < length branch = subst (λ (c : ℕ). j < c) (sym n) r.1 in
     let wi : i < length branch = omega arith in
-    (taken-among m branch (branch_at branch i) (member-at branch i 0 wi), taken-among m branch (branch_at branch j) (member-at branch j 0 wj), distinct-places branch i j d r.0 wj)
+    (taken-among m branch (branch_at branch i) (member-at branch i 0 wi), taken-among m branch (branch_at branch j) (member-at branch j 0 wj), places-differ branch i j d r.0 wj)
 
 -- what the tests on marks find is a subdivision
 marked-subdivision : (g : Multigraph) (kind : Pattern) (branch : List ℕ) (paths : List (List ℕ)) → length branch ≡ branch_count kind → length paths ≡ length (pattern_edges kind) → are_free (no_marks g) branch ≡ true → are_free_paths g (marked_also (no_marks g) branch) branch (pattern_edges kind) paths ≡ true → IsSubdivision g kind branch paths

@@ -4,11 +4,12 @@ use Rattle.std.proofs.lemmas.Bool.{both_ways, false_from_ne_true, cases_order, t
 use Rattle.permutations.specs.Members.{is_member, is_distinct}
 use Rattle.permutations.proofs.Members.{member-head, member-tail, member-cases, member-append_left, member-append_right, member-append_cases, distinct-head, distinct-tail, distinct-append, distinct-append_left, distinct-append_right, distinct-append_apart}
 use Rattle.permutations.proofs.Arrangements.{member-at}
+use Rattle.permutations.proofs.Places.{places-differ}
 use Rattle.multigraph.specs.Graph.{Multigraph, other_end}
 use Rattle.graph_theory.specs.Path.{walk_starts, walk_vertices, IsPath}
 use Rattle.kuratowski.specs.declared.subdivision.Pattern.{Pattern}
 use Rattle.kuratowski.specs.Subdivision.{branch_count, pattern_edges, branch_at, path_at, pair_at, inner_vertices, all_inner, IsSubdivision}
-use Rattle.kuratowski.proofs.Checked.{distinct-places, pair-rises}
+use Rattle.kuratowski.proofs.Checked.{pair-rises}
 
 -- the vertices inside path k
 abbrev pub inner_at : Multigraph → List ℕ → List (ℕ × ℕ) → List (List ℕ) → ℕ → List ℕ
@@ -59,12 +60,12 @@ inner-distinct g branch (pair ∷ pairs) (path ∷ paths) each apart =
     apart 0 (suc r.0) w l z m r.2))
 
 -- a path between different vertices meets its first vertex, those inside, and its last
-met-inner : (g : Multigraph) (x : ℕ) (es : List ℕ) (y : ℕ) → IsPath g x es y → x ≢ y → walk_vertices g x es ≡ x ∷ (inner_vertices g x es ++ y ∷ [])
+pub met-inner : (g : Multigraph) (x : ℕ) (es : List ℕ) (y : ℕ) → IsPath g x es y → x ≢ y → walk_vertices g x es ≡ x ∷ (inner_vertices g x es ++ y ∷ [])
 met-inner g x [] y p n = absurd (n p.arrives)
 met-inner g x (e ∷ es) y p n = ap (λ (w : ℕ). x ∷ (walk_starts g (other_end g e x) es ++ w ∷ [])) p.arrives
 
 -- a vertex of a path is an end or inside
-met-parts : (g : Multigraph) (x : ℕ) (es : List ℕ) (y : ℕ) → IsPath g x es y → x ≢ y → (z : ℕ) → is_member z (walk_vertices g x es) ≡ true → (x ≡ z) ⊎ (is_member z (inner_vertices g x es) ≡ true) ⊎ (y ≡ z)
+pub met-parts : (g : Multigraph) (x : ℕ) (es : List ℕ) (y : ℕ) → IsPath g x es y → x ≢ y → (z : ℕ) → is_member z (walk_vertices g x es) ≡ true → (x ≡ z) ⊎ (is_member z (inner_vertices g x es) ≡ true) ⊎ (y ≡ z)
 met-parts g x es y p n z m = elim (member-cases z x (inner_vertices g x es ++ y ∷ []) (subst (λ (l : List ℕ). is_member z l ≡ true) (met-inner g x es y p n) m)) [
   | inl e ↦ inl e
   | inr t ↦ inr (elim (member-append_cases z (inner_vertices g x es) (y ∷ []) t) [
@@ -74,7 +75,7 @@ met-parts g x es y p n z m = elim (member-cases z x (inner_vertices g x es ++ y 
 ]
 
 -- a vertex inside a path is one of its vertices, and no end
-inside-met : (g : Multigraph) (x : ℕ) (es : List ℕ) (y : ℕ) → IsPath g x es y → x ≢ y → (z : ℕ) → is_member z (inner_vertices g x es) ≡ true → (is_member z (walk_vertices g x es) ≡ true) × (z ≢ x) × (z ≢ y)
+pub inside-met : (g : Multigraph) (x : ℕ) (es : List ℕ) (y : ℕ) → IsPath g x es y → x ≢ y → (z : ℕ) → is_member z (inner_vertices g x es) ≡ true → (is_member z (walk_vertices g x es) ≡ true) × (z ≢ x) × (z ≢ y)
 inside-met g x es y p n z m = (
   subst (λ (l : List ℕ). is_member z l ≡ true) (sym is) (member-tail z x (inner ++ y ∷ []) (member-append_left z inner (y ∷ []) m)),
   λ e. both_ways (is_member x (inner ++ y ∷ [])) (distinct-head x (inner ++ y ∷ []) d) (subst (λ (w : ℕ). is_member w (inner ++ y ∷ []) ≡ true) e (member-append_left z inner (y ∷ []) m)),
@@ -117,7 +118,7 @@ ends-member kind branch n k l =
 pub ends-differ : (kind : Pattern) (branch : List ℕ) → length branch ≡ branch_count kind → is_distinct branch ≡ true → (k : ℕ) → k < length (pattern_edges kind) → branch_at branch (pair_at kind k).0 ≢ branch_at branch (pair_at kind k).1
 ends-differ kind branch n d k l =
     let r = pair-rises kind k l in
-    distinct-places branch (pair_at kind k).0 (pair_at kind k).1 d r.0 (subst (λ (c : ℕ). (pair_at kind k).1 < c) (sym n) r.1)
+    places-differ branch (pair_at kind k).0 (pair_at kind k).1 d r.0 (subst (λ (c : ℕ). (pair_at kind k).1 < c) (sym n) r.1)
 
 -- the paths of a subdivision meet only in branch vertices
 pub subdivision-meetings : (g : Multigraph) (kind : Pattern) (branch : List ℕ) (paths : List (List ℕ)) → IsSubdivision g kind branch paths → MeetAtBranches g kind branch paths

@@ -1,8 +1,9 @@
 -- A subdivision with its branch vertices in another order is one.
 use Rattle.std.proofs.Common.{◌≡◌, ℕ, zero, suc, ◌<◌, ◌⊎◌, inl, inr, Bool, true, ◌&&◌, ◌==◌, ltb, if◌then◌else◌, List, [], ◌∷◌, length, get_or, reverse, refl, sym, ap, ◌∙◌, subst, arith}
-use Rattle.std.proofs.lemmas.Bool.{cases_Bool, cases_order, cases_eq, and_parts, or_cases, ltb-true, lt-ltb, le-ltb, eqb-true, true≢false}
+use Rattle.std.proofs.lemmas.Bool.{cases_Bool, cases_eq, and_parts, or_cases, ltb-true, lt-ltb, le-ltb, eqb-true, true≢false}
 use Rattle.std.proofs.lemmas.List.{length-map, get_or-map}
-use Rattle.permutations.specs.Members.{is_member, is_distinct}
+use Rattle.permutations.specs.Members.{is_member}
+use Rattle.permutations.proofs.Places.{same-place}
 use Rattle.multigraph.specs.Graph.{Multigraph}
 use Rattle.graph_theory.specs.Path.{walk_vertices, IsPath}
 use Rattle.graph_theory.proofs.Paths.{path-reverse, path-reverse-met}
@@ -10,7 +11,7 @@ use Rattle.kuratowski.specs.declared.subdivision.Pattern.{Pattern}
 use Rattle.kuratowski.specs.declared.subdivision.Pattern.TheVariants.{K5, K33}
 use Rattle.kuratowski.specs.Subdivision.{branch_count, pattern_edges, branch_at, path_at, pair_at, IsSubdivision}
 use Rattle.kuratowski.specs.Reordering.{place_of, pair_place, are_joined, path_between, reordered_paths, IsReordering}
-use Rattle.kuratowski.proofs.Checked.{distinct-places, pair-rises}
+use Rattle.kuratowski.proofs.Checked.{pair-rises}
 use Rattle.kuratowski.proofs.Meetings.{vertices_at, branch-member, subdivision-meetings, subdivision-from_meetings}
 
 -- the place of a member is one of the list
@@ -141,10 +142,6 @@ between g kind branch paths s a b x y ax by j = elim (or_cases (ltb (pair_place 
         is : path_between kind paths a b ≡ reverse (path_at paths e)
         is = ap (λ (c : Bool). if c then path_at paths (pair_place (pattern_edges kind) a b) else reverse (path_at paths (pair_place (pattern_edges kind) b a))) (le-ltb a b (omega (arith, not_less))) ∙ ap (λ (k : ℕ). reverse (path_at paths k)) q
 
--- places of a list without repetition that hold the same member are the same
-pub distinct-same : (l : List ℕ) (i k : ℕ) → is_distinct l ≡ true → i < length l → k < length l → get_or l i 0 ≡ get_or l k 0 → i ≡ k
-distinct-same l i k d a b e = elim (cases_order i k) [ inl q ↦ q | inr (inl w) ↦ absurd (distinct-places l i k d w b e) | inr (inr w) ↦ absurd (distinct-places l k i d w a (sym e)) ]
-
 -- a subdivision with its branch vertices in another order, and the paths that belong to it, is one
 pub reordered-subdivision : (g : Multigraph) (kind : Pattern) (branch : List ℕ) (paths : List (List ℕ)) (order : List ℕ) → IsSubdivision g kind branch paths → IsReordering kind branch order → IsSubdivision g kind order (reordered_paths kind branch paths order)
 reordered-subdivision g kind branch paths order s o =
@@ -197,7 +194,7 @@ reordered-subdivision g kind branch paths order s o =
 
     same_place : (i j : ℕ) → i < branch_count kind → j < branch_count kind → place i ≡ place j → i ≡ j
     same_place i j a b e =
-        distinct-same order i j o.distinct (subst (λ (c : ℕ). i < c) (sym o.count) a) (subst (λ (c : ℕ). j < c) (sym o.count) b)
+        same-place order i j o.distinct (subst (λ (c : ℕ). i < c) (sym o.count) a) (subst (λ (c : ℕ). j < c) (sym o.count) b)
         (sym (stands i a) ∙ ap (branch_at branch) e ∙ stands j b)
 
     same : (k j : ℕ) (lk : k < length (pattern_edges kind)) (lj : j < length (pattern_edges kind)) → (old k lk).edge ≡ (old j lj).edge → k ≡ j

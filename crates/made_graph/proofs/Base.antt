@@ -1,7 +1,8 @@
 -- The complete graph on four vertices is a planar block.
-use Rattle.std.proofs.Common.{◌≡◌, ℕ, zero, suc, ◌<◌, inl, inr, ltb, ◌==◌, true, false, List, [], ◌∷◌, refl, arith, IsPermutation}
+use Rattle.std.proofs.Common.{◌≡◌, ℕ, zero, suc, ◌<◌, inl, inr, ltb, ◌==◌, true, false, List, [], ◌∷◌, refl, arith}
 use Rattle.std.proofs.lemmas.Bool.{agree_below_at, eqb-false, ltb-true}
-use Rattle.std.proofs.lemmas.List.Sorted.{IsPermutation-refl, IsPermutation-cons, IsPermutation-to_front}
+use Rattle.std.proofs.lemmas.List.Sorted.{IsPermutation-refl}
+use Rattle.permutations.proofs.Arrangements.{three-turned}
 use Rattle.multigraph.specs.Graph.{ends_of, is_end, incident_edges, IsGraph}
 use Rattle.graph_theory.specs.Path.{IsCycle}
 use Rattle.graph_theory.specs.Block.{SameBlock, IsOneBlock}
@@ -56,10 +57,6 @@ tetrahedron-one = record {
 -- one vertex inside the triangle of the others
 abbrev orders : List (List ℕ)
 orders = (0 ∷ 1 ∷ 2 ∷ []) ∷ (0 ∷ 4 ∷ 3 ∷ []) ∷ (1 ∷ 3 ∷ 5 ∷ []) ∷ (2 ∷ 5 ∷ 4 ∷ []) ∷ []
-
--- three numbers in their other cyclic order
-three-turned : (a b c : ℕ) → IsPermutation (a ∷ b ∷ c ∷ []) (a ∷ c ∷ b ∷ [])
-three-turned a b c = IsPermutation-cons a (b ∷ c ∷ []) (c ∷ b ∷ []) (IsPermutation-to_front (b ∷ []) c)
 
 orders-system : IsRotationSystem tetrahedron orders
 orders-system = record { vertices = refl; orders = at }

@@ -187,10 +187,6 @@ module _ (m : ℕ) (g : Multigraph) (f b : ℕ → ℕ) (drawn : IsDrawn m g f b
     q-in : q < 2 * (m + 1)
     q-in = omega (arith, lq)
 
-    -- what follows the two corners, and the two new darts
-    pub joined-second : (p ≡ q → ⊥) → joined m p q f (2 * m + 1) ≡ f q
-    joined-second n = exchange-right q (2 * m + 1) (hung m p f) ∙ hung-old q lq (λ e. n (sym e))
-
     pub joined-second_corner : joined m p q f q ≡ 2 * m + 1
     joined-second_corner = exchange-left q (2 * m + 1) (hung m p f) ∙ hung-end
 

@@ -114,9 +114,6 @@ module _ (m : ℕ) (g : Multigraph) (f b : ℕ → ℕ) (drawn : IsDrawn m g f b
     f1-q : f1 q ≡ c
     f1-q = hung-old m g f b drawn a la q lq q-a ∙ goes
 
-    last-in : 2 * m < 2 * (m + 1)
-    last-in = omega arith
-
     twin-in : 2 * m + 1 < 2 * (m + 1)
     twin-in = omega arith
 
@@ -226,9 +223,6 @@ module _ (m : ℕ) (g : Multigraph) (f b : ℕ → ℕ) (drawn : IsDrawn m g f b
 
     drawn-3 : IsDrawn (m + 1 + 1 + 1) g3 f3 b3
     drawn-3 = cross (m + 1 + 1) g2 f2 b2 drawn-2 q q-in_2 (2 * m + 1) twin-in_2 face-2
-
-    q-twin : q ≡ 2 * m + 1 → ⊥
-    q-twin i = omega (arith, lq, i)
 
     a-twin : a ≡ 2 * m + 1 → ⊥
     a-twin i = omega (arith, la, i)

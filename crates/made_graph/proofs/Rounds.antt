@@ -1,7 +1,7 @@
 -- Short cycles, and cycles of a part of a graph.
 use Rattle.std.proofs.Common.{◌≡◌, ◌≢◌, ℕ, ◌<◌, true, ◌==◌, ◌||◌, cond, List, [], ◌∷◌, refl, sym, ap, ◌∙◌, subst, arith}
 use Rattle.permutations.specs.Members.{is_member, is_distinct}
-use Rattle.permutations.proofs.Members.{member-head, member-tail, no_member-cons, distinct-cons}
+use Rattle.permutations.proofs.Members.{member-head, member-tail, no_member-cons, distinct-cons, distinct-three, distinct-four}
 use Rattle.multigraph.specs.Graph.{Multigraph, edge_count, ends_of, is_end, other_end}
 use Rattle.multigraph.proofs.OtherEnd.{is_end-from_first, is_end-from_second, other_end-of_first, other_end-of_second}
 use Rattle.graph_theory.specs.Path.{walk_end, walk_starts, IsWalk, IsCycle}
@@ -44,13 +44,6 @@ go-starts g x e y es s = ap (λ z. x ∷ walk_starts g z es) s.arrives
 two-distinct : (a b : ℕ) → a ≢ b → is_distinct (a ∷ b ∷ []) ≡ true
 two-distinct a b n = distinct-cons a (b ∷ []) (no_member-cons a b [] (λ e. n (sym e)) refl) refl
 
-three-distinct : (a b c : ℕ) → a ≢ b → a ≢ c → b ≢ c → is_distinct (a ∷ b ∷ c ∷ []) ≡ true
-three-distinct a b c n o p = distinct-cons a (b ∷ c ∷ []) (no_member-cons a b (c ∷ []) (λ e. n (sym e)) (no_member-cons a c [] (λ e. o (sym e)) refl)) (two-distinct b c p)
-
-four-distinct : (a b c d : ℕ) → a ≢ b → a ≢ c → a ≢ d → b ≢ c → b ≢ d → c ≢ d → is_distinct (a ∷ b ∷ c ∷ d ∷ []) ≡ true
-four-distinct a b c d n o p q r s =
-    distinct-cons a (b ∷ c ∷ d ∷ []) (no_member-cons a b (c ∷ d ∷ []) (λ e. n (sym e)) (no_member-cons a c (d ∷ []) (λ e. o (sym e)) (no_member-cons a d [] (λ e. p (sym e)) refl))) (three-distinct b c d q r s)
-
 -- two parallel edges
 pub two-cycle : (g : Multigraph) (x e y f : ℕ) → Leads g x e y → Leads g y f x → x ≢ y → e ≢ f → IsCycle g x (e ∷ f ∷ [])
 two-cycle g x e y f s t n o = record {
@@ -67,9 +60,9 @@ three-cycle g x e y f z h s t u n o p q r v = record {
   walk = go-walk g x e y (f ∷ h ∷ []) s (go-walk g y f z (h ∷ []) t (go-walk g z h x [] u tt));
   returns = go-end g x e y (f ∷ h ∷ []) s ∙ go-end g y f z (h ∷ []) t ∙ go-end g z h x [] u;
   two = omega arith;
-  edges = three-distinct e f h q r v;
+  edges = distinct-three e f h q r v;
   vertices = subst (λ (l : List ℕ). is_distinct l ≡ true)
-      (sym (go-starts g x e y (f ∷ h ∷ []) s ∙ ap (λ (l : List ℕ). x ∷ l) (go-starts g y f z (h ∷ []) t ∙ ap (λ (l : List ℕ). y ∷ l) (go-starts g z h x [] u)))) (three-distinct x y z n o p);
+      (sym (go-starts g x e y (f ∷ h ∷ []) s ∙ ap (λ (l : List ℕ). x ∷ l) (go-starts g y f z (h ∷ []) t ∙ ap (λ (l : List ℕ). y ∷ l) (go-starts g z h x [] u)))) (distinct-three x y z n o p);
 }
 
 -- a cycle of four
@@ -79,10 +72,10 @@ four-cycle g x e y f z h w k s t u v n o p q r i a b c d j l = record {
   walk = go-walk g x e y (f ∷ h ∷ k ∷ []) s (go-walk g y f z (h ∷ k ∷ []) t (go-walk g z h w (k ∷ []) u (go-walk g w k x [] v tt)));
   returns = go-end g x e y (f ∷ h ∷ k ∷ []) s ∙ go-end g y f z (h ∷ k ∷ []) t ∙ go-end g z h w (k ∷ []) u ∙ go-end g w k x [] v;
   two = omega arith;
-  edges = four-distinct e f h k a b c d j l;
+  edges = distinct-four e f h k a b c d j l;
   vertices = subst (λ (l : List ℕ). is_distinct l ≡ true)
       (sym (go-starts g x e y (f ∷ h ∷ k ∷ []) s ∙ ap (λ (l : List ℕ). x ∷ l) (go-starts g y f z (h ∷ k ∷ []) t ∙ ap (λ (l : List ℕ). y ∷ l) (go-starts g z h w (k ∷ []) u ∙ ap (λ (l : List ℕ). z ∷ l) (go-starts g w k x [] v)))))
-      (four-distinct x y z w n o p q r i);
+      (distinct-four x y z w n o p q r i);
 }
 
 -- these edges of g are edges of h with the same ends

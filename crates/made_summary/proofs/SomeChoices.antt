@@ -12,7 +12,7 @@ use Rattle.std.proofs.Math.ListN.{get_or-eq_default}
 use Rattle.pair_split.specs.declared.components.Comp.{Comp}
 use Rattle.pair_split.specs.declared.components.What.{What}
 use Rattle.pair_split.specs.declared.components.What.TheVariants.{Real, Link}
-use Rattle.skeletons.proofs.Vertices.{node-kind}
+use Rattle.pair_split.proofs.NodeParts.{node-kind}
 use Rattle.skeleton_runs.proofs.Sturdy.{polygon-two}
 use Rattle.made_graph.specs.Laws.{HasFork}
 use Rattle.made_summary.specs.Kinds.{has_choices, NoneHasChoices}

@@ -34,10 +34,6 @@ filter_suc-yes p n h = filter_below-suc p n ∙ ap (λ (b : Bool). filter p (num
 filter_suc-no : (p : ℕ → Bool) (n : ℕ) → p n ≡ false → filter p (numbers_below (suc n)) ≡ filter p (numbers_below n)
 filter_suc-no p n h = filter_below-suc p n ∙ (ap (λ (b : Bool). filter p (numbers_below n) ++ cond b (n ∷ []) []) h ∙ append-nil (filter p (numbers_below n)))
 
--- one number more, of those that pass
-pub filter_below-more : (p : ℕ → Bool) (n : ℕ) → filter p (numbers_below (n + 1)) ≡ filter p (numbers_below n) ++ cond (p n) (n ∷ []) []
-filter_below-more p n = rw add-one (filter_below-suc p n)
-
 -- the next number passes
 pub filter_below-yes : (p : ℕ → Bool) (n : ℕ) → p n ≡ true → filter p (numbers_below (n + 1)) ≡ filter p (numbers_below n) ++ n ∷ []
 filter_below-yes p n h = rw add-one (filter_suc-yes p n h)

@@ -2,7 +2,7 @@
 use Rattle.std.proofs.Common.{◌≡◌, ℕ, ◌<◌, ◌≤◌, true, length, get_or}
 use Rattle.std.specs.List.{Contains}
 use Rattle.multigraph.specs.Graph.{Multigraph, edge_count, is_end, incident_edges}
-use Rattle.multigraph.proofs.Below.{length-filter_below, filter_below-has, filter_below-only, filter_below-at, filter_below-rises, filter_below-once}
+use Rattle.multigraph.proofs.Below.{length-filter_below, filter_below-has, filter_below-only, filter_below-at, filter_below-rises}
 
 -- there are at most as many as the multigraph has
 pub length-incident : (g : Multigraph) (v : ℕ) → length (incident_edges g v) ≤ edge_count g
@@ -31,7 +31,3 @@ incident_at-end g v k d l = (filter_below-at (is_end g v) (edge_count g) k d l).
 -- the edges at v rise
 pub incident-rises : (g : Multigraph) (v i j d : ℕ) → i < j → j < length (incident_edges g v) → get_or (incident_edges g v) i d < get_or (incident_edges g v) j d
 incident-rises g v i j d l m = filter_below-rises (is_end g v) (edge_count g) i j d l m
-
--- none of the edges at v stands there twice
-pub incident-once : (g : Multigraph) (v i j d : ℕ) → i < length (incident_edges g v) → j < length (incident_edges g v) → get_or (incident_edges g v) i d ≡ get_or (incident_edges g v) j d → i ≡ j
-incident-once g v i j d li lj e = filter_below-once (is_end g v) (edge_count g) i j d li lj e

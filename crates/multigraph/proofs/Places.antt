@@ -1,5 +1,5 @@
 -- Places of numbers in a rising list.
-use Rattle.std.proofs.Common.{◌≡◌, ◌≢◌, ℕ, zero, suc, ◌<◌, ◌≤◌, List, length, get_or, None, Some, Err, refl, sym, ap, ◌∙◌, subst, inl, inr, arith}
+use Rattle.std.proofs.Common.{◌≡◌, ◌≢◌, ℕ, zero, suc, ◌<◌, ◌≤◌, List, length, get_or, None, Some, Err, refl, ap, inl, inr, arith}
 use Rattle.std.specs.List.Sorted.{IsBinarySearchResult}
 use Rattle.std.specs.Ordering.{nat_cmp}
 use Rattle.std.proofs.lemmas.Bool.{cases_lt, cases_eq, cases_order}
@@ -34,13 +34,6 @@ rises-short l n r below = elim (cases_lt n (length l)) [
   | inl more ↦ absurd (omega (arith, rises-least l r n more, below n more))
   | inr few ↦ omega arith
 ]
-
--- the number stands at place i
-pub place-some : (l : List ℕ) (x i : ℕ) → Rises l → i < length l → get_or l i 0 ≡ x → IsPlace l x (Some i)
-place-some l x i r lt e = record {
-  some = λ j. (λ (s : Some i ≡ Some j). let same : i ≡ j = grind arith in (subst (λ (k : ℕ). k < length l) same lt, ap (λ (k : ℕ). get_or l k 0) (sym same) ∙ e), λ w. ap (λ (k : ℕ). Some k) (rises-once l r i j lt w.0 (e ∙ sym w.1)));
-  none = (λ (s : Some i ≡ None). absurd (cc), λ h. absurd (h i lt e));
-}
 
 -- the number stands nowhere
 pub place-none : (l : List ℕ) (x : ℕ) → ((i : ℕ) → i < length l → get_or l i 0 ≢ x) → IsPlace l x None

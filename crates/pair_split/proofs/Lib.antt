@@ -7,11 +7,13 @@ pub mod Places
 pub mod Start
 pub mod SplitOff
 pub mod Links
+pub mod NodeParts
 pub mod Subtrees
 pub mod Written
 pub mod Finish
 pub mod SmallBlock
 pub mod TreeSides
+pub mod LinkSides
 pub mod Groups
 pub mod SkeletonFamily
 pub mod LargeSides

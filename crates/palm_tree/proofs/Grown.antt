@@ -6,16 +6,17 @@ use Rattle.permutations.specs.Members.{is_member, is_distinct}
 use Rattle.permutations.proofs.Members.{distinct-append_apart, distinct-append_right, distinct-head}
 use Rattle.permutations.proofs.Arrangements.{member-at}
 use Rattle.multigraph.specs.Graph.{Multigraph, edge_count, is_end, other_end, IsGraph}
+use Rattle.multigraph.proofs.OtherEnd.{other_end-is_end}
 use Rattle.graph_theory.specs.SearchTree.{IsBelow, IsSearchForest}
 use Rattle.graph_theory.proofs.Chains.{chain-depth}
-use Rattle.graph_theory.proofs.Ends.{other-is_end, end-in}
-use Rattle.palm_tree.specs.State.{SearchState}
+use Rattle.graph_theory.proofs.Ends.{end-in}
+use Rattle.blocks.specs.Forest.{ForestState}
 use Rattle.palm_tree.specs.Searching.{IsOver}
 use Rattle.palm_tree.specs.Growing.{is_tree_edge, upper_end, begin_of}
-use Rattle.palm_tree.proofs.Writes.{marked-in}
+use Rattle.blocks.proofs.Writes.{marked-in}
 use Rattle.palm_tree.proofs.Over.{over-forest, over-seen}
 
-module _ (g : Multigraph) (gg : IsGraph g) (s : SearchState) (o : IsOver g s) where
+module _ (g : Multigraph) (gg : IsGraph g) (s : ForestState) (o : IsOver g s) where
   -- the tree as a search forest
   pub forest : IsSearchForest g (λ v. get_or s.parent v 0) (λ v. get_or s.depth v 0) (λ v. get_or s.parent_edge v 0) (λ e. get_or s.lower e 0)
   forest = over-forest g gg s o
@@ -39,7 +40,7 @@ module _ (g : Multigraph) (gg : IsGraph g) (s : SearchState) (o : IsOver g s) wh
   lower-in e l = end-in g gg e (get_or s.lower e 0) l (lower-end e l)
 
   pub upper-in : (e : ℕ) → e < edge_count g → upper_end g s e < g.vertex_count
-  upper-in e l = end-in g gg e (upper_end g s e) l (other-is_end g e (get_or s.lower e 0))
+  upper-in e l = end-in g gg e (upper_end g s e) l (other_end-is_end g e (get_or s.lower e 0))
 
   -- the upper end of an edge is a proper ancestor of the lower one
   pub upper-below : (e : ℕ) → e < edge_count g → IsBelow (λ v. get_or s.parent v 0) (λ v. get_or s.depth v 0) (upper_end g s e) (get_or s.lower e 0)

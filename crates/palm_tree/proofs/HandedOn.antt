@@ -1,13 +1,13 @@
 -- The steps of the pass over low vertices, as what the code has before and after them.
 use Rattle.std.proofs.Common.{◌≡◌, ℕ, ◌+◌, ◌<◌, false, List, [], length, drop, get_or, sym, ap, ◌∙◌, subst, arith}
 use Rattle.multigraph.specs.Graph.{Multigraph, edge_count, IsGraph}
-use Rattle.palm_tree.specs.State.{SearchState}
+use Rattle.blocks.specs.Forest.{ForestState}
 use Rattle.palm_tree.specs.Searching.{IsOver}
 use Rattle.palm_tree.specs.Growing.{LowVertices, taken, is_tree_edge, upper_end, AreLowSoFar, CanTake}
 use Rattle.palm_tree.proofs.Grown.{parent-in, lower-in, upper-in, order-in}
 use Rattle.palm_tree.proofs.Lows.{first-in, second-in, edge-taken, handed-on, handed-mid}
 
-module _ (g : Multigraph) (gg : IsGraph g) (s : SearchState) (o : IsOver g s) where
+module _ (g : Multigraph) (gg : IsGraph g) (s : ForestState) (o : IsOver g s) where
   -- vertices have places
   pub can-take : (low : LowVertices) (k : ℕ) (handed depth : List ℕ) (v x : ℕ) → AreLowSoFar g s low k handed → depth ≡ s.depth → v < g.vertex_count → x < g.vertex_count → CanTake depth low v x
   can-take low k handed depth v x a e l m = record {

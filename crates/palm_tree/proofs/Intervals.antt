@@ -11,7 +11,7 @@ use Rattle.permutations.proofs.Sums.{sum_below-zero}
 use Rattle.multigraph.specs.Graph.{Multigraph, IsGraph}
 use Rattle.graph_theory.specs.SearchTree.{IsBelow}
 use Rattle.graph_theory.proofs.Chains.{chain-in, chain-depth, below-transitive, below-parent, below-reflexive, below-depth, below-between}
-use Rattle.palm_tree.specs.State.{SearchState}
+use Rattle.blocks.specs.Forest.{ForestState}
 use Rattle.palm_tree.specs.Searching.{IsOver}
 use Rattle.palm_tree.specs.Growing.{AreSizes, AreChildren, AreOffsets, AreNumbersSoFar, IsBefore}
 use Rattle.palm_tree.proofs.Grown.{forest, order-member}
@@ -19,10 +19,10 @@ use Rattle.palm_tree.proofs.Totals.{sum-change, cond-yes, cond-no}
 use Rattle.palm_tree.proofs.SizesHanded.{both, second-no}
 
 -- z is v or below v
-abbrev pub Below : SearchState → ℕ → ℕ → Type 0
+abbrev pub Below : ForestState → ℕ → ℕ → Type 0
 Below s v z = IsBelow (λ k. get_or s.parent k 0) (λ k. get_or s.depth k 0) v z
 
-module _ (g : Multigraph) (gg : IsGraph g) (s : SearchState) (o : IsOver g s) where
+module _ (g : Multigraph) (gg : IsGraph g) (s : ForestState) (o : IsOver g s) where
   pub trans : (u v z : ℕ) → z < g.vertex_count → Below s u v → Below s v z → Below s u z
   trans u v z l a b = below-transitive g (λ k. get_or s.parent k 0) (λ k. get_or s.depth k 0) (λ k. get_or s.parent_edge k 0) (λ e. get_or s.lower e 0) (forest g gg s o) u v z l a b
 
@@ -50,13 +50,6 @@ module _ (g : Multigraph) (gg : IsGraph g) (s : SearchState) (o : IsOver g s) wh
 
       rd : get_or s.depth r 0 ≡ 0
       rd = omega (arith, chain-depth g (λ k. get_or s.parent k 0) (λ k. get_or s.depth k 0) (λ k. get_or s.parent_edge k 0) (λ e. get_or s.lower e 0) (forest g gg s o) (get_or s.depth 0 0) 0 l (omega arith))
-
-  -- every vertex is below the root
-  pub below-root : (v : ℕ) → v < g.vertex_count → Below s 0 v
-  below-root v l = record { steps = get_or s.depth v 0; within = omega arith; leads = o.searching.one_root r (o.visited r (chain-in g (λ k. get_or s.parent k 0) (λ k. get_or s.depth k 0) (λ k. get_or s.parent_edge k 0) (λ e. get_or s.lower e 0) (forest g gg s o) (get_or s.depth v 0) v l (omega arith))) (omega (arith, chain-depth g (λ k. get_or s.parent k 0) (λ k. get_or s.depth k 0) (λ k. get_or s.parent_edge k 0) (λ e. get_or s.lower e 0) (forest g gg s o) (get_or s.depth v 0) v l (omega arith))) }
-    where
-      r : ℕ
-      r = iterate (λ k. get_or s.parent k 0) (get_or s.depth v 0) v
 
   module _ (size offset children number : List ℕ) (z : AreSizes g s size) (k : AreChildren g s children) (a : AreOffsets g s size children offset) (n : AreNumbersSoFar g s size offset s.order number) where
     pub root-number : (v : ℕ) → v < g.vertex_count → get_or s.depth v 0 ≡ 0 → get_or number v 0 ≡ 0

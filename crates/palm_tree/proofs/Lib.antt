@@ -1,14 +1,6 @@
 -- The lemmas on depth-first search and palm trees.
-mod Writes
-mod Ancestors
-mod Further
-mod Frond
-mod Child
-mod Root
-mod Left
 mod See
 mod Turns
-mod Fresh
 mod Over
 mod Start
 mod Grown

@@ -4,7 +4,7 @@ use Rattle.permutations.specs.Permutation.{iterate}
 use Rattle.multigraph.specs.Graph.{Multigraph, edge_count, IsGraph}
 use Rattle.graph_theory.proofs.Chains.{chain-in, chain-depth}
 use Rattle.palm_tree.specs.PalmTree.{PalmTreeLists, IsReached, IsLow1, IsLow2}
-use Rattle.palm_tree.specs.State.{SearchState}
+use Rattle.blocks.specs.Forest.{ForestState}
 use Rattle.palm_tree.specs.Searching.{IsOver}
 use Rattle.palm_tree.specs.Growing.{LowVertices, upper_end, is_tree_edge, LeadsFrom, IsTaken, AreLowVertices, AreSizes, AreChildren, AreOffsets, AreNumbersSoFar, AreFound}
 use Rattle.palm_tree.proofs.Grown.{forest, lower-in, upper-in, upper-below, order-member, parent-depth}
@@ -12,7 +12,7 @@ use Rattle.palm_tree.proofs.Lows.{first-in, second-in, first-own}
 use Rattle.palm_tree.proofs.Intervals.{Below, trans, same, comparable, in-order, strictly}
 use Rattle.palm_tree.proofs.Palm.{reached-from, reached-to}
 
-module _ (g : Multigraph) (gg : IsGraph g) (s : SearchState) (o : IsOver g s) (low : LowVertices) (w : AreLowVertices g s low) where
+module _ (g : Multigraph) (gg : IsGraph g) (s : ForestState) (o : IsOver g s) (low : LowVertices) (w : AreLowVertices g s low) where
   -- what was taken into account at a child was at its parent
   taken-up : (c y : ℕ) → c < g.vertex_count → 0 < get_or s.depth c 0 → IsTaken s.depth low c y → IsTaken s.depth low (get_or s.parent c 0) y
   taken-up c y l d t =

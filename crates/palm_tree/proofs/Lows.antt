@@ -5,13 +5,13 @@ use Rattle.permutations.specs.Members.{is_member}
 use Rattle.permutations.proofs.Members.{member-cases}
 use Rattle.multigraph.specs.Graph.{Multigraph, edge_count, IsGraph}
 use Rattle.graph_theory.proofs.Chains.{below-transitive, below-parent, below-reflexive}
-use Rattle.palm_tree.specs.State.{SearchState}
+use Rattle.blocks.specs.Forest.{ForestState}
 use Rattle.palm_tree.specs.Searching.{IsOver}
-use Rattle.palm_tree.specs.Growing.{LowVertices, Tells, taken, is_tree_edge, upper_end, LeadsFrom, IsTaken, AreLowSoFar}
+use Rattle.palm_tree.specs.Growing.{LowVertices, taken, is_tree_edge, upper_end, LeadsFrom, IsTaken, AreLowSoFar}
 use Rattle.palm_tree.proofs.Taking.{Change, taken-change, change-taken, change-keeps}
 use Rattle.palm_tree.proofs.Grown.{forest, parent-in, parent-depth, lower-in, upper-in, order-in, order-from, parent-before}
 
-module _ (g : Multigraph) (gg : IsGraph g) (s : SearchState) (o : IsOver g s) where
+module _ (g : Multigraph) (gg : IsGraph g) (s : ForestState) (o : IsOver g s) where
   -- the parent of a vertex leads where it leads
   pub leads-up : (v x : ℕ) → v < g.vertex_count → 0 < get_or s.depth v 0 → LeadsFrom g s v x → LeadsFrom g s (get_or s.parent v 0) x
   leads-up v x l d w = record {
@@ -113,20 +113,6 @@ module _ (g : Multigraph) (gg : IsGraph g) (s : SearchState) (o : IsOver g s) wh
             | inr p ↦ omega (arith, a.own v l, ap (λ (z : ℕ). get_or s.depth z 0) p.3)
           ]
         ]
-
-  -- each vertex with itself as its low vertices
-  pub own-low : (low : LowVertices) → Tells 0 (λ v. v) g.vertex_count low.first → Tells 0 (λ v. v) g.vertex_count low.second → AreLowSoFar g s low 0 []
-  own-low low f t = record {
-    first_places = f.places;
-    second_places = t.places;
-    first_among = λ v l. inl (f.at v l);
-    second_among = λ v l. inl (t.at v l);
-    apart = λ v l. inl (f.at v l, t.at v l);
-    own = λ v l. omega (arith, ap (λ (z : ℕ). get_or s.depth z 0) (t.at v l));
-    fronds = λ e l m n. absurd (omega arith);
-    first_handed = λ v h d. absurd (true≢false (sym h));
-    second_handed = λ v h d. absurd (true≢false (sym h));
-  }
 
   -- a parent edge needs not be taken into account
   pub edge-passed : (low : LowVertices) (e : ℕ) → AreLowSoFar g s low e [] → is_tree_edge s e ≡ true → AreLowSoFar g s low (e + 1) []

@@ -3,14 +3,14 @@ use Rattle.std.proofs.Common.{◌≡◌, ℕ, ◌<◌, inl, inr, List, length, g
 use Rattle.std.proofs.lemmas.Bool.{cases_lt}
 use Rattle.multigraph.specs.Graph.{Multigraph, IsGraph}
 use Rattle.palm_tree.specs.PalmTree.{PalmTreeLists, IsParentEdge, AreNumbers, AreParents}
-use Rattle.palm_tree.specs.State.{SearchState}
+use Rattle.blocks.specs.Forest.{ForestState}
 use Rattle.palm_tree.specs.Searching.{IsOver}
 use Rattle.palm_tree.specs.Growing.{LowVertices, AreSizes, AreChildren, AreOffsets, AreNumbersSoFar, AreFound}
 use Rattle.palm_tree.proofs.Grown.{lower-in, parent-in, parent_edge-in, parent_edge-lower, parent_edge-tree, tree-is}
 use Rattle.palm_tree.proofs.Intervals.{root-number, child-number, size-some, number-below, below-number, each-number, differ, within-below}
 use Rattle.palm_tree.proofs.Palm.{descendant-below, below-descendant, parent-root, parent-none, parent-some, mark-tree, mark-frond, to-parent_edge, from-parent_edge, to-frond}
 
-module _ (g : Multigraph) (gg : IsGraph g) (s : SearchState) (o : IsOver g s) (low : LowVertices) (size offset children number : List ℕ) (z : AreSizes g s size) (k : AreChildren g s children) (a : AreOffsets g s size children offset) (n : AreNumbersSoFar g s size offset s.order number) (edges : List ℕ) (t : PalmTreeLists) (f : AreFound g s low edges number t) where
+module _ (g : Multigraph) (gg : IsGraph g) (s : ForestState) (o : IsOver g s) (low : LowVertices) (size offset children number : List ℕ) (z : AreSizes g s size) (k : AreChildren g s children) (a : AreOffsets g s size children offset) (n : AreNumbersSoFar g s size offset s.order number) (edges : List ℕ) (t : PalmTreeLists) (f : AreFound g s low edges number t) where
   numbered : (y : ℕ) → get_or t.number y 0 ≡ get_or number y 0
   numbered y = ap (λ (l : List ℕ). get_or l y 0) f.number
 

@@ -5,13 +5,13 @@ use Rattle.std.proofs.lemmas.List.{length-replicate, take_more, drop_more, take-
 use Rattle.permutations.specs.Members.{is_member, is_distinct}
 use Rattle.permutations.proofs.Members.{member-head, member-cases, member-append_left, member-append_cases, distinct-append_apart}
 use Rattle.multigraph.specs.Graph.{Multigraph, IsGraph, IsWithinLimits}
-use Rattle.palm_tree.specs.State.{SearchState}
+use Rattle.blocks.specs.Forest.{ForestState}
 use Rattle.palm_tree.specs.Searching.{IsOver}
 use Rattle.palm_tree.specs.Growing.{AreSizes, HasRoom, AreNumbersSoFar}
-use Rattle.palm_tree.proofs.Writes.{number-same, number-other}
+use Rattle.blocks.proofs.Writes.{number-same, number-other}
 use Rattle.palm_tree.proofs.Grown.{parent-in, order-in}
 
-module _ (g : Multigraph) (gg : IsGraph g) (s : SearchState) (o : IsOver g s) (size offset : List ℕ) (z : AreSizes g s size) (room : HasRoom g s size offset) where
+module _ (g : Multigraph) (gg : IsGraph g) (s : ForestState) (o : IsOver g s) (size offset : List ℕ) (z : AreSizes g s size) (room : HasRoom g s size offset) where
   -- no vertex is numbered yet
   pub start-numbers : (number : List ℕ) → number ≡ replicate g.vertex_count 0 → AreNumbersSoFar g s size offset [] number
   start-numbers number e = record {

@@ -8,15 +8,15 @@ use Rattle.permutations.proofs.Arrangements.{member-at}
 use Rattle.permutations.proofs.Sums.{sum_below-ext, sum_below-zero}
 use Rattle.permutations.proofs.Relation.{same-tests}
 use Rattle.multigraph.specs.Graph.{Multigraph, IsGraph, IsWithinLimits}
-use Rattle.palm_tree.specs.State.{SearchState}
+use Rattle.blocks.specs.Forest.{ForestState}
 use Rattle.palm_tree.specs.Searching.{IsOver}
 use Rattle.palm_tree.specs.Growing.{is_child, size_among, AreSizes, AreChildren, AreOffsetsSoFar, AreOffsets}
-use Rattle.palm_tree.proofs.Writes.{number-same, number-other}
+use Rattle.blocks.proofs.Writes.{number-same, number-other}
 use Rattle.palm_tree.proofs.Grown.{parent-in, order-member}
-use Rattle.palm_tree.proofs.Orders.{short, before-push, before-first, before-second}
+use Rattle.palm_tree.proofs.Orders.{before-push, before-first, before-second}
 use Rattle.palm_tree.proofs.SizesHanded.{among-grows, among-more, both, second-of_both, child-deep}
 
-module _ (g : Multigraph) (gg : IsGraph g) (s : SearchState) (o : IsOver g s) (size : List ℕ) (z : AreSizes g s size) where
+module _ (g : Multigraph) (gg : IsGraph g) (s : ForestState) (o : IsOver g s) (size : List ℕ) (z : AreSizes g s size) where
   -- before any child has its place
   pub start-offsets : (offset filled : List ℕ) → offset ≡ replicate g.vertex_count 0 → filled ≡ replicate g.vertex_count 0 → AreOffsetsSoFar g s size [] offset filled
   start-offsets offset filled e f = record {
@@ -180,7 +180,3 @@ module _ (g : Multigraph) (gg : IsGraph g) (s : SearchState) (o : IsOver g s) (s
           covers = λ q x l m. a.covers q x l (omega (arith, a.sum q l, all q, z.sum q l, m));
           follow = a.follow;
         }
-
-    -- there are no more children than vertices
-    pub children-few : length children ≤ g.vertex_count
-    children-few = short g.vertex_count children k.distinct (λ c h. (k.within c h).0)

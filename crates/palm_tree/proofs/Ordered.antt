@@ -5,6 +5,7 @@ use Rattle.std.proofs.lemmas.Bool.{cases_Bool, cases_lt, eq-eqb, eqb-true, both_
 use Rattle.permutations.specs.Members.{is_member, is_distinct}
 use Rattle.permutations.proofs.Filter.{distinct-filter}
 use Rattle.permutations.proofs.Arrangements.{member-at}
+use Rattle.permutations.proofs.Places.{places-differ}
 use Rattle.multigraph.specs.Graph.{Multigraph, edge_count, other_end, IsGraph}
 use Rattle.graph_theory.specs.Block.{IsOneBlock}
 use Rattle.graph_theory.specs.Side.{IsCommon}
@@ -13,12 +14,12 @@ use Rattle.graph_theory.proofs.Chains.{below-cases}
 use Rattle.graph_theory.proofs.Crossings.{block-one_side}
 use Rattle.graph_theory.proofs.Ends.{other-other, end-cases, end-in}
 use Rattle.palm_tree.specs.PalmTree.{PalmTreeLists, is_frond, darts_of, number_reached, dart_class, AreInOrder, LaterIsLess}
-use Rattle.palm_tree.specs.State.{SearchState}
+use Rattle.blocks.specs.Forest.{ForestState}
 use Rattle.palm_tree.specs.Searching.{IsOver}
 use Rattle.palm_tree.specs.Growing.{LowVertices, is_tree_edge, upper_end, begin_of, sort_key, hangs, tree_edges, lower_ends, numbering_order, IsBefore, IsSortedByKeys, AreEdges, AreLowVertices, AreSizes, AreChildren, AreOffsets, AreNumbersSoFar, AreFound}
 use Rattle.palm_tree.proofs.Grown.{forest, lower-end, lower-in, lower-deep, upper-in, upper-below, tree-upper, tree-is, parent-in, parent-depth}
 use Rattle.palm_tree.proofs.Lows.{first-in, second-in}
-use Rattle.palm_tree.proofs.Orders.{distinct-places, before-places, before-at, before-filter, filter-before, before-reverse, before-map, before-left, before-right}
+use Rattle.palm_tree.proofs.Orders.{before-places, before-at, before-filter, filter-before, before-reverse, before-map, before-left, before-right}
 use Rattle.palm_tree.proofs.Intervals.{Below, trans, same, up, comparable, deeper, in-order, strictly, child-number, children-rise}
 use Rattle.palm_tree.proofs.Palm.{dart-from, mark-tree, tree-mark, other-mark}
 use Rattle.palm_tree.proofs.LowPoints.{first-above, second-above, taken-all}
@@ -36,7 +37,7 @@ neither-less a b c d h l = no-less a b h ∙ sym (no-less c d l)
     no-less : (x y : ℕ) → y ≤ x → ltb x y ≡ false
     no-less x y h = grind (arith, h)
 
-module _ (g : Multigraph) (gg : IsGraph g) (s : SearchState) (o : IsOver g s) (low : LowVertices) (w : AreLowVertices g s low) (edges : List ℕ) (q : IsSortedByKeys (edge_count g) (sort_key g s low) edges) (size offset number : List ℕ) (z : AreSizes g s size) (k : AreChildren g s (numbering_order s low edges)) (a : AreOffsets g s size (numbering_order s low edges) offset) (n : AreNumbersSoFar g s size offset s.order number) (t : PalmTreeLists) (f : AreFound g s low edges number t) where
+module _ (g : Multigraph) (gg : IsGraph g) (s : ForestState) (o : IsOver g s) (low : LowVertices) (w : AreLowVertices g s low) (edges : List ℕ) (q : IsSortedByKeys (edge_count g) (sort_key g s low) edges) (size offset number : List ℕ) (z : AreSizes g s size) (k : AreChildren g s (numbering_order s low edges)) (a : AreOffsets g s size (numbering_order s low edges) offset) (n : AreNumbersSoFar g s size offset s.order number) (t : PalmTreeLists) (f : AreFound g s low edges number t) where
   numbered : (y : ℕ) → get_or t.number y 0 ≡ get_or number y 0
   numbered y = ap (λ (l : List ℕ). get_or l y 0) f.number
 
@@ -329,4 +330,4 @@ module _ (g : Multigraph) (gg : IsGraph g) (s : SearchState) (o : IsOver g s) (l
       child d dl td u = ap (other_end g d) (sym u) ∙ other-other g d (get_or s.lower d 0) (lower-end g gg s o d dl)
 
       differs : e ≢ f'
-      differs = distinct-places (darts_of t v) i j (subst (λ (x : List ℕ). is_distinct x ≡ true) (sym (f.darts.edges_at v vl)) (distinct-filter (λ d. begin_of g s d == v) edges q.distinct)) h l
+      differs = places-differ (darts_of t v) i j (subst (λ (x : List ℕ). is_distinct x ≡ true) (sym (f.darts.edges_at v vl)) (distinct-filter (λ d. begin_of g s d == v) edges q.distinct)) h l

@@ -1,24 +1,26 @@
 -- Lists without repetition of numbers below a bound: how long they are, and which of two members stands before the other.
 use Rattle.std.proofs.Common.{◌≡◌, ◌≢◌, ℕ, zero, suc, ◌<◌, ◌≤◌, ◌⊎◌, inl, inr, Bool, true, List, [], ◌∷◌, ◌++◌, length, map, filter, reverse, get_or, refl, sym, ap, ◌∙◌, subst, arith}
-use Rattle.std.proofs.lemmas.Bool.{cases_Bool, true≢false, false_from_ne_true}
+use Rattle.std.proofs.lemmas.Bool.{cases_Bool, true≢false}
 use Rattle.std.proofs.lemmas.List.{reverse-append}
 use Rattle.permutations.specs.Members.{is_member, is_distinct}
 use Rattle.permutations.proofs.Count.{count-within}
-use Rattle.permutations.proofs.Members.{member-head, member-tail, member-cases, member-append_left, member-append_right, member-append_cases, member-reverse, distinct-head, distinct-tail, distinct-cons}
+use Rattle.permutations.proofs.Members.{member-head, member-tail, member-cases, member-append_left, member-append_right, member-append_cases, member-reverse}
 use Rattle.permutations.proofs.Arrangements.{count-list, member-at}
 use Rattle.permutations.proofs.Filter.{filter-yes, filter-no, member-filter_parts, filter-member}
+use Rattle.permutations.proofs.Places.{place-of}
+use Rattle.permutations.proofs.Mapped.{member-map}
 use Rattle.multigraph.specs.Graph.{Multigraph}
-use Rattle.palm_tree.specs.State.{SearchState}
+use Rattle.blocks.specs.Forest.{ForestState}
 use Rattle.palm_tree.specs.Searching.{IsOver}
 use Rattle.palm_tree.specs.Growing.{IsBefore}
-use Rattle.palm_tree.proofs.Writes.{marked-in}
+use Rattle.blocks.proofs.Writes.{marked-in}
 
 -- different numbers below n are at most n
 pub short : (n : ℕ) (l : List ℕ) → is_distinct l ≡ true → ((x : ℕ) → is_member x l ≡ true → x < n) → length l ≤ n
 short n l d w = omega (arith, count-list n (λ x. is_member x l) l d w (λ x h. refl), count-within n (λ x. is_member x l))
 
 -- the order has no more places than there are vertices
-pub order-length : (g : Multigraph) (s : SearchState) → IsOver g s → length s.order ≤ g.vertex_count
+pub order-length : (g : Multigraph) (s : ForestState) → IsOver g s → length s.order ≤ g.vertex_count
 order-length g s o = short g.vertex_count s.order o.searching.ordered.distinct (λ v h. omega (arith, marked-in s.visited v (sym (o.searching.ordered.members v) ∙ h), o.searching.places.visited))
 
 -- a member at an earlier place stands before
@@ -100,54 +102,13 @@ filter-before p (z ∷ l) x y b = elim (cases_Bool (p z)) [
   | inr a ↦ inr (filter-before p l x y (subst (λ (k : List ℕ). IsBefore k x y) (filter-no p z l a) b))
 ]
 
--- the images of the members
-pub member-map : (f : ℕ → ℕ) (l : List ℕ) (x : ℕ) → is_member x l ≡ true → is_member (f x) (map f l) ≡ true
-member-map f [] x h = absurd (true≢false (sym h))
-member-map f (z ∷ l) x h = elim (member-cases x z l h) [
-  | inl e ↦ subst (λ (k : ℕ). is_member k (f z ∷ map f l) ≡ true) (ap f e) (member-head (f z) (map f l))
-  | inr m ↦ member-tail (f x) (f z) (map f l) (member-map f l x m)
-]
-
-pub map-member : (f : ℕ → ℕ) (l : List ℕ) (y : ℕ) → is_member y (map f l) ≡ true → (x : ℕ) × (is_member x l ≡ true) × (f x ≡ y)
-map-member f [] y h = absurd (true≢false (sym h))
-map-member f (z ∷ l) y h = by (member-cases y (f z) (map f l) h) (map-member f l y)
-  where
-    by : (f z ≡ y) ⊎ (is_member y (map f l) ≡ true) → (is_member y (map f l) ≡ true → (x : ℕ) × (is_member x l ≡ true) × (f x ≡ y)) → (x : ℕ) × (is_member x (z ∷ l) ≡ true) × (f x ≡ y)
-    by (inl e) r = (z, member-head z l, e)
-    by (inr m) r = let w = r m in (w.0, member-tail w.0 z l w.1, w.2)
-
 pub before-map : (f : ℕ → ℕ) (l : List ℕ) (x y : ℕ) → IsBefore l x y → IsBefore (map f l) (f x) (f y)
 before-map f [] x y b = absurd b
 before-map f (z ∷ l) x y (inl p) = inl (ap f p.0, member-map f l y p.1)
 before-map f (z ∷ l) x y (inr b) = inr (before-map f l x y b)
 
--- different members with different images
-pub distinct-map : (f : ℕ → ℕ) (l : List ℕ) → is_distinct l ≡ true → ((x y : ℕ) → is_member x l ≡ true → is_member y l ≡ true → f x ≡ f y → x ≡ y) → is_distinct (map f l) ≡ true
-distinct-map f [] d i = refl
-distinct-map f (z ∷ l) d i =
-    distinct-cons (f z) (map f l) (false_from_ne_true (is_member (f z) (map f l)) (λ h.
-    let w = map-member f l (f z) h in
-    true≢false (sym w.1 ∙ (ap (λ (k : ℕ). is_member k l) (i w.0 z (member-tail w.0 z l w.1) (member-head z l) w.2) ∙ distinct-head z l d))))
-    (distinct-map f l (distinct-tail z l d) (λ x y a b. i x y (member-tail x z l a) (member-tail y z l b)))
-
--- the place of a member
-pub member-place : (l : List ℕ) (x : ℕ) → is_member x l ≡ true → (i : ℕ) × (i < length l) × (get_or l i 0 ≡ x)
-member-place [] x h = absurd (true≢false (sym h))
-member-place (z ∷ l) x h = by (member-cases x z l h) (member-place l x)
-  where
-    by : (z ≡ x) ⊎ (is_member x l ≡ true) → (is_member x l ≡ true → (i : ℕ) × (i < length l) × (get_or l i 0 ≡ x)) → (i : ℕ) × (i < suc (length l)) × (get_or (z ∷ l) i 0 ≡ x)
-    by (inl e) r = (0, omega arith, e)
-    by (inr m) r = let w = r m in (suc w.0, omega (arith, w.1), w.2)
-
 -- the places of two members of which one stands before the other
 pub before-at : (l : List ℕ) (x y : ℕ) → IsBefore l x y → (i j : ℕ) × (i < j) × (j < length l) × (get_or l i 0 ≡ x) × (get_or l j 0 ≡ y)
 before-at [] x y b = absurd b
-before-at (z ∷ l) x y (inl p) = let w = member-place l y p.1 in (0, suc w.0, omega arith, omega (arith, w.1), p.0, w.2)
+before-at (z ∷ l) x y (inl p) = let w = place-of l y p.1 in (0, suc w.0, omega arith, omega (arith, w.1), p.0, w.2)
 before-at (z ∷ l) x y (inr b) = let w = before-at l x y b in (suc w.0, suc w.1, omega (arith, w.2), omega (arith, w.3), w.4, w.5)
-
--- different places of a list without repetition have different members
-pub distinct-places : (l : List ℕ) (i j : ℕ) → is_distinct l ≡ true → i < j → j < length l → get_or l i 0 ≢ get_or l j 0
-distinct-places [] i j d a b e = absurd (omega arith)
-distinct-places (z ∷ l) i zero d a b e = absurd (omega arith)
-distinct-places (z ∷ l) zero (suc j) d a b e = true≢false (sym (member-at l j 0 (omega arith)) ∙ (ap (λ (k : ℕ). is_member k l) (sym e) ∙ distinct-head z l d))
-distinct-places (z ∷ l) (suc i) (suc j) d a b e = distinct-places l i j (distinct-tail z l d) (omega arith) (omega arith) e

@@ -1,59 +1,16 @@
--- What a finished search has found: a search forest with its low points.
-use Rattle.std.proofs.Common.{◌≡◌, ℕ, ◌<◌, inl, inr, true, List, [], length, get_or, ap, ◌∙◌, subst, arith}
-use Rattle.std.proofs.lemmas.List.{get_or_default}
-use Rattle.multigraph.specs.Graph.{Multigraph, edge_count, ends_of, incident_edges, IsGraph}
-use Rattle.multigraph.proofs.Incident.{incident-has}
-use Rattle.graph_theory.specs.SearchTree.{IsSearchForest}
-use Rattle.graph_theory.proofs.Connection.{first-is_end}
-use Rattle.palm_tree.specs.State.{SearchState}
+-- What a finished search has found: a search forest.
+use Rattle.std.proofs.Common.{◌≡◌, ℕ, ◌<◌, true, get_or}
+use Rattle.multigraph.specs.Graph.{Multigraph, edge_count, IsGraph}
 use Rattle.multigraph.specs.Marks.{is_marked}
-use Rattle.palm_tree.specs.Searching.{degree, OnPath, IsSearching, IsOver}
-use Rattle.palm_tree.proofs.Writes.{marked-in}
-
--- nothing is on an empty path
-pub off-empty : (path : List ℕ) → path ≡ [] → (v : ℕ) → OnPath path v → ⊥
-off-empty path e v o = absurd (omega (arith, o.within, ap length e))
+use Rattle.graph_theory.specs.SearchTree.{IsSearchForest}
+use Rattle.blocks.specs.Forest.{ForestState}
+use Rattle.blocks.proofs.Over.{all-seen, all-forest}
+use Rattle.palm_tree.specs.Searching.{IsOver}
 
 -- every edge was seen
-pub over-seen : (g : Multigraph) → IsGraph g → (s : SearchState) → IsOver g s → (e : ℕ) → e < edge_count g → is_marked s.seen e ≡ true
-over-seen g gg s o e l = from (incident-has g v e l (first-is_end g e))
-  where
-    v : ℕ
-    v = (ends_of g e).0
-
-    vl : v < g.vertex_count
-    vl = gg.first_in e l
-
-    done : get_or s.position v 0 ≡ degree g v
-    done = elim (o.searching.looked.finished v (o.visited v vl)) [ inl a ↦ a | inr p ↦ absurd (off-empty s.path o.empty v p) ]
-
-    from : (q : ℕ) × (q < length (incident_edges g v)) × (get_or (incident_edges g v) q e ≡ e) → is_marked s.seen e ≡ true
-    from c =
-        let f : get_or (incident_edges g v) c.0 0 ≡ e = get_or_default (incident_edges g v) c.0 0 e c.1 ∙ c.2 in
-        subst (λ (z : ℕ). is_marked s.seen z ≡ true) f (o.searching.looked.looked v vl c.0 (omega (arith, done, c.1)))
-
--- a seen edge is an edge
-pub seen-in : (g : Multigraph) (s : SearchState) → IsSearching g s → (e : ℕ) → is_marked s.seen e ≡ true → e < edge_count g
-seen-in g s k e h = omega (arith, marked-in s.seen e h, k.places.seen)
+pub over-seen : (g : Multigraph) → IsGraph g → (s : ForestState) → IsOver g s → (e : ℕ) → e < edge_count g → is_marked s.seen e ≡ true
+over-seen g gg s o = all-seen g gg s o.searching.forest o.empty o.visited
 
 -- the search forest
-pub over-forest : (g : Multigraph) → IsGraph g → (s : SearchState) → IsOver g s → IsSearchForest g (λ v. get_or s.parent v 0) (λ v. get_or s.depth v 0) (λ v. get_or s.parent_edge v 0) (λ e. get_or s.lower e 0)
-over-forest g gg s o = record {
-  parent_in = λ v l d. k.grown.parent_in v (o.visited v l) d;
-  parent_depth = λ v l d. k.grown.parent_depth v (o.visited v l) d;
-  parent_edge_in = λ v l d. k.grown.edge_in v (o.visited v l) d;
-  parent_edge_end = λ v l d. k.grown.edge_end v (o.visited v l) d;
-  parent_edge_leads = λ v l d. k.grown.edge_leads v (o.visited v l) d;
-  parent_edge_lower = λ v l d. k.grown.edge_lower v (o.visited v l) d;
-  lower_end = λ e l. k.edges.lower_end e (over-seen g gg s o e l);
-  upper_above = λ e l. k.edges.upper_above e (over-seen g gg s o e l);
-}
-  where
-    k : IsSearching g s
-    k = o.searching
-
--- the lower end of an edge is a vertex
-pub over-lower_in : (g : Multigraph) → IsGraph g → (s : SearchState) → IsOver g s → (e : ℕ) → e < length s.lower → get_or s.lower e 0 < g.vertex_count
-over-lower_in g gg s o e l =
-    let k = o.searching in
-    omega (arith, marked-in s.visited (get_or s.lower e 0) (k.edges.lower_visited e (over-seen g gg s o e (omega (arith, l, k.places.lower)))), k.places.visited)
+pub over-forest : (g : Multigraph) → IsGraph g → (s : ForestState) → IsOver g s → IsSearchForest g (λ v. get_or s.parent v 0) (λ v. get_or s.depth v 0) (λ v. get_or s.parent_edge v 0) (λ e. get_or s.lower e 0)
+over-forest g gg s o = all-forest g gg s o.searching.forest o.empty o.visited

@@ -8,7 +8,7 @@ use Rattle.permutations.proofs.Filter.{filter-member, member-filter_parts, disti
 use Rattle.multigraph.specs.Graph.{Multigraph, edge_count, other_end, IsGraph}
 use Rattle.graph_theory.proofs.Ends.{other-other, end-cases, end-in}
 use Rattle.palm_tree.specs.PalmTree.{PalmTreeLists, parent_of, is_frond, darts_of, Climbs, IsDescendant, IsParentEdge, IsFrondFrom, BeginsAt, IsReached, AreDarts}
-use Rattle.palm_tree.specs.State.{SearchState}
+use Rattle.blocks.specs.Forest.{ForestState}
 use Rattle.palm_tree.specs.Searching.{IsOver}
 use Rattle.palm_tree.specs.Growing.{LowVertices, is_tree_edge, upper_end, begin_of, LeadsFrom, AreFound, AreEdges}
 use Rattle.palm_tree.proofs.Grown.{parent-in, parent-depth, lower-end, lower-in, lower-deep, upper-below, upper-depth, tree-upper, begin-in}
@@ -39,7 +39,7 @@ not-false b h = grind (arith, cases_Bool b, h)
 not-true : (b : Bool) → not b ≡ true → b ≡ false
 not-true b h = grind (arith, cases_Bool b, h)
 
-module _ (g : Multigraph) (gg : IsGraph g) (s : SearchState) (o : IsOver g s) (low : LowVertices) (edges numbers : List ℕ) (t : PalmTreeLists) (f : AreFound g s low edges numbers t) where
+module _ (g : Multigraph) (gg : IsGraph g) (s : ForestState) (o : IsOver g s) (low : LowVertices) (edges numbers : List ℕ) (t : PalmTreeLists) (f : AreFound g s low edges numbers t) where
   -- parents
   pub parent-deep : (v : ℕ) → v < g.vertex_count → 0 < get_or s.depth v 0 → parent_of t v ≡ Some (get_or s.parent v 0)
   parent-deep v l d = let b : ltb 0 (get_or s.depth v 0) ≡ true = grind (arith, d) in f.parent.at v l ∙ ap (λ (c : Bool). (if c then Some (get_or s.parent v 0) else None)) b

@@ -7,23 +7,23 @@ use Rattle.permutations.specs.Members.{is_member}
 use Rattle.permutations.proofs.Members.{member-head}
 use Rattle.permutations.proofs.Sums.{sum_below-ext, sum_below-le, sum_below-zero, sum_below-const}
 use Rattle.multigraph.specs.Graph.{Multigraph, IsGraph, IsWithinLimits}
-use Rattle.palm_tree.specs.State.{SearchState}
+use Rattle.blocks.specs.Forest.{ForestState}
 use Rattle.palm_tree.specs.Searching.{IsOver}
 use Rattle.palm_tree.specs.Growing.{is_child, size_among, AreSizesSoFar}
-use Rattle.palm_tree.proofs.Writes.{number-same, number-other}
+use Rattle.blocks.proofs.Writes.{number-same, number-other}
 use Rattle.palm_tree.proofs.Grown.{parent-in, parent-depth, order-in, order-from, order-once, parent-before}
 use Rattle.palm_tree.proofs.Totals.{sum-change, sum-two, cond-yes, cond-no}
 
 -- a child is deep
-pub child-deep : (s : SearchState) (q c : ℕ) → is_child s q c ≡ true → (0 < get_or s.depth c 0) × (get_or s.parent c 0 ≡ q)
+pub child-deep : (s : ForestState) (q c : ℕ) → is_child s q c ≡ true → (0 < get_or s.depth c 0) × (get_or s.parent c 0 ≡ q)
 child-deep s q c h = (grind (arith, h), eqb-true (get_or s.parent c 0) q (grind (arith, h)))
 
 -- a vertex that is no root is a child of its parent
-pub deep-child : (s : SearchState) (c : ℕ) → 0 < get_or s.depth c 0 → is_child s (get_or s.parent c 0) c ≡ true
+pub deep-child : (s : ForestState) (c : ℕ) → 0 < get_or s.depth c 0 → is_child s (get_or s.parent c 0) c ≡ true
 deep-child s c d = grind (arith, d, eq-eqb (get_or s.parent c 0) (get_or s.parent c 0) refl)
 
 -- and of no other vertex
-pub child-of_other : (s : SearchState) (q c : ℕ) → get_or s.parent c 0 ≢ q → is_child s q c ≡ false
+pub child-of_other : (s : ForestState) (q c : ℕ) → get_or s.parent c 0 ≢ q → is_child s q c ≡ false
 child-of_other s q c n = false_from_ne_true (is_child s q c) (λ h. n (child-deep s q c h).1)
 
 -- both tests
@@ -47,14 +47,14 @@ pub member-cons : (x c : ℕ) (l : List ℕ) → c ≢ x → is_member c (x ∷ 
 member-cons x c l n = grind (arith, false_from_ne_true (x == c) (λ h. n (sym (eqb-true x c h))))
 
 -- sizes that agree on the members have one sum over them
-pub among-ext : (g : Multigraph) (s : SearchState) (size size' members : List ℕ) (q : ℕ) → ((c : ℕ) → is_member c members ≡ true → get_or size' c 0 ≡ get_or size c 0) → (c : ℕ) → cond (is_member c members && is_child s q c) (get_or size c 0) 0 ≡ cond (is_member c members && is_child s q c) (get_or size' c 0) 0
+pub among-ext : (g : Multigraph) (s : ForestState) (size size' members : List ℕ) (q : ℕ) → ((c : ℕ) → is_member c members ≡ true → get_or size' c 0 ≡ get_or size c 0) → (c : ℕ) → cond (is_member c members && is_child s q c) (get_or size c 0) 0 ≡ cond (is_member c members && is_child s q c) (get_or size' c 0) 0
 among-ext g s size size' members q e c = elim (cases_Bool (is_member c members)) [
   | inl t ↦ ap (λ (z : ℕ). cond (is_member c members && is_child s q c) z 0) (sym (e c t))
   | inr f ↦ let n = first-no (is_member c members) (is_child s q c) f in cond-no (is_member c members && is_child s q c) (get_or size c 0) 0 n ∙ sym (cond-no (is_member c members && is_child s q c) (get_or size' c 0) 0 n)
 ]
 
 -- where more are members, the sum is no less
-pub among-more : (g : Multigraph) (s : SearchState) (size few many : List ℕ) (q : ℕ) → ((c : ℕ) → c < g.vertex_count → is_member c few ≡ true → is_member c many ≡ true) → size_among g s size few q ≤ size_among g s size many q
+pub among-more : (g : Multigraph) (s : ForestState) (size few many : List ℕ) (q : ℕ) → ((c : ℕ) → c < g.vertex_count → is_member c few ≡ true → is_member c many ≡ true) → size_among g s size few q ≤ size_among g s size many q
 among-more g s size few many q h = sum_below-le g.vertex_count (λ c. cond (is_member c few && is_child s q c) (get_or size c 0) 0) (λ c. cond (is_member c many && is_child s q c) (get_or size c 0) 0) term
   where
     term : (c : ℕ) → c < g.vertex_count → cond (is_member c few && is_child s q c) (get_or size c 0) 0 ≤ cond (is_member c many && is_child s q c) (get_or size c 0) 0
@@ -64,7 +64,7 @@ among-more g s size few many q h = sum_below-le g.vertex_count (λ c. cond (is_m
     ]
 
 -- where v comes to the members, the sum grows by its size at its parent, and nowhere else
-pub among-grows : (g : Multigraph) (s : SearchState) (size size' old new : List ℕ) (v : ℕ) → v < g.vertex_count → 0 < get_or s.depth v 0
+pub among-grows : (g : Multigraph) (s : ForestState) (size size' old new : List ℕ) (v : ℕ) → v < g.vertex_count → 0 < get_or s.depth v 0
     → is_member v old ≡ false → is_member v new ≡ true → ((c : ℕ) → c ≢ v → is_member c new ≡ is_member c old) → ((c : ℕ) → is_member c new ≡ true → get_or size' c 0 ≡ get_or size c 0)
     → (size_among g s size' new (get_or s.parent v 0) ≡ size_among g s size old (get_or s.parent v 0) + get_or size v 0) × ((q : ℕ) → q ≢ get_or s.parent v 0 → size_among g s size' new q ≡ size_among g s size old q)
 among-grows g s size size' old new v l d out here same e = (at-parent, elsewhere)
@@ -87,7 +87,7 @@ among-grows g s size size' old new v l d out here same e = (at-parent, elsewhere
     elsewhere q n =
         omega (arith, change q, before q, cond-no (is_member v new && is_child s q v) (get_or size' v 0) 0 (second-no (is_member v new) (is_child s q v) (child-of_other s q v (λ r. n (sym r)))))
 
-module _ (g : Multigraph) (gg : IsGraph g) (s : SearchState) (o : IsOver g s) where
+module _ (g : Multigraph) (gg : IsGraph g) (s : ForestState) (o : IsOver g s) where
   -- before any vertex has handed its size on
   pub start-sizes : (size : List ℕ) → size ≡ replicate g.vertex_count 1 → AreSizesSoFar g s size []
   start-sizes size e = record {

@@ -1,39 +1,38 @@
 -- The search of a connected graph from its first vertex: how it begins, how many turns it can take, and that every vertex was
 -- visited when the path is empty.
-use Rattle.std.proofs.Common.{◌≡◌, ℕ, zero, suc, ◌+◌, ◌*◌, ◌<◌, ◌≤◌, inl, inr, Bool, true, false, ◌||◌, ◌==◌, cond, List, [], ◌∷◌, length, filter, get_or, replicate, refl, sym, ap, ◌∙◌, subst, arith, length-append}
-use Rattle.std.proofs.lemmas.Bool.{cases_Bool, eq-eqb, eqb-true}
+use Rattle.std.proofs.Common.{◌≡◌, ℕ, zero, suc, ◌+◌, ◌*◌, ◌<◌, ◌≤◌, inl, inr, Bool, true, false, ◌||◌, ◌==◌, cond, [], ◌∷◌, length, filter, get_or, replicate, refl, sym, ap, ◌∙◌, subst, arith, length-append}
+use Rattle.std.proofs.lemmas.Bool.{cases_Bool, both_ways, eq-eqb, eqb-true}
 use Rattle.std.proofs.lemmas.List.{get_or_default, length-replicate}
 use Rattle.permutations.specs.Count.{count, sum_below}
 use Rattle.permutations.proofs.Count.{count-ext, count-single}
 use Rattle.permutations.proofs.Sums.{sum_below-ext, sum_below-le, sum_below-const, count-exchange}
 use Rattle.permutations.proofs.Relation.{same-tests, connected-value}
-use Rattle.multigraph.specs.Graph.{Multigraph, edge_count, ends_of, is_end, other_end, incident_edges, numbers_below, IsGraph}
+use Rattle.multigraph.specs.Graph.{Multigraph, edge_count, ends_of, is_end, incident_edges, numbers_below, IsGraph}
 use Rattle.multigraph.proofs.Below.{filter_below-suc}
 use Rattle.multigraph.proofs.Incident.{incident-has}
 use Rattle.multigraph.proofs.OtherEnd.{is_end-first, is_end-second}
 use Rattle.graph_theory.proofs.Ends.{end-cases, end-in}
 use Rattle.palm_tree.specs.PalmTree.{IsConnected}
-use Rattle.palm_tree.specs.State.{SearchState, fresh, root_noted}
+use Rattle.blocks.specs.Forest.{ForestState, fresh, root_noted, degree, looks_left}
 use Rattle.multigraph.specs.Marks.{is_marked}
-use Rattle.palm_tree.specs.Searching.{degree, IsGrown, IsSeen, IsSearching, IsOver, looks_left, turns_left}
-use Rattle.palm_tree.proofs.Writes.{marked-same}
-use Rattle.palm_tree.proofs.Ancestors.{chain}
-use Rattle.palm_tree.proofs.Fresh.{fresh-searching, marked-none, number-none}
-use Rattle.palm_tree.proofs.Root.{root-kept}
-use Rattle.palm_tree.proofs.Over.{off-empty}
+use Rattle.palm_tree.specs.Searching.{IsSearching, IsOver, turns_left}
+use Rattle.blocks.proofs.Writes.{marked-same}
+use Rattle.blocks.proofs.Leads.{upper-visited}
+use Rattle.blocks.proofs.Fresh.{fresh-forest, marked-none, number-none}
+use Rattle.blocks.proofs.Root.{root-forest, root-roots}
+use Rattle.blocks.proofs.Over.{off-empty}
 
 -- the state where the first vertex was visited is between turns
 pub start-searching : (g : Multigraph) → 0 < g.vertex_count → IsSearching g (root_noted (fresh g) 0)
-start-searching g l = root-kept g (fresh g) 0 (fresh-searching g) l (marked-none g.vertex_count 0) refl refl
+start-searching g l = record {
+  forest = root-forest g (fresh g) 0 (fresh-forest g) l none refl;
+  one_root = λ v h d. elim (root-roots g (fresh g) 0 (fresh-forest g) l none refl v h d) [ inl q ↦ q | inr o ↦ absurd (both_ways (is_marked (fresh g).visited v) (marked-none g.vertex_count v) o.0) ];
+}
+  where
+    none : is_marked (fresh g).visited 0 ≡ false
+    none = marked-none g.vertex_count 0
 
--- the other end of a seen edge was visited
-pub upper-visited : (g : Multigraph) (visited : List Bool) (parent depth parent_edge : List ℕ) (seen : List Bool) (lower : List ℕ) → IsGrown g visited parent depth parent_edge seen lower → IsSeen g visited parent depth seen lower → (e : ℕ) → is_marked seen e ≡ true → is_marked visited (other_end g e (get_or lower e 0)) ≡ true
-upper-visited g visited parent depth parent_edge seen lower t d e h =
-    let u = d.upper_above e h in
-    subst (λ (k : ℕ). is_marked visited k ≡ true) u.2
-    (chain g visited parent depth parent_edge seen lower t (u.0 + 1) (get_or lower e 0) (d.lower_visited e h) (omega (arith, u.1))).0
-
-module _ (g : Multigraph) (gg : IsGraph g) (s : SearchState) (k : IsSearching g s) (empty : s.path ≡ []) where
+module _ (g : Multigraph) (gg : IsGraph g) (s : ForestState) (k : IsSearching g s) (empty : s.path ≡ []) where
   -- an edge at a visited vertex was seen
   visited-seen : (e v : ℕ) → e < edge_count g → is_end g v e ≡ true → is_marked s.visited v ≡ true → is_marked s.seen e ≡ true
   visited-seen e v l i h = from (incident-has g v e l i)

@@ -2,7 +2,7 @@
 use Rattle.std.proofs.Common.{◌≡◌, ◌≢◌, ℕ, ◌<◌, ◌≤◌, ◌⊎◌, inl, inr, Bool, true, false, ◌&&◌, ltb, if◌then◌else◌, List, length, get_or, set, refl, sym, ap, ◌∙◌, subst, arith, length-set}
 use Rattle.std.proofs.lemmas.Bool.{cases_eq}
 use Rattle.palm_tree.specs.Growing.{LowVertices, taken, IsTaken}
-use Rattle.palm_tree.proofs.Writes.{number-same, number-other}
+use Rattle.blocks.proofs.Writes.{number-same, number-other}
 
 -- how the two low vertices of v change where x is taken into account
 pub record Change (depth : List ℕ) (low new : LowVertices) (v x : ℕ) : Type 0 where

@@ -2,7 +2,7 @@
 use Rattle.std.proofs.Common.{ℕ, List}
 use Rattle.multigraph.specs.Graph.{Multigraph, edge_count, IsGraph}
 use Rattle.palm_tree.specs.PalmTree.{PalmTreeLists, IsPalmTree}
-use Rattle.palm_tree.specs.State.{SearchState}
+use Rattle.blocks.specs.Forest.{ForestState}
 use Rattle.palm_tree.specs.Searching.{IsOver}
 use Rattle.palm_tree.specs.Growing.{LowVertices, sort_key, numbering_order, IsSortedByKeys, AreLowVertices, AreNumbered, AreFound}
 use Rattle.palm_tree.proofs.Palm.{are-darts}
@@ -11,7 +11,7 @@ use Rattle.palm_tree.proofs.Numbered.{are-numbers, are-parents}
 use Rattle.palm_tree.proofs.Sorted.{sorted-edges, are-children}
 use Rattle.palm_tree.proofs.Ordered.{darts-in_order, later-less}
 
-pub is-palm_tree : (g : Multigraph) → IsGraph g → (s : SearchState) → IsOver g s → (low : LowVertices) → AreLowVertices g s low → (edges : List ℕ) → IsSortedByKeys (edge_count g) (sort_key g s low) edges → (number : List ℕ) → AreNumbered g s low edges number → (t : PalmTreeLists) → AreFound g s low edges number t → IsPalmTree g t
+pub is-palm_tree : (g : Multigraph) → IsGraph g → (s : ForestState) → IsOver g s → (low : LowVertices) → AreLowVertices g s low → (edges : List ℕ) → IsSortedByKeys (edge_count g) (sort_key g s low) edges → (number : List ℕ) → AreNumbered g s low edges number → (t : PalmTreeLists) → AreFound g s low edges number t → IsPalmTree g t
 is-palm_tree g gg s o low w edges q number m t f =
     let c = numbering_order s low edges in
     let e = sorted-edges g (sort_key g s low) edges q in

@@ -5,15 +5,15 @@ use Rattle.permutations.specs.Count.{sum_below}
 use Rattle.graph_theory.specs.SearchTree.{IsBelow}
 use Rattle.permutations.specs.Members.{is_member, is_distinct}
 use Rattle.multigraph.specs.Graph.{Multigraph, edge_count, other_end}
-use Rattle.palm_tree.specs.State.{SearchState}
+use Rattle.blocks.specs.Forest.{ForestState}
 use Rattle.palm_tree.specs.PalmTree.{PalmTreeLists}
 
 -- whether e is the parent edge of its lower end
-abbrev pub is_tree_edge : SearchState → ℕ → Bool
+abbrev pub is_tree_edge : ForestState → ℕ → Bool
 is_tree_edge s e = slice_index s.parent_edge (slice_index s.lower e) == e
 
 -- the end of e that is not its lower one
-abbrev pub upper_end : Multigraph → SearchState → ℕ → ℕ
+abbrev pub upper_end : Multigraph → ForestState → ℕ → ℕ
 upper_end g s e = other_end g e (slice_index s.lower e)
 
 -- for each vertex two vertices, at its two low points
@@ -31,22 +31,22 @@ taken depth low v x =
     else low))
 
 -- the vertex that the dart e leads to: for a parent edge the first low vertex of the child, for a frond the upper end
-abbrev pub vertex_reached : Multigraph → SearchState → LowVertices → ℕ → ℕ
+abbrev pub vertex_reached : Multigraph → ForestState → LowVertices → ℕ → ℕ
 vertex_reached g s low e = (if is_tree_edge s e then slice_index low.first (slice_index s.lower e) else upper_end g s e)
 
 -- the vertex at which the dart e begins: for a parent edge the upper end, for a frond the lower one
-abbrev pub begin_of : Multigraph → SearchState → ℕ → ℕ
+abbrev pub begin_of : Multigraph → ForestState → ℕ → ℕ
 begin_of g s e = (if is_tree_edge s e then upper_end g s e else slice_index s.lower e)
 
 -- the class of the dart e among those that lead to the same vertex
-abbrev pub class_of : Multigraph → SearchState → LowVertices → ℕ → ℕ
+abbrev pub class_of : Multigraph → ForestState → LowVertices → ℕ → ℕ
 class_of g s low e =
     (if is_tree_edge s e
     then (if nat_lt (slice_index s.depth (slice_index low.second (slice_index s.lower e))) (slice_index s.depth (upper_end g s e)) then 0 else 2)
     else 1)
 
 -- what darts are sorted by
-abbrev pub sort_key : Multigraph → SearchState → LowVertices → ℕ → ℕ
+abbrev pub sort_key : Multigraph → ForestState → LowVertices → ℕ → ℕ
 sort_key g s low e = 3 * slice_index s.depth (vertex_reached g s low e) + class_of g s low e
 
 -- whether nothing leads from v or below it past v
@@ -66,11 +66,11 @@ pub record IsSortedByKeys (m : ℕ) (key : ℕ → ℕ) (l : List ℕ) : Type 0 
   pub rising : (i j : ℕ) → i < j → j < length l → key (slice_index l i) ≤ key (slice_index l j)
 
 -- of these edges the parent edges whose child hangs, or those whose child does not
-abbrev pub tree_edges : SearchState → LowVertices → Bool → List ℕ → List ℕ
+abbrev pub tree_edges : ForestState → LowVertices → Bool → List ℕ → List ℕ
 tree_edges s low hanging l = filter (λ e. is_tree_edge s e && beq (hangs low (slice_index s.lower e)) hanging) l
 
 -- a frond whose lower end is v or a descendant of v leads to x
-pub record LeadsFrom (g : Multigraph) (s : SearchState) (v x : ℕ) : Type 0 where
+pub record LeadsFrom (g : Multigraph) (s : ForestState) (v x : ℕ) : Type 0 where
   pub edge : ℕ
   pub edge_in : edge < edge_count g
   pub frond : is_tree_edge s edge ≡ false
@@ -83,7 +83,7 @@ pub record IsTaken (depth : List ℕ) (low : LowVertices) (v x : ℕ) : Type 0 w
   pub second : (slice_index depth x ≡ slice_index depth (slice_index low.first v)) ⊎ (slice_index depth (slice_index low.second v) ≤ slice_index depth x)
 
 -- the two low vertices are right for the fronds below k, and for what these vertices handed on to their parents
-pub record AreLowSoFar (g : Multigraph) (s : SearchState) (low : LowVertices) (k : ℕ) (handed : List ℕ) : Type 0 where
+pub record AreLowSoFar (g : Multigraph) (s : ForestState) (low : LowVertices) (k : ℕ) (handed : List ℕ) : Type 0 where
   pub first_places : length low.first ≡ g.vertex_count
   pub second_places : length low.second ≡ g.vertex_count
   pub first_among : (v : ℕ) → v < g.vertex_count → (slice_index low.first v ≡ v) ⊎ LeadsFrom g s v (slice_index low.first v)
@@ -95,30 +95,30 @@ pub record AreLowSoFar (g : Multigraph) (s : SearchState) (low : LowVertices) (k
   pub second_handed : (v : ℕ) → is_member v handed ≡ true → 0 < slice_index s.depth v → IsTaken s.depth low (slice_index s.parent v) (slice_index low.second v)
 
 -- the two low vertices of each vertex, when all was handed on
-abbrev pub AreLowVertices : Multigraph → SearchState → LowVertices → Type 0
+abbrev pub AreLowVertices : Multigraph → ForestState → LowVertices → Type 0
 AreLowVertices g s low = AreLowSoFar g s low (edge_count g) s.order
 
 -- whether c is a child of q
-abbrev pub is_child : SearchState → ℕ → ℕ → Bool
+abbrev pub is_child : ForestState → ℕ → ℕ → Bool
 is_child s q c = nat_lt 0 (slice_index s.depth c) && (slice_index s.parent c == q)
 
 -- the sum of these sizes over the children of q that are among the members
-abbrev pub size_among : Multigraph → SearchState → List ℕ → List ℕ → ℕ → ℕ
+abbrev pub size_among : Multigraph → ForestState → List ℕ → List ℕ → ℕ → ℕ
 size_among g s size members q = sum_below g.vertex_count (λ c. cond (is_member c members && is_child s q c) (slice_index size c) 0)
 
 -- the sizes where these vertices have handed theirs on to their parents
-pub record AreSizesSoFar (g : Multigraph) (s : SearchState) (size handed : List ℕ) : Type 0 where
+pub record AreSizesSoFar (g : Multigraph) (s : ForestState) (size handed : List ℕ) : Type 0 where
   pub places : length size ≡ g.vertex_count
   pub sum : (q : ℕ) → q < g.vertex_count → slice_index size q ≡ 1 + size_among g s size handed q
   pub total : sum_below g.vertex_count (λ c. cond (is_member c handed && nat_lt 0 (slice_index s.depth c)) 0 (slice_index size c)) ≡ g.vertex_count
   pub few : (q : ℕ) → q < g.vertex_count → slice_index size q ≤ g.vertex_count
 
 -- how many vertices each vertex and its descendants are
-abbrev pub AreSizes : Multigraph → SearchState → List ℕ → Type 0
+abbrev pub AreSizes : Multigraph → ForestState → List ℕ → Type 0
 AreSizes g s size = AreSizesSoFar g s size s.order
 
 -- the lower ends of these edges
-abbrev pub lower_ends : SearchState → List ℕ → List ℕ
+abbrev pub lower_ends : ForestState → List ℕ → List ℕ
 lower_ends s edges = map (slice_index s.lower) edges
 
 -- x stands in the list before y
@@ -128,7 +128,7 @@ IsBefore (z ∷ l) x y = ((z ≡ x) × (is_member y l ≡ true)) ⊎ IsBefore l 
 
 -- each of these vertices but the root has a place behind its parent, such that children of one parent follow one another, in this
 -- order, as far as is filled
-pub record AreOffsetsSoFar (g : Multigraph) (s : SearchState) (size : List ℕ) (given : List ℕ) (offset filled : List ℕ) : Type 0 where
+pub record AreOffsetsSoFar (g : Multigraph) (s : ForestState) (size : List ℕ) (given : List ℕ) (offset filled : List ℕ) : Type 0 where
   pub offset_places : length offset ≡ g.vertex_count
   pub filled_places : length filled ≡ g.vertex_count
   pub sum : (q : ℕ) → q < g.vertex_count → slice_index filled q ≡ size_among g s size given q
@@ -137,13 +137,13 @@ pub record AreOffsetsSoFar (g : Multigraph) (s : SearchState) (size : List ℕ) 
   pub follow : (c d : ℕ) → IsBefore given c d → slice_index s.parent c ≡ slice_index s.parent d → slice_index offset c + slice_index size c ≤ slice_index offset d
 
 -- each vertex but the root once
-pub record AreChildren (g : Multigraph) (s : SearchState) (children : List ℕ) : Type 0 where
+pub record AreChildren (g : Multigraph) (s : ForestState) (children : List ℕ) : Type 0 where
   pub distinct : is_distinct children ≡ true
   pub within : (c : ℕ) → is_member c children ≡ true → (c < g.vertex_count) × (0 < slice_index s.depth c)
   pub each : (c : ℕ) → c < g.vertex_count → 0 < slice_index s.depth c → is_member c children ≡ true
 
 -- these vertices are numbered: the root 0, each other vertex by its place behind its parent
-pub record AreNumbersSoFar (g : Multigraph) (s : SearchState) (size offset done number : List ℕ) : Type 0 where
+pub record AreNumbersSoFar (g : Multigraph) (s : ForestState) (size offset done number : List ℕ) : Type 0 where
   pub places : length number ≡ g.vertex_count
   pub root : (v : ℕ) → is_member v done ≡ true → slice_index s.depth v ≡ 0 → slice_index number v ≡ 0
   pub child : (v : ℕ) → is_member v done ≡ true → 0 < slice_index s.depth v → slice_index number v ≡ slice_index number (slice_index s.parent v) + 1 + slice_index offset v
@@ -151,27 +151,27 @@ pub record AreNumbersSoFar (g : Multigraph) (s : SearchState) (size offset done 
   pub parent_done : (v : ℕ) → is_member v done ≡ true → 0 < slice_index s.depth v → is_member (slice_index s.parent v) done ≡ true
 
 -- the numbers of each vertex but the root, and its descendants, lie among those behind its parent
-abbrev pub HasRoom : Multigraph → SearchState → List ℕ → List ℕ → Type 0
+abbrev pub HasRoom : Multigraph → ForestState → List ℕ → List ℕ → Type 0
 HasRoom g s size offset = (c : ℕ) → c < g.vertex_count → 0 < slice_index s.depth c → slice_index offset c + slice_index size c + 1 ≤ slice_index size (slice_index s.parent c)
 
 -- the places of these children behind their parents: those of one parent follow one another, in this order, and leave no number out
-pub record AreOffsets (g : Multigraph) (s : SearchState) (size children offset : List ℕ) : Type 0 where
+pub record AreOffsets (g : Multigraph) (s : ForestState) (size children offset : List ℕ) : Type 0 where
   pub places : length offset ≡ g.vertex_count
   pub room : HasRoom g s size offset
   pub covers : (q x : ℕ) → q < g.vertex_count → x + 1 < slice_index size q → (c : ℕ) × (is_member c children ≡ true) × (slice_index s.parent c ≡ q) × (slice_index offset c ≤ x) × (x < slice_index offset c + slice_index size c)
   pub follow : (c d : ℕ) → IsBefore children c d → slice_index s.parent c ≡ slice_index s.parent d → slice_index offset c + slice_index size c ≤ slice_index offset d
 
 -- the parent of v, where v isn't the root
-abbrev pub parent_at : SearchState → ℕ → Option ℕ
+abbrev pub parent_at : ForestState → ℕ → Option ℕ
 parent_at s v = (if nat_lt 0 (slice_index s.depth v) then Some (slice_index s.parent v) else None)
 
 -- the lists hold, for each vertex, those of these edges that begin there as darts, in their order
-pub record AreListsOf (g : Multigraph) (s : SearchState) (edges : List ℕ) (lists : List (List ℕ)) : Type 0 where
+pub record AreListsOf (g : Multigraph) (s : ForestState) (edges : List ℕ) (lists : List (List ℕ)) : Type 0 where
   pub places : length lists ≡ g.vertex_count
   pub edges_at : (v : ℕ) → v < g.vertex_count → slice_index_or lists v [] ≡ filter (λ e. begin_of g s e == v) edges
 
 -- the tree is what the passes have found
-pub record AreFound (g : Multigraph) (s : SearchState) (low : LowVertices) (edges numbers : List ℕ) (t : PalmTreeLists) : Type 0 where
+pub record AreFound (g : Multigraph) (s : ForestState) (low : LowVertices) (edges numbers : List ℕ) (t : PalmTreeLists) : Type 0 where
   pub number : t.number ≡ numbers
   pub parent : Tells None (parent_at s) g.vertex_count t.parent
   pub frond : Tells false (λ e. not (is_tree_edge s e)) (edge_count g) t.frond
@@ -186,11 +186,11 @@ pub record AreEdges (g : Multigraph) (edges : List ℕ) : Type 0 where
   pub each : (e : ℕ) → e < edge_count g → is_member e edges ≡ true
 
 -- the children of non-root vertices in the order in which they are numbered
-abbrev pub numbering_order : SearchState → LowVertices → List ℕ → List ℕ
+abbrev pub numbering_order : ForestState → LowVertices → List ℕ → List ℕ
 numbering_order s low edges = lower_ends s (tree_edges s low false (reverse edges)) ++ lower_ends s (tree_edges s low true edges)
 
 -- the vertices have been numbered, children of one parent one after another, by the order of these edges
-pub record AreNumbered (g : Multigraph) (s : SearchState) (low : LowVertices) (edges number : List ℕ) : Type 0 where
+pub record AreNumbered (g : Multigraph) (s : ForestState) (low : LowVertices) (edges number : List ℕ) : Type 0 where
   pub size : List ℕ
   pub offset : List ℕ
   pub sizes : AreSizes g s size

@@ -1,5 +1,4 @@
 -- Palm trees of a connected multigraph, and the search that grows them.
 pub mod PalmTree
-pub mod State
 pub mod Searching
 pub mod Growing

@@ -2,9 +2,10 @@
 ghost use Rattle.std.specs.Prelude.{◌≡◌, ◌+◌, ◌*◌, ◌-◌, ◌<◌, ◌≤◌, true, [], length, IfOk, slice_index, slice_get};
 ghost use Rattle.multigraph.specs.Graph.{edge_count, is_end, IsGraph, IsWithinLimits};
 ghost use Rattle.palm_tree.specs.PalmTree.{IsConnected};
-ghost use Rattle.palm_tree.specs.State.{SearchState, fresh, looked_further, frond_noted, root_noted, child_noted, left};
+ghost use Rattle.blocks.specs.Forest.{ForestState, fresh, looked_further, frond_noted, root_noted, child_noted, left};
 ghost use Rattle.multigraph.specs.Marks.{is_marked};
-ghost use Rattle.palm_tree.specs.Searching.{degree, turns_left, IsSearching, IsLast, IsSeenAt, IsTurned, IsExplored, IsOver};
+ghost use Rattle.blocks.specs.Forest.{degree};
+ghost use Rattle.palm_tree.specs.Searching.{turns_left, IsSearching, IsLast, IsSeenAt, IsTurned, IsExplored, IsOver};
 ghost use Rattle.palm_tree.specs.Growing.{is_tree_edge, parent_at, upper_end};
 
 use crate::steps::Steps;
@@ -28,9 +29,9 @@ pub(crate) struct Search {
 }
 
 impl Model for Search {
-    ghost use Rattle.palm_tree.specs.State.{SearchState};
+    ghost use Rattle.blocks.specs.Forest.{ForestState};
 
-    ghost Value = { SearchState };
+    ghost Value = { ForestState };
 
     ghost view = { λ s. record { visited = s.visited.items; parent = s.parent.items; depth = s.depth.items; parent_edge = s.parent_edge.items; position = s.position.items; seen = s.seen.items; lower = s.lower.items; order = s.order.items; path = s.path.items } };
 }

@@ -2,7 +2,7 @@
 use Rattle.std.proofs.Common.{◌≡◌, ℕ, zero, suc, ◌+◌, ◌<◌, ◌≤◌, inl, inr, Bool, true, false, cond, not, ◌&&◌, ◌||◌, ◌==◌, List, [], ◌∷◌, ◌++◌, length, sum_by, get_or, refl, sym, ap, ◌∙◌, subst, arith, IsPermutation, Contains, All}
 use Rattle.std.proofs.lemmas.Bool.{cases_Bool, cases_eq, both_ways, true≢false, false_from_ne_true, eq-eqb, ne_eqb, true_from_ne_false}
 use Rattle.std.proofs.lemmas.List.Sums.{sum_by-cons}
-use Rattle.std.proofs.lemmas.List.Sorted.{sum_by-IsPermutation, IsPermutation-refl, IsPermutation-cons, IsPermutation-middle, IsPermutation-sym, IsPermutation-trans, length_permutation}
+use Rattle.std.proofs.lemmas.List.Sorted.{sum_by-IsPermutation, IsPermutation-refl, IsPermutation-cons, IsPermutation-middle, IsPermutation-sym, IsPermutation-trans, length_permutation, IsPermutation-to_front}
 use Rattle.std.proofs.lemmas.List.Elements.{All-contains}
 use Rattle.permutations.specs.Count.{count}
 use Rattle.permutations.specs.Members.{is_member, is_distinct}
@@ -138,3 +138,7 @@ count-list n p (x ∷ l) h b m = omega (
       where
         at : (z : ℕ) → z ≡ x → (p z && false) ≡ is_member z l
         at z e = grind (arith, cases_Bool (p z), subst (λ (v : ℕ). is_member v l ≡ false) (sym e) (distinct-head x l h))
+
+-- three numbers in their other cyclic order
+pub three-turned : (a b c : ℕ) → IsPermutation (a ∷ b ∷ c ∷ []) (a ∷ c ∷ b ∷ [])
+three-turned a b c = IsPermutation-cons a (b ∷ c ∷ []) (c ∷ b ∷ []) (IsPermutation-to_front (b ∷ []) c)

@@ -1,6 +1,6 @@
 -- Counting the numbers below a bound that pass a test.
-use Rattle.std.proofs.Common.{◌≡◌, ℕ, zero, suc, ◌+◌, ◌<◌, ◌≤◌, inl, inr, Bool, true, false, not, ◌&&◌, ◌==◌, refl, sym, ap, ◌∙◌, arith, add-one}
-use Rattle.std.proofs.lemmas.Bool.{cases_Bool, cases_eq, eq-eqb, ne_eqb, false_from_ne_true}
+use Rattle.std.proofs.Common.{◌≡◌, ℕ, zero, suc, ◌+◌, ◌<◌, ◌≤◌, inl, inr, Bool, true, false, not, ◌&&◌, ◌==◌, refl, sym, ap, ◌∙◌, arith, add-one, subst}
+use Rattle.std.proofs.lemmas.Bool.{cases_Bool, cases_eq, eq-eqb, ne_eqb, false_from_ne_true, cases_lt, both_ways}
 use Rattle.permutations.specs.Count.{count}
 
 -- tests that agree below n have one count
@@ -77,3 +77,24 @@ count-remove n q y l h = omega (arith, count-split n q (λ x. x == y), e, count-
   where
     e : count n (λ x. q x && (x == y)) ≡ count n (λ x. x == y)
     e = count-ext n (λ x. q x && (x == y)) (λ x. x == y) (λ x k. elim (cases_eq x y) [ inl d ↦ let t : q x ≡ true = ap q d ∙ h in rw t refl | inr ne ↦ rw (ne_eqb x y ne) (grind (arith, cases_Bool (q x))) ])
+
+-- a test that passes less, and fails a number that the other passes, passes fewer
+pub count-less : (n : ℕ) (p q : ℕ → Bool) (y : ℕ) → ((x : ℕ) → x < n → p x ≡ true → q x ≡ true) → y < n → p y ≡ false → q y ≡ true → count n p < count n q
+count-less n p q y s l f h = elim (cases_lt (count n p) (count n q)) [
+  | inl b ↦ b
+  | inr b ↦ absurd (both_ways (p y) f (count-same n p q s b y l ∙ h))
+]
+
+-- the last number that passes, and how many pass before it
+pub last-passing : (n : ℕ) (p : ℕ → Bool) → 1 ≤ count n p → (c : ℕ) × (c < n) × (p c ≡ true) × (count c p + 1 ≡ count n p)
+last-passing zero p l = absurd (omega (arith, l))
+last-passing (suc n) p l = elim (cases_Bool (p n)) [
+  | inl t ↦ (n, omega arith, t, rw t refl)
+  | inr f ↦ further f (last-passing n p (subst (λ k. 1 ≤ k) (same f) l))
+]
+  where
+    same : p n ≡ false → count (suc n) p ≡ count n p
+    same f = rw f refl
+
+    further : p n ≡ false → ((c : ℕ) × (c < n) × (p c ≡ true) × (count c p + 1 ≡ count n p)) → (c : ℕ) × (c < suc n) × (p c ≡ true) × (count c p + 1 ≡ count (suc n) p)
+    further f w = (w.0, omega (arith, w.1), w.2, w.3 ∙ sym (same f))

@@ -76,7 +76,7 @@ pub IsTurn-head : (l : List ℕ) (y : ℕ) (r : List ℕ) → IsTurn l (y ∷ r)
 IsTurn-head l y r t h = IsTurn-turned l (y ∷ r) y t h (sym (IsTurn-member l (y ∷ r) y t) ∙ member-head y r) ∙ turned-first y r
 
 -- the successor at the cut of a list without repetition
-outside : (u : List ℕ) (w : ℕ) (s : List ℕ) → is_distinct (u ++ w ∷ s) ≡ true → successor (u ++ w ∷ s) w ≡ first_or (first_or w u) s
+pub outside : (u : List ℕ) (w : ℕ) (s : List ℕ) → is_distinct (u ++ w ∷ s) ≡ true → successor (u ++ w ∷ s) w ≡ first_or (first_or w u) s
 outside u w s h = successor-cut u w s (false_from_ne_true (is_member w u) (λ m. both_ways (is_member w (w ∷ s)) (distinct-append_apart u (w ∷ s) h w m) (member-head w s)))
 
 -- what follows the cut is not the first of the list

@@ -1,8 +1,6 @@
 -- The members of a list that pass a test: members, repetition, test after test, the list reversed.
-use Rattle.std.proofs.Common.{◌≡◌, ℕ, ◌⊎◌, inl, inr, Bool, true, false, ◌&&◌, List, [], ◌∷◌, ◌++◌, filter, reverse, refl, sym, ap, ◌∙◌, arith, append-nil}
+use Rattle.std.proofs.Common.{◌≡◌, ℕ, inl, inr, Bool, true, false, ◌&&◌, List, [], ◌∷◌, filter, refl, sym, ap, ◌∙◌, arith}
 use Rattle.std.proofs.lemmas.Bool.{cases_Bool, cases_eq, and_parts, eq-eqb, ne_eqb}
-use Rattle.std.proofs.lemmas.List.{reverse-append}
-use Rattle.std.proofs.lemmas.List.Elements.{filter-append}
 use Rattle.permutations.specs.Members.{is_member, is_distinct}
 use Rattle.permutations.proofs.Members.{member-head, member-tail, distinct-head, distinct-tail, distinct-cons}
 
@@ -73,18 +71,3 @@ filter-filter p q (x ∷ l) = elim (cases_Bool (q x)) [
   | inl t ↦ elim (cases_Bool (p x)) [ inl s ↦ rw (t, s) (ap (λ (k : List ℕ). x ∷ k) (filter-filter p q l)) | inr s ↦ rw (t, s) (filter-filter p q l) ]
   | inr f ↦ rw f (filter-filter p q l)
 ]
-
--- a weaker test changes nothing before a stronger one
-pub filter-weaker : (p q : ℕ → Bool) (l : List ℕ) → ((x : ℕ) → p x ≡ true → q x ≡ true) → filter p (filter q l) ≡ filter p l
-filter-weaker p q l h = filter-filter p q l ∙ filter-ext (λ x. q x && p x) p l (λ x m. grind (arith, h x, cases_Bool (p x), cases_Bool (q x)))
-
--- the list reversed
-pub filter-reverse : {X : Type 0} (p : X → Bool) (l : List X) → filter p (reverse l) ≡ reverse (filter p l)
-filter-reverse p [] = refl
-filter-reverse p (x ∷ l) = ap (filter p) (reverse-append (x ∷ []) l) ∙ filter-append p (reverse l) (x ∷ []) ∙ ap (λ (k : List _). k ++ filter p (x ∷ [])) (filter-reverse p l) ∙ last (cases_Bool (p x))
-  where
-    last : (p x ≡ true) ⊎ (p x ≡ false) → reverse (filter p l) ++ filter p (x ∷ []) ≡ reverse (filter p (x ∷ l))
-    last c = elim c [
-      | inl t ↦ rw t (sym (reverse-append (x ∷ []) (filter p l)))
-      | inr f ↦ rw f (append-nil (reverse (filter p l)))
-    ]

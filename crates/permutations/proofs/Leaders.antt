@@ -1,9 +1,9 @@
 -- The least number of each class, which leads it.
 use Rattle.std.proofs.Common.{◌≡◌, ℕ, ◌+◌, ◌<◌, ◌≤◌, inl, inr, Bool, true, false, not, ◌&&◌, sym, ap, subst, arith}
-use Rattle.std.proofs.lemmas.Bool.{cases_Bool, cases_order, both_ways, false_from_ne_true, and_parts, and_from, not-true, not-false, not_from_false, not_from_true}
+use Rattle.std.proofs.lemmas.Bool.{cases_Bool, cases_order, both_ways, false_from_ne_true, and_parts, and_from, not-true, not_from_false, not_from_true}
 use Rattle.permutations.specs.Count.{some}
 use Rattle.permutations.specs.Relation.{IsEquivalence, leads, leader, leads_in}
-use Rattle.permutations.proofs.Search.{some-from, some-witness, some-none, none-some, some-ext, least-passes, least-first}
+use Rattle.permutations.proofs.Search.{some-from, some-none, none-some, some-ext, least-passes, least-first}
 
 -- a leader has no smaller number in its class
 pub leads-before : (r : ℕ → ℕ → Bool) (x y : ℕ) → leads r x ≡ true → y < x → r y x ≡ false
@@ -12,10 +12,6 @@ leads-before r x y h l = some-none x (λ z. r z x) (not-true (some x (λ z. r z 
 -- a number with no smaller one in its class leads
 pub leads-from : (r : ℕ → ℕ → Bool) (x : ℕ) → ((y : ℕ) → y < x → r y x ≡ false) → leads r x ≡ true
 leads-from r x h = not_from_false (some x (λ z. r z x)) (none-some x (λ z. r z x) h)
-
--- a number that does not lead has a smaller one in its class
-pub leads-not : (r : ℕ → ℕ → Bool) (x : ℕ) → leads r x ≡ false → (y : ℕ) × (y < x) × (r y x ≡ true)
-leads-not r x h = some-witness x (λ z. r z x) (not-false (some x (λ z. r z x)) h)
 
 -- a number with a smaller one in its class does not lead
 pub not-leads : (r : ℕ → ℕ → Bool) (x y : ℕ) → y < x → r y x ≡ true → leads r x ≡ false

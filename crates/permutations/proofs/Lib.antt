@@ -5,6 +5,8 @@ pub mod Injection
 pub mod Relation
 pub mod Members
 pub mod Arrangements
+pub mod Places
+pub mod Mapped
 pub mod Leaders
 pub mod Classes
 pub mod Sums
@@ -13,6 +15,7 @@ pub mod Successor
 pub mod Turned
 pub mod Permutations
 pub mod Orbits
+pub mod TurnedOver
 pub mod Iterates
 pub mod Transpositions
 pub mod CyclicSame

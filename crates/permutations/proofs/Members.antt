@@ -146,3 +146,14 @@ cut_at x (y ∷ xs) h = elim (cases_Bool (y == x)) [
       is = ap (λ (l : List ℕ). y ∷ l) c.is;
       first = grind (arith, n, c.first);
     }
+
+-- three different numbers are a list without repetition
+pub distinct-three : (a b c : ℕ) → a ≢ b → a ≢ c → b ≢ c → is_distinct (a ∷ b ∷ c ∷ []) ≡ true
+distinct-three a b c ab ac bc = distinct-cons a (b ∷ c ∷ []) (no_member-cons a b (c ∷ []) (λ e. ab (sym e)) (no_member-cons a c [] (λ e. ac (sym e)) refl))
+    (distinct-cons b (c ∷ []) (no_member-cons b c [] (λ e. bc (sym e)) refl) refl)
+
+-- and so are four
+pub distinct-four : (a b c d : ℕ) → a ≢ b → a ≢ c → a ≢ d → b ≢ c → b ≢ d → c ≢ d → is_distinct (a ∷ b ∷ c ∷ d ∷ []) ≡ true
+distinct-four a b c d ab ac ad bc bd cd =
+    distinct-cons a (b ∷ c ∷ d ∷ []) (no_member-cons a b (c ∷ d ∷ []) (λ e. ab (sym e)) (no_member-cons a c (d ∷ []) (λ e. ac (sym e)) (no_member-cons a d [] (λ e. ad (sym e)) refl)))
+    (distinct-three b c d bc bd cd)

@@ -115,3 +115,8 @@ pub mirror-twice : (l : List ℕ) → is_distinct l ≡ true → from_least (rev
 mirror-twice l h = from_least-same (reverse (from_least (reverse l))) l
     (subst (IsTurn (reverse (from_least (reverse l)))) (reverse-reverse l) (IsTurn-sym (reverse (reverse l)) (reverse (from_least (reverse l))) (IsTurn-reverse (reverse l) (from_least (reverse l)) (from_least-turn (reverse l)))))
     (distinct-reverse (from_least (reverse l)) (from_least-distinct (reverse l) (distinct-reverse l h)))
+
+-- an order that begins with its least member is written as it should be
+pub written-first : (l : List ℕ) → ((e : ℕ) → is_member e l ≡ true → first_or 0 l ≤ e) → from_least l ≡ l
+written-first [] h = refl
+written-first (x ∷ xs) h = from_least-first x xs (λ z m. h z (member-tail z x xs m))

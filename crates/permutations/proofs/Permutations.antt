@@ -124,11 +124,6 @@ pub exchange-sides : (p q : ℕ) (f : ℕ → ℕ) → exchange p q f ≡ exchan
 unfolding exchange
 exchange-sides p q f = fun_ext (λ x. ap f (swapped-sides p q x))
 
--- functions that agree below n agree after the same exchange
-pub exchange-ext : (n p q : ℕ) (f h : ℕ → ℕ) → p < n → q < n → ((x : ℕ) → x < n → f x ≡ h x) → (x : ℕ) → x < n → exchange p q f x ≡ exchange p q h x
-unfolding exchange
-exchange-ext n p q f h a c s x l = s (swapped p q x) (swapped-below n p q x a c l)
-
 -- an exchange makes a permutation, whose inverse ends with the same two changing places
 pub exchange-permutes : (n p q : ℕ) (f g : ℕ → ℕ) → p < n → q < n → Permutes n f g → Permutes n (exchange p q f) (λ x. swapped p q (g x))
 unfolding exchange

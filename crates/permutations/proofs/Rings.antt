@@ -3,13 +3,13 @@ use Rattle.std.proofs.Common.{◌≡◌, ◌≢◌, ℕ, zero, suc, ◌+◌, ◌
 use Rattle.std.proofs.lemmas.Bool.{cases_Bool, both_ways, true≢false, false_from_ne_true, eqb-true, eqb-false, eq-eqb}
 use Rattle.permutations.specs.Count.{some, least}
 use Rattle.permutations.specs.Members.{is_member, is_distinct}
-use Rattle.permutations.specs.Cyclic.{first_or, successor, predecessor, turned}
+use Rattle.permutations.specs.Cyclic.{first_or, successor, turned}
 use Rattle.permutations.specs.Permutation.{Permutes, iterate, same_orbit}
 use Rattle.permutations.specs.Ring.{images, orbit_length, ring}
-use Rattle.permutations.proofs.Search.{some-from, least-below, least-passes, least-before}
+use Rattle.permutations.proofs.Search.{some-from, least-passes, least-before}
 use Rattle.permutations.proofs.Relation.{same-tests}
 use Rattle.permutations.proofs.Members.{member-head, member-tail, member-cases, distinct-cons}
-use Rattle.permutations.proofs.Successor.{successor-cut, successor-member, successor-absent, predecessor-member, successor-predecessor}
+use Rattle.permutations.proofs.Successor.{successor-cut, successor-member, successor-absent}
 use Rattle.permutations.proofs.Turned.{turned-first}
 use Rattle.permutations.proofs.CyclicSame.{turned-from_successor}
 use Rattle.permutations.proofs.Chains.{apart-front, chain-typed}
@@ -81,10 +81,6 @@ module _ (n : ℕ) (f g : ℕ → ℕ) (b : Permutes n f g) (x : ℕ) (l : x < n
       let e : w.0 - 1 + 1 ≡ w.0 = omega (arith, w.1) in
       some-from n (λ k. iterate f (k + 1) x == x) (w.0 - 1) (omega (arith, w.1, w.2)) (eq-eqb (iterate f (w.0 - 1 + 1) x) x (ap (λ (j : ℕ). iterate f j x) e ∙ w.3))
 
-  -- the length of the orbit is at most n
-  pub orbit_length-le : orbit_length n f x ≤ n
-  orbit_length-le = omega (arith, least-below n (λ k. iterate f (k + 1) x == x) back-some)
-
   -- as many steps as the orbit is long lead back
   pub orbit_length-back : iterate f (orbit_length n f x) x ≡ x
   orbit_length-back = eqb-true (iterate f (orbit_length n f x) x) x (least-passes n (λ k. iterate f (k + 1) x == x) back-some)
@@ -132,13 +128,6 @@ module _ (n : ℕ) (f g : ℕ → ℕ) (b : Permutes n f g) (x : ℕ) (l : x < n
   ring-member y = same-tests (is_member y (ring n f x)) (same_orbit n f x y)
       (λ m. let w : (i : ℕ) × (i < orbit_length n f x) × (iterate f i x ≡ y) = images-member f (orbit_length n f x) x y m in subst (λ (z : ℕ). same_orbit n f x z ≡ true) w.2 (iterate-orbit n f g b w.0 x l))
       (λ m. sym (orbit-kept n f g b (λ z. is_member z (ring n f x)) (λ z k t. subst (λ (v : ℕ). is_member v (ring n f x) ≡ true) (ring-successor z t) (successor-member (ring n f x) z t)) x y m) ∙ ring-itself)
-
-  -- in its ring each number is preceded by its image under the inverse
-  pub ring-predecessor : (y : ℕ) → is_member y (ring n f x) ≡ true → predecessor (ring n f x) y ≡ g y
-  ring-predecessor y m =
-      let p : is_member (predecessor (ring n f x) y) (ring n f x) ≡ true = predecessor-member (ring n f x) y m in
-      let e : f (predecessor (ring n f x) y) ≡ y = sym (ring-successor (predecessor (ring n f x) y) p) ∙ successor-predecessor (ring n f x) y ring-distinct in
-      sym (b.back_forth (predecessor (ring n f x) y) (ring-below (predecessor (ring n f x) y) p)) ∙ ap g e
 
 -- a list without repetition in which each member is followed by its image is the ring of each member, turned to it
 pub ring-from_list : (n : ℕ) (f g : ℕ → ℕ) → Permutes n f g → (l : List ℕ) → is_distinct l ≡ true → ((z : ℕ) → is_member z l ≡ true → successor l z ≡ f z) → (y : ℕ) → y < n → is_member y l ≡ true → ring n f y ≡ turned l y

@@ -265,7 +265,7 @@ joined-mirrored (g ∷ gs) =
     ∙ sym (reverse-append g.1 (joined gs))
 
 -- the keys of the groups in the opposite order
-keys-mirrored : (gs : List (ℕ × List ℕ)) → group_keys (reverse (map mirrored gs)) ≡ reverse (group_keys gs)
+pub keys-mirrored : (gs : List (ℕ × List ℕ)) → group_keys (reverse (map mirrored gs)) ≡ reverse (group_keys gs)
 keys-mirrored [] = refl
 keys-mirrored (g ∷ gs) =
     ap group_keys (reverse-append (mirrored g ∷ []) (map mirrored gs))

@@ -127,3 +127,8 @@ turned-head l y m = let c : CutAt y l = cut_at y l m in (c.back ++ c.front, ap (
 -- the first of a list turned to a member is that member
 pub turned-first_or : (l : List ℕ) (y d : ℕ) → is_member y l ≡ true → first_or d (turned l y) ≡ y
 turned-first_or l y d m = let w : (r : List ℕ) × (turned l y ≡ y ∷ r) = turned-head l y m in ap (first_or d) w.1
+
+-- turned to its first member a list stays
+pub turned-own : (l : List ℕ) → turned l (first_or 0 l) ≡ l
+turned-own [] = refl
+turned-own (x ∷ xs) = turned-first x xs

@@ -19,7 +19,9 @@
 //   ClassSizes   class-sum, class-least-size, class-exact-size: counting class by class
 //   Members      member-append_cases, distinct-append_apart, cut_at: membership in parts; a list cut at a member
 //   Arrangements permutation-member, permutation-distinct, permutation-from_members, count-list: lists in another order
+//   Places       place-of, same-place, told-distinct: the places of members; Mapped member-map, map-member, distinct-map
 //   Orbits       orbit-step, orbit-kept: a number with its image; what f carries into itself is constant on orbits
+//   TurnedOver   turned-permutes, turned-orbit: a permutation turned over where a test holds
 //   Transpositions exchange-join, exchange-split, exchange-count-join: two orbits become one, one becomes two
 //   Successor    successor-member, predecessor-successor, successor-cut: the next member, its inverse, its value at a cut
 //   Turned       turned-head, turned-successor, turned-permutation, IsTurn-member: the same cyclic order from elsewhere

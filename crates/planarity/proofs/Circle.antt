@@ -6,6 +6,7 @@ use Rattle.permutations.specs.Cyclic.{successor, IsTurn}
 use Rattle.permutations.proofs.Members.{member-head, member-append_right, member-reverse, distinct-reverse}
 use Rattle.permutations.proofs.Turned.{IsTurn-member, IsTurn-distinct, IsTurn-successor, IsTurn-reverse, IsTurn-swap}
 use Rattle.permutations.proofs.CyclicSame.{IsTurn-trans}
+use Rattle.permutations.proofs.Mapped.{map-member, distinct-map}
 use Rattle.multigraph.specs.Graph.{Multigraph, IsGraph, edge_count, is_end, other_end}
 use Rattle.rotations.specs.Rotation.{order_at, IsRotationSystem}
 use Rattle.rotations.proofs.Membership.{member-edge, member-end}
@@ -16,7 +17,6 @@ use Rattle.faces.specs.Euler.{tail, dart_from, dart_count, IsPlane}
 use Rattle.faces.specs.Maps.{dart_before}
 use Rattle.faces.proofs.DartLemmas.{dart_from-edge, dart_from-below, dart_from-tail, order-distinct, member-incident}
 use Rattle.faces.proofs.MapSteps.{tail-twin, backward}
-use Rattle.faces.proofs.MapLists.{map-member, distinct-map}
 use Rattle.planarity.specs.Circle.{face_arc, arc_edges, IsCircle, spread, circle_parts}
 use Rattle.planarity.proofs.CircleRuns.{Runs, runs-around, runs-map}
 use Rattle.planarity.proofs.CircleArcs.{arcs}

@@ -29,7 +29,7 @@ use Rattle.faces.proofs.MapVertices.{vertex-tail, tail-vertex, tail-order}
 use Rattle.faces.proofs.MapCounts.{plane-map}
 use Rattle.faces.proofs.MapCorners.{face-once}
 use Rattle.planarity.proofs.SimpleDarts.{tail-other}
-use Rattle.planarity.proofs.RestrictedConnection.{opened-vertex, counted-connected, near-connected}
+use Rattle.faces.proofs.RestrictedConnection.{opened-vertex, counted-connected, near-connected}
 use Rattle.planarity.proofs.SubdivisionEdges.{successor-moves}
 
 -- whether dart d has no end at w

@@ -8,6 +8,7 @@ use Rattle.permutations.specs.Exchange.{restricted}
 use Rattle.permutations.proofs.Members.{member-head, member-tail, member-append_left, member-append_right}
 use Rattle.permutations.proofs.Orbits.{orbit-equivalence}
 use Rattle.permutations.proofs.Restriction.{restricted-permutes}
+use Rattle.permutations.proofs.Mapped.{map-member, distinct-map}
 use Rattle.multigraph.specs.Graph.{Multigraph, IsGraph, edge_count, is_end, other_end}
 use Rattle.rotations.specs.Rotation.{IsRotationSystem}
 use Rattle.graph_theory.specs.Triconnected.{IsTriconnected}
@@ -20,7 +21,6 @@ use Rattle.faces.specs.Maps.{dart_after, dart_before}
 use Rattle.faces.proofs.DartLemmas.{dart-edge, tail-end, face_step-permutes}
 use Rattle.faces.proofs.MapSteps.{tail-twin, map-permutes}
 use Rattle.faces.proofs.MapVertices.{vertex-tail}
-use Rattle.faces.proofs.MapLists.{map-member, distinct-map}
 use Rattle.planarity.specs.Circle.{face_arc, part_starts, LeadOn, IsCircle, spread}
 use Rattle.planarity.proofs.CircleRuns.{Runs, runs-cut, runs-orbit}
 use Rattle.planarity.proofs.CircleFaces.{off, off-tail, off-twin, without-face_once}

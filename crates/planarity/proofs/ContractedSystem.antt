@@ -26,7 +26,7 @@ use Rattle.planarity.specs.Expansion.{moved, stays, IsContractedSystem}
 use Rattle.planarity.proofs.ContractedVertices.{AreVertices, SameBut, ends-apart, contracted-vertices}
 use Rattle.planarity.proofs.SimpleDarts.{tail-other}
 use Rattle.planarity.proofs.ContractedDarts.{moved-twin, stays-edge, stays-kept, stays-not, contracted-not_kept, middle-below, middle-tail, middle-twin, middle-cases, middle-not, moved-in, moved-kept, moved-tail, placed-in, placed-back, back-placed}
-use Rattle.planarity.proofs.CarriedMaps.{IsNumbering, live-stays, inner-permutes, numbered-orbit}
+use Rattle.dart_maps.proofs.CarriedMaps.{IsNumbering, live-stays, inner-permutes, numbered-orbit}
 
 -- the darts of kept edges are the darts of the contracted graph
 pub kept-numbering : (g h : Multigraph) (e x y : ℕ) (edge vertex : ℕ → ℕ) → IsGraph g → IsContraction g h e x y edge vertex → IsNumbering (dart_count h) (dart_count g) (λ d. is_kept g e x y (d / 2)) (moved edge) (moved (place h edge))

@@ -28,7 +28,7 @@ use Rattle.faces.proofs.MapParts.{place}
 use Rattle.planarity.specs.Expansion.{moved, FallsInRuns}
 use Rattle.planarity.proofs.ContractedVertices.{AreVertices, vertices-apart, put-vertices}
 use Rattle.planarity.proofs.ContractedDarts.{contracted-not_kept, middle-below, middle-tail, middle-twin, ends-differ, moved-tail, back-placed}
-use Rattle.planarity.proofs.CarriedMaps.{IsNumbering, outer, outer-live, outer-dead, outer-permutes, numbered-orbit}
+use Rattle.dart_maps.proofs.CarriedMaps.{IsNumbering, outer, outer-live, outer-dead, outer-permutes, numbered-orbit}
 use Rattle.planarity.proofs.ContractedSystem.{kept-numbering, kept-renumbering}
 
 -- a map of g's darts, plane, in which the darts that live are of one vertex where they leave one

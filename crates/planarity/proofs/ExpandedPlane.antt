@@ -23,7 +23,7 @@ use Rattle.faces.proofs.MapParts.{place}
 use Rattle.planarity.specs.Expansion.{moved, stays, FallsInRuns, IsContractedSystem}
 use Rattle.planarity.proofs.SimpleDarts.{tail-other, simple-dart}
 use Rattle.planarity.proofs.ContractedDarts.{stays-gone, stays-off, contracted-not_kept, middle-below, middle-tail, middle-twin, middle-cases, ends-differ, moved-tail, moved-twin, middle-not, stays-not, stays-kept, stays-edge}
-use Rattle.planarity.proofs.CarriedMaps.{IsNumbering}
+use Rattle.dart_maps.proofs.CarriedMaps.{IsNumbering}
 use Rattle.planarity.proofs.ContractedSystem.{kept-numbering}
 use Rattle.planarity.proofs.JoinedDarts.{joined-dart, dart-turned, dart-joined, dart_between, between-is, kept-away, dropped-from, Dropped, dropped-dart}
 use Rattle.planarity.proofs.ExpandedApart.{IsPart, carried, opened, opened_back, big-steps, big-alone, open-part, open-middle, open-last, open-end, open-other, open-contracted}
@@ -50,9 +50,6 @@ module _ (g h : Multigraph) (e x y : ℕ) (edge vertex : ℕ → ℕ) (ok : IsGr
 
   abbrev middle : ℕ
   middle = dart_from g x e
-
-  abbrev big : ℕ → ℕ
-  big = carried g h e x y edge (dart_after h t)
 
   numbering : IsNumbering (dart_count h) (dart_count g) kept into (moved (place h edge))
   numbering = kept-numbering g h e x y edge vertex ok con
@@ -369,10 +366,6 @@ module _ (g h : Multigraph) (e x y : ℕ) (edge vertex : ℕ → ℕ) (ok : IsGr
   expanded-system =
       let w = map-orders g ok two two_back two-part.is_map (λ c d l k. two-part.vertices c d l k (all-live c l) (all-live d k)) in
       (w.0, w.1, map-plane g w.0 ok w.1 (plane-ext (edge_count g) two (dart_after g w.0) (λ d l. sym (w.2 d l)) two-part.plane), w.2)
-
-  -- each rotation system with these steps is plane
-  pub expanded-plane : (r : List (List ℕ)) → IsRotationSystem g r → ((d : ℕ) → d < dart_count g → dart_after g r d ≡ expanded g h e x y edge t first last d) → IsPlane g r
-  expanded-plane r s steps = map-plane g r ok s (plane-ext (edge_count g) two (dart_after g r) (λ d l. sym (steps d l)) two-part.plane)
 
   -- the darts that do not stay are alone in the map without the edges to common neighbours
   wide-gone : (z : ℕ) → z < dart_count g → stays g e x y z ≡ false → wide z ≡ z

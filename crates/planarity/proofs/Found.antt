@@ -4,6 +4,7 @@ use Rattle.std.proofs.Common.{◌≡◌, ◌≢◌, ℕ, zero, suc, ◌<◌, ◌
 use Rattle.std.proofs.lemmas.Bool.{both_ways, or_cases, and_parts, eqb-true}
 use Rattle.permutations.specs.Members.{is_member, is_distinct}
 use Rattle.permutations.proofs.Members.{no_member-cons, distinct-cons}
+use Rattle.permutations.proofs.Places.{same-place}
 use Rattle.multigraph.specs.Graph.{Multigraph, IsGraph, edge_count, is_end, other_end}
 use Rattle.multigraph.proofs.OtherEnd.{end-in, other_end-is_end, other_end-twice}
 use Rattle.contractions.specs.Contraction.{IsContraction}
@@ -13,7 +14,6 @@ use Rattle.planarity.specs.Lift.{path_between}
 use Rattle.planarity.specs.Circle.{IsCircle, five_paths}
 use Rattle.planarity.proofs.LiftSystem.{IsBranch, IsMerged}
 use Rattle.planarity.proofs.LiftPath.{two_ends}
-use Rattle.planarity.proofs.LiftPairs.{distinct-places}
 use Rattle.planarity.proofs.LiftBack.{EachPair, each-joined, system-subdivision}
 use Rattle.planarity.proofs.LiftSpokes.{ends-differ}
 use Rattle.planarity.proofs.FoundSystem.{IsWire, IsArc, arc-forth, arc-back, spot-differ, spot-unmerged, found-system}
@@ -153,6 +153,6 @@ module _ (g h : Multigraph) (e x y : ℕ) (edge vertex : ℕ → ℕ) (og : IsGr
     pub k5_found : IsSubdivision g K5 (x ∷ y ∷ a ∷ b ∷ d ∷ []) (five_paths g e edge a b d xa xb xd ya yb yd k l m)
     k5_found = system-subdivision g 5 (is_ordered (pattern_edges K5)) five_branch path
         (found-system g h e x y edge vertex og oh ic (vertex a, k) others c two spot spot_in spot_is 5 (is_ordered (pattern_edges K5)) (branch_at five_branch) path
-        five-in (λ i j o u q. distinct-places five_branch i j five-distinct (omega arith) (omega arith) q) five-which five-spots
+        five-in (λ i j o u q. same-place five_branch i j five-distinct (omega arith) (omega arith) q) five-which five-spots
         (λ i j o u t. each-ordered (λ p. IsWire g (branch_at five_branch p.0) (branch_at five_branch p.1) (path p.0 p.1) ⊎ Arc (branch_at five_branch p.0) (branch_at five_branch p.1) (path p.0 p.1)) (pattern_edges K5) i j five-each t))
         K5 refl refl (each-joined 5 (is_ordered (pattern_edges K5)) (pattern_edges K5) refl)

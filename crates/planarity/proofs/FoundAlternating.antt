@@ -2,6 +2,7 @@
 -- vertex: a subdivision of K3,3.
 use Rattle.std.proofs.Common.{◌≡◌, ◌≢◌, ℕ, zero, suc, ◌<◌, ◌⊎◌, inl, inr, true, List, [], ◌∷◌, length, get_or, refl, sym, arith}
 use Rattle.permutations.specs.Members.{is_distinct}
+use Rattle.permutations.proofs.Places.{same-place}
 use Rattle.multigraph.specs.Graph.{Multigraph, IsGraph}
 use Rattle.contractions.specs.Contraction.{IsContraction}
 use Rattle.kuratowski.specs.declared.subdivision.Pattern.TheVariants.{K33}
@@ -9,7 +10,6 @@ use Rattle.kuratowski.specs.Subdivision.{pattern_edges, branch_at, IsSubdivision
 use Rattle.planarity.specs.Lift.{path_between}
 use Rattle.planarity.specs.Circle.{IsCircle, six_paths}
 use Rattle.planarity.proofs.LiftSystem.{IsBranch, IsMerged}
-use Rattle.planarity.proofs.LiftPairs.{distinct-places}
 use Rattle.planarity.proofs.LiftBack.{EachPair, each-joined, system-subdivision}
 use Rattle.planarity.proofs.LiftSpokes.{ends-differ}
 use Rattle.planarity.proofs.FoundSystem.{IsWire, IsArc, arc-forth, arc-back, spot-differ, spot-unmerged, found-system}
@@ -98,6 +98,6 @@ module _ (g h : Multigraph) (e x y : ℕ) (edge vertex : ℕ → ℕ) (og : IsGr
   pub k33_found : IsSubdivision g K33 (x ∷ p ∷ r ∷ y ∷ q ∷ t ∷ []) (six_paths g e edge p q r t yp xq yr xt k l m o)
   k33_found = system-subdivision g 6 (is_ordered (pattern_edges K33)) six_branch path
       (found-system g h e x y edge vertex og oh ic (vertex p, k) others c two spot spot_in spot_is 6 (is_ordered (pattern_edges K33)) (branch_at six_branch) path
-      six-in (λ i j o u q. distinct-places six_branch i j six-distinct (omega arith) (omega arith) q) six-which six-spots
+      six-in (λ i j o u q. same-place six_branch i j six-distinct (omega arith) (omega arith) q) six-which six-spots
       (λ i j o u t. each-ordered (λ p. IsWire g (branch_at six_branch p.0) (branch_at six_branch p.1) (path p.0 p.1) ⊎ Arc (branch_at six_branch p.0) (branch_at six_branch p.1) (path p.0 p.1)) (pattern_edges K33) i j six-each t))
       K33 refl refl (each-joined 6 (is_ordered (pattern_edges K33)) (pattern_edges K33) refl)

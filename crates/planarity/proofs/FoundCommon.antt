@@ -1,12 +1,12 @@
 -- Where the ends of the contracted edge have three neighbours in common, the graph has a subdivision of K5, if the contracted
 -- graph is triconnected and has a plane rotation system.
-use Rattle.std.proofs.Common.{◌≡◌, ◌≢◌, ℕ, zero, suc, ◌+◌, ◌<◌, ◌≤◌, ◌⊎◌, inl, inr, Bool, true, false, List, ◌∷◌, ◌++◌, refl, sym, ap, ◌∙◌, subst, arith, append_assoc}
-use Rattle.std.proofs.lemmas.Bool.{cases_Bool}
+use Rattle.std.proofs.Common.{◌≡◌, ◌≢◌, ℕ, ◌+◌, ◌≤◌, ◌⊎◌, inl, inr, Bool, true, List, ◌∷◌, ◌++◌, sym, ap, ◌∙◌, subst, arith, append_assoc}
 use Rattle.permutations.specs.Count.{count}
 use Rattle.permutations.specs.Members.{is_member}
 use Rattle.permutations.specs.Cyclic.{IsTurn}
 use Rattle.permutations.proofs.Members.{member-cases, member-append_cases, CutAt, cut_at}
 use Rattle.permutations.proofs.Turned.{IsTurn-member, IsTurn-swap, IsTurn-same}
+use Rattle.permutations.proofs.Count.{last-passing}
 use Rattle.multigraph.specs.Graph.{Multigraph, IsGraph, other_end}
 use Rattle.rotations.specs.Rotation.{order_at, IsRotationSystem}
 use Rattle.graph_theory.specs.Triconnected.{IsSimple, IsTriconnected}
@@ -61,20 +61,6 @@ turn-of_three l a b c ma mb mc ab ac bc = at_first (cut_at a l ma)
               behind_c = v.back;
               around = subst (IsTurn l) (ap (λ (z : List ℕ). a ∷ z) (u.is ∙ ap (λ (z : List ℕ). u.front ++ b ∷ z) v.is)) turn;
             }
-
--- a number that passes, and how many pass before it
-last-passing : (n : ℕ) (p : ℕ → Bool) → 1 ≤ count n p → (c : ℕ) × (c < n) × (p c ≡ true) × (count c p + 1 ≡ count n p)
-last-passing zero p l = absurd (omega (arith, l))
-last-passing (suc n) p l = elim (cases_Bool (p n)) [
-  | inl t ↦ (n, omega arith, t, rw t refl)
-  | inr f ↦ further f (last-passing n p (subst (λ k. 1 ≤ k) (same f) l))
-]
-  where
-    same : p n ≡ false → count (suc n) p ≡ count n p
-    same f = rw f refl
-
-    further : p n ≡ false → ((c : ℕ) × (c < n) × (p c ≡ true) × (count c p + 1 ≡ count n p)) → (c : ℕ) × (c < suc n) × (p c ≡ true) × (count c p + 1 ≡ count (suc n) p)
-    further f w = (w.0, omega (arith, w.1), w.2, w.3 ∙ sym (same f))
 
 -- three different numbers that pass
 pub record ThreePassing (p : ℕ → Bool) : Type 0 where

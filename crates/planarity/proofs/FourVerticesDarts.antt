@@ -23,7 +23,7 @@ use Rattle.faces.proofs.MapCounts.{plane-map, map-plane}
 use Rattle.faces.proofs.MapToLists.{map-orders}
 use Rattle.planarity.proofs.JoinedDarts.{dart_between}
 use Rattle.planarity.proofs.SimpleDarts.{simple-dart}
-use Rattle.planarity.proofs.CarriedMaps.{IsNumbering, numbered-orbit}
+use Rattle.dart_maps.proofs.CarriedMaps.{IsNumbering, numbered-orbit}
 
 -- two simple graphs in which the same vertices are joined
 pub record AreAlike (g h : Multigraph) : Type 0 where

@@ -1,13 +1,13 @@
 -- The tetrahedron: of the sixteen rotation systems of the complete graph on four vertices two are plane, mirror images of each
 -- other.
-use Rattle.std.proofs.Common.{◌≡◌, ◌≢◌, ℕ, zero, suc, ◌<◌, ◌⊎◌, inl, inr, Bool, true, false, cond, not, ◌&&◌, ◌||◌, ◌==◌, ltb, List, [], ◌∷◌, length, refl, sym, ap, ◌∙◌, subst, arith, IsPermutation}
+use Rattle.std.proofs.Common.{◌≡◌, ◌≢◌, ℕ, zero, suc, ◌<◌, ◌⊎◌, inl, inr, Bool, true, false, cond, not, ◌&&◌, ◌||◌, ◌==◌, ltb, List, [], ◌∷◌, length, refl, sym, ap, ◌∙◌, subst, arith}
 use Rattle.std.proofs.lemmas.Bool.{agree_below_at, both_ways, or_cases, or_left, or_right, and_from, eq-eqb, ne_eqb, eqb-false, eqb-true, ltb-true, true_from_ne_false, true≢false, cases_eq}
-use Rattle.std.proofs.lemmas.List.Sorted.{IsPermutation-refl, IsPermutation-cons, IsPermutation-to_front, length_permutation}
+use Rattle.std.proofs.lemmas.List.Sorted.{IsPermutation-refl, length_permutation}
 use Rattle.permutations.specs.Count.{some}
 use Rattle.permutations.specs.Members.{is_member, is_distinct}
 use Rattle.permutations.proofs.Search.{some-none}
 use Rattle.permutations.proofs.Members.{member-head, member-tail, member-cases, no_member-head, no_member-tail, distinct-head, distinct-tail}
-use Rattle.permutations.proofs.Arrangements.{permutation-member, permutation-distinct}
+use Rattle.permutations.proofs.Arrangements.{permutation-member, permutation-distinct, three-turned}
 use Rattle.multigraph.specs.Graph.{Multigraph, IsGraph, ends_of, incident_edges}
 use Rattle.rotations.specs.Rotation.{order_at, IsCyclicOrder, IsRotationSystem}
 use Rattle.graph_theory.specs.Triconnected.{AreParallel, IsSimple}
@@ -74,10 +74,6 @@ written a b c d = ordered 0 1 2 a ∷ ordered 0 3 4 b ∷ ordered 1 3 5 c ∷ or
 -- one vertex inside the triangle of the others
 abbrev pub drawn : List (List ℕ)
 drawn = written true false true false
-
--- a list of three numbers in its other cyclic order
-three-turned : (a b c : ℕ) → IsPermutation (a ∷ b ∷ c ∷ []) (a ∷ c ∷ b ∷ [])
-three-turned a b c = IsPermutation-cons a (b ∷ c ∷ []) (c ∷ b ∷ []) (IsPermutation-to_front (b ∷ []) c)
 
 -- this is a rotation system
 pub drawn-system : IsRotationSystem tetrahedron drawn

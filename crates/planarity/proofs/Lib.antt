@@ -1,11 +1,9 @@
 -- The lemmas on plane rotation systems of triconnected graphs.
 pub mod TriangleLoop
 pub mod ContractedVertices
-pub mod RestrictedConnection
 pub mod SimpleDarts
 pub mod Triangle
 pub mod ContractedDarts
-pub mod CarriedMaps
 pub mod ContractedSystem
 pub mod ObstructionCounts
 pub mod SubdivisionEdges

@@ -5,6 +5,7 @@ use Rattle.std.proofs.lemmas.List.{get_or_default, get_or-map, length-map}
 use Rattle.permutations.specs.Members.{is_member, is_distinct}
 use Rattle.permutations.proofs.Members.{member-append_cases, distinct-append}
 use Rattle.permutations.proofs.Arrangements.{contains-from_member}
+use Rattle.permutations.proofs.Places.{told-distinct}
 use Rattle.multigraph.specs.Graph.{Multigraph}
 use Rattle.graph_theory.specs.Path.{walk_vertices, IsPath}
 use Rattle.kuratowski.specs.declared.subdivision.Pattern.{Pattern}
@@ -12,7 +13,7 @@ use Rattle.kuratowski.specs.declared.subdivision.Pattern.TheVariants.{K5, K33}
 use Rattle.kuratowski.specs.Subdivision.{branch_count, pattern_edges, branch_at, pair_at, inner_vertices, all_inner, IsSubdivision}
 use Rattle.planarity.specs.Lift.{is_pair, is_listed}
 use Rattle.planarity.proofs.LiftSystem.{SamePair, IsPathSystem}
-use Rattle.planarity.proofs.LiftPairs.{listed-turned, places-distinct, inside-met, inside-distinct}
+use Rattle.planarity.proofs.LiftPairs.{listed-turned, inside-met, inside-distinct}
 
 -- whether no two of the pairs are the same, in either order
 abbrev pub listed_once : List (ℕ × ℕ) → Bool
@@ -128,7 +129,7 @@ module _ (g : Multigraph) (n : ℕ) (joined : ℕ → ℕ → Bool) (branch : Li
         (sym (get_or-map (λ p. path p.0 p.1) (pattern_edges kind) k (0, 0) [] m))
         (s.are_paths (pair_at kind k).0 (pair_at kind k).1 w.0 w.1 w.2);
     apart = distinct-append branch (all_inner g branch (pattern_edges kind) (paths_of (pattern_edges kind)))
-        (places-distinct branch (λ i j b c q. s.branch_once i j (omega arith) (omega arith) q))
+        (told-distinct branch (λ i j b c q. s.branch_once i j (omega arith) (omega arith) q))
         (inner-distinct (pattern_edges kind) a (pattern-listed_once kind))
         (λ z m. false_from_ne_true (is_member z (all_inner g branch (pattern_edges kind) (paths_of (pattern_edges kind)))) (λ u.
         let v : Inside (pattern_edges kind) z = inside_one (pattern_edges kind) z a u in

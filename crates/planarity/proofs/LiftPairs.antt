@@ -3,8 +3,9 @@ use Rattle.std.proofs.Common.{◌≡◌, ◌≢◌, ℕ, zero, suc, ◌<◌, ◌
 use Rattle.std.proofs.lemmas.Bool.{cases_Bool, cases_eq, both_ways, false_from_ne_true, and_parts, or_cases, or_left, or_right, not-true, eq-eqb, eqb-true}
 use Rattle.std.proofs.lemmas.List.{get_or_default}
 use Rattle.permutations.specs.Members.{is_member, is_distinct}
-use Rattle.permutations.proofs.Members.{member-head, member-tail, member-cases, member-append_left, member-append_right, distinct-cons, distinct-head, distinct-tail, distinct-append_left, distinct-append_right, distinct-append_apart}
+use Rattle.permutations.proofs.Members.{member-head, member-tail, member-cases, member-append_left, member-append_right, distinct-head, distinct-tail, distinct-append_left, distinct-append_right, distinct-append_apart}
 use Rattle.permutations.proofs.Arrangements.{member-at, contains-from_member}
+use Rattle.permutations.proofs.Places.{same-place}
 use Rattle.multigraph.specs.Graph.{Multigraph, other_end}
 use Rattle.graph_theory.specs.Path.{walk_end, walk_starts, walk_vertices, IsPath}
 use Rattle.graph_theory.proofs.Walks.{start-met, met-cases}
@@ -14,21 +15,6 @@ use Rattle.kuratowski.specs.declared.subdivision.Pattern.TheVariants.{K5, K33}
 use Rattle.kuratowski.specs.Subdivision.{branch_count, pattern_edges, branch_at, path_at, pair_at, inner_vertices, all_inner, IsSubdivision}
 use Rattle.planarity.specs.Lift.{is_pair, is_listed, path_between}
 use Rattle.planarity.proofs.LiftSystem.{SamePair, IsBranch, IsPathSystem}
-
--- numbers at different places of a list without repetition are different
-pub distinct-places : (l : List ℕ) (i j : ℕ) → is_distinct l ≡ true → i < length l → j < length l → get_or l i 0 ≡ get_or l j 0 → i ≡ j
-distinct-places [] i j d a b q = absurd (omega arith)
-distinct-places (x ∷ l) zero zero d a b q = refl
-distinct-places (x ∷ l) zero (suc j) d a b q = absurd (both_ways (is_member x l) (distinct-head x l d) (subst (λ z. is_member z l ≡ true) (sym q) (member-at l j 0 (omega arith))))
-distinct-places (x ∷ l) (suc i) zero d a b q = absurd (both_ways (is_member x l) (distinct-head x l d) (subst (λ z. is_member z l ≡ true) q (member-at l i 0 (omega arith))))
-distinct-places (x ∷ l) (suc i) (suc j) d a b q = ap suc (distinct-places l i j (distinct-tail x l d) (omega arith) (omega arith) q)
-
--- a list with different numbers at different places has no repetition
-pub places-distinct : (l : List ℕ) → ((i j : ℕ) → i < length l → j < length l → get_or l i 0 ≡ get_or l j 0 → i ≡ j) → is_distinct l ≡ true
-places-distinct [] h = refl
-places-distinct (x ∷ l) h = distinct-cons x l
-    (false_from_ne_true (is_member x l) (λ m. let w = contains-from_member l x m in let bad : 0 ≡ suc (w.0) = h 0 (suc (w.0)) (omega arith) (omega (arith, w.1)) (sym (get_or_default l (w.0) 0 x w.1 ∙ w.2)) in omega arith))
-    (places-distinct l (λ i j a b q. let up : suc i ≡ suc j = h (suc i) (suc j) (omega arith) (omega arith) q in omega arith))
 
 -- a vertex inside a path is met, and is neither its first nor its last
 pub inside-met : (g : Multigraph) (a : ℕ) (es : List ℕ) (b z : ℕ) → IsPath g a es b → is_member z (inner_vertices g a es) ≡ true → (is_member z (walk_vertices g a es) ≡ true) × (z ≢ a) × (z ≢ b)
@@ -178,7 +164,7 @@ module _ (g : Multigraph) (kind : Pattern) (branch : List ℕ) (paths : List (Li
   branch_distinct = distinct-append_left branch (all_inner g branch pairs paths) s.apart
 
   branch_once : (i j : ℕ) → i < branch_count kind → j < branch_count kind → at i ≡ at j → i ≡ j
-  branch_once i j a b q = distinct-places branch i j branch_distinct (omega (arith, s.branches)) (omega (arith, s.branches)) q
+  branch_once i j a b q = same-place branch i j branch_distinct (omega (arith, s.branches)) (omega (arith, s.branches)) q
 
   is_branch : (z : ℕ) → is_member z branch ≡ true → IsBranch (branch_count kind) at z
   is_branch z m = let w = contains-from_member branch z m in (w.0, omega (arith, w.1, s.branches), get_or_default branch (w.0) 0 z w.1 ∙ w.2)

@@ -1,19 +1,11 @@
 -- A cyclic order written as a run and the others: what follows each member.
-use Rattle.std.proofs.Common.{◌≡◌, ℕ, ◌<◌, ◌⊎◌, inl, inr, true, false, List, [], ◌∷◌, ◌++◌, length, refl, sym, ap, ◌∙◌, append_assoc}
-use Rattle.std.proofs.lemmas.Bool.{both_ways, false_from_ne_true}
+use Rattle.std.proofs.Common.{◌≡◌, ℕ, ◌<◌, ◌⊎◌, inl, inr, true, List, [], ◌∷◌, ◌++◌, length, refl, sym, ap, ◌∙◌, append_assoc}
 use Rattle.permutations.specs.Members.{is_member, is_distinct}
 use Rattle.permutations.specs.Cyclic.{first_or, successor}
-use Rattle.permutations.proofs.Members.{member-head, member-tail, member-append_right, CutAt, cut_at, distinct-append_apart}
-use Rattle.permutations.proofs.Successor.{first_or-append, successor-cut}
+use Rattle.permutations.proofs.Members.{member-head, member-tail, member-append_right, CutAt, cut_at}
+use Rattle.permutations.proofs.Successor.{first_or-append}
 use Rattle.permutations.proofs.Runs.{last-of}
-
--- a member of a distinct list does not stand before its place
-before-place : (a : List ℕ) (z : ℕ) (b : List ℕ) → is_distinct (a ++ z ∷ b) ≡ true → is_member z a ≡ false
-before-place a z b d = false_from_ne_true (is_member z a) (λ m. both_ways (is_member z (z ∷ b)) (distinct-append_apart a (z ∷ b) d z m) (member-head z b))
-
--- what follows it is the next one, and the first one at the end
-next-there : (a : List ℕ) (z : ℕ) (b : List ℕ) → is_distinct (a ++ z ∷ b) ≡ true → successor (a ++ z ∷ b) z ≡ first_or (first_or z a) b
-next-there a z b d = successor-cut a z b (before-place a z b d)
+use Rattle.permutations.proofs.CyclicSame.{outside}
 
 -- the first of a list, or the one behind it
 first-within : (x : ℕ) (b : List ℕ) → is_member (first_or x b) (b ++ x ∷ []) ≡ true
@@ -24,7 +16,7 @@ first-within x (y ∷ b) = member-head y (b ++ x ∷ [])
 pub run-last : (r : List ℕ) (x y : ℕ) (others : List ℕ) → is_distinct ((r ++ x ∷ []) ++ (y ∷ others)) ≡ true → successor ((r ++ x ∷ []) ++ (y ∷ others)) x ≡ y
 run-last r x y others d =
     let q : (r ++ x ∷ []) ++ (y ∷ others) ≡ r ++ x ∷ (y ∷ others) = append_assoc r (x ∷ []) (y ∷ others) in
-    ap (λ l. successor l x) q ∙ next-there r x (y ∷ others) (ap is_distinct (sym q) ∙ d)
+    ap (λ l. successor l x) q ∙ outside r x (y ∷ others) (ap is_distinct (sym q) ∙ d)
 
 -- the members before it by members of the run
 pub run-inside : (r : List ℕ) (x : ℕ) (others : List ℕ) (z : ℕ) → is_distinct ((r ++ x ∷ []) ++ others) ≡ true → is_member z r ≡ true → is_member (successor ((r ++ x ∷ []) ++ others) z) (r ++ x ∷ []) ≡ true
@@ -34,7 +26,7 @@ run-inside r x others z d m = within (cut_at z r m)
     within c =
         let q : (r ++ x ∷ []) ++ others ≡ c.front ++ z ∷ (c.back ++ (x ∷ others)) = append_assoc r (x ∷ []) others ∙ ap (λ l. l ++ (x ∷ others)) c.is ∙ append_assoc c.front (z ∷ c.back) (x ∷ others) in
         let next : successor ((r ++ x ∷ []) ++ others) z ≡ first_or x c.back =
-        ap (λ l. successor l z) q ∙ next-there c.front z (c.back ++ (x ∷ others)) (ap is_distinct (sym q) ∙ d) ∙ first_or-append (first_or z c.front) c.back (x ∷ others) in
+        ap (λ l. successor l z) q ∙ outside c.front z (c.back ++ (x ∷ others)) (ap is_distinct (sym q) ∙ d) ∙ first_or-append (first_or z c.front) c.back (x ∷ others) in
         let there : is_member (first_or x c.back) (c.front ++ (z ∷ (c.back ++ x ∷ []))) ≡ true = member-append_right (first_or x c.back) c.front (z ∷ (c.back ++ x ∷ [])) (member-tail (first_or x c.back) z (c.back ++ x ∷ []) (first-within x c.back)) in
         let whole : c.front ++ (z ∷ (c.back ++ x ∷ [])) ≡ r ++ x ∷ [] = sym (append_assoc c.front (z ∷ c.back) (x ∷ [])) ∙ ap (λ l. l ++ x ∷ []) (sym c.is) in
         ap (λ w. is_member w (r ++ x ∷ [])) next ∙ ap (is_member (first_or x c.back)) (sym whole) ∙ there
@@ -50,7 +42,7 @@ run-outside x r others z d m = within (cut_at z others m)
         q b i = ap (λ l. (x ∷ r) ++ l) (c.is ∙ ap (λ l. c.front ++ z ∷ l) (sym i)) ∙ sym (append_assoc (x ∷ r) c.front (z ∷ b))
 
         next : (b : List ℕ) → b ≡ c.back → successor ((x ∷ r) ++ others) z ≡ first_or x b
-        next b i = ap (λ l. successor l z) (q b i) ∙ next-there ((x ∷ r) ++ c.front) z b (ap is_distinct (sym (q b i)) ∙ d)
+        next b i = ap (λ l. successor l z) (q b i) ∙ outside ((x ∷ r) ++ c.front) z b (ap is_distinct (sym (q b i)) ∙ d)
 
         at : (b : List ℕ) → b ≡ c.back → (successor ((x ∷ r) ++ others) z ≡ x) ⊎ (is_member (successor ((x ∷ r) ++ others) z) others ≡ true)
         at [] i = inl (next [] i)
@@ -63,5 +55,5 @@ run-end x r others l d =
     let q : (x ∷ r) ++ others ≡ ((x ∷ r) ++ w.0) ++ w.1 ∷ [] = ap (λ k. (x ∷ r) ++ k) w.2 ∙ sym (append_assoc (x ∷ r) w.0 (w.1 ∷ [])) in (
       w.1,
       ap (is_member w.1) w.2 ∙ member-append_right w.1 w.0 (w.1 ∷ []) (member-head w.1 []),
-      ap (λ k. successor k w.1) q ∙ next-there ((x ∷ r) ++ w.0) w.1 [] (ap is_distinct (sym q) ∙ d),
+      ap (λ k. successor k w.1) q ∙ outside ((x ∷ r) ++ w.0) w.1 [] (ap is_distinct (sym q) ∙ d),
     )

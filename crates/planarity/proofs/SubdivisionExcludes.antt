@@ -10,13 +10,13 @@ use Rattle.permutations.specs.Cyclic.{first_or}
 use Rattle.permutations.proofs.Count.{count-within}
 use Rattle.permutations.proofs.Search.{some-from, least-below, least-passes}
 use Rattle.permutations.proofs.Injection.{count-injection}
-use Rattle.permutations.proofs.Arrangements.{count-list}
-use Rattle.permutations.proofs.Members.{member-cases, member-append_left, member-append_right, no_member-cons, distinct-cons}
+use Rattle.permutations.proofs.Arrangements.{count-list, member-at}
+use Rattle.permutations.proofs.Members.{member-cases, member-append_left, member-append_right, distinct-three, distinct-four}
 use Rattle.permutations.proofs.Orbits.{orbit-equivalence}
 use Rattle.permutations.proofs.Restriction.{restricted-alone, restricted-permutes, restricted-orbit}
+use Rattle.permutations.proofs.Mapped.{map-member, distinct-map}
 use Rattle.multigraph.specs.Graph.{Multigraph, IsGraph, edge_count}
 use Rattle.rotations.specs.Rotation.{IsRotationSystem}
-use Rattle.rotations.proofs.Membership.{member-at}
 use Rattle.dart_maps.specs.Map.{face, IsMap, same_vertex, same_face, same_component}
 use Rattle.dart_maps.proofs.Darts.{edge-twin}
 use Rattle.dart_maps.proofs.Plane.{restricted-plane}
@@ -25,7 +25,6 @@ use Rattle.faces.specs.Maps.{dart_after, dart_before}
 use Rattle.faces.proofs.DartLemmas.{tail-end, dart_from-edge, dart_from-below, dart_from-tail}
 use Rattle.faces.proofs.MapSteps.{map-permutes}
 use Rattle.faces.proofs.MapVertices.{tail-vertex}
-use Rattle.faces.proofs.MapLists.{distinct-map, map-member}
 use Rattle.faces.proofs.MapCounts.{plane-map}
 use Rattle.kuratowski.specs.Subdivision.{branch_count, pattern_edges, all_inner, IsSubdivision}
 use Rattle.kuratowski.specs.declared.subdivision.Pattern.{Pattern}
@@ -36,17 +35,6 @@ use Rattle.planarity.proofs.SubdivisionLists.{all_edges, inner-member}
 use Rattle.planarity.proofs.SubdivisionWays.{way_from, way_along, way-member, paths-apart, path-sides, path-ends, from-start, kept-path, kept-edge, kept-distinct, kept-length}
 use Rattle.planarity.proofs.SubdivisionSteps.{keep, left_map, way_dart}
 use Rattle.planarity.proofs.SubdivisionFaces.{first-kept, way-next, dart-way}
-
--- three different numbers are a list without repetition
-distinct-three : (a b c : ℕ) → a ≢ b → a ≢ c → b ≢ c → is_distinct (a ∷ b ∷ c ∷ []) ≡ true
-distinct-three a b c ab ac bc = distinct-cons a (b ∷ c ∷ []) (no_member-cons a b (c ∷ []) (λ e. ab (sym e)) (no_member-cons a c [] (λ e. ac (sym e)) refl))
-    (distinct-cons b (c ∷ []) (no_member-cons b c [] (λ e. bc (sym e)) refl) refl)
-
--- and so are four
-distinct-four : (a b c d : ℕ) → a ≢ b → a ≢ c → a ≢ d → b ≢ c → b ≢ d → c ≢ d → is_distinct (a ∷ b ∷ c ∷ d ∷ []) ≡ true
-distinct-four a b c d ab ac ad bc bd cd =
-    distinct-cons a (b ∷ c ∷ d ∷ []) (no_member-cons a b (c ∷ d ∷ []) (λ e. ab (sym e)) (no_member-cons a c (d ∷ []) (λ e. ac (sym e)) (no_member-cons a d [] (λ e. ad (sym e)) refl)))
-    (distinct-three b c d bc bd cd)
 
 -- a subdivision in a graph with a rotation system
 module _ (g : Multigraph) (r : List (List ℕ)) (ok : IsGraph g) (rs : IsRotationSystem g r) (kind : Pattern) (branch : List ℕ) (paths : List (List ℕ)) (s : IsSubdivision g kind branch paths) where

@@ -7,9 +7,10 @@ use Rattle.permutations.specs.Cyclic.{first_or}
 use Rattle.permutations.proofs.Members.{cut_at, CutAt}
 use Rattle.permutations.proofs.Orbits.{orbit-step, orbit-equivalence}
 use Rattle.multigraph.specs.Graph.{Multigraph, IsGraph, edge_count, is_end, other_end}
+use Rattle.multigraph.proofs.OtherEnd.{other_end-is_end}
 use Rattle.rotations.specs.Rotation.{IsRotationSystem}
 use Rattle.graph_theory.specs.Path.{walk_end, IsWalk, IsPath}
-use Rattle.graph_theory.proofs.Ends.{end-cases, other-is_end}
+use Rattle.graph_theory.proofs.Ends.{end-cases}
 use Rattle.graph_theory.proofs.Walks.{end-append, walk-right}
 use Rattle.graph_theory.proofs.Reversal.{reverse-cons, end-reverse}
 use Rattle.dart_maps.specs.Map.{twin, face, same_face}
@@ -112,7 +113,7 @@ module _ (g : Multigraph) (ok : IsGraph g) (r : List (List ℕ)) (rs : IsRotatio
           back f p z = way-first g ok r rs kind branch paths s (twin q) f.0 (twin-below (pair_count kind) q l) (subst (λ k. is_member f.0 (way_along paths k) ≡ true) z p.3) (subst (λ k. is_end g k f.0 ≡ true) arrives f.2)
               ∙ sym (way-first g ok r rs kind branch paths s (twin q) e (twin-below (pair_count kind) q l)
               (way-member g ok kind branch paths s (twin q) e ∙ ap (λ k. is_member e (path_at paths k)) (twin-edge q) ∙ sym (way-member g ok kind branch paths s q e) ∙ cut-member g ok r rs kind branch paths s q l front e [] cut)
-              (subst (λ k. is_end g k e ≡ true) arrives (other-is_end g e v)))
+              (subst (λ k. is_end g k e ≡ true) arrives (other_end-is_end g e v)))
 
   -- the face of a dart of way q holds the first dart of a way that goes on from q
   way-walk : (q : ℕ) → q < 2 * pair_count kind → (after front : List ℕ) (e : ℕ) → way_along paths q ≡ front ++ e ∷ after

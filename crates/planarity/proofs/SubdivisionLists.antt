@@ -1,11 +1,10 @@
 -- The edges of all paths and the vertices inside all paths, each as one list: members, repetition, and how many.
-use Rattle.std.proofs.Common.{◌≡◌, ℕ, zero, suc, ◌+◌, ◌<◌, ◌≤◌, inl, inr, true, List, [], ◌∷◌, ◌++◌, length, get_or, refl, sym, ap, subst, arith}
+use Rattle.std.proofs.Common.{◌≡◌, ℕ, zero, suc, ◌+◌, ◌<◌, ◌≤◌, inl, inr, true, List, [], ◌∷◌, ◌++◌, length, get_or, refl, sym, ap, arith}
 use Rattle.std.proofs.lemmas.Bool.{both_ways, false_from_ne_true, true≢false}
 use Rattle.std.proofs.lemmas.List.{length-append}
 use Rattle.permutations.specs.Members.{is_member, is_distinct}
-use Rattle.permutations.proofs.Members.{member-append_left, member-append_right, member-append_cases, distinct-head, distinct-tail, distinct-append, distinct-append_right, distinct-append_apart}
+use Rattle.permutations.proofs.Members.{member-append_left, member-append_right, member-append_cases, distinct-append, distinct-append_right, distinct-append_apart}
 use Rattle.multigraph.specs.Graph.{Multigraph, other_end}
-use Rattle.rotations.proofs.Membership.{member-at}
 use Rattle.graph_theory.specs.Path.{walk_starts}
 use Rattle.kuratowski.specs.Subdivision.{branch_at, path_at, inner_vertices, all_inner}
 
@@ -13,14 +12,6 @@ use Rattle.kuratowski.specs.Subdivision.{branch_at, path_at, inner_vertices, all
 abbrev pub all_edges : List (List ℕ) → List ℕ
 all_edges [] = []
 all_edges (path ∷ paths) = path ++ all_edges paths
-
--- in a list without repetition different places have different members
-pub distinct-at : (l : List ℕ) (i j : ℕ) → is_distinct l ≡ true → i < length l → j < length l → get_or l i 0 ≡ get_or l j 0 → i ≡ j
-distinct-at [] i j d k m e = absurd (omega arith)
-distinct-at (x ∷ l) zero zero d k m e = refl
-distinct-at (x ∷ l) zero (suc j) d k m e = absurd (both_ways (is_member x l) (distinct-head x l d) (subst (λ z. is_member z l ≡ true) (sym e) (member-at l j 0 (omega arith))))
-distinct-at (x ∷ l) (suc i) zero d k m e = absurd (both_ways (is_member x l) (distinct-head x l d) (subst (λ z. is_member z l ≡ true) e (member-at l i 0 (omega arith))))
-distinct-at (x ∷ l) (suc i) (suc j) d k m e = ap suc (distinct-at l i j (distinct-tail x l d) (omega arith) (omega arith) e)
 
 -- an edge of a path is one of them
 pub edges-member : (paths : List (List ℕ)) (k f : ℕ) → k < length paths → is_member f (path_at paths k) ≡ true → is_member f (all_edges paths) ≡ true

@@ -3,9 +3,10 @@ use Rattle.std.proofs.Common.{◌≡◌, ◌≢◌, ℕ, ◌+◌, ◌*◌, ◌/�
 use Rattle.std.proofs.lemmas.Bool.{both_ways, true≢false, cases_eq, ne_eqb}
 use Rattle.permutations.specs.Members.{is_member, is_distinct}
 use Rattle.permutations.proofs.Members.{member-cases, member-reverse, distinct-append_left, distinct-append_right, distinct-append_apart}
+use Rattle.permutations.proofs.Places.{same-place}
+use Rattle.permutations.proofs.Arrangements.{member-at}
 use Rattle.multigraph.specs.Graph.{Multigraph, IsGraph, edge_count, ends_of, is_end, other_end}
 use Rattle.multigraph.proofs.OtherEnd.{is_end-first, is_end-second}
-use Rattle.rotations.proofs.Membership.{member-at}
 use Rattle.graph_theory.specs.Path.{walk_starts, walk_vertices, IsPath}
 use Rattle.graph_theory.proofs.Walks.{walk-edge, edge-met, met-cases}
 use Rattle.graph_theory.proofs.Paths.{path-reverse, path-reverse-met, path-edges_distinct}
@@ -15,7 +16,7 @@ use Rattle.dart_maps.proofs.Darts.{twin-even, twin-below, edge-twin}
 use Rattle.kuratowski.specs.Subdivision.{branch_count, pattern_edges, pair_at, branch_at, path_at, inner_vertices, all_inner, IsSubdivision}
 use Rattle.kuratowski.specs.declared.subdivision.Pattern.{Pattern}
 use Rattle.planarity.proofs.SubdivisionPattern.{pair_count, way_start, way_finish, way-begins, way-moves, way-same, way-start_first, way-start_second, way-start_twin}
-use Rattle.planarity.proofs.SubdivisionLists.{all_edges, distinct-at, edges-member, edges-path, edges-distinct, edges-length, inner-member, inner-once}
+use Rattle.planarity.proofs.SubdivisionLists.{all_edges, edges-member, edges-path, edges-distinct, edges-length, inner-member, inner-once}
 
 -- the branch vertex where way q begins
 abbrev pub way_from : Pattern → List ℕ → ℕ → ℕ
@@ -45,7 +46,7 @@ module _ (g : Multigraph) (ok : IsGraph g) (kind : Pattern) (branch : List ℕ) 
 
   -- different branch vertices of the pattern are different vertices
   pub branch-once : (i j : ℕ) → i < branch_count kind → j < branch_count kind → branch_at branch i ≡ branch_at branch j → i ≡ j
-  branch-once i j k l e = distinct-at branch i j (distinct-append_left branch (all_inner g branch (pattern_edges kind) paths) s.apart) (omega (arith, s.branches)) (omega (arith, s.branches)) e
+  branch-once i j k l e = same-place branch i j (distinct-append_left branch (all_inner g branch (pattern_edges kind) paths) s.apart) (omega (arith, s.branches)) (omega (arith, s.branches)) e
 
   -- ways that begin at one vertex begin at one vertex of the pattern
   pub from-start : (p q : ℕ) → p < 2 * pair_count kind → q < 2 * pair_count kind → way_from kind branch p ≡ way_from kind branch q → way_start kind p ≡ way_start kind q

@@ -26,7 +26,7 @@ use Rattle.faces.proofs.MapCounts.{plane-map}
 use Rattle.planarity.specs.ContractionLaws.{IsTriangle, IsTriangularFace}
 use Rattle.planarity.proofs.TriangleLoop.{one_of_two, two-first, two-second, two-not, two-orbit, loop-parts}
 use Rattle.planarity.proofs.ContractedVertices.{AreVertices, SameBut, ends-apart, contracted-vertices}
-use Rattle.planarity.proofs.RestrictedConnection.{near-connected}
+use Rattle.faces.proofs.RestrictedConnection.{near-connected}
 use Rattle.planarity.proofs.SimpleDarts.{tail-other, simple-dart, simple-twin}
 
 -- q made p, all else as it was

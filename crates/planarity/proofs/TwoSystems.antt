@@ -1,16 +1,18 @@
 -- A triconnected graph has at most two plane rotation systems: one and its mirror image.
-use Rattle.std.proofs.Common.{◌≡◌, ◌≢◌, ℕ, zero, suc, ◌+◌, ◌<◌, ◌≤◌, ◌⊎◌, inl, inr, Bool, true, false, List, refl, sym, ap, ◌∙◌, subst, arith}
-use Rattle.std.proofs.lemmas.Bool.{cases_Bool, and_parts, cases_eq}
+use Rattle.std.proofs.Common.{◌≡◌, ◌≢◌, ℕ, zero, suc, ◌<◌, ◌≤◌, ◌⊎◌, inl, inr, Bool, true, false, List, refl, sym, ap, ◌∙◌, subst, arith}
+use Rattle.std.proofs.lemmas.Bool.{and_parts, cases_eq}
 use Rattle.permutations.specs.Count.{count}
 use Rattle.permutations.proofs.Search.{some-witness}
+use Rattle.permutations.proofs.Count.{last-passing}
 use Rattle.multigraph.specs.Graph.{Multigraph, IsGraph, edge_count, is_end, other_end}
+use Rattle.multigraph.proofs.OtherEnd.{other_end-is_end}
 use Rattle.rotations.specs.Rotation.{IsRotationSystem}
 use Rattle.graph_theory.specs.Triconnected.{IsTriconnected}
 use Rattle.graph_theory.proofs.Triconnected.{four-vertices}
 use Rattle.contractions.specs.Contraction.{are_joined, is_common, common_count, is_private, ContractibleEdge, IsContraction}
 use Rattle.contractions.specs.Contracted.{contracted, contracted_edge, contracted_vertex}
 use Rattle.contractions.proofs.Neighbours.{incident-three}
-use Rattle.graph_theory.proofs.Ends.{other-is_end, other-other}
+use Rattle.graph_theory.proofs.Ends.{other-other}
 use Rattle.contractions.proofs.Joined.{joined-from, private-parts, simple-same}
 use Rattle.contractions.proofs.Contracted.{graph-contracted}
 use Rattle.contractions.proofs.ContractedTriconnected.{triconnected-contracted}
@@ -26,29 +28,15 @@ use Rattle.planarity.proofs.ContractedSystem.{contracted-exists, contracted-plan
 use Rattle.planarity.proofs.ContractedUnique.{contracted-tells}
 use Rattle.planarity.proofs.FourVertices.{four_vertices-two}
 
--- the last number that passes, and how many pass before it
-last-counted : (n : ℕ) (p : ℕ → Bool) → 1 ≤ count n p → (c : ℕ) × (c < n) × (p c ≡ true) × (count c p + 1 ≡ count n p)
-last-counted zero p l = absurd (omega (arith, l))
-last-counted (suc n) p l = elim (cases_Bool (p n)) [
-  | inl t ↦ (n, omega arith, t, rw t refl)
-  | inr f ↦ further f (last-counted n p (subst (λ k. 1 ≤ k) (same f) l))
-]
-  where
-    same : p n ≡ false → count (suc n) p ≡ count n p
-    same f = rw f refl
-
-    further : p n ≡ false → ((c : ℕ) × (c < n) × (p c ≡ true) × (count c p + 1 ≡ count n p)) → (c : ℕ) × (c < suc n) × (p c ≡ true) × (count c p + 1 ≡ count (suc n) p)
-    further f w = (w.0, omega (arith, w.1), w.2, w.3 ∙ sym (same f))
-
 -- of three numbers that pass, two are equal: then at most two pass
 few-counted : (n : ℕ) (p : ℕ → Bool) → ((a b c : ℕ) → p a ≡ true → p b ≡ true → p c ≡ true → TwoEqual a b c) → count n p ≤ 2
 few-counted n p two = by_size (count n p) refl
   where
     three : 3 ≤ count n p → ⊥
     three l =
-        let c = last-counted n p (omega (arith, l)) in
-        let b = last-counted c.0 p (omega (arith, l, c.3)) in
-        let a = last-counted b.0 p (omega (arith, l, c.3, b.3)) in
+        let c = last-passing n p (omega (arith, l)) in
+        let b = last-passing c.0 p (omega (arith, l, c.3)) in
+        let a = last-passing b.0 p (omega (arith, l, c.3, b.3)) in
         elim (two a.0 b.0 c.0 a.2 b.2 c.2) [
           | inl q ↦ omega (arith, q, a.1)
           | inr q ↦ elim q [ inl z ↦ omega (arith, z, a.1, b.1) | inr z ↦ omega (arith, z, b.1) ]
@@ -105,7 +93,7 @@ module _ (g : Multigraph) (ok : IsGraph g) (tri : IsTriconnected g) (o : Oriente
       (joined-from g f.0 o.second f.1 p.0) p.2 r q a.small s t plane plane_too a.comes (subst (IsContractedSystem g h o.edge o.first o.second edge q) (sym e) b.comes)
     where
       not_first : (f : ℕ) → are_joined g o.first (other_end g f o.second) ≡ false → f ≢ o.edge → f < edge_count g → is_end g o.second f ≡ true → other_end g f o.second ≢ o.first
-      not_first f n d l i q = d (simple-same g tri.simple f o.edge o.second l o.edge_in i (subst (λ v. is_end g v o.edge ≡ true) o.second_end (other-is_end g o.edge o.first))
+      not_first f n d l i q = d (simple-same g tri.simple f o.edge o.second l o.edge_in i (subst (λ v. is_end g v o.edge ≡ true) o.second_end (other_end-is_end g o.edge o.first))
           (q ∙ sym (subst (λ v. other_end g o.edge v ≡ o.first) o.second_end (other-other g o.edge o.first o.first_end))))
 
   two-larger : (r q : List (List ℕ)) → IsRotationSystem g r → IsRotationSystem g q → IsPlane g r → IsPlane g q → (r ≡ q) ⊎ (r ≡ mirror_image q)

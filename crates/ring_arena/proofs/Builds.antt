@@ -25,10 +25,6 @@ appended_item (z ∷ xs) y (suc k) x e = elim (appended_item xs y k x e) [
   | inr h ↦ inr h
 ]
 
--- none
-pub built-none : (next prev : ℕ → ℕ) (base : Ptr) → AreBuilt next prev base []
-built-none next prev base = record { each = λ k node e. absurd cc }
-
 -- one more
 pub built-more : (next prev : ℕ → ℕ) (base : Ptr) (nodes : List Node) (d : ℕ) (node : Node) → AreBuilt next prev base nodes → length nodes ≡ d → IsLinked base d (next d) (prev d) node → AreBuilt next prev base (nodes ++ node ∷ [])
 built-more next prev base nodes d node are l is = record {

@@ -1,5 +1,5 @@
 -- A ring that is turned round, node by node.
-use Rattle.std.proofs.Common.{◌≡◌, ◌≢◌, ℕ, suc, ◌+◌, ◌-◌, ◌<◌, ◌≤◌, inl, inr, Bool, true, false, cond, List, length, slice_index, slice_set, refl, sym, ap, ◌∙◌, subst, add-one, arith}
+use Rattle.std.proofs.Common.{◌≡◌, ◌≢◌, ℕ, suc, ◌+◌, ◌-◌, ◌<◌, ◌≤◌, inl, inr, Bool, true, false, cond, List, length, slice_index, slice_set, sym, ap, ◌∙◌, subst, add-one, arith}
 use Rattle.std.proofs.lemmas.Bool.{cases_eq, cases_Bool}
 use Rattle.std.proofs.lemmas.List.{length-set, get_or-set_same, get_or-set_other}
 use Rattle.permutations.specs.Permutation.{Permutes, iterate, reaches, same_orbit}
@@ -103,14 +103,6 @@ pub record IsTurning (f g : ℕ → ℕ) (n d i at : ℕ) (links : Links) : Type
   pub so_far : AreTurnedSoFar f g n d i links
   pub at_step : at ≡ iterate f i d
   pub not_back : (k : ℕ) → 0 < k → k ≤ i → iterate f k d ≢ d
-
--- none is turned at first
-pub turning-none : (links : Links) (d : ℕ) → AreInverse links → IsTurning (slice_index links.next) (slice_index links.prev) (length links.next) d 0 d links
-turning-none links d inv = record {
-  so_far = record { long_next = refl; long_prev = inv.long; next = λ x l. refl; prev = λ x l. refl };
-  at_step = refl;
-  not_back = λ k p l. absurd (omega arith);
-}
 
 module _ (n : ℕ) (f g : ℕ → ℕ) (perm : Permutes n f g) (d : ℕ) (ld : d < n) where
   -- one node more is turned, and the next one is at hand

@@ -7,7 +7,8 @@ use Rattle.std.proofs.lemmas.List.Sums.{sum_by-cons}
 use Rattle.std.proofs.lemmas.Bool.{cases_Bool, eq-eqb, eqb-true, both_ways, true≢false, false_from_ne_true}
 use Rattle.permutations.specs.Members.{is_member, is_distinct}
 use Rattle.permutations.proofs.Members.{member-head, member-tail, member-cases, no_member-head, no_member-tail, cut_at, distinct-head, distinct-tail, distinct-cons, member-append_left, member-append_right, member-append_cases}
-use Rattle.rotations.proofs.Membership.{member-from_contains, contains-from_member}
+use Rattle.permutations.proofs.Arrangements.{contains-from_member}
+use Rattle.rotations.proofs.Membership.{member-from_contains}
 
 -- an arrangement has the members of the list
 pub permutation-member : (xs ys : List ℕ) (x : ℕ) → IsPermutation xs ys → is_member x xs ≡ true → is_member x ys ≡ true

@@ -1,19 +1,19 @@
 -- What the calls that change a rotation system leave, by what the steps of their bodies say.
-use Rattle.std.proofs.Common.{◌≡◌, ◌≢◌, ℕ, ◌+◌, ◌*◌, ◌/◌, ◌<◌, ◌≤◌, true, List, [], ◌∷◌, ◌++◌, length, get_or, reverse, refl, sym, ap, ◌∙◌, subst, inl, inr, arith}
+use Rattle.std.proofs.Common.{◌≡◌, ◌≢◌, ℕ, ◌+◌, ◌*◌, ◌/◌, ◌<◌, ◌≤◌, true, List, [], ◌∷◌, ◌++◌, length, get_or, reverse, refl, sym, ap, ◌∙◌, subst, arith}
 use Rattle.std.specs.List.{Contains}
 use Rattle.std.proofs.lemmas.List.{length-map, get_or-map, ext_get_or}
-use Rattle.std.proofs.lemmas.Bool.{cases_eq}
 use Rattle.permutations.specs.Members.{is_member}
 use Rattle.permutations.specs.Cyclic.{first_or, successor, predecessor, from_least}
 use Rattle.permutations.specs.Exchange.{exchange}
 use Rattle.permutations.proofs.Members.{member-head, member-append_right}
 use Rattle.permutations.proofs.Successor.{predecessor-member, successor-predecessor}
+use Rattle.permutations.proofs.Arrangements.{contains-from_member}
 use Rattle.ring_arena.specs.Links.{Links, AreInverse, AreNow, reversed_at}
 use Rattle.rotations.specs.Rotation.{order_at}
 use Rattle.rotations.specs.Rings.{dart_at, turns, orders, AreRings, StandOnRings}
 use Rattle.rotations.specs.Runs.{IsParted, IsOutside, IsRunMoved, IsRunTurned, IsKeptElsewhere, mirror_image}
 use Rattle.rotations.specs.declared.rings.Ring.{Ring}
-use Rattle.rotations.proofs.Membership.{member-from_contains, contains-from_member}
+use Rattle.rotations.proofs.Membership.{member-from_contains}
 use Rattle.rotations.proofs.Steps.{order-ring, kept-dart, kept-next_in}
 use Rattle.rotations.proofs.Reorder.{length-turns}
 use Rattle.rotations.proofs.Ends.{leave-ends}
@@ -224,13 +224,6 @@ call-round tails old rings k r is v ring new l at some inv now = subst (λ (q : 
     made : IsMadeAt tails old new rings v (reverse (order_at (orders old.next rings) v))
     made = round-turned tails old rings k inv v l (first_or 0 (order_at (orders old.next rings) v)) new first_there (subst (λ (z : ℕ). AreNow old new (reversed_at old z)) begins now)
 
--- a vertex with no edges
-pub round-empty : (old : Links) (rings : List Ring) (r : List (List ℕ)) → orders old.next rings ≡ r → (v : ℕ) (ring : Ring) → v < length rings → ring ≡ get_or rings v ring → ring.degree ≡ 0 → order_at r v ≡ from_least (reverse (order_at r v))
-round-empty old rings r is v ring l at none = subst (λ (o : List ℕ). o ≡ from_least (reverse o)) (sym empty) refl
-  where
-    empty : order_at r v ≡ []
-    empty = ap (λ (q : List (List ℕ)). order_at q v) (sym is) ∙ (get_or-map (λ (x : Ring). turns old.next x.first x.degree) rings v ring [] l ∙ (ap (λ (x : Ring). turns old.next x.first x.degree) (sym at) ∙ ap (turns old.next ring.first) none))
-
 -- the orders of the vertices below v are reversed, and the others as they were
 pub record AreMirrored (old new : List (List ℕ)) (v : ℕ) : Type 0 where
   pub vertices : length new ≡ length old
@@ -241,13 +234,3 @@ pub mirrored-all : (old new : List (List ℕ)) (v : ℕ) → length old ≤ v �
 mirrored-all old new v l m =
     ext_get_or [] new (mirror_image old) (m.vertices ∙ sym (length-map old (λ order. from_least (reverse order))))
     (λ w n. m.mirrored w (omega (arith, m.vertices)) ∙ sym (get_or-map (λ order. from_least (reverse order)) old w [] [] (omega (arith, m.vertices))))
-
-pub mirrored-more : (old mid new : List (List ℕ)) (v : ℕ) → AreMirrored old mid v → order_at new v ≡ from_least (reverse (order_at mid v)) → IsKeptElsewhere mid new v → AreMirrored old new (v + 1)
-mirrored-more old mid new v m here kept = record {
-  vertices = kept.vertices ∙ m.vertices;
-  mirrored = λ w l. elim (cases_eq w v) [
-    | inl same ↦ subst (λ (u : ℕ). order_at new u ≡ from_least (reverse (order_at old u))) (sym same) (here ∙ ap (λ (o : List ℕ). from_least (reverse o)) (m.others v (omega arith)))
-    | inr n ↦ kept.others w n ∙ m.mirrored w (omega arith)
-  ];
-  others = λ w l. kept.others w (omega arith) ∙ m.others w (omega arith);
-}

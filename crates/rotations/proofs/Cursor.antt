@@ -40,17 +40,6 @@ reached-no_list l k v rising r other = list_at-none l v (λ i m same. apart i m 
       ]
     ]
 
--- the place for the next vertex, where the entry is for v
-pub reached-next : (l : List (ℕ × List ℕ)) (k v : ℕ) → IsRising l → IsReachedAt l k v → k < length l → (entry l k).0 ≡ v → IsReachedAt l (k + 1) (v + 1)
-reached-next l k v rising r m e = record {
-  within = omega arith;
-  smaller = λ i h. elim (cases_eq i k) [
-    | inl same ↦ subst (λ (j : ℕ). (entry l j).0 < v + 1) (sym same) (omega arith)
-    | inr n ↦ omega (arith, r.smaller i (omega arith))
-  ];
-  others = λ i h h'. omega (arith, rising k i (omega arith) h');
-}
-
 -- the place for the next vertex, where it is for a larger one, or there is none
 pub reached-stays : (l : List (ℕ × List ℕ)) (k v : ℕ) → IsRising l → IsReachedAt l k v → (k < length l → (entry l k).0 ≢ v) → IsReachedAt l k (v + 1)
 reached-stays l k v rising r other = record {
@@ -65,10 +54,6 @@ reached-stays l k v rising r other = record {
     here : k < length l → v + 1 ≤ (entry l k).0
     here m = let n : (entry l k).0 ≢ v = other m in omega (arith, r.others k (le_refl k) m)
 
--- at the start
-pub reached-none : (l : List (ℕ × List ℕ)) → IsReachedAt l 0 0
-reached-none l = record { within = omega arith; smaller = λ i h. absurd (omega arith); others = λ i h h'. omega arith }
-
 -- what is read where the entry is for v
 pub given-found : (l : List (ℕ × List ℕ)) (k v : ℕ) (x y : ℕ × List ℕ) → IsReachedAt l k v → k < length l → x ≡ get_or l k x → x.0 ≡ v → y ≡ get_or l k y → y.1 ≡ list_at l v
 given-found l k v x y r m read is again =
@@ -78,7 +63,3 @@ given-found l k v x y r m read is again =
 -- what is read where it is not
 pub given-other : (l : List (ℕ × List ℕ)) (k v : ℕ) (x : ℕ × List ℕ) → k < length l → x ≡ get_or l k x → (x.0 ≡ v → ⊥) → (entry l k).0 ≢ v
 given-other l k v x m read other same = other (ap (λ (p : (ℕ × List ℕ)). p.0) (get_or_read l k x m read (0, [])) ∙ same)
-
--- the place behind the entry that is for v
-pub given-next : (l : List (ℕ × List ℕ)) (k v : ℕ) (x : ℕ × List ℕ) → IsRising l → IsReachedAt l k v → k < length l → x ≡ get_or l k x → x.0 ≡ v → IsReachedAt l (k + 1) (v + 1)
-given-next l k v x rising r m read is = reached-next l k v rising r m (ap (λ (p : (ℕ × List ℕ)). p.0) (sym (get_or_read l k x m read (0, []))) ∙ is)

@@ -1,5 +1,5 @@
 -- Lists of edges whose darts follow one another, and what an exchange and a reversal of rings do to them.
-use Rattle.std.proofs.Common.{◌≡◌, ◌≢◌, ℕ, ◌/◌, ◌<◌, Bool, true, false, cond, eqb, List, [], ◌∷◌, ◌++◌, length, get_or, reverse, refl, sym, ap, ◌∙◌, subst, inl, inr, arith, append_assoc, append-nil}
+use Rattle.std.proofs.Common.{◌≡◌, ◌≢◌, ℕ, ◌/◌, ◌<◌, true, false, cond, eqb, List, [], ◌∷◌, ◌++◌, length, get_or, reverse, refl, sym, ap, ◌∙◌, subst, inl, inr, arith, append_assoc, append-nil}
 use Rattle.std.proofs.lemmas.Bool.{cases_Bool, cases_eq, eq-eqb, eqb-true, ne_eqb, cond-true, cond-false, both_ways, true≢false, false_from_ne_true}
 use Rattle.permutations.specs.Members.{is_member, is_distinct}
 use Rattle.permutations.specs.Cyclic.{first_or, successor, predecessor}
@@ -148,10 +148,6 @@ module _ (D : ℕ → ℕ) (half : (e : ℕ) → D e / 2 ≡ e) (mid new : Links
         symmetric = λ a b. whole.symmetric (D a) (D b);
         transitive = λ a b c. whole.transitive (D a) (D b) (D c);
       }
-
-  -- whether a node is a dart of the run
-  is_dart : ℕ → Bool
-  is_dart d = cond (eqb (D (d / 2)) d) (is_member (d / 2) run) false
 
   dart-true : (e : ℕ) → is_member e run ≡ true → cond (eqb (D (D e / 2)) (D e)) (is_member (D e / 2) run) false ≡ true
   dart-true e m = cond-true (eqb (D (D e / 2)) (D e)) (is_member (D e / 2) run) false (eq-eqb (D (D e / 2)) (D e) (ap D (half e))) ∙ (ap (λ (y : ℕ). is_member y run) (half e) ∙ m)

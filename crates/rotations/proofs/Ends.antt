@@ -2,11 +2,12 @@
 use Rattle.std.proofs.Common.{◌≡◌, ◌≢◌, ℕ, ◌+◌, ◌-◌, ◌*◌, ◌/◌, ◌<◌, ◌⊎◌, true, List, length, get_or, sym, ap, ◌∙◌, subst, inl, inr, arith}
 use Rattle.std.proofs.lemmas.Bool.{cases_lt}
 use Rattle.permutations.specs.Members.{is_member}
+use Rattle.permutations.proofs.Arrangements.{contains-from_member}
 use Rattle.multigraph.specs.Graph.{Multigraph, IsGraph, edge_count, ends_of, incident_edges}
 use Rattle.multigraph.proofs.OtherEnd.{is_end-first, is_end-second}
 use Rattle.rotations.specs.Rotation.{order_at, IsRotationSystem}
 use Rattle.rotations.specs.Rings.{dart_at, LeaveEnds}
-use Rattle.rotations.proofs.Membership.{contains-from_member, incident-member, member-edge}
+use Rattle.rotations.proofs.Membership.{incident-member, member-edge}
 use Rattle.rotations.proofs.Arrangements.{permutation-member, permutation-member_back}
 use Rattle.rotations.proofs.Darts.{dart-cases}
 use Rattle.rotations.proofs.Steps.{order-vertex}

@@ -2,7 +2,7 @@
 pub mod Rising
 pub mod Membership
 pub mod Arrangements
-mod Cursor
+pub mod Cursor
 mod Marks
 mod Darts
 mod Links
@@ -17,5 +17,5 @@ mod Calls
 mod PartEdges
 mod Stages
 mod Steps
-mod FirstBad
+pub mod FirstBad
 mod Instances

@@ -1,13 +1,14 @@
 -- The darts of a list are linked one after another.
 use Rattle.std.proofs.Common.{◌≡◌, ◌≢◌, ℕ, zero, suc, ◌+◌, ◌-◌, ◌*◌, ◌<◌, ◌≤◌, true, cond, eqb, List, [], ◌∷◌, length, get_or, refl, sym, ap, ◌∙◌, subst, inl, inr, arith, add-one}
 use Rattle.std.proofs.lemmas.List.{get_or_past, get_or_default}
-use Rattle.std.proofs.lemmas.Bool.{cases_eq, cases_lt, eq-eqb, ne_eqb, cond-true, cond-false, both_ways, true≢false}
+use Rattle.std.proofs.lemmas.Bool.{cases_eq, cases_lt, eq-eqb, ne_eqb, cond-true, cond-false, both_ways}
 use Rattle.permutations.specs.Members.{is_member, is_distinct}
 use Rattle.permutations.specs.Cyclic.{first_or, successor_from, successor}
-use Rattle.permutations.proofs.Members.{member-cases, distinct-head, distinct-tail}
+use Rattle.permutations.proofs.Members.{distinct-head, distinct-tail}
+use Rattle.permutations.proofs.Places.{same-place, place-of}
+use Rattle.permutations.proofs.Arrangements.{member-at}
 use Rattle.ring_arena.specs.Links.{Links, AreInverse, AreNow, linked_after}
 use Rattle.rotations.specs.Rings.{dart_at, StandRound, AreLinked}
-use Rattle.rotations.proofs.Membership.{member-at}
 use Rattle.rotations.proofs.Darts.{dart-in, dart-injective}
 
 pub first_is : (z : ℕ) (l : List ℕ) → first_or z l ≡ get_or l 0 z
@@ -29,22 +30,6 @@ successor_from-at z (y ∷ ys) (suc i) d l =
 pub successor-at : (l : List ℕ) (i : ℕ) → is_distinct l ≡ true → i < length l → successor l (get_or l i 0) ≡ get_or l (i + 1) (get_or l 0 0)
 successor-at [] i d l = absurd (omega arith)
 successor-at (y ∷ ys) i d l = rw add-one (successor_from-at y (y ∷ ys) i d l)
-
--- members at different places are different
-pub places-apart : (l : List ℕ) (i j : ℕ) → is_distinct l ≡ true → i < length l → j < length l → get_or l i 0 ≡ get_or l j 0 → i ≡ j
-places-apart [] i j d li lj e = absurd (omega arith)
-places-apart (y ∷ ys) zero zero d li lj e = refl
-places-apart (y ∷ ys) zero (suc j) d li lj e = absurd (both_ways (is_member y ys) (distinct-head y ys d) (subst (λ (x : ℕ). is_member x ys ≡ true) (sym e) (member-at ys j 0 (omega arith))))
-places-apart (y ∷ ys) (suc i) zero d li lj e = absurd (both_ways (is_member y ys) (distinct-head y ys d) (subst (λ (x : ℕ). is_member x ys ≡ true) e (member-at ys i 0 (omega arith))))
-places-apart (y ∷ ys) (suc i) (suc j) d li lj e = ap suc (places-apart ys i j (distinct-tail y ys d) (omega arith) (omega arith) e)
-
--- a member stands at a place
-pub place-of : (l : List ℕ) (e : ℕ) → is_member e l ≡ true → (k : ℕ) × (k < length l) × (get_or l k 0 ≡ e)
-place-of [] e m = absurd (true≢false (sym m))
-place-of (y ∷ ys) e m = elim (member-cases e y ys m) [
-  | inl same ↦ (0, omega arith, same)
-  | inr later ↦ let rest = place-of ys e later in (suc (rest.0), (let l : rest.0 < length ys = rest.1 in omega arith), rest.2)
-]
 
 -- what comes behind a node, where d is put behind x
 after-place : (d x : ℕ) (f : ℕ → ℕ) → linked_after d x f x ≡ d
@@ -90,7 +75,7 @@ linked-first tails old v list inv alone = record {
 
 -- darts at different places are different
 dart-apart : (tails : List ℕ) (v : ℕ) (list : List ℕ) (j k : ℕ) → is_distinct list ≡ true → j < length list → k < length list → j ≢ k → dart_at tails v (get_or list j 0) ≢ dart_at tails v (get_or list k 0)
-dart-apart tails v list j k d lj lk n e = n (places-apart list j k d lj lk (dart-injective tails v (get_or list j 0) (get_or list k 0) e))
+dart-apart tails v list j k d lj lk n e = n (same-place list j k d lj lk (dart-injective tails v (get_or list j 0) (get_or list k 0) e))
 
 -- the edge at a place has its two darts
 pub edge-darts : (tails : List ℕ) (v : ℕ) (list : List ℕ) (k : ℕ) → StandRound tails v list → k < length list → 2 * get_or list k 0 + 1 < length tails

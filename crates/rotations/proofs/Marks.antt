@@ -2,14 +2,15 @@
 use Rattle.std.proofs.Common.{◌≡◌, ◌≢◌, ℕ, ◌+◌, ◌<◌, ◌≤◌, true, false, eqb, ◌⊎◌, List, [], ◌∷◌, ◌++◌, length, get_or, set, take, drop, refl, sym, ap, ◌∙◌, subst, inl, inr, arith}
 use Rattle.std.specs.List.{All}
 use Rattle.std.specs.List.Sorted.{IsPermutation}
-use Rattle.std.proofs.lemmas.List.{length-set, get_or-set_same, get_or-set_other, get_or_past, take_more, take-append-drop, drop_more, take_all}
-use Rattle.std.proofs.lemmas.List.Elements.{All-set, All-get_or, All-weaker}
+use Rattle.std.proofs.lemmas.List.{length-set, get_or-set_same, get_or-set_other, take_more, take-append-drop, drop_more, take_all}
+use Rattle.std.proofs.lemmas.List.Elements.{All-set}
 use Rattle.std.proofs.lemmas.List.Sorted.{length_permutation}
-use Rattle.std.proofs.lemmas.Bool.{cases_eq, cases_lt, cases_Bool, eq-eqb, ne_eqb, both_ways, true≢false}
+use Rattle.std.proofs.lemmas.Bool.{cases_eq, cases_Bool, eq-eqb, ne_eqb, both_ways, true≢false}
 use Rattle.permutations.specs.Members.{is_member, is_distinct}
 use Rattle.permutations.proofs.Members.{member-head, member-append_left, member-append_right, member-append_cases, member-cases, no_member-append, no_member-cons, distinct-append, distinct-append_apart}
+use Rattle.permutations.proofs.Arrangements.{member-at}
 use Rattle.multigraph.specs.Graph.{Multigraph, edge_count, incident_edges}
-use Rattle.rotations.proofs.Membership.{incident-distinct, member-edge, member-at}
+use Rattle.rotations.proofs.Membership.{incident-distinct, member-edge}
 use Rattle.rotations.proofs.Arrangements.{permutation-member_back, permutation-distinct, permutation-from_members}
 
 -- the edges of a front of the list of v: each is at v, none is there twice, and they are the ones that are marked v + 1
@@ -19,22 +20,6 @@ pub record AreMet (g : Multigraph) (v : ℕ) (front seen : List ℕ) : Type 0 wh
   pub at_vertex : (e : ℕ) → is_member e front ≡ true → is_member e (incident_edges g v) ≡ true
   pub long : length seen ≡ edge_count g
   pub small : All (λ s. s ≤ v + 1) seen
-
--- none is met yet
-pub met-none : (g : Multigraph) (v : ℕ) (seen : List ℕ) → length seen ≡ edge_count g → All (λ s. s ≤ v) seen → AreMet g v [] seen
-met-none g v seen long small = record {
-  marked = λ e. ne_eqb (get_or seen e 0) (v + 1) (unmarked e);
-  distinct = refl;
-  at_vertex = λ e m. absurd (true≢false (sym m));
-  long = long;
-  small = All-weaker (λ (s : ℕ). s ≤ v) (λ (s : ℕ). s ≤ v + 1) (λ s h. omega arith) seen small;
-}
-  where
-    unmarked : (e : ℕ) → get_or seen e 0 ≡ v + 1 → ⊥
-    unmarked e same = elim (cases_lt e (length seen)) [
-      | inl l ↦ omega (arith, All-get_or (λ (s : ℕ). s ≤ v) seen e 0 l small)
-      | inr l ↦ omega (arith, get_or_past seen e 0 l)
-    ]
 
 -- an edge that is not marked is not among those met
 met-new : (g : Multigraph) (v e : ℕ) (front seen : List ℕ) → AreMet g v front seen → get_or seen e 0 ≢ v + 1 → is_member e front ≡ false

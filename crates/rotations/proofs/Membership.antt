@@ -1,30 +1,20 @@
 -- Membership as a test and as a place, and the edges at a vertex by that test.
-use Rattle.std.proofs.Common.{◌≡◌, ℕ, zero, suc, ◌<◌, Bool, true, false, cond, List, [], ◌∷◌, ◌++◌, length, get_or, refl, sym, ◌∙◌, subst, inl, inr, arith}
+use Rattle.std.proofs.Common.{◌≡◌, ℕ, zero, suc, ◌<◌, Bool, true, false, cond, List, [], ◌∷◌, ◌++◌, refl, sym, ◌∙◌, subst, inl, inr, arith, get_or, ◌≤◌, length, ap, ◌+◌}
 use Rattle.std.specs.List.{filter, Contains}
-use Rattle.std.proofs.lemmas.List.Elements.{Contains-append_right}
-use Rattle.std.proofs.lemmas.Bool.{cases_Bool, false_from_ne_true, true≢false}
+use Rattle.std.proofs.lemmas.Bool.{cases_Bool, false_from_ne_true, cases_eq, true≢false}
 use Rattle.permutations.specs.Members.{is_member, is_distinct}
-use Rattle.permutations.proofs.Members.{member-head, member-tail, cut_at, distinct-append, no_member-cons}
+use Rattle.permutations.specs.Cyclic.{first_or}
+use Rattle.permutations.proofs.Members.{distinct-append, no_member-cons}
+use Rattle.permutations.proofs.Arrangements.{contains-from_member, member-at}
+use Rattle.permutations.proofs.Places.{place-of, first-at}
 use Rattle.multigraph.specs.Graph.{Multigraph, edge_count, is_end, is_edge_at, numbers_below, incident_edges}
 use Rattle.multigraph.proofs.Below.{filter_below-suc, filter_below-only}
 use Rattle.multigraph.proofs.OtherEnd.{edge_at-parts, edge_at-from}
-use Rattle.multigraph.proofs.Incident.{incident-has, incident-edge, incident-end}
-
--- what stands at a place of a list is a member
-pub member-at : (xs : List ℕ) (i d : ℕ) → i < length xs → is_member (get_or xs i d) xs ≡ true
-member-at [] i d l = absurd (omega arith)
-member-at (x ∷ xs) zero d l = member-head x xs
-member-at (x ∷ xs) (suc i) d l = member-tail (get_or xs i d) x xs (member-at xs i d (omega arith))
+use Rattle.multigraph.proofs.Incident.{incident-has, incident-edge, incident-end, incident-rises}
 
 -- what a list contains is a member
 pub member-from_contains : (xs : List ℕ) (x : ℕ) → Contains xs x → is_member x xs ≡ true
 member-from_contains xs x c = subst (λ (y : ℕ). is_member y xs ≡ true) c.2 (member-at xs c.0 x c.1)
-
--- a list contains its members
-pub contains-from_member : (xs : List ℕ) (x : ℕ) → is_member x xs ≡ true → Contains xs x
-contains-from_member xs x m =
-    let cut = cut_at x xs m in
-    subst (λ (l : List ℕ). Contains l x) (sym cut.is) (Contains-append_right cut.front (x ∷ cut.back) x (0, omega arith, refl))
 
 -- of the numbers below n that pass a test none stands there twice
 pub distinct-filter_below : (p : ℕ → Bool) (n : ℕ) → is_distinct (filter p (numbers_below n)) ≡ true
@@ -74,3 +64,18 @@ is_edge_at-no g v e h = false_from_ne_true (is_member e (incident_edges g v))
 -- an edge at v is one of those at v
 pub is_edge_at-member : (g : Multigraph) (v e : ℕ) → is_edge_at g v e ≡ true → is_member e (incident_edges g v) ≡ true
 is_edge_at-member g v e h = let p = edge_at-parts g v e h in incident-member g v e p.0 p.1
+
+-- the first edge at a vertex is the least
+pub incident-least : (g : Multigraph) (v e : ℕ) → is_member e (incident_edges g v) ≡ true → first_or 0 (incident_edges g v) ≤ e
+incident-least g v e m =
+    let w = place-of (incident_edges g v) e m in
+    let inside : w.0 < length (incident_edges g v) = w.1 in
+    let here : get_or (incident_edges g v) w.0 0 ≡ e = w.2 in
+    elim (cases_eq w.0 0) [
+      | inl z ↦
+          let first : get_or (incident_edges g v) 0 0 ≡ e = ap (λ (k : ℕ). get_or (incident_edges g v) k 0) (sym z) ∙ here in
+          omega (arith, first-at (incident_edges g v), first)
+      | inr n ↦
+          let rises : get_or (incident_edges g v) 0 0 < get_or (incident_edges g v) w.0 0 = incident-rises g v 0 w.0 0 (omega (arith, n)) inside in
+          omega (arith, first-at (incident_edges g v), here, rises)
+    ]

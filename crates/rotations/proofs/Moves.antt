@@ -1,36 +1,31 @@
 -- What the exchanges and reversals of the calls do to the order of one vertex, and that the others keep theirs.
-use Rattle.std.proofs.Common.{◌≡◌, ◌≢◌, ℕ, ◌<◌, ◌≤◌, cond, eqb, ◌⊎◌, true, false, List, [], ◌∷◌, ◌++◌, length, get_or, reverse, refl, sym, ap, ◌∙◌, subst, inl, inr, arith, append_assoc, append-nil}
+use Rattle.std.proofs.Common.{◌≡◌, ◌≢◌, ℕ, ◌<◌, cond, eqb, ◌⊎◌, true, List, [], ◌∷◌, ◌++◌, length, get_or, refl, sym, ap, ◌∙◌, subst, inl, inr, arith, append_assoc}
 use Rattle.std.specs.List.Sorted.{IsPermutation}
 use Rattle.std.proofs.lemmas.List.Sorted.{IsPermutation-trans, IsPermutation-append_comm, IsPermutation-append_left}
 use Rattle.std.proofs.lemmas.List.{length-map, get_or_past}
-use Rattle.std.proofs.lemmas.Bool.{cases_eq, cases_lt, eq-eqb, ne_eqb, cond-true, cond-false, both_ways}
+use Rattle.std.proofs.lemmas.Bool.{cases_eq, cases_lt, eq-eqb, ne_eqb, cond-true, cond-false}
 use Rattle.permutations.specs.Members.{is_member, is_distinct}
-use Rattle.permutations.specs.Cyclic.{first_or, successor, predecessor, from_least, IsTurn}
+use Rattle.permutations.specs.Cyclic.{first_or, from_least, IsTurn}
 use Rattle.permutations.specs.Exchange.{exchange}
-use Rattle.permutations.proofs.Members.{member-head, member-tail, member-append_left, member-append_right, member-append_cases, member-append_comm, member-reverse, distinct-append_comm, distinct-append_apart, distinct-append_left, distinct-reverse}
+use Rattle.permutations.proofs.Members.{member-head, member-append_left, member-append_right, member-append_cases, member-append_comm, distinct-append_comm}
 use Rattle.permutations.proofs.Arrangements.{permutation-member, permutation-distinct}
 use Rattle.permutations.proofs.Turned.{IsTurn-permutation}
-use Rattle.permutations.proofs.NormalForm.{from_least-first}
-use Rattle.ring_arena.specs.Links.{Links, AreInverse, AreNow, reversed_at}
+use Rattle.permutations.proofs.NormalForm.{written-first}
+use Rattle.ring_arena.specs.Links.{Links, AreInverse, AreNow}
 use Rattle.rotations.specs.Rotation.{order_at}
-use Rattle.rotations.specs.Rings.{dart_at, turns, orders, StandRound, AreLinked, AreRings}
-use Rattle.rotations.specs.Runs.{IsRun, IsParted, IsKeptElsewhere}
+use Rattle.rotations.specs.Rings.{dart_at, turns, orders, AreRings}
+use Rattle.rotations.specs.Runs.{IsParted, IsKeptElsewhere}
 use Rattle.rotations.specs.declared.rings.Ring.{Ring}
-use Rattle.rotations.proofs.Darts.{dart-edge, dart-in, dart-injective}
-use Rattle.rotations.proofs.Cycles.{Chain, chain-join, chain-front, chain-back, chain-ext, cycle-from, cycle-to, cycle-swap, exchange-kept, links-exchanged, run-reversed, others-kept}
+use Rattle.rotations.proofs.Darts.{dart-in, dart-injective}
+use Rattle.rotations.proofs.Cycles.{Chain, chain-join, chain-front, chain-back, cycle-from, cycle-to, cycle-swap, exchange-kept, links-exchanged}
 use Rattle.rotations.proofs.Reorder.{IsReordered, new-order, new-rings, new-vertices}
-use Rattle.rotations.proofs.Runs.{parts-distinct, in-order, first-in, last-in, first-run, moved-permutation, turned-permutation}
+use Rattle.rotations.proofs.Runs.{parts-distinct, in-order, last-in, moved-permutation}
 
 -- the order of v is another one, and the others stay
 pub record IsMadeAt (tails : List ℕ) (old new : Links) (rings : List Ring) (v : ℕ) (order : List ℕ) : Type 0 where
   pub kept : AreRings tails new.next new.prev rings
   pub here : order_at (orders new.next rings) v ≡ from_least order
   pub elsewhere : IsKeptElsewhere (orders old.next rings) (orders new.next rings) v
-
--- an order that begins with its least edge is written as it should be
-written-first : (l : List ℕ) → ((e : ℕ) → is_member e l ≡ true → first_or 0 l ≤ e) → from_least l ≡ l
-written-first [] h = refl
-written-first (x ∷ xs) h = from_least-first x xs (λ z m. h z (member-tail z x xs m))
 
 module _ (tails : List ℕ) (old : Links) (rings : List Ring) (k : AreRings tails old.next old.prev rings) (v : ℕ) (l : v < length rings) where
   -- links that follow another order of the edges at v, and elsewhere are the same

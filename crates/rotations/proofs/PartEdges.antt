@@ -1,21 +1,22 @@
 -- Lists in the numbers of a whole graph, and the same lists in those of a part.
-use Rattle.std.proofs.Common.{◌≡◌, ◌≢◌, ℕ, zero, suc, ◌+◌, ◌-◌, ◌<◌, ◌≤◌, ◌⊎◌, true, false, cond, eqb, List, [], ◌∷◌, ◌++◌, length, map, get_or, refl, sym, ap, ◌∙◌, subst, inl, inr, arith}
+use Rattle.std.proofs.Common.{◌≡◌, ◌≢◌, ℕ, zero, suc, ◌+◌, ◌-◌, ◌<◌, ◌≤◌, true, false, eqb, List, [], ◌∷◌, length, map, get_or, refl, sym, ap, ◌∙◌, subst, inl, inr, arith}
 use Rattle.std.specs.List.{Contains}
 use Rattle.std.specs.List.Sorted.{IsPermutation}
-use Rattle.std.proofs.lemmas.List.{length-map, length_push, map-append, get_or_default, get_or_push, get_or_append_left, nil_from_length}
+use Rattle.std.proofs.lemmas.List.{length-map, map-append, get_or_default, nil_from_length}
 use Rattle.std.proofs.lemmas.List.Sorted.{IsPermutation-map, length_permutation}
-use Rattle.std.proofs.lemmas.Bool.{cases_eq, cases_lt, eq-eqb, ne_eqb, cond-true, cond-false, both_ways, true≢false, false_from_ne_true}
+use Rattle.std.proofs.lemmas.Bool.{cases_eq, cases_lt, eq-eqb, ne_eqb, cond-true, cond-false, both_ways, false_from_ne_true}
 use Rattle.permutations.specs.Members.{is_member}
 use Rattle.permutations.specs.Cyclic.{first_or, turned}
-use Rattle.permutations.proofs.Members.{member-head, member-tail, member-cases, member-append_left, cut_at}
+use Rattle.permutations.proofs.Members.{member-head, member-tail, member-append_left, cut_at}
 use Rattle.permutations.proofs.Turned.{turned-cut}
-use Rattle.multigraph.specs.Graph.{edge_count, incident_edges}
+use Rattle.permutations.proofs.Mapped.{map-member}
+use Rattle.multigraph.specs.Graph.{incident_edges}
 use Rattle.multigraph.specs.Part.{GraphPart, Rises, IsNumbered}
 use Rattle.multigraph.proofs.Places.{rises-once}
-use Rattle.rotations.specs.Entries.{entry, IsRising, IsAbove, IsNamed, IsReachedAt, list_at}
-use Rattle.rotations.specs.Given.{IsArranged, AreArranged, IsBad, IsFirstBad, given_order}
-use Rattle.rotations.specs.PartLists.{outer_edges, outer_list, ArrangePart, IsBadInPart, IsFirstBadInPart, outer_order, place_in, AreInnerBelow, IsFirstStranger}
-use Rattle.rotations.proofs.Membership.{member-edge, member-at}
+use Rattle.rotations.specs.Entries.{entry, IsRising, IsNamed, list_at}
+use Rattle.rotations.specs.Given.{IsArranged, AreArranged, IsFirstBad, given_order}
+use Rattle.rotations.specs.PartLists.{outer_edges, outer_list, ArrangePart, IsFirstBadInPart, outer_order, place_in, AreInnerBelow, IsFirstStranger}
+use Rattle.rotations.proofs.Membership.{member-edge}
 use Rattle.rotations.proofs.Arrangements.{permutation-member, permutation-member_back}
 use Rattle.rotations.proofs.Cursor.{list_at-found}
 
@@ -41,20 +42,12 @@ place-back (y ∷ ys) x m = elim (cases_eq y x) [
 pub place-at : (l : List ℕ) (i : ℕ) → Rises l → i < length l → place_in l (get_or l i 0) ≡ i
 place-at l i r m = place-first l (get_or l i 0) i m (λ j n e. omega (arith, rises-once l r j i (omega arith) m e)) refl
 
--- what stands in a mapped list is the image of a member
-pub member-map : (f : ℕ → ℕ) (l : List ℕ) (w : ℕ) → is_member w (map f l) ≡ true → (z : ℕ) × (is_member z l ≡ true) × (f z ≡ w)
-member-map f [] w m = absurd (true≢false (sym m))
-member-map f (x ∷ xs) w m = elim (member-cases w (f x) (map f xs) m) [
-  | inl e ↦ (x, member-head x xs, e)
-  | inr t ↦ let q = member-map f xs w t in (q.0, member-tail q.0 x xs q.1, q.2)
-]
-
 -- a list turned to a member, mapped
 pub map-turned : (f : ℕ → ℕ) (l : List ℕ) (y : ℕ) → is_member y l ≡ true → ((z : ℕ) → is_member z l ≡ true → f z ≡ f y → z ≡ y) → map f (turned l y) ≡ turned (map f l) (f y)
 map-turned f l y m one =
     let cut = cut_at y l m in
     let apart : is_member (f y) (map f cut.front) ≡ false = false_from_ne_true (is_member (f y) (map f cut.front)) (λ t.
-    let q = member-map f cut.front (f y) t in
+    let q = map-member f cut.front (f y) t in
     let at_l : is_member q.0 l ≡ true = subst (λ (o : List ℕ). is_member q.0 o ≡ true) (sym cut.is) (member-append_left q.0 cut.front (y ∷ cut.back) q.1) in
     both_ways (is_member y cut.front) cut.first (subst (λ (z : ℕ). is_member z cut.front ≡ true) (one q.0 at_l q.2) q.1)) in
     ap (map f) (ap (λ (o : List ℕ). turned o y) cut.is ∙ turned-cut cut.front y cut.back cut.first)
@@ -151,16 +144,6 @@ module _ (part : GraphPart) (numbered : IsNumbered part) (entries inner : List (
         ]
       ]
 
-  -- it is a vertex of the part
-  pub bad-vertex : (i : ℕ) → IsFirstBad part.graph inner i → i < part.graph.vertex_count
-  bad-vertex i f = elim f.bad [
-    | inl b ↦ b.0
-    | inr b ↦ absurd (unnamed b.0 b.1)
-  ]
-    where
-      unnamed : part.graph.vertex_count ≤ i → IsNamed inner i → ⊥
-      unnamed l n = omega (arith, n.1, n.2, made.long, ap (λ (q : (ℕ × List ℕ)). q.0) (made.each n.0 (omega (arith, n.1, made.long))))
-
   -- the least stranger, where no smaller vertex is bad
   pub stranger-bad : (w : ℕ) → IsFirstStranger part entries w → ((j : ℕ) → j < part.graph.vertex_count → get_or part.vertices j 0 < w → ¬ ¬ IsArranged part.graph inner j) → IsFirstBadInPart part entries w
   stranger-bad w s fine = record {
@@ -220,45 +203,6 @@ stranger-first part entries k v rising m is before none = record {
 -- all are vertices of the part
 pub strangers-none : (part : GraphPart) (entries : List (ℕ × List ℕ)) (k : ℕ) → length entries ≤ k → ((j : ℕ) → j < k → Contains part.vertices (entry entries j).0) → (v : ℕ) → IsNamed entries v → Contains part.vertices v
 strangers-none part entries k l known v n = subst (λ (x : ℕ). Contains part.vertices x) n.2 (known n.0 (omega (arith, n.1)))
-
--- the first entry for no smaller vertex
-pub reached-here : (entries : List (ℕ × List ℕ)) (k v : ℕ) → IsRising entries → k < length entries → ((j : ℕ) → j < k → (entry entries j).0 < v) → v ≤ (entry entries k).0 → IsReachedAt entries k v
-reached-here entries k v rising m before here = record {
-  within = omega arith;
-  smaller = before;
-  others = λ i l t. elim (cases_eq k i) [
-    | inl same ↦ omega (arith, ap (λ (j : ℕ). (entry entries j).0) same)
-    | inr n ↦ omega (arith, rising k i (omega arith) t)
-  ];
-}
-
-pub reached-end : (entries : List (ℕ × List ℕ)) (k v : ℕ) → length entries ≤ k → ((j : ℕ) → j < k → (entry entries j).0 < v) → IsReachedAt entries (length entries) v
-reached-end entries k v m before = record {
-  within = omega arith;
-  smaller = λ j l. before j (omega arith);
-  others = λ i l t. absurd (omega arith);
-}
-
--- no entry yet
-pub inner-none : (part : GraphPart) (entries : List (ℕ × List ℕ)) → AreInnerBelow part entries [] 0
-inner-none part entries = record { long = refl; each = λ i l. absurd (omega arith) }
-
--- the next entry is above the last
-pub inner-above : (part : GraphPart) (entries inner : List (ℕ × List ℕ)) (i : ℕ) → AreInnerBelow part entries inner i → IsAbove inner i
-inner-above part entries inner i r some =
-    let last : length inner - 1 < i = omega (arith, r.long) in
-    omega (arith, last, ap (λ (q : (ℕ × List ℕ)). q.0) (r.each (length inner - 1) last))
-
--- one entry more
-pub inner-more : (part : GraphPart) (entries inner : List (ℕ × List ℕ)) (i : ℕ) (list : List ℕ) → AreInnerBelow part entries inner i → list ≡ map (place_in part.edges) (outer_list part entries i) → AreInnerBelow part entries (inner ++ (i, list) ∷ []) (i + 1)
-inner-more part entries inner i list r is = record {
-  long = omega (arith, length_push inner (i, list), r.long);
-  each = λ j l. elim (cases_eq j i) [
-    | inl same ↦ subst (λ (k : ℕ). entry (inner ++ (i, list) ∷ []) k ≡ (k, map (place_in part.edges) (outer_list part entries k))) (sym same)
-        (get_or_push inner (i, list) (0, []) i r.long ∙ (λ k. (i, is k)))
-    | inr n ↦ get_or_append_left inner ((i, list) ∷ []) (0, []) j (omega (arith, r.long)) ∙ r.each j (omega arith)
-  ];
-}
 
 -- one entry more is for a vertex of the part
 pub known-more : (part : GraphPart) (entries : List (ℕ × List ℕ)) (k v i : ℕ) → ((j : ℕ) → j < k → Contains part.vertices (entry entries j).0) → v ≡ (entry entries k).0 → (i < length part.vertices) × (get_or part.vertices i 0 ≡ v) → (j : ℕ) → j < k + 1 → Contains part.vertices (entry entries j).0

@@ -5,13 +5,12 @@ use Rattle.std.proofs.lemmas.Bool.{cases_eq, true≢false}
 use Rattle.permutations.specs.Members.{is_member, is_distinct}
 use Rattle.permutations.specs.Cyclic.{first_or, successor, from_least}
 use Rattle.permutations.proofs.Members.{member-head, member-tail}
-use Rattle.permutations.proofs.Arrangements.{length-from_members}
+use Rattle.permutations.proofs.Arrangements.{length-from_members, contains-from_member}
 use Rattle.permutations.proofs.NormalForm.{least-same, least-first_member, from_least-first_or, from_least-member, from_least-distinct, from_least-successor}
 use Rattle.ring_arena.specs.Links.{Links, AreInverse}
 use Rattle.rotations.specs.Rotation.{order_at}
 use Rattle.rotations.specs.Rings.{dart_at, turns, orders, StandRound, AreLinked, AreRings}
 use Rattle.rotations.specs.declared.rings.Ring.{Ring}
-use Rattle.rotations.proofs.Membership.{contains-from_member}
 use Rattle.rotations.proofs.Steps.{order-ring}
 use Rattle.rotations.proofs.Links.{linked-back}
 use Rattle.rotations.proofs.Turns.{turns-order}
@@ -33,9 +32,6 @@ no_ring = record { first = 0; degree = 0 }
 
 module _ (tails : List ℕ) (old new : Links) (rings : List Ring) (k : AreRings tails old.next old.prev rings) (inv : AreInverse new) (count : length new.next ≡ length old.next) (R : ℕ → List ℕ)
     (is : (w : ℕ) → w < length rings → IsReordered tails w new (order_at (orders old.next rings) w) (R w)) where
-  -- the order that was
-  was : ℕ → List ℕ
-  was w = order_at (orders old.next rings) w
 
   was-turns : (w : ℕ) → w < length rings → order_at (orders old.next rings) w ≡ turns old.next (get_or rings w no_ring).first (get_or rings w no_ring).degree
   was-turns w l = get_or-map (λ (ring : Ring). turns old.next ring.first ring.degree) rings w no_ring [] l

@@ -1,10 +1,9 @@
 -- Runs round a vertex: each two edges there bound one, and the other edges come behind it.
-use Rattle.std.proofs.Common.{◌≡◌, ◌≢◌, ℕ, zero, suc, ◌<◌, ◌≤◌, true, false, List, [], ◌∷◌, ◌++◌, reverse, length, get_or, refl, sym, ap, ◌∙◌, subst, inl, inr, arith, append_assoc, append-nil}
-use Rattle.std.specs.List.{Contains}
+use Rattle.std.proofs.Common.{◌≡◌, ℕ, zero, suc, ◌<◌, ◌≤◌, true, List, [], ◌∷◌, ◌++◌, reverse, length, get_or, refl, sym, ap, ◌∙◌, subst, inl, inr, arith, append_assoc, append-nil}
 use Rattle.std.specs.List.Sorted.{IsPermutation}
-use Rattle.std.proofs.lemmas.List.Sorted.{IsPermutation-refl, IsPermutation-trans, IsPermutation-append_comm, IsPermutation-append_left, IsPermutation-reverse}
+use Rattle.std.proofs.lemmas.List.Sorted.{IsPermutation-trans, IsPermutation-append_comm, IsPermutation-append_left, IsPermutation-reverse}
 use Rattle.std.proofs.lemmas.List.{get_or_append_left}
-use Rattle.std.proofs.lemmas.Bool.{cases_eq, both_ways, true≢false}
+use Rattle.std.proofs.lemmas.Bool.{cases_eq, both_ways}
 use Rattle.permutations.specs.Members.{is_member, is_distinct}
 use Rattle.permutations.specs.Cyclic.{first_or, successor, predecessor, IsTurn}
 use Rattle.permutations.proofs.Members.{member-head, member-append_left, member-append_right, distinct-append_apart, cut_at}
@@ -12,7 +11,6 @@ use Rattle.permutations.proofs.Successor.{predecessor-successor}
 use Rattle.permutations.proofs.Chains.{successor-last}
 use Rattle.permutations.proofs.Turned.{IsTurn-swap, IsTurn-member, IsTurn-distinct, IsTurn-successor, IsTurn-permutation}
 use Rattle.rotations.specs.Runs.{IsRun, IsParted, IsOutside}
-use Rattle.rotations.proofs.Membership.{member-from_contains, contains-from_member}
 
 -- what a list of two parts begins with, where the first part is not empty
 same-head : (x y : ℕ) (xs ys : List ℕ) → x ∷ xs ≡ y ∷ ys → x ≡ y

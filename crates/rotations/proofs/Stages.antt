@@ -1,6 +1,6 @@
 -- The rings of the first vertices are built, and at the end they keep the rotation system that was given.
-use Rattle.std.proofs.Common.{◌≡◌, ◌≢◌, ℕ, ◌+◌, ◌<◌, ◌≤◌, true, List, [], ◌∷◌, ◌++◌, length, get_or, ◌*◌, ◌/◌, refl, sym, ap, ◌∙◌, subst, inl, inr, arith}
-use Rattle.std.proofs.lemmas.List.{length-map, length_push, get_or_push, get_or_append_left, get_or-map, nil_from_length}
+use Rattle.std.proofs.Common.{◌≡◌, ◌≢◌, ℕ, ◌+◌, ◌<◌, ◌≤◌, true, List, [], ◌∷◌, ◌++◌, length, get_or, ◌*◌, ◌/◌, sym, ap, ◌∙◌, subst, inl, inr, arith}
+use Rattle.std.proofs.lemmas.List.{length_push, get_or_push, get_or_append_left, get_or-map, nil_from_length}
 use Rattle.std.proofs.lemmas.List.Sorted.{length_permutation, IsPermutation-trans}
 use Rattle.std.proofs.lemmas.Bool.{cases_eq, true≢false}
 use Rattle.permutations.specs.Members.{is_member}
@@ -8,18 +8,17 @@ use Rattle.permutations.specs.Cyclic.{first_or, turned}
 use Rattle.permutations.proofs.Successor.{first_or-member}
 use Rattle.permutations.proofs.Turned.{turned-member, turned-distinct, turned-length, turned-permutation, turned-successor, turned-first_or}
 use Rattle.multigraph.specs.Graph.{Multigraph, edge_count, ends_of, is_end, incident_edges, IsGraph, IsWithinLimits}
-use Rattle.multigraph.proofs.Incident.{incident-rises}
 use Rattle.multigraph.proofs.OtherEnd.{is_end-first, is_end-second}
-use Rattle.ring_arena.specs.Links.{Links, AreInverse, AreAlone}
+use Rattle.ring_arena.specs.Links.{Links, AreInverse}
 use Rattle.rotations.specs.Entries.{list_at}
 use Rattle.rotations.specs.Given.{AreArranged, given_order}
 use Rattle.rotations.specs.Rotation.{order_at, IsRotationSystem, IsCyclicOrder}
 use Rattle.rotations.specs.Rings.{dart_at, turns, orders, StandRound, AreLinked, AreRings, AreTails, IsRingOf}
 use Rattle.rotations.specs.declared.rings.Ring.{Ring}
-use Rattle.rotations.proofs.Membership.{incident-distinct, incident-member}
+use Rattle.rotations.proofs.Membership.{incident-distinct, incident-member, incident-least}
 use Rattle.rotations.proofs.Arrangements.{permutation-member, permutation-member_back, permutation-distinct}
 use Rattle.rotations.proofs.Darts.{dart-in, stand_round}
-use Rattle.rotations.proofs.Links.{first_is, place-of, linked-back}
+use Rattle.rotations.proofs.Links.{linked-back}
 use Rattle.rotations.proofs.Turns.{turns-order}
 
 -- the edges that are given for a vertex stand round it
@@ -37,17 +36,6 @@ pub record AreBuilt (g : Multigraph) (entries : List (ℕ × List ℕ)) (tails :
   pub ring : (w : ℕ) (other : Ring) → w < v → IsRingOf g tails w (get_or rings w other)
   pub linked : (w : ℕ) → w < v → AreLinked tails links.next links.prev w (list_at entries w) (list_at entries w)
   pub alone : (d : ℕ) → d < length links.next → v ≤ get_or tails d 0 → get_or links.next d 0 ≡ d
-
--- none is
-pub built-none : (g : Multigraph) (entries : List (ℕ × List ℕ)) (tails : List ℕ) (links : Links) (n : ℕ) → AreAlone n links → n ≡ length tails → AreBuilt g entries tails links [] 0
-built-none g entries tails links n a e = record {
-  rings_long = refl;
-  long = a.count ∙ e;
-  inverse = a.inverse;
-  ring = λ w other l. absurd (omega arith);
-  linked = λ w l. absurd (omega arith);
-  alone = λ d l m. a.alone d (omega (arith, a.count));
-}
 
 -- the darts of a list of the next vertex are alone
 pub built-alone : (g : Multigraph) (entries : List (ℕ × List ℕ)) (tails : List ℕ) (links : Links) (rings : List Ring) (v : ℕ) (list : List ℕ) → AreBuilt g entries tails links rings v → StandRound tails v list
@@ -152,25 +140,6 @@ pub built-orders : (g : Multigraph) (entries : List (ℕ × List ℕ)) (tails : 
 built-orders g entries tails links rings a t r v l =
     get_or-map (λ (ring : Ring). turns links.next ring.first ring.degree) rings v none [] (omega (arith, r.rings_long))
     ∙ ring-order g entries tails links.next links.prev v (get_or rings v none) a t l (r.linked v l) (r.ring v none l)
-
--- there is one for each vertex
-pub built-vertices : (g : Multigraph) (entries : List (ℕ × List ℕ)) (tails : List ℕ) (links : Links) (rings : List Ring) → AreBuilt g entries tails links rings g.vertex_count → length (orders links.next rings) ≡ g.vertex_count
-built-vertices g entries tails links rings r = length-map rings (λ (ring : Ring). turns links.next ring.first ring.degree) ∙ r.rings_long
-
--- the first edge at a vertex is the least
-incident-least : (g : Multigraph) (v e : ℕ) → is_member e (incident_edges g v) ≡ true → first_or 0 (incident_edges g v) ≤ e
-incident-least g v e m =
-    let w = place-of (incident_edges g v) e m in
-    let inside : w.0 < length (incident_edges g v) = w.1 in
-    let here : get_or (incident_edges g v) w.0 0 ≡ e = w.2 in
-    elim (cases_eq w.0 0) [
-      | inl z ↦
-          let first : get_or (incident_edges g v) 0 0 ≡ e = ap (λ (k : ℕ). get_or (incident_edges g v) k 0) (sym z) ∙ here in
-          omega (arith, first_is 0 (incident_edges g v), first)
-      | inr n ↦
-          let rises : get_or (incident_edges g v) 0 0 < get_or (incident_edges g v) w.0 0 = incident-rises g v 0 w.0 0 (omega (arith, n)) inside in
-          omega (arith, first_is 0 (incident_edges g v), here, rises)
-    ]
 
 -- so is the first of the given order
 given-least : (g : Multigraph) (entries : List (ℕ × List ℕ)) (v e : ℕ) → AreArranged g entries → v < g.vertex_count → is_member e (given_order g entries v) ≡ true → first_or 0 (given_order g entries v) ≤ e

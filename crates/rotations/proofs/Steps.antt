@@ -30,9 +30,6 @@ kept-dart tails next prev rings v e k c = (k.rounds v (order-ring next rings v e
 pub kept-next_in : (tails next prev : List ℕ) (rings : List Ring) (v e : ℕ) → AreRings tails next prev rings → Contains (order_at (orders next rings) v) e → dart_at tails v e < length next
 kept-next_in tails next prev rings v e k c = dart-in tails v e (length next) (omega (arith, kept-dart tails next prev rings v e k c, k.next_long))
 
-pub kept-prev_in : (tails next prev : List ℕ) (rings : List Ring) (v e : ℕ) → AreRings tails next prev rings → Contains (order_at (orders next rings) v) e → dart_at tails v e < length prev
-kept-prev_in tails next prev rings v e k c = dart-in tails v e (length prev) (omega (arith, kept-dart tails next prev rings v e k c, k.prev_long))
-
 -- the next dart is that of the successor
 pub kept-succ : (tails next prev : List ℕ) (rings : List Ring) (v e : ℕ) → AreRings tails next prev rings → Contains (order_at (orders next rings) v) e → get_or next (dart_at tails v e) 0 / 2 ≡ successor (order_at (orders next rings) v) e
 kept-succ tails next prev rings v e k c =

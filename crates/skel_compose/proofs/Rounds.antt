@@ -1,17 +1,18 @@
 -- Cyclic orders read from the successors, and put into lists.
-use Rattle.std.proofs.Common.{◌≡◌, ◌≢◌, ℕ, zero, suc, ◌+◌, ◌-◌, ◌<◌, inl, inr, true, List, [], ◌∷◌, ◌++◌, length, get_or, refl, sym, ap, ap₂, ◌∙◌, subst, arith, append_assoc, append-nil, IsPermutation}
-use Rattle.std.proofs.lemmas.Bool.{eq-eqb, ne_eqb}
-use Rattle.std.proofs.lemmas.List.{get_or-map, length-map, map-append}
+use Rattle.std.proofs.Common.{◌≡◌, ℕ, suc, ◌+◌, ◌-◌, ◌<◌, inl, inr, true, List, [], ◌∷◌, ◌++◌, length, get_or, refl, sym, ap, ap₂, ◌∙◌, subst, arith, append_assoc, append-nil, IsPermutation}
+use Rattle.std.proofs.lemmas.List.{get_or-map, length-map}
 use Rattle.permutations.specs.Cyclic.{first_or, successor, turned}
 use Rattle.permutations.specs.Members.{is_member, is_distinct}
 use Rattle.permutations.specs.Ring.{images}
 use Rattle.permutations.proofs.Arrangements.{permutation-member, length-from_members, member-at, contains-from_member}
 use Rattle.permutations.proofs.Chains.{successor-next}
-use Rattle.permutations.proofs.Turned.{turned-first}
+use Rattle.permutations.proofs.Turned.{turned-own}
+use Rattle.permutations.proofs.Places.{first-at}
 use Rattle.multigraph.specs.Graph.{Multigraph, numbers_below, incident_edges}
 use Rattle.multigraph.proofs.Below.{get_or-numbers_below, length-numbers_below}
 use Rattle.graph_theory.specs.Block.{IsOneBlock}
 use Rattle.rotations.proofs.Membership.{incident-member, incident-distinct}
+use Rattle.rotations.proofs.Cursor.{list_at-found}
 use Rattle.faces.proofs.DartLemmas.{order-distinct}
 use Rattle.rotations.specs.Entries.{entry, list_at, IsAbove}
 use Rattle.rotations.specs.Given.{given_order, IsFirstBad}
@@ -55,13 +56,6 @@ entry-at r n v l = get_or-map (λ w. (w, order_at r w)) (numbers_below n) v 0 (0
 pub entries-number : (r : List (List ℕ)) (n : ℕ) → length (orders_below r n) ≡ n
 entries-number r n = length-map (numbers_below n) (λ v. (v, order_at r v)) ∙ length-numbers_below n
 
--- one entry more
-pub entries-more : (r : List (List ℕ)) (n : ℕ) (edges : List ℕ) → edges ≡ order_at r n → orders_below r n ++ (n, edges) ∷ [] ≡ orders_below r (n + 1)
-entries-more r n edges e = ap (λ (z : List ℕ). orders_below r n ++ (n, z) ∷ []) e ∙ sym (ap (orders_below r) one ∙ map-append (λ v. (v, order_at r v)) (numbers_below n) (n ∷ []))
-  where
-    one : n + 1 ≡ suc n
-    one = omega arith
-
 -- the next vertex is above those so far
 pub entries-above : (r : List (List ℕ)) (n : ℕ) → IsAbove (orders_below r n) n
 entries-above r n l =
@@ -69,22 +63,11 @@ entries-above r n l =
     let m : length (orders_below r n) - 1 < n = omega (arith, l, e) in
     subst (λ (z : ℕ × List ℕ). z.0 < n) (sym (entry-at r n (length (orders_below r n) - 1) m)) m
 
--- the list at the first entry for v
-list-found : (l : List (ℕ × List ℕ)) (v k : ℕ) → k < length l → ((i : ℕ) → i < k → (entry l i).0 ≢ v) → (entry l k).0 ≡ v → list_at l v ≡ (entry l k).1
-list-found [] v k l h e = absurd (omega (arith, l))
-list-found (x ∷ xs) v zero l h e = rw (eq-eqb x.0 v e) refl
-list-found (x ∷ xs) v (suc k) l h e = rw (ne_eqb x.0 v (h 0 (omega arith))) (list-found xs v k (omega (arith, l)) (λ i m. h (suc i) (omega (arith, m))) e)
-
 -- what is given for a vertex
 pub entries-given : (r : List (List ℕ)) (n v : ℕ) → v < n → list_at (orders_below r n) v ≡ order_at r v
 entries-given r n v l =
-    list-found (orders_below r n) v v (subst (λ k. v < k) (sym (entries-number r n)) l) (λ i m q. let e : i ≡ v = sym (ap (λ (z : ℕ × List ℕ). z.0) (entry-at r n i (omega (arith, m, l)))) ∙ q in omega (arith, e, m))
+    list_at-found (orders_below r n) v v (subst (λ k. v < k) (sym (entries-number r n)) l) (λ i m q. let e : i ≡ v = sym (ap (λ (z : ℕ × List ℕ). z.0) (entry-at r n i (omega (arith, m, l)))) ∙ q in omega (arith, e, m))
     (ap (λ (z : ℕ × List ℕ). z.0) (entry-at r n v l)) ∙ ap (λ (z : ℕ × List ℕ). z.1) (entry-at r n v l)
-
--- the first member
-first-at : (l : List ℕ) → get_or l 0 0 ≡ first_or 0 l
-first-at [] = refl
-first-at (x ∷ l) = refl
 
 -- each vertex of a block has an edge
 pub some-edge : (g : Multigraph) (v : ℕ) → IsOneBlock g → v < g.vertex_count → 0 < length (incident_edges g v)
@@ -92,11 +75,6 @@ some-edge g v b l =
     let w = b.at_edge v l in
     let i = contains-from_member (incident_edges g v) w.0 (incident-member g v w.0 w.1 w.2) in
     omega (arith, i.1)
-
--- turned to its first member a list stays
-turned-own : (l : List ℕ) → turned l (first_or 0 l) ≡ l
-turned-own [] = refl
-turned-own (x ∷ xs) = turned-first x xs
 
 module _ (g : Multigraph) (r : List (List ℕ)) (s : IsRotationSystem g r) where
   -- the first edge

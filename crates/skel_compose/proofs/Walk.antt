@@ -5,13 +5,13 @@ use Rattle.permutations.specs.Count.{count}
 use Rattle.permutations.specs.Members.{is_member, is_distinct}
 use Rattle.permutations.specs.Cyclic.{successor}
 use Rattle.permutations.proofs.Arrangements.{permutation-member}
-use Rattle.permutations.proofs.Count.{count-within, count-positive}
+use Rattle.permutations.proofs.Count.{count-within, count-positive, count-less}
 use Rattle.permutations.proofs.Successor.{successor-member}
 use Rattle.multigraph.specs.Graph.{Multigraph, edge_count, ends_of, is_end, incident_edges}
 use Rattle.multigraph.proofs.OtherEnd.{end-in}
 use Rattle.rotations.specs.Rotation.{order_at, IsRotationSystem}
-use Rattle.rotations.proofs.Membership.{incident-member, member-edge, member-end}
-use Rattle.faces.proofs.DartLemmas.{order-distinct}
+use Rattle.rotations.proofs.Membership.{member-edge, member-end}
+use Rattle.faces.proofs.DartLemmas.{order-distinct, order-member}
 use Rattle.pair_split.specs.Split.{piece_ends, item_at, is_beyond, side, LinksTo, StandsFor, IsSplit, AreLinked}
 use Rattle.pair_split.specs.Tutte.{Node, components, node_at, node_item, has_in_group, group, IsTutte}
 use Rattle.pair_split.specs.declared.components.Comp.{Comp}
@@ -24,7 +24,7 @@ use Rattle.skeletons.specs.Families.{system_at, AreSkeletonSystems, keys_in, Fol
 use Rattle.skeletons.proofs.KeyRuns.{order-successor}
 use Rattle.skeletons.proofs.NodeItems.{number, comp-in, node-in, stands-of, ends-at, keys-once, group-is, group-item, item-vertex, edge-end, group-at, key-edge}
 use Rattle.skeletons.proofs.Places.{keys-round_members}
-use Rattle.skeletons.proofs.Towards.{count-less, side-group, group-side, link-vertex, beyond-falls}
+use Rattle.skeletons.proofs.Towards.{side-group, group-side, link-vertex, beyond-falls}
 use Rattle.skeleton_planes.proofs.Complements.{follows-itself}
 
 -- the walk from edge e round v towards the edge that follows it has come to item i of node k: e is in the item's group, the item
@@ -41,10 +41,6 @@ pub record LeadsOn (nodes : List Node) (family : List (List (List ℕ))) (v e ne
 pub record IsNear (nodes : List Node) (next k steps : ℕ) : Type 0 where
   pub more : steps < length nodes
   pub near : (x : ℕ) → LinksTo (components nodes) k x → side (components nodes) k x next ≡ true → count (length (components nodes)) (is_beyond (components nodes) k x) + steps < length nodes
-
--- an edge at a vertex is in its order
-pub at-order : (g : Multigraph) (r : List (List ℕ)) (v e : ℕ) → IsRotationSystem g r → v < g.vertex_count → e < edge_count g → is_end g v e ≡ true → is_member e (order_at r v) ≡ true
-at-order g r v e s lv le ve = permutation-member (incident_edges g v) (order_at r v) e (s.orders v lv).arranged ∙ incident-member g v e le ve
 
 -- and back
 pub order-edge_at : (g : Multigraph) (r : List (List ℕ)) (v e : ℕ) → IsRotationSystem g r → v < g.vertex_count → is_member e (order_at r v) ≡ true → (e < edge_count g) × (is_end g v e ≡ true)
@@ -79,7 +75,7 @@ module _ (g : Multigraph) (nodes : List Node) (b : IsBlockTree g nodes) (family 
   once = order-distinct g r v s lv
 
   member : is_member e (order_at r v) ≡ true
-  member = at-order g r v e s lv le ve
+  member = order-member g r v e s lv le ve
 
   next-edge : (next < edge_count g) × (is_end g v next ≡ true)
   next-edge = order-edge_at g r v next s lv (successor-member round e member)
@@ -90,7 +86,7 @@ module _ (g : Multigraph) (nodes : List Node) (b : IsBlockTree g nodes) (family 
 
   -- where e is alone, its group is
   single : (k : ℕ) → k < length nodes → has_vertex nodes k v ≡ true → next ≡ e → successor (keys_in nodes family k v) (group nodes k e) ≡ group nodes k e
-  single k d h q = sym x.3 ∙ ap (group nodes k) (follows-itself round e once member q x.0 (at-order g r v x.0 s lv x.1 x.2))
+  single k d h q = sym x.3 ∙ ap (group nodes k) (follows-itself round e once member q x.0 (order-member g r v x.0 s lv x.1 x.2))
     where
       keys : List ℕ
       keys = keys_in nodes family k v

@@ -2,13 +2,14 @@
 use Rattle.std.proofs.Common.{◌≡◌, ◌≢◌, ℕ, ◌-◌, ◌<◌, true, List, [], ◌∷◌, ◌++◌, length, reverse, slice_index_or, refl, sym, ap, ◌∙◌, subst, arith, IsPermutation}
 use Rattle.std.proofs.lemmas.Bool.{both_ways}
 use Rattle.std.proofs.lemmas.List.{reverse-append, length-reverse}
-use Rattle.std.proofs.lemmas.List.Sorted.{IsPermutation-trans, IsPermutation-sym, IsPermutation-map, IsPermutation-refl}
+use Rattle.std.proofs.lemmas.List.Sorted.{IsPermutation-trans, IsPermutation-sym, IsPermutation-map}
 use Rattle.permutations.specs.Cyclic.{first_or, last_or, from_least, IsTurn}
 use Rattle.permutations.specs.Members.{is_member, is_distinct}
 use Rattle.permutations.specs.Runs.{group_keys, InRuns}
 use Rattle.permutations.proofs.Arrangements.{permutation-from_members}
 use Rattle.permutations.proofs.NormalForm.{from_least-turn, same-from_least}
 use Rattle.permutations.proofs.Runs.{runs-turn}
+use Rattle.permutations.proofs.Places.{told-distinct}
 use Rattle.multigraph.specs.Graph.{Multigraph}
 use Rattle.multigraph.proofs.Places.{rises-once}
 use Rattle.rotations.specs.Rotation.{order_at, IsRotationSystem}
@@ -22,18 +23,12 @@ use Rattle.skeletons.specs.Choices.{choice}
 use Rattle.skeletons.specs.Families.{system_at}
 use Rattle.skeletons.specs.Moves.{AreRegrouped, IsNodeOfKind, PermuteLeads}
 use Rattle.skeletons.proofs.KeyRuns.{met-runs}
-use Rattle.skeletons.proofs.Rearranged.{distinct-places}
 use Rattle.skeletons.proofs.Vertices.{least-has, greatest-has, poles-differ, bond-keys}
 use Rattle.skeletons.proofs.Moved.{runs-keys}
 use Rattle.skeleton_runs.proofs.Contiguous.{plane-contiguous}
 use Rattle.skeleton_choices.proofs.Rounds.{map-reverse}
 use Rattle.skeleton_choices.proofs.Plane.{Parts, parts, same-round, plane-bond, choice-round}
 use Rattle.skel_embed.specs.Exchanges.{other_of, exchanged, AreExchanged, HasKeys}
-use Rattle.skel_embed.proofs.ExchangeSteps.{exchanged-same}
-
--- the same key twice: nothing changes
-pub exchanged-self : (key : ℕ → ℕ) (a b : ℕ) (l : List ℕ) → a ≡ b → AreExchanged key a b l l
-exchanged-self key a b l e gs r = record { before = gs; after = gs; runs_before = r; runs_after = r; same_groups = IsPermutation-refl gs; order = sym (exchanged-same a (group_keys gs)) ∙ ap (λ z. exchanged a z (group_keys gs)) e }
 
 -- groups cut where their keys are
 cut-keys : (gs : List (ℕ × List ℕ)) (a b : List ℕ) → group_keys gs ≡ a ++ b → (us : List (ℕ × List ℕ)) × (ws : List (ℕ × List ℕ)) × (gs ≡ us ++ ws) × (group_keys us ≡ a) × (group_keys ws ≡ b)
@@ -58,11 +53,6 @@ groups-written gs keys t = at (cut-keys gs t.front t.back t.before)
 
     at : (us : List (ℕ × List ℕ)) × (ws : List (ℕ × List ℕ)) × (gs ≡ us ++ ws) × (group_keys us ≡ t.front) × (group_keys ws ≡ t.back) → (hs : List (ℕ × List ℕ)) × IsTurn gs hs × (group_keys hs ≡ keys)
     at w = (w.1 ++ w.0, record { front = w.0; back = w.1; before = w.2; after = refl }, joined-keys w.0 w.1 ∙ ap (λ (z : List ℕ). z ++ group_keys w.0) w.4 ∙ ap (λ (z : List ℕ). t.back ++ z) w.3 ∙ sym t.after)
-
--- the first and the last of a list by their places
-pub first-place : (l : List ℕ) → slice_index_or l 0 0 ≡ first_or 0 l
-first-place [] = refl
-first-place (x ∷ l) = refl
 
 pub last-place : (l : List ℕ) → slice_index_or l (length l - 1) 0 ≡ last_or 0 l
 last-place [] = refl
@@ -96,7 +86,7 @@ module _ (g : Multigraph) (nodes : List Node) (b : IsBlockTree g nodes) (r : Lis
       at gs runs z m = runs-keys g nodes b r k v gs p.system h runs z ∙ bond-keys g nodes b k is v z h ∙ m
 
   keys-once : is_distinct (node_keys nodes k) ≡ true
-  keys-once = distinct-places (node_keys nodes k) (rises-once (node_keys nodes k) (b.tree.in_order.keys_rise k is.0))
+  keys-once = told-distinct (node_keys nodes k) (rises-once (node_keys nodes k) (b.tree.in_order.keys_rise k is.0))
 
   pub runs-arranged : (v : ℕ) (gs : List (ℕ × List ℕ)) → has_vertex nodes k v ≡ true → InRuns (group nodes k) (order_at r v) gs → IsPermutation (node_keys nodes k) (group_keys gs)
   runs-arranged v gs h runs = IsPermutation-sym (group_keys gs) (node_keys nodes k)

@@ -60,10 +60,6 @@ pub exchanged-swap : (a b : ℕ) (l : List ℕ) → exchanged a b l ≡ exchange
 exchanged-swap a b [] = refl
 exchanged-swap a b (x ∷ l) = ap (λ z. z ∷ exchanged a b l) (other-swap a b x) ∙ ap (λ (z : List ℕ). other_of b a x ∷ z) (exchanged-swap a b l)
 
-pub exchanged-same : (a : ℕ) (l : List ℕ) → exchanged a a l ≡ l
-exchanged-same a [] = refl
-exchanged-same a (x ∷ l) = ap (λ z. z ∷ exchanged a a l) (elim (cases_eq x a) [ inl e ↦ subst (λ z. other_of a a z ≡ z) (sym e) (other-first a a) | inr n ↦ other-none a a x n n ]) ∙ ap (λ (z : List ℕ). x ∷ z) (exchanged-same a l)
-
 -- a list without repetition with two members in each other's place
 pub exchanged-cut : (a b : ℕ) (u p q : List ℕ) → is_distinct (u ++ a ∷ (p ++ b ∷ q)) ≡ true → exchanged a b (u ++ a ∷ (p ++ b ∷ q)) ≡ u ++ b ∷ (p ++ a ∷ q)
 exchanged-cut a b u p q d = map-append (other_of a b) u (a ∷ (p ++ b ∷ q))

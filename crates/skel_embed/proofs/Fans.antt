@@ -7,13 +7,12 @@ use Rattle.permutations.specs.Cyclic.{first_or, turned, from_least}
 use Rattle.permutations.specs.Members.{is_member, is_distinct}
 use Rattle.permutations.proofs.Members.{member-tail}
 use Rattle.permutations.proofs.NormalForm.{mirror-turned, mirror-from_least}
-use Rattle.permutations.proofs.Turned.{turned-first}
+use Rattle.permutations.proofs.Turned.{turned-own}
 use Rattle.multigraph.specs.Graph.{Multigraph, numbers_below, incident_edges}
 use Rattle.multigraph.proofs.Below.{get_or-numbers_below, length-numbers_below}
 use Rattle.rotations.specs.Given.{given_order, IsFirstBad}
 use Rattle.rotations.specs.Rotation.{order_at, IsRotationSystem}
-use Rattle.rotations.proofs.Membership.{incident-distinct}
-use Rattle.faces.proofs.MapMirror.{incident-least}
+use Rattle.rotations.proofs.Membership.{incident-distinct, incident-least}
 use Rattle.skel_compose.specs.Orders.{orders_below}
 use Rattle.skel_compose.proofs.Rounds.{entry-at, entries-number, entries-given}
 use Rattle.skel_embed.specs.Fan.{fan_list, fan_lists, IsFan}
@@ -47,11 +46,6 @@ fan-not_bad g v bad = elim bad.bad [
       omega (arith, n.0, l, e)
 ]
 
--- turned to its first member
-own : (l : List ℕ) → turned l (first_or 0 l) ≡ l
-own [] = refl
-own (x ∷ xs) = turned-first x xs
-
 other : (g : Multigraph) (v : ℕ) (l : List ℕ) → incident_edges g v ≡ l → turned (reverse l) (first_or 0 l) ≡ from_least (reverse l)
 other g v [] e = refl
 other g v (x ∷ xs) e =
@@ -62,7 +56,7 @@ other g v (x ∷ xs) e =
 pub fan-is : (g : Multigraph) (r : List (List ℕ)) → IsRotationSystem g r → ((v : ℕ) → v < g.vertex_count → order_at r v ≡ given_order g (orders_below (fan_lists g) g.vertex_count) v) → IsFan g r
 fan-is g r s h = record {
   system = s;
-  forward = λ l. given 0 l ∙ own (incident_edges g 0);
+  forward = λ l. given 0 l ∙ turned-own (incident_edges g 0);
   backward = λ l. given 1 l ∙ other g 1 (incident_edges g 1) refl;
 }
   where

@@ -8,8 +8,10 @@ use Rattle.permutations.specs.Cyclic.{first_or, from_least, successor, predecess
 use Rattle.permutations.specs.Members.{is_member, is_distinct}
 use Rattle.permutations.proofs.Arrangements.{permutation-member, permutation-distinct, permutation-from_members, member-at}
 use Rattle.permutations.proofs.Members.{member-head, member-tail, member-reverse, distinct-head, distinct-tail}
-use Rattle.permutations.proofs.NormalForm.{mirror-from_least}
+use Rattle.permutations.proofs.NormalForm.{mirror-from_least, written-first}
 use Rattle.permutations.proofs.Successor.{successor-cut}
+use Rattle.permutations.proofs.Places.{told-distinct}
+use Rattle.permutations.proofs.Mapped.{map-member}
 use Rattle.std.proofs.lemmas.List.{reverse-append}
 use Rattle.multigraph.specs.Graph.{Multigraph, incident_edges, IsGraph}
 use Rattle.multigraph.specs.Part.{Rises}
@@ -19,7 +21,6 @@ use Rattle.graph_theory.specs.Triconnected.{IsTriconnected}
 use Rattle.rotations.specs.Rotation.{order_at, IsCyclicOrder, IsRotationSystem}
 use Rattle.faces.specs.Euler.{IsPlane}
 use Rattle.faces.proofs.DartLemmas.{order-distinct}
-use Rattle.faces.proofs.MapLists.{map-member}
 use Rattle.faces.proofs.MapMirror.{mirror-order, order-least}
 use Rattle.planarity.proofs.TwoSystems.{two-systems}
 use Rattle.pair_split.specs.Skeleton.{HasPoles}
@@ -36,8 +37,6 @@ use Rattle.skeletons.specs.Families.{place_of, skeleton_graph, system_at, AreSke
 use Rattle.skeletons.proofs.Before.{before-irreflexive}
 use Rattle.skeletons.proofs.KeyRuns.{met-order}
 use Rattle.skeletons.proofs.Places.{place-below, round-item, keys-round_once, keys-round_members}
-use Rattle.skeletons.proofs.Rearranged.{distinct-places}
-use Rattle.skeletons.proofs.Systems.{written-first}
 use Rattle.skeletons.proofs.Vertices.{least-has, bond-keys}
 use Rattle.skeleton_runs.proofs.SkeletonGraph.{skeleton-triconnected}
 use Rattle.skeleton_planes.proofs.BondSkeleton.{lesser-in, greater-in, same-incident}
@@ -132,7 +131,7 @@ module _ (g : Multigraph) (nodes : List Node) (b : IsBlockTree g nodes) (k : ℕ
         → is_before other (from_least (keys_of nodes k (order_at s (place_of (node_at nodes k).vertices (least_vertex nodes k))))) ≡ false
     bond-least is e other c = ap (is_before other) keys-written ∙ rising-least (keys_of nodes k order) other rise
         (permutation-from_members (keys_of nodes k order) other (keys-round_once g nodes b.tree k l s (least_vertex nodes k) system has)
-        (permutation-distinct (node_keys nodes k) other c.arranged (distinct-places (node_keys nodes k) (rises-once (node_keys nodes k) (b.tree.in_order.keys_rise k l))))
+        (permutation-distinct (node_keys nodes k) other c.arranged (told-distinct (node_keys nodes k) (rises-once (node_keys nodes k) (b.tree.in_order.keys_rise k l))))
         (λ z. keys-round_members g nodes b.tree k l s (least_vertex nodes k) z system has ∙ bond-keys g nodes b k is (least_vertex nodes k) z has ∙ sym (permutation-member (node_keys nodes k) other z c.arranged)))
       where
         listed : order ≡ incident_edges graph 0

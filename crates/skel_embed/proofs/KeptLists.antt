@@ -143,10 +143,6 @@ pub exchanged-first : (a b : ℕ) (l : List ℕ) → is_member a l ≡ true → 
 exchanged-first a b [] ma mb = absurd (true≢false (sym ma))
 exchanged-first a b (x ∷ l) ma mb = exchanged-members a b (x ∷ l) x ma mb ∙ member-head x l
 
-pub first-at : (l : List ℕ) → slice_index_or l 0 0 ≡ first_or 0 l
-first-at [] = refl
-first-at (x ∷ l) = refl
-
 pub member-filled : (l : List ℕ) (x : ℕ) → is_member x l ≡ true → 0 < length l
 member-filled [] x m = absurd (true≢false (sym m))
 member-filled (y ∷ l) x m = omega arith

@@ -9,12 +9,12 @@ use Rattle.permutations.specs.Cyclic.{first_or}
 use Rattle.permutations.specs.Members.{is_member, is_distinct}
 use Rattle.permutations.proofs.Arrangements.{permutation-member, contains-from_member}
 use Rattle.permutations.proofs.Members.{member-head, member-reverse, distinct-head}
+use Rattle.permutations.proofs.Places.{told-distinct}
 use Rattle.multigraph.specs.Part.{Rises}
 use Rattle.multigraph.proofs.Places.{rises-once}
 use Rattle.pair_split.specs.Tutte.{is_before}
 use Rattle.choice_lists.proofs.Smaller.{permutation-tail}
 use Rattle.skeletons.proofs.Before.{before-irreflexive}
-use Rattle.skeletons.proofs.Rearranged.{distinct-places}
 
 -- the first of rising numbers is the least
 pub rises-first : (x : ℕ) (l : List ℕ) → Rises (x ∷ l) → (e : ℕ) → is_member e (x ∷ l) ≡ true → x ≤ e
@@ -41,7 +41,7 @@ rising-least (x ∷ xs) (y ∷ ys) r p = false_from_ne_true (is_before (y ∷ ys
   | inr a ↦
       let u = and_parts (y == x) (is_before ys xs) a in
       let q : IsPermutation (x ∷ xs) (x ∷ ys) = subst (λ z. IsPermutation (x ∷ xs) (z ∷ ys)) (eqb-true y x u.0) p in
-      both_ways (is_before ys xs) (rising-least xs ys (rises-rest x xs r) (permutation-tail x xs ys (distinct-places (x ∷ xs) (rises-once (x ∷ xs) r)) q)) u.1
+      both_ways (is_before ys xs) (rising-least xs ys (rises-rest x xs r) (permutation-tail x xs ys (told-distinct (x ∷ xs) (rises-once (x ∷ xs) r)) q)) u.1
 ])
 
 -- the other way round, a list without repetition whose first member isn't above its last doesn't come before it

@@ -1,5 +1,5 @@
 -- The keys of the runs round a vertex, read off the edges before which another key stands.
-use Rattle.std.proofs.Common.{◌≡◌, ◌≢◌, ℕ, suc, ◌<◌, ◌≤◌, ◌⊎◌, inl, inr, Bool, true, false, not, ◌==◌, List, [], ◌∷◌, ◌++◌, length, map, filter, slice_index_or, refl, sym, ap, ◌∙◌, subst, arith, append_assoc, All}
+use Rattle.std.proofs.Common.{◌≡◌, ◌≢◌, ℕ, ◌<◌, ◌⊎◌, inl, inr, Bool, true, false, not, List, [], ◌∷◌, ◌++◌, length, map, filter, refl, sym, ap, ◌∙◌, subst, arith, append_assoc, All}
 use Rattle.std.proofs.lemmas.Bool.{ne_eqb, eq-eqb, true≢false}
 use Rattle.std.proofs.lemmas.List.{length-map}
 use Rattle.std.proofs.lemmas.List.Elements.{All-head, All-tail, All-cons, All-nil, filter-append}
@@ -20,12 +20,12 @@ use Rattle.pair_split.specs.Tutte.{Node, node_at, group, components, piece_of}
 use Rattle.pair_split.specs.Split.{items_of, piece_ends}
 use Rattle.pair_split.specs.declared.components.Kind.{Kind}
 use Rattle.pair_split.specs.declared.components.Kind.TheVariants.{P, R}
+use Rattle.pair_split.proofs.NodeParts.{node-pieces}
 use Rattle.skeletons.specs.Items.{node_keys, keys_at, has_vertex, least_vertex, item_key, IsBlockTree}
-use Rattle.skeletons.specs.Round.{keys_met, keys_round}
 use Rattle.faces.specs.Euler.{IsPlaneSystem}
+use Rattle.skeletons.specs.Round.{keys_round}
 use Rattle.skeletons.specs.Choices.{choice_of_kind, choice}
 use Rattle.skeletons.specs.Moves.{IsNodeOfKind}
-use Rattle.skeletons.proofs.NodeItems.{node-pieces}
 use Rattle.skeletons.proofs.KeyRuns.{met-runs}
 use Rattle.skeletons.proofs.Vertices.{least-has, vertex-in}
 use Rattle.skeletons.proofs.Moved.{runs-keys}
@@ -34,7 +34,7 @@ use Rattle.skeleton_choices.proofs.Plane.{choice-round, of-kind}
 use Rattle.skeleton_choices.proofs.Told.{rigid-three}
 use Rattle.skeleton_choices.proofs.Listed.{choice-normal}
 use Rattle.skel_embed.specs.Taken.{begins_run}
-use Rattle.skel_embed.proofs.RunSteps.{Ends, Begins, some-end, end-member, next-in, before-first}
+use Rattle.skel_embed.proofs.RunSteps.{Ends, some-end, end-member, next-in, before-first}
 use Rattle.skel_embed.proofs.BondMoves.{runs-arranged}
 
 -- of the first group the first edge is picked

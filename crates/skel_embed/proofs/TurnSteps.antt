@@ -1,7 +1,7 @@
 -- The groups round a vertex brought into the reverse cyclic order, each behind the first.
 use Rattle.std.proofs.Common.{◌≡◌, ◌≢◌, ℕ, zero, suc, ◌+◌, ◌<◌, ◌≤◌, ◌⊎◌, inl, inr, true, false, take, List, [], ◌∷◌, ◌++◌, length, reverse, slice_index_or, refl, sym, ap, ◌∙◌, subst, arith, append_assoc, append-nil, All, IsPermutation}
-use Rattle.std.proofs.lemmas.Bool.{cases_eq, both_ways, true≢false}
-use Rattle.std.proofs.lemmas.List.{length-append, reverse-append, reverse-reverse, take_all}
+use Rattle.std.proofs.lemmas.Bool.{cases_eq, both_ways}
+use Rattle.std.proofs.lemmas.List.{length-append, reverse-append, reverse-reverse}
 use Rattle.std.proofs.lemmas.List.Elements.{All-head, All-tail}
 use Rattle.std.proofs.lemmas.List.Sorted.{IsPermutation-trans, IsPermutation-append_comm, IsPermutation-append_left}
 use Rattle.permutations.specs.Cyclic.{successor, IsTurn}
@@ -14,10 +14,9 @@ use Rattle.permutations.proofs.Turned.{IsTurn-member, IsTurn-length, IsTurn-perm
 use Rattle.multigraph.specs.Graph.{Multigraph, incident_edges}
 use Rattle.rotations.specs.Rotation.{order_at, IsRotationSystem, IsCyclicOrder}
 use Rattle.rotations.specs.Runs.{IsRun, IsOutside, IsRunMoved, IsKeptElsewhere}
-use Rattle.rotations.proofs.Membership.{incident-distinct}
-use Rattle.faces.proofs.MapMirror.{incident-least}
-use Rattle.pair_split.specs.Tutte.{Node, node_at, group}
-use Rattle.skeletons.specs.Moves.{AreReversed, FlipLeads}
+use Rattle.rotations.proofs.Membership.{incident-distinct, incident-least}
+use Rattle.pair_split.specs.Tutte.{Node, group}
+use Rattle.skeletons.specs.Moves.{AreReversed}
 use Rattle.skeletons.proofs.Systems.{order-arranged}
 use Rattle.skel_embed.specs.Steps.{EndsRun, StandInTwoRuns}
 use Rattle.skel_embed.proofs.RunSteps.{Ends, Begins, end-behind, end-member, begin-member, take-more, ends-last, group-next, outside-groups, moved-groups, IsSeenFrom, seen-from}
@@ -209,9 +208,6 @@ pub record AreTurnedAt (g : Multigraph) (nodes : List Node) (k : ℕ) (r q : Lis
   pub turned : (v : ℕ) → is_member v done ≡ true → AreReversed (group nodes k) (order_at r v) (order_at q v)
   pub others : (v : ℕ) → is_member v done ≡ false → order_at q v ≡ order_at r v
 
-pub turned-none : (g : Multigraph) (nodes : List Node) (k : ℕ) (r : List (List ℕ)) → IsRotationSystem g r → AreTurnedAt g nodes k r r []
-turned-none g nodes k r s = record { system = s; turned = λ v m. absurd (true≢false (sym m)); others = λ v m. refl }
-
 -- the vertices passed so far, and the next
 module _ (vertices : List ℕ) (i : ℕ) (d : is_distinct vertices ≡ true) (h : i < length vertices) where
   pub next-new : is_member (slice_index_or vertices i 0) (take i vertices) ≡ false
@@ -248,9 +244,3 @@ turned-more g nodes k r q s vertices i v d h e w system a kept = record { system
 
     others : (x : ℕ) → is_member x (take (i + 1) vertices) ≡ false → order_at s x ≡ order_at r x
     others x m = let n = passed-not vertices i d h x m in kept.others x (λ y. n.1 (sym e ∙ sym y)) ∙ w.others x n.0
-
--- with all vertices of the node passed the node is flipped
-pub turned-all : (g : Multigraph) (nodes : List Node) (k i : ℕ) (r q : List (List ℕ)) → length (node_at nodes k).vertices ≤ i → AreTurnedAt g nodes k r q (take i (node_at nodes k).vertices) → FlipLeads g nodes k r q
-turned-all g nodes k i r q h w =
-    let e : take i (node_at nodes k).vertices ≡ (node_at nodes k).vertices = take_all i (node_at nodes k).vertices h in
-    record { system = w.system; turned = λ v m. w.turned v (ap (is_member v) e ∙ m); stays = λ v m. w.others v (ap (is_member v) e ∙ m) }

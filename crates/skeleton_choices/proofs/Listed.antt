@@ -59,7 +59,7 @@ mirror-same (x ∷ keys) d n = mirror-is x keys d least
         omega (arith, first, least_or-le x z (x ∷ keys) (member-tail z x keys m))
 
 -- (n - 1)! for n items
-orders-factorial : (n : ℕ) → cyclic_orders (suc n) ≡ factorial n
+pub orders-factorial : (n : ℕ) → cyclic_orders (suc n) ≡ factorial n
 orders-factorial zero = refl
 orders-factorial (suc n) = ap (λ z. (n + 1) * z) (orders-factorial n)
 

@@ -18,6 +18,7 @@ use Rattle.pair_split.specs.Split.{skeleton}
 use Rattle.pair_split.specs.Tutte.{Node, components, node_at, node_item, group, IsTutte}
 use Rattle.pair_split.specs.declared.components.Kind.{Kind}
 use Rattle.pair_split.specs.declared.components.Kind.TheVariants.{P, R}
+use Rattle.pair_split.proofs.NodeParts.{node-kind}
 use Rattle.choice_lists.proofs.Choices.{mirror-differs, mirror-is}
 use Rattle.skeletons.specs.Items.{has_vertex, least_vertex, greatest_vertex, IsBlockTree}
 use Rattle.skeletons.specs.Round.{keys_round, IsContiguous}
@@ -27,7 +28,7 @@ use Rattle.skeletons.specs.Families.{skeleton_graph, system_at, AreSkeletonSyste
 use Rattle.skeletons.specs.Laws.{MoveKeepsPlane}
 use Rattle.skeletons.proofs.NodeItems.{comp-in, edge-item, item-vertex}
 use Rattle.skeletons.proofs.KeyRuns.{met-runs, met-order}
-use Rattle.skeletons.proofs.Vertices.{node-kind, least-has, greatest-has, bond-vertex}
+use Rattle.skeletons.proofs.Vertices.{least-has, greatest-has, bond-vertex}
 use Rattle.skeletons.proofs.Moved.{mirror-normal, move-moved, moved-round, move-contiguous, flip-round}
 use Rattle.skeletons.proofs.Places.{contiguous-follows}
 use Rattle.skeleton_runs.proofs.Contiguous.{plane-contiguous}

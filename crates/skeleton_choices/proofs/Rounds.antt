@@ -8,6 +8,7 @@ use Rattle.permutations.proofs.Arrangements.{member-at, permutation-distinct}
 use Rattle.permutations.proofs.Members.{distinct-reverse}
 use Rattle.permutations.proofs.NormalForm.{from_least-same, from_least-turn, from_least-distinct, from_least-twice, same-from_least}
 use Rattle.permutations.proofs.Turned.{IsTurn-map, IsTurn-length}
+use Rattle.permutations.proofs.Places.{told-distinct}
 use Rattle.multigraph.specs.Graph.{Multigraph, incident_edges}
 use Rattle.multigraph.proofs.Places.{rises-once}
 use Rattle.rotations.specs.Rotation.{order_at, IsRotationSystem}
@@ -19,7 +20,6 @@ use Rattle.pair_split.specs.Tutte.{Node, node_at, node_item, IsTutte}
 use Rattle.skeletons.specs.Items.{node_keys, has_vertex}
 use Rattle.skeletons.specs.Families.{place_of, skeleton_graph, keys_of}
 use Rattle.skeletons.proofs.Systems.{same-turns, order-written}
-use Rattle.skeletons.proofs.Rearranged.{distinct-places}
 use Rattle.skeletons.proofs.Moved.{mirror-normal}
 use Rattle.skeletons.proofs.Places.{place-at, place-below, round-item, keys-round_once, place-key, items-turn}
 
@@ -97,6 +97,6 @@ module _ (g : Multigraph) (nodes : List Node) (t : IsTutte g nodes) (k : ℕ) (l
   same-rounds s q a b same = same-turns (skeleton_graph nodes k) s q a b (λ p d.
       let v : ℕ = slice_index_or vertices p 0 in
       let h : has_vertex nodes k v ≡ true = member-at vertices p 0 d in
-      let at : place_of vertices v ≡ p = place-at vertices p (distinct-places vertices (rises-once vertices (t.in_order.vertices_rise k l))) d in
+      let at : place_of vertices v ≡ p = place-at vertices p (told-distinct vertices (rises-once vertices (t.in_order.vertices_rise k l))) d in
       subst (λ z. IsTurn (order_at s z) (order_at q z)) at
       (items-turn g nodes t k l s q v a b h (same-from_least (keys_of nodes k (items_round s v)) (keys_of nodes k (items_round q v)) (same v h))))

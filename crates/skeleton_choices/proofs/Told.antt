@@ -9,7 +9,9 @@ use Rattle.permutations.specs.Runs.{group_keys}
 use Rattle.permutations.proofs.Arrangements.{permutation-member, permutation-distinct}
 use Rattle.permutations.proofs.Filter.{filter-yes, filter-no}
 use Rattle.permutations.proofs.Members.{member-reverse, distinct-reverse}
-use Rattle.permutations.proofs.NormalForm.{from_least-same, from_least-distinct, from_least-twice}
+use Rattle.permutations.proofs.NormalForm.{from_least-same, from_least-distinct, from_least-twice, written-first}
+use Rattle.permutations.proofs.Places.{place-of, told-distinct}
+use Rattle.permutations.proofs.Mapped.{map-member}
 use Rattle.multigraph.specs.Graph.{Multigraph, numbers_below, incident_edges}
 use Rattle.multigraph.specs.Part.{Rises}
 use Rattle.multigraph.proofs.Below.{get_or-numbers_below, length-numbers_below}
@@ -17,7 +19,6 @@ use Rattle.multigraph.proofs.Places.{rises-once}
 use Rattle.contractions.proofs.Neighbours.{incident-three}
 use Rattle.rotations.specs.Rotation.{order_at, IsRotationSystem, IsCyclicOrder}
 use Rattle.faces.specs.Euler.{IsPlane, IsPlaneSystem}
-use Rattle.faces.proofs.MapLists.{map-member}
 use Rattle.faces.proofs.MapMirror.{order-least}
 use Rattle.planarity.proofs.TwoSystems.{two-systems}
 use Rattle.pair_split.specs.Skeleton.{is_end_of}
@@ -26,16 +27,16 @@ use Rattle.pair_split.specs.Tutte.{Node, piece_of, components, node_at, node_ite
 use Rattle.pair_split.specs.declared.components.Kind.{Kind}
 use Rattle.pair_split.specs.declared.components.Kind.TheVariants.{S, P, R, B}
 use Rattle.pair_split.specs.declared.components.Item.{Item}
+use Rattle.pair_split.proofs.NodeParts.{node-pieces}
 use Rattle.skeletons.specs.Items.{ends_item, item_key, keys_at, node_keys, has_vertex, least_vertex, greatest_vertex, IsBlockTree}
 use Rattle.skeletons.specs.Round.{keys_round}
 use Rattle.skeletons.specs.Choices.{choice_of_kind, choice}
 use Rattle.skeletons.specs.Moves.{IsNodeOfKind}
 use Rattle.skeletons.specs.Families.{place_of, skeleton_graph, system_at, AreSkeletonSystems, keys_of, StandInOrder, FollowsFamily, IsPossibleFor, IsPossible}
 use Rattle.skeletons.specs.Laws.{ChoicesTell, ChoiceIsPossible, SelectionExists}
-use Rattle.skeletons.proofs.NodeItems.{no_item, node-pieces, vertex-node}
+use Rattle.skeletons.proofs.NodeItems.{no_item, vertex-node}
 use Rattle.skeletons.proofs.KeyRuns.{met-runs, order-met}
-use Rattle.skeletons.proofs.Rearranged.{member-place, distinct-places}
-use Rattle.skeletons.proofs.Systems.{written-first, order-arranged}
+use Rattle.skeletons.proofs.Systems.{order-arranged}
 use Rattle.skeletons.proofs.Vertices.{least-has, greatest-has, bond-vertex, poles-differ, bond-keys}
 use Rattle.skeletons.proofs.Moved.{keys-round_items}
 use Rattle.skeletons.proofs.Unique.{one-system}
@@ -66,7 +67,7 @@ filter-less p (x ∷ l) = elim (cases_Bool (p x)) [
 -- the first of rising numbers is the least
 rises-least : (l : List ℕ) → Rises l → (e : ℕ) → is_member e l ≡ true → first_or 0 l ≤ e
 rises-least [] r e m = absurd (true≢false (sym m))
-rises-least (x ∷ l) r e m = at (member-place (x ∷ l) e m)
+rises-least (x ∷ l) r e m = at (place-of (x ∷ l) e m)
   where
     at : (i : ℕ) × (i < length (x ∷ l)) × (slice_index_or (x ∷ l) i 0 ≡ e) → x ≤ e
     at w = elim (cases_eq w.0 0) [
@@ -209,7 +210,7 @@ module _ (g : Multigraph) (nodes : List Node) (b : IsBlockTree g nodes) where
       by_kind P e =
           let c = bond-choice g nodes b r k p.system (plane-contiguous g nodes r b p) (l, e) in
           let rise : Rises (node_keys nodes k) = t.in_order.keys_rise k l in
-          subst (IsCyclicOrder (node_keys nodes k)) c.1 (order-arranged (node_keys nodes k) (choice nodes r k) (distinct-places (node_keys nodes k) (rises-once (node_keys nodes k) rise)) (rises-least (node_keys nodes k) rise) c.0)
+          subst (IsCyclicOrder (node_keys nodes k)) c.1 (order-arranged (node_keys nodes k) (choice nodes r k) (told-distinct (node_keys nodes k) (rises-once (node_keys nodes k) rise)) (rises-least (node_keys nodes k) rise) c.0)
       by_kind R e =
           let x : Parts g nodes b r = parts g nodes b r p in
           let h : has_vertex nodes k (least_vertex nodes k) ≡ true = least-has g nodes b k l in
@@ -228,7 +229,7 @@ module _ (g : Multigraph) (nodes : List Node) (b : IsBlockTree g nodes) where
   -- of a bond
   module _ (k : ℕ) (is : IsNodeOfKind nodes k P) (keys : List ℕ) (c : IsCyclicOrder (node_keys nodes k) keys) where
     node-once : is_distinct (node_keys nodes k) ≡ true
-    node-once = distinct-places (node_keys nodes k) (rises-once (node_keys nodes k) (t.in_order.keys_rise k is.0))
+    node-once = told-distinct (node_keys nodes k) (rises-once (node_keys nodes k) (t.in_order.keys_rise k is.0))
 
     keys-once : is_distinct keys ≡ true
     keys-once = permutation-distinct (node_keys nodes k) keys c.arranged node-once

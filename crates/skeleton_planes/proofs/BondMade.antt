@@ -9,8 +9,7 @@ use Rattle.permutations.proofs.Arrangements.{permutation-member, permutation-dis
 use Rattle.multigraph.specs.Graph.{Multigraph, numbers_below, incident_edges}
 use Rattle.multigraph.proofs.Below.{length-numbers_below, get_or-numbers_below}
 use Rattle.rotations.specs.Rotation.{order_at, IsCyclicOrder, IsRotationSystem}
-use Rattle.rotations.proofs.Membership.{incident-distinct}
-use Rattle.faces.proofs.MapMirror.{incident-least}
+use Rattle.rotations.proofs.Membership.{incident-distinct, incident-least}
 use Rattle.faces.proofs.MapLists.{first-same}
 use Rattle.faces.proofs.MapPartOrders.{from_least-least}
 use Rattle.pair_split.specs.Skeleton.{HasPoles}
@@ -22,7 +21,8 @@ use Rattle.skeletons.specs.Families.{place_of, skeleton_graph}
 use Rattle.faces.specs.Euler.{IsPlaneSystem}
 use Rattle.skeletons.specs.Moves.{IsNodeOfKind}
 use Rattle.skeletons.proofs.Vertices.{least-has, greatest-has, poles-differ}
-use Rattle.skeleton_runs.proofs.SkeletonGraph.{place-below, place-once}
+use Rattle.skeletons.proofs.Places.{place-below}
+use Rattle.skeleton_runs.proofs.SkeletonGraph.{place-once}
 use Rattle.skeleton_planes.specs.Laws.{BondHasEachOrder}
 use Rattle.skeleton_planes.proofs.BondSkeleton.{lesser-in, greater-in, same-incident}
 use Rattle.skeleton_planes.proofs.OneSystem.{kind-of, place-cases, lesser-place, greater-place, bond-law}

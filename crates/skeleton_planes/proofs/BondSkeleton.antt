@@ -1,7 +1,7 @@
 -- The skeletons of bonds: a rotation system of one is plane exactly where the order at the one pole is the reverse of that at
 -- the other.
-use Rattle.std.proofs.Common.{◌≡◌, ℕ, ◌*◌, ◌/◌, ◌%◌, ◌<◌, ◌⊎◌, Bool, true, not, ◌==◌, cond, List, length, map, reverse, inl, inr, refl, sym, ap, ap₂, ◌∙◌, subst, arith, eq-eqb, eqb-true}
-use Rattle.std.proofs.lemmas.Bool.{cases_Bool, cases_eq, both_ways, ne_eqb, or_left, or_right}
+use Rattle.std.proofs.Common.{◌≡◌, ℕ, ◌*◌, ◌/◌, ◌%◌, ◌<◌, Bool, true, not, ◌==◌, cond, List, length, map, reverse, inl, inr, refl, sym, ap, ap₂, ◌∙◌, subst, arith, eq-eqb, eqb-true}
+use Rattle.std.proofs.lemmas.Bool.{cases_Bool, both_ways, ne_eqb, or_left, or_right}
 use Rattle.std.proofs.lemmas.List.Elements.{All-get_or}
 use Rattle.permutations.specs.Members.{is_member, is_distinct}
 use Rattle.permutations.specs.Cyclic.{successor, predecessor, from_least}
@@ -14,7 +14,7 @@ use Rattle.permutations.proofs.Arrangements.{permutation-member, contains-from_m
 use Rattle.multigraph.specs.Graph.{Multigraph, IsGraph, edge_count, ends_of, is_end, numbers_below, incident_edges}
 use Rattle.rotations.specs.Rotation.{order_at, IsRotationSystem}
 use Rattle.dart_maps.specs.Map.{twin, face, same_vertex}
-use Rattle.dart_maps.proofs.Darts.{twin-edge, twin-cases}
+use Rattle.dart_maps.proofs.Darts.{twin-edge, twin-cases, dart-cases}
 use Rattle.dart_maps.proofs.Bond.{bond-plane, bond-plane-back}
 use Rattle.faces.specs.Euler.{IsPlane, IsPlaneSystem}
 use Rattle.faces.specs.Maps.{dart_after, dart_before, mirror_image}
@@ -29,9 +29,10 @@ use Rattle.pair_split.specs.Skeleton.{SameEnds, HasPoles}
 use Rattle.pair_split.specs.Split.{skeleton, piece_ends}
 use Rattle.pair_split.specs.Tutte.{Node, components, node_at, node_item}
 use Rattle.pair_split.proofs.GraphFamily.{contains-below}
+use Rattle.pair_split.proofs.NodeParts.{node-piece}
 use Rattle.skeletons.specs.Items.{IsBlockTree}
 use Rattle.skeletons.specs.Families.{place_of, skeleton_graph}
-use Rattle.skeletons.proofs.NodeItems.{piece-in, node-piece, edge-item}
+use Rattle.skeletons.proofs.NodeItems.{piece-in, edge-item}
 use Rattle.skeleton_runs.proofs.Items.{skeleton-at, skeleton-in}
 use Rattle.skeleton_runs.proofs.SkeletonGraph.{skeleton-graph, graph-edges, graph-ends}
 use Rattle.skeleton_runs.proofs.SkeletonGraph.{edge-item as graph-item}
@@ -45,10 +46,6 @@ same-pairs p a b c d l m (inl e) (inl f) = (sym f.0 ∙ e.0, sym f.1 ∙ e.1)
 same-pairs p a b c d l m (inr e) (inr f) = (sym f.1 ∙ e.1, sym f.0 ∙ e.0)
 same-pairs p a b c d l m (inl e) (inr f) = absurd (omega (arith, l, m, e.0, e.1, f.0, f.1))
 same-pairs p a b c d l m (inr e) (inl f) = absurd (omega (arith, l, m, e.0, e.1, f.0, f.1))
-
--- a number is even or odd
-parity : (z : ℕ) → (z % 2 ≡ 0) ⊎ (z % 2 ≡ 1)
-parity z = elim (cases_eq (z % 2) 0) [ inl e ↦ inl e | inr e ↦ inr (omega (arith, e)) ]
 
 -- the other parity
 twin-odd : (z : ℕ) → z % 2 ≡ 0 → twin z % 2 ≡ 1
@@ -111,12 +108,12 @@ module _ (g : Multigraph) (nodes : List Node) (b : IsBlockTree g nodes) (k : ℕ
 
   -- darts that leave one of them have one parity
   end-parity : (y z : ℕ) → y / 2 < number → z / 2 < number → end_of nodes k y ≡ end_of nodes k z → y % 2 ≡ z % 2
-  end-parity y z my mz e = elim (parity y) [
-    | inl i ↦ elim (parity z) [
+  end-parity y z my mz e = elim (dart-cases y) [
+    | inl i ↦ elim (dart-cases z) [
       | inl o ↦ i ∙ sym o
       | inr o ↦ absurd (apart (sym (even-end y my i) ∙ e ∙ odd-end z mz o))
     ]
-    | inr i ↦ elim (parity z) [
+    | inr i ↦ elim (dart-cases z) [
       | inl o ↦ absurd (apart (sym (even-end z mz o) ∙ sym e ∙ odd-end y my i))
       | inr o ↦ i ∙ sym o
     ]
@@ -127,7 +124,7 @@ module _ (g : Multigraph) (nodes : List Node) (b : IsBlockTree g nodes) (k : ℕ
 
   -- and the other way round
   parity-end : (y z : ℕ) → y / 2 < number → z / 2 < number → y % 2 ≡ z % 2 → end_of nodes k y ≡ end_of nodes k z
-  parity-end y z my mz e = elim (parity z) [
+  parity-end y z my mz e = elim (dart-cases z) [
     | inl i ↦ even-end y my (e ∙ i) ∙ sym (even-end z mz i)
     | inr i ↦ odd-end y my (e ∙ i) ∙ sym (odd-end z mz i)
   ]
@@ -250,7 +247,7 @@ module _ (g : Multigraph) (nodes : List Node) (b : IsBlockTree g nodes) (k : ℕ
 
     -- its twin is not
     even-twin : (z : ℕ) → z < 2 * edge_count (skeleton_graph nodes k) → even (twin z) ≡ not (even z)
-    even-twin z n = elim (parity z) [
+    even-twin z n = elim (dart-cases z) [
       | inl p ↦ ne_eqb (twin z % 2) 0 (λ e. omega (arith, e, twin-odd z p)) ∙ sym (ap not (eq-eqb (z % 2) 0 p))
       | inr p ↦ eq-eqb (twin z % 2) 0 (twin-evens z p) ∙ sym (ap not (ne_eqb (z % 2) 0 (λ e. omega (arith, e, p))))
     ]
@@ -270,9 +267,9 @@ module _ (g : Multigraph) (nodes : List Node) (b : IsBlockTree g nodes) (k : ℕ
         mz = dart-item g nodes b k l z nz
 
         same : even y ≡ even z → y % 2 ≡ z % 2
-        same e = elim (parity z) [
+        same e = elim (dart-cases z) [
           | inl p ↦ eqb-true (y % 2) 0 (e ∙ eq-eqb (z % 2) 0 p) ∙ sym p
-          | inr p ↦ elim (parity y) [
+          | inr p ↦ elim (dart-cases y) [
             | inl q ↦ absurd (both_ways (even z) (ne_eqb (z % 2) 0 (λ o. omega (arith, o, p))) (sym e ∙ eq-eqb (y % 2) 0 q))
             | inr q ↦ q ∙ sym p
           ]
@@ -290,7 +287,7 @@ module _ (g : Multigraph) (nodes : List Node) (b : IsBlockTree g nodes) (k : ℕ
         behind i = ap (λ o. successor o i) e ∙ mirror-successor first i first-distinct
 
         back : (z : ℕ) → z < 2 * edge_count (skeleton_graph nodes k) → face step (face step z) ≡ z
-        back z n = elim (parity z) [
+        back z n = elim (dart-cases z) [
           | inl p ↦ let w = face-even z (dart-item g nodes b k l z n) p in same-halves (face step (face step z)) z (w.0 ∙ ap (successor first) (behind (z / 2)) ∙ successor-predecessor first (z / 2) first-distinct) (w.1 ∙ sym p)
           | inr p ↦ let w = face-odd z (dart-item g nodes b k l z n) p in same-halves (face step (face step z)) z (w.0 ∙ behind (successor first (z / 2)) ∙ predecessor-successor first (z / 2) first-distinct) (w.1 ∙ sym p)
         ]

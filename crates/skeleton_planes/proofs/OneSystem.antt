@@ -22,12 +22,12 @@ use Rattle.pair_split.specs.Tutte.{Node, components, node_at, node_item, piece_o
 use Rattle.pair_split.specs.declared.components.Kind.{Kind}
 use Rattle.pair_split.specs.declared.components.Kind.TheVariants.{S, P, B}
 use Rattle.pair_split.proofs.GraphFamily.{numbers-distinct, below-contains, contains-below}
+use Rattle.pair_split.proofs.NodeParts.{node-pieces, node-kind}
 use Rattle.skeletons.specs.Items.{IsBlockTree}
 use Rattle.skeletons.specs.Families.{place_of, skeleton_graph}
 use Rattle.skeletons.specs.Moves.{IsNodeOfKind}
-use Rattle.skeletons.proofs.NodeItems.{comp-in, vertex-end, node-pieces}
+use Rattle.skeletons.proofs.NodeItems.{comp-in, vertex-end}
 use Rattle.skeletons.proofs.Systems.{same-turns}
-use Rattle.skeleton_runs.proofs.NodeFits.{node-kind}
 use Rattle.skeleton_runs.proofs.Sturdy.{polygon-two}
 use Rattle.skeleton_runs.proofs.SkeletonGraph.{place-at, place-of_at, distinct-fewer, skeleton-graph, graph-edges}
 use Rattle.skeleton_runs.proofs.SkeletonGraph.{edge-item as graph-item}

@@ -9,6 +9,7 @@ use Rattle.pair_split.specs.Split.{skeleton}
 use Rattle.pair_split.specs.Tutte.{Node, components, node_at}
 use Rattle.pair_split.specs.declared.components.Kind.{Kind}
 use Rattle.pair_split.specs.declared.components.Kind.TheVariants.{S, P, R, B}
+use Rattle.pair_split.proofs.NodeParts.{node-kind}
 use Rattle.skeletons.specs.Items.{IsBlockTree}
 use Rattle.skeletons.specs.Families.{skeleton_graph, system_at, AreSkeletonSystems}
 use Rattle.faces.specs.Euler.{IsPlaneSystem}
@@ -16,7 +17,6 @@ use Rattle.skeletons.specs.Moves.{IsNodeOfKind}
 use Rattle.skeletons.specs.Laws.{PlanarWhereSkeletonsAre}
 use Rattle.skeletons.proofs.NodeItems.{comp-in}
 use Rattle.skeletons.proofs.Places.{family-followed, contiguous-follows}
-use Rattle.skeleton_runs.proofs.NodeFits.{node-kind}
 use Rattle.skeleton_runs.proofs.Contiguous.{plane-contiguous}
 use Rattle.skeleton_planes.proofs.PolygonSkeleton.{rising_system, rising-system, polygon-system_plane}
 use Rattle.skeleton_planes.proofs.BondSkeleton.{bond-system_plane}

@@ -25,9 +25,10 @@ use Rattle.faces.proofs.MapCounts.{map-plane}
 use Rattle.pair_split.specs.Skeleton.{is_end_of, IsPolygon}
 use Rattle.pair_split.specs.Split.{skeleton, items_of, piece_ends}
 use Rattle.pair_split.specs.Tutte.{Node, components, node_at, node_item}
+use Rattle.pair_split.proofs.NodeParts.{node-piece}
 use Rattle.skeletons.specs.Items.{IsBlockTree}
 use Rattle.skeletons.specs.Families.{place_of, skeleton_graph}
-use Rattle.skeletons.proofs.NodeItems.{piece-in, node-piece, item-in, edge-item}
+use Rattle.skeletons.proofs.NodeItems.{piece-in, item-in, edge-item}
 use Rattle.skeleton_runs.proofs.Items.{skeleton-at, skeleton-in}
 use Rattle.skeleton_runs.proofs.Sturdy.{polygon-two}
 use Rattle.skeleton_runs.proofs.NodeFits.{vertex-skeleton}

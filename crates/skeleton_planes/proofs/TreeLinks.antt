@@ -17,9 +17,10 @@ use Rattle.pair_split.specs.Tutte.{Node, components, node_at, node_item, piece_o
 use Rattle.pair_split.specs.declared.components.What.{What}
 use Rattle.pair_split.specs.declared.components.What.TheVariants.{Real, Link}
 use Rattle.pair_split.proofs.TreeSides.{beyond-far, beyond-near, beyond-along, beyond-neighbour, link-back}
+use Rattle.pair_split.proofs.NodeParts.{node-piece}
 use Rattle.skeletons.specs.Items.{IsBlockTree}
 use Rattle.skeletons.specs.Families.{AreSkeletonSystems}
-use Rattle.skeletons.proofs.NodeItems.{node-in, comp-in, stands-of, item-of, node-piece}
+use Rattle.skeletons.proofs.NodeItems.{node-in, comp-in, stands-of, item-of}
 use Rattle.skeleton_planes.proofs.LinkLists.{is_used, part_links, AreLinksOf}
 use Rattle.skeleton_planes.proofs.Numbering.{coded, part_of, local_of, united}
 use Rattle.skeleton_planes.proofs.Coded.{part-coded, local-coded, coded-twin}

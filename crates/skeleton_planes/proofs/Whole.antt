@@ -57,10 +57,6 @@ module _ (g : Multigraph) (nodes : List Node) (b : IsBlockTree g nodes) (family 
   abbrev whole : ℕ → ℕ
   whole = united (edge_count g) (stepped nodes family)
 
-  -- and back
-  abbrev whole_back : ℕ → ℕ
-  whole_back = united (edge_count g) (stepped_back nodes family)
-
   -- how many edges there are
   abbrev size : ℕ
   size = edge_count g * length nodes

@@ -20,6 +20,7 @@ use Rattle.pair_split.specs.declared.components.Comp.{Comp}
 use Rattle.pair_split.proofs.Subtrees.{link-in}
 use Rattle.pair_split.proofs.TreeSides.{link-from, link-back, link-differs}
 use Rattle.pair_split.proofs.Groups.{what-cases, same-end_back, side-other, in_group-link, group-some}
+use Rattle.pair_split.proofs.NodeParts.{node-kind}
 use Rattle.skeletons.specs.Items.{has_vertex, IsBlockTree}
 use Rattle.skeletons.specs.Round.{StandInRuns}
 use Rattle.faces.specs.Euler.{IsPlaneSystem}
@@ -28,7 +29,7 @@ use Rattle.skeleton_runs.proofs.EdgesInOrder.{met-edge, met-end}
 use Rattle.skeleton_runs.proofs.Items.{in_item, item-at, item-ends_differ}
 use Rattle.skeleton_runs.proofs.Crossing.{OtherOf, other-of, group-uncrossed, others-uncrossed}
 use Rattle.skeletons.proofs.NodeItems.{comp-in, item-in, vertex-node, keys-once}
-use Rattle.skeleton_runs.proofs.NodeFits.{node-kind, group-key, vertex-skeleton, vertex-fits}
+use Rattle.skeleton_runs.proofs.NodeFits.{group-key, vertex-skeleton, vertex-fits}
 
 -- a kind is that of bonds, that of small components, or neither
 kind-cases : (kind : Kind) → (kind ≡ P) ⊎ ((kind ≡ B) ⊎ ((kind ≢ P) × (kind ≢ B)))

@@ -10,9 +10,10 @@ use Rattle.permutations.proofs.Members.{member-head, member-tail, no_member-head
 use Rattle.permutations.proofs.CyclicOrder.{around-turned}
 use Rattle.permutations.proofs.Relation.{connected-symmetric, connected-transitive, connected-equivalence, connected-least_containing}
 use Rattle.multigraph.specs.Graph.{Multigraph, edge_count, is_end, other_end, IsGraph}
+use Rattle.multigraph.proofs.OtherEnd.{other_end-is_end}
 use Rattle.graph_theory.specs.Block.{IsOneBlock}
 use Rattle.graph_theory.specs.Triconnected.{avoids}
-use Rattle.graph_theory.proofs.Ends.{other-is_end, other-differs}
+use Rattle.graph_theory.proofs.Ends.{other-differs}
 use Rattle.rotations.specs.Rotation.{order_at, IsRotationSystem}
 use Rattle.faces.specs.Euler.{IsPlane}
 use Rattle.pair_split.specs.Skeleton.{is_end_of, is_vertex, IsOfKind}
@@ -151,7 +152,7 @@ module _ (g : Multigraph) (comps : List Comp) (s : IsSplit g comps) (ok : IsGrap
       far : (e : ℕ) → e < edge_count g → is_end g u e ≡ true → inside e ≡ true → joined_where g (avoiding g u keep) (other_end g e u) v ≡ true
       far e l h m = joined-more g (avoiding g u inside) (avoiding g u keep)
           (λ x b t. let w = and_parts (inside x) (not (is_end g u x)) t in and_from (keep x) (not (is_end g u x)) (or_left (inside x) (not (is_end g v x)) w.0) w.1)
-          (other_end g e u) v (item-reach g comps s ok block k i u v k_in i_in differ first second e (other_end g e u) l (other-is_end g e u) m (other-differs g ok e u l h))
+          (other_end g e u) v (item-reach g comps s ok block k i u v k_in i_in differ first second e (other_end g e u) l (other_end-is_end g e u) m (other-differs g ok e u l h))
 
   -- an edge of another item, one that is not at v, is kept
   keep-item : (j x : ℕ) → j < length (items_of comps k) → is_end_of v (piece_ends (item_at comps k j)) ≡ false → x < edge_count g → in_item g comps s k j x ≡ true → keep x ≡ true
@@ -163,7 +164,7 @@ module _ (g : Multigraph) (comps : List Comp) (s : IsSplit g comps) (ok : IsGrap
   beside-joined e l h b o = joined-more g (avoiding g u (in_item g comps s k b.item)) (avoiding g u keep)
       (λ x m t. let w = and_parts (in_item g comps s k b.item x) (not (is_end g u x)) t in and_from (keep x) (not (is_end g u x)) (keep-item b.item x b.item_in b.off_v m w.0) w.1)
       (other_end g e u) o.other
-      (item-reach g comps s ok block k b.item u o.other k_in b.item_in o.differs b.at_u o.is_end e (other_end g e u) l (other-is_end g e u) b.in_group (other-differs g ok e u l h))
+      (item-reach g comps s ok block k b.item u o.other k_in b.item_in o.differs b.at_u o.is_end e (other_end g e u) l (other_end-is_end g e u) b.in_group (other-differs g ok e u l h))
 
   -- what the skeleton connects without u and v the edges join without u
   skeleton-joined : (p q : ℕ) → connected (filter (avoids (u ∷ v ∷ [])) (skeleton comps k)) p q ≡ true → joined_where g (avoiding g u keep) p q ≡ true

@@ -6,10 +6,11 @@ use Rattle.pair_split.specs.Skeleton.{is_end_of}
 use Rattle.pair_split.specs.Split.{items_of, item_at, piece_ends}
 use Rattle.pair_split.specs.Tutte.{components, node_item}
 use Rattle.pair_split.specs.declared.components.Piece.{Piece}
+use Rattle.pair_split.proofs.NodeParts.{node-piece}
 use Rattle.graph_theory.specs.Joined.{PathWhere}
 use Rattle.skeleton_runs.specs.Laws.{ItemIsPath}
 use Rattle.skeleton_runs.proofs.Items.{in_item, item-path, item-path_vertex}
-use Rattle.skeletons.proofs.NodeItems.{node-piece, comp-in, piece-in}
+use Rattle.skeletons.proofs.NodeItems.{comp-in, piece-in}
 use Rattle.skeleton_runs.proofs.NodeFits.{group-key, vertex-skeleton}
 
 -- the path by which the group joins the ends of its item

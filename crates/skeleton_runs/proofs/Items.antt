@@ -6,9 +6,9 @@ use Rattle.std.proofs.lemmas.List.Elements.{All-get_or}
 use Rattle.permutations.specs.Members.{is_member}
 use Rattle.permutations.proofs.Members.{member-head, member-tail, member-cases}
 use Rattle.multigraph.specs.Graph.{Multigraph, edge_count, is_end, other_end, IsGraph}
+use Rattle.multigraph.proofs.OtherEnd.{other_end-is_end}
 use Rattle.graph_theory.specs.Block.{IsOneBlock}
 use Rattle.graph_theory.specs.Path.{walk_vertices, IsWalk}
-use Rattle.graph_theory.proofs.Ends.{other-is_end}
 use Rattle.graph_theory.proofs.Walks.{walk-edge}
 use Rattle.pair_split.specs.Skeleton.{is_end_of, is_vertex}
 use Rattle.pair_split.specs.Split.{items_of, item_at, piece_ends, skeleton, IsSplit}
@@ -52,7 +52,7 @@ met-edge_end g x [] k w m = elim (member-cases w x [] m) [ inl q ↦ inl (sym q)
 met-edge_end g x (e ∷ es) k w m = elim (member-cases w x (walk_vertices g (other_end g e x) es) m) [
   | inl q ↦ inl (sym q)
   | inr n ↦ elim (met-edge_end g (other_end g e x) es k.1 w n) [
-    | inl q ↦ inr (e, member-head e es, subst (λ z. is_end g z e ≡ true) (sym q) (other-is_end g e x))
+    | inl q ↦ inr (e, member-head e es, subst (λ z. is_end g z e ≡ true) (sym q) (other_end-is_end g e x))
     | inr f ↦ inr (f.0, member-tail f.0 e es f.1, f.2)
   ]
 ]

@@ -1,11 +1,11 @@
 -- The vertices, items and keys of a node are those of its component, and within the graph.
-use Rattle.std.proofs.Common.{◌≡◌, ℕ, zero, suc, ◌<◌, ◌==◌, true, List, [], ◌∷◌, length, refl, sym, ap, ◌∙◌, subst}
+use Rattle.std.proofs.Common.{◌≡◌, ℕ, ◌<◌, ◌==◌, true, List, length, refl, sym, ap, ◌∙◌, subst}
 use Rattle.std.proofs.lemmas.Bool.{or_left, or_right, eq-eqb, eqb-true}
 use Rattle.permutations.proofs.Search.{some-from, least-below}
 use Rattle.multigraph.specs.Graph.{Multigraph, edge_count, IsGraph}
 use Rattle.multigraph.proofs.OtherEnd.{end-in}
 use Rattle.pair_split.specs.Skeleton.{is_end_of, is_vertex}
-use Rattle.pair_split.specs.Split.{component_at, items_of, item_at, piece_ends, skeleton, side}
+use Rattle.pair_split.specs.Split.{items_of, item_at, piece_ends, skeleton, side}
 use Rattle.pair_split.specs.Tutte.{Node, components, node_at, node_item, key_of, has_in_group, group, IsTutte}
 use Rattle.pair_split.specs.declared.components.What.{What}
 use Rattle.pair_split.specs.declared.components.What.TheVariants.{Real, Link}
@@ -13,15 +13,10 @@ use Rattle.pair_split.specs.declared.components.Piece.{Piece}
 use Rattle.pair_split.specs.declared.components.Comp.{Comp}
 use Rattle.pair_split.proofs.Groups.{Touched, end-touched}
 use Rattle.pair_split.proofs.LargeSides.{vertex-item}
+use Rattle.pair_split.proofs.NodeParts.{node-piece}
 use Rattle.skeletons.specs.Items.{has_vertex}
-use Rattle.skeletons.proofs.NodeItems.{node-piece, vertex-node, piece-in, what-at, group-is}
+use Rattle.skeletons.proofs.NodeItems.{vertex-node, piece-in, what-at, group-is}
 use Rattle.skeleton_runs.proofs.Items.{item-vertex as component-vertex}
-
--- the kind of a component is its node's
-pub node-kind : (nodes : List Node) (k : ℕ) → (component_at (components nodes) k).kind ≡ (node_at nodes k).kind
-node-kind [] k = refl
-node-kind (node ∷ nodes) zero = refl
-node-kind (node ∷ nodes) (suc k) = node-kind nodes k
 
 module _ (g : Multigraph) (nodes : List Node) (t : IsTutte g nodes) where
   abbrev comps : List Comp

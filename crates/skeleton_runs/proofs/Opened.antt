@@ -1,20 +1,18 @@
 -- The map of some edges with a vertex opened: what these edges join without passing the vertex is connected in it.
-use Rattle.std.proofs.Common.{◌≡◌, ◌≢◌, ℕ, zero, suc, ◌+◌, ◌*◌, ◌/◌, ◌<◌, ◌⊎◌, inl, inr, Bool, true, false, not, ◌&&◌, ◌==◌, List, refl, sym, ap, ◌∙◌, subst, arith}
+use Rattle.std.proofs.Common.{◌≡◌, ◌≢◌, ℕ, ◌+◌, ◌*◌, ◌/◌, ◌<◌, inl, inr, Bool, true, not, ◌&&◌, ◌==◌, List, refl, sym, ap, ◌∙◌, subst, arith}
 use Rattle.std.proofs.lemmas.Bool.{cases_Bool, both_ways, and_parts, and_from, eq-eqb, eqb-true, ne_eqb, not-true, not_from_false, false_from_ne_true}
 use Rattle.permutations.specs.Relation.{IsEquivalence}
-use Rattle.permutations.specs.Permutation.{iterate}
 use Rattle.permutations.specs.Exchange.{restricted}
 use Rattle.permutations.proofs.Relation.{kernel-equivalence}
 use Rattle.permutations.proofs.Orbits.{orbit-equivalence, orbit-least, orbit-step}
-use Rattle.permutations.proofs.Iterates.{iterate-below, orbit-steps}
 use Rattle.permutations.proofs.Restriction.{restricted-goes, restricted-alone, restricted-permutes, restricted-orbit}
 use Rattle.multigraph.specs.Graph.{Multigraph, IsGraph, edge_count, ends_of, is_end, other_end}
 use Rattle.multigraph.proofs.OtherEnd.{is_end-first, is_end-second, other_end-differs}
 use Rattle.rotations.specs.Rotation.{IsRotationSystem}
 use Rattle.dart_maps.specs.Map.{twin, IsMap, same_vertex, same_component}
 use Rattle.dart_maps.specs.Order.{frozen, connected_around}
-use Rattle.dart_maps.proofs.Darts.{twin-even, twin-edge, twin-below}
-use Rattle.dart_maps.proofs.Components.{component-equivalence, component-next, component-twin, component-test}
+use Rattle.dart_maps.proofs.Darts.{twin-edge, twin-below}
+use Rattle.dart_maps.proofs.Components.{component-equivalence, component-twin, component-test}
 use Rattle.dart_maps.proofs.FourDarts.{frozen-here, frozen-elsewhere}
 use Rattle.dart_maps.proofs.Noncrossing.{restricted-vertex}
 use Rattle.faces.specs.Euler.{tail, dart_from, dart_count}
@@ -22,27 +20,8 @@ use Rattle.faces.specs.Maps.{dart_after, dart_before}
 use Rattle.faces.proofs.DartLemmas.{dart-edge, tail-end, tail-first, tail-second, dart_from-edge, dart_from-below, dart_from-tail}
 use Rattle.faces.proofs.MapSteps.{tail-twin, map-permutes}
 use Rattle.faces.proofs.MapVertices.{vertex-tail, tail-vertex}
+use Rattle.faces.proofs.RestrictedConnection.{opened-vertex, counted-joined}
 use Rattle.graph_theory.specs.Joined.{joined_where, avoiding}
-use Rattle.graph_theory.proofs.Joined.{joined-least-typed}
-
--- a map of darts, and a test that says the same of all darts of a vertex: those that pass it are opened
-module _ (m : ℕ) (next back : ℕ → ℕ) (b : IsMap m next back) (p : ℕ → Bool) (kept : (d : ℕ) → d < 2 * m → p (next d) ≡ p d) where
-  -- another dart is connected with those that follow it
-  opened-steps : (k d : ℕ) → d < 2 * m → p d ≡ false → (same_component m (frozen p next) d (iterate next k d) ≡ true) × (p (iterate next k d) ≡ false)
-  opened-steps zero d l h = ((component-equivalence m (frozen p next)).reflexive d, h)
-  opened-steps (suc k) d l h =
-      let w = opened-steps k d l h in
-      let below : iterate next k d < 2 * m = iterate-below (2 * m) next back b k d l in (
-        (component-equivalence m (frozen p next)).transitive d (iterate next k d) (next (iterate next k d)) w.0
-            (subst (λ z. same_component m (frozen p next) (iterate next k d) z ≡ true) (frozen-elsewhere p next (iterate next k d) w.1) (component-next m (frozen p next) (iterate next k d) below)),
-        kept (iterate next k d) below ∙ w.1,
-      )
-
-  -- and with those of its vertex
-  opened-vertex : (c d : ℕ) → c < 2 * m → same_vertex m next c d ≡ true → p c ≡ false → same_component m (frozen p next) c d ≡ true
-  opened-vertex c d l t h =
-      let w = orbit-steps (2 * m) next back b c d l t in
-      subst (λ z. same_component m (frozen p next) c z ≡ true) w.2 (opened-steps w.0 c l h).0
 
 -- a rotation system, edges that are kept, and one of them at the vertex u
 module _ (g : Multigraph) (r : List (List ℕ)) (ok : IsGraph g) (s : IsRotationSystem g r) (keep : ℕ → Bool) (u a : ℕ) (a_in : a < edge_count g) (a_end : is_end g u a ≡ true) (a_kept : keep a ≡ true) where
@@ -131,42 +110,9 @@ module _ (g : Multigraph) (r : List (List ℕ)) (ok : IsGraph g) (s : IsRotation
       opened-vertex (edge_count g) left left_back left-permutes here here-step c d l (left-vertex c d l k x.0 y.0 q)
       (false_from_ne_true (here c) (λ t. both_ways (tail g c == u) (not-true (tail g c == u) x.1) (eq-eqb (tail g c) u (here-tail c t))))
 
-  -- two vertices with darts that count and are connected; or equal vertices
-  abbrev AreNear : ℕ → ℕ → Type 0
-  AreNear v w = (v ≡ w) ⊎ ((c : ℕ) × (d : ℕ) × (c < dart_count g) × (d < dart_count g) × (tail g c ≡ v) × (tail g d ≡ w) × (counts c ≡ true) × (counts d ≡ true) × (near c d ≡ true))
-
-  are-symmetric : (v w : ℕ) → AreNear v w → AreNear w v
-  are-symmetric v w (inl q) = inl (sym q)
-  are-symmetric v w (inr x) = inr (x.1, x.0, x.3, x.2, x.5, x.4, x.7, x.6, near-equivalence.symmetric x.0 x.1 x.8)
-
-  are-transitive : (v w x : ℕ) → AreNear v w → AreNear w x → AreNear v x
-  are-transitive v w x (inl q) y = subst (λ z. AreNear z x) (sym q) y
-  are-transitive v w x (inr y) (inl q) = subst (λ z. AreNear v z) q (inr y)
-  are-transitive v w x (inr y) (inr z) = inr (
-    y.0,
-    z.1,
-    y.2,
-    z.3,
-    y.4,
-    z.5,
-    y.6,
-    z.7,
-    near-equivalence.transitive y.0 z.0 z.1 (near-equivalence.transitive y.0 y.1 z.0 y.8 (alike y.1 z.0 y.3 z.2 (y.5 ∙ sym z.4) y.7 z.6)) z.8,
-  )
-
-  -- the ends of a kept edge without the end u
-  are-ends : (e : ℕ) → e < edge_count g → avoiding g u keep e ≡ true → AreNear (ends_of g e).0 (ends_of g e).1
-  are-ends e l h = inr (
-    2 * e,
-    2 * e + 1,
-    omega arith,
-    omega arith,
-    tail-first g e,
-    tail-second g e,
-    counted (2 * e) (omega arith) (ends_of g e).0 (tail-first g e) (is_end-first g e),
-    counted (2 * e + 1) (omega arith) (ends_of g e).1 (tail-second g e) (is_end-second g e),
-    subst (λ z. near (2 * e) z ≡ true) (twin-even (2 * e) (omega arith)) (component-twin (edge_count g) open_left (2 * e) (omega arith)),
-  )
+  -- both darts of a kept edge without the end u count
+  both-count : (e : ℕ) → e < edge_count g → avoiding g u keep e ≡ true → (counts (2 * e) ≡ true) × (counts (2 * e + 1) ≡ true)
+  both-count e l h = (counted (2 * e) (omega arith) (ends_of g e).0 (tail-first g e) (is_end-first g e), counted (2 * e + 1) (omega arith) (ends_of g e).1 (tail-second g e) (is_end-second g e))
     where
       parts : (keep e ≡ true) × (not (is_end g u e) ≡ true)
       parts = and_parts (keep e) (not (is_end g u e)) h
@@ -174,14 +120,6 @@ module _ (g : Multigraph) (r : List (List ℕ)) (ok : IsGraph g) (s : IsRotation
       counted : (d : ℕ) → d / 2 ≡ e → (w : ℕ) → tail g d ≡ w → is_end g w e ≡ true → counts d ≡ true
       counted d q w t i = and_from (keep (d / 2)) (not (tail g d == u)) (ap keep q ∙ parts.0)
           (not_from_false (tail g d == u) (ne_eqb (tail g d) u (λ z. both_ways (is_end g u e) (not-true (is_end g u e) parts.1) (subst (λ y. is_end g y e ≡ true) (sym t ∙ z) i))))
-
-  -- darts that count and leave vertices joined by kept edges without the end u are connected
-  counted-connected : (c d : ℕ) → c < dart_count g → d < dart_count g → counts c ≡ true → counts d ≡ true → joined_where g (avoiding g u keep) (tail g c) (tail g d) ≡ true → near c d ≡ true
-  counted-connected c d l k h i t = last (joined-least-typed g (avoiding g u keep) AreNear (λ v. inl refl) are-symmetric are-transitive are-ends (tail g c) (tail g d) t)
-    where
-      last : AreNear (tail g c) (tail g d) → near c d ≡ true
-      last (inl q) = alike c d l k q h i
-      last (inr w) = near-equivalence.transitive c w.1 d (near-equivalence.transitive c w.0 w.1 (alike c w.0 l w.2 (sym w.4) h w.6) w.8) (alike w.1 d w.3 k w.5 w.7 i)
 
   -- the dart at the far end of a kept edge at u counts
   far-counts : (e : ℕ) → e < edge_count g → is_end g u e ≡ true → keep e ≡ true → (counts (twin (dart_from g u e)) ≡ true) × (tail g (twin (dart_from g u e)) ≡ other_end g e u)
@@ -207,7 +145,7 @@ module _ (g : Multigraph) (r : List (List ℕ)) (ok : IsGraph g) (s : IsRotation
       let df : dart_from g u f < dart_count g = dart_from-below g u f k in
       near-equivalence.transitive (dart_from g u e) (twin (dart_from g u e)) (dart_from g u f) (component-twin (edge_count g) open_left (dart_from g u e) de)
       (near-equivalence.transitive (twin (dart_from g u e)) (twin (dart_from g u f)) (dart_from g u f)
-      (counted-connected (twin (dart_from g u e)) (twin (dart_from g u f)) (twin-below (edge_count g) (dart_from g u e) de) (twin-below (edge_count g) (dart_from g u f) df) x.0 y.0
+      (counted-joined g open_left counts alike (avoiding g u keep) both-count (twin (dart_from g u e)) (twin (dart_from g u f)) (twin-below (edge_count g) (dart_from g u e) de) (twin-below (edge_count g) (dart_from g u f) df) x.0 y.0
       (subst (λ z. joined_where g (avoiding g u keep) (tail g (twin (dart_from g u e))) z ≡ true) (sym y.1) (subst (λ z. joined_where g (avoiding g u keep) z (other_end g f u) ≡ true) (sym x.1) t)))
       (near-equivalence.symmetric (dart_from g u f) (twin (dart_from g u f)) (component-twin (edge_count g) open_left (dart_from g u f) df)))
 

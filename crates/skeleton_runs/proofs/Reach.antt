@@ -2,21 +2,14 @@
 use Rattle.std.proofs.Common.{◌≡◌, ◌≢◌, ℕ, ◌<◌, ◌⊎◌, inl, inr, Bool, true, false, not, ◌&&◌, ◌||◌, sym, ap, ◌∙◌}
 use Rattle.std.proofs.lemmas.Bool.{cases_Bool, cases_eq, both_ways, and_parts, and_from, or_cases, or_left, or_right, not_from_false, false_from_ne_true}
 use Rattle.permutations.proofs.Relation.{connected-reflexive, connected-symmetric, connected-transitive}
+use Rattle.pair_split.proofs.GraphSides.{block-two_common}
 use Rattle.multigraph.specs.Graph.{Multigraph, edge_count, ends_of, is_end, other_end, IsGraph}
-use Rattle.multigraph.proofs.OtherEnd.{is_end-first, is_end-second, is_end-cases}
+use Rattle.multigraph.proofs.OtherEnd.{is_end-first, is_end-second, is_end-cases, other_end-is_end}
 use Rattle.graph_theory.specs.Block.{IsOneBlock}
 use Rattle.graph_theory.specs.Side.{IsCommon}
-use Rattle.graph_theory.proofs.Crossings.{TwoCommon, cycle-two_common}
-use Rattle.graph_theory.proofs.Ends.{other-is_end, other-differs, end-cases}
+use Rattle.graph_theory.proofs.Ends.{other-differs, end-cases}
 use Rattle.graph_theory.specs.Joined.{ends_where, joined_where, avoiding, PathWhere}
 use Rattle.graph_theory.proofs.Joined.{joined-other, joined-more, joined-avoiding, joined-path}
-
--- a division of the edges of a block, with edges on both sides, has two common vertices
-pub divided-two : (g : Multigraph) → IsOneBlock g → (s : ℕ → Bool) (e f : ℕ) → e < edge_count g → f < edge_count g → s e ≡ true → s f ≡ false → TwoCommon g s
-divided-two g block s e f l k a b = elim (block.same_block e f l k) [
-  | inl q ↦ absurd (both_ways (s f) b (ap s (sym q) ∙ a))
-  | inr c ↦ cycle-two_common g s c.start c.along e f c.cycle c.first_on c.second_on a b
-]
 
 -- where an end of an edge passes, one of its two ends does
 end-either : (g : Multigraph) (a : ℕ → Bool) (e w : ℕ) → is_end g w e ≡ true → a w ≡ true → (a (ends_of g e).0 || a (ends_of g e).1) ≡ true
@@ -90,7 +83,7 @@ module _ (g : Multigraph) (ok : IsGraph g) (block : IsOneBlock g) (t : ℕ → B
     none-out =
         let first : near e ≡ true = near-from e z e_on e_end (connected-reflexive (ends_where g (avoiding g u t)) z) in
         let other : near last ≡ false = false_from_ne_true (near last) (λ a. both_ways (reached v) out (near-end last v last_in a last_end (λ q. differ (sym q)))) in
-        let w = divided-two g block near e last e_in last_in first other in
+        let w = block-two_common g block near e last e_in last_in first other in
         w.differ (common-is w.first w.first_common ∙ sym (common-is w.second w.second_common))
 
   -- each vertex other than u that the set touches reaches v by edges of the set without the end u
@@ -104,7 +97,7 @@ module _ (g : Multigraph) (ok : IsGraph g) (block : IsOneBlock g) (t : ℕ → B
   pub reach-both : (first : ℕ) → first < edge_count g → is_end g u first ≡ true → t first ≡ true → joined_where g t u v ≡ true
   reach-both first l i h = connected-transitive (ends_where g t) u (other_end g first u) v (joined-other g t first u l h i)
       (joined-more g (avoiding g u t) t (λ e m a. (and_parts (t e) (not (is_end g u e)) a).0) (other_end g first u) v
-      (reach first (other_end g first u) l (other-is_end g first u) h (other-differs g ok first u l i)))
+      (reach first (other_end g first u) l (other_end-is_end g first u) h (other-differs g ok first u l i)))
 
   -- by a path
   pub reach-path : (first : ℕ) → first < edge_count g → is_end g u first ≡ true → t first ≡ true → PathWhere g t u v

@@ -21,20 +21,14 @@ use Rattle.pair_split.specs.declared.components.What.TheVariants.{Real}
 use Rattle.pair_split.specs.declared.components.Item.{Item}
 use Rattle.pair_split.proofs.Elements.{contains-filter, filter-contains}
 use Rattle.pair_split.proofs.GraphFamily.{all-from_contained}
+use Rattle.pair_split.proofs.NodeParts.{node-piece, node-kind}
 use Rattle.skeletons.specs.Items.{item_key, node_keys, IsBlockTree}
 use Rattle.skeletons.specs.Families.{place_of, end_places, skeleton_graph}
 use Rattle.skeletons.specs.Laws.{SkeletonIsTriconnected}
 use Rattle.skeleton_runs.proofs.Items.{skeleton-at, skeleton-in, in-skeleton}
-use Rattle.skeletons.proofs.NodeItems.{node-piece, comp-in, piece-in, item-in}
-use Rattle.skeleton_runs.proofs.NodeFits.{node-kind, vertex-skeleton, vertex-fits, item-first, item-second, key-fits}
-
--- a member has a place
-pub place-below : (l : List ℕ) (x : ℕ) → is_member x l ≡ true → place_of l x < length l
-place-below [] x m = absurd (true≢false (sym m))
-place-below (y ∷ l) x m = elim (cases_eq y x) [
-  | inl e ↦ rw (eq-eqb y x e) (omega arith)
-  | inr n ↦ elim (member-cases x y l m) [ inl e ↦ absurd (n e) | inr k ↦ rw (ne_eqb y x n) (omega (arith, place-below l x k)) ]
-]
+use Rattle.skeletons.proofs.NodeItems.{comp-in, piece-in, item-in}
+use Rattle.skeletons.proofs.Places.{place-below}
+use Rattle.skeleton_runs.proofs.NodeFits.{vertex-skeleton, vertex-fits, item-first, item-second, key-fits}
 
 -- and stands there
 pub place-at : (l : List ℕ) (x d : ℕ) → is_member x l ≡ true → slice_index_or l (place_of l x) d ≡ x

@@ -4,6 +4,7 @@ use Rattle.std.proofs.Common.{◌≡◌, ℕ, zero, suc, ◌<◌, ◌⊎◌, ◌
 use Rattle.std.specs.Prelude.{nat_lt, AllPairs}
 use Rattle.std.proofs.lemmas.Bool.{cases_Bool, cases_eq, cases_lt, both_ways, true≢false, or_cases, or_left, or_right, and_parts, and_from, eq-eqb, eqb-true, lt-ltb, ltb-true, false_from_ne_true, not_from_false, not-true}
 use Rattle.pair_split.specs.Tutte.{Node, is_before}
+use Rattle.pair_split.proofs.Elements.{contains-here}
 use Rattle.skeletons.specs.Choices.{choice, Precedes, precedes_below}
 use Rattle.skeletons.specs.Lists.{IsListOf, IsKept}
 use Rattle.skeletons.specs.Laws.{PrecedesIsTested, KeptListIsUnique}
@@ -126,9 +127,6 @@ contains-cases : {X : Type 0} (x : X) (l : List X) (z : X) → Contains (x ∷ l
 contains-cases x l z (zero, h, e) = inl e
 contains-cases x l z (suc k, h, e) = inr (k, omega (arith, h), e)
 
-contains-first : {X : Type 0} (x : X) (l : List X) → Contains (x ∷ l) x
-contains-first x l = (0, omega arith, refl)
-
 contains-behind : {X : Type 0} (x : X) (l : List X) (z : X) → Contains l z → Contains (x ∷ l) z
 contains-behind x l z c = (suc c.0, omega (arith, c.1), c.2)
 
@@ -142,14 +140,14 @@ rest-related L x l a i j d h k = a (suc i) (suc j) d (omega (arith, h)) (omega (
 -- lists that rise by an order of which not both hold, with the same members, are equal
 pub rising-told : {X : Type 0} (L : X → X → Type 0) → ((x y : X) → L x y → L y x → ⊥) → (l m : List X) → AllPairs L l → AllPairs L m → ((z : X) → Contains l z → Contains m z) → ((z : X) → Contains m z → Contains l z) → l ≡ m
 rising-told L strict [] [] a b f h = refl
-rising-told L strict [] (y ∷ m) a b f h = let c = h y (contains-first y m) in absurd (omega (arith, c.1))
-rising-told L strict (x ∷ l) [] a b f h = let c = f x (contains-first x l) in absurd (omega (arith, c.1))
+rising-told L strict [] (y ∷ m) a b f h = let c = h y (contains-here y m) in absurd (omega (arith, c.1))
+rising-told L strict (x ∷ l) [] a b f h = let c = f x (contains-here x l) in absurd (omega (arith, c.1))
 rising-told {X} L strict (x ∷ l) (y ∷ m) a b f h = ap₂ ◌∷◌ one (rising-told L strict l m (rest-related L x l a) (rest-related L y m b) forth back)
   where
     one : x ≡ y
-    one = elim (contains-cases y m x (f x (contains-first x l))) [
+    one = elim (contains-cases y m x (f x (contains-here x l))) [
       | inl e ↦ sym e
-      | inr c ↦ elim (contains-cases x l y (h y (contains-first y m))) [
+      | inr c ↦ elim (contains-cases x l y (h y (contains-here y m))) [
         | inl e ↦ e
         | inr d ↦ absurd (strict x y (first-related L x l a y d) (first-related L y m b x c))
       ]

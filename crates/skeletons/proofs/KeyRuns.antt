@@ -13,7 +13,7 @@ use Rattle.permutations.proofs.NormalForm.{from_least-same, from_least-turn}
 use Rattle.permutations.proofs.Runs.{joined-append, joined-member, joined-key, runs-turn, runs-turned, first-of}
 use Rattle.permutations.proofs.Successor.{successor-cut}
 use Rattle.permutations.proofs.Turned.{IsTurn-refl, IsTurn-sym, IsTurn-map, IsTurn-member, IsTurn-successor}
-use Rattle.faces.proofs.MapLists.{member-map, map-member}
+use Rattle.permutations.proofs.Mapped.{map-member, member-map}
 use Rattle.skeletons.specs.Round.{each_once, keys_met}
 use Rattle.skeletons.specs.Families.{StandInOrder}
 

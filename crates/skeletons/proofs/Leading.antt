@@ -7,6 +7,7 @@ use Rattle.permutations.specs.Cyclic.{from_least}
 use Rattle.permutations.specs.Runs.{group_keys, InRuns}
 use Rattle.permutations.proofs.Arrangements.{permutation-from_members}
 use Rattle.permutations.proofs.NormalForm.{from_least-twice, from_least-distinct, from_least-member}
+use Rattle.permutations.proofs.Places.{told-distinct}
 use Rattle.multigraph.specs.Graph.{Multigraph}
 use Rattle.multigraph.proofs.Places.{rises-once}
 use Rattle.rotations.specs.Rotation.{order_at, IsRotationSystem}
@@ -22,7 +23,6 @@ use Rattle.skeletons.specs.Lists.{IsListOf, IsKept, IsKeptList, IsReached, IsRea
 use Rattle.skeletons.specs.Laws.{MovesNameDifferent, UnlockedListIsFull}
 use Rattle.skeletons.proofs.KeyRuns.{met-runs}
 use Rattle.skeletons.proofs.Before.{before-irreflexive, before-total}
-use Rattle.skeletons.proofs.Rearranged.{distinct-places}
 use Rattle.skeletons.proofs.Vertices.{least-has, bond-keys}
 use Rattle.skeletons.proofs.Moved.{runs-keys, flip-exists, permute-exists, move-others, flip-turns, permute-sets}
 
@@ -97,7 +97,7 @@ module _ (g : Multigraph) (nodes : List Node) (b : IsBlockTree g nodes) where
       keys = ap (λ (kind : Kind). choice_of_kind kind (keys_round nodes r k v)) is.1 ∙ met-runs (group nodes k) (order_at r v) w.0 w.1
 
       arranged : IsPermutation (node_keys nodes k) (from_least (group_keys w.0))
-      arranged = permutation-from_members (node_keys nodes k) (from_least (group_keys w.0)) (distinct-places (node_keys nodes k) (rises-once (node_keys nodes k) (b.tree.in_order.keys_rise k is.0))) (from_least-distinct (group_keys w.0) w.1.once)
+      arranged = permutation-from_members (node_keys nodes k) (from_least (group_keys w.0)) (told-distinct (node_keys nodes k) (rises-once (node_keys nodes k) (b.tree.in_order.keys_rise k is.0))) (from_least-distinct (group_keys w.0) w.1.once)
           (λ x. sym (from_least-member (group_keys w.0) x ∙ runs-keys g nodes b r k v w.0 s (least-has g nodes b k is.0) w.1 x ∙ bond-keys g nodes b k is v x (least-has g nodes b k is.0)))
 
   -- what is to be known of plane rotation systems

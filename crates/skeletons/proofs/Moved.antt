@@ -10,9 +10,10 @@ use Rattle.permutations.proofs.Arrangements.{permutation-member, permutation-fro
 use Rattle.permutations.proofs.NormalForm.{from_least-same, from_least-turn, from_least-distinct, from_least-member}
 use Rattle.permutations.proofs.Relation.{same-tests}
 use Rattle.permutations.proofs.Members.{member-head, member-append_left, distinct-reverse}
-use Rattle.permutations.proofs.Runs.{first-of, runs-turn, runs-turned, runs-mirrored}
+use Rattle.permutations.proofs.Runs.{first-of, runs-turn, runs-turned, runs-mirrored, keys-mirrored}
 use Rattle.permutations.proofs.RunsByKey.{keys-member}
 use Rattle.permutations.proofs.Turned.{IsTurn-refl, IsTurn-reverse, IsTurn-member}
+use Rattle.permutations.proofs.Places.{told-distinct}
 use Rattle.multigraph.specs.Graph.{Multigraph, edge_count, is_end, incident_edges}
 use Rattle.multigraph.proofs.Places.{rises-once}
 use Rattle.rotations.specs.Rotation.{order_at, IsRotationSystem}
@@ -32,7 +33,7 @@ use Rattle.skeletons.specs.Laws.{KeysRoundAreOfItems, FlipExists, PermuteExists,
 use Rattle.skeletons.proofs.NodeItems.{vertex-node, group-at, key-edge, keys-at_distinct}
 use Rattle.skeletons.proofs.Towards.{Toward, toward, key_toward, group-either}
 use Rattle.skeletons.proofs.KeyRuns.{met-runs, met-order, order-met}
-use Rattle.skeletons.proofs.Rearranged.{distinct-places, AreRearranged, reversed-rearranged, regrouped-rearranged, group-with, others-keep, keys-reverse, reversed-exists, regrouped-exists, reversed-once, regrouped-once}
+use Rattle.skeletons.proofs.Rearranged.{AreRearranged, reversed-rearranged, regrouped-rearranged, group-with, others-keep, keys-reverse, reversed-exists, regrouped-exists, reversed-once, regrouped-once}
 use Rattle.skeletons.proofs.Systems.{order-written, same-turns, made, made-order, made-system}
 use Rattle.skeletons.proofs.Vertices.{vertex-in, least-has, greatest-has, poles-differ, bond-vertex, bond-keys}
 
@@ -54,13 +55,6 @@ pub mirror-normal : (keys : List ℕ) → is_distinct keys ≡ true → from_lea
 mirror-normal keys d =
     let t : IsTurn (reverse keys) (reverse (from_least keys)) = IsTurn-reverse keys (from_least keys) (from_least-turn keys) in
     sym (from_least-same (reverse keys) (reverse (from_least keys)) t (distinct-reverse keys d))
-
-mirrored-keys : (gs : List (ℕ × List ℕ)) → group_keys (reverse (map mirrored gs)) ≡ reverse (group_keys gs)
-mirrored-keys gs = keys-reverse (map mirrored gs) ∙ ap reverse (same gs)
-  where
-    same : (gs : List (ℕ × List ℕ)) → group_keys (map mirrored gs) ≡ group_keys gs
-    same [] = refl
-    same (g ∷ gs) = ap (λ (v : List ℕ). g.0 ∷ v) (same gs)
 
 kind-mirror : (kind : Kind) (keys : List ℕ) → choice_of_kind kind (from_least (reverse keys)) ≡ from_least (reverse (choice_of_kind kind keys))
 kind-mirror S keys = refl
@@ -203,7 +197,7 @@ module _ (g : Multigraph) (nodes : List Node) (b : IsBlockTree g nodes) where
       let l : List ℕ = order_at r v in
       ap (keys_met (group nodes k)) (mirror-order r v)
       ∙ met-runs (group nodes k) (from_least (reverse l)) (reverse (map mirrored w.0)) (runs-turned (group nodes k) (reverse l) (from_least (reverse l)) (reverse (map mirrored w.0)) (runs-mirrored (group nodes k) l w.0 w.1) (from_least-turn (reverse l)))
-      ∙ ap from_least (mirrored-keys w.0) ∙ sym (mirror-normal (group_keys w.0) w.1.once) ∙ ap (λ (z : List ℕ). from_least (reverse z)) (sym (met-runs (group nodes k) l w.0 w.1))
+      ∙ ap from_least (keys-mirrored w.0) ∙ sym (mirror-normal (group_keys w.0) w.1.once) ∙ ap (λ (z : List ℕ). from_least (reverse z)) (sym (met-runs (group nodes k) l w.0 w.1))
 
 -- the keys round a vertex are those of the items there
 pub keys-round_items : KeysRoundAreOfItems
@@ -243,7 +237,7 @@ permute-exists g nodes r b s c k is keys p = (
         (permutation-from_members (group_keys (c k v h).0) (node_keys nodes k) (c k v h).1.once keys-once (λ x. runs-keys g nodes b r k v (c k v h).0 s h (c k v h).1 x ∙ bond-keys g nodes b k is v x h)) p
       where
         keys-once : is_distinct (node_keys nodes k) ≡ true
-        keys-once = distinct-places (node_keys nodes k) (rises-once (node_keys nodes k) (b.tree.in_order.keys_rise k is.0))
+        keys-once = told-distinct (node_keys nodes k) (rises-once (node_keys nodes k) (b.tree.in_order.keys_rise k is.0))
 
     each : (v : ℕ) → has_vertex nodes k v ≡ true → (m : List ℕ) × IsPermutation (order_at r v) m × A v m
     each v h =

@@ -19,6 +19,7 @@ use Rattle.pair_split.specs.declared.components.What.{What}
 use Rattle.pair_split.specs.declared.components.What.TheVariants.{Real, Link}
 use Rattle.pair_split.proofs.Groups.{group-some, group-once, group-common, Touched, end-touched, in_group-link}
 use Rattle.pair_split.proofs.LargeSides.{vertex-item}
+use Rattle.pair_split.proofs.NodeParts.{node-pieces, node-piece}
 use Rattle.skeletons.specs.Items.{ends_item, item_key, keys_at, has_vertex}
 
 abbrev pub no_item : Item
@@ -27,20 +28,8 @@ no_item = record { key = 0; a = 0; b = 0; what = Real 0 }
 abbrev pub nth_item : List Item → ℕ → Item
 nth_item items i = slice_index_or items i no_item
 
--- the pieces of component k are those of the items of node k
-pub node-pieces : (nodes : List Node) (k : ℕ) → items_of (components nodes) k ≡ map piece_of (node_at nodes k).items
-node-pieces [] k = refl
-node-pieces (node ∷ nodes) zero = refl
-node-pieces (node ∷ nodes) (suc k) = node-pieces nodes k
-
--- piece i of component k is that of item i of node k
-pub node-piece : (nodes : List Node) (k i : ℕ) → i < length (node_at nodes k).items → item_at (components nodes) k i ≡ piece_of (node_item nodes k i)
-node-piece nodes k i l =
-    ap (λ (pieces : List Piece). slice_index_or pieces i (record { a = 0; b = 0; what = Real 0 })) (node-pieces nodes k)
-    ∙ get_or-map piece_of (node_at nodes k).items i no_item (record { a = 0; b = 0; what = Real 0 }) l
-
 -- the first key is that of an item that passes, where all that pass have this key
-first_key-is : (passes : What → Bool) (items : List Item) (key : ℕ) → ((i : ℕ) → i < length items → passes (nth_item items i).what ≡ true → (nth_item items i).key ≡ key)
+pub first_key-is : (passes : What → Bool) (items : List Item) (key : ℕ) → ((i : ℕ) → i < length items → passes (nth_item items i).what ≡ true → (nth_item items i).key ≡ key)
     → (i : ℕ) → i < length items → passes (nth_item items i).what ≡ true → first_key passes items ≡ key
 first_key-is passes [] key all i l h = absurd (omega (arith, l))
 first_key-is passes (item ∷ items) key all i l h = elim (cases_Bool (passes item.what)) [

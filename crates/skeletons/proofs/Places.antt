@@ -10,12 +10,14 @@ use Rattle.permutations.proofs.Members.{member-cases}
 use Rattle.permutations.proofs.NormalForm.{same-from_least, from_least-turn, from_least-distinct, from_least-member}
 use Rattle.permutations.proofs.Relation.{same-tests}
 use Rattle.permutations.proofs.Turned.{IsTurn-map}
+use Rattle.permutations.proofs.Places.{same-place, told-distinct}
+use Rattle.permutations.proofs.Mapped.{map-member, member-map, distinct-map}
 use Rattle.multigraph.specs.Graph.{Multigraph, numbers_below, edge_count, ends_of, is_end, incident_edges}
 use Rattle.multigraph.proofs.Below.{get_or-numbers_below, length-numbers_below}
 use Rattle.multigraph.proofs.Places.{rises-once}
 use Rattle.rotations.specs.Rotation.{order_at, IsRotationSystem}
 use Rattle.rotations.proofs.Membership.{incident-member, incident-distinct, member-edge, member-end}
-use Rattle.faces.proofs.MapLists.{member-map, map-member, distinct-map, map-back}
+use Rattle.faces.proofs.MapLists.{map-back}
 use Rattle.pair_split.specs.Tutte.{Node, node_at, node_item, group, IsTutte}
 use Rattle.pair_split.specs.declared.components.Item.{Item}
 use Rattle.skeletons.specs.Items.{ends_item, item_key, keys_at, node_keys, has_vertex, IsBlockTree}
@@ -24,7 +26,6 @@ use Rattle.skeletons.specs.Families.{place_of, end_places, skeleton_graph, syste
 use Rattle.skeletons.specs.Laws.{FamilyIsFollowed, ContiguousFollows, FamilyIsUnique}
 use Rattle.skeletons.proofs.NodeItems.{no_item, key-at_from, key-at_item, keys-once, item-vertex, vertex-node}
 use Rattle.skeletons.proofs.KeyRuns.{met-runs, met-order, order-met, order-rewritten}
-use Rattle.skeletons.proofs.Rearranged.{once-places, distinct-places}
 use Rattle.skeletons.proofs.Systems.{same-turns, made, made-order, made-system}
 use Rattle.skeletons.proofs.Moved.{runs-keys}
 use Rattle.skeletons.proofs.Composing.{AreOrders, composed}
@@ -57,7 +58,7 @@ place-holds (y ∷ l) x m = elim (cases_eq y x) [
 pub place-at : (l : List ℕ) (i : ℕ) → is_distinct l ≡ true → i < length l → place_of l (slice_index_or l i 0) ≡ i
 place-at l i d h =
     let m : is_member (slice_index_or l i 0) l ≡ true = member-at l i 0 h in
-    once-places l (place_of l (slice_index_or l i 0)) i d (place-below l (slice_index_or l i 0) m) h (place-holds l (slice_index_or l i 0) m)
+    same-place l (place_of l (slice_index_or l i 0)) i d (place-below l (slice_index_or l i 0) m) h (place-holds l (slice_index_or l i 0) m)
 
 module _ (g : Multigraph) (nodes : List Node) (t : IsTutte g nodes) (k : ℕ) (lk : k < length nodes) where
   abbrev vertices : List ℕ
@@ -73,7 +74,7 @@ module _ (g : Multigraph) (nodes : List Node) (t : IsTutte g nodes) (k : ℕ) (l
   key i = (node_item nodes k i).key
 
   vertices-once : is_distinct vertices ≡ true
-  vertices-once = distinct-places vertices (rises-once vertices (t.in_order.vertices_rise k lk))
+  vertices-once = told-distinct vertices (rises-once vertices (t.in_order.vertices_rise k lk))
 
   number : edge_count skel ≡ length items
   number = length-map items (end_places vertices)
@@ -82,8 +83,8 @@ module _ (g : Multigraph) (nodes : List Node) (t : IsTutte g nodes) (k : ℕ) (l
   skel-ends i l = get_or-map (end_places vertices) items i no_item (0, 0) l
 
   -- vertices are told by their places
-  same-place : (x v : ℕ) → is_member x vertices ≡ true → is_member v vertices ≡ true → (place_of vertices x == place_of vertices v) ≡ (x == v)
-  same-place x v m n = same-tests (place_of vertices x == place_of vertices v) (x == v)
+  same-number : (x v : ℕ) → is_member x vertices ≡ true → is_member v vertices ≡ true → (place_of vertices x == place_of vertices v) ≡ (x == v)
+  same-number x v m n = same-tests (place_of vertices x == place_of vertices v) (x == v)
       (λ h. eq-eqb x v (sym (place-holds vertices x m) ∙ ap (λ z. slice_index_or vertices z 0) (eqb-true (place_of vertices x) (place_of vertices v) h) ∙ place-holds vertices v n))
       (λ h. eq-eqb (place_of vertices x) (place_of vertices v) (ap (place_of vertices) (eqb-true x v h)))
 
@@ -97,7 +98,7 @@ module _ (g : Multigraph) (nodes : List Node) (t : IsTutte g nodes) (k : ℕ) (l
   pub skel-end : (v i : ℕ) → has_vertex nodes k v ≡ true → i < length items → is_end skel (place_of vertices v) i ≡ ends_item v (node_item nodes k i)
   skel-end v i h l =
       ap (λ (e : ℕ × ℕ). (e.0 == place_of vertices v) || (e.1 == place_of vertices v)) (skel-ends i l)
-      ∙ ap₂ (λ (x y : Bool). x || y) (same-place (node_item nodes k i).a v (first-vertex i l) h) (same-place (node_item nodes k i).b v (second-vertex i l) h)
+      ∙ ap₂ (λ (x y : Bool). x || y) (same-number (node_item nodes k i).a v (first-vertex i l) h) (same-number (node_item nodes k i).b v (second-vertex i l) h)
 
   -- an item round a vertex of the skeleton
   pub round-item : (s : List (List ℕ)) (v i : ℕ) → IsRotationSystem skel s → has_vertex nodes k v ≡ true → is_member i (order_at s (place_of vertices v)) ≡ true → (i < length items) × (ends_item v (node_item nodes k i) ≡ true)
@@ -129,7 +130,7 @@ module _ (g : Multigraph) (nodes : List Node) (t : IsTutte g nodes) (k : ℕ) (l
   place x = place_of (node_keys nodes k) x
 
   keys-distinct : is_distinct (node_keys nodes k) ≡ true
-  keys-distinct = distinct-places (node_keys nodes k) (rises-once (node_keys nodes k) (t.in_order.keys_rise k lk))
+  keys-distinct = told-distinct (node_keys nodes k) (rises-once (node_keys nodes k) (t.in_order.keys_rise k lk))
 
   key-is : (i : ℕ) → i < length items → slice_index_or (node_keys nodes k) i 0 ≡ key i
   key-is i l = get_or-map item_key items i no_item 0 l
@@ -270,7 +271,7 @@ family-unique g nodes family other r t f o s a c = same_lists family other (f.ea
     same k l = same-turns (skeleton_graph nodes k) (system_at family k) (system_at other k) (f.systems k l) (o.systems k l) (λ p d.
         let v : ℕ = slice_index_or (node_at nodes k).vertices p 0 in
         let h : has_vertex nodes k v ≡ true = member-at (node_at nodes k).vertices p 0 d in
-        let at : place_of (node_at nodes k).vertices v ≡ p = place-at (node_at nodes k).vertices p (distinct-places (node_at nodes k).vertices (rises-once (node_at nodes k).vertices (t.in_order.vertices_rise k l))) d in
+        let at : place_of (node_at nodes k).vertices v ≡ p = place-at (node_at nodes k).vertices p (told-distinct (node_at nodes k).vertices (rises-once (node_at nodes k).vertices (t.in_order.vertices_rise k l))) d in
         subst (λ z. IsTurn (order_at (system_at family k) z) (order_at (system_at other k) z)) at
         (items-turn g nodes t k l (system_at family k) (system_at other k) v (f.systems k l) (o.systems k l) h
         (same-from_least (keys_in nodes family k v) (keys_in nodes other k v)

@@ -1,6 +1,6 @@
 -- Cyclic orders whose groups stand in another order, each group as it was: what comes of it is determined, and other keys see
 -- nothing of it. (Lemmas on lists alone: they belong to permutations.)
-use Rattle.std.proofs.Common.{◌≡◌, ◌≢◌, ℕ, zero, suc, ◌<◌, ◌≤◌, ◌==◌, inl, inr, true, false, List, [], ◌∷◌, ◌++◌, length, map, filter, reverse, slice_index_or, refl, sym, ap, ◌∙◌, subst, arith, All, IsPermutation}
+use Rattle.std.proofs.Common.{◌≡◌, ◌≢◌, ℕ, ◌<◌, ◌≤◌, ◌==◌, inl, inr, true, false, List, [], ◌∷◌, ◌++◌, length, map, filter, reverse, slice_index_or, refl, sym, ap, ◌∙◌, subst, arith, All, IsPermutation}
 use Rattle.std.proofs.lemmas.Bool.{cases_Bool, cases_lt, both_ways, true≢false, eq-eqb, eqb-true, false_from_ne_true}
 use Rattle.std.proofs.lemmas.List.{get_or-map, get_or_default, length-map, same_lists, length-append, map-append, reverse-append}
 use Rattle.std.proofs.lemmas.List.Elements.{All-nil, All-cons, All-head, All-tail, All-from_get_or, All-get_or}
@@ -8,14 +8,15 @@ use Rattle.std.proofs.lemmas.List.Sorted.{All-permutation, IsPermutation-map, Is
 use Rattle.permutations.specs.Cyclic.{IsTurn}
 use Rattle.permutations.specs.Members.{is_member, is_distinct}
 use Rattle.permutations.specs.Runs.{joined, group_keys, IsGroup, InRuns}
-use Rattle.permutations.proofs.Arrangements.{permutation-member, permutation-distinct, permutation-from_members, member-at}
+use Rattle.permutations.proofs.Arrangements.{permutation-member, permutation-distinct, permutation-from_members}
 use Rattle.permutations.proofs.CyclicSame.{IsTurn-trans}
 use Rattle.permutations.proofs.Filter.{member-filter_parts, filter-member, distinct-filter}
 use Rattle.permutations.proofs.Relation.{same-tests}
-use Rattle.permutations.proofs.Members.{member-head, member-tail, member-cases, no_member-head, no_member-tail, member-append_cases, member-append_left, member-append_right, distinct-head, distinct-tail, distinct-cons, distinct-append, distinct-reverse}
+use Rattle.permutations.proofs.Members.{member-head, member-tail, member-cases, no_member-head, no_member-tail, member-append_cases, member-append_left, member-append_right, distinct-head, distinct-tail, distinct-append, distinct-reverse}
 use Rattle.permutations.proofs.Runs.{first-of, joined-turn, joined-key, other-groups, runs-turn, runs-unique}
 use Rattle.permutations.proofs.RunsByKey.{groups-by_key, keys-member}
 use Rattle.permutations.proofs.Turned.{IsTurn-refl, IsTurn-sym, IsTurn-member, IsTurn-distinct, IsTurn-reverse, IsTurn-length, IsTurn-permutation}
+use Rattle.permutations.proofs.Places.{same-place}
 use Rattle.skeletons.specs.Moves.{AreReversed, AreRegrouped}
 use Rattle.skeletons.specs.Families.{StandInOrder}
 use Rattle.skeletons.proofs.KeyRuns.{order-turned, order-exchanged}
@@ -214,28 +215,6 @@ put-in_order key l keys gs d r p = (
             let i : is_member f.0 w.1.1 ≡ true = ap (is_member f.0) f.2 ∙ member-head f.0 f.1 in
             (f.0, IsTurn-member l whole f.0 r.around ∙ sym (IsTurn-member l (w.1.1 ++ joined (w.2 ++ w.0)) f.0 t.around) ∙ member-append_left f.0 w.1.1 (joined (w.2 ++ w.0)) i, own.same_key f.0 i ∙ w.4)
 
--- places of a list without repetition
-pub once-places : (l : List ℕ) (i j : ℕ) → is_distinct l ≡ true → i < length l → j < length l → slice_index_or l i 0 ≡ slice_index_or l j 0 → i ≡ j
-once-places [] i j d li lj e = absurd (omega (arith, li))
-once-places (x ∷ l) zero zero d li lj e = refl
-once-places (x ∷ l) zero (suc j) d li lj e = absurd (both_ways (is_member x l) (distinct-head x l d) (ap (λ z. is_member z l) e ∙ member-at l j 0 (omega (arith, lj))))
-once-places (x ∷ l) (suc i) zero d li lj e = absurd (both_ways (is_member x l) (distinct-head x l d) (ap (λ z. is_member z l) (sym e) ∙ member-at l i 0 (omega (arith, li))))
-once-places (x ∷ l) (suc i) (suc j) d li lj e = ap suc (once-places l i j (distinct-tail x l d) (omega (arith, li)) (omega (arith, lj)) e)
-
--- the place of a member
-pub member-place : (l : List ℕ) (x : ℕ) → is_member x l ≡ true → (i : ℕ) × (i < length l) × (slice_index_or l i 0 ≡ x)
-member-place [] x m = absurd (true≢false (sym m))
-member-place (y ∷ l) x m = elim (member-cases x y l m) [
-  | inl e ↦ (0, omega arith, e)
-  | inr n ↦ let w = member-place l x n in (suc w.0, omega (arith, w.1), w.2)
-]
-
--- a list told by its places has no repetition
-pub distinct-places : (l : List ℕ) → ((i j : ℕ) → i < length l → j < length l → slice_index_or l i 0 ≡ slice_index_or l j 0 → i ≡ j) → is_distinct l ≡ true
-distinct-places [] h = refl
-distinct-places (x ∷ l) h = distinct-cons x l (false_from_ne_true (is_member x l) (λ m. let w = member-place l x m in let q : 0 ≡ suc w.0 = h 0 (suc w.0) (omega arith) (omega (arith, w.1)) (sym w.2) in omega (arith, q)))
-    (distinct-places l (λ i j li lj e. let q : suc i ≡ suc j = h (suc i) (suc j) (omega (arith, li)) (omega (arith, lj)) e in omega (arith, q)))
-
 -- groups told by their keys: two orders of the same groups with the same keys are one
 told : (gs hs : List (ℕ × List ℕ)) → is_distinct (group_keys gs) ≡ true → IsPermutation gs hs → group_keys gs ≡ group_keys hs → gs ≡ hs
 told gs hs d p e = same_lists gs hs (sym (length_permutation gs hs p)) each
@@ -254,7 +233,7 @@ told gs hs d p e = same_lists gs hs (sym (length_permutation gs hs p)) each
     each i o l =
         let b : i < length hs = omega (arith, l, length_permutation gs hs p) in
         let w = All-get_or (λ (h : ℕ × List ℕ). (i : ℕ) × (i < length gs) × (slice_index_or gs i none ≡ h)) hs i none b found in
-        let same : w.0 ≡ i = once-places (group_keys gs) w.0 i d (in_keys w.0 w.1) (in_keys i l)
+        let same : w.0 ≡ i = same-place (group_keys gs) w.0 i d (in_keys w.0 w.1) (in_keys i l)
         (key-at gs w.0 w.1 ∙ ap (λ (h : ℕ × List ℕ). h.0) w.2 ∙ sym (key-at hs i b) ∙ ap (λ (v : List ℕ). slice_index_or v i 0) (sym e)) in
         get_or_default gs i o none l ∙ ap (λ z. slice_index_or gs z none) (sym same) ∙ w.2 ∙ sym (get_or_default hs i o none b)
       where

@@ -1,24 +1,18 @@
 -- Rotation systems as lists: each order is written from its least edge on, orders tell the system, and any arrangements of the
 -- edges at the vertices make one. (Lemmas on rotation systems alone: they belong to rotations.)
-use Rattle.std.proofs.Common.{◌≡◌, ℕ, ◌<◌, ◌≤◌, true, List, [], ◌∷◌, length, map, slice_index_or, refl, sym, ap, ◌∙◌, subst, IsPermutation}
+use Rattle.std.proofs.Common.{◌≡◌, ℕ, ◌<◌, ◌≤◌, true, List, [], length, map, slice_index_or, sym, ap, ◌∙◌, subst, IsPermutation}
 use Rattle.std.proofs.lemmas.List.{get_or-map, get_or_default, length-map, same_lists}
 use Rattle.permutations.specs.Cyclic.{first_or, IsTurn, from_least}
 use Rattle.permutations.specs.Members.{is_member, is_distinct}
 use Rattle.permutations.proofs.Arrangements.{permutation-member, permutation-distinct, permutation-from_members}
-use Rattle.permutations.proofs.Members.{member-tail}
-use Rattle.permutations.proofs.NormalForm.{from_least-first, from_least-same, from_least-member, from_least-distinct, from_least-first_or, least_or-le}
+use Rattle.permutations.proofs.NormalForm.{from_least-same, from_least-member, from_least-distinct, from_least-first_or, least_or-le, written-first}
 use Rattle.multigraph.specs.Graph.{Multigraph, numbers_below, incident_edges}
 use Rattle.multigraph.proofs.Below.{get_or-numbers_below, length-numbers_below}
 use Rattle.rotations.specs.Rotation.{order_at, IsCyclicOrder, IsRotationSystem}
-use Rattle.rotations.proofs.Membership.{incident-distinct}
+use Rattle.rotations.proofs.Membership.{incident-distinct, incident-least}
 use Rattle.faces.proofs.DartLemmas.{order-distinct}
 use Rattle.faces.proofs.MapLists.{first-same}
-use Rattle.faces.proofs.MapMirror.{incident-least, order-least}
-
--- a cyclic order that begins with its least edge is written as it should be
-pub written-first : (l : List ℕ) → ((e : ℕ) → is_member e l ≡ true → first_or 0 l ≤ e) → from_least l ≡ l
-written-first [] h = refl
-written-first (x ∷ xs) h = from_least-first x xs (λ z m. h z (member-tail z x xs m))
+use Rattle.faces.proofs.MapMirror.{order-least}
 
 -- so are those of a rotation system
 pub order-written : (g : Multigraph) (r : List (List ℕ)) (v : ℕ) → IsRotationSystem g r → v < g.vertex_count → from_least (order_at r v) ≡ order_at r v

@@ -2,10 +2,10 @@
 -- one of the two items; and three edges at a vertex are told apart by some node. (Lemmas on trees alone: they belong to
 -- pair_split.)
 use Rattle.std.proofs.Common.{◌≡◌, ◌≢◌, ℕ, zero, suc, ◌<◌, ◌&&◌, inl, inr, Bool, true, false, List, length, filter, sym, ap, ap₂, ◌∙◌, subst, arith, Contains}
-use Rattle.std.proofs.lemmas.Bool.{cases_Bool, cases_eq, cases_lt, both_ways, and_parts, and_from, and_left, eqb-true, false_from_ne_true, not_from_false, not_from_true}
+use Rattle.std.proofs.lemmas.Bool.{cases_Bool, cases_eq, both_ways, and_parts, and_from, and_left, eqb-true, false_from_ne_true, not_from_false, not_from_true}
 use Rattle.permutations.specs.Count.{count}
 use Rattle.permutations.specs.Relation.{connected}
-use Rattle.permutations.proofs.Count.{count-same}
+use Rattle.permutations.proofs.Count.{count-less}
 use Rattle.permutations.proofs.Relation.{same-tests, connected-symmetric, connected-transitive, connected-link, connected-closed}
 use Rattle.multigraph.specs.Graph.{Multigraph, edge_count, ends_of, is_end}
 use Rattle.pair_split.specs.Skeleton.{is_end_of}
@@ -21,13 +21,6 @@ use Rattle.pair_split.proofs.Subtrees.{link-in}
 use Rattle.pair_split.proofs.TreeSides.{link-from, link-back, beyond-other, beyond-far, beyond-near, beyond-along, beyond-apart, beyond-some}
 use Rattle.skeletons.specs.Items.{ends_item, has_vertex}
 use Rattle.skeletons.proofs.NodeItems.{node-in, comp-in, item-of, stands-of, ends-at, group-is, edge-item, group-item, vertex-node, item-vertex, edge-end, outside-edge}
-
--- what fewer numbers pass
-pub count-less : (n : ℕ) (p q : ℕ → Bool) (y : ℕ) → ((x : ℕ) → x < n → p x ≡ true → q x ≡ true) → y < n → p y ≡ false → q y ≡ true → count n p < count n q
-count-less n p q y s l f h = elim (cases_lt (count n p) (count n q)) [
-  | inl b ↦ b
-  | inr b ↦ absurd (both_ways (p y) f (count-same n p q s b y l ∙ h))
-]
 
 module _ (g : Multigraph) (nodes : List Node) (t : IsTutte g nodes) where
   abbrev comps : List Comp

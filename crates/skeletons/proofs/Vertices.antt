@@ -8,29 +8,24 @@ use Rattle.permutations.specs.Members.{is_member, is_distinct}
 use Rattle.permutations.proofs.Members.{member-head, member-tail, member-cases, member-reverse, distinct-head}
 use Rattle.permutations.proofs.Relation.{same-tests}
 use Rattle.permutations.proofs.Successor.{first_or-append}
+use Rattle.permutations.proofs.Places.{told-distinct}
 use Rattle.multigraph.specs.Graph.{Multigraph}
 use Rattle.multigraph.proofs.OtherEnd.{end-in}
 use Rattle.multigraph.proofs.Places.{rises-once}
 use Rattle.pair_split.specs.Skeleton.{is_end_of, SameEnds, IsBond, IsOfKind}
-use Rattle.pair_split.specs.Split.{component_at, items_of, item_at, piece_ends, skeleton}
+use Rattle.pair_split.specs.Split.{items_of, item_at, piece_ends, skeleton}
 use Rattle.pair_split.specs.Tutte.{Node, components, node_at, node_item, IsTutte}
 use Rattle.pair_split.specs.declared.components.Kind.{Kind}
 use Rattle.pair_split.specs.declared.components.Kind.TheVariants.{P}
 use Rattle.pair_split.specs.declared.components.What.TheVariants.{Real}
 use Rattle.pair_split.specs.declared.components.Item.{Item}
+use Rattle.pair_split.proofs.NodeParts.{node-kind}
 use Rattle.skeletons.specs.Items.{item_key, keys_at, node_keys, has_vertex, least_vertex, greatest_vertex, IsBlockTree}
 use Rattle.skeletons.specs.Moves.{IsNodeOfKind}
 use Rattle.skeletons.proofs.NodeItems.{nth_item, key-at_from, key-at_item, comp-in, piece-in, ends-at, edge-item, vertex-end, item-vertex, item-edge}
-use Rattle.skeletons.proofs.Rearranged.{distinct-places}
-
--- the kind of a component is that of the node
-pub node-kind : (nodes : List Node) (k : ℕ) → (component_at (components nodes) k).kind ≡ (node_at nodes k).kind
-node-kind [] k = refl
-node-kind (node ∷ nodes) zero = refl
-node-kind (node ∷ nodes) (suc k) = node-kind nodes k
 
 -- a list that has a member begins with one, and ends with one
-first-member : (l : List ℕ) (x : ℕ) → is_member x l ≡ true → is_member (first_or 0 l) l ≡ true
+pub first-member : (l : List ℕ) (x : ℕ) → is_member x l ≡ true → is_member (first_or 0 l) l ≡ true
 first-member [] x m = absurd (true≢false (sym m))
 first-member (y ∷ l) x m = member-head y l
 
@@ -105,7 +100,7 @@ module _ (g : Multigraph) (nodes : List Node) (b : IsBlockTree g nodes) where
 
   -- the vertices come once
   pub vertices-once : (k : ℕ) → k < length nodes → is_distinct (node_at nodes k).vertices ≡ true
-  vertices-once k l = distinct-places (node_at nodes k).vertices (rises-once (node_at nodes k).vertices (t.in_order.vertices_rise k l))
+  vertices-once k l = told-distinct (node_at nodes k).vertices (rises-once (node_at nodes k).vertices (t.in_order.vertices_rise k l))
 
   module _ (k : ℕ) (is : IsNodeOfKind nodes k P) where
     bond : IsBond (skeleton (components nodes) k)

@@ -1,5 +1,5 @@
 -- Lists that are given for vertices are a rotation system, one and no other, or have a least bad number.
-use Rattle.std.proofs.Common.{◌≡◌, ℕ, zero, suc, ◌<◌, ◌≤◌, Bool, true, false, ◌&&◌, ◌==◌, ◌⊎◌, List, [], ◌∷◌, length, map, eqb, leb, refl, sym, ap, ◌∙◌, subst, inl, inr, arith}
+use Rattle.std.proofs.Common.{◌≡◌, ℕ, zero, suc, ◌<◌, ◌≤◌, Bool, true, false, ◌&&◌, ◌⊎◌, List, [], ◌∷◌, length, map, eqb, leb, refl, sym, ap, ◌∙◌, subst, inl, inr, arith}
 use Rattle.std.specs.List.{list_all}
 use Rattle.std.specs.List.Sorted.{IsPermutation}
 use Rattle.std.proofs.lemmas.Bool.{cases_Bool, cases_eq, cases_order, eq-eqb, eqb-true, true≢false, le-leb, leb-true}
@@ -160,21 +160,6 @@ arranged_or_bad g entries = elim (arranged_cases g entries g.vertex_count) [
       },
     )
   ]
-]
-
--- not both
-pub arranged-not_bad : (g : Multigraph) (entries : List (ℕ × List ℕ)) (v : ℕ) → AreArranged g entries → IsFirstBad g entries v → ⊥
-arranged-not_bad g entries v a p = elim p.bad [
-  | inl vertex ↦ vertex.1 (a.arranged v vertex.0)
-  | inr stranger ↦ omega (arith, a.vertices v stranger.1)
-]
-
--- there is one first bad number
-pub one-bad : (g : Multigraph) (entries : List (ℕ × List ℕ)) (v w : ℕ) → IsFirstBad g entries v → IsFirstBad g entries w → v ≡ w
-one-bad g entries v w p q = elim (cases_order v w) [
-  | inl same ↦ same
-  | inr (inl less) ↦ absurd (q.none_before v less p.bad)
-  | inr (inr more) ↦ absurd (p.none_before w more q.bad)
 ]
 
 -- ---- the rotation system

@@ -1,11 +1,12 @@
 -- The part that the edges of a block make is one block: the cycles through these edges have no others, and are in the part.
 use Rattle.std.proofs.Common.{◌≡◌, ℕ, ◌<◌, ◌≤◌, inl, inr, true, List, [], ◌∷◌, length, map, slice_index, refl, sym, ap, ◌∙◌, subst, arith, Contains}
-use Rattle.std.proofs.lemmas.Bool.{true≢false, false_from_ne_true, both_ways}
+use Rattle.std.proofs.lemmas.Bool.{false_from_ne_true, both_ways}
 use Rattle.std.proofs.lemmas.List.{get_or_default, length-map}
 use Rattle.std.proofs.lemmas.List.Elements.{Contains-get_or}
 use Rattle.permutations.specs.Members.{is_member, is_distinct}
-use Rattle.permutations.proofs.Members.{member-head, member-tail, member-cases, distinct-head, distinct-tail, distinct-cons}
+use Rattle.permutations.proofs.Members.{member-head, member-tail, distinct-head, distinct-tail, distinct-cons}
 use Rattle.permutations.proofs.Arrangements.{contains-from_member, member-at}
+use Rattle.permutations.proofs.Mapped.{map-member, member-map}
 use Rattle.multigraph.specs.Graph.{Multigraph, edge_count, ends_of, is_end, other_end}
 use Rattle.multigraph.specs.Part.{GraphPart, Rises, IsPart, IsEndOf}
 use Rattle.multigraph.proofs.OtherEnd.{is_end-cases, is_end-from_first, is_end-from_second, other_end-cases, other_end-of_first, other_end-in}
@@ -17,27 +18,11 @@ use Rattle.blocks.specs.Blocks.{block_at, AreBlocks}
 use Rattle.pair_split.specs.Tutte.{Node, IsTutte}
 use Rattle.skeletons.specs.Items.{IsBlockTree}
 
--- a member has its image among the images
-member-map : (f : ℕ → ℕ) (x : ℕ) (xs : List ℕ) → is_member x xs ≡ true → is_member (f x) (map f xs) ≡ true
-member-map f x [] h = absurd (true≢false (sym h))
-member-map f x (y ∷ ys) h = elim (member-cases x y ys h) [
-  | inl e ↦ subst (λ (z : ℕ). is_member (f z) (f y ∷ map f ys) ≡ true) e (member-head (f y) (map f ys))
-  | inr m ↦ member-tail (f x) (f y) (map f ys) (member-map f x ys m)
-]
-
--- what is among the images is the image of a member
-map-member : (f : ℕ → ℕ) (y : ℕ) (xs : List ℕ) → is_member y (map f xs) ≡ true → (x : ℕ) × (is_member x xs ≡ true) × (f x ≡ y)
-map-member f y [] h = absurd (true≢false (sym h))
-map-member f y (x ∷ xs) h = elim (member-cases y (f x) (map f xs) h) [
-  | inl e ↦ (x, member-head x xs, e)
-  | inr m ↦ let w = map-member f y xs m in (w.0, member-tail w.0 x xs w.1, w.2)
-]
-
 -- numbers whose images are different are different
 distinct-from_map : (f : ℕ → ℕ) (xs : List ℕ) → is_distinct (map f xs) ≡ true → is_distinct xs ≡ true
 distinct-from_map f [] h = refl
 distinct-from_map f (x ∷ xs) h =
-    distinct-cons x xs (false_from_ne_true (is_member x xs) (λ m. both_ways (is_member (f x) (map f xs)) (distinct-head (f x) (map f xs) h) (member-map f x xs m)))
+    distinct-cons x xs (false_from_ne_true (is_member x xs) (λ m. both_ways (is_member (f x) (map f xs)) (distinct-head (f x) (map f xs) h) (member-map f xs x m)))
     (distinct-from_map f xs (distinct-tail (f x) (map f xs) h))
 
 -- a walk of some edges has the vertex where it starts as an end of its first
@@ -136,7 +121,7 @@ module _ (g : Multigraph) (edges : List ℕ) (part : GraphPart) (h : IsPart g ed
     where
       on : (i : ℕ) → i < length edges → (r : InnerWalk v es) → is_member (slice_index edges i) es ≡ true → is_member i r.inner ≡ true
       on i li r a =
-          let w = map-member (slice_index edges) (slice_index edges i) r.inner (subst (λ (l : List ℕ). is_member (slice_index edges i) l ≡ true) (sym r.are) a) in
+          let w = map-member (slice_index edges) r.inner (slice_index edges i) (subst (λ (l : List ℕ). is_member (slice_index edges i) l ≡ true) (sym r.are) a) in
           subst (λ (z : ℕ). is_member z r.inner ≡ true) (same-edge w.0 i (in-edges w.0 (walk-edge part.graph v r.inner r.walk w.0 w.1)) li w.2) w.1
 
   -- what is in the same block by cycles along these edges, is so in the part

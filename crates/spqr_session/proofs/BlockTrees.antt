@@ -63,11 +63,3 @@ module _ (g : Multigraph) (blocks : List (List ℕ)) (views : List BlockView) (b
   -- it is there
   pub view-within : b < length views
   view-within = omega (arith, within, are.one_each, length-map views view_tree)
-
-  -- its part is a graph
-  pub view-graph : IsGraph (view_at views b).tree.part.graph
-  view-graph = subst (λ (t : BlockTree). IsGraph t.part.graph) (trees-at views b) (are.each b within).part.numbered.is_graph
-
-  -- and its nodes are the tree of it
-  pub view-nodes : IsTutte (view_at views b).tree.part.graph (view_at views b).tree.nodes
-  view-nodes = subst (λ (t : BlockTree). IsTutte t.part.graph t.nodes) (trees-at views b) (are.each b within).nodes

@@ -1,7 +1,7 @@
 -- The history on a board: a step back, a step forth, and a step more.
-use Rattle.std.proofs.Common.{◌≡◌, ℕ, suc, ◌+◌, ◌≤◌, List, [], ◌∷◌, ◌++◌, length, map, take, drop, reverse, refl, sym, ap, ap₂, ◌∙◌, subst, arith, add-one, All}
+use Rattle.std.proofs.Common.{◌≡◌, ℕ, suc, ◌+◌, ◌≤◌, List, [], ◌∷◌, ◌++◌, length, map, take, drop, reverse, sym, ap, ap₂, ◌∙◌, subst, arith, add-one, All}
 use Rattle.std.proofs.lemmas.List.{take_all, drop_all, reverse-append, length-append, length-take-le}
-use Rattle.std.proofs.lemmas.List.Elements.{All-nil, All-cons, All-take, All-append, All-get_or}
+use Rattle.std.proofs.lemmas.List.Elements.{All-nil, All-cons, All-take, All-append}
 use Rattle.std.proofs.Math.Seq.{take-suc, drop-cons}
 use Rattle.undo_log.specs.History.{History as UndoHistory, Noted, IsStepAt, WentBack, WentOn}
 use Rattle.undo_log.specs.declared.step.Step.{Step}
@@ -9,8 +9,8 @@ use Rattle.spqr_session.specs.Trees.{BlockTree}
 use Rattle.spqr_session.specs.State.{Family}
 use Rattle.spqr_session.specs.Embedded.{BlockView, view_tree}
 use Rattle.spqr_session.specs.History.{walk, IsBetween, redone, undone, steps_before, steps_after, IsStepOf, IsHistory}
-use Rattle.spqr_session.specs.Board.{family_on, IsUndone, IsRedone, board_view, IsBoard}
-use Rattle.spqr_session.proofs.Walks.{step-back, walk-back, step-forth, walk-forth, step-new, walk-new}
+use Rattle.spqr_session.specs.Board.{family_on, board_view, IsBoard}
+use Rattle.spqr_session.proofs.Walks.{step-back, step-forth, step-new, walk-new}
 
 -- a step was added behind those before the cursor, which is behind it
 pub record IsAdded (old new : UndoHistory) (s : Step) : Type 0 where
@@ -31,9 +31,6 @@ dropped-to : (steps : List Step) (c : ℕ) (s : Step) → IsStepAt steps c s →
 dropped-to steps c s h = rw add-one (drop-cons steps c s h.within ∙ ap (λ (x : Step). x ∷ drop (suc c) steps) h.is)
 
 module _ (trees : List BlockTree) where
-  -- a step is one of the blocks
-  pub step-of : (family : Family) (log : UndoHistory) (c : ℕ) (s : Step) → IsHistory trees family log → IsStepAt log.steps c s → IsStepOf trees s
-  step-of family log c s h at = subst (IsStepOf trees) at.is (All-get_or (IsStepOf trees) log.steps c s at.within h.steps)
 
   -- the steps before and behind a cursor that went back
   back-before : (old new : UndoHistory) (s : Step) → WentBack old s new → steps_before old ≡ s ∷ steps_before new
@@ -60,13 +57,6 @@ module _ (trees : List BlockTree) where
           (subst (λ (l : List Step). IsBetween (redone trees) (undone trees) l family (steps_after old)) (back-before old new s w) h.between));
     }
 
-    pub back-nearest : WentBack old s new → walk (undone trees) family (steps_before old) ≡ undone trees s family ∷ walk (undone trees) (undone trees s family) (steps_before new)
-    back-nearest w = ap (walk (undone trees) family) (back-before old new s w)
-
-    pub back-later : WentBack old s new → walk (redone trees) (undone trees s family) (steps_after new) ≡ family ∷ walk (redone trees) family (steps_after old)
-    back-later w = ap (walk (redone trees) (undone trees s family)) (back-after old new s w) ∙ walk-back (redone trees) (undone trees) family s (steps_before new) (steps_after old)
-        (subst (λ (l : List Step). IsBetween (redone trees) (undone trees) l family (steps_after old)) (back-before old new s w) h.between)
-
     -- the cursor goes on
     pub history-on : WentOn old s new → IsHistory trees (redone trees s family) new
     history-on w = record {
@@ -76,13 +66,6 @@ module _ (trees : List BlockTree) where
           (step-forth (redone trees) (undone trees) family s (steps_before old) (steps_after new)
           (subst (λ (l : List Step). IsBetween (redone trees) (undone trees) (steps_before old) family l) (on-after old new s w) h.between));
     }
-
-    pub on-nearest : WentOn old s new → walk (redone trees) family (steps_after old) ≡ redone trees s family ∷ walk (redone trees) (redone trees s family) (steps_after new)
-    on-nearest w = ap (walk (redone trees) family) (on-after old new s w)
-
-    pub on-earlier : WentOn old s new → walk (undone trees) (redone trees s family) (steps_before new) ≡ family ∷ walk (undone trees) family (steps_before old)
-    on-earlier w = ap (walk (undone trees) (redone trees s family)) (on-before old new s w) ∙ walk-forth (redone trees) (undone trees) family s (steps_before old) (steps_after new)
-        (subst (λ (l : List Step). IsBetween (redone trees) (undone trees) (steps_before old) family l) (on-after old new s w) h.between)
 
     -- a step is noted
     noted-long : IsAdded old new s → length (take old.cursor old.steps ++ s ∷ []) ≤ old.cursor + 1
@@ -119,34 +102,8 @@ module _ (views other : List BlockView) (old new : UndoHistory) (s : Step) (t : 
   pub board-back : WentBack old s new → family_on other ≡ undone (map view_tree views) s (family_on views) → IsBoard other new
   board-back w e = rights (subst (λ (f : Family). IsHistory (map view_tree views) f new) (sym e) (history-back (map view_tree views) (family_on views) old new s h w))
 
-  pub board-undone : WentBack old s new → family_on other ≡ undone (map view_tree views) s (family_on views) → IsUndone (board_view views old) (board_view other new)
-  board-undone w e = record {
-    family = family_on other;
-    others = walk (undone (map view_tree other)) (family_on other) (steps_before new);
-    nearest = back-nearest (map view_tree views) (family_on views) old new s h w
-        ∙ ap (λ (f : Family). f ∷ walk (undone (map view_tree views)) f (steps_before new)) (sym e)
-        ∙ ap (λ (l : List BlockTree). family_on other ∷ walk (undone l) (family_on other) (steps_before new)) (sym t);
-    earlier = refl;
-    stands = refl;
-    later = ap (λ (l : List BlockTree). walk (redone l) (family_on other) (steps_after new)) t ∙ ap (λ (f : Family). walk (redone (map view_tree views)) f (steps_after new)) e
-        ∙ back-later (map view_tree views) (family_on views) old new s h w;
-  }
-
   pub board-on : WentOn old s new → family_on other ≡ redone (map view_tree views) s (family_on views) → IsBoard other new
   board-on w e = rights (subst (λ (f : Family). IsHistory (map view_tree views) f new) (sym e) (history-on (map view_tree views) (family_on views) old new s h w))
-
-  pub board-redone : WentOn old s new → family_on other ≡ redone (map view_tree views) s (family_on views) → IsRedone (board_view views old) (board_view other new)
-  board-redone w e = record {
-    family = family_on other;
-    others = walk (redone (map view_tree other)) (family_on other) (steps_after new);
-    nearest = on-nearest (map view_tree views) (family_on views) old new s h w
-        ∙ ap (λ (f : Family). f ∷ walk (redone (map view_tree views)) f (steps_after new)) (sym e)
-        ∙ ap (λ (l : List BlockTree). family_on other ∷ walk (redone l) (family_on other) (steps_after new)) (sym t);
-    later = refl;
-    stands = refl;
-    earlier = ap (λ (l : List BlockTree). walk (undone l) (family_on other) (steps_before new)) t ∙ ap (λ (f : Family). walk (undone (map view_tree views)) f (steps_before new)) e
-        ∙ on-earlier (map view_tree views) (family_on views) old new s h w;
-  }
 
   module _ (w : IsAdded old new s) (is : IsStepOf (map view_tree views) s) (b : undone (map view_tree views) s (family_on other) ≡ family_on views) (f : redone (map view_tree views) s (family_on views) ≡ family_on other) where
     pub board-noted : IsBoard other new

@@ -2,13 +2,14 @@
 use Rattle.std.proofs.Common.{◌≡◌, ℕ, ◌≤◌, List, [], ◌∷◌, inl, inr, refl, sym, ap, ◌∙◌, arith}
 use Rattle.multigraph.specs.Graph.{Multigraph}
 use Rattle.rotations.specs.Given.{IsFirstBad}
+use Rattle.rotations.proofs.FirstBad.{bad-one, bad-none}
 use Rattle.spqr_script.specs.Answers.Euler.{euler_text}
 use Rattle.spqr_session.specs.State.{State}
 use Rattle.spqr_session.specs.Codes.{code_number, code_numbers, code_text}
 use Rattle.spqr_session.specs.Commands.Euler.{EulerApplies, EulerDoes, EulerStep, IsGiven, euler_numbers}
 use Rattle.spqr_session.specs.declared.code.Code.{Code}
 use Rattle.spqr_session.specs.declared.code.Code.TheVariants.{NoBlock, NoNode, WrongKind, BadOrder, NonPlanar, BadRotation, NotGenusZero, NothingToUndo, NothingToRedo, CountOver, RankOut, Locked}
-use Rattle.spqr_session.proofs.Arranging.{arranged_or_bad, arranged-not_bad, one-bad, given-exists, given-one}
+use Rattle.spqr_session.proofs.Arranging.{arranged_or_bad, given-exists, given-one}
 use Rattle.spqr_session.proofs.Carried.{TellsOne, DoesOne, carries-one}
 
 module _ (g : Multigraph) (entries : List (ℕ × List ℕ)) where
@@ -34,7 +35,7 @@ module _ (g : Multigraph) (entries : List (ℕ × List ℕ)) where
   none-applies r is WrongKind a = a
   none-applies r is BadOrder a = a
   none-applies r is NonPlanar a = a
-  none-applies r is (BadRotation v) a = arranged-not_bad g entries v is.arranged a
+  none-applies r is (BadRotation v) a = bad-none g entries v is.arranged a
   none-applies r is (NotGenusZero x y z) a = a
   none-applies r is NothingToUndo a = a
   none-applies r is NothingToRedo a = a
@@ -76,7 +77,7 @@ module _ (g : Multigraph) (entries : List (ℕ × List ℕ)) where
   euler-tells k l a b e =
       let p = bad-of k a in
       let q = bad-of l b in
-      ap code_numbers p.2 ∙ ap (λ (n : ℕ). n ∷ []) (one-bad g entries p.0 q.0 p.1 q.1) ∙ sym (ap code_numbers q.2)
+      ap code_numbers p.2 ∙ ap (λ (n : ℕ). n ∷ []) (bad-one g entries p.0 q.0 p.1 q.1) ∙ sym (ap code_numbers q.2)
 
   euler-does : (before : State) → DoesOne (EulerDoes g entries) before
   euler-does before s t after other p q =

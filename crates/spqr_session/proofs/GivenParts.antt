@@ -11,6 +11,7 @@ use Rattle.permutations.specs.Cyclic.{first_or, turned}
 use Rattle.permutations.proofs.Search.{some-from, some-witness, some-none, least-passes, least-before}
 use Rattle.permutations.proofs.Members.{member-head}
 use Rattle.permutations.proofs.Turned.{turned-head, turned-permutation}
+use Rattle.permutations.proofs.Mapped.{distinct-map}
 use Rattle.multigraph.specs.Graph.{incident_edges, numbers_below}
 use Rattle.multigraph.specs.Part.{GraphPart, IsNumbered}
 use Rattle.multigraph.proofs.Below.{length-numbers_below, get_or-numbers_below}
@@ -21,7 +22,6 @@ use Rattle.rotations.specs.Rotation.{order_at, IsCyclicOrder}
 use Rattle.rotations.specs.PartLists.{outer_edges, outer_list, outer_order, ArrangePart, IsBadInPart, IsFirstBadInPart}
 use Rattle.rotations.proofs.Membership.{incident-distinct, member-edge}
 use Rattle.rotations.proofs.Arrangements.{permutation-member}
-use Rattle.faces.proofs.MapLists.{distinct-map}
 use Rattle.skel_embed.specs.Taken.{IsGiven}
 use Rattle.spqr_session.specs.Commands.Permute.{is_arrangement, inner_edges}
 use Rattle.spqr_session.proofs.Arranging.{arranged-passes, passes-arranged}

@@ -19,6 +19,7 @@ use Rattle.skeletons.specs.Moves.{AreReversed, AreRegrouped}
 use Rattle.skeletons.specs.Round.{keys_met}
 use Rattle.skeletons.proofs.KeyRuns.{met-runs}
 use Rattle.skeletons.proofs.Rearranged.{keys-reverse}
+use Rattle.skeletons.proofs.Vertices.{first-member}
 use Rattle.spqr_session.specs.Moved.{group_round, in_groups}
 
 -- on the way round from a member with another key the first group is met whole
@@ -48,11 +49,6 @@ met-whole key l g gs y d r m n =
 
     apart : (x : ℕ) → is_member x (c.front ++ y ∷ c.back) ≡ true → p x ≡ false
     apart x i = ne_eqb (key x) g.0 (other-groups key g gs x r.once r.groups (ap (is_member x) c.is ∙ i))
-
--- the first of a list with a member is one
-first-member : (l : List ℕ) (z : ℕ) → is_member z l ≡ true → is_member (first_or 0 l) l ≡ true
-first-member [] z m = absurd (true≢false (sym m))
-first-member (x ∷ l) z m = member-head x l
 
 -- of two groups at least the first is met whole
 first-whole : (key : ℕ → ℕ) (l : List ℕ) (g : ℕ × List ℕ) (gs : List (ℕ × List ℕ)) → is_distinct l ≡ true → InRuns key l (g ∷ gs) → 0 < length gs → group_round key l g.0 ≡ g.1

@@ -11,12 +11,12 @@ use Rattle.permutations.specs.Count.{some, least}
 use Rattle.permutations.specs.Members.{is_distinct}
 use Rattle.permutations.proofs.Arrangements.{all-member, permutation-distinct}
 use Rattle.permutations.proofs.Search.{least-is, least-none, least-passes, none-some}
-use Rattle.faces.proofs.MapLists.{distinct-map}
+use Rattle.permutations.proofs.Places.{told-distinct}
+use Rattle.permutations.proofs.Mapped.{distinct-map}
 use Rattle.kuratowski.proofs.Sorting.{sorted-risen}
 use Rattle.multigraph.specs.Part.{Rises, IsNumbered, IsPlace}
 use Rattle.multigraph.proofs.Places.{rises-once}
-use Rattle.skeletons.proofs.Rearranged.{distinct-places}
-use Rattle.tree_unique.proofs.Rising.{HasAll, rises-same}
+use Rattle.graph_theory.proofs.Rising.{HasAll, rises-same}
 use Rattle.spqr_session.specs.Trees.{BlockTree}
 use Rattle.spqr_session.specs.Commands.Permute.{is_arrangement, outer_edges, inner_edges}
 use Rattle.spqr_session.proofs.Arranging.{arranged-passes, passes-arranged}
@@ -62,7 +62,7 @@ sorted-arranged own keys sorted p e = subst (λ (l : List ℕ). IsPermutation l 
 -- and an arrangement of rising ones is these when sorted
 pub arranged-sorted : (own keys sorted : List ℕ) → Rises own → IsPermutation keys sorted → IsSorted nat_cmp sorted → IsPermutation own keys → own ≡ sorted
 arranged-sorted own keys sorted r p s q =
-    let risen = sorted-risen keys sorted (permutation-distinct own keys q (distinct-places own (rises-once own r))) p s in
+    let risen = sorted-risen keys sorted (permutation-distinct own keys q (told-distinct own (rises-once own r))) p s in
     let a = IsPermutation-trans own keys sorted q p in
     rises-same own sorted r risen.rises (all-there own sorted a) (all-there sorted own (IsPermutation-sym own sorted a))
 

@@ -7,7 +7,7 @@ use Rattle.multigraph.specs.Part.{GraphPart, IsPart}
 use Rattle.multigraph.proofs.Places.{rises-once}
 use Rattle.blocks.specs.Blocks.{AreBlocks, block_at}
 use Rattle.pair_split.specs.Tutte.{IsTutte}
-use Rattle.tree_unique.proofs.Rising.{HasAll, rises-same}
+use Rattle.graph_theory.proofs.Rising.{HasAll, rises-same}
 use Rattle.tree_unique.proofs.SameTrees.{trees-equal}
 use Rattle.spqr_session.specs.Trees.{BlockTree, no_tree, tree_at, IsBlockTree, AreBlockTrees}
 use Rattle.spqr_session.proofs.BlockParts.{part-one_block}

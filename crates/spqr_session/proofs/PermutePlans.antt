@@ -3,6 +3,7 @@ use Rattle.std.proofs.Common.{◌≡◌, ℕ, ◌<◌, Bool, true, false, not, L
 use Rattle.std.specs.Prelude.{◌↔◌, IsTrue}
 use Rattle.std.proofs.lemmas.Bool.{both_ways, lt-ltb}
 use Rattle.permutations.specs.Members.{is_distinct}
+use Rattle.permutations.proofs.Places.{told-distinct}
 use Rattle.multigraph.specs.Part.{Rises, IsNumbered}
 use Rattle.multigraph.proofs.Places.{rises-once}
 use Rattle.pair_split.specs.Tutte.{node_at}
@@ -10,7 +11,6 @@ use Rattle.pair_split.specs.declared.components.Kind.{Kind}
 use Rattle.pair_split.specs.declared.components.Kind.TheVariants.{P}
 use Rattle.skeletons.specs.Items.{node_keys, IsBlockTree}
 use Rattle.skeletons.specs.Moves.{permute, MoveLeads}
-use Rattle.skeletons.proofs.Rearranged.{distinct-places}
 use Rattle.skel_embed.specs.Block.{BlockState}
 use Rattle.skel_embed.specs.declared.planes.Outcome.{Outcome}
 use Rattle.spqr_session.specs.State.{Embedding}
@@ -51,7 +51,7 @@ module _ (v : BlockView) (k : ℕ) (numbered : IsNumbered v.tree.part) (t : IsBl
   own-rises = t.tree.in_order.keys_rise k l
 
   own-once : is_distinct own ≡ true
-  own-once = distinct-places own (rises-once own own-rises)
+  own-once = told-distinct own (rises-once own own-rises)
 
   own-within : All (λ x. x < length v.tree.part.edges) own
   own-within = keys-within v.tree (length v.tree.part.edges) (node_at v.tree.nodes k).items (sym numbered.edge_each) (node-of_part v.tree.part v.tree.nodes k t.graph t.tree l).items

@@ -1,5 +1,5 @@
 -- Plans of commands that change a block: how they are found, and what comes of them.
-use Rattle.std.proofs.Common.{◌≡◌, ◌≢◌, ℕ, zero, suc, ◌<◌, ◌≤◌, Bool, true, false, not, List, [], ◌∷◌, ◌++◌, length, map, set, slice_index_or, Option, None, Some, Result, Ok, Err, IfOk, OnErr, refl, sym, ap, ◌∙◌, subst, arith}
+use Rattle.std.proofs.Common.{◌≡◌, ◌≢◌, ℕ, zero, suc, ◌<◌, Bool, true, false, not, List, [], ◌∷◌, ◌++◌, length, map, set, slice_index_or, Option, None, Some, Result, Ok, Err, IfOk, OnErr, refl, sym, ap, ◌∙◌, subst, arith}
 use Rattle.std.specs.Global.{Vec}
 use Rattle.std.proofs.lemmas.List.{length-map, map-set}
 use Rattle.std.proofs.Math.Seq.{map-set_same}
@@ -22,8 +22,8 @@ use Rattle.spqr_session.specs.declared.planned.Planned.{Planned}
 use Rattle.spqr_session.specs.declared.planned.Planned.TheVariants.{Refused, End, Change}
 use Rattle.spqr_session.proofs.Views.{trees-at, certificates-at, entries-at}
 use Rattle.spqr_session.proofs.Steps.{text-map}
-use Rattle.spqr_session.proofs.Ladders.{rung-hit, rung-missed, refused-first, carried-out}
-use Rattle.spqr_session.proofs.BlockCarried.{block-in, block-out}
+use Rattle.spqr_session.proofs.Ladders.{rung-missed, refused-first, carried-out}
+use Rattle.spqr_session.proofs.BlockCarried.{block-in}
 
 -- ---- from the block to the blocks
 
@@ -34,11 +34,6 @@ present-at views s b e = ap (λ (f : Family). entry_at f b) e ∙ entries-at vie
 module _ (codes : BlockTree → Option Embedding → Ladder) (IsChange : BlockTree → Embedding → Embedding → Type 0) (views : List BlockView) (b : ℕ) (s : State) (present : s.present ≡ family_on views) where
   abbrev whole : Ladder
   whole = (NoBlock, not (is_block (map view_tree views) b)) ∷ codes (tree_at (map view_tree views) b) (entry_at s.present b)
-
-  -- there is no such block
-  pub plan-missed : length views ≤ b → IsPlanAt whole IsChange views b (Refused NoBlock)
-  plan-missed l = rung-hit NoBlock (not (is_block (map view_tree views) b)) (codes (tree_at (map view_tree views) b) (entry_at s.present b))
-      (block-out (map view_tree views) b (let m : length (map view_tree views) ≤ b = omega (arith, l, length-map views view_tree) in m))
 
   -- the block that is found at its place
   pub plan-found : (v : BlockView) (planned : Planned) → b < length views → v ≡ view_at views b → IsPlan (codes v.tree v.entry) IsChange v planned → IsPlanAt whole IsChange views b planned

@@ -11,7 +11,8 @@ use Rattle.pair_split.specs.Tutte.{is_before}
 use Rattle.skeletons.specs.Items as items
 use Rattle.skeletons.specs.Choices.{choice}
 use Rattle.skeletons.specs.Moves.{is_same}
-use Rattle.skeletons.proofs.Before.{before-irreflexive, before-total}
+use Rattle.skeletons.proofs.Before.{before-total}
+use Rattle.skeletons.proofs.Leading.{is-same}
 use Rattle.skel_embed.specs.Block.{lock_at}
 use Rattle.skel_embed.specs.Taken.{IsGiven, IsNotPlane}
 use Rattle.skel_embed.proofs.Spheres.{one-component, plane-from_two}
@@ -24,14 +25,6 @@ use Rattle.spqr_session.specs.declared.code.Code.{Code}
 use Rattle.spqr_session.specs.declared.code.Code.TheVariants.{NoBlock, NoNode, WrongKind, BadOrder, NonPlanar, BadRotation, NotGenusZero, NothingToUndo, NothingToRedo, CountOver, RankOut, Locked}
 use Rattle.spqr_session.proofs.Changes.{embedding-same}
 use Rattle.spqr_session.proofs.GivenParts.{one-bad, arranged-not_bad, arranged_or_bad, given-exists, given-one}
-
--- the test of choices is exact
-same-passes : (c d : List ℕ) → c ≡ d → is_same c d ≡ true
-same-passes c d e = subst (λ (x : List ℕ). is_same c x ≡ true) e
-    (and_from (not (is_before c c)) (not (is_before c c)) (not_from_false (is_before c c) (before c)) (not_from_false (is_before c c) (before c)))
-  where
-    before : (l : List ℕ) → is_before l l ≡ false
-    before l = false_from_ne_true (is_before l l) (before-irreflexive l)
 
 passes-same : (c d : List ℕ) → is_same c d ≡ true → c ≡ d
 passes-same c d h =
@@ -170,7 +163,7 @@ module _ (entries : List (ℕ × List ℕ)) (tree : BlockTree) (numbered : IsNum
             within = least-below (length tree.nodes) (is_other e r) t;
             locked = both.0;
             other = λ q. both_ways (not (is_same (choice tree.nodes r k) (choice tree.nodes e.rotation k)))
-                (not_from_true (is_same (choice tree.nodes r k) (choice tree.nodes e.rotation k)) (same-passes (choice tree.nodes r k) (choice tree.nodes e.rotation k) q)) both.1;
+                (not_from_true (is_same (choice tree.nodes r k) (choice tree.nodes e.rotation k)) (is-same (choice tree.nodes r k) (choice tree.nodes e.rotation k) q)) both.1;
             none_before = λ j l on. same-choice e r j (least-before (length tree.nodes) (is_other e r) j l) on;
           },
         )

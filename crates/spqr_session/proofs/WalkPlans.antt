@@ -21,7 +21,7 @@ use Rattle.spqr_session.specs.declared.planned.Planned.{Planned}
 use Rattle.spqr_session.specs.declared.planned.Planned.TheVariants.{Refused, End, Change}
 use Rattle.spqr_session.proofs.Views.{trees-at, entries-at}
 use Rattle.spqr_session.proofs.Ladders.{rung-hit, rung-missed, refused-first, carried-out}
-use Rattle.spqr_session.proofs.BlockCarried.{block-in, block-out}
+use Rattle.spqr_session.proofs.BlockCarried.{block-in}
 use Rattle.spqr_session.proofs.Plans.{present-at, changed-seen}
 use Rattle.spqr_session.proofs.Planes.{seen_embedding, SeenPlane, same-list, its-list, own-list, not-over, over}
 use Rattle.spqr_session.proofs.MovePlans.{planar-missed, entry-own}
@@ -79,9 +79,6 @@ module _ (v : BlockView) (p : BlockState) (seen : SeenPlane v p) where
 module _ (views : List BlockView) (b : ℕ) (s : State) (present : s.present ≡ family_on views) where
   abbrev whole : Ladder
   whole = block_ladder (map view_tree views) b s
-
-  pub next-missed : length views ≤ b → IsNextPlanAt whole views b (Refused NoBlock)
-  next-missed l = rung-hit NoBlock (not (is_block (map view_tree views) b)) (planar_codes (entry_at s.present b)) (block-out (map view_tree views) b (let m : length (map view_tree views) ≤ b = omega (arith, l, length-map views view_tree) in m))
 
   pub next-found : (v : BlockView) (planned : Planned) → b < length views → v ≡ view_at views b → IsNextPlan v planned → IsNextPlanAt whole views b planned
   next-found v planned l at p = by planned (subst (λ (x : BlockView). IsNextPlan x planned) at p)

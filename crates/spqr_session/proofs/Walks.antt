@@ -7,23 +7,13 @@ module _ {S F : Type 0} (forth back : S → F → F) where
   step-returns : (move other : S → F → F) (f : F) (s : S) (behind ahead : List S) → Returns move other f (s ∷ ahead) → Returns other move f behind → Returns other move (move s f) (s ∷ behind)
   step-returns move other f s behind ahead r h = (ap (move s) r.0, subst (λ (z : F). Returns other move z behind) (sym r.0) h)
 
-  -- and then stands first behind where one came from
-  walk-step : (move other : S → F → F) (f : F) (s : S) (behind : List S) → other s (move s f) ≡ f → walk other (move s f) (s ∷ behind) ≡ f ∷ walk other f behind
-  walk-step move other f s behind e = ap (λ (z : F). z ∷ walk other z behind) e
-
   -- a step back
   pub step-back : (f : F) (s : S) (before after : List S) → IsBetween forth back (s ∷ before) f after → IsBetween forth back before (back s f) (s ∷ after)
   step-back f s before after h = record { before_returns = h.before_returns.1; after_returns = step-returns back forth f s after before h.before_returns h.after_returns }
 
-  pub walk-back : (f : F) (s : S) (before after : List S) → IsBetween forth back (s ∷ before) f after → walk forth (back s f) (s ∷ after) ≡ f ∷ walk forth f after
-  walk-back f s before after h = walk-step back forth f s after h.before_returns.0
-
   -- a step forth
   pub step-forth : (f : F) (s : S) (before after : List S) → IsBetween forth back before f (s ∷ after) → IsBetween forth back (s ∷ before) (forth s f) after
   step-forth f s before after h = record { before_returns = step-returns forth back f s before after h.after_returns h.before_returns; after_returns = h.after_returns.1 }
-
-  pub walk-forth : (f : F) (s : S) (before after : List S) → IsBetween forth back before f (s ∷ after) → walk back (forth s f) (s ∷ before) ≡ f ∷ walk back f before
-  walk-forth f s before after h = walk-step forth back f s before h.after_returns.0
 
   -- a change from f to another one, with nothing behind it any more
   pub step-new : (f new : F) (s : S) (before after : List S) → IsBetween forth back before f after → back s new ≡ f → forth s f ≡ new → IsBetween forth back (s ∷ before) new []

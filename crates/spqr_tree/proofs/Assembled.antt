@@ -1,10 +1,11 @@
 -- The nodes made of components in their order are the tree.
-use Rattle.std.proofs.Common.{◌≡◌, ℕ, zero, suc, ◌+◌, ◌<◌, ◌≤◌, ◌==◌, ◌||◌, ◌&&◌, nat_lt, not, inl, inr, Bool, true, List, [], ◌∷◌, length, map, slice_index_or, ◌-◌, refl, sym, ap, ◌∙◌, subst, arith}
+use Rattle.std.proofs.Common.{◌≡◌, ℕ, zero, suc, ◌+◌, ◌<◌, ◌≤◌, nat_lt, not, inl, inr, Bool, true, List, [], length, map, slice_index_or, ◌-◌, refl, sym, ap, ◌∙◌, subst, arith}
 use Rattle.std.proofs.Math.ListN.{get_or-map}
-use Rattle.std.proofs.lemmas.Bool.{cases_lt, or_cases, or_left, or_right, and_parts, and_from, eq-eqb, eqb-true, lt-ltb, ltb-true, le-ltb, true≢false}
+use Rattle.std.proofs.lemmas.Bool.{cases_lt, lt-ltb, le-ltb}
 use Rattle.std.proofs.lemmas.List.{length-map, get_or_past}
 use Rattle.permutations.specs.Members.{is_member}
 use Rattle.permutations.proofs.Search.{least-ext}
+use Rattle.skeletons.proofs.Before.{before-transitive}
 use Rattle.multigraph.specs.Graph.{Multigraph, edge_count}
 use Rattle.multigraph.specs.Part.{Rises}
 use Rattle.pair_split.specs.Skeleton.{is_end_of, is_vertex}
@@ -29,36 +30,12 @@ use Rattle.spqr_tree.proofs.RearrangedSplit.{rearranged-split}
 use Rattle.spqr_tree.proofs.KeysDiffer.{key_in}
 use Rattle.spqr_tree.proofs.SameCounts.{vertex-counted, HaveSamePieces, same-link_to, same-side}
 
--- the order of lists is transitive
-pub before-trans : (xs ys zs : List ℕ) → is_before xs ys ≡ true → is_before ys zs ≡ true → is_before xs zs ≡ true
-before-trans xs [] zs a b = absurd (none xs a)
-  where
-    none : (l : List ℕ) → is_before l [] ≡ true → ⊥
-    none [] h = true≢false (sym h)
-    none (x ∷ l) h = true≢false (sym h)
-before-trans [] (y ∷ ys) [] a b = b
-before-trans [] (y ∷ ys) (z ∷ zs) a b = refl
-before-trans (x ∷ xs) (y ∷ ys) [] a b = b
-before-trans (x ∷ xs) (y ∷ ys) (z ∷ zs) a b = elim (or_cases (nat_lt x y) ((x == y) && is_before xs ys) a) [
-  | inl l ↦ elim (or_cases (nat_lt y z) ((y == z) && is_before ys zs) b) [
-    | inl m ↦ less (omega (arith, ltb-true x y l, ltb-true y z m))
-    | inr m ↦ let e : y ≡ z = eqb-true y z (and_parts (y == z) (is_before ys zs) m).0 in less (omega (arith, ltb-true x y l, e))
-  ]
-  | inr l ↦ let p = and_parts (x == y) (is_before xs ys) l in let q : x ≡ y = eqb-true x y p.0 in elim (or_cases (nat_lt y z) ((y == z) && is_before ys zs) b) [
-    | inl m ↦ less (omega (arith, q, ltb-true y z m))
-    | inr m ↦ let r = and_parts (y == z) (is_before ys zs) m in or_right (nat_lt x z) ((x == z) && is_before xs zs) (and_from (x == z) (is_before xs zs) (eq-eqb x z (q ∙ eqb-true y z r.0)) (before-trans xs ys zs p.1 r.1))
-  ]
-]
-  where
-    less : x < z → (nat_lt x z || ((x == z) && is_before xs zs)) ≡ true
-    less l = or_left (nat_lt x z) ((x == z) && is_before xs zs) (lt-ltb x z l)
-
 -- lists that rise from each to the next
 before-chain : (f : ℕ → List ℕ) (n : ℕ) → ((k : ℕ) → k + 1 < n → is_before (f k) (f (k + 1)) ≡ true) → (k d : ℕ) → k + suc d < n → is_before (f k) (f (k + suc d)) ≡ true
 before-chain f n h k zero l = subst (λ z. is_before (f k) (f z) ≡ true) (omega arith) (h k (omega (arith, l)))
 before-chain f n h k (suc d) l =
     let e : k + suc d + 1 ≡ k + suc (suc d) = omega arith in
-    subst (λ z. is_before (f k) (f z) ≡ true) e (before-trans (f k) (f (k + suc d)) (f (k + suc d + 1)) (before-chain f n h k d (omega (arith, l))) (h (k + suc d) (omega (arith, l))))
+    subst (λ z. is_before (f k) (f z) ≡ true) e (before-transitive (f k) (f (k + suc d)) (f (k + suc d + 1)) (before-chain f n h k d (omega (arith, l))) (h (k + suc d) (omega (arith, l))))
 
 -- a piece turned nowhere
 redirect-none : (p : Piece) (w : What) → p.what ≡ w → redirect (λ x. x) p ≡ p

@@ -1,30 +1,13 @@
 -- The children of a component: where the links of its pieces lead, but for the parent; and places in lists without repetition.
-use Rattle.std.proofs.Common.{◌≡◌, ◌≢◌, ℕ, zero, suc, ◌+◌, ◌<◌, inl, inr, Bool, true, cond, List, [], ◌∷◌, ◌++◌, length, take, slice_index_or, refl, sym, ap, ◌∙◌, subst, arith}
-use Rattle.std.proofs.lemmas.Bool.{cases_eq, both_ways, true≢false, false_from_ne_true, eq-eqb, ne_eqb}
+use Rattle.std.proofs.Common.{◌≡◌, ◌≢◌, ℕ, zero, suc, ◌+◌, ◌<◌, inl, inr, Bool, true, cond, List, [], ◌∷◌, ◌++◌, length, take, refl, sym, ap, ◌∙◌, arith}
+use Rattle.std.proofs.lemmas.Bool.{cases_eq, true≢false, false_from_ne_true, eq-eqb, ne_eqb}
 use Rattle.std.proofs.lemmas.List.{append-nil, append_assoc, take_more}
 use Rattle.permutations.specs.Members.{is_member, is_distinct}
-use Rattle.permutations.proofs.Members.{member-head, member-cases, member-append_left, member-append_right, member-append_cases, distinct-append, distinct-head, distinct-tail}
-use Rattle.permutations.proofs.Arrangements.{member-at}
+use Rattle.permutations.proofs.Members.{member-head, member-cases, member-append_left, member-append_right, member-append_cases, distinct-append}
 use Rattle.pair_split.specs.declared.components.What.{What}
 use Rattle.pair_split.specs.declared.components.What.TheVariants.{Real, Link}
 use Rattle.pair_split.specs.declared.components.Piece.{Piece}
 use Rattle.spqr_tree.specs.Keys.{piece_at, child, children}
-
--- the place of a member
-pub member-place : (l : List ℕ) (x : ℕ) → is_member x l ≡ true → (q : ℕ) × (q < length l) × (slice_index_or l q 0 ≡ x)
-member-place [] x m = absurd (true≢false (sym m))
-member-place (y ∷ l) x m = elim (member-cases x y l m) [
-  | inl e ↦ (0, omega arith, e)
-  | inr k ↦ let w = member-place l x k in (suc w.0, omega (arith, w.1), w.2)
-]
-
--- it is the only one
-pub place-once : (l : List ℕ) (h i : ℕ) → is_distinct l ≡ true → h < length l → i < length l → slice_index_or l h 0 ≡ slice_index_or l i 0 → h ≡ i
-place-once [] h i d a b e = absurd (omega (arith, a))
-place-once (y ∷ l) zero zero d a b e = refl
-place-once (y ∷ l) zero (suc i) d a b e = absurd (both_ways (is_member y l) (distinct-head y l d) (subst (λ z. is_member z l ≡ true) (sym e) (member-at l i 0 (omega (arith, b)))))
-place-once (y ∷ l) (suc h) zero d a b e = absurd (both_ways (is_member y l) (distinct-head y l d) (subst (λ z. is_member z l ≡ true) e (member-at l h 0 (omega (arith, a)))))
-place-once (y ∷ l) (suc h) (suc i) d a b e = omega (arith, place-once l h i (distinct-tail y l d) (omega (arith, a)) (omega (arith, b)) e)
 
 -- the link to the parent leads to no child, another link leads to one
 child-skip : (p j : ℕ) → j ≡ p → child p (Link j) ≡ []

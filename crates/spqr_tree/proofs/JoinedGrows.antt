@@ -15,7 +15,7 @@ use Rattle.pair_split.proofs.Links.{no_piece}
 use Rattle.spqr_tree.specs.Merged.{how_many, is_outer, IsGroup}
 use Rattle.spqr_tree.proofs.MergeCounts.{number-from, number-some, number-map, number-ext, number-within, number-only, number-parts, number-once, sum-changed, share, gathered-once, gathered-some, Gathered}
 use Rattle.pair_split.proofs.TreeSides.{link-differs, link-from, beyond-far}
-use Rattle.spqr_tree.proofs.MergeSides.{beyond-respects}
+use Rattle.pair_split.proofs.LinkSides.{beyond-respects}
 use Rattle.spqr_tree.proofs.MergeTouch.{ends-same, touches, side-opposite}
 use Rattle.spqr_tree.proofs.JoinedBonds.{same_ends, same_ends-from, same_ends-true, same-trans, AreJoined, joined-all, bonds-joined}
 use Rattle.spqr_tree.proofs.JoinedPolygons.{vertex-degree, polygons-joined}

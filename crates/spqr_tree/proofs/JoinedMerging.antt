@@ -15,7 +15,7 @@ use Rattle.pair_split.proofs.Subtrees.{link-in}
 use Rattle.spqr_tree.specs.Merged.{how_many, is_outer, gathered, IsJoined, IsGroup}
 use Rattle.spqr_tree.proofs.MergeCounts.{number-ext, number-within, sum-changed, share}
 use Rattle.pair_split.proofs.TreeSides.{link-differs, link-from, beyond-far, beyond-near}
-use Rattle.spqr_tree.proofs.MergeSides.{beyond-respects}
+use Rattle.pair_split.proofs.LinkSides.{beyond-respects}
 
 -- whether it is a link to d
 abbrev pub is_link : ℕ → What → Bool

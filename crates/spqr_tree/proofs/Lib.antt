@@ -1,6 +1,5 @@
 -- The lemmas on merging and rearranging split components.
 pub mod MergeCounts
-pub mod MergeSides
 pub mod MergeTouch
 pub mod JoinedBonds
 pub mod JoinedParity

@@ -10,7 +10,7 @@ use Rattle.pair_split.specs.declared.components.What.TheVariants.{Real, Link}
 use Rattle.pair_split.specs.declared.components.Comp.{Comp}
 use Rattle.pair_split.proofs.Links.{side-home, stands-in}
 use Rattle.pair_split.proofs.TreeSides.{beyond-near, beyond-other}
-use Rattle.spqr_tree.proofs.MergeSides.{other-cases, beyond-respects, beyond-within}
+use Rattle.pair_split.proofs.LinkSides.{other-cases, beyond-respects, beyond-within}
 
 -- the ends of one pair are those of another
 pub ends-same : (p q : ℕ × ℕ) (v : ℕ) → SameEnds p q → is_end_of v p ≡ is_end_of v q

@@ -16,7 +16,7 @@ use Rattle.pair_split.proofs.Links.{no_piece, stands-in, side-home}
 use Rattle.pair_split.proofs.Subtrees.{link-in}
 use Rattle.spqr_tree.specs.Merged.{is_outer, renamed}
 use Rattle.pair_split.proofs.TreeSides.{link-from, beyond-far, beyond-near}
-use Rattle.spqr_tree.proofs.MergeSides.{IsOther, other-cases, beyond-respects, beyond-is}
+use Rattle.pair_split.proofs.LinkSides.{IsOther, other-cases, beyond-respects, beyond-is}
 use Rattle.spqr_tree.proofs.MergeTouch.{ends-same, side-where}
 use Rattle.spqr_tree.proofs.JoinedBonds.{same-trans}
 use Rattle.spqr_tree.proofs.JoinedPolygons.{end-vertex}

@@ -7,14 +7,15 @@ use Rattle.permutations.proofs.Members.{member-head, member-cases, member-append
 use Rattle.permutations.proofs.Arrangements.{member-at, count-list}
 use Rattle.permutations.proofs.Count.{count-within}
 use Rattle.permutations.proofs.Relation.{same-tests}
+use Rattle.permutations.proofs.Places.{same-place, place-of}
 use Rattle.pair_split.specs.Split.{items_of, is_beyond, LinksTo, IsTree, AreLinked}
 use Rattle.pair_split.specs.declared.components.Comp.{Comp}
 use Rattle.pair_split.proofs.Subtrees.{link-in}
 use Rattle.pair_split.proofs.TreeSides.{link-from, link-back, beyond-some}
 use Rattle.pair_split.proofs.Rerooted.{rerooted, rerooted-root, rerooted-parent}
 use Rattle.spqr_tree.specs.Keys.{parent_at, children, AddsChildren, IsOrder, AreOrdered}
-use Rattle.spqr_tree.proofs.Children.{member-place, place-once, children-is, children-has, children-distinct}
-use Rattle.spqr_tree.proofs.MergeSides.{whole}
+use Rattle.spqr_tree.proofs.Children.{children-is, children-has, children-distinct}
+use Rattle.pair_split.proofs.LinkSides.{whole}
 
 -- at first the root alone is on the list, and no component has a parent
 pub order-starts : (comps : List Comp) (t : IsTree comps) (parents : List ℕ) → length parents ≡ length comps → parent_at parents t.root ≡ 4294967295 → IsOrder comps t parents (t.root ∷ []) 0
@@ -76,7 +77,7 @@ module _ (comps : List Comp) (a : AreLinked comps) (few : length comps ≤ 42949
   fresh x h = false_from_ne_true (is_member x new) (λ m.
       let u = in-new x m in
       let w = o.before x h u.0 in
-      omega (arith, w.1, place-once order w.0 i o.distinct w.2 l (w.3 ∙ u.1)))
+      omega (arith, w.1, same-place order w.0 i o.distinct w.2 l (w.3 ∙ u.1)))
 
   module _ (next_parents next_order : List ℕ) (c : AddsChildren k (parent_at parents k) (items_of comps k) parents order next_parents next_order) where
     noted-old : (x : ℕ) → is_member x new ≡ false → parent_at next_parents x ≡ parent_at parents x
@@ -104,7 +105,7 @@ module _ (comps : List Comp) (a : AreLinked comps) (few : length comps ≤ 42949
           | inr u ↦
               let s : q ≡ i = omega (arith, b, u) in
               let d = child-down j z n (old ∙ ap (λ x. slice_index_or order x 0) s) in
-              let w = member-place new j (children-has (parent_at parents k) (items_of comps k) (d.0).0 j ((d.0).1).0 ((d.0).1).1 d.1) in
+              let w = place-of new j (children-has (parent_at parents k) (items_of comps k) (d.0).0 j ((d.0).1).0 ((d.0).1).1 d.1) in
               (length order + w.0, omega (arith, on), omega (arith, w.1, longer), subst (λ z. slice_index_or (order ++ new) (length order + w.0) 0 ≡ z) w.2 (get_or-append-add order new w.0 0))
         ]
 
@@ -132,7 +133,7 @@ module _ (comps : List Comp) (a : AreLinked comps) (few : length comps ≤ 42949
   along x y s m = elim (tree.linked x y s) [
     | inl h ↦ let w = o.before x m h.0 in subst (λ z. is_member z order ≡ true) (w.3 ∙ h.1) (member-at order w.0 0 w.2)
     | inr h ↦
-        let q = member-place order x m in
+        let q = place-of order x m in
         let w = o.after q.0 y (omega (arith, done, q.1)) q.1 (link-in comps a x y s) h.0 (h.1 ∙ sym q.2) in
         subst (λ z. is_member z order ≡ true) w.3 (member-at order w.0 0 w.2)
   ]
@@ -156,7 +157,7 @@ module _ (comps : List Comp) (a : AreLinked comps) (few : length comps ≤ 42949
   order-ends = record {
     places = o.places;
     within = λ q l. o.within (slice_index_or order q 0) (member-at order q 0 l);
-    all = λ k l. member-place order k (all-on k l);
+    all = λ k l. place-of order k (all-on k l);
     down = λ k j s n. let d = down k j s n in o.parent j (all-on j (link-in comps a k j s)) d.0 ∙ d.1;
     after = λ q j l s n. let d = down (slice_index_or order q 0) j s n in o.after q j (omega (arith, done, l)) l (link-in comps a (slice_index_or order q 0) j s) d.0 d.1;
     up = up;

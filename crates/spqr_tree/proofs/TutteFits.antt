@@ -1,7 +1,7 @@
 -- The numbers in the nodes of a graph's tree are those of its vertices and edges.
-use Rattle.std.proofs.Common.{◌≡◌, ℕ, zero, suc, ◌<◌, ◌==◌, inl, inr, true, List, [], ◌∷◌, length, map, slice_index_or, refl, sym, ap, ◌∙◌, subst, arith, All}
+use Rattle.std.proofs.Common.{◌≡◌, ℕ, suc, ◌<◌, ◌==◌, inl, inr, true, List, [], ◌∷◌, length, map, slice_index_or, refl, sym, ◌∙◌, subst, arith, All}
 use Rattle.std.proofs.lemmas.Bool.{true≢false, or_cases, or_left, or_right, eq-eqb, eqb-true}
-use Rattle.std.proofs.lemmas.List.{get_or-map, get_or_default, length-map}
+use Rattle.std.proofs.lemmas.List.{get_or_default, length-map}
 use Rattle.permutations.proofs.Arrangements.{member-from_contains}
 use Rattle.permutations.proofs.Search.{some-from, least-below}
 use Rattle.multigraph.specs.Graph.{Multigraph, edge_count, IsGraph}
@@ -15,18 +15,7 @@ use Rattle.pair_split.specs.declared.components.Item.{Item}
 use Rattle.pair_split.specs.declared.components.Piece.{Piece}
 use Rattle.pair_split.proofs.GraphFamily.{all-from_contained}
 use Rattle.pair_split.proofs.Groups.{Touched, end-touched}
-
--- the pieces of component k are those of the items of node k
-pub node-pieces : (nodes : List Node) (k : ℕ) → items_of (components nodes) k ≡ map piece_of (node_at nodes k).items
-node-pieces [] k = refl
-node-pieces (node ∷ nodes) zero = refl
-node-pieces (node ∷ nodes) (suc k) = node-pieces nodes k
-
--- piece i of component k is that of item i of node k
-pub node-piece : (nodes : List Node) (k i : ℕ) → i < length (node_at nodes k).items → item_at (components nodes) k i ≡ piece_of (node_item nodes k i)
-node-piece nodes k i l =
-    ap (λ (pieces : List Piece). slice_index_or pieces i (record { a = 0; b = 0; what = Real 0 })) (node-pieces nodes k)
-    ∙ get_or-map piece_of (node_at nodes k).items i (record { key = 0; a = 0; b = 0; what = Real 0 }) (record { a = 0; b = 0; what = Real 0 }) l
+use Rattle.pair_split.proofs.NodeParts.{node-pieces, node-piece}
 
 -- a vertex of pieces is an end of one of them
 end-of_piece : (pieces : List Piece) (v : ℕ) → is_vertex (map piece_ends pieces) v ≡ true → (i : ℕ) × (i < length pieces) × (is_end_of v (piece_ends (slice_index_or pieces i (record { a = 0; b = 0; what = Real 0 }))) ≡ true)

@@ -1,13 +1,14 @@
 -- The first item of a node has key 0: it is edge 0, or the link towards the node that has edge 0; the other links lead away from it.
-use Rattle.std.proofs.Common.{◌≡◌, ◌≢◌, ℕ, zero, suc, ◌+◌, ◌<◌, inl, inr, Bool, true, false, cond, List, [], ◌∷◌, length, map, sym, ap, ◌∙◌, subst, arith}
-use Rattle.std.proofs.lemmas.Bool.{cases_Bool, cases_eq, cases_lt, both_ways, not_from_true, not_from_false}
+use Rattle.std.proofs.Common.{◌≡◌, ◌≢◌, ℕ, zero, suc, ◌+◌, ◌<◌, inl, inr, Bool, true, false, List, [], length, map, sym, ap, ◌∙◌, subst, arith}
+use Rattle.std.proofs.lemmas.Bool.{cases_Bool, cases_eq, both_ways, not_from_true, not_from_false}
 use Rattle.std.proofs.lemmas.List.{length-map, get_or-map}
 use Rattle.permutations.specs.Count.{count, some, least}
-use Rattle.permutations.proofs.Count.{count-same}
+use Rattle.permutations.proofs.Count.{count-less}
 use Rattle.permutations.proofs.Search.{least-passes, least-none, least-first}
+use Rattle.skeletons.proofs.NodeItems.{first_key-is}
 use Rattle.multigraph.specs.Graph.{Multigraph, edge_count}
 use Rattle.pair_split.specs.Split.{items_of, item_at, StandsFor, is_beyond, side, LinksTo, AreLinked, IsSplit}
-use Rattle.pair_split.specs.Tutte.{Node, piece_of, components, node_at, node_item, key_of, has_in_group, first_key, group, IsTutte}
+use Rattle.pair_split.specs.Tutte.{Node, piece_of, components, node_at, node_item, key_of, has_in_group, group, IsTutte}
 use Rattle.pair_split.specs.declared.components.Comp.{Comp}
 use Rattle.pair_split.specs.declared.components.Item.{Item}
 use Rattle.pair_split.specs.declared.components.Piece.{Piece}
@@ -17,9 +18,9 @@ use Rattle.pair_split.proofs.Groups.{side-other, group-cases, group-some, group-
 use Rattle.pair_split.proofs.Links.{stands-in}
 use Rattle.pair_split.proofs.Subtrees.{link-in}
 use Rattle.pair_split.proofs.TreeSides.{link-back, link-from, beyond-other, beyond-far, beyond-near, beyond-apart}
+use Rattle.pair_split.proofs.NodeParts.{node-pieces, node-piece}
 use Rattle.spqr_tree.specs.Keys.{nth_item}
 use Rattle.spqr_tree.specs.Tour.{what_at, item_count}
-use Rattle.spqr_tree.proofs.TutteFits.{node-pieces, node-piece}
 
 -- what stands at a place: a link or an edge, and its number
 abbrev is_link : What → Bool
@@ -42,26 +43,6 @@ least-zero n p l e = elim (cases_Bool (some n p)) [
 
 zero-least : (n : ℕ) (p : ℕ → Bool) → p 0 ≡ true → least n p ≡ 0
 zero-least n p h = omega (arith, least-first n p 0 h)
-
--- what fewer numbers pass
-count-less : (n : ℕ) (p q : ℕ → Bool) (y : ℕ) → ((x : ℕ) → x < n → p x ≡ true → q x ≡ true) → y < n → p y ≡ false → q y ≡ true → count n p < count n q
-count-less n p q y s l f h = elim (cases_lt (count n p) (count n q)) [
-  | inl b ↦ b
-  | inr b ↦ absurd (both_ways (p y) f (count-same n p q s b y l ∙ h))
-]
-
--- the first key is that of an item that passes, where all that pass have this key
-first_key-is : (passes : What → Bool) (items : List Item) (key : ℕ) → ((i : ℕ) → i < length items → passes (nth_item items i).what ≡ true → (nth_item items i).key ≡ key)
-    → (i : ℕ) → i < length items → passes (nth_item items i).what ≡ true → first_key passes items ≡ key
-first_key-is passes [] key all i l h = absurd (omega (arith, l))
-first_key-is passes (item ∷ items) key all i l h = elim (cases_Bool (passes item.what)) [
-  | inl y ↦ ap (λ (b : Bool). cond b item.key (first_key passes items)) y ∙ all 0 (omega arith) y
-  | inr n ↦ ap (λ (b : Bool). cond b item.key (first_key passes items)) n ∙ later (λ x m k. first_key-is passes items key (λ y b z. all (suc y) (omega (arith, b)) z) x m k) i l h n
-]
-  where
-    later : ((x : ℕ) → x < length items → passes (nth_item items x).what ≡ true → first_key passes items ≡ key) → (i : ℕ) → i < length (item ∷ items) → passes (nth_item (item ∷ items) i).what ≡ true → passes item.what ≡ false → first_key passes items ≡ key
-    later next zero l h n = absurd (both_ways (passes item.what) n h)
-    later next (suc i) l h n = next i (omega (arith, l)) h
 
 module _ (g : Multigraph) (nodes : List Node) (t : IsTutte g nodes) (few : 0 < edge_count g) where
   abbrev comps : List Comp

@@ -1,7 +1,8 @@
 -- Nodes of two trees of one block that have the same groups: their items have the same keys and the same ends, and stand for the
 -- same edges or are links with the same sides.
-use Rattle.std.proofs.Common.{◌≡◌, ℕ, zero, suc, ◌<◌, ◌≤◌, ◌⊎◌, inl, inr, true, List, [], ◌∷◌, length, map, slice_index_or, get_or, refl, sym, ap, ap₂, ◌∙◌, subst, arith}
+use Rattle.std.proofs.Common.{◌≡◌, ℕ, ◌<◌, ◌≤◌, ◌⊎◌, inl, inr, true, List, length, map, get_or, refl, sym, ap, ap₂, ◌∙◌, subst, arith}
 use Rattle.std.proofs.lemmas.List.{get_or-map, length-map, ext_get_or}
+use Rattle.permutations.specs.Members.{is_member}
 use Rattle.permutations.specs.Count.{least}
 use Rattle.permutations.proofs.Relation.{same-tests}
 use Rattle.permutations.proofs.Search.{some-from, least-below, least-passes, least-first}
@@ -20,31 +21,17 @@ use Rattle.pair_split.proofs.GraphSides.{common-same}
 use Rattle.graph_theory.proofs.Counting.{Two}
 use Rattle.pair_split.proofs.Groups.{what-cases, same-end, same-end_back}
 use Rattle.pair_split.proofs.LargeSides.{side-two}
+use Rattle.pair_split.proofs.NodeParts.{node-pieces, node-piece, node-kind}
 use Rattle.graph_theory.specs.Separation.{AreSameSide}
+use Rattle.graph_theory.proofs.Rising.{HasAll, rises-same, members-same}
 use Rattle.tree_unique.proofs.Items.{is_at, skeleton-at, skeleton-length, place, place-in, link-place, place-link, place-real, real-place}
-use Rattle.tree_unique.proofs.Rising.{HasAll, rises-same, members-same, rising-pairs}
+use Rattle.tree_unique.proofs.Rising.{rising-pairs}
 use Rattle.tree_unique.proofs.KindOnce.{kind-once}
 use Rattle.tree_unique.proofs.Matched.{HaveSameGroups, same-groups_back}
 
 -- an item where there is none
 abbrev pub no_item : Item
 no_item = record { key = 0; a = 0; b = 0; what = Real 0 }
-
--- the pieces of component k are those of the items of node k
-pub node-pieces : (nodes : List Node) (k : ℕ) → items_of (components nodes) k ≡ map piece_of (node_at nodes k).items
-node-pieces [] k = refl
-node-pieces (node ∷ nodes) zero = refl
-node-pieces (node ∷ nodes) (suc k) = node-pieces nodes k
-
-pub node-kind : (nodes : List Node) (k : ℕ) → (component_at (components nodes) k).kind ≡ (node_at nodes k).kind
-node-kind [] k = refl
-node-kind (node ∷ nodes) zero = refl
-node-kind (node ∷ nodes) (suc k) = node-kind nodes k
-
-pub node-piece : (nodes : List Node) (k i : ℕ) → i < length (node_at nodes k).items → item_at (components nodes) k i ≡ piece_of (node_item nodes k i)
-node-piece nodes k i l =
-    ap (λ (pieces : List Piece). slice_index_or pieces i (record { a = 0; b = 0; what = Real 0 })) (node-pieces nodes k)
-    ∙ get_or-map piece_of (node_at nodes k).items i no_item (record { a = 0; b = 0; what = Real 0 }) l
 
 pub node-size : (nodes : List Node) (k : ℕ) → length (items_of (components nodes) k) ≡ length (node_at nodes k).items
 node-size nodes k = ap (λ (pieces : List Piece). length pieces) (node-pieces nodes k) ∙ length-map (node_at nodes k).items piece_of
@@ -233,7 +220,10 @@ module _ (g : Multigraph) (block : IsOneBlock g) (a b : List Node) (s : IsTutte 
   -- so are the lists of vertices
   pub vertices-same : (node_at a k).vertices ≡ (node_at b x).vertices
   vertices-same = members-same (node_at a k).vertices (node_at b x).vertices (s.in_order.vertices_rise k la) (t.in_order.vertices_rise x lb)
-      (λ v. s.in_order.vertices k v la ∙ ap (λ (z : List (ℕ × ℕ)). is_vertex z v) skeletons-same ∙ sym (t.in_order.vertices x v lb))
+      (λ v h. sym (same v) ∙ h) (λ v h. same v ∙ h)
+    where
+      same : (v : ℕ) → is_member v (node_at a k).vertices ≡ is_member v (node_at b x).vertices
+      same v = s.in_order.vertices k v la ∙ ap (λ (z : List (ℕ × ℕ)). is_vertex z v) skeletons-same ∙ sym (t.in_order.vertices x v lb)
 
   -- and the kinds
   pub kinds-same : (node_at a k).kind ≡ (node_at b x).kind

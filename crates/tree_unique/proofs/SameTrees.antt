@@ -15,6 +15,7 @@ use Rattle.pair_split.specs.declared.components.What.TheVariants.{Real, Link}
 use Rattle.pair_split.proofs.Groups.{side-other}
 use Rattle.pair_split.proofs.Subtrees.{link-in}
 use Rattle.pair_split.proofs.TreeSides.{link-back}
+use Rattle.pair_split.proofs.NodeParts.{node-piece, node-kind}
 use Rattle.graph_theory.specs.Separation.{AreSameSide}
 use Rattle.tree_unique.specs.Laws.{LinksAreGood, GoodAreLinks, SidesTellLinks, TreesAreEqual}
 use Rattle.tree_unique.proofs.Away.{side-tells, places-tell}
@@ -23,7 +24,7 @@ use Rattle.tree_unique.proofs.GoodSides.{good-link}
 use Rattle.tree_unique.proofs.Items.{place-any}
 use Rattle.tree_unique.proofs.Rising.{before-not, before-once}
 use Rattle.tree_unique.proofs.Matched.{HasSides, HaveSameGroups, match}
-use Rattle.tree_unique.proofs.SameItems.{no_item, node-kind, node-piece, node-size, nodes-length, link-link, what-other, items-length, key-same, place-same, in-first, in-second, ends-same, vertices-same, kinds-same}
+use Rattle.tree_unique.proofs.SameItems.{no_item, node-size, nodes-length, link-link, what-other, items-length, key-same, place-same, in-first, in-second, ends-same, vertices-same, kinds-same}
 
 -- the sides of links are good
 pub links-good : LinksAreGood

@@ -1,116 +1,26 @@
 -- Seen from one component, all of another one but what lies on the way back is beyond one link; and a walk along links comes to
 -- its end.
-use Rattle.std.proofs.Common.{◌≡◌, ◌≢◌, ℕ, zero, suc, ◌<◌, ◌⊎◌, ◌==◌, ◌&&◌, ◌||◌, inl, inr, Bool, true, false, not, List, length, filter, refl, sym, ap, ◌∙◌, subst, arith}
-use Rattle.std.proofs.lemmas.Bool.{cases_Bool, cases_eq, cases_lt, both_ways, or_cases, and_parts, eqb-true, not_from_false, not-true, false_from_ne_true}
+use Rattle.std.proofs.Common.{◌≡◌, ◌≢◌, ℕ, zero, suc, ◌<◌, inl, inr, Bool, true, false, not, List, length, refl, sym, ap, ◌∙◌, subst, arith}
+use Rattle.std.proofs.lemmas.Bool.{cases_Bool, cases_lt, both_ways, not_from_false, not-true}
 use Rattle.permutations.specs.Count.{count, some}
-use Rattle.permutations.specs.Relation.{connected}
 use Rattle.permutations.proofs.Count.{count-same}
 use Rattle.permutations.proofs.Search.{some-from, some-witness}
-use Rattle.permutations.proofs.Relation.{connected-symmetric, connected-transitive, connected-link, same-tests}
 use Rattle.multigraph.specs.Graph.{Multigraph, edge_count}
-use Rattle.pair_split.specs.Split.{items_of, item_at, all_links, joins_others, is_beyond, side, LinksTo, AreLinked, IsSplit}
+use Rattle.pair_split.specs.Split.{items_of, item_at, is_beyond, side, LinksTo, AreLinked, IsSplit}
 use Rattle.pair_split.specs.Tutte.{has_in_group}
 use Rattle.pair_split.specs.declared.components.Comp.{Comp}
 use Rattle.pair_split.specs.declared.components.What.{What}
 use Rattle.pair_split.specs.declared.components.What.TheVariants.{Real, Link}
-use Rattle.pair_split.proofs.Elements.{contains-filter}
-use Rattle.pair_split.proofs.Links.{link-contained, stands-in}
+use Rattle.pair_split.proofs.Links.{stands-in}
 use Rattle.pair_split.proofs.Subtrees.{link-in}
 use Rattle.pair_split.proofs.Groups.{side-at, group-cases}
-use Rattle.pair_split.proofs.TreeSides.{link-from, link-back, beyond-far, beyond-near, beyond-apart}
-
--- the link is not the one between k and j
-abbrev IsOther : ℕ → ℕ → ℕ → ℕ → Type 0
-IsOther k j x y = (x ≡ k → y ≡ j → ⊥) × (x ≡ j → y ≡ k → ⊥)
-
--- so it is one of the links that join others
-joins-other : (k j x y : ℕ) → IsOther k j x y → joins_others k j (x, y) ≡ true
-joins-other k j x y n = not_from_false (((x == k) && (y == j)) || ((x == j) && (y == k))) (false_from_ne_true (((x == k) && (y == j)) || ((x == j) && (y == k))) (λ h.
-    elim (or_cases ((x == k) && (y == j)) ((x == j) && (y == k)) h) [
-      | inl a ↦ let p = and_parts (x == k) (y == j) a in n.0 (eqb-true x k p.0) (eqb-true y j p.1)
-      | inr a ↦ let p = and_parts (x == j) (y == k) a in n.1 (eqb-true x j p.0) (eqb-true y k p.1)
-    ]))
-
--- a link is another one, or joins k and j
-other-cases : (k j x y : ℕ) → IsOther k j x y ⊎ ((x ≡ k) × (y ≡ j)) ⊎ ((x ≡ j) × (y ≡ k))
-other-cases k j x y = elim (cases_eq x k) [
-  | inl e ↦ elim (cases_eq y j) [
-    | inl i ↦ inr (inl (e, i))
-    | inr i ↦ elim (cases_eq x j) [
-      | inl f ↦ elim (cases_eq y k) [ inl h ↦ inr (inr (f, h)) | inr h ↦ inl ((λ p q. i q), (λ p q. h q)) ]
-      | inr f ↦ inl ((λ p q. i q), (λ p q. f p))
-    ]
-  ]
-  | inr e ↦ elim (cases_eq x j) [
-    | inl f ↦ elim (cases_eq y k) [ inl h ↦ inr (inr (f, h)) | inr h ↦ inl ((λ p q. e p), (λ p q. h q)) ]
-    | inr f ↦ inl ((λ p q. e p), (λ p q. f p))
-  ]
-]
+use Rattle.pair_split.proofs.TreeSides.{link-back, beyond-far, beyond-near, beyond-apart}
+use Rattle.pair_split.proofs.LinkSides.{IsOther, beyond-respects, beyond-within}
 
 module _ (comps : List Comp) (a : AreLinked comps) where
-  -- a test that all links respect is the same on all components
-  whole : (t : ℕ → Bool) → ((x y : ℕ) → LinksTo comps x y → t x ≡ t y) → (x y : ℕ) → x < length comps → y < length comps → t x ≡ t y
-  whole t h x y l m = up (suc (a.tree.rank x)) x l (omega arith) ∙ sym (up (suc (a.tree.rank y)) y m (omega arith))
-    where
-      up : (steps z : ℕ) → z < length comps → a.tree.rank z < steps → t z ≡ t a.tree.root
-      up zero z l r = absurd (omega (arith, r))
-      up (suc steps) z l r = elim (cases_eq z a.tree.root) [
-        | inl e ↦ ap t e
-        | inr n ↦ h z (a.tree.parent z) (a.tree.to_parent z l n) ∙ up steps (a.tree.parent z) (a.tree.parent_in z l n) (omega (arith, r, a.tree.rank_falls z l n))
-      ]
-
-  -- so is one that agrees on k and j and that all other links respect
-  whole-but : (k j : ℕ) (t : ℕ → Bool) → t k ≡ t j → ((x y : ℕ) → LinksTo comps x y → IsOther k j x y → t x ≡ t y) → (x y : ℕ) → x < length comps → y < length comps → t x ≡ t y
-  whole-but k j t e h x y l m = whole t (λ u v s. elim (other-cases k j u v) [
-    | inl o ↦ h u v s o
-    | inr c ↦ elim c [ inl p ↦ ap t p.0 ∙ e ∙ sym (ap t p.1) | inr p ↦ ap t p.0 ∙ sym e ∙ sym (ap t p.1) ]
-  ]) x y l m
-
-  -- any other link has both components on one side
-  beyond-respects : (k j x y : ℕ) → LinksTo comps x y → IsOther k j x y → is_beyond comps k j x ≡ is_beyond comps k j y
-  beyond-respects k j x y s n = same-tests (is_beyond comps k j x) (is_beyond comps k j y)
-      (λ h. connected-transitive others j x y h link)
-      (λ h. connected-transitive others j y x h (connected-symmetric others x y link))
-    where
-      others : List (ℕ × ℕ)
-      others = filter (joins_others k j) (all_links 0 comps)
-
-      link : connected others x y ≡ true
-      link = connected-link others x y (contains-filter (joins_others k j) (x, y) (all_links 0 comps) (link-contained comps x y s) (joins-other k j x y n))
-
-  -- a test that is false at both ends of two links, and that all other links respect, is false everywhere
-  none-passes : (k j h i : ℕ) (u : ℕ → Bool) → k < length comps → u k ≡ false → u j ≡ false → u h ≡ false → u i ≡ false
-      → ((x y : ℕ) → LinksTo comps x y → IsOther k j x y → IsOther h i x y → u x ≡ u y) → (d : ℕ) → d < length comps → u d ≡ false
-  none-passes k j h i u kl uk uj uh ui o d l = whole-but k j u (uk ∙ sym uj) (λ x y s n. elim (other-cases h i x y) [
-    | inl m ↦ o x y s n m
-    | inr c ↦ elim c [ inl p ↦ ap u p.0 ∙ uh ∙ sym (ap u p.1 ∙ ui) | inr p ↦ ap u p.0 ∙ ui ∙ sym (ap u p.1 ∙ uh) ]
-  ]) d k l kl ∙ uk
-
-  -- a link between components on the far side of another one: a side of it without the near component lies on the far side
-  beyond-within : (k j h i : ℕ) → LinksTo comps k j → LinksTo comps h i → IsOther k j h i → is_beyond comps k j h ≡ true
-      → (t : ℕ → Bool) → ((x y : ℕ) → LinksTo comps x y → IsOther h i x y → t x ≡ t y) → t k ≡ false
-      → (d : ℕ) → d < length comps → t d ≡ true → is_beyond comps k j d ≡ true
-  beyond-within k j h i s w n bh t o f d l p = step (t d) (is_beyond comps k j d) p
-      (none-passes k j h i u (link-from comps a k j s) (first-false (t k) (is_beyond comps k j k) f) (first-false (t j) (is_beyond comps k j j) (sym (o k j s ((λ a b. n.0 (sym a) (sym b)), (λ a b. n.1 (sym b) (sym a)))) ∙ f))
-      (second-true (t h) (is_beyond comps k j h) bh) (second-true (t i) (is_beyond comps k j i) (sym (beyond-respects k j h i w n) ∙ bh))
-      (λ x y v a b. ap (λ (c : Bool). c && not (is_beyond comps k j x)) (o x y v b) ∙ ap (λ (c : Bool). t y && not c) (beyond-respects k j x y v a)) d l)
-    where
-      -- in the side and not on the far side
-      u : ℕ → Bool
-      u x = t x && not (is_beyond comps k j x)
-
-      first-false : (a b : Bool) → a ≡ false → (a && not b) ≡ false
-      first-false a b e = rw e refl
-
-      second-true : (a b : Bool) → b ≡ true → (a && not b) ≡ false
-      second-true a b e = grind (arith, e, cases_Bool a)
-
-      step : (a b : Bool) → a ≡ true → (a && not b) ≡ false → b ≡ true
-      step a b e h = grind (arith, e, h, cases_Bool b)
-
   -- what is beyond a link that leads away from x, from a component beyond another link of x, is beyond that one
   pub beyond-nest : (x h y z d : ℕ) → LinksTo comps x h → LinksTo comps y z → is_beyond comps x h y ≡ true → is_beyond comps y z x ≡ false → d < length comps → is_beyond comps y z d ≡ true → is_beyond comps x h d ≡ true
-  beyond-nest x h y z d s w b f l p = beyond-within x h y z s w other b (is_beyond comps y z) (beyond-respects y z) f d l p
+  beyond-nest x h y z d s w b f l p = beyond-within comps a x h y z s w other b (is_beyond comps y z) (beyond-respects comps a y z) f d l p
     where
       other : IsOther x h y z
       other = (

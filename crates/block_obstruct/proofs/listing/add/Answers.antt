@@ -2,7 +2,7 @@
 use Rattle.std.proofs.Common.{◌≡◌, List, ℕ, true, slice_set, sym, subst}
 use Rattle.permutations.specs.Members.{is_member}
 use Rattle.block_obstruct.specs.Listing.{AreListed, Grows}
-use Rattle.block_obstruct.proofs.Listed.{listed-more, grows-more, held-more}
+use Rattle.block_obstruct.proofs.Listed.{listed-more, grows-more, push-same}
 use Rattle.block_obstruct.proofs.listing.add.Goals as goal
 
 pub returns-clause-listed : goal.returns-clause-listed
@@ -14,4 +14,4 @@ returns-clause-grows c = subst (λ (z : List ℕ). Grows (λ y m. (y ≡ c.args.
     (grows-more c.args.marks.now c.args.notes.now c.args.list.now.items c.args.x c.args.note c.requires.listed c.requires.within c.if-marks-x.false)
 
 pub returns-clause-held : goal.returns-clause-held
-returns-clause-held c = subst (λ (z : List ℕ). is_member c.args.x z ≡ true) (sym c.in_ok-push.ensures.items) (held-more c.args.list.now.items c.args.x)
+returns-clause-held c = subst (λ (z : List ℕ). is_member c.args.x z ≡ true) (sym c.in_ok-push.ensures.items) (push-same c.args.list.now.items c.args.x)

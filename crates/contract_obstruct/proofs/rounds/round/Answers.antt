@@ -1,13 +1,14 @@
 use Rattle.std.proofs.Common.{◌≡◌, ◌<◌, ℕ, List, length, slice_index, sym, ap, ◌∙◌, subst, arith}
 use Rattle.std.proofs.lemmas.Bool.{eqb-true, eqb-false}
 use Rattle.permutations.specs.Cyclic.{first_or}
+use Rattle.permutations.proofs.Places.{first-at}
 use Rattle.multigraph.specs.Graph.{Multigraph, edge_count, incident_edges}
 use Rattle.multigraph.proofs.Incident.{incident_at-edge}
 use Rattle.rotations.specs.Rings.{turns}
 use Rattle.faces.specs.Euler.{dart_from}
 use Rattle.faces.proofs.DartLemmas.{dart_from-below}
 use Rattle.contract_obstruct.proofs.Orders.{steps-in}
-use Rattle.contract_obstruct.proofs.Orders.{turns-order, order-none, first-at}
+use Rattle.contract_obstruct.proofs.Orders.{turns-order, order-none}
 use Rattle.contract_obstruct.proofs.rounds.round.Goals as goal
 
 -- the first edge at a vertex that has one

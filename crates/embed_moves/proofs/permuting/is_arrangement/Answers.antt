@@ -3,10 +3,11 @@ use Rattle.std.proofs.lemmas.Bool.{true≢false, both_ways}
 use Rattle.std.proofs.lemmas.List.{length-map, take_all}
 use Rattle.std.proofs.lemmas.List.Sorted.{length_permutation}
 use Rattle.permutations.specs.Members.{is_member}
+use Rattle.rotations.proofs.Arrangements.{permutation-member}
 use Rattle.pair_split.specs.declared.components.Item.{Item}
 use Rattle.pair_split.specs.declared.components.What.TheVariants.{Real}
 use Rattle.skeletons.specs.Items.{item_key}
-use Rattle.embed_moves.proofs.Arranging.{arrangement-is, arrangement-has, keys-more, item-key_in}
+use Rattle.embed_moves.proofs.Arranging.{arrangement-is, keys-more, item-key_in}
 use Rattle.embed_moves.proofs.permuting.is_arrangement.Goals as goal
 
 abbrev blank : Item
@@ -19,7 +20,7 @@ pub returns-then-not-has_key : goal.returns-then-not-has_key
 returns-then-not-has_key c = (
   λ t. absurd (true≢false (sym t)),
   λ p. absurd (both_ways (is_member (item_key (slice_index_or c.args.items.now c.loop-item.item-index blank)) c.args.keys.now) (sym c.has_key.ensures ∙ c.if-not-has_key.true)
-      (arrangement-has (map item_key c.args.items.now) c.args.keys.now (item_key (slice_index_or c.args.items.now c.loop-item.item-index blank)) p (item-key_in c.args.items.now c.loop-item.item-index blank c.loop-item-test.true))),
+      (permutation-member (map item_key c.args.items.now) c.args.keys.now (item_key (slice_index_or c.args.items.now c.loop-item.item-index blank)) p (item-key_in c.args.items.now c.loop-item.item-index blank c.loop-item-test.true))),
 )
 
 pub loop-item-preserved : goal.loop-item-preserved

@@ -5,7 +5,7 @@ use Rattle.rotations.specs.Entries.{IsNamed}
 use Rattle.rotations.specs.Given.{IsRefusal}
 use Rattle.rotations.specs.PartLists.{IsFirstBadInPart, IsFirstStranger}
 use Rattle.rotations.specs.declared.faults.RotFault.{RotFault}
-use Rattle.rotations.proofs.PartEdges.{part-bad, bad-vertex, lesser-stranger, lesser-vertex}
+use Rattle.rotations.proofs.PartEdges.{part-bad, lesser-stranger, lesser-vertex}
 use Rattle.rotations.proofs.outer.outer_fault.Goals as goal
 
 -- the stranger is smaller

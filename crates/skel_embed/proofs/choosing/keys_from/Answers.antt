@@ -1,8 +1,8 @@
-use Rattle.std.proofs.Common.{◌≡◌, ◌<◌, ℕ, true, List, length, slice_index_or, refl, sym, ap, ◌∙◌, subst, arith}
+use Rattle.std.proofs.Common.{ℕ, List, refl, ap, ◌∙◌}
 use Rattle.permutations.specs.Cyclic.{turned, first_or}
 use Rattle.permutations.specs.Members.{is_member}
+use Rattle.permutations.proofs.Places.{first-at}
 use Rattle.pair_split.specs.Tutte.{node_at}
-use Rattle.skel_embed.proofs.KeptLists.{first-at}
 use Rattle.skel_embed.proofs.RunKeys.{choice-from}
 use Rattle.skel_embed.proofs.choosing.keys_from.Goals as goal
 

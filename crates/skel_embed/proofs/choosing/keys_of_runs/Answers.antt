@@ -2,16 +2,16 @@ use Rattle.std.proofs.Common.{◌≡◌, ◌<◌, ℕ, true, List, length, slice
 use Rattle.permutations.specs.Members.{is_member}
 use Rattle.permutations.proofs.Members.{member-head, member-tail}
 use Rattle.permutations.proofs.Successor.{predecessor-member}
-use Rattle.rotations.proofs.Membership.{contains-from_member}
+use Rattle.permutations.proofs.Places.{first-at}
+use Rattle.permutations.proofs.Arrangements.{contains-from_member}
 use Rattle.rotations.specs.Rotation.{order_at}
 use Rattle.pair_split.specs.Tutte.{node_at, group}
-use Rattle.skeletons.specs.Items.{least_vertex, has_vertex}
+use Rattle.skeletons.specs.Items.{least_vertex}
 use Rattle.skeletons.proofs.Vertices.{least-has, vertex-in}
 use Rattle.skel_embed.specs.Taken.{begins_run}
 use Rattle.skel_embed.proofs.KeptLists.{member-filled}
 use Rattle.skel_embed.proofs.RunSteps.{edge-below}
 use Rattle.skel_embed.proofs.RunKeys.{runs-more, runs-passed, begins-yes, begins-no}
-use Rattle.skel_embed.proofs.BondMoves.{first-place}
 use Rattle.skel_embed.proofs.choosing.keys_of_runs.Goals as goal
 
 pub bounds-vertices-0 : goal.bounds-vertices-0
@@ -19,13 +19,13 @@ bounds-vertices-0 c = omega (arith, ap length c.vertices.ensures, member-filled 
 
 pub list-round-requires : goal.list-round-requires
 list-round-requires c =
-    let e : slice_index_or c.vertices.result.now 0 0 ≡ least_vertex c.args.t.now c.args.k = ap (λ (z : List ℕ). slice_index_or z 0 0) c.vertices.ensures ∙ first-place (node_at c.args.t.now c.args.k).vertices in
+    let e : slice_index_or c.vertices.result.now 0 0 ≡ least_vertex c.args.t.now c.args.k = ap (λ (z : List ℕ). slice_index_or z 0 0) c.vertices.ensures ∙ first-at (node_at c.args.t.now c.args.k).vertices in
     subst (λ z. z < length c.args.r.now) (sym e) (subst (λ z. least_vertex c.args.t.now c.args.k < z) (sym c.requires.plane.system.vertices) (vertex-in c.args.g.now c.args.t.now c.requires.block c.args.k (least_vertex c.args.t.now c.args.k) (least-has c.args.g.now c.args.t.now c.requires.block c.args.k c.requires.node)))
 
 pub group-key-requires-clause-tree : goal.group-key-requires-clause-tree
 group-key-requires-clause-tree c =
     let v = slice_index_or c.vertices.result.now 0 0 in
-    let e : v ≡ least_vertex c.args.t.now c.args.k = ap (λ (z : List ℕ). slice_index_or z 0 0) c.vertices.ensures ∙ first-place (node_at c.args.t.now c.args.k).vertices in
+    let e : v ≡ least_vertex c.args.t.now c.args.k = ap (λ (z : List ℕ). slice_index_or z 0 0) c.vertices.ensures ∙ first-at (node_at c.args.t.now c.args.k).vertices in
     let l : v < c.args.g.now.vertex_count = subst (λ z. z < c.args.g.now.vertex_count) (sym e) (vertex-in c.args.g.now c.args.t.now c.requires.block c.args.k (least_vertex c.args.t.now c.args.k) (least-has c.args.g.now c.args.t.now c.requires.block c.args.k c.requires.node)) in
     edge-below c.args.g.now c.args.t.now c.args.r.now v c.in-Some.e c.requires.block c.requires.plane.system l
     (c.loop-e.invariant.1 c.in-Some.e (ap (is_member c.in-Some.e) c.in-Some.ensures.steps ∙ member-head c.in-Some.e c.next.new.self))
@@ -37,7 +37,7 @@ pred-requires c = contains-from_member (order_at c.args.r.now (slice_index_or c.
 pub group-requires-clause-tree : goal.group-requires-clause-tree
 group-requires-clause-tree c =
     let v = slice_index_or c.vertices.result.now 0 0 in
-    let e : v ≡ least_vertex c.args.t.now c.args.k = ap (λ (z : List ℕ). slice_index_or z 0 0) c.vertices.ensures ∙ first-place (node_at c.args.t.now c.args.k).vertices in
+    let e : v ≡ least_vertex c.args.t.now c.args.k = ap (λ (z : List ℕ). slice_index_or z 0 0) c.vertices.ensures ∙ first-at (node_at c.args.t.now c.args.k).vertices in
     let l : v < c.args.g.now.vertex_count = subst (λ z. z < c.args.g.now.vertex_count) (sym e) (vertex-in c.args.g.now c.args.t.now c.requires.block c.args.k (least_vertex c.args.t.now c.args.k) (least-has c.args.g.now c.args.t.now c.requires.block c.args.k c.requires.node)) in
     edge-below c.args.g.now c.args.t.now c.args.r.now v c.pred.result c.requires.block c.requires.plane.system l
     (subst (λ z. is_member z (order_at c.args.r.now v) ≡ true) (sym c.pred.ensures) (predecessor-member (order_at c.args.r.now v) c.in-Some.e

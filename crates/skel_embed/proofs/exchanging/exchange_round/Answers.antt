@@ -1,7 +1,7 @@
 use Rattle.std.proofs.Common.{◌≢◌, sym, subst}
+use Rattle.permutations.proofs.Arrangements.{contains-from_member}
 use Rattle.rotations.specs.Rotation.{order_at}
 use Rattle.rotations.specs.Runs.{IsOutside}
-use Rattle.rotations.proofs.Membership.{contains-from_member}
 use Rattle.faces.proofs.DartLemmas.{order-distinct}
 use Rattle.pair_split.specs.Tutte.{group}
 use Rattle.skel_embed.specs.Steps.{IsPut}

@@ -1,8 +1,8 @@
 use Rattle.std.proofs.Common.{◌≡◌, true, slice_index_or, sym, ap, ◌∙◌, subst}
 use Rattle.rotations.specs.Rotation.{order_at}
-use Rattle.rotations.proofs.Membership.{contains-from_member}
 use Rattle.permutations.specs.Members.{is_member}
 use Rattle.permutations.proofs.Successor.{predecessor-member}
+use Rattle.permutations.proofs.Arrangements.{contains-from_member}
 use Rattle.pair_split.specs.Tutte.{group}
 use Rattle.skel_embed.specs.Steps.{BeginsRun}
 use Rattle.skel_embed.proofs.RunSteps.{edge-below, incident-in, none-more, none-found}

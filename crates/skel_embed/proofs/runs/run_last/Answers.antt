@@ -1,9 +1,9 @@
 use Rattle.std.proofs.Common.{◌≡◌, true, ◌+◌, sym, ap, ◌∙◌, arith, subst}
 use Rattle.faces.proofs.DartLemmas.{order-distinct}
 use Rattle.rotations.specs.Rotation.{order_at}
-use Rattle.rotations.proofs.Membership.{contains-from_member}
 use Rattle.permutations.specs.Members.{is_member}
 use Rattle.permutations.proofs.Successor.{successor-member}
+use Rattle.permutations.proofs.Arrangements.{contains-from_member}
 use Rattle.pair_split.specs.Tutte.{group}
 use Rattle.skel_embed.proofs.RunSteps.{IsWalking, walk-start, walk-in, walk-stop, walk-on, walk-short, edge-below, order-length}
 use Rattle.skel_embed.proofs.runs.run_last.Goals as goal

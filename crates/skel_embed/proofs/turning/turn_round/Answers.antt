@@ -1,9 +1,9 @@
 use Rattle.std.proofs.Common.{◌≡◌, true, length, slice_index_or, refl, sym, ap, ◌∙◌, arith, subst}
 use Rattle.permutations.specs.Members.{is_member}
 use Rattle.permutations.proofs.Successor.{successor-member}
+use Rattle.permutations.proofs.Arrangements.{contains-from_member}
 use Rattle.rotations.specs.Rotation.{order_at}
 use Rattle.rotations.specs.Runs.{IsOutside, IsRunMoved}
-use Rattle.rotations.proofs.Membership.{contains-from_member}
 use Rattle.faces.proofs.DartLemmas.{order-distinct}
 use Rattle.pair_split.specs.Tutte.{group}
 use Rattle.skel_embed.specs.Steps.{EndsRun}

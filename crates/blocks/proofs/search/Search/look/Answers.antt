@@ -1,6 +1,6 @@
 use Rattle.std.proofs.Common.{refl, sym, ap, ◌∙◌, subst, ℕ, List, get_or, ◌<◌}
 use Rattle.multigraph.specs.Graph.{incident_edges}
-use Rattle.blocks.specs.Searching.{degree}
+use Rattle.blocks.specs.Forest.{degree}
 use Rattle.blocks.proofs.Turns.{next-edge, look-turned, last-in, position-fits}
 use Rattle.blocks.proofs.search.Search.look.Goals as goal
 

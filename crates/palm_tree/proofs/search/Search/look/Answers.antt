@@ -1,7 +1,8 @@
 use Rattle.std.proofs.Common.{refl, sym, ap, ◌∙◌, subst, ℕ, List, get_or, ◌<◌}
 use Rattle.multigraph.specs.Graph.{incident_edges}
-use Rattle.palm_tree.specs.Searching.{degree}
-use Rattle.palm_tree.proofs.Turns.{next-edge, look-turned, last-in, position-fits}
+use Rattle.blocks.specs.Forest.{degree}
+use Rattle.blocks.proofs.Turns.{next-edge}
+use Rattle.palm_tree.proofs.Turns.{look-turned, last-in, position-fits}
 use Rattle.palm_tree.proofs.search.Search.look.Goals as goal
 
 pub see-requires-clause-edge_in : goal.see-requires-clause-edge_in

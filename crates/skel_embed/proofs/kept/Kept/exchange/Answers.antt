@@ -2,8 +2,9 @@ use Rattle.std.proofs.Common.{◌≡◌, ℕ, true, List, slice_index_or, sym, a
 use Rattle.std.proofs.lemmas.List.{get_or_read}
 use Rattle.permutations.specs.Cyclic.{first_or, turned}
 use Rattle.permutations.specs.Members.{is_member}
+use Rattle.permutations.proofs.Places.{first-at}
 use Rattle.skel_embed.specs.Exchanges.{exchanged}
-use Rattle.skel_embed.proofs.KeptLists.{exchanged-least, exchanged-first, first-at, member-filled}
+use Rattle.skel_embed.proofs.KeptLists.{exchanged-least, exchanged-first, member-filled}
 use Rattle.skel_embed.proofs.kept.Kept.exchange.Goals as goal
 
 pub turn_to-requires : goal.turn_to-requires

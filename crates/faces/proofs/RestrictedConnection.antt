@@ -11,6 +11,8 @@ use Rattle.permutations.proofs.Iterates.{iterate-below, orbit-steps}
 use Rattle.multigraph.specs.Graph.{Multigraph, IsGraph, edge_count, ends_of}
 use Rattle.rotations.specs.Rotation.{IsRotationSystem}
 use Rattle.graph_theory.specs.Triconnected.{avoids, ends_without}
+use Rattle.graph_theory.specs.Joined.{joined_where}
+use Rattle.graph_theory.proofs.Joined.{joined-least-typed}
 use Rattle.dart_maps.specs.Map.{IsMap, same_vertex, same_component}
 use Rattle.dart_maps.specs.Order.{frozen}
 use Rattle.dart_maps.proofs.Darts.{twin-even}
@@ -49,10 +51,8 @@ module _ (m : ℕ) (next back : ℕ → ℕ) (b : IsMap m next back) (p : ℕ �
       let w = orbit-steps (2 * m) next back b c d l t in
       subst (λ z. same_component m (frozen p next) c z ≡ true) w.2 (opened-steps w.0 c l h).0
 
--- a map on the darts of a graph; darts that count, which are connected where they leave the same vertex; and vertices that are
--- removed, where both darts of each edge that avoids them count
-module _ (g : Multigraph) (next : ℕ → ℕ) (counts : ℕ → Bool) (alike : (c d : ℕ) → c < dart_count g → d < dart_count g → tail g c ≡ tail g d → counts c ≡ true → counts d ≡ true → same_component (edge_count g) next c d ≡ true)
-    (removed : List ℕ) (both : (e : ℕ) → e < edge_count g → avoids removed (ends_of g e) ≡ true → (counts (2 * e) ≡ true) × (counts (2 * e + 1) ≡ true)) where
+-- a map on the darts of a graph, and darts that count, which are connected where they leave the same vertex
+module _ (g : Multigraph) (next : ℕ → ℕ) (counts : ℕ → Bool) (alike : (c d : ℕ) → c < dart_count g → d < dart_count g → tail g c ≡ tail g d → counts c ≡ true → counts d ≡ true → same_component (edge_count g) next c d ≡ true) where
   abbrev near : ℕ → ℕ → Bool
   near = same_component (edge_count g) next
 
@@ -82,29 +82,36 @@ module _ (g : Multigraph) (next : ℕ → ℕ) (counts : ℕ → Bool) (alike : 
     near-equivalence.transitive a.0 b.0 b.1 (near-equivalence.transitive a.0 a.1 b.0 a.8 (alike a.1 b.0 a.3 b.2 (a.5 ∙ sym b.4) a.7 b.6)) b.8,
   )
 
-  -- the ends of an edge that avoids the removed vertices
-  are-ends : (e : ℕ) → e < edge_count g → avoids removed (ends_of g e) ≡ true → AreNear (ends_of g e).0 (ends_of g e).1
-  are-ends e l h = inr (
+  -- the ends of an edge whose darts count
+  are-ends : (e : ℕ) → e < edge_count g → (counts (2 * e) ≡ true) × (counts (2 * e + 1) ≡ true) → AreNear (ends_of g e).0 (ends_of g e).1
+  are-ends e l both = inr (
     2 * e,
     2 * e + 1,
     omega arith,
     omega arith,
     tail-first g e,
     tail-second g e,
-    (both e l h).0,
-    (both e l h).1,
+    both.0,
+    both.1,
     subst (λ z. near (2 * e) z ≡ true) (twin-even (2 * e) (omega arith)) (component-twin (edge_count g) next (2 * e) (omega arith)),
   )
 
-  -- darts of vertices that are connected by edges that avoid the removed vertices
-  pub counted-connected : (c d : ℕ) → c < dart_count g → d < dart_count g → counts c ≡ true → counts d ≡ true → connected (ends_without g removed) (tail g c) (tail g d) ≡ true → same_component (edge_count g) next c d ≡ true
-  counted-connected c d l k h i t = last (connected-least-typed (ends_without g removed) AreNear (λ u. inl refl) are-symmetric are-transitive
-      (all-filtered (avoids removed) (λ link. AreNear link.0 link.1) g.ends (All-from_get_or (λ link. avoids removed link ≡ true → AreNear link.0 link.1) g.ends (0, 0) are-ends))
+  -- darts of near vertices are connected
+  are-connected : (c d : ℕ) → c < dart_count g → d < dart_count g → counts c ≡ true → counts d ≡ true → AreNear (tail g c) (tail g d) → same_component (edge_count g) next c d ≡ true
+  are-connected c d l k h i (inl q) = alike c d l k q h i
+  are-connected c d l k h i (inr w) = near-equivalence.transitive c w.1 d (near-equivalence.transitive c w.0 w.1 (alike c w.0 l w.2 (sym w.4) h w.6) w.8) (alike w.1 d w.3 k w.5 w.7 i)
+
+  -- so are those of vertices that are joined by edges that pass a test, where both darts of each such edge count
+  pub counted-joined : (t : ℕ → Bool) → ((e : ℕ) → e < edge_count g → t e ≡ true → (counts (2 * e) ≡ true) × (counts (2 * e + 1) ≡ true)) → (c d : ℕ) → c < dart_count g → d < dart_count g → counts c ≡ true → counts d ≡ true
+      → joined_where g t (tail g c) (tail g d) ≡ true → same_component (edge_count g) next c d ≡ true
+  counted-joined t both c d l k h i j = are-connected c d l k h i (joined-least-typed g t AreNear (λ u. inl refl) are-symmetric are-transitive (λ e m a. are-ends e m (both e m a)) (tail g c) (tail g d) j)
+
+  -- and of vertices that are connected by edges that avoid removed vertices
+  pub counted-connected : (removed : List ℕ) → ((e : ℕ) → e < edge_count g → avoids removed (ends_of g e) ≡ true → (counts (2 * e) ≡ true) × (counts (2 * e + 1) ≡ true)) → (c d : ℕ) → c < dart_count g → d < dart_count g → counts c ≡ true → counts d ≡ true
+      → connected (ends_without g removed) (tail g c) (tail g d) ≡ true → same_component (edge_count g) next c d ≡ true
+  counted-connected removed both c d l k h i t = are-connected c d l k h i (connected-least-typed (ends_without g removed) AreNear (λ u. inl refl) are-symmetric are-transitive
+      (all-filtered (avoids removed) (λ link. AreNear link.0 link.1) g.ends (All-from_get_or (λ link. avoids removed link ≡ true → AreNear link.0 link.1) g.ends (0, 0) (λ e m a. are-ends e m (both e m a))))
       (tail g c) (tail g d) t)
-    where
-      last : AreNear (tail g c) (tail g d) → near c d ≡ true
-      last (inl q) = alike c d l k q h i
-      last (inr w) = near-equivalence.transitive c w.1 d (near-equivalence.transitive c w.0 w.1 (alike c w.0 l w.2 (sym w.4) h w.6) w.8) (alike w.1 d w.3 k w.5 w.7 i)
 
 -- in a rotation system with the removed vertices opened, darts of vertices that are connected by edges that avoid these
 pub near-connected : (g : Multigraph) (r : List (List ℕ)) → IsGraph g → IsRotationSystem g r → (removed : List ℕ) (c d : ℕ) → c < dart_count g → d < dart_count g → is_member (tail g c) removed ≡ false → is_member (tail g d) removed ≡ false
