@@ -25,7 +25,6 @@ use Rattle.skeletons.specs.Items.{node_keys, keys_at, has_vertex, least_vertex, 
 use Rattle.faces.specs.Euler.{IsPlaneSystem}
 use Rattle.skeletons.specs.Round.{keys_round}
 use Rattle.skeletons.specs.Choices.{choice_of_kind, choice}
-use Rattle.skeletons.specs.Moves.{IsNodeOfKind}
 use Rattle.skeletons.proofs.KeyRuns.{met-runs}
 use Rattle.skeletons.proofs.Vertices.{least-has, vertex-in}
 use Rattle.skeletons.proofs.Moved.{runs-keys}
