@@ -5,7 +5,7 @@ use Rattle.std.proofs.lemmas.List.{get_or-set_same, get_or-set_other, length-set
 use Rattle.permutations.specs.Exchange.{exchange}
 use Rattle.permutations.proofs.Permutations.{permutes-back}
 use Rattle.multigraph.specs.Graph.{edge_count}
-use Rattle.contractions.specs.Contraction.{are_joined, is_kept}
+use Rattle.contractions.specs.Contraction.{are_adjacent, is_kept}
 use Rattle.contractions.specs.Contracted.{contracted_vertex}
 use Rattle.dart_maps.specs.Map.{twin, IsMap}
 use Rattle.dart_maps.specs.Changes.{inserted}
@@ -82,10 +82,10 @@ module _ (level : Level) (k : IsLevel level) (next : List ℕ) where
 
   -- the edge put in again between where the dart leads and y
   abbrev pub again : ℕ → ℕ → ℕ → (ℕ → ℕ) → ℕ → ℕ
-  again d p q f = rejoined (are_joined level.graph level.y (tail level.graph (twin d))) (first_dart level.graph (tail level.graph (twin d)) level.y) p q f
+  again d p q f = rejoined (are_adjacent level.graph level.y (tail level.graph (twin d))) (first_dart level.graph (tail level.graph (twin d)) level.y) p q f
 
   -- the edge that is put in again is one
-  pub joining-in : (far q : ℕ) → are_joined level.graph level.y far ≡ true → q ≡ first_dart level.graph far level.y → (q < dart_count level.graph) × (twin q < dart_count level.graph)
+  pub joining-in : (far q : ℕ) → are_adjacent level.graph level.y far ≡ true → q ≡ first_dart level.graph far level.y → (q < dart_count level.graph) × (twin q < dart_count level.graph)
   joining-in far q t e =
       let w = dart-turned level.graph level.y far (joined-dart level.graph k.graph level.y far t) in
       let b : q < dart_count level.graph = subst (λ z. z < dart_count level.graph) (sym e) (between-is level.graph far level.y w.0 w.1 w.2 w.3).0 in

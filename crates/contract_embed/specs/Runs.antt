@@ -2,7 +2,7 @@
 use Rattle.std.specs.Prelude.{◌≡◌, ◌≢◌, ℕ, ◌<◌, ◌⊎◌, true, List, length, slice_index}
 use Rattle.dart_maps.specs.Map.{twin}
 use Rattle.faces.specs.Euler.{tail, dart_count}
-use Rattle.contractions.specs.Contraction.{are_joined}
+use Rattle.contractions.specs.Contraction.{are_adjacent}
 use Rattle.planarity.specs.Expansion.{moved, FallsInRuns}
 use Rattle.contractions.specs.declared.level.Level.{Level}
 use Rattle.contractions.specs.Level.{contraction, edge_before}
@@ -25,7 +25,7 @@ Turns level next from to d = (leaves level d ≡ from) × (leaves level (slice_i
 pub record FitsAt (level : Level) (next : List ℕ) (first last d : ℕ) : Type 0 where
   pub run_of_x : leaves level d ≡ level.x → d ≢ last → leaves level (slice_index next d) ≡ level.x
   pub run_of_y : leaves level d ≡ level.y → slice_index next d ≢ first → leaves level (slice_index next d) ≡ level.y
-  pub common : leaves level d ≡ level.x → are_joined level.graph level.y (tail level.graph (twin (origin level d))) ≡ true → (d ≡ first) ⊎ (d ≡ last)
+  pub common : leaves level d ≡ level.x → are_adjacent level.graph level.y (tail level.graph (twin (origin level d))) ≡ true → (d ≡ first) ⊎ (d ≡ last)
 
 -- no dart of the contraction turns so
 abbrev pub NoTurn : Level → List ℕ → ℕ → ℕ → Type 0
@@ -43,7 +43,7 @@ HaveRuns level next first last =
 -- f with the edge between where dart d leads and y put in again, if there is one
 abbrev pub joined_again : Level → ℕ → ℕ → ℕ → (ℕ → ℕ) → ℕ → ℕ
 joined_again level d p q =
-    rejoined (are_joined level.graph level.y (tail level.graph (twin d))) (first_dart level.graph (tail level.graph (twin d)) level.y) p q
+    rejoined (are_adjacent level.graph level.y (tail level.graph (twin d))) (first_dart level.graph (tail level.graph (twin d)) level.y) p q
 
 -- the steps on the darts of the graph, when those from the first k darts of the contraction are carried over
 pub record CarriedBelow (level : Level) (next : List ℕ) (k : ℕ) (wide : List ℕ) : Type 0 where

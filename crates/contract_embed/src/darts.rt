@@ -1,7 +1,7 @@
 // Darts that lead to given vertices.
 
 ghost use Rattle.std.specs.Prelude.{◌≡◌, ◌<◌, length};
-ghost use Rattle.contractions.specs.Contraction.{are_joined};
+ghost use Rattle.contractions.specs.Contraction.{are_adjacent};
 ghost use Rattle.dart_maps.specs.Map.{twin};
 ghost use Rattle.faces.specs.Euler.{tail, dart_count};
 ghost use Rattle.contractions.specs.Marks.{AreNeighbourMarks};
@@ -15,7 +15,7 @@ pub(crate) fn arrives_at_mark(g: &Graph, marks: &[bool], v: u32, dart: u32) -> b
     requires number { length marks.now ≡ g.now.vertex_count }
     requires marks { AreNeighbourMarks g.now v marks.now }
     requires dart { dart < dart_count g.now }
-    ensures { result ≡ are_joined g.now v (tail g.now (twin dart)) }
+    ensures { result ≡ are_adjacent g.now v (tail g.now (twin dart)) }
 {
     marks[head(g, dart) as usize]
 }

@@ -3,7 +3,7 @@
 // common neighbours are put in beside those from x.
 
 ghost use Rattle.std.specs.Prelude.{◌≡◌, ◌<◌, ◌+◌, ℕ, length, slice_index, IfOk};
-ghost use Rattle.contractions.specs.Contraction.{are_joined};
+ghost use Rattle.contractions.specs.Contraction.{are_adjacent};
 ghost use Rattle.dart_maps.specs.Map.{twin};
 ghost use Rattle.faces.specs.Euler.{tail, dart_count};
 ghost use Rattle.contractions.specs.Level.{IsLevel, contraction};

@@ -10,7 +10,7 @@ use Rattle.multigraph.specs.Graph.{Multigraph, edge_count, is_end, other_end}
 use Rattle.multigraph.proofs.OtherEnd.{end-in}
 use Rattle.rotations.specs.Rotation.{order_at}
 use Rattle.graph_theory.specs.Triconnected.{IsSimple}
-use Rattle.contractions.specs.Contraction.{are_joined, is_common, common_count, is_private}
+use Rattle.contractions.specs.Contraction.{are_adjacent, is_common_neighbour, common_count, is_private}
 use Rattle.contractions.specs.Contracted.{contracted_vertex}
 use Rattle.planarity.specs.Alternation.{Alternates}
 use Rattle.planarity.specs.Circle.{leads_near}
@@ -154,18 +154,18 @@ module _ (level : Level) (k : IsLevel level) where
         level-kept level k (slice_index (rotated l m) t) (subst (λ n. slice_index (rotated l m) t < n) (level-edges level k) (round-in level k s are.system (slice_index (rotated l m) t) at).0)
 
     -- an edge to a common neighbour
-    common-at : (p : ℕ) → is_common g x y p ≡ true → (i : ℕ) × (is_member i order ≡ true) × (IsCommonEdge level i) × (other_end g (edge_before level i) x ≡ p)
+    common-at : (p : ℕ) → is_common_neighbour g x y p ≡ true → (i : ℕ) × (is_member i order ≡ true) × (IsCommonEdge level i) × (other_end g (edge_before level i) x ≡ p)
     common-at p t =
         let w = common-edge g h e x y (edge_before level) vertex k.graph (level-graph level k) (level-contraction level k) simple s are.system p t in
-        (w.0, w.1, ((w.2).leaves, ap (are_joined g y) (w.2).arrives ∙ w.3), (w.2).arrives)
+        (w.0, w.1, ((w.2).leaves, ap (are_adjacent g y) (w.2).arrives ∙ w.3), (w.2).arrives)
 
     -- three common neighbours
     many-shown : 3 ≤ common_count g x y → (m : ℕ) × (m < length order) × ((i j : ℕ) × IsTripleAt level (rotated order m) i j)
     many-shown l =
-        let w = three-passing g.vertex_count (is_common g x y) l in
+        let w = three-passing g.vertex_count (is_common_neighbour g x y) l in
         found w.first w.second w.third w.first_passes w.second_passes w.third_passes w.first_second w.first_third w.second_third
       where
-        found : (p q r : ℕ) → is_common g x y p ≡ true → is_common g x y q ≡ true → is_common g x y r ≡ true → p ≢ q → p ≢ r → q ≢ r → (m : ℕ) × (m < length order) × ((i j : ℕ) × IsTripleAt level (rotated order m) i j)
+        found : (p q r : ℕ) → is_common_neighbour g x y p ≡ true → is_common_neighbour g x y q ≡ true → is_common_neighbour g x y r ≡ true → p ≢ q → p ≢ r → q ≢ r → (m : ℕ) × (m < length order) × ((i j : ℕ) × IsTripleAt level (rotated order m) i j)
         found p q r t u v pq pr qr =
             let a = common-at p t in
             let b = common-at q u in
@@ -189,6 +189,6 @@ module _ (level : Level) (k : IsLevel level) where
         with-private : (f : ℕ) × (f < edge_count g) × (is_private g e x y f ≡ true) → ⊥
         with-private f = elim (turn-alternates g h e x y (edge_before level) vertex k.graph (level-graph level k) (level-contraction level k) simple s are.system k.triconnected f.0 f.1 f.2) [
           | inl t ↦ no_runs-in level next none s are _ _ (runs-together g h e x y (edge_before level) vertex k.graph (level-graph level k) (level-contraction level k) simple s are.system near
-              (λ i l u v. or_right (is_end g y (edge_before level i)) (are_joined g y (other_end g (edge_before level i) x)) v) x_in t)
+              (λ i l u v. or_right (is_end g y (edge_before level i)) (are_adjacent g y (other_end g (edge_before level i) x)) v) x_in t)
           | inr a ↦ let w = crossing-shown order a in (at w.0 w.1).no_crossing ((w.2).0) ((w.2).1) ((w.2).2) ((w.2).3)
         ]

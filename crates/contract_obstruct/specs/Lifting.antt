@@ -6,7 +6,7 @@ use Rattle.kuratowski.specs.declared.subdivision.Pattern.TheVariants.{K33}
 use Rattle.contractions.specs.Contracted.{contracted_vertex}
 use Rattle.contractions.specs.declared.level.Level.{Level}
 use Rattle.kuratowski.specs.Subdivision.{pattern_edges, branch_at, IsSubdivision}
-use Rattle.planarity.specs.Lift.{lifted, path_between, lifted_branch, lifted_paths, split_branch, split_paths}
+use Rattle.planarity.specs.Lift.{lifted, path_of_pair, lifted_branch, lifted_paths, split_branch, split_paths}
 
 -- the vertex whose number is v when y is left out
 abbrev pub with_number : ℕ → ℕ → ℕ
@@ -15,7 +15,7 @@ with_number y v = (if nat_lt v y then v else v + 1)
 -- the path from vertex `over.0` to vertex `over.1` of the pattern, lifted to one between the branch vertices of the pair
 abbrev pub lifted_path : Multigraph → ℕ → (ℕ → ℕ) → Pattern → List (List ℕ) → List ℕ → ℕ × ℕ → ℕ × ℕ → List ℕ
 lifted_path g e edge kind paths branch pair over =
-    lifted g e (branch_at branch pair.0) (map edge (path_between (pattern_edges kind) paths over.0 over.1)) (branch_at branch pair.1)
+    lifted g e (branch_at branch pair.0) (map edge (path_of_pair (pattern_edges kind) paths over.0 over.1)) (branch_at branch pair.1)
 
 -- the subdivision of the contraction, lifted with `foot` for the merged vertex, is one of the graph
 abbrev pub IsLifted : Level → ℕ → Pattern → List ℕ → List (List ℕ) → Type 0

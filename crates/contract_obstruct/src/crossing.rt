@@ -3,7 +3,7 @@
 
 ghost use Rattle.std.specs.Prelude.{◌≡◌, ◌≤◌, ◌<◌, ◌++◌, ◌∷◌, ℕ, [], true, length, map, reverse, slice_index, IfOk};
 ghost use Rattle.multigraph.specs.Graph.{edge_count, is_end, other_end, max_darts};
-ghost use Rattle.contractions.specs.Contraction.{are_joined};
+ghost use Rattle.contractions.specs.Contraction.{are_adjacent};
 ghost use Rattle.kuratowski.specs.Subdivision.{IsSubdivision};
 ghost use Rattle.planarity.specs.Lift.{lifted};
 ghost use Rattle.planarity.specs.Circle.{leads_near};
@@ -61,7 +61,7 @@ fn near_end(g: &Graph, x: u32, y: u32, edge: u32) -> u32
 
 // The first edge that joins y with p.
 pub(crate) fn joining_edge(g: &Graph, y: u32, p: u32) -> u32
-    requires { are_joined g.now y p ≡ true }
+    requires { are_adjacent g.now y p ≡ true }
     ensures within { result < edge_count g.now }
     ensures leaves { is_end g.now y result ≡ true }
     ensures arrives { other_end g.now result y ≡ p }

@@ -3,7 +3,7 @@
 
 ghost use Rattle.std.specs.Prelude.{◌≡◌, ◌<◌, ◌≤◌, ◌↔◌, ℕ, true, false, length, slice_index, IfOk, MatchOption};
 ghost use Rattle.multigraph.specs.Graph.{edge_count, is_end, other_end};
-ghost use Rattle.contractions.specs.Contraction.{are_joined};
+ghost use Rattle.contractions.specs.Contraction.{are_adjacent};
 ghost use Rattle.kuratowski.specs.Subdivision.{IsSubdivision};
 ghost use Rattle.planarity.specs.Circle.{leads_near};
 ghost use Rattle.contractions.specs.Level.{IsLevel, contraction, edge_before};
@@ -28,7 +28,7 @@ fn leads_to_mark(g: &Graph, marks: &[bool], v: u32, y: u32, edge: u32) -> bool
     requires edge_in { edge < edge_count g.now }
     requires number { length marks.now ≡ g.now.vertex_count }
     requires marks { AreNeighbourMarks g.now y marks.now }
-    ensures { result ≡ are_joined g.now y (other_end g.now edge v) }
+    ensures { result ≡ are_adjacent g.now y (other_end g.now edge v) }
 {
     let (first, second) = g.ends(edge);
     if first == v {

@@ -2,7 +2,7 @@
 
 ghost use Rattle.std.specs.Prelude.{◌≡◌, ◌==◌, ◌&&◌, ℕ, length, map, reverse, slice_index, IfOk};
 ghost use Rattle.multigraph.specs.Graph.{ends_of, is_end, other_end};
-ghost use Rattle.planarity.specs.Lift.{touches, lifted, is_pair, is_listed, path_between};
+ghost use Rattle.planarity.specs.Lift.{touches, lifted, is_pair, is_listed, path_of_pair};
 
 use multigraph::{Graph, Numbers};
 use std::alloc::{AllocError, Global};
@@ -141,7 +141,7 @@ pub(crate) fn path_between(
     j: usize,
 ) -> Result<Vec<u32>, AllocError>
     requires { length paths.now ≡ length pairs.now }
-    ensures { IfOk result (λ path. path.items ≡ path_between pairs.now paths.now i j) }
+    ensures { IfOk result (λ path. path.items ≡ path_of_pair pairs.now paths.now i j) }
 {
     for (k, pair) in pairs.iter().enumerate() {
         if leads(*pair, i, j) {

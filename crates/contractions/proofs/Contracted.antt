@@ -6,7 +6,7 @@ use Rattle.permutations.proofs.Injection.{count-injection}
 use Rattle.multigraph.specs.Graph.{Multigraph, edge_count, ends_of, is_end, other_end, IsGraph, IsWithinLimits}
 use Rattle.multigraph.proofs.OtherEnd.{is_end-first, is_end-second, is_end-cases, is_end-from_first, is_end-from_second, other_end-of_first, other_end-of_second, other_end-in, other_end-is_end, other_end-twice, other_end-differs, end-in}
 use Rattle.graph_theory.specs.Triconnected.{IsSimple}
-use Rattle.contractions.specs.Contraction.{are_joined, is_kept, IsContraction}
+use Rattle.contractions.specs.Contraction.{are_adjacent, is_kept, IsContraction}
 use Rattle.contractions.proofs.Joined.{joined-from, joined-turned, simple-same, kept-other, kept-apart}
 
 module _ (g h : Multigraph) (i : IsGraph g) (s : IsSimple g) (e x y : ℕ) (edge vertex : ℕ → ℕ) (c : IsContraction g h e x y edge vertex) where
@@ -41,10 +41,10 @@ module _ (g h : Multigraph) (i : IsGraph g) (s : IsSimple g) (e x y : ℕ) (edge
   never_both : (f k p : ℕ) → f < edge_count g → k < edge_count g → is_kept g e x y k ≡ true → is_end g p f ≡ true → is_end g p k ≡ true → other_end g f p ≡ x → other_end g k p ≡ y → ⊥
   never_both f k p l m kk a b fx ky =
       let back : other_end g k y ≡ p = ap (other_end g k) (sym ky) ∙ other_end-twice g k p i m b in
-      let j : are_joined g x p ≡ true = joined-turned g i p x (subst (λ (q : ℕ). are_joined g p q ≡ true) fx (joined-from g f p l a)) in
-      both_ways (are_joined g x (other_end g k y))
+      let j : are_adjacent g x p ≡ true = joined-turned g i p x (subst (λ (q : ℕ). are_adjacent g p q ≡ true) fx (joined-from g f p l a)) in
+      both_ways (are_adjacent g x (other_end g k y))
       (kept-apart g e x y k kk (subst (λ (q : ℕ). is_end g q k ≡ true) ky (other_end-is_end g k p)))
-      (subst (λ (q : ℕ). are_joined g x q ≡ true) (sym back) j)
+      (subst (λ (q : ℕ). are_adjacent g x q ≡ true) (sym back) j)
 
   -- edges that stay with ends that become the same are one
   kept-once : (f k p q : ℕ) → f < edge_count g → k < edge_count g → is_kept g e x y f ≡ true → is_kept g e x y k ≡ true → is_end g p f ≡ true → is_end g q k ≡ true

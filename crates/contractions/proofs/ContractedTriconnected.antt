@@ -9,7 +9,7 @@ use Rattle.multigraph.proofs.OtherEnd.{is_end-first, other_end-of_first, other_e
 use Rattle.graph_theory.specs.Triconnected.{ends_without, IsConnectedWithout, IsTriconnected}
 use Rattle.graph_theory.proofs.Triconnected.{first-four}
 use Rattle.graph_theory.proofs.Ends.{end-cases}
-use Rattle.contractions.specs.Contraction.{are_joined, is_kept, IsContractible, IsContraction}
+use Rattle.contractions.specs.Contraction.{are_adjacent, is_kept, IsContractible, IsContraction}
 use Rattle.graph_theory.proofs.Removed.{step-without, least-without}
 use Rattle.contractions.proofs.Outside.{out-two, out-three, two-out, three-out}
 use Rattle.contractions.proofs.Joined.{joined-edge, kept-from, dropped-joined}
@@ -35,7 +35,7 @@ module _ (g h : Multigraph) (i : IsGraph g) (t : IsTriconnected g) (e x y : ℕ)
         (step-without h others j.0 (vertex p) j.1 (end-forth g h i t.simple e x y edge vertex c j.0 p j.1 b) m (subst (λ (r : ℕ). is_member r others ≡ false) (sym d) n))
 
     -- in place of an edge from y that does not stay there is one from x
-    dropped-linked : (b : ℕ) → y ≢ b → are_joined g x b ≡ true → is_member (vertex y) others ≡ false → is_member (vertex b) others ≡ false → linked y b ≡ true
+    dropped-linked : (b : ℕ) → y ≢ b → are_adjacent g x b ≡ true → is_member (vertex y) others ≡ false → is_member (vertex b) others ≡ false → linked y b ≡ true
     dropped-linked b yb j m n =
         let f = joined-edge g x b j in
         let k : is_kept g e x y f.0 ≡ true = kept-from g e x y f.0
@@ -61,14 +61,14 @@ module _ (g h : Multigraph) (i : IsGraph g) (t : IsTriconnected g) (e x y : ℕ)
         ]
       where
         dropped : (f p : ℕ) → f < edge_count g → is_end g p f ≡ true → is_member (vertex p) others ≡ false → is_member (vertex (other_end g f p)) others ≡ false
-            → (is_end g y f ≡ true) × (are_joined g x (other_end g f y) ≡ true) → linked p (other_end g f p) ≡ true
+            → (is_end g y f ≡ true) × (are_adjacent g x (other_end g f y) ≡ true) → linked p (other_end g f p) ≡ true
         dropped f p l a m n w = elim (end-cases g f p y a w.0) [
           | inl d ↦ subst (λ (r : ℕ). linked r (other_end g f r) ≡ true) d (dropped-linked (other_end g f y) (λ r. other_end-differs g f y i l w.0 (sym r)) w.1
               (subst (λ (r : ℕ). is_member (vertex r) others ≡ false) (sym d) m) (subst (λ (r : ℕ). is_member (vertex (other_end g f r)) others ≡ false) (sym d) n))
           | inr d ↦
               let back : other_end g f y ≡ p = ap (other_end g f) d ∙ other_end-twice g f p i l a in
               subst (λ (r : ℕ). linked p r ≡ true) d (connected-symmetric (ends_without h others) (vertex y) (vertex p)
-              (dropped-linked p (λ r. other_end-differs g f p i l a (sym d ∙ r)) (subst (λ (r : ℕ). are_joined g x r ≡ true) back w.1) (subst (λ (r : ℕ). is_member (vertex r) others ≡ false) (sym d) n) m))
+              (dropped-linked p (λ r. other_end-differs g f p i l a (sym d ∙ r)) (subst (λ (r : ℕ). are_adjacent g x r ≡ true) back w.1) (subst (λ (r : ℕ). is_member (vertex r) others ≡ false) (sym d) n) m))
         ]
 
     -- so what is connected stays connected

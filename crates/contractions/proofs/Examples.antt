@@ -1,7 +1,7 @@
 -- Contracting edges of a wheel of four spokes, computed.
 use Rattle.std.proofs.Common.{◌≡◌, true, false, [], ◌∷◌, refl}
 use Rattle.multigraph.specs.Graph.{Multigraph}
-use Rattle.contractions.specs.Contraction.{is_contractible, is_connected_without, is_common, common_count, is_private}
+use Rattle.contractions.specs.Contraction.{is_contractible, is_connected_without, is_common_neighbour, common_count, is_private}
 use Rattle.contractions.specs.Contracted.{kept_edges, contracted}
 
 -- the rim 0, 1, 2, 3, and the hub 4
@@ -19,7 +19,7 @@ unfolding is_contractible is_connected_without
 spoke = refl
 
 -- the hub is the one common neighbour of 0 and 1, and edge 1 is private to 1
-hub : is_common wheel 0 1 4 ≡ true
+hub : is_common_neighbour wheel 0 1 4 ≡ true
 hub = refl
 
 one_common : common_count wheel 0 1 ≡ 1

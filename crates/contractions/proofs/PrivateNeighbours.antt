@@ -10,7 +10,7 @@ use Rattle.permutations.proofs.Search.{some-none}
 use Rattle.multigraph.specs.Graph.{Multigraph, edge_count, is_end, other_end, IsGraph}
 use Rattle.multigraph.proofs.OtherEnd.{other_end-is_end, other_end-twice, other_end-in, end-in}
 use Rattle.graph_theory.specs.Triconnected.{IsTriconnected}
-use Rattle.contractions.specs.Contraction.{IsContractible, ContractibleEdge, are_joined, is_common, common_count, is_private}
+use Rattle.contractions.specs.Contraction.{IsContractible, ContractibleEdge, are_adjacent, is_common_neighbour, common_count, is_private}
 use Rattle.graph_theory.proofs.Removed.{closed-without}
 use Rattle.contractions.proofs.Outside.{outside, out-two, two-out}
 use Rattle.contractions.proofs.Tests.{contractible-turned}
@@ -19,14 +19,14 @@ use Rattle.contractions.proofs.Joined.{joined-from, joined-apart, private-from}
 
 -- where no edge is private to y, its neighbours are x and neighbours of x
 no_private : (g : Multigraph) (e x y : ℕ) → some (edge_count g) (is_private g e x y) ≡ false
-    → (f : ℕ) → f < edge_count g → is_end g y f ≡ true → f ≢ e → are_joined g x (other_end g f y) ≡ true
-no_private g e x y n f l h k = true_from_ne_false (are_joined g x (other_end g f y)) (λ j.
+    → (f : ℕ) → f < edge_count g → is_end g y f ≡ true → f ≢ e → are_adjacent g x (other_end g f y) ≡ true
+no_private g e x y n f l h k = true_from_ne_false (are_adjacent g x (other_end g f y)) (λ j.
     both_ways (is_private g e x y f) (some-none (edge_count g) (is_private g e x y) n f l) (private-from g e x y f h k j))
 
 -- so where no edge is private to either, the two have no neighbours but each other and their common ones
 closed_pair : (g : Multigraph) → IsGraph g → (e x y : ℕ) → e < edge_count g → is_end g x e ≡ true → other_end g e x ≡ y
     → some (edge_count g) (is_private g e x y) ≡ false → some (edge_count g) (is_private g e y x) ≡ false
-    → (f p : ℕ) → f < edge_count g → is_end g p f ≡ true → is_common g x y (other_end g f p) ≡ false → ((p == x) || (p == y)) ≡ true → ((other_end g f p == x) || (other_end g f p == y)) ≡ true
+    → (f p : ℕ) → f < edge_count g → is_end g p f ≡ true → is_common_neighbour g x y (other_end g f p) ≡ false → ((p == x) || (p == y)) ≡ true → ((other_end g f p == x) || (other_end g f p == y)) ≡ true
 closed_pair g i e x y l h k ny nx f p m o c d = elim (cases_eq f e) [
   | inl s ↦ elim (or_cases (p == x) (p == y) d) [
     | inl a ↦ or_right (other_end g f p == x) (other_end g f p == y) (eq-eqb (other_end g f p) y (ap (λ (j : ℕ). other_end g j p) s ∙ (ap (other_end g e) (eqb-true p x a) ∙ k)))
@@ -35,13 +35,13 @@ closed_pair g i e x y l h k ny nx f p m o c d = elim (cases_eq f e) [
   ]
   | inr n ↦ elim (or_cases (p == x) (p == y) d) [
     | inl a ↦ let same : p ≡ x = eqb-true p x a in
-        absurd (both_ways (is_common g x y (other_end g f p)) c (and_from (are_joined g x (other_end g f p)) (are_joined g y (other_end g f p))
-        (subst (λ (q : ℕ). are_joined g q (other_end g f p) ≡ true) same (joined-from g f p m o))
-        (subst (λ (q : ℕ). are_joined g y (other_end g f q) ≡ true) (sym same) (no_private g e y x nx f m (subst (λ (q : ℕ). is_end g q f ≡ true) same o) n))))
+        absurd (both_ways (is_common_neighbour g x y (other_end g f p)) c (and_from (are_adjacent g x (other_end g f p)) (are_adjacent g y (other_end g f p))
+        (subst (λ (q : ℕ). are_adjacent g q (other_end g f p) ≡ true) same (joined-from g f p m o))
+        (subst (λ (q : ℕ). are_adjacent g y (other_end g f q) ≡ true) (sym same) (no_private g e y x nx f m (subst (λ (q : ℕ). is_end g q f ≡ true) same o) n))))
     | inr b ↦ let same : p ≡ y = eqb-true p y b in
-        absurd (both_ways (is_common g x y (other_end g f p)) c (and_from (are_joined g x (other_end g f p)) (are_joined g y (other_end g f p))
-        (subst (λ (q : ℕ). are_joined g x (other_end g f q) ≡ true) (sym same) (no_private g e x y ny f m (subst (λ (q : ℕ). is_end g q f ≡ true) same o) n))
-        (subst (λ (q : ℕ). are_joined g q (other_end g f p) ≡ true) same (joined-from g f p m o))))
+        absurd (both_ways (is_common_neighbour g x y (other_end g f p)) c (and_from (are_adjacent g x (other_end g f p)) (are_adjacent g y (other_end g f p))
+        (subst (λ (q : ℕ). are_adjacent g x (other_end g f q) ≡ true) (sym same) (no_private g e x y ny f m (subst (λ (q : ℕ). is_end g q f ≡ true) same o) n))
+        (subst (λ (q : ℕ). are_adjacent g q (other_end g f p) ≡ true) same (joined-from g f p m o))))
   ]
 ]
 
@@ -53,8 +53,8 @@ orient g i t five e x y l h k c = elim (cases_Bool (some (edge_count g) (is_priv
   | inr ny ↦ elim (cases_Bool (some (edge_count g) (is_private g e y x))) [ inl p ↦ inr p | inr nx ↦ absurd (neither ny nx) ]
 ]
   where
-    two : (a b : ℕ) × (a < g.vertex_count → is_common g x y a ≡ true) × (b < g.vertex_count → is_common g x y b ≡ true) × ((w : ℕ) → w < g.vertex_count → is_common g x y w ≡ true → (w ≡ a) ⊎ (w ≡ b))
-    two = count-two g.vertex_count (is_common g x y) c
+    two : (a b : ℕ) × (a < g.vertex_count → is_common_neighbour g x y a ≡ true) × (b < g.vertex_count → is_common_neighbour g x y b ≡ true) × ((w : ℕ) → w < g.vertex_count → is_common_neighbour g x y w ≡ true → (w ≡ a) ⊎ (w ≡ b))
+    two = count-two g.vertex_count (is_common_neighbour g x y) c
 
     removed : List ℕ
     removed = two.0 ∷ two.1 ∷ []
@@ -62,11 +62,11 @@ orient g i t five e x y l h k c = elim (cases_Bool (some (edge_count g) (is_priv
     x_in : x < g.vertex_count
     x_in = end-in g x e i l h
 
-    off : (a : ℕ) → (a < g.vertex_count → is_common g x y a ≡ true) → a ≢ x
-    off a p s = joined-apart g i x a (and_parts (are_joined g x a) (are_joined g y a) (p (omega (arith, x_in)))).0 (sym s)
+    off : (a : ℕ) → (a < g.vertex_count → is_common_neighbour g x y a ≡ true) → a ≢ x
+    off a p s = joined-apart g i x a (and_parts (are_adjacent g x a) (are_adjacent g y a) (p (omega (arith, x_in)))).0 (sym s)
 
-    left : (w : ℕ) → w < g.vertex_count → is_member w removed ≡ false → is_common g x y w ≡ false
-    left w m n = false_from_ne_true (is_common g x y w) (λ d. let o = two-out two.0 two.1 w n in elim (two.4 w m d) [ inl s ↦ o.0 (sym s) | inr s ↦ o.1 (sym s) ])
+    left : (w : ℕ) → w < g.vertex_count → is_member w removed ≡ false → is_common_neighbour g x y w ≡ false
+    left w m n = false_from_ne_true (is_common_neighbour g x y w) (λ d. let o = two-out two.0 two.1 w n in elim (two.4 w m d) [ inl s ↦ o.0 (sym s) | inr s ↦ o.1 (sym s) ])
 
     neither : some (edge_count g) (is_private g e x y) ≡ false → some (edge_count g) (is_private g e y x) ≡ false → ⊥
     neither ny nx =
@@ -82,7 +82,7 @@ orient g i t five e x y l h k c = elim (cases_Bool (some (edge_count g) (is_priv
 
 -- the common neighbours are the same for the ends named the other way round
 pub common_count-turned : (g : Multigraph) (x y : ℕ) → common_count g x y ≡ common_count g y x
-common_count-turned g x y = count-ext g.vertex_count (is_common g x y) (is_common g y x) (λ b l. either (are_joined g x b) (are_joined g y b))
+common_count-turned g x y = count-ext g.vertex_count (is_common_neighbour g x y) (is_common_neighbour g y x) (λ b l. either (are_adjacent g x b) (are_adjacent g y b))
   where
     either : (a b : Bool) → (a && b) ≡ (b && a)
     either a b = grind (arith, cases_Bool a, cases_Bool b)

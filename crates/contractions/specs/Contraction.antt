@@ -7,21 +7,21 @@ use Rattle.multigraph.specs.Graph.{Multigraph, edge_count, ends_of, is_end, othe
 use Rattle.graph_theory.specs.Triconnected.{ends_without, IsConnectedWithout}
 
 -- whether some edge joins u and v
-abbrev pub are_joined : Multigraph → ℕ → ℕ → Bool
-are_joined g u v = some (edge_count g) (λ f. is_end g u f && (other_end g f u == v))
+abbrev pub are_adjacent : Multigraph → ℕ → ℕ → Bool
+are_adjacent g u v = some (edge_count g) (λ f. is_end g u f && (other_end g f u == v))
 
 -- whether vertex b is joined with both x and y
-abbrev pub is_common : Multigraph → ℕ → ℕ → ℕ → Bool
-is_common g x y b = are_joined g x b && are_joined g y b
+abbrev pub is_common_neighbour : Multigraph → ℕ → ℕ → ℕ → Bool
+is_common_neighbour g x y b = are_adjacent g x b && are_adjacent g y b
 
 -- how many vertices are joined with both x and y
 abbrev pub common_count : Multigraph → ℕ → ℕ → ℕ
-common_count g x y = count g.vertex_count (is_common g x y)
+common_count g x y = count g.vertex_count (is_common_neighbour g x y)
 
 -- whether edge f is private to the end y of the edge e between x and y: it is at y, is not e, and leads to a vertex that x is
 -- not joined with
 abbrev pub is_private : Multigraph → ℕ → ℕ → ℕ → ℕ → Bool
-is_private g e x y f = is_end g y f && (not (f == e) && not (are_joined g x (other_end g f y)))
+is_private g e x y f = is_end g y f && (not (f == e) && not (are_adjacent g x (other_end g f y)))
 
 -- the edge between x and y may be contracted: with any third vertex removed besides them, the others stay connected
 -- (Thomassen 1980)
@@ -50,7 +50,7 @@ pub record ContractibleEdge (g : Multigraph) : Type 0 where
 -- whether edge f stays when edge e between x and y is contracted: it is not e, and does not join y with a vertex that x is
 -- joined with too
 abbrev pub is_kept : Multigraph → ℕ → ℕ → ℕ → ℕ → Bool
-is_kept g e x y f = not (f == e) && not (is_end g y f && are_joined g x (other_end g f y))
+is_kept g e x y f = not (f == e) && not (is_end g y f && are_adjacent g x (other_end g f y))
 
 -- h is g with the edge e between x and y contracted. Edge i of h is the edge `edge i` of g; vertex v of g becomes the vertex
 -- `vertex v` of h; and the two ends of an edge keep their order

@@ -3,11 +3,11 @@ use Rattle.std.specs.Prelude.{◌≡◌, ℕ, ◌<◌, Bool, ◌&&◌, ◌==◌,
 use Rattle.permutations.specs.Count.{some}
 use Rattle.multigraph.specs.Graph.{Multigraph, is_end, other_end}
 use Rattle.multigraph.specs.Marks.{is_marked}
-use Rattle.contractions.specs.Contraction.{are_joined}
+use Rattle.contractions.specs.Contraction.{are_adjacent}
 
 -- just the vertices are marked that are joined with x
 abbrev pub AreNeighbourMarks : Multigraph → ℕ → List Bool → Type 0
-AreNeighbourMarks g x marks = (v : ℕ) → v < g.vertex_count → is_marked marks v ≡ are_joined g x v
+AreNeighbourMarks g x marks = (v : ℕ) → v < g.vertex_count → is_marked marks v ≡ are_adjacent g x v
 
 -- just the vertices are marked that one of the first k edges joins with x
 abbrev pub AreNeighbourMarksBelow : Multigraph → ℕ → ℕ → List Bool → Type 0

@@ -4,7 +4,7 @@ ghost use Rattle.std.specs.Prelude.{◌≡◌, ◌≢◌, ◌+◌, ◌<◌, ◌�
 ghost use Rattle.permutations.specs.Count.{some};
 ghost use Rattle.multigraph.specs.Graph.{edge_count, ends_of, is_end, other_end};
 ghost use Rattle.graph_theory.specs.Triconnected.{IsTriconnected};
-ghost use Rattle.contractions.specs.Contraction.{are_joined, is_kept, is_private, IsContractible};
+ghost use Rattle.contractions.specs.Contraction.{are_adjacent, is_kept, is_private, IsContractible};
 ghost use Rattle.contractions.specs.Contracted.{without_number, contracted_vertex, kept_edges, contracted_ends, contracted};
 ghost use Rattle.contractions.specs.Level.{IsFirstContractible, IsOriented, IsLevel, contraction};
 ghost use Rattle.contractions.specs.Marks.{AreNeighbourMarks, AreNeighbourMarksBelow};
@@ -58,7 +58,7 @@ fn leads_to_mark(g: &Graph, marks: &[bool], x: u32, y: u32, edge: u32) -> bool
     requires edge_in { edge < edge_count g.now }
     requires number { length marks.now ≡ g.now.vertex_count }
     requires marks { AreNeighbourMarks g.now x marks.now }
-    ensures { result ≡ (is_end g.now y edge && are_joined g.now x (other_end g.now edge y)) }
+    ensures { result ≡ (is_end g.now y edge && are_adjacent g.now x (other_end g.now edge y)) }
 {
     match g.far_end(edge, y) {
         Some(vertex) => marks[vertex as usize],

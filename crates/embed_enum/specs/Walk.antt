@@ -26,6 +26,6 @@ AreNexts zero old new = old ≡ new
 AreNexts (suc n) old new = (s : BlockState) × IsNextOf old s × AreNexts n s new
 
 -- a rank is refused: the list has 2^128 members or more; or n members, and the rank is n at least
-abbrev pub IsRefused : List (List (List ℕ)) → ℕ → GotoFault → Type 0
-IsRefused l rank CountOver = 2 ^ 128 ≤ length l
-IsRefused l rank (RankOut n) = (n ≡ length l) × (n ≤ rank)
+abbrev pub IsGotoRefusal : List (List (List ℕ)) → ℕ → GotoFault → Type 0
+IsGotoRefusal l rank CountOver = 2 ^ 128 ≤ length l
+IsGotoRefusal l rank (RankOut n) = (n ≡ length l) × (n ≤ rank)

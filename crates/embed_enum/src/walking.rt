@@ -5,7 +5,7 @@ ghost use Rattle.pair_split.specs.Tutte.{node_at};
 ghost use Rattle.skeletons.specs.Lists.{IsRank, list_count};
 ghost use Rattle.skel_embed.specs.Block.{lock_at};
 ghost use Rattle.embed_enum.specs.Digits.{radix_at, digit_at};
-ghost use Rattle.embed_enum.specs.Walk.{IsMemberList, KeepsRest, IsRefused};
+ghost use Rattle.embed_enum.specs.Walk.{IsMemberList, KeepsRest, IsGotoRefusal};
 ghost use Rattle.embed_enum.specs.Changes.{KeepsOthers, IsMoved, node_digit, AreReset, IsNumbered};
 
 use crate::counting::members;
@@ -131,7 +131,7 @@ fn set_digits(p: &mut PlaneBlock, number: u128)
 pub fn goto(p: &mut PlaneBlock, rank: u128) -> Result<(), GotoFault>
     ensures gone { (l : List (List (List ℕ))) → IsMemberList p.old l → OnOk result (IsRank l p.new.rotation rank) }
     ensures within { (l : List (List (List ℕ))) → IsMemberList p.old l → OnOk result (length l < 2 ^ 128) }
-    ensures refused { (l : List (List (List ℕ))) → IsMemberList p.old l → IfErr result (IsRefused l rank) }
+    ensures refused { (l : List (List (List ℕ))) → IsMemberList p.old l → IfErr result (IsGotoRefusal l rank) }
     ensures as_before { OnErr result (p.new ≡ p.old) }
     ensures list { (l : List (List (List ℕ))) → IsMemberList p.old l → IsMemberList p.new l }
     ensures rest { KeepsRest p.old p.new }

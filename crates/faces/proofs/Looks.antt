@@ -8,7 +8,7 @@ use Rattle.permutations.specs.Members.{is_member}
 use Rattle.permutations.proofs.Members.{member-append}
 use Rattle.multigraph.specs.Graph.{Multigraph, incident_edges, other_end}
 use Rattle.multigraph.specs.Marks.{is_marked}
-use Rattle.faces.specs.Search.{LooksAlong, leads_to}
+use Rattle.faces.specs.Search.{LooksAlong, is_neighbour_by}
 use Rattle.faces.proofs.Walk.{marked-set, unmarked-less}
 
 -- a mark on x reads true at x, and nothing changes elsewhere
@@ -27,7 +27,7 @@ pub member-last : (x : ℕ) (stack : List ℕ) → is_member x (stack ++ x ∷ [
 member-last x stack = member-push x x stack ∙ ap (λ b. is_member x stack || b) (eq-eqb x x refl) ∙ or-true (is_member x stack)
 
 -- one edge more leads to where it leads
-pub leads_to-more : (g : Multigraph) (v k x : ℕ) → leads_to g v (k + 1) x ≡ (leads_to g v k x || (other_end g (slice_index (incident_edges g v) k) v == x))
+pub leads_to-more : (g : Multigraph) (v k x : ℕ) → is_neighbour_by g v (k + 1) x ≡ (is_neighbour_by g v k x || (other_end g (slice_index (incident_edges g v) k) v == x))
 leads_to-more g v k x = some-more k (λ i. other_end g (slice_index (incident_edges g v) i) v == x)
 
 -- an edge that leads to a marked vertex changes nothing
@@ -40,17 +40,17 @@ looks-skip g v k y marks stack new_marks new_stack look to e = record {
   rest = look.rest;
 }
   where
-    edges : (x : ℕ) → leads_to g v (k + 1) x ≡ (leads_to g v k x || (y == x))
-    edges x = leads_to-more g v k x ∙ ap (λ z. leads_to g v k x || (z == x)) to
+    edges : (x : ℕ) → is_neighbour_by g v (k + 1) x ≡ (is_neighbour_by g v k x || (y == x))
+    edges x = leads_to-more g v k x ∙ ap (λ z. is_neighbour_by g v k x || (z == x)) to
 
-    marked : (x : ℕ) → is_marked new_marks x ≡ (is_marked marks x || leads_to g v (k + 1) x)
+    marked : (x : ℕ) → is_marked new_marks x ≡ (is_marked marks x || is_neighbour_by g v (k + 1) x)
     marked x = elim (cases_eq y x) [
       | inl s ↦
           let old : is_marked new_marks x ≡ true = sym (ap (is_marked new_marks) s) ∙ e in
-          let more : leads_to g v (k + 1) x ≡ true = edges x ∙ ap (λ b. leads_to g v k x || b) (eq-eqb y x s) ∙ or-true (leads_to g v k x) in
+          let more : is_neighbour_by g v (k + 1) x ≡ true = edges x ∙ ap (λ b. is_neighbour_by g v k x || b) (eq-eqb y x s) ∙ or-true (is_neighbour_by g v k x) in
           old ∙ sym (ap (λ b. is_marked marks x || b) more ∙ or-true (is_marked marks x))
       | inr n ↦
-          let same : leads_to g v (k + 1) x ≡ leads_to g v k x = edges x ∙ ap (λ b. leads_to g v k x || b) (ne_eqb y x n) ∙ or-false (leads_to g v k x) in
+          let same : is_neighbour_by g v (k + 1) x ≡ is_neighbour_by g v k x = edges x ∙ ap (λ b. is_neighbour_by g v k x || b) (ne_eqb y x n) ∙ or-false (is_neighbour_by g v k x) in
           look.marked x ∙ sym (ap (λ b. is_marked marks x || b) same)
     ]
 
@@ -64,15 +64,15 @@ looks-more g v k y marks stack new_marks new_stack look to l e = record {
   rest = omega (arith, unmarked-less new_marks y l e, look.rest, length-append new_stack (y ∷ []));
 }
   where
-    edges : (x : ℕ) → leads_to g v (k + 1) x ≡ (leads_to g v k x || (y == x))
-    edges x = leads_to-more g v k x ∙ ap (λ z. leads_to g v k x || (z == x)) to
+    edges : (x : ℕ) → is_neighbour_by g v (k + 1) x ≡ (is_neighbour_by g v k x || (y == x))
+    edges x = leads_to-more g v k x ∙ ap (λ z. is_neighbour_by g v k x || (z == x)) to
 
-    marked : (x : ℕ) → is_marked (set new_marks y true) x ≡ (is_marked marks x || leads_to g v (k + 1) x)
-    marked x = marked-set new_marks y x l ∙ ap (λ b. b || (y == x)) (look.marked x) ∙ or_assoc (is_marked marks x) (leads_to g v k x) (y == x) ∙ ap (λ b. is_marked marks x || b) (sym (edges x))
+    marked : (x : ℕ) → is_marked (set new_marks y true) x ≡ (is_marked marks x || is_neighbour_by g v (k + 1) x)
+    marked x = marked-set new_marks y x l ∙ ap (λ b. b || (y == x)) (look.marked x) ∙ or_assoc (is_marked marks x) (is_neighbour_by g v k x) (y == x) ∙ ap (λ b. is_marked marks x || b) (sym (edges x))
 
     fresh : is_marked marks y ≡ false
     fresh = elim (cases_Bool (is_marked marks y)) [
-      | inl t ↦ absurd (both_ways (is_marked new_marks y) e (look.marked y ∙ ap (λ b. b || leads_to g v k y) t))
+      | inl t ↦ absurd (both_ways (is_marked new_marks y) e (look.marked y ∙ ap (λ b. b || is_neighbour_by g v k y) t))
       | inr t ↦ t
     ]
 

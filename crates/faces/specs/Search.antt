@@ -10,16 +10,16 @@ abbrev pub unmarked_count : List Bool → ℕ
 unmarked_count marks = count_by not marks
 
 -- whether one of the first k edges at v leads to x
-abbrev pub leads_to : Multigraph → ℕ → ℕ → ℕ → Bool
-leads_to g v k x = some k (λ i. other_end g (slice_index (incident_edges g v) i) v == x)
+abbrev pub is_neighbour_by : Multigraph → ℕ → ℕ → ℕ → Bool
+is_neighbour_by g v k x = some k (λ i. other_end g (slice_index (incident_edges g v) i) v == x)
 
 -- whether some edge leads from v to x
 abbrev pub is_neighbour : Multigraph → ℕ → ℕ → Bool
-is_neighbour g v x = leads_to g v (length (incident_edges g v)) x
+is_neighbour g v x = is_neighbour_by g v (length (incident_edges g v)) x
 
 -- the marks and the stack before and after a look along the first k edges at v: where these lead is marked, and just what
 -- is marked anew waits on the stack besides
 pub record LooksAlong (g : Multigraph) (v k : ℕ) (marks : List Bool) (stack : List ℕ) (new_marks : List Bool) (new_stack : List ℕ) : Type 0 where
-  pub marked : (x : ℕ) → is_marked new_marks x ≡ (is_marked marks x || leads_to g v k x)
+  pub marked : (x : ℕ) → is_marked new_marks x ≡ (is_marked marks x || is_neighbour_by g v k x)
   pub waits : (x : ℕ) → is_member x new_stack ≡ (is_member x stack || (is_marked new_marks x && not (is_marked marks x)))
   pub rest : unmarked_count new_marks + length new_stack ≡ unmarked_count marks + length stack

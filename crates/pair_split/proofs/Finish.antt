@@ -7,7 +7,7 @@ use Rattle.pair_split.specs.Family.{Entry, has_end}
 use Rattle.pair_split.specs.Edges.{graph_entry, entry_ends, family_skeleton}
 use Rattle.pair_split.specs.Skeleton.{is_end_of, is_vertex, IsSkeleton}
 use Rattle.pair_split.specs.Split.{component_at, items_of, item_at, piece_ends, skeleton, StandsFor, is_beyond, side, AreLinked, AreOfKind, CoversOnce, SidesMeetInEnds, IsSplit}
-use Rattle.pair_split.specs.State.{SplitState, part_at, own_at, layer, family_at, IsBeyond, IsWritten, AreComponents, IsSplitState}
+use Rattle.pair_split.specs.State.{SplitState, part_at, own_at, layer, family_at, IsBeyond, IsWrittenIn, AreComponents, IsSplitState}
 use Rattle.pair_split.specs.declared.components.Kind.{Kind}
 use Rattle.pair_split.specs.declared.components.Kind.TheVariants.{B}
 use Rattle.pair_split.specs.declared.components.What.TheVariants.{Real}
@@ -49,7 +49,7 @@ module _ (g : Multigraph) (state : SplitState) (s : IsSplitState g state) (kind 
   -- an item that stands for an edge is that edge, in the layer of its component
   real-entry : (k i e : ℕ) → StandsFor comps k i (Real e) → (e < edge_count g) × Contains (layer state k) (entry k i) × (entry k i ≡ graph_entry g e)
   real-entry k i e h =
-      let x : (e < edge_count g) × ((entry k i).name ≡ e) = subst (IsWritten (edge_count g) state k (entry k i)) h.1 (item-written g state s kind comps w k i h.0) in
+      let x : (e < edge_count g) × ((entry k i).name ≡ e) = subst (IsWrittenIn (edge_count g) state k (entry k i)) h.1 (item-written g state s kind comps w k i h.0) in
       elim (entry-cases g state s kind comps w k i h.0) [
         | inl a ↦ absurd (omega (arith, x.0, x.1, s.own_names k a.0, ap (λ (z : Entry). z.name) a.1))
         | inr c ↦ elim (s.nothing_else k (entry k i) c) [

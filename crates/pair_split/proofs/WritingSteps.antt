@@ -8,7 +8,7 @@ use Rattle.pair_split.specs.Family.{Entry}
 use Rattle.pair_split.specs.Edges.{entry_ends}
 use Rattle.pair_split.specs.Bridges.{entry_of, family_of, HaveNamesBelow}
 use Rattle.pair_split.specs.Split.{piece_ends, component_at, items_of}
-use Rattle.pair_split.specs.State.{Part, SplitState, part_at, own_at, layer, family_at, IsWritten, AreWritten, AreComponents, IsSplitState}
+use Rattle.pair_split.specs.State.{Part, SplitState, part_at, own_at, layer, family_at, IsWrittenIn, AreWritten, AreComponents, IsSplitState}
 use Rattle.pair_split.specs.Splitting.{part_of, state_of}
 use Rattle.pair_split.specs.Writing.{IsListed, AreUps, HavePartNamesBelow, finished_at, ArePartsWritten}
 use Rattle.pair_split.specs.declared.family.NamedEdge.{NamedEdge}
@@ -171,7 +171,7 @@ module _ (m : ℕ) (parts : List Finished) (current : List NamedEdge) (listed : 
 
 -- one piece more
 pub written-push : (m : ℕ) (st : SplitState) (k : ℕ) (entries : List Entry) (pieces : List Piece) (entry : Entry) (piece : Piece) → AreWritten m st k entries pieces
-    → piece_ends piece ≡ entry_ends entry → IsWritten m st k entry piece.what → AreWritten m st k (entries ++ entry ∷ []) (pieces ++ piece ∷ [])
+    → piece_ends piece ≡ entry_ends entry → IsWrittenIn m st k entry piece.what → AreWritten m st k (entries ++ entry ∷ []) (pieces ++ piece ∷ [])
 written-push m st k [] [] entry piece w e h = ((e, h), tt)
 written-push m st k [] (p ∷ pieces) entry piece w e h = absurd w
 written-push m st k (x ∷ entries) [] entry piece w e h = absurd w

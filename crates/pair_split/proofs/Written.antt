@@ -10,7 +10,7 @@ use Rattle.pair_split.specs.Family.{Entry, names}
 use Rattle.pair_split.specs.Edges.{entry_ends, family_skeleton}
 use Rattle.pair_split.specs.Skeleton.{SameEnds}
 use Rattle.pair_split.specs.Split.{component_at, items_of, item_at, piece_ends, StandsFor, IsTree, AreLinked}
-use Rattle.pair_split.specs.State.{SplitState, own_at, layer, family_at, IsWritten, AreWritten, AreComponents, IsSplitState}
+use Rattle.pair_split.specs.State.{SplitState, own_at, layer, family_at, IsWrittenIn, AreWritten, AreComponents, IsSplitState}
 use Rattle.pair_split.specs.declared.components.Kind.{Kind}
 use Rattle.pair_split.specs.declared.components.What.{What}
 use Rattle.pair_split.specs.declared.components.What.TheVariants.{Real, Link}
@@ -34,7 +34,7 @@ written-length m state k (entry ∷ entries) (piece ∷ pieces) w = omega (arith
 
 -- and each is the entry at its place
 pub written-at : (m : ℕ) (state : SplitState) (k : ℕ) (entries : List Entry) (pieces : List Piece) → AreWritten m state k entries pieces → (i : ℕ) → i < length pieces
-    → (piece_ends (slice_index_or pieces i no_piece) ≡ entry_ends (slice_index_or entries i no_entry)) × IsWritten m state k (slice_index_or entries i no_entry) (slice_index_or pieces i no_piece).what
+    → (piece_ends (slice_index_or pieces i no_piece) ≡ entry_ends (slice_index_or entries i no_entry)) × IsWrittenIn m state k (slice_index_or entries i no_entry) (slice_index_or pieces i no_piece).what
 written-at m state k [] [] w i l = absurd (omega (arith, l))
 written-at m state k [] (piece ∷ pieces) w i l = absurd w
 written-at m state k (entry ∷ entries) [] w i l = absurd w
@@ -49,17 +49,17 @@ written-skeleton m state k (entry ∷ entries) [] w = absurd w
 written-skeleton m state k (entry ∷ entries) (piece ∷ pieces) w = ap₂ (λ (x : ℕ × ℕ) (l : List (ℕ × ℕ)). x ∷ l) (w.0).0 (written-skeleton m state k entries pieces w.1)
 
 -- an edge is written as an edge
-pub written-edge : (m : ℕ) (state : SplitState) (k : ℕ) (entry : Entry) (what : What) → IsWritten m state k entry what → entry.name < m → what ≡ Real entry.name
+pub written-edge : (m : ℕ) (state : SplitState) (k : ℕ) (entry : Entry) (what : What) → IsWrittenIn m state k entry what → entry.name < m → what ≡ Real entry.name
 written-edge m state k entry (Real e) w l = ap Real (sym w.1)
 written-edge m state k entry (Link j) w l = elim w [ inl h ↦ absurd (omega (arith, l, h.0)) | inr h ↦ absurd (omega (arith, l, h.0)) ]
 
 -- the virtual edge of another component is written as a link to it
-written-other : (m : ℕ) (state : SplitState) (k : ℕ) (entry : Entry) (what : What) (c : ℕ) → IsWritten m state k entry what → entry.name ≡ m + c → c ≢ k → what ≡ Link c
+written-other : (m : ℕ) (state : SplitState) (k : ℕ) (entry : Entry) (what : What) (c : ℕ) → IsWrittenIn m state k entry what → entry.name ≡ m + c → c ≢ k → what ≡ Link c
 written-other m state k entry (Real e) c w n d = absurd (omega (arith, w.0, w.1, n))
 written-other m state k entry (Link j) c w n d = elim w [ inl h ↦ ap Link (omega (arith, h.0, n)) | inr h ↦ absurd (d (omega (arith, h.0, n))) ]
 
 -- the component's own virtual edge is written as a link to the component in which it stands as well
-written-own : (m : ℕ) (state : SplitState) (k : ℕ) (entry : Entry) (what : What) → IsWritten m state k entry what → entry.name ≡ m + k → (j : ℕ) × (what ≡ Link j) × Contains (layer state j) entry
+written-own : (m : ℕ) (state : SplitState) (k : ℕ) (entry : Entry) (what : What) → IsWrittenIn m state k entry what → entry.name ≡ m + k → (j : ℕ) × (what ≡ Link j) × Contains (layer state j) entry
 written-own m state k entry (Real e) w n = absurd (omega (arith, w.0, w.1, n))
 written-own m state k entry (Link j) w n = elim w [ inl h ↦ absurd (h.1 (omega (arith, h.0, n))) | inr h ↦ (j, refl, h.1) ]
 
@@ -87,7 +87,7 @@ module _ (g : Multigraph) (state : SplitState) (s : IsSplitState g state) (kind 
   pub item-ends : (k i : ℕ) → i < length (items_of comps k) → piece_ends (item_at comps k i) ≡ entry_ends (entry_at k i)
   item-ends k i l = (written-at (edge_count g) state k (family_at state k) (items_of comps k) (w.written k (item-in k i l)) i l).0
 
-  pub item-written : (k i : ℕ) → i < length (items_of comps k) → IsWritten (edge_count g) state k (entry_at k i) (item_at comps k i).what
+  pub item-written : (k i : ℕ) → i < length (items_of comps k) → IsWrittenIn (edge_count g) state k (entry_at k i) (item_at comps k i).what
   item-written k i l = (written-at (edge_count g) state k (family_at state k) (items_of comps k) (w.written k (item-in k i l)) i l).1
 
   -- the virtual edge of a component stands in later layers only
@@ -147,7 +147,7 @@ module _ (g : Multigraph) (state : SplitState) (s : IsSplitState g state) (kind 
   IsParent k i j = (k < r) × Contains (layer state j) (own_at state k) × (entry_at k i ≡ own_at state k)
 
   pub link-cases : (k i j : ℕ) → StandsFor comps k i (Link j) → IsChild k i j ⊎ IsParent k i j
-  link-cases k i j h = elim (subst (IsWritten (edge_count g) state k (entry_at k i)) h.1 (item-written k i h.0)) [
+  link-cases k i j h = elim (subst (IsWrittenIn (edge_count g) state k (entry_at k i)) h.1 (item-written k i h.0)) [
     | inl x ↦ elim (entry-cases k i h.0) [
       | inl a ↦ absurd (x.1 (omega (arith, x.0, s.own_names k a.0, ap (λ (z : Entry). z.name) a.1)))
       | inr c ↦ elim (s.nothing_else k (entry_at k i) c) [

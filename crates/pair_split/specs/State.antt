@@ -89,16 +89,16 @@ family_at state k = slice_index_or (map part_family state.parts ++ state.current
 
 -- in component k the entry is written so: an edge as an edge, the component's own virtual edge as a link to the component in
 -- which it stands as well, any other virtual edge as a link to its own component
-abbrev pub IsWritten : ℕ → SplitState → ℕ → Entry → What → Type 0
-IsWritten m state k entry (Real e) = (e < m) × (entry.name ≡ e)
-IsWritten m state k entry (Link j) = ((entry.name ≡ m + j) × (j ≢ k)) ⊎ ((entry.name ≡ m + k) × Contains (layer state j) entry)
+abbrev pub IsWrittenIn : ℕ → SplitState → ℕ → Entry → What → Type 0
+IsWrittenIn m state k entry (Real e) = (e < m) × (entry.name ≡ e)
+IsWrittenIn m state k entry (Link j) = ((entry.name ≡ m + j) × (j ≢ k)) ⊎ ((entry.name ≡ m + k) × Contains (layer state j) entry)
 
 -- the pieces are these entries of component k, in order
 abbrev pub AreWritten : ℕ → SplitState → ℕ → List Entry → List Piece → Type 0
 AreWritten m state k [] [] = Unit {0}
 AreWritten m state k [] (piece ∷ pieces) = ⊥
 AreWritten m state k (entry ∷ entries) [] = ⊥
-AreWritten m state k (entry ∷ entries) (piece ∷ pieces) = ((piece_ends piece ≡ entry_ends entry) × IsWritten m state k entry piece.what) × AreWritten m state k entries pieces
+AreWritten m state k (entry ∷ entries) (piece ∷ pieces) = ((piece_ends piece ≡ entry_ends entry) × IsWrittenIn m state k entry piece.what) × AreWritten m state k entries pieces
 
 -- these are the components of the state, the current family being the last one and of this kind
 pub record AreComponents (m : ℕ) (state : SplitState) (kind : Kind) (comps : List Comp) : Type 0 where

@@ -3,7 +3,7 @@
 ghost use Rattle.std.specs.Prelude.{◌≡◌, ◌+◌, ◌<◌, ◌^◌, ◌++◌, ◌∷◌, [], ℕ, List, length, IfOk, slice_index_or, Contains};
 ghost use Rattle.pair_split.specs.Family.{Entry};
 ghost use Rattle.pair_split.specs.Bridges.{entry_of, family_of, HaveNamesBelow};
-ghost use Rattle.pair_split.specs.State.{SplitState, layer, IsWritten, AreWritten, AreComponents};
+ghost use Rattle.pair_split.specs.State.{SplitState, layer, IsWrittenIn, AreWritten, AreComponents};
 ghost use Rattle.pair_split.specs.Splitting.{state_of};
 ghost use Rattle.pair_split.specs.Writing.{IsListed, AreUps, IsNotedFor, HavePartNamesBelow, ArePartsWritten};
 
@@ -63,7 +63,7 @@ fn what_of(edge: NamedEdge, m: u32, k: u32, ups: &[u32]) -> What
     requires { edge.name < m + length ups.now }
     ensures { (state : SplitState) → (edge.name ≡ m + k
         → Contains (layer state (slice_index_or ups.now k 0)) (entry_of edge))
-        → IsWritten m state k (entry_of edge) result }
+        → IsWrittenIn m state k (entry_of edge) result }
 {
     if edge.name < m {
         return What::Real(edge.name);

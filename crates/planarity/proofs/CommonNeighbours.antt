@@ -5,7 +5,7 @@ use Rattle.permutations.proofs.Permutations.{permutes-one-to-one}
 use Rattle.multigraph.specs.Graph.{Multigraph, IsGraph, edge_count}
 use Rattle.rotations.specs.Rotation.{IsRotationSystem}
 use Rattle.graph_theory.specs.Triconnected.{IsSimple, IsConnectedWithout}
-use Rattle.contractions.specs.Contraction.{are_joined, IsContractible, IsContraction}
+use Rattle.contractions.specs.Contraction.{are_adjacent, IsContractible, IsContraction}
 use Rattle.dart_maps.specs.Map.{twin}
 use Rattle.dart_maps.proofs.Darts.{twin-twin, twin-below}
 use Rattle.faces.specs.Euler.{tail, dart_from, dart_count, IsPlane}
@@ -59,7 +59,7 @@ module _ (g h : Multigraph) (e x y : ℕ) (edge vertex : ℕ → ℕ) (ok : IsGr
           (subst (λ v. IsConnectedWithout g (x ∷ v ∷ tail g (twin w) ∷ [])) (sym arrives) (may (tail g (twin w)) third third-too))
 
   -- of three common neighbours two are equal
-  pub common-two : (a b c : ℕ) → are_joined g x a ≡ true → are_joined g y a ≡ true → are_joined g x b ≡ true → are_joined g y b ≡ true → are_joined g x c ≡ true → are_joined g y c ≡ true → TwoEqual a b c
+  pub common-two : (a b c : ℕ) → are_adjacent g x a ≡ true → are_adjacent g y a ≡ true → are_adjacent g x b ≡ true → are_adjacent g y b ≡ true → are_adjacent g x c ≡ true → are_adjacent g y c ≡ true → TwoEqual a b c
   common-two a b c xa ya xb yb xc yc = all (joined-dart g ok x a xa) (joined-dart g ok x b xb) (joined-dart g ok x c xc) (dart-turned g y a (joined-dart g ok y a ya)) (dart-turned g y b (joined-dart g ok y b yb)) (dart-turned g y c (joined-dart g ok y c yc))
     where
       -- the darts to two late ones are equal, and those to two early ones

@@ -11,7 +11,7 @@ use Rattle.multigraph.specs.Graph.{Multigraph, IsGraph, edge_count, other_end}
 use Rattle.multigraph.proofs.OtherEnd.{end-in}
 use Rattle.rotations.specs.Rotation.{IsRotationSystem}
 use Rattle.graph_theory.specs.Triconnected.{IsTriconnected}
-use Rattle.contractions.specs.Contraction.{are_joined, is_kept, IsContractible, IsContraction}
+use Rattle.contractions.specs.Contraction.{are_adjacent, is_kept, IsContractible, IsContraction}
 use Rattle.contractions.proofs.Neighbours.{neighbour}
 use Rattle.dart_maps.specs.Map.{twin, IsMap}
 use Rattle.dart_maps.specs.Order.{one_of_three}
@@ -279,7 +279,7 @@ module _ (g h : Multigraph) (e x y : ℕ) (edge vertex : ℕ → ℕ) (ok : IsGr
 
 -- plane rotation systems that are the same with the edge contracted are the same, where y has a neighbour of its own
 pub contracted-tells : (g h : Multigraph) (e x y : ℕ) (edge vertex : ℕ → ℕ) → IsGraph g → IsGraph h → IsTriconnected g → IsContractible g x y → IsContraction g h e x y edge vertex
-    → (v : ℕ) → v ≢ x → are_joined g y v ≡ true → are_joined g x v ≡ false
+    → (v : ℕ) → v ≢ x → are_adjacent g y v ≡ true → are_adjacent g x v ≡ false
     → (r q t : List (List ℕ)) → IsRotationSystem g r → IsRotationSystem g q → IsPlane g r → IsPlane g q → IsContractedSystem g h e x y edge r t → IsContractedSystem g h e x y edge q t → r ≡ q
 contracted-tells g h e x y edge vertex ok okh tri may con v vx yv xv r q t s u plane plane_too first second =
     let w = joined-dart g ok y v yv in
@@ -292,4 +292,4 @@ contracted-tells g h e x y edge vertex ok okh tri may con v vx yv xv r q t s u p
           | inr j ↦ tail-other g w.0 ok w.1 (ap (tail g) j ∙ middle-twin g h e x y edge vertex ok con ∙ sym w.2)
         ])
         (ap (tail g) (twin-twin w.0) ∙ w.2)
-        (ap (are_joined g x) w.3 ∙ xv)
+        (ap (are_adjacent g x) w.3 ∙ xv)

@@ -9,7 +9,7 @@ use Rattle.permutations.proofs.Orbits.{orbit-equivalence, orbit-step}
 use Rattle.multigraph.specs.Graph.{Multigraph, IsGraph, edge_count}
 use Rattle.rotations.specs.Rotation.{IsRotationSystem}
 use Rattle.graph_theory.specs.Triconnected.{IsSimple}
-use Rattle.contractions.specs.Contraction.{are_joined, is_kept, IsContraction}
+use Rattle.contractions.specs.Contraction.{are_adjacent, is_kept, IsContraction}
 use Rattle.dart_maps.specs.Map.{twin, face, same_face, IsMap}
 use Rattle.dart_maps.proofs.Darts.{twin-twin, twin-below, twin-edge, face-twin}
 use Rattle.dart_maps.proofs.Euler.{plane-ext}
@@ -35,8 +35,8 @@ use Rattle.planarity.proofs.JoinedAgain.{put-edge, joined_again, joined_back, jo
 -- the edges from y to common neighbours put in beside the first and the last dart of x, where these lead to one
 abbrev pub expanded : Multigraph → Multigraph → ℕ → ℕ → ℕ → (ℕ → ℕ) → List (List ℕ) → ℕ → ℕ → ℕ → ℕ
 expanded g h e x y edge t first last =
-    joined_again (are_joined g y (tail g (twin (moved edge last)))) (dart_between g (tail g (twin (moved edge last))) y) (moved edge (dart_before h t (twin last))) (twin (dart_from g x e))
-    (joined_again (are_joined g y (tail g (twin (moved edge first)))) (dart_between g (tail g (twin (moved edge first))) y) (twin (moved edge first)) (moved edge (dart_before h t first))
+    joined_again (are_adjacent g y (tail g (twin (moved edge last)))) (dart_between g (tail g (twin (moved edge last))) y) (moved edge (dart_before h t (twin last))) (twin (dart_from g x e))
+    (joined_again (are_adjacent g y (tail g (twin (moved edge first)))) (dart_between g (tail g (twin (moved edge first))) y) (twin (moved edge first)) (moved edge (dart_before h t first))
     (opened (dart_from g x e) (moved edge last) (moved edge (dart_before h t first)) (carried g h e x y edge (dart_after h t))))
 
 -- a plane rotation system of the contracted graph, and the two runs of its merged vertex
@@ -103,7 +103,7 @@ module _ (g h : Multigraph) (e x y : ℕ) (edge vertex : ℕ → ℕ) (ok : IsGr
     abbrev over : ℕ
     over = dart_between g (tail g (twin (moved edge d))) y
 
-    module _ (joined : are_joined g y (tail g (twin (moved edge d))) ≡ true) where
+    module _ (joined : are_adjacent g y (tail g (twin (moved edge d))) ≡ true) where
       over-is : (over < dart_count g) × (tail g over ≡ tail g (twin (into d))) × (tail g (twin over) ≡ y)
       over-is =
           let w = dart-turned g y (tail g (twin (into d))) (joined-dart g ok y (tail g (twin (into d))) joined) in
@@ -142,7 +142,7 @@ module _ (g h : Multigraph) (e x y : ℕ) (edge vertex : ℕ → ℕ) (ok : IsGr
 
   -- the edge to the vertex where the first dart of x leads, put in
   abbrev early : Bool
-  early = are_joined g y (tail g (twin (moved edge first)))
+  early = are_adjacent g y (tail g (twin (moved edge first)))
 
   abbrev early_edge : ℕ
   early_edge = dart_between g (tail g (twin (moved edge first))) y
@@ -203,7 +203,7 @@ module _ (g h : Multigraph) (e x y : ℕ) (edge vertex : ℕ → ℕ) (ok : IsGr
 
   -- the edge to the vertex where the last dart of x leads, put in
   abbrev late : Bool
-  late = are_joined g y (tail g (twin (moved edge last)))
+  late = are_adjacent g y (tail g (twin (moved edge last)))
 
   abbrev late_edge : ℕ
   late_edge = dart_between g (tail g (twin (moved edge last))) y
@@ -325,7 +325,7 @@ module _ (g h : Multigraph) (e x y : ℕ) (edge vertex : ℕ → ℕ) (ok : IsGr
     where
       gone : Dropped g e x y z → two_live z ≡ true
       gone w = elim (runs.common (moved (place h edge) w.over) (numbering.numbers_back w.over w.over_dart over-kept) (ap (tail g) there ∙ w.leaves)
-          (ap (λ d. are_joined g y (tail g (twin d))) there ∙ dart-joined g ok y (tail g (twin w.over)) (twin w.back) (twin-below (edge_count g) w.back w.back_dart) w.arrives (ap (tail g) (twin-twin w.back) ∙ sym w.meets))) [
+          (ap (λ d. are_adjacent g y (tail g (twin d))) there ∙ dart-joined g ok y (tail g (twin w.over)) (twin w.back) (twin-below (edge_count g) w.back w.back_dart) w.arrives (ap (tail g) (twin-twin w.back) ∙ sym w.meets))) [
             | inl q ↦ joined-old late late_edge one_live z (at_first (sym there ∙ ap into q))
             | inr q ↦ at_last (sym there ∙ ap into q)
           ]
@@ -344,7 +344,7 @@ module _ (g h : Multigraph) (e x y : ℕ) (edge vertex : ℕ → ℕ) (ok : IsGr
           there : into (moved (place h edge) w.over) ≡ w.over
           there = numbering.into_back w.over w.over_dart over-kept
 
-          joins : (d : ℕ) → w.over ≡ into d → are_joined g y (tail g (twin (into d))) ≡ true
+          joins : (d : ℕ) → w.over ≡ into d → are_adjacent g y (tail g (twin (into d))) ≡ true
           joins d q = dart-joined g ok y (tail g (twin (into d))) (twin w.back) (twin-below (edge_count g) w.back w.back_dart) w.arrives (ap (tail g) (twin-twin w.back) ∙ sym w.meets ∙ ap (λ c. tail g (twin c)) q)
 
           at_first : w.over ≡ into first → one_live z ≡ true
@@ -384,7 +384,7 @@ module _ (g h : Multigraph) (e x y : ℕ) (edge vertex : ℕ → ℕ) (ok : IsGr
   ]
 
   -- a put-in edge does not stay
-  over-out : (d : ℕ) (l : d < dart_count h) (leaves : tail g (moved edge d) ≡ x) → are_joined g y (tail g (twin (moved edge d))) ≡ true → (z : ℕ) → z / 2 ≡ dart_between g (tail g (twin (moved edge d))) y / 2 → stays g e x y z ≡ false
+  over-out : (d : ℕ) (l : d < dart_count h) (leaves : tail g (moved edge d) ≡ x) → are_adjacent g y (tail g (twin (moved edge d))) ≡ true → (z : ℕ) → z / 2 ≡ dart_between g (tail g (twin (moved edge d))) y / 2 → stays g e x y z ≡ false
   over-out d l leaves j z q = stays-not g e x y z (λ i. over-edge d l leaves j (sym q ∙ i)) (ap (is_kept g e x y) q ∙ over-gone d l leaves j)
 
   -- a dart that stays goes on as in that map, or passes one dart that does not stay before

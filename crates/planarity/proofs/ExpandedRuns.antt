@@ -10,7 +10,7 @@ use Rattle.multigraph.specs.Graph.{Multigraph, IsGraph, edge_count, is_end, othe
 use Rattle.rotations.specs.Rotation.{order_at, IsRotationSystem}
 use Rattle.rotations.proofs.Membership.{member-edge, member-end}
 use Rattle.graph_theory.specs.Triconnected.{IsSimple}
-use Rattle.contractions.specs.Contraction.{are_joined, IsContraction}
+use Rattle.contractions.specs.Contraction.{are_adjacent, IsContraction}
 use Rattle.dart_maps.specs.Map.{twin, IsMap}
 use Rattle.dart_maps.proofs.Darts.{twin-edge}
 use Rattle.faces.specs.Euler.{tail, dart_from, dart_count}
@@ -28,7 +28,7 @@ use Rattle.planarity.proofs.RunSuccessors.{run-last, run-inside, run-outside, ru
 -- the cyclic order of the merged vertex, in which the edges at x stand together; the test q holds of those that lead from x to a
 -- neighbour of y
 module _ (g h : Multigraph) (e x y : ℕ) (edge vertex : ℕ → ℕ) (ok : IsGraph g) (okh : IsGraph h) (con : IsContraction g h e x y edge vertex) (simple : IsSimple g) (t : List (List ℕ)) (st : IsRotationSystem h t)
-    (q : ℕ → Bool) (near : (i : ℕ) → i < edge_count h → is_end g x (edge i) ≡ true → are_joined g y (other_end g (edge i) x) ≡ true → q i ≡ true)
+    (q : ℕ → Bool) (near : (i : ℕ) → i < edge_count h → is_end g x (edge i) ≡ true → are_adjacent g y (other_end g (edge i) x) ≡ true → q i ≡ true)
     (in_g : x < g.vertex_count) (together : StandTogether (λ i. is_end g x (edge i)) q (order_at t (vertex x))) where
   -- the merged vertex and its cyclic order, and this written from the run on
   abbrev w : ℕ
@@ -208,11 +208,11 @@ module _ (g h : Multigraph) (e x y : ℕ) (edge vertex : ℕ → ℕ) (ok : IsGr
             | inr i ↦ ap (λ c. tail g (moved edge c)) goes ∙ from-y (successor round (d / 2)) i
           ]
 
-      ends : (d : ℕ) → d < dart_count h → tail g (moved edge d) ≡ x → are_joined g y (tail g (twin (moved edge d))) ≡ true → (d ≡ from together.first) ⊎ (d ≡ from together.last)
+      ends : (d : ℕ) → d < dart_count h → tail g (moved edge d) ≡ x → are_adjacent g y (tail g (twin (moved edge d))) ≡ true → (d ≡ from together.first) ⊎ (d ≡ from together.last)
       ends d l k j =
           let v = leaves-w d l (inl k) in
           let there : tail g (twin (moved edge d)) ≡ other_end g (edge (d / 2)) x = tail-twin g (moved edge d) ok (moved-in g h e x y edge vertex ok con d l) ∙ ap (λ f. other_end g f (tail g (moved edge d))) (moved-edge edge d) ∙ ap (other_end g (edge (d / 2))) k in
-          let passes : q (d / 2) ≡ true = near (d / 2) (dart-edge h d l) (at_x-moved d k) (ap (are_joined g y) (sym there) ∙ j) in
+          let passes : q (d / 2) ≡ true = near (d / 2) (dart-edge h d l) (at_x-moved d k) (ap (are_adjacent g y) (sym there) ∙ j) in
           elim (member-cases (d / 2) together.first (together.middle ++ together.last ∷ []) (in-run (d / 2) v.1 (at_x-moved d k))) [
             | inl i ↦ inl (sym v.2 ∙ ap from (sym i))
             | inr o ↦ elim (member-append_cases (d / 2) together.middle (together.last ∷ []) o) [

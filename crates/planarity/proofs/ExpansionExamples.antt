@@ -5,7 +5,7 @@ use Rattle.permutations.specs.Count.{some}
 use Rattle.permutations.specs.Exchange.{restricted}
 use Rattle.permutations.proofs.Search.{some-none}
 use Rattle.multigraph.specs.Graph.{Multigraph}
-use Rattle.contractions.specs.Contraction.{are_joined}
+use Rattle.contractions.specs.Contraction.{are_adjacent}
 use Rattle.contractions.specs.Contracted.{contracted as contracted_graph, contracted_edge}
 use Rattle.dart_maps.specs.Map.{twin}
 use Rattle.dart_maps.specs.Changes.{contracted}
@@ -97,7 +97,7 @@ runs v is_last h d l t n = eqb-true (tail wheel (moved edge (dart_after four fou
 
 -- whether dart d does not leave 0 in the wheel, or leads to no neighbour of 1, or is dart 7 or dart 5
 is_outer : ℕ → Bool
-is_outer d = (not (tail wheel (moved edge d) == 0) || not (are_joined wheel 1 (tail wheel (twin (moved edge d))))) || ((d == 7) || (d == 5))
+is_outer d = (not (tail wheel (moved edge d) == 0) || not (are_adjacent wheel 1 (tail wheel (twin (moved edge d))))) || ((d == 7) || (d == 5))
 
 -- round the merged vertex the darts of 0 are 7 and 5, that of 1 is dart 0; and the hub, the common neighbour, is the first of
 -- the one run
@@ -116,8 +116,8 @@ falls = record {
   common = outer;
 }
   where
-    outer : (d : ℕ) → d < 12 → tail wheel (moved edge d) ≡ 0 → are_joined wheel 1 (tail wheel (twin (moved edge d))) ≡ true → (d ≡ 7) ⊎ (d ≡ 5)
-    outer d l t j = elim (or_cases (d == 7) (d == 5) (third (tail wheel (moved edge d) == 0) (not (are_joined wheel 1 (tail wheel (twin (moved edge d))))) ((d == 7) || (d == 5)) (each 12 is_outer refl d l) (eq-eqb (tail wheel (moved edge d)) 0 t) (rw j refl))) [
+    outer : (d : ℕ) → d < 12 → tail wheel (moved edge d) ≡ 0 → are_adjacent wheel 1 (tail wheel (twin (moved edge d))) ≡ true → (d ≡ 7) ⊎ (d ≡ 5)
+    outer d l t j = elim (or_cases (d == 7) (d == 5) (third (tail wheel (moved edge d) == 0) (not (are_adjacent wheel 1 (tail wheel (twin (moved edge d))))) ((d == 7) || (d == 5)) (each 12 is_outer refl d l) (eq-eqb (tail wheel (moved edge d)) 0 t) (rw j refl))) [
       | inl e ↦ inl (eqb-true d 7 e)
       | inr e ↦ inr (eqb-true d 5 e)
     ]

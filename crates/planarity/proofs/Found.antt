@@ -10,9 +10,9 @@ use Rattle.multigraph.proofs.OtherEnd.{end-in, other_end-is_end, other_end-twice
 use Rattle.contractions.specs.Contraction.{IsContraction}
 use Rattle.kuratowski.specs.declared.subdivision.Pattern.TheVariants.{K5}
 use Rattle.kuratowski.specs.Subdivision.{pattern_edges, branch_at, IsSubdivision}
-use Rattle.planarity.specs.Lift.{path_between}
+use Rattle.planarity.specs.Lift.{path_of_pair}
 use Rattle.planarity.specs.Circle.{IsCircle, five_paths}
-use Rattle.planarity.proofs.LiftSystem.{IsBranch, IsMerged}
+use Rattle.planarity.proofs.LiftSystem.{IsBranch, IsContractedEnd}
 use Rattle.planarity.proofs.LiftPath.{two_ends}
 use Rattle.planarity.proofs.LiftBack.{EachPair, each-joined, system-subdivision}
 use Rattle.planarity.proofs.LiftSpokes.{ends-differ}
@@ -73,7 +73,7 @@ module _ (g h : Multigraph) (e x y : ℕ) (edge vertex : ℕ → ℕ) (og : IsGr
   pub base : IsWire g x y (e ∷ [])
   base = record { edge = e; alone = refl; is_edge = ic.edge_in; leaves = ic.first_end; arrives = ic.second_end }
 
-  pub merged_in : (z : ℕ) → IsMerged x y z → z < g.vertex_count
+  pub merged_in : (z : ℕ) → IsContractedEnd x y z → z < g.vertex_count
   merged_in z o = end-in g z e og ic.edge_in (two_ends g h e x y edge vertex og oh ic z o)
 
   -- three neighbours of both ends on a cycle
@@ -108,12 +108,12 @@ module _ (g h : Multigraph) (e x y : ℕ) (edge vertex : ℕ → ℕ) (og : IsGr
     all_paths = five_paths g e edge a b d xa xb xd ya yb yd k l m
 
     abbrev path : ℕ → ℕ → List ℕ
-    path = path_between (pattern_edges K5) all_paths
+    path = path_of_pair (pattern_edges K5) all_paths
 
     apart : (i j : ℕ) → i < 3 → j < 3 → i ≢ j → spot i ≢ spot j
     apart = spot-differ g h e x y edge vertex og oh ic (vertex a, k) others c two spot spot_in spot_is
 
-    off : (i z : ℕ) → i < 3 → IsMerged x y z → spot i ≢ z
+    off : (i z : ℕ) → i < 3 → IsContractedEnd x y z → spot i ≢ z
     off = spot-unmerged g h e x y edge vertex og oh ic (vertex a, k) others c two spot spot_in spot_is
 
     -- what is an arc of the cycle
@@ -123,7 +123,7 @@ module _ (g h : Multigraph) (e x y : ℕ) (edge vertex : ℕ → ℕ) (og : IsGr
     five-distinct : is_distinct five_branch ≡ true
     five-distinct = differ-distinct five_branch ((λ q. ends-differ g h e x y edge vertex og oh ic (sym q), (off 0 x (omega arith) (inl refl), (off 1 x (omega arith) (inl refl), (off 2 x (omega arith) (inl refl), tt)))), ((off 0 y (omega arith) (inr refl), (off 1 y (omega arith) (inr refl), (off 2 y (omega arith) (inr refl), tt))), ((apart 1 0 (omega arith) (omega arith) (λ q. omega (arith, q)), (apart 2 0 (omega arith) (omega arith) (λ q. omega (arith, q)), tt)), ((apart 2 1 (omega arith) (omega arith) (λ q. omega (arith, q)), tt), (tt, tt)))))
 
-    five-which : (i : ℕ) → i < 5 → IsMerged x y (branch_at five_branch i) ⊎ ((j : ℕ) × (j < 3) × (branch_at five_branch i ≡ spot j))
+    five-which : (i : ℕ) → i < 5 → IsContractedEnd x y (branch_at five_branch i) ⊎ ((j : ℕ) × (j < 3) × (branch_at five_branch i ≡ spot j))
     five-which zero o = inl (inl refl)
     five-which (suc zero) o = inl (inr refl)
     five-which (suc (suc zero)) o = inr (0, omega arith, refl)

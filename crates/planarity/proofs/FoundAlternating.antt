@@ -7,9 +7,9 @@ use Rattle.multigraph.specs.Graph.{Multigraph, IsGraph}
 use Rattle.contractions.specs.Contraction.{IsContraction}
 use Rattle.kuratowski.specs.declared.subdivision.Pattern.TheVariants.{K33}
 use Rattle.kuratowski.specs.Subdivision.{pattern_edges, branch_at, IsSubdivision}
-use Rattle.planarity.specs.Lift.{path_between}
+use Rattle.planarity.specs.Lift.{path_of_pair}
 use Rattle.planarity.specs.Circle.{IsCircle, six_paths}
-use Rattle.planarity.proofs.LiftSystem.{IsBranch, IsMerged}
+use Rattle.planarity.proofs.LiftSystem.{IsBranch, IsContractedEnd}
 use Rattle.planarity.proofs.LiftBack.{EachPair, each-joined, system-subdivision}
 use Rattle.planarity.proofs.LiftSpokes.{ends-differ}
 use Rattle.planarity.proofs.FoundSystem.{IsWire, IsArc, arc-forth, arc-back, spot-differ, spot-unmerged, found-system}
@@ -50,12 +50,12 @@ module _ (g h : Multigraph) (e x y : ℕ) (edge vertex : ℕ → ℕ) (og : IsGr
   all_paths = six_paths g e edge p q r t yp xq yr xt k l m o
 
   abbrev path : ℕ → ℕ → List ℕ
-  path = path_between (pattern_edges K33) all_paths
+  path = path_of_pair (pattern_edges K33) all_paths
 
   apart : (i j : ℕ) → i < 4 → j < 4 → i ≢ j → spot i ≢ spot j
   apart = spot-differ g h e x y edge vertex og oh ic (vertex p, k) others c two spot spot_in spot_is
 
-  off : (i z : ℕ) → i < 4 → IsMerged x y z → spot i ≢ z
+  off : (i z : ℕ) → i < 4 → IsContractedEnd x y z → spot i ≢ z
   off = spot-unmerged g h e x y edge vertex og oh ic (vertex p, k) others c two spot spot_in spot_is
 
   -- what is an arc of the cycle
@@ -65,7 +65,7 @@ module _ (g h : Multigraph) (e x y : ℕ) (edge vertex : ℕ → ℕ) (og : IsGr
   six-distinct : is_distinct six_branch ≡ true
   six-distinct = differ-distinct six_branch ((off 0 x (omega arith) (inl refl), (off 2 x (omega arith) (inl refl), (λ q. ends-differ g h e x y edge vertex og oh ic (sym q), (off 1 x (omega arith) (inl refl), (off 3 x (omega arith) (inl refl), tt))))), ((apart 2 0 (omega arith) (omega arith) (λ q. omega (arith, q)), (λ q. off 0 y (omega arith) (inr refl) (sym q), (apart 1 0 (omega arith) (omega arith) (λ q. omega (arith, q)), (apart 3 0 (omega arith) (omega arith) (λ q. omega (arith, q)), tt)))), ((λ q. off 2 y (omega arith) (inr refl) (sym q), (apart 1 2 (omega arith) (omega arith) (λ q. omega (arith, q)), (apart 3 2 (omega arith) (omega arith) (λ q. omega (arith, q)), tt))), ((off 1 y (omega arith) (inr refl), (off 3 y (omega arith) (inr refl), tt)), ((apart 3 1 (omega arith) (omega arith) (λ q. omega (arith, q)), tt), (tt, tt))))))
 
-  six-which : (i : ℕ) → i < 6 → IsMerged x y (branch_at six_branch i) ⊎ ((j : ℕ) × (j < 4) × (branch_at six_branch i ≡ spot j))
+  six-which : (i : ℕ) → i < 6 → IsContractedEnd x y (branch_at six_branch i) ⊎ ((j : ℕ) × (j < 4) × (branch_at six_branch i ≡ spot j))
   six-which zero o = inl (inl refl)
   six-which (suc zero) o = inr (0, omega arith, refl)
   six-which (suc (suc zero)) o = inr (2, omega arith, refl)

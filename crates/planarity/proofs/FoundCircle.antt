@@ -8,7 +8,7 @@ use Rattle.multigraph.specs.Graph.{Multigraph, IsGraph, edge_count, is_end, othe
 use Rattle.multigraph.proofs.OtherEnd.{other_end-in, end-in}
 use Rattle.rotations.specs.Rotation.{order_at, IsRotationSystem}
 use Rattle.graph_theory.specs.Triconnected.{IsTriconnected}
-use Rattle.contractions.specs.Contraction.{are_joined, IsContraction}
+use Rattle.contractions.specs.Contraction.{are_adjacent, IsContraction}
 use Rattle.kuratowski.specs.declared.subdivision.Pattern.TheVariants.{K5, K33}
 use Rattle.kuratowski.specs.Subdivision.{IsSubdivision}
 use Rattle.faces.specs.Euler.{IsPlane, dart_from}
@@ -19,7 +19,7 @@ use Rattle.planarity.proofs.Found.{IsSpoke, k5_found}
 use Rattle.planarity.proofs.FoundAlternating.{k33_found}
 
 -- joined vertices have an edge between them
-pub joined-spoke : (g : Multigraph) (z p : ℕ) → are_joined g z p ≡ true → (f : ℕ) × IsSpoke g z p f
+pub joined-spoke : (g : Multigraph) (z p : ℕ) → are_adjacent g z p ≡ true → (f : ℕ) × IsSpoke g z p f
 joined-spoke g z p t =
     let w = some-witness (edge_count g) (λ f. is_end g z f && (other_end g f z == p)) t in
     let v = and_parts (is_end g z w.0) (other_end g w.0 z == p) w.2 in

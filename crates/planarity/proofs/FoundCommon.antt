@@ -10,7 +10,7 @@ use Rattle.permutations.proofs.Count.{last-passing}
 use Rattle.multigraph.specs.Graph.{Multigraph, IsGraph, other_end}
 use Rattle.rotations.specs.Rotation.{order_at, IsRotationSystem}
 use Rattle.graph_theory.specs.Triconnected.{IsSimple, IsTriconnected}
-use Rattle.contractions.specs.Contraction.{are_joined, is_common, common_count, IsContraction}
+use Rattle.contractions.specs.Contraction.{are_adjacent, is_common_neighbour, common_count, IsContraction}
 use Rattle.faces.specs.Euler.{IsPlane}
 use Rattle.planarity.proofs.LiftCases.{HasSubdivision, subdivided}
 use Rattle.planarity.proofs.Found.{IsSpoke}
@@ -103,10 +103,10 @@ module _ (g h : Multigraph) (e x y : ℕ) (edge vertex : ℕ → ℕ) (og : IsGr
     second_edge : ℕ
     second : IsSpoke g y p second_edge
 
-  to_common : (p : ℕ) → is_common g x y p ≡ true → ToCommon p
+  to_common : (p : ℕ) → is_common_neighbour g x y p ≡ true → ToCommon p
   to_common p t = made (common-edge g h e x y edge vertex og oh ic simple s rot p t)
     where
-      made : (i : ℕ) × (is_member i (order_at s (vertex x)) ≡ true) × (IsSpoke g x p (edge i)) × (are_joined g y p ≡ true) → ToCommon p
+      made : (i : ℕ) × (is_member i (order_at s (vertex x)) ≡ true) × (IsSpoke g x p (edge i)) × (are_adjacent g y p ≡ true) → ToCommon p
       made w =
           let v = tip-first g h e x y edge vertex og oh ic w.0 (round-edge g h e x y edge vertex og oh ic simple s rot w.0 w.1).0 (w.2).leaves in
           let b = joined-spoke g y p w.3 in
@@ -128,7 +128,7 @@ module _ (g h : Multigraph) (e x y : ℕ) (edge vertex : ℕ → ℕ) (og : IsGr
       (edge a.at) (edge b.at) (edge c.at) a.second_edge b.second_edge c.second_edge a.first b.first c.first a.second b.second c.second)
 
   -- three common neighbours
-  pub common-found : (p q r : ℕ) → is_common g x y p ≡ true → is_common g x y q ≡ true → is_common g x y r ≡ true → p ≢ q → p ≢ r → q ≢ r → HasSubdivision g
+  pub common-found : (p q r : ℕ) → is_common_neighbour g x y p ≡ true → is_common_neighbour g x y q ≡ true → is_common_neighbour g x y r ≡ true → p ≢ q → p ≢ r → q ≢ r → HasSubdivision g
   common-found p q r t u v pq pr qr = found (to_common p t) (to_common q u) (to_common r v)
     where
       found : ToCommon p → ToCommon q → ToCommon r → HasSubdivision g
@@ -140,5 +140,5 @@ module _ (g h : Multigraph) (e x y : ℕ) (edge vertex : ℕ → ℕ) (og : IsGr
   -- at least three common neighbours
   pub common-subdivision : 3 ≤ common_count g x y → HasSubdivision g
   common-subdivision l =
-      let w = three-passing g.vertex_count (is_common g x y) l in
+      let w = three-passing g.vertex_count (is_common_neighbour g x y) l in
       common-found w.first w.second w.third w.first_passes w.second_passes w.third_passes w.first_second w.first_third w.second_third

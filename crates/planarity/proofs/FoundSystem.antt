@@ -10,7 +10,7 @@ use Rattle.graph_theory.proofs.Paths.{path-reverse, path-reverse-met}
 use Rattle.contractions.specs.Contraction.{IsContraction}
 use Rattle.planarity.specs.Lift.{lifted}
 use Rattle.planarity.specs.Circle.{IsCircle}
-use Rattle.planarity.proofs.LiftSystem.{SamePair, IsBranch, IsPathSystem, IsMerged}
+use Rattle.planarity.proofs.LiftSystem.{SamePair, IsBranch, IsPathSystem, IsContractedEnd}
 use Rattle.planarity.proofs.LiftPath.{IsLift, lift-walk, lift-path, merged-across}
 use Rattle.planarity.proofs.LiftSpokes.{merged-vertex}
 use Rattle.planarity.proofs.FoundRim.{start_at, edges_at, after, after-in, rim-path, rim-avoids, rim-start, rim-common, start-once, start-avoids}
@@ -103,11 +103,11 @@ module _ (g h : Multigraph) (e x y : ℕ) (edge vertex : ℕ → ℕ) (og : IsGr
   spot-differ k j l i d q = d (start-once h (vertex x) first others c two k j l i (sym (spot_is k l) ∙ ap vertex q ∙ spot_is j i))
 
   -- which are no ends of the contracted edge
-  pub spot-unmerged : (k z : ℕ) → k < length (first ∷ others) → IsMerged x y z → spot k ≢ z
+  pub spot-unmerged : (k z : ℕ) → k < length (first ∷ others) → IsContractedEnd x y z → spot k ≢ z
   spot-unmerged k z l o q = start-avoids h (vertex x) first others c two k l (sym (spot_is k l) ∙ ap vertex q ∙ merged-vertex g h e x y edge vertex og oh ic z o)
 
   module _ (n : ℕ) (joined : ℕ → ℕ → Bool) (at : ℕ → ℕ) (path : ℕ → ℕ → List ℕ) (at_in : (i : ℕ) → i < n → at i < g.vertex_count) (at_once : (i j : ℕ) → i < n → j < n → at i ≡ at j → i ≡ j)
-      (which : (i : ℕ) → i < n → IsMerged x y (at i) ⊎ ((k : ℕ) × (k < length (first ∷ others)) × (at i ≡ spot k)))
+      (which : (i : ℕ) → i < n → IsContractedEnd x y (at i) ⊎ ((k : ℕ) × (k < length (first ∷ others)) × (at i ≡ spot k)))
       (spots : (k : ℕ) → k < length (first ∷ others) → IsBranch n at (spot k))
       (kinds : (i j : ℕ) → i < n → j < n → joined i j ≡ true → IsWire g (at i) (at j) (path i j) ⊎ IsArc (at i) (at j) (path i j)) where
     are_paths : (i j : ℕ) → i < n → j < n → joined i j ≡ true → IsPath g (at i) (path i j) (at j)

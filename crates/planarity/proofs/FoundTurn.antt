@@ -12,7 +12,7 @@ use Rattle.rotations.specs.Rotation.{order_at, IsRotationSystem}
 use Rattle.rotations.proofs.Membership.{member-edge, member-end}
 use Rattle.graph_theory.specs.Triconnected.{IsSimple, IsTriconnected}
 use Rattle.graph_theory.proofs.Ends.{end-cases}
-use Rattle.contractions.specs.Contraction.{are_joined, is_common, is_private, is_kept, IsContraction}
+use Rattle.contractions.specs.Contraction.{are_adjacent, is_common_neighbour, is_private, is_kept, IsContraction}
 use Rattle.contractions.proofs.Joined.{joined-apart, simple-same, kept-from, private-kept, private-parts}
 use Rattle.contractions.proofs.Neighbours.{ThreeNeighbours, three_neighbours}
 use Rattle.faces.specs.Euler.{IsPlane}
@@ -74,7 +74,7 @@ module _ (g h : Multigraph) (e x y : ℕ) (edge vertex : ℕ → ℕ) (og : IsGr
       | inl t ↦ or_left (is_end g x (edge i)) (leads_near g x y edge i) t
       | inr n ↦
           let k = round-edge i m in
-          or_right (is_end g x (edge i)) (leads_near g x y edge i) (or_left (is_end g y (edge i)) (are_joined g y (other_end g (edge i) x)) (tip-either g h e x y edge vertex og oh ic i k.0 k.1 n))
+          or_right (is_end g x (edge i)) (leads_near g x y edge i) (or_left (is_end g y (edge i)) (are_adjacent g y (other_end g (edge i) x)) (tip-either g h e x y edge vertex og oh ic i k.0 k.1 n))
     ]
 
     -- where one leads to a neighbour of y, there is an edge from y to it
@@ -83,7 +83,7 @@ module _ (g h : Multigraph) (e x y : ℕ) (edge vertex : ℕ → ℕ) (og : IsGr
       | inl k ↦ let w = tip-second g h e x y edge vertex og oh ic i l k in (other_end g (edge i) y, w.0, (edge i, w.1))
       | inr k ↦ elim (cases_Bool (is_end g x (edge i))) [
         | inr n ↦ absurd (both_ways (is_end g y (edge i)) k (tip-either g h e x y edge vertex og oh ic i l t n))
-        | inl n ↦ elim (or_cases (is_end g y (edge i)) (are_joined g y (other_end g (edge i) x)) u) [
+        | inl n ↦ elim (or_cases (is_end g y (edge i)) (are_adjacent g y (other_end g (edge i) x)) u) [
           | inl o ↦ absurd (both_ways (is_end g y (edge i)) k o)
           | inr o ↦ (other_end g (edge i) x, (tip-first g h e x y edge vertex og oh ic i l n).0, joined-spoke g y (other_end g (edge i) x) o)
         ]
@@ -95,7 +95,7 @@ module _ (g h : Multigraph) (e x y : ℕ) (edge vertex : ℕ → ℕ) (og : IsGr
         → StandTogether (λ i. is_end g x (edge i)) (leads_near g x y edge) (order_at s (vertex x)) ⊎ Alternates (λ i. is_end g x (edge i)) (leads_near g x y edge) (order_at s (vertex x))
     turn-alternates trig f l t = alternation (λ i. is_end g x (edge i)) (leads_near g x y edge) (order_at s (vertex x)) round-either d.0 d.1 fails (several (three_neighbours g og trig x (end-in g x e og ic.edge_in ic.first_end)))
       where
-        parts : (is_end g y f ≡ true) × (f ≢ e) × (are_joined g x (other_end g f y) ≡ false)
+        parts : (is_end g y f ≡ true) × (f ≢ e) × (are_adjacent g x (other_end g f y) ≡ false)
         parts = private-parts g e x y f t
 
         d : (i : ℕ) × (is_member i (order_at s (vertex x)) ≡ true) × (edge i ≡ f)
@@ -121,13 +121,13 @@ module _ (g h : Multigraph) (e x y : ℕ) (edge vertex : ℕ → ℕ) (og : IsGr
         ]
 
     -- an edge round the merged vertex leads from x to each common neighbour
-    pub common-edge : (p : ℕ) → is_common g x y p ≡ true → (i : ℕ) × (is_member i (order_at s (vertex x)) ≡ true) × (IsSpoke g x p (edge i)) × (are_joined g y p ≡ true)
+    pub common-edge : (p : ℕ) → is_common_neighbour g x y p ≡ true → (i : ℕ) × (is_member i (order_at s (vertex x)) ≡ true) × (IsSpoke g x p (edge i)) × (are_adjacent g y p ≡ true)
     common-edge p t = made (joined-spoke g x p both.0).0 (joined-spoke g x p both.0).1
       where
-        both : (are_joined g x p ≡ true) × (are_joined g y p ≡ true)
-        both = and_parts (are_joined g x p) (are_joined g y p) t
+        both : (are_adjacent g x p ≡ true) × (are_adjacent g y p ≡ true)
+        both = and_parts (are_adjacent g x p) (are_adjacent g y p) t
 
-        made : (f : ℕ) → IsSpoke g x p f → (i : ℕ) × (is_member i (order_at s (vertex x)) ≡ true) × (IsSpoke g x p (edge i)) × (are_joined g y p ≡ true)
+        made : (f : ℕ) → IsSpoke g x p f → (i : ℕ) × (is_member i (order_at s (vertex x)) ≡ true) × (IsSpoke g x p (edge i)) × (are_adjacent g y p ≡ true)
         made f a =
             let w = round-first f a.is_edge a.leaves (λ q. joined-apart g og y p both.1 (sym ic.second_end ∙ ap (λ z. other_end g z x) (sym q) ∙ a.arrives)) in
             (w.0, w.1, subst (λ z. IsSpoke g x p z) (sym w.2) a, both.1)

@@ -12,7 +12,7 @@ use Rattle.multigraph.specs.Graph.{Multigraph, IsGraph, edge_count, is_end, othe
 use Rattle.multigraph.proofs.OtherEnd.{other_end-in, other_end-differs}
 use Rattle.rotations.specs.Rotation.{IsRotationSystem}
 use Rattle.graph_theory.specs.Triconnected.{IsTriconnected}
-use Rattle.contractions.specs.Contraction.{are_joined}
+use Rattle.contractions.specs.Contraction.{are_adjacent}
 use Rattle.contractions.proofs.Joined.{joined-from, joined-turned, joined-in, joined-apart}
 use Rattle.contractions.proofs.Outside.{outside}
 use Rattle.contractions.proofs.Neighbours.{neighbour}
@@ -31,9 +31,9 @@ no-five l d h = omega (arith, count-list 4 (λ x. is_member x l) l d (λ x m. al
 
 module _ (g : Multigraph) (i : IsGraph g) (t : IsTriconnected g) (four : g.vertex_count ≡ 4) where
   -- each two different vertices are joined
-  complete : (u v : ℕ) → u < g.vertex_count → v < g.vertex_count → u ≢ v → are_joined g u v ≡ true
+  complete : (u v : ℕ) → u < g.vertex_count → v < g.vertex_count → u ≢ v → are_adjacent g u v ≡ true
   complete u v l m n = elim (cases_eq w v) [
-    | inl d ↦ subst (λ (q : ℕ). are_joined g u q ≡ true) d (joined-from g e.0 u e.1 e.2)
+    | inl d ↦ subst (λ (q : ℕ). are_adjacent g u q ≡ true) d (joined-from g e.0 u e.1 e.2)
     | inr d ↦ absurd (omega (arith, no-five (w ∷ b.0 ∷ a.0 ∷ u ∷ v ∷ []) (different d) below))
   ]
     where

@@ -7,7 +7,7 @@ use Rattle.permutations.proofs.Search.{some-from, least-below, least-passes}
 use Rattle.multigraph.specs.Graph.{Multigraph, IsGraph, edge_count, other_end}
 use Rattle.rotations.specs.Rotation.{IsRotationSystem}
 use Rattle.graph_theory.specs.Triconnected.{IsSimple}
-use Rattle.contractions.specs.Contraction.{are_joined}
+use Rattle.contractions.specs.Contraction.{are_adjacent}
 use Rattle.contractions.proofs.Joined.{joined-edge, joined-from}
 use Rattle.dart_maps.specs.Map.{twin, IsMap, same_vertex}
 use Rattle.dart_maps.specs.Renumbering.{IsRenumbering}
@@ -31,8 +31,8 @@ pub record AreAlike (g h : Multigraph) : Type 0 where
   pub other_graph : IsGraph h
   pub simple : IsSimple g
   pub other_simple : IsSimple h
-  pub forth : (u v : ℕ) → are_joined g u v ≡ true → are_joined h u v ≡ true
-  pub back : (u v : ℕ) → are_joined h u v ≡ true → are_joined g u v ≡ true
+  pub forth : (u v : ℕ) → are_adjacent g u v ≡ true → are_adjacent h u v ≡ true
+  pub back : (u v : ℕ) → are_adjacent h u v ≡ true → are_adjacent g u v ≡ true
 
 -- the other one is alike too
 pub alike-turned : (g h : Multigraph) → AreAlike g h → AreAlike h g
@@ -52,7 +52,7 @@ pub record LeadsFromTo (g : Multigraph) (d u v : ℕ) : Type 0 where
   pub arrives : tail g (twin d) ≡ v
 
 -- where u and v are joined, the dart between them leads from u to v
-between-leads : (g : Multigraph) → IsGraph g → (u v : ℕ) → are_joined g u v ≡ true → LeadsFromTo g (dart_between g u v) u v
+between-leads : (g : Multigraph) → IsGraph g → (u v : ℕ) → are_adjacent g u v ≡ true → LeadsFromTo g (dart_between g u v) u v
 between-leads g ok u v j = record {
   is_dart = least-below (dart_count g) leads found;
   leaves = eqb-true (tail g (dart_between g u v)) u passes.0;
@@ -75,8 +75,8 @@ between-leads g ok u v j = record {
     passes = and_parts (tail g (dart_between g u v) == u) (tail g (twin (dart_between g u v)) == v) (least-passes (dart_count g) leads found)
 
 -- a dart joins the vertices that it and its twin leave
-dart-joined : (g : Multigraph) → IsGraph g → (d : ℕ) → d < dart_count g → are_joined g (tail g d) (tail g (twin d)) ≡ true
-dart-joined g ok d l = subst (λ (v : ℕ). are_joined g (tail g d) v ≡ true) (sym (tail-twin g d ok l)) (joined-from g (d / 2) (tail g d) (dart-edge g d l) (tail-end g d))
+dart-joined : (g : Multigraph) → IsGraph g → (d : ℕ) → d < dart_count g → are_adjacent g (tail g d) (tail g (twin d)) ≡ true
+dart-joined g ok d l = subst (λ (v : ℕ). are_adjacent g (tail g d) v ≡ true) (sym (tail-twin g d ok l)) (joined-from g (d / 2) (tail g d) (dart-edge g d l) (tail-end g d))
 
 -- the dart of h that leads as d does in g
 pub carry : Multigraph → Multigraph → ℕ → ℕ

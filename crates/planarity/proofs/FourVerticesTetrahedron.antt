@@ -11,7 +11,7 @@ use Rattle.permutations.proofs.Arrangements.{permutation-member, permutation-dis
 use Rattle.multigraph.specs.Graph.{Multigraph, IsGraph, ends_of, incident_edges}
 use Rattle.rotations.specs.Rotation.{order_at, IsCyclicOrder, IsRotationSystem}
 use Rattle.graph_theory.specs.Triconnected.{AreParallel, IsSimple}
-use Rattle.contractions.specs.Contraction.{are_joined}
+use Rattle.contractions.specs.Contraction.{are_adjacent}
 use Rattle.faces.specs.Euler.{IsPlane}
 use Rattle.faces.specs.Maps.{mirror_image}
 
@@ -55,12 +55,12 @@ tetrahedron-simple e f l m p = elim (cases_eq e f) [
     ]
 
 -- each two different vertices are joined
-pub tetrahedron-joined : (u v : ℕ) → u < 4 → v < 4 → u ≢ v → are_joined tetrahedron u v ≡ true
-tetrahedron-joined u v l m n = elim (or_cases (u == v) (are_joined tetrahedron u v) here) [ inl s ↦ absurd (n (eqb-true u v s)) | inr j ↦ j ]
+pub tetrahedron-joined : (u v : ℕ) → u < 4 → v < 4 → u ≢ v → are_adjacent tetrahedron u v ≡ true
+tetrahedron-joined u v l m n = elim (or_cases (u == v) (are_adjacent tetrahedron u v) here) [ inl s ↦ absurd (n (eqb-true u v s)) | inr j ↦ j ]
   where
-    here : ((u == v) || are_joined tetrahedron u v) ≡ true
-    here = true_from_ne_false ((u == v) || are_joined tetrahedron u v) (λ f. both_ways (not ((u == v) || are_joined tetrahedron u v))
-        (some-none 4 (λ w. not ((u == w) || are_joined tetrahedron u w)) (agree_below_at (λ d. some 4 (λ w. not ((d == w) || are_joined tetrahedron d w))) (λ d. false) 4 u refl l) v m)
+    here : ((u == v) || are_adjacent tetrahedron u v) ≡ true
+    here = true_from_ne_false ((u == v) || are_adjacent tetrahedron u v) (λ f. both_ways (not ((u == v) || are_adjacent tetrahedron u v))
+        (some-none 4 (λ w. not ((u == w) || are_adjacent tetrahedron u w)) (agree_below_at (λ d. some 4 (λ w. not ((d == w) || are_adjacent tetrahedron d w))) (λ d. false) 4 u refl l) v m)
         (ap not f))
 
 -- the edges a, b, c as a cyclic order, in one of two ways

@@ -5,7 +5,7 @@ use Rattle.permutations.specs.Count.{some, least}
 use Rattle.permutations.proofs.Search.{some-from, some-witness, least-below, least-passes}
 use Rattle.multigraph.specs.Graph.{Multigraph, IsGraph, edge_count, is_end, other_end}
 use Rattle.multigraph.proofs.OtherEnd.{other_end-twice}
-use Rattle.contractions.specs.Contraction.{are_joined, is_kept}
+use Rattle.contractions.specs.Contraction.{are_adjacent, is_kept}
 use Rattle.graph_theory.proofs.Ends.{end-cases}
 use Rattle.dart_maps.specs.Map.{twin}
 use Rattle.dart_maps.proofs.Darts.{twin-twin, twin-below, twin-edge}
@@ -18,7 +18,7 @@ abbrev pub DartFromTo : Multigraph → ℕ → ℕ → Type 0
 DartFromTo g u v = (d : ℕ) × (d < dart_count g) × (tail g d ≡ u) × (tail g (twin d) ≡ v)
 
 -- joined vertices have one
-pub joined-dart : (g : Multigraph) → IsGraph g → (u v : ℕ) → are_joined g u v ≡ true → DartFromTo g u v
+pub joined-dart : (g : Multigraph) → IsGraph g → (u v : ℕ) → are_adjacent g u v ≡ true → DartFromTo g u v
 joined-dart g ok u v h =
     let w = some-witness (edge_count g) (λ f. is_end g u f && (other_end g f u == v)) h in
     let p = and_parts (is_end g u w.0) (other_end g w.0 u == v) w.2 in (
@@ -33,7 +33,7 @@ pub dart-turned : (g : Multigraph) (u v : ℕ) → DartFromTo g u v → DartFrom
 dart-turned g u v w = (twin w.0, twin-below (edge_count g) w.0 w.1, w.3, ap (tail g) (twin-twin w.0) ∙ w.2)
 
 -- and vertices with a dart are joined
-pub dart-joined : (g : Multigraph) → IsGraph g → (u v d : ℕ) → d < dart_count g → tail g d ≡ u → tail g (twin d) ≡ v → are_joined g u v ≡ true
+pub dart-joined : (g : Multigraph) → IsGraph g → (u v d : ℕ) → d < dart_count g → tail g d ≡ u → tail g (twin d) ≡ v → are_adjacent g u v ≡ true
 dart-joined g ok u v d l a b = some-from (edge_count g) (λ f. is_end g u f && (other_end g f u == v)) (d / 2) (dart-edge g d l)
     (and_from (is_end g u (d / 2)) (other_end g (d / 2) u == v) (subst (λ w. is_end g w (d / 2) ≡ true) a (tail-end g d))
     (eq-eqb (other_end g (d / 2) u) v (ap (other_end g (d / 2)) (sym a) ∙ sym (tail-twin g d ok l) ∙ b)))
@@ -55,20 +55,20 @@ other-of g ok d y l q = ap (other_end g (d / 2)) (sym q ∙ tail-twin g d ok l) 
 
 -- a dart of another edge that neither leaves y nor arrives there is kept
 pub kept-away : (g : Multigraph) → IsGraph g → (e x y d : ℕ) → d < dart_count g → (d / 2 ≡ e → ⊥) → (tail g d ≡ y → ⊥) → (tail g (twin d) ≡ y → ⊥) → is_kept g e x y (d / 2) ≡ true
-kept-away g ok e x y d l n i j = and_from (not (d / 2 == e)) (not (is_end g y (d / 2) && are_joined g x (other_end g (d / 2) y)))
+kept-away g ok e x y d l n i j = and_from (not (d / 2 == e)) (not (is_end g y (d / 2) && are_adjacent g x (other_end g (d / 2) y)))
     (not_from_false (d / 2 == e) (ne_eqb (d / 2) e n))
-    (not_from_false (is_end g y (d / 2) && are_joined g x (other_end g (d / 2) y)) (false_from_ne_true (is_end g y (d / 2) && are_joined g x (other_end g (d / 2) y)) (λ t.
-    elim (end-cases g (d / 2) (tail g d) y (tail-end g d) (and_parts (is_end g y (d / 2)) (are_joined g x (other_end g (d / 2) y)) t).0) [
+    (not_from_false (is_end g y (d / 2) && are_adjacent g x (other_end g (d / 2) y)) (false_from_ne_true (is_end g y (d / 2) && are_adjacent g x (other_end g (d / 2) y)) (λ t.
+    elim (end-cases g (d / 2) (tail g d) y (tail-end g d) (and_parts (is_end g y (d / 2)) (are_adjacent g x (other_end g (d / 2) y)) t).0) [
       | inl q ↦ i (sym q)
       | inr q ↦ j (tail-twin g d ok l ∙ sym q)
     ])))
 
 -- one that arrives at y from a vertex that is not joined with x is kept
-pub kept-private : (g : Multigraph) → IsGraph g → (e x y d : ℕ) → d < dart_count g → (d / 2 ≡ e → ⊥) → tail g (twin d) ≡ y → are_joined g x (tail g d) ≡ false → is_kept g e x y (d / 2) ≡ true
-kept-private g ok e x y d l n q h = and_from (not (d / 2 == e)) (not (is_end g y (d / 2) && are_joined g x (other_end g (d / 2) y)))
+pub kept-private : (g : Multigraph) → IsGraph g → (e x y d : ℕ) → d < dart_count g → (d / 2 ≡ e → ⊥) → tail g (twin d) ≡ y → are_adjacent g x (tail g d) ≡ false → is_kept g e x y (d / 2) ≡ true
+kept-private g ok e x y d l n q h = and_from (not (d / 2 == e)) (not (is_end g y (d / 2) && are_adjacent g x (other_end g (d / 2) y)))
     (not_from_false (d / 2 == e) (ne_eqb (d / 2) e n))
-    (not_from_false (is_end g y (d / 2) && are_joined g x (other_end g (d / 2) y)) (false_from_ne_true (is_end g y (d / 2) && are_joined g x (other_end g (d / 2) y)) (λ t.
-    both_ways (are_joined g x (tail g d)) h (subst (λ z. are_joined g x z ≡ true) (other-of g ok d y l q) (and_parts (is_end g y (d / 2)) (are_joined g x (other_end g (d / 2) y)) t).1))))
+    (not_from_false (is_end g y (d / 2) && are_adjacent g x (other_end g (d / 2) y)) (false_from_ne_true (is_end g y (d / 2) && are_adjacent g x (other_end g (d / 2) y)) (λ t.
+    both_ways (are_adjacent g x (tail g d)) h (subst (λ z. are_adjacent g x z ≡ true) (other-of g ok d y l q) (and_parts (is_end g y (d / 2)) (are_adjacent g x (other_end g (d / 2) y)) t).1))))
 
 -- a dart that is not kept, and not of the contracted edge, is one of an edge from a vertex that is joined with both to y
 pub record Dropped (g : Multigraph) (e x y z : ℕ) : Type 0 where
@@ -94,13 +94,13 @@ dropped-dart g ok e x y z l n h = elim (cases_eq (tail g (twin z)) y) [
   ]
 ]
   where
-    common : (d : ℕ) → d < dart_count g → (d / 2 ≡ e → ⊥) → tail g (twin d) ≡ y → is_kept g e x y (d / 2) ≡ false → are_joined g x (tail g d) ≡ true
-    common d k i q t = true_from_ne_false (are_joined g x (tail g d)) (λ u. both_ways (is_kept g e x y (d / 2)) t (kept-private g ok e x y d k i q u))
+    common : (d : ℕ) → d < dart_count g → (d / 2 ≡ e → ⊥) → tail g (twin d) ≡ y → is_kept g e x y (d / 2) ≡ false → are_adjacent g x (tail g d) ≡ true
+    common d k i q t = true_from_ne_false (are_adjacent g x (tail g d)) (λ u. both_ways (is_kept g e x y (d / 2)) t (kept-private g ok e x y d k i q u))
 
 -- and a dart that arrives at y from a vertex joined with x is not kept
-pub dropped-from : (g : Multigraph) → IsGraph g → (e x y d : ℕ) → d < dart_count g → tail g (twin d) ≡ y → are_joined g x (tail g d) ≡ true → is_kept g e x y (d / 2) ≡ false
-dropped-from g ok e x y d l q h = false_from_ne_true (is_kept g e x y (d / 2)) (λ t. both_ways (is_end g y (d / 2) && are_joined g x (other_end g (d / 2) y))
-    (not-true (is_end g y (d / 2) && are_joined g x (other_end g (d / 2) y)) (and_parts (not (d / 2 == e)) (not (is_end g y (d / 2) && are_joined g x (other_end g (d / 2) y))) t).1)
-    (and_from (is_end g y (d / 2)) (are_joined g x (other_end g (d / 2) y))
+pub dropped-from : (g : Multigraph) → IsGraph g → (e x y d : ℕ) → d < dart_count g → tail g (twin d) ≡ y → are_adjacent g x (tail g d) ≡ true → is_kept g e x y (d / 2) ≡ false
+dropped-from g ok e x y d l q h = false_from_ne_true (is_kept g e x y (d / 2)) (λ t. both_ways (is_end g y (d / 2) && are_adjacent g x (other_end g (d / 2) y))
+    (not-true (is_end g y (d / 2) && are_adjacent g x (other_end g (d / 2) y)) (and_parts (not (d / 2 == e)) (not (is_end g y (d / 2) && are_adjacent g x (other_end g (d / 2) y))) t).1)
+    (and_from (is_end g y (d / 2)) (are_adjacent g x (other_end g (d / 2) y))
     (subst (λ v. is_end g v (d / 2) ≡ true) q (subst (λ f. is_end g (tail g (twin d)) f ≡ true) (twin-edge d) (tail-end g (twin d))))
-    (subst (λ v. are_joined g x v ≡ true) (sym (other-of g ok d y l q)) h)))
+    (subst (λ v. are_adjacent g x v ≡ true) (sym (other-of g ok d y l q)) h)))

@@ -18,9 +18,9 @@ use Rattle.kuratowski.specs.declared.subdivision.Pattern.{Pattern}
 use Rattle.kuratowski.specs.declared.subdivision.Pattern.TheVariants.{K5, K33}
 use Rattle.kuratowski.specs.Subdivision.{branch_count, pattern_edges, branch_at, IsSubdivision}
 pub use Rattle.planarity.specs.Lift.{HasSubdivision}
-use Rattle.planarity.specs.Lift.{touches, path_between, is_listed, spokes, leaves_by, spokes_on, spokes_off, lifted_branch, lifted_paths, split_branch, split_paths}
+use Rattle.planarity.specs.Lift.{touches, path_of_pair, is_listed, spokes, leaves_by, spokes_on, spokes_off, lifted_branch, lifted_paths, split_branch, split_paths}
 use Rattle.planarity.proofs.LiftPath.{two_ends}
-use Rattle.planarity.proofs.LiftSystem.{IsPathSystem, IsMerged}
+use Rattle.planarity.proofs.LiftSystem.{IsPathSystem, IsContractedEnd}
 use Rattle.planarity.proofs.LiftPairs.{is_joined, between-self, pattern-no_loops, subdivision-system}
 use Rattle.planarity.proofs.LiftSpokes.{touches-one}
 use Rattle.planarity.proofs.LiftFoot.{foot-subdivision}
@@ -89,10 +89,10 @@ module _ (g h : Multigraph) (e x y : ℕ) (edge vertex : ℕ → ℕ) (og : IsGr
   abbrev on : ℕ → ℕ → Bool
   on m i = leaves_by g edge kind paths y m i
 
-  system : IsPathSystem h (branch_count kind) (is_joined kind) (branch_at branch) (path_between (pattern_edges kind) paths)
+  system : IsPathSystem h (branch_count kind) (is_joined kind) (branch_at branch) (path_of_pair (pattern_edges kind) paths)
   system = subdivision-system h kind branch paths s
 
-  merged_in : (z : ℕ) → IsMerged x y z → z < g.vertex_count
+  merged_in : (z : ℕ) → IsContractedEnd x y z → z < g.vertex_count
   merged_in z o = end-in g z e og c.edge_in (two_ends g h e x y edge vertex og oh c z o)
 
   -- a path that touches something is one to another vertex
@@ -113,7 +113,7 @@ module _ (g h : Multigraph) (e x y : ℕ) (edge vertex : ℕ → ℕ) (og : IsGr
   lift-first m0 l0 a0 few =
       foot-subdivision g h e x y edge vertex og oh c kind branch paths s back back_in back_is x (merged_in x (inl refl)) (inl refl) at_most
     where
-      at_most : (m i j z : ℕ) → m < branch_count kind → branch_at branch m ≡ vertex x → i < branch_count kind → j < branch_count kind → is_joined kind m i ≡ true → is_joined kind m j ≡ true → IsMerged x y z → z ≢ x
+      at_most : (m i j z : ℕ) → m < branch_count kind → branch_at branch m ≡ vertex x → i < branch_count kind → j < branch_count kind → is_joined kind m i ≡ true → is_joined kind m j ≡ true → IsContractedEnd x y z → z ≢ x
           → leaves_by g edge kind paths z m i ≡ true → leaves_by g edge kind paths z m j ≡ true → i ≡ j
       at_most m i j z l a k b t u (inl o) f v w = absurd (f o)
       at_most m i j z l a k b t u (inr o) f v w = one-member (spokes_on g edge kind paths y m) i j (subst (λ n. length (spokes_on g edge kind paths y n) ≤ 1) (system.branch_once m0 m l0 l (a0 ∙ sym a)) few) (found i k t v) (found j b u w)
@@ -123,14 +123,14 @@ module _ (g h : Multigraph) (e x y : ℕ) (edge vertex : ℕ → ℕ) (og : IsGr
 
   -- a path at it begins at one of the two
   one_end : (m i : ℕ) → m < branch_count kind → i < branch_count kind → branch_at branch m ≡ vertex x → is_joined kind m i ≡ true → leaves_by g edge kind paths x m i ≡ true → not (leaves_by g edge kind paths y m i) ≡ true
-  one_end m i l k a t u = not_from_false (on m i) (false_from_ne_true (on m i) (λ v. touches-one g h e x y edge vertex og oh c (branch_at branch m) (path_between (pattern_edges kind) paths m i) (branch_at branch i) (system.are_paths m i l k t) a u v))
+  one_end m i l k a t u = not_from_false (on m i) (false_from_ne_true (on m i) (λ v. touches-one g h e x y edge vertex og oh c (branch_at branch m) (path_of_pair (pattern_edges kind) paths m i) (branch_at branch i) (system.are_paths m i l k t) a u v))
 
   -- at most one path at it begins at x
   pub lift-second : (m : ℕ) → m < branch_count kind → branch_at branch m ≡ vertex x → length (spokes_off g edge kind paths y m) ≤ 1 → IsSubdivision g kind (lifted_branch (vertex x) y back branch) (lifted_paths g e edge kind paths (lifted_branch (vertex x) y back branch))
   lift-second m0 l0 a0 few =
       foot-subdivision g h e x y edge vertex og oh c kind branch paths s back back_in back_is y (merged_in y (inr refl)) (inr refl) at_most
     where
-      at_most : (m i j z : ℕ) → m < branch_count kind → branch_at branch m ≡ vertex x → i < branch_count kind → j < branch_count kind → is_joined kind m i ≡ true → is_joined kind m j ≡ true → IsMerged x y z → z ≢ y
+      at_most : (m i j z : ℕ) → m < branch_count kind → branch_at branch m ≡ vertex x → i < branch_count kind → j < branch_count kind → is_joined kind m i ≡ true → is_joined kind m j ≡ true → IsContractedEnd x y z → z ≢ y
           → leaves_by g edge kind paths z m i ≡ true → leaves_by g edge kind paths z m j ≡ true → i ≡ j
       at_most m i j z l a k b t u (inr o) f v w = absurd (f o)
       at_most m i j z l a k b t u (inl o) f v w = one-member (spokes_off g edge kind paths y m) i j (subst (λ n. length (spokes_off g edge kind paths y n) ≤ 1) (system.branch_once m0 m l0 l (a0 ∙ sym a)) few) (found i k t v) (found j b u w)

@@ -4,7 +4,7 @@ use Rattle.multigraph.specs.Graph.{Multigraph}
 use Rattle.contractions.specs.Contracted.{contracted, contracted_edge}
 use Rattle.kuratowski.specs.Subdivision.{branch_count, pattern_edges}
 use Rattle.kuratowski.specs.declared.subdivision.Pattern.TheVariants.{K5, K33}
-use Rattle.planarity.specs.Lift.{touches, lifted, is_listed, path_between, spokes, spokes_on, spokes_off, lifted_branch, lifted_paths, split_branch, split_paths}
+use Rattle.planarity.specs.Lift.{touches, lifted, is_listed, path_of_pair, spokes, spokes_on, spokes_off, lifted_branch, lifted_paths, split_branch, split_paths}
 use Rattle.planarity.proofs.ExpansionExamples.{wheel}
 
 -- of the edges from 1 to 2 and from the hub to 2 one is at 1, and none is at 0
@@ -41,13 +41,13 @@ six-not_joined : is_listed (pattern_edges K33) 2 1 ≡ false
 six-not_joined = refl
 
 -- a path is turned round where its pair is
-between-forth : path_between ((0, 1) ∷ (0, 2) ∷ []) ((7 ∷ []) ∷ (8 ∷ 9 ∷ []) ∷ []) 0 2 ≡ 8 ∷ 9 ∷ []
+between-forth : path_of_pair ((0, 1) ∷ (0, 2) ∷ []) ((7 ∷ []) ∷ (8 ∷ 9 ∷ []) ∷ []) 0 2 ≡ 8 ∷ 9 ∷ []
 between-forth = refl
 
-between-back : path_between ((0, 1) ∷ (0, 2) ∷ []) ((7 ∷ []) ∷ (8 ∷ 9 ∷ []) ∷ []) 2 0 ≡ 9 ∷ 8 ∷ []
+between-back : path_of_pair ((0, 1) ∷ (0, 2) ∷ []) ((7 ∷ []) ∷ (8 ∷ 9 ∷ []) ∷ []) 2 0 ≡ 9 ∷ 8 ∷ []
 between-back = refl
 
-between-none : path_between ((0, 1) ∷ (0, 2) ∷ []) ((7 ∷ []) ∷ (8 ∷ 9 ∷ []) ∷ []) 1 2 ≡ []
+between-none : path_of_pair ((0, 1) ∷ (0, 2) ∷ []) ((7 ∷ []) ∷ (8 ∷ 9 ∷ []) ∷ []) 1 2 ≡ []
 between-none = refl
 
 -- vertex 1 is joined with all others in K5, with those of the other side in K3,3

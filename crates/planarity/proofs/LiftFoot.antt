@@ -9,8 +9,8 @@ use Rattle.contractions.specs.Contraction.{IsContraction}
 use Rattle.kuratowski.specs.declared.subdivision.Pattern.{Pattern}
 use Rattle.kuratowski.specs.declared.subdivision.Pattern.TheVariants.{K5, K33}
 use Rattle.kuratowski.specs.Subdivision.{branch_count, pattern_edges, branch_at, IsSubdivision}
-use Rattle.planarity.specs.Lift.{touches, lifted, path_between}
-use Rattle.planarity.proofs.LiftSystem.{SamePair, IsBranch, IsPathSystem, IsMerged, lift-system}
+use Rattle.planarity.specs.Lift.{touches, lifted, path_of_pair}
+use Rattle.planarity.proofs.LiftSystem.{SamePair, IsBranch, IsPathSystem, IsContractedEnd, lift-system}
 use Rattle.planarity.proofs.LiftPairs.{is_joined, joined-turned, subdivision-system}
 use Rattle.planarity.proofs.LiftBack.{all_joined, each-joined, system-subdivision}
 use Rattle.planarity.proofs.LiftSpokes.{touches-met, touches-turned, merged-vertex}
@@ -23,9 +23,9 @@ pattern-joined K33 = refl
 module _ (g h : Multigraph) (e x y : ℕ) (edge vertex : ℕ → ℕ) (og : IsGraph g) (oh : IsGraph h) (c : IsContraction g h e x y edge vertex)
     (kind : Pattern) (branch : List ℕ) (paths : List (List ℕ)) (s : IsSubdivision h kind branch paths)
     (back : ℕ → ℕ) (back_in : (v : ℕ) → v < h.vertex_count → back v < g.vertex_count) (back_is : (v : ℕ) → v < h.vertex_count → vertex (back v) ≡ v)
-    (foot : ℕ) (foot_in : foot < g.vertex_count) (foot_merged : IsMerged x y foot) where
+    (foot : ℕ) (foot_in : foot < g.vertex_count) (foot_merged : IsContractedEnd x y foot) where
   abbrev path : ℕ → ℕ → List ℕ
-  path = path_between (pattern_edges kind) paths
+  path = path_of_pair (pattern_edges kind) paths
 
   abbrev at : ℕ → ℕ
   at = branch_at branch
@@ -70,12 +70,12 @@ module _ (g h : Multigraph) (e x y : ℕ) (edge vertex : ℕ → ℕ) (og : IsGr
   touched-met : (i j z : ℕ) → i < branch_count kind → j < branch_count kind → is_joined kind i j ≡ true → touches g z (map edge (path i j)) ≡ true → is_member (vertex z) (walk_vertices h (at i) (path i j)) ≡ true
   touched-met i j z l k t u = touches-met g h e x y edge vertex og oh c (at i) (path i j) z (system.are_paths i j l k t).walk u
 
-  own : (i j m : ℕ) → i < branch_count kind → j < branch_count kind → m < branch_count kind → is_joined kind i j ≡ true → IsMerged x y (branch_at roots m) → touches g (branch_at roots m) (map edge (path i j)) ≡ true → (m ≡ i) ⊎ (m ≡ j)
+  own : (i j m : ℕ) → i < branch_count kind → j < branch_count kind → m < branch_count kind → is_joined kind i j ≡ true → IsContractedEnd x y (branch_at roots m) → touches g (branch_at roots m) (map edge (path i j)) ≡ true → (m ≡ i) ⊎ (m ≡ j)
   own i j m l k r t u v = system.off_branch i j m l k r t (subst (λ z. is_member z (walk_vertices h (at i) (path i j)) ≡ true) (stands m r) (touched-met i j (branch_at roots m) l k t v))
 
-  module _ (few : (m i j z : ℕ) → m < branch_count kind → at m ≡ vertex x → i < branch_count kind → j < branch_count kind → is_joined kind m i ≡ true → is_joined kind m j ≡ true → IsMerged x y z → z ≢ foot
+  module _ (few : (m i j z : ℕ) → m < branch_count kind → at m ≡ vertex x → i < branch_count kind → j < branch_count kind → is_joined kind m i ≡ true → is_joined kind m j ≡ true → IsContractedEnd x y z → z ≢ foot
       → touches g z (map edge (path m i)) ≡ true → touches g z (map edge (path m j)) ≡ true → i ≡ j) where
-    once : (i j p q z : ℕ) → i < branch_count kind → j < branch_count kind → p < branch_count kind → q < branch_count kind → is_joined kind i j ≡ true → is_joined kind p q ≡ true → IsMerged x y z
+    once : (i j p q z : ℕ) → i < branch_count kind → j < branch_count kind → p < branch_count kind → q < branch_count kind → is_joined kind i j ≡ true → is_joined kind p q ≡ true → IsContractedEnd x y z
         → touches g z (map edge (path i j)) ≡ true → touches g z (map edge (path p q)) ≡ true → SamePair i j p q ⊎ IsBranch (branch_count kind) (branch_at roots) z
     once i j p q z a b d f t u m v w = elim (system.apart i j p q (vertex z) a b d f t u (touched-met i j z a b t v) (touched-met p q z d f u w)) [
       | inl r ↦ inl r

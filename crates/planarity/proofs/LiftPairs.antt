@@ -13,7 +13,7 @@ use Rattle.graph_theory.proofs.Paths.{path-none, path-reverse, path-reverse-met}
 use Rattle.kuratowski.specs.declared.subdivision.Pattern.{Pattern}
 use Rattle.kuratowski.specs.declared.subdivision.Pattern.TheVariants.{K5, K33}
 use Rattle.kuratowski.specs.Subdivision.{branch_count, pattern_edges, branch_at, path_at, pair_at, inner_vertices, all_inner, IsSubdivision}
-use Rattle.planarity.specs.Lift.{is_pair, is_listed, path_between}
+use Rattle.planarity.specs.Lift.{is_pair, is_listed, path_of_pair}
 use Rattle.planarity.proofs.LiftSystem.{SamePair, IsBranch, IsPathSystem}
 
 -- a vertex inside a path is met, and is neither its first nor its last
@@ -74,8 +74,8 @@ inside-once g branch (p ∷ ps) (q ∷ qs) (suc k) (suc l) z e b c d m n =
 pub record Stands (pairs : List (ℕ × ℕ)) (paths : List (List ℕ)) (i j : ℕ) : Type 0 where
   pub place : ℕ
   pub place_in : place < length pairs
-  pub which : (((get_or pairs place (0, 0)).0 ≡ i) × ((get_or pairs place (0, 0)).1 ≡ j) × (path_between pairs paths i j ≡ get_or paths place []))
-      ⊎ (((get_or pairs place (0, 0)).0 ≡ j) × ((get_or pairs place (0, 0)).1 ≡ i) × (path_between pairs paths i j ≡ reverse (get_or paths place [])))
+  pub which : (((get_or pairs place (0, 0)).0 ≡ i) × ((get_or pairs place (0, 0)).1 ≡ j) × (path_of_pair pairs paths i j ≡ get_or paths place []))
+      ⊎ (((get_or pairs place (0, 0)).0 ≡ j) × ((get_or pairs place (0, 0)).1 ≡ i) × (path_of_pair pairs paths i j ≡ reverse (get_or paths place [])))
 
 -- two numbers of one of the pairs have a path
 pub listed-stands : (pairs : List (ℕ × ℕ)) (paths : List (List ℕ)) (i j : ℕ) → length paths ≡ length pairs → is_listed pairs i j ≡ true → Stands pairs paths i j
@@ -105,7 +105,7 @@ listed-stands (p ∷ ps) (q ∷ qs) i j l t = elim (cases_Bool (p.0 == i && p.1 
       ];
     }
       where
-        skip : path_between (p ∷ ps) (q ∷ qs) i j ≡ path_between ps qs i j
+        skip : path_of_pair (p ∷ ps) (q ∷ qs) i j ≡ path_of_pair ps qs i j
         skip = rw (a, b) refl
 
 -- whether no pair is of one number twice
@@ -114,7 +114,7 @@ no_loops [] = true
 no_loops (p ∷ ps) = not (p.0 == p.1) && no_loops ps
 
 -- then the path from a vertex to itself has no edge
-pub between-self : (pairs : List (ℕ × ℕ)) (paths : List (List ℕ)) (i : ℕ) → no_loops pairs ≡ true → path_between pairs paths i i ≡ []
+pub between-self : (pairs : List (ℕ × ℕ)) (paths : List (List ℕ)) (i : ℕ) → no_loops pairs ≡ true → path_of_pair pairs paths i i ≡ []
 between-self [] paths i t = refl
 between-self (p ∷ ps) [] i t = refl
 between-self (p ∷ ps) (q ∷ qs) i t = rw differ (between-self ps qs i (and_parts (not (p.0 == p.1)) (no_loops ps) t).1)
@@ -158,7 +158,7 @@ module _ (g : Multigraph) (kind : Pattern) (branch : List ℕ) (paths : List (Li
   at = branch_at branch
 
   abbrev path : ℕ → ℕ → List ℕ
-  path = path_between (pattern_edges kind) paths
+  path = path_of_pair (pattern_edges kind) paths
 
   branch_distinct : is_distinct branch ≡ true
   branch_distinct = distinct-append_left branch (all_inner g branch pairs paths) s.apart

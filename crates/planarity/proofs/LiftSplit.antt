@@ -9,9 +9,9 @@ use Rattle.graph_theory.specs.Path.{walk_vertices}
 use Rattle.contractions.specs.Contraction.{IsContraction}
 use Rattle.kuratowski.specs.declared.subdivision.Pattern.TheVariants.{K5, K33}
 use Rattle.kuratowski.specs.Subdivision.{pattern_edges, branch_at, IsSubdivision}
-use Rattle.planarity.specs.Lift.{touches, lifted, path_between}
+use Rattle.planarity.specs.Lift.{touches, lifted, path_of_pair}
 use Rattle.planarity.proofs.LiftPath.{two_ends}
-use Rattle.planarity.proofs.LiftSystem.{SamePair, IsBranch, IsPathSystem, IsMerged, lift-system}
+use Rattle.planarity.proofs.LiftSystem.{SamePair, IsBranch, IsPathSystem, IsContractedEnd, lift-system}
 use Rattle.planarity.proofs.LiftPairs.{is_joined, between-self, subdivision-system}
 use Rattle.planarity.proofs.LiftBack.{each-joined, system-subdivision}
 use Rattle.planarity.proofs.LiftSpokes.{touches-met, touches-one, touches-turned, merged-vertex, ends-differ}
@@ -38,10 +38,10 @@ module _ (g h : Multigraph) (e x y : ℕ) (edge vertex : ℕ → ℕ) (og : IsGr
     (back : ℕ → ℕ) (back_in : (v : ℕ) → v < h.vertex_count → back v < g.vertex_count) (back_is : (v : ℕ) → v < h.vertex_count → vertex (back v) ≡ v)
     (m p q r t : ℕ) (m_in : m < 5) (p_in : p < 5) (q_in : q < 5) (r_in : r < 5) (t_in : t < 5)
     (top : branch_at branch m ≡ vertex x) (mp : m ≢ p) (mq : m ≢ q) (pq : p ≢ q) (rt : r ≢ t)
-    (p_off : touches g y (map edge (path_between (pattern_edges K5) paths m p)) ≡ false) (q_off : touches g y (map edge (path_between (pattern_edges K5) paths m q)) ≡ false)
-    (r_on : touches g y (map edge (path_between (pattern_edges K5) paths m r)) ≡ true) (t_on : touches g y (map edge (path_between (pattern_edges K5) paths m t)) ≡ true) where
+    (p_off : touches g y (map edge (path_of_pair (pattern_edges K5) paths m p)) ≡ false) (q_off : touches g y (map edge (path_of_pair (pattern_edges K5) paths m q)) ≡ false)
+    (r_on : touches g y (map edge (path_of_pair (pattern_edges K5) paths m r)) ≡ true) (t_on : touches g y (map edge (path_of_pair (pattern_edges K5) paths m t)) ≡ true) where
   abbrev path : ℕ → ℕ → List ℕ
-  path = path_between (pattern_edges K5) paths
+  path = path_of_pair (pattern_edges K5) paths
 
   abbrev at : ℕ → ℕ
   at = branch_at branch
@@ -160,7 +160,7 @@ module _ (g h : Multigraph) (e x y : ℕ) (edge vertex : ℕ → ℕ) (og : IsGr
   stands (suc (suc (suc (suc (suc zero))))) l = back_is (at q) (s.branch_in q q_in)
   stands (suc (suc (suc (suc (suc (suc i)))))) l = absurd (omega arith)
 
-  merged_in : (z : ℕ) → IsMerged x y z → z < g.vertex_count
+  merged_in : (z : ℕ) → IsContractedEnd x y z → z < g.vertex_count
   merged_in z o = end-in g z e og c.edge_in (two_ends g h e x y edge vertex og oh c z o)
 
   place_in : (i : ℕ) → i < 6 → place i < g.vertex_count
@@ -195,7 +195,7 @@ module _ (g h : Multigraph) (e x y : ℕ) (edge vertex : ℕ → ℕ) (og : IsGr
   links i j l k u = five-joined (over i) (over j) (over_in i l) (over_in j k)
 
   -- a path at which an end of the contracted edge is touched is one from the vertex m
-  passes : (i j z : ℕ) → i < 6 → j < 6 → IsMerged x y z → touches g z (map edge (path (over i) (over j))) ≡ true → (m ≡ over i) ⊎ (m ≡ over j)
+  passes : (i j z : ℕ) → i < 6 → j < 6 → IsContractedEnd x y z → touches g z (map edge (path (over i) (over j))) ≡ true → (m ≡ over i) ⊎ (m ≡ over j)
   passes i j z l k o u = system.off_branch (over i) (over j) m (over_in i l) (over_in j k) m_in (five-joined (over i) (over j) (over_in i l) (over_in j k))
       (subst (λ v. is_member v (walk_vertices h (at (over i)) (path (over i) (over j))) ≡ true) (merged-vertex g h e x y edge vertex og oh c z o ∙ sym top)
       (touches-met g h e x y edge vertex og oh c (at (over i)) (path (over i) (over j)) z (system.are_paths (over i) (over j) (over_in i l) (over_in j k) (five-joined (over i) (over j) (over_in i l) (over_in j k))).walk u))
@@ -204,7 +204,7 @@ module _ (g h : Multigraph) (e x y : ℕ) (edge vertex : ℕ → ℕ) (og : IsGr
   not_x : (i : ℕ) → i < 5 → on_y i ≡ true → touches g x (map edge (path m i)) ≡ true → ⊥
   not_x i l u v = touches-one g h e x y edge vertex og oh c (at m) (path m i) (at i) (system.are_paths m i m_in l (five-joined m i m_in l)) top v u
 
-  own : (i j n : ℕ) → i < 6 → j < 6 → n < 6 → is_across i j ≡ true → IsMerged x y (place n) → touches g (place n) (map edge (path (over i) (over j))) ≡ true → (n ≡ i) ⊎ (n ≡ j)
+  own : (i j n : ℕ) → i < 6 → j < 6 → n < 6 → is_across i j ≡ true → IsContractedEnd x y (place n) → touches g (place n) (map edge (path (over i) (over j))) ≡ true → (n ≡ i) ⊎ (n ≡ j)
   own i j n l k a u o v = elim (mids n a (system.branch_once (over n) m (over_in n a) m_in (sym (stands n a) ∙ merged-vertex g h e x y edge vertex og oh c (place n) o ∙ sym top))) [
     | inl w ↦ first w (subst (λ z. touches g (place z) (map edge (path (over i) (over j))) ≡ true) w v)
     | inr w ↦ second w (subst (λ z. touches g (place z) (map edge (path (over i) (over j))) ≡ true) w v)
@@ -237,7 +237,7 @@ module _ (g h : Multigraph) (e x y : ℕ) (edge vertex : ℕ → ℕ) (og : IsGr
         ])
       ]
 
-  once : (i j n k z : ℕ) → i < 6 → j < 6 → n < 6 → k < 6 → is_across i j ≡ true → is_across n k ≡ true → IsMerged x y z
+  once : (i j n k z : ℕ) → i < 6 → j < 6 → n < 6 → k < 6 → is_across i j ≡ true → is_across n k ≡ true → IsContractedEnd x y z
       → touches g z (map edge (path (over i) (over j))) ≡ true → touches g z (map edge (path (over n) (over k))) ≡ true → SamePair i j n k ⊎ IsBranch 6 place z
   once i j n k z a b d f u v (inl w) o l = inr (0, omega arith, sym w)
   once i j n k z a b d f u v (inr w) o l = inr (3, omega arith, sym w)

@@ -10,9 +10,9 @@ use Rattle.graph_theory.specs.Path.{walk_vertices, IsWalk, IsPath}
 use Rattle.graph_theory.proofs.Walks.{edge-met}
 use Rattle.graph_theory.proofs.Reversal.{reverse-cons}
 use Rattle.contractions.specs.Contraction.{IsContraction}
-use Rattle.planarity.specs.Lift.{touches, path_between}
+use Rattle.planarity.specs.Lift.{touches, path_of_pair}
 use Rattle.planarity.proofs.LiftPath.{image-end}
-use Rattle.planarity.proofs.LiftSystem.{IsMerged}
+use Rattle.planarity.proofs.LiftSystem.{IsContractedEnd}
 
 -- edges in two parts touch a vertex where one of the parts does
 pub touches-append : (g : Multigraph) (z : ℕ) (es fs : List ℕ) → touches g z (es ++ fs) ≡ (touches g z es || touches g z fs)
@@ -31,7 +31,7 @@ touches-reverse g z edge (e ∷ es) =
     either a b = grind (arith, cases_Bool a, cases_Bool b)
 
 -- so it does not matter in which direction a path is looked up
-pub touches-turned : (g : Multigraph) (z : ℕ) (edge : ℕ → ℕ) (pairs : List (ℕ × ℕ)) (paths : List (List ℕ)) (i j : ℕ) → touches g z (map edge (path_between pairs paths j i)) ≡ touches g z (map edge (path_between pairs paths i j))
+pub touches-turned : (g : Multigraph) (z : ℕ) (edge : ℕ → ℕ) (pairs : List (ℕ × ℕ)) (paths : List (List ℕ)) (i j : ℕ) → touches g z (map edge (path_of_pair pairs paths j i)) ≡ touches g z (map edge (path_of_pair pairs paths i j))
 touches-turned g z edge [] paths i j = refl
 touches-turned g z edge (p ∷ ps) [] i j = refl
 touches-turned g z edge (p ∷ ps) (q ∷ qs) i j = elim (cases_Bool (p.0 == i && p.1 == j)) [
@@ -59,7 +59,7 @@ module _ (g h : Multigraph) (e x y : ℕ) (edge vertex : ℕ → ℕ) (og : IsGr
   ends-differ q = other_end-differs g e x og c.edge_in c.first_end (c.second_end ∙ sym q)
 
   -- both ends become one vertex
-  pub merged-vertex : (z : ℕ) → IsMerged x y z → vertex z ≡ vertex x
+  pub merged-vertex : (z : ℕ) → IsContractedEnd x y z → vertex z ≡ vertex x
   merged-vertex z (inl q) = ap vertex q
   merged-vertex z (inr q) = ap vertex q ∙ sym c.merged
 
@@ -68,7 +68,7 @@ module _ (g h : Multigraph) (e x y : ℕ) (edge vertex : ℕ → ℕ) (og : IsGr
   touches-one a [] b p q t u = both_ways false refl t
   touches-one a (i ∷ es) b p q t u = loop (at_first x (inl refl) t) (at_first y (inr refl) u)
     where
-      at_first : (z : ℕ) → IsMerged x y z → touches g z (map edge (i ∷ es)) ≡ true → is_end g z (edge i) ≡ true
+      at_first : (z : ℕ) → IsContractedEnd x y z → touches g z (map edge (i ∷ es)) ≡ true → is_end g z (edge i) ≡ true
       at_first z m v = elim (or_cases (is_end g z (edge i)) (touches g z (map edge es)) v) [
         | inl r ↦ r
         | inr r ↦ absurd (both_ways (is_member a (walk_vertices h (other_end h i a) es)) (distinct-head a (walk_vertices h (other_end h i a) es) p.vertices)

@@ -27,11 +27,11 @@ pub record IsPathSystem (g : Multigraph) (n : ℕ) (joined : ℕ → ℕ → Boo
       → is_member z (walk_vertices g (at i) (path i j)) ≡ true → is_member z (walk_vertices g (at k) (path k l)) ≡ true → SamePair i j k l ⊎ IsBranch n at z
 
 -- the vertex is an end of the contracted edge
-abbrev pub IsMerged : ℕ → ℕ → ℕ → Type 0
-IsMerged x y z = (z ≡ x) ⊎ (z ≡ y)
+abbrev pub IsContractedEnd : ℕ → ℕ → ℕ → Type 0
+IsContractedEnd x y z = (z ≡ x) ⊎ (z ≡ y)
 
 -- or it is not
-pub merged-cases : (x y z : ℕ) → IsMerged x y z ⊎ ((z ≢ x) × (z ≢ y))
+pub merged-cases : (x y z : ℕ) → IsContractedEnd x y z ⊎ ((z ≢ x) × (z ≢ y))
 merged-cases x y z = elim (cases_eq z x) [
   | inl a ↦ inl (inl a)
   | inr a ↦ elim (cases_eq z y) [ inl b ↦ inl (inr b) | inr b ↦ inr (a, b) ]
@@ -42,8 +42,8 @@ module _ (g h : Multigraph) (e x y : ℕ) (edge vertex : ℕ → ℕ) (og : IsGr
     (k : ℕ) (linked : ℕ → ℕ → Bool) (over : ℕ → ℕ) (place : ℕ → ℕ)
     (over_in : (i : ℕ) → i < k → over i < n) (place_in : (i : ℕ) → i < k → place i < g.vertex_count) (place_once : (i j : ℕ) → i < k → j < k → place i ≡ place j → i ≡ j)
     (stands : (i : ℕ) → i < k → vertex (place i) ≡ at (over i)) (links : (i j : ℕ) → i < k → j < k → linked i j ≡ true → joined (over i) (over j) ≡ true)
-    (own : (i j m : ℕ) → i < k → j < k → m < k → linked i j ≡ true → IsMerged x y (place m) → touches g (place m) (map edge (path (over i) (over j))) ≡ true → (m ≡ i) ⊎ (m ≡ j))
-    (once : (i j p q z : ℕ) → i < k → j < k → p < k → q < k → linked i j ≡ true → linked p q ≡ true → IsMerged x y z
+    (own : (i j m : ℕ) → i < k → j < k → m < k → linked i j ≡ true → IsContractedEnd x y (place m) → touches g (place m) (map edge (path (over i) (over j))) ≡ true → (m ≡ i) ⊎ (m ≡ j))
+    (once : (i j p q z : ℕ) → i < k → j < k → p < k → q < k → linked i j ≡ true → linked p q ≡ true → IsContractedEnd x y z
     → touches g z (map edge (path (over i) (over j))) ≡ true → touches g z (map edge (path (over p) (over q))) ≡ true → SamePair i j p q ⊎ IsBranch k place z)
     (same : (i j p q : ℕ) → i < k → j < k → p < k → q < k → linked i j ≡ true → linked p q ≡ true → SamePair (over i) (over j) (over p) (over q) → SamePair i j p q)
   where
@@ -64,7 +64,7 @@ module _ (g h : Multigraph) (e x y : ℕ) (edge vertex : ℕ → ℕ) (og : IsGr
     meets i j z a b t m = let w = (lift i j a b t).met z m in (w.0, subst (λ u. is_member (vertex z) (walk_vertices h u (path (over i) (over j))) ≡ true) (stands i a) w.1)
 
     -- a vertex that becomes what place i becomes is place i, or an end of the contracted edge
-    place-back : (i z : ℕ) → i < k → z < g.vertex_count → at (over i) ≡ vertex z → (z ≡ place i) ⊎ IsMerged x y z
+    place-back : (i z : ℕ) → i < k → z < g.vertex_count → at (over i) ≡ vertex z → (z ≡ place i) ⊎ IsContractedEnd x y z
     place-back i z a l q = elim (cases_eq z (place i)) [
       | inl u ↦ inl u
       | inr u ↦ inr ((merged-across g h e x y edge vertex og oh c z (place i) l (place_in i a) (sym q ∙ sym (stands i a)) u).2)
@@ -83,7 +83,7 @@ module _ (g h : Multigraph) (e x y : ℕ) (edge vertex : ℕ → ℕ) (og : IsGr
     ]
 
     -- a vertex met that becomes a branch vertex is a branch vertex, or an end of the contracted edge
-    branch-back : (i j m z : ℕ) → i < k → j < k → m < n → linked i j ≡ true → at m ≡ vertex z → is_member z (walk_vertices g (place i) (raised i j)) ≡ true → IsBranch k place z ⊎ IsMerged x y z
+    branch-back : (i j m z : ℕ) → i < k → j < k → m < n → linked i j ≡ true → at m ≡ vertex z → is_member z (walk_vertices g (place i) (raised i j)) ≡ true → IsBranch k place z ⊎ IsContractedEnd x y z
     branch-back i j m z a b d t q u = elim (s.off_branch (over i) (over j) m (over_in i a) (over_in j b) d (links i j a b t) (subst (λ v. is_member v (walk_vertices h (at (over i)) (path (over i) (over j))) ≡ true) (sym q) w.1)) [
       | inl p ↦ elim (place-back i z a w.0 (ap at (sym p) ∙ q)) [ inl v ↦ inl (i, a, sym v) | inr v ↦ inr v ]
       | inr p ↦ elim (place-back j z b w.0 (ap at (sym p) ∙ q)) [ inl v ↦ inl (j, b, sym v) | inr v ↦ inr v ]
@@ -105,7 +105,7 @@ module _ (g h : Multigraph) (e x y : ℕ) (edge vertex : ℕ → ℕ) (og : IsGr
       ]
     ]
       where
-        merged : IsMerged x y z → SamePair i j p q ⊎ IsBranch k place z
+        merged : IsContractedEnd x y z → SamePair i j p q ⊎ IsBranch k place z
         merged m = elim ((lift i j a b t).near z v) [
           | inl r ↦ inr (i, a, sym r)
           | inr r ↦ elim r [

@@ -7,7 +7,7 @@ use Rattle.multigraph.proofs.OtherEnd.{end-in}
 use Rattle.rotations.specs.Rotation.{order_at}
 use Rattle.graph_theory.specs.Triconnected.{IsTriconnected}
 use Rattle.graph_theory.proofs.Triconnected.{four-vertices}
-use Rattle.contractions.specs.Contraction.{are_joined, common_count, is_private, ContractibleEdge, IsContraction}
+use Rattle.contractions.specs.Contraction.{are_adjacent, common_count, is_private, ContractibleEdge, IsContraction}
 use Rattle.contractions.specs.Contracted.{contracted, contracted_edge, contracted_vertex}
 use Rattle.contractions.proofs.Contracted.{graph-contracted}
 use Rattle.contractions.proofs.ContractedTriconnected.{triconnected-contracted}
@@ -66,7 +66,7 @@ turns g ok tri five o t =
     expands : StandTogether (λ i. is_end g o.first (edge i)) (leads_near g o.first o.second edge) (order_at t.0 (vertex o.first)) → HasPlane g
     expands w =
         let runs = runs-together g h o.edge o.first o.second edge vertex ok okh con tri.simple t.0 t.1.system (leads_near g o.first o.second edge)
-        (λ i l u v. or_right (is_end g o.second (edge i)) (are_joined g o.second (other_end g (edge i) o.first)) v) (end-in g o.first o.edge ok o.edge_in o.first_end) w in
+        (λ i l u v. or_right (is_end g o.second (edge i)) (are_adjacent g o.second (other_end g (edge i) o.first)) v) (end-in g o.first o.edge ok o.edge_in o.first_end) w in
         let r = expanded-system g h o.edge o.first o.second edge vertex ok okh con tri.simple t.0 t.1.system t.1.plane _ _ runs in
         (r.0, record { system = r.1; plane = r.2 })
 

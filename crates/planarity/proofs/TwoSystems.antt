@@ -9,7 +9,7 @@ use Rattle.multigraph.proofs.OtherEnd.{other_end-is_end}
 use Rattle.rotations.specs.Rotation.{IsRotationSystem}
 use Rattle.graph_theory.specs.Triconnected.{IsTriconnected}
 use Rattle.graph_theory.proofs.Triconnected.{four-vertices}
-use Rattle.contractions.specs.Contraction.{are_joined, is_common, common_count, is_private, ContractibleEdge, IsContraction}
+use Rattle.contractions.specs.Contraction.{are_adjacent, is_common_neighbour, common_count, is_private, ContractibleEdge, IsContraction}
 use Rattle.contractions.specs.Contracted.{contracted, contracted_edge, contracted_vertex}
 use Rattle.contractions.proofs.Neighbours.{incident-three}
 use Rattle.graph_theory.proofs.Ends.{other-other}
@@ -50,10 +50,10 @@ few-counted n p two = by_size (count n p) refl
 
 -- where there is a plane rotation system, the ends of an edge that may be contracted have at most two common neighbours
 pub few-common : (g : Multigraph) → IsGraph g → IsTriconnected g → (r : List (List ℕ)) → IsRotationSystem g r → IsPlane g r → (c : ContractibleEdge g) → common_count g c.first c.second ≤ 2
-few-common g ok tri r s plane c = few-counted g.vertex_count (is_common g c.first c.second) (λ u v w hu hv hw.
-    let a = and_parts (are_joined g c.first u) (are_joined g c.second u) hu in
-    let b = and_parts (are_joined g c.first v) (are_joined g c.second v) hv in
-    let d = and_parts (are_joined g c.first w) (are_joined g c.second w) hw in
+few-common g ok tri r s plane c = few-counted g.vertex_count (is_common_neighbour g c.first c.second) (λ u v w hu hv hw.
+    let a = and_parts (are_adjacent g c.first u) (are_adjacent g c.second u) hu in
+    let b = and_parts (are_adjacent g c.first v) (are_adjacent g c.second v) hv in
+    let d = and_parts (are_adjacent g c.first w) (are_adjacent g c.second w) hw in
     common-two g (contracted g c.edge c.first c.second) c.edge c.first c.second (contracted_edge g c.edge c.first c.second) (contracted_vertex c.first c.second) ok
     (contracted-is g ok c.edge c.first c.second c.edge_in c.first_end c.second_end) r s plane tri.simple c.contractible u v w a.0 a.1 b.0 b.1 d.0 d.1)
 
@@ -92,7 +92,7 @@ module _ (g : Multigraph) (ok : IsGraph g) (tri : IsTriconnected g) (o : Oriente
       contracted-tells g h o.edge o.first o.second edge (contracted_vertex o.first o.second) ok okh tri o.contractible con (other_end g f.0 o.second) (not_first f.0 p.2 p.1 f.1 p.0)
       (joined-from g f.0 o.second f.1 p.0) p.2 r q a.small s t plane plane_too a.comes (subst (IsContractedSystem g h o.edge o.first o.second edge q) (sym e) b.comes)
     where
-      not_first : (f : ℕ) → are_joined g o.first (other_end g f o.second) ≡ false → f ≢ o.edge → f < edge_count g → is_end g o.second f ≡ true → other_end g f o.second ≢ o.first
+      not_first : (f : ℕ) → are_adjacent g o.first (other_end g f o.second) ≡ false → f ≢ o.edge → f < edge_count g → is_end g o.second f ≡ true → other_end g f o.second ≢ o.first
       not_first f n d l i q = d (simple-same g tri.simple f o.edge o.second l o.edge_in i (subst (λ v. is_end g v o.edge ≡ true) o.second_end (other_end-is_end g o.edge o.first))
           (q ∙ sym (subst (λ v. other_end g o.edge v ≡ o.first) o.second_end (other-other g o.edge o.first o.first_end))))
 

@@ -4,7 +4,7 @@ use Rattle.permutations.specs.Members.{is_member, is_distinct}
 use Rattle.permutations.specs.Ring.{images, orbit_length}
 use Rattle.multigraph.specs.Graph.{Multigraph, is_end, other_end}
 use Rattle.graph_theory.specs.Path.{walk_end, walk_starts, IsWalk}
-use Rattle.contractions.specs.Contraction.{are_joined}
+use Rattle.contractions.specs.Contraction.{are_adjacent}
 use Rattle.faces.specs.Euler.{dart_count, dart_from, face_step}
 use Rattle.planarity.specs.Lift.{lifted}
 
@@ -59,4 +59,4 @@ six_paths g e edge p q r t yp xq yr xt k l m o =
 
 -- whether edge i of h at the merged vertex leads to a neighbour of y: it is at y in g, or leads from x to one
 abbrev pub leads_near : Multigraph → ℕ → ℕ → (ℕ → ℕ) → ℕ → Bool
-leads_near g x y edge i = is_end g y (edge i) || are_joined g y (other_end g (edge i) x)
+leads_near g x y edge i = is_end g y (edge i) || are_adjacent g y (other_end g (edge i) x)

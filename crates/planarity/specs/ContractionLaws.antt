@@ -3,7 +3,7 @@ use Rattle.std.specs.Prelude.{◌≡◌, ◌≢◌, ℕ, ◌<◌, ◌⊎◌, tru
 use Rattle.multigraph.specs.Graph.{Multigraph, IsGraph}
 use Rattle.rotations.specs.Rotation.{IsRotationSystem}
 use Rattle.graph_theory.specs.Triconnected.{IsSimple, IsConnectedWithout, IsTriconnected}
-use Rattle.contractions.specs.Contraction.{are_joined, IsContractible, IsContraction}
+use Rattle.contractions.specs.Contraction.{are_adjacent, IsContractible, IsContraction}
 use Rattle.dart_maps.specs.Map.{twin}
 use Rattle.faces.specs.Euler.{tail, dart_count, IsPlane, IsPlaneSystem}
 use Rattle.faces.specs.Maps.{dart_after}
@@ -50,13 +50,13 @@ ContractedSystemPlane = (g h : Multigraph) (e x y : ℕ) (edge vertex : ℕ → 
 abbrev pub CommonNeighboursTwo : Type 0
 CommonNeighboursTwo = (g h : Multigraph) (e x y : ℕ) (edge vertex : ℕ → ℕ) → IsGraph g → IsSimple g → IsContraction g h e x y edge vertex → IsContractible g x y
     → (r : List (List ℕ)) → IsRotationSystem g r → IsPlane g r → (a b c : ℕ)
-    → are_joined g x a ≡ true → are_joined g y a ≡ true → are_joined g x b ≡ true → are_joined g y b ≡ true → are_joined g x c ≡ true → are_joined g y c ≡ true → (a ≡ b) ⊎ ((a ≡ c) ⊎ (b ≡ c))
+    → are_adjacent g x a ≡ true → are_adjacent g y a ≡ true → are_adjacent g x b ≡ true → are_adjacent g y b ≡ true → are_adjacent g x c ≡ true → are_adjacent g y c ≡ true → (a ≡ b) ⊎ ((a ≡ c) ⊎ (b ≡ c))
 
 -- plane rotation systems of a triconnected graph that are the same with such an edge contracted are the same, if y has a
 -- neighbour that x has not
 abbrev pub ContractedSystemTells : Type 0
 ContractedSystemTells = (g h : Multigraph) (e x y : ℕ) (edge vertex : ℕ → ℕ) → IsGraph g → IsGraph h → IsTriconnected g → IsContractible g x y → IsContraction g h e x y edge vertex
-    → (v : ℕ) → v ≢ x → are_joined g y v ≡ true → are_joined g x v ≡ false
+    → (v : ℕ) → v ≢ x → are_adjacent g y v ≡ true → are_adjacent g x v ≡ false
     → (r q s : List (List ℕ)) → IsRotationSystem g r → IsRotationSystem g q → IsPlane g r → IsPlane g q → IsContractedSystem g h e x y edge r s → IsContractedSystem g h e x y edge q s → r ≡ q
 
 -- a plane rotation system of the contracted graph that falls in runs round the merged vertex is made by a plane one of the graph

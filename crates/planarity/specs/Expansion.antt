@@ -2,7 +2,7 @@
 use Rattle.std.specs.Prelude.{◌≡◌, ◌≢◌, ℕ, ◌+◌, ◌*◌, ◌/◌, ◌%◌, ◌<◌, ◌⊎◌, Bool, true, ◌||◌, ◌==◌, List}
 use Rattle.permutations.specs.Exchange.{restricted}
 use Rattle.multigraph.specs.Graph.{Multigraph}
-use Rattle.contractions.specs.Contraction.{are_joined, is_kept}
+use Rattle.contractions.specs.Contraction.{are_adjacent, is_kept}
 use Rattle.dart_maps.specs.Map.{twin}
 use Rattle.dart_maps.specs.Changes.{contracted}
 use Rattle.faces.specs.Euler.{tail, dart_from, dart_count}
@@ -35,4 +35,4 @@ pub record FallsInRuns (g h : Multigraph) (x y : ℕ) (edge : ℕ → ℕ) (s : 
   pub after_last : tail g (moved edge (dart_after h s last)) ≡ y
   pub run_of_x : (d : ℕ) → d < dart_count h → tail g (moved edge d) ≡ x → d ≢ last → tail g (moved edge (dart_after h s d)) ≡ x
   pub run_of_y : (d : ℕ) → d < dart_count h → tail g (moved edge d) ≡ y → dart_after h s d ≢ first → tail g (moved edge (dart_after h s d)) ≡ y
-  pub common : (d : ℕ) → d < dart_count h → tail g (moved edge d) ≡ x → are_joined g y (tail g (twin (moved edge d))) ≡ true → (d ≡ first) ⊎ (d ≡ last)
+  pub common : (d : ℕ) → d < dart_count h → tail g (moved edge d) ≡ x → are_adjacent g y (tail g (twin (moved edge d))) ≡ true → (d ≡ first) ⊎ (d ≡ last)

@@ -27,11 +27,11 @@ is_listed [] i j = false
 is_listed (pair ∷ pairs) i j = is_pair pair i j || is_listed pairs i j
 
 -- the path from i to j, where there is one path for each of the pairs: it is turned round where the pair is (j, i)
-abbrev pub path_between : List (ℕ × ℕ) → List (List ℕ) → ℕ → ℕ → List ℕ
-path_between [] paths i j = []
-path_between (pair ∷ pairs) [] i j = []
-path_between (pair ∷ pairs) (path ∷ paths) i j =
-    (if pair.0 == i && pair.1 == j then path else (if pair.0 == j && pair.1 == i then reverse path else path_between pairs paths i j))
+abbrev pub path_of_pair : List (ℕ × ℕ) → List (List ℕ) → ℕ → ℕ → List ℕ
+path_of_pair [] paths i j = []
+path_of_pair (pair ∷ pairs) [] i j = []
+path_of_pair (pair ∷ pairs) (path ∷ paths) i j =
+    (if pair.0 == i && pair.1 == j then path else (if pair.0 == j && pair.1 == i then reverse path else path_of_pair pairs paths i j))
 
 -- the vertices of the pattern that are joined with its vertex m
 abbrev pub spokes : Pattern → ℕ → List ℕ
@@ -39,7 +39,7 @@ spokes kind m = filter (is_listed (pattern_edges kind) m) (numbers_below (branch
 
 -- whether the path from vertex m to vertex i of the pattern, in g, touches z
 abbrev pub leaves_by : Multigraph → (ℕ → ℕ) → Pattern → List (List ℕ) → ℕ → ℕ → ℕ → Bool
-leaves_by g edge kind paths z m i = touches g z (map edge (path_between (pattern_edges kind) paths m i))
+leaves_by g edge kind paths z m i = touches g z (map edge (path_of_pair (pattern_edges kind) paths m i))
 
 -- the vertices of the pattern to which the path from vertex m touches z, and those to which it does not
 abbrev pub spokes_on : Multigraph → (ℕ → ℕ) → Pattern → List (List ℕ) → ℕ → ℕ → List ℕ
@@ -55,7 +55,7 @@ lifted_branch top foot back branch = map (λ v. if v == top then foot else back 
 -- the paths lifted, each between the two vertices of g that stand for its branch vertices
 abbrev pub lifted_paths : Multigraph → ℕ → (ℕ → ℕ) → Pattern → List (List ℕ) → List ℕ → List (List ℕ)
 lifted_paths g e edge kind paths branch =
-    map (λ p. lifted g e (branch_at branch p.0) (map edge (path_between (pattern_edges kind) paths p.0 p.1)) (branch_at branch p.1)) (pattern_edges kind)
+    map (λ p. lifted g e (branch_at branch p.0) (map edge (path_of_pair (pattern_edges kind) paths p.0 p.1)) (branch_at branch p.1)) (pattern_edges kind)
 
 -- K3,3 for K5, where the paths from vertex m of K5 to p and q begin at x, and those to r and t at y: its branch vertices
 abbrev pub split_branch : ℕ → ℕ → (ℕ → ℕ) → List ℕ → ℕ → ℕ → ℕ → ℕ → List ℕ
@@ -68,7 +68,7 @@ split_over m p q r t i = slice_index_or (m ∷ r ∷ t ∷ m ∷ p ∷ q ∷ [])
 -- and its paths: between x and y the edge e, all others lifted
 abbrev pub split_paths : Multigraph → ℕ → (ℕ → ℕ) → List (List ℕ) → ℕ → ℕ → ℕ → ℕ → ℕ → List ℕ → List (List ℕ)
 split_paths g e edge paths m p q r t branch =
-    map (λ k. lifted g e (branch_at branch k.0) (map edge (path_between (pattern_edges K5) paths (split_over m p q r t k.0) (split_over m p q r t k.1))) (branch_at branch k.1)) (pattern_edges K33)
+    map (λ k. lifted g e (branch_at branch k.0) (map edge (path_of_pair (pattern_edges K5) paths (split_over m p q r t k.0) (split_over m p q r t k.1))) (branch_at branch k.1)) (pattern_edges K33)
 
 -- a subdivision of K5 or K3,3 in g
 pub record HasSubdivision (g : Multigraph) : Type 0 where

@@ -5,7 +5,7 @@ use Rattle.std.proofs.lemmas.Bool.{cases_Bool}
 use Rattle.std.proofs.lemmas.Option.{none-some}
 use Rattle.spqr_script.specs.Line.{is_passed_over, tokens_of}
 use Rattle.spqr_script.specs.Words.{spelling, all_words, word_among}
-use Rattle.spqr_script.specs.Script.{word_of, SpellsArguments, SpellsCommand, command_lines, IsAccepted, IsRefused}
+use Rattle.spqr_script.specs.Script.{word_of, SpellsArguments, SpellsCommand, command_lines, IsAccepted, IsRefusedLine}
 use Rattle.spqr_script.specs.Reading.{arguments_of, command_with, command_of, command_and, commands_from}
 use Rattle.spqr_script.specs.declared.word.Word.{Word}
 use Rattle.spqr_script.specs.declared.word.Word.TheVariants as word
@@ -181,7 +181,7 @@ commands_read k (line ∷ lines) cs s =
 -- ---- the first line that is refused
 
 -- a line that no command reads spells none
-refused : (line : List ℕ) → is_passed_over line ≡ false → command_of (tokens_of line) ≡ None → IsRefused line
+refused : (line : List ℕ) → is_passed_over line ≡ false → command_of (tokens_of line) ≡ None → IsRefusedLine line
 refused line not_over e = (not_over, λ command s. none-some command (sym e ∙ command_read (tokens_of line) command s))
 
 accepted : (line : List ℕ) (c : Command) → command_of (tokens_of line) ≡ Some c → IsAccepted line
@@ -196,7 +196,7 @@ and_err line (Some c) (Err l) bad e = inr (c, refl, e)
 -- the i-th of the lines is refused, and each before it is accepted
 pub record StopsAt (lines : List (List ℕ)) (i : ℕ) : Type 0 where
   pub within : i < length lines
-  pub bad : IsRefused (get_or lines i [])
+  pub bad : IsRefusedLine (get_or lines i [])
   pub earlier : (k : ℕ) → k < i → IsAccepted (get_or lines k [])
 
 stops_later : (line : List ℕ) (lines : List (List ℕ)) (i : ℕ) → IsAccepted line → StopsAt lines i → StopsAt (line ∷ lines) (suc i)

@@ -4,7 +4,7 @@ use Rattle.std.specs.Global.{Vec}
 use Rattle.std.specs.List.{AllZip}
 use Rattle.std.proofs.lemmas.Bool.{both_ways, cases_Bool, cases_order}
 use Rattle.spqr_script.specs.Line.{lines_of, is_passed_over}
-use Rattle.spqr_script.specs.Script.{Commands, command_lines, IsAccepted, IsRefused, IsFirstBadLine}
+use Rattle.spqr_script.specs.Script.{Commands, command_lines, IsAccepted, IsRefusedLine, IsFirstBadLine}
 use Rattle.spqr_script.specs.Reading.{commands_from, Gives}
 use Rattle.spqr_script.specs.Outcome.{IsReading, IsFault}
 use Rattle.spqr_script.specs.declared.command.Command.{Command}
@@ -25,7 +25,7 @@ unfolding IsFirstBadLine
 script_bad bytes bad e =
     let p = stops 1 (lines_of bytes) bad e in
     let place : bad - 1 ≡ p.0 = omega (arith, p.1) in
-    (omega (arith, p.1), omega (arith, p.1, p.2.within), subst (λ (i : ℕ). IsRefused (get_or (lines_of bytes) i [])) (sym place) p.2.bad, λ k lt. p.2.earlier k (omega (arith, p.1)))
+    (omega (arith, p.1), omega (arith, p.1, p.2.within), subst (λ (i : ℕ). IsRefusedLine (get_or (lines_of bytes) i [])) (sym place) p.2.bad, λ k lt. p.2.earlier k (omega (arith, p.1)))
 
 -- ---- what the reader answers
 
@@ -56,7 +56,7 @@ decided bytes = go (commands_from 1 (lines_of bytes)) refl
     go (Err line) e = inr (line, script_bad bytes line e)
 
 -- no line is both
-accepted_refused : (line : List ℕ) → IsAccepted line → IsRefused line → ⊥
+accepted_refused : (line : List ℕ) → IsAccepted line → IsRefusedLine line → ⊥
 accepted_refused line (inl over) bad = both_ways (is_passed_over line) bad.0 over
 accepted_refused line (inr (command, s)) bad = bad.1 command s
 

@@ -115,11 +115,11 @@ abbrev pub IsAccepted : List ℕ → Type 0
 IsAccepted line = (is_passed_over line ≡ true) ⊎ ((command : Command) × SpellsCommand (tokens_of line) command)
 
 -- a line that is neither
-abbrev pub IsRefused : List ℕ → Type 0
-IsRefused line = (is_passed_over line ≡ false) × ((command : Command) → SpellsCommand (tokens_of line) command → ⊥)
+abbrev pub IsRefusedLine : List ℕ → Type 0
+IsRefusedLine line = (is_passed_over line ≡ false) × ((command : Command) → SpellsCommand (tokens_of line) command → ⊥)
 
 -- the line with this number is the first that is refused; lines are numbered from 1
 unfoldable pub IsFirstBadLine : List ℕ → ℕ → Type 0
 IsFirstBadLine bytes line =
-    (0 < line) × (line ≤ length (lines_of bytes)) × IsRefused (slice_index_or (lines_of bytes) (line - 1) [])
+    (0 < line) × (line ≤ length (lines_of bytes)) × IsRefusedLine (slice_index_or (lines_of bytes) (line - 1) [])
     × ((k : ℕ) → k + 1 < line → IsAccepted (slice_index_or (lines_of bytes) k []))

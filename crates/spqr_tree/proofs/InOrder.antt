@@ -15,7 +15,7 @@ use Rattle.pair_split.specs.declared.components.Comp.{Comp}
 use Rattle.pair_split.proofs.GraphFamily.{one_block-tight}
 use Rattle.pair_split.proofs.Links.{no_piece}
 use Rattle.pair_split.proofs.Subtrees.{link-in}
-use Rattle.spqr_tree.specs.Merged.{how_many, renamed, redirect, IsSymmetric, AreGroups, AreRearranged}
+use Rattle.spqr_tree.specs.Merged.{how_many, relinked, redirect, IsSymmetric, AreGroups, AreRearranged}
 use Rattle.spqr_tree.specs.Merging.{group_of, AreFinished}
 use Rattle.spqr_tree.specs.Ranking.{Rank, rank_at, AreVertices, AreRanked, ArePlaces, value_at, placed, placed_group, in_order}
 use Rattle.spqr_tree.specs.Keys.{AreWithin}
@@ -30,8 +30,8 @@ use Rattle.spqr_tree.proofs.Ranks.{no_rank}
 -- a piece with its lesser end first passes what the piece passes
 placed-passes : (turn : ℕ → ℕ) (t : Piece → Bool) → IsSymmetric t → (p : Piece) → t (placed turn p) ≡ t (redirect turn p)
 placed-passes turn t q p = elim (cases_lt p.a p.b) [
-  | inl l ↦ ap₂ (λ (x y : ℕ). t (record { a = x; b = y; what = renamed turn p.what })) (omega (arith, l)) (omega (arith, l))
-  | inr l ↦ ap₂ (λ (x y : ℕ). t (record { a = x; b = y; what = renamed turn p.what })) (omega (arith, l)) (omega (arith, l)) ∙ q p.b p.a (renamed turn p.what)
+  | inl l ↦ ap₂ (λ (x y : ℕ). t (record { a = x; b = y; what = relinked turn p.what })) (omega (arith, l)) (omega (arith, l))
+  | inr l ↦ ap₂ (λ (x y : ℕ). t (record { a = x; b = y; what = relinked turn p.what })) (omega (arith, l)) (omega (arith, l)) ∙ q p.b p.a (relinked turn p.what)
 ]
 
 -- and has the same ends

@@ -8,7 +8,7 @@ use Rattle.pair_split.specs.declared.components.What.TheVariants.{Real, Link}
 use Rattle.pair_split.specs.declared.components.Piece.{Piece}
 use Rattle.pair_split.specs.declared.components.Comp.{Comp}
 use Rattle.pair_split.proofs.Links.{no_piece, stands-in}
-use Rattle.spqr_tree.specs.Merged.{how_many, is_outer, gathered, IsJoined, renamed, redirect, IsSymmetric}
+use Rattle.spqr_tree.specs.Merged.{how_many, is_outer, gathered, IsJoined, relinked, redirect, IsSymmetric}
 use Rattle.spqr_tree.proofs.MergeCounts.{number-from, number-some, number-two, gathered-from, gathered-some, gathered-once}
 use Rattle.spqr_tree.proofs.JoinedMerging.{is_link}
 use Rattle.spqr_tree.proofs.JoinedGrows.{is_this, is_this-true, this-own, is_like, like-own, like-parts}
@@ -39,11 +39,11 @@ pub real-link : (e j : ℕ) → Real e ≡ Link j → ⊥
 real-link e j h = true≢false (sym (ap (is_link j) h ∙ eq-eqb j j refl))
 
 -- what a link is turned from, and an edge
-pub renamed-link : (f : ℕ → ℕ) (w : What) (j : ℕ) → renamed f w ≡ Link j → (y : ℕ) × (w ≡ Link y) × (f y ≡ j)
+pub renamed-link : (f : ℕ → ℕ) (w : What) (j : ℕ) → relinked f w ≡ Link j → (y : ℕ) × (w ≡ Link y) × (f y ≡ j)
 renamed-link f (Real e) j h = absurd (real-link e j h)
 renamed-link f (Link y) j h = (y, refl, same-link (f y) j h)
 
-pub renamed-real : (f : ℕ → ℕ) (w : What) (e : ℕ) → renamed f w ≡ Real e → w ≡ Real e
+pub renamed-real : (f : ℕ → ℕ) (w : What) (e : ℕ) → relinked f w ≡ Real e → w ≡ Real e
 renamed-real f (Real d) e h = h
 renamed-real f (Link y) e h = absurd (real-link e (f y) (sym h))
 
@@ -56,7 +56,7 @@ module _ (comps : List Comp) (f : ℕ → ℕ) (others : List Comp) (c : IsContr
     pub led : f home ≡ h
     pub place_in : place < length (items_of comps home)
     pub outer : is_outer f h (item_at comps home place).what ≡ true
-    pub what : renamed f (item_at comps home place).what ≡ (item_at others h i).what
+    pub what : relinked f (item_at comps home place).what ≡ (item_at others h i).what
     pub ends : SameEnds (piece_ends (item_at others h i)) (piece_ends (item_at comps home place))
 
   pub origin : (h i : ℕ) → i < length (items_of others h) → Origin h i
@@ -69,7 +69,7 @@ module _ (comps : List Comp) (f : ℕ → ℕ) (others : List Comp) (c : IsContr
 
   -- the item to which one goes that is no link within the group
   pub arrives : (x j : ℕ) → x < length comps → j < length (items_of comps x) → is_outer f (f x) (item_at comps x j).what ≡ true
-      → (i : ℕ) × StandsFor others (f x) i (renamed f (item_at comps x j).what) × SameEnds (piece_ends (item_at comps x j)) (piece_ends (item_at others (f x) i))
+      → (i : ℕ) × StandsFor others (f x) i (relinked f (item_at comps x j).what) × SameEnds (piece_ends (item_at comps x j)) (piece_ends (item_at others (f x) i))
   arrives x j l m o =
       let p = redirect f (item_at comps x j) in
       let w = number-some no_piece (is_like p) (items_of others (f x)) (subst (λ z. 1 ≤ z) (sym (c.pieces (f x) (is_like p) (c.into x l) (like-symmetric p)))
@@ -80,7 +80,7 @@ module _ (comps : List Comp) (f : ℕ → ℕ) (others : List Comp) (c : IsContr
   -- two places that stand for the same are one, where only one item of all components goes there
   pub arrives-once : (h i j : ℕ) (w : What)
       → ((x m y n : ℕ) → x < length comps → y < length comps → f x ≡ h → f y ≡ h → m < length (items_of comps x) → n < length (items_of comps y)
-      → is_outer f h (item_at comps x m).what ≡ true → is_outer f h (item_at comps y n).what ≡ true → renamed f (item_at comps x m).what ≡ w → renamed f (item_at comps y n).what ≡ w → (x ≡ y) × (m ≡ n))
+      → is_outer f h (item_at comps x m).what ≡ true → is_outer f h (item_at comps y n).what ≡ true → relinked f (item_at comps x m).what ≡ w → relinked f (item_at comps y n).what ≡ w → (x ≡ y) × (m ≡ n))
       → StandsFor others h i w → StandsFor others h j w → i ≡ j
   arrives-once h i j w u s t = elim (cases_eq i j) [
     | inl e ↦ e
@@ -88,6 +88,6 @@ module _ (comps : List Comp) (f : ℕ → ℕ) (others : List Comp) (c : IsContr
       arith,
       number-two no_piece (λ p. is_this w p.what) (items_of others h) i j s.0 t.0 n (subst (λ v. is_this w v ≡ true) (sym s.1) (this-own w)) (subst (λ v. is_this w v ≡ true) (sym t.1) (this-own w)),
       c.pieces h (λ p. is_this w p.what) (stands-in others h i w s) (this-symmetric w),
-      gathered-once comps f h (λ p. is_this w (renamed f p.what)) (λ x m y n lx ly fx fy lm ln om on hm hn. u x m y n lx ly fx fy lm ln om on (is_this-true w (renamed f (item_at comps x m).what) hm) (is_this-true w (renamed f (item_at comps y n).what) hn)),
+      gathered-once comps f h (λ p. is_this w (relinked f p.what)) (λ x m y n lx ly fx fy lm ln om on hm hn. u x m y n lx ly fx fy lm ln om on (is_this-true w (relinked f (item_at comps x m).what) hm) (is_this-true w (relinked f (item_at comps y n).what) hn)),
     ))
   ]

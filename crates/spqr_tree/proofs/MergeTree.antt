@@ -6,7 +6,7 @@ use Rattle.permutations.proofs.Search.{some-from, least-below, least-passes}
 use Rattle.pair_split.specs.Split.{item_at, LinksTo, IsTree, AreLinked}
 use Rattle.pair_split.specs.declared.components.Comp.{Comp}
 use Rattle.pair_split.proofs.Subtrees.{link-in, is_below, below-own, below-root, below-parent, below-rank}
-use Rattle.spqr_tree.specs.Merged.{renamed}
+use Rattle.spqr_tree.specs.Merged.{relinked}
 use Rattle.pair_split.proofs.TreeSides.{link-from}
 use Rattle.spqr_tree.proofs.JoinedMerging.{link-outer, outer-link}
 use Rattle.spqr_tree.proofs.MergeItems.{IsContraction, origin, arrives, renamed-link}
@@ -129,7 +129,7 @@ module _ (comps : List Comp) (a : AreLinked comps) (f : ℕ → ℕ) (others : L
         let e = top-led h (top h) (top-is h l) in
         let r = t.to_parent (top h) (top-in h l) (below h l n) in
         let w = arrives comps f others c (top h) r.0 (top-in h l) r.1.0 (link-outer f (f (top h)) (t.parent (top h)) (item_at comps (top h) r.0).what r.1.1 (λ z. top-out h (top h) (top-is h l) (below h l n) (z ∙ e))) in
-        subst (λ z. LinksTo others z (f (t.parent (top h)))) e (w.0, (w.1.0, w.1.1 ∙ ap (renamed f) r.1.1));
+        subst (λ z. LinksTo others z (f (t.parent (top h)))) e (w.0, (w.1.0, w.1.1 ∙ ap (relinked f) r.1.1));
     linked = λ h j s.
         let o = origin comps f others c h s.0 s.1.0 in
         let r = renamed-link f (item_at comps o.home o.place).what j (o.what ∙ s.1.1) in

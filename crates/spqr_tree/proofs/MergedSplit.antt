@@ -14,7 +14,7 @@ use Rattle.pair_split.specs.declared.components.What.TheVariants.{Real, Link}
 use Rattle.pair_split.specs.declared.components.Comp.{Comp}
 use Rattle.pair_split.proofs.Links.{no_piece, stands-in, side-home}
 use Rattle.pair_split.proofs.Subtrees.{link-in}
-use Rattle.spqr_tree.specs.Merged.{is_outer, renamed}
+use Rattle.spqr_tree.specs.Merged.{is_outer, relinked}
 use Rattle.pair_split.proofs.TreeSides.{link-from, beyond-far, beyond-near}
 use Rattle.pair_split.proofs.LinkSides.{IsOther, other-cases, beyond-respects, beyond-is}
 use Rattle.spqr_tree.proofs.MergeTouch.{ends-same, side-where}
@@ -74,7 +74,7 @@ module _ (g : Multigraph) (comps : List Comp) (split : IsSplit g comps) (f : ℕ
   link-arrives : (x i y : ℕ) → StandsFor comps x i (Link y) → f x ≢ f y → (j : ℕ) × StandsFor others (f x) j (Link (f y)) × SameEnds (piece_ends (item_at comps x i)) (piece_ends (item_at others (f x) j))
   link-arrives x i y s n =
       let w = arrives comps f others c x i (stands-in comps x i (Link y) s) s.0 (link-outer f (f x) y (item_at comps x i).what s.1 (λ z. n (sym z))) in
-      (w.0, (w.1.0, w.1.1 ∙ ap (renamed f) s.1), w.2)
+      (w.0, (w.1.0, w.1.1 ∙ ap (relinked f) s.1), w.2)
 
   contracted-linked : AreLinked others
   contracted-linked = record { once = once; back = back; tree = contracted-tree comps a f others c }
@@ -107,7 +107,7 @@ module _ (g : Multigraph) (comps : List Comp) (split : IsSplit g comps) (f : ℕ
   real-arrives : (x i e : ℕ) → StandsFor comps x i (Real e) → (j : ℕ) × StandsFor others (f x) j (Real e)
   real-arrives x i e s =
       let w = arrives comps f others c x i (stands-in comps x i (Real e) s) s.0 (ap (is_outer f (f x)) s.1) in
-      (w.0, (w.1.0, w.1.1 ∙ ap (renamed f) s.1))
+      (w.0, (w.1.0, w.1.1 ∙ ap (relinked f) s.1))
 
   -- a vertex of a component has an edge
   vertex-edge : (k v : ℕ) → is_vertex (skeleton comps k) v ≡ true → (e : ℕ) × (e < edge_count g) × (is_end g v e ≡ true)

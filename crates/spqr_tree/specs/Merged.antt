@@ -50,13 +50,13 @@ pub record AreGroups (comps : List Comp) (lead : ℕ → ℕ) (groups : List Com
   pub each : (k : ℕ) → k < length groups → IsGroup comps lead k (component_at groups k).kind (items_of groups k)
 
 -- a link turned to another number
-abbrev pub renamed : (ℕ → ℕ) → What → What
-renamed lead (Real e) = Real e
-renamed lead (Link j) = Link (lead j)
+abbrev pub relinked : (ℕ → ℕ) → What → What
+relinked lead (Real e) = Real e
+relinked lead (Link j) = Link (lead j)
 
 -- a piece with its link turned so
 abbrev pub redirect : (ℕ → ℕ) → Piece → Piece
-redirect lead piece = record { a = piece.a; b = piece.b; what = renamed lead piece.what }
+redirect lead piece = record { a = piece.a; b = piece.b; what = relinked lead piece.what }
 
 -- the test passes a piece whichever of its ends comes first, or neither way
 abbrev pub IsSymmetric : (Piece → Bool) → Type 0

@@ -35,14 +35,14 @@ abbrev pub IsLed : List ℕ → ℕ → Type 0
 IsLed lead c = group_of lead c ≢ 4294967295
 
 -- the key of component c
-abbrev pub key_of : LiveState → ℕ → ℕ
-key_of live c = slice_index_or live.keys c 0
+abbrev pub slab_key : LiveState → ℕ → ℕ
+slab_key live c = slice_index_or live.keys c 0
 
 -- the components below n are live, each under a key of its own
 pub record AreHeld (comps : List Comp) (live : LiveState) (n : ℕ) : Type 0 where
   pub places : length live.keys ≡ n
-  pub differ : (x y : ℕ) → x < n → y < n → key_of live x ≡ key_of live y → x ≡ y
-  pub held : (x : ℕ) → x < n → get live.slab (key_of live x) ≡ Some (component_at comps x)
+  pub differ : (x y : ℕ) → x < n → y < n → slab_key live x ≡ slab_key live y → x ≡ y
+  pub held : (x : ℕ) → x < n → get live.slab (slab_key live x) ≡ Some (component_at comps x)
 
 -- one component more is live, under a key that was free
 pub record IsAdded (live next : LiveState) (comp : Comp) : Type 0 where
@@ -54,14 +54,14 @@ pub record IsAdded (live next : LiveState) (comp : Comp) : Type 0 where
 -- each component has a key of its own, under which it is held just where it is in no group
 pub record AreLive (comps : List Comp) (lead : List ℕ) (live : LiveState) : Type 0 where
   pub places : length live.keys ≡ length lead
-  pub differ : (x y : ℕ) → x < length lead → y < length lead → key_of live x ≡ key_of live y → x ≡ y
-  pub held : (x : ℕ) → x < length lead → group_of lead x ≡ 4294967295 → get live.slab (key_of live x) ≡ Some (component_at comps x)
-  pub gone : (x : ℕ) → x < length lead → IsLed lead x → get live.slab (key_of live x) ≡ None
+  pub differ : (x y : ℕ) → x < length lead → y < length lead → slab_key live x ≡ slab_key live y → x ≡ y
+  pub held : (x : ℕ) → x < length lead → group_of lead x ≡ 4294967295 → get live.slab (slab_key live x) ≡ Some (component_at comps x)
+  pub gone : (x : ℕ) → x < length lead → IsLed lead x → get live.slab (slab_key live x) ≡ None
 
 -- component d was taken out of the live ones, and no other
 pub record IsTakenOut (live next : LiveState) (d : ℕ) : Type 0 where
   pub keys : next.keys ≡ live.keys
-  pub slab : Updates live.slab next.slab (key_of live d) None
+  pub slab : Updates live.slab next.slab (slab_key live d) None
 
 -- components of this kind are merged where links join them
 abbrev pub IsMerged : Kind → Type 0

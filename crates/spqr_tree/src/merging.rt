@@ -7,7 +7,7 @@ ghost use Rattle.pair_split.specs.declared.components.What.TheVariants.{Link};
 ghost use Rattle.slab.specs.Slab.{get, ContainsKey};
 ghost use Rattle.spqr_tree.specs.Merged.{is_outer, AreGroups};
 ghost use Rattle.spqr_tree.specs.Keys.{AreWithin};
-ghost use Rattle.spqr_tree.specs.Merging.{group_of, key_of, AreHeld, IsAdded, AreLive, IsTakenOut, IsLed, IsMerged, AreSplit, AreFinished, IsAbsorbed, IsMerging, IsResting, KeepsLed, with_piece, pieces_left, IsPushed, IsTaken, IsStarted};
+ghost use Rattle.spqr_tree.specs.Merging.{group_of, slab_key, AreHeld, IsAdded, AreLive, IsTakenOut, IsLed, IsMerged, AreSplit, AreFinished, IsAbsorbed, IsMerging, IsResting, KeepsLed, with_piece, pieces_left, IsPushed, IsTaken, IsStarted};
 
 use pair_split::{Comp, CompList, Kind, Piece, PieceList, What};
 use slab::Slab;
@@ -60,7 +60,7 @@ impl Live {
     // Whether component d is live.
     fn contains(&self, d: u32) -> bool
         requires { d < length self.now.keys }
-        ensures { (result ≡ true) ↔ ContainsKey self.now.slab (key_of self.now d) }
+        ensures { (result ≡ true) ↔ ContainsKey self.now.slab (slab_key self.now d) }
     {
         self.slab.contains(self.keys[d as usize])
     }
@@ -69,7 +69,7 @@ impl Live {
     fn is_of_kind(&self, d: u32, kind: Kind) -> bool
         requires { d < length self.now.keys }
         ensures { (result ≡ true)
-            ↔ IsSomeAnd (get self.now.slab (key_of self.now d)) (λ comp. comp.kind ≡ kind) }
+            ↔ IsSomeAnd (get self.now.slab (slab_key self.now d)) (λ comp. comp.kind ≡ kind) }
     {
         match self.slab.get(self.keys[d as usize]) {
             Some(comp) => comp.kind == kind,
@@ -80,8 +80,8 @@ impl Live {
     // Component d, which is live no more.
     fn take(&mut self, d: u32) -> Comp
         requires place { d < length self.old.keys }
-        requires live { ContainsKey self.old.slab (key_of self.old d) }
-        ensures comp { get self.old.slab (key_of self.old d) ≡ Some result }
+        requires live { ContainsKey self.old.slab (slab_key self.old d) }
+        ensures comp { get self.old.slab (slab_key self.old d) ≡ Some result }
         ensures out { IsTakenOut self.old self.new d }
     {
         match self.slab.try_remove(self.keys[d as usize]) {

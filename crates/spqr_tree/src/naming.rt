@@ -3,7 +3,7 @@
 ghost use Rattle.std.specs.Prelude.{◌≡◌, ◌<◌, ℕ, length, map, IfOk};
 ghost use Rattle.pair_split.specs.Split.{items_of};
 ghost use Rattle.pair_split.specs.declared.components.What.TheVariants.{Link};
-ghost use Rattle.spqr_tree.specs.Merged.{renamed};
+ghost use Rattle.spqr_tree.specs.Merged.{relinked};
 ghost use Rattle.spqr_tree.specs.Keys.{AreWithin};
 ghost use Rattle.spqr_tree.specs.Merging.{group_of};
 ghost use Rattle.spqr_tree.specs.Ranking.{ranks_of, rank_at, value_at, placed, placed_group, in_order};
@@ -16,7 +16,7 @@ use std::alloc::{AllocError, Global};
 fn rename(lead: &[u32], places: &[u32], what: What) -> What
     requires led { (x : ℕ) → x < length lead.now → group_of lead.now x < length places.now }
     requires within { (j : ℕ) → what ≡ Link j → j < length lead.now }
-    ensures { result ≡ renamed (λ x. value_at places.now (group_of lead.now x)) what }
+    ensures { result ≡ relinked (λ x. value_at places.now (group_of lead.now x)) what }
 {
     match what {
         What::Real(e) => What::Real(e),

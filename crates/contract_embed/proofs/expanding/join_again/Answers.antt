@@ -1,5 +1,5 @@
 use Rattle.std.proofs.Common.{◌<◌, slice_index, sym, ◌∙◌, ap, subst}
-use Rattle.contractions.specs.Contraction.{are_joined}
+use Rattle.contractions.specs.Contraction.{are_adjacent}
 use Rattle.dart_maps.specs.Map.{twin}
 use Rattle.dart_maps.specs.Changes.{inserted}
 use Rattle.faces.specs.Euler.{tail, dart_count}
@@ -24,7 +24,7 @@ insert-requires-clause-twin_in c =
 pub returns-then-arrives_at_mark : goal.returns-then-arrives_at_mark
 returns-then-arrives_at_mark c = λ f h.
     let g = c.args.level.now.graph in
-    rejoined-yes (dart_count g) (slice_index c.insert.new.next) f (are_joined g c.args.level.now.y (tail g (twin c.args.dart))) c.first_dart-joining.result (first_dart g (tail g (twin c.args.dart)) c.args.level.now.y) c.args.p c.args.q
+    rejoined-yes (dart_count g) (slice_index c.insert.new.next) f (are_adjacent g c.args.level.now.y (tail g (twin c.args.dart))) c.first_dart-joining.result (first_dart g (tail g (twin c.args.dart)) c.args.level.now.y) c.args.p c.args.q
     (sym c.arrives_at_mark.ensures ∙ c.if-arrives_at_mark.true)
     (c.first_dart-joining.ensures ∙ ap (λ v. first_dart g v c.args.level.now.y) c.head.ensures.is)
     (subst (λ n. AgreeBelow n (slice_index c.insert.new.next) (inserted c.first_dart-joining.result c.args.p c.args.q f)) c.requires.each
@@ -33,5 +33,5 @@ returns-then-arrives_at_mark c = λ f h.
 pub returns-else-arrives_at_mark : goal.returns-else-arrives_at_mark
 returns-else-arrives_at_mark c = λ f h.
     let g = c.args.level.now.graph in
-    rejoined-no (dart_count g) (slice_index c.args.wide.now) f (are_joined g c.args.level.now.y (tail g (twin c.args.dart))) (first_dart g (tail g (twin c.args.dart)) c.args.level.now.y) c.args.p c.args.q
+    rejoined-no (dart_count g) (slice_index c.args.wide.now) f (are_adjacent g c.args.level.now.y (tail g (twin c.args.dart))) (first_dart g (tail g (twin c.args.dart)) c.args.level.now.y) c.args.p c.args.q
     (sym c.arrives_at_mark.ensures ∙ c.if-arrives_at_mark.false) h
