@@ -1,5 +1,5 @@
 -- Darts of the palm tree in the graph: their edges, and the vertices with the numbers.
-use Rattle.std.proofs.Common.{◌≡◌, ℕ, ◌+◌, ◌<◌, inl, inr, true, List, length, slice_index, sym, ap, ◌∙◌, subst, arith}
+use Rattle.std.proofs.Common.{◌≡◌, ℕ, ◌<◌, inl, inr, true, List, length, slice_index, sym, ap, ◌∙◌, subst, arith}
 use Rattle.permutations.proofs.Arrangements.{member-at}
 use Rattle.multigraph.specs.Graph.{Multigraph, edge_count, is_end, other_end}
 use Rattle.multigraph.proofs.OtherEnd.{other_end-is_end, other_end-in}

@@ -16,7 +16,7 @@ use std::marker::Model;
 use std::mem;
 
 // The number of the group of a component that is in none.
-pub(crate) const NO_GROUP: u32 = 4294967295;
+const NO_GROUP: u32 = 4294967295;
 
 // The live components, those that are in no group yet, and the key under which each component was put in.
 #[derive(Drop)]
@@ -92,7 +92,8 @@ impl Live {
 }
 
 // The groups so far: the components that are in none, the group of each component, what the finished groups are, and the pieces
-// of the group in work, those that were looked at and those that were not.
+// of the group in work, those that were looked at and those that were not. Components are moved, and no list of them is left: in
+// contracts `comps` is the list as it was.
 #[derive(Drop)]
 pub(crate) struct Merging {
     live: Live,
