@@ -1,5 +1,5 @@
 -- The mirror image of a rotation system.
-use Rattle.std.proofs.Common.{◌≡◌, ◌≢◌, ℕ, suc, ◌/◌, ◌<◌, ◌≤◌, true, List, [], ◌∷◌, length, reverse, get_or, IsPermutation, refl, sym, ap, ap₂, ◌∙◌, subst, arith}
+use Rattle.std.proofs.Common.{◌≡◌, ◌≢◌, ℕ, suc, ◌/◌, ◌<◌, ◌≤◌, true, List, [], ◌∷◌, length, reverse, IsPermutation, refl, sym, ap, ap₂, ◌∙◌, subst, arith}
 use Rattle.std.proofs.lemmas.List.{length-map}
 use Rattle.std.proofs.Math.ListN.{get_or-map}
 use Rattle.permutations.specs.Members.{is_member, is_distinct}
@@ -23,11 +23,6 @@ use Rattle.faces.proofs.MapCounts.{map-faces, plane-map, map-plane}
 -- the cyclic orders of the mirror image
 pub mirror-order : (r : List (List ℕ)) (v : ℕ) → order_at (mirror_image r) v ≡ from_least (reverse (order_at r v))
 mirror-order r v = get_or-map (λ order. from_least (reverse order)) r v []
-
--- the first member of a list stands at 0
-first-at : (l : List ℕ) → first_or 0 l ≡ get_or l 0 0
-first-at [] = refl
-first-at (x ∷ xs) = refl
 
 -- so is the first edge round it
 pub order-least : (g : Multigraph) (r : List (List ℕ)) (v : ℕ) → IsRotationSystem g r → v < g.vertex_count → (e : ℕ) → is_member e (order_at r v) ≡ true → first_or 0 (order_at r v) ≤ e

@@ -136,7 +136,6 @@ module _ (frames : List Frame) (pairs : Document) (bytes value within key : List
 
 -- the innermost list closed
 module _ (frame : Frame) (frames : List Frame) (pairs : Document) (bytes behind : List ℕ) (is_close : CloseStands bytes behind) where
-
   close_forth : (more : Document) (rest : List ℕ) (d : Document) → PairsStand more bytes rest → Ends (frame ∷ frames) (append pairs more) rest d → Completes frames (closed frame pairs) behind d
   close_forth empty rest d s e =
       let same : e.0 ≡ behind = close_one bytes e.0 behind (subst (λ (r : List ℕ). CloseStands r e.0) (sym s) e.1) is_close in

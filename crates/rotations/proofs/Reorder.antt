@@ -32,7 +32,6 @@ no_ring = record { first = 0; degree = 0 }
 
 module _ (tails : List ℕ) (old new : Links) (rings : List Ring) (k : AreRings tails old.next old.prev rings) (inv : AreInverse new) (count : length new.next ≡ length old.next) (R : ℕ → List ℕ)
     (is : (w : ℕ) → w < length rings → IsReordered tails w new (order_at (orders old.next rings) w) (R w)) where
-
   was-turns : (w : ℕ) → w < length rings → order_at (orders old.next rings) w ≡ turns old.next (get_or rings w no_ring).first (get_or rings w no_ring).degree
   was-turns w l = get_or-map (λ (ring : Ring). turns old.next ring.first ring.degree) rings w no_ring [] l
 

@@ -31,7 +31,6 @@ dropped-to : (steps : List Step) (c : ℕ) (s : Step) → IsStepAt steps c s →
 dropped-to steps c s h = rw add-one (drop-cons steps c s h.within ∙ ap (λ (x : Step). x ∷ drop (suc c) steps) h.is)
 
 module _ (trees : List BlockTree) where
-
   -- the steps before and behind a cursor that went back
   back-before : (old new : UndoHistory) (s : Step) → WentBack old s new → steps_before old ≡ s ∷ steps_before new
   back-before old new s w = ap (λ (c : ℕ). reverse (take c old.steps)) (sym w.cursor) ∙ taken-to old.steps new.cursor s w.passed ∙ ap (λ (l : List Step). s ∷ reverse (take new.cursor l)) (sym w.steps)
