@@ -53,7 +53,8 @@ pub(crate) fn edge_before(level: &Level, i: u32) -> u32
 // Where an edge leads from y, and from x if it is not at y.
 fn near_end(level: &Level, i: u32) -> u32
     requires { LeadsOut level.now i }
-    ensures { result ≡ near_end level.now.graph level.now.x level.now.y (edge_before level.now i) }
+    ensures { result
+        ≡ near_end level.now.graph level.now.x level.now.y (edge_before level.now i) }
 {
     let edge = edge_before(level, i);
     if level.graph.is_edge_at(edge, level.y) {
@@ -149,10 +150,12 @@ pub(crate) fn push_back(
 // An edge from y to where the edge leads.
 fn near_edge(level: &Level, i: u32) -> u32
     requires out { LeadsOut level.now i }
-    requires near { leads_near level.now.graph level.now.x level.now.y (edge_before level.now) i ≡ true }
+    requires near { leads_near level.now.graph level.now.x level.now.y (edge_before level.now) i
+        ≡ true }
     ensures within { result < edge_count level.now.graph }
     ensures leaves { is_end level.now.graph level.now.y result ≡ true }
-    ensures arrives { other_end level.now.graph result level.now.y ≡ near_end level.now.graph level.now.x level.now.y (edge_before level.now i) }
+    ensures arrives { other_end level.now.graph result level.now.y
+        ≡ near_end level.now.graph level.now.x level.now.y (edge_before level.now i) }
 {
     let edge = edge_before(level, i);
     if level.graph.is_edge_at(edge, level.y) {
@@ -191,9 +194,12 @@ fn crossing_paths(
     requires third { AreEdges h.now round.now.c.first round.now.b.behind.items }
     requires second { AreEdges h.now round.now.b.first round.now.a.behind.items }
     requires first { AreEdges h.now round.now.a.first round.now.d.behind.items }
-    requires crossing { AreCrossing level.now next.now round.now.a round.now.b round.now.c round.now.d }
-    requires is { IsCrossing level.now h.now next.now round.now.a round.now.b round.now.c round.now.d near }
-    ensures { IfOk result (λ paths. paths.items ≡ crossing_paths level.now h.now next.now round.now.a round.now.b round.now.c round.now.d near) }
+    requires crossing { AreCrossing level.now next.now
+        round.now.a round.now.b round.now.c round.now.d }
+    requires is { IsCrossing level.now h.now next.now
+        round.now.a round.now.b round.now.c round.now.d near }
+    ensures { IfOk result (λ paths. paths.items ≡ crossing_paths level.now h.now next.now
+        round.now.a round.now.b round.now.c round.now.d near) }
 {
     let g = &level.graph;
     let at_a = g.other_end(edge_before(level, round.a.first), level.x);
@@ -225,8 +231,10 @@ fn crossing_from(
     requires third { AreEdges h.now round.now.c.first round.now.b.behind.items }
     requires second { AreEdges h.now round.now.b.first round.now.a.behind.items }
     requires first { AreEdges h.now round.now.a.first round.now.d.behind.items }
-    requires crossing { AreCrossing level.now next.now round.now.a round.now.b round.now.c round.now.d }
-    requires is { IsCrossing level.now h.now next.now round.now.a round.now.b round.now.c round.now.d near }
+    requires crossing { AreCrossing level.now next.now
+        round.now.a round.now.b round.now.c round.now.d }
+    requires is { IsCrossing level.now h.now next.now
+        round.now.a round.now.b round.now.c round.now.d near }
     ensures { IfOk result (λ r. IsSubdivision level.now.graph r.kind r.branch r.paths) }
 {
     let g = &level.graph;
@@ -254,7 +262,8 @@ pub(crate) fn crossing(
     requires level { IsLevel level.now }
     requires contraction { h.now ≡ contraction level.now }
     requires steps { ArePlaneSteps (contraction level.now) next.now }
-    requires crossing { AreCrossing level.now next.now round.now.a round.now.b round.now.c round.now.d }
+    requires crossing { AreCrossing level.now next.now
+        round.now.a round.now.b round.now.c round.now.d }
     ensures { IfOk result (λ r. IsSubdivision level.now.graph r.kind r.branch r.paths) }
 {
     let near = near_edge(level, round.b.first);

@@ -47,7 +47,8 @@ fn is_near(level: &Level, marks: &[bool], i: u32) -> bool
     requires number { length marks.now ≡ level.now.graph.vertex_count }
     requires marks { AreNeighbourMarks level.now.graph level.now.y marks.now }
     requires out { LeadsOut level.now i }
-    ensures { result ≡ leads_near level.now.graph level.now.x level.now.y (edge_before level.now) i }
+    ensures { result
+        ≡ leads_near level.now.graph level.now.x level.now.y (edge_before level.now) i }
 {
     let edge = edge_before(level, i);
     if level.graph.is_edge_at(edge, level.y) {

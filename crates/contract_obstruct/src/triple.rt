@@ -75,8 +75,10 @@ fn triple_paths(
     requires second { AreEdges h.now round.now.b.first round.now.a.behind.items }
     requires first { AreEdges h.now round.now.a.first round.now.c.behind.items }
     requires triple { AreTriple level.now next.now round.now.a round.now.b round.now.c }
-    requires is { IsTriple level.now h.now next.now round.now.a round.now.b round.now.c to.0 to.1 to.2 }
-    ensures { IfOk result (λ paths. paths.items ≡ triple_paths level.now h.now next.now round.now.a round.now.b round.now.c to.0 to.1 to.2) }
+    requires is { IsTriple level.now h.now next.now
+        round.now.a round.now.b round.now.c to.0 to.1 to.2 }
+    ensures { IfOk result (λ paths. paths.items ≡ triple_paths level.now h.now next.now
+        round.now.a round.now.b round.now.c to.0 to.1 to.2) }
 {
     let at_a = tip(level, &round.a);
     let at_b = tip(level, &round.b);
@@ -103,7 +105,8 @@ fn triple_from(
     requires second { AreEdges h.now round.now.b.first round.now.a.behind.items }
     requires first { AreEdges h.now round.now.a.first round.now.c.behind.items }
     requires triple { AreTriple level.now next.now round.now.a round.now.b round.now.c }
-    requires is { IsTriple level.now h.now next.now round.now.a round.now.b round.now.c to.0 to.1 to.2 }
+    requires is { IsTriple level.now h.now next.now
+        round.now.a round.now.b round.now.c to.0 to.1 to.2 }
     ensures { IfOk result (λ r. IsSubdivision level.now.graph r.kind r.branch r.paths) }
 {
     let ends = [
