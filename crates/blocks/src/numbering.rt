@@ -11,8 +11,11 @@ fn meet(met: &mut [bool], number_of: &mut [u32], label: usize, classes: u32) -> 
     requires met_within { label < length met.old }
     requires number_within { label < length number_of.old }
     requires fits { classes + 1 < 2 ^ 32 }
-    ensures again { is_marked met.old label ≡ true → (met.new ≡ met.old) × (number_of.new ≡ number_of.old) × (result ≡ classes) }
-    ensures first { is_marked met.old label ≡ false → (met.new ≡ slice_set met.old label true) × (number_of.new ≡ slice_set number_of.old label classes) × (result ≡ classes + 1) }
+    ensures again { is_marked met.old label ≡ true
+        → (met.new ≡ met.old) × (number_of.new ≡ number_of.old) × (result ≡ classes) }
+    ensures first { is_marked met.old label ≡ false
+        → (met.new ≡ slice_set met.old label true)
+        × (number_of.new ≡ slice_set number_of.old label classes) × (result ≡ classes + 1) }
 {
     if met[label] {
         return classes;

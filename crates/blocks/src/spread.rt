@@ -9,9 +9,11 @@ use std::alloc::{AllocError, Global};
 fn label_of(parent: &[u32], own: &[bool], label: &[u32], vertex: u32) -> u32
     requires own_within { vertex < length own.now }
     requires parent_within { vertex < length parent.now }
-    requires label_within { is_marked own.now vertex ≡ false → slice_index parent.now vertex < length label.now }
+    requires label_within { is_marked own.now vertex ≡ false
+        → slice_index parent.now vertex < length label.now }
     ensures of_own { is_marked own.now vertex ≡ true → result ≡ vertex }
-    ensures of_parent { is_marked own.now vertex ≡ false → result ≡ slice_index label.now (slice_index parent.now vertex) }
+    ensures of_parent { is_marked own.now vertex ≡ false
+        → result ≡ slice_index label.now (slice_index parent.now vertex) }
 {
     if own[vertex as usize] {
         return vertex;

@@ -1,6 +1,6 @@
 -- The K3,3 where edges that lead from x and edges that lead to neighbours of y alternate round the merged vertex of a level.
 use Rattle.std.proofs.Common.{◌≡◌, ℕ, ◌<◌, inl, inr, Bool, true, false, if◌then◌else◌, List, [], ◌∷◌, ◌++◌, map, reverse, refl, sym, ap, ◌∙◌, subst}
-use Rattle.std.proofs.lemmas.Bool.{cases_Bool, both_ways}
+use Rattle.std.proofs.lemmas.Bool.{cases_Bool, both_ways, or_left, or_right}
 use Rattle.permutations.specs.Members.{is_member}
 use Rattle.permutations.proofs.Members.{member-head, member-tail, member-cases, member-append_left, member-append_right, member-reverse}
 use Rattle.permutations.proofs.Turned.{IsTurn-member}
@@ -18,6 +18,7 @@ use Rattle.planarity.proofs.Found.{IsSpoke}
 use Rattle.planarity.proofs.FoundCircle.{IsTip, tip-first, tip-second, tip-either, four-found}
 use Rattle.contractions.specs.Level.{IsLevel, contraction, edge_before}
 use Rattle.contract_obstruct.specs.Steps.{AreSteps}
+use Rattle.contract_obstruct.specs.Sectors.{LeadsOut}
 use Rattle.contract_obstruct.specs.Crossing.{near_end, part_of, listed, AreCrossing, AreEdges, crossing_paths, crossing_branch}
 use Rattle.contract_obstruct.specs.declared.crossing.Sector.{Sector}
 use Rattle.contractions.specs.declared.level.Level.{Level}
@@ -54,6 +55,16 @@ module _ (level : Level) (k : IsLevel level) where
 
   other : (i : ℕ) → i < edge_count h → is_end h w i ≡ true → is_end g level.x (edge_before level i) ≡ false → is_end g level.y (edge_before level i) ≡ true
   other i l t n = tip-either g h level.edge level.x level.y (edge_before level) (contracted_vertex level.x level.y) k.graph (level-graph level k) (level-contraction level k) i l t n
+
+  -- an edge at the merged vertex was an edge at x or at y
+  pub edge-out : (i : ℕ) → i < edge_count h → is_end h w i ≡ true → LeadsOut level i
+  edge-out i l t = record {
+    is_edge = (level-contraction level k).edges i l;
+    leaves = elim (cases_Bool (is_end g level.x (edge_before level i))) [
+      | inl p ↦ or_left (is_end g level.x (edge_before level i)) (is_end g level.y (edge_before level i)) p
+      | inr p ↦ or_right (is_end g level.x (edge_before level i)) (is_end g level.y (edge_before level i)) (other i l t p)
+    ];
+  }
 
   w_in : w < h.vertex_count
   w_in = (level-contraction level k).vertices level.x (end-in g level.x level.edge k.graph k.oriented.edge_in k.oriented.first_end)

@@ -4,6 +4,7 @@ pub mod Orders
 pub mod OneSystem
 mod LiftedLevel
 mod LiftedCases
+mod LiftedWalks
 mod ArcsTold
 mod Alternating
 mod Tripled

@@ -23,9 +23,9 @@ use Rattle.contract_obstruct.specs.Obstruction.{HaveNoRuns}
 use Rattle.contract_obstruct.specs.Sectors.{IsCommonEdge}
 use Rattle.contract_obstruct.specs.Obstruction.{rotated, StandForEdges, IsTripleAt, IsCrossingAt, ShowsNothing}
 use Rattle.contractions.specs.declared.level.Level.{Level}
-use Rattle.contract_obstruct.proofs.Alternating.{round-in}
+use Rattle.contract_obstruct.proofs.Alternating.{round-in, edge-out}
 use Rattle.contract_obstruct.proofs.OneSystem.{no_runs-in}
-use Rattle.contractions.proofs.LevelFacts.{level-contraction, level-graph, level-edges, level-kept}
+use Rattle.contractions.proofs.LevelFacts.{level-contraction, level-graph}
 use Rattle.contract_obstruct.proofs.Rotations.{at-join, rotated-turn, turn-last, turn-rotated}
 
 module _ (level : Level) (k : IsLevel level) where
@@ -151,7 +151,8 @@ module _ (level : Level) (k : IsLevel level) where
     pub rotated-edges : (l : List ℕ) (m : ℕ) → l ≡ order_at s (contracted_vertex level.x level.y level.x) → StandForEdges level (rotated l m)
     rotated-edges l m q t p =
         let at : is_member (slice_index (rotated l m) t) order ≡ true = sym (IsTurn-member order (rotated l m) (slice_index (rotated l m) t) (rotated-turn order l m q)) ∙ member-at (rotated l m) t 0 p in
-        level-kept level k (slice_index (rotated l m) t) (subst (λ n. slice_index (rotated l m) t < n) (level-edges level k) (round-in level k s are.system (slice_index (rotated l m) t) at).0)
+        let w = round-in level k s are.system (slice_index (rotated l m) t) at in
+        edge-out level k (slice_index (rotated l m) t) w.0 w.1
 
     -- an edge to a common neighbour
     common-at : (p : ℕ) → is_common_neighbour g x y p ≡ true → (i : ℕ) × (is_member i order ≡ true) × (IsCommonEdge level i) × (other_end g (edge_before level i) x ≡ p)

@@ -16,6 +16,7 @@ use Rattle.contract_obstruct.specs.declared.crossing.Sector.{Sector}
 use Rattle.contractions.specs.Level.{contraction, edge_before}
 use Rattle.contract_obstruct.specs.Steps.{AreSteps}
 use Rattle.contract_obstruct.specs.Arcs.{arcs_of}
+use Rattle.contract_obstruct.specs.Sectors.{LeadsOut}
 
 -- the merged vertex
 abbrev pub merged_vertex : Level → ℕ
@@ -45,6 +46,10 @@ pub record AreCrossing (level : Level) (next : List ℕ) (a b c d : Sector) : Ty
   pub second : leads_near level.graph level.x level.y (edge_before level) b.first ≡ true
   pub third : is_end level.graph level.x (edge_before level c.first) ≡ true
   pub fourth : is_end level.graph level.x (edge_before level d.first) ≡ false
+  pub first_out : LeadsOut level a.first
+  pub second_out : LeadsOut level b.first
+  pub third_out : LeadsOut level c.first
+  pub fourth_out : LeadsOut level d.first
 
 -- those paths of the K3,3 that are single edges, but one
 abbrev pub crossing_spokes : Level → Sector → Sector → Sector → List (List ℕ)

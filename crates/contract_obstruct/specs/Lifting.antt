@@ -1,11 +1,12 @@
 -- A subdivision of the contraction of a level, lifted.
-use Rattle.std.specs.Prelude.{ℕ, ◌+◌, nat_lt, if◌then◌else◌, List, map, slice_index}
-use Rattle.multigraph.specs.Graph.{Multigraph}
+use Rattle.std.specs.Prelude.{◌≡◌, ℕ, ◌+◌, ◌<◌, true, nat_lt, if◌then◌else◌, List, map, slice_index}
+use Rattle.permutations.specs.Members.{is_member}
+use Rattle.multigraph.specs.Graph.{Multigraph, edge_count}
 use Rattle.kuratowski.specs.declared.subdivision.Pattern.{Pattern}
 use Rattle.kuratowski.specs.declared.subdivision.Pattern.TheVariants.{K33}
 use Rattle.contractions.specs.Contracted.{contracted_vertex}
 use Rattle.contractions.specs.declared.level.Level.{Level}
-use Rattle.kuratowski.specs.Subdivision.{pattern_edges, branch_at, IsSubdivision}
+use Rattle.kuratowski.specs.Subdivision.{pattern_edges, branch_at, path_at, IsSubdivision}
 use Rattle.planarity.specs.Lift.{lifted, path_of_pair, lifted_branch, lifted_paths, split_branch, split_paths}
 
 -- the vertex whose number is v when y is left out
@@ -29,3 +30,7 @@ abbrev pub IsSplit : Level → ℕ → ℕ × ℕ → ℕ × ℕ → List ℕ �
 IsSplit level m off on branch paths =
     let made = split_branch level.x level.y (with_number level.y) branch off.0 off.1 on.0 on.1 in
     IsSubdivision level.graph K33 made (split_paths level.graph level.edge (slice_index level.kept.items) paths m off.0 off.1 on.0 on.1 made)
+
+-- the edges of the paths of the contraction were edges of the graph
+abbrev pub LeadOverEdges : Level → List (List ℕ) → Type 0
+LeadOverEdges level paths = (k z : ℕ) → is_member z (path_at paths k) ≡ true → slice_index level.kept.items z < edge_count level.graph

@@ -1,21 +1,21 @@
 -- State of a loop: places in a cyclic order round the merged vertex of a level that show a subdivision; and, last, what it is
 -- for steps to have no runs there.
 use Rattle.std.specs.Prelude.{◌≡◌, ℕ, ◌<◌, ◌≤◌, true, false, List, ◌++◌, take, drop, length, slice_index}
-use Rattle.multigraph.specs.Graph.{edge_count, is_end}
+use Rattle.multigraph.specs.Graph.{is_end}
 use Rattle.planarity.specs.Circle.{leads_near}
 use Rattle.planarity.specs.Expansion.{FallsInRuns}
 use Rattle.contractions.specs.declared.level.Level.{Level}
 use Rattle.contractions.specs.Level.{contraction, edge_before}
 use Rattle.contract_obstruct.specs.Steps.{AreSteps}
-use Rattle.contract_obstruct.specs.Sectors.{IsCommonEdge}
+use Rattle.contract_obstruct.specs.Sectors.{LeadsOut, IsCommonEdge}
 
 -- a list from place m on, and then what stands before
 abbrev pub rotated : List ℕ → ℕ → List ℕ
 rotated l m = drop m l ++ take m l
 
--- its members stand for edges of the graph
+-- its members stand for edges of the graph that lead from x or from y
 abbrev pub StandForEdges : Level → List ℕ → Type 0
-StandForEdges level l = (t : ℕ) → t < length l → edge_before level (slice_index l t) < edge_count level.graph
+StandForEdges level l = (t : ℕ) → t < length l → LeadsOut level (slice_index l t)
 
 -- the edge that stands for i leads from x
 abbrev pub LeadsFromX : Level → ℕ → Type 0

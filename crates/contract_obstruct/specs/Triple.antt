@@ -1,6 +1,6 @@
 -- Three edges round the merged vertex of a level that lead from x to common neighbours of x and y.
-use Rattle.std.specs.Prelude.{◌≡◌, ℕ, true, List, [], ◌∷◌, ◌++◌}
-use Rattle.multigraph.specs.Graph.{Multigraph, is_end, other_end}
+use Rattle.std.specs.Prelude.{◌≡◌, ℕ, ◌<◌, true, List, [], ◌∷◌, ◌++◌}
+use Rattle.multigraph.specs.Graph.{Multigraph, edge_count, is_end, other_end}
 use Rattle.contractions.specs.Contraction.{are_adjacent}
 use Rattle.kuratowski.specs.declared.subdivision.Pattern.TheVariants.{K5}
 use Rattle.kuratowski.specs.Subdivision.{IsSubdivision}
@@ -16,6 +16,7 @@ tip level sector = other_end level.graph (edge_before level sector.first) level.
 
 -- the first edge of a sector leads from x to a common neighbour of x and y
 pub record LeadsToCommon (level : Level) (sector : Sector) : Type 0 where
+  pub is_edge : edge_before level sector.first < edge_count level.graph
   pub leaves : is_end level.graph level.x (edge_before level sector.first) ≡ true
   pub common : are_adjacent level.graph level.y (tip level sector) ≡ true
 

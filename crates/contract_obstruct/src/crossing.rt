@@ -3,16 +3,18 @@
 
 ghost use Rattle.std.specs.Prelude.{◌≡◌, ◌≤◌, ◌<◌, ◌++◌, ◌∷◌, ℕ, [], true, length, map, reverse, slice_index, IfOk};
 ghost use Rattle.multigraph.specs.Graph.{edge_count, is_end, other_end, max_darts};
+ghost use Rattle.graph_theory.specs.Path.{IsWalk};
 ghost use Rattle.contractions.specs.Contraction.{are_adjacent};
 ghost use Rattle.kuratowski.specs.Subdivision.{IsSubdivision};
 ghost use Rattle.planarity.specs.Lift.{lifted};
 ghost use Rattle.planarity.specs.Circle.{leads_near};
 ghost use Rattle.contractions.specs.Level.{IsLevel, contraction, edge_before};
 ghost use Rattle.contract_obstruct.specs.Steps.{ArePlaneSteps};
+ghost use Rattle.contract_obstruct.specs.Sectors.{LeadsOut};
 ghost use Rattle.contract_obstruct.specs.Crossing.{merged_vertex, near_end, part_of, side_of, crossing_spokes, crossing_paths, IsCrossing, AreCrossing, AreEdges};
 
 use crate::arcs::arcs;
-use crate::paths::{edges_before, is_end, lift_path, number_at, other_end, reverse};
+use crate::paths::{edges_before, lift_path, number_at, reverse};
 use contractions::{Level, contracted_vertex};
 use kuratowski::{Pattern, Subdivision};
 use multigraph::{Graph, NumberLists, Numbers};
@@ -48,14 +50,17 @@ pub(crate) fn edge_before(level: &Level, i: u32) -> u32
     number_at(&level.kept, i as usize)
 }
 
-// Where the edge leads from y, and from x if it is not at y.
-fn near_end(g: &Graph, x: u32, y: u32, edge: u32) -> u32
-    ensures { result ≡ near_end g.now x y edge }
+// Where an edge leads from y, and from x if it is not at y.
+fn near_end(level: &Level, i: u32) -> u32
+    requires { LeadsOut level.now i }
+    ensures { result
+        ≡ near_end level.now.graph level.now.x level.now.y (edge_before level.now i) }
 {
-    if is_end(g, y, edge) {
-        other_end(g, edge, y)
+    let edge = edge_before(level, i);
+    if level.graph.is_edge_at(edge, level.y) {
+        level.graph.other_end(edge, level.y)
     } else {
-        other_end(g, edge, x)
+        level.graph.other_end(edge, level.x)
     }
 }
 
@@ -67,7 +72,7 @@ pub(crate) fn joining_edge(g: &Graph, y: u32, p: u32) -> u32
     ensures arrives { other_end g.now result y ≡ p }
 {
     for edge in 0..g.edge_count() {
-        if is_end(g, y, edge) && other_end(g, edge, y) == p {
+        if g.far_end(edge, y) == Some(p) {
             return edge;
         }
     }
@@ -107,6 +112,8 @@ pub(crate) fn side(
 ) -> Result<Numbers, AllocError>
     requires few { length next.now ≤ max_darts }
     requires edges_in { AreEdges h.now first sector.now.behind.items }
+    requires walk { IsWalk level.now.graph from
+        (side_of level.now h.now next.now first sector.now from to) }
     ensures { IfOk result (λ path. path ≡ side_of level.now h.now next.now first sector.now from to) }
 {
     let round = part(alloc, level, h, next, first, sector)?;
@@ -142,21 +149,19 @@ pub(crate) fn push_back(
 
 // An edge from y to where the edge leads.
 fn near_edge(level: &Level, i: u32) -> u32
-    requires edge_in { edge_before level.now i < edge_count level.now.graph }
-    requires near { leads_near level.now.graph level.now.x level.now.y (edge_before level.now) i ≡ true }
+    requires out { LeadsOut level.now i }
+    requires near { leads_near level.now.graph level.now.x level.now.y (edge_before level.now) i
+        ≡ true }
     ensures within { result < edge_count level.now.graph }
     ensures leaves { is_end level.now.graph level.now.y result ≡ true }
-    ensures arrives { other_end level.now.graph result level.now.y ≡ near_end level.now.graph level.now.x level.now.y (edge_before level.now i) }
+    ensures arrives { other_end level.now.graph result level.now.y
+        ≡ near_end level.now.graph level.now.x level.now.y (edge_before level.now i) }
 {
     let edge = edge_before(level, i);
-    if is_end(&level.graph, level.y, edge) {
+    if level.graph.is_edge_at(edge, level.y) {
         return edge;
     }
-    joining_edge(
-        &level.graph,
-        level.y,
-        other_end(&level.graph, edge, level.x),
-    )
+    joining_edge(&level.graph, level.y, level.graph.other_end(edge, level.x))
 }
 
 // The paths that are single edges, but one.
@@ -189,17 +194,18 @@ fn crossing_paths(
     requires third { AreEdges h.now round.now.c.first round.now.b.behind.items }
     requires second { AreEdges h.now round.now.b.first round.now.a.behind.items }
     requires first { AreEdges h.now round.now.a.first round.now.d.behind.items }
-    ensures { IfOk result (λ paths. paths.items ≡ crossing_paths level.now h.now next.now round.now.a round.now.b round.now.c round.now.d near) }
+    requires crossing { AreCrossing level.now next.now
+        round.now.a round.now.b round.now.c round.now.d }
+    requires is { IsCrossing level.now h.now next.now
+        round.now.a round.now.b round.now.c round.now.d near }
+    ensures { IfOk result (λ paths. paths.items ≡ crossing_paths level.now h.now next.now
+        round.now.a round.now.b round.now.c round.now.d near) }
 {
-    let at_a = other_end(&level.graph, edge_before(level, round.a.first), level.x);
-    let at_b = near_end(
-        &level.graph,
-        level.x,
-        level.y,
-        edge_before(level, round.b.first),
-    );
-    let at_c = other_end(&level.graph, edge_before(level, round.c.first), level.x);
-    let at_d = other_end(&level.graph, edge_before(level, round.d.first), level.y);
+    let g = &level.graph;
+    let at_a = g.other_end(edge_before(level, round.a.first), level.x);
+    let at_b = near_end(level, round.b.first);
+    let at_c = g.other_end(edge_before(level, round.c.first), level.x);
+    let at_d = g.other_end(edge_before(level, round.d.first), level.y);
     let mut paths = crossing_spokes(alloc, level, round)?;
     paths.push(side(alloc, level, h, next, round.d.first, &round.c, at_d, at_c)?)?;
     let back = side(alloc, level, h, next, round.a.first, &round.d, at_a, at_d)?;
@@ -225,18 +231,17 @@ fn crossing_from(
     requires third { AreEdges h.now round.now.c.first round.now.b.behind.items }
     requires second { AreEdges h.now round.now.b.first round.now.a.behind.items }
     requires first { AreEdges h.now round.now.a.first round.now.d.behind.items }
-    requires is { IsCrossing level.now h.now next.now round.now.a round.now.b round.now.c round.now.d near }
+    requires crossing { AreCrossing level.now next.now
+        round.now.a round.now.b round.now.c round.now.d }
+    requires is { IsCrossing level.now h.now next.now
+        round.now.a round.now.b round.now.c round.now.d near }
     ensures { IfOk result (λ r. IsSubdivision level.now.graph r.kind r.branch r.paths) }
 {
-    let at_a = other_end(&level.graph, edge_before(level, round.a.first), level.x);
-    let at_b = near_end(
-        &level.graph,
-        level.x,
-        level.y,
-        edge_before(level, round.b.first),
-    );
-    let at_c = other_end(&level.graph, edge_before(level, round.c.first), level.x);
-    let at_d = other_end(&level.graph, edge_before(level, round.d.first), level.y);
+    let g = &level.graph;
+    let at_a = g.other_end(edge_before(level, round.a.first), level.x);
+    let at_b = near_end(level, round.b.first);
+    let at_c = g.other_end(edge_before(level, round.c.first), level.x);
+    let at_d = g.other_end(edge_before(level, round.d.first), level.y);
     let branch = Vec::from_slice(alloc, &[level.x, at_d, at_b, level.y, at_c, at_a])?;
     let paths = crossing_paths(alloc, level, h, next, round, near)?;
     Ok(Subdivision {
@@ -257,7 +262,8 @@ pub(crate) fn crossing(
     requires level { IsLevel level.now }
     requires contraction { h.now ≡ contraction level.now }
     requires steps { ArePlaneSteps (contraction level.now) next.now }
-    requires crossing { AreCrossing level.now next.now round.now.a round.now.b round.now.c round.now.d }
+    requires crossing { AreCrossing level.now next.now
+        round.now.a round.now.b round.now.c round.now.d }
     ensures { IfOk result (λ r. IsSubdivision level.now.graph r.kind r.branch r.paths) }
 {
     let near = near_edge(level, round.b.first);

@@ -3,11 +3,12 @@
 ghost use Rattle.std.specs.Prelude.{◌≡◌, ◌<◌, ◌+◌, ℕ, [], ◌∷◌, false, length, map, slice_index, IfOk, MatchOption};
 ghost use Rattle.multigraph.specs.Graph.{max_vertices};
 ghost use Rattle.permutations.specs.Members.{is_member};
+ghost use Rattle.graph_theory.specs.Path.{IsWalk};
 ghost use Rattle.kuratowski.specs.Subdivision.{branch_at, branch_count, pattern_edges, IsSubdivision};
 ghost use Rattle.contractions.specs.Contracted.{contracted_vertex};
 ghost use Rattle.planarity.specs.Lift.{spokes, leaves_by, spokes_on, spokes_off, lifted_branch, lifted_paths, split_branch, split_over, split_paths};
 ghost use Rattle.contractions.specs.Level.{IsLevel, contraction};
-ghost use Rattle.contract_obstruct.specs.Lifting.{with_number, lifted_path, IsLifted, IsSplit};
+ghost use Rattle.contract_obstruct.specs.Lifting.{with_number, lifted_path, IsLifted, IsSplit, LeadOverEdges};
 
 use crate::paths::{edges_before, is_listed, lift_path, number_at, path_between, touches};
 use contractions::{Level, contracted_vertex};
@@ -45,7 +46,8 @@ fn leaves_by(
     m: usize,
     i: usize,
 ) -> Result<bool, AllocError>
-    requires { length paths.now ≡ length (pattern_edges kind) }
+    requires one_each { length paths.now ≡ length (pattern_edges kind) }
+    requires edges { LeadOverEdges level.now paths.now }
     ensures { IfOk result (λ held. held ≡ leaves_by level.now.graph (slice_index level.now.kept.items) kind paths.now level.now.y m i) }
 {
     let path = path_between(alloc, kind.edges(), paths, m, i)?;
@@ -61,7 +63,8 @@ fn spokes_apart(
     paths: &[Numbers],
     m: usize,
 ) -> Result<(Vec<usize>, Vec<usize>), AllocError>
-    requires { length paths.now ≡ length (pattern_edges kind) }
+    requires one_each { length paths.now ≡ length (pattern_edges kind) }
+    requires edges { LeadOverEdges level.now paths.now }
     ensures on { IfOk result (λ both. both.0.items ≡ spokes_on level.now.graph (slice_index level.now.kept.items) kind paths.now level.now.y m) }
     ensures off { IfOk result (λ both. both.1.items ≡ spokes_off level.now.graph (slice_index level.now.kept.items) kind paths.now level.now.y m) }
 {
@@ -88,7 +91,10 @@ fn lifted_path(
     pair: (usize, usize),
     over: (usize, usize),
 ) -> Result<Numbers, AllocError>
-    requires { length paths.now ≡ length (pattern_edges kind) }
+    requires one_each { length paths.now ≡ length (pattern_edges kind) }
+    requires walk { IsWalk level.now.graph (branch_at branch.now pair.0)
+        (lifted_path level.now.graph level.now.edge (slice_index level.now.kept.items)
+        kind paths.now branch.now pair over) }
     ensures { IfOk result (λ path. path ≡ lifted_path level.now.graph level.now.edge (slice_index level.now.kept.items) kind paths.now branch.now pair over) }
 {
     let path = path_between(alloc, kind.edges(), paths, over.0, over.1)?;
@@ -106,7 +112,10 @@ fn lifted_paths(
     paths: &[Numbers],
     branch: &[u32],
 ) -> Result<Vec<Numbers>, AllocError>
-    requires { length paths.now ≡ length (pattern_edges kind) }
+    requires one_each { length paths.now ≡ length (pattern_edges kind) }
+    requires lifted { IsSubdivision level.now.graph kind branch.now
+        (lifted_paths level.now.graph level.now.edge (slice_index level.now.kept.items)
+        kind paths.now branch.now) }
     ensures { IfOk result (λ made. made.items ≡ lifted_paths level.now.graph level.now.edge (slice_index level.now.kept.items) kind paths.now branch.now) }
 {
     let mut lifted = Vec::new(alloc);
@@ -207,7 +216,10 @@ fn split_paths(
     on: (usize, usize),
     branch: &[u32],
 ) -> Result<Vec<Numbers>, AllocError>
-    requires { length paths.now ≡ length (pattern_edges Pattern.K5) }
+    requires one_each { length paths.now ≡ length (pattern_edges Pattern.K5) }
+    requires lifted { IsSubdivision level.now.graph Pattern.K33 branch.now
+        (split_paths level.now.graph level.now.edge (slice_index level.now.kept.items)
+        paths.now m off.0 off.1 on.0 on.1 branch.now) }
     ensures { IfOk result (λ made. made.items ≡ split_paths level.now.graph level.now.edge (slice_index level.now.kept.items) paths.now m off.0 off.1 on.0 on.1 branch.now) }
 {
     let mut made = Vec::new(alloc);

@@ -2,8 +2,7 @@
 // each of its edges on.
 
 ghost use Rattle.std.specs.Prelude.{◌≡◌, ◌<◌, ◌≤◌, ◌↔◌, ℕ, true, false, length, slice_index, IfOk, MatchOption};
-ghost use Rattle.multigraph.specs.Graph.{edge_count, is_end, other_end};
-ghost use Rattle.contractions.specs.Contraction.{are_adjacent};
+ghost use Rattle.multigraph.specs.Graph.{is_end};
 ghost use Rattle.kuratowski.specs.Subdivision.{IsSubdivision};
 ghost use Rattle.planarity.specs.Circle.{leads_near};
 ghost use Rattle.contractions.specs.Level.{IsLevel, contraction, edge_before};
@@ -11,11 +10,10 @@ ghost use Rattle.contractions.specs.Marks.{AreNeighbourMarks};
 ghost use Rattle.contract_obstruct.specs.Steps.{ArePlaneSteps};
 ghost use Rattle.contract_obstruct.specs.Obstruction.{HaveNoRuns};
 ghost use Rattle.contract_obstruct.specs.Crossing.{IsAround};
-ghost use Rattle.contract_obstruct.specs.Sectors.{IsCommonEdge};
+ghost use Rattle.contract_obstruct.specs.Sectors.{LeadsOut, IsCommonEdge};
 ghost use Rattle.contract_obstruct.specs.Obstruction.{rotated, StandForEdges, NoneFromX, IsPlaceFromX, NoneCommon, IsFirstCommon, NoneRound, AreRound, IsTripleAt, IsCrossingAt, ShowsNothing};
 
 use crate::crossing::{edge_before, merged_vertex};
-use crate::paths::is_end;
 use crate::rounds::round;
 use crate::sectors::{crossing_at, triple_at};
 use contractions::{Level, neighbour_marks};
@@ -23,54 +21,49 @@ use kuratowski::Subdivision;
 use multigraph::Graph;
 use std::alloc::{AllocError, Global};
 
-// Whether the edge leads from v to a mark.
-fn leads_to_mark(g: &Graph, marks: &[bool], v: u32, y: u32, edge: u32) -> bool
-    requires edge_in { edge < edge_count g.now }
-    requires number { length marks.now ≡ g.now.vertex_count }
-    requires marks { AreNeighbourMarks g.now y marks.now }
-    ensures { result ≡ are_adjacent g.now y (other_end g.now edge v) }
-{
-    let (first, second) = g.ends(edge);
-    if first == v {
-        marks[second as usize]
-    } else {
-        marks[first as usize]
-    }
-}
-
 // Whether the edge that edge i of the contraction was leads from x.
 fn is_from_x(level: &Level, i: u32) -> bool
+    requires { LeadsOut level.now i }
     ensures { result ≡ is_end level.now.graph level.now.x (edge_before level.now i) }
 {
-    is_end(&level.graph, level.x, edge_before(level, i))
-}
-
-// Whether it leads to a neighbour of y, or from y.
-fn is_near(level: &Level, marks: &[bool], i: u32) -> bool
-    requires number { length marks.now ≡ level.now.graph.vertex_count }
-    requires marks { AreNeighbourMarks level.now.graph level.now.y marks.now }
-    requires edge_in { edge_before level.now i < edge_count level.now.graph }
-    ensures { result ≡ leads_near level.now.graph level.now.x level.now.y (edge_before level.now) i }
-{
-    let edge = edge_before(level, i);
-    is_end(&level.graph, level.y, edge)
-        || leads_to_mark(&level.graph, marks, level.x, level.y, edge)
+    level.graph.is_edge_at(edge_before(level, i), level.x)
 }
 
 // Whether it leads from x to a neighbour of y.
 fn is_common(level: &Level, marks: &[bool], i: u32) -> bool
     requires number { length marks.now ≡ level.now.graph.vertex_count }
     requires marks { AreNeighbourMarks level.now.graph level.now.y marks.now }
-    requires edge_in { edge_before level.now i < edge_count level.now.graph }
+    requires out { LeadsOut level.now i }
     ensures { (result ≡ true) ↔ IsCommonEdge level.now i }
 {
-    is_from_x(level, i)
-        && leads_to_mark(&level.graph, marks, level.x, level.y, edge_before(level, i))
+    match level.graph.far_end(edge_before(level, i), level.x) {
+        Some(far) => marks[far as usize],
+        None => false,
+    }
+}
+
+// Whether it leads from y, or from x to a neighbour of y.
+fn is_near(level: &Level, marks: &[bool], i: u32) -> bool
+    requires number { length marks.now ≡ level.now.graph.vertex_count }
+    requires marks { AreNeighbourMarks level.now.graph level.now.y marks.now }
+    requires out { LeadsOut level.now i }
+    ensures { result
+        ≡ leads_near level.now.graph level.now.x level.now.y (edge_before level.now) i }
+{
+    let edge = edge_before(level, i);
+    if level.graph.is_edge_at(edge, level.y) {
+        return true;
+    }
+    match level.graph.far_end(edge, level.x) {
+        Some(far) => marks[far as usize],
+        None => unreachable!(),
+    }
 }
 
 // The first place between two whose edge leads from x.
 fn place_from_x(level: &Level, order: &[u32], from: usize, to: usize) -> Option<usize>
     requires within { to ≤ length order.now }
+    requires edges { StandForEdges level.now order.now }
     ensures { MatchOption result (NoneFromX level.now order.now from to) (IsPlaceFromX level.now order.now from to) }
 {
     for place in from..to {
@@ -119,6 +112,7 @@ fn triple_places(level: &Level, marks: &[bool], order: &[u32]) -> Option<(usize,
 // The places before and behind place j of edges that lead from x.
 fn places_round(level: &Level, order: &[u32], j: usize) -> Option<(usize, usize)>
     requires within { j < length order.now }
+    requires edges { StandForEdges level.now order.now }
     ensures { MatchOption result (NoneRound level.now order.now j) (AreRound level.now order.now j) }
 {
     let Some(i) = place_from_x(level, order, 1, j) else {

@@ -1,7 +1,8 @@
 // Paths of a contracted graph, lifted to the graph itself.
 
-ghost use Rattle.std.specs.Prelude.{◌≡◌, ◌==◌, ◌&&◌, ℕ, length, map, reverse, slice_index, IfOk};
-ghost use Rattle.multigraph.specs.Graph.{ends_of, is_end, other_end};
+ghost use Rattle.std.specs.Prelude.{◌≡◌, ◌==◌, ◌<◌, ◌&&◌, ℕ, length, map, reverse, slice_index, IfOk};
+ghost use Rattle.multigraph.specs.Graph.{edge_count};
+ghost use Rattle.graph_theory.specs.Path.{IsWalk};
 ghost use Rattle.planarity.specs.Lift.{touches, lifted, is_pair, is_listed, path_of_pair};
 
 use multigraph::{Graph, Numbers};
@@ -17,38 +18,13 @@ pub(crate) fn number_at(list: &[u32], place: usize) -> u32
     }
 }
 
-// The two ends of an edge.
-fn ends_of(g: &Graph, edge: u32) -> (u32, u32)
-    ensures { result ≡ ends_of g.now edge }
-{
-    if edge >= g.edge_count() {
-        return (0, 0);
-    }
-    g.ends(edge)
-}
-
-// Whether v is an end of the edge.
-pub(crate) fn is_end(g: &Graph, v: u32, edge: u32) -> bool
-    ensures { result ≡ is_end g.now v edge }
-{
-    let (first, second) = ends_of(g, edge);
-    first == v || second == v
-}
-
-// The end of the edge that is not v.
-pub(crate) fn other_end(g: &Graph, edge: u32, v: u32) -> u32
-    ensures { result ≡ other_end g.now edge v }
-{
-    let (first, second) = ends_of(g, edge);
-    if first == v { second } else { first }
-}
-
 // Whether z is an end of one of the edges.
 pub(crate) fn touches(g: &Graph, z: u32, edges: &[u32]) -> bool
+    requires { (t : ℕ) → t < length edges.now → slice_index edges.now t < edge_count g.now }
     ensures { result ≡ touches g.now z edges.now }
 {
     for edge in edges {
-        if is_end(g, z, *edge) {
+        if g.is_edge_at(*edge, z) {
             return true;
         }
     }
@@ -79,17 +55,18 @@ pub(crate) fn lift_path(
     path: &[u32],
     to: u32,
 ) -> Result<Numbers, AllocError>
+    requires { IsWalk g.now from (lifted g.now e from path.now to) }
     ensures { IfOk result (λ edges. edges ≡ lifted g.now e from path.now to) }
 {
     let mut edges = Vec::new(alloc);
     let mut at = from;
     for edge in path {
-        if !is_end(g, at, *edge) {
+        if !g.is_edge_at(*edge, at) {
             edges.push(e)?;
-            at = other_end(g, e, at);
+            at = g.other_end(e, at);
         }
         edges.push(*edge)?;
-        at = other_end(g, *edge, at);
+        at = g.other_end(*edge, at);
     }
     if at != to {
         edges.push(e)?;

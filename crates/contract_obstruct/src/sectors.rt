@@ -8,6 +8,7 @@ ghost use Rattle.contractions.specs.Level.{IsLevel, contraction, edge_before};
 ghost use Rattle.contract_obstruct.specs.Steps.{ArePlaneSteps};
 ghost use Rattle.contract_obstruct.specs.Crossing.{listed, IsAround};
 ghost use Rattle.contract_obstruct.specs.Sectors.{segment, IsCommonEdge};
+ghost use Rattle.contract_obstruct.specs.Obstruction.{StandForEdges};
 
 use crate::crossing::{Quarters, Sector, crossing};
 use crate::triple::{Thirds, triple};
@@ -41,6 +42,7 @@ pub(crate) fn crossing_at(
     requires contraction { h.now ≡ contraction level.now }
     requires steps { ArePlaneSteps (contraction level.now) next.now }
     requires around { IsAround level.now next.now order.now }
+    requires edges { StandForEdges level.now order.now }
     requires behind { 0 < places.0 }
     requires rise { places.0 < places.1 }
     requires rise_on { places.1 < places.2 }
@@ -71,6 +73,7 @@ pub(crate) fn triple_at(
     requires contraction { h.now ≡ contraction level.now }
     requires steps { ArePlaneSteps (contraction level.now) next.now }
     requires around { IsAround level.now next.now order.now }
+    requires edges { StandForEdges level.now order.now }
     requires behind { 0 < places.0 }
     requires rise { places.0 < places.1 }
     requires within { places.1 < length order.now }

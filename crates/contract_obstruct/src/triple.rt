@@ -9,7 +9,6 @@ ghost use Rattle.contract_obstruct.specs.Crossing.{AreEdges};
 ghost use Rattle.contract_obstruct.specs.Triple.{tip, LeadsToCommon, AreTriple, IsTriple, triple_spokes, triple_paths};
 
 use crate::crossing::{Sector, edge_before, joining_edge, push_back, push_edge, side};
-use crate::paths::other_end;
 use contractions::Level;
 use kuratowski::{Pattern, Subdivision};
 use multigraph::{Graph, NumberLists, Numbers};
@@ -25,9 +24,11 @@ pub(crate) struct Thirds {
 
 // Where the first edge of the sector leads from x.
 fn tip(level: &Level, sector: &Sector) -> u32
+    requires { LeadsToCommon level.now sector.now }
     ensures { result ≡ tip level.now sector.now }
 {
-    other_end(&level.graph, edge_before(level, sector.first), level.x)
+    let edge = edge_before(level, sector.first);
+    level.graph.other_end(edge, level.x)
 }
 
 // An edge from y to there.
@@ -73,7 +74,11 @@ fn triple_paths(
     requires third { AreEdges h.now round.now.c.first round.now.b.behind.items }
     requires second { AreEdges h.now round.now.b.first round.now.a.behind.items }
     requires first { AreEdges h.now round.now.a.first round.now.c.behind.items }
-    ensures { IfOk result (λ paths. paths.items ≡ triple_paths level.now h.now next.now round.now.a round.now.b round.now.c to.0 to.1 to.2) }
+    requires triple { AreTriple level.now next.now round.now.a round.now.b round.now.c }
+    requires is { IsTriple level.now h.now next.now
+        round.now.a round.now.b round.now.c to.0 to.1 to.2 }
+    ensures { IfOk result (λ paths. paths.items ≡ triple_paths level.now h.now next.now
+        round.now.a round.now.b round.now.c to.0 to.1 to.2) }
 {
     let at_a = tip(level, &round.a);
     let at_b = tip(level, &round.b);
@@ -99,7 +104,9 @@ fn triple_from(
     requires third { AreEdges h.now round.now.c.first round.now.b.behind.items }
     requires second { AreEdges h.now round.now.b.first round.now.a.behind.items }
     requires first { AreEdges h.now round.now.a.first round.now.c.behind.items }
-    requires is { IsTriple level.now h.now next.now round.now.a round.now.b round.now.c to.0 to.1 to.2 }
+    requires triple { AreTriple level.now next.now round.now.a round.now.b round.now.c }
+    requires is { IsTriple level.now h.now next.now
+        round.now.a round.now.b round.now.c to.0 to.1 to.2 }
     ensures { IfOk result (λ r. IsSubdivision level.now.graph r.kind r.branch r.paths) }
 {
     let ends = [

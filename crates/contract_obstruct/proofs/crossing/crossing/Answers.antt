@@ -1,18 +1,11 @@
 use Rattle.std.proofs.Common.{sym, subst, arith}
-use Rattle.permutations.proofs.Members.{member-head}
 use Rattle.multigraph.specs.Graph.{Multigraph}
 use Rattle.kuratowski.specs.declared.subdivision.Pattern.TheVariants.{K33}
 use Rattle.kuratowski.specs.Subdivision.{IsSubdivision}
 use Rattle.contract_obstruct.specs.Crossing.{AreEdges, crossing_branch, crossing_paths}
-use Rattle.contractions.proofs.LevelFacts.{level-contraction, level-limits}
+use Rattle.contractions.proofs.LevelFacts.{level-limits}
 use Rattle.contract_obstruct.proofs.Alternating.{in_a, in_b, in_c, in_d, edges, crossing-found}
 use Rattle.contract_obstruct.proofs.crossing.crossing.Goals as goal
-
-pub near_edge-near-requires-clause-edge_in : goal.near_edge-near-requires-clause-edge_in
-near_edge-near-requires-clause-edge_in c =
-    let t = c.requires.steps in
-    (level-contraction c.args.level.now c.requires.level).edges c.args.round.now.b.first
-    (in_b c.args.level.now c.requires.level t.system c.args.next.now t.are_steps t.plane c.args.round.now.a c.args.round.now.b c.args.round.now.c c.args.round.now.d c.requires.crossing c.args.round.now.b.first (member-head c.args.round.now.b.first c.args.round.now.b.behind.items)).0
 
 pub crossing_from-requires-clause-few : goal.crossing_from-requires-clause-few
 crossing_from-requires-clause-few c = omega (arith, c.requires.steps.are_steps.each, (level-limits c.args.level.now c.requires.level).few_edges)

@@ -1,8 +1,15 @@
-use Rattle.std.proofs.Common.{ℕ, ◌≤◌, List, length, slice_index, ap, ◌∙◌, arith}
+use Rattle.std.proofs.Common.{ℕ, ◌≤◌, List, length, slice_index, ap, ◌∙◌, sym, subst, arith}
 use Rattle.std.proofs.lemmas.Grind.{get_or_default_zero}
 use Rattle.planarity.specs.Lift.{spokes_on, spokes_off}
+use Rattle.contract_obstruct.specs.Lifting.{LeadOverEdges}
+use Rattle.contract_obstruct.proofs.LiftedWalks.{subdivision-edges}
 use Rattle.contract_obstruct.proofs.LiftedCases.{level-first, level-second, level-split}
 use Rattle.contract_obstruct.proofs.lifting.lift_branch.Goals as goal
+
+pub spokes_apart-requires-clause-edges : goal.spokes_apart-requires-clause-edges
+spokes_apart-requires-clause-edges c =
+    subst (LeadOverEdges c.args.level.now) (sym c.as_slice.ensures)
+    (subdivision-edges c.args.level.now c.requires.level c.args.s.now.kind c.args.s.now.branch c.args.s.now.paths c.requires.of)
 
 pub lift_at-requires-clause-lifted : goal.lift_at-requires-clause-lifted
 lift_at-requires-clause-lifted c =

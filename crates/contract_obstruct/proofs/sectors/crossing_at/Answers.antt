@@ -4,6 +4,7 @@ use Rattle.multigraph.specs.Graph.{is_end}
 use Rattle.planarity.specs.Circle.{leads_near}
 use Rattle.contractions.specs.Level.{edge_before}
 use Rattle.contract_obstruct.specs.Crossing.{listed}
+use Rattle.contract_obstruct.specs.Sectors.{LeadsOut}
 use Rattle.contract_obstruct.proofs.Segments.{four-segments, around-by}
 use Rattle.contract_obstruct.proofs.sectors.crossing_at.Goals as goal
 
@@ -22,4 +23,8 @@ crossing-requires-clause-crossing c =
       second = subst (λ z. leads_near level.graph level.x level.y (edge_before level) z ≡ true) (sym c.in_ok-b.ensures.first) c.requires.second;
       third = subst (λ z. is_end level.graph level.x (edge_before level z) ≡ true) (sym c.in_ok-c.ensures.first) c.requires.third;
       fourth = subst (λ z. is_end level.graph level.x (edge_before level z) ≡ false) (sym c.in_ok-d.ensures.first) c.requires.fourth;
+      first_out = subst (LeadsOut level) (sym c.in_ok-a.ensures.first) (c.requires.edges c.args.places.0 (omega (arith, c.requires.rise, c.requires.rise_on, c.requires.within)));
+      second_out = subst (LeadsOut level) (sym c.in_ok-b.ensures.first) (c.requires.edges c.args.places.1 (omega (arith, c.requires.rise_on, c.requires.within)));
+      third_out = subst (LeadsOut level) (sym c.in_ok-c.ensures.first) (c.requires.edges c.args.places.2 c.requires.within);
+      fourth_out = subst (LeadsOut level) (sym c.in_ok-d.ensures.first) (c.requires.edges 0 (omega (arith, c.requires.within)));
     }
