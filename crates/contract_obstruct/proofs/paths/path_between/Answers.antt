@@ -1,7 +1,7 @@
 use Rattle.std.proofs.Common.{◌≡◌, ℕ, suc, ◌+◌, ◌<◌, ◌==◌, ◌&&◌, Bool, false, if◌then◌else◌, List, [], ◌∷◌, length, reverse, get_or, drop, sym, ap, ◌∙◌, subst, add-one, arith}
 use Rattle.std.proofs.Math.Seq.{drop-cons}
 use Rattle.planarity.specs.Lift.{path_of_pair}
-use Rattle.contract_obstruct.proofs.paths.path_of_pair.Goals as goal
+use Rattle.contract_obstruct.proofs.paths.path_between.Goals as goal
 
 -- a pair that is neither (i, j) nor (j, i) is passed over
 passed : (pair : ℕ × ℕ) (pairs : List (ℕ × ℕ)) (path : List ℕ) (paths : List (List ℕ)) (i j : ℕ) → (pair.0 == i && pair.1 == j) ≡ false → (pair.0 == j && pair.1 == i) ≡ false
