@@ -82,8 +82,12 @@ fn search_once(
 }
 
 // Few edges of a connected list that are not planar, where the list is not; seen from the root at first. Trees are broad and
-// deep by turns: where a long cycle is needed, most of its edges are off each broad tree.
-pub(crate) fn few_edges(alloc: Global, list: &EdgeList, root: u32) -> Result<Vec<u32>, AllocError> {
+// deep by turns: where a long cycle is needed, most of its edges are off each broad tree. Nothing where the search gives up.
+pub(crate) fn few_edges(
+    alloc: Global,
+    list: &EdgeList,
+    root: u32,
+) -> Result<Option<Vec<u32>>, AllocError> {
     let mut edges = numbers_below(alloc, list.edge_count())?;
     let mut root = root;
     for round in 0..ROUNDS {
@@ -96,8 +100,8 @@ pub(crate) fn few_edges(alloc: Global, list: &EdgeList, root: u32) -> Result<Vec
         edges = found.edges;
         root = found.root;
         if found.done {
-            break;
+            return Ok(Some(edges));
         }
     }
-    Ok(edges)
+    Ok(None)
 }
