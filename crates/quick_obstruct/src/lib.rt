@@ -24,6 +24,8 @@ mod reading;
 mod segments;
 mod shortening;
 mod shrinking;
+#[cfg(test)]
+mod tests;
 mod thin;
 
 pub use obstruct::propose_subdivision;

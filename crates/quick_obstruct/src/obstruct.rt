@@ -14,7 +14,7 @@ use std::alloc::{AllocError, Global};
 const AGAIN: usize = 2;
 
 // What may be a subdivision among these edges, which are not planar.
-fn find_among(
+pub(crate) fn find_among(
     alloc: Global,
     list: &EdgeList,
     edges: Vec<u32>,

@@ -6,7 +6,7 @@
 // Last, the edges that hold together what was contracted are put back: these and those of the minor are few paths.
 
 use crate::along::forest_along;
-use crate::fronts::{Fronts, Shape};
+use crate::fronts::Fronts;
 use crate::minors::{Minor, Step};
 use quick_rotation::access::{NONE, at, number, put};
 use quick_rotation::{EdgeList, is_planar};
@@ -128,5 +128,5 @@ pub(crate) fn shrunk_edges(alloc: Global, list: &EdgeList) -> Result<Vec<u32>, A
     } = shrink(alloc, list)?;
     let root = list.tail(at(&edges, 0).saturating_mul(2));
     edges.extend_from_slice(&inner)?;
-    Fronts::from(alloc, list, &edges, root, Shape::Broad)?.front(NONE, &[])
+    Fronts::from(alloc, list, &edges, root)?.front(NONE, &[])
 }
