@@ -353,30 +353,6 @@ fn embeds_without_the_other_embedder(rt: HostRuntime) -> Result<(), Fail> {
     Ok(())
 }
 
-// A ring of so many vertices, opposite ones joined: a long ladder closed with a twist.
-fn twisted_ladder(alloc: Global, vertices: u32) -> Result<Graph, Fail> {
-    let mut ends = Vec::new(alloc);
-    for v in 1..vertices {
-        ends.push((v - 1, v))?;
-    }
-    ends.push((vertices.saturating_sub(1), 0))?;
-    for v in 0..vertices / 2 {
-        ends.push((v, v.saturating_add(vertices / 2)))?;
-    }
-    Ok(Graph::build(alloc, vertices, &ends)?)
-}
-
-#[test]
-fn embeds_a_long_ladder_without_the_other_embedder(rt: HostRuntime) -> Result<(), Fail> {
-    let alloc = rt.alloc();
-    let graph = twisted_ladder(alloc, 60)?;
-    let Some((answer, calls)) = answer_by(alloc, &mut LeftRight, &graph)? else {
-        return Err(Fail::from("not triconnected"));
-    };
-    assert!(rt; matches!(answer, Embedded::Not(_)) && calls == 0);
-    Ok(())
-}
-
 #[test]
 fn answers_as_the_other_embedder_where_a_finder_is_wrong(rt: HostRuntime) -> Result<(), Fail> {
     let alloc = rt.alloc();
