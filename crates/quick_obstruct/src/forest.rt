@@ -1,4 +1,4 @@
-// Trees by breadth-first and depth-first search.
+// Trees by breadth-first search.
 
 use quick_rotation::access::{NONE, at, is_marked, mark, number, put};
 use quick_rotation::{EdgeList, Groups};
@@ -85,38 +85,6 @@ pub(crate) fn breadth_first(
         }
         let vertex = at(&search.order, turn);
         search.scan(list, around.group(vertex))?;
-    }
-    Ok(search.tree)
-}
-
-// Puts the darts on the stack, so that the first is on top.
-fn put_on(stack: &mut Vec<u32>, darts: &[u32]) -> Result<(), AllocError> {
-    for dart in darts.iter().rev() {
-        stack.push(*dart)?;
-    }
-    Ok(())
-}
-
-// The tree of what is reached from the root by these darts, past no vertex that is marked, depth first.
-pub(crate) fn depth_first(
-    alloc: Global,
-    list: &EdgeList,
-    around: &Groups,
-    root: u32,
-    marks: Vec<bool>,
-) -> Result<Tree, AllocError> {
-    let mut search = search_from(alloc, list, root, marks)?;
-    let mut stack = Vec::new(alloc);
-    put_on(&mut stack, around.group(root))?;
-    for _ in 0..around.items.len() {
-        let Some(dart) = stack.pop() else {
-            break;
-        };
-        let reached = search.order.len();
-        search.look(list, dart)?;
-        if search.order.len() > reached {
-            put_on(&mut stack, around.group(list.head(dart)))?;
-        }
     }
     Ok(search.tree)
 }

@@ -1,17 +1,10 @@
 // Fronts of a list of edges: the first ones off a tree and some others, with the paths of the tree up from their
 // ends; and the search for the least front that is not planar.
 
-use crate::forest::{Tree, breadth_first, depth_first};
+use crate::forest::{Tree, breadth_first};
 use quick_rotation::access::{NONE, at, is_marked, mark, number};
 use quick_rotation::{EdgeList, is_planar};
 use std::alloc::{AllocError, Global};
-
-// The shape of a tree: breadth first or depth first.
-#[derive(Debug, Clone, Copy)]
-pub(crate) enum Shape {
-    Broad,
-    Deep,
-}
 
 // A front as it is collected.
 #[derive(Debug, Drop)]
@@ -61,20 +54,16 @@ pub(crate) struct Fronts<'a> {
 }
 
 impl<'a> Fronts<'a> {
-    // The fronts of these edges, seen from the root along a tree of this shape.
+    // The fronts of these edges, seen from the root along a breadth-first tree.
     pub(crate) fn from(
         alloc: Global,
         list: &'a EdgeList,
         edges: &[u32],
         root: u32,
-        shape: Shape,
     ) -> Result<Fronts<'a>, AllocError> {
         let around = list.darts_of(alloc, edges)?;
         let marks = vec![in alloc; false; list.vertices as usize]?;
-        let tree = match shape {
-            Shape::Broad => breadth_first(alloc, list, &around, root, marks)?,
-            Shape::Deep => depth_first(alloc, list, &around, root, marks)?,
-        };
+        let tree = breadth_first(alloc, list, &around, root, marks)?;
         Ok(Fronts {
             alloc,
             list,

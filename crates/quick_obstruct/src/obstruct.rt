@@ -4,6 +4,7 @@ use crate::needed::few_edges;
 use crate::reading::{Proposal, read};
 use crate::segments::needed_segments;
 use crate::shortening::shorten;
+use crate::shrinking::shrunk_edges;
 use kuratowski::Subdivision;
 use multigraph::Graph;
 use quick_rotation::EdgeList;
@@ -12,9 +13,12 @@ use std::alloc::{AllocError, Global};
 // How often the search begins again from a branch vertex of what it found.
 const AGAIN: usize = 2;
 
-// What may be a subdivision in a connected list of edges that is not planar, found from the root on.
-fn find_from(alloc: Global, list: &EdgeList, root: u32) -> Result<Option<Proposal>, AllocError> {
-    let edges = few_edges(alloc, list, root)?;
+// What may be a subdivision among these edges, which are not planar.
+pub(crate) fn find_among(
+    alloc: Global,
+    list: &EdgeList,
+    edges: Vec<u32>,
+) -> Result<Option<Proposal>, AllocError> {
     let segments = needed_segments(alloc, list, edges)?;
     let Some(mut proposal) = read(alloc, &segments)? else {
         return Ok(None);
@@ -23,11 +27,20 @@ fn find_from(alloc: Global, list: &EdgeList, root: u32) -> Result<Option<Proposa
     Ok(Some(proposal))
 }
 
+// What may be a subdivision in a connected list of edges that is not planar, found from the root on by few edges.
+fn find_from(alloc: Global, list: &EdgeList, root: u32) -> Result<Option<Proposal>, AllocError> {
+    match few_edges(alloc, list, root)? {
+        None => Ok(None),
+        Some(edges) => find_among(alloc, list, edges),
+    }
+}
+
 // What may be a subdivision in a connected list of edges that is not planar: found from vertex 0 on, and then from a branch
-// vertex of it, as long as it becomes shorter.
+// vertex of it, as long as it becomes shorter; by minors where that finds nothing.
 fn find(alloc: Global, list: &EdgeList) -> Result<Option<Proposal>, AllocError> {
     let Some(mut best) = find_from(alloc, list, 0)? else {
-        return Ok(None);
+        let edges = shrunk_edges(alloc, list)?;
+        return find_among(alloc, list, edges);
     };
     for k in 0..AGAIN {
         let Some(other) = find_from(alloc, list, best.branch_vertex(k))? else {

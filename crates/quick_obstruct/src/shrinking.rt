@@ -1,0 +1,132 @@
+// Edges that are not planar, found by minors: a list is made smaller as long as it is not planar.
+//
+// What has a minor that is not planar is not planar. So the edges of a forest along the thin places of the minor at hand, and
+// the others, are parted into pieces, and each piece is contracted or dropped where what is left is still not planar; first few
+// large pieces, then more, until each is one edge. A minor whose edges can neither be dropped nor contracted is K5 or K3,3.
+// Last, the edges that hold together what was contracted are put back: these and those of the minor are few paths.
+
+use crate::along::forest_along;
+use crate::fronts::Fronts;
+use crate::minors::{Minor, Step};
+use quick_rotation::access::{NONE, at, number, put};
+use quick_rotation::{EdgeList, is_planar};
+use std::alloc::{AllocError, Global};
+
+// How often the minor is parted, into how many pieces first, how many edges are few enough, and how often the tests may look at
+// each edge.
+const ROUNDS: u32 = 200;
+
+const PIECES: u32 = 4;
+
+const FEW: u32 = 10;
+
+const STEPS: u64 = 400;
+
+// A minor as it shrinks, and how many edges the tests may still look at.
+#[derive(Debug, Drop)]
+struct Shrinking {
+    minor: Minor,
+    budget: u64,
+}
+
+// The edges are put into so many pieces, in their order, as many in each; the pieces have the numbers from `first` on.
+fn part_edges(pieces: &mut [u32], edges: &[u32], first: u32, count: u32) {
+    let all = number(edges.len());
+    let mut piece = first;
+    let mut sum: u32 = 0;
+    for edge in edges {
+        put(pieces, *edge, piece);
+        sum = sum.saturating_add(count);
+        if sum >= all {
+            sum = sum.saturating_sub(all);
+            piece = piece.saturating_add(1);
+        }
+    }
+}
+
+impl Shrinking {
+    // How many edges there are.
+    fn count(&self) -> u32 {
+        self.minor.list.edge_count()
+    }
+
+    // Takes the step if what is left is not planar. Returns whether it is taken.
+    fn take(&mut self, alloc: Global, piece: u32, step: Step) -> Result<bool, AllocError> {
+        let next = self.minor.after(alloc, piece, step)?;
+        self.budget = self.budget.saturating_sub(u64::from(self.count()));
+        if is_planar(alloc, &next.list)? {
+            return Ok(false);
+        }
+        self.minor.turn_into(next)?;
+        Ok(true)
+    }
+
+    // Tries both steps for the pieces from one number up to another, this step first.
+    fn take_each(
+        &mut self,
+        alloc: Global,
+        from: u32,
+        to: u32,
+        step: Step,
+    ) -> Result<(), AllocError> {
+        for piece in from..to {
+            if self.budget > 0 && !self.take(alloc, piece, step)? {
+                let _taken = self.take(alloc, piece, step.other())?;
+            }
+        }
+        Ok(())
+    }
+
+    // One round with up to so many pieces of the forest from the root on, and as many of the other edges.
+    fn round(&mut self, alloc: Global, root: u32, pieces: u32) -> Result<(), AllocError> {
+        let forest = forest_along(alloc, &self.minor.list, root)?;
+        let first = pieces.min(number(forest.tree.len()));
+        let second = first.saturating_add(pieces.min(number(forest.others.len())));
+        part_edges(&mut self.minor.piece, &forest.tree, 0, first);
+        part_edges(
+            &mut self.minor.piece,
+            &forest.others,
+            first,
+            second.saturating_sub(first),
+        );
+        self.take_each(alloc, 0, first, Step::Contract)?;
+        self.take_each(alloc, first, second, Step::Drop)
+    }
+}
+
+// The minor that is left when no step can be taken, or when the budget is spent.
+fn shrink(alloc: Global, list: &EdgeList) -> Result<Minor, AllocError> {
+    let mut shrinking = Shrinking {
+        minor: Minor::of(alloc, list)?,
+        budget: STEPS.saturating_mul(u64::from(list.edge_count())),
+    };
+    let mut pieces = PIECES;
+    for round in 0..ROUNDS {
+        let before = shrinking.count();
+        if before <= FEW || shrinking.budget == 0 {
+            break;
+        }
+        let root = at(&shrinking.minor.list.tails, round);
+        shrinking.round(alloc, root, pieces)?;
+        let after = shrinking.count();
+        if after == before && pieces >= before {
+            break;
+        }
+        if after >= before.saturating_sub(before / 4) {
+            pieces = pieces.saturating_mul(2);
+        }
+    }
+    Ok(shrinking.minor)
+}
+
+// Edges that are not planar, where the list is not: those of a least minor, with the paths that hold it together.
+pub(crate) fn shrunk_edges(alloc: Global, list: &EdgeList) -> Result<Vec<u32>, AllocError> {
+    let Minor {
+        origin: mut edges,
+        inner,
+        ..
+    } = shrink(alloc, list)?;
+    let root = list.tail(at(&edges, 0).saturating_mul(2));
+    edges.extend_from_slice(&inner)?;
+    Fronts::from(alloc, list, &edges, root)?.front(NONE, &[])
+}
