@@ -15,7 +15,7 @@ use Rattle.block_obstruct.proofs.obstructing.routes_through.Goals as goal
 pub path_along-requires-clause-rising : goal.path_along-requires-clause-rising
 path_along-requires-clause-rising c =
     let l = subst (λ (z : List Item). c.loop-i.i < length z) c.items-items.ensures c.loop-i-test.true in
-    let b : c.loop-i.i < length c.args.groups.now = omega (arith, c.requires.groups.2.each, c.loop-i-test.true, ap (λ (z : List Item). length z) c.items-items.ensures) in
+    let b : c.loop-i.i < length c.args.groups.now = omega (arith, c.requires.groups.2.counted, c.loop-i-test.true, ap (λ (z : List Item). length z) c.items-items.ensures) in
     let e : c.as_slice.result.now ≡ slice_index_or c.args.groups.now c.loop-i.i [] = c.as_slice.ensures ∙ get_or_read c.args.groups.now c.loop-i.i c.index-groups-i.result b c.index-groups-i.is [] in
     subst (λ (z : List ℕ). Rises z) (sym e)
     (group-rises c.args.g.now c.args.tree.now c.requires.block c.args.k c.requires.node c.requires.groups.0 c.args.groups.now c.requires.groups.1 c.requires.groups.2 c.loop-i.i l)
@@ -23,7 +23,7 @@ path_along-requires-clause-rising c =
 pub path_along-requires-clause-within : goal.path_along-requires-clause-within
 path_along-requires-clause-within c =
     let l = subst (λ (z : List Item). c.loop-i.i < length z) c.items-items.ensures c.loop-i-test.true in
-    let b : c.loop-i.i < length c.args.groups.now = omega (arith, c.requires.groups.2.each, c.loop-i-test.true, ap (λ (z : List Item). length z) c.items-items.ensures) in
+    let b : c.loop-i.i < length c.args.groups.now = omega (arith, c.requires.groups.2.counted, c.loop-i-test.true, ap (λ (z : List Item). length z) c.items-items.ensures) in
     let e : c.as_slice.result.now ≡ slice_index_or c.args.groups.now c.loop-i.i [] = c.as_slice.ensures ∙ get_or_read c.args.groups.now c.loop-i.i c.index-groups-i.result b c.index-groups-i.is [] in
     subst (λ (z : List ℕ). (i : ℕ) → i < length z → slice_index z i < edge_count c.args.g.now) (sym e)
     (group-below c.args.g.now c.args.tree.now c.requires.block c.args.k c.requires.node c.requires.groups.0 c.args.groups.now c.requires.groups.1 c.requires.groups.2 c.loop-i.i l)
@@ -31,7 +31,7 @@ path_along-requires-clause-within c =
 pub path_along-requires-clause-path : goal.path_along-requires-clause-path
 path_along-requires-clause-path c =
     let l = subst (λ (z : List Item). c.loop-i.i < length z) c.items-items.ensures c.loop-i-test.true in
-    let b : c.loop-i.i < length c.args.groups.now = omega (arith, c.requires.groups.2.each, c.loop-i-test.true, ap (λ (z : List Item). length z) c.items-items.ensures) in
+    let b : c.loop-i.i < length c.args.groups.now = omega (arith, c.requires.groups.2.counted, c.loop-i-test.true, ap (λ (z : List Item). length z) c.items-items.ensures) in
     let e : c.as_slice.result.now ≡ slice_index_or c.args.groups.now c.loop-i.i [] = c.as_slice.ensures ∙ get_or_read c.args.groups.now c.loop-i.i c.index-groups-i.result b c.index-groups-i.is [] in
     path-of c.args.g.now c.as_slice.result.now (slice_index_or c.args.groups.now c.loop-i.i []) c.items-items.result.now (node_at c.args.tree.now c.args.k).items c.loop-i.i e c.items-items.ensures
     (group-path c.args.g.now c.args.tree.now c.requires.block c.args.k c.requires.node c.requires.groups.0 c.args.groups.now c.requires.groups.1 c.requires.groups.2 c.loop-i.i l)
@@ -40,7 +40,7 @@ pub loop-i-preserved : goal.loop-i-preserved
 loop-i-preserved c =
     let nodes = c.args.tree.now in
     let i = c.loop-i.i in
-    let b : c.loop-i.i < length c.args.groups.now = omega (arith, c.requires.groups.2.each, c.loop-i-test.true, ap (λ (z : List Item). length z) c.items-items.ensures) in
+    let b : c.loop-i.i < length c.args.groups.now = omega (arith, c.requires.groups.2.counted, c.loop-i-test.true, ap (λ (z : List Item). length z) c.items-items.ensures) in
     let e : c.as_slice.result.now ≡ slice_index_or c.args.groups.now c.loop-i.i [] = c.as_slice.ensures ∙ get_or_read c.args.groups.now c.loop-i.i c.index-groups-i.result b c.index-groups-i.is [] in
     let l = subst (λ (z : List Item). c.loop-i.i < length z) c.items-items.ensures c.loop-i-test.true in
     subst (λ (z : List (List ℕ)). AreItemRoutes c.args.g.now c.args.tree.now c.args.k (c.loop-i.i + 1) z) (sym c.in_ok-push.ensures.items)
@@ -50,7 +50,7 @@ loop-i-preserved c =
     (λ x m. subst (λ (z : List ℕ). is_member x z ≡ true) e (c.in_ok-route.ensures.among x m))))
 
 pub bounds-groups-i : goal.bounds-groups-i
-bounds-groups-i c = omega (arith, c.requires.groups.2.each, c.loop-i-test.true, ap (λ (z : List Item). length z) c.items-items.ensures)
+bounds-groups-i c = omega (arith, c.requires.groups.2.counted, c.loop-i-test.true, ap (λ (z : List Item). length z) c.items-items.ensures)
 
 pub returns : goal.returns
 returns c =
