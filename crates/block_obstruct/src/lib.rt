@@ -14,7 +14,7 @@
 //   Lifted         path-append, lifted-subdivision, lifted-written: a subdivision carried over
 //   Listed         listed-more, grows-more, listed-few: numbers on a list, each once, with notes
 //   TowardsNodes   reached-next, reached-all: the search through the links
-//   GroupsOfEdges  far-right, noted-all, parted-more: the groups of the edges
+//   GroupsOfEdges  far-right, noted-all: the groups of the edges
 //   SearchSteps    search-next, search-done, way-next, way-done: the search in a graph, and the way back
 //   PartPaths      part-joined, outer-path: paths of a part and of the whole graph
 //   ItemRoutes     group-path, route-right, item-routes: the paths through the groups are routes
@@ -29,6 +29,3 @@ mod towards;
 
 pub use lifting::lift;
 pub use obstructing::obstruct_block;
-
-#[cfg(test)]
-mod tests;

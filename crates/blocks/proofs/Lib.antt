@@ -20,3 +20,4 @@ mod Meeting
 mod Collected
 pub mod OneStructure
 mod OneBlock
+pub mod BlockParts

@@ -17,8 +17,6 @@ mod one_block;
 mod search;
 mod spread;
 mod structure;
-#[cfg(test)]
-mod tests;
 
 pub use one_block::is_one_block;
 pub use structure::{Blocks, split};

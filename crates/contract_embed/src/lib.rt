@@ -18,8 +18,6 @@ mod expanding;
 mod rounds;
 mod runs;
 mod steps;
-#[cfg(test)]
-mod tests;
 mod tetrahedron;
 
 pub use embedder::ContractEmbedder;

@@ -8,7 +8,7 @@ use Rattle.permutations.specs.Cyclic.{first_or, successor}
 use Rattle.permutations.proofs.Members.{member-head, member-append_right, distinct-append_apart}
 use Rattle.permutations.proofs.Successor.{successor-cut}
 use Rattle.multigraph.specs.Graph.{Multigraph, incident_edges}
-use Rattle.rotations.specs.Rings.{turns}
+use Rattle.permutations.specs.Ring.{turns}
 use Rattle.rotations.specs.Rotation.{order_at}
 use Rattle.rotations.proofs.Membership.{member-edge, member-end}
 use Rattle.faces.specs.Euler.{dart_from}

@@ -1,7 +1,7 @@
 // The cyclic order of a vertex, from the steps of a rotation system.
 
 ghost use Rattle.std.specs.Prelude.{◌≡◌, ◌<◌, ℕ, List, length, slice_index, IfOk};
-ghost use Rattle.rotations.specs.Rings.{turns};
+ghost use Rattle.permutations.specs.Ring.{turns};
 ghost use Rattle.rotations.specs.Rotation.{order_at};
 ghost use Rattle.contract_obstruct.specs.Steps.{AreSteps, ArePlaneSteps};
 

@@ -17,7 +17,7 @@
 //   Components   component-next, component-twin, component-least, component-test, component-finer, vertex-component, face-component
 //   Steps        split-merge, merge-split, split-split, merge-merge, merge-apart: V, F and C after an exchange, case by case
 //   Euler        euler, counts-ext, plane-ext, still-plane: the inequality; maps that agree on all darts
-//   Plane        same-defect-plane, same-defect-over, split-plane, corner-cut, corner-keep, unlink-plane, restricted-plane
+//   Plane        same-defect-plane, same-defect-over, split-plane, corner-cut, corner-keep, taken-out-plane, restricted-plane
 //   Parts        parts-plane, parts-vertices, parts-faces, parts-components: a map in two parts
 //   Drop         drop-defect, unlink-end-defect, dead-edge-apart, dropped-map: an edge with two faces; a loose end
 //   Insert       insert-defect, insert-parts, insert-across: an edge between two corners of one face, or of two
@@ -33,7 +33,7 @@
 //   Noncrossing  noncrossing, restricted-vertex, restricted-more; LinkNoncrossing link-noncrossing, turn-at
 //   Bond         bond-plane, bond-plane-back, involution-count, pairs-involution
 //   TurnOver     turned-faces; Flip flip-vertex, flip-faces, flip-component, flip-defect; FlipOne one-faces
-//   Rounds       ring-in-order, ring-in-turn: the order round a vertex, from its ring as a list
+//   Rounds       ring-in-order: the order round a vertex, from its ring as a list
 #![tactic(auto)]
 
 ghost use Rattle.dart_maps.specs.Laws.{BondIsPlane, ContractionKeepsComponents, ContractionKeepsDefect, ContractionKeepsPlane, CornerCut, DropKeepsDefect, EulersInequality, FlipAloneKeepsAll, FlipAtOneKeepsAll, FlipKeepsComponents, FlipKeepsDefect, FlipKeepsFaces, FlipKeepsVertices, GluingCornersKeepsDefect, GluingKeepsPlane, InsertAcrossFaces, InsertKeepsDefect, InsertPartsFace, MirrorKeepsCounts, MirrorKeepsPlane, NoncrossingAlongEdge, NoncrossingAtVertex, PathKeepsDefect, PathLiesInFace, PathPartsFace, PlaneInParts, RenumberingKeepsPlane, RestrictionIsMap, RestrictionKeepsPlane, RestrictionKeepsVertices, RingTellsOrder, SmoothingAllKeepsPlane, SmoothingKeepsPlane, SplitKeepsPlane};

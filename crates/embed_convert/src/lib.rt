@@ -15,6 +15,3 @@ mod laws;
 
 pub use converting::moves;
 pub use laws::moves_keep_locks;
-
-#[cfg(test)]
-mod tests;

@@ -30,8 +30,8 @@
 //   Bonds    bond-of, put-in_place, arranged-more: the keys of a bond; keeps-then: one change after another
 //   Single   flip-chosen, exchange-chosen: what one move does to the choices
 //   Nodes    mirror-digit, bond-ends, bond-begins: digits by the kind of the node
-//   Walks    reset-more, next-number, numbered-more, rank-after, list-after: from digits to places
-//   Places   one-rank, lower-before, nexts-follow, follows-more: places in a list
+//   Walks    reset-more, next-number, numbered-more, rank-after, list-after, one-rank: from digits to places
+//   Places   lower-before, nexts-follow, follows-more: places in a list
 #![tactic(auto)]
 
 mod counting;
@@ -47,6 +47,3 @@ pub use laws::{ranks_tell_members, walks_follow_the_list};
 pub use listing::members_after;
 pub use ranking::rank;
 pub use walking::{GotoFault, first, goto, next};
-
-#[cfg(test)]
-mod tests;

@@ -17,6 +17,3 @@ pub use carrying::{back, carry_out};
 pub use flipping::{FlipFault, flip};
 pub use mirroring::{Locked, mirror};
 pub use permuting::{PermuteFault, permute};
-
-#[cfg(test)]
-mod tests;

@@ -10,7 +10,8 @@ use Rattle.dart_maps.proofs.Darts.{face-permutes}
 use Rattle.faces.specs.Euler.{is_isolated, face_count}
 use Rattle.faces.proofs.Examples.{triangles, triangles_apart}
 use Rattle.faces.specs.Subgraph.{IsSubgraph, is_kept}
-use Rattle.faces.specs.Maps.{dart_after, dart_before, mirror_image}
+use Rattle.faces.specs.Maps.{dart_after, dart_before}
+use Rattle.rotations.specs.Runs.{mirror_image}
 
 -- edges 0-1, 0-2, 0-3, 1-2, 1-3, 2-3, with one vertex inside the triangle of the others
 abbrev four_vertices : Multigraph

@@ -15,7 +15,8 @@ use Rattle.rotations.proofs.Membership.{incident-distinct, incident-least}
 use Rattle.dart_maps.proofs.Euler.{counts-ext, plane-ext}
 use Rattle.dart_maps.proofs.Mirror.{mirror-counts, mirror-plane}
 use Rattle.faces.specs.Euler.{tail, dart_from, dart_count, face_count, IsPlane}
-use Rattle.faces.specs.Maps.{dart_after, dart_before, mirror_image}
+use Rattle.faces.specs.Maps.{dart_after, dart_before}
+use Rattle.rotations.specs.Runs.{mirror_image}
 use Rattle.faces.proofs.DartLemmas.{order-distinct, member-incident}
 use Rattle.faces.proofs.MapSteps.{tail-in, map-permutes}
 use Rattle.faces.proofs.MapCounts.{map-faces, plane-map, map-plane}

@@ -9,7 +9,8 @@ use Rattle.dart_maps.specs.Map as maps
 use Rattle.faces.specs.Euler.{tail, dart_count, face_step, is_isolated, face_count, component_count, IsPlane}
 use Rattle.faces.specs.Subgraph.{IsSubgraph, IsRestriction}
 use Rattle.graph_theory.specs.Block.{EdgesShareBlock}
-use Rattle.faces.specs.Maps.{dart_after, dart_before, IsPlaneMap, mirror_image}
+use Rattle.faces.specs.Maps.{dart_after, dart_before, IsPlaneMap}
+use Rattle.rotations.specs.Runs.{mirror_image}
 
 -- Euler's inequality: for every rotation system of every graph, V + F is at most E + 2C
 abbrev pub EulersInequality : Type 0

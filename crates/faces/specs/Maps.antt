@@ -1,6 +1,6 @@
--- A rotation system as a map of darts, and the mirror image of a rotation system.
-use Rattle.std.specs.Prelude.{ℕ, ◌/◌, List, map, reverse}
-use Rattle.permutations.specs.Cyclic.{successor, predecessor, from_least}
+-- A rotation system as a map of darts.
+use Rattle.std.specs.Prelude.{ℕ, ◌/◌, List}
+use Rattle.permutations.specs.Cyclic.{successor, predecessor}
 use Rattle.multigraph.specs.Graph.{Multigraph, edge_count}
 use Rattle.rotations.specs.Rotation.{order_at}
 use Rattle.dart_maps.specs.Map as maps
@@ -17,7 +17,3 @@ dart_before g r d = dart_from g (tail g d) (predecessor (order_at r (tail g d)) 
 -- the map of darts of a rotation system is plane. The map has no isolated vertices
 abbrev pub IsPlaneMap : Multigraph → List (List ℕ) → Type 0
 IsPlaneMap g r = maps.IsPlane (edge_count g) (dart_after g r)
-
--- the mirror image: each cyclic order is run through the other way, and written from its least edge on again
-abbrev pub mirror_image : List (List ℕ) → List (List ℕ)
-mirror_image r = map (λ order. from_least (reverse order)) r

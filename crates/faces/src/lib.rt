@@ -19,8 +19,6 @@ mod lists;
 mod numbers;
 mod orbits;
 mod steps;
-#[cfg(test)]
-mod tests;
 mod tracing;
 
 pub use counting::euler;

@@ -23,6 +23,3 @@ mod nodes;
 
 pub use fault::GraphFault;
 pub use named::{Named, graph_of};
-
-#[cfg(test)]
-mod tests;

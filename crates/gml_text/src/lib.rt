@@ -22,6 +22,3 @@ pub mod writer;
 pub use document::{Bytes, Doc, GmlFault, Pair, Pairs, Value};
 pub use reader::read;
 pub use writer::write;
-
-#[cfg(test)]
-mod tests;

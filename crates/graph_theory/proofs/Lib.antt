@@ -19,3 +19,4 @@ pub mod Chains
 pub mod TreePaths
 pub mod SameLabel
 pub mod BlockLabel
+pub mod PartWalks

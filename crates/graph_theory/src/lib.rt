@@ -7,7 +7,7 @@
 // Each law below is a function without a body, whose contract is the theorem. The module `labels` alone has code that runs.
 //
 // The lemmas that are used most (module of proofs/ in front):
-//   Ends        other-is_end, other-other, other-differs, end-cases: the two ends of an edge
+//   Ends        other-other, other-differs, end-cases: the two ends of an edge
 //   Walks       end-append, starts-append, vertices-append, walk-append, walk-left, walk-right: walks joined and cut
 //   Walks       edge-met, edge-entered, met-cases: what lies on a walk
 //   Walks       first_passing: a walk cut at the first vertex that passes a test

@@ -24,6 +24,3 @@ mod subdivision;
 pub use checking::{check, is_subdivision};
 pub use ordering::written_form;
 pub use subdivision::{Pattern, Subdivision};
-
-#[cfg(test)]
-mod tests;

@@ -24,6 +24,3 @@ pub mod laws;
 mod making;
 
 pub use making::make_graph;
-
-#[cfg(test)]
-mod tests;

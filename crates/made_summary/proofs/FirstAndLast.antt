@@ -4,7 +4,7 @@ use Rattle.std.specs.Prelude.{Contains}
 use Rattle.std.proofs.lemmas.Bool.{cases_eq, both_ways}
 use Rattle.std.proofs.lemmas.List.{get_or_default}
 use Rattle.multigraph.specs.Graph.{Multigraph}
-use Rattle.faces.specs.Maps.{mirror_image}
+use Rattle.rotations.specs.Runs.{mirror_image}
 use Rattle.pair_split.specs.Tutte.{Node}
 use Rattle.choice_lists.specs.Choices.{mirror_choice}
 use Rattle.skeletons.specs.Items.{IsBlockTree}

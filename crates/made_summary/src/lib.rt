@@ -17,6 +17,3 @@ mod summing;
 mod text;
 
 pub use summing::summary;
-
-#[cfg(test)]
-mod tests;

@@ -22,6 +22,3 @@ pub use faults::BuildFault;
 pub use lists::{NumberLists, Numbers};
 pub use parts::Part;
 pub use structure::Graph;
-
-#[cfg(test)]
-mod tests;

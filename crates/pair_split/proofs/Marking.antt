@@ -11,11 +11,6 @@ use Rattle.pair_split.specs.declared.family.NamedEdge.{NamedEdge}
 pub family-more : (edges : List NamedEdge) (i : ℕ) (d : NamedEdge) → i < length edges → family_of (take (i + 1) edges) ≡ family_of (take i edges) ++ entry_of (slice_index_or edges i d) ∷ []
 family-more edges i d l = ap family_of (take_more edges i d l) ∙ map-append entry_of (take i edges) (slice_index_or edges i d ∷ [])
 
--- and its skeleton
-pub skeleton-more : (edges : List NamedEdge) (i : ℕ) (d : NamedEdge) → i < length edges
-    → family_skeleton (family_of (take (i + 1) edges)) ≡ family_skeleton (family_of (take i edges)) ++ ((slice_index_or edges i d).first, (slice_index_or edges i d).second) ∷ []
-skeleton-more edges i d l = ap family_skeleton (family-more edges i d l) ∙ map-append entry_ends (family_of (take i edges)) (entry_of (slice_index_or edges i d) ∷ [])
-
 -- a side of one entry more
 side_of-more : (entries : List Entry) (e : Entry) (test : Entry → Bool) (n : ℕ) → side_of (entries ++ e ∷ []) test n ≡ (side_of entries test n || ((e.name == n) && test e))
 side_of-more [] e test n = grind (arith, cases_Bool (e.name == n), cases_Bool (test e))

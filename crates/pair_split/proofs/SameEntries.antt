@@ -31,10 +31,6 @@ two-within entries others s d h l =
     let w = two-names entries (λ e. s e.name) d l in
     two-pass (λ e. s e.name) w.0 w.1 others (λ i. w.6 (ap (λ (z : Entry). z.name) i)) (h w.0 w.2) (h w.1 w.3) w.4 w.5
 
--- families with the same entries have the same common vertices
-pub same-common : (entries others : List Entry) (s : ℕ → Bool) (x : ℕ) → IsWithin entries others → IsWithin others entries → is_common entries s x ≡ is_common others s x
-same-common entries others s x h k = same-tests (is_common entries s x) (is_common others s x) (common-within entries others s x h) (common-within others entries s x k)
-
 -- where the one is tight, so is the other
 pub same-tight : (entries others : List Entry) → IsWithin entries others → IsWithin others entries → IsTight entries → IsTight others
 same-tight entries others h k tight s a b =
@@ -52,9 +48,3 @@ same-separation entries others s p q d h k c = record {
   two_outside = two-within entries others (λ n. not (s n)) d h c.two_outside;
 }
 
--- where the one is prime, so is the other
-pub same-prime : (entries others : List Entry) → is_distinct (names others) ≡ true → IsWithin entries others → IsWithin others entries → IsPrime entries → IsPrime others
-same-prime entries others d h k prime = record {
-  tight = same-tight entries others h k prime.tight;
-  none = λ s p q c. prime.none s p q (same-separation others entries s p q d k h c);
-}

@@ -75,10 +75,6 @@ touching-weaker entries s t x h w = record { entry = w.entry; within = w.within;
 pub on_side-ext : (entries : List Entry) (s t : ℕ → Bool) → ((n : ℕ) → s n ≡ t n) → on_side s entries ≡ on_side t entries
 on_side-ext entries s t h = filter-same (λ e. s e.name) (λ e. t e.name) entries (λ e c. h e.name)
 
--- and the same entries off them
-pub off_side-ext : (entries : List Entry) (s t : ℕ → Bool) → ((n : ℕ) → s n ≡ t n) → off_side s entries ≡ off_side t entries
-off_side-ext entries s t h = on_side-ext entries (λ n. not (s n)) (λ n. not (t n)) (λ n. ap not (h n))
-
 -- both sides together are the family
 pub length-sides : (entries : List Entry) (s : ℕ → Bool) → length (on_side s entries) + length (off_side s entries) ≡ length entries
 length-sides entries s = length-parts (λ e. s e.name) entries

@@ -22,7 +22,7 @@
 //   PrimeRigid      prime-four, prime-stays_connected, prime-rigid: a prime family of four or more entries is triconnected
 //   ThreeEntries    three-bond, three-polygon: a tight family of three entries
 //   GraphFamily     graph-is_family, one_block-tight: the family of a graph
-//   SameEntries     same-tight, same-separation, same-prime: the order of the entries does not matter
+//   SameEntries     same-tight, same-separation: the order of the entries does not matter
 //   BridgeSides     bridge-from, bridge-end, bridge-common: what a family falls into when two vertices are removed
 //   Candidates      bridge-separation, bridge-inside: which bridges are sides; each side contains one
 #![tactic(auto)]

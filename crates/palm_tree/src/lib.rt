@@ -21,6 +21,3 @@ mod structure;
 
 pub use steps::Steps;
 pub use structure::PalmTree;
-
-#[cfg(test)]
-mod tests;

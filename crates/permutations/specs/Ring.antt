@@ -1,5 +1,5 @@
--- The orbit of a permutation as a list, in the order of its steps.
-use Rattle.std.specs.Prelude.{ℕ, zero, suc, ◌+◌, ◌==◌, List, [], ◌∷◌}
+-- The orbit of a permutation as a list, in the order of its steps, and a walk round the darts of a vertex.
+use Rattle.std.specs.Prelude.{ℕ, zero, suc, ◌+◌, ◌/◌, ◌==◌, List, [], ◌∷◌, slice_index}
 use Rattle.permutations.specs.Count.{least}
 use Rattle.permutations.specs.Permutation.{iterate}
 
@@ -15,3 +15,8 @@ orbit_length n f x = least n (λ k. iterate f (k + 1) x == x) + 1
 -- the orbit of x as a cyclic order, written from x on
 abbrev pub ring : ℕ → (ℕ → ℕ) → ℕ → List ℕ
 ring n f x = images f (orbit_length n f x) x
+
+-- the edges of k darts, from d on, each dart the one that the list has at the dart before it. Dart d is one of the two of edge d / 2
+abbrev pub turns : List ℕ → ℕ → ℕ → List ℕ
+turns next d zero = []
+turns next d (suc k) = (d / 2) ∷ turns next (slice_index next d) k

@@ -16,7 +16,7 @@
 //   Relation     connected-least(-typed), connected-link, connected-closed: the least equivalence; a test that the links respect
 //   Leaders      leader-related, leader-same, same-leader, leads-once: related exactly where the leaders are equal
 //   Classes      add-link, class_count-same, class_count-closed, classes-transfer: one link more, finer, in parts, renumbered
-//   ClassSizes   class-sum, class-least-size, class-exact-size: counting class by class
+//   ClassSizes   class-sum, class_size-same, class-exact-size: counting class by class
 //   Members      member-append_cases, distinct-append_apart, cut_at: membership in parts; a list cut at a member
 //   Arrangements permutation-member, permutation-distinct, permutation-from_members, count-list: lists in another order
 //   Places       place-of, same-place, told-distinct: the places of members; Mapped member-map, map-member, distinct-map
@@ -27,12 +27,12 @@
 //   Turned       turned-head, turned-successor, turned-permutation, IsTurn-member: the same cyclic order from elsewhere
 //   CyclicSame   same-lists, IsTurn-turned, IsTurn-trans: equal by first member and successors
 //   NormalForm   from_least-same, same-from_least, mirror-successor: one list for each cyclic order; its mirror
-//   CyclicOrder  follows-cons, follows-around, around-turn, around-filter: who is met in which order on the way round
+//   CyclicOrder  follows-cons, follows-around, around-turn, around-successor: who is met in which order on the way round
 //   Chains       chain, chain-typed: from each member to the next, so from each to each
 //   Rings        ring-member, ring-successor, ring-from_list, ring-turn: an orbit as a list, and a list as an orbit
 //   Removal      successor-without, ring-taken_out: members taken out of a cyclic order and out of a permutation
 //   Runs         runs-unique, runs-turn, runs-picked, cut-unique: cut by keys, in one way; RunsFromOrder runs-from_order: exactly
-//                where nothing crosses; RunsByKey group-of, groups-by_key: the run of a member, and of a key
+//                where nothing crosses; RunsByKey group-filter, groups-by_key: the run of a member, and of a key
 #![tactic(auto)]
 
 ghost use Rattle.permutations.specs.Laws.{ConnectionIsEquivalence, ConnectionIsLeast, ExchangeJoins, ExchangeParts, FinerHasMore, FinerIsSame, InjectionsCount, LinkBetweenClasses, LinkWithinAClass, LinksConnect, MirrorGoesBack, MirrorTwice, NormalFormsTellOrders, OrbitsAreReached, PredecessorOfSuccessor, RenumberingKeepsClasses, RingFollows, RingHoldsOrbit, RingIsDistinct, RingParted, RingTakenOut, RingsJoined, RunsAreUnique, RunsToldByKeys, RunsWhereNothingCrosses, SizesAddUp, SuccessorOfPredecessor, SuccessorStays, SuccessorsTellLists, TurnedBegins, TurnedKeepsSuccessors, TurnedRearranges, TwoShareAHole};

@@ -18,7 +18,8 @@ use Rattle.contractions.proofs.Outside.{outside}
 use Rattle.contractions.proofs.Neighbours.{neighbour}
 use Rattle.dart_maps.specs.Map.{IsMap}
 use Rattle.faces.specs.Euler.{dart_count, IsPlane, IsPlaneSystem}
-use Rattle.faces.specs.Maps.{dart_after, dart_before, mirror_image}
+use Rattle.faces.specs.Maps.{dart_after, dart_before}
+use Rattle.rotations.specs.Runs.{mirror_image}
 use Rattle.faces.proofs.MapSteps.{map-permutes}
 use Rattle.faces.proofs.MapMirror.{mirror-system, mirror-after}
 use Rattle.faces.proofs.MapToLists.{orders-told}

@@ -13,7 +13,7 @@ use Rattle.rotations.specs.Rotation.{order_at, IsCyclicOrder, IsRotationSystem}
 use Rattle.graph_theory.specs.Triconnected.{AreParallel, IsSimple}
 use Rattle.contractions.specs.Contraction.{are_adjacent}
 use Rattle.faces.specs.Euler.{IsPlane}
-use Rattle.faces.specs.Maps.{mirror_image}
+use Rattle.rotations.specs.Runs.{mirror_image}
 
 -- the complete graph on four vertices
 abbrev pub tetrahedron : Multigraph

@@ -20,7 +20,7 @@ use Rattle.contractions.proofs.ContractionMade.{contracted-is}
 use Rattle.contractions.proofs.ContractibleEdges.{contractible_exists}
 use Rattle.contractions.proofs.PrivateNeighbours.{OrientedEdge, oriented}
 use Rattle.faces.specs.Euler.{IsPlane, IsPlaneSystem}
-use Rattle.faces.specs.Maps.{mirror_image}
+use Rattle.rotations.specs.Runs.{mirror_image}
 use Rattle.faces.proofs.MapMirror.{mirror-system, mirror-image-twice, mirror-image-plane, mirror-image-differs}
 use Rattle.planarity.specs.Expansion.{IsContractedSystem}
 use Rattle.planarity.proofs.CommonNeighbours.{TwoEqual, common-two}

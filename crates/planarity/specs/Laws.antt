@@ -4,7 +4,7 @@ use Rattle.multigraph.specs.Graph.{Multigraph, IsGraph}
 use Rattle.rotations.specs.Rotation.{IsRotationSystem}
 use Rattle.graph_theory.specs.Triconnected.{IsTriconnected}
 use Rattle.faces.specs.Euler.{IsPlane, IsPlaneSystem}
-use Rattle.faces.specs.Maps.{mirror_image}
+use Rattle.rotations.specs.Runs.{mirror_image}
 use Rattle.kuratowski.specs.Subdivision.{IsSubdivision, IsWritten}
 use Rattle.kuratowski.specs.declared.subdivision.Pattern.{Pattern}
 

@@ -14,8 +14,6 @@
 
 mod embedder;
 mod finders;
-#[cfg(test)]
-mod tests;
 
 pub use embedder::{QuickEmbedder, accepted_proposal, embed_by};
 pub use finders::{Finder, LeftRight};

@@ -10,7 +10,8 @@ use Rattle.permutations.proofs.Successor.{predecessor-member, successor-predeces
 use Rattle.permutations.proofs.Arrangements.{contains-from_member}
 use Rattle.ring_arena.specs.Links.{Links, AreInverse, AreNow, reversed_at}
 use Rattle.rotations.specs.Rotation.{order_at}
-use Rattle.rotations.specs.Rings.{dart_at, turns, orders, AreRings, StandOnRings}
+use Rattle.rotations.specs.Rings.{dart_at, orders, AreRings, StandOnRings}
+use Rattle.permutations.specs.Ring.{turns}
 use Rattle.rotations.specs.Runs.{IsParted, IsOutside, IsRunMoved, IsRunTurned, IsKeptElsewhere, mirror_image}
 use Rattle.rotations.specs.declared.rings.Ring.{Ring}
 use Rattle.rotations.proofs.Membership.{member-from_contains}

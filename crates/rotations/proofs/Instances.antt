@@ -5,7 +5,8 @@ use Rattle.multigraph.specs.Graph.{Multigraph}
 use Rattle.multigraph.specs.Build.{multigraph_of}
 use Rattle.rotations.specs.Entries.{list_at}
 use Rattle.rotations.specs.Given.{given_order}
-use Rattle.rotations.specs.Rings.{dart_at, turns}
+use Rattle.rotations.specs.Rings.{dart_at}
+use Rattle.permutations.specs.Ring.{turns}
 
 abbrev k4 : Multigraph
 k4 = multigraph_of 4 ((0, 1) ∷ (0, 2) ∷ (0, 3) ∷ (1, 2) ∷ (1, 3) ∷ (2, 3) ∷ [])

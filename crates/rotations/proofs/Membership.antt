@@ -45,17 +45,6 @@ member-edge g v e m = incident-edge g v e (contains-from_member (incident_edges 
 pub member-end : (g : Multigraph) (v e : ℕ) → is_member e (incident_edges g v) ≡ true → is_end g v e ≡ true
 member-end g v e m = incident-end g v e (contains-from_member (incident_edges g v) e m)
 
--- what is no edge is none of those at v
-pub incident-no_edge : (g : Multigraph) (v e : ℕ) → (e < edge_count g → ⊥) → is_member e (incident_edges g v) ≡ false
-incident-no_edge g v e out = false_from_ne_true (is_member e (incident_edges g v)) (λ m. out (member-edge g v e m))
-
--- an edge that has not v as an end is none of those at v
-pub incident-no_end : (g : Multigraph) (v e : ℕ) → is_end g v e ≡ false → is_member e (incident_edges g v) ≡ false
-incident-no_end g v e h = false_from_ne_true (is_member e (incident_edges g v)) (λ m. absurd (apart (sym (member-end g v e m) ∙ h)))
-  where
-    apart : true ≡ false → ⊥
-    apart e = cc
-
 -- what is no edge at v is none of those at v
 pub is_edge_at-no : (g : Multigraph) (v e : ℕ) → is_edge_at g v e ≡ false → is_member e (incident_edges g v) ≡ false
 is_edge_at-no g v e h = false_from_ne_true (is_member e (incident_edges g v))

@@ -13,7 +13,8 @@ use Rattle.permutations.proofs.Turned.{IsTurn-permutation}
 use Rattle.permutations.proofs.NormalForm.{written-first}
 use Rattle.ring_arena.specs.Links.{Links, AreInverse, AreNow}
 use Rattle.rotations.specs.Rotation.{order_at}
-use Rattle.rotations.specs.Rings.{dart_at, turns, orders, AreRings}
+use Rattle.rotations.specs.Rings.{dart_at, orders, AreRings}
+use Rattle.permutations.specs.Ring.{turns}
 use Rattle.rotations.specs.Runs.{IsParted, IsKeptElsewhere}
 use Rattle.rotations.specs.declared.rings.Ring.{Ring}
 use Rattle.rotations.proofs.Darts.{dart-in, dart-injective}

@@ -9,7 +9,8 @@ use Rattle.permutations.proofs.Arrangements.{length-from_members, contains-from_
 use Rattle.permutations.proofs.NormalForm.{least-same, least-first_member, from_least-first_or, from_least-member, from_least-distinct, from_least-successor}
 use Rattle.ring_arena.specs.Links.{Links, AreInverse}
 use Rattle.rotations.specs.Rotation.{order_at}
-use Rattle.rotations.specs.Rings.{dart_at, turns, orders, StandRound, AreLinked, AreRings}
+use Rattle.rotations.specs.Rings.{dart_at, orders, StandRound, AreLinked, AreRings}
+use Rattle.permutations.specs.Ring.{turns}
 use Rattle.rotations.specs.declared.rings.Ring.{Ring}
 use Rattle.rotations.proofs.Steps.{order-ring}
 use Rattle.rotations.proofs.Links.{linked-back}

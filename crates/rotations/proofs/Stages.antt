@@ -13,7 +13,8 @@ use Rattle.ring_arena.specs.Links.{Links, AreInverse}
 use Rattle.rotations.specs.Entries.{list_at}
 use Rattle.rotations.specs.Given.{AreArranged, given_order}
 use Rattle.rotations.specs.Rotation.{order_at, IsRotationSystem, IsCyclicOrder}
-use Rattle.rotations.specs.Rings.{dart_at, turns, orders, StandRound, AreLinked, AreRings, AreTails, IsRingOf}
+use Rattle.rotations.specs.Rings.{dart_at, orders, StandRound, AreLinked, AreRings, AreTails, IsRingOf}
+use Rattle.permutations.specs.Ring.{turns}
 use Rattle.rotations.specs.declared.rings.Ring.{Ring}
 use Rattle.rotations.proofs.Membership.{incident-distinct, incident-member, incident-least}
 use Rattle.rotations.proofs.Arrangements.{permutation-member, permutation-member_back, permutation-distinct}

@@ -6,7 +6,8 @@ use Rattle.std.proofs.lemmas.Bool.{cases_lt}
 use Rattle.permutations.specs.Cyclic.{successor, predecessor}
 use Rattle.permutations.proofs.Successor.{predecessor-member, successor-predecessor}
 use Rattle.rotations.specs.Rotation.{order_at}
-use Rattle.rotations.specs.Rings.{dart_at, turns, orders, AreRings}
+use Rattle.rotations.specs.Rings.{dart_at, orders, AreRings}
+use Rattle.permutations.specs.Ring.{turns}
 use Rattle.rotations.specs.declared.rings.Ring.{Ring}
 use Rattle.rotations.proofs.Membership.{member-from_contains}
 use Rattle.rotations.proofs.Darts.{dart-edge, dart-in}

@@ -5,7 +5,8 @@ use Rattle.permutations.specs.Members.{is_member, is_distinct}
 use Rattle.permutations.specs.Cyclic.{first_or, successor}
 use Rattle.permutations.proofs.Members.{member-head, member-append_right, distinct-append_apart}
 use Rattle.permutations.proofs.Successor.{successor-cut}
-use Rattle.rotations.specs.Rings.{dart_at, turns, StandRound, AreLinked}
+use Rattle.rotations.specs.Rings.{dart_at, StandRound, AreLinked}
+use Rattle.permutations.specs.Ring.{turns}
 use Rattle.rotations.proofs.Darts.{dart-edge}
 
 -- from any place of the order to its end

@@ -1,10 +1,11 @@
 -- A rotation system as it is kept: for each dart the one that follows it round its vertex, and the one that it follows.
 -- Each edge e has two darts: 2e leaves its first end, 2e + 1 its second.
-use Rattle.std.specs.Prelude.{◌≡◌, ℕ, zero, suc, ◌+◌, ◌*◌, ◌/◌, ◌<◌, ◌≤◌, ◌==◌, ◌⊎◌, if◌then◌else◌, true, List, [], ◌∷◌, length, map, slice_index, slice_index_or}
+use Rattle.std.specs.Prelude.{◌≡◌, ℕ, ◌+◌, ◌*◌, ◌/◌, ◌<◌, ◌≤◌, ◌==◌, ◌⊎◌, if◌then◌else◌, true, List, [], ◌∷◌, length, map, slice_index, slice_index_or}
 use Rattle.std.specs.List.{All, Contains}
 use Rattle.permutations.specs.Cyclic.{first_or, successor, predecessor}
 use Rattle.permutations.specs.Members.{is_member, is_distinct}
 use Rattle.permutations.specs.Permutation.{Permutes}
+use Rattle.permutations.specs.Ring.{turns}
 use Rattle.multigraph.specs.Graph.{Multigraph, IsGraph, max_vertices, max_darts, edge_count, ends_of, incident_edges}
 use Rattle.ring_arena.specs.Links.{Links}
 use Rattle.rotations.specs.Rotation.{order_at, IsRotationSystem}
@@ -13,11 +14,6 @@ use Rattle.rotations.specs.declared.rings.Ring.{Ring}
 -- the dart of edge e that leaves v, one of its ends, by the vertices that the darts leave
 abbrev pub dart_at : List ℕ → ℕ → ℕ → ℕ
 dart_at tails v e = (if slice_index tails (2 * e) == v then 2 * e else 2 * e + 1)
-
--- the edges of so many darts, from d on
-abbrev pub turns : List ℕ → ℕ → ℕ → List ℕ
-turns next d zero = []
-turns next d (suc k) = (d / 2) ∷ turns next (slice_index next d) k
 
 -- the edges of each ring, from its first dart on
 abbrev pub orders : List ℕ → List Ring → List (List ℕ)

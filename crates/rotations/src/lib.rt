@@ -22,6 +22,3 @@ pub use entries::Lists;
 pub use faults::RotFault;
 pub use round::RotIter;
 pub use system::Rotation;
-
-#[cfg(test)]
-mod tests;

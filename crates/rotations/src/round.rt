@@ -2,7 +2,7 @@
 
 ghost use Rattle.std.specs.Prelude.{◌≡◌, ◌<◌, length};
 ghost use Rattle.std.specs.Iterator.{YieldsFirst, item_count};
-ghost use Rattle.rotations.specs.Rings.{turns};
+ghost use Rattle.permutations.specs.Ring.{turns};
 
 use ring_arena::Rings;
 use std::marker::Model;
@@ -17,7 +17,7 @@ pub struct RotIter<'a> {
 
 impl<'a> Model for RotIter<'a> {
     ghost use Rattle.std.specs.Prelude.{List, ℕ, ◌<◌, length};
-    ghost use Rattle.rotations.specs.Rings.{turns};
+    ghost use Rattle.permutations.specs.Ring.{turns};
 
     ghost Value = { List ℕ };
 

@@ -13,7 +13,7 @@
 // The lemmas (module of proofs/ in front):
 //   Back     back-key: the key of the link back is the first key of the node, but that of the link itself
 //   Walk     LeadsOn, IsNear: where the walk stands; starts, arrives, goes-on, near-start, near-next
-//   Rounds   images-chain: a cyclic order is the list of the successors of its first member; the lists of all vertices
+//   Rounds   images-list: a cyclic order is the list of the successors of its first member; the lists of all vertices
 #![tactic(auto)]
 
 mod composing;

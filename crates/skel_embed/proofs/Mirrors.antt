@@ -11,7 +11,7 @@ use Rattle.graph_theory.proofs.Triconnected.{four-vertices}
 use Rattle.contractions.proofs.Neighbours.{incident-three}
 use Rattle.skel_compose.proofs.Rounds.{round-member}
 use Rattle.rotations.specs.Rotation.{order_at, IsRotationSystem}
-use Rattle.faces.specs.Maps.{mirror_image}
+use Rattle.rotations.specs.Runs.{mirror_image}
 use Rattle.faces.proofs.DartLemmas.{order-distinct}
 use Rattle.faces.proofs.MapMirror.{mirror-order, mirror-system}
 use Rattle.skel_embed.specs.Fan.{TurnsRight}

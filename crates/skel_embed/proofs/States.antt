@@ -9,7 +9,7 @@ use Rattle.permutations.proofs.Arrangements.{permutation-member}
 use Rattle.permutations.proofs.NormalForm.{from_least-turn}
 use Rattle.permutations.proofs.Turned.{IsTurn-length}
 use Rattle.rotations.specs.Rotation.{order_at}
-use Rattle.faces.specs.Maps.{mirror_image}
+use Rattle.rotations.specs.Runs.{mirror_image}
 use Rattle.faces.proofs.MapMirror.{mirror-system, mirror-image-plane}
 use Rattle.pair_split.specs.Tutte.{group}
 use Rattle.pair_split.specs.declared.components.Kind.TheVariants.{P, R}

@@ -44,6 +44,3 @@ pub use moves::{Keys, Move, MoveList};
 pub use planes::{Outcome, plane_block};
 pub use state::PlaneBlock;
 pub use taking::TakeFault;
-
-#[cfg(test)]
-mod tests;

@@ -5,7 +5,7 @@ ghost use Rattle.std.specs.Prelude.{◌≡◌, ◌<◌, length, IfOk};
 ghost use Rattle.multigraph.specs.Graph.{incident_edges};
 ghost use Rattle.graph_theory.specs.Triconnected.{IsTriconnected};
 ghost use Rattle.rotations.specs.Rotation.{order_at, IsRotationSystem};
-ghost use Rattle.faces.specs.Maps.{mirror_image};
+ghost use Rattle.rotations.specs.Runs.{mirror_image};
 ghost use Rattle.planarity.specs.Embedding.{IsEmbedding};
 ghost use Rattle.skel_compose.specs.Orders.{orders_below};
 ghost use Rattle.skel_embed.specs.Fan.{fan_lists, IsFan, TurnsRightWherePlane};

@@ -10,7 +10,7 @@ use Rattle.permutations.proofs.NormalForm.{from_least-first_or, least_or-le}
 use Rattle.multigraph.specs.Graph.{Multigraph}
 use Rattle.multigraph.specs.Part.{Rises}
 use Rattle.rotations.specs.Rotation.{IsCyclicOrder}
-use Rattle.faces.specs.Maps.{mirror_image}
+use Rattle.rotations.specs.Runs.{mirror_image}
 use Rattle.faces.proofs.MapMirror.{mirror-system, mirror-image-plane}
 use Rattle.pair_split.specs.Tutte.{Node, node_at}
 use Rattle.pair_split.specs.Tutte as trees

@@ -11,7 +11,7 @@ use Rattle.permutations.proofs.NormalForm.{mirror-twice, from_least-same, from_l
 use Rattle.multigraph.specs.Graph.{Multigraph}
 use Rattle.rotations.specs.Rotation.{order_at, IsRotationSystem}
 use Rattle.faces.specs.Euler.{IsPlane, IsPlaneSystem}
-use Rattle.faces.specs.Maps.{mirror_image}
+use Rattle.rotations.specs.Runs.{mirror_image}
 use Rattle.faces.proofs.MapMirror.{mirror-system, mirror-image-plane}
 use Rattle.pair_split.specs.Skeleton.{HasPoles, IsOfKind}
 use Rattle.pair_split.specs.Split.{skeleton}

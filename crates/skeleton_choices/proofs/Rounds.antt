@@ -13,7 +13,7 @@ use Rattle.multigraph.specs.Graph.{Multigraph, incident_edges}
 use Rattle.multigraph.proofs.Places.{rises-once}
 use Rattle.rotations.specs.Rotation.{order_at, IsRotationSystem}
 use Rattle.rotations.proofs.Membership.{incident-distinct}
-use Rattle.faces.specs.Maps.{mirror_image}
+use Rattle.rotations.specs.Runs.{mirror_image}
 use Rattle.faces.proofs.MapLists.{map-back}
 use Rattle.faces.proofs.MapMirror.{mirror-order}
 use Rattle.pair_split.specs.Tutte.{Node, node_at, node_item, IsTutte}

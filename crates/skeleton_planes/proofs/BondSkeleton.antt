@@ -17,7 +17,8 @@ use Rattle.dart_maps.specs.Map.{twin, face, same_vertex}
 use Rattle.dart_maps.proofs.Darts.{twin-edge, twin-cases, dart-cases}
 use Rattle.dart_maps.proofs.Bond.{bond-plane, bond-plane-back}
 use Rattle.faces.specs.Euler.{IsPlane, IsPlaneSystem}
-use Rattle.faces.specs.Maps.{dart_after, dart_before, mirror_image}
+use Rattle.faces.specs.Maps.{dart_after, dart_before}
+use Rattle.rotations.specs.Runs.{mirror_image}
 use Rattle.faces.proofs.DartLemmas.{order-distinct}
 use Rattle.faces.proofs.MapSteps.{tail-in}
 use Rattle.faces.proofs.MapVertices.{tail-vertex}

@@ -2,7 +2,7 @@
 use Rattle.std.proofs.Common.{◌≡◌, ◌==◌, true, false, [], ◌∷◌, map, refl}
 use Rattle.multigraph.specs.Graph.{numbers_below}
 use Rattle.faces.specs.Euler.{IsPlane}
-use Rattle.faces.specs.Maps.{mirror_image}
+use Rattle.rotations.specs.Runs.{mirror_image}
 use Rattle.skeletons.specs.Items.{keys_at, has_vertex, least_vertex, greatest_vertex}
 use Rattle.skeletons.specs.Round.{each_once, keys_met, keys_round}
 use Rattle.skeletons.specs.Choices.{choice, precedes}

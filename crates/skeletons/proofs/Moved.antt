@@ -18,7 +18,7 @@ use Rattle.multigraph.specs.Graph.{Multigraph, edge_count, is_end, incident_edge
 use Rattle.multigraph.proofs.Places.{rises-once}
 use Rattle.rotations.specs.Rotation.{order_at, IsRotationSystem}
 use Rattle.rotations.proofs.Membership.{member-edge, member-end, incident-member}
-use Rattle.faces.specs.Maps.{mirror_image}
+use Rattle.rotations.specs.Runs.{mirror_image}
 use Rattle.faces.proofs.DartLemmas.{order-distinct}
 use Rattle.faces.proofs.MapMirror.{mirror-order}
 use Rattle.pair_split.specs.Tutte.{Node, node_at, group, IsTutte}

@@ -25,6 +25,3 @@ mod turning;
 mod writing;
 
 pub use splitter::SearchSplitter;
-
-#[cfg(test)]
-mod tests;

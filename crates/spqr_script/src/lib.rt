@@ -43,6 +43,3 @@ pub use refusals::{
     Which, gml_line, long_bytes, long_line, read_bytes, read_line, rule_line, script_line,
     usage_bytes, usage_line,
 };
-
-#[cfg(test)]
-mod tests;

@@ -8,7 +8,7 @@ use Rattle.permutations.specs.Count.{some, least}
 use Rattle.permutations.proofs.Search.{least-is}
 use Rattle.multigraph.specs.Graph.{Multigraph, edge_count}
 use Rattle.multigraph.proofs.Places.{rises-once}
-use Rattle.faces.specs.Maps.{mirror_image}
+use Rattle.rotations.specs.Runs.{mirror_image}
 use Rattle.faces.proofs.MapMirror.{mirror-system, mirror-image-plane}
 use Rattle.pair_split.specs.Tutte.{Node, node_at}
 use Rattle.pair_split.specs.declared.components.Item.{Item}

@@ -10,7 +10,7 @@ use Rattle.pair_split.specs.Tutte.{IsTutte}
 use Rattle.graph_theory.proofs.Rising.{HasAll, rises-same}
 use Rattle.tree_unique.proofs.SameTrees.{trees-equal}
 use Rattle.spqr_session.specs.Trees.{BlockTree, no_tree, tree_at, IsBlockTree, AreBlockTrees}
-use Rattle.spqr_session.proofs.BlockParts.{part-one_block}
+use Rattle.blocks.proofs.BlockParts.{part-one_block}
 
 module _ (g : Multigraph) (edges : List ℕ) (a b : GraphPart) (p : IsPart g edges a) (q : IsPart g edges b) where
   -- the ends of the same edges

@@ -35,23 +35,6 @@ number-more t pieces i l =
     let split : how_many t (take (i + 1) pieces) ≡ how_many t (take i pieces ++ slice_index_or pieces i no_piece ∷ []) = ap (how_many t) (take_more pieces i no_piece l) in
     omega (arith, split, number-append t (take i pieces) (slice_index_or pieces i no_piece ∷ []), number-cons t (slice_index_or pieces i no_piece) [])
 
--- a piece that is not pushed
-pub pushed-skip : (before after : List Piece) (lead : List ℕ) (k : ℕ) (pieces : List Piece) (i : ℕ) → i < length pieces → IsPushed before after lead k (take i pieces)
-    → is_outer (group_of lead) k (slice_index_or pieces i no_piece).what ≡ false → IsPushed before after lead k (take (i + 1) pieces)
-pushed-skip before after lead k pieces i l h o = λ t.
-    let value : Bool → ℕ = λ b. cond (b && t (slice_index_or pieces i no_piece)) 1 0 in
-    let none : value (is_outer (group_of lead) k (slice_index_or pieces i no_piece).what) ≡ 0 = ap value o in
-    omega (arith, h t, none, number-more (λ q. is_outer (group_of lead) k q.what && t q) pieces i l)
-
--- a piece that is pushed
-pub pushed-one : (before after : List Piece) (lead : List ℕ) (k : ℕ) (pieces : List Piece) (i : ℕ) (q : Piece) → i < length pieces → q ≡ slice_index_or pieces i no_piece → IsPushed before after lead k (take i pieces)
-    → is_outer (group_of lead) k q.what ≡ true → IsPushed before (after ++ q ∷ []) lead k (take (i + 1) pieces)
-pushed-one before after lead k pieces i q l e h o = λ t.
-    let value : Piece → ℕ = λ z. cond (is_outer (group_of lead) k z.what && t z) 1 0 in
-    let simple : Bool → ℕ = λ b. cond (b && t q) 1 0 in
-    let one : value (slice_index_or pieces i no_piece) ≡ simple true = ap value (sym e) ∙ ap simple o in
-    omega (arith, h t, one, number-more (λ p. is_outer (group_of lead) k p.what && t p) pieces i l, number-append t after (q ∷ []), number-cons t q [])
-
 -- as many count backwards
 pub number-reverse : (t : Piece → Bool) (pieces : List Piece) → how_many t (reverse pieces) ≡ how_many t pieces
 number-reverse t [] = refl

@@ -17,22 +17,6 @@ use Rattle.spqr_tree.specs.Keys.{parent_at, children, AddsChildren, IsOrder, Are
 use Rattle.spqr_tree.proofs.Children.{children-is, children-has, children-distinct}
 use Rattle.pair_split.proofs.LinkSides.{whole}
 
--- at first the root alone is on the list, and no component has a parent
-pub order-starts : (comps : List Comp) (t : IsTree comps) (parents : List ℕ) → length parents ≡ length comps → parent_at parents t.root ≡ 4294967295 → IsOrder comps t parents (t.root ∷ []) 0
-order-starts comps t parents p e = record {
-  places = p;
-  root = member-head t.root [];
-  none = e;
-  distinct = refl;
-  within = λ x m. subst (λ z. z < length comps) (only x m) t.root_in;
-  parent = λ x m n. absurd (n (sym (only x m)));
-  before = λ x m n. absurd (n (sym (only x m)));
-  after = λ q j l. absurd (omega (arith, l));
-}
-  where
-    only : (x : ℕ) → is_member x (t.root ∷ []) ≡ true → t.root ≡ x
-    only x m = elim (member-cases x t.root [] m) [ inl q ↦ q | inr k ↦ absurd (true≢false (sym k)) ]
-
 -- there are no more on the list than components
 pub order-few : (comps : List Comp) (t : IsTree comps) (parents order : List ℕ) (i : ℕ) → IsOrder comps t parents order i → length order ≤ length comps
 order-few comps t parents order i o = omega (arith, count-list (length comps) (λ x. is_member x order) order o.distinct o.within (λ x l. refl), count-within (length comps) (λ x. is_member x order))

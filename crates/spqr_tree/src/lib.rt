@@ -10,8 +10,6 @@ mod merging;
 mod naming;
 mod ranking;
 mod skeleton;
-#[cfg(test)]
-mod tests;
 mod tour;
 mod tree;
 

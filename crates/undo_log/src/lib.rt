@@ -11,6 +11,3 @@ mod step;
 
 pub use history::{NothingToRedo, NothingToUndo, UndoLog};
 pub use step::Step;
-
-#[cfg(test)]
-mod tests;

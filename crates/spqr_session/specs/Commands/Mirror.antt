@@ -1,7 +1,7 @@
 -- `mirror B`: the mirror image of the present rotation system of a block.
 use Rattle.std.specs.Prelude.{◌≡◌, ℕ, Bool, ◌&&◌, List, [], ◌∷◌, length}
 use Rattle.permutations.specs.Count.{some, least}
-use Rattle.faces.specs.Maps.{mirror_image}
+use Rattle.rotations.specs.Runs.{mirror_image}
 use Rattle.skel_embed.specs.Block.{lock_at}
 use Rattle.spqr_session.specs.Trees.{BlockTree}
 use Rattle.spqr_session.specs.State.{Embedding, State}

@@ -4,7 +4,7 @@ use Rattle.permutations.specs.Cyclic.{first_or}
 use Rattle.permutations.proofs.Places.{first-at}
 use Rattle.multigraph.specs.Graph.{Multigraph, edge_count, incident_edges}
 use Rattle.multigraph.proofs.Incident.{incident_at-edge}
-use Rattle.rotations.specs.Rings.{turns}
+use Rattle.permutations.specs.Ring.{turns}
 use Rattle.faces.specs.Euler.{dart_from}
 use Rattle.faces.proofs.DartLemmas.{dart_from-below}
 use Rattle.contract_obstruct.proofs.Orders.{steps-in}

@@ -1,5 +1,5 @@
 use Rattle.std.proofs.Common.{◌≡◌, ◌+◌, ◌-◌, ◌++◌, ℕ, List, slice_index, sym, subst, arith}
-use Rattle.rotations.specs.Rings.{turns}
+use Rattle.permutations.specs.Ring.{turns}
 use Rattle.contract_obstruct.proofs.Orders.{turns-next, turns-end}
 use Rattle.contract_obstruct.proofs.rounds.turns.Goals as goal
 

@@ -1,5 +1,5 @@
 use Rattle.std.proofs.Common.{◌≡◌, ◌<◌, ◌-◌, ◌++◌, length}
-use Rattle.rotations.specs.Rings.{turns}
+use Rattle.permutations.specs.Ring.{turns}
 use Rattle.contract_obstruct.proofs.rounds.turns.Given as goal
 
 abbrev pub invariant-loop-turn : goal.invariant-loop-turn

@@ -1,7 +1,7 @@
 use Rattle.std.proofs.Common.{◌∙◌, ℕ, List, sym, ap, subst}
 use Rattle.rotations.specs.Given.{given_order, IsFirstBad, IsRefusal}
 use Rattle.rotations.specs.declared.faults.RotFault.{RotFault}
-use Rattle.faces.specs.Maps.{mirror_image}
+use Rattle.rotations.specs.Runs.{mirror_image}
 use Rattle.faces.proofs.MapMirror.{mirror-system}
 use Rattle.skel_compose.proofs.Rounds.{entries-same, entries-not_bad}
 use Rattle.skel_embed.proofs.systems.mirror.Goals as goal

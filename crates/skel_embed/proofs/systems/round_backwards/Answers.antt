@@ -5,7 +5,7 @@ use Rattle.permutations.proofs.Arrangements.{contains-from_member}
 use Rattle.permutations.proofs.Successor.{successor-member}
 use Rattle.multigraph.specs.Graph.{incident_edges}
 use Rattle.rotations.specs.Rotation.{order_at}
-use Rattle.faces.specs.Maps.{mirror_image}
+use Rattle.rotations.specs.Runs.{mirror_image}
 use Rattle.faces.proofs.MapMirror.{mirror-system}
 use Rattle.skel_compose.proofs.Rounds.{round-start, round-member, round-more}
 use Rattle.skel_embed.proofs.Mirrors.{mirror-member, mirror-next}

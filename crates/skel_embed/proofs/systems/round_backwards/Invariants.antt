@@ -4,7 +4,7 @@ use Rattle.permutations.specs.Ring.{images}
 use Rattle.permutations.specs.Members.{is_member}
 use Rattle.multigraph.specs.Graph.{incident_edges}
 use Rattle.rotations.specs.Rotation.{order_at}
-use Rattle.faces.specs.Maps.{mirror_image}
+use Rattle.rotations.specs.Runs.{mirror_image}
 use Rattle.skel_embed.proofs.systems.round_backwards.Given as goal
 
 abbrev pub invariant-loop-turn : goal.invariant-loop-turn

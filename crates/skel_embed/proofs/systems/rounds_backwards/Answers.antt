@@ -2,7 +2,7 @@ use Rattle.std.proofs.Common.{ℕ, ◌≤◌, List, length, sym, subst, arith}
 use Rattle.multigraph.specs.Graph.{incident_edges}
 use Rattle.contractions.proofs.Neighbours.{incident-three}
 use Rattle.rotations.specs.Entries.{IsAbove}
-use Rattle.faces.specs.Maps.{mirror_image}
+use Rattle.rotations.specs.Runs.{mirror_image}
 use Rattle.skel_compose.proofs.Rounds.{entries-above}
 use Rattle.skel_embed.proofs.systems.rounds_backwards.Goals as goal
 

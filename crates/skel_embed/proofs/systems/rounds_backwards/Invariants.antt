@@ -1,5 +1,5 @@
 use Rattle.std.proofs.Common.{◌≡◌}
-use Rattle.faces.specs.Maps.{mirror_image}
+use Rattle.rotations.specs.Runs.{mirror_image}
 use Rattle.skel_compose.specs.Orders.{orders_below}
 use Rattle.skel_embed.proofs.systems.rounds_backwards.Given as goal
 

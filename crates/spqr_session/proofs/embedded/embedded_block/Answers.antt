@@ -6,7 +6,8 @@ use Rattle.graph_theory.specs.Block.{IsOneBlock}
 use Rattle.pair_split.specs.Tutte.{IsTutte}
 use Rattle.skeletons.specs.Items as items
 use Rattle.skel_embed.specs.Planes.{IsOutcome}
-use Rattle.spqr_session.proofs.BlockParts.{block-edges_in, part-one_block, block-tree}
+use Rattle.spqr_session.proofs.BlockParts.{block-tree}
+use Rattle.blocks.proofs.BlockParts.{block-edges_in, part-one_block}
 use Rattle.spqr_session.proofs.Outcomes.{outcome-embedded, outcome-starts}
 use Rattle.spqr_session.proofs.embedded.embedded_block.Goals as goal
 

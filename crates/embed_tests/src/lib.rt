@@ -1,0 +1,20 @@
+// Tests of plane blocks, their moves and history, lists of rotation systems, and made graphs.
+//
+// A test shows what no contract says: worked rows, the answers to texts, and that each call answers where there is memory enough.
+// The tests stand here, above the crates that they test, so that the gate need not prove those once more together with them.
+#![tactic(auto)]
+
+#[cfg(test)]
+mod conversions;
+#[cfg(test)]
+mod histories;
+#[cfg(test)]
+mod made_graphs;
+#[cfg(test)]
+mod moves;
+#[cfg(test)]
+mod plane_blocks;
+#[cfg(test)]
+mod summaries;
+#[cfg(test)]
+mod walks;

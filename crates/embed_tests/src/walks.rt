@@ -1,0 +1,182 @@
+// Lists of small blocks, worked out by hand.
+
+use embed_enum::{CountOver, GotoFault, count, first, goto, members_after, next, rank};
+use blocks::is_one_block;
+use contract_embed::ContractEmbedder;
+use multigraph::Graph;
+use pair_split::{Kind, PairSplitter, Splitter};
+use skel_embed::{BySkeletons, PlaneBlock, embed_by_skeletons};
+use spqr_tree::Tree;
+use std::alloc::Global;
+use std::test::Fail;
+
+// The block of these edges at its first plane rotation system.
+fn block_of(alloc: Global, vertices: u32, ends: &[(u32, u32)]) -> Result<PlaneBlock, Fail> {
+    let Ok(graph) = Graph::build(alloc, vertices, ends) else {
+        return Err(Fail::from("no graph"));
+    };
+    if !is_one_block(alloc, &graph)? {
+        return Err(Fail::from("no block"));
+    }
+    let comps = PairSplitter::new().split(alloc, &graph)?;
+    let tree = Tree::assemble(alloc, &graph, comps)?;
+    match embed_by_skeletons(alloc, graph, tree, &mut ContractEmbedder)? {
+        BySkeletons::Plane(block) => Ok(block),
+        BySkeletons::Not(..) => Err(Fail::from("not plane")),
+    }
+}
+
+// So many edges between two vertices.
+fn bundle(alloc: Global, edges: u32) -> Result<PlaneBlock, Fail> {
+    let ends = vec![in alloc; (0, 1); edges as usize]?;
+    block_of(alloc, 2, &ends)
+}
+
+// A cycle of so many vertices with two edges from each to the next.
+fn doubled_cycle(alloc: Global, vertices: u32) -> Result<PlaneBlock, Fail> {
+    let mut ends = Vec::new(alloc);
+    for v in 0..vertices {
+        let w = if v + 1 == vertices { 0 } else { v + 1 };
+        ends.push((v, w))?;
+        ends.push((v, w))?;
+    }
+    block_of(alloc, vertices, &ends)
+}
+
+// Two complete graphs on four vertices that share an edge.
+static JOINED: [(u32, u32); 11] = [
+    (0, 1),
+    (0, 2),
+    (0, 3),
+    (1, 2),
+    (1, 3),
+    (2, 3),
+    (0, 4),
+    (0, 5),
+    (1, 4),
+    (1, 5),
+    (4, 5),
+];
+
+// How many times one can go on.
+fn steps(block: &mut PlaneBlock, limit: u32) -> u32 {
+    for n in 0..limit {
+        if !next(block) {
+            return n;
+        }
+    }
+    limit
+}
+
+#[test]
+fn walks_through_three_edges(rt: HostRuntime) -> Result<(), Fail> {
+    let mut block = bundle(rt.alloc(), 3)?;
+    assert!(rt; count(&block) == Ok(2));
+    assert!(rt; rank(&block) == Ok(0));
+    assert!(rt; next(&mut block));
+    assert!(rt; rank(&block) == Ok(1));
+    assert!(rt; !next(&mut block));
+    assert!(rt; rank(&block) == Ok(1));
+    first(&mut block);
+    assert!(rt; rank(&block) == Ok(0));
+    assert_eq!(rt; members_after(rt.alloc(), &block, 5)?.len(), 1);
+    Ok(())
+}
+
+// The first bond of two complete graphs has its keys 0, 1 and 6; with 6 before 1 four members are passed.
+#[test]
+fn ranks_an_exchange(rt: HostRuntime) -> Result<(), Fail> {
+    let mut block = block_of(rt.alloc(), 6, &JOINED)?;
+    assert!(rt; goto(&mut block, 4).is_ok());
+    let keys: &[u32] = &[0, 6, 1];
+    if block.tree().node_count() == 3 {
+        assert!(rt; block.keys(0) == keys);
+    }
+    assert!(rt; rank(&block) == Ok(4));
+    Ok(())
+}
+
+#[test]
+fn walks_through_two_complete_graphs(rt: HostRuntime) -> Result<(), Fail> {
+    let mut block = block_of(rt.alloc(), 6, &JOINED)?;
+    assert!(rt; count(&block) == Ok(8));
+    assert_eq!(rt; steps(&mut block, 20), 7);
+    assert!(rt; rank(&block) == Ok(7));
+    assert!(rt; goto(&mut block, 8) == Err(GotoFault::RankOut(8)));
+    assert!(rt; goto(&mut block, 3).is_ok());
+    assert!(rt; rank(&block) == Ok(3));
+    assert_eq!(rt; members_after(rt.alloc(), &block, 3)?.len(), 3);
+    if block.tree().node_count() == 3 {
+        block.set_lock(0, true);
+    }
+    assert!(rt; count(&block) == Ok(4));
+    assert!(rt; rank(&block) == Ok(3));
+    assert!(rt; !next(&mut block));
+    Ok(())
+}
+
+// 34 factorial, the cyclic orders of 35 edges.
+static ORDERS: u128 = 295232799039604140847618609643520000000;
+
+#[test]
+fn counts_up_to_the_limit(rt: HostRuntime) -> Result<(), Fail> {
+    let mut block = bundle(rt.alloc(), 35)?;
+    assert!(rt; count(&block) == Ok(ORDERS));
+    assert!(rt; goto(&mut block, ORDERS) == Err(GotoFault::RankOut(ORDERS)));
+    assert!(rt; goto(&mut block, ORDERS - 1).is_ok());
+    assert!(rt; rank(&block) == Ok(ORDERS - 1));
+    assert!(rt; !next(&mut block));
+    assert!(rt; goto(&mut block, ORDERS - 2).is_ok());
+    assert!(rt; next(&mut block));
+    assert!(rt; rank(&block) == Ok(ORDERS - 1));
+    Ok(())
+}
+
+#[test]
+fn walks_past_the_limit(rt: HostRuntime) -> Result<(), Fail> {
+    let mut block = bundle(rt.alloc(), 36)?;
+    assert!(rt; count(&block) == Err(CountOver));
+    assert!(rt; rank(&block) == Err(CountOver));
+    assert!(rt; goto(&mut block, 0) == Err(GotoFault::CountOver));
+    assert!(rt; next(&mut block));
+    if block.tree().node_count() == 1 {
+        block.set_lock(0, true);
+    }
+    assert!(rt; count(&block) == Ok(1));
+    assert!(rt; rank(&block) == Ok(0));
+    assert!(rt; !next(&mut block));
+    assert!(rt; goto(&mut block, 0).is_ok());
+    Ok(())
+}
+
+// The number of the last bond.
+fn last_bond(block: &PlaneBlock) -> Option<u32> {
+    let mut found = None;
+    for k in 0..block.tree().node_count() {
+        if block.tree().kind(k) == Kind::P {
+            found = Some(k);
+        }
+    }
+    found
+}
+
+// Each of the 16 bonds of three items has two choices.
+#[test]
+fn walks_through_a_doubled_cycle(rt: HostRuntime) -> Result<(), Fail> {
+    let mut block = doubled_cycle(rt.alloc(), 16)?;
+    assert!(rt; count(&block) == Ok(65536));
+    assert!(rt; goto(&mut block, 65535).is_ok());
+    assert!(rt; rank(&block) == Ok(65535));
+    assert!(rt; !next(&mut block));
+    assert!(rt; goto(&mut block, 32767).is_ok());
+    assert!(rt; next(&mut block));
+    assert!(rt; rank(&block) == Ok(32768));
+    if let Some(k) = last_bond(&block) {
+        if k < block.tree().node_count() {
+            block.set_lock(k, true);
+        }
+    }
+    assert!(rt; count(&block) == Ok(32768));
+    assert!(rt; rank(&block) == Ok(16384));
+    Ok(())
+}

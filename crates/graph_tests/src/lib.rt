@@ -1,0 +1,20 @@
+// Tests of graphs, rotation systems, faces, blocks, subdivisions and embedders.
+//
+// A test shows what no contract says: worked rows, the answers to texts, and that each call answers where there is memory enough.
+// The tests stand here, above the crates that they test, so that the gate need not prove those once more together with them.
+#![tactic(auto)]
+
+#[cfg(test)]
+mod block_structures;
+#[cfg(test)]
+mod embedders;
+#[cfg(test)]
+mod face_tracing;
+#[cfg(test)]
+mod graphs;
+#[cfg(test)]
+mod quick_embedders;
+#[cfg(test)]
+mod rotation_systems;
+#[cfg(test)]
+mod subdivisions;
