@@ -21,7 +21,8 @@ fn meets_two(edges: &[u32], numbers: &[u32]) -> bool
 
 // Puts the vertex behind the others where it is a cut vertex.
 fn note(cut: &mut Vec<u32>, vertex: u32, is_cut: bool) -> Result<(), AllocError>
-    ensures { IfOk result (λ _. cut.new.items ≡ (if is_cut then cut.old.items ++ vertex ∷ [] else cut.old.items)) }
+    ensures { IfOk result (λ _. cut.new.items ≡ (if is_cut then cut.old.items ++ vertex ∷ []
+        else cut.old.items)) }
 {
     if is_cut {
         cut.push(vertex)?;
@@ -36,7 +37,8 @@ pub(crate) fn cut_vertices(
     numbers: &[u32],
 ) -> Result<Vec<u32>, AllocError>
     requires { length numbers.now ≡ edge_count graph.now }
-    ensures { IfOk result (λ cut. cut.items ≡ filter (λ v. meets_two numbers.now (incident_edges graph.now v)) (numbers_below graph.now.vertex_count)) }
+    ensures { IfOk result (λ cut. cut.items ≡ filter (λ v. meets_two numbers.now
+        (incident_edges graph.now v)) (numbers_below graph.now.vertex_count)) }
 {
     let mut cut = Vec::new(alloc);
     for vertex in 0..graph.vertex_count() {

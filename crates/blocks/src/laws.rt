@@ -7,13 +7,12 @@ ghost use Rattle.blocks.specs.Blocks.{BlockStructure, IsBlockStructure, block_at
 
 /// A multigraph has at most one structure of blocks, cut vertices and components: what meets the definition is determined.
 pub fn one_structure()
-    ensures { (g : Multigraph) (a b : BlockStructure) → IsBlockStructure g a → IsBlockStructure g b → a ≡ b }
+    ensures { (g : Multigraph) (a b : BlockStructure) → IsBlockStructure g a → IsBlockStructure g b
+        → a ≡ b }
 {}
 
 /// The part of a multigraph that the edges of one of its blocks make is one block.
 pub fn part_of_a_block_is_one_block()
-    ensures {
-        (g : Multigraph) (s : BlockStructure) (b : ℕ) (part : GraphPart) → IsBlockStructure g s → b < length s.blocks
-            → IsPart g (block_at s.blocks b) part → IsOneBlock part.graph
-    }
+    ensures { (g : Multigraph) (s : BlockStructure) (b : ℕ) (part : GraphPart) → IsBlockStructure g s → b < length s.blocks
+        → IsPart g (block_at s.blocks b) part → IsOneBlock part.graph }
 {}

@@ -38,7 +38,8 @@ fn number_along(
     requires unmet { (label : ℕ) → is_marked met.old label ≡ false }
     requires none { numbers.old.items ≡ [] }
     ensures numbering { IfOk result (λ _. IsNumbering labels.now numbers.new.items) }
-    ensures classes { IfOk result (λ classes. classes ≡ class_count (length labels.now) (same_label labels.now)) }
+    ensures classes { IfOk result (λ classes. classes ≡ class_count (length labels.now)
+        (same_label labels.now)) }
 {
     let mut classes = 0u32;
     for label in labels {
@@ -58,7 +59,8 @@ pub(crate) fn number_classes(
     requires within { (i : ℕ) → i < length labels.now → slice_index labels.now i < bound }
     requires few { length labels.now < 2 ^ 31 }
     ensures numbering { IfOk result (λ r. IsNumbering labels.now r.0.items) }
-    ensures classes { IfOk result (λ r. r.1 ≡ class_count (length labels.now) (same_label labels.now)) }
+    ensures classes { IfOk result (λ r. r.1 ≡ class_count (length labels.now)
+        (same_label labels.now)) }
 {
     let mut met = vec![in alloc; false; bound]?;
     let mut number_of = vec![in alloc; 0; bound]?;

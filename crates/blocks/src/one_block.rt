@@ -10,8 +10,10 @@ use std::alloc::{AllocError, Global};
 
 // Whether some vertex has no edges.
 fn has_lone_vertex(g: &Graph) -> bool
-    ensures lone { result ≡ true → (v : ℕ) × (v < g.now.vertex_count) × (length (incident_edges g.now v) ≡ 0) }
-    ensures none { result ≡ false → (v : ℕ) → v < g.now.vertex_count → 0 < length (incident_edges g.now v) }
+    ensures lone { result ≡ true → (v : ℕ) × (v < g.now.vertex_count)
+        × (length (incident_edges g.now v) ≡ 0) }
+    ensures none { result ≡ false → (v : ℕ) → v < g.now.vertex_count
+        → 0 < length (incident_edges g.now v) }
 {
     for v in 0..g.vertex_count() {
         if g.degree(v) == 0 {

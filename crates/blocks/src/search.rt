@@ -35,7 +35,18 @@ impl Model for Search {
 
     ghost Value = { SearchState };
 
-    ghost view = { λ s. record { visited = s.visited.items; parent = s.parent.items; depth = s.depth.items; parent_edge = s.parent_edge.items; low = s.low.items; position = s.position.items; seen = s.seen.items; lower = s.lower.items; order = s.order.items; path = s.path.items } };
+    ghost view = { λ s. record {
+      visited = s.visited.items;
+      parent = s.parent.items;
+      depth = s.depth.items;
+      parent_edge = s.parent_edge.items;
+      low = s.low.items;
+      position = s.position.items;
+      seen = s.seen.items;
+      lower = s.lower.items;
+      order = s.order.items;
+      path = s.path.items;
+    } };
 }
 
 impl Search {
@@ -127,7 +138,8 @@ impl Search {
         requires vertex_within { vertex < length self.old.low }
         requires depth_within { vertex < length self.old.depth }
         requires parent_within { vertex < length self.old.parent }
-        requires has_place { 0 < slice_index self.old.depth vertex → slice_index self.old.parent vertex < length self.old.low }
+        requires has_place { 0 < slice_index self.old.depth vertex
+            → slice_index self.old.parent vertex < length self.old.low }
         ensures { self.new ≡ left self.old vertex }
     {
         let _ = self.path.pop();
@@ -289,7 +301,8 @@ impl Search {
         requires depth_within { vertex < length self.now.depth }
         requires parent_within { vertex < length self.now.parent }
         requires low_within { vertex < length self.now.low }
-        requires grandparent_within { 0 < slice_index self.now.depth vertex → slice_index self.now.parent vertex < length self.now.depth }
+        requires grandparent_within { 0 < slice_index self.now.depth vertex
+            → slice_index self.now.parent vertex < length self.now.depth }
         ensures head { result ≡ true → IsHead self.now vertex }
         ensures other { result ≡ false → IsNoHead self.now vertex }
     {
@@ -325,8 +338,10 @@ impl Search {
 
     // The label of each vertex: itself where it has a mark, else the label of its parent.
     fn labels(&self, alloc: Global, own: &[bool]) -> Result<Vec<u32>, AllocError>
-        requires order { IsSpreadOrder (length self.now.parent) self.now.parent own.now self.now.order }
-        ensures labels { IfOk result (λ label. IsSpread self.now.parent own.now self.now.order label.items) }
+        requires order { IsSpreadOrder
+            (length self.now.parent) self.now.parent own.now self.now.order }
+        ensures labels { IfOk result
+            (λ label. IsSpread self.now.parent own.now self.now.order label.items) }
         ensures places { IfOk result (λ label. length label.items ≡ length self.now.parent) }
     {
         spread(alloc, &self.parent, own, &self.order)
@@ -334,8 +349,10 @@ impl Search {
 
     // The label of the lower end of each edge.
     fn edge_labels(&self, alloc: Global, label: &[u32]) -> Result<Vec<u32>, AllocError>
-        requires { (e : ℕ) → e < length self.now.lower → slice_index self.now.lower e < length label.now }
-        ensures { IfOk result (λ labels. labels.items ≡ map (slice_index label.now) self.now.lower) }
+        requires { (e : ℕ) → e < length self.now.lower → slice_index self.now.lower e
+            < length label.now }
+        ensures { IfOk result (λ labels. labels.items ≡ map
+            (slice_index label.now) self.now.lower) }
     {
         labels_at(alloc, &self.lower, label)
     }

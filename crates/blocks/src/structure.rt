@@ -26,7 +26,12 @@ impl Model for Blocks {
 
     ghost Value = { BlockStructure };
 
-    ghost view = { λ b. record { blocks = b.lists.items; cut_vertices = b.cut.items; component_count = b.total; components = b.components.items } };
+    ghost view = { λ b. record {
+      blocks = b.lists.items;
+      cut_vertices = b.cut.items;
+      component_count = b.total;
+      components = b.components.items;
+    } };
 
     ghost invariant = { λ b. length b.lists.items < 4294967296 };
 }

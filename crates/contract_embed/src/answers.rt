@@ -31,7 +31,8 @@ pub(crate) fn expand_runs(
 ) -> Result<Option<Vec<u32>>, AllocError>
     requires level { IsLevel level.now }
     requires steps { ArePlaneSteps (contraction level.now) next.now }
-    ensures { IfOk result (λ answer. MatchOption answer (HaveNoRuns level.now next.now) (λ wide. ArePlaneSteps level.now.graph wide.items)) }
+    ensures { IfOk result (λ answer. MatchOption answer (HaveNoRuns level.now next.now)
+        (λ wide. ArePlaneSteps level.now.graph wide.items)) }
 {
     let found = runs(alloc, level, next)?;
     let Some(ends) = found else {

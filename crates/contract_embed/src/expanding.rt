@@ -35,7 +35,8 @@ fn carry(level: &Level, next: &[u32], wide: &mut [u32], dart: u32)
 fn carry_all(alloc: Global, level: &Level, next: &[u32]) -> Result<Vec<u32>, AllocError>
     requires level { IsLevel level.now }
     requires steps { ArePlaneSteps (contraction level.now) next.now }
-    ensures { IfOk result (λ wide. CarriedBelow level.now next.now (dart_count (contraction level.now)) wide.items) }
+    ensures { IfOk result (λ wide. CarriedBelow level.now next.now
+        (dart_count (contraction level.now)) wide.items) }
 {
     let mut wide = numbers_below(alloc, faces::dart_count(&level.graph))?;
     for dart in 0..dart_count(level) {
@@ -53,7 +54,8 @@ fn join_again(level: &Level, marks: &[bool], wide: &mut [u32], dart: u32, p: u32
     requires dart { dart < dart_count level.now.graph }
     requires first { p < dart_count level.now.graph }
     requires second { q < dart_count level.now.graph }
-    ensures { IsChangedBy (dart_count level.now.graph) wide.old wide.new (joined_again level.now dart p q) }
+    ensures { IsChangedBy (dart_count level.now.graph) wide.old wide.new
+        (joined_again level.now dart p q) }
 {
     if arrives_at_mark(&level.graph, marks, level.y, dart) {
         let joining = first_dart(&level.graph, head(&level.graph, dart), level.y);
@@ -70,7 +72,8 @@ fn part(level: &Level, marks: &[bool], next: &[u32], wide: &mut [u32], first: u3
     requires first { first < dart_count (contraction level.now) }
     requires last { last < dart_count (contraction level.now) }
     requires runs { HaveRuns level.now next.now first last }
-    requires carried { CarriedBelow level.now next.now (dart_count (contraction level.now)) wide.old }
+    requires carried { CarriedBelow level.now next.now (dart_count
+        (contraction level.now)) wide.old }
     ensures { ArePlaneSteps level.now.graph wide.new }
 {
     let end = origin(level, before(level, next, first));

@@ -13,7 +13,8 @@ use std::alloc::{AllocError, Global};
 // The cyclic orders of all vertices.
 fn rounds(alloc: Global, g: &Graph, next: &[u32]) -> Result<Lists, AllocError>
     requires { ArePlaneSteps g.now next.now }
-    ensures { IfOk result (λ lists. (s : List (List ℕ)) → AreSteps g.now s next.now → AreOrdersBelow s g.now.vertex_count lists) }
+    ensures { IfOk result (λ lists. (s : List (List ℕ)) → AreSteps g.now s next.now
+        → AreOrdersBelow s g.now.vertex_count lists) }
 {
     let mut lists = Lists::new(alloc);
     for v in 0..g.vertex_count() {

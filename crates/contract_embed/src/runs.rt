@@ -86,7 +86,8 @@ fn turns_at(level: &Level, next: &[u32], from: u32, to: u32, dart: u32) -> bool
 fn turn(level: &Level, next: &[u32], from: u32, to: u32) -> Option<u32>
     requires level { IsLevel level.now }
     requires steps { ArePlaneSteps (contraction level.now) next.now }
-    ensures { MatchOption result (NoTurn level.now next.now from to) (TurnsAt level.now next.now from to) }
+    ensures { MatchOption result (NoTurn level.now next.now from to)
+        (TurnsAt level.now next.now from to) }
 {
     for dart in 0..dart_count(level) {
         if turns_at(level, next, from, to, dart) {
@@ -123,7 +124,8 @@ fn all_fit(level: &Level, marks: &[bool], next: &[u32], first: u32, last: u32) -
     requires number { length marks.now ≡ level.now.graph.vertex_count }
     requires marks { AreNeighbourMarks level.now.graph level.now.y marks.now }
     requires steps { ArePlaneSteps (contraction level.now) next.now }
-    ensures { (result ≡ true) ↔ ((d : ℕ) → d < dart_count (contraction level.now) → FitsAt level.now next.now first last d) }
+    ensures { (result ≡ true) ↔ ((d : ℕ) → d < dart_count (contraction level.now)
+        → FitsAt level.now next.now first last d) }
 {
     for dart in 0..dart_count(level) {
         if !fits_at(level, marks, next, first, last, dart) {
@@ -141,7 +143,8 @@ pub(crate) fn runs(
 ) -> Result<Option<(u32, u32)>, AllocError>
     requires level { IsLevel level.now }
     requires steps { ArePlaneSteps (contraction level.now) next.now }
-    ensures { IfOk result (λ answer. MatchOption answer (HaveNoRuns level.now next.now) (λ run. HaveRuns level.now next.now run.0 run.1)) }
+    ensures { IfOk result (λ answer. MatchOption answer (HaveNoRuns level.now next.now)
+        (λ run. HaveRuns level.now next.now run.0 run.1)) }
 {
     let Some(last) = turn(level, next, level.x, level.y) else {
         return Ok(None);

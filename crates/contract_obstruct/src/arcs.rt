@@ -60,7 +60,8 @@ pub(crate) fn arcs(
 ) -> Result<Vec<u32>, AllocError>
     requires few { length next.now ≤ max_darts }
     requires edges_in { (z : ℕ) → is_member z edges.now ≡ true → z < edge_count h.now }
-    ensures { IfOk result (λ all. all.items ≡ arcs_of next.now (map (dart_from h.now w) edges.now)) }
+    ensures { IfOk result (λ all. all.items ≡ arcs_of next.now
+        (map (dart_from h.now w) edges.now)) }
 {
     let mut all = Vec::new(alloc);
     for edge in edges {

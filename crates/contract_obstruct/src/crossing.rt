@@ -90,7 +90,8 @@ fn part(
 ) -> Result<Vec<u32>, AllocError>
     requires few { length next.now ≤ max_darts }
     requires edges_in { AreEdges h.now first sector.now.behind.items }
-    ensures { IfOk result (λ edges. edges.items ≡ part_of h.now next.now (merged_vertex level.now) first sector.now.behind.items) }
+    ensures { IfOk result (λ edges. edges.items ≡ part_of h.now next.now
+        (merged_vertex level.now) first sector.now.behind.items) }
 {
     let mut round = Vec::new(alloc);
     round.push(first)?;
@@ -114,7 +115,8 @@ pub(crate) fn side(
     requires edges_in { AreEdges h.now first sector.now.behind.items }
     requires walk { IsWalk level.now.graph from
         (side_of level.now h.now next.now first sector.now from to) }
-    ensures { IfOk result (λ path. path ≡ side_of level.now h.now next.now first sector.now from to) }
+    ensures { IfOk result
+        (λ path. path ≡ side_of level.now h.now next.now first sector.now from to) }
 {
     let round = part(alloc, level, h, next, first, sector)?;
     let edges = edges_before(alloc, &level.kept, &round)?;
@@ -170,7 +172,8 @@ fn crossing_spokes(
     level: &Level,
     round: &Quarters,
 ) -> Result<Vec<Numbers>, AllocError>
-    ensures { IfOk result (λ paths. paths.items ≡ crossing_spokes level.now round.now.a round.now.c round.now.d) }
+    ensures { IfOk result
+        (λ paths. paths.items ≡ crossing_spokes level.now round.now.a round.now.c round.now.d) }
 {
     let mut paths = Vec::new(alloc);
     push_edge(alloc, &mut paths, level.edge)?;

@@ -48,7 +48,8 @@ fn leaves_by(
 ) -> Result<bool, AllocError>
     requires one_each { length paths.now ≡ length (pattern_edges kind) }
     requires edges { LeadOverEdges level.now paths.now }
-    ensures { IfOk result (λ held. held ≡ leaves_by level.now.graph (slice_index level.now.kept.items) kind paths.now level.now.y m i) }
+    ensures { IfOk result (λ held. held ≡ leaves_by level.now.graph
+        (slice_index level.now.kept.items) kind paths.now level.now.y m i) }
 {
     let path = path_between(alloc, kind.edges(), paths, m, i)?;
     let edges = edges_before(alloc, &level.kept, &path)?;
@@ -65,8 +66,10 @@ fn spokes_apart(
 ) -> Result<(Vec<usize>, Vec<usize>), AllocError>
     requires one_each { length paths.now ≡ length (pattern_edges kind) }
     requires edges { LeadOverEdges level.now paths.now }
-    ensures on { IfOk result (λ both. both.0.items ≡ spokes_on level.now.graph (slice_index level.now.kept.items) kind paths.now level.now.y m) }
-    ensures off { IfOk result (λ both. both.1.items ≡ spokes_off level.now.graph (slice_index level.now.kept.items) kind paths.now level.now.y m) }
+    ensures on { IfOk result (λ both. both.0.items ≡ spokes_on level.now.graph
+        (slice_index level.now.kept.items) kind paths.now level.now.y m) }
+    ensures off { IfOk result (λ both. both.1.items ≡ spokes_off level.now.graph
+        (slice_index level.now.kept.items) kind paths.now level.now.y m) }
 {
     let joined = spokes(alloc, kind, m)?;
     let mut on = Vec::new(alloc);
@@ -95,7 +98,8 @@ fn lifted_path(
     requires walk { IsWalk level.now.graph (branch_at branch.now pair.0)
         (lifted_path level.now.graph level.now.edge (slice_index level.now.kept.items)
         kind paths.now branch.now pair over) }
-    ensures { IfOk result (λ path. path ≡ lifted_path level.now.graph level.now.edge (slice_index level.now.kept.items) kind paths.now branch.now pair over) }
+    ensures { IfOk result (λ path. path ≡ lifted_path level.now.graph level.now.edge
+        (slice_index level.now.kept.items) kind paths.now branch.now pair over) }
 {
     let path = path_between(alloc, kind.edges(), paths, over.0, over.1)?;
     let edges = edges_before(alloc, &level.kept, &path)?;
@@ -116,7 +120,8 @@ fn lifted_paths(
     requires lifted { IsSubdivision level.now.graph kind branch.now
         (lifted_paths level.now.graph level.now.edge (slice_index level.now.kept.items)
         kind paths.now branch.now) }
-    ensures { IfOk result (λ made. made.items ≡ lifted_paths level.now.graph level.now.edge (slice_index level.now.kept.items) kind paths.now branch.now) }
+    ensures { IfOk result (λ made. made.items ≡ lifted_paths level.now.graph level.now.edge
+        (slice_index level.now.kept.items) kind paths.now branch.now) }
 {
     let mut lifted = Vec::new(alloc);
     for pair in kind.edges() {
@@ -133,7 +138,9 @@ fn lifted_branch(
     branch: &[u32],
 ) -> Result<Vec<u32>, AllocError>
     requires { (i : ℕ) → i < length branch.now → slice_index branch.now i < max_vertices }
-    ensures { IfOk result (λ made. made.items ≡ lifted_branch (contracted_vertex level.now.x level.now.y level.now.x) foot (with_number level.now.y) branch.now) }
+    ensures { IfOk result (λ made. made.items ≡ lifted_branch
+        (contracted_vertex level.now.x level.now.y level.now.x) foot
+        (with_number level.now.y) branch.now) }
 {
     let top = contracted_vertex(level.x, level.y, level.x);
     let mut lifted = Vec::new(alloc);
@@ -185,7 +192,8 @@ fn split_branch(
     on: (usize, usize),
 ) -> Result<Vec<u32>, AllocError>
     requires { (i : ℕ) → slice_index branch.now i < max_vertices }
-    ensures { IfOk result (λ made. made.items ≡ split_branch level.now.x level.now.y (with_number level.now.y) branch.now off.0 off.1 on.0 on.1) }
+    ensures { IfOk result (λ made. made.items ≡ split_branch level.now.x level.now.y
+        (with_number level.now.y) branch.now off.0 off.1 on.0 on.1) }
 {
     let made = [
         level.x,
@@ -220,7 +228,8 @@ fn split_paths(
     requires lifted { IsSubdivision level.now.graph Pattern.K33 branch.now
         (split_paths level.now.graph level.now.edge (slice_index level.now.kept.items)
         paths.now m off.0 off.1 on.0 on.1 branch.now) }
-    ensures { IfOk result (λ made. made.items ≡ split_paths level.now.graph level.now.edge (slice_index level.now.kept.items) paths.now m off.0 off.1 on.0 on.1 branch.now) }
+    ensures { IfOk result (λ made. made.items ≡ split_paths level.now.graph level.now.edge
+        (slice_index level.now.kept.items) paths.now m off.0 off.1 on.0 on.1 branch.now) }
 {
     let mut made = Vec::new(alloc);
     for pair in Pattern::K33.edges() {
@@ -266,7 +275,8 @@ fn lift_branch(
     requires level { IsLevel level.now }
     requires of { IsSubdivision (contraction level.now) s.now.kind s.now.branch s.now.paths }
     requires place { m < branch_count s.now.kind }
-    requires merged { branch_at s.now.branch m ≡ contracted_vertex level.now.x level.now.y level.now.x }
+    requires merged { branch_at s.now.branch m
+        ≡ contracted_vertex level.now.x level.now.y level.now.x }
     ensures { IfOk result (λ r. IsSubdivision level.now.graph r.kind r.branch r.paths) }
 {
     let (on, off) = spokes_apart(alloc, level, s.kind, s.paths.as_slice(), m)?;
@@ -281,7 +291,8 @@ fn lift_branch(
 
 // The place of a number in a list.
 fn place_of(list: &[u32], number: u32) -> Option<usize>
-    ensures { MatchOption result (is_member number list.now ≡ false) (λ m. (m < length list.now) × (slice_index list.now m ≡ number)) }
+    ensures { MatchOption result (is_member number list.now ≡ false) (λ m. (m < length list.now)
+        × (slice_index list.now m ≡ number)) }
 {
     for (place, member) in list.iter().enumerate() {
         if *member == number {

@@ -64,7 +64,8 @@ fn is_near(level: &Level, marks: &[bool], i: u32) -> bool
 fn place_from_x(level: &Level, order: &[u32], from: usize, to: usize) -> Option<usize>
     requires within { to ≤ length order.now }
     requires edges { StandForEdges level.now order.now }
-    ensures { MatchOption result (NoneFromX level.now order.now from to) (IsPlaceFromX level.now order.now from to) }
+    ensures { MatchOption result (NoneFromX level.now order.now from to)
+        (IsPlaceFromX level.now order.now from to) }
 {
     for place in from..to {
         if is_from_x(level, order[place]) {
@@ -79,7 +80,8 @@ fn common_place(level: &Level, marks: &[bool], order: &[u32], from: usize) -> Op
     requires number { length marks.now ≡ level.now.graph.vertex_count }
     requires marks { AreNeighbourMarks level.now.graph level.now.y marks.now }
     requires edges { StandForEdges level.now order.now }
-    ensures { MatchOption result (NoneCommon level.now order.now from) (IsFirstCommon level.now order.now from) }
+    ensures { MatchOption result (NoneCommon level.now order.now from)
+        (IsFirstCommon level.now order.now from) }
 {
     for place in from..order.len() {
         if is_common(level, marks, order[place]) {
@@ -95,7 +97,8 @@ fn triple_places(level: &Level, marks: &[bool], order: &[u32]) -> Option<(usize,
     requires marks { AreNeighbourMarks level.now.graph level.now.y marks.now }
     requires edges { StandForEdges level.now order.now }
     requires filled { 0 < length order.now }
-    ensures { MatchOption result ((i j : ℕ) → IsTripleAt level.now order.now i j → ⊥) (λ p. IsTripleAt level.now order.now p.0 p.1) }
+    ensures { MatchOption result ((i j : ℕ) → IsTripleAt level.now order.now i j
+        → ⊥) (λ p. IsTripleAt level.now order.now p.0 p.1) }
 {
     if !is_common(level, marks, order[0]) {
         return None;
@@ -113,7 +116,8 @@ fn triple_places(level: &Level, marks: &[bool], order: &[u32]) -> Option<(usize,
 fn places_round(level: &Level, order: &[u32], j: usize) -> Option<(usize, usize)>
     requires within { j < length order.now }
     requires edges { StandForEdges level.now order.now }
-    ensures { MatchOption result (NoneRound level.now order.now j) (AreRound level.now order.now j) }
+    ensures { MatchOption result (NoneRound level.now order.now j)
+        (AreRound level.now order.now j) }
 {
     let Some(i) = place_from_x(level, order, 1, j) else {
         return None;
@@ -130,7 +134,8 @@ fn crossing_places(level: &Level, marks: &[bool], order: &[u32]) -> Option<(usiz
     requires marks { AreNeighbourMarks level.now.graph level.now.y marks.now }
     requires edges { StandForEdges level.now order.now }
     requires filled { 0 < length order.now }
-    ensures { MatchOption result ((i j k : ℕ) → IsCrossingAt level.now order.now i j k → ⊥) (λ p. IsCrossingAt level.now order.now p.0 p.1 p.2) }
+    ensures { MatchOption result ((i j k : ℕ) → IsCrossingAt level.now order.now i j k
+        → ⊥) (λ p. IsCrossingAt level.now order.now p.0 p.1 p.2) }
 {
     if is_from_x(level, order[0]) {
         return None;
@@ -162,7 +167,8 @@ fn obstruction_at_start(
     requires marks { AreNeighbourMarks level.now.graph level.now.y marks.now }
     requires edges { StandForEdges level.now order.now }
     requires filled { 0 < length order.now }
-    ensures { IfOk result (λ answer. MatchOption answer (ShowsNothing level.now order.now) (λ r. IsSubdivision level.now.graph r.kind r.branch r.paths)) }
+    ensures { IfOk result (λ answer. MatchOption answer (ShowsNothing level.now order.now)
+        (λ r. IsSubdivision level.now.graph r.kind r.branch r.paths)) }
 {
     if let Some(places) = triple_places(level, marks, order) {
         let s = triple_at(alloc, level, h, next, order, places)?;

@@ -28,7 +28,8 @@ fn turns(alloc: Global, next: &[u32], start: u32, many: u32) -> Result<Vec<u32>,
 pub fn round(alloc: Global, g: &Graph, next: &[u32], v: u32) -> Result<Vec<u32>, AllocError>
     requires steps { ArePlaneSteps g.now next.now }
     requires vertex { v < g.now.vertex_count }
-    ensures { IfOk result (λ edges. (s : List (List ℕ)) → AreSteps g.now s next.now → edges.items ≡ order_at s v) }
+    ensures { IfOk result (λ edges. (s : List (List ℕ)) → AreSteps g.now s next.now
+        → edges.items ≡ order_at s v) }
 {
     let incident = g.incident(v);
     if incident.is_empty() {

@@ -47,10 +47,14 @@ pub(crate) fn crossing_at(
     requires rise { places.0 < places.1 }
     requires rise_on { places.1 < places.2 }
     requires within { places.2 < length order.now }
-    requires first { is_end level.now.graph level.now.x (edge_before level.now (slice_index order.now places.0)) ≡ true }
-    requires second { leads_near level.now.graph level.now.x level.now.y (edge_before level.now) (slice_index order.now places.1) ≡ true }
-    requires third { is_end level.now.graph level.now.x (edge_before level.now (slice_index order.now places.2)) ≡ true }
-    requires fourth { is_end level.now.graph level.now.x (edge_before level.now (slice_index order.now 0)) ≡ false }
+    requires first { is_end level.now.graph level.now.x (edge_before level.now
+        (slice_index order.now places.0)) ≡ true }
+    requires second { leads_near level.now.graph level.now.x level.now.y (edge_before level.now)
+        (slice_index order.now places.1) ≡ true }
+    requires third { is_end level.now.graph level.now.x (edge_before level.now
+        (slice_index order.now places.2)) ≡ true }
+    requires fourth { is_end level.now.graph level.now.x (edge_before level.now
+        (slice_index order.now 0)) ≡ false }
     ensures { IfOk result (λ r. IsSubdivision level.now.graph r.kind r.branch r.paths) }
 {
     let d = sector(alloc, order, 0, places.0)?;

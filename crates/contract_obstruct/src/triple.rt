@@ -48,7 +48,9 @@ fn triple_spokes(
     round: &Thirds,
     to: (u32, u32, u32),
 ) -> Result<Vec<Numbers>, AllocError>
-    ensures { IfOk result (λ paths. paths.items ≡ triple_spokes level.now round.now.a round.now.b round.now.c to.0 to.1 to.2) }
+    ensures { IfOk result
+        (λ paths. paths.items
+        ≡ triple_spokes level.now round.now.a round.now.b round.now.c to.0 to.1 to.2) }
 {
     let mut paths = Vec::new(alloc);
     push_edge(alloc, &mut paths, level.edge)?;

@@ -11,7 +11,8 @@ use std::alloc::{AllocError, Global};
 
 // Whether z is x or y, or the other vertices stay connected without the three.
 fn is_passed(alloc: Global, g: &Graph, x: u32, y: u32, z: u32) -> Result<bool, AllocError>
-    ensures { IfOk result (λ held. (held ≡ true) ↔ (z ≢ x → z ≢ y → IsConnectedWithout g.now (x ∷ y ∷ z ∷ []))) }
+    ensures { IfOk result (λ held. (held ≡ true) ↔ (z ≢ x → z ≢ y
+        → IsConnectedWithout g.now (x ∷ y ∷ z ∷ []))) }
 {
     if z == x || z == y {
         return Ok(true);

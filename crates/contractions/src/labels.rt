@@ -19,7 +19,8 @@ fn is_removed(x: u32, y: u32, z: u32, vertex: u32) -> bool
 
 // Labels of the vertices, equal just where they stay connected when the three are removed.
 fn labels_without(alloc: Global, g: &Graph, x: u32, y: u32, z: u32) -> Result<Vec<u32>, AllocError>
-    ensures labelling { IfOk result (λ labels. IsLabelling g.now.ends (x ∷ y ∷ z ∷ []) (label_at labels.items)) }
+    ensures labelling { IfOk result (λ labels. IsLabelling g.now.ends (x ∷ y ∷ z ∷ [])
+        (label_at labels.items)) }
     ensures number { IfOk result (λ labels. length labels.items ≡ g.now.vertex_count) }
 {
     let mut labels = own_labels(alloc, g.vertex_count())?;

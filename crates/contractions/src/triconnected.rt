@@ -49,8 +49,10 @@ fn is_simple(g: &Graph) -> bool
 
 // Whether the graph stays connected without vertex a and any other one.
 fn stays_connected(alloc: Global, g: &Graph, a: u32) -> Result<bool, AllocError>
-    ensures stays { IfOk result (λ held. held ≡ true → (b : ℕ) → b < g.now.vertex_count + 1 → IsConnectedWithout g.now (a ∷ b ∷ b ∷ [])) }
-    ensures exact { IfOk result (λ held. ((b : ℕ) → IsConnectedWithout g.now (a ∷ b ∷ b ∷ [])) → held ≡ true) }
+    ensures stays { IfOk result (λ held. held ≡ true → (b : ℕ) → b < g.now.vertex_count + 1
+        → IsConnectedWithout g.now (a ∷ b ∷ b ∷ [])) }
+    ensures exact { IfOk result (λ held. ((b : ℕ) → IsConnectedWithout g.now (a ∷ b ∷ b ∷ []))
+        → held ≡ true) }
 {
     for b in 0..g.vertex_count() + 1 {
         if !is_connected_without(alloc, g, a, b, b)? {

@@ -18,7 +18,8 @@ fn move_of(
 ) -> Result<Option<Move>, AllocError>
     requires tree { q.now.tree ≡ p.now.tree }
     requires node { k < length p.now.tree }
-    ensures { IfOk result (λ found. as_moves (option_to_list found) ≡ move_at p.now.tree p.now.rotation q.now.rotation k) }
+    ensures { IfOk result (λ found. as_moves (option_to_list found)
+        ≡ move_at p.now.tree p.now.rotation q.now.rotation k) }
 {
     if p.keys(k) == q.keys(k) {
         return Ok(None);
@@ -47,8 +48,10 @@ fn add(list: &mut Vec<Move>, found: Option<Move>) -> Result<(), AllocError>
 pub fn moves(alloc: Global, p: &PlaneBlock, q: &PlaneBlock) -> Result<Vec<Move>, AllocError>
     requires graph { q.now.graph ≡ p.now.graph }
     requires tree { q.now.tree ≡ p.now.tree }
-    ensures moves { IfOk result (λ list. as_moves list.items ≡ moves_between p.now.tree p.now.rotation q.now.rotation) }
-    ensures lead { IfOk result (λ list. Lead p.now.graph p.now.tree (IsPlaneSystem p.now.graph) (as_moves list.items) p.now.rotation q.now.rotation) }
+    ensures moves { IfOk result (λ list. as_moves list.items
+        ≡ moves_between p.now.tree p.now.rotation q.now.rotation) }
+    ensures lead { IfOk result (λ list. Lead p.now.graph p.now.tree (IsPlaneSystem p.now.graph)
+        (as_moves list.items) p.now.rotation q.now.rotation) }
 {
     let _here = p.tree();
     let _there = q.tree();

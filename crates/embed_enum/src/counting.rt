@@ -34,7 +34,8 @@ pub(crate) fn times_orders(n: u128, items: usize) -> Option<u128>
 pub(crate) fn times_choices(p: &PlaneBlock, k: u32, n: u128) -> Option<u128>
     requires node { k < length p.now.tree }
     requires positive { 0 < n }
-    ensures { SomeIff result (n * radix_at p.now.tree (lock_at p.now.locks) k < 2 ^ 128) (n * radix_at p.now.tree (lock_at p.now.locks) k) }
+    ensures { SomeIff result (n * radix_at p.now.tree (lock_at p.now.locks) k < 2 ^ 128)
+        (n * radix_at p.now.tree (lock_at p.now.locks) k) }
 {
     if p.locked(k) {
         return Some(n);
@@ -48,7 +49,8 @@ pub(crate) fn times_choices(p: &PlaneBlock, k: u32, n: u128) -> Option<u128>
 
 // The number of members, where it is below 2^128.
 pub(crate) fn members(p: &PlaneBlock) -> Option<u128>
-    ensures { SomeIff result (list_count p.now.tree (lock_at p.now.locks) < 2 ^ 128) (list_count p.now.tree (lock_at p.now.locks)) }
+    ensures { SomeIff result (list_count p.now.tree (lock_at p.now.locks) < 2 ^ 128)
+        (list_count p.now.tree (lock_at p.now.locks)) }
 {
     let mut product: u128 = 1;
     for k in 0..p.tree().node_count() {
@@ -63,8 +65,10 @@ pub(crate) fn members(p: &PlaneBlock) -> Option<u128>
 /// The length of the list of the plane rotation systems with the present choices at the locked nodes: (n - 1)! for each bond
 /// of n items, and 2 for each triconnected node, that is not locked. `CountOver` exactly where there are 2^128 or more.
 pub fn count(p: &PlaneBlock) -> Result<u128, CountOver>
-    ensures counted { (l : List (List (List ℕ))) → IsMemberList p.now l → IfOk result (λ n. n ≡ length l) }
-    ensures over { (l : List (List (List ℕ))) → IsMemberList p.now l → OnErr result (2 ^ 128 ≤ length l) }
+    ensures counted { (l : List (List (List ℕ))) → IsMemberList p.now l
+        → IfOk result (λ n. n ≡ length l) }
+    ensures over { (l : List (List (List ℕ))) → IsMemberList p.now l
+        → OnErr result (2 ^ 128 ≤ length l) }
 {
     let _state = p.tree();
     match members(p) {

@@ -12,7 +12,8 @@ use std::alloc::{AllocError, Global};
 /// The first `n` members of the list that follow the present one, or all where they are fewer. A copy of the block walks; the
 /// block stays. Fails for want of memory alone.
 pub fn members_after(alloc: Global, p: &PlaneBlock, n: u32) -> Result<Vec<Rotation>, AllocError>
-    ensures { (l : List (List (List ℕ))) (i : ℕ) → IsMemberList p.now l → IsRank l p.now.rotation i → IfOk result (λ members. members.items ≡ take n (drop (i + 1) l)) }
+    ensures { (l : List (List (List ℕ))) (i : ℕ) → IsMemberList p.now l → IsRank l p.now.rotation i
+        → IfOk result (λ members. members.items ≡ take n (drop (i + 1) l)) }
 {
     let mut walker = p.copy(alloc)?;
     let mut found = Vec::new(alloc);

@@ -78,7 +78,8 @@ fn digit(p: &PlaneBlock, k: u32) -> u128
 // The number whose digits are the places of the present choices, the first node most significant.
 fn number(p: &PlaneBlock) -> u128
     requires { list_count p.now.tree (lock_at p.now.locks) < 2 ^ 128 }
-    ensures { result ≡ number_to (length p.now.tree) (radix_at p.now.tree (lock_at p.now.locks)) (digit_at p.now.tree (lock_at p.now.locks) p.now.rotation) }
+    ensures { result ≡ number_to (length p.now.tree) (radix_at p.now.tree (lock_at p.now.locks))
+        (digit_at p.now.tree (lock_at p.now.locks) p.now.rotation) }
 {
     let mut number: u128 = 0;
     for k in 0..p.tree().node_count() {
@@ -90,9 +91,12 @@ fn number(p: &PlaneBlock) -> u128
 /// The rank of the present rotation system in the list of the plane rotation systems with the present choices at the locked
 /// nodes, from 0. `CountOver` exactly where the list has 2^128 members or more.
 pub fn rank(p: &PlaneBlock) -> Result<u128, CountOver>
-    ensures ranked { (l : List (List (List ℕ))) → IsMemberList p.now l → IfOk result (λ i. IsRank l p.now.rotation i) }
-    ensures within { (l : List (List (List ℕ))) → IsMemberList p.now l → OnOk result (length l < 2 ^ 128) }
-    ensures over { (l : List (List (List ℕ))) → IsMemberList p.now l → OnErr result (2 ^ 128 ≤ length l) }
+    ensures ranked { (l : List (List (List ℕ))) → IsMemberList p.now l
+        → IfOk result (λ i. IsRank l p.now.rotation i) }
+    ensures within { (l : List (List (List ℕ))) → IsMemberList p.now l
+        → OnOk result (length l < 2 ^ 128) }
+    ensures over { (l : List (List (List ℕ))) → IsMemberList p.now l
+        → OnErr result (2 ^ 128 ≤ length l) }
 {
     let _state = p.tree();
     match members(p) {

@@ -29,8 +29,11 @@ fn set_rigid(p: &mut PlaneBlock, k: u32, first: bool)
 // Goes from the first choice of triconnected node k to the second; or answers false and changes nothing.
 fn step_rigid(p: &mut PlaneBlock, k: u32) -> bool
     requires { IsNodeOfKind p.old.tree k R }
-    ensures last { result ≡ false → (p.new ≡ p.old) × (rigid_digit (choice p.old.tree p.old.rotation k) ≡ 1) }
-    ensures next { result ≡ true → KeepsOthers p.old p.new k × (rigid_digit (choice p.old.tree p.new.rotation k) ≡ rigid_digit (choice p.old.tree p.old.rotation k) + 1) }
+    ensures last { result ≡ false → (p.new ≡ p.old) × (rigid_digit
+        (choice p.old.tree p.old.rotation k) ≡ 1) }
+    ensures next { result ≡ true → KeepsOthers p.old p.new k
+        × (rigid_digit (choice p.old.tree p.new.rotation k)
+        ≡ rigid_digit (choice p.old.tree p.old.rotation k) + 1) }
 {
     let _state = p.tree();
     if !is_before_mirror(p.keys(k)) {
@@ -56,7 +59,8 @@ pub(crate) fn to_first(p: &mut PlaneBlock, k: u32)
 // Leads node k to its next choice; or answers false and changes nothing, where it is at the last.
 pub(crate) fn step(p: &mut PlaneBlock, k: u32) -> bool
     requires { k < length p.old.tree }
-    ensures last { result ≡ false → (p.new ≡ p.old) × (node_digit p.old k + 1 ≡ choice_count (node_at p.old.tree k).kind (length (node_at p.old.tree k).items)) }
+    ensures last { result ≡ false → (p.new ≡ p.old) × (node_digit p.old k + 1
+        ≡ choice_count (node_at p.old.tree k).kind (length (node_at p.old.tree k).items)) }
     ensures next { result ≡ true → IsMoved p.old p.new k (node_digit p.old k + 1) }
 {
     let _state = p.tree();
@@ -70,7 +74,8 @@ pub(crate) fn step(p: &mut PlaneBlock, k: u32) -> bool
 // Leads node k to the choice at this place among so many.
 pub(crate) fn to_digit(p: &mut PlaneBlock, k: u32, digit: u128, choices: u128)
     requires node { k < length p.old.tree }
-    requires choices { choices ≡ choice_count (node_at p.old.tree k).kind (length (node_at p.old.tree k).items) }
+    requires choices { choices ≡ choice_count (node_at p.old.tree k).kind
+        (length (node_at p.old.tree k).items) }
     requires below { digit < choices }
     ensures { IsMoved p.old p.new k digit }
 {

@@ -61,8 +61,10 @@ pub fn first(p: &mut PlaneBlock)
 // Leads node k to its next choice; or answers false and changes nothing, where it is locked or at the last.
 fn step_open(p: &mut PlaneBlock, k: u32) -> bool
     requires { k < length p.old.tree }
-    ensures last { result ≡ false → (p.new ≡ p.old) × (digit_at p.old.tree (lock_at p.old.locks) p.old.rotation k + 1 ≡ radix_at p.old.tree (lock_at p.old.locks) k) }
-    ensures next { result ≡ true → (lock_at p.old.locks k ≡ false) × IsMoved p.old p.new k (node_digit p.old k + 1) }
+    ensures last { result ≡ false → (p.new ≡ p.old) × (digit_at p.old.tree
+        (lock_at p.old.locks) p.old.rotation k + 1 ≡ radix_at p.old.tree (lock_at p.old.locks) k) }
+    ensures next { result ≡ true → (lock_at p.old.locks k ≡ false)
+        × IsMoved p.old p.new k (node_digit p.old k + 1) }
 {
     if p.locked(k) {
         return false;
@@ -74,8 +76,10 @@ fn step_open(p: &mut PlaneBlock, k: u32) -> bool
 /// one is the last. Looks from the last node up, so that a walk through all members touches the first nodes seldom. Takes no
 /// memory.
 pub fn next(p: &mut PlaneBlock) -> bool
-    ensures next { (l : List (List (List ℕ))) (i : ℕ) → IsMemberList p.old l → IsRank l p.old.rotation i → result ≡ true → IsRank l p.new.rotation (i + 1) }
-    ensures last { (l : List (List (List ℕ))) (i : ℕ) → IsMemberList p.old l → IsRank l p.old.rotation i → result ≡ false → i + 1 ≡ length l }
+    ensures next { (l : List (List (List ℕ))) (i : ℕ) → IsMemberList p.old l
+        → IsRank l p.old.rotation i → result ≡ true → IsRank l p.new.rotation (i + 1) }
+    ensures last { (l : List (List (List ℕ))) (i : ℕ) → IsMemberList p.old l
+        → IsRank l p.old.rotation i → result ≡ false → i + 1 ≡ length l }
     ensures as_before { result ≡ false → p.new ≡ p.old }
     ensures list { (l : List (List (List ℕ))) → IsMemberList p.old l → IsMemberList p.new l }
     ensures rest { KeepsRest p.old p.new }
@@ -99,7 +103,8 @@ fn set_digit(p: &mut PlaneBlock, k: u32, number: u128) -> u128
     requires fits { radix_at p.old.tree (lock_at p.old.locks) k < 2 ^ 128 }
     ensures others { KeepsOthers p.old p.new k }
     ensures locked { lock_at p.old.locks k ≡ true → p.new ≡ p.old }
-    ensures digit { digit_at p.old.tree (lock_at p.old.locks) p.new.rotation k ≡ number % radix_at p.old.tree (lock_at p.old.locks) k }
+    ensures digit { digit_at p.old.tree (lock_at p.old.locks) p.new.rotation k
+        ≡ number % radix_at p.old.tree (lock_at p.old.locks) k }
     ensures quotient { result ≡ number / radix_at p.old.tree (lock_at p.old.locks) k }
 {
     if p.locked(k) {
@@ -129,9 +134,12 @@ fn set_digits(p: &mut PlaneBlock, number: u128)
 /// Goes to the member of the list that has this rank, from 0. Refuses a rank that the list does not have, and any rank exactly
 /// where the list has 2^128 members or more; then nothing changes. Takes no memory.
 pub fn goto(p: &mut PlaneBlock, rank: u128) -> Result<(), GotoFault>
-    ensures gone { (l : List (List (List ℕ))) → IsMemberList p.old l → OnOk result (IsRank l p.new.rotation rank) }
-    ensures within { (l : List (List (List ℕ))) → IsMemberList p.old l → OnOk result (length l < 2 ^ 128) }
-    ensures refused { (l : List (List (List ℕ))) → IsMemberList p.old l → IfErr result (IsGotoRefusal l rank) }
+    ensures gone { (l : List (List (List ℕ))) → IsMemberList p.old l
+        → OnOk result (IsRank l p.new.rotation rank) }
+    ensures within { (l : List (List (List ℕ))) → IsMemberList p.old l
+        → OnOk result (length l < 2 ^ 128) }
+    ensures refused { (l : List (List (List ℕ))) → IsMemberList p.old l
+        → IfErr result (IsGotoRefusal l rank) }
     ensures as_before { OnErr result (p.new ≡ p.old) }
     ensures list { (l : List (List (List ℕ))) → IsMemberList p.old l → IsMemberList p.new l }
     ensures rest { KeepsRest p.old p.new }

@@ -110,7 +110,8 @@ pub fn permute(p: &mut PlaneBlock, k: u32, keys: &[u32]) -> Result<(), PermuteFa
     requires { k < length p.old.tree }
     ensures made { IfOk result (λ _. IsMade (permute k keys.now) p.old p.new) }
     ensures unlocked { IfOk result (λ _. lock_at p.old.locks k ≡ false) }
-    ensures refused { IfErr result (λ fault. IsPermuteRefusal p.old k keys.now fault × (p.new ≡ p.old)) }
+    ensures refused { IfErr result (λ fault. IsPermuteRefusal p.old k keys.now fault
+        × (p.new ≡ p.old)) }
 {
     if p.tree().kind(k) != Kind::P {
         return Err(PermuteFault::WrongKind);

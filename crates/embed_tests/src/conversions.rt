@@ -1,8 +1,8 @@
 // Moves between plane rotation systems of small blocks, worked out by hand.
 
-use embed_convert::moves;
 use blocks::is_one_block;
 use contract_embed::ContractEmbedder;
+use embed_convert::moves;
 use embed_enum::goto;
 use multigraph::Graph;
 use pair_split::{PairSplitter, Splitter};

@@ -1,7 +1,7 @@
 // A history of three locks, gone through by hand.
 
-use undo_log::{Step, UndoLog};
 use std::test::Fail;
+use undo_log::{Step, UndoLog};
 
 // The step of a lock set on this node.
 fn lock(node: u32) -> Step {

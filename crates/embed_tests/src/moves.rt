@@ -1,8 +1,8 @@
 // Moves of small blocks, worked out by hand.
 
-use embed_moves::{PermuteFault, back, carry_out, flip, mirror, permute};
 use blocks::is_one_block;
 use contract_embed::ContractEmbedder;
+use embed_moves::{PermuteFault, back, carry_out, flip, mirror, permute};
 use multigraph::Graph;
 use pair_split::{Kind, PairSplitter, Splitter};
 use skel_embed::{Keys, Move, Outcome, PlaneBlock, plane_block};

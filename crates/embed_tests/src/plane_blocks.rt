@@ -2,13 +2,13 @@
 
 ghost use Rattle.std.specs.Prelude.{◌≡◌, IfOk};
 
-use skel_embed::{BySkeletons, Outcome, PlaneBlock, TakeFault, embed_by_skeletons, plane_block};
 use blocks::is_one_block;
 use contract_embed::ContractEmbedder;
 use kuratowski::Subdivision;
 use multigraph::{Graph, Numbers, Part};
 use pair_split::{Kind, PairSplitter, Splitter};
 use rotations::Lists;
+use skel_embed::{BySkeletons, Outcome, PlaneBlock, TakeFault, embed_by_skeletons, plane_block};
 use spqr_tree::Tree;
 use std::alloc::Global;
 use std::test::Fail;

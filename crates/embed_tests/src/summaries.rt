@@ -2,8 +2,8 @@
 ghost use Rattle.std.specs.Prelude.{◌≤◌};
 ghost use Rattle.made_graph.specs.Made.{max_asked};
 
-use made_summary::summary;
 use contract_embed::ContractEmbedder;
+use made_summary::summary;
 use pair_split::PairSplitter;
 use quick_embed::QuickEmbedder;
 use std::alloc::{AllocError, Global};

@@ -1,8 +1,8 @@
 // Lists of small blocks, worked out by hand.
 
-use embed_enum::{CountOver, GotoFault, count, first, goto, members_after, next, rank};
 use blocks::is_one_block;
 use contract_embed::ContractEmbedder;
+use embed_enum::{CountOver, GotoFault, count, first, goto, members_after, next, rank};
 use multigraph::Graph;
 use pair_split::{Kind, PairSplitter, Splitter};
 use skel_embed::{BySkeletons, PlaneBlock, embed_by_skeletons};

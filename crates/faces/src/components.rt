@@ -19,7 +19,9 @@ fn visit(
 ) -> Result<(), AllocError>
     requires vertex_in { vertex < graph.now.vertex_count }
     requires same_length { length marks.old ≡ graph.now.vertex_count }
-    ensures { IfOk result (λ _. LooksAlong graph.now vertex (length (incident_edges graph.now vertex)) marks.old stack.old.items marks.new stack.new.items) }
+    ensures { IfOk result (λ _. LooksAlong graph.now vertex
+        (length
+        (incident_edges graph.now vertex)) marks.old stack.old.items marks.new stack.new.items) }
 {
     for edge in graph.incident(vertex) {
         let neighbour = graph.other_end(*edge, vertex);
@@ -41,9 +43,12 @@ fn mark_component(
     requires graph { IsGraph graph.now }
     requires start_in { start < graph.now.vertex_count }
     requires same_length { length marks.old ≡ graph.now.vertex_count }
-    requires whole_components { (e : ℕ) → e < edge_count graph.now → is_marked marks.old (ends_of graph.now e).0 ≡ is_marked marks.old (ends_of graph.now e).1 }
+    requires whole_components { (e : ℕ) → e < edge_count graph.now
+        → is_marked marks.old (ends_of graph.now e).0
+        ≡ is_marked marks.old (ends_of graph.now e).1 }
     requires unmarked { is_marked marks.old start ≡ false }
-    ensures { IfOk result (λ _. (x : ℕ) → is_marked marks.new x ≡ (is_marked marks.old x || connected graph.now.ends start x)) }
+    ensures { IfOk result (λ _. (x : ℕ) → is_marked marks.new x
+        ≡ (is_marked marks.old x || connected graph.now.ends start x)) }
 {
     stack.clear();
     marks[start as usize] = true;

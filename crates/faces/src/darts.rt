@@ -82,7 +82,8 @@ pub(crate) fn darts_in_order(alloc: Global, graph: &Graph) -> Result<Vec<u32>, A
 // Puts the darts that leave `vertex` behind those so far, in order of their edges.
 fn push_darts(graph: &Graph, vertex: u32, darts: &mut Vec<u32>) -> Result<(), AllocError>
     requires { vertex < graph.now.vertex_count }
-    ensures { IfOk result (λ _. darts.new.items ≡ darts.old.items ++ map (dart_from graph.now vertex) (incident_edges graph.now vertex)) }
+    ensures { IfOk result (λ _. darts.new.items ≡ darts.old.items
+        ++ map (dart_from graph.now vertex) (incident_edges graph.now vertex)) }
 {
     for edge in graph.incident(vertex) {
         darts.push(dart_from(graph, vertex, *edge))?;

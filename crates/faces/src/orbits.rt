@@ -40,7 +40,8 @@ fn count_starts(images: &[u32], marks: &mut [bool]) -> u32
     requires few { length images.now < 2 ^ 32 }
     requires same_length { length marks.old ≡ length images.now }
     requires unmarked { (x : ℕ) → is_marked marks.old x ≡ false }
-    ensures { result ≡ count (length images.now) (begins_orbit (length images.now) (slice_index images.now)) }
+    ensures { result ≡ count (length images.now) (begins_orbit (length images.now)
+        (slice_index images.now)) }
 {
     let mut orbits = 0u32;
     for start in 0..images.len() {
@@ -56,7 +57,8 @@ fn count_starts(images: &[u32], marks: &mut [bool]) -> u32
 pub(crate) fn count_orbits(alloc: Global, images: &[u32]) -> Result<u32, AllocError>
     requires permutation { IsPermutationBelow (length images.now) (slice_index images.now) }
     requires few { length images.now < 2 ^ 32 }
-    ensures { IfOk result (λ orbits. orbits ≡ count (length images.now) (begins_orbit (length images.now) (slice_index images.now))) }
+    ensures { IfOk result (λ orbits. orbits ≡ count (length images.now)
+        (begins_orbit (length images.now) (slice_index images.now))) }
 {
     let mut marks = vec![in alloc; false; images.len()]?;
     Ok(count_starts(images, &mut marks))

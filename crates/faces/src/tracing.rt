@@ -27,10 +27,13 @@ fn walk_orbit(
     requires darts { length images.now ≡ dart_count graph.now }
     requires same_length { length marks.old ≡ dart_count graph.now }
     requires start_in { start < dart_count graph.now }
-    requires whole_orbits { AreWholeOrbits (dart_count graph.now) (slice_index images.now) marks.old }
+    requires whole_orbits { AreWholeOrbits (dart_count graph.now)
+        (slice_index images.now) marks.old }
     requires unmarked { is_marked marks.old start ≡ false }
-    ensures marked { IfOk result (λ _. AddsOrbit (dart_count graph.now) (slice_index images.now) start marks.old marks.new) }
-    ensures listed { IfOk result (λ face. face ≡ orbit_pairs graph.now (slice_index images.now) start) }
+    ensures marked { IfOk result (λ _. AddsOrbit (dart_count graph.now)
+        (slice_index images.now) start marks.old marks.new) }
+    ensures listed { IfOk result (λ face. face ≡ orbit_pairs graph.now
+        (slice_index images.now) start) }
 {
     let mut pairs = Vec::new(alloc);
     let mut place = start;

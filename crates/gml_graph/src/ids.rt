@@ -26,7 +26,8 @@ impl Model for Ids {
 
     ghost view = { λ ids. ids.held.keys };
 
-    ghost invariant = { λ ids. (length ids.held.keys ≤ max_vertices) × IsDistinct int_eq ids.held.keys };
+    ghost invariant = { λ ids. (length ids.held.keys ≤ max_vertices)
+        × IsDistinct int_eq ids.held.keys };
 }
 
 impl Ids {
@@ -46,7 +47,8 @@ impl Ids {
     pub fn add(&mut self, id: i64) -> Result<bool, AllocError>
         requires { length self.old < max_vertices }
         ensures new { IfOk result (λ new. new ≡ not (list_any (int_eq id) self.old)) }
-        ensures added { IfOk result (λ new. self.new ≡ (if new then self.old ++ id ∷ [] else self.old)) }
+        ensures added { IfOk result (λ new. self.new ≡ (if new then self.old ++ id ∷ []
+            else self.old)) }
         ensures kept { OnErr result (self.new ≡ self.old) }
     {
         match self.held.insert(id) {

@@ -14,7 +14,8 @@ pub(crate) fn lists_under<'a>(
     pairs: &'a [Pair],
     key: &[u8],
 ) -> Result<Vec<&'a Pairs>, AllocError>
-    ensures { IfOk result (λ found. map (λ list. list.now) found.items ≡ lists_under key.now (document_of pairs.now)) }
+    ensures { IfOk result (λ found. map (λ list. list.now) found.items
+        ≡ lists_under key.now (document_of pairs.now)) }
 {
     let mut found = Vec::new(alloc);
     for pair in pairs {

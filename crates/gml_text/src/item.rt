@@ -23,7 +23,8 @@ pub(crate) enum Item<'a> {
 
 // What stands behind this byte, or None where the bytes don't begin with it.
 fn behind_byte(byte: u8, bytes: &[u8]) -> Option<&[u8]>
-    ensures rest { MatchOption result ((rest : List ℕ) → bytes.now ≡ byte ∷ rest → ⊥) (λ rest. bytes.now ≡ byte ∷ rest.now) }
+    ensures rest { MatchOption result ((rest : List ℕ) → bytes.now ≡ byte ∷ rest
+        → ⊥) (λ rest. bytes.now ≡ byte ∷ rest.now) }
     ensures shorter { IfSome result (λ rest. length rest.now < length bytes.now) }
 {
     if bytes.is_empty() || bytes[0] != byte {
@@ -35,7 +36,8 @@ fn behind_byte(byte: u8, bytes: &[u8]) -> Option<&[u8]>
 
 // The beginning of a value behind a gap, and what stands behind it; an Err is how many bytes are left where no value goes on.
 fn next_value(bytes: &[u8]) -> Result<(Found<'_>, &[u8]), usize>
-    ensures found { MatchResult result (λ found. FoundStands found.0 bytes.now found.1.now) (λ left. ValueBreaks bytes.now left) }
+    ensures found { MatchResult result (λ found. FoundStands found.0 bytes.now found.1.now)
+        (λ left. ValueBreaks bytes.now left) }
     ensures shorter { IfOk result (λ found. length found.1.now ≤ length bytes.now) }
     ensures within { IfErr result (λ left. left ≤ length bytes.now) }
 {
@@ -60,7 +62,8 @@ fn next_value(bytes: &[u8]) -> Result<(Found<'_>, &[u8]), usize>
 
 // The item that stands next; an Err is how many bytes are left where no document goes on.
 pub(crate) fn next_item(bytes: &[u8]) -> Result<Item<'_>, usize>
-    ensures item { MatchResult result (λ item. ItemStands item bytes.now) (λ left. PairBreaks bytes.now left) }
+    ensures item { MatchResult result (λ item. ItemStands item bytes.now)
+        (λ left. PairBreaks bytes.now left) }
     ensures shorter { IfOk result (λ item. IsShorter item bytes.now) }
     ensures within { IfErr result (λ left. left ≤ length bytes.now) }
 {

@@ -24,5 +24,6 @@ pub fn fronts()
     ensures shorter { (front more : List ℕ) → Front (front ++ more) → Front front }
     ensures place { (bytes : List ℕ) (m n : ℕ) → At bytes m → At bytes n → m ≡ n }
     ensures whole { (bytes : List ℕ) (d : Document) → Spells bytes d → At bytes (length bytes) }
-    ensures fault { (bytes : List ℕ) (one other : GmlFault) → IsFault one bytes → IsFault other bytes → one ≢ Memory → other ≢ Memory → one ≡ other }
+    ensures fault { (bytes : List ℕ) (one other : GmlFault) → IsFault one bytes
+        → IsFault other bytes → one ≢ Memory → other ≢ Memory → one ≡ other }
 {}

@@ -71,7 +71,8 @@ impl Partial {
 
     // Closes the innermost list; false where none is open.
     fn close(&mut self) -> Result<bool, AllocError>
-        ensures { IfOk result (λ done. MatchBool done (IsClosed self.old self.new) (frames_of self.old ≡ [])) }
+        ensures { IfOk result (λ done. MatchBool done (IsClosed self.old self.new)
+            (frames_of self.old ≡ [])) }
     {
         match self.open_lists.pop() {
             None => Ok(false),
@@ -87,7 +88,9 @@ impl Partial {
 
     // Takes a pair, or opens its list; false where that would be nested too deep.
     fn take_pair(&mut self, alloc: Global, key: &[u8], found: Found<'_>) -> Result<bool, AllocError>
-        ensures { IfOk result (λ done. MatchBool done (IsTaken key.now found.entry self.old self.new) (IsTooDeep found.entry self.old)) }
+        ensures { IfOk result
+            (λ done. MatchBool done (IsTaken key.now found.entry self.old self.new)
+            (IsTooDeep found.entry self.old)) }
     {
         match found {
             Found::Number(text) => {

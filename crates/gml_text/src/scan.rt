@@ -42,7 +42,8 @@ pub(crate) fn split_word(bytes: &[u8]) -> (&[u8], &[u8])
 
 // What stands before the first quote, and what behind it.
 pub(crate) fn split_quoted(bytes: &[u8]) -> Option<(&[u8], &[u8])>
-    ensures quoted { MatchOption result (list_all is_no_quote bytes.now ≡ true) (λ found. IsQuoted found.0.now bytes.now found.1.now) }
+    ensures quoted { MatchOption result (list_all is_no_quote bytes.now ≡ true)
+        (λ found. IsQuoted found.0.now bytes.now found.1.now) }
     ensures shorter { IfSome result (λ found. length found.1.now < length bytes.now) }
 {
     for (i, byte) in bytes.iter().enumerate() {

@@ -40,7 +40,8 @@ fn write_pairs(out: &mut Vec<u8>, lists: usize, pairs: &Pairs) -> Result<(), All
 #[cycle(lines)]
 fn write_pair(out: &mut Vec<u8>, lists: usize, pair: &Pair) -> Result<(), AllocError>
     requires { lists + depth (pair_before pair.now.key pair.now.value empty) ≤ 32 }
-    ensures { OnOk result (out.new.items ≡ out.old.items ++ lines lists (pair_before pair.now.key pair.now.value empty)) }
+    ensures { OnOk result (out.new.items ≡ out.old.items
+        ++ lines lists (pair_before pair.now.key pair.now.value empty)) }
 {
     match &pair.value {
         Value::Num(text) => number_line(out, lists, &pair.key, text),

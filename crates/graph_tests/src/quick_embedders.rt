@@ -4,13 +4,13 @@ ghost use Rattle.std.specs.Prelude.{IfOk, IfSome};
 ghost use Rattle.rotations.specs.Rotation.{IsRotationSystem};
 ghost use Rattle.planarity.specs.Embedding.{IsEmbedding};
 
-use quick_embed::{Finder, LeftRight, QuickEmbedder, embed_by};
 use contract_embed::ContractEmbedder;
 use contractions::is_triconnected;
 use faces::euler;
 use kuratowski::{Pattern, Subdivision, check};
 use multigraph::{Graph, NumberLists, Numbers};
 use planarity::{Embedded, Embedder};
+use quick_embed::{Finder, LeftRight, QuickEmbedder, embed_by};
 use quick_obstruct::propose_subdivision;
 use quick_rotation::propose_rotation;
 use rotations::{Lists, Rotation};

@@ -4,8 +4,8 @@
 ghost use Rattle.std.specs.Prelude.{◌≡◌, ◌<◌, length, IfOk};
 ghost use Rattle.rotations.specs.Rotation.{order_at};
 
-use rotations::*;
 use multigraph::{Graph, Part};
+use rotations::*;
 use std::alloc::{AllocError, Global};
 use std::test::Fail;
 

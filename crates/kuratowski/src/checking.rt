@@ -68,7 +68,8 @@ fn mark_all(marks: &mut [bool], vertices: &[u32]) -> bool
 // Walks along the edges from a vertex and marks each vertex where an edge is entered, as long as they are a walk and the
 // vertex has no mark yet. Returns where they lead.
 fn walk(g: &Graph, marks: &mut [bool], from: u32, edges: &[u32]) -> Option<u32>
-    ensures { MatchOption result (is_free_walk g.now marks.old from edges.now ≡ false) (IsFreeWalkTo g.now marks.old from edges.now marks.new) }
+    ensures { MatchOption result (is_free_walk g.now marks.old from edges.now ≡ false)
+        (IsFreeWalkTo g.now marks.old from edges.now marks.new) }
 {
     let mut at = from;
     for edge in edges {
@@ -86,7 +87,8 @@ fn walk(g: &Graph, marks: &mut [bool], from: u32, edges: &[u32]) -> Option<u32>
 // Walks along a path and marks the vertices inside. Returns whether it is one between the two vertices and meets no mark.
 fn walk_path(g: &Graph, marks: &mut [bool], from: u32, path: &[u32], to: u32) -> bool
     ensures free { result ≡ is_free_path g.now marks.old from path.now to }
-    ensures marked { result ≡ true → marks.new ≡ marked_also marks.old (inner_vertices g.now from path.now) }
+    ensures marked { result ≡ true → marks.new ≡ marked_also marks.old
+        (inner_vertices g.now from path.now) }
 {
     let Some((first, rest)) = path.split_first() else {
         return false;
@@ -133,14 +135,16 @@ fn meets_once(
 ) -> bool
     requires one_each { length paths.now ≡ length pairs.now }
     requires within { ArePlaces pairs.now branch.now }
-    ensures { result ≡ (are_free marks.old branch.now && are_free_paths g.now (marked_also marks.old branch.now) branch.now pairs.now paths.now) }
+    ensures { result ≡ (are_free marks.old branch.now
+        && are_free_paths g.now (marked_also marks.old branch.now) branch.now pairs.now paths.now) }
 {
     mark_all(marks, branch) && walk_paths(g, marks, branch, pairs, paths)
 }
 
 /// Whether `s` is a subdivision of its pattern in `g`. In linear time.
 pub fn is_subdivision(alloc: Global, g: &Graph, s: &Subdivision) -> Result<bool, AllocError>
-    ensures exact { IfOk result (λ held. (held ≡ true) ↔ IsSubdivision g.now s.now.kind s.now.branch s.now.paths) }
+    ensures exact { IfOk result
+        (λ held. (held ≡ true) ↔ IsSubdivision g.now s.now.kind s.now.branch s.now.paths) }
 {
     let branch = s.branch.as_slice();
     let paths = s.paths.as_slice();
@@ -154,7 +158,8 @@ pub fn is_subdivision(alloc: Global, g: &Graph, s: &Subdivision) -> Result<bool,
 
 /// Whether `s` is a subdivision of its pattern in `g`, in its written form. In linear time.
 pub fn check(alloc: Global, g: &Graph, s: &Subdivision) -> Result<bool, AllocError>
-    ensures exact { IfOk result (λ held. (held ≡ true) ↔ IsWritten g.now s.now.kind s.now.branch s.now.paths) }
+    ensures exact { IfOk result
+        (λ held. (held ≡ true) ↔ IsWritten g.now s.now.kind s.now.branch s.now.paths) }
 {
     if !is_subdivision(alloc, g, s)? {
         return Ok(false);

@@ -49,7 +49,8 @@ fn has_choices(kind: Kind) -> bool
 
 // The least node that has choices.
 pub(crate) fn least_with_choices(tree: &Tree) -> Option<u32>
-    ensures { MatchOption result (NoneHasChoices tree.now (length tree.now)) (λ k. IsLeastWithChoices tree.now k) }
+    ensures { MatchOption result (NoneHasChoices tree.now (length tree.now))
+        (λ k. IsLeastWithChoices tree.now k) }
 {
     for k in 0..tree.node_count() {
         if has_choices(tree.kind(k)) {

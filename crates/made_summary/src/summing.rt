@@ -45,7 +45,8 @@ fn counted(p: &PlaneBlock) -> Option<u128>
 fn choices(alloc: Global, p: &PlaneBlock, k: u32) -> Result<(Vec<u32>, Vec<u32>), AllocError>
     requires { k < length p.now.tree }
     ensures first { IfOk result (λ both. both.0.items ≡ choice p.now.tree p.now.rotation k) }
-    ensures last { IfOk result (λ both. both.1.items ≡ mirror_choice (choice p.now.tree p.now.rotation k)) }
+    ensures last { IfOk result (λ both. both.1.items ≡ mirror_choice
+        (choice p.now.tree p.now.rotation k)) }
 {
     let first = p.choice(alloc, k)?;
     let last = mirrored(alloc, &first)?;

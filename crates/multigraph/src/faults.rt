@@ -30,7 +30,8 @@ pub enum BuildFault {
 pub(crate) fn check_ends(n: u32, ends: &[(u32, u32)]) -> Result<(), BuildFault>
     requires few_vertices { n ≤ max_vertices }
     requires few_edges { length ends.now ≤ max_edges }
-    ensures faults { MatchResult result (λ _. IsGraph (multigraph_of n ends.now)) (λ fault. IsFirstFault (multigraph_of n ends.now) fault) }
+    ensures faults { MatchResult result (λ _. IsGraph (multigraph_of n ends.now))
+        (λ fault. IsFirstFault (multigraph_of n ends.now) fault) }
     ensures limits { IsWithinLimits (multigraph_of n ends.now) }
 {
     for (e, pair) in ends.iter().enumerate() {

@@ -8,6 +8,8 @@ ghost use Rattle.multigraph.specs.declared.faults.BuildFault.TheVariants.{Memory
 
 /// A multigraph has at most one first fault, and a graph within the limits has none; want of memory is left out.
 pub fn first_fault()
-    ensures one { (g : Multigraph) (a b : BuildFault) → IsFirstFault g a → IsFirstFault g b → a ≢ Memory → b ≢ Memory → a ≡ b }
-    ensures none { (g : Multigraph) (a : BuildFault) → IsGraph g → IsWithinLimits g → IsFirstFault g a → a ≡ Memory }
+    ensures one { (g : Multigraph) (a b : BuildFault) → IsFirstFault g a → IsFirstFault g b
+        → a ≢ Memory → b ≢ Memory → a ≡ b }
+    ensures none { (g : Multigraph) (a : BuildFault) → IsGraph g → IsWithinLimits g
+        → IsFirstFault g a → a ≡ Memory }
 {}

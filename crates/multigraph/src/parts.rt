@@ -25,9 +25,17 @@ impl Model for Part {
 
     ghost Value = { GraphPart };
 
-    ghost view = { λ p. record { graph = p.graph; vertices = p.vertices.items; edges = p.edges.items } };
+    ghost view = { λ p. record {
+      graph = p.graph;
+      vertices = p.vertices.items;
+      edges = p.edges.items;
+    } };
 
-    ghost invariant = { λ p. IsNumbered (record { graph = p.graph; vertices = p.vertices.items; edges = p.edges.items }) };
+    ghost invariant = { λ p. IsNumbered (record {
+      graph = p.graph;
+      vertices = p.vertices.items;
+      edges = p.edges.items;
+    }) };
 }
 
 impl Part {
@@ -78,7 +86,8 @@ impl Graph {
     /// Takes time and memory for the part alone, and not for the whole graph: k log k for k edges.
     pub fn part(&self, alloc: Global, edges: &[u32]) -> Result<Part, AllocError>
         requires rising { Rises edges.now }
-        requires within { (i : ℕ) → i < length edges.now → slice_index edges.now i < edge_count self.now }
+        requires within { (i : ℕ) → i < length edges.now → slice_index edges.now i
+            < edge_count self.now }
         ensures { IfOk result (IsPart self.now edges.now) }
     {
         let vertices = end_vertices(alloc, self, edges)?;
@@ -130,7 +139,8 @@ fn inner_ends(
     edges: &[u32],
     vertices: &[u32],
 ) -> Result<Vec<(u32, u32)>, AllocError>
-    requires within { (i : ℕ) → i < length edges.now → slice_index edges.now i < edge_count graph.now }
+    requires within { (i : ℕ) → i < length edges.now → slice_index edges.now i
+        < edge_count graph.now }
     requires rising { Rises vertices.now }
     requires few { length vertices.now < 2 ^ 32 }
     requires held { AreEnds graph.now edges.now vertices.now }

@@ -31,7 +31,9 @@ impl Model for Graph {
 
     ghost view = { λ g. multigraph_of g.vertices g.ends.items };
 
-    ghost invariant = { λ g. IsGraph (multigraph_of g.vertices g.ends.items) × IsWithinLimits (multigraph_of g.vertices g.ends.items) × ListsEdges (multigraph_of g.vertices g.ends.items) g.incident.items };
+    ghost invariant = { λ g. IsGraph (multigraph_of g.vertices g.ends.items)
+        × IsWithinLimits (multigraph_of g.vertices g.ends.items)
+        × ListsEdges (multigraph_of g.vertices g.ends.items) g.incident.items };
 }
 
 impl Graph {

@@ -47,4 +47,3 @@ same-separation entries others s p q d h k c = record {
   two_inside = two-within entries others s d h c.two_inside;
   two_outside = two-within entries others (λ n. not (s n)) d h c.two_outside;
 }
-

@@ -25,7 +25,8 @@ pub(crate) fn labels_without(
     b: u32,
 ) -> Result<Vec<u32>, AllocError>
     requires { HaveEndsBelow n edges.now }
-    ensures labelling { IfOk result (λ labels. IsLabelling (family_skeleton (family_of edges.now)) (a ∷ b ∷ []) (label_at labels.items)) }
+    ensures labelling { IfOk result (λ labels. IsLabelling (family_skeleton (family_of edges.now))
+        (a ∷ b ∷ []) (label_at labels.items)) }
     ensures within { IfOk result (λ labels. AreLabelsBelow n labels.items) }
     ensures number { IfOk result (λ labels. length labels.items ≡ n) }
 {

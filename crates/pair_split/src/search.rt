@@ -37,7 +37,8 @@ fn better_side(
     best: Side,
 ) -> Result<Side, AllocError>
     requires edges { AreSearchable edges.now (length labels.now) bound }
-    requires labelling { IsLabelling (family_skeleton (family_of edges.now)) (a ∷ b ∷ []) (label_at labels.now) }
+    requires labelling { IsLabelling (family_skeleton (family_of edges.now)) (a ∷ b ∷ [])
+        (label_at labels.now) }
     requires best { IsBest (family_of edges.now) best }
     ensures best { IfOk result (IsBest (family_of edges.now)) }
     ensures no_larger { IfOk result (λ side. side.size ≤ best.size) }
@@ -69,7 +70,8 @@ fn best_of_bridges(
     best: Side,
 ) -> Result<Side, AllocError>
     requires edges { AreSearchable edges.now (length labels.now) bound }
-    requires labelling { IsLabelling (family_skeleton (family_of edges.now)) (a ∷ b ∷ []) (label_at labels.now) }
+    requires labelling { IsLabelling (family_skeleton (family_of edges.now)) (a ∷ b ∷ [])
+        (label_at labels.now) }
     requires few { length labels.now < 2 ^ 32 }
     requires best { IsBest (family_of edges.now) best }
     ensures best { IfOk result (IsBest (family_of edges.now)) }

@@ -152,8 +152,10 @@ impl Low {
         requires over { IsOver graph.now search.now }
         requires within { place < length search.now.order }
         requires vertex { vertex ≡ slice_index search.now.order place }
-        requires low { AreLowSoFar graph.now search.now self.old (edge_count graph.now) (drop (place + 1) search.now.order) }
-        ensures { AreLowSoFar graph.now search.now self.new (edge_count graph.now) (drop place search.now.order) }
+        requires low { AreLowSoFar graph.now search.now self.old (edge_count graph.now)
+            (drop (place + 1) search.now.order) }
+        ensures { AreLowSoFar graph.now search.now self.new (edge_count graph.now)
+            (drop place search.now.order) }
     {
         // The place is known to the contract alone.
         let _ = place;

@@ -27,7 +27,10 @@ fn add_child(
     requires over { IsOver graph.now search.now }
     requires low { AreLowVertices graph.now search.now low.now }
     requires edge_in { edge < edge_count graph.now }
-    ensures { IfOk result (λ _. children.new.items ≡ (if is_tree_edge search.now edge && beq (hangs low.now (slice_index search.now.lower edge)) hanging then children.old.items ++ slice_index search.now.lower edge ∷ [] else children.old.items)) }
+    ensures { IfOk result (λ _. children.new.items ≡ (if is_tree_edge search.now edge
+        && beq (hangs low.now (slice_index search.now.lower edge)) hanging
+        then children.old.items ++ slice_index search.now.lower edge ∷ []
+        else children.old.items)) }
 {
     let lower = search.lower_end(edge);
     if search.is_tree_edge(graph, edge) && low.hangs(lower) == hanging {
@@ -50,7 +53,9 @@ fn add_children<L: Ledger>(
     requires over { IsOver graph.now search.now }
     requires low { AreLowVertices graph.now search.now low.now }
     requires within { (e : ℕ) → is_member e edges.now ≡ true → e < edge_count graph.now }
-    ensures children { IfOk result (λ _. children.new.items ≡ children.old.items ++ lower_ends search.now (tree_edges search.now low.now hanging edges.now)) }
+    ensures children { IfOk result (λ _. children.new.items
+        ≡ children.old.items ++ lower_ends search.now
+        (tree_edges search.now low.now hanging edges.now)) }
     ensures cost { steps.new ≤ steps.old + length edges.now }
     ensures rises { steps.old ≤ steps.new }
 {
@@ -107,9 +112,13 @@ fn give_place(
     requires parent_within { child < length search.now.parent }
     requires sizes_within { child < length sizes.now }
     requires filled_within { slice_index search.now.parent child < length filled.old.items }
-    requires fits { slice_index filled.old.items (slice_index search.now.parent child) + slice_index sizes.now child < 2 ^ 32 }
-    ensures offset { offset.new.items ≡ slice_set offset.old.items child (slice_index filled.old.items (slice_index search.now.parent child)) }
-    ensures filled { filled.new.items ≡ slice_set filled.old.items (slice_index search.now.parent child) (slice_index filled.old.items (slice_index search.now.parent child) + slice_index sizes.now child) }
+    requires fits { slice_index filled.old.items (slice_index search.now.parent child)
+        + slice_index sizes.now child < 2 ^ 32 }
+    ensures offset { offset.new.items ≡ slice_set offset.old.items child
+        (slice_index filled.old.items (slice_index search.now.parent child)) }
+    ensures filled { filled.new.items ≡ slice_set filled.old.items
+        (slice_index search.now.parent child) (slice_index filled.old.items
+        (slice_index search.now.parent child) + slice_index sizes.now child) }
 {
     let parent = search.parent_of(child) as usize;
     offset[child as usize] = filled[parent];
@@ -129,7 +138,8 @@ pub(crate) fn offsets<L: Ledger>(
     requires over { IsOver graph.now search.now }
     requires sizes { AreSizes graph.now search.now sizes.now }
     requires children { AreChildren graph.now search.now children.now }
-    ensures offsets { IfOk result (λ offset. AreOffsets graph.now search.now sizes.now children.now offset.items) }
+    ensures offsets { IfOk result
+        (λ offset. AreOffsets graph.now search.now sizes.now children.now offset.items) }
     ensures cost { steps.new ≤ steps.old + length children.now }
     ensures rises { steps.old ≤ steps.new }
 {
@@ -148,9 +158,15 @@ fn give_number(number: &mut Vec<u32>, search: &Search, offset: &[u32], vertex: u
     requires offset_within { vertex < length offset.now }
     requires parent_within { vertex < length search.now.parent }
     requires depth_within { vertex < length search.now.depth }
-    requires above_within { 0 < slice_index search.now.depth vertex → slice_index search.now.parent vertex < length number.old.items }
-    requires fits { 0 < slice_index search.now.depth vertex → slice_index number.old.items (slice_index search.now.parent vertex) + 1 + slice_index offset.now vertex < 2 ^ 32 }
-    ensures { number.new.items ≡ (if nat_lt 0 (slice_index search.now.depth vertex) then slice_set number.old.items vertex (slice_index number.old.items (slice_index search.now.parent vertex) + 1 + slice_index offset.now vertex) else slice_set number.old.items vertex 0) }
+    requires above_within { 0 < slice_index search.now.depth vertex
+        → slice_index search.now.parent vertex < length number.old.items }
+    requires fits { 0 < slice_index search.now.depth vertex
+        → slice_index number.old.items (slice_index search.now.parent vertex) + 1
+        + slice_index offset.now vertex < 2 ^ 32 }
+    ensures { number.new.items ≡ (if nat_lt 0 (slice_index search.now.depth vertex)
+        then slice_set number.old.items vertex (slice_index number.old.items
+        (slice_index search.now.parent vertex) + 1 + slice_index offset.now vertex)
+        else slice_set number.old.items vertex 0) }
 {
     if search.depth_of(vertex) > 0 {
         let parent = search.parent_of(vertex) as usize;
@@ -174,7 +190,9 @@ pub(crate) fn numbers<L: Ledger>(
     requires sizes { AreSizes graph.now search.now sizes.now }
     requires places { length offset.now ≡ graph.now.vertex_count }
     requires room { HasRoom graph.now search.now sizes.now offset.now }
-    ensures numbers { IfOk result (λ number. AreNumbersSoFar graph.now search.now sizes.now offset.now search.now.order number.items) }
+    ensures numbers { IfOk result
+        (λ number.
+        AreNumbersSoFar graph.now search.now sizes.now offset.now search.now.order number.items) }
     ensures cost { steps.new ≤ steps.old + graph.now.vertex_count }
     ensures rises { steps.old ≤ steps.new }
 {

@@ -33,7 +33,17 @@ impl Model for Search {
 
     ghost Value = { ForestState };
 
-    ghost view = { λ s. record { visited = s.visited.items; parent = s.parent.items; depth = s.depth.items; parent_edge = s.parent_edge.items; position = s.position.items; seen = s.seen.items; lower = s.lower.items; order = s.order.items; path = s.path.items } };
+    ghost view = { λ s. record {
+      visited = s.visited.items;
+      parent = s.parent.items;
+      depth = s.depth.items;
+      parent_edge = s.parent_edge.items;
+      position = s.position.items;
+      seen = s.seen.items;
+      lower = s.lower.items;
+      order = s.order.items;
+      path = s.path.items;
+    } };
 }
 
 impl Search {

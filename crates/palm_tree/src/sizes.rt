@@ -15,8 +15,10 @@ use std::sync::ledger::Ledger;
 fn add_size(sizes: &mut Vec<u32>, vertex: u32, other: u32)
     requires within { vertex < length sizes.old.items }
     requires other_within { other < length sizes.old.items }
-    requires fits { slice_index sizes.old.items vertex + slice_index sizes.old.items other < 2 ^ 32 }
-    ensures { sizes.new.items ≡ slice_set sizes.old.items vertex (slice_index sizes.old.items vertex + slice_index sizes.old.items other) }
+    requires fits { slice_index sizes.old.items vertex + slice_index sizes.old.items other
+        < 2 ^ 32 }
+    ensures { sizes.new.items ≡ slice_set sizes.old.items vertex
+        (slice_index sizes.old.items vertex + slice_index sizes.old.items other) }
 {
     sizes[vertex as usize] += sizes[other as usize];
 }
@@ -28,7 +30,8 @@ fn hand_on(sizes: &mut Vec<u32>, graph: &Graph, search: &Search, vertex: u32, pl
     requires over { IsOver graph.now search.now }
     requires within { place < length search.now.order }
     requires vertex { vertex ≡ slice_index search.now.order place }
-    requires sizes { AreSizesSoFar graph.now search.now sizes.old.items (drop (place + 1) search.now.order) }
+    requires sizes { AreSizesSoFar graph.now search.now sizes.old.items
+        (drop (place + 1) search.now.order) }
     ensures { AreSizesSoFar graph.now search.now sizes.new.items (drop place search.now.order) }
 {
     // The graph and the place are known to the contract alone.

@@ -35,7 +35,14 @@ impl Model for PalmTree {
 
     ghost Value = { PalmTreeLists };
 
-    ghost view = { λ t. record { number = t.number.items; parent = t.parent.items; frond = t.frond.items; low1 = t.low1.items; low2 = t.low2.items; darts = t.darts.items } };
+    ghost view = { λ t. record {
+      number = t.number.items;
+      parent = t.parent.items;
+      frond = t.frond.items;
+      low1 = t.low1.items;
+      low2 = t.low2.items;
+      darts = t.darts.items;
+    } };
 }
 
 impl PalmTree {
@@ -73,7 +80,8 @@ impl PalmTree {
     ) -> Result<PalmTree, AllocError>
         requires connected { IsConnected graph.now }
         ensures tree { IfOk result (λ t. IsPalmTree graph.now t) }
-        ensures at_most { steps.new ≤ steps.old + 100 * (graph.now.vertex_count + edge_count graph.now) }
+        ensures at_most { steps.new ≤ steps.old + 100 * (graph.now.vertex_count
+            + edge_count graph.now) }
         ensures at_least { IfOk result (λ _. steps.old + edge_count graph.now ≤ steps.new) }
     {
         let search = Search::of(alloc, graph, steps)?;
@@ -157,7 +165,8 @@ fn numbers_of<L: Ledger>(
     requires over { IsOver graph.now search.now }
     requires low { AreLowVertices graph.now search.now low.now }
     requires edges { AreEdges graph.now edges.now }
-    ensures numbers { IfOk result (λ number. AreNumbered graph.now search.now low.now edges.now number.items) }
+    ensures numbers { IfOk result
+        (λ number. AreNumbered graph.now search.now low.now edges.now number.items) }
     ensures cost { steps.new ≤ steps.old + 3 * graph.now.vertex_count + 2 * edge_count graph.now }
     ensures rises { steps.old ≤ steps.new }
 {
@@ -175,7 +184,8 @@ fn parents<L: Ledger>(
     steps: &mut Steps<L>,
 ) -> Result<Vec<Option<u32>>, AllocError>
     requires over { IsOver graph.now search.now }
-    ensures parents { IfOk result (λ l. Tells None (parent_at search.now) graph.now.vertex_count l.items) }
+    ensures parents { IfOk result
+        (λ l. Tells None (parent_at search.now) graph.now.vertex_count l.items) }
     ensures cost { steps.new ≤ steps.old + graph.now.vertex_count }
     ensures rises { steps.old ≤ steps.new }
 {
@@ -196,7 +206,8 @@ fn fronds<L: Ledger>(
 ) -> Result<Vec<bool>, AllocError>
     requires graph { IsGraph graph.now }
     requires over { IsOver graph.now search.now }
-    ensures fronds { IfOk result (λ l. Tells false (λ e. not (is_tree_edge search.now e)) (edge_count graph.now) l.items) }
+    ensures fronds { IfOk result (λ l. Tells false (λ e. not (is_tree_edge search.now e))
+        (edge_count graph.now) l.items) }
     ensures cost { steps.new ≤ steps.old + edge_count graph.now }
     ensures rises { steps.old ≤ steps.new }
 {
@@ -216,7 +227,8 @@ fn numbers_at<L: Ledger>(
     steps: &mut Steps<L>,
 ) -> Result<Vec<u32>, AllocError>
     requires { (v : ℕ) → v < length vertices.now → slice_index vertices.now v < length number.now }
-    ensures numbers { IfOk result (λ l. Tells 0 (λ v. slice_index number.now (slice_index vertices.now v)) (length vertices.now) l.items) }
+    ensures numbers { IfOk result (λ l. Tells 0 (λ v. slice_index number.now
+        (slice_index vertices.now v)) (length vertices.now) l.items) }
     ensures cost { steps.new ≤ steps.old + length vertices.now }
     ensures rises { steps.old ≤ steps.new }
 {

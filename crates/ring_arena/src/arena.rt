@@ -171,7 +171,8 @@ fn link(nodes: &mut Vec<Node>, a: u32, b: u32)
     requires nodes { AreNodes (vec_ptr nodes.old) nodes.old.items }
     requires first { a < length nodes.old.items }
     requires second { b < length nodes.old.items }
-    ensures { AreRelinked (vec_ptr nodes.old) nodes.old.items (vec_ptr nodes.new) nodes.new.items a b }
+    ensures { AreRelinked (vec_ptr nodes.old) nodes.old.items
+        (vec_ptr nodes.new) nodes.new.items a b }
 {
     let from = place(nodes, a as usize);
     let to = place(nodes, b as usize);
@@ -189,7 +190,8 @@ fn link(nodes: &mut Vec<Node>, a: u32, b: u32)
 fn turn(nodes: &mut Vec<Node>, k: usize) -> usize
     requires nodes { AreNodes (vec_ptr nodes.old) nodes.old.items }
     requires node { k < length nodes.old.items }
-    ensures turned { AreTurned (vec_ptr nodes.old) nodes.old.items (vec_ptr nodes.new) nodes.new.items k }
+    ensures turned { AreTurned (vec_ptr nodes.old) nodes.old.items
+        (vec_ptr nodes.new) nodes.new.items k }
     ensures after { result ≡ slice_index (links_of (vec_ptr nodes.old) nodes.old.items).next k }
 {
     let node = nodes[k];

@@ -27,7 +27,8 @@ pub(crate) fn place<T, A: Allocator>(v: &Vec<T, A>, i: usize) -> *const T
 // The element that lies at a place.
 pub(crate) fn behind<T, A: Allocator>(v: &Vec<T, A>, at: *const T) -> &T
     requires { (i : ℕ) × (i < length v.now.items) × (at ≡ vec_ptr v.now +ₚ i * type_size T.row) }
-    ensures { (i : ℕ) → i < length v.now.items → 0 < type_size T.row → at ≡ vec_ptr v.now +ₚ i * type_size T.row → slice_get v.now.items i ≡ Some result.now }
+    ensures { (i : ℕ) → i < length v.now.items → 0 < type_size T.row
+        → at ≡ vec_ptr v.now +ₚ i * type_size T.row → slice_get v.now.items i ≡ Some result.now }
 {
     unsafe { &*at }
 }

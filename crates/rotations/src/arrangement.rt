@@ -17,7 +17,8 @@ use std::alloc::{AllocError, Global};
 
 // Looks for the least number at which the lists are no rotation system.
 pub(crate) fn check_lists(alloc: Global, g: &Graph, lists: &Lists) -> Result<(), RotFault>
-    ensures { MatchResult result (λ _. AreArranged g.now lists.now) (λ fault. IsRefusal g.now lists.now fault) }
+    ensures { MatchResult result (λ _. AreArranged g.now lists.now)
+        (λ fault. IsRefusal g.now lists.now fault) }
 {
     let Ok(mut seen) = zeros(alloc, g.edge_count() as usize) else {
         return Err(RotFault::Memory);
@@ -59,7 +60,10 @@ fn is_arrangement(g: &Graph, v: u32, list: &[u32], seen: &mut [u32]) -> bool
 fn is_new(g: &Graph, v: u32, e: u32, seen: &mut [u32]) -> bool
     requires vertex { v < max_vertices }
     requires long { length seen.old ≡ edge_count g.now }
-    ensures { MatchBool result ((is_member e (incident_edges g.now v) ≡ true) × (slice_index seen.old e ≢ v + 1) × (seen.new ≡ slice_set seen.old e (v + 1))) (((is_member e (incident_edges g.now v) ≡ false) ⊎ (slice_index seen.old e ≡ v + 1)) × (seen.new ≡ seen.old)) }
+    ensures { MatchBool result ((is_member e (incident_edges g.now v) ≡ true)
+        × (slice_index seen.old e ≢ v + 1) × (seen.new ≡ slice_set seen.old e (v + 1)))
+        (((is_member e (incident_edges g.now v) ≡ false) ⊎ (slice_index seen.old e ≡ v + 1))
+        × (seen.new ≡ seen.old)) }
 {
     if !g.is_edge_at(e, v) {
         return false;

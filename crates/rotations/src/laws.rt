@@ -6,6 +6,8 @@ ghost use Rattle.rotations.specs.Given.{AreArranged, IsFirstBad};
 
 /// There is at most one least bad number, and none where the lists arrange the edges of each vertex.
 pub fn first_bad()
-    ensures one { (g : Multigraph) (entries : List (ℕ × List ℕ)) (v w : ℕ) → IsFirstBad g entries v → IsFirstBad g entries w → v ≡ w }
-    ensures none { (g : Multigraph) (entries : List (ℕ × List ℕ)) (v : ℕ) → AreArranged g entries → IsFirstBad g entries v → ⊥ }
+    ensures one { (g : Multigraph) (entries : List (ℕ × List ℕ)) (v w : ℕ) → IsFirstBad g entries v
+        → IsFirstBad g entries w → v ≡ w }
+    ensures none { (g : Multigraph) (entries : List (ℕ × List ℕ)) (v : ℕ) → AreArranged g entries
+        → IsFirstBad g entries v → ⊥ }
 {}

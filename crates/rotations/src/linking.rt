@@ -14,10 +14,12 @@ pub(crate) fn link(tails: &[u32], v: u32, list: &[u32], nodes: &mut Rings)
     requires few { length tails.now ≤ max_darts }
     requires round { StandRound tails.now v list.now }
     requires long { length nodes.old.next ≡ length tails.now }
-    requires alone { (e : ℕ) → is_member e list.now ≡ true → slice_index nodes.old.next (dart_at tails.now v e) ≡ dart_at tails.now v e }
+    requires alone { (e : ℕ) → is_member e list.now ≡ true
+        → slice_index nodes.old.next (dart_at tails.now v e) ≡ dart_at tails.now v e }
     requires inverse { AreInverse nodes.old }
     ensures linked { AreLinked tails.now nodes.new.next nodes.new.prev v list.now list.now }
-    ensures next_kept { (d : ℕ) → slice_index tails.now d ≢ v → slice_index nodes.new.next d ≡ slice_index nodes.old.next d }
+    ensures next_kept { (d : ℕ) → slice_index tails.now d ≢ v
+        → slice_index nodes.new.next d ≡ slice_index nodes.old.next d }
     ensures count { length nodes.new.next ≡ length nodes.old.next }
     ensures inverse { AreInverse nodes.new }
 {

@@ -23,7 +23,8 @@ pub(crate) fn check_part(
     inner: &Lists,
 ) -> Result<(), RotFault>
     requires { AreInnerBelow p.now lists.now inner.now p.now.graph.vertex_count }
-    ensures outer { MatchResult result (λ _. ArrangePart p.now lists.now) (λ fault. IsPartRefusal p.now lists.now fault) }
+    ensures outer { MatchResult result (λ _. ArrangePart p.now lists.now)
+        (λ fault. IsPartRefusal p.now lists.now fault) }
     ensures arranged { IfOk result (λ _. AreArranged p.now.graph inner.now) }
 {
     let stranger = first_stranger(p, lists);
@@ -46,7 +47,8 @@ fn outer_fault(
 ) -> RotFault
     requires inner { AreInnerBelow p.now lists.now inner.now p.now.graph.vertex_count }
     requires due { IsRefusal p.now.graph inner.now fault }
-    requires stranger { MatchOption stranger ((v : ℕ) → IsNamed lists.now v → Contains p.now.vertices v) (λ v. IsFirstStranger p.now lists.now v) }
+    requires stranger { MatchOption stranger ((v : ℕ) → IsNamed lists.now v
+        → Contains p.now.vertices v) (λ v. IsFirstStranger p.now lists.now v) }
     ensures { IsPartRefusal p.now lists.now result }
 {
     let _ = p.graph();
@@ -70,7 +72,8 @@ fn outer_fault(
 
 // The least number that is named and no vertex of the part.
 fn first_stranger(p: &Part, lists: &Lists) -> Option<u32>
-    ensures { MatchOption result ((v : ℕ) → IsNamed lists.now v → Contains p.now.vertices v) (λ v. IsFirstStranger p.now lists.now v) }
+    ensures { MatchOption result ((v : ℕ) → IsNamed lists.now v
+        → Contains p.now.vertices v) (λ v. IsFirstStranger p.now lists.now v) }
 {
     for k in 0..lists.len() {
         let v = lists.vertex(k);

@@ -42,7 +42,8 @@ impl Model for Rotation {
 
     ghost view = { λ r. orders r.nodes.next r.frame.value.rings.items };
 
-    ghost invariant = { λ r. AreRings r.frame.value.tails.items r.nodes.next r.nodes.prev r.frame.value.rings.items };
+    ghost invariant = { λ r.
+        AreRings r.frame.value.tails.items r.nodes.next r.nodes.prev r.frame.value.rings.items };
 }
 
 impl Rotation {
@@ -53,7 +54,8 @@ impl Rotation {
     /// of the edges at it, or that is named and no vertex.
     pub fn from_lists(alloc: Global, g: &Graph, lists: &Lists) -> Result<Rotation, RotFault>
         ensures arranged { IfOk result (λ _. AreArranged g.now lists.now) }
-        ensures orders { IfOk result (λ r. (v : ℕ) → v < g.now.vertex_count → order_at r v ≡ given_order g.now lists.now v) }
+        ensures orders { IfOk result (λ r. (v : ℕ) → v < g.now.vertex_count
+            → order_at r v ≡ given_order g.now lists.now v) }
         ensures system { IfOk result (IsRotationSystem g.now) }
         ensures refused { IfErr result (λ fault. IsRefusal g.now lists.now fault) }
     {
@@ -71,7 +73,8 @@ impl Rotation {
     /// edges in the part, or that is named and no vertex of the part.
     pub fn from_part(alloc: Global, p: &Part, lists: &Lists) -> Result<Rotation, RotFault>
         ensures arranged { IfOk result (λ _. ArrangePart p.now lists.now) }
-        ensures orders { IfOk result (λ r. (i : ℕ) → i < p.now.graph.vertex_count → map (slice_index p.now.edges) (order_at r i) ≡ outer_order p.now lists.now i) }
+        ensures orders { IfOk result (λ r. (i : ℕ) → i < p.now.graph.vertex_count
+            → map (slice_index p.now.edges) (order_at r i) ≡ outer_order p.now lists.now i) }
         ensures system { IfOk result (IsRotationSystem p.now.graph) }
         ensures refused { IfErr result (λ fault. IsPartRefusal p.now lists.now fault) }
     {
@@ -89,7 +92,8 @@ impl Rotation {
     fn of_arranged(alloc: Global, g: &Graph, lists: &Lists) -> Result<Rotation, AllocError>
         requires { AreArranged g.now lists.now }
         ensures vertices { IfOk result (λ r. length r ≡ g.now.vertex_count) }
-        ensures orders { IfOk result (λ r. (v : ℕ) → v < g.now.vertex_count → order_at r v ≡ given_order g.now lists.now v) }
+        ensures orders { IfOk result (λ r. (v : ℕ) → v < g.now.vertex_count
+            → order_at r v ≡ given_order g.now lists.now v) }
     {
         let tails = tails_of(alloc, g)?;
         let mut nodes = Rings::new(alloc, 2 * g.edge_count())?;

@@ -35,7 +35,8 @@ pub enum BySkeletons {
 fn keys_round(alloc: Global, items: &[Item], member: &Rotation) -> Result<Vec<u32>, AllocError>
     requires vertex { 0 < length member.now }
     requires within { (i : ℕ) → is_member i (order_at member.now 0) ≡ true → i < length items.now }
-    ensures { IfOk result (λ keys. keys.items ≡ map (λ i. (nth_item items.now i).key) (order_at member.now 0)) }
+    ensures { IfOk result (λ keys. keys.items ≡ map (λ i. (nth_item items.now i).key)
+        (order_at member.now 0)) }
 {
     let mut keys = Vec::new(alloc);
     let mut round = member.list(0);
@@ -62,7 +63,8 @@ fn choice_of(alloc: Global, tree: &Tree, k: u32, member: &Rotation) -> Result<Ve
 fn choices_of(alloc: Global, tree: &Tree, members: &[Rotation]) -> Result<Vec<Kept>, AllocError>
     requires block { (g : Multigraph) × IsBlockTree g tree.now }
     requires systems { AreSkeletonSystems tree.now members.now }
-    ensures { IfOk result (λ choices. AreChoicesIn tree.now members.now (length tree.now) choices.items) }
+    ensures { IfOk result (λ choices. AreChoicesIn tree.now members.now
+        (length tree.now) choices.items) }
 {
     let mut choices = Vec::new(alloc);
     for k in 0..tree.node_count() {

@@ -28,7 +28,9 @@ fn keys_of_runs(
     requires block { IsBlockTree g.now t.now }
     requires node { k < length t.now }
     requires plane { IsPlaneSystem g.now r.now }
-    ensures { IfOk result (λ keys. keys.items ≡ map (group t.now k) (filter (begins_run (group t.now k) (order_at r.now (least_vertex t.now k))) (order_at r.now (least_vertex t.now k)))) }
+    ensures { IfOk result (λ keys. keys.items ≡ map (group t.now k)
+        (filter (begins_run (group t.now k) (order_at r.now (least_vertex t.now k)))
+        (order_at r.now (least_vertex t.now k)))) }
 {
     let v = t.vertices(k)[0];
     let mut keys = Vec::new(alloc);
@@ -94,7 +96,8 @@ pub(crate) fn choices_of(
 ) -> Result<Vec<Kept>, AllocError>
     requires block { IsBlockTree g.now t.now }
     requires plane { IsPlaneSystem g.now r.now }
-    requires old { (q : List (List ℕ)) × IsPlaneSystem g.now q × AreChoices t.now q (length t.now) old.now }
+    requires old { (q : List (List ℕ)) × IsPlaneSystem g.now q
+        × AreChoices t.now q (length t.now) old.now }
     ensures { IfOk result (λ choices. AreChoices t.now r.now (length t.now) choices.items) }
 {
     let mut choices = Vec::with_capacity(alloc, old.len())?;
@@ -117,7 +120,8 @@ pub(crate) fn first_other(n: u32, locks: &[bool], old: &[Kept], new: &[Kept]) ->
     requires old { length old.now ≡ length locks.now }
     requires new { length new.now ≡ length locks.now }
     requires few { length locks.now ≡ n }
-    ensures { MatchOption result (NoneOther locks.now old.now new.now) (IsFirstOther locks.now old.now new.now) }
+    ensures { MatchOption result (NoneOther locks.now old.now new.now)
+        (IsFirstOther locks.now old.now new.now) }
 {
     for k in 0..n {
         if locks[k as usize] && differ(old[k as usize].as_slice(), new[k as usize].as_slice()) {

@@ -39,9 +39,21 @@ impl Model for PlaneBlock {
 
     ghost Value = { BlockState };
 
-    ghost view = { λ p. record { graph = p.graph; tree = p.tree; rotation = p.rotation; choices = p.choices.items; locks = p.locks.items } };
+    ghost view = { λ p. record {
+      graph = p.graph;
+      tree = p.tree;
+      rotation = p.rotation;
+      choices = p.choices.items;
+      locks = p.locks.items;
+    } };
 
-    ghost invariant = { λ p. IsBlockState (record { graph = p.graph; tree = p.tree; rotation = p.rotation; choices = p.choices.items; locks = p.locks.items }) };
+    ghost invariant = { λ p. IsBlockState (record {
+      graph = p.graph;
+      tree = p.tree;
+      rotation = p.rotation;
+      choices = p.choices.items;
+      locks = p.locks.items;
+    }) };
 }
 
 impl PlaneBlock {
@@ -53,8 +65,20 @@ impl PlaneBlock {
         choices: Vec<Kept>,
         locks: Vec<bool>,
     ) -> PlaneBlock
-        requires { IsBlockState (record { graph = graph; tree = tree; rotation = rotation; choices = choices.items; locks = locks.items }) }
-        ensures { result ≡ record { graph = graph; tree = tree; rotation = rotation; choices = choices.items; locks = locks.items } }
+        requires { IsBlockState (record {
+          graph = graph;
+          tree = tree;
+          rotation = rotation;
+          choices = choices.items;
+          locks = locks.items;
+        }) }
+        ensures { result ≡ record {
+          graph = graph;
+          tree = tree;
+          rotation = rotation;
+          choices = choices.items;
+          locks = locks.items;
+        } }
     {
         PlaneBlock {
             graph,
@@ -128,8 +152,12 @@ impl PlaneBlock {
     pub fn turn(&mut self, k: u32)
         requires node { IsNodeOfKind self.old.tree k R }
         ensures flip { FlipLeads self.old.graph self.old.tree k self.old.rotation self.new.rotation }
-        ensures choice { self.new.choices ≡ slice_set self.old.choices k (from_least (reverse (choice self.old.tree self.old.rotation k))) }
-        ensures rest { self.new ≡ record self.old { rotation = self.new.rotation; choices = self.new.choices } }
+        ensures choice { self.new.choices ≡ slice_set self.old.choices k
+            (from_least (reverse (choice self.old.tree self.old.rotation k))) }
+        ensures rest { self.new ≡ record self.old {
+          rotation = self.new.rotation;
+          choices = self.new.choices;
+        } }
     {
         turn_node(&self.graph, &self.tree, &mut self.rotation, k);
         self.choices[k as usize].turn_round();
@@ -142,9 +170,15 @@ impl PlaneBlock {
         requires node { IsNodeOfKind self.old.tree k P }
         requires first { is_member a (node_keys self.old.tree k) ≡ true }
         requires second { is_member b (node_keys self.old.tree k) ≡ true }
-        ensures permute { PermuteLeads self.old.graph self.old.tree k (exchanged a b (choice self.old.tree self.old.rotation k)) self.old.rotation self.new.rotation }
-        ensures choice { self.new.choices ≡ slice_set self.old.choices k (from_least (exchanged a b (choice self.old.tree self.old.rotation k))) }
-        ensures rest { self.new ≡ record self.old { rotation = self.new.rotation; choices = self.new.choices } }
+        ensures permute { PermuteLeads self.old.graph self.old.tree k
+            (exchanged a b
+            (choice self.old.tree self.old.rotation k)) self.old.rotation self.new.rotation }
+        ensures choice { self.new.choices ≡ slice_set self.old.choices k
+            (from_least (exchanged a b (choice self.old.tree self.old.rotation k))) }
+        ensures rest { self.new ≡ record self.old {
+          rotation = self.new.rotation;
+          choices = self.new.choices;
+        } }
     {
         exchange_node(&self.graph, &self.tree, &mut self.rotation, k, a, b);
         self.choices[k as usize].exchange(a, b);
@@ -155,7 +189,10 @@ impl PlaneBlock {
     pub fn mirror(&mut self)
         ensures mirrored { self.new.rotation ≡ mirror_image self.old.rotation }
         ensures choices { self.new.choices ≡ map turned_choice self.old.choices }
-        ensures rest { self.new ≡ record self.old { rotation = self.new.rotation; choices = self.new.choices } }
+        ensures rest { self.new ≡ record self.old {
+          rotation = self.new.rotation;
+          choices = self.new.choices;
+        } }
     {
         self.rotation.mirror();
         turn_all(&mut self.choices);
@@ -171,9 +208,14 @@ impl PlaneBlock {
     pub fn take(&mut self, alloc: Global, part: &Part, lists: &Lists) -> Result<(), TakeFault>
         requires { part.now.graph ≡ self.old.graph }
         ensures given { IfOk result (λ _. IsGiven part.now lists.now self.new.rotation) }
-        ensures keeps { IfOk result (λ _. KeepsChoices self.old.tree (λ k. lock_at self.old.locks k) self.old.rotation self.new.rotation) }
-        ensures rest { IfOk result (λ _. self.new ≡ record self.old { rotation = self.new.rotation; choices = self.new.choices }) }
-        ensures refused { IfErr result (λ fault. IsTakeRefusal self.old part.now lists.now fault × (self.new ≡ self.old)) }
+        ensures keeps { IfOk result (λ _. KeepsChoices self.old.tree
+            (λ k. lock_at self.old.locks k) self.old.rotation self.new.rotation) }
+        ensures rest { IfOk result (λ _. self.new ≡ record self.old {
+          rotation = self.new.rotation;
+          choices = self.new.choices;
+        }) }
+        ensures refused { IfErr result (λ fault. IsTakeRefusal self.old part.now lists.now fault
+            × (self.new ≡ self.old)) }
     {
         let rotation = match given(alloc, &self.graph, part, lists) {
             Ok(r) => r,

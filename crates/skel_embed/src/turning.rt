@@ -42,7 +42,8 @@ pub(crate) fn turn_node(g: &Graph, t: &Tree, r: &mut Rotation, k: u32)
     requires block { IsBlockTree g.now t.now }
     requires node { k < length t.now }
     requires system { IsRotationSystem g.now r.old }
-    requires runs { (v : ℕ) → has_vertex t.now k v ≡ true → StandInTwoRuns (group t.now k) (order_at r.old v) }
+    requires runs { (v : ℕ) → has_vertex t.now k v ≡ true
+        → StandInTwoRuns (group t.now k) (order_at r.old v) }
     ensures { FlipLeads g.now t.now k r.old r.new }
 {
     for v in t.vertices(k) {

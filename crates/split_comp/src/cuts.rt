@@ -43,7 +43,8 @@ pub(crate) fn note<L: Ledger>(
 ) -> Result<(), AllocError>
     requires { base ≤ length cuts.old.items }
     ensures noted { IfOk result (λ _. IsNoted base new cuts.old.items cuts.new.items) }
-    ensures cost { IfOk result (λ _. steps.new + length cuts.new.items ≡ steps.old + length cuts.old.items + 1) }
+    ensures cost { IfOk result (λ _. steps.new + length cuts.new.items
+        ≡ steps.old + length cuts.old.items + 1) }
     ensures at_most { steps.new ≤ steps.old + length cuts.old.items }
     ensures rises { steps.old ≤ steps.new }
 {

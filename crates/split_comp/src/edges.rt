@@ -53,8 +53,10 @@ pub(crate) fn edges_of<L: Ledger>(
     low: u32,
     steps: &mut Steps<L>,
 ) -> Result<Vec<NamedEdge>, AllocError>
-    requires ends { (i : ℕ) → i < length items.now → ((item items.now i).up < length tree.now.vertex) × ((item items.now i).low < length tree.now.vertex) }
-    ensures edges { IfOk result (λ edges. family_of edges.items ≡ drawn_items g.now tree.now.vertex (filter (goes apart up low) items.now)) }
+    requires ends { (i : ℕ) → i < length items.now → ((item items.now i).up
+        < length tree.now.vertex) × ((item items.now i).low < length tree.now.vertex) }
+    ensures edges { IfOk result (λ edges. family_of edges.items
+        ≡ drawn_items g.now tree.now.vertex (filter (goes apart up low) items.now)) }
     ensures at_most { steps.new ≤ steps.old + length items.now }
     ensures rises { steps.old ≤ steps.new }
 {

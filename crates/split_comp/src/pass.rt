@@ -43,13 +43,35 @@ impl Model for Pass {
 
     ghost Value = { PassState };
 
-    ghost view = { λ s. record { at = s.at; done = s.done; items = s.items.items; cuts = s.cuts.items; first = s.first.items; start = s.start.items; base = s.base.items; gone = s.gone.items; total = s.total; parts = s.parts.items } };
+    ghost view = { λ s. record {
+      at = s.at;
+      done = s.done;
+      items = s.items.items;
+      cuts = s.cuts.items;
+      first = s.first.items;
+      start = s.start.items;
+      base = s.base.items;
+      gone = s.gone.items;
+      total = s.total;
+      parts = s.parts.items;
+    } };
 }
 
 impl Pass {
     /// The start, in a graph of n vertices and m edges.
     pub(crate) fn new(alloc: Global, n: u32, m: u32) -> Result<Pass, AllocError>
-        ensures { IfOk result (λ s. s ≡ record { at = 0; done = n; items = []; cuts = []; first = replicate n 4294967295; start = replicate n 0; base = replicate n 0; gone = replicate n 0; total = m; parts = [] }) }
+        ensures { IfOk result (λ s. s ≡ record {
+          at = 0;
+          done = n;
+          items = [];
+          cuts = [];
+          first = replicate n 4294967295;
+          start = replicate n 0;
+          base = replicate n 0;
+          gone = replicate n 0;
+          total = m;
+          parts = [];
+        }) }
     {
         let vertices = n as usize;
         Ok(Pass {
@@ -262,7 +284,8 @@ impl Pass {
         requires can { CanJoin g.now tree.now.vertex self.old }
         requires first { length self.old.first ≡ length tree.now.vertex }
         ensures joined { IfOk result (λ _. IsJoined g.now tree.now.vertex self.old self.new true) }
-        ensures cost { IfOk result (λ _. steps.new + weight self.new ≤ steps.old + weight self.old) }
+        ensures cost { IfOk result (λ _. steps.new + weight self.new
+            ≤ steps.old + weight self.old) }
         ensures at_most { steps.new ≤ steps.old + 2 }
         ensures rises { steps.old ≤ steps.new }
     {
@@ -290,8 +313,10 @@ impl Pass {
     ) -> Result<bool, AllocError>
         requires can { CanJoin g.now tree.now.vertex self.old }
         requires first { length self.old.first ≡ length tree.now.vertex }
-        ensures joined { IfOk result (λ joined. IsJoined g.now tree.now.vertex self.old self.new joined) }
-        ensures cost { IfOk result (λ _. steps.new + weight self.new ≤ steps.old + weight self.old) }
+        ensures joined { IfOk result
+            (λ joined. IsJoined g.now tree.now.vertex self.old self.new joined) }
+        ensures cost { IfOk result (λ _. steps.new + weight self.new
+            ≤ steps.old + weight self.old) }
         ensures at_most { steps.new ≤ steps.old + 2 }
         ensures rises { steps.old ≤ steps.new }
     {
@@ -315,7 +340,8 @@ impl Pass {
         requires base { v < length self.old.base }
         requires within { slice_index self.old.base v ≤ length self.old.cuts }
         ensures noted { IfOk result (λ _. IsDartNoted v s up self.old self.new) }
-        ensures cost { IfOk result (λ _. steps.new + weight self.new ≤ steps.old + weight self.old + 2) }
+        ensures cost { IfOk result (λ _. steps.new + weight self.new
+            ≤ steps.old + weight self.old + 2) }
         ensures at_most { steps.new ≤ steps.old + length self.old.cuts }
         ensures rises { steps.old ≤ steps.new }
     {
@@ -342,15 +368,18 @@ impl Pass {
         up: u32,
         steps: &mut Steps<L>,
     ) -> Result<(), AllocError>
-        requires can { CanJoin g.now tree.now.vertex (pushed self.old (new_frond name v up self.old)) }
+        requires can { CanJoin g.now tree.now.vertex (pushed self.old
+            (new_frond name v up self.old)) }
         requires first { length self.old.first ≡ length tree.now.vertex }
         requires up { up < length self.old.first }
         requires low { v < length self.old.first }
         requires start { v < length self.old.start }
         requires base { v < length self.old.base }
         requires within { slice_index self.old.base v ≤ length self.old.cuts }
-        ensures added { IfOk result (λ _. IsFrondAdded g.now tree.now.vertex name v up self.old self.new) }
-        ensures cost { IfOk result (λ _. steps.new + weight self.new ≤ steps.old + weight self.old + 10) }
+        ensures added { IfOk result
+            (λ _. IsFrondAdded g.now tree.now.vertex name v up self.old self.new) }
+        ensures cost { IfOk result (λ _. steps.new + weight self.new
+            ≤ steps.old + weight self.old + 10) }
         ensures at_most { steps.new ≤ steps.old + length self.old.cuts + 2 }
         ensures rises { steps.old ≤ steps.new }
     {
@@ -384,8 +413,10 @@ impl Pass {
         requires first { length self.old.first ≡ length tree.now.vertex }
         requires up { v < length self.old.first }
         requires low { low < length self.old.first }
-        ensures added { IfOk result (λ _. IsTreeAdded g.now tree.now.vertex name v low start self.old self.new) }
-        ensures cost { IfOk result (λ _. steps.new + weight self.new ≤ steps.old + weight self.old + 8) }
+        ensures added { IfOk result
+            (λ _. IsTreeAdded g.now tree.now.vertex name v low start self.old self.new) }
+        ensures cost { IfOk result (λ _. steps.new + weight self.new
+            ≤ steps.old + weight self.old + 8) }
         ensures at_most { steps.new ≤ steps.old + 2 }
         ensures rises { steps.old ≤ steps.new }
     {
@@ -473,7 +504,8 @@ impl Pass {
         requires up { up < length self.old.first }
         requires low { low < length self.old.first }
         ensures apart { IfOk result (λ _. IsApart frond up low start self.old self.new) }
-        ensures weight { IfOk result (λ _. weight self.new ≡ weight self.old + 8 * number_apart frond) }
+        ensures weight { IfOk result (λ _. weight self.new ≡ weight self.old
+            + 8 * number_apart frond) }
     {
         match frond {
             Some(name) => self.push(Item {
@@ -517,11 +549,13 @@ impl Pass {
     ) -> Result<(), AllocError>
         requires numbered { IsNumbered g.now tree.now }
         requires pass { IsPass g.now tree.now self.old }
-        requires more { slice_index self.old.gone self.old.at < tree_degree tree.now.palm tree.now.vertex self.old.at }
+        requires more { slice_index self.old.gone self.old.at
+            < tree_degree tree.now.palm tree.now.vertex self.old.at }
         requires fits { slice_index self.old.gone self.old.at + 1 < 18446744073709551616 }
         ensures gone { IfOk result (λ _. IsPass g.now tree.now self.new) }
         ensures turned { IfOk result (λ _. IsTurned g.now tree.now self.old self.new) }
-        ensures cost { IfOk result (λ _. steps.new + weight self.new ≤ steps.old + weight self.old + 10) }
+        ensures cost { IfOk result (λ _. steps.new + weight self.new
+            ≤ steps.old + weight self.old + 10) }
         ensures at_most { steps.new ≤ steps.old + weight self.old + 2 }
         ensures rises { steps.old ≤ steps.new }
     {
@@ -546,16 +580,19 @@ impl Pass {
     ) -> Result<(), AllocError>
         requires numbered { IsNumbered g.now tree.now }
         requires pass { IsPass g.now tree.now self.old }
-        requires all { slice_index self.old.gone self.old.at ≡ tree_degree tree.now.palm tree.now.vertex self.old.at }
+        requires all { slice_index self.old.gone self.old.at
+            ≡ tree_degree tree.now.palm tree.now.vertex self.old.at }
         requires not_root { self.old.at ≢ 0 }
         requires parent { v ≡ tree_parent tree.now.palm tree.now.vertex self.old.at }
         requires inner { tree_parent tree.now.palm tree.now.vertex self.old.at ≢ 0 }
         requires within { v < g.now.vertex_count }
-        requires dart_left { slice_index self.old.gone v < tree_degree tree.now.palm tree.now.vertex v }
+        requires dart_left { slice_index self.old.gone v
+            < tree_degree tree.now.palm tree.now.vertex v }
         requires fits { slice_index self.old.gone v + 1 < 18446744073709551616 }
         ensures back { IfOk result (λ _. IsBack g.now tree.now self.old.at self.new) }
         ensures come { IfOk result (λ _. IsCome v self.old self.new) }
-        ensures cost { IfOk result (λ _. steps.new + weight self.new ≤ steps.old + weight self.old + 8) }
+        ensures cost { IfOk result (λ _. steps.new + weight self.new
+            ≤ steps.old + weight self.old + 8) }
         ensures at_most { steps.new ≤ steps.old + 2 }
         ensures rises { steps.old ≤ steps.new }
     {
@@ -571,12 +608,14 @@ impl Pass {
     pub(crate) fn come_home(&mut self, g: &Graph, tree: &Tree, v: u32) -> Result<(), AllocError>
         requires numbered { IsNumbered g.now tree.now }
         requires pass { IsPass g.now tree.now self.old }
-        requires all { slice_index self.old.gone self.old.at ≡ tree_degree tree.now.palm tree.now.vertex self.old.at }
+        requires all { slice_index self.old.gone self.old.at
+            ≡ tree_degree tree.now.palm tree.now.vertex self.old.at }
         requires not_root { self.old.at ≢ 0 }
         requires parent { v ≡ tree_parent tree.now.palm tree.now.vertex self.old.at }
         requires outer { tree_parent tree.now.palm tree.now.vertex self.old.at ≡ 0 }
         requires within { v < g.now.vertex_count }
-        requires dart_left { slice_index self.old.gone v < tree_degree tree.now.palm tree.now.vertex v }
+        requires dart_left { slice_index self.old.gone v
+            < tree_degree tree.now.palm tree.now.vertex v }
         requires fits { slice_index self.old.gone v + 1 < 18446744073709551616 }
         ensures home { IfOk result (λ _. IsPassed g.now tree.now self.new) }
         ensures come { IfOk result (λ _. IsCome v self.old self.new) }
@@ -606,7 +645,8 @@ impl Pass {
     ) -> Result<Vec<NamedEdge>, AllocError>
         requires numbered { IsNumbered g.now tree.now }
         requires passed { IsPassed g.now tree.now self.now }
-        ensures edges { IfOk result (λ edges. family_of edges.items ≡ drawn_items g.now tree.now.vertex self.now.items) }
+        ensures edges { IfOk result (λ edges. family_of edges.items
+            ≡ drawn_items g.now tree.now.vertex self.now.items) }
         ensures at_most { steps.new ≤ steps.old + length self.now.items }
         ensures rises { steps.old ≤ steps.new }
     {

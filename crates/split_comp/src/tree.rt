@@ -51,7 +51,8 @@ impl Tree {
         requires connected { IsConnected g.now }
         ensures tree { IfOk result (λ t. IsPalmTree g.now t.palm) }
         ensures vertices { IfOk result (λ t. AreVertices g.now.vertex_count t.palm t.vertex) }
-        ensures at_most { steps.new ≤ steps.old + 101 * g.now.vertex_count + 100 * edge_count g.now }
+        ensures at_most { steps.new ≤ steps.old + 101 * g.now.vertex_count
+            + 100 * edge_count g.now }
         ensures at_least { IfOk result (λ _. steps.old + edge_count g.now ≤ steps.new) }
     {
         let palm = PalmTree::grow_counted(alloc, g, steps)?;

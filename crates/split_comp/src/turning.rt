@@ -27,12 +27,14 @@ impl Pass {
     ) -> Result<(), AllocError>
         requires numbered { IsNumbered g.now tree.now }
         requires back { IsBack g.now tree.now self.old.done self.old }
-        requires fresh { IsStale self.old.at (slice_index self.old.base self.old.done) self.old → ⊥ }
+        requires fresh { IsStale self.old.at (slice_index self.old.base self.old.done) self.old
+            → ⊥ }
         requires no_triangle { IsTriangle self.old → ⊥ }
         requires cut { IsCutTo self.old.at (slice_index self.old.base self.old.done) self.old }
         requires last { last ≡ cut self.old.cuts (length self.old.cuts - 1) }
         ensures reduced { IfOk result (λ _. IsReducedOnce g.now tree.now self.old self.new true) }
-        ensures cost { IfOk result (λ _. steps.new + weight self.new + 1 ≤ steps.old + weight self.old) }
+        ensures cost { IfOk result (λ _. steps.new + weight self.new + 1
+            ≤ steps.old + weight self.old) }
         ensures at_most { steps.new ≤ steps.old + weight self.old }
         ensures rises { steps.old ≤ steps.new }
     {
@@ -55,10 +57,12 @@ impl Pass {
     ) -> Result<(), AllocError>
         requires numbered { IsNumbered g.now tree.now }
         requires back { IsBack g.now tree.now self.old.done self.old }
-        requires fresh { IsStale self.old.at (slice_index self.old.base self.old.done) self.old → ⊥ }
+        requires fresh { IsStale self.old.at (slice_index self.old.base self.old.done) self.old
+            → ⊥ }
         requires triangle { IsTriangle self.old }
         ensures reduced { IfOk result (λ _. IsReducedOnce g.now tree.now self.old self.new true) }
-        ensures cost { IfOk result (λ _. steps.new + weight self.new + 1 ≤ steps.old + weight self.old) }
+        ensures cost { IfOk result (λ _. steps.new + weight self.new + 1
+            ≤ steps.old + weight self.old) }
         ensures at_most { steps.new ≤ steps.old + weight self.old }
         ensures rises { steps.old ≤ steps.new }
     {
@@ -80,8 +84,10 @@ impl Pass {
     ) -> Result<bool, AllocError>
         requires numbered { IsNumbered g.now tree.now }
         requires back { IsBack g.now tree.now self.old.done self.old }
-        ensures reduced { IfOk result (λ more. IsReducedOnce g.now tree.now self.old self.new more) }
-        ensures cost { IfOk result (λ more. steps.new + weight self.new + (if more then 1 else 0) ≤ steps.old + weight self.old) }
+        ensures reduced { IfOk result
+            (λ more. IsReducedOnce g.now tree.now self.old self.new more) }
+        ensures cost { IfOk result (λ more. steps.new + weight self.new + (if more then 1 else 0)
+            ≤ steps.old + weight self.old) }
         ensures at_most { steps.new ≤ steps.old + weight self.old }
         ensures rises { steps.old ≤ steps.new }
     {
@@ -113,8 +119,10 @@ impl Pass {
     ) -> Result<(), AllocError>
         requires numbered { IsNumbered g.now tree.now }
         requires back { IsBack g.now tree.now self.old.done self.old }
-        ensures reduced { IfOk result (λ _. IsReduced g.now tree.now self.new × IsAsFar self.old self.new) }
-        ensures cost { IfOk result (λ _. steps.new + weight self.new ≤ steps.old + weight self.old) }
+        ensures reduced { IfOk result (λ _. IsReduced g.now tree.now self.new
+            × IsAsFar self.old self.new) }
+        ensures cost { IfOk result (λ _. steps.new + weight self.new
+            ≤ steps.old + weight self.old) }
         ensures at_most { steps.new ≤ steps.old + weight self.old }
         ensures rises { steps.old ≤ steps.new }
     {
@@ -135,10 +143,13 @@ impl Pass {
     ) -> Result<(), AllocError>
         requires numbered { IsNumbered g.now tree.now }
         requires reduced { IsReduced g.now tree.now self.old }
-        requires whole { IsWhole (last_dart g.now tree.now self.old).class (slice_index self.old.start self.old.done) self.old }
+        requires whole { IsWhole (last_dart g.now tree.now self.old).class
+            (slice_index self.old.start self.old.done) self.old }
         requires reach { reach ≡ (last_dart g.now tree.now self.old).reach }
-        ensures left { IfOk result (λ _. IsPass g.now tree.now self.new × IsAsFar self.old self.new) }
-        ensures cost { IfOk result (λ _. steps.new + weight self.new ≤ steps.old + weight self.old + 10) }
+        ensures left { IfOk result (λ _. IsPass g.now tree.now self.new
+            × IsAsFar self.old self.new) }
+        ensures cost { IfOk result (λ _. steps.new + weight self.new
+            ≤ steps.old + weight self.old + 10) }
         ensures at_most { steps.new ≤ steps.old + weight self.old + 2 }
         ensures rises { steps.old ≤ steps.new }
     {
@@ -160,8 +171,10 @@ impl Pass {
     ) -> Result<(), AllocError>
         requires numbered { IsNumbered g.now tree.now }
         requires reduced { IsReduced g.now tree.now self.old }
-        ensures left { IfOk result (λ _. IsPass g.now tree.now self.new × IsAsFar self.old self.new) }
-        ensures cost { IfOk result (λ _. steps.new + weight self.new ≤ steps.old + weight self.old + 10) }
+        ensures left { IfOk result (λ _. IsPass g.now tree.now self.new
+            × IsAsFar self.old self.new) }
+        ensures cost { IfOk result (λ _. steps.new + weight self.new
+            ≤ steps.old + weight self.old + 10) }
         ensures at_most { steps.new ≤ steps.old + weight self.old + 2 }
         ensures rises { steps.old ≤ steps.new }
     {
@@ -190,10 +203,13 @@ impl Pass {
     ) -> Result<(), AllocError>
         requires numbered { IsNumbered g.now tree.now }
         requires pass { IsPass g.now tree.now self.old }
-        requires all { slice_index self.old.gone self.old.at ≡ tree_degree tree.now.palm tree.now.vertex self.old.at }
+        requires all { slice_index self.old.gone self.old.at
+            ≡ tree_degree tree.now.palm tree.now.vertex self.old.at }
         requires not_root { self.old.at ≢ 0 }
-        ensures going { IfOk result (λ _. IsGoing g.now tree.now self.new × IsTurned g.now tree.now self.old self.new) }
-        ensures cost { IfOk result (λ _. steps.new + weight self.new ≤ steps.old + weight self.old + 18) }
+        ensures going { IfOk result (λ _. IsGoing g.now tree.now self.new
+            × IsTurned g.now tree.now self.old self.new) }
+        ensures cost { IfOk result (λ _. steps.new + weight self.new
+            ≤ steps.old + weight self.old + 18) }
         ensures at_most { steps.new ≤ steps.old + weight self.old + 18 }
         ensures rises { steps.old ≤ steps.new }
     {
@@ -216,8 +232,10 @@ impl Pass {
     ) -> Result<(), AllocError>
         requires numbered { IsNumbered g.now tree.now }
         requires pass { IsPass g.now tree.now self.old }
-        ensures going { IfOk result (λ _. IsGoing g.now tree.now self.new × IsTurned g.now tree.now self.old self.new) }
-        ensures cost { IfOk result (λ _. steps.new + weight self.new ≤ steps.old + weight self.old + 18) }
+        ensures going { IfOk result (λ _. IsGoing g.now tree.now self.new
+            × IsTurned g.now tree.now self.old self.new) }
+        ensures cost { IfOk result (λ _. steps.new + weight self.new
+            ≤ steps.old + weight self.old + 18) }
         ensures at_most { steps.new ≤ steps.old + weight self.old + 18 }
         ensures rises { steps.old ≤ steps.new }
     {
@@ -252,7 +270,8 @@ impl Pass {
         requires pass { IsPass g.now tree.now self.old }
         requires turns { HasTurns g.now tree.now self.old (g.now.vertex_count + edge_count g.now) }
         ensures passed { IfOk result (λ _. IsPassed g.now tree.now self.new) }
-        ensures at_most { steps.new ≤ steps.old + weight self.old + 19 * (g.now.vertex_count + edge_count g.now) }
+        ensures at_most { steps.new ≤ steps.old + weight self.old
+            + 19 * (g.now.vertex_count + edge_count g.now) }
         ensures rises { steps.old ≤ steps.new }
     {
         for _ in 0..g.vertex_count() + g.edge_count() {

@@ -22,8 +22,10 @@ fn note_layer<L: Ledger>(
     steps: &mut Steps<L>,
 )
     requires { HaveNamesBelow (m + length ups.old) edges.now }
-    ensures noted { (entry : Entry) (c : ℕ) → Contains (family_of edges.now) entry → entry.name ≡ m + c → slice_index_or ups.new c 0 ≡ layer }
-    ensures kept { (c : ℕ) → ((entry : Entry) → Contains (family_of edges.now) entry → entry.name ≡ m + c → ⊥) → slice_index_or ups.new c 0 ≡ slice_index_or ups.old c 0 }
+    ensures noted { (entry : Entry) (c : ℕ) → Contains (family_of edges.now) entry
+        → entry.name ≡ m + c → slice_index_or ups.new c 0 ≡ layer }
+    ensures kept { (c : ℕ) → ((entry : Entry) → Contains (family_of edges.now) entry
+        → entry.name ≡ m + c → ⊥) → slice_index_or ups.new c 0 ≡ slice_index_or ups.old c 0 }
     ensures cost { steps.new ≡ steps.old + length edges.now }
 {
     for edge in edges {
@@ -46,7 +48,8 @@ fn note_layers<L: Ledger>(
     requires number { length ups.old ≡ length parts.now }
     requires few { length parts.now < 2 ^ 32 }
     ensures ups { AreUps m (state_of parts.now current.now) ups.new }
-    ensures cost { steps.new ≡ steps.old + length parts.now + entry_total parts.now + length current.now }
+    ensures cost { steps.new ≡ steps.old + length parts.now + entry_total parts.now
+        + length current.now }
 {
     for (k, finished) in parts.iter().enumerate() {
         steps.tick();
@@ -67,8 +70,10 @@ fn ups_of<L: Ledger>(
     requires few { length parts.now < 2 ^ 32 }
     ensures ups { IfOk result (λ ups. AreUps m (state_of parts.now current.now) ups.items) }
     ensures number { IfOk result (λ ups. length ups.items ≡ length parts.now) }
-    ensures cost { IfOk result (λ _. steps.new ≡ steps.old + length parts.now + entry_total parts.now + length current.now) }
-    ensures at_most { steps.new ≤ steps.old + length parts.now + entry_total parts.now + length current.now }
+    ensures cost { IfOk result (λ _. steps.new ≡ steps.old + length parts.now
+        + entry_total parts.now + length current.now) }
+    ensures at_most { steps.new ≤ steps.old + length parts.now + entry_total parts.now
+        + length current.now }
     ensures rises { steps.old ≤ steps.new }
 {
     let mut ups = vec![in alloc; 0; parts.len()]?;
@@ -79,7 +84,9 @@ fn ups_of<L: Ledger>(
 // What an entry of component k stands for.
 fn what_of(edge: NamedEdge, m: u32, k: u32, ups: &[u32]) -> What
     requires { edge.name < m + length ups.now }
-    ensures { (state : SplitState) → (edge.name ≡ m + k → Contains (layer state (slice_index_or ups.now k 0)) (entry_of edge)) → IsWrittenIn m state k (entry_of edge) result }
+    ensures { (state : SplitState) → (edge.name ≡ m + k
+        → Contains (layer state (slice_index_or ups.now k 0)) (entry_of edge))
+        → IsWrittenIn m state k (entry_of edge) result }
 {
     if edge.name < m {
         return What::Real(edge.name);
@@ -100,7 +107,10 @@ fn push_piece(
     ups: &[u32],
 ) -> Result<(), AllocError>
     requires { edge.name < m + length ups.now }
-    ensures { IfOk result (λ _. (state : SplitState) (entries : List Entry) → (edge.name ≡ m + k → Contains (layer state (slice_index_or ups.now k 0)) (entry_of edge)) → AreWritten m state k entries pieces.old.items → AreWritten m state k (entries ++ entry_of edge ∷ []) pieces.new.items) }
+    ensures { IfOk result (λ _. (state : SplitState) (entries : List Entry)
+        → (edge.name ≡ m + k → Contains (layer state (slice_index_or ups.now k 0)) (entry_of edge))
+        → AreWritten m state k entries pieces.old.items
+        → AreWritten m state k (entries ++ entry_of edge ∷ []) pieces.new.items) }
 {
     pieces.push(Piece {
         a: edge.first,
@@ -120,7 +130,11 @@ fn push_pieces<L: Ledger>(
     steps: &mut Steps<L>,
 ) -> Result<(), AllocError>
     requires { HaveNamesBelow (m + length ups.now) edges.now }
-    ensures written { IfOk result (λ _. (state : SplitState) (entries : List Entry) → ((entry : Entry) → Contains (family_of edges.now) entry → entry.name ≡ m + k → Contains (layer state (slice_index_or ups.now k 0)) entry) → AreWritten m state k entries pieces.old.items → AreWritten m state k (entries ++ family_of edges.now) pieces.new.items) }
+    ensures written { IfOk result (λ _. (state : SplitState) (entries : List Entry)
+        → ((entry : Entry) → Contains (family_of edges.now) entry → entry.name ≡ m + k
+        → Contains (layer state (slice_index_or ups.now k 0)) entry)
+        → AreWritten m state k entries pieces.old.items
+        → AreWritten m state k (entries ++ family_of edges.now) pieces.new.items) }
     ensures cost { IfOk result (λ _. steps.new ≡ steps.old + length edges.now) }
     ensures at_most { steps.new ≤ steps.old + length edges.now }
     ensures rises { steps.old ≤ steps.new }
@@ -174,7 +188,10 @@ fn last_of<L: Ledger>(
 ) -> Result<Comp, AllocError>
     requires { HaveNamesBelow (m + length ups.now) current.now }
     ensures kind { IfOk result (λ comp. comp.kind ≡ kind) }
-    ensures written { IfOk result (λ comp. (state : SplitState) → ((entry : Entry) → Contains (family_of current.now) entry → entry.name ≡ m + k → Contains (layer state (slice_index_or ups.now k 0)) entry) → AreWritten m state k (family_of current.now) comp.items) }
+    ensures written { IfOk result (λ comp. (state : SplitState)
+        → ((entry : Entry) → Contains (family_of current.now) entry → entry.name ≡ m + k
+        → Contains (layer state (slice_index_or ups.now k 0)) entry)
+        → AreWritten m state k (family_of current.now) comp.items) }
     ensures cost { IfOk result (λ _. steps.new ≡ steps.old + length current.now) }
     ensures at_most { steps.new ≤ steps.old + length current.now }
     ensures rises { steps.old ≤ steps.new }
@@ -197,8 +214,10 @@ fn write_parts<L: Ledger>(
 ) -> Result<Vec<Comp>, AllocError>
     requires names { HavePartNamesBelow (m + length ups.now) parts.now }
     requires few { length parts.now < 2 ^ 32 }
-    ensures written { IfOk result (λ comps. ArePartsWritten m parts.now ups.now (length parts.now) comps.items) }
-    ensures cost { IfOk result (λ _. steps.new ≡ steps.old + length parts.now + entry_total parts.now) }
+    ensures written { IfOk result (λ comps. ArePartsWritten m parts.now ups.now
+        (length parts.now) comps.items) }
+    ensures cost { IfOk result (λ _. steps.new ≡ steps.old + length parts.now
+        + entry_total parts.now) }
     ensures at_most { steps.new ≤ steps.old + length parts.now + entry_total parts.now }
     ensures rises { steps.old ≤ steps.new }
 {
@@ -221,9 +240,12 @@ pub(crate) fn write<L: Ledger>(
 ) -> Result<Comps, AllocError>
     requires listed { IsListed m (state_of parts.now current.now) }
     requires few { m + length parts.now < 2 ^ 32 }
-    ensures components { IfOk result (λ comps. AreComponents m (state_of parts.now current.now) kind comps.list) }
-    ensures cost { IfOk result (λ _. steps.new ≡ steps.old + 2 * (length parts.now + entry_total parts.now + length current.now)) }
-    ensures at_most { steps.new ≤ steps.old + 2 * (length parts.now + entry_total parts.now + length current.now) }
+    ensures components { IfOk result (λ comps. AreComponents m
+        (state_of parts.now current.now) kind comps.list) }
+    ensures cost { IfOk result (λ _. steps.new ≡ steps.old
+        + 2 * (length parts.now + entry_total parts.now + length current.now)) }
+    ensures at_most { steps.new ≤ steps.old + 2 * (length parts.now + entry_total parts.now
+        + length current.now) }
     ensures rises { steps.old ≤ steps.new }
 {
     let ups = ups_of(alloc, parts, current, m, steps)?;

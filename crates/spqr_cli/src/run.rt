@@ -63,7 +63,8 @@ fn write_report<K: Sink>(
 fn write_summary<K: Sink>(alloc: Global, edges: u32, seed: u64, sink: &mut K) -> Status
     requires least { 6 ≤ edges }
     requires most { edges ≤ max_asked }
-    ensures summary { CarriesOut (Summary edges seed) (K.written sink.old) (K.written sink.new) result }
+    ensures summary { CarriesOut (Summary edges seed) (K.written sink.old)
+        (K.written sink.new) result }
     ensures faults { CountsPuts (K.faults sink.old) (K.faults sink.new) result }
 {
     match summary(

@@ -14,7 +14,8 @@ use std::alloc::Global;
 
 /// The document that the bytes spell.
 pub fn document_of(alloc: Global, bytes: &[u8]) -> Result<Doc, Halt<GmlFault>>
-    ensures { Answers result (Spells bytes.now) (λ fault. IsGmlReason bytes.now fault × (fault ≢ GmlFault.Memory)) }
+    ensures { Answers result (Spells bytes.now) (λ fault. IsGmlReason bytes.now fault
+        × (fault ≢ GmlFault.Memory)) }
 {
     match gml_text::read(alloc, bytes) {
         Ok(doc) => Ok(doc),
@@ -43,7 +44,8 @@ pub fn graph_of(alloc: Global, doc: &Doc) -> Result<Named, Halt<GraphFault>>
 /// The commands that the bytes of a script spell, or the first line that is none.
 pub fn commands_of(alloc: Global, bytes: &[u8]) -> Result<Vec<Command>, Halt<u32>>
     requires { length bytes.now < 2 ^ 32 }
-    ensures { Answers result (λ commands. Commands bytes.now commands.items) (IsFirstBadLine bytes.now) }
+    ensures { Answers result (λ commands. Commands bytes.now commands.items)
+        (IsFirstBadLine bytes.now) }
 {
     match spqr_script::read(alloc, bytes) {
         Ok(commands) => Ok(commands),

@@ -104,7 +104,8 @@ impl<'a> Shelf for SureShelf<'a> {
 
     fn open(&mut self, name: &str) -> Result<(), Failed>
         ensures files { self.new.files ≡ self.old.files }
-        ensures bytes { Opens (Some (bytes_of self.old.files.now)) name.now (Some self.new.left.now) result }
+        ensures bytes { Opens (Some (bytes_of self.old.files.now)) name.now
+            (Some self.new.left.now) result }
         ensures counted { self.new.opens ≡ counted self.old.opens }
         ensures cause { HasCause 0 0 result }
         ensures sure { IsOk result }
@@ -117,7 +118,8 @@ impl<'a> Shelf for SureShelf<'a> {
         requires { 0 < length buf.old }
         ensures files { self.new.files ≡ self.old.files }
         ensures count { ReadsAtMost result buf.new }
-        ensures bytes { ReadConsumes (Some self.old.left.now) (Some self.new.left.now) result buf.new }
+        ensures bytes { ReadConsumes (Some self.old.left.now)
+            (Some self.new.left.now) result buf.new }
         ensures opens { self.new.opens ≡ self.old.opens }
         ensures cause { HasCause 0 0 result }
         ensures sure { IsOk result }
@@ -176,7 +178,8 @@ impl<'a> Shelf for MemShelf<'a> {
 
     fn open(&mut self, name: &str) -> Result<(), Failed>
         ensures files { self.new.shelf.files ≡ self.old.shelf.files }
-        ensures bytes { Opens (Some (bytes_of self.old.shelf.files.now)) name.now (Some self.new.shelf.left.now) result }
+        ensures bytes { Opens (Some (bytes_of self.old.shelf.files.now)) name.now
+            (Some self.new.shelf.left.now) result }
         ensures counted { self.new.shelf.opens ≡ counted self.old.shelf.opens }
         ensures cause { HasCause self.old.faults self.new.faults result }
         ensures fails { MatchResult result
@@ -197,7 +200,8 @@ impl<'a> Shelf for MemShelf<'a> {
         requires { 0 < length buf.old }
         ensures files { self.new.shelf.files ≡ self.old.shelf.files }
         ensures count { ReadsAtMost result buf.new }
-        ensures bytes { ReadConsumes (Some self.old.shelf.left.now) (Some self.new.shelf.left.now) result buf.new }
+        ensures bytes { ReadConsumes (Some self.old.shelf.left.now)
+            (Some self.new.shelf.left.now) result buf.new }
         ensures opens { self.new.shelf.opens ≡ self.old.shelf.opens }
         ensures cause { HasCause self.old.faults self.new.faults result }
         ensures fails { MatchResult result
@@ -261,7 +265,8 @@ impl<'a> Sink for MemSink<'a> {
         requires { 0 < length piece.now }
         ensures some { IfOk result (λ n. 0 < n) }
         ensures count { WritesAtMost result piece.now }
-        ensures bytes { WriteAppends (Some self.old.bytes.items) (Some self.new.bytes.items) result piece.now }
+        ensures bytes { WriteAppends (Some self.old.bytes.items)
+            (Some self.new.bytes.items) result piece.now }
         ensures cause { HasCause self.old.faults self.new.faults result }
         ensures taken { IfOk result (λ n. n ≡ min self.old.greatest (length piece.now)) }
         ensures listed { IfOk result (λ _. ¬ Contains self.old.failing.now self.old.calls) }

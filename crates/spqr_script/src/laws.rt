@@ -10,11 +10,16 @@ ghost use Rattle.spqr_script.specs.declared.command.Command.{Command};
 /// Each script spells commands or has a first bad line, and not both; it spells one list of commands at most, and has one
 /// first bad line at most. What is printed behind the bar of a rotation line spells its entries.
 pub fn script_laws()
-    ensures decided { (bytes : List ℕ) → ((commands : List Command) × Commands bytes commands) ⊎ ((line : ℕ) × IsFirstBadLine bytes line) }
-    ensures apart { (bytes : List ℕ) (commands : List Command) (line : ℕ) → Commands bytes commands → IsFirstBadLine bytes line → ⊥ }
-    ensures one_reading { (bytes : List ℕ) (commands others : List Command) → Commands bytes commands → Commands bytes others → commands ≡ others }
-    ensures one_bad_line { (bytes : List ℕ) (line other : ℕ) → IsFirstBadLine bytes line → IsFirstBadLine bytes other → line ≡ other }
-    ensures numbers { (limit : ℕ) (text : List ℕ) (n : ℕ) → (number_below limit text ≡ Some n) ↔ SpellsNumber limit text n }
+    ensures decided { (bytes : List ℕ) → ((commands : List Command) × Commands bytes commands)
+        ⊎ ((line : ℕ) × IsFirstBadLine bytes line) }
+    ensures apart { (bytes : List ℕ) (commands : List Command) (line : ℕ) → Commands bytes commands
+        → IsFirstBadLine bytes line → ⊥ }
+    ensures one_reading { (bytes : List ℕ) (commands others : List Command)
+        → Commands bytes commands → Commands bytes others → commands ≡ others }
+    ensures one_bad_line { (bytes : List ℕ) (line other : ℕ) → IsFirstBadLine bytes line
+        → IsFirstBadLine bytes other → line ≡ other }
+    ensures numbers { (limit : ℕ) (text : List ℕ) (n : ℕ) →
+        (number_below limit text ≡ Some n) ↔ SpellsNumber limit text n }
     ensures printed { (entries : List (ℕ × List ℕ)) → IsRising entries → All IsIndexEntry entries →
         SpellsRotation (tokens_of (entries_text (codes " ") entries)) entries }
 {}

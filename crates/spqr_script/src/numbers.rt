@@ -48,7 +48,8 @@ pub(crate) fn index(token: &[u8]) -> Option<u32>
 
 // Puts the numbers of the line's tokens behind those given. False where a token is none.
 pub(crate) fn read_indices(line: &[u8], numbers: &mut Vec<u32>) -> Result<bool, AllocError>
-    ensures { IfOk result (λ all. put_behind numbers.old.items (indices_of (tokens_of line.now)) ≡ (if all then Some numbers.new.items else None)) }
+    ensures { IfOk result (λ all. put_behind numbers.old.items (indices_of (tokens_of line.now))
+        ≡ (if all then Some numbers.new.items else None)) }
 {
     let mut rest = line;
     while let Some((token, after)) = next_token(rest) {

@@ -28,7 +28,8 @@ fn read_command(alloc: Global, line: &[u8]) -> Result<Option<Command>, AllocErro
 // The first line without its line feed, and what stands behind it.
 fn first_line(bytes: &[u8]) -> (&[u8], &[u8])
     requires { 0 < length bytes.now }
-    ensures { (cut_lines bytes.now ≡ result.0.now ∷ cut_lines result.1.now) × (length result.1.now < length bytes.now) }
+    ensures { (cut_lines bytes.now ≡ result.0.now ∷ cut_lines result.1.now)
+        × (length result.1.now < length bytes.now) }
 {
     match cut(bytes, b'\n') {
         Some((line, rest)) => (line, rest),
@@ -92,7 +93,8 @@ pub fn read(alloc: Global, bytes: &[u8]) -> Result<Vec<Command>, ScriptFault>
     // What is read is spelled.
     ensures spelled { IfOk result (λ commands. Commands bytes.now commands.items) }
     // What is spelled is read, unless memory runs out.
-    ensures all_spelled { (commands : List Command) → Commands bytes.now commands → IsReading result commands }
+    ensures all_spelled { (commands : List Command) → Commands bytes.now commands
+        → IsReading result commands }
     // A bad line is the first one, and then nothing is spelled.
     ensures bad_line { IfErr result (IsFault bytes.now) }
 {

@@ -85,7 +85,8 @@ pub fn rule_line(alloc: Global, f: &GraphFault) -> Result<Vec<u8>, AllocError>
 
 // The line of a refusal that speaks of a number.
 fn refused(alloc: Global, rule: &[u8], n: u128) -> Result<Vec<u8>, AllocError>
-    ensures { IfOk result (λ text. text.items ≡ codes "refused " ++ rule.now ++ codes " " ++ decimal n ++ codes "\n") }
+    ensures { IfOk result (λ text. text.items ≡ codes "refused " ++ rule.now ++ codes " "
+        ++ decimal n ++ codes "\n") }
 {
     let mut out = Vec::from_slice(alloc, b"refused ")?;
     push_word(&mut out, rule)?;

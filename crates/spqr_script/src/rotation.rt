@@ -12,7 +12,8 @@ use std::alloc::{AllocError, Global};
 
 // The vertex of an entry; its edges are left in `edges`. None where the part is no entry.
 fn read_entry(part: &[u8], edges: &mut Vec<u32>) -> Result<Option<u32>, AllocError>
-    ensures { IfOk result (λ vertex. pair_of vertex (Some edges.new.items) ≡ entry_of (tokens_of part.now)) }
+    ensures { IfOk result (λ vertex. pair_of vertex (Some edges.new.items)
+        ≡ entry_of (tokens_of part.now)) }
 {
     edges.clear();
     let Some((vertex, behind)) = next_token(part) else {
@@ -32,7 +33,8 @@ fn read_entry(part: &[u8], edges: &mut Vec<u32>) -> Result<Option<u32>, AllocErr
 
 // Puts an entry behind the others. False where the part is no entry, or its vertex is not above the last.
 fn push_entry(part: &[u8], edges: &mut Vec<u32>, entries: &mut Lists) -> Result<bool, AllocError>
-    ensures { IfOk result (λ taken. entry_then entries.old (entry_of (tokens_of part.now)) (λ longer. Some longer) ≡ (if taken then Some entries.new else None)) }
+    ensures { IfOk result (λ taken. entry_then entries.old (entry_of (tokens_of part.now))
+        (λ longer. Some longer) ≡ (if taken then Some entries.new else None)) }
 {
     let Some(vertex) = read_entry(part, edges)? else {
         return Ok(false);

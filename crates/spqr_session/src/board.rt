@@ -71,7 +71,8 @@ impl Board {
     /// Where memory is wanting it is dropped, and all is as before.
     pub fn put(&mut self, alloc: Global, b: u32, plane: PlaneBlock) -> Result<(), AllocError>
         requires { (e : Embedding) × CanReplace self.old.views b e plane }
-        ensures done { IfOk result (λ _. self.new ≡ changed_board self.old b (record { rotation = plane.rotation; locks = plane.locks })) }
+        ensures done { IfOk result (λ _. self.new ≡ changed_board self.old b
+            (record { rotation = plane.rotation; locks = plane.locks })) }
         ensures memory { OnErr result (self.new ≡ self.old) }
     {
         let step = step_to(alloc, &self.blocks, b, &plane)?;
@@ -101,7 +102,8 @@ impl Board {
         requires { is_none self.old.earlier ≡ false }
         ensures undone { IsUndone self.old self.new }
         ensures trees { map view_tree self.new.views ≡ map view_tree self.old.views }
-        ensures certificates { map view_certificate self.new.views ≡ map view_certificate self.old.views }
+        ensures certificates { map view_certificate self.new.views
+            ≡ map view_certificate self.old.views }
     {
         if let Ok(step) = self.log.undo() {
             carry_back(&mut self.blocks, step);
@@ -113,7 +115,8 @@ impl Board {
         requires { is_none self.old.later ≡ false }
         ensures redone { IsRedone self.old self.new }
         ensures trees { map view_tree self.new.views ≡ map view_tree self.old.views }
-        ensures certificates { map view_certificate self.new.views ≡ map view_certificate self.old.views }
+        ensures certificates { map view_certificate self.new.views
+            ≡ map view_certificate self.old.views }
     {
         if let Ok(step) = self.log.redo() {
             carry_forth(&mut self.blocks, step);
@@ -125,7 +128,8 @@ impl Board {
 fn moves_to(alloc: Global, p: &PlaneBlock, q: &PlaneBlock) -> Result<MoveList, AllocError>
     requires graph { q.now.graph ≡ p.now.graph }
     requires tree { q.now.tree ≡ p.now.tree }
-    ensures { IfOk result (λ list. as_moves list ≡ moves_between p.now.tree p.now.rotation q.now.rotation) }
+    ensures { IfOk result
+        (λ list. as_moves list ≡ moves_between p.now.tree p.now.rotation q.now.rotation) }
 {
     Ok(MoveList::of(moves(alloc, p, q)?))
 }
@@ -138,7 +142,10 @@ fn step_to(
     plane: &PlaneBlock,
 ) -> Result<Step, AllocError>
     requires { (e : Embedding) × CanReplace blocks.now b e plane.now }
-    ensures { IfOk result (LeadsTo blocks.now b (record { rotation = plane.now.rotation; locks = plane.now.locks })) }
+    ensures { IfOk result (LeadsTo blocks.now b (record {
+      rotation = plane.now.rotation;
+      locks = plane.now.locks;
+    })) }
 {
     let _ = plane.graph();
     match blocks[b as usize].outcome() {
@@ -155,7 +162,11 @@ fn step_to(
 fn lock_step(blocks: &[EmbeddedBlock], b: u32, k: u32, on: bool) -> Step
     requires block { b < length blocks.now }
     requires node { k < length (view_at blocks.now b).tree.nodes }
-    ensures { (e : Embedding) → StandsAt blocks.now b e → LeadsTo blocks.now b (record { rotation = e.rotation; locks = slice_set e.locks k on }) result }
+    ensures { (e : Embedding) → StandsAt blocks.now b e
+        → LeadsTo blocks.now b (record {
+          rotation = e.rotation;
+          locks = slice_set e.locks k on;
+        }) result }
 {
     Step::Lock {
         block: b,
@@ -170,7 +181,8 @@ fn move_block(blocks: &mut Vec<EmbeddedBlock>, b: u32, moves: &MoveList)
     requires block { b < length blocks.old.items }
     requires moves { All (Fits (view_at blocks.old.items b).tree.nodes) (as_moves moves.now) }
     ensures carried { IsCarried blocks.old.items blocks.new.items }
-    ensures family { family_on blocks.new.items ≡ family_moved (map view_tree blocks.old.items) b (as_moves moves.now) (family_on blocks.old.items) }
+    ensures family { family_on blocks.new.items ≡ family_moved (map view_tree blocks.old.items) b
+        (as_moves moves.now) (family_on blocks.old.items) }
 {
     blocks[b as usize].carry(moves);
 }
@@ -180,7 +192,8 @@ fn lock_block(blocks: &mut Vec<EmbeddedBlock>, b: u32, k: u32, on: bool)
     requires block { b < length blocks.old.items }
     requires node { k < length (view_at blocks.old.items b).tree.nodes }
     ensures carried { IsCarried blocks.old.items blocks.new.items }
-    ensures family { family_on blocks.new.items ≡ family_locked b k on (family_on blocks.old.items) }
+    ensures family { family_on blocks.new.items ≡ family_locked b k on
+        (family_on blocks.old.items) }
 {
     blocks[b as usize].set_lock(k, on);
 }
@@ -189,7 +202,8 @@ fn lock_block(blocks: &mut Vec<EmbeddedBlock>, b: u32, k: u32, on: bool)
 fn carry_back(blocks: &mut Vec<EmbeddedBlock>, step: &Step)
     requires { IsStepOf (map view_tree blocks.old.items) step.now }
     ensures carried { IsCarried blocks.old.items blocks.new.items }
-    ensures family { family_on blocks.new.items ≡ undone (map view_tree blocks.old.items) step.now (family_on blocks.old.items) }
+    ensures family { family_on blocks.new.items ≡ undone (map view_tree blocks.old.items) step.now
+        (family_on blocks.old.items) }
 {
     match step {
         Step::Moves {
@@ -210,7 +224,8 @@ fn carry_back(blocks: &mut Vec<EmbeddedBlock>, step: &Step)
 fn carry_forth(blocks: &mut Vec<EmbeddedBlock>, step: &Step)
     requires { IsStepOf (map view_tree blocks.old.items) step.now }
     ensures carried { IsCarried blocks.old.items blocks.new.items }
-    ensures family { family_on blocks.new.items ≡ redone (map view_tree blocks.old.items) step.now (family_on blocks.old.items) }
+    ensures family { family_on blocks.new.items ≡ redone (map view_tree blocks.old.items) step.now
+        (family_on blocks.old.items) }
 {
     match step {
         Step::Moves {

@@ -101,7 +101,8 @@ pub fn embedded_blocks<P: Splitter, E: Embedder>(
     embedder: &mut E,
 ) -> Result<Vec<EmbeddedBlock>, AllocError>
     requires { IsBlockStructure graph.now blocks.now }
-    ensures { IfOk result (λ embedded. AreStartBlocks graph.now blocks.now.blocks (length blocks.now.blocks) embedded.items) }
+    ensures { IfOk result (λ embedded. AreStartBlocks graph.now blocks.now.blocks
+        (length blocks.now.blocks) embedded.items) }
 {
     let mut embedded = Vec::new(alloc);
     for b in 0..blocks.block_count() {

@@ -34,7 +34,8 @@ fn push_vertices(out: &mut Vec<u8>, ids: &[i64]) -> Result<(), AllocError>
 
 // Puts the lines of the cut vertices behind a text.
 fn push_cuts(out: &mut Vec<u8>, cut_vertices: &[u32]) -> Result<(), AllocError>
-    ensures { OnOk result (out.new.items ≡ out.old.items ++ concat (map cut_text cut_vertices.now)) }
+    ensures { OnOk result (out.new.items ≡ out.old.items
+        ++ concat (map cut_text cut_vertices.now)) }
 {
     for v in cut_vertices {
         push_cut_line(out, *v)?;

@@ -22,7 +22,8 @@ pub enum Planned {
 // Puts the block on the board as it was planned, and answers `ok`.
 fn make(alloc: Global, board: &mut Board, b: u32, plane: PlaneBlock) -> Result<Vec<u8>, AllocError>
     requires { MayStand board.old.views b (Planned.Change plane) }
-    ensures done { IfOk result (λ text. IsSettled b (Planned.Change plane) board.old text.items board.new) }
+    ensures done { IfOk result
+        (λ text. IsSettled b (Planned.Change plane) board.old text.items board.new) }
     ensures memory { OnErr result (board.new ≡ board.old) }
 {
     let text = ok_line(alloc)?;

@@ -40,9 +40,16 @@ impl Model for Session {
 
     ghost coded = { Prim.hlevel (codes, document_code) };
 
-    ghost view = { λ s. record { setting = setting_of s.doc s.named s.blocks s.board.views; state = board_state s.board } };
+    ghost view = { λ s. record {
+      setting = setting_of s.doc s.named s.blocks s.board.views;
+      state = board_state s.board;
+    } };
 
-    ghost invariant = { λ s. IsMachine (record { setting = setting_of s.doc s.named s.blocks s.board.views; state = board_state s.board }) };
+    ghost invariant = { λ s. IsMachine
+        (record {
+          setting = setting_of s.doc s.named s.blocks s.board.views;
+          state = board_state s.board;
+        }) };
 }
 
 impl Session {

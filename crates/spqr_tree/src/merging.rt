@@ -108,7 +108,13 @@ impl Model for Merging {
 
     ghost Value = { MergingState };
 
-    ghost view = { λ s. record { live = s.live; lead = s.lead.items; groups = s.groups.items; done = s.done.items; stack = s.stack.items } };
+    ghost view = { λ s. record {
+      live = s.live;
+      lead = s.lead.items;
+      groups = s.groups.items;
+      done = s.done.items;
+      stack = s.stack.items;
+    } };
 }
 
 // The number of the group of component c.

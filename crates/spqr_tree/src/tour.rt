@@ -31,7 +31,12 @@ impl Model for Tour {
 
     ghost Value = { TourState };
 
-    ghost view = { λ s. record { at = s.at; met = s.met; places = s.places.items; bounds = s.bounds.items } };
+    ghost view = { λ s. record {
+      at = s.at;
+      met = s.met;
+      places = s.places.items;
+      bounds = s.bounds.items;
+    } };
 }
 
 // The items of node k.

@@ -24,7 +24,11 @@ impl Model for TreeNode {
 
     ghost Value = { Node };
 
-    ghost view = { λ node. record { kind = node.kind; vertices = node.vertices; items = node.items } };
+    ghost view = { λ node. record {
+      kind = node.kind;
+      vertices = node.vertices;
+      items = node.items;
+    } };
 }
 
 /// The tree of a block: its nodes, in lexicographic order of their vertices. Contracts see the list of the nodes.
@@ -46,7 +50,8 @@ impl Model for Tree {
 
     ghost view = { λ tree. tree.nodes.items };
 
-    ghost invariant = { λ tree. (length tree.nodes.items < 2 ^ 32) × AreToured tree.nodes.items tree.places.items tree.bounds.items };
+    ghost invariant = { λ tree. (length tree.nodes.items < 2 ^ 32)
+        × AreToured tree.nodes.items tree.places.items tree.bounds.items };
 }
 
 impl Tree {

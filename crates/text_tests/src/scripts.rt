@@ -2,7 +2,6 @@
 ghost use Rattle.std.specs.Prelude.{◌≡◌, ◌<◌, true, All};
 ghost use Rattle.multigraph.specs.Graph.{edge_count};
 
-use spqr_script::*;
 use faces::{Euler, trace};
 use gml_graph::GraphFault;
 use gml_text::GmlFault;
@@ -10,6 +9,7 @@ use kuratowski::{Pattern, Subdivision, is_subdivision};
 use multigraph::{Graph, NumberLists, Numbers, Part};
 use rotations::{Lists, Rotation};
 use skel_embed::{Keys, Move};
+use spqr_script::*;
 use std::alloc::{AllocError, Global};
 use std::test::*;
 

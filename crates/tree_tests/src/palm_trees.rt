@@ -4,9 +4,9 @@ ghost use Rattle.std.specs.Prelude.{IfOk, IfSome, IsTrue};
 ghost use Rattle.blocks.specs.Blocks.{IsBlockStructure};
 ghost use Rattle.palm_tree.specs.PalmTree.{IsConnected, IsPalmTree};
 
-use palm_tree::PalmTree;
 use blocks::{Blocks, split};
 use multigraph::Graph;
+use palm_tree::PalmTree;
 use std::alloc::{AllocError, Global};
 use std::test::Fail;
 

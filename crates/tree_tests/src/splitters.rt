@@ -3,11 +3,11 @@
 ghost use Rattle.std.specs.Prelude.{◌<◌, length, IfOk};
 ghost use Rattle.graph_theory.specs.Block.{IsOneBlock};
 
-use split_comp::SearchSplitter;
 use blocks::is_one_block;
 use made_graph::make_graph;
 use multigraph::Graph;
 use pair_split::{PairSplitter, Splitter};
+use split_comp::SearchSplitter;
 use spqr_tree::Tree;
 use std::alloc::{AllocError, Global};
 use std::test::Fail;

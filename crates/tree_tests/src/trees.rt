@@ -5,10 +5,10 @@ ghost use Rattle.std.specs.Prelude.{◌<◌, length, IfOk};
 ghost use Rattle.graph_theory.specs.Block.{IsOneBlock};
 ghost use Rattle.pair_split.specs.Tutte.{IsTutte};
 
-use spqr_tree::Tree;
 use blocks::is_one_block;
 use multigraph::Graph;
 use pair_split::{Comp, Item, PairSplitter, Splitter, What};
+use spqr_tree::Tree;
 use std::alloc::{AllocError, Global};
 use std::test::Fail;
 

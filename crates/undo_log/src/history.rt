@@ -33,7 +33,11 @@ impl Model for UndoLog {
 
     ghost Value = { History };
 
-    ghost view = { λ log. record { steps = log.steps.items; cursor = log.cursor; room = vec_capacity log.steps } };
+    ghost view = { λ log. record {
+      steps = log.steps.items;
+      cursor = log.cursor;
+      room = vec_capacity log.steps;
+    } };
 
     ghost invariant = { λ log. log.cursor ≤ length log.steps.items };
 }
@@ -115,7 +119,8 @@ impl UndoLog {
 
     // Goes back over a step, and whether there was one.
     fn step_back(&mut self) -> bool
-        ensures cases { MatchBool result (self.new.cursor + 1 ≡ self.old.cursor) (NoneBefore self.old self.new) }
+        ensures cases { MatchBool result (self.new.cursor + 1 ≡ self.old.cursor)
+            (NoneBefore self.old self.new) }
         ensures steps { self.new.steps ≡ self.old.steps }
         ensures room { self.new.room ≡ self.old.room }
         ensures within { self.old.cursor ≤ length self.old.steps }
@@ -129,7 +134,8 @@ impl UndoLog {
 
     // Goes on over a step, and whether there was one.
     fn step_on(&mut self) -> bool
-        ensures cases { MatchBool result (self.new.cursor ≡ self.old.cursor + 1) (NoneAfter self.old self.new) }
+        ensures cases { MatchBool result (self.new.cursor ≡ self.old.cursor + 1)
+            (NoneAfter self.old self.new) }
         ensures steps { self.new.steps ≡ self.old.steps }
         ensures room { self.new.room ≡ self.old.room }
         ensures within { self.new.cursor ≤ length self.old.steps }

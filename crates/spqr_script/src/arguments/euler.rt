@@ -11,7 +11,8 @@ use std::alloc::{AllocError, Global};
 
 // The command with the rotation that the text is, where it is one.
 pub(crate) fn read_euler(alloc: Global, text: &[u8]) -> Result<Option<Command>, AllocError>
-    ensures { IfOk result (λ command. command ≡ option_map (λ entries. Euler entries) (rotation_of (tokens_of text.now))) }
+    ensures { IfOk result (λ command. command ≡ option_map (λ entries. Euler entries)
+        (rotation_of (tokens_of text.now))) }
 {
     match read_rotation(alloc, text)? {
         Some(entries) => Ok(Some(Command::Euler(entries))),

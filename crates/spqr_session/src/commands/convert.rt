@@ -39,7 +39,8 @@ fn move_to(
     plane: PlaneBlock,
 ) -> Result<Vec<u8>, AllocError>
     requires { MayStand board.old.views b (Planned.Change plane) }
-    ensures done { IfOk result (λ text. IsConverted b (Planned.Change plane) board.old text.items board.new) }
+    ensures done { IfOk result
+        (λ text. IsConverted b (Planned.Change plane) board.old text.items board.new) }
     ensures memory { OnErr result (board.new ≡ board.old) }
 {
     let text = lines_to(alloc, &board.blocks()[b as usize], &plane)?;
@@ -73,7 +74,8 @@ pub(crate) fn carry_convert_rank(
     b: u32,
     r: u128,
 ) -> Result<Vec<u8>, AllocError>
-    ensures step { IfOk result (λ text. ConvertRankStep (map view_tree board.old.views) b r (board_state board.old) text.items (board_state board.new)) }
+    ensures step { IfOk result (λ text. ConvertRankStep (map view_tree board.old.views) b r
+        (board_state board.old) text.items (board_state board.new)) }
     ensures setting { IsCarried board.old.views board.new.views }
     ensures memory { OnErr result (board.new ≡ board.old) }
 {
@@ -89,7 +91,8 @@ pub(crate) fn carry_convert_to(
     b: u32,
     lists: &Lists,
 ) -> Result<Vec<u8>, AllocError>
-    ensures step { IfOk result (λ text. ConvertToStep (map view_tree board.old.views) b lists.now (board_state board.old) text.items (board_state board.new)) }
+    ensures step { IfOk result (λ text. ConvertToStep (map view_tree board.old.views) b lists.now
+        (board_state board.old) text.items (board_state board.new)) }
     ensures setting { IsCarried board.old.views board.new.views }
     ensures memory { OnErr result (board.new ≡ board.old) }
 {

@@ -24,7 +24,8 @@ fn line_of(alloc: Global, members: u128) -> Result<Vec<u8>, AllocError>
 
 // The line of a block's count, or that of a code.
 fn count_block(alloc: Global, block: &EmbeddedBlock) -> Result<Vec<u8>, AllocError>
-    ensures { IfOk result (λ text. TellsBlock block.now.tree block.now.entry count_codes IsCounted text.items) }
+    ensures { IfOk result
+        (λ text. TellsBlock block.now.tree block.now.entry count_codes IsCounted text.items) }
 {
     match block.outcome() {
         Outcome::Plane(plane) => match count(plane) {
@@ -52,7 +53,8 @@ pub(crate) fn carry_count(
 
 // The line of a block's rank, or that of a code.
 fn rank_block(alloc: Global, block: &EmbeddedBlock) -> Result<Vec<u8>, AllocError>
-    ensures { IfOk result (λ text. TellsBlock block.now.tree block.now.entry count_codes IsRanked text.items) }
+    ensures { IfOk result
+        (λ text. TellsBlock block.now.tree block.now.entry count_codes IsRanked text.items) }
 {
     match block.outcome() {
         Outcome::Plane(plane) => match rank(plane) {

@@ -39,7 +39,8 @@ fn plan_plane(alloc: Global, plane: &PlaneBlock, k: u32) -> Result<Planned, Allo
 fn plan_rigid(alloc: Global, block: &EmbeddedBlock, k: u32) -> Result<Planned, AllocError>
     requires node { k < length block.now.tree.nodes }
     requires kind { kind_of block.now.tree k ≡ R }
-    ensures { IfOk result (IsPlan (flip_codes k block.now.tree block.now.entry) (IsFlipped k) block.now) }
+    ensures { IfOk result (IsPlan (flip_codes k block.now.tree block.now.entry)
+        (IsFlipped k) block.now) }
 {
     match block.outcome() {
         Outcome::Plane(plane) => plan_plane(alloc, plane, k),
@@ -49,7 +50,8 @@ fn plan_rigid(alloc: Global, block: &EmbeddedBlock, k: u32) -> Result<Planned, A
 
 // The plan for a block.
 fn plan_block(alloc: Global, block: &EmbeddedBlock, k: u32) -> Result<Planned, AllocError>
-    ensures { IfOk result (IsPlan (flip_codes k block.now.tree block.now.entry) (IsFlipped k) block.now) }
+    ensures { IfOk result (IsPlan (flip_codes k block.now.tree block.now.entry)
+        (IsFlipped k) block.now) }
 {
     if k >= block.tree().node_count() {
         return Ok(Planned::Refused(Code::NoNode));

@@ -10,7 +10,8 @@ use std::alloc::{AllocError, Global};
 
 /// Carries out `undo`: the nearest earlier family is the present one, or code 8. Without memory the board stays as it was.
 pub(crate) fn carry_undo(alloc: Global, board: &mut Board) -> Result<Vec<u8>, AllocError>
-    ensures step { IfOk result (λ text. UndoStep (board_state board.old) text.items (board_state board.new)) }
+    ensures step { IfOk result (λ text. UndoStep (board_state board.old) text.items
+        (board_state board.new)) }
     ensures setting { IsCarried board.old.views board.new.views }
     ensures memory { OnErr result (board.new ≡ board.old) }
 {
@@ -24,7 +25,8 @@ pub(crate) fn carry_undo(alloc: Global, board: &mut Board) -> Result<Vec<u8>, Al
 
 /// Carries out `redo`: the nearest later family is the present one, or code 9. Without memory the board stays as it was.
 pub(crate) fn carry_redo(alloc: Global, board: &mut Board) -> Result<Vec<u8>, AllocError>
-    ensures step { IfOk result (λ text. RedoStep (board_state board.old) text.items (board_state board.new)) }
+    ensures step { IfOk result (λ text. RedoStep (board_state board.old) text.items
+        (board_state board.new)) }
     ensures setting { IsCarried board.old.views board.new.views }
     ensures memory { OnErr result (board.new ≡ board.old) }
 {

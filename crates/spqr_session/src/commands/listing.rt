@@ -94,7 +94,8 @@ fn list_plane(
 
 // The lines of the next n members of a block, or that of code 5.
 fn list_block(alloc: Global, b: u32, n: u32, block: &EmbeddedBlock) -> Result<Vec<u8>, AllocError>
-    ensures { IfOk result (λ text. TellsBlock block.now.tree block.now.entry no_more (IsListing b n) text.items) }
+    ensures { IfOk result (λ text. TellsBlock block.now.tree block.now.entry no_more
+        (IsListing b n) text.items) }
 {
     match block.outcome() {
         Outcome::Plane(plane) => list_plane(alloc, b, n, block.part(), plane),

@@ -28,7 +28,8 @@ fn plan_plane(alloc: Global, plane: &PlaneBlock) -> Result<Planned, AllocError>
 
 // The plan for a block.
 fn plan_block(alloc: Global, block: &EmbeddedBlock) -> Result<Planned, AllocError>
-    ensures { IfOk result (IsPlan (entry_codes mirror_codes block.now.tree block.now.entry) IsMirrored block.now) }
+    ensures { IfOk result
+        (IsPlan (entry_codes mirror_codes block.now.tree block.now.entry) IsMirrored block.now) }
 {
     match block.outcome() {
         Outcome::Plane(plane) => plan_plane(alloc, plane),

@@ -26,7 +26,8 @@ use std::alloc::{AllocError, Global};
 
 // The number in a block of an edge of the whole graph; where the block does not have it, that behind the last, which is no edge.
 fn inner_key(block: &EmbeddedBlock, key: u32) -> u32
-    ensures { result ≡ least (length block.now.tree.part.edges) (λ i. slice_index block.now.tree.part.edges i == key) }
+    ensures { result ≡ least (length block.now.tree.part.edges)
+        (λ i. slice_index block.now.tree.part.edges i == key) }
 {
     let part = block.part();
     match part.inner_edge(key) {
@@ -64,7 +65,8 @@ fn are_keys(items: &[Item], keys: &[u32]) -> bool
 // Whether the keys are an arrangement of those of the items, which rise: a copy of them is sorted and compared.
 fn are_arranged(alloc: Global, items: &[Item], keys: &[u32]) -> Result<bool, AllocError>
     requires { Rises (map item_key items.now) }
-    ensures { IfOk result (λ arranged. IsTrue arranged ↔ IsPermutation (map item_key items.now) keys.now) }
+    ensures { IfOk result (λ arranged. IsTrue arranged ↔ IsPermutation
+        (map item_key items.now) keys.now) }
 {
     let mut sorted = Vec::from_slice(alloc, keys)?;
     sorted.sort_unstable();
@@ -101,7 +103,8 @@ fn plan_bond(
 ) -> Result<Planned, AllocError>
     requires node { k < length block.now.tree.nodes }
     requires kind { kind_of block.now.tree k ≡ P }
-    ensures { IfOk result (IsPlan (permute_codes k keys.now block.now.tree block.now.entry) (IsPermuted k keys.now) block.now) }
+    ensures { IfOk result (IsPlan (permute_codes k keys.now block.now.tree block.now.entry)
+        (IsPermuted k keys.now) block.now) }
 {
     let outcome = block.outcome();
     // The part has the number of each of its edges.
@@ -123,7 +126,8 @@ fn plan_block(
     k: u32,
     keys: &[u32],
 ) -> Result<Planned, AllocError>
-    ensures { IfOk result (IsPlan (permute_codes k keys.now block.now.tree block.now.entry) (IsPermuted k keys.now) block.now) }
+    ensures { IfOk result (IsPlan (permute_codes k keys.now block.now.tree block.now.entry)
+        (IsPermuted k keys.now) block.now) }
 {
     if k >= block.tree().node_count() {
         return Ok(Planned::Refused(Code::NoNode));
@@ -160,7 +164,8 @@ pub(crate) fn carry_permute(
     k: u32,
     keys: &[u32],
 ) -> Result<Vec<u8>, AllocError>
-    ensures step { IfOk result (λ text. PermuteStep (map view_tree board.old.views) b k keys.now (board_state board.old) text.items (board_state board.new)) }
+    ensures step { IfOk result (λ text. PermuteStep (map view_tree board.old.views) b k keys.now
+        (board_state board.old) text.items (board_state board.new)) }
     ensures setting { IsCarried board.old.views board.new.views }
     ensures memory { OnErr result (board.new ≡ board.old) }
 {

@@ -13,7 +13,8 @@ use std::alloc::{AllocError, Global};
 
 // The line of a block's rotation system, or that of code 5.
 fn show_block(alloc: Global, b: u32, block: &EmbeddedBlock) -> Result<Vec<u8>, AllocError>
-    ensures { IfOk result (λ text. TellsBlock block.now.tree block.now.entry no_more (IsShown b) text.items) }
+    ensures { IfOk result (λ text. TellsBlock block.now.tree block.now.entry no_more
+        (IsShown b) text.items) }
 {
     match block.outcome() {
         Outcome::Plane(plane) => rotation_line(alloc, b, block.part(), plane.rotation()),

@@ -42,7 +42,8 @@ fn take_of_plane(
 
 // The plan for a block.
 fn take_of_block(alloc: Global, block: &EmbeddedBlock, lists: &Lists) -> Result<Planned, AllocError>
-    ensures { IfOk result (IsLowestPlan (EntryTakenCodes lists.now block.now.tree block.now.entry) (IsTaken lists.now) block.now) }
+    ensures { IfOk result (IsLowestPlan (EntryTakenCodes lists.now block.now.tree block.now.entry)
+        (IsTaken lists.now) block.now) }
 {
     let _ = block.part().graph();
     match block.outcome() {
@@ -75,7 +76,8 @@ pub(crate) fn carry_take(
     b: u32,
     lists: &Lists,
 ) -> Result<Vec<u8>, AllocError>
-    ensures step { IfOk result (λ text. TakeStep (map view_tree board.old.views) b lists.now (board_state board.old) text.items (board_state board.new)) }
+    ensures step { IfOk result (λ text. TakeStep (map view_tree board.old.views) b lists.now
+        (board_state board.old) text.items (board_state board.new)) }
     ensures setting { IsCarried board.old.views board.new.views }
     ensures memory { OnErr result (board.new ≡ board.old) }
 {

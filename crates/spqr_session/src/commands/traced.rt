@@ -14,7 +14,8 @@ use std::alloc::{AllocError, Global};
 
 // The lines of the faces of a block, or that of code 5.
 fn faces_of_block(alloc: Global, b: u32, block: &EmbeddedBlock) -> Result<Vec<u8>, AllocError>
-    ensures { IfOk result (λ text. TellsBlock block.now.tree block.now.entry no_more (IsFaced b) text.items) }
+    ensures { IfOk result (λ text. TellsBlock block.now.tree block.now.entry no_more
+        (IsFaced b) text.items) }
 {
     match block.outcome() {
         Outcome::Plane(plane) => {

@@ -85,7 +85,8 @@ fn rank_of_plane(alloc: Global, plane: &PlaneBlock, r: u128) -> Result<Planned, 
 
 // The plan for a block.
 fn rank_of_block(alloc: Global, block: &EmbeddedBlock, r: u128) -> Result<Planned, AllocError>
-    ensures { IfOk result (IsPlan (entry_codes (rank_codes r) block.now.tree block.now.entry) (StandsAt r) block.now) }
+    ensures { IfOk result (IsPlan (entry_codes (rank_codes r) block.now.tree block.now.entry)
+        (StandsAt r) block.now) }
 {
     match block.outcome() {
         Outcome::Plane(plane) => rank_of_plane(alloc, plane, r),

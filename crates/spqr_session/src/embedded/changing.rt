@@ -36,7 +36,10 @@ impl EmbeddedBlock {
     /// Makes moves of a planar block.
     pub(crate) fn carry(&mut self, moves: &MoveList)
         requires { All (Fits self.old.tree.nodes) (as_moves moves.now) }
-        ensures { self.new ≡ record self.old { entry = entry_moved self.old.tree.nodes (as_moves moves.now) self.old.entry } }
+        ensures { self.new ≡ record self.old {
+          entry = entry_moved self.old.tree.nodes
+              (as_moves moves.now) self.old.entry;
+        } }
     {
         if let Outcome::Plane(plane) = &mut self.outcome {
             carry_all(plane, moves);
@@ -48,7 +51,10 @@ impl EmbeddedBlock {
         requires planar { (e : Embedding) × (self.old.entry ≡ Some e) }
         requires graph { plane.graph ≡ self.old.tree.part.graph }
         requires tree { plane.tree ≡ self.old.tree.nodes }
-        ensures { self.new ≡ record self.old { entry = Some (record { rotation = plane.rotation; locks = plane.locks }) } }
+        ensures { self.new ≡ record self.old {
+          entry = Some
+              (record { rotation = plane.rotation; locks = plane.locks });
+        } }
     {
         let _ = plane.graph();
         self.outcome = Outcome::Plane(plane);
@@ -58,7 +64,11 @@ impl EmbeddedBlock {
 // Makes moves, one after the other.
 fn carry_all(plane: &mut PlaneBlock, moves: &MoveList)
     requires { All (Fits plane.old.tree) (as_moves moves.now) }
-    ensures { plane.new ≡ record plane.old { rotation = all_moved plane.old.tree (as_moves moves.now) plane.old.rotation; choices = plane.new.choices } }
+    ensures { plane.new ≡ record plane.old {
+      rotation = all_moved plane.old.tree
+          (as_moves moves.now) plane.old.rotation;
+      choices = plane.new.choices;
+    } }
 {
     for one in moves.as_slice() {
         carry_one(plane, one);
@@ -68,7 +78,11 @@ fn carry_all(plane: &mut PlaneBlock, moves: &MoveList)
 // Makes one move.
 fn carry_one(plane: &mut PlaneBlock, one: &Move)
     requires { Fits plane.old.tree (as_move one.now) }
-    ensures { plane.new ≡ record plane.old { rotation = moved plane.old.tree (as_move one.now) plane.old.rotation; choices = plane.new.choices } }
+    ensures { plane.new ≡ record plane.old {
+      rotation = moved plane.old.tree
+          (as_move one.now) plane.old.rotation;
+      choices = plane.new.choices;
+    } }
 {
     let _ = plane.graph();
     carry_out(plane, one);
