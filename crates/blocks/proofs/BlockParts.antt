@@ -1,5 +1,5 @@
 -- The part of a graph that the edges of a block make is one block.
-use Rattle.std.proofs.Common.{◌≡◌, ℕ, ◌<◌, true, length, slice_index, refl, sym, subst}
+use Rattle.std.proofs.Common.{◌≡◌, ℕ, ◌<◌, true, List, length, slice_index, refl, sym, subst}
 use Rattle.permutations.specs.Members.{is_member}
 use Rattle.permutations.proofs.Arrangements.{member-at}
 use Rattle.multigraph.specs.Graph.{Multigraph, edge_count}
