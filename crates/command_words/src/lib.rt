@@ -18,6 +18,3 @@ mod numbers;
 mod positionals;
 
 pub use forms::{Form, form_of};
-
-#[cfg(test)]
-mod tests;

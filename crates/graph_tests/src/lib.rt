@@ -1,4 +1,4 @@
-// Tests of graphs, rotation systems, faces, blocks, subdivisions and embedders.
+// Tests of rings, graphs, rotation systems, faces and blocks.
 //
 // A test shows what no contract says: worked rows, the answers to texts, and that each call answers where there is memory enough.
 // The tests stand here, above the crates that they test, so that the gate need not prove those once more together with them.
@@ -7,14 +7,10 @@
 #[cfg(test)]
 mod block_structures;
 #[cfg(test)]
-mod embedders;
-#[cfg(test)]
 mod face_tracing;
 #[cfg(test)]
 mod graphs;
 #[cfg(test)]
-mod quick_embedders;
+mod rings;
 #[cfg(test)]
 mod rotation_systems;
-#[cfg(test)]
-mod subdivisions;

@@ -13,6 +13,3 @@ mod arena;
 mod places;
 
 pub use arena::Rings;
-
-#[cfg(test)]
-mod tests;

@@ -17,8 +17,6 @@ ghost use Rattle.spqr_edge.specs.Device.{Files, HasCause, CountsCall, Opens};
 mod faults;
 pub mod memory;
 pub mod real;
-#[cfg(test)]
-mod tests;
 
 pub use memory::{MemFile, MemShelf, MemSink, SureShelf, SureSink};
 pub use real::{FileShelf, OutSink};

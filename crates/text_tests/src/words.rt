@@ -1,6 +1,6 @@
 // Worked rows: words that are forms, and words that are none.
 
-use crate::{Form, form_of};
+use command_words::{Form, form_of};
 use std::alloc::{AllocError, Global};
 use std::test::Fail;
 

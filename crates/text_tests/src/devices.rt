@@ -1,5 +1,5 @@
 // Each device at a few calls, some of which fail.
-use super::*;
+use spqr_edge::*;
 use std::test::Fail;
 
 const FILES: [MemFile<'static>; 2] = [

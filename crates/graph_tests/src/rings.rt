@@ -1,6 +1,6 @@
 // The calls on four nodes one after the other, what is behind and before each node after each of them, and a copy.
 
-use crate::Rings;
+use ring_arena::Rings;
 use std::test::Fail;
 
 // A call that changes rings.

@@ -1,0 +1,12 @@
+// Tests of subdivisions and of both embedders.
+//
+// A test shows what no contract says: worked rows, the answers to texts, and that each call answers where there is memory enough.
+// The tests stand here, above the crates that they test, so that the gate need not prove those once more together with them.
+#![tactic(auto)]
+
+#[cfg(test)]
+mod embedders;
+#[cfg(test)]
+mod quick_embedders;
+#[cfg(test)]
+mod subdivisions;
