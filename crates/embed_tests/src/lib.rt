@@ -15,6 +15,8 @@ mod moves;
 #[cfg(test)]
 mod plane_blocks;
 #[cfg(test)]
+mod small_blocks;
+#[cfg(test)]
 mod summaries;
 #[cfg(test)]
 mod walks;

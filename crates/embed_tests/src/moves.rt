@@ -1,48 +1,14 @@
 // Moves of small blocks, worked out by hand.
 
-use blocks::is_one_block;
-use contract_embed::ContractEmbedder;
+use crate::small_blocks::{JOINED, block_of};
 use embed_moves::{PermuteFault, back, carry_out, flip, mirror, permute};
-use multigraph::Graph;
-use pair_split::{Kind, PairSplitter, Splitter};
-use skel_embed::{Keys, Move, Outcome, PlaneBlock, plane_block};
-use spqr_tree::Tree;
+use pair_split::Kind;
+use skel_embed::{Keys, Move, PlaneBlock};
 use std::alloc::Global;
 use std::test::Fail;
 
-// Two complete graphs on four vertices that share an edge.
-static SHARED: [(u32, u32); 11] = [
-    (0, 1),
-    (0, 2),
-    (0, 3),
-    (1, 2),
-    (1, 3),
-    (2, 3),
-    (0, 4),
-    (0, 5),
-    (1, 4),
-    (1, 5),
-    (4, 5),
-];
-
 // Three parallel edges.
 static PARALLEL: [(u32, u32); 3] = [(0, 1), (0, 1), (0, 1)];
-
-// The block of these edges at its first plane rotation system.
-fn block_of(alloc: Global, vertices: u32, ends: &[(u32, u32)]) -> Result<PlaneBlock, Fail> {
-    let Ok(graph) = Graph::build(alloc, vertices, ends) else {
-        return Err(Fail::from("no graph"));
-    };
-    if !is_one_block(alloc, &graph)? {
-        return Err(Fail::from("no block"));
-    }
-    let comps = PairSplitter::new().split(alloc, &graph)?;
-    let tree = Tree::assemble(alloc, &graph, comps)?;
-    match plane_block(alloc, graph, tree, &mut ContractEmbedder)? {
-        Outcome::Plane(block) => Ok(block),
-        Outcome::Not(..) => Err(Fail::from("not plane")),
-    }
-}
 
 // Whether the block has these edges round the first vertices.
 fn stands_at(block: &PlaneBlock, rounds: &[&[u32]]) -> bool {
@@ -79,7 +45,7 @@ fn is_bad_order(answer: Result<(), PermuteFault>) -> bool {
 
 #[test]
 fn flips_and_permutes(rt: HostRuntime) -> Result<(), Fail> {
-    let mut block = block_of(rt.alloc(), 6, &SHARED)?;
+    let mut block = block_of(rt.alloc(), 6, &JOINED)?;
     if block.tree().node_count() < 3 {
         return Err(Fail::from("no node"));
     }
@@ -130,7 +96,7 @@ fn keys_begin_anywhere(rt: HostRuntime) -> Result<(), Fail> {
 
 #[test]
 fn locked_nodes_stay(rt: HostRuntime) -> Result<(), Fail> {
-    let mut block = block_of(rt.alloc(), 6, &SHARED)?;
+    let mut block = block_of(rt.alloc(), 6, &JOINED)?;
     if block.tree().node_count() < 3 {
         return Err(Fail::from("no node"));
     }
@@ -168,7 +134,7 @@ fn has_keys(m: &Move, row: &[u32]) -> bool {
 
 #[test]
 fn moves_as_values(rt: HostRuntime) -> Result<(), Fail> {
-    let mut block = block_of(rt.alloc(), 6, &SHARED)?;
+    let mut block = block_of(rt.alloc(), 6, &JOINED)?;
     if block.tree().node_count() < 3 || block.tree().kind(1) != Kind::R {
         return Err(Fail::from("no node"));
     }

@@ -9,4 +9,6 @@ mod embedders;
 #[cfg(test)]
 mod quick_embedders;
 #[cfg(test)]
+mod rows;
+#[cfg(test)]
 mod subdivisions;

@@ -9,6 +9,8 @@ mod obstructions;
 #[cfg(test)]
 mod palm_trees;
 #[cfg(test)]
+mod small_blocks;
+#[cfg(test)]
 mod splitters;
 #[cfg(test)]
 mod trees;

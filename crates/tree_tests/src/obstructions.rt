@@ -4,8 +4,8 @@ ghost use Rattle.std.specs.Prelude.{◌≡◌, IfOk};
 ghost use Rattle.graph_theory.specs.Block.{IsOneBlock};
 ghost use Rattle.skeletons.specs.Items.{IsBlockTree};
 
+use crate::small_blocks::block_of;
 use block_obstruct::obstruct_block;
-use blocks::is_one_block;
 use kuratowski::{Pattern, Subdivision, check};
 use multigraph::{Graph, NumberLists, Numbers};
 use pair_split::{Kind, PairSplitter, Splitter};
@@ -159,12 +159,7 @@ fn are_paths(found: &[Numbers], paths: &[&[u32]]) -> bool {
 
 // Whether the certificate of the row is carried into the block as expected.
 fn is_carried(alloc: Global, row: &Row) -> Result<bool, Fail> {
-    let Ok(g) = Graph::build(alloc, row.vertices, row.ends) else {
-        return Err(Fail::from("no graph"));
-    };
-    if !is_one_block(alloc, &g)? {
-        return Err(Fail::from("no block"));
-    }
+    let g = block_of(alloc, row.vertices, row.ends)?;
     let tree = tree_of(alloc, &g)?;
     if tree.node_count() == 0 || tree.kind(0) != Kind::R {
         return Err(Fail::from("no triconnected node"));

@@ -3,6 +3,7 @@
 ghost use Rattle.std.specs.Prelude.{◌<◌, length, IfOk};
 ghost use Rattle.graph_theory.specs.Block.{IsOneBlock};
 
+use crate::small_blocks::ends_of;
 use blocks::is_one_block;
 use made_graph::make_graph;
 use multigraph::Graph;
@@ -69,18 +70,6 @@ static ROWS: [(u32, &'static str); 11] = [
     // a cycle of five vertices with a doubled edge
     (5, "01 12 23 34 40 23"),
 ];
-
-// The ends of the edges, from the edge at `first` on.
-fn ends_of(alloc: Global, text: &str, first: usize) -> Result<Vec<(u32, u32)>, AllocError> {
-    let mut ends = Vec::new(alloc);
-    for word in text.split(' ') {
-        if let [a, b] = word.as_bytes() {
-            ends.push((a.wrapping_sub(b'0') as u32, b.wrapping_sub(b'0') as u32))?;
-        }
-    }
-    ends.rotate_left(first.min(ends.len()));
-    Ok(ends)
-}
 
 #[test]
 fn splits_worked_rows(rt: HostRuntime) -> Result<(), Fail> {

@@ -5,7 +5,7 @@ ghost use Rattle.std.specs.Prelude.{◌<◌, length, IfOk};
 ghost use Rattle.graph_theory.specs.Block.{IsOneBlock};
 ghost use Rattle.pair_split.specs.Tutte.{IsTutte};
 
-use blocks::is_one_block;
+use crate::small_blocks::{block_of, ends_of};
 use multigraph::Graph;
 use pair_split::{Comp, Item, PairSplitter, Splitter, What};
 use spqr_tree::Tree;
@@ -46,31 +46,6 @@ static ROWS: [Row; 9] = [
     // a triangle
     (3, "01 12 20", &["S3 012"]),
 ];
-
-// The ends of the edges, from the edge at `first` on.
-fn ends_of(alloc: Global, text: &str, first: usize) -> Result<Vec<(u32, u32)>, AllocError> {
-    let mut ends = Vec::new(alloc);
-    for word in text.split(' ') {
-        if let [a, b] = word.as_bytes() {
-            ends.push((a.wrapping_sub(b'0') as u32, b.wrapping_sub(b'0') as u32))?;
-        }
-    }
-    ends.rotate_left(first.min(ends.len()));
-    Ok(ends)
-}
-
-// The graph of these edges, where it is one block.
-fn block_of(alloc: Global, n: u32, ends: &[(u32, u32)]) -> Result<Graph, Fail>
-    ensures { IfOk result IsOneBlock }
-{
-    let Ok(graph) = Graph::build(alloc, n, ends) else {
-        return Err(Fail::from("no graph"));
-    };
-    if !is_one_block(alloc, &graph)? {
-        return Err(Fail::from("no block"));
-    }
-    Ok(graph)
-}
 
 // A component as in the rows.
 fn comp_text(alloc: Global, comp: &Comp) -> Result<String, AllocError> {
