@@ -4,7 +4,6 @@ use crate::small_blocks::{JOINED, block_of};
 use embed_moves::{PermuteFault, back, carry_out, flip, mirror, permute};
 use pair_split::Kind;
 use skel_embed::{Keys, Move, PlaneBlock};
-use std::alloc::Global;
 use std::test::Fail;
 
 // Three parallel edges.

@@ -1,7 +1,6 @@
 // Both splitters lead to the same nodes: of small blocks under each rotation of their edges, and of made graphs.
 
-ghost use Rattle.std.specs.Prelude.{◌<◌, length, IfOk};
-ghost use Rattle.graph_theory.specs.Block.{IsOneBlock};
+ghost use Rattle.std.specs.Prelude.{◌<◌, length};
 
 use crate::small_blocks::ends_of;
 use blocks::is_one_block;
@@ -10,7 +9,7 @@ use multigraph::Graph;
 use pair_split::{PairSplitter, Splitter};
 use split_comp::SearchSplitter;
 use spqr_tree::Tree;
-use std::alloc::{AllocError, Global};
+use std::alloc::Global;
 use std::test::Fail;
 
 // Whether node k is the same in both trees.

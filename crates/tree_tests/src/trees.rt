@@ -1,8 +1,7 @@
 // Small blocks, worked out by hand: their split components under each rotation of the list of edges, their trees and the groups
 // of all edges at each node.
 
-ghost use Rattle.std.specs.Prelude.{◌<◌, length, IfOk};
-ghost use Rattle.graph_theory.specs.Block.{IsOneBlock};
+ghost use Rattle.std.specs.Prelude.{◌<◌, length};
 ghost use Rattle.pair_split.specs.Tutte.{IsTutte};
 
 use crate::small_blocks::{block_of, ends_of};
