@@ -1,5 +1,0 @@
-use Rattle.spqr_cli.proofs.Forms.{only-summary, asked-planar}
-use Rattle.spqr_cli.proofs.laws.made_graphs.Goals as goal
-
-pub returns : goal.returns
-returns c = record { summary = only-summary; planar = asked-planar }

@@ -1,0 +1,58 @@
+-- What the definitions of a run say of one another.
+use Rattle.std.specs.Prelude.{◌≡◌, ◌≢◌, ◌↔◌, ℕ, List, None, Some, Ok, Err, IsSome, ⊤}
+use Rattle.made_graph.specs.Made.{made}
+use Rattle.made_graph.specs.Laws.{IsPlanarBlock}
+use Rattle.command_words.specs.Form.{Make, form_of}
+use Rattle.spqr_session.specs.Certificates.{certificate_at}
+use Rattle.spqr_run.specs.Words.{names_of}
+use Rattle.spqr_run.specs.Decision.{Sources, Work, Report, Summary, Decision, AcceptsGraph, AcceptsScript, IsDue}
+use Rattle.spqr_run.specs.Ending.{IsTextOf, status_of}
+use Rattle.spqr_run.specs.declared.refusal.Refusal.{Refusal}
+use Rattle.spqr_run.specs.declared.status.Status.TheVariants.{ReadFault}
+
+-- two decisions agree on what their definitions leave open: the certificates of blocks that are not planar
+abbrev pub AgreeOnOpen : Decision → Decision → Type 0
+AgreeOnOpen (Ok (Report a)) (Ok (Report b)) = a.setting.certificates ≡ b.setting.certificates
+AgreeOnOpen a b = ⊤
+
+-- decisions that are due for the same words and bytes have one status, a read that failed aside
+abbrev pub OneStatus : Type 0
+OneStatus =
+    (words : List (List ℕ)) (sources : Sources) (a b : Decision) → IsDue words sources a → IsDue words sources b
+    → status_of a ≢ ReadFault → status_of b ≢ ReadFault → status_of a ≡ status_of b
+
+-- and one text, where they agree on what is left open
+abbrev pub OneText : Type 0
+OneText =
+    (words : List (List ℕ)) (sources : Sources) (a b : Decision) (s t : List ℕ) → IsDue words sources a → IsDue words sources b
+    → status_of a ≢ ReadFault → status_of b ≢ ReadFault → AgreeOnOpen a b → IsTextOf a s → IsTextOf b t → s ≡ t
+
+-- works are the same but for the certificates, and the same blocks have one
+pub record AreAlike (a b : Work) : Type 0 where
+  pub document : a.setting.document ≡ b.setting.document
+  pub named : a.setting.named ≡ b.setting.named
+  pub structure : a.setting.structure ≡ b.setting.structure
+  pub trees : a.setting.trees ≡ b.setting.trees
+  pub planar : (k : ℕ) → (certificate_at a.setting.certificates k ≡ None) ↔ (certificate_at b.setting.certificates k ≡ None)
+  pub commands : a.commands ≡ b.commands
+
+-- works that are due for the same words and bytes are so, their trees included
+abbrev pub OneWork : Type 0
+OneWork =
+    (words : List (List ℕ)) (sources : Sources) (a b : Work) → IsDue words sources (Ok (Report a)) → IsDue words sources (Ok (Report b)) → AreAlike a b
+
+-- where the words name two files and both are accepted, no refusal is due, a read that failed aside
+abbrev pub NoRefusal : Type 0
+NoRefusal =
+    (words : List (List ℕ)) (sources : Sources) (refusal : Refusal) → IsSome (names_of words) → AcceptsGraph sources.graph
+    → AcceptsScript sources.script → IsDue words sources (Err refusal) → status_of (Err refusal) ≢ ReadFault → ⊥
+
+-- for words that ask for a graph from a number its summary is the only decision that is due
+abbrev pub OneSummary : Type 0
+OneSummary =
+    (words : List (List ℕ)) (sources : Sources) (decision : Decision) (n seed : ℕ) → form_of words ≡ Some (Make n seed)
+    → IsDue words sources decision → decision ≡ Ok (Summary n seed)
+
+-- and that graph is one block with a plane rotation system
+abbrev pub AskedIsPlanarBlock : Type 0
+AskedIsPlanarBlock = (words : List (List ℕ)) (n seed : ℕ) → form_of words ≡ Some (Make n seed) → IsPlanarBlock (made n seed)
