@@ -17,7 +17,7 @@ use planarity::Embedded;
 use std::alloc::{AllocError, Global};
 
 /// The steps of a plane rotation system, or a subdivision of K5 or of K3,3.
-#[derive(Debug, Drop)]
+#[derive(Drop)]
 pub(crate) enum Answer {
     Plane(Vec<u32>),
     Not(Subdivision),

@@ -9,7 +9,7 @@ use multigraph::Graph;
 use std::alloc::{AllocError, Global};
 
 /// Contractions, each of the graph that the one before it leaves, and the graph that the last one leaves.
-#[derive(Debug, Drop)]
+#[derive(Drop)]
 pub(crate) struct Descent {
     pub levels: Vec<Level>,
     pub bottom: Graph,

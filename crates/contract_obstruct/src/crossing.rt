@@ -21,14 +21,14 @@ use multigraph::{Graph, NumberLists, Numbers};
 use std::alloc::{AllocError, Global};
 
 /// An edge round a vertex, and those behind it up to the next edge of interest.
-#[derive(Debug, Drop)]
+#[derive(Drop)]
 pub(crate) struct Sector {
     pub first: u32,
     pub behind: Vec<u32>,
 }
 
 /// The way round the merged vertex in four sectors.
-#[derive(Debug, Drop)]
+#[derive(Drop)]
 pub(crate) struct Quarters {
     pub a: Sector,
     pub b: Sector,

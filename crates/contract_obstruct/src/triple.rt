@@ -15,7 +15,7 @@ use multigraph::{Graph, NumberLists, Numbers};
 use std::alloc::{AllocError, Global};
 
 /// The way round the merged vertex in three sectors.
-#[derive(Debug, Drop)]
+#[derive(Drop)]
 pub(crate) struct Thirds {
     pub a: Sector,
     pub b: Sector,

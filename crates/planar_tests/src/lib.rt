@@ -7,6 +7,8 @@
 #[cfg(test)]
 mod embedders;
 #[cfg(test)]
+mod narrow_graphs;
+#[cfg(test)]
 mod quick_embedders;
 #[cfg(test)]
 mod rows;

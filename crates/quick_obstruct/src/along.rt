@@ -7,14 +7,14 @@ use quick_rotation::{EdgeList, numbers_below};
 use std::alloc::{AllocError, Global};
 
 // The edges of a forest and the others, in the order in which they are met.
-#[derive(Debug, Drop)]
+#[derive(Drop)]
 pub(crate) struct Forest {
     pub(crate) tree: Vec<u32>,
     pub(crate) others: Vec<u32>,
 }
 
 // The forest so far: the vertices in the order in which they are reached, the thin darts that wait, and marks.
-#[derive(Debug, Drop)]
+#[derive(Drop)]
 struct Growth {
     forest: Forest,
     order: Vec<u32>,

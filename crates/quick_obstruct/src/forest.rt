@@ -5,7 +5,7 @@ use quick_rotation::{EdgeList, Groups};
 use std::alloc::{AllocError, Global};
 
 // A tree of all that is reached from a root.
-#[derive(Debug, Drop)]
+#[derive(Drop)]
 pub(crate) struct Tree {
     // Of each vertex the dart towards the root; `NONE` at the root and where nothing is reached.
     pub(crate) up: Vec<u32>,
@@ -14,7 +14,7 @@ pub(crate) struct Tree {
 }
 
 // What a search knows so far: the vertices in the order in which they are reached, and marks on vertices and edges.
-#[derive(Debug, Drop)]
+#[derive(Drop)]
 struct Search {
     tree: Tree,
     order: Vec<u32>,

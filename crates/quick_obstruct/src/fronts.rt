@@ -7,7 +7,7 @@ use quick_rotation::{EdgeList, is_planar};
 use std::alloc::{AllocError, Global};
 
 // A front as it is collected.
-#[derive(Debug, Drop)]
+#[derive(Drop)]
 struct Front {
     edges: Vec<u32>,
     met: Vec<bool>,
@@ -45,7 +45,7 @@ impl Front {
 }
 
 // Fronts of some edges of a list, seen from a root, and what the tests have cost.
-#[derive(Debug, Drop)]
+#[derive(Drop)]
 pub(crate) struct Fronts<'a> {
     alloc: Global,
     list: &'a EdgeList,

@@ -24,8 +24,6 @@ mod reading;
 mod segments;
 mod shortening;
 mod shrinking;
-#[cfg(test)]
-mod tests;
 mod thin;
 
 pub use obstruct::propose_subdivision;

@@ -7,7 +7,7 @@ use quick_rotation::access::{at, number};
 use std::alloc::{AllocError, Global};
 
 // A pattern, branch vertices and paths between them that may be a subdivision.
-#[derive(Debug, Drop)]
+#[derive(Drop)]
 pub(crate) struct Proposal {
     pub(crate) kind: Pattern,
     pub(crate) branch: Vec<u32>,

@@ -9,7 +9,7 @@ use std::alloc::{AllocError, Global};
 const STEPS: u64 = 40;
 
 // A segment from one end to the other, as a list of edges.
-#[derive(Debug, Drop)]
+#[derive(Drop)]
 pub(crate) struct Segment {
     pub(crate) from: u32,
     pub(crate) to: u32,

@@ -23,7 +23,7 @@ const FEW: u32 = 10;
 const STEPS: u64 = 400;
 
 // A minor as it shrinks, and how many edges the tests may still look at.
-#[derive(Debug, Drop)]
+#[derive(Drop)]
 struct Shrinking {
     minor: Minor,
     budget: u64,

@@ -11,7 +11,7 @@ use std::alloc::{AllocError, Global};
 const REACH: usize = 80;
 
 // A search beside an edge: what it has reached and what it is to reach is marked by the number of the edge.
-#[derive(Debug, Drop)]
+#[derive(Drop)]
 struct Beside {
     edge: u32,
     reached: Vec<u32>,

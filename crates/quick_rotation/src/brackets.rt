@@ -7,7 +7,7 @@ use crate::sorting::{Groups, groups_by_key};
 use std::alloc::{AllocError, Global};
 
 // The brackets of a palm tree.
-#[derive(Debug, Drop)]
+#[derive(Drop)]
 pub(crate) struct Brackets {
     // The oriented edges that leave each vertex, in the given order.
     pub(crate) out: Groups,

@@ -8,7 +8,7 @@ use std::alloc::{AllocError, Global};
 
 // An interval of back edges, from the one that returns lowest to the one that returns highest; each refers to the next lower
 // one. Where it is empty, both are `NONE`.
-#[derive(Debug, Clone, Copy)]
+#[derive(Clone, Copy)]
 struct Interval {
     low: u32,
     high: u32,
@@ -47,7 +47,7 @@ impl Interval {
 }
 
 // Two intervals that must lie on different sides.
-#[derive(Debug, Clone, Copy)]
+#[derive(Clone, Copy)]
 struct Pair {
     left: Interval,
     right: Interval,
@@ -70,7 +70,7 @@ impl Pair {
 
 // What the test knows so far: the stack, and of each edge how high the stack was when it was taken, its lowest back edge, the
 // edge that its side is told by, and whether it is on the other side than that one.
-#[derive(Debug, Drop)]
+#[derive(Drop)]
 pub(crate) struct Conflicts {
     pairs: Vec<Pair>,
     bottom: Vec<u32>,

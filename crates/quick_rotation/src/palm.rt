@@ -7,7 +7,7 @@ use crate::sorting::Groups;
 use std::alloc::{AllocError, Global};
 
 // A palm tree of each component.
-#[derive(Debug, Drop)]
+#[derive(Drop)]
 pub(crate) struct Palm {
     // The ends of each edge as it is oriented.
     pub(crate) tail: Vec<u32>,

@@ -8,7 +8,7 @@ use crate::sorting::{Groups, groups_by_key};
 use std::alloc::{AllocError, Global};
 
 // The keys of the darts so far, and the tree edge at each vertex that the way is under.
-#[derive(Debug, Drop)]
+#[derive(Drop)]
 struct DartKeys {
     of_dart: Vec<u32>,
     under: Vec<u32>,

@@ -15,14 +15,14 @@ use spqr_tree::Tree;
 use std::alloc::{AllocError, Global};
 
 // The first plane rotation system of a skeleton, or the skeleton with a subdivision of K5 or K3,3 in it.
-#[derive(Debug, Drop)]
+#[derive(Drop)]
 pub(crate) enum Member {
     Plane(Rotation),
     Not(Graph, Subdivision),
 }
 
 // Those of all skeletons, or the number of a node with the skeleton and a subdivision in it.
-#[derive(Debug, Drop)]
+#[derive(Drop)]
 pub(crate) enum Members {
     Plane(Vec<Rotation>),
     Not(u32, Graph, Subdivision),

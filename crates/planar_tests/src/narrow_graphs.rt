@@ -1,10 +1,9 @@
-// Long and narrow graphs that are not planar: what is found in them by minors is a subdivision.
+// Long and narrow graphs that are not planar: short ones, in which few edges are enough, and long ones, in which a subdivision is
+// found by minors.
 
-use crate::obstruct::find_among;
-use crate::shrinking::shrunk_edges;
 use kuratowski::is_subdivision;
 use multigraph::Graph;
-use quick_rotation::EdgeList;
+use quick_obstruct::propose_subdivision;
 use std::alloc::{AllocError, Global};
 use std::test::Fail;
 
@@ -38,26 +37,24 @@ fn strip(alloc: Global, vertices: u32) -> Result<Graph, Fail> {
     Ok(Graph::build(alloc, vertices, &ends)?)
 }
 
-// Whether what is found in the graph by minors is a subdivision in it.
-fn is_found_by_minors(alloc: Global, graph: &Graph) -> Result<bool, AllocError> {
-    let list = EdgeList::of(alloc, graph)?;
-    let edges = shrunk_edges(alloc, &list)?;
-    let Some(proposal) = find_among(alloc, &list, edges)? else {
-        return Ok(false);
-    };
-    is_subdivision(alloc, graph, &proposal.subdivision(alloc)?)
+// Whether what is proposed for the graph is a subdivision in it.
+fn is_found(alloc: Global, graph: &Graph) -> Result<bool, AllocError> {
+    match propose_subdivision(alloc, graph)? {
+        None => Ok(false),
+        Some(proposal) => is_subdivision(alloc, graph, &proposal),
+    }
 }
 
 #[test]
-fn finds_by_minors(rt: HostRuntime) -> Result<(), Fail> {
+fn finds_subdivisions_in_narrow_graphs(rt: HostRuntime) -> Result<(), Fail> {
     let alloc = rt.alloc();
-    for vertices in [6, 8, 60] {
+    for vertices in [6, 8, 60, 2000] {
         let ladder = twisted_ladder(alloc, vertices)?;
-        assert!(rt; is_found_by_minors(alloc, &ladder)?, "{vertices}");
+        assert!(rt; is_found(alloc, &ladder)?, "{vertices}");
     }
-    for vertices in [60, 100] {
+    for vertices in [60, 100, 2000] {
         let strip = strip(alloc, vertices)?;
-        assert!(rt; is_found_by_minors(alloc, &strip)?, "{vertices}");
+        assert!(rt; is_found(alloc, &strip)?, "{vertices}");
     }
     Ok(())
 }
