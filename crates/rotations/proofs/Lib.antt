@@ -10,7 +10,7 @@ mod Turns
 mod Cycles
 mod Reorder
 mod Ends
-mod Runs
+pub mod Runs
 mod Moves
 mod Turning
 mod Calls
