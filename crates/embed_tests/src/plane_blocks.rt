@@ -274,9 +274,9 @@ fn takes_lists_in(rt: HostRuntime) -> Result<(), Fail> {
     let part = part_of_four(rt.alloc())?;
     let mut block = block_in(rt.alloc(), &part)?;
     let bad = take(rt.alloc(), &mut block, &part, &FIRST[1..])?;
-    assert!(rt; bad == Some((6, 0, 0, 0)));
+    assert!(rt; matches!(bad, Some((6, 0, 0, 0))));
     let twisted = take(rt.alloc(), &mut block, &part, &TWISTED)?;
-    assert!(rt; twisted == Some((7, 4, 6, 2)));
+    assert!(rt; matches!(twisted, Some((7, 4, 6, 2))));
     assert!(rt; stands_at(&block, &ROWS[0]));
     Ok(())
 }
@@ -292,7 +292,7 @@ fn keeps_locked_choices(rt: HostRuntime) -> Result<(), Fail> {
     }
     block.set_lock(0, true);
     let first = take(rt.alloc(), &mut block, &part, &FIRST)?;
-    assert!(rt; first == Some((12, 0, 0, 0)));
+    assert!(rt; matches!(first, Some((12, 0, 0, 0))));
     Ok(())
 }
 

@@ -151,18 +151,20 @@ fn large_graphs(rt: HostRuntime) -> Result<(), Fail> {
     Ok(())
 }
 
+// Graphs by their numbers of vertices and the ends of their edges, and whether they are one block.
+static GRAPHS: [(u32, &[(u32, u32)], bool); 5] = [
+    (2, &[(0, 1)], true),
+    (3, &[(0, 1)], false),
+    (3, &[(0, 1), (1, 2)], false),
+    (3, &[(0, 1), (1, 2), (2, 0)], true),
+    (1, &[], false),
+];
+
 #[test]
 fn tells_blocks(rt: HostRuntime) -> Result<(), Fail> {
-    let rows: [(u32, &[(u32, u32)], bool); 5] = [
-        (2, &[(0, 1)], true),
-        (3, &[(0, 1)], false),
-        (3, &[(0, 1), (1, 2)], false),
-        (3, &[(0, 1), (1, 2), (2, 0)], true),
-        (1, &[], false),
-    ];
-    for (vertices, ends, answer) in rows {
-        let graph = Graph::build(rt.alloc(), vertices, ends)?;
-        assert_eq!(rt; is_one_block(rt.alloc(), &graph)?, answer);
+    for (vertices, ends, answer) in &GRAPHS {
+        let graph = Graph::build(rt.alloc(), *vertices, ends)?;
+        assert_eq!(rt; is_one_block(rt.alloc(), &graph)?, *answer);
     }
     Ok(())
 }

@@ -44,28 +44,32 @@ fn reads_back_a_graph(rt: HostRuntime) -> Result<(), Fail> {
     Ok(())
 }
 
+// Numbers of vertices and ends of edges, with what building says.
+static BUILT: [(u32, &[(u32, u32)], &str); 7] = [
+    (0, &[], "0 vertices, 0 edges"),
+    (2, &[(0, 1), (1, 0), (0, 1)], "2 vertices, 3 edges"),
+    (20_000, &[(19_999, 0)], "20000 vertices, 1 edges"),
+    (
+        2,
+        &[(0, 1), (0, 2), (0, 0)],
+        "edge 1 has an end that is no vertex",
+    ),
+    (2, &[(0, 1), (2, 0)], "edge 1 has an end that is no vertex"),
+    (2, &[(0, 1), (1, 1), (0, 2)], "edge 1 is a loop"),
+    (1, &[(1, 1)], "edge 0 has an end that is no vertex"),
+];
+
 #[test]
 fn names_the_first_fault(rt: HostRuntime) -> Result<(), Fail> {
-    let many = vec![in rt.alloc(); (0u32, 0u32); 50_001]?;
-    let rows: [(u32, &[(u32, u32)], &str); 9] = [
-        (0, &[], "0 vertices, 0 edges"),
-        (2, &[(0, 1), (1, 0), (0, 1)], "2 vertices, 3 edges"),
-        (20_000, &[(19_999, 0)], "20000 vertices, 1 edges"),
-        (20_001, many.as_slice(), "20001 vertices are too many"),
-        (1, many.as_slice(), "50001 edges are too many"),
-        (
-            2,
-            &[(0, 1), (0, 2), (0, 0)],
-            "edge 1 has an end that is no vertex",
-        ),
-        (2, &[(0, 1), (2, 0)], "edge 1 has an end that is no vertex"),
-        (2, &[(0, 1), (1, 1), (0, 2)], "edge 1 is a loop"),
-        (1, &[(1, 1)], "edge 0 has an end that is no vertex"),
-    ];
-    for (n, ends, expected) in rows {
-        let text = answer(rt.alloc(), n, ends)?;
-        assert_eq!(rt; text.as_str(), expected);
+    for (n, ends, expected) in &BUILT {
+        let text = answer(rt.alloc(), *n, ends)?;
+        assert_eq!(rt; text.as_str(), *expected);
     }
+    let many = vec![in rt.alloc(); (0u32, 0u32); 50_001]?;
+    let vertices = answer(rt.alloc(), 20_001, &many)?;
+    let edges = answer(rt.alloc(), 1, &many)?;
+    assert_eq!(rt; vertices.as_str(), "20001 vertices are too many");
+    assert_eq!(rt; edges.as_str(), "50001 edges are too many");
     Ok(())
 }
 
@@ -104,6 +108,17 @@ fn number(answer: Option<u32>) -> u32 {
     answer.unwrap_or(99)
 }
 
+// The edges of a part: their numbers, ends and numbers in the whole graph.
+static PART_EDGES: [(u32, (u32, u32), u32); 3] = [(0, (0, 1), 3), (1, (2, 1), 4), (2, (2, 3), 6)];
+
+// Its vertices, and their numbers in the whole graph.
+static PART_VERTICES: [(u32, u32); 4] = [(0, 2), (1, 3), (2, 4), (3, 5)];
+
+// For each vertex and each edge of the whole graph the number in the part.
+static INNER_VERTICES: [u32; 7] = [99, 99, 0, 1, 2, 3, 99];
+
+static INNER_EDGES: [u32; 7] = [99, 99, 99, 0, 1, 99, 2];
+
 #[test]
 fn part_of_two_triangles(rt: HostRuntime) -> Result<(), Fail> {
     // Two triangles at vertex 2 with a tail, and a vertex without edges.
@@ -112,21 +127,18 @@ fn part_of_two_triangles(rt: HostRuntime) -> Result<(), Fail> {
     let part = g.part(rt.alloc(), &[3, 4, 6])?;
     assert_eq!(rt; part.graph().vertex_count(), 4);
     assert_eq!(rt; part.graph().edge_count(), 3);
-    // Each edge of the part: its ends there, its number in the whole graph, and back.
-    for (i, ends, outer) in [(0, (0, 1), 3), (1, (2, 1), 4), (2, (2, 3), 6)] {
-        assert_eq!(rt; part.graph().ends(i), ends);
-        assert_eq!(rt; part.edge(i), outer);
-        assert_eq!(rt; number(part.inner_edge(outer)), i);
+    // Each edge of the part has its ends there and its number in the whole graph.
+    for (i, ends, outer) in &PART_EDGES {
+        assert_eq!(rt; part.graph().ends(*i), *ends);
+        assert_eq!(rt; part.edge(*i), *outer);
     }
-    for (i, outer) in [(0, 2), (1, 3), (2, 4), (3, 5)] {
-        assert_eq!(rt; part.vertex(i), outer);
-        assert_eq!(rt; number(part.inner_vertex(outer)), i);
+    for (i, outer) in &PART_VERTICES {
+        assert_eq!(rt; part.vertex(*i), *outer);
     }
-    for v in [0, 1, 6] {
-        assert_eq!(rt; number(part.inner_vertex(v)), 99);
-    }
-    for e in [0, 1, 2, 5] {
-        assert_eq!(rt; number(part.inner_edge(e)), 99);
+    // The numbers in the part of all vertices and edges, 99 for those that are not in it.
+    for v in 0..7u32 {
+        assert_eq!(rt; number(part.inner_vertex(v)), INNER_VERTICES[v as usize]);
+        assert_eq!(rt; number(part.inner_edge(v)), INNER_EDGES[v as usize]);
     }
     Ok(())
 }

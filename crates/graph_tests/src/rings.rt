@@ -52,23 +52,25 @@ fn links(r: &Rings) -> ([u32; 4], [u32; 4]) {
     (next, prev)
 }
 
+// Calls one after the other, each with the nodes behind and before each node then.
+static CALLS: [(Call, [u32; 4], [u32; 4]); 6] = [
+    (Call::Exchange(0, 1), [1, 0, 2, 3], [1, 0, 2, 3]),
+    (Call::Exchange(1, 2), [1, 2, 0, 3], [2, 0, 1, 3]),
+    (Call::Reverse(0), [2, 0, 1, 3], [1, 2, 0, 3]),
+    (Call::Unlink(2), [1, 0, 2, 3], [1, 0, 2, 3]),
+    (Call::LinkAfter(2, 0), [2, 0, 1, 3], [1, 2, 0, 3]),
+    (Call::Exchange(3, 3), [2, 0, 1, 3], [1, 2, 0, 3]),
+];
+
 #[test]
 fn changes_rings(rt: HostRuntime) -> Result<(), Fail> {
     let alloc = rt.alloc();
     let mut r = Rings::new(alloc, 4)?;
     assert_eq!(rt; r.len(), 4);
     assert_eq!(rt; links(&r), ([0, 1, 2, 3], [0, 1, 2, 3]));
-    let rows: [(Call, [u32; 4], [u32; 4]); 6] = [
-        (Call::Exchange(0, 1), [1, 0, 2, 3], [1, 0, 2, 3]),
-        (Call::Exchange(1, 2), [1, 2, 0, 3], [2, 0, 1, 3]),
-        (Call::Reverse(0), [2, 0, 1, 3], [1, 2, 0, 3]),
-        (Call::Unlink(2), [1, 0, 2, 3], [1, 0, 2, 3]),
-        (Call::LinkAfter(2, 0), [2, 0, 1, 3], [1, 2, 0, 3]),
-        (Call::Exchange(3, 3), [2, 0, 1, 3], [1, 2, 0, 3]),
-    ];
-    for (call, next, prev) in rows {
-        make(&mut r, call);
-        assert_eq!(rt; links(&r), (next, prev));
+    for (call, next, prev) in &CALLS {
+        make(&mut r, *call);
+        assert_eq!(rt; links(&r), (*next, *prev));
     }
     let copy = r.copy(alloc)?;
     make(&mut r, Call::Reverse(1));

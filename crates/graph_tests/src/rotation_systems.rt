@@ -25,15 +25,32 @@ fn lists_of(alloc: Global, rows: &[Row<'_>]) -> Result<Lists, AllocError> {
     Ok(lists)
 }
 
+// The edges round v in order.
+fn order_of(alloc: Global, r: &Rotation, v: u32) -> Result<Vec<u32>, AllocError>
+    requires { v < length r.now }
+    ensures { IfOk result (λ order. order.items ≡ order_at r.now v) }
+{
+    r.list(v).collect(alloc)
+}
+
+// The edge at a place of the order round v, between the one before it and the one behind it.
+fn between(r: &Rotation, v: u32, order: &[u32], i: usize) -> (u32, u32, u32)
+    requires vertex { v < length r.now }
+    requires order { order.now ≡ order_at r.now v }
+    requires place { i < length order.now }
+{
+    let e = order[i];
+    (r.pred(v, e), e, r.succ(v, e))
+}
+
 // For each edge round v, in order, the one before it, itself and the one behind it.
 fn round(alloc: Global, r: &Rotation, v: u32) -> Result<Vec<(u32, u32, u32)>, AllocError>
     requires { v < length r.now }
 {
-    let order: Vec<u32> = r.list(v).collect(alloc)?;
+    let order = order_of(alloc, r, v)?;
     let mut rows = Vec::new(alloc);
     for i in 0..order.len() {
-        let e = order[i];
-        rows.push((r.pred(v, e), e, r.succ(v, e)))?;
+        rows.push(between(r, v, order.as_slice(), i))?;
     }
     Ok(rows)
 }
@@ -60,6 +77,15 @@ fn keeps_the_lists(rt: HostRuntime) -> Result<(), Fail> {
     Ok(())
 }
 
+// For each vertex what stands round it.
+static ROUNDS: [(u32, &[(u32, u32, u32)]); 5] = [
+    (0, &[(2, 0, 1), (0, 1, 2), (1, 2, 0)]),
+    (1, &[(3, 0, 4), (0, 4, 3), (4, 3, 0)]),
+    (2, &[(5, 1, 3), (1, 3, 5), (3, 5, 1)]),
+    (3, &[(4, 2, 5), (2, 5, 4), (5, 4, 2)]),
+    (4, &[]),
+];
+
 #[test]
 fn reads_round_each_vertex(rt: HostRuntime) -> Result<(), Fail> {
     let alloc = rt.alloc();
@@ -75,14 +101,7 @@ fn reads_round_each_vertex(rt: HostRuntime) -> Result<(), Fail> {
     )?;
     let r = Rotation::from_lists(alloc, &g, &lists)?;
     assert!(rt; r.vertex_count() == 5);
-    let rows: [(u32, &[(u32, u32, u32)]); 5] = [
-        (0, &[(2, 0, 1), (0, 1, 2), (1, 2, 0)]),
-        (1, &[(3, 0, 4), (0, 4, 3), (4, 3, 0)]),
-        (2, &[(5, 1, 3), (1, 3, 5), (3, 5, 1)]),
-        (3, &[(4, 2, 5), (2, 5, 4), (5, 4, 2)]),
-        (4, &[]),
-    ];
-    for (v, expected) in rows {
+    for (v, expected) in ROUNDS {
         if v < r.vertex_count() {
             let found = round(alloc, &r, v)?;
             assert_eq!(rt; found.len(), expected.len());
@@ -103,49 +122,54 @@ fn reads_round_each_vertex(rt: HostRuntime) -> Result<(), Fail> {
     Ok(())
 }
 
+// Lists that are no rotation system of the complete graph on four vertices, with what is said of them.
+static BAD_LISTS: [(&[Row], &str); 5] = [
+    (
+        &[(0, &[0])],
+        "the list of vertex 0 is no arrangement of its edges",
+    ),
+    (&[], "the list of vertex 0 is no arrangement of its edges"),
+    (
+        &[(0, &[2, 1, 0]), (1, &[0, 4, 4]), (9, &[])],
+        "the list of vertex 1 is no arrangement of its edges",
+    ),
+    (
+        &[(0, &[2, 1, 0]), (1, &[0, 4, 5])],
+        "the list of vertex 1 is no arrangement of its edges",
+    ),
+    (
+        &[(0, &[2, 1, 6])],
+        "the list of vertex 0 is no arrangement of its edges",
+    ),
+];
+
+// Lists for an edge and a vertex without edges.
+static LISTS_OF_AN_EDGE: [(&[Row], &str); 3] = [
+    (
+        &[(0, &[0]), (1, &[0]), (3, &[])],
+        "the list of vertex 3 is no arrangement of its edges",
+    ),
+    (&[(0, &[0]), (1, &[0]), (2, &[])], "3 vertices"),
+    (&[(0, &[0]), (1, &[0])], "3 vertices"),
+];
+
+// Whether making rotation systems of the graph says what stands with each row.
+fn are_answered(alloc: Global, g: &Graph, rows: &[(&[Row], &str)]) -> Result<bool, AllocError> {
+    for (lists, expected) in rows {
+        if answer(alloc, g, lists)?.as_str() != *expected {
+            return Ok(false);
+        }
+    }
+    Ok(true)
+}
+
 #[test]
 fn names_the_least_bad_number(rt: HostRuntime) -> Result<(), Fail> {
     let alloc = rt.alloc();
     let g = Graph::build(alloc, 4, &K4)?;
     let path = Graph::build(alloc, 3, &[(0, 1)])?;
-    let cases: [(&Graph, &[Row<'_>], &str); 8] = [
-        (
-            &g,
-            &[(0, &[0])],
-            "the list of vertex 0 is no arrangement of its edges",
-        ),
-        (
-            &g,
-            &[],
-            "the list of vertex 0 is no arrangement of its edges",
-        ),
-        (
-            &g,
-            &[(0, &[2, 1, 0]), (1, &[0, 4, 4]), (9, &[])],
-            "the list of vertex 1 is no arrangement of its edges",
-        ),
-        (
-            &g,
-            &[(0, &[2, 1, 0]), (1, &[0, 4, 5])],
-            "the list of vertex 1 is no arrangement of its edges",
-        ),
-        (
-            &g,
-            &[(0, &[2, 1, 6])],
-            "the list of vertex 0 is no arrangement of its edges",
-        ),
-        (
-            &path,
-            &[(0, &[0]), (1, &[0]), (3, &[])],
-            "the list of vertex 3 is no arrangement of its edges",
-        ),
-        (&path, &[(0, &[0]), (1, &[0]), (2, &[])], "3 vertices"),
-        (&path, &[(0, &[0]), (1, &[0])], "3 vertices"),
-    ];
-    for (graph, rows, expected) in cases {
-        let text = answer(alloc, graph, rows)?;
-        assert_eq!(rt; text.as_str(), expected);
-    }
+    assert!(rt; are_answered(alloc, &g, &BAD_LISTS)?);
+    assert!(rt; are_answered(alloc, &path, &LISTS_OF_AN_EDGE)?);
     Ok(())
 }
 
@@ -155,14 +179,6 @@ enum Change {
     Move(usize, usize, usize),
     Turn(usize, usize),
     Mirror,
-}
-
-// The edges round v in order.
-fn order_of(alloc: Global, r: &Rotation, v: u32) -> Result<Vec<u32>, AllocError>
-    requires { v < length r.now }
-    ensures { IfOk result (λ order. order.items ≡ order_at r.now v) }
-{
-    r.list(v).collect(alloc)
 }
 
 // Makes the change where the places are places, and the run that is moved ends before the edge that it is put behind.
@@ -186,6 +202,26 @@ fn make(alloc: Global, r: &mut Rotation, v: u32, change: Change) -> Result<(), A
     Ok(())
 }
 
+// Nodes behind others, once the changes are made.
+static STEPS: [(u32, u32); 7] = [(0, 8), (8, 4), (4, 2), (2, 6), (6, 0), (1, 10), (10, 1)];
+
+// Changes at a vertex, each with the edges that stand round it then.
+static CHANGES: [(u32, Change, &[u32]); 13] = [
+    (0, Change::Move(1, 2, 4), &[0, 3, 4, 1, 2]),
+    (0, Change::Move(0, 0, 2), &[0, 1, 2, 3, 4]),
+    (0, Change::Move(0, 1, 4), &[0, 1, 2, 3, 4]),
+    (0, Change::Move(0, 3, 4), &[0, 1, 2, 3, 4]),
+    (0, Change::Turn(1, 3), &[0, 3, 2, 1, 4]),
+    (0, Change::Turn(1, 0), &[0, 4, 1, 2, 3]),
+    (0, Change::Turn(2, 2), &[0, 4, 1, 2, 3]),
+    (0, Change::Turn(4, 1), &[0, 3, 1, 2, 4]),
+    (1, Change::Move(0, 0, 1), &[0, 5]),
+    (1, Change::Turn(0, 1), &[0, 5]),
+    (1, Change::Turn(0, 0), &[0, 5]),
+    (3, Change::Turn(0, 0), &[2]),
+    (0, Change::Mirror, &[0, 4, 2, 1, 3]),
+];
+
 #[test]
 fn moves_and_turns_runs(rt: HostRuntime) -> Result<(), Fail> {
     let alloc = rt.alloc();
@@ -204,36 +240,21 @@ fn moves_and_turns_runs(rt: HostRuntime) -> Result<(), Fail> {
         ],
     )?;
     let mut r = Rotation::from_lists(alloc, &g, &lists)?;
-    let rows: [(u32, Change, &[u32]); 13] = [
-        (0, Change::Move(1, 2, 4), &[0, 3, 4, 1, 2]),
-        (0, Change::Move(0, 0, 2), &[0, 1, 2, 3, 4]),
-        (0, Change::Move(0, 1, 4), &[0, 1, 2, 3, 4]),
-        (0, Change::Move(0, 3, 4), &[0, 1, 2, 3, 4]),
-        (0, Change::Turn(1, 3), &[0, 3, 2, 1, 4]),
-        (0, Change::Turn(1, 0), &[0, 4, 1, 2, 3]),
-        (0, Change::Turn(2, 2), &[0, 4, 1, 2, 3]),
-        (0, Change::Turn(4, 1), &[0, 3, 1, 2, 4]),
-        (1, Change::Move(0, 0, 1), &[0, 5]),
-        (1, Change::Turn(0, 1), &[0, 5]),
-        (1, Change::Turn(0, 0), &[0, 5]),
-        (3, Change::Turn(0, 0), &[2]),
-        (0, Change::Mirror, &[0, 4, 2, 1, 3]),
-    ];
-    for (v, change, expected) in rows {
+    for (v, change, expected) in &CHANGES {
+        let v = *v;
         if v < r.vertex_count() {
-            make(alloc, &mut r, v, change)?;
+            make(alloc, &mut r, v, *change)?;
         }
         if v < r.vertex_count() {
             let order: Vec<u32> = r.list(v).collect(alloc)?;
-            assert_eq!(rt; order.as_slice(), expected);
+            assert_eq!(rt; order.as_slice(), *expected);
         }
     }
     // The node of an edge at its first end has twice the number of the edge, the one at its second end follows.
     let nodes = r.rings();
-    let steps = [(0, 8), (8, 4), (4, 2), (2, 6), (6, 0), (1, 10), (10, 1)];
-    for (node, next) in steps {
-        if node < nodes.len() {
-            assert_eq!(rt; nodes.next(node), next);
+    for (node, next) in &STEPS {
+        if *node < nodes.len() {
+            assert_eq!(rt; nodes.next(*node), *next);
         }
     }
     Ok(())
@@ -255,41 +276,46 @@ fn part_answer(alloc: Global, p: &Part, rows: &[Row<'_>]) -> Result<String, Allo
     }
 }
 
+// Lists for the part of the complete graph on four vertices without its first edge: a rotation system and others, with the list of
+// its first vertex or what is said.
+static PART_LISTS: [(&[Row], &str); 5] = [
+    (
+        &[(0, &[2, 1]), (1, &[4, 3]), (2, &[5, 1, 3]), (3, &[2, 5, 4])],
+        " 0 1",
+    ),
+    (
+        &[(0, &[1, 0]), (1, &[3, 2]), (2, &[4, 0, 2]), (3, &[1, 4, 3])],
+        "the list of vertex 0 is no arrangement of its edges",
+    ),
+    (
+        &[(0, &[2, 1]), (1, &[4, 3, 0])],
+        "the list of vertex 1 is no arrangement of its edges",
+    ),
+    (
+        &[(0, &[2, 1]), (1, &[4, 3]), (2, &[5, 1, 3]), (9, &[])],
+        "the list of vertex 3 is no arrangement of its edges",
+    ),
+    (
+        &[
+            (0, &[2, 1]),
+            (1, &[4, 3]),
+            (2, &[5, 1, 3]),
+            (3, &[2, 5, 4]),
+            (7, &[]),
+        ],
+        "the list of vertex 7 is no arrangement of its edges",
+    ),
+];
+
 #[test]
 fn takes_lists_for_a_part(rt: HostRuntime) -> Result<(), Fail> {
     let alloc = rt.alloc();
     let g = Graph::build(alloc, 4, &K4)?;
     // All edges but the one between vertices 0 and 1: 0 is on two of them.
     let part = g.part(alloc, &[1, 2, 3, 4, 5])?;
-    let good: [Row<'_>; 4] = [(0, &[2, 1]), (1, &[4, 3]), (2, &[5, 1, 3]), (3, &[2, 5, 4])];
-    let cases: [(&[Row<'_>], &str); 5] = [
-        (&good, " 0 1"),
-        (
-            &[(0, &[1, 0]), (1, &[3, 2]), (2, &[4, 0, 2]), (3, &[1, 4, 3])],
-            "the list of vertex 0 is no arrangement of its edges",
-        ),
-        (
-            &[(0, &[2, 1]), (1, &[4, 3, 0])],
-            "the list of vertex 1 is no arrangement of its edges",
-        ),
-        (
-            &[(0, &[2, 1]), (1, &[4, 3]), (2, &[5, 1, 3]), (9, &[])],
-            "the list of vertex 3 is no arrangement of its edges",
-        ),
-        (
-            &[
-                (0, &[2, 1]),
-                (1, &[4, 3]),
-                (2, &[5, 1, 3]),
-                (3, &[2, 5, 4]),
-                (7, &[]),
-            ],
-            "the list of vertex 7 is no arrangement of its edges",
-        ),
-    ];
-    for (rows, expected) in cases {
+    for (rows, expected) in &PART_LISTS {
         let text = part_answer(alloc, &part, rows)?;
-        assert_eq!(rt; text.as_str(), expected);
+        assert_eq!(rt; text.as_str(), *expected);
     }
     // The triangle of the last three edges has no vertex 0.
     let triangle = g.part(alloc, &[3, 4, 5])?;

@@ -1,6 +1,7 @@
 // Scripts and texts, as a reader of the format would work them out.
 ghost use Rattle.std.specs.Prelude.{◌≡◌, ◌<◌, true, All};
 ghost use Rattle.multigraph.specs.Graph.{edge_count};
+ghost use Rattle.rotations.specs.Rotation.{IsRotationSystem};
 
 use faces::{Euler, trace};
 use gml_graph::GraphFault;
@@ -26,52 +27,54 @@ fn outcome(alloc: Global, script: &str) -> Result<(usize, u32), AllocError> {
     }
 }
 
+// Lines that are commands, each alone.
+static COMMANDS: [&str; 41] = [
+    "euler",
+    "euler 0:",
+    "euler 0: 0 1 2; 1: 0 4 3; 2: 1 3 5; 3: 2 5 4",
+    "euler 0:0 1;1:0",
+    "euler 0: 4294967295",
+    "euler 00: 0004",
+    "euler 0 : 1 ;2:",
+    "\t euler\t0:\t1 \t",
+    "gml",
+    " gml\t\n",
+    "gml\r\n",
+    "gml \r",
+    "# c\ngml",
+    "show 0",
+    "show 0000",
+    "show 4294967295",
+    "show\t7 \r\n",
+    "faces 1",
+    "flip 0 2",
+    "permute 0 00 7",
+    "permute 0 0 0 6 1\t",
+    "mirror 4294967295",
+    "undo",
+    " redo ",
+    "first 0",
+    "next 3",
+    "list 0 1",
+    "list 0 0010000",
+    "goto 0 340282366920938463463374607431768211455",
+    "count 0",
+    "rank 0",
+    "convert 0 rank 7",
+    "convert 0 rank 0340282366920938463463374607431768211455",
+    "convert 0 to",
+    "convert 0 to 0: 0 1; 1: 1 0",
+    "convert 0\tto 0:0",
+    "take 0",
+    "take 00 0: 0 2 1; 1: 0 3 4",
+    "lock 0 4294967295",
+    "unlock 1 1",
+    "\n \t\n\r\n#\n\t# euler 0\ngml\n",
+];
+
 #[test]
 fn lines_that_are_commands(rt: HostRuntime) -> Result<(), Fail> {
-    let rows = [
-        "euler",
-        "euler 0:",
-        "euler 0: 0 1 2; 1: 0 4 3; 2: 1 3 5; 3: 2 5 4",
-        "euler 0:0 1;1:0",
-        "euler 0: 4294967295",
-        "euler 00: 0004",
-        "euler 0 : 1 ;2:",
-        "\t euler\t0:\t1 \t",
-        "gml",
-        " gml\t\n",
-        "gml\r\n",
-        "gml \r",
-        "# c\ngml",
-        "show 0",
-        "show 0000",
-        "show 4294967295",
-        "show\t7 \r\n",
-        "faces 1",
-        "flip 0 2",
-        "permute 0 00 7",
-        "permute 0 0 0 6 1\t",
-        "mirror 4294967295",
-        "undo",
-        " redo ",
-        "first 0",
-        "next 3",
-        "list 0 1",
-        "list 0 0010000",
-        "goto 0 340282366920938463463374607431768211455",
-        "count 0",
-        "rank 0",
-        "convert 0 rank 7",
-        "convert 0 rank 0340282366920938463463374607431768211455",
-        "convert 0 to",
-        "convert 0 to 0: 0 1; 1: 1 0",
-        "convert 0\tto 0:0",
-        "take 0",
-        "take 00 0: 0 2 1; 1: 0 3 4",
-        "lock 0 4294967295",
-        "unlock 1 1",
-        "\n \t\n\r\n#\n\t# euler 0\ngml\n",
-    ];
-    for row in rows.iter() {
+    for row in &COMMANDS {
         assert_eq!(rt; outcome(rt.alloc(), row)?, (1, 0));
     }
     assert_eq!(rt; outcome(rt.alloc(), "")?, (0, 0));
@@ -79,87 +82,89 @@ fn lines_that_are_commands(rt: HostRuntime) -> Result<(), Fail> {
     Ok(())
 }
 
+// Lines that are nearly commands.
+static NO_COMMANDS: [&str; 76] = [
+    "EULER",
+    "eule",
+    "euler 0",
+    "euler 0: 0;",
+    "euler ;0: 0",
+    "euler 0: 0;; 1: 0",
+    "euler 1: 0; 0: 1",
+    "euler 0: 0; 0: 1",
+    "euler 0: 4294967296",
+    "euler 4294967296:",
+    "euler 0: -1",
+    "euler 0: +1",
+    "euler 0: 0: 1",
+    "euler: 0",
+    "euler0: 0",
+    "gml 1",
+    "gml;",
+    "\r\r",
+    "gml\r ",
+    "gml\r\r\n",
+    "gml\0",
+    "\0",
+    "shwo 0",
+    "show",
+    "show 4294967296",
+    "show 0 1",
+    "show 0 ;",
+    "show 0:",
+    "show x",
+    "Show 0",
+    "faces",
+    "faces 0 0",
+    "face 0",
+    "flip 0",
+    "flip 0 0 0",
+    "flip 0 4294967296",
+    "permute 0 0",
+    "permute 0 0 1 x",
+    "permute 0 0 4294967296",
+    "mirror",
+    "mirror 0 0",
+    "undo 1",
+    "redo # one",
+    "first",
+    "next 0 1",
+    "next -1",
+    "list 0",
+    "list 0 0",
+    "list 0 10001",
+    "list 0 1 1",
+    "list 0 4294967297",
+    "goto 0",
+    "goto 0 340282366920938463463374607431768211456",
+    "goto 4294967296 0",
+    "goto 0 1 2",
+    "count",
+    "count 0 0",
+    "rank 0 0",
+    "convert 0",
+    "convert 0 rank",
+    "convert 0 rank 340282366920938463463374607431768211456",
+    "convert 0 rank 1 1",
+    "convert 0 rank 0: 0",
+    "convert rank 0",
+    "convert 0 to 7",
+    "convert 0 to 1: 0; 0: 1",
+    "convert 0 To 0: 0",
+    "convert 0 0: 0",
+    "convert: 0 to",
+    "take",
+    "take 0: 0",
+    "take 0 0: 0;",
+    "take 0 to 0: 0",
+    "lock 0",
+    "unlock 0 0 0",
+    "unlocks 0 0",
+];
+
 #[test]
 fn lines_that_are_none(rt: HostRuntime) -> Result<(), Fail> {
-    let rows = [
-        "EULER",
-        "eule",
-        "euler 0",
-        "euler 0: 0;",
-        "euler ;0: 0",
-        "euler 0: 0;; 1: 0",
-        "euler 1: 0; 0: 1",
-        "euler 0: 0; 0: 1",
-        "euler 0: 4294967296",
-        "euler 4294967296:",
-        "euler 0: -1",
-        "euler 0: +1",
-        "euler 0: 0: 1",
-        "euler: 0",
-        "euler0: 0",
-        "gml 1",
-        "gml;",
-        "\r\r",
-        "gml\r ",
-        "gml\r\r\n",
-        "gml\0",
-        "\0",
-        "shwo 0",
-        "show",
-        "show 4294967296",
-        "show 0 1",
-        "show 0 ;",
-        "show 0:",
-        "show x",
-        "Show 0",
-        "faces",
-        "faces 0 0",
-        "face 0",
-        "flip 0",
-        "flip 0 0 0",
-        "flip 0 4294967296",
-        "permute 0 0",
-        "permute 0 0 1 x",
-        "permute 0 0 4294967296",
-        "mirror",
-        "mirror 0 0",
-        "undo 1",
-        "redo # one",
-        "first",
-        "next 0 1",
-        "next -1",
-        "list 0",
-        "list 0 0",
-        "list 0 10001",
-        "list 0 1 1",
-        "list 0 4294967297",
-        "goto 0",
-        "goto 0 340282366920938463463374607431768211456",
-        "goto 4294967296 0",
-        "goto 0 1 2",
-        "count",
-        "count 0 0",
-        "rank 0 0",
-        "convert 0",
-        "convert 0 rank",
-        "convert 0 rank 340282366920938463463374607431768211456",
-        "convert 0 rank 1 1",
-        "convert 0 rank 0: 0",
-        "convert rank 0",
-        "convert 0 to 7",
-        "convert 0 to 1: 0; 0: 1",
-        "convert 0 To 0: 0",
-        "convert 0 0: 0",
-        "convert: 0 to",
-        "take",
-        "take 0: 0",
-        "take 0 0: 0;",
-        "take 0 to 0: 0",
-        "lock 0",
-        "unlock 0 0 0",
-        "unlocks 0 0",
-    ];
-    for row in rows.iter() {
+    for row in &NO_COMMANDS {
         assert_eq!(rt; outcome(rt.alloc(), row)?, (0, 1));
     }
     assert_eq!(rt; outcome(rt.alloc(), "# c\nlist 0 10001")?, (0, 2));
@@ -387,26 +392,58 @@ fn texts_of_rules(rt: HostRuntime) -> Result<(), Fail> {
     Ok(())
 }
 
+// The lists of these rows.
+fn lists_of(alloc: Global, rows: &[(u32, &[u32])]) -> Result<Lists, AllocError> {
+    let mut lists = Lists::new(alloc);
+    for (v, edges) in rows {
+        if lists.is_above(*v) {
+            lists.push(*v, edges)?;
+        }
+    }
+    Ok(lists)
+}
+
+// Puts the lines of the faces behind.
+fn push_faces(
+    alloc: Global,
+    b: u32,
+    part: &Part,
+    r: &Rotation,
+    out: &mut Vec<u8>,
+) -> Result<(), AllocError>
+    requires { IsRotationSystem part.now.graph r.now }
+{
+    let faces = trace(alloc, part.graph(), r)?;
+    let lines = faces_lines(alloc, b, part, &faces)?;
+    out.extend_from_slice(&lines)
+}
+
 // The rotation line and the lines of the faces of a block, from the lists of its rotation system.
 fn plane_lines(
     alloc: Global,
     b: u32,
     part: &Part,
     rows: &[(u32, &[u32])],
-) -> Result<Vec<u8>, Fail> {
-    let mut lists = Lists::new(alloc);
-    for row in rows {
-        let (v, edges) = *row;
-        if lists.is_above(v) {
-            lists.push(v, edges)?;
-        }
-    }
-    let r = Rotation::from_part(alloc, part, &lists)?;
-    let faces = trace(alloc, part.graph(), &r)?;
+) -> Result<Vec<u8>, AllocError> {
+    let lists = lists_of(alloc, rows)?;
+    let Ok(r) = Rotation::from_part(alloc, part, &lists) else {
+        return Ok(Vec::new(alloc));
+    };
     let mut out = rotation_line(alloc, b, part, &r)?;
-    out.extend_from_slice(&faces_lines(alloc, b, part, &faces)?)?;
+    push_faces(alloc, b, part, &r, &mut out)?;
     Ok(out)
 }
+
+// A rotation system of a triangle.
+static TRIANGLE: [(u32, &[u32]); 3] = [(3, &[3, 5]), (4, &[3, 4]), (5, &[4, 5])];
+
+// A rotation system of the complete graph on four vertices.
+static FOUR_VERTICES: [(u32, &[u32]); 4] = [
+    (0, &[0, 1, 2]),
+    (1, &[0, 4, 3]),
+    (2, &[1, 3, 5]),
+    (3, &[2, 5, 4]),
+];
 
 #[test]
 fn lines_of_plane_blocks(rt: HostRuntime) -> Result<(), Fail> {
@@ -415,25 +452,24 @@ fn lines_of_plane_blocks(rt: HostRuntime) -> Result<(), Fail> {
     let ends = [(0, 1), (0, 2), (0, 3), (1, 2), (1, 3), (2, 3)];
     let g = Graph::build(alloc, 4, &ends)?;
     let all = g.part(alloc, &[0, 1, 2, 3, 4, 5])?;
-    let rows: [(u32, &[u32]); 4] = [
-        (0, &[0, 1, 2]),
-        (1, &[0, 4, 3]),
-        (2, &[1, 3, 5]),
-        (3, &[2, 5, 4]),
-    ];
-    let lines = plane_lines(alloc, 0, &all, &rows)?;
+    let lines = plane_lines(alloc, 0, &all, &FOUR_VERTICES)?;
     assert_eq!(rt;
         lines.as_slice(),
         b"rotation 0 | 0: 0 1 2; 1: 0 4 3; 2: 1 3 5; 3: 2 5 4\n\
           faces 0 4\nface 0-0 1-4 3-2\nface 0-1 2-3 1-0\nface 0-2 3-5 2-1\nface 1-3 2-5 3-4\n"
             .as_slice()
     );
+    Ok(())
+}
+
+#[test]
+fn lines_of_a_plane_part(rt: HostRuntime) -> Result<(), Fail> {
+    let alloc = rt.alloc();
     // A triangle behind three other edges and vertices.
     let ends = [(0, 1), (1, 2), (2, 3), (3, 4), (4, 5), (3, 5)];
     let g = Graph::build(alloc, 6, &ends)?;
     let triangle = g.part(alloc, &[3, 4, 5])?;
-    let rows: [(u32, &[u32]); 3] = [(3, &[3, 5]), (4, &[3, 4]), (5, &[4, 5])];
-    let lines = plane_lines(alloc, 3, &triangle, &rows)?;
+    let lines = plane_lines(alloc, 3, &triangle, &TRIANGLE)?;
     assert_eq!(rt;
         lines.as_slice(),
         b"rotation 3 | 3: 3 5; 4: 3 4; 5: 4 5\n\
@@ -466,27 +502,30 @@ fn nonplanar_text(
     nonplanar_lines(alloc, b, part, &s)
 }
 
+// An edge, and K3,3 with a subdivided edge behind it.
+static SUBDIVIDED: [(u32, u32); 11] = [
+    (0, 1),
+    (1, 4),
+    (1, 5),
+    (1, 6),
+    (2, 4),
+    (2, 5),
+    (2, 6),
+    (3, 4),
+    (3, 5),
+    (3, 7),
+    (7, 6),
+];
+
+// The paths of a subdivision of K3,3 in it.
+static PATHS: [&[u32]; 9] = [&[0], &[1], &[2], &[3], &[4], &[5], &[6], &[7], &[8, 9]];
+
 #[test]
 fn lines_of_a_nonplanar_block(rt: HostRuntime) -> Result<(), Fail> {
     let alloc = rt.alloc();
-    // An edge, and K3,3 with a subdivided edge behind it.
-    let ends = [
-        (0, 1),
-        (1, 4),
-        (1, 5),
-        (1, 6),
-        (2, 4),
-        (2, 5),
-        (2, 6),
-        (3, 4),
-        (3, 5),
-        (3, 7),
-        (7, 6),
-    ];
-    let g = Graph::build(alloc, 8, &ends)?;
+    let g = Graph::build(alloc, 8, &SUBDIVIDED)?;
     let part = g.part(alloc, &[1, 2, 3, 4, 5, 6, 7, 8, 9, 10])?;
-    let paths: [&[u32]; 9] = [&[0], &[1], &[2], &[3], &[4], &[5], &[6], &[7], &[8, 9]];
-    let lines = nonplanar_text(alloc, 1, &part, &[0, 1, 2, 3, 4, 5], &paths)?;
+    let lines = nonplanar_text(alloc, 1, &part, &[0, 1, 2, 3, 4, 5], &PATHS)?;
     assert_eq!(rt;
         lines.as_slice(),
         b"nonplanar 1 K33 1 2 3 4 5 6\n\
