@@ -2,33 +2,17 @@
 use Rattle.std.proofs.Common.{◌≡◌, ℕ, zero, suc, ◌<◌, ◌⊎◌, inl, inr, Bool, true, ◌&&◌, ◌==◌, ltb, if◌then◌else◌, List, [], ◌∷◌, length, get_or, reverse, refl, sym, ap, ◌∙◌, subst, arith}
 use Rattle.std.proofs.lemmas.Bool.{cases_Bool, cases_eq, and_parts, or_cases, ltb-true, lt-ltb, le-ltb, eqb-true, true≢false}
 use Rattle.std.proofs.lemmas.List.{length-map, get_or-map}
-use Rattle.permutations.specs.Members.{is_member}
-use Rattle.permutations.proofs.Places.{same-place}
+use Rattle.permutations.specs.Members.{is_member, place_of}
+use Rattle.permutations.proofs.Places.{place-below, place-holds, same-place}
 use Rattle.multigraph.specs.Graph.{Multigraph}
 use Rattle.graph_theory.specs.Path.{walk_vertices, IsPath}
 use Rattle.graph_theory.proofs.Paths.{path-reverse, path-reverse-met}
 use Rattle.kuratowski.specs.declared.subdivision.Pattern.{Pattern}
 use Rattle.kuratowski.specs.declared.subdivision.Pattern.TheVariants.{K5, K33}
 use Rattle.kuratowski.specs.Subdivision.{branch_count, pattern_edges, branch_at, path_at, pair_at, IsSubdivision}
-use Rattle.kuratowski.specs.Reordering.{place_of, pair_place, are_joined, path_between, reordered_paths, IsReordering}
+use Rattle.kuratowski.specs.Reordering.{pair_place, are_joined, path_between, reordered_paths, IsReordering}
 use Rattle.kuratowski.proofs.Checked.{pair-rises}
 use Rattle.kuratowski.proofs.Meetings.{vertices_at, branch-member, subdivision-meetings, subdivision-from_meetings}
-
--- the place of a member is one of the list
-pub place-in : (l : List ℕ) (v : ℕ) → is_member v l ≡ true → place_of l v < length l
-place-in [] v m = absurd (true≢false (sym m))
-place-in (x ∷ l) v m = elim (cases_Bool (x == v)) [
-  | inl e ↦ rw e (omega arith)
-  | inr n ↦ rw n (let t : is_member v l ≡ true = rw n at m in let i = place-in l v t in omega arith)
-]
-
--- and the member stands there
-pub place-member : (l : List ℕ) (v : ℕ) → is_member v l ≡ true → get_or l (place_of l v) 0 ≡ v
-place-member [] v m = absurd (true≢false (sym m))
-place-member (x ∷ l) v m = elim (cases_Bool (x == v)) [
-  | inl e ↦ rw e (eqb-true x v e)
-  | inr n ↦ rw n (let t : is_member v l ≡ true = rw n at m in place-member l v t)
-]
 
 -- at the place of a pair of the list stands this pair
 pub pair-first : (pairs : List (ℕ × ℕ)) (i j : ℕ) → pair_place pairs i j < length pairs → (get_or pairs (pair_place pairs i j) (0, 0)).0 ≡ i
@@ -170,10 +154,10 @@ reordered-subdivision g kind branch paths order s o =
     member i l = sym (o.members (branch_at order i)) ∙ branch-member kind order o.count i l
 
     stands : (i : ℕ) → i < branch_count kind → branch_at branch (place i) ≡ branch_at order i
-    stands i l = place-member branch (branch_at order i) (member i l)
+    stands i l = place-holds branch (branch_at order i) (member i l)
 
     branch_in : (i : ℕ) → i < branch_count kind → branch_at order i < g.vertex_count
-    branch_in i l = subst (λ (v : ℕ). v < g.vertex_count) (stands i l) (s.branch_in (place i) (subst (λ (c : ℕ). place i < c) s.branches (place-in branch (branch_at order i) (member i l))))
+    branch_in i l = subst (λ (v : ℕ). v < g.vertex_count) (stands i l) (s.branch_in (place i) (subst (λ (c : ℕ). place i < c) s.branches (place-below branch (branch_at order i) (member i l))))
 
     first : (k : ℕ) → k < length (pattern_edges kind) → (pair_at kind k).0 < branch_count kind
     first k l = let r = pair-rises kind k l in omega arith

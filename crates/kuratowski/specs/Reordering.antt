@@ -2,14 +2,9 @@
 use Rattle.std.specs.Prelude.{◌≡◌, ℕ, suc, ◌<◌, ◌≤◌, Bool, true, ◌&&◌, ◌||◌, ◌==◌, nat_lt, if◌then◌else◌, List, [], ◌∷◌, ◌++◌, map, reverse, length, slice_index}
 use Rattle.std.specs.List.Sorted.{IsPermutation}
 use Rattle.multigraph.specs.Part.{Rises}
-use Rattle.permutations.specs.Members.{is_member, is_distinct}
+use Rattle.permutations.specs.Members.{is_member, is_distinct, place_of}
 use Rattle.kuratowski.specs.declared.subdivision.Pattern.{Pattern}
 use Rattle.kuratowski.specs.Subdivision.{branch_count, pattern_edges, branch_at, path_at, pair_at}
-
--- the place of a vertex in a list, and the length where it is no member
-abbrev pub place_of : List ℕ → ℕ → ℕ
-place_of [] v = 0
-place_of (x ∷ xs) v = (if x == v then 0 else suc (place_of xs v))
 
 -- the place of a pair in a list, and the length where it is no member
 abbrev pub pair_place : List (ℕ × ℕ) → ℕ → ℕ → ℕ

@@ -36,3 +36,4 @@ pub mod Searching
 pub mod KindOf
 pub mod SplitSteps
 pub mod WritingSteps
+mod CountedParts

@@ -1,10 +1,10 @@
 -- The steps of splitting a block: the start, and a minimal side made a finished component.
-use Rattle.std.proofs.Common.{◌≡◌, ◌≢◌, ℕ, ◌+◌, ◌<◌, ◌≤◌, inl, inr, Bool, false, not, List, [], ◌∷◌, ◌++◌, length, map, sym, ap, ◌∙◌, subst, arith, Contains, All, take, drop, ◌-◌, slice_index_or}
+use Rattle.std.proofs.Common.{◌≡◌, ◌≢◌, ℕ, suc, ◌+◌, ◌<◌, ◌≤◌, inl, inr, Bool, false, not, List, [], ◌∷◌, ◌++◌, length, map, sym, ap, ◌∙◌, subst, arith, Contains, All, take, drop, ◌-◌, slice_index_or}
 use Rattle.std.proofs.lemmas.Bool.{false_from_ne_true}
-use Rattle.std.proofs.lemmas.List.{length-map, map-append, length-append, drop_more, take_rest}
+use Rattle.std.proofs.lemmas.List.{length-map, map-append, map_push, length-append, drop_more, take_rest}
 use Rattle.std.proofs.lemmas.List.Elements.{All-contains}
 use Rattle.permutations.specs.Members.{is_member}
-use Rattle.multigraph.specs.Graph.{Multigraph, edge_count, numbers_below, IsGraph}
+use Rattle.multigraph.specs.Graph.{Multigraph, edge_count, ends_of, numbers_below, IsGraph}
 use Rattle.multigraph.proofs.Below.{length-numbers_below}
 use Rattle.pair_split.specs.Family.{Entry, names, on_side, off_side, IsFamily, IsTight, IsPrime}
 use Rattle.pair_split.specs.Edges.{graph_entry, graph_family, family_skeleton}
@@ -173,3 +173,13 @@ rest-length edges l = omega (arith, l, ap length (first-rest edges l), length-ma
 -- the components of the start of a block of one edge or two are split components
 pub start-split : (g : Multigraph) → IsGraph g → IsOneBlock g → edge_count g ≤ 2 → (parts : List Finished) (current : List NamedEdge) → parts ≡ [] → family_of current ≡ graph_family g → (comps : List Comp) → AreComponents (edge_count g) (state_of parts current) B comps → IsSplit g comps
 start-split g graph block few parts current none all comps w = small-split g graph block few comps (subst (λ (st : SplitState). AreComponents (edge_count g) st B comps) (λ i. record { parts = map part_of (none i); current = all i }) w)
+
+-- one more edge of the graph
+pub graph-pushed : (g : Multigraph) (e first second : ℕ) (edges now : List NamedEdge) → (first, second) ≡ ends_of g e → now ≡ edges ++ record { name = e; first = first; second = second } ∷ [] → family_of edges ≡ map (graph_entry g) (numbers_below e) → family_of now ≡ map (graph_entry g) (numbers_below (e + 1))
+graph-pushed g e first second edges now ends pushed before =
+    let next : numbers_below (e + 1) ≡ numbers_below e ++ e ∷ [] = ap numbers_below (add-one e) in
+    ap family_of pushed ∙ (map_push entry_of edges (record { name = e; first = first; second = second }) ∙ ((λ i. before i ++ record { name = e; first = (ends i).0; second = (ends i).1 } ∷ [])
+    ∙ (sym (map_push (graph_entry g) (numbers_below e) e) ∙ ap (map (graph_entry g)) (sym next))))
+  where
+    add-one : (k : ℕ) → k + 1 ≡ suc k
+    add-one k = omega arith

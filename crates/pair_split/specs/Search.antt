@@ -1,10 +1,10 @@
 -- State of a loop: the search for a 2-separation of a family with the fewest entries on its side.
-use Rattle.std.specs.Prelude.{◌≡◌, ℕ, ◌<◌, ◌≤◌, ◌⊎◌, Bool, List, length, All, Contains, Option, MatchOption}
+use Rattle.std.specs.Prelude.{◌≡◌, ℕ, ◌+◌, ◌<◌, ◌≤◌, ◌⊎◌, Bool, List, length, All, Contains, Option, MatchOption}
 use Rattle.pair_split.specs.Family.{Entry, on_side, IsFamily, IsTight, IsSeparation}
 use Rattle.pair_split.specs.Edges.{entry_ends}
 use Rattle.pair_split.specs.Skeleton.{SameEnds}
 use Rattle.pair_split.specs.Minimal.{IsMinimal}
-use Rattle.pair_split.specs.Bridges.{family_of, HaveEndsBelow, HaveNamesBelow, marked}
+use Rattle.pair_split.specs.Bridges.{bridge_size, family_of, HaveEndsBelow, HaveNamesBelow, marked}
 use Rattle.pair_split.specs.declared.family.NamedEdge.{NamedEdge}
 use Rattle.pair_split.specs.declared.search.Side.{Side}
 
@@ -42,6 +42,10 @@ IsLeastAt entries a b size = (s : ℕ → Bool) → IsSeparation entries s a b �
 -- nor any between two vertices b < a where a is below p, or is p and b is below q
 abbrev pub IsLeastBefore : List Entry → ℕ → ℕ → ℕ → Type 0
 IsLeastBefore entries p q size = (a b : ℕ) → b < a → (a < p) ⊎ ((a ≡ p) × (b < q)) → IsLeastAt entries a b size
+
+-- no more than the entries of the bridge with this label between a and b, where it has two or more and two are beside it
+abbrev pub IsAtMostBridge : List NamedEdge → ℕ → ℕ → List ℕ → ℕ → ℕ → Type 0
+IsAtMostBridge edges a b labels label size = 2 ≤ bridge_size (family_of edges) a b labels label → bridge_size (family_of edges) a b labels label + 2 ≤ length edges → size ≤ bridge_size (family_of edges) a b labels label
 
 -- a minimal side of a 2-separation, with a mark for each entry's name to be looked up
 pub record IsMinimalSide (entries : List Entry) (side : Side) : Type 0 where

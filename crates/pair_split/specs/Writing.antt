@@ -1,11 +1,12 @@
 -- State of a loop: the components of a state of splitting, as they are written out.
-use Rattle.std.specs.Prelude.{◌≡◌, ℕ, ◌+◌, ◌<◌, List, ◌∷◌, [], length, slice_index_or, All, Contains}
+use Rattle.std.specs.Prelude.{◌≡◌, ℕ, ◌+◌, ◌<◌, List, ◌∷◌, ◌++◌, [], length, slice_index_or, All, Contains}
 use Rattle.pair_split.specs.Family.{Entry}
 use Rattle.pair_split.specs.Bridges.{entry_of, family_of, HaveNamesBelow}
 use Rattle.pair_split.specs.Split.{component_at}
 use Rattle.pair_split.specs.State.{SplitState, layer, own_at, AreWritten}
 use Rattle.pair_split.specs.declared.splitting.Finished.{Finished}
 use Rattle.pair_split.specs.declared.components.Comp.{Comp}
+use Rattle.pair_split.specs.declared.components.Piece.{Piece}
 use Rattle.pair_split.specs.declared.components.Kind.TheVariants.{B}
 
 -- the virtual edges have their names, each stands in a layer, and no name stands in two
@@ -19,13 +20,26 @@ pub record IsListed (m : ℕ) (state : SplitState) : Type 0 where
 abbrev pub AreUps : ℕ → SplitState → List ℕ → Type 0
 AreUps m state ups = (k : ℕ) (entry : Entry) (c : ℕ) → Contains (layer state k) entry → entry.name ≡ m + c → slice_index_or ups c 0 ≡ k
 
--- where one of the entries is the virtual edge of component k, the layer in which it stands is noted for it
+-- where the entry is the virtual edge of component k, the layer in which it stands is noted for it
+abbrev pub IsLayerNoted : ℕ → SplitState → ℕ → List ℕ → Entry → Type 0
+IsLayerNoted m state k ups entry = entry.name ≡ m + k → Contains (layer state (slice_index_or ups k 0)) entry
+
+-- this holds of each of the entries
 abbrev pub IsNotedFor : ℕ → SplitState → ℕ → List ℕ → List Entry → Type 0
-IsNotedFor m state k ups entries = (entry : Entry) → Contains entries entry → entry.name ≡ m + k → Contains (layer state (slice_index_or ups k 0)) entry
+IsNotedFor m state k ups entries = (entry : Entry) → Contains entries entry → IsLayerNoted m state k ups entry
+
+-- these entries of component k are written behind what was written before
+abbrev pub AreWrittenBehind : ℕ → SplitState → ℕ → List Entry → List Piece → List Piece → Type 0
+AreWrittenBehind m state k added old new = (entries : List Entry) → AreWritten m state k entries old → AreWritten m state k (entries ++ added) new
 
 -- all names of finished components are below n
 abbrev pub HavePartNamesBelow : ℕ → List Finished → Type 0
 HavePartNamesBelow n parts = All (λ part. (part.own.name < n) × HaveNamesBelow n part.edges) parts
+
+-- how many entries the components have, but for their own virtual edges
+abbrev pub entry_total : List Finished → ℕ
+entry_total [] = 0
+entry_total (finished ∷ parts) = length finished.edges + entry_total parts
 
 -- finished component k
 abbrev pub finished_at : List Finished → ℕ → Finished

@@ -44,4 +44,5 @@ pub use family::NamedEdge;
 pub use lists::{CompList, PieceList};
 pub use plain::PairSplitter;
 pub use splitter::Splitter;
-pub use splitting::{EdgeList, Finished, kind_of, kind_of_all};
+pub use splitting::{EdgeList, Finished, graph_edges, kind_of, kind_of_all};
+pub use writing::write_components;

@@ -7,8 +7,8 @@ ghost use Rattle.std.specs.Prelude.{◌≡◌, ◌+◌, ◌<◌, ◌≤◌, ◌^
 ghost use Rattle.graph_theory.specs.Labels.{IsLabelling, label_at};
 ghost use Rattle.pair_split.specs.Edges.{entry_ends, family_skeleton};
 ghost use Rattle.pair_split.specs.Skeleton.{SameEnds};
-ghost use Rattle.pair_split.specs.Bridges.{entry_of, family_of, bridge_size, marked, AreParallelAt};
-ghost use Rattle.pair_split.specs.Search.{AreSearchable, HasNoParallels, IsBest, IsLeastAt, IsLeastBefore, IsSearched};
+ghost use Rattle.pair_split.specs.Bridges.{entry_of, family_of, marked, AreParallelAt};
+ghost use Rattle.pair_split.specs.Search.{AreSearchable, HasNoParallels, IsAtMostBridge, IsBest, IsLeastAt, IsLeastBefore, IsSearched};
 
 use crate::bridges::{mark_bridge, size_of_bridge};
 use crate::family::NamedEdge;
@@ -42,9 +42,8 @@ fn better_side(
     requires best { IsBest (family_of edges.now) best }
     ensures best { IfOk result (IsBest (family_of edges.now)) }
     ensures no_larger { IfOk result (λ side. side.size ≤ best.size) }
-    ensures bridge { IfOk result (λ side. 2 ≤ bridge_size (family_of edges.now) a b labels.now label
-        → bridge_size (family_of edges.now) a b labels.now label + 2 ≤ length edges.now
-        → side.size ≤ bridge_size (family_of edges.now) a b labels.now label) }
+    ensures bridge { IfOk result
+        (λ side. IsAtMostBridge edges.now a b labels.now label side.size) }
 {
     let size = size_of_bridge(edges, labels, a, b, label);
     if size < 2 || best.size <= size || edges.len() - size < 2 {
@@ -78,9 +77,7 @@ fn best_of_bridges(
     ensures no_larger { IfOk result (λ side. side.size ≤ best.size) }
     ensures bridges { IfOk result (λ side. (label : ℕ) → label < length labels.now
         → label_at labels.now label ≡ label
-        → 2 ≤ bridge_size (family_of edges.now) a b labels.now label
-        → bridge_size (family_of edges.now) a b labels.now label + 2 ≤ length edges.now
-        → side.size ≤ bridge_size (family_of edges.now) a b labels.now label) }
+        → IsAtMostBridge edges.now a b labels.now label side.size) }
 {
     let mut best = best;
     for label in 0..labels.len() as u32 {

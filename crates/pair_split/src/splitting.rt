@@ -16,8 +16,10 @@ use crate::components::Kind;
 use crate::family::NamedEdge;
 use crate::search::{Side, are_parallel, minimal_side};
 use multigraph::Graph;
+use step_count::Steps;
 use std::alloc::{AllocError, Global};
 use std::marker::Model;
+use std::sync::ledger::Ledger;
 
 /// A list of edges under names, that contracts see as a list.
 #[derive(Drop)]
@@ -61,13 +63,21 @@ pub struct Finished {
     pub edges: EdgeList,
 }
 
-// The edges of the graph, each under its number.
-fn edges_of(alloc: Global, g: &Graph) -> Result<Vec<NamedEdge>, AllocError>
+/// The edges of the graph, in order, each under its number. Fails for want of memory alone. The steps are one for each edge.
+pub fn graph_edges<L: Ledger>(
+    alloc: Global,
+    g: &Graph,
+    steps: &mut Steps<L>,
+) -> Result<Vec<NamedEdge>, AllocError>
     ensures edges { IfOk result (λ edges. family_of edges.items ≡ graph_family g.now) }
-    ensures graph { IfOk result (λ _. IsGraph g.now) }
+    ensures graph { IsGraph g.now }
+    ensures cost { IfOk result (λ _. steps.new ≡ steps.old + edge_count g.now) }
+    ensures at_most { steps.new ≤ steps.old + edge_count g.now }
+    ensures rises { steps.old ≤ steps.new }
 {
     let mut edges = Vec::with_capacity(alloc, g.edge_count() as usize)?;
     for e in 0..g.edge_count() {
+        steps.tick();
         let (first, second) = g.ends(e);
         edges.push(NamedEdge {
             name: e,
@@ -155,7 +165,11 @@ pub(crate) struct Splitting {
 
 impl Splitting {
     /// The start: nothing is finished.
-    pub(crate) fn of(alloc: Global, g: &Graph) -> Result<Splitting, AllocError>
+    pub(crate) fn of<L: Ledger>(
+        alloc: Global,
+        g: &Graph,
+        steps: &mut Steps<L>,
+    ) -> Result<Splitting, AllocError>
         ensures parts { IfOk result (λ s. s.parts.items ≡ []) }
         ensures current { IfOk result (λ s. family_of s.current.items ≡ graph_family g.now) }
         ensures state { IfOk result
@@ -163,7 +177,7 @@ impl Splitting {
         ensures large { IsOneBlock g.now → 3 ≤ edge_count g.now
             → IfOk result (λ s. IsSplitting g.now s.parts.items s.current.items) }
     {
-        let current = edges_of(alloc, g)?;
+        let current = graph_edges(alloc, g, steps)?;
         Ok(Splitting {
             parts: Vec::new(alloc),
             current,

@@ -16,8 +16,6 @@ mod numbering;
 mod search;
 mod sizes;
 mod sorting;
-mod steps;
 mod structure;
 
-pub use steps::Steps;
 pub use structure::PalmTree;

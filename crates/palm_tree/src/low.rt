@@ -5,7 +5,7 @@ ghost use Rattle.palm_tree.specs.Searching.{IsOver};
 ghost use Rattle.palm_tree.specs.Growing.{LowVertices, taken, hangs, CanTake, Tells, AreLowSoFar, AreLowVertices};
 
 use crate::search::Search;
-use crate::steps::Steps;
+use step_count::Steps;
 use multigraph::Graph;
 use std::alloc::{AllocError, Global};
 use std::marker::Model;

@@ -9,7 +9,7 @@ ghost use Rattle.palm_tree.specs.Growing.{hangs, is_tree_edge, lower_ends, tree_
 use crate::lists::copies;
 use crate::low::Low;
 use crate::search::Search;
-use crate::steps::Steps;
+use step_count::Steps;
 use multigraph::Graph;
 use std::alloc::{AllocError, Global};
 use std::sync::ledger::Ledger;

@@ -11,7 +11,7 @@ use crate::numbering::{children_in_order, numbers, offsets};
 use crate::search::Search;
 use crate::sizes::sizes_below;
 use crate::sorting::sorted_edges;
-use crate::steps::Steps;
+use step_count::Steps;
 use multigraph::{Graph, Numbers};
 use std::alloc::{AllocError, Global};
 use std::marker::{Brand, Model};

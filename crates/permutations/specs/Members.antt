@@ -1,5 +1,5 @@
--- Lists of numbers as sets: membership, and lists without repetition, as tests.
-use Rattle.std.specs.Prelude.{ℕ, Bool, true, false, not, ◌&&◌, ◌||◌, ◌==◌, List, [], ◌∷◌}
+-- Lists of numbers as sets: membership, and lists without repetition, as tests; and the place of a member.
+use Rattle.std.specs.Prelude.{ℕ, suc, Bool, true, false, not, ◌&&◌, ◌||◌, ◌==◌, if◌then◌else◌, List, [], ◌∷◌}
 
 -- whether x is a member of the list
 abbrev pub is_member : ℕ → List ℕ → Bool
@@ -10,3 +10,8 @@ is_member x (y ∷ ys) = (y == x) || is_member x ys
 abbrev pub is_distinct : List ℕ → Bool
 is_distinct [] = true
 is_distinct (x ∷ xs) = not (is_member x xs) && is_distinct xs
+
+-- the first place at which x stands in the list, and the list's length where it is no member
+abbrev pub place_of : List ℕ → ℕ → ℕ
+place_of [] x = 0
+place_of (y ∷ ys) x = (if y == x then 0 else suc (place_of ys x))

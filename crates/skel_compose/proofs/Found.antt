@@ -2,7 +2,7 @@
 use Rattle.std.proofs.Common.{◌≡◌, ℕ, ◌+◌, ◌<◌, ◌≤◌, inl, inr, true, List, [], length, get_or, slice_set, map, sym, ap, ap₂, ◌∙◌, subst, arith}
 use Rattle.std.proofs.lemmas.Bool.{cases_eq, cases_lt}
 use Rattle.std.proofs.lemmas.List.{get_or_default, get_or-set_same, get_or-set_other, length-set}
-use Rattle.permutations.specs.Members.{is_member}
+use Rattle.permutations.specs.Members.{is_member, place_of}
 use Rattle.multigraph.specs.Part.{Rises, IsPlace}
 use Rattle.multigraph.proofs.Places.{rises-once, place-missed}
 use Rattle.multigraph.specs.Graph.{Multigraph, edge_count, max_edges, IsWithinLimits}
@@ -11,12 +11,12 @@ use Rattle.faces.proofs.MapLists.{successor-map}
 use Rattle.pair_split.proofs.Links.{stands-in}
 use Rattle.permutations.specs.Cyclic.{successor}
 use Rattle.permutations.proofs.Successor.{successor-member}
-use Rattle.skeletons.proofs.Places.{place-below, place-holds}
+use Rattle.permutations.proofs.Places.{place-below, place-holds}
 use Rattle.pair_split.specs.Tutte.{Node, components, node_at, node_item, IsTutte}
 use Rattle.pair_split.specs.declared.components.Item.{Item}
 use Rattle.pair_split.specs.declared.components.What.TheVariants.{Real}
 use Rattle.skeletons.specs.Items.{item_key, ends_item, has_vertex, IsBlockTree}
-use Rattle.skeletons.specs.Families.{place_of, system_at, AreSkeletonSystems, keys_in}
+use Rattle.skeletons.specs.Families.{system_at, AreSkeletonSystems, keys_in}
 use Rattle.skeletons.proofs.NodeItems.{nth_item, node-in, stands-of, item-of, keys-once, item-vertex}
 use Rattle.skeletons.proofs.Places.{round-item, item-round}
 use Rattle.skeleton_runs.proofs.NodeFits.{item-first, item-second}

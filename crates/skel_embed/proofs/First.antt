@@ -5,12 +5,12 @@ use Rattle.std.proofs.lemmas.List.{get_or-map, length-map}
 use Rattle.std.proofs.Math.ListN.{get_or-append}
 use Rattle.std.proofs.Math.Seq.{get_or-append_seam}
 use Rattle.permutations.specs.Cyclic.{first_or, from_least, successor, predecessor}
-use Rattle.permutations.specs.Members.{is_member, is_distinct}
+use Rattle.permutations.specs.Members.{is_member, is_distinct, place_of}
 use Rattle.permutations.proofs.Arrangements.{permutation-member, permutation-distinct, permutation-from_members, member-at}
 use Rattle.permutations.proofs.Members.{member-head, member-tail, member-reverse, distinct-head, distinct-tail}
 use Rattle.permutations.proofs.NormalForm.{mirror-from_least, written-first}
 use Rattle.permutations.proofs.Successor.{successor-cut}
-use Rattle.permutations.proofs.Places.{told-distinct}
+use Rattle.permutations.proofs.Places.{told-distinct, place-below}
 use Rattle.permutations.proofs.Mapped.{map-member}
 use Rattle.std.proofs.lemmas.List.{reverse-append}
 use Rattle.multigraph.specs.Graph.{Multigraph, incident_edges, IsGraph}
@@ -33,10 +33,10 @@ use Rattle.pair_split.specs.declared.components.Kind.TheVariants.{S, P, R, B}
 use Rattle.skeletons.specs.Items.{node_keys, has_vertex, least_vertex, IsBlockTree}
 use Rattle.skeletons.specs.Choices.{choice_of_kind, choice}
 use Rattle.skeletons.specs.Moves.{IsNodeOfKind}
-use Rattle.skeletons.specs.Families.{place_of, skeleton_graph, system_at, AreSkeletonSystems, keys_of, FollowsFamily, IsPossibleFor, IsPossible, IsPlaneChoice}
+use Rattle.skeletons.specs.Families.{skeleton_graph, system_at, AreSkeletonSystems, keys_of, FollowsFamily, IsPossibleFor, IsPossible, IsPlaneChoice}
 use Rattle.skeletons.proofs.Before.{before-irreflexive}
 use Rattle.skeletons.proofs.KeyRuns.{met-order}
-use Rattle.skeletons.proofs.Places.{place-below, round-item, keys-round_once, keys-round_members}
+use Rattle.skeletons.proofs.Places.{round-item, keys-round_once, keys-round_members}
 use Rattle.skeletons.proofs.Vertices.{least-has, bond-keys}
 use Rattle.skeleton_runs.proofs.SkeletonGraph.{skeleton-triconnected}
 use Rattle.skeleton_planes.proofs.BondSkeleton.{lesser-in, greater-in, same-incident}

@@ -7,7 +7,8 @@ use Rattle.pair_split.specs.Tutte.{Node, node_at, is_before}
 use Rattle.skeletons.specs.Items.{least_vertex}
 use Rattle.faces.specs.Euler.{IsPlaneSystem}
 use Rattle.skeletons.specs.Choices.{choice_of_kind, Precedes}
-use Rattle.skeletons.specs.Families.{place_of, skeleton_graph, system_at, keys_of, IsPossible}
+use Rattle.skeletons.specs.Families.{skeleton_graph, system_at, keys_of, IsPossible}
+use Rattle.permutations.specs.Members.{place_of}
 
 -- the choice that a rotation system of its skeleton gives node k
 abbrev pub choice_in : List Node → ℕ → List (List ℕ) → List ℕ

@@ -3,12 +3,12 @@ use Rattle.std.proofs.Common.{◌≡◌, ℕ, ◌<◌, true, List, [], ◌∷◌
 use Rattle.std.proofs.lemmas.List.{length-map, map-append, reverse-append}
 use Rattle.std.proofs.lemmas.List.Sorted.{length_permutation}
 use Rattle.permutations.specs.Cyclic.{IsTurn, from_least}
-use Rattle.permutations.specs.Members.{is_distinct}
+use Rattle.permutations.specs.Members.{is_distinct, place_of}
 use Rattle.permutations.proofs.Arrangements.{member-at, permutation-distinct}
 use Rattle.permutations.proofs.Members.{distinct-reverse}
 use Rattle.permutations.proofs.NormalForm.{from_least-same, from_least-turn, from_least-distinct, from_least-twice, same-from_least}
 use Rattle.permutations.proofs.Turned.{IsTurn-map, IsTurn-length}
-use Rattle.permutations.proofs.Places.{told-distinct}
+use Rattle.permutations.proofs.Places.{told-distinct, place-at, place-below}
 use Rattle.multigraph.specs.Graph.{Multigraph, incident_edges}
 use Rattle.multigraph.proofs.Places.{rises-once}
 use Rattle.rotations.specs.Rotation.{order_at, IsRotationSystem}
@@ -18,10 +18,10 @@ use Rattle.faces.proofs.MapLists.{map-back}
 use Rattle.faces.proofs.MapMirror.{mirror-order}
 use Rattle.pair_split.specs.Tutte.{Node, node_at, node_item, IsTutte}
 use Rattle.skeletons.specs.Items.{node_keys, has_vertex}
-use Rattle.skeletons.specs.Families.{place_of, skeleton_graph, keys_of}
+use Rattle.skeletons.specs.Families.{skeleton_graph, keys_of}
 use Rattle.skeletons.proofs.Systems.{same-turns, order-written}
 use Rattle.skeletons.proofs.Moved.{mirror-normal}
-use Rattle.skeletons.proofs.Places.{place-at, place-below, round-item, keys-round_once, place-key, items-turn}
+use Rattle.skeletons.proofs.Places.{round-item, keys-round_once, place-key, items-turn}
 
 pub map-reverse : (f : ℕ → ℕ) (l : List ℕ) → map f (reverse l) ≡ reverse (map f l)
 map-reverse f [] = refl

@@ -4,13 +4,13 @@ use Rattle.std.proofs.lemmas.Bool.{cases_Bool, cases_eq, cases_lt, true≢false,
 use Rattle.std.proofs.lemmas.List.{length-map, get_or-map}
 use Rattle.std.proofs.lemmas.List.Sorted.{length_permutation, IsPermutation-sym, IsPermutation-trans}
 use Rattle.permutations.specs.Cyclic.{first_or, from_least}
-use Rattle.permutations.specs.Members.{is_member, is_distinct}
+use Rattle.permutations.specs.Members.{is_member, is_distinct, place_of}
 use Rattle.permutations.specs.Runs.{group_keys}
 use Rattle.permutations.proofs.Arrangements.{permutation-member, permutation-distinct}
 use Rattle.permutations.proofs.Filter.{filter-yes, filter-no}
 use Rattle.permutations.proofs.Members.{member-reverse, distinct-reverse}
 use Rattle.permutations.proofs.NormalForm.{from_least-same, from_least-distinct, from_least-twice, written-first}
-use Rattle.permutations.proofs.Places.{place-of, told-distinct}
+use Rattle.permutations.proofs.Places.{place-of, told-distinct, place-below}
 use Rattle.permutations.proofs.Mapped.{map-member}
 use Rattle.multigraph.specs.Graph.{Multigraph, numbers_below, incident_edges}
 use Rattle.multigraph.specs.Part.{Rises}
@@ -32,7 +32,7 @@ use Rattle.skeletons.specs.Items.{ends_item, item_key, keys_at, node_keys, has_v
 use Rattle.skeletons.specs.Round.{keys_round}
 use Rattle.skeletons.specs.Choices.{choice_of_kind, choice}
 use Rattle.skeletons.specs.Moves.{IsNodeOfKind}
-use Rattle.skeletons.specs.Families.{place_of, skeleton_graph, system_at, AreSkeletonSystems, keys_of, StandInOrder, FollowsFamily, IsPossibleFor, IsPossible}
+use Rattle.skeletons.specs.Families.{skeleton_graph, system_at, AreSkeletonSystems, keys_of, StandInOrder, FollowsFamily, IsPossibleFor, IsPossible}
 use Rattle.skeletons.specs.Laws.{ChoicesTell, ChoiceIsPossible, SelectionExists}
 use Rattle.skeletons.proofs.NodeItems.{no_item, vertex-node}
 use Rattle.skeletons.proofs.KeyRuns.{met-runs, order-met}
@@ -40,7 +40,7 @@ use Rattle.skeletons.proofs.Systems.{order-arranged}
 use Rattle.skeletons.proofs.Vertices.{least-has, greatest-has, bond-vertex, poles-differ, bond-keys}
 use Rattle.skeletons.proofs.Moved.{keys-round_items}
 use Rattle.skeletons.proofs.Unique.{one-system}
-use Rattle.skeletons.proofs.Places.{place-below, round-item, skeleton-system, skeleton-is, skeleton-keys, family-followed}
+use Rattle.skeletons.proofs.Places.{round-item, skeleton-system, skeleton-is, skeleton-keys, family-followed}
 use Rattle.skeletons.proofs.Leading.{bond-choice}
 use Rattle.skeleton_runs.proofs.Contiguous.{plane-contiguous}
 use Rattle.skeleton_runs.proofs.SkeletonGraph.{skeleton-triconnected}

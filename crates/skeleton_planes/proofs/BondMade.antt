@@ -1,7 +1,7 @@
 -- Each cyclic order of a bond's items is that of a plane rotation system at the lesser pole; and the poles' places are 0 and 1.
 use Rattle.std.proofs.Common.{◌≡◌, ℕ, ◌+◌, ◌<◌, ◌⊎◌, ◌==◌, Bool, true, cond, List, [], ◌∷◌, map, reverse, inl, inr, refl, sym, ap, ◌∙◌, subst, eq-eqb}
 use Rattle.std.proofs.lemmas.List.{get_or-map, length-map}
-use Rattle.permutations.specs.Members.{is_member}
+use Rattle.permutations.specs.Members.{is_member, place_of}
 use Rattle.permutations.specs.Cyclic.{first_or, from_least}
 use Rattle.permutations.proofs.Members.{member-reverse, distinct-reverse}
 use Rattle.permutations.proofs.NormalForm.{from_least-member, from_least-distinct}
@@ -17,11 +17,11 @@ use Rattle.pair_split.specs.Split.{skeleton}
 use Rattle.pair_split.specs.Tutte.{Node, components, node_at}
 use Rattle.pair_split.specs.declared.components.Kind.TheVariants.{P}
 use Rattle.skeletons.specs.Items.{least_vertex, greatest_vertex, IsBlockTree}
-use Rattle.skeletons.specs.Families.{place_of, skeleton_graph}
+use Rattle.skeletons.specs.Families.{skeleton_graph}
 use Rattle.faces.specs.Euler.{IsPlaneSystem}
 use Rattle.skeletons.specs.Moves.{IsNodeOfKind}
 use Rattle.skeletons.proofs.Vertices.{least-has, greatest-has, poles-differ}
-use Rattle.skeletons.proofs.Places.{place-below}
+use Rattle.permutations.proofs.Places.{place-below}
 use Rattle.skeleton_runs.proofs.SkeletonGraph.{place-once}
 use Rattle.skeleton_planes.specs.Laws.{BondHasEachOrder}
 use Rattle.skeleton_planes.proofs.BondSkeleton.{lesser-in, greater-in, same-incident}

@@ -3,7 +3,7 @@
 use Rattle.std.proofs.Common.{◌≡◌, ℕ, ◌*◌, ◌/◌, ◌%◌, ◌<◌, Bool, true, not, ◌==◌, cond, List, length, map, reverse, inl, inr, refl, sym, ap, ap₂, ◌∙◌, subst, arith, eq-eqb, eqb-true}
 use Rattle.std.proofs.lemmas.Bool.{cases_Bool, both_ways, ne_eqb, or_left, or_right}
 use Rattle.std.proofs.lemmas.List.Elements.{All-get_or}
-use Rattle.permutations.specs.Members.{is_member, is_distinct}
+use Rattle.permutations.specs.Members.{is_member, is_distinct, place_of}
 use Rattle.permutations.specs.Cyclic.{successor, predecessor, from_least}
 use Rattle.permutations.proofs.Members.{member-reverse, distinct-reverse}
 use Rattle.permutations.proofs.Successor.{successor-absent, predecessor-successor, successor-predecessor}
@@ -32,7 +32,7 @@ use Rattle.pair_split.specs.Tutte.{Node, components, node_at, node_item}
 use Rattle.pair_split.proofs.GraphFamily.{contains-below}
 use Rattle.pair_split.proofs.NodeParts.{node-piece}
 use Rattle.skeletons.specs.Items.{IsBlockTree}
-use Rattle.skeletons.specs.Families.{place_of, skeleton_graph}
+use Rattle.skeletons.specs.Families.{skeleton_graph}
 use Rattle.skeletons.proofs.NodeItems.{piece-in, edge-item}
 use Rattle.skeleton_runs.proofs.Items.{skeleton-at, skeleton-in}
 use Rattle.skeleton_runs.proofs.SkeletonGraph.{skeleton-graph, graph-edges, graph-ends}

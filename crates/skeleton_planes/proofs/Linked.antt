@@ -2,7 +2,7 @@
 -- at both, and are no bridges.
 use Rattle.std.proofs.Common.{◌≡◌, ◌≢◌, ℕ, ◌+◌, ◌*◌, ◌/◌, ◌%◌, ◌<◌, ◌≤◌, Bool, true, not, ◌&&◌, ◌||◌, ◌==◌, cond, List, length, inl, inr, refl, sym, ap, ◌∙◌, subst, arith, eq-eqb, eqb-true}
 use Rattle.std.proofs.lemmas.Bool.{cases_Bool, cases_eq, both_ways, ne_eqb, and_from, and_parts, or_cases, not-true, not_from_false}
-use Rattle.permutations.specs.Members.{is_member, is_distinct}
+use Rattle.permutations.specs.Members.{is_member, is_distinct, place_of}
 use Rattle.permutations.specs.Cyclic.{successor}
 use Rattle.permutations.proofs.Orbits.{orbit-test}
 use Rattle.multigraph.specs.Graph.{Multigraph, edge_count}
@@ -22,7 +22,7 @@ use Rattle.pair_split.proofs.GraphFamily.{one_block-tight}
 use Rattle.pair_split.proofs.Sides.{Touching, one-from_entry, common-inside, common-outside}
 use Rattle.pair_split.proofs.SkeletonFamily.{named, skeleton_family, item-entry, entry-item, skeleton-tight}
 use Rattle.skeletons.specs.Items.{ends_item, IsBlockTree}
-use Rattle.skeletons.specs.Families.{place_of, skeleton_graph, system_at, AreSkeletonSystems}
+use Rattle.skeletons.specs.Families.{skeleton_graph, system_at, AreSkeletonSystems}
 use Rattle.skeletons.proofs.NodeItems.{comp-in, piece-in, item-in, ends-at, group-is, edge-item, edge-end, outside-edge}
 use Rattle.skeleton_runs.proofs.SkeletonGraph.{skeleton-graph}
 use Rattle.skeleton_planes.specs.Bridges.{IsNoBridge}

@@ -3,7 +3,7 @@
 use Rattle.std.proofs.Common.{◌≡◌, ℕ, ◌/◌, ◌<◌, ◌≤◌, ◌⊎◌, true, ◌==◌, List, [], ◌∷◌, length, reverse, get_or, inl, inr, refl, sym, ap, ap₂, ◌∙◌, subst, arith, eqb-true}
 use Rattle.std.proofs.lemmas.Bool.{cases_Bool, cases_eq, cases_lt, or_cases, true≢false}
 use Rattle.std.proofs.lemmas.List.{length-map}
-use Rattle.permutations.specs.Members.{is_member, is_distinct}
+use Rattle.permutations.specs.Members.{is_member, is_distinct, place_of}
 use Rattle.permutations.specs.Cyclic.{IsTurn, successor, from_least}
 use Rattle.permutations.proofs.Members.{member-head, member-tail, member-cases, distinct-head, no_member-head}
 use Rattle.permutations.proofs.Successor.{successor-member, successor-absent}
@@ -24,7 +24,7 @@ use Rattle.pair_split.specs.declared.components.Kind.TheVariants.{S, P, B}
 use Rattle.pair_split.proofs.GraphFamily.{numbers-distinct, below-contains, contains-below}
 use Rattle.pair_split.proofs.NodeParts.{node-pieces, node-kind}
 use Rattle.skeletons.specs.Items.{IsBlockTree}
-use Rattle.skeletons.specs.Families.{place_of, skeleton_graph}
+use Rattle.skeletons.specs.Families.{skeleton_graph}
 use Rattle.skeletons.specs.Moves.{IsNodeOfKind}
 use Rattle.skeletons.proofs.NodeItems.{comp-in, vertex-end}
 use Rattle.skeletons.proofs.Systems.{same-turns}

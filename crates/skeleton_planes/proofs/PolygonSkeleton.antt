@@ -4,7 +4,7 @@ use Rattle.std.proofs.lemmas.Bool.{cases_Bool}
 use Rattle.std.proofs.lemmas.List.{get_or-map, length-map}
 use Rattle.std.proofs.lemmas.List.Elements.{All-from_get_or}
 use Rattle.std.proofs.lemmas.List.Sorted.{IsPermutation-refl}
-use Rattle.permutations.specs.Members.{is_member, is_distinct}
+use Rattle.permutations.specs.Members.{is_member, is_distinct, place_of}
 use Rattle.permutations.specs.Relation.{connected}
 use Rattle.permutations.specs.Cyclic.{successor}
 use Rattle.permutations.proofs.Relation.{connected-least-typed, connected-reflexive, connected-symmetric, connected-transitive}
@@ -27,7 +27,7 @@ use Rattle.pair_split.specs.Split.{skeleton, items_of, piece_ends}
 use Rattle.pair_split.specs.Tutte.{Node, components, node_at, node_item}
 use Rattle.pair_split.proofs.NodeParts.{node-piece}
 use Rattle.skeletons.specs.Items.{IsBlockTree}
-use Rattle.skeletons.specs.Families.{place_of, skeleton_graph}
+use Rattle.skeletons.specs.Families.{skeleton_graph}
 use Rattle.skeletons.proofs.NodeItems.{piece-in, item-in, edge-item}
 use Rattle.skeleton_runs.proofs.Items.{skeleton-at, skeleton-in}
 use Rattle.skeleton_runs.proofs.Sturdy.{polygon-two}

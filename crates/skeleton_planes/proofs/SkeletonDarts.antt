@@ -2,7 +2,7 @@
 -- system follows.
 use Rattle.std.proofs.Common.{◌≡◌, ℕ, ◌*◌, ◌/◌, ◌%◌, ◌<◌, ◌⊎◌, Bool, true, false, ◌==◌, cond, List, length, map, inl, inr, sym, ap, ◌∙◌, subst, arith, eq-eqb, eqb-true, lt-ltb}
 use Rattle.std.proofs.lemmas.Bool.{cases_Bool, both_ways, and_from, and_parts, false_from_ne_true}
-use Rattle.permutations.specs.Members.{is_member, is_distinct}
+use Rattle.permutations.specs.Members.{is_member, is_distinct, place_of}
 use Rattle.permutations.specs.Cyclic.{successor}
 use Rattle.permutations.specs.Runs.{group_keys}
 use Rattle.permutations.proofs.Successor.{successor-member}
@@ -19,7 +19,7 @@ use Rattle.faces.proofs.MapLists.{successor-map}
 use Rattle.faces.proofs.MapVertices.{tail-order}
 use Rattle.pair_split.specs.Tutte.{Node, components, node_at, node_item, group, has_in_group}
 use Rattle.skeletons.specs.Items.{has_vertex, IsBlockTree}
-use Rattle.skeletons.specs.Families.{place_of, skeleton_graph, StandInOrder}
+use Rattle.skeletons.specs.Families.{skeleton_graph, StandInOrder}
 use Rattle.skeletons.proofs.NodeItems.{keys-once, group-is, group-item}
 use Rattle.skeleton_runs.proofs.NodeFits.{item-first, item-second, vertex-fits}
 use Rattle.skeleton_runs.proofs.SkeletonGraph.{place-once, skeleton-graph, edge-item, item-edge, graph-ends}

@@ -2,7 +2,7 @@
 use Rattle.std.proofs.Common.{◌≡◌, ◌≢◌, ℕ, suc, ◌+◌, ◌<◌, ◌≤◌, inl, inr, true, false, not, List, [], ◌∷◌, length, filter, slice_index_or, get_or, refl, sym, ap, ◌∙◌, subst, arith, Contains}
 use Rattle.std.proofs.lemmas.Bool.{cases_lt, cases_eq, and_parts, and_from, eq-eqb, ne_eqb, not-true, not_from_false, false_from_ne_true, true≢false}
 use Rattle.std.proofs.lemmas.List.{get_or-map, get_or_past, get_or_default, length-map}
-use Rattle.permutations.specs.Members.{is_member, is_distinct}
+use Rattle.permutations.specs.Members.{is_member, is_distinct, place_of}
 use Rattle.permutations.specs.Relation.{connected}
 use Rattle.permutations.proofs.Count.{count-subset}
 use Rattle.permutations.proofs.Members.{member-cases, no_member-cons, no_member-head, no_member-tail, distinct-cons}
@@ -23,11 +23,11 @@ use Rattle.pair_split.proofs.Elements.{contains-filter, filter-contains}
 use Rattle.pair_split.proofs.GraphFamily.{all-from_contained}
 use Rattle.pair_split.proofs.NodeParts.{node-piece, node-kind}
 use Rattle.skeletons.specs.Items.{item_key, node_keys, IsBlockTree}
-use Rattle.skeletons.specs.Families.{place_of, end_places, skeleton_graph}
+use Rattle.skeletons.specs.Families.{end_places, skeleton_graph}
 use Rattle.skeletons.specs.Laws.{SkeletonIsTriconnected}
 use Rattle.skeleton_runs.proofs.Items.{skeleton-at, skeleton-in, in-skeleton}
 use Rattle.skeletons.proofs.NodeItems.{comp-in, piece-in, item-in}
-use Rattle.skeletons.proofs.Places.{place-below}
+use Rattle.permutations.proofs.Places.{place-below}
 use Rattle.skeleton_runs.proofs.NodeFits.{vertex-skeleton, vertex-fits, item-first, item-second, key-fits}
 
 -- and stands there

@@ -3,7 +3,7 @@ use Rattle.std.proofs.Common.{◌≡◌, ◌≢◌, ℕ, suc, ◌+◌, ◌<◌, 
 use Rattle.std.proofs.lemmas.Bool.{cases_eq, cases_lt, true≢false, eq-eqb, eqb-true, ne_eqb, or_left, or_right}
 use Rattle.std.proofs.lemmas.List.{get_or-map, get_or_default, length-map, same_lists}
 use Rattle.permutations.specs.Cyclic.{IsTurn, from_least}
-use Rattle.permutations.specs.Members.{is_member, is_distinct}
+use Rattle.permutations.specs.Members.{is_member, is_distinct, place_of}
 use Rattle.permutations.specs.Runs.{group_keys}
 use Rattle.permutations.proofs.Arrangements.{permutation-member, permutation-distinct, permutation-from_members, member-at}
 use Rattle.permutations.proofs.Members.{member-cases}
@@ -22,43 +22,13 @@ use Rattle.pair_split.specs.Tutte.{Node, node_at, node_item, group, IsTutte}
 use Rattle.pair_split.specs.declared.components.Item.{Item}
 use Rattle.skeletons.specs.Items.{ends_item, item_key, keys_at, node_keys, has_vertex, IsBlockTree}
 use Rattle.skeletons.specs.Round.{keys_round}
-use Rattle.skeletons.specs.Families.{place_of, end_places, skeleton_graph, system_at, AreSkeletonSystems, keys_of, keys_in, FollowsFamily}
+use Rattle.skeletons.specs.Families.{end_places, skeleton_graph, system_at, AreSkeletonSystems, keys_of, keys_in, FollowsFamily}
 use Rattle.skeletons.specs.Laws.{FamilyIsFollowed, ContiguousFollows, FamilyIsUnique}
 use Rattle.skeletons.proofs.NodeItems.{no_item, key-at_from, key-at_item, keys-once, item-vertex, vertex-node}
 use Rattle.skeletons.proofs.KeyRuns.{met-runs, met-order, order-met, order-rewritten}
 use Rattle.skeletons.proofs.Systems.{same-turns, made, made-order, made-system}
 use Rattle.skeletons.proofs.Moved.{runs-keys}
 use Rattle.skeletons.proofs.Composing.{AreOrders, composed}
-
--- the place of a member
-pub place-below : (l : List ℕ) (x : ℕ) → is_member x l ≡ true → place_of l x < length l
-place-below [] x m = absurd (true≢false (sym m))
-place-below (y ∷ l) x m = elim (cases_eq y x) [
-  | inl e ↦ subst (λ z. z < length (y ∷ l)) (sym (ap (λ (z : Bool). cond z 0 (place_of l x + 1)) (eq-eqb y x e))) (omega arith)
-  | inr n ↦ subst (λ z. z < length (y ∷ l)) (sym (ap (λ (z : Bool). cond z 0 (place_of l x + 1)) (ne_eqb y x n))) (let d : place_of l x < length l = place-below l x (rest n) in omega (arith, d))
-]
-  where
-    rest : y ≢ x → is_member x l ≡ true
-    rest n = elim (member-cases x y l m) [ inl e ↦ absurd (n e) | inr i ↦ i ]
-
-pub place-holds : (l : List ℕ) (x : ℕ) → is_member x l ≡ true → slice_index_or l (place_of l x) 0 ≡ x
-place-holds [] x m = absurd (true≢false (sym m))
-place-holds (y ∷ l) x m = elim (cases_eq y x) [
-  | inl e ↦ ap (λ z. slice_index_or (y ∷ l) z 0) (ap (λ (z : Bool). cond z 0 (place_of l x + 1)) (eq-eqb y x e)) ∙ e
-  | inr n ↦ ap (λ z. slice_index_or (y ∷ l) z 0) (ap (λ (z : Bool). cond z 0 (place_of l x + 1)) (ne_eqb y x n) ∙ one-more (place_of l x)) ∙ place-holds l x (rest n)
-]
-  where
-    one-more : (z : ℕ) → z + 1 ≡ suc z
-    one-more z = omega arith
-
-    rest : y ≢ x → is_member x l ≡ true
-    rest n = elim (member-cases x y l m) [ inl e ↦ absurd (n e) | inr i ↦ i ]
-
--- of what stands at place i
-pub place-at : (l : List ℕ) (i : ℕ) → is_distinct l ≡ true → i < length l → place_of l (slice_index_or l i 0) ≡ i
-place-at l i d h =
-    let m : is_member (slice_index_or l i 0) l ≡ true = member-at l i 0 h in
-    same-place l (place_of l (slice_index_or l i 0)) i d (place-below l (slice_index_or l i 0) m) h (place-holds l (slice_index_or l i 0) m)
 
 module _ (g : Multigraph) (nodes : List Node) (t : IsTutte g nodes) (k : ℕ) (lk : k < length nodes) where
   abbrev vertices : List ℕ

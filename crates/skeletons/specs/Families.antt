@@ -1,6 +1,7 @@
 -- Families of rotation systems, one for each skeleton, and the rotation systems that follow them.
-use Rattle.std.specs.Prelude.{◌≡◌, ℕ, ◌+◌, ◌<◌, true, cond, ◌==◌, List, [], ◌∷◌, length, map, slice_index_or}
+use Rattle.std.specs.Prelude.{◌≡◌, ℕ, ◌<◌, true, List, [], length, map, slice_index_or}
 use Rattle.permutations.specs.Cyclic.{IsTurn}
+use Rattle.permutations.specs.Members.{place_of}
 use Rattle.permutations.specs.Runs.{InRuns, group_keys}
 use Rattle.multigraph.specs.Graph.{Multigraph}
 use Rattle.rotations.specs.Rotation.{order_at, IsRotationSystem, IsCyclicOrder}
@@ -10,11 +11,6 @@ use Rattle.pair_split.specs.declared.components.Kind.TheVariants.{S, P, R, B}
 use Rattle.pair_split.specs.declared.components.Item.{Item}
 use Rattle.skeletons.specs.Items.{node_keys, has_vertex, least_vertex}
 use Rattle.faces.specs.Euler.{IsPlaneSystem}
-
--- the place of x in the list, from 0; the length where it is no member
-abbrev pub place_of : List ℕ → ℕ → ℕ
-place_of [] x = 0
-place_of (y ∷ ys) x = cond (y == x) 0 (place_of ys x + 1)
 
 -- the ends of an item, by their places among the vertices
 abbrev pub end_places : List ℕ → Item → ℕ × ℕ

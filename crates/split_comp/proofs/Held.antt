@@ -13,6 +13,7 @@ use Rattle.pair_split.specs.Edges.{entry_ends, family_skeleton}
 use Rattle.pair_split.specs.State.{Part, SplitState, split_off, IsSplitState}
 use Rattle.pair_split.specs.Splitting.{part_of}
 use Rattle.pair_split.specs.Bridges.{entry_of}
+use Rattle.pair_split.specs.Writing.{entry_total}
 use Rattle.pair_split.specs.declared.splitting.Finished.{Finished}
 use Rattle.pair_split.proofs.Elements.{contains-here, contains-later, contains-cases, contains-map, map-contains, contains-filter, filter-contains}
 use Rattle.pair_split.proofs.Names.{name-member, member-name}
@@ -26,7 +27,7 @@ use Rattle.pair_split.proofs.Sides.{length-sides}
 use Rattle.split_comp.specs.declared.items.Item.{Item}
 use Rattle.split_comp.specs.Stack.{item, entry, family}
 use Rattle.split_comp.specs.Sides.{IsCutOff, IsLeast}
-use Rattle.split_comp.specs.Pass.{NumberedTree, IsNumbered, PassState, drawn, drawn_items, drawn_family, next_name, own_entry, CanSplitOff, IsSplitOff, entry_total, IsHeld}
+use Rattle.split_comp.specs.Pass.{NumberedTree, IsNumbered, PassState, drawn, drawn_items, drawn_family, next_name, own_entry, CanSplitOff, IsSplitOff, IsHeld}
 use Rattle.split_comp.proofs.Entries.{stack-contains}
 use Rattle.split_comp.proofs.Stretch.{cut-is}
 use Rattle.split_comp.proofs.LeastSides.{least-minimal}

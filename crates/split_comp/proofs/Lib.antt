@@ -40,5 +40,4 @@ pub mod SplitOff
 pub mod ChildLeft
 pub mod WentBack
 pub mod Finished
-mod CountedParts
 pub mod SearchEnd

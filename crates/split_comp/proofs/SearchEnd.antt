@@ -12,7 +12,7 @@ use Rattle.pair_split.specs.Split.{IsSplit}
 use Rattle.pair_split.specs.State.{IsSplitState, AreComponents}
 use Rattle.pair_split.specs.Splitting.{part_of, state_of}
 use Rattle.pair_split.specs.Bridges.{entry_of, family_of}
-use Rattle.pair_split.specs.Writing.{IsListed}
+use Rattle.pair_split.specs.Writing.{IsListed, entry_total}
 use Rattle.pair_split.specs.declared.splitting.Finished.{Finished}
 use Rattle.pair_split.specs.declared.family.NamedEdge.{NamedEdge}
 use Rattle.pair_split.specs.declared.components.Comp.{Comp}
@@ -25,7 +25,7 @@ use Rattle.pair_split.proofs.WritingSteps.{state-listed}
 use Rattle.split_comp.specs.declared.items.Item.{Item}
 use Rattle.split_comp.specs.Stack.{entry}
 use Rattle.split_comp.specs.Palm.{AreVertices, tree_dart, tree_degree, tree_parent, AreDrawn, IsPalm}
-use Rattle.split_comp.specs.Pass.{NumberedTree, IsNumbered, PassState, IsPass, IsPassed, HasTurns, drawn, drawn_items, drawn_family, entry_total}
+use Rattle.split_comp.specs.Pass.{NumberedTree, IsNumbered, PassState, IsPass, IsPassed, HasTurns, drawn, drawn_items, drawn_family}
 use Rattle.split_comp.proofs.Palm.{palm-facts, palm-drawn}
 use Rattle.split_comp.proofs.Beginning.{begin-pass, begin-turns}
 
@@ -106,13 +106,3 @@ module _ (g : Multigraph) (graph : IsGraph g) (block : IsOneBlock g) (small : ed
 
   pub small-split : (comps : List Comp) → AreComponents (edge_count g) (state_of parts edges) B comps → IsSplit g comps
   small-split comps w = start-split g graph block (omega (arith, small)) parts edges none all comps w
-
--- one more edge of the graph
-pub graph-pushed : (g : Multigraph) (e first second : ℕ) (edges now : List NamedEdge) → (first, second) ≡ ends_of g e → now ≡ edges ++ record { name = e; first = first; second = second } ∷ [] → family_of edges ≡ map (graph_entry g) (numbers_below e) → family_of now ≡ map (graph_entry g) (numbers_below (e + 1))
-graph-pushed g e first second edges now ends pushed before =
-    let next : numbers_below (e + 1) ≡ numbers_below e ++ e ∷ [] = ap numbers_below (add-one e) in
-    ap family_of pushed ∙ (map_push entry_of edges (record { name = e; first = first; second = second }) ∙ ((λ i. before i ++ record { name = e; first = (ends i).0; second = (ends i).1 } ∷ [])
-    ∙ (sym (map_push (graph_entry g) (numbers_below e) e) ∙ ap (map (graph_entry g)) (sym next))))
-  where
-    add-one : (k : ℕ) → k + 1 ≡ suc k
-    add-one k = omega arith

@@ -9,6 +9,7 @@ use Rattle.pair_split.specs.Skeleton.{SameEnds, IsSkeleton}
 use Rattle.pair_split.specs.State.{IsSplitState}
 use Rattle.pair_split.specs.Splitting.{part_of}
 use Rattle.pair_split.specs.Bridges.{family_of}
+use Rattle.pair_split.specs.Writing.{entry_total}
 use Rattle.pair_split.specs.declared.splitting.Finished.{Finished}
 use Rattle.pair_split.specs.declared.family.NamedEdge.{NamedEdge}
 use Rattle.pair_split.specs.declared.components.Kind.{Kind}
@@ -124,11 +125,6 @@ pub record CanSplitOff (g : Multigraph) (vertex : List ℕ) (keeps : Item → Bo
   pub few : next_name g s < 4294967296
   pub total : length (filter keeps (drop k s.items)) ≤ s.total
   pub fits : s.total < 4294967296
-
--- how many entries the components have
-abbrev pub entry_total : List Finished → ℕ
-entry_total [] = 0
-entry_total (finished ∷ parts) = length finished.edges + entry_total parts
 
 -- the current family of the graph
 abbrev pub drawn_family : Multigraph → List ℕ → List Item → List Entry → List Entry

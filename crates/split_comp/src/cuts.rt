@@ -4,7 +4,7 @@ ghost use Rattle.std.specs.Prelude.{◌≡◌, ◌+◌, ◌-◌, ◌<◌, ◌≤
 ghost use Rattle.split_comp.specs.Noting.{IsTakenLower, IsNoted, IsDropped};
 
 use crate::items::Triple;
-use palm_tree::Steps;
+use step_count::Steps;
 use std::alloc::AllocError;
 use std::sync::ledger::Ledger;
 

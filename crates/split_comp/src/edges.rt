@@ -10,7 +10,7 @@ use crate::items::Item;
 use crate::tree::Tree;
 use multigraph::Graph;
 use pair_split::NamedEdge;
-use palm_tree::Steps;
+use step_count::Steps;
 use std::alloc::{AllocError, Global};
 use std::sync::ledger::Ledger;
 

@@ -22,6 +22,5 @@ mod pass;
 mod splitter;
 mod tree;
 mod turning;
-mod writing;
 
 pub use splitter::SearchSplitter;

@@ -14,7 +14,7 @@ use crate::items::{Dart, Item, Triple};
 use crate::tree::Tree;
 use multigraph::Graph;
 use pair_split::{EdgeList, Finished, NamedEdge, kind_of};
-use palm_tree::Steps;
+use step_count::Steps;
 use std::alloc::{AllocError, Global};
 use std::marker::Model;
 use std::sync::ledger::Ledger;

@@ -9,10 +9,9 @@ ghost use Rattle.pair_split.specs.Split.{IsSplit};
 
 use crate::pass::Pass;
 use crate::tree::Tree;
-use crate::writing::write;
 use multigraph::Graph;
-use pair_split::{Comps, Kind, NamedEdge, Splitter, kind_of_all};
-use palm_tree::Steps;
+use pair_split::{Comps, Kind, Splitter, graph_edges, kind_of_all, write_components};
+use step_count::Steps;
 use std::alloc::{AllocError, Global};
 use std::marker::Brand;
 use std::sync::ledger::{Blank, Ledger};
@@ -22,31 +21,6 @@ use std::sync::ledger::{Blank, Ledger};
 /// time n log n, for the sorting of the palm tree's darts.
 #[derive(Debug, Drop)]
 pub struct SearchSplitter;
-
-// The edges of the graph, each under its number.
-fn graph_edges<L: Ledger>(
-    alloc: Global,
-    g: &Graph,
-    steps: &mut Steps<L>,
-) -> Result<Vec<NamedEdge>, AllocError>
-    ensures edges { IfOk result (λ edges. family_of edges.items ≡ graph_family g.now) }
-    ensures graph { IsGraph g.now }
-    ensures cost { IfOk result (λ _. steps.new ≡ steps.old + edge_count g.now) }
-    ensures at_most { steps.new ≤ steps.old + edge_count g.now }
-    ensures rises { steps.old ≤ steps.new }
-{
-    let mut edges = Vec::with_capacity(alloc, g.edge_count() as usize)?;
-    for e in 0..g.edge_count() {
-        steps.tick();
-        let (first, second) = g.ends(e);
-        edges.push(NamedEdge {
-            name: e,
-            first,
-            second,
-        })?;
-    }
-    Ok(edges)
-}
 
 // The single component of a block of one edge or two.
 fn split_small<L: Ledger>(
@@ -61,7 +35,7 @@ fn split_small<L: Ledger>(
     ensures at_least { IfOk result (λ _. steps.old + edge_count g.now ≤ steps.new) }
 {
     let edges = graph_edges(alloc, g, steps)?;
-    write(alloc, &[], &edges, Kind::B, g.edge_count(), steps)
+    write_components(alloc, &[], &edges, Kind::B, g.edge_count(), steps)
 }
 
 // The components of a block of three edges or more.
@@ -81,7 +55,7 @@ fn split_large<L: Ledger>(
     pass.run(alloc, g, &tree, steps)?;
     let edges = pass.edges(alloc, g, &tree, steps)?;
     let kind = kind_of_all(&edges);
-    write(alloc, pass.parts(), &edges, kind, g.edge_count(), steps)
+    write_components(alloc, pass.parts(), &edges, kind, g.edge_count(), steps)
 }
 
 impl SearchSplitter {

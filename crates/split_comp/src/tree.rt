@@ -8,7 +8,8 @@ ghost use Rattle.split_comp.specs.Pass.{IsNumbered};
 
 use crate::items::Dart;
 use multigraph::Graph;
-use palm_tree::{PalmTree, Steps};
+use palm_tree::PalmTree;
+use step_count::Steps;
 use std::alloc::{AllocError, Global};
 use std::marker::Model;
 use std::sync::ledger::Ledger;

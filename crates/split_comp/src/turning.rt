@@ -10,7 +10,7 @@ use crate::items::Triple;
 use crate::pass::Pass;
 use crate::tree::Tree;
 use multigraph::Graph;
-use palm_tree::Steps;
+use step_count::Steps;
 use std::alloc::{AllocError, Global};
 use std::sync::ledger::Ledger;
 

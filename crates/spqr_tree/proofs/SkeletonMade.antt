@@ -4,16 +4,15 @@ use Rattle.std.specs.List.Sorted.{IsBinarySearchResult}
 use Rattle.std.specs.Ordering.{nat_cmp}
 use Rattle.std.proofs.lemmas.Bool.{cases_eq}
 use Rattle.std.proofs.lemmas.List.Sorted.{searched}
-use Rattle.permutations.specs.Members.{is_member}
+use Rattle.permutations.specs.Members.{is_member, place_of}
 use Rattle.multigraph.specs.Graph.{Multigraph, IsWithinLimits}
 use Rattle.multigraph.specs.Part.{Rises, IsPlace}
 use Rattle.multigraph.proofs.Places.{rises-once, place-missed}
 use Rattle.pair_split.specs.Tutte.{Node, node_at}
 use Rattle.pair_split.specs.declared.components.Item.{Item}
 use Rattle.skeletons.specs.Items.{IsBlockTree}
-use Rattle.skeletons.specs.Families.{place_of}
 use Rattle.skeletons.proofs.NodeItems.{nth_item}
-use Rattle.skeletons.proofs.Places.{place-below, place-holds}
+use Rattle.permutations.proofs.Places.{place-below, place-holds}
 use Rattle.skeleton_runs.proofs.NodeFits.{item-first, item-second}
 use Rattle.skeleton_runs.proofs.SkeletonGraph.{skeleton-limits}
 

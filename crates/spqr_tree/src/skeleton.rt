@@ -6,7 +6,8 @@ ghost use Rattle.graph_theory.specs.Triconnected.{IsTriconnected};
 ghost use Rattle.pair_split.specs.Tutte.{node_at};
 ghost use Rattle.pair_split.specs.declared.components.Kind.TheVariants.{R};
 ghost use Rattle.skeletons.specs.Items.{has_vertex, IsBlockTree};
-ghost use Rattle.skeletons.specs.Families.{place_of, end_places, skeleton_graph};
+ghost use Rattle.skeletons.specs.Families.{end_places, skeleton_graph};
+ghost use Rattle.permutations.specs.Members.{place_of};
 
 use crate::tree::Tree;
 use multigraph::Graph;

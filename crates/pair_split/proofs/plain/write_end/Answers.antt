@@ -13,7 +13,7 @@ use Rattle.pair_split.proofs.Finish.{state-end}
 use Rattle.pair_split.proofs.plain.write_end.Goals as goal
 
 pub returns : goal.returns
-returns c = IfOk-weaker c.write_state.result
+returns g c = IfOk-weaker c.write_state.result
     (λ (comps : Comps). AreComponents (edge_count c.args.g.now) (state_of c.args.end.now.parts.items c.args.end.now.current.items) c.kind_of_all-kind.result comps.list)
     (λ (comps : Comps). IsSplit c.args.g.now comps.list)
     (λ comps w. state-end c.args.g.now (state_of c.args.end.now.parts.items c.args.end.now.current.items) c.requires.state.state c.kind_of_all-kind.result comps.list w c.requires.block.at_edge

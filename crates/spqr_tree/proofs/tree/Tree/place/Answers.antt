@@ -1,7 +1,6 @@
 -- The vertices of a node rise and are few, so the search ends at the place.
 use Rattle.std.proofs.Common.{◌∙◌, List, ℕ, length, ap, arith}
-use Rattle.permutations.specs.Members.{is_member}
-use Rattle.skeletons.specs.Families.{place_of}
+use Rattle.permutations.specs.Members.{is_member, place_of}
 use Rattle.spqr_tree.proofs.SkeletonMade.{place-there, place-not_missed, vertices-few, vertices-rise}
 use Rattle.spqr_tree.proofs.tree.Tree.place.Goals as goal
 

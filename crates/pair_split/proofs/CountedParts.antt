@@ -2,7 +2,7 @@
 use Rattle.std.proofs.Common.{◌≡◌, ℕ, zero, suc, ◌+◌, ◌<◌, ◌≤◌, List, [], ◌∷◌, ◌++◌, length, take, slice_index_or, sym, ap, ◌∙◌, arith}
 use Rattle.std.proofs.lemmas.List.{take_all, take_more}
 use Rattle.pair_split.specs.declared.splitting.Finished.{Finished}
-use Rattle.split_comp.specs.Pass.{entry_total}
+use Rattle.pair_split.specs.Writing.{entry_total}
 
 -- one component behind the others
 total-push : (parts : List Finished) (finished : Finished) → entry_total (parts ++ finished ∷ []) ≡ entry_total parts + length finished.edges

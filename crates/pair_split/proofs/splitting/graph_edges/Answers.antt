@@ -1,6 +1,6 @@
 use Rattle.std.proofs.Common.{arith}
-use Rattle.split_comp.proofs.SearchEnd.{graph-pushed}
-use Rattle.split_comp.proofs.splitter.graph_edges.Goals as goal
+use Rattle.pair_split.proofs.SplitSteps.{graph-pushed}
+use Rattle.pair_split.proofs.splitting.graph_edges.Goals as goal
 
 pub loop-e-preserved : goal.loop-e-preserved
 loop-e-preserved g c = (

@@ -4,7 +4,7 @@ use Rattle.pair_split.specs.Splitting.{state_of}
 use Rattle.pair_split.specs.Writing.{ArePartsWritten}
 use Rattle.pair_split.specs.declared.components.Comp.{Comp}
 use Rattle.pair_split.proofs.WritingSteps.{part-names, last-names, all-written, IsLastWritten}
-use Rattle.split_comp.proofs.writing.write.Goals as goal
+use Rattle.pair_split.proofs.writing.write_components.Goals as goal
 
 pub write_parts-requires-clause-names : goal.write_parts-requires-clause-names
 write_parts-requires-clause-names g c = part-names c.args.m c.args.parts.now c.args.current.now c.requires.listed (length c.deref.result.now) (ap length c.deref.ensures.value ∙ c.in_ok-ups.ensures.number)
