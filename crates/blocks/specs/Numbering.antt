@@ -1,5 +1,5 @@
 -- State of a loop: classes of equal labels, numbered in order of their first places.
-use Rattle.std.specs.Prelude.{◌≡◌, ℕ, ◌<◌, ◌==◌, Bool, true, List, length, slice_index}
+use Rattle.std.specs.Prelude.{◌≡◌, ℕ, ◌+◌, ◌<◌, ◌==◌, Bool, true, List, length, slice_index, slice_set}
 use Rattle.permutations.specs.Count.{count}
 use Rattle.permutations.specs.Relation.{leads}
 use Rattle.multigraph.specs.Marks.{is_marked}
@@ -7,6 +7,11 @@ use Rattle.multigraph.specs.Marks.{is_marked}
 -- whether two places have the same label
 abbrev pub same_label : List ℕ → ℕ → ℕ → Bool
 same_label labels i j = slice_index labels i == slice_index labels j
+
+-- a label that is met for the first time has the next number, and one number more was given
+abbrev pub TakesNextNumber : ℕ → List Bool → List ℕ → ℕ → List Bool → List ℕ → ℕ → Type 0
+TakesNextNumber label met number_of classes next_met next_number_of next_classes =
+    (next_met ≡ slice_set met label true) × (next_number_of ≡ slice_set number_of label classes) × (next_classes ≡ classes + 1)
 
 -- each place has the number of its class: classes are numbered in order of their first places
 pub record IsNumbering (labels numbers : List ℕ) : Type 0 where

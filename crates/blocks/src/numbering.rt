@@ -1,8 +1,8 @@
 // Classes of equal labels, numbered in order of their first places.
-ghost use Rattle.std.specs.Prelude.{◌≡◌, ◌<◌, ◌+◌, ◌^◌, [], true, false, length, IfOk, slice_index, slice_set, ℕ};
+ghost use Rattle.std.specs.Prelude.{◌≡◌, ◌<◌, ◌+◌, ◌^◌, [], true, false, length, IfOk, slice_index, ℕ};
 ghost use Rattle.permutations.specs.Relation.{class_count};
 ghost use Rattle.multigraph.specs.Marks.{is_marked};
-ghost use Rattle.blocks.specs.Numbering.{IsNumbering, IsNumbered, same_label};
+ghost use Rattle.blocks.specs.Numbering.{IsNumbering, IsNumbered, TakesNextNumber, same_label};
 
 use std::alloc::{AllocError, Global};
 
@@ -14,8 +14,7 @@ fn meet(met: &mut [bool], number_of: &mut [u32], label: usize, classes: u32) -> 
     ensures again { is_marked met.old label ≡ true
         → (met.new ≡ met.old) × (number_of.new ≡ number_of.old) × (result ≡ classes) }
     ensures first { is_marked met.old label ≡ false
-        → (met.new ≡ slice_set met.old label true)
-        × (number_of.new ≡ slice_set number_of.old label classes) × (result ≡ classes + 1) }
+        → TakesNextNumber label met.old number_of.old classes met.new number_of.new result }
 {
     if met[label] {
         return classes;

@@ -1,5 +1,5 @@
 -- The graph of a document, or the first refusal.
-use Rattle.std.specs.Prelude.{◌≡◌, ℕ, zero, suc, ℤ, nat_lt, ◌==◌, if◌then◌else◌, List, [], ◌∷◌, ◌++◌, length, take, position, slice_index_or, Option, Some, None, Result, Ok, Err, codes}
+use Rattle.std.specs.Prelude.{◌≡◌, ℕ, zero, suc, ℤ, nat_lt, ◌==◌, if◌then◌else◌, List, [], ◌∷◌, ◌++◌, length, take, position, slice_index_or, Option, Some, None, Result, Ok, Err, MatchResult, codes}
 use Rattle.std.specs.Ordering.{int_eq}
 use Rattle.std.specs.List.{list_any}
 use Rattle.multigraph.specs.Graph.{IsGraph, IsWithinLimits, max_vertices, max_edges}
@@ -110,3 +110,7 @@ HasSoundGraph d = (n : NamedGraph) → graph_of_document d ≡ Ok n → IsGraph 
 abbrev pub Refuses : {A : Type 0} → Result A GraphFault → GraphFault → Type 0
 Refuses due Memory = Unit {0}
 Refuses due fault = due ≡ Err fault
+
+-- an answer has the value that is due, or is a refusal that is
+abbrev pub Answers : {A B : Type 0} → Result A GraphFault → (B → A) → Result B GraphFault → Type 0
+Answers due value result = MatchResult result (λ answer. due ≡ Ok (value answer)) (Refuses due)

@@ -1,9 +1,8 @@
 // The ends of the edges of a graph list.
 
-ghost use Rattle.std.specs.Prelude.{◌≡◌, ◌≤◌, length, map, Ok, MatchResult};
+ghost use Rattle.std.specs.Prelude.{◌≡◌, ◌≤◌, length, map};
 ghost use Rattle.multigraph.specs.Graph.{max_edges};
-ghost use Rattle.gml_text.specs.Pairs.{document_of};
-ghost use Rattle.gml_graph.specs.Answer.{Refuses, edge_ends, ends_among, ends_between};
+ghost use Rattle.gml_graph.specs.Answer.{Answers, edge_ends, ends_among, ends_between};
 
 use crate::fault::GraphFault;
 use crate::ids::Ids;
@@ -48,9 +47,8 @@ pub(crate) fn edge_ends(
     edges: &[&Pairs],
 ) -> Result<Vec<(u32, u32)>, GraphFault>
     requires { length edges.now ≤ max_edges }
-    ensures { MatchResult result
-        (λ ends. edge_ends ids.now (map (λ edge. edge.now) edges.now) ≡ Ok ends.items)
-        (Refuses (edge_ends ids.now (map (λ edge. edge.now) edges.now))) }
+    ensures { Answers (edge_ends ids.now (map (λ edge. edge.now) edges.now))
+        (λ ends. ends.items) result }
 {
     let mut ends = Vec::with_capacity(alloc, edges.len())?;
     for (k, edge) in edges.iter().enumerate() {

@@ -1,9 +1,9 @@
 // A graph whose vertices have ids, and the one of a document.
 
-ghost use Rattle.std.specs.Prelude.{◌≡◌, ◌≢◌, ◌↔◌, ◌<◌, ℕ, Some, Ok, IsNone, IfOk, MatchResult, length, map, slice_get};
+ghost use Rattle.std.specs.Prelude.{◌≡◌, ◌≢◌, ◌↔◌, ◌<◌, ℕ, Some, Ok, IsNone, MatchResult, map, slice_get};
 ghost use Rattle.gml_text.specs.Pairs.{document_of};
 ghost use Rattle.gml_graph.specs.Named.{IsNamed};
-ghost use Rattle.gml_graph.specs.Answer.{Refuses, graph_between, graph_in, graph_of_document};
+ghost use Rattle.gml_graph.specs.Answer.{Answers, Refuses, graph_between, graph_in, graph_of_document};
 
 use crate::edges::edge_ends;
 use crate::fault::GraphFault;
@@ -65,9 +65,8 @@ impl Named {
 
 // The graph of these nodes and edges, or the first refusal.
 fn graph_between(alloc: Global, nodes: &[&Pairs], edges: &[&Pairs]) -> Result<Named, GraphFault>
-    ensures { MatchResult result
-        (λ named. graph_between (map (λ node. node.now) nodes.now) (map (λ edge. edge.now) edges.now) ≡ Ok named)
-        (Refuses (graph_between (map (λ node. node.now) nodes.now) (map (λ edge. edge.now) edges.now))) }
+    ensures { Answers (graph_between
+        (map (λ node. node.now) nodes.now) (map (λ edge. edge.now) edges.now)) (λ named. named) result }
 {
     if nodes.len() > MAX_VERTICES {
         return Err(GraphFault::TooManyVertices(nodes.len()));

@@ -2,7 +2,7 @@
 
 ghost use Rattle.std.specs.Prelude.{◌≡◌, ◌<◌, ◌≤◌, length, map, Ok, MatchResult};
 ghost use Rattle.multigraph.specs.Graph.{max_vertices};
-ghost use Rattle.gml_graph.specs.Answer.{Refuses, and_one_more, id_among, node_ids};
+ghost use Rattle.gml_graph.specs.Answer.{Answers, Refuses, and_one_more, id_among, node_ids};
 
 use crate::fault::GraphFault;
 use crate::hashing::BehindAllIds;
@@ -33,9 +33,7 @@ fn add_id(ids: &mut Ids, k: u32, reading: Reading) -> Result<(), GraphFault>
 /// The ids of the nodes, in order, or the first refusal.
 pub(crate) fn node_ids(alloc: Global, nodes: &[&Pairs]) -> Result<Ids, GraphFault>
     requires { length nodes.now ≤ max_vertices }
-    ensures { MatchResult result
-        (λ ids. node_ids (map (λ node. node.now) nodes.now) ≡ Ok ids)
-        (Refuses (node_ids (map (λ node. node.now) nodes.now))) }
+    ensures { Answers (node_ids (map (λ node. node.now) nodes.now)) (λ ids. ids) result }
 {
     let mut ids = Ids::with_room(alloc, nodes.len(), BehindAllIds::of(nodes))?;
     for (k, node) in nodes.iter().enumerate() {

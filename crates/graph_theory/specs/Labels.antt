@@ -1,5 +1,5 @@
 -- Labels by which it is told what links connect when some numbers are removed.
-use Rattle.std.specs.Prelude.{◌≡◌, ℕ, ◌<◌, true, cond, ◌==◌, List, filter, slice_index_or, Contains}
+use Rattle.std.specs.Prelude.{◌≡◌, ℕ, ◌<◌, true, cond, ◌==◌, List, [], ◌∷◌, ◌++◌, filter, slice_index_or, Contains}
 use Rattle.permutations.specs.Relation.{connected}
 use Rattle.graph_theory.specs.Triconnected.{avoids}
 
@@ -17,6 +17,11 @@ pub record IsLabelling (links : List (ℕ × ℕ)) (removed : List ℕ) (label :
   pub agree : (link : ℕ × ℕ) → Contains links link → avoids removed link ≡ true → label link.0 ≡ label link.1
   pub only : (u v : ℕ) → label u ≡ label v → connected (filter (avoids removed) links) u v ≡ true
   pub own : (x : ℕ) → label (label x) ≡ label x
+
+-- whatever links the labels before told of, the labels after tell of these and of the link
+abbrev pub AddsLink : List ℕ → ℕ × ℕ → List ℕ → List ℕ → Type 0
+AddsLink removed link before after =
+    (links : List (ℕ × ℕ)) → IsLabelling links removed (label_at before) → IsLabelling (links ++ link ∷ []) removed (label_at after)
 
 -- the labels of the numbers below n are below n
 abbrev pub AreLabelsBelow : ℕ → List ℕ → Type 0

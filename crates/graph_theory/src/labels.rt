@@ -1,8 +1,8 @@
 // Labels of numbers, equal just where links connect them when some numbers are removed.
 
-ghost use Rattle.std.specs.Prelude.{◌≡◌, ◌<◌, ◌++◌, ℕ, List, [], ◌∷◌, length, IfOk};
+ghost use Rattle.std.specs.Prelude.{◌≡◌, ◌<◌, ℕ, length, IfOk};
 ghost use Rattle.permutations.specs.Members.{is_member};
-ghost use Rattle.graph_theory.specs.Labels.{label_at, renamed, IsLabelling, AreLabelsBelow};
+ghost use Rattle.graph_theory.specs.Labels.{label_at, renamed, AddsLink, AreLabelsBelow};
 
 use std::alloc::{AllocError, Global};
 
@@ -47,8 +47,7 @@ pub fn merge(labels: &mut [u32], removed: &[u32], first: u32, second: u32)
     requires first_in { first < length labels.old }
     requires second_in { second < length labels.old }
     requires within { AreLabelsBelow (length labels.old) labels.old }
-    ensures merged { (links : List (ℕ × ℕ)) → IsLabelling links removed.now (label_at labels.old)
-        → IsLabelling (links ++ (first, second) ∷ []) removed.now (label_at labels.new) }
+    ensures merged { AddsLink removed.now (first, second) labels.old labels.new }
     ensures within { AreLabelsBelow (length labels.old) labels.new }
 {
     if is_removed(removed, first) || is_removed(removed, second) {

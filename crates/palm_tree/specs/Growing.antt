@@ -49,6 +49,12 @@ class_of g s low e =
 abbrev pub sort_key : Multigraph → ForestState → LowVertices → ℕ → ℕ
 sort_key g s low e = 3 * slice_index s.depth (vertex_reached g s low e) + class_of g s low e
 
+-- what the parent edge of c, a child of p, is sorted by
+abbrev pub tree_key : ForestState → LowVertices → ℕ → ℕ → ℕ
+tree_key s low c p =
+    3 * slice_index s.depth (slice_index low.first c)
+    + (if nat_lt (slice_index s.depth (slice_index low.second c)) (slice_index s.depth p) then 0 else 2)
+
 -- whether nothing leads from v or below it past v
 abbrev pub hangs : LowVertices → ℕ → Bool
 hangs low v = slice_index low.first v == v
@@ -68,6 +74,14 @@ pub record IsSortedByKeys (m : ℕ) (key : ℕ → ℕ) (l : List ℕ) : Type 0 
 -- of these edges the parent edges whose child hangs, or those whose child does not
 abbrev pub tree_edges : ForestState → LowVertices → Bool → List ℕ → List ℕ
 tree_edges s low hanging l = filter (λ e. is_tree_edge s e && beq (hangs low (slice_index s.lower e)) hanging) l
+
+-- the children, with the lower end of e behind them where e is the parent edge of a child that
+-- hangs, or of one that does not, as is asked
+abbrev pub with_child : ForestState → LowVertices → Bool → ℕ → List ℕ → List ℕ
+with_child s low hanging e children =
+    (if is_tree_edge s e && beq (hangs low (slice_index s.lower e)) hanging
+    then children ++ slice_index s.lower e ∷ []
+    else children)
 
 -- a frond whose lower end is v or a descendant of v leads to x
 pub record LeadsFrom (g : Multigraph) (s : ForestState) (v x : ℕ) : Type 0 where
@@ -136,11 +150,34 @@ pub record AreOffsetsSoFar (g : Multigraph) (s : ForestState) (size : List ℕ) 
   pub covers : (q x : ℕ) → q < g.vertex_count → x < slice_index filled q → (c : ℕ) × (is_member c given ≡ true) × (slice_index s.parent c ≡ q) × (slice_index offset c ≤ x) × (x < slice_index offset c + slice_index size c)
   pub follow : (c d : ℕ) → IsBefore given c d → slice_index s.parent c ≡ slice_index s.parent d → slice_index offset c + slice_index size c ≤ slice_index offset d
 
+-- how many numbers are filled below the parent of c
+abbrev pub filled_beside : ForestState → List ℕ → ℕ → ℕ
+filled_beside s filled c = slice_index filled (slice_index s.parent c)
+
+-- the places, where c has the one behind what is filled below its parent
+abbrev pub place_given : ForestState → List ℕ → List ℕ → ℕ → List ℕ
+place_given s filled offset c = slice_set offset c (filled_beside s filled c)
+
+-- how many numbers are filled below each vertex, where those of c and its descendants are too
+abbrev pub with_filled : ForestState → List ℕ → List ℕ → ℕ → List ℕ
+with_filled s size filled c = slice_set filled (slice_index s.parent c) (filled_beside s filled c + slice_index size c)
+
 -- each vertex but the root once
 pub record AreChildren (g : Multigraph) (s : ForestState) (children : List ℕ) : Type 0 where
   pub distinct : is_distinct children ≡ true
   pub within : (c : ℕ) → is_member c children ≡ true → (c < g.vertex_count) × (0 < slice_index s.depth c)
   pub each : (c : ℕ) → c < g.vertex_count → 0 < slice_index s.depth c → is_member c children ≡ true
+
+-- the number that v has by its place behind its parent
+abbrev pub number_by_place : ForestState → List ℕ → List ℕ → ℕ → ℕ
+number_by_place s offset number v = slice_index number (slice_index s.parent v) + 1 + slice_index offset v
+
+-- the numbers, where v is numbered too: the root 0, another vertex by its place behind its parent
+abbrev pub number_given : ForestState → List ℕ → List ℕ → ℕ → List ℕ
+number_given s offset number v =
+    (if nat_lt 0 (slice_index s.depth v)
+    then slice_set number v (number_by_place s offset number v)
+    else slice_set number v 0)
 
 -- these vertices are numbered: the root 0, each other vertex by its place behind its parent
 pub record AreNumbersSoFar (g : Multigraph) (s : ForestState) (size offset done number : List ℕ) : Type 0 where

@@ -1,10 +1,9 @@
 // The numbers of the vertices: those of a vertex and its descendants are consecutive, and later children have smaller ones.
-ghost use Rattle.std.specs.Prelude.{◌≡◌, ◌+◌, ◌*◌, ◌<◌, ◌≤◌, ◌^◌, ◌∷◌, ◌++◌, ◌&&◌, [], ℕ, true, false, nat_lt, if◌then◌else◌, length, reverse, IfOk, slice_index, slice_set};
+ghost use Rattle.std.specs.Prelude.{◌≡◌, ◌+◌, ◌*◌, ◌<◌, ◌≤◌, ◌^◌, ◌++◌, ℕ, true, length, reverse, IfOk, slice_index};
 ghost use Rattle.permutations.specs.Members.{is_member};
 ghost use Rattle.multigraph.specs.Graph.{edge_count, IsGraph};
 ghost use Rattle.palm_tree.specs.Searching.{IsOver};
-ghost use Rattle.std.specs.Bool.{beq};
-ghost use Rattle.palm_tree.specs.Growing.{hangs, is_tree_edge, lower_ends, tree_edges, numbering_order, AreLowVertices, AreSizes, AreChildren, AreOffsets, HasRoom, AreNumbersSoFar};
+ghost use Rattle.palm_tree.specs.Growing.{lower_ends, tree_edges, with_child, numbering_order, filled_beside, place_given, with_filled, number_by_place, number_given, AreLowVertices, AreSizes, AreChildren, AreOffsets, HasRoom, AreNumbersSoFar};
 
 use crate::lists::copies;
 use crate::low::Low;
@@ -27,10 +26,8 @@ fn add_child(
     requires over { IsOver graph.now search.now }
     requires low { AreLowVertices graph.now search.now low.now }
     requires edge_in { edge < edge_count graph.now }
-    ensures { IfOk result (λ _. children.new.items ≡ (if is_tree_edge search.now edge
-        && beq (hangs low.now (slice_index search.now.lower edge)) hanging
-        then children.old.items ++ slice_index search.now.lower edge ∷ []
-        else children.old.items)) }
+    ensures { IfOk result (λ _. children.new.items
+        ≡ with_child search.now low.now hanging edge children.old.items) }
 {
     let lower = search.lower_end(edge);
     if search.is_tree_edge(graph, edge) && low.hangs(lower) == hanging {
@@ -112,13 +109,12 @@ fn give_place(
     requires parent_within { child < length search.now.parent }
     requires sizes_within { child < length sizes.now }
     requires filled_within { slice_index search.now.parent child < length filled.old.items }
-    requires fits { slice_index filled.old.items (slice_index search.now.parent child)
+    requires fits { filled_beside search.now filled.old.items child
         + slice_index sizes.now child < 2 ^ 32 }
-    ensures offset { offset.new.items ≡ slice_set offset.old.items child
-        (slice_index filled.old.items (slice_index search.now.parent child)) }
-    ensures filled { filled.new.items ≡ slice_set filled.old.items
-        (slice_index search.now.parent child) (slice_index filled.old.items
-        (slice_index search.now.parent child) + slice_index sizes.now child) }
+    ensures offset { offset.new.items
+        ≡ place_given search.now filled.old.items offset.old.items child }
+    ensures filled { filled.new.items
+        ≡ with_filled search.now sizes.now filled.old.items child }
 {
     let parent = search.parent_of(child) as usize;
     offset[child as usize] = filled[parent];
@@ -161,12 +157,9 @@ fn give_number(number: &mut Vec<u32>, search: &Search, offset: &[u32], vertex: u
     requires above_within { 0 < slice_index search.now.depth vertex
         → slice_index search.now.parent vertex < length number.old.items }
     requires fits { 0 < slice_index search.now.depth vertex
-        → slice_index number.old.items (slice_index search.now.parent vertex) + 1
-        + slice_index offset.now vertex < 2 ^ 32 }
-    ensures { number.new.items ≡ (if nat_lt 0 (slice_index search.now.depth vertex)
-        then slice_set number.old.items vertex (slice_index number.old.items
-        (slice_index search.now.parent vertex) + 1 + slice_index offset.now vertex)
-        else slice_set number.old.items vertex 0) }
+        → number_by_place search.now offset.now number.old.items vertex < 2 ^ 32 }
+    ensures { number.new.items
+        ≡ number_given search.now offset.now number.old.items vertex }
 {
     if search.depth_of(vertex) > 0 {
         let parent = search.parent_of(vertex) as usize;

@@ -1,7 +1,8 @@
 -- When lists of edges that are given for some vertices make a rotation system, and where it shows first that they make none.
-use Rattle.std.specs.Prelude.{ℕ, ◌<◌, ◌≤◌, ◌⊎◌, List}
+use Rattle.std.specs.Prelude.{◌≡◌, ◌≢◌, ℕ, ◌+◌, ◌<◌, ◌≤◌, ◌⊎◌, true, false, List, slice_index, slice_set}
 use Rattle.std.specs.List.Sorted.{IsPermutation}
 use Rattle.permutations.specs.Cyclic.{first_or, turned}
+use Rattle.permutations.specs.Members.{is_member}
 use Rattle.multigraph.specs.Graph.{Multigraph, incident_edges}
 use Rattle.rotations.specs.Entries.{IsNamed, list_at}
 use Rattle.rotations.specs.declared.faults.RotFault.{RotFault}
@@ -10,6 +11,14 @@ use Rattle.rotations.specs.declared.faults.RotFault.TheVariants.{BadRotation, Me
 -- the list given for v is an arrangement of the edges at v
 abbrev pub IsArranged : Multigraph → List (ℕ × List ℕ) → ℕ → Type 0
 IsArranged g entries v = IsPermutation (incident_edges g v) (list_at entries v)
+
+-- edge e in the list given for v is an edge at v, not met in this list before, and is noted as met there
+abbrev pub IsNoted : Multigraph → ℕ → ℕ → List ℕ → List ℕ → Type 0
+IsNoted g v e seen next = (is_member e (incident_edges g v) ≡ true) × (slice_index seen e ≢ v + 1) × (next ≡ slice_set seen e (v + 1))
+
+-- edge e in the list given for v is no edge at v, or was met in this list before, and nothing is noted
+abbrev pub IsRejected : Multigraph → ℕ → ℕ → List ℕ → List ℕ → Type 0
+IsRejected g v e seen next = ((is_member e (incident_edges g v) ≡ false) ⊎ (slice_index seen e ≡ v + 1)) × (next ≡ seen)
 
 -- each vertex's list is an arrangement of its edges, and only vertices are named
 pub record AreArranged (g : Multigraph) (entries : List (ℕ × List ℕ)) : Type 0 where

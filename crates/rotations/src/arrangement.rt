@@ -3,12 +3,11 @@
 // For each edge a number says at which vertex it was last met: v + 1 while the list of v is read. So a list is read once, and
 // nothing is cleared between two lists.
 
-ghost use Rattle.std.specs.Prelude.{◌≡◌, ◌≢◌, ◌+◌, ◌≤◌, ◌<◌, ◌⊎◌, ◌↔◌, length, true, false, replicate, IfOk, MatchResult, MatchBool, IsTrue, slice_index, slice_set};
+ghost use Rattle.std.specs.Prelude.{◌≡◌, ◌+◌, ◌≤◌, ◌<◌, ◌↔◌, length, replicate, IfOk, MatchResult, MatchBool, IsTrue};
 ghost use Rattle.std.specs.List.{All};
 ghost use Rattle.std.specs.List.Sorted.{IsPermutation};
-ghost use Rattle.permutations.specs.Members.{is_member};
 ghost use Rattle.multigraph.specs.Graph.{max_vertices, edge_count, incident_edges};
-ghost use Rattle.rotations.specs.Given.{AreArranged, IsRefusal};
+ghost use Rattle.rotations.specs.Given.{AreArranged, IsNoted, IsRefusal, IsRejected};
 
 use crate::entries::Lists;
 use crate::faults::RotFault;
@@ -60,10 +59,8 @@ fn is_arrangement(g: &Graph, v: u32, list: &[u32], seen: &mut [u32]) -> bool
 fn is_new(g: &Graph, v: u32, e: u32, seen: &mut [u32]) -> bool
     requires vertex { v < max_vertices }
     requires long { length seen.old ≡ edge_count g.now }
-    ensures { MatchBool result ((is_member e (incident_edges g.now v) ≡ true)
-        × (slice_index seen.old e ≢ v + 1) × (seen.new ≡ slice_set seen.old e (v + 1)))
-        (((is_member e (incident_edges g.now v) ≡ false) ⊎ (slice_index seen.old e ≡ v + 1))
-        × (seen.new ≡ seen.old)) }
+    ensures { MatchBool result (IsNoted g.now v e seen.old seen.new)
+        (IsRejected g.now v e seen.old seen.new) }
 {
     if !g.is_edge_at(e, v) {
         return false;

@@ -1,11 +1,11 @@
 // Devices in memory: some fail at chosen calls, some never do.
-ghost use Rattle.std.specs.Prelude.{◌≡◌, ◌↔◌, ◌<◌, ◌≤◌, ◌+◌, ◌-◌, ◌++◌, ◌⊎◌, min, Ok, Some, None, IsTrue, IsSome, IsNone, IsOk, IfOk, OnErr, MatchResult, Contains, length, vec_len, List, [], take as front};
+ghost use Rattle.std.specs.Prelude.{◌≡◌, ◌↔◌, ◌<◌, ◌≤◌, ◌+◌, ◌-◌, ◌++◌, ◌⊎◌, min, Ok, Some, None, IsTrue, IsSome, IsOk, IfOk, OnErr, MatchResult, Contains, length, vec_len, List, [], take as front};
 ghost use Rattle.std.specs.Io.{ReadsAtMost, WritesAtMost};
 ghost use Rattle.std.specs.Io.KnownBytes.{ReadConsumes, WriteAppends};
 ghost use Rattle.std.specs.Option.{option_copied};
 ghost use Rattle.std.specs.Vec.{vec_capacity};
 ghost use Rattle.spqr_edge.specs.Device.{contents, counted, HasCause, CountsCall, Opens};
-ghost use Rattle.spqr_edge.specs.Memory.{bytes_of};
+ghost use Rattle.spqr_edge.specs.Memory.{bytes_of, OpensWhereHeld, LacksRoom};
 
 use crate::faults::Faults;
 use crate::{Failed, Shelf, Sink};
@@ -182,9 +182,8 @@ impl<'a> Shelf for MemShelf<'a> {
             (Some self.new.shelf.left.now) result }
         ensures counted { self.new.shelf.opens ≡ counted self.old.shelf.opens }
         ensures cause { HasCause self.old.faults self.new.faults result }
-        ensures fails { MatchResult result
-            (λ _. ¬ Contains self.old.failing.now self.old.calls × IsSome (bytes_of self.old.shelf.files.now name.now))
-            (λ _. Contains self.old.failing.now self.old.calls ⊎ IsNone (bytes_of self.old.shelf.files.now name.now)) }
+        ensures fails { OpensWhereHeld self.old.shelf.files.now
+            self.old.failing.now self.old.calls name.now result }
         ensures calls { self.new.calls ≡ counted self.old.calls }
         ensures failing { self.new.failing ≡ self.old.failing }
     {
@@ -270,8 +269,8 @@ impl<'a> Sink for MemSink<'a> {
         ensures cause { HasCause self.old.faults self.new.faults result }
         ensures taken { IfOk result (λ n. n ≡ min self.old.greatest (length piece.now)) }
         ensures listed { IfOk result (λ _. ¬ Contains self.old.failing.now self.old.calls) }
-        ensures fails { OnErr result (Contains self.old.failing.now self.old.calls ⊎
-            (vec_capacity self.old.bytes < vec_len self.old.bytes + min self.old.greatest (length piece.now))) }
+        ensures fails { OnErr result (Contains self.old.failing.now self.old.calls
+            ⊎ LacksRoom self.old.bytes (min self.old.greatest (length piece.now))) }
         ensures calls { self.new.calls ≡ counted self.old.calls }
         ensures failing { self.new.failing ≡ self.old.failing }
         ensures greatest { self.new.greatest ≡ self.old.greatest }
