@@ -1,14 +1,14 @@
 // A subdivision of the contraction of a level, lifted to a subdivision of its graph.
 
-ghost use Rattle.std.specs.Prelude.{◌≡◌, ◌<◌, ◌+◌, ℕ, [], ◌∷◌, false, length, map, slice_index, IfOk, MatchOption};
+ghost use Rattle.std.specs.Prelude.{◌≡◌, ◌<◌, ◌+◌, ℕ, false, length, slice_index, IfOk, MatchOption};
 ghost use Rattle.multigraph.specs.Graph.{max_vertices};
 ghost use Rattle.permutations.specs.Members.{is_member};
 ghost use Rattle.graph_theory.specs.Path.{IsWalk};
 ghost use Rattle.kuratowski.specs.Subdivision.{branch_at, branch_count, pattern_edges, IsSubdivision};
 ghost use Rattle.contractions.specs.Contracted.{contracted_vertex};
-ghost use Rattle.planarity.specs.Lift.{spokes, leaves_by, spokes_on, spokes_off, lifted_branch, lifted_paths, split_branch, split_over, split_paths};
+ghost use Rattle.planarity.specs.Lift.{spokes, leaves_by, spokes_on, spokes_off, lifted_branch, split_branch, split_over};
 ghost use Rattle.contractions.specs.Level.{IsLevel, contraction};
-ghost use Rattle.contract_obstruct.specs.Lifting.{with_number, lifted_path, IsLifted, IsSplit, LeadOverEdges};
+ghost use Rattle.contract_obstruct.specs.Lifting.{with_number, lifted_path, lifted_level_paths, split_level_paths, IsLifted, IsSplit, LeadOverEdges};
 
 use crate::paths::{edges_before, is_listed, lift_path, number_at, path_between, touches};
 use contractions::{Level, contracted_vertex};
@@ -96,10 +96,9 @@ fn lifted_path(
 ) -> Result<Numbers, AllocError>
     requires one_each { length paths.now ≡ length (pattern_edges kind) }
     requires walk { IsWalk level.now.graph (branch_at branch.now pair.0)
-        (lifted_path level.now.graph level.now.edge (slice_index level.now.kept.items)
-        kind paths.now branch.now pair over) }
-    ensures { IfOk result (λ path. path ≡ lifted_path level.now.graph level.now.edge
-        (slice_index level.now.kept.items) kind paths.now branch.now pair over) }
+        (lifted_path level.now kind paths.now branch.now pair over) }
+    ensures { IfOk result
+        (λ path. path ≡ lifted_path level.now kind paths.now branch.now pair over) }
 {
     let path = path_between(alloc, kind.edges(), paths, over.0, over.1)?;
     let edges = edges_before(alloc, &level.kept, &path)?;
@@ -118,10 +117,9 @@ fn lifted_paths(
 ) -> Result<Vec<Numbers>, AllocError>
     requires one_each { length paths.now ≡ length (pattern_edges kind) }
     requires lifted { IsSubdivision level.now.graph kind branch.now
-        (lifted_paths level.now.graph level.now.edge (slice_index level.now.kept.items)
-        kind paths.now branch.now) }
-    ensures { IfOk result (λ made. made.items ≡ lifted_paths level.now.graph level.now.edge
-        (slice_index level.now.kept.items) kind paths.now branch.now) }
+        (lifted_level_paths level.now kind paths.now branch.now) }
+    ensures { IfOk result
+        (λ made. made.items ≡ lifted_level_paths level.now kind paths.now branch.now) }
 {
     let mut lifted = Vec::new(alloc);
     for pair in kind.edges() {
@@ -226,10 +224,9 @@ fn split_paths(
 ) -> Result<Vec<Numbers>, AllocError>
     requires one_each { length paths.now ≡ length (pattern_edges Pattern.K5) }
     requires lifted { IsSubdivision level.now.graph Pattern.K33 branch.now
-        (split_paths level.now.graph level.now.edge (slice_index level.now.kept.items)
-        paths.now m off.0 off.1 on.0 on.1 branch.now) }
-    ensures { IfOk result (λ made. made.items ≡ split_paths level.now.graph level.now.edge
-        (slice_index level.now.kept.items) paths.now m off.0 off.1 on.0 on.1 branch.now) }
+        (split_level_paths level.now paths.now m off on branch.now) }
+    ensures { IfOk result
+        (λ made. made.items ≡ split_level_paths level.now paths.now m off on branch.now) }
 {
     let mut made = Vec::new(alloc);
     for pair in Pattern::K33.edges() {

@@ -10,7 +10,7 @@ use Rattle.pair_split.specs.declared.components.Kind.TheVariants.{S, P}
 use Rattle.pair_split.specs.declared.components.What.TheVariants.{Link}
 use Rattle.pair_split.specs.declared.components.Piece.{Piece}
 use Rattle.pair_split.specs.declared.components.Comp.{Comp}
-use Rattle.spqr_tree.specs.Merged.{how_many, is_outer, IsGroup, NoneAlike}
+use Rattle.spqr_tree.specs.Merged.{how_many, is_outer, IsGroup, AreGroups, NoneAlike}
 
 -- the live components, each under its key, and the key of each component, live or not
 pub record LiveState : Type 0 where
@@ -76,6 +76,11 @@ pub record AreFinished (comps : List Comp) (lead : List ℕ) (groups : List Comp
   pub each : (j : ℕ) → j < length groups → IsGroup comps (group_of lead) j (component_at groups j).kind (items_of groups j)
   pub apart : (j : ℕ) → j < length groups → NoneAlike comps (component_at groups j).kind (items_of groups j)
 
+-- the groups are those of split components of the graph, and none could be larger
+abbrev pub AreGroupsOf : Multigraph → List ℕ → List Comp → Type 0
+AreGroupsOf g lead groups =
+    (comps : List Comp) × IsSplit g comps × AreGroups comps (group_of lead) groups × AreFinished comps lead groups × (length lead ≡ length comps)
+
 -- component d is of this kind, of which components are merged, and in no group
 abbrev pub IsAbsorbed : List Comp → List ℕ → Kind → ℕ → Type 0
 IsAbsorbed comps lead kind d = IsMerged kind × (group_of lead d ≡ 4294967295) × ((component_at comps d).kind ≡ kind)
@@ -106,6 +111,10 @@ KeepsLed lead other = (x : ℕ) → IsLed lead x → group_of other x ≡ group_
 -- the piece put back on the stack
 abbrev pub with_piece : MergingState → Piece → MergingState
 with_piece s piece = record { live = s.live; lead = s.lead; groups = s.groups; done = s.done; stack = s.stack ++ piece ∷ [] }
+
+-- the piece put behind those that were looked at
+abbrev pub with_done : MergingState → Piece → MergingState
+with_done s piece = record { live = s.live; lead = s.lead; groups = s.groups; done = s.done ++ piece ∷ []; stack = s.stack }
 
 -- how many pieces are to be looked at at most: those on the stack and those of the components in no group
 abbrev pub pieces_left : List Comp → MergingState → ℕ

@@ -1,11 +1,11 @@
 // The split components of a block put into groups, in the order of the tree.
 
-ghost use Rattle.std.specs.Prelude.{◌≡◌, ◌<◌, ◌≤◌, List, length, IfOk};
+ghost use Rattle.std.specs.Prelude.{◌≡◌, ◌<◌, ◌≤◌, length, IfOk};
 ghost use Rattle.graph_theory.specs.Block.{IsOneBlock};
 ghost use Rattle.pair_split.specs.Split.{IsSplit};
 ghost use Rattle.pair_split.specs.declared.components.Comp.{Comp};
 ghost use Rattle.spqr_tree.specs.Merged.{AreGroups};
-ghost use Rattle.spqr_tree.specs.Merging.{group_of, AreFinished};
+ghost use Rattle.spqr_tree.specs.Merging.{group_of, AreFinished, AreGroupsOf};
 ghost use Rattle.spqr_tree.specs.Ranking.{ranks_of};
 ghost use Rattle.spqr_tree.specs.Assembly.{IsArranged};
 
@@ -39,9 +39,7 @@ fn arrange_groups(
     groups: &[Comp],
 ) -> Result<(Vec<Comp>, Vec<(Vec<u32>, u32)>), AllocError>
     requires block { IsOneBlock g.now }
-    requires groups { (comps : List Comp) × IsSplit g.now comps
-        × AreGroups comps (group_of lead.now) groups.now × AreFinished comps lead.now groups.now
-        × (length lead.now ≡ length comps) }
+    requires groups { AreGroupsOf g.now lead.now groups.now }
     requires few { length groups.now < 4294967295 }
     ensures { IfOk result (λ r. IsArranged g.now r.0.items (ranks_of r.1.items)) }
 {

@@ -7,7 +7,7 @@ ghost use Rattle.pair_split.specs.declared.components.What.TheVariants.{Link};
 ghost use Rattle.slab.specs.Slab.{get, ContainsKey};
 ghost use Rattle.spqr_tree.specs.Merged.{is_outer, AreGroups};
 ghost use Rattle.spqr_tree.specs.Keys.{AreWithin};
-ghost use Rattle.spqr_tree.specs.Merging.{group_of, slab_key, AreHeld, IsAdded, AreLive, IsTakenOut, IsLed, IsMerged, AreSplit, AreFinished, IsAbsorbed, IsMerging, IsResting, KeepsLed, with_piece, pieces_left, IsPushed, IsTaken, IsStarted};
+ghost use Rattle.spqr_tree.specs.Merging.{group_of, slab_key, AreHeld, IsAdded, AreLive, IsTakenOut, IsLed, IsMerged, AreSplit, AreFinished, IsAbsorbed, IsMerging, IsResting, KeepsLed, with_piece, with_done, pieces_left, IsPushed, IsTaken, IsStarted};
 
 use pair_split::{Comp, CompList, Kind, Piece, PieceList, What};
 use slab::Slab;
@@ -232,13 +232,7 @@ impl Merging {
 
     // The piece was looked at.
     fn keep(&mut self, piece: Piece) -> Result<(), AllocError>
-        ensures { IfOk result (λ _. self.new ≡ record {
-          live = self.old.live;
-          lead = self.old.lead;
-          groups = self.old.groups;
-          done = self.old.done ++ piece ∷ [];
-          stack = self.old.stack;
-        }) }
+        ensures { IfOk result (λ _. self.new ≡ with_done self.old piece) }
     {
         self.done.push(piece)?;
         Ok(())
