@@ -32,6 +32,10 @@ IsNotedFor m state k ups entries = (entry : Entry) → Contains entries entry �
 abbrev pub AreWrittenBehind : ℕ → SplitState → ℕ → List Entry → List Piece → List Piece → Type 0
 AreWrittenBehind m state k added old new = (entries : List Entry) → AreWritten m state k entries old → AreWritten m state k (entries ++ added) new
 
+-- the entries of a finished component, its own virtual edge first
+abbrev pub finished_family : Finished → List Entry
+finished_family part = entry_of part.own ∷ family_of part.edges
+
 -- all names of finished components are below n
 abbrev pub HavePartNamesBelow : ℕ → List Finished → Type 0
 HavePartNamesBelow n parts = All (λ part. (part.own.name < n) × HaveNamesBelow n part.edges) parts
@@ -50,5 +54,5 @@ pub record ArePartsWritten (m : ℕ) (parts : List Finished) (ups : List ℕ) (n
   pub number : length comps ≡ n
   pub kinds : (k : ℕ) → k < n → (component_at comps k).kind ≡ (finished_at parts k).kind
   pub written : (k : ℕ) → k < n → (state : SplitState)
-      → IsNotedFor m state k ups (entry_of (finished_at parts k).own ∷ family_of (finished_at parts k).edges)
-      → AreWritten m state k (entry_of (finished_at parts k).own ∷ family_of (finished_at parts k).edges) (component_at comps k).items
+      → IsNotedFor m state k ups (finished_family (finished_at parts k))
+      → AreWritten m state k (finished_family (finished_at parts k)) (component_at comps k).items

@@ -14,10 +14,10 @@ use crate::splitter::Splitter;
 use crate::splitting::{Splitting, kind_of_all};
 use crate::writing::write_components;
 use multigraph::Graph;
-use step_count::Steps;
 use std::alloc::{AllocError, Global};
 use std::marker::Brand;
 use std::sync::ledger::{Blank, Ledger};
+use step_count::Steps;
 
 /// The plain splitter. It splits off a smallest side of a 2-separation, found by trying all pairs of vertices, as long as
 /// there is one (about n * n * (n + m) steps a side, for n vertices and m edges).

@@ -16,10 +16,10 @@ use crate::components::Kind;
 use crate::family::NamedEdge;
 use crate::search::{Side, are_parallel, minimal_side};
 use multigraph::Graph;
-use step_count::Steps;
 use std::alloc::{AllocError, Global};
 use std::marker::Model;
 use std::sync::ledger::Ledger;
+use step_count::Steps;
 
 /// A list of edges under names, that contracts see as a list.
 #[derive(Drop)]

@@ -5,15 +5,15 @@ ghost use Rattle.pair_split.specs.Family.{Entry};
 ghost use Rattle.pair_split.specs.Bridges.{entry_of, family_of, HaveNamesBelow};
 ghost use Rattle.pair_split.specs.State.{SplitState, IsWrittenIn, AreWritten, AreComponents};
 ghost use Rattle.pair_split.specs.Splitting.{state_of};
-ghost use Rattle.pair_split.specs.Writing.{IsListed, AreUps, IsLayerNoted, IsNotedFor, AreWrittenBehind, HavePartNamesBelow, ArePartsWritten, entry_total};
+ghost use Rattle.pair_split.specs.Writing.{IsListed, AreUps, IsLayerNoted, IsNotedFor, AreWrittenBehind, HavePartNamesBelow, ArePartsWritten, entry_total, finished_family};
 
 use crate::components::{Comp, Comps, Kind, Piece, What};
 use crate::family::NamedEdge;
 use crate::lists::{CompList, PieceList};
 use crate::splitting::Finished;
-use step_count::Steps;
 use std::alloc::{AllocError, Global};
 use std::sync::ledger::Ledger;
+use step_count::Steps;
 
 // Notes for each virtual edge among these that it stands in this layer.
 fn note_layer<L: Ledger>(
@@ -157,9 +157,8 @@ fn part_of<L: Ledger>(
     requires names { HaveNamesBelow (m + length ups.now) finished.now.edges }
     ensures kind { IfOk result (λ comp. comp.kind ≡ finished.now.kind) }
     ensures written { IfOk result (λ comp. (state : SplitState)
-        → IsNotedFor m state k ups.now (entry_of finished.now.own ∷ family_of finished.now.edges)
-        → AreWritten m state k (entry_of finished.now.own ∷ family_of finished.now.edges)
-        comp.items) }
+        → IsNotedFor m state k ups.now (finished_family finished.now)
+        → AreWritten m state k (finished_family finished.now) comp.items) }
     ensures cost { IfOk result (λ _. steps.new ≡ steps.old + length finished.now.edges) }
     ensures at_most { steps.new ≤ steps.old + length finished.now.edges }
     ensures rises { steps.old ≤ steps.new }

@@ -5,11 +5,11 @@ ghost use Rattle.palm_tree.specs.Searching.{IsOver};
 ghost use Rattle.palm_tree.specs.Growing.{LowVertices, taken, hangs, CanTake, Tells, AreLowSoFar, AreLowVertices};
 
 use crate::search::Search;
-use step_count::Steps;
 use multigraph::Graph;
 use std::alloc::{AllocError, Global};
 use std::marker::Model;
 use std::sync::ledger::Ledger;
+use step_count::Steps;
 
 // For each vertex the least deep and the second least deep of itself and those that its descendants' fronds lead to.
 #[derive(Drop)]

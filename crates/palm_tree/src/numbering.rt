@@ -8,10 +8,10 @@ ghost use Rattle.palm_tree.specs.Growing.{lower_ends, tree_edges, with_child, nu
 use crate::lists::copies;
 use crate::low::Low;
 use crate::search::Search;
-use step_count::Steps;
 use multigraph::Graph;
 use std::alloc::{AllocError, Global};
 use std::sync::ledger::Ledger;
+use step_count::Steps;
 
 // Puts the lower end of the edge behind the children where the edge is its parent edge, and it hangs or not, as is asked.
 fn add_child(

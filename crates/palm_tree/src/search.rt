@@ -8,11 +8,11 @@ ghost use Rattle.blocks.specs.Forest.{degree};
 ghost use Rattle.palm_tree.specs.Searching.{turns_left, IsSearching, IsLast, IsSeenAt, IsTurned, IsExplored, IsOver};
 ghost use Rattle.palm_tree.specs.Growing.{is_tree_edge, parent_at, upper_end};
 
-use step_count::Steps;
 use multigraph::Graph;
 use std::alloc::{AllocError, Global};
 use std::marker::Model;
 use std::sync::ledger::Ledger;
+use step_count::Steps;
 
 // What the search knows so far.
 #[derive(Drop)]

@@ -6,10 +6,10 @@ ghost use Rattle.palm_tree.specs.Growing.{AreSizesSoFar, AreSizes};
 
 use crate::lists::copies;
 use crate::search::Search;
-use step_count::Steps;
 use multigraph::Graph;
 use std::alloc::{AllocError, Global};
 use std::sync::ledger::Ledger;
+use step_count::Steps;
 
 // Adds to the size of one vertex that of another.
 fn add_size(sizes: &mut Vec<u32>, vertex: u32, other: u32)

@@ -11,11 +11,11 @@ use crate::numbering::{children_in_order, numbers, offsets};
 use crate::search::Search;
 use crate::sizes::sizes_below;
 use crate::sorting::sorted_edges;
-use step_count::Steps;
 use multigraph::{Graph, Numbers};
 use std::alloc::{AllocError, Global};
 use std::marker::{Brand, Model};
 use std::sync::ledger::{Blank, Ledger};
+use step_count::Steps;
 
 /// A palm tree of a connected graph, with its low points and its darts in order.
 ///

@@ -16,7 +16,7 @@ use Rattle.pair_split.proofs.Start.{state-start}
 use Rattle.split_comp.specs.declared.items.Dart.{Dart}
 use Rattle.split_comp.specs.Palm.{tree_dart, tree_degree, tree_parent, dart_entry, AreDrawn, IsPalm}
 use Rattle.split_comp.specs.Walk.{IsWalk, AreLeft}
-use Rattle.split_comp.specs.Pass.{NumberedTree, IsNumbered, PassState, at_place, drawn, IsPass, HasTurns}
+use Rattle.split_comp.specs.Pass.{NumberedTree, IsNumbered, PassState, at_place, drawn, IsPass, HasTurns, first_state}
 use Rattle.split_comp.proofs.Renamed.{renamed-tight}
 use Rattle.split_comp.proofs.Walk.{walk-start, left-free, left-on_path}
 use Rattle.split_comp.proofs.Depth.{depth-of, depth-top, depth-deeper}
@@ -150,9 +150,9 @@ module _ (g : Multigraph) (t : NumberedTree) (numbered : IsNumbered g t) (palm :
           let w = rest-edge (edge_count g) (omega arith) x c in
           subst (λ (y : Entry). (drawn g t.vertex y).name ≡ y.name) (sym w.2) (ap (λ (y : Entry). y.name) (drawn-edge w.0 w.1) ∙ sym (of-edge-name w.0 w.1))
 
-  module _ (s : PassState) (now : s ≡ record { at = 0; done = g.vertex_count; items = []; cuts = []; first = replicate g.vertex_count 4294967295; start = replicate g.vertex_count 0; base = replicate g.vertex_count 0; gone = replicate g.vertex_count 0; total = edge_count g; parts = [] }) where
+  module _ (s : PassState) (now : s ≡ first_state g.vertex_count (edge_count g)) where
     abbrev began : PassState
-    began = record { at = 0; done = g.vertex_count; items = []; cuts = []; first = replicate g.vertex_count 4294967295; start = replicate g.vertex_count 0; base = replicate g.vertex_count 0; gone = replicate g.vertex_count 0; total = edge_count g; parts = [] }
+    began = first_state g.vertex_count (edge_count g)
 
     gone-size : length began.gone ≡ g.vertex_count
     gone-size = length-replicate g.vertex_count 0

@@ -25,7 +25,7 @@ use Rattle.pair_split.proofs.WritingSteps.{state-listed}
 use Rattle.split_comp.specs.declared.items.Item.{Item}
 use Rattle.split_comp.specs.Stack.{entry}
 use Rattle.split_comp.specs.Palm.{AreVertices, tree_dart, tree_degree, tree_parent, AreDrawn, IsPalm}
-use Rattle.split_comp.specs.Pass.{NumberedTree, IsNumbered, PassState, IsPass, IsPassed, HasTurns, drawn, drawn_items, drawn_family}
+use Rattle.split_comp.specs.Pass.{NumberedTree, IsNumbered, PassState, IsPass, IsPassed, HasTurns, drawn, drawn_items, drawn_family, first_state}
 use Rattle.split_comp.proofs.Palm.{palm-facts, palm-drawn}
 use Rattle.split_comp.proofs.Beginning.{begin-pass, begin-turns}
 
@@ -40,7 +40,7 @@ module _ (g : Multigraph) (graph : IsGraph g) (limits : IsWithinLimits g) (block
   are-drawn : AreDrawn g t.vertex g.vertex_count (tree_degree t.palm t.vertex) (tree_dart g t.palm t.vertex)
   are-drawn = palm-drawn g t.palm t.vertex graph tree vertices
 
-  module _ (s : PassState) (now : s ≡ record { at = 0; done = g.vertex_count; items = []; cuts = []; first = replicate g.vertex_count 4294967295; start = replicate g.vertex_count 0; base = replicate g.vertex_count 0; gone = replicate g.vertex_count 0; total = edge_count g; parts = [] }) where
+  module _ (s : PassState) (now : s ≡ first_state g.vertex_count (edge_count g)) where
     pub start-pass : IsPass g t s
     start-pass = begin-pass g t is-numbered palm are-drawn s now
 

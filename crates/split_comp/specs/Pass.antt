@@ -1,5 +1,5 @@
 -- The state of the pass along a palm tree, and what holds of it.
-use Rattle.std.specs.Prelude.{◌≡◌, ◌≢◌, ℕ, ◌+◌, ◌*◌, ◌-◌, ◌<◌, ◌≤◌, ◌⊎◌, Bool, true, false, if◌then◌else◌, nat_lt, List, [], ◌∷◌, ◌++◌, length, map, filter, take, drop, slice_index, slice_set, Contains, Option, None, Some, not, ◌&&◌}
+use Rattle.std.specs.Prelude.{◌≡◌, ◌≢◌, ℕ, ◌+◌, ◌*◌, ◌-◌, ◌<◌, ◌≤◌, ◌⊎◌, Bool, true, false, if◌then◌else◌, nat_lt, List, [], ◌∷◌, ◌++◌, length, map, filter, take, drop, replicate, slice_index, slice_set, Contains, Option, None, Some, not, ◌&&◌}
 use Rattle.multigraph.specs.Graph.{Multigraph, edge_count, IsGraph, IsWithinLimits}
 use Rattle.graph_theory.specs.Block.{IsOneBlock}
 use Rattle.palm_tree.specs.PalmTree.{PalmTreeLists, IsPalmTree}
@@ -51,6 +51,21 @@ pub record PassState : Type 0 where
   pub gone : List ℕ
   pub total : ℕ
   pub parts : List Finished
+
+-- where it stands at first, in a graph of n vertices and m edges: nothing is gone along, and no place touches a vertex
+abbrev pub first_state : ℕ → ℕ → PassState
+first_state n m = record {
+  at = 0;
+  done = n;
+  items = [];
+  cuts = [];
+  first = replicate n 4294967295;
+  start = replicate n 0;
+  base = replicate n 0;
+  gone = replicate n 0;
+  total = m;
+  parts = [];
+}
 
 -- the place is one that touches vertex x
 abbrev pub lowered : List ℕ → ℕ → ℕ → List ℕ

@@ -4,9 +4,9 @@ ghost use Rattle.std.specs.Prelude.{◌≡◌, ◌+◌, ◌-◌, ◌<◌, ◌≤
 ghost use Rattle.split_comp.specs.Noting.{IsTakenLower, IsNoted, IsDropped};
 
 use crate::items::Triple;
-use step_count::Steps;
 use std::alloc::AllocError;
 use std::sync::ledger::Ledger;
+use step_count::Steps;
 
 // Takes off the cuts from place `base` on whose upper end is below that of the new one, from the last one on, and answers the
 // cut that takes their place: that of the last one taken off, or the new one.

@@ -10,9 +10,9 @@ use crate::items::Item;
 use crate::tree::Tree;
 use multigraph::Graph;
 use pair_split::NamedEdge;
-use step_count::Steps;
 use std::alloc::{AllocError, Global};
 use std::sync::ledger::Ledger;
+use step_count::Steps;
 
 // The edge of an entry, with the ends that it has in the graph.
 fn edge_of(g: &Graph, tree: &Tree, x: Item) -> NamedEdge

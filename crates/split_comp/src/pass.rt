@@ -6,7 +6,7 @@ ghost use Rattle.split_comp.specs.Stack.{item};
 ghost use Rattle.split_comp.specs.Noting.{IsLastCut};
 ghost use Rattle.split_comp.specs.Palm.{tree_degree, tree_parent};
 ghost use Rattle.pair_split.specs.Bridges.{family_of};
-ghost use Rattle.split_comp.specs.Pass.{IsNumbered, IsPass, IsBack, IsPassed, weight, PassState, CanSplitOff, IsSplitOff, CanJoin, IsTriangleTest, IsStaleDropped, top_item, IsParallel, IsJoined, IsDartNoted, IsFrondAdded, IsTreeAdded, IsParallelTest, IsFrondFound, IsCutFound, IsApart, number_apart, IsMetDropped, IsWholeTest, IsCome, IsTurned, drawn_items, pushed, gone_along, gone_down, gone_back, cuts_dropped, lowered, next_name, goes, new_frond, new_tree};
+ghost use Rattle.split_comp.specs.Pass.{IsNumbered, IsPass, IsBack, IsPassed, weight, PassState, CanSplitOff, IsSplitOff, CanJoin, IsTriangleTest, IsStaleDropped, top_item, IsParallel, IsJoined, IsDartNoted, IsFrondAdded, IsTreeAdded, IsParallelTest, IsFrondFound, IsCutFound, IsApart, number_apart, IsMetDropped, IsWholeTest, IsCome, IsTurned, drawn_items, first_state, pushed, gone_along, gone_down, gone_back, cuts_dropped, lowered, next_name, goes, new_frond, new_tree};
 
 use crate::cuts::{drop_behind, note};
 use crate::edges::{edges_of, frond_to};
@@ -14,10 +14,10 @@ use crate::items::{Dart, Item, Triple};
 use crate::tree::Tree;
 use multigraph::Graph;
 use pair_split::{EdgeList, Finished, NamedEdge, kind_of};
-use step_count::Steps;
 use std::alloc::{AllocError, Global};
 use std::marker::Model;
 use std::sync::ledger::Ledger;
+use step_count::Steps;
 
 /// Where the pass stands. Vertices go by their numbers: the one where the search is, and the last one that is finished; the
 /// stack of entries; its cuts; for each vertex the first place of the stack that touches it, the places of the stack and of
@@ -60,18 +60,7 @@ impl Model for Pass {
 impl Pass {
     /// The start, in a graph of n vertices and m edges.
     pub(crate) fn new(alloc: Global, n: u32, m: u32) -> Result<Pass, AllocError>
-        ensures { IfOk result (λ s. s ≡ record {
-          at = 0;
-          done = n;
-          items = [];
-          cuts = [];
-          first = replicate n 4294967295;
-          start = replicate n 0;
-          base = replicate n 0;
-          gone = replicate n 0;
-          total = m;
-          parts = [];
-        }) }
+        ensures { IfOk result (λ s. s ≡ first_state n m) }
     {
         let vertices = n as usize;
         Ok(Pass {

@@ -11,10 +11,10 @@ use crate::pass::Pass;
 use crate::tree::Tree;
 use multigraph::Graph;
 use pair_split::{Comps, Kind, Splitter, graph_edges, kind_of_all, write_components};
-use step_count::Steps;
 use std::alloc::{AllocError, Global};
 use std::marker::Brand;
 use std::sync::ledger::{Blank, Ledger};
+use step_count::Steps;
 
 /// The palm-tree splitter. It goes once along a palm tree of the block with its darts in order, and splits off a component as
 /// soon as a side of a 2-separation lies on top of its stack (Hopcroft and Tarjan 1973; Gutwenger and Mutzel 2001). It takes

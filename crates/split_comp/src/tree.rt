@@ -9,10 +9,10 @@ ghost use Rattle.split_comp.specs.Pass.{IsNumbered};
 use crate::items::Dart;
 use multigraph::Graph;
 use palm_tree::PalmTree;
-use step_count::Steps;
 use std::alloc::{AllocError, Global};
 use std::marker::Model;
 use std::sync::ledger::Ledger;
+use step_count::Steps;
 
 /// A palm tree, and the vertex with each number.
 #[derive(Drop)]

@@ -10,9 +10,9 @@ use crate::items::Triple;
 use crate::pass::Pass;
 use crate::tree::Tree;
 use multigraph::Graph;
-use step_count::Steps;
 use std::alloc::{AllocError, Global};
 use std::sync::ledger::Ledger;
+use step_count::Steps;
 
 impl Pass {
     // The entries behind the last cut, which is taken off, make a component with the vertex where the search is and the lower

@@ -10,7 +10,7 @@ use Rattle.pair_split.specs.Writing.{IsListed, entry_total}
 use Rattle.pair_split.specs.declared.splitting.Finished.{Finished}
 use Rattle.pair_split.specs.declared.components.Comps.{Comps}
 use Rattle.pair_split.specs.declared.family.NamedEdge.{NamedEdge}
-use Rattle.split_comp.specs.Pass.{PassState}
+use Rattle.split_comp.specs.Pass.{PassState, first_state}
 use Rattle.split_comp.proofs.OneBlock.{block-connected}
 use Rattle.split_comp.proofs.SearchEnd.{is-numbered, start-pass, start-turns, left-family, left-listed, left-cost, left-items, left-split}
 use Rattle.split_comp.proofs.splitter.split_large.Goals as goal
@@ -20,11 +20,11 @@ grow-requires g c = record { connected = block-connected c.args.g.now c.requires
 
 pub run-requires-clause-pass : goal.run-requires-clause-pass
 run-requires-clause-pass g c = start-pass c.args.g.now c.edge_count.ensures.graph c.edge_count.ensures.limits c.requires.block c.requires.large c.in_ok-tree.tree c.in_ok-tree.ensures.tree c.in_ok-tree.ensures.vertices c.in_ok-pass.pass
-    (c.in_ok-pass.ensures ∙ (λ i. record { at = 0; done = c.vertex_count.ensures.value i; items = []; cuts = []; first = replicate (c.vertex_count.ensures.value i) 4294967295; start = replicate (c.vertex_count.ensures.value i) 0; base = replicate (c.vertex_count.ensures.value i) 0; gone = replicate (c.vertex_count.ensures.value i) 0; total = c.edge_count.ensures.value i; parts = [] }))
+    (c.in_ok-pass.ensures ∙ (λ i. first_state (c.vertex_count.ensures.value i) (c.edge_count.ensures.value i)))
 
 pub run-requires-clause-turns : goal.run-requires-clause-turns
 run-requires-clause-turns g c = start-turns c.args.g.now c.edge_count.ensures.graph c.edge_count.ensures.limits c.requires.block c.requires.large c.in_ok-tree.tree c.in_ok-tree.ensures.tree c.in_ok-tree.ensures.vertices c.in_ok-pass.pass
-    (c.in_ok-pass.ensures ∙ (λ i. record { at = 0; done = c.vertex_count.ensures.value i; items = []; cuts = []; first = replicate (c.vertex_count.ensures.value i) 4294967295; start = replicate (c.vertex_count.ensures.value i) 0; base = replicate (c.vertex_count.ensures.value i) 0; gone = replicate (c.vertex_count.ensures.value i) 0; total = c.edge_count.ensures.value i; parts = [] }))
+    (c.in_ok-pass.ensures ∙ (λ i. first_state (c.vertex_count.ensures.value i) (c.edge_count.ensures.value i)))
 
 pub kind_of_all-kind-requires-clause-family : goal.kind_of_all-kind-requires-clause-family
 kind_of_all-kind-requires-clause-family g c = left-family c.args.g.now c.in_ok-tree.tree (is-numbered c.args.g.now c.edge_count.ensures.graph c.edge_count.ensures.limits c.requires.block c.requires.large c.in_ok-tree.tree c.in_ok-tree.ensures.tree c.in_ok-tree.ensures.vertices) c.run.new.self c.in_ok-run.ensures.passed c.deref.result.now (ap family_of c.deref.ensures.value ∙ c.in_ok-edges.ensures.edges)
