@@ -1,10 +1,10 @@
 // A subdivision carried from a graph into another one, in which routes stand for the edges.
 
-ghost use Rattle.std.specs.Prelude.{◌≡◌, ◌<◌, ◌++◌, ℕ, map, length, IfOk};
+ghost use Rattle.std.specs.Prelude.{◌≡◌, ◌<◌, ◌++◌, ℕ, length, IfOk};
 ghost use Rattle.multigraph.specs.Graph.{edge_count, IsGraph};
 ghost use Rattle.graph_theory.specs.Path.{IsWalk};
-ghost use Rattle.kuratowski.specs.Subdivision.{branch_at, branch_count, pair_at, path_at, pattern_edges, IsSubdivision, IsWritten};
-ghost use Rattle.block_obstruct.specs.Routes.{AreRoutes, route_from, lifted_walk, lifted_path, lifted_paths, lifted_branches};
+ghost use Rattle.kuratowski.specs.Subdivision.{branch_at, IsSubdivision, IsWritten};
+ghost use Rattle.block_obstruct.specs.Routes.{AreRoutes, route_from, lifted_walk, lifted_paths, lifted_branches};
 
 use kuratowski::{Pattern, Subdivision};
 use multigraph::{Graph, NumberLists, Numbers};

@@ -2,7 +2,7 @@
 ghost use Rattle.std.specs.Prelude.{◌≡◌, ◌<◌, ◌+◌, ◌^◌, [], true, false, length, IfOk, slice_index, ℕ};
 ghost use Rattle.permutations.specs.Relation.{class_count};
 ghost use Rattle.multigraph.specs.Marks.{is_marked};
-ghost use Rattle.blocks.specs.Numbering.{IsNumbering, IsNumbered, TakesNextNumber, same_label};
+ghost use Rattle.blocks.specs.Numbering.{IsNumbering, TakesNextNumber, same_label};
 
 use std::alloc::{AllocError, Global};
 

@@ -1,5 +1,5 @@
 // Depth-first search with a stack of its own, and the low points of the vertices.
-ghost use Rattle.std.specs.Prelude.{◌≡◌, ◌+◌, ◌-◌, ◌<◌, ◌≤◌, ◌⊎◌, ℕ, true, false, [], map, length, IfOk, slice_index, slice_get};
+ghost use Rattle.std.specs.Prelude.{◌≡◌, ◌+◌, ◌-◌, ◌<◌, ℕ, true, false, [], map, length, IfOk, slice_index, slice_get};
 ghost use Rattle.multigraph.specs.Graph.{edge_count, is_end, IsGraph, IsWithinLimits};
 ghost use Rattle.blocks.specs.State.{SearchState, fresh, looked_further, frond_noted, root_noted, child_noted, left};
 ghost use Rattle.multigraph.specs.Marks.{is_marked};

@@ -1,5 +1,5 @@
 // Numbers in the words.
-ghost use Rattle.std.specs.Prelude.{◌≡◌, ◌<◌, ◌≤◌, ◌+◌, ◌^◌};
+ghost use Rattle.std.specs.Prelude.{◌≡◌, ◌<◌, ◌+◌, ◌^◌};
 ghost use Rattle.spqr_script.specs.Number.{number_below};
 ghost use Rattle.command_words.specs.Form.{at_least};
 

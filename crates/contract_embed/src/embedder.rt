@@ -1,8 +1,6 @@
 // The embedder: down by contractions to four vertices, and up again.
 
 ghost use Rattle.std.specs.Prelude.{IfOk};
-ghost use Rattle.graph_theory.specs.Triconnected.{IsTriconnected};
-ghost use Rattle.planarity.specs.Embedding.{IsEmbedding};
 ghost use Rattle.contractions.specs.Level.{IsLevel, contraction};
 ghost use Rattle.contract_embed.specs.Chain.{IsChain};
 ghost use Rattle.contract_embed.specs.Answer.{IsAnswer};

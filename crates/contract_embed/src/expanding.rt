@@ -2,10 +2,9 @@
 // graph. The merged vertex is parted at the ends of its two runs, the contracted edge is put in between, and the edges from y to
 // common neighbours are put in beside those from x.
 
-ghost use Rattle.std.specs.Prelude.{◌≡◌, ◌<◌, ◌+◌, ℕ, length, slice_index, IfOk};
-ghost use Rattle.contractions.specs.Contraction.{are_adjacent};
+ghost use Rattle.std.specs.Prelude.{◌≡◌, ◌<◌, ◌+◌, length, IfOk};
 ghost use Rattle.dart_maps.specs.Map.{twin};
-ghost use Rattle.faces.specs.Euler.{tail, dart_count};
+ghost use Rattle.faces.specs.Euler.{dart_count};
 ghost use Rattle.contractions.specs.Level.{IsLevel, contraction};
 ghost use Rattle.contractions.specs.Marks.{AreNeighbourMarks};
 ghost use Rattle.contract_obstruct.specs.Steps.{ArePlaneSteps};

@@ -2,8 +2,6 @@
 
 ghost use Rattle.std.specs.Prelude.{◌≡◌, ◌<◌, ◌≤◌, ◌↔◌, ℕ, true, length, slice_index, IfOk, MatchOption};
 ghost use Rattle.multigraph.specs.Graph.{max_darts};
-ghost use Rattle.contractions.specs.Contraction.{are_adjacent};
-ghost use Rattle.dart_maps.specs.Map.{twin};
 ghost use Rattle.faces.specs.Euler.{tail, dart_count};
 ghost use Rattle.contractions.specs.Level.{IsLevel, contraction};
 ghost use Rattle.contractions.specs.Marks.{AreNeighbourMarks};

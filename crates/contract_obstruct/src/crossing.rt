@@ -1,12 +1,11 @@
 // The subdivision of K3,3 where edges round the merged vertex alternate: two that lead from x, one that leads to a neighbour of
 // y, and one not from x.
 
-ghost use Rattle.std.specs.Prelude.{◌≡◌, ◌≤◌, ◌<◌, ◌++◌, ◌∷◌, ℕ, [], true, length, map, reverse, slice_index, IfOk};
+ghost use Rattle.std.specs.Prelude.{◌≡◌, ◌≤◌, ◌<◌, ◌++◌, ◌∷◌, [], true, length, reverse, IfOk};
 ghost use Rattle.multigraph.specs.Graph.{edge_count, is_end, other_end, max_darts};
 ghost use Rattle.graph_theory.specs.Path.{IsWalk};
 ghost use Rattle.contractions.specs.Contraction.{are_adjacent};
 ghost use Rattle.kuratowski.specs.Subdivision.{IsSubdivision};
-ghost use Rattle.planarity.specs.Lift.{lifted};
 ghost use Rattle.planarity.specs.Circle.{leads_near};
 ghost use Rattle.contractions.specs.Level.{IsLevel, contraction, edge_before};
 ghost use Rattle.contract_obstruct.specs.Steps.{ArePlaneSteps};

@@ -1,7 +1,7 @@
 // The subdivision where the steps of a contraction do not fall in runs: the cyclic order of the merged vertex is searched from
 // each of its edges on.
 
-ghost use Rattle.std.specs.Prelude.{◌≡◌, ◌<◌, ◌≤◌, ◌↔◌, ℕ, true, false, length, slice_index, IfOk, MatchOption};
+ghost use Rattle.std.specs.Prelude.{◌≡◌, ◌<◌, ◌≤◌, ◌↔◌, ℕ, true, false, length, IfOk, MatchOption};
 ghost use Rattle.multigraph.specs.Graph.{is_end};
 ghost use Rattle.kuratowski.specs.Subdivision.{IsSubdivision};
 ghost use Rattle.planarity.specs.Circle.{leads_near};

@@ -1,6 +1,6 @@
 // The subdivision of K5 where three edges round the merged vertex lead from x to common neighbours of x and y.
 
-ghost use Rattle.std.specs.Prelude.{◌≡◌, ◌≤◌, ◌<◌, ◌∷◌, [], true, length, IfOk};
+ghost use Rattle.std.specs.Prelude.{◌≡◌, ◌≤◌, ◌<◌, true, length, IfOk};
 ghost use Rattle.multigraph.specs.Graph.{edge_count, is_end, other_end, max_darts};
 ghost use Rattle.kuratowski.specs.Subdivision.{IsSubdivision};
 ghost use Rattle.contractions.specs.Level.{IsLevel, contraction, edge_before};

@@ -1,6 +1,6 @@
 // Whether a graph stays connected when three vertices are removed, by labels of the vertices.
 
-ghost use Rattle.std.specs.Prelude.{◌≡◌, ◌<◌, ◌≤◌, ◌↔◌, ℕ, [], ◌∷◌, true, false, length, slice_index, IfOk};
+ghost use Rattle.std.specs.Prelude.{◌≡◌, ◌<◌, ◌≤◌, ◌↔◌, ℕ, [], ◌∷◌, true, false, length, IfOk};
 ghost use Rattle.permutations.specs.Members.{is_member};
 ghost use Rattle.graph_theory.specs.Triconnected.{IsConnectedWithout};
 ghost use Rattle.graph_theory.specs.Labels.{label_at, IsLabelling};

@@ -1,11 +1,11 @@
 // One contraction: a triconnected graph with an edge that may be contracted, and the edges that stay.
 
-ghost use Rattle.std.specs.Prelude.{◌≡◌, ◌≢◌, ◌+◌, ◌<◌, ◌≤◌, ◌==◌, ◌&&◌, ℕ, true, false, not, length, map, slice_index_or, IfOk, IfSome, MatchOption};
+ghost use Rattle.std.specs.Prelude.{◌≡◌, ◌+◌, ◌<◌, ◌≤◌, ◌==◌, ◌&&◌, ℕ, true, false, length, map, slice_index_or, IfOk};
 ghost use Rattle.permutations.specs.Count.{some};
 ghost use Rattle.multigraph.specs.Graph.{edge_count, ends_of, is_end, other_end};
 ghost use Rattle.graph_theory.specs.Triconnected.{IsTriconnected};
 ghost use Rattle.contractions.specs.Contraction.{are_adjacent, is_kept, is_private, IsContractible};
-ghost use Rattle.contractions.specs.Contracted.{without_number, contracted_vertex, kept_edges, contracted_ends, contracted};
+ghost use Rattle.contractions.specs.Contracted.{contracted_vertex, kept_edges, contracted_ends};
 ghost use Rattle.contractions.specs.Level.{IsFirstContractible, IsOriented, IsLevel, contraction};
 ghost use Rattle.contractions.specs.Marks.{AreNeighbourMarks, AreNeighbourMarksBelow};
 

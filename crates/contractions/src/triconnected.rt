@@ -1,6 +1,6 @@
 // Whether a graph is triconnected: each two vertices or fewer are removed.
 
-ghost use Rattle.std.specs.Prelude.{◌≡◌, ◌<◌, ◌≤◌, ◌+◌, ◌↔◌, ℕ, [], ◌∷◌, true, false, IfOk};
+ghost use Rattle.std.specs.Prelude.{◌≡◌, ◌<◌, ◌+◌, ◌↔◌, ℕ, [], ◌∷◌, true, false, IfOk};
 ghost use Rattle.multigraph.specs.Graph.{edge_count};
 ghost use Rattle.graph_theory.specs.Triconnected.{AreParallel, IsSimple, IsConnectedWithout, IsTriconnected};
 

@@ -1,6 +1,6 @@
 // One node led to its first choice, to its next one, or to the one at a place.
 
-ghost use Rattle.std.specs.Prelude.{◌≡◌, ℕ, ◌+◌, ◌<◌, true, false, cond, length};
+ghost use Rattle.std.specs.Prelude.{◌≡◌, ◌+◌, ◌<◌, true, false, cond, length};
 ghost use Rattle.pair_split.specs.Tutte.{node_at};
 ghost use Rattle.pair_split.specs.declared.components.Kind.TheVariants.{R};
 ghost use Rattle.skeletons.specs.Choices.{choice};

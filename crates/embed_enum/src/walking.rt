@@ -1,7 +1,6 @@
 // The list walked: to its first member, to the next, and to the one at a rank.
 
 ghost use Rattle.std.specs.Prelude.{◌≡◌, ℕ, List, ◌+◌, ◌/◌, ◌%◌, ◌^◌, ◌<◌, ◌≤◌, true, false, length, IfErr, OnOk, OnErr};
-ghost use Rattle.pair_split.specs.Tutte.{node_at};
 ghost use Rattle.skeletons.specs.Lists.{IsRank, list_count};
 ghost use Rattle.skel_embed.specs.Block.{lock_at};
 ghost use Rattle.embed_enum.specs.Digits.{radix_at, digit_at};

@@ -1,6 +1,6 @@
 // Moves carried out, where it is known that they fit, and the moves that lead back.
 
-ghost use Rattle.std.specs.Prelude.{◌≡◌, IfOk};
+ghost use Rattle.std.specs.Prelude.{IfOk};
 ghost use Rattle.skel_embed.specs.Values.{as_move};
 ghost use Rattle.embed_moves.specs.Made.{IsMade, Fits, LeadsBack};
 

@@ -1,8 +1,7 @@
 // The mirror image of a block in the plane, where it may be.
 
-ghost use Rattle.std.specs.Prelude.{◌≡◌, ◌<◌, length, IfOk, IfErr, MatchOption};
-ghost use Rattle.pair_split.specs.Tutte.{node_at};
-ghost use Rattle.embed_moves.specs.Made.{has_choice, is_held, IsMirrored, NoneHeld, IsLeastHeld};
+ghost use Rattle.std.specs.Prelude.{◌≡◌, ◌<◌, IfOk, IfErr, MatchOption};
+ghost use Rattle.embed_moves.specs.Made.{has_choice, IsMirrored, NoneHeld, IsLeastHeld};
 
 use pair_split::Kind;
 use skel_embed::PlaneBlock;

@@ -5,7 +5,7 @@ ghost use Rattle.faces.specs.Euler.{component_count, is_isolated};
 ghost use Rattle.multigraph.specs.Graph.{IsGraph, edge_count, ends_of, incident_edges};
 ghost use Rattle.permutations.specs.Count.{count};
 ghost use Rattle.permutations.specs.Relation.{connected};
-ghost use Rattle.std.specs.Prelude.{◌<◌, ◌||◌, ◌≡◌, IfOk, [], false, length, ℕ};
+ghost use Rattle.std.specs.Prelude.{◌<◌, ◌||◌, ◌≡◌, IfOk, false, length, ℕ};
 
 use multigraph::Graph;
 use std::alloc::{AllocError, Global};

@@ -1,7 +1,7 @@
 // Darts: edges as they leave one of their ends. Dart 2e leaves the first end of edge e, and dart 2e + 1 the second.
 ghost use Rattle.dart_maps.specs.Map.{twin};
 ghost use Rattle.faces.specs.Euler.{dart_count, dart_from, tail};
-ghost use Rattle.faces.specs.Trace.{darts_from_below, darts_in_order, pair_of};
+ghost use Rattle.faces.specs.Trace.{darts_in_order, pair_of};
 ghost use Rattle.multigraph.specs.Graph.{IsGraph, IsWithinLimits, edge_count, incident_edges, max_darts};
 ghost use Rattle.std.specs.Prelude.{◌++◌, ◌<◌, ◌≡◌, IfOk, map, ◌*◌, ◌≤◌, ℕ};
 

@@ -3,18 +3,7 @@ ghost use Rattle.faces.specs.Euler.{begins_orbit};
 ghost use Rattle.faces.specs.Marks.{AddsOrbit, AreWholeOrbits, IsPermutationBelow};
 ghost use Rattle.multigraph.specs.Marks.{is_marked};
 ghost use Rattle.permutations.specs.Count.{count};
-ghost use Rattle.permutations.specs.Permutation.{reaches};
-ghost use Rattle.std.specs.Prelude.{
-  ◌<◌,
-  ◌^◌,
-  ◌||◌,
-  ◌≡◌,
-  IfOk,
-  false,
-  length,
-  slice_index,
-  ℕ,
-};
+ghost use Rattle.std.specs.Prelude.{◌<◌, ◌^◌, ◌≡◌, IfOk, false, length, slice_index, ℕ};
 
 use std::alloc::{AllocError, Global};
 

@@ -4,9 +4,8 @@ ghost use Rattle.faces.specs.Marks.{AddsOrbit, AreWholeOrbits, IsPermutationBelo
 ghost use Rattle.multigraph.specs.Marks.{is_marked};
 ghost use Rattle.faces.specs.Trace.{darts_in_order, face_lists, orbit_lists, orbit_pairs};
 ghost use Rattle.multigraph.specs.Graph.{IsGraph};
-ghost use Rattle.permutations.specs.Permutation.{reaches};
 ghost use Rattle.rotations.specs.Rotation.{IsRotationSystem};
-ghost use Rattle.std.specs.Prelude.{◌<◌, ◌||◌, ◌≡◌, IfOk, false, length, slice_index, ℕ};
+ghost use Rattle.std.specs.Prelude.{◌<◌, ◌≡◌, IfOk, false, length, slice_index, ℕ};
 
 use crate::darts::{darts_in_order, pair_of};
 use crate::lists::{Face, Faces};

@@ -1,6 +1,6 @@
 // A document of which some pairs have been read.
 
-ghost use Rattle.std.specs.Prelude.{◌≡◌, List, [], IfOk, OnOk, MatchResult, MatchBool, MatchOption};
+ghost use Rattle.std.specs.Prelude.{◌≡◌, List, [], IfOk, OnOk, MatchBool};
 ghost use Rattle.gml_text.specs.Pairs.{document_of};
 ghost use Rattle.gml_text.specs.Document.{empty};
 ghost use Rattle.gml_text.specs.Partial.{frames_of, pairs_of, IsAdded, IsOpened, IsClosed, IsTaken, IsTooDeep, IsPartial, Stepped};

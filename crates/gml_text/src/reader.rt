@@ -1,6 +1,6 @@
 // The reader of documents.
 
-ghost use Rattle.std.specs.Prelude.{◌≡◌, ◌-◌, ◌≤◌, ◌==◌, cond, length, IfOk, IfErr};
+ghost use Rattle.std.specs.Prelude.{◌≡◌, ◌-◌, ◌≤◌, ◌==◌, cond, IfOk, IfErr};
 ghost use Rattle.gml_text.specs.Grammar.{Spells};
 ghost use Rattle.gml_text.specs.Faults.{IsFault};
 ghost use Rattle.gml_text.specs.declared.document.GmlFault.TheVariants.{Bad, End};

@@ -1,9 +1,8 @@
 // The exact check of a subdivision, by marks on the vertices that were met.
 
-ghost use Rattle.std.specs.Prelude.{◌≡◌, ◌<◌, ◌↔◌, ◌&&◌, ℕ, true, false, not, length, IfOk, MatchOption, replicate, slice_set, slice_index_or};
+ghost use Rattle.std.specs.Prelude.{◌≡◌, ◌<◌, ◌↔◌, ◌&&◌, true, false, not, length, IfOk, MatchOption, slice_set};
 ghost use Rattle.multigraph.specs.Graph.{IsGraph};
-ghost use Rattle.graph_theory.specs.Path.{walk_starts, walk_end};
-ghost use Rattle.kuratowski.specs.Subdivision.{branch_at, branch_count, pattern_edges, inner_vertices, IsSubdivision, IsWritten};
+ghost use Rattle.kuratowski.specs.Subdivision.{branch_count, inner_vertices, IsSubdivision, IsWritten};
 ghost use Rattle.kuratowski.specs.Checking.{is_in_order, no_marks, is_taken, marked_also, are_free, is_free_walk, IsFreeWalkTo, ArePlaces, is_free_path, are_free_paths};
 
 use crate::subdivision::{Pattern, Subdivision};

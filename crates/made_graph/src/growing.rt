@@ -1,5 +1,5 @@
 // The operations on an edge: each adds edges behind the others, and answers how many vertices there are then.
-ghost use Rattle.std.specs.Prelude.{◌≡◌, ◌<◌, ◌≤◌, ◌+◌, ◌^◌, length, IfOk};
+ghost use Rattle.std.specs.Prelude.{◌≡◌, ◌<◌, ◌+◌, ◌^◌, length, IfOk};
 ghost use Rattle.multigraph.specs.Build.{multigraph_of};
 ghost use Rattle.made_graph.specs.Made.{subdivided, doubled, with_path, with_tetrahedron, grown};
 

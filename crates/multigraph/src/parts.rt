@@ -3,7 +3,6 @@
 ghost use Rattle.std.specs.Prelude.{◌≡◌, ◌<◌, ◌≤◌, ◌^◌, ℕ, length, IfOk, slice_index};
 ghost use Rattle.std.specs.List.{Contains};
 ghost use Rattle.multigraph.specs.Graph.{edge_count, max_vertices, IsGraph, IsWithinLimits};
-ghost use Rattle.multigraph.specs.Build.{multigraph_of};
 ghost use Rattle.multigraph.specs.Part.{GraphPart, Rises, IsNumbered, IsPlace, AreEnds, AreInnerEnds, IsPart};
 
 use crate::structure::Graph;

@@ -1,12 +1,12 @@
 // The state of splitting, as data: components that are finished, and the family that is still to be split.
 
-ghost use Rattle.std.specs.Prelude.{◌≡◌, ◌≢◌, ◌+◌, ◌<◌, ◌≤◌, ◌^◌, ◌∷◌, [], ℕ, true, false, length, IfOk};
+ghost use Rattle.std.specs.Prelude.{◌≡◌, ◌≢◌, ◌+◌, ◌<◌, ◌≤◌, ◌∷◌, [], length, IfOk};
 ghost use Rattle.multigraph.specs.Graph.{edge_count, IsGraph};
 ghost use Rattle.pair_split.specs.Family.{on_side, off_side, IsFamily, IsPrime};
 ghost use Rattle.pair_split.specs.Edges.{family_skeleton, graph_family};
 ghost use Rattle.graph_theory.specs.Block.{IsOneBlock};
 ghost use Rattle.pair_split.specs.Skeleton.{IsSkeleton};
-ghost use Rattle.pair_split.specs.Bridges.{entry_of, family_of, HaveEndsBelow, HaveNamesBelow, marked};
+ghost use Rattle.pair_split.specs.Bridges.{entry_of, family_of, HaveNamesBelow, marked};
 ghost use Rattle.pair_split.specs.State.{IsSplitState};
 ghost use Rattle.pair_split.specs.Search.{IsMinimalSide, IsSearched};
 ghost use Rattle.pair_split.specs.Splitting.{state_of, IsSplitting};

@@ -1,6 +1,6 @@
 // The components of a state of splitting, written out.
 
-ghost use Rattle.std.specs.Prelude.{◌≡◌, ◌+◌, ◌*◌, ◌<◌, ◌≤◌, ◌^◌, ◌∷◌, [], ℕ, List, length, IfOk, slice_index_or, Contains};
+ghost use Rattle.std.specs.Prelude.{◌≡◌, ◌+◌, ◌*◌, ◌<◌, ◌≤◌, ◌^◌, ◌∷◌, [], ℕ, length, IfOk, slice_index_or, Contains};
 ghost use Rattle.pair_split.specs.Family.{Entry};
 ghost use Rattle.pair_split.specs.Bridges.{entry_of, family_of, HaveNamesBelow};
 ghost use Rattle.pair_split.specs.State.{SplitState, IsWrittenIn, AreWritten, AreComponents};

@@ -1,5 +1,5 @@
 // Depth-first search from one vertex, with a stack of its own.
-ghost use Rattle.std.specs.Prelude.{◌≡◌, ◌+◌, ◌*◌, ◌-◌, ◌<◌, ◌≤◌, true, [], length, IfOk, slice_index, slice_get};
+ghost use Rattle.std.specs.Prelude.{◌≡◌, ◌+◌, ◌*◌, ◌-◌, ◌<◌, ◌≤◌, true, length, IfOk, slice_index, slice_get};
 ghost use Rattle.multigraph.specs.Graph.{edge_count, is_end, IsGraph, IsWithinLimits};
 ghost use Rattle.palm_tree.specs.PalmTree.{IsConnected};
 ghost use Rattle.blocks.specs.Forest.{ForestState, fresh, looked_further, frond_noted, root_noted, child_noted, left};

@@ -1,5 +1,5 @@
 // The palm tree of a connected graph.
-ghost use Rattle.std.specs.Prelude.{◌≡◌, ◌+◌, ◌*◌, ◌<◌, ◌≤◌, ◌^◌, ℕ, false, not, None, length, IfOk, slice_index};
+ghost use Rattle.std.specs.Prelude.{◌≡◌, ◌+◌, ◌*◌, ◌<◌, ◌≤◌, ℕ, false, not, None, length, IfOk, slice_index};
 ghost use Rattle.multigraph.specs.Graph.{edge_count, IsGraph};
 ghost use Rattle.palm_tree.specs.PalmTree.{PalmTreeLists, IsPalmTree, IsConnected, number_of, parent_of, is_frond, darts_of};
 ghost use Rattle.palm_tree.specs.Searching.{IsOver};

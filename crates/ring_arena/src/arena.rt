@@ -1,6 +1,6 @@
 // Rings of nodes in one block of memory.
 
-ghost use Rattle.std.specs.Prelude.{◌≡◌, ◌≢◌, ℕ, ◌<◌, ◌≤◌, length, slice_index, slice_set, IfOk};
+ghost use Rattle.std.specs.Prelude.{◌≡◌, ◌≢◌, ◌<◌, ◌≤◌, length, slice_index, IfOk};
 ghost use Rattle.std.specs.Vec.{vec_ptr, vec_capacity};
 ghost use Rattle.permutations.specs.Exchange.{exchange, unlink};
 ghost use Rattle.ring_arena.specs.Links.{AreInverse, AreNow, AreAlone, linked_after, reversed_at};

@@ -1,6 +1,6 @@
 // The links of a rotation system: each dart to the one that follows it round its vertex.
 
-ghost use Rattle.std.specs.Prelude.{◌≡◌, ◌≢◌, ℕ, ◌<◌, ◌≤◌, length, slice_index, true};
+ghost use Rattle.std.specs.Prelude.{◌≡◌, ◌≢◌, ℕ, ◌≤◌, length, slice_index, true};
 ghost use Rattle.multigraph.specs.Graph.{max_darts};
 ghost use Rattle.permutations.specs.Members.{is_member};
 ghost use Rattle.ring_arena.specs.Links.{AreInverse};

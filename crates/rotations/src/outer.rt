@@ -2,7 +2,7 @@
 //
 // They are written in the numbers of the part and checked there; the number that is to blame is that of the whole graph.
 
-ghost use Rattle.std.specs.Prelude.{◌≡◌, ℕ, ◌<◌, ◌≤◌, length, map, slice_index, IfOk, MatchResult};
+ghost use Rattle.std.specs.Prelude.{◌≡◌, ℕ, ◌<◌, ◌≤◌, length, map, IfOk, MatchResult};
 ghost use Rattle.std.specs.List.{Contains};
 ghost use Rattle.std.specs.Option.{MatchOption};
 ghost use Rattle.rotations.specs.Entries.{entry, IsNamed, IsReachedAt};

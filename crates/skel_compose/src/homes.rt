@@ -1,6 +1,6 @@
 // The homes of the edges: of each edge of the block the node and the item that it is.
 
-ghost use Rattle.std.specs.Prelude.{◌≡◌, ◌+◌, ◌<◌, length, replicate, IfOk};
+ghost use Rattle.std.specs.Prelude.{◌+◌, ◌<◌, length, IfOk};
 ghost use Rattle.multigraph.specs.Graph.{edge_count, IsWithinLimits};
 ghost use Rattle.skeletons.specs.Items.{IsBlockTree};
 ghost use Rattle.skel_compose.specs.Homes.{HasHomes};

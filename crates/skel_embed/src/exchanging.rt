@@ -1,6 +1,6 @@
 // Two groups of a bond in each other's place, at each pole. No memory is taken.
 
-ghost use Rattle.std.specs.Prelude.{◌≡◌, ◌<◌, ℕ, true, length};
+ghost use Rattle.std.specs.Prelude.{◌≡◌, ◌<◌, true, length};
 ghost use Rattle.rotations.specs.Rotation.{order_at, IsRotationSystem};
 ghost use Rattle.rotations.specs.Runs.{IsKeptElsewhere};
 ghost use Rattle.pair_split.specs.Tutte.{group};

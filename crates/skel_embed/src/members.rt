@@ -1,6 +1,6 @@
 // The rotation systems of the skeletons of which the first plane rotation system of the block is composed.
 
-ghost use Rattle.std.specs.Prelude.{◌≡◌, ◌<◌, length, IfOk};
+ghost use Rattle.std.specs.Prelude.{◌<◌, length, IfOk};
 ghost use Rattle.multigraph.specs.Graph.{Multigraph, IsWithinLimits};
 ghost use Rattle.skeletons.specs.Items.{IsBlockTree};
 ghost use Rattle.skel_embed.specs.Members.{IsMember, AreMembers};

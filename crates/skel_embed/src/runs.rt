@@ -1,6 +1,6 @@
 // Runs of edges with one group round a vertex of a node, found and put elsewhere. No memory is taken.
 
-ghost use Rattle.std.specs.Prelude.{◌≡◌, ◌≢◌, ◌<◌, ℕ, length};
+ghost use Rattle.std.specs.Prelude.{◌≢◌, ◌<◌, ℕ, length};
 ghost use Rattle.rotations.specs.Rotation.{order_at, IsRotationSystem};
 ghost use Rattle.rotations.specs.Runs.{IsOutside, IsKeptElsewhere};
 ghost use Rattle.pair_split.specs.Tutte.{group};

@@ -1,7 +1,6 @@
 // Lists of edges taken in as the rotation system of a block.
 
 ghost use Rattle.std.specs.Prelude.{◌≡◌, IfOk, IfErr};
-ghost use Rattle.multigraph.specs.Graph.{Multigraph};
 ghost use Rattle.graph_theory.specs.Block.{IsOneBlock};
 ghost use Rattle.faces.specs.Euler.{IsPlaneSystem};
 ghost use Rattle.skel_embed.specs.Taken.{IsGiven, IsGivenRefusal};

@@ -1,6 +1,6 @@
 // The cuts of the stack that the search keeps.
 
-ghost use Rattle.std.specs.Prelude.{◌≡◌, ◌+◌, ◌-◌, ◌<◌, ◌≤◌, ◌++◌, ◌∷◌, [], List, length, IfOk};
+ghost use Rattle.std.specs.Prelude.{◌≡◌, ◌+◌, ◌-◌, ◌<◌, ◌≤◌, length, IfOk};
 ghost use Rattle.split_comp.specs.Noting.{IsTakenLower, IsNoted, IsDropped};
 
 use crate::items::Triple;

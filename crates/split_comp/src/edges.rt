@@ -1,6 +1,6 @@
 // Entries of the stack as edges of the graph, or virtual edges.
 
-ghost use Rattle.std.specs.Prelude.{◌≡◌, ◌+◌, ◌<◌, ◌≤◌, ◌&&◌, not, ℕ, filter, length, IfOk};
+ghost use Rattle.std.specs.Prelude.{◌≡◌, ◌+◌, ◌<◌, ◌≤◌, ◌&&◌, ℕ, filter, length, IfOk};
 ghost use Rattle.pair_split.specs.Bridges.{entry_of, family_of};
 ghost use Rattle.split_comp.specs.Stack.{item, entry};
 ghost use Rattle.split_comp.specs.Sides.{is_frond_to};

@@ -1,7 +1,7 @@
 // The pass along the palm tree, with the stack of entries, its cuts, and the components that are finished.
 
-ghost use Rattle.std.specs.Prelude.{◌≡◌, ◌≢◌, ◌+◌, ◌-◌, ◌*◌, ◌<◌, ◌≤◌, ◌∷◌, [], ℕ, Bool, true, false, length, take, drop, replicate, IfOk, IfSome, slice_index, slice_get};
-ghost use Rattle.multigraph.specs.Graph.{edge_count, IsGraph};
+ghost use Rattle.std.specs.Prelude.{◌≡◌, ◌≢◌, ◌+◌, ◌-◌, ◌*◌, ◌<◌, ◌≤◌, true, false, length, drop, IfOk, slice_index};
+ghost use Rattle.multigraph.specs.Graph.{edge_count};
 ghost use Rattle.split_comp.specs.Stack.{item};
 ghost use Rattle.split_comp.specs.Noting.{IsLastCut};
 ghost use Rattle.split_comp.specs.Palm.{tree_degree, tree_parent};

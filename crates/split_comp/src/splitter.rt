@@ -1,10 +1,8 @@
 // The palm-tree splitter.
 
 ghost use Rattle.std.specs.Prelude.{◌≡◌, ◌+◌, ◌*◌, ◌<◌, ◌≤◌, IfOk};
-ghost use Rattle.multigraph.specs.Graph.{edge_count, IsGraph};
+ghost use Rattle.multigraph.specs.Graph.{edge_count};
 ghost use Rattle.graph_theory.specs.Block.{IsOneBlock};
-ghost use Rattle.pair_split.specs.Edges.{graph_family};
-ghost use Rattle.pair_split.specs.Bridges.{family_of};
 ghost use Rattle.pair_split.specs.Split.{IsSplit};
 
 use crate::pass::Pass;

@@ -1,8 +1,8 @@
 // The palm tree of a block, by the numbers of its vertices.
 
-ghost use Rattle.std.specs.Prelude.{◌≡◌, ◌+◌, ◌*◌, ◌<◌, ◌≤◌, ℕ, length, IfOk, slice_index};
-ghost use Rattle.multigraph.specs.Graph.{edge_count, IsGraph};
-ghost use Rattle.palm_tree.specs.PalmTree.{PalmTreeLists, IsPalmTree, IsConnected, number_of};
+ghost use Rattle.std.specs.Prelude.{◌≡◌, ◌+◌, ◌*◌, ◌<◌, ◌≤◌, length, IfOk, slice_index};
+ghost use Rattle.multigraph.specs.Graph.{edge_count};
+ghost use Rattle.palm_tree.specs.PalmTree.{IsPalmTree, IsConnected};
 ghost use Rattle.split_comp.specs.Palm.{AreVertices, tree_dart, tree_degree, tree_parent};
 ghost use Rattle.split_comp.specs.Pass.{IsNumbered};
 

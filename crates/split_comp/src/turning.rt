@@ -1,6 +1,6 @@
 // The turns of the pass: along a dart, or back from a vertex, when components are split off.
 
-ghost use Rattle.std.specs.Prelude.{◌≡◌, ◌≢◌, ◌+◌, ◌-◌, ◌*◌, ◌<◌, ◌≤◌, ℕ, true, false, if◌then◌else◌, length, IfOk, slice_index};
+ghost use Rattle.std.specs.Prelude.{◌≡◌, ◌≢◌, ◌+◌, ◌-◌, ◌*◌, ◌<◌, ◌≤◌, true, false, if◌then◌else◌, length, IfOk, slice_index};
 ghost use Rattle.multigraph.specs.Graph.{edge_count};
 ghost use Rattle.split_comp.specs.Cuts.{cut};
 ghost use Rattle.split_comp.specs.Palm.{tree_degree};

@@ -1,10 +1,10 @@
 // Devices in memory: some fail at chosen calls, some never do.
-ghost use Rattle.std.specs.Prelude.{◌≡◌, ◌↔◌, ◌<◌, ◌≤◌, ◌+◌, ◌-◌, ◌++◌, ◌⊎◌, min, Ok, Some, None, IsTrue, IsSome, IsOk, IfOk, OnErr, MatchResult, Contains, length, vec_len, List, [], take as front};
+ghost use Rattle.std.specs.Prelude.{◌≡◌, ◌↔◌, ◌<◌, ◌≤◌, ◌+◌, ◌-◌, ◌++◌, ◌⊎◌, min, Ok, Some, None, IsTrue, IsSome, IsOk, IfOk, OnErr, MatchResult, Contains, length, vec_len, []};
 ghost use Rattle.std.specs.Io.{ReadsAtMost, WritesAtMost};
 ghost use Rattle.std.specs.Io.KnownBytes.{ReadConsumes, WriteAppends};
 ghost use Rattle.std.specs.Option.{option_copied};
 ghost use Rattle.std.specs.Vec.{vec_capacity};
-ghost use Rattle.spqr_edge.specs.Device.{contents, counted, HasCause, CountsCall, Opens};
+ghost use Rattle.spqr_edge.specs.Device.{contents, counted, HasCause, Opens};
 ghost use Rattle.spqr_edge.specs.Memory.{bytes_of, OpensWhereHeld, LacksRoom};
 
 use crate::faults::Faults;

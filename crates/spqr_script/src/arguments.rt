@@ -1,5 +1,5 @@
 // The arguments of commands, each command in a file of its own.
-ghost use Rattle.std.specs.Prelude.{◌≡◌, ◌^◌, None, Some, IfOk, MatchOption};
+ghost use Rattle.std.specs.Prelude.{◌≡◌, None, Some, IfOk, MatchOption};
 ghost use Rattle.spqr_script.specs.Line.{tokens_of};
 ghost use Rattle.spqr_script.specs.Number.{index_limit, rank_limit};
 ghost use Rattle.spqr_script.specs.Reading.{alone, first_number, arguments_of};

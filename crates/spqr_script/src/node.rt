@@ -1,7 +1,6 @@
 // The lines of the nodes of a block's tree.
-ghost use Rattle.std.specs.Prelude.{◌≡◌, ◌<◌, ◌++◌, length, map, slice_index, IfOk, OnOk, All};
+ghost use Rattle.std.specs.Prelude.{◌≡◌, ◌<◌, ◌++◌, length, IfOk, OnOk, All};
 ghost use Rattle.pair_split.specs.Tutte.{node_at};
-ghost use Rattle.spqr_script.specs.Text.{spaced_numbers};
 ghost use Rattle.spqr_script.specs.Node.{kind_word, item_text, spaced_items, node_text, IsItemOf, IsNodeOf};
 
 use crate::outer::push_vertices;

@@ -1,5 +1,5 @@
 // The blocks of a graph, each with its tree, and its embedding or its certificate.
-ghost use Rattle.std.specs.Prelude.{◌≡◌, ◌<◌, length, map, IfOk};
+ghost use Rattle.std.specs.Prelude.{◌≡◌, ◌<◌, length, IfOk};
 ghost use Rattle.blocks.specs.Blocks.{IsBlockStructure, block_at};
 ghost use Rattle.spqr_session.specs.Embedded.{block_view, KeepsTogether, IsEmbedded, IsStartBlock, AreStartBlocks};
 

@@ -1,6 +1,6 @@
 // The groups of components that are merged: bonds with bonds and polygons with polygons, where links join them.
 
-ghost use Rattle.std.specs.Prelude.{◌≡◌, ◌+◌, ◌<◌, ◌≤◌, ◌↔◌, ◌++◌, ◌^◌, ℕ, true, List, [], ◌∷◌, length, IsSomeAnd, IfOk, IfSome, Some, None};
+ghost use Rattle.std.specs.Prelude.{◌≡◌, ◌+◌, ◌<◌, ◌≤◌, ◌↔◌, ◌++◌, ℕ, true, List, [], ◌∷◌, length, IsSomeAnd, IfOk, IfSome, Some, None};
 ghost use Rattle.pair_split.specs.Split.{component_at, items_of};
 ghost use Rattle.pair_split.specs.declared.components.Comp.{Comp};
 ghost use Rattle.pair_split.specs.declared.components.What.TheVariants.{Link};

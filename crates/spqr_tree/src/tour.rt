@@ -2,7 +2,7 @@
 // first item. It gives each edge a place, and each node a bound before each item but the first and one behind the last: the
 // places of the edges in a group are those between the bounds of its item (Euler tours: Tarjan and Vishkin 1985).
 
-ghost use Rattle.std.specs.Prelude.{◌≡◌, ◌+◌, ◌<◌, ◌≤◌, ◌++◌, ℕ, true, false, [], ◌∷◌, length, slice_set, IfOk};
+ghost use Rattle.std.specs.Prelude.{◌≡◌, ◌+◌, ◌<◌, ℕ, true, false, length, slice_set, IfOk};
 ghost use Rattle.multigraph.specs.Graph.{Multigraph, edge_count};
 ghost use Rattle.pair_split.specs.Tutte.{node_at, IsTutte};
 ghost use Rattle.pair_split.specs.declared.components.What.TheVariants.{Real};

@@ -1,6 +1,6 @@
 // Certificates of small blocks, worked out by hand from those of a skeleton.
 
-ghost use Rattle.std.specs.Prelude.{◌≡◌, IfOk};
+ghost use Rattle.std.specs.Prelude.{IfOk};
 ghost use Rattle.graph_theory.specs.Block.{IsOneBlock};
 ghost use Rattle.skeletons.specs.Items.{IsBlockTree};
 

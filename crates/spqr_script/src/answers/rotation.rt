@@ -1,5 +1,5 @@
 // The answer of `show`, which is also that of `list` for each member.
-ghost use Rattle.std.specs.Prelude.{◌≡◌, ◌<◌, ◌++◌, length, map, slice_index, codes, decimal, IfOk, OnOk, All};
+ghost use Rattle.std.specs.Prelude.{◌≡◌, ◌<◌, ◌++◌, map, slice_index, codes, IfOk, OnOk, All};
 ghost use Rattle.multigraph.specs.Graph.{edge_count};
 ghost use Rattle.rotations.specs.Rotation.{order_at, IsRotationSystem};
 ghost use Rattle.spqr_script.specs.Text.{spaced_numbers};

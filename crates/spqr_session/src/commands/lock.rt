@@ -1,7 +1,7 @@
 // `lock B K` and `unlock B K`: a node of a block is locked, or its lock is taken away.
-ghost use Rattle.std.specs.Prelude.{◌≡◌, ◌<◌, length, map, IfOk, OnErr};
+ghost use Rattle.std.specs.Prelude.{◌≡◌, ◌<◌, map, IfOk, OnErr};
 ghost use Rattle.spqr_session.specs.State.{State};
-ghost use Rattle.spqr_session.specs.Embedded.{view_tree, view_at};
+ghost use Rattle.spqr_session.specs.Embedded.{view_tree};
 ghost use Rattle.spqr_session.specs.BlockCodes.{has_choices, node_codes, node_ladder};
 ghost use Rattle.spqr_session.specs.Board.{family_on, board_state, IsCarried};
 ghost use Rattle.spqr_session.specs.Planned.{IsVerdict};
