@@ -111,6 +111,6 @@ abbrev pub Refuses : {A : Type 0} → Result A GraphFault → GraphFault → Typ
 Refuses due Memory = Unit {0}
 Refuses due fault = due ≡ Err fault
 
--- an answer has the value that is due, or is a refusal that is
+-- the answer is what is due: this value, or this refusal; want of memory may come at any
 abbrev pub Answers : {A B : Type 0} → Result A GraphFault → (B → A) → Result B GraphFault → Type 0
 Answers due value result = MatchResult result (λ answer. due ≡ Ok (value answer)) (Refuses due)

@@ -65,8 +65,8 @@ impl Named {
 
 // The graph of these nodes and edges, or the first refusal.
 fn graph_between(alloc: Global, nodes: &[&Pairs], edges: &[&Pairs]) -> Result<Named, GraphFault>
-    ensures { Answers (graph_between
-        (map (λ node. node.now) nodes.now) (map (λ edge. edge.now) edges.now)) (λ named. named) result }
+    ensures { Answers (graph_between (map (λ node. node.now) nodes.now)
+        (map (λ edge. edge.now) edges.now)) (λ named. named) result }
 {
     if nodes.len() > MAX_VERTICES {
         return Err(GraphFault::TooManyVertices(nodes.len()));

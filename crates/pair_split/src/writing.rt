@@ -225,8 +225,9 @@ fn write_parts<L: Ledger>(
 }
 
 /// The components of a state of splitting: the finished ones in order, and what is left as the last one, of this kind. The
-/// names below `m` are those of edges, and entry m + c is the virtual edge of finished component c, which stands in two
-/// components in the end. Fails for want of memory alone. The steps are two for each component and each of its entries.
+/// names below `m` are those of edges, and m + c is that of the virtual edge of finished component c, which stands in two
+/// components in the end. Fails for want of memory alone. The steps are two for each finished component, for each of its
+/// entries but its own virtual edge, and for each entry that is left.
 pub fn write_components<L: Ledger>(
     alloc: Global,
     parts: &[Finished],

@@ -1,5 +1,5 @@
 // Devices in memory: some fail at chosen calls, some never do.
-ghost use Rattle.std.specs.Prelude.{◌≡◌, ◌↔◌, ◌<◌, ◌≤◌, ◌+◌, ◌-◌, ◌++◌, ◌⊎◌, min, Ok, Some, None, IsTrue, IsSome, IsOk, IfOk, OnErr, MatchResult, Contains, length, vec_len, []};
+ghost use Rattle.std.specs.Prelude.{◌≡◌, ◌↔◌, ◌<◌, ◌≤◌, ◌+◌, ◌-◌, ◌++◌, ◌⊎◌, min, Ok, Some, None, IsTrue, IsSome, IsOk, IfOk, OnErr, MatchResult, Contains, length, vec_len, [], take as front};
 ghost use Rattle.std.specs.Io.{ReadsAtMost, WritesAtMost};
 ghost use Rattle.std.specs.Io.KnownBytes.{ReadConsumes, WriteAppends};
 ghost use Rattle.std.specs.Option.{option_copied};
