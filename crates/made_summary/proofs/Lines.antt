@@ -4,7 +4,8 @@ use Rattle.multigraph.specs.Graph.{Multigraph, edge_count}
 use Rattle.pair_split.specs.Tutte.{Node}
 use Rattle.skeletons.specs.Choices.{choice}
 use Rattle.made_summary.specs.Text.{made_line, nodes_line, count_text, fitting, choice_line}
-use Rattle.made_summary.specs.Kinds.{is_polygon, is_bond, is_rigid, nodes_of}
+use Rattle.made_summary.specs.Kinds.{nodes_of}
+use Rattle.pair_split.specs.Kinds.{is_polygon, is_bond, is_rigid}
 use Rattle.made_summary.specs.Summary.{summary_text}
 
 -- the lines of these values

@@ -6,7 +6,8 @@ use Rattle.faces.specs.Euler.{IsPlaneSystem}
 use Rattle.skeletons.specs.Lists.{IsFullList}
 use Rattle.skeletons.proofs.Before.{list-unique}
 use Rattle.tree_unique.proofs.SameTrees.{trees-equal}
-use Rattle.made_summary.specs.Kinds.{has_choices, IsLeastWithChoices}
+use Rattle.made_summary.specs.Kinds.{IsLeastWithChoices}
+use Rattle.pair_split.specs.Kinds.{has_choices}
 use Rattle.made_summary.specs.Summary.{summary_text}
 use Rattle.made_summary.specs.Laws.{SummaryIsUnique}
 

@@ -15,7 +15,8 @@ use Rattle.pair_split.specs.declared.components.What.TheVariants.{Real, Link}
 use Rattle.pair_split.proofs.NodeParts.{node-kind}
 use Rattle.skeleton_runs.proofs.Sturdy.{polygon-two}
 use Rattle.made_graph.specs.Laws.{HasFork}
-use Rattle.made_summary.specs.Kinds.{has_choices, NoneHasChoices}
+use Rattle.made_summary.specs.Kinds.{NoneHasChoices}
+use Rattle.pair_split.specs.Kinds.{has_choices}
 
 -- a kind without choices
 without-choices : (kind : Kind) → has_choices kind ≡ false → (kind ≡ S) ⊎ (kind ≡ B)

@@ -6,7 +6,8 @@ use Rattle.pair_split.specs.Tutte.{Node, IsTutte}
 use Rattle.skeletons.specs.Choices.{choice}
 use Rattle.skeletons.specs.Lists.{IsFullList}
 use Rattle.made_summary.specs.Text.{made_line, nodes_line, count_line, choice_line}
-use Rattle.made_summary.specs.Kinds.{is_polygon, is_bond, is_rigid, nodes_of, IsLeastWithChoices}
+use Rattle.made_summary.specs.Kinds.{nodes_of, IsLeastWithChoices}
+use Rattle.pair_split.specs.Kinds.{is_polygon, is_bond, is_rigid}
 
 -- the text, by the graph, its tree, the list of its plane rotation systems, the place of the last of these and a node
 abbrev pub summary_text : Multigraph → List Node → List (List (List ℕ)) → ℕ → ℕ → List ℕ

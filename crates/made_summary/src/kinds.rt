@@ -1,6 +1,7 @@
 // Nodes of a tree by their kinds.
 ghost use Rattle.std.specs.Prelude.{◌≡◌, length, MatchOption};
-ghost use Rattle.made_summary.specs.Kinds.{IsLeastWithChoices, NoneHasChoices, has_choices, is_bond, is_polygon, is_rigid, nodes_of};
+ghost use Rattle.made_summary.specs.Kinds.{IsLeastWithChoices, NoneHasChoices, nodes_of};
+ghost use Rattle.pair_split.specs.Kinds.{has_choices, is_bond, is_polygon, is_rigid};
 
 use pair_split::Kind;
 use spqr_tree::Tree;

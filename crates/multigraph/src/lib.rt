@@ -6,7 +6,7 @@
 // ends of its edges; that the ends are vertices, that no edge is a loop and that the graph is within the limits holds of every
 // `Graph`.
 //
-// `Numbers` and `NumberLists` are lists that contracts see as lists.
+// `Sequence` is a list that contracts see as a list: `Numbers` and `NumberLists` are two of this kind.
 #![tactic(auto)]
 
 mod buckets;
@@ -19,6 +19,6 @@ mod structure;
 
 pub use buckets::places_of;
 pub use faults::BuildFault;
-pub use lists::{NumberLists, Numbers};
+pub use lists::{NumberLists, Numbers, Sequence};
 pub use parts::Part;
 pub use structure::Graph;

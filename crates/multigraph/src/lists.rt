@@ -1,44 +1,59 @@
-// Lists of numbers, and lists of those, that contracts see as lists.
+// Lists that contracts see as lists, of numbers and of any values.
 
 ghost use Rattle.std.specs.Prelude.{◌≡◌, ◌∷◌, ◌++◌, [], is_ok, if◌then◌else◌};
 
 use std::alloc::{AllocError, Global};
 use std::marker::Model;
 
-/// A list of numbers.
+/// A list of values. Contracts see the list of what they see of the values.
 #[derive(Debug, Drop)]
-pub struct Numbers {
-    held: Vec<u32>,
+pub struct Sequence<T> {
+    held: Vec<T>,
 }
 
-impl Model for Numbers {
-    ghost use Rattle.std.specs.Prelude.{List, ℕ};
+impl<T> Model for Sequence<T> {
+    ghost use Rattle.std.specs.Prelude.{List};
 
-    ghost Value = { List ℕ };
+    ghost Value = { List T };
 
     ghost view = { λ list. list.held.items };
 }
 
-impl Numbers {
-    /// The list of these numbers. Takes no memory.
-    pub fn of(v: Vec<u32>) -> Numbers
+impl<T> Sequence<T> {
+    /// The list of these values. Takes no memory.
+    pub fn of(v: Vec<T>) -> Sequence<T>
         ensures { result ≡ v.items }
     {
-        Numbers { held: v }
+        Sequence { held: v }
     }
 
-    /// Its numbers, in order.
-    pub fn as_slice(&self) -> &[u32]
+    /// Its values, in order.
+    pub fn as_slice(&self) -> &[T]
         ensures { result.now ≡ self.now }
     {
         self.held.as_slice()
     }
 
+    /// Its values, given away. Takes no memory.
+    pub fn into_vec(self) -> Vec<T>
+        ensures { result.items ≡ self }
+    {
+        self.held
+    }
+}
+
+/// A list of numbers.
+pub type Numbers = Sequence<u32>;
+
+/// A list of lists of numbers.
+pub type NumberLists = Sequence<Numbers>;
+
+impl Sequence<u32> {
     /// The list without numbers. Takes no memory.
-    pub fn empty(alloc: Global) -> Numbers
+    pub fn empty(alloc: Global) -> Sequence<u32>
         ensures { result ≡ [] }
     {
-        Numbers {
+        Sequence {
             held: Vec::new(alloc),
         }
     }
@@ -51,35 +66,5 @@ impl Numbers {
             Ok(()) => Ok(()),
             Err(_) => Err(AllocError),
         }
-    }
-}
-
-/// A list of lists of numbers.
-#[derive(Debug, Drop)]
-pub struct NumberLists {
-    held: Vec<Numbers>,
-}
-
-impl Model for NumberLists {
-    ghost use Rattle.std.specs.Prelude.{List, ℕ};
-
-    ghost Value = { List (List ℕ) };
-
-    ghost view = { λ lists. lists.held.items };
-}
-
-impl NumberLists {
-    /// The list of these lists. Takes no memory.
-    pub fn of(v: Vec<Numbers>) -> NumberLists
-        ensures { result ≡ v.items }
-    {
-        NumberLists { held: v }
-    }
-
-    /// Its lists, in order.
-    pub fn as_slice(&self) -> &[Numbers]
-        ensures { result.now ≡ self.now }
-    {
-        self.held.as_slice()
     }
 }

@@ -1,6 +1,7 @@
 -- Split components of a block, and its tree.
 pub mod Family
 pub mod Skeleton
+pub mod Kinds
 pub mod Edges
 pub mod Split
 pub mod Tutte

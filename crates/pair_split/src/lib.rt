@@ -41,8 +41,8 @@ mod writing;
 
 pub use components::{Comp, Comps, Item, Kind, Piece, What};
 pub use family::NamedEdge;
-pub use lists::{CompList, PieceList};
+pub use lists::{CompList, EdgeList, PieceList};
 pub use plain::PairSplitter;
 pub use splitter::Splitter;
-pub use splitting::{EdgeList, Finished, graph_edges, kind_of, kind_of_all};
+pub use splitting::{Finished, graph_edges, kind_of, kind_of_all};
 pub use writing::write_components;

@@ -14,43 +14,12 @@ ghost use Rattle.pair_split.specs.declared.components.Kind.TheVariants.{B};
 
 use crate::components::Kind;
 use crate::family::NamedEdge;
+use crate::lists::EdgeList;
 use crate::search::{Side, are_parallel, minimal_side};
 use multigraph::Graph;
 use std::alloc::{AllocError, Global};
-use std::marker::Model;
 use std::sync::ledger::Ledger;
 use step_count::Steps;
-
-/// A list of edges under names, that contracts see as a list.
-#[derive(Drop)]
-pub struct EdgeList {
-    held: Vec<NamedEdge>,
-}
-
-impl Model for EdgeList {
-    ghost use Rattle.std.specs.Prelude.{List};
-    ghost use Rattle.pair_split.specs.declared.family.NamedEdge.{NamedEdge};
-
-    ghost Value = { List NamedEdge };
-
-    ghost view = { λ list. list.held.items };
-}
-
-impl EdgeList {
-    /// The list of these edges. Takes no memory.
-    pub fn of(v: Vec<NamedEdge>) -> EdgeList
-        ensures { result ≡ v.items }
-    {
-        EdgeList { held: v }
-    }
-
-    /// Its edges, in order.
-    pub fn as_slice(&self) -> &[NamedEdge]
-        ensures { result.now ≡ self.now }
-    {
-        self.held.as_slice()
-    }
-}
 
 /// A finished component: its kind, its own virtual edge, and its other edges.
 #[derive(Drop)]

@@ -2,6 +2,7 @@
 
 ghost use Rattle.std.specs.Prelude.{◌≡◌, IfOk};
 
+use multigraph::Sequence;
 use smallvec::SmallVec;
 use std::alloc::{AllocError, Global};
 use std::marker::Model;
@@ -48,32 +49,4 @@ pub enum Move {
 }
 
 /// A list of moves.
-#[derive(Debug, Drop)]
-pub struct MoveList {
-    held: Vec<Move>,
-}
-
-impl Model for MoveList {
-    ghost use Rattle.std.specs.Prelude.{List};
-    ghost use Rattle.skel_embed.specs.declared.moves.Move.{Move};
-
-    ghost Value = { List Move };
-
-    ghost view = { λ list. list.held.items };
-}
-
-impl MoveList {
-    /// The list of these moves. Takes no memory.
-    pub fn of(v: Vec<Move>) -> MoveList
-        ensures { result ≡ v.items }
-    {
-        MoveList { held: v }
-    }
-
-    /// Its moves, in order.
-    pub fn as_slice(&self) -> &[Move]
-        ensures { result.now ≡ self.now }
-    {
-        self.held.as_slice()
-    }
-}
+pub type MoveList = Sequence<Move>;

@@ -8,7 +8,8 @@ use Rattle.spqr_session.specs.State.{Embedding, entry_at}
 use Rattle.spqr_session.specs.Codes.{code_text, first_code}
 use Rattle.spqr_session.specs.declared.code.Code.{Code}
 use Rattle.spqr_session.specs.declared.code.Code.TheVariants.{NothingToUndo, NothingToRedo}
-use Rattle.spqr_session.specs.BlockCodes.{has_choices, node_ladder, ChangesBlock, Silently}
+use Rattle.spqr_session.specs.BlockCodes.{node_ladder, ChangesBlock, Silently}
+use Rattle.pair_split.specs.Kinds.{has_choices}
 use Rattle.spqr_session.specs.Embedded.{view_tree, view_at}
 use Rattle.spqr_session.specs.Commands.History.{is_none, undo_ladder, redo_ladder, Undoes, Redoes, UndoStep, RedoStep}
 use Rattle.spqr_session.specs.Commands.Lock.{IsLockSet, LockStep}

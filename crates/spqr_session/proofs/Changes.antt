@@ -15,7 +15,8 @@ use Rattle.spqr_session.specs.State.{Embedding, Family, State, entry_at, IsEntry
 use Rattle.spqr_session.specs.Codes.{Ladder, Applies, Carries, rises_above, first_code}
 use Rattle.spqr_session.specs.declared.code.Code.{Code}
 use Rattle.spqr_session.specs.declared.code.Code.TheVariants.{NoBlock, NoNode, WrongKind, NonPlanar}
-use Rattle.spqr_session.specs.BlockCodes.{is_block, is_node, kind_of, is_rigid, is_bond, has_choices, is_planar, node_ladder, of_entry, lock_codes, ChangesBlock, changed, Silently, ChangeStep}
+use Rattle.spqr_session.specs.BlockCodes.{is_block, is_node, kind_of, is_planar, node_ladder, of_entry, lock_codes, ChangesBlock, changed, Silently, ChangeStep}
+use Rattle.pair_split.specs.Kinds.{is_rigid, is_bond, has_choices}
 use Rattle.spqr_session.proofs.Carried.{DoesOne}
 use Rattle.spqr_session.proofs.Ladders.{rung-hit, rung-missed, rung-none}
 use Rattle.spqr_session.proofs.BlockCarried.{held, in-block, block-in, block-out, planar-entry, entry-same}

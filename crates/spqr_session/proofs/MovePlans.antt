@@ -15,7 +15,8 @@ use Rattle.spqr_session.specs.Trees.{BlockTree}
 use Rattle.spqr_session.specs.State.{Embedding}
 use Rattle.spqr_session.specs.Embedded.{BlockView}
 use Rattle.spqr_session.specs.Codes.{Ladder, first_code}
-use Rattle.spqr_session.specs.BlockCodes.{is_node, is_rigid, is_bond, is_planar, has_choices, kind_of, planar_codes, node_codes, entry_codes, of_entry, lock_codes}
+use Rattle.spqr_session.specs.BlockCodes.{is_node, is_planar, kind_of, planar_codes, node_codes, entry_codes, of_entry, lock_codes}
+use Rattle.pair_split.specs.Kinds.{is_rigid, is_bond, has_choices}
 use Rattle.spqr_session.specs.Commands.Flip.{flip_codes, IsFlipped}
 use Rattle.spqr_session.specs.Commands.Mirror.{is_held, mirror_codes, IsMirrored}
 use Rattle.spqr_session.specs.Planned.{embedding_of, FitsBlock, IsChangeOf, IsPlan, IsMovePlan, IsMirrorPlan}

@@ -27,7 +27,8 @@ use Rattle.spqr_session.specs.Setting.{Setting, IsSetting}
 use Rattle.spqr_session.specs.State.{Embedding, State, entry_at, IsEntry, IsState}
 use Rattle.spqr_session.specs.Codes.{Ladder, rises_above, first_code, Applies, Carries}
 use Rattle.spqr_session.specs.declared.code.Code.TheVariants.{NoBlock, NoNode, WrongKind, BadOrder, NonPlanar}
-use Rattle.spqr_session.specs.BlockCodes.{is_block, is_node, is_rigid, is_bond, has_choices, is_planar, kind_of, block_ladder, node_ladder, read_ladder, of_entry, lock_codes, ChangesBlock, changed, Silently, ChangeStep}
+use Rattle.spqr_session.specs.BlockCodes.{is_block, is_node, is_planar, kind_of, block_ladder, node_ladder, read_ladder, of_entry, lock_codes, ChangesBlock, changed, Silently, ChangeStep}
+use Rattle.pair_split.specs.Kinds.{is_rigid, is_bond, has_choices}
 use Rattle.spqr_session.specs.Commands.Flip.{flip_ladder, IsFlipped, FlipStep}
 use Rattle.spqr_session.specs.Commands.Permute.{is_arrangement, outer_edges, inner_edges, permute_ladder, IsPermuted, PermuteStep}
 use Rattle.spqr_session.specs.Commands.Mirror.{mirror_codes, IsMirrored, MirrorStep}

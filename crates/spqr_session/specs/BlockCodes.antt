@@ -2,7 +2,6 @@
 use Rattle.std.specs.Prelude.{◌≡◌, ℕ, Bool, true, false, not, nat_lt, List, [], ◌∷◌, ◌++◌, length, slice_set, Option, None, Some}
 use Rattle.pair_split.specs.Tutte.{node_at}
 use Rattle.pair_split.specs.declared.components.Kind.{Kind}
-use Rattle.pair_split.specs.declared.components.Kind.TheVariants.{S, P, R, B}
 use Rattle.skel_embed.specs.Block.{lock_at}
 use Rattle.spqr_script.specs.Answers.Change.{ok_text}
 use Rattle.spqr_session.specs.Trees.{BlockTree, tree_at}
@@ -22,25 +21,6 @@ is_node tree k = nat_lt k (length tree.nodes)
 -- the kind of node k
 abbrev pub kind_of : BlockTree → ℕ → Kind
 kind_of tree k = (node_at tree.nodes k).kind
-
--- whether it is the kind of a triconnected node; of a bond; of one that has choices
-abbrev pub is_rigid : Kind → Bool
-is_rigid R = true
-is_rigid P = false
-is_rigid S = false
-is_rigid B = false
-
-abbrev pub is_bond : Kind → Bool
-is_bond P = true
-is_bond R = false
-is_bond S = false
-is_bond B = false
-
-abbrev pub has_choices : Kind → Bool
-has_choices P = true
-has_choices R = true
-has_choices S = false
-has_choices B = false
 
 -- whether a block with this entry is planar
 abbrev pub is_planar : Option Embedding → Bool

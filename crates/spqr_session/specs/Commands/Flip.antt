@@ -5,7 +5,8 @@ use Rattle.skel_embed.specs.Block.{lock_at}
 use Rattle.spqr_session.specs.Trees.{BlockTree, tree_at}
 use Rattle.spqr_session.specs.State.{Embedding, State, entry_at}
 use Rattle.spqr_session.specs.Codes.{Ladder}
-use Rattle.spqr_session.specs.BlockCodes.{is_block, is_rigid, node_codes, of_entry, lock_codes, Silently, ChangeStep}
+use Rattle.spqr_session.specs.BlockCodes.{is_block, node_codes, of_entry, lock_codes, Silently, ChangeStep}
+use Rattle.pair_split.specs.Kinds.{is_rigid}
 use Rattle.spqr_session.specs.declared.code.Code.TheVariants.{NoBlock}
 
 -- codes 2, 3, 5 and 12

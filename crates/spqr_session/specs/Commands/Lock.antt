@@ -2,7 +2,8 @@
 use Rattle.std.specs.Prelude.{◌≡◌, ℕ, Bool, true, false, List, slice_set}
 use Rattle.spqr_session.specs.Trees.{BlockTree}
 use Rattle.spqr_session.specs.State.{Embedding, State}
-use Rattle.spqr_session.specs.BlockCodes.{has_choices, node_ladder, Silently, ChangeStep}
+use Rattle.spqr_session.specs.BlockCodes.{node_ladder, Silently, ChangeStep}
+use Rattle.pair_split.specs.Kinds.{has_choices}
 
 -- the lock of node k is set so; all else stays
 pub record IsLockSet (k : ℕ) (on : Bool) (tree : BlockTree) (old new : Embedding) : Type 0 where

@@ -6,7 +6,8 @@ use Rattle.skel_embed.specs.Block.{lock_at}
 use Rattle.spqr_session.specs.Trees.{BlockTree}
 use Rattle.spqr_session.specs.State.{Embedding, State}
 use Rattle.spqr_session.specs.Codes.{Ladder}
-use Rattle.spqr_session.specs.BlockCodes.{has_choices, kind_of, read_ladder, Silently, ChangeStep}
+use Rattle.spqr_session.specs.BlockCodes.{kind_of, read_ladder, Silently, ChangeStep}
+use Rattle.pair_split.specs.Kinds.{has_choices}
 use Rattle.spqr_session.specs.declared.code.Code.TheVariants.{Locked}
 
 -- whether node k is locked and has choices

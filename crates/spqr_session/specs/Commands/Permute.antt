@@ -8,7 +8,8 @@ use Rattle.skeletons.specs.Moves.{permute, MoveLeads}
 use Rattle.spqr_session.specs.Trees.{BlockTree, tree_at}
 use Rattle.spqr_session.specs.State.{Embedding, State, entry_at}
 use Rattle.spqr_session.specs.Codes.{Ladder}
-use Rattle.spqr_session.specs.BlockCodes.{is_block, is_node, kind_of, is_bond, is_planar, of_entry, lock_codes, Silently, ChangeStep}
+use Rattle.spqr_session.specs.BlockCodes.{is_block, is_node, kind_of, is_planar, of_entry, lock_codes, Silently, ChangeStep}
+use Rattle.pair_split.specs.Kinds.{is_bond}
 use Rattle.spqr_session.specs.declared.code.Code.TheVariants.{NoBlock, NoNode, WrongKind, BadOrder, NonPlanar}
 
 -- whether a list is an arrangement of others, all different: no member twice, each among those given, and as many

@@ -2,7 +2,8 @@
 ghost use Rattle.std.specs.Prelude.{◌≡◌, ◌<◌, map, IfOk, OnErr};
 ghost use Rattle.spqr_session.specs.State.{State};
 ghost use Rattle.spqr_session.specs.Embedded.{view_tree};
-ghost use Rattle.spqr_session.specs.BlockCodes.{has_choices, node_codes, node_ladder};
+ghost use Rattle.spqr_session.specs.BlockCodes.{node_codes, node_ladder};
+ghost use Rattle.pair_split.specs.Kinds.{has_choices};
 ghost use Rattle.spqr_session.specs.Board.{family_on, board_state, IsCarried};
 ghost use Rattle.spqr_session.specs.Planned.{IsVerdict};
 ghost use Rattle.spqr_session.specs.Commands.Lock.{LockStep};

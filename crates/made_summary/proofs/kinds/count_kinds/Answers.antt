@@ -1,7 +1,7 @@
 use Rattle.std.proofs.Common.{arith}
 use Rattle.permutations.proofs.Count.{count-within}
 use Rattle.pair_split.specs.Tutte.{node_at}
-use Rattle.made_summary.specs.Kinds.{is_polygon, is_bond, is_rigid}
+use Rattle.pair_split.specs.Kinds.{is_polygon, is_bond, is_rigid}
 use Rattle.made_summary.proofs.kinds.count_kinds.Goals as goal
 
 pub overflow_add-polygons : goal.overflow_add-polygons

@@ -1,5 +1,6 @@
 use Rattle.std.proofs.Common.{◌≡◌}
-use Rattle.made_summary.specs.Kinds.{is_polygon, is_bond, is_rigid, nodes_below}
+use Rattle.made_summary.specs.Kinds.{nodes_below}
+use Rattle.pair_split.specs.Kinds.{is_polygon, is_bond, is_rigid}
 use Rattle.made_summary.proofs.kinds.count_kinds.Given as goal
 
 abbrev pub invariant-loop-k : goal.invariant-loop-k

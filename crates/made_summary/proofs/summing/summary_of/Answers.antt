@@ -2,7 +2,8 @@ use Rattle.std.proofs.Common.{◌≡◌, [], length, slice_index_or, refl, sym, 
 use Rattle.std.proofs.lemmas.Result.{IfOk-weaker}
 use Rattle.multigraph.specs.Graph.{Multigraph, edge_count}
 use Rattle.skeletons.specs.Choices.{choice}
-use Rattle.made_summary.specs.Kinds.{is_polygon, is_bond, is_rigid, nodes_of, NoneHasChoices, IsLeastWithChoices}
+use Rattle.made_summary.specs.Kinds.{nodes_of, NoneHasChoices, IsLeastWithChoices}
+use Rattle.pair_split.specs.Kinds.{is_polygon, is_bond, is_rigid}
 use Rattle.made_summary.proofs.SomeChoices.{no-fork}
 use Rattle.made_summary.proofs.FirstAndLast.{all, all-full, all-members, first-there, last, last-is, last-choice}
 use Rattle.made_summary.proofs.Lines.{summary-is}

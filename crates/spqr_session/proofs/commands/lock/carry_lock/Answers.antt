@@ -2,7 +2,8 @@ use Rattle.std.proofs.Common.{◌≡◌, ℕ, List, map, None, Some, Option, ref
 use Rattle.spqr_session.specs.State.{State}
 use Rattle.spqr_session.specs.Embedded.{BlockView, view_tree}
 use Rattle.spqr_session.specs.Codes.{code_text}
-use Rattle.spqr_session.specs.BlockCodes.{has_choices, node_ladder}
+use Rattle.spqr_session.specs.BlockCodes.{node_ladder}
+use Rattle.pair_split.specs.Kinds.{has_choices}
 use Rattle.spqr_session.specs.Planned.{IsVerdict}
 use Rattle.spqr_session.specs.declared.code.Code.{Code}
 use Rattle.spqr_session.specs.Board.{BoardView, family_on, board_state, IsCarried}
