@@ -62,7 +62,7 @@ module _ (g : Multigraph) (nodes : List Node) (t : IsTutte g nodes) (none : None
         let r = t.split.linked.tree.root_in in
         elim (kind-in k l) [
           | inl a ↦ elim (kind-in (t.split.linked.tree.parent k) p) [
-            | inl b ↦ absurd (t.no_polygons_joined k (t.split.linked.tree.parent k) (t.split.linked.tree.to_parent k l n) a b)
+            | inl b ↦ absurd (t.no_polygons_joined k (t.split.linked.tree.parent k) (t.split.linked.tree.to_parent k l n) (node-kind nodes k ∙ a) (node-kind nodes (t.split.linked.tree.parent k) ∙ b))
             | inr b ↦ let s = alone (t.split.linked.tree.parent k) p b in omega (arith, s, l, r)
           ]
           | inr a ↦ let s = alone k l a in omega (arith, s, l, r)

@@ -7,7 +7,7 @@ use Rattle.pair_split.specs.Family.{Entry, has_end}
 use Rattle.pair_split.specs.Edges.{graph_entry, entry_ends, family_skeleton}
 use Rattle.pair_split.specs.Skeleton.{is_end_of, is_vertex, IsSkeleton}
 use Rattle.pair_split.specs.Split.{component_at, items_of, item_at, piece_ends, skeleton, StandsFor, is_beyond, side, AreLinked, AreOfKind, CoversOnce, SidesMeetInEnds, IsSplit}
-use Rattle.pair_split.specs.State.{SplitState, part_at, own_at, layer, family_at, IsBeyond, IsWrittenIn, AreComponents, IsSplitState}
+use Rattle.pair_split.specs.State.{SplitState, part_at, own_at, layer, family_at, IsBeyond, IsWrittenIn, AreSplitComponents, IsSplitState}
 use Rattle.pair_split.specs.declared.components.Kind.{Kind}
 use Rattle.pair_split.specs.declared.components.Kind.TheVariants.{B}
 use Rattle.pair_split.specs.declared.components.What.TheVariants.{Real}
@@ -38,7 +38,7 @@ item-vertex [] i v l h = absurd (omega (arith, l))
 item-vertex (piece ∷ pieces) zero v l h = or_left (is_end_of v (piece_ends piece)) (is_vertex (map piece_ends pieces) v) h
 item-vertex (piece ∷ pieces) (suc i) v l h = or_right (is_end_of v (piece_ends piece)) (is_vertex (map piece_ends pieces) v) (item-vertex pieces i v (omega (arith, l)) h)
 
-module _ (g : Multigraph) (state : SplitState) (s : IsSplitState g state) (kind : Kind) (comps : List Comp) (w : AreComponents (edge_count g) state kind comps) where
+module _ (g : Multigraph) (state : SplitState) (s : IsSplitState g state) (kind : Kind) (comps : List Comp) (w : AreSplitComponents (edge_count g) state kind comps) where
   -- the number of the last component
   abbrev r : ℕ
   r = length state.parts

@@ -9,7 +9,7 @@ use Rattle.pair_split.specs.Edges.{graph_entry, graph_family, entry_ends, family
 use Rattle.graph_theory.specs.Block.{IsOneBlock}
 use Rattle.pair_split.specs.Skeleton.{SameEnds, IsSkeleton}
 use Rattle.pair_split.specs.Split.{IsSplit}
-use Rattle.pair_split.specs.State.{start_state, AreComponents}
+use Rattle.pair_split.specs.State.{start_state, AreSplitComponents}
 use Rattle.pair_split.specs.declared.components.Kind.TheVariants.{B}
 use Rattle.pair_split.specs.declared.components.Comp.{Comp}
 use Rattle.pair_split.proofs.Elements.{map-contains}
@@ -67,5 +67,5 @@ module _ (g : Multigraph) (graph : IsGraph g) (block : IsOneBlock g) (few : edge
           subst P (ap entry_ends e.2 ∙ x.2) (h e.0 e.1))
 
   -- the single component of a block of one or two edges is a split component
-  pub small-split : (comps : List Comp) → AreComponents (edge_count g) (start_state g) B comps → IsSplit g comps
+  pub small-split : (comps : List Comp) → AreSplitComponents (edge_count g) (start_state g) B comps → IsSplit g comps
   small-split comps w = state-end g (start_state g) (state-start g graph) B comps w block.at_edge small-skeleton (λ q. refl)

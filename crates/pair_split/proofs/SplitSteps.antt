@@ -12,7 +12,7 @@ use Rattle.graph_theory.specs.Block.{IsOneBlock}
 use Rattle.pair_split.specs.Skeleton.{IsSkeleton}
 use Rattle.pair_split.specs.Bridges.{entry_of, family_of, HaveEndsBelow, HaveNamesBelow, marked}
 use Rattle.pair_split.specs.Search.{IsSearchable, IsMinimalSide}
-use Rattle.pair_split.specs.State.{Part, SplitState, split_off, start_state, IsSplitState, AreComponents}
+use Rattle.pair_split.specs.State.{Part, SplitState, split_off, start_state, IsSplitState, AreSplitComponents}
 use Rattle.pair_split.specs.Split.{IsSplit}
 use Rattle.pair_split.specs.Splitting.{part_of, state_of, IsSplitting}
 use Rattle.pair_split.specs.declared.family.NamedEdge.{NamedEdge}
@@ -171,8 +171,8 @@ pub rest-length : (edges : List NamedEdge) → 3 ≤ length edges → 2 ≤ leng
 rest-length edges l = omega (arith, l, ap length (first-rest edges l), length-map edges entry_of, length-map (take (length edges - 1) (drop 1 edges)) entry_of)
 
 -- the components of the start of a block of one edge or two are split components
-pub start-split : (g : Multigraph) → IsGraph g → IsOneBlock g → edge_count g ≤ 2 → (parts : List Finished) (current : List NamedEdge) → parts ≡ [] → family_of current ≡ graph_family g → (comps : List Comp) → AreComponents (edge_count g) (state_of parts current) B comps → IsSplit g comps
-start-split g graph block few parts current none all comps w = small-split g graph block few comps (subst (λ (st : SplitState). AreComponents (edge_count g) st B comps) (λ i. record { parts = map part_of (none i); current = all i }) w)
+pub start-split : (g : Multigraph) → IsGraph g → IsOneBlock g → edge_count g ≤ 2 → (parts : List Finished) (current : List NamedEdge) → parts ≡ [] → family_of current ≡ graph_family g → (comps : List Comp) → AreSplitComponents (edge_count g) (state_of parts current) B comps → IsSplit g comps
+start-split g graph block few parts current none all comps w = small-split g graph block few comps (subst (λ (st : SplitState). AreSplitComponents (edge_count g) st B comps) (λ i. record { parts = map part_of (none i); current = all i }) w)
 
 -- one more edge of the graph
 pub graph-pushed : (g : Multigraph) (e first second : ℕ) (edges now : List NamedEdge) → (first, second) ≡ ends_of g e → now ≡ edges ++ record { name = e; first = first; second = second } ∷ [] → family_of edges ≡ map (graph_entry g) (numbers_below e) → family_of now ≡ map (graph_entry g) (numbers_below (e + 1))

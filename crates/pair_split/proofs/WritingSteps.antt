@@ -8,7 +8,7 @@ use Rattle.pair_split.specs.Family.{Entry}
 use Rattle.pair_split.specs.Edges.{entry_ends}
 use Rattle.pair_split.specs.Bridges.{entry_of, family_of, HaveNamesBelow}
 use Rattle.pair_split.specs.Split.{piece_ends, component_at, items_of}
-use Rattle.pair_split.specs.State.{Part, SplitState, part_at, own_at, layer, family_at, IsWrittenIn, AreWritten, AreComponents, IsSplitState}
+use Rattle.pair_split.specs.State.{Part, SplitState, part_at, own_at, layer, family_at, IsWrittenIn, AreWritten, AreSplitComponents, IsSplitState}
 use Rattle.pair_split.specs.Splitting.{part_of, state_of}
 use Rattle.pair_split.specs.Writing.{IsListed, AreUps, HavePartNamesBelow, finished_at, ArePartsWritten}
 use Rattle.pair_split.specs.declared.family.NamedEdge.{NamedEdge}
@@ -138,7 +138,7 @@ module _ (m : ℕ) (parts : List Finished) (current : List NamedEdge) (listed : 
     -- the components of the state, once its parts and its current family are written out
     pub all-written : (kind : Kind) (comps : List Comp) (last : Comp) → ArePartsWritten m parts ups (length parts) comps → last.kind ≡ kind
         → IsLastWritten m current ups (length parts) last
-        → AreComponents m state kind (comps ++ last ∷ [])
+        → AreSplitComponents m state kind (comps ++ last ∷ [])
     all-written kind comps last w k h = record {
       number = omega (arith, length-append comps (last ∷ []), w.number, length-map parts part_of);
       last_kind = ap (λ (comp : Comp). comp.kind) (at-last (length (map part_of parts)) (length-map parts part_of)) ∙ k;

@@ -10,7 +10,7 @@ use Rattle.pair_split.specs.Family.{Entry, names}
 use Rattle.pair_split.specs.Edges.{entry_ends, family_skeleton}
 use Rattle.pair_split.specs.Skeleton.{SameEnds}
 use Rattle.pair_split.specs.Split.{component_at, items_of, item_at, piece_ends, StandsFor, IsTree, AreLinked}
-use Rattle.pair_split.specs.State.{SplitState, own_at, layer, family_at, IsWrittenIn, AreWritten, AreComponents, IsSplitState}
+use Rattle.pair_split.specs.State.{SplitState, own_at, layer, family_at, IsWrittenIn, AreWritten, AreSplitComponents, IsSplitState}
 use Rattle.pair_split.specs.declared.components.Kind.{Kind}
 use Rattle.pair_split.specs.declared.components.What.{What}
 use Rattle.pair_split.specs.declared.components.What.TheVariants.{Real, Link}
@@ -63,7 +63,7 @@ written-own : (m : ℕ) (state : SplitState) (k : ℕ) (entry : Entry) (what : W
 written-own m state k entry (Real e) w n = absurd (omega (arith, w.0, w.1, n))
 written-own m state k entry (Link j) w n = elim w [ inl h ↦ absurd (h.1 (omega (arith, h.0, n))) | inr h ↦ (j, refl, h.1) ]
 
-module _ (g : Multigraph) (state : SplitState) (s : IsSplitState g state) (kind : Kind) (comps : List Comp) (w : AreComponents (edge_count g) state kind comps) where
+module _ (g : Multigraph) (state : SplitState) (s : IsSplitState g state) (kind : Kind) (comps : List Comp) (w : AreSplitComponents (edge_count g) state kind comps) where
   -- the number of the last component
   abbrev r : ℕ
   r = length state.parts

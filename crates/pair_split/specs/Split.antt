@@ -6,6 +6,7 @@ use Rattle.permutations.specs.Relation.{connected}
 use Rattle.multigraph.specs.Graph.{Multigraph, edge_count, ends_of}
 use Rattle.graph_theory.specs.Side.{IsCommon}
 use Rattle.pair_split.specs.Skeleton.{is_end_of, SameEnds, is_vertex, IsSkeleton}
+use Rattle.pair_split.specs.declared.components.Kind.{Kind}
 use Rattle.pair_split.specs.declared.components.Kind.TheVariants.{B}
 use Rattle.pair_split.specs.declared.components.What.{What}
 use Rattle.pair_split.specs.declared.components.What.TheVariants.{Real, Link}
@@ -81,6 +82,10 @@ pub record AreOfKind (comps : List Comp) : Type 0 where
 -- component k has a link to component j
 abbrev pub LinksTo : List Comp → ℕ → ℕ → Type 0
 LinksTo comps k j = (i : ℕ) × StandsFor comps k i (Link j)
+
+-- no link joins two components that are both of this kind
+abbrev pub NoneLinked : Kind → List Comp → Type 0
+NoneLinked kind comps = (k j : ℕ) → LinksTo comps k j → (component_at comps k).kind ≡ kind → (component_at comps j).kind ≡ kind → ⊥
 
 -- the links form a tree on the components: there are a root, for each other component a parent, and a rank that is smaller
 -- at the parent, such that the linked pairs are just the pairs of a component and its parent

@@ -101,7 +101,7 @@ AreWritten m state k (entry ∷ entries) [] = ⊥
 AreWritten m state k (entry ∷ entries) (piece ∷ pieces) = ((piece_ends piece ≡ entry_ends entry) × IsWrittenIn m state k entry piece.what) × AreWritten m state k entries pieces
 
 -- these are the components of the state, the current family being the last one and of this kind
-pub record AreComponents (m : ℕ) (state : SplitState) (kind : Kind) (comps : List Comp) : Type 0 where
+pub record AreSplitComponents (m : ℕ) (state : SplitState) (kind : Kind) (comps : List Comp) : Type 0 where
   pub number : length comps ≡ length state.parts + 1
   pub last_kind : (component_at comps (length state.parts)).kind ≡ kind
   pub kinds : (k : ℕ) → k < length state.parts → (component_at comps k).kind ≡ (part_at state k).kind

@@ -62,10 +62,6 @@ is_before [] (y ∷ ys) = true
 is_before (x ∷ xs) [] = false
 is_before (x ∷ xs) (y ∷ ys) = nat_lt x y || ((x == y) && is_before xs ys)
 
--- no link joins two nodes that are both of this kind
-abbrev pub NoneJoined : Kind → List Node → Type 0
-NoneJoined kind nodes = (k j : ℕ) → LinksTo (components nodes) k j → (node_at nodes k).kind ≡ kind → (node_at nodes j).kind ≡ kind → ⊥
-
 -- the order of nodes, vertices and items: the vertices of a node are the ends of its items, and rise; nodes are in
 -- lexicographic order of their vertices; each item has the lesser end first, and its key, and the keys of a node rise
 pub record IsInOrder (g : Multigraph) (nodes : List Node) : Type 0 where
@@ -80,6 +76,6 @@ pub record IsInOrder (g : Multigraph) (nodes : List Node) : Type 0 where
 -- order
 pub record IsTutte (g : Multigraph) (nodes : List Node) : Type 0 where
   pub split : IsSplit g (components nodes)
-  pub no_polygons_joined : NoneJoined S nodes
-  pub no_bonds_joined : NoneJoined P nodes
+  pub no_polygons_joined : NoneLinked S (components nodes)
+  pub no_bonds_joined : NoneLinked P (components nodes)
   pub in_order : IsInOrder g nodes

@@ -5,7 +5,7 @@ ghost use Rattle.multigraph.specs.Graph.{edge_count};
 ghost use Rattle.graph_theory.specs.Block.{IsOneBlock};
 ghost use Rattle.pair_split.specs.Family.{IsPrime};
 ghost use Rattle.pair_split.specs.Split.{IsSplit};
-ghost use Rattle.pair_split.specs.State.{IsSplitState, AreComponents};
+ghost use Rattle.pair_split.specs.State.{IsSplitState, AreSplitComponents};
 ghost use Rattle.pair_split.specs.Bridges.{family_of};
 ghost use Rattle.pair_split.specs.Splitting.{state_of, IsSplitting};
 
@@ -35,7 +35,7 @@ fn write_state<L: Ledger>(
     requires state { IsSplitState g.now
         (state_of splitting.now.parts.items splitting.now.current.items) }
     requires few { length splitting.now.parts.items ≤ edge_count g.now }
-    ensures { IfOk result (λ comps. AreComponents (edge_count g.now)
+    ensures { IfOk result (λ comps. AreSplitComponents (edge_count g.now)
         (state_of splitting.now.parts.items splitting.now.current.items) kind comps.list) }
 {
     write_components(

@@ -3,7 +3,7 @@
 ghost use Rattle.std.specs.Prelude.{◌≡◌, ◌+◌, ◌*◌, ◌<◌, ◌≤◌, ◌^◌, ◌∷◌, [], ℕ, length, IfOk, slice_index_or, Contains};
 ghost use Rattle.pair_split.specs.Family.{Entry};
 ghost use Rattle.pair_split.specs.Bridges.{entry_of, family_of, HaveNamesBelow};
-ghost use Rattle.pair_split.specs.State.{SplitState, IsWrittenIn, AreWritten, AreComponents};
+ghost use Rattle.pair_split.specs.State.{SplitState, IsWrittenIn, AreWritten, AreSplitComponents};
 ghost use Rattle.pair_split.specs.Splitting.{state_of};
 ghost use Rattle.pair_split.specs.Writing.{IsListed, AreUps, IsLayerNoted, IsNotedFor, AreWrittenBehind, HavePartNamesBelow, ArePartsWritten, entry_total, finished_family};
 
@@ -238,7 +238,7 @@ pub fn write_components<L: Ledger>(
 ) -> Result<Comps, AllocError>
     requires listed { IsListed m (state_of parts.now current.now) }
     requires few { m + length parts.now < 2 ^ 32 }
-    ensures components { IfOk result (λ comps. AreComponents m
+    ensures components { IfOk result (λ comps. AreSplitComponents m
         (state_of parts.now current.now) kind comps.list) }
     ensures cost { IfOk result (λ _. steps.new ≡ steps.old
         + 2 * (length parts.now + entry_total parts.now + length current.now)) }

@@ -68,7 +68,7 @@ module _ (g : Multigraph) (nodes : List Node) (r : List (List ℕ)) (b : IsBlock
 
   -- two linked components are not both bonds
   linked-bonds : (k j : ℕ) → LinksTo comps k j → (component_at comps k).kind ≡ P → (component_at comps j).kind ≢ P
-  linked-bonds k j l x y = tree.no_bonds_joined k j l (sym (node-kind nodes k) ∙ x) (sym (node-kind nodes j) ∙ y)
+  linked-bonds k j l x y = tree.no_bonds_joined k j l x y
 
   -- a vertex of the graph that is an end of item i of component k, and four edges round it
   module _ (k i v a c d f : ℕ) (k_in : k < length comps) (i_in : i < length (items_of comps k)) (v_in : v < g.vertex_count) (end : is_end_of v (piece_ends (item_at comps k i)) ≡ true)

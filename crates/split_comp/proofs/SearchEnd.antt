@@ -9,7 +9,7 @@ use Rattle.pair_split.specs.Family.{Entry, IsFamily, IsPrime}
 use Rattle.pair_split.specs.Edges.{graph_entry, graph_family, family_skeleton}
 use Rattle.pair_split.specs.Skeleton.{IsSkeleton}
 use Rattle.pair_split.specs.Split.{IsSplit}
-use Rattle.pair_split.specs.State.{IsSplitState, AreComponents}
+use Rattle.pair_split.specs.State.{IsSplitState, AreSplitComponents}
 use Rattle.pair_split.specs.Splitting.{part_of, state_of}
 use Rattle.pair_split.specs.Bridges.{entry_of, family_of}
 use Rattle.pair_split.specs.Writing.{IsListed, entry_total}
@@ -90,7 +90,7 @@ module _ (g : Multigraph) (t : NumberedTree) (numbered : IsNumbered g t) (s : Pa
   pub left-items : length s.items ≤ edge_count g
   left-items = omega (arith, p.held.few, left-total, left-length)
 
-  pub left-split : (kind : Kind) (comps : List Comp) → IsSkeleton kind (family_skeleton (family_of edges)) → kind ≢ B → AreComponents (edge_count g) (state_of s.parts edges) kind comps → IsSplit g comps
+  pub left-split : (kind : Kind) (comps : List Comp) → IsSkeleton kind (family_skeleton (family_of edges)) → kind ≢ B → AreSplitComponents (edge_count g) (state_of s.parts edges) kind comps → IsSplit g comps
   left-split kind comps skeleton large w = state-end g (state_of s.parts edges) state kind comps w numbered.block.at_edge skeleton (λ e. absurd (large e))
 
 -- a block of one edge or two
@@ -104,5 +104,5 @@ module _ (g : Multigraph) (graph : IsGraph g) (block : IsOneBlock g) (small : ed
   pub small-cost : 2 * (length parts + entry_total parts + length edges) ≡ 2 * edge_count g
   small-cost = omega (arith, ap length none, ap entry_total none, length-map edges entry_of, ap length all, length-map (numbers_below (edge_count g)) (graph_entry g), length-numbers_below (edge_count g))
 
-  pub small-split : (comps : List Comp) → AreComponents (edge_count g) (state_of parts edges) B comps → IsSplit g comps
+  pub small-split : (comps : List Comp) → AreSplitComponents (edge_count g) (state_of parts edges) B comps → IsSplit g comps
   small-split comps w = start-split g graph block (omega (arith, small)) parts edges none all comps w

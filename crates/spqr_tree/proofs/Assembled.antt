@@ -9,8 +9,8 @@ use Rattle.skeletons.proofs.Before.{before-transitive}
 use Rattle.multigraph.specs.Graph.{Multigraph, edge_count}
 use Rattle.multigraph.specs.Part.{Rises}
 use Rattle.pair_split.specs.Skeleton.{is_end_of, is_vertex}
-use Rattle.pair_split.specs.Split.{component_at, items_of, item_at, piece_ends, side, skeleton, LinksTo, IsSplit}
-use Rattle.pair_split.specs.Tutte.{Node, piece_of, components, node_at, node_item, key_of, is_before, NoneJoined, IsInOrder, IsTutte}
+use Rattle.pair_split.specs.Split.{component_at, items_of, item_at, piece_ends, side, skeleton, LinksTo, IsSplit, NoneLinked}
+use Rattle.pair_split.specs.Tutte.{Node, piece_of, components, node_at, node_item, key_of, is_before, IsInOrder, IsTutte}
 use Rattle.pair_split.specs.declared.components.Kind.{Kind}
 use Rattle.pair_split.specs.declared.components.Kind.TheVariants.{S, P, B}
 use Rattle.pair_split.specs.declared.components.What.{What}
@@ -86,10 +86,10 @@ module _ (g : Multigraph) (comps : List Comp) (ranks : List Rank) (a : IsArrange
   split : IsSplit g others
   split = rearranged-split g comps (λ x. x) (λ x. x) comps others a.split grouped rearranged
 
-  none-joined : (kind : Kind) → ((k j : ℕ) → LinksTo comps k j → (component_at comps k).kind ≡ kind → (component_at comps j).kind ≡ kind → ⊥) → NoneJoined kind nodes
+  none-joined : (kind : Kind) → NoneLinked kind comps → NoneLinked kind others
   none-joined kind h k j s e f =
       let l = same-link_to others comps same-pieces k j s in
-      h k j l (sym (same-kind k (link-from comps a.split.linked k j l)) ∙ e) (sym (same-kind j (link-in comps a.split.linked k j l)) ∙ f)
+      h k j l (sym (rearranged.kinds k (link-from comps a.split.linked k j l)) ∙ e) (sym (rearranged.kinds j (link-in comps a.split.linked k j l)) ∙ f)
 
   in-comps : (k : ℕ) → k < length nodes → k < length comps
   in-comps k l = subst (λ z. k < z) n.number l

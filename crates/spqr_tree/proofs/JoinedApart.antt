@@ -1,17 +1,15 @@
 -- When all components are in groups, no two groups of polygons and no two groups of bonds are linked.
-use Rattle.std.proofs.Common.{◌≡◌, ◌≢◌, ℕ, ◌<◌, ◌≤◌, ◌⊎◌, List, [], length, map, slice_index_or, refl, sym, ap, ◌∙◌, subst, arith}
-use Rattle.std.proofs.Math.ListN.{get_or-map}
+use Rattle.std.proofs.Common.{◌≡◌, ◌≢◌, ℕ, ◌<◌, ◌≤◌, ◌⊎◌, List, length, slice_index_or, refl, sym, ap, ◌∙◌, subst, arith}
 use Rattle.multigraph.specs.Graph.{Multigraph}
-use Rattle.pair_split.specs.Split.{component_at, items_of, item_at, StandsFor, LinksTo, IsSplit}
-use Rattle.pair_split.specs.Tutte.{Node, piece_of, components, node_at, NoneJoined}
+use Rattle.pair_split.specs.Split.{component_at, items_of, item_at, StandsFor, IsSplit, NoneLinked}
 use Rattle.pair_split.specs.declared.components.Kind.{Kind}
-use Rattle.pair_split.specs.declared.components.Kind.TheVariants.{S, P, B}
+use Rattle.pair_split.specs.declared.components.Kind.TheVariants.{S, P}
 use Rattle.pair_split.specs.declared.components.What.TheVariants.{Link}
 use Rattle.pair_split.specs.declared.components.Piece.{Piece}
 use Rattle.pair_split.specs.declared.components.Comp.{Comp}
 use Rattle.pair_split.proofs.Links.{no_piece, stands-in}
 use Rattle.pair_split.proofs.Subtrees.{link-in}
-use Rattle.spqr_tree.specs.Merged.{IsGroup, NoneAlike, AreGroups, AreRearranged}
+use Rattle.spqr_tree.specs.Merged.{IsGroup, IsMerged, NoneAlike, AreGroups, AreRearranged}
 use Rattle.spqr_tree.proofs.MergeCounts.{number-some, gathered-from}
 use Rattle.spqr_tree.proofs.JoinedMerging.{is_link, is_link-true, link-is, link-outer, outer-link}
 use Rattle.spqr_tree.proofs.JoinedGrows.{like-parts, piece-home}
@@ -48,7 +46,7 @@ module _ (g : Multigraph) (comps : List Comp) (split : IsSplit g comps) (lead : 
   -- no two groups of this kind, numbered and written in another order, are linked
   module _ (π : ℕ → ℕ) (groups others : List Comp) (grouped : AreGroups comps lead groups) (r : AreRearranged lead π groups others)
       (apart : (k : ℕ) → k < length groups → NoneAlike comps (component_at groups k).kind (items_of groups k)) where
-    pub others-apart : (kind : Kind) → (kind ≡ S) ⊎ (kind ≡ P) → (h j : ℕ) → LinksTo others h j → (component_at others h).kind ≡ kind → (component_at others j).kind ≡ kind → ⊥
+    pub others-apart : (kind : Kind) → IsMerged kind → NoneLinked kind others
     others-apart kind alike h j s e f =
         let o = link-origin g comps split (placed comps split.linked lead π groups others grouped r) others (rearranged-contraction comps split.linked lead π groups others grouped r) h s.0 j s.1 in
         let x-in = stands-in comps o.near o.place (Link o.far) o.stands in
@@ -59,14 +57,4 @@ module _ (g : Multigraph) (comps : List Comp) (split : IsSplit g comps) (lead : 
         let group = grouped.each (lead o.near) k-in in
         let same : (component_at groups (lead o.near)).kind ≡ kind = sym (group.kinds o.near x-in refl) ∙ own o.near x-in h o.near_led e in
         let w = group-link (lead o.near) (component_at groups (lead o.near)).kind (items_of groups (lead o.near)) group o.near o.place o.far o.stands refl (λ z. o.differ (ap π (sym z))) in
-        apart (lead o.near) k-in w.0 o.far w.1 w.2 (subst (λ z. (z ≡ S) ⊎ (z ≡ P)) (sym same) alike) (own o.far y-in j o.far_led f ∙ sym same)
-
-    -- the same of nodes
-    pub none-joined : (nodes : List Node) → components nodes ≡ others → (kind : Kind) → (kind ≡ S) ⊎ (kind ≡ P) → NoneJoined kind nodes
-    none-joined nodes q kind alike k j s e f = others-apart kind alike k j (subst (λ (l : List Comp). LinksTo l k j) q s) (node-kind k e) (node-kind j f)
-      where
-        as-component : Node → Comp
-        as-component node = record { kind = node.kind; items = map piece_of node.items }
-
-        node-kind : (h : ℕ) → (node_at nodes h).kind ≡ kind → (component_at others h).kind ≡ kind
-        node-kind h e = subst (λ (l : List Comp). (component_at l h).kind ≡ kind) q (ap (λ (c : Comp). c.kind) (get_or-map (λ (node : Node). as-component node) nodes h (record { kind = B; vertices = []; items = [] })) ∙ e)
+        apart (lead o.near) k-in w.0 o.far w.1 w.2 (subst IsMerged (sym same) alike) (own o.far y-in j o.far_led f ∙ sym same)

@@ -12,7 +12,7 @@ use Rattle.pair_split.proofs.GraphFamily.{one_block-tight}
 use Rattle.multigraph.specs.Graph.{Multigraph}
 use Rattle.pair_split.specs.declared.components.Comp.{Comp}
 use Rattle.spqr_tree.specs.Ranking.{Rank, rank_of, ranks_of, rank_at}
-use Rattle.spqr_tree.specs.Assembly.{IsArranged, IsNodeOf, AreNodes}
+use Rattle.spqr_tree.specs.Assembly.{IsArranged, IsMadeOf, AreNodes}
 use Rattle.spqr_tree.proofs.Assembled.{same-pieces, item-is, item-in, node-in, assembled}
 use Rattle.spqr_tree.proofs.SameCounts.{same-link_to}
 use Rattle.spqr_tree.proofs.KeysRooted.{rooted-key}
@@ -31,18 +31,18 @@ rank-is ranks k entry vertices l v = v ∙ ap (λ (r : Rank). r.0) (sym (get_or-
 -- the nodes so far are right
 abbrev pub AreMade : List Comp → List (Vec ℕ Global × ℕ) → List ℕ → List ℕ → List Node → ℕ → Type 0
 AreMade comps ranks parents noted nodes n =
-    (length nodes ≡ n) × ((k : ℕ) → k < length nodes → IsNodeOf (component_at comps k) (rank_at (ranks_of ranks) k).0 (node_at nodes k)) × (HaveKeys parents noted nodes)
+    (length nodes ≡ n) × ((k : ℕ) → k < length nodes → IsMadeOf (component_at comps k) (rank_at (ranks_of ranks) k).0 (node_at nodes k)) × (HaveKeys parents noted nodes)
 
 -- one node more
 pub made-more : (comps : List Comp) (ranks : List (Vec ℕ Global × ℕ)) (parents noted : List ℕ) (nodes new : List Node) (node : Node) (n : ℕ) (comp : Comp) (vertices : List ℕ)
-    → AreMade comps ranks parents noted nodes n → new ≡ nodes ++ node ∷ [] → comp ≡ component_at comps n → vertices ≡ (rank_at (ranks_of ranks) n).0 → IsNodeOf comp vertices node
+    → AreMade comps ranks parents noted nodes n → new ≡ nodes ++ node ∷ [] → comp ≡ component_at comps n → vertices ≡ (rank_at (ranks_of ranks) n).0 → IsMadeOf comp vertices node
     → ((i : ℕ) → i < length node.items → (nth_item node.items i).key ≡ link_key (parent_at parents n) noted (nth_item node.items i).what) → AreMade comps ranks parents noted new (n + 1)
 made-more comps ranks parents noted nodes new node n comp vertices made e is at right keys = (
   ap length e ∙ length-append nodes (node ∷ []) ∙ ap (λ m. m + 1) made.0,
   λ k l. elim (place k l) [
-    | inl b ↦ subst (IsNodeOf (component_at comps k) (rank_at (ranks_of ranks) k).0) (sym (old k b)) (made.1 k b)
-    | inr q ↦ subst (λ m. IsNodeOf (component_at comps m) (rank_at (ranks_of ranks) m).0 (node_at new m)) (sym (q ∙ made.0))
-        (subst (IsNodeOf (component_at comps n) (rank_at (ranks_of ranks) n).0) (sym last) (subst (λ (c : Comp). IsNodeOf c (rank_at (ranks_of ranks) n).0 node) is (subst (λ (v : List ℕ). IsNodeOf comp v node) at right)))
+    | inl b ↦ subst (IsMadeOf (component_at comps k) (rank_at (ranks_of ranks) k).0) (sym (old k b)) (made.1 k b)
+    | inr q ↦ subst (λ m. IsMadeOf (component_at comps m) (rank_at (ranks_of ranks) m).0 (node_at new m)) (sym (q ∙ made.0))
+        (subst (IsMadeOf (component_at comps n) (rank_at (ranks_of ranks) n).0) (sym last) (subst (λ (c : Comp). IsMadeOf c (rank_at (ranks_of ranks) n).0 node) is (subst (λ (v : List ℕ). IsMadeOf comp v node) at right)))
   ],
   λ k i l. elim (place k l) [
     | inl b ↦ subst (λ (z : Node). i < length z.items → (nth_item z.items i).key ≡ link_key (parent_at parents k) noted (nth_item z.items i).what) (sym (old k b)) (made.2 k i b)

@@ -6,7 +6,7 @@ use Rattle.multigraph.specs.Graph.{Multigraph}
 use Rattle.pair_split.specs.Edges.{graph_family}
 use Rattle.pair_split.specs.Family.{IsTight}
 use Rattle.pair_split.specs.Skeleton.{is_end_of, SameEnds, is_vertex, IsPolygon, IsOfKind, HasVertices}
-use Rattle.pair_split.specs.Split.{component_at, items_of, item_at, piece_ends, skeleton, StandsFor, is_beyond, LinksTo, IsSplit}
+use Rattle.pair_split.specs.Split.{component_at, items_of, item_at, piece_ends, skeleton, StandsFor, is_beyond, LinksTo, IsSplit, NoneLinked}
 use Rattle.pair_split.specs.declared.components.Comp.{Comp}
 use Rattle.pair_split.specs.declared.components.Kind.{Kind}
 use Rattle.pair_split.specs.declared.components.Kind.TheVariants.{S, P, R, B}
@@ -130,8 +130,7 @@ polygon-simple skel ends i j p li lj n there from_i from_j = let t = three-verti
 
 -- split components, of which no two polygons and no two bonds are linked
 module _ (g : Multigraph) (comps : List Comp) (split : IsSplit g comps) (tight : IsTight (graph_family g))
-    (no_polygons : (k j : ℕ) → LinksTo comps k j → (component_at comps k).kind ≡ S → (component_at comps j).kind ≡ S → ⊥)
-    (no_bonds : (k j : ℕ) → LinksTo comps k j → (component_at comps k).kind ≡ P → (component_at comps j).kind ≡ P → ⊥) where
+    (no_polygons : NoneLinked S comps) (no_bonds : NoneLinked P comps) where
   -- the ends of an item, in the skeleton
   ends-at : (k i : ℕ) → i < length (items_of comps k) → slice_index_or (skeleton comps k) i (0, 0) ≡ piece_ends (item_at comps k i)
   ends-at k i l = get_or-map piece_ends (items_of comps k) i (record { a = 0; b = 0; what = Real 0 }) (0, 0) l

@@ -39,10 +39,14 @@ pub record IsGroup (comps : List Comp) (lead : ℕ → ℕ) (k : ℕ) (kind : Ki
   pub gathers : (t : Piece → Bool) → how_many t pieces ≡ gathered comps lead k t
   pub of_kind : IsSkeleton kind (map piece_ends pieces)
 
+-- components of this kind are merged where links join them
+abbrev pub IsMerged : Kind → Type 0
+IsMerged kind = (kind ≡ S) ⊎ (kind ≡ P)
+
 -- no piece of a group of polygons or of bonds is a link to a component of its kind: nothing more can be put into it
 abbrev pub NoneAlike : List Comp → Kind → List Piece → Type 0
 NoneAlike comps kind pieces =
-    (i d : ℕ) → i < length pieces → (slice_index_or pieces i (record { a = 0; b = 0; what = Real 0 })).what ≡ Link d → (kind ≡ S) ⊎ (kind ≡ P) → (component_at comps d).kind ≢ kind
+    (i d : ℕ) → i < length pieces → (slice_index_or pieces i (record { a = 0; b = 0; what = Real 0 })).what ≡ Link d → IsMerged kind → (component_at comps d).kind ≢ kind
 
 -- each component is in one of the groups
 pub record AreGroups (comps : List Comp) (lead : ℕ → ℕ) (groups : List Comp) : Type 0 where

@@ -10,7 +10,7 @@ use Rattle.pair_split.specs.declared.components.Kind.TheVariants.{S, P}
 use Rattle.pair_split.specs.declared.components.What.TheVariants.{Link}
 use Rattle.pair_split.specs.declared.components.Piece.{Piece}
 use Rattle.pair_split.specs.declared.components.Comp.{Comp}
-use Rattle.spqr_tree.specs.Merged.{how_many, is_outer, IsGroup, AreGroups, NoneAlike}
+use Rattle.spqr_tree.specs.Merged.{how_many, is_outer, IsGroup, AreGroups, IsMerged, NoneAlike}
 
 -- the live components, each under its key, and the key of each component, live or not
 pub record LiveState : Type 0 where
@@ -62,10 +62,6 @@ pub record AreLive (comps : List Comp) (lead : List ℕ) (live : LiveState) : Ty
 pub record IsTakenOut (live next : LiveState) (d : ℕ) : Type 0 where
   pub keys : next.keys ≡ live.keys
   pub slab : Updates live.slab next.slab (slab_key live d) None
-
--- components of this kind are merged where links join them
-abbrev pub IsMerged : Kind → Type 0
-IsMerged kind = (kind ≡ S) ⊎ (kind ≡ P)
 
 -- the components are split components of some graph
 abbrev pub AreSplit : List Comp → Type 0

@@ -5,7 +5,7 @@ ghost use Rattle.graph_theory.specs.Block.{IsOneBlock};
 ghost use Rattle.pair_split.specs.Split.{items_of, IsSplit};
 ghost use Rattle.pair_split.specs.Tutte.{IsTutte};
 ghost use Rattle.spqr_tree.specs.Ranking.{ranks_of};
-ghost use Rattle.spqr_tree.specs.Assembly.{IsArranged, IsNodeOf, AreNodes};
+ghost use Rattle.spqr_tree.specs.Assembly.{IsArranged, IsMadeOf, AreNodes};
 ghost use Rattle.spqr_tree.specs.Keys.{nth_item, parent_at, link_key, AreWithin, AreApart, IsRooted, HaveKeys};
 
 use crate::arranging::arrange;
@@ -27,7 +27,7 @@ fn node_of(
 ) -> Result<TreeNode, AllocError>
     requires within { AreWithin comp.now.items (length least.now) }
     requires apart { AreApart parent least.now comp.now.items }
-    ensures node { IfOk result (λ node. IsNodeOf comp.now vertices.now node) }
+    ensures node { IfOk result (λ node. IsMadeOf comp.now vertices.now node) }
     ensures keys { IfOk result (λ node. (i : ℕ) → i < length node.items
         → (nth_item node.items i).key ≡ link_key parent least.now (nth_item node.items i).what) }
 {

@@ -5,9 +5,9 @@ ghost use Rattle.pair_split.specs.Split.{component_at, items_of};
 ghost use Rattle.pair_split.specs.declared.components.Comp.{Comp};
 ghost use Rattle.pair_split.specs.declared.components.What.TheVariants.{Link};
 ghost use Rattle.slab.specs.Slab.{get, ContainsKey};
-ghost use Rattle.spqr_tree.specs.Merged.{is_outer, AreGroups};
+ghost use Rattle.spqr_tree.specs.Merged.{is_outer, AreGroups, IsMerged};
 ghost use Rattle.spqr_tree.specs.Keys.{AreWithin};
-ghost use Rattle.spqr_tree.specs.Merging.{group_of, slab_key, AreHeld, IsAdded, AreLive, IsTakenOut, IsLed, IsMerged, AreSplit, AreFinished, IsAbsorbed, IsMerging, IsResting, KeepsLed, with_piece, with_done, pieces_left, IsPushed, IsTaken, IsStarted};
+ghost use Rattle.spqr_tree.specs.Merging.{group_of, slab_key, AreHeld, IsAdded, AreLive, IsTakenOut, IsLed, AreSplit, AreFinished, IsAbsorbed, IsMerging, IsResting, KeepsLed, with_piece, with_done, pieces_left, IsPushed, IsTaken, IsStarted};
 
 use pair_split::{Comp, CompList, Kind, Piece, PieceList, What};
 use slab::Slab;

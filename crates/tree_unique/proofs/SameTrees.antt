@@ -5,7 +5,7 @@ use Rattle.std.proofs.lemmas.List.{ext_get_or}
 use Rattle.multigraph.specs.Graph.{Multigraph}
 use Rattle.graph_theory.specs.Block.{IsOneBlock}
 use Rattle.pair_split.specs.Split.{component_at, item_at, side, LinksTo}
-use Rattle.pair_split.specs.Tutte.{Node, components, node_at, node_item, is_before, NoneJoined, IsTutte}
+use Rattle.pair_split.specs.Tutte.{Node, components, node_at, node_item, is_before, IsTutte}
 use Rattle.pair_split.specs.declared.components.Kind.{Kind}
 use Rattle.pair_split.specs.declared.components.Kind.TheVariants.{S, P, B}
 use Rattle.pair_split.specs.declared.components.Piece.{Piece}
@@ -28,10 +28,7 @@ use Rattle.tree_unique.proofs.SameItems.{no_item, node-size, nodes-length, link-
 
 -- the sides of links are good
 pub links-good : LinksAreGood
-links-good g nodes block t = link-good g block (components nodes) t.split (none S t.no_polygons_joined) (none P t.no_bonds_joined)
-  where
-    none : (kind : Kind) → NoneJoined kind nodes → (k j : ℕ) → LinksTo (components nodes) k j → (component_at (components nodes) k).kind ≡ kind → (component_at (components nodes) j).kind ≡ kind → ⊥
-    none kind n k j l x y = n k j l (sym (node-kind nodes k) ∙ x) (sym (node-kind nodes j) ∙ y)
+links-good g nodes block t = link-good g block (components nodes) t.split t.no_polygons_joined t.no_bonds_joined
 
 -- each side of a good 2-separation is that of a link
 pub good-links : GoodAreLinks

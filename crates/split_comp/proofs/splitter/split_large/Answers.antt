@@ -5,7 +5,7 @@ use Rattle.pair_split.specs.Edges.{family_skeleton}
 use Rattle.pair_split.specs.Bridges.{family_of}
 use Rattle.pair_split.specs.Skeleton.{IsSkeleton}
 use Rattle.pair_split.specs.Split.{IsSplit}
-use Rattle.pair_split.specs.State.{AreComponents}
+use Rattle.pair_split.specs.State.{AreSplitComponents}
 use Rattle.pair_split.specs.Writing.{IsListed, entry_total}
 use Rattle.pair_split.specs.declared.splitting.Finished.{Finished}
 use Rattle.pair_split.specs.declared.components.Comps.{Comps}
@@ -37,7 +37,7 @@ pub returns-clause-split : goal.returns-clause-split
 returns-clause-split g c = IfOk-weaker c.write_components.result _ (λ (comps : Comps). IsSplit c.args.g.now comps.list)
     (λ comps w. left-split c.args.g.now c.in_ok-tree.tree (is-numbered c.args.g.now c.edge_count.ensures.graph c.edge_count.ensures.limits c.requires.block c.requires.large c.in_ok-tree.tree c.in_ok-tree.ensures.tree c.in_ok-tree.ensures.vertices) c.run.new.self c.in_ok-run.ensures.passed c.deref-2.result.now (ap family_of c.deref-2.ensures.value ∙ c.in_ok-edges.ensures.edges) c.kind_of_all-kind.result comps.list
     (subst (λ (edges : List NamedEdge). IsSkeleton c.kind_of_all-kind.result (family_skeleton (family_of edges))) (c.deref.ensures.value ∙ sym c.deref-2.ensures.value) c.kind_of_all-kind.ensures.skeleton) c.kind_of_all-kind.ensures.large
-    (subst (λ (y : ℕ × List Finished). AreComponents y.0 (state_of y.1 c.deref-2.result.now) c.kind_of_all-kind.result comps.list) (λ i. (c.edge_count-2.ensures.value i, c.parts.ensures i)) w))
+    (subst (λ (y : ℕ × List Finished). AreSplitComponents y.0 (state_of y.1 c.deref-2.result.now) c.kind_of_all-kind.result comps.list) (λ i. (c.edge_count-2.ensures.value i, c.parts.ensures i)) w))
     c.write_components.ensures.components
 
 pub returns-clause-at_most : goal.returns-clause-at_most

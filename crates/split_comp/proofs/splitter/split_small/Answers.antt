@@ -3,7 +3,7 @@ use Rattle.std.proofs.lemmas.Result.{IfOk-weaker}
 use Rattle.pair_split.specs.Splitting.{state_of}
 use Rattle.pair_split.specs.Bridges.{family_of}
 use Rattle.pair_split.specs.Split.{IsSplit}
-use Rattle.pair_split.specs.State.{AreComponents}
+use Rattle.pair_split.specs.State.{AreSplitComponents}
 use Rattle.pair_split.specs.Writing.{IsListed}
 use Rattle.pair_split.specs.declared.components.Comps.{Comps}
 use Rattle.pair_split.specs.declared.components.Kind.TheVariants.{B}
@@ -17,7 +17,7 @@ write_components-requires-clause-listed g c = subst (λ (m : ℕ). IsListed m (s
 pub returns-clause-split : goal.returns-clause-split
 returns-clause-split g c = IfOk-weaker c.write_components.result _ (λ (comps : Comps). IsSplit c.args.g.now comps.list)
     (λ comps w. small-split c.args.g.now c.edge_count.ensures.graph c.requires.block c.requires.small [] c.deref.result.now refl (ap family_of c.deref.ensures.value ∙ c.in_ok-edges.ensures.edges) comps.list
-    (subst (λ (m : ℕ). AreComponents m (state_of [] c.deref.result.now) B comps.list) c.edge_count.ensures.value w))
+    (subst (λ (m : ℕ). AreSplitComponents m (state_of [] c.deref.result.now) B comps.list) c.edge_count.ensures.value w))
     c.write_components.ensures.components
 
 pub returns-clause-at_most : goal.returns-clause-at_most
