@@ -5,7 +5,7 @@ use Rattle.permutations.specs.Members.{is_member}
 use Rattle.multigraph.specs.Graph.{Multigraph, edge_count}
 use Rattle.multigraph.specs.Part.{Rises}
 use Rattle.pair_split.specs.Skeleton.{is_vertex}
-use Rattle.pair_split.specs.Split.{side, skeleton, LinksTo, IsSplit}
+use Rattle.pair_split.specs.Split.{side, skeleton, IsSplit, NoneLinked}
 use Rattle.pair_split.specs.declared.components.Kind.{Kind}
 use Rattle.pair_split.specs.declared.components.Kind.TheVariants.{S, P, B}
 use Rattle.pair_split.specs.declared.components.What.{What}
