@@ -21,7 +21,7 @@ pub struct Blocks {
 }
 
 impl Model for Blocks {
-    ghost use Rattle.std.specs.Prelude.{◌<◌, length};
+    ghost use Rattle.std.specs.Prelude.{◌<◌, ◌^◌, length};
     ghost use Rattle.blocks.specs.Blocks.{BlockStructure};
 
     ghost Value = { BlockStructure };
@@ -33,7 +33,7 @@ impl Model for Blocks {
       components = b.components.items;
     } };
 
-    ghost invariant = { λ b. length b.lists.items < 4294967296 };
+    ghost invariant = { λ b. length b.lists.items < 2 ^ 32 };
 }
 
 impl Blocks {

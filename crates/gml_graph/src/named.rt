@@ -11,13 +11,9 @@ use crate::ids::Ids;
 use crate::lists::lists_under;
 use crate::nodes::node_ids;
 use gml_text::{Doc, Pair, Pairs};
-use multigraph::Graph;
+use multigraph::{Graph, MAX_EDGES, MAX_VERTICES};
 use std::alloc::Global;
 use std::marker::Model;
-
-const MAX_VERTICES: usize = 20_000;
-
-const MAX_EDGES: usize = 50_000;
 
 /// A multigraph without loops whose vertices have ids, each its own. Contracts see the multigraph and the list of the ids.
 #[derive(Drop)]
@@ -68,7 +64,7 @@ fn graph_between(alloc: Global, nodes: &[&Pairs], edges: &[&Pairs]) -> Result<Na
     ensures { Answers (graph_between (map (λ node. node.now) nodes.now)
         (map (λ edge. edge.now) edges.now)) (λ named. named) result }
 {
-    if nodes.len() > MAX_VERTICES {
+    if nodes.len() > MAX_VERTICES as usize {
         return Err(GraphFault::TooManyVertices(nodes.len()));
     }
     if edges.len() > MAX_EDGES {

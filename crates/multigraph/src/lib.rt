@@ -21,4 +21,4 @@ pub use buckets::places_of;
 pub use faults::BuildFault;
 pub use lists::{NumberLists, Numbers, Sequence};
 pub use parts::Part;
-pub use structure::Graph;
+pub use structure::{Graph, MAX_EDGES, MAX_VERTICES};

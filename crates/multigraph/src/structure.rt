@@ -10,9 +10,11 @@ use crate::lists::Numbers;
 use std::alloc::{AllocError, Global};
 use std::marker::Model;
 
-const MAX_VERTICES: u32 = 20_000;
+/// The most vertices that a graph may have.
+pub const MAX_VERTICES: u32 = 20_000;
 
-const MAX_EDGES: usize = 50_000;
+/// The most edges that a graph may have.
+pub const MAX_EDGES: usize = 50_000;
 
 /// A multigraph without loops, of at most 20,000 vertices and 50,000 edges.
 #[derive(Debug, Drop)]

@@ -1,5 +1,5 @@
 // Depth-first search from one vertex, with a stack of its own.
-ghost use Rattle.std.specs.Prelude.{◌≡◌, ◌+◌, ◌*◌, ◌-◌, ◌<◌, ◌≤◌, true, length, IfOk, slice_index, slice_get};
+ghost use Rattle.std.specs.Prelude.{◌≡◌, ◌+◌, ◌*◌, ◌-◌, ◌<◌, ◌^◌, ◌≤◌, true, length, IfOk, slice_index, slice_get};
 ghost use Rattle.multigraph.specs.Graph.{edge_count, is_end, IsGraph, IsWithinLimits};
 ghost use Rattle.palm_tree.specs.PalmTree.{IsConnected};
 ghost use Rattle.blocks.specs.Forest.{ForestState, fresh, looked_further, frond_noted, root_noted, child_noted, left};
@@ -69,7 +69,7 @@ impl Search {
     // One more of the edges at `vertex` has been looked at.
     fn look_further(&mut self, vertex: u32)
         requires within { vertex < length self.old.position }
-        requires fits { slice_index self.old.position vertex + 1 < 4294967296 }
+        requires fits { slice_index self.old.position vertex + 1 < 2 ^ 32 }
         ensures { self.new ≡ looked_further self.old vertex }
     {
         self.position[vertex as usize] += 1;
@@ -101,7 +101,7 @@ impl Search {
     // The edge, seen for the first time at `vertex`, leads to a vertex that is visited for the first time.
     fn note_child(&mut self, vertex: u32, edge: u32, child: u32) -> Result<(), AllocError>
         requires vertex_within { vertex < length self.old.depth }
-        requires shallow { slice_index self.old.depth vertex + 1 < 4294967296 }
+        requires shallow { slice_index self.old.depth vertex + 1 < 2 ^ 32 }
         requires visited_within { child < length self.old.visited }
         requires parent_within { child < length self.old.parent }
         requires depth_within { child < length self.old.depth }

@@ -20,6 +20,7 @@ use Rattle.split_comp.specs.Pass.{NumberedTree, IsNumbered, PassState, at_place,
 use Rattle.split_comp.proofs.Renamed.{renamed-tight}
 use Rattle.split_comp.proofs.Walk.{walk-start, left-free, left-on_path}
 use Rattle.split_comp.proofs.Depth.{depth-of, depth-top, depth-deeper}
+use Rattle.split_comp.specs.Stack.{no_place}
 
 module _ (g : Multigraph) (t : NumberedTree) (numbered : IsNumbered g t) (palm : IsPalm g.vertex_count (edge_count g) (tree_parent t.palm t.vertex) (tree_degree t.palm t.vertex) (tree_dart g t.palm t.vertex))
     (are-drawn : AreDrawn g t.vertex g.vertex_count (tree_degree t.palm t.vertex) (tree_dart g t.palm t.vertex)) where
@@ -213,9 +214,9 @@ module _ (g : Multigraph) (t : NumberedTree) (numbered : IsNumbered g t) (palm :
       };
       reached = record { gone_to = λ x i z q. absurd (z (omega (arith, q.0))); met = λ x y z q. absurd (z (omega (arith, q.0))) };
       first = record {
-        places = length-replicate g.vertex_count 4294967295;
+        places = length-replicate g.vertex_count no_place;
         least = λ i z l. absurd (omega (arith, l));
-        attained = λ z l k. inl (get_or-replicate g.vertex_count z 4294967295 0 l);
+        attained = λ z l k. inl (get_or-replicate g.vertex_count z no_place 0 l);
       };
       sorted = record { reach_rises = λ r q j a b. absurd (omega (arith, b)); frond_rises = λ r q j f a b. absurd (omega (arith, b)) };
       ahead = record { reach_ahead = λ u r k z q. absurd (z (omega (arith, q.0))); frond_ahead = λ u r k f z q. absurd (z (omega (arith, q.0))) };

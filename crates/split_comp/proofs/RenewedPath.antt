@@ -4,7 +4,7 @@ use Rattle.std.proofs.lemmas.Bool.{cases_Bool, cases_lt, both_ways}
 use Rattle.pair_split.specs.Family.{Entry, has_end}
 use Rattle.split_comp.specs.declared.items.Item.{Item}
 use Rattle.split_comp.specs.declared.items.Dart.{Dart}
-use Rattle.split_comp.specs.Stack.{item, entry, IsTreeAt, AreFirst}
+use Rattle.split_comp.specs.Stack.{item, entry, IsTreeAt, AreFirst, no_place}
 use Rattle.split_comp.specs.Walk.{IsOnPath}
 use Rattle.split_comp.specs.Frames.{AreFrames, IsGoneTo, AreReached}
 use Rattle.split_comp.proofs.Entries.{item-ends, up-end, low-end}
@@ -122,7 +122,7 @@ module _ (last : ℕ → ℕ) (done v k j : ℕ) (keeps : Item → Bool) (side :
         | inr c ↦ pushed z i c l (ends-now i z c l h)
       ]
 
-      attained : (z : ℕ) → z < n → (z < done) ⊎ ((p : ℕ) × IsTreeAt new z p) → (slice_index_or now z 0 ≡ 4294967295) ⊎ ((slice_index_or now z 0 < length new) × (has_end z (entry (item new (slice_index_or now z 0))) ≡ true))
+      attained : (z : ℕ) → z < n → (z < done) ⊎ ((p : ℕ) × IsTreeAt new z p) → (slice_index_or now z 0 ≡ no_place) ⊎ ((slice_index_or now z 0 < length new) × (has_end z (entry (item new (slice_index_or now z 0))) ≡ true))
       attained z b current = elim (moved z) [
         | inr e ↦ let l : slice_index_or now z 0 < length new = omega (arith, e.1, r.size) in inr (l, now-ends (slice_index_or now z 0) z e.0 l e.3)
         | inl e ↦ elim (f.attained z b (was current)) [

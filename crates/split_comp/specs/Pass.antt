@@ -1,5 +1,5 @@
 -- The state of the pass along a palm tree, and what holds of it.
-use Rattle.std.specs.Prelude.{◌≡◌, ◌≢◌, ℕ, ◌+◌, ◌*◌, ◌-◌, ◌<◌, ◌≤◌, ◌⊎◌, Bool, true, false, if◌then◌else◌, nat_lt, List, [], ◌∷◌, ◌++◌, length, map, filter, take, drop, replicate, slice_index, slice_set, Contains, Option, None, Some, not, ◌&&◌}
+use Rattle.std.specs.Prelude.{◌≡◌, ◌≢◌, ℕ, ◌+◌, ◌*◌, ◌-◌, ◌<◌, ◌≤◌, ◌^◌, ◌⊎◌, Bool, true, false, if◌then◌else◌, nat_lt, List, [], ◌∷◌, ◌++◌, length, map, filter, take, drop, replicate, slice_index, slice_set, Contains, Option, None, Some, not, ◌&&◌}
 use Rattle.multigraph.specs.Graph.{Multigraph, edge_count, IsGraph, IsWithinLimits}
 use Rattle.graph_theory.specs.Block.{IsOneBlock}
 use Rattle.palm_tree.specs.PalmTree.{PalmTreeLists, IsPalmTree}
@@ -17,7 +17,7 @@ use Rattle.pair_split.specs.declared.components.Kind.TheVariants.{B}
 use Rattle.split_comp.specs.declared.items.Item.{Item}
 use Rattle.split_comp.specs.declared.items.Triple.{Triple}
 use Rattle.split_comp.specs.declared.items.Dart.{Dart}
-use Rattle.split_comp.specs.Stack.{item, entry, owner, family, IsStack, IsSorted, IsTopped, IsClean, IsAtop, AreFirst}
+use Rattle.split_comp.specs.Stack.{item, entry, owner, family, IsStack, IsSorted, IsTopped, IsClean, IsAtop, AreFirst, no_place}
 use Rattle.split_comp.specs.Palm.{AreVertices, tree_dart, tree_degree, tree_parent, IsFrondTo, IsPalm}
 use Rattle.split_comp.specs.Walk.{IsWalk, AreLeft}
 use Rattle.split_comp.specs.Cuts.{cut, AreSound, AreComplete, AreSoundAt, AreCompleteAt}
@@ -59,7 +59,7 @@ first_state n m = record {
   done = n;
   items = [];
   cuts = [];
-  first = replicate n 4294967295;
+  first = replicate n no_place;
   start = replicate n 0;
   base = replicate n 0;
   gone = replicate n 0;
@@ -137,9 +137,9 @@ pub record CanSplitOff (g : Multigraph) (vertex : List ℕ) (keeps : Item → Bo
   pub is_family : IsFamily (own_entry g vertex up low s ∷ drawn_items g vertex (filter keeps (drop k s.items)))
   pub is_prime : IsPrime (own_entry g vertex up low s ∷ drawn_items g vertex (filter keeps (drop k s.items)))
   pub two : 2 ≤ length (filter keeps (drop k s.items))
-  pub few : next_name g s < 4294967296
+  pub few : next_name g s < 2 ^ 32
   pub total : length (filter keeps (drop k s.items)) ≤ s.total
-  pub fits : s.total < 4294967296
+  pub fits : s.total < 2 ^ 32
 
 -- the current family of the graph
 abbrev pub drawn_family : Multigraph → List ℕ → List Item → List Entry → List Entry

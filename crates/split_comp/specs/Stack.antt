@@ -110,9 +110,12 @@ pub record IsReturned (last : ℕ → ℕ) (done v s h : ℕ) (stack : List Item
   pub behind : (i : ℕ) → i < s → (item stack i).tree ≡ true → (item stack h).low < (item stack i).low
   pub no_frond : (i : ℕ) → i < h → (item stack i).tree ≡ false → (item stack i).low ≡ (item stack h).low → (item stack i).up ≡ v → ⊥
 
--- for each vertex that is not finished, or has its tree edge in the stack, the least place of the stack that touches it, or a
--- number that is no place
+-- the number that stands for no place of the stack
+abbrev pub no_place : ℕ
+no_place = 4294967295
+
+-- for each vertex that is not finished, or has its tree edge in the stack, the least place of the stack that touches it, or none
 pub record AreFirst (n done : ℕ) (first : List ℕ) (stack : List Item) : Type 0 where
   pub places : length first ≡ n
   pub least : (i z : ℕ) → i < length stack → has_end z (entry (item stack i)) ≡ true → slice_index_or first z 0 ≤ i
-  pub attained : (z : ℕ) → z < n → (z < done) ⊎ ((p : ℕ) × IsTreeAt stack z p) → (slice_index_or first z 0 ≡ 4294967295) ⊎ ((slice_index_or first z 0 < length stack) × (has_end z (entry (item stack (slice_index_or first z 0))) ≡ true))
+  pub attained : (z : ℕ) → z < n → (z < done) ⊎ ((p : ℕ) × IsTreeAt stack z p) → (slice_index_or first z 0 ≡ no_place) ⊎ ((slice_index_or first z 0 < length stack) × (has_end z (entry (item stack (slice_index_or first z 0))) ≡ true))

@@ -19,6 +19,9 @@ use std::marker::Model;
 use std::sync::ledger::Ledger;
 use step_count::Steps;
 
+// The place of the stack for a vertex that no entry touches.
+const NO_PLACE: usize = 4294967295;
+
 /// Where the pass stands. Vertices go by their numbers: the one where the search is, and the last one that is finished; the
 /// stack of entries; its cuts; for each vertex the first place of the stack that touches it, the places of the stack and of
 /// the cuts when it was entered, and how many of its darts have been gone along and back; how many entries the current family
@@ -68,7 +71,7 @@ impl Pass {
             done: n,
             items: Vec::new(alloc),
             cuts: Vec::new(alloc),
-            first: vec![in alloc; 4294967295; vertices]?,
+            first: vec![in alloc; NO_PLACE; vertices]?,
             start: vec![in alloc; 0; vertices]?,
             base: vec![in alloc; 0; vertices]?,
             gone: vec![in alloc; 0; vertices]?,

@@ -26,6 +26,7 @@ use Rattle.spqr_tree.proofs.JoinedApart.{others-apart}
 use Rattle.spqr_tree.proofs.RearrangedSplit.{rearranged-split}
 use Rattle.spqr_tree.proofs.SameVertices.{same-vertices}
 use Rattle.spqr_tree.proofs.Ranks.{no_rank}
+use Rattle.spqr_tree.specs.Absent.{absent}
 
 -- a piece with its lesser end first passes what the piece passes
 placed-passes : (turn : ℕ → ℕ) (t : Piece → Bool) → IsSymmetric t → (p : Piece) → t (placed turn p) ≡ t (redirect turn p)
@@ -49,7 +50,7 @@ placed-vertices turn v [] = refl
 placed-vertices turn v (p ∷ pieces) = ap₂ (λ (x y : Bool). x || y) (placed-end turn v p) (placed-vertices turn v pieces)
 
 module _ (g : Multigraph) (one : IsOneBlock g) (comps : List Comp) (split : IsSplit g comps) (lead : List ℕ) (groups : List Comp) (grouped : AreGroups comps (group_of lead) groups) (finished : AreFinished comps lead groups)
-    (few : length groups < 4294967295) (ranks : List Rank) (r : AreRanked groups ranks) (places : List ℕ) (p : ArePlaces ranks places) where
+    (few : length groups < absent) (ranks : List Rank) (r : AreRanked groups ranks) (places : List ℕ) (p : ArePlaces ranks places) where
   abbrev π : ℕ → ℕ
   π k = value_at places k
 
@@ -136,7 +137,7 @@ module _ (g : Multigraph) (one : IsOneBlock g) (comps : List Comp) (split : IsSp
     no_polygons = no-polygons;
     no_bonds = no-bonds;
     number = sym long;
-    few = subst (λ z. z < 4294967295) (sym (long ∙ r.number)) few;
+    few = subst (λ z. z < absent) (sym (long ∙ r.number)) few;
     vertices = vertices;
     rise = rise;
     ends_rise = ends-rise;

@@ -16,6 +16,7 @@ use Rattle.spqr_tree.specs.Merging.{AreLive, MergingState, group_of, IsLed, AreS
 use Rattle.spqr_tree.proofs.LiveSteps.{live-taken}
 use Rattle.spqr_tree.proofs.JoinedMerging.{group-kept, group-starts}
 use Rattle.spqr_tree.proofs.JoinedApart.{alike-apart}
+use Rattle.spqr_tree.specs.Absent.{absent}
 
 -- a list twice turned round
 reverse-twice : (pieces : List Piece) → reverse (reverse pieces) ≡ pieces
@@ -24,7 +25,7 @@ reverse-twice (q ∷ pieces) = ap reverse (reverse-append (q ∷ []) pieces) ∙
 
 module _ (comps : List Comp) (split : AreSplit comps) where
   -- a group is begun
-  module _ (s : MergingState) (r : IsResting comps s) (few : length s.groups < 4294967295) (c : ℕ) (l : c < length comps) (none : group_of s.lead c ≡ 4294967295) (next : MergingState) (started : IsStarted comps s next c) where
+  module _ (s : MergingState) (r : IsResting comps s) (few : length s.groups < absent) (c : ℕ) (l : c < length comps) (none : group_of s.lead c ≡ absent) (next : MergingState) (started : IsStarted comps s next c) where
     pub started-kept : KeepsLed s.lead next.lead
     started-kept x h = started.kept x (λ e. h (ap (group_of s.lead) e ∙ none))
 

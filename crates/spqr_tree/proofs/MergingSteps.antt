@@ -19,6 +19,7 @@ use Rattle.spqr_tree.proofs.LiveSteps.{live-taken}
 use Rattle.spqr_tree.proofs.MergeCounts.{number-cons, number-append, number-all, number-weaker, sum-changed}
 use Rattle.spqr_tree.proofs.JoinedMerging.{group-kept}
 use Rattle.spqr_tree.proofs.JoinedGrows.{like-parts, piece-home, group-grows}
+use Rattle.spqr_tree.specs.Absent.{absent}
 
 -- the number of the component to which a link leads
 abbrev link_number : What → ℕ
@@ -127,12 +128,12 @@ module _ (comps : List Comp) (split : AreSplit comps) (kind : Kind) (s : Merging
 
     pub taken-falls : pieces_left comps next ≤ pieces_left comps s
     taken-falls =
-        let w : ℕ → ℕ = λ x. cond (group_of s.lead x == 4294967295) (length (items_of comps x)) 0 in
-        let v : ℕ → ℕ = λ x. cond (group_of next.lead x == 4294967295) (length (items_of comps x)) 0 in
-        let sums : sum_below (length comps) v + w d ≡ sum_below (length comps) w + v d = sum-changed (length comps) w v d (link-within d to-d) (λ x l n. let of_number : ℕ → ℕ = λ z. cond (z == 4294967295) (length (items_of comps x)) 0 in ap of_number (taken.kept x n)) in
+        let w : ℕ → ℕ = λ x. cond (group_of s.lead x == absent) (length (items_of comps x)) 0 in
+        let v : ℕ → ℕ = λ x. cond (group_of next.lead x == absent) (length (items_of comps x)) 0 in
+        let sums : sum_below (length comps) v + w d ≡ sum_below (length comps) w + v d = sum-changed (length comps) w v d (link-within d to-d) (λ x l n. let of_number : ℕ → ℕ = λ z. cond (z == absent) (length (items_of comps x)) 0 in ap of_number (taken.kept x n)) in
         let of_test : Bool → ℕ = λ b. cond b (length (items_of comps d)) 0 in
-        let at-d : w d ≡ length (items_of comps d) = ap of_test (eq-eqb (group_of s.lead d) 4294967295 absorbed.1) in
-        let now-d : v d ≡ 0 = ap of_test (ne_eqb (group_of next.lead d) 4294967295 (λ z. absurd (omega (arith, f.few, taken.into, z)))) in
+        let at-d : w d ≡ length (items_of comps d) = ap of_test (eq-eqb (group_of s.lead d) absent absorbed.1) in
+        let now-d : v d ≡ 0 = ap of_test (ne_eqb (group_of next.lead d) absent (λ z. absurd (omega (arith, f.few, taken.into, z)))) in
         let fewer : how_many (λ q. is_outer (group_of s.lead) (length s.groups) q.what && true) (items_of comps d) ≤ how_many (λ q. true) (items_of comps d) = number-weaker (λ q. is_outer (group_of s.lead) (length s.groups) q.what && true) (λ q. true) (items_of comps d) (λ q h. refl) in
         omega (arith, sums, at-d, now-d, fewer, taken.pushed (λ q. true), number-all no_piece (λ q. true) next.stack (λ i l. refl), number-all no_piece (λ q. true) s.stack (λ i l. refl), number-all no_piece (λ q. true) (items_of comps d) (λ i l. refl))
 

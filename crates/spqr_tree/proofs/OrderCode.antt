@@ -9,6 +9,7 @@ use Rattle.pair_split.proofs.Rerooted.{rerooted, rerooted-root}
 use Rattle.permutations.proofs.Arrangements.{member-at}
 use Rattle.spqr_tree.specs.Keys.{parent_at, AreWithin, AddsChildren, IsOrder, AreOrdered}
 use Rattle.spqr_tree.proofs.OrderSteps.{order-few, order-grows, order-ends}
+use Rattle.spqr_tree.specs.Absent.{absent}
 
 -- the pieces of a component that is read at its place
 pub items-same : (comps : List Comp) (k : ℕ) (comp : Comp) (pieces : List Piece) → k < length comps → pieces ≡ (slice_index_or comps k comp).items → pieces ≡ items_of comps k
@@ -31,7 +32,7 @@ order-past comps t parents order i p o = record {
   after = λ q j b l. o.after q j (omega (arith, p, l)) l;
 }
 
-module _ (comps : List Comp) (a : AreLinked comps) (few : length comps < 4294967295) (root : ℕ) (within : root < length comps) (parents order : List ℕ) (i : ℕ) (inv : (t : IsTree comps) → t.root ≡ root → IsOrder comps t parents order i) where
+module _ (comps : List Comp) (a : AreLinked comps) (few : length comps < absent) (root : ℕ) (within : root < length comps) (parents order : List ℕ) (i : ℕ) (inv : (t : IsTree comps) → t.root ≡ root → IsOrder comps t parents order i) where
   own : IsOrder comps (rerooted comps a root within) parents order i
   own = inv (rerooted comps a root within) (rerooted-root comps a root within)
 

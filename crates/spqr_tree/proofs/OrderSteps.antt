@@ -16,12 +16,13 @@ use Rattle.pair_split.proofs.Rerooted.{rerooted, rerooted-root, rerooted-parent}
 use Rattle.spqr_tree.specs.Keys.{parent_at, children, AddsChildren, IsOrder, AreOrdered}
 use Rattle.spqr_tree.proofs.Children.{children-is, children-has, children-distinct}
 use Rattle.pair_split.proofs.LinkSides.{whole}
+use Rattle.spqr_tree.specs.Absent.{absent}
 
 -- there are no more on the list than components
 pub order-few : (comps : List Comp) (t : IsTree comps) (parents order : List ℕ) (i : ℕ) → IsOrder comps t parents order i → length order ≤ length comps
 order-few comps t parents order i o = omega (arith, count-list (length comps) (λ x. is_member x order) order o.distinct o.within (λ x l. refl), count-within (length comps) (λ x. is_member x order))
 
-module _ (comps : List Comp) (a : AreLinked comps) (few : length comps ≤ 4294967295) (t : IsTree comps) (parents order : List ℕ) (i : ℕ) (o : IsOrder comps t parents order i) (l : i < length order) where
+module _ (comps : List Comp) (a : AreLinked comps) (few : length comps ≤ absent) (t : IsTree comps) (parents order : List ℕ) (i : ℕ) (o : IsOrder comps t parents order i) (l : i < length order) where
   -- the component whose children are put on the list
   abbrev k : ℕ
   k = slice_index_or order i 0
@@ -109,7 +110,7 @@ module _ (comps : List Comp) (a : AreLinked comps) (few : length comps ≤ 42949
     order-grows = subst (λ (z : List ℕ). IsOrder comps t next_parents z (i + 1)) (sym c.listed) grown
 
 -- where the children of all on the list are on it, all components are on it
-module _ (comps : List Comp) (a : AreLinked comps) (few : length comps ≤ 4294967295) (r : ℕ) (root_in : r < length comps) (parents order : List ℕ) (i : ℕ) (o : IsOrder comps (rerooted comps a r root_in) parents order i) (done : length order ≤ i) where
+module _ (comps : List Comp) (a : AreLinked comps) (few : length comps ≤ absent) (r : ℕ) (root_in : r < length comps) (parents order : List ℕ) (i : ℕ) (o : IsOrder comps (rerooted comps a r root_in) parents order i) (done : length order ≤ i) where
   abbrev tree : IsTree comps
   tree = rerooted comps a r root_in
 

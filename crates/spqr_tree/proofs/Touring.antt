@@ -16,6 +16,7 @@ use Rattle.pair_split.proofs.Groups.{what-cases}
 use Rattle.spqr_tree.specs.Keys.{nth_item}
 use Rattle.spqr_tree.specs.Tour.{what_at, item_count, place_of, is_ahead, bounds_of, bound_count, bound_at, AreToured, TourState, HasBegun, noted, tour_left, ArePartly, IsTouring}
 use Rattle.spqr_tree.proofs.UpLinks.{number_of, not-both, first-in, first-edge, link-to, link-within, child-up, parent-down, link-once, edge-once, falls}
+use Rattle.spqr_tree.specs.Absent.{absent}
 
 -- when a bound of the node was noted, and its next item is to be entered, if there is one
 pub record HasNoted (nodes : List Node) (s : TourState) : Type 0 where
@@ -167,7 +168,7 @@ module _ (g : Multigraph) (nodes : List Node) (t : IsTutte g nodes) (few : 0 < e
 
     -- a place that was given is another one
     abbrev nowhere : ℕ
-    nowhere = 4294967295
+    nowhere = absent
 
     module _ (i : ℕ) (c : i + 1 ≡ bound_count s.bounds s.at) (l : i + 1 < item_count nodes s.at) where
       same-item : (k h : ℕ) → k ≡ s.at → h + 1 ≡ bound_count s.bounds k → what_at nodes k (h + 1) ≡ what_at nodes s.at (i + 1)
@@ -374,7 +375,7 @@ module _ (g : Multigraph) (nodes : List Node) (t : IsTutte g nodes) (few : 0 < e
       rise = λ k i x. absurd (omega (arith, b.empty k, x));
       first = b.first;
       begun = omega (arith, b.met);
-      left = omega (arith, b.met, ahead-less (length s.places) (is_ahead s.places) (λ x. true) 0 (omega (arith, b.size, few)) refl (ne_eqb (place_of s.places 0) 4294967295 (λ z. omega (arith, z, b.first))) (λ x z. refl), count-within (length s.places) (λ x. true));
+      left = omega (arith, b.met, ahead-less (length s.places) (is_ahead s.places) (λ x. true) 0 (omega (arith, b.size, few)) refl (ne_eqb (place_of s.places 0) absent (λ z. omega (arith, z, b.first))) (λ x z. refl), count-within (length s.places) (λ x. true));
       bounded = omega (arith, b.size, small);
       within = λ k i e m x w. omega (arith, b.size, within k i e m x w);
     };
@@ -406,7 +407,7 @@ module _ (g : Multigraph) (nodes : List Node) (t : IsTutte g nodes) (few : 0 < e
       inside-next l = omega (arith, before, n, l, ap (λ (z : List Item). length z) i)
 
       module _ (l : next < length items) (e : ℕ) (h : (nth_item items next).what ≡ Real e) where
-        pub code-meets : (mid.met < 4294967295) × (e < length mid.places)
+        pub code-meets : (mid.met < absent) × (e < length mid.places)
         code-meets =
             let x = at-next (next - 1) before (Real e) h in
             (omega (arith, meet-below mid after (next - 1) before (inside-next l) e x, after.partly.bounded), meet-in mid after (next - 1) before (inside-next l) e x)

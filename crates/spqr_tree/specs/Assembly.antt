@@ -9,6 +9,7 @@ use Rattle.pair_split.specs.declared.components.Piece.{Piece}
 use Rattle.pair_split.specs.declared.components.Comp.{Comp}
 use Rattle.spqr_tree.specs.Merged.{how_many}
 use Rattle.spqr_tree.specs.Ranking.{Rank, rank_at, AreVertices}
+use Rattle.spqr_tree.specs.Absent.{absent}
 
 -- split components, of which no two polygons and no two bonds are linked, in order of their vertices; each piece has its lesser
 -- end first
@@ -17,7 +18,7 @@ pub record IsArranged (g : Multigraph) (comps : List Comp) (ranks : List Rank) :
   pub no_polygons : NoneLinked S comps
   pub no_bonds : NoneLinked P comps
   pub number : length ranks ≡ length comps
-  pub few : length comps < 4294967295
+  pub few : length comps < absent
   pub vertices : (k : ℕ) → k < length comps → AreVertices (items_of comps k) (rank_at ranks k).0
   pub rise : (k : ℕ) → k + 1 < length comps → is_before (rank_at ranks k).0 (rank_at ranks (k + 1)).0 ≡ true
   pub ends_rise : (k i : ℕ) → k < length comps → i < length (items_of comps k) → (item_at comps k i).a < (item_at comps k i).b

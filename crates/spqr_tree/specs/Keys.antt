@@ -10,6 +10,7 @@ use Rattle.pair_split.specs.declared.components.What.{What}
 use Rattle.pair_split.specs.declared.components.What.TheVariants.{Real, Link}
 use Rattle.pair_split.specs.declared.components.Piece.{Piece}
 use Rattle.pair_split.specs.declared.components.Comp.{Comp}
+use Rattle.spqr_tree.specs.Absent.{absent}
 
 -- piece i of the list
 abbrev pub piece_at : List Piece → ℕ → Piece
@@ -19,7 +20,7 @@ piece_at pieces i = slice_index_or pieces i (record { a = 0; b = 0; what = Real 
 abbrev pub nth_item : List Item → ℕ → Item
 nth_item items i = slice_index_or items i (record { key = 0; a = 0; b = 0; what = Real 0 })
 
--- the parent of component k; 4294967295 where it has none
+-- the parent of component k; absent where it has none
 abbrev pub parent_at : List ℕ → ℕ → ℕ
 parent_at parents k = slice_index_or parents k 0
 
@@ -71,7 +72,7 @@ pub record AddsChildren (k parent : ℕ) (pieces : List Piece) (parents order ne
 pub record IsOrder (comps : List Comp) (t : IsTree comps) (parents order : List ℕ) (i : ℕ) : Type 0 where
   pub places : length parents ≡ length comps
   pub root : is_member t.root order ≡ true
-  pub none : parent_at parents t.root ≡ 4294967295
+  pub none : parent_at parents t.root ≡ absent
   pub distinct : is_distinct order ≡ true
   pub within : (x : ℕ) → is_member x order ≡ true → x < length comps
   pub parent : (x : ℕ) → is_member x order ≡ true → x ≢ t.root → parent_at parents x ≡ t.parent x

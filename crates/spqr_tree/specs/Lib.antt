@@ -1,4 +1,5 @@
 -- Split components put together to the tree of a block.
+pub mod Absent
 pub mod Merged
 pub mod Merging
 pub mod Ranking

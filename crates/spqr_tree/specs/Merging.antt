@@ -11,6 +11,7 @@ use Rattle.pair_split.specs.declared.components.What.TheVariants.{Link}
 use Rattle.pair_split.specs.declared.components.Piece.{Piece}
 use Rattle.pair_split.specs.declared.components.Comp.{Comp}
 use Rattle.spqr_tree.specs.Merged.{how_many, is_outer, IsGroup, AreGroups, IsMerged, NoneAlike}
+use Rattle.spqr_tree.specs.Absent.{absent}
 
 -- the live components, each under its key, and the key of each component, live or not
 pub record LiveState : Type 0 where
@@ -28,11 +29,11 @@ pub record MergingState : Type 0 where
 
 -- the number of the group of component c; that of no group where it is in none
 abbrev pub group_of : List ℕ → ℕ → ℕ
-group_of lead c = slice_index_or lead c 4294967295
+group_of lead c = slice_index_or lead c absent
 
 -- whether component c is in a group
 abbrev pub IsLed : List ℕ → ℕ → Type 0
-IsLed lead c = group_of lead c ≢ 4294967295
+IsLed lead c = group_of lead c ≢ absent
 
 -- the key of component c
 abbrev pub slab_key : LiveState → ℕ → ℕ
@@ -55,7 +56,7 @@ pub record IsAdded (live next : LiveState) (comp : Comp) : Type 0 where
 pub record AreLive (comps : List Comp) (lead : List ℕ) (live : LiveState) : Type 0 where
   pub places : length live.keys ≡ length lead
   pub differ : (x y : ℕ) → x < length lead → y < length lead → slab_key live x ≡ slab_key live y → x ≡ y
-  pub held : (x : ℕ) → x < length lead → group_of lead x ≡ 4294967295 → get live.slab (slab_key live x) ≡ Some (component_at comps x)
+  pub held : (x : ℕ) → x < length lead → group_of lead x ≡ absent → get live.slab (slab_key live x) ≡ Some (component_at comps x)
   pub gone : (x : ℕ) → x < length lead → IsLed lead x → get live.slab (slab_key live x) ≡ None
 
 -- component d was taken out of the live ones, and no other
@@ -79,13 +80,13 @@ AreGroupsOf g lead groups =
 
 -- component d is of this kind, of which components are merged, and in no group
 abbrev pub IsAbsorbed : List Comp → List ℕ → Kind → ℕ → Type 0
-IsAbsorbed comps lead kind d = IsMerged kind × (group_of lead d ≡ 4294967295) × ((component_at comps d).kind ≡ kind)
+IsAbsorbed comps lead kind d = IsMerged kind × (group_of lead d ≡ absent) × ((component_at comps d).kind ≡ kind)
 
 -- a group of this kind is in work
 pub record IsMerging (comps : List Comp) (kind : Kind) (s : MergingState) : Type 0 where
   pub live : AreLive comps s.lead s.live
   pub places : length s.lead ≡ length comps
-  pub few : length s.groups < 4294967295
+  pub few : length s.groups < absent
   pub led : (x : ℕ) → IsLed s.lead x → group_of s.lead x ≤ length s.groups
   pub finished : AreFinished comps s.lead s.groups
   pub group : IsGroup comps (group_of s.lead) (length s.groups) kind (s.done ++ reverse s.stack)
@@ -114,7 +115,7 @@ with_done s piece = record { live = s.live; lead = s.lead; groups = s.groups; do
 
 -- how many pieces are to be looked at at most: those on the stack and those of the components in no group
 abbrev pub pieces_left : List Comp → MergingState → ℕ
-pieces_left comps s = length s.stack + sum_below (length comps) (λ x. cond (group_of s.lead x == 4294967295) (length (items_of comps x)) 0)
+pieces_left comps s = length s.stack + sum_below (length comps) (λ x. cond (group_of s.lead x == absent) (length (items_of comps x)) 0)
 
 -- the pieces that are no links into group k were put on the stack, in any order
 abbrev pub IsPushed : List Piece → List Piece → List ℕ → ℕ → List Piece → Type 0

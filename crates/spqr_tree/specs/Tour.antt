@@ -1,10 +1,11 @@
 -- State of a loop: the walk round the tree from the node that has edge 0, over the items of each node in order, down each
 -- link, and back by the first item. It gives each edge a place; the places of what is beyond a link stand together.
-use Rattle.std.specs.Prelude.{◌≡◌, ◌≢◌, ℕ, ◌+◌, ◌-◌, ◌<◌, ◌≤◌, Bool, true, ◌==◌, List, [], ◌∷◌, ◌++◌, length, slice_index_or, slice_set}
+use Rattle.std.specs.Prelude.{◌≡◌, ◌≢◌, ℕ, ◌+◌, ◌-◌, ◌<◌, ◌^◌, ◌≤◌, Bool, true, ◌==◌, List, [], ◌∷◌, ◌++◌, length, slice_index_or, slice_set}
 use Rattle.permutations.specs.Count.{count, sum_below}
 use Rattle.pair_split.specs.Tutte.{Node, node_at, node_item}
 use Rattle.pair_split.specs.declared.components.What.{What}
 use Rattle.pair_split.specs.declared.components.What.TheVariants.{Real, Link}
+use Rattle.spqr_tree.specs.Absent.{absent}
 
 -- what item i of node k stands for
 abbrev pub what_at : List Node → ℕ → ℕ → What
@@ -14,13 +15,13 @@ what_at nodes k i = (node_item nodes k i).what
 abbrev pub item_count : List Node → ℕ → ℕ
 item_count nodes k = length (node_at nodes k).items
 
--- the place of edge e; 4294967295 where it has none yet
+-- the place of edge e; absent where it has none yet
 abbrev pub place_of : List ℕ → ℕ → ℕ
-place_of places e = slice_index_or places e 4294967295
+place_of places e = slice_index_or places e absent
 
 -- whether edge e has no place yet
 abbrev pub is_ahead : List ℕ → ℕ → Bool
-is_ahead places e = place_of places e == 4294967295
+is_ahead places e = place_of places e == absent
 
 -- the bounds of node k
 abbrev pub bounds_of : List (List ℕ) → ℕ → List ℕ
@@ -66,7 +67,7 @@ pub record ArePartly (nodes : List Node) (s : TourState) : Type 0 where
   pub first : place_of s.places 0 ≡ 0
   pub begun : 0 < s.met
   pub left : s.met + count (length s.places) (is_ahead s.places) ≤ length s.places
-  pub bounded : length s.places < 4294967296
+  pub bounded : length s.places < 2 ^ 32
   pub within : (k i e : ℕ) → k < length nodes → i < item_count nodes k → what_at nodes k i ≡ Real e → e < length s.places
 
 -- the walk is before the node where edge 0 was met, and nothing else

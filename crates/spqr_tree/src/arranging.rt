@@ -8,6 +8,7 @@ ghost use Rattle.spqr_tree.specs.Merged.{AreGroups};
 ghost use Rattle.spqr_tree.specs.Merging.{group_of, AreFinished, AreGroupsOf};
 ghost use Rattle.spqr_tree.specs.Ranking.{ranks_of};
 ghost use Rattle.spqr_tree.specs.Assembly.{IsArranged};
+ghost use Rattle.spqr_tree.specs.Absent.{absent};
 
 use crate::merging::{Merging, groups_of};
 use crate::naming::place_groups;
@@ -23,7 +24,7 @@ fn groups_of_block(alloc: Global, g: &Graph, comps: CompList) -> Result<Merging,
     ensures groups { IfOk result (λ s. AreGroups comps (group_of s.lead) s.groups) }
     ensures finished { IfOk result (λ s. AreFinished comps s.lead s.groups) }
     ensures places { IfOk result (λ s. length s.lead ≡ length comps) }
-    ensures few { IfOk result (λ s. length s.groups < 4294967295) }
+    ensures few { IfOk result (λ s. length s.groups < absent) }
 {
     // A graph has few edges, so the components are few.
     let _ = g.edge_count();
@@ -40,7 +41,7 @@ fn arrange_groups(
 ) -> Result<(Vec<Comp>, Vec<(Vec<u32>, u32)>), AllocError>
     requires block { IsOneBlock g.now }
     requires groups { AreGroupsOf g.now lead.now groups.now }
-    requires few { length groups.now < 4294967295 }
+    requires few { length groups.now < absent }
     ensures { IfOk result (λ r. IsArranged g.now r.0.items (ranks_of r.1.items)) }
 {
     let ranks = ranks(alloc, groups)?;

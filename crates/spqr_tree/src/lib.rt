@@ -16,3 +16,6 @@ mod tree;
 pub use lists::ItemList;
 pub use pair_split::{Item, Kind, What};
 pub use tree::Tree;
+
+// What stands where there is none: for a component in no group, for no parent, and for an edge without a place.
+const ABSENT: u32 = 4294967295;

@@ -8,15 +8,14 @@ ghost use Rattle.slab.specs.Slab.{get, ContainsKey};
 ghost use Rattle.spqr_tree.specs.Merged.{is_outer, AreGroups, IsMerged};
 ghost use Rattle.spqr_tree.specs.Keys.{AreWithin};
 ghost use Rattle.spqr_tree.specs.Merging.{group_of, slab_key, AreHeld, IsAdded, AreLive, IsTakenOut, IsLed, AreSplit, AreFinished, IsAbsorbed, IsMerging, IsResting, KeepsLed, with_piece, with_done, pieces_left, IsPushed, IsTaken, IsStarted};
+ghost use Rattle.spqr_tree.specs.Absent.{absent};
 
+use crate::ABSENT;
 use pair_split::{Comp, CompList, Kind, Piece, PieceList, What};
 use slab::Slab;
 use std::alloc::{AllocError, Global};
 use std::marker::Model;
 use std::mem;
-
-// The number of the group of a component that is in none.
-const NO_GROUP: u32 = 4294967295;
 
 // The live components, those that are in no group yet, and the key under which each component was put in.
 #[derive(Drop)]
@@ -165,11 +164,11 @@ impl Merging {
     // None of these components is in a group yet.
     fn new(alloc: Global, comps: Vec<Comp>) -> Result<Merging, AllocError>
         ensures live { IfOk result (λ s. AreLive comps.items s.lead s.live) }
-        ensures none { IfOk result (λ s. (x : ℕ) → group_of s.lead x ≡ 4294967295) }
+        ensures none { IfOk result (λ s. (x : ℕ) → group_of s.lead x ≡ absent) }
         ensures places { IfOk result (λ s. length s.lead ≡ length comps.items) }
         ensures empty { IfOk result (λ s. (s.groups ≡ []) × (s.done ≡ []) × (s.stack ≡ [])) }
     {
-        let lead = vec![in alloc; NO_GROUP; comps.len()]?;
+        let lead = vec![in alloc; ABSENT; comps.len()]?;
         Ok(Merging {
             live: Live::new(alloc, comps)?,
             lead,
@@ -198,7 +197,7 @@ impl Merging {
         ghost comps: { List Comp }
         requires live { AreLive comps self.now.lead self.now.live }
         requires place { d < length self.now.lead }
-        ensures { (result ≡ true) ↔ (group_of self.now.lead d ≡ 4294967295) }
+        ensures { (result ≡ true) ↔ (group_of self.now.lead d ≡ absent) }
     {
         self.live.contains(d)
     }
@@ -218,9 +217,9 @@ impl Merging {
         ghost comps: { List Comp }
         requires place { d < length self.old.lead }
         requires live { AreLive comps self.old.lead self.old.live }
-        requires none { group_of self.old.lead d ≡ 4294967295 }
+        requires none { group_of self.old.lead d ≡ absent }
         requires links { AreWithin (items_of comps d) (length self.old.lead) }
-        requires few { length self.old.groups < 4294967295 }
+        requires few { length self.old.groups < absent }
         ensures { IfOk result (λ _. IsTaken comps self.old self.new d) }
     {
         let comp = self.live.take(d);
@@ -288,8 +287,8 @@ impl Merging {
         ghost comps: { List Comp }
         requires place { c < length self.old.lead }
         requires live { AreLive comps self.old.lead self.old.live }
-        requires none { group_of self.old.lead c ≡ 4294967295 }
-        requires few { length self.old.groups < 4294967295 }
+        requires none { group_of self.old.lead c ≡ absent }
+        requires few { length self.old.groups < absent }
         ensures kind { result ≡ (component_at comps c).kind }
         ensures started { IsStarted comps self.old self.new c }
     {
@@ -307,9 +306,9 @@ impl Merging {
         ghost comps: { List Comp }
         requires split { AreSplit comps }
         requires resting { IsResting comps self.old }
-        requires few { length self.old.groups < 4294967295 }
+        requires few { length self.old.groups < absent }
         requires within { c < length comps }
-        requires none { group_of self.old.lead c ≡ 4294967295 }
+        requires none { group_of self.old.lead c ≡ absent }
         ensures merging { IsMerging comps result self.new }
         ensures groups { self.new.groups ≡ self.old.groups }
         ensures kept { KeepsLed self.old.lead self.new.lead }
@@ -340,9 +339,9 @@ impl Merging {
         ghost comps: { List Comp }
         requires split { AreSplit comps }
         requires resting { IsResting comps self.old }
-        requires few { length self.old.groups < 4294967295 }
+        requires few { length self.old.groups < absent }
         requires within { c < length comps }
-        requires none { group_of self.old.lead c ≡ 4294967295 }
+        requires none { group_of self.old.lead c ≡ absent }
         ensures resting { IfOk result (λ _. IsResting comps self.new) }
         ensures number { IfOk result (λ _. length self.new.groups ≡ length self.old.groups + 1) }
         ensures kept { IfOk result (λ _. KeepsLed self.old.lead self.new.lead) }
@@ -360,7 +359,7 @@ pub(crate) fn groups_of(alloc: Global, list: CompList) -> Result<Merging, AllocE
     ghost comps: { List Comp }
     requires same { list ≡ comps }
     requires split { AreSplit comps }
-    requires few { length comps < 4294967295 }
+    requires few { length comps < absent }
     ensures groups { IfOk result (λ s. AreGroups comps (group_of s.lead) s.groups) }
     ensures finished { IfOk result (λ s. AreFinished comps s.lead s.groups) }
     ensures number { IfOk result (λ s. length s.groups ≤ length comps) }

@@ -2,20 +2,19 @@
 // first item. It gives each edge a place, and each node a bound before each item but the first and one behind the last: the
 // places of the edges in a group are those between the bounds of its item (Euler tours: Tarjan and Vishkin 1985).
 
-ghost use Rattle.std.specs.Prelude.{◌≡◌, ◌+◌, ◌<◌, ℕ, true, false, length, slice_set, IfOk};
+ghost use Rattle.std.specs.Prelude.{◌≡◌, ◌+◌, ◌<◌, ◌^◌, ℕ, true, false, length, slice_set, IfOk};
 ghost use Rattle.multigraph.specs.Graph.{Multigraph, edge_count};
 ghost use Rattle.pair_split.specs.Tutte.{node_at, IsTutte};
 ghost use Rattle.pair_split.specs.declared.components.What.TheVariants.{Real};
 ghost use Rattle.spqr_tree.specs.Tour.{what_at, bound_count, AreToured, HasBegun, IsTouring, noted, tour_left};
+ghost use Rattle.spqr_tree.specs.Absent.{absent};
 
+use crate::ABSENT;
 use crate::tree::TreeNode;
 use multigraph::Numbers;
 use pair_split::{Item, What};
 use std::alloc::{AllocError, Global};
 use std::marker::Model;
-
-// The place of an edge that was not met.
-const NO_PLACE: u32 = 4294967295;
 
 // The node where the walk is, how many edges it met, the places of these, and the bounds of each node so far.
 #[derive(Drop)]
@@ -51,7 +50,7 @@ fn items_at(nodes: &[TreeNode], k: u32) -> &[Item]
 // The node whose first item is edge 0.
 fn root_of(nodes: &[TreeNode]) -> u32
     requires { (g : Multigraph) × IsTutte g nodes.now × (0 < edge_count g)
-        × (length nodes.now < 4294967296) }
+        × (length nodes.now < 2 ^ 32) }
     ensures within { result < length nodes.now }
     ensures first { what_at nodes.now result 0 ≡ Real 0 }
 {
@@ -81,7 +80,7 @@ impl Tour {
         requires { 0 < m }
         ensures { IfOk result (HasBegun nodes.now m root) }
     {
-        let mut places = vec![in alloc; NO_PLACE; m as usize]?;
+        let mut places = vec![in alloc; ABSENT; m as usize]?;
         places[0] = 0;
         Ok(Tour {
             at: root,
@@ -116,7 +115,7 @@ impl Tour {
     // Meets edge e.
     fn meet(&mut self, e: u32)
         requires place { e < length self.old.places }
-        requires few { self.old.met < 4294967295 }
+        requires few { self.old.met < absent }
         ensures { self.new ≡ record {
           at = self.old.at;
           met = self.old.met + 1;
@@ -162,7 +161,7 @@ impl Tour {
 pub(crate) fn tour_of(alloc: Global, nodes: &[TreeNode], m: u32) -> Result<Tour, AllocError>
     requires tree { (g : Multigraph) × IsTutte g nodes.now × (0 < edge_count g)
         × (m ≡ edge_count g) }
-    requires few { length nodes.now < 4294967296 }
+    requires few { length nodes.now < 2 ^ 32 }
     ensures { IfOk result (λ tour. AreToured nodes.now tour.places tour.bounds) }
 {
     let mut tour = Tour::new(alloc, nodes, m, root_of(nodes))?;

@@ -1,0 +1,5 @@
+-- The number that stands where there is none: for a component in no group, for no parent, and for an edge without a place.
+use Rattle.std.specs.Prelude.{ℕ}
+
+abbrev pub absent : ℕ
+absent = 4294967295
