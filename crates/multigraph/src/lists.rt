@@ -1,6 +1,6 @@
 // Lists that contracts see as lists, of numbers and of any values.
 
-ghost use Rattle.std.specs.Prelude.{◌≡◌, ◌∷◌, ◌++◌, [], is_ok, if◌then◌else◌};
+ghost use Rattle.std.specs.Prelude.{◌≡◌, ◌∷◌, ◌++◌, [], is_ok, if◌then◌else◌, reverse, IfOk};
 
 use std::alloc::{AllocError, Global};
 use std::marker::Model;
@@ -39,6 +39,26 @@ impl<T> Sequence<T> {
         ensures { result.items ≡ self }
     {
         self.held
+    }
+}
+
+impl<T: Copy> Sequence<T> {
+    /// A copy. Fails for want of memory alone.
+    pub fn copy(&self, alloc: Global) -> Result<Sequence<T>, AllocError>
+        ensures { IfOk result (λ list. list ≡ self.now) }
+    {
+        Ok(Sequence {
+            held: Vec::from_slice(alloc, self.held.as_slice())?,
+        })
+    }
+
+    /// The values in the reverse order. Fails for want of memory alone.
+    pub fn reversed(&self, alloc: Global) -> Result<Sequence<T>, AllocError>
+        ensures { IfOk result (λ list. list ≡ reverse self.now) }
+    {
+        let mut held = Vec::from_slice(alloc, self.held.as_slice())?;
+        held.reverse();
+        Ok(Sequence { held })
     }
 }
 

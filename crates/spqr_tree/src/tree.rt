@@ -134,7 +134,7 @@ fn copy_lists(alloc: Global, lists: &[Numbers]) -> Result<Vec<Numbers>, AllocErr
 {
     let mut copies = Vec::with_capacity(alloc, lists.len())?;
     for list in lists {
-        copies.push(Numbers::of(Vec::from_slice(alloc, list.as_slice())?))?;
+        copies.push(list.copy(alloc)?)?;
     }
     Ok(copies)
 }
@@ -146,8 +146,8 @@ impl TreeNode {
     {
         Ok(TreeNode {
             kind: self.kind,
-            vertices: Numbers::of(Vec::from_slice(alloc, self.vertices.as_slice())?),
-            items: ItemList::of(Vec::from_slice(alloc, self.items.as_slice())?),
+            vertices: self.vertices.copy(alloc)?,
+            items: self.items.copy(alloc)?,
         })
     }
 }
