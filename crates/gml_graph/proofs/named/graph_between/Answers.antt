@@ -19,7 +19,7 @@ pub of_ends-requires-clause-limits : goal.of_ends-requires-clause-limits
 of_ends-requires-clause-limits c =
     let nodes : List Document = map (λ node. node.now) c.args.nodes.now in
     let edges : List Document = map (λ edge. edge.now) c.args.edges.now in
-    let few : length c.in_ok-ids.ids ≤ max_vertices = omega (arith, each_below-length (node_id nodes) (length nodes) c.in_ok-ids.ids c.in_ok-ids.ensures, length-map c.args.nodes.now (λ node. node.now), c.if-nodes-gt-MAX_VERTICES.false) in
+    let few : length c.in_ok-ids.ids ≤ max_vertices = omega (arith, each_below-length (node_id nodes) (length nodes) c.in_ok-ids.ids c.in_ok-ids.ensures, length-map c.args.nodes.now (λ node. node.now), c.if-nodes.false) in
     let many : length edges ≤ max_edges = omega (arith, length-map c.args.edges.now (λ edge. edge.now), c.if-edges-gt-MAX_EDGES.false) in
     rw c.len.ensures (edge_ends-limits c.in_ok-ids.ids edges c.in_ok-ends.ends.items few many c.in_ok-ends.ensures)
 
@@ -28,5 +28,5 @@ returns-in_err-ends c =
     let nodes : List Document = map (λ node. node.now) c.args.nodes.now in
     let edges : List Document = map (λ edge. edge.now) c.args.edges.now in
     let refuses : Refuses (graph_between nodes edges) c.in_err-ends.field-0.0 =
-    refused-behind nodes edges c.in_ok-ids.ids c.in_err-ends.field-0.0 (omega (arith, length-map c.args.nodes.now (λ node. node.now), c.if-nodes-gt-MAX_VERTICES.false)) (omega (arith, length-map c.args.edges.now (λ edge. edge.now), c.if-edges-gt-MAX_EDGES.false)) c.in_ok-ids.ensures c.in_err-ends.ensures in
+    refused-behind nodes edges c.in_ok-ids.ids c.in_err-ends.field-0.0 (omega (arith, length-map c.args.nodes.now (λ node. node.now), c.if-nodes.false)) (omega (arith, length-map c.args.edges.now (λ edge. edge.now), c.if-edges-gt-MAX_EDGES.false)) c.in_ok-ids.ensures c.in_err-ends.ensures in
     search rules
