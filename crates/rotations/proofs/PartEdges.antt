@@ -5,7 +5,7 @@ use Rattle.std.specs.List.Sorted.{IsPermutation}
 use Rattle.std.proofs.lemmas.List.{length-map, map-append, get_or_default, nil_from_length}
 use Rattle.std.proofs.lemmas.List.Sorted.{IsPermutation-map, length_permutation}
 use Rattle.std.proofs.lemmas.Bool.{cases_eq, cases_lt, eq-eqb, ne_eqb, cond-true, cond-false, both_ways, false_from_ne_true}
-use Rattle.permutations.specs.Members.{is_member}
+use Rattle.permutations.specs.Members.{is_member, place_of}
 use Rattle.permutations.specs.Cyclic.{first_or, turned}
 use Rattle.permutations.proofs.Members.{member-head, member-tail, member-append_left, cut_at}
 use Rattle.permutations.proofs.Turned.{turned-cut}
@@ -15,31 +15,31 @@ use Rattle.multigraph.specs.Part.{GraphPart, Rises, IsNumbered}
 use Rattle.multigraph.proofs.Places.{rises-once}
 use Rattle.rotations.specs.Entries.{entry, IsRising, IsNamed, list_at}
 use Rattle.rotations.specs.Given.{IsArranged, AreArranged, IsFirstBad, given_order}
-use Rattle.rotations.specs.PartLists.{outer_edges, outer_list, ArrangePart, IsFirstBadInPart, outer_order, place_in, AreInnerBelow, IsFirstStranger}
+use Rattle.rotations.specs.PartLists.{outer_edges, outer_list, ArrangePart, IsFirstBadInPart, outer_order, AreInnerBelow, IsFirstStranger}
 use Rattle.rotations.proofs.Membership.{member-edge}
 use Rattle.rotations.proofs.Arrangements.{permutation-member, permutation-member_back}
 use Rattle.rotations.proofs.Cursor.{list_at-found}
 
 -- the place of a number is the first at which it stands
-pub place-first : (l : List ℕ) (x i : ℕ) → i < length l → ((j : ℕ) → j < i → get_or l j 0 ≢ x) → get_or l i 0 ≡ x → place_in l x ≡ i
+pub place-first : (l : List ℕ) (x i : ℕ) → i < length l → ((j : ℕ) → j < i → get_or l j 0 ≢ x) → get_or l i 0 ≡ x → place_of l x ≡ i
 place-first [] x i l n e = absurd (omega arith)
-place-first (y ∷ ys) x zero l n e = cond-true (eqb y x) 0 (suc (place_in ys x)) (eq-eqb y x e)
-place-first (y ∷ ys) x (suc i) l n e = cond-false (eqb y x) 0 (suc (place_in ys x)) (ne_eqb y x (n 0 (omega arith))) ∙ ap suc (place-first ys x i (omega arith) (λ j m. n (suc j) (omega arith)) e)
+place-first (y ∷ ys) x zero l n e = cond-true (eqb y x) 0 (suc (place_of ys x)) (eq-eqb y x e)
+place-first (y ∷ ys) x (suc i) l n e = cond-false (eqb y x) 0 (suc (place_of ys x)) (ne_eqb y x (n 0 (omega arith))) ∙ ap suc (place-first ys x i (omega arith) (λ j m. n (suc j) (omega arith)) e)
 
-pub place-none : (l : List ℕ) (x : ℕ) → ((j : ℕ) → j < length l → get_or l j 0 ≢ x) → place_in l x ≡ length l
+pub place-none : (l : List ℕ) (x : ℕ) → ((j : ℕ) → j < length l → get_or l j 0 ≢ x) → place_of l x ≡ length l
 place-none [] x n = refl
-place-none (y ∷ ys) x n = cond-false (eqb y x) 0 (suc (place_in ys x)) (ne_eqb y x (n 0 (omega arith))) ∙ ap suc (place-none ys x (λ j m. n (suc j) (omega arith)))
+place-none (y ∷ ys) x n = cond-false (eqb y x) 0 (suc (place_of ys x)) (ne_eqb y x (n 0 (omega arith))) ∙ ap suc (place-none ys x (λ j m. n (suc j) (omega arith)))
 
-pub place-back : (l : List ℕ) (x : ℕ) → place_in l x < length l → get_or l (place_in l x) 0 ≡ x
+pub place-back : (l : List ℕ) (x : ℕ) → place_of l x < length l → get_or l (place_of l x) 0 ≡ x
 place-back [] x m = absurd (omega arith)
 place-back (y ∷ ys) x m = elim (cases_eq y x) [
-  | inl same ↦ subst (λ (k : ℕ). get_or (y ∷ ys) k 0 ≡ x) (sym (cond-true (eqb y x) 0 (suc (place_in ys x)) (eq-eqb y x same))) same
+  | inl same ↦ subst (λ (k : ℕ). get_or (y ∷ ys) k 0 ≡ x) (sym (cond-true (eqb y x) 0 (suc (place_of ys x)) (eq-eqb y x same))) same
   | inr n ↦
-      let e : place_in (y ∷ ys) x ≡ suc (place_in ys x) = cond-false (eqb y x) 0 (suc (place_in ys x)) (ne_eqb y x n) in
+      let e : place_of (y ∷ ys) x ≡ suc (place_of ys x) = cond-false (eqb y x) 0 (suc (place_of ys x)) (ne_eqb y x n) in
       subst (λ (k : ℕ). get_or (y ∷ ys) k 0 ≡ x) (sym e) (place-back ys x (omega (arith, e)))
 ]
 
-pub place-at : (l : List ℕ) (i : ℕ) → Rises l → i < length l → place_in l (get_or l i 0) ≡ i
+pub place-at : (l : List ℕ) (i : ℕ) → Rises l → i < length l → place_of l (get_or l i 0) ≡ i
 place-at l i r m = place-first l (get_or l i 0) i m (λ j n e. omega (arith, rises-once l r j i (omega arith) m e)) refl
 
 -- a list turned to a member, mapped
@@ -55,22 +55,22 @@ map-turned f l y m one =
     ∙ sym (ap (λ (o : List ℕ). turned (map f o) (f y)) cut.is ∙ (ap (λ (o : List ℕ). turned o (f y)) (map-append f cut.front (y ∷ cut.back)) ∙ turned-cut (map f cut.front) (f y) (map f cut.back) apart)))
 
 -- there and back
-map-back : (edges inc : List ℕ) → Rises edges → ((e : ℕ) → is_member e inc ≡ true → e < length edges) → map (place_in edges) (map (λ j. get_or edges j 0) inc) ≡ inc
+map-back : (edges inc : List ℕ) → Rises edges → ((e : ℕ) → is_member e inc ≡ true → e < length edges) → map (place_of edges) (map (λ j. get_or edges j 0) inc) ≡ inc
 map-back edges [] r b = refl
 map-back edges (x ∷ xs) r b = (λ i. place-at edges x r (b x (member-head x xs)) i ∷ map-back edges xs r (λ e m. b e (member-tail e x xs m)) i)
 
-map-forth : (edges l : List ℕ) → ((e : ℕ) → is_member e (map (place_in edges) l) ≡ true → e < length edges) → map (λ j. get_or edges j 0) (map (place_in edges) l) ≡ l
+map-forth : (edges l : List ℕ) → ((e : ℕ) → is_member e (map (place_of edges) l) ≡ true → e < length edges) → map (λ j. get_or edges j 0) (map (place_of edges) l) ≡ l
 map-forth edges [] b = refl
 map-forth edges (x ∷ xs) b =
-    (λ i. place-back edges x (b (place_in edges x) (member-head (place_in edges x) (map (place_in edges) xs))) i
-    ∷ map-forth edges xs (λ e m. b e (member-tail e (place_in edges x) (map (place_in edges) xs) m)) i)
+    (λ i. place-back edges x (b (place_of edges x) (member-head (place_of edges x) (map (place_of edges) xs))) i
+    ∷ map-forth edges xs (λ e m. b e (member-tail e (place_of edges x) (map (place_of edges) xs) m)) i)
 
 module _ (part : GraphPart) (numbered : IsNumbered part) (entries inner : List (ℕ × List ℕ)) (made : AreInnerBelow part entries inner part.graph.vertex_count) where
   below : (i e : ℕ) → is_member e (incident_edges part.graph i) ≡ true → e < length part.edges
   below i e m = omega (arith, member-edge part.graph i e m, numbered.edge_each)
 
   -- the list of each vertex in the numbers of the part
-  inner-list : (i : ℕ) → i < part.graph.vertex_count → list_at inner i ≡ map (place_in part.edges) (outer_list part entries i)
+  inner-list : (i : ℕ) → i < part.graph.vertex_count → list_at inner i ≡ map (place_of part.edges) (outer_list part entries i)
   inner-list i l =
       list_at-found inner i i (omega (arith, made.long))
       (λ j m same. omega (arith, ap (λ (q : (ℕ × List ℕ)). q.0) (made.each j (omega arith))))
@@ -81,17 +81,17 @@ module _ (part : GraphPart) (numbered : IsNumbered part) (entries inner : List (
   to-inner : (i : ℕ) → i < part.graph.vertex_count → IsPermutation (outer_edges part i) (outer_list part entries i) → IsArranged part.graph inner i
   to-inner i l p =
       subst (λ (o : List ℕ). IsPermutation (incident_edges part.graph i) o) (sym (inner-list i l))
-      (subst (λ (o : List ℕ). IsPermutation o (map (place_in part.edges) (outer_list part entries i))) (map-back part.edges (incident_edges part.graph i) numbered.edges_rise (below i))
-      (IsPermutation-map (place_in part.edges) (outer_edges part i) (outer_list part entries i) p))
+      (subst (λ (o : List ℕ). IsPermutation o (map (place_of part.edges) (outer_list part entries i))) (map-back part.edges (incident_edges part.graph i) numbered.edges_rise (below i))
+      (IsPermutation-map (place_of part.edges) (outer_edges part i) (outer_list part entries i) p))
 
-  back-list : (i : ℕ) → i < part.graph.vertex_count → IsArranged part.graph inner i → map (λ j. get_or part.edges j 0) (map (place_in part.edges) (outer_list part entries i)) ≡ outer_list part entries i
+  back-list : (i : ℕ) → i < part.graph.vertex_count → IsArranged part.graph inner i → map (λ j. get_or part.edges j 0) (map (place_of part.edges) (outer_list part entries i)) ≡ outer_list part entries i
   back-list i l p = map-forth part.edges (outer_list part entries i)
       (λ e m. below i e (permutation-member_back (incident_edges part.graph i) (list_at inner i) e p (subst (λ (o : List ℕ). is_member e o ≡ true) (sym (inner-list i l)) m)))
 
   to-outer : (i : ℕ) → i < part.graph.vertex_count → IsArranged part.graph inner i → IsPermutation (outer_edges part i) (outer_list part entries i)
   to-outer i l p =
       subst (λ (o : List ℕ). IsPermutation (outer_edges part i) o) (back-list i l p)
-      (IsPermutation-map (λ j. get_or part.edges j 0) (incident_edges part.graph i) (map (place_in part.edges) (outer_list part entries i))
+      (IsPermutation-map (λ j. get_or part.edges j 0) (incident_edges part.graph i) (map (place_of part.edges) (outer_list part entries i))
       (subst (λ (o : List ℕ). IsPermutation (incident_edges part.graph i) o) (inner-list i l) p))
 
   -- the order of each vertex in the numbers of the whole graph
@@ -101,16 +101,16 @@ module _ (part : GraphPart) (numbered : IsNumbered part) (entries inner : List (
       ∙ go (incident_edges part.graph i) refl
     where
       go : (inc : List ℕ) → inc ≡ incident_edges part.graph i
-          → map (λ j. get_or part.edges j 0) (turned (map (place_in part.edges) (outer_list part entries i)) (first_or 0 inc)) ≡ turned (outer_list part entries i) (first_or 0 (map (λ j. get_or part.edges j 0) inc))
+          → map (λ j. get_or part.edges j 0) (turned (map (place_of part.edges) (outer_list part entries i)) (first_or 0 inc)) ≡ turned (outer_list part entries i) (first_or 0 (map (λ j. get_or part.edges j 0) inc))
       go [] e =
           let none : outer_list part entries i ≡ [] =
           nil_from_length (outer_list part entries i) (omega (arith, ap length e, length_permutation (outer_edges part i) (outer_list part entries i) (to-outer i l p), length-map (incident_edges part.graph i) (λ j. get_or part.edges j 0))) in
-          subst (λ (o : List ℕ). map (λ j. get_or part.edges j 0) (turned (map (place_in part.edges) o) 0) ≡ turned o 0) (sym none) refl
+          subst (λ (o : List ℕ). map (λ j. get_or part.edges j 0) (turned (map (place_of part.edges) o) 0) ≡ turned o 0) (sym none) refl
       go (x ∷ xs) e =
           let at_x : is_member x (incident_edges part.graph i) ≡ true = subst (λ (o : List ℕ). is_member x o ≡ true) e (member-head x xs) in
-          let inside : (z : ℕ) → is_member z (map (place_in part.edges) (outer_list part entries i)) ≡ true → z < length part.edges =
+          let inside : (z : ℕ) → is_member z (map (place_of part.edges) (outer_list part entries i)) ≡ true → z < length part.edges =
           λ z m. below i z (permutation-member_back (incident_edges part.graph i) (list_at inner i) z p (subst (λ (o : List ℕ). is_member z o ≡ true) (sym (inner-list i l)) m)) in
-          map-turned (λ j. get_or part.edges j 0) (map (place_in part.edges) (outer_list part entries i)) x
+          map-turned (λ j. get_or part.edges j 0) (map (place_of part.edges) (outer_list part entries i)) x
           (subst (λ (o : List ℕ). is_member x o ≡ true) (inner-list i l) (permutation-member (incident_edges part.graph i) (list_at inner i) x p at_x))
           (λ z m s. rises-once part.edges numbered.edges_rise z x (inside z m) (below i x at_x) s)
           ∙ ap (λ (o : List ℕ). turned o (get_or part.edges x 0)) (back-list i l p)
@@ -172,8 +172,8 @@ module _ (part : GraphPart) (numbered : IsNumbered part) (entries inner : List (
   lesser-vertex i w f s more = part-bad i f (λ u less. s.known u (omega arith))
 
 -- what a look-up in a rising list answers
-pub place-found : (l : List ℕ) (x k : ℕ) → Rises l → (k < length l) × (get_or l k 0 ≡ x) → k ≡ place_in l x
-place-found l x k r f = sym (ap (place_in l) (sym f.1) ∙ place-at l k r f.0)
+pub place-found : (l : List ℕ) (x k : ℕ) → Rises l → (k < length l) × (get_or l k 0 ≡ x) → k ≡ place_of l x
+place-found l x k r f = sym (ap (place_of l) (sym f.1) ∙ place-at l k r f.0)
 
 -- a list contains what stands at a place, and nothing else
 pub contains-at : (l : List ℕ) (x k : ℕ) → k < length l → get_or l k 0 ≡ x → Contains l x

@@ -1,6 +1,6 @@
 -- Lists of edges for a part of a graph, in the numbers of the whole graph: when they make a rotation system of the part, and where
 -- it shows first that they make none.
-use Rattle.std.specs.Prelude.{◌≡◌, ℕ, zero, suc, ◌<◌, ◌==◌, ◌⊎◌, if◌then◌else◌, List, [], ◌∷◌, length, map, slice_index}
+use Rattle.std.specs.Prelude.{◌≡◌, ℕ, ◌<◌, ◌⊎◌, List, length, map, slice_index}
 use Rattle.std.specs.List.{Contains}
 use Rattle.std.specs.List.Sorted.{IsPermutation}
 use Rattle.permutations.specs.Cyclic.{first_or, turned}
@@ -9,6 +9,7 @@ use Rattle.multigraph.specs.Part.{GraphPart}
 use Rattle.rotations.specs.Entries.{entry, IsNamed, list_at}
 use Rattle.rotations.specs.declared.faults.RotFault.{RotFault}
 use Rattle.rotations.specs.declared.faults.RotFault.TheVariants.{BadRotation, Memory}
+use Rattle.permutations.specs.Members.{place_of}
 
 -- the edges at vertex i of the part, by their numbers in the whole graph
 abbrev pub outer_edges : GraphPart → ℕ → List ℕ
@@ -43,15 +44,10 @@ IsPartRefusal part entries Memory = Unit {0}
 abbrev pub outer_order : GraphPart → List (ℕ × List ℕ) → ℕ → List ℕ
 outer_order part entries i = turned (outer_list part entries i) (first_or 0 (outer_edges part i))
 
--- the place of a number in a list, and the length of the list where it does not stand there
-abbrev pub place_in : List ℕ → ℕ → ℕ
-place_in [] x = 0
-place_in (y ∷ ys) x = (if y == x then 0 else suc (place_in ys x))
-
 -- the entries of the first vertices of the part, in its own numbers
 pub record AreInnerBelow (part : GraphPart) (entries inner : List (ℕ × List ℕ)) (n : ℕ) : Type 0 where
   pub long : length inner ≡ n
-  pub each : (i : ℕ) → i < n → entry inner i ≡ (i, map (place_in part.edges) (outer_list part entries i))
+  pub each : (i : ℕ) → i < n → entry inner i ≡ (i, map (place_of part.edges) (outer_list part entries i))
 
 -- v is the least number that is named and no vertex of the part
 pub record IsFirstStranger (part : GraphPart) (entries : List (ℕ × List ℕ)) (v : ℕ) : Type 0 where

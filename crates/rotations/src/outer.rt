@@ -7,7 +7,8 @@ ghost use Rattle.std.specs.List.{Contains};
 ghost use Rattle.std.specs.Option.{MatchOption};
 ghost use Rattle.rotations.specs.Entries.{entry, IsNamed, IsReachedAt};
 ghost use Rattle.rotations.specs.Given.{AreArranged, IsRefusal};
-ghost use Rattle.rotations.specs.PartLists.{ArrangePart, IsPartRefusal, place_in, AreInnerBelow, IsFirstStranger};
+ghost use Rattle.rotations.specs.PartLists.{ArrangePart, IsPartRefusal, AreInnerBelow, IsFirstStranger};
+ghost use Rattle.permutations.specs.Members.{place_of};
 
 use crate::arrangement::check_lists;
 use crate::entries::Lists;
@@ -116,7 +117,7 @@ fn reach(lists: &Lists, at: usize, v: u32) -> usize
 
 // The numbers in the part of the edges of a list.
 fn inner_edges(alloc: Global, p: &Part, list: &[u32]) -> Result<Vec<u32>, AllocError>
-    ensures { IfOk result (λ edges. edges.items ≡ map (place_in p.now.edges) list.now) }
+    ensures { IfOk result (λ edges. edges.items ≡ map (place_of p.now.edges) list.now) }
 {
     let mut edges = Vec::with_capacity(alloc, list.len())?;
     for e in list {
@@ -127,7 +128,7 @@ fn inner_edges(alloc: Global, p: &Part, list: &[u32]) -> Result<Vec<u32>, AllocE
 
 // The number of an edge in the part, and the number of its edges where it is none of them.
 fn inner_edge(p: &Part, e: u32) -> u32
-    ensures { result ≡ place_in p.now.edges e }
+    ensures { result ≡ place_of p.now.edges e }
 {
     let count = p.graph().edge_count();
     match p.inner_edge(e) {

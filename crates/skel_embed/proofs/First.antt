@@ -1,5 +1,5 @@
 -- The least possible choice of each kind of node, and the first plane rotation system of a block.
-use Rattle.std.proofs.Common.{◌≡◌, ◌≢◌, ℕ, ◌+◌, ◌<◌, ◌≤◌, ◌⊎◌, inl, inr, Bool, true, false, not, cond, List, [], ◌∷◌, ◌++◌, append_assoc, length, map, reverse, get_or, slice_index_or, length-append, refl, sym, ap, ◌∙◌, subst, arith}
+use Rattle.std.proofs.Common.{◌≡◌, ◌≢◌, ℕ, ◌+◌, ◌<◌, ◌≤◌, ◌⊎◌, inl, inr, Bool, true, false, not, cond, List, [], ◌∷◌, ◌++◌, append_assoc, length, map, reverse, get_or, slice_index_or, length-append, refl, sym, ap, ◌∙◌, subst, arith, suc}
 use Rattle.std.proofs.lemmas.Bool.{cases_eq, true≢false, both_ways, false_from_ne_true, eq-eqb}
 use Rattle.std.proofs.lemmas.List.{get_or-map, length-map}
 use Rattle.std.proofs.Math.ListN.{get_or-append}
@@ -52,7 +52,7 @@ use Rattle.skel_embed.proofs.Lexicographic.{rising-least, mirrored-later}
 -- the first place is that of the first member
 first-place : (l : List ℕ) → is_member (first_or 0 l) l ≡ true → place_of l (first_or 0 l) ≡ 0
 first-place [] m = absurd (true≢false (sym m))
-first-place (x ∷ l) m = ap (λ (z : Bool). cond z 0 (place_of l x + 1)) (eq-eqb x x refl)
+first-place (x ∷ l) m = ap (λ (z : Bool). cond z 0 (suc (place_of l x))) (eq-eqb x x refl)
 
 -- images that rise from the first on are written as they should be
 written-map : (key : ℕ → ℕ) (l : List ℕ) → ((z : ℕ) → is_member z l ≡ true → key (first_or 0 l) ≤ key z) → from_least (map key l) ≡ map key l

@@ -1,5 +1,5 @@
 -- Each cyclic order of a bond's items is that of a plane rotation system at the lesser pole; and the poles' places are 0 and 1.
-use Rattle.std.proofs.Common.{◌≡◌, ℕ, ◌+◌, ◌<◌, ◌⊎◌, ◌==◌, Bool, true, cond, List, [], ◌∷◌, map, reverse, inl, inr, refl, sym, ap, ◌∙◌, subst, eq-eqb}
+use Rattle.std.proofs.Common.{◌≡◌, ℕ, ◌<◌, ◌⊎◌, ◌==◌, Bool, true, cond, List, [], ◌∷◌, map, reverse, inl, inr, refl, sym, ap, ◌∙◌, subst, eq-eqb, suc}
 use Rattle.std.proofs.lemmas.List.{get_or-map, length-map}
 use Rattle.permutations.specs.Members.{is_member, place_of}
 use Rattle.permutations.specs.Cyclic.{first_or, from_least}
@@ -60,7 +60,7 @@ module _ (g : Multigraph) (nodes : List Node) (b : IsBlockTree g nodes) (k : ℕ
     where
       at : (l : List ℕ) → is_member (first_or 0 l) l ≡ true → place_of l (first_or 0 l) ≡ 0
       at [] m = refl
-      at (x ∷ l) m = ap (λ (t : Bool). cond t 0 (place_of l x + 1)) (eq-eqb x x refl)
+      at (x ∷ l) m = ap (λ (t : Bool). cond t 0 (suc (place_of l x))) (eq-eqb x x refl)
 
   -- and the greatest place 1
   pub greatest-place : place_of (node_at nodes k).vertices (greatest_vertex nodes k) ≡ 1

@@ -1,11 +1,11 @@
 -- The skeleton of a node as a graph of its own: it is a graph, and where the node is triconnected it is a triconnected graph.
-use Rattle.std.proofs.Common.{◌≡◌, ◌≢◌, ℕ, suc, ◌+◌, ◌<◌, ◌≤◌, inl, inr, true, false, not, List, [], ◌∷◌, length, filter, slice_index_or, get_or, refl, sym, ap, ◌∙◌, subst, arith, Contains}
-use Rattle.std.proofs.lemmas.Bool.{cases_lt, cases_eq, and_parts, and_from, eq-eqb, ne_eqb, not-true, not_from_false, false_from_ne_true, true≢false}
+use Rattle.std.proofs.Common.{◌≡◌, ◌≢◌, ℕ, suc, ◌<◌, ◌≤◌, inl, inr, true, false, not, List, [], ◌∷◌, length, filter, slice_index_or, get_or, refl, sym, ap, ◌∙◌, subst, arith, Contains}
+use Rattle.std.proofs.lemmas.Bool.{cases_lt, and_parts, and_from, not-true, not_from_false, false_from_ne_true}
 use Rattle.std.proofs.lemmas.List.{get_or-map, get_or_past, get_or_default, length-map}
 use Rattle.permutations.specs.Members.{is_member, is_distinct, place_of}
 use Rattle.permutations.specs.Relation.{connected}
 use Rattle.permutations.proofs.Count.{count-subset}
-use Rattle.permutations.proofs.Members.{member-cases, no_member-cons, no_member-head, no_member-tail, distinct-cons}
+use Rattle.permutations.proofs.Members.{no_member-cons, no_member-head, no_member-tail, distinct-cons}
 use Rattle.permutations.proofs.Arrangements.{contains-from_member, member-at, all-member, count-list}
 use Rattle.permutations.proofs.Relation.{connected-link, connected-reflexive, connected-symmetric, connected-transitive, connected-least-typed}
 use Rattle.multigraph.specs.Graph.{Multigraph, edge_count, ends_of, IsGraph, IsWithinLimits}
@@ -27,19 +27,12 @@ use Rattle.skeletons.specs.Families.{end_places, skeleton_graph}
 use Rattle.skeletons.specs.Laws.{SkeletonIsTriconnected}
 use Rattle.skeleton_runs.proofs.Items.{skeleton-at, skeleton-in, in-skeleton}
 use Rattle.skeletons.proofs.NodeItems.{comp-in, piece-in, item-in}
-use Rattle.permutations.proofs.Places.{place-below}
+use Rattle.permutations.proofs.Places.{place-below, place-holds}
 use Rattle.skeleton_runs.proofs.NodeFits.{vertex-skeleton, vertex-fits, item-first, item-second, key-fits}
 
 -- and stands there
 pub place-at : (l : List ℕ) (x d : ℕ) → is_member x l ≡ true → slice_index_or l (place_of l x) d ≡ x
-place-at [] x d m = absurd (true≢false (sym m))
-place-at (y ∷ l) x d m = elim (cases_eq y x) [
-  | inl e ↦ rw (eq-eqb y x e) e
-  | inr n ↦ elim (member-cases x y l m) [
-    | inl e ↦ absurd (n e)
-    | inr k ↦ let step : place_of l x + 1 ≡ suc (place_of l x) = omega arith in rw (ne_eqb y x n) (ap (λ i. slice_index_or (y ∷ l) i d) step ∙ place-at l x d k)
-  ]
-]
+place-at l x d m = get_or_default l (place_of l x) d 0 (place-below l x m) ∙ place-holds l x m
 
 -- members with one place are one
 pub place-once : (l : List ℕ) (x y : ℕ) → is_member x l ≡ true → is_member y l ≡ true → place_of l x ≡ place_of l y → x ≡ y

@@ -1,16 +1,15 @@
 -- Families: the rotation systems of the skeletons under numbers of their own, as orders of keys and back.
-use Rattle.std.proofs.Common.{◌≡◌, ◌≢◌, ℕ, suc, ◌+◌, ◌<◌, ◌==◌, ◌||◌, inl, inr, Bool, true, cond, List, [], ◌∷◌, length, map, slice_index_or, refl, sym, ap, ap₂, ◌∙◌, subst, arith, IsPermutation}
-use Rattle.std.proofs.lemmas.Bool.{cases_eq, cases_lt, true≢false, eq-eqb, eqb-true, ne_eqb, or_left, or_right}
+use Rattle.std.proofs.Common.{◌≡◌, ℕ, ◌<◌, ◌==◌, ◌||◌, inl, inr, Bool, true, List, [], length, map, slice_index_or, refl, sym, ap, ap₂, ◌∙◌, subst, arith, IsPermutation}
+use Rattle.std.proofs.lemmas.Bool.{cases_lt, eq-eqb, eqb-true, or_left, or_right}
 use Rattle.std.proofs.lemmas.List.{get_or-map, get_or_default, length-map, same_lists}
 use Rattle.permutations.specs.Cyclic.{IsTurn, from_least}
 use Rattle.permutations.specs.Members.{is_member, is_distinct, place_of}
 use Rattle.permutations.specs.Runs.{group_keys}
 use Rattle.permutations.proofs.Arrangements.{permutation-member, permutation-distinct, permutation-from_members, member-at}
-use Rattle.permutations.proofs.Members.{member-cases}
 use Rattle.permutations.proofs.NormalForm.{same-from_least, from_least-turn, from_least-distinct, from_least-member}
 use Rattle.permutations.proofs.Relation.{same-tests}
 use Rattle.permutations.proofs.Turned.{IsTurn-map}
-use Rattle.permutations.proofs.Places.{same-place, told-distinct}
+use Rattle.permutations.proofs.Places.{place-at, place-below, place-holds, told-distinct}
 use Rattle.permutations.proofs.Mapped.{map-member, member-map, distinct-map}
 use Rattle.multigraph.specs.Graph.{Multigraph, numbers_below, edge_count, ends_of, is_end, incident_edges}
 use Rattle.multigraph.proofs.Below.{get_or-numbers_below, length-numbers_below}
