@@ -1,5 +1,5 @@
 -- Nodes of a tree by their kinds.
-use Rattle.std.specs.Prelude.{◌≡◌, ℕ, ◌<◌, Bool, false, List, length}
+use Rattle.std.specs.Prelude.{◌≡◌, ℕ, ◌<◌, Bool, true, false, List, length}
 use Rattle.permutations.specs.Count.{count}
 use Rattle.pair_split.specs.Tutte.{Node, node_at}
 use Rattle.pair_split.specs.declared.components.Kind.{Kind}
