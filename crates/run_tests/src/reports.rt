@@ -35,7 +35,7 @@ fn words_of(alloc: Global, line: &str) -> Result<Vec<String>, AllocError> {
     Ok(words)
 }
 
-// What a run on the files `g` and `s` answers and writes. Calls of these numbers fail.
+// What a run on the files `g` and `s` returns and writes. Calls of these numbers fail.
 fn answer(
     alloc: Global,
     files: (&[u8], &[u8]),
@@ -391,7 +391,7 @@ fn statuses_have_numbers(rt: HostRuntime) {
     }
 }
 
-// What a run on the words of a line, over no files, answers and writes. Puts of these numbers fail.
+// What a run on the words of a line, over no files, returns and writes. Puts of these numbers fail.
 fn answer_to(
     alloc: Global,
     line: &str,

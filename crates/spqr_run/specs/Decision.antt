@@ -1,4 +1,4 @@
--- What a run decides before it writes: what is to be done, or why it is refused; and what is due for the words and the bytes.
+-- What a run decides before it writes: what is to be done, or why it is refused; and what is correct for the words and the bytes.
 use Rattle.std.specs.Prelude.{◌≡◌, ◌≢◌, ℕ, ◌≤◌, List, length, Option, None, Some, Result, Ok, Err, IfSome, IsSome, ⊤}
 use Rattle.gml_text.specs.Document.{Document}
 use Rattle.gml_text.specs.Grammar.{Spells}
@@ -34,7 +34,7 @@ pub record Sources : Type 0 where
   pub graph : List ℕ
   pub script : List ℕ
 
--- where the shelf tells its files and the words name two, these are their bytes
+-- where the files of the shelf are known and the words name two, these are their bytes
 abbrev pub AreContents : List (List ℕ) → Option Files → Sources → Type 0
 AreContents words told sources =
     IfSome told (λ files. IfSome (names_of words) (λ names.
@@ -45,7 +45,7 @@ pub record Work : Type 0 where
   pub setting : Setting
   pub commands : List Command
 
--- what is to be done: the report on a work, or the summary of the graph that is made from a number, of so many edges or a few more
+-- what is to be done: the report on a work, or the summary of the graph that is made from a number, of this many edges or a few more
 pub data Task : Type 0 where
   Report : Work → Task
   Summary : ℕ → ℕ → Task
@@ -85,7 +85,7 @@ pub record IsWork (sources : Sources) (work : Work) : Type 0 where
   pub setting : IsSetting work.setting
   pub script : SayCommands sources.script work.commands
 
--- why bytes are no document; want of memory is no reason
+-- why bytes are not a document; running out of memory is not such a reason
 abbrev pub IsGmlReason : List ℕ → GmlFault → Type 0
 IsGmlReason bytes (Bad at) = IsGmlFault (Bad at) bytes
 IsGmlReason bytes (End at) = IsGmlFault (End at) bytes
@@ -102,7 +102,7 @@ abbrev pub IsScriptReason : List ℕ → ScriptRefusal → Type 0
 IsScriptReason bytes (Script fault) = IsFileReason script_limit bytes fault
 IsScriptReason bytes (Line line) = (length bytes ≤ script_limit) × IsFirstBadLine bytes line
 
--- a graph file says a document, and a script file commands; or it is refused: by some bytes, its own where the files are told
+-- a graph file says a document, and a script file commands; or it is refused: by some bytes, its own where the files are known
 abbrev pub GraphFileSays : Option Files → List ℕ → Document → Type 0
 GraphFileSays told name d = SomeBytes (told_file told name) (λ bytes. SayDocument bytes d)
 
@@ -119,8 +119,8 @@ ScriptFileRefused told name refusal = SomeBytes (told_file told name) (λ bytes.
 abbrev pub Decision : Type 0
 Decision = Result Task Refusal
 
--- a decision that is due for the words, by the bytes. The script is refused only where the graph is accepted. For words that ask
--- for a graph from a number nothing but its summary is due
+-- a decision that is correct for the words, by the bytes. The script is refused only where the graph is accepted. For words that ask
+-- for a graph from a number nothing but its summary is correct
 abbrev pub IsDue : List (List ℕ) → Sources → Decision → Type 0
 IsDue words sources (Ok (Report work)) = IsSome (names_of words) × IsWork sources work
 IsDue words sources (Ok (Summary n seed)) = form_of words ≡ Some (Make n seed)
@@ -128,7 +128,7 @@ IsDue words sources (Err Usage) = form_of words ≡ None
 IsDue words sources (Err (OfGraph refusal)) = IsSome (names_of words) × IsGraphReason sources.graph refusal
 IsDue words sources (Err (OfScript refusal)) = IsSome (names_of words) × AcceptsGraph sources.graph × IsScriptReason sources.script refusal
 
--- a refusal has a line: want of memory is none
+-- a refusal has a line: running out of memory has none
 abbrev pub HasLine : GraphRefusal → Type 0
 HasLine (File fault) = ⊤
 HasLine (Gml fault) = fault ≢ GmlMemory

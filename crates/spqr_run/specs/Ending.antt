@@ -81,28 +81,28 @@ opens_of (Err NoForm) = 0
 opens_of (Err (OfGraph refusal)) = 1
 opens_of (Err (OfScript refusal)) = 2
 
--- a count of faults by a refusal's status: it rose for a read that failed, and is as before for each other
+-- a count of faults by a refusal's status: it increased for a read that failed, and is as before for each other
 abbrev pub CountsFor : Status → ℕ → ℕ → Type 0
 CountsFor ReadFault before now = (before ≤ now) × Rose before now
 CountsFor status before now = now ≡ before
 
--- the count of the shelf's faults by what a call answers
+-- the count of the shelf's faults by what a call returns
 abbrev pub CountsFaults : {T R : Type 0} → (R → Status) → ℕ → ℕ → Result T (Halt R) → Type 0
 CountsFaults status before now (Ok _) = now ≡ before
 CountsFaults status before now (Err (Refused refusal)) = CountsFor (status refusal) before now
 CountsFaults status before now (Err OutOfMemory) = now ≡ before
 
--- so many calls more
+-- this many calls more
 abbrev pub counted_times : ℕ → ℕ → ℕ
 counted_times zero n = n
 counted_times (suc k) n = counted (counted_times k n)
 
--- the count of opened files went up as far as the decision says, where it is told
+-- the count of opened files went up as far as the decision says, where it is known
 abbrev pub CountsOpens : Option ℕ → Option ℕ → Decision → Type 0
 CountsOpens before now decision = IfSome before (λ n. now ≡ Some (counted_times (opens_of decision) n))
 
--- a decision was made on these words: it has a text; it is due by some bytes, which are those of the files, where these are
--- told; so many files were opened; and a call of the shelf failed where the decision says so, and none else
+-- a decision was made on these words: it has a text; it is correct for some bytes, which are those of the files, where these are
+-- known; this many files were opened; and a call of the shelf failed where the decision says so, and none else
 pub record IsDecided (words : List (List ℕ)) (before after : ShelfSeen) (decision : Decision) : Type 0 where
   pub sources : Sources
   pub contents : AreContents words before.files sources
@@ -125,7 +125,7 @@ abbrev pub IsReady : Plan → Type 0
 IsReady (plan.Report accepted) = IsStarted accepted.session
 IsReady (plan.Summary edges seed) = (6 ≤ edges) × (edges ≤ max_asked)
 
--- a fact on the decision that a call answers, where memory suffices: what its plan is to do, or the refusal
+-- a fact on the decision that a call returns, where memory suffices: what its plan is to do, or the refusal
 abbrev pub OnDecision : Result Plan (Halt Refusal) → (Decision → Type 0) → Type 0
 OnDecision (Ok planned) P = P (Ok (task_of planned))
 OnDecision (Err (Refused refusal)) P = P (Err refusal)

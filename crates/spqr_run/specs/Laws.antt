@@ -15,7 +15,7 @@ abbrev pub AgreeOnOpen : Decision → Decision → Type 0
 AgreeOnOpen (Ok (Report a)) (Ok (Report b)) = a.setting.certificates ≡ b.setting.certificates
 AgreeOnOpen a b = ⊤
 
--- decisions that are due for the same words and bytes have one status, a read that failed aside
+-- decisions that are correct for the same words and bytes have one status, a read that failed aside
 abbrev pub OneStatus : Type 0
 OneStatus =
     (words : List (List ℕ)) (sources : Sources) (a b : Decision) → IsDue words sources a → IsDue words sources b
@@ -36,18 +36,18 @@ pub record AreAlike (a b : Work) : Type 0 where
   pub planar : (k : ℕ) → (certificate_at a.setting.certificates k ≡ None) ↔ (certificate_at b.setting.certificates k ≡ None)
   pub commands : a.commands ≡ b.commands
 
--- works that are due for the same words and bytes are so, their trees included
+-- works that are correct for the same words and bytes are so, their trees included
 abbrev pub OneWork : Type 0
 OneWork =
     (words : List (List ℕ)) (sources : Sources) (a b : Work) → IsDue words sources (Ok (Report a)) → IsDue words sources (Ok (Report b)) → AreAlike a b
 
--- where the words name two files and both are accepted, no refusal is due, a read that failed aside
+-- where the words name two files and both are accepted, no refusal is correct, a read that failed aside
 abbrev pub NoRefusal : Type 0
 NoRefusal =
     (words : List (List ℕ)) (sources : Sources) (refusal : Refusal) → IsSome (names_of words) → AcceptsGraph sources.graph
     → AcceptsScript sources.script → IsDue words sources (Err refusal) → status_of (Err refusal) ≢ ReadFault → ⊥
 
--- for words that ask for a graph from a number its summary is the only decision that is due
+-- for words that ask for a graph from a number its summary is the only correct decision
 abbrev pub OneSummary : Type 0
 OneSummary =
     (words : List (List ℕ)) (sources : Sources) (decision : Decision) (n seed : ℕ) → form_of words ≡ Some (Make n seed)

@@ -5,7 +5,7 @@ use Rattle.spqr_edge.specs.Device.{Files, contents}
 use Rattle.spqr_run.specs.declared.reading.FileFault.{FileFault}
 use Rattle.spqr_run.specs.declared.reading.FileFault.TheVariants.{Failed, Long}
 
--- a call took a piece of what was left, of n bytes and at most `room`, and put it behind the bytes from before: no byte only
+-- a call took a piece of what was left, of n bytes and at most `room`, and appended it to the bytes from before: no byte only
 -- where none was left
 pub record TakesPiece (left left_after : Option (List ℕ)) (bytes bytes_after : List ℕ) (room n : ℕ) : Type 0 where
   pub piece : List ℕ
@@ -20,22 +20,22 @@ pub record IsWhole (limit : ℕ) (told : Option (List ℕ)) (bytes : List ℕ) :
   pub within : length bytes ≤ limit
   pub whole : IfSome told (λ file. bytes ≡ file)
 
--- why a file was not read, by its bytes: a call that failed may be met whatever they are; else it is longer than its limit
+-- why a file was not read, by its bytes: a call may fail whatever they are; else it is longer than its limit
 abbrev pub IsFileReason : ℕ → List ℕ → FileFault → Type 0
 IsFileReason limit bytes Failed = ⊤
 IsFileReason limit bytes Long = limit < length bytes
 
--- some bytes are such, and where the file is told they are its bytes
+-- some bytes are such, and where the file is known they are its bytes
 pub record SomeBytes (told : Option (List ℕ)) (such : List ℕ → Type 0) : Type 0 where
   pub bytes : List ℕ
   pub are_told : IfSome told (λ file. bytes ≡ file)
   pub is_such : such bytes
 
--- a file was not read, for this reason: by some bytes, its own where it is told
+-- a file was not read, for this reason: by some bytes, its own where it is known
 abbrev pub IsUnread : ℕ → Option (List ℕ) → FileFault → Type 0
 IsUnread limit told fault = SomeBytes told (λ bytes. IsFileReason limit bytes fault)
 
--- the bytes of the file of this name, where the files are told
+-- the bytes of the file of this name, where the files are known
 abbrev pub told_file : Option Files → List ℕ → Option (List ℕ)
 told_file None name = None
 told_file (Some files) name = Some (contents files name)

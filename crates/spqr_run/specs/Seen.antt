@@ -1,8 +1,8 @@
--- What is seen outside at one moment.
+-- What is observed outside at one moment.
 use Rattle.std.specs.Prelude.{ℕ, List, Option}
 use Rattle.spqr_edge.specs.Device.{Files}
 
--- of the shelf: the files and how many were opened, where it tells them, and the count of its faults
+-- of the shelf: the files and how many were opened, where they are known, and the count of its faults
 pub record ShelfSeen : Type 0 where
   pub files : Option Files
   pub opens : Option ℕ
@@ -11,7 +11,7 @@ pub record ShelfSeen : Type 0 where
 abbrev pub seen_shelf : Option Files → Option ℕ → ℕ → ShelfSeen
 seen_shelf files opens faults = record { files = files; opens = opens; faults = faults }
 
--- of the sink: the bytes written, where it tells them, and the count of its faults
+-- of the sink: the bytes written, where they are known, and the count of its faults
 pub record SinkSeen : Type 0 where
   pub written : Option (List ℕ)
   pub faults : ℕ

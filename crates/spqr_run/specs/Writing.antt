@@ -18,14 +18,14 @@ pub record WritesAll (setting : Setting) (start : State) (commands : List Comman
   pub answers : IsChain setting start commands texts last
   pub written : Appends before now (concat texts)
 
--- a front of the answers of the commands was written
+-- a prefix of the answers of the commands was written
 pub record WritesFront (setting : Setting) (start : State) (commands : List Command) (before now : Option (List ℕ)) : Type 0 where
   pub last : State
   pub texts : List (List ℕ)
   pub answers : IsChain setting start commands texts last
   pub written : AppendsFront before now (concat texts)
 
--- the answers of commands were written: all; a front of the first ones, where a put failed; the first ones, where memory ran out
+-- the answers of commands were written: all; a prefix of the first ones, where a put failed; the first ones, where memory ran out
 abbrev pub WritesAnswers : {T : Type 0} → Setting → State → List Command → Option (List ℕ) → Option (List ℕ) → Result T (Halt Failed) → Type 0
 WritesAnswers setting start commands before now (Ok _) = (last : State) × WritesAll setting start commands before now last
 WritesAnswers setting start commands before now (Err (Refused _)) = (k : ℕ) × WritesFront setting start (take k commands) before now
@@ -37,13 +37,13 @@ pub record AppendsReport (setting : Setting) (commands : List Command) (before n
   pub report : IsReport setting commands text
   pub written : Appends before now text
 
--- a front of a report was written
+-- a prefix of a report was written
 pub record AppendsReportFront (setting : Setting) (commands : List Command) (before now : Option (List ℕ)) : Type 0 where
   pub text : List ℕ
   pub report : IsReport setting commands text
   pub written : AppendsFront before now text
 
--- a report was written: whole; a front, where a put failed; nothing or the report on the first commands, where memory ran out
+-- a report was written: whole; a prefix, where a put failed; nothing or the report on the first commands, where memory ran out
 abbrev pub WritesReport : {T : Type 0} → Setting → List Command → Option (List ℕ) → Option (List ℕ) → Result T (Halt Failed) → Type 0
 WritesReport setting commands before now (Ok _) = AppendsReport setting commands before now
 WritesReport setting commands before now (Err (Refused _)) = AppendsReportFront setting commands before now

@@ -39,7 +39,7 @@ pub struct Accepted {
 pub enum Plan {
     /// The report on two files.
     Report(Accepted),
-    /// The summary of the graph that is made from a number, of so many edges or a few more.
+    /// The summary of the graph that is made from a number, of this many edges or a few more.
     Summary { edges: u32, seed: u64 },
 }
 

@@ -5,7 +5,7 @@ ghost use Rattle.spqr_run.specs.declared.halt.Halt.TheVariants.{Refused, Memory}
 use spqr_edge::Failed;
 use std::alloc::AllocError;
 
-/// A call gave no value: for this reason, or for want of memory.
+/// A call gave no value: for this reason, or because memory ran out.
 #[derive(Drop)]
 pub enum Halt<R> {
     /// It was refused.

@@ -4,10 +4,10 @@ ghost use Rattle.spqr_run.specs.Laws.{AskedIsPlanarBlock, OneStatus, OneSummary,
 ghost use Rattle.spqr_run.specs.Run.{CountsReads, CountsPuts};
 ghost use Rattle.spqr_run.specs.declared.status.Status.{Status};
 
-/// Decisions that are due for the same words and bytes have one status and one text, a read that failed aside: the text as far as
-/// the certificates are the same, which the definitions leave open. So each status of a run comes exactly where it is due, and each
-/// report is the only one that is due: blocks and trees are determined by the graph, and the place of a fault in GML by the bytes.
-/// Where the words name two files and both are accepted, no refusal is due. Works that are due are the same.
+/// Decisions that are correct for the same words and bytes have one status and one text, a read that failed aside: the text as far as
+/// the certificates are the same, which the definitions leave open. So each status of a run comes exactly where it is required, and each
+/// report is the only correct one: blocks and trees are determined by the graph, and the place of a fault in GML by the bytes.
+/// Where the words name two files and both are accepted, no refusal is correct. Correct works are the same.
 pub fn decisions()
     ensures status { OneStatus }
     ensures text { OneText }
@@ -17,7 +17,7 @@ pub fn decisions()
     gml_text::laws::spelling();
 }
 
-/// For words that ask for a graph from a number its summary is the only decision that is due, and there is one: the graph is one
+/// For words that ask for a graph from a number its summary is the only correct decision, and there is one: the graph is one
 /// block with a plane rotation system.
 pub fn made_graphs()
     ensures summary { OneSummary }

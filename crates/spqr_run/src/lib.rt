@@ -10,9 +10,9 @@
 // `run` is the whole program over any shelf and sink. It decides first: the form of the words, then the graph file, then the
 // script file, each taken to its end within its limit. Then it writes the report of both files' whole contents, the summary that
 // was asked for, or the one line that says why it is refused, and its status says which. Its contract promises that the decision
-// is due for some bytes, which are the contents wherever the shelf tells them, that just its text is written (a front of it,
+// is correct for some bytes, which are the contents wherever the shelf makes them known, that just its text is written (a prefix of it,
 // where a put fails; whole first texts of a report, where memory runs out), and that faults of the words, the shelf and the sink
-// come exactly where they are due. The program, spqr_cli, only joins `run` to the real files and
+// come exactly where they are required. The program, spqr_cli, only joins `run` to the real files and
 // the standard output.
 #![tactic(auto)]
 

@@ -28,7 +28,7 @@ fn piece_room(alloc: Global) -> Result<Vec<u8>, AllocError>
     vec![in alloc; 0; PIECE]
 }
 
-// Takes one piece of the open file and puts it behind the bytes; gives its length, 0 at the file's end.
+// Takes one piece of the open file and appends it to the bytes; gives its length, 0 at the file's end.
 fn read_piece<S: Shelf>(
     shelf: &mut S,
     room: &mut [u8],

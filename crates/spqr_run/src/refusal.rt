@@ -15,7 +15,7 @@ use std::alloc::{AllocError, Global};
 pub enum GraphRefusal {
     /// It was not read.
     File(FileFault),
-    /// Its bytes are no document.
+    /// Its bytes are not a document.
     Gml(GmlFault),
     /// The document has no graph, by this rule.
     Rule(GraphFault),
@@ -26,14 +26,14 @@ pub enum GraphRefusal {
 pub enum ScriptRefusal {
     /// It was not read.
     File(FileFault),
-    /// The line of this number is the first that is no command.
+    /// The line of this number is the first that is not a command.
     Line(u32),
 }
 
 /// Why a run is refused.
 #[derive(Drop)]
 pub enum Refusal {
-    /// The words are no form.
+    /// The words have no valid form.
     Usage,
     /// The graph file is refused.
     OfGraph(GraphRefusal),

@@ -131,7 +131,7 @@ pub fn run<S: Shelf, K: Sink>(
     match decide(alloc, words, shelf) {
         Ok(plan) => carry_out(alloc, plan, sink),
         Err(Halt::Refused(refusal)) => {
-            // That the work is not due is seen from the law on decisions.
+            // That no work is correct follows from the law on decisions.
             decisions();
             refuse(alloc, &refusal, sink)
         }

@@ -1,4 +1,4 @@
-// What the bytes of the two files say, by the crates below, with want of memory apart from the refusals.
+// What the bytes of the two files say, by the crates below, with running out of memory kept apart from the refusals.
 ghost use Rattle.std.specs.Prelude.{◌≡◌, ◌≢◌, ◌<◌, ◌^◌, Ok, Err, length};
 ghost use Rattle.gml_text.specs.Grammar.{Spells};
 ghost use Rattle.gml_graph.specs.Answer.{graph_of_document};
@@ -41,7 +41,7 @@ pub fn graph_of(alloc: Global, doc: &Doc) -> Result<Named, Halt<GraphFault>>
     }
 }
 
-/// The commands that the bytes of a script spell, or the first line that is none.
+/// The commands that the bytes of a script spell, or the first line that is not one.
 pub fn commands_of(alloc: Global, bytes: &[u8]) -> Result<Vec<Command>, Halt<u32>>
     requires { length bytes.now < 2 ^ 32 }
     ensures { Answers result (λ commands. Commands bytes.now commands.items)

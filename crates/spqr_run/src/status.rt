@@ -7,17 +7,17 @@ ghost use Rattle.spqr_run.specs.Status.{status_number};
 pub enum Status {
     /// The whole report was written.
     Done,
-    /// The words are no form.
+    /// The words have no valid form.
     Usage,
     /// A file could not be read.
     ReadFault,
     /// A file is longer than its limit.
     TooLong,
-    /// The bytes of the graph file are no document.
+    /// The bytes of the graph file are not a document.
     GmlRefused,
     /// The document has no graph.
     GraphRefused,
-    /// A line of the script is no command.
+    /// A line of the script is not a command.
     ScriptRefused,
     /// A text could not be written.
     WriteFault,

@@ -7,7 +7,7 @@ ghost use Rattle.spqr_run.specs.Front.{AppendsFront};
 use spqr_edge::{Failed, Sink};
 
 /// Puts a text until the sink has taken it all. Each put is given all that is left, and none is made after one that
-/// failed; then a front of the text was written.
+/// failed; then a prefix of the text was written.
 pub fn put_text<K: Sink>(sink: &mut K, text: &[u8]) -> Result<(), Failed>
     ensures ok { OnOk result (Appends (K.written sink.old) (K.written sink.new) text.now) }
     ensures err { OnErr result (AppendsFront (K.written sink.old) (K.written sink.new) text.now) }

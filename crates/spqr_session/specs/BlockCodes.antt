@@ -91,7 +91,7 @@ ReadStep more IsAbout trees b before text after = Carries (Applies (read_ladder 
 abbrev pub ChangeStep : Ladder → (BlockTree → Embedding → Embedding → List ℕ → Type 0) → List BlockTree → ℕ → State → List ℕ → State → Type 0
 ChangeStep ladder IsChange trees b before text after = Carries (Applies ladder) (ChangesBlock trees b IsChange) before text after
 
--- no code is told by the embedding
+-- no code depends on the embedding
 abbrev pub no_more : BlockTree → Embedding → Ladder
 no_more tree e = []
 
@@ -100,7 +100,7 @@ abbrev pub Answered : Option Code → List ℕ → Type 0 → Type 0
 Answered None text Else = Else
 Answered (Some code) text Else = text ≡ code_text code
 
--- what is told of a block that is there: the line of a code, or an answer about its tree and embedding
+-- what is reported of a block that exists: the line of a code, or an answer about its tree and embedding
 abbrev pub TellsBlock : BlockTree → Option Embedding → (BlockTree → Embedding → Ladder) → (BlockTree → Embedding → List ℕ → Type 0) → List ℕ → Type 0
 TellsBlock tree None more IsAbout text = text ≡ code_text NonPlanar
 TellsBlock tree (Some e) more IsAbout text = Answered (first_code (more tree e)) text (IsAbout tree e text)

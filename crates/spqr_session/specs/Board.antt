@@ -7,13 +7,13 @@ use Rattle.spqr_session.specs.State.{Embedding, Family, State}
 use Rattle.spqr_session.specs.Embedded.{BlockView, view_tree, view_certificate, view_entry, view_at}
 use Rattle.spqr_session.specs.History.{walk, redone, undone, steps_before, steps_after, IsStepOf, IsHistory}
 
--- what is seen of the blocks, and the earlier and the later families, of each the nearest first
+-- the view of the blocks, and the earlier and the later families, of each the nearest first
 pub record BoardView : Type 0 where
   pub views : List BlockView
   pub earlier : List Family
   pub later : List Family
 
--- the family that stands on the board
+-- the present family on the board
 abbrev pub family_on : List BlockView → Family
 family_on views = record { entries = map view_entry views }
 
@@ -29,7 +29,7 @@ embedded_at views b e = slice_set views b (record { tree = (view_at views b).tre
 abbrev pub changed_board : BoardView → ℕ → Embedding → BoardView
 changed_board board b e = record { views = embedded_at board.views b e; earlier = family_on board.views ∷ board.earlier; later = [] }
 
--- the nearest earlier family stands on the board, and the one that stood there is the nearest later one
+-- the nearest earlier family is the present one, and the one that was present is the nearest later one
 pub record IsUndone (before after : BoardView) : Type 0 where
   pub family : Family
   pub others : List Family
@@ -38,7 +38,7 @@ pub record IsUndone (before after : BoardView) : Type 0 where
   pub stands : family_on after.views ≡ family
   pub later : after.later ≡ family_on before.views ∷ before.later
 
--- the nearest later family stands on the board, and the one that stood there is the nearest earlier one
+-- the nearest later family is the present one, and the one that was present is the nearest earlier one
 pub record IsRedone (before after : BoardView) : Type 0 where
   pub family : Family
   pub others : List Family
@@ -47,8 +47,8 @@ pub record IsRedone (before after : BoardView) : Type 0 where
   pub stands : family_on after.views ≡ family
   pub earlier : after.earlier ≡ family_on before.views ∷ before.earlier
 
--- what is seen of blocks with a history: the earlier families are met on the way back from the one that stands, the later on the
--- way forth
+-- the view of blocks with a history: the earlier families are passed on the way back from the present one, the later ones on the
+-- way forward
 abbrev pub board_view : List BlockView → undo_log.History → BoardView
 board_view views log = record {
   views = views;
@@ -56,7 +56,7 @@ board_view views log = record {
   later = walk (redone (map view_tree views)) (family_on views) (steps_after log);
 }
 
--- the history is one of the family that stands
+-- the history belongs to the present family
 abbrev pub IsBoard : List BlockView → undo_log.History → Type 0
 IsBoard views log = IsHistory (map view_tree views) (family_on views) log
 
@@ -65,18 +65,18 @@ pub record IsCarried (old new : List BlockView) : Type 0 where
   pub trees : map view_tree new ≡ map view_tree old
   pub certificates : map view_certificate new ≡ map view_certificate old
 
--- a step of the blocks leads from the family that stands to the one with this embedding of block b, and back
+-- a step of the blocks leads from the present family to the one with this embedding of block b, and back
 pub record LeadsTo (views : List BlockView) (b : ℕ) (e : Embedding) (step : Step) : Type 0 where
   pub is_step : IsStepOf (map view_tree views) step
   pub forth : redone (map view_tree views) step (family_on views) ≡ family_on (embedded_at views b e)
   pub back : undone (map view_tree views) step (family_on (embedded_at views b e)) ≡ family_on views
 
--- block b is there and planar, and stands at this embedding
+-- block b is there and planar, and this is its embedding
 pub record StandsAt (views : List BlockView) (b : ℕ) (e : Embedding) : Type 0 where
   pub within : b < length views
   pub entry : (view_at views b).entry ≡ Some e
 
--- a block in the plane can take the place of block b, which stands at e: graph, tree and locks are the same
+-- a block in the plane can take the place of block b, whose embedding is e: graph, tree and locks are the same
 pub record CanReplace (views : List BlockView) (b : ℕ) (e : Embedding) (plane : BlockState) : Type 0 where
   pub stands : StandsAt views b e
   pub graph : plane.graph ≡ (view_at views b).tree.part.graph

@@ -20,7 +20,7 @@ code_number CountOver = 10
 code_number (RankOut n) = 11
 code_number (Locked k) = 12
 
--- the numbers that are told with it
+-- the numbers that are reported with it
 abbrev pub code_numbers : Code → List ℕ
 code_numbers NoBlock = []
 code_numbers NoNode = []
@@ -68,12 +68,12 @@ abbrev pub Applies : Ladder → Code → Type 0
 Applies [] code = ⊥
 Applies (rung ∷ ladder) code = ((rung.0 ≡ code) × (rung.1 ≡ true)) ⊎ Applies ladder code
 
--- whether the numbers of the codes rise, from one above n on
+-- whether the numbers of the codes increase, from one above n on
 abbrev pub rises_above : ℕ → Ladder → Bool
 rises_above n [] = true
 rises_above n (rung ∷ ladder) = nat_lt n (code_number rung.0) && rises_above (code_number rung.0) ladder
 
--- the first code of the ladder that applies: the lowest, where the numbers rise
+-- the first code of the ladder that applies: the lowest, where the numbers increase
 abbrev pub first_code : Ladder → Option Code
 first_code [] = None
 first_code ((code, true) ∷ ladder) = Some code

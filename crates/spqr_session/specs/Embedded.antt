@@ -71,7 +71,7 @@ abbrev pub setting_of : Document → NamedGraph → BlockStructure → List Bloc
 setting_of document named structure views =
     record { document = document; named = named; structure = structure; trees = map view_tree views; certificates = map view_certificate views }
 
--- the state in which they stand, with no family before and after it
+-- their state, with no family before and after it
 abbrev pub state_of : List BlockView → State
 state_of views = record { present = record { entries = map view_entry views }; earlier = []; later = [] }
 

@@ -17,7 +17,7 @@ abbrev pub numbered : {X : Type 0} → (ℕ → X → List ℕ) → ℕ → List
 numbered line n [] = []
 numbered line n (x ∷ xs) = line n x ++ numbered line (n + 1) xs
 
--- the lines of the tree of a part: one for each node, rising
+-- the lines of the tree of a part: one for each node, in increasing order
 abbrev pub nodes_text : GraphPart → List Node → List ℕ
 nodes_text part nodes = concat (map (node_text part nodes) (numbers_below (length nodes)))
 
@@ -26,13 +26,13 @@ abbrev pub planarity_text : ℕ → GraphPart → Option Subdivision → List �
 planarity_text b part None = planar_text b
 planarity_text b part (Some s) = nonplanar_text part b s.kind s.branch s.paths
 
--- the line of block b, and behind it those of its tree, and whether it is planar
+-- the line of block b, followed by those of its tree, and whether it is planar
 abbrev pub block_lines : List BlockTree → List (Option Subdivision) → ℕ → List ℕ → List ℕ
 block_lines trees certificates b edges =
     block_text b edges ++ nodes_text (tree_at trees b).part (tree_at trees b).nodes ++ planarity_text b (tree_at trees b).part (certificate_at certificates b)
 
 -- the head: the line of the graph, then a line for each vertex, for each cut vertex and for each block with the nodes of its
--- tree, rising, and whether the block is planar
+-- tree in increasing order, and whether the block is planar
 abbrev pub head_text : Setting → List ℕ
 head_text setting =
     graph_text setting.named.graph.vertex_count (edge_count setting.named.graph) ++ numbered vertex_text 0 setting.named.ids

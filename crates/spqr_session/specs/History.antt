@@ -43,7 +43,7 @@ abbrev pub Returns : {S F : Type 0} → (S → F → F) → (S → F → F) → 
 Returns move back f [] = ⊤
 Returns move back f (s ∷ ss) = (back s (move s f) ≡ f) × Returns move back (move s f) ss
 
--- so it is both ways from f: along the changes before it, the last first, and along those behind it
+-- so it is both ways from f: along the changes before it, the last first, and along those after it
 pub record IsBetween {S F : Type 0} (forth back : S → F → F) (before : List S) (f : F) (after : List S) : Type 0 where
   pub before_returns : Returns back forth f before
   pub after_returns : Returns forth back f after
@@ -57,7 +57,7 @@ abbrev pub undone : List BlockTree → Step → Family → Family
 undone trees (Moves b forth back) family = family_moved trees b (as_moves back) family
 undone trees (Lock b k before after) family = family_locked b k before family
 
--- the steps before the cursor, the last first, and those behind it
+-- the steps before the cursor, the last first, and those after it
 abbrev pub steps_before : UndoHistory → List Step
 steps_before log = reverse (take log.cursor log.steps)
 

@@ -18,7 +18,7 @@ OneAnswer =
     (setting : Setting) (before : State) (command : Command) (s t : List ℕ) (after other : State) → IsSetting setting → IsState setting before
     → Step setting before command s after → Step setting before command t other → (s ≡ t) × (after ≡ other)
 
--- a step leads from a state to a state: planar blocks stand at plane rotation systems
+-- a step leads from a state to a state: the current rotation systems of planar blocks are plane
 abbrev pub StepKeepsState : Type 0
 StepKeepsState =
     (setting : Setting) (before : State) (command : Command) (text : List ℕ) (after : State) → IsSetting setting → IsState setting before

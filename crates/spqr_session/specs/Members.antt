@@ -1,5 +1,5 @@
--- The list of the plane rotation systems of a block that have the present choices at its locked nodes, and how an embedding
--- stands in it.
+-- The list of the plane rotation systems of a block that have the present choices at its locked nodes, and where an embedding
+-- is in it.
 use Rattle.std.specs.Prelude.{◌≡◌, ℕ, ◌+◌, ◌^◌, Bool, not, nat_lt, List, [], ◌∷◌, ◌++◌, length}
 use Rattle.skeletons.specs.Lists.{IsKeptList, IsRank, list_count}
 use Rattle.skel_embed.specs.Block.{lock_at}
@@ -33,7 +33,7 @@ pub record StandsAt (r : ℕ) (tree : BlockTree) (old new : Embedding) : Type 0 
   pub rank : (l : List (List (List ℕ))) → AreMembers tree old l → IsRank l new.rotation r
   pub locks : new.locks ≡ old.locks
 
--- the new embedding is the member behind the old one, with its locks
+-- the new embedding is the member after the old one, with its locks
 pub record StandsBehind (tree : BlockTree) (old new : Embedding) : Type 0 where
   pub next : (l : List (List (List ℕ))) (k : ℕ) → AreMembers tree old l → IsRank l old.rotation k → IsRank l new.rotation (k + 1)
   pub locks : new.locks ≡ old.locks

@@ -9,21 +9,21 @@ use Rattle.skeletons.specs.Items.{has_vertex, least_vertex}
 use Rattle.skeletons.specs.Round.{keys_met}
 use Rattle.skeletons.specs.Moves.{Move, flip, permute, moved_node}
 
--- the group with the key k, in the order in which it is met on the way round from a member with another key
+-- the group with the key k, in the order in which it is visited on the way around from a member with another key
 abbrev pub group_round : (ℕ → ℕ) → List ℕ → ℕ → List ℕ
 group_round key l k = filter (λ x. key x == k) (turned l (first_or 0 (filter (λ x. not (key x == k)) l)))
 
--- the groups with these keys, one behind the other
+-- the groups with these keys, one after the other
 abbrev pub in_groups : (ℕ → ℕ) → List ℕ → List ℕ → List ℕ
 in_groups key l keys = concat (map (group_round key l) keys)
 
--- the keys in whose order a move of a node puts the groups at its vertex v: a flip those met there the other way round, a
+-- the keys in whose order a move of a node puts the groups at its vertex v: a flip those found there in reverse order, a
 -- permute those given at the lesser pole, and at the other pole the reverse
 abbrev pub keys_moved : List Node → Move → ℕ → List ℕ → List ℕ
 keys_moved nodes (flip k) v l = reverse (keys_met (group nodes k) l)
 keys_moved nodes (permute k keys) v l = cond (v == least_vertex nodes k) keys (reverse keys)
 
--- the cyclic order round v after a move: at the vertices of the node its groups in the order of these keys, from the least edge
+-- the cyclic order around v after a move: at the vertices of the node its groups in the order of these keys, from the least edge
 -- on; other vertices stay
 abbrev pub order_moved : List Node → Move → ℕ → List ℕ → List ℕ
 order_moved nodes move v l = cond (has_vertex nodes (moved_node move) v) (from_least (in_groups (group nodes (moved_node move)) l (keys_moved nodes move v l))) l

@@ -28,7 +28,7 @@ use Rattle.spqr_session.specs.declared.planned.Planned.TheVariants.{Refused, End
 abbrev pub embedding_of : BlockState → Embedding
 embedding_of p = record { rotation = p.rotation; locks = p.locks }
 
--- a block in the plane that may stand in the place of the one that is seen
+-- a block in the plane that may take the place of the one with this view
 pub record FitsBlock (v : BlockView) (p : BlockState) : Type 0 where
   pub old : Embedding
   pub present : v.entry ≡ Some old
@@ -40,7 +40,7 @@ pub record FitsBlock (v : BlockView) (p : BlockState) : Type 0 where
 abbrev pub IsChangeOf : (BlockTree → Embedding → Embedding → Type 0) → BlockView → BlockState → Type 0
 IsChangeOf IsChange v p = (fits : FitsBlock v p) × IsChange v.tree fits.old (embedding_of p)
 
--- the plan for a block that is seen so: the first code that applies, or where there is none the block in its new embedding
+-- the plan for a block with this view: the first code that applies, or where there is none the block in its new embedding
 abbrev pub IsPlan : Ladder → (BlockTree → Embedding → Embedding → Type 0) → BlockView → Planned → Type 0
 IsPlan ladder IsChange v (Refused code) = first_code ladder ≡ Some code
 IsPlan ladder IsChange v End = ⊥
@@ -81,19 +81,19 @@ IsRankPlan r p (Refused code) = (l : List (List (List ℕ))) → IsMemberList p 
 IsRankPlan r p End = ⊥
 IsRankPlan r p (Change q) = KeepsBlock p q × ((l : List (List (List ℕ))) → IsMemberList p l → IsRank l q.rotation r × (length l < 2 ^ 128))
 
--- the plan of a way to the member behind the present one: there is none, or it is this
+-- the plan of a way to the member after the present one: there is none, or it is this
 abbrev pub IsStepPlan : BlockState → Planned → Type 0
 IsStepPlan p (Refused code) = ⊥
 IsStepPlan p End = (l : List (List (List ℕ))) (i : ℕ) → IsMemberList p l → IsRank l p.rotation i → i + 1 ≡ length l
 IsStepPlan p (Change q) = KeepsBlock p q × ((l : List (List (List ℕ))) (i : ℕ) → IsMemberList p l → IsRank l p.rotation i → IsRank l q.rotation (i + 1))
 
--- the block stands at its last member
+-- the block is at its last member
 pub record IsAtEnd (v : BlockView) : Type 0 where
   pub entry : Embedding
   pub present : v.entry ≡ Some entry
   pub last : StandsLast v.tree entry
 
--- the plan of `next` for a block that is seen so
+-- the plan of `next` for a block with this view
 abbrev pub IsNextPlan : BlockView → Planned → Type 0
 IsNextPlan v (Refused code) = first_code (planar_codes v.entry) ≡ Some code
 IsNextPlan v End = (first_code (planar_codes v.entry) ≡ None) × IsAtEnd v
@@ -121,7 +121,7 @@ IsSettled b (Refused code) before text after = (text ≡ code_text code) × (aft
 IsSettled b End before text after = (text ≡ end_text) × (after ≡ before)
 IsSettled b (Change p) before text after = (text ≡ ok_text) × (after ≡ changed_board before b (embedding_of p))
 
--- the plan of a command whose codes are no ladder, for a block that is seen so: the lowest code that applies, or where there is none
+-- the plan of a command whose codes are no ladder, for a block with this view: the lowest code that applies, or where there is none
 -- the block in its new embedding
 abbrev pub IsLowestPlan : (Code → Type 0) → (BlockTree → Embedding → Embedding → Type 0) → BlockView → Planned → Type 0
 IsLowestPlan applies IsChange v (Refused code) = IsLowest applies code
@@ -134,7 +134,7 @@ IsLowestPlanAt applies IsChange views b (Refused code) = IsLowest applies code
 IsLowestPlanAt applies IsChange views b End = ⊥
 IsLowestPlanAt applies IsChange views b (Change p) = (b < length views) × NoneApplies applies × IsChangeOf IsChange (view_at views b) p
 
--- codes 6, 7 and 12 of lists that are taken in as the rotation system of a block that stands at e
+-- codes 6, 7 and 12 of lists that become the rotation system of a block with embedding e
 abbrev pub TakenCodes : List (ℕ × List ℕ) → BlockTree → Embedding → Code → Type 0
 TakenCodes entries tree e (BadRotation v) = IsFirstBadInPart tree.part entries v
 TakenCodes entries tree e (NotGenusZero v x f) = IsNotPlane tree.part entries v x f
@@ -146,17 +146,17 @@ abbrev pub EntryTakenCodes : List (ℕ × List ℕ) → BlockTree → Option Emb
 EntryTakenCodes entries tree None code = code ≡ NonPlanar
 EntryTakenCodes entries tree (Some e) code = TakenCodes entries tree e code
 
--- the plan of taking lists in as the rotation system of a block in the plane, which is that part of a graph: refused, or taken
+-- the plan of making lists the rotation system of a block in the plane, which is that part of a graph: refused, or taken
 abbrev pub IsTakePlan : GraphPart → List (ℕ × List ℕ) → BlockState → Planned → Type 0
 IsTakePlan part entries p (Refused code) = TakenCodes entries (record { part = part; nodes = p.tree }) (embedding_of p) code
 IsTakePlan part entries p End = ⊥
 IsTakePlan part entries p (Change q) = KeepsBlock p q × IsTaken entries (record { part = part; nodes = p.tree }) (embedding_of p) (embedding_of q)
 
--- the text is the lines of the moves from the block that is seen to another embedding of it
+-- the text is the lines of the moves from the block with this view to another embedding of it
 abbrev pub TellsMoves : BlockView → BlockState → List ℕ → Type 0
 TellsMoves v p text = (old : Embedding) → v.entry ≡ Some old → text ≡ conversion_text v.tree old (embedding_of p)
 
--- the plan is carried out with its moves told: the line of the code or `end`, and nothing changes; or the lines of the moves, and the
+-- the plan is carried out with its moves reported: the line of the code or `end`, and nothing changes; or the lines of the moves, and the
 -- block is changed
 abbrev pub IsConverted : ℕ → Planned → BoardView → List ℕ → BoardView → Type 0
 IsConverted b (Refused code) before text after = (text ≡ code_text code) × (after ≡ before)

@@ -44,7 +44,7 @@ pub record IsState (setting : Setting) (state : State) : Type 0 where
   pub earlier : All (IsFamily setting) state.earlier
   pub later : All (IsFamily setting) state.later
 
--- at the start a planar block stands at the first of its plane rotation systems, and no node is locked
+-- at the start the current rotation system of a planar block is the first of its plane ones, and no node is locked
 abbrev pub IsFirstEntry : BlockTree → Option Embedding → Type 0
 IsFirstEntry tree None = ⊤
 IsFirstEntry tree (Some e) = IsFirst tree.part.graph tree.nodes e.rotation × (e.locks ≡ replicate (length tree.nodes) false)

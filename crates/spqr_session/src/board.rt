@@ -17,7 +17,7 @@ use std::marker::Model;
 use undo_log::{Step, UndoLog};
 
 /// The blocks of a session, and the changes made since its start. Contracts see the blocks, and the families of embeddings that
-/// were before and after the present one, of each the nearest first. A change drops those after it; want of memory leaves all as
+/// were before and after the present one, of each the nearest first. A change drops those after it; running out of memory leaves everything as
 /// it was.
 #[derive(Drop)]
 pub struct Board {
@@ -68,7 +68,7 @@ impl Board {
     }
 
     /// Puts a block in the place of block `b`: it has the same graph, tree and locks, and another rotation system, or the same.
-    /// Where memory is wanting it is dropped, and all is as before.
+    /// If memory runs out it is dropped, and everything is as before.
     pub fn put(&mut self, alloc: Global, b: u32, plane: PlaneBlock) -> Result<(), AllocError>
         requires { (e : Embedding) × CanReplace self.old.views b e plane }
         ensures done { IfOk result (λ _. self.new ≡ changed_board self.old b
@@ -82,7 +82,7 @@ impl Board {
         Ok(())
     }
 
-    /// Locks node `k` of block `b`, or takes its lock away, also where it was so already. Where memory is wanting all is as before.
+    /// Locks node `k` of block `b`, or takes its lock away, also where it was so already. If memory runs out, everything is as before.
     pub fn set_lock(&mut self, b: u32, k: u32, on: bool) -> Result<(), AllocError>
         requires stands { (e : Embedding) × StandsAt self.old.views b e }
         requires node { k < length (view_at self.old.views b).tree.nodes }
@@ -110,7 +110,7 @@ impl Board {
         }
     }
 
-    /// Goes on to the nearest later family. Takes no memory.
+    /// Goes to the nearest later family. Takes no memory.
     pub fn redo(&mut self)
         requires { is_none self.old.later ≡ false }
         ensures redone { IsRedone self.old self.new }
@@ -220,7 +220,7 @@ fn carry_back(blocks: &mut Vec<EmbeddedBlock>, step: &Step)
     }
 }
 
-// Makes a step once more.
+// Repeats a step.
 fn carry_forth(blocks: &mut Vec<EmbeddedBlock>, step: &Step)
     requires { IsStepOf (map view_tree blocks.old.items) step.now }
     ensures carried { IsCarried blocks.old.items blocks.new.items }

@@ -16,7 +16,7 @@ use multigraph::Graph;
 use spqr_script::Command;
 use std::alloc::{AllocError, Global};
 
-/// Carries out a command on the blocks of a graph, and gives its answer. Without memory the board stays as it was.
+/// Carries out a command on the blocks of a graph, and gives its answer. If memory runs out, the board stays as it was.
 pub(crate) fn carry_out(
     alloc: Global,
     doc: &Doc,

@@ -8,18 +8,18 @@ use std::alloc::{AllocError, Global};
 /// Why a command is refused.
 #[derive(Clone, Copy, Debug)]
 pub enum Code {
-    /// 1: a number is no block.
+    /// 1: a number is not that of a block.
     NoBlock,
-    /// 2: a number is no node of the block's tree.
+    /// 2: a number is not that of a node of the block's tree.
     NoNode,
     /// 3: the node is not of the kind that the command is for.
     WrongKind,
-    /// 4: keys are no arrangement of the node's keys.
+    /// 4: keys are no permutation of the node's keys.
     BadOrder,
     /// 5: the block is not planar.
     NonPlanar,
-    /// 6: lists are no rotation system. The number is the least that is a vertex whose list is no arrangement of its edges, or
-    /// is named and no vertex.
+    /// 6: lists are not a rotation system. The number is the least that is a vertex whose list is no permutation of its edges, or
+    /// is named and is not a vertex.
     BadRotation(u32),
     /// 7: a rotation system is not plane. The numbers are those of its vertices, edges and faces.
     NotGenusZero(u32, u32, u32),
@@ -29,7 +29,7 @@ pub enum Code {
     NothingToRedo,
     /// 10: the list has 2^128 members or more.
     CountOver,
-    /// 11: a rank is not below the length of the list, which is told.
+    /// 11: a rank is not below the length of the list, which is reported.
     RankOut(u128),
     /// 12: the choice of a locked node would change. The number is the node, the least where there are several.
     Locked(u32),

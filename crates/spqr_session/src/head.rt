@@ -21,7 +21,7 @@ use spqr_script::{
 use spqr_tree::Tree;
 use std::alloc::{AllocError, Global};
 
-// Puts the lines of the vertices behind a text.
+// Appends the lines of the vertices to a text.
 fn push_vertices(out: &mut Vec<u8>, ids: &[i64]) -> Result<(), AllocError>
     requires { length ids.now ≤ max_vertices }
     ensures { OnOk result (out.new.items ≡ out.old.items ++ numbered vertex_text 0 ids.now) }
@@ -32,7 +32,7 @@ fn push_vertices(out: &mut Vec<u8>, ids: &[i64]) -> Result<(), AllocError>
     Ok(())
 }
 
-// Puts the lines of the cut vertices behind a text.
+// Appends the lines of the cut vertices to a text.
 fn push_cuts(out: &mut Vec<u8>, cut_vertices: &[u32]) -> Result<(), AllocError>
     ensures { OnOk result (out.new.items ≡ out.old.items
         ++ concat (map cut_text cut_vertices.now)) }
@@ -43,7 +43,7 @@ fn push_cuts(out: &mut Vec<u8>, cut_vertices: &[u32]) -> Result<(), AllocError>
     Ok(())
 }
 
-// Puts the lines of the tree of a part behind a text.
+// Appends the lines of the tree of a part to a text.
 fn push_nodes(out: &mut Vec<u8>, part: &Part, tree: &Tree) -> Result<(), AllocError>
     requires graph { IsGraph part.now.graph }
     requires nodes { IsTutte part.now.graph tree.now }
@@ -55,7 +55,7 @@ fn push_nodes(out: &mut Vec<u8>, part: &Part, tree: &Tree) -> Result<(), AllocEr
     Ok(())
 }
 
-// Puts the line of a planar block behind a text, or those of its certificate.
+// Appends the line of a planar block to a text, or those of its certificate.
 fn push_planarity(out: &mut Vec<u8>, b: u32, block: &EmbeddedBlock) -> Result<(), AllocError>
     ensures { OnOk result (out.new.items
         ≡ out.old.items ++ planarity_text b block.now.tree.part block.now.certificate) }
@@ -66,7 +66,7 @@ fn push_planarity(out: &mut Vec<u8>, b: u32, block: &EmbeddedBlock) -> Result<()
     }
 }
 
-// Puts the lines of the blocks behind a text, with those of their trees, and whether they are planar.
+// Appends the lines of the blocks to a text, with those of their trees, and whether they are planar.
 fn push_blocks(
     out: &mut Vec<u8>,
     blocks: &Blocks,
@@ -86,7 +86,7 @@ fn push_blocks(
 }
 
 /// The head: the line of the graph, then a line for each vertex, for each cut vertex and for each block with the nodes of its
-/// tree, rising, and whether the block is planar, else with its certificate.
+/// tree in increasing order, and whether the block is planar, else with its certificate.
 pub fn head_of(
     alloc: Global,
     named: &Named,

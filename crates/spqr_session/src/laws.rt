@@ -1,7 +1,7 @@
 // What the definitions of a session say of one another.
 ghost use Rattle.spqr_session.specs.Laws.{EachHasAnswer, OneAnswer, OneReport, OneStart, StepKeepsState};
 
-/// Each command has an answer in each state, and one only, with one state after it, in which each planar block stands at a plane
+/// Each command has an answer in each state, and one only, with one state after it, in which each planar block has a plane
 /// rotation system again.
 pub fn answers()
     ensures each { EachHasAnswer }

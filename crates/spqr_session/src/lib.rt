@@ -2,11 +2,11 @@
 //
 // A session has a setting, which stays: the document, its graph, the blocks of the graph, of each block the tree of its bonds,
 // polygons and triconnected graphs (Tutte 1966), and of each block that is not planar a subdivision of K5 or K3,3 (Kuratowski
-// 1930). It has a state, which commands change: the plane rotation system at which each planar block stands, with the locks of
+// 1930). It has a state, which commands change: the current plane rotation system of each planar block, with the locks of
 // the nodes, and those from before and after. A command is one step, a relation of the state before, the text that answers it
 // and the state after; a report is the head and the texts of a chain of steps.
 //
-// What is promised: at the start each planar block stands at the first of its plane rotation systems, by the choices of the
+// What is promised: at the start the current rotation system of each planar block is the first of its plane ones, by the choices of the
 // nodes of its tree (Di Battista and Tamassia 1996). The head says of each block that it is planar exactly where it has a plane
 // rotation system. A command is refused exactly where a code applies, by the lowest that does, and then changes nothing. Each
 // command has one answer in each state, and there is one report on a setting and commands. Without memory a session stays as it

@@ -13,13 +13,13 @@ use std::alloc::{AllocError, Global};
 pub enum Planned {
     /// It is refused.
     Refused(Code),
-    /// There is nothing behind the present member, and all stays.
+    /// No member follows the present one, and nothing changes.
     End,
-    /// The block is to stand so.
+    /// The block is to become this one.
     Change(PlaneBlock),
 }
 
-// Puts the block on the board as it was planned, and answers `ok`.
+// Puts the block on the board as it was planned, and returns `ok`.
 fn make(alloc: Global, board: &mut Board, b: u32, plane: PlaneBlock) -> Result<Vec<u8>, AllocError>
     requires { MayStand board.old.views b (Planned.Change plane) }
     ensures done { IfOk result
@@ -31,8 +31,8 @@ fn make(alloc: Global, board: &mut Board, b: u32, plane: PlaneBlock) -> Result<V
     Ok(text)
 }
 
-/// Carries out what was planned for block `b`: answers with the line of a code, or changes the block and answers `ok`.
-/// Without memory the board stays as it was.
+/// Carries out what was planned for block `b`: returns the line of a code, or changes the block and returns `ok`.
+/// If memory runs out, the board stays as it was.
 pub(crate) fn settle(
     alloc: Global,
     board: &mut Board,

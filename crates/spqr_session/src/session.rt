@@ -54,8 +54,8 @@ impl Model for Session {
 
 impl Session {
     /// Starts a session on a document and its graph, which is split into its blocks, and each block by the splitter; the
-    /// embedder is asked once for each triconnected node of their trees. Each planar block then stands at its first plane
-    /// rotation system, and no node is locked. Without memory document and graph are dropped.
+    /// embedder is asked once for each triconnected node of their trees. The current rotation system of each planar block is then its first plane
+    /// rotation system, and no node is locked. If memory runs out, document and graph are dropped.
     pub fn start<P: Splitter, E: Embedder>(
         alloc: Global,
         doc: Doc,
@@ -85,7 +85,7 @@ impl Session {
         head_of(alloc, &self.named, &self.blocks, self.board.blocks())
     }
 
-    /// Carries out a command and gives its answer. Without memory the session stays as it was.
+    /// Carries out a command and gives its answer. If memory runs out, the session stays as it was.
     pub fn step(&mut self, alloc: Global, command: &Command) -> Result<Vec<u8>, AllocError>
         ensures setting { self.new.setting ≡ self.old.setting }
         ensures step { IfOk result (λ text.

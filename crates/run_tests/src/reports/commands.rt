@@ -4,7 +4,7 @@ use spqr_run::status::Status;
 use std::alloc::{AllocError, Global};
 use std::test::Fail;
 
-// A graph of vertices with these ids and of these edges, all of them so many times; a script, and the answers to its commands.
+// A graph of vertices with these ids and of these edges, all of them repeated this many times; a script, and the answers to its commands.
 struct Row {
     vertices: &'static [&'static [u8]],
     edges: &'static [(&'static [u8], &'static [u8])],
@@ -97,7 +97,7 @@ static MOVES: [Row; 10] = [
             error 3\n\
             error 3\n",
     },
-    // A flip of one of two K4 on an edge, and of it once more.
+    // A flip of one of two K4 on an edge, and the same flip again.
     Row {
         vertices: &[b"0", b"1", b"2", b"3", b"4", b"5"],
         edges: &[
@@ -608,7 +608,7 @@ static LISTS: [Row; 16] = [
             ok\n\
             count 1\n",
     },
-    // A next that answers end keeps what can be redone, one that answers ok drops it.
+    // A next that returns end keeps what can be redone, one that returns ok drops it.
     Row {
         vertices: &[b"0", b"1", b"2", b"3"],
         edges: &[
@@ -682,7 +682,7 @@ fn graph_text(alloc: Global, row: &Row) -> Result<Vec<u8>, AllocError> {
     Ok(text)
 }
 
-// Writes edges behind a text.
+// Appends edges to a text.
 fn push_edges(text: &mut Vec<u8>, edges: &[(&[u8], &[u8])]) -> Result<(), AllocError> {
     for (from, to) in edges {
         text.extend_from_slice(b" edge [ source ")?;
@@ -694,7 +694,7 @@ fn push_edges(text: &mut Vec<u8>, edges: &[(&[u8], &[u8])]) -> Result<(), AllocE
     Ok(())
 }
 
-// The last bytes of a text, as many as are wanted.
+// The last bytes of a text, as many as asked for.
 fn last_bytes(text: &[u8], wanted: usize) -> &[u8] {
     match text.get(text.len().saturating_sub(wanted)..) {
         Some(last) => last,

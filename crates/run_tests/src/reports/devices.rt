@@ -36,7 +36,7 @@ fn each_call_of_the_shelf_fails(rt: HostRuntime) -> Result<(), Fail> {
     Ok(())
 }
 
-// Whether runs of which one put after the other fails end with status 7 and leave so many first bytes of the text, and one of
+// Whether runs of which one put after the other fails end with status 7 and leave this many first bytes of the text, and one of
 // which none fails writes the whole text and ends with this status.
 fn each_put_fails(
     alloc: Global,
@@ -84,7 +84,7 @@ fn each_call_of_the_sink_fails(rt: HostRuntime) -> Result<(), Fail> {
     Ok(())
 }
 
-// A sink whose put of this number, counted from 0, fails, and so do all behind it. It counts its puts.
+// A sink whose put of this number, counted from 0, fails, and so do all after it. It counts its puts.
 #[derive(Drop)]
 struct Broken {
     first: u64,

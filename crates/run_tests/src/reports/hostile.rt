@@ -5,7 +5,7 @@ use std::test::Fail;
 
 // Graph files, with the status and the text of a run on each and an empty script.
 static GRAPHS: [(&[u8], Status, &[u8]); 11] = [
-    // Lists within lists, as deep as they may stand.
+    // Lists within lists, as deep as they may be.
     (
         b"a[a[a[a[a[a[a[a[a[a[a[a[a[a[a[a[a[a[a[a[a[a[a[a[a[a[a[a[a[a[a[a[]]]]]]]]]]]]]]]]]]]]]]]]]]]]]]]]",
         Status::GraphRefused,

@@ -16,7 +16,7 @@ abbrev pub value_of : theory.Move → Move
 value_of (theory.flip k) = Flip k
 value_of (theory.permute k keys) = Permute k keys
 
--- the lines of the moves from the old embedding to the new one: of each node, rising, at which the choices differ
+-- the lines of the moves from the old embedding to the new one: of each node, in increasing order, at which the choices differ
 abbrev pub conversion_text : BlockTree → Embedding → Embedding → List ℕ
 conversion_text tree old new = moves_text tree.part (map value_of (theory.moves_between tree.nodes old.rotation new.rotation))
 

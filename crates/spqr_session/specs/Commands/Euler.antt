@@ -11,12 +11,12 @@ use Rattle.spqr_session.specs.Codes.{Carries}
 use Rattle.spqr_session.specs.declared.code.Code.{Code}
 use Rattle.spqr_session.specs.declared.code.Code.TheVariants.{BadRotation}
 
--- code 6: the number is the least that is a vertex whose list is no arrangement of its edges, or is named and no vertex
+-- code 6: the number is the least that is a vertex whose list is no permutation of its edges, or is named and is not a vertex
 abbrev pub EulerApplies : Multigraph → List (ℕ × List ℕ) → Code → Type 0
 EulerApplies g entries (BadRotation v) = IsFirstBad g entries v
 EulerApplies g entries code = ⊥
 
--- the rotation system that the lists are: round each vertex the list that is given for it
+-- the rotation system that the lists are: around each vertex the list that is given for it
 pub record IsGiven (g : Multigraph) (entries : List (ℕ × List ℕ)) (rotation : List (List ℕ)) : Type 0 where
   pub arranged : AreArranged g entries
   pub system : IsRotationSystem g rotation

@@ -15,7 +15,7 @@ abbrev pub members_text : ℕ → ℕ → BlockTree → List (List (List ℕ)) �
 members_text b n tree members =
     list_text b (length (take n members)) ++ concat (map (rotation_text tree.part b) (take n members)) ++ (if nat_lt n (length members) then more_text else end_text)
 
--- the answer is this, of the members behind the present one
+-- the answer is this, of the members after the present one
 abbrev pub IsListing : ℕ → ℕ → BlockTree → Embedding → List ℕ → Type 0
 IsListing b n tree e text = (l : List (List (List ℕ))) (k : ℕ) → AreMembers tree e l → IsRank l e.rotation k → text ≡ members_text b n tree (drop (k + 1) l)
 

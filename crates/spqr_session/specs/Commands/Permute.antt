@@ -12,7 +12,7 @@ use Rattle.spqr_session.specs.BlockCodes.{is_block, is_node, kind_of, is_planar,
 use Rattle.pair_split.specs.Kinds.{is_bond}
 use Rattle.spqr_session.specs.declared.code.Code.TheVariants.{NoBlock, NoNode, WrongKind, BadOrder, NonPlanar}
 
--- whether a list is an arrangement of others, all different: no member twice, each among those given, and as many
+-- whether a list is a permutation of others, all different: no member twice, each among those given, and equally many
 abbrev pub is_arrangement : List ℕ → List ℕ → Bool
 is_arrangement given list = is_distinct list && list_all (λ x. is_member x given) list && length list == length given
 
@@ -20,7 +20,7 @@ is_arrangement given list = is_distinct list && list_all (λ x. is_member x give
 abbrev pub outer_edges : BlockTree → List ℕ → List ℕ
 outer_edges tree edges = map (slice_index tree.part.edges) edges
 
--- codes 2 and 3; 4: the keys are no arrangement of the node's keys; 5 and 12
+-- codes 2 and 3; 4: the keys are no permutation of the node's keys; 5 and 12
 abbrev pub permute_codes : ℕ → List ℕ → BlockTree → Option Embedding → Ladder
 permute_codes k keys tree entry =
     (NoNode, not (is_node tree k)) ∷ (WrongKind, not (is_bond (kind_of tree k))) ∷ (BadOrder, not (is_arrangement (outer_edges tree (node_keys tree.nodes k)) keys))
@@ -34,7 +34,7 @@ permute_ladder trees b k keys s = (NoBlock, not (is_block trees b)) ∷ permute_
 abbrev pub inner_edges : BlockTree → List ℕ → List ℕ
 inner_edges tree edges = map (λ e. least (length tree.part.edges) (λ i. slice_index tree.part.edges i == e)) edges
 
--- the groups are put in the order of the keys, which are told in the numbers of the whole graph; locks stay
+-- the groups are put in the order of the keys, which are given in the numbers of the whole graph; locks stay
 pub record IsPermuted (k : ℕ) (keys : List ℕ) (tree : BlockTree) (old new : Embedding) : Type 0 where
   pub leads : MoveLeads tree.part.graph tree.nodes (permute k (inner_edges tree keys)) old.rotation new.rotation
   pub locks : new.locks ≡ old.locks

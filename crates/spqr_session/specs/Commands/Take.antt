@@ -1,4 +1,4 @@
--- `take B ROT`: lists of edges are taken in as the rotation system of a block.
+-- `take B ROT`: lists of edges become the rotation system of a block.
 use Rattle.std.specs.Prelude.{◌≡◌, ◌≢◌, ℕ, ◌<◌, ◌≤◌, true, List, length, Option, None, Some}
 use Rattle.rotations.specs.PartLists.{IsFirstBadInPart}
 use Rattle.faces.specs.Euler.{IsPlaneSystem}
@@ -24,7 +24,7 @@ pub record IsLockedOut (tree : BlockTree) (entries : List (ℕ × List ℕ)) (e 
   pub other : choice tree.nodes system k ≢ choice tree.nodes e.rotation k
   pub none_before : (j : ℕ) → j < k → lock_at e.locks j ≡ true → choice tree.nodes system j ≡ choice tree.nodes e.rotation j
 
--- code 1: there is no such block; 5: it is not planar; of a planar one, 6: the lists are no rotation system, and the number is the
+-- code 1: there is no such block; 5: it is not planar; of a planar one, 6: the lists are not a rotation system, and the number is the
 -- least at which this shows; 7: they are one with these numbers, which is not plane; 12: another choice at a locked node
 abbrev pub TakeApplies : List BlockTree → ℕ → List (ℕ × List ℕ) → State → Code → Type 0
 TakeApplies trees b entries s NoBlock = length trees ≤ b

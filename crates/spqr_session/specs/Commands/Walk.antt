@@ -1,4 +1,4 @@
--- `first B`, `next B` and `goto B R`: to the first member of a block's list, to the one behind the present one, to the one at a
+-- `first B`, `next B` and `goto B R`: to the first member of a block's list, to the one after the present one, to the one at a
 -- rank.
 use Rattle.std.specs.Prelude.{◌≡◌, ◌⊎◌, ℕ, List}
 use Rattle.spqr_script.specs.Answers.Change.{end_text}
@@ -20,7 +20,7 @@ GotoStep trees b r before text after = ChangeStep (read_ladder (rank_codes r) tr
 abbrev pub IsEnd : BlockTree → Embedding → List ℕ → Type 0
 IsEnd tree e text = StandsLast tree e × (text ≡ end_text)
 
--- `next` answers `end` at the last member, where the state stays, and else goes to the member behind the present one
+-- `next` answers `end` at the last member, where the state stays, and else goes to the member after the present one
 abbrev pub NextDoes : List BlockTree → ℕ → State → List ℕ → State → Type 0
 NextDoes trees b before text after = ReadsBlock trees b IsEnd before text after ⊎ ChangesBlock trees b (Silently StandsBehind) before text after
 

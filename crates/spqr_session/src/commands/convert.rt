@@ -31,7 +31,7 @@ fn lines_to(alloc: Global, block: &EmbeddedBlock, plane: &PlaneBlock) -> Result<
     }
 }
 
-// Puts the block on the board as it was planned, and answers with the lines of the moves that lead there.
+// Puts the block on the board as it was planned, and returns the lines of the moves that lead there.
 fn move_to(
     alloc: Global,
     board: &mut Board,
@@ -48,7 +48,7 @@ fn move_to(
     Ok(text)
 }
 
-// Carries out what was planned for block `b`, with its moves told.
+// Carries out what was planned for block `b`, with its moves reported.
 fn convert(
     alloc: Global,
     board: &mut Board,
@@ -67,7 +67,7 @@ fn convert(
 }
 
 /// Carries out `convert B rank R`: to the member of this rank in the block's list, with the moves that lead there, or code 1, 5, 10
-/// or 11. Without memory the board stays as it was.
+/// or 11. If memory runs out, the board stays as it was.
 pub(crate) fn carry_convert_rank(
     alloc: Global,
     board: &mut Board,
@@ -84,7 +84,7 @@ pub(crate) fn carry_convert_rank(
 }
 
 /// Carries out `convert B to ROT`: to the rotation system that the lists are, with the moves that lead there, or code 1, 5, 6, 7 or
-/// 12. Without memory the board stays as it was.
+/// 12. If memory runs out, the board stays as it was.
 pub(crate) fn carry_convert_to(
     alloc: Global,
     board: &mut Board,

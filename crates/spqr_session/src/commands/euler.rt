@@ -21,7 +21,7 @@ fn numbers_line(alloc: Global, g: &Graph, r: &Rotation) -> Result<Vec<u8>, Alloc
 }
 
 /// Carries out `euler`: the numbers of the rotation system that the lists are, or code 6 with the least number at which they
-/// are none. Nothing changes.
+/// are not one. Nothing changes.
 pub(crate) fn carry_euler(alloc: Global, g: &Graph, lists: &Lists) -> Result<Vec<u8>, AllocError>
     ensures { (s : State) → IfOk result (λ text. EulerStep g.now lists.now s text.items s) }
 {

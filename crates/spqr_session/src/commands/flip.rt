@@ -73,7 +73,7 @@ fn plan(alloc: Global, blocks: &[EmbeddedBlock], b: u32, k: u32) -> Result<Plann
     }
 }
 
-/// Carries out `flip`: the node is flipped, or code 1, 2, 3, 5 or 12. Without memory the board stays as it was.
+/// Carries out `flip`: the node is flipped, or code 1, 2, 3, 5 or 12. If memory runs out, the board stays as it was.
 pub(crate) fn carry_flip(
     alloc: Global,
     board: &mut Board,

@@ -8,7 +8,7 @@ use crate::code::Code;
 use spqr_script::ok_line;
 use std::alloc::{AllocError, Global};
 
-/// Carries out `undo`: the nearest earlier family is the present one, or code 8. Without memory the board stays as it was.
+/// Carries out `undo`: the nearest earlier family is the present one, or code 8. If memory runs out, the board stays as it was.
 pub(crate) fn carry_undo(alloc: Global, board: &mut Board) -> Result<Vec<u8>, AllocError>
     ensures step { IfOk result (λ text. UndoStep (board_state board.old) text.items
         (board_state board.new)) }
@@ -23,7 +23,7 @@ pub(crate) fn carry_undo(alloc: Global, board: &mut Board) -> Result<Vec<u8>, Al
     Ok(text)
 }
 
-/// Carries out `redo`: the nearest later family is the present one, or code 9. Without memory the board stays as it was.
+/// Carries out `redo`: the nearest later family is the present one, or code 9. If memory runs out, the board stays as it was.
 pub(crate) fn carry_redo(alloc: Global, board: &mut Board) -> Result<Vec<u8>, AllocError>
     ensures step { IfOk result (λ text. RedoStep (board_state board.old) text.items
         (board_state board.new)) }

@@ -33,7 +33,7 @@ fn count_following(alloc: Global, n: u32, plane: &PlaneBlock) -> Result<u32, All
     Ok(n)
 }
 
-// Goes to the next members, n of them or all where they are fewer, puts the line of each behind a text, and answers how many they
+// Goes to the next members, n of them or all where they are fewer, appends the line of each to a text, and returns how many they
 // are.
 fn push_members(
     out: &mut Vec<u8>,
@@ -59,7 +59,7 @@ fn push_members(
     Ok(n)
 }
 
-// The line behind the members: whether one more follows.
+// The line after the members: whether one more follows.
 fn last_line(alloc: Global, more: bool) -> Result<Vec<u8>, AllocError>
     ensures { IfOk result (λ line. line.items ≡ (if more then more_text else end_text)) }
 {

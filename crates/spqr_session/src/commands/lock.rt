@@ -53,8 +53,8 @@ fn code_of(blocks: &[EmbeddedBlock], b: u32, k: u32) -> Option<Code>
     }
 }
 
-/// Carries out `lock`, or `unlock` where it is not to be on: the lock of the node is set so, or code 1, 2, 3 or 5. Without
-/// memory the board stays as it was.
+/// Carries out `lock`, or `unlock` where it is not to be on: the lock of the node is set so, or code 1, 2, 3 or 5. If
+/// memory runs out, the board stays as it was.
 pub(crate) fn carry_lock(
     alloc: Global,
     board: &mut Board,

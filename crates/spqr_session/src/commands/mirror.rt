@@ -48,7 +48,7 @@ fn plan(alloc: Global, blocks: &[EmbeddedBlock], b: u32) -> Result<Planned, Allo
     }
 }
 
-/// Carries out `mirror`: every rotation of the block is reversed, or code 1, 5 or 12. Without memory the board stays as it was.
+/// Carries out `mirror`: every rotation of the block is reversed, or code 1, 5 or 12. If memory runs out, the board stays as it was.
 pub(crate) fn carry_mirror(alloc: Global, board: &mut Board, b: u32) -> Result<Vec<u8>, AllocError>
     ensures step { IfOk result (λ text.
         MirrorStep (map view_tree board.old.views) b (board_state board.old) text.items (board_state board.new)) }

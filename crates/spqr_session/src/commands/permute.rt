@@ -24,7 +24,7 @@ use std::alloc::{AllocError, Global};
 
 // ---- the test of the keys
 
-// The number in a block of an edge of the whole graph; where the block does not have it, that behind the last, which is no edge.
+// The number in a block of an edge of the whole graph; where the block does not have it, the number after the last, which is not an edge.
 fn inner_key(block: &EmbeddedBlock, key: u32) -> u32
     ensures { result ≡ least (length block.now.tree.part.edges)
         (λ i. slice_index block.now.tree.part.edges i == key) }
@@ -62,7 +62,7 @@ fn are_keys(items: &[Item], keys: &[u32]) -> bool
     true
 }
 
-// Whether the keys are an arrangement of those of the items, which rise: a copy of them is sorted and compared.
+// Whether the keys are a permutation of those of the items, which increase: a copy of them is sorted and compared.
 fn are_arranged(alloc: Global, items: &[Item], keys: &[u32]) -> Result<bool, AllocError>
     requires { Rises (map item_key items.now) }
     ensures { IfOk result (λ arranged. IsTrue arranged ↔ IsPermutation
@@ -75,7 +75,7 @@ fn are_arranged(alloc: Global, items: &[Item], keys: &[u32]) -> Result<bool, All
 
 // ---- the plan
 
-// The plan for a block in the plane with this bond, and an arrangement of its keys in the block's numbers: made on a copy.
+// The plan for a block in the plane with this bond, and a permutation of its keys in the block's numbers: made on a copy.
 fn plan_plane(alloc: Global, plane: &PlaneBlock, k: u32, own: &[u32]) -> Result<Planned, AllocError>
     requires node { k < length plane.now.tree }
     requires kind { (node_at plane.now.tree k).kind ≡ P }

@@ -1,4 +1,4 @@
-// `take B ROT`: lists of edges are taken in as the rotation system of a block.
+// `take B ROT`: lists of edges become the rotation system of a block.
 ghost use Rattle.std.specs.Prelude.{◌≡◌, map, IfOk, OnErr};
 ghost use Rattle.spqr_session.specs.State.{State};
 ghost use Rattle.spqr_session.specs.Embedded.{view_tree};
@@ -52,7 +52,7 @@ fn take_of_block(alloc: Global, block: &EmbeddedBlock, lists: &Lists) -> Result<
     }
 }
 
-/// The plan for block `b` to stand at the rotation system that the lists are.
+/// The plan for block `b` to take the rotation system that the lists give.
 pub(crate) fn plan_take(
     alloc: Global,
     blocks: &[EmbeddedBlock],
@@ -68,7 +68,7 @@ pub(crate) fn plan_take(
     }
 }
 
-/// Carries out `take`: the block stands at the rotation system that the lists are, or code 1, 5, 6, 7 or 12. Without memory the
+/// Carries out `take`: the rotation system of the block becomes the one that the lists give, or code 1, 5, 6, 7 or 12. If memory runs out, the
 /// board stays as it was.
 pub(crate) fn carry_take(
     alloc: Global,

@@ -48,7 +48,7 @@ fn plan_first(alloc: Global, blocks: &[EmbeddedBlock], b: u32) -> Result<Planned
     }
 }
 
-/// Carries out `first`: to the first member of the block's list, or code 1 or 5. Without memory the board stays as it was.
+/// Carries out `first`: to the first member of the block's list, or code 1 or 5. If memory runs out, the board stays as it was.
 pub(crate) fn carry_first(alloc: Global, board: &mut Board, b: u32) -> Result<Vec<u8>, AllocError>
     ensures step { IfOk result (λ text.
         FirstStep (map view_tree board.old.views) b (board_state board.old) text.items (board_state board.new)) }
@@ -94,7 +94,7 @@ fn rank_of_block(alloc: Global, block: &EmbeddedBlock, r: u128) -> Result<Planne
     }
 }
 
-/// The plan for block `b` to stand at the member of this rank.
+/// The plan for block `b` to go to the member of this rank.
 pub(crate) fn plan_rank(
     alloc: Global,
     blocks: &[EmbeddedBlock],
@@ -110,7 +110,7 @@ pub(crate) fn plan_rank(
     }
 }
 
-/// Carries out `goto`: to the member of this rank in the block's list, or code 1, 5, 10 or 11. Without memory the board stays
+/// Carries out `goto`: to the member of this rank in the block's list, or code 1, 5, 10 or 11. If memory runs out, the board stays
 /// as it was.
 pub(crate) fn carry_goto(
     alloc: Global,
@@ -162,8 +162,8 @@ fn plan_next(alloc: Global, blocks: &[EmbeddedBlock], b: u32) -> Result<Planned,
     }
 }
 
-/// Carries out `next`: to the member behind the present one, or `end` at the last, where nothing changes, or code 1 or 5.
-/// Without memory the board stays as it was.
+/// Carries out `next`: to the member after the present one, or `end` at the last, where nothing changes, or code 1 or 5.
+/// If memory runs out, the board stays as it was.
 pub(crate) fn carry_next(alloc: Global, board: &mut Board, b: u32) -> Result<Vec<u8>, AllocError>
     ensures step { IfOk result (λ text.
         NextStep (map view_tree board.old.views) b (board_state board.old) text.items (board_state board.new)) }
