@@ -2,8 +2,8 @@
 use Rattle.std.specs.Prelude.{◌≡◌, ℕ, ◌*◌, ◌<◌, Bool, true, false}
 use Rattle.dart_maps.specs.Map.{twin, same_vertex}
 
--- the edges whose darts pass the test `part` stand in one run at the vertex of a and b: the run ends with a, and another
--- one begins behind b
+-- the edges whose darts pass the test `part` are one run at the vertex of a and b: the run ends with a, and another
+-- one begins after b
 pub record IsRun (m : ℕ) (next : ℕ → ℕ) (part : ℕ → Bool) (a b : ℕ) : Type 0 where
   pub last_dart : a < 2 * m
   pub dart_before : b < 2 * m
@@ -13,7 +13,7 @@ pub record IsRun (m : ℕ) (next : ℕ → ℕ) (part : ℕ → Bool) (a b : ℕ
   pub enters : part (next b) ≡ true
   pub one_vertex : same_vertex m next a b ≡ true
 
--- `flipped` is the map with the part turned over: the darts of the part are met in the opposite order, each run in its
+-- `flipped` is the map with the part turned over: the darts of the part come in the opposite order, each run in its
 -- place; a and b, p and q are the runs' last darts and the darts before the runs
 pub record IsFlip (m : ℕ) (next flipped : ℕ → ℕ) (part : ℕ → Bool) (a b p q : ℕ) : Type 0 where
   pub first_run : IsRun m next part a b
@@ -28,7 +28,7 @@ pub record IsFlip (m : ℕ) (next flipped : ℕ → ℕ) (part : ℕ → Bool) (
   pub second_begins : flipped q ≡ p
   pub second_ends : flipped (next q) ≡ next p
 
--- the same for a part that stands in one run at one vertex, and meets the rest nowhere else
+-- the same for a part that is one run at one vertex, and has no other vertex in common with the rest
 pub record IsFlipAtOne (m : ℕ) (next flipped : ℕ → ℕ) (part : ℕ → Bool) (a b : ℕ) : Type 0 where
   pub run : IsRun m next part a b
   pub whole_edges : (d : ℕ) → d < 2 * m → part (twin d) ≡ part d

@@ -30,7 +30,7 @@ RestrictionIsMap = (m : ℕ) (keep : ℕ → Bool) (next previous : ℕ → ℕ)
 abbrev pub RestrictionKeepsVertices : Type 0
 RestrictionKeepsVertices = (m : ℕ) (keep : ℕ → Bool) (next previous : ℕ → ℕ) → IsMap m next previous → (c d : ℕ) → keep c ≡ true → keep d ≡ true → same_vertex m (restricted (2 * m) keep next) c d ≡ same_vertex m next c d
 
--- a map in two parts without connection, told apart by a test, is plane exactly where both parts are
+-- a map in two parts without connection, distinguished by a test, is plane exactly where both parts are
 abbrev pub PlaneInParts : Type 0
 PlaneInParts = (m : ℕ) (next previous : ℕ → ℕ) → IsMap m next previous → (t : ℕ → Bool) → ((d : ℕ) → d < 2 * m → t (next d) ≡ t d) → ((d : ℕ) → d < 2 * m → t (twin d) ≡ t d)
     → (IsPlane m next ↔ (IsPlane m (restricted (2 * m) t next) × IsPlane m (restricted (2 * m) (λ d. not (t d)) next)))
@@ -56,7 +56,7 @@ InsertPartsFace = (m : ℕ) (next previous : ℕ → ℕ) → IsMap m next previ
     → (p q : ℕ) → p < 2 * m → q < 2 * m → (p ≡ d → ⊥) → (p ≡ twin d → ⊥) → (q ≡ d → ⊥) → (q ≡ twin d → ⊥)
     → same_face m next (twin p) (twin q) ≡ true → same_face m (inserted d p q next) d (twin d) ≡ false
 
--- an edge put in between corners of two faces of one component: the defect rises by two
+-- an edge inserted between corners of two faces of one component: the defect increases by two
 abbrev pub InsertAcrossFaces : Type 0
 InsertAcrossFaces = (m : ℕ) (next previous : ℕ → ℕ) → IsMap m next previous → (d : ℕ) → d < 2 * m → next d ≡ d → next (twin d) ≡ twin d
     → (p q : ℕ) → p < 2 * m → q < 2 * m → (p ≡ d → ⊥) → (p ≡ twin d → ⊥) → (q ≡ d → ⊥) → (q ≡ twin d → ⊥)
@@ -73,8 +73,8 @@ abbrev pub PathLiesInFace : Type 0
 PathLiesInFace = (m : ℕ) (path : List ℕ) (next previous : ℕ → ℕ) → IsMap m next previous → (p d q : ℕ) → IsFreshPath m next p d path q
     → same_component m next p q ≡ true → IsPlane m (path_inserted p d path q next) → same_face m next (twin p) (twin q) ≡ true
 
--- the face, read from the corner p over the corner q to p again, falls in two: the one keeps the way from p to q and goes
--- back along the path, the other keeps the way from q to p and goes on along the path
+-- the face, read from the corner p over the corner q to p again, is split in two: the one keeps the way from p to q and goes
+-- back along the path, the other keeps the way from q to p and continues along the path
 abbrev pub PathPartsFace : Type 0
 PathPartsFace = (m : ℕ) (path : List ℕ) (next previous : ℕ → ℕ) → IsMap m next previous → (p d q : ℕ) → IsFreshPath m next p d path q
     → (s r : List ℕ) → ring (2 * m) (face next) (next p) ≡ (s ++ twin q ∷ []) ++ (r ++ twin p ∷ [])
@@ -116,7 +116,7 @@ GluingKeepsPlane = (m : ℕ) (next previous : ℕ → ℕ) → IsMap m next prev
     → (next d ≡ d → ⊥) → (next (twin d) ≡ twin d → ⊥) → (next e ≡ e → ⊥) → (next (twin e) ≡ twin e → ⊥)
     → IsPlane m next → IsPlane m (glued d e next)
 
--- the mirror image has as many vertices, faces and components
+-- the mirror image has equally many vertices, faces and components
 abbrev pub MirrorKeepsCounts : Type 0
 MirrorKeepsCounts = (m : ℕ) (next previous : ℕ → ℕ) → IsMap m next previous → (vertex_count m previous ≡ vertex_count m next) × (face_count m previous ≡ face_count m next) × (component_count m previous ≡ component_count m next)
 
@@ -124,18 +124,18 @@ MirrorKeepsCounts = (m : ℕ) (next previous : ℕ → ℕ) → IsMap m next pre
 abbrev pub MirrorKeepsPlane : Type 0
 MirrorKeepsPlane = (m : ℕ) (next previous : ℕ → ℕ) → IsMap m next previous → IsPlane m next → IsPlane m previous
 
--- four darts met in the order a, b, c, d round a vertex of a plane map: if a is connected with c, and b with d, without
+-- four darts in the order a, b, c, d around a vertex of a plane map: if a is connected with c, and b with d, without
 -- passing that vertex, then a is connected with b
 abbrev pub NoncrossingAtVertex : Type 0
 NoncrossingAtVertex = (m : ℕ) (next previous : ℕ → ℕ) → IsMap m next previous → IsPlane m next → (a b c d : ℕ) → MetInOrder m next a b c d
     → connected_around m next a a c ≡ true → connected_around m next a b d ≡ true → connected_around m next a a b ≡ true
 
--- four different darts met in this order on the way round a vertex, as a list: so they are met in order
+-- four different darts that come in this order around a vertex, as a list: so they are in order
 abbrev pub RingTellsOrder : Type 0
 RingTellsOrder = (m : ℕ) (next previous : ℕ → ℕ) → IsMap m next previous → (v a b c d : ℕ) → v < 2 * m → (a < 2 * m) × (b < 2 * m) × (c < 2 * m) × (d < 2 * m)
     → (a ≡ b → ⊥) → (a ≡ c → ⊥) → (a ≡ d → ⊥) → (b ≡ c → ⊥) → (b ≡ d → ⊥) → (c ≡ d → ⊥) → FollowsAround (ring (2 * m) next v) (a ∷ b ∷ c ∷ d ∷ []) → MetInOrder m next a b c d
 
--- an edge d of a plane map that joins two vertices, darts a, b met in turn after d at the one, and x, y after its twin at
+-- an edge d of a plane map that joins two vertices, darts a, b in turn after d at the one, and x, y after its twin at
 -- the other: if a is connected with x, and b with y, without passing the two vertices, then a is connected with b
 abbrev pub NoncrossingAlongEdge : Type 0
 NoncrossingAlongEdge = (m : ℕ) (next previous : ℕ → ℕ) → IsMap m next previous → IsPlane m next → (d : ℕ) → same_vertex m next d (twin d) ≡ false
@@ -147,7 +147,7 @@ abbrev pub RenumberingKeepsPlane : Type 0
 RenumberingKeepsPlane = (k : ℕ) (inner inner_previous : ℕ → ℕ) → IsMap k inner inner_previous → (m : ℕ) (outer outer_previous : ℕ → ℕ) → IsMap m outer outer_previous
     → (live : ℕ → Bool) (into back : ℕ → ℕ) → IsRenumbering k inner m outer live into back → (IsPlane k inner ↔ IsPlane m outer)
 
--- a map with two vertices, told apart by a test, all edges of which join them: it is plane exactly where two steps along
+-- a map with two vertices, distinguished by a test, all edges of which join them: it is plane exactly where two steps along
 -- the face of each dart lead back to it
 abbrev pub BondIsPlane : Type 0
 BondIsPlane = (m : ℕ) (next previous : ℕ → ℕ) → IsMap m next previous → 0 < m → (t : ℕ → Bool) → ((d : ℕ) → d < 2 * m → t (twin d) ≡ not (t d)) → ((d : ℕ) → d < 2 * m → t (next d) ≡ t d)
@@ -164,7 +164,7 @@ abbrev pub FlipKeepsComponents : Type 0
 FlipKeepsComponents = (m : ℕ) (next previous flipped : ℕ → ℕ) → IsMap m next previous → (part : ℕ → Bool) (a b p q : ℕ) → IsFlip m next flipped part a b p q
     → (c d : ℕ) → same_component m flipped c d ≡ same_component m next c d
 
--- and there are as many faces
+-- and there are equally many faces
 abbrev pub FlipKeepsFaces : Type 0
 FlipKeepsFaces = (m : ℕ) (next previous flipped : ℕ → ℕ) → IsMap m next previous → (part : ℕ → Bool) (a b p q : ℕ) → IsFlip m next flipped part a b p q
     → face_count m flipped ≡ face_count m next

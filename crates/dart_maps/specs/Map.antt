@@ -1,13 +1,10 @@
 -- Maps of darts, after Edmonds (1960) and Cori (1975): a map with m edges has the darts 0 to 2m - 1. Edge e has the
 -- darts 2e and 2e + 1, one at each of its ends. `next` is a permutation of the darts, and its orbits are the vertices:
--- next d is the dart that follows d round the vertex that d leaves.
+-- next d is the dart that follows d around the vertex that d leaves.
 use Rattle.std.specs.Prelude.{◌≡◌, ℕ, zero, suc, ◌+◌, ◌-◌, ◌*◌, ◌%◌, Bool, ◌&&◌, ◌==◌, if◌then◌else◌, List, [], ◌∷◌}
+pub use Rattle.multigraph.specs.Darts.{twin}
 use Rattle.permutations.specs.Relation.{connected, class_count}
 use Rattle.permutations.specs.Permutation.{Permutes, same_orbit, orbit_count}
-
--- the other dart of the same edge
-unfoldable pub twin : ℕ → ℕ
-twin d = (if d % 2 == 0 then d + 1 else d - 1)
 
 -- a map with m edges: `next` permutes the darts, and `previous` is its inverse
 abbrev pub IsMap : ℕ → (ℕ → ℕ) → (ℕ → ℕ) → Type 0

@@ -1,4 +1,4 @@
--- The order of darts round a vertex, and connection that avoids a vertex.
+-- The order of darts around a vertex, and connection that avoids a vertex.
 use Rattle.std.specs.Prelude.{◌≡◌, ℕ, ◌*◌, ◌<◌, Bool, ◌||◌, ◌==◌, if◌then◌else◌}
 use Rattle.permutations.specs.Exchange.{restricted}
 use Rattle.dart_maps.specs.Map.{same_vertex, same_component}
@@ -11,7 +11,7 @@ one_of_three a b c x = x == a || x == b || x == c
 abbrev pub one_of_four : ℕ → ℕ → ℕ → ℕ → ℕ → Bool
 one_of_four a b c d x = x == a || x == b || x == c || x == d
 
--- three different darts of one vertex, met in this order when going round it: looking at them alone, a is followed by b,
+-- three different darts of one vertex, in this order around it: looking at them alone, a is followed by b,
 -- b by c, and c by a
 pub record MetInTurn (m : ℕ) (next : ℕ → ℕ) (a b c : ℕ) : Type 0 where
   pub darts : (a < 2 * m) × (b < 2 * m) × (c < 2 * m)
@@ -20,7 +20,7 @@ pub record MetInTurn (m : ℕ) (next : ℕ → ℕ) (a b c : ℕ) : Type 0 where
   pub second : restricted (2 * m) (one_of_three a b c) next b ≡ c
   pub third : restricted (2 * m) (one_of_three a b c) next c ≡ a
 
--- four different darts of one vertex, met in this order when going round it
+-- four different darts of one vertex, in this order around it
 pub record MetInOrder (m : ℕ) (next : ℕ → ℕ) (a b c d : ℕ) : Type 0 where
   pub darts : (a < 2 * m) × (b < 2 * m) × (c < 2 * m) × (d < 2 * m)
   pub different : a ≡ c → ⊥

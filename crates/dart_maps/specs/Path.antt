@@ -4,7 +4,7 @@ use Rattle.permutations.specs.Exchange.{exchange}
 use Rattle.dart_maps.specs.Map.{twin}
 use Rattle.dart_maps.specs.Changes.{inserted}
 
--- at each inner vertex the dart that arrives and the one that goes on are all there is: c arrives at the first
+-- at each inner vertex the dart that arrives and the one that continues are the only ones: c arrives at the first
 abbrev pub IsThin : (ℕ → ℕ) → ℕ → List ℕ → Type 0
 IsThin next c [] = Unit {0}
 IsThin next c (p ∷ path) = (next c ≡ p) × (next p ≡ c) × IsThin next (twin p) path
@@ -57,7 +57,7 @@ pub record IsFreshPath (m : ℕ) (next : ℕ → ℕ) (p d : ℕ) (path : List �
   pub off_first : Avoids p (d ∷ path)
   pub off_last : Avoids q (d ∷ path)
 
--- the map with the path put in: it leaves behind the corner p, passes new vertices, and arrives behind the corner q
+-- the map with the path inserted: it leaves after the corner p, passes new vertices, and arrives after the corner q
 abbrev pub path_inserted : ℕ → ℕ → List ℕ → ℕ → (ℕ → ℕ) → ℕ → ℕ
 path_inserted p d [] q next = inserted d p q next
 path_inserted p d (c ∷ path) q next = path_inserted (twin d) c path q (exchange p d next)

@@ -1,18 +1,19 @@
 // Maps of darts: Euler's inequality, contraction, gluing and noncrossing: theory without code that runs.
 //
 // A map with m edges has 2m darts, two for each edge, one at each of its ends; `twin` goes from the one to the other, and a
-// permutation `next` goes round the vertices. Leaving by a dart, arriving at its twin and going on from there is the step
+// permutation `next` goes around the vertices. Leaving by a dart, arriving at its twin and continuing from there is the step
 // along a face. The corner of a dart p lies between p and the dart that follows p; the face that passes it is that of p's
-// twin, so the corners p and q lie in one face where twin p and twin q do. So vertices and faces are orbits, components are the classes that both kinds of steps generate, and a map is
-// plane where V + F = E + 2C. No topology is needed: one operation does everything, exchanging what follows two darts. It
-// splits a vertex or merges two, it splits a face or merges two, and the four cases of this decide all that is proved here.
-// In every map V + F is at most E + 2C; E + 2C - V - F, which is never written as a difference, is called the defect. What
-// keeps the defect carries plane both ways, and what never raises it keeps a map plane. At a vertex of a plane map
-// connections don't cross: this stands for the Jordan curve theorem.
-// An edge that is gone stays as two darts, each alone at a vertex of its own; this adds nothing to the defect.
+// twin, so the corners p and q lie in one face where twin p and twin q do. So vertices and faces are orbits, components are
+// the classes that both kinds of steps generate, and a map is plane where V + F = E + 2C. No topology is needed: one
+// operation does everything, exchanging what follows two darts. It splits a vertex or merges two, it splits a face or merges
+// two, and the four cases of this decide all that is proved here. In every map V + F is at most E + 2C; E + 2C - V - F, which
+// is never written as a difference, is called the defect. What keeps the defect carries plane both ways, and what never
+// raises it keeps a map plane. At a vertex of a plane map connections don't cross: this takes the place of the Jordan curve
+// theorem.
+// An edge that was removed stays as two darts, each alone at a vertex of its own; this adds nothing to the defect.
 // Each law below is a function without a body, whose contract is the theorem.
 //
-// The lemmas that are used most (module of proofs/ in front):
+// The lemmas that are used most, after the name of their module in proofs/:
 //   Darts        twin-twin, twin-below, twin-cases, face-permutes, face-exchange: a dart and its twin; faces after an exchange
 //   Components   component-next, component-twin, component-least, component-test, component-finer, vertex-component, face-component
 //   Steps        split-merge, merge-split, split-split, merge-merge, merge-apart: V, F and C after an exchange, case by case
@@ -33,7 +34,7 @@
 //   Noncrossing  noncrossing, restricted-vertex, restricted-more; LinkNoncrossing link-noncrossing, turn-at
 //   Bond         bond-plane, bond-plane-back, involution-count, pairs-involution
 //   TurnOver     turned-faces; Flip flip-vertex, flip-faces, flip-component, flip-defect; FlipOne one-faces
-//   Rounds       ring-in-order: the order round a vertex, from its ring as a list
+//   Rounds       ring-in-order: the order around a vertex, from its ring as a list
 #![tactic(auto)]
 
 ghost use Rattle.dart_maps.specs.Laws.{BondIsPlane, ContractionKeepsComponents, ContractionKeepsDefect, ContractionKeepsPlane, CornerCut, DropKeepsDefect, EulersInequality, FlipAloneKeepsAll, FlipAtOneKeepsAll, FlipKeepsComponents, FlipKeepsDefect, FlipKeepsFaces, FlipKeepsVertices, GluingCornersKeepsDefect, GluingKeepsPlane, InsertAcrossFaces, InsertKeepsDefect, InsertPartsFace, MirrorKeepsCounts, MirrorKeepsPlane, NoncrossingAlongEdge, NoncrossingAtVertex, PathKeepsDefect, PathLiesInFace, PathPartsFace, PlaneInParts, RenumberingKeepsPlane, RestrictionIsMap, RestrictionKeepsPlane, RestrictionKeepsVertices, RingTellsOrder, SmoothingAllKeepsPlane, SmoothingKeepsPlane, SplitKeepsPlane};
@@ -94,14 +95,14 @@ pub fn two_sum_is_plane()
     ensures at_corners { GluingCornersKeepsDefect }
 {}
 
-/// The law that the mirror image of a map has as many vertices, faces and components, and is plane where the map is.
+/// The law that the mirror image of a map has equally many vertices, faces and components, and is plane where the map is.
 pub fn mirror_image()
     ensures counts { MirrorKeepsCounts }
     ensures plane { MirrorKeepsPlane }
 {}
 
-/// Noncrossing, which stands for the Jordan curve theorem: connections that avoid a vertex of a plane map don't alternate
-/// round it, and connections that avoid both ends of an edge don't cross along it.
+/// Noncrossing, which takes the place of the Jordan curve theorem: connections that avoid a vertex of a plane map don't alternate
+/// around it, and connections that avoid both ends of an edge don't cross along it.
 pub fn connections_do_not_cross()
     ensures at_vertex { NoncrossingAtVertex }
     ensures order { RingTellsOrder }
@@ -119,7 +120,7 @@ pub fn bond_is_plane()
     ensures { BondIsPlane }
 {}
 
-/// The law that turning over a part of a map, which stands in one run at each of two vertices, or of one, or is made of whole
+/// The law that turning over a part of a map, which is one run at each of two vertices, or of one, or is made of whole
 /// components, keeps the vertices, the components and the number of faces.
 pub fn flip_keeps_faces()
     ensures vertices { FlipKeepsVertices }

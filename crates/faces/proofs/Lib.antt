@@ -26,3 +26,4 @@ pub mod MapParts
 pub mod MapPartOrders
 pub mod MapToLists
 pub mod MapTwins
+pub mod ListedOnce

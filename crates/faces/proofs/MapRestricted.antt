@@ -54,7 +54,7 @@ module _ (g : Multigraph) (r : List (List ℕ)) (ok : IsGraph g) (s : IsRotation
       (successor-map (dart_from g w) (order_at r w) y.0 (λ x _. dart_from-once g w x y.0) ∙ sym (after-dart_from g r w y.0 (member-end g w y.0 (member-incident g r w y.0 s l y.1))))
 
   -- the ring of the map is the order of the darts
-  round-ring : ring (dart_count g) (dart_after g r) start ≡ turned round start
+  pub round-ring : ring (dart_count g) (dart_after g r) start ≡ turned round start
   round-ring = ring-from_list (dart_count g) (dart_after g r) (dart_before g r) (map-permutes g r ok s) round round-distinct round-successor start start-below (member-map (dart_from g w) (order_at r w) e m)
 
   left-permutes : Permutes (dart_count g) (taken_out live (dart_count g) (dart_after g r)) (taken_out live (dart_count g) (dart_before g r))

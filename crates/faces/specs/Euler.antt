@@ -1,30 +1,19 @@
 -- Faces of a rotation system, and the numbers of Euler's sum.
 -- Each edge e has two darts: 2e leaves its first end, 2e + 1 its second. A face is an orbit of the step: leave v by e,
--- arrive at w, leave w by the edge that follows e round w.
+-- arrive at w, leave w by the edge that follows e around w.
 use Rattle.std.specs.Prelude.{◌≡◌, ℕ, ◌+◌, ◌*◌, ◌/◌, ◌%◌, Bool, not, ◌==◌, if◌then◌else◌, List, length}
 use Rattle.permutations.specs.Count.{count, some}
 use Rattle.permutations.specs.Relation.{connected, class_count}
 use Rattle.permutations.specs.Permutation.{reaches}
+pub use Rattle.multigraph.specs.Darts.{tail, dart_from, dart_count}
 use Rattle.multigraph.specs.Graph.{Multigraph, edge_count, ends_of, other_end, incident_edges}
 use Rattle.permutations.specs.Cyclic.{successor}
 use Rattle.rotations.specs.Rotation.{order_at, IsRotationSystem}
-
--- the vertex that a dart leaves
-abbrev pub tail : Multigraph → ℕ → ℕ
-tail g d = (if d % 2 == 0 then (ends_of g (d / 2)).0 else (ends_of g (d / 2)).1)
-
--- the dart of edge e that leaves v, one of its ends
-abbrev pub dart_from : Multigraph → ℕ → ℕ → ℕ
-dart_from g v e = (if (ends_of g e).0 == v then 2 * e else 2 * e + 1)
 
 -- the step along a face: arrive at the other end of the dart's edge, and leave it by the edge that follows there
 abbrev pub face_step : Multigraph → List (List ℕ) → ℕ → ℕ
 face_step g r d =
     let w = other_end g (d / 2) (tail g d) in dart_from g w (successor (order_at r w) (d / 2))
-
--- how many darts there are
-abbrev pub dart_count : Multigraph → ℕ
-dart_count g = 2 * edge_count g
 
 -- a number begins its orbit under f: no smaller one is among its images
 abbrev pub begins_orbit : ℕ → (ℕ → ℕ) → ℕ → Bool

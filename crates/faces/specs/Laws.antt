@@ -34,7 +34,7 @@ abbrev pub MapHasComponents : Type 0
 MapHasComponents = (g : Multigraph) (r : List (List ℕ)) → IsGraph g → IsRotationSystem g r → (c d : ℕ) → c < dart_count g → d < dart_count g
     → maps.same_component (edge_count g) (dart_after g r) c d ≡ connected g.ends (tail g c) (tail g d)
 
--- an isolated vertex is a vertex, a face and a component besides those of the map
+-- an isolated vertex is a vertex, a face and a component in addition to those of the map
 abbrev pub IsolatedVerticesBesides : Type 0
 IsolatedVerticesBesides = (g : Multigraph) (r : List (List ℕ)) → IsGraph g → IsRotationSystem g r
     → (maps.vertex_count (edge_count g) (dart_after g r) + count g.vertex_count (is_isolated g) ≡ g.vertex_count)
@@ -49,7 +49,7 @@ PlaneWhereMapIs = (g : Multigraph) (r : List (List ℕ)) → IsGraph g → IsRot
 abbrev pub MirrorIsRotationSystem : Type 0
 MirrorIsRotationSystem = (g : Multigraph) (r : List (List ℕ)) → IsRotationSystem g r → IsRotationSystem g (mirror_image r)
 
--- round each vertex it goes back
+-- around each vertex it goes back
 abbrev pub MirrorGoesBack : Type 0
 MirrorGoesBack = (g : Multigraph) (r : List (List ℕ)) → IsGraph g → IsRotationSystem g r → (d : ℕ) → d < dart_count g → dart_after g (mirror_image r) d ≡ dart_before g r d
 
@@ -57,7 +57,7 @@ MirrorGoesBack = (g : Multigraph) (r : List (List ℕ)) → IsGraph g → IsRota
 abbrev pub MirrorTwice : Type 0
 MirrorTwice = (g : Multigraph) (r : List (List ℕ)) → IsRotationSystem g r → mirror_image (mirror_image r) ≡ r
 
--- the mirror image has as many faces
+-- the mirror image has equally many faces
 abbrev pub MirrorKeepsFaces : Type 0
 MirrorKeepsFaces = (g : Multigraph) (r : List (List ℕ)) → IsGraph g → IsRotationSystem g r → face_count g (mirror_image r) ≡ face_count g r
 

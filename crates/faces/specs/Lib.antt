@@ -4,6 +4,7 @@ pub mod Marks
 pub mod Search
 pub mod Steps
 pub mod Trace
+pub mod FaceLists
 pub mod Maps
 pub mod Laws
 pub mod Subgraph

@@ -6,11 +6,11 @@ use Rattle.rotations.specs.Rotation.{order_at}
 use Rattle.dart_maps.specs.Map as maps
 use Rattle.faces.specs.Euler.{tail, dart_from}
 
--- the dart that follows d round the vertex that d leaves
+-- the dart that follows d around the vertex that d leaves
 abbrev pub dart_after : Multigraph → List (List ℕ) → ℕ → ℕ
 dart_after g r d = dart_from g (tail g d) (successor (order_at r (tail g d)) (d / 2))
 
--- the dart that d follows round this vertex
+-- the dart that d follows around this vertex
 abbrev pub dart_before : Multigraph → List (List ℕ) → ℕ → ℕ
 dart_before g r d = dart_from g (tail g d) (predecessor (order_at r (tail g d)) (d / 2))
 

@@ -18,7 +18,7 @@ abbrev pub is_neighbour : Multigraph → ℕ → ℕ → Bool
 is_neighbour g v x = is_neighbour_by g v (length (incident_edges g v)) x
 
 -- the marks and the stack before and after a look along the first k edges at v: where these lead is marked, and just what
--- is marked anew waits on the stack besides
+-- is marked anew waits on the stack too
 pub record LooksAlong (g : Multigraph) (v k : ℕ) (marks : List Bool) (stack : List ℕ) (new_marks : List Bool) (new_stack : List ℕ) : Type 0 where
   pub marked : (x : ℕ) → is_marked new_marks x ≡ (is_marked marks x || is_neighbour_by g v k x)
   pub waits : (x : ℕ) → is_member x new_stack ≡ (is_member x stack || (is_marked new_marks x && not (is_marked marks x)))

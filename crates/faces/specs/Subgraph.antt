@@ -19,7 +19,7 @@ pub record IsSubgraph (part g : Multigraph) (edge vertex : ℕ → ℕ) : Type 0
 abbrev pub is_kept : Multigraph → (ℕ → ℕ) → ℕ → Bool
 is_kept part edge e = some (edge_count part) (λ i. edge i == e)
 
--- the rotation system `inner` of the part goes round each vertex as `outer` does in g, the edges that are not of the part
+-- the rotation system `inner` of the part goes around each vertex as `outer` does in g, the edges that are not of the part
 -- left out
 abbrev pub IsRestriction : Multigraph → (ℕ → ℕ) → (ℕ → ℕ) → List (List ℕ) → List (List ℕ) → Type 0
 IsRestriction part edge vertex outer inner = (v : ℕ) → v < part.vertex_count → IsTurn (filter (is_kept part edge) (order_at outer (vertex v))) (map edge (order_at inner v))

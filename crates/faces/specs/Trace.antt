@@ -1,4 +1,4 @@
--- The lists of the faces. A dart stands for the pair of the vertex that it leaves and its edge; darts are ordered by their
+-- The lists of the faces. A dart is represented by the pair of the vertex that it leaves and its edge; darts are ordered by their
 -- vertex, then by their edge. Each face is listed along its steps from its least pair on, and the faces in order of these.
 use Rattle.std.specs.Prelude.{ℕ, zero, suc, ◌/◌, Bool, not, ◌&&◌, ◌||◌, ◌==◌, nat_lt, List, [], ◌∷◌, ◌++◌, map, filter}
 use Rattle.permutations.specs.Count.{some}
@@ -7,7 +7,7 @@ use Rattle.permutations.specs.Ring.{orbit_length}
 use Rattle.multigraph.specs.Graph.{Multigraph, incident_edges}
 use Rattle.faces.specs.Euler.{tail, dart_from, dart_count, face_step}
 
--- the pair that a dart stands for
+-- the pair of a dart
 abbrev pub pair_of : Multigraph → ℕ → ℕ × ℕ
 pair_of g d = (tail g d, d / 2)
 

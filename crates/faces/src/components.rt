@@ -59,7 +59,7 @@ fn mark_component(
     Ok(())
 }
 
-// Counts the components, where nothing is marked yet: each vertex that is met unmarked begins one.
+// Counts the components, where nothing is marked yet: each vertex that is found unmarked begins one.
 fn count_starts(graph: &Graph, marks: &mut [bool], stack: &mut Vec<u32>) -> Result<u32, AllocError>
     requires same_length { length marks.old ≡ graph.now.vertex_count }
     requires unmarked { (x : ℕ) → is_marked marks.old x ≡ false }

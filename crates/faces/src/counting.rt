@@ -26,7 +26,7 @@ fn count_faces(alloc: Global, g: &Graph, r: &Rotation) -> Result<u32, AllocError
 }
 
 /// The numbers of Euler's sum of the rotation system `r` of the graph `g`, and whether it is plane. An isolated vertex counts
-/// one face. In linear time.
+/// one face. In linear time. Fails only if memory runs out.
 pub fn euler(alloc: Global, g: &Graph, r: &Rotation) -> Result<Euler, AllocError>
     requires { IsRotationSystem g.now r.now }
     ensures vertices { IfOk result (λ u. u.v ≡ g.now.vertex_count) }

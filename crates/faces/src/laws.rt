@@ -1,7 +1,7 @@
 // The laws of rotation systems and their faces: each is a function without a body, whose contract is the theorem.
 //
-// The lemmas that are used most (module of proofs/ in front):
-//   MapSteps       tail-twin, map-permutes, map-face, after-tail, after-dart_from: next darts, round a vertex and along a face
+// The lemmas that are used most, after the name of their module in proofs/:
+//   MapSteps       tail-twin, map-permutes, map-face, after-tail, after-dart_from: next darts, around a vertex and along a face
 //   MapVertices    map-vertex, vertex-tail, tail-vertex, map-component: vertices and components of the map
 //   MapCounts      map-vertices, map-faces, map-components, plane-map, map-plane: V, F and C; plane here and there
 //   MapMirror      mirror-order, mirror-system, mirror-after, order-least: the mirror image; the first edge is the least
@@ -10,14 +10,25 @@
 //   MapTwins       block-other_edge, block-moves, block-two_faces: no dart of a block of two edges or more is alone
 //   MapLists       member-map, map-member, distinct-map, successor-map, filter-map, first-same: cyclic orders renumbered
 //   MapRestricted  restricted-order: the map restricted to edges follows the cyclic orders without the others
+//   ListedOnce     listed-orbit, listed-once, listed-count: the lists of faces are the orbits
 //   MapParts       part-renumbering, part-plane; MapPartOrders part-orders: a subgraph with numbers of its own
 //   MapToLists     map-orders, orders-told: from a map to the lists
 
+ghost use Rattle.faces.specs.FaceLists.{EachPairIsListedOnce, FacesAreOrbits, ListedFacesAreCounted};
 ghost use Rattle.faces.specs.Laws.{EdgeOnTwoFaces, EulersInequality, FacePassesOnce, IsolatedVerticesBesides, MapHasComponents, MapHasFaces, MapHasVertices, MapIsRotationSystem, MapTellsRotationSystem, MirrorDiffers, MirrorGoesBack, MirrorIsRotationSystem, MirrorKeepsFaces, MirrorKeepsPlane, MirrorTwice, PlaneWhereMapIs, RestrictionExists, RestrictionKeepsPlane, RotationSystemIsMap};
 
 /// Euler's inequality (Euler 1758, Heffter 1891): for every rotation system of every graph, V + F is at most E + 2C.
 pub fn eulers_inequality()
     ensures { EulersInequality }
+{}
+
+/// The law that the faces that are listed are the orbits of the face step: each list is an orbit, each pair of a vertex and
+/// an edge at it is in exactly one list, and there once, and there are as many lists as faces in Euler's sum, which counts
+/// one more for each isolated vertex.
+pub fn faces_are_orbits()
+    ensures orbits { FacesAreOrbits }
+    ensures once { EachPairIsListedOnce }
+    ensures counted { ListedFacesAreCounted }
 {}
 
 /// The law that a rotation system is a map of darts, the vertices, faces and components of which are its own but for the
@@ -31,8 +42,8 @@ pub fn rotation_system_is_map()
     ensures plane { PlaneWhereMapIs }
 {}
 
-/// The law that the mirror image of a rotation system, which goes round each vertex the other way, is a rotation system
-/// with as many faces, plane exactly where the first is; that mirroring twice changes nothing, and mirroring once does
+/// The law that the mirror image of a rotation system, which reverses the order around each vertex, is a rotation system
+/// with equally many faces, plane exactly where the first is; that mirroring twice changes nothing, and mirroring once does
 /// where some vertex has three edges or more.
 pub fn mirror_image()
     ensures system { MirrorIsRotationSystem }

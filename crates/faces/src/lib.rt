@@ -7,8 +7,8 @@
 //
 // `euler` counts the four numbers and says whether the rotation system is plane. `trace` lists the faces, each from its least
 // pair of a vertex and an edge on. Both take linear time, with vectors of their own and no recursion: they walk along each
-// face once and mark what they pass, and search each component once. Their contracts are exact; want of memory alone has no
-// cause in a clause. `dart_from`, `tail`, `head` and `twin` are the one home of darts as numbers.
+// face once and mark what they pass, and search each component once. Their contracts are exact; only running out of
+// memory has no cause in a clause. Darts as numbers are at home in multigraph.
 #![tactic(auto)]
 
 mod components;
@@ -22,11 +22,11 @@ mod steps;
 mod tracing;
 
 pub use counting::euler;
-pub use darts::{dart_count, dart_from, head, tail, twin};
 pub use laws::{
-    eulers_inequality, faces_of_block_are_simple, maps_are_rotation_systems, mirror_image,
-    restriction_keeps_plane, rotation_system_is_map,
+    eulers_inequality, faces_are_orbits, faces_of_block_are_simple, maps_are_rotation_systems,
+    mirror_image, restriction_keeps_plane, rotation_system_is_map,
 };
 pub use lists::Faces;
+pub use multigraph::{dart_count, dart_from, head, tail, twin};
 pub use numbers::Euler;
 pub use tracing::trace;

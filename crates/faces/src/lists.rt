@@ -1,4 +1,4 @@
-// The lists of faces, seen as lists by contracts.
+// The lists of faces, viewed as lists by contracts.
 ghost use Rattle.std.specs.Prelude.{[], ◌<◌, ◌≤◌, ◌≡◌, length, slice_index_or};
 ghost use Rattle.multigraph.specs.Graph.{max_darts};
 

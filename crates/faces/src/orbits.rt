@@ -23,7 +23,7 @@ fn mark_orbit(images: &[u32], marks: &mut [bool], start: usize)
     }
 }
 
-// Counts the orbits, where nothing is marked yet: each number that is met unmarked begins one.
+// Counts the orbits, where nothing is marked yet: each number that is found unmarked begins one.
 fn count_starts(images: &[u32], marks: &mut [bool]) -> u32
     requires permutation { IsPermutationBelow (length images.now) (slice_index images.now) }
     requires few { length images.now < 2 ^ 32 }

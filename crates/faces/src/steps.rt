@@ -6,12 +6,11 @@ ghost use Rattle.permutations.specs.Cyclic.{successor};
 ghost use Rattle.rotations.specs.Rotation.{IsRotationSystem, order_at};
 ghost use Rattle.std.specs.Prelude.{◌<◌, ◌≡◌, IfOk, IsTrue};
 
-use crate::darts::dart_from;
-use multigraph::Graph;
+use multigraph::{Graph, dart_from};
 use rotations::Rotation;
 use std::alloc::{AllocError, Global};
 
-// The dart by which a face goes on that arrives at `vertex` by `edge`.
+// The dart by which a face that arrives at `vertex` by `edge` continues.
 fn dart_onward(graph: &Graph, rotation: &Rotation, vertex: u32, edge: u32) -> u32
     requires graph { IsGraph graph.now }
     requires system { IsRotationSystem graph.now rotation.now }

@@ -44,7 +44,7 @@ fn walk_orbit(
     Ok(Face::of(pairs))
 }
 
-// The orbits, each from its least dart on, where nothing is marked yet: in the order of the darts, each that is met unmarked
+// The orbits, each from its least dart on, where nothing is marked yet: in the order of the darts, each that is found unmarked
 // is the least of its orbit.
 fn list_orbits(
     alloc: Global,
@@ -72,6 +72,7 @@ fn list_orbits(
 
 /// The faces of the rotation system `r` of the graph `g`. Each is the list of the pairs of a vertex and an edge along it, from
 /// its least pair on, and the faces are in order of these. An isolated vertex gives no list. In linear time.
+/// Fails only if memory runs out.
 pub fn trace(alloc: Global, g: &Graph, r: &Rotation) -> Result<Faces, AllocError>
     requires { IsRotationSystem g.now r.now }
     ensures { IfOk result (λ faces. faces ≡ face_lists g.now r.now) }

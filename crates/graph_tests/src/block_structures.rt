@@ -4,7 +4,7 @@ use blocks::*;
 use multigraph::Graph;
 use std::test::Fail;
 
-// A graph by the ends of its edges, and what is to be found: the blocks with a bar behind each, the cut vertices, and how many
+// A graph by the ends of its edges, and what is to be found: the blocks with a bar after each, the cut vertices, and how many
 // components there are.
 struct Row {
     vertices: u32,
@@ -63,7 +63,7 @@ static ROWS: [Row; 8] = [
         cut: &[1, 2],
         components: 1,
     },
-    // a cactus of three triangles round one vertex, its edges mixed
+    // a cactus of three triangles around one vertex, its edges mixed
     Row {
         vertices: 7,
         ends: &[
@@ -100,7 +100,7 @@ static ROWS: [Row; 8] = [
     },
 ];
 
-// The blocks of the multigraph of these ends, one after the other with a bar behind each, and then its cut vertices and how
+// The blocks of the multigraph of these ends, one after the other with a bar after each, and then its cut vertices and how
 // many components it has.
 fn described(
     rt: &HostRuntime,

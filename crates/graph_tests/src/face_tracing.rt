@@ -6,7 +6,7 @@ use rotations::{Lists, Rotation};
 use std::alloc::Global;
 use std::test::Fail;
 
-// A graph by the ends of its edges, its rotation system by the edges round each vertex, and what is counted there.
+// A graph by the ends of its edges, its rotation system by the edges around each vertex, and what is counted there.
 struct Row {
     vertices: u32,
     ends: &'static [(u32, u32)],

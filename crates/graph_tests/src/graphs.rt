@@ -1,4 +1,4 @@
-// The complete graph on four vertices read back, and the first fault of lists that are no graph.
+// The complete graph on four vertices read back, and the first fault of lists that are not a graph.
 
 use multigraph::*;
 use std::alloc::{AllocError, Global};
@@ -6,7 +6,7 @@ use std::test::Fail;
 
 const K4: [(u32, u32); 6] = [(0, 1), (0, 2), (0, 3), (1, 2), (1, 3), (2, 3)];
 
-// What building says, as a text.
+// What building returns, as a text.
 fn answer(alloc: Global, n: u32, ends: &[(u32, u32)]) -> Result<String, AllocError> {
     match Graph::build(alloc, n, ends) {
         Ok(g) => {
@@ -52,11 +52,15 @@ static BUILT: [(u32, &[(u32, u32)], &str); 7] = [
     (
         2,
         &[(0, 1), (0, 2), (0, 0)],
-        "edge 1 has an end that is no vertex",
+        "edge 1 has an end that is not a vertex",
     ),
-    (2, &[(0, 1), (2, 0)], "edge 1 has an end that is no vertex"),
+    (
+        2,
+        &[(0, 1), (2, 0)],
+        "edge 1 has an end that is not a vertex",
+    ),
     (2, &[(0, 1), (1, 1), (0, 2)], "edge 1 is a loop"),
-    (1, &[(1, 1)], "edge 0 has an end that is no vertex"),
+    (1, &[(1, 1)], "edge 0 has an end that is not a vertex"),
 ];
 
 #[test]
@@ -81,7 +85,10 @@ fn shows_each_fault(rt: HostRuntime) -> Result<(), Fail> {
             "20001 vertices are too many",
         ),
         (BuildFault::TooManyEdges(50_001), "50001 edges are too many"),
-        (BuildFault::EndOut(7), "edge 7 has an end that is no vertex"),
+        (
+            BuildFault::EndOut(7),
+            "edge 7 has an end that is not a vertex",
+        ),
         (BuildFault::Loop(0), "edge 0 is a loop"),
         (BuildFault::Memory, "out of memory"),
     ];

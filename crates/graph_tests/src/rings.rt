@@ -1,4 +1,4 @@
-// The calls on four nodes one after the other, what is behind and before each node after each of them, and a copy.
+// The calls on four nodes one after the other, the nodes after and before each node after each call, and a copy.
 
 use ring_arena::Rings;
 use std::test::Fail;
@@ -39,7 +39,7 @@ fn make(r: &mut Rings, call: Call) {
     }
 }
 
-// What is behind each of the first four nodes, and what is before each.
+// The node after each of the first four nodes, and the node before each.
 fn links(r: &Rings) -> ([u32; 4], [u32; 4]) {
     let mut next = [9; 4];
     let mut prev = [9; 4];
@@ -52,7 +52,7 @@ fn links(r: &Rings) -> ([u32; 4], [u32; 4]) {
     (next, prev)
 }
 
-// Calls one after the other, each with the nodes behind and before each node then.
+// Calls one after the other, each with the nodes after and before each node then.
 static CALLS: [(Call, [u32; 4], [u32; 4]); 6] = [
     (Call::Exchange(0, 1), [1, 0, 2, 3], [1, 0, 2, 3]),
     (Call::Exchange(1, 2), [1, 2, 0, 3], [2, 0, 1, 3]),

@@ -1,4 +1,4 @@
-// A rotation system of the complete graph on four vertices read round each vertex, the lists that make none, runs that are moved
+// A rotation system of the complete graph on four vertices read around each vertex, the lists that make none, runs that are moved
 // and turned, and lists for a part.
 
 ghost use Rattle.std.specs.Prelude.{◌≡◌, ◌<◌, length, IfOk};
@@ -25,7 +25,7 @@ fn lists_of(alloc: Global, rows: &[Row<'_>]) -> Result<Lists, AllocError> {
     Ok(lists)
 }
 
-// The edges round v in order.
+// The edges around v in order.
 fn order_of(alloc: Global, r: &Rotation, v: u32) -> Result<Vec<u32>, AllocError>
     requires { v < length r.now }
     ensures { IfOk result (λ order. order.items ≡ order_at r.now v) }
@@ -33,7 +33,7 @@ fn order_of(alloc: Global, r: &Rotation, v: u32) -> Result<Vec<u32>, AllocError>
     r.list(v).collect(alloc)
 }
 
-// The edge at a place of the order round v, between the one before it and the one behind it.
+// The edge at a place of the order around v, between the one before it and the one after it.
 fn between(r: &Rotation, v: u32, order: &[u32], i: usize) -> (u32, u32, u32)
     requires vertex { v < length r.now }
     requires order { order.now ≡ order_at r.now v }
@@ -43,7 +43,7 @@ fn between(r: &Rotation, v: u32, order: &[u32], i: usize) -> (u32, u32, u32)
     (r.pred(v, e), e, r.succ(v, e))
 }
 
-// For each edge round v, in order, the one before it, itself and the one behind it.
+// For each edge around v, in order, the one before it, itself and the one after it.
 fn round(alloc: Global, r: &Rotation, v: u32) -> Result<Vec<(u32, u32, u32)>, AllocError>
     requires { v < length r.now }
 {
@@ -77,7 +77,7 @@ fn keeps_the_lists(rt: HostRuntime) -> Result<(), Fail> {
     Ok(())
 }
 
-// For each vertex what stands round it.
+// For each vertex the edges around it.
 static ROUNDS: [(u32, &[(u32, u32, u32)]); 5] = [
     (0, &[(2, 0, 1), (0, 1, 2), (1, 2, 0)]),
     (1, &[(3, 0, 4), (0, 4, 3), (4, 3, 0)]),
@@ -126,20 +126,23 @@ fn reads_round_each_vertex(rt: HostRuntime) -> Result<(), Fail> {
 static BAD_LISTS: [(&[Row], &str); 5] = [
     (
         &[(0, &[0])],
-        "the list of vertex 0 is no arrangement of its edges",
+        "the list of vertex 0 is not a permutation of its edges",
     ),
-    (&[], "the list of vertex 0 is no arrangement of its edges"),
+    (
+        &[],
+        "the list of vertex 0 is not a permutation of its edges",
+    ),
     (
         &[(0, &[2, 1, 0]), (1, &[0, 4, 4]), (9, &[])],
-        "the list of vertex 1 is no arrangement of its edges",
+        "the list of vertex 1 is not a permutation of its edges",
     ),
     (
         &[(0, &[2, 1, 0]), (1, &[0, 4, 5])],
-        "the list of vertex 1 is no arrangement of its edges",
+        "the list of vertex 1 is not a permutation of its edges",
     ),
     (
         &[(0, &[2, 1, 6])],
-        "the list of vertex 0 is no arrangement of its edges",
+        "the list of vertex 0 is not a permutation of its edges",
     ),
 ];
 
@@ -147,13 +150,13 @@ static BAD_LISTS: [(&[Row], &str); 5] = [
 static LISTS_OF_AN_EDGE: [(&[Row], &str); 3] = [
     (
         &[(0, &[0]), (1, &[0]), (3, &[])],
-        "the list of vertex 3 is no arrangement of its edges",
+        "the list of vertex 3 is not a permutation of its edges",
     ),
     (&[(0, &[0]), (1, &[0]), (2, &[])], "3 vertices"),
     (&[(0, &[0]), (1, &[0])], "3 vertices"),
 ];
 
-// Whether making rotation systems of the graph says what stands with each row.
+// Whether making rotation systems of the graph gives the result in each row.
 fn are_answered(alloc: Global, g: &Graph, rows: &[(&[Row], &str)]) -> Result<bool, AllocError> {
     for (lists, expected) in rows {
         if answer(alloc, g, lists)?.as_str() != *expected {
@@ -181,7 +184,7 @@ enum Change {
     Mirror,
 }
 
-// Makes the change where the places are places, and the run that is moved ends before the edge that it is put behind.
+// Makes the change where the places are places, and the run that is moved ends before the edge that it is inserted after.
 fn make(alloc: Global, r: &mut Rotation, v: u32, change: Change) -> Result<(), AllocError>
     requires { v < length r.old }
 {
@@ -202,10 +205,10 @@ fn make(alloc: Global, r: &mut Rotation, v: u32, change: Change) -> Result<(), A
     Ok(())
 }
 
-// Nodes behind others, once the changes are made.
+// Nodes after others, once the changes are made.
 static STEPS: [(u32, u32); 7] = [(0, 8), (8, 4), (4, 2), (2, 6), (6, 0), (1, 10), (10, 1)];
 
-// Changes at a vertex, each with the edges that stand round it then.
+// Changes at a vertex, each with the edges around it then.
 static CHANGES: [(u32, Change, &[u32]); 13] = [
     (0, Change::Move(1, 2, 4), &[0, 3, 4, 1, 2]),
     (0, Change::Move(0, 0, 2), &[0, 1, 2, 3, 4]),
@@ -260,7 +263,7 @@ fn moves_and_turns_runs(rt: HostRuntime) -> Result<(), Fail> {
     Ok(())
 }
 
-// What making a rotation system of a part says, as a text: the list of its first vertex, or why it is none.
+// What making a rotation system of a part says, as a text: the list of its first vertex, or why it does not exist.
 fn part_answer(alloc: Global, p: &Part, rows: &[Row<'_>]) -> Result<String, AllocError> {
     match Rotation::from_part(alloc, p, &lists_of(alloc, rows)?) {
         Ok(r) => {
@@ -285,15 +288,15 @@ static PART_LISTS: [(&[Row], &str); 5] = [
     ),
     (
         &[(0, &[1, 0]), (1, &[3, 2]), (2, &[4, 0, 2]), (3, &[1, 4, 3])],
-        "the list of vertex 0 is no arrangement of its edges",
+        "the list of vertex 0 is not a permutation of its edges",
     ),
     (
         &[(0, &[2, 1]), (1, &[4, 3, 0])],
-        "the list of vertex 1 is no arrangement of its edges",
+        "the list of vertex 1 is not a permutation of its edges",
     ),
     (
         &[(0, &[2, 1]), (1, &[4, 3]), (2, &[5, 1, 3]), (9, &[])],
-        "the list of vertex 3 is no arrangement of its edges",
+        "the list of vertex 3 is not a permutation of its edges",
     ),
     (
         &[
@@ -303,7 +306,7 @@ static PART_LISTS: [(&[Row], &str); 5] = [
             (3, &[2, 5, 4]),
             (7, &[]),
         ],
-        "the list of vertex 7 is no arrangement of its edges",
+        "the list of vertex 7 is not a permutation of its edges",
     ),
 ];
 
@@ -322,7 +325,7 @@ fn takes_lists_for_a_part(rt: HostRuntime) -> Result<(), Fail> {
     let text = part_answer(alloc, &triangle, &[(0, &[])])?;
     assert_eq!(rt;
         text.as_str(),
-        "the list of vertex 0 is no arrangement of its edges"
+        "the list of vertex 0 is not a permutation of its edges"
     );
     let text = part_answer(
         alloc,

@@ -28,10 +28,12 @@ numbers_below-more n = rw add-one
 pub filter_below-suc : (p : ℕ → Bool) (n : ℕ) → filter p (numbers_below (suc n)) ≡ filter p (numbers_below n) ++ cond (p n) (n ∷ []) []
 filter_below-suc p n = filter-append p (numbers_below n) (n ∷ [])
 
-filter_suc-yes : (p : ℕ → Bool) (n : ℕ) → p n ≡ true → filter p (numbers_below (suc n)) ≡ filter p (numbers_below n) ++ n ∷ []
+-- the next number passes
+pub filter_suc-yes : (p : ℕ → Bool) (n : ℕ) → p n ≡ true → filter p (numbers_below (suc n)) ≡ filter p (numbers_below n) ++ n ∷ []
 filter_suc-yes p n h = filter_below-suc p n ∙ ap (λ (b : Bool). filter p (numbers_below n) ++ cond b (n ∷ []) []) h
 
-filter_suc-no : (p : ℕ → Bool) (n : ℕ) → p n ≡ false → filter p (numbers_below (suc n)) ≡ filter p (numbers_below n)
+-- the next number does not pass
+pub filter_suc-no : (p : ℕ → Bool) (n : ℕ) → p n ≡ false → filter p (numbers_below (suc n)) ≡ filter p (numbers_below n)
 filter_suc-no p n h = filter_below-suc p n ∙ (ap (λ (b : Bool). filter p (numbers_below n) ++ cond b (n ∷ []) []) h ∙ append-nil (filter p (numbers_below n)))
 
 -- the next number passes

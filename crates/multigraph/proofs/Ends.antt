@@ -1,5 +1,5 @@
 -- The ends of some edges, and their places.
-use Rattle.std.proofs.Common.{◌≡◌, ℕ, ◌+◌, ◌<◌, ◌≤◌, eqb, true, List, [], ◌∷◌, ◌++◌, length, get_or, take, sym, ap, ◌∙◌, subst, inl, inr, arith}
+use Rattle.std.proofs.Common.{◌≡◌, ℕ, ◌+◌, ◌<◌, ◌≤◌, eqb, true, List, [], ◌∷◌, ◌++◌, length, get_or, take, refl, sym, ap, ◌∙◌, subst, inl, inr, arith}
 use Rattle.std.specs.List.{Contains, dedup}
 use Rattle.std.specs.List.Sorted.{IsPermutation, IsSorted}
 use Rattle.std.specs.Ordering.{nat_cmp}
@@ -13,7 +13,7 @@ use Rattle.std.proofs.lemmas.List.Kept.{Contains-dedup_nat, Contains-from_dedup,
 use Rattle.std.proofs.lemmas.Map.Keys.{IsStrictlyIncreasing-dedup}
 use Rattle.multigraph.specs.Graph.{Multigraph, edge_count, ends_of, is_end, max_vertices, IsGraph, IsWithinLimits}
 use Rattle.multigraph.specs.Build.{multigraph_of}
-use Rattle.multigraph.specs.Part.{Rises, IsEndOf, AreEnds, AreInnerEnds}
+use Rattle.multigraph.specs.Part.{Rises, GraphPart, IsEndOf, HoldEnds, AreEnds, AreInnerEnds, IsNumbered, IsPart, IsPartOn}
 use Rattle.multigraph.proofs.OtherEnd.{is_end-first, is_end-second, is_end-cases}
 use Rattle.multigraph.proofs.Places.{rises-short}
 
@@ -63,14 +63,14 @@ pub once-rises : (sorted once : List ℕ) → IsSorted nat_cmp sorted → IsFilt
 once-rises sorted once s f = subst (λ (l : List ℕ). Rises l) (sym (dedup_is eqb sorted once f)) (λ i j less within. AllPairs-from_increasing (dedup eqb sorted) (IsStrictlyIncreasing-dedup sorted s) i j 0 less within)
 
 -- the first end of one of the edges is among the vertices
-pub ends-first : (g : Multigraph) (edges vertices : List ℕ) (k : ℕ) → AreEnds g edges vertices → k < length edges → get_or edges k 0 < edge_count g → Contains vertices (ends_of g (get_or edges k 0)).0
+pub ends-first : (g : Multigraph) (edges vertices : List ℕ) (k : ℕ) → HoldEnds g edges vertices → k < length edges → get_or edges k 0 < edge_count g → Contains vertices (ends_of g (get_or edges k 0)).0
 ends-first g edges vertices k h l m =
-    (h (ends_of g (get_or edges k 0)).0).1 (record { edge = get_or edges k 0; among = Contains-get_or edges k 0 l; is_edge = m; ends_there = is_end-first g (get_or edges k 0) })
+    h (ends_of g (get_or edges k 0)).0 (record { edge = get_or edges k 0; among = Contains-get_or edges k 0 l; is_edge = m; ends_there = is_end-first g (get_or edges k 0) })
 
 -- so is its second end
-pub ends-second : (g : Multigraph) (edges vertices : List ℕ) (k : ℕ) → AreEnds g edges vertices → k < length edges → get_or edges k 0 < edge_count g → Contains vertices (ends_of g (get_or edges k 0)).1
+pub ends-second : (g : Multigraph) (edges vertices : List ℕ) (k : ℕ) → HoldEnds g edges vertices → k < length edges → get_or edges k 0 < edge_count g → Contains vertices (ends_of g (get_or edges k 0)).1
 ends-second g edges vertices k h l m =
-    (h (ends_of g (get_or edges k 0)).1).1 (record { edge = get_or edges k 0; among = Contains-get_or edges k 0 l; is_edge = m; ends_there = is_end-second g (get_or edges k 0) })
+    h (ends_of g (get_or edges k 0)).1 (record { edge = get_or edges k 0; among = Contains-get_or edges k 0 l; is_edge = m; ends_there = is_end-second g (get_or edges k 0) })
 
 -- the places of the ends of one edge more
 pub inner-more : (g : Multigraph) (edges vertices : List ℕ) (ends : List (ℕ × ℕ)) (e p q : ℕ) → AreInnerEnds g edges vertices ends → p < length vertices → get_or vertices p 0 ≡ (ends_of g e).0 → q < length vertices → get_or vertices q 0 ≡ (ends_of g e).1 → AreInnerEnds g (edges ++ e ∷ []) vertices (ends ++ (p, q) ∷ [])
@@ -131,8 +131,8 @@ pub ends-few : (g : Multigraph) (edges vertices : List ℕ) → IsGraph g → Is
 ends-few g edges vertices ok limits rising are = omega (arith, limits.few_vertices, rises-short vertices g.vertex_count rising (ends-in g edges vertices ok are))
 
 -- the part is a graph
-pub inner-graph : (g : Multigraph) (edges vertices : List ℕ) (ends : List (ℕ × ℕ)) → IsGraph g → Rises edges → ((i : ℕ) → i < length edges → get_or edges i 0 < edge_count g) → Rises vertices → AreEnds g edges vertices → AreInnerEnds g edges vertices ends → IsGraph (multigraph_of (length vertices) ends)
-inner-graph g edges vertices ends ok rising within vertices_rise are inner = record {
+pub inner-graph : (g : Multigraph) (edges vertices : List ℕ) (ends : List (ℕ × ℕ)) → IsGraph g → ((i : ℕ) → i < length edges → get_or edges i 0 < edge_count g) → AreInnerEnds g edges vertices ends → IsGraph (multigraph_of (length vertices) ends)
+inner-graph g edges vertices ends ok within inner = record {
   first_in = λ e l. inner.first_in e (omega (arith, inner.each));
   second_in = λ e l. inner.second_in e (omega (arith, inner.each));
   no_loop = λ e l same.
@@ -141,19 +141,26 @@ inner-graph g edges vertices ends ok rising within vertices_rise are inner = rec
 }
 
 -- the same, by the names that the ends and their number have
-pub inner-graph-by : (g : Multigraph) (edges vertices lent : List ℕ) (ends : List (ℕ × ℕ)) (n : ℕ) → IsGraph g → Rises edges → ((i : ℕ) → i < length edges → get_or edges i 0 < edge_count g) → Rises vertices → AreEnds g edges vertices → lent ≡ vertices → AreInnerEnds g edges lent ends → n ≡ length vertices → IsGraph (multigraph_of n ends)
-inner-graph-by g edges vertices lent ends n ok rising within vertices_rise are same inner many =
+pub inner-graph-by : (g : Multigraph) (edges vertices lent : List ℕ) (ends : List (ℕ × ℕ)) (n : ℕ) → IsGraph g → ((i : ℕ) → i < length edges → get_or edges i 0 < edge_count g) → lent ≡ vertices → AreInnerEnds g edges lent ends → n ≡ length vertices → IsGraph (multigraph_of n ends)
+inner-graph-by g edges vertices lent ends n ok within same inner many =
     subst (λ (k : ℕ). IsGraph (multigraph_of k ends)) (sym many)
-    (inner-graph g edges vertices ends ok rising within vertices_rise are (subst (λ (l : List ℕ). AreInnerEnds g edges l ends) same inner))
+    (inner-graph g edges vertices ends ok within (subst (λ (l : List ℕ). AreInnerEnds g edges l ends) same inner))
 
--- the part is within the limits, where the whole is
-pub inner-limits : (g : Multigraph) (edges vertices : List ℕ) (ends : List (ℕ × ℕ)) → IsGraph g → IsWithinLimits g → Rises edges → ((i : ℕ) → i < length edges → get_or edges i 0 < edge_count g) → Rises vertices → AreEnds g edges vertices → length ends ≡ length edges → IsWithinLimits (multigraph_of (length vertices) ends)
-inner-limits g edges vertices ends ok limits rising within vertices_rise are each = record {
-  few_vertices = ends-few g edges vertices ok limits vertices_rise are;
-  few_edges = omega (arith, limits.few_edges, each, rises-short edges (edge_count g) rising within);
+-- the part is within the limits, where the whole is and the vertices are few
+pub inner-limits-by : (g : Multigraph) (edges lent : List ℕ) (ends : List (ℕ × ℕ)) (n : ℕ) → IsWithinLimits g → Rises edges → ((i : ℕ) → i < length edges → get_or edges i 0 < edge_count g) → AreInnerEnds g edges lent ends → n ≤ max_vertices → IsWithinLimits (multigraph_of n ends)
+inner-limits-by g edges lent ends n limits rising within inner few = record {
+  few_vertices = few;
+  few_edges = omega (arith, limits.few_edges, inner.each, rises-short edges (edge_count g) rising within);
 }
 
--- the same, by the names that the ends and their number have
-pub inner-limits-by : (g : Multigraph) (edges vertices lent : List ℕ) (ends : List (ℕ × ℕ)) (n : ℕ) → IsGraph g → IsWithinLimits g → Rises edges → ((i : ℕ) → i < length edges → get_or edges i 0 < edge_count g) → Rises vertices → AreEnds g edges vertices → AreInnerEnds g edges lent ends → n ≡ length vertices → IsWithinLimits (multigraph_of n ends)
-inner-limits-by g edges vertices lent ends n ok limits rising within vertices_rise are inner many =
-    subst (λ (k : ℕ). IsWithinLimits (multigraph_of k ends)) (sym many) (inner-limits g edges vertices ends ok limits rising within vertices_rise are inner.each)
+-- the part that edges make is the part on their ends
+pub part-on : (g : Multigraph) (edges : List ℕ) (part : GraphPart) → IsPart g edges part → IsPartOn g part.vertices edges part × AreEnds g edges part.vertices
+part-on g edges part h = (record { vertices_are = refl; edges_are = h.edges_are; numbered = h.numbered; ends = h.ends }, h.vertices)
+
+pub part-from : (g : Multigraph) (vertices edges : List ℕ) (part : GraphPart) → AreEnds g edges vertices → IsPartOn g vertices edges part → IsPart g edges part
+part-from g vertices edges part are h = record {
+  edges_are = h.edges_are;
+  numbered = h.numbered;
+  vertices = subst (AreEnds g edges) (sym h.vertices_are) are;
+  ends = subst (λ (l : List ℕ). AreInnerEnds g edges l part.graph.ends) (sym h.vertices_are) h.ends;
+}

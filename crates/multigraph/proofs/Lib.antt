@@ -5,6 +5,8 @@ pub mod OtherEnd
 pub mod Places
 mod PlacesOf
 mod Collecting
+mod Rows
+pub mod DartEnds
 pub mod Ends
 mod FirstFault
 mod Instances

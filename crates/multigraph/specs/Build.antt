@@ -1,4 +1,4 @@
--- For which fault no graph is built: the first in the order too many vertices, too many edges, then the least faulty edge.
+-- The fault for which no graph is built: the first in the order too many vertices, too many edges, then the least faulty edge.
 use Rattle.std.specs.Prelude.{◌≡◌, ℕ, ◌<◌, ◌≤◌, ◌≢◌, ◌⊎◌, List}
 use Rattle.multigraph.specs.Graph.{Multigraph, edge_count, ends_of, max_vertices, max_edges, IsWithinLimits}
 use Rattle.multigraph.specs.declared.faults.BuildFault.{BuildFault}
@@ -20,7 +20,7 @@ pub record IsReached (g : Multigraph) (e : ℕ) : Type 0 where
   pub is_edge : e < edge_count g
   pub sound_before : (k : ℕ) → k < e → IsSound g k
 
--- an end of edge e is no vertex
+-- an end of edge e is not a vertex
 abbrev pub HasEndOut : Multigraph → ℕ → Type 0
 HasEndOut g e = (g.vertex_count ≤ (ends_of g e).0) ⊎ (g.vertex_count ≤ (ends_of g e).1)
 
@@ -28,7 +28,7 @@ HasEndOut g e = (g.vertex_count ≤ (ends_of g e).0) ⊎ (g.vertex_count ≤ (en
 abbrev pub IsLoop : Multigraph → ℕ → Type 0
 IsLoop g e = ((ends_of g e).0 < g.vertex_count) × ((ends_of g e).0 ≡ (ends_of g e).1)
 
--- the fault is the first one of the multigraph; want of memory is none of its faults, and may come at any
+-- the fault is the first one of the multigraph; running out of memory is not a fault of it, and may happen with any multigraph
 abbrev pub IsFirstFault : Multigraph → BuildFault → Type 0
 IsFirstFault g (TooManyVertices n) = (n ≡ g.vertex_count) × (max_vertices < n)
 IsFirstFault g (TooManyEdges m) = (m ≡ edge_count g) × (max_edges < m) × (g.vertex_count ≤ max_vertices)

@@ -22,12 +22,12 @@ is_end g v e = ((ends_of g e).0 == v) || ((ends_of g e).1 == v)
 abbrev pub is_edge_at : Multigraph → ℕ → ℕ → Bool
 is_edge_at g v e = nat_lt e (edge_count g) && is_end g v e
 
--- the numbers below n, rising
+-- the numbers below n, increasing
 abbrev pub numbers_below : ℕ → List ℕ
 numbers_below zero = []
 numbers_below (suc n) = numbers_below n ++ n ∷ []
 
--- the edges at vertex v, rising
+-- the edges at vertex v, increasing
 abbrev pub incident_edges : Multigraph → ℕ → List ℕ
 incident_edges g v = filter (is_end g v) (numbers_below (edge_count g))
 

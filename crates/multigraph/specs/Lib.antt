@@ -3,5 +3,6 @@ pub mod Graph
 pub mod Build
 pub mod Incidence
 pub mod Part
+pub mod Darts
 pub mod Marks
 pub mod Buckets

@@ -1,22 +1,24 @@
-// Why a list of ends is no graph, and the search for the first fault.
+// Why a list of ends is not a graph, and the search for the first fault.
 
-ghost use Rattle.std.specs.Prelude.{◌≤◌, length, MatchResult};
+ghost use Rattle.std.specs.Prelude.{◌≡◌, ◌≤◌, length, MatchResult};
 ghost use Rattle.multigraph.specs.Graph.{max_vertices, max_edges, IsGraph, IsWithinLimits};
 ghost use Rattle.multigraph.specs.Build.{multigraph_of, IsFirstFault};
+ghost use Rattle.multigraph.specs.declared.faults.BuildFault.TheVariants.{Memory};
 
+use std::alloc::AllocError;
 use thiserror::Error;
 
 /// Why `Graph::build` builds no graph.
 #[derive(Debug, Drop, Error)]
 pub enum BuildFault {
-    /// So many vertices, more than 20,000.
+    /// The number of vertices, which is more than 20,000.
     #[error("{0} vertices are too many")]
     TooManyVertices(u32),
-    /// So many edges, more than 50,000.
+    /// The number of edges, which is more than 50,000.
     #[error("{0} edges are too many")]
     TooManyEdges(usize),
-    /// The edge of this number has an end that is no vertex.
-    #[error("edge {0} has an end that is no vertex")]
+    /// The edge of this number has an end that is not a vertex.
+    #[error("edge {0} has an end that is not a vertex")]
     EndOut(u32),
     /// The two ends of the edge of this number are the same vertex.
     #[error("edge {0} is a loop")]
@@ -26,7 +28,15 @@ pub enum BuildFault {
     Memory,
 }
 
-// Looks through the edges for the least one that is faulty.
+impl From<AllocError> for BuildFault {
+    ghost from_gives = { λ _ fault. fault ≡ Memory };
+
+    fn from(_error: AllocError) -> BuildFault {
+        BuildFault::Memory
+    }
+}
+
+// Searches the edges for the least one that is faulty.
 pub(crate) fn check_ends(n: u32, ends: &[(u32, u32)]) -> Result<(), BuildFault>
     requires few_vertices { n ≤ max_vertices }
     requires few_edges { length ends.now ≤ max_edges }

@@ -1,15 +1,16 @@
 // Multigraphs without loops.
 //
 // A multigraph has vertices 0..n-1 and edges 0..m-1. Each edge has a first and a second end, two different vertices, and
-// several edges may have the same ends. A `Graph` is such a multigraph with the list of the edges at each vertex, rising, so
-// that the edges at a vertex are read without a look at the others. Contracts see a graph as its number of vertices and the
+// several edges may have the same ends. A `Graph` is such a multigraph with the list of the edges at each vertex, increasing, so
+// that the edges at a vertex are read without reading the others. Contracts view a graph as its number of vertices and the
 // ends of its edges; that the ends are vertices, that no edge is a loop and that the graph is within the limits holds of every
 // `Graph`.
 //
-// `Sequence` is a list that contracts see as a list: `Numbers` and `NumberLists` are two of this kind.
+// `Sequence` is a vector that contracts view as a list: `Numbers` and `NumberLists` are two of this kind.
 #![tactic(auto)]
 
 mod buckets;
+mod darts;
 mod faults;
 mod incidence;
 pub mod laws;
@@ -18,6 +19,7 @@ mod parts;
 mod structure;
 
 pub use buckets::places_of;
+pub use darts::{dart_count, dart_from, head, tail, twin};
 pub use faults::BuildFault;
 pub use lists::{NumberLists, Numbers, Sequence};
 pub use parts::Part;

@@ -1,11 +1,11 @@
-// Lists that contracts see as lists, of numbers and of any values.
+// Vectors that contracts view as lists, of numbers and of any values.
 
 ghost use Rattle.std.specs.Prelude.{◌≡◌, ◌∷◌, ◌++◌, [], is_ok, if◌then◌else◌, reverse, IfOk};
 
 use std::alloc::{AllocError, Global};
 use std::marker::Model;
 
-/// A list of values. Contracts see the list of what they see of the values.
+/// A list of values. Contracts view it as the list of their views of the values.
 #[derive(Debug, Drop)]
 pub struct Sequence<T> {
     held: Vec<T>,
@@ -34,7 +34,7 @@ impl<T> Sequence<T> {
         self.held.as_slice()
     }
 
-    /// Its values, given away. Takes no memory.
+    /// Its values, moved out. Takes no memory.
     pub fn into_vec(self) -> Vec<T>
         ensures { result.items ≡ self }
     {
@@ -43,7 +43,7 @@ impl<T> Sequence<T> {
 }
 
 impl<T: Copy> Sequence<T> {
-    /// A copy. Fails for want of memory alone.
+    /// A copy. Fails only if memory runs out.
     pub fn copy(&self, alloc: Global) -> Result<Sequence<T>, AllocError>
         ensures { IfOk result (λ list. list ≡ self.now) }
     {
@@ -52,7 +52,7 @@ impl<T: Copy> Sequence<T> {
         })
     }
 
-    /// The values in the reverse order. Fails for want of memory alone.
+    /// The values in reverse order. Fails only if memory runs out.
     pub fn reversed(&self, alloc: Global) -> Result<Sequence<T>, AllocError>
         ensures { IfOk result (λ list. list ≡ reverse self.now) }
     {
@@ -78,7 +78,7 @@ impl Sequence<u32> {
         }
     }
 
-    /// Puts a number behind the last. Without memory the list stays as it was.
+    /// Appends a number. Fails only if memory runs out; the list is unchanged then.
     pub fn push(&mut self, x: u32) -> Result<(), AllocError>
         ensures { self.new ≡ (if is_ok result then self.old ++ x ∷ [] else self.old) }
     {

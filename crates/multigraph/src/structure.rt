@@ -5,8 +5,7 @@ ghost use Rattle.multigraph.specs.Graph.{Multigraph, edge_count, ends_of, is_end
 ghost use Rattle.multigraph.specs.Build.{multigraph_of, IsFirstFault};
 
 use crate::faults::{BuildFault, check_ends};
-use crate::incidence::incident_lists;
-use crate::lists::Numbers;
+use crate::incidence::incident_rows;
 use std::alloc::{AllocError, Global};
 use std::marker::Model;
 
@@ -21,13 +20,13 @@ pub const MAX_EDGES: usize = 50_000;
 pub struct Graph {
     vertices: u32,
     ends: Vec<(u32, u32)>,
-    incident: Vec<Numbers>,
+    rows: Vec<u32>,
 }
 
 impl Model for Graph {
     ghost use Rattle.multigraph.specs.Graph.{Multigraph, IsGraph, IsWithinLimits};
     ghost use Rattle.multigraph.specs.Build.{multigraph_of};
-    ghost use Rattle.multigraph.specs.Incidence.{ListsEdges};
+    ghost use Rattle.multigraph.specs.Incidence.{KeepsRows};
 
     ghost Value = { Multigraph };
 
@@ -35,14 +34,15 @@ impl Model for Graph {
 
     ghost invariant = { λ g. IsGraph (multigraph_of g.vertices g.ends.items)
         × IsWithinLimits (multigraph_of g.vertices g.ends.items)
-        × ListsEdges (multigraph_of g.vertices g.ends.items) g.incident.items };
+        × KeepsRows (multigraph_of g.vertices g.ends.items) g.rows.items };
 }
 
 impl Graph {
     /// The multigraph of `n` vertices whose edge e has the ends `ends[e]`.
     ///
-    /// Refuses with the first fault in this order: more than 20,000 vertices, more than 50,000 edges, then the least edge
-    /// that has an end that is no vertex or whose ends are the same, the first of these two where both hold.
+    /// Fails with the first fault in this order: more than 20,000 vertices, more than 50,000 edges, then the least edge that
+    /// has an end that is not a vertex or whose ends are the same, the first of these two where both hold. Else fails only if
+    /// memory runs out.
     pub fn build(alloc: Global, n: u32, ends: &[(u32, u32)]) -> Result<Graph, BuildFault>
         ensures built { IfOk result (λ g. g ≡ multigraph_of n ends.now) }
         ensures graph { IfOk result IsGraph }
@@ -56,37 +56,43 @@ impl Graph {
             return Err(BuildFault::TooManyEdges(ends.len()));
         }
         check_ends(n, ends)?;
-        let Ok(kept) = Vec::from_slice(alloc, ends) else {
-            return Err(BuildFault::Memory);
-        };
-        match Graph::of_ends(alloc, n, kept) {
-            Ok(g) => Ok(g),
-            Err(_) => Err(BuildFault::Memory),
-        }
+        let kept = Vec::from_slice(alloc, ends)?;
+        Ok(Graph::of_ends(alloc, n, kept)?)
     }
 
     /// The multigraph of `n` vertices whose edge e has the ends `ends[e]`, where the ends are known to be sound and few.
     ///
-    /// Keeps the vector of the ends: nothing is looked through again, and nothing is copied.
+    /// Keeps the vector of the ends: nothing is checked again, and nothing is copied. Fails only if memory runs out.
     pub fn of_ends(alloc: Global, n: u32, ends: Vec<(u32, u32)>) -> Result<Graph, AllocError>
         requires graph { IsGraph (multigraph_of n ends.items) }
         requires limits { IsWithinLimits (multigraph_of n ends.items) }
         ensures { IfOk result (λ g. g ≡ multigraph_of n ends.items) }
     {
-        let incident = incident_lists(alloc, n, &ends)?;
+        let rows = incident_rows(alloc, n, &ends)?;
         Ok(Graph {
             vertices: n,
             ends,
-            incident,
+            rows,
         })
     }
 
-    /// The same graph once more.
+    /// A copy. Fails only if memory runs out.
     pub fn copy(&self, alloc: Global) -> Result<Graph, AllocError>
         ensures { IfOk result (λ g. g ≡ self.now) }
     {
-        let ends = Vec::from_slice(alloc, &self.ends)?;
-        Graph::of_ends(alloc, self.vertices, ends)
+        Ok(Graph {
+            vertices: self.vertices,
+            ends: Vec::from_slice(alloc, &self.ends)?,
+            rows: Vec::from_slice(alloc, &self.rows)?,
+        })
+    }
+
+    /// It is a graph within the limits. For proofs alone: does nothing.
+    pub fn keeps_limits(&self)
+        ensures graph { IsGraph self.now }
+        ensures limits { IsWithinLimits self.now }
+    {
+        let _ = self.vertex_count();
     }
 
     /// The number of vertices.
@@ -125,17 +131,19 @@ impl Graph {
         self.incident(v).len() as u32
     }
 
-    /// The edges at vertex `v`, rising.
+    /// The edges at vertex `v`, increasing.
     pub fn incident(&self, v: u32) -> &[u32]
         requires { v < self.now.vertex_count }
         ensures value { result.now ≡ incident_edges self.now v }
         ensures graph { IsGraph self.now }
         ensures limits { IsWithinLimits self.now }
     {
-        self.incident[v as usize].as_slice()
+        let first = self.rows[v as usize] as usize;
+        let end = self.rows[v as usize + 1] as usize;
+        &self.rows[first..end]
     }
 
-    /// The end of edge `e` that is not `v`, one of its ends. Found without a branch: searches ask for it at random.
+    /// The end of edge `e` that is not `v`, one of its ends. Found without a branch: searches ask for it in no predictable order.
     pub fn other_end(&self, e: u32, v: u32) -> u32
         requires edge { e < edge_count self.now }
         requires end { IsTrue (is_end self.now v e) }
@@ -155,7 +163,7 @@ impl Graph {
         }
     }
 
-    /// The end of edge `e` that is not `v`; `None` exactly where `e` is no edge, or `v` none of its ends.
+    /// The end of edge `e` that is not `v`; `None` exactly where `e` is not an edge, or `v` not one of its ends.
     pub fn far_end(&self, e: u32, v: u32) -> Option<u32>
         ensures value { MatchOption result
             (is_edge_at self.now v e ≡ false)

@@ -49,10 +49,10 @@ least_or x (y ∷ ys) = min x (least_or y ys)
 abbrev pub from_least : List ℕ → List ℕ
 from_least l = turned l (least_or (first_or 0 l) l)
 
--- the members of k stand in l, in this order
+-- the members of k are in l, in this order
 abbrev pub Follows : List ℕ → List ℕ → Type 0
 Follows l k = filter (λ x. is_member x k) l ≡ k
 
--- the members of k are met in this order on the way round l
+-- the members of k come in this order around l
 abbrev pub FollowsAround : List ℕ → List ℕ → Type 0
 FollowsAround l k = IsTurn (filter (λ x. is_member x k) l) k

@@ -11,7 +11,7 @@ swapped p q x = (if x == p then q else (if x == q then p else x))
 unfoldable pub exchange : ℕ → ℕ → (ℕ → ℕ) → ℕ → ℕ
 exchange p q f x = f (swapped p q x)
 
--- f with d taken out: what came to d goes on to what followed d, and d is left alone
+-- f with d taken out: what came to d continues to what followed d, and d is left alone
 unfoldable pub unlink : ℕ → (ℕ → ℕ) → ℕ → ℕ
 unlink d f x = (if x == d then d else (if f x == d then f d else f x))
 
@@ -20,6 +20,6 @@ abbrev pub taken_out : (ℕ → Bool) → ℕ → (ℕ → ℕ) → ℕ → ℕ
 taken_out keep zero f = f
 taken_out keep (suc k) f = (if keep k then taken_out keep k f else unlink k (taken_out keep k f))
 
--- f on the numbers below n that pass the test: each goes on to the next of them along f, and the others are alone
+-- f on the numbers below n that pass the test: each goes to the next of them along f, and the others are alone
 unfoldable pub restricted : ℕ → (ℕ → Bool) → (ℕ → ℕ) → ℕ → ℕ
 restricted n keep f x = (if keep x then iterate f (suc (least n (λ k. keep (iterate f (suc k) x)))) x else x)

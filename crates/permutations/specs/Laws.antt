@@ -47,7 +47,7 @@ FinerHasMore = (n : ℕ) (r s : ℕ → ℕ → Bool) → ((x y : ℕ) → r x y
 abbrev pub FinerIsSame : Type 0
 FinerIsSame = (n : ℕ) (r s : ℕ → ℕ → Bool) → IsEquivalence r → IsEquivalence s → ((x y : ℕ) → r x y ≡ true → s x y ≡ true) → class_count n r ≤ class_count n s → (x y : ℕ) → x < n → y < n → s x y ≡ r x y
 
--- f renumbers the members of d as members of e, keeps the relation, and meets each class: as many classes here as there
+-- f renumbers the members of d as members of e, keeps the relation, and reaches each class: equally many classes here and there
 abbrev pub RenumberingKeepsClasses : Type 0
 RenumberingKeepsClasses = (n m : ℕ) (d e : ℕ → Bool) (r s : ℕ → ℕ → Bool) (f : ℕ → ℕ) → IsEquivalence s
     → ((x : ℕ) → x < n → d x ≡ true → f x < m) → ((x : ℕ) → x < n → d x ≡ true → e (f x) ≡ true)
@@ -103,7 +103,7 @@ SuccessorsTellLists = (l k : List ℕ) → is_distinct l ≡ true → is_distinc
 abbrev pub NormalFormsTellOrders : Type 0
 NormalFormsTellOrders = (l k : List ℕ) → is_distinct l ≡ true → (from_least l ≡ from_least k) ↔ IsTurn l k
 
--- the mirror goes the other way round
+-- the mirror is reversed
 abbrev pub MirrorGoesBack : Type 0
 MirrorGoesBack = (l : List ℕ) (x : ℕ) → is_distinct l ≡ true → successor (from_least (reverse l)) x ≡ predecessor l x
 

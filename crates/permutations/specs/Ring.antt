@@ -1,4 +1,4 @@
--- The orbit of a permutation as a list, in the order of its steps, and a walk round the darts of a vertex.
+-- The orbit of a permutation as a list, in the order of its steps, and a walk around the darts of a vertex.
 use Rattle.std.specs.Prelude.{ℕ, zero, suc, ◌+◌, ◌/◌, ◌==◌, List, [], ◌∷◌, slice_index}
 use Rattle.permutations.specs.Count.{least}
 use Rattle.permutations.specs.Permutation.{iterate}

@@ -9,10 +9,10 @@
 // one key exactly where no two pairs of members cross. Each law below is a function without a body, whose contract is the
 // theorem. Nothing here knows graphs.
 //
-// The lemmas that are used most (module of proofs/ in front):
+// The lemmas that are used most, after the name of their module in proofs/:
 //   Count        count-ext, count-split, count-subset, count-same: equal tests, parts, fewer; a part that is no less is the whole
 //   Search       some-witness, some-from, some-none; least-passes, least-before: a witness, none, the first that passes
-//   Injection    count-injection, count-bijection, pigeonhole: one to one, so no more; both ways, so as many
+//   Injection    count-injection, count-bijection, pigeonhole: one to one, so no more; both ways, so equally many
 //   Relation     connected-least(-typed), connected-link, connected-closed: the least equivalence; a test that the links respect
 //   Leaders      leader-related, leader-same, same-leader, leads-once: related exactly where the leaders are equal
 //   Classes      add-link, class_count-same, class_count-closed, classes-transfer: one link more, finer, in parts, renumbered
@@ -27,7 +27,7 @@
 //   Turned       turned-head, turned-successor, turned-permutation, IsTurn-member: the same cyclic order from elsewhere
 //   CyclicSame   same-lists, IsTurn-turned, IsTurn-trans: equal by first member and successors
 //   NormalForm   from_least-same, same-from_least, mirror-successor: one list for each cyclic order; its mirror
-//   CyclicOrder  follows-cons, follows-around, around-turn, around-successor: who is met in which order on the way round
+//   CyclicOrder  follows-cons, follows-around, around-turn, around-successor: the order in which members come along the cycle
 //   Chains       chain, chain-typed: from each member to the next, so from each to each
 //   Rings        ring-member, ring-successor, ring-from_list, ring-turn: an orbit as a list, and a list as an orbit
 //   Removal      successor-without, ring-taken_out: members taken out of a cyclic order and out of a permutation
@@ -90,7 +90,7 @@ pub fn turning_keeps_cyclic_order()
     ensures successors { TurnedKeepsSuccessors }
 {}
 
-/// The law that each cyclic order has one normal form, and that the mirror is an involution that goes the other way round.
+/// The law that each cyclic order has one normal form, and that the mirror is an involution that reverses it.
 pub fn normal_form_of_cyclic_order()
     ensures lists { SuccessorsTellLists }
     ensures orders { NormalFormsTellOrders }

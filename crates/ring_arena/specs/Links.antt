@@ -1,8 +1,8 @@
--- Nodes in rings: the numbers below some count, each with the node behind it and the node before it.
+-- Nodes in rings: the numbers below some count, each with the node after it and the node before it.
 use Rattle.std.specs.Prelude.{◌≡◌, ℕ, ◌<◌, cond, ◌==◌, if◌then◌else◌, List, length, slice_index}
 use Rattle.permutations.specs.Permutation.{Permutes, same_orbit}
 
--- the node behind each node, and the node before each
+-- the node after each node, and the node before each
 pub record Links : Type 0 where
   pub next : List ℕ
   pub prev : List ℕ
@@ -12,7 +12,7 @@ pub record AreInverse (links : Links) : Type 0 where
   pub long : length links.prev ≡ length links.next
   pub permutes : Permutes (length links.next) (slice_index links.next) (slice_index links.prev)
 
--- as many nodes, and the node behind each is told by a function
+-- equally many nodes, and the node after each is given by a function
 pub record AreNow (old new : Links) (next : ℕ → ℕ) : Type 0 where
   pub count : length new.next ≡ length old.next
   pub behind : (d : ℕ) → d < length old.next → slice_index new.next d ≡ next d
@@ -22,12 +22,12 @@ pub record AreNow (old new : Links) (next : ℕ → ℕ) : Type 0 where
 abbrev pub reversed_at : Links → ℕ → ℕ → ℕ
 reversed_at links d x = cond (same_orbit (length links.next) (slice_index links.next) d x) (slice_index links.prev x) (slice_index links.next x)
 
--- so many nodes, each alone
+-- n nodes, each alone
 pub record AreAlone (n : ℕ) (links : Links) : Type 0 where
   pub count : length links.next ≡ n
   pub alone : (d : ℕ) → d < n → slice_index links.next d ≡ d
   pub inverse : AreInverse links
 
--- next with d, which is alone, put between x and what is behind x
+-- next with d, which is alone, inserted between x and the node after x
 abbrev pub linked_after : ℕ → ℕ → (ℕ → ℕ) → ℕ → ℕ
 linked_after d x next y = (if y == x then d else (if y == d then next x else next y))

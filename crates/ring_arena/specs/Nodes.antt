@@ -1,5 +1,5 @@
--- How rings are kept: nodes side by side in a block, each with its number, the places of the node behind it and before it, and
--- the number of the node behind it.
+-- How rings are kept: nodes side by side in a block, each with its number, the places of the nodes after it and before it, and
+-- the number of the node after it.
 use Rattle.std.specs.Prelude.{◌≡◌, ℕ, ◌-◌, ◌*◌, ◌/◌, ◌<◌, ◌≤◌, List, map, length, slice_get, slice_index, slice_set, Some}
 use denote.RawPtr.{Ptr, InBlock, count_of, ◌+ₚ◌}
 use Rattle.ring_arena.specs.declared.arena.Node.{Node}
@@ -13,19 +13,19 @@ max_nodes = 100000
 abbrev pub node_size : ℕ
 node_size = 24
 
--- the place of a node, by its number, where the nodes lie from base on
+-- the place of a node, by its number, where the nodes are from base on
 abbrev pub place_of : Ptr → ℕ → Ptr
 place_of base k = base +ₚ k * node_size
 
--- the number of the node that lies at a place
+-- the number of the node at a place
 abbrev pub number_at : Ptr → Ptr → ℕ
 number_at base place = (count_of place - count_of base) / node_size
 
--- the numbers that the places in the nodes stand for
+-- the numbers of the nodes at the places in the nodes
 abbrev pub links_of : Ptr → List Node → Links
 links_of base nodes = record { next = map (λ node. number_at base node.next) nodes; prev = map (λ node. number_at base node.prev) nodes }
 
--- a node has its number and that of the node behind it, and its places are those of nodes
+-- a node has its number and that of the node after it, and its places are those of nodes
 pub record IsNode (base : Ptr) (count number : ℕ) (node : Node) : Type 0 where
   pub numbered : node.number ≡ number
   pub followed : node.after ≡ number_at base node.next
@@ -40,11 +40,11 @@ pub record AreNodes (base : Ptr) (nodes : List Node) : Type 0 where
   pub in_block : InBlock base
   pub each : (k : ℕ) (node : Node) → slice_get nodes k ≡ Some node → IsNode base (length nodes) k node
 
--- nodes in a block that stand in rings
+-- nodes in a block that form rings
 abbrev pub KeepRings : Ptr → List Node → Type 0
 KeepRings base nodes = AreNodes base nodes × AreInverse (links_of base nodes)
 
--- node b was put behind node a, and node a before node b
+-- node b was put after node a, and node a before node b
 pub record AreRelinked (base : Ptr) (old : List Node) (new_base : Ptr) (new : List Node) (a b : ℕ) : Type 0 where
   pub in_place : new_base ≡ base
   pub count : length new ≡ length old
@@ -52,7 +52,7 @@ pub record AreRelinked (base : Ptr) (old : List Node) (new_base : Ptr) (new : Li
   pub next : (links_of base new).next ≡ slice_set (links_of base old).next a b
   pub prev : (links_of base new).prev ≡ slice_set (links_of base old).prev b a
 
--- what is behind node k and what is before it were exchanged
+-- the nodes after and before node k were exchanged
 pub record AreTurned (base : Ptr) (old : List Node) (new_base : Ptr) (new : List Node) (k : ℕ) : Type 0 where
   pub in_place : new_base ≡ base
   pub count : length new ≡ length old
@@ -60,7 +60,7 @@ pub record AreTurned (base : Ptr) (old : List Node) (new_base : Ptr) (new : List
   pub next : (links_of base new).next ≡ slice_set (links_of base old).next k (slice_index (links_of base old).prev k)
   pub prev : (links_of base new).prev ≡ slice_set (links_of base old).prev k (slice_index (links_of base old).next k)
 
--- a node with its number, and the places of these nodes behind it and before it
+-- a node with its number, and the places of these nodes after it and before it
 pub record IsLinked (base : Ptr) (number next prev : ℕ) (node : Node) : Type 0 where
   pub numbered : node.number ≡ number
   pub followed : node.after ≡ next

@@ -11,7 +11,7 @@ use std::alloc::{AllocError, Global};
 use std::fmt;
 use std::marker::Model;
 
-// A node: its number, and where the nodes behind it and before it lie. The number of the node behind it stands in it too, so that
+// A node: its number, and the places of the nodes after it and before it. It also holds the number of the node after it, so that
 // a step reads one node and not two.
 #[derive(Clone, Copy, Drop)]
 struct Node {
@@ -23,7 +23,7 @@ struct Node {
 
 /// Nodes 0 to n - 1 in rings.
 ///
-/// Seen as two lists, the node behind each node and the node before it; both are permutations, and each is the inverse of the
+/// Viewed as two lists, the node after each node and the node before it; both are permutations, and each is the inverse of the
 /// other. No call but `new` and `copy` takes memory.
 #[derive(Drop)]
 pub struct Rings {
@@ -44,7 +44,7 @@ impl Model for Rings {
 }
 
 impl Rings {
-    /// So many nodes, at most 100,000, each alone on a ring.
+    /// `n` nodes, at most 100,000, each alone on a ring. Fails only if memory runs out.
     pub fn new(alloc: Global, n: u32) -> Result<Rings, AllocError>
         requires { n ≤ max_nodes }
         ensures { IfOk result (AreAlone n) }
@@ -58,7 +58,7 @@ impl Rings {
         Ok(Rings { nodes })
     }
 
-    /// The same rings once more, in a block of their own.
+    /// A copy, in a block of its own. Fails only if memory runs out.
     pub fn copy(&self, alloc: Global) -> Result<Rings, AllocError>
         ensures { IfOk result (λ r. r ≡ self.now) }
     {
@@ -71,6 +71,13 @@ impl Rings {
         Ok(Rings { nodes })
     }
 
+    /// The two lists are inverse to each other. For proofs alone: does nothing.
+    pub fn keeps_rings(&self)
+        ensures { AreInverse self.now }
+    {
+        let _ = self.len();
+    }
+
     /// The number of nodes.
     pub fn len(&self) -> u32
         ensures value { result ≡ length self.now.next }
@@ -80,7 +87,7 @@ impl Rings {
         self.nodes.len() as u32
     }
 
-    /// The node behind node `d` on its ring.
+    /// The node after node `d` on its ring.
     pub fn next(&self, d: u32) -> u32
         requires { d < length self.now.next }
         ensures value { result ≡ slice_index self.now.next d }
@@ -98,7 +105,7 @@ impl Rings {
         behind(&self.nodes, self.nodes[d as usize].prev).number
     }
 
-    /// Exchanges the nodes behind `a` and `b`: two rings become one, or one becomes two. Nothing changes where `a` is `b`.
+    /// Exchanges the nodes after `a` and `b`: two rings become one, or one becomes two. Nothing changes where `a` is `b`.
     pub fn exchange(&mut self, a: u32, b: u32)
         requires first { a < length self.old.next }
         requires second { b < length self.old.next }
@@ -110,7 +117,7 @@ impl Rings {
         link(&mut self.nodes, b, behind_a);
     }
 
-    /// Takes node `d` out of its ring: it is alone then, and the nodes before and behind it follow one another.
+    /// Takes node `d` out of its ring: it is alone then, and the nodes before and after it are adjacent.
     pub fn unlink(&mut self, d: u32)
         requires { d < length self.old.next }
         ensures { AreNow self.old self.new (unlink d (slice_index self.old.next)) }
@@ -120,7 +127,7 @@ impl Rings {
         self.exchange(before, d);
     }
 
-    /// Puts node `d`, which is alone, behind node `x`: it stands between `x` and the node that was behind `x`.
+    /// Inserts node `d`, which is alone, after node `x`: it is between `x` and the node that was after `x`.
     pub fn link_after(&mut self, d: u32, x: u32)
         requires node { d < length self.old.next }
         requires place { x < length self.old.next }
@@ -131,7 +138,7 @@ impl Rings {
         self.exchange(x, d);
     }
 
-    /// Turns the ring of `d` round: behind each of its nodes stands the node that was before it. Other rings stay.
+    /// Reverses the ring of `d`: after each of its nodes comes the node that was before it. Other rings are unchanged.
     pub fn reverse(&mut self, d: u32)
         requires { d < length self.old.next }
         ensures { AreNow self.old self.new (reversed_at self.old d) }
@@ -152,7 +159,7 @@ impl fmt::Debug for Rings {
     }
 }
 
-// A node of a block, by its number and those of the nodes behind it and before it.
+// A node of a block, by its number and those of the nodes after it and before it.
 fn node_at(nodes: &Vec<Node>, number: u32, next: u32, prev: u32) -> Node
     requires next_in { next < vec_capacity nodes.now }
     requires prev_in { prev < vec_capacity nodes.now }
@@ -166,7 +173,7 @@ fn node_at(nodes: &Vec<Node>, number: u32, next: u32, prev: u32) -> Node
     }
 }
 
-// Node b comes behind node a, and node a before node b. Nothing else is written.
+// Node b comes after node a, and node a before node b. Nothing else is written.
 fn link(nodes: &mut Vec<Node>, a: u32, b: u32)
     requires nodes { AreNodes (vec_ptr nodes.old) nodes.old.items }
     requires first { a < length nodes.old.items }
@@ -186,7 +193,7 @@ fn link(nodes: &mut Vec<Node>, a: u32, b: u32)
     nodes[b as usize].prev = from;
 }
 
-// Exchanges what is behind node k and what is before it, and answers the node that was behind it.
+// Exchanges the nodes after and before node k, and returns the node that was after it.
 fn turn(nodes: &mut Vec<Node>, k: usize) -> usize
     requires nodes { AreNodes (vec_ptr nodes.old) nodes.old.items }
     requires node { k < length nodes.old.items }

@@ -1,11 +1,11 @@
 // Rings of numbered nodes, linked by raw pointers.
 //
-// The nodes 0 to n - 1 stand in one block of memory, and each holds the places of the node behind it and of the node before it:
-// circular doubly linked lists (Knuth, The Art of Computer Programming 1, 2.2.4, 2.2.5). Contracts see two lists of numbers,
-// the node behind each node and the node before it. Each of them is a permutation of the nodes, and each is the inverse of the
+// The nodes 0 to n - 1 are in one block of memory, and each holds the places of the node after it and of the node before it:
+// circular doubly linked lists (Knuth, The Art of Computer Programming 1, 2.2.4, 2.2.5). Contracts view them as two lists of
+// numbers, the node after each node and the node before it. Each of them is a permutation of the nodes, and each is the inverse of the
 // other, after every call; a ring is an orbit.
-// One step changes the rings: the nodes behind two nodes change places. It joins two rings into one or parts one into two, in
-// constant time; taking a node out and putting one in are such steps. A ring is turned round in as many steps as it has nodes.
+// One step changes the rings: the nodes after two nodes are exchanged. It joins two rings into one or splits one into two, in
+// constant time; taking a node out and putting one in are such steps. A ring is reversed in as many steps as it has nodes.
 // Only `Rings::new` takes memory, and the block is freed when the rings are dropped.
 #![tactic(auto)]
 

@@ -1,4 +1,4 @@
-// Where a node lies in its block, and the node that lies at a place.
+// The place of a node in its block, and the node at a place.
 
 ghost use Rattle.std.specs.Prelude.{◌≡◌, ℕ, ◌*◌, ◌<◌, ◌^◌, length, slice_get, Some};
 ghost use Rattle.std.specs.Mem.{type_size};
@@ -24,7 +24,7 @@ pub(crate) fn place<T, A: Allocator>(v: &Vec<T, A>, i: usize) -> *const T
     unsafe { v.as_ptr().byte_add(i * size_of::<T>()) }
 }
 
-// The element that lies at a place.
+// The element at a place.
 pub(crate) fn behind<T, A: Allocator>(v: &Vec<T, A>, at: *const T) -> &T
     requires { (i : ℕ) × (i < length v.now.items) × (at ≡ vec_ptr v.now +ₚ i * type_size T.row) }
     ensures { (i : ℕ) → i < length v.now.items → 0 < type_size T.row

@@ -1,6 +1,6 @@
 -- The rings of the first vertices are built, and at the end they keep the rotation system that was given.
 use Rattle.std.proofs.Common.{◌≡◌, ◌≢◌, ℕ, ◌+◌, ◌<◌, ◌≤◌, true, List, [], ◌∷◌, ◌++◌, length, get_or, ◌*◌, ◌/◌, sym, ap, ◌∙◌, subst, inl, inr, arith}
-use Rattle.std.proofs.lemmas.List.{length_push, get_or_push, get_or_append_left, get_or-map, nil_from_length}
+use Rattle.std.proofs.lemmas.List.{length_push, get_or_push, get_or_append_left, get_or-map, length-map, nil_from_length}
 use Rattle.std.proofs.lemmas.List.Sorted.{length_permutation, IsPermutation-trans}
 use Rattle.std.proofs.lemmas.Bool.{cases_eq, true≢false}
 use Rattle.permutations.specs.Members.{is_member}
@@ -216,3 +216,8 @@ given-system g entries r a long same = record {
     begin v l none =
         ap (λ (xs : List ℕ). first_or 0 (turned xs (first_or 0 (incident_edges g v)))) (nil_from_length (list_at entries v) (omega (arith, length_permutation (incident_edges g v) (list_at entries v) (a.arranged v l))))
         ∙ ap (first_or 0) (sym (nil_from_length (incident_edges g v) none))
+
+-- the rings that were built are a rotation system
+pub built-system : (g : Multigraph) (entries : List (ℕ × List ℕ)) (tails : List ℕ) (links : Links) (rings : List Ring) → AreArranged g entries → AreTails g tails → AreBuilt g entries tails links rings g.vertex_count → IsRotationSystem g (orders links.next rings)
+built-system g entries tails links rings a t r =
+    given-system g entries (orders links.next rings) a (length-map rings (λ (ring : Ring). turns links.next ring.first ring.degree) ∙ r.rings_long) (built-orders g entries tails links rings a t r)

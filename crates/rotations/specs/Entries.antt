@@ -5,7 +5,7 @@ use Rattle.std.specs.Prelude.{◌≡◌, ℕ, ◌-◌, ◌<◌, ◌≤◌, ◌==
 abbrev pub entry : List (ℕ × List ℕ) → ℕ → ℕ × List ℕ
 entry entries k = slice_index_or entries k (0, [])
 
--- the vertices of the entries rise strictly
+-- the vertices of the entries increase strictly
 abbrev pub IsRising : List (ℕ × List ℕ) → Type 0
 IsRising entries = (i j : ℕ) → i < j → j < length entries → (entry entries i).0 < (entry entries j).0
 
@@ -17,7 +17,7 @@ IsAbove entries v = 0 < length entries → (entry entries (length entries - 1)).
 abbrev pub IsNamed : List (ℕ × List ℕ) → ℕ → Type 0
 IsNamed entries v = (k : ℕ) × (k < length entries) × ((entry entries k).0 ≡ v)
 
--- the list that is given for v, and the empty one where none is
+-- the list that is given for v, and the empty list where no list is given for v
 abbrev pub list_at : List (ℕ × List ℕ) → ℕ → List ℕ
 list_at [] v = []
 list_at (given ∷ others) v = (if given.0 == v then given.1 else list_at others v)

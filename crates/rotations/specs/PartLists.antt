@@ -1,5 +1,5 @@
 -- Lists of edges for a part of a graph, in the numbers of the whole graph: when they make a rotation system of the part, and where
--- it shows first that they make none.
+-- they first fail to.
 use Rattle.std.specs.Prelude.{◌≡◌, ℕ, ◌<◌, ◌⊎◌, List, length, map, slice_index}
 use Rattle.std.specs.List.{Contains}
 use Rattle.std.specs.List.Sorted.{IsPermutation}
@@ -19,12 +19,12 @@ outer_edges part i = map (slice_index part.edges) (incident_edges part.graph i)
 abbrev pub outer_list : GraphPart → List (ℕ × List ℕ) → ℕ → List ℕ
 outer_list part entries i = list_at entries (slice_index part.vertices i)
 
--- each vertex of the part is given an arrangement of its edges in the part, and only vertices of the part are named
+-- each vertex of the part is given a permutation of its edges in the part, and only vertices of the part are named
 pub record ArrangePart (part : GraphPart) (entries : List (ℕ × List ℕ)) : Type 0 where
   pub arranged : (i : ℕ) → i < part.graph.vertex_count → IsPermutation (outer_edges part i) (outer_list part entries i)
   pub vertices : (v : ℕ) → IsNamed entries v → Contains part.vertices v
 
--- v is a vertex of the part whose list is no arrangement of its edges there, or a number that is named and no vertex of it
+-- v is a vertex of the part whose list is not a permutation of its edges there, or a number that is named and not a vertex of it
 abbrev pub IsBadInPart : GraphPart → List (ℕ × List ℕ) → ℕ → Type 0
 IsBadInPart part entries v =
     ((i : ℕ) × (i < part.graph.vertex_count) × (slice_index part.vertices i ≡ v) × ¬ IsPermutation (outer_edges part i) (outer_list part entries i))
@@ -35,7 +35,7 @@ pub record IsFirstBadInPart (part : GraphPart) (entries : List (ℕ × List ℕ)
   pub bad : IsBadInPart part entries v
   pub none_before : (w : ℕ) → w < v → ¬ IsBadInPart part entries w
 
--- the refusal is due: want of memory may come at any lists
+-- the fault is the correct one: memory may run out with any lists
 abbrev pub IsPartRefusal : GraphPart → List (ℕ × List ℕ) → RotFault → Type 0
 IsPartRefusal part entries (BadRotation v) = IsFirstBadInPart part entries v
 IsPartRefusal part entries Memory = Unit {0}
@@ -49,7 +49,7 @@ pub record AreInnerBelow (part : GraphPart) (entries inner : List (ℕ × List �
   pub long : length inner ≡ n
   pub each : (i : ℕ) → i < n → entry inner i ≡ (i, map (place_of part.edges) (outer_list part entries i))
 
--- v is the least number that is named and no vertex of the part
+-- v is the least number that is named and not a vertex of the part
 pub record IsFirstStranger (part : GraphPart) (entries : List (ℕ × List ℕ)) (v : ℕ) : Type 0 where
   pub named : IsNamed entries v
   pub stranger : ¬ Contains part.vertices v

@@ -1,4 +1,4 @@
--- A rotation system as it is kept: for each dart the one that follows it round its vertex, and the one that it follows.
+-- A rotation system as it is kept: for each dart the one that follows it around its vertex, and the one that it follows.
 -- Each edge e has two darts: 2e leaves its first end, 2e + 1 its second.
 use Rattle.std.specs.Prelude.{◌≡◌, ℕ, ◌+◌, ◌*◌, ◌/◌, ◌<◌, ◌≤◌, ◌==◌, ◌⊎◌, if◌then◌else◌, true, List, [], ◌∷◌, length, map, slice_index, slice_index_or}
 use Rattle.std.specs.List.{All, Contains}
@@ -19,13 +19,13 @@ dart_at tails v e = (if slice_index tails (2 * e) == v then 2 * e else 2 * e + 1
 abbrev pub orders : List ℕ → List Ring → List (List ℕ)
 orders next rings = map (λ ring. turns next ring.first ring.degree) rings
 
--- edges that stand round v: each once, with a dart that leaves v
+-- edges around v: each once, with a dart that leaves v
 pub record StandRound (tails : List ℕ) (v : ℕ) (order : List ℕ) : Type 0 where
   pub distinct : is_distinct order ≡ true
   pub darts : (e : ℕ) → is_member e order ≡ true → 2 * e + 1 < length tails
   pub tail : (e : ℕ) → is_member e order ≡ true → slice_index tails (dart_at tails v e) ≡ v
 
--- the darts of the edges `some` of a cyclic order round v are linked to those that follow, and these back to them
+-- the darts of the edges `some` of a cyclic order around v are linked to those that follow, and these back to them
 pub record AreLinked (tails next prev : List ℕ) (v : ℕ) (order some : List ℕ) : Type 0 where
   pub forth : (e : ℕ) → is_member e some ≡ true → slice_index next (dart_at tails v e) ≡ dart_at tails v (successor order e)
   pub back : (e : ℕ) → is_member e some ≡ true → slice_index prev (dart_at tails v (successor order e)) ≡ dart_at tails v e
@@ -50,21 +50,21 @@ pub record AreTails (g : Multigraph) (tails : List ℕ) : Type 0 where
   pub first : (e : ℕ) → e < edge_count g → slice_index tails (2 * e) ≡ (ends_of g e).0
   pub second : (e : ℕ) → e < edge_count g → slice_index tails (2 * e + 1) ≡ (ends_of g e).1
 
--- the ring of v in g: as many darts as v has edges, from the least edge on
+-- the ring of v in g: one dart for each edge at v, from the least edge on
 pub record IsRingOf (g : Multigraph) (tails : List ℕ) (v : ℕ) (ring : Ring) : Type 0 where
   pub degree : ring.degree ≡ length (incident_edges g v)
   pub first : 0 < ring.degree → ring.first ≡ dart_at tails v (first_or 0 (incident_edges g v))
 
--- there are two nodes for each edge of g, and they leave its two ends, one each. Which of the ends is the first cyclic orders do not
--- tell: they are also those of the graph in which the two ends have changed places.
+-- there are two nodes for each edge of g, and they leave its two ends, one each. Cyclic orders do not
+-- determine which of the ends is the first: they are also those of the graph in which the two ends are exchanged.
 pub record LeaveEnds (g : Multigraph) (tails : List ℕ) : Type 0 where
   pub count : length tails ≡ 2 * edge_count g
   pub ends : (e : ℕ) → e < edge_count g → ((slice_index tails (2 * e) ≡ (ends_of g e).0) × (slice_index tails (2 * e + 1) ≡ (ends_of g e).1))
       ⊎ ((slice_index tails (2 * e) ≡ (ends_of g e).1) × (slice_index tails (2 * e + 1) ≡ (ends_of g e).0))
 
--- rings on which cyclic orders are kept: each node leaves a vertex, an edge round v has one of its two nodes there, and behind
--- and before this node stand those of the edges that follow and precede it round v. Of whatever graph the orders are a rotation
--- system, the two nodes of an edge leave its two ends.
+-- rings on which cyclic orders are kept: each node leaves a vertex, an edge around v has one of its two nodes there, and after
+-- and before this node come those of the edges that follow and precede it around v. In every graph that the orders are a rotation
+-- system of, the two nodes of an edge leave its two ends.
 pub record StandOnRings (r : List (List ℕ)) (links : Links) (tails : List ℕ) : Type 0 where
   pub leaves_each : length tails ≡ length links.next
   pub node : (v e : ℕ) → Contains (order_at r v) e → dart_at tails v e < length links.next

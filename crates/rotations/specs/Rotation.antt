@@ -8,7 +8,7 @@ use Rattle.multigraph.specs.Graph.{Multigraph, incident_edges}
 abbrev pub order_at : List (List ℕ) → ℕ → List ℕ
 order_at r v = slice_index_or r v []
 
--- an arrangement of the given rising edges as a cyclic order: each once, the least edge first
+-- a permutation of the given increasing edges as a cyclic order: each once, the least edge first
 pub record IsCyclicOrder (edges order : List ℕ) : Type 0 where
   pub arranged : IsPermutation edges order
   pub least_first : first_or 0 order ≡ first_or 0 edges

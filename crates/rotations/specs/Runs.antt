@@ -1,4 +1,4 @@
--- Runs of edges round a vertex, and what becomes of a cyclic order where a run is moved or turned.
+-- Runs of edges around a vertex, and a cyclic order after a run was moved or reversed.
 use Rattle.std.specs.Prelude.{◌≡◌, ◌≢◌, ℕ, List, [], ◌∷◌, ◌++◌, length, map, reverse}
 use Rattle.permutations.specs.Cyclic.{from_least, IsTurn}
 use Rattle.rotations.specs.Rotation.{order_at}
@@ -22,7 +22,7 @@ pub record IsOutside (order : List ℕ) (first last edge : ℕ) : Type 0 where
   pub back : List ℕ
   pub parted : IsParted order first last run (front ++ edge ∷ back)
 
--- the run from first to last was taken out and put behind an edge that is not in it
+-- the run from first to last was taken out and inserted after an edge that is not in it
 pub record IsRunMoved (old new : List ℕ) (first last edge : ℕ) : Type 0 where
   pub run : List ℕ
   pub front : List ℕ
@@ -37,11 +37,11 @@ pub record IsRunTurned (old new : List ℕ) (first last : ℕ) : Type 0 where
   pub parted : IsParted old first last run others
   pub turned : new ≡ from_least (reverse run ++ others)
 
--- as many vertices, and those other than v have the cyclic orders that they had
+-- equally many vertices, and those other than v have the cyclic orders that they had
 pub record IsKeptElsewhere (old new : List (List ℕ)) (v : ℕ) : Type 0 where
   pub vertices : length new ≡ length old
   pub others : (w : ℕ) → w ≢ v → order_at new w ≡ order_at old w
 
--- the mirror image: each cyclic order is run through the other way, and written from its least edge on again
+-- the mirror image: each cyclic order is reversed, and written from its least edge on again
 abbrev pub mirror_image : List (List ℕ) → List (List ℕ)
 mirror_image r = map (λ order. from_least (reverse order)) r

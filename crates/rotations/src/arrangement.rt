@@ -1,6 +1,6 @@
-// The check of given lists: at each vertex an arrangement of the edges there, and no other number named.
+// The check of given lists: at each vertex a permutation of the edges there, and no other number named.
 //
-// For each edge a number says at which vertex it was last met: v + 1 while the list of v is read. So a list is read once, and
+// For each edge a number says at which vertex it was last found: v + 1 while the list of v is read. So a list is read once, and
 // nothing is cleared between two lists.
 
 ghost use Rattle.std.specs.Prelude.{◌≡◌, ◌+◌, ◌≤◌, ◌<◌, ◌↔◌, length, replicate, IfOk, MatchResult, MatchBool, IsTrue};
@@ -14,14 +14,12 @@ use crate::faults::RotFault;
 use multigraph::Graph;
 use std::alloc::{AllocError, Global};
 
-// Looks for the least number at which the lists are no rotation system.
+// Searches for the least number at which the lists are not a rotation system.
 pub(crate) fn check_lists(alloc: Global, g: &Graph, lists: &Lists) -> Result<(), RotFault>
     ensures { MatchResult result (λ _. AreArranged g.now lists.now)
         (λ fault. IsRefusal g.now lists.now fault) }
 {
-    let Ok(mut seen) = zeros(alloc, g.edge_count() as usize) else {
-        return Err(RotFault::Memory);
-    };
+    let mut seen = zeros(alloc, g.edge_count() as usize)?;
     let mut at = 0;
     for v in 0..g.vertex_count() {
         let (list, after) = lists.given(at, v);
@@ -36,7 +34,7 @@ pub(crate) fn check_lists(alloc: Global, g: &Graph, lists: &Lists) -> Result<(),
     Ok(())
 }
 
-// Whether the list is an arrangement of the edges at v.
+// Whether the list is a permutation of the edges at v.
 fn is_arrangement(g: &Graph, v: u32, list: &[u32], seen: &mut [u32]) -> bool
     requires vertex { v < g.now.vertex_count }
     requires long { length seen.old ≡ edge_count g.now }
@@ -55,7 +53,7 @@ fn is_arrangement(g: &Graph, v: u32, list: &[u32], seen: &mut [u32]) -> bool
     true
 }
 
-// Whether e is an edge at v that was not met in this list, which is then noted.
+// Whether e is an edge at v that was not yet found in this list; it is noted then.
 fn is_new(g: &Graph, v: u32, e: u32, seen: &mut [u32]) -> bool
     requires vertex { v < max_vertices }
     requires long { length seen.old ≡ edge_count g.now }
@@ -72,7 +70,7 @@ fn is_new(g: &Graph, v: u32, e: u32, seen: &mut [u32]) -> bool
     true
 }
 
-// So many zeros.
+// n zeros.
 fn zeros(alloc: Global, n: usize) -> Result<Vec<u32>, AllocError>
     ensures { IfOk result (λ v. v.items ≡ replicate n 0) }
 {

@@ -7,7 +7,7 @@ use multigraph::Numbers;
 use std::alloc::{AllocError, Global};
 use std::marker::Model;
 
-/// Entries of a vertex and a list of edges, their vertices strictly rising.
+/// Entries of a vertex and a list of edges, their vertices strictly increasing.
 #[derive(Debug, Drop)]
 pub struct Lists {
     alloc: Global,
@@ -36,7 +36,7 @@ impl Lists {
         }
     }
 
-    /// Whether `v` is above the last vertex, or there is none.
+    /// Whether `v` is above the last vertex, or the list is empty.
     pub fn is_above(&self, v: u32) -> bool
         ensures { IsTrue result ↔ IsAbove self.now v }
     {
@@ -46,7 +46,7 @@ impl Lists {
         }
     }
 
-    /// Puts an entry of `v` and a copy of `edges` behind the last; without memory all stays as it was.
+    /// Appends an entry of `v` and a copy of `edges`. Fails only if memory runs out; the list is unchanged then.
     pub fn push(&mut self, v: u32, edges: &[u32]) -> Result<(), AllocError>
         requires { IsAbove self.old v }
         ensures { self.new ≡ (if is_ok result then self.old ++ (v, edges.now) ∷ [] else self.old) }

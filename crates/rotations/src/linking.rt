@@ -1,4 +1,4 @@
-// The links of a rotation system: each dart to the one that follows it round its vertex.
+// The links of a rotation system: each dart to the one that follows it around its vertex.
 
 ghost use Rattle.std.specs.Prelude.{◌≡◌, ◌≢◌, ℕ, ◌≤◌, length, slice_index, true};
 ghost use Rattle.multigraph.specs.Graph.{max_darts};
@@ -9,7 +9,7 @@ ghost use Rattle.rotations.specs.Rings.{dart_at, StandRound, AreLinked};
 use crate::rings::dart_at;
 use ring_arena::Rings;
 
-// Links the darts of the edges of a list, which stand round v and are alone, in their cyclic order.
+// Links the darts of the edges of a list, which are around v and alone, in their cyclic order.
 pub(crate) fn link(tails: &[u32], v: u32, list: &[u32], nodes: &mut Rings)
     requires few { length tails.now ≤ max_darts }
     requires round { StandRound tails.now v list.now }

@@ -1,6 +1,6 @@
 // Lists for a part of a graph, in the numbers of the whole graph.
 //
-// They are written in the numbers of the part and checked there; the number that is to blame is that of the whole graph.
+// They are written in the numbers of the part and checked there; the number in a fault is that of the whole graph.
 
 ghost use Rattle.std.specs.Prelude.{◌≡◌, ℕ, ◌<◌, ◌≤◌, length, map, IfOk, MatchResult};
 ghost use Rattle.std.specs.List.{Contains};
@@ -16,7 +16,7 @@ use crate::faults::RotFault;
 use multigraph::Part;
 use std::alloc::{AllocError, Global};
 
-// Looks for the least number at which the lists are no rotation system of the part; `inner` are the lists in its own numbers.
+// Searches for the least number at which the lists are not a rotation system of the part; `inner` are the lists in its own numbers.
 pub(crate) fn check_part(
     alloc: Global,
     p: &Part,
@@ -38,7 +38,7 @@ pub(crate) fn check_part(
     }
 }
 
-// The refusal in the numbers of the whole graph.
+// The fault in the numbers of the whole graph.
 fn outer_fault(
     p: &Part,
     lists: &Lists,
@@ -52,7 +52,7 @@ fn outer_fault(
         → Contains p.now.vertices v) (λ v. IsFirstStranger p.now lists.now v) }
     ensures { IsPartRefusal p.now lists.now result }
 {
-    let _ = p.graph();
+    p.keeps_numbers();
     match fault {
         RotFault::BadRotation(i) => {
             let v = p.vertex(i);
@@ -71,7 +71,7 @@ fn outer_fault(
     }
 }
 
-// The least number that is named and no vertex of the part.
+// The least number that is named and not a vertex of the part.
 fn first_stranger(p: &Part, lists: &Lists) -> Option<u32>
     ensures { MatchOption result ((v : ℕ) → IsNamed lists.now v
         → Contains p.now.vertices v) (λ v. IsFirstStranger p.now lists.now v) }
@@ -126,7 +126,7 @@ fn inner_edges(alloc: Global, p: &Part, list: &[u32]) -> Result<Vec<u32>, AllocE
     Ok(edges)
 }
 
-// The number of an edge in the part, and the number of its edges where it is none of them.
+// The number of an edge in the part, and the number of its edges where it is not one of them.
 fn inner_edge(p: &Part, e: u32) -> u32
     ensures { result ≡ place_of p.now.edges e }
 {

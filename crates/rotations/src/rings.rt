@@ -1,10 +1,10 @@
-// The darts round each vertex: the first of each ring, and the vertex that each dart leaves.
+// The darts around each vertex: the first of each ring, and the vertex that each dart leaves.
 
 ghost use Rattle.std.specs.Prelude.{◌≡◌, ◌+◌, ◌*◌, ◌<◌, ◌≤◌, length, IfOk};
 ghost use Rattle.multigraph.specs.Graph.{edge_count, max_darts};
 ghost use Rattle.rotations.specs.Rings.{dart_at, AreTails, IsRingOf};
 
-use multigraph::Graph;
+use multigraph::{Graph, dart_count};
 use std::alloc::{AllocError, Global};
 
 // The ring of a vertex: the dart of its least edge, and how many darts it has.
@@ -38,7 +38,7 @@ pub(crate) fn dart_at(tails: &[u32], v: u32, e: u32) -> u32
 pub(crate) fn tails_of(alloc: Global, g: &Graph) -> Result<Vec<u32>, AllocError>
     ensures { IfOk result (λ tails. AreTails g.now tails.items) }
 {
-    let mut tails = Vec::with_capacity(alloc, 2 * g.edge_count() as usize)?;
+    let mut tails = Vec::with_capacity(alloc, dart_count(g) as usize)?;
     for e in 0..g.edge_count() {
         let (first, second) = g.ends(e);
         tails.push(first)?;

@@ -1,4 +1,4 @@
-// The walk round a vertex.
+// The walk around a vertex.
 
 ghost use Rattle.std.specs.Prelude.{◌≡◌, ◌<◌, length};
 ghost use Rattle.std.specs.Iterator.{YieldsFirst, item_count};
@@ -7,7 +7,7 @@ ghost use Rattle.permutations.specs.Ring.{turns};
 use ring_arena::Rings;
 use std::marker::Model;
 
-/// The edges round a vertex in cyclic order, seen as the list of those that are left.
+/// The edges around a vertex in cyclic order, viewed as the list of those that are left.
 #[derive(Debug, Drop)]
 pub struct RotIter<'a> {
     nodes: &'a Rings,
@@ -27,7 +27,7 @@ impl<'a> Model for RotIter<'a> {
 }
 
 impl<'a> RotIter<'a> {
-    // So many darts from one on, each the next of the one before it.
+    // `left` darts from `dart` on, each the next of the one before it.
     pub(crate) fn from(nodes: &'a Rings, dart: u32, left: u32) -> RotIter<'a>
         requires { 0 < left → dart < length nodes.now.next }
         ensures { result ≡ turns nodes.now.next dart left }

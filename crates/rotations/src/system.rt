@@ -16,7 +16,7 @@ use crate::linking::link;
 use crate::outer::{check_part, inner_lists};
 use crate::rings::{Frame, dart_at, ring_of, tails_of};
 use crate::round::RotIter;
-use multigraph::{Graph, Part};
+use multigraph::{Graph, Part, dart_count};
 use ring_arena::Rings;
 use std::alloc::{AllocError, Global};
 use std::marker::Model;
@@ -24,7 +24,7 @@ use std::rc::Rc;
 
 /// A rotation system: for each vertex a cyclic order of the edges at it.
 ///
-/// It is kept without the graph, as one ring of darts round each vertex: a step takes constant time, and a run of edges is moved
+/// It is kept without the graph, as one ring of darts around each vertex: a step takes constant time, and a run of edges is moved
 /// without looking at it. The dart of edge e at its first end is node 2e, that at its second node 2e + 1. Copies share what never
 /// changes: the vertex that each dart leaves, and the first dart and the number of darts of each vertex.
 #[derive(Debug, Drop)]
@@ -50,8 +50,8 @@ impl Rotation {
     /// The rotation system that has at each vertex the cyclic order of the list given for it; a vertex that is not named has
     /// the empty list.
     ///
-    /// Refuses where the lists are no rotation system, with the least number that is a vertex whose list is no arrangement
-    /// of the edges at it, or that is named and no vertex.
+    /// Fails where the lists are not a rotation system, with the least number that is a vertex whose list is not a permutation
+    /// of the edges at it, or that is named and not a vertex. Else fails only if memory runs out.
     pub fn from_lists(alloc: Global, g: &Graph, lists: &Lists) -> Result<Rotation, RotFault>
         ensures arranged { IfOk result (λ _. AreArranged g.now lists.now) }
         ensures orders { IfOk result (λ r. (v : ℕ) → v < g.now.vertex_count
@@ -60,17 +60,15 @@ impl Rotation {
         ensures refused { IfErr result (λ fault. IsRefusal g.now lists.now fault) }
     {
         check_lists(alloc, g, lists)?;
-        match Rotation::of_arranged(alloc, g, lists) {
-            Ok(r) => Ok(r),
-            Err(_) => Err(RotFault::Memory),
-        }
+        let r = Rotation::of_arranged(alloc, g, lists)?;
+        Ok(r)
     }
 
     /// The rotation system of a part of a graph, from lists in the numbers of the whole graph: it has at each vertex of the part
     /// the cyclic order of the list given for it, in the numbers of the part.
     ///
-    /// Refuses where the lists are none, with the least number that is a vertex of the part whose list is no arrangement of its
-    /// edges in the part, or that is named and no vertex of the part.
+    /// Fails where the lists are not one, with the least number that is a vertex of the part whose list is not a permutation of
+    /// its edges in the part, or that is named and not a vertex of the part. Else fails only if memory runs out.
     pub fn from_part(alloc: Global, p: &Part, lists: &Lists) -> Result<Rotation, RotFault>
         ensures arranged { IfOk result (λ _. ArrangePart p.now lists.now) }
         ensures orders { IfOk result (λ r. (i : ℕ) → i < p.now.graph.vertex_count
@@ -78,25 +76,22 @@ impl Rotation {
         ensures system { IfOk result (IsRotationSystem p.now.graph) }
         ensures refused { IfErr result (λ fault. IsPartRefusal p.now lists.now fault) }
     {
-        let Ok(inner) = inner_lists(alloc, p, lists) else {
-            return Err(RotFault::Memory);
-        };
+        let inner = inner_lists(alloc, p, lists)?;
         check_part(alloc, p, lists, &inner)?;
-        match Rotation::of_arranged(alloc, p.graph(), &inner) {
-            Ok(r) => Ok(r),
-            Err(_) => Err(RotFault::Memory),
-        }
+        let r = Rotation::of_arranged(alloc, p.graph(), &inner)?;
+        Ok(r)
     }
 
-    // The rotation system of lists that are known to be one.
-    fn of_arranged(alloc: Global, g: &Graph, lists: &Lists) -> Result<Rotation, AllocError>
+    /// The same of lists that are known to be a rotation system: each vertex's list is a permutation of the edges at it, and
+    /// only vertices are named. Nothing is checked. Fails only if memory runs out.
+    pub fn of_arranged(alloc: Global, g: &Graph, lists: &Lists) -> Result<Rotation, AllocError>
         requires { AreArranged g.now lists.now }
-        ensures vertices { IfOk result (λ r. length r ≡ g.now.vertex_count) }
         ensures orders { IfOk result (λ r. (v : ℕ) → v < g.now.vertex_count
             → order_at r v ≡ given_order g.now lists.now v) }
+        ensures system { IfOk result (IsRotationSystem g.now) }
     {
         let tails = tails_of(alloc, g)?;
-        let mut nodes = Rings::new(alloc, 2 * g.edge_count())?;
+        let mut nodes = Rings::new(alloc, dart_count(g))?;
         let mut rings = Vec::with_capacity(alloc, g.vertex_count() as usize)?;
         let mut at = 0;
         for v in 0..g.vertex_count() {
@@ -116,7 +111,7 @@ impl Rotation {
         self.frame.rings.len() as u32
     }
 
-    /// The edge that follows edge `e` round `v`.
+    /// The edge that follows edge `e` around `v`.
     pub fn succ(&self, v: u32, e: u32) -> u32
         requires { Contains (order_at self.now v) e }
         ensures { result ≡ successor (order_at self.now v) e }
@@ -125,7 +120,7 @@ impl Rotation {
         self.nodes.next(dart) / 2
     }
 
-    /// The edge that edge `e` follows round `v`.
+    /// The edge that edge `e` follows around `v`.
     pub fn pred(&self, v: u32, e: u32) -> u32
         requires { Contains (order_at self.now v) e }
         ensures { result ≡ predecessor (order_at self.now v) e }
@@ -134,7 +129,7 @@ impl Rotation {
         self.nodes.prev(dart) / 2
     }
 
-    /// The edges round `v` in cyclic order, from the least on.
+    /// The edges around `v` in cyclic order, from the least on.
     pub fn list(&self, v: u32) -> RotIter<'_>
         requires { v < length self.now }
         ensures { result ≡ order_at self.now v }
@@ -143,9 +138,9 @@ impl Rotation {
         RotIter::from(&self.nodes, ring.first, ring.degree)
     }
 
-    /// The rings on which it is kept, with two nodes for each edge e, 2e and 2e + 1: one stands at each of its ends.
+    /// The rings on which it is kept, with two nodes for each edge e, 2e and 2e + 1, one at each of its ends.
     ///
-    /// Round each vertex the node behind that of an edge is that of the edge which follows it there. Node 2e stands at the end
+    /// Around each vertex the node after that of an edge is that of the edge which follows it there. Node 2e is at the end
     /// that the graph names first; this the contract can't say, since the cyclic orders are also those of the graph in which the
     /// two ends of e have changed places. It says that the two nodes leave the two ends, one each, of whatever graph the value
     /// is a rotation system of.
@@ -155,7 +150,7 @@ impl Rotation {
         &self.nodes
     }
 
-    /// Takes the run of edges from `first` to `last` round `v` out, and puts it behind `after`, which is not in it. Takes constant
+    /// Takes the run of edges from `first` to `last` around `v` out, and inserts it after `after`, which is not in it. Takes constant
     /// time and no memory.
     pub fn move_run(&mut self, v: u32, first: u32, last: u32, after: u32)
         requires { IsOutside (order_at self.old v) first last after }
@@ -169,7 +164,7 @@ impl Rotation {
         self.nodes.exchange(place, back);
     }
 
-    /// Reverses the run of edges from `first` to `last` round `v` in its place, in as many steps as it has edges; it is all of
+    /// Reverses the run of edges from `first` to `last` around `v` in its place, in as many steps as it has edges; it is all of
     /// them where `first` follows `last`. Takes no memory.
     pub fn turn_run(&mut self, v: u32, first: u32, last: u32)
         requires first { Contains (order_at self.old v) first }
@@ -177,7 +172,7 @@ impl Rotation {
         ensures turned { IsRunTurned (order_at self.old v) (order_at self.new v) first last }
         ensures elsewhere { IsKeptElsewhere self.old self.new v }
     {
-        let _ = self.nodes.len();
+        self.nodes.keeps_rings();
         let edge_before = self.pred(v, first);
         let head = dart_at(&self.frame.tails, v, first);
         if edge_before == last {
@@ -191,7 +186,7 @@ impl Rotation {
         self.nodes.exchange(before, head);
     }
 
-    /// Reverses the cyclic order of each vertex: the drawing is seen from the other side. Takes no memory.
+    /// Reverses the cyclic order of each vertex: the drawing viewed from the other side. Takes no memory.
     pub fn mirror(&mut self)
         ensures { self.new ≡ mirror_image self.old }
     {
@@ -207,14 +202,14 @@ impl Rotation {
         ensures turned { order_at self.new v ≡ from_least (reverse (order_at self.old v)) }
         ensures elsewhere { IsKeptElsewhere self.old self.new v }
     {
-        let _ = self.nodes.len();
+        self.nodes.keeps_rings();
         let ring = self.frame.rings[v as usize];
         if ring.degree > 0 {
             self.nodes.reverse(ring.first);
         }
     }
 
-    /// The same rotation system once more.
+    /// A copy. Fails only if memory runs out.
     pub fn copy(&self, alloc: Global) -> Result<Rotation, AllocError>
         ensures { IfOk result (λ r. r ≡ self.now) }
     {
@@ -223,7 +218,7 @@ impl Rotation {
         Ok(Rotation { nodes, frame })
     }
 
-    /// Whether the other has as many vertices and the same cyclic order at each.
+    /// Whether the other has equally many vertices and the same cyclic order at each.
     pub fn same(&self, other: &Rotation) -> bool
         ensures { IsTrue result ↔ (self.now ≡ other.now) }
     {

@@ -12,6 +12,6 @@ returns-clause-ends c = ends-sorted c.args.graph.now c.args.edges.now c.in_ok-ve
 -- and few, as vertices
 pub returns-clause-few : goal.returns-clause-few
 returns-clause-few c =
-    ends-few c.args.graph.now c.args.edges.now c.dedup.new.self.items c.vertex_count.ensures.graph c.vertex_count.ensures.limits
+    ends-few c.args.graph.now c.args.edges.now c.dedup.new.self.items c.keeps_limits.ensures.graph c.keeps_limits.ensures.limits
     (once-rises c.sort_unstable.new.self.items c.dedup.new.self.items c.sort_unstable.ensures.sorted c.dedup.ensures.filtered)
     (ends-sorted c.args.graph.now c.args.edges.now c.in_ok-vertices.vertices.items c.sort_unstable.new.self.items c.dedup.new.self.items c.in_ok-vertices.ensures c.sort_unstable.ensures.permutation c.dedup.ensures.filtered)

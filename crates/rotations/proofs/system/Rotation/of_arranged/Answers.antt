@@ -1,10 +1,10 @@
 use Rattle.std.proofs.Common.{◌≡◌, ℕ, ◌<◌, true, List, get_or, sym, subst, arith}
 use Rattle.permutations.specs.Members.{is_member}
 use Rattle.rotations.specs.Given.{given_order}
-use Rattle.rotations.specs.Rotation.{order_at}
+use Rattle.rotations.specs.Rotation.{order_at, IsRotationSystem}
 use Rattle.rotations.specs.Rings.{dart_at, orders, StandRound, AreRings}
 use Rattle.rotations.specs.declared.rings.Frame.{Frame}
-use Rattle.rotations.proofs.Stages.{AreBuilt, given-round, built-alone, built-step, built-rings, built-orders}
+use Rattle.rotations.proofs.Stages.{AreBuilt, given-round, built-alone, built-step, built-rings, built-orders, built-system}
 use Rattle.rotations.proofs.system.Rotation.of_arranged.Goals as goal
 
 -- the list given for the vertex stands round it
@@ -44,4 +44,10 @@ pub returns-clause-orders : goal.returns-clause-orders
 returns-clause-orders c =
     subst (λ (f : Frame). (v : ℕ) → v < c.args.g.now.vertex_count → order_at (orders c.loop-v.nodes.next f.rings.items) v ≡ given_order c.args.g.now c.args.lists.now v) (sym c.in_ok-frame.ensures.ok)
     (built-orders c.args.g.now c.args.lists.now c.in_ok-tails.tails.items c.loop-v.nodes c.loop-v.rings.items c.requires c.in_ok-tails.ensures
+    (subst (λ (v : ℕ). AreBuilt c.args.g.now c.args.lists.now c.in_ok-tails.tails.items c.loop-v.nodes c.loop-v.rings.items v) (omega (arith, c.loop-v-test.false, c.loop-v.auto.v-end, c.vertex_count-v-end.ensures.value)) c.loop-v.invariant.built))
+
+pub returns-clause-system : goal.returns-clause-system
+returns-clause-system c =
+    subst (λ (f : Frame). IsRotationSystem c.args.g.now (orders c.loop-v.nodes.next f.rings.items)) (sym c.in_ok-frame.ensures.ok)
+    (built-system c.args.g.now c.args.lists.now c.in_ok-tails.tails.items c.loop-v.nodes c.loop-v.rings.items c.requires c.in_ok-tails.ensures
     (subst (λ (v : ℕ). AreBuilt c.args.g.now c.args.lists.now c.in_ok-tails.tails.items c.loop-v.nodes c.loop-v.rings.items v) (omega (arith, c.loop-v-test.false, c.loop-v.auto.v-end, c.vertex_count-v-end.ensures.value)) c.loop-v.invariant.built))

@@ -59,31 +59,31 @@ exchange-requires-2-clause-second c = omega (
 -- the run is the whole round: one reversal
 pub invariant_of-self : goal.invariant_of-self
 invariant_of-self c = (call-whole c.self.inside.frame.value.tails.items c.self.inside.nodes c.self.inside.frame.value.rings.items c.self.invariant c.args.self.now c.self.view_is c.args.v c.args.first c.args.last c.pred-edge_before.result c.dart_at-head.result c.deref-2.result.now c.reverse.new.self
-    (c.deref-2.ensures.value ∙ ap (λ (f : Frame). f.tails.items) c.deref.ensures) c.dart_at-head.ensures c.len.ensures.inverse c.requires.first c.requires.last c.pred-edge_before.ensures c.if-edge_before-last.true c.reverse.ensures).kept
+    (c.deref-2.ensures.value ∙ ap (λ (f : Frame). f.tails.items) c.deref.ensures) c.dart_at-head.ensures c.keeps_rings.ensures c.requires.first c.requires.last c.pred-edge_before.ensures c.if-edge_before-last.true c.reverse.ensures).kept
 
 pub returns-then-edge_before-last-clause-turned : goal.returns-then-edge_before-last-clause-turned
 returns-then-edge_before-last-clause-turned c = (call-whole c.self.inside.frame.value.tails.items c.self.inside.nodes c.self.inside.frame.value.rings.items c.self.invariant c.args.self.now c.self.view_is c.args.v c.args.first c.args.last c.pred-edge_before.result c.dart_at-head.result c.deref-2.result.now c.reverse.new.self
-    (c.deref-2.ensures.value ∙ ap (λ (f : Frame). f.tails.items) c.deref.ensures) c.dart_at-head.ensures c.len.ensures.inverse c.requires.first c.requires.last c.pred-edge_before.ensures c.if-edge_before-last.true c.reverse.ensures).turned
+    (c.deref-2.ensures.value ∙ ap (λ (f : Frame). f.tails.items) c.deref.ensures) c.dart_at-head.ensures c.keeps_rings.ensures c.requires.first c.requires.last c.pred-edge_before.ensures c.if-edge_before-last.true c.reverse.ensures).turned
 
 pub returns-then-edge_before-last-clause-elsewhere : goal.returns-then-edge_before-last-clause-elsewhere
 returns-then-edge_before-last-clause-elsewhere c = (call-whole c.self.inside.frame.value.tails.items c.self.inside.nodes c.self.inside.frame.value.rings.items c.self.invariant c.args.self.now c.self.view_is c.args.v c.args.first c.args.last c.pred-edge_before.result c.dart_at-head.result c.deref-2.result.now c.reverse.new.self
-    (c.deref-2.ensures.value ∙ ap (λ (f : Frame). f.tails.items) c.deref.ensures) c.dart_at-head.ensures c.len.ensures.inverse c.requires.first c.requires.last c.pred-edge_before.ensures c.if-edge_before-last.true c.reverse.ensures).elsewhere
+    (c.deref-2.ensures.value ∙ ap (λ (f : Frame). f.tails.items) c.deref.ensures) c.dart_at-head.ensures c.keeps_rings.ensures c.requires.first c.requires.last c.pred-edge_before.ensures c.if-edge_before-last.true c.reverse.ensures).elsewhere
 
 -- other edges are left: the run is cut out, reversed and spliced in
 pub invariant_of-self-2 : goal.invariant_of-self-2
 invariant_of-self-2 c = (call-turned c.self.inside.frame.value.tails.items c.self.inside.nodes c.self.inside.frame.value.rings.items c.self.invariant c.args.self.now c.self.view_is c.args.v c.args.first c.args.last c.pred-edge_before.result
     c.dart_at-before.result c.dart_at-end.result c.dart_at-head.result c.deref-4.result.now c.deref-6.result.now c.deref-2.result.now c.exchange.new.self c.reverse-2.new.self c.exchange-2.new.self
     (c.deref-4.ensures.value ∙ ap (λ (f : Frame). f.tails.items) c.deref-3.ensures) (c.deref-6.ensures.value ∙ ap (λ (f : Frame). f.tails.items) c.deref-5.ensures) (c.deref-2.ensures.value ∙ ap (λ (f : Frame). f.tails.items) c.deref.ensures) c.dart_at-before.ensures c.dart_at-end.ensures c.dart_at-head.ensures
-    c.len.ensures.inverse c.requires.first c.requires.last c.pred-edge_before.ensures c.if-edge_before-last.false c.exchange.ensures c.reverse-2.ensures c.exchange-2.ensures).kept
+    c.keeps_rings.ensures c.requires.first c.requires.last c.pred-edge_before.ensures c.if-edge_before-last.false c.exchange.ensures c.reverse-2.ensures c.exchange-2.ensures).kept
 
 pub returns-clause-turned : goal.returns-clause-turned
 returns-clause-turned c = (call-turned c.self.inside.frame.value.tails.items c.self.inside.nodes c.self.inside.frame.value.rings.items c.self.invariant c.args.self.now c.self.view_is c.args.v c.args.first c.args.last c.pred-edge_before.result
     c.dart_at-before.result c.dart_at-end.result c.dart_at-head.result c.deref-4.result.now c.deref-6.result.now c.deref-2.result.now c.exchange.new.self c.reverse-2.new.self c.exchange-2.new.self
     (c.deref-4.ensures.value ∙ ap (λ (f : Frame). f.tails.items) c.deref-3.ensures) (c.deref-6.ensures.value ∙ ap (λ (f : Frame). f.tails.items) c.deref-5.ensures) (c.deref-2.ensures.value ∙ ap (λ (f : Frame). f.tails.items) c.deref.ensures) c.dart_at-before.ensures c.dart_at-end.ensures c.dart_at-head.ensures
-    c.len.ensures.inverse c.requires.first c.requires.last c.pred-edge_before.ensures c.if-edge_before-last.false c.exchange.ensures c.reverse-2.ensures c.exchange-2.ensures).turned
+    c.keeps_rings.ensures c.requires.first c.requires.last c.pred-edge_before.ensures c.if-edge_before-last.false c.exchange.ensures c.reverse-2.ensures c.exchange-2.ensures).turned
 
 pub returns-clause-elsewhere : goal.returns-clause-elsewhere
 returns-clause-elsewhere c = (call-turned c.self.inside.frame.value.tails.items c.self.inside.nodes c.self.inside.frame.value.rings.items c.self.invariant c.args.self.now c.self.view_is c.args.v c.args.first c.args.last c.pred-edge_before.result
     c.dart_at-before.result c.dart_at-end.result c.dart_at-head.result c.deref-4.result.now c.deref-6.result.now c.deref-2.result.now c.exchange.new.self c.reverse-2.new.self c.exchange-2.new.self
     (c.deref-4.ensures.value ∙ ap (λ (f : Frame). f.tails.items) c.deref-3.ensures) (c.deref-6.ensures.value ∙ ap (λ (f : Frame). f.tails.items) c.deref-5.ensures) (c.deref-2.ensures.value ∙ ap (λ (f : Frame). f.tails.items) c.deref.ensures) c.dart_at-before.ensures c.dart_at-end.ensures c.dart_at-head.ensures
-    c.len.ensures.inverse c.requires.first c.requires.last c.pred-edge_before.ensures c.if-edge_before-last.false c.exchange.ensures c.reverse-2.ensures c.exchange-2.ensures).elsewhere
+    c.keeps_rings.ensures c.requires.first c.requires.last c.pred-edge_before.ensures c.if-edge_before-last.false c.exchange.ensures c.reverse-2.ensures c.exchange-2.ensures).elsewhere

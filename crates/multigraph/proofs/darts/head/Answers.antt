@@ -1,5 +1,5 @@
 use Rattle.multigraph.specs.Graph.{edge_count}
-use Rattle.faces.proofs.darts.head.Goals as goal
+use Rattle.multigraph.proofs.darts.head.Goals as goal
 
 pub tail-requires : goal.tail-requires
 tail-requires c = c.twin.ensures.within (edge_count c.args.graph.now) c.requires
