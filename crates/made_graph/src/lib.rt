@@ -11,8 +11,6 @@
 // after the other, which keeps Euler's sum; and a subdivided edge contracts to the old one.
 //
 // The lemmas that are used most (module of proofs/ in front):
-//   Extended      extended-told, put-told: a map with one more edge, and a dart put in, by labels of the darts
-//   Drawn         IsDrawn, hang, cross: a graph drawn with an edge to a new vertex, and with one between corners of a face
 //   Subdivided    subdivide; Grown double-drawn, path-drawn, tetrahedron-drawn: what the operations make of a drawn graph
 //   Rounds        two-cycle, three-cycle, four-cycle, kept-cycle; Added added-block, half-block: one block stays one
 //   Growth        made-planar, made-size, made-turn, within-over: turn by turn

@@ -3,9 +3,9 @@
 -- graphs by.
 use Rattle.std.specs.Prelude.{◌≡◌, ◌≢◌, ℕ, zero, suc, ◌+◌, ◌<◌, ◌≤◌, ◌↔◌, ◌⊎◌, Bool, true, false, nat_lt, if◌then◌else◌, List, [], length, Option, None, Some, slice_index, slice_index_or}
 use Rattle.permutations.specs.Members.{is_member, is_distinct}
-use Rattle.permutations.specs.Relation.{connected}
 use Rattle.multigraph.specs.Graph.{Multigraph, edge_count, is_end, other_end}
 use Rattle.graph_theory.specs.Block.{IsOneBlock}
+pub use Rattle.graph_theory.specs.Connected.{IsConnected}
 
 -- for each vertex its number, its parent, its two low points and its darts in order; for each edge whether it is a frond
 pub record PalmTreeLists : Type 0 where
@@ -15,10 +15,6 @@ pub record PalmTreeLists : Type 0 where
   pub low1 : List ℕ
   pub low2 : List ℕ
   pub darts : List (List ℕ)
-
--- the graph is connected: edges connect any two vertices. So it is of a graph with no vertex
-abbrev pub IsConnected : Multigraph → Type 0
-IsConnected g = (u v : ℕ) → u < g.vertex_count → v < g.vertex_count → connected g.ends u v ≡ true
 
 -- the number of vertex v
 abbrev pub number_of : PalmTreeLists → ℕ → ℕ

@@ -13,19 +13,8 @@ use Rattle.dart_maps.proofs.Insert.{first-defect, insert-defect}
 use Rattle.multigraph.specs.Graph.{Multigraph, edge_count, ends_of}
 use Rattle.faces.specs.Euler.{tail}
 use Rattle.faces.proofs.DartLemmas.{tail-first, tail-second}
-use Rattle.made_graph.proofs.Extended.{extended, extended-below, extended-above, extended-map, extended-plane, extended-face, extended-told, AreTold, IsLone, put-told}
-
--- the map is plane, and its vertices are those of the graph
-pub record IsDrawn (m : ℕ) (g : Multigraph) (f b : ℕ → ℕ) : Type 0 where
-  pub edges : edge_count g ≡ m
-  pub map : IsMap m f b
-  pub plane : IsPlane m f
-  pub told : AreTold (2 * m) f (tail g)
-  pub inside : (d : ℕ) → d < 2 * m → tail g d < g.vertex_count
-
--- the graph with so many vertices and one edge more
-abbrev pub with_edge : Multigraph → ℕ → ℕ × ℕ → Multigraph
-with_edge g n link = record { vertex_count = n; ends = g.ends ++ link ∷ [] }
+use Rattle.drawn_maps.proofs.Extended.{extended-below, extended-above, extended-map, extended-plane, extended-face, extended-told, IsLone, put-told}
+pub use Rattle.drawn_maps.specs.Drawn.{AreTold, IsDrawn, with_edge, extended, hung, joined}
 
 -- one edge more
 pub more-edges : (m : ℕ) (g : Multigraph) (n : ℕ) (link : ℕ × ℕ) → edge_count g ≡ m → edge_count (with_edge g n link) ≡ m + 1
@@ -57,14 +46,6 @@ dart-cases m d l = elim (cases_lt d (2 * m)) [
   | inl k ↦ inl k
   | inr k ↦ elim (cases_eq d (2 * m)) [ inl e ↦ inr (inl e) | inr n ↦ inr (inr (omega (arith, l, k, n))) ]
 ]
-
--- the map with a new edge whose first dart stands behind p, and whose second is alone
-abbrev pub hung : ℕ → ℕ → (ℕ → ℕ) → ℕ → ℕ
-hung m p f = exchange p (2 * m) (extended m f)
-
--- and the map in which the second stands behind q
-abbrev pub joined : ℕ → ℕ → ℕ → (ℕ → ℕ) → ℕ → ℕ
-joined m p q f = exchange q (2 * m + 1) (hung m p f)
 
 -- the inverses
 abbrev pub hung_back : ℕ → ℕ → (ℕ → ℕ) → ℕ → ℕ

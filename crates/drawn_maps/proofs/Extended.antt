@@ -1,4 +1,4 @@
--- A map with one more edge, whose darts are alone, and a lone dart put in behind another one.
+-- A map with one more edge, whose darts are alone, and a lone dart put in after another one.
 use Rattle.std.proofs.Common.{◌≡◌, ℕ, ◌+◌, ◌*◌, ◌<◌, ◌≤◌, inl, inr, Bool, true, false, ◌||◌, ◌&&◌, cond, ltb, ◌==◌, refl, sym, ap, ◌∙◌, subst, arith}
 use Rattle.std.proofs.lemmas.Bool.{lt-ltb, le-ltb, ltb-true, ltb-false, cases_eq, cases_lt, eqb-true, eq-eqb, ne_eqb, false_from_ne_true}
 use Rattle.permutations.specs.Relation.{IsEquivalence, join}
@@ -11,10 +11,7 @@ use Rattle.dart_maps.specs.Map.{twin, face, IsMap, IsPlane, same_face}
 use Rattle.dart_maps.specs.Renumbering.{IsRenumbering}
 use Rattle.dart_maps.proofs.Darts.{twin-below, twin-twin}
 use Rattle.dart_maps.proofs.Renumber.{renumber-plane}
-
--- the map with one edge more
-abbrev pub extended : ℕ → (ℕ → ℕ) → ℕ → ℕ
-extended m f d = cond (ltb d (2 * m)) (f d) d
+pub use Rattle.drawn_maps.specs.Drawn.{AreTold, extended}
 
 -- the old darts are followed as before
 pub extended-below : (m : ℕ) (f : ℕ → ℕ) (d : ℕ) → d < 2 * m → extended m f d ≡ f d
@@ -93,10 +90,6 @@ extended-face m f = orbit-least (2 * m) (face f) (same_face (m + 1) (extended m 
     here : (z : ℕ) → z < 2 * m → same_face (m + 1) (extended m f) z (face f z) ≡ true
     here z k = subst (λ w. same_face (m + 1) (extended m f) z w ≡ true) (extended-below m f (twin z) (twin-below m z k)) (orbit-step (2 * (m + 1)) (face (extended m f)) z (omega (arith, k)))
 
--- two numbers below n are in one orbit exactly where they have the same label
-abbrev pub AreTold : ℕ → (ℕ → ℕ) → (ℕ → ℕ) → Type 0
-AreTold n f label = (c d : ℕ) → c < n → d < n → same_orbit n f c d ≡ (label c == label d)
-
 -- no other number below n has the label of x
 abbrev pub IsLone : ℕ → (ℕ → ℕ) → ℕ → Type 0
 IsLone n label x = (d : ℕ) → d < n → (d ≡ x → ⊥) → label d ≡ label x → ⊥
@@ -131,12 +124,12 @@ extended-told m f g b label t u v c d l k = extended-orbit m f c d ∙ elim (cas
           | inr n ↦ let e : 2 * m + 1 ≡ y = omega (arith, n, k, j) in subst (IsLone (2 * (m + 1)) label) e v
         ]
 
--- the lone x put in behind p: it has the label of p
+-- the lone x put in after p: it has the label of p
 pub put-told : (n : ℕ) (f g : ℕ → ℕ) → Permutes n f g → (p x : ℕ) → p < n → x < n → (p ≡ x → ⊥) → (label new : ℕ → ℕ) → AreTold n f label → IsLone n label x → new x ≡ label p → ((d : ℕ) → d < n → (d ≡ x → ⊥) → new d ≡ label d) → AreTold n (exchange p x f) new
 put-told n f g b p x lp lx px label new t u here others c d lc ld =
     exchange-join n f g b p x lp lx (t p x lp lx ∙ ne_eqb (label p) (label x) (u p lp px)) c d ∙ joined
   where
-    -- seen from x, whatever is below n
+    -- no other number below n has the label of x
     from_x : (d : ℕ) → d < n → (d ≡ x → ⊥) → (label d == label x) ≡ false
     from_x d l n = ne_eqb (label d) (label x) (u d l n)
 

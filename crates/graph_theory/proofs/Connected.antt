@@ -1,5 +1,6 @@
--- A graph that is one block is connected.
-use Rattle.std.proofs.Common.{◌≡◌, ℕ, ◌<◌, inl, inr, true, ◌==◌, List, [], ◌∷◌, sym, subst}
+-- Connected graphs: a graph without removed vertices, and a graph that is one block.
+use Rattle.std.proofs.Common.{◌≡◌, ℕ, ◌<◌, inl, inr, true, ◌==◌, List, [], ◌∷◌, refl, sym, ap, subst}
+use Rattle.std.specs.List.{filter}
 use Rattle.std.proofs.lemmas.Bool.{eqb-true, or_cases, true≢false}
 use Rattle.permutations.specs.Members.{is_member}
 use Rattle.permutations.specs.Relation.{connected}
@@ -7,9 +8,23 @@ use Rattle.permutations.proofs.Relation.{connected-reflexive, connected-symmetri
 use Rattle.multigraph.specs.Graph.{Multigraph, edge_count, ends_of, is_end, other_end}
 use Rattle.multigraph.proofs.OtherEnd.{is_end-cases}
 use Rattle.graph_theory.specs.Path.{IsWalk}
+use Rattle.graph_theory.specs.Connected.{IsConnected}
+use Rattle.graph_theory.specs.Triconnected.{avoids, IsConnectedWithout}
 use Rattle.graph_theory.specs.Block.{IsOneBlock, SameBlock}
 use Rattle.graph_theory.proofs.Connection.{ends-connected, other-connected}
-use Rattle.palm_tree.specs.PalmTree.{IsConnected}
+
+-- where nothing is removed every link is left
+avoids-none : (links : List (ℕ × ℕ)) → filter (avoids []) links ≡ links
+avoids-none [] = refl
+avoids-none (link ∷ links) = ap (λ (l : List (ℕ × ℕ)). link ∷ l) (avoids-none links)
+
+-- connected without the removal of any vertex is connected
+pub without_none-connected : (g : Multigraph) → IsConnectedWithout g [] → IsConnected g
+without_none-connected g c u v a b = subst (λ (links : List (ℕ × ℕ)). connected links u v ≡ true) (avoids-none g.ends) (c u v a b refl refl)
+
+-- and the converse
+pub connected-without_none : (g : Multigraph) → IsConnected g → IsConnectedWithout g []
+connected-without_none g c u v a b m n = subst (λ (links : List (ℕ × ℕ)). connected links u v ≡ true) (sym (avoids-none g.ends)) (c u v a b)
 
 -- each end of an edge is connected with its first end
 end-first : (g : Multigraph) (e z : ℕ) → e < edge_count g → is_end g z e ≡ true → connected g.ends z (ends_of g e).0 ≡ true
@@ -26,6 +41,7 @@ walk-first g x (h ∷ es) w e m = elim (or_cases (h == e) (is_member e es) m) [
   | inr r ↦ connected-transitive g.ends x (other_end g h x) (ends_of g e).0 (other-connected g h x w.0.0 w.0.1) (walk-first g (other_end g h x) es w.1 e r)
 ]
 
+-- a graph that is one block is connected
 pub block-connected : (g : Multigraph) → IsOneBlock g → IsConnected g
 block-connected g block u v a b =
     let e = block.at_edge u a in
