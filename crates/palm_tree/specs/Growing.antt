@@ -5,30 +5,9 @@ use Rattle.permutations.specs.Count.{sum_below}
 use Rattle.graph_theory.specs.SearchTree.{IsBelow}
 use Rattle.permutations.specs.Members.{is_member, is_distinct}
 use Rattle.multigraph.specs.Graph.{Multigraph, edge_count, other_end}
-use Rattle.blocks.specs.Forest.{ForestState}
+pub use Rattle.search_forest.specs.Forest.{ForestState, is_tree_edge, upper_end, parent_at}
+pub use Rattle.search_forest.specs.Low.{LowVertices, taken, Tells, LeadsFrom, IsTaken, AreLowSoFar, AreLowVertices, CanTake}
 use Rattle.palm_tree.specs.PalmTree.{PalmTreeLists}
-
--- whether e is the parent edge of its lower end
-abbrev pub is_tree_edge : ForestState → ℕ → Bool
-is_tree_edge s e = slice_index s.parent_edge (slice_index s.lower e) == e
-
--- the end of e that is not its lower one
-abbrev pub upper_end : Multigraph → ForestState → ℕ → ℕ
-upper_end g s e = other_end g e (slice_index s.lower e)
-
--- for each vertex two vertices, at its two low points
-pub record LowVertices : Type 0 where
-  pub first : List ℕ
-  pub second : List ℕ
-
--- x is taken into account at v: vertices count by their depths
-abbrev pub taken : List ℕ → LowVertices → ℕ → ℕ → LowVertices
-taken depth low v x =
-    (if nat_lt (slice_index depth x) (slice_index depth (slice_index low.first v))
-    then record { first = slice_set low.first v x; second = slice_set low.second v (slice_index low.first v) }
-    else (if nat_lt (slice_index depth (slice_index low.first v)) (slice_index depth x) && nat_lt (slice_index depth x) (slice_index depth (slice_index low.second v))
-    then record { first = low.first; second = slice_set low.second v x }
-    else low))
 
 -- the vertex that the dart e leads to: for a parent edge the first low vertex of the child, for a frond the upper end
 abbrev pub vertex_reached : Multigraph → ForestState → LowVertices → ℕ → ℕ
@@ -59,11 +38,6 @@ tree_key s low c p =
 abbrev pub hangs : LowVertices → ℕ → Bool
 hangs low v = slice_index low.first v == v
 
--- the list tells f of each number below k
-pub record Tells {A : Type 0} (d : A) (f : ℕ → A) (k : ℕ) (l : List A) : Type 0 where
-  pub places : length l ≡ k
-  pub at : (j : ℕ) → j < k → slice_index_or l j d ≡ f j
-
 -- the edges below m, each once, such that their keys do not fall
 pub record IsSortedByKeys (m : ℕ) (key : ℕ → ℕ) (l : List ℕ) : Type 0 where
   pub distinct : is_distinct l ≡ true
@@ -82,35 +56,6 @@ with_child s low hanging e children =
     (if is_tree_edge s e && beq (hangs low (slice_index s.lower e)) hanging
     then children ++ slice_index s.lower e ∷ []
     else children)
-
--- a frond whose lower end is v or a descendant of v leads to x
-pub record LeadsFrom (g : Multigraph) (s : ForestState) (v x : ℕ) : Type 0 where
-  pub edge : ℕ
-  pub edge_in : edge < edge_count g
-  pub frond : is_tree_edge s edge ≡ false
-  pub below : IsBelow (slice_index s.parent) (slice_index s.depth) v (slice_index s.lower edge)
-  pub upper : upper_end g s edge ≡ x
-
--- x was taken into account at v: the first low vertex is no deeper, and the second neither but where x is as deep as the first
-pub record IsTaken (depth : List ℕ) (low : LowVertices) (v x : ℕ) : Type 0 where
-  pub first : slice_index depth (slice_index low.first v) ≤ slice_index depth x
-  pub second : (slice_index depth x ≡ slice_index depth (slice_index low.first v)) ⊎ (slice_index depth (slice_index low.second v) ≤ slice_index depth x)
-
--- the two low vertices are right for the fronds below k, and for what these vertices handed on to their parents
-pub record AreLowSoFar (g : Multigraph) (s : ForestState) (low : LowVertices) (k : ℕ) (handed : List ℕ) : Type 0 where
-  pub first_places : length low.first ≡ g.vertex_count
-  pub second_places : length low.second ≡ g.vertex_count
-  pub first_among : (v : ℕ) → v < g.vertex_count → (slice_index low.first v ≡ v) ⊎ LeadsFrom g s v (slice_index low.first v)
-  pub second_among : (v : ℕ) → v < g.vertex_count → (slice_index low.second v ≡ v) ⊎ LeadsFrom g s v (slice_index low.second v)
-  pub apart : (v : ℕ) → v < g.vertex_count → ((slice_index low.first v ≡ v) × (slice_index low.second v ≡ v)) ⊎ (slice_index s.depth (slice_index low.first v) < slice_index s.depth (slice_index low.second v))
-  pub own : (v : ℕ) → v < g.vertex_count → slice_index s.depth (slice_index low.second v) ≤ slice_index s.depth v
-  pub fronds : (e : ℕ) → e < k → e < edge_count g → is_tree_edge s e ≡ false → IsTaken s.depth low (slice_index s.lower e) (upper_end g s e)
-  pub first_handed : (v : ℕ) → is_member v handed ≡ true → 0 < slice_index s.depth v → IsTaken s.depth low (slice_index s.parent v) (slice_index low.first v)
-  pub second_handed : (v : ℕ) → is_member v handed ≡ true → 0 < slice_index s.depth v → IsTaken s.depth low (slice_index s.parent v) (slice_index low.second v)
-
--- the two low vertices of each vertex, when all was handed on
-abbrev pub AreLowVertices : Multigraph → ForestState → LowVertices → Type 0
-AreLowVertices g s low = AreLowSoFar g s low (edge_count g) s.order
 
 -- whether c is a child of q
 abbrev pub is_child : ForestState → ℕ → ℕ → Bool
@@ -198,10 +143,6 @@ pub record AreOffsets (g : Multigraph) (s : ForestState) (size children offset :
   pub covers : (q x : ℕ) → q < g.vertex_count → x + 1 < slice_index size q → (c : ℕ) × (is_member c children ≡ true) × (slice_index s.parent c ≡ q) × (slice_index offset c ≤ x) × (x < slice_index offset c + slice_index size c)
   pub follow : (c d : ℕ) → IsBefore children c d → slice_index s.parent c ≡ slice_index s.parent d → slice_index offset c + slice_index size c ≤ slice_index offset d
 
--- the parent of v, where v isn't the root
-abbrev pub parent_at : ForestState → ℕ → Option ℕ
-parent_at s v = (if nat_lt 0 (slice_index s.depth v) then Some (slice_index s.parent v) else None)
-
 -- the lists hold, for each vertex, those of these edges that begin there as darts, in their order
 pub record AreListsOf (g : Multigraph) (s : ForestState) (edges : List ℕ) (lists : List (List ℕ)) : Type 0 where
   pub places : length lists ≡ g.vertex_count
@@ -233,11 +174,3 @@ pub record AreNumbered (g : Multigraph) (s : ForestState) (low : LowVertices) (e
   pub sizes : AreSizes g s size
   pub offsets : AreOffsets g s size (numbering_order s low edges) offset
   pub numbers : AreNumbersSoFar g s size offset s.order number
-
--- v and x have places where x is to be taken into account at v
-pub record CanTake (depth : List ℕ) (low : LowVertices) (v x : ℕ) : Type 0 where
-  pub first_within : v < length low.first
-  pub second_within : v < length low.second
-  pub reached_within : x < length depth
-  pub first_deep : slice_index low.first v < length depth
-  pub second_deep : slice_index low.second v < length depth
