@@ -8,10 +8,11 @@ use Rattle.permutations.proofs.Filter.{filter-member, member-filter_parts, disti
 use Rattle.multigraph.specs.Graph.{Multigraph, edge_count, other_end, IsGraph}
 use Rattle.graph_theory.proofs.Ends.{other-other, end-cases, end-in}
 use Rattle.palm_tree.specs.PalmTree.{PalmTreeLists, parent_of, is_frond, darts_of, Climbs, IsDescendant, IsParentEdge, IsFrondFrom, BeginsAt, IsReached, AreDarts}
-use Rattle.blocks.specs.Forest.{ForestState}
-use Rattle.palm_tree.specs.Searching.{IsOver}
+use Rattle.search_forest.specs.Forest.{ForestState}
+use Rattle.search_forest.specs.Searching.{IsOver}
 use Rattle.palm_tree.specs.Growing.{LowVertices, is_tree_edge, upper_end, begin_of, LeadsFrom, AreFound, AreEdges}
-use Rattle.palm_tree.proofs.Grown.{parent-in, parent-depth, lower-end, lower-in, lower-deep, upper-below, upper-depth, tree-upper, begin-in}
+use Rattle.palm_tree.proofs.Begins.{begin-in}
+use Rattle.search_forest.proofs.Grown.{parent-in, parent-depth, lower-end, lower-in, lower-deep, upper-below, upper-depth, tree-upper}
 use Rattle.palm_tree.proofs.Intervals.{Below, trans, same, up, deeper}
 
 -- the number in an answer

@@ -38,19 +38,19 @@ tree_key s low c p =
 abbrev pub hangs : LowVertices → ℕ → Bool
 hangs low v = slice_index low.first v == v
 
--- the edges below m, each once, such that their keys do not fall
+-- the edges below m, each once, such that their keys do not decrease
 pub record IsSortedByKeys (m : ℕ) (key : ℕ → ℕ) (l : List ℕ) : Type 0 where
   pub distinct : is_distinct l ≡ true
   pub within : (e : ℕ) → is_member e l ≡ true → e < m
   pub each : (e : ℕ) → e < m → is_member e l ≡ true
   pub rising : (i j : ℕ) → i < j → j < length l → key (slice_index l i) ≤ key (slice_index l j)
 
--- of these edges the parent edges whose child hangs, or those whose child does not
+-- of these edges the parent edges whose child is attached by a bridge, or those whose child is not
 abbrev pub tree_edges : ForestState → LowVertices → Bool → List ℕ → List ℕ
 tree_edges s low hanging l = filter (λ e. is_tree_edge s e && beq (hangs low (slice_index s.lower e)) hanging) l
 
--- the children, with the lower end of e behind them where e is the parent edge of a child that
--- hangs, or of one that does not, as is asked
+-- the children, with the lower end of e after them where e is the parent edge of a child that is attached by a bridge,
+-- or of one that is not, as is asked
 abbrev pub with_child : ForestState → LowVertices → Bool → ℕ → List ℕ → List ℕ
 with_child s low hanging e children =
     (if is_tree_edge s e && beq (hangs low (slice_index s.lower e)) hanging
@@ -80,12 +80,12 @@ AreSizes g s size = AreSizesSoFar g s size s.order
 abbrev pub lower_ends : ForestState → List ℕ → List ℕ
 lower_ends s edges = map (slice_index s.lower) edges
 
--- x stands in the list before y
+-- x is in the list before y
 abbrev pub IsBefore : List ℕ → ℕ → ℕ → Type 0
 IsBefore [] x y = ⊥
 IsBefore (z ∷ l) x y = ((z ≡ x) × (is_member y l ≡ true)) ⊎ IsBefore l x y
 
--- each of these vertices but the root has a place behind its parent, such that children of one parent follow one another, in this
+-- each of these vertices but the root has a place after its parent, such that children of one parent follow one another, in this
 -- order, as far as is filled
 pub record AreOffsetsSoFar (g : Multigraph) (s : ForestState) (size : List ℕ) (given : List ℕ) (offset filled : List ℕ) : Type 0 where
   pub offset_places : length offset ≡ g.vertex_count
@@ -99,7 +99,7 @@ pub record AreOffsetsSoFar (g : Multigraph) (s : ForestState) (size : List ℕ) 
 abbrev pub filled_beside : ForestState → List ℕ → ℕ → ℕ
 filled_beside s filled c = slice_index filled (slice_index s.parent c)
 
--- the places, where c has the one behind what is filled below its parent
+-- the places, where c has the one after what is filled below its parent
 abbrev pub place_given : ForestState → List ℕ → List ℕ → ℕ → List ℕ
 place_given s filled offset c = slice_set offset c (filled_beside s filled c)
 
@@ -113,18 +113,18 @@ pub record AreChildren (g : Multigraph) (s : ForestState) (children : List ℕ) 
   pub within : (c : ℕ) → is_member c children ≡ true → (c < g.vertex_count) × (0 < slice_index s.depth c)
   pub each : (c : ℕ) → c < g.vertex_count → 0 < slice_index s.depth c → is_member c children ≡ true
 
--- the number that v has by its place behind its parent
+-- the number that v has by its place after its parent
 abbrev pub number_by_place : ForestState → List ℕ → List ℕ → ℕ → ℕ
 number_by_place s offset number v = slice_index number (slice_index s.parent v) + 1 + slice_index offset v
 
--- the numbers, where v is numbered too: the root 0, another vertex by its place behind its parent
+-- the numbers, where v is numbered too: the root 0, another vertex by its place after its parent
 abbrev pub number_given : ForestState → List ℕ → List ℕ → ℕ → List ℕ
 number_given s offset number v =
     (if nat_lt 0 (slice_index s.depth v)
     then slice_set number v (number_by_place s offset number v)
     else slice_set number v 0)
 
--- these vertices are numbered: the root 0, each other vertex by its place behind its parent
+-- these vertices are numbered: the root 0, each other vertex by its place after its parent
 pub record AreNumbersSoFar (g : Multigraph) (s : ForestState) (size offset done number : List ℕ) : Type 0 where
   pub places : length number ≡ g.vertex_count
   pub root : (v : ℕ) → is_member v done ≡ true → slice_index s.depth v ≡ 0 → slice_index number v ≡ 0
@@ -132,11 +132,11 @@ pub record AreNumbersSoFar (g : Multigraph) (s : ForestState) (size offset done 
   pub few : (v : ℕ) → is_member v done ≡ true → slice_index number v + slice_index size v ≤ g.vertex_count
   pub parent_done : (v : ℕ) → is_member v done ≡ true → 0 < slice_index s.depth v → is_member (slice_index s.parent v) done ≡ true
 
--- the numbers of each vertex but the root, and its descendants, lie among those behind its parent
+-- the numbers of each vertex but the root, and its descendants, lie among those after its parent
 abbrev pub HasRoom : Multigraph → ForestState → List ℕ → List ℕ → Type 0
 HasRoom g s size offset = (c : ℕ) → c < g.vertex_count → 0 < slice_index s.depth c → slice_index offset c + slice_index size c + 1 ≤ slice_index size (slice_index s.parent c)
 
--- the places of these children behind their parents: those of one parent follow one another, in this order, and leave no number out
+-- the places of these children after their parents: those of one parent follow one another, in this order, and leave no number out
 pub record AreOffsets (g : Multigraph) (s : ForestState) (size children offset : List ℕ) : Type 0 where
   pub places : length offset ≡ g.vertex_count
   pub room : HasRoom g s size offset
