@@ -1,16 +1,16 @@
 -- Edges at a vertex whose other ends are connected without it lie on a common cycle.
-use Rattle.std.proofs.Common.{◌≡◌, ◌≢◌, ℕ, ◌<◌, ◌⊎◌, inl, inr, true, false, ◌==◌, List, [], ◌∷◌, ◌++◌, refl, sym, ap, ◌∙◌, subst}
+use Rattle.std.proofs.Common.{◌≡◌, ◌≢◌, ℕ, ◌<◌, ◌⊎◌, inl, inr, true, false, [], ◌∷◌, ◌++◌, refl, sym, ◌∙◌, subst}
 use Rattle.std.proofs.lemmas.Bool.{both_ways, cases_eq, false_from_ne_true, true≢false}
 use Rattle.permutations.specs.Members.{is_member, is_distinct}
 use Rattle.permutations.specs.Relation.{connected}
-use Rattle.permutations.proofs.Members.{member-head, member-tail, member-cases, member-append_left, member-append_right, distinct-cons, no_member-cons}
+use Rattle.permutations.proofs.Members.{member-head, member-cases, member-append_right, distinct-cons, no_member-cons}
 use Rattle.multigraph.specs.Graph.{Multigraph, edge_count, is_end, other_end, IsGraph}
 use Rattle.multigraph.proofs.OtherEnd.{other_end-is_end}
 use Rattle.graph_theory.specs.Path.{walk_vertices, IsPath, PathWithout}
 use Rattle.graph_theory.specs.Block.{CommonCycle, SameBlock}
 use Rattle.graph_theory.specs.Triconnected.{ends_without}
 use Rattle.graph_theory.proofs.Ends.{other-other, other-differs}
-use Rattle.graph_theory.proofs.Walks.{edge-met, last-met}
+use Rattle.graph_theory.proofs.Walks.{edge-met}
 use Rattle.graph_theory.proofs.Paths.{path-cons}
 use Rattle.graph_theory.proofs.Cycles.{cycle_of_paths}
 use Rattle.graph_theory.proofs.Removed.{path-without}
