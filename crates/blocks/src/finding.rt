@@ -31,12 +31,7 @@ fn is_head(search: &Forest, low: &Low, vertex: u32) -> bool
 }
 
 // The marks of the vertices past whose parent nothing leads, and of the roots.
-fn heads(
-    alloc: Global,
-    graph: &Graph,
-    search: &Forest,
-    low: &Low,
-) -> Result<Vec<bool>, AllocError>
+fn heads(alloc: Global, graph: &Graph, search: &Forest, low: &Low) -> Result<Vec<bool>, AllocError>
     requires graph { IsGraph graph.now }
     requires over { IsOver graph.now search.now }
     requires low { AreLowVertices graph.now search.now low.now }
