@@ -5,7 +5,7 @@ use Rattle.std.proofs.lemmas.List.{get_or_append_left, get_or_push}
 use Rattle.search_forest.specs.Forest.{ForestState}
 use Rattle.search_forest.specs.Low.{LowVertices}
 use Rattle.multigraph.specs.Marks.{is_marked}
-use Rattle.blocks.specs.Finding.{low_depth, AreHeads}
+use Rattle.blocks.specs.Finding.{low_depth, AreHeads, AreRoots}
 
 -- a place of a list with one mark more
 marked-place : (marks : List Bool) (k : ℕ) (b : Bool) (v : ℕ) → length marks ≡ k → v < k + 1 → ((v < k) × (is_marked (marks ++ b ∷ []) v ≡ is_marked marks v)) ⊎ ((v ≡ k) × (is_marked (marks ++ b ∷ []) v ≡ b))
@@ -28,5 +28,19 @@ heads-more s low k heads b h raised not_raised = record {
   other = λ v l t. elim (marked-place heads k b v h.places l) [
     | inl a ↦ h.other v a.0 (sym a.1 ∙ t)
     | inr c ↦ subst (λ (z : ℕ). (0 < get_or s.depth z 0) × (low_depth s low z < get_or s.depth (get_or s.parent z 0) 0)) (sym c.0) (not_raised (sym c.1 ∙ t))
+  ];
+}
+
+-- one root more, or none
+pub roots-more : (s : ForestState) (k : ℕ) (roots : List Bool) (b : Bool) → AreRoots s k roots → (b ≡ true → get_or s.depth k 0 ≡ 0) → (b ≡ false → 0 < get_or s.depth k 0) → AreRoots s (k + 1) (roots ++ b ∷ [])
+roots-more s k roots b h is_root other = record {
+  places = omega (arith, length-append roots (b ∷ []), h.places);
+  root = λ v l t. elim (marked-place roots k b v h.places l) [
+    | inl a ↦ h.root v a.0 (sym a.1 ∙ t)
+    | inr c ↦ subst (λ (z : ℕ). get_or s.depth z 0 ≡ 0) (sym c.0) (is_root (sym c.1 ∙ t))
+  ];
+  other = λ v l t. elim (marked-place roots k b v h.places l) [
+    | inl a ↦ h.other v a.0 (sym a.1 ∙ t)
+    | inr c ↦ subst (λ (z : ℕ). 0 < get_or s.depth z 0) (sym c.0) (other (sym c.1 ∙ t))
   ];
 }

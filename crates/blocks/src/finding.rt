@@ -45,6 +45,15 @@ fn heads(alloc: Global, graph: &Graph, search: &Forest, low: &Low) -> Result<Vec
     Ok(heads)
 }
 
+// Whether the vertex is a root.
+fn is_root(search: &Forest, vertex: u32) -> bool
+    requires { vertex < length search.now.depth }
+    ensures root { result ≡ true → slice_index search.now.depth vertex ≡ 0 }
+    ensures other { result ≡ false → 0 < slice_index search.now.depth vertex }
+{
+    search.depth_of(vertex) == 0
+}
+
 // The marks of the roots.
 fn roots(alloc: Global, graph: &Graph, search: &Forest) -> Result<Vec<bool>, AllocError>
     requires { IsOver graph.now search.now }
@@ -52,7 +61,7 @@ fn roots(alloc: Global, graph: &Graph, search: &Forest) -> Result<Vec<bool>, All
 {
     let mut roots = Vec::with_capacity(alloc, graph.vertex_count() as usize)?;
     for vertex in 0..graph.vertex_count() {
-        roots.push(search.depth_of(vertex) == 0)?;
+        roots.push(is_root(search, vertex))?;
     }
     Ok(roots)
 }

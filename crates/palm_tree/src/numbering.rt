@@ -198,8 +198,7 @@ pub(crate) fn numbers<L: Ledger>(
     ensures cost { steps.new ≤ steps.old + graph.now.vertex_count }
     ensures rises { steps.old ≤ steps.new }
 {
-    // The sizes are known to the contract alone.
-    let _ = sizes;
+    let _ = sizes; // for the contract alone
     let mut number = copies(alloc, 0, graph.vertex_count())?;
     for vertex in search.order() {
         steps.tick();

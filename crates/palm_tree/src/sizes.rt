@@ -34,7 +34,8 @@ fn hand_on(sizes: &mut Vec<u32>, graph: &Graph, search: &Forest, vertex: u32, pl
         (drop (place + 1) search.now.order) }
     ensures { AreSizesSoFar graph.now search.now sizes.new.items (drop place search.now.order) }
 {
-    let _ = (graph, place); // for the contract alone
+    let _ = graph; // for the contract alone
+    let _ = place; // for the contract alone
     if search.depth_of(vertex) > 0 {
         add_size(sizes, search.parent_of(vertex), vertex);
     }

@@ -7,7 +7,7 @@ use Rattle.blocks.proofs.finding.heads.Goals as goal
 
 pub is_head-requires-clause-reached_within : goal.is_head-requires-clause-reached_within
 is_head-requires-clause-reached_within c =
-    omega (arith, first-in c.args.graph.now c.requires.graph c.args.search.now c.requires.over c.args.low.now (edge_count c.args.graph.now) c.args.search.now.order c.requires.low c.loop-vertex.vertex (omega (arith, c.loop-vertex-test.true, c.vertex_count-2.ensures.value)), c.requires.over.forest.places.depth)
+    omega (arith, first-in c.args.graph.now c.requires.graph c.args.search.now c.requires.over c.args.low.now (edge_count c.args.graph.now) c.args.search.now.order c.requires.low c.loop-vertex.vertex (omega (arith, c.loop-vertex-test.true, c.vertex_count-vertex-end.ensures.value)), c.requires.over.forest.places.depth)
 
 pub loop-vertex-preserved : goal.loop-vertex-preserved
 loop-vertex-preserved c =
