@@ -9,7 +9,7 @@ use Rattle.permutations.proofs.Relation.{kernel-equivalence}
 use Rattle.permutations.proofs.Leaders.{leads-from, not-leads, leads-once}
 use Rattle.multigraph.specs.Marks.{is_marked}
 use Rattle.blocks.specs.Numbering.{same_label, IsNumbering, IsNumbered}
-use Rattle.blocks.proofs.Writes.{number-same, number-other, marked-same, marked-cases, marked-kept}
+use Rattle.search_forest.proofs.Writes.{number-same, number-other, marked-same, marked-cases, marked-kept}
 
 -- having the same label is an equivalence
 pub same-equivalence : (labels : List ℕ) → IsEquivalence (same_label labels)

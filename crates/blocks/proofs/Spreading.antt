@@ -7,7 +7,7 @@ use Rattle.permutations.proofs.Members.{member-head, member-cases, member-append
 use Rattle.permutations.proofs.Arrangements.{contains-from_member}
 use Rattle.multigraph.specs.Marks.{is_marked}
 use Rattle.blocks.specs.Spread.{IsSpreadOrder, IsSpread}
-use Rattle.blocks.proofs.Writes.{number-same, number-other}
+use Rattle.search_forest.proofs.Writes.{number-same, number-other}
 
 -- the number at a place of a list without repetition is none of those before it
 pub not_before : (order : List ℕ) (k : ℕ) → is_distinct order ≡ true → k < length order → is_member (get_or order k 0) (take k order) ≡ false

@@ -18,7 +18,7 @@ pub record BlockStructure : Type 0 where
 abbrev pub block_at : List (List ℕ) → ℕ → List ℕ
 block_at blocks b = slice_index_or blocks b []
 
--- the lists are the blocks: the classes of edges that are equal or on a common cycle, each once, its edges rising, in order
+-- the lists are the blocks: the classes of edges that are equal or on a common cycle, each once, its edges in increasing order, in order
 -- of their least edges
 pub record AreBlocks (g : Multigraph) (blocks : List (List ℕ)) : Type 0 where
   pub rising : (b : ℕ) → b < length blocks → Rises (block_at blocks b)
@@ -38,7 +38,7 @@ pub record IsCutVertex (g : Multigraph) (v : ℕ) : Type 0 where
   pub second_end : is_end g v second ≡ true
   pub apart : SameBlock g first second → ⊥
 
--- the list is that of the cut vertices, rising
+-- the list is that of the cut vertices, in increasing order
 pub record AreCutVertices (g : Multigraph) (cut : List ℕ) : Type 0 where
   pub rising : Rises cut
   pub vertices : (v : ℕ) → is_member v cut ≡ true → v < g.vertex_count

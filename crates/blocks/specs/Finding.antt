@@ -3,26 +3,31 @@ use Rattle.std.specs.Prelude.{◌≡◌, ℕ, ◌<◌, ◌≤◌, ◌↔◌, ◌
 use Rattle.permutations.specs.Relation.{class_count}
 use Rattle.multigraph.specs.Graph.{Multigraph, edge_count, numbers_below}
 use Rattle.graph_theory.specs.Block.{SameBlock}
-use Rattle.blocks.specs.State.{SearchState}
+use Rattle.search_forest.specs.Forest.{ForestState}
+use Rattle.search_forest.specs.Low.{LowVertices}
 use Rattle.multigraph.specs.Marks.{is_marked}
 use Rattle.blocks.specs.Numbering.{IsNumbering, same_label}
 
--- v is a root, or nothing leads from it or below it past its parent
-abbrev pub IsHead : SearchState → ℕ → Type 0
-IsHead s v = (slice_index s.depth v ≡ 0) ⊎ (slice_index s.depth (slice_index s.parent v) ≤ slice_index s.low v)
+-- the low point of v, as a depth
+abbrev pub low_depth : ForestState → LowVertices → ℕ → ℕ
+low_depth s low v = slice_index s.depth (slice_index low.first v)
 
--- v is no root, and something does
-abbrev pub IsNoHead : SearchState → ℕ → Type 0
-IsNoHead s v = (0 < slice_index s.depth v) × (slice_index s.low v < slice_index s.depth (slice_index s.parent v))
+-- v is a root, or nothing leads from it or below it past its parent
+abbrev pub IsHead : ForestState → LowVertices → ℕ → Type 0
+IsHead s low v = (slice_index s.depth v ≡ 0) ⊎ (slice_index s.depth (slice_index s.parent v) ≤ low_depth s low v)
+
+-- v is not a root, and something does
+abbrev pub IsNoHead : ForestState → LowVertices → ℕ → Type 0
+IsNoHead s low v = (0 < slice_index s.depth v) × (low_depth s low v < slice_index s.depth (slice_index s.parent v))
 
 -- the marks of the first k vertices: whether nothing leads from the vertex or below it past its parent, or it is a root
-pub record AreHeads (s : SearchState) (k : ℕ) (heads : List Bool) : Type 0 where
+pub record AreHeads (s : ForestState) (low : LowVertices) (k : ℕ) (heads : List Bool) : Type 0 where
   pub places : length heads ≡ k
-  pub head : (v : ℕ) → v < k → is_marked heads v ≡ true → IsHead s v
-  pub other : (v : ℕ) → v < k → is_marked heads v ≡ false → IsNoHead s v
+  pub head : (v : ℕ) → v < k → is_marked heads v ≡ true → IsHead s low v
+  pub other : (v : ℕ) → v < k → is_marked heads v ≡ false → IsNoHead s low v
 
 -- the marks of the first k vertices: whether the vertex is a root
-pub record AreRoots (s : SearchState) (k : ℕ) (roots : List Bool) : Type 0 where
+pub record AreRoots (s : ForestState) (k : ℕ) (roots : List Bool) : Type 0 where
   pub places : length roots ≡ k
   pub root : (v : ℕ) → v < k → is_marked roots v ≡ true → slice_index s.depth v ≡ 0
   pub other : (v : ℕ) → v < k → is_marked roots v ≡ false → 0 < slice_index s.depth v

@@ -8,7 +8,7 @@ use Rattle.multigraph.specs.Marks.{is_marked}
 abbrev pub same_label : List ℕ → ℕ → ℕ → Bool
 same_label labels i j = slice_index labels i == slice_index labels j
 
--- a label that is met for the first time has the next number, and one number more was given
+-- a label that occurs for the first time has the next number, and one number more was given
 abbrev pub TakesNextNumber : ℕ → List Bool → List ℕ → ℕ → List Bool → List ℕ → ℕ → Type 0
 TakesNextNumber label met number_of classes next_met next_number_of next_classes =
     (next_met ≡ slice_set met label true) × (next_number_of ≡ slice_set number_of label classes) × (next_classes ≡ classes + 1)
@@ -20,7 +20,7 @@ pub record IsNumbering (labels numbers : List ℕ) : Type 0 where
   pub same : (i j : ℕ) → i < length labels → j < length labels → slice_index labels i ≡ slice_index labels j → slice_index numbers i ≡ slice_index numbers j
   pub different : (i j : ℕ) → i < length labels → j < length labels → slice_index numbers i ≡ slice_index numbers j → slice_index labels i ≡ slice_index labels j
 
--- the first i places were numbered: which labels were met, the number of each of them, and how many there are
+-- the first i places were numbered: which labels occurred, the number of each of them, and how many there are
 pub record IsNumbered (labels : List ℕ) (i : ℕ) (met : List Bool) (number_of numbers : List ℕ) (classes : ℕ) : Type 0 where
   pub places : length numbers ≡ i
   pub is_met : (j : ℕ) → j < i → is_marked met (slice_index labels j) ≡ true

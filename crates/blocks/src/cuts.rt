@@ -19,7 +19,7 @@ fn meets_two(edges: &[u32], numbers: &[u32]) -> bool
     false
 }
 
-// Puts the vertex behind the others where it is a cut vertex.
+// Appends the vertex if it is a cut vertex.
 fn note(cut: &mut Vec<u32>, vertex: u32, is_cut: bool) -> Result<(), AllocError>
     ensures { IfOk result (λ _. cut.new.items ≡ (if is_cut then cut.old.items ++ vertex ∷ []
         else cut.old.items)) }
@@ -30,7 +30,7 @@ fn note(cut: &mut Vec<u32>, vertex: u32, is_cut: bool) -> Result<(), AllocError>
     Ok(())
 }
 
-// The vertices with edges of two different numbers, rising.
+// The vertices with edges of two different numbers, in increasing order.
 pub(crate) fn cut_vertices(
     alloc: Global,
     graph: &Graph,

@@ -1,4 +1,4 @@
-// What the definition of blocks says of itself.
+// Laws about the definition of blocks: each is a function without a body, whose contract is the theorem.
 ghost use Rattle.std.specs.Prelude.{◌≡◌, ◌<◌, ℕ, length};
 ghost use Rattle.multigraph.specs.Graph.{Multigraph};
 ghost use Rattle.multigraph.specs.Part.{GraphPart, IsPart};

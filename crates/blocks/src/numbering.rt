@@ -6,7 +6,7 @@ ghost use Rattle.blocks.specs.Numbering.{IsNumbering, TakesNextNumber, same_labe
 
 use std::alloc::{AllocError, Global};
 
-// Gives a label that is met for the first time the next number. Returns how many numbers were given.
+// Gives a label that occurs for the first time the next number. Returns how many numbers were given.
 fn meet(met: &mut [bool], number_of: &mut [u32], label: usize, classes: u32) -> u32
     requires met_within { label < length met.old }
     requires number_within { label < length number_of.old }
@@ -24,7 +24,7 @@ fn meet(met: &mut [bool], number_of: &mut [u32], label: usize, classes: u32) -> 
     classes + 1
 }
 
-// Puts the number of the class of each label, from the first on, behind the numbers. Returns how many classes there are.
+// Appends the number of the class of each label, from the first on. Returns how many classes there are.
 fn number_along(
     labels: &[u32],
     met: &mut [bool],

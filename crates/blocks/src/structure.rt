@@ -3,10 +3,13 @@ ghost use Rattle.std.specs.Prelude.{◌≡◌, ◌<◌, length, IfOk, slice_inde
 ghost use Rattle.blocks.specs.Blocks.{BlockStructure, IsBlockStructure, block_at};
 
 use crate::cuts::cut_vertices;
-use crate::search::{Search, number_blocks, number_components};
+use crate::finding::{number_blocks, number_components};
 use multigraph::{Graph, Numbers, places_of};
+use search_forest::{Forest, Low};
 use std::alloc::{AllocError, Global};
-use std::marker::Model;
+use std::marker::{Brand, Model};
+use std::sync::ledger::{Blank, Ledger};
+use step_count::Steps;
 
 /// The blocks of a graph, its cut vertices and its components.
 ///
@@ -44,7 +47,7 @@ impl Blocks {
         self.lists.len() as u32
     }
 
-    /// The edges of block `b`, rising.
+    /// The edges of block `b`, in increasing order.
     pub fn edges(&self, b: u32) -> &[u32]
         requires { b < length self.now.blocks }
         ensures { result.now ≡ block_at self.now.blocks b }
@@ -52,7 +55,7 @@ impl Blocks {
         self.lists[b as usize].as_slice()
     }
 
-    /// The cut vertices, rising: those with edges of at least two blocks.
+    /// The cut vertices, in increasing order: those with edges of at least two blocks.
     pub fn cut_vertices(&self) -> &[u32]
         ensures { result.now ≡ self.now.cut_vertices }
     {
@@ -76,12 +79,24 @@ impl Blocks {
 }
 
 /// Splits a graph into its blocks, by the low points of a depth-first search (Hopcroft and Tarjan 1973). Linear in vertices
-/// and edges; the search keeps a stack of its own.
+/// and edges; the search keeps a stack of its own. Fails only if memory runs out.
 pub fn split(alloc: Global, graph: &Graph) -> Result<Blocks, AllocError>
     ensures { IfOk result (λ b. IsBlockStructure graph.now b) }
 {
-    let search = Search::of(alloc, graph)?;
-    let (numbers, blocks) = number_blocks(alloc, graph, &search)?;
+    split_from::<Brand>(alloc, graph, Blank::new(1))
+}
+
+// The same, with steps that nobody reads.
+fn split_from<L: Ledger>(alloc: Global, graph: &Graph, blank: Blank) -> Result<Blocks, AllocError>
+    requires name { blank.name ≡ L.name }
+    requires parts { blank.parts ≡ L.parts }
+    requires some { 0 < blank.parts }
+    ensures { IfOk result (λ b. IsBlockStructure graph.now b) }
+{
+    let mut steps = Steps::<L>::new(blank);
+    let search = Forest::of(alloc, graph, &mut steps)?;
+    let low = Low::of(alloc, graph, &search, &mut steps)?;
+    let (numbers, blocks) = number_blocks(alloc, graph, &search, &low)?;
     let lists = places_of(alloc, &numbers, blocks as usize)?;
     let cut = cut_vertices(alloc, graph, &numbers)?;
     let (components, total) = number_components(alloc, graph, &search)?;

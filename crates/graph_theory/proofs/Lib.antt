@@ -10,6 +10,8 @@ pub mod Exchange
 pub mod Crossings
 pub mod Counting
 pub mod Connection
+pub mod Connected
+pub mod AtVertex
 pub mod Joined
 pub mod Removed
 pub mod Labelling

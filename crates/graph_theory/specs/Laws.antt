@@ -42,8 +42,8 @@ JoinedByPath = (g : Multigraph) (t : ℕ → Bool) (x y : ℕ) → joined_where 
 abbrev pub PathJoins : Type 0
 PathJoins = (g : Multigraph) (t : ℕ → Bool) (x y : ℕ) → PathWhere g t x y → joined_where g t x y ≡ true
 
--- a vertex that is not removed, and one that is connected with it without those that are, are joined by a path that meets
--- none of these
+-- a vertex that is not removed, and one that is connected with it without those that are, are joined by a path that
+-- visits none of these
 abbrev pub ConnectedByPathWithout : Type 0
 ConnectedByPathWithout = (g : Multigraph) (removed : List ℕ) (x y : ℕ) → is_member x removed ≡ false
     → connected (ends_without g removed) x y ≡ true → PathWithout g removed x y

@@ -13,7 +13,7 @@ abbrev pub walk_starts : Multigraph → ℕ → List ℕ → List ℕ
 walk_starts g x [] = []
 walk_starts g x (e ∷ es) = x ∷ walk_starts g (other_end g e x) es
 
--- all vertices that are met along these edges, x first and the last one last
+-- all vertices that are visited along these edges, x first and the last one last
 abbrev pub walk_vertices : Multigraph → ℕ → List ℕ → List ℕ
 walk_vertices g x es = walk_starts g x es ++ walk_end g x es ∷ []
 
@@ -22,19 +22,19 @@ abbrev pub IsWalk : Multigraph → ℕ → List ℕ → Type 0
 IsWalk g x [] = Unit {0}
 IsWalk g x (e ∷ es) = ((e < edge_count g) × (is_end g x e ≡ true)) × IsWalk g (other_end g e x) es
 
--- a path from x to y: a walk that meets no vertex twice. With no edge it is the path from x to x
+-- a path from x to y: a walk that visits no vertex twice. With no edge it is the path from x to x
 pub record IsPath (g : Multigraph) (x : ℕ) (es : List ℕ) (y : ℕ) : Type 0 where
   pub walk : IsWalk g x es
   pub arrives : walk_end g x es ≡ y
   pub vertices : is_distinct (walk_vertices g x es) ≡ true
 
--- a path from x to y that meets none of the removed vertices
+-- a path from x to y that visits none of the removed vertices
 pub record PathWithout (g : Multigraph) (removed : List ℕ) (x y : ℕ) : Type 0 where
   pub along : List ℕ
   pub path : IsPath g x along y
   pub avoids : (v : ℕ) → is_member v (walk_vertices g x along) ≡ true → is_member v removed ≡ false
 
--- a cycle from x: a walk of at least two different edges that returns to x and else meets no vertex twice. Two parallel
+-- a cycle from x: a walk of at least two different edges that returns to x and otherwise visits no vertex twice. Two parallel
 -- edges are a cycle
 pub record IsCycle (g : Multigraph) (x : ℕ) (es : List ℕ) : Type 0 where
   pub walk : IsWalk g x es

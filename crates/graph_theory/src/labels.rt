@@ -1,4 +1,5 @@
-// Labels of numbers, equal just where links connect them when some numbers are removed.
+// Labels of numbers, equal exactly where links connect them when some numbers are removed. `merge` takes time linear in the
+// numbers: for slow methods and small graphs.
 
 ghost use Rattle.std.specs.Prelude.{◌≡◌, ◌<◌, ℕ, length, IfOk};
 ghost use Rattle.permutations.specs.Members.{is_member};
@@ -10,15 +11,10 @@ use std::alloc::{AllocError, Global};
 pub fn is_removed(removed: &[u32], number: u32) -> bool
     ensures { result ≡ is_member number removed.now }
 {
-    for other in removed {
-        if *other == number {
-            return true;
-        }
-    }
-    false
+    removed.contains(&number)
 }
 
-/// Each number below n, as its own label; an `Err` for want of memory.
+/// Each number below n, as its own label. Fails only if memory runs out.
 pub fn own_labels(alloc: Global, n: u32) -> Result<Vec<u32>, AllocError>
     ensures own { IfOk result (λ labels. (x : ℕ) → label_at labels.items x ≡ x) }
     ensures number { IfOk result (λ labels. length labels.items ≡ n) }
@@ -42,7 +38,7 @@ fn relabel(labels: &mut [u32], from: u32, to: u32)
     }
 }
 
-/// Makes the labels of the two ends of a link one, if neither is removed.
+/// Makes the labels of the two ends of a link equal, if neither end is removed.
 pub fn merge(labels: &mut [u32], removed: &[u32], first: u32, second: u32)
     requires first_in { first < length labels.old }
     requires second_in { second < length labels.old }

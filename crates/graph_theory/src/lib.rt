@@ -1,12 +1,12 @@
 // Walks, paths, cycles, connection and blocks of multigraphs: theory, and labels of what stays connected without vertices.
 //
-// A walk is a list of edges from a vertex on; a path is a walk that meets no vertex twice; a cycle is a walk of at least two
-// different edges that returns to where it began and else meets no vertex twice, so that two parallel edges are a cycle. A
+// A walk is a list of edges from a vertex on; a path is a walk that visits no vertex twice; a cycle is a walk of at least two
+// different edges that returns to where it began and otherwise visits no vertex twice, so that two parallel edges are a cycle. A
 // block is a class of edges under "equal or on a common cycle" (Whitney 1932). The main theorem is that this is an
 // equivalence: of two cycles with a common edge, an ear of the one over the other and an arc of the other make a third.
 // Each law below is a function without a body, whose contract is the theorem. The module `labels` alone has code that runs.
 //
-// The lemmas that are used most (module of proofs/ in front):
+// The lemmas that are used most (each after its module of proofs/):
 //   Ends        other-other, other-differs, end-cases: the two ends of an edge
 //   Walks       end-append, starts-append, vertices-append, walk-append, walk-left, walk-right: walks joined and cut
 //   Walks       edge-met, edge-entered, met-cases: what lies on a walk
@@ -20,6 +20,8 @@
 //   Counting    two-count, two-of, third-of: counts of two
 //   Crossings   cycle-two_common, block-one_side: a cycle with edges on both sides of a division has two common vertices
 //   Connection  connected-path, path-connected: connection by links and by paths is the same
+//   Connected   block-connected, connected-without_none: connected graphs, and that one block is connected
+//   AtVertex    at_vertex-cycle, at_vertex-block: edges at a vertex whose other ends are connected without it
 //   Joined      joined-least-typed, joined-closed, joined-more, joined-path, path-joined: connection by edges that pass a test
 //   Removed     step-without, least-without, closed-without, kept-without, path-without: connection when vertices are removed
 //   Chains      chain-depth, below-transitive, below-between: ancestors in a search forest
@@ -57,13 +59,13 @@ pub fn connection_by_some_edges_is_by_paths()
 {}
 
 /// The law that a vertex which is not removed and another one stay connected, when vertices are removed, exactly where a path
-/// joins them that meets none of these.
+/// joins them that visits none of these.
 pub fn connection_without_vertices_is_by_paths()
     ensures by_path { ConnectedByPathWithout }
     ensures by_links { PathConnectsWithout }
 {}
 
-/// The law that low points tell the blocks (Hopcroft and Tarjan 1973): in a search forest two edges are in the same block
+/// The law that low points determine the blocks (Hopcroft and Tarjan 1973): in a search forest two edges are in the same block
 /// exactly where their lower ends have the same label.
 pub fn low_points_tell_blocks()
     ensures told { LabelsTellBlocks }

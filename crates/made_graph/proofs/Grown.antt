@@ -10,7 +10,7 @@ use Rattle.multigraph.specs.Build.{multigraph_of}
 use Rattle.faces.specs.Euler.{tail}
 use Rattle.faces.proofs.DartLemmas.{tail-first, tail-second}
 use Rattle.made_graph.specs.Made.{subdivided, doubled, with_path, with_tetrahedron}
-use Rattle.made_graph.proofs.Drawn.{IsDrawn, with_edge, tail-old, tail-new, tail-new_second, twin-last, hung, joined, hung_back, joined_back, hung-corner, hung-new, hung-end, hung-old, hang, joined-corner, joined-first, joined-second_corner, joined-old, cross}
+use Rattle.drawn_maps.proofs.Drawn.{IsDrawn, with_edge, tail-old, tail-new, tail-new_second, twin-last, hung, joined, hung_back, joined_back, hung-corner, hung-new, hung-end, hung-old, hang, joined-corner, joined-first, joined-second_corner, joined-old, cross}
 use Rattle.made_graph.proofs.Subdivided.{subdivide}
 
 -- some map draws the graph

@@ -15,22 +15,13 @@ use Rattle.faces.proofs.MapCounts.{plane-map, map-plane}
 use Rattle.faces.proofs.MapToLists.{map-orders}
 use Rattle.made_graph.specs.Made.{subdivided, doubled, with_path, with_tetrahedron}
 use Rattle.made_graph.specs.Laws.{IsPlanarBlock, KeepsPlanarBlocks}
-use Rattle.made_graph.proofs.Drawn.{IsDrawn}
+use Rattle.drawn_maps.specs.Drawn.{IsDrawn}
+use Rattle.drawn_maps.proofs.Systems.{to-drawn}
 use Rattle.made_graph.proofs.Grown.{Drawing, double-drawn, subdivide-drawn, path-drawn, tetrahedron-drawn}
 use Rattle.made_graph.proofs.Rounds.{Leads, leads-forth, leads-back, two-cycle, three-cycle, four-cycle}
 use Rattle.made_graph.proofs.Added.{added, AreSound, added-count, added-in, added-old, added-new, added-graph, added-block, half-graph, half-block}
 
--- a plane rotation system draws the graph
-pub to-drawn : (g : Multigraph) (p : IsPlanarBlock g) → IsDrawn (edge_count g) g (dart_after g p.system) (dart_before g p.system)
-to-drawn g p = record {
-  edges = refl;
-  map = map-permutes g p.system p.is_graph p.is_system;
-  plane = plane-map g p.system p.is_graph p.is_system p.plane;
-  told = λ c d l k. map-vertex g p.system p.is_graph p.is_system c d l k;
-  inside = λ d l. tail-in g d p.is_graph l;
-}
-
--- and a drawn graph has one
+-- a drawn graph has a plane rotation system
 pub from-drawing : (g : Multigraph) → IsGraph g → IsOneBlock g → Drawing g → IsPlanarBlock g
 from-drawing g ok one d = from (subst (λ (m : ℕ). IsDrawn m g d.next d.previous) (sym d.drawn.edges) d.drawn)
   where
@@ -94,7 +85,7 @@ module _ (g : Multigraph) (p : IsPlanarBlock g) (e : ℕ) (le : e < edge_count g
 
   pub double-block : IsPlanarBlock (doubled g e)
   double-block = from-drawing (doubled g e) double-graph (added-block g n (ends_of g e ∷ []) p.one_block double-graph e le shares (λ v l k. absurd (omega arith)))
-      (double-drawn m g (dart_after g p.system) (dart_before g p.system) (to-drawn g p) e le)
+      (double-drawn m g (dart_after g p.system) (dart_before g p.system) (to-drawn g p.system p.is_graph p.is_system p.plane) e le)
     where
       shares : (k : ℕ) → k < 1 → SameBlock (doubled g e) (m + k) e
       shares zero l = inr (record {
@@ -110,7 +101,7 @@ module _ (g : Multigraph) (p : IsPlanarBlock g) (e : ℕ) (le : e < edge_count g
   pub subdivide-block : 2 ≤ edge_count g → IsPlanarBlock (subdivided g e)
   subdivide-block two =
       from-drawing (subdivided g e) (half-graph g p.is_graph p.one_block two e le) (half-block g p.is_graph p.one_block two e le)
-      (subdivide-drawn m g (dart_after g p.system) (dart_before g p.system) (to-drawn g p) e le)
+      (subdivide-drawn m g (dart_after g p.system) (dart_before g p.system) (to-drawn g p.system p.is_graph p.is_system p.plane) e le)
 
   -- a path beside an edge
   abbrev path_links : List (ℕ × ℕ)
@@ -126,7 +117,7 @@ module _ (g : Multigraph) (p : IsPlanarBlock g) (e : ℕ) (le : e < edge_count g
 
   pub path-block : IsPlanarBlock (with_path g e)
   path-block = from-drawing (with_path g e) path-graph (added-block g (n + 1) path_links p.one_block path-graph e le shares at)
-      (path-drawn m g (dart_after g p.system) (dart_before g p.system) (to-drawn g p) e le apart)
+      (path-drawn m g (dart_after g p.system) (dart_before g p.system) (to-drawn g p.system p.is_graph p.is_system p.plane) e le apart)
     where
       round : IsCycle (with_path g e) u ((m + 0) ∷ (m + 1) ∷ e ∷ [])
       round = three-cycle (with_path g e) u (m + 0) n (m + 1) w e (new-forth (n + 1) 0 path_links u n (omega arith) refl) (new-forth (n + 1) 1 path_links n w (omega arith) refl) (old-back (n + 1) path_links)
@@ -160,7 +151,7 @@ module _ (g : Multigraph) (p : IsPlanarBlock g) (e : ℕ) (le : e < edge_count g
 
   pub tetrahedron-block : IsPlanarBlock (with_tetrahedron g e)
   tetrahedron-block = from-drawing (with_tetrahedron g e) tetrahedron-graph (added-block g (n + 2) tetrahedron_links p.one_block tetrahedron-graph e le shares at)
-      (tetrahedron-drawn m g (dart_after g p.system) (dart_before g p.system) (to-drawn g p) e le apart)
+      (tetrahedron-drawn m g (dart_after g p.system) (dart_before g p.system) (to-drawn g p.system p.is_graph p.is_system p.plane) e le apart)
     where
       -- the triangle over y
       over-y : IsCycle (with_tetrahedron g e) u ((m + 0) ∷ (m + 2) ∷ e ∷ [])

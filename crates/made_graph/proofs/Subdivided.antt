@@ -17,8 +17,8 @@ use Rattle.multigraph.specs.Graph.{Multigraph, edge_count, ends_of}
 use Rattle.faces.specs.Euler.{tail}
 use Rattle.faces.proofs.DartLemmas.{tail-first, tail-second}
 use Rattle.made_graph.specs.Made.{subdivided}
-use Rattle.made_graph.proofs.Extended.{extended, extended-below, extended-above, extended-map, extended-plane, extended-told, AreTold, IsLone, put-told}
-use Rattle.made_graph.proofs.Drawn.{IsDrawn, twin-last, dart-cases}
+use Rattle.drawn_maps.proofs.Extended.{extended, extended-below, extended-above, extended-map, extended-plane, extended-told, AreTold, IsLone, put-told}
+use Rattle.drawn_maps.proofs.Drawn.{IsDrawn, twin-last, dart-cases}
 
 -- x taken out: it has a label of its own
 unlink-told : (n : ℕ) (f g : ℕ → ℕ) → Permutes n f g → (x : ℕ) → x < n → (label new : ℕ → ℕ) → AreTold n f label → IsLone n new x → ((d : ℕ) → d < n → (d ≡ x → ⊥) → new d ≡ label d) → AreTold n (unlink x f) new

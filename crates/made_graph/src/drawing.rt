@@ -10,7 +10,7 @@ pub(crate) fn drawn(x: u64) -> u64
         .wrapping_add(1_442_695_040_888_963_407)
 }
 
-// The edge that a drawn number picks, of so many edges.
+// The edge that a drawn number picks, of `edges` many.
 pub(crate) fn edge_drawn(x: u64, edges: u32) -> u32
     requires { 0 < edges }
     ensures picked { result ≡ edge_drawn x edges }

@@ -1,4 +1,4 @@
-// The operations on an edge: each adds edges behind the others, and answers how many vertices there are then.
+// The operations on an edge: each appends edges, and returns how many vertices there are then. They fail only if memory runs out.
 ghost use Rattle.std.specs.Prelude.{◌≡◌, ◌<◌, ◌+◌, ◌^◌, length, IfOk};
 ghost use Rattle.multigraph.specs.Build.{multigraph_of};
 ghost use Rattle.made_graph.specs.Made.{subdivided, doubled, with_path, with_tetrahedron, grown};

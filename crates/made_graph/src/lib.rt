@@ -7,12 +7,10 @@
 //
 // Each operation keeps the graph one block with a plane rotation system. One block: each new edge is on a cycle of at most four
 // edges with the picked one, and a cycle through a subdivided edge goes through both halves. Plane: beside an edge the corner
-// behind it at the one end and the corner before it at the other are on one face, so that new edges can be put in there one
+// after it at the one end and the corner before it at the other are on one face, so that new edges can be inserted there one
 // after the other, which keeps Euler's sum; and a subdivided edge contracts to the old one.
 //
-// The lemmas that are used most (module of proofs/ in front):
-//   Extended      extended-told, put-told: a map with one more edge, and a dart put in, by labels of the darts
-//   Drawn         IsDrawn, hang, cross: a graph drawn with an edge to a new vertex, and with one between corners of a face
+// The lemmas that are used most (each after its module of proofs/):
 //   Subdivided    subdivide; Grown double-drawn, path-drawn, tetrahedron-drawn: what the operations make of a drawn graph
 //   Rounds        two-cycle, three-cycle, four-cycle, kept-cycle; Added added-block, half-block: one block stays one
 //   Growth        made-planar, made-size, made-turn, within-over: turn by turn

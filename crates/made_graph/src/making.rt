@@ -12,7 +12,7 @@ const TETRAHEDRON: [(u32, u32); 6] = [(0, 1), (0, 2), (0, 3), (1, 2), (1, 3), (2
 
 /// The graph that is made from the number `seed`, of `n` edges or up to four more: the complete graph on four vertices, grown
 /// turn by turn, where a first draw picks an edge and a second one of four operations on it; the draws are those of a linear
-/// congruential generator (Lehmer 1951). An `Err` is want of memory.
+/// congruential generator (Lehmer 1951). Fails only if memory runs out.
 pub fn make_graph(alloc: Global, n: u32, seed: u64) -> Result<Graph, AllocError>
     requires least { 6 ≤ n }
     requires most { n ≤ max_asked }

@@ -1,14 +1,14 @@
 // The summary of a made graph.
 //
-// A made graph is one block with a plane rotation system, so its tree and the list of its plane rotation systems can be told in a
+// A made graph is one block with a plane rotation system, so its tree and the list of its plane rotation systems are summed up in a
 // few numbers: vertices and edges, nodes of each kind, members of the list, and one node with its choice at the first member
-// and at the last. The last member is the mirror image of the first, so that a choice there is the first one read the other way
-// round. Some node has choices: a tree of polygons alone is a single polygon, and a made graph has a vertex of three edges.
+// and at the last. The last member is the mirror image of the first, so that a choice there is the first one
+// reversed. Some node has choices: a tree of polygons alone is a single polygon, and a made graph has a vertex of three edges.
 //
-// The lemmas (module of proofs/ in front):
+// The lemmas (each after its module of proofs/):
 //   SomeChoices    no-fork: where no node has choices no vertex has three edges
 //   OneSummary     one-summary: a graph has one summary at most
-//   FirstAndLast   first-there, last-choice, all-members: the list of a block that stands at its first member
+//   FirstAndLast   first-there, last-choice, all-members: the list of a block whose current member is the first
 #![tactic(auto)]
 
 mod kinds;

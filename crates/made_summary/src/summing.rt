@@ -20,7 +20,7 @@ use skel_embed::{Outcome, PlaneBlock, plane_block};
 use spqr_tree::Tree;
 use std::alloc::{AllocError, Global};
 
-// The same cyclic order the other way round, from the same first key.
+// The same cyclic order reversed, from the same first key.
 fn mirrored(alloc: Global, keys: &[u32]) -> Result<Vec<u32>, AllocError>
     ensures { IfOk result (λ l. l.items ≡ mirror_choice keys.now) }
 {
@@ -41,7 +41,8 @@ fn counted(p: &PlaneBlock) -> Option<u128>
     }
 }
 
-// The choice of node k at the first and at the last of the plane rotation systems of a block that stands at the first.
+// The choice of node k at the first and at the last of the plane rotation systems of a block
+// whose current one is the first.
 fn choices(alloc: Global, p: &PlaneBlock, k: u32) -> Result<(Vec<u32>, Vec<u32>), AllocError>
     requires { k < length p.now.tree }
     ensures first { IfOk result (λ both. both.0.items ≡ choice p.now.tree p.now.rotation k) }
@@ -53,7 +54,7 @@ fn choices(alloc: Global, p: &PlaneBlock, k: u32) -> Result<(Vec<u32>, Vec<u32>)
     Ok((first, last))
 }
 
-// The summary of a block that stands at the first of its plane rotation systems.
+// The summary of a block whose current plane rotation system is the first.
 fn summary_of(alloc: Global, p: &PlaneBlock) -> Result<Vec<u8>, AllocError>
     requires first { IsFirst p.now.graph p.now.tree p.now.rotation }
     requires unlocked { (k : ℕ) → k < length p.now.tree → lock_at p.now.locks k ≡ false }
@@ -80,8 +81,8 @@ fn summary_of(alloc: Global, p: &PlaneBlock) -> Result<Vec<u8>, AllocError>
 /// The summary of the graph that is made from the number `seed`, of `n` edges or up to four more, as a text of five lines: how
 /// many vertices and edges it has, how many polygons, bonds and triconnected nodes its tree, and how many plane rotation systems
 /// there are (`over` from 2^128 on); then the least node that has choices, with its choice at the first and at the last plane
-/// rotation system, in the order by the first node at which the choices differ (Di Battista and Tamassia 1996). An `Err` is want
-/// of memory.
+/// rotation system, in the order by the first node at which the choices differ (Di Battista and Tamassia 1996). Fails only
+/// if memory runs out.
 pub fn summary<P: Splitter, E: Embedder>(
     alloc: Global,
     n: u32,

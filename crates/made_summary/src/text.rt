@@ -1,4 +1,4 @@
-// The lines of the summary, each put behind a text.
+// The lines of the summary, each appended to a text.
 ghost use Rattle.std.specs.Prelude.{◌≡◌, ◌++◌, IfOk, OnOk, codes, decimal};
 ghost use Rattle.made_summary.specs.Text.{count_text, made_line, nodes_line, spaced_numbers, choice_line};
 

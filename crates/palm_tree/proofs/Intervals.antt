@@ -11,10 +11,10 @@ use Rattle.permutations.proofs.Sums.{sum_below-zero}
 use Rattle.multigraph.specs.Graph.{Multigraph, IsGraph}
 use Rattle.graph_theory.specs.SearchTree.{IsBelow}
 use Rattle.graph_theory.proofs.Chains.{chain-in, chain-depth, below-transitive, below-parent, below-reflexive, below-depth, below-between}
-use Rattle.blocks.specs.Forest.{ForestState}
-use Rattle.palm_tree.specs.Searching.{IsOver}
+use Rattle.search_forest.specs.Forest.{ForestState}
+use Rattle.search_forest.specs.Searching.{IsOver, IsOneTree}
 use Rattle.palm_tree.specs.Growing.{AreSizes, AreChildren, AreOffsets, AreNumbersSoFar, IsBefore}
-use Rattle.palm_tree.proofs.Grown.{forest, order-member}
+use Rattle.search_forest.proofs.Grown.{forest, order-member}
 use Rattle.palm_tree.proofs.Totals.{sum-change, cond-yes, cond-no}
 use Rattle.palm_tree.proofs.SizesHanded.{both, second-no}
 
@@ -42,8 +42,8 @@ module _ (g : Multigraph) (gg : IsGraph g) (s : ForestState) (o : IsOver g s) wh
       (below-between g (λ k. get_or s.parent k 0) (λ k. get_or s.depth k 0) (λ k. get_or s.parent_edge k 0) (λ e. get_or s.lower e 0) (forest g gg s o) z b.steps a.steps l a.within (omega (arith, deeper u z l a, deeper w z l b))))
 
   -- the first vertex is the root
-  pub root-depth : 0 < g.vertex_count → get_or s.depth 0 0 ≡ 0
-  root-depth l = ap (λ (k : ℕ). get_or s.depth k 0) (sym (o.searching.one_root r (o.visited r (chain-in g (λ k. get_or s.parent k 0) (λ k. get_or s.depth k 0) (λ k. get_or s.parent_edge k 0) (λ e. get_or s.lower e 0) (forest g gg s o) (get_or s.depth 0 0) 0 l (omega arith))) rd)) ∙ rd
+  pub root-depth : IsOneTree g s → 0 < g.vertex_count → get_or s.depth 0 0 ≡ 0
+  root-depth one l = ap (λ (k : ℕ). get_or s.depth k 0) (sym (one r (chain-in g (λ k. get_or s.parent k 0) (λ k. get_or s.depth k 0) (λ k. get_or s.parent_edge k 0) (λ e. get_or s.lower e 0) (forest g gg s o) (get_or s.depth 0 0) 0 l (omega arith)) rd)) ∙ rd
     where
       r : ℕ
       r = iterate (λ k. get_or s.parent k 0) (get_or s.depth 0 0) 0
@@ -102,71 +102,73 @@ module _ (g : Multigraph) (gg : IsGraph g) (s : ForestState) (o : IsOver g s) wh
             let t = r w.0 i.0 w.2 w.3 w.4 in
             (t.0, t.1, trans v w.0 t.0 t.1 (subst (λ (q : ℕ). Below s q w.0) w.2 (up w.0 i.1)) t.2, omega (arith, t.3, child-number w.0 i.0 i.1, ap (λ (q : ℕ). get_or number q 0) w.2, w.3))
 
-    -- the root's numbers are all
-    root-size : 0 < g.vertex_count → get_or size 0 0 ≡ g.vertex_count
-    root-size l = omega (arith, sum-change g.vertex_count (λ c. cond (is_member c s.order && ltb 0 (get_or s.depth c 0)) 0 (get_or size c 0)) (λ c. 0) 0 l elsewhere, sum_below-zero g.vertex_count, z.total, here)
-      where
-        here : cond (is_member 0 s.order && ltb 0 (get_or s.depth 0 0)) 0 (get_or size 0 0) ≡ get_or size 0 0
-        here =
-            let d = root-depth l in
-            cond-no (is_member 0 s.order && ltb 0 (get_or s.depth 0 0)) 0 (get_or size 0 0) (second-no (is_member 0 s.order) (ltb 0 (get_or s.depth 0 0)) (grind (arith, d)))
-
-        elsewhere : (c : ℕ) → c < g.vertex_count → c ≢ 0 → cond (is_member c s.order && ltb 0 (get_or s.depth c 0)) 0 (get_or size c 0) ≡ 0
-        elsewhere c m q = elim (cases_lt 0 (get_or s.depth c 0)) [
-          | inl d ↦ cond-yes (is_member c s.order && ltb 0 (get_or s.depth c 0)) 0 (get_or size c 0) (both (is_member c s.order) (ltb 0 (get_or s.depth c 0)) (order-member g gg s o c m) (grind (arith, d)))
-          | inr e ↦ absurd (q (o.searching.one_root c (o.visited c m) (omega arith)))
-        ]
-
-    -- each number is a vertex's
-    pub each-number : (x : ℕ) → x < g.vertex_count → (v : ℕ) × (v < g.vertex_count) × (get_or number v 0 ≡ x)
-    each-number x l =
-        let p : 0 < g.vertex_count = omega arith in
-        let w = onto (suc x) x 0 (omega arith) p (omega (arith, root-size p)) in
-        (w.0, w.1, omega (arith, w.3, root-number 0 p (root-depth p)))
-
-    pick : (x : ℕ) → (x < g.vertex_count) ⊎ (g.vertex_count ≤ x) → ℕ
-    pick x (inl l) = (each-number x l).0
-    pick x (inr m) = 0
-
-    pick-in : (x : ℕ) (c : (x < g.vertex_count) ⊎ (g.vertex_count ≤ x)) → x < g.vertex_count → pick x c < g.vertex_count
-    unfolding pick
-    pick-in x (inl l) m = (each-number x l).1
-    pick-in x (inr h) m = absurd (omega arith)
-
-    pick-number : (x : ℕ) (c : (x < g.vertex_count) ⊎ (g.vertex_count ≤ x)) → x < g.vertex_count → get_or number (pick x c) 0 ≡ x
-    unfolding pick
-    pick-number x (inl l) m = (each-number x l).2
-    pick-number x (inr h) m = absurd (omega arith)
-
-    -- each vertex is the one that its number is picked for
-    picked : (u : ℕ) → u < g.vertex_count → (x : ℕ) × (x < g.vertex_count) × (pick x (cases_lt x g.vertex_count) ≡ u)
-    picked u l =
-        let f = λ (x : ℕ). pick x (cases_lt x g.vertex_count) in
-        let t = λ (q : ℕ). some g.vertex_count (λ x. f x == q) in
-        let inj = λ (x y : ℕ) (xl : x < g.vertex_count) (yl : y < g.vertex_count) (p : true ≡ true) (q : true ≡ true) (e : f x ≡ f y). sym (pick-number x (cases_lt x g.vertex_count) xl) ∙ (ap (λ (v : ℕ). get_or number v 0) e ∙ pick-number y (cases_lt y g.vertex_count) yl) in
-        let c : count g.vertex_count (λ x. true) ≤ count g.vertex_count t = count-injection g.vertex_count g.vertex_count (λ x. true) t f (λ x xl h. pick-in x (cases_lt x g.vertex_count) xl) (λ x xl h. some-from g.vertex_count (λ y. f y == f x) x xl (eq-eqb (f x) (f x) refl)) inj in
-        let h : t u ≡ true = count-same g.vertex_count t (λ x. true) (λ x xl q. refl) c u l in
-        let w = some-witness g.vertex_count (λ x. f x == u) h in
-        (w.0, w.1, eqb-true (f w.0) u w.2)
-
-    -- vertices with the same number are one
-    pub differ : (u w : ℕ) → u < g.vertex_count → w < g.vertex_count → get_or number u 0 ≡ get_or number w 0 → u ≡ w
-    differ u w ul wl e =
-        let p = picked u ul in
-        let q = picked w wl in
-        let pn = ap (λ (v : ℕ). get_or number v 0) (sym p.2) ∙ pick-number p.0 (cases_lt p.0 g.vertex_count) p.1 in
-        let qn = ap (λ (v : ℕ). get_or number v 0) (sym q.2) ∙ pick-number q.0 (cases_lt q.0 g.vertex_count) q.1 in
-        let same_number : p.0 ≡ q.0 = sym pn ∙ (e ∙ qn) in
-        sym p.2 ∙ (ap (λ (x : ℕ). pick x (cases_lt x g.vertex_count)) same_number ∙ q.2)
-
-    -- a vertex with one of a vertex's numbers is below it
-    pub within-below : (v w : ℕ) → v < g.vertex_count → w < g.vertex_count → get_or number v 0 ≤ get_or number w 0 → get_or number w 0 < get_or number v 0 + get_or size v 0 → Below s v w
-    within-below v w l m h i =
-        let x = get_or number w 0 - get_or number v 0 in
-        let t = onto (suc x) x v (omega arith) l (omega arith) in
-        subst (Below s v) (differ t.0 w t.1 m (omega (arith, t.3))) t.2
-
     -- of two children of one vertex the one that comes first has the smaller number
     pub children-rise : (c d : ℕ) → c < g.vertex_count → d < g.vertex_count → 0 < get_or s.depth c 0 → 0 < get_or s.depth d 0 → get_or s.parent c 0 ≡ get_or s.parent d 0 → IsBefore children c d → get_or number c 0 < get_or number d 0
     children-rise c d cl dl cd dd e b =
         omega (arith, a.follow c d b e, child-number c cl cd, child-number d dl dd, ap (λ (q : ℕ). get_or number q 0) e, size-some c cl)
+
+    -- where vertex 0 alone is a root
+    module _ (one : IsOneTree g s) where
+      -- the root's numbers are all
+      root-size : 0 < g.vertex_count → get_or size 0 0 ≡ g.vertex_count
+      root-size l = omega (arith, sum-change g.vertex_count (λ c. cond (is_member c s.order && ltb 0 (get_or s.depth c 0)) 0 (get_or size c 0)) (λ c. 0) 0 l elsewhere, sum_below-zero g.vertex_count, z.total, here)
+        where
+          here : cond (is_member 0 s.order && ltb 0 (get_or s.depth 0 0)) 0 (get_or size 0 0) ≡ get_or size 0 0
+          here =
+              let d = root-depth one l in
+              cond-no (is_member 0 s.order && ltb 0 (get_or s.depth 0 0)) 0 (get_or size 0 0) (second-no (is_member 0 s.order) (ltb 0 (get_or s.depth 0 0)) (grind (arith, d)))
+
+          elsewhere : (c : ℕ) → c < g.vertex_count → c ≢ 0 → cond (is_member c s.order && ltb 0 (get_or s.depth c 0)) 0 (get_or size c 0) ≡ 0
+          elsewhere c m q = elim (cases_lt 0 (get_or s.depth c 0)) [
+            | inl d ↦ cond-yes (is_member c s.order && ltb 0 (get_or s.depth c 0)) 0 (get_or size c 0) (both (is_member c s.order) (ltb 0 (get_or s.depth c 0)) (order-member g gg s o c m) (grind (arith, d)))
+            | inr e ↦ absurd (q (one c m (omega arith)))
+          ]
+
+      -- each number is a vertex's
+      pub each-number : (x : ℕ) → x < g.vertex_count → (v : ℕ) × (v < g.vertex_count) × (get_or number v 0 ≡ x)
+      each-number x l =
+          let p : 0 < g.vertex_count = omega arith in
+          let w = onto (suc x) x 0 (omega arith) p (omega (arith, root-size p)) in
+          (w.0, w.1, omega (arith, w.3, root-number 0 p (root-depth one p)))
+
+      pick : (x : ℕ) → (x < g.vertex_count) ⊎ (g.vertex_count ≤ x) → ℕ
+      pick x (inl l) = (each-number x l).0
+      pick x (inr m) = 0
+
+      pick-in : (x : ℕ) (c : (x < g.vertex_count) ⊎ (g.vertex_count ≤ x)) → x < g.vertex_count → pick x c < g.vertex_count
+      unfolding pick
+      pick-in x (inl l) m = (each-number x l).1
+      pick-in x (inr h) m = absurd (omega arith)
+
+      pick-number : (x : ℕ) (c : (x < g.vertex_count) ⊎ (g.vertex_count ≤ x)) → x < g.vertex_count → get_or number (pick x c) 0 ≡ x
+      unfolding pick
+      pick-number x (inl l) m = (each-number x l).2
+      pick-number x (inr h) m = absurd (omega arith)
+
+      -- each vertex is the one that its number is picked for
+      picked : (u : ℕ) → u < g.vertex_count → (x : ℕ) × (x < g.vertex_count) × (pick x (cases_lt x g.vertex_count) ≡ u)
+      picked u l =
+          let f = λ (x : ℕ). pick x (cases_lt x g.vertex_count) in
+          let t = λ (q : ℕ). some g.vertex_count (λ x. f x == q) in
+          let inj = λ (x y : ℕ) (xl : x < g.vertex_count) (yl : y < g.vertex_count) (p : true ≡ true) (q : true ≡ true) (e : f x ≡ f y). sym (pick-number x (cases_lt x g.vertex_count) xl) ∙ (ap (λ (v : ℕ). get_or number v 0) e ∙ pick-number y (cases_lt y g.vertex_count) yl) in
+          let c : count g.vertex_count (λ x. true) ≤ count g.vertex_count t = count-injection g.vertex_count g.vertex_count (λ x. true) t f (λ x xl h. pick-in x (cases_lt x g.vertex_count) xl) (λ x xl h. some-from g.vertex_count (λ y. f y == f x) x xl (eq-eqb (f x) (f x) refl)) inj in
+          let h : t u ≡ true = count-same g.vertex_count t (λ x. true) (λ x xl q. refl) c u l in
+          let w = some-witness g.vertex_count (λ x. f x == u) h in
+          (w.0, w.1, eqb-true (f w.0) u w.2)
+
+      -- vertices with the same number are one
+      pub differ : (u w : ℕ) → u < g.vertex_count → w < g.vertex_count → get_or number u 0 ≡ get_or number w 0 → u ≡ w
+      differ u w ul wl e =
+          let p = picked u ul in
+          let q = picked w wl in
+          let pn = ap (λ (v : ℕ). get_or number v 0) (sym p.2) ∙ pick-number p.0 (cases_lt p.0 g.vertex_count) p.1 in
+          let qn = ap (λ (v : ℕ). get_or number v 0) (sym q.2) ∙ pick-number q.0 (cases_lt q.0 g.vertex_count) q.1 in
+          let same_number : p.0 ≡ q.0 = sym pn ∙ (e ∙ qn) in
+          sym p.2 ∙ (ap (λ (x : ℕ). pick x (cases_lt x g.vertex_count)) same_number ∙ q.2)
+
+      -- a vertex with one of a vertex's numbers is below it
+      pub within-below : (v w : ℕ) → v < g.vertex_count → w < g.vertex_count → get_or number v 0 ≤ get_or number w 0 → get_or number w 0 < get_or number v 0 + get_or size v 0 → Below s v w
+      within-below v w l m h i =
+          let x = get_or number w 0 - get_or number v 0 in
+          let t = onto (suc x) x v (omega arith) l (omega arith) in
+          subst (Below s v) (differ t.0 w t.1 m (omega (arith, t.3))) t.2

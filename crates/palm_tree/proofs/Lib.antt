@@ -1,14 +1,6 @@
--- The lemmas on depth-first search and palm trees.
-mod See
-mod Turns
-mod Over
-mod Start
-mod Grown
-mod Taking
-mod Lows
-mod Telling
+-- The lemmas on palm trees.
+mod Begins
 mod Orders
-mod HandedOn
 mod Totals
 mod SizesHanded
 mod Offsets

@@ -4,11 +4,11 @@ use Rattle.permutations.specs.Permutation.{iterate}
 use Rattle.multigraph.specs.Graph.{Multigraph, edge_count, IsGraph}
 use Rattle.graph_theory.proofs.Chains.{chain-in, chain-depth}
 use Rattle.palm_tree.specs.PalmTree.{PalmTreeLists, IsReached, IsLow1, IsLow2}
-use Rattle.blocks.specs.Forest.{ForestState}
-use Rattle.palm_tree.specs.Searching.{IsOver}
+use Rattle.search_forest.specs.Forest.{ForestState}
+use Rattle.search_forest.specs.Searching.{IsOver}
 use Rattle.palm_tree.specs.Growing.{LowVertices, upper_end, is_tree_edge, LeadsFrom, IsTaken, AreLowVertices, AreSizes, AreChildren, AreOffsets, AreNumbersSoFar, AreFound}
-use Rattle.palm_tree.proofs.Grown.{forest, lower-in, upper-in, upper-below, order-member, parent-depth}
-use Rattle.palm_tree.proofs.Lows.{first-in, second-in, first-own}
+use Rattle.search_forest.proofs.Grown.{forest, lower-in, upper-in, upper-below, order-member, parent-depth}
+use Rattle.search_forest.proofs.Lows.{first-in, second-in, first-own}
 use Rattle.palm_tree.proofs.Intervals.{Below, trans, same, comparable, in-order, strictly}
 use Rattle.palm_tree.proofs.Palm.{reached-from, reached-to}
 
@@ -19,7 +19,7 @@ module _ (g : Multigraph) (gg : IsGraph g) (s : ForestState) (o : IsOver g s) (l
       let a = w.first_handed c (order-member g gg s o c l) d in
       let b = w.second_handed c (order-member g gg s o c l) d in
       let pd = parent-depth g gg s o c l d in
-      let pl = o.searching.grown.parent_in c (o.visited c l) d in
+      let pl = o.forest.grown.parent_in c (o.visited c l) d in
       let fo = first-own g gg s o low (edge_count g) s.order w (get_or s.parent c 0) pl in
       record {
         first = omega (arith, a.first, t.first);

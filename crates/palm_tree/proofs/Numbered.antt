@@ -3,14 +3,14 @@ use Rattle.std.proofs.Common.{◌≡◌, ℕ, ◌<◌, inl, inr, List, length, g
 use Rattle.std.proofs.lemmas.Bool.{cases_lt}
 use Rattle.multigraph.specs.Graph.{Multigraph, IsGraph}
 use Rattle.palm_tree.specs.PalmTree.{PalmTreeLists, IsParentEdge, AreNumbers, AreParents}
-use Rattle.blocks.specs.Forest.{ForestState}
-use Rattle.palm_tree.specs.Searching.{IsOver}
+use Rattle.search_forest.specs.Forest.{ForestState}
+use Rattle.search_forest.specs.Searching.{IsOver, IsOneTree}
 use Rattle.palm_tree.specs.Growing.{LowVertices, AreSizes, AreChildren, AreOffsets, AreNumbersSoFar, AreFound}
-use Rattle.palm_tree.proofs.Grown.{lower-in, parent-in, parent_edge-in, parent_edge-lower, parent_edge-tree, tree-is}
+use Rattle.search_forest.proofs.Grown.{lower-in, parent-in, parent_edge-in, parent_edge-lower, parent_edge-tree, tree-is}
 use Rattle.palm_tree.proofs.Intervals.{root-number, child-number, size-some, number-below, below-number, each-number, differ, within-below}
 use Rattle.palm_tree.proofs.Palm.{descendant-below, below-descendant, parent-root, parent-none, parent-some, mark-tree, mark-frond, to-parent_edge, from-parent_edge, to-frond}
 
-module _ (g : Multigraph) (gg : IsGraph g) (s : ForestState) (o : IsOver g s) (low : LowVertices) (size offset children number : List ℕ) (z : AreSizes g s size) (k : AreChildren g s children) (a : AreOffsets g s size children offset) (n : AreNumbersSoFar g s size offset s.order number) (edges : List ℕ) (t : PalmTreeLists) (f : AreFound g s low edges number t) where
+module _ (g : Multigraph) (gg : IsGraph g) (s : ForestState) (o : IsOver g s) (one : IsOneTree g s) (low : LowVertices) (size offset children number : List ℕ) (z : AreSizes g s size) (k : AreChildren g s children) (a : AreOffsets g s size children offset) (n : AreNumbersSoFar g s size offset s.order number) (edges : List ℕ) (t : PalmTreeLists) (f : AreFound g s low edges number t) where
   numbered : (y : ℕ) → get_or t.number y 0 ≡ get_or number y 0
   numbered y = ap (λ (l : List ℕ). get_or l y 0) f.number
 
@@ -18,8 +18,8 @@ module _ (g : Multigraph) (gg : IsGraph g) (s : ForestState) (o : IsOver g s) (l
   are-numbers = record {
     places = ap (length {A = ℕ}) f.number ∙ n.places;
     below = λ v l. omega (arith, numbered v, number-below g gg s o size offset children number z k a n v l, size-some g gg s o size offset children number z k a n v l);
-    each = λ x l. let w = each-number g gg s o size offset children number z k a n x l in (w.0, w.1, numbered w.0 ∙ w.2);
-    differ = λ u v ul vl e. differ g gg s o size offset children number z k a n u v ul vl (sym (numbered u) ∙ (e ∙ numbered v));
+    each = λ x l. let w = each-number g gg s o size offset children number z k a n one x l in (w.0, w.1, numbered w.0 ∙ w.2);
+    differ = λ u v ul vl e. differ g gg s o size offset children number z k a n one u v ul vl (sym (numbered u) ∙ (e ∙ numbered v));
     consecutive = λ v l. record {
       size = get_or size v 0;
       last = omega (arith, numbered v, number-below g gg s o size offset children number z k a n v l);
@@ -28,7 +28,7 @@ module _ (g : Multigraph) (gg : IsGraph g) (s : ForestState) (o : IsOver g s) (l
             let b = descendant-below g gg s o low edges number t f v y m d in
             let r = below-number g gg s o size offset children number z k a n v y m b in
             (omega (arith, numbered v, numbered y, r.0), omega (arith, numbered v, numbered y, r.1, size-some g gg s o size offset children number z k a n y m)),
-        λ r. below-descendant g gg s o low edges number t f v y m (within-below g gg s o size offset children number z k a n v y l m (omega (arith, numbered v, numbered y, r.0)) (omega (arith, numbered v, numbered y, r.1))),
+        λ r. below-descendant g gg s o low edges number t f v y m (within-below g gg s o size offset children number z k a n one v y l m (omega (arith, numbered v, numbered y, r.0)) (omega (arith, numbered v, numbered y, r.1))),
       );
     };
   }

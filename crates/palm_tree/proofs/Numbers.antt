@@ -5,11 +5,11 @@ use Rattle.std.proofs.lemmas.List.{length-replicate, take_more, drop_more, take-
 use Rattle.permutations.specs.Members.{is_member, is_distinct}
 use Rattle.permutations.proofs.Members.{member-head, member-cases, member-append_left, member-append_cases, distinct-append_apart}
 use Rattle.multigraph.specs.Graph.{Multigraph, IsGraph, IsWithinLimits}
-use Rattle.blocks.specs.Forest.{ForestState}
-use Rattle.palm_tree.specs.Searching.{IsOver}
+use Rattle.search_forest.specs.Forest.{ForestState}
+use Rattle.search_forest.specs.Searching.{IsOver}
 use Rattle.palm_tree.specs.Growing.{AreSizes, HasRoom, AreNumbersSoFar}
-use Rattle.blocks.proofs.Writes.{number-same, number-other}
-use Rattle.palm_tree.proofs.Grown.{parent-in, order-in}
+use Rattle.search_forest.proofs.Writes.{number-same, number-other}
+use Rattle.search_forest.proofs.Grown.{parent-in, order-in}
 
 module _ (g : Multigraph) (gg : IsGraph g) (s : ForestState) (o : IsOver g s) (size offset : List ℕ) (z : AreSizes g s size) (room : HasRoom g s size offset) where
   -- no vertex is numbered yet
@@ -66,7 +66,7 @@ module _ (g : Multigraph) (gg : IsGraph g) (s : ForestState) (o : IsOver g s) (s
 
   order-out : (i : ℕ) → i < length s.order → is_member (get_or s.order i 0) (take i s.order) ≡ false
   order-out i l =
-      let d : is_distinct (take i s.order ++ drop i s.order) ≡ true = subst (λ (x : List ℕ). is_distinct x ≡ true) (sym (take-append-drop i s.order)) o.searching.ordered.distinct in
+      let d : is_distinct (take i s.order ++ drop i s.order) ≡ true = subst (λ (x : List ℕ). is_distinct x ≡ true) (sym (take-append-drop i s.order)) o.forest.ordered.distinct in
       let b : is_member (get_or s.order i 0) (drop i s.order) ≡ true = ap (is_member (get_or s.order i 0)) (drop_more s.order i 0 l) ∙ member-head (get_or s.order i 0) (drop (i + 1) s.order) in
       false_from_ne_true (is_member (get_or s.order i 0) (take i s.order)) (λ h. true≢false (sym b ∙ distinct-append_apart (take i s.order) (drop i s.order) d (get_or s.order i 0) h))
 
@@ -97,7 +97,7 @@ module _ (g : Multigraph) (gg : IsGraph g) (s : ForestState) (o : IsOver g s) (s
       t = ap (λ (x : ℕ). take i s.order ++ x ∷ []) e ∙ sym (take_more s.order i 0 l)
 
       parent : 0 < get_or s.depth v 0 → is_member (get_or s.parent v 0) (take i s.order) ≡ true
-      parent d = subst (λ (k : ℕ). is_member (get_or s.parent k 0) (take i s.order) ≡ true) (sym e) (o.searching.ordered.behind_parent i l (subst (λ (k : ℕ). 0 < get_or s.depth k 0) e d))
+      parent d = subst (λ (k : ℕ). is_member (get_or s.parent k 0) (take i s.order) ≡ true) (sym e) (o.forest.ordered.behind_parent i l (subst (λ (k : ℕ). 0 < get_or s.depth k 0) e d))
 
   -- the vertex is one, its parent too, and the number can be counted on
   pub number-can : IsWithinLimits g → (i v : ℕ) (number : List ℕ) → i < length s.order → v ≡ get_or s.order i 0 → AreNumbersSoFar g s size offset (take i s.order) number
@@ -108,4 +108,4 @@ module _ (g : Multigraph) (gg : IsGraph g) (s : ForestState) (o : IsOver g s) (s
       vl = omega (arith, e, order-in g gg s o i l)
 
       parent : 0 < get_or s.depth v 0 → is_member (get_or s.parent v 0) (take i s.order) ≡ true
-      parent d = subst (λ (k : ℕ). is_member (get_or s.parent k 0) (take i s.order) ≡ true) (sym e) (o.searching.ordered.behind_parent i l (subst (λ (k : ℕ). 0 < get_or s.depth k 0) e d))
+      parent d = subst (λ (k : ℕ). is_member (get_or s.parent k 0) (take i s.order) ≡ true) (sym e) (o.forest.ordered.behind_parent i l (subst (λ (k : ℕ). 0 < get_or s.depth k 0) e d))

@@ -8,11 +8,11 @@ use Rattle.permutations.proofs.Arrangements.{member-at}
 use Rattle.permutations.proofs.Sums.{sum_below-ext, sum_below-zero}
 use Rattle.permutations.proofs.Relation.{same-tests}
 use Rattle.multigraph.specs.Graph.{Multigraph, IsGraph, IsWithinLimits}
-use Rattle.blocks.specs.Forest.{ForestState}
-use Rattle.palm_tree.specs.Searching.{IsOver}
+use Rattle.search_forest.specs.Forest.{ForestState}
+use Rattle.search_forest.specs.Searching.{IsOver}
 use Rattle.palm_tree.specs.Growing.{is_child, size_among, AreSizes, AreChildren, AreOffsetsSoFar, AreOffsets}
-use Rattle.blocks.proofs.Writes.{number-same, number-other}
-use Rattle.palm_tree.proofs.Grown.{parent-in, order-member}
+use Rattle.search_forest.proofs.Writes.{number-same, number-other}
+use Rattle.search_forest.proofs.Grown.{parent-in, order-member}
 use Rattle.palm_tree.proofs.Orders.{before-push, before-first, before-second}
 use Rattle.palm_tree.proofs.SizesHanded.{among-grows, among-more, both, second-of_both, child-deep}
 

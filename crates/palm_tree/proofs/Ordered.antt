@@ -14,11 +14,11 @@ use Rattle.graph_theory.proofs.Chains.{below-cases}
 use Rattle.graph_theory.proofs.Crossings.{block-one_side}
 use Rattle.graph_theory.proofs.Ends.{other-other, end-cases, end-in}
 use Rattle.palm_tree.specs.PalmTree.{PalmTreeLists, is_frond, darts_of, number_reached, dart_class, AreInOrder, LaterIsLess}
-use Rattle.blocks.specs.Forest.{ForestState}
-use Rattle.palm_tree.specs.Searching.{IsOver}
+use Rattle.search_forest.specs.Forest.{ForestState}
+use Rattle.search_forest.specs.Searching.{IsOver}
 use Rattle.palm_tree.specs.Growing.{LowVertices, is_tree_edge, upper_end, begin_of, sort_key, hangs, tree_edges, lower_ends, numbering_order, IsBefore, IsSortedByKeys, AreEdges, AreLowVertices, AreSizes, AreChildren, AreOffsets, AreNumbersSoFar, AreFound}
-use Rattle.palm_tree.proofs.Grown.{forest, lower-end, lower-in, lower-deep, upper-in, upper-below, tree-upper, tree-is, parent-in, parent-depth}
-use Rattle.palm_tree.proofs.Lows.{first-in, second-in}
+use Rattle.search_forest.proofs.Grown.{forest, lower-end, lower-in, lower-deep, upper-in, upper-below, tree-upper, tree-is, parent-in, parent-depth}
+use Rattle.search_forest.proofs.Lows.{first-in, second-in}
 use Rattle.palm_tree.proofs.Orders.{before-places, before-at, before-filter, filter-before, before-reverse, before-map, before-left, before-right}
 use Rattle.palm_tree.proofs.Intervals.{Below, trans, same, up, comparable, deeper, in-order, strictly, child-number, children-rise}
 use Rattle.palm_tree.proofs.Palm.{dart-from, mark-tree, tree-mark, other-mark}

@@ -1,4 +1,4 @@
--- Lists without repetition of numbers below a bound: how long they are, and which of two members stands before the other.
+-- Which of two members of a list is before the other.
 use Rattle.std.proofs.Common.{◌≡◌, ◌≢◌, ℕ, zero, suc, ◌<◌, ◌≤◌, ◌⊎◌, inl, inr, Bool, true, List, [], ◌∷◌, ◌++◌, length, map, filter, reverse, get_or, refl, sym, ap, ◌∙◌, subst, arith}
 use Rattle.std.proofs.lemmas.Bool.{cases_Bool, true≢false}
 use Rattle.std.proofs.lemmas.List.{reverse-append}
@@ -10,18 +10,10 @@ use Rattle.permutations.proofs.Filter.{filter-yes, filter-no, member-filter_part
 use Rattle.permutations.proofs.Places.{place-of}
 use Rattle.permutations.proofs.Mapped.{member-map}
 use Rattle.multigraph.specs.Graph.{Multigraph}
-use Rattle.blocks.specs.Forest.{ForestState}
-use Rattle.palm_tree.specs.Searching.{IsOver}
+use Rattle.search_forest.specs.Forest.{ForestState}
+use Rattle.search_forest.specs.Searching.{IsOver}
 use Rattle.palm_tree.specs.Growing.{IsBefore}
-use Rattle.blocks.proofs.Writes.{marked-in}
-
--- different numbers below n are at most n
-pub short : (n : ℕ) (l : List ℕ) → is_distinct l ≡ true → ((x : ℕ) → is_member x l ≡ true → x < n) → length l ≤ n
-short n l d w = omega (arith, count-list n (λ x. is_member x l) l d w (λ x h. refl), count-within n (λ x. is_member x l))
-
--- the order has no more places than there are vertices
-pub order-length : (g : Multigraph) (s : ForestState) → IsOver g s → length s.order ≤ g.vertex_count
-order-length g s o = short g.vertex_count s.order o.searching.ordered.distinct (λ v h. omega (arith, marked-in s.visited v (sym (o.searching.ordered.members v) ∙ h), o.searching.places.visited))
+use Rattle.search_forest.proofs.Writes.{marked-in}
 
 -- a member at an earlier place stands before
 pub before-places : (l : List ℕ) (i j : ℕ) → i < j → j < length l → IsBefore l (get_or l i 0) (get_or l j 0)

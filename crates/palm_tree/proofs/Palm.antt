@@ -1,6 +1,6 @@
 -- The tree that was found as a palm tree: parents, parent edges, fronds and what is reached.
 use Rattle.std.proofs.Common.{◌≡◌, ℕ, zero, suc, ◌<◌, ◌≤◌, inl, inr, Bool, true, false, if◌then◌else◌, not, ◌==◌, ltb, List, get_or, Option, None, Some, refl, sym, ap, ◌∙◌, subst, arith}
-use Rattle.std.proofs.lemmas.Bool.{cases_Bool, cases_lt, eq-eqb, eqb-true, true≢false}
+use Rattle.std.proofs.lemmas.Bool.{cases_Bool, cases_lt, lt-ltb, le-ltb, eq-eqb, eqb-true, true≢false}
 use Rattle.permutations.specs.Members.{is_member, is_distinct}
 use Rattle.permutations.specs.Permutation.{iterate}
 use Rattle.permutations.proofs.Iterates.{iterate-first, iterate-more}
@@ -8,10 +8,11 @@ use Rattle.permutations.proofs.Filter.{filter-member, member-filter_parts, disti
 use Rattle.multigraph.specs.Graph.{Multigraph, edge_count, other_end, IsGraph}
 use Rattle.graph_theory.proofs.Ends.{other-other, end-cases, end-in}
 use Rattle.palm_tree.specs.PalmTree.{PalmTreeLists, parent_of, is_frond, darts_of, Climbs, IsDescendant, IsParentEdge, IsFrondFrom, BeginsAt, IsReached, AreDarts}
-use Rattle.blocks.specs.Forest.{ForestState}
-use Rattle.palm_tree.specs.Searching.{IsOver}
+use Rattle.search_forest.specs.Forest.{ForestState}
+use Rattle.search_forest.specs.Searching.{IsOver}
 use Rattle.palm_tree.specs.Growing.{LowVertices, is_tree_edge, upper_end, begin_of, LeadsFrom, AreFound, AreEdges}
-use Rattle.palm_tree.proofs.Grown.{parent-in, parent-depth, lower-end, lower-in, lower-deep, upper-below, upper-depth, tree-upper, begin-in}
+use Rattle.palm_tree.proofs.Begins.{begin-in}
+use Rattle.search_forest.proofs.Grown.{parent-in, parent-depth, lower-end, lower-in, lower-deep, upper-below, upper-depth, tree-upper}
 use Rattle.palm_tree.proofs.Intervals.{Below, trans, same, up, deeper}
 
 -- the number in an answer
@@ -42,10 +43,10 @@ not-true b h = grind (arith, cases_Bool b, h)
 module _ (g : Multigraph) (gg : IsGraph g) (s : ForestState) (o : IsOver g s) (low : LowVertices) (edges numbers : List ℕ) (t : PalmTreeLists) (f : AreFound g s low edges numbers t) where
   -- parents
   pub parent-deep : (v : ℕ) → v < g.vertex_count → 0 < get_or s.depth v 0 → parent_of t v ≡ Some (get_or s.parent v 0)
-  parent-deep v l d = let b : ltb 0 (get_or s.depth v 0) ≡ true = grind (arith, d) in f.parent.at v l ∙ ap (λ (c : Bool). (if c then Some (get_or s.parent v 0) else None)) b
+  parent-deep v l d = let b : ltb 0 (get_or s.depth v 0) ≡ true = lt-ltb 0 (get_or s.depth v 0) d in f.parent.at v l ∙ ap (λ (c : Bool). (if c then Some (get_or s.parent v 0) else None)) b
 
   pub parent-root : (v : ℕ) → v < g.vertex_count → get_or s.depth v 0 ≡ 0 → parent_of t v ≡ None
-  parent-root v l d = let b : ltb 0 (get_or s.depth v 0) ≡ false = grind (arith, d) in f.parent.at v l ∙ ap (λ (c : Bool). (if c then Some (get_or s.parent v 0) else None)) b
+  parent-root v l d = let b : ltb 0 (get_or s.depth v 0) ≡ false = le-ltb 0 (get_or s.depth v 0) (omega arith) in f.parent.at v l ∙ ap (λ (c : Bool). (if c then Some (get_or s.parent v 0) else None)) b
 
   pub parent-some : (v p : ℕ) → v < g.vertex_count → parent_of t v ≡ Some p → (0 < get_or s.depth v 0) × (get_or s.parent v 0 ≡ p)
   parent-some v p l e = elim (cases_lt 0 (get_or s.depth v 0)) [

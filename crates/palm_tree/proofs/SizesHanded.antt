@@ -7,11 +7,11 @@ use Rattle.permutations.specs.Members.{is_member}
 use Rattle.permutations.proofs.Members.{member-head}
 use Rattle.permutations.proofs.Sums.{sum_below-ext, sum_below-le, sum_below-zero, sum_below-const}
 use Rattle.multigraph.specs.Graph.{Multigraph, IsGraph, IsWithinLimits}
-use Rattle.blocks.specs.Forest.{ForestState}
-use Rattle.palm_tree.specs.Searching.{IsOver}
+use Rattle.search_forest.specs.Forest.{ForestState}
+use Rattle.search_forest.specs.Searching.{IsOver}
 use Rattle.palm_tree.specs.Growing.{is_child, size_among, AreSizesSoFar}
-use Rattle.blocks.proofs.Writes.{number-same, number-other}
-use Rattle.palm_tree.proofs.Grown.{parent-in, parent-depth, order-in, order-from, order-once, parent-before}
+use Rattle.search_forest.proofs.Writes.{number-same, number-other}
+use Rattle.search_forest.proofs.Grown.{parent-in, parent-depth, order-in, order-from, order-once, parent-before}
 use Rattle.palm_tree.proofs.Totals.{sum-change, sum-two, cond-yes, cond-no}
 
 -- a child is deep

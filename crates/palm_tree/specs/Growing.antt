@@ -5,30 +5,9 @@ use Rattle.permutations.specs.Count.{sum_below}
 use Rattle.graph_theory.specs.SearchTree.{IsBelow}
 use Rattle.permutations.specs.Members.{is_member, is_distinct}
 use Rattle.multigraph.specs.Graph.{Multigraph, edge_count, other_end}
-use Rattle.blocks.specs.Forest.{ForestState}
+pub use Rattle.search_forest.specs.Forest.{ForestState, is_tree_edge, upper_end, parent_at}
+pub use Rattle.search_forest.specs.Low.{LowVertices, taken, Tells, LeadsFrom, IsTaken, AreLowSoFar, AreLowVertices, CanTake}
 use Rattle.palm_tree.specs.PalmTree.{PalmTreeLists}
-
--- whether e is the parent edge of its lower end
-abbrev pub is_tree_edge : ForestState → ℕ → Bool
-is_tree_edge s e = slice_index s.parent_edge (slice_index s.lower e) == e
-
--- the end of e that is not its lower one
-abbrev pub upper_end : Multigraph → ForestState → ℕ → ℕ
-upper_end g s e = other_end g e (slice_index s.lower e)
-
--- for each vertex two vertices, at its two low points
-pub record LowVertices : Type 0 where
-  pub first : List ℕ
-  pub second : List ℕ
-
--- x is taken into account at v: vertices count by their depths
-abbrev pub taken : List ℕ → LowVertices → ℕ → ℕ → LowVertices
-taken depth low v x =
-    (if nat_lt (slice_index depth x) (slice_index depth (slice_index low.first v))
-    then record { first = slice_set low.first v x; second = slice_set low.second v (slice_index low.first v) }
-    else (if nat_lt (slice_index depth (slice_index low.first v)) (slice_index depth x) && nat_lt (slice_index depth x) (slice_index depth (slice_index low.second v))
-    then record { first = low.first; second = slice_set low.second v x }
-    else low))
 
 -- the vertex that the dart e leads to: for a parent edge the first low vertex of the child, for a frond the upper end
 abbrev pub vertex_reached : Multigraph → ForestState → LowVertices → ℕ → ℕ
@@ -59,58 +38,24 @@ tree_key s low c p =
 abbrev pub hangs : LowVertices → ℕ → Bool
 hangs low v = slice_index low.first v == v
 
--- the list tells f of each number below k
-pub record Tells {A : Type 0} (d : A) (f : ℕ → A) (k : ℕ) (l : List A) : Type 0 where
-  pub places : length l ≡ k
-  pub at : (j : ℕ) → j < k → slice_index_or l j d ≡ f j
-
--- the edges below m, each once, such that their keys do not fall
+-- the edges below m, each once, such that their keys do not decrease
 pub record IsSortedByKeys (m : ℕ) (key : ℕ → ℕ) (l : List ℕ) : Type 0 where
   pub distinct : is_distinct l ≡ true
   pub within : (e : ℕ) → is_member e l ≡ true → e < m
   pub each : (e : ℕ) → e < m → is_member e l ≡ true
   pub rising : (i j : ℕ) → i < j → j < length l → key (slice_index l i) ≤ key (slice_index l j)
 
--- of these edges the parent edges whose child hangs, or those whose child does not
+-- of these edges the parent edges whose child is attached by a bridge, or those whose child is not
 abbrev pub tree_edges : ForestState → LowVertices → Bool → List ℕ → List ℕ
 tree_edges s low hanging l = filter (λ e. is_tree_edge s e && beq (hangs low (slice_index s.lower e)) hanging) l
 
--- the children, with the lower end of e behind them where e is the parent edge of a child that
--- hangs, or of one that does not, as is asked
+-- the children, with the lower end of e after them where e is the parent edge of a child that is attached by a bridge,
+-- or of one that is not, as is asked
 abbrev pub with_child : ForestState → LowVertices → Bool → ℕ → List ℕ → List ℕ
 with_child s low hanging e children =
     (if is_tree_edge s e && beq (hangs low (slice_index s.lower e)) hanging
     then children ++ slice_index s.lower e ∷ []
     else children)
-
--- a frond whose lower end is v or a descendant of v leads to x
-pub record LeadsFrom (g : Multigraph) (s : ForestState) (v x : ℕ) : Type 0 where
-  pub edge : ℕ
-  pub edge_in : edge < edge_count g
-  pub frond : is_tree_edge s edge ≡ false
-  pub below : IsBelow (slice_index s.parent) (slice_index s.depth) v (slice_index s.lower edge)
-  pub upper : upper_end g s edge ≡ x
-
--- x was taken into account at v: the first low vertex is no deeper, and the second neither but where x is as deep as the first
-pub record IsTaken (depth : List ℕ) (low : LowVertices) (v x : ℕ) : Type 0 where
-  pub first : slice_index depth (slice_index low.first v) ≤ slice_index depth x
-  pub second : (slice_index depth x ≡ slice_index depth (slice_index low.first v)) ⊎ (slice_index depth (slice_index low.second v) ≤ slice_index depth x)
-
--- the two low vertices are right for the fronds below k, and for what these vertices handed on to their parents
-pub record AreLowSoFar (g : Multigraph) (s : ForestState) (low : LowVertices) (k : ℕ) (handed : List ℕ) : Type 0 where
-  pub first_places : length low.first ≡ g.vertex_count
-  pub second_places : length low.second ≡ g.vertex_count
-  pub first_among : (v : ℕ) → v < g.vertex_count → (slice_index low.first v ≡ v) ⊎ LeadsFrom g s v (slice_index low.first v)
-  pub second_among : (v : ℕ) → v < g.vertex_count → (slice_index low.second v ≡ v) ⊎ LeadsFrom g s v (slice_index low.second v)
-  pub apart : (v : ℕ) → v < g.vertex_count → ((slice_index low.first v ≡ v) × (slice_index low.second v ≡ v)) ⊎ (slice_index s.depth (slice_index low.first v) < slice_index s.depth (slice_index low.second v))
-  pub own : (v : ℕ) → v < g.vertex_count → slice_index s.depth (slice_index low.second v) ≤ slice_index s.depth v
-  pub fronds : (e : ℕ) → e < k → e < edge_count g → is_tree_edge s e ≡ false → IsTaken s.depth low (slice_index s.lower e) (upper_end g s e)
-  pub first_handed : (v : ℕ) → is_member v handed ≡ true → 0 < slice_index s.depth v → IsTaken s.depth low (slice_index s.parent v) (slice_index low.first v)
-  pub second_handed : (v : ℕ) → is_member v handed ≡ true → 0 < slice_index s.depth v → IsTaken s.depth low (slice_index s.parent v) (slice_index low.second v)
-
--- the two low vertices of each vertex, when all was handed on
-abbrev pub AreLowVertices : Multigraph → ForestState → LowVertices → Type 0
-AreLowVertices g s low = AreLowSoFar g s low (edge_count g) s.order
 
 -- whether c is a child of q
 abbrev pub is_child : ForestState → ℕ → ℕ → Bool
@@ -135,12 +80,12 @@ AreSizes g s size = AreSizesSoFar g s size s.order
 abbrev pub lower_ends : ForestState → List ℕ → List ℕ
 lower_ends s edges = map (slice_index s.lower) edges
 
--- x stands in the list before y
+-- x is in the list before y
 abbrev pub IsBefore : List ℕ → ℕ → ℕ → Type 0
 IsBefore [] x y = ⊥
 IsBefore (z ∷ l) x y = ((z ≡ x) × (is_member y l ≡ true)) ⊎ IsBefore l x y
 
--- each of these vertices but the root has a place behind its parent, such that children of one parent follow one another, in this
+-- each of these vertices but the root has a place after its parent, such that children of one parent follow one another, in this
 -- order, as far as is filled
 pub record AreOffsetsSoFar (g : Multigraph) (s : ForestState) (size : List ℕ) (given : List ℕ) (offset filled : List ℕ) : Type 0 where
   pub offset_places : length offset ≡ g.vertex_count
@@ -154,7 +99,7 @@ pub record AreOffsetsSoFar (g : Multigraph) (s : ForestState) (size : List ℕ) 
 abbrev pub filled_beside : ForestState → List ℕ → ℕ → ℕ
 filled_beside s filled c = slice_index filled (slice_index s.parent c)
 
--- the places, where c has the one behind what is filled below its parent
+-- the places, where c has the one after what is filled below its parent
 abbrev pub place_given : ForestState → List ℕ → List ℕ → ℕ → List ℕ
 place_given s filled offset c = slice_set offset c (filled_beside s filled c)
 
@@ -168,18 +113,18 @@ pub record AreChildren (g : Multigraph) (s : ForestState) (children : List ℕ) 
   pub within : (c : ℕ) → is_member c children ≡ true → (c < g.vertex_count) × (0 < slice_index s.depth c)
   pub each : (c : ℕ) → c < g.vertex_count → 0 < slice_index s.depth c → is_member c children ≡ true
 
--- the number that v has by its place behind its parent
+-- the number that v has by its place after its parent
 abbrev pub number_by_place : ForestState → List ℕ → List ℕ → ℕ → ℕ
 number_by_place s offset number v = slice_index number (slice_index s.parent v) + 1 + slice_index offset v
 
--- the numbers, where v is numbered too: the root 0, another vertex by its place behind its parent
+-- the numbers, where v is numbered too: the root 0, another vertex by its place after its parent
 abbrev pub number_given : ForestState → List ℕ → List ℕ → ℕ → List ℕ
 number_given s offset number v =
     (if nat_lt 0 (slice_index s.depth v)
     then slice_set number v (number_by_place s offset number v)
     else slice_set number v 0)
 
--- these vertices are numbered: the root 0, each other vertex by its place behind its parent
+-- these vertices are numbered: the root 0, each other vertex by its place after its parent
 pub record AreNumbersSoFar (g : Multigraph) (s : ForestState) (size offset done number : List ℕ) : Type 0 where
   pub places : length number ≡ g.vertex_count
   pub root : (v : ℕ) → is_member v done ≡ true → slice_index s.depth v ≡ 0 → slice_index number v ≡ 0
@@ -187,20 +132,16 @@ pub record AreNumbersSoFar (g : Multigraph) (s : ForestState) (size offset done 
   pub few : (v : ℕ) → is_member v done ≡ true → slice_index number v + slice_index size v ≤ g.vertex_count
   pub parent_done : (v : ℕ) → is_member v done ≡ true → 0 < slice_index s.depth v → is_member (slice_index s.parent v) done ≡ true
 
--- the numbers of each vertex but the root, and its descendants, lie among those behind its parent
+-- the numbers of each vertex but the root, and its descendants, lie among those after its parent
 abbrev pub HasRoom : Multigraph → ForestState → List ℕ → List ℕ → Type 0
 HasRoom g s size offset = (c : ℕ) → c < g.vertex_count → 0 < slice_index s.depth c → slice_index offset c + slice_index size c + 1 ≤ slice_index size (slice_index s.parent c)
 
--- the places of these children behind their parents: those of one parent follow one another, in this order, and leave no number out
+-- the places of these children after their parents: those of one parent follow one another, in this order, and leave no number out
 pub record AreOffsets (g : Multigraph) (s : ForestState) (size children offset : List ℕ) : Type 0 where
   pub places : length offset ≡ g.vertex_count
   pub room : HasRoom g s size offset
   pub covers : (q x : ℕ) → q < g.vertex_count → x + 1 < slice_index size q → (c : ℕ) × (is_member c children ≡ true) × (slice_index s.parent c ≡ q) × (slice_index offset c ≤ x) × (x < slice_index offset c + slice_index size c)
   pub follow : (c d : ℕ) → IsBefore children c d → slice_index s.parent c ≡ slice_index s.parent d → slice_index offset c + slice_index size c ≤ slice_index offset d
-
--- the parent of v, where v isn't the root
-abbrev pub parent_at : ForestState → ℕ → Option ℕ
-parent_at s v = (if nat_lt 0 (slice_index s.depth v) then Some (slice_index s.parent v) else None)
 
 -- the lists hold, for each vertex, those of these edges that begin there as darts, in their order
 pub record AreListsOf (g : Multigraph) (s : ForestState) (edges : List ℕ) (lists : List (List ℕ)) : Type 0 where
@@ -233,11 +174,3 @@ pub record AreNumbered (g : Multigraph) (s : ForestState) (low : LowVertices) (e
   pub sizes : AreSizes g s size
   pub offsets : AreOffsets g s size (numbering_order s low edges) offset
   pub numbers : AreNumbersSoFar g s size offset s.order number
-
--- v and x have places where x is to be taken into account at v
-pub record CanTake (depth : List ℕ) (low : LowVertices) (v x : ℕ) : Type 0 where
-  pub first_within : v < length low.first
-  pub second_within : v < length low.second
-  pub reached_within : x < length depth
-  pub first_deep : slice_index low.first v < length depth
-  pub second_deep : slice_index low.second v < length depth

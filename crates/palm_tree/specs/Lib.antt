@@ -1,4 +1,3 @@
 -- Palm trees of a connected multigraph, and the search that grows them.
 pub mod PalmTree
-pub mod Searching
 pub mod Growing

@@ -3,9 +3,9 @@
 -- graphs by.
 use Rattle.std.specs.Prelude.{◌≡◌, ◌≢◌, ℕ, zero, suc, ◌+◌, ◌<◌, ◌≤◌, ◌↔◌, ◌⊎◌, Bool, true, false, nat_lt, if◌then◌else◌, List, [], length, Option, None, Some, slice_index, slice_index_or}
 use Rattle.permutations.specs.Members.{is_member, is_distinct}
-use Rattle.permutations.specs.Relation.{connected}
 use Rattle.multigraph.specs.Graph.{Multigraph, edge_count, is_end, other_end}
 use Rattle.graph_theory.specs.Block.{IsOneBlock}
+pub use Rattle.graph_theory.specs.Connected.{IsConnected}
 
 -- for each vertex its number, its parent, its two low points and its darts in order; for each edge whether it is a frond
 pub record PalmTreeLists : Type 0 where
@@ -15,10 +15,6 @@ pub record PalmTreeLists : Type 0 where
   pub low1 : List ℕ
   pub low2 : List ℕ
   pub darts : List (List ℕ)
-
--- the graph is connected: edges connect any two vertices. So it is of a graph with no vertex
-abbrev pub IsConnected : Multigraph → Type 0
-IsConnected g = (u v : ℕ) → u < g.vertex_count → v < g.vertex_count → connected g.ends u v ≡ true
 
 -- the number of vertex v
 abbrev pub number_of : PalmTreeLists → ℕ → ℕ
@@ -36,7 +32,7 @@ is_frond t e = slice_index_or t.frond e false
 abbrev pub darts_of : PalmTreeLists → ℕ → List ℕ
 darts_of t v = slice_index_or t.darts v []
 
--- so many steps, each to the parent, lead from z to v
+-- this many steps, each to the parent, lead from z to v
 abbrev pub Climbs : PalmTreeLists → ℕ → ℕ → ℕ → Type 0
 Climbs t zero z v = z ≡ v
 Climbs t (suc k) z v = (p : ℕ) × (parent_of t z ≡ Some p) × Climbs t k p v
@@ -93,7 +89,7 @@ number_reached g t v e = (if is_frond t e then number_of t (other_end g e v) els
 abbrev pub dart_class : Multigraph → PalmTreeLists → ℕ → ℕ → ℕ
 dart_class g t v e = (if is_frond t e then 1 else (if nat_lt (slice_index t.low2 (other_end g e v)) (number_of t v) then 0 else 2))
 
--- the numbers of v and its descendants are those from its own on, so many as there are of them
+-- the numbers of v and its descendants are those from its own on, as many as there are of them
 pub record AreConsecutive (g : Multigraph) (t : PalmTreeLists) (v : ℕ) : Type 0 where
   pub size : ℕ
   pub last : number_of t v + size ≤ g.vertex_count
@@ -119,7 +115,7 @@ pub record AreParents (g : Multigraph) (t : PalmTreeLists) : Type 0 where
   pub tree : (e : ℕ) → e < edge_count g → is_frond t e ≡ false → (v : ℕ) × (v < g.vertex_count) × IsParentEdge g t v e
   pub fronds : (e : ℕ) → e < edge_count g → is_frond t e ≡ true → (z : ℕ) × (z < g.vertex_count) × IsFrondFrom g t z e
 
--- each edge is a dart of exactly one vertex, and stands once among its darts: that at which it begins
+-- each edge is a dart of exactly one vertex, and is once among its darts: that at which it begins
 pub record AreDarts (g : Multigraph) (t : PalmTreeLists) : Type 0 where
   pub places : length t.darts ≡ g.vertex_count
   pub begin : (v e : ℕ) → v < g.vertex_count → (is_member e (darts_of t v) ≡ true) ↔ BeginsAt g t v e
@@ -127,7 +123,7 @@ pub record AreDarts (g : Multigraph) (t : PalmTreeLists) : Type 0 where
   pub each : (e : ℕ) → e < edge_count g → (v : ℕ) × (v < g.vertex_count) × (is_member e (darts_of t v) ≡ true)
   pub only_one : (u v e : ℕ) → u < g.vertex_count → v < g.vertex_count → is_member e (darts_of t u) ≡ true → is_member e (darts_of t v) ≡ true → u ≡ v
 
--- the darts of v stand in order: by the number reached, and where it is the same by class
+-- the darts of v are in order: by the number reached, and where it is the same by class
 abbrev pub AreInOrder : Multigraph → PalmTreeLists → ℕ → Type 0
 AreInOrder g t v =
     (i j : ℕ) → i < j → j < length (darts_of t v) →
@@ -135,7 +131,7 @@ AreInOrder g t v =
     ((number_reached g t v (slice_index (darts_of t v) i) ≡ number_reached g t v (slice_index (darts_of t v) j)) ×
     (dart_class g t v (slice_index (darts_of t v) i) ≤ dart_class g t v (slice_index (darts_of t v) j)))
 
--- of two children of v the one whose parent edge stands earlier among the darts of v has the greater number
+-- of two children of v the one whose parent edge is earlier among the darts of v has the greater number
 abbrev pub LaterIsLess : Multigraph → PalmTreeLists → ℕ → Type 0
 LaterIsLess g t v =
     (i j : ℕ) → i < j → j < length (darts_of t v) →

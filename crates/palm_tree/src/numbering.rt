@@ -2,22 +2,30 @@
 ghost use Rattle.std.specs.Prelude.{◌≡◌, ◌+◌, ◌*◌, ◌<◌, ◌≤◌, ◌^◌, ◌++◌, ℕ, true, length, reverse, IfOk, slice_index};
 ghost use Rattle.permutations.specs.Members.{is_member};
 ghost use Rattle.multigraph.specs.Graph.{edge_count, IsGraph};
-ghost use Rattle.palm_tree.specs.Searching.{IsOver};
-ghost use Rattle.palm_tree.specs.Growing.{lower_ends, tree_edges, with_child, numbering_order, filled_beside, place_given, with_filled, number_by_place, number_given, AreLowVertices, AreSizes, AreChildren, AreOffsets, HasRoom, AreNumbersSoFar};
+ghost use Rattle.search_forest.specs.Searching.{IsOver};
+ghost use Rattle.palm_tree.specs.Growing.{hangs, lower_ends, tree_edges, with_child, numbering_order, filled_beside, place_given, with_filled, number_by_place, number_given, AreLowVertices, AreSizes, AreChildren, AreOffsets, HasRoom, AreNumbersSoFar};
 
 use crate::lists::copies;
-use crate::low::Low;
-use crate::search::Search;
 use multigraph::Graph;
+use search_forest::{Forest, Low};
 use std::alloc::{AllocError, Global};
 use std::sync::ledger::Ledger;
 use step_count::Steps;
 
-// Puts the lower end of the edge behind the children where the edge is its parent edge, and it hangs or not, as is asked.
+// Whether nothing leads from the vertex or below it past it: it is attached to its parent by a bridge.
+fn hangs(low: &Low, vertex: u32) -> bool
+    requires { vertex < length low.now.first }
+    ensures { result ≡ hangs low.now vertex }
+{
+    low.first_of(vertex) == vertex
+}
+
+// Appends the lower end of the edge to the children if the edge is its parent edge, and it is attached by a bridge or not, as
+// `hanging` says.
 fn add_child(
     children: &mut Vec<u32>,
     graph: &Graph,
-    search: &Search,
+    search: &Forest,
     low: &Low,
     edge: u32,
     hanging: bool,
@@ -30,17 +38,18 @@ fn add_child(
         ≡ with_child search.now low.now hanging edge children.old.items) }
 {
     let lower = search.lower_end(edge);
-    if search.is_tree_edge(graph, edge) && low.hangs(lower) == hanging {
+    if search.is_tree_edge(graph, edge) && hangs(low, lower) == hanging {
         children.push(lower)?;
     }
     Ok(())
 }
 
-// Puts behind the children those that have one of the edges as their parent edge, and that hang or not, as is asked.
+// Appends those children that have one of the edges as their parent edge, and are attached by a bridge or not, as `hanging`
+// says.
 fn add_children<L: Ledger>(
     children: &mut Vec<u32>,
     graph: &Graph,
-    search: &Search,
+    search: &Forest,
     low: &Low,
     edges: &[u32],
     hanging: bool,
@@ -72,12 +81,12 @@ fn reversed(alloc: Global, edges: &[u32]) -> Result<Vec<u32>, AllocError>
     Ok(backwards)
 }
 
-// The children in the order in which they are numbered: first, from the last edge to the first, those that do not hang, and
-// then, from the first edge to the last, those that hang. What a hanging child reaches is its own number.
+// The children in the order in which they are numbered: first, from the last edge to the first, those that are not attached
+// by a bridge, and then, from the first edge to the last, those that are. What such a child reaches is its own number.
 pub(crate) fn children_in_order<L: Ledger>(
     alloc: Global,
     graph: &Graph,
-    search: &Search,
+    search: &Forest,
     low: &Low,
     edges: &[u32],
     steps: &mut Steps<L>,
@@ -97,11 +106,11 @@ pub(crate) fn children_in_order<L: Ledger>(
     Ok(children)
 }
 
-// Gives the child the place behind what is filled below its parent.
+// Gives the child the place after what is filled below its parent.
 fn give_place(
     offset: &mut Vec<u32>,
     filled: &mut Vec<u32>,
-    search: &Search,
+    search: &Forest,
     sizes: &[u32],
     child: u32,
 )
@@ -121,11 +130,11 @@ fn give_place(
     filled[parent] += sizes[child as usize];
 }
 
-// How far behind its parent each child's numbers begin, children of one parent one after another in this order.
+// How far after its parent each child's numbers begin, children of one parent one after another in this order.
 pub(crate) fn offsets<L: Ledger>(
     alloc: Global,
     graph: &Graph,
-    search: &Search,
+    search: &Forest,
     sizes: &[u32],
     children: &[u32],
     steps: &mut Steps<L>,
@@ -148,8 +157,8 @@ pub(crate) fn offsets<L: Ledger>(
     Ok(offset)
 }
 
-// Numbers the vertex: the root 0, another one by its place behind its parent.
-fn give_number(number: &mut Vec<u32>, search: &Search, offset: &[u32], vertex: u32)
+// Numbers the vertex: the root 0, another one by its place after its parent.
+fn give_number(number: &mut Vec<u32>, search: &Forest, offset: &[u32], vertex: u32)
     requires number_within { vertex < length number.old.items }
     requires offset_within { vertex < length offset.now }
     requires parent_within { vertex < length search.now.parent }
@@ -173,7 +182,7 @@ fn give_number(number: &mut Vec<u32>, search: &Search, offset: &[u32], vertex: u
 pub(crate) fn numbers<L: Ledger>(
     alloc: Global,
     graph: &Graph,
-    search: &Search,
+    search: &Forest,
     sizes: &[u32],
     offset: &[u32],
     steps: &mut Steps<L>,
@@ -189,8 +198,7 @@ pub(crate) fn numbers<L: Ledger>(
     ensures cost { steps.new ≤ steps.old + graph.now.vertex_count }
     ensures rises { steps.old ≤ steps.new }
 {
-    // The sizes are known to the contract alone.
-    let _ = sizes;
+    let _ = sizes; // for the contract alone
     let mut number = copies(alloc, 0, graph.vertex_count())?;
     for vertex in search.order() {
         steps.tick();

@@ -1,12 +1,12 @@
 // How many vertices each vertex and its descendants are.
 ghost use Rattle.std.specs.Prelude.{◌≡◌, ◌+◌, ◌<◌, ◌≤◌, ◌^◌, length, drop, IfOk, slice_index, slice_set};
 ghost use Rattle.multigraph.specs.Graph.{IsGraph, IsWithinLimits};
-ghost use Rattle.palm_tree.specs.Searching.{IsOver};
+ghost use Rattle.search_forest.specs.Searching.{IsOver};
 ghost use Rattle.palm_tree.specs.Growing.{AreSizesSoFar, AreSizes};
 
 use crate::lists::copies;
-use crate::search::Search;
 use multigraph::Graph;
+use search_forest::Forest;
 use std::alloc::{AllocError, Global};
 use std::sync::ledger::Ledger;
 use step_count::Steps;
@@ -24,7 +24,7 @@ fn add_size(sizes: &mut Vec<u32>, vertex: u32, other: u32)
 }
 
 // Hands the size of the vertex on to its parent, where it has one.
-fn hand_on(sizes: &mut Vec<u32>, graph: &Graph, search: &Search, vertex: u32, place: usize)
+fn hand_on(sizes: &mut Vec<u32>, graph: &Graph, search: &Forest, vertex: u32, place: usize)
     requires graph { IsGraph graph.now }
     requires limits { IsWithinLimits graph.now }
     requires over { IsOver graph.now search.now }
@@ -34,9 +34,8 @@ fn hand_on(sizes: &mut Vec<u32>, graph: &Graph, search: &Search, vertex: u32, pl
         (drop (place + 1) search.now.order) }
     ensures { AreSizesSoFar graph.now search.now sizes.new.items (drop place search.now.order) }
 {
-    // The graph and the place are known to the contract alone.
-    let _ = graph;
-    let _ = place;
+    let _ = graph; // for the contract alone
+    let _ = place; // for the contract alone
     if search.depth_of(vertex) > 0 {
         add_size(sizes, search.parent_of(vertex), vertex);
     }
@@ -46,7 +45,7 @@ fn hand_on(sizes: &mut Vec<u32>, graph: &Graph, search: &Search, vertex: u32, pl
 pub(crate) fn sizes_below<L: Ledger>(
     alloc: Global,
     graph: &Graph,
-    search: &Search,
+    search: &Forest,
     steps: &mut Steps<L>,
 ) -> Result<Vec<u32>, AllocError>
     requires graph { IsGraph graph.now }

@@ -2,16 +2,15 @@
 ghost use Rattle.std.specs.Prelude.{◌≡◌, ◌+◌, ◌*◌, ◌<◌, ◌≤◌, ℕ, false, not, None, length, IfOk, slice_index};
 ghost use Rattle.multigraph.specs.Graph.{edge_count, IsGraph};
 ghost use Rattle.palm_tree.specs.PalmTree.{PalmTreeLists, IsPalmTree, IsConnected, number_of, parent_of, is_frond, darts_of};
-ghost use Rattle.palm_tree.specs.Searching.{IsOver};
+ghost use Rattle.search_forest.specs.Searching.{IsOver};
 ghost use Rattle.palm_tree.specs.Growing.{Tells, parent_at, is_tree_edge, AreLowVertices, AreEdges, AreNumbered};
 
 use crate::lists::darts;
-use crate::low::Low;
 use crate::numbering::{children_in_order, numbers, offsets};
-use crate::search::Search;
 use crate::sizes::sizes_below;
 use crate::sorting::sorted_edges;
 use multigraph::{Graph, Numbers};
+use search_forest::{Forest, Low};
 use std::alloc::{AllocError, Global};
 use std::marker::{Brand, Model};
 use std::sync::ledger::{Blank, Ledger};
@@ -47,7 +46,8 @@ impl Model for PalmTree {
 
 impl PalmTree {
     /// Grows a palm tree of a connected graph from vertex 0, with its low points and its darts in order (Tarjan 1972;
-    /// Hopcroft and Tarjan 1973; the classes of darts are those of Gutwenger and Mutzel 2001). Fails for want of memory alone.
+    /// Hopcroft and Tarjan 1973; the classes of darts are those of Gutwenger and Mutzel 2001). Fails only if
+    /// memory runs out.
     pub fn grow(alloc: Global, graph: &Graph) -> Result<PalmTree, AllocError>
         requires connected { IsConnected graph.now }
         ensures tree { IfOk result (λ t. IsPalmTree graph.now t) }
@@ -72,7 +72,7 @@ impl PalmTree {
     }
 
     /// Does what `grow` does and counts the steps: the turns of all loops. They are at most 100 for each vertex and edge, and
-    /// where it answers a palm tree at least one for each edge.
+    /// where it returns a palm tree at least one for each edge. Fails only if memory runs out.
     pub fn grow_counted<L: Ledger>(
         alloc: Global,
         graph: &Graph,
@@ -84,7 +84,7 @@ impl PalmTree {
             + edge_count graph.now) }
         ensures at_least { IfOk result (λ _. steps.old + edge_count graph.now ≤ steps.new) }
     {
-        let search = Search::of(alloc, graph, steps)?;
+        let search = Forest::of_connected(alloc, graph, steps)?;
         let low = Low::of(alloc, graph, &search, steps)?;
         let edges = sorted_edges(alloc, graph, &search, &low, steps)?;
         let number = numbers_of(alloc, graph, &search, &low, &edges, steps)?;
@@ -156,7 +156,7 @@ impl PalmTree {
 fn numbers_of<L: Ledger>(
     alloc: Global,
     graph: &Graph,
-    search: &Search,
+    search: &Forest,
     low: &Low,
     edges: &[u32],
     steps: &mut Steps<L>,
@@ -180,7 +180,7 @@ fn numbers_of<L: Ledger>(
 fn parents<L: Ledger>(
     alloc: Global,
     graph: &Graph,
-    search: &Search,
+    search: &Forest,
     steps: &mut Steps<L>,
 ) -> Result<Vec<Option<u32>>, AllocError>
     requires over { IsOver graph.now search.now }
@@ -201,7 +201,7 @@ fn parents<L: Ledger>(
 fn fronds<L: Ledger>(
     alloc: Global,
     graph: &Graph,
-    search: &Search,
+    search: &Forest,
     steps: &mut Steps<L>,
 ) -> Result<Vec<bool>, AllocError>
     requires graph { IsGraph graph.now }

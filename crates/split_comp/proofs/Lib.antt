@@ -31,7 +31,6 @@ pub mod Down
 pub mod Going
 pub mod Coming
 pub mod Depth
-pub mod OneBlock
 pub mod Beginning
 pub mod AsFar
 pub mod Onward

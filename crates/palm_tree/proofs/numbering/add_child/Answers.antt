@@ -1,5 +1,5 @@
 use Rattle.std.proofs.Common.{arith}
-use Rattle.palm_tree.proofs.Grown.{lower-in}
+use Rattle.search_forest.proofs.Grown.{lower-in}
 use Rattle.palm_tree.proofs.numbering.add_child.Goals as goal
 
 pub hangs-requires : goal.hangs-requires

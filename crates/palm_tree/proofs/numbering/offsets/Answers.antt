@@ -18,7 +18,7 @@ give_place-requires-clause-offset_within g c =
 pub give_place-requires-clause-parent_within : goal.give_place-requires-clause-parent_within
 give_place-requires-clause-parent_within g c =
     let w = place-can c.args.graph.now c.requires.graph c.args.search.now c.requires.over c.args.sizes.now c.requires.sizes c.args.children.now c.requires.children c.vertex_count.ensures.limits c.loop-child.child-index (get_or c.args.children.now c.loop-child.child-index 0) c.loop-child.offset.items c.loop-child.filled.items c.loop-child-test.true refl c.loop-child.invariant.0 in
-    omega (arith, w.0, c.requires.over.searching.places.parent)
+    omega (arith, w.0, c.requires.over.forest.places.parent)
 
 pub give_place-requires-clause-sizes_within : goal.give_place-requires-clause-sizes_within
 give_place-requires-clause-sizes_within g c =

@@ -1,13 +1,13 @@
 use Rattle.std.proofs.Common.{◌<◌, ℕ, ap, arith, get_or}
-use Rattle.palm_tree.proofs.Grown.{order-in}
+use Rattle.search_forest.proofs.Grown.{order-in}
 use Rattle.palm_tree.proofs.SizesHanded.{root-size, size-returns, size-fits}
 use Rattle.palm_tree.proofs.sizes.hand_on.Goals as goal
 
 pub depth_of-requires : goal.depth_of-requires
-depth_of-requires c = omega (arith, order-in c.args.graph.now c.requires.graph c.args.search.now c.requires.over c.args.place c.requires.within, c.requires.vertex, c.requires.over.searching.places.depth)
+depth_of-requires c = omega (arith, order-in c.args.graph.now c.requires.graph c.args.search.now c.requires.over c.args.place c.requires.within, c.requires.vertex, c.requires.over.forest.places.depth)
 
 pub parent_of-requires : goal.parent_of-requires
-parent_of-requires c = omega (arith, order-in c.args.graph.now c.requires.graph c.args.search.now c.requires.over c.args.place c.requires.within, c.requires.vertex, c.requires.over.searching.places.parent)
+parent_of-requires c = omega (arith, order-in c.args.graph.now c.requires.graph c.args.search.now c.requires.over c.args.place c.requires.within, c.requires.vertex, c.requires.over.forest.places.parent)
 
 pub add_size-requires-clause-within : goal.add_size-requires-clause-within
 add_size-requires-clause-within c =

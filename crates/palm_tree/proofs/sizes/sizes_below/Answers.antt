@@ -1,7 +1,7 @@
 use Rattle.std.proofs.Common.{◌≡◌, ◌+◌, ◌-◌, ℕ, [], length, drop, replicate, sym, ap, ◌∙◌, subst, arith}
 use Rattle.std.proofs.Math.Seq.{drop-length}
 use Rattle.palm_tree.specs.Growing.{AreSizesSoFar}
-use Rattle.palm_tree.proofs.Orders.{order-length}
+use Rattle.search_forest.proofs.Orders.{order-each}
 use Rattle.palm_tree.proofs.SizesHanded.{start-sizes}
 use Rattle.palm_tree.proofs.sizes.sizes_below.Goals as goal
 
@@ -25,4 +25,4 @@ loop-behind-preserved g c =
     (subst (λ (k : ℕ). AreSizesSoFar c.args.graph.now c.args.search.now c.hand_on.new.sizes.items (drop k c.args.search.now.order)) e c.hand_on.ensures, omega (arith, c.tick.ensures, c.loop-behind.invariant.1))
 
 pub returns-clause-cost : goal.returns-clause-cost
-returns-clause-cost g c = omega (arith, c.loop-behind.invariant.1, c.loop-behind-test.false, ap (length {A = ℕ}) c.order-order.ensures, order-length c.args.graph.now c.args.search.now c.requires.over)
+returns-clause-cost g c = omega (arith, c.loop-behind.invariant.1, c.loop-behind-test.false, ap (length {A = ℕ}) c.order-order.ensures, order-each c.args.graph.now c.args.search.now c.requires.over)

@@ -1,6 +1,6 @@
 use Rattle.std.proofs.Common.{◌+◌, false, not, sym, subst, ap, arith}
 use Rattle.palm_tree.specs.Growing.{Tells, is_tree_edge}
-use Rattle.palm_tree.proofs.Telling.{tells-more}
+use Rattle.search_forest.proofs.Telling.{tells-more}
 use Rattle.palm_tree.proofs.structure.fronds.Goals as goal
 
 pub loop-edge-preserved : goal.loop-edge-preserved

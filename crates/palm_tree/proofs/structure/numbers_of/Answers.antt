@@ -1,6 +1,6 @@
 use Rattle.std.proofs.Common.{ℕ, List, sym, subst, ◌∙◌, arith}
 use Rattle.palm_tree.specs.Growing.{AreChildren, HasRoom}
-use Rattle.palm_tree.proofs.Orders.{short}
+use Rattle.search_forest.proofs.Orders.{short}
 use Rattle.palm_tree.proofs.Sorted.{are-children, edges-few}
 use Rattle.palm_tree.proofs.structure.numbers_of.Goals as goal
 

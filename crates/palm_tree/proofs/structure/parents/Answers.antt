@@ -1,6 +1,6 @@
 use Rattle.std.proofs.Common.{◌+◌, None, sym, subst, arith}
 use Rattle.palm_tree.specs.Growing.{Tells, parent_at}
-use Rattle.palm_tree.proofs.Telling.{tells-more}
+use Rattle.search_forest.proofs.Telling.{tells-more}
 use Rattle.palm_tree.proofs.structure.parents.Goals as goal
 
 pub loop-vertex-preserved : goal.loop-vertex-preserved

@@ -1,5 +1,6 @@
 use Rattle.std.proofs.Common.{ℕ, List, [], length, replicate, ◌∙◌, sym, subst, ap, arith}
 use Rattle.std.proofs.lemmas.Result.{IfOk-weaker}
+use Rattle.graph_theory.proofs.Connected.{block-connected}
 use Rattle.pair_split.specs.Splitting.{state_of}
 use Rattle.pair_split.specs.Edges.{family_skeleton}
 use Rattle.pair_split.specs.Bridges.{family_of}
@@ -11,7 +12,6 @@ use Rattle.pair_split.specs.declared.splitting.Finished.{Finished}
 use Rattle.pair_split.specs.declared.components.Comps.{Comps}
 use Rattle.pair_split.specs.declared.family.NamedEdge.{NamedEdge}
 use Rattle.split_comp.specs.Pass.{PassState, first_state}
-use Rattle.split_comp.proofs.OneBlock.{block-connected}
 use Rattle.split_comp.proofs.SearchEnd.{is-numbered, start-pass, start-turns, left-family, left-listed, left-cost, left-items, left-split}
 use Rattle.split_comp.proofs.splitter.split_large.Goals as goal
 

@@ -1,7 +1,7 @@
 use Rattle.std.proofs.Common.{◌<◌, ℕ, List, length, get_or, refl, sym, subst, ap, arith}
 use Rattle.multigraph.specs.Graph.{edge_count}
 use Rattle.palm_tree.specs.Growing.{sort_key, Tells, AreEdges, AreListsOf, AreNumbered}
-use Rattle.palm_tree.proofs.Lows.{first-in, second-in}
+use Rattle.search_forest.proofs.Lows.{first-in, second-in}
 use Rattle.palm_tree.proofs.Sorted.{sorted-edges, edges-few}
 use Rattle.palm_tree.proofs.Whole.{is-palm_tree}
 use Rattle.palm_tree.proofs.structure.PalmTree.grow_counted.Goals as goal
@@ -31,8 +31,8 @@ returns-in_err-darts-clause-at_most g c =
       arith,
       few,
       ap (length {A = ℕ}) c.deref-4.ensures.value,
+      c.of_connected.ensures.cost,
       c.of.ensures.cost,
-      c.of-2.ensures.cost,
       c.sorted_edges.ensures.cost,
       c.numbers_of.ensures.cost,
       c.parents.ensures.cost,
@@ -53,8 +53,8 @@ returns-clause-at_most g c =
       arith,
       few,
       ap (length {A = ℕ}) c.deref-4.ensures.value,
+      c.of_connected.ensures.cost,
       c.of.ensures.cost,
-      c.of-2.ensures.cost,
       c.sorted_edges.ensures.cost,
       c.numbers_of.ensures.cost,
       c.parents.ensures.cost,
@@ -74,7 +74,7 @@ returns-clause-tree g c =
     let s = c.in_ok-search.search in
     let low = c.in_ok-low.low in
     let num = c.in_ok-number.number.items in
-    is-palm_tree gr c.in_ok-search.ensures.graph s c.in_ok-search.ensures.over low c.in_ok-low.ensures.low c.in_ok-edges.edges.items c.in_ok-edges.ensures.sorted num
+    is-palm_tree gr c.in_ok-search.ensures.graph s c.in_ok-search.ensures.over c.in_ok-search.ensures.root low c.in_ok-low.ensures.low c.in_ok-edges.edges.items c.in_ok-edges.ensures.sorted num
     (subst (λ (x : List ℕ). AreNumbered gr s low x num) c.deref.ensures.value c.in_ok-number.ensures.numbers)
     (record { number = num; parent = c.in_ok-parent.parent.items; frond = c.in_ok-frond.frond.items; low1 = c.in_ok-low1.low1.items; low2 = c.in_ok-low2.low2.items; darts = c.in_ok-darts.darts.items })
     (record {

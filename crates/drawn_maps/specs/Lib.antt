@@ -1,0 +1,3 @@
+-- Maps of darts that draw a graph.
+pub mod Drawn
+pub mod Laws
