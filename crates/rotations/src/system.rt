@@ -88,8 +88,9 @@ impl Rotation {
         }
     }
 
-    // The rotation system of lists that are known to be one.
-    fn of_arranged(alloc: Global, g: &Graph, lists: &Lists) -> Result<Rotation, AllocError>
+    /// The rotation system of lists that are known to be arranged: for each vertex one of its edges in their cyclic order, from
+    /// any of them on. Fails only if memory runs out.
+    pub fn of_arranged(alloc: Global, g: &Graph, lists: &Lists) -> Result<Rotation, AllocError>
         requires { AreArranged g.now lists.now }
         ensures vertices { IfOk result (λ r. length r ≡ g.now.vertex_count) }
         ensures orders { IfOk result (λ r. (v : ℕ) → v < g.now.vertex_count
