@@ -4,7 +4,7 @@ use Rattle.permutations.specs.Cyclic.{first_or}
 use Rattle.choice_lists.specs.Order.{IsRising, is_before}
 use Rattle.choice_lists.specs.Arrangements.{arrangements}
 
--- the same cyclic order the other way round, from the same first key
+-- the same cyclic order reversed, from the same first key
 abbrev pub mirror_choice : List ℕ → List ℕ
 mirror_choice [] = []
 mirror_choice (x ∷ xs) = x ∷ reverse xs
@@ -14,7 +14,7 @@ pub record IsBondChoice (keys choice : List ℕ) : Type 0 where
   pub arranged : IsPermutation keys choice
   pub least_first : first_or 0 choice ≡ first_or 0 keys
 
--- the choices of a bond: the first key, and behind it each arrangement of the others
+-- the choices of a bond: the first key, and after it each arrangement of the others
 abbrev pub bond_choices : List ℕ → List (List ℕ)
 bond_choices [] = [] ∷ []
 bond_choices (key ∷ keys) = map (λ a. key ∷ a) (arrangements keys)
@@ -23,7 +23,7 @@ bond_choices (key ∷ keys) = map (λ a. key ∷ a) (arrangements keys)
 abbrev pub rigid_choices : List ℕ → List (List ℕ)
 rigid_choices c = (if is_before c (mirror_choice c) then c ∷ mirror_choice c ∷ [] else mirror_choice c ∷ c ∷ [])
 
--- the choices of a bond whose keys rise
+-- the choices of a bond whose keys increase
 pub record IsBondList (l : List (List ℕ)) : Type 0 where
   pub key : ℕ
   pub keys : List ℕ

@@ -26,12 +26,12 @@ abbrev pub OnePlaceMore : Type 0
 OnePlaceMore = (v w : List (List ℕ)) (x y : List ℕ) → length v ≡ length w
     → vector_before (v ++ x ∷ []) (w ++ y ∷ []) ≡ cond (vector_before v w) true (cond (vector_before w v) false (is_before x y))
 
--- two lists that rise by one order, in which never two come before each other, are equal where they have the same members
+-- two lists that increase by one order, in which never two come before each other, are equal where they have the same members
 abbrev pub MembersTellRisingLists : Type 0
 MembersTellRisingLists = (before : List (List ℕ) → List (List ℕ) → Bool) → ((v w : List (List ℕ)) → before v w ≡ true → before w v ≡ false)
     → (l k : List (List (List ℕ))) → IsRising before l → IsRising before k → ((v : List (List ℕ)) → Contains l v ↔ Contains k v) → l ≡ k
 
--- the arrangements of rising keys: all of them, in lexicographic order
+-- the arrangements of increasing keys: all of them, in lexicographic order
 abbrev pub ArrangementsAreListed : Type 0
 ArrangementsAreListed = (keys : List ℕ) → IsRising nat_lt keys → Lists is_before (IsPermutation keys) (arrangements keys)
 
@@ -39,11 +39,11 @@ ArrangementsAreListed = (keys : List ℕ) → IsRising nat_lt keys → Lists is_
 abbrev pub ArrangementsAreCounted : Type 0
 ArrangementsAreCounted = (keys : List ℕ) → length (arrangements keys) ≡ factorial (length keys)
 
--- an arrangement stands at the place that is its number in the factorial number system
+-- an arrangement is at the place that is its number in the factorial number system
 abbrev pub NumberIsPlace : Type 0
 NumberIsPlace = (keys a : List ℕ) → IsRising nat_lt keys → IsPermutation keys a → IsAt (arrangements keys) (factorial_number a) a
 
--- at place i stands the arrangement that is worked out from the number i
+-- at place i is the arrangement that is worked out from the number i
 abbrev pub PlaceIsNumber : Type 0
 PlaceIsNumber = (keys : List ℕ) (i : ℕ) → i < factorial (length keys) → IsAt (arrangements keys) i (numbered keys i)
 
@@ -59,7 +59,7 @@ NumberedByNumber = (keys a : List ℕ) → IsRising nat_lt keys → IsPermutatio
 abbrev pub LehmerDigits : Type 0
 LehmerDigits = (a : List ℕ) → AreDigitsBelow (from_one_to (length a)) (lehmer_code a) × (factorial_number a ≡ radix_number (from_one_to (length a)) (lehmer_code a))
 
--- of the arrangements of rising keys, each is told by its number
+-- of the arrangements of increasing keys, each is determined by its number
 abbrev pub NumberTellsArrangement : Type 0
 NumberTellsArrangement = (keys a b : List ℕ) → IsRising nat_lt keys → IsPermutation keys a → IsPermutation keys b → factorial_number a ≡ factorial_number b → a ≡ b
 
@@ -67,7 +67,7 @@ NumberTellsArrangement = (keys a b : List ℕ) → IsRising nat_lt keys → IsPe
 abbrev pub NumberIsBelow : Type 0
 NumberIsBelow = (a : List ℕ) → factorial_number a < factorial (length a)
 
--- the next arrangement stands at the next place
+-- the next arrangement is at the next place
 abbrev pub NextArrangementFollows : Type 0
 NextArrangementFollows = (keys a b : List ℕ) (i : ℕ) → IsRising nat_lt keys → IsAt (arrangements keys) i a → IsNextArrangement a b → IsAt (arrangements keys) (i + 1) b
 
@@ -75,7 +75,7 @@ NextArrangementFollows = (keys a b : List ℕ) (i : ℕ) → IsRising nat_lt key
 abbrev pub NextArrangementRearranges : Type 0
 NextArrangementRearranges = (a b : List ℕ) → IsNextArrangement a b → IsPermutation a b × (factorial_number b ≡ factorial_number a + 1)
 
--- a list without repetition falls, or there is a next arrangement
+-- a list without repetition is decreasing, or there is a next arrangement
 abbrev pub FallsOrHasNext : Type 0
 FallsOrHasNext = (a : List ℕ) → is_distinct a ≡ true → IsFalling nat_lt a ⊎ ((b : List ℕ) × IsNextArrangement a b)
 
@@ -91,11 +91,11 @@ BondChoicesAreListed = (key : ℕ) (keys : List ℕ) → IsRising nat_lt (key �
 abbrev pub BondChoicesAreCounted : Type 0
 BondChoicesAreCounted = (key : ℕ) (keys : List ℕ) → length (bond_choices (key ∷ keys)) ≡ factorial (length keys)
 
--- a choice of a bond stands at the place that its number says
+-- a choice of a bond is at the place that its number says
 abbrev pub BondChoiceIsNumbered : Type 0
 BondChoiceIsNumbered = (key : ℕ) (keys choice : List ℕ) → IsRising nat_lt (key ∷ keys) → IsBondChoice (key ∷ keys) choice → IsAt (bond_choices (key ∷ keys)) (factorial_number choice) choice
 
--- the first choice of a bond is its keys as they rise
+-- the first choice of a bond is its keys in increasing order
 abbrev pub BondBeginsRising : Type 0
 BondBeginsRising = (key : ℕ) (keys : List ℕ) → IsRising nat_lt (key ∷ keys) → IsAt (bond_choices (key ∷ keys)) 0 (key ∷ keys)
 
@@ -103,12 +103,12 @@ BondBeginsRising = (key : ℕ) (keys : List ℕ) → IsRising nat_lt (key ∷ ke
 abbrev pub BondEndsMirrored : Type 0
 BondEndsMirrored = (key : ℕ) (keys : List ℕ) → IsRising nat_lt (key ∷ keys) → IsLast (bond_choices (key ∷ keys)) (mirror_choice (key ∷ keys))
 
--- the next choice of a bond: behind the first key the next arrangement
+-- the next choice of a bond: after the first key the next arrangement
 abbrev pub NextBondChoice : Type 0
 NextBondChoice = (key : ℕ) (keys a b : List ℕ) (i : ℕ) → IsRising nat_lt (key ∷ keys) → IsAt (bond_choices (key ∷ keys)) i (key ∷ a) → IsNextArrangement a b
     → IsAt (bond_choices (key ∷ keys)) (i + 1) (key ∷ b)
 
--- the mirror image is the cyclic order the other way round, written from its least key
+-- the mirror image is the cyclic order reversed, written from its least key
 abbrev pub MirrorTurnsRound : Type 0
 MirrorTurnsRound = (key : ℕ) (keys : List ℕ) → is_distinct (key ∷ keys) ≡ true → ((z : ℕ) → is_member z keys ≡ true → key ≤ z) → from_least (reverse (key ∷ keys)) ≡ mirror_choice (key ∷ keys)
 
@@ -132,12 +132,12 @@ RigidChoicesAreCounted = (choice : List ℕ) → length (rigid_choices choice) �
 abbrev pub RigidChoicesFromEither : Type 0
 RigidChoicesFromEither = (choice : List ℕ) → mirror_choice choice ≢ choice → rigid_choices (mirror_choice choice) ≡ rigid_choices choice
 
--- a choice is the first of the two where the key behind the first one is smaller than the last, the second where it is greater
+-- a choice is the first of the two where the key after the first one is smaller than the last, the second where it is greater
 abbrev pub SecondKeyDecides : Type 0
 SecondKeyDecides = (key : ℕ) (keys : List ℕ)
     → (first_or key keys < last_or key keys → IsAt (rigid_choices (key ∷ keys)) 0 (key ∷ keys)) × (last_or key keys < first_or key keys → IsAt (rigid_choices (key ∷ keys)) 1 (key ∷ keys))
 
--- the choices of a node rise
+-- the choices of a node increase
 abbrev pub ChoiceListsRise : Type 0
 ChoiceListsRise = (l : List (List ℕ)) → IsChoiceList l → IsRising is_before l
 
@@ -145,7 +145,7 @@ ChoiceListsRise = (l : List (List ℕ)) → IsChoiceList l → IsRising is_befor
 abbrev pub ChoiceListsEndMirrored : Type 0
 ChoiceListsEndMirrored = (l : List (List ℕ)) (choice : List ℕ) → IsChoiceList l → IsFirst l choice → IsLast l (mirror_choice choice)
 
--- the product of rising lists: all selections, in the order of vectors
+-- the product of increasing lists: all selections, in the order of vectors
 abbrev pub SelectionsAreListed : Type 0
 SelectionsAreListed = (lists : List (List (List ℕ))) → All (IsRising is_before) lists → Lists vector_before (IsSelection lists) (product lists)
 
@@ -165,7 +165,7 @@ LastVector = (lists : List (List (List ℕ))) (v : List (List ℕ)) → AreLasts
 abbrev pub LastVectorIsMirrored : Type 0
 LastVectorIsMirrored = (lists : List (List (List ℕ))) (v : List (List ℕ)) → All IsChoiceList lists → IsFirst (product lists) v → IsLast (product lists) (map mirror_choice v)
 
--- a vector stands at the place whose number has its digits: the place of each choice in its own list
+-- a vector is at the place whose number has its digits: the place of each choice in its own list
 abbrev pub PlaceOfVector : Type 0
 PlaceOfVector = (lists : List (List (List ℕ))) (v : List (List ℕ)) (digits : List ℕ) → AreDigits lists v digits → IsAt (product lists) (radix_number (map length lists) digits) v
 
@@ -173,7 +173,7 @@ PlaceOfVector = (lists : List (List (List ℕ))) (v : List (List ℕ)) (digits :
 abbrev pub SelectionsHaveDigits : Type 0
 SelectionsHaveDigits = (lists : List (List (List ℕ))) (v : List (List ℕ)) → IsSelection lists v → (digits : List ℕ) × AreDigits lists v digits × AreDigitsBelow (map length lists) digits
 
--- and what stands at a place has the digits of its number
+-- and what is at a place has the digits of its number
 abbrev pub DigitsOfPlace : Type 0
 DigitsOfPlace = (lists : List (List (List ℕ))) (i : ℕ) (v : List (List ℕ)) → All (IsRising is_before) lists → IsAt (product lists) i v → AreDigits lists v (digits_of (map length lists) i)
 
@@ -193,7 +193,7 @@ NumberOfDigits = (radices : List ℕ) (n : ℕ) → n < product_of radices → A
 abbrev pub NumberFromTheFirst : Type 0
 NumberFromTheFirst = (radices digits : List ℕ) → AreDigitsBelow radices digits → horner 0 radices digits ≡ radix_number radices digits
 
--- digits in two parts: the number of the first part counts the product of the radices behind it
+-- digits in two parts: the number of the first part counts the product of the radices after it
 abbrev pub NumberInParts : Type 0
 NumberInParts = (radices digits more_radices more_digits : List ℕ) → AreDigitsBelow radices digits
     → radix_number (radices ++ more_radices) (digits ++ more_digits) ≡ radix_number radices digits * product_of more_radices + radix_number more_radices more_digits
@@ -207,7 +207,7 @@ abbrev pub NumberFromTheLast : Type 0
 NumberFromTheLast = (radices digits : List ℕ) (radix digit : ℕ) → AreDigitsBelow radices digits
     → radix_number (radices ++ radix ∷ []) (digits ++ digit ∷ []) ≡ radix_number radices digits * radix + digit
 
--- the next vector stands at the next place
+-- the next vector is at the next place
 abbrev pub NextVectorFollows : Type 0
 NextVectorFollows = (lists : List (List (List ℕ))) (v w : List (List ℕ)) (i : ℕ) → All (IsRising is_before) lists → IsAt (product lists) i v → IsNextVector lists v w → IsAt (product lists) (i + 1) w
 
@@ -224,7 +224,7 @@ abbrev pub LockedAreListed : Type 0
 LockedAreListed = (locked : ℕ → Bool) (lists : List (List (List ℕ))) (v : List (List ℕ)) → All (IsRising is_before) lists → IsSelection lists v
     → Lists vector_before (λ w. IsSelection lists w × AgreeWhereLocked locked v w) (product (locked_lists locked v lists))
 
--- the lists with locked places rise too, so all that is said of products holds of them
+-- the lists with locked places increase too, so all that is said of products holds of them
 abbrev pub LockedListsRise : Type 0
 LockedListsRise = (locked : ℕ → Bool) (lists : List (List (List ℕ))) (v : List (List ℕ)) → All (IsRising is_before) lists → All (IsRising is_before) (locked_lists locked v lists)
 

@@ -2,7 +2,7 @@
 use Rattle.std.specs.Prelude.{ℕ, zero, suc, ◌+◌, ◌*◌, ◌/◌, ◌%◌, ◌<◌, nat_lt, if◌then◌else◌, List, [], ◌∷◌, Option, Some, None}
 use Rattle.choice_lists.specs.Products.{product_of}
 
--- the number with these digits: each digit counts the product of the radices behind it
+-- the number with these digits: each digit counts the product of the radices after it
 abbrev pub radix_number : List ℕ → List ℕ → ℕ
 radix_number [] ds = 0
 radix_number (r ∷ rs) [] = 0
@@ -19,7 +19,7 @@ abbrev pub digits_of : List ℕ → ℕ → List ℕ
 digits_of [] n = []
 digits_of (r ∷ rs) n = n / product_of rs ∷ digits_of rs (n % product_of rs)
 
--- one digit after the other: what stands so far times the radix, and the digit
+-- one digit after the other: what there is so far times the radix, and the digit
 abbrev pub horner : ℕ → List ℕ → List ℕ → ℕ
 horner n [] ds = n
 horner n (r ∷ rs) [] = n

@@ -1,21 +1,21 @@
--- Orders given by tests, lists that rise by them, places in lists, and the lexicographic order.
+-- Orders given by tests, lists that increase by them, places in lists, and the lexicographic order.
 use Rattle.std.specs.Prelude.{◌≡◌, ℕ, ◌<◌, ◌↔◌, Bool, true, false, ◌&&◌, ◌||◌, ◌==◌, nat_lt, if◌then◌else◌, List, [], ◌∷◌, ◌++◌, length, slice_index_or, AllPairs, Contains}
 
--- a strict linear order: never both ways, transitive, and one of three: before, behind or equal
+-- a strict linear order: never both ways, transitive, and one of three: before, after or equal
 pub record IsLinear {X : Type 0} (before : X → X → Bool) : Type 0 where
   pub apart : (x y : X) → before x y ≡ true → before y x ≡ false
   pub transitive : (x y z : X) → before x y ≡ true → before y z ≡ true → before x z ≡ true
   pub one_of_three : (x y : X) → before x y ≡ false → before y x ≡ false → x ≡ y
 
--- strictly rising: each member comes before all later ones
+-- strictly increasing: each member comes before all later ones
 abbrev pub IsRising : {X : Type 0} → (X → X → Bool) → List X → Type 0
 IsRising before l = AllPairs (λ x y. before x y ≡ true) l
 
--- strictly falling: each member comes behind all later ones
+-- strictly decreasing: each member comes after all later ones
 abbrev pub IsFalling : {X : Type 0} → (X → X → Bool) → List X → Type 0
 IsFalling before l = AllPairs (λ x y. before y x ≡ true) l
 
--- x stands at place i of the list
+-- x is at place i of the list
 abbrev pub IsAt : {X : Type 0} → List X → ℕ → X → Type 0
 IsAt l i x = (i < length l) × (slice_index_or l i x ≡ x)
 
@@ -42,7 +42,8 @@ lexicographic before [] (y ∷ ys) = true
 lexicographic before (x ∷ xs) [] = false
 lexicographic before (x ∷ xs) (y ∷ ys) = (if before x y then true else (if before y x then false else lexicographic before xs ys))
 
--- the lexicographic order of lists of numbers
+-- the lexicographic order of lists of numbers: the first number that differs decides, and a list comes before those that it
+-- begins
 abbrev pub is_before : List ℕ → List ℕ → Bool
 is_before [] [] = false
 is_before [] (y ∷ ys) = true

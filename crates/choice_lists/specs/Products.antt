@@ -42,7 +42,7 @@ AreFirsts cs v = AllZip IsFirst cs v
 abbrev pub AreLasts : {X : Type 0} → List (List X) → List X → Type 0
 AreLasts cs v = AllZip IsLast cs v
 
--- the next vector: all places behind x are at their last choice and go to their first, and x goes one on
+-- the next vector: all places after x are at their last choice and go to their first, and x goes to the next one
 pub record IsNextVector {X : Type 0} (cs : List (List X)) (v w : List X) : Type 0 where
   pub ahead : List (List X)
   pub here : List X

@@ -9,7 +9,8 @@ use Rattle.graph_theory.specs.Labels.{label_at, IsLabelling, AreLabelsBelow}
 use Rattle.graph_theory.proofs.Removed.{avoids-from}
 use Rattle.pair_split.specs.Edges.{entry_ends, family_skeleton}
 use Rattle.pair_split.specs.Skeleton.{SameEnds}
-use Rattle.pair_split.specs.Bridges.{entry_of, family_of, HaveEndsBelow, HaveNamesBelow, side_of, in_bridge, IsClosed, has_label, bridge_size, marked, AreParallelAt}
+use Rattle.multigraph.specs.Marks.{is_marked}
+use Rattle.pair_split.specs.Bridges.{entry_of, family_of, HaveEndsBelow, HaveNamesBelow, side_of, in_bridge, IsClosed, has_label, bridge_size, AreParallelAt}
 use Rattle.pair_split.specs.Search.{IsSearchable, HasNoParallels, IsBest, IsLeastAt, IsLeastBefore, IsMinimalSide}
 use Rattle.pair_split.specs.declared.family.NamedEdge.{NamedEdge}
 use Rattle.pair_split.specs.declared.search.Side.{Side}
@@ -51,16 +52,16 @@ end-below edges n ends entry x c h =
 -- a bridge with two entries in it and two outside it, as the best side
 pub best-bridge : (edges : List NamedEdge) (labels : List ℕ) (a b label bound : ℕ) (side : Side) → IsSearchable (family_of edges) → IsLabelling (family_skeleton (family_of edges)) (a ∷ b ∷ []) (label_at labels) → HaveNamesBelow bound edges
     → side.first ≡ a → side.second ≡ b → side.size ≡ bridge_size (family_of edges) a b labels label → 2 ≤ side.size → side.size + 2 ≤ length edges
-    → ((n : ℕ) → marked side.marks.items n ≡ side_of (family_of edges) (in_bridge a b (has_label labels label)) n) → length side.marks.items ≡ bound → IsBest (family_of edges) side
+    → ((n : ℕ) → is_marked side.marks.items n ≡ side_of (family_of edges) (in_bridge a b (has_label labels label)) n) → length side.marks.items ≡ bound → IsBest (family_of edges) side
 best-bridge edges labels a b label bound side searchable labelling names first second size two rest marks number = record {
   within = omega (arith, rest, length-map edges entry_of);
   found = λ l. record {
-    separates = subst (λ (x : ℕ). IsSeparation entries (marked side.marks.items) x side.second) (sym first) (subst (λ (y : ℕ). IsSeparation entries (marked side.marks.items) a y) (sym second)
-        (separation-ext entries (side_of entries (in_bridge a b (has_label labels label))) (marked side.marks.items) a b (λ n. sym (marks n))
+    separates = subst (λ (x : ℕ). IsSeparation entries (is_marked side.marks.items) x side.second) (sym first) (subst (λ (y : ℕ). IsSeparation entries (is_marked side.marks.items) a y) (sym second)
+        (separation-ext entries (side_of entries (in_bridge a b (has_label labels label))) (is_marked side.marks.items) a b (λ n. sym (marks n))
         (bridge-separation entries searchable.family searchable.tight a b (has_label labels label) closed
         (subst (λ (k : ℕ). 2 ≤ k) size two)
         (subst (λ (k : ℕ). k + 2 ≤ length entries) size (subst (λ (k : ℕ). side.size + 2 ≤ k) (sym (length-map edges entry_of)) rest)))));
-    size = ap length (on_side-ext entries (marked side.marks.items) (side_of entries (in_bridge a b (has_label labels label))) marks ∙ side_of-filter entries (in_bridge a b (has_label labels label)) searchable.family.names_once) ∙ sym size;
+    size = ap length (on_side-ext entries (is_marked side.marks.items) (side_of entries (in_bridge a b (has_label labels label))) marks ∙ side_of-filter entries (in_bridge a b (has_label labels label)) searchable.family.names_once) ∙ sym size;
     named = names-below edges bound side.marks.items names number;
   };
 }
@@ -147,11 +148,11 @@ no_parallels edges none e f c k s = elim (cases_order u.0 v.0) [
 -- two parallel entries are a minimal side
 pub parallel-minimal : (edges : List NamedEdge) (i j bound : ℕ) (side : Side) → IsSearchable (family_of edges) → HaveNamesBelow bound edges → i < j → j < length edges → AreParallelAt edges i j
     → side.first ≡ (slice_index_or edges i nothing).first → side.second ≡ (slice_index_or edges i nothing).second
-    → ((n : ℕ) → marked side.marks.items n ≡ ((n == (slice_index_or edges i nothing).name) || (n == (slice_index_or edges j nothing).name))) → length side.marks.items ≡ bound → IsMinimalSide (family_of edges) side
+    → ((n : ℕ) → is_marked side.marks.items n ≡ ((n == (slice_index_or edges i nothing).name) || (n == (slice_index_or edges j nothing).name))) → length side.marks.items ≡ bound → IsMinimalSide (family_of edges) side
 parallel-minimal edges i j bound side searchable names l m parallel first second marks number = record {
-  separates = subst (λ (x : ℕ). IsSeparation entries (marked side.marks.items) x side.second) (sym first) (subst (λ (y : ℕ). IsSeparation entries (marked side.marks.items) e.first y) (sym second)
-      (separation-ext entries (pair e f) (marked side.marks.items) e.first e.second (λ n. sym (marks n)) (parallel-separation entries searchable.family searchable.tight searchable.four e f in-e in-f apart parallel)));
-  minimal = λ s p q c inside. omega (arith, c.two_inside, ap length (on_side-ext entries (marked side.marks.items) (pair e f) marks), pair-few entries searchable.family e f);
+  separates = subst (λ (x : ℕ). IsSeparation entries (is_marked side.marks.items) x side.second) (sym first) (subst (λ (y : ℕ). IsSeparation entries (is_marked side.marks.items) e.first y) (sym second)
+      (separation-ext entries (pair e f) (is_marked side.marks.items) e.first e.second (λ n. sym (marks n)) (parallel-separation entries searchable.family searchable.tight searchable.four e f in-e in-f apart parallel)));
+  minimal = λ s p q c inside. omega (arith, c.two_inside, ap length (on_side-ext entries (is_marked side.marks.items) (pair e f) marks), pair-few entries searchable.family e f);
   named = names-below edges bound side.marks.items names number;
 }
   where

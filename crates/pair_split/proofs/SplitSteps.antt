@@ -10,7 +10,8 @@ use Rattle.pair_split.specs.Family.{Entry, names, on_side, off_side, IsFamily, I
 use Rattle.pair_split.specs.Edges.{graph_entry, graph_family, family_skeleton}
 use Rattle.graph_theory.specs.Block.{IsOneBlock}
 use Rattle.pair_split.specs.Skeleton.{IsSkeleton}
-use Rattle.pair_split.specs.Bridges.{entry_of, family_of, HaveEndsBelow, HaveNamesBelow, marked}
+use Rattle.multigraph.specs.Marks.{is_marked}
+use Rattle.pair_split.specs.Bridges.{entry_of, family_of, HaveEndsBelow, HaveNamesBelow}
 use Rattle.pair_split.specs.Search.{IsSearchable, IsMinimalSide}
 use Rattle.pair_split.specs.State.{Part, SplitState, split_off, start_state, IsSplitState, AreSplitComponents}
 use Rattle.pair_split.specs.Split.{IsSplit}
@@ -75,7 +76,7 @@ module _ (g : Multigraph) (graph : IsGraph g) (block : IsOneBlock g) (parts : Li
 
   module _ (side : Side) (minimal : IsMinimalSide (family_of current) side) where
     abbrev cut : ℕ → Bool
-    cut n = marked side.marks.items n
+    cut n = is_marked side.marks.items n
 
     -- the virtual edge in place of the side
     abbrev own : Entry
@@ -150,13 +151,13 @@ small-prime entries tight l = record { tight = tight; none = λ s p q c. absurd 
 
 -- the marked edges, where lists go by two names
 pub inside-is : (current given : List NamedEdge) (marks given-marks : List Bool) (inside made : List NamedEdge) → made ≡ inside → given ≡ current → given-marks ≡ marks
-    → family_of inside ≡ on_side (marked given-marks) (family_of given) → family_of made ≡ on_side (marked marks) (family_of current)
-inside-is current given marks given-marks inside made a b c h = ap family_of a ∙ (h ∙ (λ i. on_side (marked (c i)) (family_of (b i))))
+    → family_of inside ≡ on_side (is_marked given-marks) (family_of given) → family_of made ≡ on_side (is_marked marks) (family_of current)
+inside-is current given marks given-marks inside made a b c h = ap family_of a ∙ (h ∙ (λ i. on_side (is_marked (c i)) (family_of (b i))))
 
 -- the other edges, where lists go by two names
 pub outside-is : (current given : List NamedEdge) (marks given-marks : List Bool) (left : List NamedEdge) (x y : Entry) → x ≡ y → given ≡ current → given-marks ≡ marks
-    → family_of left ≡ x ∷ off_side (marked given-marks) (family_of given) → family_of left ≡ y ∷ off_side (marked marks) (family_of current)
-outside-is current given marks given-marks left x y a b c h = h ∙ (λ i. a i ∷ off_side (marked (c i)) (family_of (b i)))
+    → family_of left ≡ x ∷ off_side (is_marked given-marks) (family_of given) → family_of left ≡ y ∷ off_side (is_marked marks) (family_of current)
+outside-is current given marks given-marks left x y a b c h = h ∙ (λ i. a i ∷ off_side (is_marked (c i)) (family_of (b i)))
 
 -- a virtual edge with the sum of two numbers as its name
 pub own-is : (m r n k first second : ℕ) → n ≡ m → k ≡ r → entry_of (record { name = n + k; first = first; second = second }) ≡ record { name = m + r; first = first; second = second }

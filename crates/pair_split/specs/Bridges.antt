@@ -52,10 +52,6 @@ has_label labels label z = label_at labels z == label
 abbrev pub bridge_size : List Entry → ℕ → ℕ → List ℕ → ℕ → ℕ
 bridge_size entries a b labels label = length (filter (in_bridge a b (has_label labels label)) entries)
 
--- whether a name is marked
-abbrev pub marked : List Bool → ℕ → Bool
-marked marks n = slice_index_or marks n false
-
 -- the edges at places i and j have the same two ends
 abbrev pub AreParallelAt : List NamedEdge → ℕ → ℕ → Type 0
 AreParallelAt edges i j =

@@ -1,4 +1,4 @@
--- Families, skeletons and graphs: the same edges seen in three ways.
+-- Families, skeletons and graphs: the same edges viewed in three ways.
 use Rattle.std.specs.Prelude.{ℕ, List, map}
 use Rattle.multigraph.specs.Graph.{Multigraph, edge_count, ends_of, numbers_below}
 use Rattle.pair_split.specs.Family.{Entry}

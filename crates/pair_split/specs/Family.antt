@@ -16,7 +16,7 @@ has_end x entry = (entry.first == x) || (entry.second == x)
 abbrev pub names : List Entry → List ℕ
 names entries = map (λ entry. entry.name) entries
 
--- a family: no name stands twice, and no entry is a loop
+-- a family: no name occurs twice, and no entry is a loop
 pub record IsFamily (entries : List Entry) : Type 0 where
   pub names_once : is_distinct (names entries) ≡ true
   pub no_loops : All (λ entry. entry.first ≢ entry.second) entries

@@ -1,4 +1,4 @@
--- Kinds of components, told by tests.
+-- Kinds of components, as tests.
 use Rattle.std.specs.Prelude.{Bool, true, false}
 use Rattle.pair_split.specs.declared.components.Kind.{Kind}
 use Rattle.pair_split.specs.declared.components.Kind.TheVariants.{S, P, R, B}

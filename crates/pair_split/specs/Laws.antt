@@ -31,7 +31,7 @@ BeyondOneLink = (comps : List Comp) → AreLinked comps → (k j h d : ℕ) → 
 abbrev pub AnyRoot : Type 0
 AnyRoot = (comps : List Comp) → AreLinked comps → (r : ℕ) → r < length comps → (tree : IsTree comps) × (tree.root ≡ r)
 
--- seen from a component, each edge of the graph is in the group of an item
+-- viewed from a component, each edge of the graph is in the group of an item
 abbrev pub InAGroup : Type 0
 InAGroup = (g : Multigraph) (comps : List Comp) → IsSplit g comps → (k e : ℕ) → k < length comps → e < edge_count g
     → (i : ℕ) × (i < length (items_of comps k)) × (has_in_group comps k e (item_at comps k i).what ≡ true)
@@ -66,7 +66,7 @@ LinksBackAreOpposite = (g : Multigraph) (comps : List Comp) → IsSplit g comps
 abbrev pub SeparationsOfFamily : Type 0
 SeparationsOfFamily = (g : Multigraph) (s : ℕ → Bool) → IsSeparation g s → (p q : ℕ) × IsFamilySeparation (graph_family g) s p q
 
--- and the other way round
+-- and reversed
 abbrev pub SeparationsOfGraph : Type 0
 SeparationsOfGraph = (g : Multigraph) (s : ℕ → Bool) (p q : ℕ) → IsFamilySeparation (graph_family g) s p q → IsSeparation g s
 

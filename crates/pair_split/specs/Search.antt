@@ -4,7 +4,8 @@ use Rattle.pair_split.specs.Family.{Entry, on_side, IsFamily, IsTight, IsSeparat
 use Rattle.pair_split.specs.Edges.{entry_ends}
 use Rattle.pair_split.specs.Skeleton.{SameEnds}
 use Rattle.pair_split.specs.Minimal.{IsMinimal}
-use Rattle.pair_split.specs.Bridges.{bridge_size, family_of, HaveEndsBelow, HaveNamesBelow, marked}
+use Rattle.multigraph.specs.Marks.{is_marked}
+use Rattle.pair_split.specs.Bridges.{bridge_size, family_of, HaveEndsBelow, HaveNamesBelow}
 use Rattle.pair_split.specs.declared.family.NamedEdge.{NamedEdge}
 use Rattle.pair_split.specs.declared.search.Side.{Side}
 
@@ -26,8 +27,8 @@ HasNoParallels entries = (e f : Entry) → Contains entries e → Contains entri
 
 -- the side found is that of a 2-separation, with as many entries as it says
 pub record IsFound (entries : List Entry) (side : Side) : Type 0 where
-  pub separates : IsSeparation entries (marked side.marks.items) side.first side.second
-  pub size : length (on_side (marked side.marks.items) entries) ≡ side.size
+  pub separates : IsSeparation entries (is_marked side.marks.items) side.first side.second
+  pub size : length (on_side (is_marked side.marks.items) entries) ≡ side.size
   pub named : All (λ entry. entry.name < length side.marks.items) entries
 
 -- the best side so far: one that was found, or none, said by the size of the whole family
@@ -49,8 +50,8 @@ IsAtMostBridge edges a b labels label size = 2 ≤ bridge_size (family_of edges)
 
 -- a minimal side of a 2-separation, with a mark for each entry's name to be looked up
 pub record IsMinimalSide (entries : List Entry) (side : Side) : Type 0 where
-  pub separates : IsSeparation entries (marked side.marks.items) side.first side.second
-  pub minimal : IsMinimal entries (marked side.marks.items)
+  pub separates : IsSeparation entries (is_marked side.marks.items) side.first side.second
+  pub minimal : IsMinimal entries (is_marked side.marks.items)
   pub named : All (λ entry. entry.name < length side.marks.items) entries
 
 -- what the search found: a minimal side of a 2-separation, or that there is no 2-separation

@@ -13,7 +13,7 @@ use Rattle.pair_split.specs.declared.components.What.TheVariants.{Real, Link}
 use Rattle.pair_split.specs.declared.components.Piece.{Piece}
 use Rattle.pair_split.specs.declared.components.Comp.{Comp}
 
--- component k; one without items where there is none
+-- component k; one without items where it does not exist
 abbrev pub component_at : List Comp → ℕ → Comp
 component_at comps k = slice_index_or comps k (record { kind = B; items = [] })
 
@@ -33,7 +33,7 @@ piece_ends piece = (piece.a, piece.b)
 abbrev pub skeleton : List Comp → ℕ → List (ℕ × ℕ)
 skeleton comps k = map piece_ends (items_of comps k)
 
--- component k has an item i, which stands for this edge or is this link
+-- component k has an item i, which represents this edge or is this link
 abbrev pub StandsFor : List Comp → ℕ → ℕ → What → Type 0
 StandsFor comps k i what = (i < length (items_of comps k)) × ((item_at comps k i).what ≡ what)
 
@@ -60,12 +60,12 @@ joins_others k j link = not (((link.0 == k) && (link.1 == j)) || ((link.0 == j) 
 abbrev pub is_beyond : List Comp → ℕ → ℕ → ℕ → Bool
 is_beyond comps k j c = connected (filter (joins_others k j) (all_links 0 comps)) j c
 
--- whether an item stands for edge e
+-- whether an item represents edge e
 abbrev pub is_edge : ℕ → What → Bool
 is_edge e (Real f) = f == e
 is_edge e (Link j) = false
 
--- whether one of the items stands for edge e
+-- whether one of the items represents edge e
 abbrev pub has_edge : List Piece → ℕ → Bool
 has_edge [] e = false
 has_edge (piece ∷ pieces) e = is_edge e piece.what || has_edge pieces e

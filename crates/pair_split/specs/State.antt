@@ -1,6 +1,6 @@
 -- State of a loop: a graph that is split, by the components that are finished and the current family, still to be split.
 -- Entries go by names: edge e of the graph is e, and the virtual edge of component c is m + c, where m is the number of edges.
--- A virtual edge stands in its own component and in a later one; the current family is the last of all.
+-- A virtual edge is in its own component and in a later one; the current family is the last of all.
 use Rattle.std.specs.Prelude.{◌≡◌, ◌≢◌, ℕ, ◌+◌, ◌<◌, ◌≤◌, ◌⊎◌, ◌↔◌, Bool, true, false, List, [], ◌∷◌, ◌++◌, length, map, slice_index_or, Contains}
 use Rattle.multigraph.specs.Graph.{Multigraph, edge_count}
 use Rattle.graph_theory.specs.Side.{IsCommon}
@@ -42,11 +42,11 @@ part_family part = part.own ∷ part.entries
 abbrev pub layers : SplitState → List (List Entry)
 layers state = map (λ part. part.entries) state.parts ++ state.current ∷ []
 
--- layer k; empty where there is none
+-- layer k; empty where it does not exist
 abbrev pub layer : SplitState → ℕ → List Entry
 layer state k = slice_index_or (layers state) k []
 
--- the test tells which names are beyond the virtual edge of component c: that name itself, and what stands in a layer whose
+-- the test says which names are beyond the virtual edge of component c: that name itself, and what is in a layer whose
 -- virtual edge is beyond
 pub record IsBeyond (m : ℕ) (state : SplitState) (c : ℕ) (t : ℕ → Bool) : Type 0 where
   pub own : t (m + c) ≡ true
@@ -54,7 +54,7 @@ pub record IsBeyond (m : ℕ) (state : SplitState) (c : ℕ) (t : ℕ → Bool) 
   pub layer_by_layer : (k : ℕ) (entry : Entry) → Contains (layer state k) entry → entry.name ≢ m + c → t entry.name ≡ t (m + k)
 
 -- the place of each name is the name of the entry of the current family in which it lies: an entry of that family lies in
--- itself, and what stands in a finished component lies where its virtual edge does
+-- itself, and what is in a finished component lies where its virtual edge does
 pub record IsPlaced (m : ℕ) (state : SplitState) (place : ℕ → ℕ) : Type 0 where
   pub finished : (k : ℕ) (entry : Entry) → k < length state.parts → Contains (layer state k) entry → place entry.name ≡ place (m + k)
   pub current : (entry : Entry) → Contains state.current entry → place entry.name ≡ entry.name
@@ -88,7 +88,7 @@ abbrev pub family_at : SplitState → ℕ → List Entry
 family_at state k = slice_index_or (map part_family state.parts ++ state.current ∷ []) k []
 
 -- in component k the entry is written so: an edge as an edge, the component's own virtual edge as a link to the component in
--- which it stands as well, any other virtual edge as a link to its own component
+-- which it is also, any other virtual edge as a link to its own component
 abbrev pub IsWrittenIn : ℕ → SplitState → ℕ → Entry → What → Type 0
 IsWrittenIn m state k entry (Real e) = (e < m) × (entry.name ≡ e)
 IsWrittenIn m state k entry (Link j) = ((entry.name ≡ m + j) × (j ≢ k)) ⊎ ((entry.name ≡ m + k) × Contains (layer state j) entry)

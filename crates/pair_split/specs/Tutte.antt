@@ -1,5 +1,6 @@
 -- The tree of a block: its Tutte decomposition (Tutte 1966; Di Battista and Tamassia 1996), in a fixed numbering.
-use Rattle.std.specs.Prelude.{◌≡◌, ℕ, ◌<◌, Bool, true, false, ◌&&◌, ◌||◌, ◌==◌, nat_lt, cond, List, [], ◌∷◌, length, map, slice_index_or}
+use Rattle.std.specs.Prelude.{◌≡◌, ℕ, ◌<◌, Bool, true, ◌==◌, cond, List, [], ◌∷◌, length, map, slice_index_or}
+pub use Rattle.choice_lists.specs.Order.{is_before}
 use Rattle.permutations.specs.Count.{least}
 use Rattle.permutations.specs.Members.{is_member}
 use Rattle.multigraph.specs.Graph.{Multigraph, edge_count}
@@ -28,7 +29,7 @@ piece_of item = record { a = item.a; b = item.b; what = item.what }
 abbrev pub components : List Node → List Comp
 components nodes = map (λ node. record { kind = node.kind; items = map piece_of node.items }) nodes
 
--- node k; one without items where there is none
+-- node k; one without items where it does not exist
 abbrev pub node_at : List Node → ℕ → Node
 node_at nodes k = slice_index_or nodes k (record { kind = B; vertices = []; items = [] })
 
@@ -41,7 +42,7 @@ abbrev pub key_of : Multigraph → List Node → ℕ → What → ℕ
 key_of g nodes k (Real e) = e
 key_of g nodes k (Link j) = least (edge_count g) (side (components nodes) k j)
 
--- whether what stands in component k is edge e, or a link with e on its side
+-- whether what is in component k is edge e, or a link with e on its side
 abbrev pub has_in_group : List Comp → ℕ → ℕ → What → Bool
 has_in_group comps k e (Real f) = f == e
 has_in_group comps k e (Link j) = side comps k j e
@@ -55,15 +56,8 @@ first_key passes (item ∷ items) = cond (passes item.what) item.key (first_key 
 abbrev pub group : List Node → ℕ → ℕ → ℕ
 group nodes k e = first_key (has_in_group (components nodes) k e) (node_at nodes k).items
 
--- whether the first list comes before the second in lexicographic order, a list before those that it begins
-abbrev pub is_before : List ℕ → List ℕ → Bool
-is_before [] [] = false
-is_before [] (y ∷ ys) = true
-is_before (x ∷ xs) [] = false
-is_before (x ∷ xs) (y ∷ ys) = nat_lt x y || ((x == y) && is_before xs ys)
-
--- the order of nodes, vertices and items: the vertices of a node are the ends of its items, and rise; nodes are in
--- lexicographic order of their vertices; each item has the lesser end first, and its key, and the keys of a node rise
+-- the order of nodes, vertices and items: the vertices of a node are the ends of its items, in increasing order; nodes are in
+-- lexicographic order of their vertices; each item has the lesser end first, and its key, and the keys of a node increase
 pub record IsInOrder (g : Multigraph) (nodes : List Node) : Type 0 where
   pub vertices : (k v : ℕ) → k < length nodes → is_member v (node_at nodes k).vertices ≡ is_vertex (skeleton (components nodes) k) v
   pub vertices_rise : (k : ℕ) → k < length nodes → Rises (node_at nodes k).vertices

@@ -9,18 +9,18 @@ use Rattle.pair_split.specs.declared.components.Comp.{Comp}
 use Rattle.pair_split.specs.declared.components.Piece.{Piece}
 use Rattle.pair_split.specs.declared.components.Kind.TheVariants.{B}
 
--- the virtual edges have their names, each stands in a layer, and no name stands in two
+-- the virtual edges have their names, each is in a layer, and no name is in two
 pub record IsListed (m : ℕ) (state : SplitState) : Type 0 where
   pub own_names : (c : ℕ) → c < length state.parts → (own_at state c).name ≡ m + c
   pub own_listed : (c : ℕ) → c < length state.parts → (k : ℕ) × Contains (layer state k) (own_at state c)
   pub below : (k : ℕ) (entry : Entry) → Contains (layer state k) entry → entry.name < m + length state.parts
   pub once : (k j : ℕ) (x y : Entry) → Contains (layer state k) x → Contains (layer state j) y → x.name ≡ y.name → k ≡ j
 
--- for each virtual edge, the layer in which it stands
+-- for each virtual edge, the layer in which it is
 abbrev pub AreUps : ℕ → SplitState → List ℕ → Type 0
 AreUps m state ups = (k : ℕ) (entry : Entry) (c : ℕ) → Contains (layer state k) entry → entry.name ≡ m + c → slice_index_or ups c 0 ≡ k
 
--- where the entry is the virtual edge of component k, the layer in which it stands is noted for it
+-- where the entry is the virtual edge of component k, its layer is noted for it
 abbrev pub IsLayerNoted : ℕ → SplitState → ℕ → List ℕ → Entry → Type 0
 IsLayerNoted m state k ups entry = entry.name ≡ m + k → Contains (layer state (slice_index_or ups k 0)) entry
 
@@ -28,7 +28,7 @@ IsLayerNoted m state k ups entry = entry.name ≡ m + k → Contains (layer stat
 abbrev pub IsNotedFor : ℕ → SplitState → ℕ → List ℕ → List Entry → Type 0
 IsNotedFor m state k ups entries = (entry : Entry) → Contains entries entry → IsLayerNoted m state k ups entry
 
--- these entries of component k are written behind what was written before
+-- these entries of component k are written after what was written before
 abbrev pub AreWrittenBehind : ℕ → SplitState → ℕ → List Entry → List Piece → List Piece → Type 0
 AreWrittenBehind m state k added old new = (entries : List Entry) → AreWritten m state k entries old → AreWritten m state k (entries ++ added) new
 

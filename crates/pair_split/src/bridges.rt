@@ -1,7 +1,8 @@
 // Bridges: the entries with an end of one label, when two vertices are removed.
 
 ghost use Rattle.std.specs.Prelude.{◌≡◌, ◌<◌, ℕ, false, length, IfOk};
-ghost use Rattle.pair_split.specs.Bridges.{entry_of, family_of, HaveEndsBelow, HaveNamesBelow, reached, in_bridge, has_label, bridge_size, marked, side_of};
+ghost use Rattle.multigraph.specs.Marks.{is_marked};
+ghost use Rattle.pair_split.specs.Bridges.{entry_of, family_of, HaveEndsBelow, HaveNamesBelow, reached, in_bridge, has_label, bridge_size, side_of};
 
 use crate::family::NamedEdge;
 use crate::labels::is_removed;
@@ -48,8 +49,8 @@ pub(crate) fn size_of_bridge(
 fn mark_along(edges: &[NamedEdge], labels: &[u32], a: u32, b: u32, label: u32, marks: &mut [bool])
     requires ends { HaveEndsBelow (length labels.now) edges.now }
     requires names { HaveNamesBelow (length marks.old) edges.now }
-    requires unmarked { (n : ℕ) → marked marks.old n ≡ false }
-    ensures { (n : ℕ) → marked marks.new n
+    requires unmarked { (n : ℕ) → is_marked marks.old n ≡ false }
+    ensures { (n : ℕ) → is_marked marks.new n
         ≡ side_of (family_of edges.now) (in_bridge a b (has_label labels.now label)) n }
 {
     for edge in edges {
@@ -71,7 +72,7 @@ pub(crate) fn mark_bridge(
 ) -> Result<Vec<bool>, AllocError>
     requires ends { HaveEndsBelow (length labels.now) edges.now }
     requires names { HaveNamesBelow bound edges.now }
-    ensures marks { IfOk result (λ marks. (n : ℕ) → marked marks.items n
+    ensures marks { IfOk result (λ marks. (n : ℕ) → is_marked marks.items n
         ≡ side_of (family_of edges.now) (in_bridge a b (has_label labels.now label)) n) }
     ensures number { IfOk result (λ marks. length marks.items ≡ bound) }
 {

@@ -1,5 +1,8 @@
 // Components of a block, as data.
 
+ghost use Rattle.std.specs.Prelude.{◌≡◌};
+ghost use Rattle.pair_split.specs.Kinds.{has_choices};
+
 use crate::lists::{CompList, PieceList};
 
 /// The kind of a component.
@@ -15,7 +18,19 @@ pub enum Kind {
     B,
 }
 
-/// What a piece stands for.
+impl Kind {
+    /// Whether nodes of this kind have choices, which are independent of each other: bonds and triconnected nodes do.
+    pub fn has_choices(self) -> bool
+        ensures { result ≡ has_choices self }
+    {
+        match self {
+            Kind::P | Kind::R => true,
+            Kind::S | Kind::B => false,
+        }
+    }
+}
+
+/// What a piece represents.
 #[derive(Clone, Copy, Debug, Drop, PartialEq, Eq)]
 pub enum What {
     /// This edge of the block.
@@ -31,20 +46,20 @@ pub struct Piece {
     pub a: u32,
     /// The other end.
     pub b: u32,
-    /// What it stands for.
+    /// What it represents.
     pub what: What,
 }
 
 /// An edge of a node of the tree, with its two ends, the lesser first.
 #[derive(Clone, Copy, Debug, Drop, PartialEq, Eq)]
 pub struct Item {
-    /// The least edge of the block that it stands for.
+    /// The least edge of the block that it represents.
     pub key: u32,
     /// The lesser end.
     pub a: u32,
     /// The greater end.
     pub b: u32,
-    /// What it stands for.
+    /// What it represents.
     pub what: What,
 }
 

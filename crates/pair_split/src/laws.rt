@@ -1,11 +1,11 @@
 // The laws of split components: each is a function without a body, whose contract is the theorem.
 //
-// The lemmas that are used most (module of proofs/ in front):
+// The lemmas that are used most, by their modules in proofs/:
 //   Start, SplitOff, Finish state-start, state-split_off, state-end: the state of splitting, from the graph to its split components
-//   Places          state-tight, common-current, current-common: the current family tells what two sides have in common
+//   Places          state-tight, common-current, current-common: the current family determines what two sides have in common
 //   SmallBlock      small-split: blocks of one or two edges
 //   Links           link-contained, contained-link, side-home: links as a list of pairs; where an edge is
-//   Subtrees        side-below, side-above: on the far side of a link just where the chain of parents meets the component
+//   Subtrees        side-below, side-above: on the far side of a link just where the chain of parents contains the component
 //   TreeSides       all-linked, beyond-other, beyond-apart, beyond-some: the sides of the links of one component
 //   Rerooted        rerooted, rerooted-parent: the tree with another root
 //   Groups          group-some, group-once, group-common, end-touched: the groups of the items of a component
@@ -33,7 +33,8 @@ pub fn groups_part_the_edges()
 {}
 
 /// The law that each link of split components of a block is a 2-separation of it: each side has at least two edges and is the
-/// other side of the link back, just two vertices have edges of both, and each side touches all vertices of the component on it.
+/// other side of the link back, just two vertices have edges of both, and each side touches all vertices of the component on
+/// it.
 pub fn links_are_separations()
     ensures separation { LinksAreSeparations }
     ensures opposite { LinksBackAreOpposite }

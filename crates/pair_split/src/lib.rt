@@ -8,11 +8,11 @@
 // entries and is a bond or a triangle. So a splitter keeps one family, cuts off a minimal side as a finished component, puts
 // one virtual edge in its place, and stops when the family is prime; nothing is split twice, and the components form a tree.
 //
-// `Splitter` is the trait of what does so, and `IsSplit` its contract: the components are of their kinds, each edge stands in
+// `Splitter` is the trait of what does so, and `IsSplit` its contract: the components are of their kinds, each edge is in
 // one of them, each link in both that it joins, the links form a tree, and the two sides of a link have just its two ends in
 // common. `PairSplitter` tries all pairs of vertices and takes a side with the fewest entries.
 //
-// The lemmas on families (module of proofs/ in front; those on the state of splitting and on links stand at the laws):
+// The lemmas on families, by their modules in proofs/ (those on the state of splitting and on links are listed at the laws):
 //   Sides           common-from, common-inside, common-outside: common vertices by entries; exactly_two, separation-from: in a
 //                   tight family a side with no common vertices but p and q, and two entries on it and off it, is a 2-separation
 //   Replaced        replaced-common, replaced-tight: a side replaced by one entry: common vertices stay, tight stays

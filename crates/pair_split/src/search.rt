@@ -7,7 +7,8 @@ ghost use Rattle.std.specs.Prelude.{◌≡◌, ◌+◌, ◌<◌, ◌≤◌, ◌^
 ghost use Rattle.graph_theory.specs.Labels.{IsLabelling, label_at};
 ghost use Rattle.pair_split.specs.Edges.{entry_ends, family_skeleton};
 ghost use Rattle.pair_split.specs.Skeleton.{SameEnds};
-ghost use Rattle.pair_split.specs.Bridges.{entry_of, family_of, marked, AreParallelAt};
+ghost use Rattle.multigraph.specs.Marks.{is_marked};
+ghost use Rattle.pair_split.specs.Bridges.{entry_of, family_of, AreParallelAt};
 ghost use Rattle.pair_split.specs.Search.{AreSearchable, HasNoParallels, IsAtMostBridge, IsBest, IsLeastAt, IsLeastBefore, IsSearched};
 
 use crate::bridges::{mark_bridge, size_of_bridge};
@@ -135,7 +136,7 @@ fn best_at(
     Ok(best)
 }
 
-// A side of a 2-separation with the fewest entries. If there is none, its size is that of the whole family.
+// A side of a 2-separation with the fewest entries. If none exists, its size is that of the whole family.
 fn best_side(alloc: Global, edges: &[NamedEdge], n: u32, bound: usize) -> Result<Side, AllocError>
     requires edges { AreSearchable edges.now n bound }
     requires simple { HasNoParallels (family_of edges.now) }
@@ -161,7 +162,7 @@ pub(crate) fn are_parallel(e: NamedEdge, f: NamedEdge) -> bool
     (e.first == f.first && e.second == f.second) || (e.first == f.second && e.second == f.first)
 }
 
-// The place of the first entry behind i that is parallel to it.
+// The place of the first entry after i that is parallel to it.
 fn parallel_behind(edges: &[NamedEdge], i: usize) -> Option<usize>
     requires { i < length edges.now }
     ensures found { IfSome result (λ j. (i < j) × (j < length edges.now)
@@ -202,7 +203,7 @@ fn parallel_side(
     requires first_in { e.name < bound }
     requires second_in { f.name < bound }
     ensures ends { IfOk result (λ side. (side.first ≡ e.first) × (side.second ≡ e.second)) }
-    ensures marks { IfOk result (λ side. (n : ℕ) → marked side.marks.items n
+    ensures marks { IfOk result (λ side. (n : ℕ) → is_marked side.marks.items n
         ≡ ((n == e.name) || (n == f.name))) }
     ensures number { IfOk result (λ side. length side.marks.items ≡ bound) }
 {

@@ -11,7 +11,7 @@ use std::alloc::{AllocError, Global};
 /// A method that splits a block into split components.
 pub trait Splitter {
     /// The split components of a graph that is one block: polygons, bonds and triconnected graphs, or a single component of
-    /// kind B where the block has one edge or two. Each link stands in both components that it joins.
+    /// kind B where the block has one edge or two. Each link is in both components that it joins. Fails only if memory runs out.
     fn split(&mut self, alloc: Global, g: &Graph) -> Result<Comps, AllocError>
         requires { IsOneBlock g.now }
         ensures { IfOk result (λ comps. IsSplit g.now comps.list) };

@@ -6,7 +6,8 @@ ghost use Rattle.pair_split.specs.Family.{on_side, off_side, IsFamily, IsPrime};
 ghost use Rattle.pair_split.specs.Edges.{family_skeleton, graph_family};
 ghost use Rattle.graph_theory.specs.Block.{IsOneBlock};
 ghost use Rattle.pair_split.specs.Skeleton.{IsSkeleton};
-ghost use Rattle.pair_split.specs.Bridges.{entry_of, family_of, HaveNamesBelow, marked};
+ghost use Rattle.multigraph.specs.Marks.{is_marked};
+ghost use Rattle.pair_split.specs.Bridges.{entry_of, family_of, HaveNamesBelow};
 ghost use Rattle.pair_split.specs.State.{IsSplitState};
 ghost use Rattle.pair_split.specs.Search.{IsMinimalSide, IsSearched};
 ghost use Rattle.pair_split.specs.Splitting.{state_of, IsSplitting};
@@ -32,7 +33,7 @@ pub struct Finished {
     pub edges: EdgeList,
 }
 
-/// The edges of the graph, in order, each under its number. Fails for want of memory alone. The steps are one for each edge.
+/// The edges of the graph, in order, each under its number. Fails only if memory runs out. The steps are one for each edge.
 pub fn graph_edges<L: Ledger>(
     alloc: Global,
     g: &Graph,
@@ -65,7 +66,7 @@ fn marked_edges(
 ) -> Result<Vec<NamedEdge>, AllocError>
     requires { HaveNamesBelow (length marks.now) edges.now }
     ensures { IfOk result (λ kept. family_of kept.items
-        ≡ on_side (marked marks.now) (family_of edges.now)) }
+        ≡ on_side (is_marked marks.now) (family_of edges.now)) }
 {
     let mut kept = Vec::new(alloc);
     for edge in edges {
@@ -85,7 +86,7 @@ fn other_edges(
 ) -> Result<Vec<NamedEdge>, AllocError>
     requires { HaveNamesBelow (length marks.now) edges.now }
     ensures { IfOk result (λ kept. family_of kept.items
-        ≡ entry_of own ∷ off_side (marked marks.now) (family_of edges.now)) }
+        ≡ entry_of own ∷ off_side (is_marked marks.now) (family_of edges.now)) }
 {
     let mut kept = Vec::new(alloc);
     kept.push(own)?;

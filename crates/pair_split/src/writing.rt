@@ -15,7 +15,7 @@ use std::alloc::{AllocError, Global};
 use std::sync::ledger::Ledger;
 use step_count::Steps;
 
-// Notes for each virtual edge among these that it stands in this layer.
+// Notes for each virtual edge among these that it is in this layer.
 fn note_layer<L: Ledger>(
     ups: &mut [u32],
     edges: &[NamedEdge],
@@ -38,7 +38,7 @@ fn note_layer<L: Ledger>(
     }
 }
 
-// Notes for each virtual edge in which layer it stands besides its own component.
+// Notes for each virtual edge the layer that it is in beside its own component.
 fn note_layers<L: Ledger>(
     ups: &mut [u32],
     parts: &[Finished],
@@ -60,7 +60,7 @@ fn note_layers<L: Ledger>(
     note_layer(ups, current, m, parts.len() as u32, steps);
 }
 
-// For each virtual edge, the layer in which it stands besides its own component.
+// For each virtual edge, the layer that it is in beside its own component.
 fn ups_of<L: Ledger>(
     alloc: Global,
     parts: &[Finished],
@@ -83,7 +83,7 @@ fn ups_of<L: Ledger>(
     Ok(ups)
 }
 
-// What an entry of component k stands for.
+// What an entry of component k represents.
 fn what_of(edge: NamedEdge, m: u32, k: u32, ups: &[u32]) -> What
     requires { edge.name < m + length ups.now }
     ensures { (state : SplitState) → IsLayerNoted m state k ups.now (entry_of edge)
@@ -99,7 +99,7 @@ fn what_of(edge: NamedEdge, m: u32, k: u32, ups: &[u32]) -> What
     What::Link(c)
 }
 
-// Writes an entry of component k behind the pieces.
+// Writes an entry of component k after the pieces.
 fn push_piece(
     pieces: &mut Vec<Piece>,
     edge: NamedEdge,
@@ -120,7 +120,7 @@ fn push_piece(
     Ok(())
 }
 
-// Writes entries of component k behind the pieces.
+// Writes entries of component k after the pieces.
 fn push_pieces<L: Ledger>(
     pieces: &mut Vec<Piece>,
     edges: &[NamedEdge],
@@ -225,8 +225,8 @@ fn write_parts<L: Ledger>(
 }
 
 /// The components of a state of splitting: the finished ones in order, and what is left as the last one, of this kind. The
-/// names below `m` are those of edges, and m + c is that of the virtual edge of finished component c, which stands in two
-/// components in the end. Fails for want of memory alone. The steps are two for each finished component, for each of its
+/// names below `m` are those of edges, and m + c is that of the virtual edge of finished component c, which is in two
+/// components in the end. Fails only if memory runs out. The steps are two for each finished component, for each of its
 /// entries but its own virtual edge, and for each entry that is left.
 pub fn write_components<L: Ledger>(
     alloc: Global,

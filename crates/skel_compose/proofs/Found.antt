@@ -1,58 +1,56 @@
 -- Items found by binary search, and the homes of edges.
-use Rattle.std.proofs.Common.{◌≡◌, ℕ, ◌+◌, ◌<◌, ◌≤◌, inl, inr, true, List, [], length, get_or, slice_set, map, sym, ap, ap₂, ◌∙◌, subst, arith}
+use Rattle.std.proofs.Common.{◌≡◌, ℕ, ◌+◌, ◌<◌, ◌≤◌, inl, inr, true, Result, Ok, Err, IfOk, IfErr, List, [], length, get_or, slice_set, map, sym, ap, ap₂, ◌∙◌, subst, arith}
+use Rattle.std.specs.List.Sorted.{IsSearchInRange, IsBinarySearchResult, IsNonDecreasingBy}
+use Rattle.std.specs.Ordering.{nat_cmp, ordering_index}
+use Rattle.std.proofs.lemmas.Cmp.{ranked}
+use Rattle.std.proofs.lemmas.List.Sorted.{IsNonDecreasingBy-from_default}
+use Rattle.std.proofs.lemmas.Bool.Decides.{nat_tests}
 use Rattle.std.proofs.lemmas.Bool.{cases_eq, cases_lt}
 use Rattle.std.proofs.lemmas.List.{get_or_default, get_or-set_same, get_or-set_other, length-set}
 use Rattle.permutations.specs.Members.{is_member, place_of}
-use Rattle.multigraph.specs.Part.{Rises, IsPlace}
-use Rattle.multigraph.proofs.Places.{rises-once, place-missed}
+use Rattle.multigraph.specs.Part.{Rises}
 use Rattle.multigraph.specs.Graph.{Multigraph, edge_count, max_edges, IsWithinLimits}
 use Rattle.rotations.specs.Rotation.{order_at}
 use Rattle.faces.proofs.MapLists.{successor-map}
 use Rattle.pair_split.proofs.Links.{stands-in}
 use Rattle.permutations.specs.Cyclic.{successor}
 use Rattle.permutations.proofs.Successor.{successor-member}
-use Rattle.permutations.proofs.Places.{place-below, place-holds}
 use Rattle.pair_split.specs.Tutte.{Node, components, node_at, node_item, IsTutte}
 use Rattle.pair_split.specs.declared.components.Item.{Item}
 use Rattle.pair_split.specs.declared.components.What.TheVariants.{Real}
 use Rattle.skeletons.specs.Items.{item_key, ends_item, has_vertex, IsBlockTree}
 use Rattle.skeletons.specs.Families.{system_at, AreSkeletonSystems, keys_in}
-use Rattle.skeletons.proofs.NodeItems.{nth_item, node-in, stands-of, item-of, keys-once, item-vertex}
+use Rattle.skeletons.proofs.NodeItems.{no_item, nth_item, node-in, stands-of, item-of, keys-once, item-vertex}
 use Rattle.skeletons.proofs.Places.{round-item, item-round}
-use Rattle.skeleton_runs.proofs.NodeFits.{item-first, item-second}
 use Rattle.skeleton_runs.proofs.SkeletonGraph.{skeleton-limits, graph-edges}
 use Rattle.skel_compose.specs.Homes.{home_at, IsHome, HasHomes}
 use Rattle.skel_compose.proofs.Back.{items-rise}
 
--- the narrowing of a search by key, to the left and to the right
-module _ (items : List Item) (key low high mid : ℕ) (r : Rises (map item_key items)) (fits : high ≤ length items) (between : (i : ℕ) → i < length items → (nth_item items i).key ≡ key → (low ≤ i) × (i < high)) where
-  pub narrowed-left : low < mid → mid < high → key < (nth_item items mid).key → (low < mid) × (mid ≤ length items) × ((i : ℕ) → i < length items → (nth_item items i).key ≡ key → (low ≤ i) × (i < mid))
-  narrowed-left l m k = (
-    l,
-    omega (arith, m, fits),
-    λ i n e. (
-      (between i n e).0,
-      elim (cases_lt i mid) [
-        | inl a ↦ a
-        | inr a ↦ elim (cases_eq i mid) [
-          | inl q ↦ absurd (omega (arith, k, e, ap (λ z. (nth_item items z).key) q))
-          | inr q ↦ absurd (omega (arith, k, e, items-rise items r mid i (omega (arith, a, q)) n))
-        ]
-      ],
-    ),
-  )
+-- a binary search by key, among items in increasing order of their keys, one of which has the key
+module _ (items : List Item) (key : ℕ) (r : Rises (map item_key items)) where
+  -- the comparisons with the key rise along the list
+  comparisons-rise : IsNonDecreasingBy (λ (item : Item). ordering_index (nat_cmp item.key key)) items
+  comparisons-rise = IsNonDecreasingBy-from_default (λ (item : Item). ordering_index (nat_cmp item.key key)) items no_item (λ i j le within. weak i j (at-most i j le within))
+    where
+      at-most : (i j : ℕ) → i ≤ j → j < length items → (nth_item items i).key ≤ (nth_item items j).key
+      at-most i j le within = elim (cases_eq i j) [
+        | inl same ↦ omega (arith, ap (λ z. (nth_item items z).key) same)
+        | inr other ↦ omega (arith, items-rise items r i j (omega (arith, le, other)) within)
+      ]
 
-  pub narrowed-right : low < mid → mid < high → (nth_item items mid).key ≤ key → (mid < high) × (high ≤ length items) × ((i : ℕ) → i < length items → (nth_item items i).key ≡ key → (mid ≤ i) × (i < high))
-  narrowed-right l m k = (
-    m,
-    fits,
-    λ i n e. (
-      elim (cases_lt i mid) [
-        | inr a ↦ a
-        | inl a ↦ absurd (omega (arith, k, e, items-rise items r i mid a (omega (arith, m, fits))))
-      ],
-      (between i n e).1,
-    ),
+      weak : (i j : ℕ) → (nth_item items i).key ≤ (nth_item items j).key → ordering_index (nat_cmp (nth_item items i).key key) ≤ ordering_index (nat_cmp (nth_item items j).key key)
+      weak i j le = grind (arith, nat_tests)
+
+  -- it ends at that item
+  pub searched : (answer : Result ℕ ℕ) → IsSearchInRange answer (length items) → IsBinarySearchResult (λ (item : Item). nat_cmp item.key key) items answer → (i : ℕ) × (i < length items) × ((nth_item items i).key ≡ key)
+      → IfOk answer (λ place. (place < length items) × ((nth_item items place).key ≡ key)) × IfErr answer (λ place. ⊥)
+  searched (Ok place) within equal held = ((within, ranked _ key _ (sym (equal no_item))), tt)
+  searched (Err place) within parted held = (
+    tt,
+    elim (cases_lt held.0 place) [
+      | inl l ↦ let less : (nth_item items held.0).key < key = ranked _ key _ (sym ((parted comparisons-rise).0 held.0 no_item (omega arith) l)) in omega (arith, less, held.2)
+      | inr l ↦ let more : key < (nth_item items held.0).key = ranked _ key _ (sym ((parted comparisons-rise).1 held.0 no_item l held.1)) in omega (arith, more, held.2)
+    ],
   )
 
 -- an item as it is read from its list

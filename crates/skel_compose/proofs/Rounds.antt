@@ -1,6 +1,6 @@
 -- Cyclic orders read from the successors, and put into lists.
-use Rattle.std.proofs.Common.{◌≡◌, ℕ, suc, ◌+◌, ◌-◌, ◌<◌, inl, inr, true, List, [], ◌∷◌, ◌++◌, length, get_or, refl, sym, ap, ap₂, ◌∙◌, subst, arith, append_assoc, append-nil, IsPermutation}
-use Rattle.std.proofs.lemmas.List.{get_or-map, length-map}
+use Rattle.std.proofs.Common.{◌≡◌, ℕ, suc, ◌+◌, ◌-◌, ◌<◌, true, Result, Ok, Err, IfOk, List, [], ◌∷◌, ◌++◌, length, get_or, refl, sym, ap, ap₂, ◌∙◌, subst, arith, append_assoc, append-nil, IsPermutation}
+use Rattle.std.proofs.lemmas.List.{get_or-map, length-map, ext_get_or}
 use Rattle.permutations.specs.Cyclic.{first_or, successor, turned}
 use Rattle.permutations.specs.Members.{is_member, is_distinct}
 use Rattle.permutations.specs.Ring.{images}
@@ -15,9 +15,8 @@ use Rattle.rotations.proofs.Membership.{incident-member, incident-distinct}
 use Rattle.rotations.proofs.Cursor.{list_at-found}
 use Rattle.faces.proofs.DartLemmas.{order-distinct}
 use Rattle.rotations.specs.Entries.{entry, list_at, IsAbove}
-use Rattle.rotations.specs.Given.{given_order, IsFirstBad}
+use Rattle.rotations.specs.Given.{given_order, AreArranged}
 use Rattle.rotations.specs.Rotation.{order_at, IsRotationSystem}
-use Rattle.skeletons.proofs.Systems.{same-orders}
 use Rattle.skel_compose.specs.Orders.{orders_below}
 
 -- a stretch of a list without repetition is made by the successors of its first member
@@ -89,18 +88,25 @@ module _ (g : Multigraph) (r : List (List ℕ)) (s : IsRotationSystem g r) where
   pub round-member : (v x : ℕ) → v < g.vertex_count → x ≡ get_or (incident_edges g v) 0 0 → 0 < length (incident_edges g v) → is_member x (order_at r v) ≡ true
   round-member v x l q n = permutation-member (incident_edges g v) (order_at r v) x (s.orders v l).arranged ∙ subst (λ z. is_member z (incident_edges g v) ≡ true) (sym q) (member-at (incident_edges g v) 0 0 n)
 
-  -- no number is bad for the entries of a rotation system
-  pub entries-not_bad : (v : ℕ) → IsFirstBad g (orders_below r g.vertex_count) v → ⊥
-  entries-not_bad v bad = elim bad.bad [
-    | inl l ↦ l.1 (subst (IsPermutation (incident_edges g v)) (sym (entries-given r g.vertex_count v l.0)) (s.orders v l.0).arranged)
-    | inr n ↦
-        let k : ℕ = (n.1).0 in
-        let l : k < g.vertex_count = subst (λ z. k < z) (entries-number r g.vertex_count) (n.1).1 in
-        let e : k ≡ v = sym (ap (λ (z : ℕ × List ℕ). z.0) (entry-at r g.vertex_count k l)) ∙ (n.1).2 in
-        omega (arith, n.0, l, e)
-  ]
+  -- the entries of a rotation system are arranged
+  pub entries-arranged : AreArranged g (orders_below r g.vertex_count)
+  entries-arranged = record {
+    arranged = λ v l. subst (IsPermutation (incident_edges g v)) (sym (entries-given r g.vertex_count v l)) (s.orders v l).arranged;
+    vertices = λ v n.
+        let l : n.0 < g.vertex_count = subst (λ z. n.0 < z) (entries-number r g.vertex_count) n.1 in
+        let e : n.0 ≡ v = sym (ap (λ (z : ℕ × List ℕ). z.0) (entry-at r g.vertex_count n.0 l)) ∙ n.2 in
+        omega (arith, l, e);
+  }
 
   -- the rotation system of these entries is the one
-  pub entries-same : (q : List (List ℕ)) → IsRotationSystem g q → ((v : ℕ) → v < g.vertex_count → order_at q v ≡ given_order g (orders_below r g.vertex_count) v) → r ≡ q
-  entries-same q u h = same-orders g r q s u (λ v l. sym (h v l ∙ ap (λ (z : List ℕ). turned z (first_or 0 (incident_edges g v))) (entries-given r g.vertex_count v l)
-      ∙ ap (turned (order_at r v)) (sym (s.orders v l).least_first) ∙ turned-own (order_at r v)))
+  pub entries-same : (q : List (List ℕ)) → length q ≡ g.vertex_count → ((v : ℕ) → v < g.vertex_count → order_at q v ≡ given_order g (orders_below r g.vertex_count) v) → r ≡ q
+  entries-same q long h = ext_get_or [] r q (s.vertices ∙ sym long) (λ v l. order v (subst (λ n. v < n) s.vertices l))
+    where
+      order : (v : ℕ) → v < g.vertex_count → order_at r v ≡ order_at q v
+      order v l = sym (h v l ∙ ap (λ (z : List ℕ). turned z (first_or 0 (incident_edges g v))) (entries-given r g.vertex_count v l)
+          ∙ ap (turned (order_at r v)) (sym (s.orders v l).least_first) ∙ turned-own (order_at r v))
+
+-- what two facts on a value give, where there is one
+pub both-ok : {A E : Type 0} → (found : Result A E) → (P Q R : A → Type 0) → ((x : A) → P x → Q x → R x) → IfOk found P → IfOk found Q → IfOk found R
+both-ok (Ok x) P Q R f p q = f x p q
+both-ok (Err e) P Q R f p q = tt

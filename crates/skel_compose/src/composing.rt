@@ -10,11 +10,11 @@ ghost use Rattle.skel_compose.specs.Orders.{orders_below};
 use crate::homes::homes_of;
 use crate::walking::edge_behind;
 use multigraph::Graph;
-use rotations::{Lists, RotFault, Rotation};
+use rotations::{Lists, Rotation};
 use spqr_tree::Tree;
 use std::alloc::{AllocError, Global};
 
-// The edges round v, from the least on.
+// The edges around v, from the least on.
 fn edges_round(
     alloc: Global,
     g: &Graph,
@@ -39,7 +39,7 @@ fn edges_round(
     Ok(edges)
 }
 
-// The edges round each vertex.
+// The edges around each vertex.
 fn orders(alloc: Global, g: &Graph, tree: &Tree, members: &[Rotation]) -> Result<Lists, AllocError>
     requires block { IsBlockTree g.now tree.now }
     requires systems { AreSkeletonSystems tree.now members.now }
@@ -56,9 +56,9 @@ fn orders(alloc: Global, g: &Graph, tree: &Tree, members: &[Rotation]) -> Result
 }
 
 /// The rotation system of a block that follows the members, one rotation system for the skeleton of each node of its tree: at
-/// each vertex of each node the groups of edges stand in runs, in the order of the node's items (Di Battista and Tamassia 1996).
+/// each vertex of each node the groups of edges are in runs, in the order of the node's items (Di Battista and Tamassia 1996).
 ///
-/// There is exactly one. Fails for want of memory alone.
+/// There is exactly one. Fails only if memory runs out.
 pub fn compose(
     alloc: Global,
     g: &Graph,
@@ -71,11 +71,5 @@ pub fn compose(
     ensures follows { IfOk result (FollowsFamily tree.now members.now) }
 {
     let lists = orders(alloc, g, tree, members)?;
-    match Rotation::from_lists(alloc, g, &lists) {
-        Ok(r) => Ok(r),
-        Err(fault) => match fault {
-            RotFault::Memory => Err(AllocError),
-            RotFault::BadRotation(_) => unreachable!(),
-        },
-    }
+    Rotation::of_arranged(alloc, g, &lists)
 }

@@ -1,18 +1,18 @@
 // Rotation systems of a block, composed of rotation systems of its skeletons.
 //
-// Round a vertex of a node of the tree the edges of each group stand in one run, and the runs stand in the order of the items in
-// the node's skeleton (Di Battista and Tamassia 1996). So the edge that follows edge e round v is found by a walk in the tree:
-// the skeleton that has e says which item comes behind e at v. Where that is a link, what comes behind is the first edge of a
-// run beyond it. The run of the link back, as the node beyond sees it, ends where that run begins, so there the item behind the
+// Around a vertex of a node of the tree the edges of each group are in one run, and the runs are in the order of the items in
+// the node's skeleton (Di Battista and Tamassia 1996). So the edge that follows edge e around v is found by a walk in the tree:
+// the skeleton that has e says which item comes after e at v. Where that is a link, what comes after is the first edge of a run
+// beyond it. The run of the link back, in the order of the node beyond, ends where that run begins, so there the item after the
 // link back is the next to be looked at. The walk goes straight to the node of the edge that it finds.
 //
-// `compose` gives the one rotation system that follows a family, and fails for want of memory alone. Nothing is spliced, and
+// `compose` gives the one rotation system that follows a family, and fails only if memory runs out. Nothing is spliced, and
 // nothing recurses. All walks together pass each link at most twice at each of its ends, and each step takes a binary search in
 // a node.
 //
-// The lemmas (module of proofs/ in front):
+// The lemmas, by their modules in proofs/:
 //   Back     back-key: the key of the link back is the first key of the node, but that of the link itself
-//   Walk     LeadsOn, IsNear: where the walk stands; starts, arrives, goes-on, near-start, near-next
+//   Walk     LeadsOn, IsNear: where the walk is; starts, arrives, goes-on, near-start, near-next
 //   Rounds   images-list: a cyclic order is the list of the successors of its first member; the lists of all vertices
 #![tactic(auto)]
 

@@ -2,12 +2,11 @@
 
 ghost use Rattle.std.specs.Prelude.{◌≡◌, ◌<◌, ◌^◌, ℕ, length, map};
 ghost use Rattle.multigraph.specs.Part.{Rises};
-ghost use Rattle.skeletons.specs.Items.{item_key};
-ghost use Rattle.skeletons.proofs.NodeItems.{nth_item};
+ghost use Rattle.skeletons.specs.Items.{item_key, nth_item};
 
 use pair_split::Item;
 
-// The place of the item with this key among items whose keys rise.
+// The place of the item with this key among items in increasing order of their keys.
 pub(crate) fn item_with_key(items: &[Item], key: u32) -> u32
     requires rising { Rises (map item_key items.now) }
     requires few { length items.now < 2 ^ 32 }
@@ -15,15 +14,8 @@ pub(crate) fn item_with_key(items: &[Item], key: u32) -> u32
     ensures within { result < length items.now }
     ensures key { (nth_item items.now result).key ≡ key }
 {
-    let mut low = 0;
-    let mut high = items.len() as u32;
-    while low + 1 < high {
-        let middle = low + (high - low) / 2;
-        if key < items[middle as usize].key {
-            high = middle;
-        } else {
-            low = middle;
-        }
+    match items.binary_search_by_key(&key, |item| item.key) {
+        Ok(place) => place as u32,
+        Err(_) => unreachable!(),
     }
-    low
 }

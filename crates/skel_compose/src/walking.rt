@@ -1,4 +1,4 @@
-// The edge that follows an edge round a vertex, by a walk in the tree.
+// The edge that follows an edge around a vertex, by a walk in the tree.
 
 ghost use Rattle.std.specs.Prelude.{◌≡◌, ◌<◌, ℕ, true, List, length};
 ghost use Rattle.permutations.specs.Cyclic.{successor};
@@ -16,7 +16,7 @@ use pair_split::What;
 use rotations::Rotation;
 use spqr_tree::Tree;
 
-// The item that follows item i of node k round v, one of its ends.
+// The item that follows item i of node k around v, one of its ends.
 fn item_behind(tree: &Tree, members: &[Rotation], k: u32, i: u32, v: u32) -> u32
     requires block { (g : Multigraph) × IsBlockTree g tree.now × IsWithinLimits g }
     requires systems { AreSkeletonSystems tree.now members.now }
@@ -45,7 +45,7 @@ fn link_back(tree: &Tree, k: u32, i: u32, j: u32) -> u32
     item_with_key(tree.items(j), key)
 }
 
-// The edge that follows e round v, one of its ends.
+// The edge that follows e around v, one of its ends.
 pub(crate) fn edge_behind(
     g: &Graph,
     tree: &Tree,

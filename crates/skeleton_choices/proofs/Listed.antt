@@ -1,5 +1,5 @@
 -- The list with locked nodes, its length, and the last member of the full list.
-use Rattle.std.proofs.Common.{◌≡◌, ◌≢◌, ℕ, zero, suc, ◌+◌, ◌*◌, ◌<◌, ◌≤◌, ◌==◌, ◌&&◌, ◌||◌, nat_lt, inl, inr, Bool, true, false, cond, List, [], ◌∷◌, length, map, reverse, slice_index_or, refl, sym, ap, ap₂, ◌∙◌, subst, arith, Contains}
+use Rattle.std.proofs.Common.{◌≡◌, ◌≢◌, ℕ, zero, suc, ◌+◌, ◌*◌, ◌<◌, ◌≤◌, nat_lt, inl, inr, Bool, true, false, cond, List, [], ◌∷◌, length, map, reverse, slice_index_or, refl, sym, ap, ap₂, ◌∙◌, subst, arith, Contains}
 use Rattle.std.specs.Prelude.{AllPairs}
 use Rattle.std.proofs.lemmas.Bool.{cases_Bool, lt-ltb}
 use Rattle.std.proofs.lemmas.List.{length-map, get_or_default}
@@ -13,7 +13,6 @@ use Rattle.rotations.specs.Rotation.{IsCyclicOrder}
 use Rattle.rotations.specs.Runs.{mirror_image}
 use Rattle.faces.proofs.MapMirror.{mirror-system, mirror-image-plane}
 use Rattle.pair_split.specs.Tutte.{Node, node_at}
-use Rattle.pair_split.specs.Tutte as trees
 use Rattle.pair_split.specs.declared.components.Kind.{Kind}
 use Rattle.pair_split.specs.declared.components.Kind.TheVariants.{S, P, R, B}
 use Rattle.pair_split.specs.declared.components.Item.{Item}
@@ -40,13 +39,6 @@ use Rattle.skeletons.proofs.Leading.{unlocked-full}
 use Rattle.skeleton_runs.proofs.Contiguous.{plane-contiguous}
 use Rattle.skeleton_choices.proofs.Plane.{choice-round}
 use Rattle.skeleton_choices.proofs.Told.{round-once, round-written, rigid-three, rigid-rounds, tell, possible, selection}
-
--- the order of choices is that of lists of numbers
-same-before : (l m : List ℕ) → is_before l m ≡ trees.is_before l m
-same-before [] [] = refl
-same-before [] (y ∷ m) = refl
-same-before (x ∷ l) [] = refl
-same-before (x ∷ l) (y ∷ m) = ap (λ (z : Bool). nat_lt x y || ((x == y) && z)) (same-before l m)
 
 -- a cyclic order from the least on, the other way round
 pub mirror-same : (keys : List ℕ) → is_distinct keys ≡ true → from_least keys ≡ keys → from_least (reverse keys) ≡ mirror_choice keys
@@ -236,7 +228,7 @@ module _ (g : Multigraph) (nodes : List Node) (b : IsBlockTree g nodes) where
           rising : AllPairs (Precedes nodes) listed.list
           rising i j d a c =
               let w = listed.is.rises i j d a c in
-              record { node = w.place; is_node = w.within; same = w.same; smaller = sym (same-before (choice nodes (slice_index_or listed.list i d) w.place) (choice nodes (slice_index_or listed.list j d) w.place)) ∙ w.smaller }
+              record { node = w.place; is_node = w.within; same = w.same; smaller = w.smaller }
 
       -- how many members it has
       pub kept-count : length listed.list ≡ list_count nodes locked

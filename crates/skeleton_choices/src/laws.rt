@@ -2,7 +2,7 @@
 
 ghost use Rattle.skeletons.specs.Laws.{ChoiceIsPossible, ChoicesTell, KeptListExists, LastIsMirrorOfFirst, MoveKeepsPlane, MovesLead, ReachedIsKept, ReachedListIsKeptList, SelectionExists};
 
-/// The law that the choices tell a plane rotation system of a block, that they are possible, and that every selection of
+/// The law that the choices determine a plane rotation system of a block, that they are possible, and that every selection of
 /// possible choices is that of a plane rotation system.
 pub fn choices_tell_plane_systems()
     ensures tell { ChoicesTell }

@@ -75,6 +75,24 @@ item_dart-end nodes k i v e = elim (cases_Bool ((node_item nodes k i).a == v)) [
   | inr h ↦ ap (λ (t : Bool). end_of nodes k (cond t (2 * i) (twin (2 * i)))) h ∙ (twin-end nodes k i).1 ∙ eqb-true (node_item nodes k i).b v (elim (or_cases ((node_item nodes k i).a == v) ((node_item nodes k i).b == v) e) [ inl o ↦ absurd (both_ways ((node_item nodes k i).a == v) h o) | inr o ↦ o ])
 ]
 
+-- a rotation system of a block that follows a family, as what comes of gluing the skeletons' map along all links: the links,
+-- what is known of the glued map, which of its darts are live (those of edges of the block), and the dart of the glued map for
+-- each dart of the block, and back. Its item stands for the edge of the dart, and it leaves the same vertex; each dart of a link
+-- is used
+pub record IsCarried (g : Multigraph) (nodes : List Node) (b : IsBlockTree g nodes) (family : List (List (List ℕ))) (systems : AreSkeletonSystems nodes family) (r : List (List ℕ)) (system : IsRotationSystem g r) : Type 0 where
+  pub links : Built g nodes b family systems r system (length nodes)
+  pub before : ℕ → ℕ
+  pub stage : IsStage (edge_count g * length nodes) (united (edge_count g) (stepped nodes family)) (place_in g nodes) (ends_in g nodes r) (begins_in g nodes r) (part_of (edge_count g)) links.links (all_glued links.links (united (edge_count g) (stepped nodes family))) before
+  pub live : ℕ → Bool
+  pub into : ℕ → ℕ
+  pub back : ℕ → ℕ
+  pub renumbering : IsRenumbering (edge_count g) (dart_after g r) (edge_count g * length nodes) (all_glued links.links (united (edge_count g) (stepped nodes family))) live into back
+  pub live_is : (x : ℕ) → live x ≡ (is_dart nodes (part_of (edge_count g) x) (local_of (edge_count g) x) && is_real (node_item nodes (part_of (edge_count g) x) (local_of (edge_count g) x / 2)).what)
+  pub item_in : (y : ℕ) → y < 2 * edge_count g → local_of (edge_count g) (into y) / 2 < length (node_at nodes (part_of (edge_count g) (into y))).items
+  pub stands : (y : ℕ) → y < 2 * edge_count g → (node_item nodes (part_of (edge_count g) (into y)) (local_of (edge_count g) (into y) / 2)).what ≡ Real (y / 2)
+  pub place : (y : ℕ) → y < 2 * edge_count g → place_in g nodes (into y) ≡ tail g y
+  pub link_used : (x : ℕ) → x < 2 * (edge_count g * length nodes) → (j : ℕ) → local_of (edge_count g) x / 2 < length (node_at nodes (part_of (edge_count g) x)).items → (node_item nodes (part_of (edge_count g) x) (local_of (edge_count g) x / 2)).what ≡ Link j → is_used links.links x ≡ true
+
 -- of the two ends of an edge, those that are not a third end are one
 other-one : (g : Multigraph) (e u w t : ℕ) → is_end g u e ≡ true → is_end g w e ≡ true → is_end g t e ≡ true → (w ≡ u → ⊥) → (t ≡ u → ⊥) → w ≡ t
 other-one g e u w t iu iw it nw nt = pick (is_end-cases g u e iu) (is_end-cases g w e iw) (is_end-cases g t e it)
@@ -469,6 +487,23 @@ module _ (g : Multigraph) (nodes : List Node) (b : IsBlockTree g nodes) (family 
   follows-plane_back p k l = map-plane (skeleton_graph nodes k) (system_at family k) (skeleton-graph g nodes b k l) (systems.systems k l)
       (whole-plane-back g nodes b family systems (stage.1.plane_back (renumber-plane (edge_count g) (dart_after g r) (dart_before g r) (map-permutes g r b.graph system) size final stage.0 stage.1.is_map live into back renumbering
       (plane-map g r b.graph system p))) k l)
+
+  -- that map, and the numbers of its darts in the block, for whoever needs more of it than that it is plane
+  pub carried : IsCarried g nodes b family systems r system
+  carried = record {
+    links = links;
+    before = stage.0;
+    stage = stage.1;
+    live = live;
+    into = into;
+    back = back;
+    renumbering = renumbering;
+    live_is = λ x. refl;
+    item_in = λ y l. subst (λ (k : ℕ). local_of width (into y) / 2 < length (node_at nodes k).items) (sym (into-part y l)) (subst (λ (z : ℕ). z / 2 < length (node_at nodes (home (y / 2)).0).items) (sym (into-local y l)) (item-in y l));
+    stands = into-what;
+    place = into-place;
+    link_used = link-used;
+  }
 
 -- a rotation system that follows a family is plane exactly where each member is
 pub plane-members : PlaneWhereMembersAre

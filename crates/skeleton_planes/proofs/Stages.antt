@@ -55,7 +55,7 @@ module _ (m : ℕ) (next : ℕ → ℕ) (place : ℕ → ℕ) (ends begins : ℕ
   components-apart = false_from_ne_true (same_component m f d e) (λ t. both_ways (connected (part_links part links) (part d) (part e)) apart (parts-joined d e t))
 
   -- the edges of d and e face each other
-  facing : AreFacing m f g place (same_component m f d) d e
+  pub facing : AreFacing m f g place (same_component m f d) d e
   facing = record {
     is_map = s.is_map;
     sides_next = λ x l. class-kept (same_component m f) (component-equivalence m f) d x (f x) (component-next m f x l);
@@ -72,7 +72,7 @@ module _ (m : ℕ) (next : ℕ → ℕ) (place : ℕ → ℕ) (ends begins : ℕ
   }
 
   -- and are joined
-  joined : AreJoined m f g (glued d e f) d e
+  pub joined : AreJoined m f g (glued d e f) d e
   joined = glued-joined m f g place side d e facing
 
   -- darts of one vertex leave one place

@@ -1,4 +1,4 @@
--- What is proved of the skeletons of a block besides, as statements: they are graphs, and their edges stand for paths.
+-- What is proved also of the skeletons of a block, as statements: they are graphs, and their edges represent paths.
 use Rattle.std.specs.Prelude.{◌≡◌, ℕ, ◌<◌, true, List, length}
 use Rattle.permutations.specs.Members.{is_member}
 use Rattle.multigraph.specs.Graph.{Multigraph, IsGraph}
@@ -11,7 +11,7 @@ use Rattle.skeletons.specs.Families.{skeleton_graph}
 abbrev pub SkeletonIsGraph : Type 0
 SkeletonIsGraph = (g : Multigraph) (nodes : List Node) → IsBlockTree g nodes → (k : ℕ) → k < length nodes → IsGraph (skeleton_graph nodes k)
 
--- a path through the group of item i of node k, from the one end of the item to the other, that meets no other vertex of the
+-- a path through the group of item i of node k, from the one end of the item to the other, that reaches no other vertex of the
 -- node
 pub record PathThrough (g : Multigraph) (nodes : List Node) (k i : ℕ) : Type 0 where
   pub along : List ℕ

@@ -20,13 +20,12 @@ use Rattle.pair_split.specs.declared.components.What.TheVariants.{Real, Link}
 use Rattle.pair_split.proofs.Groups.{group-some, group-once, group-common, Touched, end-touched, in_group-link}
 use Rattle.pair_split.proofs.LargeSides.{vertex-item}
 use Rattle.pair_split.proofs.NodeParts.{node-pieces, node-piece}
+pub use Rattle.skeletons.specs.Items.{nth_item}
 use Rattle.skeletons.specs.Items.{ends_item, item_key, keys_at, has_vertex}
 
+-- an item without meaning, for places past the end
 abbrev pub no_item : Item
 no_item = record { key = 0; a = 0; b = 0; what = Real 0 }
-
-abbrev pub nth_item : List Item → ℕ → Item
-nth_item items i = slice_index_or items i no_item
 
 -- the first key is that of an item that passes, where all that pass have this key
 pub first_key-is : (passes : What → Bool) (items : List Item) (key : ℕ) → ((i : ℕ) → i < length items → passes (nth_item items i).what ≡ true → (nth_item items i).key ≡ key)

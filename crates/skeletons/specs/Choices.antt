@@ -13,7 +13,7 @@ choice_of_kind R keys = keys
 choice_of_kind S keys = []
 choice_of_kind B keys = []
 
--- the choice of node k: the keys of its items round its least vertex, from the least on
+-- the choice of node k: the keys of its items around its least vertex, from the least on
 abbrev pub choice : List Node → List (List ℕ) → ℕ → List ℕ
 choice nodes r k = choice_of_kind (node_at nodes k).kind (keys_round nodes r k (least_vertex nodes k))
 

@@ -33,21 +33,21 @@ pub record AreSkeletonSystems (nodes : List Node) (family : List (List (List ℕ
 abbrev pub keys_of : List Node → ℕ → List ℕ → List ℕ
 keys_of nodes k items = map (λ i. (node_item nodes k i).key) items
 
--- the keys of the items round vertex v of node k, as the family has them
+-- the keys of the items around vertex v of node k, as the family has them
 abbrev pub keys_in : List Node → List (List (List ℕ)) → ℕ → ℕ → List ℕ
 keys_in nodes family k v = keys_of nodes k (order_at (system_at family k) (place_of (node_at nodes k).vertices v))
 
--- a cyclic order in runs, the groups of which stand in the cyclic order of these keys
+-- a cyclic order in runs, the groups of which are in the cyclic order of these keys
 pub record StandInOrder (key : ℕ → ℕ) (l keys : List ℕ) : Type 0 where
   pub groups : List (ℕ × List ℕ)
   pub runs : InRuns key l groups
   pub order : IsTurn (group_keys groups) keys
 
--- r follows the family: at each vertex of each node the groups stand in runs, in the family's order
+-- r follows the family: at each vertex of each node the groups are in runs, in the family's order
 abbrev pub FollowsFamily : List Node → List (List (List ℕ)) → List (List ℕ) → Type 0
 FollowsFamily nodes family r = (k v : ℕ) → has_vertex nodes k v ≡ true → StandInOrder (group nodes k) (order_at r v) (keys_in nodes family k v)
 
--- the keys are those round the least vertex of node k in some plane rotation system of its skeleton
+-- the keys are those around the least vertex of node k in some plane rotation system of its skeleton
 pub record IsPlaneChoice (nodes : List Node) (k : ℕ) (keys : List ℕ) : Type 0 where
   pub system : List (List ℕ)
   pub plane : IsPlaneSystem (skeleton_graph nodes k) system

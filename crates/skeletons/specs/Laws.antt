@@ -16,16 +16,16 @@ use Rattle.skeletons.specs.Moves.{IsNodeOfKind, FlipLeads, PermuteLeads, Move, m
 use Rattle.skeletons.specs.Lists.{IsFullList, IsKept, IsKeptList, IsReached, IsReachedList, list_count}
 use Rattle.skeletons.specs.Families.{skeleton_graph, system_at, AreSkeletonSystems, FollowsFamily, IsPossible}
 
--- the keys met on the way round a list in runs are the keys of the runs, from the least on
+-- the keys reached on the way around a list in runs are the keys of the runs, from the least on
 abbrev pub KeysMetAreOfRuns : Type 0
 KeysMetAreOfRuns = (key : ℕ → ℕ) (l : List ℕ) (gs : List (ℕ × List ℕ)) → InRuns key l gs → keys_met key l ≡ from_least (group_keys gs)
 
--- round a vertex of a node they are the keys of the items there
+-- around a vertex of a node they are the keys of the items there
 abbrev pub KeysRoundAreOfItems : Type 0
 KeysRoundAreOfItems = (g : Multigraph) (nodes : List Node) (r : List (List ℕ)) → IsBlockTree g nodes → IsRotationSystem g r → IsContiguous nodes r → (k v : ℕ) → has_vertex nodes k v ≡ true
     → IsPermutation (keys_at nodes k v) (keys_round nodes r k v)
 
--- in every plane rotation system of a block the groups stand in runs, at each vertex of each node
+-- in every plane rotation system of a block the groups are in runs, at each vertex of each node
 abbrev pub PlaneIsContiguous : Type 0
 PlaneIsContiguous = (g : Multigraph) (nodes : List Node) (r : List (List ℕ)) → IsBlockTree g nodes → IsPlaneSystem g r → IsContiguous nodes r
 
@@ -65,7 +65,7 @@ abbrev pub PlanarWhereSkeletonsAre : Type 0
 PlanarWhereSkeletonsAre = (g : Multigraph) (nodes : List Node) → IsBlockTree g nodes
     → (((r : List (List ℕ)) × IsPlaneSystem g r) ↔ ((k : ℕ) → IsNodeOfKind nodes k R → (s : List (List ℕ)) × IsPlaneSystem (skeleton_graph nodes k) s))
 
--- the choices tell a plane rotation system
+-- the choices determine a plane rotation system
 abbrev pub ChoicesTell : Type 0
 ChoicesTell = (g : Multigraph) (nodes : List Node) (r q : List (List ℕ)) → IsBlockTree g nodes → IsPlaneSystem g r → IsPlaneSystem g q
     → ((k : ℕ) → k < length nodes → choice nodes r k ≡ choice nodes q k) → r ≡ q
@@ -102,7 +102,7 @@ abbrev pub MoveKeepsOthers : Type 0
 MoveKeepsOthers = (g : Multigraph) (nodes : List Node) (move : Move) (r q : List (List ℕ)) → IsBlockTree g nodes → IsRotationSystem g r → IsContiguous nodes r → MoveLeads g nodes move r q
     → (j : ℕ) → j < length nodes → (j ≡ moved_node move → ⊥) → choice nodes q j ≡ choice nodes r j
 
--- a flip turns the choice of its node round
+-- a flip reverses the choice of its node
 abbrev pub FlipTurnsChoice : Type 0
 FlipTurnsChoice = (g : Multigraph) (nodes : List Node) (k : ℕ) (r q : List (List ℕ)) → IsBlockTree g nodes → IsRotationSystem g r → IsContiguous nodes r → IsNodeOfKind nodes k R → FlipLeads g nodes k r q
     → choice nodes q k ≡ from_least (reverse (choice nodes r k))
@@ -112,7 +112,7 @@ abbrev pub PermuteSetsChoice : Type 0
 PermuteSetsChoice = (g : Multigraph) (nodes : List Node) (k : ℕ) (keys : List ℕ) (r q : List (List ℕ)) → IsBlockTree g nodes → IsRotationSystem g r → IsContiguous nodes r → IsNodeOfKind nodes k P → PermuteLeads g nodes k keys r q
     → choice nodes q k ≡ from_least keys
 
--- the mirror image turns every choice round
+-- the mirror image reverses every choice
 abbrev pub MirrorTurnsChoices : Type 0
 MirrorTurnsChoices = (g : Multigraph) (nodes : List Node) (r : List (List ℕ)) → IsBlockTree g nodes → IsRotationSystem g r → IsContiguous nodes r → (k : ℕ) → k < length nodes
     → choice nodes (mirror_image r) k ≡ from_least (reverse (choice nodes r k))

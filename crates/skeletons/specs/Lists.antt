@@ -52,7 +52,7 @@ cyclic_orders zero = 1
 cyclic_orders (suc zero) = 1
 cyclic_orders (suc (suc n)) = (n + 1) * cyclic_orders (suc n)
 
--- how many choices a node of this kind with so many items has in a planar block
+-- how many choices a node of this kind with this many items has in a planar block
 abbrev pub choice_count : Kind → ℕ → ℕ
 choice_count P n = cyclic_orders n
 choice_count R n = 2

@@ -34,7 +34,7 @@ pub record FlipLeads (g : Multigraph) (nodes : List Node) (k : ℕ) (r q : List 
   pub turned : (v : ℕ) → has_vertex nodes k v ≡ true → AreReversed (group nodes k) (order_at r v) (order_at q v)
   pub stays : OthersStay nodes k r q
 
--- a permute of node k to these keys leads from r to q: at the lesser pole the groups stand in the cyclic order of the keys, at
+-- a permute of node k to these keys leads from r to q: at the lesser pole the groups are in the cyclic order of the keys, at
 -- the other in the reverse
 pub record PermuteLeads (g : Multigraph) (nodes : List Node) (k : ℕ) (keys : List ℕ) (r q : List (List ℕ)) : Type 0 where
   pub system : IsRotationSystem g q
@@ -62,7 +62,7 @@ abbrev pub MoveLeads : Multigraph → List Node → Move → List (List ℕ) →
 MoveLeads g nodes (flip k) r q = IsNodeOfKind nodes k R × FlipLeads g nodes k r q
 MoveLeads g nodes (permute k keys) r q = IsNodeOfKind nodes k P × PermuteLeads g nodes k keys r q
 
--- the moves, one after the other, lead from r to q, and each rotation system on the way behind r meets the condition
+-- the moves, one after the other, lead from r to q, and each rotation system on the way after r satisfies the condition
 abbrev pub Lead : Multigraph → List Node → (List (List ℕ) → Type 0) → List Move → List (List ℕ) → List (List ℕ) → Type 0
 Lead g nodes Through [] r q = r ≡ q
 Lead g nodes Through (move ∷ moves) r q = (s : List (List ℕ)) × MoveLeads g nodes move r s × Through s × Lead g nodes Through moves s q

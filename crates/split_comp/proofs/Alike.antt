@@ -2,30 +2,30 @@
 use Rattle.std.proofs.Common.{◌≡◌, ℕ, zero, suc, ◌++◌, ◌∷◌, [], ◌<◌, ◌≤◌, ◌⊎◌, inl, inr, ◌||◌, ◌==◌, if◌then◌else◌, List, length, take, refl, sym, ap₂, ◌∙◌, subst, arith}
 use Rattle.std.proofs.Math.Seq.{take-suc}
 use Rattle.pair_split.specs.Family.{Entry, has_end}
-use Rattle.split_comp.specs.declared.items.Item.{Item}
-use Rattle.split_comp.specs.declared.items.Triple.{Triple}
+use Rattle.split_comp.specs.declared.items.StackEntry.{StackEntry}
+use Rattle.split_comp.specs.declared.items.StackCut.{StackCut}
 use Rattle.split_comp.specs.declared.items.Dart.{Dart}
 use Rattle.split_comp.specs.Stack.{no_item, item, entry, family, owner, IsSorted}
 use Rattle.split_comp.specs.Cuts.{cut, IsLeastUp, IsAcross, IsBefore, IsStart, IsFirstBelow, IsChain, AreSound, AreComplete}
 use Rattle.split_comp.specs.Frames.{AreAhead}
 
 -- the same entries but for their names
-pub record IsAlike (one other : List Item) : Type 0 where
+pub record IsAlike (one other : List StackEntry) : Type 0 where
   pub size : length one ≡ length other
   pub up : (i : ℕ) → (item one i).up ≡ (item other i).up
   pub low : (i : ℕ) → (item one i).low ≡ (item other i).low
   pub tree : (i : ℕ) → (item one i).tree ≡ (item other i).tree
   pub start : (i : ℕ) → (item one i).start ≡ (item other i).start
 
-pub alike-sym : (one other : List Item) → IsAlike one other → IsAlike other one
+pub alike-sym : (one other : List StackEntry) → IsAlike one other → IsAlike other one
 alike-sym one other a = record { size = sym a.size; up = λ i. sym (a.up i); low = λ i. sym (a.low i); tree = λ i. sym (a.tree i); start = λ i. sym (a.start i) }
 
 -- alike up to n, and no longer
-pub alike-take : (one other : List Item) (n : ℕ) → n ≤ length one → n ≤ length other → ((i : ℕ) → i < n → item one i ≡ item other i) → take n one ≡ take n other
+pub alike-take : (one other : List StackEntry) (n : ℕ) → n ≤ length one → n ≤ length other → ((i : ℕ) → i < n → item one i ≡ item other i) → take n one ≡ take n other
 alike-take one other zero a b h = refl
-alike-take one other (suc n) a b h = take-suc one n no_item (omega (arith, a)) ∙ (ap₂ (λ (l : List Item) (y : Item). l ++ y ∷ []) (alike-take one other n (omega (arith, a)) (omega (arith, b)) (λ i l. h i (omega (arith, l)))) (h n (omega arith)) ∙ sym (take-suc other n no_item (omega (arith, b))))
+alike-take one other (suc n) a b h = take-suc one n no_item (omega (arith, a)) ∙ (ap₂ (λ (l : List StackEntry) (y : StackEntry). l ++ y ∷ []) (alike-take one other n (omega (arith, a)) (omega (arith, b)) (λ i l. h i (omega (arith, l)))) (h n (omega arith)) ∙ sym (take-suc other n no_item (omega (arith, b))))
 
-module _ (one other : List Item) (a : IsAlike one other) where
+module _ (one other : List StackEntry) (a : IsAlike one other) where
   owner-same : (i : ℕ) → owner (item one i) ≡ owner (item other i)
   owner-same i = λ t. (if a.tree i t then a.up i t else a.low i t)
 
@@ -65,10 +65,10 @@ module _ (one other : List Item) (a : IsAlike one other) where
   pub alike-below : (s b : ℕ) → IsFirstBelow one s b → IsFirstBelow other s b
   alike-below s b f = record { place = f.place; tree_at = record { within = omega (arith, a.size, f.tree_at.within); tree = sym (a.tree f.place) ∙ f.tree_at.tree; low = sym (a.low f.place) ∙ f.tree_at.low }; starts = sym (a.start f.place) ∙ f.starts }
 
-  pub alike-chain : (cuts : List Triple) → IsChain one cuts → IsChain other cuts
+  pub alike-chain : (cuts : List StackCut) → IsChain one cuts → IsChain other cuts
   alike-chain cuts c = record { starts_rise = c.starts_rise; ups_rise = c.ups_rise; lows_fall = c.lows_fall; met = λ k l. let m = c.met k l in (m.0, m.1, m.2, omega (arith, a.size, m.3), sym (a.up m.0) ∙ m.4) }
 
-pub alike-sound : (one other : List Item) → IsAlike one other → (s x : ℕ) (cuts : List Triple) → AreSound s x one cuts → AreSound s x other cuts
+pub alike-sound : (one other : List StackEntry) → IsAlike one other → (s x : ℕ) (cuts : List StackCut) → AreSound s x one cuts → AreSound s x other cuts
 alike-sound one other a s x cuts h = record {
   each = λ k l. let c = h.each k l in record {
     from = c.from;
@@ -83,7 +83,7 @@ alike-sound one other a s x cuts h = record {
   chain = alike-chain one other a cuts h.chain;
 }
 
-pub alike-complete : (one other : List Item) → IsAlike one other → (s x : ℕ) (cuts : List Triple) → AreComplete s x one cuts → AreComplete s x other cuts
+pub alike-complete : (one other : List StackEntry) → IsAlike one other → (s x : ℕ) (cuts : List StackCut) → AreComplete s x one cuts → AreComplete s x other cuts
 alike-complete one other a s x cuts h = λ t u b w f l. let d = alike-sym one other a in h t u b (record {
   from = w.from;
   starts = alike-start other one d b t w.starts;

@@ -1,8 +1,27 @@
 -- What the pass does between two darts leaves it where it stands.
-use Rattle.std.proofs.Common.{ℕ, inl, inr, Bool, true, false, List, length, slice_index, ap, ◌∙◌}
+use Rattle.std.proofs.Common.{ℕ, inl, inr, Bool, true, false, List, length, take, Option, None, Some, slice_index, ◌≡◌, ◌+◌, ◌-◌, ◌≤◌, ap, ◌∙◌, arith}
 use Rattle.std.proofs.lemmas.Bool.{cases_Bool, cases_lt}
 use Rattle.multigraph.specs.Graph.{Multigraph}
-use Rattle.split_comp.specs.Pass.{PassState, IsAsFar, IsCome, IsJoined, IsDartNoted, IsFrondAdded, IsTreeAdded, pushed, new_frond, new_tree}
+use Rattle.std.proofs.lemmas.List.{length-take-le}
+use Rattle.split_comp.specs.declared.items.StackCut.{StackCut}
+use Rattle.split_comp.specs.Pass.{PassState, IsAsFar, IsCome, IsJoined, IsDartNoted, IsFrondAdded, IsTreeAdded, IsApart, pushed, new_frond, new_tree}
+
+-- joining leaves the cuts
+pub joined-cuts : (g : Multigraph) (vertex : List ℕ) (old new : PassState) (joined : Bool) → IsJoined g vertex old new joined → new.cuts ≡ old.cuts
+joined-cuts g vertex old new true j = ap (λ (s : PassState). s.cuts) j.1.2 ∙ ap (λ (s : PassState). s.cuts) j.1.1.now
+joined-cuts g vertex old new false j = ap (λ (s : PassState). s.cuts) j.0
+
+-- so does a tree edge that is pushed, and a frond that stays apart
+pub tree-cuts : (g : Multigraph) (vertex : List ℕ) (name v low start : ℕ) (old new : PassState) → IsTreeAdded g vertex name v low start old new → new.cuts ≡ old.cuts
+tree-cuts g vertex name v low start old new a = joined-cuts g vertex (pushed old (new_tree name v low start)) new a.joined a.join
+
+pub apart-cuts : (frond : Option ℕ) (up low start : ℕ) (old new : PassState) → IsApart frond up low start old new → new.cuts ≡ old.cuts
+apart-cuts None up low start old new e = ap (λ (s : PassState). s.cuts) e
+apart-cuts (Some name) up low start old new e = ap (λ (s : PassState). s.cuts) e
+
+-- one cut is removed at most
+pub one-cut : (cuts dropped new : List StackCut) → dropped ≡ take (length cuts - 1) cuts → new ≡ dropped → length cuts ≤ length new + 1
+one-cut cuts dropped new d e = omega (arith, ap length d, ap length e, length-take-le (length cuts - 1) cuts (omega arith))
 
 -- what has come back stays there
 pub come-through : (v : ℕ) (a b c : PassState) → IsCome v a b → IsAsFar b c → IsCome v a c

@@ -1,5 +1,5 @@
 -- The state at the start: all edges are in the rest.
-use Rattle.std.proofs.Common.{◌≡◌, ◌≢◌, ℕ, zero, suc, ◌+◌, ◌<◌, ◌≤◌, inl, inr, true, List, [], ◌∷◌, ◌++◌, length, map, replicate, slice_index, refl, sym, ap, ◌∙◌, subst, arith, Contains}
+use Rattle.std.proofs.Common.{◌≡◌, ◌≢◌, ℕ, zero, suc, ◌+◌, ◌<◌, ◌≤◌, inl, inr, true, List, [], ◌∷◌, ◌++◌, length, map, slice_index, refl, sym, ap, ◌∙◌, subst, arith, Contains}
 use Rattle.std.proofs.lemmas.Bool.{cases_Bool, cases_lt, both_ways, lt-ltb}
 use Rattle.std.proofs.lemmas.List.{length-replicate, get_or-replicate, get_or_past, length-append, map-append}
 use Rattle.std.proofs.lemmas.List.Elements.{Contains-append_cases, Contains-append_left, Contains-append_right}
@@ -167,6 +167,10 @@ module _ (g : Multigraph) (t : NumberedTree) (numbered : IsNumbered g t) (palm :
     root-more : at_place began.gone 0 < degree 0
     root-more = omega (arith, none 0, palm.root_dart)
 
+    -- how many edges the rest has
+    rest-all : length rest ≡ edge_count g
+    rest-all = rest-size (edge_count g) (omega arith)
+
     began-pass : IsPass g t began
     began-pass = record {
       palm = palm;
@@ -236,14 +240,14 @@ module _ (g : Multigraph) (t : NumberedTree) (numbered : IsNumbered g t) (palm :
     pub begin-pass : IsPass g t s
     begin-pass = subst (IsPass g t) (sym now) began-pass
 
-    -- one turn for each edge and one for each vertex is enough
-    pub begin-turns : HasTurns g t s (g.vertex_count + edge_count g)
-    begin-turns = subst (λ (z : PassState). HasTurns g t z (g.vertex_count + edge_count g)) (sym now) (record {
+    -- one turn for each edge and one for each vertex but the root are left
+    pub begin-turns : (k : ℕ) → k + 1 ≡ g.vertex_count + edge_count g → HasTurns g t s k
+    begin-turns k all = subst (λ (z : PassState). HasTurns g t z k) (sym now) (record {
       depth = λ x. depth-of parent (suc x) x;
       top = depth-top n m parent degree dart palm;
       deeper = depth-deeper n m parent degree dart palm;
       rest = rest;
       is_family = fam;
       left = left (at_place began.gone) none;
-      enough = omega (arith, rest-size (edge_count g) (omega arith));
+      exact = omega (arith, all, rest-all, depth-top n m parent degree dart palm);
     })

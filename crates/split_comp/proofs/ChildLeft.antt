@@ -1,9 +1,9 @@
 -- The dart to a child is finished, for the values that the code has.
-use Rattle.std.proofs.Common.{◌≡◌, ℕ, ◌+◌, ◌-◌, ◌*◌, ◌<◌, ◌≤◌, inl, inr, true, false, length, take, sym, ap, ◌∙◌, subst, arith}
+use Rattle.std.proofs.Common.{◌≡◌, ℕ, ◌+◌, ◌-◌, ◌*◌, ◌<◌, ◌≤◌, inl, inr, true, length, take, sym, ap, ◌∙◌, subst, arith, None}
 use Rattle.std.proofs.lemmas.Bool.{cases_lt}
 use Rattle.std.proofs.lemmas.List.{length-take-le}
 use Rattle.multigraph.specs.Graph.{Multigraph}
-use Rattle.split_comp.specs.declared.items.Item.{Item}
+use Rattle.split_comp.specs.declared.items.StackEntry.{StackEntry}
 use Rattle.split_comp.specs.declared.items.Dart.{Dart}
 use Rattle.split_comp.specs.Cuts.{cut}
 use Rattle.split_comp.specs.Noting.{IsNoted}
@@ -41,10 +41,10 @@ module _ (g : Multigraph) (t : NumberedTree) (numbered : IsNumbered g t) (s : Pa
     reaches : reach ≡ (tree_dart g t.palm t.vertex s.at b.raised.place).reach
     reaches = to ∙ ap (λ (x : Dart). x.reach) (sym dart-is)
 
-    pub whole-can : CanSplitOff g t.vertex (goes false reach v) start reach v dropped
-    whole-can = subst (λ (y : ℕ × ℕ × ℕ × PassState). CanSplitOff g t.vertex (λ (x : Item). true) y.0 y.1 y.2 y.3) (λ i. (sym from i, sym reaches i, sym here i, sym d i)) (child-can g t numbered s.done s b r.no_triangle last-cut class-two whole.two)
+    pub whole-can : CanSplitOff g t.vertex (goes None) start reach v dropped
+    whole-can = subst (λ (y : ℕ × ℕ × ℕ × PassState). CanSplitOff g t.vertex (λ (x : StackEntry). true) y.0 y.1 y.2 y.3) (λ i. (sym from i, sym reaches i, sym here i, sym d i)) (child-can g t numbered s.done s b r.no_triangle last-cut class-two whole.two)
 
-    module _ (mid : PassState) (e : IsSplitOff g t.vertex (goes false reach v) start reach v dropped mid) where
+    module _ (mid : PassState) (e : IsSplitOff g t.vertex (goes None) start reach v dropped mid) where
       pub whole-up : reach < length mid.first
       whole-up = omega (arith, ap (λ (z : PassState). length z.first) e.now, ap (λ (z : PassState). length z.first) d, b.raised.first.places, whole-can.up_in, numbered.vertices.places)
 
@@ -69,9 +69,9 @@ module _ (g : Multigraph) (t : NumberedTree) (numbered : IsNumbered g t) (s : Pa
         base-in,
       )
 
-    module _ (mid : PassState) (e : IsSplitOff g t.vertex (goes false reach v) start reach v dropped mid) (name : ℕ) (named : name ≡ next_name g dropped) where
+    module _ (mid : PassState) (e : IsSplitOff g t.vertex (goes None) start reach v dropped mid) (name : ℕ) (named : name ≡ next_name g dropped) where
       split_off : IsSplitOff g t.vertex (λ x. true) (at_place s.start s.done) (tree_dart g t.palm t.vertex s.at b.raised.place).reach s.at (cuts_dropped s (at_place s.base s.done)) mid
-      split_off = subst (λ (y : ℕ × ℕ × ℕ × PassState). IsSplitOff g t.vertex (λ (x : Item). true) y.0 y.1 y.2 y.3 mid) (λ i. (from i, reaches i, here i, d i)) e
+      split_off = subst (λ (y : ℕ × ℕ × ℕ × PassState). IsSplitOff g t.vertex (λ (x : StackEntry). true) y.0 y.1 y.2 y.3 mid) (λ i. (from i, reaches i, here i, d i)) e
 
       at-mid : v ≡ mid.at
       at-mid = here ∙ sym (ap (λ (z : PassState). z.at) split_off.now)

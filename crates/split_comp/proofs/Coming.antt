@@ -6,7 +6,7 @@ use Rattle.multigraph.specs.Graph.{Multigraph, edge_count}
 use Rattle.pair_split.specs.Family.{Entry, IsFamily, IsSeparation, IsPrime}
 use Rattle.pair_split.proofs.SameEntries.{IsWithin}
 use Rattle.pair_split.proofs.Sides.{separation-other}
-use Rattle.split_comp.specs.declared.items.Item.{Item}
+use Rattle.split_comp.specs.declared.items.StackEntry.{StackEntry}
 use Rattle.split_comp.specs.declared.items.Dart.{Dart}
 use Rattle.split_comp.specs.Stack.{item, entry, family, owner, IsStack, IsSorted, IsTopped, AreFirst}
 use Rattle.split_comp.specs.Palm.{tree_dart, tree_degree, tree_parent, dart_entry, IsFrondTo}
@@ -54,7 +54,7 @@ module _ (g : Multigraph) (t : NumberedTree) (numbered : IsNumbered g t) (s : Pa
   abbrev mid : PassState
   mid = gone_back (gone_along s v) v s.at
 
-  abbrev x : Item
+  abbrev x : StackEntry
   x = new_tree d.edge v s.at (at_place s.start s.at)
 
   -- the state afterwards
@@ -158,13 +158,13 @@ module _ (g : Multigraph) (t : NumberedTree) (numbered : IsNumbered g t) (s : Pa
     frames = record {
       within = λ y n q. omega (arith, size, p.frames.within y n (down y q));
       from = λ y i n q a l. elim (cases i l) [
-        | inl j ↦ subst (λ (z : Item). (y ≤ z.low) × (z.low < last y)) (sym (front i j)) (p.frames.from y i n (down y q) a j)
-        | inr j ↦ subst (λ (z : Item). (y ≤ z.low) × (z.low < last y)) (sym (top i j)) (down y q)
+        | inl j ↦ subst (λ (z : StackEntry). (y ≤ z.low) × (z.low < last y)) (sym (front i j)) (p.frames.from y i n (down y q) a j)
+        | inr j ↦ subst (λ (z : StackEntry). (y ≤ z.low) × (z.low < last y)) (sym (top i j)) (down y q)
       ];
-      before = λ y i n q a. subst (λ (z : Item). (z.low < y) ⊎ (last y ≤ z.low)) (sym (front i (omega (arith, a, p.frames.within y n (down y q))))) (p.frames.before y i n (down y q) a);
+      before = λ y i n q a. subst (λ (z : StackEntry). (z.low < y) ⊎ (last y ≤ z.low)) (sym (front i (omega (arith, a, p.frames.within y n (down y q))))) (p.frames.before y i n (down y q) a);
       tree_up = λ y i n q a l f. elim (cases i l) [
-        | inl j ↦ omega (arith, ap (λ (z : Item). z.up) (front i j), p.frames.tree_up y i n (down y q) a j (ap (λ (z : Item). z.tree) (sym (front i j)) ∙ f))
-        | inr j ↦ omega (arith, ap (λ (z : Item). z.up) (top i j), q.0)
+        | inl j ↦ omega (arith, ap (λ (z : StackEntry). z.up) (front i j), p.frames.tree_up y i n (down y q) a j (ap (λ (z : StackEntry). z.tree) (sym (front i j)) ∙ f))
+        | inr j ↦ omega (arith, ap (λ (z : StackEntry). z.up) (top i j), q.0)
       ];
     }
 
@@ -172,15 +172,15 @@ module _ (g : Multigraph) (t : NumberedTree) (numbered : IsNumbered g t) (s : Pa
     reached = record {
       gone_to = λ y i n q a l u. elim (cases i l) [
         | inl j ↦
-            let e = ap (λ (z : Item). z.up) (front i j) in
+            let e = ap (λ (z : StackEntry). z.up) (front i j) in
             let r = p.reached.gone_to y i n (down y q) a j (omega (arith, e, u)) in
             record { from = r.from; place = r.place; above = r.above; below = r.below; within = omega (arith, r.within, rises r.from); frond = r.frond; far = r.far ∙ sym e }
-        | inr j ↦ absurd (omega (arith, ap (λ (z : Item). z.up) (top i j), q.0, u))
+        | inr j ↦ absurd (omega (arith, ap (λ (z : StackEntry). z.up) (top i j), q.0, u))
       ];
       met = λ y z n q u r. elim (cases_lt r.place (at_place s.gone r.from)) [
         | inl j ↦
             let i = p.reached.met y z n (down y q) u (record { from = r.from; place = r.place; above = r.above; below = r.below; within = j; frond = r.frond; far = r.far }) in
-            (i.0, i.1, omega (arith, size, i.2), ap (λ (o : Item). o.up) (front i.0 i.2) ∙ i.3)
+            (i.0, i.1, omega (arith, size, i.2), ap (λ (o : StackEntry). o.up) (front i.0 i.2) ∙ i.3)
         | inr j ↦
             let e : r.from ≡ v = elim (cases_eq r.from v) [ inl e ↦ e | inr e ↦ absurd (omega (arith, j, r.within, one.1 r.from e)) ] in
             let m : r.place ≡ k = omega (arith, j, r.within, ap (at_place s.gone) e, ap (at_place now.gone) e, one.0) in
@@ -248,20 +248,20 @@ module _ (g : Multigraph) (t : NumberedTree) (numbered : IsNumbered g t) (s : Pa
       atop = record {
         stands = stands;
         size = size;
-        tree = ap (λ (z : Item). z.tree) h-top;
-        up = ap (λ (z : Item). z.up) h-top;
-        start = ap (λ (z : Item). z.start) h-top;
+        tree = ap (λ (z : StackEntry). z.tree) h-top;
+        up = ap (λ (z : StackEntry). z.up) h-top;
+        start = ap (λ (z : StackEntry). z.start) h-top;
         sorted = sorted;
         topped = topped;
         behind = λ i l f.
             let j : i < length s.items = omega (arith, l, some) in
-            let e = ap (λ (z : Item). z.low) (front i j) in
+            let e = ap (λ (z : StackEntry). z.low) (front i j) in
             elim (p.frames.before s.at i not-top (omega arith, p.palm.above s.at) l) as (λ z. (item now.items (length s.items)).low < (item now.items i).low) [
-              | inl a ↦ absurd (omega (arith, a, p.walk.current, p.stands.laid.finished i j (ap (λ (z : Item). z.tree) (sym (front i j)) ∙ f)))
-              | inr a ↦ omega (arith, a, e, ap (λ (z : Item). z.low) h-top, p.palm.above s.at)
+              | inl a ↦ absurd (omega (arith, a, p.walk.current, p.stands.laid.finished i j (ap (λ (z : StackEntry). z.tree) (sym (front i j)) ∙ f)))
+              | inr a ↦ omega (arith, a, e, ap (λ (z : StackEntry). z.low) h-top, p.palm.above s.at)
             ];
       };
-      fronds = λ i f l par. frond-below last s.at v (length s.items) now.items taken.0 stands size (ap (λ (z : Item). z.tree) h-top) (ap (λ (z : Item). z.up) h-top) sorted (omega (arith, f, as-many)) i l par;
+      fronds = λ i f l par. frond-below last s.at v (length s.items) now.items taken.0 stands size (ap (λ (z : StackEntry). z.tree) h-top) (ap (λ (z : StackEntry). z.up) h-top) sorted (omega (arith, f, as-many)) i l par;
       frames = frames;
       child_start = child-start;
       place = k;
@@ -270,31 +270,31 @@ module _ (g : Multigraph) (t : NumberedTree) (numbered : IsNumbered g t) (s : Pa
       last_tree = way.1;
       last_far = way.2;
       child_within = λ i a l. elim (cases i l) [
-        | inl j ↦ subst (λ (z : Item). (s.at ≤ z.low) × (z.low < last s.at)) (sym (front i j)) (p.frames.from s.at i not-top (omega arith, p.palm.above s.at) a j)
-        | inr j ↦ subst (λ (z : Item). (s.at ≤ z.low) × (z.low < last s.at)) (sym (top i j)) (omega arith, p.palm.above s.at)
+        | inl j ↦ subst (λ (z : StackEntry). (s.at ≤ z.low) × (z.low < last s.at)) (sym (front i j)) (p.frames.from s.at i not-top (omega arith, p.palm.above s.at) a j)
+        | inr j ↦ subst (λ (z : StackEntry). (s.at ≤ z.low) × (z.low < last s.at)) (sym (top i j)) (omega arith, p.palm.above s.at)
       ];
       child_to = λ i a l u. elim (cases i l) [
         | inl j ↦
-            let e = ap (λ (z : Item). z.up) (front i j) in
+            let e = ap (λ (z : StackEntry). z.up) (front i j) in
             subst (λ (y : ℕ). IsFrondTo degree dart last s.at y) (sym e) (gone-below (item s.items i).up (p.reached.gone_to s.at i not-top (omega arith, p.palm.above s.at) a j (omega (arith, e, u, less.0))))
-        | inr j ↦ absurd (omega (arith, ap (λ (z : Item). z.up) (top i j), u))
+        | inr j ↦ absurd (omega (arith, ap (λ (z : StackEntry). z.up) (top i j), u))
       ];
       child_met = λ y f u.
           let i = p.reached.met s.at y not-top (omega arith, p.palm.above s.at) (omega (arith, u, less.0)) (below-gone y f) in
-          (i.0, i.1, omega (arith, size, i.2), ap (λ (o : Item). o.up) (front i.0 i.2) ∙ i.3);
+          (i.0, i.1, omega (arith, size, i.2), ap (λ (o : StackEntry). o.up) (front i.0 i.2) ∙ i.3);
       reached = reached;
       first = firsts;
       ahead = ahead;
       ahead_last = λ r l o.
           let i = p.ahead.reach_ahead v r k inner v-path l (owner-front r l o) (omega arith) way.0 in
-          (i.0, omega (arith, ap (λ (z : Item). z.start) (front r l), i.1), i.2, omega (arith, ap (λ (z : Item). z.up) (front i.0 (omega (arith, i.2, l))), i.3));
-      frond_last = λ r f l o n. subst (λ (y : ℕ). (y < d.reach) ⊎ ((y ≡ d.reach) × (1 ≤ d.class))) (ap (λ (z : Item). z.up) (sym (front r l)))
-          (p.ahead.frond_ahead v r k (omega (arith, f, fewer)) inner v-path l (owner-front r l o) (ap (λ (z : Item). z.tree) (sym (front r l)) ∙ n) (omega arith) way.0);
+          (i.0, omega (arith, ap (λ (z : StackEntry). z.start) (front r l), i.1), i.2, omega (arith, ap (λ (z : StackEntry). z.up) (front i.0 (omega (arith, i.2, l))), i.3));
+      frond_last = λ r f l o n. subst (λ (y : ℕ). (y < d.reach) ⊎ ((y ≡ d.reach) × (1 ≤ d.class))) (ap (λ (z : StackEntry). z.up) (sym (front r l)))
+          (p.ahead.frond_ahead v r k (omega (arith, f, fewer)) inner v-path l (owner-front r l o) (ap (λ (z : StackEntry). z.tree) (sym (front r l)) ∙ n) (omega arith) way.0);
       below = below-kept last parent s.at (at_place s.start) (at_place s.base) s.items now.items s.cuts s.cuts p.cuts.below (λ y n q. take-same (at_place s.start y) (p.frames.within y n q)) (λ y n q. refl) p.cuts.below.base_within;
-      sound = subst (λ (y : ℕ). AreSoundAt (at_place s.start s.at) v y now.items (drop (at_place s.base s.at) s.cuts)) (sym (ap (λ (z : Item). z.low) h-top))
-          (return-sound last v s.at (at_place s.start s.at) (length s.items) s.items now.items taken.0 stands is-front size (ap (λ (z : Item). z.tree) h-top) (ap (λ (z : Item). z.up) h-top) (ap (λ (z : Item). z.low) h-top) (ap (λ (z : Item). z.start) h-top) (drop (at_place s.base s.at) s.cuts) (p.cuts.sound not-top));
-      complete = subst (λ (y : ℕ). AreCompleteAt (at_place s.start s.at) v y now.items (drop (at_place s.base s.at) s.cuts)) (sym (ap (λ (z : Item). z.low) h-top))
-          (return-complete last v s.at (at_place s.start s.at) (length s.items) s.items now.items taken.0 stands is-front size (ap (λ (z : Item). z.tree) h-top) (ap (λ (z : Item). z.up) h-top) (ap (λ (z : Item). z.low) h-top) (ap (λ (z : Item). z.start) h-top) topped (drop (at_place s.base s.at) s.cuts) (p.cuts.complete not-top));
+      sound = subst (λ (y : ℕ). AreSoundAt (at_place s.start s.at) v y now.items (drop (at_place s.base s.at) s.cuts)) (sym (ap (λ (z : StackEntry). z.low) h-top))
+          (return-sound last v s.at (at_place s.start s.at) (length s.items) s.items now.items taken.0 stands is-front size (ap (λ (z : StackEntry). z.tree) h-top) (ap (λ (z : StackEntry). z.up) h-top) (ap (λ (z : StackEntry). z.low) h-top) (ap (λ (z : StackEntry). z.start) h-top) (drop (at_place s.base s.at) s.cuts) (p.cuts.sound not-top));
+      complete = subst (λ (y : ℕ). AreCompleteAt (at_place s.start s.at) v y now.items (drop (at_place s.base s.at) s.cuts)) (sym (ap (λ (z : StackEntry). z.low) h-top))
+          (return-complete last v s.at (at_place s.start s.at) (length s.items) s.items now.items taken.0 stands is-front size (ap (λ (z : StackEntry). z.tree) h-top) (ap (λ (z : StackEntry). z.up) h-top) (ap (λ (z : StackEntry). z.low) h-top) (ap (λ (z : StackEntry). z.start) h-top) topped (drop (at_place s.base s.at) s.cuts) (p.cuts.complete not-top));
       cut_lows = λ c l. elim ((p.cuts.sound not-top).each c l).below [
         | inl e ↦ omega (arith, e, less.0)
         | inr e ↦ omega (arith, p.stands.laid.finished e.place e.tree_at.within e.tree_at.tree, e.tree_at.low, walks.0, less.0)
@@ -336,6 +336,8 @@ module _ (g : Multigraph) (t : NumberedTree) (numbered : IsNumbered g t) (s : Pa
     pub come-passed : IsPassed g t now
     come-passed = record {
       at_root = outer;
+      last = over.0;
+      none_left = subst (AreLeft g.vertex_count degree dart (at_place now.gone)) over.1 taken.1;
       all_gone = omega (arith, all-gone);
       places = record { start = p.places.start; base = p.places.base; gone = length-set s.gone v (slice_index s.gone v + 1) ∙ p.places.gone };
       held = held;

@@ -6,7 +6,7 @@ use Rattle.permutations.specs.Count.{some}
 use Rattle.permutations.proofs.Search.{some-witness, some-from}
 use Rattle.pair_split.specs.Family.{Entry, has_end, touches, is_common, IsSeparation}
 use Rattle.pair_split.proofs.Sides.{touching-entry, separation-from, one-from_entry}
-use Rattle.split_comp.specs.declared.items.Item.{Item}
+use Rattle.split_comp.specs.declared.items.StackEntry.{StackEntry}
 use Rattle.split_comp.specs.Stack.{item, entry, family, owner, IsTreeAt, IsStack, IsBad, IsReturned}
 use Rattle.split_comp.specs.Cuts.{IsLeastUp, IsBefore, IsFirstBelow, IsWanted}
 use Rattle.split_comp.specs.Sides.{is_frond_to, HasNoTriangle}
@@ -28,7 +28,7 @@ separation-swap entries s p q c = record {
   two_outside = c.two_outside;
 }
 
-module _ (last : ℕ → ℕ) (done v s h : ℕ) (stack : List Item) (rest : List Entry) (back : IsReturned last done v s h stack rest) where
+module _ (last : ℕ → ℕ) (done v s h : ℕ) (stack : List StackEntry) (rest : List Entry) (back : IsReturned last done v s h stack rest) where
   abbrev w : ℕ
   w = (item stack h).low
 

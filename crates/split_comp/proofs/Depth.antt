@@ -100,7 +100,7 @@ module _ (g : Multigraph) (t : NumberedTree) (s : PassState) (p : IsPass g t s) 
       left-over u k a b c = omega (
         arith,
         element-some (dart_entry u (dart u k)) h.rest (h.left.left u k a b c),
-        h.enough,
+        h.exact,
         depth-le g.vertex_count (edge_count g) parent degree dart p.palm h.depth h.top h.deeper s.at at-in,
         p.walk.current,
       )
@@ -114,9 +114,9 @@ module _ (g : Multigraph) (t : NumberedTree) (s : PassState) (p : IsPass g t s) 
     rest = h.rest;
     is_family = h.is_family;
     left = h.left;
-    enough =
+    exact =
         let far = p.palm.tree_far s.at (at_place s.gone s.at) at-in more tree in
-        omega (arith, h.enough, h.deeper (dart s.at (at_place s.gone s.at)).far far.0 (λ z. omega (arith, z, far.1)), ap h.depth far.3);
+        omega (arith, h.exact, h.deeper (dart s.at (at_place s.gone s.at)).far far.0 (λ z. omega (arith, z, far.1)), ap h.depth far.3);
   })
 
   -- a frond is gone along
@@ -130,7 +130,7 @@ module _ (g : Multigraph) (t : NumberedTree) (s : PassState) (p : IsPass g t s) 
         rest = w.0;
         is_family = w.1;
         left = subst (λ (gone : List ℕ). AreLeft g.vertex_count degree dart (at_place gone) w.0) (sym far.gone) w.2;
-        enough = omega (arith, h.enough, w.3, far.done, ap h.depth far.at);
+        exact = omega (arith, h.exact, w.3, far.done, ap h.depth far.at);
       }
 
   -- the search comes back
@@ -146,5 +146,5 @@ module _ (g : Multigraph) (t : NumberedTree) (s : PassState) (p : IsPass g t s) 
         rest = w.0;
         is_family = w.1;
         left = subst (λ (gone : List ℕ). AreLeft g.vertex_count degree dart (at_place gone) w.0) (sym come.gone) w.2;
-        enough = omega (arith, h.enough, w.3, r.0, come.done, ap h.depth come.at, h.deeper s.at at-in z);
+        exact = omega (arith, h.exact, w.3, r.0, come.done, ap h.depth come.at, h.deeper s.at at-in z);
       }

@@ -4,8 +4,8 @@ use Rattle.std.proofs.lemmas.Bool.{cases_lt, cases_eq}
 use Rattle.std.proofs.lemmas.List.{length-set, length-drop}
 use Rattle.multigraph.specs.Graph.{Multigraph, edge_count}
 use Rattle.pair_split.specs.Family.{has_end, touches}
-use Rattle.split_comp.specs.declared.items.Item.{Item}
-use Rattle.split_comp.specs.declared.items.Triple.{Triple}
+use Rattle.split_comp.specs.declared.items.StackEntry.{StackEntry}
+use Rattle.split_comp.specs.declared.items.StackCut.{StackCut}
 use Rattle.split_comp.specs.declared.items.Dart.{Dart}
 use Rattle.split_comp.specs.Stack.{item, entry, owner, IsStack, IsSorted}
 use Rattle.split_comp.specs.Palm.{tree_dart, tree_degree, tree_parent, IsPalm}
@@ -18,7 +18,7 @@ use Rattle.split_comp.proofs.Lying.{owner-end, start-at}
 use Rattle.split_comp.proofs.Walk.{walk-down, left-on_path}
 
 -- no cuts are sound, and complete where the vertex has no entries
-pub sound-none : (s x : ℕ) (stack : List Item) (cuts : List Triple) → length cuts ≡ 0 → AreSound s x stack cuts
+pub sound-none : (s x : ℕ) (stack : List StackEntry) (cuts : List StackCut) → length cuts ≡ 0 → AreSound s x stack cuts
 sound-none s x stack cuts e = record {
   each = λ k l. absurd (omega (arith, l, e));
   chain = record { starts_rise = λ k l. absurd (omega (arith, l, e)); ups_rise = λ k l. absurd (omega (arith, l, e)); lows_fall = λ k l. absurd (omega (arith, l, e)); met = λ k l. absurd (omega (arith, l, e)) };

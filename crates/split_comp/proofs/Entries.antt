@@ -11,25 +11,25 @@ use Rattle.pair_split.proofs.Names.{same-place, name-member, member-name}
 use Rattle.pair_split.proofs.SplitOff.{family-cons}
 use Rattle.pair_split.proofs.Replaced.{end-cases, first-end, second-end}
 use Rattle.pair_split.proofs.Sides.{touches-from}
-use Rattle.split_comp.specs.declared.items.Item.{Item}
+use Rattle.split_comp.specs.declared.items.StackEntry.{StackEntry}
 use Rattle.split_comp.specs.Stack.{no_item, item, entry, family}
 
 -- an end of an entry is its upper or its lower one
-pub item-ends : (z : ℕ) (x : Item) → has_end z (entry x) ≡ true → (z ≡ x.up) ⊎ (z ≡ x.low)
+pub item-ends : (z : ℕ) (x : StackEntry) → has_end z (entry x) ≡ true → (z ≡ x.up) ⊎ (z ≡ x.low)
 item-ends z x h = end-cases z (entry x) h
 
-pub up-end : (z : ℕ) (x : Item) → z ≡ x.up → has_end z (entry x) ≡ true
+pub up-end : (z : ℕ) (x : StackEntry) → z ≡ x.up → has_end z (entry x) ≡ true
 up-end z x e = first-end z (entry x) e
 
-pub low-end : (z : ℕ) (x : Item) → z ≡ x.low → has_end z (entry x) ≡ true
+pub low-end : (z : ℕ) (x : StackEntry) → z ≡ x.low → has_end z (entry x) ≡ true
 low-end z x e = second-end z (entry x) e
 
 -- an entry of the stack is one of the family
-pub stack-contains : (stack : List Item) (rest : List Entry) (i : ℕ) → i < length stack → Contains (family stack rest) (entry (item stack i))
+pub stack-contains : (stack : List StackEntry) (rest : List Entry) (i : ℕ) → i < length stack → Contains (family stack rest) (entry (item stack i))
 stack-contains stack rest i l = Contains-append_left (map entry stack) rest (entry (item stack i)) (contains-map entry (item stack i) stack (Contains-get_or stack i no_item l))
 
 -- so is one of the rest
-pub rest-contains : (stack : List Item) (rest : List Entry) (x : Entry) → Contains rest x → Contains (family stack rest) x
+pub rest-contains : (stack : List StackEntry) (rest : List Entry) (x : Entry) → Contains rest x → Contains (family stack rest) x
 rest-contains stack rest x c = Contains-append_right (map entry stack) rest x c
 
 -- an element has a place
@@ -42,7 +42,7 @@ place-of xs x d c = (c.0, c.1, grind (arith, c.2, default xs c.0 d x c.1))
     default (y ∷ ys) (suc i) a b l = default ys i a b (omega (arith, l))
 
 -- each entry of the family is one of the two
-pub family-cases : (stack : List Item) (rest : List Entry) (x : Entry) → Contains (family stack rest) x → ((i : ℕ) × (i < length stack) × (x ≡ entry (item stack i))) ⊎ Contains rest x
+pub family-cases : (stack : List StackEntry) (rest : List Entry) (x : Entry) → Contains (family stack rest) x → ((i : ℕ) × (i < length stack) × (x ≡ entry (item stack i))) ⊎ Contains rest x
 family-cases stack rest x c = elim (Contains-append_cases (map entry stack) rest x c) [
   | inl s ↦
       let m = map-contains entry x stack s in
@@ -52,7 +52,7 @@ family-cases stack rest x c = elim (Contains-append_cases (map entry stack) rest
 ]
 
 -- places of the stack with one name are the same
-pub same-item : (stack : List Item) (rest : List Entry) → IsFamily (family stack rest) → (i j : ℕ) → i < length stack → j < length stack → (item stack i).name ≡ (item stack j).name → i ≡ j
+pub same-item : (stack : List StackEntry) (rest : List Entry) → IsFamily (family stack rest) → (i j : ℕ) → i < length stack → j < length stack → (item stack i).name ≡ (item stack j).name → i ≡ j
 same-item stack rest f i j l k e = same-place (family stack rest) f.names_once i j (entry no_item) (omega (arith, l, size)) (omega (arith, k, size)) (ap (λ (x : Entry). x.name) (at i l) ∙ (e ∙ sym (ap (λ (x : Entry). x.name) (at j k))))
   where
     size : length (family stack rest) ≡ length stack + length rest
@@ -62,7 +62,7 @@ same-item stack rest f i j l k e = same-place (family stack rest) f.names_once i
     at n m = get_or_append_left (map entry stack) rest (entry no_item) n (omega (arith, m, length-map stack entry)) ∙ get_or-map entry stack n no_item (entry no_item) m
 
 -- an entry of the stack is none of the rest
-pub not-rest : (stack : List Item) (rest : List Entry) → IsFamily (family stack rest) → (i : ℕ) (x : Entry) → i < length stack → Contains rest x → (item stack i).name ≢ x.name
+pub not-rest : (stack : List StackEntry) (rest : List Entry) → IsFamily (family stack rest) → (i : ℕ) (x : Entry) → i < length stack → Contains rest x → (item stack i).name ≢ x.name
 not-rest stack rest f i x l c e = both_ways (is_member x.name (names rest)) (distinct-append_apart (names (map entry stack)) (names rest) (subst (λ (n : List ℕ). is_distinct n ≡ true) (map-append (λ (y : Entry). y.name) (map entry stack) rest) f.names_once) x.name
     (subst (λ (n : ℕ). is_member n (names (map entry stack)) ≡ true) e (name-member (map entry stack) (entry (item stack i)) (contains-map entry (item stack i) stack (Contains-get_or stack i no_item l))))) (name-member rest x c)
 
@@ -71,22 +71,22 @@ pub rest-touches : (rest : List Entry) (x : Entry) (z : ℕ) → Contains rest x
 rest-touches rest x z c h = touches-from rest z x c h
 
 -- what is in front
-pub item-front : (stack : List Item) (x : Item) (i : ℕ) → i < length stack → item (stack ++ x ∷ []) i ≡ item stack i
+pub item-front : (stack : List StackEntry) (x : StackEntry) (i : ℕ) → i < length stack → item (stack ++ x ∷ []) i ≡ item stack i
 item-front stack x i l = get_or_append_left stack (x ∷ []) no_item i l
 
 -- what is pushed
-pub item-last : (stack : List Item) (x : Item) (i : ℕ) → i ≡ length stack → item (stack ++ x ∷ []) i ≡ x
+pub item-last : (stack : List StackEntry) (x : StackEntry) (i : ℕ) → i ≡ length stack → item (stack ++ x ∷ []) i ≡ x
 item-last stack x i e = get_or_push stack x no_item i (sym e)
 
-pub length-push : (stack : List Item) (x : Item) → length (stack ++ x ∷ []) ≡ length stack + 1
+pub length-push : (stack : List StackEntry) (x : StackEntry) → length (stack ++ x ∷ []) ≡ length stack + 1
 length-push stack x = length-append stack (x ∷ [])
 
 -- what is in a front part
-pub item-take : (stack : List Item) (k i : ℕ) → i < k → item (take k stack) i ≡ item stack i
+pub item-take : (stack : List StackEntry) (k i : ℕ) → i < k → item (take k stack) i ≡ item stack i
 item-take stack k i l = get_or-take k stack i no_item l
 
 -- the rest of a family is one
-pub rest-family : (stack : List Item) (rest : List Entry) → IsFamily (family stack rest) → IsFamily rest
+pub rest-family : (stack : List StackEntry) (rest : List Entry) → IsFamily (family stack rest) → IsFamily rest
 rest-family [] rest f = f
 rest-family (x ∷ stack) rest f = rest-family stack rest (record {
   names_once = distinct-tail x.name (names (family stack rest)) f.names_once;
@@ -94,7 +94,7 @@ rest-family (x ∷ stack) rest f = rest-family stack rest (record {
 })
 
 -- a stack of entries under different names, none of which is one of the rest, makes a family with it
-pub family-from : (stack : List Item) (rest : List Entry) → IsFamily rest → ((i j : ℕ) → i < j → j < length stack → (item stack i).name ≢ (item stack j).name)
+pub family-from : (stack : List StackEntry) (rest : List Entry) → IsFamily rest → ((i j : ℕ) → i < j → j < length stack → (item stack i).name ≢ (item stack j).name)
     → ((i : ℕ) (x : Entry) → i < length stack → Contains rest x → (item stack i).name ≢ x.name) → ((i : ℕ) → i < length stack → (item stack i).up ≢ (item stack i).low) → IsFamily (family stack rest)
 family-from [] rest f apart off loops = f
 family-from (x ∷ stack) rest f apart off loops = family-cons (entry x) (family stack rest) (loops 0 (omega arith))

@@ -3,7 +3,7 @@ use Rattle.std.proofs.Common.{◌≡◌, ℕ, ◌<◌, ◌≤◌, ◌⊎◌, inl
 use Rattle.std.proofs.lemmas.Bool.{cases_lt, cases_eq, lt-ltb, le-ltb}
 use Rattle.std.proofs.lemmas.List.{length-set, get_or-set_same, get_or-set_other, get_or_past}
 use Rattle.pair_split.specs.Family.{Entry, IsFamily}
-use Rattle.split_comp.specs.declared.items.Item.{Item}
+use Rattle.split_comp.specs.declared.items.StackEntry.{StackEntry}
 use Rattle.split_comp.specs.declared.items.Dart.{Dart}
 use Rattle.split_comp.specs.Stack.{no_item, item, family, owner, IsSorted}
 use Rattle.split_comp.specs.Frames.{AreAhead}
@@ -13,7 +13,7 @@ use Rattle.split_comp.proofs.Stretch.{side_at, side-place, side-rest}
 use Rattle.split_comp.proofs.Alike.{IsAlike}
 
 -- the entries from place k on that pass a test, as a side
-pub cut-off : (keeps : Item → Bool) (stack : List Item) (rest : List Entry) (k : ℕ) → IsFamily (family stack rest) → IsCutOff keeps stack rest k (side_at stack (λ i. not (nat_lt i k) && keeps (item stack i)))
+pub cut-off : (keeps : StackEntry → Bool) (stack : List StackEntry) (rest : List Entry) (k : ℕ) → IsFamily (family stack rest) → IsCutOff keeps stack rest k (side_at stack (λ i. not (nat_lt i k) && keeps (item stack i)))
 cut-off keeps stack rest k f = record {
   from = λ i a l. side-place stack rest f (λ i. not (nat_lt i k) && keeps (item stack i)) i l ∙ (rw (le-ltb i k a) refl);
   before = λ i a l. side-place stack rest f (λ i. not (nat_lt i k) && keeps (item stack i)) i l ∙ (rw (lt-ltb i k a) refl);
@@ -57,13 +57,13 @@ pushed-here first up low p z a b (inl e) = elim (lowered-at (lowered first up p)
 ]
 
 -- alike entries in front
-pub record IsAlikeTo (n : ℕ) (one other : List Item) : Type 0 where
+pub record IsAlikeTo (n : ℕ) (one other : List StackEntry) : Type 0 where
   pub up : (i : ℕ) → i < n → (item one i).up ≡ (item other i).up
   pub low : (i : ℕ) → i < n → (item one i).low ≡ (item other i).low
   pub tree : (i : ℕ) → i < n → (item one i).tree ≡ (item other i).tree
   pub start : (i : ℕ) → i < n → (item one i).start ≡ (item other i).start
 
-module _ (n : ℕ) (one other : List Item) (a : IsAlikeTo n one other) where
+module _ (n : ℕ) (one other : List StackEntry) (a : IsAlikeTo n one other) where
   owner-to : (i : ℕ) → i < n → owner (item one i) ≡ owner (item other i)
   owner-to i l = λ t. (if a.tree i l t then a.up i l t else a.low i l t)
 
@@ -86,21 +86,21 @@ module _ (n : ℕ) (one other : List Item) (a : IsAlikeTo n one other) where
   }
 
 -- front parts that are alike, and end there
-pub alike-whole : (n : ℕ) (one other : List Item) → length one ≡ n → length other ≡ n → IsAlikeTo n one other → IsAlike one other
+pub alike-whole : (n : ℕ) (one other : List StackEntry) → length one ≡ n → length other ≡ n → IsAlikeTo n one other → IsAlike one other
 alike-whole n one other a b c = record {
   size = a ∙ sym b;
-  up = λ i. at (λ (x : Item). x.up) i (c.up i);
-  low = λ i. at (λ (x : Item). x.low) i (c.low i);
+  up = λ i. at (λ (x : StackEntry). x.up) i (c.up i);
+  low = λ i. at (λ (x : StackEntry). x.low) i (c.low i);
   tree = λ i. tree i;
-  start = λ i. at (λ (x : Item). x.start) i (c.start i);
+  start = λ i. at (λ (x : StackEntry). x.start) i (c.start i);
 }
   where
-    at : (f : Item → ℕ) (i : ℕ) → (i < n → f (item one i) ≡ f (item other i)) → f (item one i) ≡ f (item other i)
+    at : (f : StackEntry → ℕ) (i : ℕ) → (i < n → f (item one i) ≡ f (item other i)) → f (item one i) ≡ f (item other i)
     at f i h = elim (cases_lt i n) [ inl l ↦ h l | inr l ↦ ap f (get_or_past one i no_item (omega (arith, l, a)) ∙ sym (get_or_past other i no_item (omega (arith, l, b)))) ]
 
     tree : (i : ℕ) → (item one i).tree ≡ (item other i).tree
-    tree i = elim (cases_lt i n) [ inl l ↦ c.tree i l | inr l ↦ ap (λ (x : Item). x.tree) (get_or_past one i no_item (omega (arith, l, a)) ∙ sym (get_or_past other i no_item (omega (arith, l, b)))) ]
+    tree i = elim (cases_lt i n) [ inl l ↦ c.tree i l | inr l ↦ ap (λ (x : StackEntry). x.tree) (get_or_past one i no_item (omega (arith, l, a)) ∙ sym (get_or_past other i no_item (omega (arith, l, b)))) ]
 
 -- the same items are alike
-pub same-alike : (n : ℕ) (one other : List Item) → ((i : ℕ) → i < n → item one i ≡ item other i) → IsAlikeTo n one other
-same-alike n one other h = record { up = λ i l. ap (λ (x : Item). x.up) (h i l); low = λ i l. ap (λ (x : Item). x.low) (h i l); tree = λ i l. ap (λ (x : Item). x.tree) (h i l); start = λ i l. ap (λ (x : Item). x.start) (h i l) }
+pub same-alike : (n : ℕ) (one other : List StackEntry) → ((i : ℕ) → i < n → item one i ≡ item other i) → IsAlikeTo n one other
+same-alike n one other h = record { up = λ i l. ap (λ (x : StackEntry). x.up) (h i l); low = λ i l. ap (λ (x : StackEntry). x.low) (h i l); tree = λ i l. ap (λ (x : StackEntry). x.tree) (h i l); start = λ i l. ap (λ (x : StackEntry). x.start) (h i l) }

@@ -4,8 +4,8 @@ use Rattle.std.proofs.lemmas.Bool.{cases_lt, cases_eq, both_ways, eq-eqb}
 use Rattle.std.proofs.lemmas.List.{length-append, length-take-le, take-append-le, drop-append-le, length-drop, get_or-drop, length-map}
 use Rattle.multigraph.specs.Graph.{Multigraph, edge_count}
 use Rattle.pair_split.specs.Family.{Entry, IsSeparation}
-use Rattle.split_comp.specs.declared.items.Item.{Item}
-use Rattle.split_comp.specs.declared.items.Triple.{Triple}
+use Rattle.split_comp.specs.declared.items.StackEntry.{StackEntry}
+use Rattle.split_comp.specs.declared.items.StackCut.{StackCut}
 use Rattle.split_comp.specs.declared.items.Dart.{Dart}
 use Rattle.split_comp.specs.Stack.{item, entry, family, owner, IsStack, IsSorted, IsClean}
 use Rattle.split_comp.specs.Palm.{tree_dart, tree_degree, tree_parent, IsPalm}
@@ -29,13 +29,13 @@ use Rattle.split_comp.proofs.Noted.{IsFront, cut-left, chain-rises, note-sound-n
 use Rattle.split_comp.proofs.Firsts.{cut-off, lowered-length, pushed-at, pushed-here, IsAlikeTo, sorted-to, ahead-to, alike-whole}
 
 -- the cuts of vertices further up the path do not change, where the stack and the cuts stay in front of them
-pub below-kept : (last parent : ℕ → ℕ) (v : ℕ) (start base : ℕ → ℕ) (old new : List Item) (cuts now : List Triple) → AreCutsBelow last parent v start base old cuts → ((y : ℕ) → y ≢ 0 → IsOnPath last v y → take (start y) new ≡ take (start y) old) → ((y : ℕ) → y ≢ 0 → IsOnPath last v y → take (base y) now ≡ take (base y) cuts)
+pub below-kept : (last parent : ℕ → ℕ) (v : ℕ) (start base : ℕ → ℕ) (old new : List StackEntry) (cuts now : List StackCut) → AreCutsBelow last parent v start base old cuts → ((y : ℕ) → y ≢ 0 → IsOnPath last v y → take (start y) new ≡ take (start y) old) → ((y : ℕ) → y ≢ 0 → IsOnPath last v y → take (base y) now ≡ take (base y) cuts)
     → ((y : ℕ) → y ≢ 0 → IsOnPath last v y → base y ≤ length now) → AreCutsBelow last parent v start base new now
 below-kept last parent v start base old new cuts now b items c within = record {
   base_within = within;
   base_rises = b.base_rises;
-  sound_below = λ y z m p. subst (λ (l : List Item). AreSound (start (parent y)) (parent y) l (drop (base (parent y)) (take (base y) now))) (sym (items y z p)) (subst (λ (l : List Triple). AreSound (start (parent y)) (parent y) (take (start y) old) (drop (base (parent y)) l)) (sym (c y z p)) (b.sound_below y z m p));
-  complete_below = λ y z m p. subst (λ (l : List Item). AreComplete (start (parent y)) (parent y) l (drop (base (parent y)) (take (base y) now))) (sym (items y z p)) (subst (λ (l : List Triple). AreComplete (start (parent y)) (parent y) (take (start y) old) (drop (base (parent y)) l)) (sym (c y z p)) (b.complete_below y z m p));
+  sound_below = λ y z m p. subst (λ (l : List StackEntry). AreSound (start (parent y)) (parent y) l (drop (base (parent y)) (take (base y) now))) (sym (items y z p)) (subst (λ (l : List StackCut). AreSound (start (parent y)) (parent y) (take (start y) old) (drop (base (parent y)) l)) (sym (c y z p)) (b.sound_below y z m p));
+  complete_below = λ y z m p. subst (λ (l : List StackEntry). AreComplete (start (parent y)) (parent y) l (drop (base (parent y)) (take (base y) now))) (sym (items y z p)) (subst (λ (l : List StackCut). AreComplete (start (parent y)) (parent y) (take (start y) old) (drop (base (parent y)) l)) (sym (c y z p)) (b.complete_below y z m p));
 }
 
 -- bases rise along the path
@@ -86,10 +86,10 @@ module _ (g : Multigraph) (t : NumberedTree) (numbered : IsNumbered g t) (s : Pa
     top-is = ap (item s.items) (omega (arith, f.size))
 
     up-same : (item s.items k).up ≡ (item s.items f.height).up
-    up-same = par.up ∙ ap (λ (x : Item). x.up) top-is
+    up-same = par.up ∙ ap (λ (x : StackEntry). x.up) top-is
 
     low-same : (item s.items k).low ≡ (item s.items f.height).low
-    low-same = par.low ∙ ap (λ (x : Item). x.low) top-is
+    low-same = par.low ∙ ap (λ (x : StackEntry). x.low) top-is
 
     four : 4 ≤ length (family s.items f.rest)
     four = omega (arith, par.four, f.held.total)
@@ -101,7 +101,7 @@ module _ (g : Multigraph) (t : NumberedTree) (numbered : IsNumbered g t) (s : Pa
     off = cut-off all_items s.items f.rest k f.stands.left.is_family
 
     sep : IsSeparation (family s.items f.rest) side (top_item s).up (top_item s).low
-    sep = subst (λ (x : Item). IsSeparation (family s.items f.rest) side x.up x.low) (sym top-is) (parallel-separates last s.done v h s.items f.rest f.stands f.size f.topped k k-h up-same low-same four side off)
+    sep = subst (λ (x : StackEntry). IsSeparation (family s.items f.rest) side x.up x.low) (sym top-is) (parallel-separates last s.done v h s.items f.rest f.stands f.size f.topped k k-h up-same low-same four side off)
 
     -- each bad side holds both
     least : IsLeast s.items f.rest side
@@ -121,7 +121,7 @@ module _ (g : Multigraph) (t : NumberedTree) (numbered : IsNumbered g t) (s : Pa
 
     -- the two are joined
     module _ (mid : PassState) (e : IsSplitOff g t.vertex (λ x. true) (length s.items - 2) (top_item s).up (top_item s).low s mid) where
-      abbrev x : Item
+      abbrev x : StackEntry
       x = joined_item g s
 
       -- the state afterwards
@@ -133,10 +133,10 @@ module _ (g : Multigraph) (t : NumberedTree) (numbered : IsNumbered g t) (s : Pa
       }) x
 
       frond : x.tree ≡ false
-      frond = ap (λ (y : Item). y.tree) top-is ∙ f.frond
+      frond = ap (λ (y : StackEntry). y.tree) top-is ∙ f.frond
 
       x-low : x.low ≡ s.at
-      x-low = ap (λ (y : Item). y.low) top-is ∙ f.low
+      x-low = ap (λ (y : StackEntry). y.low) top-is ∙ f.low
 
       x-start : x.start ≡ k
       x-start = rw frond refl
@@ -165,7 +165,7 @@ module _ (g : Multigraph) (t : NumberedTree) (numbered : IsNumbered g t) (s : Pa
         separates = sep;
         rises = f.stands.laid.rises (length s.items - 1) (omega (arith, f.size));
         fresh = λ y c q. omega (arith, q, item-name g t numbered s f.rest f.held f.stands.left.is_family y c);
-        up_path = (omega (arith, (f.stands.laid.rises f.height h-in).0, f.low, ap (λ (y : Item). y.up) top-is), path);
+        up_path = (omega (arith, (f.stands.laid.rises f.height h-in).0, f.low, ap (λ (y : StackEntry). y.up) top-is), path);
         trees = λ y q. refl;
         shape = inr (frond, x-low, x-start);
       }
@@ -181,7 +181,7 @@ module _ (g : Multigraph) (t : NumberedTree) (numbered : IsNumbered g t) (s : Pa
 
       -- the new entry is as the one that was there
       alike : IsAlikeTo f.height s.items now.items
-      alike = record { up = λ i l. at i l (λ (y : Item). y.up) up-x; low = λ i l. at i l (λ (y : Item). y.low) low-x; tree = λ i l. tree-at i l; start = λ i l. at i l (λ (y : Item). y.start) start-x }
+      alike = record { up = λ i l. at i l (λ (y : StackEntry). y.up) up-x; low = λ i l. at i l (λ (y : StackEntry). y.low) low-x; tree = λ i l. tree-at i l; start = λ i l. at i l (λ (y : StackEntry). y.start) start-x }
         where
           k-in : k < length s.items
           k-in = omega (arith, k-h, f.size)
@@ -195,7 +195,7 @@ module _ (g : Multigraph) (t : NumberedTree) (numbered : IsNumbered g t) (s : Pa
           start-x : (item s.items k).start ≡ x.start
           start-x = f.stands.laid.frond_start k k-in par.frond ∙ sym x-start
 
-          at : (i : ℕ) → i < f.height → (p : Item → ℕ) → p (item s.items k) ≡ p x → p (item s.items i) ≡ p (item now.items i)
+          at : (i : ℕ) → i < f.height → (p : StackEntry → ℕ) → p (item s.items k) ≡ p x → p (item s.items i) ≡ p (item now.items i)
           at i l p q = elim (cases_lt i k) [
             | inl a ↦ ap p (sym (now-same i a))
             | inr a ↦ let e : i ≡ k = omega (arith, a, l, k-h) in ap (λ (j : ℕ). p (item s.items j)) e ∙ (q ∙ sym (ap p (ap (item now.items) e ∙ now-top)))
@@ -203,8 +203,8 @@ module _ (g : Multigraph) (t : NumberedTree) (numbered : IsNumbered g t) (s : Pa
 
           tree-at : (i : ℕ) → i < f.height → (item s.items i).tree ≡ (item now.items i).tree
           tree-at i l = elim (cases_lt i k) [
-            | inl a ↦ ap (λ (y : Item). y.tree) (sym (now-same i a))
-            | inr a ↦ let e : i ≡ k = omega (arith, a, l, k-h) in ap (λ (j : ℕ). (item s.items j).tree) e ∙ (par.frond ∙ (sym frond ∙ sym (ap (λ (y : Item). y.tree) (ap (item now.items) e ∙ now-top))))
+            | inl a ↦ ap (λ (y : StackEntry). y.tree) (sym (now-same i a))
+            | inr a ↦ let e : i ≡ k = omega (arith, a, l, k-h) in ap (λ (j : ℕ). (item s.items j).tree) e ∙ (par.frond ∙ (sym frond ∙ sym (ap (λ (y : StackEntry). y.tree) (ap (item now.items) e ∙ now-top))))
           ]
 
       now-size : length now.items ≡ f.height
@@ -213,17 +213,17 @@ module _ (g : Multigraph) (t : NumberedTree) (numbered : IsNumbered g t) (s : Pa
       fewer : length (family now.items f.rest) ≤ length (family s.items f.rest)
       fewer = omega (arith, length-append (List-map now.items) f.rest, length-append (List-map s.items) f.rest, length-map now.items entry, length-map s.items entry, now-size, f.size)
         where
-          List-map : List Item → List Entry
+          List-map : List StackEntry → List Entry
           List-map l = map entry l
 
       joined-clean : IsClean now.items f.rest
-      joined-clean = frond-clean last s.done s.at k now.items f.rest stands-now renewed.size (split_off-topped last s.done s.at k k all_items side x s.items now.items f.rest renewed least) (ap (λ (y : Item). y.tree) now-top ∙ frond) (ap (λ (y : Item). y.low) now-top ∙ x-low)
+      joined-clean = frond-clean last s.done s.at k now.items f.rest stands-now renewed.size (split_off-topped last s.done s.at k k all_items side x s.items now.items f.rest renewed least) (ap (λ (y : StackEntry). y.tree) now-top ∙ frond) (ap (λ (y : StackEntry). y.low) now-top ∙ x-low)
           (λ i l p.
           let q = frond-parts (item now.items k).up s.at (item now.items i) p in
           let same = now-same i l in
           parallel-not last s.done v h s.items f.rest f.stands f.size f.topped i k l (omega (arith, k-h))
-          (ap (λ (y : Item). y.up) (sym same) ∙ (q.1 ∙ (ap (λ (y : Item). y.up) now-top ∙ sym par.up)))
-          (ap (λ (y : Item). y.low) (sym same) ∙ (q.2 ∙ (sym x-low ∙ sym par.low))))
+          (ap (λ (y : StackEntry). y.up) (sym same) ∙ (q.1 ∙ (ap (λ (y : StackEntry). y.up) now-top ∙ sym par.up)))
+          (ap (λ (y : StackEntry). y.low) (sym same) ∙ (q.2 ∙ (sym x-low ∙ sym par.low))))
 
       alike-old : length (take f.height s.items) ≡ f.height
       alike-old = length-take-le f.height s.items (omega (arith, f.size))
@@ -262,10 +262,10 @@ module _ (g : Multigraph) (t : NumberedTree) (numbered : IsNumbered g t) (s : Pa
         where
           whole : IsAlike (take f.height s.items) now.items
           whole = alike-whole f.height (take f.height s.items) now.items alike-old now-size (record {
-            up = λ i l. ap (λ (y : Item). y.up) (item-take s.items f.height i l) ∙ alike.up i l;
-            low = λ i l. ap (λ (y : Item). y.low) (item-take s.items f.height i l) ∙ alike.low i l;
-            tree = λ i l. ap (λ (y : Item). y.tree) (item-take s.items f.height i l) ∙ alike.tree i l;
-            start = λ i l. ap (λ (y : Item). y.start) (item-take s.items f.height i l) ∙ alike.start i l;
+            up = λ i l. ap (λ (y : StackEntry). y.up) (item-take s.items f.height i l) ∙ alike.up i l;
+            low = λ i l. ap (λ (y : StackEntry). y.low) (item-take s.items f.height i l) ∙ alike.low i l;
+            tree = λ i l. ap (λ (y : StackEntry). y.tree) (item-take s.items f.height i l) ∙ alike.tree i l;
+            start = λ i l. ap (λ (y : StackEntry). y.start) (item-take s.items f.height i l) ∙ alike.start i l;
           })
 
   -- the last entry alone
@@ -356,7 +356,7 @@ module _ (g : Multigraph) (t : NumberedTree) (numbered : IsNumbered g t) (s : Pa
           ]
 
   -- the pass goes on with these cuts
-  noted-pass : (IsParallel s → ⊥) → (cuts : List Triple) → AreCutsBelow last (tree_parent t.palm t.vertex) s.at (at_place s.start) (at_place s.base) s.items cuts
+  noted-pass : (IsParallel s → ⊥) → (cuts : List StackCut) → AreCutsBelow last (tree_parent t.palm t.vertex) s.at (at_place s.start) (at_place s.base) s.items cuts
       → AreSound (at_place s.start s.at) s.at s.items (drop (at_place s.base s.at) cuts) → AreComplete (at_place s.start s.at) s.at s.items (drop (at_place s.base s.at) cuts) → IsPass g t (record s { cuts = cuts })
   noted-pass none cuts below sound complete = record {
     palm = f.palm;
@@ -395,14 +395,14 @@ module _ (g : Multigraph) (t : NumberedTree) (numbered : IsNumbered g t) (s : Pa
           at-height = start-at last s.done s.at s.items f.rest f.stands r b
 
   -- a further dart: it is noted
-  module _ (none : IsParallel s → ⊥) (late : at_place s.start s.at < f.height) (now : List Triple) (n : IsNoted (at_place s.base s.at) (record { start = f.height; up = (item s.items f.height).up; low = s.at }) s.cuts now) where
+  module _ (none : IsParallel s → ⊥) (late : at_place s.start s.at < f.height) (now : List StackCut) (n : IsNoted (at_place s.base s.at) (record { start = f.height; up = (item s.items f.height).up; low = s.at }) s.cuts now) where
     abbrev base : ℕ
     base = at_place s.base s.at
 
     l : ℕ
     l = (item s.items f.height).up
 
-    kept : List Triple
+    kept : List StackCut
     kept = drop base n.kept
 
     top-least : IsLeastUp s.items f.height (item s.items f.height).up
@@ -433,10 +433,10 @@ module _ (g : Multigraph) (t : NumberedTree) (numbered : IsNumbered g t) (s : Pa
           let last-k = length (drop base n.kept) - 1 in
           let at : cut (drop base n.kept) (length (drop base n.kept) - 1) ≡ cut n.kept (length n.kept - 1) = get_or-drop base n.kept (length (drop base n.kept) - 1) _ ∙ ap (cut n.kept) (omega (arith, kept-length, m)) in
           elim (cases_eq k (length (drop base n.kept) - 1)) [
-            | inl q ↦ omega (arith, ap (λ (j : ℕ). (cut (drop base n.kept) j).up) q, ap (λ (c : Triple). c.up) at, e)
+            | inl q ↦ omega (arith, ap (λ (j : ℕ). (cut (drop base n.kept) j).up) q, ap (λ (c : StackCut). c.up) at, e)
             | inr q ↦
                 let c = chain-rises (take f.height s.items) (drop base n.kept ++ n.taken.popped) old-sound.chain k (length (drop base n.kept) - 1) (omega (arith, m, q)) (omega (arith, m, length-append (drop base n.kept) n.taken.popped)) in
-                omega (arith, c.1, ap (λ (c : Triple). c.up) (cut-left (drop base n.kept) n.taken.popped k m), ap (λ (c : Triple). c.up) (cut-left (drop base n.kept) n.taken.popped (length (drop base n.kept) - 1) (omega (arith, m))), ap (λ (c : Triple). c.up) at, e)
+                omega (arith, c.1, ap (λ (c : StackCut). c.up) (cut-left (drop base n.kept) n.taken.popped k m), ap (λ (c : StackCut). c.up) (cut-left (drop base n.kept) n.taken.popped (length (drop base n.kept) - 1) (omega (arith, m))), ap (λ (c : StackCut). c.up) at, e)
           ]
     ]
 
@@ -449,23 +449,23 @@ module _ (g : Multigraph) (t : NumberedTree) (numbered : IsNumbered g t) (s : Pa
     top-start : (item s.items f.height).start ≡ f.height
     top-start = f.stands.laid.frond_start f.height h-in f.frond
 
-    list-cases : (p : List Triple) → (p ≡ []) ⊎ ((c : Triple) × (more : List Triple) × (p ≡ c ∷ more))
+    list-cases : (p : List StackCut) → (p ≡ []) ⊎ ((c : StackCut) × (more : List StackCut) × (p ≡ c ∷ more))
     list-cases [] = inl refl
     list-cases (c ∷ more) = inr (c, more, refl)
 
     sound-now : AreSound (at_place s.start s.at) s.at s.items (drop base now)
     sound-now = subst (AreSound (at_place s.start s.at) s.at s.items) (sym now-drop) (elim (list-cases n.taken.popped) [
-      | inl e ↦ subst (λ (c : Triple). AreSound (at_place s.start s.at) s.at s.items (drop base n.kept ++ c ∷ [])) (sym (n.taken.none e))
+      | inl e ↦ subst (λ (c : StackCut). AreSound (at_place s.start s.at) s.at s.items (drop base n.kept ++ c ∷ [])) (sym (n.taken.none e))
           (note-sound-new last s.done s.at (at_place s.start s.at) f.height (item s.items f.height).up f.height (take f.height s.items) s.items f.rest (drop base n.kept) n.taken.popped f.stands front late f.size owned top-start (omega arith) top-least up-less old-sound lower n.taken.lower e)
-      | inr e ↦ subst (λ (c : Triple). AreSound (at_place s.start s.at) s.at s.items (drop base n.kept ++ c ∷ [])) (sym (n.taken.some e.0 e.1 e.2))
+      | inr e ↦ subst (λ (c : StackCut). AreSound (at_place s.start s.at) s.at s.items (drop base n.kept ++ c ∷ [])) (sym (n.taken.some e.0 e.1 e.2))
           (note-sound-old last s.done s.at (at_place s.start s.at) f.height (item s.items f.height).up f.height (take f.height s.items) s.items f.rest (drop base n.kept) n.taken.popped f.stands front late f.size owned top-start (omega arith) top-least up-less old-sound lower n.taken.lower e.0 e.1 e.2)
     ])
 
     complete-now : AreComplete (at_place s.start s.at) s.at s.items (drop base now)
     complete-now = subst (AreComplete (at_place s.start s.at) s.at s.items) (sym now-drop) (elim (list-cases n.taken.popped) [
-      | inl e ↦ subst (λ (c : Triple). AreComplete (at_place s.start s.at) s.at s.items (drop base n.kept ++ c ∷ [])) (sym (n.taken.none e))
+      | inl e ↦ subst (λ (c : StackCut). AreComplete (at_place s.start s.at) s.at s.items (drop base n.kept ++ c ∷ [])) (sym (n.taken.none e))
           (note-complete-new last s.done s.at (at_place s.start s.at) f.height (item s.items f.height).up f.height (take f.height s.items) s.items f.rest (drop base n.kept) n.taken.popped f.stands front late f.size owned top-start (omega arith) top-least up-less old-sound lower n.taken.lower f.topped old-complete e)
-      | inr e ↦ subst (λ (c : Triple). AreComplete (at_place s.start s.at) s.at s.items (drop base n.kept ++ c ∷ [])) (sym (n.taken.some e.0 e.1 e.2))
+      | inr e ↦ subst (λ (c : StackCut). AreComplete (at_place s.start s.at) s.at s.items (drop base n.kept ++ c ∷ [])) (sym (n.taken.some e.0 e.1 e.2))
           (note-complete-old last s.done s.at (at_place s.start s.at) f.height (item s.items f.height).up f.height (take f.height s.items) s.items f.rest (drop base n.kept) n.taken.popped f.stands front late f.size owned top-start (omega arith) top-least up-less old-sound lower n.taken.lower f.topped old-complete e.0 e.1 e.2)
     ])
 

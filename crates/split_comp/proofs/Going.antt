@@ -5,7 +5,7 @@ use Rattle.std.proofs.lemmas.List.{length-set, take-append-le}
 use Rattle.multigraph.specs.Graph.{Multigraph, edge_count}
 use Rattle.pair_split.specs.Family.{Entry, IsFamily}
 use Rattle.pair_split.proofs.SameEntries.{IsWithin}
-use Rattle.split_comp.specs.declared.items.Item.{Item}
+use Rattle.split_comp.specs.declared.items.StackEntry.{StackEntry}
 use Rattle.split_comp.specs.declared.items.Dart.{Dart}
 use Rattle.split_comp.specs.Stack.{item, entry, family, owner, IsStack, AreFirst}
 use Rattle.split_comp.specs.Palm.{tree_dart, tree_degree, tree_parent, dart_entry}
@@ -59,7 +59,7 @@ module _ (g : Multigraph) (t : NumberedTree) (numbered : IsNumbered g t) (s : Pa
   abbrev mid : PassState
   mid = gone_along s s.at
 
-  abbrev x : Item
+  abbrev x : StackEntry
   x = new_frond d.edge s.at d.far mid
 
   abbrev now : PassState
@@ -127,13 +127,13 @@ module _ (g : Multigraph) (t : NumberedTree) (numbered : IsNumbered g t) (s : Pa
   frames = record {
     within = λ y n q. omega (arith, size, p.frames.within y n q);
     from = λ y i n q a l. elim (cases i l) [
-      | inl k ↦ subst (λ (z : Item). (y ≤ z.low) × (z.low < last y)) (sym (front i k)) (p.frames.from y i n q a k)
-      | inr k ↦ subst (λ (z : Item). (y ≤ z.low) × (z.low < last y)) (sym (top i k)) q
+      | inl k ↦ subst (λ (z : StackEntry). (y ≤ z.low) × (z.low < last y)) (sym (front i k)) (p.frames.from y i n q a k)
+      | inr k ↦ subst (λ (z : StackEntry). (y ≤ z.low) × (z.low < last y)) (sym (top i k)) q
     ];
-    before = λ y i n q a. subst (λ (z : Item). (z.low < y) ⊎ (last y ≤ z.low)) (sym (front i (omega (arith, a, p.frames.within y n q)))) (p.frames.before y i n q a);
+    before = λ y i n q a. subst (λ (z : StackEntry). (z.low < y) ⊎ (last y ≤ z.low)) (sym (front i (omega (arith, a, p.frames.within y n q)))) (p.frames.before y i n q a);
     tree_up = λ y i n q a l f. elim (cases i l) [
-      | inl k ↦ omega (arith, ap (λ (z : Item). z.up) (front i k), p.frames.tree_up y i n q a k (ap (λ (z : Item). z.tree) (sym (front i k)) ∙ f))
-      | inr k ↦ absurd (both_ways (item now.items i).tree (ap (λ (z : Item). z.tree) (top i k)) f)
+      | inl k ↦ omega (arith, ap (λ (z : StackEntry). z.up) (front i k), p.frames.tree_up y i n q a k (ap (λ (z : StackEntry). z.tree) (sym (front i k)) ∙ f))
+      | inr k ↦ absurd (both_ways (item now.items i).tree (ap (λ (z : StackEntry). z.tree) (top i k)) f)
     ];
   }
 
@@ -141,19 +141,19 @@ module _ (g : Multigraph) (t : NumberedTree) (numbered : IsNumbered g t) (s : Pa
   reached = record {
     gone_to = λ y i n q a l u. elim (cases i l) [
       | inl k ↦
-          let e = ap (λ (z : Item). z.up) (front i k) in
+          let e = ap (λ (z : StackEntry). z.up) (front i k) in
           let r = p.reached.gone_to y i n q a k (omega (arith, e, u)) in
           record { from = r.from; place = r.place; above = r.above; below = r.below; within = omega (arith, r.within, rises r.from); frond = r.frond; far = r.far ∙ sym e }
-      | inr k ↦ record { from = s.at; place = at_place s.gone s.at; above = q.0; below = q.1; within = omega (arith, one.0); frond = frond; far = sym (ap (λ (z : Item). z.up) (top i k)) }
+      | inr k ↦ record { from = s.at; place = at_place s.gone s.at; above = q.0; below = q.1; within = omega (arith, one.0); frond = frond; far = sym (ap (λ (z : StackEntry). z.up) (top i k)) }
     ];
     met = λ y z n q u r. elim (cases_lt r.place (at_place s.gone r.from)) [
       | inl k ↦
           let i = p.reached.met y z n q u (record { from = r.from; place = r.place; above = r.above; below = r.below; within = k; frond = r.frond; far = r.far }) in
-          (i.0, i.1, omega (arith, size, i.2), ap (λ (o : Item). o.up) (front i.0 i.2) ∙ i.3)
+          (i.0, i.1, omega (arith, size, i.2), ap (λ (o : StackEntry). o.up) (front i.0 i.2) ∙ i.3)
       | inr k ↦
           let e : r.from ≡ s.at = elim (cases_eq r.from s.at) [ inl e ↦ e | inr e ↦ absurd (omega (arith, k, r.within, one.1 r.from e)) ] in
           let m : r.place ≡ at_place s.gone s.at = omega (arith, k, r.within, ap (at_place s.gone) e, ap (at_place now.gone) e, one.0) in
-          (length s.items, p.frames.within y n q, omega (arith, size), ap (λ (o : Item). o.up) (top (length s.items) refl) ∙ ((λ k. (dart (sym e k) (sym m k)).far) ∙ r.far))
+          (length s.items, p.frames.within y n q, omega (arith, size), ap (λ (o : StackEntry). o.up) (top (length s.items) refl) ∙ ((λ k. (dart (sym e k) (sym m k)).far) ∙ r.far))
     ];
   }
 
@@ -171,7 +171,7 @@ module _ (g : Multigraph) (t : NumberedTree) (numbered : IsNumbered g t) (s : Pa
   owner-front r l o = ap owner (sym (front r l)) ∙ o
 
   top-up : (item now.items (length s.items)).up ≡ d.far
-  top-up = ap (λ (z : Item). z.up) (top (length s.items) refl)
+  top-up = ap (λ (z : StackEntry). z.up) (top (length s.items) refl)
 
   take-same : (k : ℕ) → k ≤ length s.items → take k now.items ≡ take k s.items
   take-same k l = take-append-le k s.items (x ∷ []) l
@@ -187,8 +187,8 @@ module _ (g : Multigraph) (t : NumberedTree) (numbered : IsNumbered g t) (s : Pa
     held = held-pushed g t numbered s p.rest p.held p.stands.left.is_family now taken.0 refl refl stands.left.is_family (pushed-within s.items p.rest x now.items taken.0 is-pushed) (pushed-back s.items p.rest x now.items taken.0 is-pushed);
     height = length s.items;
     size = size;
-    frond = ap (λ (z : Item). z.tree) (top (length s.items) refl);
-    low = ap (λ (z : Item). z.low) (top (length s.items) refl);
+    frond = ap (λ (z : StackEntry). z.tree) (top (length s.items) refl);
+    low = ap (λ (z : StackEntry). z.low) (top (length s.items) refl);
     stands = stands;
     topped = push-topped s.items p.rest x now.items taken.0 is-pushed stands.left.is_family p.clean;
     frames = frames;
@@ -198,13 +198,13 @@ module _ (g : Multigraph) (t : NumberedTree) (numbered : IsNumbered g t) (s : Pa
     ahead = ahead-to (length s.items) s.items now.items (same-alike (length s.items) s.items now.items (λ i l. sym (front i l))) last degree dart (at_place s.gone) (at_place now.gone) s.at p.rest taken.0 fewer rises p.ahead;
     reach_last = λ r l o.
         let i = p.ahead.reach_ahead s.at r (at_place s.gone s.at) not-root (omega arith, p.palm.above s.at) l (owner-front r l o) (omega arith) more in
-        (i.0, omega (arith, ap (λ (z : Item). z.start) (front r l), i.1), i.2, omega (arith, ap (λ (z : Item). z.up) (front i.0 (omega (arith, i.2, l))), i.3, reach.0, top-up));
+        (i.0, omega (arith, ap (λ (z : StackEntry). z.start) (front r l), i.1), i.2, omega (arith, ap (λ (z : StackEntry). z.up) (front i.0 (omega (arith, i.2, l))), i.3, reach.0, top-up));
     frond_last = λ r f l o n. omega (
       arith,
       top-up,
       reach.0,
-      ap (λ (z : Item). z.up) (front r l),
-      elim (p.ahead.frond_ahead s.at r (at_place s.gone s.at) (omega (arith, f, fewer)) not-root (omega arith, p.palm.above s.at) l (owner-front r l o) (ap (λ (z : Item). z.tree) (sym (front r l)) ∙ n) (omega arith) more) as (λ z. (item s.items r).up ≤ d.reach) [
+      ap (λ (z : StackEntry). z.up) (front r l),
+      elim (p.ahead.frond_ahead s.at r (at_place s.gone s.at) (omega (arith, f, fewer)) not-root (omega arith, p.palm.above s.at) l (owner-front r l o) (ap (λ (z : StackEntry). z.tree) (sym (front r l)) ∙ n) (omega arith) more) as (λ z. (item s.items r).up ≤ d.reach) [
         | inl a ↦ omega (arith, a)
         | inr a ↦ omega (arith, a.0)
       ],
@@ -215,8 +215,8 @@ module _ (g : Multigraph) (t : NumberedTree) (numbered : IsNumbered g t) (s : Pa
     ];
     starts = p.frames.within s.at not-root (omega arith, p.palm.above s.at);
     below = below-kept last parent s.at (at_place s.start) (at_place s.base) s.items now.items s.cuts s.cuts p.cuts.below (λ y n q. take-same (at_place s.start y) (p.frames.within y n q)) (λ y n q. refl) p.cuts.below.base_within;
-    sound = subst (λ (l : List Item). AreSound (at_place s.start s.at) s.at l (drop (at_place s.base s.at) s.cuts)) (sym whole) (p.cuts.sound not-root);
-    complete = subst (λ (l : List Item). AreComplete (at_place s.start s.at) s.at l (drop (at_place s.base s.at) s.cuts)) (sym whole) (p.cuts.complete not-root);
+    sound = subst (λ (l : List StackEntry). AreSound (at_place s.start s.at) s.at l (drop (at_place s.base s.at) s.cuts)) (sym whole) (p.cuts.sound not-root);
+    complete = subst (λ (l : List StackEntry). AreComplete (at_place s.start s.at) s.at l (drop (at_place s.base s.at) s.cuts)) (sym whole) (p.cuts.complete not-root);
   }
     where
       whole : take (length s.items) now.items ≡ s.items

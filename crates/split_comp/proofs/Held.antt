@@ -24,7 +24,7 @@ use Rattle.pair_split.proofs.SplitOff.{family-cons, kept-family, state-split_off
 use Rattle.pair_split.proofs.Minimal.{minimal-prime}
 use Rattle.pair_split.proofs.SameEntries.{IsWithin}
 use Rattle.pair_split.proofs.Sides.{length-sides}
-use Rattle.split_comp.specs.declared.items.Item.{Item}
+use Rattle.split_comp.specs.declared.items.StackEntry.{StackEntry}
 use Rattle.split_comp.specs.Stack.{item, entry, family}
 use Rattle.split_comp.specs.Sides.{IsCutOff, IsLeast}
 use Rattle.split_comp.specs.Pass.{NumberedTree, IsNumbered, PassState, drawn, drawn_items, drawn_family, next_name, own_entry, CanSplitOff, IsSplitOff, IsHeld}
@@ -82,7 +82,7 @@ module _ (g : Multigraph) (t : NumberedTree) (numbered : IsNumbered g t) (s : Pa
     | inr h ↦ filter-no (λ (e : Entry). side e.name) (drawn g t.vertex x) (map (drawn g t.vertex) l) (ap side (drawn-name x) ∙ h) ∙ (side-drawn side l ∙ ap (map (drawn g t.vertex)) (sym (filter-no (λ (e : Entry). side e.name) x l h)))
   ]
 
-  pub map-items : (l : List Item) → map (drawn g t.vertex) (map entry l) ≡ drawn_items g t.vertex l
+  pub map-items : (l : List StackEntry) → map (drawn g t.vertex) (map entry l) ≡ drawn_items g t.vertex l
   map-items [] = refl
   map-items (x ∷ l) = ap (λ (k : List Entry). drawn g t.vertex (entry x) ∷ k) (map-items l)
 
@@ -92,7 +92,7 @@ module _ (g : Multigraph) (t : NumberedTree) (numbered : IsNumbered g t) (s : Pa
   pub drawn-is_family : IsFamily (drawn_family g t.vertex s.items rest)
   drawn-is_family = subst IsFamily (layer-current state) (held.state.families (length (map part_of s.parts)))
 
-  module _ (keeps : Item → Bool) (k up low : ℕ) (side : ℕ → Bool) (cut : IsCutOff keeps s.items rest k side) (sep : IsSeparation (family s.items rest) side up low) (up-in : up < n) (low-in : low < n) where
+  module _ (keeps : StackEntry → Bool) (k up low : ℕ) (side : ℕ → Bool) (cut : IsCutOff keeps s.items rest k side) (sep : IsSeparation (family s.items rest) side up low) (up-in : up < n) (low-in : low < n) where
     abbrev own : Entry
     own = own_entry g t.vertex up low s
 
@@ -131,10 +131,10 @@ module _ (g : Multigraph) (t : NumberedTree) (numbered : IsNumbered g t) (s : Pa
 
     -- two entries or more went
     pub split_off-two : (mid : PassState) (e : IsSplitOff g t.vertex keeps k up low s mid) → 2 ≤ length e.edges
-    split_off-two mid e = omega (arith, sep.two_inside, side-length, sym (length-map e.edges entry_of), ap length e.are_edges, length-map (filter keeps (drop k s.items)) (λ (y : Item). drawn g t.vertex (entry y)))
+    split_off-two mid e = omega (arith, sep.two_inside, side-length, sym (length-map e.edges entry_of), ap length e.are_edges, length-map (filter keeps (drop k s.items)) (λ (y : StackEntry). drawn g t.vertex (entry y)))
 
     -- afterwards
-    pub held-split_off : (old-mid new : PassState) (x : Item) → IsSplitOff g t.vertex keeps k up low s old-mid → new.parts ≡ old-mid.parts → new.total ≡ old-mid.total → x.name ≡ next_name g s → x.up ≡ up → x.low ≡ low
+    pub held-split_off : (old-mid new : PassState) (x : StackEntry) → IsSplitOff g t.vertex keeps k up low s old-mid → new.parts ≡ old-mid.parts → new.total ≡ old-mid.total → x.name ≡ next_name g s → x.up ≡ up → x.low ≡ low
         → IsFamily (family new.items rest) → IsWithin (entry x ∷ off_side side (family s.items rest)) (family new.items rest) → IsWithin (family new.items rest) (entry x ∷ off_side side (family s.items rest)) → IsHeld g t.vertex new rest
     held-split_off mid new x e same-parts same-total named x-up x-low fam into back = record {
       total = total;
@@ -155,7 +155,7 @@ module _ (g : Multigraph) (t : NumberedTree) (numbered : IsNumbered g t) (s : Pa
         parts-length = ap length parts-are ∙ length-append s.parts (record { kind = e.kind; own = record { name = next_name g s; first = slice_index t.vertex up; second = slice_index t.vertex low }; edges = e.edges } ∷ [])
 
         edges-length : length e.edges ≡ length (on_side side K)
-        edges-length = sym (length-map e.edges entry_of) ∙ (ap length e.are_edges ∙ (length-map (filter keeps (drop k s.items)) (λ (y : Item). drawn g t.vertex (entry y)) ∙ side-length))
+        edges-length = sym (length-map e.edges entry_of) ∙ (ap length e.are_edges ∙ (length-map (filter keeps (drop k s.items)) (λ (y : StackEntry). drawn g t.vertex (entry y)) ∙ side-length))
 
         edges-two : 2 ≤ length e.edges
         edges-two = omega (arith, edges-length, sep.two_inside)

@@ -7,8 +7,8 @@ use Rattle.pair_split.specs.Family.{Entry, has_end, touches, IsSeparation}
 use Rattle.pair_split.proofs.Elements.{two-pass}
 use Rattle.pair_split.proofs.Degrees.{tight-degree}
 use Rattle.pair_split.proofs.Sides.{touching-entry, length-sides}
-use Rattle.split_comp.specs.declared.items.Item.{Item}
-use Rattle.split_comp.specs.declared.items.Triple.{Triple}
+use Rattle.split_comp.specs.declared.items.StackEntry.{StackEntry}
+use Rattle.split_comp.specs.declared.items.StackCut.{StackCut}
 use Rattle.split_comp.specs.declared.items.Dart.{Dart}
 use Rattle.split_comp.specs.Stack.{item, entry, family, owner, IsStack}
 use Rattle.split_comp.specs.Palm.{tree_dart, tree_degree, tree_parent, IsFrondTo, IsPalm}
@@ -35,7 +35,7 @@ root-going n m parent degree dart palm v done gone walk z =
     subst (λ (y : ℕ). gone y < degree y) x.3 (walk.under_way x.0 x.1 x.2).0
 
 -- two entries of the stack without upper ends above v leave two more, where the rest touches a vertex above v
-pub four-there : (last : ℕ → ℕ) (done v : ℕ) (stack : List Item) (rest : List Entry) → IsStack last done v stack rest → (z : ℕ) × (z < v) × (touches rest z ≡ true) → (i j : ℕ) → i < j → j < length stack → v ≤ (item stack i).up → v ≤ (item stack j).up → 4 ≤ length (family stack rest)
+pub four-there : (last : ℕ → ℕ) (done v : ℕ) (stack : List StackEntry) (rest : List Entry) → IsStack last done v stack rest → (z : ℕ) × (z < v) × (touches rest z ≡ true) → (i j : ℕ) → i < j → j < length stack → v ≤ (item stack i).up → v ≤ (item stack j).up → 4 ≤ length (family stack rest)
 four-there last done v stack rest s z i j l m a c =
     let f = s.left.is_family in
     let e = touching-entry rest z.0 z.2 in
@@ -107,10 +107,10 @@ module _ (g : Multigraph) (t : NumberedTree) (numbered : IsNumbered g t) (w : �
     k-in = omega (arith, k-h, b.atop.size)
 
     up-same : (item s.items k).up ≡ (item s.items b.height).up
-    up-same = par.up ∙ ap (λ (x : Item). x.up) top-is
+    up-same = par.up ∙ ap (λ (x : StackEntry). x.up) top-is
 
     low-same : (item s.items k).low ≡ (item s.items b.height).low
-    low-same = par.low ∙ ap (λ (x : Item). x.low) top-is
+    low-same = par.low ∙ ap (λ (x : StackEntry). x.low) top-is
 
     abbrev side : ℕ → Bool
     side = side_at s.items (λ i. not (nat_lt i (length s.items - 2)) && true)
@@ -119,7 +119,7 @@ module _ (g : Multigraph) (t : NumberedTree) (numbered : IsNumbered g t) (w : �
     off = cut-off all_items s.items b.rest k stands.left.is_family
 
     sep : IsSeparation (family s.items b.rest) side (top_item s).up (top_item s).low
-    sep = subst (λ (x : Item). IsSeparation (family s.items b.rest) side x.up x.low) (sym top-is) (parallel-separates last s.done s.at h s.items b.rest stands b.atop.size b.atop.topped k k-h up-same low-same (omega (arith, par.four, b.held.total)) side off)
+    sep = subst (λ (x : StackEntry). IsSeparation (family s.items b.rest) side x.up x.low) (sym top-is) (parallel-separates last s.done s.at h s.items b.rest stands b.atop.size b.atop.topped k k-h up-same low-same (omega (arith, par.four, b.held.total)) side off)
 
     least : IsLeast s.items b.rest side
     least u p q d i l on = elim (cases_lt i k) [
@@ -137,7 +137,7 @@ module _ (g : Multigraph) (t : NumberedTree) (numbered : IsNumbered g t) (w : �
     raised-can = can-split_off g t numbered s b.rest b.held stands.left.is_family all_items k (top_item s).up (top_item s).low side off sep ends.0 ends.1 least (omega (arith, b.atop.size))
 
     module _ (starts : (c : ℕ) → c < length (drop (at_place s.base w) s.cuts) → (cut (drop (at_place s.base w) s.cuts) c).start < b.height) (mid : PassState) (e : IsSplitOff g t.vertex (λ x. true) (length s.items - 2) (top_item s).up (top_item s).low s mid) where
-      abbrev x : Item
+      abbrev x : StackEntry
       x = joined_item g s
 
       abbrev now : PassState
@@ -148,16 +148,16 @@ module _ (g : Multigraph) (t : NumberedTree) (numbered : IsNumbered g t) (w : �
       }) x
 
       tree-x : x.tree ≡ true
-      tree-x = ap (λ (y : Item). y.tree) top-is ∙ b.atop.tree
+      tree-x = ap (λ (y : StackEntry). y.tree) top-is ∙ b.atop.tree
 
       x-up : x.up ≡ s.at
-      x-up = ap (λ (y : Item). y.up) top-is ∙ b.atop.up
+      x-up = ap (λ (y : StackEntry). y.up) top-is ∙ b.atop.up
 
       x-low : x.low ≡ (item s.items b.height).low
-      x-low = ap (λ (y : Item). y.low) top-is
+      x-low = ap (λ (y : StackEntry). y.low) top-is
 
       x-start : x.start ≡ at_place s.start w
-      x-start = rw tree-x (ap (λ (y : Item). y.start) top-is ∙ b.atop.start)
+      x-start = rw tree-x (ap (λ (y : StackEntry). y.start) top-is ∙ b.atop.start)
 
       front-length : length (take k s.items) ≡ k
       front-length = length-take-le k s.items (omega (arith, b.atop.size))
@@ -211,7 +211,7 @@ module _ (g : Multigraph) (t : NumberedTree) (numbered : IsNumbered g t) (w : �
         | inr z ↦ let e-h : o ≡ b.height = omega (arith, a, l, z, k-h, b.atop.size) in omega (arith, ap (λ (y : ℕ). (item s.items y).up) e-h, b.atop.up)
       ]
 
-      abbrev cuts : List Triple
+      abbrev cuts : List StackCut
       cuts = drop (at_place s.base w) s.cuts
 
       -- a cut at the frond is one of the last entry
@@ -273,8 +273,8 @@ module _ (g : Multigraph) (t : NumberedTree) (numbered : IsNumbered g t) (w : �
               let q = frond-parts s.at (item now.items k).low (item now.items i) p in
               let same = now-same i l in
               parallel-not last s.done s.at h s.items b.rest stands b.atop.size b.atop.topped i k l (omega (arith, k-h))
-              (ap (λ (y : Item). y.up) (sym same) ∙ (q.1 ∙ (sym b.atop.up ∙ sym up-same)))
-              (ap (λ (y : Item). y.low) (sym same) ∙ (q.2 ∙ (ap (λ (y : Item). y.low) now-top ∙ sym par.low)))
+              (ap (λ (y : StackEntry). y.up) (sym same) ∙ (q.1 ∙ (sym b.atop.up ∙ sym up-same)))
+              (ap (λ (y : StackEntry). y.low) (sym same) ∙ (q.2 ∙ (ap (λ (y : StackEntry). y.low) now-top ∙ sym par.low)))
 
       height-now : raised-joined.height ≡ k
       height-now = omega (arith, raised-joined.atop.size, renewed.size)
@@ -285,8 +285,8 @@ module _ (g : Multigraph) (t : NumberedTree) (numbered : IsNumbered g t) (w : �
         no_frond = λ i l f lo u.
             let i-k : i < k = omega (arith, l, height-now) in
             parallel-not last s.done s.at h s.items b.rest stands b.atop.size b.atop.topped i k i-k (omega (arith, k-h))
-            (ap (λ (y : Item). y.up) (sym (now-same i i-k)) ∙ (u ∙ (sym b.atop.up ∙ sym up-same)))
-            (ap (λ (y : Item). y.low) (sym (now-same i i-k)) ∙ (lo ∙ (ap (λ (j : ℕ). (item now.items j).low) height-now ∙ (ap (λ (y : Item). y.low) now-top ∙ sym par.low))));
+            (ap (λ (y : StackEntry). y.up) (sym (now-same i i-k)) ∙ (u ∙ (sym b.atop.up ∙ sym up-same)))
+            (ap (λ (y : StackEntry). y.low) (sym (now-same i i-k)) ∙ (lo ∙ (ap (λ (j : ℕ). (item now.items j).low) height-now ∙ (ap (λ (y : StackEntry). y.low) now-top ∙ sym par.low))));
       }
 
   -- where nothing is joined, no frond is parallel
@@ -301,7 +301,7 @@ module _ (g : Multigraph) (t : NumberedTree) (numbered : IsNumbered g t) (w : �
           two = omega (arith, at, b.atop.size);
           four = omega (arith, four, b.held.total);
           frond = ap (λ (j : ℕ). (item s.items j).tree) k ∙ f;
-          up = ap (λ (j : ℕ). (item s.items j).up) k ∙ (u ∙ (sym b.atop.up ∙ ap (λ (y : Item). y.up) (sym top-is)));
-          low = ap (λ (j : ℕ). (item s.items j).low) k ∙ (lo ∙ ap (λ (y : Item). y.low) (sym top-is));
+          up = ap (λ (j : ℕ). (item s.items j).up) k ∙ (u ∙ (sym b.atop.up ∙ ap (λ (y : StackEntry). y.up) (sym top-is)));
+          low = ap (λ (j : ℕ). (item s.items j).low) k ∙ (lo ∙ ap (λ (y : StackEntry). y.low) (sym top-is));
         });
   }

@@ -7,14 +7,14 @@ use Rattle.pair_split.proofs.Elements.{length-weaker}
 use Rattle.pair_split.proofs.SameEntries.{same-separation}
 use Rattle.pair_split.proofs.Replaced.{lifted, lifted-inside, lifted-outside}
 use Rattle.pair_split.proofs.Minimal.{lifted-separation}
-use Rattle.split_comp.specs.declared.items.Item.{Item}
+use Rattle.split_comp.specs.declared.items.StackEntry.{StackEntry}
 use Rattle.split_comp.specs.Stack.{item, entry, family, IsBad, IsTopped}
 use Rattle.split_comp.specs.Sides.{IsLeast}
 use Rattle.split_comp.proofs.Entries.{family-cases, rest-contains}
 use Rattle.split_comp.proofs.Renewed.{IsRenewed, end-old, left-within, within-left, family-new}
 
 -- a side that each bad side holds is minimal
-pub least-minimal : (stack : List Item) (rest : List Entry) (side : ℕ → Bool) → ((y : Entry) → Contains rest y → side y.name ≡ false) → IsLeast stack rest side → IsMinimal (family stack rest) side
+pub least-minimal : (stack : List StackEntry) (rest : List Entry) (side : ℕ → Bool) → ((y : Entry) → Contains rest y → side y.name ≡ false) → IsLeast stack rest side → IsMinimal (family stack rest) side
 least-minimal stack rest side off least s p q c inside = length-weaker (λ (e : Entry). side e.name) (λ (e : Entry). s e.name) (family stack rest) weaker
   where
     stacked : (y : Entry) → Contains rest y → s y.name ≡ false
@@ -33,9 +33,9 @@ least-minimal stack rest side off least s p q c inside = length-weaker (λ (e : 
     ]
 
 -- with one entry in its place, each bad side holds it
-pub split_off-topped : (last : ℕ → ℕ) (done v k j : ℕ) (keeps : Item → Bool) (side : ℕ → Bool) (x : Item) (old new : List Item) (rest : List Entry) → IsRenewed last done v k j keeps side x old new rest → IsLeast old rest side → IsTopped new rest j
+pub split_off-topped : (last : ℕ → ℕ) (done v k j : ℕ) (keeps : StackEntry → Bool) (side : ℕ → Bool) (x : StackEntry) (old new : List StackEntry) (rest : List Entry) → IsRenewed last done v k j keeps side x old new rest → IsLeast old rest side → IsTopped new rest j
 split_off-topped last done v k j keeps side x old new rest r least s p q b = elim (cases_Bool (s x.name)) [
-  | inl t ↦ ap (λ (y : Item). s y.name) r.top ∙ t
+  | inl t ↦ ap (λ (y : StackEntry). s y.name) r.top ∙ t
   | inr f ↦
       let up = lifted-separation (family old rest) side (entry x) s p q r.separates
       (same-separation (family new rest) (entry x ∷ off_side side (family old rest)) s p q (family-new last done v k j keeps side x old new rest r).names_once

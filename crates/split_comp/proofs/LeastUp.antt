@@ -2,13 +2,13 @@
 use Rattle.std.proofs.Common.{◌≡◌, ℕ, zero, suc, ◌+◌, ◌<◌, ◌≤◌, ◌⊎◌, inl, inr, true, List, length, refl, sym, ap, subst, arith}
 use Rattle.std.proofs.lemmas.Bool.{cases_Bool, cases_lt, cases_eq}
 use Rattle.pair_split.specs.Family.{Entry, has_end}
-use Rattle.split_comp.specs.declared.items.Item.{Item}
+use Rattle.split_comp.specs.declared.items.StackEntry.{StackEntry}
 use Rattle.split_comp.specs.Stack.{item, entry, IsTreeAt, IsStack}
 use Rattle.split_comp.specs.Cuts.{IsLeastUp}
 use Rattle.split_comp.proofs.Entries.{item-ends}
 
 -- the least upper end in a stretch of the stack
-pub record IsLeastIn (stack : List Item) (t n a : ℕ) : Type 0 where
+pub record IsLeastIn (stack : List StackEntry) (t n a : ℕ) : Type 0 where
   pub least : (i : ℕ) → t ≤ i → i < n → a ≤ (item stack i).up
   pub place : ℕ
   pub from : t ≤ place
@@ -16,7 +16,7 @@ pub record IsLeastIn (stack : List Item) (t n a : ℕ) : Type 0 where
   pub attained : (item stack place).up ≡ a
 
 -- there is one
-pub least-in : (stack : List Item) (t n : ℕ) → t < n → (a : ℕ) × IsLeastIn stack t n a
+pub least-in : (stack : List StackEntry) (t n : ℕ) → t < n → (a : ℕ) × IsLeastIn stack t n a
 least-in stack t zero l = absurd (omega (arith, l))
 least-in stack t (suc n) l = elim (cases_eq t n) [
   | inl e ↦ ((item stack n).up, record { least = λ i m w. omega (arith, ap (λ (k : ℕ). (item stack k).up) (same i m w e)); place = n; from = omega (arith, e); within = omega arith; attained = refl })
@@ -32,10 +32,10 @@ least-in stack t (suc n) l = elim (cases_eq t n) [
     same i m w e = omega (arith, m, w, e)
 
 -- two least upper ends are the same
-pub least-same : (stack : List Item) (t a b : ℕ) → IsLeastUp stack t a → IsLeastUp stack t b → a ≡ b
+pub least-same : (stack : List StackEntry) (t a b : ℕ) → IsLeastUp stack t a → IsLeastUp stack t b → a ≡ b
 least-same stack t a b x y = omega (arith, x.least y.place y.from y.within, y.attained, y.least x.place x.from x.within, x.attained)
 
-module _ (last : ℕ → ℕ) (done v : ℕ) (stack : List Item) (rest : List Entry) (s : IsStack last done v stack rest) where
+module _ (last : ℕ → ℕ) (done v : ℕ) (stack : List StackEntry) (rest : List Entry) (s : IsStack last done v stack rest) where
   -- an entry that touches a vertex with a tree edge belongs to it
   pub touching-tree : (z p i : ℕ) → IsTreeAt stack z p → i < length stack → has_end z (entry (item stack i)) ≡ true → ((item stack p).start ≤ i) × (i ≤ p)
   touching-tree z p i t l h = elim (cases_lt i (item stack p).start) [

@@ -6,8 +6,8 @@ use Rattle.multigraph.specs.Graph.{Multigraph, edge_count}
 use Rattle.pair_split.specs.Family.{Entry, on_side, IsSeparation}
 use Rattle.pair_split.proofs.Elements.{length-weaker, element-some}
 use Rattle.pair_split.proofs.Sides.{length-sides, touching-entry}
-use Rattle.split_comp.specs.declared.items.Item.{Item}
-use Rattle.split_comp.specs.declared.items.Triple.{Triple}
+use Rattle.split_comp.specs.declared.items.StackEntry.{StackEntry}
+use Rattle.split_comp.specs.declared.items.StackCut.{StackCut}
 use Rattle.split_comp.specs.declared.items.Dart.{Dart}
 use Rattle.split_comp.specs.Stack.{item, entry, family, owner, IsStack, IsSorted, IsClean, IsReturned}
 use Rattle.split_comp.specs.Palm.{tree_dart, tree_degree, tree_parent, IsFrondTo}
@@ -60,7 +60,7 @@ module _ (g : Multigraph) (t : NumberedTree) (numbered : IsNumbered g t) (w : �
   abbrev start : ℕ
   start = at_place s.start w
 
-  abbrev cuts : List Triple
+  abbrev cuts : List StackCut
   cuts = drop (at_place s.base w) s.cuts
 
   abbrev dart : Dart
@@ -77,7 +77,7 @@ module _ (g : Multigraph) (t : NumberedTree) (numbered : IsNumbered g t) (w : �
   none k l u =
       let some : at_place s.base w < length s.cuts = omega (arith, l, length-drop (at_place s.base w) s.cuts) in
       let e : cut cuts (length cuts - 1) ≡ cut s.cuts (length s.cuts - 1) = get_or-drop (at_place s.base w) s.cuts (length cuts - 1) no_cut ∙ ap (cut s.cuts) (omega (arith, length-drop (at_place s.base w) s.cuts, some)) in
-      last-cut some (sym (ap (λ (y : Triple). y.up) e) ∙ (elim (cases_eq k (length cuts - 1)) [
+      last-cut some (sym (ap (λ (y : StackCut). y.up) e) ∙ (elim (cases_eq k (length cuts - 1)) [
         | inl q ↦ sym (ap (λ (i : ℕ). (cut cuts i).up) q) ∙ u
         | inr q ↦ let d = chain-rises s.items cuts b.raised.sound.chain k (length cuts - 1) (omega (arith, l, q)) (omega (arith, l)) in omega (arith, d.1, u, b.raised.sound.up_within (length cuts - 1) (omega (arith, l)))
       ]))
@@ -125,7 +125,7 @@ module _ (g : Multigraph) (t : NumberedTree) (numbered : IsNumbered g t) (w : �
   family-length : length (family s.items b.raised.rest) ≡ length s.items + length b.raised.rest
   family-length = length-append (entries s.items) b.raised.rest ∙ ap (λ (n : ℕ). n + length b.raised.rest) (length-map s.items entry)
     where
-      entries : List Item → List Entry
+      entries : List StackEntry → List Entry
       entries l = map entry l
 
   -- the cuts of the path to the vertex, without those of w
@@ -154,7 +154,7 @@ module _ (g : Multigraph) (t : NumberedTree) (numbered : IsNumbered g t) (w : �
   old-complete = subst (λ (y : ℕ). AreComplete (at_place s.start y) y (take start s.items) (drop (at_place s.base y) (take (at_place s.base w) s.cuts))) b.raised.parent (b.raised.below.complete_below w w-not parent-not w-path)
 
   -- what lies further up the path, for stacks and cuts that agree in front
-  below-now : (items : List Item) (now : List Triple) → ((y : ℕ) → y ≢ 0 → IsOnPath last s.at y → take (at_place s.start y) items ≡ take (at_place s.start y) s.items) → ((y : ℕ) → y ≢ 0 → IsOnPath last s.at y → take (at_place s.base y) now ≡ take (at_place s.base y) s.cuts)
+  below-now : (items : List StackEntry) (now : List StackCut) → ((y : ℕ) → y ≢ 0 → IsOnPath last s.at y → take (at_place s.start y) items ≡ take (at_place s.start y) s.items) → ((y : ℕ) → y ≢ 0 → IsOnPath last s.at y → take (at_place s.base y) now ≡ take (at_place s.base y) s.cuts)
       → at_place s.base s.at ≤ length now → AreCutsBelow last (tree_parent t.palm t.vertex) s.at (at_place s.start) (at_place s.base) items now
   below-now items now a c within = below-kept last (tree_parent t.palm t.vertex) s.at (at_place s.start) (at_place s.base) s.items items s.cuts now
       (record {
@@ -191,7 +191,7 @@ module _ (g : Multigraph) (t : NumberedTree) (numbered : IsNumbered g t) (w : �
         parts = s.parts ++ record { kind = e.kind; own = record { name = next_name g s; first = slice_index t.vertex dart.reach; second = slice_index t.vertex s.at }; edges = e.edges } ∷ [];
       }
 
-      abbrev x : Item
+      abbrev x : StackEntry
       x = new_frond (next_name g s) s.at dart.reach split_off
 
       abbrev now : PassState
@@ -237,7 +237,7 @@ module _ (g : Multigraph) (t : NumberedTree) (numbered : IsNumbered g t) (w : �
       fewer = omega (arith, held-now.total, b.raised.held.total, split_off-two g t numbered dropped b.raised.rest held-dropped stands.left.is_family all_items start dart.reach s.at side off sep reach-in v-in mid e)
 
       top-up : (item now.items start).up ≡ dart.reach
-      top-up = ap (λ (y : Item). y.up) renewed.top
+      top-up = ap (λ (y : StackEntry). y.up) renewed.top
 
       front-same : (i : ℕ) → i < start → item s.items i ≡ item now.items i
       front-same i l = sym (renewed.same i l)
@@ -253,8 +253,8 @@ module _ (g : Multigraph) (t : NumberedTree) (numbered : IsNumbered g t) (w : �
         held = held-now;
         height = start;
         size = renewed.size;
-        frond = ap (λ (y : Item). y.tree) renewed.top;
-        low = ap (λ (y : Item). y.low) renewed.top;
+        frond = ap (λ (y : StackEntry). y.tree) renewed.top;
+        low = ap (λ (y : StackEntry). y.low) renewed.top;
         stands = stands-now;
         topped = split_off-topped last s.done s.at start start all_items side x s.items now.items b.raised.rest renewed least;
         frames = frames-new last s.done s.at start start all_items side x s.items now.items b.raised.rest renewed (at_place s.start) (λ q. absurd (both_ways x.tree refl q)) b.raised.frames starts;
@@ -271,18 +271,18 @@ module _ (g : Multigraph) (t : NumberedTree) (numbered : IsNumbered g t) (w : �
         ahead = ahead-to start s.items now.items (same-alike start s.items now.items front-same) last (tree_degree t.palm t.vertex) (tree_dart g t.palm t.vertex) (at_place s.gone) (at_place s.gone) s.at b.raised.rest b.raised.rest fewer (λ u. omega arith)
             (record { reach_ahead = λ u q k z p l. b.raised.ahead.reach_ahead u q k z p (omega (arith, l, s-h)); frond_ahead = λ u q k four z p l. b.raised.ahead.frond_ahead u q k four z p (omega (arith, l, s-h)) });
         reach_last = λ q l o.
-            let i = b.raised.ahead_last q (omega (arith, l, s-h)) (ap (λ (y : Item). owner y) (front-same q l) ∙ o) in
-            (i.0, omega (arith, i.1, ap (λ (y : Item). y.start) (front-same q l)), i.2, omega (arith, i.3, top-up, ap (λ (y : Item). y.up) (front-same i.0 (omega (arith, i.2, l)))));
-        frond_last = λ q four l o f. elim (b.raised.frond_last q (omega (arith, four, fewer)) (omega (arith, l, s-h)) (ap (λ (y : Item). owner y) (front-same q l) ∙ o) (ap (λ (y : Item). y.tree) (front-same q l) ∙ f)) [
-          | inl k ↦ omega (arith, k, top-up, ap (λ (y : Item). y.up) (front-same q l))
-          | inr k ↦ omega (arith, k.0, top-up, ap (λ (y : Item). y.up) (front-same q l))
+            let i = b.raised.ahead_last q (omega (arith, l, s-h)) (ap (λ (y : StackEntry). owner y) (front-same q l) ∙ o) in
+            (i.0, omega (arith, i.1, ap (λ (y : StackEntry). y.start) (front-same q l)), i.2, omega (arith, i.3, top-up, ap (λ (y : StackEntry). y.up) (front-same i.0 (omega (arith, i.2, l)))));
+        frond_last = λ q four l o f. elim (b.raised.frond_last q (omega (arith, four, fewer)) (omega (arith, l, s-h)) (ap (λ (y : StackEntry). owner y) (front-same q l) ∙ o) (ap (λ (y : StackEntry). y.tree) (front-same q l) ∙ f)) [
+          | inl k ↦ omega (arith, k, top-up, ap (λ (y : StackEntry). y.up) (front-same q l))
+          | inr k ↦ omega (arith, k.0, top-up, ap (λ (y : StackEntry). y.up) (front-same q l))
         ];
         next = λ k a l. elim (next-darts k a l) [ inl q ↦ inl (omega (arith, q, top-up)) | inr q ↦ inr (omega (arith, q.0, top-up), omega (arith, q.1, class-two)) ];
         starts = b.raised.child_start;
         below = below-now now.items (take (at_place s.base w) s.cuts) (λ y z p. alike-take now.items s.items (at_place s.start y) (omega (arith, starts y z p, renewed.size)) (omega (arith, starts y z p, s-h, h-here)) (λ i l. renewed.same i (omega (arith, l, starts y z p))))
             (λ y z p. take-take (at_place s.base y) (at_place s.base w) s.cuts (base-w g t w s b.raised y z (up-path g t w s b.raised y p))) (omega (arith, base-rises, length-take-le (at_place s.base w) s.cuts base-within));
-        sound = subst (λ (l : List Item). AreSound (at_place s.start s.at) s.at l (drop (at_place s.base s.at) (take (at_place s.base w) s.cuts))) front-items old-sound;
-        complete = subst (λ (l : List Item). AreComplete (at_place s.start s.at) s.at l (drop (at_place s.base s.at) (take (at_place s.base w) s.cuts))) front-items old-complete;
+        sound = subst (λ (l : List StackEntry). AreSound (at_place s.start s.at) s.at l (drop (at_place s.base s.at) (take (at_place s.base w) s.cuts))) front-items old-sound;
+        complete = subst (λ (l : List StackEntry). AreComplete (at_place s.start s.at) s.at l (drop (at_place s.base s.at) (take (at_place s.base w) s.cuts))) front-items old-complete;
       }
         where
           front-items : take start s.items ≡ take start now.items
@@ -357,7 +357,7 @@ module _ (g : Multigraph) (t : NumberedTree) (numbered : IsNumbered g t) (w : �
           omega (arith, more, d.separates.two_outside, length-sides (family s.items b.raised.rest) u, side-length, kept z, b.raised.held.total, s-h, h-here)
     ]
 
-    pass-on : (now : List Triple) → AreCutsBelow last (tree_parent t.palm t.vertex) s.at (at_place s.start) (at_place s.base) s.items now → AreSound (at_place s.start s.at) s.at s.items (drop (at_place s.base s.at) now)
+    pass-on : (now : List StackCut) → AreCutsBelow last (tree_parent t.palm t.vertex) s.at (at_place s.start) (at_place s.base) s.items now → AreSound (at_place s.start s.at) s.at s.items (drop (at_place s.base s.at) now)
         → AreComplete (at_place s.start s.at) s.at s.items (drop (at_place s.base s.at) now) → IsPass g t (record s { cuts = now })
     pass-on more below sound complete = record {
       palm = b.raised.palm;
@@ -378,7 +378,7 @@ module _ (g : Multigraph) (t : NumberedTree) (numbered : IsNumbered g t) (w : �
     }
 
     -- (b) a further dart is noted
-    module _ (late : at_place s.start s.at < start) (now : List Triple) (n : IsNoted (at_place s.base s.at) (record { start = start; up = dart.reach; low = s.at }) (take (at_place s.base w) s.cuts) now) where
+    module _ (late : at_place s.start s.at < start) (now : List StackCut) (n : IsNoted (at_place s.base s.at) (record { start = start; up = dart.reach; low = s.at }) (take (at_place s.base w) s.cuts) now) where
       abbrev base : ℕ
       base = at_place s.base s.at
 
@@ -406,10 +406,10 @@ module _ (g : Multigraph) (t : NumberedTree) (numbered : IsNumbered g t) (w : �
         | inr e ↦
             let at : cut (drop base n.kept) (length (drop base n.kept) - 1) ≡ cut n.kept (length n.kept - 1) = get_or-drop base n.kept (length (drop base n.kept) - 1) no_cut ∙ ap (cut n.kept) (omega (arith, kept-length, m)) in
             elim (cases_eq k (length (drop base n.kept) - 1)) [
-              | inl q ↦ omega (arith, ap (λ (j : ℕ). (cut (drop base n.kept) j).up) q, ap (λ (c : Triple). c.up) at, e)
+              | inl q ↦ omega (arith, ap (λ (j : ℕ). (cut (drop base n.kept) j).up) q, ap (λ (c : StackCut). c.up) at, e)
               | inr q ↦
                   let c = chain-rises (take start s.items) (drop base n.kept ++ n.taken.popped) sound-old.chain k (length (drop base n.kept) - 1) (omega (arith, m, q)) (omega (arith, m, length-append (drop base n.kept) n.taken.popped)) in
-                  omega (arith, c.1, ap (λ (c : Triple). c.up) (cut-left (drop base n.kept) n.taken.popped k m), ap (λ (c : Triple). c.up) (cut-left (drop base n.kept) n.taken.popped (length (drop base n.kept) - 1) (omega (arith, m))), ap (λ (c : Triple). c.up) at, e)
+                  omega (arith, c.1, ap (λ (c : StackCut). c.up) (cut-left (drop base n.kept) n.taken.popped k m), ap (λ (c : StackCut). c.up) (cut-left (drop base n.kept) n.taken.popped (length (drop base n.kept) - 1) (omega (arith, m))), ap (λ (c : StackCut). c.up) at, e)
             ]
       ]
 
@@ -419,23 +419,23 @@ module _ (g : Multigraph) (t : NumberedTree) (numbered : IsNumbered g t) (w : �
       owned : owner (item s.items b.raised.height) ≡ s.at
       owned = tree-owner (item s.items b.raised.height) b.raised.atop.tree ∙ b.raised.atop.up
 
-      list-cases : (p : List Triple) → (p ≡ []) ⊎ ((c : Triple) × (more : List Triple) × (p ≡ c ∷ more))
+      list-cases : (p : List StackCut) → (p ≡ []) ⊎ ((c : StackCut) × (more : List StackCut) × (p ≡ c ∷ more))
       list-cases [] = inl refl
       list-cases (c ∷ more) = inr (c, more, refl)
 
       sound-now : AreSound (at_place s.start s.at) s.at s.items (drop base now)
       sound-now = subst (AreSound (at_place s.start s.at) s.at s.items) (sym now-drop) (elim (list-cases n.taken.popped) [
-        | inl e ↦ subst (λ (c : Triple). AreSound (at_place s.start s.at) s.at s.items (drop base n.kept ++ c ∷ [])) (sym (n.taken.none e))
+        | inl e ↦ subst (λ (c : StackCut). AreSound (at_place s.start s.at) s.at s.items (drop base n.kept ++ c ∷ [])) (sym (n.taken.none e))
             (note-sound-new last s.done s.at (at_place s.start s.at) start dart.reach h (take start s.items) s.items b.raised.rest (drop base n.kept) n.taken.popped stands front late b.raised.atop.size owned b.raised.atop.start (omega (arith, s-h)) reach-up reach-less sound-old lower n.taken.lower e)
-        | inr e ↦ subst (λ (c : Triple). AreSound (at_place s.start s.at) s.at s.items (drop base n.kept ++ c ∷ [])) (sym (n.taken.some e.0 e.1 e.2))
+        | inr e ↦ subst (λ (c : StackCut). AreSound (at_place s.start s.at) s.at s.items (drop base n.kept ++ c ∷ [])) (sym (n.taken.some e.0 e.1 e.2))
             (note-sound-old last s.done s.at (at_place s.start s.at) start dart.reach h (take start s.items) s.items b.raised.rest (drop base n.kept) n.taken.popped stands front late b.raised.atop.size owned b.raised.atop.start (omega (arith, s-h)) reach-up reach-less sound-old lower n.taken.lower e.0 e.1 e.2)
       ])
 
       complete-now : AreComplete (at_place s.start s.at) s.at s.items (drop base now)
       complete-now = subst (AreComplete (at_place s.start s.at) s.at s.items) (sym now-drop) (elim (list-cases n.taken.popped) [
-        | inl e ↦ subst (λ (c : Triple). AreComplete (at_place s.start s.at) s.at s.items (drop base n.kept ++ c ∷ [])) (sym (n.taken.none e))
+        | inl e ↦ subst (λ (c : StackCut). AreComplete (at_place s.start s.at) s.at s.items (drop base n.kept ++ c ∷ [])) (sym (n.taken.none e))
             (note-complete-new last s.done s.at (at_place s.start s.at) start dart.reach h (take start s.items) s.items b.raised.rest (drop base n.kept) n.taken.popped stands front late b.raised.atop.size owned b.raised.atop.start (omega (arith, s-h)) reach-up reach-less sound-old lower n.taken.lower b.raised.atop.topped complete-old e)
-        | inr e ↦ subst (λ (c : Triple). AreComplete (at_place s.start s.at) s.at s.items (drop base n.kept ++ c ∷ [])) (sym (n.taken.some e.0 e.1 e.2))
+        | inr e ↦ subst (λ (c : StackCut). AreComplete (at_place s.start s.at) s.at s.items (drop base n.kept ++ c ∷ [])) (sym (n.taken.some e.0 e.1 e.2))
             (note-complete-old last s.done s.at (at_place s.start s.at) start dart.reach h (take start s.items) s.items b.raised.rest (drop base n.kept) n.taken.popped stands front late b.raised.atop.size owned b.raised.atop.start (omega (arith, s-h)) reach-up reach-less sound-old lower n.taken.lower b.raised.atop.topped complete-old e.0 e.1 e.2)
       ])
 
@@ -454,7 +454,7 @@ module _ (g : Multigraph) (t : NumberedTree) (numbered : IsNumbered g t) (w : �
           )
 
     -- (c) the first dart: cuts before which the vertex is met are dropped
-    module _ (first-dart : start ≤ at_place s.start s.at) (now : List Triple) (d : IsDropped (at_place s.base w) (slice_index s.first s.at) s.cuts now) where
+    module _ (first-dart : start ≤ at_place s.start s.at) (now : List StackCut) (d : IsDropped (at_place s.base w) (slice_index s.first s.at) s.cuts now) where
       start-same : at_place s.start s.at ≡ start
       start-same = omega (arith, first-dart, b.raised.child_start)
 
@@ -485,10 +485,10 @@ module _ (g : Multigraph) (t : NumberedTree) (numbered : IsNumbered g t) (w : �
           at = cut-right (drop (at_place s.base w) now) d.popped k
 
           start-in : (cut d.popped k).start < length s.items
-          start-in = omega (arith, (sounds.each (length (drop (at_place s.base w) now) + k) (omega (arith, l, length-append (drop (at_place s.base w) now) d.popped)) (λ u o. none-here u)).within, ap (λ (y : Triple). y.start) at)
+          start-in = omega (arith, (sounds.each (length (drop (at_place s.base w) now) + k) (omega (arith, l, length-append (drop (at_place s.base w) now) d.popped)) (λ u o. none-here u)).within, ap (λ (y : StackCut). y.start) at)
             where
               none-here : (cut (drop (at_place s.base w) now ++ d.popped) (length (drop (at_place s.base w) now) + k)).up ≡ s.at → ⊥
-              none-here u = none (length (drop (at_place s.base w) now) + k) (omega (arith, l, ap length split-c, length-append (drop (at_place s.base w) now) d.popped)) (ap (λ (c : List Triple). (cut c (length (drop (at_place s.base w) now) + k)).up) split-c ∙ u)
+              none-here u = none (length (drop (at_place s.base w) now) + k) (omega (arith, l, ap length split-c, length-append (drop (at_place s.base w) now) d.popped)) (ap (λ (c : List StackCut). (cut c (length (drop (at_place s.base w) now) + k)).up) split-c ∙ u)
 
           few : length s.items < 4294967295
           few = omega (arith, b.raised.held.few, b.raised.held.total, family-length, numbered.limits.few_edges)
@@ -512,23 +512,23 @@ module _ (g : Multigraph) (t : NumberedTree) (numbered : IsNumbered g t) (w : �
 
           kept-le : (cut (drop (at_place s.base w) now) k).start ≤ (cut now (length now - 1)).start
           kept-le = elim (cases_eq k (length (drop (at_place s.base w) now) - 1)) [
-            | inl q ↦ omega (arith, ap (λ (i : ℕ). (cut (drop (at_place s.base w) now) i).start) q, ap (λ (c : Triple). c.start) end-at)
+            | inl q ↦ omega (arith, ap (λ (i : ℕ). (cut (drop (at_place s.base w) now) i).start) q, ap (λ (c : StackCut). c.start) end-at)
             | inr q ↦
                 let c = chain-rises s.items (drop (at_place s.base w) now ++ d.popped) sounds.chain k (length (drop (at_place s.base w) now) - 1) (omega (arith, l, q)) (omega (arith, l, length-append (drop (at_place s.base w) now) d.popped)) in
-                omega (arith, c.0, ap (λ (y : Triple). y.start) at, ap (λ (y : Triple). y.start) (cut-left (drop (at_place s.base w) now) d.popped (length (drop (at_place s.base w) now) - 1) (omega (arith, l))), ap (λ (y : Triple). y.start) end-at)
+                omega (arith, c.0, ap (λ (y : StackCut). y.start) at, ap (λ (y : StackCut). y.start) (cut-left (drop (at_place s.base w) now) d.popped (length (drop (at_place s.base w) now) - 1) (omega (arith, l))), ap (λ (y : StackCut). y.start) end-at)
           ]
 
           kept-in : (cut (drop (at_place s.base w) now) k).start < length s.items
-          kept-in = omega (arith, (sounds.each k (omega (arith, l, length-append (drop (at_place s.base w) now) d.popped)) (λ u o. none-here u)).within, ap (λ (y : Triple). y.start) at)
+          kept-in = omega (arith, (sounds.each k (omega (arith, l, length-append (drop (at_place s.base w) now) d.popped)) (λ u o. none-here u)).within, ap (λ (y : StackCut). y.start) at)
             where
               none-here : (cut (drop (at_place s.base w) now ++ d.popped) k).up ≡ s.at → ⊥
-              none-here u = none k (omega (arith, l, ap length split-c, length-append (drop (at_place s.base w) now) d.popped)) (ap (λ (c : List Triple). (cut c k).up) split-c ∙ u)
+              none-here u = none k (omega (arith, l, ap length split-c, length-append (drop (at_place s.base w) now) d.popped)) (ap (λ (c : List StackCut). (cut c k).up) split-c ∙ u)
 
       pub killed-pass : IsPass g t (record s { cuts = now })
       killed-pass = pass-on now (below-now s.items now (λ y z p. refl)
           (λ y z p. sym (take-append-le (at_place s.base y) now d.popped (base-le y z p)) ∙ ap (take (at_place s.base y)) (sym d.parts)) (omega (arith, base-rises, d.from)))
           (subst (λ (y : ℕ). AreSound (at_place s.start s.at) s.at s.items (drop y now)) (sym base-same) (subst (λ (y : ℕ). AreSound y s.at s.items (drop (at_place s.base w) now)) (sym start-same)
-          (kill-sound last s.done s.at start h s.items b.raised.rest (drop (at_place s.base w) now) d.popped back sounds (λ k l u. none k (omega (arith, l, ap length split-c)) (ap (λ (c : List Triple). (cut c k).up) split-c ∙ u)) not-met)))
+          (kill-sound last s.done s.at start h s.items b.raised.rest (drop (at_place s.base w) now) d.popped back sounds (λ k l u. none k (omega (arith, l, ap length split-c)) (ap (λ (c : List StackCut). (cut c k).up) split-c ∙ u)) not-met)))
           (subst (λ (y : ℕ). AreComplete (at_place s.start s.at) s.at s.items (drop y now)) (sym base-same) (subst (λ (y : ℕ). AreComplete y s.at s.items (drop (at_place s.base w) now)) (sym start-same)
           (kill-complete last s.done s.at start h s.items b.raised.rest (drop (at_place s.base w) now) d.popped back (at_place s.start) b.raised.not_root b.raised.frames start-same
           (subst (AreCompleteAt start s.at (item s.items b.raised.height).low s.items) split-c b.raised.complete) first-met)))

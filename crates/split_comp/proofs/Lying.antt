@@ -3,32 +3,32 @@ use Rattle.std.proofs.Common.{◌≡◌, ◌≢◌, ℕ, zero, suc, ◌+◌, ◌
 use Rattle.std.proofs.lemmas.Bool.{cases_Bool, cases_lt, cases_eq, both_ways, not_from_false}
 use Rattle.pair_split.specs.Family.{Entry, has_end, is_common}
 use Rattle.pair_split.proofs.Sides.{common-from}
-use Rattle.split_comp.specs.declared.items.Item.{Item}
+use Rattle.split_comp.specs.declared.items.StackEntry.{StackEntry}
 use Rattle.split_comp.specs.Stack.{item, entry, family, owner, IsTreeAt, IsStack}
 use Rattle.split_comp.specs.Frames.{AreFrames}
 use Rattle.split_comp.proofs.Entries.{up-end, low-end, stack-contains}
 use Rattle.split_comp.proofs.LeastUp.{touching-tree}
 
 -- the vertex of which an entry is a dart is one of its ends
-pub owner-end : (x : Item) → has_end (owner x) (entry x) ≡ true
+pub owner-end : (x : StackEntry) → has_end (owner x) (entry x) ≡ true
 owner-end x = elim (cases_Bool x.tree) [
   | inl e ↦ up-end (owner x) x (rw e refl)
   | inr e ↦ low-end (owner x) x (rw e refl)
 ]
 
-pub owner-tree : (x : Item) (b : ℕ) → owner x ≡ b → x.tree ≡ true → x.up ≡ b
+pub owner-tree : (x : StackEntry) (b : ℕ) → owner x ≡ b → x.tree ≡ true → x.up ≡ b
 owner-tree x b o e = sym (rw e refl) ∙ o
 
-pub owner-frond : (x : Item) (b : ℕ) → owner x ≡ b → x.tree ≡ false → x.low ≡ b
+pub owner-frond : (x : StackEntry) (b : ℕ) → owner x ≡ b → x.tree ≡ false → x.low ≡ b
 owner-frond x b o e = sym (rw e refl) ∙ o
 
-pub tree-owner : (x : Item) → x.tree ≡ true → owner x ≡ x.up
+pub tree-owner : (x : StackEntry) → x.tree ≡ true → owner x ≡ x.up
 tree-owner x e = rw e refl
 
-pub frond-owner : (x : Item) → x.tree ≡ false → owner x ≡ x.low
+pub frond-owner : (x : StackEntry) → x.tree ≡ false → owner x ≡ x.low
 frond-owner x e = rw e refl
 
-module _ (last : ℕ → ℕ) (done v : ℕ) (stack : List Item) (rest : List Entry) (s : IsStack last done v stack rest) where
+module _ (last : ℕ → ℕ) (done v : ℕ) (stack : List StackEntry) (rest : List Entry) (s : IsStack last done v stack rest) where
   -- a vertex has one tree edge
   pub same-tree : (x p q : ℕ) → IsTreeAt stack x p → IsTreeAt stack x q → p ≡ q
   same-tree x p q a b =

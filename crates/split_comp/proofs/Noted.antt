@@ -4,8 +4,8 @@ use Rattle.std.proofs.lemmas.Bool.{cases_Bool, cases_lt, cases_eq, both_ways, lt
 use Rattle.std.proofs.lemmas.List.{length-append, get_or_append_left, get_or_push, get_or-append_right}
 use Rattle.std.proofs.lemmas.List.Elements.{Contains-append_left, Contains-append_cases, Contains-push}
 use Rattle.pair_split.specs.Family.{Entry, has_end, touches}
-use Rattle.split_comp.specs.declared.items.Item.{Item}
-use Rattle.split_comp.specs.declared.items.Triple.{Triple}
+use Rattle.split_comp.specs.declared.items.StackEntry.{StackEntry}
+use Rattle.split_comp.specs.declared.items.StackCut.{StackCut}
 use Rattle.split_comp.specs.Stack.{item, entry, owner, IsTreeAt, IsStack, IsTopped}
 use Rattle.split_comp.specs.Cuts.{no_cut, cut, IsLeastUp, IsAcross, IsBefore, IsStart, IsFirstBelow, IsSoundCut, IsChain, AreSound, IsWanted, AreComplete}
 use Rattle.split_comp.proofs.Entries.{item-ends, up-end, low-end, place-of}
@@ -13,52 +13,52 @@ use Rattle.split_comp.proofs.LeastUp.{IsLeastIn, least-in, least-same, touching-
 use Rattle.split_comp.proofs.Stretch.{side_at, side-place, IsShared, stretch-not}
 
 -- the list is the front part of the stack, up to place t
-pub record IsFront (old stack : List Item) (t : ℕ) : Type 0 where
+pub record IsFront (old stack : List StackEntry) (t : ℕ) : Type 0 where
   pub size : length old ≡ t
   pub within : t ≤ length stack
   pub same : (i : ℕ) → i < t → item old i ≡ item stack i
 
-module _ (old stack : List Item) (t : ℕ) (f : IsFront old stack t) where
+module _ (old stack : List StackEntry) (t : ℕ) (f : IsFront old stack t) where
   pub front-start : (b u : ℕ) → IsStart old b u → IsStart stack b u
-  front-start b u s = let e = f.same s.place (omega (arith, s.within, f.size)) in record { place = s.place; within = omega (arith, s.within, f.size, f.within); owned = subst (λ (y : Item). owner y ≡ b) e s.owned; starts = subst (λ (y : Item). y.start ≡ u) e s.starts }
+  front-start b u s = let e = f.same s.place (omega (arith, s.within, f.size)) in record { place = s.place; within = omega (arith, s.within, f.size, f.within); owned = subst (λ (y : StackEntry). owner y ≡ b) e s.owned; starts = subst (λ (y : StackEntry). y.start ≡ u) e s.starts }
 
   pub front-below : (s b : ℕ) → IsFirstBelow old s b → IsFirstBelow stack s b
   front-below s b h = let e = f.same h.place (omega (arith, h.tree_at.within, f.size)) in record {
     place = h.place;
-    tree_at = record { within = omega (arith, h.tree_at.within, f.size, f.within); tree = subst (λ (y : Item). y.tree ≡ true) e h.tree_at.tree; low = subst (λ (y : Item). y.low ≡ b) e h.tree_at.low };
-    starts = subst (λ (y : Item). y.start ≡ s) e h.starts;
+    tree_at = record { within = omega (arith, h.tree_at.within, f.size, f.within); tree = subst (λ (y : StackEntry). y.tree ≡ true) e h.tree_at.tree; low = subst (λ (y : StackEntry). y.low ≡ b) e h.tree_at.low };
+    starts = subst (λ (y : StackEntry). y.start ≡ s) e h.starts;
   }
 
   pub below-front : (s b : ℕ) → (h : IsFirstBelow stack s b) → h.place < t → IsFirstBelow old s b
   below-front s b h l = let e = sym (f.same h.place l) in record {
     place = h.place;
-    tree_at = record { within = omega (arith, l, f.size); tree = subst (λ (y : Item). y.tree ≡ true) e h.tree_at.tree; low = subst (λ (y : Item). y.low ≡ b) e h.tree_at.low };
-    starts = subst (λ (y : Item). y.start ≡ s) e h.starts;
+    tree_at = record { within = omega (arith, l, f.size); tree = subst (λ (y : StackEntry). y.tree ≡ true) e h.tree_at.tree; low = subst (λ (y : StackEntry). y.low ≡ b) e h.tree_at.low };
+    starts = subst (λ (y : StackEntry). y.start ≡ s) e h.starts;
   }
 
   pub front-before : (u z : ℕ) → u ≤ t → IsBefore old u z → IsBefore stack u z
-  front-before u z l b = record { place = b.place; within = b.within; end = subst (λ (y : Item). has_end z (entry y) ≡ true) (f.same b.place (omega (arith, b.within, l))) b.end }
+  front-before u z l b = record { place = b.place; within = b.within; end = subst (λ (y : StackEntry). has_end z (entry y) ≡ true) (f.same b.place (omega (arith, b.within, l))) b.end }
 
   pub before-front : (u z : ℕ) → u ≤ t → IsBefore stack u z → IsBefore old u z
-  before-front u z l b = record { place = b.place; within = b.within; end = subst (λ (y : Item). has_end z (entry y) ≡ true) (sym (f.same b.place (omega (arith, b.within, l)))) b.end }
+  before-front u z l b = record { place = b.place; within = b.within; end = subst (λ (y : StackEntry). has_end z (entry y) ≡ true) (sym (f.same b.place (omega (arith, b.within, l)))) b.end }
 
 -- a cut of a list in two parts
-pub cut-left : (kept popped : List Triple) (k : ℕ) → k < length kept → cut (kept ++ popped) k ≡ cut kept k
+pub cut-left : (kept popped : List StackCut) (k : ℕ) → k < length kept → cut (kept ++ popped) k ≡ cut kept k
 cut-left kept popped k l = get_or_append_left kept popped no_cut k l
 
-pub cut-push : (kept : List Triple) (c : Triple) (k : ℕ) → k ≡ length kept → cut (kept ++ c ∷ []) k ≡ c
+pub cut-push : (kept : List StackCut) (c : StackCut) (k : ℕ) → k ≡ length kept → cut (kept ++ c ∷ []) k ≡ c
 cut-push kept c k e = get_or_push kept c no_cut k (sym e)
 
-pub cut-right : (kept popped : List Triple) (k : ℕ) → cut (kept ++ popped) (length kept + k) ≡ cut popped k
+pub cut-right : (kept popped : List StackCut) (k : ℕ) → cut (kept ++ popped) (length kept + k) ≡ cut popped k
 cut-right kept popped k = get_or-append_right kept popped (length kept) (length kept + k) no_cut refl (omega arith) ∙ ap (cut popped) (omega arith)
 
 -- a front part of a chain is one
-pub chain-front : (stack : List Item) (kept popped : List Triple) → IsChain stack (kept ++ popped) → IsChain stack kept
+pub chain-front : (stack : List StackEntry) (kept popped : List StackCut) → IsChain stack (kept ++ popped) → IsChain stack kept
 chain-front stack kept popped c = record {
-  starts_rise = λ k l. omega (arith, c.starts_rise k (more k l), ap (λ (y : Triple). y.start) (at k l), ap (λ (y : Triple). y.start) (next k l));
-  ups_rise = λ k l. omega (arith, c.ups_rise k (more k l), ap (λ (y : Triple). y.up) (at k l), ap (λ (y : Triple). y.up) (next k l));
-  lows_fall = λ k l. omega (arith, c.lows_fall k (more k l), ap (λ (y : Triple). y.low) (at k l), ap (λ (y : Triple). y.low) (next k l));
-  met = λ k l. let m = c.met k (more k l) in (m.0, omega (arith, m.1, ap (λ (y : Triple). y.start) (at k l)), omega (arith, m.2, ap (λ (y : Triple). y.start) (next k l)), m.3, m.4 ∙ ap (λ (y : Triple). y.up) (at k l));
+  starts_rise = λ k l. omega (arith, c.starts_rise k (more k l), ap (λ (y : StackCut). y.start) (at k l), ap (λ (y : StackCut). y.start) (next k l));
+  ups_rise = λ k l. omega (arith, c.ups_rise k (more k l), ap (λ (y : StackCut). y.up) (at k l), ap (λ (y : StackCut). y.up) (next k l));
+  lows_fall = λ k l. omega (arith, c.lows_fall k (more k l), ap (λ (y : StackCut). y.low) (at k l), ap (λ (y : StackCut). y.low) (next k l));
+  met = λ k l. let m = c.met k (more k l) in (m.0, omega (arith, m.1, ap (λ (y : StackCut). y.start) (at k l)), omega (arith, m.2, ap (λ (y : StackCut). y.start) (next k l)), m.3, m.4 ∙ ap (λ (y : StackCut). y.up) (at k l));
 }
   where
     more : (k : ℕ) → k + 1 < length kept → k + 1 < length (kept ++ popped)
@@ -71,7 +71,7 @@ chain-front stack kept popped c = record {
     next k l = cut-left kept popped (k + 1) l
 
 -- places of a chain rise, and upper ends rise weakly
-pub chain-rises : (stack : List Item) (cuts : List Triple) → IsChain stack cuts → (j k : ℕ) → j < k → k < length cuts → ((cut cuts j).start < (cut cuts k).start) × ((cut cuts j).up ≤ (cut cuts k).up) × ((cut cuts k).low ≤ (cut cuts j).low)
+pub chain-rises : (stack : List StackEntry) (cuts : List StackCut) → IsChain stack cuts → (j k : ℕ) → j < k → k < length cuts → ((cut cuts j).start < (cut cuts k).start) × ((cut cuts j).up ≤ (cut cuts k).up) × ((cut cuts k).low ≤ (cut cuts j).low)
 chain-rises stack cuts c j zero l m = absurd (omega (arith, l))
 chain-rises stack cuts c j (suc k) l m = elim (cases_eq j k) [
   | inl e ↦ let a = c.starts_rise k (omega (arith, m)) in let b = c.ups_rise k (omega (arith, m)) in let d = c.lows_fall k (omega (arith, m)) in
@@ -94,7 +94,7 @@ chain-rises stack cuts c j (suc k) l m = elim (cases_eq j k) [
     cut-low : ℕ → ℕ
     cut-low i = (cut cuts i).low
 
-module _ (last : ℕ → ℕ) (done v s t l h : ℕ) (old stack : List Item) (rest : List Entry) (kept popped : List Triple) (stands : IsStack last done v stack rest) (f : IsFront old stack t) (from : s < t)
+module _ (last : ℕ → ℕ) (done v s t l h : ℕ) (old stack : List StackEntry) (rest : List Entry) (kept popped : List StackCut) (stands : IsStack last done v stack rest) (f : IsFront old stack t) (from : s < t)
     (size : length stack ≡ h + 1) (owned : owner (item stack h) ≡ v) (starts : (item stack h).start ≡ t) (below : t ≤ h) (leastup : IsLeastUp stack t l) (less : l < v)
     (sound : AreSound s v old (kept ++ popped)) (lower : (k : ℕ) → k < length kept → (cut kept k).up ≤ l) (higher : (k : ℕ) → k < length popped → l < (cut popped k).up) where
   -- a vertex behind v that is met on both sides of a place in front of t is so in front of t
@@ -103,17 +103,17 @@ module _ (last : ℕ → ℕ) (done v s t l h : ℕ) (old stack : List Item) (re
     | inl b ↦ record {
       low = a.low;
       low_within = a.low_within;
-      low_end = subst (λ (y : Item). has_end z (entry y) ≡ true) (sym (f.same a.low (omega (arith, a.low_within, m)))) a.low_end;
+      low_end = subst (λ (y : StackEntry). has_end z (entry y) ≡ true) (sym (f.same a.low (omega (arith, a.low_within, m)))) a.low_end;
       high = a.high;
       high_from = a.high_from;
       high_within = omega (arith, b, f.size);
-      high_end = subst (λ (y : Item). has_end z (entry y) ≡ true) (sym (f.same a.high b)) a.high_end;
+      high_end = subst (λ (y : StackEntry). has_end z (entry y) ≡ true) (sym (f.same a.high b)) a.high_end;
     }
     | inr b ↦ absurd (top-apart last done v stack rest stands h t size starts z a.low a.high g (omega (arith, a.low_within, m)) b a.high_within a.low_end a.high_end)
   ]
 
   -- a cut that was sound, with its upper end as it is now
-  sound-now : (c : Triple) (a : ℕ) → IsSoundCut s v old c → IsLeastUp stack c.start a → a < v → IsSoundCut s v stack (record { start = c.start; up = a; low = c.low })
+  sound-now : (c : StackCut) (a : ℕ) → IsSoundCut s v old c → IsLeastUp stack c.start a → a < v → IsSoundCut s v stack (record { start = c.start; up = a; low = c.low })
   sound-now c a x m b =
       let u : c.start < t = omega (arith, x.within, f.size) in
       record {
@@ -131,19 +131,19 @@ module _ (last : ℕ → ℕ) (done v s t l h : ℕ) (old stack : List Item) (re
   least-now : (u a : ℕ) → u < t → IsLeastUp old u a → a ≤ l → IsLeastUp stack u a
   least-now u a m x b = record {
     least = λ i n w. elim (cases_lt i t) [
-      | inl g ↦ omega (arith, x.least i n (omega (arith, g, f.size)), ap (λ (y : Item). y.up) (f.same i g))
+      | inl g ↦ omega (arith, x.least i n (omega (arith, g, f.size)), ap (λ (y : StackEntry). y.up) (f.same i g))
       | inr g ↦ omega (arith, b, leastup.least i g w)
     ];
     place = x.place;
     from = x.from;
     within = omega (arith, x.within, f.size, f.within);
-    attained = ap (λ (y : Item). y.up) (sym (f.same x.place (omega (arith, x.within, f.size)))) ∙ x.attained;
+    attained = ap (λ (y : StackEntry). y.up) (sym (f.same x.place (omega (arith, x.within, f.size)))) ∙ x.attained;
   }
 
   least-top : (u a : ℕ) → u ≤ t → IsLeastUp old u a → l ≤ a → IsLeastUp stack u l
   least-top u a m x b = record {
     least = λ i n w. elim (cases_lt i t) [
-      | inl g ↦ omega (arith, x.least i n (omega (arith, g, f.size)), ap (λ (y : Item). y.up) (f.same i g), b)
+      | inl g ↦ omega (arith, x.least i n (omega (arith, g, f.size)), ap (λ (y : StackEntry). y.up) (f.same i g), b)
       | inr g ↦ leastup.least i g w
     ];
     place = leastup.place;
@@ -159,7 +159,7 @@ module _ (last : ℕ → ℕ) (done v s t l h : ℕ) (old stack : List Item) (re
   kept-sound k m = let x = old-cut k m in sound-now (cut kept k) (cut kept k).up x (least-now (cut kept k).start (cut kept k).up (omega (arith, x.within, f.size)) x.least (lower k m)) x.up
 
   -- all cuts that are kept, and one more
-  sound-push : (c : Triple) → IsSoundCut s v stack c
+  sound-push : (c : StackCut) → IsSoundCut s v stack c
       → ((k : ℕ) → k + 1 ≡ length kept → ((cut kept k).start < c.start) × ((cut kept k).up ≤ c.up) × (c.low ≤ (cut kept k).low) × ((i : ℕ) × ((cut kept k).start ≤ i) × (i < c.start) × (i < length stack) × ((item stack i).up ≡ (cut kept k).up)))
       → AreSound s v stack (kept ++ c ∷ [])
   sound-push c x last-two = record {
@@ -175,7 +175,7 @@ module _ (last : ℕ → ℕ) (done v s t l h : ℕ) (old stack : List Item) (re
     };
   }
     where
-      Two : Triple → Triple → Type 0
+      Two : StackCut → StackCut → Type 0
       Two a b = (a.start < b.start) × (a.up ≤ b.up) × (b.low ≤ a.low) × ((i : ℕ) × (a.start ≤ i) × (i < b.start) × (i < length stack) × ((item stack i).up ≡ a.up))
 
       two : (k : ℕ) → k + 1 < length (kept ++ c ∷ []) → Two (cut (kept ++ c ∷ []) k) (cut (kept ++ c ∷ []) (k + 1))
@@ -185,15 +185,15 @@ module _ (last : ℕ → ℕ) (done v s t l h : ℕ) (old stack : List Item) (re
             let g : cut (kept ++ popped) (k + 1) ≡ cut (kept ++ c ∷ []) (k + 1) = cut-left kept popped (k + 1) a ∙ sym (cut-left kept (c ∷ []) (k + 1) a) in
             let n : k + 1 < length (kept ++ popped) = omega (arith, a, length-append kept popped) in
             let w = sound.chain.met k n in
-            subst (λ (p : Triple × Triple). Two p.0 p.1) (λ i. (e i, g i)) (
+            subst (λ (p : StackCut × StackCut). Two p.0 p.1) (λ i. (e i, g i)) (
               sound.chain.starts_rise k n,
               sound.chain.ups_rise k n,
               sound.chain.lows_fall k n,
-              (w.0, w.1, w.2, omega (arith, w.3, f.size, f.within), ap (λ (y : Item). y.up) (sym (f.same w.0 (omega (arith, w.3, f.size)))) ∙ w.4),
+              (w.0, w.1, w.2, omega (arith, w.3, f.size, f.within), ap (λ (y : StackEntry). y.up) (sym (f.same w.0 (omega (arith, w.3, f.size)))) ∙ w.4),
             )
         | inr a ↦
             let b : k + 1 ≡ length kept = omega (arith, a, m, length-append kept (c ∷ [])) in
-            subst (λ (p : Triple × Triple). Two p.0 p.1) (λ i. (sym (cut-left kept (c ∷ []) k (omega (arith, b))) i, sym (cut-push kept c (k + 1) b) i)) (last-two k b)
+            subst (λ (p : StackCut × StackCut). Two p.0 p.1) (λ i. (sym (cut-left kept (c ∷ []) k (omega (arith, b))) i, sym (cut-push kept c (k + 1) b) i)) (last-two k b)
       ]
 
   pub note-sound-new : popped ≡ [] → AreSound s v stack (kept ++ record { start = t; up = l; low = v } ∷ [])
@@ -209,27 +209,27 @@ module _ (last : ℕ → ℕ) (done v s t l h : ℕ) (old stack : List Item) (re
         own = λ n w. absurd (n refl);
       })
       (λ k b. let x = old-cut k (omega (arith, b)) in let u : (cut kept k).start < t = omega (arith, x.within, f.size) in
-      (u, lower k (omega (arith, b)), low-of (cut kept k).low x.below, (x.least.place, x.least.from, omega (arith, x.least.within, f.size), omega (arith, x.least.within, f.size, f.within), ap (λ (y : Item). y.up) (sym (f.same x.least.place (omega (arith, x.least.within, f.size)))) ∙ x.least.attained)))
+      (u, lower k (omega (arith, b)), low-of (cut kept k).low x.below, (x.least.place, x.least.from, omega (arith, x.least.within, f.size), omega (arith, x.least.within, f.size, f.within), ap (λ (y : StackEntry). y.up) (sym (f.same x.least.place (omega (arith, x.least.within, f.size)))) ∙ x.least.attained)))
     where
       low-of : (b : ℕ) → (b ≡ v) ⊎ IsFirstBelow old s b → v ≤ b
       low-of b (inl q) = omega (arith, q)
       low-of b (inr q) = let g = front-below old stack t f s b q in omega (arith, stands.laid.finished g.place g.tree_at.within g.tree_at.tree, g.tree_at.low, stands.left.ahead)
 
-  pub note-sound-old : (c : Triple) (more : List Triple) → popped ≡ c ∷ more → AreSound s v stack (kept ++ record { start = c.start; up = l; low = c.low } ∷ [])
+  pub note-sound-old : (c : StackCut) (more : List StackCut) → popped ≡ c ∷ more → AreSound s v stack (kept ++ record { start = c.start; up = l; low = c.low } ∷ [])
   note-sound-old c more e =
-      let z : cut (kept ++ popped) (length kept) ≡ c = ap (cut (kept ++ popped)) (omega arith) ∙ cut-right kept popped 0 ∙ ap (λ (p : List Triple). cut p 0) e in
+      let z : cut (kept ++ popped) (length kept) ≡ c = ap (cut (kept ++ popped)) (omega arith) ∙ cut-right kept popped 0 ∙ ap (λ (p : List StackCut). cut p 0) e in
       let n : length kept < length (kept ++ popped) = omega (arith, length-append kept popped, ap length e) in
       let x : IsSoundCut s v old c = subst (IsSoundCut s v old) z (sound.each (length kept) n) in
-      let g : l < c.up = omega (arith, higher 0 (omega (arith, ap length e)), ap (λ (p : List Triple). (cut p 0).up) e) in
+      let g : l < c.up = omega (arith, higher 0 (omega (arith, ap length e)), ap (λ (p : List StackCut). (cut p 0).up) e) in
       sound-push (record { start = c.start; up = l; low = c.low }) (sound-now c l x (least-top c.start c.up (omega (arith, x.within, f.size)) x.least (omega (arith, g))) less)
       (λ k b.
       let p : cut (kept ++ popped) k ≡ cut kept k = cut-left kept popped k (omega (arith, b)) in
       let q : cut (kept ++ popped) (k + 1) ≡ c = ap (cut (kept ++ popped)) b ∙ z in
       let w = sound.chain.met k (omega (arith, b, n)) in (
-        omega (arith, sound.chain.starts_rise k (omega (arith, b, n)), ap (λ (y : Triple). y.start) p, ap (λ (y : Triple). y.start) q),
+        omega (arith, sound.chain.starts_rise k (omega (arith, b, n)), ap (λ (y : StackCut). y.start) p, ap (λ (y : StackCut). y.start) q),
         lower k (omega (arith, b)),
-        omega (arith, sound.chain.lows_fall k (omega (arith, b, n)), ap (λ (y : Triple). y.low) p, ap (λ (y : Triple). y.low) q),
-        (w.0, omega (arith, w.1, ap (λ (y : Triple). y.start) p), omega (arith, w.2, ap (λ (y : Triple). y.start) q), omega (arith, w.3, f.size, f.within), ap (λ (y : Item). y.up) (sym (f.same w.0 (omega (arith, w.3, f.size)))) ∙ (w.4 ∙ ap (λ (y : Triple). y.up) p)),
+        omega (arith, sound.chain.lows_fall k (omega (arith, b, n)), ap (λ (y : StackCut). y.low) p, ap (λ (y : StackCut). y.low) q),
+        (w.0, omega (arith, w.1, ap (λ (y : StackCut). y.start) p), omega (arith, w.2, ap (λ (y : StackCut). y.start) q), omega (arith, w.3, f.size, f.within), ap (λ (y : StackEntry). y.up) (sym (f.same w.0 (omega (arith, w.3, f.size)))) ∙ (w.4 ∙ ap (λ (y : StackCut). y.up) p)),
       ))
 
   -- a tree edge behind t that starts in front of t: there is none
@@ -355,7 +355,7 @@ module _ (last : ℕ → ℕ) (done v s t l h : ℕ) (old stack : List Item) (re
   pub note-complete-in : IsTopped stack rest h → AreComplete s v old (kept ++ popped) → (t' a b : ℕ) → IsWanted s stack t' a b → (b ≡ v) ⊎ IsFirstBelow stack s b → a < v
       → Contains kept (record { start = t'; up = a; low = b })
       ⊎ ((popped ≡ []) × (t' ≡ t) × (a ≡ l) × (b ≡ v))
-      ⊎ ((c : Triple) × (more : List Triple) × (popped ≡ c ∷ more) × (t' ≡ c.start) × (a ≡ l) × (b ≡ c.low))
+      ⊎ ((c : StackCut) × (more : List StackCut) × (popped ≡ c ∷ more) × (t' ≡ c.start) × (a ≡ l) × (b ≡ c.low))
   note-complete-in topped complete t' a b w below-b less-a = elim (cases_lt w.starts.place t) [
     | inr far ↦ elim (cases_eq w.starts.place h) [
       | inr n ↦ absurd (inner w.starts.place far (omega (arith, w.starts.within, size, n)) w.starts.owned below-b)
@@ -367,24 +367,24 @@ module _ (last : ℕ → ℕ) (done v s t l h : ℕ) (old stack : List Item) (re
             | inl q ↦ inr (inl (q, tt', al, bv))
             | inr q ↦
                 let x = head-cut q.0 q.1 q.2 in
-                absurd (w.free q.0.up (omega (arith, al, head-up q.0 q.1 q.2)) (omega (arith, bv, x.up)) (record { place = x.least.place; within = omega (arith, x.least.within, f.size, tt'); end = up-end q.0.up (item stack x.least.place) (sym x.least.attained ∙ ap (λ (y : Item). y.up) (f.same x.least.place (omega (arith, x.least.within, f.size)))) }))
+                absurd (w.free q.0.up (omega (arith, al, head-up q.0 q.1 q.2)) (omega (arith, bv, x.up)) (record { place = x.least.place; within = omega (arith, x.least.within, f.size, tt'); end = up-end q.0.up (item stack x.least.place) (sym x.least.attained ∙ ap (λ (y : StackEntry). y.up) (f.same x.least.place (omega (arith, x.least.within, f.size)))) }))
           ]
     ]
     | inl near ↦ front-case near (least-in old t' t (omega (arith, near, start-le near)))
   ]
     where
-      list-cases : (p : List Triple) → (p ≡ []) ⊎ ((c : Triple) × (more : List Triple) × (p ≡ c ∷ more))
+      list-cases : (p : List StackCut) → (p ≡ []) ⊎ ((c : StackCut) × (more : List StackCut) × (p ≡ c ∷ more))
       list-cases [] = inl refl
       list-cases (c ∷ more) = inr (c, more, refl)
 
-      head-place : (c : Triple) (more : List Triple) → popped ≡ c ∷ more → (length kept < length (kept ++ popped)) × (cut (kept ++ popped) (length kept) ≡ c)
-      head-place c more e = (omega (arith, length-append kept popped, ap length e), ap (cut (kept ++ popped)) (omega arith) ∙ cut-right kept popped 0 ∙ ap (λ (p : List Triple). cut p 0) e)
+      head-place : (c : StackCut) (more : List StackCut) → popped ≡ c ∷ more → (length kept < length (kept ++ popped)) × (cut (kept ++ popped) (length kept) ≡ c)
+      head-place c more e = (omega (arith, length-append kept popped, ap length e), ap (cut (kept ++ popped)) (omega arith) ∙ cut-right kept popped 0 ∙ ap (λ (p : List StackCut). cut p 0) e)
 
-      head-cut : (c : Triple) (more : List Triple) → popped ≡ c ∷ more → IsSoundCut s v old c
+      head-cut : (c : StackCut) (more : List StackCut) → popped ≡ c ∷ more → IsSoundCut s v old c
       head-cut c more e = let p = head-place c more e in subst (IsSoundCut s v old) p.1 (sound.each (length kept) p.0)
 
-      head-up : (c : Triple) (more : List Triple) → popped ≡ c ∷ more → l < c.up
-      head-up c more e = omega (arith, higher 0 (omega (arith, ap length e)), ap (λ (p : List Triple). (cut p 0).up) e)
+      head-up : (c : StackCut) (more : List StackCut) → popped ≡ c ∷ more → l < c.up
+      head-up c more e = omega (arith, higher 0 (omega (arith, ap length e)), ap (λ (p : List StackCut). (cut p 0).up) e)
 
       -- an entry inside what belongs to the top is no dart of v or of a vertex whose entries start at s
       inner : (r : ℕ) → t ≤ r → r < h → owner (item stack r) ≡ b → (b ≡ v) ⊎ IsFirstBelow stack s b → ⊥
@@ -405,7 +405,7 @@ module _ (last : ℕ → ℕ) (done v s t l h : ℕ) (old stack : List Item) (re
       ]
 
       old-start : w.starts.place < t → IsStart old b t'
-      old-start m = let e = sym (f.same w.starts.place m) in record { place = w.starts.place; within = omega (arith, m, f.size); owned = subst (λ (y : Item). owner y ≡ b) e w.starts.owned; starts = subst (λ (y : Item). y.start ≡ t') e w.starts.starts }
+      old-start m = let e = sym (f.same w.starts.place m) in record { place = w.starts.place; within = omega (arith, m, f.size); owned = subst (λ (y : StackEntry). owner y ≡ b) e w.starts.owned; starts = subst (λ (y : StackEntry). y.start ≡ t') e w.starts.starts }
 
       old-below : (b ≡ v) ⊎ IsFirstBelow old s b
       old-below = elim below-b [
@@ -429,7 +429,7 @@ module _ (last : ℕ → ℕ) (done v s t l h : ℕ) (old stack : List Item) (re
       b-v = elim tree-below [ inl q ↦ omega (arith, q) | inr q ↦ omega (arith, stands.laid.finished q.0 q.1.within q.1.tree, q.1.low, stands.left.ahead) ]
 
       Answer : Type 0
-      Answer = Contains kept (record { start = t'; up = a; low = b }) ⊎ ((popped ≡ []) × (t' ≡ t) × (a ≡ l) × (b ≡ v)) ⊎ ((c : Triple) × (more : List Triple) × (popped ≡ c ∷ more) × (t' ≡ c.start) × (a ≡ l) × (b ≡ c.low))
+      Answer = Contains kept (record { start = t'; up = a; low = b }) ⊎ ((popped ≡ []) × (t' ≡ t) × (a ≡ l) × (b ≡ v)) ⊎ ((c : StackCut) × (more : List StackCut) × (popped ≡ c ∷ more) × (t' ≡ c.start) × (a ≡ l) × (b ≡ c.low))
 
       old-least : (a₀ : ℕ) → IsLeastIn old t' t a₀ → IsLeastUp old t' a₀
       old-least a₀ x = record { least = λ i m n. x.least i m (omega (arith, n, f.size)); place = x.place; from = x.from; within = omega (arith, x.within, f.size); attained = x.attained }
@@ -444,58 +444,58 @@ module _ (last : ℕ → ℕ) (done v s t l h : ℕ) (old stack : List Item) (re
             let e : a ≡ x.0 = least-same stack t' a x.0 w.least (least-now t' x.0 (omega (arith, start-le m, m)) (old-least x.0 x.1) low) in
             elim (Contains-append_cases kept popped (record { start = t'; up = x.0; low = b }) (was m x.0 (omega (arith, e)) (old-least x.0 x.1) (omega (arith, e, less-a)))) [
               | inl c ↦ inl (subst (λ (k : ℕ). Contains kept (record { start = t'; up = k; low = b })) (sym e) c)
-              | inr c ↦ let p = place-of popped (record { start = t'; up = x.0; low = b }) no_cut c in absurd (omega (arith, higher p.0 p.1, ap (λ (y : Triple). y.up) p.2, low))
+              | inr c ↦ let p = place-of popped (record { start = t'; up = x.0; low = b }) no_cut c in absurd (omega (arith, higher p.0 p.1, ap (λ (y : StackCut). y.up) p.2, low))
             ]
         | inl high ↦
             let e : a ≡ l = least-same stack t' a l w.least (least-top t' x.0 (omega (arith, start-le m, m)) (old-least x.0 x.1) (omega (arith, high))) in
             elim (cases_lt x.0 v) [
-              | inr g ↦ absurd (not-low topped t' b w.starts.place m w.starts.owned w.starts.starts tree-below (λ y c d o. w.free y (omega (arith, c, e)) d o) (λ i c d. omega (arith, x.1.least i c d, ap (λ (y : Item). y.up) (f.same i d), g)))
+              | inr g ↦ absurd (not-low topped t' b w.starts.place m w.starts.owned w.starts.starts tree-below (λ y c d o. w.free y (omega (arith, c, e)) d o) (λ i c d. omega (arith, x.1.least i c d, ap (λ (y : StackEntry). y.up) (f.same i d), g)))
               | inl g ↦ elim (Contains-append_cases kept popped (record { start = t'; up = x.0; low = b }) (was m x.0 (omega (arith, e, high)) (old-least x.0 x.1) g)) [
-                | inl c ↦ let p = place-of kept (record { start = t'; up = x.0; low = b }) no_cut c in absurd (omega (arith, lower p.0 p.1, ap (λ (y : Triple). y.up) p.2, high))
+                | inl c ↦ let p = place-of kept (record { start = t'; up = x.0; low = b }) no_cut c in absurd (omega (arith, lower p.0 p.1, ap (λ (y : StackCut). y.up) p.2, high))
                 | inr c ↦ inr (inr (changed x.0 (list-cases popped) (place-of popped (record { start = t'; up = x.0; low = b }) no_cut c) e))
               ]
             ]
       ]
         where
-          changed : (a₀ : ℕ) → (popped ≡ []) ⊎ ((c : Triple) × (more : List Triple) × (popped ≡ c ∷ more)) → (i : ℕ) × (i < length popped) × (cut popped i ≡ record { start = t'; up = a₀; low = b }) → a ≡ l
-              → (c : Triple) × (more : List Triple) × (popped ≡ c ∷ more) × (t' ≡ c.start) × (a ≡ l) × (b ≡ c.low)
+          changed : (a₀ : ℕ) → (popped ≡ []) ⊎ ((c : StackCut) × (more : List StackCut) × (popped ≡ c ∷ more)) → (i : ℕ) × (i < length popped) × (cut popped i ≡ record { start = t'; up = a₀; low = b }) → a ≡ l
+              → (c : StackCut) × (more : List StackCut) × (popped ≡ c ∷ more) × (t' ≡ c.start) × (a ≡ l) × (b ≡ c.low)
           changed a₀ (inl q) p e = absurd (omega (arith, p.1, ap length q))
           changed a₀ (inr q) p e = elim (cases_eq p.0 0) [
             | inl z ↦
-                let same : q.0 ≡ record { start = t'; up = a₀; low = b } = sym (ap (λ (k : List Triple). cut k 0) q.2) ∙ (ap (cut popped) (sym z) ∙ p.2) in
-                (q.0, q.1, q.2, sym (ap (λ (y : Triple). y.start) same), e, sym (ap (λ (y : Triple). y.low) same))
+                let same : q.0 ≡ record { start = t'; up = a₀; low = b } = sym (ap (λ (k : List StackCut). cut k 0) q.2) ∙ (ap (cut popped) (sym z) ∙ p.2) in
+                (q.0, q.1, q.2, sym (ap (λ (y : StackCut). y.start) same), e, sym (ap (λ (y : StackCut). y.low) same))
             | inr z ↦
                 let n = head-place q.0 q.1 q.2 in
                 let next : length kept + 1 < length (kept ++ popped) = omega (arith, length-append kept popped, p.1, z) in
                 let met = sound.chain.met (length kept) next in
                 let at : cut (kept ++ popped) (length kept + p.0) ≡ record { start = t'; up = a₀; low = b } = cut-right kept popped p.0 ∙ p.2 in
                 let later : (cut (kept ++ popped) (length kept + 1)).start ≤ t' = elim (cases_eq p.0 1) [
-                  | inl one ↦ omega (arith, ap (λ (k : ℕ). (cut (kept ++ popped) (length kept + k)).start) one, ap (λ (y : Triple). y.start) at)
-                  | inr more ↦ omega (arith, (chain-rises old (kept ++ popped) sound.chain (length kept + 1) (length kept + p.0) (omega (arith, z, more)) (omega (arith, length-append kept popped, p.1))).0, ap (λ (y : Triple). y.start) at)
+                  | inl one ↦ omega (arith, ap (λ (k : ℕ). (cut (kept ++ popped) (length kept + k)).start) one, ap (λ (y : StackCut). y.start) at)
+                  | inr more ↦ omega (arith, (chain-rises old (kept ++ popped) sound.chain (length kept + 1) (length kept + p.0) (omega (arith, z, more)) (omega (arith, length-append kept popped, p.1))).0, ap (λ (y : StackCut). y.start) at)
                 ] in
                 absurd (w.free q.0.up (omega (arith, e, head-up q.0 q.1 q.2)) (omega (arith, (head-cut q.0 q.1 q.2).up, b-v))
-                (record { place = met.0; within = omega (arith, met.2, later); end = up-end q.0.up (item stack met.0) (sym (ap (λ (y : Item). y.up) (sym (f.same met.0 (omega (arith, met.3, f.size)))) ∙ (met.4 ∙ ap (λ (y : Triple). y.up) n.1))) }))
+                (record { place = met.0; within = omega (arith, met.2, later); end = up-end q.0.up (item stack met.0) (sym (ap (λ (y : StackEntry). y.up) (sym (f.same met.0 (omega (arith, met.3, f.size)))) ∙ (met.4 ∙ ap (λ (y : StackCut). y.up) n.1))) }))
           ]
 
   pub note-complete-new : IsTopped stack rest h → AreComplete s v old (kept ++ popped) → popped ≡ [] → AreComplete s v stack (kept ++ record { start = t; up = l; low = v } ∷ [])
   note-complete-new topped complete e = λ t' a b w q less-a. elim (note-complete-in topped complete t' a b w q less-a) [
     | inl c ↦ Contains-append_left kept (record { start = t; up = l; low = v } ∷ []) (record { start = t'; up = a; low = b }) c
     | inr o ↦ elim o [
-      | inl c ↦ subst (λ (y : Triple). Contains (kept ++ record { start = t; up = l; low = v } ∷ []) y) (λ i. record { start = sym c.1 i; up = sym c.2 i; low = sym c.3 i }) (Contains-push kept (record { start = t; up = l; low = v }))
+      | inl c ↦ subst (λ (y : StackCut). Contains (kept ++ record { start = t; up = l; low = v } ∷ []) y) (λ i. record { start = sym c.1 i; up = sym c.2 i; low = sym c.3 i }) (Contains-push kept (record { start = t; up = l; low = v }))
       | inr c ↦ absurd (omega (arith, ap length e, ap length c.2))
     ]
   ]
 
-  pub note-complete-old : IsTopped stack rest h → AreComplete s v old (kept ++ popped) → (c : Triple) (more : List Triple) → popped ≡ c ∷ more → AreComplete s v stack (kept ++ record { start = c.start; up = l; low = c.low } ∷ [])
+  pub note-complete-old : IsTopped stack rest h → AreComplete s v old (kept ++ popped) → (c : StackCut) (more : List StackCut) → popped ≡ c ∷ more → AreComplete s v stack (kept ++ record { start = c.start; up = l; low = c.low } ∷ [])
   note-complete-old topped complete c more e = λ t' a b w q less-a. elim (note-complete-in topped complete t' a b w q less-a) [
     | inl d ↦ Contains-append_left kept (record { start = c.start; up = l; low = c.low } ∷ []) (record { start = t'; up = a; low = b }) d
     | inr o ↦ elim o [
       | inl d ↦ absurd (omega (arith, ap length e, ap length d.0))
       | inr d ↦
           let same : d.0 ≡ c = head-same d.0 c d.1 more (sym d.2 ∙ e) in
-          subst (λ (y : Triple). Contains (kept ++ record { start = c.start; up = l; low = c.low } ∷ []) y) (λ i. record { start = sym (d.3 ∙ ap (λ (y : Triple). y.start) same) i; up = sym d.4 i; low = sym (d.5 ∙ ap (λ (y : Triple). y.low) same) i }) (Contains-push kept (record { start = c.start; up = l; low = c.low }))
+          subst (λ (y : StackCut). Contains (kept ++ record { start = c.start; up = l; low = c.low } ∷ []) y) (λ i. record { start = sym (d.3 ∙ ap (λ (y : StackCut). y.start) same) i; up = sym d.4 i; low = sym (d.5 ∙ ap (λ (y : StackCut). y.low) same) i }) (Contains-push kept (record { start = c.start; up = l; low = c.low }))
     ]
   ]
     where
-      head-same : (x y : Triple) (xs ys : List Triple) → x ∷ xs ≡ y ∷ ys → x ≡ y
-      head-same x y xs ys h = ap (λ (p : List Triple). cut p 0) h
+      head-same : (x y : StackCut) (xs ys : List StackCut) → x ∷ xs ≡ y ∷ ys → x ≡ y
+      head-same x y xs ys h = ap (λ (p : List StackCut). cut p 0) h

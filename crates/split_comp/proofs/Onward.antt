@@ -2,7 +2,7 @@
 use Rattle.std.proofs.Common.{◌≡◌, ℕ, ◌<◌, ◌≤◌, inl, inr, Bool, length, refl, sym, ap, ◌∙◌, subst, arith}
 use Rattle.std.proofs.lemmas.Bool.{cases_Bool, cases_lt}
 use Rattle.multigraph.specs.Graph.{Multigraph}
-use Rattle.split_comp.specs.declared.items.Item.{Item}
+use Rattle.split_comp.specs.declared.items.StackEntry.{StackEntry}
 use Rattle.split_comp.specs.Stack.{item}
 use Rattle.split_comp.specs.Noting.{IsNoted}
 use Rattle.split_comp.specs.Pass.{NumberedTree, IsNumbered, PassState, at_place, IsPass, IsFronted, CanJoin, IsParallel, IsJoined, IsFrondAdded, IsDartNoted, joined_item, pushed, new_frond}
@@ -36,6 +36,6 @@ module _ (g : Multigraph) (t : NumberedTree) (numbered : IsNumbered g t) (m : Pa
             subst (IsPass g t) (sym (n.2 ∙ ap (λ (z : PassState). record z { cuts = n.0 }) e)) (later-pass g t numbered old fronted none (omega (arith, height, subst (λ (z : PassState). at_place z.start m.at < length m.items) e l)) n.0
             (subst (λ (k : ℕ). IsNoted (at_place old.base m.at) (record { start = k; up = (item old.items k).up; low = m.at }) old.cuts n.0) (sym height)
             (subst (λ (z : PassState). IsNoted (at_place z.base m.at) (record { start = length m.items; up = (item old.items (length m.items)).up; low = m.at }) z.cuts n.0) e
-            (subst (λ (u : ℕ). IsNoted (at_place mid.base m.at) (record { start = length m.items; up = u; low = m.at }) mid.cuts n.0) (sym (ap (λ (z : Item). z.up) (item-last m.items (new_frond name m.at up m) (length m.items) refl))) n.1))))
+            (subst (λ (u : ℕ). IsNoted (at_place mid.base m.at) (record { start = length m.items; up = u; low = m.at }) mid.cuts n.0) (sym (ap (λ (z : StackEntry). z.up) (item-last m.items (new_frond name m.at up m) (length m.items) refl))) n.1))))
         | inr l ↦ subst (IsPass g t) (sym (noted.first l ∙ e)) (first-pass g t numbered old fronted none (omega (arith, height, subst (λ (z : PassState). length m.items ≤ at_place z.start m.at) e l)))
       ]

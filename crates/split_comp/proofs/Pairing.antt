@@ -5,8 +5,8 @@ use Rattle.std.proofs.lemmas.List.{length-append, length-map, length-take-le, le
 use Rattle.std.proofs.lemmas.List.Elements.{Contains-push_cases}
 use Rattle.multigraph.specs.Graph.{Multigraph}
 use Rattle.pair_split.specs.Family.{Entry, has_end, IsSeparation}
-use Rattle.split_comp.specs.declared.items.Item.{Item}
-use Rattle.split_comp.specs.declared.items.Triple.{Triple}
+use Rattle.split_comp.specs.declared.items.StackEntry.{StackEntry}
+use Rattle.split_comp.specs.declared.items.StackCut.{StackCut}
 use Rattle.split_comp.specs.Stack.{no_item, item, entry, family, owner, IsTreeAt, IsStack, IsReturned, AreFirst}
 use Rattle.split_comp.specs.Cuts.{cut, IsSoundAt, AreSoundAt, AreCompleteAt}
 use Rattle.split_comp.specs.Sides.{is_frond_to, IsCutOff, but_frond, IsLeast, HasNoTriangle}
@@ -42,7 +42,7 @@ module _ (g : Multigraph) (t : NumberedTree) (numbered : IsNumbered g t) (w : �
   h-few : b.raised.height < 4294967295
   h-few = omega (arith, b.raised.held.few, b.raised.held.total, length-append (entries s.items) b.raised.rest, length-map s.items entry, h-here, numbered.limits.few_edges)
     where
-      entries : List Item → List Entry
+      entries : List StackEntry → List Entry
       entries l = map entry l
 
   top-low : (top_item s).low ≡ (item s.items b.raised.height).low
@@ -73,13 +73,13 @@ module _ (g : Multigraph) (t : NumberedTree) (numbered : IsNumbered g t) (w : �
       at-h = b.raised.first.least b.raised.height (item s.items b.raised.height).low h-here (low-end (item s.items b.raised.height).low (item s.items b.raised.height) refl)
 
   module _ (fresh : IsStale s.at (at_place s.base w) s → ⊥) (none : IsTriangle s → ⊥) (some : at_place s.base w < length s.cuts) (c-up : (cut s.cuts (length s.cuts - 1)).up ≡ s.at) where
-    abbrev c : Triple
+    abbrev c : StackCut
     c = cut s.cuts (length s.cuts - 1)
 
-    abbrev fewer : List Triple
+    abbrev fewer : List StackCut
     fewer = take (length s.cuts - 1) s.cuts
 
-    abbrev front : List Triple
+    abbrev front : List StackCut
     front = drop (at_place s.base w) (take (length s.cuts - 1) s.cuts)
 
     abbrev start : ℕ
@@ -98,7 +98,7 @@ module _ (g : Multigraph) (t : NumberedTree) (numbered : IsNumbered g t) (w : �
     at-last = cut-push front c (length front) refl
 
     sound : IsSoundAt start s.at (item s.items b.raised.height).low s.items c
-    sound = subst (IsSoundAt start s.at (item s.items b.raised.height).low s.items) at-last (sounds.each (length front) (omega (arith, length-append front (c ∷ []))) (λ u o. other (sym (ap (λ (y : Triple). y.low) at-last) ∙ o)))
+    sound = subst (IsSoundAt start s.at (item s.items b.raised.height).low s.items) at-last (sounds.each (length front) (omega (arith, length-append front (c ∷ []))) (λ u o. other (sym (ap (λ (y : StackCut). y.low) at-last) ∙ o)))
 
     abbrev k : ℕ
     k = c.start
@@ -107,7 +107,7 @@ module _ (g : Multigraph) (t : NumberedTree) (numbered : IsNumbered g t) (w : �
     k-in = sound.within
 
     abbrev side : ℕ → Bool
-    side = side_at s.items (λ i. not (nat_lt i (cut s.cuts (length s.cuts - 1)).start) && goes true s.at (cut s.cuts (length s.cuts - 1)).low (item s.items i))
+    side = side_at s.items (λ i. not (nat_lt i (cut s.cuts (length s.cuts - 1)).start) && goes (Some (s.at, (cut s.cuts (length s.cuts - 1)).low)) (item s.items i))
 
     off : IsCutOff (but_frond s.at c.low) s.items b.raised.rest k side
     off = cut-off (but_frond s.at c.low) s.items b.raised.rest k stands.left.is_family
@@ -134,18 +134,18 @@ module _ (g : Multigraph) (t : NumberedTree) (numbered : IsNumbered g t) (w : �
     held-dropped : IsHeld g t.vertex dropped b.raised.rest
     held-dropped = record { total = b.raised.held.total; state = b.raised.held.state; few = b.raised.held.few; entries = b.raised.held.entries; three = b.raised.held.three; ends = b.raised.held.ends }
 
-    pub pair-can : CanSplitOff g t.vertex (goes true s.at c.low) k s.at c.low dropped
+    pub pair-can : CanSplitOff g t.vertex (goes (Some (s.at, c.low))) k s.at c.low dropped
     pair-can = can-split_off g t numbered dropped b.raised.rest held-dropped stands.left.is_family (but_frond s.at c.low) k s.at c.low side off sep v-in low-in least (omega (arith, k-in))
 
-    module _ (mid : PassState) (e : IsSplitOff g t.vertex (goes true s.at c.low) k s.at c.low dropped mid) where
-      abbrev x : Item
+    module _ (mid : PassState) (e : IsSplitOff g t.vertex (goes (Some (s.at, c.low))) k s.at c.low dropped mid) where
+      abbrev x : StackEntry
       x = new_tree (next_name g s) s.at c.low start
 
       two : 2 ≤ length e.edges
       two = split_off-two g t numbered dropped b.raised.rest held-dropped stands.left.is_family (but_frond s.at c.low) k s.at c.low side off sep v-in low-in mid e
 
       -- a state with these entries and first places
-      abbrev after : List Item → List ℕ → PassState
+      abbrev after : List StackEntry → List ℕ → PassState
       after items first = record dropped {
         items = items;
         first = first;
@@ -176,9 +176,9 @@ module _ (g : Multigraph) (t : NumberedTree) (numbered : IsNumbered g t) (w : �
       front-rises : (i : ℕ) → i < length front → ((cut front i).start < k) × (c.low ≤ (cut front i).low) × ((cut front i).up ≤ s.at)
       front-rises i l =
           let d = chain-rises s.items (front ++ c ∷ []) sounds.chain i (length front) l (omega (arith, length-append front (c ∷ []))) in (
-            omega (arith, d.0, ap (λ (y : Triple). y.start) (front-cut i l), ap (λ (y : Triple). y.start) at-last),
-            omega (arith, d.2, ap (λ (y : Triple). y.low) (front-cut i l), ap (λ (y : Triple). y.low) at-last),
-            omega (arith, d.1, ap (λ (y : Triple). y.up) (front-cut i l), ap (λ (y : Triple). y.up) at-last, c-up),
+            omega (arith, d.0, ap (λ (y : StackCut). y.start) (front-cut i l), ap (λ (y : StackCut). y.start) at-last),
+            omega (arith, d.2, ap (λ (y : StackCut). y.low) (front-cut i l), ap (λ (y : StackCut). y.low) at-last),
+            omega (arith, d.1, ap (λ (y : StackCut). y.up) (front-cut i l), ap (λ (y : StackCut). y.up) at-last, c-up),
           )
 
       front-stale : (i : ℕ) → i < length front → (cut front i).up ≡ s.at → (cut front i).low ≡ (item s.items b.raised.height).low → ⊥
@@ -190,7 +190,7 @@ module _ (g : Multigraph) (t : NumberedTree) (numbered : IsNumbered g t) (w : �
           other-less q = other (sym q)
 
       front-sound : (i : ℕ) → i < length front → IsSoundAt start s.at (item s.items b.raised.height).low s.items (cut front i)
-      front-sound i l = subst (IsSoundAt start s.at (item s.items b.raised.height).low s.items) (front-cut i l) (sounds.each i (omega (arith, l, length-append front (c ∷ []))) (λ u o. front-stale i l (sym (ap (λ (y : Triple). y.up) (front-cut i l)) ∙ u) (sym (ap (λ (y : Triple). y.low) (front-cut i l)) ∙ o)))
+      front-sound i l = subst (IsSoundAt start s.at (item s.items b.raised.height).low s.items) (front-cut i l) (sounds.each i (omega (arith, l, length-append front (c ∷ []))) (λ u o. front-stale i l (sym (ap (λ (y : StackCut). y.up) (front-cut i l)) ∙ u) (sym (ap (λ (y : StackCut). y.low) (front-cut i l)) ∙ o)))
 
       darts-front : (i o : ℕ) → i < length front → (cut front i).start < k → o < length s.items → owner (item s.items o) ≡ (cut front i).low → (item s.items o).start ≡ (cut front i).start → o < k
       darts-front i o l less m p q = elim (cases_eq (cut front i).low c.low) [
@@ -248,7 +248,7 @@ module _ (g : Multigraph) (t : NumberedTree) (numbered : IsNumbered g t) (w : �
                     ]
               ]
 
-      module _ (j : ℕ) (items : List Item) (first : List ℕ) (renewed : IsRenewed b.raised.palm.last s.done s.at k j (but_frond s.at c.low) side x s.items items b.raised.rest)
+      module _ (j : ℕ) (items : List StackEntry) (first : List ℕ) (renewed : IsRenewed b.raised.palm.last s.done s.at k j (but_frond s.at c.low) side x s.items items b.raised.rest)
           (firsts : AreFirst g.vertex_count s.done first items) (fronds : (i : ℕ) → 4 ≤ s.total → i < j → is_frond_to s.at (item items j).low (item items i) ≡ true → i + 1 ≡ j) where
         held-now : IsHeld g t.vertex (after items first) b.raised.rest
         held-now = held-split_off g t numbered dropped b.raised.rest held-dropped stands.left.is_family (but_frond s.at c.low) k s.at c.low side off sep v-in low-in mid (after items first) x e (sym (ap (λ (p : PassState). p.parts) e.now)) (sym (ap (λ (p : PassState). p.total) e.now)) refl refl refl
@@ -262,7 +262,7 @@ module _ (g : Multigraph) (t : NumberedTree) (numbered : IsNumbered g t) (w : �
             (λ i l. omega (arith, (front-rises i l).0)) (λ i l q. absurd (omega (arith, q, (front-rises i l).0))) (λ i l u o. absurd (front-stale i l u o)) darts-front
             (drop-sound start s.at (item s.items b.raised.height).low s.items front c sounds))
             (replaced-complete b.raised.palm.last s.done s.at k j h (but_frond s.at c.low) side x s.items items b.raised.rest renewed refl refl b.raised.atop.size b.raised.atop.tree b.raised.atop.up ups start refl front (front ++ c ∷ [])
-            (λ d m. elim (Contains-push_cases front c d m) [ inl q ↦ inl q | inr q ↦ inr (omega (arith, ap (λ (y : Triple). y.start) q)) ]) completes)
+            (λ d m. elim (Contains-push_cases front c d m) [ inl q ↦ inl q | inr q ↦ inr (omega (arith, ap (λ (y : StackCut). y.start) q)) ]) completes)
             (fewer-lows g t w s b.raised some)
 
         pub pair-starts : (i : ℕ) → i < length (drop (at_place s.base w) (take (length s.cuts - 1) s.cuts)) → (cut (drop (at_place s.base w) (take (length s.cuts - 1) s.cuts)) i).start < pair-raised.height
@@ -280,7 +280,7 @@ module _ (g : Multigraph) (t : NumberedTree) (numbered : IsNumbered g t) (w : �
       front-length : length (take k s.items) ≡ k
       front-length = length-take-le k s.items (omega (arith, k-in))
 
-      trees-go : (y : Item) → y.tree ≡ true → but_frond s.at c.low y ≡ true
+      trees-go : (y : StackEntry) → y.tree ≡ true → but_frond s.at c.low y ≡ true
       trees-go y q = rw q refl
 
       -- no frond stays apart
@@ -289,7 +289,7 @@ module _ (g : Multigraph) (t : NumberedTree) (numbered : IsNumbered g t) (w : �
         now = pushed (after (take k s.items) s.first) x
 
         off-frond : (o : ℕ) → k ≤ o → o < length s.items → is_frond_to s.at c.low (item s.items o) ≡ false
-        off-frond o a l = subst (λ (y : Item). is_frond_to s.at c.low y ≡ false) (get_or-drop k s.items (o - k) no_item ∙ ap (item s.items) (omega (arith, a))) (found (o - k) (omega (arith, a, l, length-drop k s.items)))
+        off-frond o a l = subst (λ (y : StackEntry). is_frond_to s.at c.low y ≡ false) (get_or-drop k s.items (o - k) no_item ∙ ap (item s.items) (omega (arith, a))) (found (o - k) (omega (arith, a, l, length-drop k s.items)))
 
         alone-renewed : IsRenewed b.raised.palm.last s.done s.at k k (but_frond s.at c.low) side x s.items now.items b.raised.rest
         alone-renewed = record {
@@ -322,7 +322,7 @@ module _ (g : Multigraph) (t : NumberedTree) (numbered : IsNumbered g t) (w : �
 
         alone-fronds : (i : ℕ) → 4 ≤ s.total → i < k → is_frond_to s.at (item now.items k).low (item now.items i) ≡ true → i + 1 ≡ k
         alone-fronds i four l p = pair-frond b.raised.palm.last s.done s.at start h s.items b.raised.rest back c sound c-up other (omega (arith, four, b.raised.held.total)) i l
-            (subst (λ (y : Item). is_frond_to s.at c.low y ≡ true) (alone-renewed.same i l) (subst (λ (y : Item). is_frond_to s.at y.low (item now.items i) ≡ true) alone-renewed.top p))
+            (subst (λ (y : StackEntry). is_frond_to s.at c.low y ≡ true) (alone-renewed.same i l) (subst (λ (y : StackEntry). is_frond_to s.at y.low (item now.items i) ≡ true) alone-renewed.top p))
 
         pub alone-raised : IsRaised g t w (pushed (after (take k s.items) s.first) x)
         alone-raised = pair-raised k now.items now.first alone-renewed alone-first alone-fronds
@@ -332,7 +332,7 @@ module _ (g : Multigraph) (t : NumberedTree) (numbered : IsNumbered g t) (w : �
 
       -- a frond stays apart
       module _ (name : ℕ) (found : IsFrondFound s.at c.low (drop k s.items) (Some name)) where
-        abbrev f : Item
+        abbrev f : StackEntry
         f = record { name = name; up = s.at; low = c.low; tree = false; start = k }
 
         abbrev one : PassState
@@ -349,13 +349,13 @@ module _ (g : Multigraph) (t : NumberedTree) (numbered : IsNumbered g t) (w : �
         o-in = omega (arith, found.1, length-drop k s.items)
 
         o-frond : is_frond_to s.at c.low (item s.items o) ≡ true
-        o-frond = subst (λ (y : Item). is_frond_to s.at c.low y ≡ true) (get_or-drop k s.items found.0 no_item) found.2
+        o-frond = subst (λ (y : StackEntry). is_frond_to s.at c.low y ≡ true) (get_or-drop k s.items found.0 no_item) found.2
 
         o-parts : ((item s.items o).tree ≡ false) × ((item s.items o).up ≡ s.at) × ((item s.items o).low ≡ c.low)
         o-parts = frond-parts s.at c.low (item s.items o) o-frond
 
         o-name : name ≡ (item s.items o).name
-        o-name = found.3 ∙ ap (λ (y : Item). y.name) (get_or-drop k s.items found.0 no_item)
+        o-name = found.3 ∙ ap (λ (y : StackEntry). y.name) (get_or-drop k s.items found.0 no_item)
 
         o-entry : entry (item s.items o) ≡ entry f
         o-entry = λ i. record { name = sym o-name i; first = o-parts.1 i; second = o-parts.2 i }
@@ -398,7 +398,7 @@ module _ (g : Multigraph) (t : NumberedTree) (numbered : IsNumbered g t) (w : �
           few = inr refl;
           same = both-same;
           top = item-last (take k s.items ++ f ∷ []) x (k + 1) (sym one-length);
-          mid = λ i a d. (subst (λ (y : Item). is_frond_to s.at c.low y ≡ true) (sym (both-mid i a d)) frond-f, ap (λ (y : Item). y.start) (both-mid i a d), refl);
+          mid = λ i a d. (subst (λ (y : StackEntry). is_frond_to s.at c.low y ≡ true) (sym (both-mid i a d)) frond-f, ap (λ (y : StackEntry). y.start) (both-mid i a d), refl);
           mid_old = λ i a d. (o, omega arith, o-in, o-entry ∙ ap entry (sym (both-mid i a d)), goes-not (is_frond_to s.at c.low (item s.items o)) o-frond);
           mid_new = λ i a l q.
               let same = only i l (goes-back (is_frond_to s.at c.low (item s.items i)) q) in
@@ -445,7 +445,7 @@ module _ (g : Multigraph) (t : NumberedTree) (numbered : IsNumbered g t) (w : �
         both-fronds : (i : ℕ) → 4 ≤ s.total → i < k + 1 → is_frond_to s.at (item both.items (k + 1)).low (item both.items i) ≡ true → i + 1 ≡ k + 1
         both-fronds i four l p = elim (cases_lt i k) [
           | inr a ↦ omega (arith, a, l)
-          | inl a ↦ absurd (omega (arith, a, only i (omega (arith, a, k-in)) (subst (λ (y : Item). is_frond_to s.at c.low y ≡ true) (both-same i a) (subst (λ (y : Item). is_frond_to s.at y.low (item both.items i) ≡ true) both-renewed.top p))))
+          | inl a ↦ absurd (omega (arith, a, only i (omega (arith, a, k-in)) (subst (λ (y : StackEntry). is_frond_to s.at c.low y ≡ true) (both-same i a) (subst (λ (y : StackEntry). is_frond_to s.at y.low (item both.items i) ≡ true) both-renewed.top p))))
         ]
 
         pub both-raised : IsRaised g t w (pushed (pushed (after (take k s.items) s.first) (record { name = name; up = s.at; low = c.low; tree = false; start = k })) x)

@@ -8,7 +8,7 @@ use Rattle.pair_split.proofs.Names.{two-names}
 use Rattle.pair_split.proofs.Degrees.{tight-degree, one-of_two}
 use Rattle.pair_split.proofs.SameEntries.{same-separation}
 use Rattle.pair_split.proofs.Sides.{length-sides, separation-from, exactly_two, touching-entry, touches-from, one-from_entry}
-use Rattle.split_comp.specs.declared.items.Item.{Item}
+use Rattle.split_comp.specs.declared.items.StackEntry.{StackEntry}
 use Rattle.split_comp.specs.Stack.{item, entry, family, owner, IsTreeAt, IsStack, IsSorted, IsBad, IsClean, IsTopped}
 use Rattle.split_comp.specs.Frames.{AreFrames}
 use Rattle.split_comp.specs.Sides.{is_frond_to, IsCutOff, all_items}
@@ -20,24 +20,24 @@ use Rattle.split_comp.proofs.Lying.{owner-end, frond-owner, owner-near, dart-ove
 use Rattle.split_comp.proofs.Stretch.{side_at, side-place, side-rest, side-two, IsShared, shared-from, stretch-not, common-at, common-rest, cut-is}
 
 -- an edge of the rest is pushed, where no side was bad: each bad side has it
-pub push-topped : (old : List Item) (left : List Entry) (x : Item) (new : List Item) (rest : List Entry) → IsPushed old left x new rest → IsFamily (family new rest) → IsClean old left → IsTopped new rest (length old)
+pub push-topped : (old : List StackEntry) (left : List Entry) (x : StackEntry) (new : List StackEntry) (rest : List Entry) → IsPushed old left x new rest → IsFamily (family new rest) → IsClean old left → IsTopped new rest (length old)
 push-topped old left x new rest r f clean s p q b = elim (cases_Bool (s (item new (length old)).name)) [
   | inl t ↦ t
   | inr t ↦ absurd (clean s p q (record {
     separates = same-separation (family new rest) (family old left) s p q f.names_once (pushed-back old left x new rest r) (pushed-within old left x new rest r) b.separates;
-    stacked = λ y c. elim (contains-cases y (entry x) rest (r.into y c)) [ inl e ↦ ap (λ (k : Entry). s k.name) (sym e) ∙ (ap (λ (k : Item). s k.name) (sym (pushed-top old left x new rest r (length old) refl)) ∙ t) | inr d ↦ b.stacked y d ];
+    stacked = λ y c. elim (contains-cases y (entry x) rest (r.into y c)) [ inl e ↦ ap (λ (k : Entry). s k.name) (sym e) ∙ (ap (λ (k : StackEntry). s k.name) (sym (pushed-top old left x new rest r (length old) refl)) ∙ t) | inr d ↦ b.stacked y d ];
   }))
 ]
 
 -- of three entries no side is bad
-pub few-clean : (stack : List Item) (rest : List Entry) → length (family stack rest) ≤ 3 → IsClean stack rest
+pub few-clean : (stack : List StackEntry) (rest : List Entry) → length (family stack rest) ≤ 3 → IsClean stack rest
 few-clean stack rest l s p q b = omega (arith, l, b.separates.two_inside, b.separates.two_outside, length-sides (family stack rest) s)
 
 -- an entry of a bad side is one of the stack
-bad-place : (stack : List Item) (rest : List Entry) (s : ℕ → Bool) (p q : ℕ) → IsBad stack rest s p q → (e : Entry) → Contains (family stack rest) e → s e.name ≡ true → (i : ℕ) × (i < length stack) × (e ≡ entry (item stack i))
+bad-place : (stack : List StackEntry) (rest : List Entry) (s : ℕ → Bool) (p q : ℕ) → IsBad stack rest s p q → (e : Entry) → Contains (family stack rest) e → s e.name ≡ true → (i : ℕ) × (i < length stack) × (e ≡ entry (item stack i))
 bad-place stack rest s p q b e c t = elim (family-cases stack rest e c) [ inl w ↦ w | inr r ↦ absurd (both_ways (s e.name) (b.stacked e r) t) ]
 
-module _ (last : ℕ → ℕ) (done v h : ℕ) (stack : List Item) (rest : List Entry) (s : IsStack last done v stack rest) (size : length stack ≡ h + 1) (topped : IsTopped stack rest h) where
+module _ (last : ℕ → ℕ) (done v h : ℕ) (stack : List StackEntry) (rest : List Entry) (s : IsStack last done v stack rest) (size : length stack ≡ h + 1) (topped : IsTopped stack rest h) where
   -- a bad side whose common vertices are the ends of the last entry has just one other entry, and this is parallel to it
   pub record IsOther (t : ℕ → Bool) : Type 0 where
     pub other : ℕ
@@ -214,7 +214,7 @@ module _ (last : ℕ → ℕ) (done v h : ℕ) (stack : List Item) (rest : List 
       ]
 
 -- a vertex behind v that is met in what belongs to a dart and elsewhere: it is the vertex of the dart, or above it with a tree edge behind
-pub dart-shared : (last : ℕ → ℕ) (done v : ℕ) (stack : List Item) (rest : List Entry) → IsStack last done v stack rest → (r z i j : ℕ) → r < length stack → v < z → (item stack r).start ≤ i → i ≤ r → j < length stack → (j < (item stack r).start) ⊎ (r < j)
+pub dart-shared : (last : ℕ → ℕ) (done v : ℕ) (stack : List StackEntry) (rest : List Entry) → IsStack last done v stack rest → (r z i j : ℕ) → r < length stack → v < z → (item stack r).start ≤ i → i ≤ r → j < length stack → (j < (item stack r).start) ⊎ (r < j)
     → has_end z (entry (item stack i)) ≡ true → has_end z (entry (item stack j)) ≡ true → (z ≡ owner (item stack r)) ⊎ ((z < owner (item stack r)) × ((p : ℕ) × IsTreeAt stack z p × (r < p) × ((item stack p).start ≤ i)))
 dart-shared last done v stack rest s r z i j l g a b m o x y =
     let p = s.ended.held i z (omega (arith, b, l)) x g in
@@ -244,7 +244,7 @@ dart-shared last done v stack rest s r z i j l g a b m o x y =
         out c d (inr e) = omega (arith, d, e)
 
 -- with a frond from v on top, a parallel frond is the entry below it, where each earlier dart of v has an upper end that is no greater
-pub last-frond : (last : ℕ → ℕ) (done v h : ℕ) (start : ℕ → ℕ) (stack : List Item) (rest : List Entry) → IsStack last done v stack rest → v ≢ 0 → AreFrames last v start stack → length stack ≡ h + 1 → IsSorted v h stack rest → 4 ≤ length (family stack rest)
+pub last-frond : (last : ℕ → ℕ) (done v h : ℕ) (start : ℕ → ℕ) (stack : List StackEntry) (rest : List Entry) → IsStack last done v stack rest → v ≢ 0 → AreFrames last v start stack → length stack ≡ h + 1 → IsSorted v h stack rest → 4 ≤ length (family stack rest)
     → (item stack h).tree ≡ false → (item stack h).low ≡ v → (i : ℕ) → i < h → is_frond_to (item stack h).up v (item stack i) ≡ true
     → ((r : ℕ) → r < h → owner (item stack r) ≡ v → (j : ℕ) × ((item stack r).start ≤ j) × (j ≤ r) × ((item stack j).up ≤ (item stack h).up))
     → i + 1 ≡ h
@@ -266,7 +266,7 @@ last-frond last done v h start stack rest s n f size sorted four fr low i l par 
 ]
 
 -- a frond parallel to a tree edge on top is the entry below it
-pub frond-below : (last : ℕ → ℕ) (done v h : ℕ) (stack : List Item) (rest : List Entry) → IsStack last done v stack rest → length stack ≡ h + 1 → (item stack h).tree ≡ true → (item stack h).up ≡ v → IsSorted v h stack rest → 4 ≤ length (family stack rest)
+pub frond-below : (last : ℕ → ℕ) (done v h : ℕ) (stack : List StackEntry) (rest : List Entry) → IsStack last done v stack rest → length stack ≡ h + 1 → (item stack h).tree ≡ true → (item stack h).up ≡ v → IsSorted v h stack rest → 4 ≤ length (family stack rest)
     → (i : ℕ) → i < h → is_frond_to v (item stack h).low (item stack i) ≡ true → i + 1 ≡ h
 frond-below last done v h stack rest s size tr up sorted four i l par = elim (cases_eq (i + 1) h) [
   | inl e ↦ e

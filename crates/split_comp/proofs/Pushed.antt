@@ -7,13 +7,13 @@ use Rattle.pair_split.specs.Family.{Entry, has_end, names, touches, IsFamily, Is
 use Rattle.pair_split.proofs.Elements.{contains-here, contains-later, contains-cases}
 use Rattle.pair_split.proofs.Names.{name-member}
 use Rattle.pair_split.proofs.SameEntries.{IsWithin, same-tight}
-use Rattle.split_comp.specs.declared.items.Item.{Item}
+use Rattle.split_comp.specs.declared.items.StackEntry.{StackEntry}
 use Rattle.split_comp.specs.Stack.{item, entry, family, IsLaid, IsTreeAt, IsStack, AreFirst}
 use Rattle.split_comp.specs.Frames.{AreFrames}
 use Rattle.split_comp.proofs.Entries.{item-ends, up-end, low-end, stack-contains, rest-contains, family-cases, same-item, not-rest, rest-family, family-from, item-front, item-last, length-push}
 
 -- the entry x of the rest is on top now
-pub record IsPushed (old : List Item) (left : List Entry) (x : Item) (new : List Item) (rest : List Entry) : Type 0 where
+pub record IsPushed (old : List StackEntry) (left : List Entry) (x : StackEntry) (new : List StackEntry) (rest : List Entry) : Type 0 where
   pub now : new ≡ old ++ x ∷ []
   pub is_family : IsFamily (family old left)
   pub is_tight : IsTight (family old left)
@@ -21,7 +21,7 @@ pub record IsPushed (old : List Item) (left : List Entry) (x : Item) (new : List
   pub back : IsWithin (entry x ∷ rest) left
   pub rest_family : IsFamily (entry x ∷ rest)
 
-module _ (old : List Item) (left : List Entry) (x : Item) (new : List Item) (rest : List Entry) (r : IsPushed old left x new rest) where
+module _ (old : List StackEntry) (left : List Entry) (x : StackEntry) (new : List StackEntry) (rest : List Entry) (r : IsPushed old left x new rest) where
   abbrev h : ℕ
   h = length old
 
@@ -29,10 +29,10 @@ module _ (old : List Item) (left : List Entry) (x : Item) (new : List Item) (res
   pushed-size = ap length r.now ∙ length-push old x
 
   pub pushed-front : (i : ℕ) → i < length old → item new i ≡ item old i
-  pushed-front i l = ap (λ (s : List Item). item s i) r.now ∙ item-front old x i l
+  pushed-front i l = ap (λ (s : List StackEntry). item s i) r.now ∙ item-front old x i l
 
   pub pushed-top : (i : ℕ) → i ≡ length old → item new i ≡ x
-  pushed-top i e = ap (λ (s : List Item). item s i) r.now ∙ item-last old x i e
+  pushed-top i e = ap (λ (s : List StackEntry). item s i) r.now ∙ item-last old x i e
 
   pub pushed-cases : (i : ℕ) → i < length new → (i < length old) ⊎ (i ≡ length old)
   pushed-cases i l = elim (cases_lt i (length old)) [ inl a ↦ inl a | inr a ↦ inr (omega (arith, a, l, pushed-size)) ]
@@ -64,38 +64,38 @@ module _ (old : List Item) (left : List Entry) (x : Item) (new : List Item) (res
       apart : (i j : ℕ) → i < j → j < length new → (item new i).name ≢ (item new j).name
       apart i j l m e =
           let a : i < length old = omega (arith, l, m, pushed-size) in
-          let b : (item old i).name ≡ (item new j).name = sym (ap (λ (y : Item). y.name) (pushed-front i a)) ∙ e in
+          let b : (item old i).name ≡ (item new j).name = sym (ap (λ (y : StackEntry). y.name) (pushed-front i a)) ∙ e in
           elim (pushed-cases j m) [
-            | inl c ↦ omega (arith, l, same-item old left r.is_family i j a c (b ∙ ap (λ (y : Item). y.name) (pushed-front j c)))
-            | inr c ↦ fresh i a (b ∙ ap (λ (y : Item). y.name) (pushed-top j c))
+            | inl c ↦ omega (arith, l, same-item old left r.is_family i j a c (b ∙ ap (λ (y : StackEntry). y.name) (pushed-front j c)))
+            | inr c ↦ fresh i a (b ∙ ap (λ (y : StackEntry). y.name) (pushed-top j c))
           ]
 
       off : (i : ℕ) (y : Entry) → i < length new → Contains rest y → (item new i).name ≢ y.name
       off i y l c e = elim (pushed-cases i l) [
-        | inl a ↦ not-rest old left r.is_family i y a (r.back y (contains-later y (entry x) rest c)) (sym (ap (λ (z : Item). z.name) (pushed-front i a)) ∙ e)
-        | inr a ↦ both_ways (is_member y.name (names rest)) (subst (λ (z : ℕ). is_member z (names rest) ≡ false) (sym (ap (λ (z : Item). z.name) (pushed-top i a)) ∙ e) (distinct-head x.name (names rest) r.rest_family.names_once)) (name-member rest y c)
+        | inl a ↦ not-rest old left r.is_family i y a (r.back y (contains-later y (entry x) rest c)) (sym (ap (λ (z : StackEntry). z.name) (pushed-front i a)) ∙ e)
+        | inr a ↦ both_ways (is_member y.name (names rest)) (subst (λ (z : ℕ). is_member z (names rest) ≡ false) (sym (ap (λ (z : StackEntry). z.name) (pushed-top i a)) ∙ e) (distinct-head x.name (names rest) r.rest_family.names_once)) (name-member rest y c)
       ]
 
       none : (i : ℕ) → i < length new → (item new i).up ≢ (item new i).low
       none i l e = elim (pushed-cases i l) [
-        | inl a ↦ loops i a (subst (λ (y : Item). y.up ≡ y.low) (pushed-front i a) e)
-        | inr a ↦ n (subst (λ (y : Item). y.up ≡ y.low) (pushed-top i a) e)
+        | inl a ↦ loops i a (subst (λ (y : StackEntry). y.up ≡ y.low) (pushed-front i a) e)
+        | inr a ↦ n (subst (λ (y : StackEntry). y.up ≡ y.low) (pushed-top i a) e)
       ]
 
   pub pushed-tight : IsTight (family new rest)
   pushed-tight = same-tight (family old left) (family new rest) pushed-within pushed-back r.is_tight
 
   -- the lower end of each tree edge is d or greater, and those of the entries that are pushed are not below it
-  front : (P : Item → Type 0) (i : ℕ) → i < length old → P (item old i) → P (item new i)
+  front : (P : StackEntry → Type 0) (i : ℕ) → i < length old → P (item old i) → P (item new i)
   front P i l w = subst P (sym (pushed-front i l)) w
 
-  behind : (P : Item → Type 0) (i : ℕ) → i < length old → P (item new i) → P (item old i)
+  behind : (P : StackEntry → Type 0) (i : ℕ) → i < length old → P (item new i) → P (item old i)
   behind P i l w = subst P (pushed-front i l) w
 
-  at-top : (P : Item → Type 0) (i : ℕ) → i ≡ length old → P x → P (item new i)
+  at-top : (P : StackEntry → Type 0) (i : ℕ) → i ≡ length old → P x → P (item new i)
   at-top P i e w = subst P (sym (pushed-top i e)) w
 
-  of-top : (P : Item → Type 0) (i : ℕ) → i ≡ length old → P (item new i) → P x
+  of-top : (P : StackEntry → Type 0) (i : ℕ) → i ≡ length old → P (item new i) → P x
   of-top P i e w = subst P (pushed-top i e) w
 
   -- how the entries lie, where the new one is a frond or a tree edge
@@ -107,53 +107,53 @@ module _ (old : List Item) (left : List Entry) (x : Item) (new : List Item) (res
     pub pushed-laid : IsLaid last now new
     pushed-laid = record {
       rises = λ i l. elim (pushed-cases i l) [
-        | inl a ↦ front (λ (y : Item). (y.up < y.low) × (y.low < last y.up)) i a (laid.rises i a)
-        | inr a ↦ at-top (λ (y : Item). (y.up < y.low) × (y.low < last y.up)) i a rises
+        | inl a ↦ front (λ (y : StackEntry). (y.up < y.low) × (y.low < last y.up)) i a (laid.rises i a)
+        | inr a ↦ at-top (λ (y : StackEntry). (y.up < y.low) × (y.low < last y.up)) i a rises
       ];
       frond_start = λ i l t. elim (pushed-cases i l) [
-        | inl a ↦ front (λ (y : Item). y.start ≡ i) i a (laid.frond_start i a (behind (λ (y : Item). y.tree ≡ false) i a t))
-        | inr a ↦ at-top (λ (y : Item). y.start ≡ i) i a (frond (of-top (λ (y : Item). y.tree ≡ false) i a t) ∙ sym a)
+        | inl a ↦ front (λ (y : StackEntry). y.start ≡ i) i a (laid.frond_start i a (behind (λ (y : StackEntry). y.tree ≡ false) i a t))
+        | inr a ↦ at-top (λ (y : StackEntry). y.start ≡ i) i a (frond (of-top (λ (y : StackEntry). y.tree ≡ false) i a t) ∙ sym a)
       ];
       tree_start = λ i l t. elim (pushed-cases i l) [
-        | inl a ↦ front (λ (y : Item). y.start < i) i a (laid.tree_start i a (behind (λ (y : Item). y.tree ≡ true) i a t))
-        | inr a ↦ at-top (λ (y : Item). y.start < i) i a (omega (arith, a, (tree (of-top (λ (y : Item). y.tree ≡ true) i a t)).0))
+        | inl a ↦ front (λ (y : StackEntry). y.start < i) i a (laid.tree_start i a (behind (λ (y : StackEntry). y.tree ≡ true) i a t))
+        | inr a ↦ at-top (λ (y : StackEntry). y.start < i) i a (omega (arith, a, (tree (of-top (λ (y : StackEntry). y.tree ≡ true) i a t)).0))
       ];
       inside = λ p i l t b c. elim (pushed-cases p l) [
-        | inl a ↦ front (λ (y : Item). (y.low ≤ (item new i).low) × ((item new i).low < last y.low)) p a (front (λ (y : Item). ((item old p).low ≤ y.low) × (y.low < last (item old p).low)) i (omega (arith, a, c))
-            (laid.inside p i a (behind (λ (y : Item). y.tree ≡ true) p a t) (behind (λ (y : Item). y.start ≤ i) p a b) c))
-        | inr a ↦ at-top (λ (y : Item). (y.low ≤ (item new i).low) × ((item new i).low < last y.low)) p a (elim (cases_lt i (length old)) [
-          | inl d ↦ front (λ (y : Item). (x.low ≤ y.low) × (y.low < last x.low)) i d (let w = (tree (of-top (λ (y : Item). y.tree ≡ true) p a t)).2 i (of-top (λ (y : Item). y.start ≤ i) p a b) d in (w.0, w.1))
-          | inr d ↦ at-top (λ (y : Item). (x.low ≤ y.low) × (y.low < last x.low)) i (omega (arith, a, c, d)) (omega arith, above x.low)
+        | inl a ↦ front (λ (y : StackEntry). (y.low ≤ (item new i).low) × ((item new i).low < last y.low)) p a (front (λ (y : StackEntry). ((item old p).low ≤ y.low) × (y.low < last (item old p).low)) i (omega (arith, a, c))
+            (laid.inside p i a (behind (λ (y : StackEntry). y.tree ≡ true) p a t) (behind (λ (y : StackEntry). y.start ≤ i) p a b) c))
+        | inr a ↦ at-top (λ (y : StackEntry). (y.low ≤ (item new i).low) × ((item new i).low < last y.low)) p a (elim (cases_lt i (length old)) [
+          | inl d ↦ front (λ (y : StackEntry). (x.low ≤ y.low) × (y.low < last x.low)) i d (let w = (tree (of-top (λ (y : StackEntry). y.tree ≡ true) p a t)).2 i (of-top (λ (y : StackEntry). y.start ≤ i) p a b) d in (w.0, w.1))
+          | inr d ↦ at-top (λ (y : StackEntry). (x.low ≤ y.low) × (y.low < last x.low)) i (omega (arith, a, c, d)) (omega arith, above x.low)
         ])
       ];
       outside = λ p i l t m g. elim (pushed-cases p l) [
-        | inl a ↦ front (λ (y : Item). ((item new i).low < y.low) ⊎ (last y.low ≤ (item new i).low)) p a (elim (pushed-cases i m) [
-          | inl d ↦ front (λ (y : Item). (y.low < (item old p).low) ⊎ (last (item old p).low ≤ y.low)) i d (laid.outside p i a (behind (λ (y : Item). y.tree ≡ true) p a t) d (behind (λ (y : Item). (i < y.start) ⊎ (p < i)) p a g))
-          | inr d ↦ at-top (λ (y : Item). (y.low < (item old p).low) ⊎ (last (item old p).low ≤ y.low)) i d (inl (omega (arith, low, laid.finished p a (behind (λ (y : Item). y.tree ≡ true) p a t))))
+        | inl a ↦ front (λ (y : StackEntry). ((item new i).low < y.low) ⊎ (last y.low ≤ (item new i).low)) p a (elim (pushed-cases i m) [
+          | inl d ↦ front (λ (y : StackEntry). (y.low < (item old p).low) ⊎ (last (item old p).low ≤ y.low)) i d (laid.outside p i a (behind (λ (y : StackEntry). y.tree ≡ true) p a t) d (behind (λ (y : StackEntry). (i < y.start) ⊎ (p < i)) p a g))
+          | inr d ↦ at-top (λ (y : StackEntry). (y.low < (item old p).low) ⊎ (last (item old p).low ≤ y.low)) i d (inl (omega (arith, low, laid.finished p a (behind (λ (y : StackEntry). y.tree ≡ true) p a t))))
         ])
-        | inr a ↦ at-top (λ (y : Item). ((item new i).low < y.low) ⊎ (last y.low ≤ (item new i).low)) p a (elim (of-top (λ (y : Item). (i < y.start) ⊎ (p < i)) p a g) [
+        | inr a ↦ at-top (λ (y : StackEntry). ((item new i).low < y.low) ⊎ (last y.low ≤ (item new i).low)) p a (elim (of-top (λ (y : StackEntry). (i < y.start) ⊎ (p < i)) p a g) [
           | inr d ↦ absurd (omega (arith, d, a, m, pushed-size))
           | inl d ↦
-              let w = tree (of-top (λ (y : Item). y.tree ≡ true) p a t) in
+              let w = tree (of-top (λ (y : StackEntry). y.tree ≡ true) p a t) in
               let b : i < length old = omega (arith, d, w.0) in
-              front (λ (y : Item). (y.low < x.low) ⊎ (last x.low ≤ y.low)) i b (w.3 i d b)
+              front (λ (y : StackEntry). (y.low < x.low) ⊎ (last x.low ≤ y.low)) i b (w.3 i d b)
         ])
       ];
       laminar = λ p i l t b c. elim (pushed-cases p l) [
-        | inl a ↦ front (λ (y : Item). y.start ≤ (item new i).start) p a (front (λ (y : Item). (item old p).start ≤ y.start) i (omega (arith, a, c)) (laid.laminar p i a (behind (λ (y : Item). y.tree ≡ true) p a t) (behind (λ (y : Item). y.start ≤ i) p a b) c))
+        | inl a ↦ front (λ (y : StackEntry). y.start ≤ (item new i).start) p a (front (λ (y : StackEntry). (item old p).start ≤ y.start) i (omega (arith, a, c)) (laid.laminar p i a (behind (λ (y : StackEntry). y.tree ≡ true) p a t) (behind (λ (y : StackEntry). y.start ≤ i) p a b) c))
         | inr a ↦
             let d : i < length old = omega (arith, a, c) in
-            at-top (λ (y : Item). y.start ≤ (item new i).start) p a (front (λ (y : Item). x.start ≤ y.start) i d ((tree (of-top (λ (y : Item). y.tree ≡ true) p a t)).2 i (of-top (λ (y : Item). y.start ≤ i) p a b) d).2)
+            at-top (λ (y : StackEntry). y.start ≤ (item new i).start) p a (front (λ (y : StackEntry). x.start ≤ y.start) i d ((tree (of-top (λ (y : StackEntry). y.tree ≡ true) p a t)).2 i (of-top (λ (y : StackEntry). y.start ≤ i) p a b) d).2)
       ];
       nearest = λ p i l t b c g. elim (pushed-cases p l) [
-        | inl a ↦ front (λ (y : Item). y.low ≤ (item new i).up) p a (front (λ (y : Item). (item old p).low ≤ y.up) i (omega (arith, a, c)) (laid.nearest p i a (behind (λ (y : Item). y.tree ≡ true) p a t) (behind (λ (y : Item). y.start ≤ i) p a b) c (behind (λ (y : Item). y.tree ≡ true) i (omega (arith, a, c)) g)))
+        | inl a ↦ front (λ (y : StackEntry). y.low ≤ (item new i).up) p a (front (λ (y : StackEntry). (item old p).low ≤ y.up) i (omega (arith, a, c)) (laid.nearest p i a (behind (λ (y : StackEntry). y.tree ≡ true) p a t) (behind (λ (y : StackEntry). y.start ≤ i) p a b) c (behind (λ (y : StackEntry). y.tree ≡ true) i (omega (arith, a, c)) g)))
         | inr a ↦
             let d : i < length old = omega (arith, a, c) in
-            at-top (λ (y : Item). y.low ≤ (item new i).up) p a (front (λ (y : Item). x.low ≤ y.up) i d ((tree (of-top (λ (y : Item). y.tree ≡ true) p a t)).4 i (of-top (λ (y : Item). y.start ≤ i) p a b) d (behind (λ (y : Item). y.tree ≡ true) i d g)))
+            at-top (λ (y : StackEntry). y.low ≤ (item new i).up) p a (front (λ (y : StackEntry). x.low ≤ y.up) i d ((tree (of-top (λ (y : StackEntry). y.tree ≡ true) p a t)).4 i (of-top (λ (y : StackEntry). y.start ≤ i) p a b) d (behind (λ (y : StackEntry). y.tree ≡ true) i d g)))
       ];
       finished = λ p l t. elim (pushed-cases p l) [
-        | inl a ↦ front (λ (y : Item). now ≤ y.low) p a (omega (arith, lower, laid.finished p a (behind (λ (y : Item). y.tree ≡ true) p a t)))
-        | inr a ↦ at-top (λ (y : Item). now ≤ y.low) p a (tree (of-top (λ (y : Item). y.tree ≡ true) p a t)).1
+        | inl a ↦ front (λ (y : StackEntry). now ≤ y.low) p a (omega (arith, lower, laid.finished p a (behind (λ (y : StackEntry). y.tree ≡ true) p a t)))
+        | inr a ↦ at-top (λ (y : StackEntry). now ≤ y.low) p a (tree (of-top (λ (y : StackEntry). y.tree ≡ true) p a t)).1
       ];
     }
 
@@ -166,8 +166,8 @@ module _ (old : List Item) (left : List Entry) (x : Item) (new : List Item) (res
     laid = pushed-laid last done done s.laid s.above (omega arith) (omega (arith, e, s.left.ahead)) (omega (arith, u, e), omega (arith, w, e)) (λ t. b) (λ t. absurd (both_ways x.tree f t));
     ended = record {
       held = λ i z l d g. elim (pushed-cases i l) [
-        | inl a ↦ let p = s.ended.held i z a (behind (λ (y : Item). has_end z (entry y) ≡ true) i a d) g in (p.0, still z p.0 p.1)
-        | inr a ↦ elim (item-ends z x (of-top (λ (y : Item). has_end z (entry y) ≡ true) i a d)) [ inl q ↦ absurd (omega (arith, q, u, g)) | inr q ↦ absurd (omega (arith, q, e, g)) ]
+        | inl a ↦ let p = s.ended.held i z a (behind (λ (y : StackEntry). has_end z (entry y) ≡ true) i a d) g in (p.0, still z p.0 p.1)
+        | inr a ↦ elim (item-ends z x (of-top (λ (y : StackEntry). has_end z (entry y) ≡ true) i a d)) [ inl q ↦ absurd (omega (arith, q, u, g)) | inr q ↦ absurd (omega (arith, q, e, g)) ]
       ];
       on_path = λ i z l d g. on_path i z l d g;
     };
@@ -182,12 +182,12 @@ module _ (old : List Item) (left : List Entry) (x : Item) (new : List Item) (res
   }
     where
       still : (z p : ℕ) → IsTreeAt old z p → IsTreeAt new z p
-      still z p t = record { within = omega (arith, t.within, pushed-size); tree = front (λ (y : Item). y.tree ≡ true) p t.within t.tree; low = front (λ (y : Item). y.low ≡ z) p t.within t.low }
+      still z p t = record { within = omega (arith, t.within, pushed-size); tree = front (λ (y : StackEntry). y.tree ≡ true) p t.within t.tree; low = front (λ (y : StackEntry). y.low ≡ z) p t.within t.low }
 
       on_path : (i z : ℕ) → i < length new → has_end z (entry (item new i)) ≡ true → z ≤ v → v < last z
       on_path i z l d g = elim (pushed-cases i l) [
-        | inl a ↦ s.ended.on_path i z a (behind (λ (y : Item). has_end z (entry y) ≡ true) i a d) g
-        | inr a ↦ elim (item-ends z x (of-top (λ (y : Item). has_end z (entry y) ≡ true) i a d)) [
+        | inl a ↦ s.ended.on_path i z a (behind (λ (y : StackEntry). has_end z (entry y) ≡ true) i a d) g
+        | inr a ↦ elim (item-ends z x (of-top (λ (y : StackEntry). has_end z (entry y) ≡ true) i a d)) [
           | inl q ↦ subst (λ (y : ℕ). v < last y) (sym q) w
           | inr q ↦ subst (λ (y : ℕ). v < last y) (sym (q ∙ e)) (s.above v)
         ]
@@ -235,21 +235,21 @@ module _ (old : List Item) (left : List Entry) (x : Item) (new : List Item) (res
 
       held : (i z : ℕ) → i < length new → has_end z (entry (item new i)) ≡ true → v < z → (p : ℕ) × IsTreeAt new z p
       held i z l d g = elim (cases_eq z w) [
-        | inl q ↦ (length old, record { within = omega (arith, pushed-size); tree = at-top (λ (y : Item). y.tree ≡ true) (length old) refl t; low = at-top (λ (y : Item). y.low ≡ z) (length old) refl (e ∙ sym q) })
+        | inl q ↦ (length old, record { within = omega (arith, pushed-size); tree = at-top (λ (y : StackEntry). y.tree ≡ true) (length old) refl t; low = at-top (λ (y : StackEntry). y.low ≡ z) (length old) refl (e ∙ sym q) })
         | inr q ↦ elim (pushed-cases i l) [
-          | inr a ↦ absurd (elim (item-ends z x (of-top (λ (y : Item). has_end z (entry y) ≡ true) i a d)) [ inl k ↦ omega (arith, k, u, g) | inr k ↦ q (k ∙ e) ])
+          | inr a ↦ absurd (elim (item-ends z x (of-top (λ (y : StackEntry). has_end z (entry y) ≡ true) i a d)) [ inl k ↦ omega (arith, k, u, g) | inr k ↦ q (k ∙ e) ])
           | inl a ↦ elim (cases_lt z w) [
-            | inl k ↦ absurd (omega (arith, pv, g, (anc z k (s.ended.on_path i z a (behind (λ (y : Item). has_end z (entry y) ≡ true) i a d) (omega (arith, k)))).0))
-            | inr k ↦ let p = s.ended.held i z a (behind (λ (y : Item). has_end z (entry y) ≡ true) i a d) (omega (arith, k, q)) in
-                (p.0, record { within = omega (arith, p.1.within, pushed-size); tree = front (λ (y : Item). y.tree ≡ true) p.0 p.1.within p.1.tree; low = front (λ (y : Item). y.low ≡ z) p.0 p.1.within p.1.low })
+            | inl k ↦ absurd (omega (arith, pv, g, (anc z k (s.ended.on_path i z a (behind (λ (y : StackEntry). has_end z (entry y) ≡ true) i a d) (omega (arith, k)))).0))
+            | inr k ↦ let p = s.ended.held i z a (behind (λ (y : StackEntry). has_end z (entry y) ≡ true) i a d) (omega (arith, k, q)) in
+                (p.0, record { within = omega (arith, p.1.within, pushed-size); tree = front (λ (y : StackEntry). y.tree ≡ true) p.0 p.1.within p.1.tree; low = front (λ (y : StackEntry). y.low ≡ z) p.0 p.1.within p.1.low })
           ]
         ]
       ]
 
       on_path : (i z : ℕ) → i < length new → has_end z (entry (item new i)) ≡ true → z ≤ v → v < last z
       on_path i z l d g = elim (pushed-cases i l) [
-        | inl a ↦ subst (λ (y : ℕ). y < last z) pv (anc z (omega (arith, g, less)) (s.ended.on_path i z a (behind (λ (y : Item). has_end z (entry y) ≡ true) i a d) (omega (arith, g, less)))).1
-        | inr a ↦ elim (item-ends z x (of-top (λ (y : Item). has_end z (entry y) ≡ true) i a d)) [
+        | inl a ↦ subst (λ (y : ℕ). y < last z) pv (anc z (omega (arith, g, less)) (s.ended.on_path i z a (behind (λ (y : StackEntry). has_end z (entry y) ≡ true) i a d) (omega (arith, g, less)))).1
+        | inr a ↦ elim (item-ends z x (of-top (λ (y : StackEntry). has_end z (entry y) ≡ true) i a d)) [
           | inl q ↦ subst (λ (y : ℕ). v < last y) (sym (q ∙ u)) (s.above v)
           | inr q ↦ absurd (omega (arith, q, e, g, less))
         ]
@@ -262,14 +262,14 @@ module _ (old : List Item) (left : List Entry) (x : Item) (new : List Item) (res
   pushed-first n v u first now f size less low moved pushed = record {
     places = size;
     least = λ i z l h. elim (pushed-cases i l) [
-      | inl a ↦ omega (arith, f.least i z a (behind (λ (y : Item). has_end z (entry y) ≡ true) i a h), no-later z)
-      | inr a ↦ omega (arith, a, pushed z (item-ends z x (of-top (λ (y : Item). has_end z (entry y) ≡ true) i a h)))
+      | inl a ↦ omega (arith, f.least i z a (behind (λ (y : StackEntry). has_end z (entry y) ≡ true) i a h), no-later z)
+      | inr a ↦ omega (arith, a, pushed z (item-ends z x (of-top (λ (y : StackEntry). has_end z (entry y) ≡ true) i a h)))
     ];
     attained = λ z b current. elim (moved z) [
-      | inr e ↦ inr (omega (arith, e.0, pushed-size), at-top (λ (y : Item). has_end z (entry y) ≡ true) (slice_index_or now z 0) e.0 (elim e.2 [ inl q ↦ up-end z x q | inr q ↦ low-end z x q ]))
+      | inr e ↦ inr (omega (arith, e.0, pushed-size), at-top (λ (y : StackEntry). has_end z (entry y) ≡ true) (slice_index_or now z 0) e.0 (elim e.2 [ inl q ↦ up-end z x q | inr q ↦ low-end z x q ]))
       | inl e ↦ elim (f.attained z b (was z current)) [
         | inl g ↦ inl (e ∙ g)
-        | inr g ↦ inr (omega (arith, e, g.0, pushed-size), subst (λ (q : ℕ). has_end z (entry (item new q)) ≡ true) (sym e) (front (λ (y : Item). has_end z (entry y) ≡ true) (slice_index_or first z 0) g.0 g.1))
+        | inr g ↦ inr (omega (arith, e, g.0, pushed-size), subst (λ (q : ℕ). has_end z (entry (item new q)) ≡ true) (sym e) (front (λ (y : StackEntry). has_end z (entry y) ≡ true) (slice_index_or first z 0) g.0 g.1))
       ]
     ];
   }
@@ -280,6 +280,6 @@ module _ (old : List Item) (left : List Entry) (x : Item) (new : List Item) (res
       was : (z : ℕ) → (z < u) ⊎ ((p : ℕ) × IsTreeAt new z p) → (z < v) ⊎ ((p : ℕ) × IsTreeAt old z p)
       was z (inl a) = inl (omega (arith, a, less))
       was z (inr p) = elim (pushed-cases p.0 p.1.within) [
-        | inl a ↦ inr (p.0, record { within = a; tree = behind (λ (y : Item). y.tree ≡ true) p.0 a p.1.tree; low = behind (λ (y : Item). y.low ≡ z) p.0 a p.1.low })
-        | inr a ↦ inl (omega (arith, of-top (λ (y : Item). y.low ≡ z) p.0 a p.1.low, low (of-top (λ (y : Item). y.tree ≡ true) p.0 a p.1.tree)))
+        | inl a ↦ inr (p.0, record { within = a; tree = behind (λ (y : StackEntry). y.tree ≡ true) p.0 a p.1.tree; low = behind (λ (y : StackEntry). y.low ≡ z) p.0 a p.1.low })
+        | inr a ↦ inl (omega (arith, of-top (λ (y : StackEntry). y.low ≡ z) p.0 a p.1.low, low (of-top (λ (y : StackEntry). y.tree ≡ true) p.0 a p.1.tree)))
       ]

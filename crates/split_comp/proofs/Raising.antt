@@ -4,8 +4,8 @@ use Rattle.std.proofs.lemmas.Bool.{cases_Bool, cases_lt, cases_eq, both_ways}
 use Rattle.multigraph.specs.Graph.{Multigraph}
 use Rattle.pair_split.specs.Family.{Entry}
 use Rattle.pair_split.specs.declared.splitting.Finished.{Finished}
-use Rattle.split_comp.specs.declared.items.Item.{Item}
-use Rattle.split_comp.specs.declared.items.Triple.{Triple}
+use Rattle.split_comp.specs.declared.items.StackEntry.{StackEntry}
+use Rattle.split_comp.specs.declared.items.StackCut.{StackCut}
 use Rattle.split_comp.specs.Stack.{item, family, owner, IsTreeAt, IsStack, IsSorted, IsReturned, AreFirst}
 use Rattle.split_comp.specs.Palm.{tree_dart, tree_degree, tree_parent, IsFrondTo}
 use Rattle.split_comp.specs.Walk.{IsOnPath}
@@ -54,7 +54,7 @@ module _ (g : Multigraph) (t : NumberedTree) (numbered : IsNumbered g t) (w : �
         absurd (elim (b.frames.before z i n p k) [ inl q ↦ omega (arith, q, c.0, w-below.0, p.0) | inr q ↦ omega (arith, q, c.1, d, e) ])
   ]
 
-  module _ (k j : ℕ) (keeps : Item → Bool) (side : ℕ → Bool) (x : Item) (items : List Item) (first : List ℕ) (total : ℕ) (parts : List Finished) (cuts : List Triple)
+  module _ (k j : ℕ) (keeps : StackEntry → Bool) (side : ℕ → Bool) (x : StackEntry) (items : List StackEntry) (first : List ℕ) (total : ℕ) (parts : List Finished) (cuts : List StackCut)
       (r : IsRenewed last s.done s.at k j keeps side x s.items items b.rest) (least : IsLeast s.items b.rest side) (x-tree : x.tree ≡ true) (x-up : x.up ≡ s.at) (x-start : x.start ≡ at_place s.start w)
       (ups : (o : ℕ) → k ≤ o → o < length s.items → s.at ≤ (item s.items o).up) where
     abbrev now : PassState
@@ -92,8 +92,8 @@ module _ (g : Multigraph) (t : NumberedTree) (numbered : IsNumbered g t) (w : �
     sorted-now fewer = record {
       reach_rises = λ u q i l m e a d c. elim (cases_lt q k) [
         | inl q-k ↦
-            let w' = b.atop.sorted.reach_rises u q i l (omega (arith, q-k, k-h)) (ow u (omega (arith, l, q-k)) ∙ (e ∙ sym (ow q q-k))) (subst (λ (y : Item). y.start ≤ i) (r.same q q-k) a) d (subst (λ (y : Item). y.up ≤ s.at) (r.same i (omega (arith, d, q-k))) c) in
-            (w'.0, subst (λ (y : Item). y.start ≤ w'.0) (sym (r.same u (omega (arith, l, q-k)))) w'.1, w'.2, omega (arith, w'.3, up-same w'.0 (omega (arith, w'.2, l, q-k)), up-same i (omega (arith, d, q-k))))
+            let w' = b.atop.sorted.reach_rises u q i l (omega (arith, q-k, k-h)) (ow u (omega (arith, l, q-k)) ∙ (e ∙ sym (ow q q-k))) (subst (λ (y : StackEntry). y.start ≤ i) (r.same q q-k) a) d (subst (λ (y : StackEntry). y.up ≤ s.at) (r.same i (omega (arith, d, q-k))) c) in
+            (w'.0, subst (λ (y : StackEntry). y.start ≤ w'.0) (sym (r.same u (omega (arith, l, q-k)))) w'.1, w'.2, omega (arith, w'.3, up-same w'.0 (omega (arith, w'.2, l, q-k)), up-same i (omega (arith, d, q-k))))
         | inr q-k ↦ at-mid u q i l m q-k e a d
       ];
       frond_rises = λ u q i four l m e f c a d. elim (cases_lt q k) [
@@ -102,7 +102,7 @@ module _ (g : Multigraph) (t : NumberedTree) (numbered : IsNumbered g t) (w : �
           up-same u (omega (arith, l, q-k)),
           up-same i (omega (arith, d, q-k)),
           b.atop.sorted.frond_rises u q i (omega (arith, four, fewer)) l (omega (arith, q-k, k-h)) (ow u (omega (arith, l, q-k)) ∙ (e ∙ sym (ow q q-k)))
-              (subst (λ (y : Item). y.tree ≡ false) (r.same u (omega (arith, l, q-k))) f) (subst (λ (y : Item). y.up ≤ s.at) (r.same u (omega (arith, l, q-k))) c) (subst (λ (y : Item). y.start ≤ i) (r.same q q-k) a) d,
+              (subst (λ (y : StackEntry). y.tree ≡ false) (r.same u (omega (arith, l, q-k))) f) (subst (λ (y : StackEntry). y.up ≤ s.at) (r.same u (omega (arith, l, q-k))) c) (subst (λ (y : StackEntry). y.start ≤ i) (r.same q q-k) a) d,
         )
         | inr q-k ↦
             let o = r.mid_old q q-k m in
@@ -115,7 +115,7 @@ module _ (g : Multigraph) (t : NumberedTree) (numbered : IsNumbered g t) (w : �
               ap (λ (y : ℕ). (item items y).up) i-q,
               ap (λ (y : Entry). y.first) o.3,
               b.atop.sorted.frond_rises u o.0 o.0 (omega (arith, four, fewer)) (omega (arith, u-k, o.1)) z.0 (ow u u-k ∙ (e ∙ z.1))
-                  (subst (λ (y : Item). y.tree ≡ false) (r.same u u-k) f) (subst (λ (y : Item). y.up ≤ s.at) (r.same u u-k) c) z.2 (omega arith),
+                  (subst (λ (y : StackEntry). y.tree ≡ false) (r.same u u-k) f) (subst (λ (y : StackEntry). y.up ≤ s.at) (r.same u u-k) c) z.2 (omega arith),
             )
       ];
     }
@@ -124,10 +124,10 @@ module _ (g : Multigraph) (t : NumberedTree) (numbered : IsNumbered g t) (w : �
         few-j = elim r.few [ inl e ↦ omega (arith, e) | inr e ↦ omega (arith, e) ]
 
         ow : (i : ℕ) → i < k → owner (item s.items i) ≡ owner (item items i)
-        ow i l = ap (λ (y : Item). owner y) (sym (r.same i l))
+        ow i l = ap (λ (y : StackEntry). owner y) (sym (r.same i l))
 
         up-same : (i : ℕ) → i < k → (item items i).up ≡ (item s.items i).up
-        up-same i l = ap (λ (y : Item). y.up) (r.same i l)
+        up-same i l = ap (λ (y : StackEntry). y.up) (r.same i l)
 
         mid-front : (u q : ℕ) → u < q → q < j → k ≤ q → u < k
         mid-front u q l m a = omega (arith, l, m, a, few-j)
@@ -155,7 +155,7 @@ module _ (g : Multigraph) (t : NumberedTree) (numbered : IsNumbered g t) (w : �
             let up-q : (item items i).up ≡ (item s.items o.0).up = ap (λ (y : ℕ). (item items y).up) i-q ∙ sym (ap (λ (y : Entry). y.first) o.3) in
             let up-v : (item items q).up ≡ s.at = (frond-parts x.up x.low (item items q) (r.mid q a m).0).1 ∙ x-up in
             let w' = b.atop.sorted.reach_rises u o.0 o.0 (omega (arith, u-k, o.1)) z.0 (ow u u-k ∙ (e ∙ z.1)) z.2 (omega arith) (omega (arith, up-v, ap (λ (y : Entry). y.first) o.3)) in
-            (w'.0, subst (λ (y : Item). y.start ≤ w'.0) (sym (r.same u u-k)) w'.1, w'.2, omega (arith, w'.3, up-same w'.0 (omega (arith, w'.2, u-k)), up-q))
+            (w'.0, subst (λ (y : StackEntry). y.start ≤ w'.0) (sym (r.same u u-k)) w'.1, w'.2, omega (arith, w'.3, up-same w'.0 (omega (arith, w'.2, u-k)), up-q))
 
     -- the pass is where it was
     pub raised-now : (held : IsHeld g t.vertex now b.rest) → total ≤ s.total → AreFirst g.vertex_count s.done first items → ((i : ℕ) → 4 ≤ total → i < j → is_frond_to s.at (item items j).low (item items i) ≡ true → i + 1 ≡ j)
@@ -179,9 +179,9 @@ module _ (g : Multigraph) (t : NumberedTree) (numbered : IsNumbered g t) (w : �
       atop = record {
         stands = stands-now;
         size = r.size;
-        tree = ap (λ (y : Item). y.tree) r.top ∙ x-tree;
-        up = ap (λ (y : Item). y.up) r.top ∙ x-up;
-        start = ap (λ (y : Item). y.start) r.top ∙ x-start;
+        tree = ap (λ (y : StackEntry). y.tree) r.top ∙ x-tree;
+        up = ap (λ (y : StackEntry). y.up) r.top ∙ x-up;
+        start = ap (λ (y : StackEntry). y.start) r.top ∙ x-start;
         sorted = sorted-now fewer;
         topped = split_off-topped last s.done s.at k j keeps side x s.items items b.rest r least;
         behind = behind;
@@ -195,17 +195,17 @@ module _ (g : Multigraph) (t : NumberedTree) (numbered : IsNumbered g t) (w : �
       last_tree = b.last_tree;
       last_far = b.last_far;
       child_within = λ i a l. elim (cases_lt i k) [
-        | inl c ↦ subst (λ (y : Item). (w ≤ y.low) × (y.low < last w)) (sym (r.same i c)) (b.child_within i a (omega (arith, c, r.within)))
+        | inl c ↦ subst (λ (y : StackEntry). (w ≤ y.low) × (y.low < last w)) (sym (r.same i c)) (b.child_within i a (omega (arith, c, r.within)))
         | inr c ↦ let p = old-low in subst (λ (y : ℕ). (w ≤ y) × (y < last w)) (p.1.low ∙ sym (low-now last s.done s.at k j keeps side x s.items items b.rest r i c l)) (b.child_within p.0 (omega (arith, s-k, p.2)) p.1.within)
       ];
       child_to = λ i a l u. elim (cases_lt i k) [
-        | inl c ↦ subst (λ (y : Item). IsFrondTo (tree_degree t.palm t.vertex) (tree_dart g t.palm t.vertex) last w y.up) (sym (r.same i c)) (b.child_to i a (omega (arith, c, r.within)) (subst (λ (y : Item). y.up < s.at) (r.same i c) u))
+        | inl c ↦ subst (λ (y : StackEntry). IsFrondTo (tree_degree t.palm t.vertex) (tree_dart g t.palm t.vertex) last w y.up) (sym (r.same i c)) (b.child_to i a (omega (arith, c, r.within)) (subst (λ (y : StackEntry). y.up < s.at) (r.same i c) u))
         | inr c ↦ absurd (omega (arith, u, up-now last s.done s.at k j keeps side x s.items items b.rest r i c l, x-up))
       ];
       child_met = λ y f u.
           let i = b.child_met y f u in
           elim (cases_lt i.0 k) [
-            | inl c ↦ (i.0, i.1, omega (arith, c, k-j, r.size), ap (λ (q : Item). q.up) (r.same i.0 c) ∙ i.3)
+            | inl c ↦ (i.0, i.1, omega (arith, c, k-j, r.size), ap (λ (q : StackEntry). q.up) (r.same i.0 c) ∙ i.3)
             | inr c ↦ absurd (omega (arith, ups i.0 c i.2, i.3, u))
           ];
       reached = reached-new last s.done s.at k j keeps side x s.items items b.rest r (tree_dart g t.palm t.vertex) (at_place s.gone) (at_place s.start) b.frames starts b.reached;
@@ -214,24 +214,24 @@ module _ (g : Multigraph) (t : NumberedTree) (numbered : IsNumbered g t) (w : �
         reach_ahead = λ u q i z p l o a d.
             let q-k = path-front u q p l o in
             let w' = b.ahead.reach_ahead u q i z p (omega (arith, q-k, k-h)) (ow q q-k ∙ o) a d in
-            (w'.0, subst (λ (y : Item). y.start ≤ w'.0) (sym (r.same q q-k)) w'.1, w'.2, omega (arith, w'.3, ap (λ (y : Item). y.up) (r.same w'.0 (omega (arith, w'.2, q-k)))));
+            (w'.0, subst (λ (y : StackEntry). y.start ≤ w'.0) (sym (r.same q q-k)) w'.1, w'.2, omega (arith, w'.3, ap (λ (y : StackEntry). y.up) (r.same w'.0 (omega (arith, w'.2, q-k)))));
         frond_ahead = λ u q i four z p l o f a d.
             let q-k = path-front u q p l o in
-            subst (λ (y : Item). (y.up < (tree_dart g t.palm t.vertex u i).reach) ⊎ ((y.up ≡ (tree_dart g t.palm t.vertex u i).reach) × (1 ≤ (tree_dart g t.palm t.vertex u i).class))) (sym (r.same q q-k))
-            (b.ahead.frond_ahead u q i (omega (arith, four, fewer)) z p (omega (arith, q-k, k-h)) (ow q q-k ∙ o) (subst (λ (y : Item). y.tree ≡ false) (r.same q q-k) f) a d);
+            subst (λ (y : StackEntry). (y.up < (tree_dart g t.palm t.vertex u i).reach) ⊎ ((y.up ≡ (tree_dart g t.palm t.vertex u i).reach) × (1 ≤ (tree_dart g t.palm t.vertex u i).class))) (sym (r.same q q-k))
+            (b.ahead.frond_ahead u q i (omega (arith, four, fewer)) z p (omega (arith, q-k, k-h)) (ow q q-k ∙ o) (subst (λ (y : StackEntry). y.tree ≡ false) (r.same q q-k) f) a d);
       };
       ahead_last = λ q l o.
           let q-k = front-owner q l o in
           let w' = b.ahead_last q (omega (arith, q-k, k-h)) (ow q q-k ∙ o) in
-          (w'.0, subst (λ (y : Item). y.start ≤ w'.0) (sym (r.same q q-k)) w'.1, w'.2, omega (arith, w'.3, ap (λ (y : Item). y.up) (r.same w'.0 (omega (arith, w'.2, q-k)))));
+          (w'.0, subst (λ (y : StackEntry). y.start ≤ w'.0) (sym (r.same q q-k)) w'.1, w'.2, omega (arith, w'.3, ap (λ (y : StackEntry). y.up) (r.same w'.0 (omega (arith, w'.2, q-k)))));
       frond_last = λ q four l o f.
           let q-k = front-owner q l o in
-          subst (λ (y : Item). (y.up < (tree_dart g t.palm t.vertex s.at b.place).reach) ⊎ ((y.up ≡ (tree_dart g t.palm t.vertex s.at b.place).reach) × (1 ≤ (tree_dart g t.palm t.vertex s.at b.place).class))) (sym (r.same q q-k))
-          (b.frond_last q (omega (arith, four, fewer)) (omega (arith, q-k, k-h)) (ow q q-k ∙ o) (subst (λ (y : Item). y.tree ≡ false) (r.same q q-k) f));
+          subst (λ (y : StackEntry). (y.up < (tree_dart g t.palm t.vertex s.at b.place).reach) ⊎ ((y.up ≡ (tree_dart g t.palm t.vertex s.at b.place).reach) × (1 ≤ (tree_dart g t.palm t.vertex s.at b.place).class))) (sym (r.same q q-k))
+          (b.frond_last q (omega (arith, four, fewer)) (omega (arith, q-k, k-h)) (ow q q-k ∙ o) (subst (λ (y : StackEntry). y.tree ≡ false) (r.same q q-k) f));
       below = below-kept last (tree_parent t.palm t.vertex) w (at_place s.start) (at_place s.base) s.items items s.cuts cuts b.below
           (λ y z p. alike-take items s.items (at_place s.start y) (omega (arith, start-w y z p, s-k, k-j, r.size)) (omega (arith, start-w y z p, s-k, r.within)) (λ i l. r.same i (omega (arith, l, start-w y z p, s-k)))) cuts-same cuts-within;
-      sound = subst (λ (y : ℕ). AreSoundAt (at_place s.start w) s.at y items (drop (at_place s.base w) cuts)) (sym (ap (λ (y : Item). y.low) r.top)) sound;
-      complete = subst (λ (y : ℕ). AreCompleteAt (at_place s.start w) s.at y items (drop (at_place s.base w) cuts)) (sym (ap (λ (y : Item). y.low) r.top)) complete;
+      sound = subst (λ (y : ℕ). AreSoundAt (at_place s.start w) s.at y items (drop (at_place s.base w) cuts)) (sym (ap (λ (y : StackEntry). y.low) r.top)) sound;
+      complete = subst (λ (y : ℕ). AreCompleteAt (at_place s.start w) s.at y items (drop (at_place s.base w) cuts)) (sym (ap (λ (y : StackEntry). y.low) r.top)) complete;
     }
       where
         fewer : length (family items b.rest) ≤ length (family s.items b.rest)
@@ -241,7 +241,7 @@ module _ (g : Multigraph) (t : NumberedTree) (numbered : IsNumbered g t) (w : �
         stands-now = stack-new last s.done s.at k j keeps side x s.items items b.rest r
 
         ow : (i : ℕ) → i < k → owner (item s.items i) ≡ owner (item items i)
-        ow i l = ap (λ (y : Item). owner y) (sym (r.same i l))
+        ow i l = ap (λ (y : StackEntry). owner y) (sym (r.same i l))
 
         path-front : (u q : ℕ) → IsOnPath last s.at u → q < j → owner (item items q) ≡ u → q < k
         path-front u q p l o = elim (cases_lt q k) [ inl a ↦ a | inr a ↦ absurd (omega (arith, low-v, o, mid-owner q a l, p.0)) ]
@@ -257,11 +257,11 @@ module _ (g : Multigraph) (t : NumberedTree) (numbered : IsNumbered g t) (w : �
         behind : (i : ℕ) → i < at_place s.start w → (item items i).tree ≡ true → (item items j).low < (item items i).low
         behind i l f =
             let i-k : i < k = omega (arith, l, s-k) in
-            let old-tree : (item s.items i).tree ≡ true = subst (λ (y : Item). y.tree ≡ true) (r.same i i-k) f in
+            let old-tree : (item s.items i).tree ≡ true = subst (λ (y : StackEntry). y.tree ≡ true) (r.same i i-k) f in
             let p = old-low in
             let in-top = b.atop.stands.laid.inside b.height p.0 h-in b.atop.tree (omega (arith, b.atop.start, s-k, p.2)) (omega (arith, p.1.within, b.atop.size)) in
             let c = b.atop.behind i l old-tree in
             elim (b.atop.stands.laid.outside b.height i h-in b.atop.tree (omega (arith, i-k, r.within)) (inl (omega (arith, l, b.atop.start)))) [
               | inl q ↦ absurd (omega (arith, q, c))
-              | inr q ↦ omega (arith, q, in-top.1, p.1.low, ap (λ (y : Item). y.low) r.top, ap (λ (y : Item). y.low) (r.same i i-k))
+              | inr q ↦ omega (arith, q, in-top.1, p.1.low, ap (λ (y : StackEntry). y.low) r.top, ap (λ (y : StackEntry). y.low) (r.same i i-k))
             ]

@@ -4,8 +4,8 @@ use Rattle.std.proofs.lemmas.Bool.{cases_eq, both_ways}
 use Rattle.std.proofs.lemmas.List.{length-append, length-take-le, length-drop, take_more, take_all, take-take, drop-append-le, get_or-drop}
 use Rattle.multigraph.specs.Graph.{Multigraph, edge_count}
 use Rattle.pair_split.specs.Family.{IsSeparation}
-use Rattle.split_comp.specs.declared.items.Item.{Item}
-use Rattle.split_comp.specs.declared.items.Triple.{Triple}
+use Rattle.split_comp.specs.declared.items.StackEntry.{StackEntry}
+use Rattle.split_comp.specs.declared.items.StackCut.{StackCut}
 use Rattle.split_comp.specs.Stack.{item, entry, family, owner, IsStack, IsReturned}
 use Rattle.split_comp.specs.Palm.{tree_dart, tree_degree, tree_parent}
 use Rattle.split_comp.specs.Walk.{IsOnPath}
@@ -60,10 +60,10 @@ module _ (g : Multigraph) (t : NumberedTree) (w : ℕ) (s : PassState) (b : IsRa
 
   -- the last cut apart
   module _ (some : at_place s.base w < length s.cuts) where
-    abbrev fewer : List Triple
+    abbrev fewer : List StackCut
     fewer = take (length s.cuts - 1) s.cuts
 
-    abbrev c : Triple
+    abbrev c : StackCut
     c = cut s.cuts (length s.cuts - 1)
 
     pub fewer-length : length (take (length s.cuts - 1) s.cuts) ≡ length s.cuts - 1
@@ -81,7 +81,7 @@ module _ (g : Multigraph) (t : NumberedTree) (w : ℕ) (s : PassState) (b : IsRa
     pub fewer-lows : (i : ℕ) → i < length (drop (at_place s.base w) (take (length s.cuts - 1) s.cuts)) → s.at < (cut (drop (at_place s.base w) (take (length s.cuts - 1) s.cuts)) i).low
     fewer-lows i l = omega (
       arith,
-      ap (λ (y : Triple). y.low) (ap (λ (k : List Triple). cut k i) cuts-apart ∙ cut-left (drop (at_place s.base w) fewer) (c ∷ []) i l),
+      ap (λ (y : StackCut). y.low) (ap (λ (k : List StackCut). cut k i) cuts-apart ∙ cut-left (drop (at_place s.base w) fewer) (c ∷ []) i l),
       b.cut_lows i (omega (arith, ap length cuts-apart, length-append (drop (at_place s.base w) fewer) (c ∷ []), l)),
     )
 
@@ -169,7 +169,7 @@ module _ (g : Multigraph) (t : NumberedTree) (numbered : IsNumbered g t) (w : �
   top-low : (top_item s).low ≡ (item s.items b.raised.height).low
   top-low = ap (λ (k : ℕ). (item s.items k).low) (omega (arith, b.raised.atop.size))
 
-  abbrev cuts : List Triple
+  abbrev cuts : List StackCut
   cuts = drop (at_place s.base w) s.cuts
 
   -- where the last cut is of use, all are
@@ -193,10 +193,10 @@ module _ (g : Multigraph) (t : NumberedTree) (numbered : IsNumbered g t) (w : �
       place i e = get_or-drop (at_place s.base w) s.cuts i no_cut ∙ ap (cut s.cuts) (omega (arith, e, length-drop (at_place s.base w) s.cuts, some))
 
       at-last : (i : ℕ) → i + 1 ≡ length (drop (at_place s.base w) s.cuts) → (cut (drop (at_place s.base w) s.cuts) i).up ≡ (cut s.cuts (length s.cuts - 1)).up
-      at-last i e = ap (λ (y : Triple). y.up) (place i e)
+      at-last i e = ap (λ (y : StackCut). y.up) (place i e)
 
       at-last' : (i : ℕ) → i + 1 ≡ length (drop (at_place s.base w) s.cuts) → (cut (drop (at_place s.base w) s.cuts) i).low ≡ (cut s.cuts (length s.cuts - 1)).low
-      at-last' i e = ap (λ (y : Triple). y.low) (place i e)
+      at-last' i e = ap (λ (y : StackCut). y.low) (place i e)
 
       last-not : 1 ≤ length (drop (at_place s.base w) s.cuts) → (cut (drop (at_place s.base w) s.cuts) (length (drop (at_place s.base w) s.cuts) - 1)).up ≡ s.at → (cut (drop (at_place s.base w) s.cuts) (length (drop (at_place s.base w) s.cuts) - 1)).low ≤ (item s.items b.raised.height).low → ⊥
       last-not some-cut up-z low-z = elim (cases_eq (cut cuts (length cuts - 1)).low (item s.items b.raised.height).low) [
@@ -257,7 +257,7 @@ module _ (g : Multigraph) (t : NumberedTree) (numbered : IsNumbered g t) (w : �
     triangle-can = can-split_off g t numbered s b.raised.rest b.raised.held stands.left.is_family all_items k s.at (below_item s).low side off sep v-in low-in least (omega (arith, two))
 
     module _ (mid : PassState) (e : IsSplitOff g t.vertex (λ x. true) (length s.items - 2) s.at (below_item s).low s mid) where
-      abbrev x : Item
+      abbrev x : StackEntry
       x = new_tree (next_name g s) s.at (below_item s).low (below_item s).start
 
       abbrev now : PassState
@@ -331,7 +331,7 @@ module _ (g : Multigraph) (t : NumberedTree) (numbered : IsNumbered g t) (w : �
       fronds : (i : ℕ) → 4 ≤ now.total → i < k → is_frond_to s.at (item now.items k).low (item now.items i) ≡ true → i + 1 ≡ k
       fronds i four l p = triangle-frond b.raised.palm.last s.done s.at (at_place s.start w) h s.items b.raised.rest back k k-h tri.tree alone
           (omega (arith, four, split_off-two g t numbered s b.raised.rest b.raised.held stands.left.is_family all_items k s.at (below_item s).low side off sep v-in low-in mid e, b.raised.held.total)) i l
-          (subst (λ (y : Item). is_frond_to s.at (below_item s).low y ≡ true) (now-same i l) (subst (λ (y : Item). is_frond_to s.at y.low (item now.items i) ≡ true) now-top p))
+          (subst (λ (y : StackEntry). is_frond_to s.at (below_item s).low y ≡ true) (now-same i l) (subst (λ (y : StackEntry). is_frond_to s.at y.low (item now.items i) ≡ true) now-top p))
 
       pub triangle-raised : IsRaised g t w now
       triangle-raised = raised-now g t numbered w s b.raised k k all_items side x now.items now.first now.total now.parts s.cuts renewed least refl refl start-x ups held-now

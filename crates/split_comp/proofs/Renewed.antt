@@ -6,14 +6,14 @@ use Rattle.pair_split.proofs.Elements.{contains-here, contains-later, contains-c
 use Rattle.pair_split.proofs.Sides.{common-from, common-inside, touching-entry}
 use Rattle.pair_split.proofs.SameEntries.{IsWithin, same-tight}
 use Rattle.pair_split.proofs.Replaced.{replaced-tight}
-use Rattle.split_comp.specs.declared.items.Item.{Item}
+use Rattle.split_comp.specs.declared.items.StackEntry.{StackEntry}
 use Rattle.split_comp.specs.Stack.{item, entry, family, IsLaid, IsTreeAt, IsEnded, IsStack}
 use Rattle.split_comp.specs.Sides.{is_frond_to, IsCutOff}
 use Rattle.split_comp.proofs.Entries.{item-ends, low-end, stack-contains, rest-contains, family-cases, same-item, not-rest, rest-family, family-from}
 
 -- the entries from place k on that pass the test are a side, of which the entry x has the two common vertices as its ends; the
 -- others, which are fronds parallel to it, stay; x is on top now
-pub record IsRenewed (last : ℕ → ℕ) (done v k j : ℕ) (keeps : Item → Bool) (side : ℕ → Bool) (x : Item) (old new : List Item) (rest : List Entry) : Type 0 where
+pub record IsRenewed (last : ℕ → ℕ) (done v k j : ℕ) (keeps : StackEntry → Bool) (side : ℕ → Bool) (x : StackEntry) (old new : List StackEntry) (rest : List Entry) : Type 0 where
   pub stands : IsStack last done v old rest
   pub within : k < length old
   pub size : length new ≡ j + 1
@@ -28,14 +28,14 @@ pub record IsRenewed (last : ℕ → ℕ) (done v k j : ℕ) (keeps : Item → B
   pub rises : (x.up < x.low) × (x.low < last x.up)
   pub fresh : (y : Entry) → Contains (family old rest) y → y.name ≢ x.name
   pub up_path : (x.up ≤ v) × (v < last x.up)
-  pub trees : (y : Item) → y.tree ≡ true → keeps y ≡ true
+  pub trees : (y : StackEntry) → y.tree ≡ true → keeps y ≡ true
   pub shape : ((x.tree ≡ true) × ((p : ℕ) × IsTreeAt old x.low p × (k ≤ p) × ((item old p).start ≡ x.start) × (x.start < k))) ⊎ ((x.tree ≡ false) × (x.low ≡ v) × (x.start ≡ j))
 
 -- a frond to up from low
-pub frond-parts : (up low : ℕ) (y : Item) → is_frond_to up low y ≡ true → (y.tree ≡ false) × (y.up ≡ up) × (y.low ≡ low)
+pub frond-parts : (up low : ℕ) (y : StackEntry) → is_frond_to up low y ≡ true → (y.tree ≡ false) × (y.up ≡ up) × (y.low ≡ low)
 frond-parts up low y h = let a = and_parts (not y.tree) ((y.up == up) && (y.low == low)) h in let b = and_parts (y.up == up) (y.low == low) a.1 in (not-true y.tree a.0, eqb-true y.up up b.0, eqb-true y.low low b.1)
 
-module _ (last : ℕ → ℕ) (done v k j : ℕ) (keeps : Item → Bool) (side : ℕ → Bool) (x : Item) (old new : List Item) (rest : List Entry) (r : IsRenewed last done v k j keeps side x old new rest) where
+module _ (last : ℕ → ℕ) (done v k j : ℕ) (keeps : StackEntry → Bool) (side : ℕ → Bool) (x : StackEntry) (old new : List StackEntry) (rest : List Entry) (r : IsRenewed last done v k j keeps side x old new rest) where
   laid-old : IsLaid last done old
   laid-old = r.stands.laid
 
@@ -86,10 +86,10 @@ module _ (last : ℕ → ℕ) (done v k j : ℕ) (keeps : Item → Bool) (side :
   -- each end of an entry now is one of an entry before: at the same place, or from place k on
   pub end-before : (i z : ℕ) → i < length new → has_end z (entry (item new i)) ≡ true → (o : ℕ) × (o < length old) × (has_end z (entry (item old o)) ≡ true) × (((i < k) × (o ≡ i)) ⊎ ((k ≤ i) × (k ≤ o)))
   end-before i z l h = elim (place-cases i l) [
-    | inl a ↦ (i, omega (arith, a, r.within), subst (λ (y : Item). has_end z (entry y) ≡ true) (r.same i a) h, inl (a, refl))
+    | inl a ↦ (i, omega (arith, a, r.within), subst (λ (y : StackEntry). has_end z (entry y) ≡ true) (r.same i a) h, inl (a, refl))
     | inr b ↦ elim b [
       | inl m ↦ let o = r.mid_old i m.0 m.1 in (o.0, o.2, subst (λ (y : Entry). has_end z y ≡ true) (sym o.3) h, inr (m.0, o.1))
-      | inr e ↦ let o = end-old z (item-ends z x (subst (λ (y : Item). has_end z (entry y) ≡ true) (ap (item new) e ∙ r.top) h)) in (o.0, o.2, o.4, inr (omega (arith, e, k-within), o.1))
+      | inr e ↦ let o = end-old z (item-ends z x (subst (λ (y : StackEntry). has_end z (entry y) ≡ true) (ap (item new) e ∙ r.top) h)) in (o.0, o.2, o.4, inr (omega (arith, e, k-within), o.1))
     ]
   ]
 
@@ -99,7 +99,7 @@ module _ (last : ℕ → ℕ) (done v k j : ℕ) (keeps : Item → Bool) (side :
     | inl a ↦ absurd (omega (arith, a, m))
     | inr b ↦ elim b [
       | inl c ↦ (frond-parts x.up x.low (item new i) (r.mid i c.0 c.1).0).2
-      | inr e ↦ ap (λ (y : Item). y.low) (ap (item new) e ∙ r.top)
+      | inr e ↦ ap (λ (y : StackEntry). y.low) (ap (item new) e ∙ r.top)
     ]
   ]
 
@@ -109,7 +109,7 @@ module _ (last : ℕ → ℕ) (done v k j : ℕ) (keeps : Item → Bool) (side :
     | inl a ↦ absurd (omega (arith, a, m))
     | inr b ↦ elim b [
       | inl c ↦ (frond-parts x.up x.low (item new i) (r.mid i c.0 c.1).0).1
-      | inr e ↦ ap (λ (y : Item). y.up) (ap (item new) e ∙ r.top)
+      | inr e ↦ ap (λ (y : StackEntry). y.up) (ap (item new) e ∙ r.top)
     ]
   ]
 
@@ -119,13 +119,13 @@ module _ (last : ℕ → ℕ) (done v k j : ℕ) (keeps : Item → Bool) (side :
     | inl a ↦ inl a
     | inr b ↦ elim b [
       | inl c ↦ absurd (both_ways (item new p).tree (frond-parts x.up x.low (item new p) (r.mid p c.0 c.1).0).0 t)
-      | inr e ↦ inr (e, sym (ap (λ (y : Item). y.tree) (ap (item new) e ∙ r.top)) ∙ t)
+      | inr e ↦ inr (e, sym (ap (λ (y : StackEntry). y.tree) (ap (item new) e ∙ r.top)) ∙ t)
     ]
   ]
 
   -- a tree edge in front is one of before
   front-tree : (p : ℕ) → p < k → (item new p).tree ≡ true → (item old p).tree ≡ true
-  front-tree p l t = sym (ap (λ (y : Item). y.tree) (r.same p l)) ∙ t
+  front-tree p l t = sym (ap (λ (y : StackEntry). y.tree) (r.same p l)) ∙ t
 
   -- the lower end of the new entry is not below a tree edge in front
   low-apart : (p : ℕ) → p < k → (item old p).tree ≡ true → (x.low < (item old p).low) ⊎ (last (item old p).low ≤ x.low)
@@ -163,14 +163,14 @@ module _ (last : ℕ → ℕ) (done v k j : ℕ) (keeps : Item → Bool) (side :
   ]
 
   -- an entry in front, as it was
-  front : (P : Item → Type 0) (i : ℕ) → i < k → P (item old i) → P (item new i)
+  front : (P : StackEntry → Type 0) (i : ℕ) → i < k → P (item old i) → P (item new i)
   front P i l h = subst P (sym (r.same i l)) h
 
-  back : (P : Item → Type 0) (i : ℕ) → i < k → P (item new i) → P (item old i)
+  back : (P : StackEntry → Type 0) (i : ℕ) → i < k → P (item new i) → P (item old i)
   back P i l h = subst P (r.same i l) h
 
   top-start : (p : ℕ) → p ≡ j → (item new p).start ≡ x.start
-  top-start p e = ap (λ (y : Item). y.start) (ap (item new) e ∙ r.top)
+  top-start p e = ap (λ (y : StackEntry). y.start) (ap (item new) e ∙ r.top)
 
   start-lower : x.tree ≡ true → x.start < k
   start-lower t = elim r.shape [ inl s ↦ s.1.4 | inr s ↦ absurd (both_ways x.tree s.0 t) ]
@@ -183,69 +183,69 @@ module _ (last : ℕ → ℕ) (done v k j : ℕ) (keeps : Item → Bool) (side :
     where
       rises : (i : ℕ) → i < length new → ((item new i).up < (item new i).low) × ((item new i).low < last (item new i).up)
       rises i l = elim (cases_lt i k) [
-        | inl a ↦ front (λ (y : Item). (y.up < y.low) × (y.low < last y.up)) i a (laid-old.rises i (omega (arith, a, r.within)))
+        | inl a ↦ front (λ (y : StackEntry). (y.up < y.low) × (y.low < last y.up)) i a (laid-old.rises i (omega (arith, a, r.within)))
         | inr a ↦ (omega (arith, up-now i a l, low-now i a l, r.rises.0), subst (λ (z : ℕ). (item new i).low < last z) (sym (up-now i a l)) (omega (arith, low-now i a l, r.rises.1)))
       ]
 
       frond_start : (i : ℕ) → i < length new → (item new i).tree ≡ false → (item new i).start ≡ i
       frond_start i l f = elim (place-cases i l) [
-        | inl a ↦ ap (λ (y : Item). y.start) (r.same i a) ∙ laid-old.frond_start i (omega (arith, a, r.within)) (back (λ (y : Item). y.tree ≡ false) i a f)
+        | inl a ↦ ap (λ (y : StackEntry). y.start) (r.same i a) ∙ laid-old.frond_start i (omega (arith, a, r.within)) (back (λ (y : StackEntry). y.tree ≡ false) i a f)
         | inr b ↦ elim b [
           | inl c ↦ omega (arith, (r.mid i c.0 c.1).1, c.0, c.1, j-few)
-          | inr e ↦ top-start i e ∙ (elim r.shape [ inl s ↦ absurd (both_ways x.tree (sym (ap (λ (y : Item). y.tree) (ap (item new) e ∙ r.top)) ∙ f) s.0) | inr s ↦ s.2 ∙ sym e ])
+          | inr e ↦ top-start i e ∙ (elim r.shape [ inl s ↦ absurd (both_ways x.tree (sym (ap (λ (y : StackEntry). y.tree) (ap (item new) e ∙ r.top)) ∙ f) s.0) | inr s ↦ s.2 ∙ sym e ])
         ]
       ]
 
       tree_start : (p : ℕ) → p < length new → (item new p).tree ≡ true → (item new p).start < p
       tree_start p l t = elim (tree-cases p l t) [
-        | inl a ↦ front (λ (y : Item). y.start < p) p a (laid-old.tree_start p (omega (arith, a, r.within)) (front-tree p a t))
+        | inl a ↦ front (λ (y : StackEntry). y.start < p) p a (laid-old.tree_start p (omega (arith, a, r.within)) (front-tree p a t))
         | inr e ↦ omega (arith, top-start p e.0, start-lower e.1, k-within, e.0)
       ]
 
       inside : (p i : ℕ) → p < length new → (item new p).tree ≡ true → (item new p).start ≤ i → i ≤ p → ((item new p).low ≤ (item new i).low) × ((item new i).low < last (item new p).low)
       inside p i l t a b = elim (tree-cases p l t) [
-        | inl c ↦ front (λ (y : Item). (y.low ≤ (item new i).low) × ((item new i).low < last y.low)) p c (front (λ (y : Item). ((item old p).low ≤ y.low) × (y.low < last (item old p).low)) i (omega (arith, b, c))
-            (laid-old.inside p i (omega (arith, c, r.within)) (front-tree p c t) (back (λ (y : Item). y.start ≤ i) p c a) b))
+        | inl c ↦ front (λ (y : StackEntry). (y.low ≤ (item new i).low) × ((item new i).low < last y.low)) p c (front (λ (y : StackEntry). ((item old p).low ≤ y.low) × (y.low < last (item old p).low)) i (omega (arith, b, c))
+            (laid-old.inside p i (omega (arith, c, r.within)) (front-tree p c t) (back (λ (y : StackEntry). y.start ≤ i) p c a) b))
         | inr e ↦ subst (λ (z : ℕ). (z ≤ (item new i).low) × ((item new i).low < last z)) (sym (low-now p (omega (arith, e.0, k-within)) l)) (elim (cases_lt i k) [
-          | inl c ↦ let w = below-tree i e.1 (omega (arith, top-start p e.0, a)) c in front (λ (y : Item). (x.low ≤ y.low) × (y.low < last x.low)) i c (w.0, w.1)
+          | inl c ↦ let w = below-tree i e.1 (omega (arith, top-start p e.0, a)) c in front (λ (y : StackEntry). (x.low ≤ y.low) × (y.low < last x.low)) i c (w.0, w.1)
           | inr c ↦ let w = low-now i c (omega (arith, b, l)) in (omega (arith, w), omega (arith, w, r.stands.above x.low))
         ])
       ]
 
       outside : (p i : ℕ) → p < length new → (item new p).tree ≡ true → i < length new → (i < (item new p).start) ⊎ (p < i) → ((item new i).low < (item new p).low) ⊎ (last (item new p).low ≤ (item new i).low)
       outside p i l t m h = elim (tree-cases p l t) [
-        | inl c ↦ front (λ (y : Item). ((item new i).low < y.low) ⊎ (last y.low ≤ (item new i).low)) p c (elim (cases_lt i k) [
-          | inl d ↦ front (λ (y : Item). (y.low < (item old p).low) ⊎ (last (item old p).low ≤ y.low)) i d (laid-old.outside p i (omega (arith, c, r.within)) (front-tree p c t) (omega (arith, d, r.within)) (back (λ (y : Item). (i < y.start) ⊎ (p < i)) p c h))
+        | inl c ↦ front (λ (y : StackEntry). ((item new i).low < y.low) ⊎ (last y.low ≤ (item new i).low)) p c (elim (cases_lt i k) [
+          | inl d ↦ front (λ (y : StackEntry). (y.low < (item old p).low) ⊎ (last (item old p).low ≤ y.low)) i d (laid-old.outside p i (omega (arith, c, r.within)) (front-tree p c t) (omega (arith, d, r.within)) (back (λ (y : StackEntry). (i < y.start) ⊎ (p < i)) p c h))
           | inr d ↦ subst (λ (z : ℕ). (z < (item old p).low) ⊎ (last (item old p).low ≤ z)) (sym (low-now i d m)) (low-apart p c (front-tree p c t))
         ])
         | inr e ↦ subst (λ (z : ℕ). ((item new i).low < z) ⊎ (last z ≤ (item new i).low)) (sym (low-now p (omega (arith, e.0, k-within)) l)) (elim h [
           | inr d ↦ absurd (omega (arith, d, e.0, m, r.size))
-          | inl d ↦ let c : i < k = omega (arith, d, top-start p e.0, start-lower e.1) in front (λ (y : Item). (y.low < x.low) ⊎ (last x.low ≤ y.low)) i c (beside-tree i e.1 (omega (arith, d, top-start p e.0)) c)
+          | inl d ↦ let c : i < k = omega (arith, d, top-start p e.0, start-lower e.1) in front (λ (y : StackEntry). (y.low < x.low) ⊎ (last x.low ≤ y.low)) i c (beside-tree i e.1 (omega (arith, d, top-start p e.0)) c)
         ])
       ]
 
       laminar : (p i : ℕ) → p < length new → (item new p).tree ≡ true → (item new p).start ≤ i → i < p → (item new p).start ≤ (item new i).start
       laminar p i l t a b = elim (tree-cases p l t) [
-        | inl c ↦ front (λ (y : Item). y.start ≤ (item new i).start) p c (front (λ (y : Item). (item old p).start ≤ y.start) i (omega (arith, b, c)) (laid-old.laminar p i (omega (arith, c, r.within)) (front-tree p c t) (back (λ (y : Item). y.start ≤ i) p c a) b))
+        | inl c ↦ front (λ (y : StackEntry). y.start ≤ (item new i).start) p c (front (λ (y : StackEntry). (item old p).start ≤ y.start) i (omega (arith, b, c)) (laid-old.laminar p i (omega (arith, c, r.within)) (front-tree p c t) (back (λ (y : StackEntry). y.start ≤ i) p c a) b))
         | inr e ↦ elim (cases_lt i k) [
-          | inl c ↦ omega (arith, top-start p e.0, front (λ (y : Item). x.start ≤ y.start) i c (below-tree i e.1 (omega (arith, top-start p e.0, a)) c).2)
+          | inl c ↦ omega (arith, top-start p e.0, front (λ (y : StackEntry). x.start ≤ y.start) i c (below-tree i e.1 (omega (arith, top-start p e.0, a)) c).2)
           | inr c ↦ omega (arith, top-start p e.0, start-lower e.1, (r.mid i c (omega (arith, b, e.0))).1)
         ]
       ]
 
       nearest : (p i : ℕ) → p < length new → (item new p).tree ≡ true → (item new p).start ≤ i → i < p → (item new i).tree ≡ true → (item new p).low ≤ (item new i).up
       nearest p i l t a b g = elim (tree-cases p l t) [
-        | inl c ↦ front (λ (y : Item). y.low ≤ (item new i).up) p c (front (λ (y : Item). (item old p).low ≤ y.up) i (omega (arith, b, c))
-            (laid-old.nearest p i (omega (arith, c, r.within)) (front-tree p c t) (back (λ (y : Item). y.start ≤ i) p c a) b (front-tree i (omega (arith, b, c)) g)))
+        | inl c ↦ front (λ (y : StackEntry). y.low ≤ (item new i).up) p c (front (λ (y : StackEntry). (item old p).low ≤ y.up) i (omega (arith, b, c))
+            (laid-old.nearest p i (omega (arith, c, r.within)) (front-tree p c t) (back (λ (y : StackEntry). y.start ≤ i) p c a) b (front-tree i (omega (arith, b, c)) g)))
         | inr e ↦ elim (tree-cases i (omega (arith, b, l)) g) [
           | inr d ↦ absurd (omega (arith, b, d.0, e.0))
-          | inl c ↦ omega (arith, low-now p (omega (arith, e.0, k-within)) l, front (λ (y : Item). x.low ≤ y.up) i c (near-tree i e.1 (omega (arith, top-start p e.0, a)) c (front-tree i c g)))
+          | inl c ↦ omega (arith, low-now p (omega (arith, e.0, k-within)) l, front (λ (y : StackEntry). x.low ≤ y.up) i c (near-tree i e.1 (omega (arith, top-start p e.0, a)) c (front-tree i c g)))
         ]
       ]
 
       finished : (p : ℕ) → p < length new → (item new p).tree ≡ true → done ≤ (item new p).low
       finished p l t = elim (tree-cases p l t) [
-        | inl a ↦ front (λ (y : Item). done ≤ y.low) p a (laid-old.finished p (omega (arith, a, r.within)) (front-tree p a t))
+        | inl a ↦ front (λ (y : StackEntry). done ≤ y.low) p a (laid-old.finished p (omega (arith, a, r.within)) (front-tree p a t))
         | inr e ↦ omega (arith, low-now p (omega (arith, e.0, k-within)) l, low-done e.1)
       ]
 
@@ -254,7 +254,7 @@ module _ (last : ℕ → ℕ) (done v k j : ℕ) (keeps : Item → Bool) (side :
   top-held z g (inl e) = absurd (omega (arith, g, e, r.up_path.0))
   top-held z g (inr e) = elim r.shape [
     | inr s ↦ absurd (omega (arith, g, e, s.1))
-    | inl s ↦ (j, record { within = omega (arith, r.size); tree = ap (λ (y : Item). y.tree) r.top ∙ s.0; low = ap (λ (y : Item). y.low) r.top ∙ sym e })
+    | inl s ↦ (j, record { within = omega (arith, r.size); tree = ap (λ (y : StackEntry). y.tree) r.top ∙ s.0; low = ap (λ (y : StackEntry). y.low) r.top ∙ sym e })
   ]
 
   pub ended-new : IsEnded last v new
@@ -264,10 +264,10 @@ module _ (last : ℕ → ℕ) (done v k j : ℕ) (keeps : Item → Bool) (side :
       held i z l h g = elim (cases_lt i k) [
         | inr a ↦ top-held z g (elim (item-ends z (item new i) h) [ inl e ↦ inl (e ∙ up-now i a l) | inr e ↦ inr (e ∙ low-now i a l) ])
         | inl a ↦
-            let h-old = back (λ (y : Item). has_end z (entry y) ≡ true) i a h in
+            let h-old = back (λ (y : StackEntry). has_end z (entry y) ≡ true) i a h in
             let p = r.stands.ended.held i z (omega (arith, a, r.within)) h-old g in
             elim (cases_lt p.0 k) [
-              | inl b ↦ (p.0, record { within = omega (arith, b, k-within, r.size); tree = front (λ (y : Item). y.tree ≡ true) p.0 b p.1.tree; low = front (λ (y : Item). y.low ≡ z) p.0 b p.1.low })
+              | inl b ↦ (p.0, record { within = omega (arith, b, k-within, r.size); tree = front (λ (y : StackEntry). y.tree ≡ true) p.0 b p.1.tree; low = front (λ (y : StackEntry). y.low ≡ z) p.0 b p.1.low })
               | inr b ↦ top-held z g (across i p.0 z a b p.1.within (r.trees (item old p.0) p.1.tree) h-old (low-end z (item old p.0) (sym p.1.low)))
             ]
       ]
@@ -298,10 +298,10 @@ module _ (last : ℕ → ℕ) (done v k j : ℕ) (keeps : Item → Bool) (side :
   within-left e c = elim (family-cases new rest e c) [
     | inr q ↦ contains-later e (entry x) (off_side side (family old rest)) (contains-filter (λ (y : Entry). not (side y.name)) e (family old rest) (rest-contains old rest e q) (not_from_false (side e.name) (r.cut.off e q)))
     | inl p ↦ subst (λ (y : Entry). Contains (entry x ∷ off_side side (family old rest)) y) (sym p.2) (elim (place-cases p.0 p.1) [
-      | inl a ↦ subst (λ (y : Item). Contains (entry x ∷ off_side side (family old rest)) (entry y)) (sym (r.same p.0 a)) (off-left p.0 (omega (arith, a, r.within)) (r.cut.before p.0 a (omega (arith, a, r.within))))
+      | inl a ↦ subst (λ (y : StackEntry). Contains (entry x ∷ off_side side (family old rest)) (entry y)) (sym (r.same p.0 a)) (off-left p.0 (omega (arith, a, r.within)) (r.cut.before p.0 a (omega (arith, a, r.within))))
       | inr b ↦ elim b [
         | inl m ↦ let o = r.mid_old p.0 m.0 m.1 in subst (λ (y : Entry). Contains (entry x ∷ off_side side (family old rest)) y) o.3 (off-left o.0 o.2 (r.cut.from o.0 o.1 o.2 ∙ o.4))
-        | inr e ↦ subst (λ (y : Item). Contains (entry x ∷ off_side side (family old rest)) (entry y)) (sym (ap (item new) e ∙ r.top)) (contains-here (entry x) (off_side side (family old rest)))
+        | inr e ↦ subst (λ (y : StackEntry). Contains (entry x ∷ off_side side (family old rest)) (entry y)) (sym (ap (item new) e ∙ r.top)) (contains-here (entry x) (off_side side (family old rest)))
       ]
     ])
   ]
@@ -309,7 +309,7 @@ module _ (last : ℕ → ℕ) (done v k j : ℕ) (keeps : Item → Bool) (side :
   -- names in front of the top are old ones
   old-place : (i : ℕ) → i < j → (o : ℕ) × (o < length old) × ((item new i).name ≡ (item old o).name) × (((i < k) × (o ≡ i)) ⊎ ((k ≤ i) × (k ≤ o)))
   old-place i l = elim (cases_lt i k) [
-    | inl a ↦ (i, omega (arith, a, r.within), ap (λ (y : Item). y.name) (r.same i a), inl (a, refl))
+    | inl a ↦ (i, omega (arith, a, r.within), ap (λ (y : StackEntry). y.name) (r.same i a), inl (a, refl))
     | inr a ↦ let o = r.mid_old i a l in (o.0, o.2, sym (ap (λ (y : Entry). y.name) o.3), inr (a, o.1))
   ]
 
@@ -317,7 +317,7 @@ module _ (last : ℕ → ℕ) (done v k j : ℕ) (keeps : Item → Bool) (side :
   family-new = family-from new rest (rest-family old rest r.stands.left.is_family) apart off (λ i l e. omega (arith, e, (laid-new.rises i l).0))
     where
       is-top : (i : ℕ) → i < length new → (i < j → ⊥) → (item new i).name ≡ x.name
-      is-top i l n = let e : i ≡ j = elim (cases_lt i j) [ inl a ↦ absurd (n a) | inr a ↦ omega (arith, a, l, r.size) ] in ap (λ (y : Item). y.name) (ap (item new) e ∙ r.top)
+      is-top i l n = let e : i ≡ j = elim (cases_lt i j) [ inl a ↦ absurd (n a) | inr a ↦ omega (arith, a, l, r.size) ] in ap (λ (y : StackEntry). y.name) (ap (item new) e ∙ r.top)
 
       apart : (i h : ℕ) → i < h → h < length new → (item new i).name ≢ (item new h).name
       apart i h l m e =

@@ -2,7 +2,7 @@
 use Rattle.std.proofs.Common.{◌≡◌, ◌≢◌, ℕ, ◌<◌, ◌≤◌, ◌⊎◌, inl, inr, Bool, true, List, length, slice_index_or, refl, sym, ap, ◌∙◌, subst, arith}
 use Rattle.std.proofs.lemmas.Bool.{cases_Bool, cases_lt, both_ways}
 use Rattle.pair_split.specs.Family.{Entry, has_end}
-use Rattle.split_comp.specs.declared.items.Item.{Item}
+use Rattle.split_comp.specs.declared.items.StackEntry.{StackEntry}
 use Rattle.split_comp.specs.declared.items.Dart.{Dart}
 use Rattle.split_comp.specs.Stack.{item, entry, IsTreeAt, AreFirst, no_place}
 use Rattle.split_comp.specs.Walk.{IsOnPath}
@@ -10,7 +10,7 @@ use Rattle.split_comp.specs.Frames.{AreFrames, IsGoneTo, AreReached}
 use Rattle.split_comp.proofs.Entries.{item-ends, up-end, low-end}
 use Rattle.split_comp.proofs.Renewed.{IsRenewed, across-rest, end-old, low-now, up-now, tree-cases}
 
-module _ (last : ℕ → ℕ) (done v k j : ℕ) (keeps : Item → Bool) (side : ℕ → Bool) (x : Item) (old new : List Item) (rest : List Entry) (r : IsRenewed last done v k j keeps side x old new rest) where
+module _ (last : ℕ → ℕ) (done v k j : ℕ) (keeps : StackEntry → Bool) (side : ℕ → Bool) (x : StackEntry) (old new : List StackEntry) (rest : List Entry) (r : IsRenewed last done v k j keeps side x old new rest) where
   -- upper ends above y, where y is no greater than the lower ends of the entries that go: they stay
   module _ (y : ℕ) (low : (i : ℕ) → k ≤ i → i < length old → y ≤ (item old i).low) (low-top : y ≤ x.low) where
     -- an upper end above y now is one of before
@@ -31,7 +31,7 @@ module _ (last : ℕ → ℕ) (done v k j : ℕ) (keeps : Item → Bool) (side :
             j,
             k-in,
             omega (arith, r.size),
-            ap (λ (q : Item). q.up) r.top ∙ sym (elim (across-rest last done v k j keeps side x old new rest r o (item old o).up m l t (up-end (item old o).up (item old o) refl) touched) [
+            ap (λ (q : StackEntry). q.up) r.top ∙ sym (elim (across-rest last done v k j keeps side x old new rest r o (item old o).up m l t (up-end (item old o).up (item old o) refl) touched) [
               | inl e ↦ e
               | inr e ↦ absurd (omega (arith, e, h, low-top))
             ]),
@@ -49,7 +49,7 @@ module _ (last : ℕ → ℕ) (done v k j : ℕ) (keeps : Item → Bool) (side :
 
       from : (z i : ℕ) → z ≢ 0 → IsOnPath last v z → start z ≤ i → i < length new → (z ≤ (item new i).low) × ((item new i).low < last z)
       from z i n p a b = elim (cases_lt i k) [
-        | inl c ↦ subst (λ (q : Item). (z ≤ q.low) × (q.low < last z)) (sym (r.same i c)) (f.from z i n p a (omega (arith, c, r.within)))
+        | inl c ↦ subst (λ (q : StackEntry). (z ≤ q.low) × (q.low < last z)) (sym (r.same i c)) (f.from z i n p a (omega (arith, c, r.within)))
         | inr c ↦ subst (λ (q : ℕ). (z ≤ q) × (q < last z)) (sym (low-now last done v k j keeps side x old new rest r i c b)) (elim r.shape [
           | inl s ↦ subst (λ (q : ℕ). (z ≤ q) × (q < last z)) s.1.1.low (f.from z s.1.0 n p (omega (arith, l z n p, s.1.2)) s.1.1.within)
           | inr s ↦ subst (λ (q : ℕ). (z ≤ q) × (q < last z)) (sym s.1) p
@@ -58,12 +58,12 @@ module _ (last : ℕ → ℕ) (done v k j : ℕ) (keeps : Item → Bool) (side :
 
       tree_up : (z i : ℕ) → z ≢ 0 → IsOnPath last v z → start z ≤ i → i < length new → (item new i).tree ≡ true → z ≤ (item new i).up
       tree_up z i n p a b t = elim (tree-cases last done v k j keeps side x old new rest r i b t) [
-        | inl c ↦ subst (λ (q : Item). z ≤ q.up) (sym (r.same i c)) (f.tree_up z i n p a (omega (arith, c, r.within)) (subst (λ (q : Item). q.tree ≡ true) (r.same i c) t))
-        | inr c ↦ omega (arith, ap (λ (q : Item). q.up) (ap (item new) c.0 ∙ r.top), tree-path c.1 z n p)
+        | inl c ↦ subst (λ (q : StackEntry). z ≤ q.up) (sym (r.same i c)) (f.tree_up z i n p a (omega (arith, c, r.within)) (subst (λ (q : StackEntry). q.tree ≡ true) (r.same i c) t))
+        | inr c ↦ omega (arith, ap (λ (q : StackEntry). q.up) (ap (item new) c.0 ∙ r.top), tree-path c.1 z n p)
       ]
 
       before : (z i : ℕ) → z ≢ 0 → IsOnPath last v z → i < start z → ((item new i).low < z) ⊎ (last z ≤ (item new i).low)
-      before z i n p a = subst (λ (q : Item). (q.low < z) ⊎ (last z ≤ q.low)) (sym (r.same i (omega (arith, a, l z n p)))) (f.before z i n p a)
+      before z i n p a = subst (λ (q : StackEntry). (q.low < z) ⊎ (last z ≤ q.low)) (sym (r.same i (omega (arith, a, l z n p)))) (f.before z i n p a)
 
   -- the lower end of the new entry is below the vertices of the path
   pub low-path : (start : ℕ → ℕ) → AreFrames last v start old → ((z : ℕ) → z ≢ 0 → IsOnPath last v z → start z ≤ k) → (z : ℕ) → z ≢ 0 → IsOnPath last v z → z ≤ x.low
@@ -83,7 +83,7 @@ module _ (last : ℕ → ℕ) (done v k j : ℕ) (keeps : Item → Bool) (side :
 
       gone_to : (z i : ℕ) → z ≢ 0 → IsOnPath last v z → start z ≤ i → i < length new → (item new i).up < z → IsGoneTo dart last gone z (item new i).up
       gone_to z i n p m b h = elim (cases_lt i k) [
-        | inl c ↦ subst (λ (q : Item). IsGoneTo dart last gone z q.up) (sym (r.same i c)) (a.gone_to z i n p m (omega (arith, c, r.within)) (subst (λ (q : Item). q.up < z) (r.same i c) h))
+        | inl c ↦ subst (λ (q : StackEntry). IsGoneTo dart last gone z q.up) (sym (r.same i c)) (a.gone_to z i n p m (omega (arith, c, r.within)) (subst (λ (q : StackEntry). q.up < z) (r.same i c) h))
         | inr c ↦ let o = up-before z (lows z n p) (low-path start f l z n p) i c b h in
             subst (λ (q : ℕ). IsGoneTo dart last gone z q) o.3 (a.gone_to z o.0 n p (omega (arith, o.1, l z n p)) o.2 (omega (arith, o.3, h)))
       ]
@@ -92,7 +92,7 @@ module _ (last : ℕ → ℕ) (done v k j : ℕ) (keeps : Item → Bool) (side :
       met z y n p h w =
           let o = a.met z y n p h w in
           elim (cases_lt o.0 k) [
-            | inl c ↦ (o.0, o.1, omega (arith, c, few, r.size), ap (λ (q : Item). q.up) (r.same o.0 c) ∙ o.3)
+            | inl c ↦ (o.0, o.1, omega (arith, c, few, r.size), ap (λ (q : StackEntry). q.up) (r.same o.0 c) ∙ o.3)
             | inr c ↦ let i = up-after z (lows z n p) (low-path start f l z n p) o.0 c o.2 (omega (arith, o.3, h)) (omega (arith, o.3, h, p.0)) in
                 (i.0, omega (arith, i.1, l z n p), i.2, i.3 ∙ o.3)
           ]
@@ -118,7 +118,7 @@ module _ (last : ℕ → ℕ) (done v k j : ℕ) (keeps : Item → Bool) (side :
 
       least : (i z : ℕ) → i < length new → has_end z (entry (item new i)) ≡ true → slice_index_or now z 0 ≤ i
       least i z l h = elim (cases_lt i k) [
-        | inl c ↦ omega (arith, no-later z, f.least i z (omega (arith, c, r.within)) (subst (λ (q : Item). has_end z (entry q) ≡ true) (r.same i c) h))
+        | inl c ↦ omega (arith, no-later z, f.least i z (omega (arith, c, r.within)) (subst (λ (q : StackEntry). has_end z (entry q) ≡ true) (r.same i c) h))
         | inr c ↦ pushed z i c l (ends-now i z c l h)
       ]
 
@@ -128,7 +128,7 @@ module _ (last : ℕ → ℕ) (done v k j : ℕ) (keeps : Item → Bool) (side :
         | inl e ↦ elim (f.attained z b (was current)) [
           | inl g ↦ inl (e ∙ g)
           | inr g ↦ elim (cases_lt (slice_index_or first z 0) k) [
-            | inl c ↦ inr (omega (arith, c, e, few, r.size), subst (λ (q : ℕ). has_end z (entry (item new q)) ≡ true) (sym e) (subst (λ (q : Item). has_end z (entry q) ≡ true) (sym (r.same (slice_index_or first z 0) c)) g.1))
+            | inl c ↦ inr (omega (arith, c, e, few, r.size), subst (λ (q : ℕ). has_end z (entry (item new q)) ≡ true) (sym e) (subst (λ (q : StackEntry). has_end z (entry q) ≡ true) (sym (r.same (slice_index_or first z 0) c)) g.1))
             | inr c ↦
                 let x-end = end-of c g.0 g.1 in
                 let l = pushed z j few (omega (arith, r.size)) x-end in
@@ -140,9 +140,9 @@ module _ (last : ℕ → ℕ) (done v k j : ℕ) (keeps : Item → Bool) (side :
           was : (z < done) ⊎ ((p : ℕ) × IsTreeAt new z p) → (z < done) ⊎ ((p : ℕ) × IsTreeAt old z p)
           was (inl a) = inl a
           was (inr p) = elim (tree-cases last done v k j keeps side x old new rest r p.0 p.1.within p.1.tree) [
-            | inl a ↦ inr (p.0, record { within = omega (arith, a, r.within); tree = subst (λ (q : Item). q.tree ≡ true) (r.same p.0 a) p.1.tree; low = subst (λ (q : Item). q.low ≡ z) (r.same p.0 a) p.1.low })
+            | inl a ↦ inr (p.0, record { within = omega (arith, a, r.within); tree = subst (λ (q : StackEntry). q.tree ≡ true) (r.same p.0 a) p.1.tree; low = subst (λ (q : StackEntry). q.low ≡ z) (r.same p.0 a) p.1.low })
             | inr a ↦ elim r.shape [
-              | inl s ↦ inr (s.1.0, subst (λ (q : ℕ). IsTreeAt old q s.1.0) (sym (ap (λ (q : Item). q.low) (ap (item new) a.0 ∙ r.top)) ∙ p.1.low) s.1.1)
+              | inl s ↦ inr (s.1.0, subst (λ (q : ℕ). IsTreeAt old q s.1.0) (sym (ap (λ (q : StackEntry). q.low) (ap (item new) a.0 ∙ r.top)) ∙ p.1.low) s.1.1)
               | inr s ↦ absurd (both_ways x.tree s.0 a.1)
             ]
           ]
@@ -152,8 +152,8 @@ module _ (last : ℕ → ℕ) (done v k j : ℕ) (keeps : Item → Bool) (side :
           end-of c l h = elim current [
             | inl p ↦ at p
             | inr p ↦ elim (tree-cases last done v k j keeps side x old new rest r p.0 p.1.within p.1.tree) [
-              | inl a ↦ absurd (omega (arith, a, c, f.least p.0 z (omega (arith, a, r.within)) (subst (λ (q : Item). has_end z (entry q) ≡ true) (r.same p.0 a) (low-end z (item new p.0) (sym p.1.low)))))
-              | inr a ↦ inr (sym (sym (ap (λ (q : Item). q.low) (ap (item new) a.0 ∙ r.top)) ∙ p.1.low))
+              | inl a ↦ absurd (omega (arith, a, c, f.least p.0 z (omega (arith, a, r.within)) (subst (λ (q : StackEntry). has_end z (entry q) ≡ true) (r.same p.0 a) (low-end z (item new p.0) (sym p.1.low)))))
+              | inr a ↦ inr (sym (sym (ap (λ (q : StackEntry). q.low) (ap (item new) a.0 ∙ r.top)) ∙ p.1.low))
             ]
           ]
             where

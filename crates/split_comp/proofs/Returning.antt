@@ -4,8 +4,8 @@ use Rattle.std.proofs.lemmas.Bool.{cases_Bool, cases_lt, cases_eq, both_ways, lt
 use Rattle.std.proofs.lemmas.List.{length-append}
 use Rattle.std.proofs.lemmas.List.Elements.{Contains-append_cases, Contains-push_cases}
 use Rattle.pair_split.specs.Family.{Entry, has_end, touches}
-use Rattle.split_comp.specs.declared.items.Item.{Item}
-use Rattle.split_comp.specs.declared.items.Triple.{Triple}
+use Rattle.split_comp.specs.declared.items.StackEntry.{StackEntry}
+use Rattle.split_comp.specs.declared.items.StackCut.{StackCut}
 use Rattle.split_comp.specs.Stack.{item, entry, owner, IsTreeAt, IsStack, IsTopped, IsReturned}
 use Rattle.split_comp.specs.Cuts.{no_cut, cut, IsLeastUp, IsAcross, IsBefore, IsFirstBelow, IsSoundCut, AreSound, IsWanted, AreComplete, IsSoundAt, AreSoundAt, AreCompleteAt}
 use Rattle.split_comp.specs.Frames.{AreFrames}
@@ -17,7 +17,7 @@ use Rattle.split_comp.proofs.Noted.{chain-front, IsFront, front-start, front-bel
 use Rattle.split_comp.proofs.Renewed.{frond-parts, IsRenewed, place-cases, across, low-now, up-now, stack-new}
 
 -- a dart of b that starts at u: no vertex below b is met on both sides of u
-pub start-shared : (last : ℕ → ℕ) (done v : ℕ) (stack : List Item) (rest : List Entry) → IsStack last done v stack rest → (r b u z i j : ℕ) → r < length stack → owner (item stack r) ≡ b → (item stack r).start ≡ u → v < z → b < z → u ≤ i → i < length stack → j < u
+pub start-shared : (last : ℕ → ℕ) (done v : ℕ) (stack : List StackEntry) (rest : List Entry) → IsStack last done v stack rest → (r b u z i j : ℕ) → r < length stack → owner (item stack r) ≡ b → (item stack r).start ≡ u → v < z → b < z → u ≤ i → i < length stack → j < u
     → has_end z (entry (item stack i)) ≡ true → has_end z (entry (item stack j)) ≡ true → ⊥
 start-shared last done v stack rest s r b u z i j r-in o e g k a l d x y =
     let p = s.ended.held i z l x g in
@@ -36,7 +36,7 @@ start-shared last done v stack rest s r b u z i j r-in o e g k a l d x y =
     ]
 
 -- the tree edge from v to w is pushed, and w is finished
-module _ (last : ℕ → ℕ) (v w s h : ℕ) (old stack : List Item) (rest : List Entry) (stands : IsStack last w v stack rest) (f : IsFront old stack h) (size : length stack ≡ h + 1) (tree : (item stack h).tree ≡ true) (up : (item stack h).up ≡ v) (low : (item stack h).low ≡ w) (start : (item stack h).start ≡ s) where
+module _ (last : ℕ → ℕ) (v w s h : ℕ) (old stack : List StackEntry) (rest : List Entry) (stands : IsStack last w v stack rest) (f : IsFront old stack h) (size : length stack ≡ h + 1) (tree : (item stack h).tree ≡ true) (up : (item stack h).up ≡ v) (low : (item stack h).low ≡ w) (start : (item stack h).start ≡ s) where
   up-at : (i : ℕ) → h ≤ i → i < length stack → (item stack i).up ≡ v
   up-at i a l = let e : i ≡ h = omega (arith, a, l, size) in ap (λ (n : ℕ). (item stack n).up) e ∙ up
 
@@ -54,7 +54,7 @@ module _ (last : ℕ → ℕ) (v w s h : ℕ) (old stack : List Item) (rest : Li
   top-below : IsFirstBelow stack s w
   top-below = record { place = h; tree_at = record { within = omega (arith, size); tree = tree; low = low }; starts = start }
 
-  cut-back : (c : Triple) → IsSoundCut s w old c → IsSoundAt s v w stack c
+  cut-back : (c : StackCut) → IsSoundCut s w old c → IsSoundAt s v w stack c
   cut-back c x = record {
     from = x.from;
     within = omega (arith, x.within, f.size, size);
@@ -62,7 +62,7 @@ module _ (last : ℕ → ℕ) (v w s h : ℕ) (old stack : List Item) (rest : Li
     below = elim x.below [ inl e ↦ subst (IsFirstBelow stack s) (sym e) top-below | inr e ↦ front-below old stack h f s c.low e ];
     least = record {
       least = λ i a l. elim (cases_lt i h) [
-        | inl g ↦ omega (arith, x.least.least i a (omega (arith, g, f.size)), ap (λ (y : Item). y.up) (f.same i g))
+        | inl g ↦ omega (arith, x.least.least i a (omega (arith, g, f.size)), ap (λ (y : StackEntry). y.up) (f.same i g))
         | inr g ↦ omega (arith, up-at i g l, c-v)
       ];
       place = x.least.place;
@@ -75,7 +75,7 @@ module _ (last : ℕ → ℕ) (v w s h : ℕ) (old stack : List Item) (rest : Li
   }
     where
       at-place : (item stack x.least.place).up ≡ c.up
-      at-place = ap (λ (y : Item). y.up) (sym (f.same x.least.place (omega (arith, x.least.within, f.size)))) ∙ x.least.attained
+      at-place = ap (λ (y : StackEntry). y.up) (sym (f.same x.least.place (omega (arith, x.least.within, f.size)))) ∙ x.least.attained
 
       c-v : c.up ≤ v
       c-v = omega (arith, up-v x.least.place (omega (arith, x.least.within, f.size, size)) (omega (arith, at-place, x.up)), at-place)
@@ -84,7 +84,7 @@ module _ (last : ℕ → ℕ) (v w s h : ℕ) (old stack : List Item) (rest : Li
       at-w : (z j : ℕ) → z ≡ w → j < c.start → has_end z (entry (item stack j)) ≡ true → z ≡ c.low
       at-w z j e l k = elim (cases_eq c.low w) [
         | inl q ↦ e ∙ sym q
-        | inr q ↦ absurd (x.own q (record { place = j; within = l; end = subst (λ (y : Item). has_end w (entry y) ≡ true) (sym (f.same j (omega (arith, l, x.within, f.size)))) (subst (λ (n : ℕ). has_end n (entry (item stack j)) ≡ true) e k) }))
+        | inr q ↦ absurd (x.own q (record { place = j; within = l; end = subst (λ (y : StackEntry). has_end w (entry y) ≡ true) (sym (f.same j (omega (arith, l, x.within, f.size)))) (subst (λ (n : ℕ). has_end n (entry (item stack j)) ≡ true) e k) }))
       ]
 
       crossing : (z : ℕ) → v < z → IsAcross stack c.start z → z ≡ c.low
@@ -97,16 +97,16 @@ module _ (last : ℕ → ℕ) (v w s h : ℕ) (old stack : List Item) (rest : Li
               x.across z (omega (arith, n, past-w z a.low (omega (arith, l-in, size)) g a.low_end)) (record {
                 low = a.low;
                 low_within = a.low_within;
-                low_end = subst (λ (y : Item). has_end z (entry y) ≡ true) (sym (f.same a.low l-in)) a.low_end;
+                low_end = subst (λ (y : StackEntry). has_end z (entry y) ≡ true) (sym (f.same a.low l-in)) a.low_end;
                 high = a.high;
                 high_from = a.high_from;
                 high_within = omega (arith, k, f.size);
-                high_end = subst (λ (y : Item). has_end z (entry y) ≡ true) (sym (f.same a.high k)) a.high_end;
+                high_end = subst (λ (y : StackEntry). has_end z (entry y) ≡ true) (sym (f.same a.high k)) a.high_end;
               })
         ]
       ]
 
-  pub return-sound : (cuts : List Triple) → AreSound s w old cuts → AreSoundAt s v w stack cuts
+  pub return-sound : (cuts : List StackCut) → AreSound s w old cuts → AreSoundAt s v w stack cuts
   return-sound cuts x = record {
     each = λ k l n. cut-back (cut cuts k) (x.each k l);
     up_within = λ k l. (cut-back (cut cuts k) (x.each k l)).up;
@@ -114,7 +114,7 @@ module _ (last : ℕ → ℕ) (v w s h : ℕ) (old stack : List Item) (rest : Li
       starts_rise = x.chain.starts_rise;
       ups_rise = x.chain.ups_rise;
       lows_fall = x.chain.lows_fall;
-      met = λ k l. let m = x.chain.met k l in (m.0, m.1, m.2, omega (arith, m.3, f.size, size), ap (λ (y : Item). y.up) (sym (f.same m.0 (omega (arith, m.3, f.size)))) ∙ m.4);
+      met = λ k l. let m = x.chain.met k l in (m.0, m.1, m.2, omega (arith, m.3, f.size, size), ap (λ (y : StackEntry). y.up) (sym (f.same m.0 (omega (arith, m.3, f.size)))) ∙ m.4);
     };
   }
 
@@ -176,7 +176,7 @@ module _ (last : ℕ → ℕ) (v w s h : ℕ) (old stack : List Item) (rest : Li
             ]
           ]
 
-  pub return-complete : IsTopped stack rest h → (cuts : List Triple) → AreComplete s w old cuts → AreCompleteAt s v w stack cuts
+  pub return-complete : IsTopped stack rest h → (cuts : List StackCut) → AreComplete s w old cuts → AreCompleteAt s v w stack cuts
   return-complete topped cuts complete = λ t a b wanted below le not-stale. answer t a b wanted below le not-stale
     where
       b-v : (b : ℕ) → IsFirstBelow stack s b → v < b
@@ -191,8 +191,8 @@ module _ (last : ℕ → ℕ) (v w s h : ℕ) (old stack : List Item) (rest : Li
                 let same : a ≡ l.0 = least-same stack t a l.0 x.least (record { least = λ i m n. elim (cases_lt i h) [ inl k ↦ l.1.least i m k | inr k ↦ omega (arith, up-at i k n, l-v) ]; place = l.1.place; from = l.1.from; within = omega (arith, l.1.within, size); attained = l.1.attained }) in
                 subst (λ (k : ℕ). Contains cuts (record { start = t; up = k; low = b })) (sym same) (complete t l.0 b (record {
                   from = x.from;
-                  starts = let e = sym (f.same r r-h) in record { place = r; within = omega (arith, r-h, f.size); owned = subst (λ (y : Item). owner y ≡ b) e x.starts.owned; starts = subst (λ (y : Item). y.start ≡ t) e x.starts.starts };
-                  least = record { least = λ i m n. omega (arith, l.1.least i m (omega (arith, n, f.size)), ap (λ (y : Item). y.up) (f.same i (omega (arith, n, f.size)))); place = l.1.place; from = l.1.from; within = omega (arith, l.1.within, f.size); attained = ap (λ (y : Item). y.up) (f.same l.1.place l.1.within) ∙ l.1.attained };
+                  starts = let e = sym (f.same r r-h) in record { place = r; within = omega (arith, r-h, f.size); owned = subst (λ (y : StackEntry). owner y ≡ b) e x.starts.owned; starts = subst (λ (y : StackEntry). y.start ≡ t) e x.starts.starts };
+                  least = record { least = λ i m n. omega (arith, l.1.least i m (omega (arith, n, f.size)), ap (λ (y : StackEntry). y.up) (f.same i (omega (arith, n, f.size)))); place = l.1.place; from = l.1.from; within = omega (arith, l.1.within, f.size); attained = ap (λ (y : StackEntry). y.up) (f.same l.1.place l.1.within) ∙ l.1.attained };
                   free = λ y c d m. x.free y (omega (arith, c, same)) d (front-before old stack h f t y (omega (arith, t-r, r-h)) m);
                 }) old-below g)
             | inr g ↦
@@ -222,10 +222,10 @@ module _ (last : ℕ → ℕ) (v w s h : ℕ) (old stack : List Item) (rest : Li
           ]
 
 -- the last cut is dropped
-pub drop-sound : (s v w : ℕ) (stack : List Item) (cuts : List Triple) (c : Triple) → AreSoundAt s v w stack (cuts ++ c ∷ []) → AreSoundAt s v w stack cuts
+pub drop-sound : (s v w : ℕ) (stack : List StackEntry) (cuts : List StackCut) (c : StackCut) → AreSoundAt s v w stack (cuts ++ c ∷ []) → AreSoundAt s v w stack cuts
 drop-sound s v w stack cuts c x = record {
-  each = λ k l n. subst (IsSoundAt s v w stack) (at k l) (x.each k (more k l) (λ e g. n (ap (λ (y : Triple). y.up) (sym (at k l)) ∙ e) (ap (λ (y : Triple). y.low) (sym (at k l)) ∙ g)));
-  up_within = λ k l. omega (arith, x.up_within k (more k l), ap (λ (y : Triple). y.up) (at k l));
+  each = λ k l n. subst (IsSoundAt s v w stack) (at k l) (x.each k (more k l) (λ e g. n (ap (λ (y : StackCut). y.up) (sym (at k l)) ∙ e) (ap (λ (y : StackCut). y.low) (sym (at k l)) ∙ g)));
+  up_within = λ k l. omega (arith, x.up_within k (more k l), ap (λ (y : StackCut). y.up) (at k l));
   chain = chain-front stack cuts (c ∷ []) x.chain;
 }
   where
@@ -235,14 +235,14 @@ drop-sound s v w stack cuts c x = record {
     at : (k : ℕ) → k < length cuts → cut (cuts ++ c ∷ []) k ≡ cut cuts k
     at k l = cut-left cuts (c ∷ []) k l
 
-pub stale-complete : (s v w : ℕ) (stack : List Item) (cuts : List Triple) (c : Triple) → c.up ≡ v → c.low ≡ w → AreCompleteAt s v w stack (cuts ++ c ∷ []) → AreCompleteAt s v w stack cuts
+pub stale-complete : (s v w : ℕ) (stack : List StackEntry) (cuts : List StackCut) (c : StackCut) → c.up ≡ v → c.low ≡ w → AreCompleteAt s v w stack (cuts ++ c ∷ []) → AreCompleteAt s v w stack cuts
 stale-complete s v w stack cuts c e g x = λ t a b y below le n. elim (Contains-push_cases cuts c (record { start = t; up = a; low = b }) (x t a b y below le n)) [
   | inl k ↦ k
-  | inr k ↦ absurd (n (ap (λ (q : Triple). q.up) (sym k) ∙ e) (ap (λ (q : Triple). q.low) (sym k) ∙ g))
+  | inr k ↦ absurd (n (ap (λ (q : StackCut). q.up) (sym k) ∙ e) (ap (λ (q : StackCut). q.low) (sym k) ∙ g))
 ]
 
 -- the search goes on at v, with its first dart on top: cuts before which v is met are dropped
-module _ (last : ℕ → ℕ) (done v s h : ℕ) (stack : List Item) (rest : List Entry) (kept popped : List Triple) (back : IsReturned last done v s h stack rest) where
+module _ (last : ℕ → ℕ) (done v s h : ℕ) (stack : List StackEntry) (rest : List Entry) (kept popped : List StackCut) (back : IsReturned last done v s h stack rest) where
   abbrev w : ℕ
   w = (item stack h).low
 
@@ -265,7 +265,7 @@ module _ (last : ℕ → ℕ) (done v s h : ℕ) (stack : List Item) (rest : Lis
   }
     where
       less : (k : ℕ) → (l : k < length kept) → k < length (kept ++ popped) → (cut kept k).up ≤ v → (cut kept k).up < v
-      less k l more a = elim (cases_eq (cut kept k).up v) [ inl e ↦ absurd (none k more (ap (λ (q : Triple). q.up) (cut-left kept popped k l) ∙ e)) | inr n ↦ omega (arith, a, n) ]
+      less k l more a = elim (cases_eq (cut kept k).up v) [ inl e ↦ absurd (none k more (ap (λ (q : StackCut). q.up) (cut-left kept popped k l) ∙ e)) | inr n ↦ omega (arith, a, n) ]
 
   pub kill-complete : (start : ℕ → ℕ) → v ≢ 0 → AreFrames last v start stack → start v ≡ s → AreCompleteAt s v w stack (kept ++ popped) → ((k : ℕ) → k < length popped → IsBefore stack (cut popped k).start v) → AreComplete s v stack kept
   kill-complete start n f e x behind = λ t a b y below less. elim below [
@@ -274,7 +274,7 @@ module _ (last : ℕ → ℕ) (done v s h : ℕ) (stack : List Item) (rest : Lis
       | inl k ↦ k
       | inr k ↦
           let p = place-of popped (record { start = t; up = a; low = b }) no_cut k in
-          absurd (y.free v less (omega (arith, back.stands.laid.finished q.place q.tree_at.within q.tree_at.tree, q.tree_at.low, back.stands.left.ahead)) (subst (λ (i : ℕ). IsBefore stack i v) (ap (λ (c : Triple). c.start) p.2) (behind p.0 p.1)))
+          absurd (y.free v less (omega (arith, back.stands.laid.finished q.place q.tree_at.within q.tree_at.tree, q.tree_at.low, back.stands.left.ahead)) (subst (λ (i : ℕ). IsBefore stack i v) (ap (λ (c : StackCut). c.start) p.2) (behind p.0 p.1)))
     ]
   ]
     where
@@ -296,7 +296,7 @@ module _ (last : ℕ → ℕ) (done v s h : ℕ) (stack : List Item) (rest : Lis
           ]
 
 -- a side on top is replaced by a tree edge from v to b
-module _ (last : ℕ → ℕ) (done v k j h : ℕ) (keeps : Item → Bool) (side : ℕ → Bool) (x : Item) (old new : List Item) (rest : List Entry) (r : IsRenewed last done v k j keeps side x old new rest) (x-up : x.up ≡ v) (x-tree : x.tree ≡ true)
+module _ (last : ℕ → ℕ) (done v k j h : ℕ) (keeps : StackEntry → Bool) (side : ℕ → Bool) (x : StackEntry) (old new : List StackEntry) (rest : List Entry) (r : IsRenewed last done v k j keeps side x old new rest) (x-up : x.up ≡ v) (x-tree : x.tree ≡ true)
     (size : length old ≡ h + 1) (top-tree : (item old h).tree ≡ true) (top-up : (item old h).up ≡ v) (ups : (o : ℕ) → k ≤ o → o < length old → v ≤ (item old o).up) where
   abbrev wl : ℕ
   wl = (item old h).low
@@ -312,13 +312,13 @@ module _ (last : ℕ → ℕ) (done v k j h : ℕ) (keeps : Item → Bool) (side
   old-b = elim r.shape [ inl s ↦ (s.1.0, s.1.1, s.1.2, s.1.3) | inr s ↦ absurd (both_ways x.tree s.0 x-tree) ]
 
   new-top : IsTreeAt new b j
-  new-top = record { within = omega (arith, r.size); tree = ap (λ (y : Item). y.tree) r.top ∙ x-tree; low = ap (λ (y : Item). y.low) r.top }
+  new-top = record { within = omega (arith, r.size); tree = ap (λ (y : StackEntry). y.tree) r.top ∙ x-tree; low = ap (λ (y : StackEntry). y.low) r.top }
 
-  pub replaced-cut : (s : ℕ) → x.start ≡ s → (c : Triple) → c.start < k → ((o : ℕ) → o < length old → owner (item old o) ≡ c.low → (item old o).start ≡ c.start → o < k) → IsSoundAt s v wl old c → IsSoundAt s v b new c
+  pub replaced-cut : (s : ℕ) → x.start ≡ s → (c : StackCut) → c.start < k → ((o : ℕ) → o < length old → owner (item old o) ≡ c.low → (item old o).start ≡ c.start → o < k) → IsSoundAt s v wl old c → IsSoundAt s v b new c
   replaced-cut s start c less darts y = record {
     from = y.from;
     within = omega (arith, less, k-j, r.size);
-    starts = let e = sym (r.same y.starts.place r-k) in record { place = y.starts.place; within = omega (arith, r-k, k-j, r.size); owned = subst (λ (i : Item). owner i ≡ c.low) e y.starts.owned; starts = subst (λ (i : Item). i.start ≡ c.start) e y.starts.starts };
+    starts = let e = sym (r.same y.starts.place r-k) in record { place = y.starts.place; within = omega (arith, r-k, k-j, r.size); owned = subst (λ (i : StackEntry). owner i ≡ c.low) e y.starts.owned; starts = subst (λ (i : StackEntry). i.start ≡ c.start) e y.starts.starts };
     below = below;
     least = least;
     up = y.up;
@@ -333,34 +333,34 @@ module _ (last : ℕ → ℕ) (done v k j h : ℕ) (keeps : Item → Bool) (side
 
       below : IsFirstBelow new s c.low
       below = elim (cases_lt y.below.place k) [
-        | inl a ↦ let e = sym (r.same y.below.place a) in record { place = y.below.place; tree_at = record { within = omega (arith, a, k-j, r.size); tree = subst (λ (i : Item). i.tree ≡ true) e y.below.tree_at.tree; low = subst (λ (i : Item). i.low ≡ c.low) e y.below.tree_at.low }; starts = subst (λ (i : Item). i.start ≡ s) e y.below.starts }
+        | inl a ↦ let e = sym (r.same y.below.place a) in record { place = y.below.place; tree_at = record { within = omega (arith, a, k-j, r.size); tree = subst (λ (i : StackEntry). i.tree ≡ true) e y.below.tree_at.tree; low = subst (λ (i : StackEntry). i.low ≡ c.low) e y.below.tree_at.low }; starts = subst (λ (i : StackEntry). i.start ≡ s) e y.below.starts }
         | inr a ↦
             let z = across last done v k j keeps side x old new rest r y.starts.place y.below.place c.low r-k a y.below.tree_at.within (r.trees (item old y.below.place) y.below.tree_at.tree)
             (subst (λ (q : ℕ). has_end q (entry (item old y.starts.place)) ≡ true) y.starts.owned (owner-end (item old y.starts.place))) (low-end c.low (item old y.below.place) (sym y.below.tree_at.low)) in
             elim z [
               | inl e ↦ absurd (omega (arith, e, x-up, c-v))
-              | inr e ↦ record { place = j; tree_at = subst (λ (q : ℕ). IsTreeAt new q j) (sym e) new-top; starts = ap (λ (i : Item). i.start) r.top ∙ start }
+              | inr e ↦ record { place = j; tree_at = subst (λ (q : ℕ). IsTreeAt new q j) (sym e) new-top; starts = ap (λ (i : StackEntry). i.start) r.top ∙ start }
             ]
       ]
 
       least : IsLeastUp new c.start c.up
       least = elim (cases_lt y.least.place k) [
-        | inl a ↦ record { least = low; place = y.least.place; from = y.least.from; within = omega (arith, a, k-j, r.size); attained = ap (λ (i : Item). i.up) (r.same y.least.place a) ∙ y.least.attained }
-        | inr a ↦ record { least = low; place = j; from = omega (arith, less, k-j); within = omega (arith, r.size); attained = ap (λ (i : Item). i.up) r.top ∙ (x-up ∙ omega (arith, y.up, y.least.attained, ups y.least.place a y.least.within)) }
+        | inl a ↦ record { least = low; place = y.least.place; from = y.least.from; within = omega (arith, a, k-j, r.size); attained = ap (λ (i : StackEntry). i.up) (r.same y.least.place a) ∙ y.least.attained }
+        | inr a ↦ record { least = low; place = j; from = omega (arith, less, k-j); within = omega (arith, r.size); attained = ap (λ (i : StackEntry). i.up) r.top ∙ (x-up ∙ omega (arith, y.up, y.least.attained, ups y.least.place a y.least.within)) }
       ]
         where
           low : (i : ℕ) → c.start ≤ i → i < length new → c.up ≤ (item new i).up
           low i m n = elim (cases_lt i k) [
-            | inl a ↦ omega (arith, y.least.least i m (omega (arith, a, r.within)), ap (λ (q : Item). q.up) (r.same i a))
+            | inl a ↦ omega (arith, y.least.least i m (omega (arith, a, r.within)), ap (λ (q : StackEntry). q.up) (r.same i a))
             | inr a ↦ omega (arith, up-now last done v k j keeps side x old new rest r i a n, x-up, y.up)
           ]
 
       crossing : (z : ℕ) → v < z → IsAcross new c.start z → z ≡ c.low
       crossing z g a =
           let l-k : a.low < k = omega (arith, a.low_within, less) in
-          let l-end = subst (λ (i : Item). has_end z (entry i) ≡ true) (r.same a.low l-k) a.low_end in
+          let l-end = subst (λ (i : StackEntry). has_end z (entry i) ≡ true) (r.same a.low l-k) a.low_end in
           elim (cases_lt a.high k) [
-            | inl m ↦ y.across z g (record { low = a.low; low_within = a.low_within; low_end = l-end; high = a.high; high_from = a.high_from; high_within = omega (arith, m, r.within); high_end = subst (λ (i : Item). has_end z (entry i) ≡ true) (r.same a.high m) a.high_end })
+            | inl m ↦ y.across z g (record { low = a.low; low_within = a.low_within; low_end = l-end; high = a.high; high_from = a.high_from; high_within = omega (arith, m, r.within); high_end = subst (λ (i : StackEntry). has_end z (entry i) ≡ true) (r.same a.high m) a.high_end })
             | inr m ↦
                 let p = old-b in
                 let e : z ≡ b = elim (item-ends z (item new a.high) a.high_end) [
@@ -370,7 +370,7 @@ module _ (last : ℕ → ℕ) (done v k j h : ℕ) (keeps : Item → Bool) (side
                 y.across z g (record { low = a.low; low_within = a.low_within; low_end = l-end; high = p.0; high_from = omega (arith, p.2, less); high_within = p.1.within; high_end = low-end z (item old p.0) (e ∙ sym p.1.low) })
           ]
 
-  pub replaced-sound : (s : ℕ) → x.start ≡ s → (cuts : List Triple) → ((c : ℕ) → c < length cuts → (cut cuts c).start ≤ k) → ((c : ℕ) → c < length cuts → (cut cuts c).start ≡ k → ((cut cuts c).up ≡ v) × ((cut cuts c).low ≡ b))
+  pub replaced-sound : (s : ℕ) → x.start ≡ s → (cuts : List StackCut) → ((c : ℕ) → c < length cuts → (cut cuts c).start ≤ k) → ((c : ℕ) → c < length cuts → (cut cuts c).start ≡ k → ((cut cuts c).up ≡ v) × ((cut cuts c).low ≡ b))
       → ((c : ℕ) → c < length cuts → (cut cuts c).up ≡ v → (cut cuts c).low ≡ wl → b ≡ wl)
       → ((c o : ℕ) → c < length cuts → (cut cuts c).start < k → o < length old → owner (item old o) ≡ (cut cuts c).low → (item old o).start ≡ (cut cuts c).start → o < k)
       → AreSoundAt s v wl old cuts → AreSoundAt s v b new cuts
@@ -383,11 +383,11 @@ module _ (last : ℕ → ℕ) (done v k j h : ℕ) (keeps : Item → Bool) (side
       starts_rise = y.chain.starts_rise;
       ups_rise = y.chain.ups_rise;
       lows_fall = y.chain.lows_fall;
-      met = λ c l. let m = y.chain.met c l in let i-k : m.0 < k = omega (arith, m.2, within (c + 1) l) in (m.0, m.1, m.2, omega (arith, i-k, k-j, r.size), ap (λ (i : Item). i.up) (r.same m.0 i-k) ∙ m.4);
+      met = λ c l. let m = y.chain.met c l in let i-k : m.0 < k = omega (arith, m.2, within (c + 1) l) in (m.0, m.1, m.2, omega (arith, i-k, k-j, r.size), ap (λ (i : StackEntry). i.up) (r.same m.0 i-k) ∙ m.4);
     };
   }
 
-  pub replaced-complete : (s : ℕ) → x.start ≡ s → (cuts more : List Triple) → ((c : Triple) → Contains more c → Contains cuts c ⊎ (k ≤ c.start)) → AreCompleteAt s v wl old more → AreCompleteAt s v b new cuts
+  pub replaced-complete : (s : ℕ) → x.start ≡ s → (cuts more : List StackCut) → ((c : StackCut) → Contains more c → Contains cuts c ⊎ (k ≤ c.start)) → AreCompleteAt s v wl old more → AreCompleteAt s v b new cuts
   replaced-complete s start cuts more sub y = λ t a b' wanted below le n. answer t a b' wanted below le n
     where
       answer : (t a b' : ℕ) → IsWanted s new t a b' → IsFirstBelow new s b' → a ≤ v → (a ≡ v → b' ≡ b → ⊥) → Contains cuts (record { start = t; up = a; low = b' })
@@ -400,7 +400,7 @@ module _ (last : ℕ → ℕ) (done v k j h : ℕ) (keeps : Item → Bool) (side
               n (omega (arith, le, wanted.least.attained, up-now last done v k j keeps side x old new rest r wanted.least.place (omega (arith, wanted.least.from, tk)) wanted.least.within, x-up)) (sym (owner-frond (item new wanted.starts.place) b' wanted.starts.owned frond) ∙ q)
           | inr e ↦
               let tr : (item new wanted.starts.place).tree ≡ true = ap (λ (i : ℕ). (item new i).tree) e ∙ new-top.tree in
-              omega (arith, b'-v below, owner-tree (item new wanted.starts.place) b' wanted.starts.owned tr, ap (λ (i : ℕ). (item new i).up) e, ap (λ (i : Item). i.up) r.top, x-up)
+              omega (arith, b'-v below, owner-tree (item new wanted.starts.place) b' wanted.starts.owned tr, ap (λ (i : ℕ). (item new i).up) e, ap (λ (i : StackEntry). i.up) r.top, x-up)
         ])
         | inl r-k ↦ elim (sub (record { start = t; up = a; low = b' }) (y t a b' (was r-k) (was-below below) le (λ e g. not-stale below e g))) [
           | inl c ↦ c
@@ -420,20 +420,20 @@ module _ (last : ℕ → ℕ) (done v k j h : ℕ) (keeps : Item → Bool) (side
           was : wanted.starts.place < k → IsWanted s old t a b'
           was r-k = record {
             from = wanted.from;
-            starts = let e = r.same wanted.starts.place r-k in record { place = wanted.starts.place; within = omega (arith, r-k, r.within); owned = subst (λ (i : Item). owner i ≡ b') e wanted.starts.owned; starts = subst (λ (i : Item). i.start ≡ t) e wanted.starts.starts };
+            starts = let e = r.same wanted.starts.place r-k in record { place = wanted.starts.place; within = omega (arith, r-k, r.within); owned = subst (λ (i : StackEntry). owner i ≡ b') e wanted.starts.owned; starts = subst (λ (i : StackEntry). i.start ≡ t) e wanted.starts.starts };
             least = least;
-            free = λ z c d m. wanted.free z c d (record { place = m.place; within = m.within; end = subst (λ (i : Item). has_end z (entry i) ≡ true) (sym (r.same m.place (omega (arith, m.within, t-r, r-k)))) m.end });
+            free = λ z c d m. wanted.free z c d (record { place = m.place; within = m.within; end = subst (λ (i : StackEntry). has_end z (entry i) ≡ true) (sym (r.same m.place (omega (arith, m.within, t-r, r-k)))) m.end });
           }
             where
               low : (i : ℕ) → t ≤ i → i < length old → a ≤ (item old i).up
               low i m l = elim (cases_lt i k) [
-                | inl c ↦ omega (arith, wanted.least.least i m (omega (arith, c, k-j, r.size)), ap (λ (q : Item). q.up) (r.same i c))
+                | inl c ↦ omega (arith, wanted.least.least i m (omega (arith, c, k-j, r.size)), ap (λ (q : StackEntry). q.up) (r.same i c))
                 | inr c ↦ omega (arith, le, ups i c l)
               ]
 
               least : IsLeastUp old t a
               least = elim (cases_lt wanted.least.place k) [
-                | inl c ↦ record { least = low; place = wanted.least.place; from = wanted.least.from; within = omega (arith, c, r.within); attained = ap (λ (q : Item). q.up) (sym (r.same wanted.least.place c)) ∙ wanted.least.attained }
+                | inl c ↦ record { least = low; place = wanted.least.place; from = wanted.least.from; within = omega (arith, c, r.within); attained = ap (λ (q : StackEntry). q.up) (sym (r.same wanted.least.place c)) ∙ wanted.least.attained }
                 | inr c ↦ record { least = low; place = h; from = omega (arith, t-r, r-k, r.within, size); within = omega (arith, size); attained = omega (arith, top-up, x-up, up-now last done v k j keeps side x old new rest r wanted.least.place c wanted.least.within, wanted.least.attained) }
               ]
 
@@ -446,7 +446,7 @@ module _ (last : ℕ → ℕ) (done v k j h : ℕ) (keeps : Item → Bool) (side
 
           was-below : IsFirstBelow new s b' → IsFirstBelow old s b'
           was-below q = elim (tree-place q) [
-            | inl m ↦ let e = r.same q.place m in record { place = q.place; tree_at = record { within = omega (arith, m, r.within); tree = subst (λ (i : Item). i.tree ≡ true) e q.tree_at.tree; low = subst (λ (i : Item). i.low ≡ b') e q.tree_at.low }; starts = subst (λ (i : Item). i.start ≡ s) e q.starts }
+            | inl m ↦ let e = r.same q.place m in record { place = q.place; tree_at = record { within = omega (arith, m, r.within); tree = subst (λ (i : StackEntry). i.tree ≡ true) e q.tree_at.tree; low = subst (λ (i : StackEntry). i.low ≡ b') e q.tree_at.low }; starts = subst (λ (i : StackEntry). i.start ≡ s) e q.starts }
             | inr m ↦ let p = old-b in record { place = p.0; tree_at = subst (λ (z : ℕ). IsTreeAt old z p.0) (sym m) p.1; starts = p.3 ∙ start }
           ]
 
@@ -455,6 +455,6 @@ module _ (last : ℕ → ℕ) (done v k j h : ℕ) (keeps : Item → Bool) (side
             | inr m ↦ n e m
             | inl m ↦
                 let f = r.same q.place m in
-                let same = same-tree last done v old rest r.stands wl q.place h (record { within = omega (arith, m, r.within); tree = subst (λ (i : Item). i.tree ≡ true) f q.tree_at.tree; low = subst (λ (i : Item). i.low ≡ b') f q.tree_at.low ∙ g }) (record { within = omega (arith, size); tree = top-tree; low = refl }) in
+                let same = same-tree last done v old rest r.stands wl q.place h (record { within = omega (arith, m, r.within); tree = subst (λ (i : StackEntry). i.tree ≡ true) f q.tree_at.tree; low = subst (λ (i : StackEntry). i.low ≡ b') f q.tree_at.low ∙ g }) (record { within = omega (arith, size); tree = top-tree; low = refl }) in
                 omega (arith, same, m, r.within, size)
           ]

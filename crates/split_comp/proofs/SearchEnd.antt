@@ -1,7 +1,7 @@
 -- The components that the pass leaves are those of the block.
-use Rattle.std.proofs.Common.{◌≡◌, ◌≢◌, ℕ, suc, ◌+◌, ◌*◌, ◌^◌, ◌<◌, ◌≤◌, List, [], ◌∷◌, ◌++◌, length, map, replicate, refl, sym, ap, ◌∙◌, subst, arith}
-use Rattle.std.proofs.lemmas.List.{length-map, append-nil, length-append, map_push}
-use Rattle.multigraph.specs.Graph.{Multigraph, edge_count, ends_of, IsGraph, IsWithinLimits, numbers_below}
+use Rattle.std.proofs.Common.{◌≡◌, ◌≢◌, ℕ, ◌+◌, ◌*◌, ◌^◌, ◌<◌, ◌≤◌, List, [], ◌∷◌, length, map, refl, sym, ap, ◌∙◌, subst, arith}
+use Rattle.std.proofs.lemmas.List.{length-map, append-nil, length-append}
+use Rattle.multigraph.specs.Graph.{Multigraph, edge_count, IsGraph, IsWithinLimits, numbers_below}
 use Rattle.multigraph.proofs.Below.{length-numbers_below}
 use Rattle.graph_theory.specs.Block.{IsOneBlock}
 use Rattle.palm_tree.specs.PalmTree.{IsPalmTree}
@@ -22,7 +22,7 @@ use Rattle.pair_split.proofs.Layers.{layer-current}
 use Rattle.pair_split.proofs.Finish.{state-end}
 use Rattle.pair_split.proofs.SplitSteps.{start-state, start-split}
 use Rattle.pair_split.proofs.WritingSteps.{state-listed}
-use Rattle.split_comp.specs.declared.items.Item.{Item}
+use Rattle.split_comp.specs.declared.items.StackEntry.{StackEntry}
 use Rattle.split_comp.specs.Stack.{entry}
 use Rattle.split_comp.specs.Palm.{AreVertices, tree_dart, tree_degree, tree_parent, AreDrawn, IsPalm}
 use Rattle.split_comp.specs.Pass.{NumberedTree, IsNumbered, PassState, IsPass, IsPassed, HasTurns, drawn, drawn_items, drawn_family, first_state}
@@ -44,12 +44,12 @@ module _ (g : Multigraph) (graph : IsGraph g) (limits : IsWithinLimits g) (block
     pub start-pass : IsPass g t s
     start-pass = begin-pass g t is-numbered palm are-drawn s now
 
-    pub start-turns : HasTurns g t s (g.vertex_count + edge_count g)
+    pub start-turns : (k : ℕ) → k + 1 ≡ g.vertex_count + edge_count g → HasTurns g t s k
     start-turns = begin-turns g t is-numbered palm are-drawn s now
 
 -- its end
 module _ (g : Multigraph) (t : NumberedTree) (numbered : IsNumbered g t) (s : PassState) (p : IsPassed g t s) (edges : List NamedEdge) (left : family_of edges ≡ drawn_items g t.vertex s.items) where
-  map-twice : (items : List Item) → map (drawn g t.vertex) (map entry items) ≡ drawn_items g t.vertex items
+  map-twice : (items : List StackEntry) → map (drawn g t.vertex) (map entry items) ≡ drawn_items g t.vertex items
   map-twice [] = refl
   map-twice (x ∷ items) = ap (λ (l : List Entry). drawn g t.vertex (entry x) ∷ l) (map-twice items)
 
@@ -77,7 +77,7 @@ module _ (g : Multigraph) (t : NumberedTree) (numbered : IsNumbered g t) (s : Pa
   left-total : s.total ≡ length edges
   left-total = omega (arith, p.held.total, length-append (entries s.items) [], length-map s.items entry, left-length)
     where
-      entries : List Item → List Entry
+      entries : List StackEntry → List Entry
       entries l = map entry l
 
   pub left-few : edge_count g + length s.parts < 2 ^ 32

@@ -5,8 +5,8 @@ use Rattle.std.proofs.lemmas.List.Filters.{length-filter_both}
 use Rattle.std.proofs.lemmas.List.Elements.{Contains-get_or}
 use Rattle.multigraph.specs.Graph.{Multigraph}
 use Rattle.pair_split.proofs.Elements.{contains-filter, element-some}
-use Rattle.split_comp.specs.declared.items.Item.{Item}
-use Rattle.split_comp.specs.declared.items.Triple.{Triple}
+use Rattle.split_comp.specs.declared.items.StackEntry.{StackEntry}
+use Rattle.split_comp.specs.declared.items.StackCut.{StackCut}
 use Rattle.split_comp.specs.Stack.{no_item, item, entry}
 use Rattle.split_comp.specs.Cuts.{cut}
 use Rattle.split_comp.specs.Sides.{is_frond_to}
@@ -23,10 +23,10 @@ apart-one None = omega arith
 apart-one (Some name) = omega arith
 
 -- what goes and what stays apart are no more than all
-pub apart-few : (frond : Option ℕ) (items : List Item) (up low : ℕ) → IsFrondFound up low items frond → length (filter (goes true up low) items) + number_apart frond ≤ length items
-apart-few frond items up low found = omega (arith, length-filter_both (goes true up low) (is_frond_to up low) other items, some frond found)
+pub apart-few : (frond : Option ℕ) (items : List StackEntry) (up low : ℕ) → IsFrondFound up low items frond → length (filter (goes (Some (up, low))) items) + number_apart frond ≤ length items
+apart-few frond items up low found = omega (arith, length-filter_both (goes (Some (up, low))) (is_frond_to up low) other items, some frond found)
   where
-    other : (x : Item) → is_frond_to up low x ≡ not (goes true up low x)
+    other : (x : StackEntry) → is_frond_to up low x ≡ not (goes (Some (up, low)) x)
     other x = twice (is_frond_to up low x)
       where
         twice : (b : Bool) → b ≡ not (not b)
@@ -59,16 +59,16 @@ module _ (g : Multigraph) (t : NumberedTree) (numbered : IsNumbered g t) (s : Pa
       )
 
   -- a triangle
-  module _ (fresh : IsStale s.at (at_place s.base s.done) s → ⊥) (tri : IsTriangle s) (v place : ℕ) (below : Item) (here : v ≡ s.at) (second : place ≡ length s.items - 2) (read : below ≡ item s.items place) where
+  module _ (fresh : IsStale s.at (at_place s.base s.done) s → ⊥) (tri : IsTriangle s) (v place : ℕ) (below : StackEntry) (here : v ≡ s.at) (second : place ≡ length s.items - 2) (read : below ≡ item s.items place) where
     below-is : below ≡ below_item s
     below-is = read ∙ ap (item s.items) second
 
-    pub corner-can : CanSplitOff g t.vertex (goes false v below.low) place v below.low s
-    corner-can = subst (λ (y : ℕ × ℕ × Item). CanSplitOff g t.vertex (λ (x : Item). true) y.0 y.1 y.2.low s) (λ i. (sym second i, sym here i, sym below-is i)) (triangle-can g t numbered s.done s b tri fresh)
+    pub corner-can : CanSplitOff g t.vertex (goes None) place v below.low s
+    corner-can = subst (λ (y : ℕ × ℕ × StackEntry). CanSplitOff g t.vertex (λ (x : StackEntry). true) y.0 y.1 y.2.low s) (λ i. (sym second i, sym here i, sym below-is i)) (triangle-can g t numbered s.done s b tri fresh)
 
-    module _ (mid : PassState) (e : IsSplitOff g t.vertex (goes false v below.low) place v below.low s mid) (name : ℕ) (named : name ≡ next_name g s) where
+    module _ (mid : PassState) (e : IsSplitOff g t.vertex (goes None) place v below.low s mid) (name : ℕ) (named : name ≡ next_name g s) where
       split_off : IsSplitOff g t.vertex (λ x. true) (length s.items - 2) s.at (below_item s).low s mid
-      split_off = subst (λ (y : ℕ × ℕ × Item). IsSplitOff g t.vertex (λ (x : Item). true) y.0 y.1 y.2.low s mid) (λ i. (second i, here i, below-is i)) e
+      split_off = subst (λ (y : ℕ × ℕ × StackEntry). IsSplitOff g t.vertex (λ (x : StackEntry). true) y.0 y.1 y.2.low s mid) (λ i. (second i, here i, below-is i)) e
 
       abbrev now : PassState
       now = pushed mid (new_tree name v below.low below.start)
@@ -82,7 +82,7 @@ module _ (g : Multigraph) (t : NumberedTree) (numbered : IsNumbered g t) (s : Pa
       corner-joins = added-can g t numbered s.done now raised.0
 
       pub corner-low : below.low < length mid.first
-      corner-low = omega (arith, ap (λ (z : PassState). length z.first) e.now, b.raised.first.places, below-in, ap (λ (x : Item). x.low) below-is)
+      corner-low = omega (arith, ap (λ (z : PassState). length z.first) e.now, b.raised.first.places, below-in, ap (λ (x : StackEntry). x.low) below-is)
 
       -- two entries less
       pub corner-weight : weight mid + 16 ≡ weight s
@@ -96,16 +96,16 @@ module _ (g : Multigraph) (t : NumberedTree) (numbered : IsNumbered g t) (s : Pa
           )
 
   -- a pair
-  module _ (fresh : IsStale s.at (at_place s.base s.done) s → ⊥) (none : IsTriangle s → ⊥) (to : IsCutTo s.at (at_place s.base s.done) s) (v : ℕ) (last : Triple) (dropped : PassState)
+  module _ (fresh : IsStale s.at (at_place s.base s.done) s → ⊥) (none : IsTriangle s → ⊥) (to : IsCutTo s.at (at_place s.base s.done) s) (v : ℕ) (last : StackCut) (dropped : PassState)
       (here : v ≡ s.at) (is : last ≡ cut s.cuts (length s.cuts - 1)) (d : dropped ≡ cuts_dropped s (length s.cuts - 1)) where
-    pub end-can : CanSplitOff g t.vertex (goes true v last.low) last.start v last.low dropped
-    end-can = subst (λ (y : ℕ × Triple × PassState). CanSplitOff g t.vertex (goes true y.0 y.1.low) y.1.start y.0 y.1.low y.2) (λ i. (sym here i, sym is i, sym d i)) (pair-can g t numbered s.done s b fresh none to.some to.up)
+    pub end-can : CanSplitOff g t.vertex (goes (Some (v, last.low))) last.start v last.low dropped
+    end-can = subst (λ (y : ℕ × StackCut × PassState). CanSplitOff g t.vertex (goes (Some (y.0, y.1.low))) y.1.start y.0 y.1.low y.2) (λ i. (sym here i, sym is i, sym d i)) (pair-can g t numbered s.done s b fresh none to.some to.up)
 
     pub end-start : last.start ≤ length dropped.items
     end-start = end-can.within
 
     -- what is behind the cut is gone, and the cut
-    module _ (mid : PassState) (e : IsSplitOff g t.vertex (goes true v last.low) last.start v last.low dropped mid) where
+    module _ (mid : PassState) (e : IsSplitOff g t.vertex (goes (Some (v, last.low))) last.start v last.low dropped mid) where
       pub end-low : last.low < length mid.first
       end-low = omega (arith, ap (λ (z : PassState). length z.first) e.now, ap (λ (z : PassState). length z.first) d, b.raised.first.places, end-can.low_in, numbered.vertices.places)
 
@@ -125,17 +125,17 @@ module _ (g : Multigraph) (t : NumberedTree) (numbered : IsNumbered g t) (s : Pa
       pub end-few : last.start + 2 + number_apart frond ≤ length dropped.items
       end-few = omega (arith, end-can.two, end-can.within, apart-few frond (drop last.start dropped.items) v last.low found, length-drop last.start dropped.items)
 
-      module _ (mid : PassState) (e : IsSplitOff g t.vertex (goes true v last.low) last.start v last.low dropped mid) (name : ℕ) (named : name ≡ next_name g dropped) (apart : PassState) (a : IsApart frond v last.low last.start mid apart) (start : ℕ) (from : start ≡ at_place s.start s.done) where
-        abbrev c : Triple
+      module _ (mid : PassState) (e : IsSplitOff g t.vertex (goes (Some (v, last.low))) last.start v last.low dropped mid) (name : ℕ) (named : name ≡ next_name g dropped) (apart : PassState) (a : IsApart frond v last.low last.start mid apart) (start : ℕ) (from : start ≡ at_place s.start s.done) where
+        abbrev c : StackCut
         c = cut s.cuts (length s.cuts - 1)
 
-        taken : IsSplitOff g t.vertex (goes true s.at c.low) c.start s.at c.low (cuts_dropped s (length s.cuts - 1)) mid
-        taken = subst (λ (y : ℕ × Triple × PassState). IsSplitOff g t.vertex (goes true y.0 y.1.low) y.1.start y.0 y.1.low y.2 mid) (λ i. (here i, is i, d i)) e
+        taken : IsSplitOff g t.vertex (goes (Some (s.at, c.low))) c.start s.at c.low (cuts_dropped s (length s.cuts - 1)) mid
+        taken = subst (λ (y : ℕ × StackCut × PassState). IsSplitOff g t.vertex (goes (Some (y.0, y.1.low))) y.1.start y.0 y.1.low y.2 mid) (λ i. (here i, is i, d i)) e
 
         found-there : IsFrondFound s.at c.low (drop c.start s.items) frond
-        found-there = subst (λ (y : ℕ × Triple × PassState). IsFrondFound y.0 y.1.low (drop y.1.start y.2.items) frond) (λ i. (here i, is i, d i)) found
+        found-there = subst (λ (y : ℕ × StackCut × PassState). IsFrondFound y.0 y.1.low (drop y.1.start y.2.items) frond) (λ i. (here i, is i, d i)) found
 
-        abbrev x : Item
+        abbrev x : StackEntry
         x = new_tree (next_name g s) s.at c.low (at_place s.start s.done)
 
         abbrev Raises : PassState → Type 0
@@ -149,7 +149,7 @@ module _ (g : Multigraph) (t : NumberedTree) (numbered : IsNumbered g t) (s : Pa
 
         raised-end : Raises (pushed apart (new_tree name v last.low start))
         raised-end = subst Raises (λ i. pushed apart (new_tree (sym (named ∙ ap (next_name g) d) i) (sym here i) (sym is i).low (sym from i)))
-            (raised-by frond found-there (subst (λ (y : ℕ × Triple). IsApart frond y.0 y.1.low y.1.start mid apart) (λ i. (here i, is i)) a))
+            (raised-by frond found-there (subst (λ (y : ℕ × StackCut). IsApart frond y.0 y.1.low y.1.start mid apart) (λ i. (here i, is i)) a))
 
         first-apart : (frond : Option ℕ) → IsApart frond v last.low last.start mid apart → length apart.first ≡ length mid.first
         first-apart None q = ap (λ (z : PassState). length z.first) q

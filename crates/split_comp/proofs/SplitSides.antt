@@ -7,8 +7,8 @@ use Rattle.pair_split.specs.Family.{Entry, has_end, off_side, touches, IsSeparat
 use Rattle.pair_split.proofs.Elements.{two-pass}
 use Rattle.pair_split.proofs.Degrees.{tight-degree}
 use Rattle.pair_split.proofs.Sides.{touching-entry, separation-from, exactly_two, one-from_entry, length-sides}
-use Rattle.split_comp.specs.declared.items.Item.{Item}
-use Rattle.split_comp.specs.declared.items.Triple.{Triple}
+use Rattle.split_comp.specs.declared.items.StackEntry.{StackEntry}
+use Rattle.split_comp.specs.declared.items.StackCut.{StackCut}
 use Rattle.split_comp.specs.Stack.{item, entry, family, owner, IsTreeAt, IsStack, IsBad, IsReturned}
 use Rattle.split_comp.specs.Cuts.{no_cut, cut, IsBefore, IsFirstBelow, IsSoundAt, AreSoundAt, AreCompleteAt}
 use Rattle.split_comp.specs.Sides.{is_frond_to, IsCutOff, all_items, but_frond, IsLeast, HasNoTriangle}
@@ -22,7 +22,7 @@ use Rattle.split_comp.proofs.Complete.{v-w, s-h, low-v, start-s, met-inside, res
 use Rattle.split_comp.proofs.Noted.{chain-rises, cut-push}
 
 -- what belongs to a dart has an upper end on the path, or a vertex between in common with entries behind
-pub dart-alone : (last : ℕ → ℕ) (done v : ℕ) (stack : List Item) (rest : List Entry) → IsStack last done v stack rest → (r : ℕ) → r < length stack → ((j : ℕ) → (item stack r).start ≤ j → j ≤ r → v < (item stack j).up)
+pub dart-alone : (last : ℕ → ℕ) (done v : ℕ) (stack : List StackEntry) (rest : List Entry) → IsStack last done v stack rest → (r : ℕ) → r < length stack → ((j : ℕ) → (item stack r).start ≤ j → j ≤ r → v < (item stack j).up)
     → ((z p i : ℕ) → v < z → z < owner (item stack r) → IsTreeAt stack z p → r < p → (item stack r).start ≤ i → i ≤ r → has_end z (entry (item stack i)) ≡ true → ⊥) → ⊥
 dart-alone last done v stack rest s r m ups none =
     let e = touching-entry rest v s.left.own in
@@ -64,7 +64,7 @@ dart-alone last done v stack rest s r m ups none =
           ]
         ]
 
-module _ (last : ℕ → ℕ) (done v s h : ℕ) (stack : List Item) (rest : List Entry) (back : IsReturned last done v s h stack rest) where
+module _ (last : ℕ → ℕ) (done v s h : ℕ) (stack : List StackEntry) (rest : List Entry) (back : IsReturned last done v s h stack rest) where
   abbrev w : ℕ
   w = (item stack h).low
 
@@ -192,7 +192,7 @@ module _ (last : ℕ → ℕ) (done v s h : ℕ) (stack : List Item) (rest : Lis
         top-place q a n b = omega (arith, a, n, b, back.size, k-h)
 
   -- what lies behind a cut
-  module _ (c : Triple) (sound : IsSoundAt s v w stack c) (up : c.up ≡ v) (other : c.low ≢ w) where
+  module _ (c : StackCut) (sound : IsSoundAt s v w stack c) (up : c.up ≡ v) (other : c.low ≢ w) where
     abbrev b : ℕ
     b = c.low
 
@@ -252,7 +252,7 @@ module _ (last : ℕ → ℕ) (done v s h : ℕ) (stack : List Item) (rest : Lis
             twice t e = elim (cases_Bool t) [ inl y ↦ y | inr n ↦ absurd (both_ways (not t) e (not_from_false t n)) ]
 
     -- a frond to v from another vertex of a cut before this one lies before it
-    frond-before : (d : Triple) → IsFirstBelow stack s d.low → b ≤ d.low → d.low ≢ b → (i : ℕ) → c.start ≤ i → i < length stack → is_frond_to v d.low (item stack i) ≡ true → ⊥
+    frond-before : (d : StackCut) → IsFirstBelow stack s d.low → b ≤ d.low → d.low ≢ b → (i : ℕ) → c.start ≤ i → i < length stack → is_frond_to v d.low (item stack i) ≡ true → ⊥
     frond-before d below m n i a l f =
         let p = frond-parts v d.low (item stack i) f in
         let t = touching-tree last done v stack rest stands d.low below.place i below.tree_at l (low-end d.low (item stack i) (sym p.2)) in
@@ -293,7 +293,7 @@ module _ (last : ℕ → ℕ) (done v s h : ℕ) (stack : List Item) (rest : Lis
             ]
 
     -- where it is the last of the cuts, each bad side holds it
-    pub pair-least : (cuts : List Triple) → AreSoundAt s v w stack (cuts ++ c ∷ []) → AreCompleteAt s v w stack (cuts ++ c ∷ []) → HasNoTriangle stack h w → (side : ℕ → Bool) → IsCutOff (but_frond v b) stack rest c.start side → IsLeast stack rest side
+    pub pair-least : (cuts : List StackCut) → AreSoundAt s v w stack (cuts ++ c ∷ []) → AreCompleteAt s v w stack (cuts ++ c ∷ []) → HasNoTriangle stack h w → (side : ℕ → Bool) → IsCutOff (but_frond v b) stack rest c.start side → IsLeast stack rest side
     pair-least cuts sounds complete triangle side k t p q bad i l on =
         let x = bad-v last done v s h stack rest back t p q bad in
         elim (cases_lt x.0 v) [
@@ -316,20 +316,20 @@ module _ (last : ℕ → ℕ) (done v s h : ℕ) (stack : List Item) (rest : Lis
         rises : (n : ℕ) → n < length cuts → ((cut (cuts ++ c ∷ []) n).start < c.start) × (c.low ≤ (cut (cuts ++ c ∷ []) n).low)
         rises n m =
             let a = chain-rises stack (cuts ++ c ∷ []) sounds.chain n (length cuts) m (omega (arith, length-append cuts (c ∷ []))) in
-            (omega (arith, a.0, ap (λ (y : Triple). y.start) at-last), omega (arith, a.2, ap (λ (y : Triple). y.low) at-last))
+            (omega (arith, a.0, ap (λ (y : StackCut). y.start) at-last), omega (arith, a.2, ap (λ (y : StackCut). y.low) at-last))
 
         before : (t' b' : ℕ) → (n : ℕ) × (n < length (cuts ++ c ∷ [])) × (cut (cuts ++ c ∷ []) n ≡ record { start = t'; up = v; low = b' }) → t' ≤ i
         before t' b' e = elim (last-place e.0 e.1) [
-          | inl m ↦ omega (arith, from, (rises e.0 m).0, ap (λ (y : Triple). y.start) e.2)
-          | inr m ↦ omega (arith, from, ap (λ (y : Triple). y.start) (sym e.2 ∙ (ap (cut (cuts ++ c ∷ [])) m ∙ at-last)))
+          | inl m ↦ omega (arith, from, (rises e.0 m).0, ap (λ (y : StackCut). y.start) e.2)
+          | inr m ↦ omega (arith, from, ap (λ (y : StackCut). y.start) (sym e.2 ∙ (ap (cut (cuts ++ c ∷ [])) m ∙ at-last)))
         ]
 
         not-frond : (t' b' : ℕ) → IsFirstBelow stack s b' → (n : ℕ) × (n < length (cuts ++ c ∷ [])) × (cut (cuts ++ c ∷ []) n ≡ record { start = t'; up = v; low = b' }) → is_frond_to v b' (item stack i) ≡ true → ⊥
         not-frond t' b' below e m = elim (cases_eq b' b) [
           | inl y ↦ both_ways (side (item stack i).name) (k.from i from l ∙ not-frond-at (is_frond_to v b (item stack i)) (subst (λ (z : ℕ). is_frond_to v z (item stack i) ≡ true) y m)) on
           | inr y ↦ elim (last-place e.0 e.1) [
-            | inl z ↦ frond-before (record { start = t'; up = v; low = b' }) below (omega (arith, (rises e.0 z).1, ap (λ (a : Triple). a.low) e.2)) y i from l m
-            | inr z ↦ y (sym (ap (λ (a : Triple). a.low) e.2) ∙ ap (λ (a : Triple). a.low) (ap (cut (cuts ++ c ∷ [])) z ∙ at-last))
+            | inl z ↦ frond-before (record { start = t'; up = v; low = b' }) below (omega (arith, (rises e.0 z).1, ap (λ (a : StackCut). a.low) e.2)) y i from l m
+            | inr z ↦ y (sym (ap (λ (a : StackCut). a.low) e.2) ∙ ap (λ (a : StackCut). a.low) (ap (cut (cuts ++ c ∷ [])) z ∙ at-last))
           ]
         ]
           where
@@ -372,7 +372,7 @@ module _ (last : ℕ → ℕ) (done v s h : ℕ) (stack : List Item) (rest : Lis
       parallel-not last done v h stack rest stands back.size back.topped i j l m (p.1 ∙ sym q.1) (p.2 ∙ sym q.2)
 
   -- without triangle and without a cut whose upper end is v, each bad side holds all that belongs to the last entry
-  pub none-left : (cuts : List Triple) → AreCompleteAt s v w stack cuts → HasNoTriangle stack h w → ((k : ℕ) → k < length cuts → (cut cuts k).up ≡ v → ⊥) → (side : ℕ → Bool) (p q : ℕ) → IsBad stack rest side p q
+  pub none-left : (cuts : List StackCut) → AreCompleteAt s v w stack cuts → HasNoTriangle stack h w → ((k : ℕ) → k < length cuts → (cut cuts k).up ≡ v → ⊥) → (side : ℕ → Bool) (p q : ℕ) → IsBad stack rest side p q
       → (i : ℕ) → s ≤ i → i ≤ h → side (item stack i).name ≡ true
   none-left cuts complete triangle none side p q bad =
       let x = bad-v last done v s h stack rest back side p q bad in
@@ -381,11 +381,11 @@ module _ (last : ℕ → ℕ) (done v s h : ℕ) (stack : List Item) (rest : Lis
         | inr g ↦
             let f = bad-cut last done v s h stack rest back side x.0 x.1 (omega (arith, g, x.1.separates.differ)) triangle in
             let e = place-of cuts (record { start = f.place; up = v; low = f.vertex }) no_cut (complete f.place v f.vertex f.wanted f.below (omega arith) (λ y z. f.other z)) in
-            absurd (none e.0 e.1 (ap (λ (y : Triple). y.up) e.2))
+            absurd (none e.0 e.1 (ap (λ (y : StackCut). y.up) e.2))
       ]
 
   -- so where there is a bad side, all upper ends above v from s on are one vertex
-  pub none-whole : (cuts : List Triple) → AreCompleteAt s v w stack cuts → HasNoTriangle stack h w → ((k : ℕ) → k < length cuts → (cut cuts k).up ≡ v → ⊥) → (side : ℕ → Bool) (p q : ℕ) → IsBad stack rest side p q
+  pub none-whole : (cuts : List StackCut) → AreCompleteAt s v w stack cuts → HasNoTriangle stack h w → ((k : ℕ) → k < length cuts → (cut cuts k).up ≡ v → ⊥) → (side : ℕ → Bool) (p q : ℕ) → IsBad stack rest side p q
       → (x : ℕ) × ((i : ℕ) → s ≤ i → i ≤ h → (item stack i).up < v → (item stack i).up ≡ x)
   none-whole cuts complete triangle none side p q bad =
       let x = bad-v last done v s h stack rest back side p q bad in
@@ -394,7 +394,7 @@ module _ (last : ℕ → ℕ) (done v s h : ℕ) (stack : List Item) (rest : Lis
         | inr g ↦
             let f = bad-cut last done v s h stack rest back side x.0 x.1 (omega (arith, g, x.1.separates.differ)) triangle in
             let e = place-of cuts (record { start = f.place; up = v; low = f.vertex }) no_cut (complete f.place v f.vertex f.wanted f.below (omega arith) (λ y z. f.other z)) in
-            absurd (none e.0 e.1 (ap (λ (y : Triple). y.up) e.2))
+            absurd (none e.0 e.1 (ap (λ (y : StackCut). y.up) e.2))
       ]
 
   -- all that belongs to the last entry

@@ -6,7 +6,7 @@ use Rattle.pair_split.specs.Family.{Entry}
 use Rattle.pair_split.specs.Skeleton.{SameEnds}
 use Rattle.split_comp.specs.declared.items.Dart.{Dart}
 
--- the vertex with number x stands at place x
+-- the vertex with number x is at place x
 pub record AreVertices (n : ℕ) (t : PalmTreeLists) (vertex : List ℕ) : Type 0 where
   pub places : length vertex ≡ n
   pub within : (x : ℕ) → x < n → slice_index vertex x < n

@@ -1,5 +1,5 @@
 -- The state of the pass along a palm tree, and what holds of it.
-use Rattle.std.specs.Prelude.{◌≡◌, ◌≢◌, ℕ, ◌+◌, ◌*◌, ◌-◌, ◌<◌, ◌≤◌, ◌^◌, ◌⊎◌, Bool, true, false, if◌then◌else◌, nat_lt, List, [], ◌∷◌, ◌++◌, length, map, filter, take, drop, replicate, slice_index, slice_set, Contains, Option, None, Some, not, ◌&&◌}
+use Rattle.std.specs.Prelude.{◌≡◌, ◌≢◌, ℕ, ◌+◌, ◌*◌, ◌-◌, ◌<◌, ◌≤◌, ◌^◌, ◌⊎◌, Bool, true, false, if◌then◌else◌, nat_lt, List, [], ◌∷◌, ◌++◌, length, map, filter, take, drop, replicate, slice_index, slice_set, Contains, Option, None, Some, not}
 use Rattle.multigraph.specs.Graph.{Multigraph, edge_count, IsGraph, IsWithinLimits}
 use Rattle.graph_theory.specs.Block.{IsOneBlock}
 use Rattle.palm_tree.specs.PalmTree.{PalmTreeLists, IsPalmTree}
@@ -14,8 +14,8 @@ use Rattle.pair_split.specs.declared.splitting.Finished.{Finished}
 use Rattle.pair_split.specs.declared.family.NamedEdge.{NamedEdge}
 use Rattle.pair_split.specs.declared.components.Kind.{Kind}
 use Rattle.pair_split.specs.declared.components.Kind.TheVariants.{B}
-use Rattle.split_comp.specs.declared.items.Item.{Item}
-use Rattle.split_comp.specs.declared.items.Triple.{Triple}
+use Rattle.split_comp.specs.declared.items.StackEntry.{StackEntry}
+use Rattle.split_comp.specs.declared.items.StackCut.{StackCut}
 use Rattle.split_comp.specs.declared.items.Dart.{Dart}
 use Rattle.split_comp.specs.Stack.{item, entry, owner, family, IsStack, IsSorted, IsTopped, IsClean, IsAtop, AreFirst, no_place}
 use Rattle.split_comp.specs.Palm.{AreVertices, tree_dart, tree_degree, tree_parent, IsFrondTo, IsPalm}
@@ -39,12 +39,12 @@ pub record IsNumbered (g : Multigraph) (t : NumberedTree) : Type 0 where
   pub palm : IsPalmTree g t.palm
   pub vertices : AreVertices g.vertex_count t.palm t.vertex
 
--- where the pass stands
+-- where the pass is
 pub record PassState : Type 0 where
   pub at : ℕ
   pub done : ℕ
-  pub items : List Item
-  pub cuts : List Triple
+  pub items : List StackEntry
+  pub cuts : List StackCut
   pub first : List ℕ
   pub start : List ℕ
   pub base : List ℕ
@@ -52,7 +52,7 @@ pub record PassState : Type 0 where
   pub total : ℕ
   pub parts : List Finished
 
--- where it stands at first, in a graph of n vertices and m edges: nothing is gone along, and no place touches a vertex
+-- where it is at first, in a graph of n vertices and m edges: nothing is traversed, and no place touches a vertex
 abbrev pub first_state : ℕ → ℕ → PassState
 first_state n m = record {
   at = 0;
@@ -72,10 +72,10 @@ abbrev pub lowered : List ℕ → ℕ → ℕ → List ℕ
 lowered first x place = (if nat_lt place (slice_index first x) then slice_set first x place else first)
 
 -- an entry is pushed
-abbrev pub pushed : PassState → Item → PassState
+abbrev pub pushed : PassState → StackEntry → PassState
 pushed s x = record s { items = s.items ++ x ∷ []; first = lowered (lowered s.first x.up (length s.items)) x.low (length s.items) }
 
--- one more dart of vertex v has been gone along and back
+-- one more dart of vertex v has been traversed and retracted
 abbrev pub gone_along : PassState → ℕ → PassState
 gone_along s v = record s { gone = slice_set s.gone v (slice_index s.gone v + 1) }
 
@@ -100,7 +100,7 @@ abbrev pub drawn : Multigraph → List ℕ → Entry → Entry
 drawn g vertex x = (if nat_lt x.name (edge_count g) then graph_entry g x.name else record { name = x.name; first = slice_index vertex x.first; second = slice_index vertex x.second })
 
 -- entries, as entries of a family of the graph
-abbrev pub drawn_items : Multigraph → List ℕ → List Item → List Entry
+abbrev pub drawn_items : Multigraph → List ℕ → List StackEntry → List Entry
 drawn_items g vertex items = map (λ x. drawn g vertex (entry x)) items
 
 -- the name of the next virtual edge
@@ -108,7 +108,7 @@ abbrev pub next_name : Multigraph → PassState → ℕ
 next_name g s = edge_count g + length s.parts
 
 -- entries from place k on that pass the test were made a component of some kind, with a virtual edge between two vertices
-pub record IsSplitOff (g : Multigraph) (vertex : List ℕ) (keeps : Item → Bool) (k up low : ℕ) (old new : PassState) : Type 0 where
+pub record IsSplitOff (g : Multigraph) (vertex : List ℕ) (keeps : StackEntry → Bool) (k up low : ℕ) (old new : PassState) : Type 0 where
   pub kind : Kind
   pub edges : List NamedEdge
   pub are_edges : family_of edges ≡ drawn_items g vertex (filter keeps (drop k old.items))
@@ -120,16 +120,17 @@ pub record IsSplitOff (g : Multigraph) (vertex : List ℕ) (keeps : Item → Boo
     parts = old.parts ++ record { kind = kind; own = record { name = next_name g old; first = slice_index vertex up; second = slice_index vertex low }; edges = edges } ∷ [];
   }
 
--- whether an entry goes with the others, where a frond may stay apart
-abbrev pub goes : Bool → ℕ → ℕ → Item → Bool
-goes apart up low x = not (apart && is_frond_to up low x)
+-- whether an entry goes with the others, where the fronds from the second to the first of two vertices stay apart, or none do
+abbrev pub goes : Option (ℕ × ℕ) → StackEntry → Bool
+goes None = λ x. true
+goes (Some ends) = λ x. not (is_frond_to ends.0 ends.1 x)
 
--- the edge of a component in place of which it stands: the virtual edge between two vertices
+-- the own edge of a component: the virtual edge between two vertices
 abbrev pub own_entry : Multigraph → List ℕ → ℕ → ℕ → PassState → Entry
 own_entry g vertex up low s = record { name = next_name g s; first = slice_index vertex up; second = slice_index vertex low }
 
 -- what has to hold where entries are made a component
-pub record CanSplitOff (g : Multigraph) (vertex : List ℕ) (keeps : Item → Bool) (k up low : ℕ) (s : PassState) : Type 0 where
+pub record CanSplitOff (g : Multigraph) (vertex : List ℕ) (keeps : StackEntry → Bool) (k up low : ℕ) (s : PassState) : Type 0 where
   pub within : k ≤ length s.items
   pub ends : (i : ℕ) → i < length s.items → ((item s.items i).up < length vertex) × ((item s.items i).low < length vertex)
   pub up_in : up < length vertex
@@ -142,7 +143,7 @@ pub record CanSplitOff (g : Multigraph) (vertex : List ℕ) (keeps : Item → Bo
   pub fits : s.total < 2 ^ 32
 
 -- the current family of the graph
-abbrev pub drawn_family : Multigraph → List ℕ → List Item → List Entry → List Entry
+abbrev pub drawn_family : Multigraph → List ℕ → List StackEntry → List Entry → List Entry
 drawn_family g vertex items rest = map (drawn g vertex) (family items rest)
 
 -- what holds of the components, the stack and the rest all the time
@@ -164,7 +165,7 @@ pub record HavePlaces (n : ℕ) (s : PassState) : Type 0 where
 abbrev pub at_place : List ℕ → ℕ → ℕ
 at_place l x = slice_index l x
 
--- the pass stands at a vertex between two of its darts
+-- the pass is at a vertex between two of its darts
 pub record IsPass (g : Multigraph) (t : NumberedTree) (s : PassState) : Type 0 where
   pub palm : IsPalm g.vertex_count (edge_count g) (tree_parent t.palm t.vertex) (tree_degree t.palm t.vertex) (tree_dart g t.palm t.vertex)
   pub rest : List Entry
@@ -218,12 +219,12 @@ pub record IsRaised (g : Multigraph) (t : NumberedTree) (w : ℕ) (s : PassState
   pub complete : AreCompleteAt (at_place s.start w) s.at (item s.items height).low s.items (drop (at_place s.base w) s.cuts)
   pub cut_lows : (c : ℕ) → c < length (drop (at_place s.base w) s.cuts) → s.at < (cut (drop (at_place s.base w) s.cuts) c).low
 
--- and there is none
+-- and no such frond exists
 pub record IsBack (g : Multigraph) (t : NumberedTree) (w : ℕ) (s : PassState) : Type 0 where
   pub raised : IsRaised g t w s
   pub no_frond : (i : ℕ) → i < raised.height → (item s.items i).tree ≡ false → (item s.items i).low ≡ (item s.items raised.height).low → (item s.items i).up ≡ s.at → ⊥
 
--- a frond of the vertex where the pass stands was pushed
+-- a frond of the vertex where the pass is was pushed
 pub record IsFronted (g : Multigraph) (t : NumberedTree) (s : PassState) : Type 0 where
   pub palm : IsPalm g.vertex_count (edge_count g) (tree_parent t.palm t.vertex) (tree_degree t.palm t.vertex) (tree_dart g t.palm t.vertex)
   pub rest : List Entry
@@ -254,22 +255,24 @@ pub record IsFronted (g : Multigraph) (t : NumberedTree) (s : PassState) : Type 
 -- the pass is over
 pub record IsPassed (g : Multigraph) (t : NumberedTree) (s : PassState) : Type 0 where
   pub at_root : s.at ≡ 0
+  pub last : s.done ≡ 1
+  pub none_left : AreLeft g.vertex_count (tree_degree t.palm t.vertex) (tree_dart g t.palm t.vertex) (at_place s.gone) []
   pub all_gone : tree_degree t.palm t.vertex 0 ≤ at_place s.gone 0
   pub places : HavePlaces g.vertex_count s
   pub held : IsHeld g t.vertex s []
   pub prime : IsPrime (drawn_items g t.vertex s.items)
   pub three : 3 ≤ length s.items
 
--- the pass goes on, or is over
+-- the pass continues, or is over
 abbrev pub IsGoing : Multigraph → NumberedTree → PassState → Type 0
 IsGoing g t s = IsPass g t s ⊎ IsPassed g t s
 
 -- the last entry
-abbrev pub top_item : PassState → Item
+abbrev pub top_item : PassState → StackEntry
 top_item s = item s.items (length s.items - 1)
 
 -- the last entry but one
-abbrev pub below_item : PassState → Item
+abbrev pub below_item : PassState → StackEntry
 below_item s = item s.items (length s.items - 2)
 
 -- the last two entries are parallel, the lower one is a frond, and four entries are left
@@ -280,17 +283,17 @@ pub record IsParallel (s : PassState) : Type 0 where
   pub up : (below_item s).up ≡ (top_item s).up
   pub low : (below_item s).low ≡ (top_item s).low
 
--- the entry that stands for the two
-abbrev pub joined_item : Multigraph → PassState → Item
+-- the entry that represents the two
+abbrev pub joined_item : Multigraph → PassState → StackEntry
 joined_item g s = record { name = next_name g s; up = (top_item s).up; low = (top_item s).low; tree = (top_item s).tree; start = (if (top_item s).tree then (top_item s).start else length s.items - 2) }
 
--- the answer tells whether they are
+-- the result says whether they are
 abbrev pub IsParallelTest : PassState → Bool → Type 0
 IsParallelTest s true = IsParallel s
 IsParallelTest s false = IsParallel s → ⊥
 
 -- a name was found just where there is a frond from low to up among the entries
-abbrev pub IsFrondFound : ℕ → ℕ → List Item → Option ℕ → Type 0
+abbrev pub IsFrondFound : ℕ → ℕ → List StackEntry → Option ℕ → Type 0
 IsFrondFound up low items None = (i : ℕ) → i < length items → is_frond_to up low (item items i) ≡ false
 IsFrondFound up low items (Some name) = (i : ℕ) × (i < length items) × (is_frond_to up low (item items i) ≡ true) × (name ≡ (item items i).name)
 
@@ -306,14 +309,14 @@ CanJoin g vertex s = IsParallel s → CanSplitOff g vertex (λ x. true) (length 
 -- a dart of v was noted, which starts at s and has the least upper end up, unless it is the first one
 pub record IsDartNoted (v s up : ℕ) (old new : PassState) : Type 0 where
   pub first : s ≤ slice_index old.start v → new ≡ old
-  pub later : slice_index old.start v < s → (cuts : List Triple) × IsNoted (slice_index old.base v) (record { start = s; up = up; low = v }) old.cuts cuts × (new ≡ record old { cuts = cuts })
+  pub later : slice_index old.start v < s → (cuts : List StackCut) × IsNoted (slice_index old.base v) (record { start = s; up = up; low = v }) old.cuts cuts × (new ≡ record old { cuts = cuts })
 
 -- the frond that is pushed
-abbrev pub new_frond : ℕ → ℕ → ℕ → PassState → Item
+abbrev pub new_frond : ℕ → ℕ → ℕ → PassState → StackEntry
 new_frond name v up s = record { name = name; up = up; low = v; tree = false; start = length s.items }
 
 -- the tree edge that is pushed
-abbrev pub new_tree : ℕ → ℕ → ℕ → ℕ → Item
+abbrev pub new_tree : ℕ → ℕ → ℕ → ℕ → StackEntry
 new_tree name v low start = record { name = name; up = v; low = low; tree = true; start = start }
 
 -- a frond from v to up was pushed: joined with a frond parallel to it, or noted
@@ -329,12 +332,12 @@ pub record IsTreeAdded (g : Multigraph) (vertex : List ℕ) (name v low start : 
   pub joined : Bool
   pub join : IsJoined g vertex (pushed old (new_tree name v low start)) new joined
 
--- the last entry but one is a tree edge, and the first one that meets the lower end of the last entry
+-- the last entry but one is a tree edge, and the first one that touches the lower end of the last entry
 pub record IsTriangle (s : PassState) : Type 0 where
   pub tree : (below_item s).tree ≡ true
   pub first : slice_index s.first (top_item s).low ≡ length s.items - 2
 
--- the answer tells whether it is so
+-- the result says whether it is so
 abbrev pub IsTriangleTest : PassState → Bool → Type 0
 IsTriangleTest s true = IsTriangle s
 IsTriangleTest s false = IsTriangle s → ⊥
@@ -355,8 +358,8 @@ pub record IsCutTo (v base : ℕ) (s : PassState) : Type 0 where
   pub some : base < length s.cuts
   pub up : (cut s.cuts (length s.cuts - 1)).up ≡ v
 
--- the answer is the last cut, where it is so
-abbrev pub IsCutFound : ℕ → ℕ → PassState → Option Triple → Type 0
+-- the result is the last cut, where it is so
+abbrev pub IsCutFound : ℕ → ℕ → PassState → Option StackCut → Type 0
 IsCutFound v base s None = IsCutTo v base s → ⊥
 IsCutFound v base s (Some c) = IsCutTo v base s × (c ≡ cut s.cuts (length s.cuts - 1))
 
@@ -370,21 +373,21 @@ abbrev pub number_apart : Option ℕ → ℕ
 number_apart None = 0
 number_apart (Some name) = 1
 
--- the cuts from place base on before which the vertex v is met were dropped
+-- the cuts from place base on before which an entry touches v were dropped
 abbrev pub IsMetDropped : ℕ → ℕ → PassState → PassState → Type 0
-IsMetDropped v base old new = (cuts : List Triple) × IsDropped base (slice_index old.first v) old.cuts cuts × (new ≡ record old { cuts = cuts })
+IsMetDropped v base old new = (cuts : List StackCut) × IsDropped base (slice_index old.first v) old.cuts cuts × (new ≡ record old { cuts = cuts })
 
 -- a dart of this class has all from place start on as a side, and two entries are left beside it
 pub record IsWhole (class start : ℕ) (s : PassState) : Type 0 where
   pub class_two : class ≡ 2
   pub two : length s.items - start + 2 ≤ s.total
 
--- the answer tells whether it is so
+-- the result says whether it is so
 abbrev pub IsWholeTest : ℕ → ℕ → PassState → Bool → Type 0
 IsWholeTest class start s true = IsWhole class start s
 IsWholeTest class start s false = IsWhole class start s → ⊥
 
--- the search stands where it stood
+-- the search is where it was
 pub record IsAsFar (old new : PassState) : Type 0 where
   pub at : new.at ≡ old.at
   pub done : new.done ≡ old.done
@@ -407,11 +410,12 @@ abbrev pub IsReducedOnce : Multigraph → NumberedTree → PassState → PassSta
 IsReducedOnce g t old new true = IsBack g t old.done new × IsAsFar old new
 IsReducedOnce g t old new false = (new ≡ old) × IsReduced g t old
 
--- what was gone along last where the search is
+-- what was traversed last where the search is
 abbrev pub last_dart : Multigraph → NumberedTree → PassState → Dart
 last_dart g t s = tree_dart g t.palm t.vertex s.at (slice_index s.gone s.at - 1)
 
--- k turns are enough: one for each dart that is left, and one for each vertex that was not entered
+-- k turns are left: one for each dart that is left, and one for each vertex that is neither finished nor on the path, which is
+-- to be entered
 pub record HasTurns (g : Multigraph) (t : NumberedTree) (s : PassState) (k : ℕ) : Type 0 where
   pub depth : ℕ → ℕ
   pub top : depth 0 ≡ 0
@@ -419,13 +423,13 @@ pub record HasTurns (g : Multigraph) (t : NumberedTree) (s : PassState) (k : ℕ
   pub rest : List Entry
   pub is_family : IsFamily rest
   pub left : AreLeft g.vertex_count (tree_degree t.palm t.vertex) (tree_dart g t.palm t.vertex) (at_place s.gone) rest
-  pub enough : length rest + s.done ≤ k + depth s.at + 1
+  pub exact : length rest + s.done ≡ k + depth s.at + 1
 
 -- one turn was taken
 abbrev pub IsTurned : Multigraph → NumberedTree → PassState → PassState → Type 0
 IsTurned g t old new = (k : ℕ) → HasTurns g t old (k + 1) → HasTurns g t new k
 
--- the answer tells whether the pass is over
+-- the result says whether the pass is over
 abbrev pub IsOverTest : Multigraph → NumberedTree → PassState → Bool → Type 0
 IsOverTest g t s true = IsPassed g t s
 IsOverTest g t s false = IsPass g t s

@@ -1,4 +1,4 @@
--- Where the search stands in the palm tree. Vertices are finished in falling order of their numbers.
+-- Where the search is in the palm tree. Vertices are finished in decreasing order of their numbers.
 use Rattle.std.specs.Prelude.{◌≡◌, ◌≢◌, ℕ, ◌+◌, ◌<◌, ◌≤◌, true, List, Contains}
 use Rattle.pair_split.specs.Family.{Entry}
 use Rattle.split_comp.specs.declared.items.Dart.{Dart}
@@ -8,7 +8,7 @@ use Rattle.split_comp.specs.Palm.{dart_entry}
 abbrev pub IsOnPath : (ℕ → ℕ) → ℕ → ℕ → Type 0
 IsOnPath last v x = (x ≤ v) × (v < last x)
 
--- the search stands at v, the vertices from done on are finished, and so many darts of each vertex have been gone along and
+-- the search is at v, the vertices from done on are finished, and this many darts of each vertex have been traversed and
 -- back
 pub record IsWalk (n : ℕ) (last parent degree : ℕ → ℕ) (dart : ℕ → ℕ → Dart) (v done : ℕ) (gone : ℕ → ℕ) : Type 0 where
   pub current : v < done
@@ -21,7 +21,7 @@ pub record IsWalk (n : ℕ) (last parent degree : ℕ → ℕ) (dart : ℕ → �
   pub fresh : (u : ℕ) → u < done → (IsOnPath last v u → ⊥) → gone u ≡ 0
   pub under_way : (x : ℕ) → x ≢ 0 → IsOnPath last v x → (gone (parent x) < degree (parent x)) × ((dart (parent x) (gone (parent x))).tree ≡ true) × ((dart (parent x) (gone (parent x))).far ≡ x)
 
--- the rest: the entries of the darts that have not been gone along and back
+-- the rest: the entries of the darts that have not been traversed and retracted
 pub record AreLeft (n : ℕ) (degree : ℕ → ℕ) (dart : ℕ → ℕ → Dart) (gone : ℕ → ℕ) (rest : List Entry) : Type 0 where
   pub left : (u k : ℕ) → u < n → gone u ≤ k → k < degree u → Contains rest (dart_entry u (dart u k))
   pub only : (x : Entry) → Contains rest x → (u k : ℕ) × (u < n) × (gone u ≤ k) × (k < degree u) × (x ≡ dart_entry u (dart u k))

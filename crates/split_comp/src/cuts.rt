@@ -1,21 +1,31 @@
 // The cuts of the stack that the search keeps.
 
 ghost use Rattle.std.specs.Prelude.{◌≡◌, ◌+◌, ◌-◌, ◌<◌, ◌≤◌, length, IfOk};
-ghost use Rattle.split_comp.specs.Noting.{IsTakenLower, IsNoted, IsDropped};
+ghost use Rattle.split_comp.specs.Noting.{IsTakenLower, IsNoted, IsDropped, IsLastCut};
 
-use crate::items::Triple;
+use crate::items::StackCut;
 use std::alloc::AllocError;
 use std::sync::ledger::Ledger;
 use step_count::Steps;
 
-// Takes off the cuts from place `base` on whose upper end is below that of the new one, from the last one on, and answers the
-// cut that takes their place: that of the last one taken off, or the new one.
+// The last cut from place `base` on.
+pub(crate) fn last_cut(cuts: &[StackCut], base: usize) -> Option<StackCut>
+    ensures { IsLastCut base cuts.now result }
+{
+    if cuts.len() > base {
+        return cuts.last().copied();
+    }
+    None
+}
+
+// Removes the cuts from place `base` on whose upper end is greater than that of the new one, from the last one on, and returns
+// the cut that replaces them: the new one, or the last one removed with the upper end of the new one.
 fn take_lower<L: Ledger>(
-    cuts: &mut Vec<Triple>,
+    cuts: &mut Vec<StackCut>,
     base: usize,
-    new: Triple,
+    new: StackCut,
     steps: &mut Steps<L>,
-) -> Triple
+) -> StackCut
     requires { base ≤ length cuts.old.items }
     ensures taken { IsTakenLower base new cuts.old.items cuts.new.items result }
     ensures cost { steps.new + length cuts.new.items ≡ steps.old + length cuts.old.items }
@@ -25,7 +35,7 @@ fn take_lower<L: Ledger>(
         steps.tick();
         let taken = cuts[cuts.len() - 1];
         cuts.truncate(cuts.len() - 1);
-        kept = Triple {
+        kept = StackCut {
             start: taken.start,
             up: new.up,
             low: taken.low,
@@ -34,11 +44,12 @@ fn take_lower<L: Ledger>(
     kept
 }
 
-/// Notes a new cut behind those from place `base` on.
+/// Notes a new cut after those before place `base`, and after those from there on that it leaves. Fails only if memory runs
+/// out.
 pub(crate) fn note<L: Ledger>(
-    cuts: &mut Vec<Triple>,
+    cuts: &mut Vec<StackCut>,
     base: usize,
-    new: Triple,
+    new: StackCut,
     steps: &mut Steps<L>,
 ) -> Result<(), AllocError>
     requires { base ≤ length cuts.old.items }
@@ -53,9 +64,9 @@ pub(crate) fn note<L: Ledger>(
     Ok(())
 }
 
-/// Drops the last cuts, from place `base` on, that start behind place `first`.
-pub(crate) fn drop_behind<L: Ledger>(
-    cuts: &mut Vec<Triple>,
+/// Drops the last cuts, from place `base` on, that start after place `first`.
+pub(crate) fn drop_later<L: Ledger>(
+    cuts: &mut Vec<StackCut>,
     base: usize,
     first: usize,
     steps: &mut Steps<L>,

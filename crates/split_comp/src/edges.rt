@@ -1,13 +1,13 @@
 // Entries of the stack as edges of the graph, or virtual edges.
 
-ghost use Rattle.std.specs.Prelude.{◌≡◌, ◌+◌, ◌<◌, ◌≤◌, ◌&&◌, ℕ, filter, length, IfOk};
+ghost use Rattle.std.specs.Prelude.{◌≡◌, ◌+◌, ◌<◌, ◌≤◌, ◌&&◌, ℕ, not, filter, length, IfOk};
 ghost use Rattle.pair_split.specs.Bridges.{entry_of, family_of};
 ghost use Rattle.split_comp.specs.Stack.{item, entry};
 ghost use Rattle.split_comp.specs.Sides.{is_frond_to};
 ghost use Rattle.split_comp.specs.Pass.{drawn, drawn_items, goes, IsFrondFound};
 
-use crate::items::Item;
-use crate::tree::Tree;
+use crate::items::StackEntry;
+use crate::tree::NumberedPalmTree;
 use multigraph::Graph;
 use pair_split::NamedEdge;
 use std::alloc::{AllocError, Global};
@@ -15,7 +15,7 @@ use std::sync::ledger::Ledger;
 use step_count::Steps;
 
 // The edge of an entry, with the ends that it has in the graph.
-fn edge_of(g: &Graph, tree: &Tree, x: Item) -> NamedEdge
+fn edge_of(g: &Graph, tree: &NumberedPalmTree, x: StackEntry) -> NamedEdge
     requires up { x.up < length tree.now.vertex }
     requires low { x.low < length tree.now.vertex }
     ensures { entry_of result ≡ drawn g.now tree.now.vertex (entry x) }
@@ -36,43 +36,52 @@ fn edge_of(g: &Graph, tree: &Tree, x: Item) -> NamedEdge
 }
 
 /// Whether the entry is a frond from `low` to `up`.
-pub(crate) fn is_frond_to(up: u32, low: u32, x: Item) -> bool
+pub(crate) fn is_frond_to(up: u32, low: u32, x: StackEntry) -> bool
     ensures { result ≡ is_frond_to up low x }
 {
     !x.tree && x.up == up && x.low == low
 }
 
-/// The edges of the entries, without fronds from `low` to `up` where these stay apart.
+// Whether the entry is a frond that stays apart, as those from the second to the first of two vertices do.
+fn stays_apart(apart: Option<(u32, u32)>, x: StackEntry) -> bool
+    ensures { result ≡ not (goes apart x) }
+{
+    match apart {
+        Some((up, low)) => is_frond_to(up, low, x),
+        None => false,
+    }
+}
+
+/// The edges of the entries, but for those that stay apart: the fronds from `low` to `up`, where `apart` is the pair of these.
+/// Fails only if memory runs out.
 pub(crate) fn edges_of<L: Ledger>(
     alloc: Global,
     g: &Graph,
-    tree: &Tree,
-    items: &[Item],
-    apart: bool,
-    up: u32,
-    low: u32,
+    tree: &NumberedPalmTree,
+    items: &[StackEntry],
+    apart: Option<(u32, u32)>,
     steps: &mut Steps<L>,
 ) -> Result<Vec<NamedEdge>, AllocError>
     requires ends { (i : ℕ) → i < length items.now → ((item items.now i).up
         < length tree.now.vertex) × ((item items.now i).low < length tree.now.vertex) }
     ensures edges { IfOk result (λ edges. family_of edges.items
-        ≡ drawn_items g.now tree.now.vertex (filter (goes apart up low) items.now)) }
+        ≡ drawn_items g.now tree.now.vertex (filter (goes apart) items.now)) }
     ensures at_most { steps.new ≤ steps.old + length items.now }
     ensures rises { steps.old ≤ steps.new }
 {
     let mut edges = Vec::new(alloc);
     for x in items {
         steps.tick();
-        if !(apart && is_frond_to(up, low, *x)) {
+        if !stays_apart(apart, *x) {
             edges.push(edge_of(g, tree, *x))?;
         }
     }
     Ok(edges)
 }
 
-/// The name of a frond from `low` to `up` among the entries, if there is one.
+/// The name of the first frond from `low` to `up` among the entries, if one exists.
 pub(crate) fn frond_to<L: Ledger>(
-    items: &[Item],
+    items: &[StackEntry],
     up: u32,
     low: u32,
     steps: &mut Steps<L>,

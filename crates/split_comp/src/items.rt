@@ -4,7 +4,7 @@
 /// end, and the place in the stack at which what belongs to it starts: its own place, or that of the first entry below its
 /// lower end.
 #[derive(Clone, Copy, Drop)]
-pub(crate) struct Item {
+pub(crate) struct StackEntry {
     pub name: u32,
     pub up: u32,
     pub low: u32,
@@ -12,10 +12,10 @@ pub(crate) struct Item {
     pub start: usize,
 }
 
-/// A cut of the stack at a place, made when the search stood at the vertex `low`: of the entries from there on, `up` is the
+/// A cut of the stack at a place, made when the search was at the vertex `low`: of the entries from there on, `up` is the
 /// least upper end.
 #[derive(Clone, Copy, Drop)]
-pub(crate) struct Triple {
+pub(crate) struct StackCut {
     pub start: usize,
     pub up: u32,
     pub low: u32,

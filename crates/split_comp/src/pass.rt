@@ -1,17 +1,20 @@
 // The pass along the palm tree, with the stack of entries, its cuts, and the components that are finished.
 
-ghost use Rattle.std.specs.Prelude.{◌≡◌, ◌≢◌, ◌+◌, ◌-◌, ◌*◌, ◌<◌, ◌≤◌, true, false, length, drop, IfOk, slice_index};
+ghost use Rattle.std.specs.Prelude.{◌≡◌, ◌≢◌, ◌+◌, ◌-◌, ◌<◌, ◌≤◌, ◌^◌, true, false, length, drop, IfOk, slice_index};
 ghost use Rattle.multigraph.specs.Graph.{edge_count};
 ghost use Rattle.split_comp.specs.Stack.{item};
-ghost use Rattle.split_comp.specs.Noting.{IsLastCut};
 ghost use Rattle.split_comp.specs.Palm.{tree_degree, tree_parent};
 ghost use Rattle.pair_split.specs.Bridges.{family_of};
-ghost use Rattle.split_comp.specs.Pass.{IsNumbered, IsPass, IsBack, IsPassed, weight, PassState, CanSplitOff, IsSplitOff, CanJoin, IsTriangleTest, IsStaleDropped, top_item, IsParallel, IsJoined, IsDartNoted, IsFrondAdded, IsTreeAdded, IsParallelTest, IsFrondFound, IsCutFound, IsApart, number_apart, IsMetDropped, IsWholeTest, IsCome, IsTurned, drawn_items, first_state, pushed, gone_along, gone_down, gone_back, cuts_dropped, lowered, next_name, goes, new_frond, new_tree};
+ghost use Rattle.split_comp.specs.Pass.{IsNumbered, IsPass, IsBack, IsPassed, weight, PassState, CanSplitOff, IsSplitOff};
+ghost use Rattle.split_comp.specs.Pass.{IsTriangleTest, IsStaleDropped, top_item, IsDartNoted};
+ghost use Rattle.split_comp.specs.Pass.{IsParallelTest, IsFrondFound, IsCutFound};
+ghost use Rattle.split_comp.specs.Pass.{IsMetDropped, IsWholeTest, IsCome, IsTurned, drawn_items, first_state};
+ghost use Rattle.split_comp.specs.Pass.{pushed, gone_along, gone_down, gone_back, cuts_dropped, lowered, next_name, goes};
 
-use crate::cuts::{drop_behind, note};
+use crate::cuts::{drop_later, last_cut, note};
 use crate::edges::{edges_of, frond_to};
-use crate::items::{Dart, Item, Triple};
-use crate::tree::Tree;
+use crate::items::{Dart, StackCut, StackEntry};
+use crate::tree::NumberedPalmTree;
 use multigraph::Graph;
 use pair_split::{EdgeList, Finished, NamedEdge, kind_of};
 use std::alloc::{AllocError, Global};
@@ -20,28 +23,27 @@ use std::sync::ledger::Ledger;
 use step_count::Steps;
 
 // The place of the stack for a vertex that no entry touches.
-const NO_PLACE: usize = 4294967295;
+const NO_PLACE: usize = u32::MAX as usize;
 
-/// Where the pass stands. Vertices go by their numbers: the one where the search is, and the last one that is finished; the
-/// stack of entries; its cuts; for each vertex the first place of the stack that touches it, the places of the stack and of
-/// the cuts when it was entered, and how many of its darts have been gone along and back; how many entries the current family
-/// has; and the finished components.
+/// Where the pass is. Vertices go by their numbers: the one where the search is, and the last one that is finished; the stack
+/// of entries; its cuts; for each vertex the first place of the stack that touches it, the places of the stack and of the cuts
+/// when it was entered, and how many of its darts have been traversed and retracted; how many entries the current family has;
+/// and the finished components.
 #[derive(Drop)]
 pub(crate) struct Pass {
     at: u32,
     done: u32,
-    items: Vec<Item>,
-    cuts: Vec<Triple>,
+    items: Vec<StackEntry>,
+    cuts: Vec<StackCut>,
     first: Vec<usize>,
     start: Vec<usize>,
     base: Vec<usize>,
     gone: Vec<usize>,
     total: usize,
-    parts: Vec<Finished>,
+    finished: Vec<Finished>,
 }
 
 impl Model for Pass {
-    ghost use Rattle.split_comp.specs.Noting.{IsLastCut};
     ghost use Rattle.split_comp.specs.Pass.{weight, PassState};
 
     ghost Value = { PassState };
@@ -56,7 +58,7 @@ impl Model for Pass {
       base = s.base.items;
       gone = s.gone.items;
       total = s.total;
-      parts = s.parts.items;
+      parts = s.finished.items;
     } };
 }
 
@@ -76,7 +78,7 @@ impl Pass {
             base: vec![in alloc; 0; vertices]?,
             gone: vec![in alloc; 0; vertices]?,
             total: m as usize,
-            parts: Vec::new(alloc),
+            finished: Vec::new(alloc),
         })
     }
 
@@ -91,7 +93,7 @@ impl Pass {
     }
 
     // Pushes an entry.
-    fn push(&mut self, x: Item) -> Result<(), AllocError>
+    pub(crate) fn push(&mut self, x: StackEntry) -> Result<(), AllocError>
         requires up { x.up < length self.old.first }
         requires low { x.low < length self.old.first }
         ensures now { IfOk result (λ _. self.new ≡ pushed self.old x) }
@@ -104,35 +106,25 @@ impl Pass {
         Ok(())
     }
 
-    // The last cut from place `base` on.
-    fn last_cut(&self, base: usize) -> Option<Triple>
-        ensures { IsLastCut base self.now.cuts result }
-    {
-        if self.cuts.len() > base {
-            return Some(self.cuts[self.cuts.len() - 1]);
-        }
-        None
-    }
-
-    // The last cut is no more.
+    // Removes the last cut.
     pub(crate) fn drop_cut(&mut self)
         requires { 1 ≤ length self.old.cuts }
         ensures { self.new ≡ cuts_dropped self.old (length self.old.cuts - 1) }
     {
-        self.cuts.truncate(self.cuts.len() - 1);
+        let _ = self.cuts.pop();
     }
 
-    // The cuts from place `k` on are no more.
+    // Removes the cuts from place `k` on.
     pub(crate) fn drop_cuts(&mut self, k: usize)
         ensures { self.new ≡ cuts_dropped self.old k }
     {
         self.cuts.truncate(k);
     }
 
-    // One more dart of `v` has been gone along and back.
+    // One more dart of `v` has been traversed and retracted.
     fn note_gone(&mut self, v: u32)
         requires within { v < length self.old.gone }
-        requires fits { slice_index self.old.gone v + 1 < 18446744073709551616 }
+        requires fits { slice_index self.old.gone v + 1 < 2 ^ 64 }
         ensures { self.new ≡ gone_along self.old v }
     {
         self.gone[v as usize] += 1;
@@ -157,37 +149,37 @@ impl Pass {
         self.done = w;
     }
 
-    // Makes the entries from place `k` on a finished component, with a virtual edge between `up` and `low`: all of them, or all
-    // but a frond from `low` to `up`.
+    // Makes the entries from place `k` on a finished component, with a virtual edge between `up` and `low`: all of them but the
+    // fronds that stay apart, from the second to the first of two vertices. Returns the name of the virtual edge.
     pub(crate) fn split_off<L: Ledger>(
         &mut self,
         alloc: Global,
         g: &Graph,
-        tree: &Tree,
+        tree: &NumberedPalmTree,
         k: usize,
-        apart: bool,
+        apart: Option<(u32, u32)>,
         up: u32,
         low: u32,
         steps: &mut Steps<L>,
     ) -> Result<u32, AllocError>
-        requires can { CanSplitOff g.now tree.now.vertex (goes apart up low) k up low self.old }
+        requires can { CanSplitOff g.now tree.now.vertex (goes apart) k up low self.old }
         ensures split_off { IfOk result
-            (λ _. IsSplitOff g.now tree.now.vertex (goes apart up low) k up low self.old self.new) }
+            (λ _. IsSplitOff g.now tree.now.vertex (goes apart) k up low self.old self.new) }
         ensures name { IfOk result (λ name. name ≡ next_name g.now self.old) }
         ensures at_most { steps.new + k ≤ steps.old + length self.old.items }
         ensures rises { steps.old ≤ steps.new }
     {
-        let name = g.edge_count() + self.parts.len() as u32;
+        let name = g.edge_count() + self.finished.len() as u32;
         let own = NamedEdge {
             name,
             first: tree.vertex_at(up),
             second: tree.vertex_at(low),
         };
-        let edges = edges_of(alloc, g, tree, &self.items[k..], apart, up, low, steps)?;
+        let edges = edges_of(alloc, g, tree, &self.items[k..], apart, steps)?;
         let kind = kind_of(own, &edges);
         self.total = self.total + 1 - edges.len();
         self.items.truncate(k);
-        self.parts.push(Finished {
+        self.finished.push(Finished {
             kind,
             own,
             edges: EdgeList::of(edges),
@@ -196,7 +188,7 @@ impl Pass {
     }
 
     // The entry at place `i`.
-    pub(crate) fn item_at(&self, i: usize) -> Item
+    pub(crate) fn item_at(&self, i: usize) -> StackEntry
         requires { i < length self.now.items }
         ensures { result ≡ item self.now.items i }
     {
@@ -240,7 +232,7 @@ impl Pass {
         self.base[v as usize]
     }
 
-    // How many darts of the vertex have been gone along and back.
+    // How many darts of the vertex have been traversed and retracted.
     pub(crate) fn gone_of(&self, v: u32) -> usize
         requires { v < length self.now.gone }
         ensures { result ≡ slice_index self.now.gone v }
@@ -249,7 +241,7 @@ impl Pass {
     }
 
     // Whether the last entry is parallel to a frond right below it, and four entries are left.
-    fn is_parallel(&self) -> bool
+    pub(crate) fn is_parallel(&self) -> bool
         ensures { IsParallelTest self.now result }
     {
         let height = self.height();
@@ -262,61 +254,6 @@ impl Pass {
             return false;
         }
         below.up == top.up && below.low == top.low
-    }
-
-    // Makes the last two entries, which are parallel, a component.
-    fn join<L: Ledger>(
-        &mut self,
-        alloc: Global,
-        g: &Graph,
-        tree: &Tree,
-        steps: &mut Steps<L>,
-    ) -> Result<(), AllocError>
-        requires parallel { IsParallel self.old }
-        requires can { CanJoin g.now tree.now.vertex self.old }
-        requires first { length self.old.first ≡ length tree.now.vertex }
-        ensures joined { IfOk result (λ _. IsJoined g.now tree.now.vertex self.old self.new true) }
-        ensures cost { IfOk result (λ _. steps.new + weight self.new
-            ≤ steps.old + weight self.old) }
-        ensures at_most { steps.new ≤ steps.old + 2 }
-        ensures rises { steps.old ≤ steps.new }
-    {
-        let height = self.height();
-        let top = self.item_at(height - 1);
-        let name = self.split_off(alloc, g, tree, height - 2, false, top.up, top.low, steps)?;
-        let start = if top.tree { top.start } else { height - 2 };
-        self.push(Item {
-            name,
-            up: top.up,
-            low: top.low,
-            tree: top.tree,
-            start,
-        })?;
-        Ok(())
-    }
-
-    // Where the last entry is parallel to a frond right below it, and four entries are left, these two make a component.
-    fn join_parallel<L: Ledger>(
-        &mut self,
-        alloc: Global,
-        g: &Graph,
-        tree: &Tree,
-        steps: &mut Steps<L>,
-    ) -> Result<bool, AllocError>
-        requires can { CanJoin g.now tree.now.vertex self.old }
-        requires first { length self.old.first ≡ length tree.now.vertex }
-        ensures joined { IfOk result
-            (λ joined. IsJoined g.now tree.now.vertex self.old self.new joined) }
-        ensures cost { IfOk result (λ _. steps.new + weight self.new
-            ≤ steps.old + weight self.old) }
-        ensures at_most { steps.new ≤ steps.old + 2 }
-        ensures rises { steps.old ≤ steps.new }
-    {
-        if !self.is_parallel() {
-            return Ok(false);
-        }
-        self.join(alloc, g, tree, steps)?;
-        Ok(true)
     }
 
     // A dart of `v` is on the stack, from place `s` on, with the least upper end `up`: where it is not the first one, the stack
@@ -339,91 +276,17 @@ impl Pass {
     {
         if s > self.start[v as usize] {
             let base = self.base[v as usize];
-            let new = Triple {
+            let new = StackCut {
                 start: s,
                 up,
                 low: v,
             };
-            note(&mut self.cuts, base, new, steps)?;
+            return note(&mut self.cuts, base, new, steps);
         }
         Ok(())
     }
 
-    // Pushes a frond from `v` to `up`.
-    pub(crate) fn add_frond<L: Ledger>(
-        &mut self,
-        alloc: Global,
-        g: &Graph,
-        tree: &Tree,
-        name: u32,
-        v: u32,
-        up: u32,
-        steps: &mut Steps<L>,
-    ) -> Result<(), AllocError>
-        requires can { CanJoin g.now tree.now.vertex (pushed self.old
-            (new_frond name v up self.old)) }
-        requires first { length self.old.first ≡ length tree.now.vertex }
-        requires up { up < length self.old.first }
-        requires low { v < length self.old.first }
-        requires start { v < length self.old.start }
-        requires base { v < length self.old.base }
-        requires within { slice_index self.old.base v ≤ length self.old.cuts }
-        ensures added { IfOk result
-            (λ _. IsFrondAdded g.now tree.now.vertex name v up self.old self.new) }
-        ensures cost { IfOk result (λ _. steps.new + weight self.new
-            ≤ steps.old + weight self.old + 10) }
-        ensures at_most { steps.new ≤ steps.old + length self.old.cuts + 2 }
-        ensures rises { steps.old ≤ steps.new }
-    {
-        let start = self.height();
-        self.push(Item {
-            name,
-            up,
-            low: v,
-            tree: false,
-            start,
-        })?;
-        if !self.join_parallel(alloc, g, tree, steps)? {
-            self.note_dart(v, start, up, steps)?;
-        }
-        Ok(())
-    }
-
-    // Pushes a tree edge from `v` to `low`, to which the entries from place `start` on belong.
-    pub(crate) fn add_tree_edge<L: Ledger>(
-        &mut self,
-        alloc: Global,
-        g: &Graph,
-        tree: &Tree,
-        name: u32,
-        v: u32,
-        low: u32,
-        start: usize,
-        steps: &mut Steps<L>,
-    ) -> Result<(), AllocError>
-        requires can { CanJoin g.now tree.now.vertex (pushed self.old (new_tree name v low start)) }
-        requires first { length self.old.first ≡ length tree.now.vertex }
-        requires up { v < length self.old.first }
-        requires low { low < length self.old.first }
-        ensures added { IfOk result
-            (λ _. IsTreeAdded g.now tree.now.vertex name v low start self.old self.new) }
-        ensures cost { IfOk result (λ _. steps.new + weight self.new
-            ≤ steps.old + weight self.old + 8) }
-        ensures at_most { steps.new ≤ steps.old + 2 }
-        ensures rises { steps.old ≤ steps.new }
-    {
-        self.push(Item {
-            name,
-            up: v,
-            low,
-            tree: true,
-            start,
-        })?;
-        self.join_parallel(alloc, g, tree, steps)?;
-        Ok(())
-    }
-
-    // Whether the last two entries are tree edges that no other entry meets between them.
+    // Whether the last two entries are tree edges that no other entry touches between them.
     pub(crate) fn is_triangle(&self) -> bool
         requires two { 2 ≤ length self.now.items }
         requires low { (top_item self.now).low < length self.now.first }
@@ -442,31 +305,19 @@ impl Pass {
         requires { 1 ≤ length self.old.items }
         ensures { IsStaleDropped v base self.old self.new result }
     {
-        match self.last_cut(base) {
-            Some(cut) => {
-                if cut.up == v && cut.low == self.item_at(self.height() - 1).low {
-                    self.drop_cut();
-                    return true;
-                }
-                false
-            }
-            None => false,
+        let low = self.item_at(self.height() - 1).low;
+        let is_stale = last_cut(&self.cuts, base).is_some_and(|cut| cut.up == v && cut.low == low);
+        if is_stale {
+            self.drop_cut();
         }
+        is_stale
     }
 
     // The last cut from place `base` on, where it has the upper end `v`.
-    pub(crate) fn cut_to(&self, v: u32, base: usize) -> Option<Triple>
+    pub(crate) fn cut_to(&self, v: u32, base: usize) -> Option<StackCut>
         ensures { IsCutFound v base self.now result }
     {
-        match self.last_cut(base) {
-            Some(cut) => {
-                if cut.up == v {
-                    return Some(cut);
-                }
-                None
-            }
-            None => None,
-        }
+        last_cut(&self.cuts, base).filter(|cut| cut.up == v)
     }
 
     // The name of a frond from `low` to `up` from place `k` on, if there is one.
@@ -485,32 +336,6 @@ impl Pass {
         frond_to(&self.items[k..], up, low, steps)
     }
 
-    // Pushes a frond from `low` to `up` that stays apart, if there is one.
-    pub(crate) fn push_apart(
-        &mut self,
-        frond: Option<u32>,
-        up: u32,
-        low: u32,
-        start: usize,
-    ) -> Result<(), AllocError>
-        requires up { up < length self.old.first }
-        requires low { low < length self.old.first }
-        ensures apart { IfOk result (λ _. IsApart frond up low start self.old self.new) }
-        ensures weight { IfOk result (λ _. weight self.new ≡ weight self.old
-            + 8 * number_apart frond) }
-    {
-        match frond {
-            Some(name) => self.push(Item {
-                name,
-                up,
-                low,
-                tree: false,
-                start,
-            }),
-            None => Ok(()),
-        }
-    }
-
     // Whether a dart of this class has all from place `start` on as a side, and two entries are left beside it.
     pub(crate) fn is_whole(&self, class: u32, start: usize) -> bool
         requires { start ≤ length self.now.items }
@@ -519,7 +344,7 @@ impl Pass {
         class == 2 && self.total >= self.items.len() - start + 2
     }
 
-    // Drops the cuts from place `base` on before which the vertex `v` is met.
+    // Drops the cuts from place `base` on before which an entry touches `v`.
     pub(crate) fn drop_met<L: Ledger>(&mut self, v: u32, base: usize, steps: &mut Steps<L>)
         requires first { v < length self.old.first }
         requires base { base ≤ length self.old.cuts }
@@ -528,7 +353,7 @@ impl Pass {
         ensures rises { steps.old ≤ steps.new }
     {
         let first = self.first[v as usize];
-        drop_behind(&mut self.cuts, base, first, steps);
+        drop_later(&mut self.cuts, base, first, steps);
     }
 
     // Goes along the next dart of the vertex where the search is: a frond is pushed, or the search goes down.
@@ -536,14 +361,14 @@ impl Pass {
         &mut self,
         alloc: Global,
         g: &Graph,
-        tree: &Tree,
+        tree: &NumberedPalmTree,
         steps: &mut Steps<L>,
     ) -> Result<(), AllocError>
         requires numbered { IsNumbered g.now tree.now }
         requires pass { IsPass g.now tree.now self.old }
         requires more { slice_index self.old.gone self.old.at
             < tree_degree tree.now.palm tree.now.vertex self.old.at }
-        requires fits { slice_index self.old.gone self.old.at + 1 < 18446744073709551616 }
+        requires fits { slice_index self.old.gone self.old.at + 1 < 2 ^ 64 }
         ensures gone { IfOk result (λ _. IsPass g.now tree.now self.new) }
         ensures turned { IfOk result (λ _. IsTurned g.now tree.now self.old self.new) }
         ensures cost { IfOk result (λ _. steps.new + weight self.new
@@ -561,12 +386,12 @@ impl Pass {
         self.add_frond(alloc, g, tree, dart.edge, v, dart.far, steps)
     }
 
-    // Comes back to the parent `v`, which is not the root, when all darts have been gone along.
+    // Comes back to the parent `v`, which is not the root, when all darts have been traversed.
     pub(crate) fn come_back<L: Ledger>(
         &mut self,
         alloc: Global,
         g: &Graph,
-        tree: &Tree,
+        tree: &NumberedPalmTree,
         v: u32,
         steps: &mut Steps<L>,
     ) -> Result<(), AllocError>
@@ -580,7 +405,7 @@ impl Pass {
         requires within { v < g.now.vertex_count }
         requires dart_left { slice_index self.old.gone v
             < tree_degree tree.now.palm tree.now.vertex v }
-        requires fits { slice_index self.old.gone v + 1 < 18446744073709551616 }
+        requires fits { slice_index self.old.gone v + 1 < 2 ^ 64 }
         ensures back { IfOk result (λ _. IsBack g.now tree.now self.old.at self.new) }
         ensures come { IfOk result (λ _. IsCome v self.old self.new) }
         ensures cost { IfOk result (λ _. steps.new + weight self.new
@@ -596,8 +421,13 @@ impl Pass {
         self.add_tree_edge(alloc, g, tree, dart.edge, v, w, start, steps)
     }
 
-    // Comes back to the root, when all darts have been gone along: the pass is over.
-    pub(crate) fn come_home(&mut self, g: &Graph, tree: &Tree, v: u32) -> Result<(), AllocError>
+    // Comes back to the root, when all darts have been traversed: the pass is over.
+    pub(crate) fn come_home(
+        &mut self,
+        g: &Graph,
+        tree: &NumberedPalmTree,
+        v: u32,
+    ) -> Result<(), AllocError>
         requires numbered { IsNumbered g.now tree.now }
         requires pass { IsPass g.now tree.now self.old }
         requires all { slice_index self.old.gone self.old.at
@@ -608,7 +438,7 @@ impl Pass {
         requires within { v < g.now.vertex_count }
         requires dart_left { slice_index self.old.gone v
             < tree_degree tree.now.palm tree.now.vertex v }
-        requires fits { slice_index self.old.gone v + 1 < 18446744073709551616 }
+        requires fits { slice_index self.old.gone v + 1 < 2 ^ 64 }
         ensures home { IfOk result (λ _. IsPassed g.now tree.now self.new) }
         ensures come { IfOk result (λ _. IsCome v self.old self.new) }
         ensures cost { IfOk result (λ _. weight self.new ≤ weight self.old + 8) }
@@ -618,7 +448,7 @@ impl Pass {
         let start = self.start[w as usize];
         self.note_gone(v);
         self.go_up(v, w);
-        self.push(Item {
+        self.push(StackEntry {
             name: dart.edge,
             up: v,
             low: w,
@@ -632,7 +462,7 @@ impl Pass {
         &self,
         alloc: Global,
         g: &Graph,
-        tree: &Tree,
+        tree: &NumberedPalmTree,
         steps: &mut Steps<L>,
     ) -> Result<Vec<NamedEdge>, AllocError>
         requires numbered { IsNumbered g.now tree.now }
@@ -642,13 +472,13 @@ impl Pass {
         ensures at_most { steps.new ≤ steps.old + length self.now.items }
         ensures rises { steps.old ≤ steps.new }
     {
-        edges_of(alloc, g, tree, &self.items, false, 0, 0, steps)
+        edges_of(alloc, g, tree, &self.items, None, steps)
     }
 
     /// The finished components.
-    pub(crate) fn parts(&self) -> &[Finished]
+    pub(crate) fn finished(&self) -> &[Finished]
         ensures { result.now ≡ self.now.parts }
     {
-        &self.parts
+        &self.finished
     }
 }

@@ -6,7 +6,7 @@ ghost use Rattle.graph_theory.specs.Block.{IsOneBlock};
 ghost use Rattle.pair_split.specs.Split.{IsSplit};
 
 use crate::pass::Pass;
-use crate::tree::Tree;
+use crate::tree::NumberedPalmTree;
 use multigraph::Graph;
 use pair_split::{Comps, Kind, Splitter, graph_edges, kind_of_all, write_components};
 use std::alloc::{AllocError, Global};
@@ -48,12 +48,12 @@ fn split_large<L: Ledger>(
     ensures at_most { steps.new ≤ steps.old + 120 * g.now.vertex_count + 126 * edge_count g.now }
     ensures at_least { IfOk result (λ _. steps.old + edge_count g.now ≤ steps.new) }
 {
-    let tree = Tree::grow(alloc, g, steps)?;
+    let tree = NumberedPalmTree::grow(alloc, g, steps)?;
     let mut pass = Pass::new(alloc, g.vertex_count(), g.edge_count())?;
     pass.run(alloc, g, &tree, steps)?;
     let edges = pass.edges(alloc, g, &tree, steps)?;
     let kind = kind_of_all(&edges);
-    write_components(alloc, pass.parts(), &edges, kind, g.edge_count(), steps)
+    write_components(alloc, pass.finished(), &edges, kind, g.edge_count(), steps)
 }
 
 impl SearchSplitter {
@@ -63,7 +63,7 @@ impl SearchSplitter {
     }
 
     /// Does what `split` does and counts the steps: the turns of all loops. They are at most 200 for each vertex and edge, and
-    /// where it answers components at least one for each edge.
+    /// where it returns components at least one for each edge. Fails only if memory runs out.
     pub fn split_counted<L: Ledger>(
         &mut self,
         alloc: Global,

@@ -16,12 +16,12 @@ use step_count::Steps;
 
 /// A palm tree, and the vertex with each number.
 #[derive(Drop)]
-pub(crate) struct Tree {
+pub(crate) struct NumberedPalmTree {
     palm: PalmTree,
     vertex: Vec<u32>,
 }
 
-impl Model for Tree {
+impl Model for NumberedPalmTree {
     ghost use Rattle.split_comp.specs.Pass.{NumberedTree};
 
     ghost Value = { NumberedTree };
@@ -42,13 +42,13 @@ fn note_numbers<L: Ledger>(vertex: &mut [u32], palm: &PalmTree, g: &Graph, steps
     }
 }
 
-impl Tree {
+impl NumberedPalmTree {
     /// The palm tree of a connected graph.
     pub(crate) fn grow<L: Ledger>(
         alloc: Global,
         g: &Graph,
         steps: &mut Steps<L>,
-    ) -> Result<Tree, AllocError>
+    ) -> Result<NumberedPalmTree, AllocError>
         requires connected { IsConnected g.now }
         ensures tree { IfOk result (λ t. IsPalmTree g.now t.palm) }
         ensures vertices { IfOk result (λ t. AreVertices g.now.vertex_count t.palm t.vertex) }
@@ -59,7 +59,7 @@ impl Tree {
         let palm = PalmTree::grow_counted(alloc, g, steps)?;
         let mut vertex = vec![in alloc; 0; g.vertex_count() as usize]?;
         note_numbers(&mut vertex, &palm, g, steps);
-        Ok(Tree { palm, vertex })
+        Ok(NumberedPalmTree { palm, vertex })
     }
 
     /// The vertex with number `x`.

@@ -1,28 +1,30 @@
 // The turns of the pass: along a dart, or back from a vertex, when components are split off.
 
-ghost use Rattle.std.specs.Prelude.{◌≡◌, ◌≢◌, ◌+◌, ◌-◌, ◌*◌, ◌<◌, ◌≤◌, true, false, if◌then◌else◌, length, IfOk, slice_index};
+ghost use Rattle.std.specs.Prelude.{◌≡◌, ◌≢◌, ◌+◌, ◌-◌, ◌*◌, ◌<◌, ◌≤◌, ℕ, true, false, if◌then◌else◌, length, IfOk, slice_index};
 ghost use Rattle.multigraph.specs.Graph.{edge_count};
 ghost use Rattle.split_comp.specs.Cuts.{cut};
 ghost use Rattle.split_comp.specs.Palm.{tree_degree};
-ghost use Rattle.split_comp.specs.Pass.{IsNumbered, IsPass, IsBack, IsPassed, IsGoing, IsReduced, IsReducedOnce, IsAsFar, IsTriangle, IsStale, IsCutTo, IsWhole, HasTurns, IsTurned, IsOverTest, last_dart, weight};
+ghost use Rattle.split_comp.specs.Pass.{IsNumbered, IsPass, IsBack, IsPassed, IsGoing, IsReduced, IsReducedOnce, IsAsFar};
+ghost use Rattle.split_comp.specs.Pass.{IsTriangle, IsStale, IsCutTo, IsWhole, HasTurns, IsTurned, IsOverTest, last_dart};
+ghost use Rattle.split_comp.specs.Pass.{weight};
 
-use crate::items::Triple;
+use crate::items::StackCut;
 use crate::pass::Pass;
-use crate::tree::Tree;
+use crate::tree::NumberedPalmTree;
 use multigraph::Graph;
 use std::alloc::{AllocError, Global};
 use std::sync::ledger::Ledger;
 use step_count::Steps;
 
 impl Pass {
-    // The entries behind the last cut, which is taken off, make a component with the vertex where the search is and the lower
+    // The entries after the last cut, which is taken off, make a component with the vertex where the search is and the lower
     // vertex of the cut. A frond between the two stays apart.
     fn split_pair<L: Ledger>(
         &mut self,
         alloc: Global,
         g: &Graph,
-        tree: &Tree,
-        last: Triple,
+        tree: &NumberedPalmTree,
+        last: StackCut,
         steps: &mut Steps<L>,
     ) -> Result<(), AllocError>
         requires numbered { IsNumbered g.now tree.now }
@@ -35,6 +37,7 @@ impl Pass {
         ensures reduced { IfOk result (λ _. IsReducedOnce g.now tree.now self.old self.new true) }
         ensures cost { IfOk result (λ _. steps.new + weight self.new + 1
             ≤ steps.old + weight self.old) }
+        ensures counted { IfOk result (λ _. length self.old.cuts ≤ length self.new.cuts + 1) }
         ensures at_most { steps.new ≤ steps.old + weight self.old }
         ensures rises { steps.old ≤ steps.new }
     {
@@ -42,7 +45,16 @@ impl Pass {
         let start = self.start_of(self.child());
         self.drop_cut();
         let frond = self.frond_from(last.start, v, last.low, steps);
-        let name = self.split_off(alloc, g, tree, last.start, true, v, last.low, steps)?;
+        let name = self.split_off(
+            alloc,
+            g,
+            tree,
+            last.start,
+            Some((v, last.low)),
+            v,
+            last.low,
+            steps,
+        )?;
         self.push_apart(frond, v, last.low, last.start)?;
         self.add_tree_edge(alloc, g, tree, name, v, last.low, start, steps)
     }
@@ -52,7 +64,7 @@ impl Pass {
         &mut self,
         alloc: Global,
         g: &Graph,
-        tree: &Tree,
+        tree: &NumberedPalmTree,
         steps: &mut Steps<L>,
     ) -> Result<(), AllocError>
         requires numbered { IsNumbered g.now tree.now }
@@ -63,23 +75,24 @@ impl Pass {
         ensures reduced { IfOk result (λ _. IsReducedOnce g.now tree.now self.old self.new true) }
         ensures cost { IfOk result (λ _. steps.new + weight self.new + 1
             ≤ steps.old + weight self.old) }
+        ensures counted { IfOk result (λ _. length self.old.cuts ≤ length self.new.cuts) }
         ensures at_most { steps.new ≤ steps.old + weight self.old }
         ensures rises { steps.old ≤ steps.new }
     {
         let v = self.here();
         let place = self.height() - 2;
         let below = self.item_at(place);
-        let name = self.split_off(alloc, g, tree, place, false, v, below.low, steps)?;
+        let name = self.split_off(alloc, g, tree, place, None, v, below.low, steps)?;
         self.add_tree_edge(alloc, g, tree, name, v, below.low, below.start, steps)
     }
 
-    // Splits off one component with the vertex where the search is and one below its child, or drops a cut of no more use;
-    // answers whether there was one.
+    // Splits off one component with the vertex where the search is and one below its child, or drops a cut no longer of use;
+    // returns whether there was one.
     fn reduce<L: Ledger>(
         &mut self,
         alloc: Global,
         g: &Graph,
-        tree: &Tree,
+        tree: &NumberedPalmTree,
         steps: &mut Steps<L>,
     ) -> Result<bool, AllocError>
         requires numbered { IsNumbered g.now tree.now }
@@ -88,6 +101,8 @@ impl Pass {
             (λ more. IsReducedOnce g.now tree.now self.old self.new more) }
         ensures cost { IfOk result (λ more. steps.new + weight self.new + (if more then 1 else 0)
             ≤ steps.old + weight self.old) }
+        ensures counted { IfOk result (λ more. steps.old + length self.old.cuts
+            ≤ steps.new + length self.new.cuts + (if more then 1 else 0)) }
         ensures at_most { steps.new ≤ steps.old + weight self.old }
         ensures rises { steps.old ≤ steps.new }
     {
@@ -114,7 +129,7 @@ impl Pass {
         &mut self,
         alloc: Global,
         g: &Graph,
-        tree: &Tree,
+        tree: &NumberedPalmTree,
         steps: &mut Steps<L>,
     ) -> Result<(), AllocError>
         requires numbered { IsNumbered g.now tree.now }
@@ -123,6 +138,8 @@ impl Pass {
             × IsAsFar self.old self.new) }
         ensures cost { IfOk result (λ _. steps.new + weight self.new
             ≤ steps.old + weight self.old) }
+        ensures counted { IfOk result (λ _. steps.old + length self.old.cuts
+            ≤ steps.new + length self.new.cuts) }
         ensures at_most { steps.new ≤ steps.old + weight self.old }
         ensures rises { steps.old ≤ steps.new }
     {
@@ -137,7 +154,7 @@ impl Pass {
         &mut self,
         alloc: Global,
         g: &Graph,
-        tree: &Tree,
+        tree: &NumberedPalmTree,
         reach: u32,
         steps: &mut Steps<L>,
     ) -> Result<(), AllocError>
@@ -156,7 +173,7 @@ impl Pass {
         let v = self.here();
         let start = self.start_of(self.child());
         self.drop_cuts(self.base_of(self.child()));
-        let name = self.split_off(alloc, g, tree, start, false, reach, v, steps)?;
+        let name = self.split_off(alloc, g, tree, start, None, reach, v, steps)?;
         self.add_frond(alloc, g, tree, name, v, reach, steps)
     }
 
@@ -166,7 +183,7 @@ impl Pass {
         &mut self,
         alloc: Global,
         g: &Graph,
-        tree: &Tree,
+        tree: &NumberedPalmTree,
         steps: &mut Steps<L>,
     ) -> Result<(), AllocError>
         requires numbered { IsNumbered g.now tree.now }
@@ -193,12 +210,12 @@ impl Pass {
         Ok(())
     }
 
-    // Comes back to the parent, when all darts have been gone along.
+    // Comes back to the parent, when all darts have been traversed.
     fn go_back<L: Ledger>(
         &mut self,
         alloc: Global,
         g: &Graph,
-        tree: &Tree,
+        tree: &NumberedPalmTree,
         steps: &mut Steps<L>,
     ) -> Result<(), AllocError>
         requires numbered { IsNumbered g.now tree.now }
@@ -227,7 +244,7 @@ impl Pass {
         &mut self,
         alloc: Global,
         g: &Graph,
-        tree: &Tree,
+        tree: &NumberedPalmTree,
         steps: &mut Steps<L>,
     ) -> Result<(), AllocError>
         requires numbered { IsNumbered g.now tree.now }
@@ -247,7 +264,7 @@ impl Pass {
     }
 
     // Whether the pass is over.
-    fn is_over(&self, g: &Graph, tree: &Tree) -> bool
+    fn is_over(&self, g: &Graph, tree: &NumberedPalmTree) -> bool
         requires numbered { IsNumbered g.now tree.now }
         requires going { IsGoing g.now tree.now self.now }
         ensures { IsOverTest g.now tree.now self.now result }
@@ -258,27 +275,31 @@ impl Pass {
         self.gone_of(0) >= tree.degree(g, 0)
     }
 
-    /// Splits a block of three edges or more. There are no more turns than vertices and edges.
+    /// Splits a block of three edges or more. There is one turn for each edge and for each vertex but the root, and one more finds
+    /// that the pass is over. Fails only if memory runs out.
     pub(crate) fn run<L: Ledger>(
         &mut self,
         alloc: Global,
         g: &Graph,
-        tree: &Tree,
+        tree: &NumberedPalmTree,
         steps: &mut Steps<L>,
     ) -> Result<(), AllocError>
         requires numbered { IsNumbered g.now tree.now }
         requires pass { IsPass g.now tree.now self.old }
-        requires turns { HasTurns g.now tree.now self.old (g.now.vertex_count + edge_count g.now) }
+        requires turns { (k : ℕ) → k + 1 ≡ g.now.vertex_count + edge_count g.now
+            → HasTurns g.now tree.now self.old k }
         ensures passed { IfOk result (λ _. IsPassed g.now tree.now self.new) }
+        ensures at_least { IfOk result
+            (λ _. steps.old + g.now.vertex_count + edge_count g.now ≤ steps.new) }
         ensures at_most { steps.new ≤ steps.old + weight self.old
             + 19 * (g.now.vertex_count + edge_count g.now) }
         ensures rises { steps.old ≤ steps.new }
     {
         for _ in 0..g.vertex_count() + g.edge_count() {
+            steps.tick();
             if self.is_over(g, tree) {
                 return Ok(());
             }
-            steps.tick();
             self.turn(alloc, g, tree, steps)?;
         }
         Ok(())

@@ -79,7 +79,7 @@ pub record IsOrder (comps : List Comp) (t : IsTree comps) (parents order : List 
   pub before : (x : ℕ) → is_member x order ≡ true → x ≢ t.root → (h : ℕ) × (h < i) × (h < length order) × (slice_index_or order h 0 ≡ t.parent x)
   pub after : (q j : ℕ) → q < i → q < length order → j < length comps → j ≢ t.root → t.parent j ≡ slice_index_or order q 0 → (h : ℕ) × (q < h) × (h < length order) × (slice_index_or order h 0 ≡ j)
 
--- the parents, and all components in an order in which each is behind its parent, where this component is the root
+-- the parents, and all components in an order in which each is after its parent, where this component is the root
 pub record AreOrdered (comps : List Comp) (root : ℕ) (parents order : List ℕ) : Type 0 where
   pub places : length parents ≡ length comps
   pub within : (q : ℕ) → q < length order → slice_index_or order q 0 < length comps
@@ -89,12 +89,12 @@ pub record AreOrdered (comps : List Comp) (root : ℕ) (parents order : List ℕ
       → (h : ℕ) × (q < h) × (h < length order) × (slice_index_or order h 0 ≡ j)
   pub up : (k j : ℕ) → LinksTo comps k j → parent_at parents k ≡ j → is_beyond comps k j root ≡ true
 
--- the least of the keys of the first n pieces but for the link to the parent, and the bound where there is none below it
+-- the least of the keys of the first n pieces but for the link to the parent, and the bound where none is below it
 pub record IsLeastKey (pieces : List Piece) (n parent : ℕ) (least : List ℕ) (bound : ℕ) (key : ℕ) : Type 0 where
   pub lower : (i : ℕ) → i < n → (piece_at pieces i).what ≢ Link parent → key ≤ link_key parent least (piece_at pieces i).what
   pub met : (key ≡ bound) ⊎ ((i : ℕ) × (i < n) × ((piece_at pieces i).what ≢ Link parent) × (key ≡ link_key parent least (piece_at pieces i).what))
 
--- the least edge beyond each link to a child is noted for the child, where it stands at place i of the order or behind it
+-- the least edge beyond each link to a child is noted for the child, where it is at place i of the order or after it
 abbrev pub IsNoted : Multigraph → List Comp → List ℕ → List ℕ → List ℕ → ℕ → Type 0
 IsNoted g comps parents order noted i =
     (k j q : ℕ) → LinksTo comps k j → parent_at parents k ≢ j → i ≤ q → q < length order → slice_index_or order q 0 ≡ j → least_at noted j ≡ least (edge_count g) (side comps k j)

@@ -1,4 +1,4 @@
--- That the vertices of a component tell it.
+-- A component is determined by its vertices.
 use Rattle.std.specs.Prelude.{◌≡◌, ℕ, ◌<◌, List, length}
 use Rattle.multigraph.specs.Graph.{Multigraph}
 use Rattle.graph_theory.specs.Block.{IsOneBlock}

@@ -109,7 +109,7 @@ KeepsLed lead other = (x : ℕ) → IsLed lead x → group_of other x ≡ group_
 abbrev pub with_piece : MergingState → Piece → MergingState
 with_piece s piece = record { live = s.live; lead = s.lead; groups = s.groups; done = s.done; stack = s.stack ++ piece ∷ [] }
 
--- the piece put behind those that were looked at
+-- the piece put after those that were looked at
 abbrev pub with_done : MergingState → Piece → MergingState
 with_done s piece = record { live = s.live; lead = s.lead; groups = s.groups; done = s.done ++ piece ∷ []; stack = s.stack }
 

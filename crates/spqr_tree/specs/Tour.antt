@@ -1,5 +1,5 @@
--- State of a loop: the walk round the tree from the node that has edge 0, over the items of each node in order, down each
--- link, and back by the first item. It gives each edge a place; the places of what is beyond a link stand together.
+-- State of a loop: the walk around the tree from the node that has edge 0, over the items of each node in order, down each
+-- link, and back by the first item. It gives each edge a place; the places of what is beyond a link are together.
 use Rattle.std.specs.Prelude.{◌≡◌, ◌≢◌, ℕ, ◌+◌, ◌-◌, ◌<◌, ◌^◌, ◌≤◌, Bool, true, ◌==◌, List, [], ◌∷◌, ◌++◌, length, slice_index_or, slice_set}
 use Rattle.permutations.specs.Count.{count, sum_below}
 use Rattle.pair_split.specs.Tutte.{Node, node_at, node_item}
@@ -7,7 +7,7 @@ use Rattle.pair_split.specs.declared.components.What.{What}
 use Rattle.pair_split.specs.declared.components.What.TheVariants.{Real, Link}
 use Rattle.spqr_tree.specs.Absent.{absent}
 
--- what item i of node k stands for
+-- what item i of node k represents
 abbrev pub what_at : List Node → ℕ → ℕ → What
 what_at nodes k i = (node_item nodes k i).what
 
@@ -36,7 +36,7 @@ abbrev pub bound_at : List (List ℕ) → ℕ → ℕ → ℕ
 bound_at bounds k i = slice_index_or (bounds_of bounds k) i 0
 
 -- the places and the bounds are those of a walk: an edge that is not the first item of a node has its place between the item's
--- bounds, and so have the bounds of the node behind a link; an edge that is the first item comes before
+-- bounds, and so have the bounds of the node beyond a link; an edge that is the first item comes before
 pub record AreToured (nodes : List Node) (places : List ℕ) (bounds : List (List ℕ)) : Type 0 where
   pub number : length bounds ≡ length nodes
   pub each : (k : ℕ) → k < length nodes → bound_count bounds k ≡ item_count nodes k
@@ -47,7 +47,7 @@ pub record AreToured (nodes : List Node) (places : List ℕ) (bounds : List (Lis
   pub links : (k i j : ℕ) → k < length nodes → i + 1 < item_count nodes k → what_at nodes k (i + 1) ≡ Link j
       → (bound_at bounds k i ≤ bound_at bounds j 0) × ((z : ℕ) → z + 1 ≡ item_count nodes j → bound_at bounds j z ≤ bound_at bounds k (i + 1))
 
--- where the walk is: at a node; how many edges it met; the places of these, and the bounds so far
+-- where the walk is: at a node; how many edges it visited; the places of these, and the bounds so far
 pub record TourState : Type 0 where
   pub at : ℕ
   pub met : ℕ
@@ -70,7 +70,7 @@ pub record ArePartly (nodes : List Node) (s : TourState) : Type 0 where
   pub bounded : length s.places < 2 ^ 32
   pub within : (k i e : ℕ) → k < length nodes → i < item_count nodes k → what_at nodes k i ≡ Real e → e < length s.places
 
--- the walk is before the node where edge 0 was met, and nothing else
+-- the walk is before the node where edge 0 was visited, and nothing else
 pub record HasBegun (nodes : List Node) (m root : ℕ) (s : TourState) : Type 0 where
   pub here : s.at ≡ root
   pub met : s.met ≡ 1
@@ -80,7 +80,7 @@ pub record HasBegun (nodes : List Node) (m root : ℕ) (s : TourState) : Type 0 
   pub number : length s.bounds ≡ length nodes
   pub empty : (k : ℕ) → bound_count s.bounds k ≡ 0
 
--- the bounds with one more for the node where the walk is: how many edges it met
+-- the bounds with one more for the node where the walk is: how many edges it visited
 abbrev pub noted : TourState → List (List ℕ)
 noted s = slice_set s.bounds s.at (bounds_of s.bounds s.at ++ s.met ∷ [])
 
@@ -88,7 +88,7 @@ noted s = slice_set s.bounds s.at (bounds_of s.bounds s.at ++ s.met ∷ [])
 abbrev pub tour_left : List Node → List (List ℕ) → ℕ
 tour_left nodes bounds = sum_below (length nodes) (λ k. item_count nodes k - bound_count bounds k)
 
--- before a bound of the node is noted: of each node whose walk began one item was entered and not left, and those behind it are
+-- before a bound of the node is noted: of each node whose walk began one item was entered and not left, and those after it are
 -- ahead; a node that was entered and left has all its bounds
 pub record IsTouring (nodes : List Node) (s : TourState) : Type 0 where
   pub partly : ArePartly nodes s

@@ -105,6 +105,7 @@ impl Tree {
     /// The tree of a graph that is one block, from its split components (Di Battista and Tamassia 1996).
     ///
     /// Bonds that a link joins are merged to one bond, and polygons to one polygon. Takes time n log n for n pieces.
+    /// Fails only if memory runs out.
     pub fn assemble(alloc: Global, g: &Graph, c: Comps) -> Result<Tree, AllocError>
         requires block { IsOneBlock g.now }
         requires split { IsSplit g.now c.list }

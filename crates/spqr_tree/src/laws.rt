@@ -1,4 +1,4 @@
-// What tells a node of the tree from the others.
+// What distinguishes a node of the tree from the others.
 ghost use Rattle.spqr_tree.specs.Laws.{VerticesTellComponents};
 
 /// The law that in split components of a block of which no two bonds and no two polygons are linked, as in its tree, no two

@@ -76,7 +76,7 @@ impl Live {
         }
     }
 
-    // Component d, which is live no more.
+    // Component d, which is no longer live.
     fn take(&mut self, d: u32) -> Comp
         requires place { d < length self.old.keys }
         requires live { ContainsKey self.old.slab (slab_key self.old d) }
@@ -91,8 +91,8 @@ impl Live {
 }
 
 // The groups so far: the components that are in none, the group of each component, what the finished groups are, and the pieces
-// of the group in work, those that were looked at and those that were not. Components are moved, and no list of them is left: in
-// contracts `comps` is the list as it was.
+// of the group in work, those that were looked at and those that were not. Components are moved, and no list of them is left:
+// in contracts `comps` is the list as it was.
 #[derive(Drop)]
 pub(crate) struct Merging {
     live: Live,

@@ -12,7 +12,7 @@ use crate::merging::group_of;
 use pair_split::{Comp, Piece, PieceList, What};
 use std::alloc::{AllocError, Global};
 
-// What stands for the place where a link leads.
+// What represents the place where a link leads.
 fn rename(lead: &[u32], places: &[u32], what: What) -> What
     requires led { (x : ℕ) → x < length lead.now → group_of lead.now x < length places.now }
     requires within { (j : ℕ) → what ≡ Link j → j < length lead.now }

@@ -45,7 +45,7 @@ impl Tree {
     /// The skeleton of node `k` as a graph of its own: its vertices and its items by their places, the lesser end of an item
     /// first (Tutte 1966). That of an R node is triconnected.
     ///
-    /// Takes time n log n for n items. Fails for want of memory alone.
+    /// Takes time n log n for n items. Fails only if memory runs out.
     pub fn skeleton(&self, alloc: Global, k: u32) -> Result<Graph, AllocError>
         requires node { k < length self.now }
         requires block { (g : Multigraph) × IsBlockTree g self.now × IsWithinLimits g }

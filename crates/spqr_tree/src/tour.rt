@@ -1,5 +1,5 @@
-// The walk round the tree from the node that has edge 0: over the items of each node in order, down each link, and back by the
-// first item. It gives each edge a place, and each node a bound before each item but the first and one behind the last: the
+// The walk around the tree from the node that has edge 0: over the items of each node in order, down each link, and back by the
+// first item. It gives each edge a place, and each node a bound before each item but the first and one after the last: the
 // places of the edges in a group are those between the bounds of its item (Euler tours: Tarjan and Vishkin 1985).
 
 ghost use Rattle.std.specs.Prelude.{◌≡◌, ◌+◌, ◌<◌, ◌^◌, ℕ, true, false, length, slice_set, IfOk};
@@ -16,7 +16,7 @@ use pair_split::{Item, What};
 use std::alloc::{AllocError, Global};
 use std::marker::Model;
 
-// The node where the walk is, how many edges it met, the places of these, and the bounds of each node so far.
+// The node where the walk is, how many edges it visited, the places of these, and the bounds of each node so far.
 #[derive(Drop)]
 pub(crate) struct Tour {
     at: u32,
@@ -62,7 +62,7 @@ fn root_of(nodes: &[TreeNode]) -> u32
     unreachable!()
 }
 
-// As many lists without numbers.
+// Empty lists, this many.
 fn empty_lists(alloc: Global, n: usize) -> Result<Vec<Numbers>, AllocError>
     ensures number { IfOk result (λ lists. length lists.items ≡ n) }
     ensures empty { IfOk result (λ lists. (k : ℕ) → bound_count lists.items k ≡ 0) }
@@ -75,7 +75,7 @@ fn empty_lists(alloc: Global, n: usize) -> Result<Vec<Numbers>, AllocError>
 }
 
 impl Tour {
-    // The walk is at the root, and has met edge 0.
+    // The walk is at the root, and has visited edge 0.
     fn new(alloc: Global, nodes: &[TreeNode], m: u32, root: u32) -> Result<Tour, AllocError>
         requires { 0 < m }
         ensures { IfOk result (HasBegun nodes.now m root) }
@@ -90,7 +90,7 @@ impl Tour {
         })
     }
 
-    // Notes how many edges were met as a bound of the node.
+    // Notes how many edges were visited as a bound of the node.
     fn note(&mut self) -> Result<(), AllocError>
         requires { self.old.at < length self.old.bounds }
         ensures { IfOk result (λ _. self.new ≡ record {
@@ -112,7 +112,7 @@ impl Tour {
         self.bounds[self.at as usize].as_slice().len()
     }
 
-    // Meets edge e.
+    // Visits edge e.
     fn meet(&mut self, e: u32)
         requires place { e < length self.old.places }
         requires few { self.old.met < absent }
@@ -127,7 +127,7 @@ impl Tour {
         self.met += 1;
     }
 
-    // Notes a bound of the node, and enters its next item, or leaves it where there is none; whether the walk is at its end.
+    // Notes a bound of the node, and enters its next item, or leaves it where no item is left; whether the walk is at its end.
     fn step(&mut self, nodes: &[TreeNode]) -> Result<bool, AllocError>
         requires tree { (g : Multigraph) × IsTutte g nodes.now × (0 < edge_count g) }
         requires touring { IsTouring nodes.now self.old }

@@ -31,9 +31,9 @@ impl Model for TreeNode {
     } };
 }
 
-/// The tree of a block: its nodes, in lexicographic order of their vertices. Contracts see the list of the nodes.
+/// The tree of a block: its nodes, in lexicographic order of their vertices. In contracts it is the list of the nodes.
 ///
-/// Beside the nodes it keeps the places of the edges on a walk round the tree, and between which of them each group stands.
+/// Beside the nodes it keeps the places of the edges on a walk around the tree, and between which of them each group is.
 #[derive(Debug, Drop)]
 pub struct Tree {
     pub(crate) nodes: Vec<TreeNode>,
@@ -70,7 +70,7 @@ impl Tree {
         self.nodes[k as usize].kind
     }
 
-    /// The vertices of node `k`, rising.
+    /// The vertices of node `k`, in increasing order.
     pub fn vertices(&self, k: u32) -> &[u32]
         requires { k < length self.now }
         ensures { result.now ≡ (node_at self.now k).vertices }
@@ -96,12 +96,12 @@ impl Tree {
         let i = bounds_up_to(self.bounds[k as usize].as_slice(), place);
         match self.items(k).get(i) {
             Some(item) => item.key,
-            // Behind all bounds: beyond the first item, whose key is 0.
+            // After all bounds: beyond the first item, whose key is 0.
             None => 0,
         }
     }
 
-    /// A copy of the tree.
+    /// A copy of the tree. Fails only if memory runs out.
     pub fn copy(&self, alloc: Global) -> Result<Tree, AllocError>
         ensures { IfOk result (λ tree. tree ≡ self.now) }
     {
@@ -117,7 +117,7 @@ impl Tree {
     }
 }
 
-// How many of the bounds, which rise, are not above the place.
+// How many of the bounds, in increasing order, are not above the place.
 fn bounds_up_to(bounds: &[u32], place: u32) -> usize
     requires { IsNonDecreasingBy (λ x. x) bounds.now }
     ensures up_to { (y : ℕ) → y < result → slice_index bounds.now y ≤ place }

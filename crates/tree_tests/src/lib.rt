@@ -1,7 +1,8 @@
 // Tests of palm trees, splitters, the tree of a block and its certificates.
 //
-// A test shows what no contract says: worked rows, the answers to texts, and that each call answers where there is memory enough.
-// The tests stand here, above the crates that they test, so that the gate need not prove those once more together with them.
+// A test shows what no contract says: worked rows, the texts that are written, and that each call succeeds where there is
+// enough memory. The tests are here, above the crates that they test, so that the gate need not prove those again together with
+// them.
 #![tactic(auto)]
 
 #[cfg(test)]

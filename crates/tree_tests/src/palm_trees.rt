@@ -1,6 +1,6 @@
 // Palm trees worked out by hand, and a large cycle.
 
-ghost use Rattle.std.specs.Prelude.{IfOk, IfSome, IsTrue};
+ghost use Rattle.std.specs.Prelude.{◌≡◌, ◌<◌, IfOk, IfSome, IsTrue};
 ghost use Rattle.blocks.specs.Blocks.{IsBlockStructure};
 ghost use Rattle.palm_tree.specs.PalmTree.{IsConnected, IsPalmTree};
 
@@ -8,11 +8,14 @@ use blocks::{Blocks, split};
 use multigraph::Graph;
 use palm_tree::PalmTree;
 use std::alloc::{AllocError, Global};
+use std::marker::Brand;
+use std::sync::ledger::{Blank, Ledger};
 use std::test::Fail;
+use step_count::Steps;
 
 const BAR: u32 = 99;
 
-// A graph by the ends of its edges, and for each vertex its number, low1, low2 and its darts with a bar behind them.
+// A graph by the ends of its edges, and for each vertex its number, low1, low2 and its darts with a bar after them.
 struct Row {
     vertices: u32,
     ends: &'static [(u32, u32)],
@@ -32,7 +35,8 @@ static ROWS: [Row; 6] = [
         ends: &[(0, 1), (1, 2), (2, 0)],
         told: &[0, 0, 0, 0, BAR, 1, 0, 1, 1, BAR, 2, 0, 2, 2, BAR],
     },
-    // a path of three vertices, from its middle: the children hang, and the earlier one has the smaller number
+    // a path of three vertices, from its middle: the children are attached by bridges, and the earlier one has the smaller
+    // number
     Row {
         vertices: 3,
         ends: &[(0, 1), (0, 2)],
@@ -86,7 +90,7 @@ fn tree_of(alloc: Global, g: &Graph) -> Result<Option<PalmTree>, AllocError>
     Ok(Some(PalmTree::grow(alloc, g)?))
 }
 
-// For each vertex its number, low1, low2 and its darts with a bar behind them.
+// For each vertex its number, low1, low2 and its darts with a bar after them.
 fn described(alloc: Global, g: &Graph, tree: &PalmTree) -> Result<Vec<u32>, AllocError>
     requires { IsPalmTree g.now tree.now }
 {
@@ -99,6 +103,35 @@ fn described(alloc: Global, g: &Graph, tree: &PalmTree) -> Result<Vec<u32>, Allo
         told.push(BAR)?;
     }
     Ok(told)
+}
+
+// The palm tree of a connected graph, grown with counted steps.
+fn grow_counted<L: Ledger>(alloc: Global, g: &Graph, blank: Blank) -> Result<PalmTree, AllocError>
+    requires connected { IsConnected g.now }
+    requires name { blank.name ≡ L.name }
+    requires parts { blank.parts ≡ L.parts }
+    requires some { 0 < blank.parts }
+    ensures { IfOk result (IsPalmTree g.now) }
+{
+    let mut steps = Steps::<L>::new(blank);
+    PalmTree::grow_counted(alloc, g, &mut steps)
+}
+
+#[test]
+fn counting_changes_no_palm_tree(rt: HostRuntime) -> Result<(), Fail> {
+    let alloc = rt.alloc();
+    let g = Graph::build(alloc, 3, &[(0, 1), (1, 2), (2, 0)])?;
+    let structure = split(alloc, &g)?;
+    if !is_connected(&g, &structure) {
+        return Err(Fail::from("in several components"));
+    }
+    let tree = PalmTree::grow(alloc, &g)?;
+    let counted = grow_counted::<Brand>(alloc, &g, Blank::new(1))?;
+    assert_eq!(rt;
+        described(alloc, &g, &counted)?.as_slice(),
+        described(alloc, &g, &tree)?.as_slice()
+    );
+    Ok(())
 }
 
 #[test]

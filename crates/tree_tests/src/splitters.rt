@@ -1,16 +1,21 @@
-// Both splitters lead to the same nodes: of small blocks under each rotation of their edges, and of made graphs.
+// Both splitters lead to the same nodes: of small blocks under each rotation of their edges, and of made graphs. Counting the
+// steps changes no component.
 
-ghost use Rattle.std.specs.Prelude.{◌<◌, length};
+ghost use Rattle.std.specs.Prelude.{◌≡◌, ◌<◌, length};
+ghost use Rattle.graph_theory.specs.Block.{IsOneBlock};
 
 use crate::small_blocks::ends_of;
 use blocks::is_one_block;
 use made_graph::make_graph;
 use multigraph::Graph;
-use pair_split::{PairSplitter, Splitter};
+use pair_split::{Comps, PairSplitter, Splitter};
 use split_comp::SearchSplitter;
 use spqr_tree::Tree;
-use std::alloc::Global;
+use std::alloc::{AllocError, Global};
+use std::marker::Brand;
+use std::sync::ledger::{Blank, Ledger};
 use std::test::Fail;
+use step_count::Steps;
 
 // Whether node k is the same in both trees.
 fn is_same_node(one: &Tree, other: &Tree, k: u32) -> bool
@@ -90,5 +95,70 @@ fn splits_made_graphs(rt: HostRuntime) -> Result<(), Fail> {
         let graph = make_graph(rt.alloc(), 60, seed)?;
         assert!(rt; agree(rt.alloc(), &graph)?);
     }
+    Ok(())
+}
+
+// The components of the block, split with counted steps.
+fn split_counted<L: Ledger>(alloc: Global, graph: &Graph, blank: Blank) -> Result<Comps, AllocError>
+    requires block { IsOneBlock graph.now }
+    requires name { blank.name ≡ L.name }
+    requires parts { blank.parts ≡ L.parts }
+    requires some { 0 < blank.parts }
+{
+    let mut steps = Steps::<L>::new(blank);
+    SearchSplitter::new().split_counted(alloc, graph, &mut steps)
+}
+
+// Whether the components are the same, in the same order.
+fn are_same_components(one: &Comps, other: &Comps) -> bool {
+    let one = one.list.as_slice();
+    let other = other.list.as_slice();
+    if one.len() != other.len() {
+        return false;
+    }
+    for k in 0..one.len() {
+        if one[k].kind != other[k].kind || one[k].items.as_slice() != other[k].items.as_slice() {
+            return false;
+        }
+    }
+    true
+}
+
+// How many components the block has, where `split` and `split_counted` give the same.
+fn counted(alloc: Global, graph: &Graph) -> Result<usize, Fail> {
+    if !is_one_block(alloc, graph)? {
+        return Err(Fail::from("no block"));
+    }
+    let plain = SearchSplitter::new().split(alloc, graph)?;
+    let counted = split_counted::<Brand>(alloc, graph, Blank::new(1))?;
+    if !are_same_components(&plain, &counted) {
+        return Err(Fail::from("other components"));
+    }
+    Ok(counted.list.as_slice().len())
+}
+
+#[test]
+fn counts_the_steps_of_small_blocks(rt: HostRuntime) -> Result<(), Fail> {
+    let triangle = Graph::build(rt.alloc(), 3, &[(0, 1), (1, 2), (2, 0)])?;
+    assert_eq!(rt; counted(rt.alloc(), &triangle)?, 1);
+    let complete = Graph::build(
+        rt.alloc(),
+        4,
+        &[(0, 1), (0, 2), (0, 3), (1, 2), (1, 3), (2, 3)],
+    )?;
+    assert_eq!(rt; counted(rt.alloc(), &complete)?, 1);
+    Ok(())
+}
+
+#[test]
+fn counts_the_steps_of_a_long_cycle(rt: HostRuntime) -> Result<(), Fail> {
+    let mut ends = Vec::new(rt.alloc());
+    for v in 0..19999u32 {
+        ends.push((v, v + 1))?;
+    }
+    ends.push((19999, 0))?;
+    let graph = Graph::build(rt.alloc(), 20000, &ends)?;
+    // A cycle of n vertices falls into n - 2 triangles.
+    assert_eq!(rt; counted(rt.alloc(), &graph)?, 19998);
     Ok(())
 }

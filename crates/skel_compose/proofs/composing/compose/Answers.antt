@@ -1,22 +1,36 @@
-use Rattle.std.proofs.Common.{◌∙◌, ℕ, List, ap, subst}
-use Rattle.rotations.specs.Given.{given_order, IsFirstBad, IsRefusal}
-use Rattle.rotations.specs.declared.faults.RotFault.{RotFault}
+use Rattle.std.proofs.Common.{◌≡◌, ◌<◌, ◌∙◌, ℕ, List, length, sym, ap, subst}
+use Rattle.multigraph.specs.Graph.{Multigraph}
+use Rattle.rotations.specs.Given.{given_order, AreArranged}
+use Rattle.rotations.specs.Rotation.{order_at, IsRotationSystem}
 use Rattle.skeletons.specs.Families.{FollowsFamily}
 use Rattle.skeletons.proofs.Places.{family-followed}
-use Rattle.skel_compose.proofs.Rounds.{entries-same, entries-not_bad}
+use Rattle.skel_compose.specs.Orders.{orders_below}
+use Rattle.skel_compose.proofs.Rounds.{both-ok, entries-same, entries-arranged}
 use Rattle.skel_compose.proofs.composing.compose.Goals as goal
 
--- it is the rotation system that follows
-pub returns-in-Ok-clause-follows : goal.returns-in-Ok-clause-follows
-returns-in-Ok-clause-follows c =
-    let w = family-followed c.args.g.now c.args.tree.now c.args.members.now c.requires.block c.requires.systems in
-    subst (FollowsFamily c.args.tree.now c.args.members.now)
-    (entries-same c.args.g.now w.0 w.1 c.in-Ok.r c.in-Ok.ensures.system (λ v l. c.in-Ok.ensures.orders v l ∙ ap (λ (z : List (ℕ × List ℕ)). given_order c.args.g.now z v) (c.in_ok-lists.ensures w.0 w.1 w.2))) w.2
+-- what is made of the lists of a rotation system is this system
+made-same : (g : Multigraph) (q : List (List ℕ)) (s : IsRotationSystem g q) (lists : List (ℕ × List ℕ)) → lists ≡ orders_below q g.vertex_count
+    → (r : List (List ℕ)) → length r ≡ g.vertex_count → ((v : ℕ) → v < g.vertex_count → order_at r v ≡ given_order g lists v) → q ≡ r
+made-same g q s lists e r long orders = entries-same g q s r long (λ v l. orders v l ∙ ap (λ (z : List (ℕ × List ℕ)). given_order g z v) e)
 
--- its lists aren't refused
-pub unreachable-requires : goal.unreachable-requires
-unreachable-requires c =
+-- the lists are those of the rotation system that follows
+pub of_arranged-requires : goal.of_arranged-requires
+of_arranged-requires c =
     let w = family-followed c.args.g.now c.args.tree.now c.args.members.now c.requires.block c.requires.systems in
-    entries-not_bad c.args.g.now w.0 w.1 c.in-BadRotation.field-0
-    (subst (λ (z : List (ℕ × List ℕ)). IsFirstBad c.args.g.now z c.in-BadRotation.field-0) (c.in_ok-lists.ensures w.0 w.1 w.2)
-    (subst (λ (y : RotFault). IsRefusal c.args.g.now c.in_ok-lists.lists y) c.in-BadRotation.is c.in-Err.ensures.refused))
+    subst (AreArranged c.args.g.now) (sym (c.in_ok-lists.ensures w.0 w.1 w.2)) (entries-arranged c.args.g.now w.0 w.1)
+
+-- so it is a rotation system
+pub returns-clause-system : goal.returns-clause-system
+returns-clause-system c =
+    let w = family-followed c.args.g.now c.args.tree.now c.args.members.now c.requires.block c.requires.systems in
+    both-ok c.of_arranged.result (λ r. length r ≡ c.args.g.now.vertex_count) (λ r. (v : ℕ) → v < c.args.g.now.vertex_count → order_at r v ≡ given_order c.args.g.now c.in_ok-lists.lists v) (IsRotationSystem c.args.g.now)
+    (λ r long orders. subst (IsRotationSystem c.args.g.now) (made-same c.args.g.now w.0 w.1 c.in_ok-lists.lists (c.in_ok-lists.ensures w.0 w.1 w.2) r long orders) w.1)
+    c.of_arranged.ensures.vertices c.of_arranged.ensures.orders
+
+-- and the one that follows
+pub returns-clause-follows : goal.returns-clause-follows
+returns-clause-follows c =
+    let w = family-followed c.args.g.now c.args.tree.now c.args.members.now c.requires.block c.requires.systems in
+    both-ok c.of_arranged.result (λ r. length r ≡ c.args.g.now.vertex_count) (λ r. (v : ℕ) → v < c.args.g.now.vertex_count → order_at r v ≡ given_order c.args.g.now c.in_ok-lists.lists v) (FollowsFamily c.args.tree.now c.args.members.now)
+    (λ r long orders. subst (FollowsFamily c.args.tree.now c.args.members.now) (made-same c.args.g.now w.0 w.1 c.in_ok-lists.lists (c.in_ok-lists.ensures w.0 w.1 w.2) r long orders) w.2)
+    c.of_arranged.ensures.vertices c.of_arranged.ensures.orders

@@ -1,13 +1,13 @@
-use Rattle.std.proofs.Common.{◌+◌, ◌-◌, ◌/◌, arith}
-use Rattle.skel_compose.proofs.Found.{narrowed-left, narrowed-right}
+use Rattle.std.proofs.Common.{Ok, Err, rules}
+use Rattle.std.proofs.lemmas.List.Sorted.{answers_always}
+use Rattle.pair_split.specs.declared.components.Item.{Item}
+use Rattle.skel_compose.proofs.Found.{searched}
 use Rattle.skel_compose.proofs.searching.item_with_key.Goals as goal
 
--- the middle key is larger
-pub loop-low-preserved-then-key-items : goal.loop-low-preserved-then-key-items
-loop-low-preserved-then-key-items c = narrowed-left c.args.items.now c.args.key c.loop-low.low c.loop-low.high (c.loop-low.low + (c.loop-low.high - c.loop-low.low) / 2) c.requires.rising c.loop-low.invariant.1 c.loop-low.invariant.2
-    (omega (arith, c.loop-low-test.true)) (omega (arith, c.loop-low-test.true)) c.if-key-items.true
+-- the closure gives an item's key, and the item that is found has the key
+pub returns-clause-key : goal.returns-clause-key
+returns-clause-key c = ((searched c.args.items.now c.args.key c.requires.rising (Ok c.in-Ok.place) c.in-Ok.ensures.bound (c.in-Ok.ensures.position (λ (item : Item). item.key) (answers_always _ _ _ (λ f a r g called. search rules))) c.requires.held).0).1
 
--- or it is not
-pub loop-low-preserved : goal.loop-low-preserved
-loop-low-preserved c = narrowed-right c.args.items.now c.args.key c.loop-low.low c.loop-low.high (c.loop-low.low + (c.loop-low.high - c.loop-low.low) / 2) c.requires.rising c.loop-low.invariant.1 c.loop-low.invariant.2
-    (omega (arith, c.loop-low-test.true)) (omega (arith, c.loop-low-test.true)) c.if-key-items.false
+-- one is found
+pub unreachable-requires : goal.unreachable-requires
+unreachable-requires c = (searched c.args.items.now c.args.key c.requires.rising (Err c.in-Err.field-0) c.in-Err.ensures.bound (c.in-Err.ensures.position (λ (item : Item). item.key) (answers_always _ _ _ (λ f a r g called. search rules))) c.requires.held).1

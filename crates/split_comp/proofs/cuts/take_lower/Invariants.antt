@@ -1,10 +1,10 @@
 use Rattle.std.proofs.Common.{◌≡◌, ◌+◌, ◌<◌, ◌≤◌, ◌++◌, ◌∷◌, [], ℕ, List, length}
 use Rattle.split_comp.specs.Cuts.{cut}
-use Rattle.split_comp.specs.declared.items.Triple.{Triple}
+use Rattle.split_comp.specs.declared.items.StackCut.{StackCut}
 use Rattle.split_comp.proofs.cuts.take_lower.Given as goal
 
 abbrev pub invariant-loop-cuts : goal.invariant-loop-cuts
-invariant-loop-cuts g l = ((popped : List Triple) × (l.initial.cuts.items ≡ l.cuts.items ++ popped) × ((k : ℕ) → k < length popped → l.new.up < (cut popped k).up) × (popped ≡ [] → l.kept ≡ l.new) × ((c : Triple) (more : List Triple) → popped ≡ c ∷ more → l.kept ≡ record { start = c.start; up = l.new.up; low = c.low }))
+invariant-loop-cuts g l = ((popped : List StackCut) × (l.initial.cuts.items ≡ l.cuts.items ++ popped) × ((k : ℕ) → k < length popped → l.new.up < (cut popped k).up) × (popped ≡ [] → l.kept ≡ l.new) × ((c : StackCut) (more : List StackCut) → popped ≡ c ∷ more → l.kept ≡ record { start = c.start; up = l.new.up; low = c.low }))
     × (l.base ≤ length l.cuts.items) × (l.steps + length l.cuts.items ≡ l.initial.steps + length l.initial.cuts.items)
 
 abbrev pub decreases-loop-cuts : goal.decreases-loop-cuts

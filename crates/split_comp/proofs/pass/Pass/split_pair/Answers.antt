@@ -1,7 +1,8 @@
-use Rattle.std.proofs.Common.{◌+◌, ◌≤◌, true, slice_index, ap, ◌∙◌, arith}
+use Rattle.std.proofs.Common.{◌+◌, ◌≤◌, true, length, slice_index, ap, ◌∙◌, arith}
 use Rattle.std.proofs.lemmas.Result.{IfOk-weaker}
-use Rattle.split_comp.specs.Pass.{IsReducedOnce, weight}
+use Rattle.split_comp.specs.Pass.{PassState, IsReducedOnce, weight}
 use Rattle.split_comp.proofs.SplitOff.{apart-one, end-start, end-can, end-few, end-low, end-low-apart, end-weight, end-joins, end-once}
+use Rattle.split_comp.proofs.AsFar.{one-cut, tree-cuts, apart-cuts}
 use Rattle.split_comp.proofs.pass.Pass.split_pair.Goals as goal
 
 pub frond_from-frond-requires : goal.frond_from-frond-requires
@@ -40,3 +41,11 @@ returns-clause-cost g c = IfOk-weaker c.add_tree_edge.result _ (λ x. c.add_tree
       end-weight c.args.g.now c.args.tree.now c.requires.numbered c.args.self.now c.requires.back c.requires.fresh c.requires.no_triangle c.requires.cut c.here-v.result c.args.last c.drop_cut.new.self c.here-v.ensures c.requires.last c.drop_cut.ensures c.split_off.new.self c.in_ok-name.ensures.split_off,
     ))
     c.add_tree_edge.ensures.cost
+
+pub returns-clause-counted : goal.returns-clause-counted
+returns-clause-counted g c = IfOk-weaker c.add_tree_edge.result _ (λ x. length c.args.self.now.cuts ≤ length c.add_tree_edge.new.self.cuts + 1)
+    (λ x a. one-cut c.args.self.now.cuts c.drop_cut.new.self.cuts c.add_tree_edge.new.self.cuts (ap (λ (s : PassState). s.cuts) c.drop_cut.ensures)
+    (tree-cuts c.args.g.now c.args.tree.now.vertex c.in_ok-name.name c.here-v.result c.args.last.low c.start_of-start.result c.push_apart.new.self c.add_tree_edge.new.self a
+    ∙ apart-cuts c.frond_from-frond.result c.here-v.result c.args.last.low c.args.last.start c.split_off.new.self c.push_apart.new.self c.in_ok-push_apart.ensures.apart
+    ∙ ap (λ (s : PassState). s.cuts) c.in_ok-name.ensures.split_off.now))
+    c.add_tree_edge.ensures.added

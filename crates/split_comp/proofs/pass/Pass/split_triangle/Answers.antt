@@ -1,7 +1,8 @@
-use Rattle.std.proofs.Common.{◌+◌, ◌-◌, ◌≤◌, ℕ, true, ap, arith}
+use Rattle.std.proofs.Common.{◌+◌, ◌-◌, ◌≤◌, ℕ, true, length, ap, arith}
 use Rattle.std.proofs.lemmas.Result.{IfOk-weaker}
-use Rattle.split_comp.specs.Pass.{IsReducedOnce, weight}
+use Rattle.split_comp.specs.Pass.{PassState, IsReducedOnce, weight}
 use Rattle.split_comp.proofs.SplitOff.{corner-can, corner-joins, corner-low, corner-weight, corner-once, two-items}
+use Rattle.split_comp.proofs.AsFar.{tree-cuts}
 use Rattle.split_comp.proofs.pass.Pass.split_triangle.Goals as goal
 
 pub split_off-requires : goal.split_off-requires
@@ -33,3 +34,8 @@ returns-clause-cost g c = IfOk-weaker c.add_tree_edge.result _ (λ x. c.add_tree
           c.split_off.new.self c.in_ok-name.ensures.split_off c.in_ok-name.name c.in_ok-name.ensures.name,
     ))
     c.add_tree_edge.ensures.cost
+
+pub returns-clause-counted : goal.returns-clause-counted
+returns-clause-counted g c = IfOk-weaker c.add_tree_edge.result _ (λ x. length c.args.self.now.cuts ≤ length c.add_tree_edge.new.self.cuts)
+    (λ x a. omega (arith, ap length (tree-cuts c.args.g.now c.args.tree.now.vertex c.in_ok-name.name c.here-v.result c.item_at-below.result.low c.item_at-below.result.start c.split_off.new.self c.add_tree_edge.new.self a), ap (λ (s : PassState). length s.cuts) c.in_ok-name.ensures.split_off.now))
+    c.add_tree_edge.ensures.added

@@ -3,7 +3,7 @@ use Rattle.multigraph.specs.Graph.{is_end, other_end}
 use Rattle.palm_tree.specs.PalmTree.{darts_of}
 use Rattle.split_comp.specs.Pass.{NumberedTree}
 use Rattle.split_comp.proofs.Begins.{dart-in, dart-end, far-in}
-use Rattle.split_comp.proofs.tree.Tree.dart.Goals as goal
+use Rattle.split_comp.proofs.tree.NumberedPalmTree.dart.Goals as goal
 
 pub other_end-end-requires-clause-edge : goal.other_end-end-requires-clause-edge
 other_end-end-requires-clause-edge c = omega (arith, (ap (λ (l : List ℕ). slice_index l c.args.k) (c.darts.ensures ∙ ap₂ darts_of (ap (λ (t : NumberedTree). t.palm) c.self.view_is) c.vertex_at-v.ensures)), dart-in c.args.g.now c.args.self.now c.requires.tree c.args.x c.requires.within c.args.k c.requires.place)
