@@ -26,7 +26,7 @@ use Rattle.skeleton_runs.proofs.NodeFits.{vertex-fits, item-first, item-second}
 use Rattle.skeleton_runs.proofs.SkeletonGraph.{skeleton-limits, graph-edges, edge-item, graph-ends, place-at}
 use Rattle.block_obstruct.specs.Listing.{note_of}
 use Rattle.block_obstruct.specs.Towards.{item_in}
-use Rattle.block_obstruct.specs.Routes.{route_start, route_end, route_vertices, route_at, EndsRoute, AreRoutes}
+use Rattle.kuratowski.specs.Routes.{route_start, route_end, route_vertices, route_at, EndsRoute, AreRoutes}
 use Rattle.multigraph.specs.Buckets.{ArePlaces}
 use Rattle.block_obstruct.specs.Groups.{AreOwners, noted_with, PathAlong, IsItemRoute, AreItemRoutes}
 

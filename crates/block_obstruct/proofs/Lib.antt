@@ -1,5 +1,4 @@
 -- The lemmas on certificates of blocks.
-pub mod Lifted
 pub mod Listed
 pub mod TowardsNodes
 pub mod GroupsOfEdges

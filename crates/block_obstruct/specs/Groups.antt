@@ -21,11 +21,11 @@ AreNoted nodes k x notes = (y e : ℕ) → y < x → HaveItem (node_at nodes y).
 abbrev pub AreOwners : Multigraph → List Node → ℕ → List ℕ → Type 0
 AreOwners g nodes k notes = (e : ℕ) → e < edge_count g → IsInGroup nodes k e (note_of notes e)
 
--- of the first n numbers those that have the note i, rising
+-- of the first n numbers those that have the note i, in increasing order
 abbrev pub noted_with : List ℕ → ℕ → ℕ → List ℕ
 noted_with notes n i = filter (λ e. note_of notes e == i) (numbers_below n)
 
--- the lists hold, for each item of node k, the edges in its group, rising
+-- the lists hold, for each item of node k, the edges in its group, in increasing order
 abbrev pub AreGroupLists : Multigraph → List Node → ℕ → List (List ℕ) → Type 0
 AreGroupLists g nodes k lists = (notes : List ℕ) × AreOwners g nodes k notes × ArePlaces notes (edge_count g) (length (node_at nodes k).items) lists
 

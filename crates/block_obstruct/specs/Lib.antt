@@ -1,5 +1,4 @@
 -- Certificates carried from a skeleton into its block.
-pub mod Routes
 pub mod Listing
 pub mod Towards
 pub mod Groups

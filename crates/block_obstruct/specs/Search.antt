@@ -37,7 +37,7 @@ pub record IsSearched (g : Multigraph) (root : ℕ) (notes : List ℕ) : Type 0 
   pub within : (x : ℕ) → is_member x list ≡ true → x < g.vertex_count
   pub few : length list ≤ g.vertex_count
 
--- the way from a vertex towards the root so far: so many steps along these edges lead to this vertex
+-- the way from a vertex towards the root so far: this number of steps along these edges leads to this vertex
 pub record IsOnWay (g : Multigraph) (list : List ℕ) (from : ℕ) (along : List ℕ) (at steps : ℕ) : Type 0 where
   pub place : ℕ
   pub enough : place + steps < length list

@@ -12,11 +12,11 @@ use Rattle.block_obstruct.specs.Listing.{note_of}
 abbrev pub item_in : List Item → ℕ → Item
 item_in items i = slice_index_or items i (record { key = 0; a = 0; b = 0; what = Real 0 })
 
--- one of the items stands for this
+-- one of the items is this
 abbrev pub HaveItem : List Item → What → Type 0
 HaveItem items what = (i : ℕ) × (i < length items) × ((item_in items i).what ≡ what)
 
--- item i stands for this
+-- item i is this
 abbrev pub IsItem : List Item → ℕ → What → Type 0
 IsItem items i what = (i < length items) × ((item_in items i).what ≡ what)
 

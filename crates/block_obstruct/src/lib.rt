@@ -1,17 +1,16 @@
 // Certificates of blocks: a subdivision of K5 or K3,3 in the skeleton of a node of a block's tree, carried into the block.
 //
-// A skeleton stands for its block: each of its edges, the items of the node, is an edge of the block or a link, and a link stands
-// for the edges on its far side (Tutte 1966). These edges, the group of the item, have a path between the item's ends, and two
-// groups share no vertices but common ends of their items. So a subdivision in the skeleton becomes one in the block when each of
-// its edges is replaced by such a path, its route. `lift` does so for any two graphs and any routes, and promises that the written
-// form is kept; `obstruct_block` finds the routes of a node.
+// A skeleton represents its block: each of its edges, the items of the node, is an edge of the block or a link, a virtual edge,
+// which represents the edges on its far side (Tutte 1966). These edges, the group of the item, have a path between the item's
+// ends, and two groups share no vertices but common ends of their items. So a subdivision in the skeleton becomes one in the
+// block when each of its edges is replaced by such a path, its route. `item_routes` finds the routes of a node, and
+// `obstruct_block` carries a subdivision over along them, by `kuratowski::lift`.
 //
-// The groups of all items are found in one pass: a search from the node through the links of the tree tells for each other node
-// which item leads there. A route is found by a search in the order of distance (Moore 1959) in the part of the block that a group
-// makes. Nothing recurses.
+// The groups of all items are found in one pass: a search from the node through the links of the tree finds for each other node
+// the item that leads there. A route is found by a search in the order of distance (Moore 1959) in the part of the block that a
+// group makes. Nothing recurses.
 //
-// The lemmas that are used most (module of proofs/ in front):
-//   Lifted         path-append, lifted-subdivision, lifted-written: a subdivision carried over
+// The lemmas that are used most (preceded by their module of proofs/):
 //   Listed         listed-more, grows-more, listed-few: numbers on a list, each once, with notes
 //   TowardsNodes   reached-next, reached-all: the search through the links
 //   GroupsOfEdges  far-right, noted-all: the groups of the edges
@@ -21,11 +20,10 @@
 #![tactic(auto)]
 
 mod groups;
-mod lifting;
 mod listing;
 mod obstructing;
 mod search;
 mod towards;
 
-pub use lifting::lift;
-pub use obstructing::obstruct_block;
+pub use kuratowski::lift;
+pub use obstructing::{item_routes, obstruct_block};

@@ -1,4 +1,4 @@
-// Numbers that are put on a list once, each with a note.
+// Numbers that are appended to a list once, each with a note.
 
 ghost use Rattle.std.specs.Prelude.{◌≡◌, ◌<◌, true, length, IfOk};
 ghost use Rattle.permutations.specs.Members.{is_member};
@@ -6,7 +6,7 @@ ghost use Rattle.block_obstruct.specs.Listing.{AreListed, Grows};
 
 use std::alloc::AllocError;
 
-// Puts x behind the list, with this note, unless it stands there.
+// Appends x to the list, with this note, unless it is on it.
 pub(crate) fn add(
     marks: &mut [bool],
     notes: &mut [u32],

@@ -14,7 +14,7 @@ use crate::listing::add;
 use multigraph::{Graph, Numbers, Part};
 use std::alloc::{AllocError, Global};
 
-// Puts the neighbours of a vertex on the list, and notes for each the edge that leads there.
+// Appends the neighbours of a vertex to the list, and notes for each the edge that leads there.
 fn visit(
     g: &Graph,
     x: u32,

@@ -14,7 +14,7 @@ use pair_split::{Item, What};
 use spqr_tree::Tree;
 use std::alloc::{AllocError, Global};
 
-// Puts the nodes to which the items are links on the list, and notes for each the place of the item.
+// Appends the nodes to which the items are links to the list, and notes for each the place of the item.
 fn begin(
     items: &[Item],
     marks: &mut [bool],
@@ -39,7 +39,7 @@ fn begin(
     Ok(())
 }
 
-// Puts the nodes to which the items are links, but for node k, on the list, with this note.
+// Appends the nodes to which the items are links, but for node k, to the list, with this note.
 fn spread(
     items: &[Item],
     k: u32,

@@ -1,9 +1,9 @@
--- The contraction of an edge, made: the vertices behind the one that is left out fall by one, and the edges keep their order.
+-- The contraction of an edge, made: the numbers above that of the vertex left out decrease by one, and the edges keep their order.
 use Rattle.std.specs.Prelude.{ℕ, ◌-◌, ◌==◌, nat_lt, if◌then◌else◌, List, map, filter, slice_index}
 use Rattle.multigraph.specs.Graph.{Multigraph, edge_count, ends_of, numbers_below}
 use Rattle.contractions.specs.Contraction.{is_kept}
 
--- the number of v when y is left out: those above it fall by one
+-- the number of v when y is left out: those above it decrease by one
 abbrev pub without_number : ℕ → ℕ → ℕ
 without_number y v = (if nat_lt y v then v - 1 else v)
 
@@ -11,7 +11,7 @@ without_number y v = (if nat_lt y v then v - 1 else v)
 abbrev pub contracted_vertex : ℕ → ℕ → ℕ → ℕ
 contracted_vertex x y v = without_number y (if v == y then x else v)
 
--- the edges that stay, rising
+-- the edges that stay, in increasing order
 abbrev pub kept_edges : Multigraph → ℕ → ℕ → ℕ → List ℕ
 kept_edges g e x y = filter (is_kept g e x y) (numbers_below (edge_count g))
 

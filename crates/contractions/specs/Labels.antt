@@ -1,4 +1,4 @@
--- Labels by which it is told whether a graph stays connected when vertices are removed.
+-- Labels that determine whether a graph stays connected when vertices are removed.
 use Rattle.std.specs.Prelude.{◌≡◌, ℕ, ◌<◌, false, List, length, slice_index}
 use Rattle.permutations.specs.Members.{is_member}
 

@@ -18,7 +18,7 @@ ContractibleEdgeExists = (g : Multigraph) → IsGraph g → IsTriconnected g →
 abbrev pub ContractibleIsTested : Type 0
 ContractibleIsTested = (g : Multigraph) → IsGraph g → IsTriconnected g → (x y : ℕ) → (is_contractible g x y ≡ true) ↔ IsContractible g x y
 
--- an edge that may be contracted may be so with its ends named the other way round
+-- an edge that may be contracted may be so with its ends named in the other order
 abbrev pub ContractibleEitherWay : Type 0
 ContractibleEitherWay = (g : Multigraph) (x y : ℕ) → IsContractible g x y → IsContractible g y x
 

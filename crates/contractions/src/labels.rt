@@ -31,7 +31,7 @@ fn labels_without(alloc: Global, g: &Graph, x: u32, y: u32, z: u32) -> Result<Ve
     Ok(labels)
 }
 
-// The first number below n that is not removed, or n where there is none.
+// The first number below n that is not removed, or n if all are.
 fn first_left(n: u32, x: u32, y: u32, z: u32) -> u32
     ensures within { result ≤ n }
     ensures before { (v : ℕ) → v < result → is_member v (x ∷ y ∷ z ∷ []) ≡ true }

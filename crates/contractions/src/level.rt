@@ -25,7 +25,7 @@ pub struct Level {
     pub x: u32,
     /// The other end, which has a neighbour of its own if the two have at most two common ones.
     pub y: u32,
-    /// The edges that stay, rising: edge i of the contraction was the edge at place i.
+    /// The edges that stay, in increasing order: edge i of the contraction is the edge at place i.
     pub kept: Vec<u32>,
 }
 
@@ -41,7 +41,7 @@ fn mark_far_end(g: &Graph, marks: &mut [bool], x: u32, edge: u32)
     }
 }
 
-/// For each vertex a mark whether it is joined with x; an `Err` for want of memory.
+/// For each vertex a mark whether it is adjacent to `x`. Fails only if memory runs out.
 pub fn neighbour_marks(alloc: Global, g: &Graph, x: u32) -> Result<Vec<bool>, AllocError>
     ensures marks { IfOk result (λ marks. AreNeighbourMarks g.now x marks.items) }
     ensures number { IfOk result (λ marks. length marks.items ≡ g.now.vertex_count) }
@@ -119,7 +119,7 @@ fn orient(alloc: Global, g: &Graph, edge: u32) -> Result<(u32, u32), AllocError>
     Ok((second, first))
 }
 
-// The edges that stay when e is contracted, rising.
+// The edges that stay when e is contracted, in increasing order.
 fn kept_edges(alloc: Global, g: &Graph, e: u32, x: u32, y: u32) -> Result<Vec<u32>, AllocError>
     ensures { IfOk result (λ kept. kept.items ≡ kept_edges g.now e x y) }
 {
@@ -133,7 +133,8 @@ fn kept_edges(alloc: Global, g: &Graph, e: u32, x: u32, y: u32) -> Result<Vec<u3
     Ok(kept)
 }
 
-/// What a vertex becomes when the edge between x and y is contracted: y what x does, and those above y fall by one.
+/// The number of a vertex when the edge between `x` and `y` is contracted: that of `x` for `y`, and those above `y` decrease by
+/// one.
 pub fn contracted_vertex(x: u32, y: u32, vertex: u32) -> u32
     ensures { result ≡ contracted_vertex x y vertex }
 {
@@ -164,8 +165,8 @@ fn contracted_ends(
 }
 
 impl Level {
-    /// The triconnected graph with the first of its edges that may be contracted (Thomassen 1980); an `Err` for want of
-    /// memory.
+    /// The triconnected graph, of at least five vertices, with the first of its edges that may be contracted (Thomassen 1980).
+    /// Fails only if memory runs out.
     pub fn of(alloc: Global, graph: Graph) -> Result<Level, AllocError>
         requires triconnected { IsTriconnected graph }
         requires five { 5 ≤ graph.vertex_count }
@@ -185,7 +186,7 @@ impl Level {
         })
     }
 
-    /// The graph with the edge contracted, of edges that would become parallel one kept; an `Err` for want of memory.
+    /// The graph with the edge contracted; of edges that would become parallel, one is kept. Fails only if memory runs out.
     pub fn contraction(&self, alloc: Global) -> Result<Graph, AllocError>
         requires { IsLevel self.now }
         ensures { IfOk result (λ h. h ≡ contraction self.now) }

@@ -1,15 +1,15 @@
 // Contracting an edge of a triconnected graph: the theory, and one contraction as it is made.
 //
-// A triconnected graph has an edge that may be contracted: with any third vertex removed besides its two ends, the others
+// A triconnected graph has an edge that may be contracted: with its two ends and any third vertex removed, the others
 // stay connected. If the graph has at least five vertices, what is left when such an edge is contracted, of parallel edges one
 // kept, is triconnected (Thomassen 1980). So each triconnected graph leads by contractions to the complete graph on four
 // vertices. Each law below is a function without a body, whose contract is the theorem.
 //
 // A `Level` is a triconnected graph of five vertices or more with an edge that may be contracted and the edges that stay; it is
-// found by trying each edge with each third vertex, and its contraction is made. `is_triconnected` tells whether a graph is
+// found by trying each edge with each third vertex, and its contraction is made. `is_triconnected` reports whether a graph is
 // triconnected.
 //
-// The lemmas that are used most (module of proofs/ in front):
+// The lemmas that are used most (preceded by their module of proofs/):
 //   Neighbours  neighbour, three_neighbours, incident-three: a third neighbour of each vertex of a triconnected graph
 //   Neighbours  attach: a vertex has a neighbour in each component that is left without it and two others
 //   Tests       connected_without-true, connected_without-from, contractible-true, contractible-from: the tests are exact

@@ -4,14 +4,10 @@ ghost use Rattle.std.specs.Prelude.{◌≡◌, ◌<◌, ℕ, length, slice_index
 
 use std::alloc::{AllocError, Global};
 
-/// The numbers below n, rising; an `Err` for want of memory.
+/// The numbers below `n` in increasing order. Fails only if memory runs out.
 pub fn numbers_below(alloc: Global, n: u32) -> Result<Vec<u32>, AllocError>
     ensures own { IfOk result (λ numbers. (k : ℕ) → k < n → slice_index numbers.items k ≡ k) }
     ensures number { IfOk result (λ numbers. length numbers.items ≡ n) }
 {
-    let mut numbers = Vec::with_capacity(alloc, n as usize)?;
-    for number in 0..n {
-        numbers.push(number)?;
-    }
-    Ok(numbers)
+    (0..n).collect(alloc)
 }

@@ -62,7 +62,9 @@ fn stays_connected(alloc: Global, g: &Graph, a: u32) -> Result<bool, AllocError>
     Ok(true)
 }
 
-/// Whether the graph is triconnected, by trying each two vertices that are removed; an `Err` for want of memory.
+/// Whether the graph is triconnected, by trying to remove each two vertices: takes time as the cube of the graph's size. It is for
+/// callers of an embedder whose graph is not known to be triconnected; the program has no call of it. Fails only if memory runs
+/// out.
 pub fn is_triconnected(alloc: Global, g: &Graph) -> Result<bool, AllocError>
     ensures { IfOk result (λ held. (held ≡ true) ↔ IsTriconnected g.now) }
 {

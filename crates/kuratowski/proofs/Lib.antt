@@ -8,3 +8,4 @@ pub mod Reordering
 pub mod Sorting
 pub mod WrittenOrder
 pub mod WrittenForm
+pub mod Lifted

@@ -1,5 +1,5 @@
 -- What a check of a subdivision asks, step by step: the branch vertices in their written order, and marks on the vertices that
--- were met, so that none is met twice.
+-- were visited, so that none is visited twice.
 use Rattle.std.specs.Prelude.{◌≡◌, ℕ, ◌<◌, Bool, true, false, not, ◌&&◌, ◌==◌, nat_lt, List, [], ◌∷◌, replicate, slice_index_or, slice_set, length}
 use Rattle.multigraph.specs.Graph.{Multigraph, is_edge_at, other_end}
 use Rattle.graph_theory.specs.Path.{walk_starts, walk_end}

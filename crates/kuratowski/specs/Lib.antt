@@ -2,3 +2,4 @@
 pub mod Subdivision
 pub mod Checking
 pub mod Reordering
+pub mod Routes

@@ -34,7 +34,7 @@ pub record IsReordering (kind : Pattern) (branch order : List ℕ) : Type 0 wher
   pub members : (z : ℕ) → is_member z order ≡ is_member z branch
   pub joined : (k : ℕ) → k < length (pattern_edges kind) → are_joined kind (place_of branch (branch_at order (pair_at kind k).0)) (place_of branch (branch_at order (pair_at kind k).1)) ≡ true
 
--- the same numbers in rising order
+-- the same numbers in increasing order
 pub record IsRisen (l rising : List ℕ) : Type 0 where
   pub permuted : IsPermutation l rising
   pub rises : Rises rising

@@ -46,8 +46,8 @@ all_inner g branch (pair ∷ pairs) [] = []
 all_inner g branch (pair ∷ pairs) (path ∷ paths) = inner_vertices g (branch_at branch pair.0) path ++ all_inner g branch pairs paths
 
 -- a subdivision of the pattern in g: a path for each edge of the pattern, from the one branch vertex to the other; the branch
--- vertices and the vertices inside the paths are all different. So no path has a branch vertex inside, and two paths meet
--- only in a branch vertex that ends both
+-- vertices and the vertices inside the paths are all different. So no path has a branch vertex inside, and two paths share
+-- only a branch vertex that ends both
 pub record IsSubdivision (g : Multigraph) (kind : Pattern) (branch : List ℕ) (paths : List (List ℕ)) : Type 0 where
   pub branches : length branch ≡ branch_count kind
   pub branch_in : (i : ℕ) → i < branch_count kind → branch_at branch i < g.vertex_count
@@ -55,7 +55,7 @@ pub record IsSubdivision (g : Multigraph) (kind : Pattern) (branch : List ℕ) (
   pub are_paths : (k : ℕ) → k < length (pattern_edges kind) → IsPath g (branch_at branch (pair_at kind k).0) (path_at paths k) (branch_at branch (pair_at kind k).1)
   pub apart : is_distinct (branch ++ all_inner g branch (pattern_edges kind) paths) ≡ true
 
--- the branch vertices in their written order: those of K5 rise; of K3,3 each side rises, and the first of all is less than
+-- the branch vertices in their written order: those of K5 increase; of K3,3 each side increases, and the first of all is less than
 -- the first of the other side
 abbrev pub IsWrittenOrder : Pattern → List ℕ → Type 0
 IsWrittenOrder K5 branch = (i : ℕ) → i < 4 → branch_at branch i < branch_at branch (suc i)

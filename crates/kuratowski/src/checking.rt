@@ -1,4 +1,4 @@
-// The exact check of a subdivision, by marks on the vertices that were met.
+// The exact check of a subdivision, by marks on the vertices that were visited.
 
 ghost use Rattle.std.specs.Prelude.{◌≡◌, ◌<◌, ◌↔◌, ◌&&◌, true, false, not, length, IfOk, MatchOption, slice_set};
 ghost use Rattle.multigraph.specs.Graph.{IsGraph};
@@ -83,7 +83,8 @@ fn walk(g: &Graph, marks: &mut [bool], from: u32, edges: &[u32]) -> Option<u32>
     Some(at)
 }
 
-// Walks along a path and marks the vertices inside. Returns whether it is one between the two vertices and meets no mark.
+// Walks along a path and marks its inner vertices. Returns whether it is a path between the two vertices whose inner vertices had
+// no mark.
 fn walk_path(g: &Graph, marks: &mut [bool], from: u32, path: &[u32], to: u32) -> bool
     ensures free { result ≡ is_free_path g.now marks.old from path.now to }
     ensures marked { result ≡ true → marks.new ≡ marked_also marks.old
@@ -123,8 +124,8 @@ fn walk_paths(
     true
 }
 
-// Whether the branch vertices and the vertices inside the paths have no mark yet and none is met twice, and the paths join the
-// pairs.
+// Whether the branch vertices and the vertices inside the paths have no mark yet and none is visited twice, and the paths join
+// the pairs.
 fn meets_once(
     g: &Graph,
     marks: &mut [bool],
@@ -140,7 +141,7 @@ fn meets_once(
     mark_all(marks, branch) && walk_paths(g, marks, branch, pairs, paths)
 }
 
-/// Whether `s` is a subdivision of its pattern in `g`. In linear time.
+/// Whether `s` is a subdivision of its pattern in `g`. In linear time. Fails only if memory runs out.
 pub fn is_subdivision(alloc: Global, g: &Graph, s: &Subdivision) -> Result<bool, AllocError>
     ensures exact { IfOk result
         (λ held. (held ≡ true) ↔ IsSubdivision g.now s.now.kind s.now.branch s.now.paths) }
@@ -155,7 +156,7 @@ pub fn is_subdivision(alloc: Global, g: &Graph, s: &Subdivision) -> Result<bool,
     Ok(meets_once(g, &mut marks, branch, pairs, paths))
 }
 
-/// Whether `s` is a subdivision of its pattern in `g`, in its written form. In linear time.
+/// Whether `s` is a subdivision of its pattern in `g`, in its written form. In linear time. Fails only if memory runs out.
 pub fn check(alloc: Global, g: &Graph, s: &Subdivision) -> Result<bool, AllocError>
     ensures exact { IfOk result
         (λ held. (held ≡ true) ↔ IsWritten g.now s.now.kind s.now.branch s.now.paths) }

@@ -1,9 +1,9 @@
--- Two properties of the members of a cyclic order: the members with the one stand together, or both alternate.
+-- Two properties of the members of a cyclic order: the members with the one are consecutive, or both alternate.
 use Rattle.std.specs.Prelude.{◌≡◌, ℕ, ◌≤◌, Bool, true, false, List, [], ◌∷◌, ◌++◌, length}
 use Rattle.permutations.specs.Members.{is_member}
 use Rattle.permutations.specs.Cyclic.{IsTurn}
 
--- the members that pass p stand in one run, of at least two, and those inside it fail q
+-- the members that pass p are one run, of at least two, and those inside it fail q
 pub record StandTogether (p q : ℕ → Bool) (l : List ℕ) : Type 0 where
   pub first : ℕ
   pub middle : List ℕ
@@ -16,7 +16,7 @@ pub record StandTogether (p q : ℕ → Bool) (l : List ℕ) : Type 0 where
   pub inside : (z : ℕ) → is_member z middle ≡ true → (p z ≡ true) × (q z ≡ false)
   pub outside : (z : ℕ) → is_member z others ≡ true → p z ≡ false
 
--- four members are met in turn on the way round: one that passes p, one that passes q, one that passes p, and one that fails p
+-- four members follow each other in the cyclic order: one that passes p, one that passes q, one that passes p, and one that fails p
 pub record Alternates (p q : ℕ → Bool) (l : List ℕ) : Type 0 where
   pub a : ℕ
   pub b : ℕ

@@ -1,4 +1,4 @@
--- The circle round a vertex of a plane rotation system: the neighbours of the vertex, joined by what the faces at it leave.
+-- The circle around a vertex of a plane rotation system: the neighbours of the vertex, joined by what the faces at it leave.
 use Rattle.std.specs.Prelude.{◌≡◌, ℕ, ◌-◌, ◌/◌, ◌<◌, Bool, false, true, ◌||◌, List, [], ◌∷◌, ◌++◌, length, map, reverse}
 use Rattle.permutations.specs.Members.{is_member, is_distinct}
 use Rattle.permutations.specs.Ring.{images, orbit_length}
@@ -19,7 +19,7 @@ LeadOn h home [] = Unit {0}
 LeadOn h home (part ∷ []) = (0 < length part.1) × IsWalk h part.0 part.1 × (walk_end h part.0 part.1 ≡ home)
 LeadOn h home (part ∷ (next ∷ parts)) = ((0 < length part.1) × IsWalk h part.0 part.1 × (walk_end h part.0 part.1 ≡ next.0)) × LeadOn h home (next ∷ parts)
 
--- the parts are a cycle, which begins and ends at `home`, meets no vertex twice and does not meet w
+-- the parts are a cycle, which begins and ends at `home`, visits no vertex twice and does not visit w
 pub record IsCircle (h : Multigraph) (w home : ℕ) (parts : List (ℕ × List ℕ)) : Type 0 where
   pub lead_on : LeadOn h home parts
   pub once : is_distinct (part_starts h parts) ≡ true

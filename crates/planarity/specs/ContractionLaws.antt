@@ -16,7 +16,7 @@ pub record IsTriangle (g : Multigraph) (a b c : ℕ) : Type 0 where
   pub second : tail g (twin b) ≡ tail g c
   pub third : tail g (twin c) ≡ tail g a
 
--- the three darts are a face: behind the twin of each the next one follows
+-- the three darts are a face: each is followed by the next one after its twin
 abbrev pub IsTriangularFace : Multigraph → List (List ℕ) → ℕ → ℕ → ℕ → Type 0
 IsTriangularFace g r a b c = (dart_after g r (twin c) ≡ a) × (dart_after g r (twin a) ≡ b) × (dart_after g r (twin b) ≡ c)
 
@@ -59,7 +59,7 @@ ContractedSystemTells = (g h : Multigraph) (e x y : ℕ) (edge vertex : ℕ → 
     → (v : ℕ) → v ≢ x → are_adjacent g y v ≡ true → are_adjacent g x v ≡ false
     → (r q s : List (List ℕ)) → IsRotationSystem g r → IsRotationSystem g q → IsPlane g r → IsPlane g q → IsContractedSystem g h e x y edge r s → IsContractedSystem g h e x y edge q s → r ≡ q
 
--- a plane rotation system of the contracted graph that falls in runs round the merged vertex is made by a plane one of the graph
+-- a plane rotation system of the contracted graph that has two runs around the merged vertex is made by a plane one of the graph
 abbrev pub RunsExpand : Type 0
 RunsExpand = (g h : Multigraph) (e x y : ℕ) (edge vertex : ℕ → ℕ) → IsGraph g → IsGraph h → IsContraction g h e x y edge vertex → IsSimple g
     → (s : List (List ℕ)) → IsRotationSystem h s → IsPlane h s → (first last : ℕ) → FallsInRuns g h x y edge s first last

@@ -16,14 +16,14 @@ moved edge d = 2 * edge (d / 2) + d % 2
 unfoldable pub stays : Multigraph → ℕ → ℕ → ℕ → ℕ → Bool
 stays g e x y d = (d / 2 == e) || is_kept g e x y (d / 2)
 
--- s goes round the vertices of the contracted graph as r does in g, when the edges that are not kept are left out and then
--- the edge e from x is contracted: at the merged vertex the edges that follow e round x come before those that follow it
--- round y
+-- s has at the vertices of the contracted graph the cyclic orders of r in g, when the edges that are not kept are left out and
+-- then the edge e from x is contracted: at the merged vertex the edges that follow e around x come before those that follow it
+-- around y
 abbrev pub IsContractedSystem : Multigraph → Multigraph → ℕ → ℕ → ℕ → (ℕ → ℕ) → List (List ℕ) → List (List ℕ) → Type 0
 IsContractedSystem g h e x y edge r s =
     (d : ℕ) → d < dart_count h → moved edge (dart_after h s d) ≡ contracted (dart_from g x e) (restricted (dart_count g) (stays g e x y) (dart_after g r)) (moved edge d)
 
--- round the merged vertex s falls into two runs, that of the darts which leave x in g, from `first` to `last`, and that of
+-- around the merged vertex s has two runs, that of the darts which leave x in g, from `first` to `last`, and that of
 -- the darts which leave y; and a dart from x to a neighbour of y is the first or the last of its run
 pub record FallsInRuns (g h : Multigraph) (x y : ℕ) (edge : ℕ → ℕ) (s : List (List ℕ)) (first last : ℕ) : Type 0 where
   pub first_dart : first < dart_count h

@@ -26,7 +26,7 @@ abbrev pub is_listed : List (ℕ × ℕ) → ℕ → ℕ → Bool
 is_listed [] i j = false
 is_listed (pair ∷ pairs) i j = is_pair pair i j || is_listed pairs i j
 
--- the path from i to j, where there is one path for each of the pairs: it is turned round where the pair is (j, i)
+-- the path from i to j, where there is one path for each of the pairs: it is reversed where the pair is (j, i)
 abbrev pub path_of_pair : List (ℕ × ℕ) → List (List ℕ) → ℕ → ℕ → List ℕ
 path_of_pair [] paths i j = []
 path_of_pair (pair ∷ pairs) [] i j = []
@@ -52,7 +52,7 @@ spokes_off g edge kind paths z m = filter (λ i. not (leaves_by g edge kind path
 abbrev pub lifted_branch : ℕ → ℕ → (ℕ → ℕ) → List ℕ → List ℕ
 lifted_branch top foot back branch = map (λ v. if v == top then foot else back v) branch
 
--- the paths lifted, each between the two vertices of g that stand for its branch vertices
+-- the paths lifted, each between the two vertices of g that its branch vertices become
 abbrev pub lifted_paths : Multigraph → ℕ → (ℕ → ℕ) → Pattern → List (List ℕ) → List ℕ → List (List ℕ)
 lifted_paths g e edge kind paths branch =
     map (λ p. lifted g e (branch_at branch p.0) (map edge (path_of_pair (pattern_edges kind) paths p.0 p.1)) (branch_at branch p.1)) (pattern_edges kind)
@@ -61,7 +61,7 @@ lifted_paths g e edge kind paths branch =
 abbrev pub split_branch : ℕ → ℕ → (ℕ → ℕ) → List ℕ → ℕ → ℕ → ℕ → ℕ → List ℕ
 split_branch x y back branch p q r t = x ∷ back (branch_at branch r) ∷ back (branch_at branch t) ∷ y ∷ back (branch_at branch p) ∷ back (branch_at branch q) ∷ []
 
--- the vertex of K5 over which vertex i of this K3,3 stands
+-- the vertex of K5 that vertex i of this K3,3 is over
 abbrev pub split_over : ℕ → ℕ → ℕ → ℕ → ℕ → ℕ → ℕ
 split_over m p q r t i = slice_index_or (m ∷ r ∷ t ∷ m ∷ p ∷ q ∷ []) i 0
 

@@ -26,7 +26,7 @@ abbrev pub CommonNeighboursObstruct : Type 0
 CommonNeighboursObstruct = (g h : Multigraph) (e x y : ℕ) (edge vertex : ℕ → ℕ) → IsGraph g → IsGraph h → IsContraction g h e x y edge vertex → IsSimple g
     → (s : List (List ℕ)) → IsRotationSystem h s → IsPlane h s → IsTriconnected h → 3 ≤ common_count g x y → HasSubdivision g
 
--- and so it has where round the merged vertex edges at x alternate with an edge to a neighbour of y and an edge not at x
+-- and so it has where around the merged vertex edges at x alternate with an edge to a neighbour of y and an edge not at x
 abbrev pub AlternatingNeighboursObstruct : Type 0
 AlternatingNeighboursObstruct = (g h : Multigraph) (e x y : ℕ) (edge vertex : ℕ → ℕ) → IsGraph g → IsGraph h → IsContraction g h e x y edge vertex → IsSimple g
     → (s : List (List ℕ)) → IsRotationSystem h s → IsPlane h s → IsTriconnected h

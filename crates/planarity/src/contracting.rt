@@ -1,4 +1,4 @@
-// What becomes of a plane rotation system when an edge is contracted, and how it is got back: the laws.
+// What becomes of a plane rotation system when an edge is contracted, and how it is recovered: the laws.
 
 ghost use Rattle.planarity.specs.ContractionLaws.{CommonNeighboursTwo, ContractedSystemExists, ContractedSystemPlane, ContractedSystemTells, ContractedSystemUnique, RunsExpand, TriangleFaceOnce, TriangleIsFace};
 
@@ -16,8 +16,8 @@ pub fn rotation_systems_are_contracted()
     ensures plane { ContractedSystemPlane }
 {}
 
-/// The law that a plane rotation system of a triconnected graph is told by what it makes of the graph with an edge contracted;
-/// and that one of the contracted graph is made by a plane one where it falls in two runs round the merged vertex.
+/// The law that a plane rotation system of a triconnected graph is determined by what it makes of the graph with an edge
+/// contracted; and that one of the contracted graph is made by a plane one where it has two runs around the merged vertex.
 pub fn plane_rotation_systems_are_expanded()
     ensures common { CommonNeighboursTwo }
     ensures told { ContractedSystemTells }

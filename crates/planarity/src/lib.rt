@@ -26,7 +26,7 @@ pub fn subdivision_excludes_plane()
 {}
 
 /// The law that a triconnected graph has two plane rotation systems, mirror images of each other, or none (Whitney 1932). By
-/// induction: contracting an edge tells plane rotation systems apart, and with four vertices there are sixteen to look at.
+/// induction: contracting an edge distinguishes plane rotation systems, and with four vertices there are sixteen to examine.
 pub fn triconnected_graphs_have_two()
     ensures two { TwoPlaneSystems }
     ensures mirror { MirrorIsAnother }
@@ -34,7 +34,7 @@ pub fn triconnected_graphs_have_two()
 
 /// The law that a triconnected graph has a plane rotation system, or a subdivision of K5 or K3,3 (Kuratowski 1930). By
 /// induction, after Thomassen (1980): an edge is contracted; a plane rotation system of what is left expands, or the circle
-/// round the merged vertex closes a subdivision; and a subdivision of what is left is lifted.
+/// around the merged vertex closes a subdivision; and a subdivision of what is left is lifted.
 pub fn triconnected_graphs_are_plane_or_obstructed()
     ensures { PlaneOrSubdivision }
 {}

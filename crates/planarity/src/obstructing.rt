@@ -14,7 +14,7 @@ pub fn neighbours_lie_on_a_circle()
     ensures circle { NeighboursOnCircle }
 {}
 
-/// The law that the circle round the merged vertex and the edges at the two ends of the contracted edge hold a subdivision of
+/// The law that the circle around the merged vertex and the edges at the two ends of the contracted edge hold a subdivision of
 /// K5 where the ends have three neighbours in common, and one of K3,3 where their neighbours alternate.
 pub fn neighbours_on_the_circle_obstruct()
     ensures common { CommonNeighboursObstruct }

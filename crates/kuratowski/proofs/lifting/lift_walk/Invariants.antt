@@ -1,7 +1,7 @@
 use Rattle.std.proofs.Common.{◌≡◌, ◌++◌, drop}
 use Rattle.graph_theory.specs.Path.{IsWalk}
-use Rattle.block_obstruct.specs.Routes.{lifted_walk}
-use Rattle.block_obstruct.proofs.lifting.lift_walk.Given as goal
+use Rattle.kuratowski.specs.Routes.{lifted_walk}
+use Rattle.kuratowski.proofs.lifting.lift_walk.Given as goal
 
 abbrev pub invariant-loop-edge : goal.invariant-loop-edge
 invariant-loop-edge l = record {

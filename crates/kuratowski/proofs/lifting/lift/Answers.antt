@@ -1,9 +1,9 @@
 -- The paths and branch vertices that were carried over are a subdivision in its written form.
 use Rattle.std.proofs.Common.{◌≡◌, List, ℕ, ap, ◌∙◌, sym, subst}
 use Rattle.kuratowski.specs.Subdivision.{IsWritten}
-use Rattle.block_obstruct.specs.Routes.{lifted_branches, lifted_paths}
-use Rattle.block_obstruct.proofs.Lifted.{lifted-written}
-use Rattle.block_obstruct.proofs.lifting.lift.Goals as goal
+use Rattle.kuratowski.specs.Routes.{lifted_branches, lifted_paths}
+use Rattle.kuratowski.proofs.Lifted.{lifted-written}
+use Rattle.kuratowski.proofs.lifting.lift.Goals as goal
 
 pub returns-clause-written : goal.returns-clause-written
 returns-clause-written c =

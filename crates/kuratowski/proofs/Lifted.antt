@@ -21,7 +21,7 @@ use Rattle.kuratowski.specs.Subdivision.{branch_count, branch_at, path_at, pair_
 use Rattle.kuratowski.proofs.Checked.{pair-rises}
 use Rattle.kuratowski.proofs.Meetings.{vertices_at, MeetAtBranches, subdivision-meetings, subdivision-from_meetings, met-parts}
 use Rattle.kuratowski.proofs.Reordering.{pair-once}
-use Rattle.block_obstruct.specs.Routes.{outer_vertex, route_at, route_start, route_end, route_vertices, EndsRoute, AreRoutes, route_from, lifted_walk, lifted_path, lifted_paths, lifted_branches}
+use Rattle.kuratowski.specs.Routes.{outer_vertex, route_at, route_start, route_end, route_vertices, EndsRoute, AreRoutes, route_from, lifted_walk, lifted_path, lifted_paths, lifted_branches}
 
 -- two paths, the second from where the first leads, that share no vertex else are one path
 pub path-append : (g : Multigraph) (x : ℕ) (es : List ℕ) (y : ℕ) (fs : List ℕ) (w : ℕ) → IsPath g x es y → IsPath g y fs w

@@ -1,16 +1,16 @@
-// A subdivision carried from a graph into another one, in which routes stand for the edges.
+// A subdivision carried from a graph into another one, along routes: paths of the other graph, one for each edge.
 
 ghost use Rattle.std.specs.Prelude.{◌≡◌, ◌<◌, ◌++◌, ℕ, length, IfOk};
-ghost use Rattle.multigraph.specs.Graph.{edge_count, IsGraph};
+ghost use Rattle.multigraph.specs.Graph.{edge_count};
 ghost use Rattle.graph_theory.specs.Path.{IsWalk};
 ghost use Rattle.kuratowski.specs.Subdivision.{branch_at, IsSubdivision, IsWritten};
-ghost use Rattle.block_obstruct.specs.Routes.{AreRoutes, route_from, lifted_walk, lifted_paths, lifted_branches};
+ghost use Rattle.kuratowski.specs.Routes.{AreRoutes, route_from, lifted_walk, lifted_paths, lifted_branches};
 
-use kuratowski::{Pattern, Subdivision};
+use crate::subdivision::{Pattern, Subdivision};
 use multigraph::{Graph, NumberLists, Numbers};
 use std::alloc::{AllocError, Global};
 
-// Puts the route of an edge, from one of its ends on, behind what stands there.
+// Appends the route of an edge, from one of its ends on.
 fn add_route(
     alloc: Global,
     inner: &Graph,
@@ -92,10 +92,11 @@ fn lift_branches(alloc: Global, vertex: &[u32], branch: &[u32]) -> Result<Vec<u3
 
 /// Carries a subdivision of a pattern, in its written form, from the graph `inner` into the graph `outer`.
 ///
-/// `vertex` gives the outer vertex of each inner one, and rises; `routes` gives for each inner edge a path of `outer` from its
-/// first to its second end, as a list of edges. Routes share no vertex but common ends, and have no vertex of `vertex` inside.
-/// Each path of the result is the routes of the path's edges, one after the other, a route that is taken from the second to the
-/// first end in the other direction. Takes time and memory for the routes of the edges on the paths.
+/// `vertex` gives the outer vertex of each inner one, in increasing order; `routes` gives for each inner edge a path of `outer`
+/// from its first to its second end, as a list of edges. Two routes share no vertex but common ends, and none has a vertex of
+/// `vertex` inside. Each path of the result is the concatenation of the routes of the path's edges, a route that is traversed from
+/// its second to its first end reversed. Neither graph has to be planar. Time and memory are linear in the length of the result.
+/// Fails only if memory runs out.
 pub fn lift(
     alloc: Global,
     inner: &Graph,
@@ -111,8 +112,8 @@ pub fn lift(
     ensures branches { IfOk result (λ w. w.branch ≡ lifted_branches vertex.now s.now.branch) }
     ensures paths { IfOk result (λ w. w.paths
         ≡ lifted_paths inner.now routes.now s.now.kind s.now.branch s.now.paths) }
-    ensures graph { IfOk result (λ _. IsGraph inner.now) }
 {
+    // That `inner` is a graph is known from the clauses of this call.
     let _ = inner.vertex_count();
     let branch = lift_branches(alloc, vertex, s.branch.as_slice())?;
     let paths = lift_paths(

@@ -1,5 +1,5 @@
--- A graph whose vertices are vertices of another graph, and whose edges stand for paths of it; and its subdivisions, carried
--- over along these paths.
+-- A graph whose vertices are vertices of another graph, and whose edges are paths of it, their routes; and its subdivisions,
+-- carried over along these paths.
 use Rattle.std.specs.Prelude.{◌≡◌, ◌≢◌, ℕ, ◌<◌, ◌⊎◌, true, false, ◌==◌, cond, List, [], ◌∷◌, ◌++◌, map, reverse, length, slice_index_or}
 use Rattle.permutations.specs.Members.{is_member}
 use Rattle.multigraph.specs.Graph.{Multigraph, edge_count, ends_of, other_end, numbers_below}
