@@ -1,8 +1,8 @@
 -- Moves as values of the program, read as moves of the theory.
 use Rattle.std.specs.Prelude.{List, map}
 use Rattle.skeletons.specs.Moves as theory
-use Rattle.skel_embed.specs.declared.moves.Move.{Move}
-use Rattle.skel_embed.specs.declared.moves.Move.TheVariants.{Flip, Permute}
+use Rattle.moves.specs.declared.values.Move.{Move}
+use Rattle.moves.specs.declared.values.Move.TheVariants.{Flip, Permute}
 
 -- the move that a value stands for
 abbrev pub as_move : Move → theory.Move

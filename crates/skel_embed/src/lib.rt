@@ -31,7 +31,6 @@ mod choosing;
 mod exchanging;
 mod kept;
 mod members;
-mod moves;
 mod planes;
 mod runs;
 mod state;

@@ -6,7 +6,6 @@ pub mod Entries
 mod Forms
 mod Words
 pub mod Commands
-mod Digits
 mod FromFront
 mod Parts
 mod Loops

@@ -25,11 +25,12 @@ mod undo;
 mod unlock;
 
 use crate::command::Command;
-use crate::numbers::{index, number};
+use crate::numbers::index;
 use crate::tokens::next_token;
 use crate::word::Word;
 use convert::read_convert;
 use count::read_count;
+use decimals::number;
 use euler::read_euler;
 use face_list::read_faces;
 use first::read_first;
@@ -49,7 +50,7 @@ use take::read_take;
 use undo::read_undo;
 use unlock::read_unlock;
 
-// The command, where nothing stands behind its word.
+// The command, if no token comes after its word.
 pub(crate) fn alone(command: Command, text: &[u8]) -> Option<Command>
     ensures { result ≡ alone command (tokens_of text.now) }
 {
@@ -59,7 +60,7 @@ pub(crate) fn alone(command: Command, text: &[u8]) -> Option<Command>
     }
 }
 
-// The number of a block, a node or a key that the first token of a text is, and what stands behind it.
+// The number of a block, a node or a key that the first token of a text is, and the text after it.
 pub(crate) fn next_index(text: &[u8]) -> Option<(u32, &[u8])>
     ensures { MatchOption result
         (first_number index_limit (tokens_of text.now) ≡ None)
@@ -70,7 +71,7 @@ pub(crate) fn next_index(text: &[u8]) -> Option<(u32, &[u8])>
     Some((number, rest))
 }
 
-// The rank that the first token of a text is, and what stands behind it.
+// The rank that the first token of a text is, and the text after it.
 pub(crate) fn next_rank(text: &[u8]) -> Option<(u128, &[u8])>
     ensures { MatchOption result
         (first_number rank_limit (tokens_of text.now) ≡ None)
@@ -81,7 +82,7 @@ pub(crate) fn next_rank(text: &[u8]) -> Option<(u128, &[u8])>
     Some((number, rest))
 }
 
-// The command that the word and the text behind it are, where they are one.
+// The command of a word with the text after it, if these are one.
 pub(crate) fn read_arguments(
     alloc: Global,
     word: Word,

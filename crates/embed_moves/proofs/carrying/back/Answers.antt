@@ -1,7 +1,7 @@
 use Rattle.std.proofs.Common.{◌∙◌, subst}
 use Rattle.skeletons.specs.Moves.{MoveLeads}
 use Rattle.skel_embed.specs.Values.{as_move}
-use Rattle.skel_embed.specs.declared.moves.Move.{Move}
+use Rattle.moves.specs.declared.values.Move.{Move}
 use Rattle.embed_moves.proofs.Returns.{permute-back}
 use Rattle.embed_moves.proofs.carrying.back.Goals as goal
 
