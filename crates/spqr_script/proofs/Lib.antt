@@ -2,6 +2,7 @@
 mod TextExamples
 mod ScriptExamples
 mod Options
+mod Shapes
 pub mod Entries
 mod Forms
 mod Words
