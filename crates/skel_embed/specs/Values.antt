@@ -4,7 +4,7 @@ use Rattle.skeletons.specs.Moves as theory
 use Rattle.moves.specs.declared.values.Move.{Move}
 use Rattle.moves.specs.declared.values.Move.TheVariants.{Flip, Permute}
 
--- the move that a value stands for
+-- the move that a value means
 abbrev pub as_move : Move → theory.Move
 as_move (Flip k) = theory.flip k
 as_move (Permute k keys) = theory.permute k keys
