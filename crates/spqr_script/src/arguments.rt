@@ -10,6 +10,7 @@ mod convert;
 mod euler;
 mod goto;
 mod list;
+mod nodes;
 mod permute;
 mod take;
 
@@ -22,6 +23,7 @@ use decimals::number;
 use euler::read_euler;
 use goto::read_goto;
 use list::read_list;
+use nodes::{read_flip, read_lock, read_unlock};
 use permute::read_permute;
 use std::alloc::{AllocError, Global};
 use take::read_take;
@@ -70,15 +72,6 @@ fn block(text: &[u8]) -> Option<u32>
     }
 }
 
-// The numbers of a block and of a node of its tree that are the whole text.
-fn block_and_node(text: &[u8]) -> Option<(u32, u32)>
-    ensures { (make : ℕ → ℕ → Command) → option_map (λ numbers. make numbers.0 numbers.1) result
-        ≡ index_then (λ b. index_then (λ k. alone (make b k))) (tokens_of text.now) }
-{
-    let (b, rest) = next_index(text)?;
-    Some((b, block(rest)?))
-}
-
 // The command of a word with the text after it, if these are one.
 pub(crate) fn read_arguments(
     alloc: Global,
@@ -91,7 +84,7 @@ pub(crate) fn read_arguments(
         Word::Euler => read_euler(alloc, text),
         Word::Show => Ok(block(text).map(Command::Show)),
         Word::Faces => Ok(block(text).map(Command::Faces)),
-        Word::Flip => Ok(block_and_node(text).map(|(b, k)| Command::Flip(b, k))),
+        Word::Flip => Ok(read_flip(text)),
         Word::Permute => read_permute(alloc, text),
         Word::Mirror => Ok(block(text).map(Command::Mirror)),
         Word::First => Ok(block(text).map(Command::First)),
@@ -105,7 +98,7 @@ pub(crate) fn read_arguments(
         Word::Gml => Ok(alone(Command::Gml, text)),
         Word::Count => Ok(block(text).map(Command::Count)),
         Word::Rank => Ok(block(text).map(Command::Rank)),
-        Word::Lock => Ok(block_and_node(text).map(|(b, k)| Command::Lock(b, k))),
-        Word::Unlock => Ok(block_and_node(text).map(|(b, k)| Command::Unlock(b, k))),
+        Word::Lock => Ok(read_lock(text)),
+        Word::Unlock => Ok(read_unlock(text)),
     }
 }

@@ -25,12 +25,3 @@ returns-in-Count c = made_as command.Count c.block-in-Count.result c.map-in-Coun
 
 pub returns-in-Rank : goal.returns-in-Rank
 returns-in-Rank c = made_as command.Rank c.block-in-Rank.result c.map-in-Rank.result _ (c.block-in-Rank.ensures command.Rank) c.map-in-Rank.ensures.cases ∙ sym (ap (λ w. arguments_of w (tokens_of c.args.text.now)) c.in-Rank.is)
-
-pub returns-in-Flip : goal.returns-in-Flip
-returns-in-Flip c = made_as (λ n. command.Flip n.0 n.1) c.block_and_node.result c.map-in-Flip.result _ (c.block_and_node.ensures command.Flip) c.map-in-Flip.ensures.cases ∙ sym (ap (λ w. arguments_of w (tokens_of c.args.text.now)) c.in-Flip.is)
-
-pub returns-in-Lock : goal.returns-in-Lock
-returns-in-Lock c = made_as (λ n. command.Lock n.0 n.1) c.block_and_node-in-Lock.result c.map-in-Lock.result _ (c.block_and_node-in-Lock.ensures command.Lock) c.map-in-Lock.ensures.cases ∙ sym (ap (λ w. arguments_of w (tokens_of c.args.text.now)) c.in-Lock.is)
-
-pub returns-in-Unlock : goal.returns-in-Unlock
-returns-in-Unlock c = made_as (λ n. command.Unlock n.0 n.1) c.block_and_node-in-Unlock.result c.map-in-Unlock.result _ (c.block_and_node-in-Unlock.ensures command.Unlock) c.map-in-Unlock.ensures.cases ∙ sym (ap (λ w. arguments_of w (tokens_of c.args.text.now)) c.in-Unlock.is)
