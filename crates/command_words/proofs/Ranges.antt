@@ -2,8 +2,7 @@
 use Rattle.std.proofs.Common.{◌≡◌, ℕ, ◌<◌, ◌≤◌, ◌^◌, Bool, true, false, ◌&&◌, cond, nat_le, nat_lt, List, Option, Some, None, option_and_then, bytes_eq, codes, refl, subst, arith}
 use Rattle.std.proofs.lemmas.Bool.{leb-true, ltb-true}
 use Rattle.std.specs.List.{list_all}
-use Rattle.gml_graph.specs.Number.{are_digits}
-use Rattle.spqr_script.specs.Number.{number_below, value_of}
+use Rattle.decimals.specs.Number.{are_digits, number_below, value_of}
 use Rattle.command_words.specs.Form.{Asked, Run, Make, is_plain, at_least, make_of, command_of, three_in, form_of}
 
 -- the number is below the limit

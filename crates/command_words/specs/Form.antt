@@ -1,11 +1,11 @@
 -- What the words that the program is called with ask for.
 use Rattle.std.specs.Prelude.{ℕ, ◌^◌, Bool, true, not, ◌==◌, nat_le, if◌then◌else◌, List, [], ◌∷◌, Option, None, Some, option_and_then, bytes_eq, codes}
 use Rattle.std.specs.List.{list_all}
-use Rattle.spqr_script.specs.Number.{number_below}
+use Rattle.decimals.specs.Number.{number_below}
 use Rattle.command_words.specs.declared.forms.Form.{Form}
 use Rattle.command_words.specs.declared.forms.Form.TheVariants as form
 
--- a report on a graph file and a script, by their names; or a graph of so many edges that is made from a number
+-- a report on a graph file and a script, by their names; or a graph of this many edges that is made from a number
 pub data Asked : Type 0 where
   Run : List ℕ → List ℕ → Asked
   Make : ℕ → ℕ → Asked

@@ -6,7 +6,7 @@ use Rattle.clap.specs.Faults.{fault_of}
 use Rattle.command_words.specs.Form.{is_plain, three_in}
 use Rattle.command_words.specs.Positionals.{three}
 
--- three such words are taken: a parse fails for want of memory alone
+-- three such words are taken: a parse fails only if memory runs out
 abbrev pub ThreeWordsAreTaken : Type 0
 ThreeWordsAreTaken = (a b c : List ℕ) → list_all is_plain (a ∷ b ∷ c ∷ []) ≡ true → takes three (a ∷ b ∷ c ∷ []) ≡ true
 

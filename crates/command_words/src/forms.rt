@@ -12,7 +12,7 @@ use std::alloc::{AllocError, Global};
 pub enum Form<'a> {
     /// `run GRAPH SCRIPT`: the report on the graph of a file and a script, by the names of the two files.
     Run { graph: &'a str, script: &'a str },
-    /// `make N SEED`: the summary of the graph that is made from a number, of so many edges or a few more.
+    /// `make N SEED`: the summary of the graph of `edges` edges, or up to four more, that is made from `seed`.
     Make { edges: u32, seed: u64 },
 }
 
@@ -58,9 +58,9 @@ fn command_of(three: Three<'_>) -> Option<Form<'_>>
     }
 }
 
-/// The form that the words after the program's name are, and `None` exactly where they are no form: three words, none of which
+/// The form of the words after the program's name, and `None` exactly where they have no form: three words, none of which
 /// begins with `-`, `run` with two names or `make` with two numbers in decimal digits, the first from 6 to 20,000 and the
-/// second below 2^64. An `Err` is want of memory.
+/// second below 2^64. Fails only if memory runs out.
 pub fn form_of(alloc: Global, words: &[String]) -> Result<Option<Form<'_>>, AllocError>
     ensures { IfOk result (λ form. option_map asked form ≡ form_of (map string_bytes words.now)) }
 {

@@ -2,7 +2,7 @@
 ghost use Rattle.command_words.specs.Laws.{OtherWordsAreRefused, ThreeWordsAreTaken};
 
 /// The law that `clap`, by its clauses on simple commands, takes any three words that do not begin with `-`, so that on them it
-/// fails for want of memory alone; and that it finds a fault in any other number of such words.
+/// fails only if memory runs out; and that it finds a fault in any other number of such words.
 pub fn three_words_are_taken()
     ensures taken { ThreeWordsAreTaken }
     ensures refused { OtherWordsAreRefused }

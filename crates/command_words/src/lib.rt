@@ -1,9 +1,9 @@
 // The words that the program is called with.
 //
 // A form is three words, none of which begins with `-`: `run GRAPH SCRIPT`, or `make N SEED` with two numbers in decimal digits.
-// Words that begin with `-` are refused first; the others are read by `clap`, as a command with three required positionals, and
-// the numbers are then read as text. Three such words `clap` takes, and refuses only for want of memory; no, one, two, four or
-// more of them it refuses. Both are proved of all words, from its clauses on simple commands.
+// Words that begin with `-` are rejected first; the others are read by `clap`, as a command with three required positionals, and
+// the numbers are then read as text. Three such words `clap` accepts unless memory runs out; none, one, two, four or more of them
+// it rejects. Both are proved of all words, from its clauses on simple commands.
 //
 // The lemmas (module of proofs/ in front):
 //   Plain        word-value, three-walked, three-matches, three-takes: three words, step by step

@@ -31,7 +31,7 @@ fn move_of(
     }
 }
 
-// Puts the move behind the others, where there is one.
+// Appends the move to the others, if there is one.
 fn add(list: &mut Vec<Move>, found: Option<Move>) -> Result<(), AllocError>
     ensures { OnOk result (list.new.items ≡ list.old.items ++ option_to_list found) }
 {
@@ -43,8 +43,8 @@ fn add(list: &mut Vec<Move>, found: Option<Move>) -> Result<(), AllocError>
 
 /// The moves from the present rotation system of `p` to that of `q`, a block of the same graph and tree: for each node at which
 /// the choices differ, in order of the nodes, a flip of a triconnected node, or a permute of a bond to its choice in `q` (Di
-/// Battista and Tamassia 1996). One after the other they lead there, through plane rotation systems alone. Fails for want of
-/// memory alone.
+/// Battista and Tamassia 1996). One after the other they lead there, through plane rotation systems alone. Fails only if
+/// memory runs out.
 pub fn moves(alloc: Global, p: &PlaneBlock, q: &PlaneBlock) -> Result<Vec<Move>, AllocError>
     requires graph { q.now.graph ≡ p.now.graph }
     requires tree { q.now.tree ≡ p.now.tree }
@@ -53,8 +53,8 @@ pub fn moves(alloc: Global, p: &PlaneBlock, q: &PlaneBlock) -> Result<Vec<Move>,
     ensures lead { IfOk result (λ list. Lead p.now.graph p.now.tree (IsPlaneSystem p.now.graph)
         (as_moves list.items) p.now.rotation q.now.rotation) }
 {
-    let _here = p.tree();
-    let _there = q.tree();
+    p.belongs();
+    q.belongs();
     let mut list = Vec::new(alloc);
     for k in 0..p.tree().node_count() {
         add(&mut list, move_of(alloc, p, q, k)?)?;

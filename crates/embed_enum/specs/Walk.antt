@@ -1,4 +1,4 @@
--- The list that a block with locks stands in, and a walk through it.
+-- The list that a block with locks is in, and a walk through it.
 use Rattle.std.specs.Prelude.{◌≡◌, ℕ, zero, suc, ◌+◌, ◌≤◌, ◌^◌, List, length}
 use Rattle.skeletons.specs.Lists.{IsKeptList, IsRank}
 use Rattle.skel_embed.specs.Block.{BlockState, lock_at}
@@ -15,7 +15,7 @@ pub record KeepsRest (old new : BlockState) : Type 0 where
   pub tree : new.tree ≡ old.tree
   pub locks : new.locks ≡ old.locks
 
--- from one block to the other the rotation system alone changed, to the next of each list that it stands in
+-- from one block to the other the rotation system alone changed, to the next of each list that it is in
 pub record IsNextOf (old new : BlockState) : Type 0 where
   pub rest : KeepsRest old new
   pub next : (l : List (List (List ℕ))) (i : ℕ) → IsMemberList old l → IsRank l old.rotation i → IsRank l new.rotation (i + 1)

@@ -15,7 +15,7 @@ use thiserror::Error;
 #[error("2^128 members or more")]
 pub struct CountOver;
 
-// n times the cyclic orders of so many items, where that is below 2^128.
+// n times the number of cyclic orders of this many items, if that is below 2^128.
 pub(crate) fn times_orders(n: u128, items: usize) -> Option<u128>
     requires { 0 < n }
     ensures { SomeIff result (n * cyclic_orders items < 2 ^ 128) (n * cyclic_orders items) }
@@ -63,14 +63,15 @@ pub(crate) fn members(p: &PlaneBlock) -> Option<u128>
 }
 
 /// The length of the list of the plane rotation systems with the present choices at the locked nodes: (n - 1)! for each bond
-/// of n items, and 2 for each triconnected node, that is not locked. `CountOver` exactly where there are 2^128 or more.
+/// of n items, and 2 for each triconnected node, that is not locked. Fails with `CountOver` exactly
+/// where there are 2^128 or more.
 pub fn count(p: &PlaneBlock) -> Result<u128, CountOver>
     ensures counted { (l : List (List (List ℕ))) → IsMemberList p.now l
         → IfOk result (λ n. n ≡ length l) }
     ensures over { (l : List (List (List ℕ))) → IsMemberList p.now l
         → OnErr result (2 ^ 128 ≤ length l) }
 {
-    let _state = p.tree();
+    p.belongs();
     match members(p) {
         Some(n) => Ok(n),
         None => Err(CountOver),

@@ -3,7 +3,7 @@
 ghost use Rattle.embed_enum.specs.Laws.{LastHasNoneBehind, ListFromEachMember, MembersHaveRanks, NextsFollow, PresentHasRank, RankTellsMember, RanksFollowOrder};
 
 /// The law that the list with locked nodes is the same from each of its members; that its members have one rank each, and one
-/// member each rank; that a lower rank comes before; and that the last member is the one behind which there is none.
+/// member each rank; that a lower rank comes before; and that the last member is the one that no member follows.
 pub fn ranks_tell_members()
     ensures told { RankTellsMember }
     ensures members { MembersHaveRanks }
@@ -13,7 +13,7 @@ pub fn ranks_tell_members()
     ensures present { PresentHasRank }
 {}
 
-/// The law that going on n times, each time to the next member, leads n places on.
+/// The law that n steps, each to the next member, lead n places on.
 pub fn walks_follow_the_list()
     ensures { NextsFollow }
 {}

@@ -1,32 +1,32 @@
 // The list of the plane rotation systems of a block, walked, counted and ranked, with some nodes of its tree locked.
 //
-// A plane rotation system of a block is told by the choices of the bonds and the triconnected nodes of its tree, and every
+// A plane rotation system of a block is determined by the choices of the bonds and the triconnected nodes of its tree, and every
 // selection of possible choices is that of one (Di Battista and Tamassia 1996). The list holds those that have the present
 // choices at the locked nodes, in the order by the first node at which the choices differ. So a place in it is a number in a
-// mixed radix, with a digit for each node: of a triconnected node 0 or 1, of a bond the number of its arrangement in the
+// mixed radix, with a digit for each node: of a triconnected node 0 or 1, of a bond the number of its ordering in the
 // factorial number system (Laisant 1888; Lehmer 1960); a locked node has the radix 1. Nothing is listed to find a place.
 //
 // `count` gives the length and `rank` the place of the present rotation system, both only where the length is below 2^128;
 // `goto` goes to a place. `first` goes to the first member, and `next` to the following one, as a number is counted up: the
-// last node that is not at its last choice goes one on (of a bond the next arrangement: Narayana, 14th century; Dijkstra 1976),
-// and those behind it to their first choices. These two need no number, and work on lists of any length. `members_after` keeps
+// last node that is not at its last choice advances by one (of a bond the next ordering: Narayana, 14th century; Dijkstra 1976),
+// and those after it return to their first choices. These two need no number, and work on lists of any length. `members_after` keeps
 // the members that follow. The list is the same from each of its members, so a walk stays in it.
 //
-// No call but `members_after` takes memory, and none changes anything where it refuses. What they cost, in looks at choices:
+// No call but `members_after` takes memory, and a call that fails changes nothing. What they cost, in looks at choices:
 // `count` a look at each node, and no more than 128 products by factors above one. `rank` the square of the number of items of
 // each bond that is not locked, and `goto` its cube; that number is 35 at most there, or else the list is over. `next` the keys
-// of the nodes that it tries, from the last up to the one that goes on; `first` all keys. Besides, the exchanges and flips that
-// they make, each of which walks round the poles of its bond, or the vertices of its node: `first` and `goto` make at most one
-// exchange for each item of a bond, `next` one and those that turn round the keys behind it, and what resets the later nodes.
+// of the nodes that it tries, from the last up to the one that advances; `first` all keys. In addition, the exchanges and flips that
+// they make, each of which walks around the poles of its bond, or the vertices of its node: `first` and `goto` make at most one
+// exchange for each item of a bond, `next` one and those that reverse the keys after it, and what resets the later nodes.
 //
 // The lemmas (module of proofs/ in front):
 //   Digits   number-next, number-last, number-below, behind-divided: numbers with digits at n places
 //   Ranks    rank-number: the rank is the number of the digits; list-length; digit-below
 //   States   state-rank, state-length, number-fits, radix-fits: the same of a block
-//   Counts   orders-more, count-grows: factors one after the other; number-step: an arrangement's number from the first key on
+//   Counts   orders-more, count-grows: factors one after the other; number-step: the number of an ordering from the first key on
 //   Swaps    exchanged-swap: keys that change places, by places; turning-more, turning-ends: a turn by exchanges
-//   Rises    falls-more, next-made: the last rise, and the arrangement that follows
-//   Placed   placed-swap, smaller-held: an arrangement put together from its number
+//   Rises    falls-more, next-made: the last rise, and the ordering that follows
+//   Placed   placed-swap, smaller-held: an ordering put together from its number
 //   Bonds    bond-of, put-in_place, arranged-more: the keys of a bond; keeps-then: one change after another
 //   Single   flip-chosen, exchange-chosen: what one move does to the choices
 //   Nodes    mirror-digit, bond-ends, bond-begins: digits by the kind of the node

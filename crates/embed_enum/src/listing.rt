@@ -1,4 +1,4 @@
-// The members that follow the present one, as rotation systems.
+// The members that follow the current one, as rotation systems.
 
 ghost use Rattle.std.specs.Prelude.{◌≡◌, ℕ, List, ◌+◌, take, drop, IfOk};
 ghost use Rattle.skeletons.specs.Lists.{IsRank};
@@ -9,8 +9,8 @@ use rotations::Rotation;
 use skel_embed::PlaneBlock;
 use std::alloc::{AllocError, Global};
 
-/// The first `n` members of the list that follow the present one, or all where they are fewer. A copy of the block walks; the
-/// block stays. Fails for want of memory alone.
+/// The first `n` members of the list that follow the current one, or all if they are fewer. A copy of the block walks; the
+/// block stays. Fails only if memory runs out.
 pub fn members_after(alloc: Global, p: &PlaneBlock, n: u32) -> Result<Vec<Rotation>, AllocError>
     ensures { (l : List (List (List ℕ))) (i : ℕ) → IsMemberList p.now l → IsRank l p.now.rotation i
         → IfOk result (λ members. members.items ≡ take n (drop (i + 1) l)) }

@@ -24,7 +24,7 @@ pub(crate) fn smaller_ones(x: u32, keys: &[u32]) -> usize
     found
 }
 
-// The number of an arrangement in the factorial number system.
+// The number of an ordering in the factorial number system.
 fn number_of(keys: &[u32]) -> u128
     requires { factorial_number keys.now < 2 ^ 128 }
     ensures { result ≡ factorial_number keys.now }
@@ -67,7 +67,7 @@ fn digit(p: &PlaneBlock, k: u32) -> u128
     if p.locked(k) {
         return 0;
     }
-    let _state = p.tree();
+    p.belongs();
     match p.tree().kind(k) {
         Kind::P => number_of(p.keys(k)),
         Kind::R => u128::from(!is_before_mirror(p.keys(k))),
@@ -88,8 +88,8 @@ fn number(p: &PlaneBlock) -> u128
     number
 }
 
-/// The rank of the present rotation system in the list of the plane rotation systems with the present choices at the locked
-/// nodes, from 0. `CountOver` exactly where the list has 2^128 members or more.
+/// The rank of the current rotation system in the list of the plane rotation systems with the current choices at the locked
+/// nodes, from 0. Fails with `CountOver` exactly where the list has 2^128 members or more.
 pub fn rank(p: &PlaneBlock) -> Result<u128, CountOver>
     ensures ranked { (l : List (List (List ℕ))) → IsMemberList p.now l
         → IfOk result (λ i. IsRank l p.now.rotation i) }
@@ -98,7 +98,7 @@ pub fn rank(p: &PlaneBlock) -> Result<u128, CountOver>
     ensures over { (l : List (List (List ℕ))) → IsMemberList p.now l
         → OnErr result (2 ^ 128 ≤ length l) }
 {
-    let _state = p.tree();
+    p.belongs();
     match members(p) {
         Some(_) => Ok(number(p)),
         None => Err(CountOver),

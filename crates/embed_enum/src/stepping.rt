@@ -20,13 +20,13 @@ fn set_rigid(p: &mut PlaneBlock, k: u32, first: bool)
     ensures others { KeepsOthers p.old p.new k }
     ensures digit { rigid_digit (choice p.old.tree p.new.rotation k) ≡ cond first 0 1 }
 {
-    let _state = p.tree();
+    p.belongs();
     if is_before_mirror(p.keys(k)) != first {
         flip(p, k);
     }
 }
 
-// Goes from the first choice of triconnected node k to the second; or answers false and changes nothing.
+// Goes from the first choice of triconnected node k to the second; returns false and changes nothing if it is at the second.
 fn step_rigid(p: &mut PlaneBlock, k: u32) -> bool
     requires { IsNodeOfKind p.old.tree k R }
     ensures last { result ≡ false → (p.new ≡ p.old) × (rigid_digit
@@ -35,7 +35,7 @@ fn step_rigid(p: &mut PlaneBlock, k: u32) -> bool
         × (rigid_digit (choice p.old.tree p.new.rotation k)
         ≡ rigid_digit (choice p.old.tree p.old.rotation k) + 1) }
 {
-    let _state = p.tree();
+    p.belongs();
     if !is_before_mirror(p.keys(k)) {
         return false;
     }
@@ -48,7 +48,7 @@ pub(crate) fn to_first(p: &mut PlaneBlock, k: u32)
     requires { k < length p.old.tree }
     ensures { IsMoved p.old p.new k 0 }
 {
-    let _state = p.tree();
+    p.belongs();
     match p.tree().kind(k) {
         Kind::P => sort_bond(p, k),
         Kind::R => set_rigid(p, k, true),
@@ -56,14 +56,14 @@ pub(crate) fn to_first(p: &mut PlaneBlock, k: u32)
     }
 }
 
-// Leads node k to its next choice; or answers false and changes nothing, where it is at the last.
+// Leads node k to its next choice; returns false and changes nothing if it is at the last.
 pub(crate) fn step(p: &mut PlaneBlock, k: u32) -> bool
     requires { k < length p.old.tree }
     ensures last { result ≡ false → (p.new ≡ p.old) × (node_digit p.old k + 1
         ≡ choice_count (node_at p.old.tree k).kind (length (node_at p.old.tree k).items)) }
     ensures next { result ≡ true → IsMoved p.old p.new k (node_digit p.old k + 1) }
 {
-    let _state = p.tree();
+    p.belongs();
     match p.tree().kind(k) {
         Kind::P => step_bond(p, k),
         Kind::R => step_rigid(p, k),
@@ -71,7 +71,7 @@ pub(crate) fn step(p: &mut PlaneBlock, k: u32) -> bool
     }
 }
 
-// Leads node k to the choice at this place among so many.
+// Leads node k to the choice at this place among this many.
 pub(crate) fn to_digit(p: &mut PlaneBlock, k: u32, digit: u128, choices: u128)
     requires node { k < length p.old.tree }
     requires choices { choices ≡ choice_count (node_at p.old.tree k).kind
@@ -79,7 +79,7 @@ pub(crate) fn to_digit(p: &mut PlaneBlock, k: u32, digit: u128, choices: u128)
     requires below { digit < choices }
     ensures { IsMoved p.old p.new k digit }
 {
-    let _state = p.tree();
+    p.belongs();
     match p.tree().kind(k) {
         Kind::P => arrange_bond(p, k, digit, choices),
         Kind::R => set_rigid(p, k, digit == 0),

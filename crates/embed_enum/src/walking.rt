@@ -13,7 +13,7 @@ use crate::stepping::{step, to_digit, to_first};
 use skel_embed::PlaneBlock;
 use thiserror::Error;
 
-/// Why there is no member at a rank.
+/// Why no member has a rank.
 #[derive(Debug, Drop, PartialEq, Eq, Error)]
 pub enum GotoFault {
     /// The list has 2^128 members or more.
@@ -52,12 +52,12 @@ pub fn first(p: &mut PlaneBlock)
     ensures list { (l : List (List (List ℕ))) → IsMemberList p.old l → IsMemberList p.new l }
     ensures rest { KeepsRest p.old p.new }
 {
-    let _state = p.tree();
+    p.belongs();
     first_from(p, 0);
-    let _end = p.tree();
+    p.belongs();
 }
 
-// Leads node k to its next choice; or answers false and changes nothing, where it is locked or at the last.
+// Leads node k to its next choice; returns false and changes nothing if it is locked or at the last.
 fn step_open(p: &mut PlaneBlock, k: u32) -> bool
     requires { k < length p.old.tree }
     ensures last { result ≡ false → (p.new ≡ p.old) × (digit_at p.old.tree
@@ -71,8 +71,8 @@ fn step_open(p: &mut PlaneBlock, k: u32) -> bool
     step(p, k)
 }
 
-/// Goes to the member of the list that follows the present one; or answers false and changes nothing, exactly where the present
-/// one is the last. Looks from the last node up, so that a walk through all members touches the first nodes seldom. Takes no
+/// Goes to the member of the list that follows the current one; returns false and changes nothing exactly where the current
+/// one is the last. Looks from the last node up, so that a walk through all members rarely touches the first nodes. Takes no
 /// memory.
 pub fn next(p: &mut PlaneBlock) -> bool
     ensures next { (l : List (List (List ℕ))) (i : ℕ) → IsMemberList p.old l
@@ -83,20 +83,20 @@ pub fn next(p: &mut PlaneBlock) -> bool
     ensures list { (l : List (List (List ℕ))) → IsMemberList p.old l → IsMemberList p.new l }
     ensures rest { KeepsRest p.old p.new }
 {
-    let _state = p.tree();
+    p.belongs();
     let mut k = p.tree().node_count();
     while k > 0 {
         k -= 1;
         if step_open(p, k) {
             first_from(p, k + 1);
-            let _end = p.tree();
+            p.belongs();
             return true;
         }
     }
     false
 }
 
-// Gives node k, unless it is locked, the choice whose place is the last digit of the number, and answers the number without it.
+// Gives node k, unless it is locked, the choice whose place is the last digit of the number, and returns the number without it.
 fn set_digit(p: &mut PlaneBlock, k: u32, number: u128) -> u128
     requires node { k < length p.old.tree }
     requires fits { radix_at p.old.tree (lock_at p.old.locks) k < 2 ^ 128 }
@@ -120,18 +120,18 @@ fn set_digits(p: &mut PlaneBlock, number: u128)
     requires below { number < list_count p.old.tree (lock_at p.old.locks) }
     ensures { IsNumbered p.old p.new number }
 {
-    let _state = p.tree();
+    p.belongs();
     let mut left = number;
     let mut k = p.tree().node_count();
     while k > 0 {
         k -= 1;
-        let _here = p.tree();
+        p.belongs();
         left = set_digit(p, k, left);
     }
 }
 
-/// Goes to the member of the list that has this rank, from 0. Refuses a rank that the list does not have, and any rank exactly
-/// where the list has 2^128 members or more; then nothing changes. Takes no memory.
+/// Goes to the member of the list that has this rank, from 0. Fails with `CountOver` exactly where the list has 2^128 members or
+/// more, else with `RankOut` and the number of members if the rank is not below it; nothing is then changed. Takes no memory.
 pub fn goto(p: &mut PlaneBlock, rank: u128) -> Result<(), GotoFault>
     ensures gone { (l : List (List (List ℕ))) → IsMemberList p.old l
         → OnOk result (IsRank l p.new.rotation rank) }
@@ -143,7 +143,7 @@ pub fn goto(p: &mut PlaneBlock, rank: u128) -> Result<(), GotoFault>
     ensures list { (l : List (List (List ℕ))) → IsMemberList p.old l → IsMemberList p.new l }
     ensures rest { KeepsRest p.old p.new }
 {
-    let _state = p.tree();
+    p.belongs();
     match members(p) {
         None => Err(GotoFault::CountOver),
         Some(count) => {
@@ -151,7 +151,7 @@ pub fn goto(p: &mut PlaneBlock, rank: u128) -> Result<(), GotoFault>
                 return Err(GotoFault::RankOut(count));
             }
             set_digits(p, rank);
-            let _end = p.tree();
+            p.belongs();
             Ok(())
         }
     }

@@ -1,5 +1,6 @@
 -- A bond whose keys are brought into their places, one after the other.
-use Rattle.std.proofs.Common.{◌≡◌, ◌≢◌, ℕ, zero, suc, ◌+◌, ◌<◌, ◌≤◌, true, List, [], ◌∷◌, ◌++◌, length, map, take, drop, slice_index_or, slice_set, refl, sym, ap, ◌∙◌, subst, arith, IsPermutation, ◌⊎◌, inl, inr}
+use Rattle.std.proofs.Common.{◌≡◌, ◌≢◌, ℕ, zero, suc, ◌+◌, ◌<◌, ◌≤◌, true, ◌||◌, ◌==◌, List, [], ◌∷◌, ◌++◌, length, map, take, drop, slice_index_or, slice_set, refl, sym, ap, ◌∙◌, subst, arith, IsPermutation, ◌⊎◌, inl, inr}
+use Rattle.std.specs.List.{list_any}
 use Rattle.std.proofs.lemmas.Bool.{true≢false}
 use Rattle.std.proofs.lemmas.List.{length-map}
 use Rattle.std.proofs.lemmas.List.Sorted.{length_permutation, IsPermutation-trans, IsPermutation-sym}
@@ -30,6 +31,11 @@ use Rattle.skel_embed.proofs.States.{state-moved}
 use Rattle.embed_moves.specs.Made.{IsMade}
 use Rattle.embed_moves.proofs.Told.{permute-told}
 use Rattle.embed_moves.proofs.Placing.{placed-same, placed-exchanged, placed-all, target-turn, target-first}
+
+-- the test of a list's members, as the library has it
+pub any-member : (l : List ℕ) (x : ℕ) → list_any (λ y. y == x) l ≡ is_member x l
+any-member [] x = refl
+any-member (y ∷ l) x = ap (λ t. (y == x) || t) (any-member l x)
 
 -- the choice of a bond is an arrangement of its keys
 pub choice-arranged : (s : BlockState) → IsBlockState s → (k : ℕ) → IsNodeOfKind s.tree k P → IsPermutation (node_keys s.tree k) (choice s.tree s.rotation k)

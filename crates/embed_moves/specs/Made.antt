@@ -22,13 +22,13 @@ abbrev pub IsFlipRefusal : BlockState → ℕ → FlipFault → Type 0
 IsFlipRefusal s k flips.WrongKind = (node_at s.tree k).kind ≢ R
 IsFlipRefusal s k (flips.Locked j) = ((node_at s.tree k).kind ≡ R) × (lock_at s.locks k ≡ true) × (j ≡ k)
 
--- a permute of node k to these keys is refused: it is no bond; else the keys are no arrangement of its own; else it is locked
+-- a permute of node k to these keys is refused: it is not a bond; else the keys are not an ordering of its own; else it is locked
 abbrev pub IsPermuteRefusal : BlockState → ℕ → List ℕ → PermuteFault → Type 0
 IsPermuteRefusal s k keys permutes.WrongKind = (node_at s.tree k).kind ≢ P
 IsPermuteRefusal s k keys permutes.BadOrder = ((node_at s.tree k).kind ≡ P) × (IsPermutation (node_keys s.tree k) keys → ⊥)
 IsPermuteRefusal s k keys (permutes.Locked j) = ((node_at s.tree k).kind ≡ P) × IsPermutation (node_keys s.tree k) keys × (lock_at s.locks k ≡ true) × (j ≡ k)
 
--- whether nodes of this kind have a choice, which the mirror image turns round
+-- whether nodes of this kind have a choice, which the mirror image reverses
 abbrev pub has_choice : Kind → Bool
 has_choice P = true
 has_choice R = true
@@ -54,11 +54,11 @@ pub record IsLeastHeld (s : BlockState) (k : ℕ) : Type 0 where
   pub held : is_held s k ≡ true
   pub none_before : (j : ℕ) → j < k → is_held s j ≡ false
 
--- the move is one of a node of the block, of the right kind, and a permute names an arrangement of the node's keys
+-- the move is one of a node of the block, of the right kind, and a permute names an ordering of the node's keys
 abbrev pub Fits : List Node → Move → Type 0
 Fits nodes (flip k) = IsNodeOfKind nodes k R
 Fits nodes (permute k keys) = IsNodeOfKind nodes k P × IsPermutation (node_keys nodes k) keys
 
--- from wherever the first move leads, the second leads back to where the block stands
+-- from wherever the first move leads, the second leads back to the current rotation system
 abbrev pub LeadsBack : BlockState → Move → Move → Type 0
 LeadsBack s move back = (q : List (List ℕ)) → MoveLeads s.graph s.tree move s.rotation q → MoveLeads s.graph s.tree back q s.rotation

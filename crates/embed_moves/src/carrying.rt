@@ -1,4 +1,4 @@
-// Moves carried out, where it is known that they fit, and the moves that lead back.
+// Moves carried out when it is known that they fit, and the moves that lead back.
 
 ghost use Rattle.std.specs.Prelude.{IfOk};
 ghost use Rattle.skel_embed.specs.Values.{as_move};
@@ -19,13 +19,13 @@ pub fn carry_out(p: &mut PlaneBlock, m: &Move)
     }
 }
 
-/// The move that leads back from where `m` leads from the present rotation system: a flip once more, or a permute to the present
-/// choice.
+/// The move that leads back to the current rotation system from where `m` leads: the same flip, or a permute to the current
+/// choice. Fails only if memory runs out.
 pub fn back(alloc: Global, p: &PlaneBlock, m: &Move) -> Result<Move, AllocError>
     requires { Fits p.now.tree (as_move m.now) }
     ensures { IfOk result (λ b. LeadsBack p.now (as_move m.now) (as_move b)) }
 {
-    let _ = p.tree();
+    p.belongs();
     match m {
         Move::Flip(k) => Ok(Move::Flip(*k)),
         Move::Permute(k, _) => Ok(Move::Permute(*k, Keys::of(alloc, p.keys(*k))?)),

@@ -1,4 +1,4 @@
-// A triconnected node flipped, where it may be.
+// A triconnected node flipped, if allowed.
 
 ghost use Rattle.std.specs.Prelude.{◌≡◌, ◌<◌, false, length, IfOk, IfErr};
 ghost use Rattle.skeletons.specs.Moves.{flip};
@@ -20,11 +20,11 @@ pub enum FlipFault {
     Locked(u32),
 }
 
-/// Flips node `k`: at each of its vertices its groups stand in the reverse cyclic order, each group as it was (Di Battista and
+/// Flips node `k`: at each of its vertices its groups come into the reverse cyclic order, each group as it was (Di Battista and
 /// Tamassia 1996).
 ///
-/// Refuses, and changes nothing, where the node is not triconnected, and else where it is locked. Takes no memory, and time in
-/// proportion to the degrees of the node's vertices, times that of `Tree::group`.
+/// Fails with `WrongKind` if the node is not triconnected, else with `Locked` if it is locked; the block is then unchanged.
+/// Takes no memory, and time in proportion to the degrees of the node's vertices, times that of `Tree::group`.
 pub fn flip(p: &mut PlaneBlock, k: u32) -> Result<(), FlipFault>
     requires { k < length p.old.tree }
     ensures made { IfOk result (λ _. IsMade (flip k) p.old p.new) }

@@ -1,11 +1,11 @@
-// The moves of a block in the plane, made where they may be.
+// The moves of a block in the plane, made if allowed.
 //
 // A triconnected node is flipped, a bond is permuted to given keys, and the whole block is mirrored (Di Battista and Tamassia 1996;
-// Mac Lane 1937). Each leads from a plane rotation system to a plane one. A locked node is not moved, and each refusal says why; it
-// leaves the block as it was. Nothing but `back` takes memory.
+// Mac Lane 1937). Each leads from a plane rotation system to a plane one. A locked node is not moved. A call that
+// fails says why, and leaves the block as it was. Nothing but `back` takes memory.
 //
-// A permute is made of exchanges of two groups. That these lead where the one move leads follows from what choices tell: each
-// exchange keeps all choices but that of the bond, and a plane rotation system is told by its choices.
+// A permute is made of exchanges of two groups. That these lead where the one move leads follows from the choices: each
+// exchange keeps all choices but that of the bond, and a plane rotation system is determined by its choices.
 #![tactic(auto)]
 
 mod carrying;

@@ -1,4 +1,4 @@
-// The mirror image of a block in the plane, where it may be.
+// The mirror image of a block in the plane, if allowed.
 
 ghost use Rattle.std.specs.Prelude.{◌≡◌, ◌<◌, IfOk, IfErr, MatchOption};
 ghost use Rattle.embed_moves.specs.Made.{has_choice, IsMirrored, NoneHeld, IsLeastHeld};
@@ -34,10 +34,10 @@ fn least_held(p: &PlaneBlock) -> Option<u32>
     None
 }
 
-/// Reverses every rotation of the block: it is seen from the other side, and each choice is turned round.
+/// Reverses every rotation of the block: it becomes its mirror image, and each choice is reversed.
 ///
-/// Refuses, and changes nothing, where a node with a choice, a bond or a triconnected one, is locked, and names the least such.
-/// Takes no memory, and time in proportion to the size of the block.
+/// Fails with `Locked` and the least such node if a node with a choice, a bond or a triconnected one, is locked; the block is then
+/// unchanged. Takes no memory, and time in proportion to the size of the block.
 pub fn mirror(p: &mut PlaneBlock) -> Result<(), Locked>
     ensures mirrored { IfOk result (λ _. IsMirrored p.old p.new) }
     ensures unlocked { IfOk result (λ _. NoneHeld p.old) }

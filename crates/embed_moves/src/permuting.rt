@@ -1,4 +1,4 @@
-// A bond permuted to given keys, where it may be.
+// A bond permuted to given keys, if allowed.
 
 ghost use Rattle.std.specs.Prelude.{◌≡◌, ◌<◌, ◌++◌, ◌↔◌, true, false, length, map, take, drop, slice_index_or, IfOk, IfErr, IsTrue, IsPermutation};
 ghost use Rattle.permutations.specs.Members.{is_member, is_distinct};
@@ -6,21 +6,20 @@ ghost use Rattle.pair_split.specs.declared.components.Kind.TheVariants.{P};
 ghost use Rattle.skeletons.specs.Items.{item_key, node_keys};
 ghost use Rattle.skeletons.specs.Moves.{permute, IsNodeOfKind};
 ghost use Rattle.skel_embed.specs.Block.{lock_at};
-ghost use Rattle.skel_embed.specs.Exchanges.{StandsAt};
 ghost use Rattle.embed_moves.specs.Made.{IsMade, IsPermuteRefusal};
 
 use pair_split::{Item, Kind};
-use skel_embed::PlaneBlock;
+use skel_embed::{PlaneBlock, place_of};
 use thiserror::Error;
 
 /// Why a node is not permuted.
 #[derive(Debug, Drop, Error)]
 pub enum PermuteFault {
-    /// It is no bond.
-    #[error("the node is no bond")]
+    /// It is not a bond.
+    #[error("the node is not a bond")]
     WrongKind,
-    /// The keys are no arrangement of its keys.
-    #[error("the keys are no arrangement of the node's keys")]
+    /// The keys are not an ordering of its keys.
+    #[error("the keys are not an ordering of the node's keys")]
     BadOrder,
     /// It is this node, and locked.
     #[error("node {0} is locked")]
@@ -31,15 +30,10 @@ pub enum PermuteFault {
 fn has_key(keys: &[u32], key: u32) -> bool
     ensures { result ≡ is_member key keys.now }
 {
-    for i in 0..keys.len() {
-        if keys[i] == key {
-            return true;
-        }
-    }
-    false
+    keys.contains(&key)
 }
 
-// Whether the keys are an arrangement of those of the items: as many, and all of them.
+// Whether the keys are an ordering of those of the items: equally many, and all of them.
 fn is_arrangement(items: &[Item], keys: &[u32]) -> bool
     requires { is_distinct (map item_key items.now) ≡ true }
     ensures { IsTrue result ↔ IsPermutation (map item_key items.now) keys.now }
@@ -53,19 +47,6 @@ fn is_arrangement(items: &[Item], keys: &[u32]) -> bool
         }
     }
     true
-}
-
-// The place of a key.
-fn place_of(keys: &[u32], key: u32) -> usize
-    requires { is_member key keys.now ≡ true }
-    ensures { StandsAt keys.now result key }
-{
-    for i in 0..keys.len() {
-        if keys[i] == key {
-            return i;
-        }
-    }
-    0
 }
 
 // The key at place i of the cyclic order written from a place on.
@@ -82,14 +63,14 @@ fn key_from(keys: &[u32], place: usize, i: usize) -> u32
     }
 }
 
-// Brings the groups of the bond k into the cyclic order of the keys: in each place after the first the group that stands there is
+// Brings the groups of the bond k into the cyclic order of the keys: in each place after the first the group that is there is
 // exchanged with the one wanted.
 pub(crate) fn permute_to(p: &mut PlaneBlock, k: u32, keys: &[u32])
     requires node { IsNodeOfKind p.old.tree k P }
     requires arrangement { IsPermutation (node_keys p.old.tree k) keys.now }
     ensures { IsMade (permute k keys.now) p.old p.new }
 {
-    let _ = p.tree();
+    p.belongs();
     let place = place_of(keys, p.keys(k)[0]);
     for i in 1..keys.len() {
         let here = p.keys(k)[i];
@@ -103,9 +84,10 @@ pub(crate) fn permute_to(p: &mut PlaneBlock, k: u32, keys: &[u32])
 /// Permutes node `k` to the keys, which may begin anywhere: its groups come into their cyclic order at the lesser pole, and into
 /// the reverse at the other, each group as it was (Di Battista and Tamassia 1996).
 ///
-/// Refuses, and changes nothing, where the node is no bond, else where the keys are no arrangement of its own, and else where it
-/// is locked. Takes no memory: the keys are looked up one by one, and each group is brought to its place by an exchange. So it takes
-/// time in proportion to the number of keys times the degrees of the poles, times that of `Tree::group`.
+/// Fails with `WrongKind` if the node is not a bond, else with `BadOrder` if the keys are not an ordering of its own, else with
+/// `Locked` if it is locked; the block is then unchanged. Takes no memory: the keys are looked up one by one, and each group is
+/// brought to its place by an exchange. So it takes time in proportion to the number of keys times the degrees of the poles, times
+/// that of `Tree::group`.
 pub fn permute(p: &mut PlaneBlock, k: u32, keys: &[u32]) -> Result<(), PermuteFault>
     requires { k < length p.old.tree }
     ensures made { IfOk result (λ _. IsMade (permute k keys.now) p.old p.new) }

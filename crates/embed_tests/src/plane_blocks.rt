@@ -118,7 +118,7 @@ fn block_of(alloc: Global, vertices: u32, ends: &[(u32, u32)]) -> Result<Option<
     let tree = Tree::assemble(alloc, &graph, comps)?;
     match embed_by_skeletons(alloc, graph, tree, &mut ContractEmbedder)? {
         BySkeletons::Plane(block) => Ok(Some(block)),
-        BySkeletons::Not(..) => Ok(None),
+        BySkeletons::Not { .. } => Ok(None),
     }
 }
 

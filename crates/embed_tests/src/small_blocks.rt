@@ -40,6 +40,6 @@ pub(crate) fn block_of(
     let tree = Tree::assemble(alloc, &graph, comps)?;
     match embed_by_skeletons(alloc, graph, tree, &mut ContractEmbedder)? {
         BySkeletons::Plane(block) => Ok(block),
-        BySkeletons::Not(..) => Err(Fail::from("not plane")),
+        BySkeletons::Not { .. } => Err(Fail::from("not plane")),
     }
 }

@@ -1,5 +1,4 @@
 mod Instances
-pub mod Digits
 pub mod Each
 pub mod Steps
 pub mod Places

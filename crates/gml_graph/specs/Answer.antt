@@ -22,18 +22,18 @@ abbrev pub each_below : {A : Type 0} → ℕ → (ℕ → Result A GraphFault) �
 each_below zero f = Ok []
 each_below (suc n) f = and_one_more (each_below n f) (f n)
 
--- the id that a list says, if it says one
+-- the id that a list gives, if it gives one
 abbrev pub said_by : Reading → List ℤ
 said_by Missing = []
 said_by NotWhole = []
 said_by (Whole id) = id ∷ []
 
--- the ids that lists say, in order
+-- the ids that lists give, in order
 abbrev pub said_ids : List Document → List ℤ
 said_ids [] = []
 said_ids (node ∷ nodes) = said_by (first_under (codes "id") node) ++ said_ids nodes
 
--- the id of node k by what its list says, where the earlier nodes have these ids
+-- the id of node k by what its list gives, where the earlier nodes have these ids
 abbrev pub id_among : List ℤ → ℕ → Reading → Result ℤ GraphFault
 id_among ids k Missing = Err (NodeNoId k)
 id_among ids k NotWhole = Err (NodeBadId k)
@@ -53,7 +53,7 @@ ends_between k None target = Err (UnknownEnd k)
 ends_between k (Some v) None = Err (UnknownEnd k)
 ends_between k (Some v) (Some w) = (if v == w then Err (Loop k) else Ok (v, w))
 
--- the ends that edge k has by what its list says of its source and its target
+-- the ends that edge k has by what its list gives for its source and its target
 abbrev pub ends_among : List ℤ → ℕ → Reading → Reading → Result (ℕ × ℕ) GraphFault
 ends_among ids k Missing target = Err (EdgeNoEnd k)
 ends_among ids k NotWhole Missing = Err (EdgeNoEnd k)
@@ -106,11 +106,11 @@ graph_of_document d = graph_among (lists_under (codes "graph") d)
 abbrev pub HasSoundGraph : Document → Type 0
 HasSoundGraph d = (n : NamedGraph) → graph_of_document d ≡ Ok n → IsGraph n.graph × IsWithinLimits n.graph × IsNamed n
 
--- a fault is the refusal that is due, or want of memory, which may come at any
+-- a fault is the refusal that applies, or out of memory, which may happen at any
 abbrev pub Refuses : {A : Type 0} → Result A GraphFault → GraphFault → Type 0
 Refuses due Memory = Unit {0}
 Refuses due fault = due ≡ Err fault
 
--- the answer is what is due: this value, or this refusal; want of memory may come at any
+-- the result is the correct one: this value, or this refusal; out of memory may happen at any
 abbrev pub Answers : {A B : Type 0} → Result A GraphFault → (B → A) → Result B GraphFault → Type 0
 Answers due value result = MatchResult result (λ answer. due ≡ Ok (value answer)) (Refuses due)

@@ -2,4 +2,5 @@
 pub mod Named
 pub mod Number
 pub mod Lists
+pub mod Hashing
 pub mod Answer

@@ -1,23 +1,12 @@
 -- Whole numbers of 64 bits, as a text spells them.
 use Rattle.std.specs.Prelude.{ℕ, ◌+◌, ◌-◌, ◌*◌, ◌^◌, Bool, false, ◌&&◌, ◌==◌, nat_le, if◌then◌else◌, List, [], ◌∷◌, Option, Some, None, option_map, ℤ, pos, neg_ℤ}
-use Rattle.std.specs.Char.{is_ascii_digit}
-use Rattle.std.specs.List.{list_all}
-
--- one or more decimal digits
-abbrev pub are_digits : List ℕ → Bool
-are_digits [] = false
-are_digits (d ∷ ds) = list_all is_ascii_digit (d ∷ ds)
-
--- the number that decimal digits spell behind those of n
-abbrev pub spelled_after : ℕ → List ℕ → ℕ
-spelled_after n [] = n
-spelled_after n (d ∷ ds) = spelled_after (n * 10 + (d - 48)) ds
+pub use Rattle.decimals.specs.Number.{are_digits, spelled_after}
 
 -- the number that one or more decimal digits spell, where it is at most `most`
 abbrev pub digits_up_to : ℕ → List ℕ → Option ℕ
 digits_up_to most ds = (if are_digits ds && nat_le (spelled_after 0 ds) most then Some (spelled_after 0 ds) else None)
 
--- the greatest whole number that is meant here; the least is one further from zero
+-- the greatest whole number of 64 bits; the least is one further from zero
 abbrev pub greatest : ℕ
 greatest = 2 ^ 63 - 1
 

@@ -27,7 +27,7 @@ fn ends_between(k: u32, source: Option<u32>, target: Option<u32>) -> Result<(u32
     }
 }
 
-// The ends of edge `k`, by what its list says of its source and its target.
+// The ends of edge `k`, by what its list gives for its source and its target.
 fn ends_among(ids: &Ids, k: u32, source: Reading, target: Reading) -> Result<(u32, u32), GraphFault>
     ensures { result ≡ ends_among ids.now k source target }
 {
@@ -40,7 +40,7 @@ fn ends_among(ids: &Ids, k: u32, source: Reading, target: Reading) -> Result<(u3
     }
 }
 
-/// The ends of the edges, as vertices, or the first refusal.
+/// The ends of the edges, as vertices. Fails with the first refusal.
 pub(crate) fn edge_ends(
     alloc: Global,
     ids: &Ids,

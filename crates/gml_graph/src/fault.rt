@@ -5,7 +5,7 @@ ghost use Rattle.gml_graph.specs.declared.fault.GraphFault.TheVariants.{Memory};
 
 use std::alloc::{AllocError, AllocFailed};
 
-/// Why `graph_of` gives no graph: the first refusal, in the order in which they stand here but for those of nodes and of edges.
+/// Why `graph_of` gives no graph: the first refusal, in the order of the variants except for those of nodes and of edges.
 /// The refusals of a node are tried together for node 0, then for node 1, and so on; after the last node those of an edge,
 /// together for edge 0, then for edge 1, and so on. Nodes and edges are numbered from 0, each kind by itself.
 #[derive(Clone, Copy, Debug, PartialEq, Eq)]

@@ -1,14 +1,19 @@
 // The hashers by which ids are found.
 
+ghost use Rattle.std.specs.Prelude.{◌≡◌, map};
+ghost use Rattle.std.specs.List.{fold};
+ghost use Rattle.std.specs.Hash.DefaultHasher as sip;
+ghost use Rattle.gml_graph.specs.Hashing.{id_writes};
+
 use crate::integers::Reading;
 use crate::lists::first_under;
 use gml_text::Pairs;
 use std::hash::{BuildHasher, DefaultHasher, Hash};
 
-/// Builds hashers that go on from one state: that of a hasher which has been given the ids of all nodes.
+/// Builds hashers that continue from one state: that of a hasher which has been given the ids of all nodes.
 ///
-/// Where each id is hashed depends on every other one, so that whoever writes a document cannot choose ids that collide: a
-/// start is known only when all ids are, and is another one when any of them changes.
+/// The hash of each id depends on every other id, so that nobody who writes a document can choose ids that collide: the state is
+/// known only when all ids are, and is a different one when any of them changes.
 #[derive(Clone, Copy, Drop)]
 pub(crate) struct BehindAllIds {
     start: DefaultHasher,
@@ -16,7 +21,10 @@ pub(crate) struct BehindAllIds {
 
 impl BehindAllIds {
     /// Those of a graph with these nodes.
-    pub(crate) fn of(nodes: &[&Pairs]) -> BehindAllIds {
+    pub(crate) fn of(nodes: &[&Pairs]) -> BehindAllIds
+        ensures { result.start ≡ fold sip.write sip.initial
+            (id_writes (map (λ node. node.now) nodes.now)) }
+    {
         let mut start = DefaultHasher::new();
         for node in nodes {
             if let Reading::Whole(id) = first_under(node.as_slice(), b"id") {

@@ -10,7 +10,7 @@ use indexmap::IndexSet;
 use std::alloc::{AllocError, Global};
 use std::marker::Model;
 
-/// Ids, each once, in the order in which they were added; at most as many as a graph has vertices. Contracts see the list.
+/// Ids, each once, in the order in which they were added; at most as many as a graph may have vertices. Contracts see the list.
 #[derive(Drop)]
 pub struct Ids {
     held: IndexSet<i64, BehindAllIds>,
@@ -31,7 +31,7 @@ impl Model for Ids {
 }
 
 impl Ids {
-    /// No ids, with room for `n`, which will be found by such hashers.
+    /// No ids, with room for `n`, which will be found by these hashers. Fails only if memory runs out.
     pub(crate) fn with_room(
         alloc: Global,
         n: usize,
@@ -43,7 +43,8 @@ impl Ids {
         Ok(Ids { held })
     }
 
-    /// Adds an id behind the others, unless it is there already; answers whether it was new.
+    /// Adds an id after the others, unless it is there already; returns whether it was new. Fails only if memory runs out; the ids
+    /// are then as before.
     pub fn add(&mut self, id: i64) -> Result<bool, AllocError>
         requires { length self.old < max_vertices }
         ensures new { IfOk result (λ new. new ≡ not (list_any (int_eq id) self.old)) }
@@ -57,7 +58,7 @@ impl Ids {
         }
     }
 
-    /// Where an id stands, or None where it is no one's. Takes no memory.
+    /// The place of an id, counted from 0, or None if it is not there. Takes no memory.
     pub fn position(&self, id: i64) -> Option<u32>
         ensures { result ≡ position (int_eq id) self.now }
     {

@@ -3,12 +3,14 @@
 ghost use Rattle.std.specs.Prelude.{◌≡◌, ◌^◌, ◌≤◌, pos, neg_ℤ};
 ghost use Rattle.gml_graph.specs.Number.{digits_up_to, whole_number};
 
-/// What the first pair under a key says where a whole number of 64 bits is wanted.
+use decimals::number_up_to;
+
+/// What the first pair under a key gives where a whole number of 64 bits is wanted.
 #[derive(Clone, Copy)]
 pub enum Reading {
     /// No pair has the key.
     Missing,
-    /// The value is no whole number of 64 bits.
+    /// The value is not a whole number of 64 bits.
     NotWhole,
     /// The value is this number.
     Whole(i64),
@@ -19,24 +21,9 @@ const GREATEST: u64 = 0x7fff_ffff_ffff_ffff;
 
 // The number that one or more decimal digits spell, where it is at most `most`.
 fn digits_up_to(most: u64, digits: &[u8]) -> Option<u64>
-    requires { most ≤ 2 ^ 63 }
     ensures { result ≡ digits_up_to most digits.now }
 {
-    if digits.is_empty() {
-        return None;
-    }
-    let mut value: u64 = 0;
-    for digit in digits {
-        if !digit.is_ascii_digit() {
-            return None;
-        }
-        // one more digit makes it more than `most`
-        if value > most / 10 {
-            return None;
-        }
-        value = value * 10 + u64::from(*digit - b'0');
-    }
-    if value <= most { Some(value) } else { None }
+    number_up_to(digits, most)
 }
 
 // The negative of a number.

@@ -1,14 +1,14 @@
 // The graph of a GML document.
 //
 // GML (Himsolt's graph modelling language) writes a graph as a list under the key `graph` with a list under `node` for each
-// vertex and one under `edge` for each edge. A node says its `id`, an edge the ids of its `source` and its `target`, all whole
-// numbers of 64 bits; everything else is free and passes on unread. Vertices and edges are numbered from 0 in the order of the
+// vertex and one under `edge` for each edge. A node has its `id`, an edge the ids of its `source` and its `target`, all whole
+// numbers of 64 bits; everything else is free and is ignored. Vertices and edges are numbered from 0 in the order of the
 // file.
 //
 // `graph_of` gives the one graph of a document with the ids of its vertices, or the first refusal in one fixed order of all; it
-// looks at each pair of the graph list twice, at those of a node once and at those of an edge twice, and copies nothing but
-// the numbers. `Named` shows the graph and the ids, and finds the vertex of an id. Definitions are in specs: `Number` (whole
-// numbers), `Lists` (what stands under a key), `Answer` (the graph or the refusal), `Named` (graphs with ids).
+// looks at each pair of the graph list twice, at those of a node twice (once to hash its id) and at those of an edge twice, and
+// copies nothing but the numbers. `Named` shows the graph and the ids, and finds the vertex of an id. Definitions are in specs: `Number` (whole
+// numbers), `Lists` (what is under a key), `Answer` (the graph or the refusal), `Named` (graphs with ids).
 #![tactic(auto)]
 
 mod edges;

@@ -1,4 +1,4 @@
-// What stands under a key in a list of pairs.
+// What is under a key in a list of pairs.
 
 ghost use Rattle.std.specs.Prelude.{◌≡◌, map, IfOk};
 ghost use Rattle.gml_text.specs.Pairs.{document_of};
@@ -8,7 +8,8 @@ use crate::integers::{Reading, whole_number};
 use gml_text::{Pair, Pairs, Value};
 use std::alloc::{AllocError, Global};
 
-/// The lists under a key, in order. What has another key or is no list is passed over.
+/// The lists under a key, in order. Pairs with another key and values that are not lists are skipped. Fails only if memory runs
+/// out.
 pub(crate) fn lists_under<'a>(
     alloc: Global,
     pairs: &'a [Pair],
@@ -28,7 +29,7 @@ pub(crate) fn lists_under<'a>(
     Ok(found)
 }
 
-/// What the first pair under a key says where a whole number is wanted. Takes no memory.
+/// What the first pair under a key gives where a whole number is wanted. Takes no memory.
 pub(crate) fn first_under(pairs: &[Pair], key: &[u8]) -> Reading
     ensures { result ≡ first_under key.now (document_of pairs.now) }
 {

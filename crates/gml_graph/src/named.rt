@@ -49,7 +49,7 @@ impl Named {
         self.ids.as_slice()
     }
 
-    /// The vertex with this id, or None where no vertex has it. Takes no memory.
+    /// The vertex with this id, or None if no vertex has it. Takes no memory.
     pub fn vertex_of(&self, id: i64) -> Option<u32>
         ensures vertex { (v : ℕ) → (result ≡ Some v) ↔ (slice_get self.now.ids v ≡ Some id) }
         ensures none { IsNone result ↔ ((v : ℕ) → slice_get self.now.ids v ≢ Some id) }
@@ -90,8 +90,8 @@ fn graph_in(alloc: Global, pairs: &[Pair]) -> Result<Named, GraphFault>
 /// The graph of a document: that of its one graph list, or the first refusal.
 ///
 /// A graph list is a list under the key `graph` in the document itself; its nodes and edges are the lists under `node` and
-/// `edge` in it. Of several pairs `id`, `source` or `target` in one of these the first counts. All else passes on unread.
-/// `GraphFault` has the refusals and their order; want of memory may come at any point.
+/// `edge` in it. Of several pairs `id`, `source` or `target` in one of these the first counts. All else is ignored.
+/// Fails with the first refusal in the order of `GraphFault`; fails with `Memory`, at any point, if memory runs out.
 pub fn graph_of(alloc: Global, d: &Doc) -> Result<Named, GraphFault>
     ensures { MatchResult result
         (λ named. graph_of_document d.now ≡ Ok named)

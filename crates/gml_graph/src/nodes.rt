@@ -12,7 +12,7 @@ use crate::lists::first_under;
 use gml_text::Pairs;
 use std::alloc::Global;
 
-// Adds the id of node `k` to those of the earlier nodes, by what its list says.
+// Adds the id of node `k` to those of the earlier nodes, by what its list gives.
 fn add_id(ids: &mut Ids, k: u32, reading: Reading) -> Result<(), GraphFault>
     requires { length ids.old < max_vertices }
     ensures { MatchResult result
@@ -30,7 +30,7 @@ fn add_id(ids: &mut Ids, k: u32, reading: Reading) -> Result<(), GraphFault>
     }
 }
 
-/// The ids of the nodes, in order, or the first refusal.
+/// The ids of the nodes, in order. Fails with the first refusal.
 pub(crate) fn node_ids(alloc: Global, nodes: &[&Pairs]) -> Result<Ids, GraphFault>
     requires { length nodes.now ≤ max_vertices }
     ensures { Answers (node_ids (map (λ node. node.now) nodes.now)) (λ ids. ids) result }

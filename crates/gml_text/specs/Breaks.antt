@@ -5,8 +5,8 @@ use Rattle.gml_text.specs.Items.{NoValue, Stuck}
 use Rattle.gml_text.specs.Recognised.{passes}
 use Rattle.gml_text.specs.declared.number.Part.TheVariants.{Nothing}
 
--- a front goes on to something whole, and so many bytes are left behind it; whatever stands behind the next of them, there is
--- none of it
+-- this prefix can be continued to something whole, and this many bytes are left after it; with the next of them, however the
+-- bytes continue, it cannot
 pub record Breaks (Whole No : List ℕ → Type 0) (bytes : List ℕ) (left : ℕ) : Type 0 where
   pub front : List ℕ
   pub tail : List ℕ
@@ -17,15 +17,15 @@ pub record Breaks (Whole No : List ℕ → Type 0) (bytes : List ℕ) (left : �
   pub breaks : (b : ℕ) (rest others : List ℕ) → tail ≡ b ∷ rest → No (front ++ (b ∷ others))
   pub none : No bytes
 
--- a word that is no key
+-- a word that is not a key
 abbrev pub KeyBreaks : List ℕ → ℕ → Type 0
 KeyBreaks word left = Breaks (λ t. is_key t ≡ true) (λ t. is_key t ≡ false) word left
 
--- a word that is no number
+-- a word that is not a number
 abbrev pub NumberBreaks : List ℕ → ℕ → Type 0
 NumberBreaks word left = Breaks (λ t. passes (Some Nothing) t ≡ true) (λ t. passes (Some Nothing) t ≡ false) word left
 
--- a number or a string, and nothing behind it
+-- a number or a string, and nothing after it
 pub record WholeValue (bytes : List ℕ) : Type 0 where
   pub text : List ℕ
   pub stands : NumberStands text bytes [] ⊎ StringStands text bytes []

@@ -41,6 +41,6 @@ ends_word b = is_white b || b == 91 || b == 93 || b == 34 || b == 35
 abbrev pub is_word_byte : ℕ → Bool
 is_word_byte b = not (ends_word b)
 
--- a byte that may stand in a string
+-- a byte that may occur in a string
 abbrev pub is_no_quote : ℕ → Bool
 is_no_quote b = not (b == 34)

@@ -1,4 +1,4 @@
--- What a GML text says: its pairs of a key and a value, in order.
+-- What a GML text contains: its pairs of a key and a value, in order.
 use Rattle.std.specs.Prelude.{ℕ, ◌+◌, ◌≤◌, max, List}
 
 -- a run of pairs: none, or a first pair and the pairs after it. Keys, numbers and strings are bytes: a number's are as
@@ -16,14 +16,14 @@ pair_count (number key text rest) = pair_count rest + 1
 pair_count (string key text rest) = pair_count rest + 1
 pair_count (list key inner rest) = pair_count inner + pair_count rest + 1
 
--- how many lists stand round the innermost pair, the innermost list counted even where it is empty
+-- how many lists enclose the innermost pair; the innermost list counts even if it is empty
 abbrev pub depth : Document → ℕ
 depth empty = 0
 depth (number key text rest) = depth rest
 depth (string key text rest) = depth rest
 depth (list key inner rest) = max (depth inner + 1) (depth rest)
 
--- a list stands inside at most 31 other lists
+-- a list is nested in at most 31 other lists
 abbrev pub IsWithinDepth : Document → Type 0
 IsWithinDepth d = depth d ≤ 32
 

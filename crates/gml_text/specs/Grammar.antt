@@ -1,5 +1,5 @@
--- The grammar of GML: which bytes spell a document. Each relation is between the bytes and the rest of them that stands behind
--- what it speaks of.
+-- The grammar of GML: which bytes spell a document. Each relation is between the bytes and the rest of them that
+-- follows what it describes.
 use Rattle.std.specs.Prelude.{◌≡◌, ℕ, Bool, true, false, cond, ◌&&◌, ◌==◌, List, [], ◌∷◌, ◌++◌}
 use Rattle.std.specs.List.{list_all}
 use Rattle.gml_text.specs.Bytes.{is_white, is_line_end, is_letter, is_key_byte, ends_word, is_no_quote}
@@ -7,7 +7,7 @@ use Rattle.gml_text.specs.Number.{IsNumber}
 use Rattle.gml_text.specs.Document.{Document, empty, number, string, list, IsWithinDepth}
 
 -- a run of whitespace and comments. A comment goes from `#` to the byte before the first line end; only at the end of the
--- input, which `last` says, may there be none
+-- input, where `last` is true, may the line end be missing
 abbrev mutual
   pub is_gap : (last : Bool) → List ℕ → Bool
   is_gap last [] = true
@@ -17,7 +17,7 @@ abbrev mutual
   is_comment last [] = last
   is_comment last (b ∷ bs) = cond (is_line_end b) (is_gap last bs) (is_comment last bs)
 
--- behind a gap stands this text, and then the rest
+-- after a gap comes this text, and then the rest
 pub record Stands (text bytes rest : List ℕ) : Type 0 where
   pub gap : List ℕ
   pub whole : bytes ≡ gap ++ (text ++ rest)
@@ -69,7 +69,7 @@ PairsStand (list key inner more) bytes rest =
     (value within close behind : List ℕ)
     × KeyStands key bytes value × OpenStands value within × PairsStand inner within close × CloseStands close behind × PairsStand more behind rest
 
--- the bytes are the pairs of this document and a gap behind them, with lists nested within the limit
+-- the bytes are the pairs of this document and a gap after them, with lists nested within the limit
 pub record Spells (bytes : List ℕ) (d : Document) : Type 0 where
   pub rest : List ℕ
   pub pairs : PairsStand d bytes rest

@@ -1,4 +1,4 @@
--- What stands next among the pairs of a document, as it is read.
+-- What comes next among the pairs of a document, as it is read.
 use Rattle.std.specs.Prelude.{◌≡◌, ℕ, ◌<◌, ◌⊎◌, true, List, length}
 use Rattle.gml_text.specs.Document.{Document}
 use Rattle.gml_text.specs.Grammar.{is_gap, KeyStands, NumberStands, StringStands, OpenStands, CloseStands, PairsStand}
@@ -29,11 +29,11 @@ ItemStands End bytes = is_gap true bytes ≡ true
 abbrev pub Stops : List ℕ → Type 0
 Stops bytes = (is_gap true bytes ≡ true) ⊎ ((behind : List ℕ) × CloseStands bytes behind)
 
--- no run of pairs stands here
+-- no run of pairs begins here
 abbrev pub Stuck : List ℕ → Type 0
 Stuck bytes = (d : Document) (rest : List ℕ) → PairsStand d bytes rest → Stops rest → ⊥
 
--- fewer bytes stand behind the item
+-- fewer bytes follow the item
 abbrev pub IsShorter : Item → List ℕ → Type 0
 IsShorter (Pair key found rest) bytes = length rest.now < length bytes
 IsShorter (Close rest) bytes = length rest.now < length bytes

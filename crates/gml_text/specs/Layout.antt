@@ -2,7 +2,7 @@
 use Rattle.std.specs.Prelude.{ℕ, ◌+◌, ◌*◌, List, [], ◌∷◌, ◌++◌, replicate}
 use Rattle.gml_text.specs.Document.{Document, empty, number, string, list}
 
--- two spaces for each list round a pair
+-- two spaces for each list around a pair
 abbrev pub indent : ℕ → List ℕ
 indent lists = replicate (2 * lists) 32
 
@@ -22,7 +22,7 @@ open_line lists key = indent lists ++ key ++ (32 ∷ 91 ∷ 10 ∷ [])
 abbrev pub close_line : ℕ → List ℕ
 close_line lists = indent lists ++ (93 ∷ 10 ∷ [])
 
--- the lines of the pairs within so many lists
+-- the lines of the pairs within this many lists
 abbrev pub lines : ℕ → Document → List ℕ
 lines lists empty = []
 lines lists (number key text rest) = number_line lists key text ++ lines lists rest

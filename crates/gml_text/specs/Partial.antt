@@ -19,7 +19,7 @@ pub record Frame : Type 0 where
   pub before : Document
   pub key : List ℕ
 
--- the pairs of the list round an open one, this closed with these pairs in it
+-- the pairs of the list around an open one, when that is closed with these pairs in it
 abbrev pub closed : Frame → Document → Document
 closed frame inner = append frame.before (list frame.key inner empty)
 
@@ -57,7 +57,7 @@ Finishes p bytes d = Completes (frames_of p) (pairs_of p) bytes d
 abbrev pub IsPartial : Partial → Type 0
 IsPartial p = IsWithinDepth (plug (frames_of p) (pairs_of p))
 
--- some bytes are read in a step: whatever may stand behind them, the same documents are completed before it and after it
+-- some bytes are read in a step: whatever follows them, the same documents are completed before it and after it
 pub record Advances (old : Partial) (bytes : List ℕ) (new : Partial) (behind : List ℕ) : Type 0 where
   pub read : List ℕ
   pub split : bytes ≡ read ++ behind
@@ -73,7 +73,7 @@ pub record IsOver (p : Partial) (bytes : List ℕ) : Type 0 where
   pub back : Finishes p bytes (pairs_of p)
   pub within : IsWithinDepth (pairs_of p)
 
--- bytes in the place of those that are left complete a document
+-- bytes instead of those that are left complete a document
 abbrev pub CanFinish : Partial → List ℕ → List ℕ → Type 0
 CanFinish p rest bytes = Follows bytes rest × (d : Document) × Finishes p bytes d × IsWithinDepth d
 
@@ -81,7 +81,7 @@ CanFinish p rest bytes = Follows bytes rest × (d : Document) × Finishes p byte
 abbrev pub NeverFinishes : Partial → List ℕ → Type 0
 NeverFinishes p bytes = (d : Document) → Finishes p bytes d → IsWithinDepth d → ⊥
 
--- no document goes on where so many bytes are left
+-- no document continues where this many bytes are left
 abbrev pub IsRefused : Partial → List ℕ → ℕ → Type 0
 IsRefused p bytes left = Breaks (CanFinish p bytes) (NeverFinishes p) bytes left
 
@@ -120,7 +120,7 @@ Stepped old bytes (Ok None) new = IsOver old bytes × (new ≡ old)
 Stepped old bytes (Err (Fault left)) new = IsRefused old bytes left × (left ≤ length bytes)
 Stepped old bytes (Err Memory) new = Unit {0}
 
--- some of the bytes have been read: whatever may stand behind them, the documents that are spelled, whatever their depth, are
+-- some of the bytes have been read: whatever follows them, the documents that are spelled, whatever their depth, are
 -- those that it completes
 pub record IsRead (bytes : List ℕ) (p : Partial) (rest : List ℕ) : Type 0 where
   pub read : List ℕ

@@ -8,7 +8,7 @@ use Rattle.gml_text.specs.declared.number.Part.TheVariants.{Nothing, Sign, Whole
 abbrev pub on : Bool → Part → Option Part
 on met part = cond met (Some part) None
 
--- the part that the first byte behind a sign begins
+-- the part that the first byte after a sign begins
 abbrev pub begin : ℕ → Option Part
 begin b = cond (is_digit b) (Some Whole) (cond (b == 46) (Some Point) (cond (is_either 73 b) (Some I) (on (is_either 78 b) N)))
 

@@ -9,7 +9,7 @@ use Rattle.gml_text.specs.declared.document.Value.{Value}
 use Rattle.gml_text.specs.declared.document.Value.TheVariants.{Num, Str, List as Inner}
 use Rattle.gml_text.specs.declared.document.Pairs.TheDeep.{deep-Pair, deep-Value}
 
--- a pair's inner list is smaller than what it stands in, and so is all behind it
+-- a pair's inner list is smaller than the document that begins with the pair, and so is what follows the pair
 pub deep_value-le : (key : List ℕ) (value : Value) (rest : Document) (n : ℕ) → n ≤ pair_count rest → max (deep-Value value) n ≤ pair_count (pair_before key value rest)
 deep_value-le key (Num text) rest n h = omega arith
 deep_value-le key (Str text) rest n h = omega arith

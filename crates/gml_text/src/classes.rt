@@ -31,7 +31,7 @@ pub(crate) fn is_digit(byte: u8) -> bool
     matches!(byte, b'0'..=b'9')
 }
 
-// What may stand in a key behind its first byte.
+// A byte that may occur in a key after its first byte.
 pub(crate) fn is_key_byte(byte: u8) -> bool
     ensures { result ≡ is_key_byte byte }
 {

@@ -6,7 +6,7 @@ use crate::document::{Bytes, Pair, Pairs, Value};
 use std::alloc::{AllocError, Global};
 
 impl Bytes {
-    // The same bytes once more.
+    // A copy of the bytes.
     fn copy(&self, alloc: Global) -> Result<Bytes, AllocError>
         ensures { IfOk result (λ copy. copy ≡ self.now) }
     {
@@ -15,11 +15,7 @@ impl Bytes {
 }
 
 impl Pair {
-    /// The same pair once more: its key, and its value with all that is in it.
-    ///
-    /// # Errors
-    ///
-    /// Fails only where memory runs out.
+    /// A copy of the pair: of its key, and of its value with all that is in it. Fails only if memory runs out.
     #[cycle(copies)]
     pub fn copy(&self, alloc: Global) -> Result<Pair, AllocError>
         ensures { IfOk result (λ copy. copy ≡ self.now) }
@@ -34,7 +30,7 @@ impl Pair {
     }
 }
 
-// The same pairs once more.
+// A copy of the pairs.
 #[cycle(copies)]
 fn copy_pairs(alloc: Global, pairs: &Pairs) -> Result<Pairs, AllocError>
     ensures { IfOk result (λ copy. copy ≡ pairs.now) }

@@ -9,7 +9,7 @@ use smallvec::SmallVec;
 use std::alloc::{AllocError, AllocFailed, Global};
 use std::marker::Model;
 
-/// A list of bytes, up to 16 of them without an allocation. Contracts see the list.
+/// A list of bytes, up to 16 of them without an allocation. Contracts see the list of numbers from 0 to 255.
 #[derive(Drop)]
 pub struct Bytes {
     held: SmallVec<u8, 16>,
@@ -24,7 +24,7 @@ impl Model for Bytes {
 }
 
 impl Bytes {
-    /// A copy of some bytes.
+    /// A copy of some bytes. Fails only if memory runs out.
     pub fn from_slice(alloc: Global, bytes: &[u8]) -> Result<Bytes, AllocError>
         ensures { IfOk result (λ copy. copy ≡ bytes.now) }
     {
@@ -44,16 +44,21 @@ impl Bytes {
 #[cycle(document)]
 #[derive(Drop)]
 pub struct Pair {
+    /// A letter, then letters, digits and `_`.
     pub key: Bytes,
+    /// The number, the string or the list under the key.
     pub value: Value,
 }
 
-/// A number as it is written, the bytes between the quotes of a string, or the pairs of a list.
+/// The value of a pair.
 #[cycle(document)]
 #[derive(Drop)]
 pub enum Value {
+    /// A number, as it is written.
     Num(Bytes),
+    /// A string: the bytes between its quotes.
     Str(Bytes),
+    /// A list: its pairs.
     List(Pairs),
 }
 
@@ -151,8 +156,11 @@ impl Doc {
 /// Why bytes are no document: at a byte, at their end, or because memory ran out.
 #[derive(Clone, Copy, Debug, PartialEq, Eq)]
 pub enum GmlFault {
+    /// No document continues with the byte at this place, counted from 0.
     Bad(usize),
+    /// The bytes, of which there are this many, end within a document.
     End(usize),
+    /// Memory ran out.
     Memory,
 }
 

@@ -14,14 +14,14 @@ pub(crate) enum Found<'a> {
     Open,
 }
 
-// An item, with what stands behind it.
+// An item, with the bytes after it.
 pub(crate) enum Item<'a> {
     Pair(&'a [u8], Found<'a>, &'a [u8]),
     Close(&'a [u8]),
     End,
 }
 
-// What stands behind this byte, or None where the bytes don't begin with it.
+// The bytes after this first byte, or None if the bytes don't begin with it.
 fn behind_byte(byte: u8, bytes: &[u8]) -> Option<&[u8]>
     ensures rest { MatchOption result ((rest : List ℕ) → bytes.now ≡ byte ∷ rest
         → ⊥) (λ rest. bytes.now ≡ byte ∷ rest.now) }
@@ -34,7 +34,7 @@ fn behind_byte(byte: u8, bytes: &[u8]) -> Option<&[u8]>
     }
 }
 
-// The beginning of a value behind a gap, and what stands behind it; an Err is how many bytes are left where no value goes on.
+// The beginning of a value after a gap, and the bytes after it; an Err is how many bytes are left where no value continues.
 fn next_value(bytes: &[u8]) -> Result<(Found<'_>, &[u8]), usize>
     ensures found { MatchResult result (λ found. FoundStands found.0 bytes.now found.1.now)
         (λ left. ValueBreaks bytes.now left) }
@@ -60,7 +60,7 @@ fn next_value(bytes: &[u8]) -> Result<(Found<'_>, &[u8]), usize>
     }
 }
 
-// The item that stands next; an Err is how many bytes are left where no document goes on.
+// The next item; an Err is how many bytes are left where no document continues.
 pub(crate) fn next_item(bytes: &[u8]) -> Result<Item<'_>, usize>
     ensures item { MatchResult result (λ item. ItemStands item bytes.now)
         (λ left. PairBreaks bytes.now left) }

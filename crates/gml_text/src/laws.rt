@@ -1,4 +1,4 @@
-// What the grammar and the layout say of one another.
+// Laws on the grammar, the layout and the places of faults.
 
 ghost use Rattle.std.specs.Prelude.{◌≡◌, ◌≢◌, ◌++◌, ℕ, List, length};
 ghost use Rattle.gml_text.specs.Document.{Document};
@@ -18,8 +18,8 @@ pub fn spelling()
     ensures written { (d : Document) → IsWellFormed d → Spells (written d) d }
 {}
 
-/// What begins a front is a front. Bytes have at most one longest front: all of them, where they spell a document. So there is
-/// one fault at most that they can be refused with, want of memory aside.
+/// A front is a prefix with which some document begins. Each prefix of a front is a front. Bytes have at most one longest front,
+/// which is all of them if they spell a document. So at most one fault other than out of memory applies to them.
 pub fn fronts()
     ensures shorter { (front more : List ℕ) → Front (front ++ more) → Front front }
     ensures place { (bytes : List ℕ) (m n : ℕ) → At bytes m → At bytes n → m ≡ n }

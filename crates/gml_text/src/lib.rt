@@ -2,8 +2,8 @@
 //
 // A GML file is a run of pairs of a key and a value, where a value is a number, a string or pairs in brackets (M. Himsolt,
 // GML: a portable graph file format, 1997). `read` takes the bytes of a whole file and gives its document; `write` gives the one
-// layout of a document. Which bytes spell which document is a relation, in specs/Grammar.antt: the reader answers Ok exactly
-// where it holds, with the document that is spelled, and Bad or End exactly where it holds of none, at the end of the longest
+// layout of a document. Which bytes spell which document is a relation, in specs/Grammar.antt: the reader returns Ok exactly
+// where it holds, with the document that is spelled, and Bad or End exactly where it holds of no document, at the end of the longest
 // prefix with which some document begins (specs/Front.antt). Each document that a program can hold has a text: its layout spells
 // it, so what is written is read again. A text spells at most one document.
 #![tactic(auto)]

@@ -7,7 +7,7 @@ ghost use Rattle.gml_text.specs.declared.number.Part.TheVariants.{Nothing};
 
 use crate::classes::{is_digit, is_either, is_mark, is_sign};
 
-// What of a number has been met.
+// What of a number has been read.
 #[derive(Clone, Copy)]
 pub(crate) enum Part {
     Nothing,
@@ -26,7 +26,7 @@ pub(crate) enum Part {
 }
 
 impl Part {
-    // What has been met with one more byte, or None where no number goes on so.
+    // What has been read with one more byte, or None if no number continues with it.
     fn step(self, byte: u8) -> Option<Part>
         ensures { result ≡ step self byte }
     {
@@ -75,7 +75,7 @@ impl Part {
         }
     }
 
-    // What a number's first byte behind its sign begins.
+    // What a number's first byte after its sign begins.
     fn begin(byte: u8) -> Option<Part>
         ensures { result ≡ begin byte }
     {
@@ -101,7 +101,7 @@ impl Part {
     }
 }
 
-// The part that comes under a condition.
+// The part if the condition holds, else None.
 fn on(met: bool, part: Part) -> Option<Part>
     ensures { result ≡ on met part }
 {

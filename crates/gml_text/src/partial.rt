@@ -13,7 +13,7 @@ use std::mem;
 // How many lists may be nested.
 const DEPTH: usize = 32;
 
-// A list that is open, with the pairs before it in the list round it.
+// A list that is open, with the pairs before it in the list around it.
 #[derive(Drop)]
 pub(crate) struct OpenList {
     before: Vec<Pair>,
@@ -27,7 +27,7 @@ pub(crate) struct Partial {
     pairs: Vec<Pair>,
 }
 
-// Why no more is read: no document goes on where so many bytes are left, or memory ran out.
+// Why no more is read: no document continues where this many bytes are left, or memory ran out.
 pub(crate) enum Stop {
     Fault(usize),
     Memory,
@@ -114,7 +114,7 @@ impl Partial {
         }
     }
 
-    // Takes the next item and gives what stands behind it, or None at the end of the document.
+    // Takes the next item and returns the bytes after it, or None at the end of the document.
     pub(crate) fn step<'a>(
         &mut self,
         alloc: Global,

@@ -12,10 +12,8 @@ use std::alloc::Global;
 /// Reads the document that all of the bytes spell, in time linear in their number. The grammar is that of Himsolt's report on
 /// GML (1997), with comments wherever a token may start, strings without escapes, and lists nested at most 32 deep.
 ///
-/// # Errors
-///
-/// `Bad(at)` and `End(at)` where the bytes spell no document: `at` is the length of their longest prefix with which some
-/// document begins, and it is `End` where that is all of them. `Memory` where memory runs out.
+/// Fails with `Bad(at)` or `End(at)` exactly where the bytes spell no document: `at` is the length of their longest prefix with
+/// which some document begins, and the fault is `End` if that is all of them. Fails with `Memory` if memory runs out.
 pub fn read(alloc: Global, bytes: &[u8]) -> Result<Doc, GmlFault>
     ensures spelled { IfOk result (λ d. Spells bytes.now d) }
     ensures fault { IfErr result (λ e. IsFault e bytes.now) }
@@ -36,7 +34,7 @@ pub fn read(alloc: Global, bytes: &[u8]) -> Result<Doc, GmlFault>
     }
 }
 
-// The fault where so many bytes of all are left.
+// The fault where this many of the bytes are left.
 fn fault(len: usize, left: usize) -> GmlFault
     requires { left ≤ len }
     ensures { result ≡ cond (left == 0) (End len) (Bad (len - left)) }

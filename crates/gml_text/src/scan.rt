@@ -1,4 +1,4 @@
-// Gaps, words and strings at the front of some bytes.
+// Gaps, words and strings at the beginning of some bytes.
 
 ghost use Rattle.std.specs.Prelude.{◌≡◌, ◌+◌, ◌-◌, ◌<◌, ◌≤◌, false, true, length, is_none, IfSome, MatchOption};
 ghost use Rattle.std.specs.List.{list_all};
@@ -9,7 +9,7 @@ ghost use Rattle.gml_text.specs.Breaks.{KeyBreaks};
 
 use crate::classes::{ends_word, is_key_byte, is_letter, is_line_end, is_white};
 
-// What is left behind the longest gap.
+// What is left after the longest gap.
 pub(crate) fn after_gap(bytes: &[u8]) -> &[u8]
     ensures rest { result.now ≡ after_gap bytes.now }
     ensures shorter { length result.now ≤ length bytes.now }
@@ -27,7 +27,7 @@ pub(crate) fn after_gap(bytes: &[u8]) -> &[u8]
     &bytes[bytes.len()..]
 }
 
-// The longest front without a byte that ends a word, and the rest.
+// The longest prefix without a byte that ends a word, and the rest.
 pub(crate) fn split_word(bytes: &[u8]) -> (&[u8], &[u8])
     ensures word { IsWord result.0.now bytes.now result.1.now }
     ensures lengths { length result.0.now + length result.1.now ≡ length bytes.now }
@@ -40,7 +40,7 @@ pub(crate) fn split_word(bytes: &[u8]) -> (&[u8], &[u8])
     (bytes, &bytes[bytes.len()..])
 }
 
-// What stands before the first quote, and what behind it.
+// The bytes before the first quote, and those after it.
 pub(crate) fn split_quoted(bytes: &[u8]) -> Option<(&[u8], &[u8])>
     ensures quoted { MatchOption result (list_all is_no_quote bytes.now ≡ true)
         (λ found. IsQuoted found.0.now bytes.now found.1.now) }

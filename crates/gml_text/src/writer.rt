@@ -9,12 +9,9 @@ ghost use Rattle.gml_text.specs.Layout.{indent, number_line, string_line, open_l
 use crate::document::{Bytes, Doc, Pair, Pairs, Value};
 use std::alloc::{AllocError, Global};
 
-/// Writes a document in its one layout: each pair on lines of its own, with two spaces for each list round it, as `key number`,
-/// `key "string"`, or `key [`, the pairs of the list, and `]`. Reading what is written gives the document again.
-///
-/// # Errors
-///
-/// Fails only where memory runs out.
+/// Writes a document in its one layout: each pair on lines of its own, with two spaces for each list around it, as `key number`,
+/// `key "string"`, or `key [`, the pairs of the list, and `]`. Reading what is written gives the document again. Fails only
+/// if memory runs out.
 pub fn write(alloc: Global, d: &Doc) -> Result<Vec<u8>, AllocError>
     ensures layout { IfOk result (λ text. text.items ≡ written d.now) }
     ensures spelled { IfOk result (λ text. Spells text.items d.now) }
@@ -24,7 +21,7 @@ pub fn write(alloc: Global, d: &Doc) -> Result<Vec<u8>, AllocError>
     Ok(out)
 }
 
-// Writes the lines of pairs within so many lists.
+// Writes the lines of pairs within this many lists.
 #[cycle(lines)]
 fn write_pairs(out: &mut Vec<u8>, lists: usize, pairs: &Pairs) -> Result<(), AllocError>
     requires { lists + depth pairs.now ≤ 32 }
@@ -36,7 +33,7 @@ fn write_pairs(out: &mut Vec<u8>, lists: usize, pairs: &Pairs) -> Result<(), All
     Ok(())
 }
 
-// Writes the lines of one pair within so many lists.
+// Writes the lines of one pair within this many lists.
 #[cycle(lines)]
 fn write_pair(out: &mut Vec<u8>, lists: usize, pair: &Pair) -> Result<(), AllocError>
     requires { lists + depth (pair_before pair.now.key pair.now.value empty) ≤ 32 }

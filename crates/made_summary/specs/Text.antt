@@ -1,10 +1,6 @@
 -- The lines of the summary.
 use Rattle.std.specs.Prelude.{ℕ, ◌^◌, nat_lt, if◌then◌else◌, Option, Some, None, List, [], ◌∷◌, ◌++◌, codes, decimal}
-
--- the numbers in decimal, each with a space before it
-abbrev pub spaced_numbers : List ℕ → List ℕ
-spaced_numbers [] = []
-spaced_numbers (n ∷ ns) = codes " " ++ decimal n ++ spaced_numbers ns
+pub use Rattle.decimals.specs.Text.{spaced_numbers}
 
 -- how many vertices and edges
 abbrev pub made_line : ℕ → ℕ → List ℕ

@@ -1,33 +1,10 @@
 // The lines of the summary, each appended to a text.
 ghost use Rattle.std.specs.Prelude.{◌≡◌, ◌++◌, IfOk, OnOk, codes, decimal};
-ghost use Rattle.made_summary.specs.Text.{count_text, made_line, nodes_line, spaced_numbers, choice_line};
+ghost use Rattle.made_summary.specs.Text.{count_text, made_line, nodes_line, choice_line};
 
 use crate::kinds::Kinds;
-use itoa::Buffer;
+use decimals::{push_number, push_spaced, push_word};
 use std::alloc::{AllocError, Global};
-
-fn push_word(out: &mut Vec<u8>, word: &[u8]) -> Result<(), AllocError>
-    ensures { OnOk result (out.new.items ≡ out.old.items ++ word.now) }
-{
-    out.extend_from_slice(word)
-}
-
-fn push_number(out: &mut Vec<u8>, n: u128) -> Result<(), AllocError>
-    ensures { OnOk result (out.new.items ≡ out.old.items ++ decimal n) }
-{
-    let mut buffer = Buffer::new();
-    out.extend_from_slice(buffer.format(n).as_bytes())
-}
-
-fn push_spaced(out: &mut Vec<u8>, numbers: &[u32]) -> Result<(), AllocError>
-    ensures { OnOk result (out.new.items ≡ out.old.items ++ spaced_numbers numbers.now) }
-{
-    for n in numbers {
-        push_word(out, b" ")?;
-        push_number(out, u128::from(*n))?;
-    }
-    Ok(())
-}
 
 // How many vertices and edges.
 fn push_made(out: &mut Vec<u8>, v: u32, e: u32) -> Result<(), AllocError>

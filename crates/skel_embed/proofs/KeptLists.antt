@@ -1,10 +1,12 @@
 -- Choices changed in their place.
-use Rattle.std.proofs.Common.{◌≡◌, ◌≢◌, ℕ, zero, suc, ◌+◌, ◌<◌, ◌≤◌, true, false, List, [], ◌∷◌, ◌++◌, length, map, reverse, take, drop, slice_index_or, slice_set, refl, sym, ap, ◌∙◌, subst, inl, inr, arith}
-use Rattle.std.proofs.lemmas.Bool.{both_ways, cases_eq, true≢false}
-use Rattle.std.proofs.lemmas.List.{reverse-append, reverse-reverse, length-reverse, take_all}
+use Rattle.std.proofs.Common.{◌≡◌, ◌≢◌, ℕ, zero, suc, ◌+◌, ◌<◌, ◌≤◌, Bool, true, false, not, ◌||◌, ◌==◌, cond, nat_lt, List, [], ◌∷◌, ◌++◌, length, map, reverse, take, drop, slice_index_or, slice_set, Option, Some, None, refl, sym, ap, ◌∙◌, subst, inl, inr, arith}
+use Rattle.std.specs.List.{position, position_or_len}
+use Rattle.std.proofs.lemmas.Bool.{cases_Bool, cases_eq, true≢false, eqb-true, lt-ltb, cond-true}
+use Rattle.std.proofs.lemmas.Option.{cond_some, none-some}
+use Rattle.std.proofs.lemmas.List.{length-append}
 use Rattle.permutations.specs.Cyclic.{first_or, from_least, turned}
 use Rattle.permutations.specs.Members.{is_member, is_distinct}
-use Rattle.permutations.proofs.Members.{member-head, member-tail, member-cases, no_member-head, no_member-tail, no_member-cons}
+use Rattle.permutations.proofs.Members.{member-head, member-tail, member-cases}
 use Rattle.permutations.proofs.NormalForm.{least-same, from_least-first_or}
 use Rattle.permutations.proofs.Relation.{same-tests}
 use Rattle.permutations.proofs.Turned.{turned-cut}
@@ -23,23 +25,6 @@ exchange-more a b old now i key h e k =
     go [] i h = absurd (omega (arith, h))
     go (x ∷ l) zero h = refl
     go (x ∷ l) (suc i) h = ap (λ (z : List ℕ). other_of a b x ∷ z) (go l i (omega (arith, h)))
-
--- a key that is found stands at its place
-pub stands-from : (keys : List ℕ) (i key : ℕ) → i < length keys → is_member key (take i keys) ≡ false → slice_index_or keys i 0 ≡ key → StandsAt keys i key
-stands-from [] i key h n e = absurd (omega (arith, h))
-stands-from (x ∷ l) zero key h n e = record { front = []; back = l; is = ap (λ z. z ∷ l) e; before = refl; new = refl }
-stands-from (x ∷ l) (suc i) key h n e =
-    let w : StandsAt l i key = stands-from l i key (omega (arith, h)) (no_member-tail key x (take i l) n) e in
-    record { front = x ∷ w.front; back = w.back; is = ap (λ (z : List ℕ). x ∷ z) w.is; before = ap suc w.before; new = no_member-cons key x w.front (no_member-head key x (take i l) n) w.new }
-
--- a key that isn't the next is not among the keys passed
-pub passed-none : (keys : List ℕ) (i key : ℕ) → i < length keys → is_member key (take i keys) ≡ false → slice_index_or keys i 0 ≢ key → is_member key (take (i + 1) keys) ≡ false
-passed-none keys i key h n e = let s : i + 1 ≡ suc i = omega arith in ap (λ z. is_member key (take z keys)) s ∙ go keys i h n e
-  where
-    go : (l : List ℕ) (i : ℕ) → i < length l → is_member key (take i l) ≡ false → slice_index_or l i 0 ≢ key → is_member key (take (suc i) l) ≡ false
-    go [] i h n e = absurd (omega (arith, h))
-    go (x ∷ l) zero h n e = no_member-cons key x [] e refl
-    go (x ∷ l) (suc i) h n e = no_member-cons key x (take (suc i) l) (no_member-head key x (take i l) n) (go l i (omega (arith, h)) (no_member-tail key x (take i l) n) e)
 
 -- the reverse order, from the least on
 pub turned-round : (old : List ℕ) → is_distinct old ≡ true → from_least old ≡ old → take 1 old ++ reverse (drop 1 old) ≡ from_least (reverse old)
@@ -69,7 +54,7 @@ turn-next old now k h e = ap (λ (z : List (List ℕ)). slice_index_or z k []) e
     go (x ∷ l) zero h = refl
     go (x ∷ l) (suc k) h = go l k (omega (arith, h))
 
--- two fronts and backs reversed, then the whole
+-- a prefix and the rest
 pub take-front : (front back : List ℕ) (n : ℕ) → length front ≡ n → take n (front ++ back) ≡ front
 take-front [] back n e = subst (λ z. take z back ≡ []) e refl
 take-front (x ∷ front) back n e = subst (λ z. take z (x ∷ (front ++ back)) ≡ x ∷ front) e (ap (λ (z : List ℕ). x ∷ z) (take-front front back (length front) refl))
@@ -78,24 +63,38 @@ pub drop-front : (front back : List ℕ) (n : ℕ) → length front ≡ n → dr
 drop-front [] back n e = subst (λ z. drop z back ≡ back) e refl
 drop-front (x ∷ front) back n e = subst (λ z. drop z (x ∷ (front ++ back)) ≡ back) e (drop-front front back (length front) refl)
 
-pub turned-to : (old half both : List ℕ) (place key : ℕ) → StandsAt old place key → half ≡ reverse (take place old) ++ drop place old → both ≡ take place half ++ reverse (drop place half) → reverse both ≡ turned old key
-turned-to old half both place key s h b =
-    ap reverse (b ∙ ap (λ (z : List ℕ). z ++ reverse (drop place half)) front ∙ ap (λ (z : List ℕ). reverse s.front ++ reverse z) back) ∙ reverse-append (reverse s.front) (reverse (key ∷ s.back))
-    ∙ ap (λ (z : List ℕ). z ++ reverse (reverse s.front)) (reverse-reverse (key ∷ s.back)) ∙ ap (λ (z : List ℕ). (key ∷ s.back) ++ z) (reverse-reverse s.front)
+-- a member is at the first place that passes the test
+stands-first : (keys : List ℕ) (key : ℕ) → is_member key keys ≡ true → StandsAt keys (position_or_len (λ k. k == key) keys) key
+stands-first [] key m = absurd (true≢false (sym m))
+stands-first (y ∷ ys) key m = elim (cases_Bool (y == key)) [
+  | inl e ↦ subst (λ (z : ℕ). StandsAt (y ∷ ys) z key) (sym (ap (λ (t : Bool). cond (not t) (1 + position_or_len (λ k. k == key) ys) 0) e))
+      (record { front = []; back = ys; is = ap (λ (z : ℕ). z ∷ ys) (eqb-true y key e); before = refl; new = refl })
+  | inr e ↦
+      let w = stands-first ys key (sym (ap (λ (t : Bool). t || is_member key ys) e) ∙ m) in
+      subst (λ (z : ℕ). StandsAt (y ∷ ys) z key) (sym (ap (λ (t : Bool). cond (not t) (1 + position_or_len (λ k. k == key) ys) 0) e))
+      (record { front = y ∷ w.front; back = w.back; is = ap (λ (z : List ℕ). y ∷ z) w.is; before = omega (arith, w.before); new = ap (λ (t : Bool). t || is_member key w.front) e ∙ w.new })
+]
+
+-- the place of a member is found
+stands-within : (keys : List ℕ) (key place : ℕ) → StandsAt keys place key → place < length keys
+stands-within keys key place s = omega (arith, ap length s.is, length-append s.front (key ∷ s.back), s.before)
+
+pub position-stands : (keys : List ℕ) (key place : ℕ) → is_member key keys ≡ true → position (λ k. k == key) keys ≡ Some place → StandsAt keys place key
+position-stands keys key place m e =
+    subst (λ (z : ℕ). StandsAt keys z key) ((cond_some (nat_lt (position_or_len (λ k. k == key) keys) (length keys)) (position_or_len (λ k. k == key) keys) place e).1) (stands-first keys key m)
+
+pub position-found : (keys : List ℕ) (key : ℕ) → is_member key keys ≡ true → position (λ k. k == key) keys ≡ None → ⊥
+position-found keys key m e =
+    let p : ℕ = position_or_len (λ k. k == key) keys in
+    none-some p (sym e ∙ cond-true (nat_lt p (length keys)) (Some p) None (lt-ltb p (length keys) (stands-within keys key p (stands-first keys key m))))
+
+-- the list from the place of a key on, and then what is before it
+pub turned-at : (old : List ℕ) (place key : ℕ) → StandsAt old place key → drop place old ++ take place old ≡ turned old key
+turned-at old place key s =
+    ap (λ (z : List ℕ). drop place z ++ take place z) s.is
+    ∙ ap (λ (z : List ℕ). z ++ take place (s.front ++ key ∷ s.back)) (drop-front s.front (key ∷ s.back) place s.before)
+    ∙ ap (λ (z : List ℕ). (key ∷ s.back) ++ z) (take-front s.front (key ∷ s.back) place s.before)
     ∙ sym (ap (λ (z : List ℕ). turned z key) s.is ∙ turned-cut s.front key s.back s.new)
-  where
-    is : half ≡ reverse s.front ++ (key ∷ s.back)
-    is = h ∙ ap (λ (z : List ℕ). reverse (take place z) ++ drop place z) s.is ∙ ap (λ (z : List ℕ). reverse z ++ drop place (s.front ++ key ∷ s.back)) (take-front s.front (key ∷ s.back) place s.before)
-        ∙ ap (λ (z : List ℕ). reverse s.front ++ z) (drop-front s.front (key ∷ s.back) place s.before)
-
-    long : length (reverse s.front) ≡ place
-    long = length-reverse s.front ∙ s.before
-
-    front : take place half ≡ reverse s.front
-    front = ap (λ (z : List ℕ). take place z) is ∙ take-front (reverse s.front) (key ∷ s.back) place long
-
-    back : drop place half ≡ key ∷ s.back
-    back = ap (λ (z : List ℕ). drop place z) is ∙ drop-front (reverse s.front) (key ∷ s.back) place long
 
 -- the members of an exchanged list
 pub other-back : (a b x : ℕ) → other_of a b (other_of a b x) ≡ x
@@ -146,6 +145,3 @@ exchanged-first a b (x ∷ l) ma mb = exchanged-members a b (x ∷ l) x ma mb �
 pub member-filled : (l : List ℕ) (x : ℕ) → is_member x l ≡ true → 0 < length l
 member-filled [] x m = absurd (true≢false (sym m))
 member-filled (y ∷ l) x m = omega arith
-
-pub all-passed : (l : List ℕ) (i x : ℕ) → length l ≤ i → is_member x (take i l) ≡ false → is_member x l ≡ true → ⊥
-all-passed l i x h n m = both_ways (is_member x l) (ap (is_member x) (sym (take_all i l h)) ∙ n) m

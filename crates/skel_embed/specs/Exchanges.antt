@@ -1,4 +1,4 @@
--- Choices changed: two keys that change places, or the whole turned round.
+-- Choices changed: two keys exchanged, or the whole reversed.
 use Rattle.std.specs.Prelude.{◌≡◌, ℕ, ◌<◌, true, false, ◌==◌, if◌then◌else◌, List, [], ◌∷◌, ◌++◌, length, map, reverse, slice_index_or}
 use Rattle.permutations.specs.Members.{is_member, is_distinct}
 use Rattle.permutations.specs.Cyclic.{from_least}
@@ -9,11 +9,11 @@ use Rattle.skeletons.specs.Moves.{AreRegrouped}
 abbrev pub other_of : ℕ → ℕ → ℕ → ℕ
 other_of a b x = (if x == a then b else (if x == b then a else x))
 
--- the list with a and b in each other's place
+-- the list with a and b exchanged
 abbrev pub exchanged : ℕ → ℕ → List ℕ → List ℕ
 exchanged a b l = map (other_of a b) l
 
--- the choice turned round: the other way round, from the least key on
+-- the choice reversed: the reverse cyclic order, from the least key on
 abbrev pub turned_choice : List ℕ → List ℕ
 turned_choice c = from_least (reverse c)
 
@@ -21,7 +21,7 @@ turned_choice c = from_least (reverse c)
 abbrev pub AreWritten : List (List ℕ) → Type 0
 AreWritten lists = (k : ℕ) → k < length lists → (is_distinct (slice_index_or lists k []) ≡ true) × (from_least (slice_index_or lists k []) ≡ slice_index_or lists k [])
 
--- however l is cut into groups, in m the groups with the keys a and b have changed places
+-- however l is cut into groups, in m the groups with the keys a and b are exchanged
 abbrev pub AreExchanged : (ℕ → ℕ) → ℕ → ℕ → List ℕ → List ℕ → Type 0
 AreExchanged key a b l m = (groups : List (ℕ × List ℕ)) → InRuns key l groups → AreRegrouped key l (exchanged a b (group_keys groups)) m
 
@@ -32,7 +32,7 @@ pub record HasKeys (key : ℕ → ℕ) (l : List ℕ) (a b : ℕ) : Type 0 where
   pub first : is_member a (group_keys groups) ≡ true
   pub second : is_member b (group_keys groups) ≡ true
 
--- the key stands at this place, and not before it
+-- the key is at this place, and not before it
 pub record StandsAt (keys : List ℕ) (place key : ℕ) : Type 0 where
   pub front : List ℕ
   pub back : List ℕ

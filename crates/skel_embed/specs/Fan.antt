@@ -1,4 +1,4 @@
--- Cyclic orders that go through the edges in order at vertex 0, and the other way round at the other vertices.
+-- Cyclic orders that go through the edges in order at vertex 0, and in reverse order at the other vertices.
 use Rattle.std.specs.Prelude.{◌≡◌, ℕ, zero, suc, ◌<◌, ◌≤◌, List, map, reverse}
 use Rattle.permutations.specs.Cyclic.{first_or, from_least, successor, predecessor}
 use Rattle.multigraph.specs.Graph.{Multigraph, numbers_below, incident_edges}
@@ -21,11 +21,11 @@ pub record IsFan (g : Multigraph) (r : List (List ℕ)) : Type 0 where
   pub forward : 0 < g.vertex_count → order_at r 0 ≡ incident_edges g 0
   pub backward : 1 < g.vertex_count → order_at r 1 ≡ from_least (reverse (incident_edges g 1))
 
--- the second edge round vertex 0, from the least on, isn't above the last
+-- the second edge around vertex 0, from the least on, isn't above the last
 abbrev pub TurnsRight : List (List ℕ) → Type 0
 TurnsRight r = successor (order_at r 0) (first_or 0 (order_at r 0)) ≤ predecessor (order_at r 0) (first_or 0 (order_at r 0))
 
--- where the answer is a rotation system, it does so
+-- if the result is a rotation system, it does so
 abbrev pub TurnsRightWherePlane : Embedded → Type 0
 TurnsRightWherePlane (Plane r) = TurnsRight r
 TurnsRightWherePlane (Not s) = Unit {0}

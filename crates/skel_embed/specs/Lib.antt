@@ -1,4 +1,4 @@
--- Blocks in the plane, and what stands first in the list of their plane rotation systems.
+-- Blocks in the plane, and what is first in the list of their plane rotation systems.
 pub mod First
 pub mod Block
 pub mod Fan

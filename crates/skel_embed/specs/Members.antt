@@ -11,12 +11,12 @@ use Rattle.skel_embed.specs.declared.members.Member.TheVariants as member
 use Rattle.skel_embed.specs.declared.members.Members.{Members}
 use Rattle.skel_embed.specs.declared.members.Members.TheVariants as members
 
--- the answer for node k is right
+-- the result for node k is correct
 abbrev pub IsMember : List Node → ℕ → Member → Type 0
 IsMember nodes k (member.Plane r) = IsFirstMember nodes k r
 IsMember nodes k (member.Not graph s) = ((node_at nodes k).kind ≡ R) × (graph ≡ skeleton_graph nodes k) × IsWritten graph s.kind s.branch s.paths
 
--- the answer for all nodes is right
+-- the result for all nodes is correct
 abbrev pub AreMembers : List Node → Members → Type 0
 AreMembers nodes (members.Plane family) = AreFirstMembers nodes (length nodes) family.items
 AreMembers nodes (members.Not k graph s) = IsNodeOfKind nodes k R × (graph ≡ skeleton_graph nodes k) × IsWritten graph s.kind s.branch s.paths

@@ -1,11 +1,11 @@
--- The steps by which a node is moved: runs of edges found round a vertex, and put elsewhere.
+-- The steps by which a node is moved: runs of edges that are found around a vertex and moved elsewhere.
 use Rattle.std.specs.Prelude.{◌≡◌, ◌≢◌, ℕ, ◌<◌, true, List, ◌∷◌, ◌++◌, length}
 use Rattle.permutations.specs.Members.{is_member}
 use Rattle.permutations.specs.Cyclic.{predecessor, IsTurn}
 use Rattle.permutations.specs.Runs.{InRuns}
 use Rattle.rotations.specs.Runs.{IsRun, IsRunMoved}
 
--- on the way round l the edges from first to last have one key, and the one behind the last has another
+-- along the cyclic order l the edges from first to last have one key, and the one after the last has another
 pub record EndsRun (key : ℕ → ℕ) (l : List ℕ) (first last : ℕ) : Type 0 where
   pub run : List ℕ
   pub next : ℕ
@@ -21,7 +21,7 @@ pub record BeginsRun (key : ℕ → ℕ) (l : List ℕ) (k edge : ℕ) : Type 0 
   pub has : key edge ≡ k
   pub differs : key (predecessor l edge) ≢ k
 
--- the run from first to last was put behind an edge, or stayed where this is its last edge
+-- the run from first to last was moved to the place after an edge, or stayed if this is its last edge
 pub record IsPut (old new : List ℕ) (first last edge : ℕ) : Type 0 where
   pub stays : edge ≡ last → new ≡ old
   pub moves : edge ≢ last → IsRunMoved old new first last edge

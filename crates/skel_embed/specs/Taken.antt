@@ -1,4 +1,4 @@
--- Lists of edges taken in as the rotation system of a block, and why they are not.
+-- Lists of edges that become the rotation system of a block, and why they do not.
 use Rattle.std.specs.Prelude.{◌≡◌, ◌≢◌, ℕ, ◌+◌, ◌<◌, Bool, true, not, ◌==◌, List, [], length, map, slice_index, slice_index_or}
 use Rattle.permutations.specs.Cyclic.{predecessor}
 use Rattle.multigraph.specs.Graph.{edge_count}
@@ -40,21 +40,21 @@ pub record IsLockedOut (s : BlockState) (part : GraphPart) (entries : List (ℕ 
   pub plane : IsPlaneSystem part.graph system
   pub least : IsLeastOther s system k
 
--- the refusal is due, whatever is locked: want of memory may come at any lists
+-- the refusal is correct, whatever is locked: out of memory may happen for any lists
 abbrev pub IsGivenRefusal : GraphPart → List (ℕ × List ℕ) → TakeFault → Type 0
 IsGivenRefusal part entries (BadRotation v) = IsFirstBadInPart part entries v
 IsGivenRefusal part entries (NotGenusZero v e f) = IsNotPlane part entries v e f
 IsGivenRefusal part entries (Locked k) = ⊥
 IsGivenRefusal part entries Memory = Unit {0}
 
--- the refusal is due
+-- the refusal is correct
 abbrev pub IsTakeRefusal : BlockState → GraphPart → List (ℕ × List ℕ) → TakeFault → Type 0
 IsTakeRefusal s part entries (BadRotation v) = IsFirstBadInPart part entries v
 IsTakeRefusal s part entries (NotGenusZero v e f) = IsNotPlane part entries v e f
 IsTakeRefusal s part entries (Locked k) = IsLockedOut s part entries k
 IsTakeRefusal s part entries Memory = Unit {0}
 
--- whether another key stands before e in the cyclic order l
+-- whether another key is before e in the cyclic order l
 abbrev pub begins_run : (ℕ → ℕ) → List ℕ → ℕ → Bool
 begins_run key l e = not (key (predecessor l e) == key e)
 

@@ -1,4 +1,4 @@
-// The first plane rotation system of a block, or why there is none.
+// The first plane rotation system of a block, or why none exists.
 
 ghost use Rattle.std.specs.Prelude.{◌≡◌, ◌<◌, ℕ, true, false, length, map, replicate, IfOk};
 ghost use Rattle.permutations.specs.Members.{is_member};
@@ -27,11 +27,22 @@ use std::alloc::{AllocError, Global};
 pub enum BySkeletons {
     /// The block, at its first plane rotation system.
     Plane(PlaneBlock),
-    /// The graph, the tree, the number of a node, its skeleton, and a subdivision of K5 or K3,3 in the skeleton.
-    Not(Graph, Tree, u32, Graph, Subdivision),
+    /// The block has none: a subdivision of K5 or K3,3 in the skeleton of a node.
+    Not {
+        /// The block.
+        graph: Graph,
+        /// Its tree.
+        tree: Tree,
+        /// The number of the node.
+        node: u32,
+        /// The skeleton of the node.
+        skeleton: Graph,
+        /// The subdivision, in the numbers of the skeleton.
+        subdivision: Subdivision,
+    },
 }
 
-// The keys of the items round vertex 0 of the skeleton.
+// The keys of the items around vertex 0 of the skeleton.
 fn keys_round(alloc: Global, items: &[Item], member: &Rotation) -> Result<Vec<u32>, AllocError>
     requires vertex { 0 < length member.now }
     requires within { (i : ℕ) → is_member i (order_at member.now 0) ≡ true → i < length items.now }
@@ -94,11 +105,11 @@ fn in_plane(
     Ok(PlaneBlock::of(g, t, rotation, choices, locks))
 }
 
-/// Embeds a block by the skeletons of its tree. It then stands at its first plane rotation system, in the order by the first
-/// node at which the choices differ, and no node is locked. Or answers with the skeleton of a triconnected node, and in it a
+/// Embeds a block by the skeletons of its tree. Its rotation system is then the first plane one, in the order by the first
+/// node at which the choices differ, and no node is locked. Or returns the skeleton of a triconnected node, and in it a
 /// subdivision of K5 or K3,3 in its written form.
 ///
-/// The embedder is asked once for each triconnected node. Fails for want of memory alone; graph and tree are then dropped.
+/// The embedder is asked once for each triconnected node. Fails only if memory runs out; graph and tree are then dropped.
 pub fn embed_by_skeletons<E: Embedder>(
     alloc: Global,
     g: Graph,
@@ -112,6 +123,12 @@ pub fn embed_by_skeletons<E: Embedder>(
     let _ = g.vertex_count();
     match members_of(alloc, &t, embedder)? {
         Members::Plane(list) => Ok(BySkeletons::Plane(in_plane(alloc, g, t, &list)?)),
-        Members::Not(k, skeleton, s) => Ok(BySkeletons::Not(g, t, k, skeleton, s)),
+        Members::Not(node, skeleton, subdivision) => Ok(BySkeletons::Not {
+            graph: g,
+            tree: t,
+            node,
+            skeleton,
+            subdivision,
+        }),
     }
 }

@@ -17,7 +17,7 @@ use rotations::Rotation;
 use spqr_tree::Tree;
 use std::alloc::{AllocError, Global};
 
-// The keys of the runs round the least vertex of node k, which has a choice, from any run on.
+// The keys of the runs around the least vertex of node k, which has a choice, from any run on.
 fn keys_of_runs(
     alloc: Global,
     g: &Graph,

@@ -1,4 +1,4 @@
-// Two groups of a bond in each other's place, at each pole. No memory is taken.
+// Two groups of a bond exchanged, at each pole. No memory is taken.
 
 ghost use Rattle.std.specs.Prelude.{◌≡◌, ◌<◌, true, length};
 ghost use Rattle.rotations.specs.Rotation.{order_at, IsRotationSystem};
@@ -17,7 +17,7 @@ use multigraph::Graph;
 use rotations::Rotation;
 use spqr_tree::Tree;
 
-// Exchanges the groups of node k with the keys a and b round v: each run is put behind what stood before the other.
+// Exchanges the groups of node k with the keys a and b around v: each run is moved to the place after what was before the other.
 fn exchange_round(g: &Graph, t: &Tree, r: &mut Rotation, k: u32, v: u32, a: u32, b: u32)
     requires block { IsBlockTree g.now t.now }
     requires node { k < length t.now }

@@ -1,6 +1,7 @@
-// A choice as it is kept: its keys, from the least on. It is changed in its place.
+// A choice as it is kept: its keys, from the least on. It is changed in place.
 
-ghost use Rattle.std.specs.Prelude.{◌≡◌, ◌<◌, ◌≤◌, ◌++◌, true, length, map, reverse, take, drop};
+ghost use Rattle.std.specs.Prelude.{◌≡◌, ◌≤◌, ◌++◌, ◌==◌, true, length, map, reverse, take, drop};
+ghost use Rattle.std.specs.List.{position};
 ghost use Rattle.permutations.specs.Cyclic.{from_least, turned};
 ghost use Rattle.permutations.specs.Members.{is_member, is_distinct};
 ghost use Rattle.skel_embed.specs.Exchanges.{other_of, exchanged, turned_choice, AreWritten, StandsAt};
@@ -36,7 +37,7 @@ impl Kept {
         self.held.as_slice()
     }
 
-    // The same cyclic order the other way round.
+    // Reverses the cyclic order.
     pub(crate) fn turn_round(&mut self)
         requires once { is_distinct self.old ≡ true }
         requires written { from_least self.old ≡ self.old }
@@ -48,7 +49,7 @@ impl Kept {
         reverse_from(&mut self.held, 1);
     }
 
-    // The cyclic order with two keys in each other's place.
+    // Exchanges two keys of the cyclic order.
     pub(crate) fn exchange(&mut self, a: u32, b: u32)
         requires once { is_distinct self.old ≡ true }
         requires written { from_least self.old ≡ self.old }
@@ -62,7 +63,7 @@ impl Kept {
     }
 }
 
-// Turns each choice round.
+// Reverses each choice.
 pub(crate) fn turn_all(choices: &mut Vec<Kept>)
     requires { AreWritten choices.old.items }
     ensures { choices.new.items ≡ map turned_choice choices.old.items }
@@ -70,14 +71,6 @@ pub(crate) fn turn_all(choices: &mut Vec<Kept>)
     for k in 0..choices.len() {
         choices[k].turn_round();
     }
-}
-
-// Reverses the keys before a place.
-fn reverse_to(keys: &mut Vec<u32>, place: usize)
-    requires { place ≤ length keys.old.items }
-    ensures { keys.new.items ≡ reverse (take place keys.old.items) ++ drop place keys.old.items }
-{
-    keys[0..place].reverse();
 }
 
 // Reverses the keys from a place on.
@@ -116,21 +109,23 @@ pub(crate) fn turn_to(keys: &mut Vec<u32>, first: u32)
     requires { is_member first keys.old.items ≡ true }
     ensures { keys.new.items ≡ turned keys.old.items first }
 {
-    let place = place_of(keys, first);
-    reverse_to(keys, place);
-    reverse_from(keys, place);
-    keys.reverse();
+    keys.rotate_left(place_of(keys, first));
 }
 
-// The place of a key.
-fn place_of(keys: &[u32], key: u32) -> usize
+/// The place of a key, counted from 0. Takes no memory.
+pub fn place_of(keys: &[u32], key: u32) -> usize
     requires { is_member key keys.now ≡ true }
     ensures { StandsAt keys.now result key }
 {
-    for i in 0..keys.len() {
-        if keys[i] == key {
-            return i;
-        }
+    match position(keys, key) {
+        Some(place) => place,
+        None => unreachable!(),
     }
-    0
+}
+
+// The first place of a key, if it is there.
+fn position(keys: &[u32], key: u32) -> Option<usize>
+    ensures { result ≡ position (λ k. k == key) keys.now }
+{
+    keys.iter().position(|k| *k == key)
 }

@@ -1,27 +1,27 @@
 // Blocks in the plane: an embedding of a block from those of its skeletons, and its choices.
 //
-// The plane rotation systems of a block are told by the choices of the bonds and the triconnected nodes of its tree, and each
-// selection of possible choices is that of one (Di Battista and Tamassia 1996). So the first of them, in the order by the first
+// A plane rotation system of a block is determined by the choices of the bonds and the triconnected nodes of its tree, and each
+// selection of possible choices is that of one plane rotation system (Di Battista and Tamassia 1996). So the first of them, in the order by the first
 // node at which the choices differ, has the least choice at each node: a bond has its items in order at its lesser pole, and a
 // triconnected skeleton has that one of its two plane rotation systems, mirror images of each other (Whitney 1932), whose
-// second item at its least vertex comes before the last. `embed_by_skeletons` composes these, or answers with a skeleton and
+// second item at its least vertex comes before the last. `embed_by_skeletons` composes these, or returns a skeleton and
 // a subdivision of K5 or K3,3 in it. `plane_block` carries that one into the block.
 //
-// A `PlaneBlock` is a block with its tree, a plane rotation system, the present choice of each node, and locks on nodes; what
-// belongs together is kept together by its invariant. An `Err` is want of memory alone, but for lists that are taken in.
+// A `PlaneBlock` is a block with its tree, a plane rotation system, the present choice of each node, and locks on nodes; that
+// these belong together is its invariant. Calls fail only if memory runs out, except that `take` may reject lists.
 //
-// A triconnected node is turned over, and two groups of a bond change places, over the runs in which the groups stand round the
-// vertices of the node: a run is found by walking along it, and put elsewhere without looking at it. So no memory is taken, and
-// what stands inside a group is never touched. `take` takes lists in where V - E + F is 2 (Euler 1758, Heffter 1891).
+// A triconnected node is flipped, and two groups of a bond are exchanged, by moving the runs in which the groups lie around the
+// vertices of the node: a run is found by walking along it, and moved without looking at it. So no memory is taken, and
+// the inside of a group is never touched. `take` accepts lists where V - E + F is 2 (Euler 1758, Heffter 1891).
 //
 // The lemmas (module of proofs/ in front):
 //   Lexicographic  rising-least, mirrored-later: which list comes first
 //   First          fan-first, rigid-first: the least possible choice by kind; first-followed: what follows them is first
-//   RunSteps       ends-last, begins-first, put-groups: where runs end and begin, and what comes of one that is put elsewhere
+//   RunSteps       ends-last, begins-first, put-groups: where runs end and begin, and what becomes of one that is moved
 //   TurnSteps      turning-on, turned-more: groups brought into the reverse order, at one vertex and at all of a node
-//   ExchangeSteps  cut-groups, put-both: two groups in each other's place
+//   ExchangeSteps  cut-groups, put-both: two groups exchanged
 //   BondMoves      least-groups, exchange-leads: the groups at both poles in the order of the choice
-//   KeptLists      turned-round, exchanged-least: choices changed in their place
+//   KeptLists      turned-round, exchanged-least: choices changed in place
 //   RunKeys        choice-from: a choice read off a cyclic order
 //   States         state-moved, state-mirrored: the invariant after a move
 #![tactic(auto)]
@@ -31,7 +31,6 @@ mod choosing;
 mod exchanging;
 mod kept;
 mod members;
-mod moves;
 mod planes;
 mod runs;
 mod state;
@@ -40,6 +39,7 @@ mod taking;
 mod turning;
 
 pub use blocks_in_plane::{BySkeletons, embed_by_skeletons};
+pub use kept::place_of;
 pub use moves::{Keys, Move, MoveList};
 pub use planes::{Outcome, plane_block};
 pub use state::PlaneBlock;

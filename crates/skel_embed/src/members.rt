@@ -1,4 +1,4 @@
-// The rotation systems of the skeletons of which the first plane rotation system of the block is composed.
+// The rotation systems of the skeletons from which the first plane rotation system of the block is composed.
 
 ghost use Rattle.std.specs.Prelude.{◌<◌, length, IfOk};
 ghost use Rattle.multigraph.specs.Graph.{Multigraph, IsWithinLimits};

@@ -22,12 +22,12 @@ pub enum Outcome {
     Not(Graph, Tree, Subdivision),
 }
 
-/// Embeds a block, or finds what keeps it from the plane. The block then stands at a plane rotation system that no plane rotation
+/// Embeds a block, or finds what makes it nonplanar. The rotation system of the block is then a plane one that no plane rotation
 /// system of the block precedes, in the order by the first node at which the choices differ (Di Battista and Tamassia 1996), and no
-/// node is locked. Or graph and tree come back with a subdivision of K5 or K3,3 in its written form (Kuratowski 1930), whose edges
-/// are edges of the block: that of a skeleton, with a path of the block in the place of each item.
+/// node is locked. Or graph and tree are returned with a subdivision of K5 or K3,3 in its written form (Kuratowski 1930), whose edges
+/// are edges of the block: that of a skeleton, with a path of the block instead of each item.
 ///
-/// The embedder is asked once for each triconnected node. Fails for want of memory alone; graph and tree are then dropped.
+/// The embedder is asked once for each triconnected node. Fails only if memory runs out; graph and tree are then dropped.
 pub fn plane_block<E: Embedder>(
     alloc: Global,
     g: Graph,
@@ -39,8 +39,14 @@ pub fn plane_block<E: Embedder>(
 {
     match embed_by_skeletons(alloc, g, t, embedder)? {
         BySkeletons::Plane(block) => Ok(Outcome::Plane(block)),
-        BySkeletons::Not(graph, tree, k, skeleton, s) => {
-            let found = obstruct_block(alloc, &graph, &tree, k, &skeleton, &s)?;
+        BySkeletons::Not {
+            graph,
+            tree,
+            node,
+            skeleton,
+            subdivision,
+        } => {
+            let found = obstruct_block(alloc, &graph, &tree, node, &skeleton, &subdivision)?;
             Ok(Outcome::Not(graph, tree, found))
         }
     }

@@ -1,4 +1,4 @@
-// Runs of edges with one group round a vertex of a node, found and put elsewhere. No memory is taken.
+// Runs of edges of one group around a vertex of a node, found and moved elsewhere. No memory is taken.
 
 ghost use Rattle.std.specs.Prelude.{◌≢◌, ◌<◌, ℕ, length};
 ghost use Rattle.rotations.specs.Rotation.{order_at, IsRotationSystem};
@@ -11,7 +11,7 @@ use multigraph::Graph;
 use rotations::Rotation;
 use spqr_tree::Tree;
 
-// The last edge of the run round v, by the groups of node k, in which e stands.
+// The last edge of the run around v, by the groups of node k, that e is in.
 pub(crate) fn run_last(g: &Graph, t: &Tree, r: &Rotation, k: u32, v: u32, e: u32) -> u32
     requires block { IsBlockTree g.now t.now }
     requires node { k < length t.now }
@@ -32,7 +32,7 @@ pub(crate) fn run_last(g: &Graph, t: &Tree, r: &Rotation, k: u32, v: u32, e: u32
     at
 }
 
-// The first edge of the run round v whose edges have this key.
+// The first edge of the run around v whose edges have this key.
 pub(crate) fn run_first(g: &Graph, t: &Tree, r: &Rotation, k: u32, v: u32, key: u32) -> u32
     requires block { IsBlockTree g.now t.now }
     requires node { k < length t.now }
@@ -49,7 +49,7 @@ pub(crate) fn run_first(g: &Graph, t: &Tree, r: &Rotation, k: u32, v: u32, key: 
     0
 }
 
-// Puts the run from `first` to `last` behind `after`, unless this is its own last edge.
+// Moves the run from `first` to `last` to the place after `after`, unless this is its own last edge.
 pub(crate) fn put_run(r: &mut Rotation, v: u32, first: u32, last: u32, after: u32)
     requires { after ≢ last → IsOutside (order_at r.old v) first last after }
     ensures put { IsPut (order_at r.old v) (order_at r.new v) first last after }

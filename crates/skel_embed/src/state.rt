@@ -114,7 +114,7 @@ impl PlaneBlock {
     }
 
     /// The present choice of node `k`: of a bond or a triconnected node the keys of its items in the order in which their groups
-    /// stand round its least vertex, from the least on; of other nodes the empty list.
+    /// lie around its least vertex, from the least on; of other nodes the empty list. Fails only if memory runs out.
     pub fn choice(&self, alloc: Global, k: u32) -> Result<Vec<u32>, AllocError>
         requires { k < length self.now.tree }
         ensures { IfOk result (λ keys. keys.items ≡ choice self.now.tree self.now.rotation k) }
@@ -130,6 +130,11 @@ impl PlaneBlock {
         self.choices[k as usize].as_slice()
     }
 
+    /// The parts belong together. For proofs alone: does nothing.
+    pub fn belongs(&self)
+        ensures { IsBlockState self.now }
+    {}
+
     /// Whether node `k` is locked.
     pub fn locked(&self, k: u32) -> bool
         requires { k < length self.now.tree }
@@ -138,7 +143,7 @@ impl PlaneBlock {
         self.locks[k as usize]
     }
 
-    /// Locks node `k`, or takes its lock away. All else stays.
+    /// Locks node `k`, or removes its lock. All else stays.
     pub fn set_lock(&mut self, k: u32, on: bool)
         requires { k < length self.old.tree }
         ensures { self.new ≡ record self.old { locks = slice_set self.old.locks k on } }
@@ -146,8 +151,8 @@ impl PlaneBlock {
         self.locks[k as usize] = on;
     }
 
-    /// Turns the triconnected node `k` over: at each of its vertices its groups stand in the reverse cyclic order, each group as
-    /// it was, and so the choice is turned round (Di Battista and Tamassia 1996). All else stays. Takes no memory, and time in
+    /// Flips the triconnected node `k`: at each of its vertices its groups come into the reverse cyclic order, each group as it
+    /// was, and so the choice is reversed (Di Battista and Tamassia 1996). All else stays. Takes no memory, and time in
     /// proportion to the degrees of the node's vertices, times that of `Tree::group`.
     pub fn turn(&mut self, k: u32)
         requires node { IsNodeOfKind self.old.tree k R }
@@ -163,8 +168,8 @@ impl PlaneBlock {
         self.choices[k as usize].turn_round();
     }
 
-    /// Puts the groups of the bond `k` with the keys `a` and `b` in each other's place at both poles, each group as it was (Di
-    /// Battista and Tamassia 1996). So these two keys change places in the choice. All else stays. Takes no memory, and time in
+    /// Exchanges the groups of the bond `k` with the keys `a` and `b` at both poles, each group as it was (Di Battista and
+    /// Tamassia 1996). So these two keys are exchanged in the choice. All else stays. Takes no memory, and time in
     /// proportion to the degrees of the poles, times that of `Tree::group`.
     pub fn exchange_groups(&mut self, k: u32, a: u32, b: u32)
         requires node { IsNodeOfKind self.old.tree k P }
@@ -184,7 +189,7 @@ impl PlaneBlock {
         self.choices[k as usize].exchange(a, b);
     }
 
-    /// Reverses every rotation: the block is seen from the other side, and each choice is turned round. All else stays. Takes no
+    /// Reverses every rotation: the mirror image of the block, in which each choice is reversed. All else stays. Takes no
     /// memory, and time in proportion to the size of the block.
     pub fn mirror(&mut self)
         ensures mirrored { self.new.rotation ≡ mirror_image self.old.rotation }
@@ -198,12 +203,13 @@ impl PlaneBlock {
         turn_all(&mut self.choices);
     }
 
-    /// Takes lists in: the block then stands at the rotation system that they are. `part` is the part of a graph that the block
-    /// is, and the lists are in the numbers of the whole graph. Graph, tree and locks stay.
+    /// Makes lists the rotation system of the block. `part` is the part of a graph that the block is, and the lists are in the
+    /// numbers of the whole graph. Graph, tree and locks stay.
     ///
-    /// Refuses, and changes nothing, where the lists are no rotation system of the block, as `Rotation::from_part` does; else where
-    /// they are not plane, that is where V - E + F is not 2 (Euler 1758, Heffter 1891); else where they have another choice at a
-    /// locked node, and names the least such. Takes linear time, and for each node with a choice the degree of its least vertex
+    /// Fails with `BadRotation` if the lists are not a rotation system of the block, as `Rotation::from_part` does; else with
+    /// `NotGenusZero` if they are not plane, that is if V - E + F is not 2 (Euler 1758, Heffter 1891); else with `Locked` and the
+    /// least such node if they have another choice at a locked node; fails with `Memory` if memory runs out. The block is then
+    /// unchanged. Takes linear time, and for each node with a choice the degree of its least vertex
     /// times the time of `Tree::group`.
     pub fn take(&mut self, alloc: Global, part: &Part, lists: &Lists) -> Result<(), TakeFault>
         requires { part.now.graph ≡ self.old.graph }
@@ -217,10 +223,7 @@ impl PlaneBlock {
         ensures refused { IfErr result (λ fault. IsTakeRefusal self.old part.now lists.now fault
             × (self.new ≡ self.old)) }
     {
-        let rotation = match given(alloc, &self.graph, part, lists) {
-            Ok(r) => r,
-            Err(fault) => return Err(fault),
-        };
+        let rotation = given(alloc, &self.graph, part, lists)?;
         let Ok(choices) = choices_of(alloc, &self.graph, &self.tree, &rotation, &self.choices)
         else {
             return Err(TakeFault::Memory);
@@ -235,7 +238,7 @@ impl PlaneBlock {
         }
     }
 
-    /// The same block once more.
+    /// A copy of the block. Fails only if memory runs out.
     pub fn copy(&self, alloc: Global) -> Result<PlaneBlock, AllocError>
         ensures { IfOk result (λ p. p ≡ self.now) }
     {
@@ -249,7 +252,7 @@ impl PlaneBlock {
     }
 }
 
-// The same lists once more.
+// A copy of the lists.
 fn copies(alloc: Global, lists: &[Kept]) -> Result<Vec<Kept>, AllocError>
     ensures { IfOk result (λ copies. copies.items ≡ lists.now) }
 {

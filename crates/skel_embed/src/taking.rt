@@ -1,4 +1,4 @@
-// Lists of edges taken in as the rotation system of a block.
+// Lists of edges that become the rotation system of a block.
 
 ghost use Rattle.std.specs.Prelude.{◌≡◌, IfOk, IfErr};
 ghost use Rattle.graph_theory.specs.Block.{IsOneBlock};
@@ -11,13 +11,13 @@ use rotations::{Lists, RotFault, Rotation};
 use std::alloc::Global;
 use thiserror::Error;
 
-/// Why lists are not taken in as the rotation system of a block.
+/// Why lists cannot become the rotation system of a block.
 #[derive(Debug, Drop, Error)]
 pub enum TakeFault {
-    /// The list of this vertex is no arrangement of its edges in the block, or this number is named and no vertex of it.
-    #[error("the list of vertex {0} is no arrangement of its edges")]
+    /// The list of this vertex is not an ordering of its edges in the block, or this number is named and is not a vertex of it.
+    #[error("the list of vertex {0} is not an ordering of its edges")]
     BadRotation(u32),
-    /// They are a rotation system, with so many vertices, edges and faces: it is not plane.
+    /// They are a rotation system with these numbers of vertices, edges and faces, which is not plane.
     #[error("{0} vertices, {1} edges and {2} faces are not in the plane")]
     NotGenusZero(u32, u32, u32),
     /// They have another choice at this node, which is locked.

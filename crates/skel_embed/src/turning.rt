@@ -1,4 +1,4 @@
-// A triconnected node turned over: at each of its vertices its groups in the reverse cyclic order. No memory is taken.
+// A triconnected node flipped: at each of its vertices its groups in the reverse cyclic order. No memory is taken.
 
 ghost use Rattle.std.specs.Prelude.{◌≡◌, ◌<◌, ℕ, true, length};
 ghost use Rattle.rotations.specs.Rotation.{order_at, IsRotationSystem};
@@ -13,7 +13,7 @@ use multigraph::Graph;
 use rotations::Rotation;
 use spqr_tree::Tree;
 
-// Reverses the cyclic order of the groups of node k round v: each run behind the second is put behind the first.
+// Reverses the cyclic order of the groups of node k around v: each run after the second is moved to the place after the first.
 fn turn_round(g: &Graph, t: &Tree, r: &mut Rotation, k: u32, v: u32)
     requires block { IsBlockTree g.now t.now }
     requires node { k < length t.now }
@@ -37,7 +37,7 @@ fn turn_round(g: &Graph, t: &Tree, r: &mut Rotation, k: u32, v: u32)
     }
 }
 
-// Reverses the cyclic order of the groups of node k round each of its vertices.
+// Reverses the cyclic order of the groups of node k around each of its vertices.
 pub(crate) fn turn_node(g: &Graph, t: &Tree, r: &mut Rotation, k: u32)
     requires block { IsBlockTree g.now t.now }
     requires node { k < length t.now }

@@ -1,4 +1,4 @@
--- What a call of a device says of its counts and of its bytes.
+-- What a call of a device does to its counts and to its bytes.
 use Rattle.std.specs.Io.KnownBytes.{IsAtEnd}
 use Rattle.std.specs.Prelude.{◌≡◌, ℕ, ◌+◌, ◌-◌, ◌^◌, ◌≤◌, min, List, [], Option, Some, Result, Ok, Err, OnOk, OnErr, IfSome, unwrap_or}
 
@@ -10,17 +10,17 @@ count_end = 2 ^ 64 - 1
 abbrev pub counted : ℕ → ℕ
 counted n = min (n + 1) count_end
 
--- the count rose, or stands at its end
+-- the count increased, or is at its end
 abbrev pub Rose : ℕ → ℕ → Type 0
 Rose before now = counted before ≤ now
 
--- the count of faults does not fall, stays where the call succeeded, and rose where it failed
+-- the count of faults does not decrease, stays if the call succeeded, and increased if it failed
 pub record HasCause {T E : Type 0} (before now : ℕ) (result : Result T E) : Type 0 where
   pub never_falls : before ≤ now
   pub ok : OnOk result (now ≡ before)
   pub err : OnErr result (Rose before now)
 
--- a count of calls went up by one, where it is told
+-- a count of calls increased by one, if it is known
 abbrev pub CountsCall : Option ℕ → Option ℕ → Type 0
 CountsCall before now = IfSome before (λ n. now ≡ Some (counted n))
 
@@ -28,7 +28,7 @@ CountsCall before now = IfSome before (λ n. now ≡ Some (counted n))
 abbrev pub Files : Type 0
 Files = List ℕ → Option (List ℕ)
 
--- the bytes of the file of this name, and no bytes where there is none
+-- the bytes of the file of this name, and no bytes if there is no such file
 abbrev pub contents : Files → List ℕ → List ℕ
 contents files name = unwrap_or (files name) []
 

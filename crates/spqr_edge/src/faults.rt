@@ -27,7 +27,7 @@ impl Faults {
         Faults { count: 0 }
     }
 
-    /// Counts one more, which is answered.
+    /// Counts one more, and returns it.
     pub fn note(&mut self) -> Failed
         ensures counted { self.new ≡ counted self.old }
         ensures never_falls { self.old ≤ self.new }

@@ -28,7 +28,7 @@ fn held<'a>(files: &'a [MemFile<'a>], name: &str) -> Option<&'a [u8]>
         .map(|file| file.bytes)
 }
 
-/// Takes bytes from the front of what is left into the buffer, as many as there are and fit.
+/// Takes the first bytes of what is left into the buffer: as many as are left and fit.
 fn take(left: &mut &[u8], buf: &mut [u8]) -> usize
     requires { 0 < length buf.old }
     ensures count { result ≤ length buf.new }
@@ -216,7 +216,7 @@ impl<'a> Shelf for MemShelf<'a> {
     }
 }
 
-/// A sink in memory. Calls of the given numbers, counted from 0, fail, and so does one for which memory is wanting. No
+/// A sink in memory. Calls of the given numbers, counted from 0, fail, and so does one for which memory runs out. No
 /// call takes more than the greatest piece.
 #[derive(Drop)]
 pub struct MemSink<'a> {
@@ -288,7 +288,7 @@ impl<'a> Sink for MemSink<'a> {
     }
 }
 
-/// A sink that never fails. It keeps the first bytes, as many as its room holds, and drops the others; so it doesn't tell
+/// A sink that never fails. It keeps the first bytes, as many as its room holds, and drops the others; so it isn't known
 /// what was written.
 #[derive(Drop)]
 pub struct SureSink {
@@ -296,7 +296,7 @@ pub struct SureSink {
 }
 
 impl SureSink {
-    /// A sink that keeps what this list has room for, behind what is in it.
+    /// A sink that keeps what this list has room for, after what is in it.
     pub fn new(room: Vec<u8>) -> Self
         ensures { result.front ≡ room }
     {

@@ -1,4 +1,7 @@
-// The real files and the standard output. They count their faults and tell nothing of contents.
+// The real files and the standard output. They count their faults; nothing is known of contents.
+//
+// A name is handed to the system as it is, with any blanks at its ends. Since the files of the system are unknown, no clause can
+// say which of them a name means.
 ghost use Rattle.std.specs.Prelude.{◌≡◌, None};
 
 use crate::faults::Faults;
@@ -6,7 +9,7 @@ use crate::{Failed, Shelf, Sink};
 use std::fs::{self, File};
 use std::io::{self, Read, Write};
 
-/// The files of the system. It tells neither what they hold nor how often it opened one.
+/// The files of the system. Neither what they hold nor how often one was opened is known.
 #[derive(Drop)]
 pub struct FileShelf<'a> {
     rt: &'a HostRuntime,
@@ -61,7 +64,7 @@ impl<'a> Shelf for FileShelf<'a> {
     }
 }
 
-/// The standard output. It tells nothing of what was written.
+/// The standard output. Nothing is known of what was written.
 #[derive(Drop)]
 pub struct OutSink<'a> {
     rt: &'a HostRuntime,

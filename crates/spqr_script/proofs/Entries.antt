@@ -8,7 +8,7 @@ use Rattle.std.proofs.lemmas.List.{append-nil, length-append, get_or_append_left
 use Rattle.std.proofs.lemmas.Bool.{and_parts, and_from, ltb-true, lt-ltb, eqb-true, or_cases, or_right, cond-true}
 use Rattle.std.proofs.lemmas.Option.{same_Some, none-some, cond_some}
 use Rattle.std.proofs.lemmas.Slice.Eq.{bytes_eq-Decides}
-use Rattle.gml_graph.specs.Number.{are_digits}
+use Rattle.decimals.specs.Number.{are_digits}
 use Rattle.spqr_script.specs.Number.{SpellsNumber, number_below, value_of, index_limit}
 use Rattle.spqr_script.specs.Script.{SpellsIndex, SpellsEntry, SpellsRotation, is_semicolon}
 use Rattle.spqr_script.specs.Reading.{index_of, with_first, indices_of, pair_of, entry_of, is_above, entry_then, entries_after, rotation_of}

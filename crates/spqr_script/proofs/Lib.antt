@@ -2,11 +2,11 @@
 mod TextExamples
 mod ScriptExamples
 mod Options
+mod Shapes
 pub mod Entries
 mod Forms
 mod Words
 pub mod Commands
-mod Digits
 mod FromFront
 mod Parts
 mod Loops

@@ -9,7 +9,7 @@ use Rattle.std.proofs.lemmas.List.Elements.{All-head, All-tail}
 use Rattle.std.proofs.lemmas.List.Folds.{list_any-append}
 use Rattle.std.proofs.lemmas.Str.Parse.{IsNumeralModel, numerals_by_fold}
 use Rattle.std.proofs.lemmas.Fmt.{digits_decimal, digits_value-decimal, decimal_is_IsNumeral}
-use Rattle.gml_graph.specs.Number.{are_digits, spelled_after}
+use Rattle.decimals.specs.Number.{are_digits, spelled_after}
 use Rattle.rotations.specs.Entries.{IsRising}
 use Rattle.spqr_script.specs.Number.{index_limit}
 use Rattle.spqr_script.specs.Text.{spaced_numbers}

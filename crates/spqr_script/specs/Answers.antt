@@ -1,4 +1,4 @@
--- The answers to commands, each in a file of its own.
+-- The texts of the answers to commands, each in a file of its own.
 pub mod Euler
 pub mod Gml
 pub mod Error

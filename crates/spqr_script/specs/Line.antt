@@ -2,7 +2,7 @@
 use Rattle.std.specs.Prelude.{ℕ, ◌-◌, Bool, true, false, not, ◌||◌, ◌==◌, if◌then◌else◌, List, [], ◌∷◌, length, take, map, slice_index}
 use Rattle.std.specs.List.{onto_first}
 
--- the parts of a script that end in a line feed each, without it, and behind the last line feed one more where that is not empty
+-- the parts of a script that each end in a line feed, without it, and what follows the last line feed if that is not empty
 unfoldable pub cut_lines : List ℕ → List (List ℕ)
 cut_lines [] = []
 cut_lines (b ∷ bs) = (if b == 10 then [] ∷ cut_lines bs else onto_first b (cut_lines bs))
@@ -24,7 +24,7 @@ abbrev pub begins_blank : List ℕ → Bool
 begins_blank [] = false
 begins_blank (b ∷ bs) = is_blank b
 
--- a line is passed over: it has only blanks, or `#` is its first byte other than these
+-- a line is skipped: it has only blanks, or `#` is its first byte other than these
 unfoldable pub is_passed_over : List ℕ → Bool
 is_passed_over [] = true
 is_passed_over (b ∷ bs) = (if is_blank b then is_passed_over bs else b == 35)

@@ -1,4 +1,4 @@
--- Reading as functions on lists: what the functions of the reader answer. proofs/ shows that it is what `Script` says.
+-- Reading as functions on lists: what the functions of the reader return. proofs/ shows that it agrees with `Script`.
 use Rattle.std.specs.Prelude.{◌≡◌, ℕ, ◌+◌, ◌-◌, ◌*◌, Bool, not, ◌&&◌, ◌||◌, ◌==◌, nat_lt, if◌then◌else◌, List, [], ◌∷◌, ◌++◌, length, Option, Some, None, option_map, Result, Ok, Err, bytes_eq, codes}
 use Rattle.std.specs.Option.{option_and_then}
 use Rattle.std.specs.Char.{is_ascii_digit}
@@ -17,10 +17,6 @@ use Rattle.spqr_script.specs.declared.command.Command.{Command}
 use Rattle.spqr_script.specs.declared.command.Command.TheVariants as command
 use Rattle.spqr_script.specs.declared.command.Command.TheVariants.{Euler, Show, Faces, Flip, Permute, Mirror, First, Next, Goto, ConvertRank, ConvertTo, Take, Undo, Redo, Gml, Count, Rank, Lock, Unlock}
 
--- the number so far with one digit more behind it, where that is below the limit
-abbrev pub with_digit : ℕ → ℕ → ℕ → Option ℕ
-with_digit limit value digit = (if is_ascii_digit digit && nat_lt (value * 10 + (digit - 48)) limit then Some (value * 10 + (digit - 48)) else None)
-
 -- the number of a vertex, an edge, a block, a node or a key
 abbrev pub index_of : List ℕ → Option ℕ
 index_of token = number_below index_limit token
@@ -35,7 +31,7 @@ unfoldable pub indices_of : List (List ℕ) → Option (List ℕ)
 indices_of [] = Some []
 indices_of (token ∷ tokens) = with_first (index_of token) (indices_of tokens)
 
--- the numbers so far, and others where they are there
+-- the numbers so far, and others after them if they are there
 abbrev pub put_behind : List ℕ → Option (List ℕ) → Option (List ℕ)
 put_behind front others = option_map (λ ns. front ++ ns) others
 
@@ -54,12 +50,12 @@ entry_of (v ∷ mark ∷ edges) = (if bytes_eq mark (codes ":") then pair_of (in
 abbrev pub is_above : List (ℕ × List ℕ) → ℕ → Bool
 is_above entries v = length entries == 0 || nat_lt (entry entries (length entries - 1)).0 v
 
--- the entries so far and one more, where its vertex is above them, and then those that `further` puts behind
+-- the entries so far and one more, if its vertex is above them, and then those that `further` appends
 abbrev pub entry_then : List (ℕ × List ℕ) → Option (ℕ × List ℕ) → (List (ℕ × List ℕ) → Option (List (ℕ × List ℕ))) → Option (List (ℕ × List ℕ))
 entry_then so_far None further = None
 entry_then so_far (Some next) further = (if is_above so_far next.0 then further (so_far ++ next ∷ []) else None)
 
--- the entries so far and one for each part, their vertices rising
+-- the entries so far and one for each part, their vertices increasing
 unfoldable pub entries_after : List (ℕ × List ℕ) → List (List (List ℕ)) → Option (List (ℕ × List ℕ))
 entries_after so_far [] = Some so_far
 entries_after so_far (part ∷ parts) = entry_then so_far (entry_of part) (λ longer. entries_after longer parts)
@@ -74,12 +70,12 @@ abbrev pub alone : Command → List (List ℕ) → Option Command
 alone command [] = Some command
 alone command (token ∷ tokens) = None
 
--- the number that the first token spells, where it is below the limit, and the tokens behind it
+-- the number that the first token spells, if it is below the limit, and the tokens after it
 abbrev pub first_number : ℕ → List (List ℕ) → Option (ℕ × List (List ℕ))
 first_number limit [] = None
 first_number limit (token ∷ tokens) = option_map (λ n. (n, tokens)) (number_below limit token)
 
--- the command that is read with a number, which comes first, from the tokens behind it
+-- the command that is read with a number, which comes first, from the tokens after it
 abbrev pub number_then : ℕ → (ℕ → List (List ℕ) → Option Command) → List (List ℕ) → Option Command
 number_then limit further tokens = option_and_then (λ first. further first.0 first.1) (first_number limit tokens)
 
@@ -92,7 +88,7 @@ abbrev pub keys_of : List (List ℕ) → Option (List ℕ)
 keys_of [] = None
 keys_of (token ∷ tokens) = indices_of (token ∷ tokens)
 
--- so many members can be listed at once
+-- this many members can be listed at once
 abbrev pub can_list : ℕ → Bool
 can_list n = nat_lt 0 n && not (nat_lt max_listed n)
 
@@ -116,7 +112,7 @@ convert_of b (name ∷ tokens) =
     else if bytes_eq name (codes "to") then with_rotation (ConvertTo b) tokens
     else None)
 
--- the command with this word, where the tokens behind it are its arguments
+-- the command with this word, if the tokens after it are its arguments
 abbrev pub arguments_of : Word → List (List ℕ) → Option Command
 arguments_of word.Euler tokens = with_rotation Euler tokens
 arguments_of word.Show tokens = index_then (λ b. alone (Show b)) tokens
@@ -148,20 +144,20 @@ unfoldable pub command_of : List (List ℕ) → Option Command
 command_of [] = None
 command_of (name ∷ tokens) = command_with (word_among all_words name) tokens
 
--- a command and those after it, or the first line that is none
+-- a command and those after it, or the first line that is not a command
 abbrev pub command_and : ℕ → Option Command → Result (List Command) ℕ → Result (List Command) ℕ
 command_and line None others = Err line
 command_and line (Some command) (Ok commands) = Ok (command ∷ commands)
 command_and line (Some command) (Err bad) = Err bad
 
--- the commands of lines that are numbered from `line` on, or the first that is neither passed over nor a command
+-- the commands of lines that are numbered from `line` on, or the first that is neither skipped nor a command
 unfoldable pub commands_from : ℕ → List (List ℕ) → Result (List Command) ℕ
 commands_from line [] = Ok []
 commands_from line (text ∷ texts) =
     (if is_passed_over text then commands_from (line + 1) texts
     else command_and line (command_of (tokens_of text)) (commands_from (line + 1) texts))
 
--- a result is the reading that is due, or want of memory
+-- a result is the correct reading, or out of memory
 abbrev pub Gives : Result (Vec Command) ScriptFault → Result (List Command) ℕ → Type 0
 Gives (Ok commands) due = due ≡ Ok commands.items
 Gives (Err (BadLine line)) due = due ≡ Err line

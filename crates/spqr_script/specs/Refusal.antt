@@ -33,7 +33,7 @@ gml_text gml.Memory = []
 abbrev pub rule_about : List ℕ → ℕ → List ℕ
 rule_about rule n = codes "refused graph " ++ rule ++ codes " " ++ decimal n ++ line_end
 
--- `refused graph ..`: the document has no graph, by the first rule that refuses. Want of memory has no line
+-- `refused graph ..`: the document has no graph, by the first rule that refuses it. Out of memory has no line
 abbrev pub rule_text : GraphFault → List ℕ
 rule_text NoGraph = codes "refused graph none\n"
 rule_text MoreGraphs = codes "refused graph more\n"

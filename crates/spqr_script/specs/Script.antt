@@ -1,4 +1,4 @@
--- Which commands a script spells, and which line is the first that is none.
+-- Which commands a script spells, and which line is the first that is not a command.
 use Rattle.std.specs.Prelude.{◌≡◌, ℕ, ◌+◌, ◌-◌, ◌<◌, ◌≤◌, Bool, true, false, not, ◌⊎◌, List, [], ◌∷◌, length, filter, slice_index_or, bytes_eq, codes}
 use Rattle.std.specs.List.{AllZip, slice_split}
 use Rattle.rotations.specs.Entries.{IsRising}
@@ -25,11 +25,11 @@ SpellsEntry [] entry = ⊥
 SpellsEntry (v ∷ []) entry = ⊥
 SpellsEntry (v ∷ mark ∷ edges) entry = SpellsIndex v entry.0 × (mark ≡ codes ":") × SpellsIndices edges entry.1
 
--- the token `;`, which stands between entries
+-- the token `;`, which separates entries
 abbrev pub is_semicolon : List ℕ → Bool
 is_semicolon token = bytes_eq token (codes ";")
 
--- a rotation: nothing, or one or more entries with `;` between them, their vertices strictly rising
+-- a rotation: nothing, or one or more entries with `;` between them, their vertices strictly increasing
 abbrev pub SpellsRotation : List (List ℕ) → List (ℕ × List ℕ) → Type 0
 SpellsRotation tokens entries =
     ((tokens ≡ []) × (entries ≡ [])) ⊎ (AllZip SpellsEntry (slice_split is_semicolon tokens) entries × IsRising entries)
@@ -40,12 +40,12 @@ SpellsRank [] r = ⊥
 SpellsRank (token ∷ []) r = SpellsNumber rank_limit token r
 SpellsRank (token ∷ other ∷ tokens) r = ⊥
 
--- the number of a block, and behind it what is said of the other tokens
+-- the number of a block, and after it tokens of which `Others` holds
 abbrev pub SpellsBlockThen : ℕ → (List (List ℕ) → Type 0) → List (List ℕ) → Type 0
 SpellsBlockThen b Others [] = ⊥
 SpellsBlockThen b Others (token ∷ tokens) = SpellsIndex token b × Others tokens
 
--- this word, and behind it what is said of the other tokens
+-- this word, and after it tokens of which `Others` holds
 abbrev pub SpellsWordThen : List ℕ → (List (List ℕ) → Type 0) → List (List ℕ) → Type 0
 SpellsWordThen name Others [] = ⊥
 SpellsWordThen name Others (token ∷ tokens) = (token ≡ name) × Others tokens
@@ -73,7 +73,7 @@ word_of (Rank b) = word.Rank
 word_of (Lock b k) = word.Lock
 word_of (Unlock b k) = word.Unlock
 
--- the arguments of a command, which are all tokens behind its word: none, a rotation, or the number of a block, and behind it a
+-- the arguments of a command, which are all tokens after its word: none, a rotation, or the number of a block, and after it a
 -- node, a node and one or more keys, how many members, a rank, `rank` and a rank, a rotation, or `to` and a rotation
 abbrev pub SpellsArguments : List (List ℕ) → Command → Type 0
 SpellsArguments tokens (Euler entries) = SpellsRotation tokens entries
@@ -97,20 +97,20 @@ SpellsArguments tokens (Rank b) = SpellsIndices tokens (b ∷ [])
 SpellsArguments tokens (Lock b k) = SpellsIndices tokens (b ∷ k ∷ [])
 SpellsArguments tokens (Unlock b k) = SpellsIndices tokens (b ∷ k ∷ [])
 
--- the tokens of a line are a command: its word, and behind it its arguments
+-- the tokens of a line are a command: its word, and after it its arguments
 abbrev pub SpellsCommand : List (List ℕ) → Command → Type 0
 SpellsCommand [] command = ⊥
 SpellsCommand (name ∷ tokens) command = (name ≡ spelling (word_of command)) × SpellsArguments tokens command
 
--- the lines that are not passed over
+-- the lines that are not skipped
 abbrev pub command_lines : List (List ℕ) → List (List ℕ)
 command_lines lines = filter (λ line. not (is_passed_over line)) lines
 
--- the bytes spell the commands: each line that is not passed over is one of them, in order
+-- the bytes spell the commands: each line that is not skipped is one of them, in order
 unfoldable pub Commands : List ℕ → List Command → Type 0
 Commands bytes commands = AllZip (λ line command. SpellsCommand (tokens_of line) command) (command_lines (lines_of bytes)) commands
 
--- a line that is passed over or a command
+-- a line that is skipped or a command
 abbrev pub IsAccepted : List ℕ → Type 0
 IsAccepted line = (is_passed_over line ≡ true) ⊎ ((command : Command) × SpellsCommand (tokens_of line) command)
 

@@ -1,4 +1,4 @@
-// The answers to commands, each in a file of its own.
+// The texts of the answers to commands, each in a file of its own.
 mod change;
 mod count;
 mod error;
@@ -6,7 +6,7 @@ mod euler;
 mod face_list;
 mod gml;
 mod list;
-mod moves;
+mod move_list;
 mod rank;
 mod rotation;
 
@@ -17,6 +17,6 @@ pub use euler::euler_line;
 pub use face_list::faces_lines;
 pub use gml::gml_lines;
 pub use list::{list_line, more_line};
-pub use moves::moves_lines;
+pub use move_list::moves_lines;
 pub use rank::rank_line;
 pub use rotation::{push_rotation_line, rotation_line};

@@ -1,4 +1,4 @@
-// Commands, and why a script is none.
+// Commands, and why bytes are not a script.
 ghost use Rattle.std.specs.Prelude.{◌≡◌};
 ghost use Rattle.spqr_script.specs.declared.command.ScriptFault.TheVariants.{Memory};
 
@@ -51,10 +51,10 @@ pub enum Command {
     Unlock(u32, u32),
 }
 
-/// Why a script gives no commands.
+/// Why bytes are not a script.
 #[derive(Clone, Copy, Debug, PartialEq, Eq)]
 pub enum ScriptFault {
-    /// The least line that is no command and is not passed over; lines are numbered from 1.
+    /// The first line that is not a command and not skipped; lines are numbered from 1.
     BadLine(u32),
     /// Memory ran out.
     Memory,

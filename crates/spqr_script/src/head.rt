@@ -2,10 +2,10 @@
 ghost use Rattle.std.specs.Prelude.{◌≡◌, ◌++◌, IfOk, OnOk};
 ghost use Rattle.spqr_script.specs.Head.{graph_text, vertex_text, cut_text, block_text, planar_text};
 
-use crate::text::{push_id, push_number, push_spaced, push_word};
+use decimals::{push_number, push_signed, push_spaced, push_word};
 use std::alloc::{AllocError, Global};
 
-/// The line `graph N M`: how many vertices and edges the graph has.
+/// The line `graph N M`: how many vertices and edges the graph has. Fails only if memory runs out.
 pub fn graph_line(alloc: Global, n: u32, m: u32) -> Result<Vec<u8>, AllocError>
     ensures { IfOk result (λ text. text.items ≡ graph_text n m) }
 {
@@ -17,7 +17,7 @@ pub fn graph_line(alloc: Global, n: u32, m: u32) -> Result<Vec<u8>, AllocError>
     Ok(out)
 }
 
-/// The line `vertex V ID`: a vertex and its id in the file.
+/// The line `vertex V ID`: a vertex and its id in the file. Fails only if memory runs out.
 pub fn vertex_line(alloc: Global, v: u32, id: i64) -> Result<Vec<u8>, AllocError>
     ensures { IfOk result (λ text. text.items ≡ vertex_text v id) }
 {
@@ -26,18 +26,18 @@ pub fn vertex_line(alloc: Global, v: u32, id: i64) -> Result<Vec<u8>, AllocError
     Ok(out)
 }
 
-/// Puts the line `vertex V ID` behind a text. After want of memory the text may end in a part of the line.
+/// Appends the line `vertex V ID` to a text. Fails only if memory runs out; the text may then end in a part of the line.
 pub fn push_vertex_line(out: &mut Vec<u8>, v: u32, id: i64) -> Result<(), AllocError>
     ensures { OnOk result (out.new.items ≡ out.old.items ++ vertex_text v id) }
 {
     push_word(out, b"vertex ")?;
     push_number(out, u128::from(v))?;
     push_word(out, b" ")?;
-    push_id(out, id)?;
+    push_signed(out, id)?;
     push_word(out, b"\n")
 }
 
-/// The line `cut V`: a cut vertex.
+/// The line `cut V`: a cut vertex. Fails only if memory runs out.
 pub fn cut_line(alloc: Global, v: u32) -> Result<Vec<u8>, AllocError>
     ensures { IfOk result (λ text. text.items ≡ cut_text v) }
 {
@@ -46,7 +46,7 @@ pub fn cut_line(alloc: Global, v: u32) -> Result<Vec<u8>, AllocError>
     Ok(out)
 }
 
-/// Puts the line `cut V` behind a text. After want of memory the text may end in a part of the line.
+/// Appends the line `cut V` to a text. Fails only if memory runs out; the text may then end in a part of the line.
 pub fn push_cut_line(out: &mut Vec<u8>, v: u32) -> Result<(), AllocError>
     ensures { OnOk result (out.new.items ≡ out.old.items ++ cut_text v) }
 {
@@ -55,7 +55,7 @@ pub fn push_cut_line(out: &mut Vec<u8>, v: u32) -> Result<(), AllocError>
     push_word(out, b"\n")
 }
 
-/// The line `block B: E E ..`: a block and its edges, in the order given.
+/// The line `block B: E E ..`: a block and its edges, in the order given. Fails only if memory runs out.
 pub fn block_line(alloc: Global, b: u32, edges: &[u32]) -> Result<Vec<u8>, AllocError>
     ensures { IfOk result (λ text. text.items ≡ block_text b edges.now) }
 {
@@ -64,7 +64,7 @@ pub fn block_line(alloc: Global, b: u32, edges: &[u32]) -> Result<Vec<u8>, Alloc
     Ok(out)
 }
 
-/// Puts the line `block B: E E ..` behind a text. After want of memory the text may end in a part of the line.
+/// Appends the line `block B: E E ..` to a text. Fails only if memory runs out; the text may then end in a part of the line.
 pub fn push_block_line(out: &mut Vec<u8>, b: u32, edges: &[u32]) -> Result<(), AllocError>
     ensures { OnOk result (out.new.items ≡ out.old.items ++ block_text b edges.now) }
 {
@@ -75,7 +75,7 @@ pub fn push_block_line(out: &mut Vec<u8>, b: u32, edges: &[u32]) -> Result<(), A
     push_word(out, b"\n")
 }
 
-/// The line `planar B`: the block has a plane rotation system.
+/// The line `planar B`: the block has a plane rotation system. Fails only if memory runs out.
 pub fn planar_line(alloc: Global, b: u32) -> Result<Vec<u8>, AllocError>
     ensures { IfOk result (λ text. text.items ≡ planar_text b) }
 {
@@ -84,7 +84,7 @@ pub fn planar_line(alloc: Global, b: u32) -> Result<Vec<u8>, AllocError>
     Ok(out)
 }
 
-/// Puts the line `planar B` behind a text. After want of memory the text may end in a part of the line.
+/// Appends the line `planar B` to a text. Fails only if memory runs out; the text may then end in a part of the line.
 pub fn push_planar_line(out: &mut Vec<u8>, b: u32) -> Result<(), AllocError>
     ensures { OnOk result (out.new.items ≡ out.old.items ++ planar_text b) }
 {

@@ -1,12 +1,11 @@
 // The script that the program reads, and every text that it prints.
 //
 // A script is lines of commands. Which commands bytes spell is the relation `Commands`, over whole lines: each line is cut
-// into tokens, and each line that is not passed over has the tokens of one command: its word, which is found in a table, and
-// its arguments. `read` gives the commands exactly where there are some, and else the number of the first line that is none.
-// Each text has one definition, its bytes, and one function, which answers just these bytes or runs out of memory. A text on a
-// block takes the block as a part of the graph, with values in the part's own numbers, and prints the numbers of the graph;
-// what stands behind the bar of a rotation line is read back as its entries. Numbers are written in decimal by the crate
-// `itoa`.
+// into tokens, and each line that is not skipped has the tokens of one command: its word, which is found in a table, and its
+// arguments. `read` returns the commands exactly where the bytes spell some, and else the number of the first line that is not a
+// command. Each text has one definition, its bytes, and one function, which returns just these bytes or runs out of memory. A
+// text on a block takes the block as a part of the graph, with values in the part's own numbers, and prints the numbers of the
+// graph; what comes after the bar of a rotation line is read back as its entries.
 #![tactic(auto)]
 
 mod answers;
@@ -21,7 +20,6 @@ mod outer;
 mod reader;
 mod refusals;
 mod rotation;
-mod text;
 mod tokens;
 mod word;
 
@@ -30,6 +28,7 @@ pub use answers::{
     moves_lines, ok_line, push_rotation_line, rank_line, rotation_line,
 };
 pub use command::{Command, ScriptFault};
+pub use decimals::number;
 pub use head::{
     block_line, cut_line, graph_line, planar_line, push_block_line, push_cut_line,
     push_planar_line, push_vertex_line, vertex_line,
@@ -37,9 +36,5 @@ pub use head::{
 pub use laws::script_laws;
 pub use node::{node_line, push_node_line};
 pub use nonplanar::{nonplanar_lines, push_nonplanar_lines};
-pub use numbers::number;
 pub use reader::read;
-pub use refusals::{
-    Which, gml_line, long_bytes, long_line, read_bytes, read_line, rule_line, script_line,
-    usage_bytes, usage_line,
-};
+pub use refusals::{Which, gml_line, long_line, read_line, rule_line, script_line, usage_line};

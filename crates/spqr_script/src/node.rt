@@ -4,7 +4,7 @@ ghost use Rattle.pair_split.specs.Tutte.{node_at};
 ghost use Rattle.spqr_script.specs.Node.{kind_word, item_text, spaced_items, node_text, IsItemOf, IsNodeOf};
 
 use crate::outer::push_vertices;
-use crate::text::{push_number, push_word};
+use decimals::{push_number, push_word};
 use multigraph::Part;
 use spqr_tree::{Item, Kind, Tree, What};
 use std::alloc::{AllocError, Global};
@@ -21,7 +21,7 @@ fn word_of(kind: Kind) -> &'static [u8]
     }
 }
 
-// Puts an item behind a text.
+// Appends an item to a text.
 fn push_item(out: &mut Vec<u8>, part: &Part, item: Item) -> Result<(), AllocError>
     requires { IsItemOf part.now item }
     ensures { OnOk result (out.new.items ≡ out.old.items ++ item_text part.now item) }
@@ -40,7 +40,7 @@ fn push_item(out: &mut Vec<u8>, part: &Part, item: Item) -> Result<(), AllocErro
     }
 }
 
-// Puts the items, each with a space before it, behind a text.
+// Appends the items, each with a space before it to a text.
 fn push_items(out: &mut Vec<u8>, part: &Part, items: &[Item]) -> Result<(), AllocError>
     requires { All (IsItemOf part.now) items.now }
     ensures { OnOk result (out.new.items ≡ out.old.items ++ spaced_items part.now items.now) }
@@ -52,8 +52,8 @@ fn push_items(out: &mut Vec<u8>, part: &Part, items: &[Item]) -> Result<(), Allo
     Ok(())
 }
 
-/// Puts the line `node K KIND V V .. | ITEM ITEM ..` behind a text: node `k` of the tree of a part, in the numbers of the
-/// whole graph. After want of memory the text may end in a part of the line.
+/// Appends the line `node K KIND V V .. | ITEM ITEM ..` to a text: node `k` of the tree of a part, in the numbers of the whole
+/// graph. Fails only if memory runs out; the text may then end in a part of the line.
 pub fn push_node_line(out: &mut Vec<u8>, part: &Part, t: &Tree, k: u32) -> Result<(), AllocError>
     requires node { k < length t.now }
     requires within { IsNodeOf part.now (node_at t.now k) }
@@ -70,6 +70,7 @@ pub fn push_node_line(out: &mut Vec<u8>, part: &Part, t: &Tree, k: u32) -> Resul
 }
 
 /// The line `node K KIND V V .. | ITEM ITEM ..`: node `k` of the tree of a part, in the numbers of the whole graph.
+/// Fails only if memory runs out.
 pub fn node_line(alloc: Global, part: &Part, t: &Tree, k: u32) -> Result<Vec<u8>, AllocError>
     requires node { k < length t.now }
     requires within { IsNodeOf part.now (node_at t.now k) }

@@ -5,7 +5,7 @@ ghost use Rattle.kuratowski.specs.Subdivision.{pattern_edges, IsSubdivision};
 ghost use Rattle.spqr_script.specs.Nonplanar.{pattern_word, path_text, path_texts, nonplanar_text};
 
 use crate::outer::{push_edges, push_vertices};
-use crate::text::{push_number, push_word};
+use decimals::{push_number, push_word};
 use kuratowski::{Pattern, Subdivision};
 use multigraph::{Numbers, Part};
 use std::alloc::{AllocError, Global};
@@ -20,7 +20,7 @@ fn word_of(kind: Pattern) -> &'static [u8]
     }
 }
 
-// Puts the line of a path between two vertices behind a text.
+// Appends the line of a path between two vertices to a text.
 fn push_path(
     out: &mut Vec<u8>,
     part: &Part,
@@ -42,7 +42,7 @@ fn push_path(
     push_word(out, b"\n")
 }
 
-// Puts the line of the path for each edge of the pattern behind a text.
+// Appends the line of the path for each edge of the pattern to a text.
 fn push_paths(
     out: &mut Vec<u8>,
     part: &Part,
@@ -62,8 +62,9 @@ fn push_paths(
     Ok(())
 }
 
-/// Puts the line `nonplanar B K5 V ..` or `nonplanar B K33 V ..`, and the line `path U W: E E ..` of each path, behind a text: a
-/// subdivision in a block, in the numbers of the whole graph. After want of memory the text may end in a part of the lines.
+/// Appends the line `nonplanar B K5 V ..` or `nonplanar B K33 V ..`, and the line `path U W: E E ..` of each path, to a text: a
+/// subdivision in a block, in the numbers of the whole graph. Fails only if memory runs out; the text may then end in a part of
+/// the lines.
 pub fn push_nonplanar_lines(
     out: &mut Vec<u8>,
     b: u32,
@@ -86,7 +87,7 @@ pub fn push_nonplanar_lines(
 }
 
 /// The line `nonplanar B K5 V ..` or `nonplanar B K33 V ..`, and the line `path U W: E E ..` of each path: a subdivision in a
-/// block, in the numbers of the whole graph.
+/// block, in the numbers of the whole graph. Fails only if memory runs out.
 pub fn nonplanar_lines(
     alloc: Global,
     b: u32,

@@ -1,13 +1,13 @@
-// Vertices and edges of a part, put behind a text in the numbers of the whole graph.
+// Vertices and edges of a part, appended to a text in the numbers of the whole graph.
 ghost use Rattle.std.specs.Prelude.{◌≡◌, ◌<◌, ◌++◌, map, slice_index, OnOk, All};
 ghost use Rattle.multigraph.specs.Graph.{edge_count};
 ghost use Rattle.spqr_script.specs.Text.{spaced_numbers};
 
-use crate::text::{push_number, push_word};
+use decimals::{push_number, push_word};
 use multigraph::Part;
 use std::alloc::AllocError;
 
-// Puts the vertices, each with a space before it, behind a text.
+// Appends the vertices, each with a space before it to a text.
 pub(crate) fn push_vertices(
     out: &mut Vec<u8>,
     part: &Part,
@@ -25,7 +25,7 @@ pub(crate) fn push_vertices(
     Ok(())
 }
 
-// Puts the edges, each with a space before it, behind a text.
+// Appends the edges, each with a space before it to a text.
 pub(crate) fn push_edges(out: &mut Vec<u8>, part: &Part, edges: &[u32]) -> Result<(), AllocError>
     requires { All (λ e. e < edge_count part.now.graph) edges.now }
     ensures { OnOk result

@@ -25,7 +25,7 @@ fn read_command(alloc: Global, line: &[u8]) -> Result<Option<Command>, AllocErro
     }
 }
 
-// The first line without its line feed, and what stands behind it.
+// The first line without its line feed, and the text after it.
 fn first_line(bytes: &[u8]) -> (&[u8], &[u8])
     requires { 0 < length bytes.now }
     ensures { (cut_lines bytes.now ≡ result.0.now ∷ cut_lines result.1.now)
@@ -62,7 +62,7 @@ fn is_passed_over(line: &[u8]) -> bool
     }
 }
 
-// The commands of the lines, or the first line that is none.
+// The commands of the lines, or the first line that is not a command.
 fn read_lines(alloc: Global, bytes: &[u8]) -> Result<Vec<Command>, ScriptFault>
     requires { length bytes.now < 2 ^ 32 }
     ensures { Gives result (commands_from 1 (lines_of bytes.now)) }
@@ -86,8 +86,8 @@ fn read_lines(alloc: Global, bytes: &[u8]) -> Result<Vec<Command>, ScriptFault>
     Ok(commands)
 }
 
-/// The commands that the bytes of a script spell, in order, or the number of the first line that is no command and is not
-/// passed over. A script has fewer than 2^32 bytes.
+/// The commands that the bytes of a script spell, in order. A script has fewer than 2^32 bytes. Fails with `BadLine(l)` if line
+/// `l`, counted from 1, is the first that is not a command and not skipped; fails with `Memory` if memory runs out.
 pub fn read(alloc: Global, bytes: &[u8]) -> Result<Vec<Command>, ScriptFault>
     requires { length bytes.now < 2 ^ 32 }
     // What is read is spelled.

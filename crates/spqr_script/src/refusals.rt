@@ -2,7 +2,7 @@
 ghost use Rattle.std.specs.Prelude.{◌≡◌, ◌≢◌, ◌++◌, IfOk, codes, decimal};
 ghost use Rattle.spqr_script.specs.Refusal.{read_text, long_text, gml_text, rule_text, script_text, usage_text};
 
-use crate::text::{push_number, push_word};
+use decimals::{push_number, push_word};
 use gml_graph::GraphFault;
 use gml_text::GmlFault;
 use std::alloc::{AllocError, Global};
@@ -16,8 +16,8 @@ pub enum Which {
     ScriptFile,
 }
 
-/// The line `refused read graph` or `refused read script`: the file could not be read. Takes no memory.
-pub fn read_bytes(w: Which) -> &'static [u8]
+// The text of `read_line`.
+fn read_bytes(w: Which) -> &'static [u8]
     ensures { result.now ≡ read_text w }
 {
     match w {
@@ -26,15 +26,15 @@ pub fn read_bytes(w: Which) -> &'static [u8]
     }
 }
 
-/// The line of `read_bytes`, in a vector.
+/// The line `refused read graph` or `refused read script`: the file could not be read. Fails only if memory runs out.
 pub fn read_line(alloc: Global, w: Which) -> Result<Vec<u8>, AllocError>
     ensures { IfOk result (λ text. text.items ≡ read_text w) }
 {
     Vec::from_slice(alloc, read_bytes(w))
 }
 
-/// The line `refused long graph` or `refused long script`: the file is past its limit. Takes no memory.
-pub fn long_bytes(w: Which) -> &'static [u8]
+// The text of `long_line`.
+fn long_bytes(w: Which) -> &'static [u8]
     ensures { result.now ≡ long_text w }
 {
     match w {
@@ -43,14 +43,15 @@ pub fn long_bytes(w: Which) -> &'static [u8]
     }
 }
 
-/// The line of `long_bytes`, in a vector.
+/// The line `refused long graph` or `refused long script`: the file is past its limit. Fails only if memory runs out.
 pub fn long_line(alloc: Global, w: Which) -> Result<Vec<u8>, AllocError>
     ensures { IfOk result (λ text. text.items ≡ long_text w) }
 {
     Vec::from_slice(alloc, long_bytes(w))
 }
 
-/// The line `refused gml bad AT` or `refused gml end AT`: the bytes are no document. The fault is not want of memory.
+/// The line `refused gml bad AT` or `refused gml end AT`: the bytes are not a document. The fault is not out of
+/// memory. Fails only if memory runs out.
 pub fn gml_line(alloc: Global, f: &GmlFault) -> Result<Vec<u8>, AllocError>
     requires { f.now ≢ GmlFault.Memory }
     ensures { IfOk result (λ text. text.items ≡ gml_text f.now) }
@@ -62,7 +63,8 @@ pub fn gml_line(alloc: Global, f: &GmlFault) -> Result<Vec<u8>, AllocError>
     }
 }
 
-/// The line `refused graph ..`: the document has no graph, by the rule that refuses it. The fault is not want of memory.
+/// The line `refused graph ..`: the document has no graph, by the rule that refuses it. The fault is not out of memory. Fails
+/// only if memory runs out.
 pub fn rule_line(alloc: Global, f: &GraphFault) -> Result<Vec<u8>, AllocError>
     requires { f.now ≢ GraphFault.Memory }
     ensures { IfOk result (λ text. text.items ≡ rule_text f.now) }
@@ -83,7 +85,7 @@ pub fn rule_line(alloc: Global, f: &GraphFault) -> Result<Vec<u8>, AllocError>
     }
 }
 
-// The line of a refusal that speaks of a number.
+// The line of a refusal with a number.
 fn refused(alloc: Global, rule: &[u8], n: u128) -> Result<Vec<u8>, AllocError>
     ensures { IfOk result (λ text. text.items ≡ codes "refused " ++ rule.now ++ codes " "
         ++ decimal n ++ codes "\n") }
@@ -96,21 +98,21 @@ fn refused(alloc: Global, rule: &[u8], n: u128) -> Result<Vec<u8>, AllocError>
     Ok(out)
 }
 
-/// The line `refused script line L`: the line is no command. Lines are counted from 1.
+/// The line `refused script line L`: the line is not a command. Lines are counted from 1. Fails only if memory runs out.
 pub fn script_line(alloc: Global, line: u32) -> Result<Vec<u8>, AllocError>
     ensures { IfOk result (λ text. text.items ≡ script_text line) }
 {
     refused(alloc, b"script line", u128::from(line))
 }
 
-/// How the program is called, in one line. Takes no memory.
-pub fn usage_bytes() -> &'static [u8]
+// The text of `usage_line`.
+fn usage_bytes() -> &'static [u8]
     ensures { result.now ≡ usage_text }
 {
     b"usage: spqr run GRAPH SCRIPT | spqr make N SEED\n"
 }
 
-/// The line of `usage_bytes`, in a vector.
+/// How the program is called, in one line. Fails only if memory runs out.
 pub fn usage_line(alloc: Global) -> Result<Vec<u8>, AllocError>
     ensures { IfOk result (λ text. text.items ≡ usage_text) }
 {

@@ -1,4 +1,4 @@
-// Rotations read from the front of a text: entries with `;` between them.
+// Rotations read from a text: entries with `;` between them.
 ghost use Rattle.std.specs.Prelude.{◌≡◌, ◌<◌, ◌∷◌, [], length, IfOk, MatchOption, if◌then◌else◌, Some, None};
 ghost use Rattle.std.specs.List.{slice_split};
 ghost use Rattle.spqr_script.specs.Line.{tokens_of};
@@ -10,7 +10,7 @@ use crate::tokens::{cut, next_token};
 use rotations::Lists;
 use std::alloc::{AllocError, Global};
 
-// The vertex of an entry; its edges are left in `edges`. None where the part is no entry.
+// The vertex of an entry; its edges are left in `edges`. None if the part is not an entry.
 fn read_entry(part: &[u8], edges: &mut Vec<u32>) -> Result<Option<u32>, AllocError>
     ensures { IfOk result (λ vertex. pair_of vertex (Some edges.new.items)
         ≡ entry_of (tokens_of part.now)) }
@@ -31,7 +31,7 @@ fn read_entry(part: &[u8], edges: &mut Vec<u32>) -> Result<Option<u32>, AllocErr
     Ok(index(vertex))
 }
 
-// Puts an entry behind the others. False where the part is no entry, or its vertex is not above the last.
+// Appends an entry to the others. False if the part is not an entry, or its vertex is not above the last.
 fn push_entry(part: &[u8], edges: &mut Vec<u32>, entries: &mut Lists) -> Result<bool, AllocError>
     ensures { IfOk result (λ taken. entry_then entries.old (entry_of (tokens_of part.now))
         (λ longer. Some longer) ≡ (if taken then Some entries.new else None)) }
@@ -46,7 +46,7 @@ fn push_entry(part: &[u8], edges: &mut Vec<u32>, entries: &mut Lists) -> Result<
     Ok(true)
 }
 
-// What stands before the first `;`, and what behind it, where there is one.
+// The text before the first `;`, and the text after it, where there is one.
 fn first_part(text: &[u8]) -> (&[u8], Option<&[u8]>)
     ensures { MatchOption result.1
         (slice_split is_semicolon (tokens_of text.now) ≡ tokens_of result.0.now ∷ [])

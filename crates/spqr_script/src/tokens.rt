@@ -1,9 +1,9 @@
-// A text cut at a byte, and the tokens of a line from its front.
+// A text cut at a byte, and the tokens of a line from its beginning.
 ghost use Rattle.std.specs.Prelude.{◌≡◌, ◌<◌, ◌≤◌, ◌==◌, ◌∷◌, ◌++◌, [], true, false, length, MatchOption};
 ghost use Rattle.std.specs.List.{list_any, list_all};
 ghost use Rattle.spqr_script.specs.Line.{is_blank, is_mark, is_word_byte, begins_word, begins_blank, is_passed_over, tokens_of};
 
-// What stands before the first such byte, and what behind it, where there is one.
+// The text before the first such byte, and the text after it, where there is one.
 pub(crate) fn cut(text: &[u8], byte: u8) -> Option<(&[u8], &[u8])>
     ensures { MatchOption result
         (list_any (λ b. b == byte) text.now ≡ false)
@@ -35,7 +35,7 @@ fn is_word_byte(b: u8) -> bool
     !(is_blank(b) || is_mark(b))
 }
 
-// The line from its first byte on that is no blank.
+// The line from its first byte on that is not a blank.
 pub(crate) fn skip_blanks(line: &[u8]) -> &[u8]
     ensures tokens { tokens_of result.now ≡ tokens_of line.now }
     ensures passed_over { is_passed_over result.now ≡ is_passed_over line.now }
@@ -52,7 +52,7 @@ pub(crate) fn skip_blanks(line: &[u8]) -> &[u8]
     rest
 }
 
-// The word that the text begins with, and what stands behind it.
+// The word that the text begins with, and the text after it.
 fn split_word(text: &[u8]) -> (&[u8], &[u8])
     ensures parts { text.now ≡ result.0.now ++ result.1.now }
     ensures word { list_all is_word_byte result.0.now ≡ true }
@@ -66,7 +66,7 @@ fn split_word(text: &[u8]) -> (&[u8], &[u8])
     text.split_at(text.len())
 }
 
-// The first token of a line, and what stands behind it, where there is one.
+// The first token of a line, and the text after it, where there is one.
 pub(crate) fn next_token(line: &[u8]) -> Option<(&[u8], &[u8])>
     ensures { MatchOption result
         (tokens_of line.now ≡ [])

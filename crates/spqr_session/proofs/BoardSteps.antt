@@ -13,7 +13,7 @@ use Rattle.skel_embed.specs.Block.{BlockState, lock_at, IsBlockState}
 use Rattle.skel_embed.specs.declared.planes.Outcome.{Outcome}
 use Rattle.skel_embed.specs.declared.planes.Outcome.TheVariants.{Plane, Not}
 use Rattle.skel_embed.specs.Values.{as_move, as_moves}
-use Rattle.skel_embed.specs.declared.moves.Move as kept
+use Rattle.moves.specs.declared.values.Move as kept
 use Rattle.undo_log.specs.History.{History as UndoHistory}
 use Rattle.undo_log.specs.declared.step.Step.{Step}
 use Rattle.undo_log.specs.declared.step.Step.TheVariants.{Moves, Lock}

@@ -11,8 +11,8 @@ use Rattle.faces.specs.Euler.{IsPlaneSystem}
 use Rattle.skeletons.specs.Moves as theory
 use Rattle.skel_embed.specs.Block.{BlockState, IsBlockState}
 use Rattle.skel_embed.specs.Values.{as_move, as_moves}
-use Rattle.skel_embed.specs.declared.moves.Move.{Move}
-use Rattle.skel_embed.specs.declared.moves.Move.TheVariants.{Flip, Permute}
+use Rattle.moves.specs.declared.values.Move.{Move}
+use Rattle.moves.specs.declared.values.Move.TheVariants.{Flip, Permute}
 use Rattle.embed_moves.specs.Made.{Fits}
 use Rattle.spqr_script.specs.Node.{IsItemOf}
 use Rattle.spqr_script.specs.Answers.Moves.{moves_text, IsMoveOf}

@@ -1,4 +1,4 @@
--- A history: steps, and a cursor that stands behind those that hold.
+-- A history: steps, and a cursor after those that hold.
 use Rattle.std.specs.Prelude.{◌≡◌, ℕ, ◌+◌, ◌<◌, List, [], ◌∷◌, ◌++◌, length, take, slice_index_or}
 use Rattle.undo_log.specs.declared.step.Step.{Step}
 
@@ -8,11 +8,11 @@ pub record History : Type 0 where
   pub cursor : ℕ
   pub room : ℕ
 
--- there is room for a step behind the cursor
+-- there is room for a step after the cursor
 abbrev pub HasRoom : History → Type 0
 HasRoom h = h.cursor < h.room
 
--- the steps past the cursor were dropped, this one was added, and the cursor is behind it
+-- the steps past the cursor were dropped, this one was added, and the cursor is after it
 pub record Noted (old : History) (s : Step) (new : History) : Type 0 where
   pub steps : new.steps ≡ take old.cursor old.steps ++ s ∷ []
   pub cursor : new.cursor ≡ old.cursor + 1

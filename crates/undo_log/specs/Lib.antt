@@ -1,2 +1,3 @@
 -- The history of moves.
 pub mod History
+pub mod Lends

@@ -1,6 +1,6 @@
 // The history.
 
-ghost use Rattle.std.specs.Prelude.{◌≡◌, ◌+◌, ◌-◌, ◌<◌, ◌≤◌, ⊤, false, nat_lt, [], length, is_ok, IfOk, MatchBool, MatchResult};
+ghost use Rattle.std.specs.Prelude.{◌≡◌, ◌+◌, ◌-◌, ◌<◌, ◌≤◌, false, nat_lt, [], length, is_ok, IfOk, MatchBool, MatchResult};
 ghost use Rattle.undo_log.specs.History.{HasRoom, Noted, IsStepAt, WentBack, NoneBefore, WentOn, NoneAfter};
 
 use crate::step::Step;
@@ -44,9 +44,7 @@ impl Model for UndoLog {
 
 impl UndoLog {
     ghost use Rattle.std.specs.Borrow.{sem};
-    ghost use denote.Follow.{follows_so};
-    ghost use mathlib.Core.Option.{none};
-    ghost use Rattle.undo_log.specs.contracts.history.UndoLog.{the_row};
+    ghost use Rattle.undo_log.specs.Lends.{Becomes};
 
     /// No steps. Takes no memory.
     pub fn new(alloc: Global) -> UndoLog
@@ -59,7 +57,7 @@ impl UndoLog {
         }
     }
 
-    /// Makes room for one step more. Steps and cursor stay, and without memory the room too.
+    /// Makes room for one more step. Steps and cursor stay. Fails only if memory runs out; the room then stays, too.
     pub fn reserve(&mut self) -> Result<(), AllocError>
         ensures room { IfOk result (λ _. HasRoom self.new) }
         ensures steps { self.new.steps ≡ self.old.steps }
@@ -79,10 +77,11 @@ impl UndoLog {
         self.cursor += 1;
     }
 
-    /// The step before the cursor, which goes back over it; nothing changes where there is none. Takes no memory.
+    /// Moves the cursor back over the step before it, and returns that step. Takes no memory. Fails with `NothingToUndo` if no
+    /// step is before the cursor; nothing is then changed.
     pub fn undo(&mut self) -> Result<&Step, NothingToUndo>
-        ensures* after { sem 𝓛 (follows_so the_row the_row self.entry.ghost_name none (λ _ _. ⊤)
-            (λ n. MatchResult result (λ s. WentBack self.old s.now n) (λ _. NoneBefore self.old n))) }
+        ensures* after { sem 𝓛 (Becomes self.entry (λ n. MatchResult result
+            (λ s. WentBack self.old s.now n) (λ _. NoneBefore self.old n))) }
     {
         if self.step_back() {
             Ok(self.next_step())
@@ -91,10 +90,11 @@ impl UndoLog {
         }
     }
 
-    /// The step after the cursor, which goes on over it; nothing changes where there is none. Takes no memory.
+    /// Moves the cursor over the step after it, and returns that step. Takes no memory. Fails with `NothingToRedo` if no step is
+    /// after the cursor; nothing is then changed.
     pub fn redo(&mut self) -> Result<&Step, NothingToRedo>
-        ensures* after { sem 𝓛 (follows_so the_row the_row self.entry.ghost_name none (λ _ _. ⊤)
-            (λ n. MatchResult result (λ s. WentOn self.old s.now n) (λ _. NoneAfter self.old n))) }
+        ensures* after { sem 𝓛 (Becomes self.entry (λ n. MatchResult result
+            (λ s. WentOn self.old s.now n) (λ _. NoneAfter self.old n))) }
     {
         if self.step_on() {
             Ok(self.last_step())
@@ -117,7 +117,7 @@ impl UndoLog {
         self.cursor < self.steps.len()
     }
 
-    // Goes back over a step, and whether there was one.
+    // Moves the cursor back over a step, and returns whether there was one.
     fn step_back(&mut self) -> bool
         ensures cases { MatchBool result (self.new.cursor + 1 ≡ self.old.cursor)
             (NoneBefore self.old self.new) }
@@ -132,7 +132,7 @@ impl UndoLog {
         true
     }
 
-    // Goes on over a step, and whether there was one.
+    // Moves the cursor over a step, and returns whether there was one.
     fn step_on(&mut self) -> bool
         ensures cases { MatchBool result (self.new.cursor ≡ self.old.cursor + 1)
             (NoneAfter self.old self.new) }

@@ -1,6 +1,6 @@
 // A step of the history.
 
-use skel_embed::MoveList;
+use moves::MoveList;
 
 /// What one command changed.
 #[derive(Debug, Drop)]

@@ -1,4 +1,4 @@
--- The answers of commands that change an embedding.
+-- The texts of the answers to commands that change an embedding.
 use Rattle.std.specs.Prelude.{ℕ, List, codes}
 
 -- `ok`: a change was made

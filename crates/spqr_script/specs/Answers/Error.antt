@@ -1,4 +1,4 @@
--- The answer of a refused command.
+-- The text of the answer to a command that is refused.
 use Rattle.std.specs.Prelude.{ℕ, List, ◌++◌, codes, decimal}
 use Rattle.spqr_script.specs.Text.{spaced_numbers, line_end}
 

@@ -1,4 +1,4 @@
--- The answer of `euler`.
+-- The text of the answer to `euler`.
 use Rattle.std.specs.Prelude.{ℕ, Bool, List, ◌++◌, codes, decimal, if◌then◌else◌}
 use Rattle.faces.specs.declared.numbers.Euler.{Euler}
 use Rattle.spqr_script.specs.Text.{line_end}

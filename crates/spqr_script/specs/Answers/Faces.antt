@@ -1,4 +1,4 @@
--- The answer of `faces`.
+-- The text of the answer to `faces`.
 use Rattle.std.specs.Prelude.{◌≡◌, ℕ, List, [], ◌∷◌, ◌++◌, length, slice_index, codes, decimal}
 use Rattle.multigraph.specs.Graph.{Multigraph}
 use Rattle.multigraph.specs.Part.{GraphPart}

@@ -1,4 +1,4 @@
--- The answer of `gml`.
+-- The text of the answer to `gml`.
 use Rattle.std.specs.Prelude.{ℕ, List, ◌++◌, length, codes, decimal}
 use Rattle.spqr_script.specs.Text.{line_end}
 

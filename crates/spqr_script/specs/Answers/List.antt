@@ -1,4 +1,4 @@
--- The lines round the members that `list` prints.
+-- The lines around the members that `list` prints.
 use Rattle.std.specs.Prelude.{ℕ, List, ◌++◌, codes, decimal}
 use Rattle.spqr_script.specs.Text.{line_end}
 

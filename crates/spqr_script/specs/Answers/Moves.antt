@@ -1,9 +1,9 @@
--- The answer of `convert`.
+-- The text of the answer to `convert`.
 use Rattle.std.specs.Prelude.{ℕ, ◌<◌, List, [], ◌∷◌, ◌++◌, length, map, slice_index, codes, decimal, All}
 use Rattle.multigraph.specs.Graph.{Multigraph, edge_count}
 use Rattle.multigraph.specs.Part.{GraphPart}
-use Rattle.skel_embed.specs.declared.moves.Move.{Move}
-use Rattle.skel_embed.specs.declared.moves.Move.TheVariants.{Flip, Permute}
+use Rattle.moves.specs.declared.values.Move.{Move}
+use Rattle.moves.specs.declared.values.Move.TheVariants.{Flip, Permute}
 use Rattle.spqr_script.specs.Text.{spaced_numbers, line_end}
 
 -- `flip K` or `permute K KEY ..`: a move of a node, its keys in the numbers of the whole graph

@@ -1,4 +1,4 @@
--- The answer of `rank`.
+-- The text of the answer to `rank`.
 use Rattle.std.specs.Prelude.{ℕ, List, ◌++◌, codes, decimal}
 use Rattle.spqr_script.specs.Text.{line_end}
 

@@ -1,4 +1,4 @@
--- The answer of `show`, which is also that of `list` for each member.
+-- The text of the answer to `show`, which is also that of `list` for each member.
 use Rattle.std.specs.Prelude.{ℕ, List, [], ◌∷◌, ◌++◌, map, slice_index, codes, decimal, ◌<◌, All}
 use Rattle.std.specs.List.{zip}
 use Rattle.multigraph.specs.Part.{GraphPart}
@@ -9,7 +9,7 @@ use Rattle.spqr_script.specs.Text.{spaced_numbers, line_end}
 abbrev pub IsIndexEntry : ℕ × List ℕ → Type 0
 IsIndexEntry entry = (entry.0 < index_limit) × All (λ e. e < index_limit) entry.1
 
--- `V: E ..`: a vertex and the edges round it
+-- `V: E ..`: a vertex and the edges around it
 abbrev pub entry_text : ℕ × List ℕ → List ℕ
 entry_text entry = decimal entry.0 ++ codes ":" ++ spaced_numbers entry.1
 

@@ -1,12 +1,12 @@
-// The answer of `euler`.
+// The text of the answer to `euler`.
 ghost use Rattle.std.specs.Prelude.{◌≡◌, IfOk};
 ghost use Rattle.spqr_script.specs.Answers.Euler.{plane_word, euler_text};
 
-use crate::text::{push_number, push_word};
+use decimals::{push_number, push_word};
 use faces::Euler;
 use std::alloc::{AllocError, Global};
 
-/// The line `euler V E F C plane`, or `euler V E F C not-plane`.
+/// The line `euler V E F C plane`, or `euler V E F C not-plane`. Fails only if memory runs out.
 pub fn euler_line(alloc: Global, e: &Euler) -> Result<Vec<u8>, AllocError>
     ensures { IfOk result (λ text. text.items ≡ euler_text e.now) }
 {
@@ -23,7 +23,7 @@ pub fn euler_line(alloc: Global, e: &Euler) -> Result<Vec<u8>, AllocError>
     Ok(out)
 }
 
-// The word that says whether a rotation system is plane, with the space before it.
+// The word for whether a rotation system is plane, with the space before it.
 fn plane_word(plane: bool) -> &'static [u8]
     ensures { result.now ≡ plane_word plane }
 {

@@ -1,14 +1,14 @@
-// The answer of `faces`.
+// The text of the answer to `faces`.
 ghost use Rattle.std.specs.Prelude.{◌≡◌, ◌<◌, ◌++◌, IfOk, OnOk, All};
 ghost use Rattle.multigraph.specs.Graph.{edge_count};
 ghost use Rattle.spqr_script.specs.Answers.Faces.{spaced_pairs, face_text, face_texts, faces_text, AreFaces};
 
-use crate::text::{push_number, push_word};
+use decimals::{push_number, push_word};
 use faces::Faces;
 use multigraph::Part;
 use std::alloc::{AllocError, Global};
 
-// Puts the pairs of a vertex and an edge, each as `V-E` with a space before it, behind a text.
+// Appends the pairs of a vertex and an edge, each as `V-E` with a space before it to a text.
 fn push_pairs(out: &mut Vec<u8>, part: &Part, pairs: &[(u32, u32)]) -> Result<(), AllocError>
     requires { All
         (λ pair. (pair.0 < part.now.graph.vertex_count) × (pair.1 < edge_count part.now.graph)) pairs.now }
@@ -23,7 +23,7 @@ fn push_pairs(out: &mut Vec<u8>, part: &Part, pairs: &[(u32, u32)]) -> Result<()
     Ok(())
 }
 
-// Puts the line of a face behind a text.
+// Appends the line of a face to a text.
 fn push_face(out: &mut Vec<u8>, part: &Part, pairs: &[(u32, u32)]) -> Result<(), AllocError>
     requires { All
         (λ pair. (pair.0 < part.now.graph.vertex_count) × (pair.1 < edge_count part.now.graph)) pairs.now }
@@ -34,7 +34,7 @@ fn push_face(out: &mut Vec<u8>, part: &Part, pairs: &[(u32, u32)]) -> Result<(),
     push_word(out, b"\n")
 }
 
-// Puts the lines of all faces behind a text.
+// Appends the lines of all faces to a text.
 fn push_faces(out: &mut Vec<u8>, part: &Part, f: &Faces) -> Result<(), AllocError>
     requires { AreFaces part.now.graph f.now }
     ensures { OnOk result (out.new.items ≡ out.old.items ++ face_texts part.now f.now) }
@@ -48,7 +48,7 @@ fn push_faces(out: &mut Vec<u8>, part: &Part, f: &Faces) -> Result<(), AllocErro
 }
 
 /// The line `faces B F` and a line `face V-E V-E ..` for each of the F faces of a rotation system of a block: the pairs of a vertex
-/// and an edge along it, in the numbers of the whole graph.
+/// and an edge along it, in the numbers of the whole graph. Fails only if memory runs out.
 pub fn faces_lines(alloc: Global, b: u32, part: &Part, f: &Faces) -> Result<Vec<u8>, AllocError>
     requires { AreFaces part.now.graph f.now }
     ensures { IfOk result (λ text. text.items ≡ faces_text part.now b f.now) }

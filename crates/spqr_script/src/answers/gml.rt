@@ -1,11 +1,11 @@
-// The answer of `gml`.
+// The text of the answer to `gml`.
 ghost use Rattle.std.specs.Prelude.{◌≡◌, IfOk};
 ghost use Rattle.spqr_script.specs.Answers.Gml.{document_text};
 
-use crate::text::{push_number, push_word};
+use decimals::{push_number, push_word};
 use std::alloc::{AllocError, Global};
 
-/// The line `gml T` and the T bytes given.
+/// The line `gml T` and the T bytes given. Fails only if memory runs out.
 pub fn gml_lines(alloc: Global, text: &[u8]) -> Result<Vec<u8>, AllocError>
     ensures { IfOk result (λ out. out.items ≡ document_text text.now) }
 {

@@ -1,11 +1,11 @@
-// The lines round the members that `list` prints.
+// The lines around the members that `list` prints.
 ghost use Rattle.std.specs.Prelude.{◌≡◌, IfOk};
 ghost use Rattle.spqr_script.specs.Answers.List.{list_text, more_text};
 
-use crate::text::{push_number, push_word};
+use decimals::{push_number, push_word};
 use std::alloc::{AllocError, Global};
 
-/// The line `list B T`: how many members of the block's list follow.
+/// The line `list B T`: how many members of the block's list follow. Fails only if memory runs out.
 pub fn list_line(alloc: Global, b: u32, t: u32) -> Result<Vec<u8>, AllocError>
     ensures { IfOk result (λ text. text.items ≡ list_text b t) }
 {
@@ -17,7 +17,7 @@ pub fn list_line(alloc: Global, b: u32, t: u32) -> Result<Vec<u8>, AllocError>
     Ok(out)
 }
 
-/// The line `more`: a member follows the last one printed.
+/// The line `more`: a member follows the last one printed. Fails only if memory runs out.
 pub fn more_line(alloc: Global) -> Result<Vec<u8>, AllocError>
     ensures { IfOk result (λ text. text.items ≡ more_text) }
 {

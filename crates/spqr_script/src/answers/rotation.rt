@@ -1,16 +1,16 @@
-// The answer of `show`, which is also that of `list` for each member.
+// The text of the answer to `show`, which is also that of `list` for each member.
 ghost use Rattle.std.specs.Prelude.{◌≡◌, ◌<◌, ◌++◌, map, slice_index, codes, IfOk, OnOk, All};
 ghost use Rattle.multigraph.specs.Graph.{edge_count};
 ghost use Rattle.rotations.specs.Rotation.{order_at, IsRotationSystem};
 ghost use Rattle.spqr_script.specs.Text.{spaced_numbers};
 ghost use Rattle.spqr_script.specs.Answers.Rotation.{entry_text, entries_text, outer_entries, rotation_text};
 
-use crate::text::{push_number, push_word};
+use decimals::{push_number, push_word};
 use multigraph::Part;
 use rotations::{RotIter, Rotation};
 use std::alloc::{AllocError, Global};
 
-// Puts the edges of a walk round a vertex, each with a space before it, behind a text.
+// Appends the edges of a walk around a vertex, each with a space before it to a text.
 fn push_round(out: &mut Vec<u8>, part: &Part, mut round: RotIter<'_>) -> Result<(), AllocError>
     requires { All (λ e. e < edge_count part.now.graph) round }
     ensures { OnOk result
@@ -24,7 +24,7 @@ fn push_round(out: &mut Vec<u8>, part: &Part, mut round: RotIter<'_>) -> Result<
     Ok(())
 }
 
-// Puts the entry of a vertex behind a text.
+// Appends the entry of a vertex to a text.
 fn push_entry(out: &mut Vec<u8>, part: &Part, r: &Rotation, v: u32) -> Result<(), AllocError>
     requires system { IsRotationSystem part.now.graph r.now }
     requires vertex { v < part.now.graph.vertex_count }
@@ -37,7 +37,7 @@ fn push_entry(out: &mut Vec<u8>, part: &Part, r: &Rotation, v: u32) -> Result<()
     push_round(out, part, r.list(v))
 }
 
-// Puts the entries of all vertices behind a text, a space before the first and `; ` before each other.
+// Appends the entries of all vertices to a text, a space before the first and `; ` before each other.
 fn push_entries(out: &mut Vec<u8>, part: &Part, r: &Rotation) -> Result<(), AllocError>
     requires { IsRotationSystem part.now.graph r.now }
     ensures { OnOk result
@@ -54,8 +54,9 @@ fn push_entries(out: &mut Vec<u8>, part: &Part, r: &Rotation) -> Result<(), Allo
     Ok(())
 }
 
-/// Puts the line `rotation B | V: E ..; V: E ..` behind a text: a rotation system of a block, its vertices rising, each list from
-/// its least edge on, in the numbers of the whole graph. After want of memory the text may end in a part of the line.
+/// Appends the line `rotation B | V: E ..; V: E ..` to a text: a rotation system of a block, its vertices increasing, each list
+/// from its least edge on, in the numbers of the whole graph. Fails only if memory runs out; the text may then end in a part of
+/// the line.
 pub fn push_rotation_line(
     out: &mut Vec<u8>,
     b: u32,
@@ -72,8 +73,8 @@ pub fn push_rotation_line(
     push_word(out, b"\n")
 }
 
-/// The line `rotation B | V: E ..; V: E ..`: a rotation system of a block, its vertices rising, each list from its least edge on,
-/// in the numbers of the whole graph.
+/// The line `rotation B | V: E ..; V: E ..`: a rotation system of a block, its vertices increasing, each list from its least edge
+/// on, in the numbers of the whole graph. Fails only if memory runs out.
 pub fn rotation_line(
     alloc: Global,
     b: u32,

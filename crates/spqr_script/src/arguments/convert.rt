@@ -29,7 +29,7 @@ fn to_rotation(alloc: Global, b: u32, text: &[u8]) -> Result<Option<Command>, Al
     }
 }
 
-// The conversion of a block that the text tells.
+// The conversion of a block that the text spells.
 fn read_target(alloc: Global, b: u32, text: &[u8]) -> Result<Option<Command>, AllocError>
     ensures { IfOk result (λ command. command ≡ convert_of b (tokens_of text.now)) }
 {

@@ -10,7 +10,7 @@ use crate::word::Word;
 // The most members that one `list` prints.
 const MAX_LISTED: u32 = 10_000;
 
-// Whether so many members can be listed at once.
+// Whether this many members can be listed at once.
 fn can_list(n: u32) -> bool
     ensures { result ≡ can_list n }
 {

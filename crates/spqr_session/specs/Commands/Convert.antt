@@ -1,8 +1,8 @@
 -- `convert B rank R` and `convert B to ROT`: the moves that lead to a member of a block's list, printed and made.
 use Rattle.std.specs.Prelude.{◌≡◌, ℕ, List, map}
 use Rattle.skeletons.specs.Moves as theory
-use Rattle.skel_embed.specs.declared.moves.Move.{Move}
-use Rattle.skel_embed.specs.declared.moves.Move.TheVariants.{Flip, Permute}
+use Rattle.moves.specs.declared.values.Move.{Move}
+use Rattle.moves.specs.declared.values.Move.TheVariants.{Flip, Permute}
 use Rattle.spqr_script.specs.Answers.Moves.{moves_text}
 use Rattle.spqr_session.specs.Trees.{BlockTree}
 use Rattle.spqr_session.specs.State.{Embedding, State}

@@ -16,8 +16,8 @@ loop-k-preserved c =
 
 pub returns-clause-lead : goal.returns-clause-lead
 returns-clause-lead c =
-    let p = c.tree-here.ensures.state in
-    let q : IsPlaneSystem c.args.p.now.graph c.args.q.now.rotation = subst (λ (z : Multigraph). IsPlaneSystem z c.args.q.now.rotation) c.requires.graph c.tree-there.ensures.state.plane in
+    let p = c.belongs.ensures in
+    let q : IsPlaneSystem c.args.p.now.graph c.args.q.now.rotation = subst (λ (z : Multigraph). IsPlaneSystem z c.args.q.now.rotation) c.requires.graph c.belongs-2.ensures.plane in
     let e : c.loop-k.k ≡ length c.args.p.now.tree = omega (arith, c.loop-k-test.false, c.loop-k.auto.k-end, c.node_count-k-end.ensures, ap length c.tree.ensures.value) in
     let same : moves_between c.args.p.now.tree c.args.p.now.rotation c.args.q.now.rotation ≡ map as_move c.loop-k.list.items =
     sym (c.loop-k.invariant ∙ ap (moves_below c.args.p.now.tree c.args.p.now.rotation c.args.q.now.rotation) e) in

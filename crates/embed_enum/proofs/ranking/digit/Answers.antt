@@ -7,8 +7,8 @@ use Rattle.embed_enum.proofs.ranking.digit.Goals as goal
 
 pub number_of-requires : goal.number_of-requires
 number_of-requires c =
-    let e = open-digit c.args.p.now c.tree-state.ensures.state c.args.k P (sym (c.in-P.ensures {u = tt} ∙ ap (λ (z : List Node). (node_at z c.args.k).kind) c.tree.ensures.value)) (sym c.locked.ensures ∙ c.if-locked.false) in
-    omega (arith, e, ap factorial_number c.keys.ensures, state-digit c.args.p.now c.tree-state.ensures.state c.args.k c.requires.node, c.requires.fits)
+    let e = open-digit c.args.p.now c.belongs.ensures c.args.k P (sym (c.in-P.ensures {u = tt} ∙ ap (λ (z : List Node). (node_at z c.args.k).kind) c.tree.ensures.value)) (sym c.locked.ensures ∙ c.if-locked.false) in
+    omega (arith, e, ap factorial_number c.keys.ensures, state-digit c.args.p.now c.belongs.ensures c.args.k c.requires.node, c.requires.fits)
 
 pub is_before_mirror-requires : goal.is_before_mirror-requires
-is_before_mirror-requires c = let l = rigid-long c.args.p.now c.tree-state.ensures.state c.args.k c.requires.node (sym (c.in-R.ensures {u = tt} ∙ ap (λ (z : List Node). (node_at z c.args.k).kind) c.tree.ensures.value)) in omega (arith, l, ap length c.keys-in-R.ensures)
+is_before_mirror-requires c = let l = rigid-long c.args.p.now c.belongs.ensures c.args.k c.requires.node (sym (c.in-R.ensures {u = tt} ∙ ap (λ (z : List Node). (node_at z c.args.k).kind) c.tree.ensures.value)) in omega (arith, l, ap length c.keys-in-R.ensures)

@@ -14,7 +14,7 @@ loop-k-init c =
 pub set_digit-left-requires-clause-fits : goal.set_digit-left-requires-clause-fits
 set_digit-left-requires-clause-fits c =
     let i = c.loop-k.invariant in
-    let f = radix-fits c.args.p.now c.tree-state.ensures.state (c.loop-k.k - 1) (omega (arith, i.all, c.loop-k-test.true)) in
+    let f = radix-fits c.args.p.now c.belongs.ensures (c.loop-k.k - 1) (omega (arith, i.all, c.loop-k-test.true)) in
     let e : radix_at c.loop-k.p.tree (lock_at c.loop-k.p.locks) (c.loop-k.k - 1) ≡ radix_at c.args.p.now.tree (lock_at c.args.p.now.locks) (c.loop-k.k - 1) =
     ap₂ (λ (t : List Node) z. radix_at t (lock_at z) (c.loop-k.k - 1)) i.rest.tree i.rest.locks in
     omega (arith, e, f, c.requires.fits)

@@ -1,11 +1,9 @@
-use Rattle.skel_embed.proofs.KeptLists.{stands-from, passed-none, all-passed}
+use Rattle.std.proofs.Common.{sym}
+use Rattle.skel_embed.proofs.KeptLists.{position-stands, position-found}
 use Rattle.skel_embed.proofs.kept.place_of.Goals as goal
 
-pub returns-then-keys-i : goal.returns-then-keys-i
-returns-then-keys-i c = stands-from c.args.keys.now c.loop-i.i c.args.key c.loop-i-test.true c.loop-i.invariant c.if-keys-i.true
+pub unreachable-requires : goal.unreachable-requires
+unreachable-requires c = position-found c.args.keys.now c.args.key c.requires (sym c.position.ensures)
 
-pub loop-i-preserved : goal.loop-i-preserved
-loop-i-preserved c = passed-none c.args.keys.now c.loop-i.i c.args.key c.loop-i-test.true c.loop-i.invariant c.if-keys-i.false
-
-pub returns : goal.returns
-returns c = absurd (all-passed c.args.keys.now c.loop-i.i c.args.key c.loop-i-test.false c.loop-i.invariant c.requires)
+pub returns-in-Some : goal.returns-in-Some
+returns-in-Some c = position-stands c.args.keys.now c.args.key c.in-Some.place c.requires (sym c.position.ensures)

@@ -1,6 +1,6 @@
 use Rattle.std.proofs.Common.{◌≡◌, List, All, sym, ap₂, ◌∙◌, subst}
 use Rattle.multigraph.specs.Part.{GraphPart}
-use Rattle.skel_embed.specs.declared.moves.Move.{Move}
+use Rattle.moves.specs.declared.values.Move.{Move}
 use Rattle.spqr_script.specs.Answers.Moves.{moves_text, IsMoveOf}
 use Rattle.spqr_session.specs.Planned.{TellsMoves}
 use Rattle.spqr_session.proofs.Steps.{text-map}

@@ -1,0 +1,2 @@
+-- The lemmas on decimal digits.
+pub mod Digits

@@ -1,0 +1,3 @@
+-- What decimal digits spell, and numbers as they are written.
+pub mod Number
+pub mod Text
