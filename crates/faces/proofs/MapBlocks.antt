@@ -135,7 +135,7 @@ module _ (g : Multigraph) (r : List (List ℕ)) (ok : IsGraph g) (s : IsRotation
       (linked-cycle h hs c f n j)
 
   -- and those by edges of one block
-  linked-block : (q : ℕ) → p < dart_count g → q < dart_count g → tail g p ≡ tail g q → SameBlock g (p / 2) (q / 2) → linked p q ≡ true
+  pub linked-block : (q : ℕ) → p < dart_count g → q < dart_count g → tail g p ≡ tail g q → SameBlock g (p / 2) (q / 2) → linked p q ≡ true
   linked-block q l k e b = subst (λ z. linked z q ≡ true) (dart_from-of_dart g p ok l) (subst (λ z. linked (dart_from g (tail g p) (p / 2)) z ≡ true) there (by_edges b))
     where
       there : dart_from g (tail g p) (q / 2) ≡ q
