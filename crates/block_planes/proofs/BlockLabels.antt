@@ -58,7 +58,7 @@ module _ (g : Multigraph) (r blocks : List (List ℕ)) (part : ℕ → GraphPart
   label-twin : (d : ℕ) → d < 2 * edge_count g → label (twin d) ≡ label d
   label-twin d l = ap (λ e. least (length blocks) (λ b. is_member e (block_at blocks b))) (twin-edge d)
 
-  -- at each vertex the edges of a block are told from the others by what is connected with them without the vertex
+  -- at each vertex the edges of a block are distinguished from the others by what is connected with them without the vertex
   label-separated : (u : ℕ) → u < 2 * edge_count g → (k : ℕ) → IsSeparated (edge_count g) (dart_after g r) label u k
   label-separated u l k = record {
     side = λ d. some (dart_count g) (reached d);

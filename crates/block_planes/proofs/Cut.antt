@@ -62,7 +62,7 @@ pub record TwoSides (m : ℕ) (f : ℕ → ℕ) (x : ℕ) : Type 0 where
   pub fails : side x ≡ false
   pub together : IsPlane m (restricted (2 * m) side f) → IsPlane m (restricted (2 * m) (λ d. not (side d)) f) → IsPlane m f
 
--- a map whose labels are separated at the vertex of x, where the label changes behind x, and no labels cross
+-- a map whose labels are separated at the vertex of x, where the label changes after x, and no labels cross
 module _ (m : ℕ) (f g : ℕ → ℕ) (b : IsMap m f g) (lab : ℕ → ℕ) (x : ℕ) (l : x < 2 * m) (differ : lab (f x) ≢ lab x) (separated : (k : ℕ) → IsSeparated m f lab x k)
     (none : (p q v w : ℕ) → FollowsAround (ring (2 * m) f (f x)) (p ∷ q ∷ v ∷ w ∷ []) → lab p ≡ lab v → lab q ≡ lab w → lab p ≡ lab q) where
   s : Stretch m f lab x
@@ -118,7 +118,7 @@ module _ (m : ℕ) (f g : ℕ → ℕ) (b : IsMap m f g) (lab : ℕ → ℕ) (x 
   x-off = on-member x ∙ false_from_ne_true (is_member x first) (λ t. both_ways (is_member x second)
       (distinct-append_apart first second (ap (is_distinct) (sym s.is) ∙ ring-distinct (2 * m) f g b (f x) (b.forth x l)) x t) x-second)
 
-  -- what is on the side of the stretch: it is told from the other labels of the vertex together with a label of the stretch
+  -- the side of the stretch: what is distinguished from the other labels of the vertex together with some label of the stretch
   abbrev side : ℕ → Bool
   side y = some (2 * m) (λ z. on z && (separated (lab z)).side y)
 

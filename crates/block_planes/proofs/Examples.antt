@@ -20,7 +20,7 @@ triangles = record {
   ends = (0, 1) ∷ (1, 2) ∷ (0, 2) ∷ (0, 3) ∷ (3, 4) ∷ (0, 4) ∷ [];
 }
 
--- around vertex 0 the second triangle stands in one corner of the first
+-- around vertex 0 the second triangle lies in one corner of the first
 abbrev beside : List (List ℕ)
 beside = (0 ∷ 2 ∷ 3 ∷ 5 ∷ []) ∷ (0 ∷ 1 ∷ []) ∷ (1 ∷ 2 ∷ []) ∷ (3 ∷ 4 ∷ []) ∷ (4 ∷ 5 ∷ []) ∷ []
 
@@ -42,7 +42,7 @@ within_plane = refl
 crossing_faces : face_count triangles crossing ≡ 1
 crossing_faces = refl
 
--- a triangle on its own is plane, whatever stands between its edges
+-- a triangle on its own is plane, whatever lies between its edges
 abbrev triangle : Multigraph
 triangle = record { vertex_count = 3; ends = (0, 1) ∷ (1, 2) ∷ (0, 2) ∷ [] }
 

@@ -28,7 +28,7 @@ edge_of d = d / 2
 abbrev pub darts_around : Multigraph → List (List ℕ) → ℕ → List ℕ
 darts_around g r w = map (dart_from g w) (order_at r w)
 
--- the ring of a dart goes through them
+-- the ring of a dart is this list, from the dart on
 ring-darts : (g : Multigraph) (r : List (List ℕ)) → IsGraph g → IsRotationSystem g r → (d : ℕ) → d < dart_count g → ring (dart_count g) (dart_after g r) d ≡ turned (map (dart_from g (tail g d)) (order_at r (tail g d))) d
 ring-darts g r ok s d l = ring-from_list (dart_count g) (dart_after g r) (dart_before g r) (map-permutes g r ok s) (darts_around g r w)
     (distinct-map (dart_from g w) (order_at r w) (λ y z _ _. dart_from-once g w y z) (order-distinct g r w s (tail-in g d ok l)))
@@ -44,7 +44,7 @@ ring-darts g r ok s d l = ring-from_list (dart_count g) (dart_after g r) (dart_b
         (successor-map (dart_from g w) (order_at r w) y.0 (λ x _. dart_from-once g w x y.0)
         ∙ sym (after-dart_from g r w y.0 (member-end g w y.0 (member-incident g r w y.0 s (tail-in g d ok l) y.1))))
 
--- darts met in this order around a vertex: so are their edges
+-- darts follow each other in this order around a vertex: so do their edges
 pub darts-follow : (g : Multigraph) (r : List (List ℕ)) → IsGraph g → IsRotationSystem g r → (d : ℕ) (k : List ℕ) → d < dart_count g → FollowsAround (ring (dart_count g) (dart_after g r) d) k → FollowsAround (order_at r (tail g d)) (map (λ z. z / 2) k)
 darts-follow g r ok s d k l o = subst (λ v. IsTurn v (map edge_of k)) is (IsTurn-map edge_of (filter (λ z. is_member z k) M) k around)
   where
@@ -70,7 +70,7 @@ darts-follow g r ok s d k l o = subst (λ v. IsTurn v (map edge_of k)) is (IsTur
         ∙ map-back edge_of (dart_from g w) (filter (λ z. is_member (dart_from g w z) k) (order_at r w)) (λ z m. dart_from-edge g w z)
         ∙ filter-ext (λ z. is_member (dart_from g w z) k) (λ z. is_member z (map edge_of k)) (order_at r w) same
 
--- edges met in this order around a vertex: so are their darts from it
+-- edges follow each other in this order around a vertex: so do their darts from it
 pub edges-follow : (g : Multigraph) (r : List (List ℕ)) → IsGraph g → IsRotationSystem g r → (d w : ℕ) (k : List ℕ) → d < dart_count g → tail g d ≡ w → FollowsAround (order_at r w) k → FollowsAround (ring (dart_count g) (dart_after g r) d) (map (dart_from g w) k)
 edges-follow g r ok s d w k l q o = subst (λ v. FollowsAround v (map D k)) (sym ring-is) (around-turn M (turned M d) (map D k) (turned-turn M d) around)
   where

@@ -9,7 +9,7 @@ use Rattle.permutations.proofs.Restriction.{restricted-alone, restricted-next, r
 use Rattle.dart_maps.specs.Map.{twin, IsMap, same_vertex}
 use Rattle.dart_maps.proofs.Noncrossing.{restricted-vertex, restricted-more}
 
--- a test that tells the label k from all others at the vertex of u: at each other vertex it has one value, and along each edge
+-- a test that distinguishes the label k at the vertex of u: it has one value at each other vertex, and one along each edge
 pub record IsSeparated (m : ℕ) (f lab : ℕ → ℕ) (u k : ℕ) : Type 0 where
   pub side : ℕ → Bool
   pub edges : (d : ℕ) → d < 2 * m → side (twin d) ≡ side d
@@ -60,7 +60,7 @@ module _ (m : ℕ) (f g : ℕ → ℕ) (b : IsMap m f g) (stay : ℕ → Bool) w
   pub left-vertex : (c d : ℕ) → same_vertex m (restricted (2 * m) stay f) c d ≡ true → stay d ≡ stay c
   left-vertex c d t = sym (orbit-test (2 * m) left stay left-stays c d t)
 
-  -- the edges that stay, restricted once more
+  -- the edges that stay, restricted again
   pub left-twice : (keep : ℕ → Bool) (d : ℕ) → d < 2 * m → restricted (2 * m) keep (restricted (2 * m) stay f) d ≡ restricted (2 * m) (λ z. stay z && keep z) f d
   left-twice keep d l = both ∙ restricted-twice (2 * m) stay (λ z. stay z && keep z) f g b (λ z t. (and_parts (stay z) (keep z) t).0) d l
     where

@@ -51,7 +51,7 @@ left-ring n stay f g b x l t = ring-ext n (restricted n stay f) (restricted n st
     (λ z k. restricted-taken-out n stay f g b z k) x l
     ∙ ring-taken_out n stay f g b x l t
 
--- what is met in this order among some members is met so among all
+-- what follows in this order around some of the members does so around all
 left-around : (stay : ℕ → Bool) (l k : List ℕ) → FollowsAround (filter stay l) k → FollowsAround l k
 left-around stay l k h = subst (λ v. IsTurn v k) (filter-filter (λ x. is_member x k) stay l ∙ filter-ext (λ x. stay x && is_member x k) (λ x. is_member x k) l same) h
   where
