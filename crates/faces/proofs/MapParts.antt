@@ -145,7 +145,7 @@ module _ (part g : Multigraph) (edge vertex : ℕ → ℕ) (outer inner : List (
       here = ap (renumbered edge) (sym (dart_from-of_dart part d part_ok l)) ∙ into-dart_from (tail part d) (d / 2) at (dart-edge part d l)
 
   -- the map of the part is the restricted map under other numbers
-  part-renumbering : IsRenumbering (edge_count part) (dart_after part inner) (edge_count g) (restricted (dart_count g) live (dart_after g outer)) live (renumbered edge) (renumbered (place part edge))
+  pub part-renumbering : IsRenumbering (edge_count part) (dart_after part inner) (edge_count g) (restricted (dart_count g) live (dart_after g outer)) live (renumbered edge) (renumbered (place part edge))
   part-renumbering = record {
     whole_edges = λ d l. ap (is_kept part edge) (twin-edge d);
     others_alone = λ d l h. restricted-alone (dart_count g) live (dart_after g outer) d h;

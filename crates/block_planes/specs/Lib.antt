@@ -1,0 +1,3 @@
+-- Blocks that cross, what is plane on a part, and the law.
+pub mod Crossing
+pub mod Laws
