@@ -11,7 +11,7 @@ import re
 from typing import Callable, Optional
 
 from explain_graph import OTHER_FORMATS
-from gml_text import KEY, MOST_AROUND, NUMBER, Pair, scan
+from gml_text import KEY, MOST_AROUND, NUMBER, Pair, scan, words_after_strings
 
 Say = Callable[[Optional[int], str], None]
 WORD = re.compile(rb'[^ \t-\r\[\]"#]+')
@@ -57,10 +57,10 @@ def _recoded(data: bytes, name: str, say: Say) -> bytes:
 
 
 def read_pairs(data: bytes, say: Say) -> Pair:
-    """The pairs of the file, as the list of the document. What is a document is read as it is, but where a letter or quote directly
-    follows a string: there a quote was meant to be inside."""
+    """The pairs of the file, as the list of the document. What is a document is read as it is, but where a word directly follows a
+    string: there a quote was meant to be inside."""
     found = scan(data)
-    if found.is_whole and found.fault is None and not re.search(rb'[^ \t-\r\[]"[^"\r\n]*"[A-Za-z"]', data):
+    if found.is_whole and not words_after_strings(data):
         return found.top
     start = _prose_before(data, say)
     top = _Reader(data, start, say).document()
@@ -151,6 +151,8 @@ class _Reader:
         """Words up to the next bracket, quote, comment or line end: pairs of a key and a number, and at last a key or a text."""
         found = SEGMENT.match(self.data, self.place)
         text = found.group().replace(b"\xc2\xa0", b"  ")
+        if text != found.group():
+            self.say(self.place, "a no-break space is taken for a space")
         words = [(self.place + word.start(), word.group()) for word in WORD.finditer(text)]
         self.place = found.end()
         while words:
@@ -186,6 +188,10 @@ class _Reader:
         return words
 
     def joined(self, words: list[tuple[int, bytes]]) -> tuple[int, bytes]:
+        """Several words as one key."""
+        if len(words) > 1:
+            text = b" ".join(word for _, word in words).decode("utf-8", "replace")
+            self.say(words[0][0], f"the words `{text}` are taken for one key")
         return words[0][0], b"_".join(word for _, word in words)
 
     def number(self, word: bytes) -> Optional[bytes]:

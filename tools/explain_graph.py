@@ -5,7 +5,7 @@ import re
 from dataclasses import dataclass
 from typing import Optional
 
-from gml_text import KEY, MOST_AROUND, NUMBER, Pair, Scan, graph_lists, scan
+from gml_text import KEY, MOST_AROUND, NUMBER, Pair, Scan, graph_lists, scan, words_after_strings
 
 CLEAN = "tools/clean FILE OUT does this"
 
@@ -89,6 +89,10 @@ def _value_fault(data: bytes, at: int, found: Scan) -> Finding:
 
 
 def _open_string(data: bytes, quote: int, name: str) -> Finding:
+    for line in re.finditer(rb"[^\r\n]+", data):
+        if line.group().count(b'"') % 2:
+            return Finding(line.start() + line.group().rindex(b'"'), "an odd number of quotes on this line: a string is not closed, or has a quote inside it",
+                           f"close it, or write &quot; for a quote inside a string; {CLEAN}")
     return Finding(quote, f"the string that begins here, the value of `{name}`, is not closed",
                    f"is its second quote missing, or is there a quote inside an earlier string? write &quot; there; {CLEAN}")
 
@@ -153,6 +157,12 @@ def _follows_string(data: bytes, found: Scan) -> bool:
     return bool(after.strip(b" \t\r\n]#")) or line.count(b'"') > 2 and found.key is not None
 
 
+def suspicions(data: bytes) -> list[Finding]:
+    """What an accepted file may not mean as it is read."""
+    return [Finding(at, "a word directly follows a string and is read as a key", f"was a quote meant to be inside the string? write &quot; for it; {CLEAN}")
+            for at in words_after_strings(data)]
+
+
 GRAPH_HINT = "the file needs exactly one pair `graph [ .. ]` that is not inside another list, in lower case"
 
 
@@ -189,7 +199,7 @@ def graph_fault(data: bytes, rule: str, number: int) -> list[Finding]:
         return no_graph(data)
     graphs = graph_lists(scan(data).top)
     if rule == "more":
-        return [Finding(pair.at, f"graph list {place} of the file", f"{GRAPH_HINT}; leave the others out, or {CLEAN}")
+        return [Finding(pair.at, f"graph list {place} of the file", f"{GRAPH_HINT}; tools/clean FILE OUT keeps one")
                 for place, pair in enumerate(graphs, 1)]
     if rule in ("vertices", "edges"):
         most = {"vertices": 20_000, "edges": 50_000}[rule]

@@ -13,7 +13,7 @@ FORMS = {
     "first": "first B", "next": "next B", "list": "list B N", "lock": "lock B K", "goto": "goto B R", "convert": "convert B rank R, or convert B to ROT",
     "take": "take B ROT", "undo": "undo", "redo": "redo", "gml": "gml", "count": "count B", "rank": "rank B", "unlock": "unlock B K",
 }
-ARGUMENTS = {"B": ("a block", 2 ** 32), "K": ("a node", 2 ** 32), "N": ("how many members", 10_001), "R": ("a rank", 2 ** 128)}
+ARGUMENTS = {"B": ("a block", 2 ** 32), "K": ("a node", 2 ** 32), "N": ("the number of members", 10_001), "R": ("a rank", 2 ** 128)}
 CODES = {
     1: "this block does not exist: the lines `block B:` of the head have the blocks",
     2: "this node does not exist: the lines `node K ..` after the block's line have its nodes",

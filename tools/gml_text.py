@@ -96,6 +96,16 @@ def _add(found: Scan, kind: str, text: bytes, place: int) -> None:
             found.open.append(pair)
 
 
+def words_after_strings(data: bytes) -> list[int]:
+    """Where a word directly follows a string, without a gap. GML allows it, but mostly a quote was meant to be inside a string."""
+    places, end_of_string = [], -1
+    for token in TOKEN.finditer(data):
+        if token.lastgroup == "word" and token.start() == end_of_string:
+            places.append(token.start())
+        end_of_string = token.end() if token.lastgroup == "string" else -1
+    return places
+
+
 def graph_lists(top: Pair) -> list[Pair]:
     """The lists `graph` of a document."""
     return top.lists(b"graph")

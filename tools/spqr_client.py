@@ -16,6 +16,7 @@ A rotation system (`Lists`) has of each vertex its edges counterclockwise, with 
 directed graph are two parallel edges."""
 from __future__ import annotations
 
+import re
 from dataclasses import dataclass
 from typing import Any, Hashable, Iterable, Optional, Sequence, Union
 
@@ -29,7 +30,7 @@ from spqr_report import (Answer, Answered, Block, Certificate, Command, Count, D
 __all__ = ["Answer", "Answered", "Block", "Certificate", "Command", "Count", "Document", "End", "Ends", "Error", "Euler", "Faces",
            "Item", "Listed", "Lists", "Move", "Moves", "Named", "Node", "NotPlanar", "Ok", "Path", "ProgramError", "Ran", "Rank",
            "Refused", "Report", "ReportError", "Rotation", "block_cut_tree", "block_graph", "commands_of", "drop_vertex", "embed",
-           "gml_of", "lists_of", "lists_of_text", "planar_embedding", "program_path", "read_report", "run", "run_bytes", "run_files",
+           "face_with", "gml_of", "gml_of_ends", "lists_of", "lists_of_text", "planar_embedding", "program_path", "read_report", "run", "run_bytes", "run_files",
            "run_graph", "skeleton", "text_of_lists", "tree_of", "whole_graph", "whole_lists"]
 
 
@@ -75,13 +76,20 @@ def gml_of(graph: nx.Graph) -> bytes:
     return "\n".join([*lines, "]", ""]).encode("ascii")
 
 
+def gml_of_ends(vertices: int, ends: Ends) -> bytes:
+    """A graph file with so many vertices and with these edges, which are numbered from 0 without gaps."""
+    nodes = [f"  node [ id {vertex} ]\n" for vertex in range(vertices)]
+    edges = [f"  edge [ source {low} target {high} ]\n" for _, (low, high) in sorted(ends.items())]
+    return "".join(["graph [\n", *nodes, *edges, "]\n"]).encode("ascii")
+
+
 def _edges(graph: nx.Graph) -> tuple[tuple[Any, ...], ...]:
     return tuple(graph.edges(keys=True)) if graph.is_multigraph() else tuple(graph.edges())
 
 
 def _escaped(text: str) -> str:
-    quoted = text.replace("&", "&amp;").replace('"', "&quot;")
-    return quoted.encode("ascii", "xmlcharrefreplace").decode("ascii")
+    """A text as networkx writes it in GML: `&`, quotes, and what is not a printable character of ASCII as entities."""
+    return re.sub('[^ -~]|[&"]', lambda found: {"&": "&amp;", '"': "&quot;"}.get(found.group(), f"&#{ord(found.group())};"), text)
 
 
 def block_cut_tree(report: Report) -> nx.Graph:
@@ -162,6 +170,26 @@ def embed(graph: Union[bytes, nx.Graph], program: Optional[str] = None) -> tuple
             raise NotPlanar(block)
     report = run(data, "".join(f"show {block.number}\n" for block in head.blocks), program)
     return report, whole_lists(report)
+
+
+def face_with(report: Report, block: int, vertices: Iterable[int], program: Optional[str] = None) -> Lists:
+    """A plane rotation system of a block in which all these vertices of the block are on one face.
+
+    A new vertex, with the next number, is joined to them by edges with the next numbers; in a plane rotation system of the
+    larger graph it lies in a face of the block. Fails with NotPlanar where none exists: then the certificate, in the numbers of
+    the larger graph, says why. Fails with ValueError where a vertex is not one of the block."""
+    corners = sorted(set(vertices))
+    if not set(corners) <= set(report.blocks[block].vertices()):
+        raise ValueError(f"not all of the vertices {corners} are vertices of block {block}")
+    new = len(report.ids)
+    ends = {**report.ends(), **{report.edge_count + place: (vertex, new) for place, vertex in enumerate(corners)}}
+    data = gml_of_ends(new + 1, ends)
+    edge = report.blocks[block].edges[0]
+    larger = next(one for one in run(data, b"", program).blocks if edge in one.edges)
+    if not larger.is_planar:
+        raise NotPlanar(larger)
+    shown = run(data, f"show {larger.number}", program).shown()[larger.number]
+    return drop_vertex(shown, new, ends) if len(corners) > 1 else shown
 
 
 def planar_embedding(lists: Lists, ends: Ends, names: Optional[Sequence[Hashable]] = None, subdivide: bool = False) -> nx.PlanarEmbedding:
