@@ -31,10 +31,24 @@ class Layout:
 
 
 def layout(lists: Lists, ends: Ends) -> Layout:
-    """A straight-line drawing by networkx of this plane rotation system, in which the lists are counterclockwise."""
-    places = nx.combinatorial_embedding_to_pos(planar_embedding(lists, ends, subdivide=True))
-    vertices = {vertex: places[vertex] for vertex in lists}
-    return Layout(vertices, {name[1]: place for name, place in places.items() if name not in vertices})
+    """A straight-line drawing by networkx of this plane rotation system, in which the lists are counterclockwise: one component
+    beside the other."""
+    graph = nx.Graph()
+    graph.add_nodes_from(lists)
+    graph.add_edges_from(ends.values())
+    drawn = Layout({}, {})
+    left = 0
+    for component in nx.connected_components(graph):
+        own = {edge: pair for edge, pair in ends.items() if pair[0] in component}
+        places = nx.combinatorial_embedding_to_pos(planar_embedding({vertex: lists[vertex] for vertex in component}, own, subdivide=True))
+        for name, (x, y) in places.items():
+            place = (int(x) + left, int(y))
+            if isinstance(name, tuple):
+                drawn.bends[name[1]] = place
+            else:
+                drawn.vertices[name] = place
+        left = 2 + max(x for x, _ in [*drawn.vertices.values(), *drawn.bends.values()])
+    return drawn
 
 
 def layout_of_points(text: str, ends: Ends) -> Layout:
@@ -126,7 +140,7 @@ class _Frame:
 
     def place(self, point: tuple) -> tuple[str, str]:
         x, y = (point[0] - self.left) * UNIT[0] + MARGIN, (self.top - point[1]) * UNIT[1] + MARGIN
-        return f"{float(x):g}" if x % 1 else str(int(x)), f"{float(y):g}" if y % 1 else str(int(y))
+        return tuple(str(float(one)) if one % 1 else str(int(one)) for one in (x, y))
 
     def head(self) -> str:
         shown = min(self.width, MOST_WIDE)

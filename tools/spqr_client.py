@@ -206,6 +206,7 @@ def planar_embedding(lists: Lists, ends: Ends, names: Optional[Sequence[Hashable
     for edge in bent:
         clockwise["edge", edge] = [name(vertex) for vertex in ends[edge]]
     embedding = nx.PlanarEmbedding()
+    embedding.add_nodes_from(clockwise)     # set_data adds only those with edges
     embedding.set_data(clockwise)
     return embedding
 

@@ -68,7 +68,7 @@ def glued(draw: random.Random) -> nx.MultiGraph:
     whole = nx.MultiGraph()
     for _ in range(draw.randint(2, 4)):
         part = nx.MultiGraph(draw.choice([triangulation, series_parallel, subdivided, lambda _: nx.path_graph(2)])(draw))
-        names = {vertex: len(whole) + place for place, vertex in enumerate(part.nodes)}
+        names = dict(zip(part.nodes, range(1 + max(whole.nodes, default=-1), 1000)))
         if len(whole) and draw.random() < 0.8:
             names[draw.choice(list(part.nodes))] = draw.choice(list(whole.nodes))
         whole.add_nodes_from(names.values())

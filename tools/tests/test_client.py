@@ -143,7 +143,9 @@ class OnGraphs(unittest.TestCase):
             whole, ends = spqr.whole_lists(named.report), named.report.ends()
             for vertex, edges in whole.items():
                 self.assertEqual(sorted(edges), sorted(edge for edge, pair in ends.items() if vertex in pair))
-            spqr.planar_embedding(whole, ends, named.vertices, subdivide=True).check_structure()
+            embedding = spqr.planar_embedding(whole, ends, named.vertices, subdivide=True)
+            embedding.check_structure()
+            self.assertEqual(set(embedding.nodes) - {("edge", edge) for edge in ends}, set(graph.nodes))
             euler = spqr.run_graph(graph, f"euler {spqr.text_of_lists(whole)}").report.answers[0]
             self.assertTrue(euler.is_plane)
             self.assertEqual(euler.components, nx.number_connected_components(graph))
