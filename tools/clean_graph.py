@@ -24,6 +24,9 @@ def repair(top: Pair, say: Say) -> None:
     _check("vertices", len(graph.lists(b"node")))
     for node in graph.lists(b"node"):
         _spell(node, b"id", SPELLINGS[b"id"], say)
+    for edge in graph.lists(b"edge"):
+        for key in (b"source", b"target"):
+            _spell(edge, key, SPELLINGS[key], say)
     ids.number_nodes()
     for place, edge in enumerate(graph.lists(b"edge")):
         ids.join(place, edge)
@@ -121,7 +124,8 @@ class _Ids:
         """Gives each node a whole number of its own, and leaves out nodes with the id of an earlier one."""
         nodes = self.graph.lists(b"node")
         given = [node.first(b"id") for node in nodes]
-        self.used = {value for value in map(whole_number, given) if value is not None} | {value for value in map(meaning, given) if value is not None}
+        ends = [edge.first(key) for edge in self.graph.lists(b"edge") for key in (b"source", b"target")]
+        self.used = {value for value in [*map(whole_number, given), *map(meaning, given + ends)] if value is not None}
         for place, (node, pair) in enumerate(zip(nodes, given)):
             if pair is None:
                 number = self.fresh()
@@ -132,7 +136,7 @@ class _Ids:
                 continue
             label = node.first(b"label")
             if label is not None and label.kind == "string":
-                self.by_label.setdefault(label.text, int(node.first(b"id").text))
+                self.by_label.setdefault(label.text, whole_number(node.first(b"id")))
 
     def add(self, place: int, node: Pair, pair: Pair) -> bool:
         """Enters the id of a node. Whether it is new."""
@@ -170,7 +174,6 @@ class _Ids:
         """Writes the ends of an edge as whole numbers that are ids; leaves out an edge that lacks one, and a loop."""
         ends = []
         for key in (b"source", b"target"):
-            _spell(edge, key, SPELLINGS[key], self.say)
             pair = edge.first(key)
             if pair is None or pair.kind == "list":
                 self.say(edge.at, f"edge {place} has no {key.decode('ascii')} and is left out: later edges get the number before theirs")

@@ -42,7 +42,7 @@ def decoded_file(data: bytes, say: Say) -> bytes:
     for start, name, hint in OTHER_FORMATS:
         if re.match(start, data):
             raise NoGraph(f"the file looks like {name}: {hint}")
-    if b"\0" in data[:200]:
+    if b"\0" in data[:200] and not scan(data).is_whole:
         return _recoded(data, "utf-16-le" if data[1:2] == b"\0" else "utf-16-be", say)
     return data
 
@@ -228,7 +228,7 @@ class _Reader:
         if len(text) > 1 and text[:1] == text[-1:] == b"'":
             text = text[1:-1]
         self.say(words[0][0], f'`{text.decode("utf-8", "replace")[:40]}` is written as a string')
-        self.add(key[1], "string", text, key[0], words[0][0])
+        self.add(key[1], "string", text.replace(b'"', b"&quot;"), key[0], words[0][0])
         return rest
 
     def value_follows(self) -> bool:

@@ -5,7 +5,7 @@ import re
 from dataclasses import dataclass
 from typing import Optional
 
-from gml_text import KEY, MOST_AROUND, NUMBER, Pair, Scan, graph_lists, scan, words_after_strings
+from gml_text import KEY, MOST_AROUND, NUMBER, Pair, Scan, graph_lists, scan, whole_number, words_after_strings
 
 CLEAN = "tools/clean FILE OUT does this"
 
@@ -219,8 +219,8 @@ def _node_fault(graph: Pair, rule: str, number: int) -> Finding:
         return Finding(node.at, f"{which} has no `id`", f"{hint}; {CLEAN}")
     if rule == "node-bad-id":
         return Finding(given.value_at, f"the `id` of {which} is no whole number", f"{_number_hint(given)}; {CLEAN}")
-    value = int(given.text)
-    earlier = next(place for place, other in enumerate(nodes) if int(other.first(b"id").text) == value)
+    value = whole_number(given)
+    earlier = next(place for place, other in enumerate(nodes) if whole_number(other.first(b"id")) == value)
     return Finding(given.value_at, f"{which} has the `id` of node {earlier}", f"each node needs an `id` of its own; {CLEAN} (it keeps the first)")
 
 
@@ -248,14 +248,9 @@ def _edge_fault(graph: Pair, rule: str, number: int) -> Finding:
         hint = f"`{_name(other)}` is not `{missing}`" if other else "an edge needs `source` and `target`, each the id of a node"
         return Finding(edge.at, f"{which} has no `{missing}`", f"{hint}; {CLEAN}")
     if rule == "edge-bad-end":
-        wrong = next(pair for pair in ends.values() if _is_no_whole_number(pair))
+        wrong = next(pair for pair in ends.values() if whole_number(pair) is None)
         return Finding(wrong.value_at, f"the `{_name(wrong)}` of {which} is no whole number", f"{_number_hint(wrong)}; {CLEAN}")
-    known = {int(node.first(b"id").text) for node in graph.lists(b"node")}
-    wrong = next(pair for pair in ends.values() if int(pair.text) not in known)
+    known = {whole_number(node.first(b"id")) for node in graph.lists(b"node")}
+    wrong = next(pair for pair in ends.values() if whole_number(pair) not in known)
     return Finding(wrong.value_at, f"the `{_name(wrong)}` of {which} is the id of no node", f"add a node with `id {wrong.text.decode('ascii')}`, or leave the edge out; {CLEAN} (it adds the node)")
 
-
-def _is_no_whole_number(pair: Pair) -> bool:
-    if pair.kind != "number" or not re.fullmatch(rb"[+-]?[0-9]+", pair.text):
-        return True
-    return not -2 ** 63 <= int(pair.text) < 2 ** 63

@@ -113,9 +113,12 @@ def graph_lists(top: Pair) -> list[Pair]:
 
 def whole_number(pair: Optional[Pair]) -> Optional[int]:
     """The value of an integer from -2^63 to 2^63 - 1; None for everything else."""
-    if pair is None or pair.kind != "number" or not INTEGER.fullmatch(pair.text) or len(pair.text) > 4000:
+    if pair is None or pair.kind != "number" or not INTEGER.fullmatch(pair.text):
         return None
-    value = int(pair.text)
+    digits = pair.text.lstrip(b"+-").lstrip(b"0") or b"0"
+    if len(digits) > 19:
+        return None
+    value = -int(digits) if pair.text.startswith(b"-") else int(digits)
     return value if INTEGER_RANGE[0] <= value <= INTEGER_RANGE[1] else None
 
 
