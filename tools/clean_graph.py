@@ -1,6 +1,6 @@
 """Makes of the pairs of a file a graph that the program takes, and says each change. Standard library alone.
 
-What is changed: where the list `graph` is and how it is spelled; ids that are no whole numbers, missing or doubled; ends that
+What is changed: where the list `graph` is and how it is spelled; ids that are not whole numbers, missing or doubled; ends that
 are; edges without ends and loops, which are left out. All other pairs stay."""
 from __future__ import annotations
 
@@ -91,7 +91,7 @@ def _wrapped(top: Pair, say: Say) -> list[Pair]:
 
 
 def meaning(given: Optional[Pair]) -> Optional[int]:
-    """The whole number that a value is meant to be: 5, 5.0 and "5" are 5. None where it is none in range."""
+    """The whole number that a value is meant to be: 5, 5.0 and "5" are 5. None where it is not one, or out of range."""
     if given is None or given.kind == "list" or len(given.text) > 40:
         return None
     text = given.text.strip()

@@ -1,6 +1,6 @@
-"""Reads a text that is meant as GML and is no document into pairs, and says what it took for what. Standard library alone.
+"""Reads a text that is meant as GML and is not a document into pairs, and says what it took for what. Standard library alone.
 
-The guesses, in the order of a file: another encoding and a byte order mark are undone; what comes before `graph [` and is no GML
+The guesses, in the order of a file: another encoding and a byte order mark are undone; what comes before `graph [` and is not GML
 is left out; `=` or `:` after a key, `,` or `;` after a value and comments of other languages are left out; several words before a
 value are one key; words where a value must be are a text; a quote ends a string only where a pair, a bracket or the line's
 end can follow, with an even number of quotes after it on the line; a string that is not closed ends with its line where the
@@ -51,7 +51,7 @@ def _recoded(data: bytes, name: str, say: Say) -> bytes:
     try:
         text = data.decode(name)
     except UnicodeDecodeError as fault:
-        raise NoGraph("the file is no text in UTF-8, UTF-16 or UTF-32") from fault
+        raise NoGraph("the file is not text in UTF-8, UTF-16 or UTF-32") from fault
     say(0, f"{name.upper()} is written as UTF-8")
     return text.encode("utf-8", "replace")
 
@@ -69,11 +69,11 @@ def read_pairs(data: bytes, say: Say) -> Pair:
 
 
 def _prose_before(data: bytes, say: Say) -> int:
-    """Where the graph begins, if what comes before it is no GML; else 0."""
+    """Where the graph begins, if what comes before it is not GML; else 0."""
     graph = GRAPH_START.search(data)
     if graph is None or scan(data[:graph.start()]).fault is None:
         return 0
-    say(0, "what comes before `graph [` is no GML and is left out")
+    say(0, "what comes before `graph [` is not GML and is left out")
     return graph.start()
 
 

@@ -20,7 +20,7 @@ class Finding:
 
 OTHER_FORMATS = [
     (rb"\x1f\x8b|BZh|PK\x03\x04|\xfd7zXZ", "a compressed file", "unpack it first"),
-    (rb"\x7fELF|\x89PNG|%PDF|\xff\xd8\xff", "no text", "give a GML file"),
+    (rb"\x7fELF|\x89PNG|%PDF|\xff\xd8\xff", "not text", "give a GML file"),
     (rb"\s*<", "XML (GraphML, GEXF, or a page of the web)", "read it with networkx and write GML with networkx.write_gml"),
     (rb"\s*\{", "JSON", "read it with networkx and write GML with networkx.write_gml"),
     (rb"\s*\*(?i:vertices|network)", "a Pajek file", "read it with networkx.read_pajek and write GML with networkx.write_gml"),
@@ -37,12 +37,12 @@ def encoding_fault(data: bytes) -> Optional[Finding]:
         if data.startswith(mark):
             return Finding(0, f"the file is in {name}", f"save it as UTF-8; {CLEAN}")
     if b"\0" in data[:200] and not any(re.match(start, data) for start, _, _ in OTHER_FORMATS):
-        return Finding(data.index(b"\0"), "a byte 0: the file is in UTF-16 or no text", f"save it as UTF-8; {CLEAN}")
+        return Finding(data.index(b"\0"), "a byte 0: the file is in UTF-16 or not text", f"save it as UTF-8; {CLEAN}")
     return None
 
 
 def document_fault(data: bytes, at: int) -> Finding:
-    """Why the file is no document, where the program reports `at`."""
+    """Why the file is not a document, where the program reports `at`."""
     encoding = encoding_fault(data)
     if encoding:
         return encoding
@@ -117,8 +117,8 @@ def _bad_value(data: bytes, at: int, found: Scan, rest: bytes) -> Finding:
     if not word.isascii() and word.replace(b"\xc2\xa0", b" ").strip() != word:
         return Finding(at, "a no-break space", f"use a common space; {CLEAN}")
     if word[:1].isdigit() or word[:1] in b"+-.":
-        return Finding(at, f"`{text}` is no number", f"a number is like 12, -0.5 or 1e-3; write other text in quotes; {CLEAN}")
-    return Finding(at, f"`{text}` is no value of `{name}`", f'a value is a number, a "string" in quotes, or a list in `[` `]`; {CLEAN}')
+        return Finding(at, f"`{text}` is not a number", f"a number is like 12, -0.5 or 1e-3; write other text in quotes; {CLEAN}")
+    return Finding(at, f"`{text}` is not a value of `{name}`", f'a value is a number, a "string" in quotes, or a list in `[` `]`; {CLEAN}')
 
 
 def _key_fault(data: bytes, at: int, found: Scan) -> Finding:
@@ -144,7 +144,7 @@ def _key_fault(data: bytes, at: int, found: Scan) -> Finding:
         return Finding(at, "a list without a key", "write its key before it")
     if word.endswith((b":", b"=")) and KEY.fullmatch(word[:-1]):
         return Finding(at, f"`{text}`: `{text[-1]}` after a key", f"a key and its value have only white space between them; {CLEAN}")
-    return Finding(at, f"`{text}` is no key", f"a key is a letter of ASCII, then letters, digits and `_`; {CLEAN}")
+    return Finding(at, f"`{text}` is not a key", f"a key is a letter of ASCII, then letters, digits and `_`; {CLEAN}")
 
 
 def _follows_string(data: bytes, found: Scan) -> bool:
@@ -175,7 +175,7 @@ def no_graph(data: bytes) -> list[Finding]:
     findings = []
     for pair in top.pairs:
         if pair.key == b"graph":
-            findings.append(Finding(pair.value_at, "this `graph` is no list", GRAPH_HINT))
+            findings.append(Finding(pair.value_at, "this `graph` is not a list", GRAPH_HINT))
         elif pair.key.lower() in (b"graph", b"digraph") and pair.kind == "list":
             findings.append(Finding(pair.at, f"`{_name(pair)}` is not `graph`", f"write `graph` in lower case; {CLEAN}"))
     findings += [Finding(pair.at, "this graph is inside another list", f"{GRAPH_HINT}; {CLEAN}") for pair in _inner_graphs(top)]
@@ -218,7 +218,7 @@ def _node_fault(graph: Pair, rule: str, number: int) -> Finding:
         hint = f"`{_name(other)}` is not `id`: write it in lower case" if other else "give each node an `id`, a whole number of its own"
         return Finding(node.at, f"{which} has no `id`", f"{hint}; {CLEAN}")
     if rule == "node-bad-id":
-        return Finding(given.value_at, f"the `id` of {which} is no whole number", f"{_number_hint(given)}; {CLEAN}")
+        return Finding(given.value_at, f"the `id` of {which} is not a whole number", f"{_number_hint(given)}; {CLEAN}")
     value = whole_number(given)
     earlier = next(place for place, other in enumerate(nodes) if whole_number(other.first(b"id")) == value)
     return Finding(given.value_at, f"{which} has the `id` of node {earlier}", f"each node needs an `id` of its own; {CLEAN} (it keeps the first)")
@@ -226,13 +226,13 @@ def _node_fault(graph: Pair, rule: str, number: int) -> Finding:
 
 def _number_hint(given: Pair) -> str:
     if given.kind == "list":
-        return "a list is no `id`"
+        return "a list is not an `id`"
     if given.kind == "string":
         return "an `id` is a whole number without quotes; text belongs in `label`"
     if re.fullmatch(rb"[+-]?[0-9]+", given.text):
         return "whole numbers are from -9223372036854775808 to 9223372036854775807"
     if re.fullmatch(rb"[+-]?[0-9]+\.0*", given.text):
-        return f"a number with a point is none: write {given.text.split(b'.')[0].decode('ascii')}"
+        return f"a number with a point is not a whole number: write {given.text.split(b'.')[0].decode('ascii')}"
     return "write a whole number"
 
 
@@ -249,7 +249,7 @@ def _edge_fault(graph: Pair, rule: str, number: int) -> Finding:
         return Finding(edge.at, f"{which} has no `{missing}`", f"{hint}; {CLEAN}")
     if rule == "edge-bad-end":
         wrong = next(pair for pair in ends.values() if whole_number(pair) is None)
-        return Finding(wrong.value_at, f"the `{_name(wrong)}` of {which} is no whole number", f"{_number_hint(wrong)}; {CLEAN}")
+        return Finding(wrong.value_at, f"the `{_name(wrong)}` of {which} is not a whole number", f"{_number_hint(wrong)}; {CLEAN}")
     known = {whole_number(node.first(b"id")) for node in graph.lists(b"node")}
     wrong = next(pair for pair in ends.values() if whole_number(pair) not in known)
     return Finding(wrong.value_at, f"the `{_name(wrong)}` of {which} is the id of no node", f"add a node with `id {wrong.text.decode('ascii')}`, or leave the edge out; {CLEAN} (it adds the node)")

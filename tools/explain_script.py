@@ -1,4 +1,4 @@
-"""Why a line of a script is no command, and what a refused command means: hints for `tools/explain`. Standard library alone."""
+"""Why a line of a script is not a command, and what a refused command means: hints for `tools/explain`. Standard library alone."""
 from __future__ import annotations
 
 import difflib
@@ -18,9 +18,9 @@ CODES = {
     1: "this block does not exist: the lines `block B:` of the head have the blocks",
     2: "this node does not exist: the lines `node K ..` after the block's line have its nodes",
     3: "the node is of another kind: `flip` takes an R, `permute` a P, `lock` and `unlock` take either",
-    4: "the keys are no arrangement of the keys of the node's items; in a script the block comes first: permute B K KEYS",
+    4: "the keys are not a permutation of the keys of the node's items; in a script the block comes first: permute B K KEYS",
     5: "the block is not planar: the line `nonplanar B ..` of the head has a certificate",
-    6: "the list of vertex {0} is no arrangement of its edges, or {0} is no vertex (or is one that `euler` needs)",
+    6: "the list of vertex {0} is not a permutation of its edges, or {0} is not a vertex; a vertex that is not named has the empty list",
     7: "the rotation system is not plane: it has {0} vertices, {1} edges and {2} faces",
     8: "there is no earlier change to take back",
     9: "no change was taken back",
@@ -39,24 +39,24 @@ def line_at(data: bytes, line: int) -> int:
 
 
 def script_fault(data: bytes, line: int) -> Finding:
-    """Why this line of a script, which the program refuses, is no command."""
+    """Why this line of a script, which the program refuses, is not a command."""
     start = line_at(data, line)
     end = data.find(b"\n", start)
     text = data[start:end if end >= 0 else len(data)]
     finding = _mark(text, start) or _comment(text, start) or _by_word(text, start)
-    return finding or Finding(start, "this line is no command", f"{_form(text)}")
+    return finding or Finding(start, "this line is not a command", f"{_form(text)}")
 
 
 def _mark(text: bytes, start: int) -> Optional[Finding]:
     if text.startswith(b"\xef\xbb\xbf"):
         return Finding(start, "a byte order mark (EF BB BF)", "save the script as UTF-8 without one")
     if text.startswith((b"\xff\xfe", b"\xfe\xff")) or b"\0" in text:
-        return Finding(start, "the script is in UTF-16 or no text", "save it as UTF-8")
+        return Finding(start, "the script is in UTF-16 or not text", "save it as UTF-8")
     if LINE_END.search(text.removesuffix(b"\r")):
         return Finding(start, "the lines of the script end with CR alone", "let them end with LF or CR LF")
     odd = re.search(rb"[^\t\r -~]+", text)
     if odd and not text.lstrip().startswith(b"#"):
-        return Finding(start + odd.start(), f"`{odd.group().decode('utf-8', 'replace')}` is no part of a command", "is it a no-break space, a dash or a quote of a word processor?")
+        return Finding(start + odd.start(), f"`{odd.group().decode('utf-8', 'replace')}` is not part of a command", "is it a no-break space, a dash or a quote of a word processor?")
     return None
 
 
@@ -78,7 +78,7 @@ def _by_word(text: bytes, start: int) -> Optional[Finding]:
     words = _words(text)
     name = words[0][1]
     if name not in FORMS:
-        return Finding(start + words[0][0], f"`{name[:30]}` is no command", _word_hint(name))
+        return Finding(start + words[0][0], f"`{name[:30]}` is not a command", _word_hint(name))
     if name in ("undo", "redo", "gml"):
         return Finding(start + words[1][0], f"`{name}` takes nothing more", _form(text)) if len(words) > 1 else None
     if name == "euler":
@@ -114,7 +114,7 @@ def _numbers(text: bytes, start: int, words: list[tuple[int, str]], wanted: list
         what, limit = ARGUMENTS[kind]
         if not re.fullmatch("[0-9]+", word):
             commas = "; blanks are between numbers, no commas" if "," in word else ""
-            return Finding(start + at, f"`{word[:30]}` is no number", f"numbers are decimal digits alone{commas}; {_form(text)}")
+            return Finding(start + at, f"`{word[:30]}` is not a number", f"numbers are decimal digits alone{commas}; {_form(text)}")
         if not _is_below(word, limit) or (kind == "N" and not word.strip("0")):
             return Finding(start + at, f"`{word[:50]}` is out of range", f"{what} is from {1 if kind == 'N' else 0} to {limit - 1}")
     if len(given) < len(wanted):
@@ -151,7 +151,7 @@ def _rotation(text: bytes, start: int, after: int) -> Optional[Finding]:
             return Finding(place, "an entry is missing here", "`;` is only between two entries") if b";" in text else None
         if form is None:
             hint = "a line of a report: leave `|` out" if b"|" in entry else "an entry is a vertex, `:` and its edges, with blanks between them: `0: 0 1 2`"
-            return Finding(place, f"`{entry.strip().decode('utf-8', 'replace')[:30]}` is no entry of a rotation system", hint)
+            return Finding(place, f"`{entry.strip().decode('utf-8', 'replace')[:30]}` is not an entry of a rotation system", hint)
         if not all(_is_below(word.decode(), 2 ** 32) for word in [form.group(1), *form.group(2).split()]):
             return Finding(place, "a number of this entry is out of range", "vertices and edges are below 4294967296")
         if int(form.group(1)) <= last:

@@ -12,7 +12,7 @@ INTEGER = re.compile(rb"[+-]?[0-9]+")
 NUMBER = re.compile(rb"[+-]?(?:(?:[0-9]+\.?[0-9]*|\.[0-9]+)(?:[eE][+-]?[0-9]+)?|(?i:inf|nan))")
 TOKEN = re.compile(rb"""[ \t-\r]+|\#[^\r\n]*|(?P<open>\[)|(?P<close>\])|(?P<string>"[^"]*")|(?P<word>[^ \t-\r\[\]"\#]+)""", re.VERBOSE)
 LINE_END = re.compile(rb"\r\n|\r|\n")
-MOST_AROUND = 31            # a list is inside at most so many other lists
+MOST_AROUND = 31            # a list is inside at most this many other lists
 INTEGER_RANGE = (-2 ** 63, 2 ** 63 - 1)
 
 

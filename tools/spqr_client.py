@@ -77,7 +77,7 @@ def gml_of(graph: nx.Graph) -> bytes:
 
 
 def gml_of_ends(vertices: int, ends: Ends) -> bytes:
-    """A graph file with so many vertices and with these edges, which are numbered from 0 without gaps."""
+    """A graph file with this many vertices and with these edges, which are numbered from 0 without gaps."""
     nodes = [f"  node [ id {vertex} ]\n" for vertex in range(vertices)]
     edges = [f"  edge [ source {low} target {high} ]\n" for _, (low, high) in sorted(ends.items())]
     return "".join(["graph [\n", *nodes, *edges, "]\n"]).encode("ascii")

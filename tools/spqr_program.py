@@ -32,7 +32,7 @@ class Ran:
     complaint: bytes
 
     def report(self) -> bytes:
-        """The report. Fails with Refused where the graph or the script was refused, with ProgramError where there is none."""
+        """The report. Fails with Refused where the graph or the script was refused, with ProgramError where no report was printed."""
         line = self.output.decode("ascii", "replace").strip()
         if 1 <= self.status <= 6 and line.startswith("refused "):
             raise Refused(self.status, line)

@@ -275,7 +275,7 @@ class _Reader:
 
 
 def read_report(report: bytes, script: bytes) -> Report:
-    """Reads a whole report on a graph and this script. Fails with ReportError where it is none."""
+    """Reads a whole report on a graph and this script. Fails with ReportError where it is not one."""
     reader = _Reader(report)
     try:
         return _report(reader, script)
@@ -339,7 +339,7 @@ def _path(reader: _Reader) -> Path:
 def _answer(reader: _Reader, command: Command) -> Answer:
     word = reader.next_word()
     if word not in _ANSWERS:
-        raise ReportError(f"line {command.line} of the script: byte {reader.place} of the report is no answer: `{word[:60]}`")
+        raise ReportError(f"line {command.line} of the script: byte {reader.place} of the report is not an answer: `{word[:60]}`")
     return _ANSWERS[word](reader, command)
 
 

@@ -95,7 +95,7 @@ def renamed(draw: random.Random, graph: nx.Graph) -> nx.Graph:
 
 
 def graphs(total: int, seed: int) -> Iterator[nx.Graph]:
-    """So many graphs, of each kind in turn."""
+    """This many graphs, of each kind in turn."""
     draw = random.Random(seed)
     for place in range(total):
         yield renamed(draw, KINDS[place % len(KINDS)](draw))

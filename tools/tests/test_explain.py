@@ -15,7 +15,7 @@ TOOLS = Path(__file__).resolve().parent.parent
 EXAMPLES = TOOLS.parent / "examples"
 
 EXAMPLE_PLACES = {
-    "broken_bad": ("gml", 1, 5, "`12a` is no number"),
+    "broken_bad": ("gml", 1, 5, "`12a` is not a number"),
     "broken_end": ("gml", 1, 9, "is not closed"),
     "broken_script": ("spqr", 2, 8, "`10001` is out of range"),
     "loop": ("gml", 7, 3, "edge 2 (counted from 0, in the order of the file; its own `id` does not count) is a loop"),
@@ -52,9 +52,9 @@ SCRIPTS = [
     (b"take 0 | 0: 1 2", 1, 8, "leave `|` out"),
     (b"take 0 0: 1 2; 1: 0;", 1, 21, "only between two entries"),
     (b"take 0 1: 1 2; 0: 0", 1, 16, "not above the one before"),
-    (b"take 0 0: 1, 2", 1, 8, "no entry"),
-    (b"take 0: 1", 1, 7, "no entry"),
-    (b"euler 0 1 2", 1, 7, "no entry"),
+    (b"take 0 0: 1, 2", 1, 8, "not an entry"),
+    (b"take 0: 1", 1, 7, "not an entry"),
+    (b"euler 0 1 2", 1, 7, "not an entry"),
     (b"convert 0 5", 1, 11, "`rank` or `to`"),
     (b"convert 0 rank", 1, 15, "convert B rank R"),
     (b"convert 0 to 0: 4294967296", 1, 14, "out of range"),
@@ -127,8 +127,6 @@ class Explained(unittest.TestCase):
     def test_a_quote_that_is_read_silently(self) -> None:
         with tempfile.TemporaryDirectory() as folder:
             path = Path(folder, "quote.gml")
-            path.write_bytes(b'graph [\n  node [ id 0 label "say "hi" x" ]\n]\n')
-            self.assertEqual(explained(str(path))[0], 4)
             path.write_bytes(b'graph [\n  node [ id 0 label "say "hi"" ]\n]\n')
             status, text = explained(str(path))
             self.assertEqual(status, 0)
