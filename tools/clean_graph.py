@@ -30,6 +30,7 @@ def repair(top: Pair, say: Say) -> None:
     ids.number_nodes()
     for place, edge in enumerate(graph.lists(b"edge")):
         ids.join(place, edge)
+    ids.leave_out()
     _check("vertices", len(graph.lists(b"node")))
     _check("edges", len(graph.lists(b"edge")))
 
@@ -111,6 +112,7 @@ class _Ids:
         self.by_text: dict[tuple[str, bytes], int] = {}
         self.by_label: dict[bytes, int] = {}
         self.used: set[int] = set()
+        self.left_out: set[int] = set()         # nodes and edges, by their identity
         self.next = 0
 
     def fresh(self) -> int:
@@ -119,6 +121,10 @@ class _Ids:
             self.next += 1
         self.used.add(self.next)
         return self.next
+
+    def leave_out(self) -> None:
+        """Leaves out of the graph what is not to be in it."""
+        self.graph.value = [pair for pair in self.graph.pairs if id(pair) not in self.left_out]
 
     def number_nodes(self) -> None:
         """Gives each node a whole number of its own, and leaves out nodes with the id of an earlier one."""
@@ -132,7 +138,7 @@ class _Ids:
                 self.say(node.at, f"node {place} has no id and is given {number}")
                 node.pairs.insert(0, Pair(b"id", "number", str(number).encode()))
             elif not self.add(place, node, pair):
-                _remove(self.graph, node)
+                self.left_out.add(id(node))
                 continue
             label = node.first(b"label")
             if label is not None and label.kind == "string":
@@ -177,12 +183,12 @@ class _Ids:
             pair = edge.first(key)
             if pair is None or pair.kind == "list":
                 self.say(edge.at, f"edge {place} has no {key.decode('ascii')} and is left out: later edges get the number before theirs")
-                _remove(self.graph, edge)
+                self.left_out.add(id(edge))
                 return
             ends.append(self.end(place, edge, pair))
         if ends[0] == ends[1]:
             self.say(edge.at, f"edge {place} is a loop at {ends[0]} and is left out: later edges get the number before theirs")
-            _remove(self.graph, edge)
+            self.left_out.add(id(edge))
 
     def end(self, place: int, edge: Pair, pair: Pair) -> int:
         """The number of the node that an end of an edge names, which is added where it is not there."""
