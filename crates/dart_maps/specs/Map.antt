@@ -2,7 +2,7 @@
 -- darts 2e and 2e + 1, one at each of its ends. `next` is a permutation of the darts, and its orbits are the vertices:
 -- next d is the dart that follows d around the vertex that d leaves.
 use Rattle.std.specs.Prelude.{◌≡◌, ℕ, zero, suc, ◌+◌, ◌-◌, ◌*◌, ◌%◌, Bool, ◌&&◌, ◌==◌, if◌then◌else◌, List, [], ◌∷◌}
-pub use Rattle.multigraph.specs.Darts.{twin}
+unfoldable pub use Rattle.multigraph.specs.Darts.{twin}
 use Rattle.permutations.specs.Relation.{connected, class_count}
 use Rattle.permutations.specs.Permutation.{Permutes, same_orbit, orbit_count}
 
