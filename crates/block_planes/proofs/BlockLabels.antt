@@ -1,5 +1,5 @@
 -- The blocks as labels of the darts: they are separated at each vertex. The law on rotation systems and blocks.
-use Rattle.std.proofs.Common.{◌≡◌, ◌≢◌, ℕ, ◌*◌, ◌/◌, ◌<◌, ◌↔◌, inl, Bool, true, false, ◌&&◌, ◌==◌, List, [], ◌∷◌, length, slice_index, refl, sym, ap, ◌∙◌, subst, arith, eq-eqb, eqb-true}
+use Rattle.std.proofs.Common.{◌≡◌, ℕ, ◌*◌, ◌/◌, ◌<◌, ◌↔◌, inl, Bool, true, false, ◌&&◌, ◌==◌, List, [], ◌∷◌, length, slice_index, refl, sym, ap, ◌∙◌, subst, arith, eq-eqb, eqb-true}
 use Rattle.std.proofs.lemmas.Bool.{both_ways, and_parts, and_from}
 use Rattle.permutations.specs.Count.{some, least}
 use Rattle.permutations.specs.Members.{is_member}
@@ -9,10 +9,9 @@ use Rattle.permutations.specs.Exchange.{restricted}
 use Rattle.permutations.specs.Ring.{ring}
 use Rattle.permutations.proofs.Search.{some-from, some-witness, some-ext, least-below, least-passes}
 use Rattle.permutations.proofs.Relation.{same-tests}
-use Rattle.permutations.proofs.Orbits.{orbit-equivalence}
 use Rattle.permutations.proofs.Arrangements.{member-at}
 use Rattle.permutations.proofs.Places.{place-of}
-use Rattle.permutations.proofs.Rings.{ring-below, ring-member}
+use Rattle.permutations.proofs.Rings.{ring-below}
 use Rattle.permutations.proofs.CyclicOrder.{around-member}
 use Rattle.permutations.proofs.Members.{member-head, member-tail}
 use Rattle.multigraph.specs.Graph.{Multigraph, IsGraph, edge_count}

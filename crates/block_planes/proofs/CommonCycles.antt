@@ -1,12 +1,12 @@
 -- Edges at a vertex whose other ends are connected without this vertex are of one block.
-use Rattle.std.proofs.Common.{◌≡◌, ◌≢◌, ℕ, ◌+◌, ◌<◌, ◌≤◌, inl, inr, Bool, true, false, List, [], ◌∷◌, ◌++◌, length, refl, sym, ap, ◌∙◌, subst, arith, length-append}
+use Rattle.std.proofs.Common.{◌≡◌, ◌≢◌, ℕ, ◌<◌, inl, inr, true, false, [], ◌∷◌, ◌++◌, refl, sym, ap, ◌∙◌, subst, arith, length-append}
 use Rattle.std.proofs.lemmas.Bool.{cases_eq, cases_Bool, both_ways, false_from_ne_true}
 use Rattle.permutations.specs.Members.{is_member, is_distinct}
 use Rattle.permutations.specs.Relation.{connected}
-use Rattle.permutations.proofs.Members.{member-head, member-cases, no_member-head, no_member-cons, no_member-append, member-append_right, distinct-cons, distinct-append}
+use Rattle.permutations.proofs.Members.{member-head, no_member-cons, no_member-append, member-append_right, distinct-cons, distinct-append}
 use Rattle.multigraph.specs.Graph.{Multigraph, IsGraph, edge_count, is_end, other_end}
 use Rattle.multigraph.proofs.OtherEnd.{other_end-is_end}
-use Rattle.graph_theory.specs.Path.{walk_end, walk_starts, walk_vertices, IsWalk, IsPath, PathWithout, IsCycle}
+use Rattle.graph_theory.specs.Path.{walk_end, walk_starts, walk_vertices, PathWithout, IsCycle}
 use Rattle.graph_theory.specs.Block.{CommonCycle, SameBlock}
 use Rattle.graph_theory.specs.Triconnected.{ends_without}
 use Rattle.graph_theory.proofs.Ends.{other-other, other-differs}

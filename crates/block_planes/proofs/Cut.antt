@@ -1,6 +1,6 @@
 -- A map cut at a vertex where the label changes: it is plane where both sides of the cut are.
-use Rattle.std.proofs.Common.{◌≡◌, ◌≢◌, ℕ, ◌*◌, ◌<◌, inl, inr, Bool, true, false, not, ◌&&◌, ◌==◌, List, [], ◌∷◌, ◌++◌, refl, sym, ap, ap₂, ◌∙◌, subst, eq-eqb}
-use Rattle.std.proofs.lemmas.Bool.{cases_Bool, cases_eq, both_ways, false_from_ne_true, true≢false, and_parts, and_from, eqb-true, not-true}
+use Rattle.std.proofs.Common.{◌≡◌, ◌≢◌, ℕ, ◌*◌, ◌<◌, inl, inr, Bool, true, false, not, ◌&&◌, List, [], ◌∷◌, ◌++◌, refl, sym, ap, ◌∙◌, subst, eq-eqb}
+use Rattle.std.proofs.lemmas.Bool.{cases_Bool, cases_eq, both_ways, false_from_ne_true, true≢false, and_parts, and_from, eqb-true}
 use Rattle.permutations.specs.Count.{some}
 use Rattle.permutations.specs.Relation.{IsEquivalence}
 use Rattle.permutations.specs.Permutation.{Permutes}

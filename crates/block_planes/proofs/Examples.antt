@@ -1,16 +1,14 @@
 -- Two triangles that share a vertex: a rotation system in which they do not cross, and one in which they do, computed.
 use Rattle.std.proofs.Common.{◌≡◌, ℕ, zero, suc, ◌+◌, ◌-◌, ◌<◌, ◌≤◌, ◌⊎◌, ltb, true, List, [], ◌∷◌, inl, inr, refl, sym, ◌∙◌, subst, arith}
 use Rattle.std.proofs.lemmas.Bool.{true≢false, ltb-true, ltb-false}
-use Rattle.permutations.specs.Cyclic.{IsTurn, FollowsAround}
-use Rattle.permutations.specs.Members.{is_member}
-use Rattle.multigraph.specs.Graph.{Multigraph, edge_count, is_end}
+use Rattle.permutations.specs.Cyclic.{FollowsAround}
+use Rattle.multigraph.specs.Graph.{Multigraph, is_end}
 use Rattle.multigraph.proofs.OtherEnd.{is_end-cases}
 use Rattle.rotations.specs.Rotation.{order_at}
-use Rattle.graph_theory.specs.Path.{IsWalk, IsCycle}
-use Rattle.graph_theory.specs.Block.{SameBlock, CommonCycle}
+use Rattle.graph_theory.specs.Block.{SameBlock}
 use Rattle.graph_theory.specs.Side.{IsCommon}
 use Rattle.graph_theory.proofs.Crossings.{block-one_side}
-use Rattle.faces.specs.Euler.{face_count, component_count, IsPlane}
+use Rattle.faces.specs.Euler.{face_count, IsPlane}
 use Rattle.block_planes.specs.Crossing.{NoBlocksCross}
 
 -- the triangles 0, 1, 2 and 0, 3, 4, with the edges 0 to 2 and 3 to 5

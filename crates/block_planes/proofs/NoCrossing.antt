@@ -1,11 +1,9 @@
 -- In a plane rotation system no two blocks cross at a vertex.
-use Rattle.std.proofs.Common.{◌≡◌, ◌≢◌, ℕ, ◌*◌, ◌/◌, ◌<◌, inl, inr, Bool, true, false, List, [], ◌∷◌, refl, sym, ap, ap₂, ◌∙◌, subst}
+use Rattle.std.proofs.Common.{◌≡◌, ℕ, ◌/◌, ◌<◌, inl, inr, Bool, true, false, List, [], ◌∷◌, sym, ◌∙◌, subst}
 use Rattle.std.proofs.lemmas.Bool.{cases_Bool, both_ways}
 use Rattle.permutations.specs.Relation.{IsEquivalence}
 use Rattle.permutations.specs.Members.{is_member, is_distinct}
 use Rattle.permutations.specs.Cyclic.{FollowsAround}
-use Rattle.permutations.specs.Ring.{ring}
-use Rattle.permutations.proofs.Relation.{same-tests}
 use Rattle.permutations.proofs.Members.{member-head, member-tail, distinct-head, distinct-tail, no_member-head, no_member-tail}
 use Rattle.permutations.proofs.CyclicOrder.{around-member, around-distinct}
 use Rattle.permutations.proofs.Orbits.{orbit-equivalence}

@@ -1,5 +1,5 @@
 -- A rotation system on a part of its graph, and the map of the part's darts.
-use Rattle.std.proofs.Common.{◌≡◌, ℕ, ◌/◌, ◌<◌, List, length, slice_index, refl, sym, ap, ◌∙◌, subst, arith}
+use Rattle.std.proofs.Common.{ℕ, ◌/◌, ◌<◌, List, length, slice_index, sym, ap, ◌∙◌, subst, arith}
 use Rattle.std.proofs.lemmas.List.Elements.{Contains-get_or}
 use Rattle.permutations.specs.Exchange.{restricted}
 use Rattle.permutations.proofs.Restriction.{restricted-permutes}

@@ -1,6 +1,6 @@
 -- The order of edges around a vertex, and that of their darts in the map.
-use Rattle.std.proofs.Common.{◌≡◌, ◌≢◌, ℕ, ◌/◌, ◌<◌, Bool, true, List, [], ◌∷◌, map, filter, refl, sym, ap, ◌∙◌, subst}
-use Rattle.permutations.specs.Members.{is_member, is_distinct}
+use Rattle.std.proofs.Common.{◌≡◌, ℕ, ◌/◌, ◌<◌, true, List, map, filter, sym, ap, ◌∙◌, subst}
+use Rattle.permutations.specs.Members.{is_member}
 use Rattle.permutations.specs.Cyclic.{IsTurn, FollowsAround, successor, turned}
 use Rattle.permutations.specs.Ring.{ring}
 use Rattle.permutations.proofs.Relation.{same-tests}
@@ -9,7 +9,7 @@ use Rattle.permutations.proofs.Mapped.{member-map, map-member, distinct-map}
 use Rattle.permutations.proofs.Turned.{IsTurn-sym, IsTurn-map, turned-turn}
 use Rattle.permutations.proofs.CyclicOrder.{around-member, around-turn}
 use Rattle.permutations.proofs.Rings.{ring-from_list}
-use Rattle.multigraph.specs.Graph.{Multigraph, IsGraph, is_end}
+use Rattle.multigraph.specs.Graph.{Multigraph, IsGraph}
 use Rattle.rotations.specs.Rotation.{order_at, IsRotationSystem}
 use Rattle.rotations.proofs.Membership.{member-end}
 use Rattle.faces.specs.Euler.{tail, dart_from, dart_count}

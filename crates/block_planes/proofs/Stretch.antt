@@ -1,9 +1,9 @@
 -- At a vertex where the label changes there is a stretch of darts that begins and ends with one label, outside of which this
 -- label does not occur. Where no labels cross, no label occurs both in it and outside.
-use Rattle.std.proofs.Common.{◌≡◌, ◌≢◌, ℕ, ◌*◌, ◌<◌, ◌⊎◌, inl, inr, Bool, true, false, ◌==◌, List, [], ◌∷◌, ◌++◌, refl, sym, ap, ◌∙◌, subst, arith, append_assoc, eq-eqb}
-use Rattle.std.proofs.lemmas.Bool.{cases_Bool, both_ways, true≢false, eqb-true, eqb-false}
+use Rattle.std.proofs.Common.{◌≡◌, ◌≢◌, ℕ, ◌*◌, ◌<◌, ◌⊎◌, inl, inr, Bool, true, false, ◌==◌, List, [], ◌∷◌, ◌++◌, refl, sym, ap, ◌∙◌, subst, append_assoc, eq-eqb}
+use Rattle.std.proofs.lemmas.Bool.{cases_Bool, both_ways, true≢false, eqb-true}
 use Rattle.permutations.specs.Members.{is_member, is_distinct}
-use Rattle.permutations.specs.Cyclic.{successor, first_or, turned, Follows, FollowsAround}
+use Rattle.permutations.specs.Cyclic.{successor, first_or, turned, FollowsAround}
 use Rattle.permutations.specs.Ring.{ring}
 use Rattle.permutations.proofs.Members.{member-head, member-tail, member-cases, member-append_cases, distinct-head, distinct-tail, distinct-append_right, no_member-cons, CutAt, cut_at}
 use Rattle.permutations.proofs.Successor.{successor-cut}

@@ -1,6 +1,6 @@
 -- A map whose labels are separated at each vertex and cross nowhere is plane where the edges of each label are.
-use Rattle.std.proofs.Common.{◌≡◌, ◌≢◌, ℕ, zero, suc, ◌+◌, ◌*◌, ◌<◌, inl, inr, Bool, true, false, not, ◌&&◌, ◌==◌, List, [], ◌∷◌, filter, refl, sym, ap, ap₂, ◌∙◌, subst, arith, eq-eqb, le_refl}
-use Rattle.std.proofs.lemmas.Bool.{cases_Bool, both_ways, and_parts, and_from, eqb-true, eqb-false, ne_eqb, not-true, not-false, not_from_false}
+use Rattle.std.proofs.Common.{◌≡◌, ◌≢◌, ℕ, zero, suc, ◌*◌, ◌<◌, inl, inr, Bool, true, false, not, ◌&&◌, ◌==◌, List, [], ◌∷◌, filter, refl, sym, ap, ap₂, ◌∙◌, subst, arith, eq-eqb, le_refl}
+use Rattle.std.proofs.lemmas.Bool.{cases_Bool, both_ways, and_parts, and_from, eqb-true, eqb-false, ne_eqb, not-true, not-false}
 use Rattle.permutations.specs.Count.{count, some}
 use Rattle.permutations.specs.Permutation.{Permutes, iterate}
 use Rattle.permutations.specs.Members.{is_member}

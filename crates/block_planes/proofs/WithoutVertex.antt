@@ -1,27 +1,22 @@
 -- Darts whose edges are connected without a vertex: a relation that is kept by the steps around all other vertices.
-use Rattle.std.proofs.Common.{◌≡◌, ◌≢◌, ℕ, ◌/◌, ◌<◌, inl, inr, Bool, true, false, List, [], ◌∷◌, refl, sym, ap, ◌∙◌, subst}
+use Rattle.std.proofs.Common.{◌≡◌, ◌≢◌, ℕ, ◌/◌, ◌<◌, inl, inr, Bool, true, List, [], ◌∷◌, refl, sym, ◌∙◌, subst}
 use Rattle.permutations.specs.Relation.{IsEquivalence, connected}
 use Rattle.permutations.proofs.Relation.{connected-equivalence}
 use Rattle.permutations.proofs.Renaming.{equivalence-through}
 use Rattle.permutations.proofs.Members.{no_member-cons}
-use Rattle.multigraph.specs.Graph.{Multigraph, IsGraph, edge_count, is_end, other_end}
+use Rattle.multigraph.specs.Graph.{Multigraph, IsGraph, is_end, other_end}
 use Rattle.multigraph.proofs.OtherEnd.{other_end-is_end}
 use Rattle.rotations.specs.Rotation.{IsRotationSystem}
 use Rattle.graph_theory.specs.Triconnected.{ends_without}
 use Rattle.graph_theory.specs.Block.{SameBlock}
 use Rattle.graph_theory.proofs.Ends.{end-cases}
 use Rattle.graph_theory.proofs.Removed.{step-without}
-use Rattle.dart_maps.specs.Map.{twin, same_vertex}
-use Rattle.dart_maps.specs.Order.{frozen, connected_around}
+use Rattle.dart_maps.specs.Map.{twin}
 use Rattle.dart_maps.proofs.Darts.{twin-edge}
-use Rattle.dart_maps.proofs.Components.{component-least}
-use Rattle.dart_maps.proofs.FourDarts.{frozen-here, frozen-elsewhere}
-use Rattle.std.proofs.lemmas.Bool.{cases_Bool, both_ways}
 use Rattle.faces.specs.Euler.{tail, dart_count}
 use Rattle.faces.specs.Maps.{dart_after}
 use Rattle.faces.proofs.DartLemmas.{dart-edge, tail-end}
 use Rattle.faces.proofs.MapSteps.{after-tail}
-use Rattle.faces.proofs.MapVertices.{tail-vertex}
 use Rattle.block_planes.proofs.CommonCycles.{far-off, joined-block}
 
 -- a dart's edge has an end other than v; whether those of two darts are connected without v
