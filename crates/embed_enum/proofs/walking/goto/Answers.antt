@@ -12,7 +12,7 @@ returns-then-rank-count-clause-refused c = λ l m.
     (w.1 ∙ sym (state-length c.args.p.now c.belongs.ensures l m), c.if-rank-count.true)
 
 pub returns-else-rank-count-clause-gone : goal.returns-else-rank-count-clause-gone
-returns-else-rank-count-clause-gone c = λ l m. rank-after c.args.p.now c.set_digits.new.p c.belongs.ensures c.belongs-2.ensures c.args.rank c.set_digits.ensures l m
+returns-else-rank-count-clause-gone c = λ l m. rank-after c.args.p.now c.set_digits.new.p c.belongs.ensures c.belongs-in-Some.ensures c.args.rank c.set_digits.ensures l m
 
 pub returns-else-rank-count-clause-within : goal.returns-else-rank-count-clause-within
 returns-else-rank-count-clause-within c = λ l m. let w = c.in-Some.ensures {u = tt} in let e = state-length c.args.p.now c.belongs.ensures l m in omega (arith, w.0, e)

@@ -22,7 +22,7 @@ returns-then-step_open-clause-next c = λ l i m k t.
     let old : BlockState = c.args.p.now in
     let n = numbered old c.loop-k.p c.step_open.new.p c.first_from.new.p c.loop-k.k c.loop-k.invariant.same c.loop-k-test.true c.loop-k.invariant.within (c.step_open.ensures.next c.if-step_open.true) c.first_from.ensures c.loop-k.invariant.last in
     let e = rank-is old c.belongs.ensures l i m k in
-    subst (λ z. IsRank l c.first_from.new.p.rotation (z + 1)) (sym e) (rank-after old c.first_from.new.p c.belongs.ensures c.belongs-2.ensures
+    subst (λ z. IsRank l c.first_from.new.p.rotation (z + 1)) (sym e) (rank-after old c.first_from.new.p c.belongs.ensures c.belongs-then-step_open.ensures
     (number_to (length old.tree) (radix_at old.tree (lock_at old.locks)) (digit_at old.tree (lock_at old.locks) old.rotation) + 1) n l m)
 
 pub returns-then-step_open-clause-list : goal.returns-then-step_open-clause-list
