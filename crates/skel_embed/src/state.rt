@@ -133,7 +133,9 @@ impl PlaneBlock {
     /// The parts belong together. For proofs alone: does nothing.
     pub fn belongs(&self)
         ensures { IsBlockState self.now }
-    {}
+    {
+        let _ = self.tree();
+    }
 
     /// Whether node `k` is locked.
     pub fn locked(&self, k: u32) -> bool

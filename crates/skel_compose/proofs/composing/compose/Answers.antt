@@ -19,18 +19,10 @@ of_arranged-requires c =
     let w = family-followed c.args.g.now c.args.tree.now c.args.members.now c.requires.block c.requires.systems in
     subst (AreArranged c.args.g.now) (sym (c.in_ok-lists.ensures w.0 w.1 w.2)) (entries-arranged c.args.g.now w.0 w.1)
 
--- so it is a rotation system
-pub returns-clause-system : goal.returns-clause-system
-returns-clause-system c =
-    let w = family-followed c.args.g.now c.args.tree.now c.args.members.now c.requires.block c.requires.systems in
-    both-ok c.of_arranged.result (λ r. length r ≡ c.args.g.now.vertex_count) (λ r. (v : ℕ) → v < c.args.g.now.vertex_count → order_at r v ≡ given_order c.args.g.now c.in_ok-lists.lists v) (IsRotationSystem c.args.g.now)
-    (λ r long orders. subst (IsRotationSystem c.args.g.now) (made-same c.args.g.now w.0 w.1 c.in_ok-lists.lists (c.in_ok-lists.ensures w.0 w.1 w.2) r long orders) w.1)
-    c.of_arranged.ensures.vertices c.of_arranged.ensures.orders
-
--- and the one that follows
+-- so it is the one that follows
 pub returns-clause-follows : goal.returns-clause-follows
 returns-clause-follows c =
     let w = family-followed c.args.g.now c.args.tree.now c.args.members.now c.requires.block c.requires.systems in
-    both-ok c.of_arranged.result (λ r. length r ≡ c.args.g.now.vertex_count) (λ r. (v : ℕ) → v < c.args.g.now.vertex_count → order_at r v ≡ given_order c.args.g.now c.in_ok-lists.lists v) (FollowsFamily c.args.tree.now c.args.members.now)
-    (λ r long orders. subst (FollowsFamily c.args.tree.now c.args.members.now) (made-same c.args.g.now w.0 w.1 c.in_ok-lists.lists (c.in_ok-lists.ensures w.0 w.1 w.2) r long orders) w.2)
-    c.of_arranged.ensures.vertices c.of_arranged.ensures.orders
+    both-ok c.of_arranged.result (IsRotationSystem c.args.g.now) (λ r. (v : ℕ) → v < c.args.g.now.vertex_count → order_at r v ≡ given_order c.args.g.now c.in_ok-lists.lists v) (FollowsFamily c.args.tree.now c.args.members.now)
+    (λ r system orders. subst (FollowsFamily c.args.tree.now c.args.members.now) (made-same c.args.g.now w.0 w.1 c.in_ok-lists.lists (c.in_ok-lists.ensures w.0 w.1 w.2) r system.vertices orders) w.2)
+    c.of_arranged.ensures.system c.of_arranged.ensures.orders

@@ -1,9 +1,9 @@
-use Rattle.std.proofs.Common.{sym}
+use Rattle.std.proofs.Common.{sym, ◌∙◌}
 use Rattle.skel_embed.proofs.KeptLists.{position-stands, position-found}
 use Rattle.skel_embed.proofs.kept.place_of.Goals as goal
 
 pub unreachable-requires : goal.unreachable-requires
-unreachable-requires c = position-found c.args.keys.now c.args.key c.requires (sym c.position.ensures)
+unreachable-requires c = position-found c.args.keys.now c.args.key c.requires (sym c.position.ensures ∙ c.in-None.is)
 
-pub returns-in-Some : goal.returns-in-Some
-returns-in-Some c = position-stands c.args.keys.now c.args.key c.in-Some.place c.requires (sym c.position.ensures)
+pub returns : goal.returns
+returns c = position-stands c.args.keys.now c.args.key c.in-Some.place c.requires (sym c.position.ensures ∙ c.in-Some.is)

@@ -23,13 +23,13 @@ pub returns-then-succ-pred-clause-right : goal.returns-then-succ-pred-clause-rig
 returns-then-succ-pred-clause-right c c' = own-right c'.args.g.now c'.in-Plane.r (subst (IsEmbedding c'.args.g.now) c'.in-Plane.is (c'.in_ok-s.ensures {u = tt})).system (omega (arith, four-vertices c'.args.g.now c'.requires)) (get_or c'.incident.result.now 0 0) (first-of (incident_edges c'.args.g.now 0) c'.incident.result.now c'.incident.ensures.value)
     (omega (arith, c'.if-succ-pred.true, c'.succ.ensures, c'.pred.ensures))
 
-pub returns-in-Plane-clause-embedding : goal.returns-in-Plane-clause-embedding
-returns-in-Plane-clause-embedding c c' =
+pub returns-else-succ-pred-clause-embedding : goal.returns-else-succ-pred-clause-embedding
+returns-else-succ-pred-clause-embedding c c' =
     let e = (subst (IsEmbedding c'.args.g.now) c'.in-Plane.is (c'.in_ok-s.ensures {u = tt})) in
     subst (IsPlaneSystem c'.args.g.now) (sym c'.mirror.ensures)
     (record { system = mirror-system c'.args.g.now c'.in-Plane.r e.system; plane = mirror-image-plane c'.args.g.now c'.in-Plane.r c'.incident.ensures.graph e.system e.plane })
 
-pub returns-in-Plane-clause-right : goal.returns-in-Plane-clause-right
-returns-in-Plane-clause-right c c' = subst TurnsRight (sym c'.mirror.ensures)
+pub returns-else-succ-pred-clause-right : goal.returns-else-succ-pred-clause-right
+returns-else-succ-pred-clause-right c c' = subst TurnsRight (sym c'.mirror.ensures)
     (mirror-right c'.args.g.now c'.in-Plane.r (subst (IsEmbedding c'.args.g.now) c'.in-Plane.is (c'.in_ok-s.ensures {u = tt})).system (omega (arith, four-vertices c'.args.g.now c'.requires)) (get_or c'.incident.result.now 0 0) (first-of (incident_edges c'.args.g.now 0) c'.incident.result.now c'.incident.ensures.value)
     (omega (arith, c'.if-succ-pred.false, c'.succ.ensures, c'.pred.ensures)))
