@@ -178,7 +178,9 @@ class OnGraphs(unittest.TestCase):
             ends = named.report.ends()
             if not named.report.is_planar or len(set(ends.values())) < len(ends):
                 continue
-            lists = spqr.lists_of(nx.check_planarity(spqr.whole_graph(named.report))[1], ends)
+            found = nx.check_planarity(spqr.whole_graph(named.report))[1]
+            lists = spqr.lists_of(found, ends)
+            self.assertEqual(spqr.planar_embedding(lists, ends).adj, found.adj)
             script = f"euler {spqr.text_of_lists(lists)}\n"
             for block in named.report.blocks:
                 own = {vertex: tuple(edge for edge in lists[vertex] if edge in block.edges) for vertex in block.vertices()}

@@ -1,7 +1,7 @@
 -- The depths of the first low vertices are the low points of the search forest.
-use Rattle.std.proofs.Common.{◌≡◌, ◌≢◌, ℕ, ◌<◌, ◌≤◌, inl, inr, ◌==◌, get_or, sym, ap, ◌∙◌, subst, arith}
+use Rattle.std.proofs.Common.{ℕ, inl, inr, ◌==◌, get_or, ap}
 use Rattle.std.proofs.lemmas.Bool.{ne_eqb, eq-eqb, both_ways}
-use Rattle.multigraph.specs.Graph.{Multigraph, edge_count, IsGraph}
+use Rattle.multigraph.specs.Graph.{Multigraph, IsGraph}
 use Rattle.graph_theory.specs.SearchTree.{LeadsTo, AreLowPoints}
 use Rattle.search_forest.specs.Forest.{ForestState}
 use Rattle.search_forest.specs.Searching.{IsOver}

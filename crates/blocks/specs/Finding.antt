@@ -1,7 +1,7 @@
 -- Of private functions: what the steps from a finished search to the blocks give.
-use Rattle.std.specs.Prelude.{◌≡◌, ℕ, ◌<◌, ◌≤◌, ◌↔◌, ◌⊎◌, ◌==◌, Bool, true, false, List, [], length, filter, slice_index, slice_index_or}
+use Rattle.std.specs.Prelude.{◌≡◌, ℕ, ◌<◌, ◌≤◌, ◌↔◌, ◌⊎◌, Bool, true, false, List, length, slice_index}
 use Rattle.permutations.specs.Relation.{class_count}
-use Rattle.multigraph.specs.Graph.{Multigraph, edge_count, numbers_below}
+use Rattle.multigraph.specs.Graph.{Multigraph, edge_count}
 use Rattle.graph_theory.specs.Block.{SameBlock}
 use Rattle.search_forest.specs.Forest.{ForestState}
 use Rattle.search_forest.specs.Low.{LowVertices}

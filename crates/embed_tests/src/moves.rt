@@ -9,7 +9,7 @@ use std::test::Fail;
 // Three parallel edges.
 static PARALLEL: [(u32, u32); 3] = [(0, 1), (0, 1), (0, 1)];
 
-// Whether the block has these edges round the first vertices.
+// Whether the block has these edges around the first vertices.
 fn stands_at(block: &PlaneBlock, rounds: &[&[u32]]) -> bool {
     let r = block.rotation();
     for v in 0..r.vertex_count() {

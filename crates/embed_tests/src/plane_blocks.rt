@@ -13,7 +13,7 @@ use spqr_tree::Tree;
 use std::alloc::Global;
 use std::test::Fail;
 
-// A block by the ends of its edges, and the edges round each vertex in its first plane rotation system.
+// A block by the ends of its edges, and the edges around each vertex in its first plane rotation system.
 struct Row {
     vertices: u32,
     ends: &'static [(u32, u32)],
@@ -122,7 +122,7 @@ fn block_of(alloc: Global, vertices: u32, ends: &[(u32, u32)]) -> Result<Option<
     }
 }
 
-// Whether the block stands at the rotation system of the row.
+// Whether the block has the rotation system of the row.
 fn stands_at(block: &PlaneBlock, row: &Row) -> bool {
     let r = block.rotation();
     if r.vertex_count() as usize != row.rounds.len() {
@@ -221,7 +221,7 @@ fn numbers(answer: Result<(), TakeFault>) -> Option<(u32, u32, u32, u32)> {
     }
 }
 
-// What taking these lists in answers.
+// What taking these lists returns.
 fn take(
     alloc: Global,
     block: &mut PlaneBlock,

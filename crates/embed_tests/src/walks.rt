@@ -13,7 +13,7 @@ fn bundle(alloc: Global, edges: u32) -> Result<PlaneBlock, Fail> {
     block_of(alloc, 2, &ends)
 }
 
-// A cycle of so many vertices with two edges from each to the next.
+// A cycle of this many vertices with two edges from each to the next.
 fn doubled_cycle(alloc: Global, vertices: u32) -> Result<PlaneBlock, Fail> {
     let mut ends = Vec::new(alloc);
     for v in 0..vertices {

@@ -1,10 +1,10 @@
 -- Paths along which no vertex has a mark yet: what the tests on marks say in the terms of walks and paths.
-use Rattle.std.proofs.Common.{◌≡◌, ◌≢◌, ℕ, zero, suc, ◌<◌, Bool, true, false, not, ◌&&◌, ◌==◌, ltb, List, [], ◌∷◌, ◌++◌, length, set, get_or, drop, refl, sym, ap, ◌∙◌, subst, arith}
-use Rattle.std.proofs.lemmas.Bool.{both_ways, false_from_ne_true, and_parts, and_from, and_left, ltb-true, lt-ltb, eq-eqb, eqb-true, true≢false}
+use Rattle.std.proofs.Common.{◌≡◌, ◌≢◌, ℕ, zero, suc, ◌<◌, Bool, true, false, not, ◌&&◌, ◌==◌, List, [], ◌∷◌, ◌++◌, length, set, get_or, drop, refl, sym, ap, ◌∙◌, subst, arith}
+use Rattle.std.proofs.lemmas.Bool.{both_ways, false_from_ne_true, and_parts, and_from, and_left, eq-eqb, eqb-true, true≢false}
 use Rattle.std.proofs.Math.Seq.{drop-cons}
 use Rattle.permutations.specs.Members.{is_member, is_distinct}
 use Rattle.permutations.proofs.Members.{no_member-cons, no_member-append, distinct-cons, distinct-append}
-use Rattle.multigraph.specs.Graph.{Multigraph, edge_count, is_end, is_edge_at, other_end}
+use Rattle.multigraph.specs.Graph.{Multigraph, is_edge_at, other_end}
 use Rattle.multigraph.proofs.OtherEnd.{edge_at-parts, edge_at-from}
 use Rattle.graph_theory.specs.Path.{walk_end, walk_starts, IsWalk, IsPath}
 use Rattle.kuratowski.specs.Subdivision.{branch_at, inner_vertices, all_inner}

@@ -13,7 +13,7 @@ use Rattle.std.proofs.lemmas.List.Kept.{Contains-dedup_nat, Contains-from_dedup,
 use Rattle.std.proofs.lemmas.Map.Keys.{IsStrictlyIncreasing-dedup}
 use Rattle.multigraph.specs.Graph.{Multigraph, edge_count, ends_of, is_end, max_vertices, IsGraph, IsWithinLimits}
 use Rattle.multigraph.specs.Build.{multigraph_of}
-use Rattle.multigraph.specs.Part.{Rises, GraphPart, IsEndOf, HoldEnds, AreEnds, AreInnerEnds, IsNumbered, IsPart, IsPartOn}
+use Rattle.multigraph.specs.Part.{Rises, GraphPart, IsEndOf, HoldEnds, AreEnds, AreInnerEnds, IsPart, IsPartOn}
 use Rattle.multigraph.proofs.OtherEnd.{is_end-first, is_end-second, is_end-cases}
 use Rattle.multigraph.proofs.Places.{rises-short}
 

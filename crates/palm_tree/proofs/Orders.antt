@@ -1,19 +1,14 @@
 -- Which of two members of a list is before the other.
-use Rattle.std.proofs.Common.{◌≡◌, ◌≢◌, ℕ, zero, suc, ◌<◌, ◌≤◌, ◌⊎◌, inl, inr, Bool, true, List, [], ◌∷◌, ◌++◌, length, map, filter, reverse, get_or, refl, sym, ap, ◌∙◌, subst, arith}
+use Rattle.std.proofs.Common.{◌≡◌, ℕ, zero, suc, ◌<◌, ◌⊎◌, inl, inr, Bool, true, List, [], ◌∷◌, ◌++◌, length, map, filter, reverse, get_or, refl, sym, ap, ◌∙◌, subst, arith}
 use Rattle.std.proofs.lemmas.Bool.{cases_Bool, true≢false}
 use Rattle.std.proofs.lemmas.List.{reverse-append}
-use Rattle.permutations.specs.Members.{is_member, is_distinct}
-use Rattle.permutations.proofs.Count.{count-within}
+use Rattle.permutations.specs.Members.{is_member}
 use Rattle.permutations.proofs.Members.{member-head, member-tail, member-cases, member-append_left, member-append_right, member-append_cases, member-reverse}
-use Rattle.permutations.proofs.Arrangements.{count-list, member-at}
+use Rattle.permutations.proofs.Arrangements.{member-at}
 use Rattle.permutations.proofs.Filter.{filter-yes, filter-no, member-filter_parts, filter-member}
 use Rattle.permutations.proofs.Places.{place-of}
 use Rattle.permutations.proofs.Mapped.{member-map}
-use Rattle.multigraph.specs.Graph.{Multigraph}
-use Rattle.search_forest.specs.Forest.{ForestState}
-use Rattle.search_forest.specs.Searching.{IsOver}
 use Rattle.palm_tree.specs.Growing.{IsBefore}
-use Rattle.search_forest.proofs.Writes.{marked-in}
 
 -- a member at an earlier place stands before
 pub before-places : (l : List ℕ) (i j : ℕ) → i < j → j < length l → IsBefore l (get_or l i 0) (get_or l j 0)

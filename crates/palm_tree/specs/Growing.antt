@@ -1,10 +1,9 @@
 -- What the passes from a finished search to a palm tree know, and what each of them does.
-use Rattle.std.specs.Prelude.{◌≡◌, ℕ, ◌+◌, ◌*◌, ◌<◌, ◌≤◌, ◌⊎◌, Bool, true, false, not, cond, ◌&&◌, ◌==◌, nat_lt, if◌then◌else◌, List, [], ◌∷◌, ◌++◌, length, filter, map, Option, None, Some, reverse, slice_index, slice_index_or, slice_set}
+use Rattle.std.specs.Prelude.{◌≡◌, ℕ, ◌+◌, ◌*◌, ◌<◌, ◌≤◌, ◌⊎◌, Bool, true, false, not, cond, ◌&&◌, ◌==◌, nat_lt, if◌then◌else◌, List, [], ◌∷◌, ◌++◌, length, filter, map, None, reverse, slice_index, slice_index_or, slice_set}
 use Rattle.std.specs.Bool.{beq}
 use Rattle.permutations.specs.Count.{sum_below}
-use Rattle.graph_theory.specs.SearchTree.{IsBelow}
 use Rattle.permutations.specs.Members.{is_member, is_distinct}
-use Rattle.multigraph.specs.Graph.{Multigraph, edge_count, other_end}
+use Rattle.multigraph.specs.Graph.{Multigraph, edge_count}
 pub use Rattle.search_forest.specs.Forest.{ForestState, is_tree_edge, upper_end, parent_at}
 pub use Rattle.search_forest.specs.Low.{LowVertices, taken, Tells, LeadsFrom, IsTaken, AreLowSoFar, AreLowVertices, CanTake}
 use Rattle.palm_tree.specs.PalmTree.{PalmTreeLists}

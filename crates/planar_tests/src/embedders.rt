@@ -13,7 +13,7 @@ use rotations::Rotation;
 use std::alloc::{AllocError, Global};
 use std::test::Fail;
 
-// What the embedder answers; nothing where the graph is not triconnected.
+// What the embedder returns; nothing where the graph is not triconnected.
 fn answer_for(alloc: Global, graph: &Graph) -> Result<Option<Embedded>, AllocError>
     ensures { IfOk result (λ answer. IfSome answer (IsEmbedding graph.now)) }
 {

@@ -7,7 +7,7 @@ use quick_obstruct::propose_subdivision;
 use std::alloc::{AllocError, Global};
 use std::test::Fail;
 
-// A ring of so many vertices, opposite ones joined: a ladder closed with a twist.
+// A ring of this many vertices, opposite ones joined: a ladder closed with a twist.
 fn twisted_ladder(alloc: Global, vertices: u32) -> Result<Graph, Fail> {
     let mut ends = Vec::new(alloc);
     for v in 1..vertices {

@@ -50,7 +50,7 @@ impl Embedder for Counted {
     }
 }
 
-// Puts the list behind the others, if its vertex is above theirs.
+// Appends the list to the others, if its vertex is above theirs.
 fn put(lists: &mut Lists, vertex: u32, edges: &[u32]) -> Result<(), AllocError> {
     if lists.is_above(vertex) {
         lists.push(vertex, edges)?;
@@ -152,7 +152,7 @@ fn answer_by<F: Finder>(
     Ok(Some((answer, fallback.calls)))
 }
 
-// Whether the answer for the graph is the one of the row, after so many calls of the other embedder.
+// Whether the answer for the graph is the one of the row, after this many calls of the other embedder.
 fn is_answered<F: Finder>(
     alloc: Global,
     finder: &mut F,

@@ -9,7 +9,7 @@ use rotations::Rotation;
 use std::alloc::{AllocError, Global};
 use std::test::Fail;
 
-// How a graph is to be answered: with a plane rotation system, where it has so many vertices, edges, faces and components, or
+// How a graph is to be answered: with a plane rotation system, where it has this many vertices, edges, faces and components, or
 // with a subdivision of this pattern.
 pub(crate) enum Expected {
     Plane([u32; 4]),
@@ -114,7 +114,7 @@ pub(crate) static TRAPS: [Row; 7] = [
         ends: &[1, 4, 4, 2, 3, 0, 2, 0, 3, 1, 4, 0, 3, 4, 0, 1, 1, 2],
         expected: Expected::Plane([5, 9, 6, 1]),
     },
-    // intervals merged without reference; dropped pairs not turned; sides told in one pass
+    // intervals merged without reference; dropped pairs not turned; sides determined in one pass
     Row {
         vertices: 5,
         ends: &[0, 3, 0, 2, 0, 1, 3, 4, 3, 2, 1, 4, 2, 1, 1, 3, 2, 4],

@@ -95,7 +95,7 @@ static K5_ROWS: [Row; 8] = [
     },
 ];
 
-// Three vertices joined with three others, where vertex 6 stands between 2 and 5; besides, edges from 1 to 6 and from 4 to 6,
+// Three vertices joined with three others, where vertex 6 is between 2 and 5; in addition edges from 1 to 6 and from 4 to 6,
 // and another one from 2 to 4.
 const K33_ENDS: [(u32, u32); 13] = [
     (0, 3),

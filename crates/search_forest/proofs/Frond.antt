@@ -1,12 +1,11 @@
 -- An edge was seen that leads to an ancestor: what holds between turns is kept.
-use Rattle.std.proofs.Common.{◌≡◌, ◌≢◌, ℕ, ◌+◌, ◌<◌, ◌≤◌, ◌⊎◌, inl, inr, Bool, true, false, min, List, length, get_or, set, refl, sym, ap, ◌∙◌, subst, arith, length-set}
-use Rattle.std.proofs.lemmas.Bool.{cases_eq, cases_lt}
+use Rattle.std.proofs.Common.{◌≡◌, ◌≢◌, ℕ, ◌+◌, ◌<◌, ◌⊎◌, inl, inr, Bool, true, false, List, length, get_or, set, sym, ap, ◌∙◌, subst, arith, length-set}
 use Rattle.permutations.specs.Permutation.{iterate}
 use Rattle.multigraph.specs.Graph.{Multigraph, edge_count, is_end, other_end, incident_edges}
 use Rattle.search_forest.specs.Forest.{ForestState, frond_noted, IsForest}
 use Rattle.multigraph.specs.Marks.{is_marked}
 use Rattle.search_forest.specs.Forest.{IsGrown, IsSeen, OnPath}
-use Rattle.search_forest.proofs.Writes.{number-same, number-other, marked-same, marked-cases, marked-kept, marks-differ}
+use Rattle.search_forest.proofs.Writes.{number-same, number-other, marked-cases, marked-kept, marks-differ}
 use Rattle.search_forest.proofs.Ancestors.{path-up}
 
 -- edge e was seen for the first time at v, at place j + i + 1 of the path, and leads to the vertex at place j

@@ -1,14 +1,11 @@
 -- The last vertex of the path was left: what holds between turns is kept.
-use Rattle.std.proofs.Common.{◌≡◌, ◌≢◌, ℕ, ◌+◌, ◌-◌, ◌<◌, ◌≤◌, ◌⊎◌, inl, inr, Bool, true, false, cond, min, ltb, List, length, take, get_or, set, sym, ap, ◌∙◌, subst, arith, length-set}
-use Rattle.std.proofs.lemmas.Bool.{cases_eq, cases_lt, cases_Bool}
+use Rattle.std.proofs.Common.{◌≡◌, ℕ, ◌+◌, ◌-◌, ◌<◌, ◌≤◌, ◌⊎◌, inl, inr, true, List, length, take, get_or, sym, ap, ◌∙◌, subst, arith}
+use Rattle.std.proofs.lemmas.Bool.{cases_lt}
 use Rattle.std.proofs.lemmas.List.{get_or-take, length-take-le}
-use Rattle.permutations.proofs.Iterates.{iterate-sum}
 use Rattle.multigraph.specs.Graph.{Multigraph}
 use Rattle.search_forest.specs.Forest.{ForestState, left, IsForest}
 use Rattle.multigraph.specs.Marks.{is_marked}
 use Rattle.search_forest.specs.Forest.{degree, IsOnPath, IsLooked, OnPath}
-use Rattle.search_forest.proofs.Writes.{number-same, number-other}
-use Rattle.search_forest.proofs.Ancestors.{chain}
 
 -- v is the last vertex of the path, at place k, and all its edges were looked at
 pub record IsDone (g : Multigraph) (s : ForestState) (v k : ℕ) : Type 0 where

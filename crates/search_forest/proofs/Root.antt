@@ -1,10 +1,10 @@
 -- A root was visited, while the path was empty: what holds between turns is kept.
-use Rattle.std.proofs.Common.{◌≡◌, ◌≢◌, ℕ, ◌+◌, ◌<◌, ◌≤◌, ◌⊎◌, inl, inr, Bool, true, false, List, [], ◌∷◌, ◌++◌, length, take, get_or, set, refl, sym, ap, ◌∙◌, subst, arith, length-set, length-append}
+use Rattle.std.proofs.Common.{◌≡◌, ◌≢◌, ℕ, ◌+◌, ◌<◌, ◌≤◌, ◌⊎◌, inl, inr, Bool, true, false, List, [], ◌∷◌, ◌++◌, length, take, get_or, set, sym, ap, ◌∙◌, subst, arith, length-set, length-append}
 use Rattle.std.proofs.lemmas.Bool.{cases_lt}
 use Rattle.std.proofs.lemmas.List.{get_or_append_left, get_or_push, take-append-le}
 use Rattle.permutations.specs.Members.{is_member}
 use Rattle.permutations.proofs.Arrangements.{member-at}
-use Rattle.multigraph.specs.Graph.{Multigraph, other_end}
+use Rattle.multigraph.specs.Graph.{Multigraph}
 use Rattle.search_forest.specs.Forest.{ForestState, root_noted, IsForest}
 use Rattle.multigraph.specs.Marks.{is_marked}
 use Rattle.search_forest.specs.Forest.{IsOnPath, IsGrown, IsSeen, IsOrdered, OnPath}

@@ -1,11 +1,11 @@
 -- The search of a whole graph, one tree after another.
-use Rattle.std.proofs.Common.{◌≡◌, ℕ, ◌+◌, ◌*◌, ◌<◌, true, false, [], ◌∷◌, length, ap, subst, sym, ◌∙◌, arith, length-append}
+use Rattle.std.proofs.Common.{◌≡◌, ℕ, ◌+◌, ◌*◌, ◌<◌, true, false, [], length, subst, sym, arith}
 use Rattle.multigraph.specs.Graph.{Multigraph, edge_count, IsGraph}
 use Rattle.multigraph.specs.Marks.{is_marked}
-use Rattle.search_forest.specs.Forest.{ForestState, fresh, root_noted, IsForest}
+use Rattle.search_forest.specs.Forest.{ForestState, root_noted, IsForest}
 use Rattle.search_forest.specs.Searching.{IsOver, looks_ahead}
 use Rattle.search_forest.proofs.Root.{root-forest}
-use Rattle.search_forest.proofs.Start.{over-looks, fresh-looks}
+use Rattle.search_forest.proofs.Start.{over-looks}
 use Rattle.search_forest.proofs.Orders.{order-each}
 
 -- the state after a root was visited is between turns

@@ -1,5 +1,5 @@
 -- How a search begins, how many turns it takes, and that every vertex was visited at its end.
-use Rattle.std.proofs.Common.{◌≡◌, ℕ, ◌+◌, ◌*◌, ◌<◌, ◌≤◌, inl, inr, true, false, [], length, get_or, replicate, refl, sym, ap, ◌∙◌, subst, arith}
+use Rattle.std.proofs.Common.{◌≡◌, ℕ, ◌+◌, ◌*◌, ◌<◌, ◌≤◌, inl, inr, true, false, [], length, get_or, replicate, refl, sym, ◌∙◌, subst, arith}
 use Rattle.std.proofs.lemmas.Bool.{both_ways}
 use Rattle.std.proofs.lemmas.List.{get_or_default, length-replicate}
 use Rattle.permutations.proofs.Relation.{same-tests, connected-value}
@@ -10,7 +10,7 @@ use Rattle.multigraph.proofs.OtherEnd.{is_end-first, is_end-second}
 use Rattle.graph_theory.specs.Connected.{IsConnected}
 use Rattle.graph_theory.proofs.Ends.{end-cases, end-in}
 use Rattle.search_forest.specs.Forest.{ForestState, fresh, root_noted, degree, IsForest}
-use Rattle.search_forest.specs.Searching.{IsOver, IsOneTree, looks_ahead, turns_left}
+use Rattle.search_forest.specs.Searching.{IsOver, looks_ahead, turns_left}
 use Rattle.search_forest.proofs.Writes.{marked-same}
 use Rattle.search_forest.proofs.Fresh.{fresh-forest, marked-none}
 use Rattle.search_forest.proofs.Root.{root-forest, root-roots}

@@ -1,5 +1,5 @@
 -- State of a loop: what a turn of a depth-first search changes, and what holds when the search is over.
-use Rattle.std.specs.Prelude.{◌≡◌, ℕ, ◌+◌, ◌*◌, ◌<◌, ◌≤◌, true, List, [], length, slice_index}
+use Rattle.std.specs.Prelude.{◌≡◌, ℕ, ◌+◌, ◌*◌, ◌<◌, ◌≤◌, true, [], length, slice_index}
 use Rattle.multigraph.specs.Graph.{Multigraph}
 use Rattle.multigraph.specs.Marks.{is_marked}
 use Rattle.search_forest.specs.Forest.{ForestState, OnPath, IsForest, looks_left}

@@ -6,7 +6,7 @@ use gml_text::writer::write;
 use std::alloc::{AllocError, Global};
 use std::test::Fail;
 
-// What reading answers: a letter for each answer, and the place of a fault.
+// What reading returns: a letter for each answer, and the place of a fault.
 fn answer(alloc: Global, bytes: &[u8]) -> (char, usize) {
     match read(alloc, bytes) {
         Ok(_) => ('o', 0),
@@ -18,7 +18,7 @@ fn answer(alloc: Global, bytes: &[u8]) -> (char, usize) {
     }
 }
 
-// Texts, each with what reading it answers.
+// Texts, each with what reading it returns.
 static FAULTS: [(&[u8], (char, usize)); 45] = [
     (b"", ('o', 0)),
     (b"a", ('e', 1)),
@@ -75,7 +75,7 @@ fn faults_are_where_no_document_goes_on(rt: HostRuntime) -> Result<(), Fail> {
     Ok(())
 }
 
-// A text within so many lists of the key `a`, which are closed.
+// A text within this many lists of the key `a`, which are closed.
 fn nested(alloc: Global, lists: usize) -> Result<Vec<u8>, AllocError> {
     let mut text = Vec::new(alloc);
     for _ in 0..lists {
@@ -158,7 +158,7 @@ fn what_is_read_is_written_in_the_layout(rt: HostRuntime) -> Result<(), Fail> {
     Ok(())
 }
 
-// How many pairs stand in the lists of the copies of its pairs, and whether each copy has its key.
+// How many pairs are in the lists of the copies of its pairs, and whether each copy has its key.
 fn copied(alloc: Global, text: &[u8]) -> Result<(usize, bool), Fail> {
     let document = read(alloc, text)?;
     let mut inner: usize = 0;

@@ -403,7 +403,7 @@ fn lists_of(alloc: Global, rows: &[(u32, &[u32])]) -> Result<Lists, AllocError> 
     Ok(lists)
 }
 
-// Puts the lines of the faces behind.
+// Appends the lines of the faces.
 fn push_faces(
     alloc: Global,
     b: u32,
@@ -465,7 +465,7 @@ fn lines_of_plane_blocks(rt: HostRuntime) -> Result<(), Fail> {
 #[test]
 fn lines_of_a_plane_part(rt: HostRuntime) -> Result<(), Fail> {
     let alloc = rt.alloc();
-    // A triangle behind three other edges and vertices.
+    // A triangle after three other edges and vertices.
     let ends = [(0, 1), (1, 2), (2, 3), (3, 4), (4, 5), (3, 5)];
     let g = Graph::build(alloc, 6, &ends)?;
     let triangle = g.part(alloc, &[3, 4, 5])?;
@@ -479,7 +479,7 @@ fn lines_of_a_plane_part(rt: HostRuntime) -> Result<(), Fail> {
     Ok(())
 }
 
-// The lines of a subdivision of K3,3 in a block; nothing where it is none.
+// The lines of a subdivision of K3,3 in a block; nothing where it is not one.
 fn nonplanar_text(
     alloc: Global,
     b: u32,
@@ -502,7 +502,7 @@ fn nonplanar_text(
     nonplanar_lines(alloc, b, part, &s)
 }
 
-// An edge, and K3,3 with a subdivided edge behind it.
+// An edge, and K3,3 with a subdivided edge after it.
 static SUBDIVIDED: [(u32, u32); 11] = [
     (0, 1),
     (1, 4),
@@ -561,7 +561,7 @@ fn moves_text(alloc: Global, part: &Part, keys: &[u32]) -> Result<Vec<u8>, Alloc
 #[test]
 fn lines_of_moves(rt: HostRuntime) -> Result<(), Fail> {
     let alloc = rt.alloc();
-    // An edge, and three parallel edges behind it.
+    // An edge, and three parallel edges after it.
     let g = Graph::build(alloc, 3, &[(0, 1), (1, 2), (1, 2), (1, 2)])?;
     let part = g.part(alloc, &[1, 2, 3])?;
     let lines = moves_text(alloc, &part, &[0, 2, 1])?;

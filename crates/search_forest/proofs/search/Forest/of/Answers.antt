@@ -1,4 +1,4 @@
-use Rattle.std.proofs.Common.{◌≡◌, ℕ, true, length, sym, subst, arith, ap, below_more}
+use Rattle.std.proofs.Common.{◌≡◌, true, length, sym, subst, arith, ap, below_more}
 use Rattle.multigraph.specs.Marks.{is_marked}
 use Rattle.search_forest.specs.Forest.{ForestState, IsForest}
 use Rattle.search_forest.specs.Searching.{turns_left, looks_ahead}

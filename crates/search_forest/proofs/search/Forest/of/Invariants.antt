@@ -1,5 +1,4 @@
 use Rattle.std.proofs.Common.{◌≡◌, ℕ, ◌+◌, ◌<◌, ◌≤◌, [], true, length}
-use Rattle.multigraph.specs.Graph.{IsGraph}
 use Rattle.multigraph.specs.Marks.{is_marked}
 use Rattle.search_forest.specs.Forest.{fresh, IsForest}
 use Rattle.search_forest.specs.Searching.{looks_ahead, turns_left}
