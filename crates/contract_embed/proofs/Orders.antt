@@ -9,8 +9,8 @@ use Rattle.permutations.specs.Cyclic.{first_or, turned}
 use Rattle.permutations.proofs.Turned.{turned-own}
 use Rattle.multigraph.specs.Graph.{Multigraph, incident_edges}
 use Rattle.rotations.specs.Entries.{list_at}
-use Rattle.rotations.specs.Given.{given_order, IsFirstBad}
-use Rattle.rotations.specs.Rotation.{order_at, IsRotationSystem}
+use Rattle.rotations.specs.Given.{given_order, AreArranged}
+use Rattle.rotations.specs.Rotation.{order_at}
 use Rattle.rotations.proofs.Cursor.{list_at-found}
 use Rattle.contract_obstruct.specs.Steps.{AreSteps}
 use Rattle.contract_embed.specs.Entries.{AreOrdersBelow}
@@ -31,20 +31,20 @@ orders-given s k entries a v l = list_at-found entries v v (subst (λ n. v < n) 
 
 -- the rotation system of these entries is the one whose steps were read
 pub orders-same : (g : Multigraph) (s r : List (List ℕ)) (next : List ℕ) (entries : List (ℕ × List ℕ)) → AreSteps g s next → ((v : ℕ) → v < g.vertex_count → list_at entries v ≡ order_at s v)
-    → IsRotationSystem g r → ((v : ℕ) → v < g.vertex_count → order_at r v ≡ given_order g entries v) → r ≡ s
-orders-same g s r next entries a given system orders = same_lists r s (system.vertices ∙ sym a.system.vertices) each
+    → length r ≡ g.vertex_count → ((v : ℕ) → v < g.vertex_count → order_at r v ≡ given_order g entries v) → r ≡ s
+orders-same g s r next entries a given vertices orders = same_lists r s (vertices ∙ sym a.system.vertices) each
   where
     one : (v : ℕ) → v < g.vertex_count → order_at r v ≡ order_at s v
     one v l = orders v l ∙ (ap (λ k. turned k (first_or 0 (incident_edges g v))) (given v l) ∙ (ap (turned (order_at s v)) (sym (a.system.orders v l).least_first) ∙ turned-own (order_at s v)))
 
     each : (k : ℕ) (d : List ℕ) → k < length r → get_or r k d ≡ get_or s k d
     each k d l =
-        let m : k < g.vertex_count = subst (λ n. k < n) system.vertices l in
+        let m : k < g.vertex_count = subst (λ n. k < n) vertices l in
         get_or_default r k d [] l ∙ (one k m ∙ get_or_default s k [] d (subst (λ n. k < n) (sym a.system.vertices) m))
 
--- no number is bad for these entries
-pub orders-not_bad : (g : Multigraph) (s : List (List ℕ)) (next : List ℕ) (entries : List (ℕ × List ℕ)) → AreSteps g s next → AreOrdersBelow s g.vertex_count entries → (v : ℕ) → IsFirstBad g entries v → ⊥
-orders-not_bad g s next entries a o v b = elim b.bad [
-  | inl l ↦ l.1 (subst (IsPermutation (incident_edges g v)) (sym (orders-given s g.vertex_count entries o v l.0)) (a.system.orders v l.0).arranged)
-  | inr r ↦ omega (arith, r.0, (r.1).1, (r.1).2, o.each, o.vertex ((r.1).0) (omega (arith, (r.1).1, o.each)))
-]
+-- these entries are arranged
+pub orders-arranged : (g : Multigraph) (s : List (List ℕ)) (next : List ℕ) (entries : List (ℕ × List ℕ)) → AreSteps g s next → AreOrdersBelow s g.vertex_count entries → AreArranged g entries
+orders-arranged g s next entries a o = record {
+  arranged = λ v l. subst (IsPermutation (incident_edges g v)) (sym (orders-given s g.vertex_count entries o v l)) (a.system.orders v l).arranged;
+  vertices = λ v n. omega (arith, n.1, n.2, o.each, o.vertex n.0 (omega (arith, n.1, o.each)));
+}

@@ -1,4 +1,4 @@
--- State of a loop: where the darts round the merged vertex of a contraction fall in two runs.
+-- State of a loop: where the darts around the merged vertex of a contraction have two runs.
 use Rattle.std.specs.Prelude.{◌≡◌, ◌≢◌, ℕ, ◌<◌, ◌⊎◌, true, List, length, slice_index}
 use Rattle.dart_maps.specs.Map.{twin}
 use Rattle.faces.specs.Euler.{tail, dart_count}
@@ -21,7 +21,7 @@ leaves level d = tail level.graph (origin level d)
 abbrev pub Turns : Level → List ℕ → ℕ → ℕ → ℕ → Type 0
 Turns level next from to d = (leaves level d ≡ from) × (leaves level (slice_index next d) ≡ to)
 
--- at dart d the runs go on, but behind the last dart of x and before the first one; and only these lead to neighbours of y
+-- at dart d the runs continue, but after the last dart of x and before the first one; and only these lead to neighbours of y
 pub record FitsAt (level : Level) (next : List ℕ) (first last d : ℕ) : Type 0 where
   pub run_of_x : leaves level d ≡ level.x → d ≢ last → leaves level (slice_index next d) ≡ level.x
   pub run_of_y : leaves level d ≡ level.y → slice_index next d ≢ first → leaves level (slice_index next d) ≡ level.y
@@ -35,12 +35,12 @@ NoTurn level next from to = (d : ℕ) → d < dart_count (contraction level) →
 abbrev pub TurnsAt : Level → List ℕ → ℕ → ℕ → ℕ → Type 0
 TurnsAt level next from to d = (d < dart_count (contraction level)) × Turns level next from to d
 
--- there is a rotation system with these steps, and in it the darts round the merged vertex fall in runs from `first` to `last`
+-- there is a rotation system with these steps, and in it the darts around the merged vertex have runs from `first` to `last`
 abbrev pub HaveRuns : Level → List ℕ → ℕ → ℕ → Type 0
 HaveRuns level next first last =
     (s : List (List ℕ)) × AreSteps (contraction level) s next × FallsInRuns level.graph (contraction level) level.x level.y (edge_before level) s first last
 
--- f with the edge between where dart d leads and y put in again, if there is one
+-- f with the edge between where dart d leads and y inserted, if there is one
 abbrev pub joined_again : Level → ℕ → ℕ → ℕ → (ℕ → ℕ) → ℕ → ℕ
 joined_again level d p q =
     rejoined (are_adjacent level.graph level.y (tail level.graph (twin d))) (first_dart level.graph (tail level.graph (twin d)) level.y) p q

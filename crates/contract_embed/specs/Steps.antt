@@ -22,6 +22,6 @@ leads g u v d = (tail g d == u) && (tail g (twin d) == v)
 abbrev pub first_dart : Multigraph → ℕ → ℕ → ℕ
 first_dart g u v = least (dart_count g) (leads g u v)
 
--- f with the edge of dart d put in behind p and behind q, if the test holds
+-- f with the edge of dart d inserted after p and after q, if the test holds
 abbrev pub rejoined : Bool → ℕ → ℕ → ℕ → (ℕ → ℕ) → ℕ → ℕ
 rejoined t d p q f z = cond t (inserted d p q f z) (f z)

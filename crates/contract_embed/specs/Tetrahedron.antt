@@ -1,4 +1,4 @@
--- The cyclic orders of the neighbours round the vertices of the tetrahedron, with one vertex inside the triangle of the others.
+-- The cyclic orders of the neighbours around the vertices of the tetrahedron, with one vertex inside the triangle of the others.
 use Rattle.std.specs.Prelude.{ℕ, ◌+◌, ◌*◌, List, [], ◌∷◌, slice_index}
 
 -- for each two vertices the neighbour of the first that follows the second

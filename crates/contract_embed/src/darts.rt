@@ -28,7 +28,7 @@ fn leads(g: &Graph, dart: u32, u: u32, v: u32) -> bool
     tail(g, dart) == u && head(g, dart) == v
 }
 
-// The first dart that leads from u to v, or the number of darts where none does.
+// The first dart that leads from u to v, or the number of darts if none does.
 pub(crate) fn first_dart(g: &Graph, u: u32, v: u32) -> u32
     ensures { result ≡ first_dart g.now u v }
 {

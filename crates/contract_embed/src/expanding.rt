@@ -1,6 +1,6 @@
 // The way back over a contraction: from the steps of a plane rotation system of the contracted graph to those of one of the
-// graph. The merged vertex is parted at the ends of its two runs, the contracted edge is put in between, and the edges from y to
-// common neighbours are put in beside those from x.
+// graph. The merged vertex is split at the ends of its two runs, the contracted edge is inserted between them, and the edges from
+// y to common neighbours are inserted next to those from x.
 
 ghost use Rattle.std.specs.Prelude.{◌≡◌, ◌<◌, ◌+◌, length, IfOk};
 ghost use Rattle.dart_maps.specs.Map.{twin};
@@ -12,10 +12,11 @@ ghost use Rattle.contract_embed.specs.Steps.{IsChangedBy};
 ghost use Rattle.contract_embed.specs.Runs.{joined_again, CarriedBelow, HaveRuns};
 
 use crate::darts::{arrives_at_mark, first_dart};
-use crate::runs::{after, before, dart_count, origin};
+use crate::runs::{after, before, origin};
 use crate::steps::{exchange, insert};
 use contractions::{Level, neighbour_marks, numbers_below};
-use faces::{dart_from, head, twin};
+use faces::{dart_count, dart_from, head, twin};
+use multigraph::Graph;
 use std::alloc::{AllocError, Global};
 
 // Carries the step from one dart over.
@@ -31,20 +32,21 @@ fn carry(level: &Level, next: &[u32], wide: &mut [u32], dart: u32)
 }
 
 // The steps on the darts of the edges that stay; each other dart is alone.
-fn carry_all(alloc: Global, level: &Level, next: &[u32]) -> Result<Vec<u32>, AllocError>
+fn carry_all(alloc: Global, level: &Level, h: &Graph, next: &[u32]) -> Result<Vec<u32>, AllocError>
     requires level { IsLevel level.now }
+    requires contraction { h.now ≡ contraction level.now }
     requires steps { ArePlaneSteps (contraction level.now) next.now }
     ensures { IfOk result (λ wide. CarriedBelow level.now next.now
         (dart_count (contraction level.now)) wide.items) }
 {
-    let mut wide = numbers_below(alloc, faces::dart_count(&level.graph))?;
-    for dart in 0..dart_count(level) {
+    let mut wide = numbers_below(alloc, dart_count(&level.graph))?;
+    for dart in 0..dart_count(h) {
         carry(level, next, &mut wide, dart);
     }
     Ok(wide)
 }
 
-// Puts the edge from where the dart leads to y in again, if there is one: behind p, and at y behind q.
+// Inserts the edge from where the dart leads to y, if there is one: after p, and at y after q.
 fn join_again(level: &Level, marks: &[bool], wide: &mut [u32], dart: u32, p: u32, q: u32)
     requires level { IsLevel level.now }
     requires number { length marks.now ≡ level.now.graph.vertex_count }
@@ -62,9 +64,18 @@ fn join_again(level: &Level, marks: &[bool], wide: &mut [u32], dart: u32, p: u32
     }
 }
 
-// Parts the merged vertex and puts in what is missing.
-fn part(level: &Level, marks: &[bool], next: &[u32], wide: &mut [u32], first: u32, last: u32)
+// Splits the merged vertex and inserts what is missing.
+fn split(
+    level: &Level,
+    h: &Graph,
+    marks: &[bool],
+    next: &[u32],
+    wide: &mut [u32],
+    first: u32,
+    last: u32,
+)
     requires level { IsLevel level.now }
+    requires contraction { h.now ≡ contraction level.now }
     requires number { length marks.now ≡ level.now.graph.vertex_count }
     requires marks { AreNeighbourMarks level.now.graph level.now.y marks.now }
     requires steps { ArePlaneSteps (contraction level.now) next.now }
@@ -75,8 +86,8 @@ fn part(level: &Level, marks: &[bool], next: &[u32], wide: &mut [u32], first: u3
         (contraction level.now)) wide.old }
     ensures { ArePlaneSteps level.now.graph wide.new }
 {
-    let end = origin(level, before(level, next, first));
-    let behind = origin(level, before(level, next, twin(last)));
+    let end = origin(level, before(level, h, next, first));
+    let behind = origin(level, before(level, h, next, twin(last)));
     let middle = dart_from(&level.graph, level.x, level.edge);
     let early = origin(level, first);
     let late = origin(level, last);
@@ -86,23 +97,26 @@ fn part(level: &Level, marks: &[bool], next: &[u32], wide: &mut [u32], first: u3
     join_again(level, marks, wide, late, behind, twin(middle));
 }
 
-// The steps of the plane rotation system of the graph, from the first and the last dart of the run of x.
+// The steps of the plane rotation system of the graph of a level, from those of its contraction h and the first and the last
+// dart of the run of x.
 pub(crate) fn expand(
     alloc: Global,
     level: &Level,
+    h: &Graph,
     next: &[u32],
     first: u32,
     last: u32,
 ) -> Result<Vec<u32>, AllocError>
     requires level { IsLevel level.now }
+    requires contraction { h.now ≡ contraction level.now }
     requires steps { ArePlaneSteps (contraction level.now) next.now }
     requires first { first < dart_count (contraction level.now) }
     requires last { last < dart_count (contraction level.now) }
     requires runs { HaveRuns level.now next.now first last }
     ensures { IfOk result (λ wide. ArePlaneSteps level.now.graph wide.items) }
 {
-    let mut wide = carry_all(alloc, level, next)?;
+    let mut wide = carry_all(alloc, level, h, next)?;
     let marks = neighbour_marks(alloc, &level.graph, level.y)?;
-    part(level, &marks, next, &mut wide, first, last);
+    split(level, h, &marks, next, &mut wide, first, last);
     Ok(wide)
 }

@@ -7,7 +7,7 @@ ghost use Rattle.contract_embed.specs.Entries.{AreOrdersBelow};
 
 use contract_obstruct::round;
 use multigraph::Graph;
-use rotations::{Lists, RotFault, Rotation};
+use rotations::{Lists, Rotation};
 use std::alloc::{AllocError, Global};
 
 // The cyclic orders of all vertices.
@@ -30,11 +30,6 @@ pub(crate) fn rotation(alloc: Global, g: &Graph, next: &[u32]) -> Result<Rotatio
     ensures { IfOk result (IsPlaneSystem g.now) }
 {
     let lists = rounds(alloc, g, next)?;
-    match Rotation::from_lists(alloc, g, &lists) {
-        Ok(r) => Ok(r),
-        Err(fault) => match fault {
-            RotFault::Memory => Err(AllocError),
-            RotFault::BadRotation(_) => unreachable!(),
-        },
-    }
+    let r = Rotation::of_arranged(alloc, g, &lists)?;
+    Ok(r)
 }

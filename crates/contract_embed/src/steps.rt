@@ -1,4 +1,4 @@
-// Steps round the vertices, as a list that gives for each dart the one that follows it, and their changes.
+// Steps around the vertices, as a list that gives for each dart the one that follows it, and their changes.
 
 ghost use Rattle.std.specs.Prelude.{◌<◌, length};
 ghost use Rattle.permutations.specs.Exchange.{exchange};
@@ -17,7 +17,7 @@ pub(crate) fn exchange(next: &mut [u32], p: u32, q: u32)
     next.swap(p as usize, q as usize);
 }
 
-// Puts the edge of dart d in: d behind p, and its twin behind q.
+// Inserts the edge of dart d: d after p, and its twin after q.
 pub(crate) fn insert(next: &mut [u32], d: u32, p: u32, q: u32)
     requires dart { d < length next.old }
     requires twin_in { twin d < length next.old }

@@ -1,5 +1,6 @@
 -- A cyclic order, and the lists that it is from each of its places on.
-use Rattle.std.proofs.Common.{◌≡◌, ℕ, ◌<◌, List, [], ◌∷◌, ◌++◌, length, take, drop, slice_index, refl, sym, ap, ◌∙◌, append-nil, append_assoc, take-append-drop, length-append, arith}
+use Rattle.std.proofs.Common.{◌≡◌, ℕ, suc, ◌+◌, ◌<◌, List, [], ◌∷◌, ◌++◌, length, get_or, take, drop, slice_index, refl, sym, ap, ◌∙◌, append-nil, append_assoc, take-append-drop, length-append, add-one, arith}
+use Rattle.std.proofs.Math.Seq.{drop-cons, take-suc}
 use Rattle.permutations.specs.Cyclic.{IsTurn}
 use Rattle.permutations.proofs.CyclicSame.{IsTurn-trans}
 use Rattle.contract_obstruct.specs.Obstruction.{rotated}
@@ -44,3 +45,19 @@ turn-last l a b c d t = IsTurn-trans l (a ++ (b ++ (c ++ d))) (d ++ (a ++ (b ++ 
   before = ap (λ (z : List ℕ). a ++ z) (sym (append_assoc b c d)) ∙ sym (append_assoc a (b ++ c) d);
   after = refl;
 })
+
+-- a list that begins with x, and then goes on with another one, rotated by one
+rotated-cons : (x : ℕ) (r l : List ℕ) → l ≡ x ∷ r → rotated l 1 ≡ r ++ x ∷ []
+rotated-cons x r l e = ap (λ (z : List ℕ). rotated z 1) e
+
+-- a list from place m on, rotated by one, is the list from the next place on
+pub rotated-next : (l : List ℕ) (m : ℕ) → m < length l → rotated (rotated l m) 1 ≡ rotated l (m + 1)
+rotated-next l m p =
+    rotated-cons (get_or l m 0) (drop (suc m) l ++ take m l) (rotated l m) (ap (λ (z : List ℕ). z ++ take m l) (drop-cons l m 0 p))
+    ∙ (append_assoc (drop (suc m) l) (take m l) (get_or l m 0 ∷ [])
+    ∙ (ap (λ (z : List ℕ). drop (suc m) l ++ z) (sym (take-suc l m 0 p))
+    ∙ ap (rotated l) (sym (add-one m))))
+
+-- a rotated list is as long
+pub rotated-length : (l : List ℕ) (m : ℕ) → length (rotated l m) ≡ length l
+rotated-length l m = omega (arith, length-append (drop m l) (take m l), length-append (take m l) (drop m l), ap (λ (z : List ℕ). length z) (take-append-drop m l))

@@ -1,4 +1,4 @@
--- State of a loop: faces, as a list of steps leads along them; it gives for each dart the one that follows it round its vertex.
+-- State of a loop: faces, as a list of steps leads along them; it gives for each dart the one that follows it around its vertex.
 use Rattle.std.specs.Prelude.{ℕ, ◌-◌, ◌/◌, List, [], ◌∷◌, ◌++◌, length, map, slice_index}
 use Rattle.permutations.specs.Ring.{images, orbit_length}
 use Rattle.dart_maps.specs.Map.{twin}

@@ -1,4 +1,4 @@
--- State of a loop: places in a cyclic order round the merged vertex of a level that show a subdivision; and, last, what it is
+-- State of a loop: places in a cyclic order around the merged vertex of a level that show a subdivision; and, last, what it is
 -- for steps to have no runs there.
 use Rattle.std.specs.Prelude.{◌≡◌, ℕ, ◌<◌, ◌≤◌, true, false, List, ◌++◌, take, drop, length, slice_index}
 use Rattle.multigraph.specs.Graph.{is_end}
@@ -9,15 +9,15 @@ use Rattle.contractions.specs.Level.{contraction, edge_before}
 use Rattle.contract_obstruct.specs.Steps.{AreSteps}
 use Rattle.contract_obstruct.specs.Sectors.{LeadsOut, IsCommonEdge}
 
--- a list from place m on, and then what stands before
+-- a list from place m on, and then what is before it
 abbrev pub rotated : List ℕ → ℕ → List ℕ
 rotated l m = drop m l ++ take m l
 
--- its members stand for edges of the graph that lead from x or from y
+-- its members are edges of the graph that lead from x or from y
 abbrev pub StandForEdges : Level → List ℕ → Type 0
 StandForEdges level l = (t : ℕ) → t < length l → LeadsOut level (slice_index l t)
 
--- the edge that stands for i leads from x
+-- the edge that i was leads from x
 abbrev pub LeadsFromX : Level → ℕ → Type 0
 LeadsFromX level i = is_end level.graph level.x (edge_before level i) ≡ true
 
@@ -38,7 +38,7 @@ abbrev pub IsFirstCommon : Level → List ℕ → ℕ → ℕ → Type 0
 IsFirstCommon level l from t =
     (from ≤ t) × (t < length l) × IsCommonEdge level (slice_index l t) × ((u : ℕ) → from ≤ u → u < t → IsCommonEdge level (slice_index l u) → ⊥)
 
--- no edges lead from x before place j, place 0 aside, and behind it
+-- no edges lead from x both before place j, place 0 aside, and after it
 abbrev pub NoneRound : Level → List ℕ → ℕ → Type 0
 NoneRound level l j =
     (i k : ℕ) → 0 < i → i < j → j < k → k < length l → LeadsFromX level (slice_index l i) → LeadsFromX level (slice_index l k) → ⊥
@@ -73,7 +73,7 @@ pub record ShowsNothing (level : Level) (l : List ℕ) : Type 0 where
   pub no_triple : (i j : ℕ) → IsTripleAt level l i j → ⊥
   pub no_crossing : (i j k : ℕ) → IsCrossingAt level l i j k → ⊥
 
--- there is a rotation system with these steps, and in it the darts round the merged vertex do not fall in runs
+-- there is a rotation system with these steps, and in it the darts around the merged vertex do not have runs
 abbrev pub HaveNoRuns : Level → List ℕ → Type 0
 HaveNoRuns level next =
     (s : List (List ℕ)) × AreSteps (contraction level) s next

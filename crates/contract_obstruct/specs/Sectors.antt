@@ -1,4 +1,4 @@
--- Sectors of the way round the merged vertex, by their places in the cyclic order.
+-- Sectors of the cyclic order around the merged vertex, by their places in the cyclic order.
 use Rattle.std.specs.Prelude.{◌≡◌, ℕ, ◌-◌, ◌<◌, ◌||◌, true, List, take, drop}
 use Rattle.multigraph.specs.Graph.{edge_count, is_end, other_end}
 use Rattle.contractions.specs.Contraction.{are_adjacent}

@@ -1,4 +1,4 @@
--- Three edges round the merged vertex of a level that lead from x to common neighbours of x and y.
+-- Three edges around the merged vertex of a level that lead from x to common neighbours of x and y.
 use Rattle.std.specs.Prelude.{◌≡◌, ℕ, ◌<◌, true, List, [], ◌∷◌, ◌++◌}
 use Rattle.multigraph.specs.Graph.{Multigraph, edge_count, is_end, other_end}
 use Rattle.contractions.specs.Contraction.{are_adjacent}
@@ -20,7 +20,7 @@ pub record LeadsToCommon (level : Level) (sector : Sector) : Type 0 where
   pub leaves : is_end level.graph level.x (edge_before level sector.first) ≡ true
   pub common : are_adjacent level.graph level.y (tip level sector) ≡ true
 
--- the sectors make up the way round the merged vertex, and the first edge of each leads to a common neighbour
+-- the sectors make up the cyclic order around the merged vertex, and the first edge of each leads to a common neighbour
 pub record AreTriple (level : Level) (next : List ℕ) (a b c : Sector) : Type 0 where
   pub around : IsAround level next (listed a ++ (listed b ++ listed c))
   pub first : LeadsToCommon level a

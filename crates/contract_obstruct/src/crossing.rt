@@ -1,4 +1,4 @@
-// The subdivision of K3,3 where edges round the merged vertex alternate: two that lead from x, one that leads to a neighbour of
+// The subdivision of K3,3 where edges around the merged vertex alternate: two that lead from x, one that leads to a neighbour of
 // y, and one not from x.
 
 ghost use Rattle.std.specs.Prelude.{◌≡◌, ◌≤◌, ◌<◌, ◌++◌, ◌∷◌, [], true, length, reverse, IfOk};
@@ -10,7 +10,7 @@ ghost use Rattle.planarity.specs.Circle.{leads_near};
 ghost use Rattle.contractions.specs.Level.{IsLevel, contraction, edge_before};
 ghost use Rattle.contract_obstruct.specs.Steps.{ArePlaneSteps};
 ghost use Rattle.contract_obstruct.specs.Sectors.{LeadsOut};
-ghost use Rattle.contract_obstruct.specs.Crossing.{merged_vertex, near_end, part_of, side_of, crossing_spokes, crossing_paths, IsCrossing, AreCrossing, AreEdges};
+ghost use Rattle.contract_obstruct.specs.Crossing.{merged_vertex, near_end, part_of, side_of, crossing_spokes, crossing_paths, FirstEdgesAlternate, AreFeet, AreCrossing, IsClosing, AreEdges};
 
 use crate::arcs::arcs;
 use crate::paths::{edges_before, lift_path, number_at, reverse};
@@ -19,20 +19,30 @@ use kuratowski::{Pattern, Subdivision};
 use multigraph::{Graph, NumberLists, Numbers};
 use std::alloc::{AllocError, Global};
 
-/// An edge round a vertex, and those behind it up to the next edge of interest.
+/// An edge around a vertex, and those after it up to the next edge of interest.
 #[derive(Drop)]
 pub(crate) struct Sector {
     pub first: u32,
     pub behind: Vec<u32>,
 }
 
-/// The way round the merged vertex in four sectors.
+/// The cyclic order around the merged vertex in four sectors. The first edges of the left and the right one lead from x, that of
+/// the near one, between them, leads to a neighbour of y, and that of the far one doesn't lead from x.
 #[derive(Drop)]
-pub(crate) struct Quarters {
-    pub a: Sector,
-    pub b: Sector,
-    pub c: Sector,
-    pub d: Sector,
+pub(crate) struct Sectors {
+    pub left: Sector,
+    pub near: Sector,
+    pub right: Sector,
+    pub far: Sector,
+}
+
+/// The neighbours of the merged vertex, on the circle, to which the first edges of the sectors lead.
+#[derive(Drop)]
+struct Feet {
+    left: u32,
+    near: u32,
+    right: u32,
+    far: u32,
 }
 
 // The merged vertex.
@@ -78,7 +88,7 @@ pub(crate) fn joining_edge(g: &Graph, y: u32, p: u32) -> u32
     unreachable!()
 }
 
-// The edges of the circle from where an edge leads, back over those behind it.
+// The edges of the circle from where an edge leads, back over those after it.
 fn part(
     alloc: Global,
     level: &Level,
@@ -136,7 +146,7 @@ pub(crate) fn push_edge(
     Ok(())
 }
 
-// Appends a path in the other direction.
+// Appends a path reversed.
 pub(crate) fn push_back(
     alloc: Global,
     paths: &mut Vec<Numbers>,
@@ -165,57 +175,61 @@ fn near_edge(level: &Level, i: u32) -> u32
     joining_edge(&level.graph, level.y, level.graph.other_end(edge, level.x))
 }
 
+// The vertices to which the first edges of the sectors lead.
+fn feet_of(level: &Level, sectors: &Sectors) -> Feet
+    requires { FirstEdgesAlternate level.now sectors.now }
+    ensures { AreFeet level.now sectors.now result }
+{
+    let g = &level.graph;
+    Feet {
+        left: g.other_end(edge_before(level, sectors.left.first), level.x),
+        near: near_end(level, sectors.near.first),
+        right: g.other_end(edge_before(level, sectors.right.first), level.x),
+        far: g.other_end(edge_before(level, sectors.far.first), level.y),
+    }
+}
+
 // The paths that are single edges, but one.
 fn crossing_spokes(
     alloc: Global,
     level: &Level,
-    round: &Quarters,
+    sectors: &Sectors,
 ) -> Result<Vec<Numbers>, AllocError>
-    ensures { IfOk result
-        (λ paths. paths.items ≡ crossing_spokes level.now round.now.a round.now.c round.now.d) }
+    ensures { IfOk result (λ paths. paths.items ≡ crossing_spokes level.now sectors.now) }
 {
     let mut paths = Vec::new(alloc);
     push_edge(alloc, &mut paths, level.edge)?;
-    push_edge(alloc, &mut paths, edge_before(level, round.c.first))?;
-    push_edge(alloc, &mut paths, edge_before(level, round.a.first))?;
-    push_edge(alloc, &mut paths, edge_before(level, round.d.first))?;
+    push_edge(alloc, &mut paths, edge_before(level, sectors.right.first))?;
+    push_edge(alloc, &mut paths, edge_before(level, sectors.left.first))?;
+    push_edge(alloc, &mut paths, edge_before(level, sectors.far.first))?;
     Ok(paths)
 }
 
-// All paths.
+// All paths; `joining` is an edge from y to the near foot.
 fn crossing_paths(
     alloc: Global,
     level: &Level,
     h: &Graph,
     next: &[u32],
-    round: &Quarters,
-    near: u32,
+    sectors: &Sectors,
+    at: &Feet,
+    joining: u32,
 ) -> Result<Vec<Numbers>, AllocError>
-    requires few { length next.now ≤ max_darts }
-    requires fourth { AreEdges h.now round.now.d.first round.now.c.behind.items }
-    requires third { AreEdges h.now round.now.c.first round.now.b.behind.items }
-    requires second { AreEdges h.now round.now.b.first round.now.a.behind.items }
-    requires first { AreEdges h.now round.now.a.first round.now.d.behind.items }
-    requires crossing { AreCrossing level.now next.now
-        round.now.a round.now.b round.now.c round.now.d }
-    requires is { IsCrossing level.now h.now next.now
-        round.now.a round.now.b round.now.c round.now.d near }
-    ensures { IfOk result (λ paths. paths.items ≡ crossing_paths level.now h.now next.now
-        round.now.a round.now.b round.now.c round.now.d near) }
+    requires closing { IsClosing level.now h.now next.now sectors.now joining }
+    requires feet { AreFeet level.now sectors.now at.now }
+    ensures { IfOk result (λ paths. paths.items
+        ≡ crossing_paths level.now h.now next.now sectors.now joining) }
 {
-    let g = &level.graph;
-    let at_a = g.other_end(edge_before(level, round.a.first), level.x);
-    let at_b = near_end(level, round.b.first);
-    let at_c = g.other_end(edge_before(level, round.c.first), level.x);
-    let at_d = g.other_end(edge_before(level, round.d.first), level.y);
-    let mut paths = crossing_spokes(alloc, level, round)?;
-    paths.push(side(alloc, level, h, next, round.d.first, &round.c, at_d, at_c)?)?;
-    let back = side(alloc, level, h, next, round.a.first, &round.d, at_a, at_d)?;
+    let (left, near) = (&sectors.left, &sectors.near);
+    let (right, far) = (&sectors.right, &sectors.far);
+    let mut paths = crossing_spokes(alloc, level, sectors)?;
+    paths.push(side(alloc, level, h, next, far.first, right, at.far, at.right)?)?;
+    let back = side(alloc, level, h, next, left.first, far, at.left, at.far)?;
     push_back(alloc, &mut paths, &back)?;
-    push_edge(alloc, &mut paths, near)?;
-    let back = side(alloc, level, h, next, round.c.first, &round.b, at_c, at_b)?;
+    push_edge(alloc, &mut paths, joining)?;
+    let back = side(alloc, level, h, next, right.first, near, at.right, at.near)?;
     push_back(alloc, &mut paths, &back)?;
-    paths.push(side(alloc, level, h, next, round.b.first, &round.a, at_b, at_a)?)?;
+    paths.push(side(alloc, level, h, next, near.first, left, at.near, at.left)?)?;
     Ok(paths)
 }
 
@@ -225,27 +239,16 @@ fn crossing_from(
     level: &Level,
     h: &Graph,
     next: &[u32],
-    round: &Quarters,
-    near: u32,
+    sectors: &Sectors,
+    joining: u32,
 ) -> Result<Subdivision, AllocError>
-    requires few { length next.now ≤ max_darts }
-    requires fourth { AreEdges h.now round.now.d.first round.now.c.behind.items }
-    requires third { AreEdges h.now round.now.c.first round.now.b.behind.items }
-    requires second { AreEdges h.now round.now.b.first round.now.a.behind.items }
-    requires first { AreEdges h.now round.now.a.first round.now.d.behind.items }
-    requires crossing { AreCrossing level.now next.now
-        round.now.a round.now.b round.now.c round.now.d }
-    requires is { IsCrossing level.now h.now next.now
-        round.now.a round.now.b round.now.c round.now.d near }
+    requires { IsClosing level.now h.now next.now sectors.now joining }
     ensures { IfOk result (λ r. IsSubdivision level.now.graph r.kind r.branch r.paths) }
 {
-    let g = &level.graph;
-    let at_a = g.other_end(edge_before(level, round.a.first), level.x);
-    let at_b = near_end(level, round.b.first);
-    let at_c = g.other_end(edge_before(level, round.c.first), level.x);
-    let at_d = g.other_end(edge_before(level, round.d.first), level.y);
-    let branch = Vec::from_slice(alloc, &[level.x, at_d, at_b, level.y, at_c, at_a])?;
-    let paths = crossing_paths(alloc, level, h, next, round, near)?;
+    let at = feet_of(level, sectors);
+    let branch = [level.x, at.far, at.near, level.y, at.right, at.left];
+    let branch = Vec::from_slice(alloc, &branch)?;
+    let paths = crossing_paths(alloc, level, h, next, sectors, &at, joining)?;
     Ok(Subdivision {
         kind: Pattern::K33,
         branch: Numbers::of(branch),
@@ -259,15 +262,14 @@ pub(crate) fn crossing(
     level: &Level,
     h: &Graph,
     next: &[u32],
-    round: &Quarters,
+    sectors: &Sectors,
 ) -> Result<Subdivision, AllocError>
     requires level { IsLevel level.now }
     requires contraction { h.now ≡ contraction level.now }
     requires steps { ArePlaneSteps (contraction level.now) next.now }
-    requires crossing { AreCrossing level.now next.now
-        round.now.a round.now.b round.now.c round.now.d }
+    requires crossing { AreCrossing level.now next.now sectors.now }
     ensures { IfOk result (λ r. IsSubdivision level.now.graph r.kind r.branch r.paths) }
 {
-    let near = near_edge(level, round.b.first);
-    crossing_from(alloc, level, h, next, round, near)
+    let joining = near_edge(level, sectors.near.first);
+    crossing_from(alloc, level, h, next, sectors, joining)
 }

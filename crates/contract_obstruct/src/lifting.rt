@@ -173,7 +173,7 @@ fn lift_at(
     })
 }
 
-// The vertex over which branch vertex i stands.
+// The vertex of the graph that branch vertex i becomes.
 fn vertex_over(level: &Level, branch: &[u32], i: usize) -> u32
     requires { slice_index branch.now i < max_vertices }
     ensures { result ≡ with_number level.now.y (branch_at branch.now i) }
@@ -204,7 +204,7 @@ fn split_branch(
     Vec::from_slice(alloc, &made)
 }
 
-// The vertex of K5 over which vertex i of K3,3 stands.
+// The vertex of K5 that vertex i of K3,3 is over.
 fn split_over(m: usize, off: (usize, usize), on: (usize, usize), i: usize) -> usize
     requires { i < 6 }
     ensures { result ≡ split_over m off.0 off.1 on.0 on.1 i }
@@ -291,16 +291,12 @@ fn place_of(list: &[u32], number: u32) -> Option<usize>
     ensures { MatchOption result (is_member number list.now ≡ false) (λ m. (m < length list.now)
         × (slice_index list.now m ≡ number)) }
 {
-    for (place, member) in list.iter().enumerate() {
-        if *member == number {
-            return Some(place);
-        }
-    }
-    None
+    list.iter().position(|&member| member == number)
 }
 
 /// A subdivision of the graph of a level, lifted from one of its contraction (Thomassen 1980): paths are led over the contracted
-/// edge, and where at the merged vertex two paths of K5 begin at either of its ends, K5 becomes K3,3. An `Err` for want of memory.
+/// edge, and where at the merged vertex two paths of K5 begin at either of its ends, K5 becomes K3,3. Fails only if memory runs
+/// out.
 pub fn lift(alloc: Global, level: &Level, s: &Subdivision) -> Result<Subdivision, AllocError>
     requires level { IsLevel level.now }
     requires of { IsSubdivision (contraction level.now) s.now.kind s.now.branch s.now.paths }

@@ -1,5 +1,5 @@
-// The subdivision where the steps of a contraction do not fall in runs: the cyclic order of the merged vertex is searched from
-// each of its edges on.
+// The subdivision where the steps of a contraction do not have runs: the cyclic order of the merged vertex is searched from each
+// of its edges on.
 
 ghost use Rattle.std.specs.Prelude.{◌≡◌, ◌<◌, ◌≤◌, ◌↔◌, ℕ, true, false, length, IfOk, MatchOption};
 ghost use Rattle.multigraph.specs.Graph.{is_end};
@@ -11,7 +11,7 @@ ghost use Rattle.contract_obstruct.specs.Steps.{ArePlaneSteps};
 ghost use Rattle.contract_obstruct.specs.Obstruction.{HaveNoRuns};
 ghost use Rattle.contract_obstruct.specs.Crossing.{IsAround};
 ghost use Rattle.contract_obstruct.specs.Sectors.{LeadsOut, IsCommonEdge};
-ghost use Rattle.contract_obstruct.specs.Obstruction.{rotated, StandForEdges, NoneFromX, IsPlaceFromX, NoneCommon, IsFirstCommon, NoneRound, AreRound, IsTripleAt, IsCrossingAt, ShowsNothing};
+ghost use Rattle.contract_obstruct.specs.Obstruction.{StandForEdges, NoneFromX, IsPlaceFromX, NoneCommon, IsFirstCommon, NoneRound, AreRound, IsTripleAt, IsCrossingAt, ShowsNothing};
 
 use crate::crossing::{edge_before, merged_vertex};
 use crate::rounds::round;
@@ -91,7 +91,7 @@ fn common_place(level: &Level, marks: &[bool], order: &[u32], from: usize) -> Op
     None
 }
 
-// The places of edges that lead to common neighbours, besides place 0.
+// The places of edges that lead to common neighbours, other than place 0.
 fn triple_places(level: &Level, marks: &[bool], order: &[u32]) -> Option<(usize, usize)>
     requires number { length marks.now ≡ level.now.graph.vertex_count }
     requires marks { AreNeighbourMarks level.now.graph level.now.y marks.now }
@@ -112,7 +112,7 @@ fn triple_places(level: &Level, marks: &[bool], order: &[u32]) -> Option<(usize,
     Some((i, j))
 }
 
-// The places before and behind place j of edges that lead from x.
+// The places before and after place j of edges that lead from x.
 fn places_round(level: &Level, order: &[u32], j: usize) -> Option<(usize, usize)>
     requires within { j < length order.now }
     requires edges { StandForEdges level.now order.now }
@@ -128,7 +128,7 @@ fn places_round(level: &Level, order: &[u32], j: usize) -> Option<(usize, usize)
     Some((i, k))
 }
 
-// The places of edges that alternate, besides place 0.
+// The places of edges that alternate, other than place 0.
 fn crossing_places(level: &Level, marks: &[bool], order: &[u32]) -> Option<(usize, usize, usize)>
     requires number { length marks.now ≡ level.now.graph.vertex_count }
     requires marks { AreNeighbourMarks level.now.graph level.now.y marks.now }
@@ -181,32 +181,27 @@ fn obstruction_at_start(
     Ok(None)
 }
 
-// The order from place m on.
-fn rotate(alloc: Global, order: &[u32], m: usize) -> Result<Vec<u32>, AllocError>
-    requires { m ≤ length order.now }
-    ensures { IfOk result (λ turned. turned.items ≡ rotated order.now m) }
-{
-    let mut turned = Vec::from_slice(alloc, &order[m..])?;
-    turned.extend_from_slice(&order[..m])?;
-    Ok(turned)
-}
-
-/// A subdivision of K5 or of K3,3 in the graph of a level, where the steps of a plane rotation system of its contraction do not
-/// fall in runs round the merged vertex (Thomassen 1980). An `Err` for want of memory.
-pub fn obstruct(alloc: Global, level: &Level, next: &[u32]) -> Result<Subdivision, AllocError>
+/// A subdivision of K5 or of K3,3 in the graph of a level, where the steps of a plane rotation system of its contraction `h` do not
+/// have runs around the merged vertex (Thomassen 1980). Fails only if memory runs out.
+pub fn obstruct(
+    alloc: Global,
+    level: &Level,
+    h: &Graph,
+    next: &[u32],
+) -> Result<Subdivision, AllocError>
     requires level { IsLevel level.now }
+    requires contraction { h.now ≡ contraction level.now }
     requires steps { ArePlaneSteps (contraction level.now) next.now }
     requires none { HaveNoRuns level.now next.now }
     ensures { IfOk result (λ s. IsSubdivision level.now.graph s.kind s.branch s.paths) }
 {
-    let h = level.contraction(alloc)?;
-    let order = round(alloc, &h, next, merged_vertex(level))?;
+    let mut order = round(alloc, h, next, merged_vertex(level))?;
     let marks = neighbour_marks(alloc, &level.graph, level.y)?;
-    for m in 0..order.len() {
-        let turned = rotate(alloc, &order, m)?;
-        if let Some(s) = obstruction_at_start(alloc, level, &h, next, &marks, &turned)? {
+    for _start in 0..order.len() {
+        if let Some(s) = obstruction_at_start(alloc, level, h, next, &marks, &order)? {
             return Ok(s);
         }
+        order.rotate_left(1);
     }
     unreachable!()
 }

@@ -8,7 +8,7 @@ ghost use Rattle.planarity.specs.Lift.{touches, lifted, is_pair, is_listed, path
 use multigraph::{Graph, Numbers};
 use std::alloc::{AllocError, Global};
 
-// The number at a place of a list, and 0 behind its end.
+// The number at a place of a list, and 0 past its end: callers read places of the list alone.
 pub(crate) fn number_at(list: &[u32], place: usize) -> u32
     ensures { result ≡ slice_index list.now place }
 {
@@ -100,7 +100,7 @@ pub(crate) fn is_listed(pairs: &[(usize, usize)], i: usize, j: usize) -> bool
     false
 }
 
-// The same edges in the other direction.
+// The same edges reversed.
 pub(crate) fn reverse(alloc: Global, path: &[u32]) -> Result<Vec<u32>, AllocError>
     ensures { IfOk result (λ edges. edges.items ≡ reverse path.now) }
 {

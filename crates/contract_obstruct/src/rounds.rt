@@ -9,7 +9,7 @@ use faces::dart_from;
 use multigraph::Graph;
 use std::alloc::{AllocError, Global};
 
-// The edges of so many darts, from `start` on.
+// The edges of this many darts, from `start` on.
 fn turns(alloc: Global, next: &[u32], start: u32, many: u32) -> Result<Vec<u32>, AllocError>
     requires start { start < length next.now }
     requires within { (d : ℕ) → d < length next.now → slice_index next.now d < length next.now }
@@ -24,7 +24,7 @@ fn turns(alloc: Global, next: &[u32], start: u32, many: u32) -> Result<Vec<u32>,
     Ok(edges)
 }
 
-/// The cyclic order of vertex v in the rotation system with these steps; an `Err` for want of memory.
+/// The cyclic order of vertex `v` in the rotation system with these steps. Fails only if memory runs out.
 pub fn round(alloc: Global, g: &Graph, next: &[u32], v: u32) -> Result<Vec<u32>, AllocError>
     requires steps { ArePlaneSteps g.now next.now }
     requires vertex { v < g.now.vertex_count }

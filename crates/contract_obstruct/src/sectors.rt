@@ -10,7 +10,7 @@ ghost use Rattle.contract_obstruct.specs.Crossing.{listed, IsAround};
 ghost use Rattle.contract_obstruct.specs.Sectors.{segment, IsCommonEdge};
 ghost use Rattle.contract_obstruct.specs.Obstruction.{StandForEdges};
 
-use crate::crossing::{Quarters, Sector, crossing};
+use crate::crossing::{Sector, Sectors, crossing};
 use crate::triple::{Thirds, triple};
 use contractions::Level;
 use kuratowski::Subdivision;
@@ -57,11 +57,17 @@ pub(crate) fn crossing_at(
         (slice_index order.now 0)) ≡ false }
     ensures { IfOk result (λ r. IsSubdivision level.now.graph r.kind r.branch r.paths) }
 {
-    let d = sector(alloc, order, 0, places.0)?;
-    let a = sector(alloc, order, places.0, places.1)?;
-    let b = sector(alloc, order, places.1, places.2)?;
-    let c = sector(alloc, order, places.2, order.len())?;
-    crossing(alloc, level, h, next, &Quarters { a, b, c, d })
+    let far = sector(alloc, order, 0, places.0)?;
+    let left = sector(alloc, order, places.0, places.1)?;
+    let near = sector(alloc, order, places.1, places.2)?;
+    let right = sector(alloc, order, places.2, order.len())?;
+    let sectors = Sectors {
+        left,
+        near,
+        right,
+        far,
+    };
+    crossing(alloc, level, h, next, &sectors)
 }
 
 /// K5, where the edges at places 0, i and j lead to common neighbours.

@@ -1,4 +1,4 @@
-// The subdivision of K5 where three edges round the merged vertex lead from x to common neighbours of x and y.
+// The subdivision of K5 where three edges around the merged vertex lead from x to common neighbours of x and y.
 
 ghost use Rattle.std.specs.Prelude.{◌≡◌, ◌≤◌, ◌<◌, true, length, IfOk};
 ghost use Rattle.multigraph.specs.Graph.{edge_count, is_end, other_end, max_darts};
@@ -14,7 +14,7 @@ use kuratowski::{Pattern, Subdivision};
 use multigraph::{Graph, NumberLists, Numbers};
 use std::alloc::{AllocError, Global};
 
-/// The way round the merged vertex in three sectors.
+/// The cyclic order around the merged vertex in three sectors.
 #[derive(Drop)]
 pub(crate) struct Thirds {
     pub a: Sector,

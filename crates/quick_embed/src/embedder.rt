@@ -54,7 +54,8 @@ fn obstruction(
 }
 
 /// The first proposal of the finder that is accepted: a plane rotation system of the graph, which may be any, or a subdivision of
-/// K5 or of K3,3 in it, in its written form. `None`, where none is accepted, says nothing of the graph.
+/// K5 or of K3,3 in it, in its written form. `None`, where none is accepted, says nothing of the graph. Public for tests and
+/// measurements. Fails only if memory runs out.
 pub fn accepted_proposal<F: Finder>(
     alloc: Global,
     finder: &mut F,
@@ -76,7 +77,8 @@ pub fn accepted_proposal<F: Finder>(
 }
 
 /// A plane rotation system of a triconnected graph, or a subdivision of K5 or of K3,3 in it, in its written form: the first
-/// proposal of the finder that is accepted, and where none is, the answer of the embedder.
+/// proposal of the finder that is accepted, and if none is, the result of the embedder. Public for tests with other finders. Fails
+/// only if memory runs out.
 pub fn embed_by<F: Finder, E: Embedder>(
     alloc: Global,
     finder: &mut F,
@@ -92,11 +94,11 @@ pub fn embed_by<F: Finder, E: Embedder>(
     fallback.embed(alloc, g)
 }
 
-/// An embedder of triconnected graphs by the left-right method, whose proposals are checked; where none is accepted, another
-/// embedder answers.
+/// An embedder of triconnected graphs by the left-right method, whose proposals are checked; if none is accepted, another embedder
+/// is called.
 #[derive(Debug, Drop)]
 pub struct QuickEmbedder<E> {
-    /// The embedder that answers where no proposal is accepted.
+    /// The embedder that is called if no proposal is accepted.
     pub fallback: E,
 }
 

@@ -1,4 +1,4 @@
-// What proposes answers, and the finder by the left-right method.
+// What proposes embeddings and certificates, and the finder by the left-right method.
 
 use kuratowski::Subdivision;
 use multigraph::Graph;
@@ -7,12 +7,13 @@ use quick_rotation::propose_rotation;
 use rotations::Lists;
 use std::alloc::{AllocError, Global};
 
-/// A finder: it proposes answers, of which nothing is promised.
+/// A finder: it proposes embeddings and certificates, of which nothing is promised.
 pub trait Finder {
-    /// The edges round each vertex in cyclic orders that may be a plane rotation system of the graph.
+    /// The edges around each vertex in cyclic orders that may be a plane rotation system of the graph. Fails only if memory runs
+    /// out.
     fn rotation(&mut self, alloc: Global, g: &Graph) -> Result<Option<Lists>, AllocError>;
 
-    /// What may be a subdivision of K5 or of K3,3 in the graph.
+    /// What may be a subdivision of K5 or of K3,3 in the graph. Fails only if memory runs out.
     fn subdivision(&mut self, alloc: Global, g: &Graph) -> Result<Option<Subdivision>, AllocError>;
 }
 

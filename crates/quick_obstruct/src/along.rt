@@ -1,12 +1,12 @@
-// A forest of a list that goes along its thin places and not across: breadth first by the edges that are not thin, and by a
+// A forest of a list that leads along its thin places and not across: breadth first by the edges that are not thin, and by a
 // thin one only where no other leads on.
 
 use crate::thin::thin_edges;
 use quick_rotation::access::{at, is_marked, mark, number};
-use quick_rotation::{EdgeList, numbers_below};
+use quick_rotation::{EdgeEnds, numbers_below};
 use std::alloc::{AllocError, Global};
 
-// The edges of a forest and the others, in the order in which they are met.
+// The edges of a forest and the others, in the order in which they are examined.
 #[derive(Drop)]
 pub(crate) struct Forest {
     pub(crate) tree: Vec<u32>,
@@ -32,7 +32,7 @@ impl Growth {
     }
 
     // The dart is looked at.
-    fn look(&mut self, list: &EdgeList, dart: u32) -> Result<(), AllocError> {
+    fn look(&mut self, list: &EdgeEnds, dart: u32) -> Result<(), AllocError> {
         if is_marked(&self.met, dart / 2) {
             return Ok(());
         }
@@ -47,7 +47,7 @@ impl Growth {
     }
 
     // The darts are looked at, those of thin edges later.
-    fn scan(&mut self, list: &EdgeList, thin: &[bool], darts: &[u32]) -> Result<(), AllocError> {
+    fn scan(&mut self, list: &EdgeEnds, thin: &[bool], darts: &[u32]) -> Result<(), AllocError> {
         for dart in darts {
             if is_marked(thin, dart / 2) {
                 self.waiting.push(*dart)?;
@@ -60,7 +60,7 @@ impl Growth {
 }
 
 // Nothing is reached yet.
-fn new_growth(alloc: Global, list: &EdgeList) -> Result<Growth, AllocError> {
+fn new_growth(alloc: Global, list: &EdgeEnds) -> Result<Growth, AllocError> {
     let forest = Forest {
         tree: Vec::new(alloc),
         others: Vec::new(alloc),
@@ -74,11 +74,11 @@ fn new_growth(alloc: Global, list: &EdgeList) -> Result<Growth, AllocError> {
     })
 }
 
-// The forest of the whole list, seen from the root first. Each turn looks at a vertex that is reached, or else at a dart that
-// waits, or else begins at a vertex that is not reached.
+// The forest of the whole list, from the root on. Each step examines a vertex that is reached, or else a dart that waits, or else
+// begins at a vertex that is not reached.
 pub(crate) fn forest_along(
     alloc: Global,
-    list: &EdgeList,
+    list: &EdgeEnds,
     root: u32,
 ) -> Result<Forest, AllocError> {
     let all = numbers_below(alloc, list.edge_count())?;
@@ -95,7 +95,7 @@ pub(crate) fn forest_along(
     {
         if looked < number(growth.order.len()) {
             let vertex = at(&growth.order, looked);
-            growth.scan(list, &thin, around.group(vertex))?;
+            growth.scan(list, &thin, around.bin(vertex))?;
             looked = looked.saturating_add(1);
         } else if waited < number(growth.waiting.len()) {
             let dart = at(&growth.waiting, waited);

@@ -1,30 +1,30 @@
 // Trees by breadth-first search.
 
 use quick_rotation::access::{NONE, at, is_marked, mark, number, put};
-use quick_rotation::{EdgeList, Groups};
+use quick_rotation::{Bins, EdgeEnds};
 use std::alloc::{AllocError, Global};
 
 // A tree of all that is reached from a root.
 #[derive(Drop)]
-pub(crate) struct Tree {
+pub(crate) struct SearchTree {
     // Of each vertex the dart towards the root; `NONE` at the root and where nothing is reached.
     pub(crate) up: Vec<u32>,
-    // The other edges that were met, in the order in which they were.
+    // The other edges that were examined, in this order.
     pub(crate) others: Vec<u32>,
 }
 
 // What a search knows so far: the vertices in the order in which they are reached, and marks on vertices and edges.
 #[derive(Drop)]
-struct Search {
-    tree: Tree,
+struct BreadthFirst {
+    tree: SearchTree,
     order: Vec<u32>,
     reached: Vec<bool>,
     met: Vec<bool>,
 }
 
-impl Search {
+impl BreadthFirst {
     // The dart is looked at.
-    fn look(&mut self, list: &EdgeList, dart: u32) -> Result<(), AllocError> {
+    fn look(&mut self, list: &EdgeEnds, dart: u32) -> Result<(), AllocError> {
         let end = list.head(dart);
         if is_marked(&self.met, dart / 2) {
             return Ok(());
@@ -41,7 +41,7 @@ impl Search {
     }
 
     // All darts at the vertex are looked at.
-    fn scan(&mut self, list: &EdgeList, darts: &[u32]) -> Result<(), AllocError> {
+    fn scan(&mut self, list: &EdgeEnds, darts: &[u32]) -> Result<(), AllocError> {
         for dart in darts {
             self.look(list, *dart)?;
         }
@@ -49,18 +49,18 @@ impl Search {
     }
 }
 
-// A search from the root that has met nothing else yet, past no vertex that is marked.
+// A search from the root that has reached nothing else yet, past no vertex that is marked.
 fn search_from(
     alloc: Global,
-    list: &EdgeList,
+    list: &EdgeEnds,
     root: u32,
     marks: Vec<bool>,
-) -> Result<Search, AllocError> {
-    let tree = Tree {
+) -> Result<BreadthFirst, AllocError> {
+    let tree = SearchTree {
         up: vec![in alloc; NONE; list.vertices as usize]?,
         others: Vec::new(alloc),
     };
-    let mut search = Search {
+    let mut search = BreadthFirst {
         tree,
         order: vec![in alloc; root; 1]?,
         reached: marks,
@@ -70,21 +70,23 @@ fn search_from(
     Ok(search)
 }
 
-// The tree of what is reached from the root by these darts, past no vertex that is marked, breadth first.
+// The tree of what is reached from the root by these darts, past no vertex that is marked, breadth first, until vertex `goal` is
+// reached; of all, where it is `NONE`.
 pub(crate) fn breadth_first(
     alloc: Global,
-    list: &EdgeList,
-    around: &Groups,
+    list: &EdgeEnds,
+    around: &Bins,
     root: u32,
+    goal: u32,
     marks: Vec<bool>,
-) -> Result<Tree, AllocError> {
+) -> Result<SearchTree, AllocError> {
     let mut search = search_from(alloc, list, root, marks)?;
     for turn in 0..list.vertices {
-        if turn >= number(search.order.len()) {
+        if turn >= number(search.order.len()) || at(&search.tree.up, goal) != NONE {
             break;
         }
         let vertex = at(&search.order, turn);
-        search.scan(list, around.group(vertex))?;
+        search.scan(list, around.bin(vertex))?;
     }
     Ok(search.tree)
 }
@@ -92,8 +94,8 @@ pub(crate) fn breadth_first(
 // The edges from the vertex up to the root.
 pub(crate) fn path_up(
     alloc: Global,
-    list: &EdgeList,
-    tree: &Tree,
+    list: &EdgeEnds,
+    tree: &SearchTree,
     vertex: u32,
 ) -> Result<Vec<u32>, AllocError> {
     let mut path = Vec::new(alloc);

@@ -64,7 +64,7 @@ fn segment_between(segments: &[Segment], from: u32, to: u32) -> Option<&Segment>
     None
 }
 
-// The vertices where segments end, rising.
+// The vertices where segments end, in increasing order.
 fn branch_vertices(alloc: Global, segments: &[Segment]) -> Result<Vec<u32>, AllocError> {
     let mut branch = Vec::new(alloc);
     for segment in segments {
@@ -75,7 +75,7 @@ fn branch_vertices(alloc: Global, segments: &[Segment]) -> Result<Vec<u32>, Allo
     Ok(branch)
 }
 
-// Puts those vertices behind the others that a segment joins with the first one, or those that none does.
+// Appends those vertices that a segment joins with the first one, or those that none does.
 fn put_side(
     segments: &[Segment],
     branch: &[u32],
@@ -120,7 +120,7 @@ fn paths_between(
     }))
 }
 
-// The subdivision that the segments are, each from either end; nothing where they are none.
+// The subdivision that the segments are, each from either end; `None` where they are not one.
 pub(crate) fn read(alloc: Global, segments: &[Segment]) -> Result<Option<Proposal>, AllocError> {
     let branch = branch_vertices(alloc, segments)?;
     match (branch.len(), segments.len()) {

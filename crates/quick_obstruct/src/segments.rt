@@ -1,11 +1,11 @@
 // Segments: the paths between vertices of degree three or more through vertices of degree two; and which of them are needed for
 // edges not to be planar.
 
-use quick_rotation::access::{NONE, is_marked, mark};
-use quick_rotation::{EdgeList, Groups, is_planar};
+use quick_rotation::access::{NONE, is_marked, mark, unmark};
+use quick_rotation::{Bins, EdgeEnds, PartTest};
 use std::alloc::{AllocError, Global};
 
-// How often the tests may look at each edge.
+// How often the tests may examine each edge.
 const STEPS: u64 = 40;
 
 // A segment from one end to the other, as a list of edges.
@@ -16,9 +16,9 @@ pub(crate) struct Segment {
     pub(crate) edges: Vec<u32>,
 }
 
-// The dart by which a path goes on that arrives by this one; `NONE` where it ends.
-fn onward(list: &EdgeList, around: &Groups, dart: u32) -> u32 {
-    let darts = around.group(list.head(dart));
+// The dart by which a path continues that arrives by this one; `NONE` where it ends.
+fn onward(list: &EdgeEnds, around: &Bins, dart: u32) -> u32 {
+    let darts = around.bin(list.head(dart));
     if darts.len() != 2 {
         return NONE;
     }
@@ -32,8 +32,8 @@ fn onward(list: &EdgeList, around: &Groups, dart: u32) -> u32 {
 // The segment that begins with the dart.
 fn segment_from(
     alloc: Global,
-    list: &EdgeList,
-    around: &Groups,
+    list: &EdgeEnds,
+    around: &Bins,
     dart: u32,
 ) -> Result<Segment, AllocError> {
     let mut edges = Vec::new(alloc);
@@ -56,13 +56,13 @@ fn segment_from(
 // The segments of these edges, each once from either end.
 pub(crate) fn segments(
     alloc: Global,
-    list: &EdgeList,
+    list: &EdgeEnds,
     edges: &[u32],
 ) -> Result<Vec<Segment>, AllocError> {
     let around = list.darts_of(alloc, edges)?;
     let mut found = Vec::new(alloc);
     for dart in &around.items {
-        if around.group(list.tail(*dart)).len() >= 3 {
+        if around.bin(list.tail(*dart)).len() >= 3 {
             found.push(segment_from(alloc, list, &around, *dart)?)?;
         }
     }
@@ -86,6 +86,13 @@ fn mark_all(marks: &mut [bool], edges: &[u32]) {
     }
 }
 
+// Takes the marks from the edges.
+fn unmark_all(marks: &mut [bool], edges: &[u32]) {
+    for edge in edges {
+        unmark(marks, *edge);
+    }
+}
+
 // The longest segment without a marked edge.
 fn longest<'a>(segments: &'a [Segment], marks: &[bool]) -> Option<&'a Segment> {
     let mut found = None;
@@ -99,25 +106,25 @@ fn longest<'a>(segments: &'a [Segment], marks: &[bool]) -> Option<&'a Segment> {
     found
 }
 
-// The edges without those of the segment.
-fn edges_without(
-    alloc: Global,
-    list: &EdgeList,
+// Makes `rest` the list of the edges without those of the segment. No edge is marked before and after.
+fn leave_out(
+    marks: &mut [bool],
     edges: &[u32],
     segment: &[u32],
-) -> Result<Vec<u32>, AllocError> {
-    let mut gone = vec![in alloc; false; list.edge_count() as usize]?;
-    mark_all(&mut gone, segment);
-    let mut rest = Vec::new(alloc);
+    rest: &mut Vec<u32>,
+) -> Result<(), AllocError> {
+    mark_all(marks, segment);
+    rest.clear();
     for edge in edges {
-        if !is_marked(&gone, *edge) {
+        if !is_marked(marks, *edge) {
             rest.push(*edge)?;
         }
     }
-    Ok(rest)
+    unmark_all(marks, segment);
+    Ok(())
 }
 
-// What it costs to try the rest of a list of so many vertices.
+// What it costs to test the rest of a list of this many vertices.
 fn cost(vertices: u32, rest: &[u32]) -> u64 {
     u64::from(vertices / 8).saturating_add(rest.len() as u64)
 }
@@ -125,11 +132,13 @@ fn cost(vertices: u32, rest: &[u32]) -> u64 {
 // The segments that are left when each that is not needed is dropped, the longest first, as long as the budget lasts.
 pub(crate) fn needed_segments(
     alloc: Global,
-    list: &EdgeList,
-    edges: Vec<u32>,
+    list: &EdgeEnds,
+    test: &mut PartTest,
+    mut edges: Vec<u32>,
 ) -> Result<Vec<Segment>, AllocError> {
-    let mut edges = edges;
     let mut needed = vec![in alloc; false; list.edge_count() as usize]?;
+    let mut left_out = vec![in alloc; false; list.edge_count() as usize]?;
+    let mut rest = Vec::new(alloc);
     let mut found = segments(alloc, list, &edges)?;
     let mut budget = STEPS.saturating_mul(list.edge_count() as u64);
     for _ in 0..list.edge_count() {
@@ -139,12 +148,13 @@ pub(crate) fn needed_segments(
         if budget == 0 {
             break;
         }
-        let rest = edges_without(alloc, list, &edges, &segment.edges)?;
+        leave_out(&mut left_out, &edges, &segment.edges, &mut rest)?;
         budget = budget.saturating_sub(cost(list.vertices, &rest));
-        if is_planar(alloc, &list.part(alloc, &rest)?)? {
+        if test.is_planar(list, &rest)? {
             mark_all(&mut needed, &segment.edges);
         } else {
-            edges = rest;
+            edges.clear();
+            edges.extend_from_slice(&rest)?;
             found = segments(alloc, list, &edges)?;
         }
     }

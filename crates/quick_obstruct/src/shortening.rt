@@ -3,14 +3,14 @@
 use crate::forest::{breadth_first, path_up};
 use crate::reading::Proposal;
 use quick_rotation::access::mark;
-use quick_rotation::{EdgeList, Groups, numbers_below};
+use quick_rotation::{Bins, EdgeEnds, numbers_below};
 use std::alloc::{AllocError, Global};
 
 // How often all paths are tried.
 const ROUNDS: u32 = 4;
 
 // Marks the ends of the edges of all paths but one.
-fn mark_others(list: &EdgeList, paths: &[Vec<u32>], k: usize, marks: &mut [bool]) {
+fn mark_others(list: &EdgeEnds, paths: &[Vec<u32>], k: usize, marks: &mut [bool]) {
     for (i, path) in paths.iter().enumerate() {
         if i != k {
             mark_ends(list, path, marks);
@@ -19,7 +19,7 @@ fn mark_others(list: &EdgeList, paths: &[Vec<u32>], k: usize, marks: &mut [bool]
 }
 
 // Marks the ends of the edges.
-fn mark_ends(list: &EdgeList, edges: &[u32], marks: &mut [bool]) {
+fn mark_ends(list: &EdgeEnds, edges: &[u32], marks: &mut [bool]) {
     for edge in edges {
         let dart = edge.saturating_mul(2);
         mark(marks, list.tail(dart));
@@ -27,11 +27,11 @@ fn mark_ends(list: &EdgeList, edges: &[u32], marks: &mut [bool]) {
     }
 }
 
-// A shortest path between the ends of path k that meets no other path.
+// A shortest path between the ends of path k that avoids all other paths.
 fn shortest(
     alloc: Global,
-    list: &EdgeList,
-    around: &Groups,
+    list: &EdgeEnds,
+    around: &Bins,
     proposal: &Proposal,
     k: usize,
 ) -> Result<Vec<u32>, AllocError> {
@@ -41,15 +41,15 @@ fn shortest(
     if (from as usize) < marks.len() {
         marks[from as usize] = false;
     }
-    let tree = breadth_first(alloc, list, around, to, marks)?;
+    let tree = breadth_first(alloc, list, around, to, from, marks)?;
     path_up(alloc, list, &tree, from)
 }
 
 // Tries each path once. Returns whether one became shorter.
 fn shorten_once(
     alloc: Global,
-    list: &EdgeList,
-    around: &Groups,
+    list: &EdgeEnds,
+    around: &Bins,
     proposal: &mut Proposal,
 ) -> Result<bool, AllocError> {
     let mut shorter = false;
@@ -68,7 +68,7 @@ fn shorten_once(
 // Makes the paths of the subdivision shorter, one after the other, as long as one does become shorter.
 pub(crate) fn shorten(
     alloc: Global,
-    list: &EdgeList,
+    list: &EdgeEnds,
     proposal: &mut Proposal,
 ) -> Result<(), AllocError> {
     let edges = numbers_below(alloc, list.edge_count())?;

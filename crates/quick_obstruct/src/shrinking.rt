@@ -1,20 +1,20 @@
 // Edges that are not planar, found by minors: a list is made smaller as long as it is not planar.
 //
 // What has a minor that is not planar is not planar. So the edges of a forest along the thin places of the minor at hand, and
-// the others, are parted into pieces, and each piece is contracted or dropped where what is left is still not planar; first few
+// the others, are partitioned into pieces, and each piece is contracted or dropped where what is left is still not planar; first few
 // large pieces, then more, until each is one edge. A minor whose edges can neither be dropped nor contracted is K5 or K3,3.
-// Last, the edges that hold together what was contracted are put back: these and those of the minor are few paths.
+// Last, the edges that hold together what was contracted are added: these and those of the minor are few paths.
 
 use crate::along::forest_along;
-use crate::fronts::Fronts;
-use crate::minors::{Minor, Step};
+use crate::minors::{Minor, MinorOperation};
+use crate::prefixes::Prefixes;
 use quick_rotation::access::{NONE, at, number, put};
-use quick_rotation::{EdgeList, is_planar};
+use quick_rotation::{EdgeEnds, LeftRightTest};
 use std::alloc::{AllocError, Global};
 
-// How often the minor is parted, into how many pieces first, how many edges are few enough, and how often the tests may look at
-// each edge.
-const ROUNDS: u32 = 200;
+// How often the minor is partitioned, into how many pieces first, how many edges are few enough, and how often the tests may
+// examine each edge.
+const PASSES: u32 = 200;
 
 const PIECES: u32 = 4;
 
@@ -22,15 +22,16 @@ const FEW: u32 = 10;
 
 const STEPS: u64 = 400;
 
-// A minor as it shrinks, and how many edges the tests may still look at.
+// A minor as it shrinks, the test of its planarity, and how many edges the tests may still examine.
 #[derive(Drop)]
 struct Shrinking {
     minor: Minor,
+    test: LeftRightTest,
     budget: u64,
 }
 
-// The edges are put into so many pieces, in their order, as many in each; the pieces have the numbers from `first` on.
-fn part_edges(pieces: &mut [u32], edges: &[u32], first: u32, count: u32) {
+// The edges are put into this many pieces, in their order, equally many in each; the pieces have the numbers from `first` on.
+fn partition(pieces: &mut [u32], edges: &[u32], first: u32, count: u32) {
     let all = number(edges.len());
     let mut piece = first;
     let mut sum: u32 = 0;
@@ -50,64 +51,70 @@ impl Shrinking {
         self.minor.list.edge_count()
     }
 
-    // Takes the step if what is left is not planar. Returns whether it is taken.
-    fn take(&mut self, alloc: Global, piece: u32, step: Step) -> Result<bool, AllocError> {
-        let next = self.minor.after(alloc, piece, step)?;
+    // Does the operation if what is left is not planar. Returns whether it is done.
+    fn take(
+        &mut self,
+        alloc: Global,
+        piece: u32,
+        operation: MinorOperation,
+    ) -> Result<bool, AllocError> {
+        let next = self.minor.after(alloc, piece, operation)?;
         self.budget = self.budget.saturating_sub(u64::from(self.count()));
-        if is_planar(alloc, &next.list)? {
+        if self.test.is_planar(&next.list)? {
             return Ok(false);
         }
         self.minor.turn_into(next)?;
         Ok(true)
     }
 
-    // Tries both steps for the pieces from one number up to another, this step first.
+    // Tries both operations for the pieces from one number up to another, this one first.
     fn take_each(
         &mut self,
         alloc: Global,
         from: u32,
         to: u32,
-        step: Step,
+        operation: MinorOperation,
     ) -> Result<(), AllocError> {
         for piece in from..to {
-            if self.budget > 0 && !self.take(alloc, piece, step)? {
-                let _taken = self.take(alloc, piece, step.other())?;
+            if self.budget > 0 && !self.take(alloc, piece, operation)? {
+                let _taken = self.take(alloc, piece, operation.other())?;
             }
         }
         Ok(())
     }
 
-    // One round with up to so many pieces of the forest from the root on, and as many of the other edges.
-    fn round(&mut self, alloc: Global, root: u32, pieces: u32) -> Result<(), AllocError> {
+    // One pass with up to this many pieces of the forest from the root on, and equally many of the other edges.
+    fn pass(&mut self, alloc: Global, root: u32, pieces: u32) -> Result<(), AllocError> {
         let forest = forest_along(alloc, &self.minor.list, root)?;
         let first = pieces.min(number(forest.tree.len()));
         let second = first.saturating_add(pieces.min(number(forest.others.len())));
-        part_edges(&mut self.minor.piece, &forest.tree, 0, first);
-        part_edges(
+        partition(&mut self.minor.piece, &forest.tree, 0, first);
+        partition(
             &mut self.minor.piece,
             &forest.others,
             first,
             second.saturating_sub(first),
         );
-        self.take_each(alloc, 0, first, Step::Contract)?;
-        self.take_each(alloc, first, second, Step::Drop)
+        self.take_each(alloc, 0, first, MinorOperation::Contract)?;
+        self.take_each(alloc, first, second, MinorOperation::Drop)
     }
 }
 
-// The minor that is left when no step can be taken, or when the budget is spent.
-fn shrink(alloc: Global, list: &EdgeList) -> Result<Minor, AllocError> {
+// The minor that is left when no operation can be done, or when the budget is spent.
+fn shrink(alloc: Global, list: &EdgeEnds) -> Result<Minor, AllocError> {
     let mut shrinking = Shrinking {
         minor: Minor::of(alloc, list)?,
+        test: LeftRightTest::new(alloc),
         budget: STEPS.saturating_mul(u64::from(list.edge_count())),
     };
     let mut pieces = PIECES;
-    for round in 0..ROUNDS {
+    for pass in 0..PASSES {
         let before = shrinking.count();
         if before <= FEW || shrinking.budget == 0 {
             break;
         }
-        let root = at(&shrinking.minor.list.tails, round);
-        shrinking.round(alloc, root, pieces)?;
+        let root = at(&shrinking.minor.list.tails, pass);
+        shrinking.pass(alloc, root, pieces)?;
         let after = shrinking.count();
         if after == before && pieces >= before {
             break;
@@ -120,7 +127,7 @@ fn shrink(alloc: Global, list: &EdgeList) -> Result<Minor, AllocError> {
 }
 
 // Edges that are not planar, where the list is not: those of a least minor, with the paths that hold it together.
-pub(crate) fn shrunk_edges(alloc: Global, list: &EdgeList) -> Result<Vec<u32>, AllocError> {
+pub(crate) fn shrunk_edges(alloc: Global, list: &EdgeEnds) -> Result<Vec<u32>, AllocError> {
     let Minor {
         origin: mut edges,
         inner,
@@ -128,5 +135,5 @@ pub(crate) fn shrunk_edges(alloc: Global, list: &EdgeList) -> Result<Vec<u32>, A
     } = shrink(alloc, list)?;
     let root = list.tail(at(&edges, 0).saturating_mul(2));
     edges.extend_from_slice(&inner)?;
-    Fronts::from(alloc, list, &edges, root)?.front(NONE, &[])
+    Prefixes::from(alloc, list, &edges, root)?.prefix(NONE, &[])
 }

@@ -1,10 +1,10 @@
-// Thin places of a list: edges without whose ends the vertices beside them come apart. Only a short search is made for each, so
-// an edge is also taken for thin where the way round it is long, or where it has very many edges beside it.
+// Thin places of a list: edges without whose ends the vertices next to them are disconnected. Only a short search is made for each, so
+// an edge also counts as thin where the way around it is long, or where very many edges are at its ends.
 //
 // In a long and narrow graph the thin edges are those that lead across; the others lead along its two sides.
 
 use quick_rotation::access::{NONE, at, number, put};
-use quick_rotation::{EdgeList, Groups};
+use quick_rotation::{Bins, EdgeEnds};
 use std::alloc::{AllocError, Global};
 
 // How many vertices a search may reach.
@@ -22,7 +22,7 @@ struct Beside {
 
 impl Beside {
     // The heads of these darts are to be reached, except the ends of the edge. Returns one of them, or what is given.
-    fn want(&mut self, list: &EdgeList, darts: &[u32], given: u32) -> u32 {
+    fn want(&mut self, list: &EdgeEnds, darts: &[u32], given: u32) -> u32 {
         let mut some = given;
         for dart in darts {
             let vertex = list.head(*dart);
@@ -49,7 +49,7 @@ impl Beside {
     }
 
     // The heads of these darts are reached, as long as there are few.
-    fn scan(&mut self, list: &EdgeList, darts: &[u32]) -> Result<(), AllocError> {
+    fn scan(&mut self, list: &EdgeEnds, darts: &[u32]) -> Result<(), AllocError> {
         for dart in darts {
             if self.queue.len() >= REACH {
                 break;
@@ -60,7 +60,7 @@ impl Beside {
     }
 
     // The search from the vertex, until all is reached that is to be.
-    fn search(&mut self, list: &EdgeList, around: &Groups, from: u32) -> Result<(), AllocError> {
+    fn search(&mut self, list: &EdgeEnds, around: &Bins, from: u32) -> Result<(), AllocError> {
         self.queue.clear();
         self.reach(from)?;
         for turn in 0..number(REACH) {
@@ -68,17 +68,17 @@ impl Beside {
                 break;
             }
             let vertex = at(&self.queue, turn);
-            self.scan(list, around.group(vertex))?;
+            self.scan(list, around.bin(vertex))?;
         }
         Ok(())
     }
 
     // Whether the edge is thin.
-    fn is_thin(&mut self, list: &EdgeList, around: &Groups, edge: u32) -> Result<bool, AllocError> {
+    fn is_thin(&mut self, list: &EdgeEnds, around: &Bins, edge: u32) -> Result<bool, AllocError> {
         let dart = edge.saturating_mul(2);
         let (first, second) = (list.tail(dart), list.head(dart));
-        let at_first = around.group(first);
-        let at_second = around.group(second);
+        let at_first = around.bin(first);
+        let at_second = around.bin(second);
         if at_first.len().saturating_add(at_second.len()) > REACH {
             return Ok(true);
         }
@@ -96,8 +96,8 @@ impl Beside {
 // For each edge of the list whether it is thin.
 pub(crate) fn thin_edges(
     alloc: Global,
-    list: &EdgeList,
-    around: &Groups,
+    list: &EdgeEnds,
+    around: &Bins,
 ) -> Result<Vec<bool>, AllocError> {
     let mut beside = Beside {
         edge: NONE,

@@ -1,7 +1,7 @@
-// The left-right test: whether the back edges can be parted into left and right ones (de Fraysseix and Rosenstiehl 1982; Brandes
-// 2009). On the way of the search a stack holds pairs of intervals of back edges that must lie on different sides.
+// The left-right test: whether the back edges can be partitioned into left and right ones (de Fraysseix and Rosenstiehl 1982;
+// Brandes 2009). On the way of the search a stack holds pairs of intervals of back edges that must lie on different sides.
 
-use crate::access::{NONE, at, mark, number, put};
+use crate::access::{NONE, at, mark, number, put, renew, renew_marks};
 use crate::brackets::Brackets;
 use crate::palm::Palm;
 use std::alloc::{AllocError, Global};
@@ -48,15 +48,15 @@ impl Interval {
 
 // Two intervals that must lie on different sides.
 #[derive(Clone, Copy)]
-struct Pair {
+struct ConflictPair {
     left: Interval,
     right: Interval,
 }
 
-impl Pair {
+impl ConflictPair {
     // The same with left and right exchanged.
-    fn mirror(self) -> Pair {
-        Pair {
+    fn mirror(self) -> ConflictPair {
+        ConflictPair {
             left: self.right,
             right: self.left,
         }
@@ -69,10 +69,10 @@ impl Pair {
 }
 
 // What the test knows so far: the stack, and of each edge how high the stack was when it was taken, its lowest back edge, the
-// edge that its side is told by, and whether it is on the other side than that one.
+// edge that determines its side, and whether it is on the other side than that one.
 #[derive(Drop)]
 pub(crate) struct Conflicts {
-    pairs: Vec<Pair>,
+    pairs: Vec<ConflictPair>,
     bottom: Vec<u32>,
     lowest: Vec<u32>,
     pub(crate) refs: Vec<u32>,
@@ -80,15 +80,24 @@ pub(crate) struct Conflicts {
 }
 
 impl Conflicts {
-    // Nothing is taken yet.
-    fn new(alloc: Global, edges: usize) -> Result<Conflicts, AllocError> {
-        Ok(Conflicts {
+    // No edges.
+    pub(crate) fn new(alloc: Global) -> Conflicts {
+        Conflicts {
             pairs: Vec::new(alloc),
-            bottom: vec![in alloc; 0; edges]?,
-            lowest: vec![in alloc; NONE; edges]?,
-            refs: vec![in alloc; NONE; edges]?,
-            turned: vec![in alloc; false; edges]?,
-        })
+            bottom: Vec::new(alloc),
+            lowest: Vec::new(alloc),
+            refs: Vec::new(alloc),
+            turned: Vec::new(alloc),
+        }
+    }
+
+    // This many edges, of which none is taken yet.
+    fn begin(&mut self, edges: usize) -> Result<(), AllocError> {
+        self.pairs.clear();
+        renew(&mut self.bottom, edges, 0)?;
+        renew(&mut self.lowest, edges, NONE)?;
+        renew(&mut self.refs, edges, NONE)?;
+        renew_marks(&mut self.turned, edges)
     }
 
     // The edge is taken.
@@ -102,7 +111,7 @@ impl Conflicts {
             low: edge,
             high: edge,
         };
-        self.pairs.push(Pair { left: EMPTY, right })?;
+        self.pairs.push(ConflictPair { left: EMPTY, right })?;
         Ok(())
     }
 
@@ -133,7 +142,7 @@ impl Conflicts {
     }
 
     // Takes the top of the stack where it conflicts with an edge that returns to this height.
-    fn take_conflicting(&mut self, palm: &Palm, height: u32) -> Option<Pair> {
+    fn take_conflicting(&mut self, palm: &Palm, height: u32) -> Option<ConflictPair> {
         let top = self.pairs.last().copied()?;
         if top.left.conflicts(palm, height) || top.right.conflicts(palm, height) {
             return self.pairs.pop();
@@ -143,8 +152,8 @@ impl Conflicts {
 
     // The pairs that conflict with the edge become one with its own interval, which is the right one. `None` where one of them
     // conflicts on both sides.
-    fn merge(&mut self, palm: &Palm, edge: u32, own: Interval) -> Option<Pair> {
-        let mut merged = Pair {
+    fn merge(&mut self, palm: &Palm, edge: u32, own: Interval) -> Option<ConflictPair> {
+        let mut merged = ConflictPair {
             left: EMPTY,
             right: own,
         };
@@ -167,7 +176,7 @@ impl Conflicts {
         Some(merged)
     }
 
-    // The constraints of an edge that is not the first at its tail. Returns whether they can be met.
+    // The constraints of an edge that is not the first at its tail. Returns whether they can be satisfied.
     fn add(&mut self, palm: &Palm, edge: u32, parent: u32) -> Result<bool, AllocError> {
         let Some(own) = self.own_interval(palm, edge, parent) else {
             return Ok(false);
@@ -207,8 +216,8 @@ impl Conflicts {
         at_most
     }
 
-    // The interval without the edges that return to the vertex. Where none is left, its lowest edge is told by the lowest one
-    // of the other interval.
+    // The interval without the edges that return to the vertex. Where none is left, the side of its lowest edge is determined by
+    // the lowest one of the other interval.
     fn trim_interval(
         &mut self,
         palm: &Palm,
@@ -242,7 +251,7 @@ impl Conflicts {
         };
         let left = self.trim_interval(palm, pair.left, pair.right.low, vertex);
         let right = self.trim_interval(palm, pair.right, left.low, vertex);
-        self.pairs.push(Pair { left, right })?;
+        self.pairs.push(ConflictPair { left, right })?;
         if at(&palm.low, edge) < height {
             let left_higher = right.is_empty()
                 || at(&palm.low, left.high) > at(&palm.low, right.high);
@@ -256,7 +265,7 @@ impl Conflicts {
         Ok(())
     }
 
-    // The search is back from the edge. Returns whether the constraints so far can be met.
+    // The search returns from the edge. Returns whether the constraints so far can be satisfied.
     fn close(&mut self, palm: &Palm, out: &[u32], edge: u32) -> Result<bool, AllocError> {
         if palm.is_tree(edge) {
             self.trim(palm, edge)?;
@@ -280,22 +289,18 @@ impl Conflicts {
             self.open(palm, edge)?;
             return Ok(true);
         }
-        let out = brackets.out.group(at(&palm.tail, edge));
+        let out = brackets.out.bin(at(&palm.tail, edge));
         self.close(palm, out, edge)
     }
 
-    // The test along the whole way. `None` where there is no way to part the back edges.
-    pub(crate) fn of(
-        alloc: Global,
-        palm: &Palm,
-        brackets: &Brackets,
-    ) -> Result<Option<Conflicts>, AllocError> {
-        let mut conflicts = Conflicts::new(alloc, palm.tail.len())?;
+    // The test along the whole way. Returns whether the back edges can be partitioned.
+    pub(crate) fn test(&mut self, palm: &Palm, brackets: &Brackets) -> Result<bool, AllocError> {
+        self.begin(palm.tail.len())?;
         for bracket in &brackets.way {
-            if !conflicts.step(palm, brackets, *bracket)? {
-                return Ok(None);
+            if !self.step(palm, brackets, *bracket)? {
+                return Ok(false);
             }
         }
-        Ok(Some(conflicts))
+        Ok(true)
     }
 }

@@ -1,12 +1,12 @@
 // A depth-first search with a stack of its own (Tarjan 1972): the edges oriented, tree edges away from the root and back edges
 // towards it, with the low points of each edge and the order in which the edges at a vertex are nested.
 
-use crate::access::{NONE, at, number, put};
-use crate::edges::EdgeList;
-use crate::sorting::Groups;
+use crate::access::{NONE, at, number, put, renew};
+use crate::edges::EdgeEnds;
+use crate::sorting::Bins;
 use std::alloc::{AllocError, Global};
 
-// A palm tree of each component.
+// A palm tree of each component of a list.
 #[derive(Drop)]
 pub(crate) struct Palm {
     // The ends of each edge as it is oriented.
@@ -16,11 +16,13 @@ pub(crate) struct Palm {
     pub(crate) height: Vec<u32>,
     pub(crate) parent: Vec<u32>,
     place: Vec<u32>,
-    // The edges and the vertices in the order in which they were met.
+    // The vertices between the root and the one where the search is.
+    stack: Vec<u32>,
+    // The edges and the vertices in the order in which they were reached.
     pub(crate) edges: Vec<u32>,
     pub(crate) vertices: Vec<u32>,
-    // Of each edge the two lowest heights to which it and what hangs on it return, its nesting depth, and twice the number of
-    // edges that it and what hangs on it are.
+    // Of each edge the two lowest heights to which it and the edges above it return, its nesting depth, and twice the number of
+    // these edges and itself.
     pub(crate) low: Vec<u32>,
     pub(crate) second_low: Vec<u32>,
     pub(crate) nest: Vec<u32>,
@@ -28,23 +30,41 @@ pub(crate) struct Palm {
 }
 
 impl Palm {
-    // Nothing is met yet.
-    fn new(alloc: Global, list: &EdgeList, around: &Groups) -> Result<Palm, AllocError> {
+    // No edges.
+    pub(crate) fn new(alloc: Global) -> Palm {
+        Palm {
+            tail: Vec::new(alloc),
+            head: Vec::new(alloc),
+            height: Vec::new(alloc),
+            parent: Vec::new(alloc),
+            place: Vec::new(alloc),
+            stack: Vec::new(alloc),
+            edges: Vec::new(alloc),
+            vertices: Vec::new(alloc),
+            low: Vec::new(alloc),
+            second_low: Vec::new(alloc),
+            nest: Vec::new(alloc),
+            size: Vec::new(alloc),
+        }
+    }
+
+    // The list, of which nothing is reached yet.
+    fn begin(&mut self, list: &EdgeEnds, around: &Bins) -> Result<(), AllocError> {
         let vertices = list.vertices as usize;
         let edges = list.edge_count() as usize;
-        Ok(Palm {
-            tail: vec![in alloc; NONE; edges]?,
-            head: vec![in alloc; NONE; edges]?,
-            height: vec![in alloc; NONE; vertices]?,
-            parent: vec![in alloc; NONE; vertices]?,
-            place: Vec::from_slice(alloc, &around.begin)?,
-            edges: Vec::with_capacity(alloc, edges)?,
-            vertices: Vec::with_capacity(alloc, vertices)?,
-            low: vec![in alloc; 0; edges]?,
-            second_low: vec![in alloc; 0; edges]?,
-            nest: vec![in alloc; 0; edges]?,
-            size: vec![in alloc; 2; edges]?,
-        })
+        renew(&mut self.tail, edges, NONE)?;
+        renew(&mut self.head, edges, NONE)?;
+        renew(&mut self.height, vertices, NONE)?;
+        renew(&mut self.parent, vertices, NONE)?;
+        renew(&mut self.low, edges, 0)?;
+        renew(&mut self.second_low, edges, 0)?;
+        renew(&mut self.nest, edges, 0)?;
+        renew(&mut self.size, edges, 2)?;
+        self.edges.clear();
+        self.vertices.clear();
+        self.stack.clear();
+        self.place.clear();
+        self.place.extend_from_slice(&around.begin)
     }
 
     // Whether the edge is a tree edge.
@@ -62,23 +82,17 @@ impl Palm {
         at(&self.parent, at(&self.tail, edge))
     }
 
-    // A vertex is met at this height, by this edge.
-    fn meet(
-        &mut self,
-        stack: &mut Vec<u32>,
-        vertex: u32,
-        height: u32,
-        edge: u32,
-    ) -> Result<(), AllocError> {
+    // A vertex is reached at this height, by this edge.
+    fn reach(&mut self, vertex: u32, height: u32, edge: u32) -> Result<(), AllocError> {
         put(&mut self.height, vertex, height);
         put(&mut self.parent, vertex, edge);
         self.vertices.push(vertex)?;
-        stack.push(vertex)?;
+        self.stack.push(vertex)?;
         Ok(())
     }
 
     // The dart is looked at: its edge is oriented, unless it is already.
-    fn look(&mut self, list: &EdgeList, stack: &mut Vec<u32>, dart: u32) -> Result<(), AllocError> {
+    fn look(&mut self, list: &EdgeEnds, dart: u32) -> Result<(), AllocError> {
         let edge = dart / 2;
         if at(&self.tail, edge) != NONE {
             return Ok(());
@@ -90,57 +104,44 @@ impl Palm {
         self.edges.push(edge)?;
         if at(&self.height, to) == NONE {
             let height = at(&self.height, from).saturating_add(1);
-            self.meet(stack, to, height, edge)?;
+            self.reach(to, height, edge)?;
         }
         Ok(())
     }
 
-    // One turn at the vertex, the last of the stack: its next dart is looked at, or it is left.
-    fn turn(
-        &mut self,
-        list: &EdgeList,
-        around: &Groups,
-        stack: &mut Vec<u32>,
-        vertex: u32,
-    ) -> Result<(), AllocError> {
+    // One step at the vertex, the last of the stack: its next dart is looked at, or it is left.
+    fn advance(&mut self, list: &EdgeEnds, around: &Bins, vertex: u32) -> Result<(), AllocError> {
         let place = at(&self.place, vertex);
         if place >= at(&around.begin, vertex.saturating_add(1)) {
-            let _ = stack.pop();
+            let _ = self.stack.pop();
             return Ok(());
         }
         put(&mut self.place, vertex, place.saturating_add(1));
-        self.look(list, stack, at(&around.items, place))
+        self.look(list, at(&around.items, place))
     }
 
-    // Meets all that the root is connected to.
-    fn explore(
-        &mut self,
-        list: &EdgeList,
-        around: &Groups,
-        stack: &mut Vec<u32>,
-        root: u32,
-    ) -> Result<(), AllocError> {
-        self.meet(stack, root, 0, NONE)?;
+    // Reaches all that the root is connected to.
+    fn explore(&mut self, list: &EdgeEnds, around: &Bins, root: u32) -> Result<(), AllocError> {
+        self.reach(root, 0, NONE)?;
         let turns = list.tails.len().saturating_mul(2).saturating_add(2);
         for _ in 0..turns {
-            let Some(vertex) = stack.last().copied() else {
+            let Some(vertex) = self.stack.last().copied() else {
                 break;
             };
-            self.turn(list, around, stack, vertex)?;
+            self.advance(list, around, vertex)?;
         }
         Ok(())
     }
 
     // The palm trees of the list, without low points.
-    fn orient(alloc: Global, list: &EdgeList, around: &Groups) -> Result<Palm, AllocError> {
-        let mut palm = Palm::new(alloc, list, around)?;
-        let mut stack = Vec::new(alloc);
+    fn orient(&mut self, list: &EdgeEnds, around: &Bins) -> Result<(), AllocError> {
+        self.begin(list, around)?;
         for root in 0..list.vertices {
-            if at(&palm.height, root) == NONE {
-                palm.explore(list, around, &mut stack, root)?;
+            if at(&self.height, root) == NONE {
+                self.explore(list, around, root)?;
             }
         }
-        Ok(palm)
+        Ok(())
     }
 
     // Each edge returns to the vertex that it leaves, and a back edge to the one at which it arrives.
@@ -185,7 +186,7 @@ impl Palm {
         put(&mut self.size, parent, size);
     }
 
-    // The low points of all edges, from the last that was met on.
+    // The low points of all edges, from the last that was reached on.
     fn find_lows(&mut self) {
         let edges = number(self.edges.len());
         for k in 0..edges {
@@ -195,11 +196,11 @@ impl Palm {
         }
     }
 
-    // The palm trees of the list, with low points.
-    pub(crate) fn of(alloc: Global, list: &EdgeList, around: &Groups) -> Result<Palm, AllocError> {
-        let mut palm = Palm::orient(alloc, list, around)?;
-        palm.begin_lows();
-        palm.find_lows();
-        Ok(palm)
+    // The palm trees of the list, with low points, in the place of those before.
+    pub(crate) fn grow(&mut self, list: &EdgeEnds, around: &Bins) -> Result<(), AllocError> {
+        self.orient(list, around)?;
+        self.begin_lows();
+        self.find_lows();
+        Ok(())
     }
 }

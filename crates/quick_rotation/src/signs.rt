@@ -1,4 +1,4 @@
-// The side of each edge, told along the edges that it refers to.
+// The side of each edge, determined along the edges that it refers to.
 
 use crate::access::{NONE, at, is_marked, number, put};
 use crate::conflicts::Conflicts;

@@ -1,4 +1,5 @@
-use Rattle.std.proofs.Common.{arith}
+use Rattle.std.proofs.Common.{ap, arith}
+use Rattle.faces.specs.Euler.{dart_count}
 use Rattle.std.proofs.lemmas.Bool.{both_ways}
 use Rattle.contract_embed.specs.Runs.{Turns}
 use Rattle.contract_obstruct.proofs.BelowNext.{below-next}
@@ -9,4 +10,4 @@ loop-dart-preserved c = below-next (λ d. Turns c.args.level.now c.args.next.now
     (λ t. both_ways c.turns_at.result c.if-turns_at.false (c.turns_at.ensures.1 t))
 
 pub returns : goal.returns
-returns c = λ d l. c.loop-dart.invariant d (omega (arith, c.dart_count-dart-end.ensures.value, c.loop-dart-test.false))
+returns c = λ d l. c.loop-dart.invariant d (omega (arith, c.dart_count-dart-end.ensures.value, ap dart_count c.requires.contraction, c.loop-dart-test.false))

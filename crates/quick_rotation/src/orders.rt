@@ -1,10 +1,10 @@
-// The cyclic order of the darts round each vertex, from the sides of the edges.
+// The cyclic order of the darts around each vertex, from the sides of the edges.
 
 use crate::access::{NONE, at, is_marked, put};
 use crate::brackets::Brackets;
-use crate::edges::{EdgeList, numbers_below};
+use crate::edges::{EdgeEnds, numbers_below};
 use crate::palm::Palm;
-use crate::sorting::{Groups, groups_by_key};
+use crate::sorting::{Bins, bins_by_key};
 use std::alloc::{AllocError, Global};
 
 // The keys of the darts so far, and the tree edge at each vertex that the way is under.
@@ -16,9 +16,9 @@ struct DartKeys {
 
 impl DartKeys {
     // The edge opens at this place, and gives its darts their keys: by the one it leaves its tail; the other one is the first
-    // at the head of a tree edge, and stands beside the tree edge under which a back edge returns: on the left the later the
-    // farther, on the right the later the nearer.
-    fn open(&mut self, list: &EdgeList, palm: &Palm, begin: &[u32], left: &[bool], edge: u32) {
+    // at the head of a tree edge, and is next to the tree edge under which a back edge returns: on the left the later the farther,
+    // on the right the later the nearer.
+    fn open(&mut self, list: &EdgeEnds, palm: &Palm, begin: &[u32], left: &[bool], edge: u32) {
         let place = at(begin, edge);
         let size = at(&palm.size, edge);
         let tail = at(&palm.tail, edge);
@@ -57,7 +57,7 @@ impl DartKeys {
 // The key of each dart.
 fn keys(
     alloc: Global,
-    list: &EdgeList,
+    list: &EdgeEnds,
     palm: &Palm,
     brackets: &Brackets,
     left: &[bool],
@@ -75,21 +75,21 @@ fn keys(
 }
 
 // The darts at each vertex in their cyclic order.
-pub(crate) fn rounds(
+pub(crate) fn orders(
     alloc: Global,
-    list: &EdgeList,
+    list: &EdgeEnds,
     palm: &Palm,
     brackets: &Brackets,
     left: &[bool],
-) -> Result<Groups, AllocError> {
+) -> Result<Bins, AllocError> {
     let keys = keys(alloc, list, palm, brackets, left)?;
     let darts = list.edge_count().saturating_mul(2);
     let all = numbers_below(alloc, darts)?;
-    let sorted = groups_by_key(
+    let sorted = bins_by_key(
         alloc,
         &all,
         &keys,
         darts.saturating_mul(2).saturating_add(1),
     )?;
-    groups_by_key(alloc, &sorted.items, &list.tails, list.vertices)
+    bins_by_key(alloc, &sorted.items, &list.tails, list.vertices)
 }

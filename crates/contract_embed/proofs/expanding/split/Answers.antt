@@ -7,7 +7,7 @@ use Rattle.faces.specs.Euler.{dart_count}
 use Rattle.contractions.specs.Level.{contraction}
 use Rattle.contract_embed.specs.Steps.{AgreeBelow}
 use Rattle.contract_embed.proofs.Carried.{middle-in, again, expanded-steps}
-use Rattle.contract_embed.proofs.expanding.part.Goals as goal
+use Rattle.contract_embed.proofs.expanding.split.Goals as goal
 
 pub before-requires-2-clause-dart : goal.before-requires-2-clause-dart
 before-requires-2-clause-dart c = c.twin.ensures.within (edge_count (contraction c.args.level.now)) c.requires.last
