@@ -1,5 +1,5 @@
 #!/usr/bin/env python3
-"""below.py NAME..: these crates and all crates of the repository that they stand on, by crates.txt, one a line."""
+"""below.py NAME..: these crates and all crates of the repository that they depend on, by crates.txt, one a line."""
 import sys
 
 named = {}

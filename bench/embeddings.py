@@ -1,12 +1,12 @@
 #!/usr/bin/env python3
 """embeddings.py: the plane rotation systems of a block, its choices, their order, lists and moves, by a slow program that
-stands on the definitions alone.
+rests on the definitions alone.
 
   embeddings.py small            all multigraph blocks of up to 4 vertices and 7 edges, each in some orders of its edges
   embeddings.py random N SEED    N random blocks of up to 8 vertices and 12 edges
   embeddings.py rows             the worked rows
 
-Each run checks on its blocks: in every plane rotation system the edges of each group stand in one run at each vertex of each
+Each run checks on its blocks: in every plane rotation system the edges of each group are in one run at each vertex of each
 node; a bond has (k - 1)! choices, a rigid node two that are mirror images; every selection of choices is that of exactly one
 plane rotation system; a move keeps plane and changes one choice; the rotation systems that moves of unlocked nodes reach are
 those with the same choices at the locked ones; the moves from one to another lead there; ranks are mixed-radix numbers; the

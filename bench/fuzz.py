@@ -2,9 +2,9 @@
 """fuzz.py PROGRAM N SEED: runs the program on N pairs of a graph file and a script that are made from those of examples/ by
 changes, and compares each status and each refusal line with what a plain slow reader of the grammar has.
 
-Each run has 1 GiB of memory and 10 seconds of a processor (two minutes by the clock). What the reader below says is due: the line of a refusal with its status, or a report;
+Each run has 1 GiB of memory and 10 seconds of a processor (two minutes by the clock). What is required, by the reader below: the line of a refusal with its status, or a report;
 of a report the lines of the vertices are compared, how many answers there are and of which kind, and what `gml` writes. Nothing may
-stand on standard error, and every eleventh run is made twice. Prints a summary and ends with 1 where something differs; the files of the
+be on standard error, and every eleventh run is made twice. Prints a summary and ends with 1 where something differs; the files of the
 first difference are then in bench/data."""
 import collections
 import glob

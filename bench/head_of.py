@@ -1,5 +1,5 @@
 #!/usr/bin/env python3
-"""head_of.py: the head that the program must print for a GML file, but for the lines on planarity, by a slow program that stands
+"""head_of.py: the head that the program must print for a GML file, but for the lines on planarity, by a slow program that rests
 on the definitions alone.
 
   head_of.py NAME.gml

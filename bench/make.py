@@ -3,11 +3,11 @@
 
   make.py graph SEED VERTICES EDGES NAME    NAME.gml: a random multigraph without loops; NAME.spqr: `euler` of a random
                                             rotation system of it
-  make.py strings|nested|numbers BYTES NAME NAME.gml: a document of about so many bytes: one vertex, and pairs with long
+  make.py strings|nested|numbers BYTES NAME NAME.gml: a document of about BYTES bytes: one vertex, and pairs with long
                                             strings, with lists nested 32 deep, or with numbers
-  make.py grown EDGES SEED NAME             NAME.gml: a planar block of about so many edges, grown from K4 by subdividing an
+  make.py grown EDGES SEED NAME             NAME.gml: a planar block of about EDGES edges, grown from K4 by subdividing an
                                             edge, doubling it, putting a path of two edges beside it, or gluing a K4 on it
-  make.py bundle EDGES NAME                 NAME.gml: two vertices and so many edges between them
+  make.py bundle EDGES NAME                 NAME.gml: two vertices and EDGES edges between them
   make.py path|star VERTICES NAME           NAME.gml: a path, or the edges from one vertex to all others
   make.py triangulation VERTICES SEED NAME  NAME.gml: a triangulation, each new vertex in a face and then some edges flipped
 """

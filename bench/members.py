@@ -1,8 +1,8 @@
 #!/usr/bin/env python3
-"""members.py PROGRAM: on each small block, each plane rotation system, found by trying all, is taken in, and its rank is its place.
+"""members.py PROGRAM: on each small block, each plane rotation system, found by trying all, is taken by `take`, and its rank is its place.
 
 The blocks are all multigraph blocks of up to 4 vertices and 7 edges, in some orders of their edges. On each the program is asked for
-the list behind the first member, which must be the others in order; then each member is taken in by `take`, in turn from the last,
+the list after the first member, which must be the others in order; then each member is taken by `take`, from the last to the first,
 and asked for its rank; and the moves that `convert` prints from the last to it must be those of the definition."""
 import os
 import random

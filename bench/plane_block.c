@@ -1,6 +1,6 @@
 // Reads graphs with their split components from standard input, one a line: a name, the number of vertices, how many numbers of
 // ends follow, these, how many numbers of pieces follow, and these. Prints of each the name and the milliseconds, the best of five,
-// for making graph and tree, and for bringing the block to a plane rotation system, its copies apart.
+// for making graph and tree, and for embedding the block, its copies apart.
 #include <stdint.h>
 #include <stdio.h>
 #include <stdlib.h>

@@ -1,8 +1,8 @@
 #!/usr/bin/env python3
-"""plane_graphs.py EDGES..: planar blocks of so many edges with their split components, one a line, for bench/plane_block.
+"""plane_graphs.py EDGES..: planar blocks of given numbers of edges with their split components, one a line, for bench/plane_block.
 
 Each is grown from a triangle, a bond or K4 together with its components: an edge is subdivided, doubled, or a K4 is glued on it.
-cycle: one edge after the other subdivided; bundle: doubled; nest: the last edge doubled and subdivided by turns; series-parallel:
+cycle: one edge after the other subdivided; bundle: doubled; nest: the last edge doubled and subdivided alternately; series-parallel:
 a random edge subdivided or doubled; grown: the same or a K4 glued on. A line is a name, the number of vertices, how many numbers
 of ends follow and these, how many numbers of pieces follow and these, five a piece: component, kind (0 polygon, 1 bond, 2
 triconnected), two ends, and twice the edge, or twice the linked component and one more."""

@@ -1,6 +1,6 @@
 /* Loaded before the C library, this has the allocation with the number in the environment's REFUSED fail, and where a + follows the
    number all later ones too. A block that is to be made shorter is no allocation: that is refused always, and the block stays as it
-   is. It tells at the end on standard error how many allocations there were. */
+   is. At the end it prints on standard error how many allocations there were. */
 #define _GNU_SOURCE
 #include <dlfcn.h>
 #include <stdint.h>

@@ -1,7 +1,7 @@
 #!/usr/bin/env python3
 """report_of.py: the report that the program must print for a GML file and a script, by the slow definitions of embeddings.py.
 
-  report_of.py GRAPH SCRIPT              prints the report; of a certificate, which is free, stands a line `nonplanar B ?`
+  report_of.py GRAPH SCRIPT              prints the report; for a certificate, which is free, there is a line `nonplanar B ?`
   report_of.py GRAPH SCRIPT REPORT       compares a printed report with it, and checks its certificates
   --composed                             finds the lists by composing skeletons even where all rotation systems could be tried
 

@@ -1,5 +1,5 @@
 /* Loaded before the C library, this has a file vanish while the program reads it. It makes the link that the environment's VANISHING
-   names, to a file of /proc that stands for a process of its own and is longer than one read can give. Once the program has opened
+   names, to a file of /proc that belongs to a process of its own and is longer than one read can give. Once the program has opened
    the link and has read from it as often as READS says, it ends that process, and with it the file: each later read fails. All this
    is done within the program's own calls, so that nothing depends on time. */
 #define _GNU_SOURCE
