@@ -11,7 +11,7 @@ mod histories;
 #[cfg(test)]
 mod made_graphs;
 #[cfg(test)]
-mod moves;
+mod node_moves;
 #[cfg(test)]
 mod plane_blocks;
 #[cfg(test)]
