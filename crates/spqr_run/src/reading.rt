@@ -1,5 +1,5 @@
 // Reading a file to its end, within a limit.
-ghost use Rattle.std.specs.Prelude.{◌≡◌, ◌<◌, ◌≤◌, ◌^◌, IfOk, length, vec_len};
+ghost use Rattle.std.specs.Prelude.{◌≡◌, ◌+◌, ◌<◌, ◌≤◌, ◌^◌, IfOk, OnOk, length, vec_len};
 ghost use Rattle.spqr_edge.specs.Device.{CountsCall};
 ghost use Rattle.spqr_run.specs.Ending.{file_status, CountsFaults};
 ghost use Rattle.spqr_run.specs.Outcome.{Answers};
@@ -28,21 +28,27 @@ fn piece_room(alloc: Global) -> Result<Vec<u8>, AllocError>
     vec![in alloc; 0; PIECE]
 }
 
-// Takes one piece of the open file and appends it to the bytes; gives its length, 0 at the file's end.
+// Takes one piece of the open file and appends it to the bytes; gives its length, 0 at the file's end. No more is asked for
+// than is left to the limit, and one byte.
 fn read_piece<S: Shelf>(
     shelf: &mut S,
     room: &mut [u8],
     bytes: &mut Vec<u8>,
+    limit: usize,
 ) -> Result<usize, Halt<FileFault>>
-    requires { 0 < length room.old }
+    requires room { 0 < length room.old }
+    requires left { length bytes.old.items ≤ limit }
+    requires limit { limit < 2 ^ 63 }
     ensures piece { Answers result
         (TakesPiece (S.left shelf.old) (S.left shelf.new) bytes.old.items bytes.new.items (length room.old))
         (λ fault. fault ≡ FileFault.Failed) }
+    ensures within { OnOk result (length bytes.new.items ≤ limit + 1) }
     ensures files { S.files shelf.new ≡ S.files shelf.old }
     ensures opens { S.opens shelf.new ≡ S.opens shelf.old }
     ensures faults { CountsFaults file_status (S.faults shelf.old) (S.faults shelf.new) result }
 {
-    match shelf.read(room) {
+    let most = room.len().min(limit + 1 - bytes.len());
+    match shelf.read(&mut room[..most]) {
         Ok(taken) => {
             bytes.extend_from_slice(&room[..taken])?;
             Ok(taken)
@@ -51,7 +57,7 @@ fn read_piece<S: Shelf>(
     }
 }
 
-// Reads what is left of the open file. No piece is longer than the limit and one byte more, less what was taken before.
+// Reads what is left of the open file.
 fn read_rest<S: Shelf>(
     alloc: Global,
     shelf: &mut S,
@@ -67,8 +73,7 @@ fn read_rest<S: Shelf>(
     let mut room = piece_room(alloc)?;
     let mut bytes = Vec::new(alloc);
     while bytes.len() <= limit {
-        let most = PIECE.min(limit + 1 - bytes.len());
-        if read_piece(shelf, &mut room[..most], &mut bytes)? == 0 {
+        if read_piece(shelf, &mut room, &mut bytes, limit)? == 0 {
             return Ok(bytes);
         }
     }

@@ -15,4 +15,5 @@ mod Rotations
 pub mod Scripts
 pub mod Within
 mod RotationText
+pub mod PartNodes
 mod Printed

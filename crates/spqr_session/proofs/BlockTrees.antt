@@ -7,9 +7,6 @@ use Rattle.multigraph.specs.Graph.{Multigraph, IsGraph}
 use Rattle.multigraph.specs.Part.{GraphPart}
 use Rattle.blocks.specs.Blocks.{block_at}
 use Rattle.kuratowski.specs.declared.subdivision.Subdivision.{Subdivision}
-use Rattle.pair_split.specs.Tutte.{Node, node_at, IsTutte}
-use Rattle.spqr_tree.proofs.TutteFits.{tutte-items, tutte-vertices}
-use Rattle.spqr_script.specs.Node.{IsNodeOf}
 use Rattle.spqr_script.specs.Head.{block_text}
 use Rattle.spqr_session.specs.Trees.{BlockTree, AreBlockTrees}
 use Rattle.spqr_session.specs.Certificates.{certificate_at}
@@ -17,10 +14,6 @@ use Rattle.spqr_session.specs.Embedded.{BlockView, view_tree, view_certificate, 
 use Rattle.spqr_session.specs.Head.{numbered, nodes_text, planarity_text, block_lines}
 use Rattle.spqr_session.proofs.Numbered.{numbered-take}
 use Rattle.spqr_session.proofs.Views.{trees-at, certificates-at}
-
--- each number in a node of a part's tree is one of the part
-pub node-of_part : (part : GraphPart) (nodes : List Node) (k : ℕ) → IsGraph part.graph → IsTutte part.graph nodes → k < length nodes → IsNodeOf part (node_at nodes k)
-node-of_part part nodes k is t l = record { vertices = tutte-vertices part.graph nodes is t k l; items = tutte-items part.graph nodes is t k }
 
 -- one more
 pub block-more : (g : Multigraph) (blocks : List (List ℕ)) (n : ℕ) (views more : List BlockView) (v : BlockView) → AreStartBlocks g blocks n views → IsStartBlock g (block_at blocks n) v → more ≡ views ++ v ∷ [] → AreStartBlocks g blocks (n + 1) more

@@ -23,8 +23,9 @@ use Rattle.spqr_session.proofs.BlockCarried.{read-answers, read-one, read-stays}
 use Rattle.spqr_session.proofs.OneStart.{start-one}
 use Rattle.spqr_session.proofs.MovesCarried.{flip-answers, flip-one, flip-keeps, permute-answers, permute-one, permute-keeps, mirror-answers, mirror-one, mirror-keeps, lock-answers, lock-one, lock-keeps}
 use Rattle.spqr_session.proofs.HistoryCarried.{undo-answers, undo-one, undo-keeps, redo-answers, redo-one, redo-keeps}
-use Rattle.spqr_session.proofs.MembersCarried.{count-answers, count-one, count-keeps, rank-answers, rank-one, rank-keeps, list-answers, list-one, list-keeps, first-answers, first-one, first-keeps, goto-answers, goto-one, goto-keeps, next-answers, next-one, next-keeps}
-use Rattle.spqr_session.proofs.ConvertCarried.{convert_rank-answers, convert_rank-one, convert_rank-keeps, convert_to-answers, convert_to-one, convert_to-keeps}
+use Rattle.spqr_session.proofs.MembersCarried.{list-answers, list-one, list-keeps, first-answers, first-one, first-keeps, next-answers, next-one, next-keeps}
+use Rattle.spqr_session.proofs.ConvertCarried.{convert_to-answers, convert_to-one, convert_to-keeps}
+use Rattle.spqr_session.proofs.CountSteps.{count_step-answers, count_step-one, count_step-keeps, rank_step-answers, rank_step-one, rank_step-keeps, goto_step-answers, goto_step-one, goto_step-keeps, convert_step-answers, convert_step-one, convert_step-keeps}
 use Rattle.spqr_session.proofs.TakeCarried.{take-answers, take-one, take-keeps}
 
 -- each command has an answer in each state
@@ -43,10 +44,10 @@ has-answer setting before command.Redo is right = redo-answers before
 has-answer setting before (command.First b) is right = first-answers setting b before is right
 has-answer setting before (command.Next b) is right = next-answers setting b before is right
 has-answer setting before (command.List b n) is right = list-answers setting b before is right n
-has-answer setting before (command.Count b) is right = count-answers setting b before is right
-has-answer setting before (command.Rank b) is right = rank-answers setting b before is right
-has-answer setting before (command.Goto b r) is right = goto-answers setting b before is right r
-has-answer setting before (command.ConvertRank b r) is right = convert_rank-answers setting b r before is right
+has-answer setting before (command.Count b) is right = count_step-answers setting b before is right
+has-answer setting before (command.Rank b) is right = rank_step-answers setting b before is right
+has-answer setting before (command.Goto b r) is right = goto_step-answers setting b before is right r
+has-answer setting before (command.ConvertRank b r) is right = convert_step-answers setting b before is right r
 has-answer setting before (command.ConvertTo b entries) is right = convert_to-answers setting b entries before is right
 has-answer setting before (command.Take b entries) is right = take-answers setting b entries before is right
 
@@ -67,10 +68,10 @@ one-answer setting before command.Redo s t after other is right p q = redo-one b
 one-answer setting before (command.First b) s t after other is right p q = first-one setting b before is right s t after other p q
 one-answer setting before (command.Next b) s t after other is right p q = next-one setting b before is right s t after other p q
 one-answer setting before (command.List b n) s t after other is right p q = list-one setting b before is right n s t after other p q
-one-answer setting before (command.Count b) s t after other is right p q = count-one setting b before is right s t after other p q
-one-answer setting before (command.Rank b) s t after other is right p q = rank-one setting b before is right s t after other p q
-one-answer setting before (command.Goto b r) s t after other is right p q = goto-one setting b before is right r s t after other p q
-one-answer setting before (command.ConvertRank b r) s t after other is right p q = convert_rank-one setting b r before is right s t after other p q
+one-answer setting before (command.Count b) s t after other is right p q = count_step-one setting b before is right s t after other p q
+one-answer setting before (command.Rank b) s t after other is right p q = rank_step-one setting b before is right s t after other p q
+one-answer setting before (command.Goto b r) s t after other is right p q = goto_step-one setting b before is right r s t after other p q
+one-answer setting before (command.ConvertRank b r) s t after other is right p q = convert_step-one setting b before is right r s t after other p q
 one-answer setting before (command.ConvertTo b entries) s t after other is right p q = convert_to-one setting b entries before is right s t after other p q
 one-answer setting before (command.Take b entries) s t after other is right p q = take-one setting b entries before is right s t after other p q
 
@@ -90,10 +91,10 @@ step-keeps setting before command.Redo text after is right p = redo-keeps settin
 step-keeps setting before (command.First b) text after is right p = first-keeps setting b before is right text after p
 step-keeps setting before (command.Next b) text after is right p = next-keeps setting b before is right text after p
 step-keeps setting before (command.List b n) text after is right p = list-keeps setting b before is right n text after p
-step-keeps setting before (command.Count b) text after is right p = count-keeps setting b before is right text after p
-step-keeps setting before (command.Rank b) text after is right p = rank-keeps setting b before is right text after p
-step-keeps setting before (command.Goto b r) text after is right p = goto-keeps setting b before is right r text after p
-step-keeps setting before (command.ConvertRank b r) text after is right p = convert_rank-keeps setting b r before is right text after p
+step-keeps setting before (command.Count b) text after is right p = count_step-keeps setting b before is right text after p
+step-keeps setting before (command.Rank b) text after is right p = rank_step-keeps setting b before is right text after p
+step-keeps setting before (command.Goto b r) text after is right p = goto_step-keeps setting b before is right r text after p
+step-keeps setting before (command.ConvertRank b r) text after is right p = convert_step-keeps setting b before is right r text after p
 step-keeps setting before (command.ConvertTo b entries) text after is right p = convert_to-keeps setting b entries before is right text after p
 step-keeps setting before (command.Take b entries) text after is right p = take-keeps setting b entries before is right text after p
 

@@ -6,9 +6,10 @@ use Rattle.spqr_session.specs.Setting.{Setting, IsSetting}
 use Rattle.spqr_session.specs.State.{Embedding, State, entry_at, IsState}
 use Rattle.spqr_session.specs.Codes.{Applies, Carries}
 use Rattle.spqr_session.specs.BlockCodes.{read_ladder, ChangesBlock, Silently}
-use Rattle.spqr_session.specs.Members.{rank_codes, StandsAt}
+use Rattle.spqr_session.specs.Members.{StandsAt}
+use Rattle.spqr_session.specs.Products.{product_rank_codes, ConvertByProduct}
 use Rattle.spqr_session.specs.Commands.Take.{TakeApplies, IsTaken}
-use Rattle.spqr_session.specs.Commands.Convert.{conversion_text, WithMoves, ConvertRankStep, ConvertToStep}
+use Rattle.spqr_session.specs.Commands.Convert.{conversion_text, WithMoves, ConvertToStep}
 use Rattle.spqr_session.specs.declared.code.Code.{Code}
 use Rattle.spqr_session.proofs.OneStart.{setting-tree}
 use Rattle.spqr_session.proofs.Carried.{carries-one}
@@ -49,19 +50,19 @@ module _ (setting : Setting) (b r : ℕ) (s : State) (is : IsSetting setting) (r
       let m = listed (tree_at setting.trees b) old (setting-tree setting is b l) (entry-right setting s b old right l at) in
       embedding-same new other (sym (p.rank m.list m.are).is_there ∙ (q.rank m.list m.are).is_there) (p.locks ∙ sym q.locks)
 
-  pub convert_rank-answers : (text : List ℕ) × (after : State) × ConvertRankStep setting.trees b r s text after
+  pub convert_rank-answers : (text : List ℕ) × (after : State) × ConvertByProduct setting.trees b r s text after
   convert_rank-answers =
       let a = goto-answers setting b s is right r in
-      let w = with-moves (Applies (read_ladder (rank_codes r) setting.trees b s)) (StandsAt r) setting.trees b s a.0 a.1 a.2 in
+      let w = with-moves (Applies (read_ladder (product_rank_codes r) setting.trees b s)) (StandsAt r) setting.trees b s a.0 a.1 a.2 in
       (w.0, a.1, w.1)
 
-  pub convert_rank-one : (t u : List ℕ) (after other : State) → ConvertRankStep setting.trees b r s t after → ConvertRankStep setting.trees b r s u other → (t ≡ u) × (after ≡ other)
-  convert_rank-one t u after other p q = ladder-one (read_ladder (rank_codes r) setting.trees b s) (rank-rises setting b s is right r) (ChangesBlock setting.trees b (WithMoves (StandsAt r))) s
+  pub convert_rank-one : (t u : List ℕ) (after other : State) → ConvertByProduct setting.trees b r s t after → ConvertByProduct setting.trees b r s u other → (t ≡ u) × (after ≡ other)
+  convert_rank-one t u after other p q = ladder-one (read_ladder (product_rank_codes r) setting.trees b s) (rank-rises setting b s is right r) (ChangesBlock setting.trees b (WithMoves (StandsAt r))) s
       (change-does (WithMoves (StandsAt r)) setting.trees b s (λ old new next x y at c d. moves-one (StandsAt r) (tree_at setting.trees b) old new next x y (λ m n. rank-new old new next at m n) c d)) t u after other p q
 
-  pub convert_rank-keeps : (text : List ℕ) (after : State) → ConvertRankStep setting.trees b r s text after → IsState setting after
+  pub convert_rank-keeps : (text : List ℕ) (after : State) → ConvertByProduct setting.trees b r s text after → IsState setting after
   convert_rank-keeps text after p =
-      let w = without-moves (Applies (read_ladder (rank_codes r) setting.trees b s)) (StandsAt r) setting.trees b s text after p in
+      let w = without-moves (Applies (read_ladder (product_rank_codes r) setting.trees b s)) (StandsAt r) setting.trees b s text after p in
       goto-keeps setting b s is right r w.0 after w.1
 
 -- ---- to lists

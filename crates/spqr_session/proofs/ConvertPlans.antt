@@ -20,7 +20,7 @@ use Rattle.spqr_session.specs.State.{Embedding}
 use Rattle.spqr_session.specs.Embedded.{BlockView}
 use Rattle.spqr_session.specs.Commands.Convert.{value_of, conversion_text}
 use Rattle.spqr_session.specs.Planned.{embedding_of, FitsBlock, TellsMoves}
-use Rattle.spqr_session.proofs.BlockTrees.{node-of_part}
+use Rattle.spqr_script.proofs.PartNodes.{node-of_part}
 use Rattle.spqr_session.proofs.BlockCarried.{entry-same}
 use Rattle.spqr_session.proofs.Moved.{between-made}
 use Rattle.spqr_session.proofs.Planes.{seen_embedding, SeenPlane}

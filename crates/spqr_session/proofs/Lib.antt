@@ -22,6 +22,7 @@ pub mod Takings
 pub mod LowestPlans
 pub mod TakeCarried
 pub mod ConvertCarried
+mod CountSteps
 pub mod Planes
 pub mod MovePlans
 pub mod InnerKeys

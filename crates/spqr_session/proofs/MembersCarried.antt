@@ -21,10 +21,11 @@ use Rattle.spqr_session.specs.Setting.{Setting, IsSetting}
 use Rattle.spqr_session.specs.State.{Embedding, State, entry_at, IsEntry, IsState}
 use Rattle.spqr_session.specs.Codes.{Ladder, rises_above, first_code, Applies, Carries}
 use Rattle.spqr_session.specs.declared.code.Code.TheVariants.{CountOver, RankOut}
-use Rattle.spqr_session.specs.Members.{AreMembers, member_count, is_over, count_codes, rank_codes, StandsAt, StandsBehind, StandsLast}
+use Rattle.spqr_session.specs.Members.{AreMembers, is_over, StandsAt, StandsBehind, StandsLast}
+use Rattle.spqr_session.specs.Products.{member_count, product_count_codes, product_rank_codes, CountByProduct, RankByProduct, GotoByProduct}
 use Rattle.spqr_session.specs.BlockCodes.{no_more, block_ladder, read_ladder, of_entry, ReadsBlock, ChangesBlock, changed, Silently, ChangeStep, ReadStep}
-use Rattle.spqr_session.specs.Commands.Count.{IsCounted, IsRanked, CountStep, RankStep}
-use Rattle.spqr_session.specs.Commands.Walk.{IsEnd, FirstStep, GotoStep, NextDoes, NextStep}
+use Rattle.spqr_session.specs.Commands.Count.{IsCounted, IsRanked}
+use Rattle.spqr_session.specs.Commands.Walk.{IsEnd, FirstStep, NextDoes, NextStep}
 use Rattle.spqr_session.specs.Commands.Listing.{members_text, IsListing, ListStep}
 use Rattle.spqr_session.proofs.Carried.{DoesOne}
 use Rattle.spqr_session.proofs.OneStart.{setting-tree}
@@ -103,31 +104,31 @@ module _ (setting : Setting) (b : ℕ) (s : State) (is : IsSetting setting) (rig
 
   -- ---- count and rank
 
-  pub count-answers : (text : List ℕ) × (after : State) × CountStep setting.trees b s text after
-  count-answers = read-answers count_codes (λ tree e. refl) IsCounted setting.trees b s (λ l e p none.
+  pub count-answers : (text : List ℕ) × (after : State) × CountByProduct setting.trees b s text after
+  count-answers = read-answers product_count_codes (λ tree e. refl) IsCounted setting.trees b s (λ l e p none.
       let m = listed here e (tree-of l) (entry-right setting s b e right l p) in
       (count_text (length m.list), λ k a. ap (λ (x : List (List (List ℕ))). count_text (length x)) (lists-one here e m.list k m.are a)))
 
-  pub count-one : (t u : List ℕ) (after other : State) → CountStep setting.trees b s t after → CountStep setting.trees b s u other → (t ≡ u) × (after ≡ other)
-  count-one t u after other p q = read-one count_codes (λ tree e. refl) IsCounted setting.trees b s (λ e at x y c d.
+  pub count-one : (t u : List ℕ) (after other : State) → CountByProduct setting.trees b s t after → CountByProduct setting.trees b s u other → (t ≡ u) × (after ≡ other)
+  count-one t u after other p q = read-one product_count_codes (λ tree e. refl) IsCounted setting.trees b s (λ e at x y c d.
       let l = entry-block setting s b e right at in
       let m = listed here e (tree-of l) (entry-right setting s b e right l at) in c m.list m.are ∙ sym (d m.list m.are)) t u after other p q
 
-  pub count-keeps : (text : List ℕ) (after : State) → CountStep setting.trees b s text after → IsState setting after
-  count-keeps text after p = subst (IsState setting) (sym (read-stays count_codes (λ tree e. refl) IsCounted setting.trees b s text after p)) right
+  pub count-keeps : (text : List ℕ) (after : State) → CountByProduct setting.trees b s text after → IsState setting after
+  count-keeps text after p = subst (IsState setting) (sym (read-stays product_count_codes (λ tree e. refl) IsCounted setting.trees b s text after p)) right
 
-  pub rank-answers : (text : List ℕ) × (after : State) × RankStep setting.trees b s text after
-  rank-answers = read-answers count_codes (λ tree e. refl) IsRanked setting.trees b s (λ l e p none.
+  pub rank-answers : (text : List ℕ) × (after : State) × RankByProduct setting.trees b s text after
+  rank-answers = read-answers product_count_codes (λ tree e. refl) IsRanked setting.trees b s (λ l e p none.
       let m = listed here e (tree-of l) (entry-right setting s b e right l p) in
       (rank_text m.place, λ k i a x. ap rank_text (ranks-one here e k e.rotation m.place i a (subst (λ (z : List (List (List ℕ))). IsRank z e.rotation m.place) (lists-one here e m.list k m.are a) m.rank) x)))
 
-  pub rank-one : (t u : List ℕ) (after other : State) → RankStep setting.trees b s t after → RankStep setting.trees b s u other → (t ≡ u) × (after ≡ other)
-  rank-one t u after other p q = read-one count_codes (λ tree e. refl) IsRanked setting.trees b s (λ e at x y c d.
+  pub rank-one : (t u : List ℕ) (after other : State) → RankByProduct setting.trees b s t after → RankByProduct setting.trees b s u other → (t ≡ u) × (after ≡ other)
+  rank-one t u after other p q = read-one product_count_codes (λ tree e. refl) IsRanked setting.trees b s (λ e at x y c d.
       let l = entry-block setting s b e right at in
       let m = listed here e (tree-of l) (entry-right setting s b e right l at) in c m.list m.place m.are m.rank ∙ sym (d m.list m.place m.are m.rank)) t u after other p q
 
-  pub rank-keeps : (text : List ℕ) (after : State) → RankStep setting.trees b s text after → IsState setting after
-  rank-keeps text after p = subst (IsState setting) (sym (read-stays count_codes (λ tree e. refl) IsRanked setting.trees b s text after p)) right
+  pub rank-keeps : (text : List ℕ) (after : State) → RankByProduct setting.trees b s text after → IsState setting after
+  rank-keeps text after p = subst (IsState setting) (sym (read-stays product_count_codes (λ tree e. refl) IsRanked setting.trees b s text after p)) right
 
   -- ---- list
 
@@ -174,30 +175,30 @@ module _ (setting : Setting) (b : ℕ) (s : State) (is : IsSetting setting) (rig
   first-keeps text after (inl p) = subst (IsState setting) (sym p.stays) right
   first-keeps text after (inr p) = stand-keeps 0 text after p.1
 
-  pub rank-rises : (r : ℕ) → rises_above 0 (read_ladder (rank_codes r) setting.trees b s) ≡ true
-  rank-rises r = entry-rises (rank_codes r here) (λ e. refl) (entry_at s.present b)
+  pub rank-rises : (r : ℕ) → rises_above 0 (read_ladder (product_rank_codes r) setting.trees b s) ≡ true
+  rank-rises r = entry-rises (product_rank_codes r here) (λ e. refl) (entry_at s.present b)
 
   -- where no code applies the rank is below the length of the list
-  pub rank-facts : (r : ℕ) → first_code (read_ladder (rank_codes r) setting.trees b s) ≡ None → (b < length setting.trees) × ((e : Embedding) × (entry_at s.present b ≡ Some e) × (r < member_count here e))
+  pub rank-facts : (r : ℕ) → first_code (read_ladder (product_rank_codes r) setting.trees b s) ≡ None → (b < length setting.trees) × ((e : Embedding) × (entry_at s.present b ≡ Some e) × (r < member_count here e))
   rank-facts r none =
-      let front = none-front (block_ladder setting.trees b s) (of_entry (rank_codes r here) (entry_at s.present b)) none in
+      let front = none-front (block_ladder setting.trees b s) (of_entry (product_rank_codes r here) (entry_at s.present b)) none in
       let h = block-entry setting.trees b s front in
-      let rest : first_code (rank_codes r here h.1.0) ≡ None = sym (ap (λ (o : Option Embedding). first_code (of_entry (rank_codes r here) o)) h.1.1) ∙ sym (first-behind (block_ladder setting.trees b s) (of_entry (rank_codes r here) (entry_at s.present b)) front) ∙ none in
+      let rest : first_code (product_rank_codes r here h.1.0) ≡ None = sym (ap (λ (o : Option Embedding). first_code (of_entry (product_rank_codes r here) o)) h.1.1) ∙ sym (first-behind (block_ladder setting.trees b s) (of_entry (product_rank_codes r here) (entry_at s.present b)) front) ∙ none in
       let one = rung-none CountOver (is_over (member_count here h.1.0)) ((RankOut (member_count here h.1.0), not (nat_lt r (member_count here h.1.0))) ∷ []) rest in
       let two = rung-none (RankOut (member_count here h.1.0)) (not (nat_lt r (member_count here h.1.0))) [] one.1 in
       (h.0, (h.1.0, h.1.1, rank-below r (member_count here h.1.0) two.0))
 
-  pub goto-answers : (r : ℕ) → (text : List ℕ) × (after : State) × GotoStep setting.trees b r s text after
-  goto-answers r = ladder-answers (read_ladder (rank_codes r) setting.trees b s) (rank-rises r) (ChangesBlock setting.trees b (Silently (StandsAt r))) s (λ none.
+  pub goto-answers : (r : ℕ) → (text : List ℕ) × (after : State) × GotoByProduct setting.trees b r s text after
+  goto-answers r = ladder-answers (read_ladder (product_rank_codes r) setting.trees b s) (rank-rises r) (ChangesBlock setting.trees b (Silently (StandsAt r))) s (λ none.
       let h = rank-facts r none in
       let e = entry-right setting s b h.1.0 right h.0 h.1.1 in
       let q = at-rank here h.1.0 r (tree-of h.0) e h.1.2 in
       (ok_text, changed s b q.0, record { old = h.1.0; present = h.1.1; new = q.0; change = (q.1, refl); after_is = refl }))
 
-  pub goto-one : (r : ℕ) (t u : List ℕ) (after other : State) → GotoStep setting.trees b r s t after → GotoStep setting.trees b r s u other → (t ≡ u) × (after ≡ other)
-  goto-one r t u after other p q = ladder-one (read_ladder (rank_codes r) setting.trees b s) (rank-rises r) (ChangesBlock setting.trees b (Silently (StandsAt r))) s (stand-one r) t u after other p q
+  pub goto-one : (r : ℕ) (t u : List ℕ) (after other : State) → GotoByProduct setting.trees b r s t after → GotoByProduct setting.trees b r s u other → (t ≡ u) × (after ≡ other)
+  goto-one r t u after other p q = ladder-one (read_ladder (product_rank_codes r) setting.trees b s) (rank-rises r) (ChangesBlock setting.trees b (Silently (StandsAt r))) s (stand-one r) t u after other p q
 
-  pub goto-keeps : (r : ℕ) (text : List ℕ) (after : State) → GotoStep setting.trees b r s text after → IsState setting after
+  pub goto-keeps : (r : ℕ) (text : List ℕ) (after : State) → GotoByProduct setting.trees b r s text after → IsState setting after
   goto-keeps r text after (inl p) = subst (IsState setting) (sym p.stays) right
   goto-keeps r text after (inr p) = stand-keeps r text after p.1
 

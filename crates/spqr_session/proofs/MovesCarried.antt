@@ -34,7 +34,7 @@ use Rattle.spqr_session.specs.Commands.Permute.{is_arrangement, outer_edges, inn
 use Rattle.spqr_session.specs.Commands.Mirror.{mirror_codes, IsMirrored, MirrorStep}
 use Rattle.spqr_session.specs.Commands.Lock.{IsLockSet, LockStep}
 use Rattle.spqr_session.proofs.Arranging.{passes-arranged}
-use Rattle.spqr_session.proofs.BlockTrees.{node-of_part}
+use Rattle.spqr_script.proofs.PartNodes.{node-of_part}
 use Rattle.spqr_session.proofs.OneStart.{setting-tree}
 use Rattle.spqr_session.proofs.Ladders.{rung-none, ladder-answers, ladder-one}
 use Rattle.spqr_session.proofs.BlockCarried.{held, in-block, planar-entry, none-front, block-entry, entry-rises}

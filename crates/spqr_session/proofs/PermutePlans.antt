@@ -24,7 +24,7 @@ use Rattle.spqr_session.specs.declared.code.Code.{Code}
 use Rattle.spqr_session.specs.declared.code.Code.TheVariants.{NoNode, WrongKind, BadOrder, NonPlanar}
 use Rattle.spqr_session.specs.declared.planned.Planned.{Planned}
 use Rattle.spqr_session.specs.declared.planned.Planned.TheVariants.{Refused, End, Change}
-use Rattle.spqr_session.proofs.BlockTrees.{node-of_part}
+use Rattle.spqr_script.proofs.PartNodes.{node-of_part}
 use Rattle.spqr_session.proofs.InnerKeys.{order-right, order-wrong}
 use Rattle.spqr_session.proofs.Ladders.{rung-hit, rung-missed}
 use Rattle.spqr_session.proofs.MovePlans.{planar-missed, lock-hit, lock-missed, made-fits, made-leads}

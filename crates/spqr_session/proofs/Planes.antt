@@ -16,7 +16,8 @@ use Rattle.spqr_session.specs.State.{Embedding, IsEntry}
 use Rattle.spqr_session.specs.Embedded.{BlockView, block_view, IsEmbedded}
 use Rattle.spqr_session.specs.Codes.{Ladder, code_text, first_code}
 use Rattle.spqr_session.specs.BlockCodes.{Answered, TellsBlock}
-use Rattle.spqr_session.specs.Members.{AreMembers, member_count, is_over, count_codes}
+use Rattle.spqr_session.specs.Members.{AreMembers, is_over}
+use Rattle.spqr_session.specs.Products.{member_count, product_count_codes}
 use Rattle.spqr_session.specs.Commands.Count.{IsCounted, IsRanked}
 use Rattle.spqr_session.specs.declared.code.Code.{Code}
 use Rattle.spqr_session.specs.declared.code.Code.TheVariants.{CountOver, NonPlanar}
@@ -79,22 +80,22 @@ module _ (v : BlockView) (p : BlockState) (seen : SeenPlane v p) where
   over l = ap not (false_from_ne_true (nat_lt (member_count v.tree here) (2 ^ 128)) (λ t. omega (arith, l, its-list.counted, ltb-true (member_count v.tree here) (2 ^ 128) t)))
 
   -- the line of code 10
-  pub told-over : (IsAbout : BlockTree → Embedding → List ℕ → Type 0) (text : List ℕ) → 2 ^ 128 ≤ length its-list.list → text ≡ code_text CountOver → TellsBlock v.tree v.entry count_codes IsAbout text
-  told-over IsAbout text l e = told-entry count_codes IsAbout text
+  pub told-over : (IsAbout : BlockTree → Embedding → List ℕ → Type 0) (text : List ℕ) → 2 ^ 128 ≤ length its-list.list → text ≡ code_text CountOver → TellsBlock v.tree v.entry product_count_codes IsAbout text
+  told-over IsAbout text l e = told-entry product_count_codes IsAbout text
       (subst (λ (c : Option Code). Answered c text (IsAbout v.tree here text)) (sym (rung-hit CountOver (is_over (member_count v.tree here)) [] (over l))) e)
 
   -- an answer, where it does not apply
-  pub told-below : (IsAbout : BlockTree → Embedding → List ℕ → Type 0) (text : List ℕ) → length its-list.list < 2 ^ 128 → IsAbout v.tree here text → TellsBlock v.tree v.entry count_codes IsAbout text
-  told-below IsAbout text l a = told-entry count_codes IsAbout text
+  pub told-below : (IsAbout : BlockTree → Embedding → List ℕ → Type 0) (text : List ℕ) → length its-list.list < 2 ^ 128 → IsAbout v.tree here text → TellsBlock v.tree v.entry product_count_codes IsAbout text
+  told-below IsAbout text l a = told-entry product_count_codes IsAbout text
       (subst (λ (c : Option Code). Answered c text (IsAbout v.tree here text)) (sym (rung-missed CountOver (is_over (member_count v.tree here)) [] None (not-over l) refl)) a)
 
   -- the count
-  pub told-count : (n : ℕ) (text : List ℕ) → n < 2 ^ 128 → ((l : List (List (List ℕ))) → IsMemberList p l → n ≡ length l) → text ≡ count_text n → TellsBlock v.tree v.entry count_codes IsCounted text
+  pub told-count : (n : ℕ) (text : List ℕ) → n < 2 ^ 128 → ((l : List (List (List ℕ))) → IsMemberList p l → n ≡ length l) → text ≡ count_text n → TellsBlock v.tree v.entry product_count_codes IsCounted text
   told-count n text below counted e =
       let n-is = counted its-list.list own-list in
       told-below IsCounted text (omega (arith, below, n-is)) (λ l a. e ∙ ap count_text (counted l (same-list l a)))
 
   -- the rank
-  pub told-rank : (k : ℕ) (text : List ℕ) → ((l : List (List (List ℕ))) → IsMemberList p l → IsRank l p.rotation k) → ((l : List (List (List ℕ))) → IsMemberList p l → length l < 2 ^ 128) → text ≡ rank_text k → TellsBlock v.tree v.entry count_codes IsRanked text
+  pub told-rank : (k : ℕ) (text : List ℕ) → ((l : List (List (List ℕ))) → IsMemberList p l → IsRank l p.rotation k) → ((l : List (List (List ℕ))) → IsMemberList p l → length l < 2 ^ 128) → text ≡ rank_text k → TellsBlock v.tree v.entry product_count_codes IsRanked text
   told-rank k text ranked below e =
       told-below IsRanked text (below its-list.list own-list) (λ l i a x. e ∙ ap rank_text (ranks-one v.tree here l p.rotation k i a (ranked l (same-list l a)) x))

@@ -12,7 +12,8 @@ use Rattle.spqr_session.specs.Embedded.{BlockView, view_tree, view_at}
 use Rattle.spqr_session.specs.Board.{BoardView, family_on, board_state}
 use Rattle.spqr_session.specs.Codes.{Ladder, first_code, code_text, Applies, Carries}
 use Rattle.spqr_session.specs.BlockCodes.{is_block, is_planar, planar_codes, block_ladder, entry_codes, of_entry, Silently}
-use Rattle.spqr_session.specs.Members.{AreMembers, member_count, is_over, rank_codes, StandsAt, StandsBehind, StandsLast}
+use Rattle.spqr_session.specs.Members.{AreMembers, is_over, StandsAt, StandsBehind, StandsLast}
+use Rattle.spqr_session.specs.Products.{member_count, product_rank_codes}
 use Rattle.spqr_session.specs.Commands.Walk.{NextDoes, NextStep}
 use Rattle.spqr_session.specs.Planned.{embedding_of, FitsBlock, IsChangeOf, IsPlan, IsFirstPlan, IsRankPlan, IsStepPlan, IsAtEnd, IsNextPlan, IsNextPlanAt, MayStand, IsSettled}
 use Rattle.spqr_session.specs.declared.code.Code.{Code}
@@ -42,17 +43,17 @@ module _ (v : BlockView) (p : BlockState) (seen : SeenPlane v p) where
   first-plan End h = absurd h
   first-plan (Change q) h = (none-planar, (rest-fits q h.0, record { rank = λ l a. h.1 l (same-list v p seen l a); locks = h.0.locks }))
 
-  rank-code : (r : ℕ) (o : Option Code) → first_code (rank_codes r v.tree here) ≡ o → first_code (entry_codes (rank_codes r) v.tree v.entry) ≡ o
-  rank-code r o e = planar-missed v p seen (of_entry (rank_codes r v.tree) v.entry) o (entry-own v p seen (rank_codes r v.tree) o e)
+  rank-code : (r : ℕ) (o : Option Code) → first_code (product_rank_codes r v.tree here) ≡ o → first_code (entry_codes (product_rank_codes r) v.tree v.entry) ≡ o
+  rank-code r o e = planar-missed v p seen (of_entry (product_rank_codes r v.tree) v.entry) o (entry-own v p seen (product_rank_codes r v.tree) o e)
 
-  pub rank-plan : (r : ℕ) (planned : Planned) → IsRankPlan r p planned → IsPlan (entry_codes (rank_codes r) v.tree v.entry) (StandsAt r) v planned
+  pub rank-plan : (r : ℕ) (planned : Planned) → IsRankPlan r p planned → IsPlan (entry_codes (product_rank_codes r) v.tree v.entry) (StandsAt r) v planned
   rank-plan r (Refused code) h = by (h (its-list v p seen).list (own-list v p seen))
     where
       n : ℕ
       n = member_count v.tree here
 
       by : ((code ≡ CountOver) × (2 ^ 128 ≤ length (its-list v p seen).list)) ⊎ ((code ≡ RankOut (length (its-list v p seen).list)) × (length (its-list v p seen).list ≤ r) × (length (its-list v p seen).list < 2 ^ 128))
-          → first_code (entry_codes (rank_codes r) v.tree v.entry) ≡ Some code
+          → first_code (entry_codes (product_rank_codes r) v.tree v.entry) ≡ Some code
       by (inl a) = rank-code r (Some code) (rung-hit CountOver (is_over (member_count v.tree here)) ((RankOut (member_count v.tree here), not (nat_lt r (member_count v.tree here))) ∷ []) (over v p seen a.1) ∙ ap (λ (c : Code). Some c) (sym a.0))
       by (inr a) =
           let l = its-list v p seen in

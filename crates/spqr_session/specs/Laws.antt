@@ -1,8 +1,11 @@
 -- What the definitions of a session say of one another.
-use Rattle.std.specs.Prelude.{◌≡◌, ℕ, List}
+use Rattle.std.specs.Prelude.{◌≡◌, ℕ, List, length, Some}
 use Rattle.spqr_script.specs.declared.command.Command.{Command}
 use Rattle.spqr_session.specs.Setting.{Setting, IsSetting}
-use Rattle.spqr_session.specs.State.{State, IsState, IsStart}
+use Rattle.spqr_session.specs.Trees.{tree_at}
+use Rattle.spqr_session.specs.State.{Embedding, State, entry_at, IsState, IsStart}
+use Rattle.spqr_session.specs.Members.{AreMembers}
+use Rattle.spqr_session.specs.Products.{member_count}
 use Rattle.spqr_session.specs.Step.{Step}
 use Rattle.spqr_session.specs.Report.{IsReport}
 
@@ -31,3 +34,9 @@ OneStart = (setting : Setting) (a b : State) → IsSetting setting → IsStart s
 -- there is one report on a setting and commands
 abbrev pub OneReport : Type 0
 OneReport = (setting : Setting) (commands : List Command) (s t : List ℕ) → IsSetting setting → IsReport setting commands s → IsReport setting commands t → s ≡ t
+
+-- the list of a block has as many members as the product over its nodes that are not locked says
+abbrev pub MembersAreCounted : Type 0
+MembersAreCounted =
+    (setting : Setting) (state : State) (b : ℕ) (e : Embedding) (l : List (List (List ℕ))) → IsSetting setting → IsState setting state
+    → entry_at state.present b ≡ Some e → AreMembers (tree_at setting.trees b) e l → length l ≡ member_count (tree_at setting.trees b) e

@@ -12,6 +12,7 @@ pub mod BlockCodes
 pub mod Members
 pub mod Planned
 pub mod Commands
+pub mod Products
 pub mod Step
 pub mod Head
 pub mod Report

@@ -1,10 +1,10 @@
 -- The list of the plane rotation systems of a block that have the present choices at its locked nodes, and where an embedding
 -- is in it.
-use Rattle.std.specs.Prelude.{◌≡◌, ℕ, ◌+◌, ◌^◌, Bool, not, nat_lt, List, [], ◌∷◌, ◌++◌, length}
-use Rattle.skeletons.specs.Lists.{IsKeptList, IsRank, list_count}
+use Rattle.std.specs.Prelude.{◌≡◌, ℕ, ◌+◌, ◌^◌, Bool, not, nat_lt, List, [], ◌∷◌, length, Option, None, Some, ⊤}
+use Rattle.skeletons.specs.Lists.{IsKeptList, IsRank}
 use Rattle.skel_embed.specs.Block.{lock_at}
-use Rattle.spqr_session.specs.Trees.{BlockTree}
-use Rattle.spqr_session.specs.State.{Embedding}
+use Rattle.spqr_session.specs.Trees.{BlockTree, tree_at}
+use Rattle.spqr_session.specs.State.{Embedding, State, entry_at}
 use Rattle.spqr_session.specs.Codes.{Ladder}
 use Rattle.spqr_session.specs.declared.code.Code.TheVariants.{CountOver, RankOut}
 
@@ -12,21 +12,26 @@ use Rattle.spqr_session.specs.declared.code.Code.TheVariants.{CountOver, RankOut
 abbrev pub AreMembers : BlockTree → Embedding → List (List (List ℕ)) → Type 0
 AreMembers tree e l = IsKeptList tree.part.graph tree.nodes (lock_at e.locks) e.rotation l
 
--- how many they are: a product over the nodes that are not locked
-abbrev pub member_count : BlockTree → Embedding → ℕ
-member_count tree e = list_count tree.nodes (lock_at e.locks)
+-- n is how many they are: the length of the list. A block without an embedding has no list, and n is any number
+abbrev pub AreSoMany : BlockTree → Option Embedding → ℕ → Type 0
+AreSoMany tree None n = ⊤
+AreSoMany tree (Some e) n = (l : List (List (List ℕ))) → AreMembers tree e l → length l ≡ n
 
 -- whether a number is 2^128 or more
 abbrev pub is_over : ℕ → Bool
 is_over n = not (nat_lt n (2 ^ 128))
 
--- code 10: there are 2^128 members or more
-abbrev pub count_codes : BlockTree → Embedding → Ladder
-count_codes tree e = (CountOver, is_over (member_count tree e)) ∷ []
+-- code 10, where there are n members: n is 2^128 or more
+abbrev pub count_codes : ℕ → BlockTree → Embedding → Ladder
+count_codes n tree e = (CountOver, is_over n) ∷ []
 
--- code 10, and 11: the rank is not below the length of the list
-abbrev pub rank_codes : ℕ → BlockTree → Embedding → Ladder
-rank_codes r tree e = (CountOver, is_over (member_count tree e)) ∷ (RankOut (member_count tree e), not (nat_lt r (member_count tree e))) ∷ []
+-- code 10, and 11: the rank r is not below n
+abbrev pub rank_codes : ℕ → ℕ → BlockTree → Embedding → Ladder
+rank_codes r n tree e = (CountOver, is_over n) ∷ (RankOut n, not (nat_lt r n)) ∷ []
+
+-- what holds with the number of the members of block b
+abbrev pub WithCount : List BlockTree → ℕ → State → (ℕ → Type 0) → Type 0
+WithCount trees b s Holds = (n : ℕ) × AreSoMany (tree_at trees b) (entry_at s.present b) n × Holds n
 
 -- the new embedding is the member at this rank, with the locks of the old one
 pub record StandsAt (r : ℕ) (tree : BlockTree) (old new : Embedding) : Type 0 where

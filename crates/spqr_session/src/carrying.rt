@@ -1,6 +1,7 @@
 // Carrying out a command.
 ghost use Rattle.std.specs.Prelude.{◌≡◌, map, IfOk, OnErr};
-ghost use Rattle.spqr_session.specs.Setting.{Setting};
+ghost use Rattle.spqr_session.specs.Setting.{Setting, IsSetting};
+ghost use Rattle.spqr_session.specs.State.{IsState};
 ghost use Rattle.spqr_session.specs.Embedded.{view_tree};
 ghost use Rattle.spqr_session.specs.Board.{board_state, IsCarried};
 ghost use Rattle.spqr_session.specs.Step.{Step};
@@ -25,6 +26,7 @@ pub(crate) fn carry_out(
     command: &Command,
 ) -> Result<Vec<u8>, AllocError>
     ensures step { (setting : Setting) → setting.document ≡ doc.now → setting.named.graph ≡ graph.now → setting.trees ≡ map view_tree board.old.views
+        → IsSetting setting → IsState setting (board_state board.old)
         → IfOk result (λ text. Step setting (board_state board.old) command.now text.items (board_state board.new)) }
     ensures setting { IsCarried board.old.views board.new.views }
     ensures memory { OnErr result (board.new ≡ board.old) }

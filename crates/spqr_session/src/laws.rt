@@ -1,5 +1,5 @@
 // What the definitions of a session say of one another.
-ghost use Rattle.spqr_session.specs.Laws.{EachHasAnswer, OneAnswer, OneReport, OneStart, StepKeepsState};
+ghost use Rattle.spqr_session.specs.Laws.{EachHasAnswer, MembersAreCounted, OneAnswer, OneReport, OneStart, StepKeepsState};
 
 /// Each command has an answer in each state, and one only, with one state after it, in which each planar block has a plane
 /// rotation system again.
@@ -13,4 +13,10 @@ pub fn answers()
 pub fn reports()
     ensures start { OneStart }
     ensures report { OneReport }
+{}
+
+/// The length of the list of a block is a product: (n - 1)! for each bond of n items that is not locked, and 2 for each
+/// triconnected node that is not locked.
+pub fn counts()
+    ensures { MembersAreCounted }
 {}

@@ -2,11 +2,14 @@
 // of all edges at each node.
 
 ghost use Rattle.std.specs.Prelude.{◌<◌, length};
+ghost use Rattle.blocks.specs.Blocks.{IsBlockStructure};
 ghost use Rattle.pair_split.specs.Tutte.{IsTutte};
 
 use crate::small_blocks::{block_of, ends_of};
+use blocks::{Blocks, is_one_block, split};
 use multigraph::Graph;
 use pair_split::{Comp, Item, PairSplitter, Splitter, What};
+use spqr_script::node_line;
 use spqr_tree::Tree;
 use std::alloc::{AllocError, Global};
 use std::test::Fail;
@@ -221,6 +224,49 @@ fn assembles_trees(rt: HostRuntime) -> Result<(), Fail> {
             assert_eq!(rt; groups_at(rt.alloc(), &graph, &tree, k)?.as_slice(), keys);
             assert_eq!(rt; groups_at(rt.alloc(), &graph, &copy, k)?.as_slice(), keys);
         }
+    }
+    Ok(())
+}
+
+// The lines of the nodes of block b, in the numbers of the graph.
+fn node_lines(alloc: Global, graph: &Graph, blocks: &Blocks, b: u32) -> Result<Vec<u8>, Fail>
+    requires structure { IsBlockStructure graph.now blocks.now }
+    requires block { b < length blocks.now.blocks }
+{
+    let part = graph.part(alloc, blocks.edges(b))?;
+    if !is_one_block(alloc, part.graph())? {
+        return Err(Fail::from("no block"));
+    }
+    let comps = PairSplitter::new().split(alloc, part.graph())?;
+    let tree = Tree::assemble(alloc, part.graph(), comps)?;
+    let mut text = Vec::new(alloc);
+    for k in 0..tree.node_count() {
+        let line = node_line(alloc, &part, &tree, k)?;
+        text.extend_from_slice(&line)?;
+    }
+    Ok(text)
+}
+
+// An edge, and at one of its ends a square with a chord: the numbers of the second block begin with 1.
+static NODE_LINES: [&'static str; 2] = [
+    "node 0 B 0 1 | 0:0-1\n",
+    "node 0 S 1 2 3 | 1:1-2 2:2-3 3:1-3@1\nnode 1 P 1 3 | 1:1-3@0 3:1-3@2 5:1-3\nnode 2 S 1 3 4 | 1:1-3@1 3:3-4 4:1-4\n",
+];
+
+#[test]
+fn node_lines_have_the_numbers_of_the_graph(rt: HostRuntime) -> Result<(), Fail> {
+    let ends = ends_of(rt.alloc(), "01 12 23 34 41 13", 0)?;
+    let Ok(graph) = Graph::build(rt.alloc(), 5, &ends) else {
+        return Err(Fail::from("no graph"));
+    };
+    let blocks = split(rt.alloc(), &graph)?;
+    assert_eq!(rt; blocks.block_count() as usize, NODE_LINES.len());
+    for b in 0..blocks.block_count() {
+        let expected = NODE_LINES.get(b as usize).copied().unwrap_or("");
+        assert_eq!(rt;
+            node_lines(rt.alloc(), &graph, &blocks, b)?.as_slice(),
+            expected.as_bytes()
+        );
     }
     Ok(())
 }

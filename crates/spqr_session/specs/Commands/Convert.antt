@@ -6,7 +6,7 @@ use Rattle.moves.specs.declared.values.Move.TheVariants.{Flip, Permute}
 use Rattle.spqr_script.specs.Answers.Moves.{moves_text}
 use Rattle.spqr_session.specs.Trees.{BlockTree}
 use Rattle.spqr_session.specs.State.{Embedding, State}
-use Rattle.spqr_session.specs.Members.{rank_codes, StandsAt}
+use Rattle.spqr_session.specs.Members.{WithCount, rank_codes, StandsAt}
 use Rattle.spqr_session.specs.Codes.{Carries}
 use Rattle.spqr_session.specs.BlockCodes.{read_ladder, ChangesBlock, ChangeStep}
 use Rattle.spqr_session.specs.Commands.Take.{TakeApplies, IsTaken}
@@ -26,7 +26,7 @@ WithMoves IsChange tree old new text = IsChange tree old new × (text ≡ conver
 
 -- one step of `convert B rank R`: refused by codes 1, 5, 10 and 11
 abbrev pub ConvertRankStep : List BlockTree → ℕ → ℕ → State → List ℕ → State → Type 0
-ConvertRankStep trees b r before text after = ChangeStep (read_ladder (rank_codes r) trees b before) (WithMoves (StandsAt r)) trees b before text after
+ConvertRankStep trees b r before text after = WithCount trees b before (λ n. ChangeStep (read_ladder (rank_codes r n) trees b before) (WithMoves (StandsAt r)) trees b before text after)
 
 -- one step of `convert B to ROT`: refused as `take B ROT` is
 abbrev pub ConvertToStep : List BlockTree → ℕ → List (ℕ × List ℕ) → State → List ℕ → State → Type 0

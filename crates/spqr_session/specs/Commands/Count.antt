@@ -5,7 +5,7 @@ use Rattle.spqr_script.specs.Answers.Count.{count_text}
 use Rattle.spqr_script.specs.Answers.Rank.{rank_text}
 use Rattle.spqr_session.specs.Trees.{BlockTree}
 use Rattle.spqr_session.specs.State.{Embedding, State}
-use Rattle.spqr_session.specs.Members.{AreMembers, count_codes}
+use Rattle.spqr_session.specs.Members.{AreMembers, WithCount, count_codes}
 use Rattle.spqr_session.specs.BlockCodes.{ReadStep}
 
 -- the answer is the length of the list
@@ -18,7 +18,7 @@ IsRanked tree e text = (l : List (List (List ℕ))) (k : ℕ) → AreMembers tre
 
 -- one step each: refused by codes 1, 5 and 10
 abbrev pub CountStep : List BlockTree → ℕ → State → List ℕ → State → Type 0
-CountStep trees b before text after = ReadStep count_codes IsCounted trees b before text after
+CountStep trees b before text after = WithCount trees b before (λ n. ReadStep (count_codes n) IsCounted trees b before text after)
 
 abbrev pub RankStep : List BlockTree → ℕ → State → List ℕ → State → Type 0
-RankStep trees b before text after = ReadStep count_codes IsRanked trees b before text after
+RankStep trees b before text after = WithCount trees b before (λ n. ReadStep (count_codes n) IsRanked trees b before text after)

@@ -4,7 +4,7 @@ use Rattle.std.specs.Prelude.{◌≡◌, ◌⊎◌, ℕ, List}
 use Rattle.spqr_script.specs.Answers.Change.{end_text}
 use Rattle.spqr_session.specs.Trees.{BlockTree}
 use Rattle.spqr_session.specs.State.{Embedding, State}
-use Rattle.spqr_session.specs.Members.{rank_codes, StandsAt, StandsBehind, StandsLast}
+use Rattle.spqr_session.specs.Members.{WithCount, rank_codes, StandsAt, StandsBehind, StandsLast}
 use Rattle.spqr_session.specs.Codes.{Applies, Carries}
 use Rattle.spqr_session.specs.BlockCodes.{block_ladder, read_ladder, ReadsBlock, ChangesBlock, Silently, ChangeStep}
 
@@ -14,7 +14,7 @@ FirstStep trees b before text after = ChangeStep (block_ladder trees b before) (
 
 -- one step of `goto`: refused by codes 1, 5, 10 and 11
 abbrev pub GotoStep : List BlockTree → ℕ → ℕ → State → List ℕ → State → Type 0
-GotoStep trees b r before text after = ChangeStep (read_ladder (rank_codes r) trees b before) (Silently (StandsAt r)) trees b before text after
+GotoStep trees b r before text after = WithCount trees b before (λ n. ChangeStep (read_ladder (rank_codes r n) trees b before) (Silently (StandsAt r)) trees b before text after)
 
 -- at the last member the answer is `end`
 abbrev pub IsEnd : BlockTree → Embedding → List ℕ → Type 0

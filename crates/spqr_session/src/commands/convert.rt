@@ -3,7 +3,8 @@ ghost use Rattle.std.specs.Prelude.{◌≡◌, map, IfOk, OnErr};
 ghost use Rattle.spqr_session.specs.Embedded.{view_tree};
 ghost use Rattle.spqr_session.specs.Board.{board_state, IsCarried};
 ghost use Rattle.spqr_session.specs.Planned.{FitsBlock, MayStand, TellsMoves, IsConverted};
-ghost use Rattle.spqr_session.specs.Commands.Convert.{ConvertRankStep, ConvertToStep};
+ghost use Rattle.spqr_session.specs.Commands.Convert.{ConvertToStep};
+ghost use Rattle.spqr_session.specs.Products.{ConvertByProduct};
 
 use super::take::plan_take;
 use super::walk::plan_rank;
@@ -74,7 +75,7 @@ pub(crate) fn carry_convert_rank(
     b: u32,
     r: u128,
 ) -> Result<Vec<u8>, AllocError>
-    ensures step { IfOk result (λ text. ConvertRankStep (map view_tree board.old.views) b r
+    ensures step { IfOk result (λ text. ConvertByProduct (map view_tree board.old.views) b r
         (board_state board.old) text.items (board_state board.new)) }
     ensures setting { IsCarried board.old.views board.new.views }
     ensures memory { OnErr result (board.new ≡ board.old) }

@@ -3,9 +3,9 @@ ghost use Rattle.std.specs.Prelude.{◌≡◌, ◌<◌, ◌^◌, map, IfOk};
 ghost use Rattle.spqr_script.specs.Answers.Count.{count_text};
 ghost use Rattle.spqr_session.specs.State.{State};
 ghost use Rattle.spqr_session.specs.Embedded.{view_tree, view_entry};
-ghost use Rattle.spqr_session.specs.Members.{count_codes};
+ghost use Rattle.spqr_session.specs.Products.{product_count_codes, CountByProduct, RankByProduct};
 ghost use Rattle.spqr_session.specs.BlockCodes.{TellsBlock};
-ghost use Rattle.spqr_session.specs.Commands.Count.{IsCounted, IsRanked, CountStep, RankStep};
+ghost use Rattle.spqr_session.specs.Commands.Count.{IsCounted, IsRanked};
 
 use crate::code::Code;
 use crate::embedded::EmbeddedBlock;
@@ -25,7 +25,7 @@ fn line_of(alloc: Global, members: u128) -> Result<Vec<u8>, AllocError>
 // The line of a block's count, or that of a code.
 fn count_block(alloc: Global, block: &EmbeddedBlock) -> Result<Vec<u8>, AllocError>
     ensures { IfOk result
-        (λ text. TellsBlock block.now.tree block.now.entry count_codes IsCounted text.items) }
+        (λ text. TellsBlock block.now.tree block.now.entry product_count_codes IsCounted text.items) }
 {
     match block.outcome() {
         Outcome::Plane(plane) => match count(plane) {
@@ -43,7 +43,7 @@ pub(crate) fn carry_count(
     b: u32,
 ) -> Result<Vec<u8>, AllocError>
     ensures { (s : State) → s.present.entries ≡ map view_entry blocks.now
-        → IfOk result (λ text. CountStep (map view_tree blocks.now) b s text.items s) }
+        → IfOk result (λ text. CountByProduct (map view_tree blocks.now) b s text.items s) }
 {
     match blocks.get(b as usize) {
         Some(block) => count_block(alloc, block),
@@ -54,7 +54,7 @@ pub(crate) fn carry_count(
 // The line of a block's rank, or that of a code.
 fn rank_block(alloc: Global, block: &EmbeddedBlock) -> Result<Vec<u8>, AllocError>
     ensures { IfOk result
-        (λ text. TellsBlock block.now.tree block.now.entry count_codes IsRanked text.items) }
+        (λ text. TellsBlock block.now.tree block.now.entry product_count_codes IsRanked text.items) }
 {
     match block.outcome() {
         Outcome::Plane(plane) => match rank(plane) {
@@ -72,7 +72,7 @@ pub(crate) fn carry_rank(
     b: u32,
 ) -> Result<Vec<u8>, AllocError>
     ensures { (s : State) → s.present.entries ≡ map view_entry blocks.now
-        → IfOk result (λ text. RankStep (map view_tree blocks.now) b s text.items s) }
+        → IfOk result (λ text. RankByProduct (map view_tree blocks.now) b s text.items s) }
 {
     match blocks.get(b as usize) {
         Some(block) => rank_block(alloc, block),

@@ -2,11 +2,12 @@
 ghost use Rattle.std.specs.Prelude.{◌≡◌, ◌<◌, ◌^◌, map, IfOk, OnErr};
 ghost use Rattle.spqr_session.specs.State.{State};
 ghost use Rattle.spqr_session.specs.Embedded.{view_tree};
-ghost use Rattle.spqr_session.specs.Members.{rank_codes, StandsAt};
+ghost use Rattle.spqr_session.specs.Members.{StandsAt};
+ghost use Rattle.spqr_session.specs.Products.{product_rank_codes, GotoByProduct};
 ghost use Rattle.spqr_session.specs.BlockCodes.{planar_codes, block_ladder, entry_codes, read_ladder};
 ghost use Rattle.spqr_session.specs.Board.{family_on, board_state, IsCarried};
 ghost use Rattle.spqr_session.specs.Planned.{IsPlan, IsPlanAt, IsFirstPlan, IsRankPlan, IsNextPlan, IsNextPlanAt, IsStepPlan};
-ghost use Rattle.spqr_session.specs.Commands.Walk.{FirstStep, GotoStep, NextStep};
+ghost use Rattle.spqr_session.specs.Commands.Walk.{FirstStep, NextStep};
 
 use crate::board::Board;
 use crate::code::Code;
@@ -85,7 +86,7 @@ fn rank_of_plane(alloc: Global, plane: &PlaneBlock, r: u128) -> Result<Planned, 
 
 // The plan for a block.
 fn rank_of_block(alloc: Global, block: &EmbeddedBlock, r: u128) -> Result<Planned, AllocError>
-    ensures { IfOk result (IsPlan (entry_codes (rank_codes r) block.now.tree block.now.entry)
+    ensures { IfOk result (IsPlan (entry_codes (product_rank_codes r) block.now.tree block.now.entry)
         (StandsAt r) block.now) }
 {
     match block.outcome() {
@@ -102,7 +103,7 @@ pub(crate) fn plan_rank(
     r: u128,
 ) -> Result<Planned, AllocError>
     ensures { (s : State) → s.present ≡ family_on blocks.now
-        → IfOk result (IsPlanAt (read_ladder (rank_codes r) (map view_tree blocks.now) b s) (StandsAt r) blocks.now b) }
+        → IfOk result (IsPlanAt (read_ladder (product_rank_codes r) (map view_tree blocks.now) b s) (StandsAt r) blocks.now b) }
 {
     match blocks.get(b as usize) {
         Some(block) => rank_of_block(alloc, block, r),
@@ -119,7 +120,7 @@ pub(crate) fn carry_goto(
     r: u128,
 ) -> Result<Vec<u8>, AllocError>
     ensures step { IfOk result (λ text.
-        GotoStep (map view_tree board.old.views) b r (board_state board.old) text.items (board_state board.new)) }
+        GotoByProduct (map view_tree board.old.views) b r (board_state board.old) text.items (board_state board.new)) }
     ensures setting { IsCarried board.old.views board.new.views }
     ensures memory { OnErr result (board.new ≡ board.old) }
 {

@@ -12,59 +12,60 @@ use Rattle.spqr_session.specs.Commands.Show.{ShowStep}
 use Rattle.spqr_session.specs.Commands.Faces.{FacesStep}
 use Rattle.spqr_session.specs.Commands.Permute.{PermuteStep}
 use Rattle.spqr_session.specs.Commands.Lock.{LockStep}
-use Rattle.spqr_session.specs.Commands.Count.{CountStep, RankStep}
+use Rattle.spqr_session.specs.Products.{CountByProduct, RankByProduct, GotoByProduct, ConvertByProduct}
 use Rattle.spqr_session.specs.Commands.Listing.{ListStep}
 use Rattle.spqr_session.proofs.Steps.{step-of}
+use Rattle.spqr_session.proofs.CountSteps.{count-is_step, rank-is_step, goto-is_step, convert-is_step}
 use Rattle.spqr_session.proofs.carrying.carry_out.Goals as goal
 
 pub returns-in-Euler-clause-step : goal.returns-in-Euler-clause-step
-returns-in-Euler-clause-step c = λ setting document graph trees.
+returns-in-Euler-clause-step c = λ setting document graph trees is right.
     let s = board_state c.args.board.now in
     let lists = c.in-Euler.lists in
     step-of setting s s c.args.command.now (command.Euler lists) setting.named.graph c.args.graph.now (λ (g : Multigraph) text. EulerStep g lists s text s) c.carry_euler.result c.in-Euler.is graph (λ text h. h) (c.carry_euler.ensures s)
 
 pub returns-in-Gml-clause-step : goal.returns-in-Gml-clause-step
-returns-in-Gml-clause-step c = λ setting document graph trees.
+returns-in-Gml-clause-step c = λ setting document graph trees is right.
     let s = board_state c.args.board.now in
     step-of setting s s c.args.command.now command.Gml setting.document c.args.doc.now (λ (d : Document) text. GmlStep d s text s) c.carry_gml.result c.in-Gml.is document (λ text h. h) (c.carry_gml.ensures s)
 
 pub returns-in-Show-clause-step : goal.returns-in-Show-clause-step
-returns-in-Show-clause-step c = λ setting document graph trees.
+returns-in-Show-clause-step c = λ setting document graph trees is right.
     let s = board_state c.args.board.now in
     let seen = c.blocks-in-Show.result.now in
     step-of setting s s c.args.command.now (command.Show c.in-Show.b) setting.trees (map view_tree seen) (λ (ts : List BlockTree) text. ShowStep ts c.in-Show.b s text s) c.carry_show.result c.in-Show.is
     (trees ∙ ap (λ (vs : List BlockView). map view_tree vs) (sym c.blocks-in-Show.ensures)) (λ text h. h) (c.carry_show.ensures s (ap (λ (vs : List BlockView). map view_entry vs) (sym c.blocks-in-Show.ensures)))
 
 pub returns-in-Faces-clause-step : goal.returns-in-Faces-clause-step
-returns-in-Faces-clause-step c = λ setting document graph trees.
+returns-in-Faces-clause-step c = λ setting document graph trees is right.
     let s = board_state c.args.board.now in
     let seen = c.blocks-in-Faces.result.now in
     step-of setting s s c.args.command.now (command.Faces c.in-Faces.b) setting.trees (map view_tree seen) (λ (ts : List BlockTree) text. FacesStep ts c.in-Faces.b s text s) c.carry_faces.result c.in-Faces.is
     (trees ∙ ap (λ (vs : List BlockView). map view_tree vs) (sym c.blocks-in-Faces.ensures)) (λ text h. h) (c.carry_faces.ensures s (ap (λ (vs : List BlockView). map view_entry vs) (sym c.blocks-in-Faces.ensures)))
 
 pub returns-in-Count-clause-step : goal.returns-in-Count-clause-step
-returns-in-Count-clause-step c = λ setting document graph trees.
+returns-in-Count-clause-step c = λ setting document graph trees is right.
     let s = board_state c.args.board.now in
     let seen = c.blocks-in-Count.result.now in
-    step-of setting s s c.args.command.now (command.Count c.in-Count.b) setting.trees (map view_tree seen) (λ (ts : List BlockTree) text. CountStep ts c.in-Count.b s text s) c.carry_count.result c.in-Count.is
-    (trees ∙ ap (λ (vs : List BlockView). map view_tree vs) (sym c.blocks-in-Count.ensures)) (λ text h. h) (c.carry_count.ensures s (ap (λ (vs : List BlockView). map view_entry vs) (sym c.blocks-in-Count.ensures)))
+    step-of setting s s c.args.command.now (command.Count c.in-Count.b) setting.trees (map view_tree seen) (λ (ts : List BlockTree) text. CountByProduct ts c.in-Count.b s text s) c.carry_count.result c.in-Count.is
+    (trees ∙ ap (λ (vs : List BlockView). map view_tree vs) (sym c.blocks-in-Count.ensures)) (λ text h. count-is_step setting c.in-Count.b s is right text s h) (c.carry_count.ensures s (ap (λ (vs : List BlockView). map view_entry vs) (sym c.blocks-in-Count.ensures)))
 
 pub returns-in-Rank-clause-step : goal.returns-in-Rank-clause-step
-returns-in-Rank-clause-step c = λ setting document graph trees.
+returns-in-Rank-clause-step c = λ setting document graph trees is right.
     let s = board_state c.args.board.now in
     let seen = c.blocks-in-Rank.result.now in
-    step-of setting s s c.args.command.now (command.Rank c.in-Rank.b) setting.trees (map view_tree seen) (λ (ts : List BlockTree) text. RankStep ts c.in-Rank.b s text s) c.carry_rank.result c.in-Rank.is
-    (trees ∙ ap (λ (vs : List BlockView). map view_tree vs) (sym c.blocks-in-Rank.ensures)) (λ text h. h) (c.carry_rank.ensures s (ap (λ (vs : List BlockView). map view_entry vs) (sym c.blocks-in-Rank.ensures)))
+    step-of setting s s c.args.command.now (command.Rank c.in-Rank.b) setting.trees (map view_tree seen) (λ (ts : List BlockTree) text. RankByProduct ts c.in-Rank.b s text s) c.carry_rank.result c.in-Rank.is
+    (trees ∙ ap (λ (vs : List BlockView). map view_tree vs) (sym c.blocks-in-Rank.ensures)) (λ text h. rank-is_step setting c.in-Rank.b s is right text s h) (c.carry_rank.ensures s (ap (λ (vs : List BlockView). map view_entry vs) (sym c.blocks-in-Rank.ensures)))
 
 pub returns-in-List-clause-step : goal.returns-in-List-clause-step
-returns-in-List-clause-step c = λ setting document graph trees.
+returns-in-List-clause-step c = λ setting document graph trees is right.
     let s = board_state c.args.board.now in
     let seen = c.blocks-in-List.result.now in
     step-of setting s s c.args.command.now (command.List c.in-List.b c.in-List.n) setting.trees (map view_tree seen) (λ (ts : List BlockTree) text. ListStep ts c.in-List.b c.in-List.n s text s) c.carry_list.result c.in-List.is
     (trees ∙ ap (λ (vs : List BlockView). map view_tree vs) (sym c.blocks-in-List.ensures)) (λ text h. h) (c.carry_list.ensures s (ap (λ (vs : List BlockView). map view_entry vs) (sym c.blocks-in-List.ensures)))
 
 pub returns-in-Permute-clause-step : goal.returns-in-Permute-clause-step
-returns-in-Permute-clause-step c = λ setting document graph trees.
+returns-in-Permute-clause-step c = λ setting document graph trees is right.
     let old = c.args.board.now in
     let s = board_state old in
     let new = board_state c.carry_permute.new.board in
@@ -75,7 +76,7 @@ returns-in-Permute-clause-step c = λ setting document graph trees.
     trees (λ text h. h) (subst (λ (ks : List ℕ). IfOk c.carry_permute.result (λ text. PermuteStep (map view_tree old.views) b k ks s text.items new)) c.as_slice.ensures c.carry_permute.ensures.step)
 
 pub returns-in-Lock-clause-step : goal.returns-in-Lock-clause-step
-returns-in-Lock-clause-step c = λ setting document graph trees.
+returns-in-Lock-clause-step c = λ setting document graph trees is right.
     let old = c.args.board.now in
     let s = board_state old in
     let new = board_state c.carry_lock.new.board in
@@ -85,7 +86,7 @@ returns-in-Lock-clause-step c = λ setting document graph trees.
     trees (λ text h. h) c.carry_lock.ensures.step
 
 pub returns-in-Unlock-clause-step : goal.returns-in-Unlock-clause-step
-returns-in-Unlock-clause-step c = λ setting document graph trees.
+returns-in-Unlock-clause-step c = λ setting document graph trees is right.
     let old = c.args.board.now in
     let s = board_state old in
     let new = board_state c.carry_lock-in-Unlock.new.board in
@@ -93,3 +94,23 @@ returns-in-Unlock-clause-step c = λ setting document graph trees.
     let k = c.in-Unlock.k in
     step-of setting s new c.args.command.now (command.Unlock b k) setting.trees (map view_tree old.views) (λ (ts : List BlockTree) text. LockStep false ts b k s text new) c.carry_lock-in-Unlock.result c.in-Unlock.is
     trees (λ text h. h) c.carry_lock-in-Unlock.ensures.step
+
+pub returns-in-Goto-clause-step : goal.returns-in-Goto-clause-step
+returns-in-Goto-clause-step c = λ setting document graph trees is right.
+    let old = c.args.board.now in
+    let s = board_state old in
+    let new = board_state c.carry_goto.new.board in
+    let b = c.in-Goto.b in
+    let r = c.in-Goto.r in
+    step-of setting s new c.args.command.now (command.Goto b r) setting.trees (map view_tree old.views) (λ (ts : List BlockTree) text. GotoByProduct ts b r s text new) c.carry_goto.result c.in-Goto.is
+    trees (λ text h. goto-is_step setting b s is right r text new h) c.carry_goto.ensures.step
+
+pub returns-in-ConvertRank-clause-step : goal.returns-in-ConvertRank-clause-step
+returns-in-ConvertRank-clause-step c = λ setting document graph trees is right.
+    let old = c.args.board.now in
+    let s = board_state old in
+    let new = board_state c.carry_convert_rank.new.board in
+    let b = c.in-ConvertRank.b in
+    let r = c.in-ConvertRank.r in
+    step-of setting s new c.args.command.now (command.ConvertRank b r) setting.trees (map view_tree old.views) (λ (ts : List BlockTree) text. ConvertByProduct ts b r s text new) c.carry_convert_rank.result c.in-ConvertRank.is
+    trees (λ text h. convert-is_step setting b s is right r text new h) c.carry_convert_rank.ensures.step

@@ -3,7 +3,7 @@ use Rattle.std.specs.List.{concat}
 use Rattle.multigraph.specs.Graph.{numbers_below}
 use Rattle.spqr_script.specs.Node.{node_text}
 use Rattle.spqr_session.proofs.Numbered.{below-more}
-use Rattle.spqr_session.proofs.BlockTrees.{node-of_part}
+use Rattle.spqr_script.proofs.PartNodes.{node-of_part}
 use Rattle.spqr_session.proofs.head.push_nodes.Goals as goal
 
 pub push_node_line-requires-clause-within : goal.push_node_line-requires-clause-within

@@ -2,7 +2,7 @@ use Rattle.std.proofs.Common.{◌≡◌, List, ℕ}
 use Rattle.spqr_script.specs.Answers.Count.{count_text}
 use Rattle.spqr_session.specs.Codes.{code_text}
 use Rattle.spqr_session.specs.BlockCodes.{TellsBlock}
-use Rattle.spqr_session.specs.Members.{count_codes}
+use Rattle.spqr_session.specs.Products.{product_count_codes}
 use Rattle.spqr_session.specs.Commands.Count.{IsCounted}
 use Rattle.spqr_session.specs.declared.code.Code.TheVariants.{CountOver}
 use Rattle.spqr_session.proofs.Steps.{text-map}
@@ -13,12 +13,12 @@ pub returns-in-Ok : goal.returns-in-Ok
 returns-in-Ok c =
     let v = c.args.block.now in
     let seen = seen-plane v c.outcome.result.now c.in-Plane.plane c.outcome.ensures.view c.outcome.ensures.right c.in-Plane.is in
-    text-map c.line_of.result (λ text. text ≡ count_text c.in-Ok.members) (λ text. TellsBlock v.tree v.entry count_codes IsCounted text)
+    text-map c.line_of.result (λ text. text ≡ count_text c.in-Ok.members) (λ text. TellsBlock v.tree v.entry product_count_codes IsCounted text)
     (λ text e. told-count v c.in-Plane.plane seen c.in-Ok.members text c.line_of.ensures.below c.in-Ok.ensures.counted e) c.line_of.ensures.line
 
 pub returns-in-Err : goal.returns-in-Err
 returns-in-Err c =
     let v = c.args.block.now in
     let seen = seen-plane v c.outcome.result.now c.in-Plane.plane c.outcome.ensures.view c.outcome.ensures.right c.in-Plane.is in
-    text-map c.line.result (λ text. text ≡ code_text CountOver) (λ text. TellsBlock v.tree v.entry count_codes IsCounted text)
+    text-map c.line.result (λ text. text ≡ code_text CountOver) (λ text. TellsBlock v.tree v.entry product_count_codes IsCounted text)
     (λ text e. told-over v c.in-Plane.plane seen IsCounted text (c.in-Err.ensures.over (its-list v c.in-Plane.plane seen).list (own-list v c.in-Plane.plane seen)) e) c.line.ensures

@@ -12,14 +12,14 @@ invariant_of-self c =
     let s = c.self.inside in
     let setting = setting_of s.doc s.named s.blocks s.board.views in
     stepped-machine s.doc s.named s.blocks c.args.command.now s.board c.carry_out.new.board c.carry_out.result c.self.invariant c.carry_out.ensures.setting
-    (c.carry_out.ensures.step setting refl (sym c.graph.ensures.value) refl) c.carry_out.ensures.memory
+    (c.carry_out.ensures.step setting refl (sym c.graph.ensures.value) refl c.self.invariant.setting c.self.invariant.state) c.carry_out.ensures.memory
 
 pub returns-clause-step : goal.returns-clause-step
 returns-clause-step c =
     let s = c.self.inside in
     let setting = setting_of s.doc s.named s.blocks s.board.views in
     subst (λ (m : Machine). IfOk c.carry_out.result (λ text. Step m.setting m.state c.args.command.now text.items (board_state c.carry_out.new.board))) c.self.view_is
-    (c.carry_out.ensures.step setting refl (sym c.graph.ensures.value) refl)
+    (c.carry_out.ensures.step setting refl (sym c.graph.ensures.value) refl c.self.invariant.setting c.self.invariant.state)
 
 pub returns-clause-setting : goal.returns-clause-setting
 returns-clause-setting c =
