@@ -11,4 +11,4 @@ returns-in_err-read_piece-clause-bytes g c =
 
 pub returns-clause-bytes : goal.returns-clause-bytes
 returns-clause-bytes g c =
-    longer_taken c.args.limit (g.S.Shelf.left c.args.shelf.now) (g.S.Shelf.left c.loop-bytes.shelf) c.loop-bytes.bytes.items c.loop-bytes.invariant.taken (omega (arith, c.loop-bytes-test.false, c.len.ensures, c.loop-bytes.bytes.ok.0))
+    longer_taken c.args.limit (g.S.Shelf.left c.args.shelf.now) (g.S.Shelf.left c.loop-shelf.shelf) c.loop-shelf.bytes.items c.loop-shelf.invariant.taken (omega (arith, c.loop-shelf-test.false, c.len.ensures, c.loop-shelf.bytes.ok.0))
