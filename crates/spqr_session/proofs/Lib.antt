@@ -39,6 +39,7 @@ pub mod Sorting
 pub mod SortedStarts
 pub mod NumbersAt
 pub mod Texts
+mod StartExamples
 pub mod Grouped
 pub mod Moved
 pub mod Walks

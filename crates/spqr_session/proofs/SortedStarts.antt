@@ -1,7 +1,7 @@
 -- What the blocks are given of a start is what the definitions say: of each vertex of a block, in increasing order, the edges of the block
 -- in its list.
-use Rattle.std.proofs.Common.{◌≡◌, ℕ, ◌<◌, ◌==◌, Bool, true, List, [], ◌∷◌, length, map, filter, slice_index, slice_index_or, IsPermutation, sym, ap, ◌∙◌, subst, arith}
-use Rattle.std.proofs.lemmas.List.Elements.{All-from_get_or, All-permutation}
+use Rattle.std.proofs.Common.{◌≡◌, ℕ, ◌<◌, ◌==◌, Bool, true, List, [], ◌∷◌, length, map, filter, slice_index, slice_index_or, Option, None, Some, option_map, unwrap_or, IfSome, IsPermutation, All, refl, sym, ap, ◌∙◌, subst, arith}
+use Rattle.std.proofs.lemmas.List.Elements.{All-from_get_or}
 use Rattle.permutations.specs.Members.{is_member}
 use Rattle.permutations.proofs.Arrangements.{permutation-member, member-at, contains-from_member, member-from_contains}
 use Rattle.permutations.proofs.Filter.{filter-ext, filter-member, member-filter_parts}
@@ -13,7 +13,7 @@ use Rattle.multigraph.proofs.OtherEnd.{end-in}
 use Rattle.graph_theory.proofs.Rising.{members-same}
 use Rattle.blocks.specs.Blocks.{block_at, AreBlocks}
 use Rattle.rotations.proofs.Membership.{incident-member, member-edge, member-end}
-use Rattle.gml_graph.specs.Named.{ArrangeEdges}
+use Rattle.gml_graph.specs.Named.{NamedGraph, IsNamed, ArrangeEdges}
 use Rattle.spqr_session.specs.Start.{start_entries}
 use Rattle.spqr_session.specs.Starting.{AreStartLists}
 use Rattle.spqr_session.specs.Sorting.{HasBlocks, IsKnown, of_block, has_some, gathered, AreGathered}
@@ -24,6 +24,15 @@ use Rattle.spqr_session.proofs.Sorting.{table-tells, edge-known, some-member, me
 map-agree : {X : Type 0} (f h : ℕ → X) (l : List ℕ) → ((x : ℕ) → is_member x l ≡ true → f x ≡ h x) → map f l ≡ map h l
 map-agree f h [] same = λ i. []
 map-agree f h (x ∷ l) same = λ i. same x (member-head x l) i ∷ map-agree f h l (λ y m. same y (member-tail y x l m)) i
+
+-- the lists of a start from which a vertex is given its list
+pub given-at : (o : Option (List (List ℕ))) (v : ℕ) (list : List ℕ) → Some list ≡ option_map (λ (lists : List (List ℕ)). slice_index_or lists v []) o → (starts : List (List ℕ)) × (o ≡ Some starts) × (list ≡ slice_index_or starts v [])
+given-at None v list e = absurd (cc)
+given-at (Some starts) v list e = (starts, refl, ap (λ (x : Option (List ℕ)). unwrap_or x []) e)
+
+-- a start arranges the edges
+pub named-arranges : (named : NamedGraph) (starts : List (List ℕ)) → IsNamed named → named.start ≡ Some starts → ArrangeEdges named.graph starts
+named-arranges named starts is e = subst (λ (o : Option (List (List ℕ))). IfSome o (ArrangeEdges named.graph)) e is.start
 
 module _ (g : Multigraph) (is_graph : IsGraph g) (blocks : List (List ℕ)) (are : AreBlocks g blocks) (table : List ℕ) (h : HasBlocks (edge_count g) blocks (length blocks) table) (starts : List (List ℕ)) (arrange : ArrangeEdges g starts) where
   -- the list of a vertex
@@ -42,6 +51,9 @@ module _ (g : Multigraph) (is_graph : IsGraph g) (blocks : List (List ℕ)) (are
   start-known v i l m =
       let e = slice_index (start_at v) i in
       edge-known g blocks are table h e (member-edge g v e (start-edge v e l (member-at (start_at v) i 0 m)))
+
+  pub all-known : (v : ℕ) → v < g.vertex_count → All (IsKnown table (length blocks)) (slice_index_or starts v [])
+  all-known v l = All-from_get_or (IsKnown table (length blocks)) (start_at v) 0 (λ i m. start-known v i l m)
 
   module _ (b : ℕ) (within : b < length blocks) (part : GraphPart) (is : IsPart g (block_at blocks b) part) where
     edges : List ℕ

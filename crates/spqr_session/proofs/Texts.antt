@@ -1,9 +1,10 @@
 -- The texts of `gml`: numbers appended one after another, those of a block at all its vertices, and block after block.
-use Rattle.std.proofs.Common.{◌≡◌, ◌≢◌, ℕ, zero, suc, ◌+◌, ◌<◌, ◌≤◌, ◌/◌, ◌%◌, ◌==◌, Bool, true, false, cond, List, [], ◌∷◌, ◌++◌, length, map, replicate, get_or, set, slice_index, slice_index_or, codes, decimal, Option, None, Some, inl, inr, refl, sym, ap, ◌∙◌, subst, arith, append_assoc, append-nil, add-one, nat_lt, if◌then◌else◌}
+use Rattle.std.proofs.Common.{◌≡◌, ◌≢◌, ℕ, zero, suc, ◌+◌, ◌<◌, ◌≤◌, ◌/◌, ◌%◌, ◌==◌, Bool, true, false, cond, List, [], ◌∷◌, ◌++◌, length, map, replicate, get_or, set, slice_index, slice_index_or, codes, decimal, Option, None, Some, inl, inr, refl, sym, ap, ◌∙◌, subst, arith, append_assoc, append-nil, Vec, All, add-one, nat_lt, if◌then◌else◌}
 use Rattle.std.specs.List.{concat}
 use Rattle.std.specs.Fmt.{digits, digits_onto, digit_glyph}
 use Rattle.std.proofs.lemmas.Bool.{cases_Bool, cases_eq, cases_lt, cond-true, cond-false, lt-ltb, le-ltb}
-use Rattle.std.proofs.lemmas.List.{get_or-set_same, get_or-set_other, length-set, length-map, get_or-map, get_or_past, ext_get_or, length-replicate, get_or-replicate}
+use Rattle.std.proofs.lemmas.List.{get_or-set_same, get_or-set_other, length-set, length-map, get_or-map, get_or_past, ext_get_or, map-set, length-replicate, get_or-replicate}
+use Rattle.std.proofs.lemmas.List.Elements.{All-from_get_or, Contains-get_or}
 use Rattle.permutations.specs.Members.{is_member, place_of}
 use Rattle.permutations.proofs.Places.{place-at}
 use Rattle.multigraph.specs.Graph.{Multigraph, edge_count, is_end, incident_edges, numbers_below, IsGraph}
@@ -16,10 +17,10 @@ use Rattle.rotations.specs.Rotation.{order_at, IsRotationSystem}
 use Rattle.rotations.proofs.Membership.{member-edge, member-end}
 use Rattle.decimals.specs.Text.{spaced_numbers}
 use Rattle.gml_graph.specs.Marked.{numbers_text}
-use Rattle.spqr_session.specs.Trees.{BlockTree, tree_at}
+use Rattle.spqr_session.specs.Trees.{BlockTree, tree_at, AreBlockTrees}
 use Rattle.spqr_session.specs.State.{Embedding, Family, entry_at}
 use Rattle.spqr_session.specs.Commands.Gml.{block_numbers, numbers_at, present_lists, marks}
-use Rattle.spqr_session.specs.Texts.{with_number, with_numbers, own_numbers, AreExtended}
+use Rattle.spqr_session.specs.Texts.{with_number, with_numbers, bytes_of, own_numbers, AreExtended}
 use Rattle.spqr_session.proofs.OwnLists.{joined, joined-suc}
 use Rattle.spqr_session.proofs.EdgesAt.{place-back}
 use Rattle.spqr_session.proofs.StartLists.{vertices-distinct}
@@ -71,6 +72,12 @@ number-first (c ∷ text) e h = absurd (omega (arith, h))
 pub number-later : (text : List ℕ) (e : ℕ) → length text ≢ 0 → with_number text e ≡ (text ++ codes " ") ++ decimal e
 number-later [] e h = absurd (h refl)
 number-later (c ∷ text) e h = sym (append_assoc (c ∷ text) (codes " ") (decimal e))
+
+-- the text at a place with numbers more
+pub put-text : (texts : List (Vec ℕ)) (v : ℕ) (old new : Vec ℕ) (more : List ℕ) → v < length texts → old ≡ get_or texts v old → new.items ≡ with_numbers old.items more → bytes_of (set texts v new) ≡ set (bytes_of texts) v (with_numbers (slice_index_or (bytes_of texts) v []) more)
+put-text texts v old new more l is e =
+    map-set (λ (t : Vec ℕ). t.items) texts v new
+    ∙ ap (set (bytes_of texts) v) (e ∙ ap (λ (t : List ℕ). with_numbers t more) (ap (λ (t : Vec ℕ). t.items) is ∙ sym (get_or-map (λ (t : Vec ℕ). t.items) texts v old [] l)))
 
 -- ---- the edges of one block
 
@@ -194,3 +201,11 @@ module _ (n : ℕ) (trees : List BlockTree) (family : Family) where
       at v m =
           get_or-map numbers_text (present_lists n trees family) v [] [] (omega (arith, m, length-map (numbers_below n) (numbers_at trees family), length-numbers_below n))
           ∙ ap numbers_text (get_or-map (numbers_at trees family) (numbers_below n) v 0 [] (omega (arith, m, length-numbers_below n)) ∙ ap (numbers_at trees family) (get_or-numbers_below n v 0 m))
+
+-- the vertices of a block are vertices of the graph
+pub tree-within : (g : Multigraph) (edges : List (List ℕ)) (trees : List BlockTree) (k m : ℕ) → IsGraph g → AreBlockTrees g edges trees → k < length trees → g.vertex_count ≡ m → All (λ v. v < m) (tree_at trees k).part.vertices
+tree-within g edges trees k m is are l e =
+    let tree = tree_at trees k in
+    let part = (are.each k (omega (arith, l, are.one_each))).part in
+    All-from_get_or (λ v. v < m) tree.part.vertices 0
+    (λ i b. (let w = (part.vertices (slice_index tree.part.vertices i)).0 (Contains-get_or tree.part.vertices i 0 b) in omega (arith, end-in g (slice_index tree.part.vertices i) w.edge is w.is_edge w.ends_there, e)))
