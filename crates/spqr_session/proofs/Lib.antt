@@ -32,13 +32,13 @@ pub mod TakePlans
 pub mod ConvertPlans
 pub mod Chains
 pub mod Steps
-pub mod OwnLists
+pub mod DisjointLists
 pub mod EdgesAt
 pub mod StartLists
-pub mod Sorting
+pub mod SortedEdges
 pub mod SortedStarts
 pub mod NumbersAt
-pub mod Texts
+pub mod NumberTexts
 mod StartExamples
 pub mod Grouped
 pub mod Moved

@@ -21,9 +21,9 @@ use Rattle.spqr_session.specs.Trees.{BlockTree, tree_at, AreBlockTrees}
 use Rattle.spqr_session.specs.State.{Embedding, Family, entry_at}
 use Rattle.spqr_session.specs.Start.{start_entries}
 use Rattle.spqr_session.specs.Commands.Gml.{block_numbers, numbers_at, present_lists}
-use Rattle.spqr_session.proofs.OwnLists.{joined, parts-picked, parts-permutation}
+use Rattle.spqr_session.proofs.DisjointLists.{joined, parts-picked, parts-permutation}
 use Rattle.spqr_session.proofs.EdgesAt.{outer-at, vertex-of}
-use Rattle.spqr_session.proofs.Sorting.{block-one}
+use Rattle.spqr_session.proofs.SortedEdges.{block-one}
 use Rattle.spqr_session.proofs.StartLists.{vertices-distinct, start-given}
 
 -- the edges of a block at a vertex are those of the edges there that are of the block, in some order

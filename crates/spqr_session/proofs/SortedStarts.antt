@@ -18,7 +18,7 @@ use Rattle.spqr_session.specs.Start.{start_entries}
 use Rattle.spqr_session.specs.Starting.{AreStartLists}
 use Rattle.spqr_session.specs.Sorting.{HasBlocks, IsKnown, of_block, has_some, gathered, AreGathered}
 use Rattle.spqr_session.proofs.EdgesAt.{vertex-of}
-use Rattle.spqr_session.proofs.Sorting.{table-tells, edge-known, some-member, member-some}
+use Rattle.spqr_session.proofs.SortedEdges.{table-tells, edge-known, some-member, member-some}
 
 -- functions that agree on the members of a list give the same images
 map-agree : {X : Type 0} (f h : ℕ → X) (l : List ℕ) → ((x : ℕ) → is_member x l ≡ true → f x ≡ h x) → map f l ≡ map h l

@@ -18,6 +18,7 @@ second = record { graph = record { vertex_count = 2; ends = (0, 1) ∷ (0, 1) �
 
 -- the lists of a start without the edges of the other part
 entries : start_entries first ((4 ∷ 1 ∷ 2 ∷ []) ∷ (3 ∷ 4 ∷ 2 ∷ 0 ∷ 1 ∷ []) ∷ (0 ∷ 3 ∷ []) ∷ []) ≡ (1, 3 ∷ 0 ∷ []) ∷ (2, 0 ∷ 3 ∷ []) ∷ []
+unfolding first
 entries = refl
 
 -- the same by a table of blocks
@@ -28,6 +29,7 @@ sorted = refl
 written : present_lists 3 (record { part = first; nodes = [] } ∷ record { part = second; nodes = [] } ∷ [])
     (record { entries = None ∷ Some (record { rotation = (0 ∷ 2 ∷ 1 ∷ []) ∷ (0 ∷ 1 ∷ 2 ∷ []) ∷ []; locks = [] }) ∷ [] })
     ≡ (1 ∷ 4 ∷ 2 ∷ []) ∷ (0 ∷ 3 ∷ 1 ∷ 2 ∷ 4 ∷ []) ∷ (0 ∷ 3 ∷ []) ∷ []
+unfolding first second
 written = refl
 
 -- one space between any two numbers, and nothing where there are none

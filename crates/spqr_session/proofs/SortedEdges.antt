@@ -132,11 +132,11 @@ none-nil : (l : List ℕ) → has_some l ≡ false → l ≡ []
 none-nil [] h = refl
 none-nil (y ∷ l) h = absurd (true≢false h)
 
-some-member : (l : List ℕ) (x : ℕ) → is_member x l ≡ true → has_some l ≡ true
+pub some-member : (l : List ℕ) (x : ℕ) → is_member x l ≡ true → has_some l ≡ true
 some-member [] x m = absurd (true≢false (sym m))
 some-member (y ∷ l) x m = refl
 
-member-some : (l : List ℕ) → has_some l ≡ true → (x : ℕ) × (is_member x l ≡ true)
+pub member-some : (l : List ℕ) → has_some l ≡ true → (x : ℕ) × (is_member x l ≡ true)
 member-some [] h = absurd (true≢false (sym h))
 member-some (y ∷ l) h = (y, member-head y l)
 
