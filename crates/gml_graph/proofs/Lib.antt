@@ -1,4 +1,5 @@
 mod Instances
+pub mod Arranged
 pub mod Each
 pub mod Steps
 pub mod Places

@@ -2,5 +2,8 @@
 pub mod Named
 pub mod Number
 pub mod Lists
+pub mod Each
+pub mod Arranged
+pub mod Start
 pub mod Hashing
 pub mod Answer

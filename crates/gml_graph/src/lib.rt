@@ -5,10 +5,14 @@
 // numbers of 64 bits; everything else is free and is ignored. Vertices and edges are numbered from 0 in the order of the
 // file.
 //
-// `graph_of` gives the one graph of a document with the ids of its vertices, or the first refusal in one fixed order of all; it
-// looks at each pair of the graph list twice, at those of a node twice (once to hash its id) and at those of an edge twice, and
-// copies nothing but the numbers. `Named` shows the graph and the ids, and finds the vertex of an id. Definitions are in specs: `Number` (whole
-// numbers), `Lists` (what is under a key), `Answer` (the graph or the refusal), `Named` (graphs with ids).
+// A file may also say at which rotation system it starts: where every node has a string under its first `spqrRotation`, it gives the
+// edges at the vertex, in order.
+//
+// `graph_of` gives the one graph of a document with the ids of its vertices and its start, or the first refusal in one fixed order
+// of all; it looks at each pair of the graph list twice, at those of a node three times (once to hash its id, once for its start)
+// and at those of an edge twice, and copies nothing but the numbers. `Named` shows the graph, the ids and the start, and finds the
+// vertex of an id. Definitions are in specs: `Number` (whole numbers), `Lists` (what is under a key), `Start` (the start or its
+// refusal), `Answer` (the graph or the refusal), `Named` (graphs with ids).
 #![tactic(auto)]
 
 mod edges;
@@ -20,6 +24,7 @@ pub mod laws;
 mod lists;
 mod named;
 mod nodes;
+mod start;
 
 pub use fault::GraphFault;
 pub use named::{Named, graph_of};
