@@ -7,7 +7,8 @@ use Rattle.gml_text.specs.Bytes.{is_no_quote}
 use Rattle.gml_text.specs.Document.{Document, empty, number, string, list, depth}
 use Rattle.gml_text.specs.Grammar.{is_key}
 use Rattle.gml_text.specs.WellFormed.{AreTokens, IsWellFormed}
-use Rattle.gml_graph.specs.Marked.{start_key, put_first, put_next, later, mark_nodes, marked, IsQuotable, AreQuotable}
+use Rattle.gml_graph.specs.Start.{start_key}
+use Rattle.gml_graph.specs.Marked.{put_first, put_next, later, mark_nodes, marked, IsQuotable, AreQuotable}
 
 -- ---- tokens
 

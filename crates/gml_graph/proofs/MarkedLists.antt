@@ -5,7 +5,8 @@ use Rattle.std.proofs.lemmas.Slice.Eq.{bytes_eq-Decides}
 use Rattle.gml_text.specs.Document.{Document, empty, number, string, list}
 use Rattle.gml_graph.specs.Lists.{lists_under, first_under}
 use Rattle.gml_graph.specs.Answer.{each_below, said_by, said_ids, id_among, node_id, node_ids}
-use Rattle.gml_graph.specs.Marked.{start_key, put_first, put_next, later, mark_nodes, marked}
+use Rattle.gml_graph.specs.Start.{start_key}
+use Rattle.gml_graph.specs.Marked.{put_first, put_next, later, mark_nodes, marked}
 use Rattle.gml_graph.specs.declared.fault.GraphFault.{GraphFault}
 
 -- a pair that has one of two different keys does not have the other

@@ -6,7 +6,8 @@ use Rattle.gml_text.specs.declared.document.Pair.{Pair}
 use Rattle.gml_text.specs.declared.document.Value.{Value}
 use Rattle.gml_text.specs.declared.document.Value.TheVariants.{Num, Str, List as Inner}
 use Rattle.gml_text.proofs.Documents.{append-assoc, append-pair_before, append-empty, document_of-push, document_of-drop}
-use Rattle.gml_graph.specs.Marked.{start_key, put_first, put_next, later, mark_nodes, marked}
+use Rattle.gml_graph.specs.Start.{start_key}
+use Rattle.gml_graph.specs.Marked.{put_first, put_next, later, mark_nodes, marked}
 
 -- one pair more before the pairs to come
 pub document_of-one_more : (held : List Pair) (pair : Pair) (rest : Document) → append (document_of (held ++ pair ∷ [])) rest ≡ append (document_of held) (pair_before pair.key pair.value rest)
@@ -16,10 +17,6 @@ document_of-one_more held pair rest =
     ∙ ap (append (document_of held)) (append-pair_before pair.key pair.value empty rest)
 
 -- ---- a node
-
--- the pairs to come, into which the text is still to be put, or not
-abbrev pub put_unless : Bool → List ℕ → List ℕ → Document → Document
-put_unless put key text d = cond put d (put_first key text d)
 
 put_pair : (key text k : List ℕ) (value : Value) (rest : Document) → put_first key text (pair_before k value rest) ≡ cond (bytes_eq k key) (string key text rest) (pair_before k value (put_first key text rest))
 put_pair key text k (Num old) rest = refl
@@ -51,10 +48,6 @@ pub mark_number : (texts : List (List ℕ)) (k old : List ℕ) (rest : Document)
 mark_number texts k old rest = refl
 
 -- ---- the graph of a document
-
--- the pairs to come, of which the first graph is still to be marked, or not
-abbrev pub marked_unless : Bool → List (List ℕ) → Document → Document
-marked_unless found texts d = cond found d (marked texts d)
 
 pub marked_here : (texts : List (List ℕ)) (k : List ℕ) (inner rest : Document) → bytes_eq k (codes "graph") ≡ true → marked texts (list k inner rest) ≡ list k (mark_nodes texts inner) rest
 marked_here texts k inner rest graph = rw graph refl

@@ -1,9 +1,9 @@
 -- Numbers in decimal with one space between any two: the parts between the spaces spell these numbers, and no byte is a quote.
-use Rattle.std.proofs.Common.{◌≡◌, ℕ, ◌<◌, ◌^◌, ◌-◌, true, false, List, [], ◌∷◌, ◌++◌, length, map, Option, Some, refl, sym, ap, ◌∙◌, codes, decimal, arith}
+use Rattle.std.proofs.Common.{◌≡◌, ℕ, ◌<◌, ◌^◌, ◌-◌, true, false, not, ◌==◌, List, [], ◌∷◌, ◌++◌, length, map, Option, Some, refl, sym, ap, ◌∙◌, codes, decimal, arith}
 use Rattle.std.specs.Char.{is_ascii_digit}
 use Rattle.std.specs.Int.{IsInRange}
-use Rattle.std.specs.List.{All, list_all, slice_split}
-use Rattle.std.proofs.lemmas.Bool.{and_parts, and_from, le-leb}
+use Rattle.std.specs.List.{All, list_all, filter, slice_split}
+use Rattle.std.proofs.lemmas.Bool.{and_parts, and_from, lt-ltb, ne_eqb, cond-true}
 use Rattle.std.proofs.lemmas.List.{append-nil}
 use Rattle.std.proofs.lemmas.List.Elements.{All-head, All-tail, All-nil, All-cons}
 use Rattle.std.proofs.lemmas.List.Splits.{slice_split_none, slice_split_at}
@@ -11,7 +11,8 @@ use Rattle.std.proofs.lemmas.Str.Parse.{IsNumeralModel, numerals_by_fold}
 use Rattle.std.proofs.lemmas.Fmt.{digits_decimal, digits_value-decimal, decimal_is_IsNumeral}
 use Rattle.decimals.specs.Text.{spaced_numbers}
 use Rattle.gml_text.specs.Bytes.{is_white, is_no_quote}
-use Rattle.gml_graph.specs.Number.{are_digits, spelled_after, digits_up_to}
+use Rattle.decimals.specs.Number.{are_digits, spelled_after, number_below}
+use Rattle.gml_graph.specs.Start.{with_first, words, numbers_of, spelled_numbers}
 use Rattle.gml_graph.specs.Marked.{numbers_text, IsQuotable, AreQuotable}
 
 -- numbers of 32 bits
@@ -59,12 +60,12 @@ pub decimal_filled : (n : ℕ) → n < 2 ^ 32 → 0 < length (decimal n)
 decimal_filled n narrow = (decimal_is_IsNumeral n (omega arith)).0.0
 
 -- the digits of a number spell it
-pub decimal_spelled : (n : ℕ) → n < 2 ^ 32 → digits_up_to (2 ^ 32 - 1) (decimal n) ≡ Some n
+pub decimal_spelled : (n : ℕ) → n < 2 ^ 32 → number_below (2 ^ 32) (decimal n) ≡ Some n
 decimal_spelled n narrow =
     let wide : n < 2 ^ 64 = omega arith in
     let all : are_digits (decimal n) ≡ true = filled (decimal n) (decimal_filled n narrow) (digits_decimal numerals n wide) in
     let value : spelled_after 0 (decimal n) ≡ n = digits_value-decimal numerals n wide in
-    rw (all, value, le-leb n (2 ^ 32 - 1) (omega arith)) refl
+    rw (all, value, lt-ltb n (2 ^ 32) narrow) refl
 
 -- ---- numbers with spaces between them
 
@@ -74,6 +75,25 @@ numbers_split n [] narrow = ap (slice_split is_white) (append-nil (decimal n)) �
 numbers_split n (m ∷ ms) narrow =
     slice_split_at is_white (decimal n) 32 (decimal m ++ spaced_numbers ms) (decimal_is n (All-head (λ k. k < 2 ^ 32) n (m ∷ ms) narrow)).0 refl
     ∙ ap (λ (parts : List (List ℕ)). decimal n ∷ parts) (numbers_split m ms (All-tail (λ k. k < 2 ^ 32) n (m ∷ ms) narrow))
+
+-- no part is empty
+parts_kept : (ns : List ℕ) → AreNarrow ns → filter (λ (word : List ℕ). not (length word == 0)) (map decimal ns) ≡ map decimal ns
+parts_kept [] narrow = refl
+parts_kept (n ∷ ns) narrow =
+    let filled : (length (decimal n) == 0) ≡ false = ne_eqb (length (decimal n)) 0 (λ e. absurd (omega (arith, e, decimal_filled n (All-head (λ k. k < 2 ^ 32) n ns narrow)))) in
+    rw (filled, parts_kept ns (All-tail (λ k. k < 2 ^ 32) n ns narrow)) refl
+
+-- each part spells its number
+parts_spelled : (ns : List ℕ) → AreNarrow ns → numbers_of (map decimal ns) ≡ Some ns
+parts_spelled [] narrow = refl
+parts_spelled (n ∷ ns) narrow = rw (decimal_spelled n (All-head (λ k. k < 2 ^ 32) n ns narrow), parts_spelled ns (All-tail (λ k. k < 2 ^ 32) n ns narrow)) refl
+
+-- the text of numbers spells them
+pub numbers_spelled : (ns : List ℕ) → AreNarrow ns → spelled_numbers (numbers_text ns) ≡ Some ns
+numbers_spelled [] narrow = refl
+numbers_spelled (n ∷ ns) narrow =
+    ap (λ (parts : List (List ℕ)). numbers_of (filter (λ (word : List ℕ). not (length word == 0)) parts)) (numbers_split n ns narrow)
+    ∙ ap numbers_of (parts_kept (n ∷ ns) narrow) ∙ parts_spelled (n ∷ ns) narrow
 
 -- ---- no quote
 

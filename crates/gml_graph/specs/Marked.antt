@@ -1,5 +1,5 @@
 -- A document in which each node carries a text under the key of starts.
-use Rattle.std.specs.Prelude.{◌≡◌, ℕ, Bool, true, if◌then◌else◌, bytes_eq, List, [], ◌∷◌, ◌++◌, Option, Some, None, codes, decimal}
+use Rattle.std.specs.Prelude.{◌≡◌, ℕ, Bool, true, if◌then◌else◌, bytes_eq, List, [], ◌∷◌, ◌++◌, map, Option, Some, None, Ok, codes, decimal}
 use Rattle.std.specs.List.{All, list_all}
 use Rattle.decimals.specs.Text.{spaced_numbers}
 use Rattle.gml_text.specs.Bytes.{is_no_quote}
@@ -8,10 +8,9 @@ use Rattle.gml_text.specs.Pairs.{pair_before}
 use Rattle.gml_text.specs.declared.document.Pair.{Pair}
 use Rattle.gml_text.specs.declared.document.Value.{Value}
 use Rattle.gml_text.specs.declared.document.Value.TheVariants.{Num, Str, List as Inner}
-
--- the key under which a node carries the numbers of its edges
-abbrev pub start_key : List ℕ
-start_key = codes "spqrRotation"
+use Rattle.gml_graph.specs.Named.{NamedGraph, ArrangeEdges}
+use Rattle.gml_graph.specs.Start.{start_key}
+use Rattle.gml_graph.specs.Answer.{graph_of_document}
 
 -- the pairs with this text, as a string, in the place of the value of the first pair under a key; where there is no such pair it
 -- is added after the others
@@ -58,6 +57,19 @@ IsQuotable text = list_all is_no_quote text ≡ true
 
 abbrev pub AreQuotable : List (List ℕ) → Type 0
 AreQuotable texts = All IsQuotable texts
+
+-- ---- what is read of a marked document
+
+-- the start that lists are: a graph without vertices has none
+abbrev pub told_lists : List (List ℕ) → Option (List (List ℕ))
+told_lists [] = None
+told_lists (list ∷ lists) = Some (list ∷ lists)
+
+-- where lists arrange the edges of a document's graph, the document with their texts has the same graph, which starts at these lists
+abbrev pub StartsAtTexts : Document → Type 0
+StartsAtTexts d =
+    (named : NamedGraph) (lists : List (List ℕ)) → graph_of_document d ≡ Ok named → ArrangeEdges named.graph lists
+    → graph_of_document (marked (map numbers_text lists) d) ≡ Ok (record { graph = named.graph; ids = named.ids; start = told_lists lists })
 
 -- ---- one pair of a copy
 
