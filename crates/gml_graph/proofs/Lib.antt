@@ -6,3 +6,8 @@ pub mod Places
 pub mod Sound
 pub mod Law
 pub mod Behind
+pub mod NumberTexts
+pub mod MarkedLists
+pub mod MarkedForm
+pub mod MarkedSteps
+pub mod MarkedLaw
