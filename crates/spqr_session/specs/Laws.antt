@@ -3,7 +3,7 @@ use Rattle.std.specs.Prelude.{◌≡◌, ℕ, ◌<◌, List, length, Some, Ok}
 use Rattle.gml_text.specs.Document.{Document}
 use Rattle.gml_graph.specs.Named.{NamedGraph}
 use Rattle.gml_graph.specs.Answer.{graph_of_document}
-use Rattle.gml_graph.specs.Marked.{marked, told}
+use Rattle.gml_graph.specs.Marked.{marked, told_lists}
 use Rattle.spqr_script.specs.declared.command.Command.{Command}
 use Rattle.spqr_session.specs.Trees.{tree_at}
 use Rattle.spqr_session.specs.Setting.{Setting, IsSetting}
@@ -61,7 +61,7 @@ GmlIsReadBack =
     (setting : Setting) (state : State) → IsSetting setting → IsState setting state
     → IsReadBack setting state.present
         (marked (marks setting.named.graph.vertex_count setting.trees state.present) setting.document)
-        (record setting.named { start = told (present_lists setting.named.graph.vertex_count setting.trees state.present) })
+        (record setting.named { start = told_lists (present_lists setting.named.graph.vertex_count setting.trees state.present) })
 
 -- there is one report on a setting and commands
 abbrev pub OneReport : Type 0
