@@ -1,5 +1,5 @@
 -- Faults of a start: there is one, with one set of numbers, and none where a session starts.
-use Rattle.std.proofs.Common.{◌≡◌, ℕ, ◌<◌, List, length, Option, None, Some, inl, inr, sym, ap, ◌∙◌, subst}
+use Rattle.std.proofs.Common.{◌≡◌, ℕ, ◌<◌, List, length, Option, None, Some, inl, inr, refl, sym, ap, ◌∙◌, subst}
 use Rattle.std.proofs.lemmas.Bool.{cases_order}
 use Rattle.multigraph.specs.Graph.{Multigraph}
 use Rattle.multigraph.specs.Part.{GraphPart, IsNumbered}
@@ -8,7 +8,7 @@ use Rattle.blocks.proofs.OneStructure.{one-structure}
 use Rattle.faces.specs.Euler.{face_count, IsPlaneSystem}
 use Rattle.kuratowski.specs.declared.subdivision.Subdivision.{Subdivision}
 use Rattle.gml_graph.specs.Named.{NamedGraph}
-use Rattle.skel_embed.specs.Taken.{IsNotPlane}
+use Rattle.skel_embed.specs.Taken.{IsGiven, IsNotPlane}
 use Rattle.spqr_session.specs.Trees.{BlockTree, IsBlockTree, tree_at}
 use Rattle.spqr_session.specs.Certificates.{IsCertificate, certificate_at}
 use Rattle.spqr_session.specs.Setting.{Setting, IsSetting}
@@ -46,12 +46,17 @@ module _ (g : Multigraph) (blocks lists : List (List ℕ)) where
     same-part : bad.part ≡ tree.part
     same-part = parts-equal g (block_at blocks b) bad.part tree.part bad.is_part is.part
 
-    pub started-not_bad : (certificate : Option Subdivision) (entry : Option Embedding) → IsCertificate tree.part.graph certificate → IsEntry tree certificate entry → IsStartEntry (Some lists) tree entry → ⊥
-    started-not_bad (Some s) o c p q = c.1 bad.planar.0 (subst (λ (part : GraphPart). IsPlaneSystem part.graph bad.planar.0) same-part bad.planar.1)
-    started-not_bad None None c p q = p
-    started-not_bad None (Some x) c p q =
-        not-both (start_entries tree.part lists) tree is.part.numbered (block-tree g blocks b tree.part tree.nodes are within is.part is.nodes) x.rotation v e f q.0 p.0
+    pub given-not_bad : (certificate : Option Subdivision) (entry : Option Embedding) → IsCertificate tree.part.graph certificate → IsEntry tree certificate entry
+        → ((x : Embedding) → entry ≡ Some x → IsGiven tree.part (start_entries tree.part lists) x.rotation) → ⊥
+    given-not_bad (Some s) o c p q = c.1 bad.planar.0 (subst (λ (part : GraphPart). IsPlaneSystem part.graph bad.planar.0) same-part bad.planar.1)
+    given-not_bad None None c p q = p
+    given-not_bad None (Some x) c p q =
+        not-both (start_entries tree.part lists) tree is.part.numbered (block-tree g blocks b tree.part tree.nodes are within is.part is.nodes) x.rotation v e f (q x refl) p.0
         (subst (λ (part : GraphPart). IsNotPlane part (start_entries part lists) v e f) same-part bad.not_plane)
+
+    pub started-not_bad : (certificate : Option Subdivision) (entry : Option Embedding) → IsCertificate tree.part.graph certificate → IsEntry tree certificate entry → IsStartEntry (Some lists) tree entry → ⊥
+    started-not_bad certificate entry c p q =
+        given-not_bad certificate entry c p (λ x at. (let both = subst (λ (o : Option Embedding). IsStartEntry (Some lists) tree o) at q in both.0))
 
 -- there is one fault
 pub fault-one : (named : NamedGraph) (b v e f c x y z : ℕ) → IsStartFault named b v e f → IsStartFault named c x y z → (b ≡ c) × (v ≡ x) × (e ≡ y) × (f ≡ z)

@@ -1,7 +1,7 @@
 -- How the blocks are brought to the start that a file gives, one after another.
 use Rattle.std.proofs.Common.{◌≡◌, ◌≢◌, ℕ, ◌+◌, ◌<◌, ◌≤◌, Bool, true, false, List, [], length, replicate, get_or, slice_set, Option, None, Some, Result, Ok, Err, IfOk, IfErr, inl, inr, refl, sym, ap, ◌∙◌, subst, arith}
 use Rattle.std.proofs.lemmas.Bool.{cases_eq, cases_lt}
-use Rattle.std.proofs.lemmas.List.{length-set, get_or-set_same, get_or-set_other, get_or-replicate, get_or_past, length-replicate}
+use Rattle.std.proofs.lemmas.List.{get_or_default, length-set, get_or-set_same, get_or-set_other, get_or-replicate, get_or_past, length-replicate}
 use Rattle.multigraph.specs.Graph.{Multigraph, IsGraph}
 use Rattle.multigraph.specs.Part.{GraphPart}
 use Rattle.blocks.specs.Blocks.{BlockStructure, IsBlockStructure, block_at}
@@ -24,7 +24,7 @@ use Rattle.spqr_session.specs.Starting.{AreStartLists, AreStartedBelow, IsEntryT
 use Rattle.spqr_session.specs.declared.fault.StartFault.{StartFault}
 use Rattle.spqr_session.specs.declared.fault.StartFault.TheVariants.{StartGenus, Memory as OutOfMemory}
 use Rattle.spqr_session.proofs.BoardSteps.{replaced-right}
-use Rattle.spqr_session.proofs.StartParts.{start-arranged}
+use Rattle.spqr_session.proofs.StartLists.{starts-arranged}
 use Rattle.spqr_session.proofs.StartFaults.{started-not_bad}
 
 -- ---- one block
@@ -78,28 +78,82 @@ entry-started lists tree None (Some d) t s = absurd (let w : Some d ≡ None = t
 entry-started lists tree (Some e) None t s = absurd t
 entry-started lists tree (Some e) (Some d) t s = (t.0, t.1 ∙ s.1)
 
-module _ (g : Multigraph) (blocks lists : List (List ℕ)) where
-  block-started : (edges : List ℕ) (old new : BlockView) → IsStartBlock None g edges old → IsBlockTaken (start_entries old.tree.part lists) old new → IsStartBlock (Some lists) g edges new
-  block-started edges old new s t = record {
-    tree = subst (IsBlockTree g edges) (sym t.tree) s.tree;
-    certificate = subst (λ (c : Option Subdivision). IsCertificate new.tree.part.graph c) (sym t.certificate) (subst (λ (x : BlockTree). IsCertificate x.part.graph old.certificate) (sym t.tree) s.certificate);
-    entry = t.right;
-    starts = subst (λ (x : BlockTree). IsStartEntry (Some lists) x new.entry) (sym t.tree) (entry-started lists old.tree old.entry new.entry t.entry s.starts);
-  }
+block-started : (g : Multigraph) (lists : List (List ℕ)) (edges : List ℕ) (old new : BlockView) → IsStartBlock None g edges old → IsBlockTaken (start_entries old.tree.part lists) old new → IsStartBlock (Some lists) g edges new
+block-started g lists edges old new s t = record {
+  tree = subst (IsBlockTree g edges) (sym t.tree) s.tree;
+  certificate = subst (λ (c : Option Subdivision). IsCertificate new.tree.part.graph c) (sym t.certificate) (subst (λ (x : BlockTree). IsCertificate x.part.graph old.certificate) (sym t.tree) s.certificate);
+  entry = t.right;
+  starts = subst (λ (x : BlockTree). IsStartEntry (Some lists) x new.entry) (sym t.tree) (entry-started lists old.tree old.entry new.entry t.entry s.starts);
+}
 
-  module _ (n : ℕ) (views : List BlockView) (below : AreStartedBelow lists g blocks n views) (l : n < length blocks) where
+-- ---- the blocks, one after another
+
+module _ (named : NamedGraph) (structure : BlockStructure) (is : IsBlockStructure named.graph structure) (lists : List (List ℕ)) (told : named.start ≡ Some lists) where
+  abbrev block : ℕ → List ℕ
+  block b = block_at structure.blocks b
+
+  -- none is at the start of the file before the first
+  pub none-started : (views : List BlockView) → AreStartBlocks None named.graph structure.blocks (length structure.blocks) views → AreStartedBelow lists named.graph structure.blocks 0 views
+  none-started views h = record { one_each = h.one_each; started = λ b l m. absurd (omega (arith, l)); others = λ b l m. h.each b m }
+
+  -- all are after the last
+  pub all-started : (views : List BlockView) → AreStartedBelow lists named.graph structure.blocks (length structure.blocks) views → AreStartBlocks named.start named.graph structure.blocks (length structure.blocks) views
+  all-started views h =
+      subst (λ (s : Option (List (List ℕ))). AreStartBlocks s named.graph structure.blocks (length structure.blocks) views) (sym told) (record { one_each = h.one_each; each = λ b l. h.started b l l })
+
+  module _ (n : ℕ) (views : List BlockView) (below : AreStartedBelow lists named.graph structure.blocks n views) (l : n < length structure.blocks) where
+    abbrev next : BlockView
+    next = view_at views n
+
     -- the next block is at its first rotation system
-    next-first : IsStartBlock None g (block_at blocks n) (view_at views n)
+    next-first : IsStartBlock None named.graph (block n) next
     next-first = below.others n (omega arith) l
 
-    abbrev next_part : GraphPart
-    next_part = (view_at views n).tree.part
-
-    module _ (structure : BlockStructure) (is : IsBlockStructure g structure) (same : structure.blocks ≡ blocks) (entries : List (List (ℕ × List ℕ))) (are : AreStartLists g blocks lists (length blocks) entries) where
-      -- and its lists are those that are found
-      pub next-lists : get_or entries n [] ≡ start_entries next_part lists
-      next-lists = are.each n next_part l next-first.tree.part
+    -- its lists are found
+    pub next-lists : (entries : List (List (ℕ × List ℕ))) (own : List (ℕ × List ℕ)) → AreStartLists named.graph structure.blocks lists (length structure.blocks) entries → own ≡ get_or entries n own → own ≡ start_entries next.tree.part lists
+    next-lists entries own are e =
+        e ∙ get_or_default entries n own [] (subst (λ (k : ℕ). n < k) (sym are.one_each) l) ∙ are.each n next.tree.part l next-first.tree.part
 
     -- it is ready for them
-    pub next-ready : IsGraph g → ArrangeEdges g lists → ((e : ℕ) → e < length (block_at blocks n) → slice_index_in e) → IsReadyFor (start_entries next_part lists) (view_at views n)
-    next-ready = ?
+    pub next-ready : IsGraph named.graph → ArrangeEdges named.graph lists → IsReadyFor (start_entries next.tree.part lists) next
+    next-ready graph arrange = record {
+      arranged = starts-arranged named.graph graph (block n) next.tree.part next-first.tree.part (λ e m. is.blocks.edges n e l m) lists arrange.arranged;
+      unlocked = start-unlocked None next.tree next.entry next-first.starts;
+    }
+
+    -- after it one block more is at the start of the file
+    pub next-started : (new : BlockView) → IsBlockTaken (start_entries next.tree.part lists) next new → AreStartedBelow lists named.graph structure.blocks (n + 1) (slice_set views n new)
+    next-started new t = record {
+      one_each = length-set views n new ∙ below.one_each;
+      started = λ b lb m. elim (cases_eq b n) [
+        | inl same ↦ subst (λ (k : ℕ). IsStartBlock (Some lists) named.graph (block k) (view_at (slice_set views n new) k)) (sym same)
+            (subst (IsStartBlock (Some lists) named.graph (block n)) (sym (get_or-set_same views n new no_view (subst (λ (k : ℕ). n < k) (sym below.one_each) l)))
+            (block-started named.graph lists (block n) next new next-first t))
+        | inr apart ↦ subst (IsStartBlock (Some lists) named.graph (block b)) (sym (get_or-set_other views n b new no_view apart)) (below.started b (omega (arith, lb, apart)) m)
+      ];
+      others = λ b lb m. subst (IsStartBlock None named.graph (block b)) (sym (get_or-set_other views n b new no_view (λ same. omega (arith, lb, same)))) (below.others b (omega (arith, lb)) m);
+    }
+
+    -- a block before it is not bad
+    none-bad : (c x y z : ℕ) → c < n → ¬ IsBadStart named.graph structure.blocks lists c x y z
+    none-bad c x y z lc bad =
+        let at = below.started c lc (omega (arith, lc, l)) in
+        started-not_bad named.graph structure.blocks lists c x y z (view_at views c).tree is.blocks (omega (arith, lc, l)) at.tree bad (view_at views c).certificate (view_at views c).entry at.certificate at.entry at.starts
+
+    -- a refusal by it is that of the file
+    pub next-refused : (fault : StartFault) → IsGenusRefusal n (start_entries next.tree.part lists) next fault → IsStartRefusal named fault
+    next-refused (StartGenus b v e f) h = subst (λ (k : ℕ). IsStartFault named k v e f) (sym h.0) (record {
+      lists = lists;
+      has_start = told;
+      structure = structure;
+      is_structure = is;
+      bad = record {
+        within = l;
+        part = next.tree.part;
+        is_part = next-first.tree.part;
+        planar = subst (IsCertificate next.tree.part.graph) h.1 next-first.certificate;
+        not_plane = h.2;
+      };
+      none_before = none-bad;
+    })
+    next-refused OutOfMemory h = tt

@@ -4,7 +4,7 @@ use Rattle.blocks.specs.Blocks.{BlockStructure, IsBlockStructure, block_at}
 use Rattle.gml_text.specs.Document.{Document}
 use Rattle.gml_graph.specs.Named.{NamedGraph}
 use Rattle.kuratowski.specs.declared.subdivision.Subdivision.{Subdivision}
-use Rattle.multigraph.specs.Graph.{Multigraph}
+use Rattle.multigraph.specs.Graph.{Multigraph, IsGraph, IsWithinLimits}
 use Rattle.multigraph.specs.Part.{GraphPart}
 use Rattle.skeletons.specs.Items as items
 use Rattle.skel_embed.specs.Block.{lock_at, IsBlockState}
@@ -85,8 +85,10 @@ pub record AreStartBlocks (start : Option (List (List ℕ))) (g : Multigraph) (b
   pub one_each : length views ≡ n
   pub each : (b : ℕ) → b < n → IsStartBlock start g (block_at blocks b) (view_at views b)
 
--- the blocks are those of a graph, in order, each with its tree and a right entry
+-- the blocks are those of a graph within the limits, in order, each with its tree and a right entry
 pub record AreBlocksOf (g : Multigraph) (views : List BlockView) : Type 0 where
+  pub graph : IsGraph g
+  pub limits : IsWithinLimits g
   pub structure : BlockStructure
   pub blocks : IsBlockStructure g structure
   pub trees : AreBlockTrees g structure.blocks (map view_tree views)

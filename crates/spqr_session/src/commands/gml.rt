@@ -26,7 +26,7 @@ pub(crate) fn carry_gml(
         → setting.trees ≡ map view_tree blocks.now → s.present ≡ family_on blocks.now
         → IfOk result (λ text. GmlStep setting s text.items s) }
 {
-    let texts = present_texts(alloc, graph, blocks)?;
+    let texts = present_texts(alloc, graph.vertex_count(), blocks)?;
     let document = marked(alloc, doc, &texts)?;
     let written = write(alloc, &document)?;
     gml_lines(alloc, &written)
