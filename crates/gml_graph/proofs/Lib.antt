@@ -6,3 +6,6 @@ pub mod Places
 pub mod Sound
 pub mod Law
 pub mod Behind
+pub mod Spelling
+pub mod SortedEdges
+pub mod Starts
