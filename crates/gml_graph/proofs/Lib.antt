@@ -11,3 +11,6 @@ pub mod MarkedLists
 pub mod MarkedForm
 pub mod MarkedSteps
 pub mod MarkedLaw
+pub mod Spelling
+pub mod SortedEdges
+pub mod Starts
