@@ -6,6 +6,9 @@ pub mod Places
 pub mod Sound
 pub mod Law
 pub mod Behind
+pub mod Spelling
+pub mod SortedEdges
+pub mod Starts
 pub mod NumberTexts
 pub mod MarkedLists
 pub mod MarkedForm

@@ -1,12 +1,13 @@
 // The start that a file gives: at each node a text with the numbers of the edges there, in order.
 
-ghost use Rattle.std.specs.Prelude.{◌≡◌, ◌^◌, ◌<◌, ◌≤◌, length, map, option_map, IfOk};
+ghost use Rattle.std.specs.Prelude.{◌≡◌, ◌^◌, ◌<◌, ◌≤◌, length, map, option_map, IfOk, IfSome};
 ghost use Rattle.decimals.specs.Number.{with_digit};
 ghost use Rattle.multigraph.specs.Graph.{incident_edges};
 ghost use Rattle.gml_text.specs.Bytes.{is_white};
 ghost use Rattle.gml_text.specs.Pairs.{document_of};
 ghost use Rattle.gml_graph.specs.Arranged.{is_arrangement};
 ghost use Rattle.gml_graph.specs.Answer.{Answers};
+ghost use Rattle.gml_graph.specs.Named.{ArrangeEdges};
 ghost use Rattle.gml_graph.specs.Start.{start_text, start_texts, spelled_numbers, list_by, lists_by, start_by};
 
 use crate::fault::GraphFault;
@@ -143,8 +144,9 @@ pub(crate) fn start_of(
     nodes: &[&Pairs],
 ) -> Result<Option<NumberLists>, GraphFault>
     requires { length nodes.now ≡ g.now.vertex_count }
-    ensures { Answers (start_by g.now (start_texts (map (λ node. node.now) nodes.now)))
+    ensures due { Answers (start_by g.now (start_texts (map (λ node. node.now) nodes.now)))
         (λ start. start) result }
+    ensures arranged { IfOk result (λ start. IfSome start (ArrangeEdges g.now)) }
 {
     match start_texts(alloc, nodes)? {
         Some(texts) => Ok(Some(lists_by(alloc, g, texts.as_slice())?)),
