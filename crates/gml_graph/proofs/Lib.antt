@@ -14,3 +14,4 @@ pub mod MarkedLists
 pub mod MarkedForm
 pub mod MarkedSteps
 pub mod MarkedLaw
+mod MarkedInstances
