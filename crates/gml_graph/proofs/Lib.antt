@@ -6,11 +6,12 @@ pub mod Places
 pub mod Sound
 pub mod Law
 pub mod Behind
+pub mod Spelling
+pub mod SortedEdges
+pub mod Starts
 pub mod NumberTexts
 pub mod MarkedLists
 pub mod MarkedForm
 pub mod MarkedSteps
 pub mod MarkedLaw
-pub mod Spelling
-pub mod SortedEdges
-pub mod Starts
+mod MarkedInstances

@@ -4,7 +4,7 @@ use Rattle.std.specs.List.{All}
 use Rattle.std.specs.List.Sorted.{IsPermutation}
 use Rattle.std.proofs.Math.Seq.{take-suc}
 use Rattle.std.proofs.lemmas.Bool.{cases_Bool}
-use Rattle.std.proofs.lemmas.List.{take_all, length-map, get_or-map, get_or_default}
+use Rattle.std.proofs.lemmas.List.{take_all, length-map, get_or-map}
 use Rattle.std.proofs.lemmas.List.Sorted.{All-permutation}
 use Rattle.std.proofs.lemmas.Slice.Eq.{bytes_eq-Decides}
 use Rattle.multigraph.specs.Graph.{Multigraph, IsWithinLimits, incident_edges, edge_count, max_vertices, max_edges}
@@ -16,13 +16,13 @@ use Rattle.gml_graph.specs.Arranged.{is_arrangement}
 use Rattle.gml_graph.specs.Lists.{lists_under}
 use Rattle.gml_graph.specs.Start.{start_key, start_text, spelled_numbers, with_first, list_by, lists_by, texts_of, start_texts, as_start, start_by, put_start, with_start}
 use Rattle.gml_graph.specs.Answer.{and_one_more, each_below, node_id, node_ids, edge_ends, with_ends, with_ids, graph_between, graph_in, graph_among, graph_of_document}
-use Rattle.gml_graph.specs.Marked.{put_first, put_next, later, mark_nodes, marked, numbers_text, told_lists, AreQuotable, StartsAtTexts}
+use Rattle.gml_graph.specs.Marked.{put_first, put_next, later, mark_nodes, marked, numbers_text, told_lists, StartsAtTexts}
 use Rattle.gml_graph.specs.declared.fault.GraphFault.{GraphFault}
 use Rattle.gml_graph.specs.declared.fault.GraphFault.TheVariants.{TooManyVertices, TooManyEdges}
 use Rattle.gml_graph.proofs.Arranged.{arranged-passes}
 use Rattle.gml_graph.proofs.Each.{each_below-length}
 use Rattle.gml_graph.proofs.Law.{sound_graph}
-use Rattle.gml_graph.proofs.NumberTexts.{AreNarrow, numbers_spelled, lists_quotable}
+use Rattle.gml_graph.proofs.NumberTexts.{AreNarrow, numbers_spelled}
 use Rattle.gml_graph.proofs.MarkedLists.{put_each, length-put_each, edges-marked, nodes-marked, mark_head, graphs-marked, node_ids-put_each}
 
 -- ---- the text of a node
@@ -71,14 +71,6 @@ each_below-all f xs d each = each_below-prefix f xs d (length xs) (omega arith) 
 narrow-arranged : (g : Multigraph) (v : ℕ) (edges : List ℕ) → IsWithinLimits g → IsPermutation (incident_edges g v) edges → AreNarrow edges
 narrow-arranged g v edges limits same =
     All-permutation (λ (e : ℕ). e < 2 ^ 32) (incident_edges g v) edges same (λ k d l. omega (arith, incident_at-edge g v k d l, limits.few_edges))
-
-pub narrow-lists : (g : Multigraph) (lists : List (List ℕ)) → IsWithinLimits g → ArrangeEdges g lists → All AreNarrow lists
-narrow-lists g lists limits arrange k d l =
-    let v : k < g.vertex_count = omega (arith, arrange.count) in
-    subst AreNarrow (get_or_default lists k [] d l) (narrow-arranged g k (get_or lists k []) limits (arrange.arranged k v))
-
-pub lists_quotable_by : (g : Multigraph) (lists : List (List ℕ)) → IsWithinLimits g → ArrangeEdges g lists → AreQuotable (map numbers_text lists)
-lists_quotable_by g lists limits arrange = lists_quotable lists (narrow-lists g lists limits arrange)
 
 -- the text of a list is that list
 list_by-text : (g : Multigraph) (v : ℕ) (edges : List ℕ) → IsWithinLimits g → IsPermutation (incident_edges g v) edges → list_by g v (numbers_text edges) ≡ Ok edges

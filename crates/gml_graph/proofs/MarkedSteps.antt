@@ -56,3 +56,9 @@ pub marked_later : (texts : List (List ℕ)) (k : List ℕ) (value : Value) (res
 marked_later texts k (Num old) rest other = refl
 marked_later texts k (Str old) rest other = refl
 marked_later texts k (Inner inner) rest other = rw other refl
+
+-- ---- copies
+
+-- the copy of one pair more, after which the pairs to come are these
+pub copied-more : (held : List Pair) (copy : Pair) (rest before whole : Document) → pair_before copy.key copy.value rest ≡ before → append (document_of held) before ≡ whole → append (document_of (held ++ copy ∷ [])) rest ≡ whole
+copied-more held copy rest before whole is so_far = document_of-one_more held copy rest ∙ ap (append (document_of held)) is ∙ so_far

@@ -1,9 +1,10 @@
 -- Numbers in decimal with one space between any two: the parts between the spaces spell these numbers, and no byte is a quote.
-use Rattle.std.proofs.Common.{◌≡◌, ℕ, ◌<◌, ◌^◌, ◌-◌, true, false, not, ◌==◌, List, [], ◌∷◌, ◌++◌, length, map, Option, Some, refl, sym, ap, ◌∙◌, codes, decimal, arith}
+use Rattle.std.proofs.Common.{◌≡◌, ℕ, zero, suc, ◌+◌, ◌<◌, ◌^◌, ◌/◌, ◌%◌, true, false, not, ◌==◌, List, [], ◌∷◌, ◌++◌, length, map, Option, Some, refl, ap, ◌∙◌, inl, inr, decimal, arith}
 use Rattle.std.specs.Char.{is_ascii_digit}
+use Rattle.std.specs.Fmt.{digits, digits_onto, digit_glyph}
 use Rattle.std.specs.Int.{IsInRange}
 use Rattle.std.specs.List.{All, list_all, filter, slice_split}
-use Rattle.std.proofs.lemmas.Bool.{and_parts, and_from, lt-ltb, ne_eqb, cond-true}
+use Rattle.std.proofs.lemmas.Bool.{and_parts, and_from, lt-ltb, le-ltb, ne_eqb, not_from_false, cases_lt, cases_Bool}
 use Rattle.std.proofs.lemmas.List.{append-nil}
 use Rattle.std.proofs.lemmas.List.Elements.{All-head, All-tail, All-nil, All-cons}
 use Rattle.std.proofs.lemmas.List.Splits.{slice_split_none, slice_split_at}
@@ -39,22 +40,20 @@ filled : (ds : List ℕ) → 0 < length ds → AreDigits ds → are_digits ds �
 filled [] some e = absurd (omega arith)
 filled (d ∷ ds) some e = e
 
--- a digit is neither white nor a quote
-digit_is : (c : ℕ) → IsInRange 48 57 c → (is_white c ≡ false) × (is_no_quote c ≡ true)
-digit_is c r = grind (arith, r.0, r.1)
+-- a digit is not white
+digit_black : (c : ℕ) → IsInRange 48 57 c → is_white c ≡ false
+digit_black c r = grind (arith, r.0, r.1)
 
-digits_are : (ds : List ℕ) → AreDigits ds → All (λ c. is_white c ≡ false) ds × IsQuotable ds
-digits_are [] e = (All-nil (λ c. is_white c ≡ false), refl)
-digits_are (d ∷ ds) e =
+digits_black : (ds : List ℕ) → AreDigits ds → All (λ c. is_white c ≡ false) ds
+digits_black [] e = All-nil (λ c. is_white c ≡ false)
+digits_black (d ∷ ds) e =
     let p = digit_parts d ds e in
-    let here = digit_is d p.0 in
-    let rest = digits_are ds p.1 in
-    (All-cons (λ c. is_white c ≡ false) d ds here.0 rest.0, and_from (is_no_quote d) (list_all is_no_quote ds) here.1 rest.1)
+    All-cons (λ c. is_white c ≡ false) d ds (digit_black d p.0) (digits_black ds p.1)
 
 -- ---- a number
 
-decimal_is : (n : ℕ) → n < 2 ^ 32 → All (λ c. is_white c ≡ false) (decimal n) × IsQuotable (decimal n)
-decimal_is n narrow = digits_are (decimal n) (digits_decimal numerals n (omega arith))
+decimal_black : (n : ℕ) → n < 2 ^ 32 → All (λ c. is_white c ≡ false) (decimal n)
+decimal_black n narrow = digits_black (decimal n) (digits_decimal numerals n (omega arith))
 
 pub decimal_filled : (n : ℕ) → n < 2 ^ 32 → 0 < length (decimal n)
 decimal_filled n narrow = (decimal_is_IsNumeral n (omega arith)).0.0
@@ -71,9 +70,9 @@ decimal_spelled n narrow =
 
 -- the parts of the text of one number or more, where it is cut at each byte of white space
 pub numbers_split : (n : ℕ) (ns : List ℕ) → AreNarrow (n ∷ ns) → slice_split is_white (numbers_text (n ∷ ns)) ≡ map decimal (n ∷ ns)
-numbers_split n [] narrow = ap (slice_split is_white) (append-nil (decimal n)) ∙ slice_split_none is_white (decimal n) (decimal_is n (All-head (λ k. k < 2 ^ 32) n [] narrow)).0
+numbers_split n [] narrow = ap (slice_split is_white) (append-nil (decimal n)) ∙ slice_split_none is_white (decimal n) (decimal_black n (All-head (λ k. k < 2 ^ 32) n [] narrow))
 numbers_split n (m ∷ ms) narrow =
-    slice_split_at is_white (decimal n) 32 (decimal m ++ spaced_numbers ms) (decimal_is n (All-head (λ k. k < 2 ^ 32) n (m ∷ ms) narrow)).0 refl
+    slice_split_at is_white (decimal n) 32 (decimal m ++ spaced_numbers ms) (decimal_black n (All-head (λ k. k < 2 ^ 32) n (m ∷ ms) narrow)) refl
     ∙ ap (λ (parts : List (List ℕ)). decimal n ∷ parts) (numbers_split m ms (All-tail (λ k. k < 2 ^ 32) n (m ∷ ms) narrow))
 
 -- no part is empty
@@ -97,23 +96,40 @@ numbers_spelled (n ∷ ns) narrow =
 
 -- ---- no quote
 
+glyph_quotable : (d : ℕ) → is_no_quote (digit_glyph false d) ≡ true
+glyph_quotable d =
+    elim (cases_lt d 10) [
+      | inl small ↦ rw (lt-ltb d 10 small) (not_from_false (48 + d == 34) (ne_eqb (48 + d) 34 (λ e. absurd (omega (arith, e)))))
+      | inr large ↦ rw (le-ltb d 10 large) (not_from_false (87 + d == 34) (ne_eqb (87 + d) 34 (λ e. absurd (omega (arith, e)))))
+    ]
+
+digits_quotable : (k n : ℕ) (after : List ℕ) → IsQuotable after → IsQuotable (digits_onto k 10 false n after)
+digits_quotable zero n after quotable = quotable
+digits_quotable (suc k) n after quotable =
+    let more : IsQuotable (digit_glyph false (n % 10) ∷ after) = and_from (is_no_quote (digit_glyph false (n % 10))) (list_all is_no_quote after) (glyph_quotable (n % 10)) quotable in
+    elim (cases_Bool (n / 10 == 0)) [
+      | inl last ↦ rw last more
+      | inr other ↦ rw other (digits_quotable k (n / 10) (digit_glyph false (n % 10) ∷ after) more)
+    ]
+
+decimal_quotable : (n : ℕ) → IsQuotable (decimal n)
+unfolding digits
+decimal_quotable n = digits_quotable 64 n [] refl
+
 quotable-append : (xs ys : List ℕ) → IsQuotable xs → IsQuotable ys → IsQuotable (xs ++ ys)
 quotable-append [] ys one other = other
 quotable-append (x ∷ xs) ys one other =
     let p = and_parts (is_no_quote x) (list_all is_no_quote xs) one in
     and_from (is_no_quote x) (list_all is_no_quote (xs ++ ys)) p.0 (quotable-append xs ys p.1 other)
 
-spaced_quotable : (ns : List ℕ) → AreNarrow ns → IsQuotable (spaced_numbers ns)
-spaced_quotable [] narrow = refl
-spaced_quotable (n ∷ ns) narrow =
-    quotable-append (decimal n) (spaced_numbers ns) (decimal_is n (All-head (λ k. k < 2 ^ 32) n ns narrow)).1 (spaced_quotable ns (All-tail (λ k. k < 2 ^ 32) n ns narrow))
+spaced_quotable : (ns : List ℕ) → IsQuotable (spaced_numbers ns)
+spaced_quotable [] = refl
+spaced_quotable (n ∷ ns) = quotable-append (decimal n) (spaced_numbers ns) (decimal_quotable n) (spaced_quotable ns)
 
-pub numbers_quotable : (ns : List ℕ) → AreNarrow ns → IsQuotable (numbers_text ns)
-numbers_quotable [] narrow = refl
-numbers_quotable (n ∷ ns) narrow =
-    quotable-append (decimal n) (spaced_numbers ns) (decimal_is n (All-head (λ k. k < 2 ^ 32) n ns narrow)).1 (spaced_quotable ns (All-tail (λ k. k < 2 ^ 32) n ns narrow))
+pub numbers_quotable : (ns : List ℕ) → IsQuotable (numbers_text ns)
+numbers_quotable [] = refl
+numbers_quotable (n ∷ ns) = quotable-append (decimal n) (spaced_numbers ns) (decimal_quotable n) (spaced_quotable ns)
 
-pub lists_quotable : (lists : List (List ℕ)) → All AreNarrow lists → AreQuotable (map numbers_text lists)
-lists_quotable [] narrow = All-nil IsQuotable
-lists_quotable (ns ∷ lists) narrow =
-    All-cons IsQuotable (numbers_text ns) (map numbers_text lists) (numbers_quotable ns (All-head AreNarrow ns lists narrow)) (lists_quotable lists (All-tail AreNarrow ns lists narrow))
+pub lists_quotable : (lists : List (List ℕ)) → AreQuotable (map numbers_text lists)
+lists_quotable [] = All-nil IsQuotable
+lists_quotable (ns ∷ lists) = All-cons IsQuotable (numbers_text ns) (map numbers_text lists) (numbers_quotable ns) (lists_quotable lists)
