@@ -35,6 +35,13 @@ pub mod TakePlans
 pub mod ConvertPlans
 pub mod Chains
 pub mod Steps
+pub mod OwnLists
+pub mod EdgesAt
+pub mod StartLists
+pub mod Sorting
+pub mod SortedStarts
+pub mod NumbersAt
+pub mod Texts
 pub mod Grouped
 pub mod Moved
 pub mod Walks

@@ -17,5 +17,7 @@ pub mod Commands
 pub mod Step
 pub mod Head
 pub mod Report
+pub mod Sorting
+pub mod Texts
 pub mod Machine
 pub mod Laws
