@@ -2,7 +2,6 @@
 use Rattle.std.proofs.Common.{◌≡◌, ℕ, ◌<◌, List, [], ◌∷◌, length, slice_index, Option, None, Some, Ok, refl, sym, ◌∙◌, subst, arith}
 use Rattle.multigraph.specs.Graph.{Multigraph, edge_count, IsGraph, IsWithinLimits}
 use Rattle.blocks.specs.Blocks.{BlockStructure, AreBlocks, block_at}
-use Rattle.blocks.proofs.BlockParts.{block-edges_in}
 use Rattle.blocks.proofs.OneStructure.{one-structure}
 use Rattle.gml_text.specs.Document.{Document}
 use Rattle.gml_graph.specs.Named.{NamedGraph, ArrangeEdges, IsNamed}
@@ -21,12 +20,9 @@ use Rattle.spqr_session.specs.State.{Embedding, Family, State, entry_at, IsEntry
 use Rattle.spqr_session.specs.Commands.Gml.{present_lists, marks}
 use Rattle.spqr_session.specs.Laws.{IsReadBack}
 use Rattle.spqr_session.proofs.StartFaults.{given-not_bad}
+use Rattle.spqr_session.proofs.Starting.{block-vertex}
 use Rattle.spqr_session.proofs.StartLists.{part-vertex}
 use Rattle.spqr_session.proofs.NumbersAt.{present-arranged, present-given}
-
--- a graph with a block has a vertex
-block-vertex : (g : Multigraph) (blocks : List (List ℕ)) (b : ℕ) → IsGraph g → AreBlocks g blocks → b < length blocks → 0 < g.vertex_count
-block-vertex g blocks b graph are l = omega (arith, graph.first_in (slice_index (block_at blocks b) 0) (block-edges_in g blocks b are l 0 (are.not_empty b l)))
 
 -- lists of some vertices are told as they are
 told-some : (lists found : List (List ℕ)) → told_lists lists ≡ Some found → found ≡ lists

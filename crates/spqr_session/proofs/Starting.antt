@@ -1,14 +1,15 @@
 -- How the blocks are brought to the start that a file gives, one after another.
-use Rattle.std.proofs.Common.{◌≡◌, ◌≢◌, ℕ, ◌+◌, ◌<◌, ◌≤◌, Bool, true, false, List, [], length, replicate, get_or, slice_set, Option, None, Some, Result, Ok, Err, IfOk, IfErr, inl, inr, refl, sym, ap, ◌∙◌, subst, arith}
+use Rattle.std.proofs.Common.{◌≡◌, ◌≢◌, ℕ, ◌+◌, ◌<◌, ◌≤◌, Bool, true, false, List, [], length, replicate, get_or, slice_set, Option, None, Some, Result, Ok, Err, IfOk, IfErr, IfSome, IsSome, slice_index, ◌⊎◌, inl, inr, refl, sym, ap, ◌∙◌, subst, arith}
 use Rattle.std.proofs.lemmas.Bool.{cases_eq, cases_lt}
 use Rattle.std.proofs.lemmas.List.{get_or_default, length-set, get_or-set_same, get_or-set_other, get_or-replicate, get_or_past, length-replicate}
-use Rattle.multigraph.specs.Graph.{Multigraph, IsGraph}
+use Rattle.multigraph.specs.Graph.{Multigraph, edge_count, IsGraph}
 use Rattle.multigraph.specs.Part.{GraphPart}
-use Rattle.blocks.specs.Blocks.{BlockStructure, IsBlockStructure, block_at}
+use Rattle.blocks.specs.Blocks.{BlockStructure, AreBlocks, IsBlockStructure, block_at}
+use Rattle.blocks.proofs.BlockParts.{block-edges_in}
 use Rattle.faces.specs.Euler.{IsPlaneSystem}
 use Rattle.rotations.specs.PartLists.{ArrangePart}
 use Rattle.kuratowski.specs.declared.subdivision.Subdivision.{Subdivision}
-use Rattle.gml_graph.specs.Named.{NamedGraph, ArrangeEdges}
+use Rattle.gml_graph.specs.Named.{NamedGraph, ArrangeEdges, IsNamed}
 use Rattle.skel_embed.specs.Block.{BlockState, lock_at, IsBlockState}
 use Rattle.skel_embed.specs.Taken.{IsGiven, IsTakeRefusal}
 use Rattle.skel_embed.specs.declared.planes.Outcome.{Outcome}
@@ -87,6 +88,21 @@ block-started g lists edges old new s t = record {
 }
 
 -- ---- the blocks, one after another
+
+-- a graph with a block has a vertex
+pub block-vertex : (g : Multigraph) (blocks : List (List ℕ)) (b : ℕ) → IsGraph g → AreBlocks g blocks → b < length blocks → 0 < g.vertex_count
+block-vertex g blocks b graph are l = omega (arith, graph.first_in (slice_index (block_at blocks b) 0) (block-edges_in g blocks b are l 0 (are.not_empty b l)))
+
+-- where the file gives no start they stay at their first rotation systems
+pub first-stay : (named : NamedGraph) (structure : BlockStructure) (views : List BlockView) → IsGraph named.graph → IsBlockStructure named.graph structure → (named.start ≡ None) ⊎ (named.graph.vertex_count ≡ 0)
+    → AreStartBlocks None named.graph structure.blocks (length structure.blocks) views → AreStartBlocks named.start named.graph structure.blocks (length structure.blocks) views
+first-stay named structure views graph is (inl none) h = subst (λ (s : Option (List (List ℕ))). AreStartBlocks s named.graph structure.blocks (length structure.blocks) views) (sym none) h
+first-stay named structure views graph is (inr none) h = record { one_each = h.one_each; each = λ b l. absurd (omega (arith, none, block-vertex named.graph structure.blocks b graph is.blocks l)) }
+
+-- the lists of a start arrange the edges
+pub start-arranges : (named : NamedGraph) (lists : List (List ℕ)) → IsNamed named → named.start ≡ Some lists → ArrangeEdges named.graph lists
+start-arranges named lists n e = subst (λ (o : Option (List (List ℕ))). IfSome o (ArrangeEdges named.graph)) e n.start
+
 
 module _ (named : NamedGraph) (structure : BlockStructure) (is : IsBlockStructure named.graph structure) (lists : List (List ℕ)) (told : named.start ≡ Some lists) where
   abbrev block : ℕ → List ℕ

@@ -1,5 +1,7 @@
 // The start of a session that a file gives.
-ghost use Rattle.std.specs.Prelude.{◌≡◌, length, None, IfOk, IfErr};
+ghost use Rattle.std.specs.Prelude.{◌≡◌, ◌⊎◌, length, None, IfOk, IfErr, IsSome, IsTrue, IsFalse};
+ghost use Rattle.multigraph.specs.Graph.{IsGraph};
+ghost use Rattle.gml_graph.specs.Named.{IsNamed};
 ghost use Rattle.blocks.specs.Blocks.{IsBlockStructure};
 ghost use Rattle.spqr_session.specs.Embedded.{AreStartBlocks};
 ghost use Rattle.spqr_session.specs.Start.{IsStartRefusal};
@@ -13,6 +15,17 @@ use gml_graph::Named;
 use rotations::Lists;
 use skel_embed::TakeFault;
 use std::alloc::Global;
+
+// Whether the file gives a start to a graph with a vertex.
+fn has_start(named: &Named) -> bool
+    ensures some { IsTrue result → IsSome named.now.start }
+    ensures none { IsFalse result
+        → (named.now.start ≡ None) ⊎ (named.now.graph.vertex_count ≡ 0) }
+    ensures graph { IsGraph named.now.graph }
+    ensures named { IsNamed named.now }
+{
+    named.graph().vertex_count() > 0 && named.start(0).is_some()
+}
 
 // Brings block `b` to the rotation system that its lists are, if it is planar.
 fn start_block(
@@ -51,7 +64,7 @@ pub(crate) fn take_starts(
         (length blocks.now.blocks) embedded.new.items) }
     ensures refused { IfErr result (IsStartRefusal named.now) }
 {
-    if !named.has_start() {
+    if !has_start(named) {
         return Ok(());
     }
     let lists = start_lists(alloc, named, blocks)?;
