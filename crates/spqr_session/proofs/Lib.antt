@@ -21,7 +21,7 @@ pub mod MembersCarried
 pub mod GivenParts
 pub mod Takings
 pub mod StartFaults
-pub mod Starting
+pub mod StartSteps
 pub mod LowestPlans
 pub mod TakeCarried
 pub mod ConvertCarried

@@ -20,7 +20,7 @@ use Rattle.spqr_session.specs.State.{Embedding, Family, State, entry_at, IsEntry
 use Rattle.spqr_session.specs.Commands.Gml.{present_lists, marks}
 use Rattle.spqr_session.specs.Laws.{IsReadBack}
 use Rattle.spqr_session.proofs.StartFaults.{given-not_bad}
-use Rattle.spqr_session.proofs.Starting.{block-vertex}
+use Rattle.spqr_session.proofs.StartSteps.{block-vertex}
 use Rattle.spqr_session.proofs.StartLists.{part-vertex}
 use Rattle.spqr_session.proofs.NumbersAt.{present-arranged, present-given}
 

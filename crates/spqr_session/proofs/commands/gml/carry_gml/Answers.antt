@@ -6,4 +6,4 @@ use Rattle.spqr_session.proofs.commands.gml.carry_gml.Goals as goal
 pub present_texts-requires : goal.present_texts-requires
 present_texts-requires c =
     let of = c.requires in
-    (c.args.graph.now, of.structure.blocks, c.vertex_count.ensures, of.graph, of.trees)
+    (c.args.graph.now, of.structure.blocks, sym c.vertex_count.ensures.value, of.graph, of.trees)
