@@ -1,10 +1,11 @@
 // Copies of documents in which each node carries a text.
 
-ghost use Rattle.std.specs.Prelude.{◌≡◌, ◌×◌, IfOk, List, ℕ, map, option_map};
+ghost use Rattle.std.specs.Prelude.{◌≡◌, IfOk, map, option_map};
 ghost use Rattle.std.specs.Slice.Iter.{iter_rest};
 ghost use Rattle.gml_text.specs.Pairs.{document_of};
 ghost use Rattle.gml_text.specs.declared.document.Value.TheVariants.{Str, List as Inner};
-ghost use Rattle.gml_graph.specs.Marked.{start_key, put_first, mark_nodes, marked, AreQuotable, list_under, IsPut, IsMarkedNode, IsMarkedGraph};
+ghost use Rattle.gml_graph.specs.Start.{start_key};
+ghost use Rattle.gml_graph.specs.Marked.{put_first, mark_nodes, marked, AreQuotable, list_under, IsPut, IsMarkedNode, IsMarkedGraph};
 
 use gml_text::{Bytes, Doc, Pair, Pairs, Value};
 use std::alloc::{AllocError, Global};
@@ -56,12 +57,7 @@ fn text_pair(alloc: Global, text: &[u8]) -> Result<Pair, AllocError>
 }
 
 // The copy of a pair of a node: this text if the pair is the first under the key of starts, which is noted then.
-fn put_pair(
-    alloc: Global,
-    pair: &Pair,
-    text: &[u8],
-    put: &mut bool,
-) -> Result<Pair, AllocError>
+fn put_pair(alloc: Global, pair: &Pair, text: &[u8], put: &mut bool) -> Result<Pair, AllocError>
     ensures { IfOk result (λ copy. IsPut text.now put.old pair.now copy put.new) }
 {
     if *put {
