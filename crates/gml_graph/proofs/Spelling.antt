@@ -1,5 +1,5 @@
 -- The numbers of a text, read byte by byte.
-use Rattle.std.proofs.Common.{◌≡◌, ℕ, ◌<◌, ◌≤◌, ◌+◌, ◌^◌, true, false, not, ◌&&◌, ◌*◌, ◌-◌, ◌==◌, cond, ltb, List, [], ◌∷◌, ◌++◌, length, drop, get_or, Option, Some, None, option_map, refl, sym, ap, ◌∙◌, subst, inl, inr, arith, append_assoc, append-nil}
+use Rattle.std.proofs.Common.{◌≡◌, ℕ, ◌<◌, ◌+◌, ◌^◌, true, false, not, ◌&&◌, ◌*◌, ◌-◌, ◌==◌, ltb, List, [], ◌∷◌, ◌++◌, length, drop, get_or, Option, Some, None, option_map, refl, sym, ap, ◌∙◌, subst, inl, inr, arith, append_assoc}
 use Rattle.std.specs.Prelude.{IfSome}
 use Rattle.std.specs.Option.{unwrap_or}
 use Rattle.std.specs.List.{filter, slice_split, onto_first}
@@ -7,10 +7,10 @@ use Rattle.std.specs.Char.{is_ascii_digit}
 use Rattle.std.proofs.lemmas.Bool.{cases_Bool, cond-true, cond-false, lt-ltb, ltb-true, ne_eqb, and_parts}
 use Rattle.std.proofs.lemmas.Option.{cond_some}
 use Rattle.std.proofs.lemmas.List.{drop_more}
-use Rattle.decimals.specs.Number.{number_below, with_digit}
+use Rattle.decimals.specs.Number.{with_digit}
 use Rattle.decimals.proofs.Digits.{number_behind, number_from_none, digit_taken, digit_refused}
 use Rattle.gml_text.specs.Bytes.{is_white}
-use Rattle.gml_graph.specs.Start.{words, with_first, numbers_of, spelled_numbers}
+use Rattle.gml_graph.specs.Start.{with_first, numbers_of, spelled_numbers}
 
 -- the numbers that the pieces of a text between whitespace spell, those without bytes left out
 abbrev pub piece_numbers : List (List ℕ) → Option (List ℕ)

@@ -1,22 +1,18 @@
 -- The start that nodes give, and that its lists arrange the edges.
-use Rattle.std.proofs.Common.{◌≡◌, ℕ, ◌+◌, ◌<◌, ◌≤◌, Bool, true, false, ◌==◌, cond, List, [], ◌∷◌, ◌++◌, length, map, drop, get_or, Option, Some, None, Result, Ok, Err, refl, ap, sym, ◌∙◌, subst, arith, append-nil}
+use Rattle.std.proofs.Common.{◌≡◌, ℕ, ◌+◌, ◌<◌, Bool, true, false, cond, List, [], ◌∷◌, ◌++◌, length, get_or, Option, Some, None, Result, Ok, Err, refl, ap, sym, ◌∙◌, subst, arith}
 use Rattle.std.specs.Prelude.{IfSome}
-use denote.Ref.{Bor}
 use Rattle.std.specs.List.Sorted.{IsPermutation}
-use Rattle.std.proofs.lemmas.Bool.{cond-true, cond-false}
-use Rattle.std.proofs.lemmas.List.{drop_more}
 use Rattle.multigraph.specs.Graph.{Multigraph, incident_edges}
 use Rattle.gml_text.specs.Document.{Document}
 use Rattle.gml_graph.specs.Arranged.{is_arrangement}
 use Rattle.gml_graph.specs.Each.{and_one_more, each_below}
-use Rattle.gml_graph.specs.Named.{NamedGraph, ArrangeEdges}
+use Rattle.gml_graph.specs.Named.{ArrangeEdges}
 use Rattle.gml_graph.specs.Start.{start_key, start_text, with_first, spelled_numbers, arranged_list, list_by, texts_of, start_texts, lists_by, as_start, start_by}
 use Rattle.gml_graph.specs.declared.fault.GraphFault.{GraphFault}
 use Rattle.gml_graph.specs.declared.fault.GraphFault.TheVariants.{StartVertex}
 use Rattle.gml_graph.proofs.Arranged.{passes-arranged}
 use Rattle.gml_graph.proofs.Each.{each_below-refused, each_below-more, each_below-length}
 use Rattle.gml_graph.proofs.Sound.{each_below-at}
-use Rattle.gml_graph.proofs.Spelling.{put_behind, put_one}
 
 -- ---- the list of a vertex
 

@@ -1,5 +1,5 @@
 -- Two graph lists or more.
-use Rattle.std.proofs.Common.{◌≡◌, ◌≤◌, List, map, codes, length, arith, ap, sym, ◌∙◌}
+use Rattle.std.proofs.Common.{◌≤◌, List, map, length, arith, ap, sym, ◌∙◌}
 use Rattle.std.proofs.lemmas.List.{length-map}
 use Rattle.gml_text.specs.Document.{Document}
 use Rattle.gml_graph.specs.Answer.{graph_among}

@@ -1,5 +1,5 @@
 -- The sorted numbers are the edges exactly where the numbers are a permutation of these.
-use Rattle.std.proofs.Common.{sym, ap, ◌∙◌}
+use Rattle.std.proofs.Common.{sym, ◌∙◌}
 use Rattle.std.proofs.lemmas.Bool.Decides.{Decides-eqb}
 use Rattle.std.proofs.lemmas.Slice.Eq.{slice_eq-Decides}
 use Rattle.gml_graph.proofs.SortedEdges.{sorted-decides}

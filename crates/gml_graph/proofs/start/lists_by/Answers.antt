@@ -2,7 +2,7 @@
 use Rattle.std.proofs.Common.{◌<◌, [], List, ℕ, length, map, arith}
 use Rattle.std.proofs.lemmas.List.{length-map, get_or-map}
 use Rattle.std.proofs.lemmas.Result.{err_from_is_err_and}
-use Rattle.gml_graph.specs.Start.{list_by, lists_by}
+use Rattle.gml_graph.specs.Start.{lists_by}
 use Rattle.gml_graph.proofs.Each.{Refuses-passed}
 use Rattle.gml_graph.proofs.Starts.{lists_by-more, lists_by-refused}
 use Rattle.gml_graph.proofs.start.lists_by.Goals as goal
