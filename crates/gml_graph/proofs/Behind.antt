@@ -1,12 +1,13 @@
 -- A refusal of the edges or of the start is one of the graph.
-use Rattle.std.proofs.Common.{◌≡◌, ℕ, ℤ, ◌≤◌, false, nat_lt, List, length, Option, None, Result, Ok, Err, refl, ap, ◌∙◌, arith}
+use Rattle.std.proofs.Common.{◌≡◌, ℕ, ℤ, ◌≤◌, false, nat_lt, List, [], ◌∷◌, length, Option, None, Result, Ok, Err, refl, ap, ◌∙◌, arith}
 use Rattle.std.proofs.lemmas.Bool.Decides.{nat_tests}
 use Rattle.multigraph.specs.Graph.{max_vertices, max_edges}
 use Rattle.multigraph.specs.Build.{multigraph_of}
 use Rattle.gml_text.specs.Document.{Document}
 use Rattle.gml_graph.specs.Start.{start_texts, start_by, put_start, with_start}
-use Rattle.gml_graph.specs.Answer.{Refuses, edge_ends, graph_between, node_ids, with_ends}
+use Rattle.gml_graph.specs.Answer.{Refuses, edge_ends, graph_between, graph_among, node_ids, with_ends}
 use Rattle.gml_graph.specs.declared.fault.GraphFault.{GraphFault}
+use Rattle.gml_graph.specs.declared.fault.GraphFault.TheVariants.{MoreGraphs}
 use Rattle.gml_graph.proofs.Each.{Refuses-passed}
 
 -- where there are few nodes and edges, and the nodes have these ids
@@ -35,3 +36,9 @@ module _ (nodes edges : List Document) (ids : List ℤ) (few : length nodes ≤ 
   pub start-accepted : (ends : List (ℕ × ℕ)) (start : Option (List (List ℕ))) → edge_ends ids edges ≡ Ok ends → start_by (multigraph_of (length ids) ends) (start_texts nodes) ≡ Ok start
       → graph_between nodes edges ≡ Ok (record { graph = multigraph_of (length ids) ends; ids = ids; start = start })
   start-accepted ends start accepted same = started ends (Ok start) accepted same
+
+-- two graph lists or more
+pub graphs-many : (graphs : List Document) → 2 ≤ length graphs → graph_among graphs ≡ Err MoreGraphs
+graphs-many [] l = absurd (omega arith)
+graphs-many (g ∷ []) l = absurd (omega arith)
+graphs-many (g ∷ (h ∷ graphs)) l = refl

@@ -136,10 +136,10 @@ texts a b c = graph (turned (codes "0") a (turned (codes "1") b (turned (codes "
     (edge (codes "0") (codes "1") (edge (codes "1") (codes "0") (edge (codes "1") (codes "2") empty))))))
 
 started : graph_of_document (texts (codes "1 0") (codes "2 00 1") (codes " 2")) ≡ Ok (record {
-    graph = record { vertex_count = 3; ends = (0, 1) ∷ (1, 0) ∷ (1, 2) ∷ [] };
-    ids = pos 0 ∷ pos 1 ∷ pos 2 ∷ [];
-    start = Some ((1 ∷ 0 ∷ []) ∷ (2 ∷ 0 ∷ 1 ∷ []) ∷ (2 ∷ []) ∷ []);
-  })
+  graph = record { vertex_count = 3; ends = (0, 1) ∷ (1, 0) ∷ (1, 2) ∷ [] };
+  ids = pos 0 ∷ pos 1 ∷ pos 2 ∷ [];
+  start = Some ((1 ∷ 0 ∷ []) ∷ (2 ∷ 0 ∷ 1 ∷ []) ∷ (2 ∷ []) ∷ []);
+})
 started = refl
 
 first_vertex_counts : graph_of_document (texts (codes "1 0") (codes "2 0 0") (codes "a")) ≡ Err (StartVertex 1)

@@ -133,12 +133,9 @@ between-marked : (nodes edges : List Document) (named : NamedGraph) (lists : Lis
 between-marked nodes edges named lists limits h arrange =
     by_limits (nat_lt max_vertices (length nodes)) (nat_lt max_edges (length edges)) refl refl h
   where
-    texts : List (List ℕ)
-    texts = map numbers_text lists
-
-    started : with_start nodes (with_ids edges (node_ids nodes)) ≡ Ok named → with_start (put_each texts nodes) (with_ids edges (node_ids (put_each texts nodes))) ≡ Ok (record { graph = named.graph; ids = named.ids; start = told_lists lists })
-    unfolding texts
+    started : with_start nodes (with_ids edges (node_ids nodes)) ≡ Ok named → with_start (put_each (map numbers_text lists) nodes) (with_ids edges (node_ids (put_each (map numbers_text lists) nodes))) ≡ Ok (record { graph = named.graph; ids = named.ids; start = told_lists lists })
     started accepted =
+        let texts : List (List ℕ) = map numbers_text lists in
         let s = with-started nodes (with_ids edges (node_ids nodes)) named accepted in
         let same : with_ids edges (node_ids (put_each texts nodes)) ≡ Ok s.before = ap (with_ids edges) (node_ids-put_each texts nodes) ∙ s.was in
         let count : length nodes ≡ named.graph.vertex_count =
@@ -151,10 +148,11 @@ between-marked nodes edges named lists limits h arrange =
 
     by_limits : (big wide : Bool) → nat_lt max_vertices (length nodes) ≡ big → nat_lt max_edges (length edges) ≡ wide → let v : Result NamedGraph GraphFault = Err (TooManyVertices (length nodes)) in let e : Result NamedGraph GraphFault = Err (TooManyEdges (length edges)) in cond big v (cond wide e (with_start nodes (with_ids edges (node_ids nodes)))) ≡ Ok named
         → graph_between (put_each (map numbers_text lists) nodes) edges ≡ Ok (record { graph = named.graph; ids = named.ids; start = told_lists lists })
-    unfolding texts
     by_limits true wide b w r = absurd (cc)
     by_limits false true b w r = absurd (cc)
-    by_limits false false b w r = rw (length-put_each texts nodes, b, w) (started r)
+    by_limits false false b w r =
+        let few : nat_lt max_vertices (length (put_each (map numbers_text lists) nodes)) ≡ false = ap (nat_lt max_vertices) (length-put_each (map numbers_text lists) nodes) ∙ b in
+        rw (few, w) (started r)
 
 among-marked : (graphs : List Document) (named : NamedGraph) (lists : List (List ℕ)) → IsWithinLimits named.graph → graph_among graphs ≡ Ok named → ArrangeEdges named.graph lists
     → graph_among (mark_head (map numbers_text lists) graphs) ≡ Ok (record { graph = named.graph; ids = named.ids; start = told_lists lists })

@@ -1,16 +1,16 @@
 -- The numbers of a text, read byte by byte.
-use Rattle.std.proofs.Common.{◌≡◌, ℕ, ◌<◌, ◌≤◌, ◌+◌, ◌^◌, true, false, not, ◌==◌, cond, ltb, List, [], ◌∷◌, ◌++◌, length, drop, get_or, Option, Some, None, option_map, refl, sym, ap, ◌∙◌, subst, inl, inr, arith, append_assoc, append-nil}
+use Rattle.std.proofs.Common.{◌≡◌, ℕ, ◌<◌, ◌+◌, ◌^◌, true, false, not, ◌&&◌, ◌*◌, ◌-◌, ◌==◌, ltb, List, [], ◌∷◌, ◌++◌, length, drop, get_or, Option, Some, None, option_map, refl, sym, ap, ◌∙◌, subst, inl, inr, arith, append_assoc}
 use Rattle.std.specs.Prelude.{IfSome}
 use Rattle.std.specs.Option.{unwrap_or}
 use Rattle.std.specs.List.{filter, slice_split, onto_first}
 use Rattle.std.specs.Char.{is_ascii_digit}
-use Rattle.std.proofs.lemmas.Bool.{cases_Bool, cond-true, cond-false, lt-ltb, ltb-true, and_parts}
+use Rattle.std.proofs.lemmas.Bool.{cases_Bool, cond-true, cond-false, lt-ltb, ltb-true, ne_eqb, and_parts}
 use Rattle.std.proofs.lemmas.Option.{cond_some}
 use Rattle.std.proofs.lemmas.List.{drop_more}
-use Rattle.decimals.specs.Number.{number_below, with_digit}
+use Rattle.decimals.specs.Number.{with_digit}
 use Rattle.decimals.proofs.Digits.{number_behind, number_from_none, digit_taken, digit_refused}
 use Rattle.gml_text.specs.Bytes.{is_white}
-use Rattle.gml_graph.specs.Start.{words, with_first, numbers_of, spelled_numbers}
+use Rattle.gml_graph.specs.Start.{with_first, numbers_of, spelled_numbers}
 
 -- the numbers that the pieces of a text between whitespace spell, those without bytes left out
 abbrev pub piece_numbers : List (List ℕ) → Option (List ℕ)
@@ -44,10 +44,10 @@ split_some [] = ([], [], refl)
 split_some (b ∷ text) = elim (cases_Bool (is_white b)) [
   | inl white ↦ ([], slice_split is_white text, cond-true (is_white b) ([] ∷ slice_split is_white text) (onto_first b (slice_split is_white text)) white)
   | inr other ↦ let first = split_some text in (
-      b ∷ first.0,
-      first.1,
-      cond-false (is_white b) ([] ∷ slice_split is_white text) (onto_first b (slice_split is_white text)) other ∙ ap (onto_first b) first.2,
-    )
+    b ∷ first.0,
+    first.1,
+    cond-false (is_white b) ([] ∷ slice_split is_white text) (onto_first b (slice_split is_white text)) other ∙ ap (onto_first b) first.2,
+  )
 ]
 
 split_white : (b : ℕ) (text : List ℕ) → is_white b ≡ true → slice_split is_white (b ∷ text) ≡ [] ∷ slice_split is_white text
@@ -78,7 +78,11 @@ white-number numbers n b text below white =
 
 -- another byte after the digits so far
 after_byte : (current : Option ℕ) (b : ℕ) (piece : List ℕ) (pieces : List (List ℕ)) → after_digits current ((b ∷ piece) ∷ pieces) ≡ with_first (number_behind (2 ^ 32) (unwrap_or current 0) (b ∷ piece)) (piece_numbers pieces)
-after_byte None b piece pieces = ap (λ first. with_first first (piece_numbers pieces)) (number_from_none (2 ^ 32) (b ∷ piece) (omega arith))
+after_byte None b piece pieces =
+    let filled : not (length (b ∷ piece) == 0) ≡ true = ap not (ne_eqb (length (b ∷ piece)) 0 (λ e. omega (arith, e))) in
+    let rest : List (List ℕ) = filter (λ word. not (length word == 0)) pieces in
+    ap numbers_of (cond-true (not (length (b ∷ piece) == 0)) ((b ∷ piece) ∷ rest) rest filled)
+    ∙ ap (λ first. with_first first (piece_numbers pieces)) (number_from_none (2 ^ 32) (b ∷ piece) (omega arith))
 after_byte (Some n) b piece pieces = refl
 
 -- a digit more
@@ -105,10 +109,25 @@ digit-below value digit next e =
     let a = and_parts (is_ascii_digit digit) (ltb (value * 10 + (digit - 48)) (2 ^ 32)) p.0 in
     subst (λ (n : ℕ). n < 2 ^ 32) p.1 (ltb-true (value * 10 + (digit - 48)) (2 ^ 32) a.1)
 
--- the end, where no number is being read
-pub end-nothing : (numbers : List ℕ) → spelled_from numbers None [] ≡ Some numbers
-end-nothing numbers = ap Some (append-nil numbers)
+-- ---- one byte of a text
 
--- the end ends a number
-pub end-number : (numbers : List ℕ) (n : ℕ) → n < 2 ^ 32 → spelled_from numbers (Some n) [] ≡ Some (numbers ++ n ∷ [])
-end-number numbers n below = ap (λ first. put_behind numbers (with_first first (Some []))) (behind_nothing n below)
+module _ (text : List ℕ) (i : ℕ) (numbers : List ℕ) (current : Option ℕ) (l : i < length text) (so_far : spelled_from numbers current (drop i text) ≡ spelled_numbers text) where
+  here : spelled_from numbers current (get_or text i 0 ∷ drop (i + 1) text) ≡ spelled_numbers text
+  here = ap (spelled_from numbers current) (sym (drop_more text i 0 l)) ∙ so_far
+
+  pub step-white : current ≡ None → is_white (get_or text i 0) ≡ true → spelled_from numbers current (drop (i + 1) text) ≡ spelled_numbers text
+  step-white none white =
+      ap (λ c. spelled_from numbers c (drop (i + 1) text)) none
+      ∙ sym (white-nothing numbers (get_or text i 0) (drop (i + 1) text) white)
+      ∙ ap (λ c. spelled_from numbers c (get_or text i 0 ∷ drop (i + 1) text)) (sym none) ∙ here
+
+  pub step-number : (n : ℕ) → current ≡ Some n → IfSome current (λ number. number < 2 ^ 32) → is_white (get_or text i 0) ≡ true → spelled_from (numbers ++ n ∷ []) None (drop (i + 1) text) ≡ spelled_numbers text
+  step-number n some below white =
+      sym (white-number numbers n (get_or text i 0) (drop (i + 1) text) (subst (λ (o : Option ℕ). IfSome o (λ number. number < 2 ^ 32)) some below) white)
+      ∙ ap (λ c. spelled_from numbers c (get_or text i 0 ∷ drop (i + 1) text)) (sym some) ∙ here
+
+  pub step-digit : (value next : ℕ) → value ≡ unwrap_or current 0 → is_white (get_or text i 0) ≡ false → Some next ≡ with_digit (2 ^ 32) value (get_or text i 0) → spelled_from numbers (Some next) (drop (i + 1) text) ≡ spelled_numbers text
+  step-digit value next is other e = sym (digit-more numbers current (get_or text i 0) next (drop (i + 1) text) other (ap (λ v. with_digit (2 ^ 32) v (get_or text i 0)) (sym is) ∙ sym e)) ∙ here
+
+  pub step-none : (value : ℕ) → value ≡ unwrap_or current 0 → is_white (get_or text i 0) ≡ false → None ≡ with_digit (2 ^ 32) value (get_or text i 0) → None ≡ spelled_numbers text
+  step-none value is other e = sym (digit-none numbers current (get_or text i 0) (drop (i + 1) text) other (ap (λ v. with_digit (2 ^ 32) v (get_or text i 0)) (sym is) ∙ sym e)) ∙ here

@@ -1,33 +1,20 @@
 -- The start that nodes give, and that its lists arrange the edges.
-use Rattle.std.proofs.Common.{◌≡◌, ℕ, ◌+◌, ◌<◌, ◌≤◌, Bool, true, false, ◌==◌, cond, List, [], ◌∷◌, ◌++◌, length, map, drop, get_or, Option, Some, None, Result, Ok, Err, refl, ap, sym, ◌∙◌, subst, arith, append-nil}
+use Rattle.std.proofs.Common.{◌≡◌, ℕ, ◌+◌, ◌<◌, Bool, true, false, cond, List, [], ◌∷◌, ◌++◌, length, get_or, Option, Some, None, Result, Ok, Err, refl, ap, sym, ◌∙◌, subst, arith}
 use Rattle.std.specs.Prelude.{IfSome}
-use denote.Ref.{Bor}
 use Rattle.std.specs.List.Sorted.{IsPermutation}
-use Rattle.std.proofs.lemmas.Bool.{cond-true, cond-false}
-use Rattle.std.proofs.lemmas.List.{drop_more}
 use Rattle.multigraph.specs.Graph.{Multigraph, incident_edges}
 use Rattle.gml_text.specs.Document.{Document}
 use Rattle.gml_graph.specs.Arranged.{is_arrangement}
 use Rattle.gml_graph.specs.Each.{and_one_more, each_below}
-use Rattle.gml_graph.specs.Named.{NamedGraph, ArrangeEdges}
+use Rattle.gml_graph.specs.Named.{ArrangeEdges}
 use Rattle.gml_graph.specs.Start.{start_key, start_text, with_first, spelled_numbers, arranged_list, list_by, texts_of, start_texts, lists_by, as_start, start_by}
 use Rattle.gml_graph.specs.declared.fault.GraphFault.{GraphFault}
 use Rattle.gml_graph.specs.declared.fault.GraphFault.TheVariants.{StartVertex}
 use Rattle.gml_graph.proofs.Arranged.{passes-arranged}
 use Rattle.gml_graph.proofs.Each.{each_below-refused, each_below-more, each_below-length}
 use Rattle.gml_graph.proofs.Sound.{each_below-at}
-use Rattle.gml_graph.proofs.Spelling.{put_behind, put_one}
 
 -- ---- the list of a vertex
-
-pub list_by-arranged : (g : Multigraph) (v : ℕ) (text numbers : List ℕ) → Some numbers ≡ spelled_numbers text → is_arrangement (incident_edges g v) numbers ≡ true → list_by g v text ≡ Ok numbers
-list_by-arranged g v text numbers e t = ap (arranged_list g v) (sym e) ∙ cond-true (is_arrangement (incident_edges g v) numbers) (Ok numbers) (Err (StartVertex v)) t
-
-pub list_by-other : (g : Multigraph) (v : ℕ) (text numbers : List ℕ) → Some numbers ≡ spelled_numbers text → is_arrangement (incident_edges g v) numbers ≡ false → list_by g v text ≡ Err (StartVertex v)
-list_by-other g v text numbers e t = ap (arranged_list g v) (sym e) ∙ cond-false (is_arrangement (incident_edges g v) numbers) (Ok numbers) (Err (StartVertex v)) t
-
-pub list_by-none : (g : Multigraph) (v : ℕ) (text : List ℕ) → None ≡ spelled_numbers text → list_by g v text ≡ Err (StartVertex v)
-list_by-none g v text e = ap (arranged_list g v) (sym e)
 
 -- a list that is accepted arranges the edges
 list-permutes : (g : Multigraph) (v : ℕ) (read : Option (List ℕ)) (list : List ℕ) → arranged_list g v read ≡ Ok list → IsPermutation (incident_edges g v) list
@@ -75,48 +62,10 @@ pub start_texts-long : (nodes : List Document) (texts : List (List ℕ)) → sta
 start_texts-long [] texts e = absurd (cc)
 start_texts-long (node ∷ nodes) texts e = texts_of-long (node ∷ nodes) texts e
 
--- where there is a node
-pub start_texts-filled : (nodes : List Document) → 0 < length nodes → start_texts nodes ≡ texts_of nodes
-start_texts-filled [] l = absurd (omega arith)
-start_texts-filled (node ∷ nodes) l = refl
-
-pub start_texts-empty : (nodes : List Document) → length nodes ≡ 0 → start_texts nodes ≡ None
-start_texts-empty [] l = refl
-start_texts-empty (node ∷ nodes) l = absurd (omega arith)
-
--- the nodes from place i on
-nodes-next : (nodes : List (Bor Document)) (i : ℕ) (node : Bor Document) → i < length nodes → node ≡ get_or nodes i node → map (λ b. b.now) (drop i nodes) ≡ node.now ∷ map (λ b. b.now) (drop (i + 1) nodes)
-nodes-next nodes i node l e = ap (map (λ b. b.now)) (drop_more nodes i node l) ∙ ap (λ (b : Bor Document). b.now ∷ map (λ b. b.now) (drop (i + 1) nodes)) (sym e)
-
--- one text more
-pub texts-more : (nodes : List (Bor Document)) (i : ℕ) (node : Bor Document) (found : List (List ℕ)) (text : List ℕ) (whole : Option (List (List ℕ))) → i < length nodes → node ≡ get_or nodes i node
-    → put_behind found (texts_of (map (λ b. b.now) (drop i nodes))) ≡ whole → start_text start_key node.now ≡ Some text → put_behind (found ++ text ∷ []) (texts_of (map (λ b. b.now) (drop (i + 1) nodes))) ≡ whole
-texts-more nodes i node found text whole l e h t =
-    sym (put_one found text (texts_of (map (λ b. b.now) (drop (i + 1) nodes))))
-    ∙ ap (λ first. put_behind found (with_first first (texts_of (map (λ b. b.now) (drop (i + 1) nodes))))) (sym t)
-    ∙ ap (λ docs. put_behind found (texts_of docs)) (sym (nodes-next nodes i node l e)) ∙ h
-
--- no text
-pub texts-none : (nodes : List (Bor Document)) (i : ℕ) (node : Bor Document) (found : List (List ℕ)) (whole : Option (List (List ℕ))) → i < length nodes → node ≡ get_or nodes i node
-    → put_behind found (texts_of (map (λ b. b.now) (drop i nodes))) ≡ whole → start_text start_key node.now ≡ None → None ≡ whole
-texts-none nodes i node found whole l e h t =
-    ap (λ first. put_behind found (with_first first (texts_of (map (λ b. b.now) (drop (i + 1) nodes))))) (sym t)
-    ∙ ap (λ docs. put_behind found (texts_of docs)) (sym (nodes-next nodes i node l e)) ∙ h
-
--- all texts
-pub texts-end : (found : List (List ℕ)) → put_behind found (Some []) ≡ Some found
-texts-end found = ap Some (append-nil found)
-
 -- ---- the start
 
 pub start-given : (g : Multigraph) (nodes : List Document) (texts lists : List (List ℕ)) → Some texts ≡ start_texts nodes → lists_by g texts ≡ Ok lists → start_by g (start_texts nodes) ≡ Ok (Some lists)
 start-given g nodes texts lists e h = ap (start_by g) (sym e) ∙ ap as_start h
-
-pub start-refused : (g : Multigraph) (nodes : List Document) (texts : List (List ℕ)) (fault : GraphFault) → Some texts ≡ start_texts nodes → lists_by g texts ≡ Err fault → start_by g (start_texts nodes) ≡ Err fault
-start-refused g nodes texts fault e h = ap (start_by g) (sym e) ∙ ap as_start h
-
-pub start-none : (g : Multigraph) (nodes : List Document) → None ≡ start_texts nodes → start_by g (start_texts nodes) ≡ Ok None
-start-none g nodes e = ap (start_by g) (sym e)
 
 -- the lists of a start that is accepted arrange the edges
 pub start-arranges : (g : Multigraph) (nodes : List Document) (start : Option (List (List ℕ))) → length nodes ≡ g.vertex_count → start_by g (start_texts nodes) ≡ Ok start → IfSome start (ArrangeEdges g)

@@ -63,7 +63,7 @@ AreQuotable texts = All IsQuotable texts
 -- the start that lists are: a graph without vertices has none
 abbrev pub told_lists : List (List ℕ) → Option (List (List ℕ))
 told_lists [] = None
-told_lists (list ∷ lists) = Some (list ∷ lists)
+told_lists (first ∷ others) = Some (first ∷ others)
 
 -- where lists arrange the edges of a document's graph, the document with their texts has the same graph, which starts at these lists
 abbrev pub StartsAtTexts : Document → Type 0

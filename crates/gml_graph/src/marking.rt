@@ -1,12 +1,14 @@
 // Copies of documents in which each node carries a text.
 
-ghost use Rattle.std.specs.Prelude.{◌≡◌, ◌×◌, IfOk, List, ℕ, map, option_map};
+ghost use Rattle.std.specs.Prelude.{◌≡◌, IfOk, OnOk, map, option_map};
 ghost use Rattle.std.specs.Slice.Iter.{iter_rest};
 ghost use Rattle.gml_text.specs.Pairs.{document_of};
+ghost use Rattle.gml_text.specs.WellFormed.{IsWellFormed};
 ghost use Rattle.gml_text.specs.declared.document.Value.TheVariants.{Str, List as Inner};
-ghost use Rattle.gml_graph.specs.Marked.{start_key, put_first, mark_nodes, marked, AreQuotable, list_under, IsPut, IsMarkedNode, IsMarkedGraph};
+ghost use Rattle.gml_graph.specs.Start.{start_key};
+ghost use Rattle.gml_graph.specs.Marked.{put_first, mark_nodes, marked, AreQuotable, list_under, IsPut, IsMarkedNode, IsMarkedGraph};
 
-use gml_text::{Bytes, Doc, Pair, Pairs, Value};
+use gml_text::{Bytes, Doc, Pair, Pairs, Value, write};
 use std::alloc::{AllocError, Global};
 use std::slice::Iter;
 
@@ -56,12 +58,7 @@ fn text_pair(alloc: Global, text: &[u8]) -> Result<Pair, AllocError>
 }
 
 // The copy of a pair of a node: this text if the pair is the first under the key of starts, which is noted then.
-fn put_pair(
-    alloc: Global,
-    pair: &Pair,
-    text: &[u8],
-    put: &mut bool,
-) -> Result<Pair, AllocError>
+fn put_pair(alloc: Global, pair: &Pair, text: &[u8], put: &mut bool) -> Result<Pair, AllocError>
     ensures { IfOk result (λ copy. IsPut text.now put.old pair.now copy put.new) }
 {
     if *put {
@@ -144,6 +141,14 @@ fn marked_graph(
     }
 }
 
+// Shows that a document is well formed: outside of gml_text this is known only of a document that has been written.
+fn show_well_formed(alloc: Global, d: &Doc) -> Result<(), AllocError>
+    ensures { OnOk result (IsWellFormed d.now) }
+{
+    write(alloc, d)?;
+    Ok(())
+}
+
 /// A copy of a document in which the nodes of the first graph list carry these texts, in order.
 ///
 /// In each node the first pair under the key `spqrRotation` becomes a string of the text, whatever its value was; where there
@@ -154,6 +159,7 @@ pub fn marked(alloc: Global, d: &Doc, texts: &[Vec<u8>]) -> Result<Doc, AllocErr
     requires { AreQuotable (map (λ text. text.items) texts.now) }
     ensures { IfOk result (λ copy. copy ≡ marked (map (λ text. text.items) texts.now) d.now) }
 {
+    show_well_formed(alloc, d)?;
     let mut held = Vec::with_capacity(alloc, d.pairs().len())?;
     let mut found = false;
     for pair in d.pairs() {

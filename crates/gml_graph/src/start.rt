@@ -96,6 +96,7 @@ fn lists_by(alloc: Global, g: &Graph, texts: &[&[u8]]) -> Result<NumberLists, Gr
     requires { length texts.now ≤ g.now.vertex_count }
     ensures { Answers (lists_by g.now (map (λ text. text.now) texts.now)) (λ lists. lists) result }
 {
+    g.keeps_limits();
     let mut lists = Vec::with_capacity(alloc, texts.len())?;
     for (v, text) in texts.iter().enumerate() {
         lists.push(list_by(alloc, g, v as u32, text)?)?;

@@ -2,7 +2,8 @@
 use Rattle.std.proofs.Common.{◌≡◌, drop}
 use Rattle.gml_text.specs.Document.{append}
 use Rattle.gml_text.specs.Pairs.{document_of}
-use Rattle.gml_graph.specs.Marked.{start_key, put_first, put_unless}
+use Rattle.gml_graph.specs.Start.{start_key}
+use Rattle.gml_graph.specs.Marked.{put_first, put_unless}
 use Rattle.gml_graph.proofs.marking.with_text.Given as goal
 
 abbrev pub invariant-loop-pair : goal.invariant-loop-pair
