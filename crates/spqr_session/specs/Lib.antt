@@ -2,8 +2,10 @@
 pub mod Trees
 pub mod Certificates
 pub mod Setting
+pub mod Start
 pub mod State
 pub mod Embedded
+pub mod Starting
 pub mod Moved
 pub mod History
 pub mod Board
