@@ -49,7 +49,7 @@ not-taken part entries o none is = record {
   tree = refl;
   certificate = refl;
   right = is.entry;
-  entry = subst (λ (x : Option Embedding). IsEntryTaken part entries x x) (sym none) refl;
+  entry = subst (λ (x : Option Embedding). IsEntryTaken (block_view part o).tree.part entries x x) (sym none) refl;
 }
 
 -- what the block says of a refusal

@@ -1,5 +1,8 @@
-use Rattle.std.proofs.Common.{List, map, sym, ◌∙◌, subst}
-use Rattle.gml_graph.specs.Marked.{AreQuotable}
+use Rattle.std.proofs.Common.{◌≡◌, List, ℕ, map, sym, ap, ◌∙◌, subst}
+use Rattle.gml_graph.specs.Marked.{AreQuotable, marked}
+use Rattle.spqr_script.specs.Answers.Gml.{document_text}
+use Rattle.spqr_session.specs.Commands.Gml.{GmlStep}
+use Rattle.spqr_session.proofs.Steps.{text-map}
 use Rattle.spqr_session.proofs.GmlTexts.{marks-quotable, gml-carried}
 use Rattle.spqr_session.proofs.commands.gml.carry_gml.Goals as goal
 
