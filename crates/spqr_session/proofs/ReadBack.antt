@@ -7,7 +7,8 @@ use Rattle.gml_text.specs.Document.{Document}
 use Rattle.gml_graph.specs.Named.{NamedGraph, ArrangeEdges, IsNamed}
 use Rattle.gml_graph.specs.Marked.{marked, told_lists}
 use Rattle.gml_graph.proofs.Law.{sound_graph}
-use Rattle.gml_graph.proofs.MarkedLaw.{marked_start}
+use Rattle.gml_graph.proofs.MarkedForm.{marked_well_formed}
+use Rattle.gml_graph.proofs.MarkedLaw.{lists_quotable_by, marked_start}
 use Rattle.faces.specs.Euler.{IsPlaneSystem}
 use Rattle.kuratowski.specs.declared.subdivision.Subdivision.{Subdivision}
 use Rattle.rotations.specs.Rotation.{IsRotationSystem}
@@ -83,6 +84,7 @@ module _ (setting : Setting) (family : Family) (is : IsSetting setting) (right :
 
   pub read-back : IsReadBack setting family (marked (marks setting.named.graph.vertex_count setting.trees family) setting.document) read_named
   read-back = record {
+    well_formed = λ w. marked_well_formed (marks setting.named.graph.vertex_count setting.trees family) setting.document (lists_quotable_by setting.named.graph lists sound.1 arranged) w;
     read = marked_start setting.document setting.named lists is.graph arranged;
     graph = refl;
     ids = refl;
