@@ -1,5 +1,5 @@
 -- The graph of a document is within the limits and without loops, and each vertex has an id of its own.
-use Rattle.std.proofs.Common.{◌≡◌, ℕ, zero, suc, ◌≤◌, ℤ, Bool, true, false, cond, nat_lt, List, [], ◌∷◌, length, take, get_or, codes, Result, Ok, Err, refl, sym, subst, arith}
+use Rattle.std.proofs.Common.{◌≡◌, ℕ, zero, suc, ◌≤◌, ℤ, Bool, true, false, cond, nat_lt, List, [], ◌∷◌, length, take, get_or, codes, Option, None, Result, Ok, Err, refl, sym, ◌∙◌, subst, arith}
 use Rattle.std.proofs.lemmas.Bool.Decides.{nat_tests}
 use Rattle.std.proofs.lemmas.Cmp.{int_eq_equiv}
 use Rattle.std.proofs.lemmas.Map.Keys.{IsDistinct-push}
@@ -10,6 +10,7 @@ use Rattle.multigraph.specs.Build.{multigraph_of}
 use Rattle.gml_text.specs.Document.{Document, empty}
 use Rattle.gml_graph.specs.Named.{NamedGraph, IsNamed}
 use Rattle.gml_graph.specs.Lists.{lists_under, first_under}
+use Rattle.gml_graph.specs.Start.{start_texts, start_by, put_start, with_start}
 use Rattle.gml_graph.specs.Answer.{each_below, said_ids, id_among, node_id, node_ids, edge_ends, with_ends, with_ids, graph_between, graph_among, HasSoundGraph}
 use Rattle.gml_graph.specs.declared.integers.Reading.{Reading}
 use Rattle.gml_graph.specs.declared.integers.Reading.TheVariants.{Missing, NotWhole, Whole}
@@ -18,6 +19,7 @@ use Rattle.gml_graph.specs.declared.fault.GraphFault.TheVariants.{SameId, TooMan
 use Rattle.gml_graph.proofs.Each.{one_more-accepted, each_below-length}
 use Rattle.gml_graph.proofs.Steps.{said_ids-accepted}
 use Rattle.gml_graph.proofs.Sound.{edge_ends-graph, edge_ends-limits}
+use Rattle.gml_graph.proofs.Starts.{start-arranges}
 
 -- an id that is accepted is none of the earlier ones
 pub id_among-new : (ids : List ℤ) (k : ℕ) (reading : Reading) (id : ℤ) → id_among ids k reading ≡ Ok id → list_any (int_eq id) ids ≡ false
@@ -42,35 +44,62 @@ node_ids-distinct nodes (suc k) ids l h =
     (id_among-new (said_ids (take k nodes)) k (first_under (codes "id") (get_or nodes k empty)) m.last m.was_last) in
     subst (λ (l : List ℤ). IsDistinct int_eq l) (sym m.all) (IsDistinct-push int_eq_equiv m.before m.last before new)
 
+-- what is shown of the graph
+abbrev IsSound : NamedGraph → Type 0
+IsSound n = IsGraph n.graph × IsWithinLimits n.graph × IsNamed n
+
 -- the graph of ids and ends that are accepted
-pub with_ends-sound : (ids : List ℤ) (edges : List Document) (n : NamedGraph) → length ids ≤ max_vertices → length edges ≤ max_edges → IsDistinct int_eq ids → with_ends ids (edge_ends ids edges) ≡ Ok n → IsGraph n.graph × IsWithinLimits n.graph × IsNamed n
+with_ends-sound : (ids : List ℤ) (edges : List Document) (n : NamedGraph) → length ids ≤ max_vertices → length edges ≤ max_edges → IsDistinct int_eq ids → with_ends ids (edge_ends ids edges) ≡ Ok n → IsSound n × (n.graph.vertex_count ≡ length ids)
 with_ends-sound ids edges n few many distinct h = by_result (edge_ends ids edges) refl h
   where
-    by_result : (r : Result (List (ℕ × ℕ)) GraphFault) → edge_ends ids edges ≡ r → with_ends ids r ≡ Ok n → IsGraph n.graph × IsWithinLimits n.graph × IsNamed n
+    by_result : (r : Result (List (ℕ × ℕ)) GraphFault) → edge_ends ids edges ≡ r → with_ends ids r ≡ Ok n → IsSound n × (n.graph.vertex_count ≡ length ids)
     by_result (Err e) same r = absurd (cc)
     by_result (Ok ends) same r =
-        let z : record { graph = multigraph_of (length ids) ends; ids = ids } ≡ n = cc in
-        subst (λ (m : NamedGraph). IsGraph m.graph × IsWithinLimits m.graph × IsNamed m) z (edge_ends-graph ids edges ends same, edge_ends-limits ids edges ends few many same, record { count = refl; distinct = distinct })
+        let z : record { graph = multigraph_of (length ids) ends; ids = ids; start = None } ≡ n = cc in
+        subst (λ (m : NamedGraph). IsSound m × (m.graph.vertex_count ≡ length ids)) z
+        ((edge_ends-graph ids edges ends same, edge_ends-limits ids edges ends few many same, record { count = refl; distinct = distinct; start = tt }), refl)
 
-pub with_ids-sound : (nodes edges : List Document) (n : NamedGraph) → length nodes ≤ max_vertices → length edges ≤ max_edges → with_ids edges (node_ids nodes) ≡ Ok n → IsGraph n.graph × IsWithinLimits n.graph × IsNamed n
+-- that of nodes and edges, before the start
+with_ids-sound : (nodes edges : List Document) (n : NamedGraph) → length nodes ≤ max_vertices → length edges ≤ max_edges → with_ids edges (node_ids nodes) ≡ Ok n → IsSound n × (n.graph.vertex_count ≡ length nodes)
 with_ids-sound nodes edges n few many h = by_result (node_ids nodes) refl h
   where
-    by_result : (r : Result (List ℤ) GraphFault) → node_ids nodes ≡ r → with_ids edges r ≡ Ok n → IsGraph n.graph × IsWithinLimits n.graph × IsNamed n
+    by_result : (r : Result (List ℤ) GraphFault) → node_ids nodes ≡ r → with_ids edges r ≡ Ok n → IsSound n × (n.graph.vertex_count ≡ length nodes)
     by_result (Err e) same r = absurd (cc)
-    by_result (Ok ids) same r = with_ends-sound ids edges n (omega (arith, each_below-length (node_id nodes) (length nodes) ids same)) many (node_ids-distinct nodes (length nodes) ids (omega arith) same) r
+    by_result (Ok ids) same r =
+        let long : length ids ≡ length nodes = each_below-length (node_id nodes) (length nodes) ids same in
+        let sound = with_ends-sound ids edges n (omega (arith, long)) many (node_ids-distinct nodes (length nodes) ids (omega arith) same) r in
+        (sound.0, sound.1 ∙ long)
 
-pub graph_between-sound : (nodes edges : List Document) (n : NamedGraph) → graph_between nodes edges ≡ Ok n → IsGraph n.graph × IsWithinLimits n.graph × IsNamed n
+-- with the start
+with_start-sound : (nodes : List Document) (n : NamedGraph) (m : NamedGraph) → IsSound m → m.graph.vertex_count ≡ length nodes → with_start nodes (Ok m) ≡ Ok n → IsSound n
+with_start-sound nodes n m sound long h = by_start (start_by m.graph (start_texts nodes)) refl h
+  where
+    by_start : (r : Result (Option (List (List ℕ))) GraphFault) → start_by m.graph (start_texts nodes) ≡ r → put_start m r ≡ Ok n → IsSound n
+    by_start (Err e) same r = absurd (cc)
+    by_start (Ok start) same r =
+        let z : record { graph = m.graph; ids = m.ids; start = start } ≡ n = cc in
+        subst (λ (x : NamedGraph). IsSound x) z
+        (sound.0, sound.1, record { count = sound.2.count; distinct = sound.2.distinct; start = start-arranges m.graph nodes start (sym long) same })
+
+with_all-sound : (nodes edges : List Document) (n : NamedGraph) → length nodes ≤ max_vertices → length edges ≤ max_edges → with_start nodes (with_ids edges (node_ids nodes)) ≡ Ok n → IsSound n
+with_all-sound nodes edges n few many h = by_result (with_ids edges (node_ids nodes)) refl h
+  where
+    by_result : (r : Result NamedGraph GraphFault) → with_ids edges (node_ids nodes) ≡ r → with_start nodes r ≡ Ok n → IsSound n
+    by_result (Err e) same r = absurd (cc)
+    by_result (Ok m) same r = let sound = with_ids-sound nodes edges m few many same in with_start-sound nodes n m sound.0 sound.1 r
+
+pub graph_between-sound : (nodes edges : List Document) (n : NamedGraph) → graph_between nodes edges ≡ Ok n → IsSound n
 graph_between-sound nodes edges n h = by_vertices (nat_lt max_vertices (length nodes)) (nat_lt max_edges (length edges)) refl refl h
   where
     below : (m k : ℕ) → nat_lt m k ≡ false → k ≤ m
     below m k e = grind (arith, nat_tests)
 
-    by_vertices : (big wide : Bool) → nat_lt max_vertices (length nodes) ≡ big → nat_lt max_edges (length edges) ≡ wide → let v : Result NamedGraph GraphFault = Err (TooManyVertices (length nodes)) in let e : Result NamedGraph GraphFault = Err (TooManyEdges (length edges)) in cond big v (cond wide e (with_ids edges (node_ids nodes))) ≡ Ok n → IsGraph n.graph × IsWithinLimits n.graph × IsNamed n
+    by_vertices : (big wide : Bool) → nat_lt max_vertices (length nodes) ≡ big → nat_lt max_edges (length edges) ≡ wide → let v : Result NamedGraph GraphFault = Err (TooManyVertices (length nodes)) in let e : Result NamedGraph GraphFault = Err (TooManyEdges (length edges)) in cond big v (cond wide e (with_start nodes (with_ids edges (node_ids nodes)))) ≡ Ok n → IsSound n
     by_vertices true wide b w r = absurd (cc)
     by_vertices false true b w r = absurd (cc)
-    by_vertices false false b w r = with_ids-sound nodes edges n (below max_vertices (length nodes) b) (below max_edges (length edges) w) r
+    by_vertices false false b w r = with_all-sound nodes edges n (below max_vertices (length nodes) b) (below max_edges (length edges) w) r
 
-pub graph_among-sound : (graphs : List Document) (n : NamedGraph) → graph_among graphs ≡ Ok n → IsGraph n.graph × IsWithinLimits n.graph × IsNamed n
+pub graph_among-sound : (graphs : List Document) (n : NamedGraph) → graph_among graphs ≡ Ok n → IsSound n
 graph_among-sound [] n h = absurd (cc)
 graph_among-sound (g ∷ []) n h = graph_between-sound (lists_under (codes "node") g) (lists_under (codes "edge") g) n h
 graph_among-sound (g ∷ (f ∷ gs)) n h = absurd (cc)

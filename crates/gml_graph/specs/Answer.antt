@@ -1,26 +1,17 @@
 -- The graph of a document, or the first refusal.
-use Rattle.std.specs.Prelude.{◌≡◌, ℕ, zero, suc, ℤ, nat_lt, ◌==◌, if◌then◌else◌, List, [], ◌∷◌, ◌++◌, length, take, position, slice_index_or, Option, Some, None, Result, Ok, Err, MatchResult, codes}
+use Rattle.std.specs.Prelude.{◌≡◌, ℕ, ℤ, nat_lt, ◌==◌, if◌then◌else◌, List, [], ◌∷◌, ◌++◌, length, take, position, slice_index_or, Option, Some, None, Result, Ok, Err, MatchResult, codes}
 use Rattle.std.specs.Ordering.{int_eq}
 use Rattle.std.specs.List.{list_any}
 use Rattle.multigraph.specs.Graph.{IsGraph, IsWithinLimits, max_vertices, max_edges}
 use Rattle.gml_text.specs.Document.{Document, empty}
 use Rattle.gml_graph.specs.Named.{NamedGraph, IsNamed}
 use Rattle.gml_graph.specs.Lists.{lists_under, first_under}
+use Rattle.gml_graph.specs.Start.{with_start}
+pub use Rattle.gml_graph.specs.Each.{and_one_more, each_below}
 use Rattle.gml_graph.specs.declared.integers.Reading.{Reading}
 use Rattle.gml_graph.specs.declared.integers.Reading.TheVariants.{Missing, NotWhole, Whole}
 use Rattle.gml_graph.specs.declared.fault.GraphFault.{GraphFault}
 use Rattle.gml_graph.specs.declared.fault.GraphFault.TheVariants.{NoGraph, MoreGraphs, TooManyVertices, TooManyEdges, NodeNoId, NodeBadId, SameId, EdgeNoEnd, EdgeBadEnd, UnknownEnd, Loop, Memory}
-
--- some values and one more, or the first refusal among them
-abbrev pub and_one_more : {A : Type 0} → Result (List A) GraphFault → Result A GraphFault → Result (List A) GraphFault
-and_one_more (Err e) r = Err e
-and_one_more (Ok xs) (Err e) = Err e
-and_one_more (Ok xs) (Ok x) = Ok (xs ++ x ∷ [])
-
--- the values at 0, 1, .., n - 1, or the first refusal among them
-abbrev pub each_below : {A : Type 0} → ℕ → (ℕ → Result A GraphFault) → Result (List A) GraphFault
-each_below zero f = Ok []
-each_below (suc n) f = and_one_more (each_below n f) (f n)
 
 -- the id that a list gives, if it gives one
 abbrev pub said_by : Reading → List ℤ
@@ -71,22 +62,22 @@ ends_by ids k edge = ends_among ids k (first_under (codes "source") edge) (first
 abbrev pub edge_ends : List ℤ → List Document → Result (List (ℕ × ℕ)) GraphFault
 edge_ends ids edges = each_below (length edges) (λ k. ends_by ids k (slice_index_or edges k empty))
 
--- the graph whose vertices have these ids and whose edges have these ends
+-- the graph whose vertices have these ids and whose edges have these ends, without a start
 abbrev pub with_ends : List ℤ → Result (List (ℕ × ℕ)) GraphFault → Result NamedGraph GraphFault
 with_ends ids (Err e) = Err e
-with_ends ids (Ok ends) = Ok (record { graph = record { vertex_count = length ids; ends = ends }; ids = ids })
+with_ends ids (Ok ends) = Ok (record { graph = record { vertex_count = length ids; ends = ends }; ids = ids; start = None })
 
 -- the graph whose vertices have these ids and whose edges have these lists
 abbrev pub with_ids : List Document → Result (List ℤ) GraphFault → Result NamedGraph GraphFault
 with_ids edges (Err e) = Err e
 with_ids edges (Ok ids) = with_ends ids (edge_ends ids edges)
 
--- the graph of these nodes and edges
+-- the graph of these nodes and edges, with the start that the nodes give
 abbrev pub graph_between : List Document → List Document → Result NamedGraph GraphFault
 graph_between nodes edges =
     (if nat_lt max_vertices (length nodes) then Err (TooManyVertices (length nodes))
     else if nat_lt max_edges (length edges) then Err (TooManyEdges (length edges))
-    else with_ids edges (node_ids nodes))
+    else with_start nodes (with_ids edges (node_ids nodes)))
 
 -- the graph of a graph list
 abbrev pub graph_in : Document → Result NamedGraph GraphFault
@@ -102,7 +93,8 @@ graph_among (g ∷ (h ∷ gs)) = Err MoreGraphs
 abbrev pub graph_of_document : Document → Result NamedGraph GraphFault
 graph_of_document d = graph_among (lists_under (codes "graph") d)
 
--- a document's graph is within the limits and without loops, and each vertex has an id of its own
+-- a document's graph is within the limits and without loops, each vertex has an id of its own, and the lists of a start arrange the
+-- edges
 abbrev pub HasSoundGraph : Document → Type 0
 HasSoundGraph d = (n : NamedGraph) → graph_of_document d ≡ Ok n → IsGraph n.graph × IsWithinLimits n.graph × IsNamed n
 

@@ -1,5 +1,5 @@
 -- Whole numbers of 64 bits, as a text spells them.
-use Rattle.std.specs.Prelude.{ℕ, ◌+◌, ◌-◌, ◌*◌, ◌^◌, Bool, false, ◌&&◌, ◌==◌, nat_le, if◌then◌else◌, List, [], ◌∷◌, Option, Some, None, option_map, ℤ, pos, neg_ℤ}
+use Rattle.std.specs.Prelude.{ℕ, ◌-◌, ◌^◌, ◌&&◌, ◌==◌, nat_le, if◌then◌else◌, List, [], ◌∷◌, Option, Some, None, option_map, ℤ, pos, neg_ℤ}
 pub use Rattle.decimals.specs.Number.{are_digits, spelled_after}
 
 -- the number that one or more decimal digits spell, where it is at most `most`

@@ -7,7 +7,8 @@ use std::alloc::{AllocError, AllocFailed};
 
 /// Why `graph_of` gives no graph: the first refusal, in the order of the variants except for those of nodes and of edges.
 /// The refusals of a node are tried together for node 0, then for node 1, and so on; after the last node those of an edge,
-/// together for edge 0, then for edge 1, and so on. Nodes and edges are numbered from 0, each kind by itself.
+/// together for edge 0, then for edge 1, and so on; after the last edge that of the start, for node 0, then for node 1, and so on.
+/// Nodes and edges are numbered from 0, each kind by itself.
 #[derive(Clone, Copy, Debug, PartialEq, Eq)]
 pub enum GraphFault {
     /// No pair of the document has the key `graph` and a list.
@@ -32,6 +33,9 @@ pub enum GraphFault {
     UnknownEnd(u32),
     /// The `source` and the `target` of this edge are the same node.
     Loop(u32),
+    /// Every node has a string under its first `spqrRotation`, and that of this node is not numbers below 2^32 with whitespace
+    /// between them, or they are no permutation of the edges at it.
+    StartVertex(u32),
     /// Memory ran out.
     Memory,
 }

@@ -1,6 +1,6 @@
-// A graph whose vertices have ids, and the one of a document.
+// A graph whose vertices have ids, with its start, and the one of a document.
 
-ghost use Rattle.std.specs.Prelude.{◌≡◌, ◌≢◌, ◌↔◌, ◌<◌, ℕ, Some, Ok, IsNone, MatchResult, map, slice_get};
+ghost use Rattle.std.specs.Prelude.{◌≡◌, ◌≢◌, ◌↔◌, ◌<◌, ℕ, [], Some, Ok, IsNone, MatchResult, map, option_map, slice_get, slice_index_or};
 ghost use Rattle.gml_text.specs.Pairs.{document_of};
 ghost use Rattle.gml_graph.specs.Named.{IsNamed};
 ghost use Rattle.gml_graph.specs.Answer.{Answers, Refuses, graph_between, graph_in, graph_of_document};
@@ -10,16 +10,19 @@ use crate::fault::GraphFault;
 use crate::ids::Ids;
 use crate::lists::lists_under;
 use crate::nodes::node_ids;
+use crate::start::start_of;
 use gml_text::{Doc, Pair, Pairs};
-use multigraph::{Graph, MAX_EDGES, MAX_VERTICES};
+use multigraph::{Graph, MAX_EDGES, MAX_VERTICES, NumberLists};
 use std::alloc::Global;
 use std::marker::Model;
 
-/// A multigraph without loops whose vertices have ids, each its own. Contracts see the multigraph and the list of the ids.
+/// A multigraph without loops whose vertices have ids, each its own, with the start that a file may give: for each vertex its edges
+/// in some order. Contracts see the multigraph, the list of the ids and the lists of the start.
 #[derive(Drop)]
 pub struct Named {
     graph: Graph,
     ids: Ids,
+    start: Option<NumberLists>,
 }
 
 impl Model for Named {
@@ -27,9 +30,11 @@ impl Model for Named {
 
     ghost Value = { NamedGraph };
 
-    ghost view = { λ named. record { graph = named.graph; ids = named.ids } };
+    ghost view = { λ named.
+        record { graph = named.graph; ids = named.ids; start = named.start } };
 
-    ghost invariant = { λ named. IsNamed (record { graph = named.graph; ids = named.ids }) };
+    ghost invariant = { λ named.
+        IsNamed (record { graph = named.graph; ids = named.ids; start = named.start }) };
 }
 
 impl Named {
@@ -57,6 +62,19 @@ impl Named {
     {
         self.ids.position(id)
     }
+
+    /// The edges at vertex `v` in the order in which the file gives them, or None if the file gives no start. Takes no memory.
+    pub fn start(&self, v: u32) -> Option<&[u32]>
+        requires { v < self.now.graph.vertex_count }
+        ensures edges { option_map (λ list. list.now) result
+            ≡ option_map (λ lists. slice_index_or lists v []) self.now.start }
+        ensures named { IsNamed self.now }
+    {
+        match &self.start {
+            Some(lists) => Some(lists.as_slice()[v as usize].as_slice()),
+            None => None,
+        }
+    }
 }
 
 // The graph of these nodes and edges, or the first refusal.
@@ -73,7 +91,8 @@ fn graph_between(alloc: Global, nodes: &[&Pairs], edges: &[&Pairs]) -> Result<Na
     let ids = node_ids(alloc, nodes)?;
     let ends = edge_ends(alloc, &ids, edges)?;
     let graph = Graph::of_ends(alloc, ids.len(), ends)?;
-    Ok(Named { graph, ids })
+    let start = start_of(alloc, &graph, nodes)?;
+    Ok(Named { graph, ids, start })
 }
 
 // The graph of the pairs of a graph list, or the first refusal.
@@ -90,7 +109,8 @@ fn graph_in(alloc: Global, pairs: &[Pair]) -> Result<Named, GraphFault>
 /// The graph of a document: that of its one graph list, or the first refusal.
 ///
 /// A graph list is a list under the key `graph` in the document itself; its nodes and edges are the lists under `node` and
-/// `edge` in it. Of several pairs `id`, `source` or `target` in one of these the first counts. All else is ignored.
+/// `edge` in it. Of several pairs `id`, `source`, `target` or `spqrRotation` in one of these the first counts. The graph has a start
+/// where it has a node and every node has a string under `spqrRotation`; else these keys are ignored, as all others are.
 /// Fails with the first refusal in the order of `GraphFault`; fails with `Memory`, at any point, if memory runs out.
 pub fn graph_of(alloc: Global, d: &Doc) -> Result<Named, GraphFault>
     ensures { MatchResult result

@@ -4,6 +4,7 @@ ghost use Rattle.std.specs.Prelude.{◌<◌};
 mod commands;
 mod devices;
 mod hostile;
+mod starts;
 
 use spqr_edge::{MemFile, MemShelf, MemSink};
 use spqr_run::run::run;
@@ -192,9 +193,9 @@ const MANY_KINDS: &[u8] =
 
 const MANY_KINDS_REPORT: &[u8] =
     b"graph 2 1\nvertex 0 7\nvertex 1 -2\nblock 0: 0\nnode 0 B 0 1 | 0:0-1\nplanar 0\n\
-    gml 208\nCreator \"yFiles\"\ngraph [\n  \
+    gml 250\nCreator \"yFiles\"\ngraph [\n  \
     directed 1\n  node [\n    id 7\n    label \"\xc3\xa9 &amp; b\"\n    graphics [\n      x 1.5E+3\n      y -INF\n    \
-    ]\n  ]\n  node [\n    id -2\n  ]\n  edge [\n    source 7\n    target -2\n    w_2 .5\n  ]\n]\n";
+    ]\n    spqrRotation \"0\"\n  ]\n  node [\n    id -2\n    spqrRotation \"0\"\n  ]\n  edge [\n    source 7\n    target -2\n    w_2 .5\n  ]\n]\n";
 
 // Graphs of one block, scripts, and the reports.
 static BLOCKS: [(&[u8], &[u8], &[u8]); 15] = [

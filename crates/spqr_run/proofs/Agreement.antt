@@ -20,6 +20,7 @@ use Rattle.spqr_script.specs.declared.command.Command.{Command}
 use Rattle.spqr_script.proofs.Scripts.{apart, one_reading, one_bad_line}
 use Rattle.spqr_session.specs.Trees.{BlockTree, tree_at, AreBlockTrees}
 use Rattle.spqr_session.specs.Report.{IsReport}
+use Rattle.spqr_session.specs.Start.{IsStartFault}
 use Rattle.spqr_run.specs.Words.{names_of}
 use Rattle.spqr_run.specs.Decision.{Sources, Work, Decision, SayDocument, SayCommands, AcceptsGraph, AcceptsScript, IsGmlReason, IsGraphReason, IsScriptReason, IsWork, Task, Report, Summary, IsDue}
 use Rattle.spqr_run.specs.Ending.{file_status, graph_status, script_status, refusal_status, refusal_text, status_of, IsTextOf}
@@ -31,7 +32,7 @@ use Rattle.spqr_run.specs.declared.reading.FileFault.TheVariants.{Failed, Long}
 use Rattle.spqr_run.specs.declared.refusal.Refusal.{Refusal}
 use Rattle.spqr_run.specs.declared.refusal.Refusal.TheVariants.{Usage as NoForm, OfGraph, OfScript}
 use Rattle.spqr_run.specs.declared.refusal.GraphRefusal.{GraphRefusal}
-use Rattle.spqr_run.specs.declared.refusal.GraphRefusal.TheVariants.{File, Gml, Rule}
+use Rattle.spqr_run.specs.declared.refusal.GraphRefusal.TheVariants.{File, Gml, Rule, Start}
 use Rattle.spqr_run.specs.declared.refusal.ScriptRefusal.{ScriptRefusal}
 use Rattle.spqr_run.specs.declared.refusal.ScriptRefusal.TheVariants.{File as Script, Line}
 use Rattle.spqr_run.specs.declared.status.Status.TheVariants.{ReadFault}
@@ -42,6 +43,7 @@ use Rattle.made_summary.proofs.OneSummary.{one-summary}
 use Rattle.spqr_run.proofs.Forms.{named-not_none, only-summary, asked-planar}
 use Rattle.spqr_session.proofs.Chains.{one-report}
 use Rattle.spqr_session.proofs.OneTree.{one-trees}
+use Rattle.spqr_session.proofs.StartFaults.{fault-one}
 
 -- bytes spell at most one document
 abbrev pub OneDocument : Type 0
@@ -54,13 +56,19 @@ no_document bytes d (End at) p q = p.0 d q
 no_document bytes d GmlMemory p q = p
 
 -- a graph file is not accepted and refused
-graph_apart : OneDocument → (bytes : List ℕ) (d : Document) (named : NamedGraph) (r : GraphRefusal) → SayDocument bytes d → graph_of_document d ≡ Ok named → IsGraphReason bytes r → graph_status r ≢ ReadFault → ⊥
-graph_apart one bytes d named (File Failed) s g p n = n refl
-graph_apart one bytes d named (File Long) s g p n = absurd (omega (arith, s.within, p))
-graph_apart one bytes d named (Gml fault) s g p n = no_document bytes d fault p.1 s.spelled
-graph_apart one bytes d named (Rule fault) s g p n =
+graph_apart : OneDocument → (bytes : List ℕ) (d : Document) (named : NamedGraph) (r : GraphRefusal) → SayDocument bytes d → graph_of_document d ≡ Ok named → ((b v e f : ℕ) → ¬ IsStartFault named b v e f)
+    → IsGraphReason bytes r → graph_status r ≢ ReadFault → ⊥
+graph_apart one bytes d named (File Failed) s g h p n = n refl
+graph_apart one bytes d named (File Long) s g h p n = absurd (omega (arith, s.within, p))
+graph_apart one bytes d named (Gml fault) s g h p n = no_document bytes d fault p.1 s.spelled
+graph_apart one bytes d named (Rule fault) s g h p n =
     let e : d ≡ p.1.0 = one bytes d p.1.0 s.spelled p.1.1 in
     let both : Ok named ≡ Err fault = sym g ∙ ap graph_of_document e ∙ p.1.2 in cc
+graph_apart one bytes d named (Start b v e f) s g h p n =
+    let same : d ≡ p.1.0 = one bytes d p.1.0 s.spelled p.1.2 in
+    let both : Ok p.1.1 ≡ Ok named = sym p.1.3 ∙ (ap graph_of_document (sym same) ∙ g) in
+    let graph : p.1.1 ≡ named = cc in
+    h b v e f (subst (λ (x : NamedGraph). IsStartFault x b v e f) graph p.1.4)
 
 -- bytes are refused for one fault in GML
 gml_same : (bytes : List ℕ) (a b : GmlFault) → IsGmlReason bytes a → IsGmlReason bytes b → a ≡ b
@@ -72,32 +80,40 @@ gml_same bytes (Bad m) GmlMemory p q = absurd q
 gml_same bytes (End m) GmlMemory p q = absurd q
 gml_same bytes GmlMemory b p q = absurd p
 
--- refusals of a graph file are alike: they are the same
-abbrev AlikeGraph : GraphRefusal → GraphRefusal → Type 0
-AlikeGraph (File a) (File b) = a ≡ b
-AlikeGraph (File a) (Gml b) = ⊥
-AlikeGraph (File a) (Rule b) = ⊥
-AlikeGraph (Gml a) (File b) = ⊥
-AlikeGraph (Gml a) (Gml b) = a ≡ b
-AlikeGraph (Gml a) (Rule b) = ⊥
-AlikeGraph (Rule a) (File b) = ⊥
-AlikeGraph (Rule a) (Gml b) = ⊥
-AlikeGraph (Rule a) (Rule b) = a ≡ b
+-- a graph has no start that is refused, and one refusal of it
+rule_no_start : OneDocument → (bytes : List ℕ) (fault : GraphFault) (b v e f : ℕ) → IsGraphReason bytes (Rule fault) → IsGraphReason bytes (Start b v e f) → ⊥
+rule_no_start one bytes fault b v e f p q =
+    let same : p.1.0 ≡ q.1.0 = one bytes p.1.0 q.1.0 p.1.1 q.1.2 in
+    let both : Err fault ≡ Ok q.1.1 = sym p.1.2 ∙ (ap graph_of_document same ∙ q.1.3) in cc
 
-graph_alike : OneDocument → (bytes : List ℕ) (r q : GraphRefusal) → IsGraphReason bytes r → IsGraphReason bytes q → graph_status r ≢ ReadFault → graph_status q ≢ ReadFault → AlikeGraph r q
-graph_alike one bytes (File Failed) q p o n m = absurd (n refl)
-graph_alike one bytes r (File Failed) p o n m = absurd (m refl)
-graph_alike one bytes (File Long) (File Long) p o n m = refl
-graph_alike one bytes (File Long) (Gml fault) p o n m = absurd (omega (arith, p, o.0))
-graph_alike one bytes (File Long) (Rule fault) p o n m = absurd (omega (arith, p, o.0))
-graph_alike one bytes (Gml fault) (File Long) p o n m = absurd (omega (arith, o, p.0))
-graph_alike one bytes (Gml fault) (Gml other) p o n m = gml_same bytes fault other p.1 o.1
-graph_alike one bytes (Gml fault) (Rule other) p o n m = absurd (no_document bytes o.1.0 fault p.1 o.1.1)
-graph_alike one bytes (Rule fault) (File Long) p o n m = absurd (omega (arith, o, p.0))
-graph_alike one bytes (Rule fault) (Gml other) p o n m = absurd (no_document bytes p.1.0 other o.1 p.1.1)
-graph_alike one bytes (Rule fault) (Rule other) p o n m =
+-- refusals of a graph file are the same
+graph_same : OneDocument → (bytes : List ℕ) (r q : GraphRefusal) → IsGraphReason bytes r → IsGraphReason bytes q → graph_status r ≢ ReadFault → graph_status q ≢ ReadFault → r ≡ q
+graph_same one bytes (File Failed) q p o n m = absurd (n refl)
+graph_same one bytes r (File Failed) p o n m = absurd (m refl)
+graph_same one bytes (File Long) (File Long) p o n m = refl
+graph_same one bytes (File Long) (Gml fault) p o n m = absurd (omega (arith, p, o.0))
+graph_same one bytes (File Long) (Rule fault) p o n m = absurd (omega (arith, p, o.0))
+graph_same one bytes (File Long) (Start b v e f) p o n m = absurd (omega (arith, p, o.0))
+graph_same one bytes (Gml fault) (File Long) p o n m = absurd (omega (arith, o, p.0))
+graph_same one bytes (Gml fault) (Gml other) p o n m = ap (λ (f : GmlFault). Gml f) (gml_same bytes fault other p.1 o.1)
+graph_same one bytes (Gml fault) (Rule other) p o n m = absurd (no_document bytes o.1.0 fault p.1 o.1.1)
+graph_same one bytes (Gml fault) (Start b v e f) p o n m = absurd (no_document bytes o.1.0 fault p.1 o.1.2)
+graph_same one bytes (Rule fault) (File Long) p o n m = absurd (omega (arith, o, p.0))
+graph_same one bytes (Rule fault) (Gml other) p o n m = absurd (no_document bytes p.1.0 other o.1 p.1.1)
+graph_same one bytes (Rule fault) (Rule other) p o n m =
     let e : p.1.0 ≡ o.1.0 = one bytes p.1.0 o.1.0 p.1.1 o.1.1 in
-    let both : Err fault ≡ Err other = sym p.1.2 ∙ ap graph_of_document e ∙ o.1.2 in cc
+    let both : Err fault ≡ Err other = sym p.1.2 ∙ ap graph_of_document e ∙ o.1.2 in
+    let same : fault ≡ other = cc in ap (λ (f : GraphFault). Rule f) same
+graph_same one bytes (Rule fault) (Start b v e f) p o n m = absurd (rule_no_start one bytes fault b v e f p o)
+graph_same one bytes (Start b v e f) (File Long) p o n m = absurd (omega (arith, o, p.0))
+graph_same one bytes (Start b v e f) (Gml other) p o n m = absurd (no_document bytes p.1.0 other o.1 p.1.2)
+graph_same one bytes (Start b v e f) (Rule other) p o n m = absurd (rule_no_start one bytes other b v e f o p)
+graph_same one bytes (Start b v e f) (Start c x y z) p o n m =
+    let same : p.1.0 ≡ o.1.0 = one bytes p.1.0 o.1.0 p.1.2 o.1.2 in
+    let both : Ok p.1.1 ≡ Ok o.1.1 = sym p.1.3 ∙ (ap graph_of_document same ∙ o.1.3) in
+    let graph : p.1.1 ≡ o.1.1 = cc in
+    let all = fault-one o.1.1 b v e f c x y z (subst (λ (g : NamedGraph). IsStartFault g b v e f) graph p.1.4) o.1.4 in
+    λ i. Start (all.0 i) (all.1 i) (all.2 i) (all.3 i)
 
 -- a script file is not accepted and refused
 script_apart : (bytes : List ℕ) (commands : List Command) (r : ScriptRefusal) → SayCommands bytes commands → IsScriptReason bytes r → script_status r ≢ ReadFault → ⊥
@@ -169,7 +185,7 @@ Alike (Err NoForm) (Err NoForm) = ⊤
 Alike (Err NoForm) (Err (OfGraph q)) = ⊥
 Alike (Err NoForm) (Err (OfScript q)) = ⊥
 Alike (Err (OfGraph r)) (Err NoForm) = ⊥
-Alike (Err (OfGraph r)) (Err (OfGraph q)) = AlikeGraph r q
+Alike (Err (OfGraph r)) (Err (OfGraph q)) = r ≡ q
 Alike (Err (OfGraph r)) (Err (OfScript q)) = ⊥
 Alike (Err (OfScript r)) (Err NoForm) = ⊥
 Alike (Err (OfScript r)) (Err (OfGraph q)) = ⊥
@@ -181,33 +197,22 @@ due_alike one words sources (Ok (Summary k seed)) b p q n m = subst (λ (d : Dec
 due_alike one words sources a (Ok (Summary k seed)) p q n m = subst (λ (d : Decision). Alike d (Ok (Summary k seed))) (sym (only-summary words sources a k seed q p)) (refl, refl)
 due_alike one words sources (Ok (Report a)) (Ok (Report b)) p q n m = same_work one sources a b p.1 q.1
 due_alike one words sources (Ok (Report a)) (Err NoForm) p q n m = named-not_none words p.0 q
-due_alike one words sources (Ok (Report a)) (Err (OfGraph r)) p q n m = graph_apart one sources.graph a.setting.document a.setting.named r p.1.graph p.1.setting.graph q.1 m
+due_alike one words sources (Ok (Report a)) (Err (OfGraph r)) p q n m = graph_apart one sources.graph a.setting.document a.setting.named r p.1.graph p.1.setting.graph p.1.starts q.1 m
 due_alike one words sources (Ok (Report a)) (Err (OfScript r)) p q n m = script_apart sources.script a.commands r p.1.script q.2 m
 due_alike one words sources (Err NoForm) (Ok (Report b)) p q n m = named-not_none words q.0 p
 due_alike one words sources (Err NoForm) (Err NoForm) p q n m = tt
 due_alike one words sources (Err NoForm) (Err (OfGraph r)) p q n m = named-not_none words q.0 p
 due_alike one words sources (Err NoForm) (Err (OfScript r)) p q n m = named-not_none words q.0 p
-due_alike one words sources (Err (OfGraph r)) (Ok (Report b)) p q n m = graph_apart one sources.graph b.setting.document b.setting.named r q.1.graph q.1.setting.graph p.1 n
+due_alike one words sources (Err (OfGraph r)) (Ok (Report b)) p q n m = graph_apart one sources.graph b.setting.document b.setting.named r q.1.graph q.1.setting.graph q.1.starts p.1 n
 due_alike one words sources (Err (OfGraph r)) (Err NoForm) p q n m = named-not_none words p.0 q
-due_alike one words sources (Err (OfGraph r)) (Err (OfGraph s)) p q n m = graph_alike one sources.graph r s p.1 q.1 n m
-due_alike one words sources (Err (OfGraph r)) (Err (OfScript s)) p q n m = graph_apart one sources.graph q.1.document q.1.named r q.1.says q.1.graph p.1 n
+due_alike one words sources (Err (OfGraph r)) (Err (OfGraph s)) p q n m = graph_same one sources.graph r s p.1 q.1 n m
+due_alike one words sources (Err (OfGraph r)) (Err (OfScript s)) p q n m = graph_apart one sources.graph q.1.document q.1.named r q.1.says q.1.graph q.1.starts p.1 n
 due_alike one words sources (Err (OfScript r)) (Ok (Report b)) p q n m = script_apart sources.script b.commands r q.1.script p.2 n
 due_alike one words sources (Err (OfScript r)) (Err NoForm) p q n m = named-not_none words p.0 q
-due_alike one words sources (Err (OfScript r)) (Err (OfGraph s)) p q n m = graph_apart one sources.graph p.1.document p.1.named s p.1.says p.1.graph q.1 m
+due_alike one words sources (Err (OfScript r)) (Err (OfGraph s)) p q n m = graph_apart one sources.graph p.1.document p.1.named s p.1.says p.1.graph p.1.starts q.1 m
 due_alike one words sources (Err (OfScript r)) (Err (OfScript s)) p q n m = script_same sources.script r s p.2 q.2 n m
 
 -- ---- one status
-
-graph_status_alike : (r q : GraphRefusal) → AlikeGraph r q → graph_status r ≡ graph_status q
-graph_status_alike (File a) (File b) e = ap file_status e
-graph_status_alike (File a) (Gml b) e = absurd e
-graph_status_alike (File a) (Rule b) e = absurd e
-graph_status_alike (Gml a) (File b) e = absurd e
-graph_status_alike (Gml a) (Gml b) e = refl
-graph_status_alike (Gml a) (Rule b) e = absurd e
-graph_status_alike (Rule a) (File b) e = absurd e
-graph_status_alike (Rule a) (Gml b) e = absurd e
-graph_status_alike (Rule a) (Rule b) e = refl
 
 status_alike : (a b : Decision) → Alike a b → status_of a ≡ status_of b
 status_alike (Ok a) (Ok b) e = refl
@@ -217,7 +222,7 @@ status_alike (Err NoForm) (Err NoForm) e = refl
 status_alike (Err NoForm) (Err (OfGraph q)) e = absurd e
 status_alike (Err NoForm) (Err (OfScript q)) e = absurd e
 status_alike (Err (OfGraph r)) (Err NoForm) e = absurd e
-status_alike (Err (OfGraph r)) (Err (OfGraph q)) e = graph_status_alike r q e
+status_alike (Err (OfGraph r)) (Err (OfGraph q)) e = ap graph_status e
 status_alike (Err (OfGraph r)) (Err (OfScript q)) e = absurd e
 status_alike (Err (OfScript r)) (Err NoForm) e = absurd e
 status_alike (Err (OfScript r)) (Err (OfGraph q)) e = absurd e
@@ -227,18 +232,6 @@ pub one_status : OneDocument → (words : List (List ℕ)) (sources : Sources) (
 one_status one words sources a b p q n m = status_alike a b (due_alike one words sources a b p q n m)
 
 -- ---- one text
-
--- refusals that are alike are the same
-graph_same : (r q : GraphRefusal) → AlikeGraph r q → r ≡ q
-graph_same (File a) (File b) e = ap (λ (f : FileFault). File f) e
-graph_same (File a) (Gml b) e = absurd e
-graph_same (File a) (Rule b) e = absurd e
-graph_same (Gml a) (File b) e = absurd e
-graph_same (Gml a) (Gml b) e = ap (λ (f : GmlFault). Gml f) e
-graph_same (Gml a) (Rule b) e = absurd e
-graph_same (Rule a) (File b) e = absurd e
-graph_same (Rule a) (Gml b) e = absurd e
-graph_same (Rule a) (Rule b) e = ap (λ (f : GraphFault). Rule f) e
 
 -- a work has one report
 report_alike : (a b : Work) (s t : List ℕ) → IsSetting b.setting → a ≡ b → IsReport a.setting a.commands s → IsReport b.setting b.commands t → s ≡ t
@@ -270,7 +263,7 @@ text_alike (Err NoForm) (Err NoForm) s t is e o p q = p ∙ sym q
 text_alike (Err NoForm) (Err (OfGraph r)) s t is e o p q = absurd e
 text_alike (Err NoForm) (Err (OfScript r)) s t is e o p q = absurd e
 text_alike (Err (OfGraph r)) (Err NoForm) s t is e o p q = absurd e
-text_alike (Err (OfGraph r)) (Err (OfGraph k)) s t is e o p q = p ∙ ap (λ (x : GraphRefusal). refusal_text (OfGraph x)) (graph_same r k e) ∙ sym q
+text_alike (Err (OfGraph r)) (Err (OfGraph k)) s t is e o p q = p ∙ ap (λ (x : GraphRefusal). refusal_text (OfGraph x)) e ∙ sym q
 text_alike (Err (OfGraph r)) (Err (OfScript k)) s t is e o p q = absurd e
 text_alike (Err (OfScript r)) (Err NoForm) s t is e o p q = absurd e
 text_alike (Err (OfScript r)) (Err (OfGraph k)) s t is e o p q = absurd e
@@ -287,5 +280,5 @@ one_work one words sources a b p q = same_work one sources a b p.1 q.1
 -- where the words and the files are accepted, no refusal is due
 pub no_refusal : OneDocument → (words : List (List ℕ)) (sources : Sources) (refusal : Refusal) → IsSome (names_of words) → AcceptsGraph sources.graph → AcceptsScript sources.script → IsDue words sources (Err refusal) → refusal_status refusal ≢ ReadFault → ⊥
 no_refusal one words sources NoForm f g s q n = named-not_none words f q
-no_refusal one words sources (OfGraph r) f g s q n = graph_apart one sources.graph g.document g.named r g.says g.graph q.1 n
+no_refusal one words sources (OfGraph r) f g s q n = graph_apart one sources.graph g.document g.named r g.says g.graph g.starts q.1 n
 no_refusal one words sources (OfScript r) f g s q n = script_apart sources.script s.commands r s.says q.2 n

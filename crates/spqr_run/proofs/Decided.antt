@@ -6,6 +6,7 @@ use Rattle.spqr_edge.specs.Device.{Files, contents, counted, CountsCall}
 use Rattle.spqr_script.specs.declared.command.Command.{Command}
 use Rattle.spqr_run.specs.Words.{Names, names_of}
 use Rattle.spqr_session.specs.Machine.{Machine, IsStarted}
+use Rattle.spqr_session.specs.Start.{IsStartFault}
 use Rattle.spqr_run.specs.Seen.{ShelfSeen}
 use Rattle.spqr_run.specs.Reading.{SomeBytes, told_file}
 use Rattle.spqr_run.specs.Decision.{Sources, Report, Summary, AreContents, SayDocument, SayCommands, AcceptsGraph, IsGraphReason, IsScriptReason, HasLine}
@@ -13,6 +14,7 @@ use Rattle.spqr_run.specs.Ending.{graph_status, script_status, CountsFor, IsDeci
 use Rattle.spqr_run.specs.declared.refusal.Refusal.TheVariants.{Usage, OfGraph, OfScript}
 use Rattle.spqr_run.specs.declared.refusal.GraphRefusal.{GraphRefusal}
 use Rattle.spqr_run.specs.declared.refusal.ScriptRefusal.{ScriptRefusal}
+use Rattle.spqr_session.proofs.StartFaults.{start-no_fault}
 use Rattle.spqr_run.proofs.Files.{some_any}
 use Rattle.spqr_run.proofs.Forms.{none-named, making-named}
 
@@ -82,6 +84,10 @@ module _ (words : List (List ℕ)) (before after : ShelfSeen) where
 
   module _ (mid : ShelfSeen) (names : Names) (m : Machine) (form : Some names ≡ names_of words) (s : SomeBytes (told_file before.files names.graph) (λ bytes. SayDocument bytes m.setting.document)) (is : IsStarted m)
       (files : mid.files ≡ before.files) (first : CountsCall before.opens mid.opens) (second : CountsCall mid.opens after.opens) (faults : mid.faults ≡ before.faults) where
+    -- a session that started has a start without a fault
+    starts : (b v e f : ℕ) → ¬ IsStartFault m.setting.named b v e f
+    starts b v e f = start-no_fault m.setting m.state b v e f is.setting is.start
+
     -- both files are accepted
     pub decided-work : (commands : List Command) → SomeBytes (told_file mid.files names.script) (λ bytes. SayCommands bytes commands) → after.faults ≡ mid.faults
         → IsDecided words before after (Ok (Report (record { setting = m.setting; commands = commands })))
@@ -90,7 +96,7 @@ module _ (words : List (List ℕ)) (before after : ShelfSeen) where
         record {
           sources = record { graph = s.bytes; script = t.bytes };
           contents = both-contents words before.files names s.bytes t.bytes form s.are_told told;
-          due = (is-named words names form, record { graph = s.is_such; setting = is.setting; script = t.is_such });
+          due = (is-named words names form, record { graph = s.is_such; setting = is.setting; starts = starts; script = t.is_such });
           line = tt;
           opens = opened-two before.opens mid.opens after.opens first second;
           reads = more ∙ faults;
@@ -101,7 +107,7 @@ module _ (words : List (List ℕ)) (before after : ShelfSeen) where
         → IsDecided words before after (Err (OfScript r))
     decided-script r t more =
         let told : IfSome (told_file before.files names.script) (λ file. t.bytes ≡ file) = subst (λ (o : Option Files). IfSome (told_file o names.script) (λ file. t.bytes ≡ file)) files t.are_told in
-        let accepted : AcceptsGraph s.bytes = record { document = m.setting.document; named = m.setting.named; says = s.is_such; graph = is.setting.graph } in
+        let accepted : AcceptsGraph s.bytes = record { document = m.setting.document; named = m.setting.named; says = s.is_such; graph = is.setting.graph; starts = starts } in
         record {
           sources = record { graph = s.bytes; script = t.bytes };
           contents = both-contents words before.files names s.bytes t.bytes form s.are_told told;

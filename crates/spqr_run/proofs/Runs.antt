@@ -10,7 +10,7 @@ use Rattle.spqr_run.specs.Seen.{Seen}
 use Rattle.spqr_run.specs.Run.{AppendsFirst, CarriesOut, RefusesWith, Finishes, RunsShort, Ends, WritesDue, OnDone, FitsWords, CountsReads, CountsPuts, IsDoneOrMemory, NothingFailed, IsRun}
 use Rattle.spqr_run.specs.declared.refusal.Refusal.{Refusal}
 use Rattle.spqr_run.specs.declared.refusal.Refusal.TheVariants.{Usage as NoForm, OfGraph, OfScript}
-use Rattle.spqr_run.specs.declared.refusal.GraphRefusal.TheVariants.{File, Gml, Rule}
+use Rattle.spqr_run.specs.declared.refusal.GraphRefusal.TheVariants.{File, Gml, Rule, Start}
 use Rattle.spqr_run.specs.declared.refusal.ScriptRefusal.TheVariants.{File as Script, Line}
 use Rattle.spqr_run.specs.declared.reading.FileFault.TheVariants.{Failed, Long}
 use Rattle.spqr_run.specs.declared.status.Status.{Status}
@@ -122,6 +122,7 @@ refused-ends words before after (OfGraph (File Failed)) w = w
 refused-ends words before after (OfGraph (File Long)) w = w
 refused-ends words before after (OfGraph (Gml fault)) w = w
 refused-ends words before after (OfGraph (Rule fault)) w = w
+refused-ends words before after (OfGraph (Start b v e f)) w = w
 refused-ends words before after (OfScript (Script Failed)) w = w
 refused-ends words before after (OfScript (Script Long)) w = w
 refused-ends words before after (OfScript (Line line)) w = w
@@ -133,6 +134,7 @@ refused-done P (OfGraph (File Failed)) = tt
 refused-done P (OfGraph (File Long)) = tt
 refused-done P (OfGraph (Gml fault)) = tt
 refused-done P (OfGraph (Rule fault)) = tt
+refused-done P (OfGraph (Start b v e f)) = tt
 refused-done P (OfScript (Script Failed)) = tt
 refused-done P (OfScript (Script Long)) = tt
 refused-done P (OfScript (Line line)) = tt
@@ -144,6 +146,7 @@ refused-form words sources (OfGraph (File Failed)) d = named-form words d.0
 refused-form words sources (OfGraph (File Long)) d = named-form words d.0
 refused-form words sources (OfGraph (Gml fault)) d = named-form words d.0
 refused-form words sources (OfGraph (Rule fault)) d = named-form words d.0
+refused-form words sources (OfGraph (Start b v e f)) d = named-form words d.0
 refused-form words sources (OfScript (Script Failed)) d = named-form words d.0
 refused-form words sources (OfScript (Script Long)) d = named-form words d.0
 refused-form words sources (OfScript (Line line)) d = named-form words d.0
@@ -155,6 +158,7 @@ refused-reads first last (OfGraph (File Failed)) c = c
 refused-reads first last (OfGraph (File Long)) c = c
 refused-reads first last (OfGraph (Gml fault)) c = c
 refused-reads first last (OfGraph (Rule fault)) c = c
+refused-reads first last (OfGraph (Start b v e f)) c = c
 refused-reads first last (OfScript (Script Failed)) c = c
 refused-reads first last (OfScript (Script Long)) c = c
 refused-reads first last (OfScript (Line line)) c = c
@@ -166,6 +170,7 @@ refused-rising first last (OfGraph (File Failed)) c = c.0
 refused-rising first last (OfGraph (File Long)) c = omega (arith, c)
 refused-rising first last (OfGraph (Gml fault)) c = omega (arith, c)
 refused-rising first last (OfGraph (Rule fault)) c = omega (arith, c)
+refused-rising first last (OfGraph (Start b v e f)) c = omega (arith, c)
 refused-rising first last (OfScript (Script Failed)) c = c.0
 refused-rising first last (OfScript (Script Long)) c = omega (arith, c)
 refused-rising first last (OfScript (Line line)) c = omega (arith, c)

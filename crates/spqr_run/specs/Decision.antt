@@ -12,13 +12,14 @@ use Rattle.spqr_script.specs.Script.{Commands, IsFirstBadLine}
 use Rattle.spqr_script.specs.declared.command.Command.{Command}
 use Rattle.spqr_edge.specs.Device.{Files, contents}
 use Rattle.spqr_session.specs.Setting.{Setting, IsSetting}
+use Rattle.spqr_session.specs.Start.{IsStartFault}
 use Rattle.command_words.specs.Form.{Make, form_of}
 use Rattle.spqr_run.specs.Words.{Names, names_of}
 use Rattle.spqr_run.specs.Reading.{IsFileReason, SomeBytes, told_file}
 use Rattle.spqr_run.specs.declared.refusal.Refusal.{Refusal}
 use Rattle.spqr_run.specs.declared.refusal.Refusal.TheVariants.{Usage, OfGraph, OfScript}
 use Rattle.spqr_run.specs.declared.refusal.GraphRefusal.{GraphRefusal}
-use Rattle.spqr_run.specs.declared.refusal.GraphRefusal.TheVariants.{File, Gml, Rule}
+use Rattle.spqr_run.specs.declared.refusal.GraphRefusal.TheVariants.{File, Gml, Rule, Start}
 use Rattle.spqr_run.specs.declared.refusal.ScriptRefusal.{ScriptRefusal}
 use Rattle.spqr_run.specs.declared.refusal.ScriptRefusal.TheVariants.{File as Script, Line}
 
@@ -60,12 +61,13 @@ pub record SayCommands (bytes : List ℕ) (commands : List Command) : Type 0 whe
   pub within : length bytes ≤ script_limit
   pub spelled : Commands bytes commands
 
--- the graph file is accepted: it says a document that has a graph
+-- the graph file is accepted: it says a document that has a graph, at which a session can start
 pub record AcceptsGraph (bytes : List ℕ) : Type 0 where
   pub document : Document
   pub named : NamedGraph
   pub says : SayDocument bytes document
   pub graph : graph_of_document document ≡ Ok named
+  pub starts : (b v e f : ℕ) → ¬ IsStartFault named b v e f
 
 -- the script file is accepted
 pub record AcceptsScript (bytes : List ℕ) : Type 0 where
@@ -79,10 +81,11 @@ pub record IsAccepted (words : List (List ℕ)) (files : Files) : Type 0 where
   pub graph : AcceptsGraph (contents files names.graph)
   pub script : AcceptsScript (contents files names.script)
 
--- the work is what both files say: a setting on the document, and the commands
+-- the work is what both files say: a setting on the document, at whose graph a session can start, and the commands
 pub record IsWork (sources : Sources) (work : Work) : Type 0 where
   pub graph : SayDocument sources.graph work.setting.document
   pub setting : IsSetting work.setting
+  pub starts : (b v e f : ℕ) → ¬ IsStartFault work.setting.named b v e f
   pub script : SayCommands sources.script work.commands
 
 -- why bytes are not a document; running out of memory is not such a reason
@@ -91,11 +94,19 @@ IsGmlReason bytes (Bad at) = IsGmlFault (Bad at) bytes
 IsGmlReason bytes (End at) = IsGmlFault (End at) bytes
 IsGmlReason bytes GmlMemory = ⊥
 
--- why the bytes of the graph file are refused.
+-- why no session can start at a graph: the only such refusal is that of a rotation system that is not plane
+abbrev pub IsStartReason : NamedGraph → GraphRefusal → Type 0
+IsStartReason named (File fault) = ⊥
+IsStartReason named (Gml fault) = ⊥
+IsStartReason named (Rule fault) = ⊥
+IsStartReason named (Start b v e f) = IsStartFault named b v e f
+
+-- why the bytes of the graph file are refused
 abbrev pub IsGraphReason : List ℕ → GraphRefusal → Type 0
 IsGraphReason bytes (File fault) = IsFileReason graph_limit bytes fault
 IsGraphReason bytes (Gml fault) = (length bytes ≤ graph_limit) × IsGmlReason bytes fault
 IsGraphReason bytes (Rule fault) = (length bytes ≤ graph_limit) × ((d : Document) × Spells bytes d × (graph_of_document d ≡ Err fault))
+IsGraphReason bytes (Start b v e f) = (length bytes ≤ graph_limit) × ((d : Document) × (named : NamedGraph) × Spells bytes d × (graph_of_document d ≡ Ok named) × IsStartFault named b v e f)
 
 -- why the bytes of the script file are refused
 abbrev pub IsScriptReason : List ℕ → ScriptRefusal → Type 0
@@ -133,6 +144,7 @@ abbrev pub HasLine : GraphRefusal → Type 0
 HasLine (File fault) = ⊤
 HasLine (Gml fault) = fault ≢ GmlMemory
 HasLine (Rule fault) = fault ≢ GraphMemory
+HasLine (Start b v e f) = ⊤
 
 -- a decision has a text
 abbrev pub DecisionHasLine : Decision → Type 0

@@ -1,6 +1,6 @@
 -- The text and the status of a decision.
 use Rattle.std.specs.Prelude.{ℕ, ◌≤◌, zero, suc, List, Option, Some, Result, Ok, Err, IfSome, ⊤, ◌≡◌}
-use Rattle.spqr_script.specs.Refusal.{read_text, long_text, gml_text, rule_text, script_text, usage_text}
+use Rattle.spqr_script.specs.Refusal.{read_text, long_text, gml_text, rule_text, start_genus_text, script_text, usage_text}
 use Rattle.spqr_script.specs.declared.refusals.Which.{Which}
 use Rattle.spqr_script.specs.declared.refusals.Which.TheVariants.{GraphFile, ScriptFile}
 use Rattle.spqr_edge.specs.Device.{counted, Rose}
@@ -18,7 +18,7 @@ use Rattle.spqr_run.specs.declared.refusal.Refusal.{Refusal}
 use Rattle.spqr_run.specs.declared.refusal.Refusal.TheVariants.{Usage as NoForm, OfGraph, OfScript}
 use Rattle.spqr_run.specs.declared.refusal.GraphRefusal.{GraphRefusal}
 use Rattle.spqr_run.specs.declared.refusal.ScriptRefusal.{ScriptRefusal}
-use Rattle.spqr_run.specs.declared.refusal.GraphRefusal.TheVariants.{File, Gml, Rule}
+use Rattle.spqr_run.specs.declared.refusal.GraphRefusal.TheVariants.{File, Gml, Rule, Start}
 use Rattle.spqr_run.specs.declared.refusal.ScriptRefusal.TheVariants.{File as Script, Line}
 use Rattle.spqr_run.specs.declared.decision.Accepted.{Accepted}
 use Rattle.spqr_run.specs.declared.decision.Plan.{Plan}
@@ -37,6 +37,7 @@ refusal_text NoForm = usage_text
 refusal_text (OfGraph (File fault)) = file_text GraphFile fault
 refusal_text (OfGraph (Gml fault)) = gml_text fault
 refusal_text (OfGraph (Rule fault)) = rule_text fault
+refusal_text (OfGraph (Start b v e f)) = start_genus_text b v e f
 refusal_text (OfScript (Script fault)) = file_text ScriptFile fault
 refusal_text (OfScript (Line line)) = script_text line
 
@@ -56,6 +57,7 @@ abbrev pub graph_status : GraphRefusal → Status
 graph_status (File fault) = file_status fault
 graph_status (Gml fault) = GmlRefused
 graph_status (Rule fault) = GraphRefused
+graph_status (Start b v e f) = GraphRefused
 
 -- the status for a script file that is refused
 abbrev pub script_status : ScriptRefusal → Status

@@ -1,10 +1,10 @@
 // What is decided before anything is written: what is to be done, or the first refusal.
-ghost use Rattle.std.specs.Prelude.{◌≡◌, ◌≤◌, ⊤, Ok, IfOk, length, map, string_bytes};
+ghost use Rattle.std.specs.Prelude.{◌≡◌, ◌≤◌, ⊤, Ok, length, map, string_bytes};
 ghost use Rattle.spqr_edge.specs.Device.{CountsCall};
 ghost use Rattle.gml_graph.specs.Answer.{graph_of_document};
 ghost use Rattle.spqr_run.specs.Outcome.{Answers};
 ghost use Rattle.spqr_session.specs.Machine.{IsStarted};
-ghost use Rattle.spqr_run.specs.Decision.{graph_limit, script_limit, SayDocument, SayCommands, IsGraphReason, IsScriptReason, GraphFileSays, GraphFileRefused, ScriptFileSays, ScriptFileRefused, HasLine};
+ghost use Rattle.spqr_run.specs.Decision.{graph_limit, script_limit, SayDocument, SayCommands, IsStartReason, IsGraphReason, IsScriptReason, GraphFileSays, GraphFileRefused, ScriptFileSays, ScriptFileRefused, HasLine};
 ghost use Rattle.spqr_run.specs.Ending.{refusal_status, graph_status, script_status, CountsFaults, IsDecided, IsReady, OnDecision};
 ghost use Rattle.spqr_run.specs.Seen.{seen_shelf};
 
@@ -18,8 +18,8 @@ use gml_graph::Named;
 use gml_text::Doc;
 use spqr_edge::Shelf;
 use spqr_script::Command;
-use spqr_session::Session;
-use std::alloc::{AllocError, Global};
+use spqr_session::{Session, StartFault};
+use std::alloc::Global;
 
 // The greatest length of the graph file.
 const GRAPH_LIMIT: usize = 16_777_216;
@@ -44,18 +44,25 @@ pub enum Plan {
 }
 
 // A session on a document and its graph.
-fn started(alloc: Global, doc: Doc, named: Named) -> Result<Session, AllocError>
+fn started(alloc: Global, doc: Doc, named: Named) -> Result<Session, Halt<GraphRefusal>>
     requires { graph_of_document doc ≡ Ok named }
-    ensures parts { IfOk result (λ s. (s.setting.document ≡ doc) × (s.setting.named ≡ named)) }
-    ensures started { IfOk result IsStarted }
+    ensures document { Answers result (λ s. s.setting.document ≡ doc) (IsStartReason named) }
+    ensures started { Answers result IsStarted (λ _. ⊤) }
+    ensures faults { CountsFaults graph_status 0 0 result }
 {
-    Session::start(
+    match Session::start(
         alloc,
         doc,
         named,
         &mut block_splitter(),
         &mut block_embedder(),
-    )
+    ) {
+        Ok(session) => Ok(session),
+        Err(fault) => match fault {
+            StartFault::StartGenus(b, v, e, f) => Err(Halt::Refused(GraphRefusal::Start(b, v, e, f))),
+            StartFault::Memory => Err(Halt::Memory),
+        },
+    }
 }
 
 // A session on what the bytes of the graph file say.
@@ -72,7 +79,7 @@ fn session_on(alloc: Global, bytes: &[u8]) -> Result<Session, Halt<GraphRefusal>
         Err(Halt::Memory) => return Err(Halt::Memory),
     };
     match graph_of(alloc, &doc) {
-        Ok(named) => Ok(started(alloc, doc, named)?),
+        Ok(named) => started(alloc, doc, named),
         Err(Halt::Refused(fault)) => Err(Halt::Refused(GraphRefusal::Rule(fault))),
         Err(Halt::Memory) => Err(Halt::Memory),
     }

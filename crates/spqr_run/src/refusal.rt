@@ -7,7 +7,9 @@ use crate::reading::FileFault;
 use crate::status::Status;
 use gml_graph::GraphFault;
 use gml_text::GmlFault;
-use spqr_script::{Which, gml_line, long_line, read_line, rule_line, script_line, usage_line};
+use spqr_script::{
+    Which, gml_line, long_line, read_line, rule_line, script_line, start_genus_line, usage_line,
+};
 use std::alloc::{AllocError, Global};
 
 /// Why the graph file is refused.
@@ -19,6 +21,9 @@ pub enum GraphRefusal {
     Gml(GmlFault),
     /// The document has no graph, by this rule.
     Rule(GraphFault),
+    /// A planar block would start at a rotation system that is not plane: the block, and the numbers of vertices, edges and faces of
+    /// that rotation system.
+    Start(u32, u32, u32, u32),
 }
 
 /// Why the script file is refused.
@@ -73,6 +78,7 @@ impl Refusal {
                 GraphRefusal::File(fault) => file_line(alloc, Which::GraphFile, *fault),
                 GraphRefusal::Gml(fault) => gml_line(alloc, fault),
                 GraphRefusal::Rule(fault) => rule_line(alloc, fault),
+                GraphRefusal::Start(b, v, e, f) => start_genus_line(alloc, *b, *v, *e, *f),
             },
             Refusal::OfScript(refusal) => match refusal {
                 ScriptRefusal::File(fault) => file_line(alloc, Which::ScriptFile, *fault),
@@ -91,6 +97,7 @@ impl Refusal {
                 GraphRefusal::File(fault) => file_status(*fault),
                 GraphRefusal::Gml(_) => Status::GmlRefused,
                 GraphRefusal::Rule(_) => Status::GraphRefused,
+                GraphRefusal::Start(_, _, _, _) => Status::GraphRefused,
             },
             Refusal::OfScript(refusal) => match refusal {
                 ScriptRefusal::File(fault) => file_status(*fault),

@@ -11,7 +11,8 @@ use Rattle.std.proofs.lemmas.Slice.Eq.{bytes_eq-Decides}
 use Rattle.decimals.specs.Number.{are_digits}
 use Rattle.spqr_script.specs.Number.{SpellsNumber, number_below, value_of, index_limit}
 use Rattle.spqr_script.specs.Script.{SpellsIndex, SpellsEntry, SpellsRotation, is_semicolon}
-use Rattle.spqr_script.specs.Reading.{index_of, with_first, indices_of, pair_of, entry_of, is_above, entry_then, entries_after, rotation_of}
+use Rattle.gml_graph.specs.Start.{with_first}
+use Rattle.spqr_script.specs.Reading.{index_of, indices_of, pair_of, entry_of, is_above, entry_then, entries_after, rotation_of}
 use Rattle.spqr_script.proofs.Options.{cond_some_of, first_some, pair_some, then_some}
 
 -- ---- numbers

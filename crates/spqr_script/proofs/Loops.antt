@@ -3,7 +3,8 @@ use Rattle.std.proofs.Common.{◌≡◌, ℕ, ◌+◌, List, [], ◌∷◌, ◌+
 use Rattle.std.proofs.lemmas.Bool.{cond-true, cond-false}
 use Rattle.std.proofs.lemmas.List.{append-nil, nil_from_length}
 use Rattle.spqr_script.specs.Line.{cut_lines, without_return, lines_of, is_passed_over, tokens_of}
-use Rattle.spqr_script.specs.Reading.{index_of, with_first, indices_of, put_behind, entry_of, is_above, entry_then, entries_after, command_of, command_and, commands_from}
+use Rattle.gml_graph.specs.Start.{with_first}
+use Rattle.spqr_script.specs.Reading.{index_of, indices_of, put_behind, entry_of, is_above, entry_then, entries_after, command_of, command_and, commands_from}
 use Rattle.spqr_script.specs.declared.command.Command.{Command}
 use Rattle.std.proofs.lemmas.Option.{none-some, cond_some}
 

@@ -2,7 +2,8 @@
 use Rattle.std.proofs.Common.{◌≡◌, ℕ, Bool, true, false, cond, List, [], ◌∷◌, ◌++◌, Option, Some, None, refl}
 use Rattle.std.specs.Option.{option_map}
 use Rattle.std.proofs.lemmas.Option.{same_Some, none-some}
-use Rattle.spqr_script.specs.Reading.{with_first, pair_of, is_above, entry_then}
+use Rattle.gml_graph.specs.Start.{with_first}
+use Rattle.spqr_script.specs.Reading.{pair_of, is_above, entry_then}
 
 -- a chosen option that is Some was chosen by the test
 pub cond_some_of : {A : Type 0} (b : Bool) (o : Option A) (y : A) → cond b o None ≡ Some y → (b ≡ true) × (o ≡ Some y)

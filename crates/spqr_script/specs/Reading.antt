@@ -3,6 +3,7 @@ use Rattle.std.specs.Prelude.{◌≡◌, ℕ, ◌+◌, ◌-◌, ◌*◌, Bool, n
 use Rattle.std.specs.Option.{option_and_then}
 use Rattle.std.specs.Char.{is_ascii_digit}
 use Rattle.std.specs.List.{slice_split}
+use Rattle.gml_graph.specs.Start.{with_first}
 use Rattle.rotations.specs.Entries.{entry}
 use Rattle.spqr_script.specs.Number.{number_below, index_limit, rank_limit, max_listed}
 use Rattle.spqr_script.specs.Line.{is_passed_over, tokens_of}
@@ -20,11 +21,6 @@ use Rattle.spqr_script.specs.declared.command.Command.TheVariants.{Euler, Show, 
 -- the number of a vertex, an edge, a block, a node or a key
 abbrev pub index_of : List ℕ → Option ℕ
 index_of token = number_below index_limit token
-
--- a first value and others, where all are there
-abbrev pub with_first : {A : Type 0} → Option A → Option (List A) → Option (List A)
-with_first None others = None
-with_first (Some x) others = option_map (λ xs. x ∷ xs) others
 
 -- the numbers of tokens, where each is one
 unfoldable pub indices_of : List (List ℕ) → Option (List ℕ)

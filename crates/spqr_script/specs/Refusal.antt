@@ -1,12 +1,12 @@
 -- The lines of refusals, and the usage line.
-use Rattle.std.specs.Prelude.{ℕ, List, [], ◌++◌, codes, decimal}
-use Rattle.spqr_script.specs.Text.{line_end}
+use Rattle.std.specs.Prelude.{ℕ, List, [], ◌∷◌, ◌++◌, codes, decimal}
+use Rattle.spqr_script.specs.Text.{line_end, spaced_numbers}
 use Rattle.gml_text.specs.declared.document.GmlFault.{GmlFault}
 use Rattle.gml_text.specs.declared.document.GmlFault.TheVariants as gml
 use Rattle.gml_text.specs.declared.document.GmlFault.TheVariants.{Bad, End}
 use Rattle.gml_graph.specs.declared.fault.GraphFault.{GraphFault}
 use Rattle.gml_graph.specs.declared.fault.GraphFault.TheVariants as graph
-use Rattle.gml_graph.specs.declared.fault.GraphFault.TheVariants.{NoGraph, MoreGraphs, TooManyVertices, TooManyEdges, NodeNoId, NodeBadId, SameId, EdgeNoEnd, EdgeBadEnd, UnknownEnd, Loop}
+use Rattle.gml_graph.specs.declared.fault.GraphFault.TheVariants.{NoGraph, MoreGraphs, TooManyVertices, TooManyEdges, NodeNoId, NodeBadId, SameId, EdgeNoEnd, EdgeBadEnd, UnknownEnd, Loop, StartVertex}
 use Rattle.spqr_script.specs.declared.refusals.Which.{Which}
 use Rattle.spqr_script.specs.declared.refusals.Which.TheVariants.{GraphFile, ScriptFile}
 
@@ -46,7 +46,13 @@ rule_text (EdgeNoEnd k) = rule_about (codes "edge-no-end") k
 rule_text (EdgeBadEnd k) = rule_about (codes "edge-bad-end") k
 rule_text (UnknownEnd k) = rule_about (codes "unknown-end") k
 rule_text (Loop k) = rule_about (codes "loop") k
+rule_text (StartVertex v) = rule_about (codes "start-vertex") v
 rule_text graph.Memory = []
+
+-- `refused graph start-genus B V E F`: a planar block, and the numbers of vertices, edges and faces of the rotation system at which it
+-- would start, which is not plane
+abbrev pub start_genus_text : ℕ → ℕ → ℕ → ℕ → List ℕ
+start_genus_text b v e f = codes "refused graph start-genus" ++ spaced_numbers (b ∷ v ∷ e ∷ f ∷ []) ++ line_end
 
 -- `refused script line L`: the line is no command
 abbrev pub script_text : ℕ → List ℕ

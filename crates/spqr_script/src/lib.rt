@@ -37,4 +37,6 @@ pub use laws::script_laws;
 pub use node::{node_line, push_node_line};
 pub use nonplanar::{nonplanar_lines, push_nonplanar_lines};
 pub use reader::read;
-pub use refusals::{Which, gml_line, long_line, read_line, rule_line, script_line, usage_line};
+pub use refusals::{
+    Which, gml_line, long_line, read_line, rule_line, script_line, start_genus_line, usage_line,
+};

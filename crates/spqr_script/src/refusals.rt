@@ -1,8 +1,8 @@
 // The lines of refusals, and the usage line.
 ghost use Rattle.std.specs.Prelude.{◌≡◌, ◌≢◌, ◌++◌, IfOk, codes, decimal};
-ghost use Rattle.spqr_script.specs.Refusal.{read_text, long_text, gml_text, rule_text, script_text, usage_text};
+ghost use Rattle.spqr_script.specs.Refusal.{read_text, long_text, gml_text, rule_text, start_genus_text, script_text, usage_text};
 
-use decimals::{push_number, push_word};
+use decimals::{push_number, push_spaced, push_word};
 use gml_graph::GraphFault;
 use gml_text::GmlFault;
 use std::alloc::{AllocError, Global};
@@ -81,6 +81,7 @@ pub fn rule_line(alloc: Global, f: &GraphFault) -> Result<Vec<u8>, AllocError>
         GraphFault::EdgeBadEnd(k) => refused(alloc, b"graph edge-bad-end", u128::from(*k)),
         GraphFault::UnknownEnd(k) => refused(alloc, b"graph unknown-end", u128::from(*k)),
         GraphFault::Loop(k) => refused(alloc, b"graph loop", u128::from(*k)),
+        GraphFault::StartVertex(v) => refused(alloc, b"graph start-vertex", u128::from(*v)),
         GraphFault::Memory => unreachable!(),
     }
 }
@@ -94,6 +95,23 @@ fn refused(alloc: Global, rule: &[u8], n: u128) -> Result<Vec<u8>, AllocError>
     push_word(&mut out, rule)?;
     push_word(&mut out, b" ")?;
     push_number(&mut out, n)?;
+    push_word(&mut out, b"\n")?;
+    Ok(out)
+}
+
+/// The line `refused graph start-genus B V E F`: block `b` is planar, and the rotation system at which the file starts it has `v`
+/// vertices, `e` edges and `f` faces, and is not plane. Fails only if memory runs out.
+pub fn start_genus_line(
+    alloc: Global,
+    b: u32,
+    v: u32,
+    e: u32,
+    f: u32,
+) -> Result<Vec<u8>, AllocError>
+    ensures { IfOk result (λ text. text.items ≡ start_genus_text b v e f) }
+{
+    let mut out = Vec::from_slice(alloc, b"refused graph start-genus")?;
+    push_spaced(&mut out, &[b, v, e, f])?;
     push_word(&mut out, b"\n")?;
     Ok(out)
 }

@@ -1,13 +1,10 @@
 -- Lists that are given for vertices are a rotation system, one and no other, or have a least bad number.
-use Rattle.std.proofs.Common.{◌≡◌, ℕ, zero, suc, ◌<◌, ◌≤◌, Bool, true, false, ◌&&◌, ◌⊎◌, List, [], ◌∷◌, length, map, eqb, leb, refl, sym, ap, ◌∙◌, subst, inl, inr, arith}
-use Rattle.std.specs.List.{list_all}
-use Rattle.std.specs.List.Sorted.{IsPermutation}
-use Rattle.std.proofs.lemmas.Bool.{cases_Bool, cases_eq, cases_order, eq-eqb, eqb-true, true≢false, le-leb, leb-true}
+use Rattle.std.proofs.Common.{◌≡◌, ℕ, zero, suc, ◌<◌, ◌≤◌, true, ◌⊎◌, List, [], ◌∷◌, length, map, leb, refl, sym, ap, ◌∙◌, subst, inl, inr, arith}
+use Rattle.std.proofs.lemmas.Bool.{cases_Bool, cases_eq, cases_order, true≢false, le-leb, leb-true}
 use Rattle.std.proofs.lemmas.List.{ext_get_or, get_or-map, length-map, nil_from_length}
 use Rattle.std.proofs.lemmas.List.Sorted.{length_permutation, IsPermutation-trans}
-use Rattle.permutations.specs.Members.{is_member, is_distinct}
+use Rattle.permutations.specs.Members.{is_member}
 use Rattle.permutations.specs.Cyclic.{first_or, turned}
-use Rattle.permutations.proofs.Members.{member-head, member-tail, member-cases}
 use Rattle.permutations.proofs.Successor.{first_or-member}
 use Rattle.permutations.proofs.Turned.{turned-permutation, turned-first_or}
 use Rattle.multigraph.specs.Graph.{Multigraph, incident_edges, numbers_below}
@@ -16,47 +13,10 @@ use Rattle.rotations.specs.Entries.{entry, IsNamed, list_at}
 use Rattle.rotations.specs.Rotation.{order_at, IsCyclicOrder}
 use Rattle.rotations.specs.Given.{IsArranged, AreArranged, IsFirstBad, given_order}
 use Rattle.rotations.proofs.Membership.{incident-distinct}
-use Rattle.rotations.proofs.Arrangements.{permutation-distinct, permutation-member, permutation-member_back, permutation-from_members}
+use Rattle.rotations.proofs.Arrangements.{permutation-member}
 use Rattle.spqr_session.specs.Commands.Euler.{IsGiven}
-use Rattle.spqr_session.specs.Commands.Permute.{is_arrangement}
-
--- both of two tests
-both-true : (a b : Bool) → a ≡ true → b ≡ true → (a && b) ≡ true
-both-true a b p q = grind arith
-
-first-true : (a b : Bool) → (a && b) ≡ true → a ≡ true
-first-true true b h = refl
-first-true false b h = h
-
-second-true : (a b : Bool) → (a && b) ≡ true → b ≡ true
-second-true true b h = h
-second-true false b h = absurd (true≢false (sym h))
-
--- what holds of all members holds of each
-all-at : (p : ℕ → Bool) (xs : List ℕ) (x : ℕ) → list_all p xs ≡ true → is_member x xs ≡ true → p x ≡ true
-all-at p [] x a m = absurd (true≢false (sym m))
-all-at p (y ∷ ys) x a m = elim (member-cases x y ys m) [
-  | inl e ↦ subst (λ (z : ℕ). p z ≡ true) e (first-true (p y) (list_all p ys) a)
-  | inr t ↦ all-at p ys x (second-true (p y) (list_all p ys) a) t
-]
-
-all-from : (p : ℕ → Bool) (xs : List ℕ) → ((x : ℕ) → is_member x xs ≡ true → p x ≡ true) → list_all p xs ≡ true
-all-from p [] h = refl
-all-from p (y ∷ ys) h = both-true (p y) (list_all p ys) (h y (member-head y ys)) (all-from p ys (λ x m. h x (member-tail x y ys m)))
-
--- the test of arrangements is exact
-pub arranged-passes : (edges list : List ℕ) → is_distinct edges ≡ true → IsPermutation edges list → is_arrangement edges list ≡ true
-arranged-passes edges list d p =
-    both-true _ _ (both-true _ _ (permutation-distinct edges list p d) (all-from (λ e. is_member e edges) list (λ x m. permutation-member_back edges list x p m)))
-    (eq-eqb (length list) (length edges) (length_permutation edges list p))
-
-pub passes-arranged : (edges list : List ℕ) → is_arrangement edges list ≡ true → IsPermutation edges list
-passes-arranged edges list t =
-    let front = first-true (is_distinct list && list_all (λ e. is_member e edges) list) (eqb (length list) (length edges)) t in
-    let long = second-true (is_distinct list && list_all (λ e. is_member e edges) list) (eqb (length list) (length edges)) t in
-    permutation-from_members list edges (first-true (is_distinct list) (list_all (λ e. is_member e edges) list) front)
-    (λ x m. all-at (λ e. is_member e edges) list x (second-true (is_distinct list) (list_all (λ e. is_member e edges) list) front) m)
-    (eqb-true (length list) (length edges) long)
+use Rattle.gml_graph.specs.Arranged.{is_arrangement}
+use Rattle.gml_graph.proofs.Arranged.{arranged-passes, passes-arranged}
 
 -- each vertex's list is arranged, or there is a first vertex whose list is not
 arranged_cases : (g : Multigraph) (entries : List (ℕ × List ℕ)) (n : ℕ) → ((v : ℕ) → v < n → IsArranged g entries v)

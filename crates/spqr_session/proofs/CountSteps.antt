@@ -11,7 +11,7 @@ use Rattle.spqr_session.specs.Products.{member_count, CountByProduct, RankByProd
 use Rattle.spqr_session.specs.Commands.Count.{IsCounted, IsRanked, CountStep, RankStep}
 use Rattle.spqr_session.specs.Commands.Walk.{GotoStep}
 use Rattle.spqr_session.specs.Commands.Convert.{WithMoves, ConvertRankStep}
-use Rattle.spqr_session.proofs.OneStart.{setting-tree}
+use Rattle.spqr_session.proofs.SettingTrees.{setting-tree}
 use Rattle.spqr_session.proofs.Changes.{entry-right, entry-block}
 use Rattle.spqr_session.proofs.MembersCarried.{Listed, listed, lists-one, count-answers, count-one, count-keeps, rank-answers, rank-one, rank-keeps, goto-answers, goto-one, goto-keeps}
 use Rattle.spqr_session.proofs.ConvertCarried.{convert_rank-answers, convert_rank-one, convert_rank-keeps}

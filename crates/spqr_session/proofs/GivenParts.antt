@@ -23,8 +23,9 @@ use Rattle.rotations.specs.PartLists.{outer_edges, outer_list, outer_order, Arra
 use Rattle.rotations.proofs.Membership.{incident-distinct, member-edge}
 use Rattle.rotations.proofs.Arrangements.{permutation-member}
 use Rattle.skel_embed.specs.Taken.{IsGiven}
-use Rattle.spqr_session.specs.Commands.Permute.{is_arrangement, inner_edges}
-use Rattle.spqr_session.proofs.Arranging.{arranged-passes, passes-arranged}
+use Rattle.gml_graph.specs.Arranged.{is_arrangement}
+use Rattle.spqr_session.specs.Commands.Permute.{inner_edges}
+use Rattle.gml_graph.proofs.Arranged.{arranged-passes, passes-arranged}
 use Rattle.spqr_session.proofs.MovesCarried.{inner-of_outer}
 
 -- ---- bounds

@@ -18,8 +18,9 @@ use Rattle.multigraph.specs.Part.{Rises, IsNumbered, IsPlace}
 use Rattle.multigraph.proofs.Places.{rises-once}
 use Rattle.graph_theory.proofs.Rising.{HasAll, rises-same}
 use Rattle.spqr_session.specs.Trees.{BlockTree}
-use Rattle.spqr_session.specs.Commands.Permute.{is_arrangement, outer_edges, inner_edges}
-use Rattle.spqr_session.proofs.Arranging.{arranged-passes, passes-arranged}
+use Rattle.gml_graph.specs.Arranged.{is_arrangement}
+use Rattle.spqr_session.specs.Commands.Permute.{outer_edges, inner_edges}
+use Rattle.gml_graph.proofs.Arranged.{arranged-passes, passes-arranged}
 use Rattle.spqr_session.proofs.MovesCarried.{inner-of_outer}
 
 -- ---- one key

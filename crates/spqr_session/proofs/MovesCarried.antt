@@ -30,12 +30,13 @@ use Rattle.spqr_session.specs.declared.code.Code.TheVariants.{NoBlock, NoNode, W
 use Rattle.spqr_session.specs.BlockCodes.{is_block, is_node, is_planar, kind_of, block_ladder, node_ladder, read_ladder, of_entry, lock_codes, ChangesBlock, changed, Silently, ChangeStep}
 use Rattle.pair_split.specs.Kinds.{is_rigid, is_bond, has_choices}
 use Rattle.spqr_session.specs.Commands.Flip.{flip_ladder, IsFlipped, FlipStep}
-use Rattle.spqr_session.specs.Commands.Permute.{is_arrangement, outer_edges, inner_edges, permute_ladder, IsPermuted, PermuteStep}
+use Rattle.gml_graph.specs.Arranged.{is_arrangement}
+use Rattle.spqr_session.specs.Commands.Permute.{outer_edges, inner_edges, permute_ladder, IsPermuted, PermuteStep}
 use Rattle.spqr_session.specs.Commands.Mirror.{mirror_codes, IsMirrored, MirrorStep}
 use Rattle.spqr_session.specs.Commands.Lock.{IsLockSet, LockStep}
-use Rattle.spqr_session.proofs.Arranging.{passes-arranged}
+use Rattle.gml_graph.proofs.Arranged.{passes-arranged}
 use Rattle.spqr_script.proofs.PartNodes.{node-of_part}
-use Rattle.spqr_session.proofs.OneStart.{setting-tree}
+use Rattle.spqr_session.proofs.SettingTrees.{setting-tree}
 use Rattle.spqr_session.proofs.Ladders.{rung-none, ladder-answers, ladder-one}
 use Rattle.spqr_session.proofs.BlockCarried.{held, in-block, planar-entry, none-front, block-entry, entry-rises}
 use Rattle.spqr_session.proofs.Changes.{NodeFacts, node-facts, rigid-is, bond-is, change-does, change-keeps, entry-right, entry-block, silently-one, embedding-same}

@@ -18,7 +18,8 @@ use Rattle.spqr_session.specs.Embedded.{BlockView, block_view, IsEmbedded}
 use Rattle.spqr_session.specs.Codes.{Ladder, first_code}
 use Rattle.spqr_session.specs.BlockCodes.{is_node, is_planar, kind_of, of_entry, lock_codes}
 use Rattle.pair_split.specs.Kinds.{is_bond}
-use Rattle.spqr_session.specs.Commands.Permute.{is_arrangement, outer_edges, inner_edges, permute_codes, IsPermuted}
+use Rattle.gml_graph.specs.Arranged.{is_arrangement}
+use Rattle.spqr_session.specs.Commands.Permute.{outer_edges, inner_edges, permute_codes, IsPermuted}
 use Rattle.spqr_session.specs.Planned.{IsPlan, IsMovePlan}
 use Rattle.spqr_session.specs.declared.code.Code.{Code}
 use Rattle.spqr_session.specs.declared.code.Code.TheVariants.{NoNode, WrongKind, BadOrder, NonPlanar}

@@ -17,7 +17,7 @@ use Rattle.spqr_session.proofs.Chains.{step-keeps}
 pub setting-kept : (document : Document) (named : NamedGraph) (structure : BlockStructure) (old new : List BlockView) → IsCarried old new → setting_of document named structure new ≡ setting_of document named structure old
 setting-kept document named structure old new h = λ i. record { document = document; named = named; structure = structure; trees = h.trees i; certificates = h.certificates i }
 
--- a step, or none for want of memory, leads from a right session to a right one
+-- a step, or none where memory ran out, leads from a right session to a right one
 pub stepped-machine : {E : Type 0} (document : Document) (named : NamedGraph) (structure : BlockStructure) (command : Command) (old new : BoardView) (r : Result (Vec ℕ) E)
     → IsMachine (record { setting = setting_of document named structure old.views; state = board_state old }) → IsCarried old.views new.views
     → IfOk r (λ text. Step (setting_of document named structure old.views) (board_state old) command text.items (board_state new)) → OnErr r (new ≡ old)

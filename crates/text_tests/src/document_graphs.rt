@@ -6,7 +6,7 @@ use std::alloc::Global;
 use std::test::Fail;
 
 // The graph of a text that is a document.
-fn graph_of_text(alloc: Global, text: &str) -> Result<Named, GraphFault> {
+pub(crate) fn graph_of_text(alloc: Global, text: &str) -> Result<Named, GraphFault> {
     match read(alloc, text.as_bytes()) {
         Ok(doc) => graph_of(alloc, &doc),
         Err(_) => Err(GraphFault::Memory),

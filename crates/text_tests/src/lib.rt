@@ -13,4 +13,6 @@ mod documents;
 #[cfg(test)]
 mod scripts;
 #[cfg(test)]
+mod starts;
+#[cfg(test)]
 mod words;

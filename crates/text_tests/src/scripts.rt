@@ -389,6 +389,14 @@ fn texts_of_rules(rt: HostRuntime) -> Result<(), Fail> {
         rule_line(alloc, &GraphFault::Loop(2))?.as_slice(),
         b"refused graph loop 2\n".as_slice()
     );
+    assert_eq!(rt;
+        rule_line(alloc, &GraphFault::StartVertex(3))?.as_slice(),
+        b"refused graph start-vertex 3\n".as_slice()
+    );
+    assert_eq!(rt;
+        start_genus_line(alloc, 0, 4, 6, 2)?.as_slice(),
+        b"refused graph start-genus 0 4 6 2\n".as_slice()
+    );
     Ok(())
 }
 

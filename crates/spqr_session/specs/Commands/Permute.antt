@@ -1,8 +1,7 @@
 -- `permute B K KEYS`: the groups of a bond of a block are put in the order of keys.
-use Rattle.std.specs.Prelude.{◌≡◌, ℕ, Bool, ◌&&◌, ◌==◌, not, List, [], ◌∷◌, ◌++◌, length, map, slice_index, Option}
-use Rattle.std.specs.List.{list_all}
+use Rattle.std.specs.Prelude.{◌≡◌, ℕ, ◌==◌, not, List, [], ◌∷◌, ◌++◌, length, map, slice_index, Option}
 use Rattle.permutations.specs.Count.{least}
-use Rattle.permutations.specs.Members.{is_member, is_distinct}
+use Rattle.gml_graph.specs.Arranged.{is_arrangement}
 use Rattle.skeletons.specs.Items.{node_keys}
 use Rattle.skeletons.specs.Moves.{permute, MoveLeads}
 use Rattle.spqr_session.specs.Trees.{BlockTree, tree_at}
@@ -11,10 +10,6 @@ use Rattle.spqr_session.specs.Codes.{Ladder}
 use Rattle.spqr_session.specs.BlockCodes.{is_block, is_node, kind_of, is_planar, of_entry, lock_codes, Silently, ChangeStep}
 use Rattle.pair_split.specs.Kinds.{is_bond}
 use Rattle.spqr_session.specs.declared.code.Code.TheVariants.{NoBlock, NoNode, WrongKind, BadOrder, NonPlanar}
-
--- whether a list is a permutation of others, all different: no member twice, each among those given, and equally many
-abbrev pub is_arrangement : List ℕ → List ℕ → Bool
-is_arrangement given list = is_distinct list && list_all (λ x. is_member x given) list && length list == length given
 
 -- numbers of edges of the block as those of the whole graph
 abbrev pub outer_edges : BlockTree → List ℕ → List ℕ
