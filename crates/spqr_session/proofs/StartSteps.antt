@@ -121,7 +121,11 @@ module _ (named : NamedGraph) (structure : BlockStructure) (is : IsBlockStructur
     abbrev next : BlockView
     next = view_at views n
 
-    -- the next block is at its first rotation system
+    -- it is there
+    pub next-there : n < length views
+    next-there = subst (λ (k : ℕ). n < k) (sym below.one_each) l
+
+    -- and at its first rotation system
     next-first : IsStartBlock None named.graph (block n) next
     next-first = below.others n (omega arith) l
 
