@@ -53,4 +53,3 @@ pub mod BoardSteps
 pub mod BoardStates
 pub mod Sessions
 pub mod ReadBack
-pub mod GmlTexts
