@@ -1,5 +1,5 @@
 -- How the blocks are brought to the start that a file gives, one after another.
-use Rattle.std.proofs.Common.{◌≡◌, ◌≢◌, ℕ, ◌+◌, ◌<◌, ◌≤◌, Bool, true, false, List, [], length, replicate, get_or, slice_set, Option, None, Some, Result, Ok, Err, IfOk, IfErr, IfSome, IsSome, slice_index, ◌⊎◌, inl, inr, refl, sym, ap, ◌∙◌, subst, arith}
+use Rattle.std.proofs.Common.{◌≡◌, ◌≢◌, ℕ, ◌+◌, ◌<◌, ◌≤◌, Bool, true, false, List, [], length, replicate, get_or, slice_set, Option, None, Some, Result, Ok, Err, IfOk, IfErr, IsErrAnd, IfSome, IsSome, slice_index, ◌⊎◌, inl, inr, refl, sym, ap, ◌∙◌, subst, arith}
 use Rattle.std.proofs.lemmas.Bool.{cases_eq, cases_lt}
 use Rattle.std.proofs.lemmas.List.{get_or_default, length-set, get_or-set_same, get_or-set_other, get_or-replicate, get_or_past, length-replicate}
 use Rattle.multigraph.specs.Graph.{Multigraph, edge_count, IsGraph}
@@ -177,3 +177,8 @@ module _ (named : NamedGraph) (structure : BlockStructure) (is : IsBlockStructur
       none_before = none-bad;
     })
     next-refused OutOfMemory h = tt
+
+-- what holds of a fault holds of the error that it becomes
+pub err-from : {X : Type 0} (r : Result X StartFault) (fault : StartFault) (P : StartFault → Type 0) → IsErrAnd r (λ e. e ≡ fault) → P fault → IfErr r P
+err-from (Ok x) fault P e p = tt
+err-from (Err f) fault P e p = subst P (sym e) p

@@ -4,7 +4,7 @@ use Rattle.spqr_session.specs.Start.{start_entries, IsStartRefusal}
 use Rattle.spqr_session.specs.Starting.{AreStartedBelow, IsReadyFor, IsBlockTaken, IsGenusRefusal}
 use Rattle.spqr_session.specs.declared.fault.StartFault.{StartFault}
 use Rattle.spqr_session.proofs.BlockTrees.{view-at}
-use Rattle.spqr_session.proofs.StartSteps.{first-stay, start-arranges, all-started, next-there, next-lists, next-ready, next-started, next-refused}
+use Rattle.spqr_session.proofs.StartSteps.{first-stay, start-arranges, all-started, next-there, next-lists, next-ready, next-started, next-refused, err-from}
 use Rattle.spqr_session.proofs.starting.take_starts.Goals as goal
 
 pub returns-then-not-has_start-clause-started : goal.returns-then-not-has_start-clause-started
@@ -20,7 +20,7 @@ start_block-requires c =
     let told = c.loop-b.invariant.1 in
     let below = c.loop-b.invariant.2 in
     let l : c.loop-b.b < length structure.blocks = subst (λ (n : ℕ). c.loop-b.b < n) c.block_count-b-end.ensures c.loop-b-test.true in
-    let own = next-lists named structure c.requires.structure starts told c.loop-b.b views below l c.in_ok-lists.lists.items c.index.result.now (c.in_ok-lists.ensures starts told) c.index.ensures.value in
+    let own = next-lists named structure c.requires.structure starts told c.loop-b.b views below l c.in_ok-lists.lists.items c.index.result.now (c.in_ok-lists.ensures starts told) c.index.ensures in
     let seen = view-at views c.loop-b.b c.index_mut.result.now (next-there named structure c.requires.structure starts told c.loop-b.b views below l) c.index_mut.ensures.value in
     subst (λ (v : BlockView). IsReadyFor c.index.result.now v) (sym seen)
     (subst (λ (e : List (ℕ × List ℕ)). IsReadyFor e (view_at views c.loop-b.b)) (sym own)
@@ -35,14 +35,13 @@ returns-in_err-start_block-clause-refused c =
     let told = c.loop-b.invariant.1 in
     let below = c.loop-b.invariant.2 in
     let l : c.loop-b.b < length structure.blocks = subst (λ (n : ℕ). c.loop-b.b < n) c.block_count-b-end.ensures c.loop-b-test.true in
-    let own = next-lists named structure c.requires.structure starts told c.loop-b.b views below l c.in_ok-lists.lists.items c.index.result.now (c.in_ok-lists.ensures starts told) c.index.ensures.value in
+    let own = next-lists named structure c.requires.structure starts told c.loop-b.b views below l c.in_ok-lists.lists.items c.index.result.now (c.in_ok-lists.ensures starts told) c.index.ensures in
     let seen = view-at views c.loop-b.b c.index_mut.result.now (next-there named structure c.requires.structure starts told c.loop-b.b views below l) c.index_mut.ensures.value in
     let fault = c.in_err-start_block.field-0.0 in
     let refused : IsStartRefusal named fault = next-refused named structure c.requires.structure starts told c.loop-b.b views below l fault
     (subst (λ (v : BlockView). IsGenusRefusal c.loop-b.b (start_entries (view_at views c.loop-b.b).tree.part starts) v fault) seen
     (subst (λ (e : List (ℕ × List ℕ)). IsGenusRefusal c.loop-b.b e c.index_mut.result.now fault) own c.in_err-start_block.ensures.refused)) in
-    let made = c.from_residual-in_err-start_block.ensures in
-    ?
+    err-from c.from_residual-in_err-start_block.result fault (IsStartRefusal named) c.from_residual-in_err-start_block.ensures.1 refused
 
 pub loop-b-preserved : goal.loop-b-preserved
 loop-b-preserved c =
@@ -53,7 +52,7 @@ loop-b-preserved c =
     let told = c.loop-b.invariant.1 in
     let below = c.loop-b.invariant.2 in
     let l : c.loop-b.b < length structure.blocks = subst (λ (n : ℕ). c.loop-b.b < n) c.block_count-b-end.ensures c.loop-b-test.true in
-    let own = next-lists named structure c.requires.structure starts told c.loop-b.b views below l c.in_ok-lists.lists.items c.index.result.now (c.in_ok-lists.ensures starts told) c.index.ensures.value in
+    let own = next-lists named structure c.requires.structure starts told c.loop-b.b views below l c.in_ok-lists.lists.items c.index.result.now (c.in_ok-lists.ensures starts told) c.index.ensures in
     let seen = view-at views c.loop-b.b c.index_mut.result.now (next-there named structure c.requires.structure starts told c.loop-b.b views below l) c.index_mut.ensures.value in
     let new = c.start_block.new.block in
     (starts, told, next-started named structure c.requires.structure starts told c.loop-b.b views below l new
