@@ -103,7 +103,6 @@ first-stay named structure views graph is (inr none) h = record { one_each = h.o
 pub start-arranges : (named : NamedGraph) (lists : List (List ℕ)) → IsNamed named → named.start ≡ Some lists → ArrangeEdges named.graph lists
 start-arranges named lists n e = subst (λ (o : Option (List (List ℕ))). IfSome o (ArrangeEdges named.graph)) e n.start
 
-
 module _ (named : NamedGraph) (structure : BlockStructure) (is : IsBlockStructure named.graph structure) (lists : List (List ℕ)) (told : named.start ≡ Some lists) where
   abbrev block : ℕ → List ℕ
   block b = block_at structure.blocks b

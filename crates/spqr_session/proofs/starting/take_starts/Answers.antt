@@ -54,7 +54,10 @@ loop-b-preserved c =
     let l : c.loop-b.b < length structure.blocks = subst (λ (n : ℕ). c.loop-b.b < n) c.block_count-b-end.ensures c.loop-b-test.true in
     let own = next-lists named structure c.requires.structure starts told c.loop-b.b views below l c.in_ok-lists.lists.items c.index.result.now (c.in_ok-lists.ensures starts told) c.index.ensures in
     let seen = view-at views c.loop-b.b c.index_mut.result.now (next-there named structure c.requires.structure starts told c.loop-b.b views below l) c.index_mut.ensures.value in
-    let new = c.start_block.new.block in
-    (starts, told, next-started named structure c.requires.structure starts told c.loop-b.b views below l new
-    (subst (λ (v : BlockView). IsBlockTaken (start_entries (view_at views c.loop-b.b).tree.part starts) v new) seen
-    (subst (λ (e : List (ℕ × List ℕ)). IsBlockTaken e c.index_mut.result.now new) own c.in_ok-start_block.ensures.taken)))
+    let new = c.start_block.new.block in (
+      starts,
+      told,
+      next-started named structure c.requires.structure starts told c.loop-b.b views below l new
+          (subst (λ (v : BlockView). IsBlockTaken (start_entries (view_at views c.loop-b.b).tree.part starts) v new) seen
+          (subst (λ (e : List (ℕ × List ℕ)). IsBlockTaken e c.index_mut.result.now new) own c.in_ok-start_block.ensures.taken)),
+    )
