@@ -184,8 +184,8 @@ module _ (table edges : List ℕ) (v total : ℕ) (before : List (List (ℕ × L
   -- one edge more: its block's edges are moved, if they were not before
   pub moved-more : (done : List ℕ) (x : ℕ) (lists : List (List (ℕ × List ℕ))) (waiting : List (List ℕ)) → AreMoved table edges done v total before lists waiting → slice_index table x < total
       → AreMoved table edges (done ++ x ∷ []) v total before
-          (set lists (slice_index table x) (slice_index_or lists (slice_index table x) [] ++ entry_of v (slice_index_or waiting (slice_index table x) [])))
-          (set waiting (slice_index table x) [])
+      (set lists (slice_index table x) (slice_index_or lists (slice_index table x) [] ++ entry_of v (slice_index_or waiting (slice_index table x) [])))
+      (set waiting (slice_index table x) [])
   moved-more done x lists waiting h l = record {
     waiting_each = length-set waiting y [] ∙ h.waiting_each;
     lists_each = length-set lists y added ∙ h.lists_each;
@@ -217,8 +217,8 @@ module _ (table edges : List ℕ) (v total : ℕ) (before : List (List (ℕ × L
 
   pub moved-next : (i : ℕ) (lists : List (List (ℕ × List ℕ))) (waiting : List (List ℕ)) → i < length edges → AreMoved table edges (take i edges) v total before lists waiting → slice_index table (get_or edges i 0) < total
       → AreMoved table edges (take (i + 1) edges) v total before
-          (set lists (slice_index table (get_or edges i 0)) (slice_index_or lists (slice_index table (get_or edges i 0)) [] ++ entry_of v (slice_index_or waiting (slice_index table (get_or edges i 0)) [])))
-          (set waiting (slice_index table (get_or edges i 0)) [])
+      (set lists (slice_index table (get_or edges i 0)) (slice_index_or lists (slice_index table (get_or edges i 0)) [] ++ entry_of v (slice_index_or waiting (slice_index table (get_or edges i 0)) [])))
+      (set waiting (slice_index table (get_or edges i 0)) [])
   moved-next i lists waiting l h m =
       let x = get_or edges i 0 in
       let y = slice_index table x in

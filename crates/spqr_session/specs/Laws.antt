@@ -64,8 +64,8 @@ abbrev pub GmlIsReadBack : Type 0
 GmlIsReadBack =
     (setting : Setting) (state : State) → IsSetting setting → IsState setting state
     → IsReadBack setting state.present
-        (marked (marks setting.named.graph.vertex_count setting.trees state.present) setting.document)
-        (record setting.named { start = told_lists (present_lists setting.named.graph.vertex_count setting.trees state.present) })
+    (marked (marks setting.named.graph.vertex_count setting.trees state.present) setting.document)
+    (record setting.named { start = told_lists (present_lists setting.named.graph.vertex_count setting.trees state.present) })
 
 -- there is one report on a setting and commands
 abbrev pub OneReport : Type 0

@@ -14,5 +14,5 @@ returns c =
     let within : c.vertex-v.result < length texts = subst (λ (w : ℕ). w < length texts) (sym is) c.requires.within in
     ok-further c.push_own.result _ _
     (λ e. put-text texts c.vertex-v.result c.index_mut-text.result.now c.push_own.new.text more within c.index_mut-text.ensures.value e
-        ∙ ap (λ (w : ℕ). set (bytes_of texts) w (with_numbers (slice_index_or (bytes_of texts) w []) more)) is)
+    ∙ ap (λ (w : ℕ). set (bytes_of texts) w (with_numbers (slice_index_or (bytes_of texts) w []) more)) is)
     c.push_own.ensures

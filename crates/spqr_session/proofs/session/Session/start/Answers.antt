@@ -23,7 +23,7 @@ invariant_of-result g c =
     let views = c.take_starts.new.embedded.items in
     let is = subst (λ (x : Multigraph). IsBlockStructure x structure) c.graph.ensures.value c.in_ok-blocks.ensures in
     subst (λ (x : BoardView). IsMachine (record { setting = setting_of d n structure x.views; state = board_state x })) (sym c.of.ensures)
-    (started-machine (record { setting = setting_of d n structure views; state = state_of views }) (started d n structure views c.requires is c.in_ok-take_starts.ensures))
+    (started-machine (record { setting = setting_of d n structure views; state = state_of views }) (started d n structure views c.requires is c.in_ok-take_starts.ensures.started))
 
 pub returns-clause-started : goal.returns-clause-started
 returns-clause-started g c =
@@ -33,4 +33,4 @@ returns-clause-started g c =
     let views = c.take_starts.new.embedded.items in
     let is = subst (λ (x : Multigraph). IsBlockStructure x structure) c.graph.ensures.value c.in_ok-blocks.ensures in
     subst (λ (x : BoardView). IsStarted (record { setting = setting_of d n structure x.views; state = board_state x })) (sym c.of.ensures)
-    (started d n structure views c.requires is c.in_ok-take_starts.ensures)
+    (started d n structure views c.requires is c.in_ok-take_starts.ensures.started)
