@@ -3,10 +3,12 @@
 changes, and compares each status and each refusal line with what a plain slow reader of the grammar has.
 
 Each run has 1 GiB of memory and 10 seconds of a processor (two minutes by the clock). What is required, by the reader below: the line of a refusal with its status, or a report;
-of a report the lines of the vertices are compared, how many answers there are and of which kind, and what `gml` writes. Nothing may
-be on standard error, and every eleventh run is made twice. Prints a summary and ends with 1 where something differs; the files of the
-first difference are then in bench/data."""
+of a report the lines of the vertices are compared, how many answers there are and of which kind, and what `gml` writes: the
+document with some start in the plane. A third of the small graphs have texts of starts at their nodes, good ones and bad ones.
+Nothing may be on standard error, and every eleventh run is made twice. Prints a summary and ends with 1 where something differs;
+the files of the first difference are then in bench/data."""
 import collections
+import functools
 import glob
 import multiprocessing
 import os
@@ -17,6 +19,10 @@ import subprocess
 import sys
 import tempfile
 import time
+
+import head_of
+from embeddings import Block, Composed, faces, from_least, is_plane, numbered
+from report_of import written
 
 HERE = os.path.dirname(os.path.abspath(__file__))
 GRAPH_LIMIT, SCRIPT_LIMIT = 16777216, 1048576
@@ -87,8 +93,100 @@ def first(pairs, key):
     return next((value for name, value in pairs if name == key), None)
 
 
+START = b"spqrRotation"
+MOST = 60
+
+
+def graph_list(pairs):
+    return next(value for key, value in pairs if key == b"graph" and isinstance(value, list))
+
+
+def nodes_of(pairs):
+    return [value for key, value in graph_list(pairs) if key == b"node" and isinstance(value, list)]
+
+
+def lists_at(pairs, ends):
+    """The numbers at each vertex by the texts of the nodes; None where the file has no start; or the words of the refusal."""
+    texts = [first(node, START) for node in nodes_of(pairs)]
+    if not texts or not all(isinstance(text, bytes) and text.startswith(b'"') for text in texts):
+        return None
+    at, lists = [[] for _ in texts], []
+    for e, pair in enumerate(ends):
+        for v in pair:
+            at[v].append(e)
+    for v, text in enumerate(texts):
+        if not re.fullmatch(rb"[\t-\r ]*(?:[0-9]+(?:[\t-\r ]+[0-9]+)*[\t-\r ]*)?", text[1:-1]):
+            return f"start-vertex {v}"
+        numbers = [int(number) for number in re.findall(rb"[0-9]+", text)]
+        if sorted(numbers) != at[v]:
+            return f"start-vertex {v}"
+        lists.append(numbers)
+    return lists
+
+
+def rotation_in(block, lists):
+    return {v: from_least([e for e in lists[v] if e in block.edges]) for v in block.vertices}
+
+
+def blocks_of(ends):
+    return [Block(part) for part in (head_of.blocks(numbered(ends)) if ends else [])]
+
+
+def start_of(pairs, ends):
+    """The words of the refusal of the texts at the nodes; None where they are accepted or not read."""
+    lists = lists_at(pairs, ends)
+    if lists is None or isinstance(lists, str):
+        return lists
+    for number, block in enumerate(blocks_of(ends)):
+        rotation = rotation_in(block, lists)
+        if not is_plane(block, rotation) and Composed(block).planar:
+            return f"start-genus {number} {len(block.vertices)} {len(block.edges)} {len(faces(block.edges, rotation))}"
+    return None
+
+
+def with_texts(pairs, texts):
+    """The document with these values in its nodes: in place of the first value under the key of starts, else at the end."""
+    graph, left, found = graph_list(pairs), iter(texts), []
+    for key, value in graph:
+        if key == b"node" and isinstance(value, list):
+            place = next((i for i, (name, _) in enumerate(value) if name == START), len(value))
+            value = value[:place] + [(START, next(left))] + value[place + 1:]
+        found.append((key, value))
+    return [(key, found if value is graph else value) for key, value in pairs]
+
+
+def wrong_start(pairs, text, ends):
+    """None where the text is this document with a start as it is written; else what is wrong."""
+    run = run_of(text)
+    if run is None or run[1]:
+        return "no document is written back"
+    texts = [first(node, START) for node in nodes_of(run[0])]
+    if len(texts) != len(nodes_of(pairs)) or run[0] != with_texts(pairs, texts):
+        return "another document is written back"
+    lists = lists_at(run[0], ends) if texts else []
+    if not isinstance(lists, list):
+        return f"the document that is written has {lists or 'no start'}"
+    if texts != [b'"%s"' % b" ".join(b"%d" % number for number in numbers) for numbers in lists]:
+        return "numbers are written in another way"
+    return wrong_orders(lists, ends) if len(ends) <= MOST else None
+
+
+def wrong_orders(lists, ends):
+    """None where the lists are block by block, those of a planar block in the plane and from the least edge on, others increasing."""
+    wanted = [[] for _ in lists]
+    for number, block in enumerate(blocks_of(ends)):
+        rotation = rotation_in(block, lists)
+        if not is_plane(block, rotation):
+            if Composed(block).planar:
+                return f"the start that is written for block {number} is not in the plane"
+            rotation = block.at
+        for v in block.vertices:
+            wanted[v] += rotation[v]
+    return None if wanted == lists else "numbers are written in another order"
+
+
 def graph_of(pairs):
-    """The ids and how many edges there are, or the words of the refusal."""
+    """The ids and the ends of the edges, or the words of the refusal."""
     graphs = [value for key, value in pairs if key == b"graph" and isinstance(value, list)]
     if len(graphs) != 1:
         return "more" if graphs else "none"
@@ -106,10 +204,11 @@ def graph_of(pairs):
         if whole(first(node, b"id")) in ids:
             return f"same-id {k}"
         ids[whole(first(node, b"id"))] = k
+    ends = []
     for k, edge in enumerate(edges):
-        ends = [first(edge, b"source"), first(edge, b"target")]
-        numbers = [whole(end) for end in ends]
-        if None in ends:
+        values = [first(edge, b"source"), first(edge, b"target")]
+        numbers = [whole(value) for value in values]
+        if None in values:
             return f"edge-no-end {k}"
         if None in numbers:
             return f"edge-bad-end {k}"
@@ -117,7 +216,8 @@ def graph_of(pairs):
             return f"unknown-end {k}"
         if numbers[0] == numbers[1]:
             return f"loop {k}"
-    return list(ids), len(edges)
+        ends.append(tuple(ids[number] for number in numbers))
+    return list(ids), ends
 
 
 # The script. In the forms N is a number below 2^32, T one from 1 to 10,000, R one below 2^128, _ blanks.
@@ -166,7 +266,7 @@ def words_of(text):
 # What is due.
 
 def due(graph, script):
-    """The status and the line of the refusal; or 0, the document, the ids, the number of edges and the words."""
+    """The status and the line of the refusal; or 0, the document, the ids, the ends of the edges and the words."""
     if len(graph) > GRAPH_LIMIT:
         return 3, "long graph"
     run = run_of(graph)
@@ -176,6 +276,8 @@ def due(graph, script):
     found = graph_of(run[0])
     if isinstance(found, str):
         return 5, f"graph {found}"
+    if start := start_of(run[0], found[1]):
+        return 5, f"graph {start}"
     if len(script) > SCRIPT_LIMIT:
         return 3, "long script"
     words = words_of(script)
@@ -188,7 +290,7 @@ ANSWERS = {"euler": "euler", "show": "rotation", "faces": "faces", "list": "list
 HEAD = "cut ", "block ", "node ", "planar ", "nonplanar ", "path "
 
 
-def wrong_report(out, pairs, ids, edges, words):
+def wrong_report(out, pairs, ids, ends, words):
     """None where the report may be one of these; else what is wrong."""
     place = 0
 
@@ -198,7 +300,7 @@ def wrong_report(out, pairs, ids, edges, words):
         found, place = out[place:end].decode("ascii"), end + 1
         return found if end >= 0 else "no line"
 
-    for wanted in [f"graph {len(ids)} {edges}"] + [f"vertex {v} {number}" for v, number in enumerate(ids)]:
+    for wanted in [f"graph {len(ids)} {len(ends)}"] + [f"vertex {v} {number}" for v, number in enumerate(ids)]:
         if line() != wanted:
             return f"no line {wanted}"
     while out[place:place + 10].decode("ascii").startswith(HEAD):
@@ -209,8 +311,8 @@ def wrong_report(out, pairs, ids, edges, words):
             return f"command {number}, {word}, is answered by {answer[0]}"
         if answer[0] == "gml":
             text, place = out[place:place + int(answer[1])], place + int(answer[1])
-            if run_of(text) != (pairs, 0):
-                return "another document is written back"
+            if wrong := wrong_start(pairs, text, ends):
+                return wrong
         elif answer[0] in ("faces", "list", "moves"):
             kinds = {"faces": ("face",), "list": ("rotation",), "moves": ("flip", "permute")}[answer[0]]
             if not all(line().split()[0] in kinds for _ in range(int(answer[-1]))):
@@ -310,6 +412,37 @@ def changed(draw, text, kind):
     return text
 
 
+@functools.lru_cache(maxsize=None)
+def known(graph):
+    """The document, the ends of its edges and its blocks with their lists, where it is small and accepted; else None."""
+    run = run_of(graph)
+    found = graph_of(run[0]) if run and not run[1] else "none"
+    if isinstance(found, str) or len(found[1]) > MOST:
+        return None
+    return run[0], found[1], [(block, Composed(block)) for block in blocks_of(found[1])]
+
+
+def started(draw, graph):
+    """The graph with texts at its nodes: most often a start in the plane, or one wrong in one place."""
+    found = known(graph)
+    if found is None:
+        return graph
+    pairs, ends, blocks = found
+    lists = [[] for _ in nodes_of(pairs)]
+    tangled = draw.random() < 0.2
+    for block, way in blocks:
+        free = tangled or not way.planar
+        rotation = block.at if free else way.compose(way.choices_at(draw.randrange(way.count()), [()] * len(block.nodes)))
+        for v in block.vertices:
+            numbers = draw.sample(rotation[v], len(rotation[v])) if free else list(rotation[v])
+            place = draw.randrange(len(numbers))
+            lists[v] += numbers[place:] + numbers[:place]
+    texts = [b'"%s"' % b" ".join(b"%d" % number for number in numbers) for numbers in lists]
+    if texts and draw.random() < 0.3:
+        texts[draw.randrange(len(texts))] = draw.choice([b"0", b'""', b'"0"', b'"-1"', b'"4294967296"', b'"0  1"', [(START, b'"0"')], draw.choice(texts)])
+    return written(with_texts(pairs, texts))
+
+
 def large(draw, graph, script):
     """Files at the limits of bytes, of vertices and of edges, and one more."""
     more = draw.randrange(2)
@@ -330,6 +463,8 @@ def pair(draw):
         script = draw.choice(EXAMPLES)[1]
     if draw.random() < 0.001:
         return large(draw, graph, script)
+    if draw.random() < 0.35:
+        graph = started(draw, graph)
     way = draw.choices(["graph", "script", "both", "neither"], [40, 35, 20, 5])[0]
     if way in ("graph", "both"):
         graph = changed(draw, graph, "graph")
@@ -384,7 +519,7 @@ def case(number):
     again = called(*names) if number % 11 == 0 else got
     if again != got:
         wrong = f"of two runs one gives {got[0], got[1][:80], got[2][:80]} and one {again[0], again[1][:80], again[2][:80]}"
-    kind = re.sub(r" \d+$", "", wanted[1]) if wanted[0] else "report"
+    kind = re.sub(r"( \d+)+$", "", wanted[1]) if wanted[0] else "report"
     return number, wanted[0], kind, len(wanted[-1]) if wanted[0] == 0 else 0, wrong
 
 

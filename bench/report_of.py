@@ -6,7 +6,8 @@
   --composed                             finds the lists by composing skeletons even where all rotation systems could be tried
 
 Small blocks are listed by trying all their rotation systems, others by composing those of their skeletons. A graph file that
-is no document or is refused is not for this program; a script that is refused answers as the program does."""
+is no document or is refused is not for this program, but for the refusals of a start; these and a script that is refused are
+answered as the program does."""
 import re
 import sys
 
@@ -15,6 +16,8 @@ from embeddings import (OVER, Block, Composed, choice, choices, faces, flip, fro
                         numbered, permute, rotation_total, runs, text_of)
 
 TRIED = 20000
+START = b"spqrRotation"
+sys.set_int_max_str_digits(0)
 
 
 # The graph file.
@@ -51,13 +54,51 @@ def written(pairs, depth=0):
     return out
 
 
+def lists_under(pairs, name):
+    return [value for key, value in pairs if key == name and isinstance(value, list)]
+
+
 def graph_of(pairs):
-    graph = next(value for key, value in pairs if key == b"graph" and isinstance(value, list))
+    graph = lists_under(pairs, b"graph")[0]
     first = lambda inner, name: int(next(value for key, value in inner if key == name))
-    ids = [first(value, b"id") for key, value in graph if key == b"node" and isinstance(value, list)]
+    ids = [first(node, b"id") for node in lists_under(graph, b"node")]
     place = {number: vertex for vertex, number in enumerate(ids)}
-    ends = [(place[first(value, b"source")], place[first(value, b"target")]) for key, value in graph if key == b"edge" and isinstance(value, list)]
+    ends = [(place[first(edge, b"source")], place[first(edge, b"target")]) for edge in lists_under(graph, b"edge")]
     return ids, ends
+
+
+# The start that a file gives, and the start that is written.
+
+
+class RefusedGraph(Exception):
+    """The words of the refusal."""
+
+
+def start_of(pairs, ends):
+    """The numbers at each vertex, in the order of the file; None where the file has no start."""
+    nodes = lists_under(lists_under(pairs, b"graph")[0], b"node")
+    texts = [next((value for key, value in node if key == START), None) for node in nodes]
+    if not texts or not all(isinstance(text, bytes) and text.startswith(b'"') for text in texts):
+        return None
+    lists = []
+    for v, text in enumerate(texts):
+        words = text[1:-1].split()
+        if not all(re.fullmatch(rb"[0-9]+", word) for word in words) or sorted(map(int, words)) != [e for e, pair in enumerate(ends) if v in pair]:
+            raise RefusedGraph(f"start-vertex {v}")
+        lists.append([int(word) for word in words])
+    return lists
+
+
+def marked(pairs, texts):
+    """The document with these texts in its nodes: in place of the first value under the key, else at the end of the node."""
+    graph, left, nodes = lists_under(pairs, b"graph")[0], iter(texts), []
+    for key, value in graph:
+        if key == b"node" and isinstance(value, list):
+            text = b'"%s"' % next(left).encode()
+            place = next((i for i, (name, _) in enumerate(value) if name == START), len(value))
+            value = value[:place] + [(START, text)] + value[place + 1:]
+        nodes.append((key, value))
+    return [(key, nodes if value is graph else value) for key, value in pairs]
 
 
 # The script.
@@ -205,8 +246,27 @@ class Session:
         for e, (a, b) in enumerate(ends):
             self.at[a].append(e)
             self.at[b].append(e)
-        self.family = tuple((l.first() if l.planar else None, frozenset()) for l in self.lists)
+        self.family = tuple((rotation, frozenset()) for rotation in self.starts(start_of(pairs, ends)))
         self.earlier, self.later = [], []
+
+    def starts(self, start):
+        """The rotation system from which each block sets out: that of the file, or the first; None for a block that is not planar."""
+        for number, (block, lists) in enumerate(zip(self.blocks, self.lists)):
+            if not lists.planar:
+                yield None
+            elif start is None:
+                yield lists.first()
+            else:
+                rotation = {v: from_least([e for e in start[v] if e in block.edges]) for v in block.vertices}
+                if not is_plane(block, rotation):
+                    raise RefusedGraph(f"start-genus {number} {len(block.vertices)} {len(block.edges)} {len(faces(block.edges, rotation))}")
+                yield rotation
+
+    def texts(self):
+        """The text of each vertex: its edges block by block, in a planar block in their present order from the least on."""
+        for v in range(len(self.ids)):
+            orders = [(now or block.at)[v] for block, (now, _) in zip(self.blocks, self.family) if v in block.at]
+            yield " ".join(str(e) for order in orders for e in order)
 
     def head(self):
         yield f"graph {len(self.ids)} {len(self.ends)}"
@@ -248,7 +308,7 @@ class Session:
         if c[0] == "euler":
             return self.euler(c[1])
         if c[0] == "gml":
-            text = written(self.pairs)
+            text = written(marked(self.pairs, self.texts()))
             return [f"gml {len(text)}", text]
         if c[0] in ("undo", "redo"):
             here, there = (self.earlier, self.later) if c[0] == "undo" else (self.later, self.earlier)
@@ -378,10 +438,13 @@ class Session:
 def report(graph, script, composed):
     """The lines of the report; a refused script is one line."""
     pairs = document(open(graph, "rb").read())
+    try:
+        session = Session(*graph_of(pairs), pairs, composed)
+    except RefusedGraph as refused:
+        return [f"refused graph {refused}"]
     found = commands(open(script, "rb").read())
     if isinstance(found, int):
         return [f"refused script line {found}"]
-    session = Session(*graph_of(pairs), pairs, composed)
     lines = list(session.head())
     for c in found:
         try:

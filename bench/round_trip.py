@@ -2,7 +2,8 @@
 """round_trip.py PROGRAM GRAPH ..: what goes into the program comes out again, on each graph that it accepts.
 
 From the nodes of the trees in the head the edges of each block come back, with their ends, and from the blocks the edges of the graph;
-from the document that `gml` writes the graph comes back. Ends with 1 where one does not."""
+from the document that `gml` writes the graph comes back, and after all blocks have been mirrored their present embeddings. Ends with 1
+where one does not."""
 import os
 import re
 import subprocess
@@ -49,7 +50,19 @@ def comes_back(program, graph):
     blocks, nodes = edges_of_trees(head)
     sorted_ends = [tuple(sorted(pair)) for pair in ends]
     same_blocks = all(sorted(nodes[b]) == blocks[b] and all(nodes[b][e] == sorted_ends[e] for e in blocks[b]) for b in blocks)
-    return same_blocks and sorted(sum(blocks.values(), [])) == list(range(len(ends))) and len(text) == int(place.group(1)) and graph_of(document(text)) == (ids, ends)
+    same_graph = sorted(sum(blocks.values(), [])) == list(range(len(ends))) and len(text) == int(place.group(1)) and graph_of(document(text)) == (ids, ends)
+    return same_blocks and same_graph and starts_there(program, graph, head, len(blocks))
+
+
+def starts_there(program, graph, head, blocks):
+    """Whether a session on the document that `gml` writes sets out where that which wrote it was."""
+    mirrors, shows = ("".join(f"{word} {b}\n" for b in range(blocks)) for word in ("mirror", "show"))
+    left = printed(program, graph, mirrors + shows + "gml\n")
+    answers = left[len(head):].split(b"\n", blocks)[-1]
+    with tempfile.NamedTemporaryFile(suffix=".gml") as file:
+        file.write(re.search(rb"^gml \d+\n(.*)", answers, re.M | re.S).group(1))
+        file.flush()
+        return left.startswith(head) and printed(program, file.name, shows + "gml\n") == head + answers
 
 
 def main():

@@ -1,7 +1,8 @@
 """Makes of the pairs of a file a graph that the program takes, and says each change. Standard library alone.
 
 What is changed: where the list `graph` is and how it is spelled; ids that are not whole numbers, missing or doubled; ends that
-are; edges without ends and loops, which are left out. All other pairs stay."""
+are; edges without ends and loops, which are left out; a start whose numbers are not those of the edges, which is left out, too.
+Whether a start is in the plane is not looked at. All other pairs stay."""
 from __future__ import annotations
 
 import re
@@ -9,7 +10,7 @@ from decimal import Decimal
 from typing import Optional
 
 from clean_text import NoGraph, Say
-from gml_text import INTEGER_RANGE, Pair, decoded, whole_number
+from gml_text import INTEGER_RANGE, START, Pair, decoded, edges_at_nodes, whole_number
 
 SPELLINGS = {b"id": {b"id"}, b"source": {b"source", b"from", b"src"}, b"target": {b"target", b"to", b"dst"}}
 MOST = {"vertices": 20_000, "edges": 50_000}
@@ -33,6 +34,27 @@ def repair(top: Pair, say: Say) -> None:
     ids.leave_out()
     _check("vertices", len(graph.lists(b"node")))
     _check("edges", len(graph.lists(b"edge")))
+    _leave_out_start(graph, say)
+
+
+def numbers_of(text: bytes) -> Optional[list[int]]:
+    """The numbers with white space between them that the text of a start is; None where it is none."""
+    words = text.split()
+    return [int(word) for word in words] if all(re.fullmatch(rb"[0-9]{1,40}", word) for word in words) else None
+
+
+def _leave_out_start(graph: Pair, say: Say) -> None:
+    """Leaves out the texts of a start where one of them does not have the edges at its node."""
+    nodes = graph.lists(b"node")
+    texts = [node.first(START) for node in nodes]
+    if any(text is None or text.kind != "string" for text in texts):
+        return
+    for place, (text, edges) in enumerate(zip(texts, edges_at_nodes(graph))):
+        if sorted(numbers_of(text.text) or []) != edges or numbers_of(text.text) is None:
+            say(text.at, f"the `spqrRotation` of node {place} does not have the edges there, each once: it is left out at all nodes")
+            for node in nodes:
+                node.value = [pair for pair in node.pairs if pair.key != START]
+            return
 
 
 def _check(what: str, total: int) -> None:

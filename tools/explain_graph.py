@@ -5,7 +5,7 @@ import re
 from dataclasses import dataclass
 from typing import Optional
 
-from gml_text import KEY, MOST_AROUND, NUMBER, Pair, Scan, graph_lists, scan, whole_number, words_after_strings
+from gml_text import KEY, MOST_AROUND, NUMBER, START, Pair, Scan, edges_at_nodes, graph_lists, scan, whole_number, words_after_strings
 
 CLEAN = "tools/clean FILE OUT does this"
 
@@ -206,7 +206,20 @@ def graph_fault(data: bytes, rule: str, number: int) -> list[Finding]:
         return [Finding(None, f"the graph has {number:,} {rule}", f"the program takes at most {most:,}; give it a part of the graph")]
     if rule in ("node-no-id", "node-bad-id", "same-id"):
         return [_node_fault(graphs[0], rule, number)]
+    if rule == "start-vertex":
+        return [_start_fault(graphs[0], number)]
+    if rule == "start-genus":
+        text = graphs[0].lists(b"node")[0].first(START)
+        return [Finding(text.value_at, f"the orders of the edges of block {number}, which begin here, are those of no drawing in the plane",
+                        "leave `spqrRotation` out of one node: then the file has no start")]
     return [_edge_fault(graphs[0], rule, number)]
+
+
+def _start_fault(graph: Pair, number: int) -> Finding:
+    text = graph.lists(b"node")[number].first(START)
+    edges = " ".join(map(str, edges_at_nodes(graph)[number]))
+    return Finding(text.value_at, f"the `spqrRotation` of node {number} (counted from 0, in the order of the file) does not have the edges there, each once",
+                   f"write these numbers in a cyclic order: {edges[:60]}; or leave the key out of one node: then the file has no start; {CLEAN} (it leaves out all)")
 
 
 def _node_fault(graph: Pair, rule: str, number: int) -> Finding:

@@ -14,6 +14,7 @@ TOKEN = re.compile(rb"""[ \t-\r]+|\#[^\r\n]*|(?P<open>\[)|(?P<close>\])|(?P<stri
 LINE_END = re.compile(rb"\r\n|\r|\n")
 MOST_AROUND = 31            # a list is inside at most this many other lists
 INTEGER_RANGE = (-2 ** 63, 2 ** 63 - 1)
+START = b"spqrRotation"     # the key of the edges at a node, in the order in which a session starts
 
 
 @dataclass
@@ -120,6 +121,16 @@ def whole_number(pair: Optional[Pair]) -> Optional[int]:
         return None
     value = -int(digits) if pair.text.startswith(b"-") else int(digits)
     return value if INTEGER_RANGE[0] <= value <= INTEGER_RANGE[1] else None
+
+
+def edges_at_nodes(graph: Pair) -> list[list[int]]:
+    """The edges at each node of a graph whose ids and ends are right, increasing."""
+    places = {whole_number(node.first(b"id")): place for place, node in enumerate(graph.lists(b"node"))}
+    found: list[list[int]] = [[] for _ in places]
+    for number, edge in enumerate(graph.lists(b"edge")):
+        for key in (b"source", b"target"):
+            found[places[whole_number(edge.first(key))]].append(number)
+    return found
 
 
 def labels(data: bytes, name: bytes = b"node") -> list[Optional[str]]:

@@ -72,6 +72,9 @@ class Cleaned(unittest.TestCase):
                     self.assertEqual((ran.returncode, ran.stdout), (1, b""))
                     continue
                 self.assertEqual(ran.returncode, 0, ran.stderr)
+                if path.stem == "refused_start_genus":
+                    self.assertEqual(ran.stdout, data)
+                    continue
                 self.assertIsInstance(run(ran.stdout), Report)
                 self.assertEqual(path.with_suffix(".gml").read_bytes(), data)
 

@@ -26,6 +26,8 @@ EXAMPLE_PLACES = {
     "refused_node_no_id": ("gml", 4, 3, "node 1 (counted from 0, in the order of the file) has no `id`"),
     "refused_none": ("gml", 3, 9, "inside another list"),
     "refused_same_id": ("gml", 4, 13, "has the `id` of node 0"),
+    "refused_start_genus": ("gml", 3, 28, "no drawing in the plane"),
+    "refused_start_vertex": ("gml", 6, 28, "does not have the edges there, each once"),
     "refused_unknown_end": ("gml", 5, 17, "the id of no node"),
 }
 

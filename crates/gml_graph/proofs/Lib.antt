@@ -9,3 +9,9 @@ pub mod Behind
 pub mod Spelling
 pub mod SortedEdges
 pub mod Starts
+pub mod NumberTexts
+pub mod MarkedLists
+pub mod MarkedForm
+pub mod MarkedSteps
+pub mod MarkedLaw
+mod MarkedInstances

@@ -7,3 +7,4 @@ pub mod Arranged
 pub mod Start
 pub mod Hashing
 pub mod Answer
+pub mod Marked
