@@ -21,9 +21,9 @@ use Rattle.spqr_session.specs.Trees.{BlockTree, tree_at, AreBlockTrees}
 use Rattle.spqr_session.specs.State.{Embedding, Family, entry_at}
 use Rattle.spqr_session.specs.Start.{start_entries}
 use Rattle.spqr_session.specs.Commands.Gml.{block_numbers, numbers_at, present_lists}
-use Rattle.spqr_session.proofs.OwnLists.{joined, parts-picked, parts-permutation}
+use Rattle.spqr_session.proofs.DisjointLists.{joined, parts-picked, parts-permutation}
 use Rattle.spqr_session.proofs.EdgesAt.{outer-at, vertex-of}
-use Rattle.spqr_session.proofs.Sorting.{block-one}
+use Rattle.spqr_session.proofs.SortedEdges.{block-one}
 use Rattle.spqr_session.proofs.StartLists.{vertices-distinct, start-given}
 
 -- the edges of a block at a vertex are those of the edges there that are of the block, in some order
@@ -94,10 +94,10 @@ module _ (g : Multigraph) (blocks : List (List ℕ)) (are : AreBlocks g blocks) 
       let part = (is.each b l).part in
       start-given tree.part part.numbered (present_lists g.vertex_count trees family) e.rotation (system b e l there)
       (λ i m.
-          let v = slice_index tree.part.vertices i in
-          let at : place_of tree.part.vertices v ≡ i = place-at tree.part.vertices i (vertices-distinct tree.part part.numbered) (omega (arith, m, part.numbered.vertex_each)) in
-          ap (filter (λ e. is_member e tree.part.edges)) (present-at g.vertex_count v (inside i m))
-          ∙ ap (λ (es : List ℕ). filter (λ e. is_member e es) (numbers_at trees family v)) part.edges_are
-          ∙ at-picked v b l
-          ∙ ap (λ (o : Option Embedding). block_numbers tree o v) there
-          ∙ ap (λ (k : ℕ). map (slice_index tree.part.edges) (order_at e.rotation k)) at)
+      let v = slice_index tree.part.vertices i in
+      let at : place_of tree.part.vertices v ≡ i = place-at tree.part.vertices i (vertices-distinct tree.part part.numbered) (omega (arith, m, part.numbered.vertex_each)) in
+      ap (filter (λ e. is_member e tree.part.edges)) (present-at g.vertex_count v (inside i m))
+      ∙ ap (λ (es : List ℕ). filter (λ e. is_member e es) (numbers_at trees family v)) part.edges_are
+      ∙ at-picked v b l
+      ∙ ap (λ (o : Option Embedding). block_numbers tree o v) there
+      ∙ ap (λ (k : ℕ). map (slice_index tree.part.edges) (order_at e.rotation k)) at)

@@ -19,7 +19,7 @@ use Rattle.rotations.proofs.Cursor.{list_at-found}
 use Rattle.rotations.proofs.Membership.{incident-distinct}
 use Rattle.skel_embed.specs.Taken.{IsGiven}
 use Rattle.spqr_session.specs.Start.{start_entries}
-use Rattle.spqr_session.proofs.OwnLists.{permutation-filter}
+use Rattle.spqr_session.proofs.DisjointLists.{permutation-filter}
 use Rattle.spqr_session.proofs.EdgesAt.{outer-at}
 
 -- lists of equally many numbers with the same first number have the same first image
