@@ -1,14 +1,13 @@
 -- The edges that `gml` writes at a vertex, block by block: they arrange the edges there, those of a block are picked out by the test for
 -- its edges, and read as a start they are the present rotation system of each planar block.
-use Rattle.std.proofs.Common.{◌≡◌, ℕ, ◌<◌, Bool, true, false, List, [], length, map, filter, slice_index, slice_index_or, Option, None, Some, IsPermutation, inl, inr, refl, sym, ap, ◌∙◌, subst, arith}
-use Rattle.std.specs.List.{concat}
+use Rattle.std.proofs.Common.{◌≡◌, ℕ, ◌<◌, Bool, true, List, [], length, map, filter, slice_index, slice_index_or, Option, None, Some, IsPermutation, inl, inr, refl, sym, ap, ◌∙◌, subst, arith}
 use Rattle.std.proofs.lemmas.Bool.{cases_lt, false_from_ne_true}
 use Rattle.std.proofs.lemmas.List.{get_or-map, get_or_past, length-map}
 use Rattle.std.proofs.lemmas.List.Sorted.{IsPermutation-refl, IsPermutation-map}
 use Rattle.permutations.specs.Members.{is_member, place_of}
 use Rattle.permutations.proofs.Filter.{filter-none}
 use Rattle.permutations.proofs.Places.{place-at, place-below}
-use Rattle.multigraph.specs.Graph.{Multigraph, edge_count, incident_edges, numbers_below, IsGraph}
+use Rattle.multigraph.specs.Graph.{Multigraph, edge_count, incident_edges, numbers_below}
 use Rattle.multigraph.specs.Part.{IsPart}
 use Rattle.multigraph.proofs.Below.{length-numbers_below, get_or-numbers_below}
 use Rattle.blocks.specs.Blocks.{block_at, AreBlocks}

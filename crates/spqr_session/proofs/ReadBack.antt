@@ -1,9 +1,8 @@
 -- What is read in the document that `gml` writes: the graph, and a start that is the present rotation system of each planar block.
-use Rattle.std.proofs.Common.{◌≡◌, ℕ, ◌<◌, List, [], ◌∷◌, length, slice_index, Option, None, Some, Ok, refl, sym, ◌∙◌, subst, arith}
-use Rattle.multigraph.specs.Graph.{Multigraph, edge_count, IsGraph, IsWithinLimits}
-use Rattle.blocks.specs.Blocks.{BlockStructure, AreBlocks, block_at}
+use Rattle.std.proofs.Common.{◌≡◌, ℕ, ◌<◌, List, [], ◌∷◌, length, Option, None, Some, refl, sym, subst, arith}
+use Rattle.multigraph.specs.Graph.{IsGraph, IsWithinLimits}
+use Rattle.blocks.specs.Blocks.{BlockStructure, block_at}
 use Rattle.blocks.proofs.OneStructure.{one-structure}
-use Rattle.gml_text.specs.Document.{Document}
 use Rattle.gml_graph.specs.Named.{NamedGraph, ArrangeEdges, IsNamed}
 use Rattle.gml_graph.specs.Marked.{marked, told_lists}
 use Rattle.gml_graph.proofs.Law.{sound_graph}

@@ -5,8 +5,8 @@ use Rattle.blocks.specs.Blocks.{BlockStructure}
 use Rattle.gml_text.specs.Document.{Document}
 use Rattle.gml_graph.specs.Named.{NamedGraph}
 use Rattle.spqr_script.specs.declared.command.Command.{Command}
-use Rattle.spqr_session.specs.Setting.{Setting, IsSetting}
-use Rattle.spqr_session.specs.State.{State, IsState}
+use Rattle.spqr_session.specs.Setting.{Setting}
+use Rattle.spqr_session.specs.State.{IsState}
 use Rattle.spqr_session.specs.Step.{Step}
 use Rattle.spqr_session.specs.Machine.{Machine, IsMachine}
 use Rattle.spqr_session.specs.Embedded.{BlockView, setting_of}

@@ -1,20 +1,16 @@
 -- The lists of a start, given to the blocks of their edges: one edge more, one vertex more, and what the blocks have at the end.
-use Rattle.std.proofs.Common.{◌≡◌, ◌≢◌, ℕ, ◌+◌, ◌-◌, ◌<◌, ◌==◌, ◌&&◌, Bool, true, false, cond, List, [], ◌∷◌, ◌++◌, length, map, filter, get_or, set, take, slice_index, slice_index_or, IsPermutation, All, inl, inr, refl, sym, ap, ◌∙◌, subst, arith, append-nil}
-use Rattle.std.proofs.lemmas.Bool.{cases_Bool, cases_eq, both_ways, true≢false, eq-eqb, ne_eqb, eqb-true, false_from_ne_true, true_from_ne_false}
+use Rattle.std.proofs.Common.{◌≡◌, ◌≢◌, ℕ, ◌+◌, ◌-◌, ◌<◌, ◌==◌, Bool, true, false, cond, List, [], ◌∷◌, ◌++◌, length, map, filter, get_or, set, take, slice_index, slice_index_or, All, inl, inr, refl, sym, ap, ◌∙◌, subst, arith, append-nil}
+use Rattle.std.proofs.lemmas.Bool.{cases_Bool, cases_eq, both_ways, true≢false, eq-eqb, ne_eqb, eqb-true, false_from_ne_true}
 use Rattle.std.proofs.lemmas.List.{get_or-set_same, get_or-set_other, length-set, length-map, get_or-map, map-append, set-get_or, take_more}
 use Rattle.std.proofs.lemmas.List.Elements.{filter-append, All-from_get_or}
 use Rattle.permutations.specs.Members.{is_member}
-use Rattle.permutations.proofs.Members.{member-cases, member-append_left, member-append_right, member-append_cases, no_member-append_left, member-head}
+use Rattle.permutations.proofs.Members.{member-cases, member-append_right, member-append_cases, no_member-append_left, member-head}
 use Rattle.permutations.proofs.Arrangements.{member-at}
-use Rattle.permutations.proofs.Filter.{filter-ext, member-filter, filter-member, member-filter_parts}
 use Rattle.permutations.proofs.Relation.{same-tests}
-use Rattle.multigraph.specs.Graph.{Multigraph, edge_count, is_end, incident_edges, numbers_below, IsGraph}
-use Rattle.multigraph.specs.Part.{GraphPart, Rises, IsPart}
-use Rattle.multigraph.proofs.Below.{filter_below-yes, filter_below-no, filter_below-at, filter_below-rises}
-use Rattle.graph_theory.proofs.Rising.{members-same}
+use Rattle.multigraph.specs.Graph.{Multigraph, edge_count, numbers_below}
+use Rattle.multigraph.proofs.Below.{filter_below-yes, filter_below-no, filter_below-at}
 use Rattle.blocks.specs.Blocks.{block_at, AreBlocks}
 use Rattle.rotations.specs.Entries.{entry, IsAbove}
-use Rattle.rotations.proofs.Membership.{incident-member, member-edge, member-end}
 use Rattle.spqr_session.specs.Sorting.{IsBlockNoted, HasBlocks, IsKnown, of_block, AreWaiting, has_some, entry_of, AreMoved, AreEntered, gathered, AreGathered}
 
 -- ---- the block of each edge

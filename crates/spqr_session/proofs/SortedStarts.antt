@@ -1,13 +1,13 @@
 -- What the blocks are given of a start is what the definitions say: of each vertex of a block, in increasing order, the edges of the block
 -- in its list.
-use Rattle.std.proofs.Common.{◌≡◌, ℕ, ◌+◌, ◌<◌, ◌==◌, Bool, true, List, [], ◌∷◌, length, map, filter, slice_index, slice_index_or, Option, None, Some, option_map, unwrap_or, IfSome, IsPermutation, All, refl, sym, ap, ◌∙◌, subst, arith}
+use Rattle.std.proofs.Common.{◌≡◌, ℕ, ◌+◌, ◌<◌, ◌==◌, Bool, true, List, [], ◌∷◌, length, map, filter, slice_index, slice_index_or, Option, None, Some, option_map, unwrap_or, IfSome, All, refl, sym, ap, ◌∙◌, subst}
 use Rattle.std.proofs.lemmas.List.Elements.{All-from_get_or}
 use Rattle.permutations.specs.Members.{is_member}
 use Rattle.permutations.proofs.Arrangements.{permutation-member, member-at, contains-from_member, member-from_contains}
 use Rattle.permutations.proofs.Filter.{filter-ext, filter-member, member-filter_parts}
 use Rattle.permutations.proofs.Members.{member-head, member-tail}
 use Rattle.multigraph.specs.Graph.{Multigraph, edge_count, is_end, incident_edges, numbers_below, IsGraph}
-use Rattle.multigraph.specs.Part.{GraphPart, Rises, IsPart}
+use Rattle.multigraph.specs.Part.{GraphPart, IsPart}
 use Rattle.multigraph.proofs.Below.{filter_below-rises, filter_below-has, filter_below-only}
 use Rattle.multigraph.proofs.OtherEnd.{end-in}
 use Rattle.graph_theory.proofs.Rising.{members-same}

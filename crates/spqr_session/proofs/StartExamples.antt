@@ -1,11 +1,10 @@
 -- Starts and the texts of `gml`, worked out on small graphs.
-use Rattle.std.proofs.Common.{◌≡◌, ℕ, [], ◌∷◌, None, Some, codes, refl}
+use Rattle.std.proofs.Common.{◌≡◌, [], ◌∷◌, None, Some, codes, refl}
 use Rattle.std.specs.Fmt.{digits}
 use Rattle.multigraph.specs.Part.{GraphPart}
 use Rattle.gml_graph.specs.Marked.{numbers_text}
-use Rattle.spqr_session.specs.Trees.{BlockTree}
 use Rattle.spqr_session.specs.Start.{start_entries}
-use Rattle.spqr_session.specs.Commands.Gml.{numbers_at, present_lists}
+use Rattle.spqr_session.specs.Commands.Gml.{present_lists}
 use Rattle.spqr_session.specs.Sorting.{gathered}
 
 -- a part of two parallel edges 0 and 3 between vertices 1 and 2 of a path whose vertex 1 has further edges

@@ -1,25 +1,23 @@
 -- How the blocks are brought to the start that a file gives, one after another.
-use Rattle.std.proofs.Common.{◌≡◌, ◌≢◌, ℕ, ◌+◌, ◌<◌, ◌≤◌, Bool, true, false, List, [], length, replicate, get_or, slice_set, Option, None, Some, Result, Ok, Err, IfOk, IfErr, IsErrAnd, IfSome, IsSome, slice_index, ◌⊎◌, inl, inr, refl, sym, ap, ◌∙◌, subst, arith}
+use Rattle.std.proofs.Common.{◌≡◌, ℕ, ◌+◌, ◌<◌, Bool, false, List, [], length, replicate, get_or, slice_set, Option, None, Some, Result, Ok, Err, IfErr, IsErrAnd, IfSome, slice_index, ◌⊎◌, inl, inr, refl, sym, ap, ◌∙◌, subst, arith}
 use Rattle.std.proofs.lemmas.Bool.{cases_eq, cases_lt}
 use Rattle.std.proofs.lemmas.List.{get_or_default, length-set, get_or-set_same, get_or-set_other, get_or-replicate, get_or_past, length-replicate}
-use Rattle.multigraph.specs.Graph.{Multigraph, edge_count, IsGraph}
+use Rattle.multigraph.specs.Graph.{Multigraph, IsGraph}
 use Rattle.multigraph.specs.Part.{GraphPart}
 use Rattle.blocks.specs.Blocks.{BlockStructure, AreBlocks, IsBlockStructure, block_at}
 use Rattle.blocks.proofs.BlockParts.{block-edges_in}
-use Rattle.faces.specs.Euler.{IsPlaneSystem}
-use Rattle.rotations.specs.PartLists.{ArrangePart}
 use Rattle.kuratowski.specs.declared.subdivision.Subdivision.{Subdivision}
 use Rattle.gml_graph.specs.Named.{NamedGraph, ArrangeEdges, IsNamed}
 use Rattle.skel_embed.specs.Block.{BlockState, lock_at, IsBlockState}
 use Rattle.skel_embed.specs.Taken.{IsGiven, IsTakeRefusal}
 use Rattle.skel_embed.specs.declared.planes.Outcome.{Outcome}
-use Rattle.skel_embed.specs.declared.planes.Outcome.TheVariants.{Plane, Not}
+use Rattle.skel_embed.specs.declared.planes.Outcome.TheVariants.{Plane}
 use Rattle.skel_embed.specs.declared.taking.TakeFault.{TakeFault}
 use Rattle.skel_embed.specs.declared.taking.TakeFault.TheVariants.{BadRotation, NotGenusZero, Locked, Memory}
 use Rattle.spqr_session.specs.Trees.{BlockTree, IsBlockTree}
 use Rattle.spqr_session.specs.Certificates.{IsCertificate}
 use Rattle.spqr_session.specs.Start.{start_entries, IsBadStart, IsStartFault, IsStartRefusal}
-use Rattle.spqr_session.specs.State.{Embedding, IsEntry, IsStartEntry}
+use Rattle.spqr_session.specs.State.{Embedding, IsStartEntry}
 use Rattle.spqr_session.specs.Embedded.{BlockView, view_at, no_view, block_view, entry_lock, IsEmbedded, IsStartBlock, AreStartBlocks}
 use Rattle.spqr_session.specs.Starting.{AreStartLists, AreStartedBelow, IsEntryTaken, IsBlockTaken, IsBlockRefusal, IsReadyFor, IsGenusRefusal}
 use Rattle.spqr_session.specs.declared.fault.StartFault.{StartFault}

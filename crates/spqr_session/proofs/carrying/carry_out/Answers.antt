@@ -1,4 +1,4 @@
-use Rattle.std.proofs.Common.{◌≡◌, ℕ, true, false, List, map, refl, sym, ap, ◌∙◌, subst, IfOk}
+use Rattle.std.proofs.Common.{ℕ, true, false, List, map, refl, sym, ap, ◌∙◌, subst, IfOk}
 use Rattle.multigraph.specs.Graph.{Multigraph}
 use Rattle.spqr_script.specs.declared.command.Command.TheVariants as command
 use Rattle.spqr_session.specs.Setting.{Setting}

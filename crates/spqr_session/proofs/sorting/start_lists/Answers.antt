@@ -1,8 +1,7 @@
-use Rattle.std.proofs.Common.{◌≡◌, ◌<◌, ◌+◌, ℕ, List, [], length, slice_index_or, Some, All, sym, ap, ◌∙◌, subst, arith}
+use Rattle.std.proofs.Common.{◌≡◌, ◌<◌, ℕ, List, [], length, slice_index_or, All, sym, ap, subst, arith}
 use Rattle.multigraph.specs.Graph.{Multigraph, edge_count, IsGraph}
 use Rattle.rotations.specs.Entries.{IsAbove}
 use Rattle.spqr_session.specs.Sorting.{AreEntered, AreGathered, AreWaiting, HasBlocks, IsKnown}
-use Rattle.spqr_session.proofs.SortedEdges.{gathered-none}
 use Rattle.spqr_session.proofs.SortedStarts.{list-known, list-above, list-entered, given-none, starts-sorted, named-arranges}
 use Rattle.spqr_session.proofs.sorting.start_lists.Goals as goal
 use Rattle.spqr_session.proofs.sorting.start_lists.Goals.{in-Some+in_ok-wait+in_ok-move_waiting, in_default}

@@ -1,4 +1,4 @@
-use Rattle.std.proofs.Common.{◌+◌, ℕ, List, get_or, length, take, sym, subst, arith}
+use Rattle.std.proofs.Common.{◌+◌, ℕ, List, length, take, sym, subst, arith}
 use Rattle.std.proofs.lemmas.List.{take_all}
 use Rattle.spqr_session.specs.Sorting.{AreWaiting}
 use Rattle.spqr_session.proofs.SortedEdges.{waits-next}

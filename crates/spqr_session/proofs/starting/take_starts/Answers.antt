@@ -1,10 +1,9 @@
-use Rattle.std.proofs.Common.{◌≡◌, ◌<◌, ℕ, List, length, Option, Some, Result, Err, IfErr, sym, subst}
+use Rattle.std.proofs.Common.{◌<◌, ℕ, List, length, sym, subst}
 use Rattle.spqr_session.specs.Embedded.{BlockView, view_at}
 use Rattle.spqr_session.specs.Start.{start_entries, IsStartRefusal}
-use Rattle.spqr_session.specs.Starting.{AreStartedBelow, IsReadyFor, IsBlockTaken, IsGenusRefusal}
-use Rattle.spqr_session.specs.declared.fault.StartFault.{StartFault}
+use Rattle.spqr_session.specs.Starting.{IsReadyFor, IsBlockTaken, IsGenusRefusal}
 use Rattle.spqr_session.proofs.BlockTrees.{view-at}
-use Rattle.spqr_session.proofs.StartSteps.{first-stay, start-arranges, all-started, next-there, next-lists, next-ready, next-started, next-refused, err-from}
+use Rattle.spqr_session.proofs.StartSteps.{first-stay, start-arranges, next-there, next-lists, next-ready, next-started, next-refused, err-from}
 use Rattle.spqr_session.proofs.starting.take_starts.Goals as goal
 
 pub returns-then-not-has_start-clause-started : goal.returns-then-not-has_start-clause-started

@@ -1,4 +1,4 @@
-use Rattle.std.proofs.Common.{◌≡◌, ◌<◌, ℕ, List, [], length, slice_index, slice_index_or, set, sym, ap, ◌∙◌, subst}
+use Rattle.std.proofs.Common.{◌≡◌, ◌<◌, ℕ, [], length, slice_index, slice_index_or, set, sym, ap, ◌∙◌, subst}
 use Rattle.multigraph.specs.Part.{GraphPart}
 use Rattle.spqr_session.specs.Texts.{bytes_of, own_numbers, with_numbers}
 use Rattle.spqr_session.proofs.NumberTexts.{ok-further, put-text}

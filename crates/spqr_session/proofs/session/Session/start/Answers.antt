@@ -1,7 +1,7 @@
-use Rattle.std.proofs.Common.{List, length, None, sym, subst}
+use Rattle.std.proofs.Common.{length, None, sym, subst}
 use Rattle.multigraph.specs.Graph.{Multigraph}
 use Rattle.blocks.specs.Blocks.{IsBlockStructure}
-use Rattle.spqr_session.specs.Embedded.{BlockView, AreStartBlocks, setting_of, state_of}
+use Rattle.spqr_session.specs.Embedded.{AreStartBlocks, setting_of, state_of}
 use Rattle.spqr_session.specs.Board.{BoardView, board_state}
 use Rattle.spqr_session.specs.Machine.{IsStarted, IsMachine}
 use Rattle.spqr_session.proofs.Views.{started, started-machine}

@@ -1,9 +1,9 @@
-use Rattle.std.proofs.Common.{List, map, refl, sym, ap, ◌∙◌, subst, IfOk}
+use Rattle.std.proofs.Common.{map, refl, sym, ap, ◌∙◌, subst, IfOk}
 use Rattle.multigraph.specs.Graph.{Multigraph}
 use Rattle.spqr_session.specs.Trees.{AreBlockTrees}
 use Rattle.spqr_session.specs.Machine.{Machine, IsMachine}
-use Rattle.spqr_session.specs.Embedded.{BlockView, view_tree, setting_of}
-use Rattle.spqr_session.specs.Board.{BoardView, board_state}
+use Rattle.spqr_session.specs.Embedded.{view_tree, setting_of}
+use Rattle.spqr_session.specs.Board.{board_state}
 use Rattle.spqr_session.specs.Step.{Step}
 use Rattle.spqr_session.proofs.Sessions.{setting-kept, stepped-machine, memory-machine}
 use Rattle.spqr_session.proofs.session.Session.step.Goals as goal
