@@ -15,7 +15,7 @@ pub enum Status {
     TooLong,
     /// The bytes of the graph file are not a document.
     GmlRefused,
-    /// The document has no graph.
+    /// The document has no graph, or the start that it gives is refused.
     GraphRefused,
     /// A line of the script is not a command.
     ScriptRefused,
