@@ -23,12 +23,13 @@ pub node-of_part : (part : GraphPart) (nodes : List Node) (k : ℕ) → IsGraph 
 node-of_part part nodes k is t l = record { vertices = tutte-vertices part.graph nodes is t k l; items = tutte-items part.graph nodes is t k }
 
 -- one more
-pub block-more : (g : Multigraph) (blocks : List (List ℕ)) (n : ℕ) (views more : List BlockView) (v : BlockView) → AreStartBlocks g blocks n views → IsStartBlock g (block_at blocks n) v → more ≡ views ++ v ∷ [] → AreStartBlocks g blocks (n + 1) more
-block-more g blocks n views more v f is e = subst (AreStartBlocks g blocks (n + 1)) (sym e) (record {
+pub block-more : (start : Option (List (List ℕ))) (g : Multigraph) (blocks : List (List ℕ)) (n : ℕ) (views more : List BlockView) (v : BlockView) → AreStartBlocks start g blocks n views → IsStartBlock start g (block_at blocks n) v → more ≡ views ++ v ∷ []
+    → AreStartBlocks start g blocks (n + 1) more
+block-more start g blocks n views more v f is e = subst (AreStartBlocks start g blocks (n + 1)) (sym e) (record {
   one_each = omega (arith, length-append views (v ∷ []), f.one_each);
   each = λ b l. elim (cases_eq b n) [
-    | inl q ↦ subst (λ (k : ℕ). IsStartBlock g (block_at blocks k) (view_at (views ++ v ∷ []) k)) (sym q) (subst (IsStartBlock g (block_at blocks n)) (sym (last n f.one_each)) is)
-    | inr apart ↦ subst (IsStartBlock g (block_at blocks b)) (sym (get_or_append_left views (v ∷ []) no_view b (omega (arith, l, apart, f.one_each)))) (f.each b (omega (arith, l, apart)))
+    | inl q ↦ subst (λ (k : ℕ). IsStartBlock start g (block_at blocks k) (view_at (views ++ v ∷ []) k)) (sym q) (subst (IsStartBlock start g (block_at blocks n)) (sym (last n f.one_each)) is)
+    | inr apart ↦ subst (IsStartBlock start g (block_at blocks b)) (sym (get_or_append_left views (v ∷ []) no_view b (omega (arith, l, apart, f.one_each)))) (f.each b (omega (arith, l, apart)))
   ];
 })
   where

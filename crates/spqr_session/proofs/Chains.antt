@@ -1,9 +1,7 @@
 -- Steps and chains of steps: there is one from each state, and one only; they keep to states; chains are joined.
 use Rattle.std.proofs.Common.{◌≡◌, ℕ, true, false, List, [], ◌∷◌, ◌++◌, refl, sym, ap, ◌∙◌, subst}
 use Rattle.std.specs.List.{concat}
-use Rattle.gml_text.specs.Layout.{written}
 use Rattle.faces.specs.Trace.{face_lists}
-use Rattle.spqr_script.specs.Answers.Gml.{document_text}
 use Rattle.spqr_script.specs.Answers.Rotation.{rotation_text}
 use Rattle.spqr_script.specs.Answers.Faces.{faces_text}
 use Rattle.spqr_script.specs.declared.command.Command.{Command}
@@ -18,7 +16,7 @@ use Rattle.spqr_session.specs.Commands.Faces.{IsFaced}
 use Rattle.spqr_session.specs.Head.{head_text}
 use Rattle.spqr_session.specs.Report.{IsReport}
 use Rattle.spqr_session.proofs.EulerCarried.{euler-answers, euler-one, euler-stays}
-use Rattle.spqr_session.proofs.GmlCarried.{gml-done, gml-one, gml-stays}
+use Rattle.spqr_session.proofs.GmlCarried.{gml_text, gml-done, gml-one, gml-stays}
 use Rattle.spqr_session.proofs.BlockCarried.{read-answers, read-one, read-stays}
 use Rattle.spqr_session.proofs.OneStart.{start-one}
 use Rattle.spqr_session.proofs.MovesCarried.{flip-answers, flip-one, flip-keeps, permute-answers, permute-one, permute-keeps, mirror-answers, mirror-one, mirror-keeps, lock-answers, lock-one, lock-keeps}
@@ -30,7 +28,7 @@ use Rattle.spqr_session.proofs.TakeCarried.{take-answers, take-one, take-keeps}
 -- each command has an answer in each state
 pub has-answer : (setting : Setting) (before : State) (command : Command) → IsSetting setting → IsState setting before → (text : List ℕ) × (after : State) × Step setting before command text after
 has-answer setting before (command.Euler entries) is right = euler-answers setting.named.graph entries before
-has-answer setting before command.Gml is right = (document_text (written setting.document), before, gml-done setting.document before (document_text (written setting.document)) refl)
+has-answer setting before command.Gml is right = (gml_text setting before, before, gml-done setting before (gml_text setting before) refl)
 has-answer setting before (command.Show b) is right = read-answers no_more (λ tree e. refl) (IsShown b) setting.trees b before (λ l e p n. (rotation_text (tree_at setting.trees b).part b e.rotation, refl))
 has-answer setting before (command.Faces b) is right = read-answers no_more (λ tree e. refl) (IsFaced b) setting.trees b before (λ l e p n. (faces_text (tree_at setting.trees b).part b (face_lists (tree_at setting.trees b).part.graph e.rotation), refl))
 has-answer setting before (command.Flip b k) is right = flip-answers setting b k before is right
@@ -54,7 +52,7 @@ has-answer setting before (command.Take b entries) is right = take-answers setti
 pub one-answer : (setting : Setting) (before : State) (command : Command) (s t : List ℕ) (after other : State) → IsSetting setting → IsState setting before
     → Step setting before command s after → Step setting before command t other → (s ≡ t) × (after ≡ other)
 one-answer setting before (command.Euler entries) s t after other is right p q = euler-one setting.named.graph entries before s t after other p q
-one-answer setting before command.Gml s t after other is right p q = gml-one setting.document before s t after other p q
+one-answer setting before command.Gml s t after other is right p q = gml-one setting before s t after other p q
 one-answer setting before (command.Show b) s t after other is right p q = read-one no_more (λ tree e. refl) (IsShown b) setting.trees b before (λ e h t u x y. x ∙ sym y) s t after other p q
 one-answer setting before (command.Faces b) s t after other is right p q = read-one no_more (λ tree e. refl) (IsFaced b) setting.trees b before (λ e h t u x y. x ∙ sym y) s t after other p q
 one-answer setting before (command.Flip b k) s t after other is right p q = flip-one setting b k before is right s t after other p q
@@ -77,7 +75,7 @@ one-answer setting before (command.Take b entries) s t after other is right p q 
 -- a step leads from a state to a state
 pub step-keeps : (setting : Setting) (before : State) (command : Command) (text : List ℕ) (after : State) → IsSetting setting → IsState setting before → Step setting before command text after → IsState setting after
 step-keeps setting before (command.Euler entries) text after is right p = subst (IsState setting) (sym (euler-stays setting.named.graph entries before text after p)) right
-step-keeps setting before command.Gml text after is right p = subst (IsState setting) (sym (gml-stays setting.document before text after p)) right
+step-keeps setting before command.Gml text after is right p = subst (IsState setting) (sym (gml-stays setting before text after p)) right
 step-keeps setting before (command.Show b) text after is right p = subst (IsState setting) (sym (read-stays no_more (λ tree e. refl) (IsShown b) setting.trees b before text after p)) right
 step-keeps setting before (command.Faces b) text after is right p = subst (IsState setting) (sym (read-stays no_more (λ tree e. refl) (IsFaced b) setting.trees b before text after p)) right
 step-keeps setting before (command.Flip b k) text after is right p = flip-keeps setting b k before is right text after p

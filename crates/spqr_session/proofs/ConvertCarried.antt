@@ -10,7 +10,7 @@ use Rattle.spqr_session.specs.Members.{rank_codes, StandsAt}
 use Rattle.spqr_session.specs.Commands.Take.{TakeApplies, IsTaken}
 use Rattle.spqr_session.specs.Commands.Convert.{conversion_text, WithMoves, ConvertRankStep, ConvertToStep}
 use Rattle.spqr_session.specs.declared.code.Code.{Code}
-use Rattle.spqr_session.proofs.OneStart.{setting-tree}
+use Rattle.spqr_session.proofs.SettingTrees.{setting-tree}
 use Rattle.spqr_session.proofs.Carried.{carries-one}
 use Rattle.spqr_session.proofs.Ladders.{ladder-one}
 use Rattle.spqr_session.proofs.Changes.{change-does, entry-right, entry-block, embedding-same}

@@ -5,6 +5,7 @@ pub mod Outcomes
 pub mod BlockParts
 pub mod BlockTrees
 pub mod OneTree
+pub mod SettingTrees
 pub mod OneStart
 pub mod Arranging
 pub mod Carried
@@ -19,6 +20,8 @@ pub mod HistoryCarried
 pub mod MembersCarried
 pub mod GivenParts
 pub mod Takings
+pub mod StartFaults
+pub mod StartSteps
 pub mod LowestPlans
 pub mod TakeCarried
 pub mod ConvertCarried
@@ -32,6 +35,13 @@ pub mod TakePlans
 pub mod ConvertPlans
 pub mod Chains
 pub mod Steps
+pub mod OwnLists
+pub mod EdgesAt
+pub mod StartLists
+pub mod Sorting
+pub mod SortedStarts
+pub mod NumbersAt
+pub mod Texts
 pub mod Grouped
 pub mod Moved
 pub mod Walks
@@ -41,3 +51,5 @@ pub mod Boards
 pub mod BoardSteps
 pub mod BoardStates
 pub mod Sessions
+pub mod ReadBack
+pub mod GmlTexts

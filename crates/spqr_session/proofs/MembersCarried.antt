@@ -27,7 +27,7 @@ use Rattle.spqr_session.specs.Commands.Count.{IsCounted, IsRanked, CountStep, Ra
 use Rattle.spqr_session.specs.Commands.Walk.{IsEnd, FirstStep, GotoStep, NextDoes, NextStep}
 use Rattle.spqr_session.specs.Commands.Listing.{members_text, IsListing, ListStep}
 use Rattle.spqr_session.proofs.Carried.{DoesOne}
-use Rattle.spqr_session.proofs.OneStart.{setting-tree}
+use Rattle.spqr_session.proofs.SettingTrees.{setting-tree}
 use Rattle.spqr_session.proofs.Ladders.{rung-none, ladder-answers, ladder-one}
 use Rattle.spqr_session.proofs.BlockCarried.{held, entry-same, none-front, first-behind, block-entry, entry-rises, read-answers, read-one, read-stays}
 use Rattle.spqr_session.proofs.Changes.{change-does, change-keeps, entry-right, entry-block, silently-one, embedding-same}

@@ -36,7 +36,7 @@ use Rattle.spqr_session.specs.Commands.Mirror.{mirror_codes, IsMirrored, MirrorS
 use Rattle.spqr_session.specs.Commands.Lock.{IsLockSet, LockStep}
 use Rattle.gml_graph.proofs.Arranged.{passes-arranged}
 use Rattle.spqr_session.proofs.BlockTrees.{node-of_part}
-use Rattle.spqr_session.proofs.OneStart.{setting-tree}
+use Rattle.spqr_session.proofs.SettingTrees.{setting-tree}
 use Rattle.spqr_session.proofs.Ladders.{rung-none, ladder-answers, ladder-one}
 use Rattle.spqr_session.proofs.BlockCarried.{held, in-block, planar-entry, none-front, block-entry, entry-rises}
 use Rattle.spqr_session.proofs.Changes.{NodeFacts, node-facts, rigid-is, bond-is, change-does, change-keeps, entry-right, entry-block, silently-one, embedding-same}

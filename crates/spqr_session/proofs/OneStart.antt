@@ -1,8 +1,9 @@
--- A session has one start: the first plane rotation system of a block is one only.
+-- A session has one start: a block has one first plane rotation system, and lists are one rotation system only.
 use Rattle.std.proofs.Common.{◌≡◌, ℕ, ◌<◌, List, length, Option, None, Some, refl, sym, ◌∙◌, subst}
 use Rattle.std.proofs.lemmas.Bool.{false_from_ne_true}
 use Rattle.std.proofs.lemmas.List.{ext_get_or}
 use Rattle.multigraph.specs.Graph.{Multigraph}
+use Rattle.multigraph.specs.Part.{IsNumbered}
 use Rattle.kuratowski.specs.declared.subdivision.Subdivision.{Subdivision}
 use Rattle.pair_split.specs.Tutte.{Node}
 use Rattle.skeletons.specs.Items as items
@@ -13,8 +14,10 @@ use Rattle.skel_embed.specs.First.{IsFirst}
 use Rattle.spqr_session.specs.Trees.{BlockTree, tree_at}
 use Rattle.spqr_session.specs.Certificates.{certificate_at}
 use Rattle.spqr_session.specs.Setting.{Setting, IsSetting}
-use Rattle.spqr_session.specs.State.{Embedding, State, entry_at, IsEntry, IsFirstEntry, IsStart}
-use Rattle.spqr_session.proofs.BlockParts.{block-tree}
+use Rattle.spqr_session.specs.Start.{start_entries, StartsAt}
+use Rattle.spqr_session.specs.State.{Embedding, State, entry_at, IsEntry, IsStartEntry, IsStart}
+use Rattle.spqr_session.proofs.GivenParts.{given-one}
+use Rattle.spqr_session.proofs.SettingTrees.{setting-tree, setting-numbered}
 
 -- two first ones are the same: neither precedes the other, so they have the same choices
 first-one : (g : Multigraph) (nodes : List Node) (r q : List (List ℕ)) → items.IsBlockTree g nodes → IsFirst g nodes r → IsFirst g nodes q → r ≡ q
@@ -23,30 +26,30 @@ first-one g nodes r q is f h =
     (false_from_ne_true (precedes nodes r q) (λ t. h.none_before r f.plane ((precedes-tested nodes r q).1 t)))
     (false_from_ne_true (precedes nodes q r) (λ t. f.none_before q h.plane ((precedes-tested nodes q r).1 t))))
 
--- the tree of block b is one of a block
-pub setting-tree : (setting : Setting) → IsSetting setting → (b : ℕ) → b < length setting.trees → items.IsBlockTree (tree_at setting.trees b).part.graph (tree_at setting.trees b).nodes
-setting-tree setting is b l =
-    let within : b < length setting.structure.blocks = subst (λ (n : ℕ). b < n) is.trees.one_each l in
-    let t = is.trees.each b within in
-    block-tree setting.named.graph setting.structure.blocks b (tree_at setting.trees b).part (tree_at setting.trees b).nodes is.structure.blocks within t.part t.nodes
+-- so are two that the lists of a start are
+starts-one : (start : Option (List (List ℕ))) (tree : BlockTree) (r q : List (List ℕ)) → items.IsBlockTree tree.part.graph tree.nodes → IsNumbered tree.part → StartsAt start tree r → StartsAt start tree q → r ≡ q
+starts-one None tree r q is numbered f h = first-one tree.part.graph tree.nodes r q is f h
+starts-one (Some lists) tree r q is numbered f h = given-one tree.part (start_entries tree.part lists) numbered r q f h
 
--- first entries of a block are the same
-entries-one : (tree : BlockTree) (certificate : Option Subdivision) (o u : Option Embedding) → items.IsBlockTree tree.part.graph tree.nodes → IsEntry tree certificate o → IsEntry tree certificate u → IsFirstEntry tree o → IsFirstEntry tree u → o ≡ u
-entries-one tree (Some s) None None is p q f h = refl
-entries-one tree (Some s) None (Some e) is p q f h = absurd q
-entries-one tree (Some s) (Some e) u is p q f h = absurd p
-entries-one tree None None u is p q f h = absurd p
-entries-one tree None (Some e) None is p q f h = absurd q
-entries-one tree None (Some e) (Some d) is p q f h =
-    let rotation : e.rotation ≡ d.rotation = first-one tree.part.graph tree.nodes e.rotation d.rotation is f.0 h.0 in
-    let locks : e.locks ≡ d.locks = f.1 ∙ sym h.1 in
-    λ i. Some (record { rotation = rotation i; locks = locks i })
+module _ (start : Option (List (List ℕ))) (tree : BlockTree) (is : items.IsBlockTree tree.part.graph tree.nodes) (numbered : IsNumbered tree.part) where
+  -- entries of a block at the start are the same
+  entries-one : (certificate : Option Subdivision) (o u : Option Embedding) → IsEntry tree certificate o → IsEntry tree certificate u → IsStartEntry start tree o → IsStartEntry start tree u → o ≡ u
+  entries-one (Some s) None None p q f h = refl
+  entries-one (Some s) None (Some e) p q f h = absurd q
+  entries-one (Some s) (Some e) u p q f h = absurd p
+  entries-one None None u p q f h = absurd p
+  entries-one None (Some e) None p q f h = absurd q
+  entries-one None (Some e) (Some d) p q f h =
+      let rotation : e.rotation ≡ d.rotation = starts-one start tree e.rotation d.rotation is numbered f.0 h.0 in
+      let locks : e.locks ≡ d.locks = f.1 ∙ sym h.1 in
+      λ i. Some (record { rotation = rotation i; locks = locks i })
 
 pub start-one : (setting : Setting) (a b : State) → IsSetting setting → IsStart setting a → IsStart setting b → a ≡ b
 start-one setting a b is p q =
     let entries : a.present.entries ≡ b.present.entries = ext_get_or None a.present.entries b.present.entries (p.right.present.one_each ∙ sym q.right.present.one_each)
     (λ k l. let m : k < length setting.trees = subst (λ (n : ℕ). k < n) p.right.present.one_each l in
-    entries-one (tree_at setting.trees k) (certificate_at setting.certificates k) (entry_at a.present k) (entry_at b.present k) (setting-tree setting is k m) (p.right.present.each k m) (q.right.present.each k m) (p.first k m) (q.first k m)) in
+    entries-one setting.named.start (tree_at setting.trees k) (setting-tree setting is k m) (setting-numbered setting is k m) (certificate_at setting.certificates k) (entry_at a.present k) (entry_at b.present k)
+    (p.right.present.each k m) (q.right.present.each k m) (p.starts k m) (q.starts k m)) in
     let earlier : a.earlier ≡ b.earlier = p.earlier ∙ sym q.earlier in
     let later : a.later ≡ b.later = p.later ∙ sym q.later in
     λ i. record { present = record { entries = entries i }; earlier = earlier i; later = later i }

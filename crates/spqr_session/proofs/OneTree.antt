@@ -35,7 +35,7 @@ module _ (g : Multigraph) (edges : List ℕ) (a b : GraphPart) (p : IsPart g edg
       λ i. (first i, second i))
 
   -- some edges make one part
-  parts-equal : a ≡ b
+  pub parts-equal : a ≡ b
   parts-equal =
       let count : a.graph.vertex_count ≡ b.graph.vertex_count = sym p.numbered.vertex_each ∙ ap (λ (vs : List ℕ). length vs) vertices-same ∙ q.numbered.vertex_each in
       let named : a.edges ≡ b.edges = p.edges_are ∙ sym q.edges_are in

@@ -1,5 +1,5 @@
 -- What is found of a block is right, and stands at the start of a session.
-use Rattle.std.proofs.Common.{◌≡◌, ℕ, ◌<◌, Bool, false, List, length, replicate, sym, ◌∙◌, subst}
+use Rattle.std.proofs.Common.{◌≡◌, ℕ, ◌<◌, Bool, false, List, length, replicate, None, sym, ◌∙◌, subst}
 use Rattle.std.proofs.lemmas.List.{ext_get_or, length-replicate, get_or-replicate}
 use Rattle.multigraph.specs.Graph.{Multigraph}
 use Rattle.multigraph.specs.Part.{GraphPart}
@@ -13,7 +13,7 @@ use Rattle.skel_embed.specs.declared.planes.Outcome.TheVariants.{Plane, Not}
 use Rattle.skel_embed.specs.First.{IsFirst}
 use Rattle.spqr_session.specs.Trees as trees
 use Rattle.spqr_session.specs.Certificates.{IsCertificate}
-use Rattle.spqr_session.specs.State.{IsFirstEntry}
+use Rattle.spqr_session.specs.State.{IsStartEntry}
 use Rattle.spqr_session.specs.Embedded.{block_view, KeepsTogether, IsEmbedded, IsStartBlock}
 
 -- no node is locked where each is not
@@ -37,7 +37,7 @@ module _ (excludes : SubdivisionExcludesPlane) (part : GraphPart) (nodes : List 
   }
 
   -- it stands at its first plane rotation system
-  outcome-first : (outcome : Outcome) → KeepsTogether outcome → IsOutcome part.graph nodes outcome → IsFirstEntry (block_view part outcome).tree (block_view part outcome).entry
+  outcome-first : (outcome : Outcome) → KeepsTogether outcome → IsOutcome part.graph nodes outcome → IsStartEntry None (block_view part outcome).tree (block_view part outcome).entry
   outcome-first (Plane p) state h = (
     subst (λ (t : List Node). IsFirst part.graph t p.rotation) (sym h.1) h.2,
     none-locked (length p.tree) p.locks state.locks (λ k l. h.3 k (subst (λ (t : List Node). k < length t) h.1 l)),
@@ -49,10 +49,10 @@ module _ (excludes : SubdivisionExcludesPlane) (part : GraphPart) (nodes : List 
   outcome-nodes (Not g t s) h = λ i. record { part = part; nodes = h.1 i }
 
   pub outcome-starts : (g : Multigraph) (edges : List ℕ) (outcome : Outcome) → KeepsTogether outcome → IsOutcome part.graph nodes outcome → trees.IsBlockTree g edges (record { part = part; nodes = nodes })
-      → IsStartBlock g edges (block_view part outcome)
+      → IsStartBlock None g edges (block_view part outcome)
   outcome-starts g edges outcome state h is = record {
     tree = subst (trees.IsBlockTree g edges) (sym (outcome-nodes outcome h)) is;
     certificate = subst (λ (x : trees.BlockTree). IsCertificate x.part.graph (block_view part outcome).certificate) (sym (outcome-nodes outcome h)) (outcome-embedded outcome state h).certificate;
     entry = (outcome-embedded outcome state h).entry;
-    first = outcome-first outcome state h;
+    starts = outcome-first outcome state h;
   }

@@ -13,7 +13,7 @@ use Rattle.spqr_session.specs.Commands.Take.{TakeApplies, IsTaken, TakeStep}
 use Rattle.spqr_session.specs.Planned.{TakenCodes, EntryTakenCodes}
 use Rattle.spqr_session.specs.declared.code.Code.{Code}
 use Rattle.spqr_session.specs.declared.code.Code.TheVariants.{NoBlock, NonPlanar}
-use Rattle.spqr_session.proofs.OneStart.{setting-tree}
+use Rattle.spqr_session.proofs.SettingTrees.{setting-tree}
 use Rattle.spqr_session.proofs.Carried.{TellsOne, carries-one}
 use Rattle.spqr_session.proofs.Changes.{change-does, change-keeps, entry-block, silently-one}
 use Rattle.spqr_session.proofs.Takings.{taken-alone, entry-alone, taken-none, taken-one, taken-found, taken-right, entry-down, entry-lowest, outside-alone, alone-lowest, outside-lowest}

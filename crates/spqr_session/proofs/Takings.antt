@@ -41,7 +41,7 @@ module _ (entries : List (ℕ × List ℕ)) (tree : BlockTree) (numbered : IsNum
   same-given : (r q : List (List ℕ)) → IsGiven tree.part entries r → IsGiven tree.part entries q → r ≡ q
   same-given r q g h = given-one tree.part entries numbered r q g h
 
-  not-both : (r : List (List ℕ)) (v x f : ℕ) → IsGiven tree.part entries r → IsPlaneSystem tree.part.graph r → IsNotPlane tree.part entries v x f → ⊥
+  pub not-both : (r : List (List ℕ)) (v x f : ℕ) → IsGiven tree.part entries r → IsPlaneSystem tree.part.graph r → IsNotPlane tree.part entries v x f → ⊥
   not-both r v x f g p n =
       let faces : face_count tree.part.graph n.system ≡ face_count tree.part.graph r = ap (face_count tree.part.graph) (same-given n.system r n.given g) in
       n.differs (omega (arith, n.vertices, n.edges, n.faces, faces, plane-numbers r p))

@@ -1,19 +1,19 @@
 -- A block with its tree, and its embedding or its certificate, as contracts see it.
 use Rattle.std.specs.Prelude.{◌≡◌, ℕ, ◌<◌, Bool, false, List, [], length, map, slice_index_or, Option, None, Some, ⊤}
-use Rattle.blocks.specs.Blocks.{BlockStructure, block_at}
+use Rattle.blocks.specs.Blocks.{BlockStructure, IsBlockStructure, block_at}
 use Rattle.gml_text.specs.Document.{Document}
 use Rattle.gml_graph.specs.Named.{NamedGraph}
 use Rattle.kuratowski.specs.declared.subdivision.Subdivision.{Subdivision}
-use Rattle.multigraph.specs.Graph.{Multigraph}
+use Rattle.multigraph.specs.Graph.{Multigraph, IsGraph, IsWithinLimits}
 use Rattle.multigraph.specs.Part.{GraphPart}
 use Rattle.skeletons.specs.Items as items
 use Rattle.skel_embed.specs.Block.{lock_at, IsBlockState}
 use Rattle.skel_embed.specs.declared.planes.Outcome.{Outcome}
 use Rattle.skel_embed.specs.declared.planes.Outcome.TheVariants.{Plane, Not}
-use Rattle.spqr_session.specs.Trees.{BlockTree, IsBlockTree, no_tree}
+use Rattle.spqr_session.specs.Trees.{BlockTree, IsBlockTree, AreBlockTrees, no_tree}
 use Rattle.spqr_session.specs.Certificates.{IsCertificate}
 use Rattle.spqr_session.specs.Setting.{Setting}
-use Rattle.spqr_session.specs.State.{Embedding, State, IsEntry, IsFirstEntry}
+use Rattle.spqr_session.specs.State.{Embedding, State, IsEntry, IsStartEntry}
 
 -- a block with its tree, its certificate where it is not planar, and its embedding where it is
 pub record BlockView : Type 0 where
@@ -29,6 +29,11 @@ view_certificate v = v.certificate
 
 abbrev pub view_entry : BlockView → Option Embedding
 view_entry v = v.entry
+
+-- whether node k is locked; none is where there is no embedding
+abbrev pub entry_lock : ℕ → Option Embedding → Bool
+entry_lock k None = false
+entry_lock k (Some e) = lock_at e.locks k
 
 -- the part and what was found of it
 abbrev pub block_view : GraphPart → Outcome → BlockView
@@ -52,12 +57,12 @@ pub record IsEmbedded (part : GraphPart) (outcome : Outcome) : Type 0 where
   pub certificate : IsCertificate part.graph (block_view part outcome).certificate
   pub entry : IsEntry (block_view part outcome).tree (block_view part outcome).certificate (block_view part outcome).entry
 
--- a block of these edges at the start of a session
-pub record IsStartBlock (g : Multigraph) (edges : List ℕ) (v : BlockView) : Type 0 where
+-- a block of these edges at the start of a session, where the file has this start
+pub record IsStartBlock (start : Option (List (List ℕ))) (g : Multigraph) (edges : List ℕ) (v : BlockView) : Type 0 where
   pub tree : IsBlockTree g edges v.tree
   pub certificate : IsCertificate v.tree.part.graph v.certificate
   pub entry : IsEntry v.tree v.certificate v.entry
-  pub first : IsFirstEntry v.tree v.entry
+  pub starts : IsStartEntry start v.tree v.entry
 
 -- the view of block b; that of no tree where there is none
 abbrev pub no_view : BlockView
@@ -76,11 +81,15 @@ abbrev pub state_of : List BlockView → State
 state_of views = record { present = record { entries = map view_entry views }; earlier = []; later = [] }
 
 -- the first n blocks of a graph, in order, at the start of a session
-pub record AreStartBlocks (g : Multigraph) (blocks : List (List ℕ)) (n : ℕ) (views : List BlockView) : Type 0 where
+pub record AreStartBlocks (start : Option (List (List ℕ))) (g : Multigraph) (blocks : List (List ℕ)) (n : ℕ) (views : List BlockView) : Type 0 where
   pub one_each : length views ≡ n
-  pub each : (b : ℕ) → b < n → IsStartBlock g (block_at blocks b) (view_at views b)
+  pub each : (b : ℕ) → b < n → IsStartBlock start g (block_at blocks b) (view_at views b)
 
--- whether node k is locked; none is where there is no embedding
-abbrev pub entry_lock : ℕ → Option Embedding → Bool
-entry_lock k None = false
-entry_lock k (Some e) = lock_at e.locks k
+-- the blocks are those of a graph within the limits, in order, each with its tree and a right entry
+pub record AreBlocksOf (g : Multigraph) (views : List BlockView) : Type 0 where
+  pub graph : IsGraph g
+  pub limits : IsWithinLimits g
+  pub structure : BlockStructure
+  pub blocks : IsBlockStructure g structure
+  pub trees : AreBlockTrees g structure.blocks (map view_tree views)
+  pub entries : (b : ℕ) → b < length views → IsEntry (view_at views b).tree (view_at views b).certificate (view_at views b).entry

@@ -1,8 +1,15 @@
 -- What the definitions of a session say of one another.
-use Rattle.std.specs.Prelude.{◌≡◌, ℕ, List}
+use Rattle.std.specs.Prelude.{◌≡◌, ℕ, ◌<◌, List, length, Some, Ok}
+use Rattle.gml_text.specs.Document.{Document}
+use Rattle.gml_graph.specs.Named.{NamedGraph}
+use Rattle.gml_graph.specs.Answer.{graph_of_document}
+use Rattle.gml_graph.specs.Marked.{marked, told_lists}
 use Rattle.spqr_script.specs.declared.command.Command.{Command}
+use Rattle.spqr_session.specs.Trees.{tree_at}
 use Rattle.spqr_session.specs.Setting.{Setting, IsSetting}
-use Rattle.spqr_session.specs.State.{State, IsState, IsStart}
+use Rattle.spqr_session.specs.Start.{StartsAt, IsStartFault}
+use Rattle.spqr_session.specs.State.{Embedding, Family, State, entry_at, IsState, IsStart}
+use Rattle.spqr_session.specs.Commands.Gml.{present_lists, marks}
 use Rattle.spqr_session.specs.Step.{Step}
 use Rattle.spqr_session.specs.Report.{IsReport}
 
@@ -27,6 +34,34 @@ StepKeepsState =
 -- there is one state at the start
 abbrev pub OneStart : Type 0
 OneStart = (setting : Setting) (a b : State) → IsSetting setting → IsStart setting a → IsStart setting b → a ≡ b
+
+-- there is one fault of a start, with one set of numbers
+abbrev pub OneStartFault : Type 0
+OneStartFault =
+    (named : NamedGraph) (b v e f c x y z : ℕ) → IsStartFault named b v e f → IsStartFault named c x y z
+    → (b ≡ c) × (v ≡ x) × (e ≡ y) × (f ≡ z)
+
+-- and none where a session starts
+abbrev pub StartHasNoFault : Type 0
+StartHasNoFault =
+    (setting : Setting) (state : State) (b v e f : ℕ) → IsSetting setting → IsStart setting state → ¬ IsStartFault setting.named b v e f
+
+-- what is read in the document that `gml` writes: the same graph with the same ids, at which a session starts with the present
+-- rotation system of each planar block
+pub record IsReadBack (setting : Setting) (family : Family) (document : Document) (named : NamedGraph) : Type 0 where
+  pub read : graph_of_document document ≡ Ok named
+  pub graph : named.graph ≡ setting.named.graph
+  pub ids : named.ids ≡ setting.named.ids
+  pub present : (b : ℕ) (e : Embedding) → b < length setting.trees → entry_at family b ≡ Some e → StartsAt named.start (tree_at setting.trees b) e.rotation
+  pub no_fault : (b v e f : ℕ) → ¬ IsStartFault named b v e f
+
+-- each vertex has its present edges in it
+abbrev pub GmlIsReadBack : Type 0
+GmlIsReadBack =
+    (setting : Setting) (state : State) → IsSetting setting → IsState setting state
+    → IsReadBack setting state.present
+        (marked (marks setting.named.graph.vertex_count setting.trees state.present) setting.document)
+        (record setting.named { start = told_lists (present_lists setting.named.graph.vertex_count setting.trees state.present) })
 
 -- there is one report on a setting and commands
 abbrev pub OneReport : Type 0

@@ -2,8 +2,10 @@
 pub mod Trees
 pub mod Certificates
 pub mod Setting
+pub mod Start
 pub mod State
 pub mod Embedded
+pub mod Starting
 pub mod Moved
 pub mod History
 pub mod Board
@@ -15,5 +17,7 @@ pub mod Commands
 pub mod Step
 pub mod Head
 pub mod Report
+pub mod Sorting
+pub mod Texts
 pub mod Machine
 pub mod Laws

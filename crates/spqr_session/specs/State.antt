@@ -2,8 +2,8 @@
 use Rattle.std.specs.Prelude.{◌≡◌, ℕ, ◌<◌, Bool, false, List, [], length, replicate, slice_index_or, Option, None, Some, All, ⊤}
 use Rattle.kuratowski.specs.declared.subdivision.Subdivision.{Subdivision}
 use Rattle.faces.specs.Euler.{IsPlaneSystem}
-use Rattle.skel_embed.specs.First.{IsFirst}
 use Rattle.spqr_session.specs.Trees.{BlockTree, tree_at}
+use Rattle.spqr_session.specs.Start.{StartsAt}
 use Rattle.spqr_session.specs.Certificates.{certificate_at}
 use Rattle.spqr_session.specs.Setting.{Setting}
 
@@ -44,14 +44,15 @@ pub record IsState (setting : Setting) (state : State) : Type 0 where
   pub earlier : All (IsFamily setting) state.earlier
   pub later : All (IsFamily setting) state.later
 
--- at the start the current rotation system of a planar block is the first of its plane ones, and no node is locked
-abbrev pub IsFirstEntry : BlockTree → Option Embedding → Type 0
-IsFirstEntry tree None = ⊤
-IsFirstEntry tree (Some e) = IsFirst tree.part.graph tree.nodes e.rotation × (e.locks ≡ replicate (length tree.nodes) false)
+-- at the start the current rotation system of a planar block is the one that the file gives, or the first of its plane ones where the
+-- file gives none; and no node is locked
+abbrev pub IsStartEntry : Option (List (List ℕ)) → BlockTree → Option Embedding → Type 0
+IsStartEntry start tree None = ⊤
+IsStartEntry start tree (Some e) = StartsAt start tree e.rotation × (e.locks ≡ replicate (length tree.nodes) false)
 
 -- a state in which a session on the setting starts: this is so for each block, and no family is earlier or later
 pub record IsStart (setting : Setting) (state : State) : Type 0 where
   pub right : IsState setting state
-  pub first : (b : ℕ) → b < length setting.trees → IsFirstEntry (tree_at setting.trees b) (entry_at state.present b)
+  pub starts : (b : ℕ) → b < length setting.trees → IsStartEntry setting.named.start (tree_at setting.trees b) (entry_at state.present b)
   pub earlier : state.earlier ≡ []
   pub later : state.later ≡ []

@@ -22,7 +22,7 @@ use Rattle.spqr_session.specs.Commands.Convert.{ConvertRankStep, ConvertToStep}
 -- a command gives this text and leads to this state
 abbrev pub Step : Setting → State → Command → List ℕ → State → Type 0
 Step setting before (command.Euler entries) text after = EulerStep setting.named.graph entries before text after
-Step setting before command.Gml text after = GmlStep setting.document before text after
+Step setting before command.Gml text after = GmlStep setting before text after
 Step setting before (command.Show b) text after = ShowStep setting.trees b before text after
 Step setting before (command.Faces b) text after = FacesStep setting.trees b before text after
 Step setting before (command.Flip b k) text after = FlipStep setting.trees b k before text after

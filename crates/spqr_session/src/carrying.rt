@@ -1,7 +1,7 @@
 // Carrying out a command.
 ghost use Rattle.std.specs.Prelude.{◌≡◌, map, IfOk, OnErr};
 ghost use Rattle.spqr_session.specs.Setting.{Setting};
-ghost use Rattle.spqr_session.specs.Embedded.{view_tree};
+ghost use Rattle.spqr_session.specs.Embedded.{view_tree, AreBlocksOf};
 ghost use Rattle.spqr_session.specs.Board.{board_state, IsCarried};
 ghost use Rattle.spqr_session.specs.Step.{Step};
 
@@ -24,6 +24,7 @@ pub(crate) fn carry_out(
     board: &mut Board,
     command: &Command,
 ) -> Result<Vec<u8>, AllocError>
+    requires { AreBlocksOf graph.now board.old.views }
     ensures step { (setting : Setting) → setting.document ≡ doc.now → setting.named.graph ≡ graph.now → setting.trees ≡ map view_tree board.old.views
         → IfOk result (λ text. Step setting (board_state board.old) command.now text.items (board_state board.new)) }
     ensures setting { IsCarried board.old.views board.new.views }
@@ -45,7 +46,7 @@ pub(crate) fn carry_out(
         Command::Take(b, lists) => carry_take(alloc, board, *b, lists),
         Command::Undo => carry_undo(alloc, board),
         Command::Redo => carry_redo(alloc, board),
-        Command::Gml => carry_gml(alloc, doc),
+        Command::Gml => carry_gml(alloc, doc, graph, board.blocks()),
         Command::Count(b) => carry_count(alloc, board.blocks(), *b),
         Command::Rank(b) => carry_rank(alloc, board.blocks(), *b),
         Command::Lock(b, k) => carry_lock(alloc, board, *b, *k, true),

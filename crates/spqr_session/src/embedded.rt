@@ -1,5 +1,5 @@
 // The blocks of a graph, each with its tree, and its embedding or its certificate.
-ghost use Rattle.std.specs.Prelude.{◌≡◌, ◌<◌, length, IfOk};
+ghost use Rattle.std.specs.Prelude.{◌≡◌, ◌<◌, length, None, IfOk};
 ghost use Rattle.blocks.specs.Blocks.{IsBlockStructure, block_at};
 ghost use Rattle.spqr_session.specs.Embedded.{block_view, KeepsTogether, IsEmbedded, IsStartBlock, AreStartBlocks};
 
@@ -79,7 +79,7 @@ fn embedded_block<P: Splitter, E: Embedder>(
 ) -> Result<EmbeddedBlock, AllocError>
     requires structure { IsBlockStructure graph.now blocks.now }
     requires block { b < length blocks.now.blocks }
-    ensures { IfOk result (IsStartBlock graph.now (block_at blocks.now.blocks b)) }
+    ensures { IfOk result (IsStartBlock None graph.now (block_at blocks.now.blocks b)) }
 {
     let part = graph.part(alloc, blocks.edges(b))?;
     let comps = splitter.split(alloc, part.graph())?;
@@ -101,7 +101,7 @@ pub fn embedded_blocks<P: Splitter, E: Embedder>(
     embedder: &mut E,
 ) -> Result<Vec<EmbeddedBlock>, AllocError>
     requires { IsBlockStructure graph.now blocks.now }
-    ensures { IfOk result (λ embedded. AreStartBlocks graph.now blocks.now.blocks
+    ensures { IfOk result (λ embedded. AreStartBlocks None graph.now blocks.now.blocks
         (length blocks.now.blocks) embedded.items) }
 {
     let mut embedded = Vec::new(alloc);

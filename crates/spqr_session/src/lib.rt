@@ -6,8 +6,9 @@
 // the nodes, and those from before and after. A command is one step, a relation of the state before, the text that answers it
 // and the state after; a report is the head and the texts of a chain of steps.
 //
-// What is promised: at the start the current rotation system of each planar block is the first of its plane ones, by the choices of the
-// nodes of its tree (Di Battista and Tamassia 1996). The head says of each block that it is planar exactly where it has a plane
+// What is promised: at the start the current rotation system of each planar block is the one that the file gives, by the order of the
+// edges at each vertex; where the file gives none it is the first of the plane ones, by the choices of the nodes of its tree
+// (Di Battista and Tamassia 1996). A file is refused exactly where what it gives for a planar block is not plane. The head says of each block that it is planar exactly where it has a plane
 // rotation system. A command is refused exactly where a code applies, by the lowest that does, and then changes nothing. Each
 // command has one answer in each state, and there is one report on a setting and commands. Without memory a session stays as it
 // was.
@@ -18,9 +19,14 @@ mod carrying;
 mod code;
 mod commands;
 mod embedded;
+mod fault;
 mod head;
 pub mod laws;
 mod planned;
 mod session;
+mod sorting;
+mod starting;
+mod texts;
 
+pub use fault::StartFault;
 pub use session::Session;

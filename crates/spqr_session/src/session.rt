@@ -1,14 +1,17 @@
 // A session: a document with its graph, the blocks of it with their trees and embeddings, on which commands are carried out.
-ghost use Rattle.std.specs.Prelude.{◌≡◌, Ok, IfOk, OnErr};
+ghost use Rattle.std.specs.Prelude.{◌≡◌, Ok, IfOk, IfErr, OnErr};
 ghost use Rattle.gml_graph.specs.Answer.{graph_of_document};
 ghost use Rattle.spqr_session.specs.Head.{head_text};
+ghost use Rattle.spqr_session.specs.Start.{IsStartRefusal};
 ghost use Rattle.spqr_session.specs.Step.{Step};
 ghost use Rattle.spqr_session.specs.Machine.{IsStarted};
 
 use crate::board::Board;
 use crate::carrying::carry_out;
 use crate::embedded::embedded_blocks;
+use crate::fault::StartFault;
 use crate::head::head_of;
+use crate::starting::take_starts;
 use blocks::{Blocks, split};
 use gml_graph::Named;
 use gml_text::Doc;
@@ -54,21 +57,26 @@ impl Model for Session {
 
 impl Session {
     /// Starts a session on a document and its graph, which is split into its blocks, and each block by the splitter; the
-    /// embedder is asked once for each triconnected node of their trees. The current rotation system of each planar block is then its first plane
-    /// rotation system, and no node is locked. If memory runs out, document and graph are dropped.
+    /// embedder is asked once for each triconnected node of their trees. The current rotation system of each planar block is then
+    /// the one that the file gives, or where it gives none the first plane one, and no node is locked.
+    ///
+    /// Fails with `StartGenus` exactly where the file gives a planar block a rotation system that is not plane, with the least
+    /// such block; fails with `Memory` only if memory runs out. Document and graph are dropped then.
     pub fn start<P: Splitter, E: Embedder>(
         alloc: Global,
         doc: Doc,
         named: Named,
         splitter: &mut P,
         embedder: &mut E,
-    ) -> Result<Session, AllocError>
+    ) -> Result<Session, StartFault>
         requires { graph_of_document doc ≡ Ok named }
         ensures parts { IfOk result (λ s. (s.setting.document ≡ doc) × (s.setting.named ≡ named)) }
         ensures started { IfOk result IsStarted }
+        ensures refused { IfErr result (IsStartRefusal named) }
     {
         let blocks = split(alloc, named.graph())?;
-        let embedded = embedded_blocks(alloc, named.graph(), &blocks, splitter, embedder)?;
+        let mut embedded = embedded_blocks(alloc, named.graph(), &blocks, splitter, embedder)?;
+        take_starts(alloc, &named, &blocks, &mut embedded)?;
         Ok(Session {
             doc,
             named,

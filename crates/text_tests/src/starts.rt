@@ -9,8 +9,7 @@ use std::test::Fail;
 // third.
 fn graph_with(alloc: Global, texts: [&str; 4]) -> Result<Named, GraphFault> {
     let [a, b, c, d] = texts;
-    let text = format!(
-        in alloc;
+    let text = format!(in alloc;
         "graph [ node [ id 0 spqrRotation \"{a}\" ] node [ id 1 spqrRotation \"{b}\" ] node [ id 2 spqrRotation \"{c}\" ] node [ id 3 spqrRotation \"{d}\" ] edge [ source 0 target 1 ] edge [ source 1 target 0 ] edge [ source 1 target 2 ] ]"
     )?;
     graph_of_text(alloc, text.as_str())
@@ -21,7 +20,12 @@ static TAKEN: [[&str; 4]; 4] = [
     ["1 0", "2 0 1", "2", ""],
     ["01 0000", "2 0 1", "00000000000000000000002", " "],
     ["\t1\n0\r", "2\x0b0\x0c1", " 2  ", "\r\n"],
-    ["\t\n\x0b\x0c\r 1\t\n\x0b\x0c\r 0", "2 0 1", "2", "\t\n\x0b\x0c\r "],
+    [
+        "\t\n\x0b\x0c\r 1\t\n\x0b\x0c\r 0",
+        "2 0 1",
+        "2",
+        "\t\n\x0b\x0c\r ",
+    ],
 ];
 
 // Texts that are refused, each with the first vertex that is.
@@ -98,6 +102,9 @@ fn first_key_counts(rt: HostRuntime) -> Result<(), Fail> {
 #[test]
 fn loop_before_start(rt: HostRuntime) -> Result<(), Fail> {
     let text = "graph [ node [ id 0 spqrRotation \"x\" ] edge [ source 0 target 0 ] ]";
-    assert_eq!(rt; graph_of_text(rt.alloc(), text).err(), Some(GraphFault::Loop(0)));
+    assert_eq!(rt;
+        graph_of_text(rt.alloc(), text).err(),
+        Some(GraphFault::Loop(0))
+    );
     Ok(())
 }

@@ -1,5 +1,8 @@
-// A block's embedding changed. No memory is taken.
-ghost use Rattle.std.specs.Prelude.{◌≡◌, ◌<◌, length, Some, All};
+// A block's embedding changed. Memory is taken only for lists.
+ghost use Rattle.std.specs.Prelude.{◌≡◌, ◌<◌, length, Some, All, IfOk, IfErr};
+ghost use Rattle.skel_embed.specs.Block.{IsBlockState};
+ghost use Rattle.skel_embed.specs.Taken.{IsGiven, IsTakeRefusal};
+ghost use Rattle.spqr_session.specs.Starting.{IsBlockTaken, IsBlockRefusal};
 ghost use Rattle.spqr_session.specs.State.{Embedding};
 ghost use Rattle.embed_moves.specs.Made.{Fits};
 ghost use Rattle.spqr_session.specs.Moved.{moved, all_moved};
@@ -9,7 +12,10 @@ ghost use Rattle.spqr_session.specs.Embedded.{entry_lock};
 
 use super::EmbeddedBlock;
 use embed_moves::carry_out;
-use skel_embed::{Move, MoveList, Outcome, PlaneBlock};
+use multigraph::Part;
+use rotations::Lists;
+use skel_embed::{Move, MoveList, Outcome, PlaneBlock, TakeFault};
+use std::alloc::Global;
 
 impl EmbeddedBlock {
     /// Whether node `k` is locked; no node of a block that is not planar is.
@@ -46,6 +52,19 @@ impl EmbeddedBlock {
         }
     }
 
+    /// Makes lists the rotation system of a planar block; they are in the numbers of the whole graph. Another block stays. Fails
+    /// as `PlaneBlock::take` does.
+    pub(crate) fn take(&mut self, alloc: Global, lists: &Lists) -> Result<(), TakeFault>
+        ensures taken { IfOk result (λ _. IsBlockTaken lists.now self.old self.new) }
+        ensures refused { IfErr result (IsBlockRefusal lists.now self.old) }
+    {
+        let _ = self.part.graph();
+        match &mut self.outcome {
+            Outcome::Plane(plane) => take_in(alloc, plane, &self.part, lists),
+            Outcome::Not(_, _, _) => Ok(()),
+        }
+    }
+
     /// Puts another one with the same graph and tree in the place of a block in the plane.
     pub(crate) fn replace(&mut self, plane: PlaneBlock)
         requires planar { (e : Embedding) × (self.old.entry ≡ Some e) }
@@ -73,6 +92,28 @@ fn carry_all(plane: &mut PlaneBlock, moves: &MoveList)
     for one in moves.as_slice() {
         carry_one(plane, one);
     }
+}
+
+// Makes lists the rotation system of a block in the plane.
+fn take_in(
+    alloc: Global,
+    plane: &mut PlaneBlock,
+    part: &Part,
+    lists: &Lists,
+) -> Result<(), TakeFault>
+    requires { part.now.graph ≡ plane.old.graph }
+    ensures given { IfOk result (λ _. IsGiven part.now lists.now plane.new.rotation) }
+    ensures rest { IfOk result (λ _. plane.new ≡ record plane.old {
+      rotation = plane.new.rotation;
+      choices = plane.new.choices;
+    }) }
+    ensures right { IsBlockState plane.new }
+    ensures refused { IfErr result (λ fault. IsTakeRefusal plane.old part.now lists.now fault
+        × (plane.new ≡ plane.old)) }
+{
+    let taken = plane.take(alloc, part, lists);
+    let _ = plane.graph();
+    taken
 }
 
 // Makes one move.

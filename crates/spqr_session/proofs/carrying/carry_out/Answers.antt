@@ -1,11 +1,10 @@
-use Rattle.std.proofs.Common.{◌≡◌, ℕ, true, false, List, map, sym, ap, ◌∙◌, subst, IfOk}
+use Rattle.std.proofs.Common.{◌≡◌, ℕ, true, false, List, map, refl, sym, ap, ◌∙◌, subst, IfOk}
 use Rattle.multigraph.specs.Graph.{Multigraph}
-use Rattle.gml_text.specs.Document.{Document}
 use Rattle.spqr_script.specs.declared.command.Command.TheVariants as command
 use Rattle.spqr_session.specs.Setting.{Setting}
 use Rattle.spqr_session.specs.Trees.{BlockTree}
-use Rattle.spqr_session.specs.Embedded.{BlockView, view_tree, view_entry}
-use Rattle.spqr_session.specs.Board.{board_state}
+use Rattle.spqr_session.specs.Embedded.{BlockView, view_tree, view_entry, AreBlocksOf}
+use Rattle.spqr_session.specs.Board.{board_state, family_on}
 use Rattle.spqr_session.specs.Commands.Euler.{EulerStep}
 use Rattle.spqr_session.specs.Commands.Gml.{GmlStep}
 use Rattle.spqr_session.specs.Commands.Show.{ShowStep}
@@ -26,7 +25,11 @@ returns-in-Euler-clause-step c = λ setting document graph trees.
 pub returns-in-Gml-clause-step : goal.returns-in-Gml-clause-step
 returns-in-Gml-clause-step c = λ setting document graph trees.
     let s = board_state c.args.board.now in
-    step-of setting s s c.args.command.now command.Gml setting.document c.args.doc.now (λ (d : Document) text. GmlStep d s text s) c.carry_gml.result c.in-Gml.is document (λ text h. h) (c.carry_gml.ensures s)
+    step-of setting s s c.args.command.now command.Gml setting setting (λ (x : Setting) text. GmlStep x s text s) c.carry_gml.result c.in-Gml.is refl (λ text h. h)
+    (c.carry_gml.ensures setting s document graph (trees ∙ ap (λ (vs : List BlockView). map view_tree vs) (sym c.blocks-in-Gml.ensures)) (ap family_on (sym c.blocks-in-Gml.ensures)))
+
+pub carry_gml-requires : goal.carry_gml-requires
+carry_gml-requires c = subst (λ (views : List BlockView). AreBlocksOf c.args.graph.now views) (sym c.blocks-in-Gml.ensures) c.requires
 
 pub returns-in-Show-clause-step : goal.returns-in-Show-clause-step
 returns-in-Show-clause-step c = λ setting document graph trees.

@@ -1,11 +1,16 @@
 use Rattle.std.proofs.Common.{List, map, refl, sym, ap, ◌∙◌, subst, IfOk}
 use Rattle.multigraph.specs.Graph.{Multigraph}
 use Rattle.spqr_session.specs.Machine.{Machine}
-use Rattle.spqr_session.specs.Embedded.{BlockView, view_tree, setting_of}
+use Rattle.spqr_session.specs.Embedded.{BlockView, view_tree, setting_of, AreBlocksOf}
 use Rattle.spqr_session.specs.Board.{BoardView, board_state}
 use Rattle.spqr_session.specs.Step.{Step}
-use Rattle.spqr_session.proofs.Sessions.{setting-kept, stepped-machine, memory-machine}
+use Rattle.spqr_session.proofs.Sessions.{machine-blocks, setting-kept, stepped-machine, memory-machine}
 use Rattle.spqr_session.proofs.session.Session.step.Goals as goal
+
+pub carry_out-requires : goal.carry_out-requires
+carry_out-requires c =
+    let s = c.self.inside in
+    subst (λ (g : Multigraph). AreBlocksOf g s.board.views) (sym c.graph.ensures.value) (machine-blocks s.doc s.named s.blocks s.board c.self.invariant)
 
 pub invariant_of-self : goal.invariant_of-self
 invariant_of-self c =

@@ -1,0 +1,196 @@
+-- The texts of `gml`: numbers appended one after another, those of a block at all its vertices, and block after block.
+use Rattle.std.proofs.Common.{◌≡◌, ◌≢◌, ℕ, zero, suc, ◌+◌, ◌<◌, ◌≤◌, ◌/◌, ◌%◌, ◌==◌, Bool, true, false, cond, List, [], ◌∷◌, ◌++◌, length, map, replicate, get_or, set, slice_index, slice_index_or, codes, decimal, Option, None, Some, inl, inr, refl, sym, ap, ◌∙◌, subst, arith, append_assoc, append-nil, add-one, nat_lt, if◌then◌else◌}
+use Rattle.std.specs.List.{concat}
+use Rattle.std.specs.Fmt.{digits, digits_onto, digit_glyph}
+use Rattle.std.proofs.lemmas.Bool.{cases_Bool, cases_eq, cases_lt, cond-true, cond-false, lt-ltb, le-ltb}
+use Rattle.std.proofs.lemmas.List.{get_or-set_same, get_or-set_other, length-set, length-map, get_or-map, get_or_past, ext_get_or, length-replicate, get_or-replicate}
+use Rattle.permutations.specs.Members.{is_member, place_of}
+use Rattle.permutations.proofs.Places.{place-at}
+use Rattle.multigraph.specs.Graph.{Multigraph, edge_count, is_end, incident_edges, numbers_below, IsGraph}
+use Rattle.multigraph.specs.Part.{GraphPart, IsNumbered}
+use Rattle.multigraph.proofs.Below.{length-numbers_below, get_or-numbers_below}
+use Rattle.multigraph.proofs.OtherEnd.{end-in}
+use Rattle.permutations.proofs.Members.{member-head}
+use Rattle.rotations.specs.PartLists.{outer_edges}
+use Rattle.rotations.specs.Rotation.{order_at, IsRotationSystem}
+use Rattle.rotations.proofs.Membership.{member-edge, member-end}
+use Rattle.decimals.specs.Text.{spaced_numbers}
+use Rattle.gml_graph.specs.Marked.{numbers_text}
+use Rattle.spqr_session.specs.Trees.{BlockTree, tree_at}
+use Rattle.spqr_session.specs.State.{Embedding, Family, entry_at}
+use Rattle.spqr_session.specs.Commands.Gml.{block_numbers, numbers_at, present_lists, marks}
+use Rattle.spqr_session.specs.Texts.{with_number, with_numbers, own_numbers, AreExtended}
+use Rattle.spqr_session.proofs.OwnLists.{joined, joined-suc}
+use Rattle.spqr_session.proofs.EdgesAt.{place-back}
+use Rattle.spqr_session.proofs.StartLists.{vertices-distinct}
+
+-- ---- numbers in one text
+
+-- a number is written with a digit at least
+abbrev IsSome : List ℕ → Type 0
+IsSome l = (x : ℕ) × (xs : List ℕ) × (l ≡ x ∷ xs)
+
+onto-some : (k n x : ℕ) (after : List ℕ) → IsSome (digits_onto k 10 false n (x ∷ after))
+onto-some zero n x after = (x, after, refl)
+onto-some (suc k) n x after = elim (cases_Bool (n / 10 == 0)) [
+  | inl t ↦ (digit_glyph false (n % 10), x ∷ after, cond-true (n / 10 == 0) (digit_glyph false (n % 10) ∷ x ∷ after) (digits_onto k 10 false (n / 10) (digit_glyph false (n % 10) ∷ x ∷ after)) t)
+  | inr f ↦ (let w = onto-some k (n / 10) (digit_glyph false (n % 10)) (x ∷ after) in (w.0, w.1, cond-false (n / 10 == 0) (digit_glyph false (n % 10) ∷ x ∷ after) (digits_onto k 10 false (n / 10) (digit_glyph false (n % 10) ∷ x ∷ after)) f ∙ w.2))
+]
+
+decimal-some : (n : ℕ) → IsSome (decimal n)
+unfolding digits
+decimal-some n = elim (cases_Bool (n / 10 == 0)) [
+  | inl t ↦ (digit_glyph false (n % 10), [], cond-true (n / 10 == 0) (digit_glyph false (n % 10) ∷ []) (digits_onto 63 10 false (n / 10) (digit_glyph false (n % 10) ∷ [])) t)
+  | inr f ↦ (let w = onto-some 63 (n / 10) (digit_glyph false (n % 10)) [] in (w.0, w.1, cond-false (n / 10 == 0) (digit_glyph false (n % 10) ∷ []) (digits_onto 63 10 false (n / 10) (digit_glyph false (n % 10) ∷ [])) f ∙ w.2))
+]
+
+-- numbers appended in two parts
+pub numbers-append : (text xs ys : List ℕ) → with_numbers text (xs ++ ys) ≡ with_numbers (with_numbers text xs) ys
+numbers-append text [] ys = refl
+numbers-append text (x ∷ xs) ys = numbers-append (with_number text x) xs ys
+
+-- after a text with something in it each has a space before it
+numbers-spaced : (c : ℕ) (text es : List ℕ) → with_numbers (c ∷ text) es ≡ (c ∷ text) ++ spaced_numbers es
+numbers-spaced c text [] = sym (append-nil (c ∷ text))
+numbers-spaced c text (e ∷ es) =
+    numbers-spaced c (text ++ codes " " ++ decimal e) es ∙ append_assoc (c ∷ text) (codes " " ++ decimal e) (spaced_numbers es)
+    ∙ ap (λ (l : List ℕ). (c ∷ text) ++ l) (append_assoc (codes " ") (decimal e) (spaced_numbers es))
+
+-- so from the empty text on there is one space between any two
+pub numbers-text : (es : List ℕ) → with_numbers [] es ≡ numbers_text es
+numbers-text [] = refl
+numbers-text (e ∷ es) =
+    let w = decimal-some e in
+    ap (λ (l : List ℕ). with_numbers l es) w.2 ∙ numbers-spaced w.0 w.1 es ∙ ap (λ (l : List ℕ). l ++ spaced_numbers es) (sym w.2)
+
+-- a number more
+pub number-first : (text : List ℕ) (e : ℕ) → length text ≡ 0 → with_number text e ≡ text ++ decimal e
+number-first [] e h = refl
+number-first (c ∷ text) e h = absurd (omega (arith, h))
+
+pub number-later : (text : List ℕ) (e : ℕ) → length text ≢ 0 → with_number text e ≡ (text ++ codes " ") ++ decimal e
+number-later [] e h = absurd (h refl)
+number-later (c ∷ text) e h = sym (append_assoc (c ∷ text) (codes " ") (decimal e))
+
+-- ---- the edges of one block
+
+-- those at a vertex of the graph, by the vertex of the block that it is
+pub numbers-own : (tree : BlockTree) (o : Option Embedding) (v : ℕ) → block_numbers tree o v ≡ own_numbers tree o (place_of tree.part.vertices v)
+numbers-own tree None v = refl
+numbers-own tree (Some e) v = refl
+
+-- a list without members
+nil-from : (l : List ℕ) → ((x : ℕ) → is_member x l ≡ true → ⊥) → l ≡ []
+nil-from [] h = refl
+nil-from (x ∷ l) h = absurd (h x (member-head x l))
+
+-- a number that is no vertex has no edges
+pub own-none : (tree : BlockTree) (o : Option Embedding) (i : ℕ) → IsGraph tree.part.graph → ((e : Embedding) → o ≡ Some e → length e.rotation ≡ tree.part.graph.vertex_count) → tree.part.graph.vertex_count ≤ i → own_numbers tree o i ≡ []
+own-none tree None i is long l =
+    let g = tree.part.graph in
+    ap (map (slice_index tree.part.edges)) (nil-from (incident_edges g i) (λ e m. omega (arith, l, end-in g i e is (member-edge g i e m) (member-end g i e m))))
+own-none tree (Some e) i is long l = ap (map (slice_index tree.part.edges)) (get_or_past e.rotation i [] (omega (arith, l, long e refl)))
+
+-- ---- the texts of all vertices
+
+-- what was added to each text, with more added at one vertex
+module _ (tree : BlockTree) (o : Option Embedding) (numbered : IsNumbered tree.part) (old : List (List ℕ)) where
+  -- the edges of the first i vertices of the block
+  abbrev added_below : ℕ → ℕ → List ℕ
+  added_below i v = (if nat_lt (place_of tree.part.vertices v) i then block_numbers tree o v else [])
+
+  below-yes : (i v : ℕ) → place_of tree.part.vertices v < i → added_below i v ≡ block_numbers tree o v
+  below-yes i v l = cond-true (nat_lt (place_of tree.part.vertices v) i) (block_numbers tree o v) [] (lt-ltb (place_of tree.part.vertices v) i l)
+
+  below-no : (i v : ℕ) → i ≤ place_of tree.part.vertices v → added_below i v ≡ []
+  below-no i v l = cond-false (nat_lt (place_of tree.part.vertices v) i) (block_numbers tree o v) [] (le-ltb (place_of tree.part.vertices v) i l)
+
+  -- no vertex yet
+  pub none-added : AreExtended (added_below 0) old old
+  none-added = record { long = refl; each = λ v l. ap (with_numbers (slice_index_or old v [])) (sym (below-no 0 v (omega arith))) }
+
+  -- one vertex more
+  pub added-more : (i : ℕ) (now new : List (List ℕ)) → i < length tree.part.vertices → slice_index tree.part.vertices i < length old → AreExtended (added_below i) old now
+      → new ≡ set now (slice_index tree.part.vertices i) (with_numbers (slice_index_or now (slice_index tree.part.vertices i) []) (own_numbers tree o i))
+      → AreExtended (added_below (i + 1)) old new
+  added-more i now new l within h e = subst (AreExtended (added_below (i + 1)) old) (sym e) (record {
+    long = length-set now w more ∙ h.long;
+    each = λ v m. elim (cases_eq v w) [
+      | inl q ↦ subst (λ (z : ℕ). slice_index_or (set now w more) z [] ≡ with_numbers (slice_index_or old z []) (added_below (i + 1) z)) (sym q) here
+      | inr n ↦ get_or-set_other now w v more [] n ∙ h.each v m ∙ ap (with_numbers (slice_index_or old v [])) (other v n)
+    ];
+  })
+    where
+      w : ℕ
+      w = slice_index tree.part.vertices i
+
+      more : List ℕ
+      more = with_numbers (slice_index_or now w []) (own_numbers tree o i)
+
+      at : place_of tree.part.vertices w ≡ i
+      at = place-at tree.part.vertices i (vertices-distinct tree.part numbered) l
+
+      here : slice_index_or (set now w more) w [] ≡ with_numbers (slice_index_or old w []) (added_below (i + 1) w)
+      here =
+          get_or-set_same now w more [] (omega (arith, within, h.long))
+          ∙ ap (λ (t : List ℕ). with_numbers t (own_numbers tree o i)) (h.each w within ∙ ap (with_numbers (slice_index_or old w [])) (below-no i w (omega (arith, at))))
+          ∙ ap (with_numbers (slice_index_or old w [])) (sym (below-yes (i + 1) w (omega (arith, at)) ∙ numbers-own tree o w ∙ ap (own_numbers tree o) at))
+
+      other : (v : ℕ) → v ≢ w → added_below i v ≡ added_below (i + 1) v
+      other v n = elim (cases_lt (place_of tree.part.vertices v) i) [
+        | inl b ↦ below-yes i v b ∙ sym (below-yes (i + 1) v (omega (arith, b)))
+        | inr b ↦ below-no i v b ∙ sym (below-no (i + 1) v (after v n b))
+      ]
+        where
+          after : (v : ℕ) → v ≢ w → i ≤ place_of tree.part.vertices v → i + 1 ≤ place_of tree.part.vertices v
+          after v n b = elim (cases_eq (place_of tree.part.vertices v) i) [
+            | inl q ↦ absurd (n (sym (place-back tree.part.vertices v (omega (arith, q, l))) ∙ ap (slice_index tree.part.vertices) q))
+            | inr d ↦ omega (arith, b, d)
+          ]
+
+  -- all of them
+  pub all-added : (new : List (List ℕ)) → ((e : Embedding) → o ≡ Some e → length e.rotation ≡ tree.part.graph.vertex_count) → AreExtended (added_below tree.part.graph.vertex_count) old new → AreExtended (block_numbers tree o) old new
+  all-added new long h = record { long = h.long; each = λ v l. h.each v l ∙ ap (with_numbers (slice_index_or old v [])) (whole v) }
+    where
+      whole : (v : ℕ) → added_below tree.part.graph.vertex_count v ≡ block_numbers tree o v
+      whole v = elim (cases_lt (place_of tree.part.vertices v) tree.part.graph.vertex_count) [
+        | inl b ↦ below-yes tree.part.graph.vertex_count v b
+        | inr b ↦ below-no tree.part.graph.vertex_count v b ∙ sym (numbers-own tree o v ∙ own-none tree o (place_of tree.part.vertices v) numbered.is_graph long b)
+      ]
+
+-- ---- all blocks
+
+module _ (n : ℕ) (trees : List BlockTree) (family : Family) where
+  -- the edges of each block at v
+  abbrev block_list : ℕ → ℕ → List ℕ
+  block_list v b = block_numbers (tree_at trees b) (entry_at family b) v
+
+  -- the texts with the edges of the first k blocks
+  pub record AreTexts (k : ℕ) (texts : List (List ℕ)) : Type 0 where
+    pub long : length texts ≡ n
+    pub each : (v : ℕ) → v < n → slice_index_or texts v [] ≡ with_numbers [] (joined (block_list v) k)
+
+  -- no block yet
+  pub no-texts : (texts : List (List ℕ)) → texts ≡ replicate n [] → AreTexts 0 texts
+  no-texts texts e = subst (AreTexts 0) (sym e) (record { long = length-replicate n []; each = λ v l. get_or-replicate n v [] [] l })
+
+  -- one block more
+  pub texts-more : (k : ℕ) (old new : List (List ℕ)) → AreTexts k old → AreExtended (block_numbers (tree_at trees k) (entry_at family k)) old new → AreTexts (k + 1) new
+  texts-more k old new h more = rw add-one (record {
+    long = more.long ∙ h.long;
+    each = λ v l.
+        more.each v (omega (arith, l, h.long)) ∙ ap (λ (t : List ℕ). with_numbers t (block_list v k)) (h.each v l)
+        ∙ sym (ap (with_numbers []) (joined-suc (block_list v) k) ∙ numbers-append [] (joined (block_list v) k) (block_list v k));
+  })
+
+  -- so with all blocks they are the texts of `gml`
+  pub all-texts : (texts : List (List ℕ)) → AreTexts (length trees) texts → texts ≡ marks n trees family
+  all-texts texts h = ext_get_or [] texts (marks n trees family) (h.long ∙ sym long) (λ v l. (let m : v < n = omega (arith, l, h.long) in h.each v m ∙ numbers-text (joined (block_list v) (length trees)) ∙ sym (at v m)))
+    where
+      long : length (marks n trees family) ≡ n
+      long = length-map (present_lists n trees family) numbers_text ∙ length-map (numbers_below n) (numbers_at trees family) ∙ length-numbers_below n
+
+      at : (v : ℕ) → v < n → slice_index_or (marks n trees family) v [] ≡ numbers_text (numbers_at trees family v)
+      at v m =
+          get_or-map numbers_text (present_lists n trees family) v [] [] (omega (arith, m, length-map (numbers_below n) (numbers_at trees family), length-numbers_below n))
+          ∙ ap numbers_text (get_or-map (numbers_at trees family) (numbers_below n) v 0 [] (omega (arith, m, length-numbers_below n)) ∙ ap (numbers_at trees family) (get_or-numbers_below n v 0 m))
