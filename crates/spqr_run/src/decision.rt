@@ -59,7 +59,9 @@ fn started(alloc: Global, doc: Doc, named: Named) -> Result<Session, Halt<GraphR
     ) {
         Ok(session) => Ok(session),
         Err(fault) => match fault {
-            StartFault::StartGenus(b, v, e, f) => Err(Halt::Refused(GraphRefusal::Start(b, v, e, f))),
+            StartFault::StartGenus(b, v, e, f) => Err(Halt::Refused(GraphRefusal::Start(
+                b, v, e, f,
+            ))),
             StartFault::Memory => Err(Halt::Memory),
         },
     }
