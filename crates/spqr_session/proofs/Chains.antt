@@ -8,7 +8,7 @@ use Rattle.spqr_script.specs.declared.command.Command.{Command}
 use Rattle.spqr_script.specs.declared.command.Command.TheVariants as command
 use Rattle.spqr_session.specs.Trees.{tree_at}
 use Rattle.spqr_session.specs.Setting.{Setting, IsSetting}
-use Rattle.spqr_session.specs.State.{State, IsState, IsStart}
+use Rattle.spqr_session.specs.State.{State, IsState}
 use Rattle.spqr_session.specs.Step.{Step, IsChain}
 use Rattle.spqr_session.specs.BlockCodes.{no_more}
 use Rattle.spqr_session.specs.Commands.Show.{IsShown}

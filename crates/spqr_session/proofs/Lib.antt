@@ -35,13 +35,14 @@ pub mod TakePlans
 pub mod ConvertPlans
 pub mod Chains
 pub mod Steps
-pub mod OwnLists
+pub mod DisjointLists
 pub mod EdgesAt
 pub mod StartLists
-pub mod Sorting
+pub mod SortedEdges
 pub mod SortedStarts
 pub mod NumbersAt
-pub mod Texts
+pub mod NumberTexts
+mod StartExamples
 pub mod Grouped
 pub mod Moved
 pub mod Walks
@@ -52,4 +53,3 @@ pub mod BoardSteps
 pub mod BoardStates
 pub mod Sessions
 pub mod ReadBack
-pub mod GmlTexts

@@ -1,15 +1,11 @@
 -- Commands on the list of a block: the list, the rank of the present member, and that each answer is one.
-use Rattle.std.proofs.Common.{◌≡◌, ◌≢◌, ◌⊎◌, ℕ, suc, ◌+◌, ◌<◌, ◌≤◌, ◌^◌, Bool, true, false, not, nat_lt, List, [], ◌∷◌, ◌++◌, length, get_or, slice_index_or, drop, Option, None, Some, Contains, inl, inr, refl, sym, ap, ◌∙◌, subst, arith}
-use Rattle.std.specs.Prelude.{AllPairs}
-use Rattle.std.proofs.lemmas.Bool.{cases_eq, cases_lt, cases_order, ltb-true}
+use Rattle.std.proofs.Common.{◌≡◌, ℕ, ◌+◌, ◌<◌, Bool, true, false, not, nat_lt, List, [], ◌∷◌, length, slice_index_or, drop, Option, None, Some, Contains, inl, inr, refl, sym, ap, ◌∙◌, subst, arith}
+use Rattle.std.proofs.lemmas.Bool.{cases_lt, cases_order, ltb-true}
 use Rattle.std.proofs.lemmas.List.{get_or_default}
 use Rattle.std.proofs.lemmas.List.Elements.{Contains-get_or}
-use Rattle.multigraph.specs.Graph.{Multigraph}
-use Rattle.pair_split.specs.Tutte.{Node}
 use Rattle.skeletons.specs.Items.{IsBlockTree}
-use Rattle.faces.specs.Euler.{IsPlaneSystem}
 use Rattle.skeletons.specs.Choices.{Precedes}
-use Rattle.skeletons.specs.Lists.{IsKept, IsKeptList, IsRank, list_count}
+use Rattle.skeletons.specs.Lists.{IsRank}
 use Rattle.skeletons.proofs.Before.{not-both, kept-unique}
 use Rattle.skeleton_choices.proofs.Listed.{list-exists}
 use Rattle.skel_embed.specs.Block.{lock_at}
@@ -19,12 +15,12 @@ use Rattle.spqr_script.specs.Answers.Rank.{rank_text}
 use Rattle.spqr_session.specs.Trees.{BlockTree, tree_at}
 use Rattle.spqr_session.specs.Setting.{Setting, IsSetting}
 use Rattle.spqr_session.specs.State.{Embedding, State, entry_at, IsEntry, IsState}
-use Rattle.spqr_session.specs.Codes.{Ladder, rises_above, first_code, Applies, Carries}
+use Rattle.spqr_session.specs.Codes.{rises_above, first_code}
 use Rattle.spqr_session.specs.declared.code.Code.TheVariants.{CountOver, RankOut}
 use Rattle.spqr_session.specs.Members.{AreMembers, member_count, is_over, count_codes, rank_codes, StandsAt, StandsBehind, StandsLast}
-use Rattle.spqr_session.specs.BlockCodes.{no_more, block_ladder, read_ladder, of_entry, ReadsBlock, ChangesBlock, changed, Silently, ChangeStep, ReadStep}
+use Rattle.spqr_session.specs.BlockCodes.{no_more, block_ladder, read_ladder, of_entry, ChangesBlock, changed, Silently}
 use Rattle.spqr_session.specs.Commands.Count.{IsCounted, IsRanked, CountStep, RankStep}
-use Rattle.spqr_session.specs.Commands.Walk.{IsEnd, FirstStep, GotoStep, NextDoes, NextStep}
+use Rattle.spqr_session.specs.Commands.Walk.{FirstStep, GotoStep, NextDoes, NextStep}
 use Rattle.spqr_session.specs.Commands.Listing.{members_text, IsListing, ListStep}
 use Rattle.spqr_session.proofs.Carried.{DoesOne}
 use Rattle.spqr_session.proofs.SettingTrees.{setting-tree}

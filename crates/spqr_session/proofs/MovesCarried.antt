@@ -1,33 +1,32 @@
 -- `flip`, `permute`, `mirror`, `lock` and `unlock`: there is an answer, and one only, and they lead from a state to a state.
-use Rattle.std.proofs.Common.{◌≡◌, ℕ, ◌<◌, ◌==◌, Bool, true, false, not, List, [], ◌∷◌, ◌++◌, length, map, set, slice_index, Option, None, Some, IsPermutation, All, inl, inr, refl, sym, ap, ◌∙◌, subst, arith}
+use Rattle.std.proofs.Common.{◌≡◌, ℕ, ◌<◌, ◌==◌, Bool, true, not, List, [], ◌∷◌, length, map, set, slice_index, None, Some, IsPermutation, All, inl, inr, refl, sym, ap, ◌∙◌, subst, arith}
 use Rattle.std.proofs.lemmas.Bool.{eq-eqb, eqb-true, false_from_ne_true}
 use Rattle.std.proofs.lemmas.List.{length-set}
 use Rattle.std.proofs.lemmas.List.Elements.{All-head, All-tail, All-nil, All-cons}
 use Rattle.std.proofs.lemmas.List.Sorted.{IsPermutation-map}
-use Rattle.permutations.specs.Count.{some, least}
+use Rattle.permutations.specs.Count.{least}
 use Rattle.permutations.proofs.Search.{least-is}
-use Rattle.multigraph.specs.Graph.{Multigraph, edge_count}
+use Rattle.multigraph.specs.Graph.{edge_count}
 use Rattle.multigraph.proofs.Places.{rises-once}
 use Rattle.rotations.specs.Runs.{mirror_image}
 use Rattle.faces.proofs.MapMirror.{mirror-system, mirror-image-plane}
-use Rattle.pair_split.specs.Tutte.{Node, node_at}
+use Rattle.pair_split.specs.Tutte.{node_at}
 use Rattle.pair_split.specs.declared.components.Item.{Item}
-use Rattle.skeletons.specs.Items.{node_keys, item_key, IsBlockTree}
+use Rattle.skeletons.specs.Items.{node_keys, item_key}
 use Rattle.faces.specs.Euler.{IsPlaneSystem}
 use Rattle.pair_split.specs.declared.components.Kind.TheVariants.{P, R}
 use Rattle.skeletons.specs.Moves.{Move, flip, permute, IsNodeOfKind, MoveLeads}
 use Rattle.skeletons.proofs.Moved.{flip-exists, permute-exists, move-unique}
 use Rattle.skeleton_runs.proofs.Contiguous.{plane-contiguous}
 use Rattle.skeleton_choices.proofs.Plane.{move-plane}
-use Rattle.skel_embed.specs.Block.{lock_at}
 use Rattle.spqr_script.specs.Node.{IsItemOf}
 use Rattle.spqr_script.specs.Answers.Change.{ok_text}
 use Rattle.spqr_session.specs.Trees.{BlockTree, tree_at}
 use Rattle.spqr_session.specs.Setting.{Setting, IsSetting}
 use Rattle.spqr_session.specs.State.{Embedding, State, entry_at, IsEntry, IsState}
-use Rattle.spqr_session.specs.Codes.{Ladder, rises_above, first_code, Applies, Carries}
+use Rattle.spqr_session.specs.Codes.{rises_above, first_code}
 use Rattle.spqr_session.specs.declared.code.Code.TheVariants.{NoBlock, NoNode, WrongKind, BadOrder, NonPlanar}
-use Rattle.spqr_session.specs.BlockCodes.{is_block, is_node, is_planar, kind_of, block_ladder, node_ladder, read_ladder, of_entry, lock_codes, ChangesBlock, changed, Silently, ChangeStep}
+use Rattle.spqr_session.specs.BlockCodes.{is_block, is_node, is_planar, kind_of, block_ladder, node_ladder, read_ladder, of_entry, lock_codes, ChangesBlock, changed, Silently}
 use Rattle.pair_split.specs.Kinds.{is_rigid, is_bond, has_choices}
 use Rattle.spqr_session.specs.Commands.Flip.{flip_ladder, IsFlipped, FlipStep}
 use Rattle.gml_graph.specs.Arranged.{is_arrangement}
@@ -39,7 +38,7 @@ use Rattle.spqr_session.proofs.BlockTrees.{node-of_part}
 use Rattle.spqr_session.proofs.SettingTrees.{setting-tree}
 use Rattle.spqr_session.proofs.Ladders.{rung-none, ladder-answers, ladder-one}
 use Rattle.spqr_session.proofs.BlockCarried.{held, in-block, planar-entry, none-front, block-entry, entry-rises}
-use Rattle.spqr_session.proofs.Changes.{NodeFacts, node-facts, rigid-is, bond-is, change-does, change-keeps, entry-right, entry-block, silently-one, embedding-same}
+use Rattle.spqr_session.proofs.Changes.{node-facts, rigid-is, bond-is, change-does, change-keeps, entry-right, entry-block, silently-one, embedding-same}
 use Rattle.std.proofs.lemmas.Bool.{ltb-true}
 
 -- ---- moves of a node

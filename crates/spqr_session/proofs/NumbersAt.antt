@@ -1,14 +1,13 @@
 -- The edges that `gml` writes at a vertex, block by block: they arrange the edges there, those of a block are picked out by the test for
 -- its edges, and read as a start they are the present rotation system of each planar block.
-use Rattle.std.proofs.Common.{◌≡◌, ℕ, ◌<◌, Bool, true, false, List, [], length, map, filter, slice_index, slice_index_or, Option, None, Some, IsPermutation, inl, inr, refl, sym, ap, ◌∙◌, subst, arith}
-use Rattle.std.specs.List.{concat}
+use Rattle.std.proofs.Common.{◌≡◌, ℕ, ◌<◌, Bool, true, List, [], length, map, filter, slice_index, slice_index_or, Option, None, Some, IsPermutation, inl, inr, refl, sym, ap, ◌∙◌, subst, arith}
 use Rattle.std.proofs.lemmas.Bool.{cases_lt, false_from_ne_true}
 use Rattle.std.proofs.lemmas.List.{get_or-map, get_or_past, length-map}
 use Rattle.std.proofs.lemmas.List.Sorted.{IsPermutation-refl, IsPermutation-map}
 use Rattle.permutations.specs.Members.{is_member, place_of}
 use Rattle.permutations.proofs.Filter.{filter-none}
 use Rattle.permutations.proofs.Places.{place-at, place-below}
-use Rattle.multigraph.specs.Graph.{Multigraph, edge_count, incident_edges, numbers_below, IsGraph}
+use Rattle.multigraph.specs.Graph.{Multigraph, edge_count, incident_edges, numbers_below}
 use Rattle.multigraph.specs.Part.{IsPart}
 use Rattle.multigraph.proofs.Below.{length-numbers_below, get_or-numbers_below}
 use Rattle.blocks.specs.Blocks.{block_at, AreBlocks}
@@ -21,9 +20,9 @@ use Rattle.spqr_session.specs.Trees.{BlockTree, tree_at, AreBlockTrees}
 use Rattle.spqr_session.specs.State.{Embedding, Family, entry_at}
 use Rattle.spqr_session.specs.Start.{start_entries}
 use Rattle.spqr_session.specs.Commands.Gml.{block_numbers, numbers_at, present_lists}
-use Rattle.spqr_session.proofs.OwnLists.{joined, parts-picked, parts-permutation}
+use Rattle.spqr_session.proofs.DisjointLists.{joined, parts-picked, parts-permutation}
 use Rattle.spqr_session.proofs.EdgesAt.{outer-at, vertex-of}
-use Rattle.spqr_session.proofs.Sorting.{block-one}
+use Rattle.spqr_session.proofs.SortedEdges.{block-one}
 use Rattle.spqr_session.proofs.StartLists.{vertices-distinct, start-given}
 
 -- the edges of a block at a vertex are those of the edges there that are of the block, in some order
@@ -94,10 +93,10 @@ module _ (g : Multigraph) (blocks : List (List ℕ)) (are : AreBlocks g blocks) 
       let part = (is.each b l).part in
       start-given tree.part part.numbered (present_lists g.vertex_count trees family) e.rotation (system b e l there)
       (λ i m.
-          let v = slice_index tree.part.vertices i in
-          let at : place_of tree.part.vertices v ≡ i = place-at tree.part.vertices i (vertices-distinct tree.part part.numbered) (omega (arith, m, part.numbered.vertex_each)) in
-          ap (filter (λ e. is_member e tree.part.edges)) (present-at g.vertex_count v (inside i m))
-          ∙ ap (λ (es : List ℕ). filter (λ e. is_member e es) (numbers_at trees family v)) part.edges_are
-          ∙ at-picked v b l
-          ∙ ap (λ (o : Option Embedding). block_numbers tree o v) there
-          ∙ ap (λ (k : ℕ). map (slice_index tree.part.edges) (order_at e.rotation k)) at)
+      let v = slice_index tree.part.vertices i in
+      let at : place_of tree.part.vertices v ≡ i = place-at tree.part.vertices i (vertices-distinct tree.part part.numbered) (omega (arith, m, part.numbered.vertex_each)) in
+      ap (filter (λ e. is_member e tree.part.edges)) (present-at g.vertex_count v (inside i m))
+      ∙ ap (λ (es : List ℕ). filter (λ e. is_member e es) (numbers_at trees family v)) part.edges_are
+      ∙ at-picked v b l
+      ∙ ap (λ (o : Option Embedding). block_numbers tree o v) there
+      ∙ ap (λ (k : ℕ). map (slice_index tree.part.edges) (order_at e.rotation k)) at)

@@ -1,13 +1,14 @@
 -- What is read in the document that `gml` writes: the graph, and a start that is the present rotation system of each planar block.
-use Rattle.std.proofs.Common.{◌≡◌, ℕ, ◌<◌, List, [], ◌∷◌, length, slice_index, Option, None, Some, Ok, refl, sym, ◌∙◌, subst, arith}
-use Rattle.multigraph.specs.Graph.{Multigraph, edge_count, IsGraph, IsWithinLimits}
-use Rattle.blocks.specs.Blocks.{BlockStructure, AreBlocks, block_at}
+use Rattle.std.proofs.Common.{◌≡◌, ℕ, ◌<◌, List, [], ◌∷◌, length, Option, None, Some, refl, sym, subst, arith}
+use Rattle.multigraph.specs.Graph.{IsGraph, IsWithinLimits}
+use Rattle.blocks.specs.Blocks.{BlockStructure, block_at}
 use Rattle.blocks.proofs.OneStructure.{one-structure}
-use Rattle.gml_text.specs.Document.{Document}
 use Rattle.gml_graph.specs.Named.{NamedGraph, ArrangeEdges, IsNamed}
 use Rattle.gml_graph.specs.Marked.{marked, told_lists}
 use Rattle.gml_graph.proofs.Law.{sound_graph}
+use Rattle.gml_graph.proofs.MarkedForm.{marked_well_formed}
 use Rattle.gml_graph.proofs.MarkedLaw.{marked_start}
+use Rattle.gml_graph.proofs.NumberTexts.{lists_quotable}
 use Rattle.faces.specs.Euler.{IsPlaneSystem}
 use Rattle.kuratowski.specs.declared.subdivision.Subdivision.{Subdivision}
 use Rattle.rotations.specs.Rotation.{IsRotationSystem}
@@ -34,7 +35,7 @@ told-starts [] tree r some h = absurd (omega (arith, some))
 told-starts (l ∷ ls) tree r some h = h
 
 -- the rotation system of an entry is one
-pub entry-system : (tree : BlockTree) (certificate : Option Subdivision) (o : Option Embedding) (e : Embedding) → IsEntry tree certificate o → o ≡ Some e → IsRotationSystem tree.part.graph e.rotation
+entry-system : (tree : BlockTree) (certificate : Option Subdivision) (o : Option Embedding) (e : Embedding) → IsEntry tree certificate o → o ≡ Some e → IsRotationSystem tree.part.graph e.rotation
 entry-system tree certificate None e right at = absurd (cc)
 entry-system tree (Some s) (Some x) e right at = absurd right
 entry-system tree None (Some x) e right at =
@@ -60,7 +61,7 @@ module _ (setting : Setting) (family : Family) (is : IsSetting setting) (right :
       present-given setting.named.graph setting.structure.blocks is.structure.blocks setting.trees is.trees family system b e within at
       (part-vertex setting.named.graph sound.0 (block_at setting.structure.blocks b) (tree_at setting.trees b).part (is.trees.each b within).part (λ x m. is.structure.blocks.edges b x within m) lists)
 
-  pub arranged : ArrangeEdges setting.named.graph lists
+  arranged : ArrangeEdges setting.named.graph lists
   arranged = present-arranged setting.named.graph setting.structure.blocks is.structure.blocks setting.trees is.trees family system
 
   abbrev read_named : NamedGraph
@@ -83,6 +84,7 @@ module _ (setting : Setting) (family : Family) (is : IsSetting setting) (right :
 
   pub read-back : IsReadBack setting family (marked (marks setting.named.graph.vertex_count setting.trees family) setting.document) read_named
   read-back = record {
+    well_formed = λ w. marked_well_formed (marks setting.named.graph.vertex_count setting.trees family) setting.document (lists_quotable lists) w;
     read = marked_start setting.document setting.named lists is.graph arranged;
     graph = refl;
     ids = refl;

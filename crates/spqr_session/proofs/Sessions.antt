@@ -1,49 +1,21 @@
 -- A session from its start on: setting and state stay right.
-use Rattle.std.proofs.Common.{◌≡◌, ℕ, ◌<◌, List, length, map, Option, Result, Ok, Err, IfOk, OnErr, sym, ap, ◌∙◌, subst}
+use Rattle.std.proofs.Common.{◌≡◌, ℕ, List, Result, Ok, Err, IfOk, OnErr, sym, ap, ◌∙◌, subst}
 use Rattle.std.specs.Global.{Vec}
-use Rattle.std.proofs.lemmas.List.{length-map}
-use Rattle.multigraph.specs.Graph.{IsGraph, IsWithinLimits}
 use Rattle.blocks.specs.Blocks.{BlockStructure}
-use Rattle.kuratowski.specs.declared.subdivision.Subdivision.{Subdivision}
 use Rattle.gml_text.specs.Document.{Document}
-use Rattle.gml_graph.specs.Named.{NamedGraph, IsNamed}
-use Rattle.gml_graph.proofs.Law.{sound_graph}
+use Rattle.gml_graph.specs.Named.{NamedGraph}
 use Rattle.spqr_script.specs.declared.command.Command.{Command}
-use Rattle.spqr_session.specs.Setting.{Setting, IsSetting}
-use Rattle.spqr_session.specs.Trees.{BlockTree}
-use Rattle.spqr_session.specs.Certificates.{certificate_at}
-use Rattle.spqr_session.specs.State.{Embedding, State, entry_at, IsEntry, IsState}
+use Rattle.spqr_session.specs.Setting.{Setting}
+use Rattle.spqr_session.specs.State.{IsState}
 use Rattle.spqr_session.specs.Step.{Step}
 use Rattle.spqr_session.specs.Machine.{Machine, IsMachine}
-use Rattle.spqr_session.specs.Embedded.{BlockView, view_tree, view_certificate, view_at, setting_of, AreBlocksOf}
-use Rattle.spqr_session.specs.Board.{BoardView, family_on, board_state, IsCarried}
-use Rattle.spqr_session.proofs.Views.{trees-at, certificates-at, entries-at}
+use Rattle.spqr_session.specs.Embedded.{BlockView, setting_of}
+use Rattle.spqr_session.specs.Board.{BoardView, board_state, IsCarried}
 use Rattle.spqr_session.proofs.Chains.{step-keeps}
 
 -- the setting stays where trees and certificates do
 pub setting-kept : (document : Document) (named : NamedGraph) (structure : BlockStructure) (old new : List BlockView) → IsCarried old new → setting_of document named structure new ≡ setting_of document named structure old
 setting-kept document named structure old new h = λ i. record { document = document; named = named; structure = structure; trees = h.trees i; certificates = h.certificates i }
-
--- the blocks of a right session are those of its graph
-pub machine-blocks : (document : Document) (named : NamedGraph) (structure : BlockStructure) (board : BoardView) → IsMachine (record { setting = setting_of document named structure board.views; state = board_state board }) → AreBlocksOf named.graph board.views
-machine-blocks document named structure board h = record {
-  graph = sound.0;
-  limits = sound.1;
-  structure = structure;
-  blocks = h.setting.structure;
-  trees = h.setting.trees;
-  entries = λ b l.
-      subst (λ (e : Option Embedding). IsEntry (view_at views b).tree (view_at views b).certificate e) (entries-at views b)
-      (subst (λ (c : Option Subdivision). IsEntry (view_at views b).tree c (entry_at (family_on views) b)) (certificates-at views b)
-      (subst (λ (t : BlockTree). IsEntry t (certificate_at (map view_certificate views) b) (entry_at (family_on views) b)) (trees-at views b)
-      (h.state.present.each b (subst (λ (n : ℕ). b < n) (sym (length-map views view_tree)) l))));
-}
-  where
-    views : List BlockView
-    views = board.views
-
-    sound : IsGraph named.graph × IsWithinLimits named.graph × IsNamed named
-    sound = sound_graph document named h.setting.graph
 
 -- a step, or none where memory ran out, leads from a right session to a right one
 pub stepped-machine : {E : Type 0} (document : Document) (named : NamedGraph) (structure : BlockStructure) (command : Command) (old new : BoardView) (r : Result (Vec ℕ) E)

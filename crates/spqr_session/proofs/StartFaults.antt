@@ -18,7 +18,6 @@ use Rattle.spqr_session.proofs.BlockParts.{block-tree}
 use Rattle.spqr_session.proofs.OneTree.{parts-equal}
 use Rattle.spqr_session.proofs.GivenParts.{given-one}
 use Rattle.spqr_session.proofs.Takings.{not-both}
-use Rattle.spqr_session.proofs.SettingTrees.{setting-block}
 
 -- the numbers of lists that are not plane are one set
 not_plane-one : (part : GraphPart) (entries : List (ℕ × List ℕ)) (v e f x y z : ℕ) → IsNumbered part → IsNotPlane part entries v e f → IsNotPlane part entries x y z → (v ≡ x) × (e ≡ y) × (f ≡ z)

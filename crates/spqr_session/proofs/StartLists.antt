@@ -1,6 +1,6 @@
 -- The lists that a start gives the vertices of a part: where each is an arrangement of the edges at its vertex, they arrange the part; and
 -- of which rotation system of the part they are.
-use Rattle.std.proofs.Common.{◌≡◌, ℕ, ◌<◌, Bool, true, List, [], ◌∷◌, length, map, filter, get_or, slice_index, slice_index_or, IsPermutation, Contains, refl, sym, ap, ◌∙◌, subst, arith}
+use Rattle.std.proofs.Common.{◌≡◌, ℕ, ◌<◌, true, List, [], ◌∷◌, length, map, filter, slice_index, slice_index_or, IsPermutation, Contains, refl, sym, ap, ◌∙◌, subst, arith}
 use Rattle.std.proofs.lemmas.List.{get_or-map, get_or_default, length-map}
 use Rattle.std.proofs.lemmas.List.Elements.{Contains-get_or}
 use Rattle.std.proofs.lemmas.List.Sorted.{length_permutation, IsPermutation-map}
@@ -8,18 +8,18 @@ use Rattle.permutations.specs.Cyclic.{first_or, turned}
 use Rattle.permutations.specs.Members.{is_member, is_distinct, place_of}
 use Rattle.permutations.proofs.Places.{place-at, told-distinct}
 use Rattle.permutations.proofs.Turned.{turned-own}
-use Rattle.multigraph.specs.Graph.{Multigraph, edge_count, is_end, incident_edges, IsGraph}
+use Rattle.multigraph.specs.Graph.{Multigraph, edge_count, incident_edges, IsGraph}
 use Rattle.multigraph.specs.Part.{GraphPart, IsNumbered, IsPart}
 use Rattle.multigraph.proofs.OtherEnd.{end-in}
 use Rattle.multigraph.proofs.Places.{rises-once}
 use Rattle.rotations.specs.Entries.{entry, IsNamed}
 use Rattle.rotations.specs.Rotation.{order_at, IsRotationSystem}
-use Rattle.rotations.specs.PartLists.{outer_edges, outer_list, outer_order, ArrangePart}
+use Rattle.rotations.specs.PartLists.{outer_edges, outer_list, ArrangePart}
 use Rattle.rotations.proofs.Cursor.{list_at-found}
 use Rattle.rotations.proofs.Membership.{incident-distinct}
 use Rattle.skel_embed.specs.Taken.{IsGiven}
 use Rattle.spqr_session.specs.Start.{start_entries}
-use Rattle.spqr_session.proofs.OwnLists.{permutation-filter}
+use Rattle.spqr_session.proofs.DisjointLists.{permutation-filter}
 use Rattle.spqr_session.proofs.EdgesAt.{outer-at}
 
 -- lists of equally many numbers with the same first number have the same first image

@@ -1,25 +1,23 @@
 -- How the blocks are brought to the start that a file gives, one after another.
-use Rattle.std.proofs.Common.{◌≡◌, ◌≢◌, ℕ, ◌+◌, ◌<◌, ◌≤◌, Bool, true, false, List, [], length, replicate, get_or, slice_set, Option, None, Some, Result, Ok, Err, IfOk, IfErr, IfSome, IsSome, slice_index, ◌⊎◌, inl, inr, refl, sym, ap, ◌∙◌, subst, arith}
+use Rattle.std.proofs.Common.{◌≡◌, ℕ, ◌+◌, ◌<◌, Bool, false, List, [], length, replicate, get_or, slice_set, Option, None, Some, Result, Ok, Err, IfErr, IsErrAnd, IfSome, slice_index, ◌⊎◌, inl, inr, refl, sym, ap, ◌∙◌, subst, arith}
 use Rattle.std.proofs.lemmas.Bool.{cases_eq, cases_lt}
 use Rattle.std.proofs.lemmas.List.{get_or_default, length-set, get_or-set_same, get_or-set_other, get_or-replicate, get_or_past, length-replicate}
-use Rattle.multigraph.specs.Graph.{Multigraph, edge_count, IsGraph}
+use Rattle.multigraph.specs.Graph.{Multigraph, IsGraph}
 use Rattle.multigraph.specs.Part.{GraphPart}
 use Rattle.blocks.specs.Blocks.{BlockStructure, AreBlocks, IsBlockStructure, block_at}
 use Rattle.blocks.proofs.BlockParts.{block-edges_in}
-use Rattle.faces.specs.Euler.{IsPlaneSystem}
-use Rattle.rotations.specs.PartLists.{ArrangePart}
 use Rattle.kuratowski.specs.declared.subdivision.Subdivision.{Subdivision}
 use Rattle.gml_graph.specs.Named.{NamedGraph, ArrangeEdges, IsNamed}
 use Rattle.skel_embed.specs.Block.{BlockState, lock_at, IsBlockState}
 use Rattle.skel_embed.specs.Taken.{IsGiven, IsTakeRefusal}
 use Rattle.skel_embed.specs.declared.planes.Outcome.{Outcome}
-use Rattle.skel_embed.specs.declared.planes.Outcome.TheVariants.{Plane, Not}
+use Rattle.skel_embed.specs.declared.planes.Outcome.TheVariants.{Plane}
 use Rattle.skel_embed.specs.declared.taking.TakeFault.{TakeFault}
 use Rattle.skel_embed.specs.declared.taking.TakeFault.TheVariants.{BadRotation, NotGenusZero, Locked, Memory}
 use Rattle.spqr_session.specs.Trees.{BlockTree, IsBlockTree}
 use Rattle.spqr_session.specs.Certificates.{IsCertificate}
 use Rattle.spqr_session.specs.Start.{start_entries, IsBadStart, IsStartFault, IsStartRefusal}
-use Rattle.spqr_session.specs.State.{Embedding, IsEntry, IsStartEntry}
+use Rattle.spqr_session.specs.State.{Embedding, IsStartEntry}
 use Rattle.spqr_session.specs.Embedded.{BlockView, view_at, no_view, block_view, entry_lock, IsEmbedded, IsStartBlock, AreStartBlocks}
 use Rattle.spqr_session.specs.Starting.{AreStartLists, AreStartedBelow, IsEntryTaken, IsBlockTaken, IsBlockRefusal, IsReadyFor, IsGenusRefusal}
 use Rattle.spqr_session.specs.declared.fault.StartFault.{StartFault}
@@ -49,7 +47,7 @@ not-taken part entries o none is = record {
   tree = refl;
   certificate = refl;
   right = is.entry;
-  entry = subst (λ (x : Option Embedding). IsEntryTaken part entries x x) (sym none) refl;
+  entry = subst (λ (x : Option Embedding). IsEntryTaken (block_view part o).tree.part entries x x) (sym none) refl;
 }
 
 -- what the block says of a refusal
@@ -103,7 +101,6 @@ first-stay named structure views graph is (inr none) h = record { one_each = h.o
 pub start-arranges : (named : NamedGraph) (lists : List (List ℕ)) → IsNamed named → named.start ≡ Some lists → ArrangeEdges named.graph lists
 start-arranges named lists n e = subst (λ (o : Option (List (List ℕ))). IfSome o (ArrangeEdges named.graph)) e n.start
 
-
 module _ (named : NamedGraph) (structure : BlockStructure) (is : IsBlockStructure named.graph structure) (lists : List (List ℕ)) (told : named.start ≡ Some lists) where
   abbrev block : ℕ → List ℕ
   block b = block_at structure.blocks b
@@ -121,7 +118,11 @@ module _ (named : NamedGraph) (structure : BlockStructure) (is : IsBlockStructur
     abbrev next : BlockView
     next = view_at views n
 
-    -- the next block is at its first rotation system
+    -- it is there
+    pub next-there : n < length views
+    next-there = subst (λ (k : ℕ). n < k) (sym below.one_each) l
+
+    -- and at its first rotation system
     next-first : IsStartBlock None named.graph (block n) next
     next-first = below.others n (omega arith) l
 
@@ -173,3 +174,8 @@ module _ (named : NamedGraph) (structure : BlockStructure) (is : IsBlockStructur
       none_before = none-bad;
     })
     next-refused OutOfMemory h = tt
+
+-- what holds of a fault holds of the error that it becomes
+pub err-from : {X : Type 0} (r : Result X StartFault) (fault : StartFault) (P : StartFault → Type 0) → IsErrAnd r (λ e. e ≡ fault) → P fault → IfErr r P
+err-from (Ok x) fault P e p = tt
+err-from (Err f) fault P e p = subst P (sym e) p

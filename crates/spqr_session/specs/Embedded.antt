@@ -1,16 +1,16 @@
 -- A block with its tree, and its embedding or its certificate, as contracts see it.
 use Rattle.std.specs.Prelude.{◌≡◌, ℕ, ◌<◌, Bool, false, List, [], length, map, slice_index_or, Option, None, Some, ⊤}
-use Rattle.blocks.specs.Blocks.{BlockStructure, IsBlockStructure, block_at}
+use Rattle.blocks.specs.Blocks.{BlockStructure, block_at}
 use Rattle.gml_text.specs.Document.{Document}
 use Rattle.gml_graph.specs.Named.{NamedGraph}
 use Rattle.kuratowski.specs.declared.subdivision.Subdivision.{Subdivision}
-use Rattle.multigraph.specs.Graph.{Multigraph, IsGraph, IsWithinLimits}
+use Rattle.multigraph.specs.Graph.{Multigraph}
 use Rattle.multigraph.specs.Part.{GraphPart}
 use Rattle.skeletons.specs.Items as items
 use Rattle.skel_embed.specs.Block.{lock_at, IsBlockState}
 use Rattle.skel_embed.specs.declared.planes.Outcome.{Outcome}
 use Rattle.skel_embed.specs.declared.planes.Outcome.TheVariants.{Plane, Not}
-use Rattle.spqr_session.specs.Trees.{BlockTree, IsBlockTree, AreBlockTrees, no_tree}
+use Rattle.spqr_session.specs.Trees.{BlockTree, IsBlockTree, no_tree}
 use Rattle.spqr_session.specs.Certificates.{IsCertificate}
 use Rattle.spqr_session.specs.Setting.{Setting}
 use Rattle.spqr_session.specs.State.{Embedding, State, IsEntry, IsStartEntry}
@@ -84,12 +84,3 @@ state_of views = record { present = record { entries = map view_entry views }; e
 pub record AreStartBlocks (start : Option (List (List ℕ))) (g : Multigraph) (blocks : List (List ℕ)) (n : ℕ) (views : List BlockView) : Type 0 where
   pub one_each : length views ≡ n
   pub each : (b : ℕ) → b < n → IsStartBlock start g (block_at blocks b) (view_at views b)
-
--- the blocks are those of a graph within the limits, in order, each with its tree and a right entry
-pub record AreBlocksOf (g : Multigraph) (views : List BlockView) : Type 0 where
-  pub graph : IsGraph g
-  pub limits : IsWithinLimits g
-  pub structure : BlockStructure
-  pub blocks : IsBlockStructure g structure
-  pub trees : AreBlockTrees g structure.blocks (map view_tree views)
-  pub entries : (b : ℕ) → b < length views → IsEntry (view_at views b).tree (view_at views b).certificate (view_at views b).entry

@@ -1,6 +1,7 @@
 -- What the definitions of a session say of one another.
 use Rattle.std.specs.Prelude.{◌≡◌, ℕ, ◌<◌, List, length, Some, Ok}
 use Rattle.gml_text.specs.Document.{Document}
+use Rattle.gml_text.specs.WellFormed.{IsWellFormed}
 use Rattle.gml_graph.specs.Named.{NamedGraph}
 use Rattle.gml_graph.specs.Answer.{graph_of_document}
 use Rattle.gml_graph.specs.Marked.{marked, told_lists}
@@ -46,9 +47,10 @@ abbrev pub StartHasNoFault : Type 0
 StartHasNoFault =
     (setting : Setting) (state : State) (b v e f : ℕ) → IsSetting setting → IsStart setting state → ¬ IsStartFault setting.named b v e f
 
--- what is read in the document that `gml` writes: the same graph with the same ids, at which a session starts with the present
--- rotation system of each planar block
+-- what is read in the document that `gml` writes, which has a text where the first has one: the same graph with the same ids, on which
+-- a session starts with the present rotation system of each planar block
 pub record IsReadBack (setting : Setting) (family : Family) (document : Document) (named : NamedGraph) : Type 0 where
+  pub well_formed : IsWellFormed setting.document → IsWellFormed document
   pub read : graph_of_document document ≡ Ok named
   pub graph : named.graph ≡ setting.named.graph
   pub ids : named.ids ≡ setting.named.ids
@@ -60,8 +62,8 @@ abbrev pub GmlIsReadBack : Type 0
 GmlIsReadBack =
     (setting : Setting) (state : State) → IsSetting setting → IsState setting state
     → IsReadBack setting state.present
-        (marked (marks setting.named.graph.vertex_count setting.trees state.present) setting.document)
-        (record setting.named { start = told_lists (present_lists setting.named.graph.vertex_count setting.trees state.present) })
+    (marked (marks setting.named.graph.vertex_count setting.trees state.present) setting.document)
+    (record setting.named { start = told_lists (present_lists setting.named.graph.vertex_count setting.trees state.present) })
 
 -- there is one report on a setting and commands
 abbrev pub OneReport : Type 0

@@ -1,5 +1,6 @@
 -- Of private functions: texts to which the edges of blocks are appended.
-use Rattle.std.specs.Prelude.{◌≡◌, ℕ, ◌<◌, List, [], ◌∷◌, ◌++◌, length, map, slice_index, slice_index_or, codes, decimal, Option, None, Some, Vec}
+use Rattle.std.specs.Prelude.{◌≡◌, ℕ, ◌<◌, List, [], ◌∷◌, ◌++◌, length, map, slice_index, slice_index_or, codes, decimal, Option, None, Some}
+use Rattle.std.specs.Global.{Vec}
 use Rattle.rotations.specs.Rotation.{order_at}
 use Rattle.rotations.specs.PartLists.{outer_edges}
 use Rattle.spqr_session.specs.Trees.{BlockTree}

@@ -1,7 +1,8 @@
 // Carrying out a command.
-ghost use Rattle.std.specs.Prelude.{◌≡◌, map, IfOk, OnErr};
+ghost use Rattle.std.specs.Prelude.{◌≡◌, ℕ, List, map, IfOk, OnErr};
+ghost use Rattle.spqr_session.specs.Trees.{AreBlockTrees};
 ghost use Rattle.spqr_session.specs.Setting.{Setting};
-ghost use Rattle.spqr_session.specs.Embedded.{view_tree, AreBlocksOf};
+ghost use Rattle.spqr_session.specs.Embedded.{view_tree};
 ghost use Rattle.spqr_session.specs.Board.{board_state, IsCarried};
 ghost use Rattle.spqr_session.specs.Step.{Step};
 
@@ -24,7 +25,7 @@ pub(crate) fn carry_out(
     board: &mut Board,
     command: &Command,
 ) -> Result<Vec<u8>, AllocError>
-    requires { AreBlocksOf graph.now board.old.views }
+    requires { (edges : List (List ℕ)) × AreBlockTrees graph.now edges (map view_tree board.old.views) }
     ensures step { (setting : Setting) → setting.document ≡ doc.now → setting.named.graph ≡ graph.now → setting.trees ≡ map view_tree board.old.views
         → IfOk result (λ text. Step setting (board_state board.old) command.now text.items (board_state board.new)) }
     ensures setting { IsCarried board.old.views board.new.views }

@@ -3,11 +3,11 @@
 // One pass over the vertices: the edges of a vertex's list are first given to their blocks, where they wait until the list ends, and
 // then moved to the lists of these blocks, as an entry of the vertex. So the time is linear in the lists, however many blocks meet at
 // a vertex.
-ghost use Rattle.std.specs.Prelude.{◌≡◌, ◌<◌, ◌++◌, [], ℕ, List, length, replicate, slice_index, slice_index_or, slice_set, Some, IfOk, All};
+ghost use Rattle.std.specs.Prelude.{◌≡◌, ◌<◌, ◌∷◌, ◌++◌, [], ℕ, List, true, length, replicate, slice_index_or, slice_set, Some, IfOk, OnOk, All};
 ghost use Rattle.multigraph.specs.Graph.{edge_count};
 ghost use Rattle.rotations.specs.Entries.{IsAbove};
 ghost use Rattle.blocks.specs.Blocks.{IsBlockStructure};
-ghost use Rattle.spqr_session.specs.Start.{AreStartLists};
+ghost use Rattle.spqr_session.specs.Starting.{AreStartLists};
 ghost use Rattle.spqr_session.specs.Sorting.{AreEntered, AreWaiting, HasBlocks, IsBlockNoted, IsKnown, entry_of, has_some};
 
 use blocks::Blocks;
@@ -65,7 +65,7 @@ fn no_entries(alloc: Global, count: usize) -> Result<Vec<Lists>, AllocError>
 // Appends an edge to those that wait for block `b`.
 fn add_edge(waiting: &mut Vec<Numbers>, b: usize, e: u32) -> Result<(), AllocError>
     requires { b < length waiting.old.items }
-    ensures { IfOk result (λ _. waiting.new.items
+    ensures { OnOk result (waiting.new.items
         ≡ slice_set waiting.old.items b (slice_index_or waiting.old.items b [] ++ e ∷ [])) }
 {
     let edges = &mut waiting[b];
@@ -76,7 +76,7 @@ fn add_edge(waiting: &mut Vec<Numbers>, b: usize, e: u32) -> Result<(), AllocErr
 fn wait(of_edge: &[u32], list: &[u32], waiting: &mut Vec<Numbers>) -> Result<(), AllocError>
     requires known { All (IsKnown of_edge.now (length waiting.old.items)) list.now }
     requires none { AreWaiting of_edge.now [] (length waiting.old.items) waiting.old.items }
-    ensures { IfOk result (λ _. AreWaiting of_edge.now list.now (length waiting.old.items) waiting.new.items) }
+    ensures { OnOk result (AreWaiting of_edge.now list.now (length waiting.old.items) waiting.new.items) }
 {
     for e in list {
         add_edge(waiting, of_edge[*e as usize] as usize, *e)?;
@@ -97,7 +97,7 @@ fn take_waiting(alloc: Global, waiting: &mut Vec<Numbers>, b: usize) -> Numbers
 fn add_entry(lists: &mut Vec<Lists>, b: usize, v: u32, edges: &[u32]) -> Result<(), AllocError>
     requires block { b < length lists.old.items }
     requires above { has_some edges.now ≡ true → IsAbove (slice_index_or lists.old.items b []) v }
-    ensures { IfOk result (λ _. lists.new.items
+    ensures { OnOk result (lists.new.items
         ≡ slice_set lists.old.items b (slice_index_or lists.old.items b [] ++ entry_of v edges.now)) }
 {
     if edges.is_empty() {
@@ -121,8 +121,8 @@ fn move_waiting(
     requires waits { AreWaiting of_edge.now list.now (length lists.old.items) waiting.old.items }
     requires above { (b : ℕ) → b < length lists.old.items
         → IsAbove (slice_index_or lists.old.items b []) v }
-    ensures none { IfOk result (λ _. AreWaiting of_edge.now [] (length lists.old.items) waiting.new.items) }
-    ensures entered { IfOk result (λ _. AreEntered of_edge.now list.now v (length lists.old.items)
+    ensures none { OnOk result (AreWaiting of_edge.now [] (length lists.old.items) waiting.new.items) }
+    ensures entered { OnOk result (AreEntered of_edge.now list.now v (length lists.old.items)
         lists.old.items lists.new.items) }
 {
     for e in list {

@@ -84,6 +84,8 @@ fn push_block(texts: &mut Vec<Vec<u8>>, block: &EmbeddedBlock) -> Result<(), All
     ensures { OnOk result (AreExtended (block_numbers block.now.tree block.now.entry)
         (bytes_of texts.old.items) (bytes_of texts.new.items)) }
 {
+    // A rotation system of the block has an order for each of its vertices, and no more.
+    let _ = block.outcome();
     for i in 0..block.part().graph().vertex_count() {
         push_vertex(texts, block, i)?;
     }

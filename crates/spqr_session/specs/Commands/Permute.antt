@@ -1,5 +1,5 @@
 -- `permute B K KEYS`: the groups of a bond of a block are put in the order of keys.
-use Rattle.std.specs.Prelude.{◌≡◌, ℕ, ◌==◌, not, List, [], ◌∷◌, ◌++◌, length, map, slice_index, Option}
+use Rattle.std.specs.Prelude.{◌≡◌, ℕ, ◌==◌, not, List, ◌∷◌, length, map, slice_index, Option}
 use Rattle.permutations.specs.Count.{least}
 use Rattle.gml_graph.specs.Arranged.{is_arrangement}
 use Rattle.skeletons.specs.Items.{node_keys}

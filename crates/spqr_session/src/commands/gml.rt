@@ -1,8 +1,9 @@
 // `gml`: the document with the present embedding.
-ghost use Rattle.std.specs.Prelude.{◌≡◌, map, IfOk};
+ghost use Rattle.std.specs.Prelude.{◌≡◌, ℕ, List, map, IfOk};
+ghost use Rattle.spqr_session.specs.Trees.{AreBlockTrees};
 ghost use Rattle.spqr_session.specs.Setting.{Setting};
 ghost use Rattle.spqr_session.specs.State.{State};
-ghost use Rattle.spqr_session.specs.Embedded.{view_tree, AreBlocksOf};
+ghost use Rattle.spqr_session.specs.Embedded.{view_tree};
 ghost use Rattle.spqr_session.specs.Board.{family_on};
 ghost use Rattle.spqr_session.specs.Commands.Gml.{GmlStep};
 
@@ -21,7 +22,7 @@ pub(crate) fn carry_gml(
     graph: &Graph,
     blocks: &[EmbeddedBlock],
 ) -> Result<Vec<u8>, AllocError>
-    requires { AreBlocksOf graph.now blocks.now }
+    requires { (edges : List (List ℕ)) × AreBlockTrees graph.now edges (map view_tree blocks.now) }
     ensures { (setting : Setting) (s : State) → setting.document ≡ doc.now → setting.named.graph ≡ graph.now
         → setting.trees ≡ map view_tree blocks.now → s.present ≡ family_on blocks.now
         → IfOk result (λ text. GmlStep setting s text.items s) }

@@ -1,9 +1,9 @@
-use Rattle.std.proofs.Common.{◌≡◌, ℕ, true, false, List, map, refl, sym, ap, ◌∙◌, subst, IfOk}
+use Rattle.std.proofs.Common.{ℕ, true, false, List, map, refl, sym, ap, ◌∙◌, subst, IfOk}
 use Rattle.multigraph.specs.Graph.{Multigraph}
 use Rattle.spqr_script.specs.declared.command.Command.TheVariants as command
 use Rattle.spqr_session.specs.Setting.{Setting}
-use Rattle.spqr_session.specs.Trees.{BlockTree}
-use Rattle.spqr_session.specs.Embedded.{BlockView, view_tree, view_entry, AreBlocksOf}
+use Rattle.spqr_session.specs.Trees.{BlockTree, AreBlockTrees}
+use Rattle.spqr_session.specs.Embedded.{BlockView, view_tree, view_entry}
 use Rattle.spqr_session.specs.Board.{board_state, family_on}
 use Rattle.spqr_session.specs.Commands.Euler.{EulerStep}
 use Rattle.spqr_session.specs.Commands.Gml.{GmlStep}
@@ -29,7 +29,7 @@ returns-in-Gml-clause-step c = λ setting document graph trees.
     (c.carry_gml.ensures setting s document graph (trees ∙ ap (λ (vs : List BlockView). map view_tree vs) (sym c.blocks-in-Gml.ensures)) (ap family_on (sym c.blocks-in-Gml.ensures)))
 
 pub carry_gml-requires : goal.carry_gml-requires
-carry_gml-requires c = subst (λ (views : List BlockView). AreBlocksOf c.args.graph.now views) (sym c.blocks-in-Gml.ensures) c.requires
+carry_gml-requires c = (c.requires.0, subst (λ (views : List BlockView). AreBlockTrees c.args.graph.now c.requires.0 (map view_tree views)) (sym c.blocks-in-Gml.ensures) c.requires.1)
 
 pub returns-in-Show-clause-step : goal.returns-in-Show-clause-step
 returns-in-Show-clause-step c = λ setting document graph trees.

@@ -2,7 +2,7 @@ use Rattle.std.proofs.Common.{map}
 use Rattle.spqr_session.specs.Embedded.{view_tree}
 use Rattle.spqr_session.specs.Board.{family_on}
 use Rattle.spqr_session.specs.Texts.{bytes_of}
-use Rattle.spqr_session.proofs.Texts.{AreTexts}
+use Rattle.spqr_session.proofs.NumberTexts.{AreTexts}
 use Rattle.spqr_session.proofs.texts.present_texts.Given as goal
 
 -- the edges of the blocks so far are appended

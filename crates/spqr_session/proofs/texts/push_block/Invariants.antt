@@ -1,5 +1,5 @@
 use Rattle.spqr_session.specs.Texts.{AreExtended, bytes_of}
-use Rattle.spqr_session.proofs.Texts.{added_below}
+use Rattle.spqr_session.proofs.NumberTexts.{added_below}
 use Rattle.spqr_session.proofs.texts.push_block.Given as goal
 
 -- the edges of the vertices so far are appended

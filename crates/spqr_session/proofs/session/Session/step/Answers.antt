@@ -1,16 +1,18 @@
-use Rattle.std.proofs.Common.{List, map, refl, sym, ap, ◌∙◌, subst, IfOk}
+use Rattle.std.proofs.Common.{map, refl, sym, ap, ◌∙◌, subst, IfOk}
 use Rattle.multigraph.specs.Graph.{Multigraph}
-use Rattle.spqr_session.specs.Machine.{Machine}
-use Rattle.spqr_session.specs.Embedded.{BlockView, view_tree, setting_of, AreBlocksOf}
-use Rattle.spqr_session.specs.Board.{BoardView, board_state}
+use Rattle.spqr_session.specs.Trees.{AreBlockTrees}
+use Rattle.spqr_session.specs.Machine.{Machine, IsMachine}
+use Rattle.spqr_session.specs.Embedded.{view_tree, setting_of}
+use Rattle.spqr_session.specs.Board.{board_state}
 use Rattle.spqr_session.specs.Step.{Step}
-use Rattle.spqr_session.proofs.Sessions.{machine-blocks, setting-kept, stepped-machine, memory-machine}
+use Rattle.spqr_session.proofs.Sessions.{setting-kept, stepped-machine, memory-machine}
 use Rattle.spqr_session.proofs.session.Session.step.Goals as goal
 
 pub carry_out-requires : goal.carry_out-requires
 carry_out-requires c =
     let s = c.self.inside in
-    subst (λ (g : Multigraph). AreBlocksOf g s.board.views) (sym c.graph.ensures.value) (machine-blocks s.doc s.named s.blocks s.board c.self.invariant)
+    let right : IsMachine (record { setting = setting_of s.doc s.named s.blocks s.board.views; state = board_state s.board }) = c.self.invariant in
+    (s.blocks.blocks, subst (λ (g : Multigraph). AreBlockTrees g s.blocks.blocks (map view_tree s.board.views)) (sym c.graph.ensures.value) right.setting.trees)
 
 pub invariant_of-self : goal.invariant_of-self
 invariant_of-self c =

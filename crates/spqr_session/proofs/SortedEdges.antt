@@ -1,20 +1,16 @@
 -- The lists of a start, given to the blocks of their edges: one edge more, one vertex more, and what the blocks have at the end.
-use Rattle.std.proofs.Common.{◌≡◌, ◌≢◌, ℕ, ◌+◌, ◌-◌, ◌<◌, ◌==◌, ◌&&◌, Bool, true, false, cond, List, [], ◌∷◌, ◌++◌, length, map, filter, get_or, set, take, slice_index, slice_index_or, IsPermutation, All, inl, inr, refl, sym, ap, ◌∙◌, subst, arith, append-nil}
-use Rattle.std.proofs.lemmas.Bool.{cases_Bool, cases_eq, both_ways, true≢false, eq-eqb, ne_eqb, eqb-true, false_from_ne_true, true_from_ne_false}
-use Rattle.std.proofs.lemmas.List.{get_or-set_same, get_or-set_other, length-set, length-map, get_or-map, map-append, nil_from_length, take_more, length-append}
+use Rattle.std.proofs.Common.{◌≡◌, ◌≢◌, ℕ, ◌+◌, ◌-◌, ◌<◌, ◌==◌, Bool, true, false, cond, List, [], ◌∷◌, ◌++◌, length, map, filter, get_or, set, take, slice_index, slice_index_or, All, inl, inr, refl, sym, ap, ◌∙◌, subst, arith, append-nil}
+use Rattle.std.proofs.lemmas.Bool.{cases_Bool, cases_eq, both_ways, true≢false, eq-eqb, ne_eqb, eqb-true, false_from_ne_true}
+use Rattle.std.proofs.lemmas.List.{get_or-set_same, get_or-set_other, length-set, length-map, get_or-map, map-append, set-get_or, take_more}
 use Rattle.std.proofs.lemmas.List.Elements.{filter-append, All-from_get_or}
 use Rattle.permutations.specs.Members.{is_member}
-use Rattle.permutations.proofs.Members.{member-cases, member-append_left, member-append_right, member-append_cases, no_member-append_left, member-head}
+use Rattle.permutations.proofs.Members.{member-cases, member-append_right, member-append_cases, no_member-append_left, member-head}
 use Rattle.permutations.proofs.Arrangements.{member-at}
-use Rattle.permutations.proofs.Filter.{filter-ext, member-filter, filter-member, member-filter_parts}
 use Rattle.permutations.proofs.Relation.{same-tests}
-use Rattle.multigraph.specs.Graph.{Multigraph, edge_count, is_end, incident_edges, numbers_below, IsGraph}
-use Rattle.multigraph.specs.Part.{GraphPart, Rises, IsPart}
-use Rattle.multigraph.proofs.Below.{filter_below-yes, filter_below-no, filter_below-at, filter_below-rises}
-use Rattle.graph_theory.proofs.Rising.{members-same}
+use Rattle.multigraph.specs.Graph.{Multigraph, edge_count, numbers_below}
+use Rattle.multigraph.proofs.Below.{filter_below-yes, filter_below-no, filter_below-at}
 use Rattle.blocks.specs.Blocks.{block_at, AreBlocks}
 use Rattle.rotations.specs.Entries.{entry, IsAbove}
-use Rattle.rotations.proofs.Membership.{incident-member, member-edge, member-end}
 use Rattle.spqr_session.specs.Sorting.{IsBlockNoted, HasBlocks, IsKnown, of_block, AreWaiting, has_some, entry_of, AreMoved, AreEntered, gathered, AreGathered}
 
 -- ---- the block of each edge
@@ -50,10 +46,18 @@ note-more done x b old new h l = record {
 pub note-next : (edges : List ℕ) (i b : ℕ) (old new : List ℕ) → i < length edges → IsBlockNoted (take i edges) b old new → get_or edges i 0 < length old → IsBlockNoted (take (i + 1) edges) b old (set new (get_or edges i 0) b)
 note-next edges i b old new l h m = subst (λ (d : List ℕ). IsBlockNoted d b old (set new (get_or edges i 0) b)) (sym (take_more edges i 0 l)) (note-more (take i edges) (get_or edges i 0) b old new h m)
 
+-- no block is in the table yet
+pub no-blocks : (m : ℕ) (blocks : List (List ℕ)) (table : List ℕ) → length table ≡ m → HasBlocks m blocks 0 table
+no-blocks m blocks table long = record { long = long; each = λ b e l k. absurd (omega (arith, l)) }
+
 module _ (g : Multigraph) (blocks : List (List ℕ)) (are : AreBlocks g blocks) where
   -- an edge is in one block only
   pub block-one : (b c e : ℕ) → b < length blocks → c < length blocks → is_member e (block_at blocks b) ≡ true → is_member e (block_at blocks c) ≡ true → b ≡ c
   block-one b c e lb lc mb mc = (are.same b c e e lb lc mb mc).1 ((are.same b b e e lb lb mb mb).0 refl)
+
+  -- the edges of a block have places in a table of all edges
+  pub block-within : (n b : ℕ) (table : List ℕ) → HasBlocks (edge_count g) blocks n table → b < length blocks → All (λ e. e < length table) (block_at blocks b)
+  block-within n b table h l = All-from_get_or (λ e. e < length table) (block_at blocks b) 0 (λ i m. omega (arith, are.edges b (slice_index (block_at blocks b) i) l (member-at (block_at blocks b) i 0 m), h.long))
 
   -- one block more
   pub blocks-more : (n : ℕ) (old new : List ℕ) → n < length blocks → HasBlocks (edge_count g) blocks n old → IsBlockNoted (block_at blocks n) n old new → HasBlocks (edge_count g) blocks (n + 1) new
@@ -124,11 +128,11 @@ none-nil : (l : List ℕ) → has_some l ≡ false → l ≡ []
 none-nil [] h = refl
 none-nil (y ∷ l) h = absurd (true≢false h)
 
-some-member : (l : List ℕ) (x : ℕ) → is_member x l ≡ true → has_some l ≡ true
+pub some-member : (l : List ℕ) (x : ℕ) → is_member x l ≡ true → has_some l ≡ true
 some-member [] x m = absurd (true≢false (sym m))
 some-member (y ∷ l) x m = refl
 
-member-some : (l : List ℕ) → has_some l ≡ true → (x : ℕ) × (is_member x l ≡ true)
+pub member-some : (l : List ℕ) → has_some l ≡ true → (x : ℕ) × (is_member x l ≡ true)
 member-some [] h = absurd (true≢false (sym h))
 member-some (y ∷ l) h = (y, member-head y l)
 
@@ -138,6 +142,20 @@ entry-some v l h = ap (λ (c : Bool). cond c ((v, l) ∷ []) []) h
 
 pub entry-none : (v : ℕ) (l : List ℕ) → has_some l ≡ false → entry_of v l ≡ []
 entry-none v l h = ap (λ (c : Bool). cond c ((v, l) ∷ []) []) h
+
+-- where there are no edges nothing is added
+pub added-none : (lists : List (List (ℕ × List ℕ))) (b v : ℕ) (edges : List ℕ) → length edges ≡ 0 → lists ≡ set lists b (slice_index_or lists b [] ++ entry_of v edges)
+added-none lists b v [] h = sym (ap (set lists b) (append-nil (slice_index_or lists b [])) ∙ set-get_or lists b [])
+added-none lists b v (e ∷ edges) h = absurd (omega (arith, h))
+
+-- where there are some the entry is
+pub added-some : (lists : List (List (ℕ × List ℕ))) (b v : ℕ) (edges : List ℕ) → length edges ≢ 0 → set lists b (slice_index_or lists b [] ++ (v, edges) ∷ []) ≡ set lists b (slice_index_or lists b [] ++ entry_of v edges)
+added-some lists b v [] h = absurd (h refl)
+added-some lists b v (e ∷ edges) h = refl
+
+pub some-from : (edges : List ℕ) → length edges ≢ 0 → has_some edges ≡ true
+some-from [] h = absurd (h refl)
+some-from (e ∷ edges) h = refl
 
 module _ (table edges : List ℕ) (v total : ℕ) (before : List (List (ℕ × List ℕ))) where
   -- no edge was moved yet
@@ -162,8 +180,8 @@ module _ (table edges : List ℕ) (v total : ℕ) (before : List (List (ℕ × L
   -- one edge more: its block's edges are moved, if they were not before
   pub moved-more : (done : List ℕ) (x : ℕ) (lists : List (List (ℕ × List ℕ))) (waiting : List (List ℕ)) → AreMoved table edges done v total before lists waiting → slice_index table x < total
       → AreMoved table edges (done ++ x ∷ []) v total before
-          (set lists (slice_index table x) (slice_index_or lists (slice_index table x) [] ++ entry_of v (slice_index_or waiting (slice_index table x) [])))
-          (set waiting (slice_index table x) [])
+      (set lists (slice_index table x) (slice_index_or lists (slice_index table x) [] ++ entry_of v (slice_index_or waiting (slice_index table x) [])))
+      (set waiting (slice_index table x) [])
   moved-more done x lists waiting h l = record {
     waiting_each = length-set waiting y [] ∙ h.waiting_each;
     lists_each = length-set lists y added ∙ h.lists_each;
@@ -195,8 +213,8 @@ module _ (table edges : List ℕ) (v total : ℕ) (before : List (List (ℕ × L
 
   pub moved-next : (i : ℕ) (lists : List (List (ℕ × List ℕ))) (waiting : List (List ℕ)) → i < length edges → AreMoved table edges (take i edges) v total before lists waiting → slice_index table (get_or edges i 0) < total
       → AreMoved table edges (take (i + 1) edges) v total before
-          (set lists (slice_index table (get_or edges i 0)) (slice_index_or lists (slice_index table (get_or edges i 0)) [] ++ entry_of v (slice_index_or waiting (slice_index table (get_or edges i 0)) [])))
-          (set waiting (slice_index table (get_or edges i 0)) [])
+      (set lists (slice_index table (get_or edges i 0)) (slice_index_or lists (slice_index table (get_or edges i 0)) [] ++ entry_of v (slice_index_or waiting (slice_index table (get_or edges i 0)) [])))
+      (set waiting (slice_index table (get_or edges i 0)) [])
   moved-next i lists waiting l h m =
       let x = get_or edges i 0 in
       let y = slice_index table x in

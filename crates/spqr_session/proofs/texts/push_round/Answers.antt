@@ -1,0 +1,18 @@
+use Rattle.std.proofs.Common.{◌≡◌, ◌<◌, ◌∷◌, ℕ, List, map, All, slice_index, sym, ap, ◌∙◌, subst}
+use Rattle.std.proofs.lemmas.List.Elements.{All-tail}
+use Rattle.multigraph.specs.Graph.{edge_count}
+use Rattle.spqr_session.specs.Texts.{with_number, with_numbers}
+use Rattle.spqr_session.proofs.texts.push_round.Goals as goal
+
+-- one edge more
+pub loop-e-preserved : goal.loop-e-preserved
+loop-e-preserved c =
+    let part = c.args.part.now in
+    let rest : List ℕ = c.next.new.self in
+    let name : ℕ → ℕ = slice_index part.edges in
+    let first : c.loop-e.round ≡ c.in-Some.e ∷ rest = c.in-Some.ensures.steps in
+    let below : ℕ → Type 0 = λ e. e < edge_count part.graph in record {
+      rest = ap (λ (t : List ℕ). with_numbers t (map name rest)) (c.in_ok-push_edge.ensures ∙ ap (with_number c.loop-e.text.items) c.edge.ensures)
+          ∙ sym (ap (λ (l : List ℕ). with_numbers c.loop-e.text.items (map name l)) first) ∙ c.loop-e.invariant.rest;
+      within = All-tail below c.in-Some.e rest (subst (All below) first c.loop-e.invariant.within);
+    }
