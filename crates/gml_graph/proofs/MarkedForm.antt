@@ -1,9 +1,7 @@
 -- A document with texts in its nodes has a text, where it had one before and there is no quote in the texts.
-use Rattle.std.proofs.Common.{◌≡◌, ℕ, ◌+◌, ◌≤◌, max, true, false, List, [], ◌∷◌, refl, inl, inr, codes, bytes_eq, arith}
-use Rattle.std.specs.List.{All, list_all}
+use Rattle.std.proofs.Common.{◌≡◌, ℕ, ◌≤◌, true, List, [], ◌∷◌, refl, inl, inr, codes, bytes_eq, arith}
 use Rattle.std.proofs.lemmas.Bool.{cases_Bool}
 use Rattle.std.proofs.lemmas.List.Elements.{All-head, All-tail}
-use Rattle.gml_text.specs.Bytes.{is_no_quote}
 use Rattle.gml_text.specs.Document.{Document, empty, number, string, list, depth}
 use Rattle.gml_text.specs.Grammar.{is_key}
 use Rattle.gml_text.specs.WellFormed.{AreTokens, IsWellFormed}

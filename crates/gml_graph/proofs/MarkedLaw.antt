@@ -1,22 +1,20 @@
 -- The graph of a marked document: that of the document, which starts at the lists whose texts its nodes carry.
-use Rattle.std.proofs.Common.{◌≡◌, ℕ, zero, suc, ◌<◌, ◌≤◌, ◌^◌, ℤ, Bool, true, false, cond, nat_lt, List, [], ◌∷◌, ◌++◌, length, take, get_or, map, codes, bytes_eq, Option, Some, None, Result, Ok, Err, refl, sym, ap, subst, ◌∙◌, inl, inr, arith}
-use Rattle.std.specs.List.{All}
+use Rattle.std.proofs.Common.{◌≡◌, ℕ, zero, suc, ◌<◌, ◌≤◌, ◌^◌, ℤ, Bool, true, false, cond, nat_lt, List, [], ◌∷◌, ◌++◌, length, take, get_or, map, codes, bytes_eq, Option, Some, None, Result, Ok, Err, refl, sym, ap, ◌∙◌, inl, inr, arith}
 use Rattle.std.specs.List.Sorted.{IsPermutation}
 use Rattle.std.proofs.Math.Seq.{take-suc}
 use Rattle.std.proofs.lemmas.Bool.{cases_Bool}
 use Rattle.std.proofs.lemmas.List.{take_all, length-map, get_or-map}
 use Rattle.std.proofs.lemmas.List.Sorted.{All-permutation}
 use Rattle.std.proofs.lemmas.Slice.Eq.{bytes_eq-Decides}
-use Rattle.multigraph.specs.Graph.{Multigraph, IsWithinLimits, incident_edges, edge_count, max_vertices, max_edges}
+use Rattle.multigraph.specs.Graph.{Multigraph, IsWithinLimits, incident_edges, max_vertices, max_edges}
 use Rattle.multigraph.proofs.Incident.{incident_at-edge}
 use Rattle.rotations.proofs.Membership.{incident-distinct}
 use Rattle.gml_text.specs.Document.{Document, empty, number, string, list}
-use Rattle.gml_graph.specs.Named.{NamedGraph, ArrangeEdges, IsNamed}
-use Rattle.gml_graph.specs.Arranged.{is_arrangement}
+use Rattle.gml_graph.specs.Named.{NamedGraph, ArrangeEdges}
 use Rattle.gml_graph.specs.Lists.{lists_under}
-use Rattle.gml_graph.specs.Start.{start_key, start_text, spelled_numbers, with_first, list_by, lists_by, texts_of, start_texts, as_start, start_by, put_start, with_start}
-use Rattle.gml_graph.specs.Answer.{and_one_more, each_below, node_id, node_ids, edge_ends, with_ends, with_ids, graph_between, graph_in, graph_among, graph_of_document}
-use Rattle.gml_graph.specs.Marked.{put_first, put_next, later, mark_nodes, marked, numbers_text, told_lists, StartsAtTexts}
+use Rattle.gml_graph.specs.Start.{start_key, start_text, list_by, lists_by, texts_of, start_texts, as_start, start_by, put_start, with_start}
+use Rattle.gml_graph.specs.Answer.{each_below, node_id, node_ids, edge_ends, with_ends, with_ids, graph_between, graph_among}
+use Rattle.gml_graph.specs.Marked.{put_first, numbers_text, told_lists, StartsAtTexts}
 use Rattle.gml_graph.specs.declared.fault.GraphFault.{GraphFault}
 use Rattle.gml_graph.specs.declared.fault.GraphFault.TheVariants.{TooManyVertices, TooManyEdges}
 use Rattle.gml_graph.proofs.Arranged.{arranged-passes}

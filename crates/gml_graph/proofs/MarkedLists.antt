@@ -1,10 +1,10 @@
 -- What is under the other keys, where texts are put into nodes under the key of starts.
-use Rattle.std.proofs.Common.{◌≡◌, ℕ, zero, suc, ℤ, true, false, cond, List, [], ◌∷◌, ◌++◌, length, take, get_or, Option, Some, None, Result, Ok, Err, refl, sym, ap, subst, ◌∙◌, inl, inr, codes, bytes_eq}
+use Rattle.std.proofs.Common.{◌≡◌, ℕ, zero, suc, ℤ, true, false, List, [], ◌∷◌, length, take, get_or, Result, refl, sym, ap, subst, ◌∙◌, inl, inr, codes, bytes_eq}
 use Rattle.std.proofs.lemmas.Bool.{cases_Bool}
 use Rattle.std.proofs.lemmas.Slice.Eq.{bytes_eq-Decides}
 use Rattle.gml_text.specs.Document.{Document, empty, number, string, list}
 use Rattle.gml_graph.specs.Lists.{lists_under, first_under}
-use Rattle.gml_graph.specs.Answer.{each_below, said_by, said_ids, id_among, node_id, node_ids}
+use Rattle.gml_graph.specs.Answer.{each_below, said_ids, id_among, node_id, node_ids}
 use Rattle.gml_graph.specs.Start.{start_key}
 use Rattle.gml_graph.specs.Marked.{put_first, put_next, later, mark_nodes, marked}
 use Rattle.gml_graph.specs.declared.fault.GraphFault.{GraphFault}

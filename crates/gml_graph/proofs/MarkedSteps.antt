@@ -6,7 +6,7 @@ use Rattle.gml_text.specs.Pairs.{pair_before, document_of}
 use Rattle.gml_text.specs.declared.document.Pair.{Pair}
 use Rattle.gml_text.specs.declared.document.Value.{Value}
 use Rattle.gml_text.specs.declared.document.Value.TheVariants.{Num, Str, List as Inner}
-use Rattle.gml_text.proofs.Documents.{append-assoc, append-pair_before, append-empty, document_of-push, document_of-drop}
+use Rattle.gml_text.proofs.Documents.{append-assoc, append-pair_before, append-empty, document_of-push}
 use Rattle.gml_graph.specs.Start.{start_key}
 use Rattle.gml_graph.specs.Marked.{put_first, put_next, later, mark_nodes, marked, marked_unless}
 

@@ -1,5 +1,5 @@
 -- Numbers in decimal with one space between any two: the parts between the spaces spell these numbers, and no byte is a quote.
-use Rattle.std.proofs.Common.{◌≡◌, ℕ, zero, suc, ◌+◌, ◌<◌, ◌^◌, ◌/◌, ◌%◌, true, false, not, ◌==◌, List, [], ◌∷◌, ◌++◌, length, map, Option, Some, refl, ap, ◌∙◌, inl, inr, decimal, arith}
+use Rattle.std.proofs.Common.{◌≡◌, ℕ, zero, suc, ◌+◌, ◌<◌, ◌^◌, ◌/◌, ◌%◌, true, false, not, ◌==◌, List, [], ◌∷◌, ◌++◌, length, map, Some, refl, ap, ◌∙◌, inl, inr, decimal, arith}
 use Rattle.std.specs.Char.{is_ascii_digit}
 use Rattle.std.specs.Fmt.{digits, digits_onto, digit_glyph}
 use Rattle.std.specs.Int.{IsInRange}
@@ -13,7 +13,7 @@ use Rattle.std.proofs.lemmas.Fmt.{digits_decimal, digits_value-decimal, decimal_
 use Rattle.decimals.specs.Text.{spaced_numbers}
 use Rattle.gml_text.specs.Bytes.{is_white, is_no_quote}
 use Rattle.decimals.specs.Number.{are_digits, spelled_after, number_below}
-use Rattle.gml_graph.specs.Start.{with_first, words, numbers_of, spelled_numbers}
+use Rattle.gml_graph.specs.Start.{numbers_of, spelled_numbers}
 use Rattle.gml_graph.specs.Marked.{numbers_text, IsQuotable, AreQuotable}
 
 -- numbers of 32 bits

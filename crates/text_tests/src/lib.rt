@@ -11,6 +11,8 @@ mod document_graphs;
 #[cfg(test)]
 mod documents;
 #[cfg(test)]
+mod marks;
+#[cfg(test)]
 mod scripts;
 #[cfg(test)]
 mod starts;

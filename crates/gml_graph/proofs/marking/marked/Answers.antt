@@ -1,5 +1,5 @@
 -- Each pair is copied before those to come; the whole has a text, as the document and the texts have.
-use Rattle.std.proofs.Common.{◌≡◌, ℕ, ◌+◌, List, ◌++◌, drop, map, sym, subst, ap, ◌∙◌, refl}
+use Rattle.std.proofs.Common.{◌≡◌, ℕ, ◌+◌, List, drop, map, sym, subst, ap, ◌∙◌}
 use Rattle.gml_text.specs.Document.{Document, empty, append}
 use Rattle.gml_text.specs.Pairs.{pair_before, document_of}
 use Rattle.gml_text.specs.WellFormed.{IsWellFormed}

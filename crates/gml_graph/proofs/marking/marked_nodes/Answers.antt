@@ -1,5 +1,5 @@
 -- Each pair is copied before those to come.
-use Rattle.std.proofs.Common.{◌≡◌, ℕ, ◌+◌, List, ◌++◌, drop, map, sym, ap, ◌∙◌, refl}
+use Rattle.std.proofs.Common.{◌≡◌, ℕ, ◌+◌, List, drop, map, sym, ap, ◌∙◌, refl}
 use Rattle.std.specs.Slice.Iter.{iter_rest}
 use Rattle.gml_text.specs.Document.{Document, empty, append}
 use Rattle.gml_text.specs.Pairs.{pair_before, document_of}
