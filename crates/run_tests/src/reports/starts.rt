@@ -4,33 +4,39 @@ use spqr_run::status::Status;
 use std::test::Fail;
 
 // K4 with texts in its four nodes, or in the first three.
-const K4_MIRRORED: &[u8] = b"graph [ node [ id 0 spqrRotation \"0 2 1\" ] node [ id 1 spqrRotation \"0 3 4\" ] \
+const K4_MIRRORED: &[u8] =
+    b"graph [ node [ id 0 spqrRotation \"0 2 1\" ] node [ id 1 spqrRotation \"0 3 4\" ] \
     node [ id 2 spqrRotation \"1 5 3\" ] node [ id 3 spqrRotation \"2 4 5\" ] \
     edge [ source 0 target 1 ] edge [ source 0 target 2 ] edge [ source 0 target 3 ] \
     edge [ source 1 target 2 ] edge [ source 1 target 3 ] edge [ source 2 target 3 ] ]";
 
-const K4_TURNED: &[u8] = b"graph [ node [ id 0 spqrRotation \" 02 1\t0\" ] node [ id 1 spqrRotation \"4 0 3\" ] \
+const K4_TURNED: &[u8] =
+    b"graph [ node [ id 0 spqrRotation \" 02 1\t0\" ] node [ id 1 spqrRotation \"4 0 3\" ] \
     node [ id 2 spqrRotation \"5\n3 1\" ] node [ id 3 spqrRotation \"2 4 5 \" ] \
     edge [ source 0 target 1 ] edge [ source 0 target 2 ] edge [ source 0 target 3 ] \
     edge [ source 1 target 2 ] edge [ source 1 target 3 ] edge [ source 2 target 3 ] ]";
 
-const K4_NOT_PLANE: &[u8] = b"graph [ node [ id 0 spqrRotation \"0 1 2\" ] node [ id 1 spqrRotation \"0 4 3\" ] \
+const K4_NOT_PLANE: &[u8] =
+    b"graph [ node [ id 0 spqrRotation \"0 1 2\" ] node [ id 1 spqrRotation \"0 4 3\" ] \
     node [ id 2 spqrRotation \"1 3 5\" ] node [ id 3 spqrRotation \"2 4 5\" ] \
     edge [ source 0 target 1 ] edge [ source 0 target 2 ] edge [ source 0 target 3 ] \
     edge [ source 1 target 2 ] edge [ source 1 target 3 ] edge [ source 2 target 3 ] ]";
 
-const K4_WITHOUT_AN_EDGE: &[u8] = b"graph [ node [ id 0 spqrRotation \"0 2 1\" ] node [ id 1 spqrRotation \"0 3 4\" ] \
+const K4_WITHOUT_AN_EDGE: &[u8] =
+    b"graph [ node [ id 0 spqrRotation \"0 2 1\" ] node [ id 1 spqrRotation \"0 3 4\" ] \
     node [ id 2 spqrRotation \"1 5 3\" ] node [ id 3 spqrRotation \"2 5\" ] \
     edge [ source 0 target 1 ] edge [ source 0 target 2 ] edge [ source 0 target 3 ] \
     edge [ source 1 target 2 ] edge [ source 1 target 3 ] edge [ source 2 target 3 ] ]";
 
-const K4_AT_THREE: &[u8] = b"graph [ node [ id 0 spqrRotation \"0 2 1\" ] node [ id 1 spqrRotation \"0 3 4\" ] \
+const K4_AT_THREE: &[u8] =
+    b"graph [ node [ id 0 spqrRotation \"0 2 1\" ] node [ id 1 spqrRotation \"0 3 4\" ] \
     node [ id 2 spqrRotation \"1 5 3\" ] node [ id 3 ] \
     edge [ source 0 target 1 ] edge [ source 0 target 2 ] edge [ source 0 target 3 ] \
     edge [ source 1 target 2 ] edge [ source 1 target 3 ] edge [ source 2 target 3 ] ]";
 
 // Two K4 at vertex 3. There the edges of the two blocks are mixed; the second block is not plane in the second file.
-const TWO_K4: &[u8] = b"graph [ node [ id 0 spqrRotation \"1 2 0\" ] node [ id 1 spqrRotation \"0 4 3\" ] \
+const TWO_K4: &[u8] =
+    b"graph [ node [ id 0 spqrRotation \"1 2 0\" ] node [ id 1 spqrRotation \"0 4 3\" ] \
     node [ id 2 spqrRotation \"1 3 5\" ] node [ id 3 spqrRotation \"6 2 8 5 7 4\" ] \
     node [ id 4 spqrRotation \"6 9 10\" ] node [ id 5 spqrRotation \"7 11 9\" ] node [ id 6 spqrRotation \"8 10 11\" ] \
     edge [ source 0 target 1 ] edge [ source 0 target 2 ] edge [ source 0 target 3 ] \
@@ -38,7 +44,8 @@ const TWO_K4: &[u8] = b"graph [ node [ id 0 spqrRotation \"1 2 0\" ] node [ id 1
     edge [ source 3 target 4 ] edge [ source 3 target 5 ] edge [ source 3 target 6 ] \
     edge [ source 4 target 5 ] edge [ source 4 target 6 ] edge [ source 5 target 6 ] ]";
 
-const TWO_K4_NOT_PLANE: &[u8] = b"graph [ node [ id 0 spqrRotation \"1 2 0\" ] node [ id 1 spqrRotation \"0 4 3\" ] \
+const TWO_K4_NOT_PLANE: &[u8] =
+    b"graph [ node [ id 0 spqrRotation \"1 2 0\" ] node [ id 1 spqrRotation \"0 4 3\" ] \
     node [ id 2 spqrRotation \"1 3 5\" ] node [ id 3 spqrRotation \"6 2 8 5 7 4\" ] \
     node [ id 4 spqrRotation \"6 9 10\" ] node [ id 5 spqrRotation \"7 11 9\" ] node [ id 6 spqrRotation \"8 11 10\" ] \
     edge [ source 0 target 1 ] edge [ source 0 target 2 ] edge [ source 0 target 3 ] \
@@ -155,7 +162,12 @@ fn starts_and_refusals(rt: HostRuntime) -> Result<(), Fail> {
 
 #[test]
 fn start_beside_a_block_without_one(rt: HostRuntime) -> Result<(), Fail> {
-    let (found, written) = answer(rt.alloc(), (K33_TRIANGLE, b"show 1\nshow 0"), (&[], &[]), 1000)?;
+    let (found, written) = answer(
+        rt.alloc(),
+        (K33_TRIANGLE, b"show 1\nshow 0"),
+        (&[], &[]),
+        1000,
+    )?;
     let text = b"planar 1\nrotation 1 | 5: 9 11; 6: 9 10; 7: 10 11\nerror 5\n".as_slice();
     assert_eq!(rt; found, Status::Done);
     assert!(rt; written.as_slice().ends_with(text));
