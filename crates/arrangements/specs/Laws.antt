@@ -1,13 +1,12 @@
 -- What is proved of arrangements, as statements.
-use Rattle.std.specs.Prelude.{◌≡◌, ◌≢◌, ℕ, ◌+◌, ◌⊎◌, ◌↔◌, true, List, [], ◌∷◌, ◌++◌, length}
+use Rattle.std.specs.Prelude.{◌≡◌, ◌≢◌, ℕ, ◌+◌, ◌<◌, ◌⊎◌, ◌↔◌, true, List, length, Contains}
 use Rattle.permutations.specs.Members.{is_member, is_distinct}
 use Rattle.permutations.specs.Cyclic.{first_or}
 use Rattle.choice_lists.specs.Order.{IsAt, Lists, is_before}
-use Rattle.choice_lists.specs.Choices.{IsBondChoice}
 use Rattle.choice_lists.specs.Products.{IsFirst, IsLast}
 use Rattle.arrangements.specs.Arranged.{keeps, cross, is_arranged, arrangements_at, first_arrangement, AreOrders, IsArrangement}
 use Rattle.arrangements.specs.Refused.{Alternate, IsLeastChanged, IsLeastCrossing}
-use Rattle.arrangements.specs.Options.{follower, takes_options, IsFilled, IsGreatest, IsNextByOptions}
+use Rattle.arrangements.specs.Options.{follower, is_option, IsBuilt, IsFilled, HasNoGreater, IsFollowing}
 
 -- two blocks cross exactly where they alternate around the vertex
 abbrev pub CrossIsAlternate : Type 0
@@ -27,22 +26,27 @@ abbrev pub ArrangedOrRefused : Type 0
 ArrangedOrRefused = (block : ℕ → ℕ) (order : ℕ → List ℕ) (l : List ℕ)
     → (is_arranged block order l ≡ true) ⊎ (((b : ℕ) × IsLeastChanged block order l b) ⊎ (((e : ℕ) → is_member e l ≡ true → keeps block order (block e) l ≡ true) × ((b : ℕ) × (c : ℕ) × IsLeastCrossing block l b c)))
 
--- a cyclic order of the edges is an arrangement exactly where each edge may come after those before it
+-- a cyclic order of the edges, from the least on, is an arrangement exactly where each edge may come after those before it
 abbrev pub ArrangedByOptions : Type 0
-ArrangedByOptions = (block : ℕ → ℕ) (order : ℕ → List ℕ) (edges l : List ℕ) → AreOrders block order edges → IsBondChoice edges l
-    → is_arranged block order l ≡ takes_options block (follower block order) [] l
+ArrangedByOptions = (block : ℕ → ℕ) (order : ℕ → List ℕ) (edges l : List ℕ) → AreOrders block order edges → length l ≡ length edges → first_or 0 l ≡ first_or 0 edges
+    → IsBuilt block (follower block order) edges l ↔ Contains (arrangements_at block order edges) l
 
--- the least edge, and after it at each place the least that may come: the first arrangement
+-- while edges are missing some edge may come
+abbrev pub OptionExists : Type 0
+OptionExists = (block : ℕ → ℕ) (order : ℕ → List ℕ) (edges l : List ℕ) → AreOrders block order edges → IsBuilt block (follower block order) edges l → length l < length edges
+    → (e : ℕ) × (is_option block (follower block order) edges l e ≡ true)
+
+-- at each place the least edge that may come: the first arrangement
 abbrev pub FilledIsFirst : Type 0
-FilledIsFirst = (block : ℕ → ℕ) (order : ℕ → List ℕ) (edges l : List ℕ) (e : ℕ) → AreOrders block order edges → first_or 0 edges ≡ e → length (e ∷ l) ≡ length edges
-    → IsFilled block (follower block order) edges (e ∷ []) l → first_arrangement block order edges ≡ e ∷ l
+FilledIsFirst = (block : ℕ → ℕ) (order : ℕ → List ℕ) (edges l : List ℕ) → AreOrders block order edges → length l ≡ length edges
+    → IsFilled block (follower block order) edges 0 l → first_arrangement block order edges ≡ l
 
 -- changed at the last place at which a greater edge may come, and filled: the next arrangement
-abbrev pub NextByOptionsFollows : Type 0
-NextByOptionsFollows = (block : ℕ → ℕ) (order : ℕ → List ℕ) (edges l k : List ℕ) (i : ℕ) → AreOrders block order edges → IsAt (arrangements_at block order edges) i l
-    → length k ≡ length edges → IsNextByOptions block (follower block order) edges l k → IsAt (arrangements_at block order edges) (i + 1) k
+abbrev pub FollowingIsNext : Type 0
+FollowingIsNext = (block : ℕ → ℕ) (order : ℕ → List ℕ) (edges l k : List ℕ) (i : ℕ) → AreOrders block order edges → IsAt (arrangements_at block order edges) i l
+    → IsFollowing block (follower block order) edges l k → IsAt (arrangements_at block order edges) (i + 1) k
 
--- where after the first edge there is no such place: the last arrangement
-abbrev pub GreatestIsLast : Type 0
-GreatestIsLast = (block : ℕ → ℕ) (order : ℕ → List ℕ) (edges l : List ℕ) (e : ℕ) → AreOrders block order edges → IsArrangement block order edges (e ∷ l)
-    → IsGreatest block (follower block order) edges (e ∷ []) l → IsLast (arrangements_at block order edges) (e ∷ l)
+-- where there is no such place after the first: the last arrangement
+abbrev pub NoGreaterIsLast : Type 0
+NoGreaterIsLast = (block : ℕ → ℕ) (order : ℕ → List ℕ) (edges l : List ℕ) → AreOrders block order edges → Contains (arrangements_at block order edges) l
+    → HasNoGreater block (follower block order) edges 1 l → IsLast (arrangements_at block order edges) l
