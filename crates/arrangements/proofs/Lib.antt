@@ -6,3 +6,4 @@ pub mod Built
 pub mod Greedy
 pub mod Listed
 pub mod Refusals
+pub mod Laws
