@@ -85,8 +85,7 @@ module _ (block : ℕ → ℕ) (order : ℕ → List ℕ) (edges : List ℕ) (o 
     | inl a ↦
         let r = turned-head (order (block e)) e (own e a.0) in
         let none : of_block block (block e) p ≡ [] = filter-none (λ x. block x == block e) p (λ x m. ne_eqb (block x) (block e) (unopened block p (block e) x a.1 m)) in
-        let whole : of_block block (block e) (p ++ e ∷ []) ≡ e ∷ [] = of_block-more block (block e) p e refl ∙ ap (λ (z : List ℕ). z ++ e ∷ []) none in
-        (
+        let whole : of_block block (block e) (p ++ e ∷ []) ≡ e ∷ [] = of_block-more block (block e) p e refl ∙ ap (λ (z : List ℕ). z ++ e ∷ []) none in (
           a.0,
           false_from_ne_true (is_member e p) (λ m. unopened block p (block e) e a.1 m refl),
           (r.0, subst (λ (z : List ℕ). IsTurn (order (block e)) (z ++ r.0)) (sym whole) (subst (IsTurn (order (block e))) r.1 (turned-turn (order (block e)) e))),

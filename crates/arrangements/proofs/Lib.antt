@@ -7,3 +7,4 @@ pub mod Greedy
 pub mod Listed
 pub mod Refusals
 pub mod Laws
+mod Examples
