@@ -1,5 +1,5 @@
 -- Arrangements of four edges, computed.
-use Rattle.std.proofs.Common.{◌≡◌, ℕ, true, false, ◌==◌, nat_lt, if◌then◌else◌, List, [], ◌∷◌, filter, refl}
+use Rattle.std.proofs.Common.{◌≡◌, ℕ, true, false, ◌==◌, nat_lt, if◌then◌else◌, List, [], ◌∷◌, refl}
 use Rattle.arrangements.specs.Arranged.{keeps, changes, cross, arrangements_at, first_arrangement}
 use Rattle.arrangements.specs.Options.{follower, waiting, is_option}
 

@@ -1,12 +1,12 @@
 -- Options of a prefix: the edges that are waiting, the last of them, and lists in which each edge is an option of those before it.
-use Rattle.std.proofs.Common.{◌≡◌, ◌≢◌, ℕ, zero, suc, ◌+◌, ◌<◌, ◌≤◌, ◌⊎◌, ◌↔◌, inl, inr, Bool, true, false, not, ◌&&◌, ◌||◌, ◌==◌, nat_lt, List, [], ◌∷◌, ◌++◌, length, map, filter, take, drop, get_or, slice_index, refl, sym, ap, ap₂, ◌∙◌, subst, arith, append_assoc, append-nil, length-append}
-use Rattle.std.proofs.lemmas.Bool.{cases_Bool, cases_eq, cases_lt, both_ways, and_parts, and_from, or_cases, or_left, or_right, not-true, not_from_false, not_from_true, eq-eqb, eqb-true, lt-ltb, ltb-true, true≢false, false_from_ne_true}
-use Rattle.std.proofs.lemmas.List.{take_at, take-append-le, take_all}
+use Rattle.std.proofs.Common.{◌≡◌, ◌≢◌, ℕ, zero, suc, ◌+◌, ◌<◌, ◌⊎◌, inl, inr, Bool, true, false, not, ◌&&◌, ◌==◌, nat_lt, List, [], ◌∷◌, ◌++◌, length, map, filter, take, drop, get_or, refl, sym, ap, ◌∙◌, subst, arith, append_assoc, length-append}
+use Rattle.std.proofs.lemmas.Bool.{cases_lt, both_ways, and_parts, and_from, or_cases, or_left, or_right, not-true, not_from_false, eq-eqb, eqb-true, lt-ltb, ltb-true, true≢false}
+use Rattle.std.proofs.lemmas.List.{take-append-le}
 use Rattle.std.proofs.lemmas.List.Elements.{filter-append}
-use Rattle.permutations.specs.Members.{is_member, is_distinct}
+use Rattle.permutations.specs.Members.{is_member}
 use Rattle.permutations.specs.Cyclic.{last_or}
-use Rattle.permutations.proofs.Members.{member-head, member-tail, member-cases, member-append_left, member-append_right, member-append_cases, no_member-append_left}
-use Rattle.permutations.proofs.Filter.{filter-yes, filter-no, filter-member, member-filter_parts}
+use Rattle.permutations.proofs.Members.{member-head, member-tail, member-cases, member-append_right}
+use Rattle.permutations.proofs.Filter.{filter-yes, filter-member, member-filter_parts}
 use Rattle.permutations.proofs.Mapped.{member-map, map-member}
 use Rattle.permutations.proofs.Runs.{last-of}
 use Rattle.arrangements.specs.Options.{waiting, is_opened, is_option, IsBuilt}
