@@ -57,11 +57,11 @@ module _ (block : ℕ → ℕ) (order : ℕ → List ℕ) (edges : List ℕ) (o 
   own e h = o.members e e h ∙ and_from (is_member e edges) (block e == block e) h (eq-eqb (block e) (block e) refl)
 
   -- what is in the order of a block is an edge of it
-  order-parts : (e x : ℕ) → is_member e edges ≡ true → is_member x (order (block e)) ≡ true → (is_member x edges ≡ true) × (block x ≡ block e)
+  pub order-parts : (e x : ℕ) → is_member e edges ≡ true → is_member x (order (block e)) ≡ true → (is_member x edges ≡ true) × (block x ≡ block e)
   order-parts e x h m = let p = and_parts (is_member x edges) (block x == block e) (sym (o.members e x h) ∙ m) in (p.0, eqb-true (block x) (block e) p.1)
 
   -- an edge of its block is in the order
-  order-has : (e x : ℕ) → is_member e edges ≡ true → is_member x edges ≡ true → block x ≡ block e → is_member x (order (block e)) ≡ true
+  pub order-has : (e x : ℕ) → is_member e edges ≡ true → is_member x edges ≡ true → block x ≡ block e → is_member x (order (block e)) ≡ true
   order-has e x h m q = o.members e x h ∙ and_from (is_member x edges) (block x == block e) m (eq-eqb (block x) (block e) q)
 
   -- the follower is an edge of the same block

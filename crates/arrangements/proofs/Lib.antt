@@ -6,5 +6,7 @@ pub mod Built
 pub mod Greedy
 pub mod Listed
 pub mod Refusals
+pub mod Along
+pub mod Gaps
 pub mod Laws
 mod Examples

@@ -2,4 +2,5 @@
 pub mod Arranged
 pub mod Refused
 pub mod Options
+pub mod Gaps
 pub mod Laws
