@@ -1,9 +1,9 @@
 -- A block keeps its cyclic order in a list exactly where each of its edges follows the one before it.
-use Rattle.std.proofs.Common.{◌≡◌, ◌≢◌, ℕ, zero, suc, ◌+◌, ◌<◌, ◌≤◌, inl, inr, Bool, true, false, ◌&&◌, ◌==◌, List, [], ◌∷◌, ◌++◌, length, IsPermutation, refl, sym, ap, ◌∙◌, subst, arith, append_assoc, append-nil}
+use Rattle.std.proofs.Common.{◌≡◌, ℕ, true, false, ◌==◌, List, [], ◌∷◌, ◌++◌, IsPermutation, refl, sym, ap, ◌∙◌, subst, append_assoc, append-nil}
 use Rattle.std.proofs.lemmas.Bool.{both_ways, and_parts, and_from, eq-eqb, eqb-true, true≢false, false_from_ne_true}
 use Rattle.permutations.specs.Members.{is_member, is_distinct}
-use Rattle.permutations.specs.Cyclic.{from_least, successor, turned, IsTurn}
-use Rattle.permutations.proofs.Members.{member-head, member-append_right, distinct-append_apart, distinct-append_left}
+use Rattle.permutations.specs.Cyclic.{from_least, successor, IsTurn}
+use Rattle.permutations.proofs.Members.{member-head, member-append_right, distinct-append_apart}
 use Rattle.permutations.proofs.Filter.{distinct-filter}
 use Rattle.permutations.proofs.Arrangements.{permutation-member, permutation-distinct}
 use Rattle.permutations.proofs.Turned.{turned-head, turned-turn, IsTurn-sym, IsTurn-member, IsTurn-distinct, IsTurn-successor}

@@ -1,15 +1,13 @@
 -- Two blocks cross exactly where edges of the one are in two gaps of the other.
-use Rattle.std.proofs.Common.{◌≡◌, ◌≢◌, ℕ, zero, suc, ◌+◌, ◌<◌, ◌≤◌, ◌⊎◌, inl, inr, true, false, ◌==◌, if◌then◌else◌, List, [], ◌∷◌, ◌++◌, length, take, drop, get_or, refl, sym, ap, ◌∙◌, subst, arith, append_assoc, length-append}
+use Rattle.std.proofs.Common.{◌≡◌, ◌≢◌, ℕ, suc, ◌+◌, ◌<◌, ◌≤◌, ◌⊎◌, inl, inr, true, ◌==◌, if◌then◌else◌, List, [], ◌∷◌, ◌++◌, length, take, drop, get_or, refl, sym, ap, ◌∙◌, subst, arith, append_assoc, length-append}
 use Rattle.std.proofs.lemmas.Bool.{cases_eq, cases_lt, eq-eqb, ne_eqb}
 use Rattle.std.proofs.lemmas.List.{get_or-take, take-take, length-take-le}
 use Rattle.std.proofs.lemmas.List.Elements.{filter-append}
-use Rattle.permutations.specs.Members.{is_member}
-use Rattle.permutations.proofs.Members.{member-head, CutAt, cut_at}
+use Rattle.permutations.proofs.Members.{CutAt, cut_at}
 use Rattle.permutations.proofs.Filter.{filter-yes, filter-no}
 use Rattle.arrangements.specs.Arranged.{of_block, cross}
 use Rattle.arrangements.specs.Gaps.{edges_before, gap}
 use Rattle.arrangements.proofs.Lists.{cut-place, place-cut, take-cut}
-use Rattle.arrangements.proofs.Built.{of_block-parts}
 use Rattle.arrangements.proofs.Changes.{Interleaved, cross-interleaved, cross-swap, four-cross}
 
 -- how many edges of block b a list has
