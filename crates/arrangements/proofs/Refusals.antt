@@ -97,7 +97,7 @@ apart-or_crossing block l = elim (least-failing rows block l) [
           ]
         ]
 
--- an arrangement, or why not
+-- an arrangement, or why it is not one
 pub arranged-or_refused : (block : ℕ → ℕ) (order : ℕ → List ℕ) (l : List ℕ)
     → (is_arranged block order l ≡ true) ⊎ (((b : ℕ) × IsLeastChanged block order l b) ⊎ (((e : ℕ) → is_member e l ≡ true → keeps block order (block e) l ≡ true) × ((b : ℕ) × (c : ℕ) × IsLeastCrossing block l b c)))
 arranged-or_refused block order l = elim (kept-or_changed block order l) [

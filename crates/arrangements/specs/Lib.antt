@@ -1,4 +1,4 @@
--- Arrangements of the edges around a vertex, why a list is none, how they are made edge by edge, and the laws.
+-- Arrangements of the edges around a vertex, why a list is not one, how they are made edge by edge, and the laws.
 pub mod Arranged
 pub mod Refused
 pub mod Options
