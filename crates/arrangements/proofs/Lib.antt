@@ -6,6 +6,7 @@ pub mod Built
 pub mod Greedy
 pub mod Listed
 pub mod Refusals
+pub mod Turns
 pub mod Along
 pub mod Gaps
 pub mod Laws

@@ -29,17 +29,21 @@
 //   Greedy     filled-least, changed-next: for options of any kind, the least list and the next one
 //   Listed     arrangements-listed, arrangement-length, some-arrangement, filled-first, following-next, no_greater-last
 //   Refusals   kept-or_changed, apart-or_crossing: an arrangement, or the least reason why a list is not one
+//   Turns      keeps-turn, cross-turn, changed-turn, crossing-turn: it doesn't matter where a list begins
 //   Along      keeps-along: a block keeps its cyclic order where each of its edges follows the one before it
 //   Gaps       gaps-cross, cross-gaps: two blocks cross where edges of the one are in two gaps of the other
 #![tactic(auto)]
 
 ghost use Rattle.arrangements.specs.Laws.{ArrangedByOptions, ArrangedOrRefused, ArrangementsAtAreListed, CrossIsAlternate};
-ghost use Rattle.arrangements.specs.Laws.{FilledIsFirst, FirstArrangementIsFirst, FollowingIsNext, NoGreaterIsLast};
-ghost use Rattle.arrangements.specs.Laws.{OptionExists};
+ghost use Rattle.arrangements.specs.Laws.{CrossInEachTurn, FilledIsFirst, FirstArrangementIsFirst, FollowingIsNext};
+ghost use Rattle.arrangements.specs.Laws.{KeptInEachTurn, NoGreaterIsLast, OptionExists};
 
-/// The law that two blocks cross, by the test on a list, exactly where their edges alternate around the vertex.
+/// The laws that two blocks cross, by the test on a list, exactly where their edges alternate around the vertex, and that it
+/// doesn't matter where the list begins.
 pub fn blocks_that_alternate()
-    ensures { CrossIsAlternate }
+    ensures alternate { CrossIsAlternate }
+    ensures cross { CrossInEachTurn }
+    ensures kept { KeptInEachTurn }
 {}
 
 /// The laws that the arrangements at a vertex are all listed, in lexicographic order, and that there is a first one.
