@@ -1,6 +1,6 @@
 -- It doesn't matter where a list of edges begins: whether a block keeps its cyclic order, and whether two blocks cross.
 use Rattle.std.proofs.Common.{◌≡◌, ℕ, ◌==◌, true, List, [], ◌∷◌, sym, ap, ◌∙◌}
-use Rattle.permutations.specs.Members.{is_member, is_distinct}
+use Rattle.permutations.specs.Members.{is_distinct}
 use Rattle.permutations.specs.Cyclic.{from_least, IsTurn}
 use Rattle.permutations.proofs.Filter.{distinct-filter}
 use Rattle.permutations.proofs.Turned.{IsTurn-sym, IsTurn-member, IsTurn-distinct, IsTurn-filter}
