@@ -7,3 +7,8 @@ pub mod Greedy
 pub mod Listed
 pub mod Refusals
 pub mod Laws
+pub mod Noted
+pub mod Tops
+pub mod Laid
+pub mod Notes
+pub mod Made

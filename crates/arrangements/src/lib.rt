@@ -31,6 +31,13 @@
 //   Refusals   kept-or_changed, apart-or_crossing: an arrangement, or the least reason why a list is none
 #![tactic(auto)]
 
+mod making;
+mod prefixes;
+mod tables;
+mod vertices;
+
+pub use vertices::VertexOrders;
+
 ghost use Rattle.arrangements.specs.Laws.{ArrangedByOptions, ArrangedOrRefused, ArrangementsAtAreListed, CrossIsAlternate};
 ghost use Rattle.arrangements.specs.Laws.{FilledIsFirst, FirstArrangementIsFirst, FollowingIsNext, NoGreaterIsLast};
 ghost use Rattle.arrangements.specs.Laws.{OptionExists};
