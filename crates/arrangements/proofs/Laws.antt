@@ -1,5 +1,4 @@
 -- The laws, with their premises in the order of their statements.
-use Rattle.std.proofs.Common.{List}
 use Rattle.arrangements.specs.Laws.{CrossIsAlternate, ArrangementsAtAreListed, FirstArrangementIsFirst, ArrangedOrRefused, ArrangedByOptions, OptionExists, FilledIsFirst, FollowingIsNext, NoGreaterIsLast}
 use Rattle.arrangements.proofs.Changes.{cross-is_alternate}
 use Rattle.arrangements.proofs.Built.{option-exists}

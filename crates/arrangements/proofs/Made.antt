@@ -49,10 +49,11 @@ agree-before [] (y ∷ k) n e = absurd (omega (arith, ap length (subst (λ (m : 
 agree-before (x ∷ l) [] n e = absurd (omega (arith, ap length (subst (λ (m : ℕ). take m (x ∷ l) ≡ take m []) (add-one n) e)))
 agree-before (x ∷ l) (y ∷ k) zero e = refl
 agree-before (x ∷ l) (y ∷ k) (suc n) e =
-    let s : x ∷ take (n + 1) l ≡ y ∷ take (n + 1) k = e in
+    let s : x ∷ take (suc n) l ≡ y ∷ take (suc n) k = subst (λ (m : ℕ). take m (x ∷ l) ≡ take m (y ∷ k)) (add-one (suc n)) e in
     let head : x ≡ y = cc in
-    let tail : take (n + 1) l ≡ take (n + 1) k = cc in
-    (λ i. head i ∷ agree-before l k n tail i)
+    let tail : take (suc n) l ≡ take (suc n) k = cc in
+    let rest : take n l ≡ take n k = agree-before l k n (subst (λ (m : ℕ). take m l ≡ take m k) (sym (add-one n)) tail) in
+    (λ i. head i ∷ rest i)
 
 -- and at the place
 pub agree-at : (l k : List ℕ) (n : ℕ) → take (n + 1) l ≡ take (n + 1) k → get_or l n 0 ≡ get_or k n 0

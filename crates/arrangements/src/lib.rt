@@ -28,7 +28,9 @@
 //              arrangement-built: built lists of all edges are the arrangements
 //   Greedy     filled-least, changed-next: for options of any kind, the least list and the next one
 //   Listed     arrangements-listed, arrangement-length, some-arrangement, filled-first, following-next, no_greater-last
-//   Refusals   kept-or_changed, apart-or_crossing: an arrangement, or the least reason why a list is none
+//   Refusals   kept-or_changed, apart-or_crossing: an arrangement, or the least reason why a list is not one
+//   Along      keeps-along: a block keeps its cyclic order where each of its edges follows the one before it
+//   Gaps       gaps-cross, cross-gaps: two blocks cross where edges of the one are in two gaps of the other
 #![tactic(auto)]
 
 mod making;

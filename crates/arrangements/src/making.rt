@@ -1,8 +1,13 @@
 // Arrangements made edge by edge: the first one, and the one that follows.
 
-ghost use Rattle.std.specs.Prelude.{◌≡◌, ◌+◌, ◌<◌, ◌≤◌, ◌↔◌, ℕ, true, false, length, take, slice_index};
+ghost use Rattle.std.specs.Prelude.{◌≡◌, ◌≢◌, ◌+◌, ◌<◌, ◌≤◌, ◌↔◌, ℕ, true, false, length, take, Contains, slice_index};
 ghost use Rattle.permutations.specs.Members.{is_member};
+ghost use Rattle.permutations.specs.Cyclic.{first_or};
+ghost use Rattle.choice_lists.specs.Order.{IsAt};
+ghost use Rattle.choice_lists.specs.Products.{IsLast};
+ghost use Rattle.arrangements.specs.Arranged.{arrangements_at, first_arrangement};
 ghost use Rattle.arrangements.specs.Options.{follower, IsFilled, HasNoGreater, IsFollowing};
+ghost use Rattle.arrangements.specs.Tables.{HaveBlocks, HaveArrangement};
 ghost use Rattle.arrangements.specs.Prefixes.{ForBlocks, ForBuilt, HaveBuilt, HasGreater, HasRoom, IsNoted, IsIncreased, IsFullyBuilt};
 
 use crate::prefixes::Prefix;
@@ -95,7 +100,7 @@ fn increase(tables: &Tables, prefix: &mut Prefix, list: &mut [u32], place: usize
 }
 
 // Goes to the list that follows; returns false and changes nothing if at no place after the first a greater edge may come.
-pub(crate) fn next(tables: &Tables, prefix: &mut Prefix, list: &mut [u32]) -> bool
+fn step(tables: &Tables, prefix: &mut Prefix, list: &mut [u32]) -> bool
     requires all { length list.old ≡ length tables.now.edges }
     requires edges { (i : ℕ) → i < length list.old → is_member (slice_index list.old i)
         tables.now.edges ≡ true }
@@ -116,8 +121,17 @@ pub(crate) fn next(tables: &Tables, prefix: &mut Prefix, list: &mut [u32]) -> bo
     true
 }
 
+// Whether the list begins with the least edge.
+fn begins_least(tables: &Tables, list: &[u32]) -> bool
+    requires all { length list.now ≡ length tables.now.edges }
+    ensures least { result ≡ true → first_or 0 list.now ≡ first_or 0 tables.now.edges }
+    ensures other { result ≡ false → first_or 0 list.now ≢ first_or 0 tables.now.edges }
+{
+    list.is_empty() || list[0] == tables.edge(0)
+}
+
 // Whether the list has all edges, the least first, and each may come after those before it.
-pub(crate) fn is_built(tables: &Tables, prefix: &mut Prefix, list: &[u32]) -> bool
+fn is_built(tables: &Tables, prefix: &mut Prefix, list: &[u32]) -> bool
     requires room { HasRoom tables.now prefix.old }
     ensures exact { ForBlocks tables.now (λ block order. (result ≡ true) ↔ IsFullyBuilt block
         (follower block order) tables.now.edges list.now) }
@@ -126,15 +140,57 @@ pub(crate) fn is_built(tables: &Tables, prefix: &mut Prefix, list: &[u32]) -> bo
     if list.len() != tables.len() {
         return false;
     }
+    if !begins_least(tables, list) {
+        return false;
+    }
     prefix.clear(tables);
     for i in 0..list.len() {
         let Some(place) = tables.find(list[i]) else {
             return false;
         };
-        if (i == 0 && place > 0) || !prefix.may_come(tables, place) {
+        if !prefix.may_come(tables, place) {
             return false;
         }
         prefix.lay(tables, list, i);
     }
     true
+}
+
+// Writes the first arrangement.
+pub(crate) fn first(tables: &Tables, prefix: &mut Prefix, into: &mut [u32])
+    requires blocks { HaveBlocks tables.now }
+    requires all { length into.old ≡ length tables.now.edges }
+    requires room { HasRoom tables.now prefix.old }
+    ensures first { ForBlocks tables.now (λ block order. into.new
+        ≡ first_arrangement block order tables.now.edges) }
+    ensures room { HasRoom tables.now prefix.new }
+{
+    prefix.clear(tables);
+    fill(tables, prefix, into, 0);
+}
+
+// Goes to the arrangement that follows; returns false and changes nothing exactly where the list is the last.
+pub(crate) fn next(tables: &Tables, prefix: &mut Prefix, list: &mut [u32]) -> bool
+    requires arranged { HaveArrangement tables.now list.old }
+    requires room { HasRoom tables.now prefix.old }
+    ensures next { result ≡ true → ForBlocks tables.now (λ block order. (i : ℕ)
+        → IsAt (arrangements_at block order tables.now.edges) i list.old
+        → IsAt (arrangements_at block order tables.now.edges) (i + 1) list.new) }
+    ensures last { result ≡ false → ForBlocks tables.now (λ block order.
+        Contains (arrangements_at block order tables.now.edges) list.old
+        → IsLast (arrangements_at block order tables.now.edges) list.old) }
+    ensures unchanged { result ≡ false → list.new ≡ list.old }
+    ensures room { HasRoom tables.now prefix.new }
+{
+    step(tables, prefix, list)
+}
+
+// Whether the list is an arrangement.
+pub(crate) fn is_arranged(tables: &Tables, prefix: &mut Prefix, list: &[u32]) -> bool
+    requires room { HasRoom tables.now prefix.old }
+    ensures exact { ForBlocks tables.now (λ block order. (result ≡ true)
+        ↔ Contains (arrangements_at block order tables.now.edges) list.now) }
+    ensures room { HasRoom tables.now prefix.new }
+{
+    is_built(tables, prefix, list)
 }

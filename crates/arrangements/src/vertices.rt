@@ -83,8 +83,7 @@ impl VertexOrders {
             ≡ first_arrangement block order self.old.edges) }
         ensures tables { self.new ≡ self.old }
     {
-        self.prefix.clear(&self.tables);
-        making::fill(&self.tables, &mut self.prefix, into, 0);
+        making::first(&self.tables, &mut self.prefix, into);
     }
 
     /// Goes to the arrangement that follows; returns false and changes nothing exactly where the list is the last. Takes no
@@ -109,6 +108,6 @@ impl VertexOrders {
             ↔ Contains (arrangements_at block order self.old.edges) list.now) }
         ensures tables { self.new ≡ self.old }
     {
-        making::is_built(&self.tables, &mut self.prefix, list)
+        making::is_arranged(&self.tables, &mut self.prefix, list)
     }
 }

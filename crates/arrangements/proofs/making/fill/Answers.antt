@@ -36,6 +36,7 @@ loop-i-preserved c =
     let i : ℕ = c.loop-i.i in
     let y : ℕ = c.option_from.result in
     let edges : List ℕ = c.args.tables.now.edges in
+    let inside : i < length l = omega (arith, c.loop-i-test.true, c.loop-i.invariant.size, c.requires.all) in
     let w = c.option_from.ensures (take i l) c.loop-i.invariant.noted in
     record {
       size = length-set l i y ∙ c.loop-i.invariant.size;
@@ -50,7 +51,7 @@ loop-i-preserved c =
         block = v.block;
         order = v.order;
         are = v.are;
-        built = built-set v.block (follower v.block v.order) edges l i y c.loop-i-test.true v.built (w.0 v.block v.order v.are v.built).option;
+        built = built-set v.block (follower v.block v.order) edges l i y inside v.built (w.0 v.block v.order v.are v.built).option;
       };
       filled = λ block order a b j g h. elim (cases_lt j i) [
         | inl below ↦ least-kept block (follower block order) edges l i y j 0 below (c.loop-i.invariant.filled block order a b j g below)
@@ -58,8 +59,8 @@ loop-i-preserved c =
             let e : i ≡ j = omega (arith, above, h) in
             let k : c.args.from + (i - c.args.from) ≡ i = omega (arith, c.loop-i.auto.i) in
             let built : IsBuilt block (follower block order) edges (take i l) = subst (λ (n : ℕ). IsBuilt block (follower block order) edges (take n l)) k
-            (built-filled block (follower block order) edges l c.args.from (i - c.args.from) (omega (arith, k, c.loop-i-test.true)) (subst (IsBuilt block (follower block order) edges) (sym c.loop-i.invariant.before) b)
+            (built-filled block (follower block order) edges l c.args.from (i - c.args.from) (omega (arith, k, inside)) (subst (IsBuilt block (follower block order) edges) (sym c.loop-i.invariant.before) b)
             (λ m p q. c.loop-i.invariant.filled block order a b m p (omega (arith, q, k)))) in
-            subst (λ (n : ℕ). IsLeastOption block (follower block order) edges (take n (set l i y)) 0 (get_or (set l i y) n 0)) e (least-put block (follower block order) edges l i y 0 c.loop-i-test.true (w.0 block order a built))
+            subst (λ (n : ℕ). IsLeastOption block (follower block order) edges (take n (set l i y)) 0 (get_or (set l i y) n 0)) e (least-put block (follower block order) edges l i y 0 inside (w.0 block order a built))
       ];
     }

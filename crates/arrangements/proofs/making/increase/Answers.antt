@@ -47,7 +47,7 @@ returns-clause-increased c = λ block order a b.
     let built = built-take block (follower block order) edges l c.args.place b in
     let at : get_or c.fill.new.list c.args.place 0 ≡ y = agree-at c.fill.new.list (set l c.args.place y) c.args.place c.fill.ensures.before ∙ get_or-set_same l c.args.place y 0 c.requires.place in
     record {
-      same_length = ?;
+      same_length = omega (arith, c.fill.auto.list, length-set l c.args.place y);
       same_before = agree-before c.fill.new.list (set l c.args.place y) c.args.place c.fill.ensures.before ∙ take-set l c.args.place y;
       greater = subst (IsLeastOption block (follower block order) edges (take c.args.place l) (get_or l c.args.place 0 + 1)) (sym at) (w.0 block order a built);
       filled = c.fill.ensures.filled block order a (built-set block (follower block order) edges l c.args.place y c.requires.place built (w.0 block order a built).option);
