@@ -10,4 +10,10 @@ pub mod Turns
 pub mod Along
 pub mod Gaps
 pub mod Laws
+pub mod Noted
+pub mod Tops
+pub mod Laid
+pub mod Notes
+pub mod Made
+pub mod Walked
 mod Examples

@@ -34,6 +34,13 @@
 //   Gaps       gaps-cross, cross-gaps: two blocks cross where edges of the one are in two gaps of the other
 #![tactic(auto)]
 
+mod making;
+mod prefixes;
+mod tables;
+mod vertices;
+
+pub use vertices::VertexOrders;
+
 ghost use Rattle.arrangements.specs.Laws.{ArrangedByOptions, ArrangedOrRefused, ArrangementsAtAreListed, CrossIsAlternate};
 ghost use Rattle.arrangements.specs.Laws.{CrossInEachTurn, FilledIsFirst, FirstArrangementIsFirst, FollowingIsNext};
 ghost use Rattle.arrangements.specs.Laws.{KeptInEachTurn, NoGreaterIsLast, OptionExists};
