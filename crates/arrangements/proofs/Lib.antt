@@ -16,4 +16,5 @@ pub mod Laid
 pub mod Notes
 pub mod Made
 pub mod Walked
+pub mod Passed
 mod Examples
