@@ -166,3 +166,11 @@ passed-changed t block order expected least l i a s w h =
             ∙ subst (λ (y : ℕ). follows_along (follower block order) (of_block block (block y) l) ≡ true) z (w.follow_below (place_of t.edges e) q (omega (arith, lower, r)));
       };
     }
+
+-- under other names
+pub passed-as : (t : VertexTables) (block : ℕ → ℕ) (order : ℕ → List ℕ) (expected : List (Option ℕ)) (r s f g least low : ℕ) (l k : List ℕ) → r ≡ s → f ≡ g → least ≡ low → l ≡ k
+    → IsPassed t (set expected s (Some g)) low k block order → IsPassed t (set expected r (Some f)) least l block order
+passed-as t block order expected r s f g least low l k a b c d w =
+    subst (λ (x : ℕ). IsPassed t (set expected x (Some f)) least l block order) (sym a)
+    (subst (λ (x : ℕ). IsPassed t (set expected s (Some x)) least l block order) (sym b)
+    (subst (λ (x : ℕ). IsPassed t (set expected s (Some g)) x l block order) (sym c) (subst (λ (x : List ℕ). IsPassed t (set expected s (Some g)) low x block order) (sym d) w)))
