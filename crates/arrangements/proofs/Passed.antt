@@ -1,15 +1,14 @@
 -- One pass along a list: of each block whether its edges follow each other so far, and which edge is expected next.
-use Rattle.std.proofs.Common.{◌≡◌, ◌≢◌, ℕ, zero, suc, ◌+◌, ◌<◌, ◌≤◌, inl, inr, Bool, true, false, not, ◌&&◌, ◌==◌, nat_lt, List, [], ◌∷◌, ◌++◌, length, take, get_or, None, Some, Option, IsPermutation, refl, sym, ap, ◌∙◌, subst, arith}
-use Rattle.std.proofs.lemmas.Bool.{cases_Bool, cases_eq, cases_lt, both_ways, and_parts, and_from, and_left, and_right, and_cases, not-true, lt-ltb, ltb-true, eq-eqb, ne_eqb, eqb-true, true≢false}
+use Rattle.std.proofs.Common.{◌≡◌, ◌≢◌, ℕ, ◌<◌, ◌≤◌, inl, inr, true, false, ◌==◌, List, [], ◌∷◌, ◌++◌, length, get_or, None, Some, Option, IsPermutation, refl, sym, ap, ◌∙◌, subst, arith}
+use Rattle.std.proofs.lemmas.Bool.{cases_eq, both_ways, and_parts, and_from, and_left, and_right, and_cases, not-true, lt-ltb, ltb-true}
 use Rattle.std.proofs.Math.ListN.{set}
 use Rattle.std.proofs.lemmas.List.{get_or-set_same, get_or-set_other}
 use Rattle.permutations.specs.Members.{is_member, place_of}
 use Rattle.permutations.proofs.Places.{place-below, place-holds}
 use Rattle.permutations.proofs.Arrangements.{permutation-member}
-use Rattle.arrangements.specs.Arranged.{of_block, keeps, AreOrders}
+use Rattle.arrangements.specs.Arranged.{of_block}
 use Rattle.arrangements.specs.Options.{follower}
 use Rattle.arrangements.specs.Gaps.{follows_along}
-use Rattle.arrangements.specs.Refused.{IsLeastChanged}
 use Rattle.arrangements.specs.Tables.{VertexTables, rank_in, IsTables, AreTablesOf}
 use Rattle.arrangements.specs.Changed.{is_other, AreKept, IsLeastChangedRank}
 use Rattle.arrangements.proofs.Along.{keeps-along}

@@ -1,4 +1,4 @@
-use Rattle.std.proofs.Common.{◌≡◌, ◌<◌, ◌≤◌, ◌+◌, ℕ, Bool, true, false, List, Option, None, Some, sym, ap, ◌∙◌, subst, arith, length, take, get_or}
+use Rattle.std.proofs.Common.{◌≡◌, ◌≤◌, ℕ, true, false, List, None, Some, sym, ap, ◌∙◌, subst, arith, length, take, get_or}
 use Rattle.std.proofs.Math.ListN.{length-set}
 use Rattle.std.proofs.lemmas.List.{take_more, take_all}
 use Rattle.permutations.specs.Members.{is_member, place_of}
