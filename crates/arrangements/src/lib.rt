@@ -33,6 +33,10 @@
 //              arrangement-built: built lists of all edges are the arrangements
 //   Greedy     filled-least, changed-next: for options of any kind, the least list and the next one
 //   Listed     arrangements-listed, arrangement-length, some-arrangement, filled-first, following-next, no_greater-last
+//   Tops       option-cases, from-place, from-top: the options after a prefix, by what is noted of it
+//   Notes      noted-after: what is noted when one edge more is laid
+//   Walked     full-exactly: the lists built of all edges are those listed
+//   Passed     passed-on, passed-worse: one pass for the least block that is changed
 //   Refusals   kept-or_changed, apart-or_crossing: an arrangement, or the least reason why a list is not one
 //   Turns      keeps-turn, cross-turn, changed-turn, crossing-turn: it doesn't matter where a list begins
 //   Along      keeps-along: a block keeps its cyclic order where each of its edges follows the one before it
