@@ -16,4 +16,6 @@ pub mod Laid
 pub mod Notes
 pub mod Made
 pub mod Walked
+pub mod Ranked
+pub mod Passed
 mod Examples

@@ -1,6 +1,5 @@
--- Arrangements of the edges around a vertex, why a list is none, how they are made edge by edge, the laws; and the tables of a
--- vertex and what is noted of a prefix.
--- Arrangements of the edges around a vertex, why a list is not one, how they are made edge by edge, and the laws.
+-- Arrangements of the edges around a vertex, why a list is not one, how they are made edge by edge, and the laws; the tables of a
+-- vertex, what is noted of a prefix, and how two blocks that cross are found.
 pub mod Arranged
 pub mod Refused
 pub mod Options
@@ -8,3 +7,4 @@ pub mod Gaps
 pub mod Laws
 pub mod Tables
 pub mod Prefixes
+pub mod Crossings

@@ -34,16 +34,17 @@
 //   Gaps       gaps-cross, cross-gaps: two blocks cross where edges of the one are in two gaps of the other
 #![tactic(auto)]
 
+mod crossings;
 mod making;
 mod prefixes;
 mod tables;
 mod vertices;
 
-pub use vertices::VertexOrders;
-
 ghost use Rattle.arrangements.specs.Laws.{ArrangedByOptions, ArrangedOrRefused, ArrangementsAtAreListed, CrossIsAlternate};
 ghost use Rattle.arrangements.specs.Laws.{CrossInEachTurn, FilledIsFirst, FirstArrangementIsFirst, FollowingIsNext};
 ghost use Rattle.arrangements.specs.Laws.{KeptInEachTurn, NoGreaterIsLast, OptionExists};
+
+pub use vertices::VertexOrders;
 
 /// The laws that two blocks cross, by the test on a list, exactly where their edges alternate around the vertex, and that it
 /// doesn't matter where the list begins.

@@ -129,8 +129,10 @@ impl Tables {
     pub(crate) fn set_follower(&mut self, edge: u32, follower: u32)
         requires edge { is_member edge self.old.edges ≡ true }
         requires follower { is_member follower self.old.edges ≡ true }
-        ensures { self.new ≡ record self.old { followers = slice_set self.old.followers
-            (place_of self.old.edges edge) follower } }
+        ensures { self.new ≡ record self.old {
+          followers = slice_set self.old.followers
+              (place_of self.old.edges edge) follower;
+        } }
     {
         let place = self.place(edge);
         self.followers[place] = follower;

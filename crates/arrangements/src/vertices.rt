@@ -69,8 +69,10 @@ impl VertexOrders {
     pub fn set_follower(&mut self, edge: u32, follower: u32)
         requires edge { is_member edge self.old.edges ≡ true }
         requires follower { is_member follower self.old.edges ≡ true }
-        ensures { self.new ≡ record self.old { followers = slice_set self.old.followers
-            (place_of self.old.edges edge) follower } }
+        ensures { self.new ≡ record self.old {
+          followers = slice_set self.old.followers
+              (place_of self.old.edges edge) follower;
+        } }
     {
         self.tables.set_follower(edge, follower);
     }
