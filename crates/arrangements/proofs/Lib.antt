@@ -17,5 +17,6 @@ pub mod Notes
 pub mod Made
 pub mod Walked
 pub mod Ranked
+pub mod RankPasses
 pub mod Passed
 mod Examples

@@ -1,4 +1,4 @@
-// Arrangements of the edges around a vertex: theory without code that runs.
+// Arrangements of the edges around a vertex.
 //
 // Around a cut vertex there are edges of several blocks. Each block has a cyclic order of its own edges there. An arrangement is
 // a cyclic order of all edges that keeps those of the blocks and in which no two blocks cross: no edges of two blocks alternate.
@@ -20,6 +20,11 @@
 // arrangement differs from one at the last place where a greater option exists: it has the least greater one there, and the
 // least options after it.
 //
+// The calls work on tables of one vertex, which say of each edge the rank of its block and the edge that follows it there. What is
+// noted of a prefix is which edges are in it, which blocks are opened, and a stack of the edges that come next in the unfinished
+// blocks. To lay an edge takes a search for it among the edges of the vertex, and all else is constant on average, so the first
+// arrangement and the next take time in proportion to d log d for d edges. All room is taken when the tables are made.
+//
 // The lemmas that are used most (module of proofs/ in front):
 //   Changes    cross-interleaved, four-cross: blocks cross where their edges alternate along the list; cross-is_alternate: around
 //              the vertex
@@ -35,6 +40,7 @@
 #![tactic(auto)]
 
 mod crossings;
+mod kept;
 mod making;
 mod prefixes;
 mod tables;

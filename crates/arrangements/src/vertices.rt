@@ -1,13 +1,15 @@
 // The arrangements of the edges around a vertex, one after another.
 
-ghost use Rattle.std.specs.Prelude.{◌≡◌, ◌+◌, ◌<◌, ◌^◌, ◌↔◌, ℕ, nat_lt, true, false, length, IfOk, MatchOption, Contains, slice_index, slice_set};
+ghost use Rattle.std.specs.Prelude.{◌≡◌, ◌+◌, ◌<◌, ◌^◌, ◌↔◌, ℕ, nat_lt, true, false, length, IfOk, MatchOption, Contains, IsPermutation, slice_index, slice_set};
 ghost use Rattle.permutations.specs.Members.{is_member, place_of};
 ghost use Rattle.choice_lists.specs.Order.{IsAt, IsRising};
 ghost use Rattle.choice_lists.specs.Products.{IsLast};
 ghost use Rattle.arrangements.specs.Arranged.{arrangements_at, first_arrangement};
 ghost use Rattle.arrangements.specs.Tables.{VertexTables, IsTables, HaveBlocks, HaveArrangement};
 ghost use Rattle.arrangements.specs.Prefixes.{ForBlocks};
+ghost use Rattle.arrangements.specs.Changed.{AreKept, IsLeastChangedRank};
 
+use crate::kept::changed_rank;
 use crate::making;
 use crate::prefixes::Prefix;
 use crate::tables::Tables;
@@ -20,9 +22,11 @@ use std::marker::Model;
 pub struct VertexOrders {
     tables: Tables,
     prefix: Prefix,
+    expected: Vec<Option<u32>>,
 }
 
 impl Model for VertexOrders {
+    ghost use Rattle.std.specs.Prelude.{◌≡◌, length};
     ghost use Rattle.arrangements.specs.Tables.{VertexTables};
     ghost use Rattle.arrangements.specs.Prefixes.{HasRoom};
 
@@ -30,7 +34,8 @@ impl Model for VertexOrders {
 
     ghost view = { λ v. v.tables };
 
-    ghost invariant = { λ v. HasRoom v.tables v.prefix };
+    ghost invariant = { λ v. HasRoom v.tables v.prefix
+        × (length v.expected.items ≡ length v.tables.edges) };
 }
 
 impl VertexOrders {
@@ -49,10 +54,12 @@ impl VertexOrders {
         }) }
     {
         let prefix = Prefix::new(alloc, edges.len())?;
+        let expected = vec![in alloc; None; edges.len()]?;
         let followers = Vec::from_slice(alloc, &edges)?;
         Ok(VertexOrders {
             tables: Tables::of(edges, ranks, followers),
             prefix,
+            expected,
         })
     }
 
@@ -111,5 +118,21 @@ impl VertexOrders {
         ensures tables { self.new ≡ self.old }
     {
         making::is_arranged(&self.tables, &mut self.prefix, list)
+    }
+
+    /// The rank of the least block whose cyclic order the list changes; `None` exactly where it changes none. The list may begin
+    /// with any edge. Takes no memory.
+    pub fn changed_block(&mut self, list: &[u32]) -> Option<u32>
+        requires { IsPermutation self.old.edges list.now }
+        ensures exact { MatchOption result (ForBlocks self.old (λ block order. AreKept block order list.now))
+            (λ rank. ForBlocks self.old (λ block order. IsLeastChangedRank self.old block order list.now rank)) }
+        ensures tables { self.new ≡ self.old }
+    {
+        self.tables.keeps();
+        let rank = changed_rank(&self.tables, &mut self.expected, list);
+        if rank < self.tables.len() {
+            return Some(rank as u32);
+        }
+        None
     }
 }
