@@ -1,5 +1,5 @@
 -- Blocks that cross in a list of edges, by the ranks of their blocks.
-use Rattle.std.proofs.Common.{◌≡◌, ◌≢◌, ℕ, ◌+◌, ◌<◌, ◌≤◌, ◌⊎◌, inl, inr, Bool, true, false, ◌||◌, ◌==◌, nat_lt, List, [], ◌∷◌, length, map, filter, IsPermutation, MatchOption, Some, None, refl, sym, ap, ap₂, ◌∙◌, subst, arith}
+use Rattle.std.proofs.Common.{◌≡◌, ◌≢◌, ℕ, ◌+◌, ◌<◌, ◌≤◌, ◌⊎◌, inl, inr, Bool, true, false, ◌||◌, ◌==◌, nat_lt, List, [], ◌∷◌, length, map, filter, IsPermutation, Option, MatchOption, Some, None, refl, sym, ap, ap₂, ◌∙◌, subst, arith}
 use Rattle.std.proofs.lemmas.Bool.{cases_Bool, cases_eq, cases_order, both_ways, ltb-true, ltb-false, lt-ltb, le-ltb, eq-eqb, ne_eqb, eqb-true, true≢false, false_from_ne_true}
 use Rattle.permutations.specs.Members.{is_member}
 use Rattle.permutations.proofs.Members.{member-head, member-tail}
@@ -141,3 +141,11 @@ module _ (t : VertexTables) (block : ℕ → ℕ) (order : ℕ → List ℕ) (a 
         | inl l ↦ inl (omega (arith, less-block x z.0 e.2 z.2 (omega (arith, l, e.4)), z.4))
         | inr q ↦ inr (equal-block x z.0 e.2 z.2 (e.4 ∙ q.0) ∙ z.4, omega (arith, most-block y z.1 e.3 z.3 (omega (arith, q.1, e.5)), z.5))
       ]
+
+-- both together, of what is answered
+pub answer-ranked : (t : VertexTables) (block : ℕ → ℕ) (order : ℕ → List ℕ) → AreTablesOf t block order → (list : List ℕ) → IsPermutation t.edges list
+    → {X : Type 0} (first second : X → ℕ) (result : Option X) (ranks : List ℕ) → ranks ≡ map (rank_in t) list
+    → MatchOption result ((b c : ℕ) → cross_ranks b c ranks ≡ false) (λ pair. IsLeastCrossing (λ r. r) ranks (first pair) (second pair))
+    → MatchOption result ((b c : ℕ) → cross block b c list ≡ false) (λ pair. IsCrossingOf t block list (first pair) (second pair))
+answer-ranked t block order a list p first second None ranks e h = none-ranked t block order a list p (subst (λ (k : List ℕ). (b c : ℕ) → cross_ranks b c k ≡ false) e h)
+answer-ranked t block order a list p first second (Some pair) ranks e h = least-ranked t block order a list p (first pair) (second pair) (subst (λ (k : List ℕ). IsLeastCrossing (λ r. r) k (first pair) (second pair)) e h)
