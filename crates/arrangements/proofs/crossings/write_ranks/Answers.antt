@@ -33,10 +33,10 @@ loop-i-preserved c =
     record {
       size = length-set c.loop-i.ranks i y ∙ c.loop-i.invariant.size;
       ranks =
-        take_more_set c.loop-i.ranks i y inside
-        ∙ ap (λ (z : List ℕ). z ++ y ∷ []) c.loop-i.invariant.ranks
-        ∙ ap (λ (z : ℕ). map (rank_in t) (take i c.args.list.now) ++ z ∷ []) is
-        ∙ sym (map_more (rank_in t) c.args.list.now i 0 c.loop-i-test.true);
+          take_more_set c.loop-i.ranks i y inside
+          ∙ ap (λ (z : List ℕ). z ++ y ∷ []) c.loop-i.invariant.ranks
+          ∙ ap (λ (z : ℕ). map (rank_in t) (take i c.args.list.now) ++ z ∷ []) is
+          ∙ sym (map_more (rank_in t) c.args.list.now i 0 c.loop-i-test.true);
       below = λ j h. elim (cases_eq j i) [
         | inl e ↦ omega (arith, ap (slice_index (slice_set c.loop-i.ranks i y)) e ∙ get_or-set_same c.loop-i.ranks i y 0 inside, above.0)
         | inr n ↦ let less : j < i = omega (arith, h, n) in omega (arith, get_or-set_other c.loop-i.ranks i j y 0 n, c.loop-i.invariant.below j less, above.1)
