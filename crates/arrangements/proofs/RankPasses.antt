@@ -1,13 +1,12 @@
 -- The pass for a block through a list of ranks, place by place, and what it shows at the end.
-use Rattle.std.proofs.Common.{◌≡◌, ◌≢◌, ℕ, zero, suc, ◌+◌, ◌<◌, ◌≤◌, ◌⊎◌, inl, inr, true, false, ◌==◌, if◌then◌else◌, List, [], ◌∷◌, ◌++◌, length, take, get_or, slice_index, replicate, refl, sym, ap, ◌∙◌, subst, arith}
+use Rattle.std.proofs.Common.{◌≡◌, ◌≢◌, ℕ, ◌+◌, ◌<◌, ◌≤◌, ◌⊎◌, inl, inr, true, false, ◌==◌, List, [], ◌∷◌, length, take, get_or, slice_index, refl, sym, ap, ◌∙◌, subst, arith}
 use Rattle.std.proofs.Math.ListN.{set, length-set}
-use Rattle.std.proofs.lemmas.Bool.{cases_Bool, cases_eq, cases_lt, both_ways, eq-eqb, ne_eqb, false_from_ne_true}
-use Rattle.std.proofs.lemmas.List.{take_more, take_all, get_or-set_same, get_or-set_other, get_or-replicate, length-replicate, length-take-le}
-use Rattle.permutations.specs.Members.{is_member}
+use Rattle.std.proofs.lemmas.Bool.{cases_Bool, cases_eq, cases_lt, both_ways, false_from_ne_true}
+use Rattle.std.proofs.lemmas.List.{take_more, get_or-set_same, get_or-set_other, length-take-le}
 use Rattle.permutations.proofs.Places.{place-of}
-use Rattle.arrangements.specs.Arranged.{of_block, cross}
+use Rattle.arrangements.specs.Arranged.{of_block}
 use Rattle.arrangements.specs.Refused.{IsLeastCrossing}
-use Rattle.arrangements.specs.Gaps.{edges_before, gap, InGaps}
+use Rattle.arrangements.specs.Gaps.{edges_before, gap}
 use Rattle.arrangements.specs.Crossings.{count_rank, cross_ranks, no_gap, IsPassed, IsLeastCrossed}
 use Rattle.arrangements.proofs.Changes.{cross-edges, cross-differ}
 use Rattle.arrangements.proofs.Gaps.{count_of, count-append, count-own, count-other, gap-last, gap-inner, gaps-cross, cross-gaps}

@@ -1,5 +1,5 @@
 -- How two blocks that cross are found: in a list with the rank of the block of each edge, a pass for each block.
-use Rattle.std.specs.Prelude.{◌≡◌, ◌≢◌, ℕ, ◌+◌, ◌<◌, ◌≤◌, Bool, true, false, List, Option, MatchOption, length, slice_index}
+use Rattle.std.specs.Prelude.{◌≡◌, ◌≢◌, ℕ, ◌<◌, ◌≤◌, Bool, true, List, length, slice_index}
 use Rattle.permutations.specs.Members.{is_member}
 use Rattle.arrangements.specs.Arranged.{of_block, cross}
 use Rattle.arrangements.specs.Refused.{IsLeastCrossing}

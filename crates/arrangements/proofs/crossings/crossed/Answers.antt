@@ -1,4 +1,4 @@
-use Rattle.std.proofs.Common.{◌≡◌, ◌<◌, ◌≤◌, ℕ, length, subst, arith}
+use Rattle.std.proofs.Common.{◌≡◌, ℕ, length, subst, arith}
 use Rattle.arrangements.specs.Crossings.{IsPassed}
 use Rattle.arrangements.proofs.RankPasses.{passed-found, passed-none}
 use Rattle.arrangements.proofs.crossings.crossed.Goals as goal

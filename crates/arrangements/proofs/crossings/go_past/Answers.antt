@@ -1,5 +1,4 @@
-use Rattle.std.proofs.Common.{◌≡◌, ◌≢◌, ◌<◌, ◌≤◌, ◌⊎◌, ℕ, inl, inr, length, slice_index, refl, sym, ap, ◌∙◌, arith}
-use Rattle.arrangements.specs.Gaps.{gap}
+use Rattle.std.proofs.Common.{inl, inr, slice_index, refl, arith}
 use Rattle.arrangements.proofs.RankPasses.{before-bound, gap-here, passed-first, passed-again, passed-other}
 use Rattle.arrangements.proofs.crossings.go_past.Goals as goal
 use Rattle.arrangements.proofs.crossings.go_past.Goals.{then-pass-total, else-pass-total, then-first-gap-via-then-first-gap, then-first-gap-via-else-first-gap+then-other-pass}
