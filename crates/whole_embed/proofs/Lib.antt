@@ -1,0 +1,2 @@
+-- Lemmas on components, their blocks and their rotation systems.
+pub mod SubgraphBlocks
