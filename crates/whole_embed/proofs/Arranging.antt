@@ -1,5 +1,5 @@
 -- The arrangements at a vertex of a component: what the blocks around it have to do with them.
-use Rattle.std.proofs.Common.{◌≡◌, ◌≢◌, ℕ, ◌×◌, ◌<◌, inl, inr, Bool, true, false, ◌&&◌, ◌==◌, nat_lt, List, [], ◌∷◌, length, map, filter, get_or, slice_index, slice_index_or, refl, sym, ap, ◌∙◌, subst, arith, Contains, eq-eqb, eqb-true}
+use Rattle.std.proofs.Common.{◌≡◌, ◌≢◌, ℕ, ◌<◌, ◌≤◌, inl, inr, Bool, true, false, ◌&&◌, ◌==◌, nat_lt, List, [], ◌∷◌, length, map, filter, get_or, slice_index, slice_index_or, refl, sym, ap, ◌∙◌, subst, arith, Contains, eq-eqb, eqb-true}
 use Rattle.std.specs.List.Sorted.{IsPermutation}
 use Rattle.std.proofs.lemmas.Bool.{cases_Bool, cases_eq, both_ways, and_parts, and_from, cond-true, cond-false, false_from_ne_true}
 use Rattle.std.proofs.lemmas.List.{get_or_default}
@@ -24,14 +24,13 @@ use Rattle.blocks.proofs.BlockParts.{block-edges_in}
 use Rattle.block_planes.proofs.OnParts.{part-subgraph}
 use Rattle.arrangements.specs.Arranged.{of_block, keeps, cross, AreOrders, IsArrangement}
 use Rattle.arrangements.specs.Refused.{Alternate}
-use Rattle.arrangements.proofs.Lists.{same-equal}
 use Rattle.whole_embed.specs.Component.{Component, BlockInPlane, component_vertices, component_edges, component_blocks, component_cuts, block_of, component_of, AreInPlane}
 use Rattle.whole_embed.specs.Around.{outer_at, edges_around, block_with, block_order, arrangements_around}
 use Rattle.whole_embed.specs.Whole.{AreArranged, first_order, order_around}
 use Rattle.whole_embed.proofs.Components.{vertex-in, edge-in, edge-component, block-in, in-block, block-edge, block_of-has, block_of-is, block_of-in, block_with-is, edges-same, cut-in, in-cut}
 use Rattle.whole_embed.proofs.ComponentBlocks.{numbered, subgraph}
 use Rattle.whole_embed.proofs.Outer.{at-member, member-edges_at, edges_at-rise, rises-distinct, first-least, round-member, member-round, round-distinct, round-least, round-written}
-use Rattle.whole_embed.proofs.ArrangementLaws.{listed, alternate}
+use Rattle.whole_embed.proofs.ArrangementLaws.{same-equal, listed, alternate}
 
 -- increasing by index and by the test
 pub rising-from : (l : List ℕ) → Rises l → IsRising nat_lt l
@@ -70,7 +69,7 @@ module _ (g : Multigraph) (s : BlockStructure) (c : ℕ) (is : IsBlockStructure 
     pub sub-of : IsSubgraph (block b).part.graph g (slice_index (block b).part.edges) (slice_index (block b).part.vertices)
     sub-of = part-subgraph g ok (block_at s.blocks b) (block-edges_in g s.blocks b is.blocks (block-in g s c is b mb).0) (block b).part part-of
 
-    system-of : IsRotationSystem (block b).part.graph (block b).rotation
+    pub system-of : IsRotationSystem (block b).part.graph (block b).rotation
     system-of = (planes.planes b mb).system
 
     -- its edges around v are those that end there
@@ -121,12 +120,12 @@ module _ (g : Multigraph) (s : BlockStructure) (c : ℕ) (is : IsBlockStructure 
         let me : is_member e E ≡ true = (around-edge v e mv m).0 in
         let mb : is_member b k.blocks ≡ true = with-in e me in
         same-tests (is_member x (block_order block v b)) (is_member x (edges_around k v) && (block_with k x == b))
-            (λ t. let w = order-member b mb v x t in
-            let mx : is_member x E ≡ true = block-edge g s c is ok b x mb w.0 in
-            and_from (is_member x (edges_around k v)) (block_with k x == b) (edge-around v x mv (edge-in g s c is x mx).0 w.1) (of-block b mb x mx ∙ w.0))
-            (λ t. let p = and_parts (is_member x (edges_around k v)) (block_with k x == b) t in
-            let w = around-edge v x mv p.0 in
-            member-order b mb v x (sym (of-block b mb x w.0) ∙ p.1) w.1);
+        (λ t. let w = order-member b mb v x t in
+        let mx : is_member x E ≡ true = block-edge g s c is ok b x mb w.0 in
+        and_from (is_member x (edges_around k v)) (block_with k x == b) (edge-around v x mv (edge-in g s c is x mx).0 w.1) (of-block b mb x mx ∙ w.0))
+        (λ t. let p = and_parts (is_member x (edges_around k v)) (block_with k x == b) t in
+        let w = around-edge v x mv p.0 in
+        member-order b mb v x (sym (of-block b mb x w.0) ∙ p.1) w.1);
   }
 
   -- an order of all edges around v, from the least on, that keeps the cyclic order of each block, and in which no blocks cross
@@ -219,7 +218,7 @@ module _ (g : Multigraph) (s : BlockStructure) (c : ℕ) (is : IsBlockStructure 
         let at : block_with k w.0 ≡ a = eqb-true (block_with k w.0) a (of-block a ma w.0 w.3 ∙ w.1) in
         let q : b ≡ a = one-block v d w.0 mv n here (edge-around v w.0 mv (edge-in g s c is w.0 w.3).0 w.2) ∙ at in
         ap from_least (filter-all (λ z. is_member z (block a).part.edges) o (λ z m.
-            subst (λ (t : List ℕ). is_member z t ≡ true) (sym (part-of a ma).edges_are) (subst (λ (t : ℕ). is_member z (block_at s.blocks t) ≡ true) q (order-member b mb v z m).0)))
+        subst (λ (t : List ℕ). is_member z t ≡ true) (sym (part-of a ma).edges_are) (subst (λ (t : ℕ). is_member z (block_at s.blocks t) ≡ true) q (order-member b mb v z m).0)))
         ∙ (order-written b mb v ∙ ap (block_order block v) q);
     apart = λ w x y z f p q.
         let l = w ∷ x ∷ y ∷ z ∷ [] in

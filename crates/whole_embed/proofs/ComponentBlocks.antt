@@ -1,5 +1,5 @@
 -- The blocks of a component, as a graph of its own, are those of the graph.
-use Rattle.std.proofs.Common.{◌≡◌, ℕ, ◌×◌, ◌<◌, ◌↔◌, inl, inr, true, List, [], length, map, get_or, slice_index, refl, sym, ap, ◌∙◌, subst, arith, Contains}
+use Rattle.std.proofs.Common.{◌≡◌, ℕ, ◌<◌, ◌↔◌, inl, inr, true, List, [], length, map, get_or, slice_index, refl, sym, ap, ◌∙◌, subst, arith, Contains}
 use Rattle.std.proofs.lemmas.List.{get_or-map, length-map}
 use Rattle.std.proofs.lemmas.List.Elements.{Contains-get_or}
 use Rattle.permutations.specs.Members.{is_member, place_of}
@@ -10,7 +10,6 @@ use Rattle.multigraph.specs.Graph.{Multigraph, edge_count, ends_of, is_end, IsGr
 use Rattle.multigraph.specs.Part.{GraphPart, Rises, IsNumbered, IsPart, IsPartOn, IsEndOf, AreEnds, AreInnerEnds}
 use Rattle.multigraph.proofs.OtherEnd.{end-in}
 use Rattle.multigraph.proofs.Places.{rises-once}
-use Rattle.rotations.proofs.PartEdges as places
 use Rattle.graph_theory.specs.Block.{SameBlock}
 use Rattle.blocks.specs.Blocks.{BlockStructure, block_at, AreBlocks, IsBlockStructure}
 use Rattle.faces.specs.Subgraph.{IsSubgraph}
@@ -18,7 +17,7 @@ use Rattle.block_planes.proofs.OnParts.{part-subgraph}
 use Rattle.blocks.proofs.BlockParts.{block-edges_in}
 use Rattle.whole_embed.specs.Component.{Component, component_vertices, component_edges, component_blocks, block_of, component_of}
 use Rattle.whole_embed.proofs.SubgraphBlocks.{end-inner, end-outer, inner-same, outer-same}
-use Rattle.whole_embed.proofs.Outer.{rises-map, places-rise}
+use Rattle.whole_embed.proofs.Outer.{place-rising, rises-map, places-rise}
 use Rattle.whole_embed.proofs.Components.{vertices-rise, vertex-in, in-vertex, edges-rise, edge-in, in-edge, edge-within, vertex-within, blocks-rise, block-in, in-block, end-component, block-edge, block_of-has, block_of-in, edges-same, component-part}
 
 -- a part on some vertices is a subgraph
@@ -159,13 +158,12 @@ module _ (g : Multigraph) (s : BlockStructure) (c : ℕ) (is : IsBlockStructure 
           let b = block_of s.blocks x in
           let mb : is_member b k.blocks ≡ true = block_of-in g s c is ok x m in
           let i = place_of k.blocks b in
-          let li : i < length k.blocks = place-below k.blocks b mb in
-          (
+          let li : i < length k.blocks = place-below k.blocks b mb in (
             i,
             omega (arith, li, inner-length),
             subst (λ (o : List ℕ). is_member e o ≡ true) (sym (inner-at i li))
                 (subst (λ (z : ℕ). is_member e (inner_edges z) ≡ true) (sym (place-holds k.blocks b mb))
-                (subst (λ (z : ℕ). is_member z (inner_edges b) ≡ true) (places.place-at E e (edges-rise g s c is) le) (member-map (place_of E) (block_at s.blocks b) x w.1))),
+                (subst (λ (z : ℕ). is_member z (inner_edges b) ≡ true) (place-rising E e (edges-rise g s c is) le) (member-map (place_of E) (block_at s.blocks b) x w.1))),
           )
 
       same : (i j e f : ℕ) → i < length k.blocks → j < length k.blocks → is_member e (block_at inner_blocks i) ≡ true → is_member f (block_at inner_blocks j) ≡ true → (i ≡ j) ↔ SameBlock k.part.graph e f
@@ -173,8 +171,7 @@ module _ (g : Multigraph) (s : BlockStructure) (c : ℕ) (is : IsBlockStructure 
           let a = slice_index k.blocks i in
           let b = slice_index k.blocks j in
           let x = inner-edge a e (among i li) (subst (λ (o : List ℕ). is_member e o ≡ true) (inner-at i li) me) in
-          let y = inner-edge b f (among j lj) (subst (λ (o : List ℕ). is_member f o ≡ true) (inner-at j lj) mf) in
-          (
+          let y = inner-edge b f (among j lj) (subst (λ (o : List ℕ). is_member f o ≡ true) (inner-at j lj) mf) in (
             λ q. subst (λ (z : ℕ). SameBlock k.part.graph z f) x.3 (subst (SameBlock k.part.graph (place_of E x.0)) y.3
                 (same-inner x.0 y.0 x.2 y.2 ((is.blocks.same a b x.0 y.0 (number-in i li) (number-in j lj) x.1 y.1).0 (ap (slice_index k.blocks) q)))),
             λ q. rises-once k.blocks (blocks-rise g s c is) i j li lj
@@ -243,7 +240,7 @@ module _ (g : Multigraph) (s : BlockStructure) (c : ℕ) (is : IsBlockStructure 
         end-of i l p x lp e q lq f =
             get_or-map (place_of V) part.vertices p 0 0 lp
             ∙ (ap (place_of V) (e ∙ sym f)
-            ∙ places.place-at V q (vertices-rise g s c is) (omega (arith, lq, numbered.vertex_each)))
+            ∙ place-rising V q (vertices-rise g s c is) (omega (arith, lq, numbered.vertex_each)))
 
         to : (v : ℕ) → Contains (map (place_of V) part.vertices) v → IsEndOf k.part.graph (inner_edges b) v
         to v q =
@@ -274,4 +271,4 @@ module _ (g : Multigraph) (s : BlockStructure) (c : ℕ) (is : IsBlockStructure 
               ends_there = subst (λ (z : ℕ). is_end g (slice_index V v) z ≡ true) at there;
             })) in
             contains-from_member (map (place_of V) part.vertices) v
-                (subst (λ (z : ℕ). is_member z (map (place_of V) part.vertices) ≡ true) (places.place-at V v (vertices-rise g s c is) (omega (arith, lv, numbered.vertex_each))) (member-map (place_of V) part.vertices (slice_index V v) m))
+            (subst (λ (z : ℕ). is_member z (map (place_of V) part.vertices) ≡ true) (place-rising V v (vertices-rise g s c is) (omega (arith, lv, numbered.vertex_each))) (member-map (place_of V) part.vertices (slice_index V v) m))

@@ -1,5 +1,6 @@
 -- The vertices, the edges, the blocks and the cut vertices of a component; that it is a part of the graph.
-use Rattle.std.proofs.Common.{◌≡◌, ℕ, ◌×◌, ◌<◌, inl, inr, Bool, true, ◌==◌, List, [], ◌∷◌, length, map, filter, get_or, slice_index, refl, sym, ap, ◌∙◌, subst, arith, Contains, eq-eqb, eqb-true}
+use Rattle.std.proofs.Common.{◌≡◌, ℕ, ◌<◌, inl, inr, Bool, true, ◌==◌, List, [], ◌∷◌, length, map, filter, get_or, slice_index, refl, sym, ap, ◌∙◌, subst, arith, Contains, eq-eqb, eqb-true}
+use Rattle.std.proofs.lemmas.Bool.{both_ways}
 use Rattle.std.proofs.lemmas.List.{get_or-map, length-map, get_or_default}
 use Rattle.std.proofs.lemmas.List.Kept.{AllPairs-filter}
 use Rattle.permutations.specs.Count.{some, least}
@@ -27,7 +28,7 @@ use Rattle.whole_embed.specs.Around.{block_with}
 
 -- an edge of a walk is connected with the vertex from which the walk goes
 walked-connected : (g : Multigraph) (x : ℕ) (es : List ℕ) → IsWalk g x es → (h : ℕ) → is_member h es ≡ true → connected g.ends x (ends_of g h).0 ≡ true
-walked-connected g x [] w h m = absurd (omega (arith, m))
+walked-connected g x [] w h m = absurd (both_ways (is_member h []) refl m)
 walked-connected g x (e ∷ es) w h m = elim (member-cases h e es m) [
   | inl q ↦ subst (λ (z : ℕ). connected g.ends x (ends_of g z).0 ≡ true) (sym q) (elim (is_end-cases g x e w.0.1) [
     | inl f ↦ subst (λ (z : ℕ). connected g.ends x z ≡ true) (sym f) (connected-reflexive g.ends x)
@@ -214,7 +215,7 @@ module _ (g : Multigraph) (s : BlockStructure) (c : ℕ) (is : IsBlockStructure 
         let w = block_of-has e l.0 in
         let least = slice_index (block_at s.blocks (block_of s.blocks e)) 0 in
         in-block (block_of s.blocks e) w.0
-            (same-component least e (is.blocks.edges (block_of s.blocks e) least w.0 (least-edge (block_of s.blocks e) w.0)) l.0 (edges-same (block_of s.blocks e) least e w.0 (least-edge (block_of s.blocks e) w.0) w.1) ∙ l.1)
+        (same-component least e (is.blocks.edges (block_of s.blocks e) least w.0 (least-edge (block_of s.blocks e) w.0)) l.0 (edges-same (block_of s.blocks e) least e w.0 (least-edge (block_of s.blocks e) w.0) w.1) ∙ l.1)
 
     -- the table of blocks has it
     pub block_with-is : (e : ℕ) → is_member e (component_edges g s c) ≡ true → block_with (component_of g s c) e ≡ block_of s.blocks e

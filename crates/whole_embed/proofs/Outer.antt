@@ -1,22 +1,22 @@
 -- The edges around a vertex of a part, in the numbers of the graph.
-use Rattle.std.proofs.Common.{◌≡◌, ℕ, ◌×◌, ◌<◌, ◌≤◌, true, false, List, [], ◌∷◌, length, map, get_or, slice_index, slice_index_or, refl, sym, ap, ◌∙◌, subst, arith, inl, inr}
+use Rattle.std.proofs.Common.{◌≡◌, ℕ, suc, ◌==◌, eqb-true, ◌<◌, ◌≤◌, true, false, List, [], ◌∷◌, length, map, get_or, slice_index, slice_index_or, refl, sym, ap, ◌∙◌, subst, arith, inl, inr}
 use Rattle.std.specs.List.Sorted.{IsPermutation}
 use Rattle.std.proofs.lemmas.Bool.{both_ways, cases_eq, cases_lt, cases_Bool}
 use Rattle.std.proofs.lemmas.List.{get_or-map, length-map, get_or_past}
 use Rattle.std.proofs.lemmas.List.Sorted.{IsPermutation-map}
 use Rattle.permutations.specs.Members.{is_member, is_distinct, place_of}
 use Rattle.permutations.specs.Cyclic.{first_or, from_least}
+use Rattle.permutations.proofs.Members.{member-head}
 use Rattle.permutations.proofs.Mapped.{map-member, member-map}
 use Rattle.permutations.proofs.Arrangements.{permutation-member, permutation-distinct, member-at}
 use Rattle.permutations.proofs.NormalForm.{written-first}
-use Rattle.permutations.proofs.Places.{place-below, place-holds, told-distinct, first-at}
+use Rattle.permutations.proofs.Places.{place-below, place-holds, place-at, told-distinct, first-at}
 use Rattle.multigraph.specs.Graph.{Multigraph, edge_count, is_end, incident_edges}
 use Rattle.multigraph.specs.Part.{GraphPart, Rises, IsNumbered}
 use Rattle.multigraph.proofs.Places.{rises-once}
 use Rattle.multigraph.proofs.Incident.{incident-rises}
 use Rattle.rotations.specs.Rotation.{order_at, IsRotationSystem}
 use Rattle.rotations.proofs.Membership.{incident-member, member-edge, member-end, incident-least}
-use Rattle.rotations.proofs.PartEdges as places
 use Rattle.graph_theory.proofs.Rising.{rises-first}
 use Rattle.faces.specs.Subgraph.{IsSubgraph}
 use Rattle.faces.proofs.MapLists.{map-back, first-same}
@@ -33,6 +33,18 @@ rises-map f l r up i j lt w =
 -- increasing numbers are different
 pub rises-distinct : (l : List ℕ) → Rises l → is_distinct l ≡ true
 rises-distinct l r = told-distinct l (λ i j a b q. rises-once l r i j a b q)
+
+-- the place of what is at place i of increasing numbers
+pub place-rising : (l : List ℕ) (i : ℕ) → Rises l → i < length l → place_of l (slice_index l i) ≡ i
+place-rising l i r h = place-at l i (rises-distinct l r) h
+
+-- the place of what is no member is the length
+pub place-absent : (l : List ℕ) (x : ℕ) → is_member x l ≡ false → place_of l x ≡ length l
+place-absent [] x n = refl
+place-absent (y ∷ ys) x n = elim (cases_Bool (y == x)) [
+  | inl e ↦ absurd (both_ways (is_member x (y ∷ ys)) n (subst (λ (z : ℕ). is_member z (y ∷ ys) ≡ true) (eqb-true y x e) (member-head y ys)))
+  | inr d ↦ let m : is_member x ys ≡ false = rw d at n in rw d (ap suc (place-absent ys x m))
+]
 
 -- of two members of increasing numbers the smaller one has the smaller place
 pub places-rise : (l : List ℕ) (x y : ℕ) → Rises l → is_member x l ≡ true → is_member y l ≡ true → x < y → place_of l x < place_of l y
@@ -78,8 +90,7 @@ module _ (g : Multigraph) (part : GraphPart) (n : IsNumbered part) (sub : IsSubg
       let w = map-member (slice_index part.edges) (incident_edges part.graph (place_of part.vertices x)) y t in
       let l : w.0 < edge_count part.graph = member-edge part.graph v w.0 w.1 in
       let there : is_end g (slice_index part.vertices v) (slice_index part.edges w.0) ≡ true =
-      end-outer part.graph g (slice_index part.edges) (slice_index part.vertices) n.is_graph sub w.0 v l (member-end part.graph v w.0 w.1) in
-      (
+      end-outer part.graph g (slice_index part.edges) (slice_index part.vertices) n.is_graph sub w.0 v l (member-end part.graph v w.0 w.1) in (
         subst (λ (z : ℕ). is_member z part.edges ≡ true) w.2 (member-at part.edges w.0 0 (omega (arith, l, n.edge_each))),
         subst (λ (z : ℕ). is_end g z y ≡ true) (place-holds part.vertices x m) (subst (λ (z : ℕ). is_end g (slice_index part.vertices v) z ≡ true) w.2 there),
       )
@@ -92,8 +103,8 @@ module _ (g : Multigraph) (part : GraphPart) (n : IsNumbered part) (sub : IsSubg
       let there : is_end g (slice_index part.vertices v) (slice_index part.edges k) ≡ true =
       subst (λ (z : ℕ). is_end g z (slice_index part.edges k) ≡ true) (sym (place-holds part.vertices x mx)) (subst (λ (z : ℕ). is_end g x z ≡ true) (sym (place-holds part.edges y m)) i) in
       subst (λ (z : ℕ). is_member z (edges_at x) ≡ true) (place-holds part.edges y m)
-          (member-map (slice_index part.edges) (incident_edges part.graph v) k
-          (incident-member part.graph v k (edge-place y m) (end-inner part.graph g (slice_index part.edges) (slice_index part.vertices) n.is_graph sub k v (edge-place y m) (place-in x mx) there)))
+      (member-map (slice_index part.edges) (incident_edges part.graph v) k
+      (incident-member part.graph v k (edge-place y m) (end-inner part.graph g (slice_index part.edges) (slice_index part.vertices) n.is_graph sub k v (edge-place y m) (place-in x mx) there)))
 
   -- they increase
   pub edges_at-rise : (x : ℕ) → Rises (edges_at x)
@@ -109,7 +120,7 @@ module _ (g : Multigraph) (part : GraphPart) (n : IsNumbered part) (sub : IsSubg
     -- it has none around a vertex that is not of the part
     pub round-outside : (x : ℕ) → is_member x part.vertices ≡ false → outer_at part r x ≡ []
     round-outside x f =
-        let at : place_of part.vertices x ≡ length part.vertices = places.place-none part.vertices x (λ j l e. both_ways (is_member x part.vertices) f (subst (λ (z : ℕ). is_member z part.vertices ≡ true) e (member-at part.vertices j 0 l))) in
+        let at : place_of part.vertices x ≡ length part.vertices = place-absent part.vertices x f in
         ap (map (slice_index part.edges)) (get_or_past r (place_of part.vertices x) [] (omega (arith, at, n.vertex_each, s.vertices)))
 
     pub round-member : (x y : ℕ) → is_member y (outer_at part r x) ≡ true → (is_member y part.edges ≡ true) × (is_end g x y ≡ true)
@@ -153,7 +164,7 @@ module _ (g : Multigraph) (part : GraphPart) (n : IsNumbered part) (sub : IsSubg
     -- back in the numbers of the part it is the order there
     pub round-back : (x : ℕ) → is_member x part.vertices ≡ true → map (place_of part.edges) (outer_at part r x) ≡ order_at r (place_of part.vertices x)
     round-back x m = map-back (place_of part.edges) (slice_index part.edges) (order_at r (place_of part.vertices x)) (λ z t.
-        places.place-at part.edges z n.edges_rise (omega (
+        place-rising part.edges z n.edges_rise (omega (
           arith,
           member-edge part.graph (place_of part.vertices x) z (sym (permutation-member (incident_edges part.graph (place_of part.vertices x)) (order_at r (place_of part.vertices x)) z (s.orders (place_of part.vertices x) (place-in x m)).arranged) ∙ t),
           n.edge_each,

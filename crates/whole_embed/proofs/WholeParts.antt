@@ -1,6 +1,6 @@
 -- The rotation system of a component from those of its blocks and arrangements at its cut vertices: its parts in the blocks, its
 -- orders around the vertices, and that it is plane.
-use Rattle.std.proofs.Common.{◌≡◌, ◌≢◌, ℕ, ◌×◌, ◌<◌, inl, inr, Bool, true, false, ◌==◌, List, [], ◌∷◌, length, map, filter, get_or, slice_index, slice_index_or, refl, sym, ap, ◌∙◌, subst, arith, eq-eqb, eqb-true}
+use Rattle.std.proofs.Common.{◌≡◌, ◌≢◌, ℕ, ◌<◌, inl, inr, Bool, true, false, ◌==◌, List, [], ◌∷◌, length, map, filter, get_or, slice_index, slice_index_or, refl, sym, ap, ◌∙◌, subst, arith, eq-eqb, eqb-true}
 use Rattle.std.specs.List.Sorted.{IsPermutation}
 use Rattle.std.proofs.lemmas.Bool.{both_ways, cond-true}
 use Rattle.std.proofs.lemmas.List.{get_or-map, length-map, ext_get_or}
@@ -21,7 +21,6 @@ use Rattle.permutations.proofs.Places.{place-below, place-holds}
 use Rattle.multigraph.specs.Graph.{Multigraph, edge_count, incident_edges, IsGraph, IsWithinLimits}
 use Rattle.multigraph.specs.Part.{GraphPart, Rises, IsNumbered, IsPart}
 use Rattle.rotations.specs.Rotation.{order_at, IsCyclicOrder, IsRotationSystem}
-use Rattle.rotations.proofs.PartEdges as places
 use Rattle.rotations.proofs.Membership.{member-edge}
 use Rattle.graph_theory.specs.Block.{SameBlock}
 use Rattle.faces.specs.Euler.{IsPlane, IsPlaneSystem}
@@ -37,7 +36,7 @@ use Rattle.whole_embed.specs.Around.{outer_at, edges_around, block_with, block_o
 use Rattle.whole_embed.specs.Whole.{AreArranged, first_order, order_around, whole_system, block_part, IsWholeMember}
 use Rattle.whole_embed.proofs.Components.{vertices-rise, edges-rise, cut-in, cuts-rise, block-edge}
 use Rattle.whole_embed.proofs.ComponentBlocks.{numbered, subgraph, inner_edges, inner_blocks, inner-length, inner-at, among, component-blocks, inner_part, inner-part, part-edge, part-vertex, same-inner, same-outer}
-use Rattle.whole_embed.proofs.Outer.{rises-distinct, place-in, round-back, round-written, round-distinct}
+use Rattle.whole_embed.proofs.Outer.{place-rising, rises-distinct, place-in, round-back, round-written, round-distinct}
 use Rattle.whole_embed.proofs.Arranging.{IsRight, order-right, right-edge, part-of, sub-of, system-of, around-rise}
 
 -- the first of the images, of two lists of the same members that begin with the same one
@@ -83,7 +82,7 @@ module _ (g : Multigraph) (s : BlockStructure) (c : ℕ) (is : IsBlockStructure 
   round-edge v mv e m = (right-edge g s c is ok limits block planes v (round v) mv (right v mv).all e m).0
 
   vertex-place : (i : ℕ) → i < length V → place_of V (slice_index V i) ≡ i
-  vertex-place i l = places.place-at V i (vertices-rise g s c is) l
+  vertex-place i l = place-rising V i (vertices-rise g s c is) l
 
   whole-at : (i : ℕ) → i < length V → order_at q i ≡ map (place_of E) (round (slice_index V i))
   whole-at i l = get_or-map (λ v. map (place_of E) (round v)) V i 0 [] l
@@ -104,7 +103,7 @@ module _ (g : Multigraph) (s : BlockStructure) (c : ℕ) (is : IsBlockStructure 
           let r = right v (member-at V i 0 l) in
           let back : map (place_of E) (edges_around k v) ≡ incident_edges k.part.graph i =
           ap (λ z. map (place_of E) (map (slice_index E) (incident_edges k.part.graph z))) (vertex-place i l)
-          ∙ map-back (place_of E) (slice_index E) (incident_edges k.part.graph i) (λ z t. places.place-at E z (edges-rise g s c is) (omega (arith, member-edge k.part.graph i z t, (numbered g s c is ok limits).edge_each))) in
+          ∙ map-back (place_of E) (slice_index E) (incident_edges k.part.graph i) (λ z t. place-rising E z (edges-rise g s c is) (omega (arith, member-edge k.part.graph i z t, (numbered g s c is ok limits).edge_each))) in
           subst (IsCyclicOrder (incident_edges k.part.graph i)) (sym (whole-at i l)) (subst (λ z. IsCyclicOrder z (map (place_of E) (round v))) back (record {
             arranged = IsPermutation-map (place_of E) (edges_around k v) (round v) r.all;
             least_first = first-image (place_of E) (edges_around k v) (round v) r.all r.first;
@@ -131,7 +130,7 @@ module _ (g : Multigraph) (s : BlockStructure) (c : ℕ) (is : IsBlockStructure 
     vertex-of i l = member-at P.vertices i 0 (omega (arith, l, part-is.numbered.vertex_each))
 
     own-place : (i : ℕ) → i < P.graph.vertex_count → place_of P.vertices (slice_index P.vertices i) ≡ i
-    own-place i l = places.place-at P.vertices i part-is.numbered.vertices_rise (omega (arith, l, part-is.numbered.vertex_each))
+    own-place i l = place-rising P.vertices i part-is.numbered.vertices_rise (omega (arith, l, part-is.numbered.vertex_each))
 
     -- around a vertex of the block it has the block's edges in their order
     pub kept-order : (v : ℕ) → is_member v P.vertices ≡ true → from_least (filter (λ e. is_member e P.edges) (round v)) ≡ outer_at P ρ v
@@ -171,7 +170,7 @@ module _ (g : Multigraph) (s : BlockStructure) (c : ℕ) (is : IsBlockStructure 
         subst (λ z. is_member z P.edges ≡ true) one mw)
         (λ t. let l : place_of P.edges e < length P.edges = place-below P.edges e t in
         some-from (edge_count P.graph) (λ i. slice_index I.edges i == place_of E e) (place_of P.edges e) (omega (arith, l, part-is.numbered.edge_each))
-            (eq-eqb (slice_index I.edges (place_of P.edges e)) (place_of E e) (get_or-map (place_of E) P.edges (place_of P.edges e) 0 0 l ∙ ap (place_of E) (place-holds P.edges e t))))
+        (eq-eqb (slice_index I.edges (place_of P.edges e)) (place_of E e) (get_or-map (place_of E) P.edges (place_of P.edges e) 0 0 l ∙ ap (place_of E) (place-holds P.edges e t))))
 
     -- what it leaves of itself on the part is the rotation system of the block
     module _ (inner : List (List ℕ)) (system : IsRotationSystem P.graph inner) (left : IsRestriction P.graph (slice_index I.edges) (slice_index I.vertices) q inner) where
@@ -278,7 +277,7 @@ module _ (g : Multigraph) (s : BlockStructure) (c : ℕ) (is : IsBlockStructure 
       me = of-four e (member-tail e a (b ∷ d ∷ e ∷ []) (member-tail e b (d ∷ e ∷ []) (member-tail e d (e ∷ []) (member-head e []))))
 
       back : (z : ℕ) → z < length E → place_of E (slice_index E z) ≡ z
-      back z t = places.place-at E z (edges-rise g s c is) t
+      back z t = place-rising E z (edges-rise g s c is) t
 
       outer : (z : ℕ) → z < length E → is_member (slice_index E z) E ≡ true
       outer z t = member-at E z 0 t
@@ -317,7 +316,7 @@ module _ (g : Multigraph) (s : BlockStructure) (c : ℕ) (is : IsBlockStructure 
       let m : is_member v k.cuts ≡ true = member-at k.cuts i 0 l in
       outer-whole v (cut-in g s c is v m)
       ∙ (cond-true (is_member v k.cuts) (slice_index_or lists (place_of k.cuts v) []) (first_order k block v (edges_around k v)) m
-      ∙ ap (λ z. slice_index_or lists z []) (places.place-at k.cuts i (cuts-rise g s c is) l))
+      ∙ ap (λ z. slice_index_or lists z []) (place-rising k.cuts i (cuts-rise g s c is) l))
 
   -- it is a member of the list of all
   pub whole-member : IsWholeMember k block q

@@ -3,4 +3,5 @@ pub mod Component
 pub mod Around
 pub mod Whole
 pub mod Cuts
+pub mod Frames
 pub mod Laws
