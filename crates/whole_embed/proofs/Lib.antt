@@ -3,6 +3,9 @@ pub mod SubgraphBlocks
 pub mod Components
 pub mod Outer
 pub mod ComponentBlocks
-pub mod ArrangementLaws
 pub mod Arranging
 pub mod WholeParts
+pub mod Assembling
+pub mod Searching
+pub mod BlockTables
+pub mod Orderings

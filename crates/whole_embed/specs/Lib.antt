@@ -4,4 +4,5 @@ pub mod Around
 pub mod Whole
 pub mod Cuts
 pub mod Frames
+pub mod Keeping
 pub mod Laws

@@ -1,8 +1,13 @@
 // Components of a graph in the plane: rotation systems over all their blocks.
 #![tactic(auto)]
 
+mod component;
 mod faults;
+pub mod laws;
 mod members;
+mod ordering;
+mod wholes;
 
+pub use component::Frame;
 pub use faults::RegroupFault;
 pub use members::Member;
