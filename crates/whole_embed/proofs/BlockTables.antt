@@ -1,5 +1,5 @@
 -- The table of the blocks of all edges, noted block by block.
-use Rattle.std.proofs.Common.{◌≡◌, ◌≢◌, ℕ, ◌+◌, ◌<◌, inl, inr, Bool, true, false, ◌||◌, ◌==◌, cond, List, [], ◌∷◌, ◌++◌, length, map, take, get_or, set, slice_index, refl, sym, ap, ◌∙◌, subst, arith, eq-eqb, eqb-true}
+use Rattle.std.proofs.Common.{◌≡◌, ◌≢◌, ℕ, suc, ◌+◌, ◌<◌, inl, inr, Bool, true, false, ◌||◌, ◌==◌, cond, List, [], ◌∷◌, ◌++◌, length, map, take, get_or, set, slice_index, refl, sym, ap, ◌∙◌, subst, arith, eq-eqb, eqb-true}
 use Rattle.std.proofs.lemmas.Bool.{cases_Bool, cases_eq, cases_lt, both_ways, ne_eqb, cond-true, cond-false, false_from_ne_true}
 use Rattle.std.proofs.lemmas.List.{take_more, get_or-set_same, get_or-set_other, take_all}
 use Rattle.permutations.specs.Members.{is_member}
@@ -18,10 +18,10 @@ noted-none b old e l = refl
 pub noted-more : (edges : List ℕ) (b i : ℕ) (old mid new : List ℕ) → i < length edges → slice_index edges i < length mid → AreNoted (take i edges) b old mid → length mid ≡ length old → new ≡ set mid (slice_index edges i) b → AreNoted (take (i + 1) edges) b old new
 noted-more edges b i old mid new h w n same is e l = subst (λ (z : List ℕ). slice_index z e ≡ cond (is_member e (take (i + 1) edges)) b (slice_index old e)) (sym is)
     (subst (λ (z : List ℕ). slice_index (set mid x b) e ≡ cond (is_member e z) b (slice_index old e)) (sym (take_more edges i 0 h)) (elim (cases_eq e x) [
-  | inl q ↦ subst (λ (z : ℕ). slice_index (set mid x b) z ≡ cond (is_member z (take i edges ++ x ∷ [])) b (slice_index old z)) (sym q)
-      (get_or-set_same mid x b 0 w ∙ sym (cond-true (is_member x (take i edges ++ x ∷ [])) b (slice_index old x) (member-append_right x (take i edges) (x ∷ []) (member-head x []))))
-  | inr d ↦ get_or-set_other mid x e b 0 d ∙ (n e l ∙ ap (λ (z : Bool). cond z b (slice_index old e)) (sym (outside d)))
-]))
+      | inl q ↦ subst (λ (z : ℕ). slice_index (set mid x b) z ≡ cond (is_member z (take i edges ++ x ∷ [])) b (slice_index old z)) (sym q)
+          (get_or-set_same mid x b 0 w ∙ sym (cond-true (is_member x (take i edges ++ x ∷ [])) b (slice_index old x) (member-append_right x (take i edges) (x ∷ []) (member-head x []))))
+      | inr d ↦ get_or-set_other mid x e b 0 d ∙ (n e l ∙ ap (λ (z : Bool). cond z b (slice_index old e)) (sym (outside d)))
+    ]))
   where
     x : ℕ
     x = slice_index edges i
@@ -59,4 +59,4 @@ module _ (g : Multigraph) (s : BlockStructure) (is : IsBlockStructure g s) (ok :
   picked table [] h w = refl
   picked table (e ∷ edges) h w =
       let first : slice_index table e ≡ block_of s.blocks e = h.is e (w 0 (omega arith)) (block_of-has g s 0 is ok e (w 0 (omega arith))).0 in
-      (λ i. first i ∷ picked table edges h (λ j l. w (j + 1) (omega (arith, l))) i)
+      (λ i. first i ∷ picked table edges h (λ j l. w (suc j) (omega (arith, l))) i)

@@ -29,7 +29,7 @@ pub ordering-sorted : (at edges sorted : List ℕ) → Rises at → IsPermutatio
 ordering-sorted at edges sorted r p s q =
     let a : IsPermutation at sorted = IsPermutation-trans at edges sorted q p in
     members-same sorted at (sorted-rises sorted (permutation-distinct at sorted a (rises-distinct at r)) s) r
-        (λ x m. sym (permutation-member at sorted x a) ∙ m) (λ x m. permutation-member at sorted x a ∙ m)
+    (λ x m. sym (permutation-member at sorted x a) ∙ m) (λ x m. permutation-member at sorted x a ∙ m)
 
 -- turned to the first of the numbers it is written from its least on
 pub turned-least : (first : ℕ) (at edges : List ℕ) → Rises (first ∷ at) → IsPermutation (first ∷ at) edges → turned edges first ≡ from_least edges

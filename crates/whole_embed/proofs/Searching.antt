@@ -9,7 +9,9 @@ use Rattle.permutations.specs.Members.{is_member, is_distinct, place_of}
 use Rattle.permutations.proofs.Filter.{filter-yes, filter-no}
 use Rattle.permutations.proofs.Arrangements.{member-at}
 use Rattle.permutations.proofs.Places.{place-below, place-holds}
+use Rattle.multigraph.specs.Graph.{numbers_below}
 use Rattle.multigraph.specs.Part.{Rises, IsPlace}
+use Rattle.multigraph.proofs.Below.{filter_below-yes, filter_below-no}
 use Rattle.multigraph.proofs.Places.{rises-once, place-missed}
 
 -- along an increasing list no number falls
@@ -49,3 +51,14 @@ filter-more p l i h = ap (filter p) (take_more l i 0 h) ∙ last (take i l) (sli
         out : (b : Bool) (y : ℕ) (u v : List ℕ) → y ∷ cond b u v ≡ cond b (y ∷ u) (y ∷ v)
         out true y u v = refl
         out false y u v = refl
+
+-- one number more that passes or fails a test, by what a push gave
+pub noted-number : (p : ℕ → Bool) (n : ℕ) (old new : List ℕ) (wanted : Bool) → old ≡ filter p (numbers_below n) → wanted ≡ p n → new ≡ cond wanted (old ++ n ∷ []) old → new ≡ filter p (numbers_below (n + 1))
+noted-number p n old new wanted e w h = h ∙ (ap (λ (z : List ℕ). cond wanted (z ++ n ∷ []) z) e ∙ (ap (λ (b : Bool). cond b (filter p (numbers_below n) ++ n ∷ []) (filter p (numbers_below n))) w ∙ (elim (cases_Bool (p n)) [
+  | inl t ↦ cond-true (p n) (filter p (numbers_below n) ++ n ∷ []) (filter p (numbers_below n)) t ∙ sym (filter_below-yes p n t)
+  | inr f ↦ cond-false (p n) (filter p (numbers_below n) ++ n ∷ []) (filter p (numbers_below n)) f ∙ sym (filter_below-no p n f)
+])))
+
+-- the same of the members of a list
+pub noted-member : (p : ℕ → Bool) (l : List ℕ) (i : ℕ) (old new : List ℕ) (wanted : Bool) → i < length l → old ≡ filter p (take i l) → wanted ≡ p (slice_index l i) → new ≡ cond wanted (old ++ slice_index l i ∷ []) old → new ≡ filter p (take (i + 1) l)
+noted-member p l i old new wanted k e w h = h ∙ (ap (λ (z : List ℕ). cond wanted (z ++ slice_index l i ∷ []) z) e ∙ (ap (λ (b : Bool). cond b (filter p (take i l) ++ slice_index l i ∷ []) (filter p (take i l))) w ∙ sym (filter-more p l i k)))

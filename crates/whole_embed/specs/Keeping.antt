@@ -32,6 +32,6 @@ pub record HasVertex (member : Member) (v : ℕ) : Type 0 where
   pub vertex : is_member v member.part.vertices ≡ true
 
 -- and the edge is one of its edges at v
-pub record HasAround (member : Member) (v edge : ℕ) : Type 0 where
+pub record HasAround (member : Member) (v e : ℕ) : Type 0 where
   pub block : HasVertex member v
-  pub edge : is_member edge (outer_at member.part block.state.rotation v) ≡ true
+  pub edge : is_member e (outer_at member.part block.state.rotation v) ≡ true

@@ -1,6 +1,6 @@
 // A component as a graph of its own, with its blocks and its cut vertices.
 
-ghost use Rattle.std.specs.Prelude.{◌≡◌, ℕ, ◌∷◌, ◌++◌, ◌<◌, ◌==◌, [], length, map, filter, slice_index, if◌then◌else◌, IfOk, MatchOption};
+ghost use Rattle.std.specs.Prelude.{◌≡◌, ℕ, ◌∷◌, ◌++◌, ◌<◌, ◌==◌, [], length, map, filter, slice_index, if◌then◌else◌, true, false, IfOk, MatchOption};
 ghost use Rattle.permutations.specs.Members.{is_member, place_of};
 ghost use Rattle.multigraph.specs.Graph.{edge_count, IsGraph};
 ghost use Rattle.multigraph.specs.Part.{IsNumbered};
@@ -145,12 +145,7 @@ fn is_edge_of(graph: &Graph, blocks: &Blocks, c: u32, edge: u32) -> bool
 }
 
 // The edges of component c, increasing.
-fn edges_of(
-    alloc: Global,
-    graph: &Graph,
-    blocks: &Blocks,
-    c: u32,
-) -> Result<Vec<u32>, AllocError>
+fn edges_of(alloc: Global, graph: &Graph, blocks: &Blocks, c: u32) -> Result<Vec<u32>, AllocError>
     requires { IsBlockStructure graph.now blocks.now }
     ensures { IfOk result (λ list. list.items ≡ component_edges graph.now blocks.now c) }
 {
@@ -173,12 +168,7 @@ fn is_block_of(graph: &Graph, blocks: &Blocks, c: u32, b: u32) -> bool
 }
 
 // The blocks of component c, increasing.
-fn blocks_of(
-    alloc: Global,
-    graph: &Graph,
-    blocks: &Blocks,
-    c: u32,
-) -> Result<Vec<u32>, AllocError>
+fn blocks_of(alloc: Global, graph: &Graph, blocks: &Blocks, c: u32) -> Result<Vec<u32>, AllocError>
     requires { IsBlockStructure graph.now blocks.now }
     ensures { IfOk result (λ list. list.items ≡ component_blocks graph.now blocks.now c) }
 {

@@ -36,12 +36,7 @@ fn order_in(alloc: Global, member: &Member, v: u32) -> Result<Vec<u32>, AllocErr
 }
 
 // The cyclic order around vertex i of the part in the block of its first edge; none where it has no edge.
-fn own_order(
-    alloc: Global,
-    frame: &Frame,
-    all: &[Member],
-    i: u32,
-) -> Result<Vec<u32>, AllocError>
+fn own_order(alloc: Global, frame: &Frame, all: &[Member], i: u32) -> Result<Vec<u32>, AllocError>
     requires vertex { i < frame.now.part.graph.vertex_count }
     requires component { IsComponentInPlane frame.now (blocks_in all.now) }
     requires planes { HavePlanes frame.now all.now }
