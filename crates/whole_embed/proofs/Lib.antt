@@ -1,4 +1,6 @@
--- Lemmas on components in the plane.
+-- Lemmas on components, their blocks and their rotation systems.
+pub mod SubgraphBlocks
 pub mod Followers
 pub mod Odometer
 pub mod BlockSteps
+pub mod Moved

@@ -1,0 +1,2 @@
+// Arrangements of the edges around a vertex: theory without code that runs.
+#![tactic(auto)]

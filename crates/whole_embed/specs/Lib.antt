@@ -1,0 +1,6 @@
+-- Components of a graph, rotation systems over their blocks, arrangements at their cut vertices, and the laws.
+pub mod Component
+pub mod Around
+pub mod Whole
+pub mod Cuts
+pub mod Laws
