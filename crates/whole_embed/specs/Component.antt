@@ -1,5 +1,6 @@
 -- The components of a graph as graphs of their own, and their blocks in the plane.
 use Rattle.std.specs.Prelude.{◌≡◌, ℕ, ◌<◌, Bool, true, ◌==◌, List, [], length, map, filter, slice_index}
+use Rattle.permutations.specs.Count.{least}
 use Rattle.permutations.specs.Members.{is_member, place_of}
 use Rattle.multigraph.specs.Graph.{Multigraph, edge_count, ends_of, numbers_below, IsGraph, IsWithinLimits}
 use Rattle.multigraph.specs.Part.{GraphPart, IsPart}
@@ -8,11 +9,13 @@ use Rattle.pair_split.specs.Tutte.{Node}
 use Rattle.faces.specs.Euler.{IsPlaneSystem}
 use Rattle.skeletons.specs.Items.{IsBlockTree}
 
--- a component as a graph of its own, and in the numbers of the graph its blocks and its cut vertices, increasing
+-- a component as a graph of its own; in the numbers of the graph its blocks and its cut vertices, increasing, and the block of
+-- each edge of the part
 pub record Component : Type 0 where
   pub part : GraphPart
   pub blocks : List ℕ
   pub cuts : List ℕ
+  pub edge_blocks : List ℕ
 
 -- the part of g that these vertices and edges make: each edge has the ends that it has in g, the first as the first
 abbrev pub part_made : Multigraph → List ℕ → List ℕ → GraphPart
@@ -42,9 +45,18 @@ component_blocks g s c = filter (λ b. has_edge g s c (slice_index (block_at s.b
 abbrev pub component_cuts : BlockStructure → ℕ → List ℕ
 component_cuts s c = filter (λ v. slice_index s.components v == c) s.cut_vertices
 
--- component c of a graph with its blocks and cut vertices
+-- the block that has edge e
+abbrev pub block_of : List (List ℕ) → ℕ → ℕ
+block_of blocks e = least (length blocks) (λ b. is_member e (block_at blocks b))
+
+-- component c of a graph with its blocks and its cut vertices
 abbrev pub component_of : Multigraph → BlockStructure → ℕ → Component
-component_of g s c = record { part = part_made g (component_vertices s c) (component_edges g s c); blocks = component_blocks g s c; cuts = component_cuts s c }
+component_of g s c = record {
+  part = part_made g (component_vertices s c) (component_edges g s c);
+  blocks = component_blocks g s c;
+  cuts = component_cuts s c;
+  edge_blocks = map (block_of s.blocks) (component_edges g s c);
+}
 
 -- a block as a part of the graph, with its tree, a rotation system, and of each node of the tree whether it is locked
 pub record BlockInPlane : Type 0 where

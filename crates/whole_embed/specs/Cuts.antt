@@ -47,8 +47,8 @@ set_around cuts v l = record cuts { lists = slice_set cuts.lists (place_of cuts.
 -- for any list
 abbrev pub IsRegroupRefusal : Component → (ℕ → BlockInPlane) → ℕ → List ℕ → RegroupFault → Type 0
 IsRegroupRefusal k block v l (BadRotation w) = (w ≡ v) × ¬ IsPermutation (edges_around k v) l
-IsRegroupRefusal k block v l (BlockOrder b) = IsPermutation (edges_around k v) l × IsLeastChanged (block_with k block) (block_order block v) (from_least l) b
+IsRegroupRefusal k block v l (BlockOrder b) = IsPermutation (edges_around k v) l × IsLeastChanged (block_with k) (block_order block v) (from_least l) b
 IsRegroupRefusal k block v l (Cross b c) = IsPermutation (edges_around k v) l
-    × ((e : ℕ) → is_member e l ≡ true → keeps (block_with k block) (block_order block v) (block_with k block e) (from_least l) ≡ true)
-    × IsLeastCrossing (block_with k block) (from_least l) b c
+    × ((e : ℕ) → is_member e l ≡ true → keeps (block_with k) (block_order block v) (block_with k e) (from_least l) ≡ true)
+    × IsLeastCrossing (block_with k) (from_least l) b c
 IsRegroupRefusal k block v l Memory = Unit {0}

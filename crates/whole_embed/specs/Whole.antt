@@ -9,21 +9,21 @@ use Rattle.skeletons.specs.Choices.{Precedes}
 use Rattle.skeletons.specs.Lists.{IsKept}
 use Rattle.skel_embed.specs.Block.{lock_at}
 use Rattle.whole_embed.specs.Component.{Component, BlockInPlane}
-use Rattle.whole_embed.specs.Around.{outer_at, blocks_around, block_order, arrangements_around}
+use Rattle.whole_embed.specs.Around.{outer_at, edges_around, block_with, block_order, arrangements_around}
 
 -- the lists are arrangements at the cut vertices, one for each in order
 pub record AreArranged (k : Component) (block : ℕ → BlockInPlane) (lists : List (List ℕ)) : Type 0 where
   pub one_each : length lists ≡ length k.cuts
   pub each : (i : ℕ) → i < length k.cuts → Contains (arrangements_around k block (slice_index k.cuts i)) (slice_index_or lists i [])
 
--- the cyclic order of the first of some blocks around v, and none where there is no block
-abbrev pub first_order : (ℕ → BlockInPlane) → ℕ → List ℕ → List ℕ
-first_order block v [] = []
-first_order block v (b ∷ bs) = block_order block v b
+-- the cyclic order around v of the block of the first of these edges, and none where there is no edge
+abbrev pub first_order : Component → (ℕ → BlockInPlane) → ℕ → List ℕ → List ℕ
+first_order k block v [] = []
+first_order k block v (e ∷ es) = block_order block v (block_with k e)
 
 -- the cyclic order around v, from the least edge on: at a cut vertex its arrangement, elsewhere that of its one block
 abbrev pub order_around : Component → (ℕ → BlockInPlane) → List (List ℕ) → ℕ → List ℕ
-order_around k block lists v = (if is_member v k.cuts then slice_index_or lists (place_of k.cuts v) [] else first_order block v (blocks_around k block v))
+order_around k block lists v = (if is_member v k.cuts then slice_index_or lists (place_of k.cuts v) [] else first_order k block v (edges_around k v))
 
 -- the vertices of the component, each with the cyclic order around it
 abbrev pub whole_lists : Component → (ℕ → BlockInPlane) → List (List ℕ) → List (ℕ × List ℕ)
