@@ -4,3 +4,8 @@ pub mod Followers
 pub mod Odometer
 pub mod BlockSteps
 pub mod Moved
+pub mod Advance
+pub mod Mapping
+pub mod Assembled
+pub mod Rounds
+pub mod Told

@@ -4,3 +4,4 @@ pub mod Around
 pub mod Whole
 pub mod Cuts
 pub mod Laws
+pub mod Advanced
