@@ -2,7 +2,7 @@
 use Rattle.std.proofs.Common.{◌≡◌, ℕ, ◌<◌, true, false, List, length, slice_index}
 use Rattle.permutations.specs.Members.{is_member}
 use Rattle.multigraph.specs.Graph.{edge_count}
-use Rattle.multigraph.specs.Part.{IsNumbered}
+use Rattle.multigraph.specs.Part.{IsNumbered, Rises}
 use Rattle.graph_theory.specs.Block.{SameBlock}
 use Rattle.arrangements.specs.Arranged.{AreOrders}
 use Rattle.whole_embed.specs.Component.{Component, BlockInPlane}
@@ -18,5 +18,7 @@ pub record IsAssembled (k : Component) (block : ℕ → BlockInPlane) : Type 0 w
   pub one_block : (v e f : ℕ) → is_member v k.part.vertices ≡ true → is_member v k.cuts ≡ false → is_member e (edges_around k v) ≡ true → is_member f (edges_around k v) ≡ true → block_with k e ≡ block_with k f
   pub same : (i j : ℕ) → i < edge_count k.part.graph → j < edge_count k.part.graph → block_with k (slice_index k.part.edges i) ≡ block_with k (slice_index k.part.edges j) → SameBlock k.part.graph i j
   pub same_back : (i j : ℕ) → i < edge_count k.part.graph → j < edge_count k.part.graph → SameBlock k.part.graph i j → block_with k (slice_index k.part.edges i) ≡ block_with k (slice_index k.part.edges j)
+  pub blocks_rise : Rises k.blocks
+  pub cuts_rise : Rises k.cuts
   pub cuts_in : (v : ℕ) → is_member v k.cuts ≡ true → is_member v k.part.vertices ≡ true
   pub orders : (v : ℕ) → is_member v k.part.vertices ≡ true → AreOrders (block_with k) (block_order block v) (edges_around k v)

@@ -8,4 +8,7 @@ pub mod Advance
 pub mod Mapping
 pub mod Assembled
 pub mod Rounds
+pub mod ListSteps
 pub mod Told
+pub mod LedBlocks
+pub mod Steps

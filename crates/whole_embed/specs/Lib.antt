@@ -5,3 +5,4 @@ pub mod Whole
 pub mod Cuts
 pub mod Laws
 pub mod Advanced
+pub mod Walk
