@@ -11,4 +11,5 @@ pub mod Rounds
 pub mod ListSteps
 pub mod Told
 pub mod LedBlocks
+pub mod AdvancedBlocks
 pub mod Steps

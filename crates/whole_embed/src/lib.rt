@@ -1,6 +1,7 @@
 // Components of a graph in the plane: rotation systems over all their blocks.
 #![tactic(auto)]
 
+mod advancing;
 mod faults;
 mod members;
 
