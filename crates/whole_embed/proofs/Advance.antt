@@ -1,7 +1,7 @@
 -- One block more at its first member, and one block advanced.
-use Rattle.std.proofs.Common.{◌≡◌, ◌≢◌, ℕ, ◌+◌, ◌<◌, ◌≤◌, inl, inr, List, length, slice_index, slice_set, refl, sym, ap, ◌∙◌, subst, arith}
+use Rattle.std.proofs.Common.{◌≡◌, ◌≢◌, ℕ, ◌+◌, ◌<◌, ◌≤◌, inl, inr, List, length, slice_index, slice_index_or, slice_set, refl, sym, ap, ◌∙◌, subst, arith}
 use Rattle.std.proofs.lemmas.Bool.{cases_eq}
-use Rattle.std.proofs.lemmas.List.{length-set, get_or-set_same, get_or-set_other}
+use Rattle.std.proofs.lemmas.List.{length-set, get_or-set_same, get_or-set_other, get_or_default}
 use Rattle.multigraph.specs.Part.{Rises}
 use Rattle.multigraph.proofs.Places.{rises-once}
 use Rattle.embed_enum.specs.Walk.{IsNextOf}
@@ -15,6 +15,10 @@ set-here all b m l = get_or-set_same all b m _ l
 
 pub set-there : (all : List Member) (b c : ℕ) (m : Member) → c ≢ b → member_at (slice_set all b m) c ≡ member_at all c
 set-there all b c m n = get_or-set_other all b c m _ n
+
+-- the member that is read at a place
+pub read-member : (all : List Member) (b : ℕ) (m : Member) → b < length all → slice_index_or all b m ≡ member_at all b
+read-member all b m l = get_or_default all b m _ l
 
 -- no block yet
 pub first-begins : (blocks : List ℕ) (all : List Member) (from : ℕ) → AreFirstBetween blocks all all from from

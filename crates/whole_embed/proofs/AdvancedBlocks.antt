@@ -19,7 +19,7 @@ use Rattle.whole_embed.specs.Walk.{KeepsBlocks}
 use Rattle.whole_embed.proofs.Moved.{IsMovedBlock, AreMoved, unmoved}
 use Rattle.whole_embed.proofs.LedBlocks.{IsNextBlock, IsFirstBlock, IsLastBlock, FitsPart, led-next, led-first, last-block}
 
-some-of : BlockState → Option BlockState → BlockState
+abbrev some-of : BlockState → Option BlockState → BlockState
 some-of d (Some p) = p
 some-of d None = d
 

@@ -1,6 +1,6 @@
 -- Lists of numbers under other numbers.
-use Rattle.std.proofs.Common.{◌≡◌, ℕ, ◌<◌, ◌≤◌, inl, inr, Bool, true, false, List, [], ◌∷◌, length, map, filter, IsPermutation, refl, sym, ap, ap₂, ◌∙◌, subst, arith}
-use Rattle.std.proofs.lemmas.Bool.{cases_Bool, both_ways, true≢false, both_true}
+use Rattle.std.proofs.Common.{◌≡◌, ℕ, suc, ◌<◌, ◌≤◌, inl, inr, Bool, true, false, List, [], ◌∷◌, length, map, filter, IsPermutation, refl, sym, ap, ap₂, ◌∙◌, subst, arith}
+use Rattle.std.proofs.lemmas.Bool.{cases_Bool, both_ways, true≢false}
 use Rattle.permutations.specs.Members.{is_member, is_distinct}
 use Rattle.permutations.specs.Cyclic.{first_or, IsTurn, FollowsAround}
 use Rattle.permutations.proofs.Members.{member-head, member-tail, member-cases}
@@ -10,11 +10,11 @@ use Rattle.permutations.proofs.Turned.{IsTurn-map}
 use Rattle.permutations.proofs.Filter.{filter-yes, filter-no, filter-ext, filter-member, member-filter_parts}
 use Rattle.permutations.proofs.CyclicOrder.{around-member}
 
-head-of : List ℕ → ℕ
+abbrev head-of : List ℕ → ℕ
 head-of [] = 0
 head-of (x ∷ l) = x
 
-tail-of : List ℕ → List ℕ
+abbrev tail-of : List ℕ → List ℕ
 tail-of [] = []
 tail-of (x ∷ l) = l
 
@@ -32,8 +32,8 @@ same-test false false f h = refl
 -- lists with equal images, where different members have different ones, are equal
 pub map-injective : (f : ℕ → ℕ) (l k : List ℕ) → ((x y : ℕ) → is_member x l ≡ true → is_member y k ≡ true → f x ≡ f y → x ≡ y) → map f l ≡ map f k → l ≡ k
 map-injective f [] [] h e = refl
-map-injective f [] (y ∷ k) h e = absurd (let z : 0 ≡ length (map f k) + 1 = ap length e in omega (arith, z))
-map-injective f (x ∷ l) [] h e = absurd (let z : length (map f l) + 1 ≡ 0 = ap length e in omega (arith, z))
+map-injective f [] (y ∷ k) h e = absurd (let z : 0 ≡ suc (length (map f k)) = ap length e in omega (arith, z))
+map-injective f (x ∷ l) [] h e = absurd (let z : suc (length (map f l)) ≡ 0 = ap length e in omega (arith, z))
 map-injective f (x ∷ l) (y ∷ k) h e = ap₂ ◌∷◌ (h x y (member-head x l) (member-head y k) (ap head-of e)) (map-injective f l k (λ a b m n. h a b (member-tail a x l m) (member-tail b y k n)) (ap tail-of e))
 
 -- there and back

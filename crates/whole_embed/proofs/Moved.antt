@@ -90,6 +90,7 @@ module _ (k : Component) (old new : ℕ → BlockInPlane) (moved : AreMoved k ol
     number = h.number;
     is_graph = h.is_graph;
     is_structure = h.is_structure;
+    limits = h.limits;
     within = h.within;
     component = h.component;
     blocks = record {

@@ -1,7 +1,7 @@
 -- A rotation system of a component is determined by its parts in the blocks and its orders around the cut vertices; and around each
 -- cut vertex a plane one has an arrangement of its parts.
 use Rattle.std.proofs.Common.{◌≡◌, ◌≢◌, ℕ, ◌<◌, inl, inr, Bool, true, false, ◌==◌, ◌||◌, nat_lt, List, [], ◌∷◌, length, map, filter, slice_index, slice_index_or, Contains, refl, sym, ap, ap₂, ◌∙◌, subst, arith}
-use Rattle.std.proofs.lemmas.Bool.{cases_Bool, cases_eq, both_ways, true≢false, eq-eqb, eqb-true, false_from_ne_true, or_cases}
+use Rattle.std.proofs.lemmas.Bool.{cases_Bool, cases_eq, both_ways, true≢false, eq-eqb, eqb-true, false_from_ne_true, or_cases, and_from}
 use Rattle.std.proofs.lemmas.List.{get_or-map}
 use Rattle.permutations.specs.Members.{is_member, is_distinct, place_of}
 use Rattle.permutations.specs.Cyclic.{first_or, from_least, FollowsAround}
@@ -18,17 +18,27 @@ use Rattle.graph_theory.specs.Block.{SameBlock}
 use Rattle.rotations.specs.Rotation.{order_at, IsRotationSystem}
 use Rattle.block_planes.specs.Crossing.{NoBlocksCross}
 use Rattle.block_planes.proofs.NoCrossing.{plane-no_crossing}
-use Rattle.arrangements.specs.Arranged.{of_block, keeps, changes_from, changes, cross, IsArrangement, arrangements_at, AreOrders}
+use Rattle.arrangements.specs.Arranged.{same_list, of_block, keeps, changes_from, changes, cross, IsArrangement, arrangements_at, AreOrders}
 use Rattle.arrangements.specs.Refused.{Alternate}
 use Rattle.arrangements.specs.Laws.{CrossIsAlternate, ArrangementsAtAreListed}
-use Rattle.arrangements.proofs.Lists.{equal-same}
-use Rattle.arrangements.proofs.Changes.{changes-same}
 use Rattle.whole_embed.specs.Component.{Component, BlockInPlane}
 use Rattle.whole_embed.specs.Around.{outer_at, edges_around, block_with, block_order, arrangements_around}
 use Rattle.whole_embed.specs.Whole.{block_part, IsWholeMember}
 use Rattle.whole_embed.proofs.Assembled.{IsAssembled}
 use Rattle.whole_embed.proofs.Mapping.{no-members, same-test, map-injective, map-back, around-back}
 use Rattle.whole_embed.proofs.Rounds.{edge-once, edge-place, vertex-place, order-edge, order-member, outer-distinct, outer-arranged, outer-member, outer-first, outer-written, systems-told}
+
+-- a list is the same as an equal one
+same-itself : (l : List ℕ) → same_list l l ≡ true
+same-itself [] = refl
+same-itself (x ∷ l) = and_from (x == x) (same_list l l) (eq-eqb x x refl) (same-itself l)
+
+equal-same : (l k : List ℕ) → l ≡ k → same_list l k ≡ true
+equal-same l k e = subst (λ (z : List ℕ). same_list l z ≡ true) e (same-itself l)
+
+-- the block does not change with an edge of the same block
+changes-same : (f : ℕ → ℕ) (b e : ℕ) (l : List ℕ) → f e ≡ b → changes_from f b (e ∷ l) ≡ changes_from f b l
+changes-same f b e l h = rw (eq-eqb (f e) b h) refl
 
 -- a block does not cross itself
 none-change : (f : ℕ → ℕ) (b : ℕ) (l : List ℕ) → ((e : ℕ) → is_member e l ≡ true → f e ≡ b) → changes_from f b l ≡ 0

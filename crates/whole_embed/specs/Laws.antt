@@ -1,5 +1,5 @@
 -- What is proved of components and their rotation systems, as statements.
-use Rattle.std.specs.Prelude.{◌≡◌, ℕ, ◌<◌, true, List, length, slice_index, slice_index_or}
+use Rattle.std.specs.Prelude.{◌≡◌, ℕ, ◌<◌, true, List, [], length, slice_index, slice_index_or}
 use Rattle.permutations.specs.Members.{is_member}
 use Rattle.multigraph.specs.Graph.{Multigraph, IsGraph, IsWithinLimits}
 use Rattle.multigraph.specs.Part.{IsPartOn}
