@@ -13,7 +13,7 @@ use Rattle.embed_enum.specs.Walk.{KeepsRest, IsNextOf}
 use Rattle.embed_enum.proofs.Walks.{rest-itself}
 use Rattle.whole_embed.specs.declared.members.Member.{Member}
 use Rattle.whole_embed.specs.Component.{Component, BlockInPlane}
-use Rattle.whole_embed.specs.Cuts.{member_at, blocks_in, in_plane, HaveBlocks}
+use Rattle.whole_embed.specs.Cuts.{member_at, blocks_in, in_plane, HavePlanes}
 use Rattle.whole_embed.specs.Advanced.{IsFirstOf, IsLed, IsLastMember, AreAdvanced}
 use Rattle.whole_embed.specs.Walk.{KeepsBlocks}
 use Rattle.whole_embed.proofs.Moved.{IsMovedBlock, AreMoved, unmoved}
@@ -28,7 +28,7 @@ pub some-same : (o : Option BlockState) (p q : BlockState) → o ≡ Some p → 
 some-same o p q e f = ap (some-of p) (sym e ∙ f)
 
 -- the block in the plane of a member has the graph of its part
-pub fits-part : (k : Component) (all : List Member) → HaveBlocks k all → (b : ℕ) → is_member b k.blocks ≡ true → FitsPart (member_at all b)
+pub fits-part : (k : Component) (all : List Member) → HavePlanes k all → (b : ℕ) → is_member b k.blocks ≡ true → FitsPart (member_at all b)
 fits-part k all have b m p e =
     let w = have.plane b m in
     subst (λ (z : BlockState). z.graph ≡ (member_at all b).part.graph) (some-same (member_at all b).plane w.0 p w.1 e) w.2
@@ -47,7 +47,7 @@ left-led m n Step keeps w = record {
 left-same : (m n : Member) → n ≡ m → Left m n
 left-same m n e = subst (λ (z : Member). Left m z) (sym e) (record { part = refl; rest = λ p f. (p, f, rest-itself p) })
 
-module _ (k : Component) (old new : List Member) (have : HaveBlocks k old) (rise : Rises k.blocks) (adv : AreAdvanced k.blocks old new)
+module _ (k : Component) (old new : List Member) (have : HavePlanes k old) (rise : Rises k.blocks) (adv : AreAdvanced k.blocks old new)
     (planes : (b : ℕ) → is_member b k.blocks ≡ true → IsPlaneSystem (blocks_in old b).part.graph (blocks_in old b).rotation) where
   fits-at : (j : ℕ) → j < length k.blocks → FitsPart (member_at old (slice_index k.blocks j))
   fits-at j l = fits-part k old have (slice_index k.blocks j) (member-at k.blocks j 0 l)
@@ -103,7 +103,7 @@ module _ (k : Component) (old new : List Member) (have : HaveBlocks k old) (rise
     others = other-blocks;
   }
 
-  pub have-new : HaveBlocks k new
+  pub have-new : HavePlanes k new
   have-new = record {
     within = λ b m. let w = have.within b m in omega (arith, w, adv.count);
     plane = λ b m.

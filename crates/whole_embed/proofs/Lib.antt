@@ -1,5 +1,11 @@
 -- Lemmas on components, their blocks and their rotation systems.
 pub mod SubgraphBlocks
+pub mod Components
+pub mod Outer
+pub mod ComponentBlocks
+pub mod ArrangementLaws
+pub mod Arranging
+pub mod WholeParts
 pub mod Followers
 pub mod Odometer
 pub mod BlockSteps

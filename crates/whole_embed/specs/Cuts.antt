@@ -34,7 +34,7 @@ abbrev pub blocks_in : List Member → ℕ → BlockInPlane
 blocks_in all b = in_plane (member_at all b).part (member_at all b).plane
 
 -- the list of all blocks has the blocks of the component, each in the plane as the graph of its part
-pub record HaveBlocks (k : Component) (all : List Member) : Type 0 where
+pub record HavePlanes (k : Component) (all : List Member) : Type 0 where
   pub within : (b : ℕ) → is_member b k.blocks ≡ true → b < length all
   pub plane : (b : ℕ) → is_member b k.blocks ≡ true → (p : BlockState) × ((member_at all b).plane ≡ Some p) × (p.graph ≡ (member_at all b).part.graph)
 

@@ -3,6 +3,7 @@ pub mod Component
 pub mod Around
 pub mod Whole
 pub mod Cuts
+pub mod Frames
 pub mod Laws
 pub mod Advanced
 pub mod Walk

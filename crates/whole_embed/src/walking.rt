@@ -3,7 +3,7 @@
 ghost use Rattle.std.specs.Prelude.{◌≡◌, ℕ, ◌+◌, ◌<◌, ◌≤◌, true, false, List, [], length, slice_index_or, IfOk, OnErr, Contains};
 ghost use Rattle.skeletons.specs.Lists.{IsRank};
 ghost use Rattle.whole_embed.specs.Component.{IsComponentInPlane};
-ghost use Rattle.whole_embed.specs.Cuts.{blocks_in, HaveBlocks};
+ghost use Rattle.whole_embed.specs.Cuts.{blocks_in, HavePlanes};
 ghost use Rattle.whole_embed.specs.Whole.{AreArranged, whole_system, IsWholeList};
 ghost use Rattle.whole_embed.specs.Walk.{KeepsBlocks, AreFirstLists, AreNextLists, AreLastLists};
 
@@ -15,7 +15,7 @@ use std::alloc::{AllocError, Global};
 // Gives the cut vertices from a place on their first arrangements.
 fn first_from(cuts: &mut Cuts, all: &[Member], from: usize, scratch: &mut Scratch)
     requires component { IsComponentInPlane cuts.old.component (blocks_in all.now) }
-    requires blocks { HaveBlocks cuts.old.component all.now }
+    requires blocks { HavePlanes cuts.old.component all.now }
     requires one_each { length cuts.old.lists ≡ length cuts.old.component.cuts }
     requires from { from ≤ length cuts.old.component.cuts }
     ensures component { cuts.new.component ≡ cuts.old.component }
@@ -30,7 +30,7 @@ fn first_from(cuts: &mut Cuts, all: &[Member], from: usize, scratch: &mut Scratc
 // Leads the cut vertices to the next vector of arrangements; returns false and changes nothing if each is at its last.
 fn next_lists(cuts: &mut Cuts, all: &[Member], scratch: &mut Scratch) -> bool
     requires component { IsComponentInPlane cuts.old.component (blocks_in all.now) }
-    requires blocks { HaveBlocks cuts.old.component all.now }
+    requires blocks { HavePlanes cuts.old.component all.now }
     requires arranged { AreArranged cuts.old.component (blocks_in all.now) cuts.old.lists }
     ensures component { cuts.new.component ≡ cuts.old.component }
     ensures next { result ≡ true → AreNextLists cuts.old.component (blocks_in all.now)
@@ -60,7 +60,7 @@ fn next_lists(cuts: &mut Cuts, all: &[Member], scratch: &mut Scratch) -> bool
 /// as after false, nothing is changed. Parts, graphs, trees, locks and the blocks of other components stay in any case.
 pub fn next_whole(alloc: Global, cuts: &mut Cuts, all: &mut [Member]) -> Result<bool, AllocError>
     requires component { IsComponentInPlane cuts.old.component (blocks_in all.old) }
-    requires blocks { HaveBlocks cuts.old.component all.old }
+    requires blocks { HavePlanes cuts.old.component all.old }
     requires arranged { AreArranged cuts.old.component (blocks_in all.old) cuts.old.lists }
     ensures next { (l : List (List (List ℕ))) (i : ℕ)
         → IsWholeList cuts.old.component (blocks_in all.old) l
@@ -79,7 +79,7 @@ pub fn next_whole(alloc: Global, cuts: &mut Cuts, all: &mut [Member]) -> Result<
         → IsWholeList cuts.new.component (blocks_in all.new) l }
     ensures same { cuts.new.component ≡ cuts.old.component }
     ensures component { IsComponentInPlane cuts.new.component (blocks_in all.new) }
-    ensures blocks { HaveBlocks cuts.new.component all.new }
+    ensures blocks { HavePlanes cuts.new.component all.new }
     ensures arranged { AreArranged cuts.new.component (blocks_in all.new) cuts.new.lists }
     ensures rest { KeepsBlocks cuts.old.component all.old all.new }
 {
