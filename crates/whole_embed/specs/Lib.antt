@@ -6,3 +6,5 @@ pub mod Cuts
 pub mod Frames
 pub mod Keeping
 pub mod Laws
+pub mod Advanced
+pub mod Walk

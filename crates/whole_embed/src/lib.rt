@@ -1,10 +1,12 @@
 // Components of a graph in the plane: rotation systems over all their blocks.
 #![tactic(auto)]
 
+mod advancing;
 mod component;
 mod faults;
 pub mod laws;
 mod members;
+mod numbering;
 mod ordering;
 mod wholes;
 
