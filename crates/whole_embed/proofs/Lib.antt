@@ -25,3 +25,4 @@ pub mod Steps
 pub mod Assembly
 pub mod FrameFacts
 pub mod Ranks
+pub mod WholeLists

@@ -87,10 +87,12 @@ pub(crate) fn follower_at(member: &Member, v: u32, edge: u32) -> u32
 {
     match &member.plane {
         Some(plane) => {
-            let i = member.part.inner_vertex(v).unwrap();
-            let e = member.part.inner_edge(edge).unwrap();
-            let next = plane.rotation().succ(i, e);
-            member.part.edge(next)
+            let part = &member.part;
+            part.keeps_numbers();
+            let rotation = plane.rotation();
+            let i = part.inner_vertex(v).unwrap();
+            let e = part.inner_edge(edge).unwrap();
+            part.edge(rotation.succ(i, e))
         }
         None => unreachable!(),
     }
