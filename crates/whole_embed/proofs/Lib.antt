@@ -26,3 +26,5 @@ pub mod Assembly
 pub mod FrameFacts
 pub mod Ranks
 pub mod WholeLists
+pub mod CutTables
+pub mod Renewing
