@@ -27,4 +27,5 @@ pub mod FrameFacts
 pub mod Ranks
 pub mod WholeLists
 pub mod CutTables
+pub mod CutLists
 pub mod Renewing

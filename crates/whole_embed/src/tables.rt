@@ -64,6 +64,7 @@ pub(crate) fn first_at(
     requires long { length list.old.items ≡ length (edges_around frame.now v) }
     ensures first { list.new.items ≡ first_arrangement (block_with frame.now)
         (block_order (blocks_in all.now) v) (edges_around frame.now v) }
+    ensures long { length list.new.items ≡ length list.old.items }
     ensures tables { KeepsTables frame.now v orders.new }
 {
     renew(frame, all, v, orders);
@@ -91,6 +92,7 @@ pub(crate) fn next_at(
     ensures last { result ≡ false → IsLast (arrangements_around frame.now (blocks_in all.now) v)
         list.old.items }
     ensures as_before { result ≡ false → list.new.items ≡ list.old.items }
+    ensures long { length list.new.items ≡ length list.old.items }
     ensures tables { KeepsTables frame.now v orders.new }
 {
     renew(frame, all, v, orders);

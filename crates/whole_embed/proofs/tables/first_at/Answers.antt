@@ -19,5 +19,10 @@ returns-clause-first c =
     written-back c.args.list.now.len c.args.list.now.items c.first.new.into (omega (arith, c.first.auto.into, ap length c.deref_mut.ensures.value, c.args.list.now.ok.0))
     ∙ (c.first.ensures.first block order c.renew.ensures.renewed ∙ ap (first_arrangement block order) c.renew.ensures.tables.edges)
 
+pub returns-clause-long : goal.returns-clause-long
+returns-clause-long c =
+    let each : length c.first.new.into ≡ length c.args.list.now.items = omega (arith, c.first.auto.into, ap length c.deref_mut.ensures.value) in
+    ap length (written-back c.args.list.now.len c.args.list.now.items c.first.new.into (omega (arith, each, c.args.list.now.ok.0))) ∙ each
+
 pub returns-clause-tables : goal.returns-clause-tables
 returns-clause-tables c = subst (KeepsTables c.args.frame.now c.args.v) (sym c.first.ensures.tables) c.renew.ensures.tables

@@ -52,5 +52,10 @@ returns-clause-as_before c f =
     written-back c.args.list.now.len c.args.list.now.items c.next.new.list (omega (arith, c.next.auto.list, ap length c.deref_mut.ensures.value, c.args.list.now.ok.0))
     ∙ (c.next.ensures.unchanged f ∙ c.deref_mut.ensures.value)
 
+pub returns-clause-long : goal.returns-clause-long
+returns-clause-long c =
+    let each : length c.next.new.list ≡ length c.args.list.now.items = omega (arith, c.next.auto.list, ap length c.deref_mut.ensures.value) in
+    ap length (written-back c.args.list.now.len c.args.list.now.items c.next.new.list (omega (arith, each, c.args.list.now.ok.0))) ∙ each
+
 pub returns-clause-tables : goal.returns-clause-tables
 returns-clause-tables c = subst (KeepsTables c.args.frame.now c.args.v) (sym c.next.ensures.tables) c.renew.ensures.tables

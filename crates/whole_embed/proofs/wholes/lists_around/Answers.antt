@@ -6,6 +6,7 @@ use Rattle.multigraph.specs.Graph.{Multigraph}
 use Rattle.multigraph.specs.Part.{GraphPart}
 use Rattle.whole_embed.specs.Cuts.{blocks_in}
 use Rattle.whole_embed.specs.Whole.{order_around}
+use Rattle.whole_embed.proofs.CutLists.{place-least}
 use Rattle.whole_embed.proofs.WholeLists.{lists-more, lists-above, cut-order, one-order}
 use Rattle.whole_embed.proofs.wholes.lists_around.Goals as goal
 use Rattle.whole_embed.proofs.wholes.lists_around.Goals.{in-Some+in_ok-push-in-Some, in-None+in_ok-own_order-in-None+in_ok-push-in-None}
@@ -14,6 +15,11 @@ pub bounds-lists-place : goal.bounds-lists-place
 bounds-lists-place c =
     let w = c.in-Some.ensures {u = tt} in
     omega (arith, w.1, place-below c.args.frame.now.cuts c.vertex-v.result w.0, c.requires.each)
+
+pub offset_bounds-lists-place : goal.offset_bounds-lists-place
+offset_bounds-lists-place c =
+    let w = c.in-Some.ensures {u = tt} in
+    omega (arith, place-least c.args.frame.now.cuts c.vertex-v.result c.in-Some.place c.part-part.ensures.frame.cuts_rise w.0 w.1, c.vertex-v.type_inv)
 
 pub push-requires : goal.push-requires
 push-requires c some =
