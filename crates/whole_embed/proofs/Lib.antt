@@ -19,3 +19,4 @@ pub mod Told
 pub mod LedBlocks
 pub mod AdvancedBlocks
 pub mod Steps
+pub mod WalkSteps

@@ -7,3 +7,4 @@ pub mod Frames
 pub mod Laws
 pub mod Advanced
 pub mod Walk
+pub mod Listed

@@ -1,6 +1,6 @@
 // A walk through the list of the plane rotation systems of a component.
 
-ghost use Rattle.std.specs.Prelude.{◌≡◌, ℕ, ◌+◌, ◌<◌, ◌≤◌, true, false, List, [], length, slice_index_or, IfOk, OnErr, Contains};
+ghost use Rattle.std.specs.Prelude.{◌≡◌, ℕ, ◌+◌, ◌<◌, ◌≤◌, true, false, List, [], length, slice_index_or, Contains};
 ghost use Rattle.skeletons.specs.Lists.{IsRank};
 ghost use Rattle.whole_embed.specs.Component.{IsComponentInPlane};
 ghost use Rattle.whole_embed.specs.Cuts.{blocks_in, HavePlanes};
@@ -8,29 +8,28 @@ ghost use Rattle.whole_embed.specs.Whole.{AreArranged, whole_system, IsWholeList
 ghost use Rattle.whole_embed.specs.Walk.{KeepsBlocks, AreFirstLists, AreNextLists, AreLastLists};
 
 use crate::advancing::advance;
-use crate::cuts::{Cuts, Scratch};
+use crate::cuts::Cuts;
 use crate::members::Member;
-use std::alloc::{AllocError, Global};
 
 // Gives the cut vertices from a place on their first arrangements.
-fn first_from(cuts: &mut Cuts, all: &[Member], from: usize, scratch: &mut Scratch)
+fn first_from(cuts: &mut Cuts, all: &[Member], from: usize)
     requires component { IsComponentInPlane cuts.old.component (blocks_in all.now) }
-    requires blocks { HavePlanes cuts.old.component all.now }
-    requires one_each { length cuts.old.lists ≡ length cuts.old.component.cuts }
+    requires planes { HavePlanes cuts.old.component all.now }
     requires from { from ≤ length cuts.old.component.cuts }
     ensures component { cuts.new.component ≡ cuts.old.component }
     ensures lists { AreFirstLists cuts.old.component (blocks_in all.now) cuts.old.lists
         cuts.new.lists from (length cuts.old.component.cuts) }
 {
+    cuts.keeps();
     for i in from..cuts.count() {
-        cuts.set_first(all, i, scratch);
+        cuts.set_first(all, i);
     }
 }
 
 // Leads the cut vertices to the next vector of arrangements; returns false and changes nothing if each is at its last.
-fn next_lists(cuts: &mut Cuts, all: &[Member], scratch: &mut Scratch) -> bool
+fn next_lists(cuts: &mut Cuts, all: &[Member]) -> bool
     requires component { IsComponentInPlane cuts.old.component (blocks_in all.now) }
-    requires blocks { HavePlanes cuts.old.component all.now }
+    requires planes { HavePlanes cuts.old.component all.now }
     requires arranged { AreArranged cuts.old.component (blocks_in all.now) cuts.old.lists }
     ensures component { cuts.new.component ≡ cuts.old.component }
     ensures next { result ≡ true → AreNextLists cuts.old.component (blocks_in all.now)
@@ -42,8 +41,8 @@ fn next_lists(cuts: &mut Cuts, all: &[Member], scratch: &mut Scratch) -> bool
     let mut i = cuts.count();
     while i > 0 {
         i -= 1;
-        if cuts.set_next(all, i, scratch) {
-            first_from(cuts, all, i + 1, scratch);
+        if cuts.set_next(all, i) {
+            first_from(cuts, all, i + 1);
             return true;
         }
     }
@@ -51,45 +50,43 @@ fn next_lists(cuts: &mut Cuts, all: &[Member], scratch: &mut Scratch) -> bool
 }
 
 /// Goes to the next member of the list of all plane rotation systems of the component whose part in each block has the present
-/// choices at the locked nodes; returns false exactly where the present one is the last. They are ordered by their parts in the first block in
-/// which these differ, and where there is none, lexicographically by the first cut vertex around which they differ.
+/// choices at the locked nodes; returns false and changes nothing exactly where the present one is the last. They are ordered by
+/// their parts in the first block in which these differ, and where there is none, lexicographically by the first cut vertex around
+/// which they differ.
 ///
 /// The last cut vertex that has a next arrangement goes to it, and later ones to their first. Where there is none, the last
 /// block that has a next member goes to it, later blocks to their first members, and all cut vertices to their first
-/// arrangements. All that takes memory is taken before anything changes: fails with `AllocError` only if memory runs out, and then,
-/// as after false, nothing is changed. Parts, graphs, trees, locks and the blocks of other components stay in any case.
-pub fn next_whole(alloc: Global, cuts: &mut Cuts, all: &mut [Member]) -> Result<bool, AllocError>
+/// arrangements. Parts, graphs, trees, locks and the blocks of other components stay. Takes no memory.
+pub fn next_whole(cuts: &mut Cuts, all: &mut [Member]) -> bool
     requires component { IsComponentInPlane cuts.old.component (blocks_in all.old) }
-    requires blocks { HavePlanes cuts.old.component all.old }
+    requires planes { HavePlanes cuts.old.component all.old }
     requires arranged { AreArranged cuts.old.component (blocks_in all.old) cuts.old.lists }
     ensures next { (l : List (List (List ℕ))) (i : ℕ)
         → IsWholeList cuts.old.component (blocks_in all.old) l
         → IsRank l (whole_system cuts.old.component (blocks_in all.old) cuts.old.lists) i
-        → IfOk result (λ moved. moved ≡ true → IsRank l
-        (whole_system cuts.new.component (blocks_in all.new) cuts.new.lists) (i + 1)) }
+        → result ≡ true → IsRank l
+        (whole_system cuts.new.component (blocks_in all.new) cuts.new.lists) (i + 1) }
     ensures last { (l : List (List (List ℕ))) (i : ℕ)
         → IsWholeList cuts.old.component (blocks_in all.old) l
         → IsRank l (whole_system cuts.old.component (blocks_in all.old) cuts.old.lists) i
-        → IfOk result (λ moved. moved ≡ false → i + 1 ≡ length l) }
-    ensures as_before { IfOk result (λ moved. moved ≡ false
-        → (cuts.new ≡ cuts.old) × (all.new ≡ all.old)) }
-    ensures memory { OnErr result ((cuts.new ≡ cuts.old) × (all.new ≡ all.old)) }
+        → result ≡ false → i + 1 ≡ length l }
+    ensures as_before { result ≡ false → (cuts.new ≡ cuts.old) × (all.new ≡ all.old) }
     ensures list { (l : List (List (List ℕ)))
         → IsWholeList cuts.old.component (blocks_in all.old) l
         → IsWholeList cuts.new.component (blocks_in all.new) l }
     ensures same { cuts.new.component ≡ cuts.old.component }
     ensures component { IsComponentInPlane cuts.new.component (blocks_in all.new) }
-    ensures blocks { HavePlanes cuts.new.component all.new }
+    ensures planes { HavePlanes cuts.new.component all.new }
     ensures arranged { AreArranged cuts.new.component (blocks_in all.new) cuts.new.lists }
     ensures rest { KeepsBlocks cuts.old.component all.old all.new }
 {
-    let mut scratch = cuts.scratch(alloc)?;
-    if next_lists(cuts, all, &mut scratch) {
-        return Ok(true);
+    cuts.keeps();
+    if next_lists(cuts, all) {
+        return true;
     }
     if !advance(all, cuts.blocks()) {
-        return Ok(false);
+        return false;
     }
-    first_from(cuts, all, 0, &mut scratch);
-    Ok(true)
+    first_from(cuts, all, 0);
+    true
 }
