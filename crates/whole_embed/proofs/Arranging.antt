@@ -24,13 +24,14 @@ use Rattle.blocks.proofs.BlockParts.{block-edges_in}
 use Rattle.block_planes.proofs.OnParts.{part-subgraph}
 use Rattle.arrangements.specs.Arranged.{of_block, keeps, cross, AreOrders, IsArrangement}
 use Rattle.arrangements.specs.Refused.{Alternate}
+use Rattle.arrangements.proofs.Lists.{same-equal}
+use Rattle.arrangements.proofs.Laws.{cross_is_alternate, arrangements_are_listed}
 use Rattle.whole_embed.specs.Component.{Component, BlockInPlane, component_vertices, component_edges, component_blocks, component_cuts, block_of, component_of, AreInPlane}
 use Rattle.whole_embed.specs.Around.{outer_at, edges_around, block_with, block_order, arrangements_around}
 use Rattle.whole_embed.specs.Whole.{AreArranged, first_order, order_around}
 use Rattle.whole_embed.proofs.Components.{vertex-in, edge-in, edge-component, block-in, in-block, block-edge, block_of-has, block_of-is, block_of-in, block_with-is, edges-same, cut-in, in-cut}
 use Rattle.whole_embed.proofs.ComponentBlocks.{numbered, subgraph}
 use Rattle.whole_embed.proofs.Outer.{at-member, member-edges_at, edges_at-rise, rises-distinct, first-least, round-member, member-round, round-distinct, round-least, round-written}
-use Rattle.whole_embed.proofs.ArrangementLaws.{same-equal, listed, alternate}
 
 -- increasing by index and by the test
 pub rising-from : (l : List ℕ) → Rises l → IsRising nat_lt l
@@ -165,7 +166,7 @@ module _ (g : Multigraph) (s : BlockStructure) (c : ℕ) (is : IsBlockStructure 
     apart = λ w x y z f p q. elim (cases_eq (block_with k w) (block_with k x)) [
       | inl e ↦ with-same w x (of w (w ∷ x ∷ y ∷ z ∷ []) f (member-head w (x ∷ y ∷ z ∷ []))) (of x (w ∷ x ∷ y ∷ z ∷ []) f (member-tail x w (x ∷ y ∷ z ∷ []) (member-head x (y ∷ z ∷ [])))) e
       | inr n ↦ absurd (both_ways (cross (block_with k) (block_with k w) (block_with k x) o) (a.apart (block_with k w) (block_with k x))
-          ((alternate (block_with k) (block_with k w) (block_with k x) o (permutation-distinct (edges_around k v) o a.all (around-distinct v)) n).1 (four w x y z f p q)))
+          ((cross_is_alternate (block_with k) (block_with k w) (block_with k x) o (permutation-distinct (edges_around k v) o a.all (around-distinct v)) n).1 (four w x y z f p q)))
     ];
   }
     where
@@ -250,7 +251,7 @@ module _ (g : Multigraph) (s : BlockStructure) (c : ℕ) (is : IsBlockStructure 
     cut-arranged v m =
         let i = place_of k.cuts v in
         let w : Contains (arrangements_around k block v) (slice_index_or lists i []) = subst (λ (z : ℕ). Contains (arrangements_around k block z) (slice_index_or lists i [])) (place-holds k.cuts v m) (are.each i (place-below k.cuts v m)) in
-        ((listed (block_with k) (block_order block v) (edges_around k v) (orders-around v (cut-in g s c is v m))).exactly (slice_index_or lists i [])).0 w
+        ((arrangements_are_listed (block_with k) (block_order block v) (edges_around k v) (orders-around v (cut-in g s c is v m))).exactly (slice_index_or lists i [])).0 w
 
     -- around each vertex the component has such an order
     pub order-right : (v : ℕ) → is_member v V ≡ true → IsRight v (order_around k block lists v)

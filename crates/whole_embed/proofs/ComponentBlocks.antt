@@ -1,6 +1,6 @@
 -- The blocks of a component, as a graph of its own, are those of the graph.
 use Rattle.std.proofs.Common.{◌≡◌, ℕ, ◌<◌, ◌↔◌, inl, inr, true, List, [], length, map, get_or, slice_index, refl, sym, ap, ◌∙◌, subst, arith, Contains}
-use Rattle.std.proofs.lemmas.List.{get_or-map, length-map}
+use Rattle.std.proofs.lemmas.List.{get_or-map, length-map, ext_get_or}
 use Rattle.std.proofs.lemmas.List.Elements.{Contains-get_or}
 use Rattle.permutations.specs.Members.{is_member, place_of}
 use Rattle.permutations.proofs.Mapped.{map-member, member-map}
@@ -15,7 +15,7 @@ use Rattle.blocks.specs.Blocks.{BlockStructure, block_at, AreBlocks, IsBlockStru
 use Rattle.faces.specs.Subgraph.{IsSubgraph}
 use Rattle.block_planes.proofs.OnParts.{part-subgraph}
 use Rattle.blocks.proofs.BlockParts.{block-edges_in}
-use Rattle.whole_embed.specs.Component.{Component, component_vertices, component_edges, component_blocks, block_of, component_of}
+use Rattle.whole_embed.specs.Component.{Component, part_made, component_vertices, component_edges, component_blocks, block_of, component_of}
 use Rattle.whole_embed.proofs.SubgraphBlocks.{end-inner, end-outer, inner-same, outer-same}
 use Rattle.whole_embed.proofs.Outer.{place-rising, rises-map, places-rise}
 use Rattle.whole_embed.proofs.Components.{vertices-rise, vertex-in, in-vertex, edges-rise, edge-in, in-edge, edge-within, vertex-within, blocks-rise, block-in, in-block, end-component, block-edge, block_of-has, block_of-in, edges-same, component-part}
@@ -32,6 +32,23 @@ part_on-subgraph g vertices edges part h inside within = record {
   first_ends = λ i l. ap (λ e. (ends_of g (slice_index e i)).0) h.edges_are ∙ (sym (h.ends.first i (omega (arith, l, h.ends.each))) ∙ ap (λ e. slice_index e (ends_of part.graph i).0) (sym h.vertices_are));
   second_ends = λ i l. ap (λ e. (ends_of g (slice_index e i)).1) h.edges_are ∙ (sym (h.ends.second i (omega (arith, l, h.ends.each))) ∙ ap (λ e. slice_index e (ends_of part.graph i).1) (sym h.vertices_are));
 }
+
+-- the part on some vertices is the one that is made
+pub part_on-is : (g : Multigraph) (vertices edges : List ℕ) (part : GraphPart) → Rises vertices → IsPartOn g vertices edges part → part ≡ part_made g vertices edges
+part_on-is g vertices edges part rise h =
+    let count : part.graph.vertex_count ≡ length vertices = sym h.numbered.vertex_each ∙ ap length h.vertices_are in
+    let ends : part.graph.ends ≡ map pair edges = ext_get_or (0, 0) part.graph.ends (map pair edges) (h.ends.each ∙ sym (length-map edges pair)) (λ k l. end k (omega (arith, l, h.ends.each))) in
+    λ i. record { graph = record { vertex_count = count i; ends = ends i }; vertices = h.vertices_are i; edges = h.edges_are i }
+  where
+    pair : ℕ → ℕ × ℕ
+    pair e = (place_of vertices (ends_of g e).0, place_of vertices (ends_of g e).1)
+
+    end : (k : ℕ) → k < length edges → get_or part.graph.ends k (0, 0) ≡ get_or (map pair edges) k (0, 0)
+    end k l =
+        let first : (ends_of part.graph k).0 ≡ place_of vertices (ends_of g (slice_index edges k)).0 = sym (place-rising vertices (ends_of part.graph k).0 rise (h.ends.first_in k l)) ∙ ap (place_of vertices) (h.ends.first k l) in
+        let second : (ends_of part.graph k).1 ≡ place_of vertices (ends_of g (slice_index edges k)).1 = sym (place-rising vertices (ends_of part.graph k).1 rise (h.ends.second_in k l)) ∙ ap (place_of vertices) (h.ends.second k l) in
+        let both : get_or part.graph.ends k (0, 0) ≡ pair (slice_index edges k) = (λ i. (first i, second i)) in
+        both ∙ sym (get_or-map pair edges k 0 (0, 0) l)
 
 module _ (g : Multigraph) (s : BlockStructure) (c : ℕ) (is : IsBlockStructure g s) (ok : IsGraph g) (limits : IsWithinLimits g) where
   -- the component as a graph, and the numbers of its vertices and edges

@@ -30,7 +30,7 @@ use Rattle.whole_embed.specs.Around.{block_with}
 walked-connected : (g : Multigraph) (x : ℕ) (es : List ℕ) → IsWalk g x es → (h : ℕ) → is_member h es ≡ true → connected g.ends x (ends_of g h).0 ≡ true
 walked-connected g x [] w h m = absurd (both_ways (is_member h []) refl m)
 walked-connected g x (e ∷ es) w h m = elim (member-cases h e es m) [
-  | inl q ↦ subst (λ (z : ℕ). connected g.ends x (ends_of g z).0 ≡ true) (sym q) (elim (is_end-cases g x e w.0.1) [
+  | inl q ↦ subst (λ (z : ℕ). connected g.ends x (ends_of g z).0 ≡ true) q (elim (is_end-cases g x e w.0.1) [
     | inl f ↦ subst (λ (z : ℕ). connected g.ends x z ≡ true) (sym f) (connected-reflexive g.ends x)
     | inr f ↦ subst (λ (z : ℕ). connected g.ends z (ends_of g e).0 ≡ true) f (connected-symmetric g.ends (ends_of g e).0 (ends_of g e).1 (ends-connected g e w.0.0))
   ])
@@ -174,7 +174,7 @@ module _ (g : Multigraph) (s : BlockStructure) (c : ℕ) (is : IsBlockStructure 
       | inr q ↦ connected-component (ends_of g e).0 (ends_of g e).1 (ok.first_in e l) (ok.second_in e l) (ends-connected g e l) ∙ (ap (slice_index s.components) q ∙ (vertex-in v m).1)
     ])
 
-    held : HoldEnds g (component_edges g s c) (component_vertices s c)
+    pub held : HoldEnds g (component_edges g s c) (component_vertices s c)
     held v w = contains-from_member (component_vertices s c) v (end-component w.edge v (member-from_contains (component_edges g s c) w.edge w.among) w.ends_there)
 
     -- edges of one block are in one component

@@ -3,9 +3,12 @@ pub mod SubgraphBlocks
 pub mod Components
 pub mod Outer
 pub mod ComponentBlocks
-pub mod ArrangementLaws
 pub mod Arranging
 pub mod WholeParts
+pub mod Assembling
+pub mod Searching
+pub mod BlockTables
+pub mod Orderings
 pub mod Followers
 pub mod Odometer
 pub mod BlockSteps
@@ -19,4 +22,8 @@ pub mod Told
 pub mod LedBlocks
 pub mod AdvancedBlocks
 pub mod Steps
+pub mod Assembly
 pub mod WalkSteps
+pub mod Following
+pub mod Vectors
+pub mod ListExists

@@ -1,25 +1,28 @@
 -- The rotation system of a component from those of its blocks and arrangements at its cut vertices: its parts in the blocks, its
 -- orders around the vertices, and that it is plane.
-use Rattle.std.proofs.Common.{◌≡◌, ◌≢◌, ℕ, ◌<◌, inl, inr, Bool, true, false, ◌==◌, List, [], ◌∷◌, length, map, filter, get_or, slice_index, slice_index_or, refl, sym, ap, ◌∙◌, subst, arith, eq-eqb, eqb-true}
+use Rattle.std.proofs.Common.{◌≡◌, ◌≢◌, ℕ, ◌<◌, inl, inr, Bool, true, false, ◌==◌, List, [], ◌∷◌, length, map, filter, get_or, slice_index, slice_index_or, refl, sym, ap, ◌∙◌, subst, arith, Contains, eq-eqb, eqb-true}
 use Rattle.std.specs.List.Sorted.{IsPermutation}
-use Rattle.std.proofs.lemmas.Bool.{both_ways, cond-true}
+use Rattle.std.proofs.lemmas.Bool.{both_ways, cases_Bool, cond-true, cond-false}
 use Rattle.std.proofs.lemmas.List.{get_or-map, length-map, ext_get_or}
+use Rattle.std.proofs.lemmas.List.Elements.{Contains-get_or}
 use Rattle.std.proofs.lemmas.List.Sorted.{IsPermutation-map, length_permutation}
 use Rattle.permutations.specs.Count.{some}
 use Rattle.permutations.specs.Members.{is_member, is_distinct, place_of}
-use Rattle.permutations.specs.Cyclic.{first_or, from_least, IsTurn, FollowsAround}
+use Rattle.permutations.specs.Cyclic.{first_or, from_least, turned, IsTurn, FollowsAround}
 use Rattle.permutations.proofs.Relation.{same-tests}
 use Rattle.permutations.proofs.Search.{some-from, some-witness}
 use Rattle.permutations.proofs.Members.{member-head, member-tail}
 use Rattle.permutations.proofs.Mapped.{map-member, member-map}
 use Rattle.permutations.proofs.Filter.{filter-ext, member-filter_parts, distinct-filter}
-use Rattle.permutations.proofs.Turned.{IsTurn-map}
+use Rattle.permutations.proofs.Turned.{IsTurn-map, turned-own}
 use Rattle.permutations.proofs.NormalForm.{from_least-same}
 use Rattle.permutations.proofs.CyclicOrder as cyclic
 use Rattle.permutations.proofs.Arrangements.{permutation-member, permutation-distinct, member-at}
 use Rattle.permutations.proofs.Places.{place-below, place-holds}
 use Rattle.multigraph.specs.Graph.{Multigraph, edge_count, incident_edges, IsGraph, IsWithinLimits}
 use Rattle.multigraph.specs.Part.{GraphPart, Rises, IsNumbered, IsPart}
+use Rattle.rotations.specs.Entries.{list_at}
+use Rattle.rotations.specs.PartLists.{outer_edges, outer_list}
 use Rattle.rotations.specs.Rotation.{order_at, IsCyclicOrder, IsRotationSystem}
 use Rattle.rotations.proofs.Membership.{member-edge}
 use Rattle.graph_theory.specs.Block.{SameBlock}
@@ -28,12 +31,13 @@ use Rattle.faces.specs.Subgraph.{IsSubgraph, is_kept, IsRestriction}
 use Rattle.faces.proofs.MapLists.{filter-map, map-back}
 use Rattle.skeletons.specs.Lists.{IsKept}
 use Rattle.skel_embed.specs.Block.{lock_at}
+use Rattle.skel_embed.specs.Taken.{IsGiven}
 use Rattle.blocks.specs.Blocks.{BlockStructure, block_at, AreBlocks, IsBlockStructure}
 use Rattle.block_planes.specs.Crossing.{NoBlocksCross, IsPlaneOn}
 use Rattle.block_planes.proofs.BlockLabels.{plane_by_blocks}
 use Rattle.whole_embed.specs.Component.{Component, BlockInPlane, component_vertices, component_edges, component_blocks, component_of, AreInPlane, IsComponentInPlane}
 use Rattle.whole_embed.specs.Around.{outer_at, edges_around, block_with, block_order}
-use Rattle.whole_embed.specs.Whole.{AreArranged, first_order, order_around, whole_system, block_part, IsWholeMember}
+use Rattle.whole_embed.specs.Whole.{AreArranged, first_order, order_around, whole_lists, whole_system, block_part, IsWholeMember}
 use Rattle.whole_embed.proofs.Components.{vertices-rise, edges-rise, cut-in, cuts-rise, block-edge}
 use Rattle.whole_embed.proofs.ComponentBlocks.{numbered, subgraph, inner_edges, inner_blocks, inner-length, inner-at, among, component-blocks, inner_part, inner-part, part-edge, part-vertex, same-inner, same-outer}
 use Rattle.whole_embed.proofs.Outer.{place-rising, rises-distinct, place-in, round-back, round-written, round-distinct}
@@ -56,6 +60,14 @@ around-map f l k once o = subst (λ v. IsTurn v (map f k))
     same z m = same-tests (is_member z k) (is_member (f z) (map f k))
         (λ t. member-map f k z t)
         (λ t. let y = map-member f k (f z) t in subst (λ v. is_member v k ≡ true) (sym (once z y.0 m y.1 (sym y.2))) y.1)
+
+-- the list for a vertex, of one list for each of some vertices
+pub list-for : (f : ℕ → List ℕ) (vs : List ℕ) (v : ℕ) → is_member v vs ≡ true → list_at (map (λ x. (x, f x)) vs) v ≡ f v
+list-for f [] v m = absurd (both_ways (is_member v []) refl m)
+list-for f (x ∷ vs) v m = elim (cases_Bool (x == v)) [
+  | inl t ↦ cond-true (x == v) (f x) (list_at (map (λ y. (y, f y)) vs) v) t ∙ ap f (eqb-true x v t)
+  | inr n ↦ let r : is_member v vs ≡ true = rw n at m in cond-false (x == v) (f x) (list_at (map (λ y. (y, f y)) vs) v) n ∙ list-for f vs v r
+]
 
 module _ (g : Multigraph) (s : BlockStructure) (c : ℕ) (is : IsBlockStructure g s) (ok : IsGraph g) (limits : IsWithinLimits g) (block : ℕ → BlockInPlane) (planes : AreInPlane g s c block)
     (lists : List (List ℕ)) (are : AreArranged (component_of g s c) block lists) where
@@ -324,3 +336,33 @@ module _ (g : Multigraph) (s : BlockStructure) (c : ℕ) (is : IsBlockStructure 
     plane = whole-plane;
     kept = λ b mb. subst (IsKept (block b).part.graph (block b).nodes (lock_at (block b).locks) (block b).rotation) (sym (whole-part b mb)) (record { plane = planes.planes b mb; keeps = λ j l t. refl });
   }
+
+  -- it is the one that the lists give
+  pub whole-given : IsGiven k.part (whole_lists k block lists) q
+  whole-given = record {
+    arranged = record {
+      arranged = λ i l. subst (λ z. IsPermutation z (outer_list k.part (whole_lists k block lists) i)) (sym (edges-are i l)) (subst (IsPermutation (edges_around k (slice_index V i))) (sym (given i l)) (right (slice_index V i) (member-at V i 0 l)).all);
+      vertices = λ v n. subst (λ z. Contains V z) (sym (ap (λ z. z.0) (get_or-map pair V n.0 0 (0, []) (named n.0 n.1))) ∙ n.2) (Contains-get_or V n.0 0 (named n.0 n.1));
+    };
+    system = whole-rotation;
+    orders = λ i l.
+        let v = slice_index V i in
+        let r = right v (member-at V i 0 l) in
+        ap (λ z. map (slice_index E) (order_at q z)) (sym (vertex-place i l))
+        ∙ (outer-whole v (member-at V i 0 l)
+        ∙ (sym (turned-own (round v))
+        ∙ (ap (turned (round v)) (r.first ∙ sym (ap (first_or 0) (edges-are i l)))
+        ∙ ap (λ o. turned o (first_or 0 (outer_edges k.part i))) (sym (given i l)))));
+  }
+    where
+      pair : ℕ → ℕ × List ℕ
+      pair x = (x, round x)
+
+      named : (i : ℕ) → i < length (whole_lists k block lists) → i < length V
+      named i l = omega (arith, l, length-map V pair)
+
+      given : (i : ℕ) → i < length V → outer_list k.part (whole_lists k block lists) i ≡ round (slice_index V i)
+      given i l = list-for round V (slice_index V i) (member-at V i 0 l)
+
+      edges-are : (i : ℕ) → i < length V → outer_edges k.part i ≡ edges_around k (slice_index V i)
+      edges-are i l = ap (λ z. map (slice_index E) (incident_edges k.part.graph z)) (sym (vertex-place i l))

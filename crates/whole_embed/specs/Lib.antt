@@ -4,6 +4,7 @@ pub mod Around
 pub mod Whole
 pub mod Cuts
 pub mod Frames
+pub mod Keeping
 pub mod Laws
 pub mod Advanced
 pub mod Walk

@@ -2,8 +2,22 @@
 #![tactic(auto)]
 
 mod advancing;
+mod component;
+mod copying;
+mod cuts;
 mod faults;
+pub mod laws;
+mod list_laws;
+mod listing;
 mod members;
+mod ordering;
+mod walking;
+mod wholes;
 
+pub use component::Frame;
+pub use cuts::{Cuts, whole};
 pub use faults::RegroupFault;
+pub use list_laws::one_list;
+pub use listing::list_after;
 pub use members::Member;
+pub use walking::next_whole;
