@@ -30,38 +30,38 @@ returns-then-next_lists-clause-rest c = keeps-itself c.args.cuts.now.component c
 
 pub advance-requires-clause-increasing : goal.advance-requires-clause-increasing
 advance-requires-clause-increasing c =
-    let e = c.blocks.ensures ∙ ap (λ (z : Component). z.blocks) c.next_lists.ensures.component in
+    let e = c.blocks-2.ensures ∙ ap (λ (z : Component). z.blocks) c.next_lists.ensures.component in
     subst (λ (z : List ℕ). Rises z) (sym e) (blocks-rise c.args.cuts.now.component c.args.all.now c.requires.component c.requires.planes)
 
 pub advance-requires-clause-within : goal.advance-requires-clause-within
 advance-requires-clause-within c =
-    let e = c.blocks.ensures ∙ ap (λ (z : Component). z.blocks) c.next_lists.ensures.component in
+    let e = c.blocks-2.ensures ∙ ap (λ (z : Component). z.blocks) c.next_lists.ensures.component in
     subst (λ (z : List ℕ). (j : ℕ) → j < length z → slice_index z j < length c.args.all.now) (sym e) (blocks-within c.args.cuts.now.component c.args.all.now c.requires.component c.requires.planes)
 
 pub advance-requires-clause-planes : goal.advance-requires-clause-planes
 advance-requires-clause-planes c =
-    let e = c.blocks.ensures ∙ ap (λ (z : Component). z.blocks) c.next_lists.ensures.component in
+    let e = c.blocks-2.ensures ∙ ap (λ (z : Component). z.blocks) c.next_lists.ensures.component in
     subst (λ (z : List ℕ). (j : ℕ) → j < length z → IsSome (member_at c.args.all.now (slice_index z j)).plane) (sym e) (blocks-some c.args.cuts.now.component c.args.all.now c.requires.component c.requires.planes)
 
 pub returns-then-not-advance-clause-last : goal.returns-then-not-advance-clause-last
 returns-then-not-advance-clause-last c = λ l i w r t.
     let k = c.args.cuts.now.component in
     let block = blocks_in c.args.all.now in
-    let e = c.blocks.ensures ∙ ap (λ (z : Component). z.blocks) c.next_lists.ensures.component in
+    let e = c.blocks-2.ensures ∙ ap (λ (z : Component). z.blocks) c.next_lists.ensures.component in
     rank-last k block c.requires.component c.args.cuts.now.lists c.requires.arranged (c.next_lists.ensures.last c.if-next_lists.false)
     (blocks-last k c.args.all.now c.requires.component c.requires.planes
     (subst (λ (z : List ℕ). (j : ℕ) → j < length z → IsLastMember (member_at c.args.all.now (slice_index z j))) e (c.advance.ensures.last c.if-not-advance.true))) l i w r
 
 pub first_from-requires-clause-component : goal.first_from-requires-clause-component
 first_from-requires-clause-component c =
-    let e = c.blocks.ensures ∙ ap (λ (z : Component). z.blocks) c.next_lists.ensures.component in
+    let e = c.blocks-2.ensures ∙ ap (λ (z : Component). z.blocks) c.next_lists.ensures.component in
     let adv = subst (λ (z : List ℕ). AreAdvanced z c.args.all.now c.advance.new.all) e (c.advance.ensures.next c.if-not-advance.false) in
     subst (λ (z : Component). IsComponentInPlane z (blocks_in c.advance.new.all)) (sym c.next_lists.ensures.component)
     (new-component c.args.cuts.now.component c.args.all.now c.requires.component c.requires.planes c.advance.new.all adv)
 
 pub first_from-requires-clause-planes : goal.first_from-requires-clause-planes
 first_from-requires-clause-planes c =
-    let e = c.blocks.ensures ∙ ap (λ (z : Component). z.blocks) c.next_lists.ensures.component in
+    let e = c.blocks-2.ensures ∙ ap (λ (z : Component). z.blocks) c.next_lists.ensures.component in
     let adv = subst (λ (z : List ℕ). AreAdvanced z c.args.all.now c.advance.new.all) e (c.advance.ensures.next c.if-not-advance.false) in
     subst (λ (z : Component). HavePlanes z c.advance.new.all) (sym c.next_lists.ensures.component)
     (new-planes c.args.cuts.now.component c.args.all.now c.requires.component c.requires.planes c.advance.new.all adv)
@@ -69,7 +69,7 @@ first_from-requires-clause-planes c =
 pub returns-clause-next : goal.returns-clause-next
 returns-clause-next c = λ l i w r t.
     let k = c.args.cuts.now.component in
-    let e = c.blocks.ensures ∙ ap (λ (z : Component). z.blocks) c.next_lists.ensures.component in
+    let e = c.blocks-2.ensures ∙ ap (λ (z : Component). z.blocks) c.next_lists.ensures.component in
     let adv = subst (λ (z : List ℕ). AreAdvanced z c.args.all.now c.advance.new.all) e (c.advance.ensures.next c.if-not-advance.false) in
     let same = c.next_lists.ensures.as_before c.if-next_lists.false in
     let f = subst (λ (s : CutState). AreFirstLists s.component (blocks_in c.advance.new.all) s.lists c.first_from.new.cuts.lists 0 (length s.component.cuts)) same c.first_from.ensures.lists in
@@ -78,21 +78,21 @@ returns-clause-next c = λ l i w r t.
 
 pub returns-clause-list : goal.returns-clause-list
 returns-clause-list c = λ l w.
-    let e = c.blocks.ensures ∙ ap (λ (z : Component). z.blocks) c.next_lists.ensures.component in
+    let e = c.blocks-2.ensures ∙ ap (λ (z : Component). z.blocks) c.next_lists.ensures.component in
     let adv = subst (λ (z : List ℕ). AreAdvanced z c.args.all.now c.advance.new.all) e (c.advance.ensures.next c.if-not-advance.false) in
     subst (λ (z : Component). IsWholeList z (blocks_in c.advance.new.all) l) (sym (c.first_from.ensures.component ∙ c.next_lists.ensures.component))
     (new-list c.args.cuts.now.component c.args.all.now c.requires.component c.requires.planes c.advance.new.all adv l w)
 
 pub returns-clause-component : goal.returns-clause-component
 returns-clause-component c =
-    let e = c.blocks.ensures ∙ ap (λ (z : Component). z.blocks) c.next_lists.ensures.component in
+    let e = c.blocks-2.ensures ∙ ap (λ (z : Component). z.blocks) c.next_lists.ensures.component in
     let adv = subst (λ (z : List ℕ). AreAdvanced z c.args.all.now c.advance.new.all) e (c.advance.ensures.next c.if-not-advance.false) in
     subst (λ (z : Component). IsComponentInPlane z (blocks_in c.advance.new.all)) (sym (c.first_from.ensures.component ∙ c.next_lists.ensures.component))
     (new-component c.args.cuts.now.component c.args.all.now c.requires.component c.requires.planes c.advance.new.all adv)
 
 pub returns-clause-planes : goal.returns-clause-planes
 returns-clause-planes c =
-    let e = c.blocks.ensures ∙ ap (λ (z : Component). z.blocks) c.next_lists.ensures.component in
+    let e = c.blocks-2.ensures ∙ ap (λ (z : Component). z.blocks) c.next_lists.ensures.component in
     let adv = subst (λ (z : List ℕ). AreAdvanced z c.args.all.now c.advance.new.all) e (c.advance.ensures.next c.if-not-advance.false) in
     subst (λ (z : Component). HavePlanes z c.advance.new.all) (sym (c.first_from.ensures.component ∙ c.next_lists.ensures.component))
     (new-planes c.args.cuts.now.component c.args.all.now c.requires.component c.requires.planes c.advance.new.all adv)
@@ -100,7 +100,7 @@ returns-clause-planes c =
 pub returns-clause-arranged : goal.returns-clause-arranged
 returns-clause-arranged c =
     let k = c.args.cuts.now.component in
-    let e = c.blocks.ensures ∙ ap (λ (z : Component). z.blocks) c.next_lists.ensures.component in
+    let e = c.blocks-2.ensures ∙ ap (λ (z : Component). z.blocks) c.next_lists.ensures.component in
     let adv = subst (λ (z : List ℕ). AreAdvanced z c.args.all.now c.advance.new.all) e (c.advance.ensures.next c.if-not-advance.false) in
     let same = c.next_lists.ensures.as_before c.if-next_lists.false in
     let f = subst (λ (s : CutState). AreFirstLists s.component (blocks_in c.advance.new.all) s.lists c.first_from.new.cuts.lists 0 (length s.component.cuts)) same c.first_from.ensures.lists in
@@ -109,6 +109,6 @@ returns-clause-arranged c =
 
 pub returns-clause-rest : goal.returns-clause-rest
 returns-clause-rest c =
-    let e = c.blocks.ensures ∙ ap (λ (z : Component). z.blocks) c.next_lists.ensures.component in
+    let e = c.blocks-2.ensures ∙ ap (λ (z : Component). z.blocks) c.next_lists.ensures.component in
     let adv = subst (λ (z : List ℕ). AreAdvanced z c.args.all.now c.advance.new.all) e (c.advance.ensures.next c.if-not-advance.false) in
     new-keeps c.args.cuts.now.component c.args.all.now c.requires.component c.requires.planes c.advance.new.all adv
