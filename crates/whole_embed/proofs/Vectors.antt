@@ -106,23 +106,26 @@ pub record IsLess {R : Type 0} (L : ℕ → R → R → Type 0) (d : R) (bs : Li
   pub same : (j : ℕ) → j < place → slice_index_or v j d ≡ slice_index_or w j d
   pub smaller : L (slice_index bs place) (slice_index_or v place d) (slice_index_or w place d)
 
+-- the first values are the same, and then the rest decides
+less-behind : {R : Type 0} (L : ℕ → R → R → Type 0) (d : R) (b : ℕ) (bs : List ℕ) (x : R) (v w : List R) → IsLess L d bs v w → IsLess L d (b ∷ bs) (x ∷ v) (x ∷ w)
+less-behind L d b bs x v w r = record { place = suc r.place; within = let k = r.within in omega (arith, k); same = same; smaller = r.smaller }
+  where
+    same : (j : ℕ) → j < suc r.place → slice_index_or (x ∷ v) j d ≡ slice_index_or (x ∷ w) j d
+    same zero l = refl
+    same (suc j) l = r.same j (omega arith)
+
+-- the first values decide
+less-here : {R : Type 0} (L : ℕ → R → R → Type 0) (d : R) (b : ℕ) (bs : List ℕ) (x z : R) → L b x z → (i j : ℕ) (u t y w : List R) → x ∷ u ≡ y → z ∷ t ≡ w → IsLess L d (b ∷ bs) y w
+less-here {R} L d b bs x z r i j u t y w e f =
+    subst (λ (a : List R). IsLess L d (b ∷ bs) a w) e (subst (λ (a : List R). IsLess L d (b ∷ bs) (x ∷ u) a) f (record { place = 0; within = omega arith; same = λ j l. absurd (omega (arith, l)); smaller = r }))
+
 pub vectors-rise : {R : Type 0} (L : ℕ → R → R → Type 0) (d : R) (bs : List ℕ) (C : ℕ → List R) → ((i : ℕ) → i < length bs → RisesBy (L (slice_index bs i)) (C (slice_index bs i))) → RisesBy (IsLess L d bs) (vectors bs C)
 vectors-rise L d [] C h = (λ i y a. absurd a, tt)
-vectors-rise {R} L d (b ∷ bs) C h = joined-rises (L b) (IsLess L d (b ∷ bs)) (λ x. map (λ u. x ∷ u) (vectors bs C)) (C b) (h 0 (omega arith)) inner across
-  where
-    rest : RisesBy (IsLess L d bs) (vectors bs C)
-    rest = vectors-rise L d bs C (λ i l. h (suc i) (omega arith))
-
-    same-front : (x : R) (v w : List R) (r : IsLess L d bs v w) (j : ℕ) → j < suc r.place → slice_index_or (x ∷ v) j d ≡ slice_index_or (x ∷ w) j d
-    same-front x v w r zero l = refl
-    same-front x v w r (suc j) l = r.same j (omega arith)
-
-    inner : (x : R) → Has (C b) x → RisesBy (IsLess L d (b ∷ bs)) (map (λ u. x ∷ u) (vectors bs C))
-    inner x m = rises-map (IsLess L d bs) (IsLess L d (b ∷ bs)) (λ u. x ∷ u) (vectors bs C) rest
-        (λ i j v w p q r. record { place = suc r.place; within = let k = r.within in omega (arith, k); same = same-front x v w r; smaller = r.smaller })
-
-    across : (x z : R) → Has (C b) x → Has (C b) z → L b x z → (i j : ℕ) (y w : List R) → At (map (λ u. x ∷ u) (vectors bs C)) i y → At (map (λ u. z ∷ u) (vectors bs C)) j w → IsLess L d (b ∷ bs) y w
-    across x z m n r i j y w p q =
+vectors-rise {R} L d (b ∷ bs) C h =
+    let rest : RisesBy (IsLess L d bs) (vectors bs C) = vectors-rise L d bs C (λ i l. h (suc i) (omega arith)) in
+    joined-rises (L b) (IsLess L d (b ∷ bs)) (λ x. map (λ u. x ∷ u) (vectors bs C)) (C b) (h 0 (omega arith))
+    (λ x m. rises-map (IsLess L d bs) (IsLess L d (b ∷ bs)) (λ u. x ∷ u) (vectors bs C) rest (λ i j v w p q r. less-behind L d b bs x v w r))
+    (λ x z m n r i j y w p q.
         let u = at-map_back (λ u. x ∷ u) (vectors bs C) i y p in
         let t = at-map_back (λ u. z ∷ u) (vectors bs C) j w q in
-        subst (λ (a : List R). IsLess L d (b ∷ bs) a w) u.2 (subst (λ (a : List R). IsLess L d (b ∷ bs) (x ∷ u.0) a) t.2 (record { place = 0; within = omega arith; same = λ j l. absurd (omega (arith, l)); smaller = r }))
+        less-here L d b bs x z r i j u.0 t.0 y w u.2 t.2)
