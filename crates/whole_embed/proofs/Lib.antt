@@ -25,5 +25,6 @@ pub mod Steps
 pub mod Assembly
 pub mod WalkSteps
 pub mod Following
+pub mod OfParts
 pub mod Vectors
 pub mod ListExists

@@ -10,7 +10,6 @@ use Rattle.faces.specs.Euler.{IsPlaneSystem}
 use Rattle.choice_lists.specs.Order.{Lists, is_before}
 use Rattle.choice_lists.proofs.Places.{At, Has, at-map, at-map_back, has-from, contains-from}
 use Rattle.arrangements.specs.Arranged.{IsArrangement}
-use Rattle.arrangements.proofs.Laws.{arrangements_are_listed}
 use Rattle.skeletons.specs.Items.{IsBlockTree}
 use Rattle.skeletons.specs.Choices.{Precedes}
 use Rattle.skeletons.specs.Lists.{IsKept, IsKeptList, IsRank}
@@ -26,9 +25,9 @@ use Rattle.whole_embed.proofs.Assembled.{IsAssembled}
 use Rattle.whole_embed.proofs.Assembly.{assembled, present}
 use Rattle.whole_embed.proofs.Outer.{place-rising}
 use Rattle.whole_embed.proofs.Odometer.{precedes-apart}
-use Rattle.whole_embed.proofs.Moved.{IsMovedBlock, AreMoved, member-moved, member-back, component-moved}
+use Rattle.whole_embed.proofs.Moved.{AreMoved, member-back}
+use Rattle.whole_embed.proofs.OfParts as parts
 use Rattle.whole_embed.proofs.Steps.{IsPresent, place-less}
-use Rattle.whole_embed.proofs.Told.{parts-tell, member-arranged}
 use Rattle.whole_embed.proofs.Vectors.{RisesBy, pairs-from, pairs-to, rises-map, joined, joined-has, has-joined, joined-rises, vectors, IsVector, has-vector, vector-has, IsLess, vectors-rise}
 
 module _ (k : Component) (block : ℕ → BlockInPlane) (is : IsComponentInPlane k block) where
@@ -62,7 +61,7 @@ module _ (k : Component) (block : ℕ → BlockInPlane) (is : IsComponentInPlane
       record { part = refl; nodes = refl; locks = refl; plane = w.plane; keeps = w.keeps }
 
   in-plane : (v : List (List (List ℕ))) → IsVector [] k.blocks C v → IsComponentInPlane k (with v)
-  in-plane v h = component-moved k block (with v) (moved v h) is
+  in-plane v h = parts.in-plane k block (with v) is (moved v h)
 
   -- the arrangements at the cut vertices
   abbrev A : List (List (List ℕ)) → ℕ → List (List ℕ)
@@ -72,7 +71,7 @@ module _ (k : Component) (block : ℕ → BlockInPlane) (is : IsComponentInPlane
   arranged v a h = record { one_each = h.long; each = λ i l. contains-from (A v (slice_index k.cuts i)) (slice_index_or a i []) (h.each i l) }
 
   listed : (v : List (List (List ℕ))) → IsVector [] k.blocks C v → (c : ℕ) → is_member c k.cuts ≡ true → Lists is_before (IsArrangement (block_with k) (block_order (with v) c) (edges_around k c)) (A v c)
-  listed v h c m = let made = assembled k (with v) (in-plane v h) in arrangements_are_listed (block_with k) (block_order (with v) c) (edges_around k c) (made.orders c (made.cuts_in c m))
+  listed v h c m = parts.listed k block (with v) is (moved v h) c m
 
   -- the rotation systems of a vector, and of all
   abbrev of-vector : List (List (List ℕ)) → List (List (List ℕ))
@@ -113,35 +112,17 @@ module _ (k : Component) (block : ℕ → BlockInPlane) (is : IsComponentInPlane
     same : (b : ℕ) → is_member b k.blocks ≡ true → block_part k (block b).part q ≡ slice_index_or v (place_of k.blocks b) []
     same b n = sym (value (place_of k.blocks b) (place-below k.blocks b n) ∙ ap (λ z. block_part k (block z).part q) (place-holds k.blocks b n))
 
-    made : IsAssembled k (with v)
-    made = assembled k (with v) (in-plane v is-vector)
-
-    moved-q : IsWholeMember k (with v) q
-    moved-q = member-moved k block (with v) (moved v is-vector) q m
-
     abbrev a : List (List ℕ)
     a = map (outer_at k.part q) k.cuts
 
-    list-at : (i : ℕ) → i < length k.cuts → slice_index_or a i [] ≡ outer_at k.part q (slice_index k.cuts i)
-    list-at i l = get_or-map (outer_at k.part q) k.cuts i 0 [] l
+    are : AreArranged k (with v) a
+    are = parts.orders-arranged k block (with v) is (moved v is-vector) q m same
 
     is-lists : IsVector [] k.cuts (A v) a
-    is-lists = record {
-      long = length-map k.cuts (outer_at k.part q);
-      each = λ i l.
-          let c = slice_index k.cuts i in
-          let n : is_member c k.cuts ≡ true = member-at k.cuts i 0 l in
-          subst (Has (A v c)) (sym (list-at i l)) (has-from (A v c) (outer_at k.part q c) (((listed v is-vector c n).exactly (outer_at k.part q c)).1 (member-arranged k (with v) made q moved-q same c (made.cuts_in c n))));
-    }
-
-    here : IsPresent k (with v) a (whole_system k (with v) a)
-    here = present k (with v) a (in-plane v is-vector) (arranged v a is-lists)
+    is-lists = record { long = are.one_each; each = λ i l. has-from (A v (slice_index k.cuts i)) (slice_index_or a i []) (are.each i l) }
 
     it-is : whole_system k (with v) a ≡ q
-    it-is = sym (parts-tell k (with v) made q (whole_system k (with v) a) m.plane.system here.member.plane.system
-        (λ b n. same b n ∙ sym (here.parts b n))
-        (λ c n. sym (subst (λ z. slice_index_or a (place_of k.cuts c) [] ≡ outer_at k.part q z) (place-holds k.cuts c n) (list-at (place_of k.cuts c) (place-below k.cuts c n)))
-            ∙ sym (subst (λ z. outer_at k.part (whole_system k (with v) a) z ≡ slice_index_or a (place_of k.cuts c) []) (place-holds k.cuts c n) (here.rounds (place_of k.cuts c) (place-below k.cuts c n)))))
+    it-is = parts.made-of_parts k block (with v) is (moved v is-vector) q m same
 
     among-all : Contains all q
     among-all =
