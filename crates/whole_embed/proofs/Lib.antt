@@ -23,6 +23,9 @@ pub mod LedBlocks
 pub mod AdvancedBlocks
 pub mod Steps
 pub mod Assembly
+pub mod FrameFacts
+pub mod Ranks
+pub mod WholeLists
 pub mod WalkSteps
 pub mod Following
 pub mod OfParts

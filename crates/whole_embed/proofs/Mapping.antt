@@ -46,8 +46,8 @@ pub permuted-map : (f : ℕ → ℕ) (l k : List ℕ) → is_distinct l ≡ true
 permuted-map f l k d once p = permutation-from_members (map f l) (map f k) (distinct-map f l once d)
     (distinct-map f k (λ x y m n. once x y (sym (permutation-member l k x p) ∙ m) (sym (permutation-member l k y p) ∙ n)) (permutation-distinct l k p d))
     (λ z. same-test (is_member z (map f l)) (is_member z (map f k))
-        (λ m. let w = map-member f l z m in subst (λ u. is_member u (map f k) ≡ true) w.2 (member-map f k w.0 (permutation-member l k w.0 p ∙ w.1)))
-        (λ m. let w = map-member f k z m in subst (λ u. is_member u (map f l) ≡ true) w.2 (member-map f l w.0 (sym (permutation-member l k w.0 p) ∙ w.1))))
+    (λ m. let w = map-member f l z m in subst (λ u. is_member u (map f k) ≡ true) w.2 (member-map f k w.0 (permutation-member l k w.0 p ∙ w.1)))
+    (λ m. let w = map-member f k z m in subst (λ u. is_member u (map f l) ≡ true) w.2 (member-map f l w.0 (sym (permutation-member l k w.0 p) ∙ w.1))))
 
 -- the first of the images
 pub first-map : (f : ℕ → ℕ) (l k : List ℕ) → ((x : ℕ) → is_member x l ≡ is_member x k) → first_or 0 l ≡ first_or 0 k → first_or 0 (map f l) ≡ first_or 0 (map f k)
@@ -74,7 +74,7 @@ around-back f g l k h a =
     same x m = same-test (is_member (f x) k) (is_member x (map g k))
         (λ n. subst (λ z. is_member z (map g k) ≡ true) (h x m) (member-map g k (f x) n))
         (λ n.
-            let w = map-member g k x n in
-            let u = map-member f l w.0 (around-member (map f l) k w.0 a w.1) in
-            let e : u.0 ≡ x = sym (h u.0 u.1) ∙ ap g u.2 ∙ w.2 in
-            subst (λ z. is_member z k ≡ true) (sym u.2 ∙ ap f e) w.1)
+        let w = map-member g k x n in
+        let u = map-member f l w.0 (around-member (map f l) k w.0 a w.1) in
+        let e : u.0 ≡ x = sym (h u.0 u.1) ∙ ap g u.2 ∙ w.2 in
+        subst (λ z. is_member z k ≡ true) (sym u.2 ∙ ap f e) w.1)

@@ -36,9 +36,9 @@ kept-moved a b m k q h =
 kept-back : (a b : BlockInPlane) → IsMovedBlock a b → (k : Component) (q : List (List ℕ)) → IsKept b.part.graph b.nodes (lock_at b.locks) b.rotation (block_part k b.part q) → IsKept a.part.graph a.nodes (lock_at a.locks) a.rotation (block_part k a.part q)
 kept-back a b m k q h =
     let w : IsKept a.part.graph a.nodes (lock_at a.locks) b.rotation (block_part k a.part q) =
-        subst (λ (z : List Bool). IsKept a.part.graph a.nodes (lock_at z) b.rotation (block_part k a.part q)) m.locks
-        (subst (λ (z : List Node). IsKept a.part.graph z (lock_at b.locks) b.rotation (block_part k a.part q)) m.nodes
-        (subst (λ (z : GraphPart). IsKept z.graph b.nodes (lock_at b.locks) b.rotation (block_part k z q)) m.part h)) in
+    subst (λ (z : List Bool). IsKept a.part.graph a.nodes (lock_at z) b.rotation (block_part k a.part q)) m.locks
+    (subst (λ (z : List Node). IsKept a.part.graph z (lock_at b.locks) b.rotation (block_part k a.part q)) m.nodes
+    (subst (λ (z : GraphPart). IsKept z.graph b.nodes (lock_at b.locks) b.rotation (block_part k z q)) m.part h)) in
     record { plane = w.plane; keeps = λ j l y. w.keeps j l y ∙ m.keeps j l y }
 
 -- the order is the same
@@ -63,17 +63,23 @@ module _ (k : Component) (old new : ℕ → BlockInPlane) (moved : AreMoved k ol
   member-back q m = record { plane = m.plane; kept = λ b c. kept-back (old b) (new b) (moved b c) k q (m.kept b c) }
 
   pub precedes-moved : (q r : List (List ℕ)) → WholePrecedes k old q r → WholePrecedes k new q r
-  precedes-moved q r (inl w) = inl (w.0, record {
-    among = w.1.among;
-    same = λ a c l. same-forth (old a) (new a) (moved a c) k q r (w.1.same a c l);
-    earlier = precedes-forth (old w.0) (new w.0) (moved w.0 w.1.among) k q r w.1.earlier;
-  })
-  precedes-moved q r (inr w) = inr (w.0, record {
-    among = w.1.among;
-    parts = λ b c. same-forth (old b) (new b) (moved b c) k q r (w.1.parts b c);
-    same = w.1.same;
-    smaller = w.1.smaller;
-  })
+  precedes-moved q r (inl w) = inl (
+    w.0,
+    record {
+      among = w.1.among;
+      same = λ a c l. same-forth (old a) (new a) (moved a c) k q r (w.1.same a c l);
+      earlier = precedes-forth (old w.0) (new w.0) (moved w.0 w.1.among) k q r w.1.earlier;
+    },
+  )
+  precedes-moved q r (inr w) = inr (
+    w.0,
+    record {
+      among = w.1.among;
+      parts = λ b c. same-forth (old b) (new b) (moved b c) k q r (w.1.parts b c);
+      same = w.1.same;
+      smaller = w.1.smaller;
+    },
+  )
 
   -- the list is the same
   pub list-moved : (l : List (List (List ℕ))) → IsWholeList k old l → IsWholeList k new l

@@ -176,11 +176,14 @@ module _ (k : Component) (block : ℕ → BlockInPlane) where
         by-block : (s : List (List ℕ)) (c : ℕ) → M s → PrecedesInBlock k block q s c → (r ≡ s) ⊎ WholePrecedes k block r s
         by-block s c n w = elim (cases_order c b) [
           | inl e ↦ first-parts r s mr n (parts e) (λ v m. (rounds v m).1)
-          | inr (inl l) ↦ inr (inl (c, record {
-            among = w.among;
-            same = λ a m u. sym (same a m (omega (arith, u, l))) ∙ w.same a m u;
-            earlier = subst (λ (z : List (List ℕ)). Precedes (tree c) z (part s c)) (same c w.among l) w.earlier;
-          }))
+          | inr (inl l) ↦ inr (inl (
+            c,
+            record {
+              among = w.among;
+              same = λ a m u. sym (same a m (omega (arith, u, l))) ∙ w.same a m u;
+              earlier = subst (λ (z : List (List ℕ)). Precedes (tree c) z (part s c)) (same c w.among l) w.earlier;
+            },
+          ))
           | inr (inr l) ↦ absurd ((later c w.among l).0 s n w.earlier)
         ]
           where
@@ -210,12 +213,15 @@ module _ (k : Component) (block : ℕ → BlockInPlane) where
         at-vertex : (s : List (List ℕ)) (c : ℕ) → M s → PrecedesAtCut k block q s c → (r ≡ s) ⊎ WholePrecedes k block r s
         at-vertex s c n w = elim (cases_order c v) [
           | inl e ↦ first-rounds r s mr n parts-rs (rounds e)
-          | inr (inl l) ↦ inr (inr (c, record {
-            among = w.among;
-            parts = parts-rs;
-            same = λ u m h. sym (same u m (omega (arith, h, l))) ∙ w.same u m h;
-            smaller = subst (λ (z : List ℕ). is_before z (round s c) ≡ true) (same c w.among l) w.smaller;
-          }))
+          | inr (inl l) ↦ inr (inr (
+            c,
+            record {
+              among = w.among;
+              parts = parts-rs;
+              same = λ u m h. sym (same u m (omega (arith, h, l))) ∙ w.same u m h;
+              smaller = subst (λ (z : List ℕ). is_before z (round s c) ≡ true) (same c w.among l) w.smaller;
+            },
+          ))
           | inr (inr l) ↦ absurd ((later c w.among l).0 s n w.parts w.smaller)
         ]
           where
@@ -230,11 +236,14 @@ module _ (k : Component) (block : ℕ → BlockInPlane) where
             ]
 
         between : (s : List (List ℕ)) → M s → WholePrecedes k block q s → (r ≡ s) ⊎ WholePrecedes k block r s
-        between s n (inl w) = inr (inl (w.0, record {
-          among = w.1.among;
-          same = λ a m l. sym (parts a m) ∙ w.1.same a m l;
-          earlier = subst (λ (z : List (List ℕ)). Precedes (tree w.0) z (part s w.0)) (parts w.0 w.1.among) w.1.earlier;
-        }))
+        between s n (inl w) = inr (inl (
+          w.0,
+          record {
+            among = w.1.among;
+            same = λ a m l. sym (parts a m) ∙ w.1.same a m l;
+            earlier = subst (λ (z : List (List ℕ)). Precedes (tree w.0) z (part s w.0)) (parts w.0 w.1.among) w.1.earlier;
+          },
+        ))
         between s n (inr w) = at-vertex s w.0 n w.1
 
     -- where all parts and orders are last, the member is the last

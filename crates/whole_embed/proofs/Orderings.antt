@@ -1,5 +1,6 @@
 -- Lists that are orderings of increasing numbers, and their cyclic orders from the least number on.
-use Rattle.std.proofs.Common.{◌≡◌, ◌≢◌, ℕ, ◌<◌, ◌≤◌, true, List, [], ◌∷◌, length, get_or, refl, sym, ap, ◌∙◌, subst, arith, IsPermutation}
+use Rattle.std.proofs.Common.{◌≡◌, ◌≢◌, ℕ, ◌<◌, ◌≤◌, true, None, Some, List, [], ◌∷◌, length, get_or, refl, sym, ap, ◌∙◌, subst, arith, IsPermutation}
+use Rattle.std.specs.List.{slice_get}
 use Rattle.std.specs.List.Sorted.{IsSorted}
 use Rattle.std.specs.Ordering.{nat_cmp}
 use Rattle.std.proofs.lemmas.List.Sorted.{IsPermutation-sym, IsPermutation-trans, IsNonDecreasingBy-from_sort, length_permutation}
@@ -12,6 +13,7 @@ use Rattle.permutations.proofs.NormalForm.{least-same, least-first_member}
 use Rattle.multigraph.specs.Part.{Rises}
 use Rattle.graph_theory.proofs.Rising.{members-same}
 use Rattle.whole_embed.proofs.Outer.{rises-distinct, first-least}
+use Rattle.whole_embed.proofs.FrameFacts.{first-split, first-none}
 
 -- different numbers sorted increase
 sorted-rises : (sorted : List ℕ) → is_distinct sorted ≡ true → IsSorted nat_cmp sorted → Rises sorted
@@ -43,3 +45,15 @@ first-in first at edges p = permutation-member (first ∷ at) edges first p ∙ 
 pub none-least : (edges : List ℕ) → IsPermutation [] edges → edges ≡ from_least edges
 none-least [] p = refl
 none-least (x ∷ edges) p = absurd (omega (arith, length_permutation [] (x ∷ edges) p))
+
+-- an ordering has the first of the numbers
+pub ordering-first : (at edges : List ℕ) (first : ℕ) → slice_get at 0 ≡ Some first → IsPermutation at edges → is_member first edges ≡ true
+ordering-first at edges first h p = let w = first-split at first h in first-in first w.0 edges (subst (λ (l : List ℕ). IsPermutation l edges) w.1 p)
+
+-- turned to it, it is written from its least number on
+pub ordering-turned : (at edges : List ℕ) (first : ℕ) → Rises at → slice_get at 0 ≡ Some first → IsPermutation at edges → turned edges first ≡ from_least edges
+ordering-turned at edges first r h p = let w = first-split at first h in turned-least first w.0 edges (subst Rises w.1 r) (subst (λ (l : List ℕ). IsPermutation l edges) w.1 p)
+
+-- so is an ordering of nothing
+pub ordering-none : (at edges : List ℕ) → slice_get at 0 ≡ None → IsPermutation at edges → edges ≡ from_least edges
+ordering-none at edges h p = none-least edges (subst (λ (l : List ℕ). IsPermutation l edges) (first-none at h) p)

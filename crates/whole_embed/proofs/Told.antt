@@ -87,10 +87,10 @@ module _ (k : Component) (block : ℕ → BlockInPlane) (made : IsAssembled k bl
           let fe : is_member f k.part.edges ≡ true = round-edge q a v m f (round-member q a v m f ∙ here) in
           let w = made.edge_block f fe in
           let eq : map (place_of (block b).part.edges) (outer_at k.part q v) ≡ map (place_of (block b).part.edges) (outer_at k.part r v) =
-              sym (ap (map (place_of (block b).part.edges)) (whole q a f here)) ∙ (sym (part-at q b v t) ∙ (ap (λ (z : List (List ℕ)). order_at z (place_of (block b).part.vertices v)) (same b w.0) ∙ (part-at r b v t ∙ ap (map (place_of (block b).part.edges)) (whole r c f here)))) in
+          sym (ap (map (place_of (block b).part.edges)) (whole q a f here)) ∙ (sym (part-at q b v t) ∙ (ap (λ (z : List (List ℕ)). order_at z (place_of (block b).part.vertices v)) (same b w.0) ∙ (part-at r b v t ∙ ap (map (place_of (block b).part.edges)) (whole r c f here)))) in
           map-injective (place_of (block b).part.edges) (outer_at k.part q v) (outer_at k.part r v)
-              (λ x y h j o. sym (place-holds (block b).part.edges x (of-block q a f here x h)) ∙ (ap (slice_index (block b).part.edges) o ∙ place-holds (block b).part.edges y (of-block r c f here y j)))
-              eq
+          (λ x y h j o. sym (place-holds (block b).part.edges x (of-block q a f here x h)) ∙ (ap (slice_index (block b).part.edges) o ∙ place-holds (block b).part.edges y (of-block r c f here y j)))
+          eq
         where
           -- all edges there are of one block
           of-block : (s : List (List ℕ)) → IsRotationSystem g s → (f : ℕ) → is_member f (edges_around k v) ≡ true → (x : ℕ) → is_member x (outer_at k.part s v) ≡ true → is_member x (block (block_with k f)).part.edges ≡ true
@@ -130,7 +130,7 @@ module _ (k : Component) (block : ℕ → BlockInPlane) (made : IsAssembled k bl
         ap (λ (z : List (List ℕ)). map (slice_index (block b).part.edges) (order_at z (place_of (block b).part.vertices v))) (sym (same b among))
         ∙ (ap (map (slice_index (block b).part.edges)) (part-at s b v t)
         ∙ map-back (place_of (block b).part.edges) (slice_index (block b).part.edges) (from_least (inside b l))
-            (λ x m. place-holds (block b).part.edges x (member-filter_parts (λ e. is_member e (block b).part.edges) l x (sym (from_least-member (inside b l) x) ∙ m)).1))
+        (λ x m. place-holds (block b).part.edges x (member-filter_parts (λ e. is_member e (block b).part.edges) l x (sym (from_least-member (inside b l) x) ∙ m)).1))
 
     kept : (e : ℕ) → is_member e l ≡ true → keeps (block_with k) (block_order block v) (block_with k e) l ≡ true
     kept e m =
@@ -139,7 +139,7 @@ module _ (k : Component) (block : ℕ → BlockInPlane) (made : IsAssembled k bl
         let b : ℕ = block_with k e in
         let d : is_distinct (inside b l) ≡ true = distinct-filter (λ x. is_member x (block b).part.edges) l (round-distinct s sys v there) in
         equal-same (from_least (of_block (block_with k) b l)) (from_least (block_order block v b))
-            (ap from_least (of-inside b w.0) ∙ sym (ap from_least (order-is b w.0 t) ∙ from_least-twice (inside b l) d))
+        (ap from_least (of-inside b w.0) ∙ sym (ap from_least (order-is b w.0 t) ∙ from_least-twice (inside b l) d))
 
     -- the numbers of the component's edges
     abbrev inner : ℕ → ℕ

@@ -230,6 +230,7 @@ fn blocks_of_edges(
         < edge_count graph.now }
     ensures { IfOk result (λ list. list.items ≡ map (block_of blocks.now.blocks) edges.now) }
 {
+    graph.keeps_limits();
     let table = block_table(alloc, graph, blocks)?;
     let mut list = Vec::with_capacity(alloc, edges.len())?;
     for edge in edges {

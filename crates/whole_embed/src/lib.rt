@@ -10,6 +10,7 @@ pub mod laws;
 mod list_laws;
 mod listing;
 mod members;
+mod numbering;
 mod ordering;
 mod walking;
 mod wholes;

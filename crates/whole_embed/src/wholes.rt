@@ -24,6 +24,7 @@ fn order_in(alloc: Global, member: &Member, v: u32) -> Result<Vec<u32>, AllocErr
     match &member.plane {
         Some(plane) => {
             let part = &member.part;
+            part.keeps_numbers();
             plane.belongs();
             let mut round = plane.rotation().list(part.inner_vertex(v).unwrap());
             while let Some(edge) = round.next() {
