@@ -1,11 +1,11 @@
 -- Lists in which each edge is an option of those before it: what they have of each block, and that they are the arrangements.
-use Rattle.std.proofs.Common.{◌≡◌, ◌≢◌, ℕ, zero, suc, ◌+◌, ◌<◌, ◌≤◌, ◌⊎◌, ◌↔◌, inl, inr, Bool, true, false, not, ◌&&◌, ◌||◌, ◌==◌, nat_lt, List, [], ◌∷◌, ◌++◌, length, filter, IsPermutation, refl, sym, ap, ap₂, ◌∙◌, subst, arith, append_assoc, append-nil, length-append}
-use Rattle.std.proofs.lemmas.Bool.{cases_Bool, cases_eq, both_ways, and_parts, and_from, or_parts, eq-eqb, ne_eqb, eqb-true, true≢false, false_from_ne_true, true_from_ne_false}
+use Rattle.std.proofs.Common.{◌≡◌, ◌≢◌, ℕ, ◌<◌, inl, inr, true, false, ◌==◌, nat_lt, List, [], ◌∷◌, ◌++◌, length, IsPermutation, refl, sym, ap, ◌∙◌, subst, arith, append_assoc, append-nil}
+use Rattle.std.proofs.lemmas.Bool.{cases_Bool, cases_eq, both_ways, and_parts, and_from, or_parts, eq-eqb, ne_eqb, eqb-true, true≢false, false_from_ne_true}
 use Rattle.std.proofs.lemmas.List.Elements.{filter-append}
 use Rattle.permutations.specs.Members.{is_member, is_distinct}
-use Rattle.permutations.specs.Cyclic.{first_or, successor, turned, from_least, IsTurn}
-use Rattle.permutations.proofs.Members.{member-head, member-tail, member-cases, member-append_left, member-append_right, member-append_cases, distinct-append_apart, distinct-append_left, CutAt, cut_at}
-use Rattle.permutations.proofs.Filter.{filter-yes, filter-no, filter-none, filter-member, member-filter_parts, no_member-filter, distinct-filter}
+use Rattle.permutations.specs.Cyclic.{first_or, successor, from_least, IsTurn}
+use Rattle.permutations.proofs.Members.{member-head, member-tail, member-cases, member-append_left, member-append_right, member-append_cases, distinct-append_apart, CutAt, cut_at}
+use Rattle.permutations.proofs.Filter.{filter-yes, filter-no, filter-none, filter-member, member-filter_parts, no_member-filter}
 use Rattle.permutations.proofs.Arrangements.{permutation-member, permutation-distinct, permutation-from_members}
 use Rattle.permutations.proofs.Successor.{successor-member}
 use Rattle.permutations.proofs.Turned.{turned-head, turned-turn, IsTurn-refl, IsTurn-sym, IsTurn-member, IsTurn-distinct, IsTurn-successor}
@@ -16,10 +16,10 @@ use Rattle.permutations.proofs.Relation.{same-tests}
 use Rattle.choice_lists.proofs.Places.{ascends-from}
 use Rattle.choice_lists.proofs.Smaller.{ascends-distinct}
 use Rattle.arrangements.specs.Arranged.{of_block, keeps, cross, AreOrders, IsArrangement}
-use Rattle.arrangements.specs.Options.{follower, waiting, is_opened, is_option, IsBuilt}
+use Rattle.arrangements.specs.Options.{follower, is_opened, is_option, IsBuilt}
 use Rattle.arrangements.proofs.Lists.{equal-same, same-equal, no-longer, members-back, missing, distinct-more, member-more, comes-next}
 use Rattle.arrangements.proofs.Changes.{of_either, either-left, Interleaved, cross-interleaved, four-cross}
-use Rattle.arrangements.proofs.Waiting.{edge-opens, opened-edge, unopened, Top, top-waits, top-after, top-exists, option-cases, option-opens, option-follows, built-cut, cut-built, built-front}
+use Rattle.arrangements.proofs.Waiting.{opened-edge, unopened, Top, top-waits, top-after, top-exists, option-cases, option-opens, option-follows, built-cut, cut-built, built-front}
 
 -- an edge of the block comes after the others of it
 pub of_block-more : (block : ℕ → ℕ) (b : ℕ) (p : List ℕ) (e : ℕ) → block e ≡ b → of_block block b (p ++ e ∷ []) ≡ of_block block b p ++ e ∷ []
@@ -57,11 +57,11 @@ module _ (block : ℕ → ℕ) (order : ℕ → List ℕ) (edges : List ℕ) (o 
   own e h = o.members e e h ∙ and_from (is_member e edges) (block e == block e) h (eq-eqb (block e) (block e) refl)
 
   -- what is in the order of a block is an edge of it
-  order-parts : (e x : ℕ) → is_member e edges ≡ true → is_member x (order (block e)) ≡ true → (is_member x edges ≡ true) × (block x ≡ block e)
+  pub order-parts : (e x : ℕ) → is_member e edges ≡ true → is_member x (order (block e)) ≡ true → (is_member x edges ≡ true) × (block x ≡ block e)
   order-parts e x h m = let p = and_parts (is_member x edges) (block x == block e) (sym (o.members e x h) ∙ m) in (p.0, eqb-true (block x) (block e) p.1)
 
   -- an edge of its block is in the order
-  order-has : (e x : ℕ) → is_member e edges ≡ true → is_member x edges ≡ true → block x ≡ block e → is_member x (order (block e)) ≡ true
+  pub order-has : (e x : ℕ) → is_member e edges ≡ true → is_member x edges ≡ true → block x ≡ block e → is_member x (order (block e)) ≡ true
   order-has e x h m q = o.members e x h ∙ and_from (is_member x edges) (block x == block e) m (eq-eqb (block x) (block e) q)
 
   -- the follower is an edge of the same block
@@ -85,8 +85,7 @@ module _ (block : ℕ → ℕ) (order : ℕ → List ℕ) (edges : List ℕ) (o 
     | inl a ↦
         let r = turned-head (order (block e)) e (own e a.0) in
         let none : of_block block (block e) p ≡ [] = filter-none (λ x. block x == block e) p (λ x m. ne_eqb (block x) (block e) (unopened block p (block e) x a.1 m)) in
-        let whole : of_block block (block e) (p ++ e ∷ []) ≡ e ∷ [] = of_block-more block (block e) p e refl ∙ ap (λ (z : List ℕ). z ++ e ∷ []) none in
-        (
+        let whole : of_block block (block e) (p ++ e ∷ []) ≡ e ∷ [] = of_block-more block (block e) p e refl ∙ ap (λ (z : List ℕ). z ++ e ∷ []) none in (
           a.0,
           false_from_ne_true (is_member e p) (λ m. unopened block p (block e) e a.1 m refl),
           (r.0, subst (λ (z : List ℕ). IsTurn (order (block e)) (z ++ r.0)) (sym whole) (subst (IsTurn (order (block e))) r.1 (turned-turn (order (block e)) e))),

@@ -1,5 +1,5 @@
 -- How often the block changes along a list: where blocks b and c cross their edges alternate, and the other way around.
-use Rattle.std.proofs.Common.{◌≡◌, ◌≢◌, ℕ, zero, suc, ◌+◌, ◌<◌, ◌≤◌, ◌⊎◌, ◌↔◌, inl, inr, Bool, true, false, ◌||◌, ◌==◌, nat_lt, List, [], ◌∷◌, ◌++◌, length, filter, refl, sym, ap, ap₂, ◌∙◌, subst, arith, append_assoc, append-nil}
+use Rattle.std.proofs.Common.{◌≡◌, ◌≢◌, ℕ, ◌+◌, ◌<◌, ◌≤◌, ◌⊎◌, ◌↔◌, inl, inr, Bool, true, false, ◌||◌, ◌==◌, nat_lt, List, [], ◌∷◌, ◌++◌, length, filter, refl, sym, ap, ap₂, ◌∙◌, subst, arith, append_assoc, append-nil}
 use Rattle.std.proofs.lemmas.Bool.{cases_Bool, cases_eq, both_ways, or_cases, or_left, or_right, eq-eqb, ne_eqb, eqb-true, lt-ltb, ltb-true, true≢false, false_from_ne_true}
 use Rattle.permutations.specs.Members.{is_member, is_distinct}
 use Rattle.permutations.specs.Cyclic.{IsTurn, Follows, FollowsAround}
@@ -108,7 +108,7 @@ change block p x gap (e ∷ l) f h = elim (cases_Bool (p e)) [
   | inl passed ↦ elim (cases_eq (block e) (block x)) [
     | inl same ↦
         let s : changes_from block (block x) (filter p (e ∷ l)) ≡ changes_from block (block e) (filter p l) =
-          ap (changes_from block (block x)) (filter-yes p e l passed) ∙ changes-same block (block x) e (filter p l) same ∙ ap (λ (k : ℕ). changes_from block k (filter p l)) (sym same) in
+        ap (changes_from block (block x)) (filter-yes p e l passed) ∙ changes-same block (block x) e (filter p l) same ∙ ap (λ (k : ℕ). changes_from block k (filter p l)) (sym same) in
         let r : Change block p e [] l = change block p e [] l (λ v m. absurd (true≢false (sym m))) (subst (λ (n : ℕ). 0 < n) s h) in
         record {
           front = x ∷ (gap ++ r.front);
@@ -185,32 +185,32 @@ record Thrice (block : ℕ → ℕ) (p : ℕ → Bool) (l : List ℕ) : Type 0 w
 
 thrice : (block : ℕ → ℕ) (p : ℕ → Bool) (l : List ℕ) → 2 < changes block (filter p l) → Thrice block p l
 thrice block p l h = record {
-    front = s.front ++ a.front;
-    x = a.y;
-    near = a.middle ++ b.front;
-    y = b.y;
-    middle = b.middle;
-    z = b.z;
-    back = b.back;
-    w = c.z;
-    is = s.is
-        ∙ ap (λ (k : List ℕ). s.front ++ k) (a.is ∙ ap (λ (k : List ℕ). a.front ++ a.y ∷ (a.middle ++ k)) b.is)
-        ∙ sym (append_assoc s.front a.front (a.y ∷ (a.middle ++ (b.front ++ rest))))
-        ∙ ap (λ (k : List ℕ). (s.front ++ a.front) ++ a.y ∷ k) (sym (append_assoc a.middle b.front rest));
-    first = s.x;
-    second = a.z;
-    of_x = a.of_y;
-    of_y = b.of_y;
-    passes_first = s.passes;
-    passes_second = a.passes;
-    passes_z = b.passes;
-    passes_w = c.passes;
-    x_y = a.other;
-    y_z = b.other;
-    z_w = c.other;
-    later = elim (member-cases c.z b.z b.back among) [ inl e ↦ absurd (c.other (ap block (sym e))) | inr m ↦ m ];
-    free = b.free;
-  }
+  front = s.front ++ a.front;
+  x = a.y;
+  near = a.middle ++ b.front;
+  y = b.y;
+  middle = b.middle;
+  z = b.z;
+  back = b.back;
+  w = c.z;
+  is = s.is
+      ∙ ap (λ (k : List ℕ). s.front ++ k) (a.is ∙ ap (λ (k : List ℕ). a.front ++ a.y ∷ (a.middle ++ k)) b.is)
+      ∙ sym (append_assoc s.front a.front (a.y ∷ (a.middle ++ (b.front ++ rest))))
+      ∙ ap (λ (k : List ℕ). (s.front ++ a.front) ++ a.y ∷ k) (sym (append_assoc a.middle b.front rest));
+  first = s.x;
+  second = a.z;
+  of_x = a.of_y;
+  of_y = b.of_y;
+  passes_first = s.passes;
+  passes_second = a.passes;
+  passes_z = b.passes;
+  passes_w = c.passes;
+  x_y = a.other;
+  y_z = b.other;
+  z_w = c.other;
+  later = elim (member-cases c.z b.z b.back among) [ inl e ↦ absurd (c.other (ap block (sym e))) | inr m ↦ m ];
+  free = b.free;
+}
   where
     none : (e : ℕ) → is_member e [] ≡ true → p e ≡ false
     none e m = absurd (true≢false (sym m))
@@ -438,7 +438,24 @@ cross-edges block b c l h = elim (cross-interleaved block b c l h) [
     met block b c l i = (
       subst (λ (k : List ℕ). is_member i.x k ≡ true) (sym i.is) (member-append_right i.x i.front (i.x ∷ (i.near ++ i.y ∷ (i.middle ++ i.z ∷ i.back))) (member-head i.x (i.near ++ i.y ∷ (i.middle ++ i.z ∷ i.back)))),
       subst (λ (k : List ℕ). is_member i.y k ≡ true) (sym i.is)
-        (member-append_right i.y i.front (i.x ∷ (i.near ++ i.y ∷ (i.middle ++ i.z ∷ i.back)))
-        (member-tail i.y i.x (i.near ++ i.y ∷ (i.middle ++ i.z ∷ i.back))
-        (member-append_right i.y i.near (i.y ∷ (i.middle ++ i.z ∷ i.back)) (member-head i.y (i.middle ++ i.z ∷ i.back))))),
+          (member-append_right i.y i.front (i.x ∷ (i.near ++ i.y ∷ (i.middle ++ i.z ∷ i.back)))
+          (member-tail i.y i.x (i.near ++ i.y ∷ (i.middle ++ i.z ∷ i.back))
+          (member-append_right i.y i.near (i.y ∷ (i.middle ++ i.z ∷ i.back)) (member-head i.y (i.middle ++ i.z ∷ i.back))))),
     )
+
+-- where no blocks cross, edges that alternate are all of one block
+pub apart-one_block : (block : ℕ → ℕ) (l : List ℕ) → ((b c : ℕ) → cross block b c l ≡ false)
+    → (a b c d : ℕ) → FollowsAround l (a ∷ b ∷ c ∷ d ∷ []) → block a ≡ block c → block b ≡ block d → block a ≡ block b
+apart-one_block block l none a b c d f p q = elim (cases_eq (block a) (block b)) [
+  | inl e ↦ e
+  | inr n ↦ absurd (both_ways (cross block (block a) (block b) l) (none (block a) (block b))
+      (alternate-cross block (block a) (block b) l n (record { first = a; second = b; third = c; fourth = d; around = f; of_first = refl; of_second = refl; of_third = sym p; of_fourth = sym q })))
+]
+
+-- where edges that alternate are all of one block, no blocks cross
+pub one_block-apart : (block : ℕ → ℕ) (l : List ℕ) → is_distinct l ≡ true
+    → ((a b c d : ℕ) → FollowsAround l (a ∷ b ∷ c ∷ d ∷ []) → block a ≡ block c → block b ≡ block d → block a ≡ block b)
+    → (b c : ℕ) → cross block b c l ≡ false
+one_block-apart block l d one b c = false_from_ne_true (cross block b c l) (λ h.
+    let a = cross-alternate block b c l d h in
+    cross-differ block b c l h (sym a.of_first ∙ one a.first a.second a.third a.fourth a.around (a.of_first ∙ sym a.of_third) (a.of_second ∙ sym a.of_fourth) ∙ a.of_second))

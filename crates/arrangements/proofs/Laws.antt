@@ -1,13 +1,19 @@
 -- The laws, with their premises in the order of their statements.
-use Rattle.std.proofs.Common.{List}
-use Rattle.arrangements.specs.Laws.{CrossIsAlternate, ArrangementsAtAreListed, FirstArrangementIsFirst, ArrangedOrRefused, ArrangedByOptions, OptionExists, FilledIsFirst, FollowingIsNext, NoGreaterIsLast}
+use Rattle.arrangements.specs.Laws.{CrossIsAlternate, KeptInEachTurn, CrossInEachTurn, ArrangementsAtAreListed, FirstArrangementIsFirst, ArrangedOrRefused, ArrangedByOptions, OptionExists, FilledIsFirst, FollowingIsNext, NoGreaterIsLast}
 use Rattle.arrangements.proofs.Changes.{cross-is_alternate}
 use Rattle.arrangements.proofs.Built.{option-exists}
 use Rattle.arrangements.proofs.Listed.{arrangements-listed, first-is_first, arranged-by_options, filled-first, following-next, no_greater-last}
 use Rattle.arrangements.proofs.Refusals.{arranged-or_refused}
+use Rattle.arrangements.proofs.Turns.{keeps-turn, cross-turn}
 
 pub cross_is_alternate : CrossIsAlternate
 cross_is_alternate = cross-is_alternate
+
+pub kept_in_each_turn : KeptInEachTurn
+kept_in_each_turn = keeps-turn
+
+pub cross_in_each_turn : CrossInEachTurn
+cross_in_each_turn = cross-turn
 
 pub arrangements_are_listed : ArrangementsAtAreListed
 arrangements_are_listed = arrangements-listed

@@ -6,4 +6,15 @@ pub mod Built
 pub mod Greedy
 pub mod Listed
 pub mod Refusals
+pub mod Turns
+pub mod Along
+pub mod Gaps
 pub mod Laws
+pub mod Noted
+pub mod Tops
+pub mod Laid
+pub mod Notes
+pub mod Made
+pub mod Walked
+pub mod Passed
+mod Examples

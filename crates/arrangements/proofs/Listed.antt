@@ -1,7 +1,7 @@
 -- The arrangements at a vertex: all of them, in lexicographic order, the first, the next and the last by options.
-use Rattle.std.proofs.Common.{◌≡◌, ◌≢◌, ℕ, zero, suc, ◌+◌, ◌<◌, ◌≤◌, ◌⊎◌, ◌↔◌, inl, inr, Bool, true, false, not, nat_lt, List, [], ◌∷◌, ◌++◌, length, filter, take, get_or, slice_index_or, Contains, IsPermutation, refl, sym, ap, ◌∙◌, subst, arith, append-nil, length-append}
+use Rattle.std.proofs.Common.{◌≡◌, ℕ, zero, suc, ◌+◌, ◌<◌, ◌≤◌, ◌↔◌, inl, inr, Bool, true, false, not, nat_lt, List, [], ◌∷◌, ◌++◌, length, take, get_or, slice_index_or, Contains, IsPermutation, refl, sym, ap, ◌∙◌, subst, arith, append-nil, length-append}
 use Rattle.std.specs.List.{list_all}
-use Rattle.std.proofs.lemmas.Bool.{cases_Bool, cases_lt, both_ways, and_parts, and_from, not-true, not_from_false, ltb-true, true≢false, false_from_ne_true}
+use Rattle.std.proofs.lemmas.Bool.{cases_lt, both_ways, and_parts, and_from, not-true, not_from_false, ltb-true, true≢false, false_from_ne_true}
 use Rattle.std.proofs.lemmas.List.Kept.{AllPairs-filter}
 use Rattle.std.proofs.lemmas.List.Sorted.{IsPermutation-refl, length_permutation}
 use Rattle.permutations.specs.Members.{is_member}
@@ -12,7 +12,7 @@ use Rattle.choice_lists.specs.Order.{IsAt, Lists, is_before}
 use Rattle.choice_lists.specs.Arrangements.{factorial_number}
 use Rattle.choice_lists.specs.Choices.{IsBondChoice}
 use Rattle.choice_lists.specs.Products.{IsFirst, IsLast}
-use Rattle.choice_lists.proofs.Places.{At, Has, at-from, at-is, at-within, at-any, at-get, has-from, contains-from, Ascends, ascends-from, rising-from}
+use Rattle.choice_lists.proofs.Places.{At, Has, at-from, at-is, at-within, at-any, has-from, contains-from, Ascends, ascends-from, rising-from}
 use Rattle.choice_lists.proofs.Orders.{linear-before}
 use Rattle.choice_lists.proofs.Products.{at-last}
 use Rattle.choice_lists.proofs.Smaller.{has-member}
@@ -22,7 +22,7 @@ use Rattle.arrangements.specs.Options.{follower, is_option, IsBuilt, IsFilled, H
 use Rattle.arrangements.proofs.Lists.{all-passes, passes-all, has-filter, filter-has, next-place, ascends-at, move-cut}
 use Rattle.arrangements.proofs.Changes.{cross-edges}
 use Rattle.arrangements.proofs.Waiting.{option-cases, option-opens, built-more}
-use Rattle.arrangements.proofs.Built.{edges-once, option-exists, built-arrangement, arrangement-built}
+use Rattle.arrangements.proofs.Built.{option-exists, built-arrangement, arrangement-built}
 use Rattle.arrangements.proofs.Greedy.{filled-least, none-after, changed-after, changed-next, changed-built, same-member}
 
 -- the cyclic orders of increasing edges increase

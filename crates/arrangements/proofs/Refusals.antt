@@ -1,5 +1,5 @@
 -- A list of edges is an arrangement, or a block is the least whose cyclic order it changes, or two blocks are the least that cross.
-use Rattle.std.proofs.Common.{◌≡◌, ◌≢◌, ℕ, ◌<◌, ◌≤◌, ◌⊎◌, inl, inr, Bool, true, false, not, List, [], ◌∷◌, refl, sym, ap, ◌∙◌, subst, arith}
+use Rattle.std.proofs.Common.{◌≡◌, ℕ, ◌<◌, ◌≤◌, ◌⊎◌, inl, inr, Bool, true, false, not, List, [], ◌∷◌, refl, sym, ap, ◌∙◌, subst, arith}
 use Rattle.std.specs.List.{list_all}
 use Rattle.std.proofs.lemmas.Bool.{cases_Bool, cases_lt, cases_order, both_ways, not-true, not-false, true≢false, false_from_ne_true}
 use Rattle.permutations.specs.Members.{is_member}
@@ -97,7 +97,7 @@ apart-or_crossing block l = elim (least-failing rows block l) [
           ]
         ]
 
--- an arrangement, or why not
+-- an arrangement, or why it is not one
 pub arranged-or_refused : (block : ℕ → ℕ) (order : ℕ → List ℕ) (l : List ℕ)
     → (is_arranged block order l ≡ true) ⊎ (((b : ℕ) × IsLeastChanged block order l b) ⊎ (((e : ℕ) → is_member e l ≡ true → keeps block order (block e) l ≡ true) × ((b : ℕ) × (c : ℕ) × IsLeastCrossing block l b c)))
 arranged-or_refused block order l = elim (kept-or_changed block order l) [

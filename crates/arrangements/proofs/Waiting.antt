@@ -1,12 +1,12 @@
 -- Options of a prefix: the edges that are waiting, the last of them, and lists in which each edge is an option of those before it.
-use Rattle.std.proofs.Common.{◌≡◌, ◌≢◌, ℕ, zero, suc, ◌+◌, ◌<◌, ◌≤◌, ◌⊎◌, ◌↔◌, inl, inr, Bool, true, false, not, ◌&&◌, ◌||◌, ◌==◌, nat_lt, List, [], ◌∷◌, ◌++◌, length, map, filter, take, drop, get_or, slice_index, refl, sym, ap, ap₂, ◌∙◌, subst, arith, append_assoc, append-nil, length-append}
-use Rattle.std.proofs.lemmas.Bool.{cases_Bool, cases_eq, cases_lt, both_ways, and_parts, and_from, or_cases, or_left, or_right, not-true, not_from_false, not_from_true, eq-eqb, eqb-true, lt-ltb, ltb-true, true≢false, false_from_ne_true}
-use Rattle.std.proofs.lemmas.List.{take_at, take-append-le, take_all}
+use Rattle.std.proofs.Common.{◌≡◌, ◌≢◌, ℕ, zero, suc, ◌+◌, ◌<◌, ◌⊎◌, inl, inr, Bool, true, false, not, ◌&&◌, ◌==◌, nat_lt, List, [], ◌∷◌, ◌++◌, length, map, filter, take, drop, get_or, refl, sym, ap, ◌∙◌, subst, arith, append_assoc, length-append}
+use Rattle.std.proofs.lemmas.Bool.{cases_lt, both_ways, and_parts, and_from, or_cases, or_left, or_right, not-true, not_from_false, eq-eqb, eqb-true, lt-ltb, ltb-true, true≢false}
+use Rattle.std.proofs.lemmas.List.{take-append-le}
 use Rattle.std.proofs.lemmas.List.Elements.{filter-append}
-use Rattle.permutations.specs.Members.{is_member, is_distinct}
+use Rattle.permutations.specs.Members.{is_member}
 use Rattle.permutations.specs.Cyclic.{last_or}
-use Rattle.permutations.proofs.Members.{member-head, member-tail, member-cases, member-append_left, member-append_right, member-append_cases, no_member-append_left}
-use Rattle.permutations.proofs.Filter.{filter-yes, filter-no, filter-member, member-filter_parts}
+use Rattle.permutations.proofs.Members.{member-head, member-tail, member-cases, member-append_right}
+use Rattle.permutations.proofs.Filter.{filter-yes, filter-member, member-filter_parts}
 use Rattle.permutations.proofs.Mapped.{member-map, map-member}
 use Rattle.permutations.proofs.Runs.{last-of}
 use Rattle.arrangements.specs.Options.{waiting, is_opened, is_option, IsBuilt}
@@ -44,9 +44,9 @@ top-waits follow l t w = waits-parts follow l t (subst (λ (z : List ℕ). is_me
 -- an edge that is waiting is the last one, or the last one comes after it
 pub top-after : (follow : ℕ → ℕ) (a : List ℕ) (x : ℕ) (b : List ℕ) (t : ℕ) → Top follow (a ++ x ∷ b) t → is_member (follow x) (a ++ x ∷ b) ≡ false → is_member t (x ∷ b) ≡ true
 top-after follow a x b t w n = elim (member-cases t x (filter q b) (last-after (filter q a) x (filter q b) w.front t (sym split ∙ w.is))) [
-    | inl e ↦ subst (λ (z : ℕ). is_member z (x ∷ b) ≡ true) e (member-head x b)
-    | inr m ↦ member-tail t x b (member-filter_parts q b t m).0
-  ]
+  | inl e ↦ subst (λ (z : ℕ). is_member z (x ∷ b) ≡ true) e (member-head x b)
+  | inr m ↦ member-tail t x b (member-filter_parts q b t m).0
+]
   where
     q : ℕ → Bool
     q e = not (is_member (follow e) (a ++ x ∷ b))
@@ -69,12 +69,12 @@ top-exists follow l x m n = let w = last-of (waiting follow l) some in (w.1, rec
 pub option-cases : (block follow : ℕ → ℕ) (edges l : List ℕ) (e : ℕ) → is_option block follow edges l e ≡ true
     → ((is_member e edges ≡ true) × (is_opened block (block e) l ≡ false)) ⊎ ((t : ℕ) × Top follow l t × (follow t ≡ e))
 option-cases block follow edges l e h = elim (or_cases (is_member e edges && not (is_opened block (block e) l)) (nat_lt 0 (length w) && (follow (last_or 0 w) == e)) h) [
-    | inl a ↦ let p = and_parts (is_member e edges) (not (is_opened block (block e) l)) a in inl (p.0, not-true (is_opened block (block e) l) p.1)
-    | inr b ↦
-        let p = and_parts (nat_lt 0 (length w)) (follow (last_or 0 w) == e) b in
-        let s = last-of w (ltb-true 0 (length w) p.0) in
-        inr (s.1, record { front = s.0; is = s.2 }, sym (ap follow (ap (last_or 0) s.2 ∙ last_or-more s.0 s.1 0)) ∙ eqb-true (follow (last_or 0 w)) e p.1)
-  ]
+  | inl a ↦ let p = and_parts (is_member e edges) (not (is_opened block (block e) l)) a in inl (p.0, not-true (is_opened block (block e) l) p.1)
+  | inr b ↦
+      let p = and_parts (nat_lt 0 (length w)) (follow (last_or 0 w) == e) b in
+      let s = last-of w (ltb-true 0 (length w) p.0) in
+      inr (s.1, record { front = s.0; is = s.2 }, sym (ap follow (ap (last_or 0) s.2 ∙ last_or-more s.0 s.1 0)) ∙ eqb-true (follow (last_or 0 w)) e p.1)
+]
   where
     w : List ℕ
     w = waiting follow l

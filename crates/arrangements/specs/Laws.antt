@@ -1,7 +1,7 @@
 -- What is proved of arrangements, as statements.
 use Rattle.std.specs.Prelude.{◌≡◌, ◌≢◌, ℕ, ◌+◌, ◌<◌, ◌⊎◌, ◌↔◌, true, List, length, Contains}
 use Rattle.permutations.specs.Members.{is_member, is_distinct}
-use Rattle.permutations.specs.Cyclic.{first_or}
+use Rattle.permutations.specs.Cyclic.{first_or, IsTurn}
 use Rattle.choice_lists.specs.Order.{IsAt, Lists, is_before}
 use Rattle.choice_lists.specs.Products.{IsFirst, IsLast}
 use Rattle.arrangements.specs.Arranged.{keeps, cross, is_arranged, arrangements_at, first_arrangement, AreOrders, IsArrangement}
@@ -11,6 +11,14 @@ use Rattle.arrangements.specs.Options.{follower, is_option, IsBuilt, IsFilled, H
 -- two blocks cross exactly where they alternate around the vertex
 abbrev pub CrossIsAlternate : Type 0
 CrossIsAlternate = (block : ℕ → ℕ) (b c : ℕ) (l : List ℕ) → is_distinct l ≡ true → b ≢ c → (cross block b c l ≡ true) ↔ Alternate block b c l
+
+-- it doesn't matter where a list begins: a block keeps its cyclic order in each turn of it, or in none
+abbrev pub KeptInEachTurn : Type 0
+KeptInEachTurn = (block : ℕ → ℕ) (order : ℕ → List ℕ) (b : ℕ) (l k : List ℕ) → is_distinct l ≡ true → IsTurn l k → keeps block order b k ≡ keeps block order b l
+
+-- and two blocks cross in each turn of it, or in none
+abbrev pub CrossInEachTurn : Type 0
+CrossInEachTurn = (block : ℕ → ℕ) (b c : ℕ) (l k : List ℕ) → is_distinct l ≡ true → IsTurn l k → cross block b c k ≡ cross block b c l
 
 -- all arrangements are listed, in lexicographic order
 abbrev pub ArrangementsAtAreListed : Type 0

@@ -1,5 +1,10 @@
--- Arrangements of the edges around a vertex, why a list is none, how they are made edge by edge, and the laws.
+-- Arrangements of the edges around a vertex, why a list is not one, how they are made edge by edge, and the laws; the tables of
+-- a vertex, what is noted of a prefix, and the least block that is changed.
 pub mod Arranged
 pub mod Refused
 pub mod Options
+pub mod Gaps
 pub mod Laws
+pub mod Tables
+pub mod Prefixes
+pub mod Changed

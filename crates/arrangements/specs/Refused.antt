@@ -1,4 +1,4 @@
--- Why a list of edges is no arrangement: the least block whose cyclic order it changes, and the least two blocks that cross.
+-- Why a list of edges is not an arrangement: the least block whose cyclic order it changes, and the least two blocks that cross.
 use Rattle.std.specs.Prelude.{◌≡◌, ℕ, ◌<◌, ◌≤◌, ◌⊎◌, true, false, List, [], ◌∷◌}
 use Rattle.permutations.specs.Members.{is_member}
 use Rattle.permutations.specs.Cyclic.{FollowsAround}

@@ -1,4 +1,4 @@
-// Arrangements of the edges around a vertex: theory without code that runs.
+// Arrangements of the edges around a vertex.
 //
 // Around a cut vertex there are edges of several blocks. Each block has a cyclic order of its own edges there. An arrangement is
 // a cyclic order of all edges that keeps those of the blocks and in which no two blocks cross: no edges of two blocks alternate.
@@ -20,6 +20,11 @@
 // arrangement differs from one at the last place where a greater option exists: it has the least greater one there, and the
 // least options after it.
 //
+// The calls work on tables of one vertex, which say of each edge the rank of its block and the edge that follows it there. What is
+// noted of a prefix is which edges are in it, which blocks are opened, and a stack of the edges that come next in the unfinished
+// blocks. To lay an edge takes a search for it among the edges of the vertex, and all else is constant on average, so the first
+// arrangement and the next take time in proportion to d log d for d edges. All room is taken when the tables are made.
+//
 // The lemmas that are used most (module of proofs/ in front):
 //   Changes    cross-interleaved, four-cross: blocks cross where their edges alternate along the list; cross-is_alternate: around
 //              the vertex
@@ -28,16 +33,30 @@
 //              arrangement-built: built lists of all edges are the arrangements
 //   Greedy     filled-least, changed-next: for options of any kind, the least list and the next one
 //   Listed     arrangements-listed, arrangement-length, some-arrangement, filled-first, following-next, no_greater-last
-//   Refusals   kept-or_changed, apart-or_crossing: an arrangement, or the least reason why a list is none
+//   Refusals   kept-or_changed, apart-or_crossing: an arrangement, or the least reason why a list is not one
+//   Turns      keeps-turn, cross-turn, changed-turn, crossing-turn: it doesn't matter where a list begins
+//   Along      keeps-along: a block keeps its cyclic order where each of its edges follows the one before it
+//   Gaps       gaps-cross, cross-gaps: two blocks cross where edges of the one are in two gaps of the other
 #![tactic(auto)]
 
-ghost use Rattle.arrangements.specs.Laws.{ArrangedByOptions, ArrangedOrRefused, ArrangementsAtAreListed, CrossIsAlternate};
-ghost use Rattle.arrangements.specs.Laws.{FilledIsFirst, FirstArrangementIsFirst, FollowingIsNext, NoGreaterIsLast};
-ghost use Rattle.arrangements.specs.Laws.{OptionExists};
+mod kept;
+mod making;
+mod prefixes;
+mod tables;
+mod vertices;
 
-/// The law that two blocks cross, by the test on a list, exactly where their edges alternate around the vertex.
+ghost use Rattle.arrangements.specs.Laws.{ArrangedByOptions, ArrangedOrRefused, ArrangementsAtAreListed, CrossIsAlternate};
+ghost use Rattle.arrangements.specs.Laws.{CrossInEachTurn, FilledIsFirst, FirstArrangementIsFirst, FollowingIsNext};
+ghost use Rattle.arrangements.specs.Laws.{KeptInEachTurn, NoGreaterIsLast, OptionExists};
+
+pub use vertices::VertexOrders;
+
+/// The laws that two blocks cross, by the test on a list, exactly where their edges alternate around the vertex, and that it
+/// doesn't matter where the list begins.
 pub fn blocks_that_alternate()
-    ensures { CrossIsAlternate }
+    ensures alternate { CrossIsAlternate }
+    ensures cross { CrossInEachTurn }
+    ensures kept { KeptInEachTurn }
 {}
 
 /// The laws that the arrangements at a vertex are all listed, in lexicographic order, and that there is a first one.
