@@ -26,6 +26,8 @@ pub mod Assembly
 pub mod FrameFacts
 pub mod Ranks
 pub mod WholeLists
+pub mod CutTables
+pub mod Renewing
 pub mod WalkSteps
 pub mod Following
 pub mod OfParts

@@ -22,7 +22,7 @@ use Rattle.whole_embed.proofs.FrameFacts.{round-below}
 
 module _ (k : Component) (block : ℕ → BlockInPlane) (lists : List (List ℕ)) where
   -- a vertex with the order around it
-  pair : ℕ → ℕ × List ℕ
+  abbrev pair : ℕ → ℕ × List ℕ
   pair v = (v, order_around k block lists v)
 
   long : length (whole_lists k block lists) ≡ length k.part.vertices
@@ -62,7 +62,7 @@ one-order k block lists v edges m h = h ∙ sym (cond-false (is_member v k.cuts)
 
 -- an edge around a vertex of a part
 module _ (part : GraphPart) (r : List (List ℕ)) (n : IsNumbered part) (s : IsRotationSystem part.graph r) (v e : ℕ) (mv : is_member v part.vertices ≡ true) (me : is_member e (outer_at part r v) ≡ true) where
-  o : List ℕ
+  abbrev o : List ℕ
   o = order_at r (place_of part.vertices v)
 
   inside : place_of part.vertices v < part.graph.vertex_count

@@ -5,10 +5,27 @@ use Rattle.permutations.specs.Members.{is_member}
 use Rattle.multigraph.specs.Graph.{incident_edges}
 use Rattle.multigraph.specs.Part.{Rises}
 use Rattle.arrangements.specs.Arranged.{first_arrangement}
+use Rattle.arrangements.specs.Tables.{VertexTables, rank_in}
 use Rattle.skel_embed.specs.Block.{BlockState}
 use Rattle.whole_embed.specs.declared.members.Member.{Member}
 use Rattle.whole_embed.specs.Component.{Component, BlockInPlane}
 use Rattle.whole_embed.specs.Around.{outer_at, edges_around, block_with, block_order}
+
+-- the tables have the edges at v, and the ranks of their blocks increase as the numbers of the blocks do
+pub record KeepsTables (k : Component) (v : ℕ) (t : VertexTables) : Type 0 where
+  pub edges : t.edges ≡ edges_around k v
+  pub ranks : (e x : ℕ) → is_member e t.edges ≡ true → is_member x t.edges ≡ true → nat_lt (rank_in t e) (rank_in t x) ≡ nat_lt (block_with k e) (block_with k x)
+
+-- the tables of the cut vertex at place i
+abbrev pub tables_at : List VertexTables → ℕ → VertexTables
+tables_at tables i = slice_index_or tables i (record { edges = []; ranks = []; followers = [] })
+
+-- such tables for each cut vertex, and a list of as many edges
+pub record KeepsCuts (k : Component) (orders : List VertexTables) (lists : List (List ℕ)) : Type 0 where
+  pub tables_each : length orders ≡ length k.cuts
+  pub lists_each : length lists ≡ length k.cuts
+  pub tables : (i : ℕ) → i < length k.cuts → KeepsTables k (slice_index k.cuts i) (tables_at orders i)
+  pub long : (i : ℕ) → i < length k.cuts → length (slice_index_or lists i []) ≡ length (edges_around k (slice_index k.cuts i))
 
 -- the first n lists are the first arrangements at their cut vertices
 abbrev pub AreFirstTo : Component → (ℕ → BlockInPlane) → List (List ℕ) → ℕ → Type 0

@@ -2,14 +2,17 @@
 
 ghost use Rattle.std.specs.Prelude.{◌≡◌, ◌<◌, ℕ, true, length, map, slice_index, IfOk, Some};
 ghost use Rattle.permutations.specs.Members.{is_member};
+ghost use Rattle.faces.specs.Euler.{IsPlaneSystem};
 ghost use Rattle.skel_embed.specs.Block.{BlockState};
+ghost use Rattle.skel_embed.specs.Taken.{IsGiven};
 ghost use Rattle.whole_embed.specs.Component.{IsComponentInPlane};
 ghost use Rattle.whole_embed.specs.Around.{outer_at, edges_around};
 ghost use Rattle.whole_embed.specs.Cuts.{blocks_in, HavePlanes};
-ghost use Rattle.whole_embed.specs.Whole.{first_order, whole_lists};
+ghost use Rattle.whole_embed.specs.Whole.{AreArranged, first_order, whole_lists, whole_system};
 ghost use Rattle.whole_embed.specs.Keeping.{HasVertex};
 
 use crate::component::Frame;
+use crate::cuts::Cuts;
 use crate::members::Member;
 use rotations::Lists;
 use std::alloc::{AllocError, Global};
@@ -78,4 +81,22 @@ pub(crate) fn lists_around(
         }
     }
     Ok(whole)
+}
+
+/// The rotation system of the component: each of its vertices, increasing, with the cyclic order of its edges around it, from the
+/// least edge on. At a cut vertex this is the list that is kept, elsewhere the present order of the one block. It is plane.
+/// `all` has each block of the graph in order, and the lists that are kept are arrangements for their present rotation systems.
+/// Fails only if memory runs out.
+pub fn whole(alloc: Global, cuts: &Cuts, all: &[Member]) -> Result<Lists, AllocError>
+    requires component { IsComponentInPlane cuts.now.component (blocks_in all.now) }
+    requires planes { HavePlanes cuts.now.component all.now }
+    requires arranged { AreArranged cuts.now.component (blocks_in all.now) cuts.now.lists }
+    ensures lists { IfOk result (λ whole. whole ≡ whole_lists cuts.now.component
+        (blocks_in all.now) cuts.now.lists) }
+    ensures given { IfOk result (λ whole. IsGiven cuts.now.component.part whole
+        (whole_system cuts.now.component (blocks_in all.now) cuts.now.lists)) }
+    ensures plane { IsPlaneSystem cuts.now.component.part.graph
+        (whole_system cuts.now.component (blocks_in all.now) cuts.now.lists) }
+{
+    lists_around(alloc, &cuts.frame, &cuts.lists, all)
 }
