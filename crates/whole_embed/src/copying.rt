@@ -1,7 +1,8 @@
-// Copies of the blocks of a graph.
+// Copies of the blocks of a graph, and of a component with its lists.
 
-ghost use Rattle.std.specs.Prelude.{◌≡◌, IfOk};
+ghost use Rattle.std.specs.Prelude.{◌≡◌, map, IfOk};
 
+use crate::cuts::{Cuts, all_tables};
 use crate::members::Member;
 use skel_embed::PlaneBlock;
 use std::alloc::{AllocError, Global};
@@ -37,4 +38,32 @@ pub(crate) fn copies(alloc: Global, all: &[Member]) -> Result<Vec<Member>, Alloc
         copies.push(member.copy(alloc)?)?;
     }
     Ok(copies)
+}
+
+// A copy of lists of numbers.
+fn copies_of(alloc: Global, lists: &[Vec<u32>]) -> Result<Vec<Vec<u32>>, AllocError>
+    ensures { IfOk result (λ copies. map (λ l. l.items) copies.items
+        ≡ map (λ l. l.items) lists.now) }
+{
+    let mut copies = Vec::with_capacity(alloc, lists.len())?;
+    for list in lists {
+        copies.push(Vec::from_slice(alloc, list)?)?;
+    }
+    Ok(copies)
+}
+
+impl Cuts {
+    /// A copy. Fails only if memory runs out.
+    pub fn copy(&self, alloc: Global) -> Result<Cuts, AllocError>
+        ensures { IfOk result (λ cuts. cuts ≡ self.now) }
+    {
+        let frame = self.frame.copy(alloc)?;
+        let orders = all_tables(alloc, &frame)?;
+        let lists = copies_of(alloc, &self.lists)?;
+        Ok(Cuts {
+            frame,
+            orders,
+            lists,
+        })
+    }
 }

@@ -8,9 +8,10 @@ ghost use Rattle.whole_embed.specs.Whole.{AreArranged, whole_system, IsWholeList
 ghost use Rattle.whole_embed.specs.Walk.{system_lists};
 
 use crate::copying::copies;
-use crate::cuts::{Cuts, whole};
+use crate::cuts::Cuts;
 use crate::members::Member;
 use crate::walking::next_whole;
+use crate::wholes::whole;
 use rotations::Lists;
 use std::alloc::{AllocError, Global};
 
