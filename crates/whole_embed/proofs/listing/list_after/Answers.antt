@@ -25,7 +25,7 @@ loop-turn-preserved c =
     let h = subst (λ (b : List Member). IsWalked c.args.cuts.now c.args.all.now c.loop-turn.walker b c.loop-turn._turn c.loop-turn.found.items) (sym c.deref_mut.ensures.value) c.loop-turn.invariant in
     let e : take c.loop-turn.blocks.len (new ++ drop (length new) c.loop-turn.blocks.items) ≡ new = take_at new (drop (length new) c.loop-turn.blocks.items) c.loop-turn.blocks.len (c.next_whole.auto.all ∙ c.deref_mut.ensures.len) in
     let w : c.in_ok-whole.field-0 ≡ whole_lists next.component (blocks_in new) next.lists =
-    subst (λ (b : List Member). c.in_ok-whole.field-0 ≡ whole_lists next.component (blocks_in b) next.lists) (c.deref.ensures.value ∙ e) (c.in_ok-whole.ensures.lists {u = tt}) in
+    subst (λ (b : List Member). c.in_ok-whole.field-0 ≡ whole_lists next.component (blocks_in b) next.lists) (c.deref.ensures.value ∙ e) c.in_ok-whole.ensures.lists in
     subst (λ (b : List Member). IsWalked c.args.cuts.now c.args.all.now next b (c.loop-turn._turn + 1) c.push.new.self.items) (sym e)
     (walked-more c.args.cuts.now c.args.all.now c.loop-turn.walker c.deref_mut.result.now c.loop-turn._turn c.loop-turn.found.items next new c.in_ok-whole.field-0 c.push.new.self.items
     h n.same n.component n.planes n.arranged n.list (λ l i u r. n.next l i u r c.if-not-next_whole.false) w (c.in_ok-push.ensures {u = tt}).items)
