@@ -1,20 +1,17 @@
 -- What is noted of a prefix stays right when an edge is laid after it, and it decides which edges may come.
-use Rattle.std.proofs.Common.{◌≡◌, ◌≢◌, ℕ, zero, suc, ◌+◌, ◌-◌, ◌<◌, ◌≤◌, ◌⊎◌, inl, inr, Bool, true, false, not, ◌&&◌, ◌||◌, ◌==◌, nat_lt, List, [], ◌∷◌, ◌++◌, length, map, take, reverse, filter, get_or, replicate, Ok, Err, refl, sym, ap, ◌∙◌, subst, arith}
+use Rattle.std.proofs.Common.{◌≡◌, ◌≢◌, ℕ, zero, suc, ◌<◌, ◌≤◌, inl, inr, Bool, true, false, nat_lt, List, [], ◌∷◌, ◌++◌, length, map, get_or, Ok, Err, refl, sym, ap, ◌∙◌, subst, arith}
 use Rattle.std.proofs.Math.ListN.{set}
 use Rattle.std.specs.List.Sorted.{IsBinarySearchResult}
 use Rattle.std.specs.Ordering.{nat_cmp}
 use Rattle.std.proofs.lemmas.List.Sorted.{searched}
-use Rattle.std.proofs.lemmas.Bool.{false_from_ne_true, cases_Bool, cases_eq, cases_lt, cases_order, ltb-true, ltb-false, lt-ltb, eq-eqb, ne_eqb}
-use Rattle.std.proofs.lemmas.List.{map-append, length-map, get_or-replicate, get_or-set_same, get_or-set_other}
+use Rattle.std.proofs.lemmas.Bool.{false_from_ne_true, cases_Bool, cases_eq, cases_lt, cases_order, ltb-true, lt-ltb}
+use Rattle.std.proofs.lemmas.List.{map-append, get_or-set_same, get_or-set_other}
 use Rattle.permutations.specs.Members.{is_member, is_distinct, place_of}
-use Rattle.permutations.specs.Cyclic.{last_or}
-use Rattle.permutations.proofs.Members.{member-head, member-tail, member-append, member-append_left, member-append_right, no_member-append, no_member-cons}
+use Rattle.permutations.proofs.Members.{member-head, member-tail, member-append_left, member-append_right, no_member-append, no_member-cons}
 use Rattle.permutations.proofs.Places.{place-below, place-holds, place-at, told-distinct}
 use Rattle.choice_lists.specs.Order.{IsRising}
-use Rattle.arrangements.specs.Arranged.{AreOrders}
-use Rattle.arrangements.specs.Options.{follower, waiting, is_opened, is_option, IsBuilt, IsLeastOption}
+use Rattle.arrangements.specs.Options.{is_opened}
 use Rattle.arrangements.specs.Tables.{VertexTables, rank_in, IsTables, AreTablesOf}
-use Rattle.arrangements.specs.Prefixes.{IsPrefix, HasGreater, NoneGreater, IsLeastUnopened}
 
 -- increasing edges are different
 pub rising-distinct : (l : List ℕ) → IsRising nat_lt l → is_distinct l ≡ true

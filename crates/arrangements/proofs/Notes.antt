@@ -1,5 +1,5 @@
 -- What is noted of the empty prefix, and of a prefix with one edge more.
-use Rattle.std.proofs.Common.{◌≡◌, ℕ, ◌+◌, ◌-◌, ◌<◌, ◌≤◌, inl, inr, Bool, true, false, not, ◌&&◌, ◌==◌, nat_lt, if◌then◌else◌, List, [], ◌∷◌, ◌++◌, length, map, take, drop, get_or, replicate, refl, sym, ap, ◌∙◌, subst, arith, append-nil, length-append}
+use Rattle.std.proofs.Common.{◌≡◌, ℕ, ◌+◌, ◌-◌, ◌<◌, ◌≤◌, inl, inr, Bool, true, false, ◌&&◌, ◌==◌, nat_lt, if◌then◌else◌, List, [], ◌∷◌, ◌++◌, length, map, take, drop, get_or, replicate, refl, sym, ap, ◌∙◌, subst, arith, length-append}
 use Rattle.std.specs.Vec.{vec_capacity}
 use Rattle.std.proofs.lemmas.Bool.{cases_Bool, both_ways, cond-true, cond-false}
 use Rattle.std.proofs.lemmas.List.{get_or-replicate, length-replicate, length-take-le, take-append-drop, take_more}
@@ -8,7 +8,7 @@ use Rattle.permutations.specs.Members.{is_member, place_of}
 use Rattle.permutations.specs.Cyclic.{last_or}
 use Rattle.permutations.proofs.Members.{member-cases, member-append_left, member-append_cases}
 use Rattle.permutations.proofs.Places.{place-below, place-holds}
-use Rattle.arrangements.specs.Options.{follower, waiting, is_opened, is_option, IsBuilt}
+use Rattle.arrangements.specs.Options.{follower, waiting, is_option, IsBuilt}
 use Rattle.arrangements.specs.Tables.{VertexTables, follow_in, IsTables, AreTablesOf}
 use Rattle.arrangements.specs.Prefixes.{IsPrefix, IsNoted, without_top}
 use Rattle.arrangements.specs.declared.prefixes.Prefix.{Prefix}

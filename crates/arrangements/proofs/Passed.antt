@@ -1,15 +1,14 @@
 -- One pass along a list: of each block whether its edges follow each other so far, and which edge is expected next.
-use Rattle.std.proofs.Common.{◌≡◌, ◌≢◌, ℕ, zero, suc, ◌+◌, ◌<◌, ◌≤◌, inl, inr, Bool, true, false, not, ◌&&◌, ◌==◌, nat_lt, List, [], ◌∷◌, ◌++◌, length, take, get_or, None, Some, Option, IsPermutation, refl, sym, ap, ◌∙◌, subst, arith}
-use Rattle.std.proofs.lemmas.Bool.{cases_Bool, cases_eq, cases_lt, both_ways, and_parts, and_from, and_left, and_right, and_cases, not-true, lt-ltb, ltb-true, eq-eqb, ne_eqb, eqb-true, true≢false}
+use Rattle.std.proofs.Common.{◌≡◌, ◌≢◌, ℕ, ◌<◌, ◌≤◌, inl, inr, true, false, ◌==◌, List, [], ◌∷◌, ◌++◌, length, get_or, None, Some, Option, IsPermutation, refl, sym, ap, ◌∙◌, subst, arith}
+use Rattle.std.proofs.lemmas.Bool.{cases_eq, both_ways, and_parts, and_from, and_left, and_right, and_cases, not-true, lt-ltb, ltb-true}
 use Rattle.std.proofs.Math.ListN.{set}
 use Rattle.std.proofs.lemmas.List.{get_or-set_same, get_or-set_other}
 use Rattle.permutations.specs.Members.{is_member, place_of}
 use Rattle.permutations.proofs.Places.{place-below, place-holds}
 use Rattle.permutations.proofs.Arrangements.{permutation-member}
-use Rattle.arrangements.specs.Arranged.{of_block, keeps, AreOrders}
+use Rattle.arrangements.specs.Arranged.{of_block}
 use Rattle.arrangements.specs.Options.{follower}
 use Rattle.arrangements.specs.Gaps.{follows_along}
-use Rattle.arrangements.specs.Refused.{IsLeastChanged}
 use Rattle.arrangements.specs.Tables.{VertexTables, rank_in, IsTables, AreTablesOf}
 use Rattle.arrangements.specs.Changed.{is_other, AreKept, IsLeastChangedRank}
 use Rattle.arrangements.proofs.Along.{keeps-along}
@@ -166,3 +165,11 @@ passed-changed t block order expected least l i a s w h =
             ∙ subst (λ (y : ℕ). follows_along (follower block order) (of_block block (block y) l) ≡ true) z (w.follow_below (place_of t.edges e) q (omega (arith, lower, r)));
       };
     }
+
+-- under other names
+pub passed-as : (t : VertexTables) (block : ℕ → ℕ) (order : ℕ → List ℕ) (expected : List (Option ℕ)) (r s f g least low : ℕ) (l k : List ℕ) → r ≡ s → f ≡ g → least ≡ low → l ≡ k
+    → IsPassed t (set expected s (Some g)) low k block order → IsPassed t (set expected r (Some f)) least l block order
+passed-as t block order expected r s f g least low l k a b c d w =
+    subst (λ (x : ℕ). IsPassed t (set expected x (Some f)) least l block order) (sym a)
+    (subst (λ (x : ℕ). IsPassed t (set expected s (Some x)) least l block order) (sym b)
+    (subst (λ (x : ℕ). IsPassed t (set expected s (Some g)) x l block order) (sym c) (subst (λ (x : List ℕ). IsPassed t (set expected s (Some g)) low x block order) (sym d) w)))

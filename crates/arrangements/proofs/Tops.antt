@@ -1,13 +1,12 @@
 -- Which edges may come after a prefix, by what is noted of it: the top of the stack, and the edges of blocks not opened.
-use Rattle.std.proofs.Common.{◌≡◌, ◌≢◌, ℕ, zero, suc, ◌+◌, ◌-◌, ◌<◌, ◌≤◌, ◌⊎◌, inl, inr, Bool, true, false, not, ◌&&◌, ◌||◌, ◌==◌, nat_lt, List, [], ◌∷◌, ◌++◌, length, map, take, reverse, get_or, refl, sym, ap, ap₂, ◌∙◌, subst, arith}
-use Rattle.std.proofs.lemmas.Bool.{cases_Bool, cases_eq, cases_lt, both_ways, ltb-true, lt-ltb, eq-eqb, eqb-true, and_parts, and_from, or_cases, or_left, or_right, or_from, not-true, not_from_false, not_from_true, and_right}
-use Rattle.std.proofs.lemmas.List.{map-append, length-map, reverse-append, take_all, length-append}
+use Rattle.std.proofs.Common.{◌≡◌, ℕ, ◌+◌, ◌-◌, ◌<◌, ◌≤◌, ◌⊎◌, inl, inr, Bool, true, false, not, ◌&&◌, ◌||◌, ◌==◌, nat_lt, List, [], ◌∷◌, ◌++◌, length, map, get_or, refl, sym, ap, ap₂, ◌∙◌, subst, arith}
+use Rattle.std.proofs.lemmas.Bool.{cases_lt, both_ways, ltb-true, lt-ltb, eq-eqb, eqb-true, and_parts, and_from, or_cases, or_left, or_right, not-true, not_from_false, not_from_true, and_right}
+use Rattle.std.proofs.lemmas.List.{map-append, length-map, reverse-append, length-append}
 use Rattle.permutations.specs.Members.{is_member, place_of}
 use Rattle.permutations.specs.Cyclic.{last_or, first_or}
 use Rattle.permutations.proofs.Places.{place-below, place-holds}
-use Rattle.choice_lists.specs.Order.{IsRising}
-use Rattle.arrangements.specs.Options.{follower, waiting, is_opened, is_option, IsBuilt, IsLeastOption}
-use Rattle.arrangements.specs.Tables.{VertexTables, IsTables, AreTablesOf}
+use Rattle.arrangements.specs.Options.{follower, waiting, is_opened, is_option, IsLeastOption}
+use Rattle.arrangements.specs.Tables.{VertexTables, IsTables}
 use Rattle.arrangements.specs.Prefixes.{ForBuilt, IsPrefix, IsLeastFrom, NoneGreater, IsLeastUnopened, CanGoOn, AreOpenedBetween}
 use Rattle.arrangements.proofs.Noted.{member-at, rising-weak, laid-same}
 

@@ -1,5 +1,5 @@
 -- Lists built edge by edge are the arrangements of the list, by their places.
-use Rattle.std.proofs.Common.{◌≡◌, ◌≢◌, ◌↔◌, ℕ, zero, suc, ◌+◌, ◌<◌, ◌≤◌, true, false, List, [], ◌∷◌, length, take, get_or, Contains, refl, sym, ap, ◌∙◌, subst, arith}
+use Rattle.std.proofs.Common.{◌≡◌, ◌↔◌, ℕ, ◌<◌, true, false, List, [], ◌∷◌, length, take, get_or, Contains, refl, sym, ◌∙◌, arith}
 use Rattle.std.proofs.lemmas.Bool.{both_ways}
 use Rattle.permutations.specs.Members.{is_member}
 use Rattle.permutations.specs.Cyclic.{first_or}
@@ -7,7 +7,7 @@ use Rattle.permutations.proofs.Arrangements.{permutation-member}
 use Rattle.choice_lists.specs.Order.{IsAt}
 use Rattle.choice_lists.proofs.Places.{has-from}
 use Rattle.arrangements.specs.Arranged.{arrangements_at, AreOrders, IsArrangement}
-use Rattle.arrangements.specs.Options.{follower, is_option, IsBuilt}
+use Rattle.arrangements.specs.Options.{follower, IsBuilt}
 use Rattle.arrangements.specs.Prefixes.{IsFullyBuilt}
 use Rattle.arrangements.proofs.Built.{facts, new-edge, arrangement-built}
 use Rattle.arrangements.proofs.Listed.{has-arrangement, arrangement-length, arranged-by_options}

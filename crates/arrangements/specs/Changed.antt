@@ -1,5 +1,5 @@
 -- The least block whose cyclic order a list changes, by its rank.
-use Rattle.std.specs.Prelude.{◌≡◌, ℕ, ◌<◌, Bool, true, false, not, ◌==◌, List, Option, None, Some}
+use Rattle.std.specs.Prelude.{◌≡◌, ℕ, Bool, true, false, not, ◌==◌, List, Option, None, Some}
 use Rattle.permutations.specs.Members.{is_member}
 use Rattle.arrangements.specs.Arranged.{keeps}
 use Rattle.arrangements.specs.Refused.{IsLeastChanged}

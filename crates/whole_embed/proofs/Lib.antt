@@ -29,3 +29,8 @@ pub mod WholeLists
 pub mod CutTables
 pub mod CutLists
 pub mod Renewing
+pub mod WalkSteps
+pub mod Following
+pub mod OfParts
+pub mod Vectors
+pub mod ListExists

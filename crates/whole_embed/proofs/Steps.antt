@@ -10,7 +10,7 @@ use Rattle.choice_lists.specs.Order.{IsAt, Lists, is_before}
 use Rattle.choice_lists.specs.Products.{IsFirst, IsLast}
 use Rattle.choice_lists.proofs.Orders.{linear-before}
 use Rattle.arrangements.specs.Arranged.{IsArrangement, arrangements_at, first_arrangement}
-use Rattle.arrangements.specs.Laws.{CrossIsAlternate, ArrangementsAtAreListed, FirstArrangementIsFirst}
+use Rattle.arrangements.proofs.Laws.{arrangements_are_listed, first_is_first}
 use Rattle.skeletons.specs.Choices.{Precedes}
 use Rattle.whole_embed.specs.Component.{Component, BlockInPlane}
 use Rattle.whole_embed.specs.Around.{outer_at, edges_around, block_with, block_order, arrangements_around}
@@ -31,21 +31,21 @@ pub record IsPresent (k : Component) (block : ℕ → BlockInPlane) (lists q : L
   pub rounds : (i : ℕ) → i < length k.cuts → outer_at k.part q (slice_index k.cuts i) ≡ slice_index_or lists i []
 
 -- the place of a member of an increasing list, and its order
-place-less : (l : List ℕ) (u i : ℕ) → Rises l → is_member u l ≡ true → i < length l → u < slice_index l i → place_of l u < i
+pub place-less : (l : List ℕ) (u i : ℕ) → Rises l → is_member u l ≡ true → i < length l → u < slice_index l i → place_of l u < i
 place-less l u i r m h k = elim (cases_order (place_of l u) i) [
   | inl e ↦ absurd (let a = place-holds l u m in let b : slice_index l (place_of l u) ≡ slice_index l i = ap (slice_index l) e in omega (arith, a, b, k))
   | inr (inl w) ↦ w
   | inr (inr w) ↦ absurd (let a = place-holds l u m in let b : slice_index l i < slice_index l (place_of l u) = r i (place_of l u) w (place-below l u m) in omega (arith, a, b, k))
 ]
 
-place-more : (l : List ℕ) (u i : ℕ) → Rises l → is_member u l ≡ true → i < length l → slice_index l i < u → i < place_of l u
+pub place-more : (l : List ℕ) (u i : ℕ) → Rises l → is_member u l ≡ true → i < length l → slice_index l i < u → i < place_of l u
 place-more l u i r m h k = elim (cases_order (place_of l u) i) [
   | inl e ↦ absurd (let a = place-holds l u m in let b : slice_index l (place_of l u) ≡ slice_index l i = ap (slice_index l) e in omega (arith, a, b, k))
   | inr (inr w) ↦ w
   | inr (inl w) ↦ absurd (let a = place-holds l u m in let b : slice_index l (place_of l u) < slice_index l i = r (place_of l u) i w h in omega (arith, a, b, k))
 ]
 
-module _ (alternate : CrossIsAlternate) (listed : ArrangementsAtAreListed) (firsts : FirstArrangementIsFirst) (k : Component) where
+module _ (k : Component) where
   module _ (block : ℕ → BlockInPlane) (made : IsAssembled k block) where
     abbrev M : List (List ℕ) → Type 0
     M = IsWholeMember k block
@@ -57,14 +57,14 @@ module _ (alternate : CrossIsAlternate) (listed : ArrangementsAtAreListed) (firs
     told q r m n same rounds = parts-tell k block made q r m.plane.system n.plane.system same rounds
 
     arranged-lists : (v : ℕ) → is_member v k.cuts ≡ true → Lists is_before (IsArrangement (block_with k) (block_order block v) (edges_around k v)) (arrangements_around k block v)
-    arranged-lists v c = listed (block_with k) (block_order block v) (edges_around k v) (made.orders v (made.cuts_in v c))
+    arranged-lists v c = arrangements_are_listed (block_with k) (block_order block v) (edges_around k v) (made.orders v (made.cuts_in v c))
 
     first-listed : (v : ℕ) → is_member v k.cuts ≡ true → IsFirst (arrangements_around k block v) (first_arrangement (block_with k) (block_order block v) (edges_around k v))
-    first-listed v c = firsts (block_with k) (block_order block v) (edges_around k v) (made.orders v (made.cuts_in v c))
+    first-listed v c = first_is_first (block_with k) (block_order block v) (edges_around k v) (made.orders v (made.cuts_in v c))
 
     -- a member with the parts of the blocks has one of the arrangements
     has-arrangement : (s : List (List ℕ)) → M s → ((b : ℕ) → is_member b k.blocks ≡ true → block_part k (block b).part s ≡ (block b).rotation) → (v : ℕ) → is_member v k.cuts ≡ true → Contains (arrangements_around k block v) (round s v)
-    has-arrangement s m same v c = ((arranged-lists v c).exactly (round s v)).1 (member-arranged k block made alternate s m same v (made.cuts_in v c))
+    has-arrangement s m same v c = ((arranged-lists v c).exactly (round s v)).1 (member-arranged k block made s m same v (made.cuts_in v c))
 
     -- the list of a cut vertex, by its place
     round-list : (lists q : List (List ℕ)) → IsPresent k block lists q → (v : ℕ) → is_member v k.cuts ≡ true → round q v ≡ slice_index_or lists (place_of k.cuts v) []

@@ -1,7 +1,7 @@
 -- A rotation system of a component is determined by its parts in the blocks and its orders around the cut vertices; and around each
 -- cut vertex a plane one has an arrangement of its parts.
 use Rattle.std.proofs.Common.{◌≡◌, ◌≢◌, ℕ, ◌<◌, inl, inr, Bool, true, false, ◌==◌, ◌||◌, nat_lt, List, [], ◌∷◌, length, map, filter, slice_index, slice_index_or, Contains, refl, sym, ap, ap₂, ◌∙◌, subst, arith}
-use Rattle.std.proofs.lemmas.Bool.{cases_Bool, cases_eq, both_ways, true≢false, eq-eqb, eqb-true, false_from_ne_true, or_cases, and_from}
+use Rattle.std.proofs.lemmas.Bool.{cases_Bool, cases_eq, both_ways, true≢false, eq-eqb, eqb-true, false_from_ne_true, or_cases}
 use Rattle.std.proofs.lemmas.List.{get_or-map}
 use Rattle.permutations.specs.Members.{is_member, is_distinct, place_of}
 use Rattle.permutations.specs.Cyclic.{first_or, from_least, FollowsAround}
@@ -18,45 +18,17 @@ use Rattle.graph_theory.specs.Block.{SameBlock}
 use Rattle.rotations.specs.Rotation.{order_at, IsRotationSystem}
 use Rattle.block_planes.specs.Crossing.{NoBlocksCross}
 use Rattle.block_planes.proofs.NoCrossing.{plane-no_crossing}
-use Rattle.arrangements.specs.Arranged.{same_list, of_block, keeps, changes_from, changes, cross, IsArrangement, arrangements_at, AreOrders}
+use Rattle.arrangements.specs.Arranged.{of_block, keeps, changes_from, changes, cross, IsArrangement, arrangements_at, AreOrders}
 use Rattle.arrangements.specs.Refused.{Alternate}
-use Rattle.arrangements.specs.Laws.{CrossIsAlternate, ArrangementsAtAreListed}
+use Rattle.arrangements.proofs.Laws.{cross_is_alternate}
+use Rattle.arrangements.proofs.Lists.{equal-same}
+use Rattle.arrangements.proofs.Changes.{cross-differ}
 use Rattle.whole_embed.specs.Component.{Component, BlockInPlane}
 use Rattle.whole_embed.specs.Around.{outer_at, edges_around, block_with, block_order, arrangements_around}
 use Rattle.whole_embed.specs.Whole.{block_part, IsWholeMember}
 use Rattle.whole_embed.proofs.Assembled.{IsAssembled}
 use Rattle.whole_embed.proofs.Mapping.{no-members, same-test, map-injective, map-back, around-back}
 use Rattle.whole_embed.proofs.Rounds.{edge-once, edge-place, vertex-place, order-edge, order-member, outer-distinct, outer-arranged, outer-member, outer-first, outer-written, systems-told}
-
--- a list is the same as an equal one
-same-itself : (l : List ℕ) → same_list l l ≡ true
-same-itself [] = refl
-same-itself (x ∷ l) = and_from (x == x) (same_list l l) (eq-eqb x x refl) (same-itself l)
-
-equal-same : (l k : List ℕ) → l ≡ k → same_list l k ≡ true
-equal-same l k e = subst (λ (z : List ℕ). same_list l z ≡ true) e (same-itself l)
-
--- the block does not change with an edge of the same block
-changes-same : (f : ℕ → ℕ) (b e : ℕ) (l : List ℕ) → f e ≡ b → changes_from f b (e ∷ l) ≡ changes_from f b l
-changes-same f b e l h = rw (eq-eqb (f e) b h) refl
-
--- a block does not cross itself
-none-change : (f : ℕ → ℕ) (b : ℕ) (l : List ℕ) → ((e : ℕ) → is_member e l ≡ true → f e ≡ b) → changes_from f b l ≡ 0
-none-change f b [] h = refl
-none-change f b (e ∷ l) h = changes-same f b e l (h e (member-head e l)) ∙ none-change f b l (λ x m. h x (member-tail x e l m))
-
-none-changes : (f : ℕ → ℕ) (b : ℕ) (l : List ℕ) → ((e : ℕ) → is_member e l ≡ true → f e ≡ b) → changes f l ≡ 0
-none-changes f b [] h = refl
-none-changes f b (e ∷ l) h = subst (λ z. changes_from f z l ≡ 0) (sym (h e (member-head e l))) (none-change f b l (λ x m. h x (member-tail x e l m)))
-
-cross-itself : (f : ℕ → ℕ) (b : ℕ) (l : List ℕ) → cross f b b l ≡ false
-cross-itself f b l = ap (nat_lt 2) (none-changes f b (filter (λ e. (f e == b) || (f e == b)) l) (λ e m. of-b e (member-filter_parts (λ x. (f x == b) || (f x == b)) l e m).1))
-  where
-    of-b : (e : ℕ) → ((f e == b) || (f e == b)) ≡ true → f e ≡ b
-    of-b e y = elim (or_cases (f e == b) (f e == b) y) [
-      | inl a ↦ eqb-true (f e) b a
-      | inr a ↦ eqb-true (f e) b a
-    ]
 
 module _ (k : Component) (block : ℕ → BlockInPlane) (made : IsAssembled k block) where
   abbrev g : Multigraph
@@ -138,7 +110,7 @@ module _ (k : Component) (block : ℕ → BlockInPlane) (made : IsAssembled k bl
   ])
 
   -- a whole member with the present parts has an arrangement around each vertex
-  module _ (laws : CrossIsAlternate) (s : List (List ℕ)) (member : IsWholeMember k block s) (same : (b : ℕ) → is_member b k.blocks ≡ true → block_part k (block b).part s ≡ (block b).rotation)
+  module _ (s : List (List ℕ)) (member : IsWholeMember k block s) (same : (b : ℕ) → is_member b k.blocks ≡ true → block_part k (block b).part s ≡ (block b).rotation)
       (v : ℕ) (there : is_member v k.part.vertices ≡ true) where
     abbrev l : List ℕ
     l = outer_at k.part s v
@@ -214,10 +186,7 @@ module _ (k : Component) (block : ℕ → BlockInPlane) (made : IsAssembled k bl
         one = sym (ap (block_with k) (inner-holds a.first m1)) ∙ (made.same_back (inner a.first) (inner a.second) (inner-edge a.first m1) (inner-edge a.second m2) crossing ∙ ap (block_with k) (inner-holds a.second m2))
 
     no-cross : (b c : ℕ) → cross (block_with k) b c l ≡ false
-    no-cross b c = elim (cases_eq b c) [
-      | inl e ↦ subst (λ z. cross (block_with k) b z l ≡ false) e (cross-itself (block_with k) b l)
-      | inr n ↦ false_from_ne_true (cross (block_with k) b c l) (λ y. apart b c n ((laws (block_with k) b c l (round-distinct s sys v there) n).0 y))
-    ]
+    no-cross b c = false_from_ne_true (cross (block_with k) b c l) (λ y. let n = cross-differ (block_with k) b c l y in apart b c n ((cross_is_alternate (block_with k) b c l (round-distinct s sys v there) n).0 y))
 
     pub member-arranged : IsArrangement (block_with k) (block_order block v) (edges_around k v) l
     member-arranged = record {

@@ -8,3 +8,4 @@ pub mod Keeping
 pub mod Laws
 pub mod Advanced
 pub mod Walk
+pub mod Listed

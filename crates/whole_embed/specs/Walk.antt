@@ -1,6 +1,6 @@
 -- A walk through the list of a component: what stays, and the lists of edges at the cut vertices before and after a step. Contracts of
 -- private functions cite the latter.
-use Rattle.std.specs.Prelude.{◌≡◌, ℕ, ◌+◌, ◌<◌, ◌≤◌, true, false, List, [], length, slice_index, slice_index_or, Some}
+use Rattle.std.specs.Prelude.{◌≡◌, ℕ, ◌+◌, ◌<◌, ◌≤◌, true, false, List, [], length, map, slice_index, slice_index_or, Some}
 use Rattle.permutations.specs.Members.{is_member}
 use Rattle.choice_lists.specs.Order.{IsAt}
 use Rattle.choice_lists.specs.Products.{IsLast}
@@ -9,7 +9,7 @@ use Rattle.skel_embed.specs.Block.{BlockState}
 use Rattle.embed_enum.specs.Walk.{KeepsRest}
 use Rattle.whole_embed.specs.declared.members.Member.{Member}
 use Rattle.whole_embed.specs.Component.{Component, BlockInPlane}
-use Rattle.whole_embed.specs.Around.{edges_around, block_with, block_order, arrangements_around}
+use Rattle.whole_embed.specs.Around.{outer_at, edges_around, block_with, block_order, arrangements_around}
 use Rattle.whole_embed.specs.Cuts.{member_at}
 
 -- each block of the component keeps its part, its graph, its tree and its locks, and each other block all
@@ -46,3 +46,8 @@ pub record AreNextLists (k : Component) (block : ℕ → BlockInPlane) (old new 
 -- each cut vertex has its last arrangement
 abbrev pub AreLastLists : Component → (ℕ → BlockInPlane) → List (List ℕ) → Type 0
 AreLastLists k block lists = (j : ℕ) → j < length k.cuts → IsLast (arrangements_at_place k block j) (slice_index_or lists j [])
+
+-- a rotation system of a component in the numbers of the graph: its vertices, increasing, each with the order around it, from
+-- the least edge on
+abbrev pub system_lists : Component → List (List ℕ) → List (ℕ × List ℕ)
+system_lists k q = map (λ v. (v, outer_at k.part q v)) k.part.vertices

@@ -66,6 +66,18 @@ impl Frame {
         })
     }
 
+    // A copy. Fails only if memory runs out.
+    pub(crate) fn copy(&self, alloc: Global) -> Result<Frame, AllocError>
+        ensures { IfOk result (λ frame. frame ≡ self.now) }
+    {
+        Ok(Frame {
+            part: self.part.copy(alloc)?,
+            blocks: Vec::from_slice(alloc, &self.blocks)?,
+            cuts: Vec::from_slice(alloc, &self.cuts)?,
+            edge_blocks: Vec::from_slice(alloc, &self.edge_blocks)?,
+        })
+    }
+
     /// The component as a graph of its own.
     pub fn part(&self) -> &Part
         ensures value { result.now ≡ self.now.part }

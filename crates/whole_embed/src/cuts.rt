@@ -178,7 +178,7 @@ fn copy_to(list: &mut Vec<u32>, numbers: &[u32])
 }
 
 // The tables of each cut vertex.
-fn all_tables(alloc: Global, frame: &Frame) -> Result<Vec<VertexOrders>, AllocError>
+pub(crate) fn all_tables(alloc: Global, frame: &Frame) -> Result<Vec<VertexOrders>, AllocError>
     ensures each { IfOk result (λ orders. length orders.items ≡ length frame.now.cuts) }
     ensures tables { IfOk result (λ orders. (i : ℕ) → i < length frame.now.cuts
         → KeepsTables frame.now (slice_index frame.now.cuts i) (tables_at orders.items i)) }

@@ -1,9 +1,8 @@
-use Rattle.std.proofs.Common.{◌≡◌, ◌<◌, ◌≤◌, ◌+◌, ◌-◌, ℕ, true, false, List, sym, ap, ◌∙◌, subst, arith, inl, inr, take, get_or, length}
+use Rattle.std.proofs.Common.{◌≡◌, ◌<◌, ◌+◌, ◌-◌, ℕ, List, sym, ◌∙◌, subst, arith, inl, inr, take, get_or, length}
 use Rattle.std.proofs.Math.ListN.{set, length-set}
 use Rattle.std.proofs.lemmas.Bool.{cases_lt}
 use Rattle.std.proofs.lemmas.List.{length-take-le, take-set-le}
 use Rattle.arrangements.specs.Options.{follower, IsBuilt, IsLeastOption}
-use Rattle.arrangements.specs.Prefixes.{IsLeastUnopened}
 use Rattle.arrangements.proofs.Built.{option-exists}
 use Rattle.arrangements.proofs.Tops.{can-go_on}
 use Rattle.arrangements.proofs.Made.{built-filled, built-set, least-kept, least-put}

@@ -1,4 +1,4 @@
-use Rattle.std.proofs.Common.{◌≡◌, sym, arith}
+use Rattle.std.proofs.Common.{sym, arith}
 use Rattle.arrangements.proofs.Listed.{filled-first}
 use Rattle.arrangements.proofs.making.first.Goals as goal
 

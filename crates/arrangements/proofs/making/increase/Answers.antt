@@ -1,7 +1,7 @@
-use Rattle.std.proofs.Common.{◌≡◌, ◌<◌, ◌≤◌, ◌+◌, ℕ, List, sym, ap, ◌∙◌, subst, arith, take, get_or, length}
+use Rattle.std.proofs.Common.{◌≡◌, ◌+◌, ℕ, List, sym, ◌∙◌, subst, arith, take, get_or}
 use Rattle.std.proofs.Math.ListN.{set, length-set}
 use Rattle.std.proofs.lemmas.List.{take-set, get_or-set_same}
-use Rattle.arrangements.specs.Options.{follower, IsBuilt, IsLeastOption}
+use Rattle.arrangements.specs.Options.{follower, IsLeastOption}
 use Rattle.arrangements.proofs.Tops.{can-go_on, unopened-after}
 use Rattle.arrangements.proofs.Made.{built-take, built-set, agree-before, agree-at}
 use Rattle.arrangements.proofs.making.increase.Goals as goal

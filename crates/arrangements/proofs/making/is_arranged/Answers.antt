@@ -1,4 +1,3 @@
-use Rattle.std.proofs.Common.{◌≡◌}
 use Rattle.arrangements.proofs.Walked.{full-exactly}
 use Rattle.arrangements.proofs.making.is_arranged.Goals as goal
 

@@ -1,4 +1,4 @@
-use Rattle.std.proofs.Common.{◌≡◌, ◌<◌, ◌+◌, ℕ, true, false, List, refl, sym, ap, ◌∙◌, subst, length, take, get_or}
+use Rattle.std.proofs.Common.{◌≡◌, ◌<◌, ℕ, false, List, refl, sym, ap, ◌∙◌, subst, length, take, get_or}
 use Rattle.std.proofs.lemmas.Bool.{both_ways}
 use Rattle.permutations.proofs.Places.{place-below, place-holds}
 use Rattle.arrangements.specs.Options.{follower, is_option}

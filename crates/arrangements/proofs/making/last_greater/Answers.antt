@@ -1,4 +1,4 @@
-use Rattle.std.proofs.Common.{◌≡◌, ◌<◌, ◌≤◌, ◌+◌, ℕ, List, sym, subst, arith, inl, inr, take, get_or, length}
+use Rattle.std.proofs.Common.{◌≡◌, ◌<◌, ℕ, List, sym, subst, arith, inl, inr, take, get_or}
 use Rattle.std.proofs.lemmas.Bool.{cases_lt}
 use Rattle.arrangements.specs.Options.{follower}
 use Rattle.arrangements.specs.Prefixes.{HasGreater, NoneGreater}

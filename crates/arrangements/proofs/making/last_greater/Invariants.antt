@@ -1,4 +1,4 @@
-use Rattle.std.proofs.Common.{◌≡◌, ℕ, ◌<◌, ◌≤◌, length, take, get_or}
+use Rattle.std.proofs.Common.{ℕ, ◌<◌, ◌≤◌, length, take, get_or}
 use Rattle.arrangements.specs.Options.{follower}
 use Rattle.arrangements.specs.Prefixes.{ForBuilt, HasGreater, NoneGreater, IsNoted, AreOpenedBetween}
 use Rattle.arrangements.proofs.making.last_greater.Given as goal

@@ -1,4 +1,3 @@
-use Rattle.std.proofs.Common.{◌≡◌, sym, arith}
 use Rattle.arrangements.proofs.Built.{arrangement-built}
 use Rattle.arrangements.proofs.Listed.{arrangement-length, following-next, no_greater-last}
 use Rattle.arrangements.proofs.Walked.{arrangement-edge, at-built, contains-built}

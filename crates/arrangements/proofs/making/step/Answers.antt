@@ -1,4 +1,4 @@
-use Rattle.std.proofs.Common.{◌≡◌, ◌<◌, sym, arith}
+use Rattle.std.proofs.Common.{arith}
 use Rattle.arrangements.proofs.making.step.Goals as goal
 
 -- increased at the last place where a greater edge may come

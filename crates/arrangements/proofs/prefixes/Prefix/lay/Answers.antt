@@ -1,4 +1,4 @@
-use Rattle.std.proofs.Common.{◌≡◌, ◌<◌, ℕ, Bool, length, arith, ap, ◌∙◌, sym, subst, true, false, List, [], ◌∷◌, ◌++◌, slice_index, slice_index_or, slice_set}
+use Rattle.std.proofs.Common.{◌≡◌, ◌<◌, Bool, length, arith, ap, ◌∙◌, sym, subst, true, false, [], ◌∷◌, ◌++◌, slice_index, slice_index_or, slice_set}
 use Rattle.permutations.specs.Members.{place_of}
 use Rattle.arrangements.specs.Tables.{follow_in}
 use Rattle.std.proofs.Math.ListN.{length-set}

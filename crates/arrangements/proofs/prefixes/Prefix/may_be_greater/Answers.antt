@@ -1,4 +1,4 @@
-use Rattle.std.proofs.Common.{◌≡◌, ◌≤◌, ◌+◌, ◌-◌, ap, ◌∙◌, sym, true, false, subst, arith, slice_index, get_or, ℕ, List, [], ◌∷◌, ◌++◌, length}
+use Rattle.std.proofs.Common.{◌≡◌, ◌≤◌, ◌+◌, ◌-◌, ◌∙◌, sym, subst, arith, get_or, ℕ}
 use Rattle.std.proofs.lemmas.Bool.{ltb-true, ltb-false}
 use Rattle.arrangements.proofs.Tops.{option-top, option-unopened, none-greater, one-top, not-empty}
 use Rattle.arrangements.proofs.prefixes.Prefix.may_be_greater.Goals as goal

@@ -1,4 +1,4 @@
-use Rattle.std.proofs.Common.{◌≡◌, arith, ap, ◌∙◌, sym, subst, true, false, not, Bool, ℕ, ◌&&◌, ◌==◌, nat_lt, length, slice_index, slice_index_or}
+use Rattle.std.proofs.Common.{◌≡◌, arith, ap, ◌∙◌, sym, subst, true, false, not, Bool, ℕ, ◌&&◌, ◌==◌, nat_lt, length, slice_index_or}
 use Rattle.permutations.specs.Cyclic.{last_or}
 use Rattle.arrangements.proofs.Noted.{same-default}
 use Rattle.arrangements.proofs.Tops.{option-unopened, option-open}

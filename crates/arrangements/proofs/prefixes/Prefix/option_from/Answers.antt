@@ -1,4 +1,4 @@
-use Rattle.std.proofs.Common.{◌≡◌, ◌<◌, ap, ◌∙◌, sym, arith, inl, inr, length}
+use Rattle.std.proofs.Common.{◌<◌, ◌∙◌, sym, arith, inl, inr, length}
 use Rattle.arrangements.proofs.Tops.{from-place, from-top, one-top, not-empty}
 use Rattle.arrangements.proofs.prefixes.Prefix.option_from.Goals as goal
 

@@ -1,4 +1,4 @@
-use Rattle.std.proofs.Common.{subst, sym, ap, ◌∙◌, ◌≡◌, true, false, List, ℕ, Ok, Err}
+use Rattle.std.proofs.Common.{subst, ◌≡◌, true, false, List, ℕ, Ok, Err}
 use Rattle.std.specs.List.Sorted.{IsBinarySearchResult}
 use Rattle.std.specs.Ordering.{nat_cmp}
 use Rattle.permutations.specs.Members.{is_member, place_of}

@@ -1,4 +1,4 @@
-use Rattle.std.proofs.Common.{◌≡◌, ◌<◌, true, List, ℕ, sym, ap, ◌∙◌, subst, length, get_or}
+use Rattle.std.proofs.Common.{◌≡◌, true, List, ℕ, sym, ap, ◌∙◌, subst, length, get_or}
 use Rattle.permutations.specs.Members.{is_member}
 use Rattle.arrangements.proofs.Noted.{member-at}
 use Rattle.arrangements.proofs.vertices.VertexOrders.new.Goals as goal
