@@ -9,6 +9,19 @@
 // vertex that can advance, else the last block, and all later ones return to their first members; it takes no memory.
 // `list_after` keeps the members that follow.
 //
+// A rotation system is plane exactly where it is so on each block and no two blocks cross, so arrangements at the cut vertices make
+// plane rotation systems of plane blocks (`laws`). The tables of a cut vertex, for its arrangements, depend on the component
+// alone, but for what follows each edge in its block: that is renewed from the blocks before they are used, which takes no memory.
+//
+// The lemmas on a component (module of proofs/ in front):
+//   Components      the component is a part of its graph; SubgraphBlocks, ComponentBlocks: its blocks are those of the graph in it
+//   Outer           orders in the numbers of the graph and of a part; Arranging: arrangements at a cut vertex
+//   WholeParts, Assembling   whole_is_plane, whole_is_given: the rotation system that parts and arrangements make
+//   Searching, BlockTables, FrameFacts   tables by number, and what a component that is kept tells
+//   Orderings       lists of edges from outside; Ranks: the ranks of blocks
+//   CutTables, Renewing      the tables of a cut vertex, and that they are those of the present blocks
+//   CutLists, WholeLists     tables and lists of all cut vertices; the lists of the component
+//
 // The lemmas on the list (module of proofs/ in front):
 //   Followers       succeeds-rank, end-rank: the member that follows, and the last, without places, and their places
 //   Odometer        next-in_block, next-around, end-of_all: the last place that can advance does so, and later ones begin again
