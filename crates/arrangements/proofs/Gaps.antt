@@ -6,7 +6,7 @@ use Rattle.std.proofs.lemmas.List.Elements.{filter-append}
 use Rattle.permutations.proofs.Members.{CutAt, cut_at}
 use Rattle.permutations.proofs.Filter.{filter-yes, filter-no}
 use Rattle.arrangements.specs.Arranged.{of_block, cross}
-use Rattle.arrangements.specs.Gaps.{edges_before, gap}
+use Rattle.arrangements.specs.Gaps.{edges_before, gap, InGaps}
 use Rattle.arrangements.proofs.Lists.{cut-place, place-cut, take-cut}
 use Rattle.arrangements.proofs.Changes.{Interleaved, cross-interleaved, cross-swap, four-cross}
 
@@ -168,16 +168,6 @@ gaps-cross block b c l n p q h w ep eq differ = elim (cases_lt 0 (count_of block
             k.is
             ∙ ap (λ (z : List ℕ). k.front ++ x ∷ z) (ap (λ (z : List ℕ). z ++ y ∷ k.back) m.is ∙ append_assoc m.front (m.x ∷ m.back) (y ∷ k.back))
             ∙ ap (λ (z : List ℕ). k.front ++ x ∷ (m.front ++ m.x ∷ (m.back ++ y ∷ z))) f.is
-
--- two places in different gaps
-pub record InGaps (block : ℕ → ℕ) (b c : ℕ) (l : List ℕ) : Type 0 where
-  pub p : ℕ
-  pub q : ℕ
-  pub order : p < q
-  pub within : q < length l
-  pub of_p : block (get_or l p 0) ≡ c
-  pub of_q : block (get_or l q 0) ≡ c
-  pub differ : gap block b l p ≢ gap block b l q
 
 -- a list cut at edges y and w of c, with an edge of b between them, and another one before y or after w
 two-gaps : (block : ℕ → ℕ) (b c : ℕ) (u : List ℕ) (y : ℕ) (m : List ℕ) (w : ℕ) (v : List ℕ) → b ≢ c → block y ≡ c → block w ≡ c → 0 < count_of block b m

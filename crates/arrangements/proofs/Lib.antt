@@ -16,5 +16,7 @@ pub mod Laid
 pub mod Notes
 pub mod Made
 pub mod Walked
+pub mod Ranked
+pub mod RankPasses
 pub mod Passed
 mod Examples

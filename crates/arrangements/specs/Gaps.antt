@@ -1,5 +1,5 @@
 -- What is read off from a list in one pass: whether the edges of a block follow each other, and in which gap of a block a place is.
-use Rattle.std.specs.Prelude.{ℕ, Bool, true, ◌&&◌, ◌==◌, if◌then◌else◌, List, [], ◌∷◌, length, take}
+use Rattle.std.specs.Prelude.{◌≡◌, ◌≢◌, ℕ, ◌<◌, Bool, true, ◌&&◌, ◌==◌, if◌then◌else◌, List, [], ◌∷◌, length, take, slice_index}
 use Rattle.arrangements.specs.Arranged.{of_block}
 
 -- whether each edge of the list but the first follows the one before it
@@ -16,3 +16,13 @@ edges_before block b l place = length (of_block block b (take place l))
 -- all are
 abbrev pub gap : (ℕ → ℕ) → ℕ → List ℕ → ℕ → ℕ
 gap block b l place = (if edges_before block b l place == length (of_block block b l) then 0 else edges_before block b l place)
+
+-- two edges of block c in different gaps of block b
+pub record InGaps (block : ℕ → ℕ) (b c : ℕ) (l : List ℕ) : Type 0 where
+  pub p : ℕ
+  pub q : ℕ
+  pub order : p < q
+  pub within : q < length l
+  pub of_p : block (slice_index l p) ≡ c
+  pub of_q : block (slice_index l q) ≡ c
+  pub differ : gap block b l p ≢ gap block b l q

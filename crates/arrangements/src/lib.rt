@@ -23,7 +23,9 @@
 // The calls work on tables of one vertex, which say of each edge the rank of its block and the edge that follows it there. What is
 // noted of a prefix is which edges are in it, which blocks are opened, and a stack of the edges that come next in the unfinished
 // blocks. To lay an edge takes a search for it among the edges of the vertex, and all else is constant on average, so the first
-// arrangement and the next take time in proportion to d log d for d edges. All room is taken when the tables are made.
+// arrangement and the next take time in proportion to d log d for d edges. All room is taken when the tables are made. Two blocks
+// that cross are searched for only in a list that is rejected: a pass through the list for each block, up to the first that
+// crosses another, so blocks times d at worst.
 //
 // The lemmas that are used most (module of proofs/ in front):
 //   Changes    cross-interleaved, four-cross: blocks cross where their edges alternate along the list; cross-is_alternate: around
@@ -37,8 +39,11 @@
 //   Turns      keeps-turn, cross-turn, changed-turn, crossing-turn: it doesn't matter where a list begins
 //   Along      keeps-along: a block keeps its cyclic order where each of its edges follows the one before it
 //   Gaps       gaps-cross, cross-gaps: two blocks cross where edges of the one are in two gaps of the other
+//   Ranked     answer-ranked: blocks cross where their ranks do
+//   RankPasses passed-first, passed-again, passed-other, passed-found, passed-none: a pass through the list of ranks
 #![tactic(auto)]
 
+mod crossings;
 mod kept;
 mod making;
 mod prefixes;

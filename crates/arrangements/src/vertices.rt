@@ -4,11 +4,13 @@ ghost use Rattle.std.specs.Prelude.{◌≡◌, ◌+◌, ◌<◌, ◌^◌, ◌↔
 ghost use Rattle.permutations.specs.Members.{is_member, place_of};
 ghost use Rattle.choice_lists.specs.Order.{IsAt, IsRising};
 ghost use Rattle.choice_lists.specs.Products.{IsLast};
-ghost use Rattle.arrangements.specs.Arranged.{arrangements_at, first_arrangement};
-ghost use Rattle.arrangements.specs.Tables.{VertexTables, IsTables, HaveBlocks, HaveArrangement};
+ghost use Rattle.arrangements.specs.Arranged.{arrangements_at, cross, first_arrangement};
+ghost use Rattle.arrangements.specs.Tables.{VertexTables, rank_in, IsTables, HaveBlocks, HaveArrangement};
 ghost use Rattle.arrangements.specs.Prefixes.{ForBlocks};
 ghost use Rattle.arrangements.specs.Changed.{AreKept, IsLeastChangedRank};
+ghost use Rattle.arrangements.specs.Crossings.{IsCrossingOf};
 
+use crate::crossings::crossing_ranks;
 use crate::kept::changed_rank;
 use crate::making;
 use crate::prefixes::Prefix;
@@ -23,6 +25,8 @@ pub struct VertexOrders {
     tables: Tables,
     prefix: Prefix,
     expected: Vec<Option<u32>>,
+    listed: Vec<u32>,
+    met: Vec<u32>,
 }
 
 impl Model for VertexOrders {
@@ -35,7 +39,9 @@ impl Model for VertexOrders {
     ghost view = { λ v. v.tables };
 
     ghost invariant = { λ v. HasRoom v.tables v.prefix
-        × (length v.expected.items ≡ length v.tables.edges) };
+        × (length v.expected.items ≡ length v.tables.edges)
+        × (length v.listed.items ≡ length v.tables.edges)
+        × (length v.met.items ≡ length v.tables.edges) };
 }
 
 impl VertexOrders {
@@ -55,11 +61,15 @@ impl VertexOrders {
     {
         let prefix = Prefix::new(alloc, edges.len())?;
         let expected = vec![in alloc; None; edges.len()]?;
+        let listed = vec![in alloc; 0; edges.len()]?;
+        let met = vec![in alloc; 0; edges.len()]?;
         let followers = Vec::from_slice(alloc, &edges)?;
         Ok(VertexOrders {
             tables: Tables::of(edges, ranks, followers),
             prefix,
             expected,
+            listed,
+            met,
         })
     }
 
@@ -70,6 +80,15 @@ impl VertexOrders {
     {
         self.tables.keeps();
         self.tables.len()
+    }
+
+    /// The rank of the block of an edge.
+    pub fn rank(&self, edge: u32) -> u32
+        requires { is_member edge self.now.edges ≡ true }
+        ensures { result ≡ rank_in self.now edge }
+    {
+        self.tables.keeps();
+        self.tables.rank(self.tables.place(edge)) as u32
     }
 
     /// Sets the edge that follows an edge in the cyclic order of its block. Takes no memory.
@@ -134,5 +153,17 @@ impl VertexOrders {
             return Some(rank as u32);
         }
         None
+    }
+
+    /// The ranks of the least two blocks that cross in the list; `None` exactly where no two do. The list may begin with any edge.
+    /// Takes no memory; a pass through the list for each block up to the first one that crosses another.
+    pub fn crossing(&mut self, list: &[u32]) -> Option<(u32, u32)>
+        requires { IsPermutation self.old.edges list.now }
+        ensures exact { ForBlocks self.old (λ block order. MatchOption result ((b c : ℕ)
+            → cross block b c list.now ≡ false)
+            (λ pair. IsCrossingOf self.old block list.now pair.0 pair.1)) }
+        ensures tables { self.new ≡ self.old }
+    {
+        crossing_ranks(&self.tables, &mut self.listed, &mut self.met, list)
     }
 }
