@@ -1,0 +1,75 @@
+-- Numbers each once, and the ranks of numbers among them.
+use Rattle.std.proofs.Common.{◌≡◌, ℕ, suc, ◌+◌, ◌<◌, ◌≤◌, ◌↔◌, inl, inr, Bool, true, false, nat_lt, cond, eqb, List, [], ◌∷◌, ◌++◌, length, take, map, get_or, slice_index, refl, sym, ap, ◌∙◌, subst, arith, Contains, IsPermutation}
+use Rattle.std.specs.List.{dedup, dedup_from}
+use Rattle.std.specs.List.Retain.{IsFiltered, DiffersFromLast}
+use Rattle.std.proofs.lemmas.Bool.{cases_Bool, cases_lt, cases_eq, cond-true, cond-false}
+use Rattle.std.proofs.lemmas.List.{length_push, get_or_append_left, get_or_push}
+use Rattle.std.proofs.lemmas.List.Filters.{dedup_is}
+use Rattle.std.proofs.lemmas.List.Kept.{Contains-from_dedup, Contains-dedup_nat}
+use Rattle.std.proofs.lemmas.List.Sorted.{Contains-permutation, IsPermutation-sym, length_permutation}
+use Rattle.std.proofs.lemmas.List.Elements.{Contains-get_or}
+use Rattle.multigraph.specs.Part.{Rises}
+use Rattle.whole_embed.specs.Keeping.{AreRanks}
+
+-- sorted, and each once, numbers are the same ones
+pub once-same : (numbers sorted once : List ℕ) → IsPermutation numbers sorted → IsFiltered (DiffersFromLast eqb) [] sorted once → (x : ℕ) → Contains once x ↔ Contains numbers x
+once-same numbers sorted once p f x = subst (λ (l : List ℕ). Contains l x ↔ Contains numbers x) (sym (dedup_is eqb sorted once f)) (
+  λ c. Contains-permutation sorted numbers x (IsPermutation-sym numbers sorted p) (Contains-from_dedup eqb sorted x c),
+  λ c. Contains-dedup_nat sorted x (Contains-permutation numbers sorted x p c),
+)
+
+from-short : (x : ℕ) (xs : List ℕ) → length (dedup_from eqb x xs) ≤ suc (length xs)
+from-short x [] = omega arith
+from-short x (y ∷ ys) = elim (cases_Bool (eqb y x)) [
+  | inl t ↦ rw t (omega (arith, from-short x ys))
+  | inr f ↦ rw f (omega (arith, from-short y ys))
+]
+
+-- and not more
+pub once-short : (numbers sorted once : List ℕ) → IsPermutation numbers sorted → IsFiltered (DiffersFromLast eqb) [] sorted once → length once ≤ length numbers
+once-short numbers sorted once p f = omega (arith, ap length (dedup_is eqb sorted once f), short sorted, length_permutation numbers sorted p)
+  where
+    short : (l : List ℕ) → length (dedup eqb l) ≤ length l
+    short [] = omega arith
+    short (x ∷ xs) = omega (arith, from-short x xs)
+
+-- places in increasing numbers increase as the numbers do
+pub places-order : (l : List ℕ) (i j x y : ℕ) → Rises l → i < length l → j < length l → slice_index l i ≡ x → slice_index l j ≡ y → nat_lt i j ≡ nat_lt x y
+places-order l i j x y r li lj p q = elim (cases_lt i j) [
+  | inl less ↦ let up : x < y = omega (arith, r i j less lj, p, q) in grind (arith, less, up)
+  | inr not ↦ elim (cases_eq i j) [
+    | inl e ↦ let same : x ≡ y = sym p ∙ (ap (slice_index l) e ∙ q) in grind (arith, e, same)
+    | inr d ↦ let more : j < i = omega (arith, not, d) in let down : y < x = omega (arith, r j i more li, p, q) in grind (arith, more, down)
+  ]
+]
+
+-- no rank yet, and one more: the first ranks are the places of the first numbers
+pub record AreRanksTo (list numbers ranks : List ℕ) (n : ℕ) : Type 0 where
+  pub each : length ranks ≡ n
+  pub is : (p : ℕ) → p < n → (slice_index ranks p < length list) × (slice_index list (slice_index ranks p) ≡ slice_index numbers p)
+
+pub ranks-are : (list numbers ranks : List ℕ) → Rises list → length list ≤ length numbers → AreRanksTo list numbers ranks (length numbers) → AreRanks numbers ranks
+ranks-are list numbers ranks r short h = record {
+  each = h.each;
+  below = λ p l. omega (arith, (h.is p l).0, short);
+  same = λ p q lp lq. places-order list (slice_index ranks p) (slice_index ranks q) (slice_index numbers p) (slice_index numbers q) r (h.is p lp).0 (h.is q lq).0 (h.is p lp).1 (h.is q lq).1;
+}
+
+-- a number of the list is in it
+pub number-there : (numbers list : List ℕ) (i : ℕ) → ((x : ℕ) → Contains list x ↔ Contains numbers x) → i < length numbers → Contains list (slice_index numbers i)
+number-there numbers list i same l = (same (slice_index numbers i)).1 (Contains-get_or numbers i 0 l)
+
+-- one rank more
+pub ranks-more : (list numbers old new : List ℕ) (n x : ℕ) → AreRanksTo list numbers old n → x < length list → slice_index list x ≡ slice_index numbers n → new ≡ old ++ x ∷ [] → AreRanksTo list numbers new (n + 1)
+ranks-more list numbers old new n x h l e is = subst (λ (z : List ℕ). AreRanksTo list numbers z (n + 1)) (sym is) (record {
+  each = length_push old x ∙ ap (λ (k : ℕ). k + 1) h.each;
+  is = λ p less. elim (cases_lt p n) [
+    | inl b ↦
+        let same : slice_index (old ++ x ∷ []) p ≡ slice_index old p = get_or_append_left old (x ∷ []) 0 p (omega (arith, b, h.each)) in
+        (subst (λ (z : ℕ). z < length list) (sym same) (h.is p b).0, ap (slice_index list) same ∙ (h.is p b).1)
+    | inr b ↦
+        let at : p ≡ n = omega (arith, less, b) in
+        let last : slice_index (old ++ x ∷ []) p ≡ x = get_or_push old x 0 p (omega (arith, at, h.each)) in
+        (subst (λ (z : ℕ). z < length list) (sym last) l, ap (slice_index list) last ∙ (e ∙ ap (slice_index numbers) (sym at)))
+  ];
+})

@@ -1,0 +1,11 @@
+use Rattle.std.proofs.Common.{◌≡◌, ◌<◌, ℕ, true, false, length, ap, subst, arith, MatchOption}
+use Rattle.permutations.specs.Members.{is_member, place_of}
+use Rattle.permutations.proofs.Places.{place-below}
+use Rattle.whole_embed.specs.Cuts.{CutState}
+use Rattle.whole_embed.proofs.cuts.Cuts.place.Goals as goal
+
+pub returns-clause-within : goal.returns-clause-within
+returns-clause-within c =
+    let cuts = c.self.inside.frame.cuts in
+    let w = subst (λ r. MatchOption r (is_member c.args.v cuts ≡ false) (λ i. (is_member c.args.v cuts ≡ true) × (i ≡ place_of cuts c.args.v))) c.unwrap.ensures c.find_cut.ensures in
+    omega (arith, w.1, place-below cuts c.args.v w.0, ap (λ (s : CutState). length s.component.cuts) c.self.view_is)
