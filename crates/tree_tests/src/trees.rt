@@ -3,11 +3,12 @@
 
 ghost use Rattle.std.specs.Prelude.{◌<◌, length};
 ghost use Rattle.blocks.specs.Blocks.{IsBlockStructure};
+ghost use Rattle.multigraph.specs.Graph.{IsGraph};
 ghost use Rattle.pair_split.specs.Tutte.{IsTutte};
 
 use crate::small_blocks::{block_of, ends_of};
 use blocks::{Blocks, is_one_block, split};
-use multigraph::Graph;
+use multigraph::{Graph, Part};
 use pair_split::{Comp, Item, PairSplitter, Splitter, What};
 use spqr_script::node_line;
 use spqr_tree::Tree;
@@ -228,6 +229,18 @@ fn assembles_trees(rt: HostRuntime) -> Result<(), Fail> {
     Ok(())
 }
 
+// Appends the lines of the nodes of a part's tree to a text.
+fn push_lines(alloc: Global, text: &mut Vec<u8>, part: &Part, tree: &Tree) -> Result<(), AllocError>
+    requires graph { IsGraph part.now.graph }
+    requires nodes { IsTutte part.now.graph tree.now }
+{
+    for k in 0..tree.node_count() {
+        let line = node_line(alloc, part, tree, k)?;
+        text.extend_from_slice(&line)?;
+    }
+    Ok(())
+}
+
 // The lines of the nodes of block b, in the numbers of the graph.
 fn node_lines(alloc: Global, graph: &Graph, blocks: &Blocks, b: u32) -> Result<Vec<u8>, Fail>
     requires structure { IsBlockStructure graph.now blocks.now }
@@ -240,10 +253,7 @@ fn node_lines(alloc: Global, graph: &Graph, blocks: &Blocks, b: u32) -> Result<V
     let comps = PairSplitter::new().split(alloc, part.graph())?;
     let tree = Tree::assemble(alloc, part.graph(), comps)?;
     let mut text = Vec::new(alloc);
-    for k in 0..tree.node_count() {
-        let line = node_line(alloc, &part, &tree, k)?;
-        text.extend_from_slice(&line)?;
-    }
+    push_lines(alloc, &mut text, &part, &tree)?;
     Ok(text)
 }
 
