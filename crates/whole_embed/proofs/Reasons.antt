@@ -2,14 +2,16 @@
 use Rattle.std.proofs.Common.{◌≡◌, ℕ, ◌<◌, true, false, nat_lt, List, length, map, get_or, slice_index, refl, sym, ap, ◌∙◌, subst, arith, inl, inr, Contains, IsPermutation}
 use Rattle.std.proofs.lemmas.Bool.{cases_lt, lt-ltb, ltb-true}
 use Rattle.std.proofs.lemmas.List.{get_or-map, length-map}
+use Rattle.std.proofs.lemmas.List.Sorted.{length_permutation}
 use Rattle.permutations.specs.Members.{is_member}
 use Rattle.permutations.specs.Cyclic.{from_least}
 use Rattle.permutations.proofs.Arrangements.{member-at}
 use Rattle.permutations.proofs.NormalForm.{from_least-member}
 use Rattle.multigraph.specs.Graph.{incident_edges}
-use Rattle.multigraph.specs.Part.{IsNumbered}
+use Rattle.multigraph.specs.Part.{IsNumbered, Rises}
 use Rattle.multigraph.proofs.Incident.{incident_at-edge}
 use Rattle.rotations.specs.Rotation.{IsCyclicOrder}
+use Rattle.skeletons.proofs.Systems.{order-arranged}
 use Rattle.arrangements.specs.Arranged.{AreOrders, cross}
 use Rattle.arrangements.specs.Changed.{AreKept, IsLeastChangedRank}
 use Rattle.arrangements.specs.Crossings.{IsCrossingOf}
@@ -17,11 +19,12 @@ use Rattle.arrangements.specs.Refused.{IsLeastChanged, IsLeastCrossing}
 use Rattle.arrangements.specs.Tables.{VertexTables, rank_in}
 use Rattle.arrangements.proofs.Laws.{arrangements_are_listed}
 use Rattle.whole_embed.specs.declared.faults.RegroupFault.TheVariants.{BlockOrder, Cross}
-use Rattle.whole_embed.specs.Component.{Component, BlockInPlane}
+use Rattle.whole_embed.specs.Component.{Component, BlockInPlane, IsComponentInPlane}
 use Rattle.whole_embed.specs.Around.{edges_around, block_with, block_order, arrangements_around}
 use Rattle.whole_embed.specs.Cuts.{IsRegroupRefusal}
 use Rattle.whole_embed.specs.Keeping.{KeepsTables, IsFoundRank, numbers_at}
-use Rattle.whole_embed.proofs.Outer.{place-rising}
+use Rattle.whole_embed.proofs.Outer.{place-rising, rises-distinct, first-least}
+use Rattle.whole_embed.proofs.Assembly.{assembled}
 
 -- edges of one rank are of one block
 same-block : (k : Component) (v : ℕ) (t : VertexTables) → KeepsTables k v t → (e x : ℕ) → is_member e t.edges ≡ true → is_member x t.edges ≡ true → rank_in t e ≡ rank_in t x → block_with k e ≡ block_with k x
@@ -83,3 +86,13 @@ module _ (k : Component) (block : ℕ → BlockInPlane) (v : ℕ) (t : VertexTab
   no-refusal o round kept apart =
       ((arrangements_are_listed (block_with k) (block_order block v) (edges_around k v) o).exactly l).1
           (record { all = round.arranged; least_first = round.least_first; kept = kept; apart = apart })
+
+-- an ordering, from its least edge on, is a cyclic order
+pub around-order : (k : Component) (v : ℕ) (edges : List ℕ) → Rises (edges_around k v) → IsPermutation (edges_around k v) edges → IsCyclicOrder (edges_around k v) (from_least edges)
+around-order k v edges rise perm = order-arranged (edges_around k v) edges (rises-distinct (edges_around k v) rise) (λ e m. first-least (edges_around k v) e rise m) perm
+
+-- an arrangement has all edges
+pub arranged-length : (k : Component) (block : ℕ → BlockInPlane) (v : ℕ) (l : List ℕ) → IsComponentInPlane k block → is_member v k.cuts ≡ true → Contains (arrangements_around k block v) l → length l ≡ length (edges_around k v)
+arranged-length k block v l w m h =
+    let a = assembled k block w in
+    length_permutation (edges_around k v) l (((arrangements_are_listed (block_with k) (block_order block v) (edges_around k v) (a.orders v (a.cuts_in v m))).exactly l).0 h).all

@@ -20,6 +20,7 @@
 //   Searching, BlockTables, FrameFacts   tables by number, and what a component that is kept tells
 //   Orderings       lists of edges from outside; Ranks: the ranks of blocks
 //   CutTables, Renewing      the tables of a cut vertex, and that they are those of the present blocks
+//   Reasons         why a list is not an arrangement, in the numbers of the graph
 //   CutLists, WholeLists     tables and lists of all cut vertices; the lists of the component
 //
 // The lemmas on the list (module of proofs/ in front):

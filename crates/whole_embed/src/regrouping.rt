@@ -64,9 +64,9 @@ fn arrange_at(
     if let Some(rank) = orders.changed_block(&list) {
         return Err(RegroupFault::BlockOrder(block_of_rank(&at, &numbers, orders, rank)));
     }
-    if let Some((first, second)) = orders.crossing(&list) {
-        let b = block_of_rank(&at, &numbers, orders, first);
-        let c = block_of_rank(&at, &numbers, orders, second);
+    if let Some(pair) = orders.crossing(&list) {
+        let b = block_of_rank(&at, &numbers, orders, pair.0);
+        let c = block_of_rank(&at, &numbers, orders, pair.1);
         return Err(RegroupFault::Cross(b, c));
     }
     Ok(list)
