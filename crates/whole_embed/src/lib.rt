@@ -46,7 +46,6 @@ mod numbering;
 mod ordering;
 mod tables;
 mod walking;
-mod whole_move;
 mod wholes;
 
 pub use component::Frame;
@@ -56,5 +55,4 @@ pub use list_laws::one_list;
 pub use listing::list_after;
 pub use members::Member;
 pub use walking::next_whole;
-pub use whole_move::WholeMove;
 pub use wholes::whole;
