@@ -48,7 +48,6 @@ mod ordering;
 mod regrouping;
 mod tables;
 mod walking;
-mod whole_move;
 mod wholes;
 
 pub use component::Frame;
@@ -59,5 +58,4 @@ pub use listing::list_after;
 pub use members::Member;
 pub use regrouping::regroup;
 pub use walking::next_whole;
-pub use whole_move::WholeMove;
 pub use wholes::whole;
