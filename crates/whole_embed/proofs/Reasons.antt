@@ -31,9 +31,9 @@ same-block : (k : Component) (v : ℕ) (t : VertexTables) → KeepsTables k v t 
 same-block k v t h e x me mx q = elim (cases_lt (block_with k e) (block_with k x)) [
   | inl l ↦ absurd (omega (arith, q, ltb-true (rank_in t e) (rank_in t x) (h.ranks e x me mx ∙ lt-ltb (block_with k e) (block_with k x) l)))
   | inr l ↦ elim (cases_lt (block_with k x) (block_with k e)) [
-      | inl m ↦ absurd (omega (arith, q, ltb-true (rank_in t x) (rank_in t e) (h.ranks x e mx me ∙ lt-ltb (block_with k x) (block_with k e) m)))
-      | inr m ↦ omega (arith, l, m)
-    ]
+    | inl m ↦ absurd (omega (arith, q, ltb-true (rank_in t x) (rank_in t e) (h.ranks x e mx me ∙ lt-ltb (block_with k x) (block_with k e) m)))
+    | inr m ↦ omega (arith, l, m)
+  ]
 ]
 
 -- the block of the edge at place p
@@ -71,13 +71,12 @@ module _ (k : Component) (block : ℕ → BlockInPlane) (v : ℕ) (t : VertexTab
       → ((e : ℕ) → is_member e t.edges ≡ true → rank_in t e ≡ r → b ≡ block_with k e) → ((e : ℕ) → is_member e t.edges ≡ true → rank_in t e ≡ s → c ≡ block_with k e)
       → IsRegroupRefusal k block v edges (Cross b c)
   refusal-crossing r s b c kept h own other =
-      let all : AreKept (block_with k) (block_order block v) (from_least edges) = subst (AreKept (block_with k) (block_order block v)) ql kept in
-      (
+      let all : AreKept (block_with k) (block_order block v) (from_least edges) = subst (AreKept (block_with k) (block_order block v)) ql kept in (
         perm,
         λ e m. all e (from_least-member edges e ∙ m),
         subst (λ (z : ℕ). IsLeastCrossing (block_with k) (from_least edges) z c) (sym (own h.first h.first_met h.first_rank))
             (subst (IsLeastCrossing (block_with k) (from_least edges) (block_with k h.first)) (sym (other h.second h.second_met h.second_rank))
-                (subst (λ (z : List ℕ). IsLeastCrossing (block_with k) z (block_with k h.first) (block_with k h.second)) ql h.least)),
+            (subst (λ (z : List ℕ). IsLeastCrossing (block_with k) z (block_with k h.first) (block_with k h.second)) ql h.least)),
       )
 
   -- there is no reason
@@ -85,7 +84,7 @@ module _ (k : Component) (block : ℕ → BlockInPlane) (v : ℕ) (t : VertexTab
       → ((b c : ℕ) → cross (block_with k) b c l ≡ false) → Contains (arrangements_around k block v) l
   no-refusal o round kept apart =
       ((arrangements_are_listed (block_with k) (block_order block v) (edges_around k v) o).exactly l).1
-          (record { all = round.arranged; least_first = round.least_first; kept = kept; apart = apart })
+      (record { all = round.arranged; least_first = round.least_first; kept = kept; apart = apart })
 
 -- an ordering, from its least edge on, is a cyclic order
 pub around-order : (k : Component) (v : ℕ) (edges : List ℕ) → Rises (edges_around k v) → IsPermutation (edges_around k v) edges → IsCyclicOrder (edges_around k v) (from_least edges)

@@ -179,7 +179,7 @@ returns-in-Some-crossing-clause-refused c =
     let other = own-block k v i c.renew.new.orders c.deref-in-Some-crossing-3.result.now c.deref-in-Some-crossing-4.result.now c.in-Some-crossing.pair.1 c.block_of_rank-c.result c.renew.ensures.tables c.part-part.ensures.numbered (c.deref-in-Some-crossing-3.ensures.value ∙ mapped) (c.deref-in-Some-crossing-4.ensures.value ∙ c.in_ok-numbers.ensures {u = tt}) (c.renew.ensures.tables.edges ∙ sym (c.deref-in-Some-crossing-3.ensures.value ∙ around))
     (subst (λ (t : VertexTables). IsFoundRank t c.deref-in-Some-crossing-3.result.now c.deref-in-Some-crossing-4.result.now c.in-Some-crossing.pair.1 c.block_of_rank-c.result) (c.crossing.ensures.tables ∙ c.changed_block.ensures.tables) c.block_of_rank-c.ensures) in
     refusal-crossing k (blocks_in c.args.all.now) v c.renew.new.orders c.args.edges.now c.deref-3.result.now perm (c.deref-3.ensures.value ∙ told.1) c.in-Some-crossing.pair.0 c.in-Some-crossing.pair.1 c.block_of_rank-b.result c.block_of_rank-c.result kept
-        (subst (λ (t : VertexTables). IsCrossingOf t block c.deref-3.result.now c.in-Some-crossing.pair.0 c.in-Some-crossing.pair.1) c.changed_block.ensures.tables crossed) own other
+    (subst (λ (t : VertexTables). IsCrossingOf t block c.deref-3.result.now c.in-Some-crossing.pair.0 c.in-Some-crossing.pair.1) c.changed_block.ensures.tables crossed) own other
 
 pub returns-clause-arranged : goal.returns-clause-arranged
 returns-clause-arranged c =
@@ -200,4 +200,4 @@ returns-clause-arranged c =
     let kept : AreKept block order c.in-Some.list.items = subst (AreKept block order) (c.deref-2.ensures.value) ((c.in_default-changed_block.ensures {u = tt}).exact block order c.renew.ensures.renewed) in
     let apart = (c.in_default-crossing.ensures {u = tt}).exact block order (subst (λ (t : VertexTables). AreTablesOf t block order) (sym c.changed_block.ensures.tables) c.renew.ensures.renewed) in
     no-refusal k (blocks_in c.args.all.now) v c.renew.new.orders c.args.edges.now c.in-Some.list.items perm told.1 (a.orders v (a.cuts_in v c.requires.vertex)) round kept
-        (λ b d. subst (λ (l : List ℕ). cross block b d l ≡ false) c.deref-3.ensures.value (apart b d))
+    (λ b d. subst (λ (l : List ℕ). cross block b d l ≡ false) c.deref-3.ensures.value (apart b d))

@@ -21,7 +21,7 @@ arrange_at-requires-clause-tables c =
     let none : VertexTables = record { edges = []; ranks = []; followers = [] } in
     let read = c.index_mut.ensures.value ∙ get_or_default c.cuts.inside.orders.items i c.index_mut.result.now none (omega (arith, less, c.cuts.invariant.tables_each)) in
     subst (λ (z : ℕ). KeepsTables c.cuts.inside.frame z c.index_mut.result.now) at
-        (subst (KeepsTables c.cuts.inside.frame (slice_index c.cuts.inside.frame.cuts i)) (sym read) (c.cuts.invariant.tables i less))
+    (subst (KeepsTables c.cuts.inside.frame (slice_index c.cuts.inside.frame.cuts i)) (sym read) (c.cuts.invariant.tables i less))
 
 pub invariant_of-cuts : goal.invariant_of-cuts
 invariant_of-cuts c =
@@ -46,13 +46,13 @@ invariant_of-cuts-2 c =
     let long : length c.in_ok-list.list.items ≡ length (edges_around k (slice_index k.cuts i)) =
     arranged-length k block c.args.v c.in_ok-list.list.items plane within (c.in_ok-list.ensures {u = tt}).arranged ∙ sym (ap (λ (z : ℕ). length (edges_around k z)) at) in
     subst (KeepsCuts k (slice_set c.cuts.inside.orders.items i c.arrange_at.new.orders)) (sym (map-set (λ l. l.items) c.cuts.inside.lists.items i c.in_ok-list.list))
-        (keeps-set k c.cuts.inside.orders.items (map (λ l. l.items) c.cuts.inside.lists.items) i c.arrange_at.new.orders c.in_ok-list.list.items c.cuts.invariant less kept long)
+    (keeps-set k c.cuts.inside.orders.items (map (λ l. l.items) c.cuts.inside.lists.items) i c.arrange_at.new.orders c.in_ok-list.list.items c.cuts.invariant less kept long)
 
 pub returns-clause-arranged : goal.returns-clause-arranged
 returns-clause-arranged c =
     let block = blocks_in c.args.all.now in
     subst (λ (s : CutState). Contains (arrangements_around s.component block c.args.v) (from_least c.args.edges.now)) c.cuts.view_is
-        (subst (Contains (arrangements_around c.cuts.inside.frame block c.args.v)) (c.in_ok-list.ensures {u = tt}).list (c.in_ok-list.ensures {u = tt}).arranged)
+    (subst (Contains (arrangements_around c.cuts.inside.frame block c.args.v)) (c.in_ok-list.ensures {u = tt}).list (c.in_ok-list.ensures {u = tt}).arranged)
 
 pub returns-clause-set : goal.returns-clause-set
 returns-clause-set c =
