@@ -26,24 +26,27 @@ lists-set k orders lists i l h less is = record {
   ];
 }
 
--- and other tables
-pub keeps-set : (k : Component) (orders : List VertexTables) (lists : List (List ℕ)) (i : ℕ) (t : VertexTables) (l : List ℕ) → KeepsCuts k orders lists → i < length k.cuts
-    → KeepsTables k (slice_index k.cuts i) t → length l ≡ length (edges_around k (slice_index k.cuts i)) → KeepsCuts k (slice_set orders i t) (slice_set lists i l)
-keeps-set k orders lists i t l h less kept is =
-    let w = lists-set k orders lists i l h less is in
-    record {
-      tables_each = length-set orders i t ∙ h.tables_each;
-      lists_each = w.lists_each;
-      tables = λ j lj. elim (cases_eq j i) [
-        | inl q ↦ subst (λ (z : ℕ). KeepsTables k (slice_index k.cuts z) (tables_at (slice_set orders i t) z)) (sym q)
-            (subst (KeepsTables k (slice_index k.cuts i)) (sym (get_or-set_same orders i t none (omega (arith, less, h.tables_each)))) kept)
-        | inr d ↦ subst (KeepsTables k (slice_index k.cuts j)) (sym (get_or-set_other orders i j t none d)) (h.tables j lj)
-      ];
-      long = w.long;
-    }
+-- other tables
+pub orders-set : (k : Component) (orders : List VertexTables) (lists : List (List ℕ)) (i : ℕ) (t : VertexTables) → KeepsCuts k orders lists → i < length k.cuts
+    → KeepsTables k (slice_index k.cuts i) t → KeepsCuts k (slice_set orders i t) lists
+orders-set k orders lists i t h less kept = record {
+  tables_each = length-set orders i t ∙ h.tables_each;
+  lists_each = h.lists_each;
+  tables = λ j lj. elim (cases_eq j i) [
+    | inl q ↦ subst (λ (z : ℕ). KeepsTables k (slice_index k.cuts z) (tables_at (slice_set orders i t) z)) (sym q)
+        (subst (KeepsTables k (slice_index k.cuts i)) (sym (get_or-set_same orders i t none (omega (arith, less, h.tables_each)))) kept)
+    | inr d ↦ subst (KeepsTables k (slice_index k.cuts j)) (sym (get_or-set_other orders i j t none d)) (h.tables j lj)
+  ];
+  long = h.long;
+}
   where
     none : VertexTables
     none = record { edges = []; ranks = []; followers = [] }
+
+-- both
+pub keeps-set : (k : Component) (orders : List VertexTables) (lists : List (List ℕ)) (i : ℕ) (t : VertexTables) (l : List ℕ) → KeepsCuts k orders lists → i < length k.cuts
+    → KeepsTables k (slice_index k.cuts i) t → length l ≡ length (edges_around k (slice_index k.cuts i)) → KeepsCuts k (slice_set orders i t) (slice_set lists i l)
+keeps-set k orders lists i t l h less kept is = lists-set k (slice_set orders i t) lists i l (orders-set k orders lists i t h less kept) less is
 
 -- one more first arrangement
 pub first-more : (k : Component) (block : ℕ → BlockInPlane) (lists : List (List ℕ)) (i : ℕ) → AreFirstTo k block lists i → i < length lists

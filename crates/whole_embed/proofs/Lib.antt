@@ -29,6 +29,7 @@ pub mod WholeLists
 pub mod CutTables
 pub mod CutLists
 pub mod Renewing
+pub mod Reasons
 pub mod WalkSteps
 pub mod Following
 pub mod OfParts

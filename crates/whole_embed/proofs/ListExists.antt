@@ -148,16 +148,19 @@ module _ (k : Component) (block : ℕ → BlockInPlane) (is : IsComponentInPlane
           let px = present k (with v) x (in-plane v h) p in
           let py = present k (with v) y (in-plane v h) q in
           let made = assembled k (with v) (in-plane v h) in
-          inr (slice_index k.cuts r.place, record {
-            among = member-at k.cuts r.place 0 r.within;
-            parts = λ b n. px.parts b n ∙ sym (py.parts b n);
-            same = λ u n l.
-                let e = r.same (place_of k.cuts u) (place-less k.cuts u r.place made.cuts_rise n r.within l) in
-                subst (λ z. outer_at k.part (whole_system k (with v) x) z ≡ outer_at k.part (whole_system k (with v) y) z) (place-holds k.cuts u n)
-                (px.rounds (place_of k.cuts u) (place-below k.cuts u n) ∙ (e ∙ sym (py.rounds (place_of k.cuts u) (place-below k.cuts u n))));
-            smaller = subst (λ (z : List ℕ). is_before z (outer_at k.part (whole_system k (with v) y) (slice_index k.cuts r.place)) ≡ true) (sym (px.rounds r.place r.within))
-                (subst (λ (z : List ℕ). is_before (slice_index_or x r.place []) z ≡ true) (sym (py.rounds r.place r.within)) r.smaller);
-          })
+          inr (
+            slice_index k.cuts r.place,
+            record {
+              among = member-at k.cuts r.place 0 r.within;
+              parts = λ b n. px.parts b n ∙ sym (py.parts b n);
+              same = λ u n l.
+                  let e = r.same (place_of k.cuts u) (place-less k.cuts u r.place made.cuts_rise n r.within l) in
+                  subst (λ z. outer_at k.part (whole_system k (with v) x) z ≡ outer_at k.part (whole_system k (with v) y) z) (place-holds k.cuts u n)
+                  (px.rounds (place_of k.cuts u) (place-below k.cuts u n) ∙ (e ∙ sym (py.rounds (place_of k.cuts u) (place-below k.cuts u n))));
+              smaller = subst (λ (z : List ℕ). is_before z (outer_at k.part (whole_system k (with v) y) (slice_index k.cuts r.place)) ≡ true) (sym (px.rounds r.place r.within))
+                  (subst (λ (z : List ℕ). is_before (slice_index_or x r.place []) z ≡ true) (sym (py.rounds r.place r.within)) r.smaller);
+            },
+          )
 
   blocks-increase : (v w : List (List (List ℕ))) → Has (vectors k.blocks C) v → Has (vectors k.blocks C) w → IsLess (λ b r s. Precedes (block b).nodes r s) [] k.blocks v w → (i j : ℕ) (y z : List (List ℕ)) → At (of-vector v) i y → At (of-vector w) j z → WholePrecedes k block y z
   blocks-increase v w m n r i j y z p q =
@@ -166,18 +169,21 @@ module _ (k : Component) (block : ℕ → BlockInPlane) (is : IsComponentInPlane
       let pv = present k (with v) a.0 (in-plane v hv) a.2 in
       let pw = present k (with w) b.0 (in-plane w hw) b.2 in
       subst (λ (u : List (List ℕ)). WholePrecedes k block u z) a.1 (subst (λ (u : List (List ℕ)). WholePrecedes k block (whole_system k (with v) a.0) u) b.1
-      (inl (slice_index k.blocks r.place, record {
-        among = member-at k.blocks r.place 0 r.within;
-        same = λ c t l.
-            let e = r.same (place_of k.blocks c) (place-less k.blocks c r.place (assembled k block is).blocks_rise t r.within l) in
-            pv.parts c t ∙ (e ∙ sym (pw.parts c t));
-        earlier =
-            let c = slice_index k.blocks r.place in
-            let t : is_member c k.blocks ≡ true = member-at k.blocks r.place 0 r.within in
-            let e = place-at-once r.place r.within in
-            subst (λ (u : List (List ℕ)). Precedes (block c).nodes u (block_part k (block c).part (whole_system k (with w) b.0))) (sym (pv.parts c t ∙ ap (λ i. slice_index_or v i []) e))
-            (subst (λ (u : List (List ℕ)). Precedes (block c).nodes (slice_index_or v r.place []) u) (sym (pw.parts c t ∙ ap (λ i. slice_index_or w i []) e)) r.smaller);
-      })))
+      (inl (
+        slice_index k.blocks r.place,
+        record {
+          among = member-at k.blocks r.place 0 r.within;
+          same = λ c t l.
+              let e = r.same (place_of k.blocks c) (place-less k.blocks c r.place (assembled k block is).blocks_rise t r.within l) in
+              pv.parts c t ∙ (e ∙ sym (pw.parts c t));
+          earlier =
+              let c = slice_index k.blocks r.place in
+              let t : is_member c k.blocks ≡ true = member-at k.blocks r.place 0 r.within in
+              let e = place-at-once r.place r.within in
+              subst (λ (u : List (List ℕ)). Precedes (block c).nodes u (block_part k (block c).part (whole_system k (with w) b.0))) (sym (pv.parts c t ∙ ap (λ i. slice_index_or v i []) e))
+              (subst (λ (u : List (List ℕ)). Precedes (block c).nodes (slice_index_or v r.place []) u) (sym (pw.parts c t ∙ ap (λ i. slice_index_or w i []) e)) r.smaller);
+        },
+      )))
     where
       hv : IsVector [] k.blocks C v
       hv = has-vector [] k.blocks C m.0 v m.1

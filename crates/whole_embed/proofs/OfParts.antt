@@ -57,7 +57,7 @@ module _ (k : Component) (block new : ℕ → BlockInPlane) (is : IsComponentInP
     made-of_parts = sym (parts-tell k new made q (whole_system k new lists) m.plane.system here.member.plane.system
         (λ b n. same b n ∙ sym (here.parts b n))
         (λ c n. sym (subst (λ z. slice_index_or lists (place_of k.cuts c) [] ≡ outer_at k.part q z) (place-holds k.cuts c n) (list-at (place_of k.cuts c) (place-below k.cuts c n)))
-            ∙ sym (subst (λ z. outer_at k.part (whole_system k new lists) z ≡ slice_index_or lists (place_of k.cuts c) []) (place-holds k.cuts c n) (here.rounds (place_of k.cuts c) (place-below k.cuts c n)))))
+        ∙ sym (subst (λ z. outer_at k.part (whole_system k new lists) z ≡ slice_index_or lists (place_of k.cuts c) []) (place-holds k.cuts c n) (here.rounds (place_of k.cuts c) (place-below k.cuts c n)))))
 
 pub member_is_of_parts : MemberIsOfParts
 member_is_of_parts k block q is m = (in-plane k block (with_parts k block q) is moved, orders-arranged k block (with_parts k block q) is moved q m (λ b n. refl), made-of_parts k block (with_parts k block q) is moved q m (λ b n. refl))

@@ -30,7 +30,7 @@ module _ (k : Component) (all : List Member) (a : IsAssembled k (blocks_in all))
   block = blocks_in all
 
   -- the edges around v increase
-  around-rises : Rises (edges_around k v)
+  pub around-rises : Rises (edges_around k v)
   around-rises = rises-map (slice_index k.part.edges) (incident_edges k.part.graph (place_of k.part.vertices v)) (λ i j l m. incident-rises k.part.graph (place_of k.part.vertices v) i j 0 l m)
       (λ x y mx my l. a.numbered.edges_rise x y l (omega (arith, member-edge k.part.graph (place_of k.part.vertices v) y my, a.numbered.edge_each)))
 

@@ -126,6 +126,6 @@ vectors-rise {R} L d (b ∷ bs) C h =
     joined-rises (L b) (IsLess L d (b ∷ bs)) (λ x. map (λ u. x ∷ u) (vectors bs C)) (C b) (h 0 (omega arith))
     (λ x m. rises-map (IsLess L d bs) (IsLess L d (b ∷ bs)) (λ u. x ∷ u) (vectors bs C) rest (λ i j v w p q r. less-behind L d b bs x v w r))
     (λ x z m n r i j y w p q.
-        let u = at-map_back (λ u. x ∷ u) (vectors bs C) i y p in
-        let t = at-map_back (λ u. z ∷ u) (vectors bs C) j w q in
-        less-here L d b bs x z r i j u.0 t.0 y w u.2 t.2)
+    let u = at-map_back (λ u. x ∷ u) (vectors bs C) i y p in
+    let t = at-map_back (λ u. z ∷ u) (vectors bs C) j w q in
+    less-here L d b bs x z r i j u.0 t.0 y w u.2 t.2)

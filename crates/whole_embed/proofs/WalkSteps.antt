@@ -155,7 +155,7 @@ module _ (k : Component) (all : List Member) (h : IsComponentInPlane k (blocks_i
 -- a cut vertex set to its next arrangement, and the later ones to their first
 pub next-made : (block : ℕ → BlockInPlane) (old after : CutState) (place : ℕ) (new : List (List ℕ)) → length old.lists ≡ length old.component.cuts → place < length old.component.cuts
     → ((list : List ℕ) × (after ≡ record { component = old.component; lists = slice_set old.lists place list })
-        × ((j : ℕ) → IsAt (arrangements_at_place old.component block place) j (slice_index_or old.lists place []) → IsAt (arrangements_at_place old.component block place) (j + 1) list))
+    × ((j : ℕ) → IsAt (arrangements_at_place old.component block place) j (slice_index_or old.lists place []) → IsAt (arrangements_at_place old.component block place) (j + 1) list))
     → ((j : ℕ) → place < j → j < length old.component.cuts → IsLast (arrangements_at_place old.component block j) (slice_index_or old.lists j []))
     → AreFirstLists after.component block after.lists new (place + 1) (length after.component.cuts) → AreNextLists old.component block old.lists new
 next-made block old after place new each within w last h =

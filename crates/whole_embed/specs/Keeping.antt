@@ -52,3 +52,10 @@ pub record HasVertex (member : Member) (v : ℕ) : Type 0 where
 pub record HasAround (member : Member) (v e : ℕ) : Type 0 where
   pub block : HasVertex member v
   pub edge : is_member e (outer_at member.part block.state.rotation v) ≡ true
+
+-- b is the number of an edge of this rank, of the numbers of the edges in order
+pub record IsFoundRank (t : VertexTables) (at numbers : List ℕ) (of_rank b : ℕ) : Type 0 where
+  pub place : ℕ
+  pub within : place < length at
+  pub rank : rank_in t (slice_index at place) ≡ of_rank
+  pub is : b ≡ slice_index numbers place

@@ -118,10 +118,12 @@ impl Cuts {
         requires component { IsComponentInPlane self.old.component (blocks_in all.now) }
         requires planes { HavePlanes self.old.component all.now }
         requires within { i < length self.old.component.cuts }
-        ensures { self.new ≡ record self.old { lists = slice_set self.old.lists i
-            (first_arrangement (block_with self.old.component)
-            (block_order (blocks_in all.now) (slice_index self.old.component.cuts i))
-            (edges_around self.old.component (slice_index self.old.component.cuts i))) } }
+        ensures { self.new ≡ record self.old {
+          lists = slice_set self.old.lists i
+              (first_arrangement (block_with self.old.component)
+              (block_order (blocks_in all.now) (slice_index self.old.component.cuts i))
+              (edges_around self.old.component (slice_index self.old.component.cuts i)));
+        } }
     {
         let v = self.frame.cuts()[i];
         first_at(&self.frame, all, v, &mut self.orders[i], &mut self.lists[i]);

@@ -20,6 +20,7 @@
 //   Searching, BlockTables, FrameFacts   tables by number, and what a component that is kept tells
 //   Orderings       lists of edges from outside; Ranks: the ranks of blocks
 //   CutTables, Renewing      the tables of a cut vertex, and that they are those of the present blocks
+//   Reasons         why a list is not an arrangement, in the numbers of the graph
 //   CutLists, WholeLists     tables and lists of all cut vertices; the lists of the component
 //
 // The lemmas on the list (module of proofs/ in front):
@@ -44,9 +45,9 @@ mod listing;
 mod members;
 mod numbering;
 mod ordering;
+mod regrouping;
 mod tables;
 mod walking;
-mod whole_move;
 mod wholes;
 
 pub use component::Frame;
@@ -55,6 +56,6 @@ pub use faults::RegroupFault;
 pub use list_laws::one_list;
 pub use listing::list_after;
 pub use members::Member;
+pub use regrouping::regroup;
 pub use walking::next_whole;
-pub use whole_move::WholeMove;
 pub use wholes::whole;

@@ -10,5 +10,5 @@ tables_of-requires c = cut-among c.args.frame.now.cuts c.cuts-v-items.result.now
 pub loop-v-preserved : goal.loop-v-preserved
 loop-v-preserved c =
     tables-more c.args.frame.now c.loop-v.orders.items c.push.new.self.items c.loop-v.v-index c.in_ok-tables_of.field-0 c.loop-v.invariant.0 c.loop-v.invariant.1
-        (subst (λ (l : List ℕ). KeepsTables c.args.frame.now (slice_index_or l c.loop-v.v-index 0) c.in_ok-tables_of.field-0) c.cuts-v-items.ensures.value (c.in_ok-tables_of.ensures {u = tt}))
-        (c.in_ok-push.ensures {u = tt}).items
+    (subst (λ (l : List ℕ). KeepsTables c.args.frame.now (slice_index_or l c.loop-v.v-index 0) c.in_ok-tables_of.field-0) c.cuts-v-items.ensures.value (c.in_ok-tables_of.ensures {u = tt}))
+    (c.in_ok-push.ensures {u = tt}).items

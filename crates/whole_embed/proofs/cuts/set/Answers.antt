@@ -30,7 +30,7 @@ invariant_of-cuts c =
     ∙ (sym (ap (λ (v : ℕ). length (edges_around c.args.cuts.now.component v)) at)
     ∙ sym (ap (λ (s : CutState). length (edges_around s.component (slice_index s.component.cuts c.place-i.result))) c.cuts.view_is))) in
     subst (KeepsCuts c.cuts.inside.frame c.cuts.inside.orders.items) (sym (map-set (λ l. l.items) c.cuts.inside.lists.items c.place-i.result c.copy_to.new.list))
-        (lists-set c.cuts.inside.frame c.cuts.inside.orders.items (map (λ l. l.items) c.cuts.inside.lists.items) c.place-i.result c.copy_to.new.list.items c.cuts.invariant less long)
+    (lists-set c.cuts.inside.frame c.cuts.inside.orders.items (map (λ l. l.items) c.cuts.inside.lists.items) c.place-i.result c.copy_to.new.list.items c.cuts.invariant less long)
 
 pub returns : goal.returns
 returns c =

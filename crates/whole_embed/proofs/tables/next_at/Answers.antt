@@ -35,7 +35,7 @@ returns-clause-next c t i at =
     let after : IsAt (arrangements_at block order (edges_around k c.args.v)) (i + 1) c.next.new.list =
     subst (λ (es : List ℕ). IsAt (arrangements_at block order es) (i + 1) c.next.new.list) c.renew.ensures.tables.edges (c.next.ensures.next t block order c.renew.ensures.renewed i before) in
     subst (IsAt (arrangements_at block order (edges_around k c.args.v)) (i + 1))
-        (sym (written-back c.args.list.now.len c.args.list.now.items c.next.new.list (omega (arith, c.next.auto.list, ap length c.deref_mut.ensures.value, c.args.list.now.ok.0)))) after
+    (sym (written-back c.args.list.now.len c.args.list.now.items c.next.new.list (omega (arith, c.next.auto.list, ap length c.deref_mut.ensures.value, c.args.list.now.ok.0)))) after
 
 pub returns-clause-last : goal.returns-clause-last
 returns-clause-last c f =
@@ -45,7 +45,7 @@ returns-clause-last c f =
     let there : Contains (arrangements_at block order c.renew.new.orders.edges) c.deref_mut.result.now =
     subst (λ (es : List ℕ). Contains (arrangements_at block order es) c.deref_mut.result.now) (sym c.renew.ensures.tables.edges) (subst (Contains (arrangements_at block order (edges_around k c.args.v))) (sym c.deref_mut.ensures.value) c.requires.arranged) in
     subst (IsLast (arrangements_at block order (edges_around k c.args.v))) c.deref_mut.ensures.value
-        (subst (λ (es : List ℕ). IsLast (arrangements_at block order es) c.deref_mut.result.now) c.renew.ensures.tables.edges (c.next.ensures.last f block order c.renew.ensures.renewed there))
+    (subst (λ (es : List ℕ). IsLast (arrangements_at block order es) c.deref_mut.result.now) c.renew.ensures.tables.edges (c.next.ensures.last f block order c.renew.ensures.renewed there))
 
 pub returns-clause-as_before : goal.returns-clause-as_before
 returns-clause-as_before c f =

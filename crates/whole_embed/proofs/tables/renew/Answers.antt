@@ -126,9 +126,9 @@ loop-inner-preserved c =
     let next = follower-is k all a c.requires.planes v mv c.unwrap-i.result c.loop-inner.inner-index c.incident-inner-items.result.now at is c.loop-inner-test.true c.index-all-b.result c.edge-edge.result c.follower_at.result em ey c.follower_at.ensures in
     let n = c.loop-inner.inner-index in
     subst (λ (t : VertexTables). KeepsTables k v t × (length t.followers ≡ length t.edges) × ((j : ℕ) → j < n + 1 → follow_in t (slice_index (edges_around k v) j) ≡ follower (block_with k) (block_order (blocks_in all) v) (slice_index (edges_around k v) j)))
-        (sym c.set_follower.ensures)
-        (renewed-more k all a c.requires.planes v mv c.loop-inner.orders n c.edge-edge.result c.follower_at.result c.loop-inner.invariant.0 c.loop-inner.invariant.1 c.loop-inner.invariant.2
-        (around-within k all a c.requires.planes v mv c.unwrap-i.result c.loop-inner.inner-index c.incident-inner-items.result.now at is c.loop-inner-test.true) (ey ∙ around-at k all a c.requires.planes v mv c.unwrap-i.result c.loop-inner.inner-index c.incident-inner-items.result.now at is c.loop-inner-test.true) next)
+    (sym c.set_follower.ensures)
+    (renewed-more k all a c.requires.planes v mv c.loop-inner.orders n c.edge-edge.result c.follower_at.result c.loop-inner.invariant.0 c.loop-inner.invariant.1 c.loop-inner.invariant.2
+    (around-within k all a c.requires.planes v mv c.unwrap-i.result c.loop-inner.inner-index c.incident-inner-items.result.now at is c.loop-inner-test.true) (ey ∙ around-at k all a c.requires.planes v mv c.unwrap-i.result c.loop-inner.inner-index c.incident-inner-items.result.now at is c.loop-inner-test.true) next)
 
 pub returns-clause-renewed : goal.returns-clause-renewed
 returns-clause-renewed c =

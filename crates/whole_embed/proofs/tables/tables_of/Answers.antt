@@ -75,5 +75,5 @@ returns c =
     ∙ ap (λ (p : GraphPart). place_of p.vertices c.args.v) c.part-part.ensures.value in
     let r : AreRanks (numbers_at k i) c.in_ok-ranks.ranks.items = subst (λ (l : List ℕ). AreRanks l c.in_ok-ranks.ranks.items) (c.deref.ensures.value ∙ c.in_ok-blocks_at.ensures {u = tt}) (c.in_ok-ranks.ensures {u = tt}) in
     IfOk-weaker c.new.result (λ (t : VertexTables). t ≡ record { edges = c.in_ok-edges.edges.items; ranks = c.in_ok-ranks.ranks.items; followers = c.in_ok-edges.edges.items }) (KeepsTables k c.args.v)
-        (λ t e. subst (KeepsTables k c.args.v) (sym e) (tables-kept k c.args.v i c.in_ok-edges.edges.items c.in_ok-ranks.ranks.items c.in_ok-edges.edges.items n at c.part-part.ensures.frame.edge_each is r))
-        c.new.ensures
+    (λ t e. subst (KeepsTables k c.args.v) (sym e) (tables-kept k c.args.v i c.in_ok-edges.edges.items c.in_ok-ranks.ranks.items c.in_ok-edges.edges.items n at c.part-part.ensures.frame.edge_each is r))
+    c.new.ensures

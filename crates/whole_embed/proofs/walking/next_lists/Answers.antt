@@ -20,7 +20,7 @@ returns-then-set_next-clause-next c = λ t.
     let block = blocks_in c.args.all.now in
     let place : ℕ = c.loop-i.i - 1 in
     let w = subst (λ (s : CutState). (list : List ℕ) × (c.set_next.new.self ≡ record { component = s.component; lists = slice_set s.lists place list })
-        × ((j : ℕ) → IsAt (arrangements_at_place s.component block place) j (slice_index_or s.lists place []) → IsAt (arrangements_at_place s.component block place) (j + 1) list)) h.same (c.set_next.ensures.next c.if-set_next.true) in
+    × ((j : ℕ) → IsAt (arrangements_at_place s.component block place) j (slice_index_or s.lists place []) → IsAt (arrangements_at_place s.component block place) (j + 1) list)) h.same (c.set_next.ensures.next c.if-set_next.true) in
     next-made block old c.set_next.new.self place c.first_from.new.cuts.lists c.requires.arranged.one_each (omega (arith, h.within, c.loop-i-test.true)) w (λ j a b. h.last j (omega (arith, a, c.loop-i-test.true)) b) c.first_from.ensures.lists
 
 pub loop-i-preserved : goal.loop-i-preserved

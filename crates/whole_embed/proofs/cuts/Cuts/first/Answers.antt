@@ -37,7 +37,7 @@ loop-i-preserved c =
     let less : c.loop-i.i < length s.lists =
     omega (arith, c.loop-i-test.true, c.count-i-end.ensures, ap (λ (k : Component). length k.cuts) c.loop-i.invariant.0, ap (λ (k : Component). length k.cuts) (c.in_ok-frame.ensures {u = tt}), c.loop-i.invariant.1) in
     subst (λ (z : CutState). (z.component ≡ component_of c.args.graph.now c.args.blocks.now c.args.c) × (length z.lists ≡ length z.component.cuts) × AreFirstTo z.component block z.lists (c.loop-i.i + 1)) (sym c.set_first.ensures)
-        (c.loop-i.invariant.0, length-set s.lists c.loop-i.i l ∙ c.loop-i.invariant.1, first-more s.component block s.lists c.loop-i.i c.loop-i.invariant.2 less)
+    (c.loop-i.invariant.0, length-set s.lists c.loop-i.i l ∙ c.loop-i.invariant.1, first-more s.component block s.lists c.loop-i.i c.loop-i.invariant.2 less)
 
 pub invariant_of-cuts : goal.invariant_of-cuts
 invariant_of-cuts c =

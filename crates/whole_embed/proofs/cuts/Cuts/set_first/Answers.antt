@@ -19,7 +19,7 @@ first_at-requires-clause-tables c =
     let none : VertexTables = record { edges = []; ranks = []; followers = [] } in
     let read = c.index_mut.ensures.value ∙ get_or_default c.self.inside.orders.items c.args.i c.index_mut.result.now none (omega (arith, less, c.self.invariant.tables_each)) in
     subst (λ (l : List ℕ). KeepsTables c.self.inside.frame (slice_index_or l c.args.i 0) c.index_mut.result.now) (sym c.cuts.ensures.value)
-        (subst (KeepsTables c.self.inside.frame (slice_index c.self.inside.frame.cuts c.args.i)) (sym read) (c.self.invariant.tables c.args.i less))
+    (subst (KeepsTables c.self.inside.frame (slice_index c.self.inside.frame.cuts c.args.i)) (sym read) (c.self.invariant.tables c.args.i less))
 
 pub first_at-requires-clause-long : goal.first_at-requires-clause-long
 first_at-requires-clause-long c =
@@ -40,7 +40,7 @@ invariant_of-self c =
     ∙ (sym (ap length (get_or-map (λ l. l.items) c.self.inside.lists.items c.args.i c.index_mut-2.result.now [] (omega (arith, less, c.self.invariant.lists_each, length-map c.self.inside.lists.items (λ l. l.items)))))
     ∙ c.self.invariant.long c.args.i less)) in
     subst (KeepsCuts c.self.inside.frame (slice_set c.self.inside.orders.items c.args.i c.first_at.new.orders)) (sym (map-set (λ l. l.items) c.self.inside.lists.items c.args.i c.first_at.new.list))
-        (keeps-set c.self.inside.frame c.self.inside.orders.items (map (λ l. l.items) c.self.inside.lists.items) c.args.i c.first_at.new.orders c.first_at.new.list.items c.self.invariant less kept long)
+    (keeps-set c.self.inside.frame c.self.inside.orders.items (map (λ l. l.items) c.self.inside.lists.items) c.args.i c.first_at.new.orders c.first_at.new.list.items c.self.invariant less kept long)
 
 pub returns : goal.returns
 returns c =
