@@ -1,12 +1,12 @@
 -- One block more at its first member, and one block advanced.
-use Rattle.std.proofs.Common.{◌≡◌, ◌≢◌, ℕ, ◌+◌, ◌<◌, ◌≤◌, inl, inr, List, length, slice_index, slice_index_or, slice_set, refl, sym, ap, ◌∙◌, subst, arith}
+use Rattle.std.proofs.Common.{◌≡◌, ◌≢◌, ℕ, ◌+◌, ◌<◌, ◌≤◌, inl, inr, List, length, slice_index, slice_index_or, slice_set, refl, sym, ◌∙◌, subst, arith}
 use Rattle.std.proofs.lemmas.Bool.{cases_eq}
 use Rattle.std.proofs.lemmas.List.{length-set, get_or-set_same, get_or-set_other, get_or_default}
 use Rattle.multigraph.specs.Part.{Rises}
 use Rattle.multigraph.proofs.Places.{rises-once}
 use Rattle.embed_enum.specs.Walk.{IsNextOf}
 use Rattle.whole_embed.specs.declared.members.Member.{Member}
-use Rattle.whole_embed.specs.Cuts.{member_at, no_part}
+use Rattle.whole_embed.specs.Cuts.{member_at}
 use Rattle.whole_embed.specs.Advanced.{IsFirstOf, IsLed, IsLastMember, AreFirstBetween, AreAdvanced}
 
 -- the list with another member at place b

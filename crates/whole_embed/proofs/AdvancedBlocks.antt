@@ -1,20 +1,19 @@
 -- The blocks of a component after one of them advanced.
-use Rattle.std.proofs.Common.{◌≡◌, ℕ, ◌<◌, ◌≤◌, ◌⊎◌, inl, inr, true, false, List, length, slice_index, Option, Some, None, refl, sym, ap, ◌∙◌, subst, arith}
+use Rattle.std.proofs.Common.{◌≡◌, ℕ, ◌<◌, inl, inr, true, false, List, length, slice_index, Option, Some, None, refl, sym, ap, ◌∙◌, subst, arith}
 use Rattle.std.proofs.lemmas.Bool.{cases_Bool, cases_order, both_ways}
 use Rattle.permutations.specs.Members.{is_member, place_of}
 use Rattle.permutations.proofs.Arrangements.{member-at}
 use Rattle.permutations.proofs.Places.{place-below, place-holds}
-use Rattle.multigraph.specs.Graph.{Multigraph}
 use Rattle.multigraph.specs.Part.{GraphPart, Rises}
 use Rattle.multigraph.proofs.Places.{rises-once}
 use Rattle.faces.specs.Euler.{IsPlaneSystem}
-use Rattle.skel_embed.specs.Block.{BlockState, IsBlockState}
+use Rattle.skel_embed.specs.Block.{BlockState}
 use Rattle.embed_enum.specs.Walk.{KeepsRest, IsNextOf}
 use Rattle.embed_enum.proofs.Walks.{rest-itself}
 use Rattle.whole_embed.specs.declared.members.Member.{Member}
-use Rattle.whole_embed.specs.Component.{Component, BlockInPlane}
+use Rattle.whole_embed.specs.Component.{Component}
 use Rattle.whole_embed.specs.Cuts.{member_at, blocks_in, in_plane, HavePlanes}
-use Rattle.whole_embed.specs.Advanced.{IsFirstOf, IsLed, IsLastMember, AreAdvanced}
+use Rattle.whole_embed.specs.Advanced.{IsFirstOf, IsLed, AreAdvanced}
 use Rattle.whole_embed.specs.Walk.{KeepsBlocks}
 use Rattle.whole_embed.proofs.Moved.{IsMovedBlock, AreMoved, unmoved}
 use Rattle.whole_embed.proofs.LedBlocks.{IsNextBlock, IsFirstBlock, IsLastBlock, FitsPart, led-next, led-first, last-block}

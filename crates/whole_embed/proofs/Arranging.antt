@@ -1,7 +1,7 @@
 -- The arrangements at a vertex of a component: what the blocks around it have to do with them.
-use Rattle.std.proofs.Common.{◌≡◌, ◌≢◌, ℕ, ◌<◌, ◌≤◌, inl, inr, Bool, true, false, ◌&&◌, ◌==◌, nat_lt, List, [], ◌∷◌, length, map, filter, get_or, slice_index, slice_index_or, refl, sym, ap, ◌∙◌, subst, arith, Contains, eq-eqb, eqb-true}
+use Rattle.std.proofs.Common.{◌≡◌, ℕ, ◌<◌, ◌≤◌, inl, inr, true, false, ◌&&◌, ◌==◌, nat_lt, List, [], ◌∷◌, length, filter, get_or, slice_index, slice_index_or, refl, sym, ap, ◌∙◌, subst, arith, Contains, eq-eqb, eqb-true}
 use Rattle.std.specs.List.Sorted.{IsPermutation}
-use Rattle.std.proofs.lemmas.Bool.{cases_Bool, cases_eq, both_ways, and_parts, and_from, cond-true, cond-false, false_from_ne_true}
+use Rattle.std.proofs.lemmas.Bool.{cases_Bool, cases_eq, both_ways, and_parts, and_from, cond-true, cond-false}
 use Rattle.std.proofs.lemmas.List.{get_or_default}
 use Rattle.permutations.specs.Members.{is_member, is_distinct, place_of}
 use Rattle.permutations.specs.Cyclic.{first_or, from_least, FollowsAround}
@@ -9,11 +9,10 @@ use Rattle.permutations.proofs.Relation.{same-tests}
 use Rattle.permutations.proofs.Members.{member-head, member-tail}
 use Rattle.permutations.proofs.Filter.{filter-all, filter-ext}
 use Rattle.permutations.proofs.CyclicOrder as cyclic
-use Rattle.permutations.proofs.NormalForm.{from_least-same}
-use Rattle.permutations.proofs.Arrangements.{permutation-member, permutation-distinct, permutation-from_members, contains-from_member, member-from_contains, member-at}
+use Rattle.permutations.proofs.Arrangements.{permutation-member, permutation-distinct, permutation-from_members, contains-from_member, member-from_contains}
 use Rattle.permutations.proofs.Places.{place-below, place-holds}
 use Rattle.multigraph.specs.Graph.{Multigraph, edge_count, is_end, IsGraph, IsWithinLimits}
-use Rattle.multigraph.specs.Part.{GraphPart, Rises, IsNumbered, IsPart, IsEndOf}
+use Rattle.multigraph.specs.Part.{Rises, IsPart, IsEndOf}
 use Rattle.rotations.specs.Rotation.{IsRotationSystem}
 use Rattle.graph_theory.specs.Block.{SameBlock}
 use Rattle.choice_lists.specs.Order.{IsRising}
@@ -26,10 +25,10 @@ use Rattle.arrangements.specs.Arranged.{of_block, keeps, cross, AreOrders, IsArr
 use Rattle.arrangements.specs.Refused.{Alternate}
 use Rattle.arrangements.proofs.Lists.{same-equal}
 use Rattle.arrangements.proofs.Laws.{cross_is_alternate, arrangements_are_listed}
-use Rattle.whole_embed.specs.Component.{Component, BlockInPlane, component_vertices, component_edges, component_blocks, component_cuts, block_of, component_of, AreInPlane}
-use Rattle.whole_embed.specs.Around.{outer_at, edges_around, block_with, block_order, arrangements_around}
+use Rattle.whole_embed.specs.Component.{Component, BlockInPlane, component_vertices, component_edges, component_of, AreInPlane}
+use Rattle.whole_embed.specs.Around.{edges_around, block_with, block_order, arrangements_around}
 use Rattle.whole_embed.specs.Whole.{AreArranged, first_order, order_around}
-use Rattle.whole_embed.proofs.Components.{vertex-in, edge-in, edge-component, block-in, in-block, block-edge, block_of-has, block_of-is, block_of-in, block_with-is, edges-same, cut-in, in-cut}
+use Rattle.whole_embed.proofs.Components.{vertex-in, edge-in, edge-component, block-in, block-edge, block_of-has, block_of-is, block_of-in, block_with-is, edges-same, cut-in, in-cut}
 use Rattle.whole_embed.proofs.ComponentBlocks.{numbered, subgraph}
 use Rattle.whole_embed.proofs.Outer.{at-member, member-edges_at, edges_at-rise, rises-distinct, first-least, round-member, member-round, round-distinct, round-least, round-written}
 

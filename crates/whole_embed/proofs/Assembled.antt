@@ -1,5 +1,5 @@
 -- What is used of a component and its blocks.
-use Rattle.std.proofs.Common.{◌≡◌, ℕ, ◌<◌, true, false, List, length, slice_index}
+use Rattle.std.proofs.Common.{◌≡◌, ℕ, ◌<◌, true, false, slice_index}
 use Rattle.permutations.specs.Members.{is_member}
 use Rattle.multigraph.specs.Graph.{edge_count}
 use Rattle.multigraph.specs.Part.{IsNumbered, Rises}

@@ -1,9 +1,9 @@
 -- The laws on the rotation system of a component, of any component in the plane; and what is used of one elsewhere.
-use Rattle.std.proofs.Common.{◌≡◌, ℕ, ◌<◌, true, List, [], length, slice_index, slice_index_or, sym, ap, subst}
+use Rattle.std.proofs.Common.{◌≡◌, ℕ, ◌<◌, true, List, [], length, slice_index, slice_index_or, sym, subst}
 use Rattle.permutations.specs.Members.{is_member}
 use Rattle.faces.specs.Euler.{IsPlaneSystem}
 use Rattle.skel_embed.specs.Taken.{IsGiven}
-use Rattle.whole_embed.specs.Component.{Component, BlockInPlane, AreInPlane, component_of, IsComponentInPlane}
+use Rattle.whole_embed.specs.Component.{Component, BlockInPlane, component_of, IsComponentInPlane}
 use Rattle.whole_embed.specs.Around.{outer_at}
 use Rattle.whole_embed.specs.Whole.{AreArranged, whole_lists, whole_system, block_part, IsWholeMember}
 use Rattle.whole_embed.specs.Laws.{ComponentIsPart, WholeIsPlane, WholeIsGiven, WholeHasParts, WholeHasArrangements}

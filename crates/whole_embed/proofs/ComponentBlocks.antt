@@ -1,24 +1,21 @@
 -- The blocks of a component, as a graph of its own, are those of the graph.
-use Rattle.std.proofs.Common.{◌≡◌, ℕ, ◌<◌, ◌↔◌, inl, inr, true, List, [], length, map, get_or, slice_index, refl, sym, ap, ◌∙◌, subst, arith, Contains}
+use Rattle.std.proofs.Common.{◌≡◌, ℕ, ◌<◌, ◌↔◌, true, List, [], length, map, get_or, slice_index, sym, ap, ◌∙◌, subst, arith, Contains}
 use Rattle.std.proofs.lemmas.List.{get_or-map, length-map, ext_get_or}
-use Rattle.std.proofs.lemmas.List.Elements.{Contains-get_or}
 use Rattle.permutations.specs.Members.{is_member, place_of}
 use Rattle.permutations.proofs.Mapped.{map-member, member-map}
 use Rattle.permutations.proofs.Arrangements.{contains-from_member, member-from_contains, member-at}
 use Rattle.permutations.proofs.Places.{place-below, place-holds}
 use Rattle.multigraph.specs.Graph.{Multigraph, edge_count, ends_of, is_end, IsGraph, IsWithinLimits}
-use Rattle.multigraph.specs.Part.{GraphPart, Rises, IsNumbered, IsPart, IsPartOn, IsEndOf, AreEnds, AreInnerEnds}
+use Rattle.multigraph.specs.Part.{GraphPart, Rises, IsNumbered, IsPart, IsPartOn, IsEndOf}
 use Rattle.multigraph.proofs.OtherEnd.{end-in}
 use Rattle.multigraph.proofs.Places.{rises-once}
 use Rattle.graph_theory.specs.Block.{SameBlock}
 use Rattle.blocks.specs.Blocks.{BlockStructure, block_at, AreBlocks, IsBlockStructure}
 use Rattle.faces.specs.Subgraph.{IsSubgraph}
-use Rattle.block_planes.proofs.OnParts.{part-subgraph}
-use Rattle.blocks.proofs.BlockParts.{block-edges_in}
-use Rattle.whole_embed.specs.Component.{Component, part_made, component_vertices, component_edges, component_blocks, block_of, component_of}
+use Rattle.whole_embed.specs.Component.{Component, part_made, component_vertices, component_edges, block_of, component_of}
 use Rattle.whole_embed.proofs.SubgraphBlocks.{end-inner, end-outer, inner-same, outer-same}
 use Rattle.whole_embed.proofs.Outer.{place-rising, rises-map, places-rise}
-use Rattle.whole_embed.proofs.Components.{vertices-rise, vertex-in, in-vertex, edges-rise, edge-in, in-edge, edge-within, vertex-within, blocks-rise, block-in, in-block, end-component, block-edge, block_of-has, block_of-in, edges-same, component-part}
+use Rattle.whole_embed.proofs.Components.{vertices-rise, edges-rise, edge-in, edge-within, vertex-within, blocks-rise, block-in, end-component, block-edge, block_of-has, block_of-in, component-part}
 
 -- a part on some vertices is a subgraph
 pub part_on-subgraph : (g : Multigraph) (vertices edges : List ℕ) (part : GraphPart) → IsPartOn g vertices edges part

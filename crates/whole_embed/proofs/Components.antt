@@ -1,9 +1,9 @@
 -- The vertices, the edges, the blocks and the cut vertices of a component; that it is a part of the graph.
-use Rattle.std.proofs.Common.{◌≡◌, ℕ, ◌<◌, inl, inr, Bool, true, ◌==◌, List, [], ◌∷◌, length, map, filter, get_or, slice_index, refl, sym, ap, ◌∙◌, subst, arith, Contains, eq-eqb, eqb-true}
+use Rattle.std.proofs.Common.{◌≡◌, ℕ, ◌<◌, inl, inr, Bool, true, ◌==◌, List, [], ◌∷◌, length, filter, get_or, slice_index, refl, sym, ap, ◌∙◌, subst, arith, eq-eqb, eqb-true}
 use Rattle.std.proofs.lemmas.Bool.{both_ways}
 use Rattle.std.proofs.lemmas.List.{get_or-map, length-map, get_or_default}
 use Rattle.std.proofs.lemmas.List.Kept.{AllPairs-filter}
-use Rattle.permutations.specs.Count.{some, least}
+use Rattle.permutations.specs.Count.{some}
 use Rattle.permutations.specs.Relation.{connected}
 use Rattle.permutations.specs.Members.{is_member, place_of}
 use Rattle.permutations.proofs.Search.{some-from, least-below, least-passes}
@@ -13,17 +13,16 @@ use Rattle.permutations.proofs.Filter.{member-filter_parts, filter-member}
 use Rattle.permutations.proofs.Arrangements.{contains-from_member, member-from_contains, member-at}
 use Rattle.permutations.proofs.Places.{place-below, place-holds}
 use Rattle.multigraph.specs.Graph.{Multigraph, edge_count, ends_of, is_end, other_end, IsGraph, IsWithinLimits}
-use Rattle.multigraph.specs.Part.{GraphPart, Rises, IsNumbered, HoldEnds, AreInnerEnds, IsPartOn, IsEndOf}
+use Rattle.multigraph.specs.Part.{Rises, HoldEnds, AreInnerEnds, IsPartOn}
 use Rattle.multigraph.proofs.Below.{filter_below-has, filter_below-only, filter_below-rises}
 use Rattle.multigraph.proofs.OtherEnd.{is_end-cases, end-in}
 use Rattle.multigraph.proofs.Places.{rises-short}
 use Rattle.multigraph.proofs.Ends.{ends-first, ends-second, inner-graph, inner-limits-by}
-use Rattle.graph_theory.specs.Path.{walk_end, IsWalk}
-use Rattle.graph_theory.specs.Block.{CommonCycle, SameBlock}
+use Rattle.graph_theory.specs.Path.{IsWalk}
+use Rattle.graph_theory.specs.Block.{SameBlock}
 use Rattle.graph_theory.proofs.Connection.{ends-connected, other-connected}
-use Rattle.graph_theory.proofs.Walks.{walk-edge}
 use Rattle.blocks.specs.Blocks.{BlockStructure, block_at, IsBlockStructure}
-use Rattle.whole_embed.specs.Component.{Component, part_made, component_vertices, has_edge, component_edges, component_blocks, component_cuts, block_of, component_of}
+use Rattle.whole_embed.specs.Component.{part_made, component_vertices, has_edge, component_edges, component_blocks, component_cuts, block_of, component_of}
 use Rattle.whole_embed.specs.Around.{block_with}
 
 -- an edge of a walk is connected with the vertex from which the walk goes

@@ -1,17 +1,17 @@
 -- The tables of a cut vertex: that they are those of its blocks, and what a change of what follows an edge leaves.
-use Rattle.std.proofs.Common.{◌≡◌, ◌≢◌, ℕ, ◌+◌, ◌<◌, ◌^◌, inl, inr, Bool, true, nat_lt, List, [], ◌∷◌, ◌++◌, length, map, get_or, set, slice_index, slice_set, refl, sym, ap, ◌∙◌, subst, arith}
+use Rattle.std.proofs.Common.{◌≡◌, ◌≢◌, ℕ, ◌+◌, ◌<◌, ◌^◌, inl, inr, true, nat_lt, List, [], ◌∷◌, ◌++◌, length, map, slice_index, slice_set, sym, ap, ◌∙◌, subst, arith}
 use Rattle.std.proofs.lemmas.Bool.{cases_lt}
 use Rattle.std.proofs.lemmas.List.{get_or-map, length-map, get_or-set_same, get_or-set_other, length_push, get_or_append_left, get_or_push}
 use Rattle.permutations.specs.Members.{is_member, place_of}
 use Rattle.permutations.proofs.Places.{place-below, place-holds, place-of}
-use Rattle.multigraph.specs.Graph.{edge_count, incident_edges}
+use Rattle.multigraph.specs.Graph.{incident_edges}
 use Rattle.multigraph.specs.Part.{IsNumbered}
 use Rattle.multigraph.proofs.Incident.{incident_at-edge, incident-rises, length-incident}
 use Rattle.rotations.proofs.Membership.{member-edge}
 use Rattle.choice_lists.specs.Order.{IsRising}
 use Rattle.arrangements.specs.Arranged.{AreOrders}
 use Rattle.arrangements.specs.Options.{follower}
-use Rattle.arrangements.specs.Tables.{VertexTables, rank_in, follow_in, AreTablesOf}
+use Rattle.arrangements.specs.Tables.{VertexTables, follow_in, AreTablesOf}
 use Rattle.whole_embed.specs.Component.{Component, BlockInPlane}
 use Rattle.whole_embed.specs.Around.{edges_around, block_with, block_order}
 use Rattle.whole_embed.specs.Keeping.{KeepsTables, AreRanks, numbers_at, tables_at}

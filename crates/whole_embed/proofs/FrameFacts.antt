@@ -1,14 +1,13 @@
 -- What the code reads of a component and of the blocks in the plane.
-use Rattle.std.proofs.Common.{◌≡◌, ℕ, ◌<◌, Bool, true, None, Some, Option, List, [], ◌∷◌, ◌++◌, length, map, drop, take, get_or, slice_index, slice_index_or, refl, sym, ap, ◌∙◌, subst, arith, Contains}
+use Rattle.std.proofs.Common.{◌≡◌, ℕ, ◌<◌, true, None, Some, Option, List, [], ◌∷◌, ◌++◌, length, map, drop, take, get_or, slice_index, refl, sym, ap, ◌∙◌, subst, arith}
 use Rattle.std.specs.List.{slice_get}
 use Rattle.std.specs.Option.{IsSome}
-use Rattle.std.proofs.lemmas.List.{get_or-map, length-map, get_or_default}
+use Rattle.std.proofs.lemmas.List.{length-map, get_or_default}
 use Rattle.permutations.specs.Members.{is_member, place_of}
-use Rattle.permutations.specs.Cyclic.{successor}
 use Rattle.permutations.proofs.Members.{member-head}
 use Rattle.permutations.proofs.Arrangements.{member-at, permutation-member}
 use Rattle.permutations.proofs.Places.{place-below, place-holds}
-use Rattle.multigraph.specs.Graph.{Multigraph, edge_count, incident_edges, IsGraph, IsWithinLimits}
+use Rattle.multigraph.specs.Graph.{Multigraph, edge_count, incident_edges}
 use Rattle.multigraph.specs.Part.{GraphPart, Rises, IsNumbered, IsPlace, IsPartOn}
 use Rattle.multigraph.proofs.Places.{rises-once}
 use Rattle.rotations.specs.Rotation.{order_at, IsRotationSystem}
@@ -17,12 +16,12 @@ use Rattle.blocks.specs.Blocks.{BlockStructure, IsBlockStructure}
 use Rattle.skel_embed.specs.Block.{BlockState}
 use Rattle.skel_embed.proofs.KeptLists.{take-front}
 use Rattle.whole_embed.specs.declared.members.Member.{Member}
-use Rattle.whole_embed.specs.Component.{Component, BlockInPlane, component_vertices, component_edges, component_blocks, component_cuts, block_of, component_of, IsComponentInPlane}
+use Rattle.whole_embed.specs.Component.{Component, BlockInPlane, component_vertices, component_edges, component_blocks, component_cuts, block_of, component_of}
 use Rattle.whole_embed.specs.Around.{outer_at, edges_around, block_with, block_order}
 use Rattle.whole_embed.specs.Cuts.{no_part, in_plane, member_at, blocks_in, HavePlanes}
 use Rattle.whole_embed.specs.Whole.{first_order}
 use Rattle.whole_embed.specs.Frames.{IsFrame}
-use Rattle.whole_embed.specs.Keeping.{HasVertex, HasAround}
+use Rattle.whole_embed.specs.Keeping.{HasVertex}
 use Rattle.whole_embed.proofs.Outer.{place-rising}
 use Rattle.whole_embed.proofs.Components.{vertices-rise, cuts-rise, cut-in}
 use Rattle.whole_embed.proofs.ComponentBlocks.{part_on-is}

@@ -1,19 +1,18 @@
 -- Blocks led along their lists, as blocks in the plane.
-use Rattle.std.proofs.Common.{◌≡◌, ℕ, ◌+◌, ◌⊎◌, inl, inr, Bool, List, length, Option, Some, refl, sym, ap, ◌∙◌, subst}
+use Rattle.std.proofs.Common.{◌≡◌, ℕ, ◌+◌, ◌⊎◌, List, Option, Some, refl, sym, ◌∙◌, subst}
 use Rattle.multigraph.specs.Graph.{Multigraph}
 use Rattle.multigraph.specs.Part.{GraphPart}
-use Rattle.pair_split.specs.Tutte.{Node}
 use Rattle.faces.specs.Euler.{IsPlaneSystem}
 use Rattle.skeletons.specs.Choices.{Precedes}
-use Rattle.skeletons.specs.Lists.{IsKept, IsRank}
+use Rattle.skeletons.specs.Lists.{IsKept}
 use Rattle.skel_embed.specs.Block.{BlockState, lock_at, IsBlockState}
-use Rattle.embed_enum.specs.Walk.{KeepsRest, IsMemberList, IsNextOf}
+use Rattle.embed_enum.specs.Walk.{KeepsRest, IsNextOf}
 use Rattle.whole_embed.specs.declared.members.Member.{Member}
 use Rattle.whole_embed.specs.Component.{BlockInPlane}
 use Rattle.whole_embed.specs.Cuts.{in_plane}
 use Rattle.whole_embed.specs.Advanced.{IsFirstOf, IsLastState, IsLed, IsLastMember}
 use Rattle.whole_embed.proofs.Moved.{IsMovedBlock}
-use Rattle.whole_embed.proofs.BlockSteps.{Kept, state-list, rank-kept, place-follows, place-first, place-last, present-place}
+use Rattle.whole_embed.proofs.BlockSteps.{state-list, rank-kept, place-follows, place-first, place-last, present-place}
 
 -- in the list of the block
 abbrev pub IsKeptBlock : BlockInPlane → List (List ℕ) → Type 0

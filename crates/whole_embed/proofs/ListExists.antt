@@ -1,18 +1,16 @@
 -- The list of a component: for each vector of members of the blocks' lists, in lexicographic order, each vector of arrangements at
 -- the cut vertices, in lexicographic order.
-use Rattle.std.proofs.Common.{◌≡◌, ℕ, ◌<◌, ◌↔◌, inl, inr, true, List, [], length, map, slice_index, slice_index_or, AllPairs, Contains, refl, sym, ap, ◌∙◌, subst}
+use Rattle.std.proofs.Common.{◌≡◌, ℕ, ◌<◌, inl, inr, true, List, [], length, map, slice_index, slice_index_or, Contains, refl, sym, ap, ◌∙◌, subst}
 use Rattle.std.proofs.lemmas.Bool.{cases_Bool, both_ways}
 use Rattle.std.proofs.lemmas.List.{get_or-map, length-map}
 use Rattle.permutations.specs.Members.{is_member, place_of}
 use Rattle.permutations.proofs.Arrangements.{member-at}
 use Rattle.permutations.proofs.Places.{place-below, place-holds}
-use Rattle.faces.specs.Euler.{IsPlaneSystem}
 use Rattle.choice_lists.specs.Order.{Lists, is_before}
 use Rattle.choice_lists.proofs.Places.{At, Has, at-map, at-map_back, has-from, contains-from}
 use Rattle.arrangements.specs.Arranged.{IsArrangement}
-use Rattle.skeletons.specs.Items.{IsBlockTree}
 use Rattle.skeletons.specs.Choices.{Precedes}
-use Rattle.skeletons.specs.Lists.{IsKept, IsKeptList, IsRank}
+use Rattle.skeletons.specs.Lists.{IsKeptList}
 use Rattle.skeletons.proofs.Before.{rising-told}
 use Rattle.skeleton_choices.proofs.Listed.{list-exists}
 use Rattle.skel_embed.specs.Block.{lock_at}
@@ -21,13 +19,12 @@ use Rattle.whole_embed.specs.Component.{Component, BlockInPlane, IsComponentInPl
 use Rattle.whole_embed.specs.Around.{outer_at, edges_around, block_with, block_order, arrangements_around}
 use Rattle.whole_embed.specs.Whole.{AreArranged, whole_system, block_part, IsWholeMember, WholePrecedes, IsWholeList}
 use Rattle.whole_embed.specs.Listed.{WholeListExists, WholeListIsUnique, WholeHasRank}
-use Rattle.whole_embed.proofs.Assembled.{IsAssembled}
 use Rattle.whole_embed.proofs.Assembly.{assembled, present}
 use Rattle.whole_embed.proofs.Outer.{place-rising}
 use Rattle.whole_embed.proofs.Odometer.{precedes-apart}
 use Rattle.whole_embed.proofs.Moved.{AreMoved, member-back}
 use Rattle.whole_embed.proofs.OfParts as parts
-use Rattle.whole_embed.proofs.Steps.{IsPresent, place-less}
+use Rattle.whole_embed.proofs.Steps.{place-less}
 use Rattle.whole_embed.proofs.Vectors.{RisesBy, pairs-from, pairs-to, rises-map, joined, joined-has, has-joined, joined-rises, vectors, IsVector, has-vector, vector-has, IsLess, vectors-rise}
 
 module _ (k : Component) (block : ℕ → BlockInPlane) (is : IsComponentInPlane k block) where

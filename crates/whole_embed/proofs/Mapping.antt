@@ -1,13 +1,13 @@
 -- Lists of numbers under other numbers.
-use Rattle.std.proofs.Common.{◌≡◌, ℕ, suc, ◌<◌, ◌≤◌, inl, inr, Bool, true, false, List, [], ◌∷◌, length, map, filter, IsPermutation, refl, sym, ap, ap₂, ◌∙◌, subst, arith}
-use Rattle.std.proofs.lemmas.Bool.{cases_Bool, both_ways, true≢false}
+use Rattle.std.proofs.Common.{◌≡◌, ℕ, suc, inl, inr, Bool, true, false, List, [], ◌∷◌, length, map, filter, IsPermutation, refl, sym, ap, ap₂, ◌∙◌, subst, arith}
+use Rattle.std.proofs.lemmas.Bool.{cases_Bool, both_ways}
 use Rattle.permutations.specs.Members.{is_member, is_distinct}
 use Rattle.permutations.specs.Cyclic.{first_or, IsTurn, FollowsAround}
-use Rattle.permutations.proofs.Members.{member-head, member-tail, member-cases}
+use Rattle.permutations.proofs.Members.{member-head, member-tail}
 use Rattle.permutations.proofs.Mapped.{member-map, map-member, distinct-map}
 use Rattle.permutations.proofs.Arrangements.{permutation-member, permutation-distinct, permutation-from_members}
 use Rattle.permutations.proofs.Turned.{IsTurn-map}
-use Rattle.permutations.proofs.Filter.{filter-yes, filter-no, filter-ext, filter-member, member-filter_parts}
+use Rattle.permutations.proofs.Filter.{filter-yes, filter-no, filter-ext}
 use Rattle.permutations.proofs.CyclicOrder.{around-member}
 
 abbrev head-of : List ℕ → ℕ

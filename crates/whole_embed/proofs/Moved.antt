@@ -1,5 +1,5 @@
 -- Blocks that moved in their lists: the component is one in the plane as before, and its list is the same.
-use Rattle.std.proofs.Common.{◌≡◌, ℕ, ◌<◌, ◌⊎◌, ◌↔◌, inl, inr, Bool, true, List, length, AllPairs, Contains, refl, sym, ap, ◌∙◌, subst}
+use Rattle.std.proofs.Common.{◌≡◌, ℕ, inl, inr, Bool, true, List, length, refl, sym, ap, ◌∙◌, subst}
 use Rattle.permutations.specs.Members.{is_member}
 use Rattle.multigraph.specs.Part.{GraphPart}
 use Rattle.pair_split.specs.Tutte.{Node}
@@ -10,8 +10,8 @@ use Rattle.skeletons.specs.Lists.{IsKept, KeepsChoices}
 use Rattle.skel_embed.specs.Block.{lock_at}
 use Rattle.multigraph.specs.Part.{IsPart}
 use Rattle.blocks.specs.Blocks.{block_at}
-use Rattle.whole_embed.specs.Component.{Component, BlockInPlane, component_blocks, AreInPlane, IsComponentInPlane}
-use Rattle.whole_embed.specs.Whole.{block_part, IsWholeMember, PrecedesInBlock, PrecedesAtCut, WholePrecedes, IsWholeList}
+use Rattle.whole_embed.specs.Component.{Component, BlockInPlane, component_blocks, IsComponentInPlane}
+use Rattle.whole_embed.specs.Whole.{block_part, IsWholeMember, WholePrecedes, IsWholeList}
 
 -- b is the block a with another rotation system of its list
 pub record IsMovedBlock (a b : BlockInPlane) : Type 0 where

@@ -4,9 +4,7 @@ use Rattle.std.proofs.lemmas.List.{get_or-map, length-map}
 use Rattle.permutations.specs.Members.{is_member, place_of}
 use Rattle.permutations.proofs.Arrangements.{member-at}
 use Rattle.permutations.proofs.Places.{place-below, place-holds}
-use Rattle.multigraph.specs.Part.{GraphPart}
 use Rattle.choice_lists.specs.Order.{Lists, is_before}
-use Rattle.choice_lists.proofs.Places.{has-from, contains-from}
 use Rattle.arrangements.specs.Arranged.{IsArrangement}
 use Rattle.arrangements.proofs.Laws.{arrangements_are_listed}
 use Rattle.whole_embed.specs.Component.{Component, BlockInPlane, IsComponentInPlane}

@@ -1,12 +1,12 @@
 -- Lists that are orderings of increasing numbers, and their cyclic orders from the least number on.
-use Rattle.std.proofs.Common.{◌≡◌, ◌≢◌, ℕ, ◌<◌, ◌≤◌, true, None, Some, List, [], ◌∷◌, length, get_or, refl, sym, ap, ◌∙◌, subst, arith, IsPermutation}
+use Rattle.std.proofs.Common.{◌≡◌, ◌≢◌, ℕ, ◌<◌, ◌≤◌, true, None, Some, List, [], ◌∷◌, get_or, refl, sym, ap, ◌∙◌, subst, arith, IsPermutation}
 use Rattle.std.specs.List.{slice_get}
 use Rattle.std.specs.List.Sorted.{IsSorted}
 use Rattle.std.specs.Ordering.{nat_cmp}
 use Rattle.std.proofs.lemmas.List.Sorted.{IsPermutation-sym, IsPermutation-trans, IsNonDecreasingBy-from_sort, length_permutation}
 use Rattle.permutations.specs.Members.{is_member, is_distinct}
-use Rattle.permutations.specs.Cyclic.{first_or, least_or, from_least, turned}
-use Rattle.permutations.proofs.Members.{member-head, member-tail, member-cases}
+use Rattle.permutations.specs.Cyclic.{from_least, turned}
+use Rattle.permutations.proofs.Members.{member-head, member-tail}
 use Rattle.permutations.proofs.Arrangements.{permutation-member, permutation-distinct}
 use Rattle.permutations.proofs.Places.{places-differ}
 use Rattle.permutations.proofs.NormalForm.{least-same, least-first_member}

@@ -1,5 +1,5 @@
 -- The edges around a vertex of a part, in the numbers of the graph.
-use Rattle.std.proofs.Common.{◌≡◌, ℕ, suc, ◌==◌, eqb-true, ◌<◌, ◌≤◌, true, false, List, [], ◌∷◌, length, map, get_or, slice_index, slice_index_or, refl, sym, ap, ◌∙◌, subst, arith, inl, inr}
+use Rattle.std.proofs.Common.{◌≡◌, ℕ, suc, ◌==◌, eqb-true, ◌<◌, ◌≤◌, true, false, List, [], ◌∷◌, length, map, get_or, slice_index, refl, sym, ap, ◌∙◌, subst, arith, inl, inr}
 use Rattle.std.specs.List.Sorted.{IsPermutation}
 use Rattle.std.proofs.lemmas.Bool.{both_ways, cases_eq, cases_lt, cases_Bool}
 use Rattle.std.proofs.lemmas.List.{get_or-map, length-map, get_or_past}

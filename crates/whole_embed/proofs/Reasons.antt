@@ -1,5 +1,5 @@
 -- Why a list of edges is not an arrangement at a cut vertex, in the numbers of the graph; and that it is one where there is no reason.
-use Rattle.std.proofs.Common.{◌≡◌, ℕ, ◌<◌, true, false, nat_lt, List, length, map, get_or, slice_index, refl, sym, ap, ◌∙◌, subst, arith, inl, inr, Contains, IsPermutation}
+use Rattle.std.proofs.Common.{◌≡◌, ℕ, ◌<◌, true, false, List, length, map, get_or, slice_index, sym, ap, ◌∙◌, subst, arith, inl, inr, Contains, IsPermutation}
 use Rattle.std.proofs.lemmas.Bool.{cases_lt, lt-ltb, ltb-true}
 use Rattle.std.proofs.lemmas.List.{get_or-map, length-map}
 use Rattle.std.proofs.lemmas.List.Sorted.{length_permutation}

@@ -1,10 +1,9 @@
 -- What follows each edge around a cut vertex, set edge by edge.
-use Rattle.std.proofs.Common.{◌≡◌, ◌≢◌, ℕ, ◌+◌, ◌<◌, inl, inr, Bool, true, ◌&&◌, ◌==◌, Some, Option, List, length, map, get_or, slice_index, slice_set, refl, sym, ap, ◌∙◌, subst, arith, eq-eqb}
+use Rattle.std.proofs.Common.{◌≡◌, ℕ, ◌+◌, ◌<◌, inl, inr, true, ◌==◌, Some, List, length, map, get_or, slice_index, refl, sym, ap, ◌∙◌, subst, arith, eq-eqb}
 use Rattle.std.proofs.lemmas.Bool.{and_parts, and_from, cases_lt}
 use Rattle.std.proofs.lemmas.List.{get_or-map, length-map, length-set}
 use Rattle.permutations.specs.Members.{is_member, place_of}
 use Rattle.permutations.specs.Cyclic.{successor}
-use Rattle.permutations.proofs.Mapped.{member-map}
 use Rattle.permutations.proofs.Successor.{successor-member}
 use Rattle.permutations.proofs.Arrangements.{member-at}
 use Rattle.multigraph.specs.Graph.{edge_count, incident_edges}
@@ -19,7 +18,7 @@ use Rattle.whole_embed.specs.declared.members.Member.{Member}
 use Rattle.whole_embed.specs.Component.{Component, BlockInPlane}
 use Rattle.whole_embed.specs.Around.{outer_at, edges_around, block_with, block_order}
 use Rattle.whole_embed.specs.Cuts.{member_at, blocks_in, HavePlanes}
-use Rattle.whole_embed.specs.Keeping.{KeepsTables, HasVertex, HasAround}
+use Rattle.whole_embed.specs.Keeping.{KeepsTables, HasAround}
 use Rattle.whole_embed.proofs.Outer.{place-rising, rises-map}
 use Rattle.whole_embed.proofs.Assembled.{IsAssembled}
 use Rattle.whole_embed.proofs.FrameFacts.{plane-part, plane-order}

@@ -1,11 +1,10 @@
 -- The order of a rotation system of a component around a vertex, in the numbers of the graph.
-use Rattle.std.proofs.Common.{◌≡◌, ℕ, ◌<◌, ◌≤◌, inl, inr, true, false, List, [], ◌∷◌, length, map, filter, slice_index, slice_index_or, IsPermutation, refl, sym, ap, ap₂, ◌∙◌, subst, arith}
-use Rattle.std.proofs.lemmas.Bool.{cases_Bool, cases_order}
-use Rattle.std.proofs.lemmas.List.{get_or-map, ext_get_or, get_or_default}
+use Rattle.std.proofs.Common.{◌≡◌, ℕ, ◌<◌, ◌≤◌, inl, inr, true, List, [], ◌∷◌, map, slice_index, IsPermutation, sym, ap, ◌∙◌, subst, arith}
+use Rattle.std.proofs.lemmas.Bool.{cases_order}
+use Rattle.std.proofs.lemmas.List.{ext_get_or, get_or_default}
 use Rattle.permutations.specs.Members.{is_member, is_distinct, place_of}
 use Rattle.permutations.specs.Cyclic.{first_or, from_least}
-use Rattle.permutations.proofs.Members.{member-head}
-use Rattle.permutations.proofs.Mapped.{map-member, member-map, distinct-map}
+use Rattle.permutations.proofs.Mapped.{map-member, distinct-map}
 use Rattle.permutations.proofs.Places.{place-of, place-below, place-holds, place-at, told-distinct}
 use Rattle.permutations.proofs.Arrangements.{permutation-member, permutation-distinct, member-at}
 use Rattle.permutations.proofs.NormalForm.{written-first}
@@ -15,7 +14,7 @@ use Rattle.multigraph.proofs.Places.{rises-once}
 use Rattle.multigraph.proofs.Incident.{incident-edge, incident-rises}
 use Rattle.rotations.specs.Rotation.{order_at, IsCyclicOrder, IsRotationSystem}
 use Rattle.whole_embed.specs.Around.{outer_at}
-use Rattle.whole_embed.proofs.Mapping.{permuted-map, first-map, map-injective, same-test}
+use Rattle.whole_embed.proofs.Mapping.{permuted-map, first-map, map-injective}
 
 -- an increasing list has no number twice
 pub rises-distinct : (l : List ℕ) → Rises l → is_distinct l ≡ true

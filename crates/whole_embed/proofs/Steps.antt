@@ -1,26 +1,25 @@
 -- A step through the list of a component: a cut vertex advances, or a block; what comes after that is first again.
-use Rattle.std.proofs.Common.{◌≡◌, ℕ, ◌+◌, ◌<◌, ◌⊎◌, inl, inr, true, false, List, [], length, slice_index, slice_index_or, Contains, refl, sym, ap, ◌∙◌, subst, arith}
+use Rattle.std.proofs.Common.{◌≡◌, ℕ, ◌<◌, ◌⊎◌, inl, inr, true, List, [], length, slice_index, slice_index_or, Contains, sym, ap, ◌∙◌, subst, arith}
 use Rattle.std.proofs.lemmas.Bool.{cases_order}
 use Rattle.permutations.specs.Members.{is_member, place_of}
 use Rattle.permutations.proofs.Arrangements.{member-at}
 use Rattle.permutations.proofs.Places.{place-below, place-holds}
 use Rattle.multigraph.specs.Part.{GraphPart, Rises}
-use Rattle.pair_split.specs.Tutte.{Node}
 use Rattle.choice_lists.specs.Order.{IsAt, Lists, is_before}
 use Rattle.choice_lists.specs.Products.{IsFirst, IsLast}
 use Rattle.choice_lists.proofs.Orders.{linear-before}
-use Rattle.arrangements.specs.Arranged.{IsArrangement, arrangements_at, first_arrangement}
+use Rattle.arrangements.specs.Arranged.{IsArrangement, first_arrangement}
 use Rattle.arrangements.proofs.Laws.{arrangements_are_listed, first_is_first}
 use Rattle.skeletons.specs.Choices.{Precedes}
 use Rattle.whole_embed.specs.Component.{Component, BlockInPlane}
 use Rattle.whole_embed.specs.Around.{outer_at, edges_around, block_with, block_order, arrangements_around}
 use Rattle.whole_embed.specs.Whole.{AreArranged, block_part, IsWholeMember, WholePrecedes}
-use Rattle.whole_embed.specs.Walk.{first_around, arrangements_at_place, AreNextLists, AreLastLists}
+use Rattle.whole_embed.specs.Walk.{first_around, AreNextLists, AreLastLists}
 use Rattle.whole_embed.proofs.Assembled.{IsAssembled}
 use Rattle.whole_embed.proofs.Followers.{Succeeds, IsEnd}
 use Rattle.whole_embed.proofs.Odometer.{SameParts, IsFirstPart, IsLastPart, IsFirstRound, IsLastRound, FollowsInBlock, FollowsRound, next-in_block, next-around, end-of_all}
-use Rattle.whole_embed.proofs.Moved.{IsMovedBlock, AreMoved, member-moved, member-back}
-use Rattle.whole_embed.proofs.LedBlocks.{IsKeptBlock, IsNextBlock, IsFirstBlock, IsLastBlock}
+use Rattle.whole_embed.proofs.Moved.{AreMoved, member-moved, member-back}
+use Rattle.whole_embed.proofs.LedBlocks.{IsNextBlock, IsFirstBlock, IsLastBlock}
 use Rattle.whole_embed.proofs.ListSteps.{next-between, first-before, last-after}
 use Rattle.whole_embed.proofs.Told.{parts-tell, member-arranged}
 

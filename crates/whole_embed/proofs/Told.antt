@@ -1,34 +1,32 @@
 -- A rotation system of a component is determined by its parts in the blocks and its orders around the cut vertices; and around each
 -- cut vertex a plane one has an arrangement of its parts.
-use Rattle.std.proofs.Common.{◌≡◌, ◌≢◌, ℕ, ◌<◌, inl, inr, Bool, true, false, ◌==◌, ◌||◌, nat_lt, List, [], ◌∷◌, length, map, filter, slice_index, slice_index_or, Contains, refl, sym, ap, ap₂, ◌∙◌, subst, arith}
-use Rattle.std.proofs.lemmas.Bool.{cases_Bool, cases_eq, both_ways, true≢false, eq-eqb, eqb-true, false_from_ne_true, or_cases}
+use Rattle.std.proofs.Common.{◌≡◌, ◌≢◌, ℕ, ◌<◌, inl, inr, true, false, ◌==◌, List, [], ◌∷◌, map, filter, slice_index, refl, sym, ap, ◌∙◌, subst, arith}
+use Rattle.std.proofs.lemmas.Bool.{cases_Bool, true≢false, eq-eqb, eqb-true, false_from_ne_true}
 use Rattle.std.proofs.lemmas.List.{get_or-map}
 use Rattle.permutations.specs.Members.{is_member, is_distinct, place_of}
-use Rattle.permutations.specs.Cyclic.{first_or, from_least, FollowsAround}
-use Rattle.permutations.proofs.Members.{member-head, member-tail}
+use Rattle.permutations.specs.Cyclic.{from_least}
+use Rattle.permutations.proofs.Members.{member-head}
 use Rattle.permutations.proofs.Mapped.{map-member}
 use Rattle.permutations.proofs.Arrangements.{member-at}
-use Rattle.permutations.proofs.Places.{place-holds, place-below, place-at}
+use Rattle.permutations.proofs.Places.{place-holds, place-below}
 use Rattle.permutations.proofs.Filter.{filter-all, filter-ext, member-filter_parts, distinct-filter}
 use Rattle.permutations.proofs.NormalForm.{from_least-twice, from_least-member}
 use Rattle.permutations.proofs.CyclicOrder.{around-member}
-use Rattle.multigraph.specs.Graph.{Multigraph, edge_count, incident_edges}
-use Rattle.multigraph.specs.Part.{GraphPart, IsNumbered}
+use Rattle.multigraph.specs.Graph.{Multigraph, edge_count}
 use Rattle.graph_theory.specs.Block.{SameBlock}
 use Rattle.rotations.specs.Rotation.{order_at, IsRotationSystem}
-use Rattle.block_planes.specs.Crossing.{NoBlocksCross}
 use Rattle.block_planes.proofs.NoCrossing.{plane-no_crossing}
-use Rattle.arrangements.specs.Arranged.{of_block, keeps, changes_from, changes, cross, IsArrangement, arrangements_at, AreOrders}
+use Rattle.arrangements.specs.Arranged.{of_block, keeps, cross, IsArrangement}
 use Rattle.arrangements.specs.Refused.{Alternate}
 use Rattle.arrangements.proofs.Laws.{cross_is_alternate}
 use Rattle.arrangements.proofs.Lists.{equal-same}
 use Rattle.arrangements.proofs.Changes.{cross-differ}
 use Rattle.whole_embed.specs.Component.{Component, BlockInPlane}
-use Rattle.whole_embed.specs.Around.{outer_at, edges_around, block_with, block_order, arrangements_around}
+use Rattle.whole_embed.specs.Around.{outer_at, edges_around, block_with, block_order}
 use Rattle.whole_embed.specs.Whole.{block_part, IsWholeMember}
 use Rattle.whole_embed.proofs.Assembled.{IsAssembled}
 use Rattle.whole_embed.proofs.Mapping.{no-members, same-test, map-injective, map-back, around-back}
-use Rattle.whole_embed.proofs.Rounds.{edge-once, edge-place, vertex-place, order-edge, order-member, outer-distinct, outer-arranged, outer-member, outer-first, outer-written, systems-told}
+use Rattle.whole_embed.proofs.Rounds.{edge-place, vertex-place, order-edge, outer-distinct, outer-arranged, outer-member, outer-first, outer-written, systems-told}
 
 module _ (k : Component) (block : ℕ → BlockInPlane) (made : IsAssembled k block) where
   abbrev g : Multigraph

@@ -1,5 +1,5 @@
 -- All vectors with a value for each of some places, out of the list of its place; and lists that increase by a relation.
-use Rattle.std.proofs.Common.{◌≡◌, ℕ, zero, suc, ◌+◌, ◌<◌, ◌⊎◌, inl, inr, List, [], ◌∷◌, ◌++◌, length, map, slice_index, slice_index_or, AllPairs, Contains, refl, sym, ap, ap₂, ◌∙◌, subst, arith}
+use Rattle.std.proofs.Common.{◌≡◌, ℕ, zero, suc, ◌+◌, ◌<◌, inl, inr, List, [], ◌∷◌, ◌++◌, length, map, slice_index, slice_index_or, AllPairs, refl, sym, ap, subst, arith}
 use Rattle.choice_lists.proofs.Places.{At, Has, at-within, at-get, at-any, at-left, at-right, at-append, at-map, at-map_back}
 
 -- each member is related to all later ones

@@ -1,35 +1,35 @@
 -- A walk through the list of a component, step by step.
-use Rattle.std.proofs.Common.{◌≡◌, ◌≢◌, ℕ, ◌+◌, ◌<◌, ◌≤◌, inl, inr, true, List, [], length, slice_index, slice_index_or, slice_set, Contains, Option, Some, refl, sym, ap, ◌∙◌, subst, arith}
+use Rattle.std.proofs.Common.{◌≡◌, ℕ, ◌+◌, ◌<◌, ◌≤◌, inl, inr, true, List, [], length, slice_index, slice_index_or, slice_set, Contains, Option, refl, sym, ap, ◌∙◌, subst, arith}
 use Rattle.std.specs.Prelude.{IsSome}
 use Rattle.std.proofs.lemmas.Bool.{cases_eq, cases_order}
 use Rattle.std.proofs.lemmas.List.{length-set, get_or-set_same, get_or-set_other}
 use Rattle.permutations.specs.Members.{is_member, place_of}
 use Rattle.permutations.proofs.Arrangements.{member-at}
 use Rattle.permutations.proofs.Places.{place-below, place-holds}
-use Rattle.multigraph.specs.Part.{GraphPart, Rises}
+use Rattle.multigraph.specs.Part.{Rises}
 use Rattle.faces.specs.Euler.{IsPlaneSystem}
 use Rattle.skel_embed.specs.Block.{BlockState}
 use Rattle.skeletons.specs.Lists.{IsRank}
 use Rattle.embed_enum.proofs.Walks.{rest-itself}
 use Rattle.choice_lists.specs.Order.{IsAt}
-use Rattle.choice_lists.specs.Products.{IsFirst, IsLast}
+use Rattle.choice_lists.specs.Products.{IsLast}
 use Rattle.choice_lists.proofs.Places.{contains-from}
 use Rattle.choice_lists.proofs.Products.{first-at}
 use Rattle.arrangements.proofs.Laws.{first_is_first}
 use Rattle.whole_embed.specs.declared.members.Member.{Member}
-use Rattle.whole_embed.specs.Component.{Component, BlockInPlane, component_blocks, IsComponentInPlane}
-use Rattle.whole_embed.specs.Around.{edges_around, block_with, block_order, arrangements_around}
+use Rattle.whole_embed.specs.Component.{Component, BlockInPlane, IsComponentInPlane}
+use Rattle.whole_embed.specs.Around.{edges_around, block_with, block_order}
 use Rattle.whole_embed.specs.Cuts.{CutState, member_at, in_plane, blocks_in, HavePlanes}
 use Rattle.whole_embed.specs.Whole.{AreArranged, whole_system, IsWholeMember, WholePrecedes, IsWholeList}
 use Rattle.whole_embed.specs.Walk.{first_around, arrangements_at_place, AreFirstLists, AreNextLists, AreLastLists, KeepsBlocks}
 use Rattle.whole_embed.specs.Advanced.{IsLastMember, AreAdvanced}
 use Rattle.whole_embed.proofs.Assembled.{IsAssembled}
-use Rattle.whole_embed.proofs.Followers.{Succeeds, succeeds-rank, end-rank}
+use Rattle.whole_embed.proofs.Followers.{succeeds-rank, end-rank}
 use Rattle.whole_embed.proofs.Odometer.{precedes-apart}
 use Rattle.whole_embed.proofs.Moved.{AreMoved, component-moved, list-moved}
 use Rattle.whole_embed.proofs.LedBlocks.{IsLastBlock, last-block}
 use Rattle.whole_embed.proofs.AdvancedBlocks.{fits-part, earlier-same, next-block, later-blocks, moved-blocks, have-new, keeps-blocks}
-use Rattle.whole_embed.proofs.Steps.{IsPresent, next-lists, last-of_all, next-blocks}
+use Rattle.whole_embed.proofs.Steps.{next-lists, last-of_all, next-blocks}
 use Rattle.whole_embed.proofs.Assembly.{assembled, present}
 
 -- no cut vertex yet, and one more

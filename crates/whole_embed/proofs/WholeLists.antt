@@ -1,12 +1,12 @@
 -- The lists of a component, vertex by vertex; and what comes after an edge in its block.
-use Rattle.std.proofs.Common.{◌≡◌, ℕ, ◌+◌, ◌-◌, ◌<◌, ◌≤◌, Bool, true, false, Some, Option, List, [], ◌∷◌, ◌++◌, length, map, take, get_or, slice_index, slice_index_or, refl, sym, ap, ◌∙◌, subst, arith, Contains, inl, inr}
-use Rattle.std.proofs.lemmas.Bool.{cases_eq, cond-true, cond-false}
-use Rattle.std.proofs.lemmas.List.{get_or-map, length-map, get_or-take, length-take-le, take_more, get_or_default}
+use Rattle.std.proofs.Common.{◌≡◌, ℕ, ◌+◌, ◌-◌, ◌<◌, true, false, List, [], ◌∷◌, ◌++◌, length, take, get_or, slice_index, slice_index_or, sym, ap, ◌∙◌, subst, arith}
+use Rattle.std.proofs.lemmas.Bool.{cond-true, cond-false}
+use Rattle.std.proofs.lemmas.List.{get_or-map, length-map, get_or-take, length-take-le, take_more}
 use Rattle.permutations.specs.Members.{is_member, place_of}
 use Rattle.permutations.specs.Cyclic.{successor}
 use Rattle.permutations.proofs.Mapped.{map-member}
 use Rattle.permutations.proofs.Successor.{successor-member}
-use Rattle.permutations.proofs.Arrangements.{member-at, contains-from_member}
+use Rattle.permutations.proofs.Arrangements.{member-at}
 use Rattle.permutations.proofs.Places.{place-below}
 use Rattle.multigraph.specs.Graph.{edge_count}
 use Rattle.multigraph.specs.Part.{GraphPart, Rises, IsNumbered}
@@ -17,7 +17,7 @@ use Rattle.faces.proofs.MapLists.{successor-map}
 use Rattle.whole_embed.specs.Component.{Component, BlockInPlane}
 use Rattle.whole_embed.specs.Around.{outer_at, edges_around}
 use Rattle.whole_embed.specs.Whole.{first_order, order_around, whole_lists}
-use Rattle.whole_embed.proofs.Outer.{place-rising, place-in}
+use Rattle.whole_embed.proofs.Outer.{place-rising}
 use Rattle.whole_embed.proofs.FrameFacts.{round-below}
 
 module _ (k : Component) (block : ℕ → BlockInPlane) (lists : List (List ℕ)) where

@@ -1,12 +1,11 @@
 -- The rotation system of a component from those of its blocks and arrangements at its cut vertices: its parts in the blocks, its
 -- orders around the vertices, and that it is plane.
-use Rattle.std.proofs.Common.{◌≡◌, ◌≢◌, ℕ, ◌<◌, inl, inr, Bool, true, false, ◌==◌, List, [], ◌∷◌, length, map, filter, get_or, slice_index, slice_index_or, refl, sym, ap, ◌∙◌, subst, arith, Contains, eq-eqb, eqb-true}
+use Rattle.std.proofs.Common.{◌≡◌, ℕ, ◌<◌, inl, inr, true, ◌==◌, List, [], ◌∷◌, length, map, filter, slice_index, slice_index_or, refl, sym, ap, ◌∙◌, subst, arith, Contains, eq-eqb, eqb-true}
 use Rattle.std.specs.List.Sorted.{IsPermutation}
 use Rattle.std.proofs.lemmas.Bool.{both_ways, cases_Bool, cond-true, cond-false}
 use Rattle.std.proofs.lemmas.List.{get_or-map, length-map, ext_get_or}
 use Rattle.std.proofs.lemmas.List.Elements.{Contains-get_or}
 use Rattle.std.proofs.lemmas.List.Sorted.{IsPermutation-map, length_permutation}
-use Rattle.permutations.specs.Count.{some}
 use Rattle.permutations.specs.Members.{is_member, is_distinct, place_of}
 use Rattle.permutations.specs.Cyclic.{first_or, from_least, turned, IsTurn, FollowsAround}
 use Rattle.permutations.proofs.Relation.{same-tests}
@@ -20,7 +19,7 @@ use Rattle.permutations.proofs.CyclicOrder as cyclic
 use Rattle.permutations.proofs.Arrangements.{permutation-member, permutation-distinct, member-at}
 use Rattle.permutations.proofs.Places.{place-below, place-holds}
 use Rattle.multigraph.specs.Graph.{Multigraph, edge_count, incident_edges, IsGraph, IsWithinLimits}
-use Rattle.multigraph.specs.Part.{GraphPart, Rises, IsNumbered, IsPart}
+use Rattle.multigraph.specs.Part.{GraphPart, IsPart}
 use Rattle.rotations.specs.Entries.{list_at}
 use Rattle.rotations.specs.PartLists.{outer_edges, outer_list}
 use Rattle.rotations.specs.Rotation.{order_at, IsCyclicOrder, IsRotationSystem}
@@ -32,15 +31,15 @@ use Rattle.faces.proofs.MapLists.{filter-map, map-back}
 use Rattle.skeletons.specs.Lists.{IsKept}
 use Rattle.skel_embed.specs.Block.{lock_at}
 use Rattle.skel_embed.specs.Taken.{IsGiven}
-use Rattle.blocks.specs.Blocks.{BlockStructure, block_at, AreBlocks, IsBlockStructure}
+use Rattle.blocks.specs.Blocks.{BlockStructure, block_at, IsBlockStructure}
 use Rattle.block_planes.specs.Crossing.{NoBlocksCross, IsPlaneOn}
 use Rattle.block_planes.proofs.BlockLabels.{plane_by_blocks}
-use Rattle.whole_embed.specs.Component.{Component, BlockInPlane, component_vertices, component_edges, component_blocks, component_of, AreInPlane, IsComponentInPlane}
-use Rattle.whole_embed.specs.Around.{outer_at, edges_around, block_with, block_order}
+use Rattle.whole_embed.specs.Component.{Component, BlockInPlane, component_vertices, component_edges, component_of, AreInPlane}
+use Rattle.whole_embed.specs.Around.{outer_at, edges_around}
 use Rattle.whole_embed.specs.Whole.{AreArranged, first_order, order_around, whole_lists, whole_system, block_part, IsWholeMember}
-use Rattle.whole_embed.proofs.Components.{vertices-rise, edges-rise, cut-in, cuts-rise, block-edge}
-use Rattle.whole_embed.proofs.ComponentBlocks.{numbered, subgraph, inner_edges, inner_blocks, inner-length, inner-at, among, component-blocks, inner_part, inner-part, part-edge, part-vertex, same-inner, same-outer}
-use Rattle.whole_embed.proofs.Outer.{place-rising, rises-distinct, place-in, round-back, round-written, round-distinct}
+use Rattle.whole_embed.proofs.Components.{vertices-rise, edges-rise, cut-in, cuts-rise}
+use Rattle.whole_embed.proofs.ComponentBlocks.{numbered, inner_blocks, inner-length, inner-at, among, component-blocks, inner_part, inner-part, part-edge, part-vertex, same-inner, same-outer}
+use Rattle.whole_embed.proofs.Outer.{place-rising, rises-distinct, round-back, round-written}
 use Rattle.whole_embed.proofs.Arranging.{IsRight, order-right, right-edge, part-of, sub-of, system-of, around-rise}
 
 -- the first of the images, of two lists of the same members that begin with the same one

@@ -1,6 +1,5 @@
 -- Blocks led along their lists: to the next members of the product of these. Contracts of private functions cite these.
-use Rattle.std.specs.Prelude.{◌≡◌, ℕ, ◌+◌, ◌<◌, ◌≤◌, true, false, List, length, slice_index, Option, Some}
-use Rattle.permutations.specs.Members.{is_member}
+use Rattle.std.specs.Prelude.{◌≡◌, ℕ, ◌+◌, ◌<◌, ◌≤◌, List, length, slice_index, Some}
 use Rattle.skeletons.specs.Lists.{IsRank}
 use Rattle.skel_embed.specs.Block.{BlockState, IsBlockState}
 use Rattle.embed_enum.specs.Walk.{IsMemberList, KeepsRest, IsNextOf}

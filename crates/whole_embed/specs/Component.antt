@@ -1,5 +1,5 @@
 -- The components of a graph as graphs of their own, and their blocks in the plane.
-use Rattle.std.specs.Prelude.{◌≡◌, ℕ, ◌<◌, Bool, true, ◌==◌, List, [], length, map, filter, slice_index}
+use Rattle.std.specs.Prelude.{◌≡◌, ℕ, ◌<◌, Bool, true, ◌==◌, List, length, map, filter, slice_index}
 use Rattle.permutations.specs.Count.{least}
 use Rattle.permutations.specs.Members.{is_member, place_of}
 use Rattle.multigraph.specs.Graph.{Multigraph, edge_count, ends_of, numbers_below, IsGraph, IsWithinLimits}

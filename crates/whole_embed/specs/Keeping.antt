@@ -1,9 +1,8 @@
 -- What is kept at the cut vertices of a component: tables of edges and blocks, which the component determines; and the lists of
 -- private functions.
-use Rattle.std.specs.Prelude.{◌≡◌, ℕ, ◌<◌, ◌↔◌, true, nat_lt, List, [], length, map, slice_index, slice_index_or, Contains, Option, Some}
+use Rattle.std.specs.Prelude.{◌≡◌, ℕ, ◌<◌, true, nat_lt, List, [], length, map, slice_index, slice_index_or, Some}
 use Rattle.permutations.specs.Members.{is_member}
 use Rattle.multigraph.specs.Graph.{incident_edges}
-use Rattle.multigraph.specs.Part.{Rises}
 use Rattle.arrangements.specs.Arranged.{first_arrangement}
 use Rattle.arrangements.specs.Tables.{VertexTables, rank_in}
 use Rattle.skel_embed.specs.Block.{BlockState}

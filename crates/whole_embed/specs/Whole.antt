@@ -1,5 +1,5 @@
 -- Rotation systems of a component from those of its blocks and an arrangement at each cut vertex; all plane ones, in order.
-use Rattle.std.specs.Prelude.{◌≡◌, ◌≢◌, ℕ, ◌<◌, ◌⊎◌, ◌↔◌, true, if◌then◌else◌, List, [], ◌∷◌, length, map, filter, slice_index, slice_index_or, AllPairs, Contains}
+use Rattle.std.specs.Prelude.{◌≡◌, ℕ, ◌<◌, ◌⊎◌, ◌↔◌, true, if◌then◌else◌, List, [], ◌∷◌, length, map, filter, slice_index, slice_index_or, AllPairs, Contains}
 use Rattle.permutations.specs.Members.{is_member, place_of}
 use Rattle.permutations.specs.Cyclic.{from_least}
 use Rattle.multigraph.specs.Part.{GraphPart}

@@ -1,7 +1,6 @@
-use Rattle.std.proofs.Common.{◌≡◌, ◌-◌, ◌+◌, ◌<◌, List, length, slice_index, slice_index_or, slice_set, sym, subst, arith}
+use Rattle.std.proofs.Common.{◌-◌, ◌+◌, ◌<◌, List, length, slice_index, slice_index_or, slice_set, subst, arith}
 use Rattle.embed_enum.specs.Walk.{IsNextOf}
 use Rattle.whole_embed.specs.declared.members.Member.{Member}
-use Rattle.whole_embed.specs.Cuts.{member_at}
 use Rattle.whole_embed.specs.Advanced.{IsLed, AreFirstBetween}
 use Rattle.whole_embed.proofs.Advance.{read-member, advanced}
 use Rattle.whole_embed.proofs.advancing.advance.Goals as goal

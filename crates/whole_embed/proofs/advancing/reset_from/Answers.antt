@@ -1,4 +1,4 @@
-use Rattle.std.proofs.Common.{◌<◌, length, slice_index, subst, arith}
+use Rattle.std.proofs.Common.{slice_index, subst, arith}
 use Rattle.whole_embed.specs.Advanced.{IsFirstOf, IsLed}
 use Rattle.whole_embed.proofs.Advance.{read-member, first-begins, first-more}
 use Rattle.whole_embed.proofs.advancing.reset_from.Goals as goal

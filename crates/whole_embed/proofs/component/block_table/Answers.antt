@@ -1,4 +1,4 @@
-use Rattle.std.proofs.Common.{◌≡◌, ◌+◌, ◌<◌, ℕ, List, length, drop, get_or, sym, ap, ◌∙◌, subst, arith}
+use Rattle.std.proofs.Common.{◌≡◌, ◌+◌, ◌<◌, ℕ, List, length, get_or, sym, ap, ◌∙◌, subst, arith}
 use Rattle.permutations.proofs.Arrangements.{member-at}
 use Rattle.blocks.specs.Blocks.{block_at}
 use Rattle.whole_embed.specs.Frames.{AreNoted, AreNotedBelow}

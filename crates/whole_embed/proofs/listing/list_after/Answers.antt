@@ -1,4 +1,4 @@
-use Rattle.std.proofs.Common.{◌≡◌, ℕ, ◌+◌, List, [], ◌++◌, length, map, take, drop, take_at, sym, ◌∙◌, subst, arith}
+use Rattle.std.proofs.Common.{◌≡◌, ℕ, ◌+◌, List, ◌++◌, length, map, take, drop, take_at, sym, ◌∙◌, subst, arith}
 use Rattle.whole_embed.specs.declared.members.Member.{Member}
 use Rattle.whole_embed.specs.Cuts.{blocks_in, HavePlanes}
 use Rattle.whole_embed.specs.Whole.{AreArranged, whole_lists}

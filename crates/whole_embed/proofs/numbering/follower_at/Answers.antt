@@ -1,5 +1,5 @@
-use Rattle.std.proofs.Common.{◌≡◌, ◌<◌, ℕ, List, Some, true, length, slice_index, sym, ap, ◌∙◌, subst, arith, Contains}
-use Rattle.permutations.specs.Members.{is_member, place_of}
+use Rattle.std.proofs.Common.{◌≡◌, ◌<◌, ℕ, List, slice_index, sym, ap, ◌∙◌, subst, Contains}
+use Rattle.permutations.specs.Members.{place_of}
 use Rattle.permutations.specs.Cyclic.{successor}
 use Rattle.permutations.proofs.Arrangements.{contains-from_member}
 use Rattle.multigraph.specs.Graph.{Multigraph, edge_count}

@@ -1,4 +1,4 @@
-use Rattle.std.proofs.Common.{◌≡◌, List, ℕ, IsPermutation, sym, subst, ◌∙◌}
+use Rattle.std.proofs.Common.{List, ℕ, IsPermutation, sym, subst, ◌∙◌}
 use Rattle.std.proofs.lemmas.Bool.Decides.{Decides-eqb}
 use Rattle.std.proofs.lemmas.Slice.Eq.{slice_eq-Decides}
 use Rattle.whole_embed.proofs.Orderings.{sorted-ordering, ordering-sorted}

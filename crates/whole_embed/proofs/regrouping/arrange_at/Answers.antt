@@ -1,4 +1,4 @@
-use Rattle.std.proofs.Common.{◌≡◌, ◌≢◌, ℕ, true, false, List, length, map, slice_index, refl, sym, ap, ◌∙◌, subst, arith, MatchOption, IsPermutation}
+use Rattle.std.proofs.Common.{◌≡◌, ℕ, true, false, List, map, slice_index, refl, sym, ap, ◌∙◌, subst, MatchOption, IsPermutation}
 use Rattle.permutations.specs.Members.{is_member, place_of}
 use Rattle.permutations.specs.Cyclic.{from_least}
 use Rattle.multigraph.specs.Graph.{incident_edges}

@@ -1,4 +1,4 @@
-use Rattle.std.proofs.Common.{◌≡◌, ◌≢◌, ◌<◌, ℕ, slice_index}
+use Rattle.std.proofs.Common.{◌≢◌, ◌<◌, ℕ, slice_index}
 use Rattle.arrangements.specs.Tables.{rank_in}
 use Rattle.whole_embed.proofs.regrouping.block_of_rank.Given as goal
 

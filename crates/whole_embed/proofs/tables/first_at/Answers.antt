@@ -1,4 +1,4 @@
-use Rattle.std.proofs.Common.{◌≡◌, ℕ, List, length, sym, ap, ◌∙◌, subst, arith}
+use Rattle.std.proofs.Common.{◌≡◌, length, sym, ap, ◌∙◌, subst, arith}
 use Rattle.arrangements.specs.Arranged.{first_arrangement}
 use Rattle.whole_embed.specs.Around.{block_with, block_order}
 use Rattle.whole_embed.specs.Cuts.{blocks_in}

@@ -1,9 +1,9 @@
-use Rattle.std.proofs.Common.{◌≡◌, ◌<◌, ◌≤◌, ◌+◌, ◌-◌, List, [], ℕ, length, slice_index_or, slice_set, Contains, ap, ◌∙◌, sym, subst, arith, inl, inr}
+use Rattle.std.proofs.Common.{◌≡◌, ◌+◌, ◌-◌, List, [], ℕ, slice_index_or, slice_set, Contains, ◌∙◌, sym, subst, arith, inl, inr}
 use Rattle.std.proofs.lemmas.Bool.{cases_eq}
 use Rattle.choice_lists.specs.Order.{IsAt}
 use Rattle.choice_lists.specs.Products.{IsLast}
 use Rattle.whole_embed.specs.Cuts.{CutState, blocks_in}
-use Rattle.whole_embed.specs.Walk.{arrangements_at_place, AreNextLists}
+use Rattle.whole_embed.specs.Walk.{arrangements_at_place}
 use Rattle.whole_embed.proofs.WalkSteps.{next-made}
 use Rattle.whole_embed.proofs.walking.next_lists.Goals as goal
 

@@ -1,12 +1,11 @@
-use Rattle.std.proofs.Common.{◌≡◌, ◌<◌, ◌+◌, true, List, ℕ, length, slice_index, ap, ◌∙◌, sym, subst, refl}
+use Rattle.std.proofs.Common.{◌<◌, ◌+◌, List, ℕ, length, slice_index, ap, ◌∙◌, sym, subst}
 use Rattle.std.specs.Prelude.{IsSome}
 use Rattle.multigraph.specs.Part.{Rises}
 use Rattle.skeletons.specs.Lists.{IsRank}
-use Rattle.whole_embed.specs.declared.members.Member.{Member}
 use Rattle.whole_embed.specs.Component.{Component, IsComponentInPlane}
 use Rattle.whole_embed.specs.Cuts.{CutState, member_at, blocks_in, HavePlanes}
 use Rattle.whole_embed.specs.Whole.{AreArranged, whole_system, IsWholeList}
-use Rattle.whole_embed.specs.Walk.{AreFirstLists, KeepsBlocks}
+use Rattle.whole_embed.specs.Walk.{AreFirstLists}
 use Rattle.whole_embed.specs.Advanced.{IsLastMember, AreAdvanced}
 use Rattle.whole_embed.proofs.WalkSteps.{arranged-next, arranged-first, rank-lists, rank-last, blocks-rise, blocks-within, blocks-some, blocks-last, new-component, new-planes, new-list, new-keeps, rank-blocks, keeps-itself}
 use Rattle.whole_embed.proofs.walking.next_whole.Goals as goal

@@ -1,4 +1,4 @@
-use Rattle.std.proofs.Common.{◌≡◌, ℕ, List, map, take}
+use Rattle.std.proofs.Common.{◌≡◌, map, take}
 use Rattle.whole_embed.specs.Cuts.{blocks_in}
 use Rattle.whole_embed.specs.Whole.{whole_lists}
 use Rattle.whole_embed.proofs.wholes.lists_around.Given as goal

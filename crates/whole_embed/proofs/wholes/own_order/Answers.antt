@@ -1,11 +1,11 @@
-use Rattle.std.proofs.Common.{◌≡◌, ◌<◌, ℕ, List, None, Some, Option, [], length, get_or, slice_index, sym, ap, ◌∙◌, subst, arith}
+use Rattle.std.proofs.Common.{◌≡◌, ◌<◌, ℕ, List, None, Some, length, get_or, slice_index, sym, ap, ◌∙◌, subst}
 use Rattle.std.specs.List.{slice_get}
 use Rattle.std.proofs.lemmas.Result.{IfOk-weaker}
 use Rattle.multigraph.specs.Graph.{Multigraph, incident_edges}
 use Rattle.multigraph.specs.Part.{GraphPart}
 use Rattle.skel_embed.specs.Block.{BlockState}
 use Rattle.whole_embed.specs.Around.{outer_at, edges_around}
-use Rattle.whole_embed.specs.Cuts.{blocks_in, member_at}
+use Rattle.whole_embed.specs.Cuts.{blocks_in}
 use Rattle.whole_embed.specs.Whole.{first_order}
 use Rattle.whole_embed.proofs.Assembly.{assembled}
 use Rattle.whole_embed.proofs.FrameFacts.{own-first, own-none, own-order, own-there, block-at}

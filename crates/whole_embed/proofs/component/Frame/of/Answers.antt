@@ -1,7 +1,7 @@
-use Rattle.std.proofs.Common.{◌≡◌, ◌<◌, ℕ, List, length, map, get_or, slice_index, sym, ap, ◌∙◌, subst, arith}
+use Rattle.std.proofs.Common.{◌<◌, ℕ, List, length, map, get_or, slice_index, sym, ap, ◌∙◌, subst, arith}
 use Rattle.permutations.proofs.Arrangements.{member-at}
 use Rattle.multigraph.specs.Graph.{edge_count}
-use Rattle.multigraph.specs.Part.{Rises, HoldEnds, IsPartOn}
+use Rattle.multigraph.specs.Part.{Rises, HoldEnds}
 use Rattle.whole_embed.specs.Component.{component_edges, block_of}
 use Rattle.whole_embed.specs.Frames.{IsFrame}
 use Rattle.whole_embed.proofs.Components.{vertices-rise, vertex-within, edges-rise, edge-within, held}

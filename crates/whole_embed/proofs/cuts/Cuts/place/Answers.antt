@@ -1,4 +1,4 @@
-use Rattle.std.proofs.Common.{◌≡◌, ◌<◌, ℕ, true, false, length, ap, subst, arith, MatchOption}
+use Rattle.std.proofs.Common.{◌≡◌, true, false, length, ap, subst, arith, MatchOption}
 use Rattle.permutations.specs.Members.{is_member, place_of}
 use Rattle.permutations.proofs.Places.{place-below}
 use Rattle.whole_embed.specs.Cuts.{CutState}
