@@ -1,5 +1,5 @@
--- Drawings: one edge is one, and a path drawn into a face keeps it one.
-use Rattle.std.proofs.Common.{◌≡◌, ℕ, ◌/◌, inl, inr, Bool, true, false, not, ◌&&◌, ◌==◌, List, ◌∷◌, refl, sym, ap, ◌∙◌, subst}
+-- Drawings: one edge is one, a path drawn into a face keeps it one, and one of all edges is a plane rotation system.
+use Rattle.std.proofs.Common.{◌≡◌, ◌<◌, ◌/◌, ℕ, ◌/◌, inl, inr, Bool, true, false, not, ◌&&◌, ◌==◌, List, ◌∷◌, refl, sym, ap, ◌∙◌, subst}
 use Rattle.std.proofs.lemmas.Bool.{both_ways, and_parts, and_from, not_from_false, eq-eqb, eqb-true, false_from_ne_true}
 use Rattle.permutations.specs.Members.{is_member}
 use Rattle.permutations.proofs.Members.{member-tail, distinct-head}
@@ -16,10 +16,17 @@ use Rattle.dart_maps.specs.Map.{same_vertex}
 use Rattle.dart_maps.proofs.Darts.{edge-twin}
 use Rattle.dart_maps.proofs.Euler.{still-plane}
 use Rattle.dart_maps.specs.Path.{path_inserted}
+use Rattle.permutations.proofs.Relation.{kernel-equivalence, same-tests}
+use Rattle.permutations.proofs.Orbits.{orbit-least}
+use Rattle.dart_maps.proofs.Euler.{plane-ext}
+use Rattle.faces.specs.Maps.{dart_after}
+use Rattle.faces.proofs.MapCounts.{map-plane}
+use Rattle.faces.proofs.MapToLists.{map-orders}
+use Rattle.faces.proofs.DartLemmas.{dart-edge}
 use Rattle.faces.specs.Euler.{tail, dart_from, dart_count}
 use Rattle.faces.proofs.DartLemmas.{dart_from-tail}
 use Rattle.path_separation.specs.Drawn.{is_on, IsMapOfDrawn, IsUncut, darts_along}
-use Rattle.path_separation.specs.Laws.{EdgesAreDrawings, PathsKeepDrawings}
+use Rattle.path_separation.specs.Laws.{EdgesAreDrawings, PathsKeepDrawings, FinishedDrawings}
 use Rattle.path_separation.proofs.DrawnMap.{dart-on}
 use Rattle.path_separation.proofs.Feet.{arrives-elsewhere}
 use Rattle.path_separation.proofs.UncutPath.{path-uncut}
@@ -89,3 +96,21 @@ path-drawing g ok drawn more next previous s x z e es p is c k at_c at_k f =
       where
         x-none : is_member x (walk_vertices g (other_end g e x) es) ≡ false
         x-none = distinct-head x (walk_vertices g (other_end g e x) es) p.path.vertices
+
+-- a drawing of all edges is the map of a plane rotation system
+pub finished-drawing : FinishedDrawings
+finished-drawing g ok drawn next previous s all =
+    let r = map-orders g ok next previous s.map.permutes same in
+    (r.0, record { system = r.1; plane = map-plane g r.0 ok r.1 (plane-ext (edge_count g) next (dart_after g r.0) (λ d l. sym (r.2 d l)) s.plane) }, r.2)
+  where
+    drawn_dart : (d : ℕ) → d < dart_count g → drawn (d / 2) ≡ true
+    drawn_dart d l = all (d / 2) (dart-edge g d l)
+
+    leaves-one : (c d : ℕ) → same_vertex (edge_count g) next c d ≡ true → tail g c ≡ tail g d
+    leaves-one c d t = eqb-true (tail g c) (tail g d) (orbit-least (dart_count g) next (λ x y. tail g x == tail g y) (kernel-equivalence (tail g))
+        (λ z l. eq-eqb (tail g z) (tail g (next z)) (sym (s.map.tails z l))) c d t)
+
+    same : (c d : ℕ) → c < dart_count g → d < dart_count g → same_vertex (edge_count g) next c d ≡ (tail g c == tail g d)
+    same c d l k = same-tests (same_vertex (edge_count g) next c d) (tail g c == tail g d)
+        (λ t. eq-eqb (tail g c) (tail g d) (leaves-one c d t))
+        (λ t. s.map.vertices c d l k (drawn_dart c l) (drawn_dart d k) (eqb-true (tail g c) (tail g d) t))

@@ -14,12 +14,20 @@ use Rattle.graph_theory.proofs.Joined.{joined-other}
 use Rattle.graph_theory.proofs.Removed.{closed-without}
 use Rattle.dart_maps.specs.Map.{twin}
 use Rattle.dart_maps.proofs.Darts.{twin-cases, twin-below, twin-edge, edge-twin}
-use Rattle.path_separation.specs.Feet.{is_free, touches, IsAttached, IsFoot}
+use Rattle.path_separation.specs.Feet.{is_free, touches, IsAttached, FitsCorner, IsFoot}
 use Rattle.faces.specs.Euler.{tail, dart_from, dart_count}
 use Rattle.faces.proofs.DartLemmas.{dart-edge, tail-end, dart_from-edge, dart_from-below, dart_from-tail, tail-even, tail-odd}
 use Rattle.faces.proofs.MapSteps.{tail-in, tail-twin}
 use Rattle.path_separation.specs.Drawn.{is_on}
 use Rattle.path_separation.proofs.DrawnMap.{dart-on, drawn-twin}
+
+-- the foot t fits two corners at least
+pub record FitsTwo (g : Multigraph) (drawn : ℕ → Bool) (next : ℕ → ℕ) (t : ℕ) : Type 0 where
+  pub first : ℕ
+  pub second : ℕ
+  pub first_fits : FitsCorner g drawn next t first
+  pub second_fits : FitsCorner g drawn next t second
+  pub different : first ≢ second
 
 -- who is neither of two is none of their list
 pub none-of_two : (a b v : ℕ) → a ≢ v → b ≢ v → is_member v (a ∷ b ∷ []) ≡ false
@@ -81,10 +89,10 @@ module _ (g : Multigraph) (ok : IsGraph g) (drawn : ℕ → Bool) where
         | inr q ↦ and_from (not (is_on g drawn (ends_of g e).0)) (not (is_on g drawn (ends_of g e).1)) (off (ends_of g e).0 (other_end g e p) (sym (other_end-of_second g e p q (ok.no_loop e l))) b) (off (ends_of g e).1 p q a)
       ]
 
-  free-symmetric : (u v : ℕ) → joined_where g (is_free g drawn) u v ≡ true → joined_where g (is_free g drawn) v u ≡ true
+  pub free-symmetric : (u v : ℕ) → joined_where g (is_free g drawn) u v ≡ true → joined_where g (is_free g drawn) v u ≡ true
   free-symmetric = connected-symmetric (ends_where g (is_free g drawn))
 
-  free-transitive : (u v w : ℕ) → joined_where g (is_free g drawn) u v ≡ true → joined_where g (is_free g drawn) v w ≡ true → joined_where g (is_free g drawn) u w ≡ true
+  pub free-transitive : (u v w : ℕ) → joined_where g (is_free g drawn) u v ≡ true → joined_where g (is_free g drawn) v w ≡ true → joined_where g (is_free g drawn) u w ≡ true
   free-transitive = connected-transitive (ends_where g (is_free g drawn))
 
   -- the edge by which v touches z
@@ -114,6 +122,13 @@ module _ (g : Multigraph) (ok : IsGraph g) (drawn : ℕ → Bool) where
   touches-next e p l i f =
       let back : other_end g e (other_end g e p) ≡ p = other_end-twice g e p ok l i in
       touches-from p (other_end g e p) (e, l, other_end-is_end g e p, ap (is_on g drawn) back ∙ f, subst (λ z. joined_where g (is_free g drawn) p z ≡ true) (sym back) (connected-reflexive (ends_where g (is_free g drawn)) p))
+
+  -- and the tail of each foot whose head is joined with it
+  pub touches-tail : (t : ℕ) → t < dart_count g → is_on g drawn (tail g (twin t)) ≡ false → touches g drawn (tail g (twin t)) (tail g t) ≡ true
+  touches-tail t l f =
+      let across : other_end g (t / 2) (tail g t) ≡ tail g (twin t) = sym (tail-twin g t ok l) in
+      touches-from (tail g (twin t)) (tail g t) (t / 2, dart-edge g t l, tail-end g t, ap (is_on g drawn) across ∙ f,
+      subst (λ z. joined_where g (is_free g drawn) (tail g (twin t)) z ≡ true) (sym across) (connected-reflexive (ends_where g (is_free g drawn)) (tail g (twin t))))
 
   -- the attachments of a foot: its head, or what its head touches
   pub head-attached : (t : ℕ) → t < dart_count g → is_on g drawn (tail g (twin t)) ≡ true → IsAttached g drawn t (tail g (twin t))

@@ -5,6 +5,8 @@ pub mod Uncut
 pub mod UncutPath
 pub mod MapPath
 pub mod Drawings
+pub mod Bridges
+pub mod Decided
 pub mod Fork
 pub mod Cut
 pub mod Sides

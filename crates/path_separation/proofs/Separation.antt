@@ -14,11 +14,13 @@ use Rattle.path_separation.specs.Drawn.{is_on, passes}
 use Rattle.path_separation.specs.Laws.{SomeFootIsForced}
 use Rattle.path_separation.proofs.Uncut.{drawn-map}
 use Rattle.path_separation.proofs.DrawnMap.{IsDrawnMap, passes-same, dart-on, drawn-twin, corners-apart}
-use Rattle.path_separation.specs.Feet.{FitsCorner, FitsTwo, IsFoot}
-use Rattle.path_separation.proofs.Feet.{arrives-elsewhere, head-attached, touch-attached, some-foot, touches-another}
+use Rattle.path_separation.specs.Feet.{FitsCorner, IsFoot}
+use Rattle.path_separation.proofs.Feet.{FitsTwo, arrives-elsewhere, head-attached, touch-attached, some-foot, touches-another}
 use Rattle.path_separation.proofs.Cut.{cut-between}
 use Rattle.path_separation.proofs.Fork.{IsFork, fork}
-use Rattle.path_separation.proofs.Sides.{AtBridge, fits-through, falls-apart}
+use Rattle.path_separation.proofs.Bridges.{AtBridge, fits-through}
+use Rattle.path_separation.proofs.Decided.{some-lone}
+use Rattle.path_separation.proofs.Sides.{falls-apart}
 
 module _ (g : Multigraph) (ok : IsGraph g) (tri : IsTriconnected g) (drawn : ℕ → Bool) (next previous : ℕ → ℕ) (s : IsDrawnMap g drawn next previous)
     (two : (t : ℕ) → IsFoot g drawn t → FitsTwo g drawn next t) where
@@ -79,7 +81,7 @@ module _ (g : Multigraph) (ok : IsGraph g) (tri : IsTriconnected g) (drawn : ℕ
             by_q by_p f.0 f.1 i
       ]
 
--- a drawing that isn't finished has a foot that doesn't fit two corners
+-- so in a drawing that isn't finished some foot fits at most one
 pub some-foot_is_forced : SomeFootIsForced
-some-foot_is_forced g ok tri drawn next previous s d e l h n k u two =
-    some-foot_fits_one g ok tri drawn next previous (drawn-map g ok drawn next previous s.map s.uncut s.plane) two d e l h n k u
+some-foot_is_forced g ok tri drawn next previous s d e l h n k u = some-lone g ok drawn next
+    (λ two. some-foot_fits_one g ok tri drawn next previous (drawn-map g ok drawn next previous s.map s.uncut s.plane) two d e l h n k u)

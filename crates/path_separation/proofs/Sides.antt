@@ -4,11 +4,11 @@ use Rattle.std.proofs.lemmas.Bool.{cases_Bool, both_ways, false_from_ne_true, an
 use Rattle.permutations.specs.Count.{some}
 use Rattle.permutations.specs.Members.{is_member}
 use Rattle.permutations.specs.Relation.{IsEquivalence}
-use Rattle.permutations.proofs.Relation.{same-tests, connected-reflexive}
+use Rattle.permutations.proofs.Relation.{same-tests}
 use Rattle.permutations.proofs.Search.{some-from, some-witness}
 use Rattle.permutations.proofs.Orbits.{orbit-equivalence}
 use Rattle.multigraph.specs.Graph.{Multigraph, IsGraph, edge_count, is_end, other_end}
-use Rattle.graph_theory.specs.Joined.{ends_where, joined_where}
+use Rattle.graph_theory.specs.Joined.{joined_where}
 use Rattle.graph_theory.specs.Triconnected.{IsTriconnected}
 use Rattle.graph_theory.proofs.Removed.{closed-without}
 use Rattle.dart_maps.specs.Map.{twin, face, same_face}
@@ -18,18 +18,10 @@ use Rattle.faces.proofs.DartLemmas.{dart-edge, tail-end, dart_from-below, dart_f
 use Rattle.faces.proofs.MapSteps.{tail-in, tail-twin}
 use Rattle.path_separation.specs.Drawn.{is_on, passes}
 use Rattle.path_separation.proofs.DrawnMap.{IsDrawnMap, CornerOn, corner-passes, passes-corner, passes-same, dart-on, drawn-twin, next-drawn, corners-apart}
-use Rattle.path_separation.specs.Feet.{is_free, touches, IsAttached, FitsCorner, FitsTwo, IsFoot}
-use Rattle.path_separation.proofs.Feet.{none-of_two, two-none, dart_from-arrives, arrives-elsewhere, one-edge, one-dart, free-joined, touches-from, touches-joined, touches-next, head-attached, touch-attached, touching-foot}
+use Rattle.path_separation.specs.Feet.{is_free, touches, FitsCorner, IsFoot}
+use Rattle.path_separation.proofs.Feet.{FitsTwo, none-of_two, two-none, dart_from-arrives, arrives-elsewhere, one-edge, one-dart, free-joined, touches-joined, touches-next, touches-tail, head-attached, touch-attached, touching-foot}
+use Rattle.path_separation.proofs.Bridges.{AtBridge, fits-through}
 use Rattle.path_separation.proofs.Cut.{IsCut}
-
--- z is the tail of the foot t or one of its attachments
-abbrev pub AtBridge : Multigraph → (ℕ → Bool) → ℕ → ℕ → Type 0
-AtBridge g drawn t z = (z ≡ tail g t) ⊎ IsAttached g drawn t z
-
--- the face of an admissible corner passes the tail of the foot and its attachments
-pub fits-through : (g : Multigraph) (drawn : ℕ → Bool) (next : ℕ → ℕ) (t k : ℕ) → FitsCorner g drawn next t k → (z : ℕ) → AtBridge g drawn t z → passes g drawn next (twin k) z ≡ true
-fits-through g drawn next t k a z (inl q) = corner-passes g drawn next (twin k) z (k, a.below, a.in_map, a.starts ∙ sym q, (orbit-equivalence (dart_count g) (face next)).reflexive (twin k))
-fits-through g drawn next t k a z (inr w) = a.fits z w
 
 -- a cut between the faces of c and d, corners of one vertex, where each foot fits two corners
 module _ (g : Multigraph) (ok : IsGraph g) (tri : IsTriconnected g) (drawn : ℕ → Bool) (next previous : ℕ → ℕ) (s : IsDrawnMap g drawn next previous)
@@ -216,14 +208,7 @@ module _ (g : Multigraph) (ok : IsGraph g) (tri : IsTriconnected g) (drawn : ℕ
       ]
 
       to-off : drawn (t / 2) ≡ false → on p ≡ true → on q ≡ false → inside q ≡ true
-      to-off u i j = inside-off q j ∙ touched-from q (
-        p,
-        tail-in g t ok l,
-        i,
-        touches-from g ok drawn q p (t / 2, dart-edge g t l, tail-end g t, ap on across ∙ j, subst (λ z. joined_where g (is_free g drawn) q z ≡ true) (sym across) (connected-reflexive (ends_where g (is_free g drawn)) q)),
-        not-common (p-side i),
-        p-side i,
-      )
+      to-off u i j = inside-off q j ∙ touched-from q (p, tail-in g t ok l, i, touches-tail g ok drawn t l j, not-common (p-side i), p-side i)
 
       from-off : drawn (t / 2) ≡ false → on p ≡ false → on q ≡ true → inside q ≡ true
       from-off u i j =

@@ -33,10 +33,6 @@ pub record FitsCorner (g : Multigraph) (drawn : ℕ → Bool) (next : ℕ → �
   pub starts : tail g c ≡ tail g t
   pub fits : (z : ℕ) → IsAttached g drawn t z → passes g drawn next (twin c) z ≡ true
 
--- the foot t fits two corners at least
-pub record FitsTwo (g : Multigraph) (drawn : ℕ → Bool) (next : ℕ → ℕ) (t : ℕ) : Type 0 where
-  pub first : ℕ
-  pub second : ℕ
-  pub first_fits : FitsCorner g drawn next t first
-  pub second_fits : FitsCorner g drawn next t second
-  pub different : first ≢ second
+-- two feet are of one bridge: they are the darts of one edge, or free edges join their heads, which have no drawn edge
+abbrev pub OfOneBridge : Multigraph → (ℕ → Bool) → ℕ → ℕ → Type 0
+OfOneBridge g drawn t u = (u ≡ twin t) ⊎ ((is_on g drawn (tail g (twin t)) ≡ false) × (is_on g drawn (tail g (twin u)) ≡ false) × (joined_where g (is_free g drawn) (tail g (twin t)) (tail g (twin u)) ≡ true))

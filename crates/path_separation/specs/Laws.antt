@@ -5,9 +5,10 @@ use Rattle.multigraph.specs.Graph.{Multigraph, IsGraph, edge_count, other_end}
 use Rattle.graph_theory.specs.Triconnected.{IsTriconnected}
 use Rattle.dart_maps.specs.Map.{twin, same_face}
 use Rattle.dart_maps.specs.Path.{path_inserted}
-use Rattle.faces.specs.Euler.{dart_from, dart_count}
+use Rattle.faces.specs.Euler.{dart_from, dart_count, IsPlaneSystem}
+use Rattle.faces.specs.Maps.{dart_after}
 use Rattle.path_separation.specs.Drawn.{IsDrawing, IsPathOff, IsDrawnAt, darts_along}
-use Rattle.path_separation.specs.Feet.{IsFoot, FitsTwo}
+use Rattle.path_separation.specs.Feet.{IsFoot, FitsCorner, OfOneBridge}
 
 -- one edge is a drawing
 abbrev pub EdgesAreDrawings : Type 0
@@ -20,8 +21,20 @@ PathsKeepDrawings = (g : Multigraph) → IsGraph g → (drawn more : ℕ → Boo
     → (c k : ℕ) → IsDrawnAt g drawn x c → IsDrawnAt g drawn z k → same_face (edge_count g) next (twin c) (twin k) ≡ true
     → (back : ℕ → ℕ) × IsDrawing g more (path_inserted c (dart_from g x e) (darts_along g (other_end g e x) es) k next) back
 
--- a drawing of some edges of a triconnected graph, three of them at one vertex, but not of all: not each foot fits two corners
+-- a drawing of all edges is a plane rotation system
+abbrev pub FinishedDrawings : Type 0
+FinishedDrawings = (g : Multigraph) → IsGraph g → (drawn : ℕ → Bool) (next previous : ℕ → ℕ) → IsDrawing g drawn next previous → ((e : ℕ) → e < edge_count g → drawn e ≡ true)
+    → (r : List (List ℕ)) × IsPlaneSystem g r × ((d : ℕ) → d < dart_count g → dart_after g r d ≡ next d)
+
+-- where a foot fits a corner, each foot of its bridge fits one on the same face
+abbrev pub BridgesFitAlike : Type 0
+BridgesFitAlike = (g : Multigraph) → IsGraph g → (drawn : ℕ → Bool) (next previous : ℕ → ℕ) → IsDrawing g drawn next previous
+    → (t u c : ℕ) → IsFoot g drawn t → IsFoot g drawn u → OfOneBridge g drawn t u → FitsCorner g drawn next t c
+    → (k : ℕ) × FitsCorner g drawn next u k × (same_face (edge_count g) next (twin c) (twin k) ≡ true)
+
+-- a drawing of some edges of a triconnected graph, three of them at one vertex, but not of all: some foot fits at most one
+-- corner
 abbrev pub SomeFootIsForced : Type 0
 SomeFootIsForced = (g : Multigraph) → IsGraph g → IsTriconnected g → (drawn : ℕ → Bool) (next previous : ℕ → ℕ) → IsDrawing g drawn next previous
     → (d e : ℕ) → d < dart_count g → drawn (d / 2) ≡ true → next (next d) ≢ d → e < edge_count g → drawn e ≡ false
-    → ((t : ℕ) → IsFoot g drawn t → FitsTwo g drawn next t) → ⊥
+    → (t : ℕ) × IsFoot g drawn t × ((c k : ℕ) → FitsCorner g drawn next t c → FitsCorner g drawn next t k → c ≡ k)

@@ -6,8 +6,8 @@
 // attachments are the other such vertices to which a path leads that begins with it and has none inside (they are those of a
 // bridge, Tutte 1959). The foot fits a corner of its vertex if the face there passes all attachments: a path from the foot to
 // one of them can be drawn there. The theorem: in a triconnected graph, with three drawn edges at some vertex and some edge
-// undrawn, not each foot fits two corners. So who draws only where one corner is left, and stops where none is, is never
-// without a next step there.
+// undrawn, some foot fits at most one corner. So who draws only where one corner is left, and stops where none is, is never
+// without a next step there; and one foot of each bridge is enough to look at, as all of a bridge fit corners on the same faces.
 //
 // Suppose each foot fits two corners. The two are on different faces, since no face passes a vertex twice. Take a foot, the two
 // faces, and the vertices that both pass: its tail and its attachments are among them. At one of these, x, the corners of the
@@ -26,23 +26,28 @@
 //   Uncut       drawn-map: where no vertex cuts the drawn edges, no face passes a vertex twice
 //   UncutPath   path-uncut: a path more, and no vertex cuts
 //   MapPath     path-map, path-plane, along-new: a path inserted into the map of some darts
-//   Drawings    edge-drawing, path-drawing
+//   Drawings    edge-drawing, path-drawing, finished-drawing
 //   Fork        fork: x, and its corners
 //   Cut         cut-between: y, and the map in two parts
+//   Bridges     one-bridge, bridge-fits: feet of one bridge
+//   Decided     some-lone: whether a foot fits two corners, as a test
 //   Sides       falls-apart: the sides of all vertices
 //   Separation  some-foot_is_forced: the theorem
 #![tactic(auto)]
 
-ghost use Rattle.path_separation.specs.Laws.{EdgesAreDrawings, PathsKeepDrawings, SomeFootIsForced};
+ghost use Rattle.path_separation.specs.Laws.{BridgesFitAlike, EdgesAreDrawings, FinishedDrawings, PathsKeepDrawings, SomeFootIsForced};
 
-/// The laws that one edge is a drawing, and that a drawing stays one when a path is drawn between two corners of one face.
+/// The laws that one edge is a drawing, that a drawing stays one when a path is drawn between two corners of one face, and that
+/// a drawing of all edges is a plane rotation system.
 pub fn drawings_are_kept()
     ensures edge { EdgesAreDrawings }
     ensures path { PathsKeepDrawings }
+    ensures all_edges { FinishedDrawings }
 {}
 
-/// The law that in a triconnected graph, in a drawing of some edges, three of them at one vertex, but not of all, not each foot
-/// fits two corners.
-pub fn some_foot_is_forced()
-    ensures { SomeFootIsForced }
+/// The laws that feet of one bridge fit corners on the same faces; and that in a triconnected graph, in a drawing of some edges,
+/// three of them at one vertex, but not of all, some foot fits at most one corner.
+pub fn feet_fit_corners()
+    ensures of_one_bridge { BridgesFitAlike }
+    ensures at_most_one { SomeFootIsForced }
 {}
