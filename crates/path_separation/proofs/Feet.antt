@@ -127,8 +127,13 @@ module _ (g : Multigraph) (ok : IsGraph g) (drawn : ℕ → Bool) where
   pub touches-tail : (t : ℕ) → t < dart_count g → is_on g drawn (tail g (twin t)) ≡ false → touches g drawn (tail g (twin t)) (tail g t) ≡ true
   touches-tail t l f =
       let across : other_end g (t / 2) (tail g t) ≡ tail g (twin t) = sym (tail-twin g t ok l) in
-      touches-from (tail g (twin t)) (tail g t) (t / 2, dart-edge g t l, tail-end g t, ap (is_on g drawn) across ∙ f,
-      subst (λ z. joined_where g (is_free g drawn) (tail g (twin t)) z ≡ true) (sym across) (connected-reflexive (ends_where g (is_free g drawn)) (tail g (twin t))))
+      touches-from (tail g (twin t)) (tail g t) (
+        t / 2,
+        dart-edge g t l,
+        tail-end g t,
+        ap (is_on g drawn) across ∙ f,
+        subst (λ z. joined_where g (is_free g drawn) (tail g (twin t)) z ≡ true) (sym across) (connected-reflexive (ends_where g (is_free g drawn)) (tail g (twin t))),
+      )
 
   -- the attachments of a foot: its head, or what its head touches
   pub head-attached : (t : ℕ) → t < dart_count g → is_on g drawn (tail g (twin t)) ≡ true → IsAttached g drawn t (tail g (twin t))

@@ -4,6 +4,7 @@ pub mod Feet
 pub mod Uncut
 pub mod UncutPath
 pub mod MapPath
+pub mod OtherFaces
 pub mod Drawings
 pub mod Bridges
 pub mod Decided

@@ -2,12 +2,13 @@
 use Rattle.std.specs.Prelude.{◌≡◌, ◌≢◌, ℕ, ◌/◌, ◌<◌, Bool, true, false, ◌||◌, ◌==◌, List, ◌∷◌}
 use Rattle.permutations.specs.Members.{is_member}
 use Rattle.multigraph.specs.Graph.{Multigraph, IsGraph, edge_count, other_end}
+use Rattle.graph_theory.specs.Path.{IsWalk}
 use Rattle.graph_theory.specs.Triconnected.{IsTriconnected}
 use Rattle.dart_maps.specs.Map.{twin, same_face}
 use Rattle.dart_maps.specs.Path.{path_inserted}
 use Rattle.faces.specs.Euler.{dart_from, dart_count, IsPlaneSystem}
 use Rattle.faces.specs.Maps.{dart_after}
-use Rattle.path_separation.specs.Drawn.{IsDrawing, IsPathOff, IsDrawnAt, darts_along}
+use Rattle.path_separation.specs.Drawn.{IsMapOfDrawn, IsDrawing, IsPathOff, IsDrawnAt, darts_along}
 use Rattle.path_separation.specs.Feet.{IsFoot, FitsCorner, OfOneBridge}
 
 -- one edge is a drawing
@@ -20,6 +21,14 @@ PathsKeepDrawings = (g : Multigraph) → IsGraph g → (drawn more : ℕ → Boo
     → (x z e : ℕ) (es : List ℕ) → IsPathOff g drawn x (e ∷ es) z → ((f : ℕ) → more f ≡ (drawn f || is_member f (e ∷ es)))
     → (c k : ℕ) → IsDrawnAt g drawn x c → IsDrawnAt g drawn z k → same_face (edge_count g) next (twin c) (twin k) ≡ true
     → (back : ℕ → ℕ) × IsDrawing g more (path_inserted c (dart_from g x e) (darts_along g (other_end g e x) es) k next) back
+
+-- of the faces of drawn darts the path splits that one alone: all others stay
+abbrev pub OtherFacesStay : Type 0
+OtherFacesStay = (g : Multigraph) → IsGraph g → (drawn : ℕ → Bool) (next previous : ℕ → ℕ) → IsMapOfDrawn g drawn next previous
+    → (x e : ℕ) (es : List ℕ) → IsWalk g x (e ∷ es) → ((f : ℕ) → is_member f (e ∷ es) ≡ true → drawn f ≡ false)
+    → (c k : ℕ) → c < dart_count g → k < dart_count g → same_face (edge_count g) next (twin c) (twin k) ≡ true
+    → (a : ℕ) → a < dart_count g → drawn (a / 2) ≡ true → same_face (edge_count g) next (twin c) a ≡ false
+    → (b : ℕ) → same_face (edge_count g) (path_inserted c (dart_from g x e) (darts_along g (other_end g e x) es) k next) a b ≡ same_face (edge_count g) next a b
 
 -- a drawing of all edges is a plane rotation system
 abbrev pub FinishedDrawings : Type 0

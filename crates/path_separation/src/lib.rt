@@ -26,6 +26,7 @@
 //   Uncut       drawn-map: where no vertex cuts the drawn edges, no face passes a vertex twice
 //   UncutPath   path-uncut: a path more, and no vertex cuts
 //   MapPath     path-map, path-plane, along-new: a path inserted into the map of some darts
+//   OtherFaces  path-away: the faces that a path is not drawn into
 //   Drawings    edge-drawing, path-drawing, finished-drawing
 //   Fork        fork: x, and its corners
 //   Cut         cut-between: y, and the map in two parts
@@ -35,13 +36,14 @@
 //   Separation  some-foot_is_forced: the theorem
 #![tactic(auto)]
 
-ghost use Rattle.path_separation.specs.Laws.{BridgesFitAlike, EdgesAreDrawings, FinishedDrawings, PathsKeepDrawings, SomeFootIsForced};
+ghost use Rattle.path_separation.specs.Laws.{BridgesFitAlike, EdgesAreDrawings, FinishedDrawings, OtherFacesStay, PathsKeepDrawings, SomeFootIsForced};
 
-/// The laws that one edge is a drawing, that a drawing stays one when a path is drawn between two corners of one face, and that
-/// a drawing of all edges is a plane rotation system.
+/// The laws that one edge is a drawing, that a drawing stays one when a path is drawn between two corners of one face, that all
+/// other faces of drawn edges stay then, and that a drawing of all edges is a plane rotation system.
 pub fn drawings_are_kept()
     ensures edge { EdgesAreDrawings }
     ensures path { PathsKeepDrawings }
+    ensures other_faces { OtherFacesStay }
     ensures all_edges { FinishedDrawings }
 {}
 
