@@ -40,6 +40,11 @@ same-order : (a b c d : ℕ) → a < b → c < d → SameEnds (a, b) (c, d) → 
 same-order a b c d l m (inl e) = e
 same-order a b c d l m (inr e) = absurd (omega (arith, l, m, e.0, e.1))
 
+-- of a pair of darts the first is of an item of one node that is a link to another, the second of the link back
+abbrev pub AreOfLink : Multigraph → List Node → ℕ × ℕ → Type 0
+AreOfLink g nodes link = (k j i h : ℕ) × (link.0 ≡ coded (edge_count g) k (2 * i)) × (link.1 ≡ coded (edge_count g) j (2 * h))
+    × (k < length nodes) × (j < length nodes) × (i < length (node_at nodes k).items) × (h < length (node_at nodes j).items) × ((node_item nodes k i).what ≡ Link j) × ((node_item nodes j h).what ≡ Link k)
+
 -- a rotation system of a block, with the tree of the block and a family
 module _ (g : Multigraph) (nodes : List Node) (b : IsBlockTree g nodes) (family : List (List (List ℕ))) (systems : AreSkeletonSystems nodes family) (r : List (List ℕ)) (system : IsRotationSystem g r) where
   -- the tree
@@ -57,6 +62,7 @@ module _ (g : Multigraph) (nodes : List Node) (b : IsBlockTree g nodes) (family 
     pub only : (k z : ℕ) → k < length nodes → z / 2 < length (node_at nodes k).items → is_used links (coded (edge_count g) k z) ≡ true → (j : ℕ) × ((node_item nodes k (z / 2)).what ≡ Link j) × IsBelow n k j
     pub all : (k i j : ℕ) → k < length nodes → i < length (node_at nodes k).items → (node_item nodes k i).what ≡ Link j → IsBelow n k j → is_used links (coded (edge_count g) k (2 * i)) ≡ true
     pub parents : All (λ link. (c : ℕ) × (c < n) × (c ≢ tree.root) × (part_of (edge_count g) link.0 ≡ c) × (part_of (edge_count g) link.1 ≡ tree.parent c)) links
+    pub pairs : All (AreOfLink g nodes) links
 
   -- a node and its parent
   module _ (n : ℕ) (l : n < length nodes) (no_root : n ≢ tree.root) (s : Built n) where
@@ -258,6 +264,7 @@ module _ (g : Multigraph) (nodes : List Node) (b : IsBlockTree g nodes) (family 
       only = next-only;
       all = next-all;
       parents = next-parents;
+      pairs = All-cons (AreOfLink g nodes) (d, e) s.links (n, p, up.0, down.0, refl, refl, l, lp, mine.0, theirs.0, mine.1, theirs.1) s.pairs;
     }
 
   -- all links
@@ -268,6 +275,7 @@ module _ (g : Multigraph) (nodes : List Node) (b : IsBlockTree g nodes) (family 
     only = λ k z lk mz t. absurd (both_ways false refl t);
     all = λ k i j lk mi w o. elim o [ inl i ↦ absurd (omega (arith, i.2)) | inr i ↦ absurd (omega (arith, i.2)) ];
     parents = All-nil (λ (link : ℕ × ℕ). (c : ℕ) × (c < zero) × (c ≢ tree.root) × (part_of (edge_count g) link.0 ≡ c) × (part_of (edge_count g) link.1 ≡ tree.parent c));
+    pairs = All-nil (AreOfLink g nodes);
   }
   built (suc n) l = elim (cases_eq n tree.root) [
     | inr q ↦ next-built n (omega (arith, l)) q (built n (omega (arith, l)))
@@ -280,6 +288,7 @@ module _ (g : Multigraph) (nodes : List Node) (b : IsBlockTree g nodes) (family 
         | inr i ↦ inr (i.0, i.1, no-last n j i.2 (λ e. i.0 (e ∙ q)))
       ]);
       parents = All-weaker (λ (link : ℕ × ℕ). (c : ℕ) × (c < n) × (c ≢ tree.root) × (part_of (edge_count g) link.0 ≡ c) × (part_of (edge_count g) link.1 ≡ tree.parent c)) (λ (link : ℕ × ℕ). (c : ℕ) × (c < suc n) × (c ≢ tree.root) × (part_of (edge_count g) link.0 ≡ c) × (part_of (edge_count g) link.1 ≡ tree.parent c)) (λ link w. (w.0, omega (arith, w.1), w.2, w.3, w.4)) s.links s.parents;
+      pairs = s.pairs;
     }
   ]
     where
