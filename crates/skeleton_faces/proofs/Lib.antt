@@ -7,3 +7,5 @@ pub mod TwoFaces
 pub mod BlockFaces
 pub mod InSkeletons
 pub mod NoLonger
+pub mod EachFamily
+pub mod Every

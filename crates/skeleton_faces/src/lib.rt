@@ -7,7 +7,9 @@
 //
 // Each item of a skeleton has a weight, an edge of the block one. If at first no face of a dart of a link weighs more than the
 // link and the link back, gluing adds to no face: the two faces that become one have at most the weight of the two darts that
-// go, each. So no face of the block is longer than the heaviest face of the skeletons (`faces_are_no_longer`).
+// go, each. So no face of the block is longer than the heaviest face of the skeletons (`faces_are_no_longer`). That bounds the
+// faces of every plane rotation system: a triconnected skeleton has two, with the same faces, a polygon and a small node one, and
+// in a bond each face is a pair of items.
 //
 // The lemmas (module of proofs/ in front):
 //   FaceSums     face_sum: the sum of weights over a face; sum_of-two: a sum over two tests, with a number left out of each
@@ -16,13 +18,17 @@
 //   Meeting      meet: faces of parts that are joined along links become one; left-weight: what it weighs
 //   TwoFaces     two-faces: an edge of a plane map that is no bridge lies on two faces
 //   BlockFaces   numbered-face, face-at_most, face-at_least: the faces of the block are those of the glued map
-//   InSkeletons  skeleton-face, skeleton-sum: the faces of the skeletons in the map of them all
+//   EachFamily   mirror-weight, bond-weight: the faces of the skeletons in all their plane rotation systems
+//   NoLonger     no-longer_than: the laws
+//   InSkeletons  skeleton-inside, skeleton-sum: the faces of the skeletons in the map of them all
 #![tactic(auto)]
 
-ghost use Rattle.skeleton_faces.specs.Laws.{FacesAreNoLonger};
+ghost use Rattle.skeleton_faces.specs.Laws.{FacesAreNoLonger, NoSystemHasLonger};
 
 /// The law that no face of a plane rotation system of a block is longer than the heaviest face of its skeletons, where edges
-/// weigh one and the links so much that no face of a dart of a link weighs more than the link and the link back.
+/// weigh one and the links so much that no face of a dart of a link weighs more than the link and the link back; and that this
+/// bounds the faces of every plane rotation system of the block where it does for one, with bonds bounded by pairs of items.
 pub fn faces_are_no_longer()
-    ensures { FacesAreNoLonger }
+    ensures following { FacesAreNoLonger }
+    ensures every { NoSystemHasLonger }
 {}

@@ -155,7 +155,7 @@ module _ (g : Multigraph) (nodes : List Node) (b : IsBlockTree g nodes) (k : ℕ
   greater-in = subst (λ p. p < graph.vertex_count) (tail-place g nodes b k l 1 some-item) (tail-in graph 1 ok (item-dart g nodes b k l 1 some-item))
 
   -- they differ
-  places-differ : greater_place ≡ lesser_place → ⊥
+  pub places-differ : place_of (node_at nodes k).vertices (node_item nodes k 0).b ≡ place_of (node_at nodes k).vertices (node_item nodes k 0).a → ⊥
   places-differ e = omega (arith, differ, same-end_of g nodes b k l 1 0 some-item some-item (tail-place g nodes b k l 1 some-item ∙ e ∙ sym (tail-place g nodes b k l 0 some-item)))
 
   -- each item stands at both
@@ -293,6 +293,10 @@ module _ (g : Multigraph) (nodes : List Node) (b : IsBlockTree g nodes) (k : ℕ
           | inr p ↦ let w = face-odd z (dart-item g nodes b k l z n) p in same-halves (face step (face step z)) z (w.0 ∙ behind (successor first (z / 2)) ∙ predecessor-successor first (z / 2) first-distinct) (w.1 ∙ sym p)
         ]
 
+    -- two steps along a face of a plane one lead back
+    pub plane-back : IsPlane (skeleton_graph nodes k) s → (z : ℕ) → z < 2 * edge_count (skeleton_graph nodes k) → face (dart_after (skeleton_graph nodes k) s) (face (dart_after (skeleton_graph nodes k) s) z) ≡ z
+    plane-back p = bond-plane-back (edge_count graph) step (dart_before graph s) (skeleton-map g nodes b k l s system) some-edge even even-twin even-step even-vertex (plane-map graph s ok system p)
+
     -- and only there
     pub plane-reversed : IsPlane (skeleton_graph nodes k) s → order_at s (place_of (node_at nodes k).vertices (node_item nodes k 0).b) ≡ from_least (reverse (order_at s (place_of (node_at nodes k).vertices (node_item nodes k 0).a)))
     plane-reversed p = same-lists second (from_least (reverse first)) second-distinct (from_least-distinct (reverse first) (distinct-reverse first first-distinct))
@@ -302,15 +306,12 @@ module _ (g : Multigraph) (nodes : List Node) (b : IsBlockTree g nodes) (k : ℕ
         members : (x : ℕ) → is_member x second ≡ is_member x (from_least (reverse first))
         members x = same-members x ∙ sym (from_least-member (reverse first) x ∙ member-reverse x first)
 
-        back : (z : ℕ) → z < 2 * edge_count (skeleton_graph nodes k) → face step (face step z) ≡ z
-        back = bond-plane-back (edge_count graph) step (dart_before graph s) (skeleton-map g nodes b k l s system) some-edge even even-twin even-step even-vertex (plane-map graph s ok system p)
-
         half : (i : ℕ) → (2 * i) / 2 ≡ i
         half i = omega arith
 
         whole : (i : ℕ) → i < number → successor first (successor second i) ≡ i
         whole i m = let mi : (2 * i) / 2 < number = subst (λ n. n < number) (sym (half i)) m in
-            ap (λ n. successor first (successor second n)) (sym (half i)) ∙ sym (face-even (2 * i) mi (omega arith)).0 ∙ ap (λ x. x / 2) (back (2 * i) (item-dart g nodes b k l (2 * i) mi)) ∙ half i
+            ap (λ n. successor first (successor second n)) (sym (half i)) ∙ sym (face-even (2 * i) mi (omega arith)).0 ∙ ap (λ x. x / 2) (plane-back p (2 * i) (item-dart g nodes b k l (2 * i) mi)) ∙ half i
 
         behind : (x : ℕ) → successor second x ≡ successor (from_least (reverse first)) x
         behind x = elim (cases_Bool (is_member x second)) [
