@@ -1,9 +1,10 @@
 #!/usr/bin/env python3
 """large.py PROGRAM [NAME ..]: times the head of large graphs of many kinds, and a session of 1,000 mixed commands.
 
-For each kind a graph of half the size and of the whole size (20,000 vertices or 50,000 edges), planar, and where the kind has one the
-same with an edge more that crosses. A row has vertices and edges, seconds of reading the file alone (with a loop after its edges, for which it is refused),
-seconds of the head, how much longer it took than at half the size, peak memory in MiB, and the last line: best of three runs."""
+For each kind a graph of half the size and of the whole size (20,000 vertices or 50,000 edges), planar, and for some kinds the same with
+two to four edges more that cross. A row has vertices and edges, seconds of reading the file alone (with a loop after its edges, for
+which it is refused), seconds of the head, how much longer it took than at half the size, peak memory in MiB, and the last line: best of
+three runs."""
 import os
 import random
 import subprocess

@@ -162,7 +162,7 @@ def whole_lists(report: Report, shown: Optional[dict[int, Lists]] = None) -> Lis
 
 
 def embed(graph: Union[bytes, nx.Graph], program: Optional[str] = None) -> tuple[Report, Lists]:
-    """A rotation system of the whole graph: each block at the first of its list. Fails with NotPlanar where none exists."""
+    """A rotation system of the whole graph: each block as it starts. Fails with NotPlanar where none exists."""
     data = graph if isinstance(graph, bytes) else gml_of(graph)
     head = run(data, b"", program)
     for block in head.blocks:
