@@ -95,11 +95,11 @@ module _ (k : ℕ) (inner : ℕ → ℕ) (m : ℕ) (outer : ℕ → ℕ) (live :
   pub inside-sum : (w v : ℕ → ℕ) → ((x : ℕ) → x < 2 * k → w x ≡ v (into x)) → (y : ℕ) → y < 2 * k → face_sum k inner w y ≡ face_sum m outer v (into y)
   inside-sum w v same y l = both
       (sum_of-injection (2 * k) (2 * m) (same_face k inner y) (same_face m outer (into y)) w v into (λ x i t. z.darts x i) (λ x i t. sym (numbered-face y x l i) ∙ t)
-          (λ x i t. subst (λ n. w x ≤ n) (same x i) (omega arith)) (λ u x i j s t q. sym (z.back_into u i) ∙ ap back q ∙ z.back_into x j))
+      (λ x i t. subst (λ n. w x ≤ n) (same x i) (omega arith)) (λ u x i j s t q. sym (z.back_into u i) ∙ ap back q ∙ z.back_into x j))
       (sum_of-injection (2 * m) (2 * k) (same_face m outer (into y)) (same_face k inner y) v w back (λ x i t. z.darts_back x i (alive x t))
-          (λ x i t. numbered-face y (back x) l (z.darts_back x i (alive x t)) ∙ ap (same_face m outer (into y)) (z.into_back x i (alive x t)) ∙ t)
-          (λ x i t. subst (λ n. n ≤ w (back x)) (same (back x) (z.darts_back x i (alive x t)) ∙ ap v (z.into_back x i (alive x t))) (omega arith))
-          (λ u x i j s t q. sym (z.into_back u i (alive u s)) ∙ ap into q ∙ z.into_back x j (alive x t)))
+      (λ x i t. numbered-face y (back x) l (z.darts_back x i (alive x t)) ∙ ap (same_face m outer (into y)) (z.into_back x i (alive x t)) ∙ t)
+      (λ x i t. subst (λ n. n ≤ w (back x)) (same (back x) (z.darts_back x i (alive x t)) ∙ ap v (z.into_back x i (alive x t))) (omega arith))
+      (λ u x i j s t q. sym (z.into_back u i (alive u s)) ∙ ap into q ∙ z.into_back x j (alive x t)))
     where
       alive : (x : ℕ) → same_face m outer (into y) x ≡ true → live x ≡ true
       alive x t = sym (face-lives (into y) x t) ∙ z.lives y l
@@ -143,7 +143,7 @@ module _ (k : ℕ) (inner : ℕ → ℕ) (m : ℕ) (outer : ℕ → ℕ) (live :
       few = count-injection (2 * m) (2 * k) there (same_face k inner y) back
           (λ x i t. z.darts_back x i (and_parts (s x) (live x) t).1)
           (λ x i t. let p = and_parts (s x) (live x) t in numbered-face k inner m outer live into back z y (back x) l (z.darts_back x i p.1)
-              ∙ ap (same_face m outer (into y)) (z.into_back x i p.1) ∙ on_face x i p.0 p.1)
+          ∙ ap (same_face m outer (into y)) (z.into_back x i p.1) ∙ on_face x i p.0 p.1)
           (λ u v i j p q e. sym (z.into_back u i (and_parts (s u) (live u) p).1) ∙ ap into e ∙ z.into_back v j (and_parts (s v) (live v) q).1)
 
       counted : count (2 * m) there ≡ sum_below (2 * m) (λ x. cond (there x) 1 0)

@@ -48,15 +48,15 @@ back-face m f g b x y = same-tests (same_face m g x y) (same_face m f (twin x) (
     forth : (f g : ℕ → ℕ) → IsMap m f g → (x y : ℕ) → same_face m g x y ≡ true → same_face m f (twin x) (twin y) ≡ true
     forth f g b = orbit-least (2 * m) (face g) (λ u v. same_face m f (twin u) (twin v)) (equivalence-through (same_face m f) twin (orbit-equivalence (2 * m) (face f)))
         (λ d l. let n : g (twin d) < 2 * m = b.back (twin d) (twin-below m d l) in
-            (orbit-equivalence (2 * m) (face f)).symmetric (twin (g (twin d))) (twin d)
-            (subst (λ z. same_face m f (twin (g (twin d))) z ≡ true) (ap f (twin-twin (g (twin d))) ∙ b.forth_back (twin d) (twin-below m d l)) (orbit-step (2 * m) (face f) (twin (g (twin d))) (twin-below m (g (twin d)) n))))
+        (orbit-equivalence (2 * m) (face f)).symmetric (twin (g (twin d))) (twin d)
+        (subst (λ z. same_face m f (twin (g (twin d))) z ≡ true) (ap f (twin-twin (g (twin d))) ∙ b.forth_back (twin d) (twin-below m d l)) (orbit-step (2 * m) (face f) (twin (g (twin d))) (twin-below m (g (twin d)) n))))
 
 -- so the mirror image has the same weights
 pub mirror-weight : (g : Multigraph) (r : List (List ℕ)) → IsGraph g → IsRotationSystem g r → (w : ℕ → ℕ) (d : ℕ) → face_weight g (mirror_image r) w d ≡ face_weight g r w (twin d)
 mirror-weight g r ok system w d = both
     (sum_of-injection (2 * edge_count g) (2 * edge_count g) there here (λ y. w (y / 2)) (λ y. w (y / 2)) twin (λ y l t. twin-below (edge_count g) y l) (λ y l t. sym (same y) ∙ t) (λ y l t. level y) (λ u v l k s t q. sym (twin-twin u) ∙ ap twin q ∙ twin-twin v))
     (sum_of-injection (2 * edge_count g) (2 * edge_count g) here there (λ y. w (y / 2)) (λ y. w (y / 2)) twin (λ y l t. twin-below (edge_count g) y l)
-        (λ y l t. same (twin y) ∙ ap (same_face (edge_count g) (dart_after g r) (twin d)) (twin-twin y) ∙ t) (λ y l t. level y) (λ u v l k s t q. sym (twin-twin u) ∙ ap twin q ∙ twin-twin v))
+    (λ y l t. same (twin y) ∙ ap (same_face (edge_count g) (dart_after g r) (twin d)) (twin-twin y) ∙ t) (λ y l t. level y) (λ u v l k s t q. sym (twin-twin u) ∙ ap twin q ∙ twin-twin v))
   where
     there : ℕ → Bool
     there = same_face (edge_count g) (dart_after g (mirror_image r)) d
@@ -75,7 +75,7 @@ mirror-weight g r ok system w d = both
     both p q = omega (arith, p, q)
 
 -- the sum over one number
-sum_of-single : (n p : ℕ) (w : ℕ → ℕ) → p < n → sum_of n (λ y. y == p) w ≡ w p
+pub sum_of-single : (n p : ℕ) (w : ℕ → ℕ) → p < n → sum_of n (λ y. y == p) w ≡ w p
 sum_of-single n p w l = omega (arith, sum_of-one n (λ y. y == p) w p l (eq-eqb p p refl), none)
   where
     apart : (a : Bool) → (a && not a) ≡ false
@@ -180,7 +180,7 @@ module _ (g : Multigraph) (nodes : List Node) (b : IsBlockTree g nodes) (k : ℕ
         fixed y n t = fixed-orbit (2 * edge_count graph) step (dart_before graph s) map-of z y e (tail-vertex graph s (skeleton-graph g nodes b k l) system z y (fits z m) n t)
 
     -- the other item of a dart's face
-    abbrev partner : ℕ → ℕ
+    abbrev pub partner : ℕ → ℕ
     partner z = dart_after (skeleton_graph nodes k) s (twin z) / 2
 
     -- it is one
@@ -211,7 +211,7 @@ module _ (g : Multigraph) (nodes : List Node) (b : IsBlockTree g nodes) (k : ℕ
     bond-weight w z m = sum_of-pair (2 * edge_count graph) (same_face (edge_count graph) step z) (λ y. w (y / 2)) z (step (twin z)) (item-dart g nodes b k l z m)
         (map-of.forth (twin z) (twin-below (edge_count graph) z (item-dart g nodes b k l z m)))
         (λ y n t. pair-orbit (2 * edge_count graph) (face step) (λ d. twin (dart_before graph s d)) (face-permutes (edge_count graph) step (dart_before graph s) map-of) z y
-            (plane-back g nodes b k l poles s system plane z (item-dart g nodes b k l z m)) t)
+        (plane-back g nodes b k l poles s system plane z (item-dart g nodes b k l z m)) t)
 
 -- two plane rotation systems of a skeleton that is no bond: a face of the one weighs what one of the other does, on one of the two sides of
 -- the same edge

@@ -30,8 +30,7 @@ sum_of-more n s t w h = sum_below-le n (λ y. cond (s y) (w y) 0) (λ y. cond (t
 pub sum_of-one : (n : ℕ) (t : ℕ → Bool) (w : ℕ → ℕ) (p : ℕ) → p < n → t p ≡ true → sum_of n (λ y. t y && not (y == p)) w + w p ≡ sum_of n t w
 sum_of-one zero t w p l h = absurd (omega (arith, l))
 sum_of-one (suc n) t w p l h = elim (cases_eq n p) [
-  | inl i ↦ let before : sum_of n (λ y. t y && not (y == p)) w ≡ sum_of n t w = sum_of-ext n (λ y. t y && not (y == p)) t w (λ y k. rw (ne_eqb y p (λ q. less y n k (q ∙ sym i))) (plain (t y))) in
-      rw (eq-eqb n p i, before, i, h) (drop (sum_of n t w) (t p) (w p))
+  | inl i ↦ subst (λ (z : ℕ). sum_of (suc n) (λ y. t y && not (y == z)) w + w z ≡ sum_of (suc n) t w) i (last (ap t i ∙ h))
   | inr i ↦ let before : sum_of n (λ y. t y && not (y == p)) w + w p ≡ sum_of n t w = sum_of-one n t w p (omega (arith, l, i)) h in
       rw (ne_eqb n p i, plain (t n)) (omega (arith, before))
 ]
@@ -42,8 +41,9 @@ sum_of-one (suc n) t w p l h = elim (cases_eq n p) [
     less : (x y : ℕ) → x < y → x ≡ y → ⊥
     less x y l q = omega (arith, l, q)
 
-    drop : (a : ℕ) (x : Bool) (b : ℕ) → a + cond (x && false) b 0 + b ≡ a + b
-    drop a x b = grind (arith, cases_Bool x)
+    last : t n ≡ true → sum_of (suc n) (λ y. t y && not (y == n)) w + w n ≡ sum_of (suc n) t w
+    last k = let before : sum_of n (λ y. t y && not (y == n)) w ≡ sum_of n t w = sum_of-ext n (λ y. t y && not (y == n)) t w (λ y m. ap (λ (z : Bool). t y && not z) (ne_eqb y n (λ q. less y n m q)) ∙ plain (t y)) in
+        rw (eq-eqb n n refl, before, k) (omega arith)
 
 -- the sum over two tests is at least that over numbers that pass one of them
 pub sum_of-either : (n : ℕ) (s t u : ℕ → Bool) (w : ℕ → ℕ) → ((x : ℕ) → x < n → s x ≡ true → (t x ≡ true) ⊎ (u x ≡ true)) → sum_of n s w ≤ sum_of n t w + sum_of n u w
@@ -61,10 +61,10 @@ pub sum_of-two : (n : ℕ) (s t u : ℕ → Bool) (w : ℕ → ℕ) (p q : ℕ) 
     → ((x : ℕ) → x < n → s x ≡ true → ((t x ≡ true) ⊎ (u x ≡ true)) × (x ≢ p) × (x ≢ q)) → sum_of n s w + (w p + w q) ≤ sum_of n t w + sum_of n u w
 sum_of-two n s t u w p q lp lq hp hq h =
     let less : sum_of n s w ≤ sum_of n (λ y. t y && not (y == p)) w + sum_of n (λ y. u y && not (y == q)) w
-          = sum_of-either n s (λ y. t y && not (y == p)) (λ y. u y && not (y == q)) w (λ x l i. let c = h x l i in elim c.0 [
-            | inl k ↦ inl (and_from (t x) (not (x == p)) k (ap not (ne_eqb x p c.1)))
-            | inr k ↦ inr (and_from (u x) (not (x == q)) k (ap not (ne_eqb x q c.2)))
-          ]) in
+    = sum_of-either n s (λ y. t y && not (y == p)) (λ y. u y && not (y == q)) w (λ x l i. let c = h x l i in elim c.0 [
+      | inl k ↦ inl (and_from (t x) (not (x == p)) k (ap not (ne_eqb x p c.1)))
+      | inr k ↦ inr (and_from (u x) (not (x == q)) k (ap not (ne_eqb x q c.2)))
+    ]) in
     omega (arith, less, sum_of-one n t w p lp hp, sum_of-one n u w q lq hq)
 
 -- darts of one face have one sum
@@ -77,10 +77,13 @@ face_sum-one m f w x y t = sum_of-ext (2 * m) (same_face m f x) (same_face m f y
 pub sum_of-take : (n : ℕ) (t : ℕ → Bool) (w : ℕ → ℕ) (p : ℕ) → p < n → sum_of n (λ y. t y && not (y == p)) w + cond (t p) (w p) 0 ≡ sum_of n t w
 sum_of-take n t w p l = elim (cases_Bool (t p)) [
   | inl i ↦ rw i (sum_of-one n t w p l i)
-  | inr i ↦ rw i (omega (arith, sum_of-ext n (λ y. t y && not (y == p)) t w (λ y k. elim (cases_eq y p) [
-    | inl q ↦ ap (λ (z : ℕ). t z && not (y == p)) q ∙ ap (λ (z : Bool). z && not (y == p)) i ∙ sym (ap t q ∙ i)
-    | inr q ↦ rw (ne_eqb y p q) (plain (t y))
-  ])))
+  | inr i ↦ rw i (omega (
+    arith,
+    sum_of-ext n (λ y. t y && not (y == p)) t w (λ y k. elim (cases_eq y p) [
+      | inl q ↦ ap (λ (z : ℕ). t z && not (y == p)) q ∙ ap (λ (z : Bool). z && not (y == p)) i ∙ sym (ap t q ∙ i)
+      | inr q ↦ rw (ne_eqb y p q) (plain (t y))
+    ]),
+  ))
 ]
   where
     plain : (x : Bool) → (x && true) ≡ x
@@ -98,10 +101,10 @@ sum_of-injection (suc n) m s t w v f b k e i = elim (cases_Bool (s n)) [
   | inr h ↦ rw h (omega (arith, sum_of-injection n m s t w v f (λ x l. b x (omega arith)) (λ x l. k x (omega arith)) (λ x l. e x (omega arith)) (λ x y l o. i x y (omega arith) (omega arith))))
   | inl h ↦
       let less : sum_of n s w ≤ sum_of m (λ z. t z && not (z == f n)) v = sum_of-injection n m s (λ z. t z && not (z == f n)) w v f
-            (λ x l. b x (omega arith))
-            (λ x l q. and_from (t (f x)) (not (f x == f n)) (k x (omega arith) q) (ap not (ne_eqb (f x) (f n) (λ d. under x l (i x n (omega arith) (omega arith) q h d)))))
-            (λ x l. e x (omega arith))
-            (λ x y l o. i x y (omega arith) (omega arith)) in
+      (λ x l. b x (omega arith))
+      (λ x l q. and_from (t (f x)) (not (f x == f n)) (k x (omega arith) q) (ap not (ne_eqb (f x) (f n) (λ d. under x l (i x n (omega arith) (omega arith) q h d)))))
+      (λ x l. e x (omega arith))
+      (λ x y l o. i x y (omega arith) (omega arith)) in
       rw h (omega (arith, less, sum_of-one m t v (f n) (b n (omega arith) h) (k n (omega arith) h), e n (omega arith) h))
 ]
   where

@@ -15,6 +15,10 @@ use Rattle.skeleton_planes.proofs.Stages.{neither, facing, joined, all-stages, u
 use Rattle.skeleton_faces.proofs.FaceSums.{sum_of, face_sum, sum_of-two, face_sum-one, sum_of-more}
 use Rattle.skeleton_faces.proofs.JoinedFaces.{on_either, facing-twins, joined-twins, off-twins, either-kept, lower-kept, other-before, side-before, two_t, two_w}
 
+-- at most what is at most that
+up-to : {a b c : ℕ} → a ≤ b → b ≤ c → a ≤ c
+up-to p q = omega (arith, p, q)
+
 -- one gluing
 module _ (m : ℕ) (f g h k : ℕ → ℕ) (place : ℕ → ℕ) (side : ℕ → Bool) (d e : ℕ) (s : AreFacing m f g place side d e) (j : AreJoined m f g h d e) (b : IsMap m h k)
     (two_d : same_face m f d (twin d) ≡ false) (two_e : same_face m f e (twin e) ≡ false) (w : ℕ → ℕ) where
@@ -23,7 +27,7 @@ module _ (m : ℕ) (f g h k : ℕ → ℕ) (place : ℕ → ℕ) (side : ℕ →
   either-sum x o t = sum_of-two (2 * m) (same_face m h x) (same_face m f d) (same_face m f (twin e)) w d (twin e) (s.darts.0) (twin-below m e (s.darts.1))
       ((orbit-equivalence (2 * m) (face f)).reflexive d) ((orbit-equivalence (2 * m) (face f)).reflexive (twin e))
       (λ y l i. let p = either-kept m f g h k place side d e s j b two_d two_e x y i o t in
-          (or_cases (same_face m f d y) (same_face m f (twin e) y) p.1, p.0.first, p.0.second_twin))
+      (or_cases (same_face m f d y) (same_face m f (twin e) y) p.1, p.0.first, p.0.second_twin))
 
   -- it has no more than either of the two had, where neither has more than the two darts
   pub either-falls : face_sum m f w d ≤ w d + w (twin e) → face_sum m f w (twin e) ≤ w d + w (twin e) → (x : ℕ) → IsOff d e x → on_either m f d e x ≡ true → face_sum m h w x ≤ face_sum m f w x
@@ -121,11 +125,11 @@ module _ (m : ℕ) (next previous : ℕ → ℕ) (b : IsMap m next previous) (pl
   stay-two [] a o x l u t = t
   stay-two ((d, e) ∷ links) a o x l u t = let p = last-off d e links a x u in
       false_from_ne_true (same_face m (all_glued ((d, e) ∷ links) next) x (twin x)) (λ i. both_ways (same_face m (all_glued links next) x (twin x))
+      (stay-two links a.4 o.2 x l p.1 t)
       (side-before m (all_glued links next) ((stage links a.4).0) (all_glued ((d, e) ∷ links) next) ((stage ((d, e) ∷ links) a).0) place (same_component m (all_glued links next) d) d e
-          (last-facing d e links a) (last-joined d e links a) (last-map d e links a)
-          (stay-two links a.4 o.2 d (a.0.darts.0) a.1 o.0) (stay-two links a.4 o.2 e (a.0.darts.1) a.2 o.1) x (twin x) p.0
-          (sym ((last-facing d e links a).sides_twin x l)) i)
-      (stay-two links a.4 o.2 x l p.1 t))
+      (last-facing d e links a) (last-joined d e links a) (last-map d e links a)
+      (stay-two links a.4 o.2 d (a.0.darts.0) a.1 o.0) (stay-two links a.4 o.2 e (a.0.darts.1) a.2 o.1) x (twin x) p.0
+      (sym ((last-facing d e links a).sides_twin x l)) i))
 
   -- and no face of a dart that is not used has more than at first
   pub sums-fall : (w : ℕ → ℕ) → ((x : ℕ) → w (twin x) ≡ w x) → (links : List (ℕ × ℕ)) → AreLinksOf m next place ends begins part links → AreLight m next w links
@@ -134,13 +138,11 @@ module _ (m : ℕ) (next previous : ℕ → ℕ) (b : IsMap m next previous) (pl
   sums-fall w twins ((d, e) ∷ links) a o x l u =
       let p = last-off d e links a x u in
       let two = light-two m next w links o.1 in
-      let step : face_sum m (all_glued ((d, e) ∷ links) next) w x ≤ face_sum m (all_glued links next) w x
-            = step-falls m (all_glued links next) ((stage links a.4).0) (all_glued ((d, e) ∷ links) next) ((stage ((d, e) ∷ links) a).0) place (same_component m (all_glued links next) d) d e
-              (last-facing d e links a) (last-joined d e links a) (last-map d e links a)
-              (stay-two links a.4 two d (a.0.darts.0) a.1 (o.0.two.0)) (stay-two links a.4 two e (a.0.darts.1) a.2 (o.0.two.1)) w twins
-              (before d (a.0.darts.0) a.1 (o.0.first)) (before (twin d) (twin-below m d (a.0.darts.0)) (used-twin links d ∙ a.1) (o.0.first_twin))
-              (before e (a.0.darts.1) a.2 (o.0.second)) (before (twin e) (twin-below m e (a.0.darts.1)) (used-twin links e ∙ a.2) (o.0.second_twin)) x p.0 in
-      omega (arith, step, sums-fall w twins links a.4 o.1 x l p.1)
-    where
-      before : (y : ℕ) → y < 2 * m → is_used links y ≡ false → face_sum m next w y ≤ w d + w e → face_sum m (all_glued links next) w y ≤ w d + w e
-      before y k v c = omega (arith, c, sums-fall w twins links a.4 o.1 y k v)
+      let before : (y : ℕ) → y < 2 * m → is_used links y ≡ false → face_sum m next w y ≤ w d + w e → face_sum m (all_glued links next) w y ≤ w d + w e
+      = λ y k v c. up-to (sums-fall w twins links a.4 o.1 y k v) c in
+      up-to (step-falls m (all_glued links next) ((stage links a.4).0) (all_glued ((d, e) ∷ links) next) ((stage ((d, e) ∷ links) a).0) place (same_component m (all_glued links next) d) d e
+      (last-facing d e links a) (last-joined d e links a) (last-map d e links a)
+      (stay-two links a.4 two d (a.0.darts.0) a.1 (o.0.two.0)) (stay-two links a.4 two e (a.0.darts.1) a.2 (o.0.two.1)) w twins
+      (before d (a.0.darts.0) a.1 (o.0.first)) (before (twin d) (twin-below m d (a.0.darts.0)) (used-twin links d ∙ a.1) (o.0.first_twin))
+      (before e (a.0.darts.1) a.2 (o.0.second)) (before (twin e) (twin-below m e (a.0.darts.1)) (used-twin links e ∙ a.2) (o.0.second_twin)) x p.0)
+      (sums-fall w twins links a.4 o.1 x l p.1)

@@ -4,7 +4,7 @@ use Rattle.std.proofs.lemmas.Bool.{cases_Bool, cases_lt, and_from, and_parts, bo
 use Rattle.permutations.proofs.Relation.{same-tests}
 use Rattle.multigraph.specs.Graph.{Multigraph, edge_count}
 use Rattle.dart_maps.specs.Map.{twin, same_face}
-use Rattle.dart_maps.proofs.Darts.{twin-below, twin-twin}
+use Rattle.dart_maps.proofs.Darts.{twin-below, twin-twin, twin-edge}
 use Rattle.faces.specs.Maps.{dart_after}
 use Rattle.pair_split.specs.Tutte.{Node, node_at}
 use Rattle.skeletons.specs.Items.{IsBlockTree}
@@ -84,7 +84,7 @@ module _ (g : Multigraph) (nodes : List Node) (b : IsBlockTree g nodes) (family 
     }
       where
         not-so : (s t : Bool) → s ≡ false → (t ≡ true → s ≡ true) → t ≡ false
-        not-so s t h f = elim (cases_Bool t) [ inl i ↦ absurd (both_ways s (f i) h) | inr i ↦ i ]
+        not-so s t h f = elim (cases_Bool t) [ inl i ↦ absurd (both_ways s h (f i)) | inr i ↦ i ]
 
     -- the weight of a face of the skeleton, in the map of all
     pub skeleton-sum : (weight : ℕ → ℕ → ℕ) (z : ℕ) → z < 2 * edge_count (skeleton_graph nodes k)

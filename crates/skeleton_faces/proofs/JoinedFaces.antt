@@ -150,15 +150,15 @@ module _ (m : ℕ) (f g h k : ℕ → ℕ) (place : ℕ → ℕ) (side : ℕ →
   -- d's twin lies on neither of them
   not-twin : on_either m f d e (twin d) ≡ true → ⊥
   not-twin t = elim (or_cases (same_face m f d (twin d)) (same_face m f (twin e) (twin d)) t) [
-    | inl i ↦ both_ways (same_face m f d (twin d)) i two_d
-    | inr i ↦ both_ways (side (twin d)) (s.sides_twin d (s.darts.0) ∙ s.inside) (second-side (twin d) i)
+    | inl i ↦ both_ways (same_face m f d (twin d)) two_d i
+    | inr i ↦ both_ways (side (twin d)) (second-side (twin d) i) (s.sides_twin d (s.darts.0) ∙ s.inside)
   ]
 
   -- nor does e
   not-other : on_either m f d e e ≡ true → ⊥
   not-other t = elim (or_cases (same_face m f d e) (same_face m f (twin e) e) t) [
-    | inl i ↦ both_ways (side e) (first-side e i) s.outside
-    | inr i ↦ both_ways (same_face m f e (twin e)) (r.symmetric (twin e) e i) two_e
+    | inl i ↦ both_ways (side e) s.outside (first-side e i)
+    | inr i ↦ both_ways (same_face m f e (twin e)) two_e (r.symmetric (twin e) e i)
   ]
 
   -- what follows d, e and their twins is off the two edges
@@ -210,7 +210,7 @@ module _ (m : ℕ) (f g h k : ℕ → ℕ) (place : ℕ → ℕ) (side : ℕ →
   -- and is off them
   inside-parts : (x : ℕ) → not (one_of_four d (twin d) e (twin e) x) && on_either m f d e x ≡ true → IsOff d e x × (on_either m f d e x ≡ true)
   inside-parts x t = let p = and_parts (not (one_of_four d (twin d) e (twin e) x)) (on_either m f d e x) t in
-      (four-off d e x (false_from_ne_true (one_of_four d (twin d) e (twin e) x) (λ i. both_ways (not (one_of_four d (twin d) e (twin e) x)) p.0 (ap not i))), p.1)
+      (four-off d e x (false_from_ne_true (one_of_four d (twin d) e (twin e) x) (λ i. both_ways (not (one_of_four d (twin d) e (twin e) x)) (ap not i) p.0)), p.1)
 
   -- darts on one face of the glued map: where the one is off the edges and on the two faces, so is the other
   pub either-kept : (x y : ℕ) → same_face m h x y ≡ true → IsOff d e x → on_either m f d e x ≡ true → IsOff d e y × (on_either m f d e y ≡ true)
@@ -225,16 +225,16 @@ module _ (m : ℕ) (f g h k : ℕ → ℕ) (place : ℕ → ℕ) (side : ℕ →
   first-off : (x : ℕ) → same_face m f d x ≡ true → x ≢ d → IsOff d e x
   first-off x t n = record {
     first = n;
-    first_twin = λ i. both_ways (same_face m f d (twin d)) (ap (same_face m f d) (sym i) ∙ t) two_d;
-    second = λ i. both_ways (side x) (first-side x t) (ap side i ∙ s.outside);
-    second_twin = λ i. both_ways (side x) (first-side x t) (ap side i ∙ twin_outside);
+    first_twin = λ i. both_ways (same_face m f d (twin d)) two_d (ap (same_face m f d) (sym i) ∙ t);
+    second = λ i. both_ways (side x) (ap side i ∙ s.outside) (first-side x t);
+    second_twin = λ i. both_ways (side x) (ap side i ∙ twin_outside) (first-side x t);
   }
 
   -- it is on one face of the glued map with the dart after d's twin
   pub first-together : (x : ℕ) → same_face m f d x ≡ true → x ≢ d → same_face m h (f (twin d)) x ≡ true
   first-together x t n = orbit-but-one (2 * m) (face f) (λ z. twin (g z)) (face-permutes m f g s.is_map) d (s.darts.0) (same_face m h (f (twin d))) (after.reflexive (f (twin d)))
       (λ z l w i q c. let p : face h z ≡ face f z = plain-step z l (first-off z w i) (first-off (face f z) (along d z l w) q) in
-          after.transitive (f (twin d)) z (face f z) c (subst (λ (u : ℕ). same_face m h z u ≡ true) p (orbit-step (2 * m) (face h) z l))) x n t
+      after.transitive (f (twin d)) z (face f z) c (subst (λ (u : ℕ). same_face m h z u ≡ true) p (orbit-step (2 * m) (face h) z l))) x n t
 
   -- the dart before d along its face is a dart
   before-in : twin (g d) < 2 * m
@@ -261,20 +261,20 @@ module _ (m : ℕ) (f g h k : ℕ → ℕ) (place : ℕ → ℕ) (side : ℕ →
 module _ (m : ℕ) (f g h k : ℕ → ℕ) (place : ℕ → ℕ) (side : ℕ → Bool) (d e : ℕ) (s : AreFacing m f g place side d e) (j : AreJoined m f g h d e) (b : IsMap m h k)
     (two_d : same_face m f d (twin d) ≡ false) (two_e : same_face m f e (twin e) ≡ false) where
   -- lying on one face is an equivalence
-  r : IsEquivalence (same_face m f)
-  r = orbit-equivalence (2 * m) (face f)
+  same : IsEquivalence (same_face m f)
+  same = orbit-equivalence (2 * m) (face f)
 
   -- and so it is after the gluing
-  after : IsEquivalence (same_face m h)
-  after = orbit-equivalence (2 * m) (face h)
+  same_after : IsEquivalence (same_face m h)
+  same_after = orbit-equivalence (2 * m) (face h)
 
   -- d's twin and its twin lie on different faces
   pub two_t : same_face m f (twin d) (twin (twin d)) ≡ false
-  two_t = false_from_ne_true (same_face m f (twin d) (twin (twin d))) (λ t. both_ways (same_face m f d (twin d)) (r.symmetric (twin d) d (ap (same_face m f (twin d)) (sym (twin-twin d)) ∙ t)) two_d)
+  two_t = false_from_ne_true (same_face m f (twin d) (twin (twin d))) (λ t. both_ways (same_face m f d (twin d)) two_d (same.symmetric (twin d) d (ap (same_face m f (twin d)) (sym (twin-twin d)) ∙ t)))
 
   -- and e's
   pub two_w : same_face m f (twin e) (twin (twin e)) ≡ false
-  two_w = false_from_ne_true (same_face m f (twin e) (twin (twin e))) (λ t. both_ways (same_face m f e (twin e)) (r.symmetric (twin e) e (ap (same_face m f (twin e)) (sym (twin-twin e)) ∙ t)) two_e)
+  two_w = false_from_ne_true (same_face m f (twin e) (twin (twin e))) (λ t. both_ways (same_face m f e (twin e)) two_e (same.symmetric (twin e) e (ap (same_face m f (twin e)) (sym (twin-twin e)) ∙ t)))
 
   -- what lies on the face of e's twin is on one face of the glued map with the dart after e
   second-together : (x : ℕ) → same_face m f (twin e) x ≡ true → x ≢ twin e → same_face m h (f e) x ≡ true
@@ -285,47 +285,47 @@ module _ (m : ℕ) (f g h k : ℕ → ℕ) (place : ℕ → ℕ) (side : ℕ →
   -- a dart off the edges, on the two faces, is on that face too
   with-anchor : (x : ℕ) → IsOff d e x → on_either m f d e x ≡ true → same_face m h (f e) x ≡ true
   with-anchor x o t = elim (or_cases (same_face m f d x) (same_face m f (twin e) x) t) [
-    | inl i ↦ after.transitive (f e) (f (twin d)) x (after.symmetric (f (twin d)) (f e) (across m f g h k place side d e s j b two_d two_e)) (first-together m f g h k place side d e s j b two_d two_e x i o.first)
+    | inl i ↦ same_after.transitive (f e) (f (twin d)) x (same_after.symmetric (f (twin d)) (f e) (across m f g h k place side d e s j b two_d two_e)) (first-together m f g h k place side d e s j b two_d two_e x i o.first)
     | inr i ↦ second-together x i o.second_twin
   ]
 
   -- so darts off the edges, on the two faces, are on one face of the glued map
   pub either-together : (x y : ℕ) → IsOff d e x → IsOff d e y → on_either m f d e x ≡ true → on_either m f d e y ≡ true → same_face m h x y ≡ true
-  either-together x y o p t u = after.transitive x (f e) y (after.symmetric (f e) x (with-anchor x o t)) (with-anchor y p u)
+  either-together x y o p t u = same_after.transitive x (f e) y (same_after.symmetric (f e) x (with-anchor x o t)) (with-anchor y p u)
 
   -- a face that has neither d nor e nor their twins is as it was
   module _ (x : ℕ) (upper : on_either m f d e x ≡ false) (lower : on_either m f (twin d) (twin e) x ≡ false) where
     -- its darts are off the edges
     other-off : (z : ℕ) → same_face m f x z ≡ true → IsOff d e z
     other-off z t = record {
-      first = λ i. both_ways (on_either m f d e x) (or_left (same_face m f d x) (same_face m f (twin e) x) (r.symmetric x d (ap (same_face m f x) (sym i) ∙ t))) upper;
-      first_twin = λ i. both_ways (on_either m f (twin d) (twin e) x) (or_left (same_face m f (twin d) x) (same_face m f (twin (twin e)) x) (r.symmetric x (twin d) (ap (same_face m f x) (sym i) ∙ t))) lower;
-      second = λ i. both_ways (on_either m f (twin d) (twin e) x) (or_right (same_face m f (twin d) x) (same_face m f (twin (twin e)) x) (r.symmetric x (twin (twin e)) (ap (same_face m f x) (twin-twin e ∙ sym i) ∙ t))) lower;
-      second_twin = λ i. both_ways (on_either m f d e x) (or_right (same_face m f d x) (same_face m f (twin e) x) (r.symmetric x (twin e) (ap (same_face m f x) (sym i) ∙ t))) upper;
+      first = λ i. both_ways (on_either m f d e x) upper (or_left (same_face m f d x) (same_face m f (twin e) x) (same.symmetric x d (ap (same_face m f x) (sym i) ∙ t)));
+      first_twin = λ i. both_ways (on_either m f (twin d) (twin e) x) lower (or_left (same_face m f (twin d) x) (same_face m f (twin (twin e)) x) (same.symmetric x (twin d) (ap (same_face m f x) (sym i) ∙ t)));
+      second = λ i. both_ways (on_either m f (twin d) (twin e) x) lower (or_right (same_face m f (twin d) x) (same_face m f (twin (twin e)) x) (same.symmetric x (twin (twin e)) (ap (same_face m f x) (twin-twin e ∙ sym i) ∙ t)));
+      second_twin = λ i. both_ways (on_either m f d e x) upper (or_right (same_face m f d x) (same_face m f (twin e) x) (same.symmetric x (twin e) (ap (same_face m f x) (sym i) ∙ t)));
     }
 
     -- and are followed as before
     other-step : (z : ℕ) → z < 2 * m → same_face m f x z ≡ true → face h z ≡ face f z
-    other-step z l t = plain-step m f g h k place side d e s j b two_d two_e z l (other-off z t) (other-off (face f z) (r.transitive x z (face f z) t (orbit-step (2 * m) (face f) z l)))
+    other-step z l t = plain-step m f g h k place side d e s j b two_d two_e z l (other-off z t) (other-off (face f z) (same.transitive x z (face f z) t (orbit-step (2 * m) (face f) z l)))
 
     -- what is on one face with x now was so before
     pub other-before : (y : ℕ) → same_face m h x y ≡ true → same_face m f x y ≡ true
     other-before y t = sym (orbit-kept (2 * m) (face h) (λ z. twin (k z)) (face-permutes m h k b) (same_face m f x)
-        (λ z l w. subst (λ (u : ℕ). same_face m f x u ≡ true) (sym (other-step z l w)) (r.transitive x z (face f z) w (orbit-step (2 * m) (face f) z l))) x y t) ∙ r.reflexive x
+        (λ z l w. subst (λ (u : ℕ). same_face m f x u ≡ true) (sym (other-step z l w)) (same.transitive x z (face f z) w (orbit-step (2 * m) (face f) z l))) x y t) ∙ same.reflexive x
 
     -- and what was so is so now
     pub other-after : (y : ℕ) → same_face m f x y ≡ true → same_face m h x y ≡ true
     other-after y t = (and_parts (same_face m f x y) (same_face m h x y) (sym (orbit-kept (2 * m) (face f) (λ z. twin (g z)) (face-permutes m f g s.is_map) (λ z. same_face m f x z && same_face m h x z)
-        (λ z l w. let p = and_parts (same_face m f x z) (same_face m h x z) w in and_from (same_face m f x (face f z)) (same_face m h x (face f z)) (r.transitive x z (face f z) p.0 (orbit-step (2 * m) (face f) z l))
-            (after.transitive x z (face f z) p.1 (subst (λ (u : ℕ). same_face m h z u ≡ true) (other-step z l p.0) (orbit-step (2 * m) (face h) z l)))) x y t)
-        ∙ and_from (same_face m f x x) (same_face m h x x) (r.reflexive x) (after.reflexive x))).1
+        (λ z l w. let p = and_parts (same_face m f x z) (same_face m h x z) w in and_from (same_face m f x (face f z)) (same_face m h x (face f z)) (same.transitive x z (face f z) p.0 (orbit-step (2 * m) (face f) z l))
+        (same_after.transitive x z (face f z) p.1 (subst (λ (u : ℕ). same_face m h z u ≡ true) (other-step z l p.0) (orbit-step (2 * m) (face h) z l)))) x y t)
+        ∙ and_from (same_face m f x x) (same_face m h x x) (same.reflexive x) (same_after.reflexive x))).1
 
 -- darts off the edges, before the gluing and after it
 module _ (m : ℕ) (f g h k : ℕ → ℕ) (place : ℕ → ℕ) (side : ℕ → Bool) (d e : ℕ) (s : AreFacing m f g place side d e) (j : AreJoined m f g h d e) (b : IsMap m h k)
     (two_d : same_face m f d (twin d) ≡ false) (two_e : same_face m f e (twin e) ≡ false) where
   -- lying on one face is an equivalence
-  r : IsEquivalence (same_face m f)
-  r = orbit-equivalence (2 * m) (face f)
+  alike : IsEquivalence (same_face m f)
+  alike = orbit-equivalence (2 * m) (face f)
 
   -- the two faces of the twins become one
   pub lower-together : (x y : ℕ) → IsOff d e x → IsOff d e y → on_either m f (twin d) (twin e) x ≡ true → on_either m f (twin d) (twin e) y ≡ true → same_face m h x y ≡ true
@@ -340,8 +340,8 @@ module _ (m : ℕ) (f g h k : ℕ → ℕ) (place : ℕ → ℕ) (side : ℕ →
   -- the two faces are passed on from dart to dart
   either-with : (x y : ℕ) (d e : ℕ) → same_face m f x y ≡ true → on_either m f d e x ≡ true → on_either m f d e y ≡ true
   either-with x y d e t u = elim (or_cases (same_face m f d x) (same_face m f (twin e) x) u) [
-    | inl i ↦ or_left (same_face m f d y) (same_face m f (twin e) y) (r.transitive d x y i t)
-    | inr i ↦ or_right (same_face m f d y) (same_face m f (twin e) y) (r.transitive (twin e) x y i t)
+    | inl i ↦ or_left (same_face m f d y) (same_face m f (twin e) y) (alike.transitive d x y i t)
+    | inr i ↦ or_right (same_face m f d y) (same_face m f (twin e) y) (alike.transitive (twin e) x y i t)
   ]
 
   -- darts off the edges that lie on one face lie on one face of the glued map
@@ -358,12 +358,12 @@ module _ (m : ℕ) (f g h k : ℕ → ℕ) (place : ℕ → ℕ) (side : ℕ →
   side-one : (x y : ℕ) → side x ≡ side y → on_either m f d e x ≡ true → on_either m f d e y ≡ true → same_face m f x y ≡ true
   side-one x y q t u = elim (or_cases (same_face m f d x) (same_face m f (twin e) x) t) [
     | inl i ↦ elim (or_cases (same_face m f d y) (same_face m f (twin e) y) u) [
-      | inl v ↦ r.transitive x d y (r.symmetric d x i) v
-      | inr v ↦ absurd (both_ways (side y) (sym q ∙ inner x i) (outer y v))
+      | inl v ↦ alike.transitive x d y (alike.symmetric d x i) v
+      | inr v ↦ absurd (both_ways (side y) (outer y v) (sym q ∙ inner x i))
     ]
     | inr i ↦ elim (or_cases (same_face m f d y) (same_face m f (twin e) y) u) [
-      | inl v ↦ absurd (both_ways (side y) (inner y v) (sym q ∙ outer x i))
-      | inr v ↦ r.transitive x (twin e) y (r.symmetric (twin e) x i) v
+      | inl v ↦ absurd (both_ways (side y) (sym q ∙ outer x i) (inner y v))
+      | inr v ↦ alike.transitive x (twin e) y (alike.symmetric (twin e) x i) v
     ]
   ]
     where
@@ -377,12 +377,12 @@ module _ (m : ℕ) (f g h k : ℕ → ℕ) (place : ℕ → ℕ) (side : ℕ →
   side-one_lower : (x y : ℕ) → side x ≡ side y → on_either m f (twin d) (twin e) x ≡ true → on_either m f (twin d) (twin e) y ≡ true → same_face m f x y ≡ true
   side-one_lower x y q t u = elim (or_cases (same_face m f (twin d) x) (same_face m f (twin (twin e)) x) t) [
     | inl i ↦ elim (or_cases (same_face m f (twin d) y) (same_face m f (twin (twin e)) y) u) [
-      | inl v ↦ r.transitive x (twin d) y (r.symmetric (twin d) x i) v
-      | inr v ↦ absurd (both_ways (side y) (sym q ∙ inner x i) (outer y v))
+      | inl v ↦ alike.transitive x (twin d) y (alike.symmetric (twin d) x i) v
+      | inr v ↦ absurd (both_ways (side y) (outer y v) (sym q ∙ inner x i))
     ]
     | inr i ↦ elim (or_cases (same_face m f (twin d) y) (same_face m f (twin (twin e)) y) u) [
-      | inl v ↦ absurd (both_ways (side y) (inner y v) (sym q ∙ outer x i))
-      | inr v ↦ r.transitive x (twin (twin e)) y (r.symmetric (twin (twin e)) x i) v
+      | inl v ↦ absurd (both_ways (side y) (sym q ∙ outer x i) (inner y v))
+      | inr v ↦ alike.transitive x (twin (twin e)) y (alike.symmetric (twin (twin e)) x i) v
     ]
   ]
     where

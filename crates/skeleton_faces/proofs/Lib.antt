@@ -9,3 +9,5 @@ pub mod InSkeletons
 pub mod NoLonger
 pub mod EachFamily
 pub mod Every
+pub mod Reached
+pub mod Fitted

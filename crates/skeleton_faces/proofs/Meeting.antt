@@ -39,26 +39,27 @@ link_weights on w (link ∷ links) = link_weights on w links + link_weight on w 
 module _ (m : ℕ) (next previous : ℕ → ℕ) (b : IsMap m next previous) (place : ℕ → ℕ) (places : (x : ℕ) → x < 2 * m → place (next x) ≡ place x) (ends begins : ℕ → ℕ → Bool) (part : ℕ → ℕ)
     (parts_next : (x : ℕ) → x < 2 * m → part (next x) ≡ part x) (parts_twin : (x : ℕ) → x < 2 * m → part (twin x) ≡ part x) (follows : (x : ℕ) → x < 2 * m → (c : ℕ) → ends x c ≡ true → begins (next x) c ≡ true)
     (on : ℕ → Bool) (one : (x y : ℕ) → x < 2 * m → y < 2 * m → on x ≡ true → on y ≡ true → part x ≡ part y → same_face m next x y ≡ true) where
-  -- chosen darts of parts that are joined lie on one face
-  pub meet : (links : List (ℕ × ℕ)) → AreLinksOf m next place ends begins part links → AreOnTwo m next links → AreMatched on links → (x y : ℕ) → x < 2 * m → y < 2 * m → on x ≡ true → on y ≡ true
-      → is_used links x ≡ false → is_used links y ≡ false → connected (part_links part (on_links on links)) (part x) (part y) ≡ true → same_face m (all_glued links next) x y ≡ true
-  meet [] a o c x y lx ly ox oy ux uy t = one x y lx ly ox oy (eqb-true (part x) (part y) t)
-  meet ((d, e) ∷ links) a o c x y lx ly ox oy ux uy t = elim (cases_Bool (on d || on (twin d))) [
+  -- one link more
+  meet-step : (d e : ℕ) (links : List (ℕ × ℕ)) (a : AreLinksOf m next place ends begins part ((d, e) ∷ links)) → AreOnTwo m next ((d, e) ∷ links) → AreMatched on ((d, e) ∷ links)
+      → ((x y : ℕ) → x < 2 * m → y < 2 * m → on x ≡ true → on y ≡ true → is_used links x ≡ false → is_used links y ≡ false → connected (part_links part (on_links on links)) (part x) (part y) ≡ true → same_face m (all_glued links next) x y ≡ true)
+      → (x y : ℕ) → x < 2 * m → y < 2 * m → on x ≡ true → on y ≡ true → is_used ((d, e) ∷ links) x ≡ false → is_used ((d, e) ∷ links) y ≡ false
+      → connected (part_links part (on_links on ((d, e) ∷ links))) (part x) (part y) ≡ true → same_face m (all_glued ((d, e) ∷ links) next) x y ≡ true
+  meet-step d e links a o c below x y lx ly ox oy ux uy t = elim (cases_Bool (on d || on (twin d))) [
     | inr n ↦ old x y lx ly ox oy ux uy (subst (λ (z : List (ℕ × ℕ)). connected (part_links part z) (part x) (part y) ≡ true) (ap (λ (z : Bool). cond z ((d, e) ∷ on_links on links) (on_links on links)) n) t)
     | inl n ↦ elim (join-cases (connected (part_links part (on_links on links))) (part d) (part e) (part x) (part y)
-          (subst (λ (z : List (ℕ × ℕ)). connected (part_links part z) (part x) (part y) ≡ true) (ap (λ (z : Bool). cond z ((d, e) ∷ on_links on links) (on_links on links)) n) t)) [
-      | inl i ↦ old x y lx ly ox oy ux uy i
-      | inr q ↦ elim (or_cases (on d) (on (twin d)) n) [
-        | inl k ↦ elim q [
-          | inl i ↦ upper (on_d x lx ox ux k (symm (part x) (part d) i.0)) (on_w y ly oy uy k i.1)
-          | inr i ↦ upper (on_w x lx ox ux k (symm (part x) (part e) i.0)) (on_d y ly oy uy k i.1)
+        (subst (λ (z : List (ℕ × ℕ)). connected (part_links part z) (part x) (part y) ≡ true) (ap (λ (z : Bool). cond z ((d, e) ∷ on_links on links) (on_links on links)) n) t)) [
+          | inl i ↦ old x y lx ly ox oy ux uy i
+          | inr q ↦ elim (or_cases (on d) (on (twin d)) n) [
+            | inl k ↦ elim q [
+              | inl i ↦ upper (on_d x lx ox ux k (symm (part x) (part d) i.0)) (on_w y ly oy uy k i.1)
+              | inr i ↦ upper (on_w x lx ox ux k (symm (part x) (part e) i.0)) (on_d y ly oy uy k i.1)
+            ]
+            | inr k ↦ elim q [
+              | inl i ↦ lower (on_t x lx ox ux k (symm (part x) (part d) i.0)) (on_e y ly oy uy k i.1)
+              | inr i ↦ lower (on_e x lx ox ux k (symm (part x) (part e) i.0)) (on_t y ly oy uy k i.1)
+            ]
+          ]
         ]
-        | inr k ↦ elim q [
-          | inl i ↦ lower (on_t x lx ox ux k (symm (part x) (part d) i.0)) (on_e y ly oy uy k i.1)
-          | inr i ↦ lower (on_e x lx ox ux k (symm (part x) (part e) i.0)) (on_t y ly oy uy k i.1)
-        ]
-      ]
-    ]
   ]
     where
       f : ℕ → ℕ
@@ -85,12 +86,12 @@ module _ (m : ℕ) (next previous : ℕ → ℕ) (b : IsMap m next previous) (pl
           (all_glued ((d, e) ∷ links) next) ((stage m next previous b place places ends begins part parts_next parts_twin follows ((d, e) ∷ links) a).0) place (same_component m (all_glued links next) d) d e
           (last-facing m next previous b place places ends begins part parts_next parts_twin follows d e links a) (last-joined m next previous b place places ends begins part parts_next parts_twin follows d e links a)
           (last-map m next previous b place places ends begins part parts_next parts_twin follows d e links a) two_d two_e x y (off x ux).0 (off y uy).0
-          (meet links a.4 o.2 c.2 x y lx ly ox oy (off x ux).1 (off y uy).1 i)
+          (below x y lx ly ox oy (off x ux).1 (off y uy).1 i)
 
       -- a chosen dart of a part joined to that of z, for a chosen z
       from : (z v : ℕ) → z < 2 * m → v < 2 * m → on z ≡ true → on v ≡ true → is_used links z ≡ false → is_used ((d, e) ∷ links) v ≡ false → connected (part_links part (on_links on links)) (part z) (part v) ≡ true
           → same_face m (all_glued links next) z v ≡ true
-      from z v lz lv oz ov uz uv i = meet links a.4 o.2 c.2 z v lz lv oz ov uz (off v uv).1 i
+      from z v lz lv oz ov uz uv i = below z v lz lv oz ov uz (off v uv).1 i
 
       on_d : (v : ℕ) → v < 2 * m → on v ≡ true → is_used ((d, e) ∷ links) v ≡ false → on d ≡ true → connected (part_links part (on_links on links)) (part d) (part v) ≡ true → on_either m (all_glued links next) d e v ≡ true
       on_d v l ov uv k i = or_left (same_face m (all_glued links next) d v) (same_face m (all_glued links next) (twin e) v) (from d v (a.0.darts.0) l k ov a.1 uv i)
@@ -119,13 +120,19 @@ module _ (m : ℕ) (next previous : ℕ → ℕ) (b : IsMap m next previous) (pl
           (last-facing m next previous b place places ends begins part parts_next parts_twin follows d e links a) (last-joined m next previous b place places ends begins part parts_next parts_twin follows d e links a)
           (last-map m next previous b place places ends begins part parts_next parts_twin follows d e links a) two_d two_e x y (off x ux).0 (off y uy).0 p q
 
+  -- chosen darts of parts that are joined lie on one face
+  pub meet : (links : List (ℕ × ℕ)) → AreLinksOf m next place ends begins part links → AreOnTwo m next links → AreMatched on links → (x y : ℕ) → x < 2 * m → y < 2 * m → on x ≡ true → on y ≡ true
+      → is_used links x ≡ false → is_used links y ≡ false → connected (part_links part (on_links on links)) (part x) (part y) ≡ true → same_face m (all_glued links next) x y ≡ true
+  meet [] a o c x y lx ly ox oy ux uy t = one x y lx ly ox oy (eqb-true (part x) (part y) t)
+  meet ((d, e) ∷ links) a o c x y lx ly ox oy ux uy t = meet-step d e links a o c (meet links a.4 o.2 c.2) x y lx ly ox oy ux uy t
+
   -- so the face of a chosen dart that is left has all chosen darts that are left, where all of their parts are joined
   pub meet-sum : (w : ℕ → ℕ) (links : List (ℕ × ℕ)) → AreLinksOf m next place ends begins part links → AreOnTwo m next links → AreMatched on links → (x : ℕ) → x < 2 * m → on x ≡ true → is_used links x ≡ false
       → ((y : ℕ) → y < 2 * m → on y ≡ true → connected (part_links part (on_links on links)) (part x) (part y) ≡ true)
       → sum_of (2 * m) (λ y. on y && not (is_used links y)) w ≤ face_sum m (all_glued links next) w x
   meet-sum w links a o c x l ox ux joined = sum_of-more (2 * m) (λ y. on y && not (is_used links y)) (same_face m (all_glued links next) x) w
       (λ y ly i. let p = and_parts (on y) (not (is_used links y)) i in
-          meet links a o c x y l ly ox p.0 ux (false_from_ne_true (is_used links y) (λ u. both_ways (not (is_used links y)) p.1 (ap not u))) (joined y ly p.0))
+      meet links a o c x y l ly ox p.0 ux (false_from_ne_true (is_used links y) (λ u. both_ways (not (is_used links y)) (ap not u) p.1)) (joined y ly p.0))
 
   -- the chosen darts that are left weigh as much as all of them less the links
   pub left-weight : (w : ℕ → ℕ) → ((x : ℕ) → w (twin x) ≡ w x) → (links : List (ℕ × ℕ)) → AreLinksOf m next place ends begins part links → AreMatched on links
@@ -138,7 +145,7 @@ module _ (m : ℕ) (next previous : ℕ → ℕ) (b : IsMap m next previous) (pl
       nothing : (n : ℕ) → n + 0 ≡ n
       nothing n = omega arith
   left-weight w twins ((d, e) ∷ links) a c =
-      omega (arith, left-weight w twins links a.4 c.2, sum_of-take (2 * m) t0 w d (a.0.darts.0), sum_of-take (2 * m) t1 w (twin d) lt, sum_of-take (2 * m) t2 w e (a.0.darts.1), sum_of-take (2 * m) t3 w (twin e) lw, same, at_d, at_t, at_e, at_w)
+      omega (arith, left-weight w twins links a.4 c.2, sum_of-take (2 * m) t0 w d (a.0.darts.0), sum_of-take (2 * m) t1 w (twin d) lt, sum_of-take (2 * m) t2 w e (a.0.darts.1), sum_of-take (2 * m) t3 w (twin e) lw, same, at_d, at_t, at_e, at_w, apart (on d) (w d) (w e), apart (on (twin d)) (w d) (w e))
     where
       lt : twin d < 2 * m
       lt = twin-below m d (a.0.darts.0)
@@ -161,8 +168,11 @@ module _ (m : ℕ) (next previous : ℕ → ℕ) (b : IsMap m next previous) (pl
       t4 : ℕ → Bool
       t4 y = t3 y && not (y == twin e)
 
+      apart : (t : Bool) (a c : ℕ) → cond t (a + c) 0 ≡ cond t a 0 + cond t c 0
+      apart t a c = grind (arith, cases_Bool t)
+
       parts : (x y : ℕ) → part x ≡ part d → part y ≡ part e → x ≡ y → ⊥
-      parts x y p q i = both_ways (connected (part_links part links) (part d) (part e)) (subst (λ (z : ℕ). connected (part_links part links) (part d) z ≡ true) (sym p ∙ ap part i ∙ q) (connected-reflexive (part_links part links) (part d))) a.3
+      parts x y p q i = both_ways (connected (part_links part links) (part d) (part e)) a.3 (subst (λ (z : ℕ). connected (part_links part links) (part d) z ≡ true) (sym p ∙ ap part i ∙ q) (connected-reflexive (part_links part links) (part d)))
 
       same : sum_of (2 * m) (λ y. on y && not (is_used ((d, e) ∷ links) y)) w ≡ sum_of (2 * m) t4 w
       same = sum_of-ext (2 * m) (λ y. on y && not (is_used ((d, e) ∷ links) y)) t4 w (λ y l. all-five (on y) (y == d) (y == twin d) (y == e) (y == twin e) (is_used links y))
@@ -189,8 +199,15 @@ module _ (m : ℕ) (next previous : ℕ → ℕ) (b : IsMap m next previous) (pl
           plain x = grind (arith, cases_Bool x)
 
       at_w : cond (t3 (twin e)) (w (twin e)) 0 ≡ cond (on d) (w e) 0
-      at_w = rw (used-twin links e, a.2, ne_eqb (twin e) d (λ i. parts d (twin e) refl (parts_twin e (a.0.darts.1)) (sym i)), ne_eqb (twin e) (twin d) (λ i. parts (twin d) (twin e) (parts_twin d (a.0.darts.0)) (parts_twin e (a.0.darts.1)) (sym i)),
-          ne_eqb (twin e) e (twin-other e), sym c.0, twins e) (ap (λ (z : Bool). cond z (w e) 0) (plain (on d)))
+      at_w = rw (
+        used-twin links e,
+        a.2,
+        ne_eqb (twin e) d (λ i. parts d (twin e) refl (parts_twin e (a.0.darts.1)) (sym i)),
+        ne_eqb (twin e) (twin d) (λ i. parts (twin d) (twin e) (parts_twin d (a.0.darts.0)) (parts_twin e (a.0.darts.1)) (sym i)),
+        ne_eqb (twin e) e (twin-other e),
+        sym c.0,
+        twins e,
+      ) (ap (λ (z : Bool). cond z (w e) 0) (plain (on d)))
         where
           plain : (x : Bool) → ((((x && true) && true) && true) && true) ≡ x
           plain x = grind (arith, cases_Bool x)

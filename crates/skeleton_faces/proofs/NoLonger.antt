@@ -1,12 +1,12 @@
 -- No face of a block is longer than the heaviest face of its skeletons.
-use Rattle.std.proofs.Common.{◌≡◌, ◌≢◌, ℕ, ◌+◌, ◌*◌, ◌/◌, ◌<◌, ◌≤◌, Bool, true, false, ◌&&◌, cond, List, [], ◌∷◌, length, inl, inr, refl, sym, ap, ap₂, ◌∙◌, subst, arith, lt-ltb, ltb-true, All}
+use Rattle.std.proofs.Common.{◌≡◌, ◌≢◌, ℕ, ◌+◌, ◌*◌, ◌/◌, ◌%◌, ◌<◌, ◌≤◌, Bool, true, false, ◌&&◌, cond, List, [], ◌∷◌, length, inl, inr, refl, sym, ap, ap₂, ◌∙◌, subst, arith, lt-ltb, ltb-true, All}
 use Rattle.std.proofs.lemmas.Bool.{cases_Bool, both_ways, and_parts, false_from_ne_true, true≢false}
 use Rattle.std.proofs.lemmas.List.Elements.{All-head, All-tail}
 use Rattle.multigraph.specs.Graph.{Multigraph, edge_count}
 use Rattle.rotations.specs.Rotation.{IsRotationSystem}
 use Rattle.dart_maps.specs.Map as maps
 use Rattle.dart_maps.specs.Map.{twin, IsMap, same_face}
-use Rattle.dart_maps.proofs.Darts.{twin-below, twin-edge}
+use Rattle.dart_maps.proofs.Darts.{twin-below, twin-edge, twin-cases}
 use Rattle.faces.specs.Euler.{dart_count, IsPlane}
 use Rattle.faces.specs.Maps.{dart_after}
 use Rattle.faces.proofs.MapSteps.{map-permutes}
@@ -49,7 +49,7 @@ module _ (g : Multigraph) (nodes : List Node) (b : IsBlockTree g nodes) (family 
   whole-flat = whole-plane g nodes b family systems (λ k l. plane-map (skeleton_graph nodes k) (system_at family k) (skeleton-graph g nodes b k l) (systems.systems k l) (plane k l))
 
   -- the glued map, and the block's in it
-  pub c : IsCarried g nodes b family systems r system
+  abbrev pub c : IsCarried g nodes b family systems r system
   c = carried g nodes b family systems r system follows
 
   -- the block's map in it
@@ -82,12 +82,14 @@ module _ (g : Multigraph) (nodes : List Node) (b : IsBlockTree g nodes) (family 
     light : (d e : ℕ) → AreOfLink g nodes (d, e) → IsLinkOf (edge_count g * length nodes) (united (edge_count g) (stepped nodes family)) (place_in g nodes) (ends_in g nodes r) (begins_in g nodes r) d e
         → IsLight (edge_count g * length nodes) (united (edge_count g) (stepped nodes family)) (dart_weight (edge_count g) nodes weight) d e
     light d e (k, j, i, h, q, p, lk, lj, mi, mh, to, from) link = record {
-      two = (two-faces size whole (united (edge_count g) (stepped_back nodes family)) (whole-map g nodes b family systems) whole-flat d (link.darts.0) (link.company.0) (link.no_bridges.0),
-          two-faces size whole (united (edge_count g) (stepped_back nodes family)) (whole-map g nodes b family systems) whole-flat e (link.darts.1) (link.other_company.0) (link.no_bridges.1));
-      first = subst (λ n. face_sum size whole weights n ≤ weights d + weights e) (sym q) (there (2 * i) (half i));
-      first_twin = subst (λ n. face_sum size whole weights n ≤ weights d + weights e) (sym (ap twin q ∙ sym (coded-twin (edge_count g) k (2 * i)))) (there (twin (2 * i)) (twin-edge (2 * i) ∙ half i));
-      second = subst (λ n. face_sum size whole weights n ≤ weights d + weights e) (sym p) (here (2 * h) (half h));
-      second_twin = subst (λ n. face_sum size whole weights n ≤ weights d + weights e) (sym (ap twin p ∙ sym (coded-twin (edge_count g) j (2 * h)))) (here (twin (2 * h)) (twin-edge (2 * h) ∙ half h));
+      two = (
+        two-faces size whole (united (edge_count g) (stepped_back nodes family)) (whole-map g nodes b family systems) whole-flat d (link.darts.0) (link.company.0) (link.no_bridges.0),
+        two-faces size whole (united (edge_count g) (stepped_back nodes family)) (whole-map g nodes b family systems) whole-flat e (link.darts.1) (link.other_company.0) (link.no_bridges.1),
+      );
+      first = subst (λ n. face_sum size whole weights n ≤ weights d + weights e) (sym q) (there (2 * i) (2 * h) (half i) (half h) (even i ∙ sym (even h)));
+      first_twin = subst (λ n. face_sum size whole weights n ≤ weights d + weights e) (sym (ap twin q ∙ sym (coded-twin (edge_count g) k (2 * i)))) (there (twin (2 * i)) (twin (2 * h)) (twin-edge (2 * i) ∙ half i) (twin-edge (2 * h) ∙ half h) (odd i ∙ sym (odd h)));
+      second = subst (λ n. face_sum size whole weights n ≤ weights d + weights e) (sym p) (here (2 * h) (2 * i) (half h) (half i) (even h ∙ sym (even i)));
+      second_twin = subst (λ n. face_sum size whole weights n ≤ weights d + weights e) (sym (ap twin p ∙ sym (coded-twin (edge_count g) j (2 * h)))) (here (twin (2 * h)) (twin (2 * i)) (twin-edge (2 * h) ∙ half h) (twin-edge (2 * i) ∙ half i) (odd h ∙ sym (odd i)));
     }
       where
         weights : ℕ → ℕ
@@ -108,13 +110,19 @@ module _ (g : Multigraph) (nodes : List Node) (b : IsBlockTree g nodes) (family 
         dart_j : (z : ℕ) → z / 2 ≡ h → z < 2 * edge_count (skeleton_graph nodes j)
         dart_j z o = item-dart g nodes b j lj z (subst (λ n. n < length (node_at nodes j).items) (sym o) mh)
 
-        there : (z : ℕ) → z / 2 ≡ i → face_sum (edge_count g * length nodes) (united (edge_count g) (stepped nodes family)) (dart_weight (edge_count g) nodes weight) (coded (edge_count g) k z) ≤ weights d + weights e
-        there z o = let a = heavy k z j (2 * h) (record { first = (lk, dart_k z o); second = (lj, dart_j (2 * h) (half h)); to = ap (λ n. (node_item nodes k n).what) o ∙ to; from = ap (λ n. (node_item nodes j n).what) (half h) ∙ from }) in
-            omega (arith, a, skeleton-sum g nodes b family systems k lk weight z (dart_k z o), at_d, at_e, ap (weight k) o, ap (weight j) (half h))
+        even : (n : ℕ) → (2 * n) % 2 ≡ 0
+        even n = omega arith
 
-        here : (z : ℕ) → z / 2 ≡ h → face_sum (edge_count g * length nodes) (united (edge_count g) (stepped nodes family)) (dart_weight (edge_count g) nodes weight) (coded (edge_count g) j z) ≤ weights d + weights e
-        here z o = let a = heavy j z k (2 * i) (record { first = (lj, dart_j z o); second = (lk, dart_k (2 * i) (half i)); to = ap (λ n. (node_item nodes j n).what) o ∙ from; from = ap (λ n. (node_item nodes k n).what) (half i) ∙ to }) in
-            omega (arith, a, skeleton-sum g nodes b family systems j lj weight z (dart_j z o), at_d, at_e, ap (weight j) o, ap (weight k) (half i))
+        odd : (n : ℕ) → twin (2 * n) % 2 ≡ 1
+        odd n = elim (twin-cases (2 * n)) [ inl a ↦ omega (arith, a.0, a.1) | inr a ↦ absurd (omega (arith, a.0, even n)) ]
+
+        there : (z y : ℕ) → z / 2 ≡ i → y / 2 ≡ h → z % 2 ≡ y % 2 → face_sum (edge_count g * length nodes) (united (edge_count g) (stepped nodes family)) (dart_weight (edge_count g) nodes weight) (coded (edge_count g) k z) ≤ weights d + weights e
+        there z y o u v = let a = heavy k z j y (record { first = (lk, dart_k z o); second = (lj, dart_j y u); to = ap (λ n. (node_item nodes k n).what) o ∙ to; from = ap (λ n. (node_item nodes j n).what) u ∙ from; end = v }) in
+            omega (arith, a, skeleton-sum g nodes b family systems k lk weight z (dart_k z o), at_d, at_e, ap (weight k) o, ap (weight j) u)
+
+        here : (z y : ℕ) → z / 2 ≡ h → y / 2 ≡ i → z % 2 ≡ y % 2 → face_sum (edge_count g * length nodes) (united (edge_count g) (stepped nodes family)) (dart_weight (edge_count g) nodes weight) (coded (edge_count g) j z) ≤ weights d + weights e
+        here z y o u v = let a = heavy j z k y (record { first = (lj, dart_j z o); second = (lk, dart_k y u); to = ap (λ n. (node_item nodes j n).what) o ∙ from; from = ap (λ n. (node_item nodes k n).what) u ∙ to; end = v }) in
+            omega (arith, a, skeleton-sum g nodes b family systems j lj weight z (dart_j z o), at_d, at_e, ap (weight j) o, ap (weight k) u)
 
     -- and so for all links
     pub all-light : (links : List (ℕ × ℕ)) → All (AreOfLink g nodes) links → AreLinksOf (edge_count g * length nodes) (united (edge_count g) (stepped nodes family)) (place_in g nodes) (ends_in g nodes r) (begins_in g nodes r) (part_of (edge_count g)) links

@@ -64,8 +64,8 @@ module _ (m : ℕ) (f g : ℕ → ℕ) (b : IsMap m f g) (plane : IsPlane m f) (
 
     -- the dart before d is not with the twin
     p-apart : same_component m (exchange (g d) d f) (twin d) (g d) ≡ false
-    p-apart = false_from_ne_true (same_component m (exchange (g d) d f) (twin d) (g d)) (λ t. both_ways (same_component m (exchange (g d) d f) (g d) d)
-        (c.symmetric d (g d) (c.transitive d (twin d) (g d) (component-twin m (exchange (g d) d f) d l) t)) apart)
+    p-apart = false_from_ne_true (same_component m (exchange (g d) d f) (twin d) (g d)) (λ t. both_ways (same_component m (exchange (g d) d f) (g d) d) apart
+        (c.symmetric d (g d) (c.transitive d (twin d) (g d) (component-twin m (exchange (g d) d f) d l) t)))
 
     -- the test has one value at each vertex
     kept : (x : ℕ) → x < 2 * m → with_twin (f x) ≡ with_twin x
@@ -91,7 +91,7 @@ module _ (m : ℕ) (f g : ℕ → ℕ) (b : IsMap m f g) (plane : IsPlane m f) (
 
     -- but not along that of d
     contradiction : ⊥
-    contradiction = both_ways (with_twin d) (bridge with_twin kept across ∙ elsewhere (twin d) (twin-other d) ∙ c.reflexive (twin d)) at-d
+    contradiction = both_ways (with_twin d) at-d (bridge with_twin kept across ∙ elsewhere (twin d) (twin-other d) ∙ c.reflexive (twin d))
 
   -- so they are on two faces
   pub two-faces : same_face m f d (twin d) ≡ false

@@ -1,5 +1,5 @@
 -- Faces of rotation systems, by their darts, and the weights of the items along them.
-use Rattle.std.specs.Prelude.{◌≡◌, ℕ, ◌+◌, ◌*◌, ◌/◌, ◌<◌, ◌≤◌, Bool, true, false, ◌||◌, cond, List, length}
+use Rattle.std.specs.Prelude.{◌≡◌, ℕ, ◌+◌, ◌*◌, ◌/◌, ◌%◌, ◌<◌, ◌≤◌, Bool, true, false, ◌||◌, cond, List, length}
 use Rattle.permutations.specs.Count.{count, sum_below}
 use Rattle.multigraph.specs.Graph.{Multigraph, edge_count}
 use Rattle.dart_maps.specs.Map.{twin, same_face}
@@ -36,6 +36,7 @@ pub record AreAcross (nodes : List Node) (k d j e : ℕ) : Type 0 where
   pub second : IsSkeletonDart nodes j e
   pub to : (node_item nodes k (d / 2)).what ≡ Link j
   pub from : (node_item nodes j (e / 2)).what ≡ Link k
+  pub end : d % 2 ≡ e % 2
 
 -- each item that stands for an edge weighs one
 abbrev pub EdgesWeighOne : List Node → (ℕ → ℕ → ℕ) → Type 0
