@@ -118,7 +118,7 @@ class Pictures(unittest.TestCase):
         self.assertGreater(drawn, 30)
 
     def test_examples(self) -> None:
-        for name in ("floor_plan", "each_command", "bond", "yed", "graphviz", "empty"):
+        for name in ("floor_plan", "each_command", "three_edges_are_a_bond", "read_from_yed", "read_from_graphviz", "empty"):
             with self.subTest(example=name):
                 ran = tool("picture", EXAMPLES / f"{name}.gml")
                 self.assertEqual(ran.returncode, 0, ran.stderr)

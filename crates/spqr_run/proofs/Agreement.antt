@@ -1,5 +1,5 @@
 -- Decisions that are due for the same words and bytes are alike, a read that failed aside: so they have one status, and one text but
--- for the certificates.
+-- for the certificates and the texts that commands leave open.
 use Rattle.std.proofs.Common.{◌≡◌, ◌≢◌, ℕ, List, length, Option, None, Some, Ok, Err, IsSome, inl, inr, refl, sym, ap, ◌∙◌, subst, arith}
 use Rattle.std.specs.Bool.{⊤}
 use Rattle.std.proofs.lemmas.Bool.{cases_lt}
@@ -20,14 +20,14 @@ use Rattle.spqr_script.specs.declared.command.Command.{Command}
 use Rattle.spqr_script.proofs.Scripts.{apart, one_reading, one_bad_line}
 use Rattle.spqr_session.specs.Trees.{BlockTree, tree_at, AreBlockTrees}
 use Rattle.spqr_session.specs.Report.{IsReport}
+use Rattle.spqr_session.specs.Open.{AgreeOnTexts}
 use Rattle.spqr_session.specs.Start.{IsStartFault}
 use Rattle.spqr_run.specs.Words.{names_of}
 use Rattle.spqr_run.specs.Decision.{Sources, Work, Decision, SayDocument, SayCommands, AcceptsGraph, AcceptsScript, IsGmlReason, IsGraphReason, IsScriptReason, IsWork, Task, Report, Summary, IsDue}
-use Rattle.spqr_run.specs.Ending.{file_status, graph_status, script_status, refusal_status, refusal_text, status_of, IsTextOf}
+use Rattle.spqr_run.specs.Ending.{graph_status, script_status, refusal_status, refusal_text, status_of, IsTextOf}
 use Rattle.spqr_session.specs.Certificates.{certificate_at, IsCertificate, AreCertificates}
 use Rattle.spqr_session.specs.Setting.{IsSetting}
 use Rattle.spqr_run.specs.Laws.{AgreeOnOpen, AreAlike}
-use Rattle.spqr_run.specs.declared.reading.FileFault.{FileFault}
 use Rattle.spqr_run.specs.declared.reading.FileFault.TheVariants.{Failed, Long}
 use Rattle.spqr_run.specs.declared.refusal.Refusal.{Refusal}
 use Rattle.spqr_run.specs.declared.refusal.Refusal.TheVariants.{Usage as NoForm, OfGraph, OfScript}
@@ -234,8 +234,9 @@ one_status one words sources a b p q n m = status_alike a b (due_alike one words
 -- ---- one text
 
 -- a work has one report
-report_alike : (a b : Work) (s t : List ℕ) → IsSetting b.setting → a ≡ b → IsReport a.setting a.commands s → IsReport b.setting b.commands t → s ≡ t
-report_alike a b s t is w p q = one-report b.setting b.commands s t is (subst (λ (x : Work). IsReport x.setting x.commands s) w p) q
+report_alike : (a b : Work) (s t : List ℕ) → IsSetting b.setting → a ≡ b → (p : IsReport a.setting a.commands s) (q : IsReport b.setting b.commands t) → AgreeOnTexts a.commands p.texts q.texts → s ≡ t
+report_alike a b s t is w p q o =
+    (subst (λ (x : Work). (r : IsReport x.setting x.commands s) → AgreeOnTexts x.commands r.texts q.texts → s ≡ t) (sym w) (λ r u. one-report b.setting b.commands s t is r q u)) p o
 
 -- a made graph has one summary
 summary_alike : (n m seed other : ℕ) (s t : List ℕ) → IsPlanarBlock (made m other) → n ≡ m → seed ≡ other → IsSummary (made n seed) s → IsSummary (made m other) t → s ≡ t
@@ -252,25 +253,25 @@ due_sound words sources (Ok (Report work)) h = h.1.setting
 due_sound words sources (Ok (Summary n seed)) h = asked-planar words n seed h
 due_sound words sources (Err r) h = tt
 
-text_alike : (a b : Decision) (s t : List ℕ) → IsSound b → Alike a b → AgreeOnOpen a b → IsTextOf a s → IsTextOf b t → s ≡ t
-text_alike (Ok (Report a)) (Ok (Report b)) s t is e o p q = report_alike a b s t is (work_same a b e o) p q
-text_alike (Ok (Report a)) (Ok (Summary n seed)) s t is e o p q = absurd e
-text_alike (Ok (Summary n seed)) (Ok (Report b)) s t is e o p q = absurd e
-text_alike (Ok (Summary n seed)) (Ok (Summary m other)) s t is e o p q = summary_alike n m seed other s t is e.0 e.1 p q
-text_alike (Ok a) (Err r) s t is e o p q = absurd e
-text_alike (Err r) (Ok b) s t is e o p q = absurd e
-text_alike (Err NoForm) (Err NoForm) s t is e o p q = p ∙ sym q
-text_alike (Err NoForm) (Err (OfGraph r)) s t is e o p q = absurd e
-text_alike (Err NoForm) (Err (OfScript r)) s t is e o p q = absurd e
-text_alike (Err (OfGraph r)) (Err NoForm) s t is e o p q = absurd e
-text_alike (Err (OfGraph r)) (Err (OfGraph k)) s t is e o p q = p ∙ ap (λ (x : GraphRefusal). refusal_text (OfGraph x)) e ∙ sym q
-text_alike (Err (OfGraph r)) (Err (OfScript k)) s t is e o p q = absurd e
-text_alike (Err (OfScript r)) (Err NoForm) s t is e o p q = absurd e
-text_alike (Err (OfScript r)) (Err (OfGraph k)) s t is e o p q = absurd e
-text_alike (Err (OfScript r)) (Err (OfScript k)) s t is e o p q = p ∙ ap (λ (x : ScriptRefusal). refusal_text (OfScript x)) e ∙ sym q
+text_alike : (a b : Decision) (s t : List ℕ) → IsSound b → Alike a b → (p : IsTextOf a s) (q : IsTextOf b t) → AgreeOnOpen a b s t p q → s ≡ t
+text_alike (Ok (Report a)) (Ok (Report b)) s t is e p q o = report_alike a b s t is (work_same a b e o.0) p q o.1
+text_alike (Ok (Report a)) (Ok (Summary n seed)) s t is e p q o = absurd e
+text_alike (Ok (Summary n seed)) (Ok (Report b)) s t is e p q o = absurd e
+text_alike (Ok (Summary n seed)) (Ok (Summary m other)) s t is e p q o = summary_alike n m seed other s t is e.0 e.1 p q
+text_alike (Ok a) (Err r) s t is e p q o = absurd e
+text_alike (Err r) (Ok b) s t is e p q o = absurd e
+text_alike (Err NoForm) (Err NoForm) s t is e p q o = p ∙ sym q
+text_alike (Err NoForm) (Err (OfGraph r)) s t is e p q o = absurd e
+text_alike (Err NoForm) (Err (OfScript r)) s t is e p q o = absurd e
+text_alike (Err (OfGraph r)) (Err NoForm) s t is e p q o = absurd e
+text_alike (Err (OfGraph r)) (Err (OfGraph k)) s t is e p q o = p ∙ ap (λ (x : GraphRefusal). refusal_text (OfGraph x)) e ∙ sym q
+text_alike (Err (OfGraph r)) (Err (OfScript k)) s t is e p q o = absurd e
+text_alike (Err (OfScript r)) (Err NoForm) s t is e p q o = absurd e
+text_alike (Err (OfScript r)) (Err (OfGraph k)) s t is e p q o = absurd e
+text_alike (Err (OfScript r)) (Err (OfScript k)) s t is e p q o = p ∙ ap (λ (x : ScriptRefusal). refusal_text (OfScript x)) e ∙ sym q
 
-pub one_text : OneDocument → (words : List (List ℕ)) (sources : Sources) (a b : Decision) (s t : List ℕ) → IsDue words sources a → IsDue words sources b → status_of a ≢ ReadFault → status_of b ≢ ReadFault → AgreeOnOpen a b → IsTextOf a s → IsTextOf b t → s ≡ t
-one_text one words sources a b s t p q n m o = text_alike a b s t (due_sound words sources b q) (due_alike one words sources a b p q n m) o
+pub one_text : OneDocument → (words : List (List ℕ)) (sources : Sources) (a b : Decision) (s t : List ℕ) → IsDue words sources a → IsDue words sources b → status_of a ≢ ReadFault → status_of b ≢ ReadFault → (k : IsTextOf a s) (l : IsTextOf b t) → AgreeOnOpen a b s t k l → s ≡ t
+one_text one words sources a b s t p q n m k l o = text_alike a b s t (due_sound words sources b q) (due_alike one words sources a b p q n m) k l o
 
 -- ---- works and refusals
 

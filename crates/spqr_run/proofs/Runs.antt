@@ -206,7 +206,7 @@ module _ (none : NoRefusal) (words : List (List ℕ)) (before after : Seen) (ref
   refused-run GraphRefused w c = refused-with GraphRefused w.0 w.1 c
   refused-run ScriptRefused w c = refused-with ScriptRefused w.0 w.1 c
   refused-run WriteFault w c = record {
-    ends = record { decision = Err refusal; decided = d; text = record { text = refusal_text refusal; is_text = refl; written = w } };
+    ends = record { decision = Err refusal; decided = d; text = w };
     done = tt;
     making = λ n seed e. absurd (making-not_refused words d.sources refusal n seed e d.due);
     form = tt;

@@ -16,7 +16,8 @@ use Rattle.spqr_session.specs.Head.{head_text}
 use Rattle.spqr_session.specs.Report.{IsReport}
 use Rattle.spqr_run.specs.Front.{AppendsFront}
 use Rattle.spqr_run.specs.Writing.{WritesAll, WritesFront, WritesAnswers, AppendsReport, AppendsReportFront, WritesReport}
-use Rattle.spqr_session.proofs.Chains.{chain-exists, chain-keeps, chain-join}
+use Rattle.spqr_session.specs.Open.{AllAnswered}
+use Rattle.spqr_session.proofs.Chains.{chain-join, report-goes_on}
 
 -- ---- answers
 
@@ -39,7 +40,7 @@ module _ (setting : Setting) (start mid after : State) (commands : List Command)
     written = subst (Appends before next) (sym (concat-one w.texts t)) (Appends-trans before now next (concat w.texts) t w.written a);
   }
 
-  -- a front of one answer more was written
+  -- a prefix of one answer more was written
   pub answers-stopped : WritesAll setting start (take i commands) before now mid → Step setting mid command t after → AppendsFront now next t → (k : ℕ) × WritesFront setting start (take k commands) before next
   answers-stopped w step f = (
     i + 1,
@@ -58,7 +59,7 @@ module _ (setting : Setting) (start mid after : State) (commands : List Command)
 
 -- ---- reports
 
-module _ (setting : Setting) (start : State) (commands : List Command) (right : IsSetting setting) (is : IsStart setting start) where
+module _ (setting : Setting) (start : State) (commands : List Command) (is : IsStart setting start) where
   -- the head and answers are a report
   report-of : (cs : List Command) (texts : List (List ℕ)) (last : State) → IsChain setting start cs texts last → IsReport setting cs (head_text setting ++ concat texts)
   report-of cs texts last chain = record { start = start; last = last; texts = texts; starts = is; answers = chain; whole = refl }
@@ -71,37 +72,33 @@ module _ (setting : Setting) (start : State) (commands : List Command) (right : 
     written = Appends-trans before mid now (head_text setting) (concat w.texts) a w.written;
   }
 
-  -- a front of the head was written
-  pub report-stopped_head : (before now : Option (List ℕ)) → AppendsFront before now (head_text setting) → AppendsReportFront setting commands before now
-  report-stopped_head before now f =
-      let others = chain-exists setting start commands right is.right in
-      record {
-        text = head_text setting ++ concat others.0;
-        report = report-of commands others.0 others.1 others.2;
-        written = record {
-          front = f.front;
-          rest = f.rest ++ concat others.0;
-          whole = ap (λ (l : List ℕ). l ++ concat others.0) f.whole ∙ append_assoc f.front f.rest (concat others.0);
-          written = f.written;
-        };
-      }
+  -- a prefix of the head was written
+  pub report-stopped_head : (before now : Option (List ℕ)) → AppendsFront before now (head_text setting) → (k : ℕ) × AppendsReportFront setting (take k commands) before now
+  report-stopped_head before now f = (
+    0,
+    record {
+      text = head_text setting ++ concat [];
+      report = report-of [] [] start refl;
+      written = record {
+        front = f.front;
+        rest = f.rest ++ concat [];
+        whole = ap (λ (l : List ℕ). l ++ concat []) f.whole ∙ append_assoc f.front f.rest (concat []);
+        written = f.written;
+      };
+    },
+  )
 
-  -- the head was written, and then a front of the first answers
-  report-stopped : (k : ℕ) (before mid now : Option (List ℕ)) → Appends before mid (head_text setting) → WritesFront setting start (take k commands) mid now → AppendsReportFront setting commands before now
+  -- the head was written, and then a prefix of the first answers
+  report-stopped : (k : ℕ) (before mid now : Option (List ℕ)) → Appends before mid (head_text setting) → WritesFront setting start (take k commands) mid now → AppendsReportFront setting (take k commands) before now
   report-stopped k before mid now a w =
-      let others = chain-exists setting w.last (drop k commands) right (chain-keeps setting start (take k commands) w.texts w.last right is.right w.answers) in
-      let texts : List (List ℕ) = w.texts ++ others.0 in
-      let chain : IsChain setting start commands texts others.1 = subst (λ (cs : List Command). IsChain setting start cs texts others.1) (take-append-drop k commands) (chain-join setting start w.last others.1 (take k commands) (drop k commands) w.texts others.0 w.answers others.2) in
       let f = w.written in
       record {
-        text = head_text setting ++ concat texts;
-        report = report-of commands texts others.1 chain;
+        text = head_text setting ++ concat w.texts;
+        report = report-of (take k commands) w.texts w.last w.answers;
         written = record {
           front = head_text setting ++ f.front;
-          rest = f.rest ++ concat others.0;
-          whole =
-              ap (λ (l : List ℕ). head_text setting ++ l) (concat-append w.texts others.0 ∙ ap (λ (l : List ℕ). l ++ concat others.0) f.whole ∙ append_assoc f.front f.rest (concat others.0))
-              ∙ sym (append_assoc (head_text setting) f.front (f.rest ++ concat others.0));
+          rest = f.rest;
+          whole = ap (λ (l : List ℕ). head_text setting ++ l) f.whole ∙ sym (append_assoc (head_text setting) f.front f.rest);
           written = Appends-trans before mid now (head_text setting) f.front a f.written;
         };
       }
@@ -109,5 +106,22 @@ module _ (setting : Setting) (start : State) (commands : List Command) (right : 
   -- the head was written, and then answers
   pub report-written : {T : Type 0} (before mid now : Option (List ℕ)) (result : Result T (Halt Failed)) → Appends before mid (head_text setting) → WritesAnswers setting start commands mid now result → WritesReport setting commands before now result
   report-written before mid now (Ok _) a w = report-all commands before mid now w.0 a w.1
-  report-written before mid now (Err (Refused _)) a w = report-stopped w.0 before mid now a w.1
+  report-written before mid now (Err (Refused _)) a w = (w.0, report-stopped w.0 before mid now a w.1)
   report-written before mid now (Err Memory) a w = inr (w.0, report-all (take w.0 commands) before mid now w.1 a w.2)
+
+-- a prefix of a report on the first commands is one of a report on all, where each of the others has an answer
+pub front-of_whole : (setting : Setting) (commands : List Command) (count : ℕ) (before now : Option (List ℕ)) → IsSetting setting → AllAnswered (drop count commands) → AppendsReportFront setting (take count commands) before now
+    → AppendsReportFront setting commands before now
+front-of_whole setting commands count before now is sure w =
+    let on = report-goes_on setting (take count commands) (drop count commands) w.text is sure w.report in
+    let f = w.written in
+    record {
+      text = w.text ++ on.0;
+      report = subst (λ (cs : List Command). IsReport setting cs (w.text ++ on.0)) (take-append-drop count commands) on.1;
+      written = record {
+        front = f.front;
+        rest = f.rest ++ on.0;
+        whole = ap (λ (l : List ℕ). l ++ on.0) f.whole ∙ append_assoc f.front f.rest on.0;
+        written = f.written;
+      };
+    }

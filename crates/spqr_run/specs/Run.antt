@@ -5,7 +5,9 @@ use Rattle.spqr_edge.specs.Device.{counted, Rose}
 use Rattle.spqr_edge.specs.declared.Failed.{Failed}
 use Rattle.command_words.specs.Form.{Make, form_of}
 use Rattle.spqr_run.specs.Front.{AppendsFront}
-use Rattle.spqr_run.specs.Writing.{AppendsReport}
+use Rattle.made_graph.specs.Made.{made}
+use Rattle.made_summary.specs.Summary.{IsSummary}
+use Rattle.spqr_run.specs.Writing.{AppendsReport, AppendsReportFront}
 use Rattle.spqr_run.specs.Decision.{Sources, AreContents, Work, Task, Report, Summary, Decision, IsAccepted, IsDue}
 use Rattle.spqr_run.specs.Ending.{refusal_text, refusal_status, IsTextOf, status_of, CountsFor, IsDecided}
 use Rattle.spqr_run.specs.Seen.{Seen}
@@ -27,22 +29,32 @@ pub record AppendsText (decision : Decision) (before now : Option (List ℕ)) : 
   pub is_text : IsTextOf decision text
   pub written : Appends before now text
 
--- a prefix of a text of the decision was written
-pub record AppendsTextFront (decision : Decision) (before now : Option (List ℕ)) : Type 0 where
+-- a prefix of the summary of the graph that is made from a number was written
+pub record AppendsSummaryFront (n seed : ℕ) (before now : Option (List ℕ)) : Type 0 where
   pub text : List ℕ
-  pub is_text : IsTextOf decision text
+  pub summary : IsSummary (made n seed) text
   pub written : AppendsFront before now text
+
+-- a prefix of a text of a task was written: of a report, of the head and the answers of the first commands, for some number of them
+abbrev pub AppendsTaskFront : Task → Option (List ℕ) → Option (List ℕ) → Type 0
+AppendsTaskFront (Report work) before now = (count : ℕ) × AppendsReportFront work.setting (take count work.commands) before now
+AppendsTaskFront (Summary n seed) before now = AppendsSummaryFront n seed before now
+
+-- so it was of a decision: of a refusal, a prefix of its line
+abbrev pub AppendsTextFront : Decision → Option (List ℕ) → Option (List ℕ) → Type 0
+AppendsTextFront (Ok task) before now = AppendsTaskFront task before now
+AppendsTextFront (Err refusal) before now = AppendsFront before now (refusal_text refusal)
 
 -- the report on the first commands was written whole; a summary has no such part
 abbrev pub AppendsFirst : Task → Option (List ℕ) → Option (List ℕ) → Type 0
 AppendsFirst (Report work) before now = (count : ℕ) × AppendsReport work.setting (take count work.commands) before now
 AppendsFirst (Summary n seed) before now = ⊥
 
--- a task was carried out: a text of it was written, with the status that says so; a prefix of one, where a put failed; nothing, or
+-- a task was carried out: a text of it was written, with the status that says so; a prefix, where a put failed; nothing, or
 -- the report on the first commands, where memory ran out. There is no other status
 abbrev pub CarriesOut : Task → Option (List ℕ) → Option (List ℕ) → Status → Type 0
 CarriesOut task before now Done = AppendsText (Ok task) before now
-CarriesOut task before now WriteFault = AppendsTextFront (Ok task) before now
+CarriesOut task before now WriteFault = AppendsTaskFront task before now
 CarriesOut task before now Memory = Keeps before now ⊎ AppendsFirst task before now
 CarriesOut task before now status = ⊥
 
@@ -59,7 +71,7 @@ pub record Finishes (words : List (List ℕ)) (before after : Seen) (status : St
   pub status_is : status ≡ status_of decision
   pub text : AppendsText decision before.sink.written after.sink.written
 
--- one decision was made, and a prefix of a text of it was written
+-- one decision was made, and a prefix of a text of it was written, of a report on the first commands, for some number of them
 pub record StopsWriting (words : List (List ℕ)) (before after : Seen) : Type 0 where
   pub decision : Decision
   pub decided : IsDecided words before.shelf after.shelf decision
@@ -72,8 +84,8 @@ pub record RunsShort (words : List (List ℕ)) (before after : Seen) : Type 0 wh
   pub count : ℕ
   pub report : AppendsReport work.setting (take count work.commands) before.sink.written after.sink.written
 
--- the end of a run by its status. After a failed put a prefix of a correct text was written; if memory ran out, nothing,
--- or the report on the first commands
+-- the end of a run by its status. After a failed put a prefix of a correct text was written, of a report of that on the first commands;
+-- if memory ran out, nothing, or the report on the first commands
 abbrev pub Ends : List (List ℕ) → Seen → Seen → Status → Type 0
 Ends words before after WriteFault = StopsWriting words before after
 Ends words before after Memory = Keeps before.sink.written after.sink.written ⊎ RunsShort words before after

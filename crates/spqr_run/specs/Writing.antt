@@ -43,8 +43,9 @@ pub record AppendsReportFront (setting : Setting) (commands : List Command) (bef
   pub report : IsReport setting commands text
   pub written : AppendsFront before now text
 
--- a report was written: whole; a prefix, where a put failed; nothing or the report on the first commands, where memory ran out
+-- a report was written: whole; a prefix of the report on the first commands, for some number of them, where a put failed; nothing or the
+-- report on the first commands, where memory ran out
 abbrev pub WritesReport : {T : Type 0} → Setting → List Command → Option (List ℕ) → Option (List ℕ) → Result T (Halt Failed) → Type 0
 WritesReport setting commands before now (Ok _) = AppendsReport setting commands before now
-WritesReport setting commands before now (Err (Refused _)) = AppendsReportFront setting commands before now
+WritesReport setting commands before now (Err (Refused _)) = (k : ℕ) × AppendsReportFront setting (take k commands) before now
 WritesReport setting commands before now (Err OutOfMemory) = Keeps before now ⊎ ((k : ℕ) × AppendsReport setting (take k commands) before now)

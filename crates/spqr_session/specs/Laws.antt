@@ -1,5 +1,5 @@
 -- What the definitions of a session say of one another.
-use Rattle.std.specs.Prelude.{◌≡◌, ℕ, ◌<◌, List, length, Some, Ok}
+use Rattle.std.specs.Prelude.{◌≡◌, ℕ, ◌<◌, false, List, ◌++◌, length, Some, Ok}
 use Rattle.gml_text.specs.Document.{Document}
 use Rattle.gml_text.specs.WellFormed.{IsWellFormed}
 use Rattle.gml_graph.specs.Named.{NamedGraph}
@@ -14,19 +14,20 @@ use Rattle.spqr_session.specs.Members.{AreMembers}
 use Rattle.spqr_session.specs.Products.{member_count}
 use Rattle.spqr_session.specs.Commands.Gml.{present_lists, marks}
 use Rattle.spqr_session.specs.Step.{Step}
+use Rattle.spqr_session.specs.Open.{leaves_open, may_lack_answer, NoneOpen, AllAnswered, AgreeOnTexts}
 use Rattle.spqr_session.specs.Report.{IsReport}
 
--- each command has an answer in each state
+-- each command that may not lack an answer has one in each state
 abbrev pub EachHasAnswer : Type 0
 EachHasAnswer =
     (setting : Setting) (before : State) (command : Command) → IsSetting setting → IsState setting before
-    → (text : List ℕ) × (after : State) × Step setting before command text after
+    → may_lack_answer command ≡ false → (text : List ℕ) × (after : State) × Step setting before command text after
 
--- and one only, with one state after it
+-- there is one state after it; and one text, where the command leaves none open
 abbrev pub OneAnswer : Type 0
 OneAnswer =
     (setting : Setting) (before : State) (command : Command) (s t : List ℕ) (after other : State) → IsSetting setting → IsState setting before
-    → Step setting before command s after → Step setting before command t other → (s ≡ t) × (after ≡ other)
+    → Step setting before command s after → Step setting before command t other → (leaves_open command ≡ false → s ≡ t) × (after ≡ other)
 
 -- a step leads from a state to a state: the current rotation systems of planar blocks are plane
 abbrev pub StepKeepsState : Type 0
@@ -67,9 +68,23 @@ GmlIsReadBack =
     (marked (marks setting.named.graph.vertex_count setting.trees state.present) setting.document)
     (record setting.named { start = told_lists (present_lists setting.named.graph.vertex_count setting.trees state.present) })
 
--- there is one report on a setting and commands
+-- there is one report on a setting and commands, as far as reports agree on the texts that commands leave open
 abbrev pub OneReport : Type 0
-OneReport = (setting : Setting) (commands : List Command) (s t : List ℕ) → IsSetting setting → IsReport setting commands s → IsReport setting commands t → s ≡ t
+OneReport =
+    (setting : Setting) (commands : List Command) (s t : List ℕ) → IsSetting setting → (p : IsReport setting commands s) (q : IsReport setting commands t)
+    → AgreeOnTexts commands p.texts q.texts → s ≡ t
+
+-- and one only, where none of the commands leaves a text open
+abbrev pub OneClosedReport : Type 0
+OneClosedReport =
+    (setting : Setting) (commands : List Command) (s t : List ℕ) → IsSetting setting → NoneOpen commands
+    → IsReport setting commands s → IsReport setting commands t → s ≡ t
+
+-- a report on commands is the beginning of one on these and more, where each of the others has an answer
+abbrev pub ReportGoesOn : Type 0
+ReportGoesOn =
+    (setting : Setting) (commands more : List Command) (s : List ℕ) → IsSetting setting → AllAnswered more → IsReport setting commands s
+    → (rest : List ℕ) × IsReport setting (commands ++ more) (s ++ rest)
 
 -- the list of a block has as many members as the product over its nodes that are not locked says
 abbrev pub MembersAreCounted : Type 0

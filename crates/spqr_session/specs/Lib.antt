@@ -16,6 +16,7 @@ pub mod Planned
 pub mod Commands
 pub mod Products
 pub mod Step
+pub mod Open
 pub mod Head
 pub mod Report
 pub mod Sorting

@@ -1,0 +1,55 @@
+-- A bridge tried: what is drawn stays right, and where no corner fits the graph has no plane rotation system.
+use Rattle.std.proofs.Common.{◌≡◌, ◌∙◌, ℕ, ◌/◌, ◌<◌, inl, inr, Bool, cond, List, ◌∷◌, length, slice_index, sym, subst}
+use Rattle.std.proofs.lemmas.Bool.{cases_Bool}
+use Rattle.permutations.specs.Members.{is_member}
+use Rattle.multigraph.specs.Graph.{Multigraph, edge_count, IsGraph}
+use Rattle.dart_maps.specs.Map.{twin}
+use Rattle.dart_maps.proofs.Darts.{twin-below}
+use Rattle.faces.specs.Euler.{dart_count, IsPlaneSystem}
+use Rattle.path_rotation.specs.Forced.{IsForced, IsPathDrawn}
+use Rattle.path_rotation.specs.Fitting.{IsBoard, IsFoot, AreLabels, AreFitting, MayDraw, IsWayTo}
+use Rattle.path_rotation.proofs.PathTables.{path-tables, path-closed}
+use Rattle.path_rotation.proofs.ForcedSteps.{no-plane, sole-forced, mirror-forced}
+use Rattle.path_rotation.proofs.Fits.{fitting-none}
+
+-- no corner is left
+pub board-none : (g : Multigraph) → IsGraph g → (drawn on : List Bool) (next label : List ℕ) (t : ℕ) (corners : List ℕ) → IsBoard g drawn on next label → IsFoot g drawn on t → AreFitting g drawn on label t corners → length corners ≡ 0
+    → (r : List (List ℕ)) → IsPlaneSystem g r → ⊥
+board-none g ok drawn on next label t corners b f a e =
+    no-plane g ok drawn on next label b.tables b.closed t f.dart f.undrawn f.tail_on b.forced a.attachments a.reached (fitting-none g drawn on label t corners e a)
+
+-- a path drawn where it may be
+module _ (g : Multigraph) (ok : IsGraph g) (drawn on : List Bool) (next label : List ℕ) (t c k : ℕ) (path : List ℕ) (b : IsBoard g drawn on next label) (f : IsFoot g drawn on t) (m : MayDraw g drawn on next label t c) (w : IsWayTo g drawn on label t c path k)
+    (new_drawn new_on : List Bool) (new_next new_label : List ℕ) (all : (along : List ℕ) → path ≡ (t / 2) ∷ along → IsPathDrawn g t along c k drawn on next label new_drawn new_on new_next new_label) where
+  -- it is drawn
+  d : IsPathDrawn g t w.way.along c k drawn on next label new_drawn new_on new_next new_label
+  d = all w.way.along w.way.whole
+
+  -- still forced
+  more-forced : IsForced g new_drawn new_next
+  more-forced = elim m.certain [
+    | inl o ↦ sole-forced g ok drawn on next label b.tables b.closed t f.dart f.undrawn f.tail_on b.forced o.attachments o.reached c o.only w.way.along w.place w.way.leads k w.sole new_drawn new_on new_next new_label d
+    | inr o ↦ mirror-forced g ok drawn on next label b.tables b.closed t f.dart f.undrawn f.tail_on b.forced o.turns c m.at.below (λ x l h e. o.two x (record { below = l; drawn_dart = h; leaves = e })) w.way.along w.place w.way.leads k w.sole new_drawn new_on new_next new_label d
+  ]
+
+  -- its labels are still labels
+  more-labels : AreLabels g new_label
+  more-labels = record {
+    each = d.each_label ∙ b.labels.each;
+    within = λ x l. subst (λ (z : ℕ). z < dart_count g) (sym (d.labelled x l)) (either x l);
+  }
+    where
+      either : (x : ℕ) → x < dart_count g → cond (is_member (x / 2) ((t / 2) ∷ w.way.along)) (slice_index label (twin c)) (slice_index label x) < dart_count g
+      either x l = elim (cases_Bool (is_member (x / 2) ((t / 2) ∷ w.way.along))) [
+        | inl h ↦ rw h (b.labels.within (twin c) (twin-below (edge_count g) c m.at.below))
+        | inr h ↦ rw h (b.labels.within x l)
+      ]
+
+  -- all of it is still right
+  pub board-more : IsBoard g new_drawn new_on new_next new_label
+  board-more = record {
+    tables = path-tables g ok drawn on next b.tables t f.dart f.undrawn f.tail_on w.way.along w.place w.way.leads c k m.at.below m.at.drawn_dart w.sole.corner.below w.sole.corner.drawn_dart label new_drawn new_on new_next new_label d;
+    forced = more-forced;
+    closed = path-closed g ok drawn on next b.tables t f.dart f.undrawn f.tail_on w.way.along w.place w.way.leads c k m.at.below m.at.drawn_dart w.sole.corner.below w.sole.corner.drawn_dart label new_drawn new_on new_next new_label d b.closed w.sole.corner.in_face;
+    labels = more-labels;
+  }

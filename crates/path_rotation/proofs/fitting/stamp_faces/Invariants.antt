@@ -1,0 +1,7 @@
+-- The faces of the corners so far have the stamp.
+use Rattle.std.proofs.Common.{◌≡◌, ℕ, ◌<◌, slice_index}
+use Rattle.dart_maps.specs.Map.{twin}
+use Rattle.path_rotation.proofs.fitting.stamp_faces.Given as goal
+
+abbrev pub invariant-loop-d : goal.invariant-loop-d
+invariant-loop-d l = (j : ℕ) → j < l.d-index → slice_index l.passed (slice_index l.fn.label (twin (slice_index l.fn.darts j))) ≡ l.fn.stamp

@@ -1,0 +1,6 @@
+-- Paths drawn into faces.
+pub mod Forced
+pub mod Fitting
+pub mod Search
+pub mod Insertion
+pub mod Outcome

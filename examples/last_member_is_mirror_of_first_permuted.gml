@@ -1,0 +1,17 @@
+# K2,4 in other numbers: four paths between two vertices.
+graph [
+  node [ id 0 ]
+  node [ id 1 ]
+  node [ id 2 ]
+  node [ id 3 ]
+  node [ id 4 ]
+  node [ id 5 ]
+  edge [ source 1 target 3 ]
+  edge [ source 0 target 5 ]
+  edge [ source 5 target 3 ]
+  edge [ source 1 target 2 ]
+  edge [ source 5 target 4 ]
+  edge [ source 4 target 1 ]
+  edge [ source 5 target 2 ]
+  edge [ source 1 target 0 ]
+]
