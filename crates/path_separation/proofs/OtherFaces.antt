@@ -1,5 +1,5 @@
 -- A path drawn into a face: the other faces stay as they are.
-use Rattle.std.proofs.Common.{◌≡◌, ℕ, ◌*◌, ◌/◌, ◌<◌, inl, inr, Bool, true, false, ◌==◌, List, [], ◌∷◌, refl, sym, ap, ◌∙◌, subst}
+use Rattle.std.proofs.Common.{◌≡◌, ℕ, ◌*◌, ◌/◌, ◌<◌, inl, inr, true, false, ◌==◌, List, [], ◌∷◌, refl, sym, ap, ◌∙◌, subst}
 use Rattle.std.proofs.lemmas.Bool.{cases_Bool, both_ways, false_from_ne_true, eq-eqb, eqb-true, cases_eq}
 use mathlib.Core.Path.{fun_ext}
 use Rattle.permutations.specs.Exchange.{exchange}
@@ -11,7 +11,7 @@ use Rattle.permutations.proofs.Orbits.{orbit-equivalence, orbit-kept}
 use Rattle.permutations.proofs.Permutations.{exchange-left, exchange-other}
 use Rattle.permutations.proofs.Relation.{same-tests, join-old, join-cases}
 use Rattle.permutations.proofs.Transpositions.{exchange-join, exchange-split}
-use Rattle.multigraph.specs.Graph.{Multigraph, edge_count, other_end}
+use Rattle.multigraph.specs.Graph.{edge_count, other_end}
 use Rattle.graph_theory.specs.Path.{IsWalk}
 use Rattle.dart_maps.specs.Map.{twin, face, IsMap, same_face}
 use Rattle.dart_maps.specs.Path.{path_inserted}
