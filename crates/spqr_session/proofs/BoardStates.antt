@@ -8,16 +8,18 @@ use Rattle.spqr_session.specs.State.{Embedding, entry_at}
 use Rattle.spqr_session.specs.Codes.{code_text, first_code}
 use Rattle.spqr_session.specs.declared.code.Code.{Code}
 use Rattle.spqr_session.specs.declared.code.Code.TheVariants.{NothingToUndo, NothingToRedo}
-use Rattle.spqr_session.specs.BlockCodes.{node_ladder, ChangesBlock, Silently}
+use Rattle.spqr_session.specs.BlockCodes.{node_ladder}
 use Rattle.pair_split.specs.Kinds.{has_choices}
 use Rattle.spqr_session.specs.Embedded.{view_tree, view_at}
 use Rattle.spqr_session.specs.Commands.History.{is_none, undo_ladder, redo_ladder, Undoes, Redoes, UndoStep, RedoStep}
-use Rattle.spqr_session.specs.Commands.Lock.{IsLockSet, LockStep}
-use Rattle.spqr_session.specs.Board.{BoardView, board_state, changed_board, StandsAt}
+use Rattle.spqr_session.specs.Commands.Lock.{with_lock, LocksNode, LockStep}
+use Rattle.spqr_session.specs.Scene.{setting_on}
+use Rattle.spqr_session.specs.declared.scene.Scene.{Scene}
+use Rattle.spqr_session.specs.Board.{BoardView, board_state, board_with_entry, StandsAt}
 use Rattle.spqr_session.proofs.Views.{entries-at, trees-at}
 use Rattle.spqr_session.proofs.Ladders.{rung-hit, refused-first, carried-out}
 use Rattle.spqr_session.proofs.Changes.{NodeFacts, node-facts}
-use Rattle.spqr_session.proofs.Plans.{changed-seen}
+use Rattle.spqr_session.proofs.Plans.{entry-seen}
 
 -- a block that is there stands at the entry of the state
 pub stands-at : (board : BoardView) (b : ℕ) (e : Embedding) → b < length board.views → entry_at (board_state board).present b ≡ Some e → StandsAt board.views b e
@@ -32,16 +34,11 @@ undo-refused board text e t = refused-first (undo_ladder (board_state board)) re
 pub redo-refused : (board : BoardView) (text : List ℕ) → is_none board.later ≡ true → text ≡ code_text NothingToRedo → RedoStep (board_state board) text (board_state board)
 redo-refused board text e t = refused-first (redo_ladder (board_state board)) refl Redoes (board_state board) NothingToRedo text (rung-hit NothingToRedo (is_none board.later) [] e) t
 
--- the embedding with the lock
-abbrev pub lock-new : Bool → ℕ → Embedding → Embedding
-lock-new on k e = record { rotation = e.rotation; locks = set e.locks k on }
-
 module _ (on : Bool) (board : BoardView) (b k : ℕ) where
   -- the line of the first code that applies
-  pub lock-refused : (code : Code) (text : List ℕ) → first_code (node_ladder has_choices (map view_tree board.views) b k (board_state board)) ≡ Some code → text ≡ code_text code
-      → LockStep on (map view_tree board.views) b k (board_state board) text (board_state board)
-  lock-refused code text e t =
-      refused-first (node_ladder has_choices (map view_tree board.views) b k (board_state board)) refl (ChangesBlock (map view_tree board.views) b (Silently (IsLockSet k on))) (board_state board) code text e t
+  pub lock-refused : (scene : Scene) (code : Code) (text : List ℕ) → first_code (node_ladder has_choices (map view_tree board.views) b k (board_state board)) ≡ Some code → text ≡ code_text code
+      → LockStep on (setting_on scene board.views) b k (board_state board) text (board_state board)
+  lock-refused scene code text e t = refused-first (node_ladder has_choices (map view_tree board.views) b k (board_state board)) refl (LocksNode on b k) (board_state board) code text e t
 
   -- where none applies the block is there and planar, and has the node
   lock-facts : first_code (node_ladder has_choices (map view_tree board.views) b k (board_state board)) ≡ None → NodeFacts has_choices (map view_tree board.views) b k (board_state board)
@@ -56,19 +53,17 @@ module _ (on : Bool) (board : BoardView) (b k : ℕ) where
   lock-node none = subst (λ (t : BlockTree). k < length t.nodes) (trees-at board.views b) (lock-facts none).node
 
   -- and the lock is set
-  pub lock-done : (after : BoardView) (text : List ℕ) → first_code (node_ladder has_choices (map view_tree board.views) b k (board_state board)) ≡ None
-      → ((e : Embedding) → StandsAt board.views b e → after ≡ changed_board board b (lock-new on k e)) → text ≡ ok_text
-      → LockStep on (map view_tree board.views) b k (board_state board) text (board_state after)
+  pub lock-done : (scene : Scene) (after : BoardView) (text : List ℕ) → first_code (node_ladder has_choices (map view_tree board.views) b k (board_state board)) ≡ None
+      → ((e : Embedding) → StandsAt board.views b e → after ≡ board_with_entry board b (with_lock k on e)) → text ≡ ok_text
+      → LockStep on (setting_on scene board.views) b k (board_state board) text (board_state after)
   unfolding lock-facts lock-stands
-  lock-done after text none is t =
+  lock-done scene after text none is t =
       let f = lock-facts none in
-      let new = lock-new on k f.entry in
-      carried-out (node_ladder has_choices (map view_tree board.views) b k (board_state board)) refl (ChangesBlock (map view_tree board.views) b (Silently (IsLockSet k on))) (board_state board) text (board_state after) none (record {
+      carried-out (node_ladder has_choices (map view_tree board.views) b k (board_state board)) refl (LocksNode on b k) (board_state board) text (board_state after) none (record {
         old = f.entry;
         present = f.present;
-        new = new;
-        change = (record { rotation = refl; locks = refl }, t);
-        after_is = ap board_state (is f.entry (lock-stands none).1) ∙ changed-seen board b new;
+        after_is = ap board_state (is f.entry (lock-stands none).1) ∙ entry-seen board b (with_lock k on f.entry);
+        answer = t;
       })
 
 -- whether something is earlier or later, from the answer to it

@@ -15,7 +15,7 @@ use Rattle.spqr_session.specs.State.{Embedding, Family, State, entry_at, IsEntry
 use Rattle.spqr_session.specs.Codes.{Ladder, Applies, Carries, rises_above, first_code}
 use Rattle.spqr_session.specs.declared.code.Code.{Code}
 use Rattle.spqr_session.specs.declared.code.Code.TheVariants.{NoBlock, NoNode, WrongKind, NonPlanar}
-use Rattle.spqr_session.specs.BlockCodes.{is_block, is_node, kind_of, is_planar, node_ladder, of_entry, lock_codes, ChangesBlock, changed, Silently, ChangeStep}
+use Rattle.spqr_session.specs.BlockCodes.{is_block, is_node, kind_of, is_planar, node_ladder, of_entry, lock_codes, ChangesBlock, with_entry, changed, Silently}
 use Rattle.pair_split.specs.Kinds.{is_rigid, is_bond, has_choices}
 use Rattle.spqr_session.proofs.Carried.{DoesOne}
 use Rattle.spqr_session.proofs.Ladders.{rung-hit, rung-missed, rung-none}
@@ -84,13 +84,13 @@ entry-within family b e p = elim (cases_lt b (length family.entries)) [
   | inr n ↦ absurd (let both : None ≡ Some e = sym (get_or_past family.entries b None (let m : length family.entries ≤ b = omega (arith, n) in m)) ∙ p in cc)
 ]
 
-module _ (IsChange : BlockTree → Embedding → Embedding → List ℕ → Type 0) (trees : List BlockTree) (b : ℕ) (s : State) where
+module _ (IsChange : BlockTree → Embedding → Embedding → List ℕ → Type 0) (setting : Setting) (b : ℕ) (s : State) where
   -- the change is one, if it is so of each embedding
-  pub change-does : ((old new other : Embedding) (t u : List ℕ) → entry_at s.present b ≡ Some old → IsChange (tree_at trees b) old new t → IsChange (tree_at trees b) old other u → (new ≡ other) × (t ≡ u)) → DoesOne (ChangesBlock trees b IsChange) s
+  pub change-does : ((old new other : Embedding) (t u : List ℕ) → entry_at s.present b ≡ Some old → IsChange (tree_at setting.trees b) old new t → IsChange (tree_at setting.trees b) old other u → (new ≡ other) × (t ≡ u)) → DoesOne (ChangesBlock setting b IsChange) s
   change-does one t u after other p q =
       let same : p.old ≡ q.old = entry-same (entry_at s.present b) p.old q.old p.present q.present in
-      let h = one q.old p.new q.new t u q.present (subst (λ (e : Embedding). IsChange (tree_at trees b) e p.new t) same p.change) q.change in
-      (h.1, p.after_is ∙ ap (changed s b) h.0 ∙ sym q.after_is)
+      let h = one q.old p.new q.new t u q.present (subst (λ (e : Embedding). IsChange (tree_at setting.trees b) e p.new t) same p.change) q.change in
+      (h.1, p.after_is ∙ ap (changed setting s b) h.0 ∙ sym q.after_is)
 
 -- an entry of a family is set
 family-set : (setting : Setting) (family : Family) (b : ℕ) (e : Embedding) → IsFamily setting family → (b < length setting.trees → IsEntry (tree_at setting.trees b) (certificate_at setting.certificates b) (Some e)) → IsFamily setting (record { entries = set family.entries b (Some e) })
@@ -111,25 +111,30 @@ entry-along : (tree : BlockTree) (certificate : Option Subdivision) (old new : E
 entry-along tree None old new p q = q
 entry-along tree (Some c) old new p q = absurd p
 
--- a state whose embedding is changed to a right one is a state
-pub change-keeps : (IsChange : BlockTree → Embedding → Embedding → List ℕ → Type 0) (setting : Setting) (b : ℕ) (s : State) (text : List ℕ) (after : State) → IsState setting s → ChangesBlock setting.trees b IsChange s text after
-    → ((old new : Embedding) (t : List ℕ) → b < length setting.trees → entry_at s.present b ≡ Some old → IsEntry (tree_at setting.trees b) None (Some old) → IsChange (tree_at setting.trees b) old new t → IsEntry (tree_at setting.trees b) None (Some new))
-    → IsState setting after
-change-keeps IsChange setting b s text after is c keeps = subst (IsState setting) (sym c.after_is) (record {
-  present = family-set setting s.present b c.new is.present right;
+-- a state in which an entry is set to a right one is a state
+pub entry-keeps : (setting : Setting) (b : ℕ) (old new : Embedding) (s : State) → IsState setting s → entry_at s.present b ≡ Some old
+    → (b < length setting.trees → IsEntry (tree_at setting.trees b) None (Some old) → IsEntry (tree_at setting.trees b) None (Some new)) → IsState setting (with_entry s b new)
+entry-keeps setting b old new s is at keeps = record {
+  present = family-set setting s.present b new is.present right;
   earlier = All-cons (IsFamily setting) s.present s.earlier is.present is.earlier;
   later = All-nil (IsFamily setting);
-})
+}
   where
-    plain : (certificate : Option Subdivision) → IsEntry (tree_at setting.trees b) certificate (Some c.old) → IsEntry (tree_at setting.trees b) None (Some c.old)
+    plain : (certificate : Option Subdivision) → IsEntry (tree_at setting.trees b) certificate (Some old) → IsEntry (tree_at setting.trees b) None (Some old)
     plain None p = p
     plain (Some x) p = absurd p
 
-    right : b < length setting.trees → IsEntry (tree_at setting.trees b) (certificate_at setting.certificates b) (Some c.new)
+    right : b < length setting.trees → IsEntry (tree_at setting.trees b) (certificate_at setting.certificates b) (Some new)
     right l =
-        let old : IsEntry (tree_at setting.trees b) (certificate_at setting.certificates b) (Some c.old) =
-        subst (λ (o : Option Embedding). IsEntry (tree_at setting.trees b) (certificate_at setting.certificates b) o) c.present (is.present.each b l) in
-        entry-along (tree_at setting.trees b) (certificate_at setting.certificates b) c.old c.new old (keeps c.old c.new text l c.present (plain (certificate_at setting.certificates b) old) c.change)
+        let before : IsEntry (tree_at setting.trees b) (certificate_at setting.certificates b) (Some old) =
+        subst (λ (o : Option Embedding). IsEntry (tree_at setting.trees b) (certificate_at setting.certificates b) o) at (is.present.each b l) in
+        entry-along (tree_at setting.trees b) (certificate_at setting.certificates b) old new before (keeps l (plain (certificate_at setting.certificates b) before))
+
+-- so is one whose embedding is changed to a right one
+pub change-keeps : (IsChange : BlockTree → Embedding → Embedding → List ℕ → Type 0) (setting : Setting) (b : ℕ) (s : State) (text : List ℕ) (after : State) → IsState setting s → ChangesBlock setting b IsChange s text after
+    → ((old new : Embedding) (t : List ℕ) → b < length setting.trees → entry_at s.present b ≡ Some old → IsEntry (tree_at setting.trees b) None (Some old) → IsChange (tree_at setting.trees b) old new t → IsEntry (tree_at setting.trees b) None (Some new))
+    → IsState setting after
+change-keeps IsChange setting b s text after is c keeps = subst (IsState setting) (sym c.after_is) (entry-keeps setting b c.old c.new s is c.present (λ l e. keeps c.old c.new text l c.present e c.change))
 
 -- the entry of a block of a state, where there is one
 pub entry-right : (setting : Setting) (s : State) (b : ℕ) (e : Embedding) → IsState setting s → b < length setting.trees → entry_at s.present b ≡ Some e → IsEntry (tree_at setting.trees b) None (Some e)

@@ -20,16 +20,16 @@ use Rattle.spqr_session.proofs.TakeCarried.{take-tells, take-new, take-answers, 
 
 -- ---- steps with `ok` and with the moves told
 
-module _ (applies : Code → Type 0) (IsChange : BlockTree → Embedding → Embedding → Type 0) (trees : List BlockTree) (b : ℕ) (s : State) where
-  pub with-moves : (text : List ℕ) (after : State) → Carries applies (ChangesBlock trees b (Silently IsChange)) s text after → (told : List ℕ) × Carries applies (ChangesBlock trees b (WithMoves IsChange)) s told after
+module _ (applies : Code → Type 0) (IsChange : BlockTree → Embedding → Embedding → Type 0) (setting : Setting) (b : ℕ) (s : State) where
+  pub with-moves : (text : List ℕ) (after : State) → Carries applies (ChangesBlock setting b (Silently IsChange)) s text after → (told : List ℕ) × Carries applies (ChangesBlock setting b (WithMoves IsChange)) s told after
   with-moves text after (inl p) = (text, inl p)
   with-moves text after (inr p) =
       let c = p.1 in (
-        conversion_text (tree_at trees b) c.old c.new,
+        conversion_text (tree_at setting.trees b) c.old c.new,
         inr (p.0, record { old = c.old; present = c.present; new = c.new; change = (c.change.0, refl); after_is = c.after_is }),
       )
 
-  pub without-moves : (text : List ℕ) (after : State) → Carries applies (ChangesBlock trees b (WithMoves IsChange)) s text after → (told : List ℕ) × Carries applies (ChangesBlock trees b (Silently IsChange)) s told after
+  pub without-moves : (text : List ℕ) (after : State) → Carries applies (ChangesBlock setting b (WithMoves IsChange)) s text after → (told : List ℕ) × Carries applies (ChangesBlock setting b (Silently IsChange)) s told after
   without-moves text after (inl p) = (text, inl p)
   without-moves text after (inr p) =
       let c = p.1 in
@@ -50,36 +50,36 @@ module _ (setting : Setting) (b r : ℕ) (s : State) (is : IsSetting setting) (r
       let m = listed (tree_at setting.trees b) old (setting-tree setting is b l) (entry-right setting s b old right l at) in
       embedding-same new other (sym (p.rank m.list m.are).is_there ∙ (q.rank m.list m.are).is_there) (p.locks ∙ sym q.locks)
 
-  pub convert_rank-answers : (text : List ℕ) × (after : State) × ConvertByProduct setting.trees b r s text after
+  pub convert_rank-answers : (text : List ℕ) × (after : State) × ConvertByProduct setting b r s text after
   convert_rank-answers =
       let a = goto-answers setting b s is right r in
-      let w = with-moves (Applies (read_ladder (product_rank_codes r) setting.trees b s)) (StandsAt r) setting.trees b s a.0 a.1 a.2 in
+      let w = with-moves (Applies (read_ladder (product_rank_codes r) setting.trees b s)) (StandsAt r) setting b s a.0 a.1 a.2 in
       (w.0, a.1, w.1)
 
-  pub convert_rank-one : (t u : List ℕ) (after other : State) → ConvertByProduct setting.trees b r s t after → ConvertByProduct setting.trees b r s u other → (t ≡ u) × (after ≡ other)
-  convert_rank-one t u after other p q = ladder-one (read_ladder (product_rank_codes r) setting.trees b s) (rank-rises setting b s is right r) (ChangesBlock setting.trees b (WithMoves (StandsAt r))) s
-      (change-does (WithMoves (StandsAt r)) setting.trees b s (λ old new next x y at c d. moves-one (StandsAt r) (tree_at setting.trees b) old new next x y (λ m n. rank-new old new next at m n) c d)) t u after other p q
+  pub convert_rank-one : (t u : List ℕ) (after other : State) → ConvertByProduct setting b r s t after → ConvertByProduct setting b r s u other → (t ≡ u) × (after ≡ other)
+  convert_rank-one t u after other p q = ladder-one (read_ladder (product_rank_codes r) setting.trees b s) (rank-rises setting b s is right r) (ChangesBlock setting b (WithMoves (StandsAt r))) s
+      (change-does (WithMoves (StandsAt r)) setting b s (λ old new next x y at c d. moves-one (StandsAt r) (tree_at setting.trees b) old new next x y (λ m n. rank-new old new next at m n) c d)) t u after other p q
 
-  pub convert_rank-keeps : (text : List ℕ) (after : State) → ConvertByProduct setting.trees b r s text after → IsState setting after
+  pub convert_rank-keeps : (text : List ℕ) (after : State) → ConvertByProduct setting b r s text after → IsState setting after
   convert_rank-keeps text after p =
-      let w = without-moves (Applies (read_ladder (product_rank_codes r) setting.trees b s)) (StandsAt r) setting.trees b s text after p in
+      let w = without-moves (Applies (read_ladder (product_rank_codes r) setting.trees b s)) (StandsAt r) setting b s text after p in
       goto-keeps setting b s is right r w.0 after w.1
 
 -- ---- to lists
 
 module _ (setting : Setting) (b : ℕ) (entries : List (ℕ × List ℕ)) (s : State) (is : IsSetting setting) (right : IsState setting s) where
-  pub convert_to-answers : (text : List ℕ) × (after : State) × ConvertToStep setting.trees b entries s text after
+  pub convert_to-answers : (text : List ℕ) × (after : State) × ConvertToStep setting b entries s text after
   convert_to-answers =
       let a = take-answers setting b entries s is right in
-      let w = with-moves (TakeApplies setting.trees b entries s) (IsTaken entries) setting.trees b s a.0 a.1 a.2 in
+      let w = with-moves (TakeApplies setting.trees b entries s) (IsTaken entries) setting b s a.0 a.1 a.2 in
       (w.0, a.1, w.1)
 
-  pub convert_to-one : (t u : List ℕ) (after other : State) → ConvertToStep setting.trees b entries s t after → ConvertToStep setting.trees b entries s u other → (t ≡ u) × (after ≡ other)
-  convert_to-one t u after other p q = carries-one (TakeApplies setting.trees b entries s) (ChangesBlock setting.trees b (WithMoves (IsTaken entries))) s t u after other (take-tells setting b entries s is right)
-      (change-does (WithMoves (IsTaken entries)) setting.trees b s (λ old new next x y at c d.
+  pub convert_to-one : (t u : List ℕ) (after other : State) → ConvertToStep setting b entries s t after → ConvertToStep setting b entries s u other → (t ≡ u) × (after ≡ other)
+  convert_to-one t u after other p q = carries-one (TakeApplies setting.trees b entries s) (ChangesBlock setting b (WithMoves (IsTaken entries))) s t u after other (take-tells setting b entries s is right)
+      (change-does (WithMoves (IsTaken entries)) setting b s (λ old new next x y at c d.
       moves-one (IsTaken entries) (tree_at setting.trees b) old new next x y (λ m n. take-new setting b entries s is right old new next at m n) c d)) p q
 
-  pub convert_to-keeps : (text : List ℕ) (after : State) → ConvertToStep setting.trees b entries s text after → IsState setting after
+  pub convert_to-keeps : (text : List ℕ) (after : State) → ConvertToStep setting b entries s text after → IsState setting after
   convert_to-keeps text after p =
-      let w = without-moves (TakeApplies setting.trees b entries s) (IsTaken entries) setting.trees b s text after p in
+      let w = without-moves (TakeApplies setting.trees b entries s) (IsTaken entries) setting b s text after p in
       take-keeps setting b entries s is right w.0 after w.1

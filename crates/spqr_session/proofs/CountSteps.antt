@@ -63,70 +63,70 @@ module _ (setting : Setting) (b : ℕ) (s : State) (is : IsSetting setting) (rig
 
   -- ---- count
 
-  pub count-is_step : (text : List ℕ) (after : State) → CountByProduct setting.trees b s text after → CountStep setting.trees b s text after
+  pub count-is_step : (text : List ℕ) (after : State) → CountByProduct setting.trees b s text after → CountStep setting b s text after
   count-is_step text after p = with-count count_codes (λ ladder. Carries (Applies ladder) (ReadsBlock setting.trees b IsCounted) s text after) p
 
-  count-is_product : (text : List ℕ) (after : State) → CountStep setting.trees b s text after → CountByProduct setting.trees b s text after
+  count-is_product : (text : List ℕ) (after : State) → CountStep setting b s text after → CountByProduct setting.trees b s text after
   count-is_product text after p = from-count count_codes (λ ladder. Carries (Applies ladder) (ReadsBlock setting.trees b IsCounted) s text after) p
 
-  pub count_step-answers : (text : List ℕ) × (after : State) × CountStep setting.trees b s text after
+  pub count_step-answers : (text : List ℕ) × (after : State) × CountStep setting b s text after
   count_step-answers = let a = count-answers setting b s is right in (a.0, a.1, count-is_step a.0 a.1 a.2)
 
-  pub count_step-one : (t u : List ℕ) (after other : State) → CountStep setting.trees b s t after → CountStep setting.trees b s u other → (t ≡ u) × (after ≡ other)
+  pub count_step-one : (t u : List ℕ) (after other : State) → CountStep setting b s t after → CountStep setting b s u other → (t ≡ u) × (after ≡ other)
   count_step-one t u after other p q = count-one setting b s is right t u after other (count-is_product t after p) (count-is_product u other q)
 
-  pub count_step-keeps : (text : List ℕ) (after : State) → CountStep setting.trees b s text after → IsState setting after
+  pub count_step-keeps : (text : List ℕ) (after : State) → CountStep setting b s text after → IsState setting after
   count_step-keeps text after p = count-keeps setting b s is right text after (count-is_product text after p)
 
   -- ---- rank
 
-  pub rank-is_step : (text : List ℕ) (after : State) → RankByProduct setting.trees b s text after → RankStep setting.trees b s text after
+  pub rank-is_step : (text : List ℕ) (after : State) → RankByProduct setting.trees b s text after → RankStep setting b s text after
   rank-is_step text after p = with-count count_codes (λ ladder. Carries (Applies ladder) (ReadsBlock setting.trees b IsRanked) s text after) p
 
-  rank-is_product : (text : List ℕ) (after : State) → RankStep setting.trees b s text after → RankByProduct setting.trees b s text after
+  rank-is_product : (text : List ℕ) (after : State) → RankStep setting b s text after → RankByProduct setting.trees b s text after
   rank-is_product text after p = from-count count_codes (λ ladder. Carries (Applies ladder) (ReadsBlock setting.trees b IsRanked) s text after) p
 
-  pub rank_step-answers : (text : List ℕ) × (after : State) × RankStep setting.trees b s text after
+  pub rank_step-answers : (text : List ℕ) × (after : State) × RankStep setting b s text after
   rank_step-answers = let a = rank-answers setting b s is right in (a.0, a.1, rank-is_step a.0 a.1 a.2)
 
-  pub rank_step-one : (t u : List ℕ) (after other : State) → RankStep setting.trees b s t after → RankStep setting.trees b s u other → (t ≡ u) × (after ≡ other)
+  pub rank_step-one : (t u : List ℕ) (after other : State) → RankStep setting b s t after → RankStep setting b s u other → (t ≡ u) × (after ≡ other)
   rank_step-one t u after other p q = rank-one setting b s is right t u after other (rank-is_product t after p) (rank-is_product u other q)
 
-  pub rank_step-keeps : (text : List ℕ) (after : State) → RankStep setting.trees b s text after → IsState setting after
+  pub rank_step-keeps : (text : List ℕ) (after : State) → RankStep setting b s text after → IsState setting after
   rank_step-keeps text after p = rank-keeps setting b s is right text after (rank-is_product text after p)
 
   -- ---- goto
 
-  pub goto-is_step : (r : ℕ) (text : List ℕ) (after : State) → GotoByProduct setting.trees b r s text after → GotoStep setting.trees b r s text after
-  goto-is_step r text after p = with-count (rank_codes r) (λ ladder. Carries (Applies ladder) (ChangesBlock setting.trees b (Silently (StandsAt r))) s text after) p
+  pub goto-is_step : (r : ℕ) (text : List ℕ) (after : State) → GotoByProduct setting b r s text after → GotoStep setting b r s text after
+  goto-is_step r text after p = with-count (rank_codes r) (λ ladder. Carries (Applies ladder) (ChangesBlock setting b (Silently (StandsAt r))) s text after) p
 
-  goto-is_product : (r : ℕ) (text : List ℕ) (after : State) → GotoStep setting.trees b r s text after → GotoByProduct setting.trees b r s text after
-  goto-is_product r text after p = from-count (rank_codes r) (λ ladder. Carries (Applies ladder) (ChangesBlock setting.trees b (Silently (StandsAt r))) s text after) p
+  goto-is_product : (r : ℕ) (text : List ℕ) (after : State) → GotoStep setting b r s text after → GotoByProduct setting b r s text after
+  goto-is_product r text after p = from-count (rank_codes r) (λ ladder. Carries (Applies ladder) (ChangesBlock setting b (Silently (StandsAt r))) s text after) p
 
-  pub goto_step-answers : (r : ℕ) → (text : List ℕ) × (after : State) × GotoStep setting.trees b r s text after
+  pub goto_step-answers : (r : ℕ) → (text : List ℕ) × (after : State) × GotoStep setting b r s text after
   goto_step-answers r = let a = goto-answers setting b s is right r in (a.0, a.1, goto-is_step r a.0 a.1 a.2)
 
-  pub goto_step-one : (r : ℕ) (t u : List ℕ) (after other : State) → GotoStep setting.trees b r s t after → GotoStep setting.trees b r s u other → (t ≡ u) × (after ≡ other)
+  pub goto_step-one : (r : ℕ) (t u : List ℕ) (after other : State) → GotoStep setting b r s t after → GotoStep setting b r s u other → (t ≡ u) × (after ≡ other)
   goto_step-one r t u after other p q = goto-one setting b s is right r t u after other (goto-is_product r t after p) (goto-is_product r u other q)
 
-  pub goto_step-keeps : (r : ℕ) (text : List ℕ) (after : State) → GotoStep setting.trees b r s text after → IsState setting after
+  pub goto_step-keeps : (r : ℕ) (text : List ℕ) (after : State) → GotoStep setting b r s text after → IsState setting after
   goto_step-keeps r text after p = goto-keeps setting b s is right r text after (goto-is_product r text after p)
 
   -- ---- convert to a rank
 
-  pub convert-is_step : (r : ℕ) (text : List ℕ) (after : State) → ConvertByProduct setting.trees b r s text after → ConvertRankStep setting.trees b r s text after
-  convert-is_step r text after p = with-count (rank_codes r) (λ ladder. Carries (Applies ladder) (ChangesBlock setting.trees b (WithMoves (StandsAt r))) s text after) p
+  pub convert-is_step : (r : ℕ) (text : List ℕ) (after : State) → ConvertByProduct setting b r s text after → ConvertRankStep setting b r s text after
+  convert-is_step r text after p = with-count (rank_codes r) (λ ladder. Carries (Applies ladder) (ChangesBlock setting b (WithMoves (StandsAt r))) s text after) p
 
-  convert-is_product : (r : ℕ) (text : List ℕ) (after : State) → ConvertRankStep setting.trees b r s text after → ConvertByProduct setting.trees b r s text after
-  convert-is_product r text after p = from-count (rank_codes r) (λ ladder. Carries (Applies ladder) (ChangesBlock setting.trees b (WithMoves (StandsAt r))) s text after) p
+  convert-is_product : (r : ℕ) (text : List ℕ) (after : State) → ConvertRankStep setting b r s text after → ConvertByProduct setting b r s text after
+  convert-is_product r text after p = from-count (rank_codes r) (λ ladder. Carries (Applies ladder) (ChangesBlock setting b (WithMoves (StandsAt r))) s text after) p
 
-  pub convert_step-answers : (r : ℕ) → (text : List ℕ) × (after : State) × ConvertRankStep setting.trees b r s text after
+  pub convert_step-answers : (r : ℕ) → (text : List ℕ) × (after : State) × ConvertRankStep setting b r s text after
   convert_step-answers r = let a = convert_rank-answers setting b r s is right in (a.0, a.1, convert-is_step r a.0 a.1 a.2)
 
-  pub convert_step-one : (r : ℕ) (t u : List ℕ) (after other : State) → ConvertRankStep setting.trees b r s t after → ConvertRankStep setting.trees b r s u other → (t ≡ u) × (after ≡ other)
+  pub convert_step-one : (r : ℕ) (t u : List ℕ) (after other : State) → ConvertRankStep setting b r s t after → ConvertRankStep setting b r s u other → (t ≡ u) × (after ≡ other)
   convert_step-one r t u after other p q = convert_rank-one setting b r s is right t u after other (convert-is_product r t after p) (convert-is_product r u other q)
 
-  pub convert_step-keeps : (r : ℕ) (text : List ℕ) (after : State) → ConvertRankStep setting.trees b r s text after → IsState setting after
+  pub convert_step-keeps : (r : ℕ) (text : List ℕ) (after : State) → ConvertRankStep setting b r s text after → IsState setting after
   convert_step-keeps r text after p = convert_rank-keeps setting b r s is right text after (convert-is_product r text after p)
 
 -- the law

@@ -6,7 +6,7 @@ use Rattle.rotations.proofs.FirstBad.{bad-one, bad-none}
 use Rattle.spqr_script.specs.Answers.Euler.{euler_text}
 use Rattle.spqr_session.specs.State.{State}
 use Rattle.spqr_session.specs.Codes.{code_number, code_numbers, code_text}
-use Rattle.spqr_session.specs.Commands.Euler.{EulerApplies, EulerDoes, EulerStep, IsGiven, euler_numbers}
+use Rattle.spqr_session.specs.Commands.Euler.{EulerApplies, EulerDoes, EulerOn, IsGiven, euler_numbers}
 use Rattle.spqr_session.specs.declared.code.Code.{Code}
 use Rattle.spqr_session.specs.declared.code.Code.TheVariants.{NoBlock, NoNode, WrongKind, BadOrder, NonPlanar, BadRotation, NotGenusZero, NothingToUndo, NothingToRedo, CountOver, RankOut, Locked}
 use Rattle.spqr_session.proofs.Arranging.{arranged_or_bad, given-exists, given-one}
@@ -44,15 +44,15 @@ module _ (g : Multigraph) (entries : List (ℕ × List ℕ)) where
   none-applies r is (Locked k) a = a
 
   -- the line of the first bad number is the answer
-  pub euler-refused : (v : ℕ) (s : State) (text : List ℕ) → IsFirstBad g entries v → text ≡ code_text (BadRotation v) → EulerStep g entries s text s
+  pub euler-refused : (v : ℕ) (s : State) (text : List ℕ) → IsFirstBad g entries v → text ≡ code_text (BadRotation v) → EulerOn g entries s text s
   euler-refused v s text bad e = inl (record { code = BadRotation v; lowest = record { met = bad; least = least-code v }; line = e; stays = refl })
 
   -- the numbers of the rotation system are the answer
-  pub euler-done : (r : List (List ℕ)) (s : State) (text : List ℕ) → IsGiven g entries r → text ≡ euler_text (euler_numbers g r) → EulerStep g entries s text s
+  pub euler-done : (r : List (List ℕ)) (s : State) (text : List ℕ) → IsGiven g entries r → text ≡ euler_text (euler_numbers g r) → EulerOn g entries s text s
   euler-done r s text is e = inr (none-applies r is, record { rotation = r; given = is; answer = e; stays = refl })
 
   -- there is an answer
-  pub euler-answers : (s : State) → (text : List ℕ) × (after : State) × EulerStep g entries s text after
+  pub euler-answers : (s : State) → (text : List ℕ) × (after : State) × EulerOn g entries s text after
   euler-answers s = elim (arranged_or_bad g entries) [
     | inl a ↦ (let is = given-exists g entries a in (euler_text (euler_numbers g is.0), s, euler-done is.0 s (euler_text (euler_numbers g is.0)) is.1 refl))
     | inr bad ↦ (code_text (BadRotation bad.0), s, euler-refused bad.0 s (code_text (BadRotation bad.0)) bad.1 refl)
@@ -83,10 +83,10 @@ module _ (g : Multigraph) (entries : List (ℕ × List ℕ)) where
   euler-does before s t after other p q =
       (p.answer ∙ ap (λ (r : List (List ℕ)). euler_text (euler_numbers g r)) (given-one g entries p.rotation q.rotation p.given q.given) ∙ sym q.answer, p.stays ∙ sym q.stays)
 
-  pub euler-one : (before : State) (s t : List ℕ) (after other : State) → EulerStep g entries before s after → EulerStep g entries before t other → (s ≡ t) × (after ≡ other)
+  pub euler-one : (before : State) (s t : List ℕ) (after other : State) → EulerOn g entries before s after → EulerOn g entries before t other → (s ≡ t) × (after ≡ other)
   euler-one before s t after other p q = carries-one (EulerApplies g entries) (EulerDoes g entries) before s t after other euler-tells (euler-does before) p q
 
   -- the state stays
-  pub euler-stays : (before : State) (text : List ℕ) (after : State) → EulerStep g entries before text after → after ≡ before
+  pub euler-stays : (before : State) (text : List ℕ) (after : State) → EulerOn g entries before text after → after ≡ before
   euler-stays before text after (inl p) = p.stays
   euler-stays before text after (inr p) = p.1.stays

@@ -3,7 +3,9 @@ use Rattle.std.proofs.Common.{◌≡◌, ℕ, true, List, map, Result, Ok, Err, 
 use Rattle.std.specs.Global.{Vec}
 use Rattle.spqr_session.specs.Trees.{BlockTree}
 use Rattle.spqr_session.specs.State.{Embedding}
-use Rattle.spqr_session.specs.Embedded.{BlockView, view_tree}
+use Rattle.spqr_session.specs.Embedded.{BlockView}
+use Rattle.spqr_session.specs.Scene.{setting_on}
+use Rattle.spqr_session.specs.declared.scene.Scene.{Scene}
 use Rattle.spqr_session.specs.Board.{BoardView, board_state, IsCarried}
 use Rattle.spqr_session.specs.Codes.{Ladder, rises_above, Applies, Carries}
 use Rattle.spqr_session.specs.BlockCodes.{ChangesBlock, Silently}
@@ -29,10 +31,10 @@ module _ (applies : Code → Type 0) (IsChange : BlockTree → Embedding → Emb
   lowest-stands views b End p = absurd p
   lowest-stands views b (Change x) p = (p.0, p.2.0)
 
-  module _ (b : ℕ) (before after : BoardView) where
+  module _ (scene : Scene) (b : ℕ) (before after : BoardView) where
     -- carried out with `ok`, it is a step
     pub lowest-settled : (planned : Planned) (text : List ℕ) → IsLowestPlanAt applies IsChange before.views b planned → IsSettled b planned before text after
-        → Carries applies (ChangesBlock (map view_tree before.views) b (Silently IsChange)) (board_state before) text (board_state after)
+        → Carries applies (ChangesBlock (setting_on scene before.views) b (Silently IsChange)) (board_state before) text (board_state after)
     lowest-settled (Refused code) text p q = inl (record { code = code; lowest = p; line = q.0; stays = ap board_state q.1 })
     lowest-settled End text p q = absurd p
     lowest-settled (Change x) text p q = inr (
@@ -42,13 +44,13 @@ module _ (applies : Code → Type 0) (IsChange : BlockTree → Embedding → Emb
         present = entries-at before.views b ∙ p.2.0.present;
         new = embedding_of x;
         change = (subst (λ (t : BlockTree). IsChange t p.2.0.old (embedding_of x)) (sym (trees-at before.views b)) p.2.1, q.0);
-        after_is = ap board_state q.1 ∙ changed-seen before b (embedding_of x);
+        after_is = ap board_state q.1 ∙ changed-seen (setting_on scene before.views) before b (embedding_of x);
       },
     )
 
     -- and so it is with the moves told
     pub lowest-converted : (planned : Planned) (text : List ℕ) → IsLowestPlanAt applies IsChange before.views b planned → IsConverted b planned before text after
-        → Carries applies (ChangesBlock (map view_tree before.views) b (WithMoves IsChange)) (board_state before) text (board_state after)
+        → Carries applies (ChangesBlock (setting_on scene before.views) b (WithMoves IsChange)) (board_state before) text (board_state after)
     lowest-converted (Refused code) text p q = inl (record { code = code; lowest = p; line = q.0; stays = ap board_state q.1 })
     lowest-converted End text p q = absurd p
     lowest-converted (Change x) text p q = inr (
@@ -61,7 +63,7 @@ module _ (applies : Code → Type 0) (IsChange : BlockTree → Embedding → Emb
           subst (λ (t : BlockTree). IsChange t p.2.0.old (embedding_of x)) (sym (trees-at before.views b)) p.2.1,
           q.0 p.2.0.old p.2.0.present ∙ ap (λ (t : BlockTree). conversion_text t p.2.0.old (embedding_of x)) (sym (trees-at before.views b)),
         );
-        after_is = ap board_state q.1 ∙ changed-seen before b (embedding_of x);
+        after_is = ap board_state q.1 ∙ changed-seen (setting_on scene before.views) before b (embedding_of x);
       },
     )
 

@@ -128,7 +128,7 @@ module _ (setting : Setting) (b : ℕ) (s : State) (is : IsSetting setting) (rig
 
   -- ---- list
 
-  pub list-answers : (n : ℕ) → (text : List ℕ) × (after : State) × ListStep setting.trees b n s text after
+  pub list-answers : (n : ℕ) → (text : List ℕ) × (after : State) × ListStep setting b n s text after
   list-answers n = read-answers no_more (λ tree e. refl) (IsListing b n) setting.trees b s (λ l e p none.
       let m = listed here e (tree-of l) (entry-right setting s b e right l p) in (
         members_text b n here (drop (m.place + 1) m.list),
@@ -138,36 +138,36 @@ module _ (setting : Setting) (b : ℕ) (s : State) (is : IsSetting setting) (rig
             ap (λ (z : List (List (List ℕ))). members_text b n here (drop (m.place + 1) z)) same ∙ ap (λ (z : ℕ). members_text b n here (drop (z + 1) k)) place,
       ))
 
-  pub list-one : (n : ℕ) (t u : List ℕ) (after other : State) → ListStep setting.trees b n s t after → ListStep setting.trees b n s u other → (t ≡ u) × (after ≡ other)
+  pub list-one : (n : ℕ) (t u : List ℕ) (after other : State) → ListStep setting b n s t after → ListStep setting b n s u other → (t ≡ u) × (after ≡ other)
   list-one n t u after other p q = read-one no_more (λ tree e. refl) (IsListing b n) setting.trees b s (λ e at x y c d.
       let l = entry-block setting s b e right at in
       let m = listed here e (tree-of l) (entry-right setting s b e right l at) in c m.list m.place m.are m.rank ∙ sym (d m.list m.place m.are m.rank)) t u after other p q
 
-  pub list-keeps : (n : ℕ) (text : List ℕ) (after : State) → ListStep setting.trees b n s text after → IsState setting after
+  pub list-keeps : (n : ℕ) (text : List ℕ) (after : State) → ListStep setting b n s text after → IsState setting after
   list-keeps n text after p = subst (IsState setting) (sym (read-stays no_more (λ tree e. refl) (IsListing b n) setting.trees b s text after p)) right
 
   -- ---- first and goto
 
-  stand-one : (r : ℕ) → DoesOne (ChangesBlock setting.trees b (Silently (StandsAt r))) s
-  stand-one r = change-does (Silently (StandsAt r)) setting.trees b s (λ old new next x y at c d.
+  stand-one : (r : ℕ) → DoesOne (ChangesBlock setting b (Silently (StandsAt r))) s
+  stand-one r = change-does (Silently (StandsAt r)) setting b s (λ old new next x y at c d.
       let l = entry-block setting s b old right at in
       silently-one (StandsAt r) here old new next x y (λ m n. at-one here old new next r (tree-of l) (entry-right setting s b old right l at) m n) c d)
 
-  stand-keeps : (r : ℕ) (text : List ℕ) (after : State) → ChangesBlock setting.trees b (Silently (StandsAt r)) s text after → IsState setting after
+  stand-keeps : (r : ℕ) (text : List ℕ) (after : State) → ChangesBlock setting b (Silently (StandsAt r)) s text after → IsState setting after
   stand-keeps r text after c = change-keeps (Silently (StandsAt r)) setting b s text after right c (λ old new t l at e d. at-right here old new r (tree-of l) e d.0)
 
-  pub first-answers : (text : List ℕ) × (after : State) × FirstStep setting.trees b s text after
-  first-answers = ladder-answers (block_ladder setting.trees b s) refl (ChangesBlock setting.trees b (Silently (StandsAt 0))) s (λ none.
+  pub first-answers : (text : List ℕ) × (after : State) × FirstStep setting b s text after
+  first-answers = ladder-answers (block_ladder setting.trees b s) refl (ChangesBlock setting b (Silently (StandsAt 0))) s (λ none.
       let h = block-entry setting.trees b s none in
       let e = entry-right setting s b h.1.0 right h.0 h.1.1 in
       let m = listed here h.1.0 (tree-of h.0) e in
       let q = at-rank here h.1.0 0 (tree-of h.0) e (let below : 0 < member_count here h.1.0 = omega (arith, m.rank.within, m.counted) in below) in
-      (ok_text, changed s b q.0, record { old = h.1.0; present = h.1.1; new = q.0; change = (q.1, refl); after_is = refl }))
+      (ok_text, changed setting s b q.0, record { old = h.1.0; present = h.1.1; new = q.0; change = (q.1, refl); after_is = refl }))
 
-  pub first-one : (t u : List ℕ) (after other : State) → FirstStep setting.trees b s t after → FirstStep setting.trees b s u other → (t ≡ u) × (after ≡ other)
-  first-one t u after other p q = ladder-one (block_ladder setting.trees b s) refl (ChangesBlock setting.trees b (Silently (StandsAt 0))) s (stand-one 0) t u after other p q
+  pub first-one : (t u : List ℕ) (after other : State) → FirstStep setting b s t after → FirstStep setting b s u other → (t ≡ u) × (after ≡ other)
+  first-one t u after other p q = ladder-one (block_ladder setting.trees b s) refl (ChangesBlock setting b (Silently (StandsAt 0))) s (stand-one 0) t u after other p q
 
-  pub first-keeps : (text : List ℕ) (after : State) → FirstStep setting.trees b s text after → IsState setting after
+  pub first-keeps : (text : List ℕ) (after : State) → FirstStep setting b s text after → IsState setting after
   first-keeps text after (inl p) = subst (IsState setting) (sym p.stays) right
   first-keeps text after (inr p) = stand-keeps 0 text after p.1
 
@@ -184,29 +184,29 @@ module _ (setting : Setting) (b : ℕ) (s : State) (is : IsSetting setting) (rig
       let two = rung-none (RankOut (member_count here h.1.0)) (not (nat_lt r (member_count here h.1.0))) [] one.1 in
       (h.0, (h.1.0, h.1.1, rank-below r (member_count here h.1.0) two.0))
 
-  pub goto-answers : (r : ℕ) → (text : List ℕ) × (after : State) × GotoByProduct setting.trees b r s text after
-  goto-answers r = ladder-answers (read_ladder (product_rank_codes r) setting.trees b s) (rank-rises r) (ChangesBlock setting.trees b (Silently (StandsAt r))) s (λ none.
+  pub goto-answers : (r : ℕ) → (text : List ℕ) × (after : State) × GotoByProduct setting b r s text after
+  goto-answers r = ladder-answers (read_ladder (product_rank_codes r) setting.trees b s) (rank-rises r) (ChangesBlock setting b (Silently (StandsAt r))) s (λ none.
       let h = rank-facts r none in
       let e = entry-right setting s b h.1.0 right h.0 h.1.1 in
       let q = at-rank here h.1.0 r (tree-of h.0) e h.1.2 in
-      (ok_text, changed s b q.0, record { old = h.1.0; present = h.1.1; new = q.0; change = (q.1, refl); after_is = refl }))
+      (ok_text, changed setting s b q.0, record { old = h.1.0; present = h.1.1; new = q.0; change = (q.1, refl); after_is = refl }))
 
-  pub goto-one : (r : ℕ) (t u : List ℕ) (after other : State) → GotoByProduct setting.trees b r s t after → GotoByProduct setting.trees b r s u other → (t ≡ u) × (after ≡ other)
-  goto-one r t u after other p q = ladder-one (read_ladder (product_rank_codes r) setting.trees b s) (rank-rises r) (ChangesBlock setting.trees b (Silently (StandsAt r))) s (stand-one r) t u after other p q
+  pub goto-one : (r : ℕ) (t u : List ℕ) (after other : State) → GotoByProduct setting b r s t after → GotoByProduct setting b r s u other → (t ≡ u) × (after ≡ other)
+  goto-one r t u after other p q = ladder-one (read_ladder (product_rank_codes r) setting.trees b s) (rank-rises r) (ChangesBlock setting b (Silently (StandsAt r))) s (stand-one r) t u after other p q
 
-  pub goto-keeps : (r : ℕ) (text : List ℕ) (after : State) → GotoByProduct setting.trees b r s text after → IsState setting after
+  pub goto-keeps : (r : ℕ) (text : List ℕ) (after : State) → GotoByProduct setting b r s text after → IsState setting after
   goto-keeps r text after (inl p) = subst (IsState setting) (sym p.stays) right
   goto-keeps r text after (inr p) = stand-keeps r text after p.1
 
   -- ---- next
 
-  pub next-answers : (text : List ℕ) × (after : State) × NextStep setting.trees b s text after
-  next-answers = ladder-answers (block_ladder setting.trees b s) refl (NextDoes setting.trees b) s (λ none.
+  pub next-answers : (text : List ℕ) × (after : State) × NextStep setting b s text after
+  next-answers = ladder-answers (block_ladder setting.trees b s) refl (NextDoes setting b) s (λ none.
       let h = block-entry setting.trees b s none in
       let e = entry-right setting s b h.1.0 right h.0 h.1.1 in
       by h.1.0 h.1.1 (listed here h.1.0 (tree-of h.0) e))
     where
-      by : (e : Embedding) → entry_at s.present b ≡ Some e → Listed here e → (text : List ℕ) × (after : State) × NextDoes setting.trees b s text after
+      by : (e : Embedding) → entry_at s.present b ≡ Some e → Listed here e → (text : List ℕ) × (after : State) × NextDoes setting b s text after
       by e p m = elim (cases_lt (m.place + 1) (length m.list)) [
         | inl below ↦
             let new : Embedding = record { rotation = slice_index_or m.list (m.place + 1) []; locks = e.locks } in
@@ -218,7 +218,7 @@ module _ (setting : Setting) (b : ℕ) (s : State) (is : IsSetting setting) (rig
                   (subst (λ (z : List (List (List ℕ))). IsRank z (slice_index_or m.list (m.place + 1) []) (m.place + 1)) same (record { within = below; is_there = refl }));
               locks = refl;
             } in
-            (ok_text, changed s b new, inr (record { old = e; present = p; new = new; change = (behind, refl); after_is = refl }))
+            (ok_text, changed setting s b new, inr (record { old = e; present = p; new = new; change = (behind, refl); after_is = refl }))
         | inr n ↦
             let last : StandsLast here e = λ l k a x.
             let same = lists-one here e m.list l m.are a in
@@ -242,17 +242,17 @@ module _ (setting : Setting) (b : ℕ) (s : State) (is : IsSetting setting) (rig
       let m = listed here old (tree-of l) (entry-right setting s b old right l p) in
       embedding-same new other (sym (c.next m.list m.place m.are m.rank).is_there ∙ (d.next m.list m.place m.are m.rank).is_there) (c.locks ∙ sym d.locks)
 
-  next-does : DoesOne (NextDoes setting.trees b) s
+  next-does : DoesOne (NextDoes setting b) s
   next-does t u after other (inl p) (inl q) = (p.answer.1 ∙ sym q.answer.1, p.stays ∙ sym q.stays)
   next-does t u after other (inl p) (inr q) = absurd (next-apart q.old q.new p.embedding q.present p.present q.change.0 p.answer.0)
   next-does t u after other (inr p) (inl q) = absurd (next-apart p.old p.new q.embedding p.present q.present p.change.0 q.answer.0)
-  next-does t u after other (inr p) (inr q) = change-does (Silently StandsBehind) setting.trees b s (λ old new next x y at c d.
+  next-does t u after other (inr p) (inr q) = change-does (Silently StandsBehind) setting b s (λ old new next x y at c d.
       silently-one StandsBehind here old new next x y (λ m n. behind-one old new next at m n) c d) t u after other p q
 
-  pub next-one : (t u : List ℕ) (after other : State) → NextStep setting.trees b s t after → NextStep setting.trees b s u other → (t ≡ u) × (after ≡ other)
-  next-one t u after other p q = ladder-one (block_ladder setting.trees b s) refl (NextDoes setting.trees b) s next-does t u after other p q
+  pub next-one : (t u : List ℕ) (after other : State) → NextStep setting b s t after → NextStep setting b s u other → (t ≡ u) × (after ≡ other)
+  next-one t u after other p q = ladder-one (block_ladder setting.trees b s) refl (NextDoes setting b) s next-does t u after other p q
 
-  pub next-keeps : (text : List ℕ) (after : State) → NextStep setting.trees b s text after → IsState setting after
+  pub next-keeps : (text : List ℕ) (after : State) → NextStep setting b s text after → IsState setting after
   next-keeps text after (inl p) = subst (IsState setting) (sym p.stays) right
   next-keeps text after (inr (n, inl p)) = subst (IsState setting) (sym p.stays) right
   next-keeps text after (inr (n, inr p)) = change-keeps (Silently StandsBehind) setting b s text after right p (λ old new t l at e d.

@@ -26,19 +26,20 @@ use Rattle.spqr_session.specs.Setting.{Setting, IsSetting}
 use Rattle.spqr_session.specs.State.{Embedding, State, entry_at, IsEntry, IsState}
 use Rattle.spqr_session.specs.Codes.{rises_above, first_code}
 use Rattle.spqr_session.specs.declared.code.Code.TheVariants.{NoBlock, NoNode, WrongKind, BadOrder, NonPlanar}
-use Rattle.spqr_session.specs.BlockCodes.{is_block, is_node, is_planar, kind_of, block_ladder, node_ladder, read_ladder, of_entry, lock_codes, ChangesBlock, changed, Silently}
+use Rattle.spqr_session.specs.BlockCodes.{is_block, is_node, is_planar, kind_of, block_ladder, node_ladder, read_ladder, of_entry, lock_codes, ChangesBlock, with_entry, changed, Silently}
 use Rattle.pair_split.specs.Kinds.{is_rigid, is_bond, has_choices}
 use Rattle.spqr_session.specs.Commands.Flip.{flip_ladder, IsFlipped, FlipStep}
 use Rattle.gml_graph.specs.Arranged.{is_arrangement}
 use Rattle.spqr_session.specs.Commands.Permute.{outer_edges, inner_edges, permute_ladder, IsPermuted, PermuteStep}
 use Rattle.spqr_session.specs.Commands.Mirror.{mirror_codes, IsMirrored, MirrorStep}
-use Rattle.spqr_session.specs.Commands.Lock.{IsLockSet, LockStep}
+use Rattle.spqr_session.specs.Commands.Lock.{with_lock, LocksNode, LockStep}
 use Rattle.gml_graph.proofs.Arranged.{passes-arranged}
 use Rattle.spqr_script.proofs.PartNodes.{node-of_part}
 use Rattle.spqr_session.proofs.SettingTrees.{setting-tree}
+use Rattle.spqr_session.proofs.Carried.{DoesOne}
 use Rattle.spqr_session.proofs.Ladders.{rung-none, ladder-answers, ladder-one}
-use Rattle.spqr_session.proofs.BlockCarried.{held, in-block, planar-entry, none-front, block-entry, entry-rises}
-use Rattle.spqr_session.proofs.Changes.{node-facts, rigid-is, bond-is, change-does, change-keeps, entry-right, entry-block, silently-one, embedding-same}
+use Rattle.spqr_session.proofs.BlockCarried.{held, in-block, planar-entry, entry-same, none-front, block-entry, entry-rises}
+use Rattle.spqr_session.proofs.Changes.{node-facts, rigid-is, bond-is, change-does, entry-keeps, change-keeps, entry-right, entry-block, silently-one, embedding-same}
 use Rattle.std.proofs.lemmas.Bool.{ltb-true}
 
 -- ---- moves of a node
@@ -65,8 +66,8 @@ pub flip-rises : (trees : List BlockTree) (b k : ℕ) (s : State) → rises_abov
 flip-rises trees b k s = entry-rises (lock_codes k) (λ e. refl) (entry_at s.present b)
 
 module _ (setting : Setting) (b k : ℕ) (s : State) (is : IsSetting setting) (right : IsState setting s) where
-  pub flip-answers : (text : List ℕ) × (after : State) × FlipStep setting.trees b k s text after
-  flip-answers = ladder-answers (flip_ladder setting.trees b k s) (flip-rises setting.trees b k s) (ChangesBlock setting.trees b (Silently (IsFlipped k))) s (λ none.
+  pub flip-answers : (text : List ℕ) × (after : State) × FlipStep setting b k s text after
+  flip-answers = ladder-answers (flip_ladder setting.trees b k s) (flip-rises setting.trees b k s) (ChangesBlock setting b (Silently (IsFlipped k))) s (λ none.
       let tree = tree_at setting.trees b in
       let f = (node-facts is_rigid setting.trees b k s (of_entry (lock_codes k) (entry_at s.present b)) none).0 in
       let t = setting-tree setting is b f.block in
@@ -74,14 +75,14 @@ module _ (setting : Setting) (b k : ℕ) (s : State) (is : IsSetting setting) (r
       let kind : IsNodeOfKind tree.nodes k R = (f.node, rigid-is (kind_of tree k) f.kind) in
       let q = flip-exists tree.part.graph tree.nodes f.entry.rotation t e.0.system (plane-contiguous tree.part.graph tree.nodes f.entry.rotation t e.0) k kind in
       let new : Embedding = record { rotation = q.0; locks = f.entry.locks } in
-      (ok_text, changed s b new, record { old = f.entry; present = f.present; new = new; change = (record { leads = (kind, q.1); locks = refl }, refl); after_is = refl }))
+      (ok_text, changed setting s b new, record { old = f.entry; present = f.present; new = new; change = (record { leads = (kind, q.1); locks = refl }, refl); after_is = refl }))
 
-  pub flip-one : (t u : List ℕ) (after other : State) → FlipStep setting.trees b k s t after → FlipStep setting.trees b k s u other → (t ≡ u) × (after ≡ other)
-  flip-one t u after other p q = ladder-one (flip_ladder setting.trees b k s) (flip-rises setting.trees b k s) (ChangesBlock setting.trees b (Silently (IsFlipped k))) s
-      (change-does (Silently (IsFlipped k)) setting.trees b s (λ old new next x y at c d.
+  pub flip-one : (t u : List ℕ) (after other : State) → FlipStep setting b k s t after → FlipStep setting b k s u other → (t ≡ u) × (after ≡ other)
+  flip-one t u after other p q = ladder-one (flip_ladder setting.trees b k s) (flip-rises setting.trees b k s) (ChangesBlock setting b (Silently (IsFlipped k))) s
+      (change-does (Silently (IsFlipped k)) setting b s (λ old new next x y at c d.
       silently-one (IsFlipped k) (tree_at setting.trees b) old new next x y (λ m n. move-one setting s b is right (flip k) old new next at m.leads n.leads m.locks n.locks) c d)) t u after other p q
 
-  pub flip-keeps : (text : List ℕ) (after : State) → FlipStep setting.trees b k s text after → IsState setting after
+  pub flip-keeps : (text : List ℕ) (after : State) → FlipStep setting b k s text after → IsState setting after
   flip-keeps text after (inl p) = subst (IsState setting) (sym p.stays) right
   flip-keeps text after (inr p) = change-keeps (Silently (IsFlipped k)) setting b s text after right p.1 (λ old new t l at e c. move-keeps setting s b is right (flip k) old new l e c.0.leads c.0.locks)
 
@@ -162,8 +163,8 @@ module _ (setting : Setting) (b k : ℕ) (keys : List ℕ) (s : State) (is : IsS
       subst (λ (xs : List ℕ). IsPermutation xs (inner_edges tree keys)) (inner-of_outer tree (node_keys tree.nodes k) (edges-once setting b k s is l) (node-keys_within setting b k s is l m))
       (IsPermutation-map (λ e. least (length tree.part.edges) (λ i. slice_index tree.part.edges i == e)) (outer_edges tree (node_keys tree.nodes k)) keys (passes-arranged (outer_edges tree (node_keys tree.nodes k)) keys a))
 
-  pub permute-answers : (text : List ℕ) × (after : State) × PermuteStep setting.trees b k keys s text after
-  permute-answers = ladder-answers (permute_ladder setting.trees b k keys s) (permute-rises setting.trees b k keys s) (ChangesBlock setting.trees b (Silently (IsPermuted k keys))) s (λ none.
+  pub permute-answers : (text : List ℕ) × (after : State) × PermuteStep setting b k keys s text after
+  permute-answers = ladder-answers (permute_ladder setting.trees b k keys s) (permute-rises setting.trees b k keys s) (ChangesBlock setting b (Silently (IsPermuted k keys))) s (λ none.
       let tree = tree_at setting.trees b in
       let f = permute-facts setting.trees b k keys s none in
       let t = setting-tree setting is b f.block in
@@ -171,15 +172,15 @@ module _ (setting : Setting) (b k : ℕ) (keys : List ℕ) (s : State) (is : IsS
       let kind : IsNodeOfKind tree.nodes k P = (f.node, bond-is (kind_of tree k) f.kind) in
       let q = permute-exists tree.part.graph tree.nodes f.entry.rotation t e.0.system (plane-contiguous tree.part.graph tree.nodes f.entry.rotation t e.0) k kind (inner_edges tree keys) (inner-arranged f.block f.node f.arrangement) in
       let new : Embedding = record { rotation = q.0; locks = f.entry.locks } in
-      (ok_text, changed s b new, record { old = f.entry; present = f.present; new = new; change = (record { leads = (kind, q.1); locks = refl }, refl); after_is = refl }))
+      (ok_text, changed setting s b new, record { old = f.entry; present = f.present; new = new; change = (record { leads = (kind, q.1); locks = refl }, refl); after_is = refl }))
 
-  pub permute-one : (t u : List ℕ) (after other : State) → PermuteStep setting.trees b k keys s t after → PermuteStep setting.trees b k keys s u other → (t ≡ u) × (after ≡ other)
-  permute-one t u after other p q = ladder-one (permute_ladder setting.trees b k keys s) (permute-rises setting.trees b k keys s) (ChangesBlock setting.trees b (Silently (IsPermuted k keys))) s
-      (change-does (Silently (IsPermuted k keys)) setting.trees b s (λ old new next x y at c d.
+  pub permute-one : (t u : List ℕ) (after other : State) → PermuteStep setting b k keys s t after → PermuteStep setting b k keys s u other → (t ≡ u) × (after ≡ other)
+  permute-one t u after other p q = ladder-one (permute_ladder setting.trees b k keys s) (permute-rises setting.trees b k keys s) (ChangesBlock setting b (Silently (IsPermuted k keys))) s
+      (change-does (Silently (IsPermuted k keys)) setting b s (λ old new next x y at c d.
       silently-one (IsPermuted k keys) (tree_at setting.trees b) old new next x y
       (λ m n. move-one setting s b is right (permute k (inner_edges (tree_at setting.trees b) keys)) old new next at m.leads n.leads m.locks n.locks) c d)) t u after other p q
 
-  pub permute-keeps : (text : List ℕ) (after : State) → PermuteStep setting.trees b k keys s text after → IsState setting after
+  pub permute-keeps : (text : List ℕ) (after : State) → PermuteStep setting b k keys s text after → IsState setting after
   permute-keeps text after (inl p) = subst (IsState setting) (sym p.stays) right
   permute-keeps text after (inr p) = change-keeps (Silently (IsPermuted k keys)) setting b s text after right p.1
       (λ old new t l at e c. move-keeps setting s b is right (permute k (inner_edges (tree_at setting.trees b) keys)) old new l e c.0.leads c.0.locks)
@@ -190,19 +191,19 @@ pub mirror-rises : (trees : List BlockTree) (b : ℕ) (s : State) → rises_abov
 mirror-rises trees b s = entry-rises (mirror_codes (tree_at trees b)) (λ e. refl) (entry_at s.present b)
 
 module _ (setting : Setting) (b : ℕ) (s : State) (is : IsSetting setting) (right : IsState setting s) where
-  pub mirror-answers : (text : List ℕ) × (after : State) × MirrorStep setting.trees b s text after
-  mirror-answers = ladder-answers (read_ladder mirror_codes setting.trees b s) (mirror-rises setting.trees b s) (ChangesBlock setting.trees b (Silently IsMirrored)) s (λ none.
+  pub mirror-answers : (text : List ℕ) × (after : State) × MirrorStep setting b s text after
+  mirror-answers = ladder-answers (read_ladder mirror_codes setting.trees b s) (mirror-rises setting.trees b s) (ChangesBlock setting b (Silently IsMirrored)) s (λ none.
       let there = block-entry setting.trees b s (none-front (block_ladder setting.trees b s) (of_entry (mirror_codes (tree_at setting.trees b)) (entry_at s.present b)) none) in
       let old = there.1.0 in
       let new : Embedding = record { rotation = mirror_image old.rotation; locks = old.locks } in
-      (ok_text, changed s b new, record { old = old; present = there.1.1; new = new; change = (record { mirror = refl; locks = refl }, refl); after_is = refl }))
+      (ok_text, changed setting s b new, record { old = old; present = there.1.1; new = new; change = (record { mirror = refl; locks = refl }, refl); after_is = refl }))
 
-  pub mirror-one : (t u : List ℕ) (after other : State) → MirrorStep setting.trees b s t after → MirrorStep setting.trees b s u other → (t ≡ u) × (after ≡ other)
-  mirror-one t u after other p q = ladder-one (read_ladder mirror_codes setting.trees b s) (mirror-rises setting.trees b s) (ChangesBlock setting.trees b (Silently IsMirrored)) s
-      (change-does (Silently IsMirrored) setting.trees b s (λ old new next x y at c d.
+  pub mirror-one : (t u : List ℕ) (after other : State) → MirrorStep setting b s t after → MirrorStep setting b s u other → (t ≡ u) × (after ≡ other)
+  mirror-one t u after other p q = ladder-one (read_ladder mirror_codes setting.trees b s) (mirror-rises setting.trees b s) (ChangesBlock setting b (Silently IsMirrored)) s
+      (change-does (Silently IsMirrored) setting b s (λ old new next x y at c d.
       silently-one IsMirrored (tree_at setting.trees b) old new next x y (λ m n. embedding-same new next (m.mirror ∙ sym n.mirror) (m.locks ∙ sym n.locks)) c d)) t u after other p q
 
-  pub mirror-keeps : (text : List ℕ) (after : State) → MirrorStep setting.trees b s text after → IsState setting after
+  pub mirror-keeps : (text : List ℕ) (after : State) → MirrorStep setting b s text after → IsState setting after
   mirror-keeps text after (inl p) = subst (IsState setting) (sym p.stays) right
   mirror-keeps text after (inr p) = change-keeps (Silently IsMirrored) setting b s text after right p.1 (λ old new t l at e c.
       let g = (tree_at setting.trees b).part.graph in
@@ -212,18 +213,21 @@ module _ (setting : Setting) (b : ℕ) (s : State) (is : IsSetting setting) (rig
 -- ---- locks
 
 module _ (setting : Setting) (on : Bool) (b k : ℕ) (s : State) (is : IsSetting setting) (right : IsState setting s) where
-  pub lock-answers : (text : List ℕ) × (after : State) × LockStep on setting.trees b k s text after
-  lock-answers = ladder-answers (node_ladder has_choices setting.trees b k s) refl (ChangesBlock setting.trees b (Silently (IsLockSet k on))) s (λ none.
+  pub lock-answers : (text : List ℕ) × (after : State) × LockStep on setting b k s text after
+  lock-answers = ladder-answers (node_ladder has_choices setting.trees b k s) refl (LocksNode on b k) s (λ none.
       let f = (node-facts has_choices setting.trees b k s [] none).0 in
-      let new : Embedding = record { rotation = f.entry.rotation; locks = set f.entry.locks k on } in
-      (ok_text, changed s b new, record { old = f.entry; present = f.present; new = new; change = (record { rotation = refl; locks = refl }, refl); after_is = refl }))
+      (ok_text, with_entry s b (with_lock k on f.entry), record { old = f.entry; present = f.present; after_is = refl; answer = refl }))
 
-  pub lock-one : (t u : List ℕ) (after other : State) → LockStep on setting.trees b k s t after → LockStep on setting.trees b k s u other → (t ≡ u) × (after ≡ other)
-  lock-one t u after other p q = ladder-one (node_ladder has_choices setting.trees b k s) refl (ChangesBlock setting.trees b (Silently (IsLockSet k on))) s
-      (change-does (Silently (IsLockSet k on)) setting.trees b s (λ old new next x y at c d.
-      silently-one (IsLockSet k on) (tree_at setting.trees b) old new next x y (λ m n. embedding-same new next (m.rotation ∙ sym n.rotation) (m.locks ∙ sym n.locks)) c d)) t u after other p q
+  lock-does : DoesOne (LocksNode on b k) s
+  lock-does t u after other p q =
+      let same : p.old ≡ q.old = entry-same (entry_at s.present b) p.old q.old p.present q.present in
+      (p.answer ∙ sym q.answer, p.after_is ∙ ap (λ (e : Embedding). with_entry s b (with_lock k on e)) same ∙ sym q.after_is)
 
-  pub lock-keeps : (text : List ℕ) (after : State) → LockStep on setting.trees b k s text after → IsState setting after
+  pub lock-one : (t u : List ℕ) (after other : State) → LockStep on setting b k s t after → LockStep on setting b k s u other → (t ≡ u) × (after ≡ other)
+  lock-one t u after other p q = ladder-one (node_ladder has_choices setting.trees b k s) refl (LocksNode on b k) s lock-does t u after other p q
+
+  pub lock-keeps : (text : List ℕ) (after : State) → LockStep on setting b k s text after → IsState setting after
   lock-keeps text after (inl p) = subst (IsState setting) (sym p.stays) right
-  lock-keeps text after (inr p) = change-keeps (Silently (IsLockSet k on)) setting b s text after right p.1 (λ old new t l at e c.
-      (subst (IsPlaneSystem (tree_at setting.trees b).part.graph) (sym c.0.rotation) e.0, ap (λ (x : List Bool). length x) c.0.locks ∙ length-set old.locks k on ∙ e.1))
+  lock-keeps text after (inr p) =
+      let old = p.1.old in
+      subst (IsState setting) (sym p.1.after_is) (entry-keeps setting b old (with_lock k on old) s right p.1.present (λ l e. (e.0, length-set old.locks k on ∙ e.1)))

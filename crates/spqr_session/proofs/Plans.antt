@@ -10,11 +10,14 @@ use Rattle.embed_moves.specs.Made.{IsMade}
 use Rattle.spqr_script.specs.Answers.Change.{ok_text}
 use Rattle.kuratowski.specs.declared.subdivision.Subdivision.{Subdivision}
 use Rattle.spqr_session.specs.Trees.{BlockTree, no_tree, tree_at}
+use Rattle.spqr_session.specs.Setting.{Setting}
+use Rattle.spqr_session.specs.Scene.{setting_on}
+use Rattle.spqr_session.specs.declared.scene.Scene.{Scene}
 use Rattle.spqr_session.specs.State.{Embedding, Family, State, entry_at}
 use Rattle.spqr_session.specs.Embedded.{BlockView, view_tree, view_certificate, view_entry, view_at, no_view}
-use Rattle.spqr_session.specs.Board.{BoardView, family_on, board_state, embedded_at, changed_board, IsCarried}
+use Rattle.spqr_session.specs.Board.{BoardView, family_on, board_state, embedded_at, board_with_entry, changed_board, IsCarried}
 use Rattle.spqr_session.specs.Codes.{Ladder, rises_above, first_code, code_text, Applies, Carries}
-use Rattle.spqr_session.specs.BlockCodes.{is_block, ChangesBlock, changed, Silently, ChangeStep}
+use Rattle.spqr_session.specs.BlockCodes.{is_block, ChangesBlock, with_entry, changed, Silently, ChangeStep}
 use Rattle.spqr_session.specs.Planned.{embedding_of, FitsBlock, IsChangeOf, IsPlan, IsPlanAt, IsMovePlan, MayStand, IsSettled}
 use Rattle.spqr_session.specs.declared.code.Code.{Code}
 use Rattle.spqr_session.specs.declared.code.Code.TheVariants.{NoBlock}
@@ -57,11 +60,14 @@ plan-stands ladder IsChange views b (Refused code) p = tt
 plan-stands ladder IsChange views b End p = absurd p
 plan-stands ladder IsChange views b (Change x) p = (p.0, p.2.0)
 
--- what is seen of a changed board
-pub changed-seen : (board : BoardView) (b : ℕ) (e : Embedding) → board_state (changed_board board b e) ≡ changed (board_state board) b e
-changed-seen board b e =
+-- what is seen of a board with another embedding of a block
+pub entry-seen : (board : BoardView) (b : ℕ) (e : Embedding) → board_state (board_with_entry board b e) ≡ with_entry (board_state board) b e
+entry-seen board b e =
     let entries = map-set view_entry board.views b (record { tree = (view_at board.views b).tree; certificate = (view_at board.views b).certificate; entry = Some e }) in
     λ i. record { present = record { entries = entries i }; earlier = family_on board.views ∷ board.earlier; later = [] }
+
+pub changed-seen : (setting : Setting) (board : BoardView) (b : ℕ) (e : Embedding) → board_state (changed_board board b e) ≡ changed setting (board_state board) b e
+changed-seen setting board b e = entry-seen board b e
 
 pub changed-carried : (views : List BlockView) (b : ℕ) (e : Embedding) → IsCarried views (embedded_at views b e)
 changed-carried views b e =
@@ -71,21 +77,21 @@ changed-carried views b e =
 nothing-carried : (views : List BlockView) → IsCarried views views
 nothing-carried views = record { trees = refl; certificates = refl }
 
-module _ (ladder : Ladder) (r : rises_above 0 ladder ≡ true) (IsChange : BlockTree → Embedding → Embedding → Type 0) (b : ℕ) (before after : BoardView) where
+module _ (scene : Scene) (ladder : Ladder) (r : rises_above 0 ladder ≡ true) (IsChange : BlockTree → Embedding → Embedding → Type 0) (b : ℕ) (before after : BoardView) where
   -- what a settled plan does is a step
   pub settled-step : (planned : Planned) (text : List ℕ) → IsPlanAt ladder IsChange before.views b planned → IsSettled b planned before text after
-      → ChangeStep ladder (Silently IsChange) (map view_tree before.views) b (board_state before) text (board_state after)
+      → ChangeStep ladder (Silently IsChange) (setting_on scene before.views) b (board_state before) text (board_state after)
   settled-step (Refused code) text p q =
-      subst (λ (s : State). ChangeStep ladder (Silently IsChange) (map view_tree before.views) b (board_state before) text s) (sym (ap board_state q.1))
-      (refused-first ladder r (ChangesBlock (map view_tree before.views) b (Silently IsChange)) (board_state before) code text p q.0)
+      subst (λ (s : State). ChangeStep ladder (Silently IsChange) (setting_on scene before.views) b (board_state before) text s) (sym (ap board_state q.1))
+      (refused-first ladder r (ChangesBlock (setting_on scene before.views) b (Silently IsChange)) (board_state before) code text p q.0)
   settled-step End text p q = absurd p
   settled-step (Change x) text p q =
-      carried-out ladder r (ChangesBlock (map view_tree before.views) b (Silently IsChange)) (board_state before) text (board_state after) p.1 (record {
+      carried-out ladder r (ChangesBlock (setting_on scene before.views) b (Silently IsChange)) (board_state before) text (board_state after) p.1 (record {
         old = p.2.0.old;
         present = entries-at before.views b ∙ p.2.0.present;
         new = embedding_of x;
         change = (subst (λ (t : BlockTree). IsChange t p.2.0.old (embedding_of x)) (sym (trees-at before.views b)) p.2.1, q.0);
-        after_is = ap board_state q.1 ∙ changed-seen before b (embedding_of x);
+        after_is = ap board_state q.1 ∙ changed-seen (setting_on scene before.views) before b (embedding_of x);
       })
 
 -- trees and certificates stay

@@ -22,6 +22,10 @@ step-of {E = E} {X = X} setting before after command given own other P r is same
     subst (λ (x : Command). IfOk r (λ text. Step setting before x text.items after)) (sym is)
     (text-map r (P own) (λ text. Step setting before given text after) f (subst (λ (x : X). IfOk r (λ text. P x text.items)) (sym same) h))
 
+-- a step of a command is one of its value
+pub step-is : {E : Type 0} (setting : Setting) (before after : State) (command given : Command) (r : Result (Vec ℕ) E) → command ≡ given → IfOk r (λ text. Step setting before given text.items after) → IfOk r (λ text. Step setting before command text.items after)
+step-is {E = E} setting before after command given r is h = subst (λ (x : Command). IfOk r (λ text. Step setting before x text.items after)) (sym is) h
+
 -- what holds of a value holds as far as it implies
 pub ok-map : {X E : Type 0} (r : Result X E) (P Q : X → Type 0) → ((x : X) → P x → Q x) → IfOk r P → IfOk r Q
 ok-map (Ok x) P Q f p = f x p

@@ -82,19 +82,19 @@ module _ (setting : Setting) (b : ℕ) (entries : List (ℕ × List ℕ)) (s : S
 
   -- ---- the step
 
-  pub take-answers : (text : List ℕ) × (after : State) × TakeStep setting.trees b entries s text after
+  pub take-answers : (text : List ℕ) × (after : State) × TakeStep setting b entries s text after
   take-answers = elim take-cases [
     | inl found ↦ (code_text found.0, s, inl (record { code = found.0; lowest = found.1; line = refl; stays = refl }))
     | inr found ↦ (
         let due = found.1 in
-        (ok_text, changed s b due.new, inr (found.0, record { old = due.old; present = due.present; new = due.new; change = (due.taken, refl); after_is = refl }))
+        (ok_text, changed setting s b due.new, inr (found.0, record { old = due.old; present = due.present; new = due.new; change = (due.taken, refl); after_is = refl }))
         )
   ]
 
-  pub take-one : (t u : List ℕ) (after other : State) → TakeStep setting.trees b entries s t after → TakeStep setting.trees b entries s u other → (t ≡ u) × (after ≡ other)
-  take-one t u after other p q = carries-one applies (ChangesBlock setting.trees b (Silently (IsTaken entries))) s t u after other take-tells
-      (change-does (Silently (IsTaken entries)) setting.trees b s (λ old new next x y at c d. silently-one (IsTaken entries) tree old new next x y (λ m n. take-new old new next at m n) c d)) p q
+  pub take-one : (t u : List ℕ) (after other : State) → TakeStep setting b entries s t after → TakeStep setting b entries s u other → (t ≡ u) × (after ≡ other)
+  take-one t u after other p q = carries-one applies (ChangesBlock setting b (Silently (IsTaken entries))) s t u after other take-tells
+      (change-does (Silently (IsTaken entries)) setting b s (λ old new next x y at c d. silently-one (IsTaken entries) tree old new next x y (λ m n. take-new old new next at m n) c d)) p q
 
-  pub take-keeps : (text : List ℕ) (after : State) → TakeStep setting.trees b entries s text after → IsState setting after
+  pub take-keeps : (text : List ℕ) (after : State) → TakeStep setting b entries s text after → IsState setting after
   take-keeps text after (inl p) = subst (IsState setting) (sym p.stays) right
   take-keeps text after (inr p) = change-keeps (Silently (IsTaken entries)) setting b s text after right p.1 (λ old new t l at e c. taken-right entries tree old new e c.0)

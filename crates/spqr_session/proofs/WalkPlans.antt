@@ -9,6 +9,8 @@ use Rattle.spqr_script.specs.Answers.Change.{ok_text, end_text}
 use Rattle.spqr_session.specs.Trees.{BlockTree, tree_at}
 use Rattle.spqr_session.specs.State.{Embedding, State, entry_at}
 use Rattle.spqr_session.specs.Embedded.{BlockView, view_tree, view_at}
+use Rattle.spqr_session.specs.Scene.{setting_on}
+use Rattle.spqr_session.specs.declared.scene.Scene.{Scene}
 use Rattle.spqr_session.specs.Board.{BoardView, family_on, board_state}
 use Rattle.spqr_session.specs.Codes.{Ladder, first_code, code_text, Applies, Carries}
 use Rattle.spqr_session.specs.BlockCodes.{is_block, is_planar, planar_codes, block_ladder, entry_codes, of_entry, Silently}
@@ -101,24 +103,24 @@ next-stands ladder views b End p = tt
 next-stands ladder views b (Change x) p = (p.0, p.2.0)
 
 -- what comes of it is a step
-pub next-settled : (b : ℕ) (before after : BoardView) (planned : Planned) (text : List ℕ) → IsNextPlanAt (block_ladder (map view_tree before.views) b (board_state before)) before.views b planned → IsSettled b planned before text after
-    → NextStep (map view_tree before.views) b (board_state before) text (board_state after)
-next-settled b before after (Refused code) text p q =
-    subst (λ (s : State). NextStep (map view_tree before.views) b (board_state before) text s) (sym (ap board_state q.1))
-    (refused-first (block_ladder (map view_tree before.views) b (board_state before)) refl (NextDoes (map view_tree before.views) b) (board_state before) code text p q.0)
-next-settled b before after End text p q =
-    subst (λ (s : State). NextStep (map view_tree before.views) b (board_state before) text s) (sym (ap board_state q.1))
-    (carried-out (block_ladder (map view_tree before.views) b (board_state before)) refl (NextDoes (map view_tree before.views) b) (board_state before) text (board_state before) p.0 (inl (record {
+pub next-settled : (scene : Scene) (b : ℕ) (before after : BoardView) (planned : Planned) (text : List ℕ) → IsNextPlanAt (block_ladder (map view_tree before.views) b (board_state before)) before.views b planned → IsSettled b planned before text after
+    → NextStep (setting_on scene before.views) b (board_state before) text (board_state after)
+next-settled scene b before after (Refused code) text p q =
+    subst (λ (s : State). NextStep (setting_on scene before.views) b (board_state before) text s) (sym (ap board_state q.1))
+    (refused-first (block_ladder (map view_tree before.views) b (board_state before)) refl (NextDoes (setting_on scene before.views) b) (board_state before) code text p q.0)
+next-settled scene b before after End text p q =
+    subst (λ (s : State). NextStep (setting_on scene before.views) b (board_state before) text s) (sym (ap board_state q.1))
+    (carried-out (block_ladder (map view_tree before.views) b (board_state before)) refl (NextDoes (setting_on scene before.views) b) (board_state before) text (board_state before) p.0 (inl (record {
       embedding = p.1.entry;
       present = entries-at before.views b ∙ p.1.present;
       answer = (subst (λ (t : BlockTree). StandsLast t p.1.entry) (sym (trees-at before.views b)) p.1.last, q.0);
       stays = refl;
     })))
-next-settled b before after (Change x) text p q =
-    carried-out (block_ladder (map view_tree before.views) b (board_state before)) refl (NextDoes (map view_tree before.views) b) (board_state before) text (board_state after) p.1 (inr (record {
+next-settled scene b before after (Change x) text p q =
+    carried-out (block_ladder (map view_tree before.views) b (board_state before)) refl (NextDoes (setting_on scene before.views) b) (board_state before) text (board_state after) p.1 (inr (record {
       old = p.2.0.old;
       present = entries-at before.views b ∙ p.2.0.present;
       new = embedding_of x;
       change = (subst (λ (t : BlockTree). StandsBehind t p.2.0.old (embedding_of x)) (sym (trees-at before.views b)) p.2.1, q.0);
-      after_is = ap board_state q.1 ∙ changed-seen before b (embedding_of x);
+      after_is = ap board_state q.1 ∙ changed-seen (setting_on scene before.views) before b (embedding_of x);
     }))

@@ -5,6 +5,7 @@ use Rattle.pair_split.specs.declared.components.Kind.{Kind}
 use Rattle.skel_embed.specs.Block.{lock_at}
 use Rattle.spqr_script.specs.Answers.Change.{ok_text}
 use Rattle.spqr_session.specs.Trees.{BlockTree, tree_at}
+use Rattle.spqr_session.specs.Setting.{Setting}
 use Rattle.spqr_session.specs.State.{Embedding, Family, State, entry_at}
 use Rattle.spqr_session.specs.Codes.{Ladder, Applies, Carries, code_text, first_code}
 use Rattle.spqr_session.specs.declared.code.Code.{Code}
@@ -59,17 +60,21 @@ pub record ReadsBlock (trees : List BlockTree) (b : ℕ) (IsAbout : BlockTree �
   pub answer : IsAbout (tree_at trees b) embedding text
   pub stays : after ≡ before
 
--- a change: block b has this embedding now, the family from before is the nearest earlier one, and none is later
-abbrev pub changed : State → ℕ → Embedding → State
-changed s b e = record { present = record { entries = slice_set s.present.entries b (Some e) }; earlier = s.present ∷ s.earlier; later = [] }
+-- block b has this embedding now, the family from before is the nearest earlier one, and none is later
+abbrev pub with_entry : State → ℕ → Embedding → State
+with_entry s b e = record { present = record { entries = slice_set s.present.entries b (Some e) }; earlier = s.present ∷ s.earlier; later = [] }
+
+-- the state after a change of block b on a setting: nothing but its embedding is changed
+abbrev pub changed : Setting → State → ℕ → Embedding → State
+changed setting s b e = with_entry s b e
 
 -- the embedding of the block is changed, and the answer is one about the old and the new one
-pub record ChangesBlock (trees : List BlockTree) (b : ℕ) (IsChange : BlockTree → Embedding → Embedding → List ℕ → Type 0) (before : State) (text : List ℕ) (after : State) : Type 0 where
+pub record ChangesBlock (setting : Setting) (b : ℕ) (IsChange : BlockTree → Embedding → Embedding → List ℕ → Type 0) (before : State) (text : List ℕ) (after : State) : Type 0 where
   pub old : Embedding
   pub present : entry_at before.present b ≡ Some old
   pub new : Embedding
-  pub change : IsChange (tree_at trees b) old new text
-  pub after_is : after ≡ changed before b new
+  pub change : IsChange (tree_at setting.trees b) old new text
+  pub after_is : after ≡ changed setting before b new
 
 -- the embedding is changed so, and the answer is `ok`
 abbrev pub Silently : (BlockTree → Embedding → Embedding → Type 0) → BlockTree → Embedding → Embedding → List ℕ → Type 0
@@ -88,8 +93,8 @@ abbrev pub ReadStep : (BlockTree → Embedding → Ladder) → (BlockTree → Em
 ReadStep more IsAbout trees b before text after = Carries (Applies (read_ladder more trees b before)) (ReadsBlock trees b IsAbout) before text after
 
 -- one step of a command that changes a block: refused where a code of the ladder applies, else it changes the block
-abbrev pub ChangeStep : Ladder → (BlockTree → Embedding → Embedding → List ℕ → Type 0) → List BlockTree → ℕ → State → List ℕ → State → Type 0
-ChangeStep ladder IsChange trees b before text after = Carries (Applies ladder) (ChangesBlock trees b IsChange) before text after
+abbrev pub ChangeStep : Ladder → (BlockTree → Embedding → Embedding → List ℕ → Type 0) → Setting → ℕ → State → List ℕ → State → Type 0
+ChangeStep ladder IsChange setting b before text after = Carries (Applies ladder) (ChangesBlock setting b IsChange) before text after
 
 -- no code depends on the embedding
 abbrev pub no_more : BlockTree → Embedding → Ladder

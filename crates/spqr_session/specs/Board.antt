@@ -25,9 +25,13 @@ board_state board = record { present = family_on board.views; earlier = board.ea
 abbrev pub embedded_at : List BlockView → ℕ → Embedding → List BlockView
 embedded_at views b e = slice_set views b (record { tree = (view_at views b).tree; certificate = (view_at views b).certificate; entry = Some e })
 
--- a change: the family from before is the nearest earlier one, and none is later
+-- block b has this embedding now, the family from before is the nearest earlier one, and none is later
+abbrev pub board_with_entry : BoardView → ℕ → Embedding → BoardView
+board_with_entry board b e = record { views = embedded_at board.views b e; earlier = family_on board.views ∷ board.earlier; later = [] }
+
+-- the board after a change of block b: nothing but its embedding is changed
 abbrev pub changed_board : BoardView → ℕ → Embedding → BoardView
-changed_board board b e = record { views = embedded_at board.views b e; earlier = family_on board.views ∷ board.earlier; later = [] }
+changed_board board b e = board_with_entry board b e
 
 -- the nearest earlier family is the present one, and the one that was present is the nearest later one
 pub record IsUndone (before after : BoardView) : Type 0 where

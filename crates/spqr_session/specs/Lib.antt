@@ -5,6 +5,7 @@ pub mod Setting
 pub mod Start
 pub mod State
 pub mod Embedded
+pub mod Scene
 pub mod Starting
 pub mod Moved
 pub mod History

@@ -3,6 +3,7 @@ use Rattle.std.specs.Prelude.{ℕ, List}
 use Rattle.skeletons.specs.Lists.{list_count}
 use Rattle.skel_embed.specs.Block.{lock_at}
 use Rattle.spqr_session.specs.Trees.{BlockTree}
+use Rattle.spqr_session.specs.Setting.{Setting}
 use Rattle.spqr_session.specs.State.{Embedding, State}
 use Rattle.spqr_session.specs.Codes.{Ladder}
 use Rattle.spqr_session.specs.BlockCodes.{read_ladder, Silently, ReadStep, ChangeStep}
@@ -28,8 +29,8 @@ CountByProduct trees b before text after = ReadStep product_count_codes IsCounte
 abbrev pub RankByProduct : List BlockTree → ℕ → State → List ℕ → State → Type 0
 RankByProduct trees b before text after = ReadStep product_count_codes IsRanked trees b before text after
 
-abbrev pub GotoByProduct : List BlockTree → ℕ → ℕ → State → List ℕ → State → Type 0
-GotoByProduct trees b r before text after = ChangeStep (read_ladder (product_rank_codes r) trees b before) (Silently (StandsAt r)) trees b before text after
+abbrev pub GotoByProduct : Setting → ℕ → ℕ → State → List ℕ → State → Type 0
+GotoByProduct setting b r before text after = ChangeStep (read_ladder (product_rank_codes r) setting.trees b before) (Silently (StandsAt r)) setting b before text after
 
-abbrev pub ConvertByProduct : List BlockTree → ℕ → ℕ → State → List ℕ → State → Type 0
-ConvertByProduct trees b r before text after = ChangeStep (read_ladder (product_rank_codes r) trees b before) (WithMoves (StandsAt r)) trees b before text after
+abbrev pub ConvertByProduct : Setting → ℕ → ℕ → State → List ℕ → State → Type 0
+ConvertByProduct setting b r before text after = ChangeStep (read_ladder (product_rank_codes r) setting.trees b before) (WithMoves (StandsAt r)) setting b before text after

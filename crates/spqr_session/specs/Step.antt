@@ -21,26 +21,26 @@ use Rattle.spqr_session.specs.Commands.Convert.{ConvertRankStep, ConvertToStep}
 
 -- a command gives this text and leads to this state
 abbrev pub Step : Setting → State → Command → List ℕ → State → Type 0
-Step setting before (command.Euler entries) text after = EulerStep setting.named.graph entries before text after
+Step setting before (command.Euler entries) text after = EulerStep setting entries before text after
 Step setting before command.Gml text after = GmlStep setting before text after
-Step setting before (command.Show b) text after = ShowStep setting.trees b before text after
-Step setting before (command.Faces b) text after = FacesStep setting.trees b before text after
-Step setting before (command.Flip b k) text after = FlipStep setting.trees b k before text after
-Step setting before (command.Permute b k keys) text after = PermuteStep setting.trees b k keys before text after
-Step setting before (command.Mirror b) text after = MirrorStep setting.trees b before text after
-Step setting before (command.Lock b k) text after = LockStep true setting.trees b k before text after
-Step setting before (command.Unlock b k) text after = LockStep false setting.trees b k before text after
+Step setting before (command.Show b) text after = ShowStep setting b before text after
+Step setting before (command.Faces b) text after = FacesStep setting b before text after
+Step setting before (command.Flip b k) text after = FlipStep setting b k before text after
+Step setting before (command.Permute b k keys) text after = PermuteStep setting b k keys before text after
+Step setting before (command.Mirror b) text after = MirrorStep setting b before text after
+Step setting before (command.Lock b k) text after = LockStep true setting b k before text after
+Step setting before (command.Unlock b k) text after = LockStep false setting b k before text after
 Step setting before command.Undo text after = UndoStep before text after
 Step setting before command.Redo text after = RedoStep before text after
-Step setting before (command.First b) text after = FirstStep setting.trees b before text after
-Step setting before (command.Next b) text after = NextStep setting.trees b before text after
-Step setting before (command.List b n) text after = ListStep setting.trees b n before text after
-Step setting before (command.Count b) text after = CountStep setting.trees b before text after
-Step setting before (command.Rank b) text after = RankStep setting.trees b before text after
-Step setting before (command.Goto b r) text after = GotoStep setting.trees b r before text after
-Step setting before (command.ConvertRank b r) text after = ConvertRankStep setting.trees b r before text after
-Step setting before (command.ConvertTo b entries) text after = ConvertToStep setting.trees b entries before text after
-Step setting before (command.Take b entries) text after = TakeStep setting.trees b entries before text after
+Step setting before (command.First b) text after = FirstStep setting b before text after
+Step setting before (command.Next b) text after = NextStep setting b before text after
+Step setting before (command.List b n) text after = ListStep setting b n before text after
+Step setting before (command.Count b) text after = CountStep setting b before text after
+Step setting before (command.Rank b) text after = RankStep setting b before text after
+Step setting before (command.Goto b r) text after = GotoStep setting b r before text after
+Step setting before (command.ConvertRank b r) text after = ConvertRankStep setting b r before text after
+Step setting before (command.ConvertTo b entries) text after = ConvertToStep setting b entries before text after
+Step setting before (command.Take b entries) text after = TakeStep setting b entries before text after
 
 -- the commands give these texts, one after another, from the one state to the other
 abbrev pub IsChain : Setting → State → List Command → List (List ℕ) → State → Type 0

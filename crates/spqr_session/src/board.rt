@@ -7,7 +7,8 @@ ghost use Rattle.spqr_session.specs.State.{Embedding};
 ghost use Rattle.spqr_session.specs.Embedded.{view_tree, view_certificate, view_at};
 ghost use Rattle.spqr_session.specs.History.{IsStepOf, family_moved, family_locked, redone, undone};
 ghost use Rattle.spqr_session.specs.Commands.History.{is_none};
-ghost use Rattle.spqr_session.specs.Board.{StandsAt, CanReplace, LeadsTo, IsCarried, family_on, changed_board, IsUndone, IsRedone};
+ghost use Rattle.spqr_session.specs.Commands.Lock.{with_lock};
+ghost use Rattle.spqr_session.specs.Board.{StandsAt, CanReplace, LeadsTo, IsCarried, family_on, board_with_entry, changed_board, IsUndone, IsRedone};
 
 use crate::embedded::EmbeddedBlock;
 use embed_convert::moves;
@@ -87,7 +88,7 @@ impl Board {
         requires stands { (e : Embedding) × StandsAt self.old.views b e }
         requires node { k < length (view_at self.old.views b).tree.nodes }
         ensures done { (e : Embedding) → StandsAt self.old.views b e
-            → IfOk result (λ _. self.new ≡ changed_board self.old b (record { rotation = e.rotation; locks = slice_set e.locks k on })) }
+            → IfOk result (λ _. self.new ≡ board_with_entry self.old b (with_lock k on e)) }
         ensures memory { OnErr result (self.new ≡ self.old) }
     {
         let step = lock_step(&self.blocks, b, k, on);

@@ -1,9 +1,8 @@
 // Carrying out a command.
-ghost use Rattle.std.specs.Prelude.{◌≡◌, ℕ, List, map, IfOk, OnErr};
-ghost use Rattle.spqr_session.specs.Trees.{AreBlockTrees};
-ghost use Rattle.spqr_session.specs.Setting.{Setting, IsSetting};
+ghost use Rattle.std.specs.Prelude.{◌≡◌, IfOk, OnErr};
+ghost use Rattle.spqr_session.specs.Setting.{IsSetting};
 ghost use Rattle.spqr_session.specs.State.{IsState};
-ghost use Rattle.spqr_session.specs.Embedded.{view_tree};
+ghost use Rattle.spqr_session.specs.Scene.{setting_on};
 ghost use Rattle.spqr_session.specs.Board.{board_state, IsCarried};
 ghost use Rattle.spqr_session.specs.Step.{Step};
 
@@ -13,26 +12,26 @@ use crate::commands::{
     carry_flip, carry_gml, carry_goto, carry_list, carry_lock, carry_mirror, carry_next,
     carry_permute, carry_rank, carry_redo, carry_show, carry_take, carry_undo,
 };
-use gml_text::Doc;
-use multigraph::Graph;
+use crate::scene::Scene;
 use spqr_script::Command;
 use std::alloc::{AllocError, Global};
 
-/// Carries out a command on the blocks of a graph, and gives its answer. If memory runs out, the board stays as it was.
+/// Carries out a command on the setting of a scene with the blocks on the board, and gives its answer. If memory runs out, the board
+/// stays as it was.
 pub(crate) fn carry_out(
     alloc: Global,
-    doc: &Doc,
-    graph: &Graph,
+    scene: &Scene,
     board: &mut Board,
     command: &Command,
 ) -> Result<Vec<u8>, AllocError>
-    requires { (edges : List (List ℕ)) × AreBlockTrees graph.now edges (map view_tree board.old.views) }
-    ensures step { (setting : Setting) → setting.document ≡ doc.now → setting.named.graph ≡ graph.now → setting.trees ≡ map view_tree board.old.views
-        → IsSetting setting → IsState setting (board_state board.old)
-        → IfOk result (λ text. Step setting (board_state board.old) command.now text.items (board_state board.new)) }
+    requires setting { IsSetting (setting_on scene.now board.old.views) }
+    requires state { IsState (setting_on scene.now board.old.views) (board_state board.old) }
+    ensures step { IfOk result (λ text. Step (setting_on scene.now board.old.views)
+        (board_state board.old) command.now text.items (board_state board.new)) }
     ensures setting { IsCarried board.old.views board.new.views }
     ensures memory { OnErr result (board.new ≡ board.old) }
 {
+    let graph = scene.named.graph();
     match command {
         Command::Euler(lists) => carry_euler(alloc, graph, lists),
         Command::Show(b) => carry_show(alloc, board.blocks(), *b),
@@ -49,7 +48,7 @@ pub(crate) fn carry_out(
         Command::Take(b, lists) => carry_take(alloc, board, *b, lists),
         Command::Undo => carry_undo(alloc, board),
         Command::Redo => carry_redo(alloc, board),
-        Command::Gml => carry_gml(alloc, doc, graph, board.blocks()),
+        Command::Gml => carry_gml(alloc, &scene.doc, graph, board.blocks()),
         Command::Count(b) => carry_count(alloc, board.blocks(), *b),
         Command::Rank(b) => carry_rank(alloc, board.blocks(), *b),
         Command::Lock(b, k) => carry_lock(alloc, board, *b, *k, true),

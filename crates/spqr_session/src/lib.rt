@@ -23,6 +23,7 @@ mod fault;
 mod head;
 pub mod laws;
 mod planned;
+mod scene;
 mod session;
 mod sorting;
 mod starting;

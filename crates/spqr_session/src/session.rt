@@ -11,8 +11,9 @@ use crate::carrying::carry_out;
 use crate::embedded::embedded_blocks;
 use crate::fault::StartFault;
 use crate::head::head_of;
+use crate::scene::Scene;
 use crate::starting::take_starts;
-use blocks::{Blocks, split};
+use blocks::split;
 use gml_graph::Named;
 use gml_text::Doc;
 use pair_split::Splitter;
@@ -26,14 +27,12 @@ use std::marker::Model;
 /// Both are always right ones.
 #[derive(Drop)]
 pub struct Session {
-    doc: Doc,
-    named: Named,
-    blocks: Blocks,
+    scene: Scene,
     board: Board,
 }
 
 impl Model for Session {
-    ghost use Rattle.spqr_session.specs.Embedded.{setting_of};
+    ghost use Rattle.spqr_session.specs.Scene.{setting_on};
     ghost use Rattle.spqr_session.specs.Board.{board_state};
     ghost use Rattle.spqr_session.specs.Machine.{Machine, IsMachine};
     ghost use Rattle.gml_text.specs.Code.{document_code};
@@ -44,13 +43,13 @@ impl Model for Session {
     ghost coded = { Prim.hlevel (codes, document_code) };
 
     ghost view = { λ s. record {
-      setting = setting_of s.doc s.named s.blocks s.board.views;
+      setting = setting_on s.scene s.board.views;
       state = board_state s.board;
     } };
 
     ghost invariant = { λ s. IsMachine
         (record {
-          setting = setting_of s.doc s.named s.blocks s.board.views;
+          setting = setting_on s.scene s.board.views;
           state = board_state s.board;
         }) };
 }
@@ -78,9 +77,7 @@ impl Session {
         let mut embedded = embedded_blocks(alloc, named.graph(), &blocks, splitter, embedder)?;
         take_starts(alloc, &named, &blocks, &mut embedded)?;
         Ok(Session {
-            doc,
-            named,
-            blocks,
+            scene: Scene { doc, named, blocks },
             board: Board::of(alloc, embedded),
         })
     }
@@ -90,7 +87,8 @@ impl Session {
     pub fn head(&self, alloc: Global) -> Result<Vec<u8>, AllocError>
         ensures { IfOk result (λ text. text.items ≡ head_text self.now.setting) }
     {
-        head_of(alloc, &self.named, &self.blocks, self.board.blocks())
+        let scene = &self.scene;
+        head_of(alloc, &scene.named, &scene.blocks, self.board.blocks())
     }
 
     /// Carries out a command and gives its answer. If memory runs out, the session stays as it was.
@@ -100,12 +98,6 @@ impl Session {
             Step self.old.setting self.old.state command.now text.items self.new.state) }
         ensures memory { OnErr result (self.new ≡ self.old) }
     {
-        carry_out(
-            alloc,
-            &self.doc,
-            self.named.graph(),
-            &mut self.board,
-            command,
-        )
+        carry_out(alloc, &self.scene, &mut self.board, command)
     }
 }

@@ -5,6 +5,7 @@ use Rattle.moves.specs.declared.values.Move.{Move}
 use Rattle.moves.specs.declared.values.Move.TheVariants.{Flip, Permute}
 use Rattle.spqr_script.specs.Answers.Moves.{moves_text}
 use Rattle.spqr_session.specs.Trees.{BlockTree}
+use Rattle.spqr_session.specs.Setting.{Setting}
 use Rattle.spqr_session.specs.State.{Embedding, State}
 use Rattle.spqr_session.specs.Members.{WithCount, rank_codes, StandsAt}
 use Rattle.spqr_session.specs.Codes.{Carries}
@@ -25,9 +26,9 @@ abbrev pub WithMoves : (BlockTree → Embedding → Embedding → Type 0) → Bl
 WithMoves IsChange tree old new text = IsChange tree old new × (text ≡ conversion_text tree old new)
 
 -- one step of `convert B rank R`: refused by codes 1, 5, 10 and 11
-abbrev pub ConvertRankStep : List BlockTree → ℕ → ℕ → State → List ℕ → State → Type 0
-ConvertRankStep trees b r before text after = WithCount trees b before (λ n. ChangeStep (read_ladder (rank_codes r n) trees b before) (WithMoves (StandsAt r)) trees b before text after)
+abbrev pub ConvertRankStep : Setting → ℕ → ℕ → State → List ℕ → State → Type 0
+ConvertRankStep setting b r before text after = WithCount setting.trees b before (λ n. ChangeStep (read_ladder (rank_codes r n) setting.trees b before) (WithMoves (StandsAt r)) setting b before text after)
 
 -- one step of `convert B to ROT`: refused as `take B ROT` is
-abbrev pub ConvertToStep : List BlockTree → ℕ → List (ℕ × List ℕ) → State → List ℕ → State → Type 0
-ConvertToStep trees b entries before text after = Carries (TakeApplies trees b entries before) (ChangesBlock trees b (WithMoves (IsTaken entries))) before text after
+abbrev pub ConvertToStep : Setting → ℕ → List (ℕ × List ℕ) → State → List ℕ → State → Type 0
+ConvertToStep setting b entries before text after = Carries (TakeApplies setting.trees b entries before) (ChangesBlock setting b (WithMoves (IsTaken entries))) before text after

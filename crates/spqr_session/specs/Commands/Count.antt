@@ -4,6 +4,7 @@ use Rattle.skeletons.specs.Lists.{IsRank}
 use Rattle.spqr_script.specs.Answers.Count.{count_text}
 use Rattle.spqr_script.specs.Answers.Rank.{rank_text}
 use Rattle.spqr_session.specs.Trees.{BlockTree}
+use Rattle.spqr_session.specs.Setting.{Setting}
 use Rattle.spqr_session.specs.State.{Embedding, State}
 use Rattle.spqr_session.specs.Members.{AreMembers, WithCount, count_codes}
 use Rattle.spqr_session.specs.BlockCodes.{ReadStep}
@@ -17,8 +18,8 @@ abbrev pub IsRanked : BlockTree → Embedding → List ℕ → Type 0
 IsRanked tree e text = (l : List (List (List ℕ))) (k : ℕ) → AreMembers tree e l → IsRank l e.rotation k → text ≡ rank_text k
 
 -- one step each: refused by codes 1, 5 and 10
-abbrev pub CountStep : List BlockTree → ℕ → State → List ℕ → State → Type 0
-CountStep trees b before text after = WithCount trees b before (λ n. ReadStep (count_codes n) IsCounted trees b before text after)
+abbrev pub CountStep : Setting → ℕ → State → List ℕ → State → Type 0
+CountStep setting b before text after = WithCount setting.trees b before (λ n. ReadStep (count_codes n) IsCounted setting.trees b before text after)
 
-abbrev pub RankStep : List BlockTree → ℕ → State → List ℕ → State → Type 0
-RankStep trees b before text after = WithCount trees b before (λ n. ReadStep (count_codes n) IsRanked trees b before text after)
+abbrev pub RankStep : Setting → ℕ → State → List ℕ → State → Type 0
+RankStep setting b before text after = WithCount setting.trees b before (λ n. ReadStep (count_codes n) IsRanked setting.trees b before text after)

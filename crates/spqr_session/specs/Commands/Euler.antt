@@ -6,6 +6,7 @@ use Rattle.rotations.specs.Given.{AreArranged, IsFirstBad, given_order}
 use Rattle.faces.specs.Euler.{face_count, component_count}
 use Rattle.faces.specs.declared.numbers.Euler.{Euler}
 use Rattle.spqr_script.specs.Answers.Euler.{euler_text}
+use Rattle.spqr_session.specs.Setting.{Setting}
 use Rattle.spqr_session.specs.State.{State}
 use Rattle.spqr_session.specs.Codes.{Carries}
 use Rattle.spqr_session.specs.declared.code.Code.{Code}
@@ -40,6 +41,10 @@ pub record EulerDoes (g : Multigraph) (entries : List (ℕ × List ℕ)) (before
   pub answer : text ≡ euler_text (euler_numbers g rotation)
   pub stays : after ≡ before
 
--- one step: refused where a code applies, else this
-abbrev pub EulerStep : Multigraph → List (ℕ × List ℕ) → State → List ℕ → State → Type 0
-EulerStep g entries before text after = Carries (EulerApplies g entries) (EulerDoes g entries) before text after
+-- this on a graph: refused where a code applies
+abbrev pub EulerOn : Multigraph → List (ℕ × List ℕ) → State → List ℕ → State → Type 0
+EulerOn g entries before text after = Carries (EulerApplies g entries) (EulerDoes g entries) before text after
+
+-- one step, on the graph of the setting
+abbrev pub EulerStep : Setting → List (ℕ × List ℕ) → State → List ℕ → State → Type 0
+EulerStep setting entries before text after = EulerOn setting.named.graph entries before text after

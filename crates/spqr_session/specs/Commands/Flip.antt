@@ -3,6 +3,7 @@ use Rattle.std.specs.Prelude.{◌≡◌, ℕ, not, List, [], ◌∷◌, ◌++◌
 use Rattle.skeletons.specs.Moves.{flip, MoveLeads}
 use Rattle.skel_embed.specs.Block.{lock_at}
 use Rattle.spqr_session.specs.Trees.{BlockTree, tree_at}
+use Rattle.spqr_session.specs.Setting.{Setting}
 use Rattle.spqr_session.specs.State.{Embedding, State, entry_at}
 use Rattle.spqr_session.specs.Codes.{Ladder}
 use Rattle.spqr_session.specs.BlockCodes.{is_block, node_codes, of_entry, lock_codes, Silently, ChangeStep}
@@ -23,5 +24,5 @@ pub record IsFlipped (k : ℕ) (tree : BlockTree) (old new : Embedding) : Type 0
   pub locks : new.locks ≡ old.locks
 
 -- one step
-abbrev pub FlipStep : List BlockTree → ℕ → ℕ → State → List ℕ → State → Type 0
-FlipStep trees b k before text after = ChangeStep (flip_ladder trees b k before) (Silently (IsFlipped k)) trees b before text after
+abbrev pub FlipStep : Setting → ℕ → ℕ → State → List ℕ → State → Type 0
+FlipStep setting b k before text after = ChangeStep (flip_ladder setting.trees b k before) (Silently (IsFlipped k)) setting b before text after

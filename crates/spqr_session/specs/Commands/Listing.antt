@@ -6,6 +6,7 @@ use Rattle.spqr_script.specs.Answers.Change.{end_text}
 use Rattle.spqr_script.specs.Answers.List.{list_text, more_text}
 use Rattle.spqr_script.specs.Answers.Rotation.{rotation_text}
 use Rattle.spqr_session.specs.Trees.{BlockTree}
+use Rattle.spqr_session.specs.Setting.{Setting}
 use Rattle.spqr_session.specs.State.{Embedding, State}
 use Rattle.spqr_session.specs.Members.{AreMembers}
 use Rattle.spqr_session.specs.BlockCodes.{no_more, ReadStep}
@@ -20,5 +21,5 @@ abbrev pub IsListing : ℕ → ℕ → BlockTree → Embedding → List ℕ → 
 IsListing b n tree e text = (l : List (List (List ℕ))) (k : ℕ) → AreMembers tree e l → IsRank l e.rotation k → text ≡ members_text b n tree (drop (k + 1) l)
 
 -- one step: refused by codes 1 and 5
-abbrev pub ListStep : List BlockTree → ℕ → ℕ → State → List ℕ → State → Type 0
-ListStep trees b n before text after = ReadStep no_more (IsListing b n) trees b before text after
+abbrev pub ListStep : Setting → ℕ → ℕ → State → List ℕ → State → Type 0
+ListStep setting b n before text after = ReadStep no_more (IsListing b n) setting.trees b before text after

@@ -4,6 +4,7 @@ use Rattle.permutations.specs.Count.{some, least}
 use Rattle.rotations.specs.Runs.{mirror_image}
 use Rattle.skel_embed.specs.Block.{lock_at}
 use Rattle.spqr_session.specs.Trees.{BlockTree}
+use Rattle.spqr_session.specs.Setting.{Setting}
 use Rattle.spqr_session.specs.State.{Embedding, State}
 use Rattle.spqr_session.specs.Codes.{Ladder}
 use Rattle.spqr_session.specs.BlockCodes.{kind_of, read_ladder, Silently, ChangeStep}
@@ -24,5 +25,5 @@ pub record IsMirrored (tree : BlockTree) (old new : Embedding) : Type 0 where
   pub locks : new.locks ≡ old.locks
 
 -- one step: refused by codes 1, 5 and 12
-abbrev pub MirrorStep : List BlockTree → ℕ → State → List ℕ → State → Type 0
-MirrorStep trees b before text after = ChangeStep (read_ladder mirror_codes trees b before) (Silently IsMirrored) trees b before text after
+abbrev pub MirrorStep : Setting → ℕ → State → List ℕ → State → Type 0
+MirrorStep setting b before text after = ChangeStep (read_ladder mirror_codes setting.trees b before) (Silently IsMirrored) setting b before text after

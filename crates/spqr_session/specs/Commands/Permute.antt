@@ -5,6 +5,7 @@ use Rattle.gml_graph.specs.Arranged.{is_arrangement}
 use Rattle.skeletons.specs.Items.{node_keys}
 use Rattle.skeletons.specs.Moves.{permute, MoveLeads}
 use Rattle.spqr_session.specs.Trees.{BlockTree, tree_at}
+use Rattle.spqr_session.specs.Setting.{Setting}
 use Rattle.spqr_session.specs.State.{Embedding, State, entry_at}
 use Rattle.spqr_session.specs.Codes.{Ladder}
 use Rattle.spqr_session.specs.BlockCodes.{is_block, is_node, kind_of, is_planar, of_entry, lock_codes, Silently, ChangeStep}
@@ -35,5 +36,5 @@ pub record IsPermuted (k : ℕ) (keys : List ℕ) (tree : BlockTree) (old new : 
   pub locks : new.locks ≡ old.locks
 
 -- one step
-abbrev pub PermuteStep : List BlockTree → ℕ → ℕ → List ℕ → State → List ℕ → State → Type 0
-PermuteStep trees b k keys before text after = ChangeStep (permute_ladder trees b k keys before) (Silently (IsPermuted k keys)) trees b before text after
+abbrev pub PermuteStep : Setting → ℕ → ℕ → List ℕ → State → List ℕ → State → Type 0
+PermuteStep setting b k keys before text after = ChangeStep (permute_ladder setting.trees b k keys before) (Silently (IsPermuted k keys)) setting b before text after

@@ -7,6 +7,7 @@ use Rattle.skeletons.specs.Lists.{KeepsChoices}
 use Rattle.skel_embed.specs.Block.{lock_at}
 use Rattle.skel_embed.specs.Taken.{IsGiven, IsNotPlane}
 use Rattle.spqr_session.specs.Trees.{BlockTree, tree_at}
+use Rattle.spqr_session.specs.Setting.{Setting}
 use Rattle.spqr_session.specs.State.{Embedding, State, entry_at}
 use Rattle.spqr_session.specs.Codes.{Carries}
 use Rattle.spqr_session.specs.BlockCodes.{ChangesBlock, Silently}
@@ -42,5 +43,5 @@ pub record IsTaken (entries : List (ℕ × List ℕ)) (tree : BlockTree) (old ne
   pub locks : new.locks ≡ old.locks
 
 -- one step
-abbrev pub TakeStep : List BlockTree → ℕ → List (ℕ × List ℕ) → State → List ℕ → State → Type 0
-TakeStep trees b entries before text after = Carries (TakeApplies trees b entries before) (ChangesBlock trees b (Silently (IsTaken entries))) before text after
+abbrev pub TakeStep : Setting → ℕ → List (ℕ × List ℕ) → State → List ℕ → State → Type 0
+TakeStep setting b entries before text after = Carries (TakeApplies setting.trees b entries before) (ChangesBlock setting b (Silently (IsTaken entries))) before text after

@@ -1,6 +1,7 @@
 // `convert B rank R` and `convert B to ROT`: the moves that lead to a member, printed and made.
-ghost use Rattle.std.specs.Prelude.{◌≡◌, map, IfOk, OnErr};
-ghost use Rattle.spqr_session.specs.Embedded.{view_tree};
+ghost use Rattle.std.specs.Prelude.{◌≡◌, IfOk, OnErr};
+ghost use Rattle.spqr_session.specs.Scene.{setting_on};
+ghost use Rattle.spqr_session.specs.declared.scene.Scene.{Scene};
 ghost use Rattle.spqr_session.specs.Board.{board_state, IsCarried};
 ghost use Rattle.spqr_session.specs.Planned.{FitsBlock, MayStand, TellsMoves, IsConverted};
 ghost use Rattle.spqr_session.specs.Commands.Convert.{ConvertToStep};
@@ -75,7 +76,7 @@ pub(crate) fn carry_convert_rank(
     b: u32,
     r: u128,
 ) -> Result<Vec<u8>, AllocError>
-    ensures step { IfOk result (λ text. ConvertByProduct (map view_tree board.old.views) b r
+    ensures step { (scene : Scene) → IfOk result (λ text. ConvertByProduct (setting_on scene board.old.views) b r
         (board_state board.old) text.items (board_state board.new)) }
     ensures setting { IsCarried board.old.views board.new.views }
     ensures memory { OnErr result (board.new ≡ board.old) }
@@ -92,7 +93,7 @@ pub(crate) fn carry_convert_to(
     b: u32,
     lists: &Lists,
 ) -> Result<Vec<u8>, AllocError>
-    ensures step { IfOk result (λ text. ConvertToStep (map view_tree board.old.views) b lists.now
+    ensures step { (scene : Scene) → IfOk result (λ text. ConvertToStep (setting_on scene board.old.views) b lists.now
         (board_state board.old) text.items (board_state board.new)) }
     ensures setting { IsCarried board.old.views board.new.views }
     ensures memory { OnErr result (board.new ≡ board.old) }

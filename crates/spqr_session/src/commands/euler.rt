@@ -3,7 +3,7 @@ ghost use Rattle.std.specs.Prelude.{◌≡◌, IfOk};
 ghost use Rattle.rotations.specs.Rotation.{IsRotationSystem};
 ghost use Rattle.spqr_script.specs.Answers.Euler.{euler_text};
 ghost use Rattle.spqr_session.specs.State.{State};
-ghost use Rattle.spqr_session.specs.Commands.Euler.{EulerStep, euler_numbers};
+ghost use Rattle.spqr_session.specs.Commands.Euler.{EulerOn, euler_numbers};
 
 use crate::code::Code;
 use multigraph::Graph;
@@ -23,7 +23,7 @@ fn numbers_line(alloc: Global, g: &Graph, r: &Rotation) -> Result<Vec<u8>, Alloc
 /// Carries out `euler`: the numbers of the rotation system that the lists are, or code 6 with the least number at which they
 /// are not one. Nothing changes.
 pub(crate) fn carry_euler(alloc: Global, g: &Graph, lists: &Lists) -> Result<Vec<u8>, AllocError>
-    ensures { (s : State) → IfOk result (λ text. EulerStep g.now lists.now s text.items s) }
+    ensures { (s : State) → IfOk result (λ text. EulerOn g.now lists.now s text.items s) }
 {
     match Rotation::from_lists(alloc, g, lists) {
         Ok(rotation) => numbers_line(alloc, g, &rotation),

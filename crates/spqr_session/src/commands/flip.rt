@@ -5,6 +5,8 @@ ghost use Rattle.pair_split.specs.declared.components.Kind.TheVariants.{R};
 ghost use Rattle.skeletons.specs.Moves.{flip};
 ghost use Rattle.spqr_session.specs.State.{State};
 ghost use Rattle.spqr_session.specs.Embedded.{view_tree};
+ghost use Rattle.spqr_session.specs.Scene.{setting_on};
+ghost use Rattle.spqr_session.specs.declared.scene.Scene.{Scene};
 ghost use Rattle.spqr_session.specs.BlockCodes.{kind_of};
 ghost use Rattle.spqr_session.specs.Board.{family_on, board_state, IsCarried};
 ghost use Rattle.spqr_session.specs.Planned.{IsMovePlan, IsPlan, IsPlanAt};
@@ -80,8 +82,8 @@ pub(crate) fn carry_flip(
     b: u32,
     k: u32,
 ) -> Result<Vec<u8>, AllocError>
-    ensures step { IfOk result (λ text.
-        FlipStep (map view_tree board.old.views) b k (board_state board.old) text.items (board_state board.new)) }
+    ensures step { (scene : Scene) → IfOk result (λ text.
+        FlipStep (setting_on scene board.old.views) b k (board_state board.old) text.items (board_state board.new)) }
     ensures setting { IsCarried board.old.views board.new.views }
     ensures memory { OnErr result (board.new ≡ board.old) }
 {

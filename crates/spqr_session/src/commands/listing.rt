@@ -8,8 +8,8 @@ ghost use Rattle.spqr_script.specs.Answers.List.{more_text};
 ghost use Rattle.spqr_script.specs.Answers.Rotation.{rotation_text};
 ghost use Rattle.spqr_session.specs.State.{State};
 ghost use Rattle.spqr_session.specs.Embedded.{view_tree, view_entry};
-ghost use Rattle.spqr_session.specs.BlockCodes.{no_more, TellsBlock};
-ghost use Rattle.spqr_session.specs.Commands.Listing.{members_text, IsListing, ListStep};
+ghost use Rattle.spqr_session.specs.BlockCodes.{no_more, ReadStep, TellsBlock};
+ghost use Rattle.spqr_session.specs.Commands.Listing.{members_text, IsListing};
 
 use crate::code::Code;
 use crate::embedded::EmbeddedBlock;
@@ -111,7 +111,7 @@ pub(crate) fn carry_list(
     n: u32,
 ) -> Result<Vec<u8>, AllocError>
     ensures { (s : State) → s.present.entries ≡ map view_entry blocks.now
-        → IfOk result (λ text. ListStep (map view_tree blocks.now) b n s text.items s) }
+        → IfOk result (λ text. ReadStep no_more (IsListing b n) (map view_tree blocks.now) b s text.items s) }
 {
     match blocks.get(b as usize) {
         Some(block) => list_block(alloc, b, n, block),

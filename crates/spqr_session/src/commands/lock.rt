@@ -2,6 +2,8 @@
 ghost use Rattle.std.specs.Prelude.{◌≡◌, ◌<◌, map, IfOk, OnErr};
 ghost use Rattle.spqr_session.specs.State.{State};
 ghost use Rattle.spqr_session.specs.Embedded.{view_tree};
+ghost use Rattle.spqr_session.specs.Scene.{setting_on};
+ghost use Rattle.spqr_session.specs.declared.scene.Scene.{Scene};
 ghost use Rattle.spqr_session.specs.BlockCodes.{node_codes, node_ladder};
 ghost use Rattle.pair_split.specs.Kinds.{has_choices};
 ghost use Rattle.spqr_session.specs.Board.{family_on, board_state, IsCarried};
@@ -62,8 +64,8 @@ pub(crate) fn carry_lock(
     k: u32,
     on: bool,
 ) -> Result<Vec<u8>, AllocError>
-    ensures step { IfOk result (λ text.
-        LockStep on (map view_tree board.old.views) b k (board_state board.old) text.items (board_state board.new)) }
+    ensures step { (scene : Scene) → IfOk result (λ text.
+        LockStep on (setting_on scene board.old.views) b k (board_state board.old) text.items (board_state board.new)) }
     ensures setting { IsCarried board.old.views board.new.views }
     ensures memory { OnErr result (board.new ≡ board.old) }
 {

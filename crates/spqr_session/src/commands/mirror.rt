@@ -2,6 +2,8 @@
 ghost use Rattle.std.specs.Prelude.{◌≡◌, map, IfOk, OnErr};
 ghost use Rattle.spqr_session.specs.State.{State};
 ghost use Rattle.spqr_session.specs.Embedded.{view_tree};
+ghost use Rattle.spqr_session.specs.Scene.{setting_on};
+ghost use Rattle.spqr_session.specs.declared.scene.Scene.{Scene};
 ghost use Rattle.spqr_session.specs.BlockCodes.{entry_codes, read_ladder};
 ghost use Rattle.spqr_session.specs.Board.{family_on, board_state, IsCarried};
 ghost use Rattle.spqr_session.specs.Planned.{IsPlan, IsPlanAt, IsMirrorPlan};
@@ -50,8 +52,8 @@ fn plan(alloc: Global, blocks: &[EmbeddedBlock], b: u32) -> Result<Planned, Allo
 
 /// Carries out `mirror`: every rotation of the block is reversed, or code 1, 5 or 12. If memory runs out, the board stays as it was.
 pub(crate) fn carry_mirror(alloc: Global, board: &mut Board, b: u32) -> Result<Vec<u8>, AllocError>
-    ensures step { IfOk result (λ text.
-        MirrorStep (map view_tree board.old.views) b (board_state board.old) text.items (board_state board.new)) }
+    ensures step { (scene : Scene) → IfOk result (λ text.
+        MirrorStep (setting_on scene board.old.views) b (board_state board.old) text.items (board_state board.new)) }
     ensures setting { IsCarried board.old.views board.new.views }
     ensures memory { OnErr result (board.new ≡ board.old) }
 {

@@ -8,6 +8,8 @@ ghost use Rattle.skeletons.specs.Items.{item_key, node_keys};
 ghost use Rattle.skeletons.specs.Moves.{permute};
 ghost use Rattle.spqr_session.specs.State.{State};
 ghost use Rattle.spqr_session.specs.Embedded.{view_tree};
+ghost use Rattle.spqr_session.specs.Scene.{setting_on};
+ghost use Rattle.spqr_session.specs.declared.scene.Scene.{Scene};
 ghost use Rattle.spqr_session.specs.BlockCodes.{kind_of};
 ghost use Rattle.spqr_session.specs.Board.{family_on, board_state, IsCarried};
 ghost use Rattle.spqr_session.specs.Planned.{IsMovePlan, IsPlan, IsPlanAt};
@@ -164,7 +166,7 @@ pub(crate) fn carry_permute(
     k: u32,
     keys: &[u32],
 ) -> Result<Vec<u8>, AllocError>
-    ensures step { IfOk result (λ text. PermuteStep (map view_tree board.old.views) b k keys.now
+    ensures step { (scene : Scene) → IfOk result (λ text. PermuteStep (setting_on scene board.old.views) b k keys.now
         (board_state board.old) text.items (board_state board.new)) }
     ensures setting { IsCarried board.old.views board.new.views }
     ensures memory { OnErr result (board.new ≡ board.old) }

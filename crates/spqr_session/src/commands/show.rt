@@ -2,8 +2,8 @@
 ghost use Rattle.std.specs.Prelude.{◌≡◌, map, IfOk};
 ghost use Rattle.spqr_session.specs.State.{State};
 ghost use Rattle.spqr_session.specs.Embedded.{view_tree, view_entry};
-ghost use Rattle.spqr_session.specs.BlockCodes.{no_more, TellsBlock};
-ghost use Rattle.spqr_session.specs.Commands.Show.{IsShown, ShowStep};
+ghost use Rattle.spqr_session.specs.BlockCodes.{no_more, ReadStep, TellsBlock};
+ghost use Rattle.spqr_session.specs.Commands.Show.{IsShown};
 
 use crate::code::Code;
 use crate::embedded::EmbeddedBlock;
@@ -29,7 +29,7 @@ pub(crate) fn carry_show(
     b: u32,
 ) -> Result<Vec<u8>, AllocError>
     ensures { (s : State) → s.present.entries ≡ map view_entry blocks.now
-        → IfOk result (λ text. ShowStep (map view_tree blocks.now) b s text.items s) }
+        → IfOk result (λ text. ReadStep no_more (IsShown b) (map view_tree blocks.now) b s text.items s) }
 {
     match blocks.get(b as usize) {
         Some(block) => show_block(alloc, b, block),

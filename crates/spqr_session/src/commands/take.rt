@@ -2,6 +2,8 @@
 ghost use Rattle.std.specs.Prelude.{◌≡◌, map, IfOk, OnErr};
 ghost use Rattle.spqr_session.specs.State.{State};
 ghost use Rattle.spqr_session.specs.Embedded.{view_tree};
+ghost use Rattle.spqr_session.specs.Scene.{setting_on};
+ghost use Rattle.spqr_session.specs.declared.scene.Scene.{Scene};
 ghost use Rattle.spqr_session.specs.Board.{family_on, board_state, IsCarried};
 ghost use Rattle.spqr_session.specs.Planned.{IsLowestPlan, IsLowestPlanAt, EntryTakenCodes, IsTakePlan};
 ghost use Rattle.spqr_session.specs.Commands.Take.{TakeApplies, IsTaken, TakeStep};
@@ -76,7 +78,7 @@ pub(crate) fn carry_take(
     b: u32,
     lists: &Lists,
 ) -> Result<Vec<u8>, AllocError>
-    ensures step { IfOk result (λ text. TakeStep (map view_tree board.old.views) b lists.now
+    ensures step { (scene : Scene) → IfOk result (λ text. TakeStep (setting_on scene board.old.views) b lists.now
         (board_state board.old) text.items (board_state board.new)) }
     ensures setting { IsCarried board.old.views board.new.views }
     ensures memory { OnErr result (board.new ≡ board.old) }

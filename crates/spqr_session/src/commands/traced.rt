@@ -2,8 +2,8 @@
 ghost use Rattle.std.specs.Prelude.{◌≡◌, map, IfOk};
 ghost use Rattle.spqr_session.specs.State.{State};
 ghost use Rattle.spqr_session.specs.Embedded.{view_tree, view_entry};
-ghost use Rattle.spqr_session.specs.BlockCodes.{no_more, TellsBlock};
-ghost use Rattle.spqr_session.specs.Commands.Faces.{IsFaced, FacesStep};
+ghost use Rattle.spqr_session.specs.BlockCodes.{no_more, ReadStep, TellsBlock};
+ghost use Rattle.spqr_session.specs.Commands.Faces.{IsFaced};
 
 use crate::code::Code;
 use crate::embedded::EmbeddedBlock;
@@ -33,7 +33,7 @@ pub(crate) fn carry_faces(
     b: u32,
 ) -> Result<Vec<u8>, AllocError>
     ensures { (s : State) → s.present.entries ≡ map view_entry blocks.now
-        → IfOk result (λ text. FacesStep (map view_tree blocks.now) b s text.items s) }
+        → IfOk result (λ text. ReadStep no_more (IsFaced b) (map view_tree blocks.now) b s text.items s) }
 {
     match blocks.get(b as usize) {
         Some(block) => faces_of_block(alloc, b, block),

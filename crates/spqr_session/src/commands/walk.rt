@@ -2,6 +2,8 @@
 ghost use Rattle.std.specs.Prelude.{◌≡◌, ◌<◌, ◌^◌, map, IfOk, OnErr};
 ghost use Rattle.spqr_session.specs.State.{State};
 ghost use Rattle.spqr_session.specs.Embedded.{view_tree};
+ghost use Rattle.spqr_session.specs.Scene.{setting_on};
+ghost use Rattle.spqr_session.specs.declared.scene.Scene.{Scene};
 ghost use Rattle.spqr_session.specs.Members.{StandsAt};
 ghost use Rattle.spqr_session.specs.Products.{product_rank_codes, GotoByProduct};
 ghost use Rattle.spqr_session.specs.BlockCodes.{planar_codes, block_ladder, entry_codes, read_ladder};
@@ -51,8 +53,8 @@ fn plan_first(alloc: Global, blocks: &[EmbeddedBlock], b: u32) -> Result<Planned
 
 /// Carries out `first`: to the first member of the block's list, or code 1 or 5. If memory runs out, the board stays as it was.
 pub(crate) fn carry_first(alloc: Global, board: &mut Board, b: u32) -> Result<Vec<u8>, AllocError>
-    ensures step { IfOk result (λ text.
-        FirstStep (map view_tree board.old.views) b (board_state board.old) text.items (board_state board.new)) }
+    ensures step { (scene : Scene) → IfOk result (λ text.
+        FirstStep (setting_on scene board.old.views) b (board_state board.old) text.items (board_state board.new)) }
     ensures setting { IsCarried board.old.views board.new.views }
     ensures memory { OnErr result (board.new ≡ board.old) }
 {
@@ -119,8 +121,8 @@ pub(crate) fn carry_goto(
     b: u32,
     r: u128,
 ) -> Result<Vec<u8>, AllocError>
-    ensures step { IfOk result (λ text.
-        GotoByProduct (map view_tree board.old.views) b r (board_state board.old) text.items (board_state board.new)) }
+    ensures step { (scene : Scene) → IfOk result (λ text.
+        GotoByProduct (setting_on scene board.old.views) b r (board_state board.old) text.items (board_state board.new)) }
     ensures setting { IsCarried board.old.views board.new.views }
     ensures memory { OnErr result (board.new ≡ board.old) }
 {
@@ -166,8 +168,8 @@ fn plan_next(alloc: Global, blocks: &[EmbeddedBlock], b: u32) -> Result<Planned,
 /// Carries out `next`: to the member after the present one, or `end` at the last, where nothing changes, or code 1 or 5.
 /// If memory runs out, the board stays as it was.
 pub(crate) fn carry_next(alloc: Global, board: &mut Board, b: u32) -> Result<Vec<u8>, AllocError>
-    ensures step { IfOk result (λ text.
-        NextStep (map view_tree board.old.views) b (board_state board.old) text.items (board_state board.new)) }
+    ensures step { (scene : Scene) → IfOk result (λ text.
+        NextStep (setting_on scene board.old.views) b (board_state board.old) text.items (board_state board.new)) }
     ensures setting { IsCarried board.old.views board.new.views }
     ensures memory { OnErr result (board.new ≡ board.old) }
 {

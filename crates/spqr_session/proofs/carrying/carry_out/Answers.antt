@@ -1,119 +1,169 @@
-use Rattle.std.proofs.Common.{ℕ, true, false, List, map, refl, sym, ap, ◌∙◌, subst, IfOk}
+use Rattle.std.proofs.Common.{ℕ, List, map, refl, sym, ap, subst, IfOk}
 use Rattle.multigraph.specs.Graph.{Multigraph}
 use Rattle.spqr_script.specs.declared.command.Command.TheVariants as command
 use Rattle.spqr_session.specs.Setting.{Setting}
 use Rattle.spqr_session.specs.Trees.{BlockTree, AreBlockTrees}
 use Rattle.spqr_session.specs.Embedded.{BlockView, view_tree, view_entry}
+use Rattle.spqr_session.specs.Scene.{setting_on}
 use Rattle.spqr_session.specs.Board.{board_state, family_on}
-use Rattle.spqr_session.specs.Commands.Euler.{EulerStep}
+use Rattle.spqr_session.specs.BlockCodes.{no_more, ReadStep}
+use Rattle.spqr_session.specs.Commands.Euler.{EulerOn}
 use Rattle.spqr_session.specs.Commands.Gml.{GmlStep}
-use Rattle.spqr_session.specs.Commands.Show.{ShowStep}
-use Rattle.spqr_session.specs.Commands.Faces.{FacesStep}
+use Rattle.spqr_session.specs.Commands.Show.{IsShown}
+use Rattle.spqr_session.specs.Commands.Faces.{IsFaced}
+use Rattle.spqr_session.specs.Commands.Listing.{IsListing}
 use Rattle.spqr_session.specs.Commands.Permute.{PermuteStep}
-use Rattle.spqr_session.specs.Commands.Lock.{LockStep}
+use Rattle.spqr_session.specs.Commands.Walk.{GotoStep}
+use Rattle.spqr_session.specs.Commands.Convert.{ConvertRankStep}
 use Rattle.spqr_session.specs.Products.{CountByProduct, RankByProduct, GotoByProduct, ConvertByProduct}
-use Rattle.spqr_session.specs.Commands.Listing.{ListStep}
-use Rattle.spqr_session.proofs.Steps.{step-of}
+use Rattle.spqr_session.proofs.Steps.{text-map, step-is, step-of}
 use Rattle.spqr_session.proofs.CountSteps.{count-is_step, rank-is_step, goto-is_step, convert-is_step}
 use Rattle.spqr_session.proofs.carrying.carry_out.Goals as goal
 
 pub returns-in-Euler-clause-step : goal.returns-in-Euler-clause-step
-returns-in-Euler-clause-step c = λ setting document graph trees is right.
+returns-in-Euler-clause-step c =
+    let setting = setting_on c.args.scene.now c.args.board.now.views in
     let s = board_state c.args.board.now in
     let lists = c.in-Euler.lists in
-    step-of setting s s c.args.command.now (command.Euler lists) setting.named.graph c.args.graph.now (λ (g : Multigraph) text. EulerStep g lists s text s) c.carry_euler.result c.in-Euler.is graph (λ text h. h) (c.carry_euler.ensures s)
+    step-of setting s s c.args.command.now (command.Euler lists) setting.named.graph c.graph-graph.result.now (λ (g : Multigraph) text. EulerOn g lists s text s) c.carry_euler.result c.in-Euler.is (sym c.graph-graph.ensures.value) (λ text h. h) (c.carry_euler.ensures s)
 
 pub returns-in-Gml-clause-step : goal.returns-in-Gml-clause-step
-returns-in-Gml-clause-step c = λ setting document graph trees is right.
+returns-in-Gml-clause-step c =
+    let setting = setting_on c.args.scene.now c.args.board.now.views in
     let s = board_state c.args.board.now in
     step-of setting s s c.args.command.now command.Gml setting setting (λ (x : Setting) text. GmlStep x s text s) c.carry_gml.result c.in-Gml.is refl (λ text h. h)
-    (c.carry_gml.ensures setting s document graph (trees ∙ ap (λ (vs : List BlockView). map view_tree vs) (sym c.blocks-in-Gml.ensures)) (ap family_on (sym c.blocks-in-Gml.ensures)))
+    (c.carry_gml.ensures setting s refl (sym c.graph-graph.ensures.value) (ap (λ (vs : List BlockView). map view_tree vs) (sym c.blocks-in-Gml.ensures)) (ap family_on (sym c.blocks-in-Gml.ensures)))
 
 pub carry_gml-requires : goal.carry_gml-requires
-carry_gml-requires c = (c.requires.0, subst (λ (views : List BlockView). AreBlockTrees c.args.graph.now c.requires.0 (map view_tree views)) (sym c.blocks-in-Gml.ensures) c.requires.1)
+carry_gml-requires c =
+    let scene = c.args.scene.now in
+    let views = c.args.board.now.views in (
+      scene.blocks.blocks,
+      subst (λ (g : Multigraph). AreBlockTrees g scene.blocks.blocks (map view_tree c.blocks-in-Gml.result.now)) (sym c.graph-graph.ensures.value)
+          (subst (λ (vs : List BlockView). AreBlockTrees scene.named.graph scene.blocks.blocks (map view_tree vs)) (sym c.blocks-in-Gml.ensures) c.requires.setting.trees),
+    )
 
 pub returns-in-Show-clause-step : goal.returns-in-Show-clause-step
-returns-in-Show-clause-step c = λ setting document graph trees is right.
+returns-in-Show-clause-step c =
+    let views = c.args.board.now.views in
+    let setting = setting_on c.args.scene.now views in
     let s = board_state c.args.board.now in
     let seen = c.blocks-in-Show.result.now in
-    step-of setting s s c.args.command.now (command.Show c.in-Show.b) setting.trees (map view_tree seen) (λ (ts : List BlockTree) text. ShowStep ts c.in-Show.b s text s) c.carry_show.result c.in-Show.is
-    (trees ∙ ap (λ (vs : List BlockView). map view_tree vs) (sym c.blocks-in-Show.ensures)) (λ text h. h) (c.carry_show.ensures s (ap (λ (vs : List BlockView). map view_entry vs) (sym c.blocks-in-Show.ensures)))
+    let b = c.in-Show.b in
+    step-of setting s s c.args.command.now (command.Show b) (map view_tree views) (map view_tree seen) (λ (ts : List BlockTree) text. ReadStep no_more (IsShown b) ts b s text s) c.carry_show.result c.in-Show.is
+    (ap (λ (vs : List BlockView). map view_tree vs) (sym c.blocks-in-Show.ensures)) (λ text h. h) (c.carry_show.ensures s (ap (λ (vs : List BlockView). map view_entry vs) (sym c.blocks-in-Show.ensures)))
 
 pub returns-in-Faces-clause-step : goal.returns-in-Faces-clause-step
-returns-in-Faces-clause-step c = λ setting document graph trees is right.
+returns-in-Faces-clause-step c =
+    let views = c.args.board.now.views in
+    let setting = setting_on c.args.scene.now views in
     let s = board_state c.args.board.now in
     let seen = c.blocks-in-Faces.result.now in
-    step-of setting s s c.args.command.now (command.Faces c.in-Faces.b) setting.trees (map view_tree seen) (λ (ts : List BlockTree) text. FacesStep ts c.in-Faces.b s text s) c.carry_faces.result c.in-Faces.is
-    (trees ∙ ap (λ (vs : List BlockView). map view_tree vs) (sym c.blocks-in-Faces.ensures)) (λ text h. h) (c.carry_faces.ensures s (ap (λ (vs : List BlockView). map view_entry vs) (sym c.blocks-in-Faces.ensures)))
+    let b = c.in-Faces.b in
+    step-of setting s s c.args.command.now (command.Faces b) (map view_tree views) (map view_tree seen) (λ (ts : List BlockTree) text. ReadStep no_more (IsFaced b) ts b s text s) c.carry_faces.result c.in-Faces.is
+    (ap (λ (vs : List BlockView). map view_tree vs) (sym c.blocks-in-Faces.ensures)) (λ text h. h) (c.carry_faces.ensures s (ap (λ (vs : List BlockView). map view_entry vs) (sym c.blocks-in-Faces.ensures)))
 
 pub returns-in-Count-clause-step : goal.returns-in-Count-clause-step
-returns-in-Count-clause-step c = λ setting document graph trees is right.
+returns-in-Count-clause-step c =
+    let views = c.args.board.now.views in
+    let setting = setting_on c.args.scene.now views in
     let s = board_state c.args.board.now in
     let seen = c.blocks-in-Count.result.now in
-    step-of setting s s c.args.command.now (command.Count c.in-Count.b) setting.trees (map view_tree seen) (λ (ts : List BlockTree) text. CountByProduct ts c.in-Count.b s text s) c.carry_count.result c.in-Count.is
-    (trees ∙ ap (λ (vs : List BlockView). map view_tree vs) (sym c.blocks-in-Count.ensures)) (λ text h. count-is_step setting c.in-Count.b s is right text s h) (c.carry_count.ensures s (ap (λ (vs : List BlockView). map view_entry vs) (sym c.blocks-in-Count.ensures)))
+    let b = c.in-Count.b in
+    step-of setting s s c.args.command.now (command.Count b) (map view_tree views) (map view_tree seen) (λ (ts : List BlockTree) text. CountByProduct ts b s text s) c.carry_count.result c.in-Count.is
+    (ap (λ (vs : List BlockView). map view_tree vs) (sym c.blocks-in-Count.ensures)) (λ text h. count-is_step setting b s c.requires.setting c.requires.state text s h) (c.carry_count.ensures s (ap (λ (vs : List BlockView). map view_entry vs) (sym c.blocks-in-Count.ensures)))
 
 pub returns-in-Rank-clause-step : goal.returns-in-Rank-clause-step
-returns-in-Rank-clause-step c = λ setting document graph trees is right.
+returns-in-Rank-clause-step c =
+    let views = c.args.board.now.views in
+    let setting = setting_on c.args.scene.now views in
     let s = board_state c.args.board.now in
     let seen = c.blocks-in-Rank.result.now in
-    step-of setting s s c.args.command.now (command.Rank c.in-Rank.b) setting.trees (map view_tree seen) (λ (ts : List BlockTree) text. RankByProduct ts c.in-Rank.b s text s) c.carry_rank.result c.in-Rank.is
-    (trees ∙ ap (λ (vs : List BlockView). map view_tree vs) (sym c.blocks-in-Rank.ensures)) (λ text h. rank-is_step setting c.in-Rank.b s is right text s h) (c.carry_rank.ensures s (ap (λ (vs : List BlockView). map view_entry vs) (sym c.blocks-in-Rank.ensures)))
+    let b = c.in-Rank.b in
+    step-of setting s s c.args.command.now (command.Rank b) (map view_tree views) (map view_tree seen) (λ (ts : List BlockTree) text. RankByProduct ts b s text s) c.carry_rank.result c.in-Rank.is
+    (ap (λ (vs : List BlockView). map view_tree vs) (sym c.blocks-in-Rank.ensures)) (λ text h. rank-is_step setting b s c.requires.setting c.requires.state text s h) (c.carry_rank.ensures s (ap (λ (vs : List BlockView). map view_entry vs) (sym c.blocks-in-Rank.ensures)))
 
 pub returns-in-List-clause-step : goal.returns-in-List-clause-step
-returns-in-List-clause-step c = λ setting document graph trees is right.
+returns-in-List-clause-step c =
+    let views = c.args.board.now.views in
+    let setting = setting_on c.args.scene.now views in
     let s = board_state c.args.board.now in
     let seen = c.blocks-in-List.result.now in
-    step-of setting s s c.args.command.now (command.List c.in-List.b c.in-List.n) setting.trees (map view_tree seen) (λ (ts : List BlockTree) text. ListStep ts c.in-List.b c.in-List.n s text s) c.carry_list.result c.in-List.is
-    (trees ∙ ap (λ (vs : List BlockView). map view_tree vs) (sym c.blocks-in-List.ensures)) (λ text h. h) (c.carry_list.ensures s (ap (λ (vs : List BlockView). map view_entry vs) (sym c.blocks-in-List.ensures)))
+    let b = c.in-List.b in
+    let n = c.in-List.n in
+    step-of setting s s c.args.command.now (command.List b n) (map view_tree views) (map view_tree seen) (λ (ts : List BlockTree) text. ReadStep no_more (IsListing b n) ts b s text s) c.carry_list.result c.in-List.is
+    (ap (λ (vs : List BlockView). map view_tree vs) (sym c.blocks-in-List.ensures)) (λ text h. h) (c.carry_list.ensures s (ap (λ (vs : List BlockView). map view_entry vs) (sym c.blocks-in-List.ensures)))
+
+pub returns-in-Flip-clause-step : goal.returns-in-Flip-clause-step
+returns-in-Flip-clause-step c =
+    let old = c.args.board.now in
+    step-is (setting_on c.args.scene.now old.views) (board_state old) (board_state c.carry_flip.new.board) c.args.command.now (command.Flip c.in-Flip.b c.in-Flip.k) c.carry_flip.result c.in-Flip.is (c.carry_flip.ensures.step c.args.scene.now)
+
+pub returns-in-Mirror-clause-step : goal.returns-in-Mirror-clause-step
+returns-in-Mirror-clause-step c =
+    let old = c.args.board.now in
+    step-is (setting_on c.args.scene.now old.views) (board_state old) (board_state c.carry_mirror.new.board) c.args.command.now (command.Mirror c.in-Mirror.b) c.carry_mirror.result c.in-Mirror.is (c.carry_mirror.ensures.step c.args.scene.now)
+
+pub returns-in-First-clause-step : goal.returns-in-First-clause-step
+returns-in-First-clause-step c =
+    let old = c.args.board.now in
+    step-is (setting_on c.args.scene.now old.views) (board_state old) (board_state c.carry_first.new.board) c.args.command.now (command.First c.in-First.b) c.carry_first.result c.in-First.is (c.carry_first.ensures.step c.args.scene.now)
+
+pub returns-in-Next-clause-step : goal.returns-in-Next-clause-step
+returns-in-Next-clause-step c =
+    let old = c.args.board.now in
+    step-is (setting_on c.args.scene.now old.views) (board_state old) (board_state c.carry_next.new.board) c.args.command.now (command.Next c.in-Next.b) c.carry_next.result c.in-Next.is (c.carry_next.ensures.step c.args.scene.now)
+
+pub returns-in-ConvertTo-clause-step : goal.returns-in-ConvertTo-clause-step
+returns-in-ConvertTo-clause-step c =
+    let old = c.args.board.now in
+    step-is (setting_on c.args.scene.now old.views) (board_state old) (board_state c.carry_convert_to.new.board) c.args.command.now (command.ConvertTo c.in-ConvertTo.b c.in-ConvertTo.lists) c.carry_convert_to.result c.in-ConvertTo.is (c.carry_convert_to.ensures.step c.args.scene.now)
+
+pub returns-in-Take-clause-step : goal.returns-in-Take-clause-step
+returns-in-Take-clause-step c =
+    let old = c.args.board.now in
+    step-is (setting_on c.args.scene.now old.views) (board_state old) (board_state c.carry_take.new.board) c.args.command.now (command.Take c.in-Take.b c.in-Take.lists) c.carry_take.result c.in-Take.is (c.carry_take.ensures.step c.args.scene.now)
+
+pub returns-in-Lock-clause-step : goal.returns-in-Lock-clause-step
+returns-in-Lock-clause-step c =
+    let old = c.args.board.now in
+    step-is (setting_on c.args.scene.now old.views) (board_state old) (board_state c.carry_lock.new.board) c.args.command.now (command.Lock c.in-Lock.b c.in-Lock.k) c.carry_lock.result c.in-Lock.is (c.carry_lock.ensures.step c.args.scene.now)
+
+pub returns-in-Unlock-clause-step : goal.returns-in-Unlock-clause-step
+returns-in-Unlock-clause-step c =
+    let old = c.args.board.now in
+    step-is (setting_on c.args.scene.now old.views) (board_state old) (board_state c.carry_lock-in-Unlock.new.board) c.args.command.now (command.Unlock c.in-Unlock.b c.in-Unlock.k) c.carry_lock-in-Unlock.result c.in-Unlock.is (c.carry_lock-in-Unlock.ensures.step c.args.scene.now)
 
 pub returns-in-Permute-clause-step : goal.returns-in-Permute-clause-step
-returns-in-Permute-clause-step c = λ setting document graph trees is right.
+returns-in-Permute-clause-step c =
     let old = c.args.board.now in
+    let setting = setting_on c.args.scene.now old.views in
     let s = board_state old in
     let new = board_state c.carry_permute.new.board in
     let b = c.in-Permute.b in
     let k = c.in-Permute.k in
     let keys = c.in-Permute.keys in
-    step-of setting s new c.args.command.now (command.Permute b k keys) setting.trees (map view_tree old.views) (λ (ts : List BlockTree) text. PermuteStep ts b k keys s text new) c.carry_permute.result c.in-Permute.is
-    trees (λ text h. h) (subst (λ (ks : List ℕ). IfOk c.carry_permute.result (λ text. PermuteStep (map view_tree old.views) b k ks s text.items new)) c.as_slice.ensures c.carry_permute.ensures.step)
-
-pub returns-in-Lock-clause-step : goal.returns-in-Lock-clause-step
-returns-in-Lock-clause-step c = λ setting document graph trees is right.
-    let old = c.args.board.now in
-    let s = board_state old in
-    let new = board_state c.carry_lock.new.board in
-    let b = c.in-Lock.b in
-    let k = c.in-Lock.k in
-    step-of setting s new c.args.command.now (command.Lock b k) setting.trees (map view_tree old.views) (λ (ts : List BlockTree) text. LockStep true ts b k s text new) c.carry_lock.result c.in-Lock.is
-    trees (λ text h. h) c.carry_lock.ensures.step
-
-pub returns-in-Unlock-clause-step : goal.returns-in-Unlock-clause-step
-returns-in-Unlock-clause-step c = λ setting document graph trees is right.
-    let old = c.args.board.now in
-    let s = board_state old in
-    let new = board_state c.carry_lock-in-Unlock.new.board in
-    let b = c.in-Unlock.b in
-    let k = c.in-Unlock.k in
-    step-of setting s new c.args.command.now (command.Unlock b k) setting.trees (map view_tree old.views) (λ (ts : List BlockTree) text. LockStep false ts b k s text new) c.carry_lock-in-Unlock.result c.in-Unlock.is
-    trees (λ text h. h) c.carry_lock-in-Unlock.ensures.step
+    step-is setting s new c.args.command.now (command.Permute b k keys) c.carry_permute.result c.in-Permute.is
+    (subst (λ (ks : List ℕ). IfOk c.carry_permute.result (λ text. PermuteStep setting b k ks s text.items new)) c.as_slice.ensures (c.carry_permute.ensures.step c.args.scene.now))
 
 pub returns-in-Goto-clause-step : goal.returns-in-Goto-clause-step
-returns-in-Goto-clause-step c = λ setting document graph trees is right.
+returns-in-Goto-clause-step c =
     let old = c.args.board.now in
+    let setting = setting_on c.args.scene.now old.views in
     let s = board_state old in
     let new = board_state c.carry_goto.new.board in
     let b = c.in-Goto.b in
     let r = c.in-Goto.r in
-    step-of setting s new c.args.command.now (command.Goto b r) setting.trees (map view_tree old.views) (λ (ts : List BlockTree) text. GotoByProduct ts b r s text new) c.carry_goto.result c.in-Goto.is
-    trees (λ text h. goto-is_step setting b s is right r text new h) c.carry_goto.ensures.step
+    step-is setting s new c.args.command.now (command.Goto b r) c.carry_goto.result c.in-Goto.is
+    (text-map c.carry_goto.result (λ text. GotoByProduct setting b r s text new) (λ text. GotoStep setting b r s text new) (λ text h. goto-is_step setting b s c.requires.setting c.requires.state r text new h) (c.carry_goto.ensures.step c.args.scene.now))
 
 pub returns-in-ConvertRank-clause-step : goal.returns-in-ConvertRank-clause-step
-returns-in-ConvertRank-clause-step c = λ setting document graph trees is right.
+returns-in-ConvertRank-clause-step c =
     let old = c.args.board.now in
+    let setting = setting_on c.args.scene.now old.views in
     let s = board_state old in
     let new = board_state c.carry_convert_rank.new.board in
     let b = c.in-ConvertRank.b in
     let r = c.in-ConvertRank.r in
-    step-of setting s new c.args.command.now (command.ConvertRank b r) setting.trees (map view_tree old.views) (λ (ts : List BlockTree) text. ConvertByProduct ts b r s text new) c.carry_convert_rank.result c.in-ConvertRank.is
-    trees (λ text h. convert-is_step setting b s is right r text new h) c.carry_convert_rank.ensures.step
+    step-is setting s new c.args.command.now (command.ConvertRank b r) c.carry_convert_rank.result c.in-ConvertRank.is
+    (text-map c.carry_convert_rank.result (λ text. ConvertByProduct setting b r s text new) (λ text. ConvertRankStep setting b r s text new) (λ text h. convert-is_step setting b s c.requires.setting c.requires.state r text new h) (c.carry_convert_rank.ensures.step c.args.scene.now))

@@ -2,6 +2,7 @@ use Rattle.std.proofs.Common.{◌≡◌, ℕ, List, map, refl, subst}
 use Rattle.spqr_session.specs.Trees.{tree_at}
 use Rattle.spqr_session.specs.State.{State, entry_at}
 use Rattle.spqr_session.specs.Embedded.{BlockView, view_tree}
+use Rattle.spqr_session.specs.Scene.{setting_on}
 use Rattle.spqr_session.specs.Board.{BoardView, family_on, board_state}
 use Rattle.spqr_session.specs.Codes.{Applies}
 use Rattle.spqr_session.specs.BlockCodes.{read_ladder}
@@ -29,12 +30,12 @@ convert-requires c =
     (planned-at c.args.r c.args.b old c.blocks-2.result.now x c.blocks-2.ensures c.in_ok-planned.ensures)
 
 pub returns-clause-step : goal.returns-clause-step
-returns-clause-step c =
+returns-clause-step c = λ scene.
     let old = c.args.board.now in
     let new = c.convert.new.board in
     let x = c.in_ok-planned.planned in
-    text-map c.convert.result (λ text. IsConverted c.args.b x old text new) (λ text. ConvertByProduct (map view_tree old.views) c.args.b c.args.r (board_state old) text (board_state new))
-    (λ text h. lowest-converted (Applies (read_ladder (product_rank_codes c.args.r) (map view_tree old.views) c.args.b (board_state old))) (StandsAt c.args.r) c.args.b old new x text
+    text-map c.convert.result (λ text. IsConverted c.args.b x old text new) (λ text. ConvertByProduct (setting_on scene old.views) c.args.b c.args.r (board_state old) text (board_state new))
+    (λ text h. lowest-converted (Applies (read_ladder (product_rank_codes c.args.r) (map view_tree old.views) c.args.b (board_state old))) (StandsAt c.args.r) scene c.args.b old new x text
     (planned-at c.args.r c.args.b old c.blocks-2.result.now x c.blocks-2.ensures c.in_ok-planned.ensures) h) c.convert.ensures.done
 
 pub returns-clause-setting : goal.returns-clause-setting

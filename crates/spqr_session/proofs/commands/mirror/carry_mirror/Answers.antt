@@ -1,6 +1,7 @@
 use Rattle.std.proofs.Common.{◌≡◌, List, map, refl, subst}
 use Rattle.spqr_session.specs.State.{State}
 use Rattle.spqr_session.specs.Embedded.{BlockView, view_tree}
+use Rattle.spqr_session.specs.Scene.{setting_on}
 use Rattle.spqr_session.specs.Board.{family_on, board_state}
 use Rattle.spqr_session.specs.Planned.{IsPlanAt, IsSettled}
 use Rattle.spqr_session.specs.BlockCodes.{read_ladder}
@@ -18,13 +19,13 @@ settle-requires c =
     plan-stands (read_ladder mirror_codes (map view_tree old.views) c.args.b (board_state old)) (IsMirrored) old.views c.args.b x at
 
 pub returns-clause-step : goal.returns-clause-step
-returns-clause-step c =
+returns-clause-step c = λ scene.
     let old = c.args.board.now in
     let new = c.settle.new.board in
     let x = c.in_ok-planned.planned in
     let at = (subst (λ (views : List BlockView). (s : State) → s.present ≡ family_on views → IsPlanAt (read_ladder mirror_codes (map view_tree views) c.args.b s) (IsMirrored) views c.args.b x) c.blocks-2.ensures c.in_ok-planned.ensures) (board_state old) refl in
-    text-map c.settle.result (λ text. IsSettled c.args.b x old text new) (λ text. MirrorStep (map view_tree old.views) c.args.b (board_state old) text (board_state new))
-    (λ text h. settled-step (read_ladder mirror_codes (map view_tree old.views) c.args.b (board_state old)) (mirror-rises (map view_tree old.views) c.args.b (board_state old)) (IsMirrored) c.args.b old new x text at h) c.settle.ensures.done
+    text-map c.settle.result (λ text. IsSettled c.args.b x old text new) (λ text. MirrorStep (setting_on scene old.views) c.args.b (board_state old) text (board_state new))
+    (λ text h. settled-step scene (read_ladder mirror_codes (map view_tree old.views) c.args.b (board_state old)) (mirror-rises (map view_tree old.views) c.args.b (board_state old)) (IsMirrored) c.args.b old new x text at h) c.settle.ensures.done
 
 pub returns-clause-setting : goal.returns-clause-setting
 returns-clause-setting c = either-carried c.settle.result c.args.b c.in_ok-planned.planned c.args.board.now c.settle.new.board c.settle.ensures.done c.settle.ensures.memory
