@@ -1,0 +1,3 @@
+-- Points of the plane with whole coordinates.
+pub mod Turning
+pub mod Segments
