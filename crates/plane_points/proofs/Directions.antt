@@ -1,9 +1,9 @@
 -- Directions around a point: the two halves, and the order of the directions counterclockwise.
-use Rattle.std.proofs.Common.{◌≡◌, ℕ, ◌⊎◌, inl, inr, ◌<◌, ◌≤◌, ◌+◌, ◌*◌, ◌-◌, Bool, true, false, not, ◌&&◌, ◌||◌, cond, arith, ap, refl, sym, ◌∙◌}
-use Rattle.std.proofs.lemmas.Bool.{false≢true, cases_lt, cases_eq, cases_order, cases_Bool, lt-ltb, le-ltb, eq-eqb, ne_eqb}
+use Rattle.std.proofs.Common.{◌≡◌, ℕ, ◌⊎◌, inl, inr, ◌<◌, ◌≤◌, ◌+◌, ◌*◌, ◌-◌, true, false, arith, ap, sym}
+use Rattle.std.proofs.lemmas.Bool.{false≢true, cases_lt, cases_order, lt-ltb, le-ltb, eq-eqb, ne_eqb}
 use Rattle.std.proofs.lemmas.Nat.{mul-le}
-use Rattle.plane_points.specs.Turning.{turns_left, is_upper, comes_before}
-use Rattle.plane_points.proofs.Turns.{Left, left-true, true-left, left-around, left-once, spread, one-side, other-side, heights}
+use Rattle.plane_points.specs.Turning.{is_upper, comes_before}
+use Rattle.plane_points.proofs.Turns.{Left, left-true, true-left, left-once, spread, one-side, other-side, heights}
 
 -- above c, or at its height to the right
 abbrev pub Upper : ℕ × ℕ → ℕ × ℕ → Type 0
@@ -18,7 +18,7 @@ half c p = elim (cases_order c.1 p.1) [
   | inl e ↦ elim (cases_lt c.0 p.0) [ inl l ↦ inl (inr (sym e, l)) | inr l ↦ inr (inr (sym e, l)) ]
   | inr (inl l) ↦ inl (inl l)
   | inr (inr l) ↦ inr (inl l)
-  ]
+]
 
 pub upper-is : (c p : ℕ × ℕ) → Upper c p → is_upper c p ≡ true
 upper-is c p (inl l) = rw (lt-ltb c.1 p.1 l)
@@ -91,8 +91,8 @@ upper-turns c p q r u v w h k =
     let b : c.1 < q.1 = turned-above c p q u v h in
     let d : c.1 < r.1 = turned-above c q r v w k in
     one-side (c.0 * q.1 + p.0 * c.1 + q.0 * p.1) (c.0 * p.1 + p.0 * q.1 + q.0 * c.1) (c.0 * r.1 + q.0 * c.1 + r.0 * q.1) (c.0 * q.1 + q.0 * r.1 + r.0 * c.1)
-        (c.0 * r.1 + p.0 * c.1 + r.0 * p.1) (c.0 * p.1 + p.0 * r.1 + r.0 * c.1) p.1 q.1 r.1 c.1 (p.1 - c.1) (q.1 - c.1) (r.1 - c.1)
-        (heights c p q r) (inl (omega (arith, a), omega (arith, b), omega (arith, d))) h k (omega (arith, b)) (omega (arith, d))
+    (c.0 * r.1 + p.0 * c.1 + r.0 * p.1) (c.0 * p.1 + p.0 * r.1 + r.0 * c.1) p.1 q.1 r.1 c.1 (p.1 - c.1) (q.1 - c.1) (r.1 - c.1)
+    (heights c p q r) (inl (omega (arith, a), omega (arith, b), omega (arith, d))) h k (omega (arith, b)) (omega (arith, d))
 
 pub lower-turns : (c p q r : ℕ × ℕ) → Lower c p → Lower c q → Lower c r → Left c p q → Left c q r → Left c p r
 lower-turns c p q r u v w h k =
@@ -100,8 +100,8 @@ lower-turns c p q r u v w h k =
     let b : q.1 < c.1 = turned-below c p q u v h in
     let d : r.1 < c.1 = turned-below c q r v w k in
     one-side (c.0 * q.1 + p.0 * c.1 + q.0 * p.1) (c.0 * p.1 + p.0 * q.1 + q.0 * c.1) (c.0 * r.1 + q.0 * c.1 + r.0 * q.1) (c.0 * q.1 + q.0 * r.1 + r.0 * c.1)
-        (c.0 * r.1 + p.0 * c.1 + r.0 * p.1) (c.0 * p.1 + p.0 * r.1 + r.0 * c.1) p.1 q.1 r.1 c.1 (c.1 - p.1) (c.1 - q.1) (c.1 - r.1)
-        (heights c p q r) (inr (omega (arith, a), omega (arith, b), omega (arith, d))) h k (omega (arith, b)) (omega (arith, d))
+    (c.0 * r.1 + p.0 * c.1 + r.0 * p.1) (c.0 * p.1 + p.0 * r.1 + r.0 * c.1) p.1 q.1 r.1 c.1 (c.1 - p.1) (c.1 - q.1) (c.1 - r.1)
+    (heights c p q r) (inr (omega (arith, a), omega (arith, b), omega (arith, d))) h k (omega (arith, b)) (omega (arith, d))
 
 -- the order is transitive
 pub comes-trans : (c p q r : ℕ × ℕ) → Comes c p q → Comes c q r → Comes c p r
@@ -131,9 +131,9 @@ upper-back c x b y u v w h k =
     let l : b.1 ≤ c.1 = lower-high c b v in
     let d : c.1 ≤ y.1 = upper-low c y w in
     let r : (0 < (c.1 - b.1)) × (c.0 * x.1 + x.0 * y.1 + y.0 * c.1 < c.0 * y.1 + x.0 * c.1 + y.0 * x.1) =
-      other-side (c.0 * b.1 + x.0 * c.1 + b.0 * x.1) (c.0 * x.1 + x.0 * b.1 + b.0 * c.1) (c.0 * y.1 + b.0 * c.1 + y.0 * b.1) (c.0 * b.1 + b.0 * y.1 + y.0 * c.1)
-        (c.0 * y.1 + x.0 * c.1 + y.0 * x.1) (c.0 * x.1 + x.0 * y.1 + y.0 * c.1) x.1 b.1 y.1 c.1 (x.1 - c.1) (c.1 - b.1) (y.1 - c.1)
-        (heights c x b y) (inl (omega (arith, a), omega (arith, l), omega (arith, d))) h k (some u) in
+    other-side (c.0 * b.1 + x.0 * c.1 + b.0 * x.1) (c.0 * x.1 + x.0 * b.1 + b.0 * c.1) (c.0 * y.1 + b.0 * c.1 + y.0 * b.1) (c.0 * b.1 + b.0 * y.1 + y.0 * c.1)
+    (c.0 * y.1 + x.0 * c.1 + y.0 * x.1) (c.0 * x.1 + x.0 * y.1 + y.0 * c.1) x.1 b.1 y.1 c.1 (x.1 - c.1) (c.1 - b.1) (y.1 - c.1)
+    (heights c x b y) (inl (omega (arith, a), omega (arith, l), omega (arith, d))) h k (some u) in
     omega (arith, r.1)
   where
     some : Upper c x → 0 < (x.1 - c.1) + (y.1 - c.1)
@@ -146,9 +146,9 @@ lower-back c x b y u v w h k =
     let l : c.1 ≤ b.1 = upper-low c b v in
     let d : y.1 ≤ c.1 = lower-high c y w in
     let r : (0 < (b.1 - c.1)) × (c.0 * x.1 + x.0 * y.1 + y.0 * c.1 < c.0 * y.1 + x.0 * c.1 + y.0 * x.1) =
-      other-side (c.0 * b.1 + x.0 * c.1 + b.0 * x.1) (c.0 * x.1 + x.0 * b.1 + b.0 * c.1) (c.0 * y.1 + b.0 * c.1 + y.0 * b.1) (c.0 * b.1 + b.0 * y.1 + y.0 * c.1)
-        (c.0 * y.1 + x.0 * c.1 + y.0 * x.1) (c.0 * x.1 + x.0 * y.1 + y.0 * c.1) x.1 b.1 y.1 c.1 (c.1 - x.1) (b.1 - c.1) (c.1 - y.1)
-        (heights c x b y) (inr (omega (arith, a), omega (arith, l), omega (arith, d))) h k (some u) in
+    other-side (c.0 * b.1 + x.0 * c.1 + b.0 * x.1) (c.0 * x.1 + x.0 * b.1 + b.0 * c.1) (c.0 * y.1 + b.0 * c.1 + y.0 * b.1) (c.0 * b.1 + b.0 * y.1 + y.0 * c.1)
+    (c.0 * y.1 + x.0 * c.1 + y.0 * x.1) (c.0 * x.1 + x.0 * y.1 + y.0 * c.1) x.1 b.1 y.1 c.1 (c.1 - x.1) (b.1 - c.1) (c.1 - y.1)
+    (heights c x b y) (inr (omega (arith, a), omega (arith, l), omega (arith, d))) h k (some u) in
     omega (arith, r.1)
   where
     some : Lower c x → 0 < (c.1 - x.1) + (c.1 - y.1)

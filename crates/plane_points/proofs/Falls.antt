@@ -3,7 +3,7 @@ use Rattle.std.proofs.Common.{◌≡◌, ℕ, ◌⊎◌, inl, inr, ◌+◌, ◌�
 use Rattle.std.proofs.lemmas.Bool.{cases_Bool}
 use Rattle.plane_points.specs.Turning.{comes_before, falls_from, falls_around, IsCounterclockwise}
 use Rattle.plane_points.proofs.Directions.{Comes, comes-true, true-comes, comes-trans}
-use Rattle.plane_points.proofs.Rising.{Each, Rises, each-map, each-second, rises-first, rises-second, rises-across}
+use Rattle.plane_points.proofs.Rising.{Each, Rises, each-map, rises-first, rises-second, rises-across}
 use Rattle.plane_points.proofs.Cyclic.{Counter, counter-from, counter-to}
 
 abbrev last_of : ℕ × ℕ → List (ℕ × ℕ) → ℕ × ℕ
@@ -62,7 +62,7 @@ steps-chain c p [] h = tt
 steps-chain c p (q ∷ l) h = elim (cases_Bool (comes_before c p q)) [
   | inl t ↦ (comes-true c p q t, steps-chain c q l (let k : 0 + steps c q l ≡ 0 = (rw t at h) in omega (arith, k)))
   | inr t ↦ absurd (let k : 1 + steps c q l ≡ 0 = (rw t at h) in omega (arith, k))
-  ]
+]
 
 -- a list that falls at most once is a chain, or two
 cut-steps : (c p : ℕ × ℕ) (l : List (ℕ × ℕ)) → steps c p l ≤ 1 → Chain c p l ⊎ ((a : List (ℕ × ℕ)) × (q : ℕ × ℕ) × (b : List (ℕ × ℕ)) × (l ≡ a ++ q ∷ b) × Chain c p a × Chain c q b × (steps c p l ≡ 1))
@@ -71,9 +71,9 @@ cut-steps c p (q ∷ l) h = elim (cases_Bool (comes_before c p q)) [
   | inl t ↦ elim (cut-steps c q l (let k : 0 + steps c q l ≤ 1 = (rw t at h) in omega (arith, k))) [
     | inl k ↦ inl (comes-true c p q t, k)
     | inr w ↦ inr (q ∷ w.0, w.1, w.2, ap (λ (u : List (ℕ × ℕ)). q ∷ u) w.3, (comes-true c p q t, w.4), w.5, rw t (let k : steps c q l ≡ 1 = w.6 in omega (arith, k)))
-    ]
-  | inr t ↦ let n : steps c q l ≡ 0 = (let k : 1 + steps c q l ≤ 1 = (rw t at h) in omega (arith, k)) in inr ([], q, l, refl, tt, steps-chain c q l n, rw t (omega (arith, n)))
   ]
+  | inr t ↦ let n : steps c q l ≡ 0 = (let k : 1 + steps c q l ≤ 1 = (rw t at h) in omega (arith, k)) in inr ([], q, l, refl, tt, steps-chain c q l n, rw t (omega (arith, n)))
+]
 
 counter-falls : (c : ℕ × ℕ) (l : List (ℕ × ℕ)) → Counter c l → falls_around c l ≤ 1
 counter-falls c [] w = omega arith
@@ -81,28 +81,37 @@ counter-falls c (p ∷ l) (f, b, e, r) = go f b e r
   where
     flat : Rises (Comes c) (p ∷ l) → falls_from c p p l ≤ 1
     flat s = omega (arith, open-falls c p p l, chain-steps c p l (rises-chain c p l s), fall-most c (last_of p l) p)
+
     head : List (ℕ × ℕ) → ℕ × ℕ
     head [] = p
     head (x ∷ xs) = x
+
     rest : List (ℕ × ℕ) → List (ℕ × ℕ)
     rest [] = []
     rest (x ∷ xs) = xs
+
     cut : (f b : List (ℕ × ℕ)) (x q : ℕ × ℕ) → x ≡ p → l ≡ f ++ q ∷ b → Rises (Comes c) ((q ∷ b) ++ (x ∷ f)) → falls_from c p p l ≤ 1
     cut f b x q is at r = omega (arith, open-falls c p p l, inner, closing)
       where
         chained : Chain c p f
         chained = rises-chain c p f (subst (λ (z : ℕ × ℕ). Rises (Comes c) (z ∷ f)) is (rises-second (Comes c) (q ∷ b) (x ∷ f) r))
+
         second : Chain c q b
         second = rises-chain c q b (rises-first (Comes c) (q ∷ b) (x ∷ f) r)
+
         inner : steps c p l ≤ 1
         inner = subst (λ (t : List (ℕ × ℕ)). steps c p t ≤ 1) (sym at) (omega (arith, steps-append c p q f b, chain-steps c p f chained, chain-steps c q b second, fall-most c (last_of p f) q))
+
         each-last : (z : ℕ × ℕ) (t : List (ℕ × ℕ)) (P : ℕ × ℕ → Type 0) → Each P (z ∷ t) → P (last_of z t)
         each-last z [] P e = e.0
         each-last z (y ∷ t) P e = each-last y t P e.1
+
         comes : Comes c (last_of q b) x
         comes = (each-last q b (λ y. Each (Comes c y) (x ∷ f)) (rises-across (Comes c) (q ∷ b) (x ∷ f) r)).0
+
         closing : fall c (last_of p l) p ≡ 0
         closing = subst (λ (t : List (ℕ × ℕ)). fall c (last_of p t) p ≡ 0) (sym at) (subst (λ (z : ℕ × ℕ). fall c z p ≡ 0) (sym (last-append p q f b)) (subst (λ (z : ℕ × ℕ). fall c (last_of q b) z ≡ 0) is (fall-none c (last_of q b) x comes)))
+
     go : (f b : List (ℕ × ℕ)) → p ∷ l ≡ f ++ b → Rises (Comes c) (b ++ f) → falls_from c p p l ≤ 1
     go [] b e r = flat (subst (Rises (Comes c)) (append-nil b ∙ sym e) r)
     go (x ∷ f) [] e r = flat (subst (Rises (Comes c)) (sym (e ∙ append-nil (x ∷ f))) r)
@@ -118,6 +127,7 @@ falls-counter c (p ∷ l) h = go (cut-steps c p l (omega (arith, open-falls c p 
       where
         none : fall c (last_of q b) p ≡ 0
         none = subst (λ (z : ℕ × ℕ). fall c z p ≡ 0) (last-append p q a b) (subst (λ (t : List (ℕ × ℕ)). fall c (last_of p t) p ≡ 0) at (omega (arith, open-falls c p p l, h, one)))
+
         closing : (t : Bool) → comes_before c (last_of q b) p ≡ t → Comes c (last_of q b) p
         closing true e = comes-true c (last_of q b) p e
         closing false e = absurd (omega (arith, (rw e at none)))

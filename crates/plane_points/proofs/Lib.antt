@@ -5,3 +5,5 @@ pub mod Rising
 pub mod Cyclic
 pub mod Falls
 pub mod Segments
+pub mod Rays
+pub mod Laws

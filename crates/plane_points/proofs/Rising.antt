@@ -1,5 +1,5 @@
 -- Lists each of whose members is related to all later ones, by recursion.
-use Rattle.std.proofs.Common.{◌≡◌, ℕ, zero, suc, ◌<◌, ◌+◌, List, [], ◌∷◌, ◌++◌, length, slice_index_or, AllPairs, arith}
+use Rattle.std.proofs.Common.{ℕ, zero, suc, ◌<◌, List, [], ◌∷◌, ◌++◌, length, slice_index_or, AllPairs, arith}
 
 -- each member has the property
 abbrev pub Each : {X : Type 0} → (X → Type 0) → List X → Type 0

@@ -1,5 +1,5 @@
 -- Segments, their points, and when two of them have none in common.
-use Rattle.std.specs.Prelude.{◌≡◌, ℕ, ◌+◌, ◌*◌, ◌<◌, Bool, ◌&&◌, ◌||◌, nat_lt}
+use Rattle.std.specs.Prelude.{◌≡◌, ℕ, ◌+◌, ◌*◌, ◌<◌, Bool, not, ◌&&◌, ◌||◌, nat_lt}
 use Rattle.plane_points.specs.Turning.{turns_left}
 
 -- s times p and t times q: the points of the segment from p to q are these, divided by s + t
@@ -34,3 +34,23 @@ are_beside a b c d = (turns_left a b c && turns_left a b d) || (turns_left b a c
 -- the segments from a to b and from c to d are apart: so are their boxes, or the one is beside the line of the other
 abbrev pub are_apart : ℕ × ℕ → ℕ × ℕ → ℕ × ℕ → ℕ × ℕ → Bool
 are_apart a b c d = boxes_apart a b c d || (are_beside a b c d || are_beside c d a b)
+
+-- a, b and p lie on one line
+abbrev pub in_line : ℕ × ℕ → ℕ × ℕ → ℕ × ℕ → Bool
+in_line a b p = not (turns_left a b p) && not (turns_left b a p)
+
+-- p is no less than the lesser of a and b, and no greater than the greater
+abbrev pub in_range : ℕ → ℕ → ℕ → Bool
+in_range a b p = not (nat_lt p a && nat_lt p b) && not (nat_lt a p && nat_lt b p)
+
+-- p is a point of the segment from a to b
+abbrev pub is_on : ℕ × ℕ → ℕ × ℕ → ℕ × ℕ → Bool
+is_on a b p = in_line a b p && (in_range a.0 b.0 p.0 && in_range a.1 b.1 p.1)
+
+-- p is less than z and q greater, or the reverse
+abbrev pub on_two_sides : ℕ → ℕ → ℕ → Bool
+on_two_sides z p q = (nat_lt p z && nat_lt z q) || (nat_lt q z && nat_lt z p)
+
+-- seen from z, p and q lie in one direction
+abbrev pub same_way : ℕ × ℕ → ℕ × ℕ → ℕ × ℕ → Bool
+same_way z p q = in_line z p q && (not (on_two_sides z.0 p.0 q.0) && not (on_two_sides z.1 p.1 q.1))
