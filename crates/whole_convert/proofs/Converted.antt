@@ -1,0 +1,57 @@
+-- The steps that are found are the moves to the target.
+use Rattle.std.proofs.Common.{◌≡◌, ℕ, ◌<◌, true, Bool, List, [], ◌++◌, length, slice_index, slice_index_or, sym, ap, ap₂, ◌∙◌, subst}
+use Rattle.permutations.specs.Members.{is_member}
+use Rattle.faces.specs.Euler.{IsPlaneSystem}
+use Rattle.skel_embed.specs.Taken.{IsGiven}
+use Rattle.whole_embed.specs.declared.members.Member.{Member}
+use Rattle.whole_embed.specs.Component.{Component, BlockInPlane, IsComponentInPlane}
+use Rattle.whole_embed.specs.Around.{block_with}
+use Rattle.whole_embed.specs.Cuts.{blocks_in, HavePlanes}
+use Rattle.whole_embed.specs.Whole.{AreArranged, IsWholeMember}
+use Rattle.whole_embed.proofs.Assembled.{IsAssembled}
+use Rattle.whole_embed.proofs.Assembly.{assembled}
+use Rattle.whole_convert.specs.Between.{WholeStep, moves_below, is_moved, list_then, arrangements_below, blocks_to, whole_moves_between}
+use Rattle.whole_convert.specs.Leading.{LeadTo}
+use Rattle.whole_convert.specs.Target.{IsMovedTo}
+use Rattle.whole_convert.specs.Led.{AreLedBelow, is_marked}
+use Rattle.whole_convert.proofs.LedAll.{led-blocks, led-member}
+use Rattle.whole_convert.proofs.StepLists.{arrangements-same, then-same}
+use Rattle.whole_convert.proofs.CutStages.{whole_moves_lead}
+
+pub moved-to : (k : Component) (all new : List Member) (lists after q : List (List ℕ)) (marks : List Bool) (entries : List (ℕ × List ℕ)) (first last : List WholeStep) → IsComponentInPlane k (blocks_in all) → HavePlanes k all
+    → AreArranged k (blocks_in all) lists → IsPlaneSystem k.part.graph q → IsGiven k.part entries q → AreLedBelow k all q new (length k.blocks)
+    → first ≡ moves_below k (blocks_in all) (blocks_in new) (length k.blocks)
+    → ((j : ℕ) → j < length k.blocks → is_marked marks (slice_index k.blocks j) ≡ is_moved (blocks_in all) (blocks_in new) (slice_index k.blocks j))
+    → ((i : ℕ) → i < length k.cuts → slice_index_or after i [] ≡ list_then k (blocks_in new) (is_marked marks) lists i)
+    → last ≡ first ++ arrangements_below k (λ i. slice_index_or after i []) q (length k.cuts)
+    → IsMovedTo k (blocks_in all) lists entries last
+moved-to k all new lists after q marks entries first last is have are plane given led moves marked lists-are e = record {
+  system = q;
+  given = given;
+  member = member;
+  moves = steps;
+  lead = subst (λ (z : List WholeStep). LeadTo k block lists z q) (sym steps) (whole_moves_lead k block lists q is are member);
+}
+  where
+    block : ℕ → BlockInPlane
+    block = blocks_in all
+
+    to-is : blocks_in new ≡ blocks_to k (blocks_in all) q
+    to-is = led-blocks k all new q is have plane led
+
+    member : IsWholeMember k (blocks_in all) q
+    member = led-member k all new q is have plane led
+
+    made : IsAssembled k (blocks_in all)
+    made = assembled k (blocks_in all) is
+
+    list-is : (i : ℕ) → i < length k.cuts → slice_index_or after i [] ≡ list_then k (blocks_to k (blocks_in all) q) (is_moved (blocks_in all) (blocks_to k (blocks_in all) q)) lists i
+    list-is i l =
+        lists-are i l
+        ∙ (then-same k (blocks_in new) (is_marked marks) (is_moved (blocks_in all) (blocks_in new)) lists i made.numbered (λ x m. (made.edge_block x m).0) marked
+        ∙ ap (λ (z : ℕ → BlockInPlane). list_then k z (is_moved (blocks_in all) z) lists i) to-is)
+
+    steps : last ≡ whole_moves_between k (blocks_in all) lists q
+    steps = e ∙ ap₂ ◌++◌
+        (moves ∙ ap (λ (z : ℕ → BlockInPlane). moves_below k (blocks_in all) z (length k.blocks)) to-is)
+        (arrangements-same k (λ i. slice_index_or after i []) (list_then k (blocks_to k (blocks_in all) q) (is_moved (blocks_in all) (blocks_to k (blocks_in all) q)) lists) q (length k.cuts) list-is)
