@@ -5,6 +5,7 @@ pub mod Takes
 pub mod Pieces
 pub mod LedAll
 pub mod FrameTables
+pub mod DealtBlocks
 pub mod StepLists
 pub mod Stages
 pub mod BlockStages

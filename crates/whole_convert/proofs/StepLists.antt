@@ -38,6 +38,15 @@ arrangements-more k list q n old now new added e f h =
     ∙ (append_assoc old (arrangements_below k list q n) (arrangement_at k list q n)
     ∙ ap (λ z. old ++ arrangements_below k list q z) (sym (add-one n))))
 
+-- the step that is added where the arrangement is another one, and none where it is not
+pub one-added : (k : Component) (list : ℕ → List ℕ) (q : List (List ℕ)) (i v : ℕ) (order : List ℕ) → v ≡ slice_index k.cuts i → order ≡ outer_at k.part q v → order ≢ list i → arrange v order ∷ [] ≡ arrangement_at k list q i
+one-added k list q i v order is e n =
+    let own : order ≡ outer_at k.part q (slice_index k.cuts i) = e ∙ ap (outer_at k.part q) is in
+    (λ j. arrange (is j) (own j) ∷ []) ∙ sym (an-arrangement k list q i (λ same. n (own ∙ same)))
+
+pub none-added : (k : Component) (list : ℕ → List ℕ) (q : List (List ℕ)) (i v : ℕ) (order : List ℕ) → v ≡ slice_index k.cuts i → order ≡ outer_at k.part q v → order ≡ list i → [] ≡ arrangement_at k list q i
+none-added k list q i v order is e same = sym (no-arrangement k list q i (sym (e ∙ ap (outer_at k.part q) is) ∙ same))
+
 -- lists that agree at the cut vertices
 pub arrangements-same : (k : Component) (list other : ℕ → List ℕ) (q : List (List ℕ)) (n : ℕ) → ((i : ℕ) → i < n → list i ≡ other i) → arrangements_below k list q n ≡ arrangements_below k other q n
 arrangements-same k list other q zero same = refl

@@ -1,14 +1,15 @@
-use Rattle.std.proofs.Common.{rules, ◌≡◌, ℕ, List, true, length, IfOk, IfErr, ◌+◌, ◌-◌, ◌*◌, ◌<◌, ◌≤◌, ◌/◌, ◌%◌, Bool, false, nat_eq, nat_lt, [], ◌∷◌, ◌++◌, slice_index_or, slice_set, bit_and, bit_or, Fits, w8, w32, w64, Bor, MutBor}
-use Rattle.permutations.specs.Members.{is_member}
-use Rattle.multigraph.specs.Part.{IsNumbered}
-use Rattle.faces.specs.Euler.{IsPlaneSystem}
-use Rattle.skel_embed.specs.Taken.{IsGiven}
-use Rattle.whole_embed.specs.Component.{IsComponentInPlane}
-use Rattle.whole_embed.specs.Cuts.{blocks_in, member_at, HavePlanes}
-use Rattle.whole_embed.specs.Whole.{block_part}
-use Rattle.whole_convert.specs.Led.{IsTaken, IsTakenRefusal, IsDealt, IsLedTo, IsLeadRefusal, IsLeadAllRefusal, AreLedBelow}
+use Rattle.std.proofs.Common.{◌≡◌, sym, ap, ◌∙◌, subst}
+use Rattle.multigraph.specs.Graph.{Multigraph}
+use Rattle.skel_embed.specs.Block.{BlockState, IsBlockState}
+use Rattle.skel_embed.specs.Taken.{IsTakeRefusal}
+use Rattle.skel_embed.specs.declared.taking.TakeFault.{TakeFault}
+use Rattle.whole_convert.proofs.Takes.{no-genus, block-connected}
 use Rattle.whole_convert.proofs.leading.taken.Goals as goal
 
--- by Takes.no-genus with Takes.block-connected
 pub unreachable-requires-in-NotGenusZero : goal.unreachable-requires-in-NotGenusZero
-unreachable-requires-in-NotGenusZero c = ?
+unreachable-requires-in-NotGenusZero c =
+    let part = c.args.part.now in
+    let copy = c.in_ok-copy.copy in
+    let same : part.graph ≡ copy.graph = c.requires.part ∙ sym (ap (λ (s : BlockState). s.graph) (c.in_ok-copy.ensures {u = tt})) in
+    let refused = subst (λ (fault : TakeFault). IsTakeRefusal copy part c.args.lists.now fault) c.in-NotGenusZero.is (c.in-Err.ensures {u = tt}).refused.0 in
+    no-genus part c.args.lists.now c.requires.given.0 c.in-NotGenusZero.field-0 c.in-NotGenusZero.field-1 c.in-NotGenusZero.field-2 c.requires.numbered (block-connected copy part.graph c.belongs.ensures same) c.requires.given.1 c.requires.given.2 refused
