@@ -1,5 +1,5 @@
 -- The moves of the blocks lead, one block after the other.
-use Rattle.std.proofs.Common.{◌≡◌, ◌≢◌, ℕ, zero, suc, ◌+◌, ◌<◌, ◌≤◌, inl, inr, Bool, true, false, ◌==◌, ◌&&◌, ◌||◌, nat_lt, if◌then◌else◌, List, [], ◌∷◌, ◌++◌, length, map, slice_index, slice_index_or, Contains, refl, sym, ap, ap₂, ◌∙◌, subst, arith, add-one, eq-eqb, eqb-true}
+use Rattle.std.proofs.Common.{◌≡◌, ◌≢◌, ℕ, zero, suc, ◌+◌, ◌<◌, ◌≤◌, inl, inr, Bool, true, false, ◌&&◌, ◌||◌, nat_lt, if◌then◌else◌, List, [], ◌∷◌, ◌++◌, length, map, slice_index, slice_index_or, Contains, refl, sym, ap, ap₂, ◌∙◌, subst, arith, add-one, eqb-true}
 use Rattle.std.specs.List.{list_any}
 use Rattle.std.proofs.Math.Path.{fun_ext}
 use Rattle.std.proofs.lemmas.Bool.{true≢false, cases_Bool, cases_eq, cases_lt, both_ways, cond-true, cond-false, and_from, lt-ltb, le-ltb, or_left, or_right}
@@ -7,15 +7,15 @@ use Rattle.permutations.specs.Members.{is_member, place_of}
 use Rattle.permutations.proofs.Members.{member-cases}
 use Rattle.permutations.proofs.Arrangements.{member-at, contains-from_member, member-from_contains}
 use Rattle.permutations.proofs.Places.{place-below, place-holds}
-use Rattle.multigraph.specs.Graph.{Multigraph, is_end}
-use Rattle.multigraph.specs.Part.{GraphPart, IsNumbered, IsEndOf}
-use Rattle.blocks.specs.Blocks.{BlockStructure, block_at, IsBlockStructure}
+use Rattle.multigraph.specs.Graph.{Multigraph}
+use Rattle.multigraph.specs.Part.{IsNumbered, IsEndOf}
+use Rattle.blocks.specs.Blocks.{block_at}
 use Rattle.rotations.specs.Rotation.{IsRotationSystem}
 use Rattle.faces.specs.Euler.{IsPlaneSystem}
 use Rattle.skeletons.specs.Items.{IsBlockTree}
 use Rattle.skeletons.specs.Moves as theory
 use Rattle.skeleton_choices.proofs.Reached.{lead}
-use Rattle.whole_embed.specs.Component.{Component, BlockInPlane, component_of, component_vertices, AreInPlane, IsComponentInPlane}
+use Rattle.whole_embed.specs.Component.{Component, BlockInPlane, component_of, IsComponentInPlane}
 use Rattle.whole_embed.specs.Around.{edges_around, block_with, arrangements_around}
 use Rattle.whole_embed.specs.Whole.{block_part, AreArranged, IsWholeMember}
 use Rattle.whole_embed.specs.Walk.{first_around}
@@ -186,8 +186,7 @@ module _ (k : Component) (block : ℕ → BlockInPlane) (lists q : List (List �
     moves-lead (move ∷ moves) r f hr h e =
         let s : List (List ℕ) = e.0 in
         let g : ℕ → List ℕ = reset e.0 f in
-        let right : Right e.0 g = reset-right r e.0 f hr e.2 h in
-        (
+        let right : Right e.0 g = reset-right r e.0 f hr e.2 h in (
           state (B e.0) (listed k g),
           move-leads move r e.0 f e.1,
           whole_is_plane k (B e.0) (listed k g) (in-plane e.0 e.2) (listed-arranged k (B e.0) g right),

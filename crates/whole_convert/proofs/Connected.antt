@@ -1,9 +1,9 @@
 -- A component is connected, so a rotation system of it is plane exactly where V - E + F is 2.
-use Rattle.std.proofs.Common.{◌≡◌, ℕ, zero, suc, ◌+◌, ◌*◌, ◌<◌, inl, inr, Bool, true, ltb, List, length, map, get_or, slice_index, All, refl, sym, ap, ◌∙◌, subst, arith, add-one}
+use Rattle.std.proofs.Common.{◌≡◌, ℕ, zero, suc, ◌+◌, ◌*◌, ◌<◌, inl, inr, Bool, true, ltb, List, length, slice_index, refl, sym, ap, ◌∙◌, subst, arith, add-one}
 use Rattle.std.proofs.lemmas.Bool.{cases_Bool, cases_eq, cases_lt, lt-ltb, le-ltb}
-use Rattle.std.proofs.lemmas.List.{get_or-map, get_or_default, length-map}
+use Rattle.std.proofs.lemmas.List.{get_or-map, get_or_default}
 use Rattle.permutations.specs.Count.{count}
-use Rattle.permutations.specs.Relation.{connected, leads, class_count}
+use Rattle.permutations.specs.Relation.{connected, leads}
 use Rattle.permutations.specs.Members.{is_member, place_of}
 use Rattle.permutations.proofs.Count.{count-ext, count-yes, count-no}
 use Rattle.permutations.proofs.Leaders.{leads-from, not-leads}
@@ -18,7 +18,7 @@ use Rattle.blocks.specs.Blocks.{BlockStructure, IsBlockStructure}
 use Rattle.faces.specs.Euler.{face_count, component_count, IsPlane}
 use Rattle.whole_embed.specs.Component.{Component, BlockInPlane, component_vertices, component_edges, component_of, IsComponentInPlane}
 use Rattle.whole_embed.proofs.Outer.{place-rising}
-use Rattle.whole_embed.proofs.Components.{vertices-rise, vertex-in, in-vertex, edge-in, edge-component, end-component}
+use Rattle.whole_embed.proofs.Components.{vertices-rise, vertex-in, in-vertex, edge-component, end-component}
 use Rattle.whole_embed.proofs.ComponentBlocks.{numbered}
 use Rattle.whole_embed.proofs.Assembling.{of-component}
 
@@ -69,8 +69,7 @@ module _ (g : Multigraph) (s : BlockStructure) (c : ℕ) (is : IsBlockStructure 
   link-alike : (e : ℕ) → e < edge_count g → Alike (ends_of g e).0 (ends_of g e).1
   link-alike e l =
       let first = is_end-from_first g (ends_of g e).0 e refl in
-      let second = is_end-from_second g (ends_of g e).1 e refl in
-      (
+      let second = is_end-from_second g (ends_of g e).1 e refl in (
         same-tests (is_member (ends_of g e).0 V) (is_member (ends_of g e).1 V)
             (λ m. end-component g s c is ok e (ends_of g e).1 (edge-component g s c is ok e (ends_of g e).0 l first m) second)
             (λ m. end-component g s c is ok e (ends_of g e).0 (edge-component g s c is ok e (ends_of g e).1 l second m) first),

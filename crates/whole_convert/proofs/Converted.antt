@@ -1,12 +1,10 @@
 -- The steps that are found are the moves to the target.
-use Rattle.std.proofs.Common.{◌≡◌, ℕ, ◌<◌, true, Bool, List, [], ◌++◌, length, slice_index, slice_index_or, sym, ap, ap₂, ◌∙◌, subst}
-use Rattle.permutations.specs.Members.{is_member}
+use Rattle.std.proofs.Common.{◌≡◌, ℕ, ◌<◌, Bool, List, [], ◌++◌, length, slice_index, slice_index_or, sym, ap, ap₂, ◌∙◌, subst}
 use Rattle.multigraph.specs.Part.{GraphPart}
 use Rattle.faces.specs.Euler.{IsPlaneSystem}
 use Rattle.skel_embed.specs.Taken.{IsGiven}
 use Rattle.whole_embed.specs.declared.members.Member.{Member}
 use Rattle.whole_embed.specs.Component.{Component, BlockInPlane, IsComponentInPlane}
-use Rattle.whole_embed.specs.Around.{block_with}
 use Rattle.whole_embed.specs.Cuts.{blocks_in, HavePlanes}
 use Rattle.whole_embed.specs.Whole.{AreArranged, IsWholeMember}
 use Rattle.whole_embed.proofs.Assembled.{IsAssembled}

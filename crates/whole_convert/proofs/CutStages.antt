@@ -1,7 +1,7 @@
 -- The arrangements at the cut vertices lead, one after the other, and so do all steps.
-use Rattle.std.proofs.Common.{◌≡◌, ◌≢◌, ℕ, zero, suc, ◌+◌, ◌<◌, ◌≤◌, inl, inr, Bool, true, false, nat_lt, if◌then◌else◌, List, [], ◌∷◌, ◌++◌, length, map, slice_index, slice_index_or, slice_set, Contains, refl, sym, ap, ◌∙◌, subst, arith}
+use Rattle.std.proofs.Common.{◌≡◌, ◌≢◌, ℕ, zero, suc, ◌<◌, ◌≤◌, inl, inr, true, nat_lt, if◌then◌else◌, List, [], ◌∷◌, length, map, slice_index, slice_index_or, slice_set, Contains, refl, sym, ap, ◌∙◌, subst, arith}
 use Rattle.std.proofs.lemmas.Bool.{cases_Bool, cases_eq, cases_lt, cond-true, cond-false, lt-ltb, le-ltb}
-use Rattle.std.proofs.lemmas.List.{get_or-map, length-map, length-set, get_or-set_same, get_or-set_other, ext_get_or}
+use Rattle.std.proofs.lemmas.List.{get_or-map, length-map, length-set, get_or-set_same, get_or-set_other}
 use Rattle.permutations.specs.Members.{is_member, place_of}
 use Rattle.permutations.proofs.Arrangements.{member-at}
 use Rattle.faces.specs.Euler.{IsPlaneSystem}
@@ -17,7 +17,7 @@ use Rattle.whole_embed.proofs.Assembling.{whole_is_plane}
 use Rattle.whole_embed.proofs.Moved.{IsMovedBlock, AreMoved, component-moved}
 use Rattle.whole_embed.proofs.OfParts.{orders-arranged, made-of_parts}
 use Rattle.whole_convert.specs.Between.{WholeStep, moves_below, is_moved, list_then, arrangement_at, arrangements_below, blocks_to, whole_moves_between, arrange}
-use Rattle.whole_convert.specs.Leading.{WholeState, ArrangementLeads, LeadThroughPlane, LeadTo}
+use Rattle.whole_convert.specs.Leading.{WholeState, LeadThroughPlane, LeadTo}
 use Rattle.whole_convert.specs.Laws.{WholeMovesLead}
 use Rattle.whole_convert.proofs.Stages.{with-rotation, listed, listed-length, listed-at, listed-is, listed-arranged}
 use Rattle.whole_convert.proofs.BlockStages.{state, lead-append, all-blocks_lead, all-right}

@@ -15,7 +15,7 @@ use Rattle.whole_embed.proofs.Advance.{read-member}
 use Rattle.whole_embed.proofs.FrameFacts.{plane-part}
 use Rattle.whole_convert.specs.Led.{degree_in, total, cut_up, IsDealt, IsLeadRefusal}
 use Rattle.whole_convert.specs.declared.faults.WholeFault.{WholeFault}
-use Rattle.whole_convert.proofs.PartOf.{lists_in, IsPartOf}
+use Rattle.whole_convert.proofs.PartOf.{IsPartOf}
 use Rattle.whole_convert.proofs.Pieces.{pieces-of}
 
 -- what holds of a fault holds of the error that it becomes

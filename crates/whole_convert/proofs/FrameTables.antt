@@ -1,10 +1,10 @@
 -- What the code reads of a component, and what it sets at the cut vertices.
-use Rattle.std.proofs.Common.{Option, Some, ◌≡◌, ◌≢◌, ℕ, ◌+◌, ◌<◌, ◌≤◌, inl, inr, Bool, true, false, if◌then◌else◌, List, [], length, get_or, slice_index, slice_index_or, slice_set, refl, sym, ap, ◌∙◌, subst, arith}
+use Rattle.std.proofs.Common.{Option, Some, ◌≡◌, ℕ, ◌+◌, ◌<◌, ◌≤◌, inl, inr, Bool, true, false, List, [], length, get_or, slice_index, slice_index_or, slice_set, refl, sym, ap, ◌∙◌, subst, arith}
 use Rattle.std.proofs.lemmas.Bool.{cases_eq, cond-true, cond-false}
 use Rattle.std.proofs.lemmas.List.{length-set, get_or-set_same, get_or-set_other}
 use Rattle.permutations.specs.Members.{is_member, place_of}
 use Rattle.permutations.proofs.Arrangements.{member-at}
-use Rattle.multigraph.specs.Graph.{Multigraph, edge_count, incident_edges}
+use Rattle.multigraph.specs.Graph.{edge_count, incident_edges}
 use Rattle.std.specs.List.{list_any}
 use Rattle.multigraph.specs.Part.{GraphPart, Rises, IsNumbered, IsPlace}
 use Rattle.multigraph.proofs.Incident.{incident_at-edge}

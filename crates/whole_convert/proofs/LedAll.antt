@@ -1,24 +1,20 @@
 -- Blocks of a component led to their parts of a plane rotation system of it.
-use Rattle.std.proofs.Common.{◌≡◌, ℕ, ◌+◌, ◌<◌, inl, inr, true, false, if◌then◌else◌, List, length, slice_index, slice_set, Option, Some, refl, sym, ap, ap₂, ◌∙◌, subst, arith}
+use Rattle.std.proofs.Common.{◌≡◌, ℕ, ◌+◌, ◌<◌, inl, inr, true, List, length, slice_index, slice_set, Option, refl, sym, ap, ap₂, ◌∙◌, subst, arith}
 use Rattle.std.proofs.Math.Path.{fun_ext}
 use Rattle.std.proofs.lemmas.Bool.{cases_Bool, cases_eq, both_ways, cond-true, cond-false}
 use Rattle.std.proofs.lemmas.List.{length-set}
 use Rattle.permutations.specs.Members.{is_member, place_of}
 use Rattle.permutations.proofs.Arrangements.{member-at}
 use Rattle.permutations.proofs.Places.{place-below, place-holds}
-use Rattle.multigraph.specs.Graph.{Multigraph}
 use Rattle.multigraph.specs.Part.{GraphPart, Rises}
 use Rattle.multigraph.proofs.Places.{rises-once}
 use Rattle.faces.specs.Euler.{IsPlaneSystem}
-use Rattle.skeletons.specs.Lists.{KeepsChoices}
-use Rattle.skel_embed.specs.Block.{BlockState, lock_at}
+use Rattle.skel_embed.specs.Block.{BlockState}
 use Rattle.whole_embed.specs.declared.members.Member.{Member}
-use Rattle.whole_embed.specs.Component.{Component, BlockInPlane, IsComponentInPlane}
+use Rattle.whole_embed.specs.Component.{Component, IsComponentInPlane}
 use Rattle.whole_embed.specs.Cuts.{in_plane, member_at, blocks_in, HavePlanes}
 use Rattle.whole_embed.specs.Whole.{block_part, IsWholeMember}
 use Rattle.whole_embed.proofs.Advance.{set-here, set-there}
-use Rattle.whole_embed.proofs.Assembled.{IsAssembled}
-use Rattle.whole_embed.proofs.Assembly.{assembled}
 use Rattle.whole_embed.proofs.FrameFacts.{one-value, plane-part}
 use Rattle.whole_embed.proofs.Moved.{IsMovedBlock, AreMoved, component-moved}
 use Rattle.whole_convert.specs.Between.{blocks_to}

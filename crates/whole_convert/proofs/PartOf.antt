@@ -1,5 +1,5 @@
 -- A plane rotation system of a component leaves plane ones on its blocks, which their lists give.
-use Rattle.std.proofs.Common.{◌≡◌, ℕ, ◌+◌, ◌<◌, inl, inr, true, ◌==◌, List, [], ◌∷◌, length, map, filter, slice_index, IsPermutation, Contains, refl, sym, ap, ◌∙◌, subst, arith, eq-eqb, eqb-true}
+use Rattle.std.proofs.Common.{◌≡◌, ℕ, ◌<◌, true, ◌==◌, List, [], ◌∷◌, length, map, filter, slice_index, IsPermutation, Contains, refl, sym, ap, ◌∙◌, subst, arith, eq-eqb, eqb-true}
 use Rattle.std.proofs.lemmas.List.{get_or-map, length-map, ext_get_or}
 use Rattle.std.proofs.lemmas.List.Elements.{Contains-get_or}
 use Rattle.std.proofs.lemmas.List.Sorted.{IsPermutation-trans}
@@ -8,18 +8,16 @@ use Rattle.permutations.specs.Cyclic.{first_or, from_least, turned, IsTurn}
 use Rattle.permutations.proofs.Relation.{same-tests}
 use Rattle.permutations.proofs.Search.{some-from, some-witness}
 use Rattle.permutations.proofs.Members.{member-head, member-tail}
-use Rattle.permutations.proofs.Filter.{filter-ext, member-filter_parts, distinct-filter}
+use Rattle.permutations.proofs.Filter.{filter-ext, distinct-filter}
 use Rattle.permutations.proofs.Turned.{IsTurn-map, IsTurn-sym, IsTurn-permutation}
 use Rattle.permutations.proofs.NormalForm.{from_least-same, from_least-first_or}
 use Rattle.permutations.proofs.Mapped.{map-member}
-use Rattle.permutations.proofs.Arrangements.{permutation-member, member-at}
+use Rattle.permutations.proofs.Arrangements.{member-at}
 use Rattle.permutations.proofs.Places.{place-below, place-holds}
 use Rattle.multigraph.specs.Graph.{Multigraph, edge_count, incident_edges, IsGraph, IsWithinLimits}
 use Rattle.multigraph.specs.Part.{GraphPart, IsPart, IsNumbered}
-use Rattle.rotations.specs.Entries.{entry, IsNamed, list_at}
 use Rattle.rotations.specs.PartLists.{outer_edges, outer_list, outer_order}
 use Rattle.rotations.specs.Rotation.{order_at, IsRotationSystem}
-use Rattle.rotations.proofs.Membership.{member-edge}
 use Rattle.faces.specs.Euler.{IsPlane, IsPlaneSystem}
 use Rattle.faces.specs.Subgraph.{IsSubgraph, is_kept, IsRestriction}
 use Rattle.faces.proofs.MapLists.{filter-map}
@@ -30,10 +28,10 @@ use Rattle.arrangements.specs.Arranged.{of_block}
 use Rattle.skel_embed.specs.Taken.{IsGiven}
 use Rattle.blocks.specs.Blocks.{BlockStructure, block_at, IsBlockStructure}
 use Rattle.whole_embed.specs.Component.{Component, BlockInPlane, component_vertices, component_edges, component_of, AreInPlane, IsComponentInPlane}
-use Rattle.whole_embed.specs.Around.{outer_at, edges_around, block_with}
+use Rattle.whole_embed.specs.Around.{outer_at, block_with}
 use Rattle.whole_embed.specs.Whole.{block_part}
-use Rattle.whole_embed.proofs.Components.{edges-rise, edge-in}
-use Rattle.whole_embed.proofs.ComponentBlocks.{numbered, inner_edges, inner_part, inner-part, part-edge, part-vertex, component-blocks, inner_blocks}
+use Rattle.whole_embed.proofs.Components.{edges-rise}
+use Rattle.whole_embed.proofs.ComponentBlocks.{numbered, inner_edges, inner_part, inner-part, part-edge, part-vertex}
 use Rattle.whole_embed.proofs.Outer.{place-rising, edges_at, round-permutation, round-written, round-back, round-first}
 use Rattle.whole_embed.proofs.Arranging.{part-of, sub-of, of-block}
 use Rattle.whole_embed.proofs.WholeParts.{list-for}

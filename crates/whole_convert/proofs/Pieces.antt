@@ -13,7 +13,7 @@ use Rattle.permutations.proofs.Filter.{filter-yes, filter-no, member-filter_part
 use Rattle.permutations.proofs.Arrangements.{member-at}
 use Rattle.permutations.proofs.Places.{place-below, place-holds}
 use Rattle.multigraph.specs.Graph.{incident_edges}
-use Rattle.multigraph.specs.Part.{GraphPart, Rises, IsNumbered}
+use Rattle.multigraph.specs.Part.{GraphPart, Rises}
 use Rattle.graph_theory.proofs.Rising.{members-same}
 use Rattle.rotations.specs.Entries.{entry, list_at}
 use Rattle.rotations.specs.Rotation.{IsRotationSystem}

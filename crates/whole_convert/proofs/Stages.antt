@@ -1,5 +1,5 @@
 -- Stages on the way from one rotation system of a component to another: some blocks have their parts, one has any rotation system.
-use Rattle.std.proofs.Common.{◌≡◌, ◌≢◌, ℕ, ◌+◌, ◌<◌, inl, inr, Bool, true, false, ◌==◌, ◌&&◌, nat_lt, if◌then◌else◌, List, [], length, map, slice_index, slice_index_or, Contains, refl, sym, ap, ◌∙◌, subst, arith, eq-eqb, eqb-true}
+use Rattle.std.proofs.Common.{◌≡◌, ◌≢◌, ℕ, ◌+◌, ◌<◌, inl, inr, Bool, true, false, ◌==◌, ◌&&◌, nat_lt, if◌then◌else◌, List, [], length, map, slice_index, slice_index_or, Contains, refl, sym, ap, ◌∙◌, subst, arith, eq-eqb}
 use Rattle.std.proofs.Math.Path.{fun_ext}
 use Rattle.std.proofs.lemmas.Bool.{cases_Bool, cases_eq, cases_lt, both_ways, cond-true, cond-false, and_parts, and_from, lt-ltb, le-ltb, false_from_ne_true, ne_eqb}
 use Rattle.std.proofs.lemmas.List.{get_or-map, length-map, get_or_past, ext_get_or}
@@ -11,17 +11,15 @@ use Rattle.multigraph.specs.Part.{GraphPart, IsNumbered, IsPart}
 use Rattle.multigraph.proofs.Below.{length-numbers_below, get_or-numbers_below}
 use Rattle.blocks.specs.Blocks.{block_at}
 use Rattle.pair_split.specs.Tutte.{Node}
-use Rattle.rotations.specs.Rotation.{order_at, IsRotationSystem}
+use Rattle.rotations.specs.Rotation.{IsRotationSystem}
 use Rattle.faces.specs.Euler.{IsPlaneSystem}
 use Rattle.skeletons.specs.Items.{IsBlockTree}
 use Rattle.arrangements.specs.Arranged.{first_arrangement, arrangements_at}
 use Rattle.whole_embed.specs.Component.{Component, BlockInPlane, component_blocks, IsComponentInPlane}
 use Rattle.whole_embed.specs.Around.{outer_at, edges_around, block_with, block_order, arrangements_around}
 use Rattle.whole_embed.specs.Whole.{block_part, AreArranged, IsWholeMember}
-use Rattle.whole_embed.specs.Walk.{first_around}
 use Rattle.whole_embed.proofs.Outer.{place-rising, place-absent}
 use Rattle.whole_embed.proofs.Assembled.{IsAssembled}
-use Rattle.whole_embed.proofs.Assembly.{assembled}
 use Rattle.whole_convert.specs.Between.{blocks_to}
 
 -- a block with another rotation system

@@ -1,14 +1,14 @@
 -- The steps, one block and one cut vertex more.
-use Rattle.std.proofs.Common.{◌≡◌, ◌≢◌, ℕ, zero, suc, ◌+◌, ◌<◌, Bool, true, ◌||◌, nat_lt, if◌then◌else◌, List, [], ◌∷◌, ◌++◌, length, map, slice_index, slice_index_or, refl, sym, ap, ap₂, ◌∙◌, subst, arith, add-one}
+use Rattle.std.proofs.Common.{◌≡◌, ◌≢◌, ℕ, zero, suc, ◌+◌, ◌<◌, Bool, true, ◌||◌, if◌then◌else◌, List, [], ◌∷◌, ◌++◌, length, map, slice_index, slice_index_or, refl, sym, ap, ap₂, ◌∙◌, subst, arith, add-one}
 use Rattle.std.specs.List.{list_any}
 use Rattle.std.proofs.lemmas.Bool.{cond-true, cond-false, false_from_ne_true}
-use Rattle.std.proofs.lemmas.List.{append_assoc, map-append}
+use Rattle.std.proofs.lemmas.List.{append_assoc}
 use Rattle.permutations.specs.Members.{is_member, place_of}
 use Rattle.permutations.proofs.Members.{member-head, member-tail}
 use Rattle.permutations.proofs.Mapped.{map-member}
 use Rattle.permutations.proofs.Arrangements.{member-at}
 use Rattle.permutations.proofs.Places.{place-below, place-holds}
-use Rattle.multigraph.specs.Graph.{edge_count, incident_edges}
+use Rattle.multigraph.specs.Graph.{incident_edges}
 use Rattle.multigraph.specs.Part.{IsNumbered}
 use Rattle.rotations.proofs.Membership.{member-edge}
 use Rattle.arrangements.specs.Arranged.{same_list}
@@ -17,7 +17,7 @@ use Rattle.whole_embed.specs.Component.{Component, BlockInPlane}
 use Rattle.whole_embed.specs.Around.{outer_at, edges_around, block_with}
 use Rattle.whole_embed.specs.Walk.{first_around}
 use Rattle.whole_embed.proofs.Outer.{place-rising}
-use Rattle.whole_convert.specs.Between.{WholeStep, moves_of, moves_below, is_moved, has_block_at, list_then, arrangement_at, arrangements_below, move_block, arrange}
+use Rattle.whole_convert.specs.Between.{WholeStep, moves_of, moves_below, has_block_at, list_then, arrangement_at, arrangements_below, move_block, arrange}
 
 -- one block more
 pub moves-more : (k : Component) (old new : ℕ → BlockInPlane) (n : ℕ) → moves_below k old new n ++ map (move_block (slice_index k.blocks n)) (moves_of old new (slice_index k.blocks n)) ≡ moves_below k old new (n + 1)

@@ -1,10 +1,9 @@
 -- What taking lists makes of a block, where they are a plane rotation system of it; and why it may be refused.
-use Rattle.std.proofs.Common.{◌≡◌, ◌≢◌, ℕ, ◌+◌, ◌<◌, inl, inr, true, List, length, slice_index, Some, Option, refl, sym, ap, ◌∙◌, subst, arith}
-use Rattle.std.proofs.lemmas.Bool.{both_ways}
+use Rattle.std.proofs.Common.{◌≡◌, ◌≢◌, ℕ, ◌<◌, inl, inr, true, List, length, slice_index, Some, Option, sym, ap, subst, arith}
 use Rattle.permutations.specs.Members.{is_member, place_of}
 use Rattle.permutations.proofs.Arrangements.{member-at}
-use Rattle.permutations.proofs.Places.{place-below, place-holds}
-use Rattle.multigraph.specs.Graph.{Multigraph, edge_count}
+use Rattle.permutations.proofs.Places.{place-holds}
+use Rattle.multigraph.specs.Graph.{Multigraph}
 use Rattle.multigraph.specs.Part.{GraphPart, IsNumbered, Rises}
 use Rattle.rotations.specs.PartLists.{IsFirstBadInPart}
 use Rattle.faces.specs.Euler.{face_count, component_count, IsPlaneSystem}
@@ -15,12 +14,12 @@ use Rattle.skel_embed.specs.Taken.{IsGiven, IsNotPlane, IsLockedOut}
 use Rattle.skel_embed.proofs.Spheres.{one-component}
 use Rattle.embed_enum.specs.Walk.{KeepsRest}
 use Rattle.whole_embed.specs.declared.members.Member.{Member}
-use Rattle.whole_embed.specs.Component.{Component, BlockInPlane}
+use Rattle.whole_embed.specs.Component.{Component}
 use Rattle.whole_embed.specs.Cuts.{in_plane, member_at, blocks_in}
 use Rattle.whole_embed.specs.Whole.{block_part}
-use Rattle.whole_embed.proofs.FrameFacts.{one-value, plane-part}
+use Rattle.whole_embed.proofs.FrameFacts.{plane-part}
 use Rattle.whole_embed.proofs.Steps.{place-less}
-use Rattle.whole_convert.specs.Target.{IsLeastLocked, KeepsLocked, IsLeastLockedBlock}
+use Rattle.whole_convert.specs.Target.{IsLeastLocked, KeepsLocked}
 use Rattle.whole_convert.specs.Led.{IsTaken, IsTakenRefusal, IsLedTo, IsLeadRefusal, IsLeadAllRefusal, AreLedBelow}
 use Rattle.whole_convert.specs.declared.faults.WholeFault.{WholeFault}
 use Rattle.whole_convert.specs.declared.faults.WholeFault.TheVariants.{BadRotation, NotGenusZero, Locked, Memory}

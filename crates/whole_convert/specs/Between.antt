@@ -1,6 +1,6 @@
 -- The moves that lead a component from one plane rotation system to another: those of its blocks, then other arrangements at its cut
 -- vertices.
-use Rattle.std.specs.Prelude.{◌≡◌, ℕ, zero, suc, Bool, nat_lt, if◌then◌else◌, List, [], ◌∷◌, ◌++◌, length, map, slice_index, slice_index_or}
+use Rattle.std.specs.Prelude.{ℕ, zero, suc, Bool, nat_lt, if◌then◌else◌, List, [], ◌∷◌, ◌++◌, length, map, slice_index, slice_index_or}
 use Rattle.std.specs.List.{list_any}
 use Rattle.permutations.specs.Members.{is_member}
 use Rattle.arrangements.specs.Arranged.{same_list}

@@ -15,8 +15,10 @@
 //   PartOf       parts-plane: a plane rotation system leaves plane ones on the blocks, which their lists give
 //   Takes        no-bad, no-genus, taken-led: what taking these lists makes of a block; lead-refusal: why it is refused
 //   Pieces       pieces-of: the edges of a block around all vertices, cut up into its lists
+//   DealtBlocks  dealt-ready, dealt-refusal: what a block is given to take, and why it refuses
 //   LedAll       led-blocks, led-member: copies of all blocks with their parts
 //   StepLists    moves-more, arrangements-more: the steps, one block and one cut vertex more
+//   FrameTables  read-test, cut-there: what the code reads; then-first, then-stays: the lists, one cut vertex more
 //   Stages       the blocks on the way; arrangements-same, first-same: what is apart from a block does not change
 //   BlockStages  all-blocks_lead: the moves of the blocks lead; CutStages: the arrangements lead, and whole-leads: all steps
 //   Converted    moved-to: steps that are found so are the moves to the target

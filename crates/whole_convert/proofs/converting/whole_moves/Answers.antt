@@ -1,4 +1,4 @@
-use Rattle.std.proofs.Common.{◌≡◌, ◌<◌, ℕ, Bool, List, length, drop, take_at, slice_index, sym, ap, ◌∙◌, subst, arith}
+use Rattle.std.proofs.Common.{◌≡◌, ◌<◌, Bool, List, length, drop, take_at, slice_index, sym, ap, ◌∙◌, subst, arith}
 use Rattle.multigraph.specs.Part.{GraphPart}
 use Rattle.faces.specs.Euler.{component_count, IsPlaneSystem}
 use Rattle.whole_embed.specs.declared.members.Member.{Member}

@@ -1,4 +1,4 @@
-use Rattle.std.proofs.Common.{◌≡◌, ◌≢◌, ◌<◌, ◌∷◌, ◌++◌, [], ℕ, inl, inr, Bool, true, false, not, List, Vec, Global, length, slice_index, slice_index_or, refl, sym, ap, ◌∙◌, arith, append-nil}
+use Rattle.std.proofs.Common.{◌≡◌, ◌≢◌, ◌<◌, ◌∷◌, [], ℕ, inl, inr, Bool, true, false, not, List, Vec, Global, length, slice_index, slice_index_or, refl, sym, ap, ◌∙◌, arith, append-nil}
 use Rattle.std.proofs.lemmas.Bool.{true≢false, cases_Bool}
 use Rattle.std.proofs.lemmas.Bool.Decides.{Decides-eqb}
 use Rattle.std.proofs.lemmas.Slice.Eq.{slice_eq-Decides}
@@ -9,7 +9,7 @@ use Rattle.whole_embed.specs.Component.{Component}
 use Rattle.whole_embed.specs.Around.{outer_at}
 use Rattle.whole_convert.specs.declared.steps.WholeMove.{WholeMove}
 use Rattle.whole_convert.specs.declared.steps.WholeMove.TheVariants.{Regroup}
-use Rattle.whole_convert.specs.Between.{WholeStep, arrange, as_step, as_steps}
+use Rattle.whole_convert.specs.Between.{arrange, as_step, as_steps}
 use Rattle.whole_convert.proofs.StepLists.{arrangements-more, one-added, none-added}
 use Rattle.whole_convert.proofs.FrameTables.{cut-there}
 use Rattle.whole_convert.proofs.cut_lists.add_arrangements.Goals as goal

@@ -1,4 +1,4 @@
-use Rattle.std.proofs.Common.{◌≡◌, ◌<◌, ◌+◌, ℕ, List, length, slice_index, sym, ap, ◌∙◌, subst, arith}
+use Rattle.std.proofs.Common.{◌≡◌, ◌<◌, ◌+◌, length, slice_index, sym, ap, ◌∙◌, subst, arith}
 use Rattle.whole_embed.specs.Component.{Component}
 use Rattle.whole_embed.specs.Cuts.{CutState, blocks_in}
 use Rattle.whole_embed.proofs.FrameFacts.{place-some}

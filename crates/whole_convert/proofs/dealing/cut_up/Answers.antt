@@ -1,4 +1,4 @@
-use Rattle.std.proofs.Common.{◌≡◌, ◌<◌, ◌≤◌, ◌+◌, ℕ, length, slice_index, refl, sym, ap, ◌∙◌, arith}
+use Rattle.std.proofs.Common.{◌≡◌, ◌<◌, ◌≤◌, ◌+◌, length, slice_index, refl, sym, ap, ◌∙◌, arith}
 use Rattle.multigraph.specs.Graph.{Multigraph, incident_edges}
 use Rattle.whole_convert.specs.Led.{degree_in}
 use Rattle.whole_convert.proofs.FrameTables.{degree-at}

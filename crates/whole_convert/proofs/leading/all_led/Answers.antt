@@ -1,15 +1,12 @@
-use Rattle.std.proofs.Common.{◌≡◌, ◌<◌, ◌+◌, ℕ, List, true, length, flat_map, slice_index, slice_index_or, slice_set, [], refl, sym, ap, ◌∙◌, subst, arith}
-use Rattle.std.proofs.lemmas.List.{get_or_default}
+use Rattle.std.proofs.Common.{◌≡◌, ◌<◌, ◌+◌, ℕ, List, true, length, flat_map, slice_index, slice_set, sym, ap, ◌∙◌, subst, arith}
 use Rattle.permutations.specs.Members.{is_member}
 use Rattle.permutations.proofs.Arrangements.{member-at}
 use Rattle.multigraph.specs.Part.{GraphPart}
-use Rattle.arrangements.specs.Arranged.{of_block}
-use Rattle.whole_embed.specs.declared.members.Member.{Member}
-use Rattle.whole_embed.specs.Around.{outer_at, block_with}
+use Rattle.whole_embed.specs.Around.{outer_at}
 use Rattle.whole_embed.specs.Cuts.{blocks_in, member_at}
 use Rattle.whole_embed.specs.Whole.{block_part}
 use Rattle.whole_embed.proofs.Assembly.{assembled}
-use Rattle.whole_convert.specs.Led.{IsDealt, IsLedTo, IsLeadRefusal, IsLeadAllRefusal, AreLedBelow}
+use Rattle.whole_convert.specs.Led.{IsLedTo, IsLeadRefusal, IsLeadAllRefusal, AreLedBelow}
 use Rattle.whole_convert.proofs.Pieces.{orders-edges, blocks-within}
 use Rattle.whole_convert.proofs.Takes.{lead-refusal}
 use Rattle.whole_convert.proofs.LedAll.{led-more}

@@ -1,4 +1,4 @@
-use Rattle.std.proofs.Common.{◌≡◌, List, ℕ, Some, refl, sym, subst}
+use Rattle.std.proofs.Common.{◌≡◌, Some, refl, subst}
 use Rattle.whole_embed.specs.declared.members.Member.{Member}
 use Rattle.whole_embed.specs.Cuts.{member_at}
 use Rattle.whole_embed.specs.Whole.{block_part}

@@ -1,6 +1,5 @@
 use Rattle.std.proofs.Common.{◌≡◌, sym, ap, ◌∙◌, subst}
-use Rattle.multigraph.specs.Graph.{Multigraph}
-use Rattle.skel_embed.specs.Block.{BlockState, IsBlockState}
+use Rattle.skel_embed.specs.Block.{BlockState}
 use Rattle.skel_embed.specs.Taken.{IsTakeRefusal}
 use Rattle.skel_embed.specs.declared.taking.TakeFault.{TakeFault}
 use Rattle.whole_convert.proofs.Takes.{no-genus, block-connected}

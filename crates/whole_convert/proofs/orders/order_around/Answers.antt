@@ -1,4 +1,4 @@
-use Rattle.std.proofs.Common.{◌<◌, ◌∷◌, ◌++◌, [], ℕ, List, length, map, slice_index, sym, ap, ◌∙◌, subst, arith, append-nil}
+use Rattle.std.proofs.Common.{◌<◌, ◌∷◌, ◌++◌, [], ℕ, List, map, slice_index, sym, ap, ◌∙◌, arith, append-nil}
 use Rattle.permutations.specs.Members.{is_member}
 use Rattle.permutations.proofs.Members.{member-head, member-tail}
 use Rattle.rotations.specs.Rotation.{order_at}
