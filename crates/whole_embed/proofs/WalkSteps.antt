@@ -65,7 +65,7 @@ module _ (k : Component) (block : ℕ → BlockInPlane) (h : IsComponentInPlane 
   made : IsAssembled k block
   made = assembled k block h
 
-  first-has : (j : ℕ) → j < length k.cuts → Contains (arrangements_at_place k block j) (first_around k block j)
+  pub first-has : (j : ℕ) → j < length k.cuts → Contains (arrangements_at_place k block j) (first_around k block j)
   first-has j l =
       let v = slice_index k.cuts j in
       let f = first_is_first (block_with k) (block_order block v) (edges_around k v) (made.orders v (made.cuts_in v (member-at k.cuts j 0 l))) in

@@ -103,8 +103,8 @@ impl Frame {
         &self.cuts
     }
 
-    // The block of each edge of the part.
-    pub(crate) fn edge_blocks(&self) -> &[u32]
+    /// The block of each edge of the part.
+    pub fn edge_blocks(&self) -> &[u32]
         ensures { result.now ≡ self.now.edge_blocks }
     {
         &self.edge_blocks

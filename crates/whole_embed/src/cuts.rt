@@ -113,8 +113,9 @@ impl Cuts {
         &self.lists[i]
     }
 
-    // Sets the first arrangement at the cut vertex at place i. Takes no memory.
-    pub(crate) fn set_first(&mut self, all: &[Member], i: usize)
+    /// Sets the first arrangement at the cut vertex at place `i`, for the present rotation systems of the blocks. All else stays. Takes
+    /// no memory.
+    pub fn set_first(&mut self, all: &[Member], i: usize)
         requires component { IsComponentInPlane self.old.component (blocks_in all.now) }
         requires planes { HavePlanes self.old.component all.now }
         requires within { i < length self.old.component.cuts }
