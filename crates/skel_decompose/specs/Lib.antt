@@ -1,1 +1,2 @@
--- What the functions of the crate state.
+-- What follows each item around its ends: tables of it, and how far they are filled.
+pub mod Followers

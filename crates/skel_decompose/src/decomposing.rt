@@ -6,6 +6,8 @@ ghost use Rattle.skeletons.specs.Items.{IsBlockTree};
 ghost use Rattle.skeletons.specs.Round.{IsContiguous};
 ghost use Rattle.skeletons.specs.Families.{AreSkeletonSystems, FollowsFamily};
 
+use crate::filling::followers;
+use crate::members::member_of;
 use multigraph::Graph;
 use rotations::Rotation;
 use spqr_tree::Tree;
@@ -28,5 +30,10 @@ pub fn decompose(
     ensures systems { IfOk result (λ members. AreSkeletonSystems tree.now members.items) }
     ensures follows { IfOk result (λ members. FollowsFamily tree.now members.items r.now) }
 {
-    Err(AllocError)
+    let table = followers(alloc, g, tree, r)?;
+    let mut members = Vec::with_capacity(alloc, tree.node_count() as usize)?;
+    for k in 0..tree.node_count() {
+        members.push(member_of(alloc, tree, &table, k)?)?;
+    }
+    Ok(members)
 }

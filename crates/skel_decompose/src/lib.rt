@@ -1,11 +1,28 @@
 // Rotation systems of the skeletons of a block, read off one of the block: the inverse of `skel_compose::compose`.
 //
 // Where the groups of each node of the tree are in runs, as in every plane rotation system, the runs around a vertex of a node
-// are the items of its skeleton there, in their cyclic order (Di Battista and Tamassia 1996).
+// are the items of its skeleton there, in their cyclic order (Di Battista and Tamassia 1996). So where edge f follows edge e
+// around v, and a node has them in the groups of two items, the one item follows the other there. The nodes that have them in two
+// groups are those on the way in the tree from the node that has e to the one that has f. A walk along it, for each edge at each
+// of its ends, writes what follows into a table. Every item of every node is written once at each of its ends: there the last edge
+// of its run is followed by one of another group, or the item is an edge that is alone at the vertex.
 //
-// `decompose` gives the one family that a rotation system follows, and fails only if memory runs out.
+// `decompose` gives the one family that a rotation system follows, and fails only if memory runs out. All walks together take
+// as many steps as the skeletons have items, twice, and each step takes a binary search in a node. Nothing recurses.
+//
+// The lemmas, by their modules in proofs/:
+//   Searched  searched: a binary search by key
+//   Written   written, kept: what a table has after one entry is written
+//   Ahead     IsAhead: what a walk has still to write; ahead-starts, ahead-goes, ahead-ends
+//   Complete  all-followers: with the last edges of all runs the table has all
+//   Gathered  members-same, member-made: orders gone around in the table are those of the family
 #![tactic(auto)]
 
 mod decomposing;
+mod filling;
+mod members;
+mod searching;
+mod table;
+mod walking;
 
 pub use decomposing::decompose;

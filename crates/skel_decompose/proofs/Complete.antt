@@ -1,0 +1,134 @@
+-- A table that has what follows the last edges of all runs has what follows each item.
+use Rattle.std.proofs.Common.{◌≡◌, ◌≢◌, ℕ, suc, ◌+◌, ◌<◌, ◌≤◌, ◌==◌, ◌||◌, ◌⊎◌, inl, inr, Bool, true, false, List, length, slice_index_or, sym, ap, ◌∙◌, subst, arith, eq-eqb, eqb-true}
+use Rattle.std.proofs.lemmas.Bool.{cases_eq, cases_lt, or_cases}
+use Rattle.permutations.specs.Cyclic.{successor}
+use Rattle.permutations.specs.Members.{is_member}
+use Rattle.permutations.proofs.Chains.{chain-test}
+use Rattle.multigraph.specs.Graph.{Multigraph, edge_count, ends_of, is_end}
+use Rattle.multigraph.proofs.OtherEnd.{end-in}
+use Rattle.rotations.specs.Rotation.{order_at}
+use Rattle.faces.proofs.DartLemmas.{order-distinct, order-member}
+use Rattle.pair_split.specs.Tutte.{Node, components, node_at, node_item, has_in_group, group, IsTutte}
+use Rattle.pair_split.specs.declared.components.What.{What}
+use Rattle.pair_split.specs.declared.components.What.TheVariants.{Real, Link}
+use Rattle.pair_split.proofs.Groups.{what-cases}
+use Rattle.pair_split.proofs.Links.{stands-in}
+use Rattle.skeletons.specs.Items.{has_vertex}
+use Rattle.skeletons.proofs.NodeItems.{node-in, item-of, item-edge, item-vertex, group-is, outside-edge}
+use Rattle.skel_compose.specs.Homes.{IsHome}
+use Rattle.skel_compose.proofs.Walk.{order-edge_at}
+use Rattle.skel_decompose.specs.Followers.{IsInRuns, IsItemEnd, follower, row_at, item_place, HasFollower, HasFollowers, Keeps, IsLastOf, HasLast, HasLasts}
+
+module _ (g : Multigraph) (nodes : List Node) (r : List (List ℕ)) (d : IsInRuns g nodes r) (family : List (List (List ℕ))) (table : List (List ℕ)) where
+  abbrev t : IsTutte g nodes
+  t = d.block.tree
+
+  module _ (lasts : HasLasts g nodes r family (length nodes) 0 table) (k i v : ℕ) (place : IsItemEnd nodes k i v) where
+    abbrev key : ℕ
+    key = (node_item nodes k i).key
+
+    has : has_vertex nodes k v ≡ true
+    has = item-vertex g nodes t k v i place.is_node place.is_item place.end
+
+    -- an edge of the item
+    x : (e : ℕ) × (e < edge_count g) × (is_end g v e ≡ true) × (has_in_group (components nodes) k e (node_item nodes k i).what ≡ true)
+    x = item-edge g nodes t k v i place.is_item place.end
+
+    own : group nodes k x.0 ≡ key
+    own = group-is g nodes t k i x.0 place.is_item x.1 x.3
+
+    lv : v < g.vertex_count
+    lv = end-in g v x.0 d.block.graph x.1 x.2
+
+    -- each edge has been walked from
+    walked : (e : ℕ) → e < edge_count g → is_end g v e ≡ true → HasLast nodes r family table v e
+    walked e l end =
+        let w = t.split.covers.present e l in
+        let m = item-of g nodes t w.0 w.1 (Real e) w.2 in
+        lasts.before w.0 w.1 e v (node-in g nodes t w.0 (stands-in (components nodes) w.0 w.1 (Real e) w.2)) (record { is_item = m.0; is_edge = m.1 }) end
+
+    module _ (missing : HasFollower nodes family table k i v → ⊥) where
+      -- no edge of the item is the last one
+      stays : (z : ℕ) → is_member z (order_at r v) ≡ true → (group nodes k z == key) ≡ true → (group nodes k (successor (order_at r v) z) == key) ≡ true
+      stays z n q =
+          let y = order-edge_at g r v z d.system lv n in
+          elim (cases_eq (group nodes k (successor (order_at r v) z)) key) [
+            | inl s ↦ eq-eqb (group nodes k (successor (order_at r v) z)) key s
+            | inr s ↦ absurd (missing (walked z y.0 y.1 k i (record { place = place; own = eqb-true (group nodes k z) key q; apart = λ u. absurd (s u) })))
+          ]
+
+      -- so all are of the item
+      whole : (z : ℕ) → z < edge_count g → is_end g v z ≡ true → group nodes k z ≡ key
+      whole z l end = eqb-true (group nodes k z) key (chain-test (λ y. group nodes k y == key) (order_at r v) (order-distinct g r v d.system lv) stays x.0 z
+          (order-member g r v x.0 d.system lv x.1 x.2) (order-member g r v z d.system lv l end) (eq-eqb (group nodes k x.0) key own))
+
+      none : ⊥
+      none = elim (what-cases (node_item nodes k i).what) [
+        | inl w ↦
+            let same : w.0 ≡ x.0 = eqb-true w.0 x.0 (sym (ap (has_in_group (components nodes) k x.0) w.1) ∙ x.3) in
+            missing (walked x.0 x.1 x.2 k i (record { place = place; own = own; apart = λ u. w.1 ∙ ap (λ z. Real z) same }))
+        | inr w ↦ let f = outside-edge g nodes t k i w.0 v place.is_item w.1 has in f.3 (whole f.0 f.1 f.2)
+      ]
+
+    -- if all edges have been walked from
+    pub all-followers : HasFollower nodes family table k i v
+    all-followers = elim (cases_eq (slice_index_or (row_at table k) (item_place nodes k i v) 0) (follower nodes family k i v)) [
+      | inl q ↦ q
+      | inr missing ↦ absurd (none missing)
+    ]
+
+  -- one edge more
+  pub lasts-more : (k n x a b : ℕ) → HasLasts g nodes r family k n table → IsHome nodes k n x → (a, b) ≡ ends_of g x → HasLast nodes r family table a x → HasLast nodes r family table b x → HasLasts g nodes r family k (n + 1) table
+  lasts-more k n x a b h w q first second = record {
+    before = h.before;
+    here = λ i e v l y end. elim (cases_lt i n) [
+      | inl m ↦ h.here i e v m y end
+      | inr m ↦
+          let s : i ≡ n = omega (arith, l, m) in
+          let f : e ≡ x = real-same e x (sym y.is_edge ∙ ap (λ z. (node_item nodes k z).what) s ∙ w.is_edge) in
+          subst (λ z. HasLast nodes r family table v z) (sym f) (elim (or_cases ((ends_of g x).0 == v) ((ends_of g x).1 == v) (ap (is_end g v) (sym f) ∙ end)) [
+            | inl o ↦ subst (λ z. HasLast nodes r family table z x) (ap (λ (z : ℕ × ℕ). z.0) q ∙ eqb-true (ends_of g x).0 v o) first
+            | inr o ↦ subst (λ z. HasLast nodes r family table z x) (ap (λ (z : ℕ × ℕ). z.1) q ∙ eqb-true (ends_of g x).1 v o) second
+          ])
+    ];
+  }
+    where
+      real-same : (e x : ℕ) → Real e ≡ Real x → e ≡ x
+      real-same e x q = grind (arith, q)
+
+  -- an item that is no edge
+  pub lasts-pass : (k n : ℕ) → HasLasts g nodes r family k n table → ((e : ℕ) → (node_item nodes k n).what ≡ Real e → ⊥) → HasLasts g nodes r family k (n + 1) table
+  lasts-pass k n h none = record {
+    before = h.before;
+    here = λ i e v l y end. elim (cases_lt i n) [
+      | inl m ↦ h.here i e v m y end
+      | inr m ↦ let s : i ≡ n = omega (arith, l, m) in absurd (none e (ap (λ z. (node_item nodes k z).what) (sym s) ∙ y.is_edge))
+    ];
+  }
+
+  -- the next node
+  pub lasts-next : (k n : ℕ) → length (node_at nodes k).items ≤ n → HasLasts g nodes r family k n table → HasLasts g nodes r family (k + 1) 0 table
+  lasts-next k n all h = record {
+    before = λ j i e v l y end. elim (cases_lt j k) [
+      | inl m ↦ h.before j i e v m y end
+      | inr m ↦
+          let s : j ≡ k = omega (arith, l, m) in
+          let o : IsHome nodes k i e = subst (λ z. IsHome nodes z i e) s y in
+          h.here i e v (omega (arith, o.is_item, all)) o end
+    ];
+    here = λ i e v l y end. absurd (omega (arith, l));
+  }
+
+  -- at the start
+  pub lasts-none : HasLasts g nodes r family 0 0 table
+  lasts-none = record { before = λ j i e v l y end. absurd (omega (arith, l)); here = λ i e v l y end. absurd (omega (arith, l)) }
+
+-- as much is had of a table that keeps it
+pub last-kept : (nodes : List Node) (r : List (List ℕ)) (family : List (List (List ℕ))) (old new : List (List ℕ)) (v e : ℕ) → Keeps nodes family old new → HasLast nodes r family old v e → HasLast nodes r family new v e
+last-kept nodes r family old new v e f h k i last = f k i v last.place (h k i last)
+
+pub lasts-kept : (g : Multigraph) (nodes : List Node) (r : List (List ℕ)) (family : List (List (List ℕ))) (k n : ℕ) (old new : List (List ℕ)) → Keeps nodes family old new → HasLasts g nodes r family k n old → HasLasts g nodes r family k n new
+lasts-kept g nodes r family k n old new f h = record {
+  before = λ j i e v l w ve. last-kept nodes r family old new v e f (h.before j i e v l w ve);
+  here = λ i e v l w ve. last-kept nodes r family old new v e f (h.here i e v l w ve);
+}
