@@ -1,5 +1,5 @@
 -- The walk from an edge to the one that follows it around a vertex writes at each node in which the two are in different groups.
-use Rattle.std.proofs.Common.{◌≡◌, ◌≢◌, ℕ, ◌+◌, ◌<◌, ◌⊎◌, inl, inr, true, false, List, length, refl, sym, ap, ◌∙◌, subst, arith}
+use Rattle.std.proofs.Common.{◌≡◌, ◌≢◌, ℕ, ◌+◌, ◌<◌, ◌⊎◌, inl, inr, true, List, length, sym, ap, ◌∙◌, subst, arith}
 use Rattle.std.proofs.lemmas.Bool.{cases_eq, both_ways, not_from_true}
 use Rattle.permutations.specs.Cyclic.{successor}
 use Rattle.permutations.specs.Members.{is_member, place_of}
@@ -9,16 +9,15 @@ use Rattle.multigraph.proofs.OtherEnd.{end-in}
 use Rattle.rotations.specs.Rotation.{order_at}
 use Rattle.faces.proofs.DartLemmas.{order-member}
 use Rattle.faces.proofs.MapLists.{successor-map}
-use Rattle.pair_split.specs.Split.{is_beyond, LinksTo, IsSplit, AreLinked}
-use Rattle.pair_split.specs.Tutte.{Node, components, node_at, node_item, has_in_group, group, IsTutte}
+use Rattle.pair_split.specs.Split.{is_beyond, LinksTo, AreLinked}
+use Rattle.pair_split.specs.Tutte.{Node, components, node_at, node_item, group, IsTutte}
 use Rattle.pair_split.specs.declared.components.Comp.{Comp}
 use Rattle.pair_split.specs.declared.components.What.TheVariants.{Real, Link}
-use Rattle.pair_split.proofs.Subtrees.{link-in}
 use Rattle.pair_split.proofs.TreeSides.{beyond-other}
 use Rattle.skeletons.specs.Items.{ends_item, has_vertex}
 use Rattle.skeletons.specs.Families.{system_at, keys_in}
-use Rattle.skeletons.proofs.NodeItems.{node-in, comp-in, stands-of, keys-once, group-item, item-vertex, edge-end}
-use Rattle.skeletons.proofs.Places.{round-item, item-round}
+use Rattle.skeletons.proofs.NodeItems.{comp-in, stands-of, keys-once, group-item, item-vertex, edge-end}
+use Rattle.skeletons.proofs.Places.{round-item, item-round, contiguous-follows}
 use Rattle.skeletons.proofs.Towards.{Toward, toward, far-item, group-either}
 use Rattle.skel_compose.proofs.Walk.{LeadsOn, IsNear, order-edge_at, starts, goes-on, near-next, near-start}
 use Rattle.skel_decompose.specs.Followers.{IsInRuns, IsFamily, IsItemEnd, follower, HasFollower, Keeps, IsLastOf, HasLast, IsOpen, IsAhead}
@@ -28,6 +27,14 @@ no-both e h q = absurd (cc)
 
 link-same : (x y : ℕ) → Link x ≡ Link y → x ≡ y
 link-same x y q = grind (arith, q)
+
+-- a family that is followed
+pub some-family : (g : Multigraph) (nodes : List Node) (r : List (List ℕ)) → IsInRuns g nodes r → (family : List (List (List ℕ))) × IsFamily nodes r family
+some-family g nodes r d = let w = contiguous-follows g nodes r d.block d.system d.runs in (w.0, record { systems = w.1; follows = w.2 })
+
+-- where a walk is, the vertex is an end of the item
+pub leads-end : (nodes : List Node) (family : List (List (List ℕ))) (v e next k i : ℕ) → LeadsOn nodes family v e next k i → IsItemEnd nodes k i v
+leads-end nodes family v e next k i on = record { is_node = on.is_node; is_item = on.is_item; end = on.end }
 
 -- the next edge
 pub next-edge : (g : Multigraph) (nodes : List Node) (r : List (List ℕ)) (d : IsInRuns g nodes r) (v e : ℕ) → e < edge_count g → is_end g v e ≡ true
@@ -76,9 +83,6 @@ module _ (g : Multigraph) (nodes : List Node) (r : List (List ℕ)) (d : IsInRun
 
     ep : ends_item v (node_item nodes k p) ≡ true
     ep = edge-end g nodes t k v p next has lp ln vn (group-item g nodes t k p next on.is_node lp ln (sym kp))
-
-    pub item-end : IsItemEnd nodes k i v
-    item-end = record { is_node = on.is_node; is_item = on.is_item; end = on.end }
 
     behind : (node_item nodes k p).key ≡ successor (keys_in nodes family k v) (node_item nodes k i).key
     behind = kp ∙ sym on.behind

@@ -1,6 +1,6 @@
 -- A table that has what follows the last edges of all runs has what follows each item.
-use Rattle.std.proofs.Common.{◌≡◌, ◌≢◌, ℕ, suc, ◌+◌, ◌<◌, ◌≤◌, ◌==◌, ◌||◌, ◌⊎◌, inl, inr, Bool, true, false, List, length, slice_index_or, sym, ap, ◌∙◌, subst, arith, eq-eqb, eqb-true}
-use Rattle.std.proofs.lemmas.Bool.{cases_eq, cases_lt, or_cases}
+use Rattle.std.proofs.Common.{◌≡◌, ℕ, ◌+◌, ◌<◌, ◌≤◌, ◌==◌, inl, inr, true, List, length, slice_index_or, sym, ap, ◌∙◌, subst, arith, eq-eqb, eqb-true}
+use Rattle.std.proofs.lemmas.Bool.{cases_eq, cases_lt, or_cases, or_left, or_right}
 use Rattle.permutations.specs.Cyclic.{successor}
 use Rattle.permutations.specs.Members.{is_member}
 use Rattle.permutations.proofs.Chains.{chain-test}
@@ -9,15 +9,15 @@ use Rattle.multigraph.proofs.OtherEnd.{end-in}
 use Rattle.rotations.specs.Rotation.{order_at}
 use Rattle.faces.proofs.DartLemmas.{order-distinct, order-member}
 use Rattle.pair_split.specs.Tutte.{Node, components, node_at, node_item, has_in_group, group, IsTutte}
-use Rattle.pair_split.specs.declared.components.What.{What}
-use Rattle.pair_split.specs.declared.components.What.TheVariants.{Real, Link}
+use Rattle.pair_split.specs.declared.components.Item.{Item}
+use Rattle.pair_split.specs.declared.components.What.TheVariants.{Real}
 use Rattle.pair_split.proofs.Groups.{what-cases}
 use Rattle.pair_split.proofs.Links.{stands-in}
 use Rattle.skeletons.specs.Items.{has_vertex}
-use Rattle.skeletons.proofs.NodeItems.{node-in, item-of, item-edge, item-vertex, group-is, outside-edge}
+use Rattle.skeletons.proofs.NodeItems.{nth_item, node-in, stands-of, item-of, item-edge, item-vertex, group-is, outside-edge}
 use Rattle.skel_compose.specs.Homes.{IsHome}
 use Rattle.skel_compose.proofs.Walk.{order-edge_at}
-use Rattle.skel_decompose.specs.Followers.{IsInRuns, IsItemEnd, follower, row_at, item_place, HasFollower, HasFollowers, Keeps, IsLastOf, HasLast, HasLasts}
+use Rattle.skel_decompose.specs.Followers.{IsInRuns, IsItemEnd, follower, row_at, item_place, HasFollower, Keeps, HasLast, HasLasts}
 
 module _ (g : Multigraph) (nodes : List Node) (r : List (List ℕ)) (d : IsInRuns g nodes r) (family : List (List (List ℕ))) (table : List (List ℕ)) where
   abbrev t : IsTutte g nodes
@@ -77,6 +77,10 @@ module _ (g : Multigraph) (nodes : List Node) (r : List (List ℕ)) (d : IsInRun
       | inr missing ↦ absurd (none missing)
     ]
 
+  -- the home of an edge, and the edge
+  pub home-edge : (k i e : ℕ) → IsHome nodes k i e → e < edge_count g
+  home-edge k i e h = (t.split.covers.edges e k i (stands-of g nodes t k i (Real e) h.is_item h.is_edge)).0
+
   -- one edge more
   pub lasts-more : (k n x a b : ℕ) → HasLasts g nodes r family k n table → IsHome nodes k n x → (a, b) ≡ ends_of g x → HasLast nodes r family table a x → HasLast nodes r family table b x → HasLasts g nodes r family k (n + 1) table
   lasts-more k n x a b h w q first second = record {
@@ -122,6 +126,17 @@ module _ (g : Multigraph) (nodes : List Node) (r : List (List ℕ)) (d : IsInRun
   -- at the start
   pub lasts-none : HasLasts g nodes r family 0 0 table
   lasts-none = record { before = λ j i e v l y end. absurd (omega (arith, l)); here = λ i e v l y end. absurd (omega (arith, l)) }
+
+-- an item as it is read from its list
+pub home-read : (nodes : List Node) (k i e : ℕ) (items : List Item) → items ≡ (node_at nodes k).items → i < length items → (nth_item items i).what ≡ Real e → IsHome nodes k i e
+home-read nodes k i e items q l w = record { is_item = subst (λ (z : List Item). i < length z) q l; is_edge = sym (ap (λ (z : List Item). (nth_item z i).what) q) ∙ w }
+
+-- the ends of an edge
+pub ends-first : (g : Multigraph) (e a : ℕ) → a ≡ (ends_of g e).0 → is_end g a e ≡ true
+ends-first g e a q = or_left ((ends_of g e).0 == a) ((ends_of g e).1 == a) (eq-eqb (ends_of g e).0 a (sym q))
+
+pub ends-second : (g : Multigraph) (e a : ℕ) → a ≡ (ends_of g e).1 → is_end g a e ≡ true
+ends-second g e a q = or_right ((ends_of g e).0 == a) ((ends_of g e).1 == a) (eq-eqb (ends_of g e).1 a (sym q))
 
 -- as much is had of a table that keeps it
 pub last-kept : (nodes : List Node) (r : List (List ℕ)) (family : List (List (List ℕ))) (old new : List (List ℕ)) (v e : ℕ) → Keeps nodes family old new → HasLast nodes r family old v e → HasLast nodes r family new v e

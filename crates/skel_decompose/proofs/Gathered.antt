@@ -1,14 +1,14 @@
 -- Orders gone around in the table, put into rotation systems.
-use Rattle.std.proofs.Common.{◌≡◌, ℕ, ◌+◌, ◌-◌, ◌<◌, true, List, [], ◌∷◌, ◌++◌, length, get_or, map, slice_index_or, refl, sym, ap, ◌∙◌, subst, arith}
-use Rattle.std.proofs.lemmas.List.{get_or-map, length-map, get_or_default, ext_get_or}
+use Rattle.std.proofs.Common.{◌≡◌, ℕ, ◌+◌, ◌-◌, ◌<◌, true, List, [], ◌∷◌, ◌++◌, length, get_or, map, slice_index_or, sym, ap, ap₂, ◌∙◌, subst, arith}
+use Rattle.std.proofs.lemmas.List.{get_or-map, length-map, map-append, ext_get_or}
 use Rattle.permutations.specs.Cyclic.{successor}
 use Rattle.permutations.specs.Members.{is_member, place_of}
 use Rattle.permutations.specs.Ring.{images}
 use Rattle.permutations.proofs.Arrangements.{contains-from_member, member-at}
 use Rattle.permutations.proofs.Places.{place-at, told-distinct}
 use Rattle.permutations.proofs.Successor.{successor-member}
-use Rattle.multigraph.specs.Graph.{Multigraph, edge_count, is_end, incident_edges, numbers_below}
-use Rattle.multigraph.proofs.Below.{get_or-numbers_below, length-numbers_below}
+use Rattle.multigraph.specs.Graph.{Multigraph, is_end, incident_edges, numbers_below}
+use Rattle.multigraph.proofs.Below.{get_or-numbers_below, length-numbers_below, numbers_below-more}
 use Rattle.multigraph.proofs.Places.{rises-once}
 use Rattle.rotations.specs.Rotation.{order_at, IsRotationSystem}
 use Rattle.rotations.specs.Given.{given_order, AreArranged}
@@ -21,7 +21,7 @@ use Rattle.skeletons.proofs.Places.{skel-end, round-item}
 use Rattle.skeleton_runs.proofs.SkeletonGraph.{graph-edges}
 use Rattle.skel_compose.specs.Orders.{orders_below}
 use Rattle.skel_compose.proofs.Rounds.{round-start, round-member, entries-arranged, entries-same}
-use Rattle.skel_decompose.specs.Followers.{IsItemEnd, row_at, item_place, follower, HasFollowers, members_below}
+use Rattle.skel_decompose.specs.Followers.{IsItemEnd, row_at, item_place, HasFollowers, members_below}
 
 module _ (g : Multigraph) (nodes : List Node) (b : IsBlockTree g nodes) (k p : ℕ) (dk : k < length nodes) (lp : p < length (node_at nodes k).vertices) where
   -- the vertex at the place
@@ -39,7 +39,7 @@ module _ (g : Multigraph) (nodes : List Node) (b : IsBlockTree g nodes) (k p : �
   some-item =
       let w = vertex-end g nodes b.tree k vertex has in
       let i = contains-from_member (incident_edges (skeleton_graph nodes k) p) w.0 (incident-member (skeleton_graph nodes k) p w.0 (subst (λ n. w.0 < n) (sym (graph-edges g nodes b k dk)) w.1)
-          (ap (λ z. is_end (skeleton_graph nodes k) z w.0) (sym placed) ∙ skel-end g nodes b.tree k dk vertex w.0 has w.1 ∙ w.2)) in
+      (ap (λ z. is_end (skeleton_graph nodes k) z w.0) (sym placed) ∙ skel-end g nodes b.tree k dk vertex w.0 has w.1 ∙ w.2)) in
       omega (arith, i.1)
 
   module _ (family : List (List (List ℕ))) (f : AreSkeletonSystems nodes family) where
@@ -83,5 +83,13 @@ pub member-made : (graph : Multigraph) (nodes : List Node) (k : ℕ) (d : k < le
     → AreArranged graph lists × ((q : List (List ℕ)) → IsRotationSystem graph q → ((v : ℕ) → v < graph.vertex_count → order_at q v ≡ given_order graph lists v) → q ≡ system_at family k)
 member-made graph nodes k d family f e lists h = subst (λ (z : Multigraph). AreArranged z lists × ((q : List (List ℕ)) → IsRotationSystem z q → ((v : ℕ) → v < z.vertex_count → order_at q v ≡ given_order z lists v) → q ≡ system_at family k)) (sym e)
     (subst (λ (z : List (ℕ × List ℕ)). AreArranged (skeleton_graph nodes k) z × ((q : List (List ℕ)) → IsRotationSystem (skeleton_graph nodes k) q
-        → ((v : ℕ) → v < length (node_at nodes k).vertices → order_at q v ≡ given_order (skeleton_graph nodes k) z v) → q ≡ system_at family k)) (sym h)
+    → ((v : ℕ) → v < length (node_at nodes k).vertices → order_at q v ≡ given_order (skeleton_graph nodes k) z v) → q ≡ system_at family k)) (sym h)
     (entries-arranged (skeleton_graph nodes k) (system_at family k) (f.systems k d), λ q s orders. sym (entries-same (skeleton_graph nodes k) (system_at family k) (f.systems k d) q s.vertices orders)))
+
+-- one member more
+pub members-more : (family : List (List (List ℕ))) (k : ℕ) (member : List (List ℕ)) (items new : List (List (List ℕ))) → items ≡ members_below family k → member ≡ system_at family k → new ≡ items ++ member ∷ [] → new ≡ members_below family (k + 1)
+members-more family k member items new e q p = p ∙ ap₂ (λ (u : List (List (List ℕ))) (w : List (List ℕ)). u ++ w ∷ []) e q ∙ sym (ap (map (system_at family)) (numbers_below-more k) ∙ map-append (system_at family) (numbers_below k) (k ∷ []))
+
+-- all members
+pub members-all : (nodes : List Node) (family : List (List (List ℕ))) → AreSkeletonSystems nodes family → (k : ℕ) → k ≡ length nodes → (items : List (List (List ℕ))) → items ≡ members_below family k → family ≡ items
+members-all nodes family f k e items q = sym (q ∙ ap (members_below family) e ∙ members-same nodes family f)

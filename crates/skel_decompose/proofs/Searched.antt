@@ -8,7 +8,7 @@ use Rattle.std.proofs.lemmas.Bool.Decides.{nat_tests}
 use Rattle.std.proofs.lemmas.Bool.{cases_eq, cases_lt}
 use Rattle.multigraph.specs.Part.{Rises}
 use Rattle.multigraph.specs.Graph.{Multigraph, edge_count, max_edges, IsWithinLimits}
-use Rattle.pair_split.specs.Tutte.{Node, node_at, node_item, group, IsTutte}
+use Rattle.pair_split.specs.Tutte.{Node, node_at, group}
 use Rattle.pair_split.specs.declared.components.Item.{Item}
 use Rattle.skeletons.specs.Items.{item_key, IsBlockTree}
 use Rattle.skeletons.proofs.NodeItems.{no_item, nth_item, edge-item, group-is}

@@ -30,6 +30,7 @@ pub fn decompose(
     ensures systems { IfOk result (λ members. AreSkeletonSystems tree.now members.items) }
     ensures follows { IfOk result (λ members. FollowsFamily tree.now members.items r.now) }
 {
+    g.keeps_limits();
     let table = followers(alloc, g, tree, r)?;
     let mut members = Vec::with_capacity(alloc, tree.node_count() as usize)?;
     for k in 0..tree.node_count() {
