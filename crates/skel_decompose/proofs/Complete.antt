@@ -1,6 +1,6 @@
 -- A table that has what follows the last edges of all runs has what follows each item.
-use Rattle.std.proofs.Common.{◌≡◌, ℕ, ◌+◌, ◌<◌, ◌≤◌, ◌==◌, inl, inr, true, List, length, slice_index_or, sym, ap, ◌∙◌, subst, arith, eq-eqb, eqb-true}
-use Rattle.std.proofs.lemmas.Bool.{cases_eq, cases_lt, or_cases, or_left, or_right}
+use Rattle.std.proofs.Common.{◌≡◌, ℕ, ◌<◌, ◌==◌, inl, inr, true, List, length, slice_index_or, sym, ap, ◌∙◌, subst, eq-eqb, eqb-true}
+use Rattle.std.proofs.lemmas.Bool.{cases_eq, or_left, or_right}
 use Rattle.permutations.specs.Cyclic.{successor}
 use Rattle.permutations.specs.Members.{is_member}
 use Rattle.permutations.proofs.Chains.{chain-test}
@@ -17,7 +17,7 @@ use Rattle.skeletons.specs.Items.{has_vertex}
 use Rattle.skeletons.proofs.NodeItems.{nth_item, node-in, stands-of, item-of, item-edge, item-vertex, group-is, outside-edge}
 use Rattle.skel_compose.specs.Homes.{IsHome}
 use Rattle.skel_compose.proofs.Walk.{order-edge_at}
-use Rattle.skel_decompose.specs.Followers.{IsInRuns, IsItemEnd, follower, row_at, item_place, HasFollower, Keeps, HasLast, HasLasts}
+use Rattle.skel_decompose.specs.Followers.{IsInRuns, IsItemEnd, follower, row_at, item_place, HasFollower, HasLast, HasLasts}
 
 module _ (g : Multigraph) (nodes : List Node) (r : List (List ℕ)) (d : IsInRuns g nodes r) (family : List (List (List ℕ))) (table : List (List ℕ)) where
   abbrev t : IsTutte g nodes
@@ -77,55 +77,9 @@ module _ (g : Multigraph) (nodes : List Node) (r : List (List ℕ)) (d : IsInRun
       | inr missing ↦ absurd (none missing)
     ]
 
-  -- the home of an edge, and the edge
-  pub home-edge : (k i e : ℕ) → IsHome nodes k i e → e < edge_count g
-  home-edge k i e h = (t.split.covers.edges e k i (stands-of g nodes t k i (Real e) h.is_item h.is_edge)).0
-
-  -- one edge more
-  pub lasts-more : (k n x a b : ℕ) → HasLasts g nodes r family k n table → IsHome nodes k n x → (a, b) ≡ ends_of g x → HasLast nodes r family table a x → HasLast nodes r family table b x → HasLasts g nodes r family k (n + 1) table
-  lasts-more k n x a b h w q first second = record {
-    before = h.before;
-    here = λ i e v l y end. elim (cases_lt i n) [
-      | inl m ↦ h.here i e v m y end
-      | inr m ↦
-          let s : i ≡ n = omega (arith, l, m) in
-          let f : e ≡ x = real-same e x (sym y.is_edge ∙ ap (λ z. (node_item nodes k z).what) s ∙ w.is_edge) in
-          subst (λ z. HasLast nodes r family table v z) (sym f) (elim (or_cases ((ends_of g x).0 == v) ((ends_of g x).1 == v) (ap (is_end g v) (sym f) ∙ end)) [
-            | inl o ↦ subst (λ z. HasLast nodes r family table z x) (ap (λ (z : ℕ × ℕ). z.0) q ∙ eqb-true (ends_of g x).0 v o) first
-            | inr o ↦ subst (λ z. HasLast nodes r family table z x) (ap (λ (z : ℕ × ℕ). z.1) q ∙ eqb-true (ends_of g x).1 v o) second
-          ])
-    ];
-  }
-    where
-      real-same : (e x : ℕ) → Real e ≡ Real x → e ≡ x
-      real-same e x q = grind (arith, q)
-
-  -- an item that is no edge
-  pub lasts-pass : (k n : ℕ) → HasLasts g nodes r family k n table → ((e : ℕ) → (node_item nodes k n).what ≡ Real e → ⊥) → HasLasts g nodes r family k (n + 1) table
-  lasts-pass k n h none = record {
-    before = h.before;
-    here = λ i e v l y end. elim (cases_lt i n) [
-      | inl m ↦ h.here i e v m y end
-      | inr m ↦ let s : i ≡ n = omega (arith, l, m) in absurd (none e (ap (λ z. (node_item nodes k z).what) (sym s) ∙ y.is_edge))
-    ];
-  }
-
-  -- the next node
-  pub lasts-next : (k n : ℕ) → length (node_at nodes k).items ≤ n → HasLasts g nodes r family k n table → HasLasts g nodes r family (k + 1) 0 table
-  lasts-next k n all h = record {
-    before = λ j i e v l y end. elim (cases_lt j k) [
-      | inl m ↦ h.before j i e v m y end
-      | inr m ↦
-          let s : j ≡ k = omega (arith, l, m) in
-          let o : IsHome nodes k i e = subst (λ z. IsHome nodes z i e) s y in
-          h.here i e v (omega (arith, o.is_item, all)) o end
-    ];
-    here = λ i e v l y end. absurd (omega (arith, l));
-  }
-
-  -- at the start
-  pub lasts-none : HasLasts g nodes r family 0 0 table
-  lasts-none = record { before = λ j i e v l y end. absurd (omega (arith, l)); here = λ i e v l y end. absurd (omega (arith, l)) }
+-- the edge of a home
+pub home-edge : (g : Multigraph) (nodes : List Node) (t : IsTutte g nodes) (k i e : ℕ) → IsHome nodes k i e → e < edge_count g
+home-edge g nodes t k i e h = (t.split.covers.edges e k i (stands-of g nodes t k i (Real e) h.is_item h.is_edge)).0
 
 -- an item as it is read from its list
 pub home-read : (nodes : List Node) (k i e : ℕ) (items : List Item) → items ≡ (node_at nodes k).items → i < length items → (nth_item items i).what ≡ Real e → IsHome nodes k i e
@@ -137,13 +91,3 @@ ends-first g e a q = or_left ((ends_of g e).0 == a) ((ends_of g e).1 == a) (eq-e
 
 pub ends-second : (g : Multigraph) (e a : ℕ) → a ≡ (ends_of g e).1 → is_end g a e ≡ true
 ends-second g e a q = or_right ((ends_of g e).0 == a) ((ends_of g e).1 == a) (eq-eqb (ends_of g e).1 a (sym q))
-
--- as much is had of a table that keeps it
-pub last-kept : (nodes : List Node) (r : List (List ℕ)) (family : List (List (List ℕ))) (old new : List (List ℕ)) (v e : ℕ) → Keeps nodes family old new → HasLast nodes r family old v e → HasLast nodes r family new v e
-last-kept nodes r family old new v e f h k i last = f k i v last.place (h k i last)
-
-pub lasts-kept : (g : Multigraph) (nodes : List Node) (r : List (List ℕ)) (family : List (List (List ℕ))) (k n : ℕ) (old new : List (List ℕ)) → Keeps nodes family old new → HasLasts g nodes r family k n old → HasLasts g nodes r family k n new
-lasts-kept g nodes r family k n old new f h = record {
-  before = λ j i e v l w ve. last-kept nodes r family old new v e f (h.before j i e v l w ve);
-  here = λ i e v l w ve. last-kept nodes r family old new v e f (h.here i e v l w ve);
-}

@@ -12,10 +12,10 @@
 //
 // The lemmas, by their modules in proofs/:
 //   Searched  searched: a binary search by key
-//   Written   written, kept: what a table has after one entry is written
-//   Ahead     IsAhead: what a walk has still to write; ahead-starts, ahead-goes, ahead-ends
-//   Complete  all-followers: with the last edges of all runs the table has all
-//   Gathered  members-same, member-made: orders gone around in the table are those of the family
+//   Written   written, kept: what a table has after an entry is written; put-table, put-has, put-keeps
+//   Ahead     follows-here: what is written is right; ahead-starts, ahead-goes, ahead-ends: what a walk has still to write
+//   Complete  all-followers: with what follows the last edges of all runs a table has what follows each item
+//   Gathered  items-start, item-next: items gone around in the table; member-made, members-all: the members made of them
 #![tactic(auto)]
 
 mod decomposing;
