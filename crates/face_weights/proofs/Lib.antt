@@ -1,0 +1,1 @@
+-- Lemmas on the weights of faces.

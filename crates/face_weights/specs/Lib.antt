@@ -1,0 +1,3 @@
+-- Weights of the items of a tree, and the greatest weight of a face.
+pub mod Weights
+pub mod Reached
