@@ -1,5 +1,5 @@
 -- The weights of the links of a tree with a root: each has two, one in each direction, told at its lower node.
-use Rattle.std.specs.Prelude.{ℕ, ◌==◌, cond, List, slice_index}
+use Rattle.std.specs.Prelude.{ℕ, ◌==◌, cond, List, slice_index_or}
 use Rattle.pair_split.specs.Tutte.{Node, node_item}
 use Rattle.pair_split.specs.declared.components.What.{What}
 use Rattle.pair_split.specs.declared.components.What.TheVariants.{Real, Link}
@@ -20,4 +20,4 @@ weight_by parent below above (Link j) = cond (j == parent) above (below j)
 
 -- the weight of item i of node k
 abbrev pub weight_of : List Node → Weighing → ℕ → ℕ → ℕ
-weight_of nodes w k i = weight_by (slice_index w.parents k) (slice_index w.below) (slice_index w.above k) (node_item nodes k i).what
+weight_of nodes w k i = weight_by (slice_index_or w.parents k 0) (λ j. slice_index_or w.below j 0) (slice_index_or w.above k 0) (node_item nodes k i).what
