@@ -9,3 +9,6 @@ pub mod InOrder
 pub mod UpSteps
 pub mod DownSteps
 pub mod Weighed
+pub mod Steps
+pub mod OrderCode
+pub mod NodeCode

@@ -28,7 +28,7 @@ use Rattle.face_weights.proofs.FaceBounds.{face-same, face-bounded, face-twice, 
 use Rattle.face_weights.proofs.LinkFaces.{link-faces}
 
 -- whether a kind is that of bonds
-abbrev is_bond : Kind → Bool
+abbrev pub is_bond : Kind → Bool
 is_bond S = false
 is_bond P = true
 is_bond R = false

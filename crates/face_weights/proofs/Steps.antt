@@ -1,5 +1,5 @@
 -- The steps of the loops: sums along pairs, sums noted for darts, rests handed down.
-use Rattle.std.proofs.Common.{◌≡◌, ◌≢◌, ℕ, zero, suc, ◌+◌, ◌*◌, ◌/◌, ◌<◌, ◌≤◌, ◌⊎◌, List, [], ◌∷◌, length, take, map, slice_index_or, slice_set, inl, inr, refl, sym, ap, ◌∙◌, subst, arith}
+use Rattle.std.proofs.Common.{◌≡◌, ◌≢◌, ℕ, zero, suc, ◌+◌, ◌*◌, ◌/◌, ◌<◌, ◌≤◌, ◌⊎◌, List, [], ◌∷◌, length, take, map, replicate, slice_index_or, slice_set, inl, inr, refl, sym, ap, ◌∙◌, subst, arith}
 use Rattle.std.proofs.lemmas.Bool.{cases_eq, cases_lt}
 use Rattle.std.proofs.lemmas.List.{get_or-set_same, get_or-set_other, length-set}
 use Rattle.permutations.specs.Count.{sum_below}
@@ -16,6 +16,7 @@ use Rattle.pair_split.proofs.Groups.{what-cases}
 use Rattle.skeletons.specs.Items.{nth_item}
 use Rattle.face_weights.specs.Sums.{weight_in, weight_along, dart_at, IsNotedFor, AreSumsUpTo, AreFaceSums}
 use Rattle.face_weights.specs.Passes.{LinkOnce, AreHandedDown}
+use Rattle.face_weights.specs.Rests.{IsOtherMost}
 use Rattle.face_weights.proofs.FaceTotals.{listed-dart, listed-sum, listed-face, each-listed}
 use Rattle.face_weights.proofs.FaceBounds.{face-twice}
 
@@ -128,3 +129,24 @@ hand-skip items parent rests n old mid none a = record {
   ];
   others = λ x h. a.others x (λ i b v. h i (omega (arith, b)) v);
 }
+
+-- a list of one number
+pub zeros : (n k z : ℕ) → slice_index_or (replicate n z) k z ≡ z
+zeros zero k z = refl
+zeros (suc n) zero z = refl
+zeros (suc n) (suc k) z = zeros n k z
+
+-- the greatest of others is reached, also where all are zero
+pub other-reached : (n : ℕ) (w : ℕ → ℕ) (place most : ℕ) → 2 ≤ n → ((j : ℕ) → j < n → j ≢ place → w j ≤ most) → (most ≡ 0) ⊎ ((j : ℕ) × (j < n) × (j ≢ place) × (w j ≡ most)) → IsOtherMost n w place most
+other-reached n w place most l b r = record { reached = found r; bounds = b }
+  where
+    found : (most ≡ 0) ⊎ ((j : ℕ) × (j < n) × (j ≢ place) × (w j ≡ most)) → (h : ℕ) × (h < n) × (h ≢ place) × (w h ≡ most)
+    found (inr x) = x
+    found (inl z) = elim (cases_eq place 0) [
+      | inl e ↦ (1, omega (arith, l), λ q. omega (arith, q, e), let c : w 1 ≤ most = b 1 (omega (arith, l)) (λ q. omega (arith, q, e)) in omega (arith, c, z))
+      | inr f ↦ (0, omega (arith, l), λ q. f (sym q), let c : w 0 ≤ most = b 0 (omega (arith, l)) (λ q. f (sym q)) in omega (arith, c, z))
+    ]
+
+-- the same of the loop's numbers
+pub other-found : (n i : ℕ) (w : ℕ → ℕ) (place most : ℕ) → 2 ≤ n → n ≤ i → i ≤ n → ((j : ℕ) → j < i → j ≢ place → w j ≤ most) → (most ≡ 0) ⊎ ((j : ℕ) × (j < i) × (j ≢ place) × (w j ≡ most)) → IsOtherMost n w place most
+other-found n i w place most l a c b r = other-reached n w place most l (λ j m. b j (omega (arith, m, a))) (elim r [ inl z ↦ inl z | inr x ↦ inr (x.0, omega (arith, x.1, c), x.2, x.3) ])
