@@ -118,14 +118,20 @@ module _ (g : Multigraph) (nodes : List Node) (b : IsBlockTree g nodes) (family 
           → AreDone nodes family parents order below above p most top → AreDone nodes family parents order below next (p + 1) sum (slice_index_or order p 0)
       done-greater m r d = record {
         each = each sum m (omega arith) d;
-        reached = λ z. (p, omega arith, l, refl, record {
-          node = k-in;
-          item = r.0;
-          item_in = r.1;
-          rest = slice_index_or rests r.0 0;
-          is_rest = rest-same nodes family k (λ n. slice_index_or weights n 0) (weights_at nodes parents below (slice_index_or next k 0) k) r.0 (slice_index_or rests r.0 0) (graph-edges g nodes b k k-in) same r.1 (rest r.0 r.1);
-          reached = ap (λ z. z + slice_index_or rests r.0 0) (sym (same r.0 r.1)) ∙ r.2;
-        });
+        reached = λ z. (
+          p,
+          omega arith,
+          l,
+          refl,
+          record {
+            node = k-in;
+            item = r.0;
+            item_in = r.1;
+            rest = slice_index_or rests r.0 0;
+            is_rest = rest-same nodes family k (λ n. slice_index_or weights n 0) (weights_at nodes parents below (slice_index_or next k 0) k) r.0 (slice_index_or rests r.0 0) (graph-edges g nodes b k k-in) same r.1 (rest r.0 r.1);
+            reached = ap (λ z. z + slice_index_or rests r.0 0) (sym (same r.0 r.1)) ∙ r.2;
+          },
+        );
       }
 
       -- and where it has not
@@ -134,12 +140,18 @@ module _ (g : Multigraph) (nodes : List Node) (b : IsBlockTree g nodes) (family 
           let r = d.reached z in
           let e : slice_index_or above top 0 ≡ slice_index_or next top 0 = subst (λ x. slice_index_or above x 0 ≡ slice_index_or next x 0) r.3 (sym (stays r.0 (omega (arith, r.1)))) in record {
             each = each most (omega arith) m d;
-            reached = λ y. (r.0, omega (arith, r.1), r.2, r.3, record {
-              node = r.4.node;
-              item = r.4.item;
-              item_in = r.4.item_in;
-              rest = r.4.rest;
-              is_rest = subst (λ x. IsRest nodes family top (weights_at nodes parents below x top) r.4.item r.4.rest) e r.4.is_rest;
-              reached = subst (λ x. weights_at nodes parents below x top r.4.item + r.4.rest ≡ most) e r.4.reached;
-            });
+            reached = λ y. (
+              r.0,
+              omega (arith, r.1),
+              r.2,
+              r.3,
+              record {
+                node = r.4.node;
+                item = r.4.item;
+                item_in = r.4.item_in;
+                rest = r.4.rest;
+                is_rest = subst (λ x. IsRest nodes family top (weights_at nodes parents below x top) r.4.item r.4.rest) e r.4.is_rest;
+                reached = subst (λ x. weights_at nodes parents below x top r.4.item + r.4.rest ≡ most) e r.4.reached;
+              },
+            );
           }

@@ -33,9 +33,6 @@ module _ (g : Multigraph) (nodes : List Node) (b : IsBlockTree g nodes) (parents
   tree : IsTutte g nodes
   tree = b.tree
 
-  abbrev pub at : ℕ → ℕ
-  at q = slice_index_or order q 0
-
   -- what stands on the list is a node
   pub node-at : (q : ℕ) → q < length order → slice_index_or order q 0 < length nodes
   node-at q l = node-in g nodes tree b.block.has_edge (slice_index_or order q 0) (o.ordered.within q l)

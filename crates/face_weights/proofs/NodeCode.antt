@@ -1,5 +1,5 @@
 -- The rests of one node, as the code has them.
-use Rattle.std.proofs.Common.{◌≡◌, ◌≢◌, ℕ, ◌+◌, ◌*◌, ◌/◌, ◌<◌, ◌≤◌, Bool, true, false, List, length, slice_index_or, max, refl, sym, ap, ◌∙◌, subst, arith}
+use Rattle.std.proofs.Common.{◌≡◌, ◌≢◌, ℕ, ◌+◌, ◌*◌, ◌/◌, ◌<◌, ◌≤◌, ◌⊎◌, Bool, true, false, List, length, slice_index_or, max, inl, inr, refl, sym, ap, ◌∙◌, subst, arith}
 use Rattle.std.proofs.lemmas.Bool.{both_ways}
 use Rattle.std.proofs.lemmas.List.{length-map}
 use Rattle.permutations.specs.Count.{sum_below}
@@ -31,6 +31,15 @@ use Rattle.face_weights.proofs.GroupSizes.{groups-sum}
 -- a node of another kind is no bond
 pub not-bond : (kind other : Kind) → kind ≡ other → is_bond other ≡ false → kind ≢ P
 not-bond kind other e f p = both_ways (is_bond kind) (ap is_bond e ∙ f) (ap is_bond p)
+
+pub other-kind : (kind : Kind) → (kind ≡ S) ⊎ (kind ≡ R) ⊎ (kind ≡ B) → kind ≢ P
+other-kind kind h = elim h [
+  | inl s ↦ not-bond kind S s refl
+  | inr t ↦ elim t [
+    | inl r ↦ not-bond kind R r refl
+    | inr b ↦ not-bond kind B b refl
+  ]
+]
 
 -- a block with its tree
 module _ (g : Multigraph) (nodes : List Node) (b : IsBlockTree g nodes) (k : ℕ) (l : k < length nodes) where

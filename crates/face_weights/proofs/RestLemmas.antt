@@ -144,8 +144,12 @@ module _ (g : Multigraph) (nodes : List Node) (b : IsBlockTree g nodes) (family 
   rest-light w u i rest m x edges links = elim (bond-or (node_at nodes k).kind) [
     | inl p ↦ let y = x.other p in omega (arith, two-terms number w i (y.reached.0) m (y.reached.1) (y.reached.2), y.reached.3, sum_below-le number w u each)
     | inr n ↦ let y = x.face n in
-        omega (arith, y.reached.3, subst (λ z. face_weight (skeleton_graph nodes k) (system_at family k) w (y.reached.0) ≤ sum_below z u) (graph-edges g nodes b k l)
-        (face-bounded (skeleton_graph nodes k) (system_at family k) w u (y.reached.0) (λ h a. sides (y.reached.0) h (few h a))))
+        omega (
+          arith,
+          y.reached.3,
+          subst (λ z. face_weight (skeleton_graph nodes k) (system_at family k) w (y.reached.0) ≤ sum_below z u) (graph-edges g nodes b k l)
+              (face-bounded (skeleton_graph nodes k) (system_at family k) w u (y.reached.0) (λ h a. sides (y.reached.0) h (few h a))),
+        )
   ]
     where
       each : (h : ℕ) → h < length (node_at nodes k).items → w h ≤ u h

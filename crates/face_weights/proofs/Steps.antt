@@ -92,7 +92,7 @@ module _ (g : Multigraph) (r : List (List ℕ)) (ok : IsGraph g) (system : IsRot
   sums-all n sums l s = record {
     number = s.number;
     each = λ d m. let w = each-listed g r ok system weights d m in
-    subst (λ z. slice_index_or sums z 0 ≡ face_weight g r (weight_in weights) z) w.4 (s.each w.0 w.1 (omega (arith, l, w.2)) w.2 w.3);
+        subst (λ z. slice_index_or sums z 0 ≡ face_weight g r (weight_in weights) z) w.4 (s.each w.0 w.1 (omega (arith, l, w.2)) w.2 w.3);
   }
 
 -- one item more: its rest is noted for the child

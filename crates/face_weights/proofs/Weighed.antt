@@ -1,9 +1,10 @@
 -- After both passes the weights bound the faces, and each is reached.
-use Rattle.std.proofs.Common.{◌≡◌, ◌≢◌, ℕ, ◌+◌, ◌*◌, ◌/◌, ◌<◌, ◌≤◌, ◌⊎◌, List, length, slice_index_or, inl, inr, refl, sym, ap, ◌∙◌, subst, arith}
+use Rattle.std.proofs.Common.{◌≡◌, ◌≢◌, ℕ, ◌+◌, ◌*◌, ◌/◌, ◌<◌, ◌≤◌, ◌⊎◌, List, length, map, slice_index_or, inl, inr, refl, sym, ap, ◌∙◌, subst, arith}
 use Rattle.std.proofs.lemmas.Bool.{cases_eq}
+use Rattle.std.proofs.lemmas.List.{length-map}
 use Rattle.multigraph.specs.Graph.{Multigraph, edge_count}
 use Rattle.faces.specs.Euler.{IsPlane}
-use Rattle.pair_split.specs.Tutte.{Node, node_at, node_item}
+use Rattle.pair_split.specs.Tutte.{Node, node_at, node_item, piece_of}
 use Rattle.pair_split.specs.declared.components.Kind.TheVariants.{P}
 use Rattle.pair_split.specs.declared.components.What.{What}
 use Rattle.pair_split.specs.declared.components.What.TheVariants.{Real, Link}
@@ -23,7 +24,7 @@ use Rattle.face_weights.proofs.InOrder.{weight-edge, weight-up, weight-down, pla
 -- a block with its tree, a plane family, an order of the nodes, and what the passes made
 module _ (g : Multigraph) (nodes : List Node) (b : IsBlockTree g nodes) (family : List (List (List ℕ))) (systems : AreSkeletonSystems nodes family)
     (plane : (k : ℕ) → k < length nodes → IsPlane (skeleton_graph nodes k) (system_at family k)) (parents order : List ℕ) (o : IsOrderOf nodes parents order) (below above : List ℕ) (most top : ℕ)
-    (up : AreBelow nodes family parents order 0 below) (down : AreDone nodes family parents order below above (length order) most top) where
+    (number : length below ≡ length nodes) (also : length above ≡ length nodes) (up : AreBelow nodes family parents order 0 below) (down : AreDone nodes family parents order below above (length order) most top) where
   -- all weights
   abbrev all : Weighing
   all = record { parents = parents; below = below; above = above; most = most; top = top }
@@ -85,6 +86,7 @@ module _ (g : Multigraph) (nodes : List Node) (b : IsBlockTree g nodes) (family 
 
   pub weighed : AreWeights nodes family all
   weighed = record {
+    sized = record { parents = o.ordered.places ∙ length-map nodes (λ node. record { kind = node.kind; items = map piece_of node.items }); below = number; above = also };
     edges = λ k i e w. weight-edge (parent_at parents k) (λ j. slice_index_or below j 0) (slice_index_or above k 0) (node_item nodes k i).what e w;
     table = record {
       links = λ k d j e a n.

@@ -1,5 +1,5 @@
 -- The weights of the links of a tree with a root: each has two, one in each direction, told at its lower node.
-use Rattle.std.specs.Prelude.{ℕ, ◌==◌, cond, List, slice_index_or}
+use Rattle.std.specs.Prelude.{◌≡◌, ℕ, ◌==◌, cond, List, length, slice_index_or}
 use Rattle.pair_split.specs.Tutte.{Node, node_item}
 use Rattle.pair_split.specs.declared.components.What.{What}
 use Rattle.pair_split.specs.declared.components.What.TheVariants.{Real, Link}
@@ -21,3 +21,9 @@ weight_by parent below above (Link j) = cond (j == parent) above (below j)
 -- the weight of item i of node k
 abbrev pub weight_of : List Node → Weighing → ℕ → ℕ → ℕ
 weight_of nodes w k i = weight_by (slice_index_or w.parents k 0) (λ j. slice_index_or w.below j 0) (slice_index_or w.above k 0) (node_item nodes k i).what
+
+-- there is an entry for each node
+pub record IsSized (nodes : List Node) (w : Weighing) : Type 0 where
+  pub parents : length w.parents ≡ length nodes
+  pub below : length w.below ≡ length nodes
+  pub above : length w.above ≡ length nodes

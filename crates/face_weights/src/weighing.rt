@@ -21,7 +21,7 @@ use spqr_tree::Tree;
 use std::alloc::{AllocError, Global};
 
 // The weights of the items of a node with this parent.
-fn weights_of(
+pub(crate) fn weights_of(
     alloc: Global,
     items: &[Item],
     parent: u32,
@@ -39,7 +39,13 @@ fn weights_of(
     for item in items {
         weights.push(match item.what {
             What::Real(_) => 1,
-            What::Link(j) => { if j == parent { above } else { below[j as usize] } }
+            What::Link(j) => {
+                if j == parent {
+                    above
+                } else {
+                    below[j as usize]
+                }
+            }
         })?;
     }
     Ok(weights)
@@ -144,7 +150,8 @@ fn pass_down(
     requires order { IsOrderOf tree.now parents.now order.now }
     requires number { length below.now ≡ length tree.now }
     requires light { AreLight tree.now parents.now below.now [] }
-    ensures { IfOk result (λ r. AreDone tree.now members.now parents.now order.now below.now
+    ensures number { IfOk result (λ r. length r.0.items ≡ length tree.now) }
+    ensures done { IfOk result (λ r. AreDone tree.now members.now parents.now order.now below.now
         r.0.items (length order.now) r.1 r.2) }
 {
     let mut above = vec![in alloc; 0; tree.node_count() as usize]?;

@@ -4,6 +4,7 @@ use Rattle.pair_split.specs.Tutte.{piece_of}
 use Rattle.spqr_tree.proofs.KeySteps.{adds-more}
 use Rattle.face_weights.proofs.OrderCode.{piece-what, adds-item}
 use Rattle.face_weights.proofs.ordering.add_children.Goals as goal
+
 pub add_child-requires : goal.add_child-requires
 add_child-requires c = λ j e. subst (λ n. j < n) (sym c.loop-item.auto.parents)
     (c.requires.within c.loop-item.item-index j (subst (λ n. c.loop-item.item-index < n) (sym (length-map c.args.items.now piece_of)) c.loop-item-test.true) (piece-what c.args.items.now c.loop-item.item-index c.loop-item-test.true ∙ e))

@@ -5,6 +5,7 @@ use Rattle.spqr_tree.specs.Keys.{IsOrder, AreWithin, AddsChildren, parent_at}
 use Rattle.face_weights.proofs.OrderCode.{links-within, order-node, parents-number, order-past, order-more, order-all}
 use Rattle.face_weights.proofs.ordering.order_of.Goals.{then-i-len+in_ok-add_children, else-i-len}
 use Rattle.face_weights.proofs.ordering.order_of.Goals as goal
+
 pub items-requires : goal.items-requires
 items-requires c = order-node c.requires.block.0 c.args.tree.now c.requires.block.1 c.requires.block.2 c.loop-i.parents c.loop-i.order.items c.loop-i.i c.loop-i.invariant c.index-k.result.now (omega (arith, c.if-i-len.true, c.len.ensures)) c.index-k.ensures
 

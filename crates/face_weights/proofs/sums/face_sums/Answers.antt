@@ -5,6 +5,7 @@ use Rattle.faces.specs.Trace.{face_lists}
 use Rattle.face_weights.specs.Sums.{AreSumsUpTo, IsNotedFor, weight_along}
 use Rattle.face_weights.proofs.Steps.{listed-edge, listed-few, sums-more, sums-all}
 use Rattle.face_weights.proofs.sums.face_sums.Goals as goal
+
 -- the faces that were traced
 pub total-requires-clause-edges : goal.total-requires-clause-edges
 total-requires-clause-edges c = λ p l.

@@ -1,6 +1,7 @@
 use Rattle.std.proofs.Common.{◌+◌, ◌∙◌, sym, ap, arith}
 use Rattle.face_weights.proofs.Steps.{along-more, along-part}
 use Rattle.face_weights.proofs.sums.total.Goals as goal
+
 pub overflow_add-sum : goal.overflow_add-sum
 overflow_add-sum c = omega (arith, c.loop-pair.invariant, along-part c.args.weights.now c.args.pairs.now c.loop-pair.pair-index c.loop-pair-test.true, c.requires.few)
 

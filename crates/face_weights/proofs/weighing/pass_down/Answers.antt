@@ -18,6 +18,7 @@ use Rattle.face_weights.proofs.UpSteps.{light-first}
 use Rattle.face_weights.proofs.DownSteps.{light-down, done-greater, done-less}
 use Rattle.face_weights.proofs.weighing.pass_down.Goals.{then-most-sum, else-most-sum}
 use Rattle.face_weights.proofs.weighing.pass_down.Goals as goal
+
 pub weights_of-requires : goal.weights_of-requires
 weights_of-requires c =
     let k = slice_index_or c.args.order.now c.loop-p.p 0 in
@@ -98,8 +99,7 @@ loop-p-preserved c =
     let bounds : (i : ℕ) → i < length (node_at nodes k).items → weight_in weights i + weight_in rests i ≤ sum = λ i a. subst (λ z. z ≤ sum) (same i) (c.greatest_sum-sum.ensures.most i (subst (λ z. i < z) number a)) in
     let reached : (i : ℕ) × (i < length (node_at nodes k).items) × (weight_in weights i + weight_in rests i ≡ sum) =
     let r = c.greatest_sum-sum.ensures.reached in (r.0, subst (λ z. r.0 < z) (sym number) r.1, sym (same r.0) ∙ r.2) in
-    let s : take c.loop-p.above.len (c.hand_down.new.above ++ drop (length c.hand_down.new.above) c.loop-p.above.items) ≡ c.hand_down.new.above = grind (arith, common_steps) in
-    (
+    let s : take c.loop-p.above.len (c.hand_down.new.above ++ drop (length c.hand_down.new.above) c.loop-p.above.items) ≡ c.hand_down.new.above = grind (arith, common_steps) in (
       ap (λ (z : List ℕ). length z) s ∙ handed.number ∙ c.loop-p.invariant.0,
       subst (λ (z : List ℕ). AreLight nodes c.args.parents.now c.args.below.now z) (sym s) (light-down c.requires.block.0 c.args.tree.now c.requires.block.1 c.args.members.now c.requires.systems c.requires.plane c.args.parents.now c.args.order.now c.requires.order c.args.below.now p c.loop-p-test.true above next weights rests weigh rest handed c.loop-p.invariant.1),
       subst (λ (z : List ℕ). AreDone nodes c.args.members.now c.args.parents.now c.args.order.now c.args.below.now z (p + 1) c.if-most-sum.most c.if-most-sum.top) (sym s) (elim c.if-most-sum.branch [

@@ -9,10 +9,10 @@ use Rattle.face_weights.proofs.InOrder.{node-at}
 use Rattle.face_weights.proofs.NodeCode.{weights-few, items-within, items-once, items-weights, items-noted}
 use Rattle.face_weights.proofs.UpSteps.{light-first, light-more, below-more}
 use Rattle.face_weights.proofs.weighing.pass_up.Goals as goal
+
 pub loop-p-init : goal.loop-p-init
 loop-p-init c =
-    let e : c.in_ok-below.below.items ≡ replicate c.node_count.result 0 = c.in_ok-below.ensures.items_if_clones_equal (λ y h. h) in
-    (
+    let e : c.in_ok-below.below.items ≡ replicate c.node_count.result 0 = c.in_ok-below.ensures.items_if_clones_equal (λ y h. h) in (
       ap (λ (z : List ℕ). length z) e ∙ length-replicate c.node_count.result 0 ∙ c.node_count.ensures,
       omega arith,
       light-first c.args.tree.now c.args.parents.now c.in_ok-below.below.items [] (λ k. ap (λ (z : List ℕ). slice_index_or z k 0) e ∙ zeros c.node_count.result k 0) (λ k. refl),
@@ -51,8 +51,7 @@ loop-p-preserved c =
     let n : k < length c.args.tree.now = node-at c.requires.block.0 c.args.tree.now c.requires.block.1 c.args.parents.now c.args.order.now c.requires.order p l in
     let weigh : (i : ℕ) → i < length (node_at c.args.tree.now k).items → weight_in c.deref-in-loop-p.result.now i ≡ weights_at c.args.tree.now c.args.parents.now c.loop-p.below.items 0 k i =
     items-weights c.requires.block.0 c.args.tree.now c.requires.block.1 k n c.items-items.result.now c.items-items.ensures c.args.parents.now c.loop-p.below.items c.deref.result.now c.deref-in-loop-p.result.now c.in_ok-weights.weights.items 0 c.deref.ensures.value c.deref-in-loop-p.ensures.value c.in_ok-weights.ensures.each in
-    let noted = items-noted c.requires.block.0 c.args.tree.now c.requires.block.1 k n c.items-items.result.now c.items-items.ensures (parent_at c.args.parents.now k) c.rest_at_parent.result c.deref-in-loop-p-2.result.now c.in_ok-rests.rests.items c.deref-in-loop-p-2.ensures.value c.rest_at_parent.ensures in
-    (
+    let noted = items-noted c.requires.block.0 c.args.tree.now c.requires.block.1 k n c.items-items.result.now c.items-items.ensures (parent_at c.args.parents.now k) c.rest_at_parent.result c.deref-in-loop-p-2.result.now c.in_ok-rests.rests.items c.deref-in-loop-p-2.ensures.value c.rest_at_parent.ensures in (
       length-set c.loop-p.below.items k c.rest_at_parent.result ∙ c.loop-p.invariant.0,
       omega (arith, c.loop-p.invariant.1),
       light-more c.requires.block.0 c.args.tree.now c.requires.block.1 c.args.members.now c.requires.systems c.requires.plane c.args.parents.now c.args.order.now c.requires.order p l c.loop-p.below.items c.loop-p.invariant.0 (weight_in c.deref-in-loop-p.result.now) (weight_in c.in_ok-rests.rests.items) c.rest_at_parent.result weigh c.in_ok-rests.ensures.each noted c.loop-p.invariant.2,
