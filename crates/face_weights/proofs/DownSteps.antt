@@ -1,20 +1,18 @@
 -- The pass down: the weights of the links to the parents, for the children of one node more.
-use Rattle.std.proofs.Common.{◌≡◌, ◌≢◌, ℕ, ◌+◌, ◌*◌, ◌<◌, ◌≤◌, ◌⊎◌, List, [], length, slice_index_or, inl, inr, refl, sym, ap, ◌∙◌, subst, arith}
+use Rattle.std.proofs.Common.{◌≡◌, ◌≢◌, ℕ, ◌+◌, ◌*◌, ◌<◌, ◌≤◌, List, length, slice_index_or, inl, inr, refl, sym, ap, ◌∙◌, subst, arith}
 use Rattle.std.proofs.lemmas.Bool.{cases_eq, cases_lt}
-use Rattle.permutations.specs.Count.{sum_below}
-use Rattle.permutations.proofs.Sums.{sum_below-le}
-use Rattle.multigraph.specs.Graph.{Multigraph, edge_count}
+use Rattle.multigraph.specs.Graph.{Multigraph}
 use Rattle.faces.specs.Euler.{IsPlane}
 use Rattle.pair_split.specs.Tutte.{Node, node_at, node_item}
 use Rattle.pair_split.specs.declared.components.What.{What}
-use Rattle.pair_split.specs.declared.components.What.TheVariants.{Real, Link}
+use Rattle.pair_split.specs.declared.components.What.TheVariants.{Link}
 use Rattle.pair_split.proofs.Groups.{what-cases}
 use Rattle.skeletons.specs.Items.{IsBlockTree}
 use Rattle.skeletons.specs.Families.{skeleton_graph, system_at, AreSkeletonSystems}
 use Rattle.skeleton_runs.proofs.SkeletonGraph.{graph-edges}
 use Rattle.spqr_tree.specs.Keys.{parent_at}
 use Rattle.face_weights.specs.Rests.{IsRest}
-use Rattle.face_weights.specs.Passes.{IsOrderOf, weights_at, group_size, AreLight, AreHandedDown, IsDone, IsMost, AreDone}
+use Rattle.face_weights.specs.Passes.{IsOrderOf, weights_at, group_size, AreLight, AreHandedDown, IsDone, AreDone}
 use Rattle.face_weights.proofs.RestLemmas.{rest-same}
 use Rattle.face_weights.proofs.GroupSizes.{rest-group}
 use Rattle.face_weights.proofs.InOrder.{weight-edge, weight-up, weight-down, node-at, place-once, link-from, child-parent, child-apart, parent-one}

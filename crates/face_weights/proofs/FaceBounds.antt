@@ -1,6 +1,6 @@
 -- Weights of faces: bounds, and how they depend on the weight of one edge.
 use Rattle.std.proofs.Common.{◌≡◌, ◌≢◌, ℕ, ◌+◌, ◌*◌, ◌/◌, ◌<◌, ◌≤◌, Bool, true, false, not, ◌&&◌, ◌==◌, cond, List, inl, inr, refl, sym, ap, ◌∙◌, subst, arith}
-use Rattle.std.proofs.lemmas.Bool.{cases_Bool, cases_eq, both_ways, and_parts, eq-eqb}
+use Rattle.std.proofs.lemmas.Bool.{cases_Bool, both_ways, and_parts, eq-eqb}
 use Rattle.permutations.specs.Count.{sum_below}
 use Rattle.permutations.proofs.Sums.{sum_below-ext, sum_below-le, sum_below-term}
 use Rattle.permutations.proofs.Orbits.{orbit-equivalence}

@@ -1,6 +1,6 @@
 -- The sum of the weights along the pairs of a listed face is the weight of the face of each of its darts.
-use Rattle.std.proofs.Common.{◌≡◌, ◌≢◌, ℕ, zero, suc, ◌+◌, ◌*◌, ◌/◌, ◌<◌, ◌≤◌, Bool, true, false, not, ◌&&◌, ◌||◌, ◌==◌, cond, List, [], ◌∷◌, length, map, slice_index_or, inl, inr, refl, sym, ap, ◌∙◌, subst, arith, eq-eqb, eqb-true}
-use Rattle.std.proofs.lemmas.Bool.{cases_Bool, cases_eq, both_ways, ne_eqb, and_from, and_parts}
+use Rattle.std.proofs.Common.{◌≡◌, ℕ, zero, suc, ◌+◌, ◌*◌, ◌/◌, ◌<◌, Bool, true, false, not, ◌&&◌, ◌||◌, ◌==◌, List, [], ◌∷◌, length, map, slice_index_or, inl, inr, refl, sym, ap, ◌∙◌, subst, arith, eq-eqb}
+use Rattle.std.proofs.lemmas.Bool.{cases_Bool, cases_eq, ne_eqb}
 use Rattle.std.proofs.lemmas.List.{length-map, get_or-map}
 use Rattle.permutations.specs.Members.{is_member, is_distinct}
 use Rattle.permutations.specs.Permutation.{Permutes}
@@ -15,12 +15,11 @@ use Rattle.dart_maps.specs.Map.{face, same_face}
 use Rattle.faces.specs.Euler.{tail, dart_from, dart_count, face_step}
 use Rattle.faces.specs.Maps.{dart_after}
 use Rattle.faces.specs.Trace.{pair_of, orbit_pairs, face_lists}
-use Rattle.faces.specs.FaceLists.{IsListedOnce}
 use Rattle.faces.proofs.DartLemmas.{dart-edge, tail-end, dart_from-of_dart, face_back, face_step-permutes}
 use Rattle.faces.proofs.MapSteps.{map-face}
 use Rattle.faces.proofs.ListedOnce.{along-images, listed-orbit, listed-once}
 use Rattle.skeleton_faces.specs.Faces.{face_weight}
-use Rattle.skeleton_faces.proofs.FaceSums.{sum_of, face_sum, sum_of-ext, sum_of-one, face_sum-one}
+use Rattle.skeleton_faces.proofs.FaceSums.{sum_of, sum_of-ext, sum_of-one, face_sum-one}
 use Rattle.face_weights.specs.Sums.{weight_in, weight_along, dart_at}
 
 -- the sum over the members of a list
@@ -42,9 +41,6 @@ members-sum n w (x ∷ xs) d b =
     let same : sum_of n (λ y. is_member y (x ∷ xs) && not (y == x)) w ≡ sum_of n (λ y. is_member y xs) w = sum_of-ext n (λ y. is_member y (x ∷ xs) && not (y == x)) (λ y. is_member y xs) w (λ y l. other y) in
     omega (arith, one, rest, same)
   where
-    plain : (s t : Bool) → s ≡ false → t ≡ false → ((s || t) && not s) ≡ t
-    plain s t p q = grind (arith, cases_Bool s, cases_Bool t)
-
     apart : (t : Bool) → ((false || t) && not false) ≡ t
     apart t = grind (arith, cases_Bool t)
 

@@ -1,14 +1,12 @@
 -- How many edges the groups of items have, and that no rest is more than twice as much.
-use Rattle.std.proofs.Common.{◌≡◌, ◌≢◌, ℕ, ◌+◌, ◌*◌, ◌/◌, ◌<◌, ◌≤◌, Bool, true, false, not, ◌==◌, cond, List, length, inl, inr, refl, sym, ap, ◌∙◌, subst, arith, eq-eqb}
-use Rattle.std.proofs.lemmas.Bool.{cases_Bool, cases_eq, ne_eqb, true≢false}
-use Rattle.permutations.specs.Count.{count, sum_below}
+use Rattle.std.proofs.Common.{◌≡◌, ◌≢◌, ℕ, ◌+◌, ◌*◌, ◌<◌, ◌≤◌, Bool, not, ◌==◌, cond, List, length, inl, inr, refl, sym, ap, ◌∙◌, arith, eq-eqb}
+use Rattle.std.proofs.lemmas.Bool.{cases_eq, ne_eqb}
+use Rattle.permutations.specs.Count.{sum_below}
 use Rattle.permutations.proofs.Count.{count-positive}
 use Rattle.multigraph.specs.Graph.{Multigraph, edge_count}
 use Rattle.faces.specs.Euler.{IsPlane}
-use Rattle.pair_split.specs.Split.{items_of, item_at, side, LinksTo, IsSplit}
 use Rattle.pair_split.specs.Tutte.{Node, components, node_at, node_item, has_in_group, IsTutte}
 use Rattle.pair_split.specs.declared.components.Comp.{Comp}
-use Rattle.pair_split.specs.declared.components.What.{What}
 use Rattle.pair_split.specs.declared.components.What.TheVariants.{Real, Link}
 use Rattle.pair_split.proofs.Groups.{side-other, group-once}
 use Rattle.skeletons.specs.Items.{IsBlockTree}

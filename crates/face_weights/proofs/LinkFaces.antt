@@ -1,5 +1,5 @@
 -- The two darts of a link lie on two faces of its skeleton.
-use Rattle.std.proofs.Common.{◌≡◌, ℕ, ◌*◌, ◌/◌, ◌<◌, ◌&&◌, ◌==◌, ltb, false, List, length, sym, ap, ◌∙◌, subst, arith}
+use Rattle.std.proofs.Common.{◌≡◌, ℕ, ◌*◌, ◌/◌, ◌<◌, ◌&&◌, ◌==◌, ltb, false, List, length, ap, ◌∙◌}
 use Rattle.multigraph.specs.Graph.{Multigraph, edge_count}
 use Rattle.dart_maps.specs.Map.{twin, same_face}
 use Rattle.dart_maps.proofs.Darts.{twin-below}

@@ -1,18 +1,17 @@
 -- The rests of one node, as the code has them.
-use Rattle.std.proofs.Common.{◌≡◌, ◌≢◌, ℕ, ◌+◌, ◌*◌, ◌/◌, ◌<◌, ◌≤◌, ◌⊎◌, Bool, true, false, List, length, slice_index_or, max, inl, inr, refl, sym, ap, ◌∙◌, subst, arith}
+use Rattle.std.proofs.Common.{◌≡◌, ◌≢◌, ℕ, ◌+◌, ◌*◌, ◌/◌, ◌<◌, ◌≤◌, ◌⊎◌, false, List, length, slice_index_or, max, inl, inr, refl, sym, ap, ◌∙◌, subst, arith}
 use Rattle.std.proofs.lemmas.Bool.{both_ways}
 use Rattle.std.proofs.lemmas.List.{length-map}
 use Rattle.permutations.specs.Count.{sum_below}
 use Rattle.permutations.proofs.Sums.{sum_below-le}
 use Rattle.multigraph.specs.Graph.{Multigraph, edge_count, max_edges, IsWithinLimits}
-use Rattle.faces.specs.Euler.{IsPlane}
 use Rattle.pair_split.specs.Split.{items_of, piece_ends}
 use Rattle.pair_split.specs.Tutte.{Node, components, node_at, node_item, piece_of}
 use Rattle.pair_split.specs.declared.components.Kind.{Kind}
 use Rattle.pair_split.specs.declared.components.Kind.TheVariants.{S, P, R, B}
 use Rattle.pair_split.proofs.NodeParts.{node-pieces}
 use Rattle.skeletons.specs.Items.{nth_item, IsBlockTree}
-use Rattle.skeletons.specs.Families.{skeleton_graph, system_at, AreSkeletonSystems}
+use Rattle.skeletons.specs.Families.{skeleton_graph, system_at}
 use Rattle.skeleton_runs.proofs.SkeletonGraph.{graph-edges}
 use Rattle.skeleton_planes.proofs.OneSystem.{kind-of}
 use Rattle.pair_split.specs.declared.components.Item.{Item}
@@ -20,12 +19,12 @@ use Rattle.pair_split.specs.declared.components.What.TheVariants.{Link}
 use Rattle.spqr_tree.specs.Keys.{parent_at}
 use Rattle.spqr_tree.proofs.UpLinks.{first-in, link-within, link-to, link-once}
 use Rattle.face_weights.specs.Weights.{weight_by}
-use Rattle.face_weights.specs.Rests.{IsFaceRest, IsOtherMost, IsRest}
+use Rattle.face_weights.specs.Rests.{IsOtherMost, IsRest}
 use Rattle.face_weights.specs.Sums.{weight_in, AreFaceSums}
 use Rattle.face_weights.specs.Passes.{weights_at, group_size, AreLight, LinkOnce}
 use Rattle.face_weights.proofs.Terms.{sum-twice}
 use Rattle.face_weights.proofs.FaceBounds.{own-weight}
-use Rattle.face_weights.proofs.RestLemmas.{is_bond, rest-from_sums, rest-total}
+use Rattle.face_weights.proofs.RestLemmas.{is_bond, rest-from_sums}
 use Rattle.face_weights.proofs.GroupSizes.{groups-sum}
 
 -- a node of another kind is no bond

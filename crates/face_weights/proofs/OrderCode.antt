@@ -1,22 +1,22 @@
 -- The order of the nodes, as the loop makes it.
-use Rattle.std.proofs.Common.{◌≡◌, ◌≢◌, ℕ, ◌+◌, ◌<◌, ◌≤◌, cond, List, [], ◌∷◌, ◌++◌, length, take, map, slice_index_or, refl, sym, ap, ◌∙◌, subst, arith}
+use Rattle.std.proofs.Common.{◌≡◌, ℕ, ◌+◌, ◌<◌, ◌≤◌, cond, List, ◌++◌, length, take, map, slice_index_or, sym, ap, ◌∙◌, subst, arith}
 use Rattle.std.proofs.lemmas.List.{get_or_default, length-map, get_or-map}
 use Rattle.multigraph.specs.Graph.{Multigraph, edge_count, IsWithinLimits}
 use Rattle.pair_split.specs.Split.{items_of, IsTree, AreLinked}
-use Rattle.pair_split.specs.Tutte.{Node, components, node_at, node_item, piece_of}
+use Rattle.pair_split.specs.Tutte.{Node, components, node_at, piece_of}
 use Rattle.pair_split.specs.declared.components.Comp.{Comp}
 use Rattle.pair_split.specs.declared.components.Piece.{Piece}
 use Rattle.pair_split.specs.declared.components.Item.{Item}
 use Rattle.permutations.specs.Members.{is_member}
 use Rattle.pair_split.specs.declared.components.What.{What}
-use Rattle.pair_split.specs.declared.components.What.TheVariants.{Real, Link}
+use Rattle.pair_split.specs.declared.components.What.TheVariants.{Real}
 use Rattle.pair_split.proofs.GraphFamily.{one_block-tight}
 use Rattle.pair_split.proofs.NodeParts.{node-pieces}
 use Rattle.pair_split.proofs.Rerooted.{rerooted, rerooted-root}
 use Rattle.pair_split.proofs.Subtrees.{link-in}
 use Rattle.skeletons.specs.Items.{nth_item, IsBlockTree}
 use Rattle.spqr_tree.specs.Absent.{absent}
-use Rattle.spqr_tree.specs.Keys.{piece_at, parent_at, child, AreWithin, AddsChildren, IsOrder, AreOrdered}
+use Rattle.spqr_tree.specs.Keys.{piece_at, parent_at, child, AreWithin, AddsChildren, IsOrder}
 use Rattle.spqr_tree.proofs.FewComponents.{few-components}
 use Rattle.spqr_tree.proofs.OrderSteps.{order-grows}
 use Rattle.spqr_tree.proofs.KeySteps.{adds-more}

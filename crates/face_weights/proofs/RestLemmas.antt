@@ -4,24 +4,23 @@ use Rattle.std.proofs.lemmas.Bool.{cases_Bool, cases_eq, cases_lt, true≢false,
 use Rattle.std.proofs.Math.Nat.{max-eq_left, max-eq_right}
 use Rattle.permutations.specs.Count.{sum_below}
 use Rattle.permutations.proofs.Orbits.{orbit-equivalence}
-use Rattle.permutations.proofs.Sums.{sum_below-le, sum_below-term}
+use Rattle.permutations.proofs.Sums.{sum_below-le}
 use Rattle.multigraph.specs.Graph.{Multigraph, edge_count}
 use Rattle.dart_maps.specs.Map.{twin, face, same_face}
-use Rattle.dart_maps.proofs.Darts.{edge-twin, twin-even}
+use Rattle.dart_maps.proofs.Darts.{twin-even}
 use Rattle.faces.specs.Euler.{IsPlane}
 use Rattle.faces.specs.Maps.{dart_after}
 use Rattle.pair_split.specs.Tutte.{Node, node_at, node_item}
 use Rattle.pair_split.specs.declared.components.Kind.{Kind}
 use Rattle.pair_split.specs.declared.components.Kind.TheVariants.{S, P, R, B}
-use Rattle.pair_split.specs.declared.components.What.{What}
 use Rattle.pair_split.specs.declared.components.What.TheVariants.{Real, Link}
 use Rattle.pair_split.proofs.Groups.{what-cases}
 use Rattle.skeletons.specs.Items.{IsBlockTree}
 use Rattle.skeletons.specs.Families.{skeleton_graph, system_at, AreSkeletonSystems}
 use Rattle.skeleton_runs.proofs.SkeletonGraph.{graph-edges}
-use Rattle.skeleton_planes.proofs.SkeletonDarts.{dart-item, item-dart}
+use Rattle.skeleton_planes.proofs.SkeletonDarts.{item-dart}
 use Rattle.skeleton_faces.specs.Faces.{face_weight}
-use Rattle.face_weights.specs.Rests.{IsFaceRest, IsOtherMost, IsRest}
+use Rattle.face_weights.specs.Rests.{IsFaceRest, IsRest}
 use Rattle.face_weights.specs.Sums.{weight_in, AreFaceSums}
 use Rattle.face_weights.proofs.Terms.{two-terms}
 use Rattle.face_weights.proofs.FaceBounds.{face-same, face-bounded, face-twice, face-other, part}

@@ -1,21 +1,13 @@
--- The steps of the loops: sums along pairs, sums noted for darts, rests handed down.
-use Rattle.std.proofs.Common.{◌≡◌, ◌≢◌, ℕ, zero, suc, ◌+◌, ◌*◌, ◌/◌, ◌<◌, ◌≤◌, ◌⊎◌, List, [], ◌∷◌, length, take, map, replicate, slice_index_or, slice_set, inl, inr, refl, sym, ap, ◌∙◌, subst, arith}
+-- The steps of the loops: sums along pairs, sums noted for the darts of faces, the greatest of others.
+use Rattle.std.proofs.Common.{◌≡◌, ◌≢◌, ℕ, zero, suc, ◌+◌, ◌*◌, ◌<◌, ◌≤◌, ◌⊎◌, List, [], ◌∷◌, length, take, replicate, slice_index_or, inl, inr, refl, sym, ap, ◌∙◌, subst, arith}
 use Rattle.std.proofs.lemmas.Bool.{cases_eq, cases_lt}
-use Rattle.std.proofs.lemmas.List.{get_or-set_same, get_or-set_other, length-set}
 use Rattle.permutations.specs.Count.{sum_below}
 use Rattle.multigraph.specs.Graph.{Multigraph, IsGraph, edge_count}
 use Rattle.rotations.specs.Rotation.{IsRotationSystem}
-use Rattle.faces.specs.Euler.{dart_count, dart_from}
 use Rattle.faces.specs.Trace.{face_lists}
-use Rattle.faces.proofs.DartLemmas.{dart_from-edge, dart_from-below}
+use Rattle.faces.proofs.DartLemmas.{dart_from-edge}
 use Rattle.skeleton_faces.specs.Faces.{face_weight}
-use Rattle.pair_split.specs.declared.components.Item.{Item}
-use Rattle.pair_split.specs.declared.components.What.{What}
-use Rattle.pair_split.specs.declared.components.What.TheVariants.{Real, Link}
-use Rattle.pair_split.proofs.Groups.{what-cases}
-use Rattle.skeletons.specs.Items.{nth_item}
 use Rattle.face_weights.specs.Sums.{weight_in, weight_along, dart_at, IsNotedFor, AreSumsUpTo, AreFaceSums}
-use Rattle.face_weights.specs.Passes.{LinkOnce, AreHandedDown}
 use Rattle.face_weights.specs.Rests.{IsOtherMost}
 use Rattle.face_weights.proofs.FaceTotals.{listed-dart, listed-sum, listed-face, each-listed}
 use Rattle.face_weights.proofs.FaceBounds.{face-twice}
@@ -35,26 +27,6 @@ pub along-part : (weights : List ℕ) (pairs : List (ℕ × ℕ)) (i : ℕ) → 
 along-part weights [] i l = absurd (omega (arith, l))
 along-part weights (pair ∷ pairs) zero l = omega arith
 along-part weights (pair ∷ pairs) (suc i) l = omega (arith, along-part weights pairs i (omega (arith, l)))
-
--- the sum is noted for one dart more
-pub note-more : (g : Multigraph) (pairs : List (ℕ × ℕ)) (n total : ℕ) (old mid : List ℕ) → dart_at g pairs n < length mid → IsNotedFor g pairs n total old mid → IsNotedFor g pairs (n + 1) total old (slice_set mid (dart_at g pairs n) total)
-note-more g pairs n total old mid l a = record {
-  number = length-set mid (dart_at g pairs n) total ∙ a.number;
-  each = λ p m. elim (cases_eq (dart_at g pairs p) (dart_at g pairs n)) [
-    | inl e ↦ ap (λ z. slice_index_or (slice_set mid (dart_at g pairs n) total) z 0) e ∙ get_or-set_same mid (dart_at g pairs n) total 0 l
-    | inr d ↦ get_or-set_other mid (dart_at g pairs n) (dart_at g pairs p) total 0 d ∙ a.each p (before p m d)
-  ];
-  others = λ d. elim (cases_eq d (dart_at g pairs n)) [
-    | inl e ↦ inr (n, omega arith, sym e)
-    | inr f ↦ elim (a.others d) [
-      | inl same ↦ inl (get_or-set_other mid (dart_at g pairs n) d total 0 f ∙ same)
-      | inr w ↦ inr (w.0, omega (arith, w.1), w.2)
-    ]
-  ];
-}
-  where
-    before : (p : ℕ) → p < n + 1 → dart_at g pairs p ≢ dart_at g pairs n → p < n
-    before p m d = elim (cases_lt p n) [ inl x ↦ x | inr x ↦ absurd (d (ap (dart_at g pairs) (let e : p ≡ n = omega (arith, m, x) in e))) ]
 
 -- a graph with a rotation system
 module _ (g : Multigraph) (r : List (List ℕ)) (ok : IsGraph g) (system : IsRotationSystem g r) (weights : List ℕ) where
@@ -94,41 +66,6 @@ module _ (g : Multigraph) (r : List (List ℕ)) (ok : IsGraph g) (system : IsRot
     each = λ d m. let w = each-listed g r ok system weights d m in
         subst (λ z. slice_index_or sums z 0 ≡ face_weight g r (weight_in weights) z) w.4 (s.each w.0 w.1 (omega (arith, l, w.2)) w.2 w.3);
   }
-
--- one item more: its rest is noted for the child
-pub hand-take : (items : List Item) (parent : ℕ) (rests : List ℕ) (n j : ℕ) (old mid : List ℕ) → LinkOnce items → n < length items → (nth_item items n).what ≡ Link j → j ≢ parent → j < length mid → AreHandedDown items parent rests n old mid
-    → AreHandedDown items parent rests (n + 1) old (slice_set mid j (slice_index_or rests n 0))
-hand-take items parent rests n j old mid once l w child m a = record {
-  number = length-set mid j (slice_index_or rests n 0) ∙ a.number;
-  each = λ i t b v d. elim (cases_eq t j) [
-    | inl e ↦
-        let same : i ≡ n = once i n j (omega (arith, b, l)) l (v ∙ ap Link e) w in
-        ap (λ z. slice_index_or (slice_set mid j (slice_index_or rests n 0)) z 0) e ∙ get_or-set_same mid j (slice_index_or rests n 0) 0 m ∙ ap (λ z. slice_index_or rests z 0) (sym same)
-    | inr f ↦ get_or-set_other mid j t (slice_index_or rests n 0) 0 f ∙ a.each i t (elim (cases_lt i n) [ inl x ↦ x | inr x ↦ absurd (f (same-link i t (let e : i ≡ n = omega (arith, b, x) in e) v)) ]) v d
-  ];
-  others = λ x h. elim (cases_eq x j) [
-    | inl e ↦ absurd (child (sym e ∙ h n (omega arith) (w ∙ ap Link (sym e))))
-    | inr f ↦ get_or-set_other mid j x (slice_index_or rests n 0) 0 f ∙ a.others x (λ i b v. h i (omega (arith, b)) v)
-  ];
-}
-  where
-    number : What → ℕ
-    number (Real e) = e
-    number (Link t) = t
-
-    same-link : (i t : ℕ) → i ≡ n → (nth_item items i).what ≡ Link t → t ≡ j
-    same-link i t e v = ap number (sym v ∙ ap (λ z. (nth_item items z).what) e ∙ w)
-
--- an item that is no link to a child
-pub hand-skip : (items : List Item) (parent : ℕ) (rests : List ℕ) (n : ℕ) (old mid : List ℕ) → ((j : ℕ) → (nth_item items n).what ≡ Link j → j ≡ parent) → AreHandedDown items parent rests n old mid → AreHandedDown items parent rests (n + 1) old mid
-hand-skip items parent rests n old mid none a = record {
-  number = a.number;
-  each = λ i j b v d. elim (cases_lt i n) [
-    | inl x ↦ a.each i j x v d
-    | inr x ↦ let e : i ≡ n = omega (arith, b, x) in absurd (d (none j (ap (λ z. (nth_item items z).what) (sym e) ∙ v)))
-  ];
-  others = λ x h. a.others x (λ i b v. h i (omega (arith, b)) v);
-}
 
 -- a list of one number
 pub zeros : (n k z : ℕ) → slice_index_or (replicate n z) k z ≡ z

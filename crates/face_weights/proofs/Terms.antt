@@ -1,8 +1,8 @@
 -- Sums over numbers: two terms of one, sums over darts and over edges, sums that differ at one place, and how many pass a test.
-use Rattle.std.proofs.Common.{◌≡◌, ◌≢◌, ℕ, zero, suc, ◌+◌, ◌*◌, ◌/◌, ◌<◌, ◌≤◌, ◌⊎◌, Bool, true, false, not, cond, inl, inr, refl, sym, ap, ◌∙◌, subst, arith}
-use Rattle.std.proofs.lemmas.Bool.{cases_Bool, cases_eq, cases_lt, true≢false}
+use Rattle.std.proofs.Common.{◌≡◌, ◌≢◌, ℕ, zero, suc, ◌+◌, ◌*◌, ◌<◌, ◌≤◌, Bool, true, false, not, inl, inr, refl, ap, ◌∙◌, arith}
+use Rattle.std.proofs.lemmas.Bool.{cases_Bool, cases_lt}
 use Rattle.permutations.specs.Count.{count, sum_below}
-use Rattle.permutations.proofs.Sums.{sum_below-ext, sum_below-add, sum_below-le, sum_below-term, sum_below-const, count-exchange}
+use Rattle.permutations.proofs.Sums.{sum_below-add, sum_below-le, sum_below-term, sum_below-const, count-exchange}
 
 -- the sum over the darts of m edges
 pub sum-pairs : (f : ℕ → ℕ) (m n : ℕ) → n ≡ 2 * m → sum_below n f ≡ sum_below m (λ i. f (2 * i) + f (2 * i + 1))

@@ -1,22 +1,21 @@
 -- The pass up: the weight of the link to one node more.
-use Rattle.std.proofs.Common.{◌≡◌, ◌≢◌, ℕ, ◌+◌, ◌-◌, ◌*◌, ◌<◌, ◌≤◌, ◌⊎◌, List, [], length, slice_index_or, slice_set, inl, inr, refl, sym, ap, ◌∙◌, subst, arith}
+use Rattle.std.proofs.Common.{◌≡◌, ◌≢◌, ℕ, ◌+◌, ◌*◌, ◌<◌, ◌≤◌, List, [], length, slice_index_or, slice_set, inl, inr, sym, ap, ◌∙◌, subst, arith}
 use Rattle.std.proofs.lemmas.Bool.{cases_eq}
-use Rattle.std.proofs.lemmas.List.{get_or-set_same, get_or-set_other, length-set}
-use Rattle.multigraph.specs.Graph.{Multigraph, edge_count}
+use Rattle.std.proofs.lemmas.List.{get_or-set_same, get_or-set_other}
+use Rattle.multigraph.specs.Graph.{Multigraph}
 use Rattle.faces.specs.Euler.{IsPlane}
 use Rattle.pair_split.specs.Tutte.{Node, node_at, node_item}
 use Rattle.pair_split.specs.declared.components.What.{What}
-use Rattle.pair_split.specs.declared.components.What.TheVariants.{Real, Link}
+use Rattle.pair_split.specs.declared.components.What.TheVariants.{Link}
 use Rattle.pair_split.proofs.Groups.{what-cases}
 use Rattle.skeletons.specs.Items.{IsBlockTree}
 use Rattle.skeletons.specs.Families.{skeleton_graph, system_at, AreSkeletonSystems}
 use Rattle.spqr_tree.specs.Keys.{parent_at}
-use Rattle.face_weights.specs.Weights.{weight_by}
 use Rattle.face_weights.specs.Rests.{IsRest}
 use Rattle.face_weights.specs.Passes.{IsOrderOf, weights_at, group_size, AreLight, AreBelow}
 use Rattle.face_weights.proofs.RestLemmas.{rest-other}
 use Rattle.face_weights.proofs.GroupSizes.{rest-group, edge-group}
-use Rattle.face_weights.proofs.InOrder.{weight-edge, weight-up, weight-down, node-at, place-once, link-node, link-from, child-parent, child-apart}
+use Rattle.face_weights.proofs.InOrder.{weight-edge, weight-up, weight-down, node-at, place-once, link-from, child-parent, child-apart}
 
 -- at first each link weighs nothing
 pub light-first : (nodes : List Node) (parents below above : List ℕ) → ((k : ℕ) → slice_index_or below k 0 ≡ 0) → ((k : ℕ) → slice_index_or above k 0 ≡ 0) → AreLight nodes parents below above

@@ -1,21 +1,20 @@
 -- After both passes the weights bound the faces, and each is reached.
-use Rattle.std.proofs.Common.{◌≡◌, ◌≢◌, ℕ, ◌+◌, ◌*◌, ◌/◌, ◌<◌, ◌≤◌, ◌⊎◌, List, length, map, slice_index_or, inl, inr, refl, sym, ap, ◌∙◌, subst, arith}
+use Rattle.std.proofs.Common.{◌≡◌, ◌≢◌, ℕ, ◌+◌, ◌/◌, ◌<◌, List, length, map, slice_index_or, inl, inr, refl, sym, ap, ◌∙◌, subst, arith}
 use Rattle.std.proofs.lemmas.Bool.{cases_eq}
 use Rattle.std.proofs.lemmas.List.{length-map}
-use Rattle.multigraph.specs.Graph.{Multigraph, edge_count}
+use Rattle.multigraph.specs.Graph.{Multigraph}
 use Rattle.faces.specs.Euler.{IsPlane}
 use Rattle.pair_split.specs.Tutte.{Node, node_at, node_item, piece_of}
-use Rattle.pair_split.specs.declared.components.Kind.TheVariants.{P}
 use Rattle.pair_split.specs.declared.components.What.{What}
-use Rattle.pair_split.specs.declared.components.What.TheVariants.{Real, Link}
+use Rattle.pair_split.specs.declared.components.What.TheVariants.{Link}
 use Rattle.pair_split.proofs.Groups.{what-cases}
 use Rattle.skeletons.specs.Items.{IsBlockTree}
 use Rattle.skeletons.specs.Families.{skeleton_graph, system_at, AreSkeletonSystems}
 use Rattle.skeleton_planes.proofs.SkeletonDarts.{dart-item}
-use Rattle.skeleton_faces.specs.Faces.{skeleton_weight, IsSkeletonDart, AreAcross}
+use Rattle.skeleton_faces.specs.Faces.{IsSkeletonDart, AreAcross}
 use Rattle.spqr_tree.specs.Keys.{parent_at}
-use Rattle.face_weights.specs.Weights.{Weighing, weight_by, weight_of}
-use Rattle.face_weights.specs.Reached.{AreReached, IsTop, AreWeights}
+use Rattle.face_weights.specs.Weights.{Weighing, weight_of}
+use Rattle.face_weights.specs.Reached.{AreWeights}
 use Rattle.face_weights.specs.Rests.{IsRest}
 use Rattle.face_weights.specs.Passes.{IsOrderOf, weights_at, AreBelow, IsDone, IsMost, AreDone}
 use Rattle.face_weights.proofs.RestLemmas.{rest-once, rest-other}

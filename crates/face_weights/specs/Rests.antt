@@ -1,11 +1,11 @@
 -- What a node adds to the weight of one of its items: the rest of the heaviest face that has it.
-use Rattle.std.specs.Prelude.{◌≡◌, ◌≢◌, ℕ, ◌+◌, ◌*◌, ◌/◌, ◌<◌, ◌≤◌, List, length}
+use Rattle.std.specs.Prelude.{◌≡◌, ◌≢◌, ℕ, ◌+◌, ◌/◌, ◌<◌, ◌≤◌, List, length}
 use Rattle.multigraph.specs.Graph.{Multigraph}
 use Rattle.faces.specs.Euler.{dart_count}
 use Rattle.pair_split.specs.Tutte.{Node, node_at}
 use Rattle.pair_split.specs.declared.components.Kind.TheVariants.{P}
 use Rattle.skeletons.specs.Families.{skeleton_graph, system_at}
-use Rattle.skeleton_faces.specs.Faces.{face_weight, skeleton_weight}
+use Rattle.skeleton_faces.specs.Faces.{face_weight}
 
 -- `rest` is the weight of the heaviest face of a rotation system that has item i, without the item
 pub record IsFaceRest (g : Multigraph) (r : List (List ℕ)) (weight : ℕ → ℕ) (i rest : ℕ) : Type 0 where

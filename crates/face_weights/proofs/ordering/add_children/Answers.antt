@@ -1,7 +1,6 @@
-use Rattle.std.proofs.Common.{◌≡◌, ◌<◌, ℕ, length, map, slice_index_or, sym, ap, ◌∙◌, subst, arith}
+use Rattle.std.proofs.Common.{◌<◌, slice_index_or, sym, ◌∙◌, subst}
 use Rattle.std.proofs.lemmas.List.{length-map}
 use Rattle.pair_split.specs.Tutte.{piece_of}
-use Rattle.spqr_tree.proofs.KeySteps.{adds-more}
 use Rattle.face_weights.proofs.OrderCode.{piece-what, adds-item}
 use Rattle.face_weights.proofs.ordering.add_children.Goals as goal
 

@@ -1,8 +1,8 @@
-use Rattle.std.proofs.Common.{◌+◌, ◌≡◌, ◌<◌, Vec, Global, sym, ap, ◌∙◌, subst, arith, List, ℕ, length, map}
+use Rattle.std.proofs.Common.{◌+◌, Vec, Global, sym, ap, ◌∙◌, subst, arith, List, ℕ, length, map}
 use Rattle.pair_split.specs.Tutte.{components, piece_of}
 use Rattle.pair_split.specs.declared.components.Item.{Item}
 use Rattle.spqr_tree.specs.Keys.{IsOrder, AreWithin, AddsChildren, parent_at}
-use Rattle.face_weights.proofs.OrderCode.{links-within, order-node, parents-number, order-past, order-more, order-all}
+use Rattle.face_weights.proofs.OrderCode.{links-within, order-node, order-past, order-more, order-all}
 use Rattle.face_weights.proofs.ordering.order_of.Goals.{then-i-len+in_ok-add_children, else-i-len}
 use Rattle.face_weights.proofs.ordering.order_of.Goals as goal
 

@@ -1,4 +1,4 @@
-use Rattle.std.proofs.Common.{ℕ, ◌<◌, length, arith}
+use Rattle.std.proofs.Common.{length}
 use Rattle.face_weights.specs.Sums.{weight_in}
 use Rattle.face_weights.proofs.Steps.{other-found}
 use Rattle.face_weights.proofs.rests.heaviest_other.Goals as goal

@@ -1,4 +1,4 @@
-use Rattle.std.proofs.Common.{◌+◌, ◌∙◌, sym, ap, arith}
+use Rattle.std.proofs.Common.{arith}
 use Rattle.face_weights.proofs.Steps.{along-more, along-part}
 use Rattle.face_weights.proofs.sums.total.Goals as goal
 

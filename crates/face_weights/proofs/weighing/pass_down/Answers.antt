@@ -1,7 +1,7 @@
-use Rattle.std.proofs.Common.{◌≡◌, ◌≢◌, ◌<◌, ◌≤◌, ◌*◌, ◌+◌, ◌-◌, ◌++◌, ℕ, List, [], length, take, drop, replicate, slice_index_or, inl, inr, refl, sym, ap, ◌∙◌, subst, arith}
+use Rattle.std.proofs.Common.{◌≡◌, ◌<◌, ◌≤◌, ◌*◌, ◌+◌, ◌++◌, ℕ, List, length, take, drop, slice_index_or, inl, inr, refl, sym, ap, ◌∙◌, subst, arith}
 use Rattle.std.proofs.lemmas.Bool.{cases_eq}
 use Rattle.std.proofs.lemmas.Grind.{common_steps}
-use Rattle.std.proofs.lemmas.List.{get_or_default, length-replicate}
+use Rattle.std.proofs.lemmas.List.{get_or_default}
 use Rattle.permutations.specs.Count.{sum_below}
 use Rattle.multigraph.specs.Graph.{max_edges}
 use Rattle.pair_split.specs.declared.components.Item.{Item}
@@ -10,11 +10,9 @@ use Rattle.face_weights.specs.Rests.{IsRest}
 use Rattle.face_weights.specs.Passes.{weights_at, AreLight, AreHandedDown, AreDone}
 use Rattle.spqr_tree.specs.Keys.{parent_at}
 use Rattle.pair_split.specs.Tutte.{node_at}
-use Rattle.face_weights.proofs.Steps.{zeros}
 use Rattle.face_weights.proofs.InOrder.{node-at}
 use Rattle.face_weights.proofs.RestLemmas.{rest-total}
 use Rattle.face_weights.proofs.NodeCode.{node-some, weights-few, items-within, items-once, items-weights}
-use Rattle.face_weights.proofs.UpSteps.{light-first}
 use Rattle.face_weights.proofs.DownSteps.{light-down, done-greater, done-less}
 use Rattle.face_weights.proofs.weighing.pass_down.Goals.{then-most-sum, else-most-sum}
 use Rattle.face_weights.proofs.weighing.pass_down.Goals as goal

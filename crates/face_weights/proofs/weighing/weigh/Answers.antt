@@ -1,7 +1,7 @@
-use Rattle.std.proofs.Common.{◌≡◌, ◌++◌, ℕ, List, length, take, drop, sym, ap, ◌∙◌, subst, arith}
+use Rattle.std.proofs.Common.{◌≡◌, ◌++◌, ℕ, List, length, take, drop, sym, subst, arith}
 use Rattle.std.proofs.lemmas.Grind.{common_steps}
 use Rattle.face_weights.specs.Reached.{AreWeights}
-use Rattle.face_weights.specs.Passes.{IsOrderOf, AreBelow, AreDone}
+use Rattle.face_weights.specs.Passes.{AreBelow, AreDone}
 use Rattle.face_weights.proofs.Weighed.{weighed}
 use Rattle.face_weights.proofs.weighing.weigh.Goals as goal
 

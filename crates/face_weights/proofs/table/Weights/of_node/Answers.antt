@@ -1,4 +1,4 @@
-use Rattle.std.proofs.Common.{◌≡◌, ◌<◌, ℕ, List, length, sym, ap, ◌∙◌, subst}
+use Rattle.std.proofs.Common.{◌<◌, ℕ, List, length, sym, ap, ◌∙◌, subst}
 use Rattle.face_weights.specs.Weights.{Weighing}
 use Rattle.face_weights.proofs.NodeCode.{items-within}
 use Rattle.face_weights.proofs.table.Weights.of_node.Goals as goal
