@@ -1,8 +1,8 @@
 -- A bridge tried: what is drawn stays right, and where no corner fits the graph has no plane rotation system.
-use Rattle.std.proofs.Common.{◌≡◌, ◌∙◌, ℕ, true, ◌/◌, ◌<◌, ◌≤◌, inl, inr, Bool, cond, List, ◌∷◌, length, slice_index, refl, sym, subst, arith}
+use Rattle.std.proofs.Common.{◌≡◌, ◌∙◌, ℕ, true, ◌/◌, ◌<◌, ◌≤◌, inl, inr, Bool, cond, List, ◌∷◌, length, slice_index, sym, subst, arith}
 use Rattle.std.proofs.lemmas.Bool.{cases_Bool, or_left, or_right}
 use Rattle.permutations.specs.Members.{is_member}
-use Rattle.permutations.proofs.Count.{count-less, count-within}
+use Rattle.permutations.proofs.Count.{count-less}
 use Rattle.permutations.proofs.Members.{member-head}
 use Rattle.multigraph.specs.Graph.{Multigraph, edge_count, IsGraph}
 use Rattle.multigraph.specs.Marks.{is_marked}
@@ -78,10 +78,3 @@ pub more-then : (g : Multigraph) (before after last : List Bool) (tried : Tried)
 more-then g before after last NotPlanar h l = omega (arith, h, l)
 more-then g before after last Drawn h l = omega (arith, h, l)
 more-then g before after last Passed h l = omega (arith, h, l)
-
--- where as many edges are drawn as there are, all are
-pub all-drawn : (g : Multigraph) (drawn : List Bool) → edge_count g ≤ drawn_count g drawn → (e : ℕ) → e < edge_count g → is_marked drawn e ≡ true
-all-drawn g drawn l e i = elim (cases_Bool (is_marked drawn e)) [
-  | inl h ↦ h
-  | inr h ↦ absurd (omega (arith, l, count-less (edge_count g) (is_marked drawn) (λ x. true) e (λ x j k. refl) i h refl, count-within (edge_count g) (λ x. true)))
-]

@@ -1,6 +1,6 @@
 -- A face walked along, dart after dart, until it is back where it began: labels written on the way are those of just this face.
-use Rattle.std.proofs.Common.{◌≡◌, ◌≢◌, ℕ, zero, suc, ◌+◌, ◌-◌, ◌*◌, ◌<◌, ◌≤◌, ◌⊎◌, inl, inr, Bool, true, false, ◌||◌, ◌==◌, if◌then◌else◌, List, length, slice_index, refl, sym, ap, ◌∙◌, subst, arith}
-use Rattle.std.proofs.lemmas.Bool.{cases_Bool, cases_eq, cases_lt, both_ways, or_cases, or_left, or_right, eq-eqb, eqb-true, ne_eqb, false_from_ne_true}
+use Rattle.std.proofs.Common.{◌≡◌, ◌≢◌, ℕ, zero, suc, ◌+◌, ◌-◌, ◌<◌, ◌≤◌, ◌⊎◌, inl, inr, Bool, true, false, ◌||◌, ◌==◌, if◌then◌else◌, List, length, slice_index, refl, sym, ap, ◌∙◌, subst, arith}
+use Rattle.std.proofs.lemmas.Bool.{cases_Bool, cases_eq, cases_lt, both_ways, or_right, eq-eqb, eqb-true, ne_eqb, false_from_ne_true}
 use Rattle.std.proofs.lemmas.List.{get_or-set_same, get_or-set_other}
 use Rattle.std.proofs.Math.ListN.{set}
 use Rattle.permutations.specs.Count.{some}
@@ -9,7 +9,7 @@ use Rattle.permutations.specs.Permutation.{Permutes, iterate, same_orbit}
 use Rattle.permutations.proofs.Search.{some-from, some-witness, some-more}
 use Rattle.permutations.proofs.Relation.{same-tests}
 use Rattle.permutations.proofs.Orbits.{orbit-equivalence, orbit-step}
-use Rattle.permutations.proofs.Iterates.{iterate-more, iterate-sum, iterate-orbit, orbit-steps}
+use Rattle.permutations.proofs.Iterates.{iterate-sum, iterate-orbit, orbit-steps}
 use Rattle.path_rotation.proofs.PathTables.{if-true, if-false}
 
 -- the first k numbers from a start on, along f, have its label, and all others the one that they had

@@ -1,19 +1,18 @@
 -- The lists of the map of a rotation system are this rotation system.
-use Rattle.std.proofs.Common.{◌≡◌, ◌≢◌, ◌∙◌, ℕ, zero, suc, ◌+◌, ◌/◌, ◌<◌, ◌≤◌, ◌==◌, inl, inr, true, false, List, [], ◌∷◌, ◌++◌, length, get_or, slice_index, IsPermutation, refl, sym, ap, subst, add-one, arith}
+use Rattle.std.proofs.Common.{◌≡◌, ◌∙◌, ℕ, zero, suc, ◌+◌, ◌/◌, ◌<◌, ◌==◌, inl, inr, true, List, [], ◌∷◌, ◌++◌, length, get_or, slice_index, IsPermutation, refl, sym, ap, subst, arith}
 use Rattle.std.proofs.lemmas.Bool.{cases_lt, eq-eqb, ne_eqb, cond-true, cond-false, both_ways}
 use Rattle.std.proofs.lemmas.List.{same_lists, length-append, append-nil, get_or_default, get_or_append_left, get_or_push}
 use Rattle.std.proofs.lemmas.Grind.{same_number_lists}
-use Rattle.permutations.specs.Cyclic.{first_or, successor, successor_from, turned}
+use Rattle.permutations.specs.Cyclic.{first_or, successor_from, turned}
 use Rattle.permutations.specs.Permutation.{iterate}
 use Rattle.permutations.specs.Members.{is_member, is_distinct}
 use Rattle.permutations.proofs.Arrangements.{length-from_members, member-at, permutation-member}
-use Rattle.permutations.proofs.Iterates.{iterate-more}
 use Rattle.permutations.proofs.Members.{member-head, distinct-head, distinct-tail}
 use Rattle.permutations.proofs.Turned.{turned-cut}
-use Rattle.multigraph.specs.Graph.{Multigraph, edge_count, is_end, incident_edges, IsGraph}
+use Rattle.multigraph.specs.Graph.{Multigraph, incident_edges, IsGraph}
 use Rattle.multigraph.proofs.DartEnds.{dart_from-edge, dart_from-below}
 use Rattle.rotations.specs.Rotation.{order_at, IsRotationSystem}
-use Rattle.rotations.specs.Entries.{entry, list_at, IsNamed}
+use Rattle.rotations.specs.Entries.{entry, list_at}
 use Rattle.rotations.specs.Given.{IsBad, given_order}
 use Rattle.rotations.proofs.Cursor.{list_at-found}
 use Rattle.rotations.proofs.Membership.{incident-distinct, member-edge, member-end}

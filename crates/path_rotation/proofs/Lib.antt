@@ -18,7 +18,3 @@ mod Begun
 mod BoardSteps
 mod Assembled
 mod Finished
-mod Attached
-mod Settled
-mod LastLook
-mod FreeLabels

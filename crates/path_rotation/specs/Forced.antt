@@ -1,6 +1,6 @@
 -- A part of a graph that is drawn: its map of darts, and what a plane rotation system of the whole graph has to do with it.
 -- The corner of a drawn dart lies between this dart and the next drawn one around its vertex, in the face of its twin.
-use Rattle.std.specs.Prelude.{◌≡◌, ℕ, ◌*◌, ◌/◌, ◌<◌, ◌⊎◌, Bool, true, false, ◌&&◌, ◌||◌, if◌then◌else◌, List, [], ◌∷◌, length, slice_index}
+use Rattle.std.specs.Prelude.{◌≡◌, ℕ, ◌*◌, ◌/◌, ◌<◌, ◌⊎◌, Bool, true, false, ◌&&◌, ◌||◌, if◌then◌else◌, List, ◌∷◌, length, slice_index}
 use Rattle.permutations.specs.Count.{some}
 use Rattle.permutations.specs.Members.{is_member}
 use Rattle.permutations.specs.Exchange.{restricted}
@@ -10,7 +10,7 @@ use Rattle.graph_theory.specs.Path.{walk_vertices, IsPath}
 use Rattle.graph_theory.specs.Joined.{joined_where}
 use Rattle.dart_maps.specs.Map.{twin, face, same_face, IsMap}
 use Rattle.dart_maps.specs.Path.{path_inserted}
-use Rattle.faces.specs.Euler.{tail, dart_from, dart_count, IsPlaneSystem}
+use Rattle.faces.specs.Euler.{tail, dart_count, IsPlaneSystem}
 use Rattle.faces.specs.Maps.{dart_after}
 use Rattle.path_separation.specs.Drawn.{IsDrawing, darts_along}
 

@@ -4,5 +4,4 @@ pub mod Fitting
 pub mod Search
 pub mod Finish
 pub mod Insertion
-pub mod Settling
 pub mod Outcome

@@ -12,8 +12,13 @@ pub loop-t-preserved : goal.loop-t-preserved
 loop-t-preserved c = elim c.if-is_waiting.branch [
   | then-is_waiting+in_ok-attempt+in-Drawn w ↦
       rw (w.board-is, w.fits-is, w.first-is, w.outcome-is)
-      (record { board = w.in_ok-attempt.ensures.board; room = w.in_ok-attempt.ensures.room; turns = λ h. absurd (false≢true h); tried = tt;
-        more = omega (arith, more-least c.args.g.now c.args.board.now.drawn.items c.loop-t.board.drawn.items c.loop-t.outcome c.loop-t.invariant.more, subst (IsMoreDrawn c.args.g.now c.loop-t.board.drawn.items w.attempt.new.board.drawn.items) w.in-Drawn.is w.in_ok-attempt.ensures.more) })
+      (record {
+        board = w.in_ok-attempt.ensures.board;
+        room = w.in_ok-attempt.ensures.room;
+        turns = λ h. absurd (false≢true h);
+        tried = tt;
+        more = omega (arith, more-least c.args.g.now c.args.board.now.drawn.items c.loop-t.board.drawn.items c.loop-t.outcome c.loop-t.invariant.more, subst (IsMoreDrawn c.args.g.now c.loop-t.board.drawn.items w.attempt.new.board.drawn.items) w.in-Drawn.is w.in_ok-attempt.ensures.more);
+      })
   | then-is_waiting+in_ok-attempt+in-Passed w ↦
       rw (w.board-is, w.fits-is, w.first-is, w.outcome-is)
       (record {

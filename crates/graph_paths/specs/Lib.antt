@@ -1,4 +1,0 @@
--- Paths in graphs.
-pub mod Along
-pub mod Listing
-pub mod Search
