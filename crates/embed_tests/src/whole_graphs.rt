@@ -31,7 +31,12 @@ fn member_of(
     let part = graph.part(alloc, blocks.edges(b))?;
     let comps = PairSplitter::new().split(alloc, part.graph())?;
     let tree = Tree::assemble(alloc, part.graph(), comps)?;
-    match plane_block(alloc, part.graph().copy(alloc)?, tree, &mut ContractEmbedder)? {
+    match plane_block(
+        alloc,
+        part.graph().copy(alloc)?,
+        tree,
+        &mut ContractEmbedder,
+    )? {
         Outcome::Plane(plane) => {
             plane.belongs();
             Ok(Some(Member {

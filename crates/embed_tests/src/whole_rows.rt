@@ -149,6 +149,78 @@ static TURNED: Stretch = Stretch {
     ],
 };
 
+// A vertex, a list for it, and what is told of this.
+type Given = (u32, Order, (u32, u32, u32));
+
+// Whether lists are given to `set` or to `regroup`, the lists, and the place of the member that is there after them.
+type Stage = (bool, &'static [Given], usize);
+
+static CHAIN_STAGES: [Stage; 3] = [
+    (
+        false,
+        &[
+            (0, &[0, 3, 2, 5], (17, 0, 1)),
+            (0, &[0, 2, 3], (6, 0, 0)),
+            (0, &[0, 2, 3, 3], (6, 0, 0)),
+            (4, &[4, 5, 7], (6, 4, 0)),
+            (1, &[0, 1], (15, 0, 0)),
+        ],
+        0,
+    ),
+    (false, &[(0, &[3, 2, 0, 5], (0, 0, 0))], 6),
+    (
+        false,
+        &[(0, &[2, 5, 3, 0], (0, 0, 0)), (4, &[5, 4, 6], (0, 0, 0))],
+        3,
+    ),
+];
+
+static CHAIN_SET: [Stage; 3] = [
+    (true, &[(4, &[6, 5, 4], (0, 0, 0))], 1),
+    (
+        true,
+        &[
+            (0, &[0, 3, 2, 5], (17, 0, 1)),
+            (0, &[0, 5, 3, 2], (0, 0, 0)),
+        ],
+        7,
+    ),
+    (true, &[(0, &[0, 2, 3, 5], (0, 0, 0))], 1),
+];
+
+static HUB_GIVEN: [Given; 3] = [
+    (0, &[0, 6, 2, 8, 3, 5], (17, 0, 2)),
+    (0, &[0, 2, 3, 6, 5, 8], (17, 1, 2)),
+    (0, &[6, 0, 3, 2, 8, 5], (17, 0, 1)),
+];
+
+static FOUR_GIVEN: [Given; 1] = [(0, &[0, 2, 1, 6, 8], (16, 0, 0))];
+
+static TWO_GIVEN: [Given; 5] = [
+    (0, &[0, 1, 2, 6, 8, 7], (16, 1, 0)),
+    (0, &[0, 2, 1, 6, 8, 7], (16, 0, 0)),
+    (0, &[0, 6, 1, 8, 7, 2], (16, 1, 0)),
+    (0, &[0, 6, 1, 7, 2, 8], (17, 0, 1)),
+    (0, &[7, 8, 6, 1, 2, 0], (0, 0, 0)),
+];
+
+// How often the walk advances, the place of the member that is there then, how many of those after it are wanted, and how many
+// there are.
+type Wanted = (u32, usize, u32, usize);
+
+static CHAIN_LISTED: [Wanted; 10] = [
+    (0, 0, 0, 0),
+    (0, 0, 1, 1),
+    (0, 0, 3, 3),
+    (0, 0, 6, 6),
+    (0, 0, 7, 7),
+    (0, 0, 8, 7),
+    (0, 0, 10000, 7),
+    (3, 3, 3, 3),
+    (0, 3, 5, 4),
+    (4, 7, 5, 0),
+];
+
 // The graph of these edges with its blocks in the plane.
 fn placed(alloc: Global, vertices: u32, ends: &[(u32, u32)]) -> Result<Placed, Fail> {
     match Placed::of(alloc, vertices, ends)? {
@@ -198,7 +270,12 @@ fn is_member(lists: &Lists, rounds: &'static [Order], member: &'static [(u32, Or
 }
 
 // Whether the walk stands at member `i` of a stretch.
-fn stands_at(alloc: Global, walk: &Walk, stretch: &'static Stretch, i: usize) -> Result<bool, Fail> {
+fn stands_at(
+    alloc: Global,
+    walk: &Walk,
+    stretch: &'static Stretch,
+    i: usize,
+) -> Result<bool, Fail> {
     match stretch.members.get(i) {
         Some(member) => Ok(is_member(&walk.lists(alloc)?, stretch.rounds, *member)),
         None => Ok(false),
@@ -256,6 +333,42 @@ fn steps(walk: &mut Walk, limit: u32) -> u32 {
     limit
 }
 
+// Whether the walk lists and reaches what a table wants.
+fn lists_as(
+    alloc: Global,
+    walk: &mut Walk,
+    stretch: &'static Stretch,
+    rows: &'static [Wanted],
+) -> Result<bool, Fail> {
+    for (times, place, n, found) in rows {
+        if steps(walk, *times) != *times || !stands_at(alloc, walk, stretch, *place)? {
+            return Ok(false);
+        }
+        if listed(alloc, walk, *n, stretch, place.saturating_add(1))? != Some(*found) {
+            return Ok(false);
+        }
+    }
+    Ok(true)
+}
+
+// Whether the members of the first component of a graph, from the present one on, are those of a stretch, listed and walked through.
+fn has_members(alloc: Global, graph: &Placed, stretch: &'static Stretch) -> Result<bool, Fail> {
+    let mut walk = first_of(alloc, graph, 0)?;
+    let last = stretch.members.len().saturating_sub(1);
+    if listed(alloc, &walk, 100, stretch, 1)? != Some(last) {
+        return Ok(false);
+    }
+    if !goes_through(alloc, &mut walk, stretch, 0)? || walk.step() {
+        return Ok(false);
+    }
+    stands_at(alloc, &walk, stretch, last)
+}
+
+// How many members follow in the first component of a graph, up to 100.
+fn count_after(alloc: Global, graph: &Placed) -> Result<u32, Fail> {
+    Ok(steps(&mut first_of(alloc, graph, 0)?, 100))
+}
+
 // What is told of a list for a cut vertex: 0 where it is taken, 15 where there is no cut vertex, else the refusal by the number that
 // is printed for it, and its numbers.
 fn told(answer: Result<bool, RegroupFault>) -> (u32, u32, u32) {
@@ -269,63 +382,62 @@ fn told(answer: Result<bool, RegroupFault>) -> (u32, u32, u32) {
     }
 }
 
+// Whether of each list is told what a table has.
+fn answers(alloc: Global, walk: &mut Walk, by_set: bool, rows: &'static [Given]) -> bool {
+    for (v, edges, wanted) in rows {
+        let answer = if by_set {
+            walk.set(alloc, *v, *edges)
+        } else {
+            walk.regroup(alloc, *v, *edges)
+        };
+        if told(answer) != *wanted {
+            return false;
+        }
+    }
+    true
+}
+
+// Whether all stages end as a table has it.
+fn passes(
+    alloc: Global,
+    walk: &mut Walk,
+    stretch: &'static Stretch,
+    stages: &'static [Stage],
+) -> Result<bool, Fail> {
+    for (by_set, rows, place) in stages {
+        if !answers(alloc, walk, *by_set, *rows) || !stands_at(alloc, walk, stretch, *place)? {
+            return Ok(false);
+        }
+    }
+    Ok(true)
+}
+
 #[test]
 fn walks_through_a_chain(rt: HostRuntime) -> Result<(), Fail> {
-    let mut walk = begin(rt.alloc(), 7, &CHAIN_ENDS)?;
-    assert_eq!(rt; walk.cut_count(), 2);
-    assert!(rt; goes_through(rt.alloc(), &mut walk, &CHAIN, 0)?);
-    assert!(rt; !walk.step());
-    assert!(rt; stands_at(rt.alloc(), &walk, &CHAIN, 7)?);
-    assert!(rt; !walk.step());
+    let graph = placed(rt.alloc(), 7, &CHAIN_ENDS)?;
+    assert!(rt; has_members(rt.alloc(), &graph, &CHAIN)?);
     Ok(())
 }
 
 #[test]
 fn lists_what_follows(rt: HostRuntime) -> Result<(), Fail> {
     let mut walk = begin(rt.alloc(), 7, &CHAIN_ENDS)?;
-    for n in [0u32, 1, 3, 6, 7] {
-        assert!(rt; listed(rt.alloc(), &walk, n, &CHAIN, 1)? == Some(n as usize));
-    }
-    assert!(rt; listed(rt.alloc(), &walk, 8, &CHAIN, 1)? == Some(7));
-    assert!(rt; listed(rt.alloc(), &walk, 10000, &CHAIN, 1)? == Some(7));
-    assert!(rt; stands_at(rt.alloc(), &walk, &CHAIN, 0)?);
-    assert_eq!(rt; steps(&mut walk, 3), 3);
-    assert!(rt; listed(rt.alloc(), &walk, 3, &CHAIN, 4)? == Some(3));
-    assert!(rt; listed(rt.alloc(), &walk, 5, &CHAIN, 4)? == Some(4));
-    assert_eq!(rt; steps(&mut walk, 9), 4);
-    assert!(rt; listed(rt.alloc(), &walk, 5, &CHAIN, 8)? == Some(0));
-    assert!(rt; stands_at(rt.alloc(), &walk, &CHAIN, 7)?);
+    assert!(rt; lists_as(rt.alloc(), &mut walk, &CHAIN, &CHAIN_LISTED)?);
     Ok(())
 }
 
 #[test]
 fn takes_and_refuses_lists(rt: HostRuntime) -> Result<(), Fail> {
     let mut walk = begin(rt.alloc(), 7, &CHAIN_ENDS)?;
-    assert!(rt; told(walk.regroup(rt.alloc(), 0, &[0, 3, 2, 5])) == (17, 0, 1));
-    assert!(rt; told(walk.regroup(rt.alloc(), 0, &[0, 2, 3])) == (6, 0, 0));
-    assert!(rt; told(walk.regroup(rt.alloc(), 0, &[0, 2, 3, 3])) == (6, 0, 0));
-    assert!(rt; told(walk.regroup(rt.alloc(), 4, &[4, 5, 7])) == (6, 4, 0));
-    assert!(rt; told(walk.regroup(rt.alloc(), 1, &[0, 1])) == (15, 0, 0));
-    assert!(rt; stands_at(rt.alloc(), &walk, &CHAIN, 0)?);
-    assert!(rt; told(walk.regroup(rt.alloc(), 0, &[3, 2, 0, 5])) == (0, 0, 0));
-    assert!(rt; stands_at(rt.alloc(), &walk, &CHAIN, 6)?);
-    assert!(rt; told(walk.regroup(rt.alloc(), 0, &[2, 5, 3, 0])) == (0, 0, 0));
-    assert!(rt; told(walk.regroup(rt.alloc(), 4, &[5, 4, 6])) == (0, 0, 0));
+    assert!(rt; passes(rt.alloc(), &mut walk, &CHAIN, &CHAIN_STAGES)?);
     assert!(rt; goes_through(rt.alloc(), &mut walk, &CHAIN, 3)?);
-    assert!(rt; !walk.step());
     Ok(())
 }
 
 #[test]
 fn sets_lists(rt: HostRuntime) -> Result<(), Fail> {
     let mut walk = begin(rt.alloc(), 7, &CHAIN_ENDS)?;
-    assert!(rt; told(walk.set(rt.alloc(), 4, &[6, 5, 4])) == (0, 0, 0));
-    assert!(rt; stands_at(rt.alloc(), &walk, &CHAIN, 1)?);
-    assert!(rt; told(walk.set(rt.alloc(), 0, &[0, 3, 2, 5])) == (17, 0, 1));
-    assert!(rt; told(walk.set(rt.alloc(), 0, &[0, 5, 3, 2])) == (0, 0, 0));
-    assert!(rt; stands_at(rt.alloc(), &walk, &CHAIN, 7)?);
-    assert!(rt; !walk.step());
-    assert!(rt; told(walk.set(rt.alloc(), 0, &[0, 2, 3, 5])) == (0, 0, 0));
+    assert!(rt; passes(rt.alloc(), &mut walk, &CHAIN, &CHAIN_SET)?);
     assert!(rt; goes_through(rt.alloc(), &mut walk, &CHAIN, 1)?);
     Ok(())
 }
@@ -333,72 +445,55 @@ fn sets_lists(rt: HostRuntime) -> Result<(), Fail> {
 #[test]
 fn walks_through_the_members_of_a_block(rt: HostRuntime) -> Result<(), Fail> {
     let mut walk = begin(rt.alloc(), 6, &FOUR_ENDS)?;
-    assert!(rt; told(walk.regroup(rt.alloc(), 0, &[0, 2, 1, 6, 8])) == (16, 0, 0));
-    assert_eq!(rt; walk.after(rt.alloc(), 20)?.len(), 11);
-    assert!(rt; goes_through(rt.alloc(), &mut walk, &FOUR[0], 0)?);
-    assert!(rt; listed(rt.alloc(), &walk, 6, &FOUR[1], 0)? == Some(6));
-    assert!(rt; walk.step());
-    assert!(rt; goes_through(rt.alloc(), &mut walk, &FOUR[1], 0)?);
-    assert!(rt; !walk.step());
-    assert!(rt; stands_at(rt.alloc(), &walk, &FOUR[1], 5)?);
+    assert!(rt; answers(rt.alloc(), &mut walk, false, &FOUR_GIVEN));
+    assert!(rt; goes_through(rt.alloc(), &mut walk, &FOUR[0], 0)? && walk.step());
+    assert!(rt; goes_through(rt.alloc(), &mut walk, &FOUR[1], 0)? && !walk.step());
     Ok(())
 }
 
-// A block that was led on before, and one that is locked.
+// A block at its second member.
 #[test]
 fn walks_from_another_member(rt: HostRuntime) -> Result<(), Fail> {
     let mut graph = placed(rt.alloc(), 6, &FOUR_ENDS)?;
-    assert!(rt; graph.lead(0));
-    let mut walk = first_of(rt.alloc(), &graph, 0)?;
-    assert!(rt; goes_through(rt.alloc(), &mut walk, &FOUR[1], 0)?);
-    assert!(rt; !walk.step());
-    let mut locked = placed(rt.alloc(), 6, &FOUR_ENDS)?;
-    assert!(rt; locked.lock(0, 0));
-    let mut walk = first_of(rt.alloc(), &locked, 0)?;
-    assert!(rt; goes_through(rt.alloc(), &mut walk, &FOUR[0], 0)?);
-    assert!(rt; !walk.step());
+    assert!(rt; graph.lead(0) && has_members(rt.alloc(), &graph, &FOUR[1])?);
+    Ok(())
+}
+
+#[test]
+fn keeps_a_lock(rt: HostRuntime) -> Result<(), Fail> {
+    let mut graph = placed(rt.alloc(), 6, &FOUR_ENDS)?;
+    assert!(rt; graph.lock(0, 0) && has_members(rt.alloc(), &graph, &FOUR[0])?);
     Ok(())
 }
 
 #[test]
 fn walks_around_three_blocks(rt: HostRuntime) -> Result<(), Fail> {
-    let mut walk = begin(rt.alloc(), 6, &SPREAD_ENDS)?;
-    assert!(rt; listed(rt.alloc(), &walk, 100, &SPREAD, 1)? == Some(15));
-    assert!(rt; goes_through(rt.alloc(), &mut walk, &SPREAD, 0)?);
-    assert!(rt; !walk.step());
-    let mut hub = begin(rt.alloc(), 7, &HUB_ENDS)?;
-    assert_eq!(rt; steps(&mut hub, 100), 39);
+    let graph = placed(rt.alloc(), 6, &SPREAD_ENDS)?;
+    assert!(rt; has_members(rt.alloc(), &graph, &SPREAD)?);
     Ok(())
 }
 
 #[test]
 fn names_the_least_blocks(rt: HostRuntime) -> Result<(), Fail> {
     let mut hub = begin(rt.alloc(), 7, &HUB_ENDS)?;
-    assert!(rt; told(hub.regroup(rt.alloc(), 0, &[0, 6, 2, 8, 3, 5])) == (17, 0, 2));
-    assert!(rt; told(hub.regroup(rt.alloc(), 0, &[0, 2, 3, 6, 5, 8])) == (17, 1, 2));
-    assert!(rt; told(hub.regroup(rt.alloc(), 0, &[6, 0, 3, 2, 8, 5])) == (17, 0, 1));
+    assert!(rt; answers(rt.alloc(), &mut hub, false, &HUB_GIVEN));
+    assert_eq!(rt; steps(&mut hub, 100), 39);
+    Ok(())
+}
+
+#[test]
+fn names_the_least_changed_block(rt: HostRuntime) -> Result<(), Fail> {
     let mut two = begin(rt.alloc(), 7, &TWO_ENDS)?;
-    assert!(rt; told(two.regroup(rt.alloc(), 0, &[0, 1, 2, 6, 8, 7])) == (16, 1, 0));
-    assert!(rt; told(two.regroup(rt.alloc(), 0, &[0, 2, 1, 6, 8, 7])) == (16, 0, 0));
-    assert!(rt; told(two.regroup(rt.alloc(), 0, &[0, 6, 1, 8, 7, 2])) == (16, 1, 0));
-    assert!(rt; told(two.regroup(rt.alloc(), 0, &[0, 6, 1, 7, 2, 8])) == (17, 0, 1));
-    assert!(rt; told(two.regroup(rt.alloc(), 0, &[7, 8, 6, 1, 2, 0])) == (0, 0, 0));
+    assert!(rt; answers(rt.alloc(), &mut two, false, &TWO_GIVEN));
     Ok(())
 }
 
 #[test]
 fn keeps_two_locks(rt: HostRuntime) -> Result<(), Fail> {
     let mut graph = placed(rt.alloc(), 7, &TWO_ENDS)?;
-    assert_eq!(rt; steps(&mut first_of(rt.alloc(), &graph, 0)?, 100), 35);
-    assert!(rt; graph.lead(0));
-    assert!(rt; graph.lock(0, 0));
-    assert_eq!(rt; steps(&mut first_of(rt.alloc(), &graph, 0)?, 100), 17);
-    assert!(rt; graph.lock(1, 0));
-    assert!(rt; !graph.lock(1, 1) && !graph.lock(2, 0));
-    let mut walk = first_of(rt.alloc(), &graph, 0)?;
-    assert!(rt; listed(rt.alloc(), &walk, 100, &TURNED, 1)? == Some(8));
-    assert!(rt; goes_through(rt.alloc(), &mut walk, &TURNED, 0)?);
-    assert!(rt; !walk.step());
+    assert_eq!(rt; count_after(rt.alloc(), &graph)?, 35);
+    assert!(rt; graph.lead(0) && graph.lock(0, 0) && count_after(rt.alloc(), &graph)? == 17);
+    assert!(rt; graph.lock(1, 0) && has_members(rt.alloc(), &graph, &TURNED)?);
     Ok(())
 }
 
@@ -407,13 +502,8 @@ fn keeps_two_locks(rt: HostRuntime) -> Result<(), Fail> {
 fn has_a_member_of_one_vertex(rt: HostRuntime) -> Result<(), Fail> {
     let graph = placed(rt.alloc(), 7, &CHAIN_ENDS)?;
     let mut walk = first_of(rt.alloc(), &graph, 1)?;
-    assert_eq!(rt; walk.cut_count(), 0);
     let lists = walk.lists(rt.alloc())?;
-    assert_eq!(rt; lists.len(), 1);
-    if lists.len() == 1 {
-        assert!(rt; lists.vertex(0) == 6 && lists.edges(0).is_empty());
-    }
-    assert!(rt; walk.after(rt.alloc(), 5)?.is_empty());
+    assert!(rt; walk.cut_count() == 0 && lists.len() == 1 && lists.edges(0).is_empty());
     assert!(rt; !walk.step());
     assert!(rt; Walk::of(rt.alloc(), &graph, 2)?.is_none());
     Ok(())
