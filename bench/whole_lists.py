@@ -446,6 +446,8 @@ def triangle_tree(n):
 def milliseconds(calls, question, wanted, times=5):
     best = None
     for _ in range(times):
+        # what the last answer took is free again after another one
+        calls.ask("walk 0")
         before = calls.nanoseconds()
         answer = calls.ask(question)
         took = (calls.nanoseconds() - before) / 1e6
@@ -456,7 +458,7 @@ def milliseconds(calls, question, wanted, times=5):
 
 
 def times(path):
-    """A row for each graph and call: milliseconds of the processor at half and at full size, the best of five, and the growth."""
+    """A row for each graph and call: milliseconds of the processor at half and at full size, the best of five or of one, and the growth."""
     print(f"{'graph':<12}{'call':<22}{'half':>10}{'full':>10}{'growth':>8}")
     for name, kind, sizes in (("hub", hub, (4999, 9999)), ("path", line, (10000, 20000)), ("cactus", triangle_tree, (4999, 9999))):
         rows = {}
@@ -468,9 +470,9 @@ def times(path):
             last = f"walk {0 if kind is line else 1000}"
             rows.setdefault("Cuts::first", []).append(milliseconds(calls, "first 0", f"component {cuts}"))
             rows.setdefault("whole", []).append(milliseconds(calls, "order", f"order {vertices}"))
-            rows.setdefault("next_whole x 1000", []).append(milliseconds(calls, "walk 1000", last, 3))
+            rows.setdefault("next_whole x 1000", []).append(milliseconds(calls, "walk 1000", last, 1))
             for n in (10, 100, 1000):
-                rows.setdefault(f"list_after {n}", []).append(milliseconds(calls, f"count {n}", f"list {0 if kind is line else n}", 3 if n < 1000 else 1))
+                rows.setdefault(f"list_after {n}", []).append(milliseconds(calls, f"count {n}", f"list {0 if kind is line else n}", 1))
             if kind is hub:
                 at = calls.ask("component 0") and [e for e in range(3 * size) if e % 3 != 1]
                 lists = {
