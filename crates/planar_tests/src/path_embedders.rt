@@ -122,7 +122,11 @@ fn prism(alloc: Global, side: u32) -> Result<Vec<(u32, u32)>, Fail> {
 fn nest(alloc: Global, depth: u32) -> Result<Vec<(u32, u32)>, Fail> {
     let mut ends = Vec::new(alloc);
     for k in 0..depth {
-        ring(&mut ends, k.saturating_mul(3), k.saturating_mul(3).saturating_add(3))?;
+        ring(
+            &mut ends,
+            k.saturating_mul(3),
+            k.saturating_mul(3).saturating_add(3),
+        )?;
     }
     spokes(&mut ends, 0, depth.saturating_sub(1).saturating_mul(3), 3)?;
     Ok(ends)
@@ -263,8 +267,8 @@ static NONPLANAR: [(u32, &[u32], [u32; 2]); 3] = [
     (
         19,
         &[
-            15, 16, 16, 17, 17, 15, 0, 6, 6, 3, 0, 7, 7, 4, 0, 8, 8, 5, 1, 9, 9, 3, 1, 10, 10, 4, 1,
-            11, 11, 5, 2, 12, 12, 3, 2, 13, 13, 4, 2, 14, 14, 5,
+            15, 16, 16, 17, 17, 15, 0, 6, 6, 3, 0, 7, 7, 4, 0, 8, 8, 5, 1, 9, 9, 3, 1, 10, 10, 4,
+            1, 11, 11, 5, 2, 12, 12, 3, 2, 13, 13, 4, 2, 14, 14, 5,
         ],
         [6, 9],
     ),
@@ -272,8 +276,8 @@ static NONPLANAR: [(u32, &[u32], [u32; 2]); 3] = [
     (
         8,
         &[
-            0, 1, 0, 2, 0, 3, 1, 2, 1, 3, 2, 3, 3, 4, 3, 5, 3, 6, 3, 7, 4, 5, 4, 6, 4, 7, 5, 6, 5, 7,
-            6, 7, 7, 6,
+            0, 1, 0, 2, 0, 3, 1, 2, 1, 3, 2, 3, 3, 4, 3, 5, 3, 6, 3, 7, 4, 5, 4, 6, 4, 7, 5, 6, 5,
+            7, 6, 7, 7, 6,
         ],
         [5, 10],
     ),
@@ -281,8 +285,8 @@ static NONPLANAR: [(u32, &[u32], [u32; 2]); 3] = [
     (
         9,
         &[
-            0, 1, 1, 2, 2, 0, 3, 4, 4, 5, 5, 3, 0, 3, 1, 4, 2, 6, 2, 7, 2, 8, 6, 7, 7, 8, 8, 6, 6, 5,
-            7, 5, 8, 5,
+            0, 1, 1, 2, 2, 0, 3, 4, 4, 5, 5, 3, 0, 3, 1, 4, 2, 6, 2, 7, 2, 8, 6, 7, 7, 8, 8, 6, 6,
+            5, 7, 5, 8, 5,
         ],
         [5, 10],
     ),
@@ -303,24 +307,18 @@ static PLANAR: [(u32, &[u32]); 3] = [
     (
         9,
         &[
-            0, 1, 0, 2, 0, 3, 1, 2, 1, 3, 2, 3, 1, 4, 2, 4, 3, 4, 5, 6, 5, 7, 5, 8, 6, 7, 6, 8, 7, 8,
+            0, 1, 0, 2, 0, 3, 1, 2, 1, 3, 2, 3, 1, 4, 2, 4, 3, 4, 5, 6, 5, 7, 5, 8, 6, 7, 6, 8, 7,
+            8,
         ],
     ),
 ];
 
 // The skeleton that is found in the graph of these ends.
-fn found_in(
-    alloc: Global,
-    vertices: u32,
-    ends: &'static [u32],
-) -> Result<Option<[u32; 2]>, Fail> {
+fn found_in(alloc: Global, vertices: u32, ends: &'static [u32]) -> Result<Option<[u32; 2]>, Fail> {
     let graph = graph_with(alloc, vertices, ends)?;
     match obstacle_of(alloc, &graph, &mut ContractEmbedder)? {
         None => Ok(None),
-        Some(found) => Ok(Some([
-            found.skeleton.vertex_count(),
-            found.skeleton.edge_count(),
-        ])),
+        Some(found) => Ok(Some([found.skeleton.vertex_count(), found.skeleton.edge_count()])),
     }
 }
 
