@@ -1,0 +1,4 @@
+-- The lemmas on drawings.
+pub mod Pairs
+pub mod Ends
+pub mod Checked
