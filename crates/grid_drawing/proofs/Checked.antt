@@ -1,12 +1,11 @@
 -- The tests of all edges and vertices together say what a drawing is.
-use Rattle.std.proofs.Common.{◌≡◌, ◌≢◌, ℕ, ◌⊎◌, inl, inr, ◌<◌, ◌+◌, ◌↔◌, Bool, true, false, not, ◌||◌, ◌==◌, List, length, refl, sym, ap, ap₂, ◌∙◌, subst, arith}
-use Rattle.std.proofs.lemmas.Bool.{cases_Bool, cases_order, cases_eq, eq-eqb, eqb-true, or_cases, or_left, or_right, or_parts, not-true, not_from_false, false≢true, false_from_ne_true}
+use Rattle.std.proofs.Common.{◌≡◌, ℕ, ◌⊎◌, inl, inr, ◌<◌, ◌↔◌, true, false, not, ◌==◌, List, length, sym, ap, ◌∙◌, subst, arith}
+use Rattle.std.proofs.lemmas.Bool.{cases_Bool, cases_order, eq-eqb, eqb-true, or_cases, or_left, or_right, not-true, not_from_false, false≢true, false_from_ne_true}
 use Rattle.multigraph.specs.Graph.{Multigraph, edge_count, ends_of, is_end, IsGraph}
-use Rattle.rotations.specs.Rotation.{IsRotationSystem}
 use Rattle.plane_points.specs.Turning.{IsCounterclockwise}
-use Rattle.plane_points.specs.Segments.{weighted, times, is_on}
+use Rattle.plane_points.specs.Segments.{times, is_on}
 use Rattle.plane_points.proofs.Rays.{weighted-on, on-weighted}
-use Rattle.grid_drawing.specs.Drawing.{point_at, along, AreApart, MeetAtEnds, PassesBy, points_around, IsDrawing}
+use Rattle.grid_drawing.specs.Drawing.{point_at, AreApart, MeetAtEnds, PassesBy, points_around, IsDrawing}
 use Rattle.grid_drawing.specs.Tests.{is_clear, passes_by}
 use Rattle.grid_drawing.proofs.Pairs.{Ends, Clear, AreSeparate, clear-told}
 
@@ -24,6 +23,7 @@ module _ (g : Multigraph) (graph : IsGraph g) (points : List (ℕ × ℕ)) where
       end : (e : ℕ) → e < edge_count g → (u : ℕ) → Ends (ends_of g e) u → u < g.vertex_count
       end e h u (inl x) = subst (λ (i : ℕ). i < g.vertex_count) x (graph.first_in e h)
       end e h u (inr x) = subst (λ (i : ℕ). i < g.vertex_count) x (graph.second_in e h)
+
       within : (u : ℕ) → Ends (ends_of g e) u ⊎ Ends (ends_of g f) u → u < g.vertex_count
       within u (inl x) = end e h u x
       within u (inr x) = end f k u x
@@ -42,15 +42,15 @@ module _ (g : Multigraph) (graph : IsGraph g) (points : List (ℕ × ℕ)) where
   passes-from e v h n s t p k = elim (or_cases (is_end g v e) (not (is_on (point_at points (ends_of g e).0) (point_at points (ends_of g e).1) (point_at points v))) h) [
     | inl x ↦ false≢true (sym n ∙ x)
     | inr x ↦ false≢true (sym (not-true (is_on (point_at points (ends_of g e).0) (point_at points (ends_of g e).1) (point_at points v)) x) ∙ weighted-on (point_at points (ends_of g e).0) (point_at points (ends_of g e).1) (point_at points v) s t p k)
-    ]
+  ]
 
   passes-to : (e v : ℕ) → (is_end g v e ≡ false → PassesBy g points e v) → passes_by g (point_at points) e v ≡ true
   passes-to e v h = elim (cases_Bool (is_end g v e)) [
     | inl x ↦ or_left (is_end g v e) (not (is_on (point_at points (ends_of g e).0) (point_at points (ends_of g e).1) (point_at points v))) x
     | inr x ↦ or_right (is_end g v e) (not (is_on (point_at points (ends_of g e).0) (point_at points (ends_of g e).1) (point_at points v)))
-      (not_from_false (is_on (point_at points (ends_of g e).0) (point_at points (ends_of g e).1) (point_at points v)) (false_from_ne_true (is_on (point_at points (ends_of g e).0) (point_at points (ends_of g e).1) (point_at points v))
+        (not_from_false (is_on (point_at points (ends_of g e).0) (point_at points (ends_of g e).1) (point_at points v)) (false_from_ne_true (is_on (point_at points (ends_of g e).0) (point_at points (ends_of g e).1) (point_at points v))
         (λ k. let w = on-weighted (point_at points (ends_of g e).0) (point_at points (ends_of g e).1) (point_at points v) k in h x w.0 w.1 w.2 w.3)))
-    ]
+  ]
 
   clear-at : AreApart g points → (e f : ℕ) → e < edge_count g → f < edge_count g → (is_clear (point_at points) (ends_of g e) (ends_of g f) ≡ true) ↔ Clear (point_at points) (ends_of g e) (ends_of g f)
   clear-at a e f h k = clear-told (point_at points) (ends_of g e).0 (ends_of g e).1 (ends_of g f).0 (ends_of g f).1 (separate a e f h k)
@@ -65,7 +65,7 @@ module _ (g : Multigraph) (graph : IsGraph g) (points : List (ℕ × ℕ)) where
       | inl s ↦ absurd (d s)
       | inr (inl l) ↦ meet-back f e (clear-meet f e ((clear-at a f e k h).0 (c f e k l)))
       | inr (inr l) ↦ clear-meet e f ((clear-at a e f h k).0 (c e f h l))
-      ];
+    ];
     pass = λ e v h k x. passes-from e v (p e v h k) x;
     around = o;
   }

@@ -1,5 +1,5 @@
 -- The test of two edges, case by case of their common ends.
-use Rattle.std.proofs.Common.{◌≡◌, ◌≢◌, ℕ, Bool, true, false, not, ◌&&◌, ◌==◌, cond, sym, ap, refl, ◌∙◌}
+use Rattle.std.proofs.Common.{◌≡◌, ℕ, Bool, not, sym, ap}
 use Rattle.std.proofs.lemmas.Bool.{eq-eqb, ne_eqb}
 use Rattle.plane_points.specs.Segments.{are_apart, same_way}
 use Rattle.grid_drawing.specs.Tests.{is_clear}

@@ -2,3 +2,4 @@
 pub mod Pairs
 pub mod Ends
 pub mod Checked
+pub mod Around

@@ -1,6 +1,6 @@
 -- Two segments meet at most in common ends exactly where the test of their ends says so.
-use Rattle.std.proofs.Common.{◌≡◌, ℕ, ◌⊎◌, inl, inr, ◌<◌, ◌+◌, ◌*◌, ◌↔◌, Bool, true, false, not, ◌&&◌, ◌==◌, cond, arith, ap, ap₂, refl, sym, ◌∙◌, subst}
-use Rattle.std.proofs.lemmas.Bool.{cases_Bool, cases_eq, eq-eqb, ne_eqb, eqb-true, and_parts, and_from, or_cases, or_left, or_right, not-true, not_from_false, false≢true, true_from_ne_false, false_from_ne_true}
+use Rattle.std.proofs.Common.{◌≡◌, ℕ, ◌⊎◌, inl, inr, ◌<◌, ◌+◌, ◌↔◌, Bool, true, false, not, arith, ap, ap₂, refl, sym, ◌∙◌, subst}
+use Rattle.std.proofs.lemmas.Bool.{cases_eq, eq-eqb, ne_eqb, not-true, not_from_false, false≢true, true_from_ne_false, false_from_ne_true}
 use Rattle.plane_points.specs.Segments.{weighted, times, DoMeet, are_apart, same_way}
 use Rattle.plane_points.proofs.Segments.{meet-apart, near-meet}
 use Rattle.plane_points.proofs.Rays.{rays-apart, rays-meet}
@@ -92,8 +92,8 @@ one-end : (at : ℕ → ℕ × ℕ) (z p q : ℕ) → AreSeparate at (z, p) (z, 
 one-end at z p q s n = (
   (λ h. fork-clear at z p q (fork-from (at z) (at p) (at q) (not-true (same_way (at z) (at p) (at q)) h))),
   (λ c. not_from_false (same_way (at z) (at p) (at q)) (fork-to (at z) (at p) (at q)
-    (λ h. s.first (s.apart z p (inl (inl refl)) (inl (inr refl)) h)) (λ h. s.second (s.apart z q (inr (inl refl)) (inr (inr refl)) h)) (clear-fork at z p q s n c))),
-  )
+      (λ h. s.first (s.apart z p (inl (inl refl)) (inl (inr refl)) h)) (λ h. s.second (s.apart z q (inr (inl refl)) (inr (inr refl)) h)) (clear-fork at z p q s n c))),
+)
 
 -- two common ends
 two-ends : (at : ℕ → ℕ × ℕ) (a b : ℕ) → AreSeparate at (a, b) (a, b) → Clear at (a, b) (a, b) → ⊥
@@ -101,6 +101,7 @@ two-ends at a b s c = go (c 1 1 1 1 (omega arith) refl refl)
   where
     differ : at a ≡ at b → ⊥
     differ h = s.first (s.apart a b (inl (inl refl)) (inl (inr refl)) h)
+
     go : (v : ℕ) × Ends (a, b) v × Ends (a, b) v × (weighted 1 (at a) 1 (at b) ≡ times 2 (at v)) → ⊥
     go (v, inl x, y, h) = never-parallel (at a) (at b) differ (inl (subst (λ (i : ℕ). weighted 1 (at a) 1 (at b) ≡ times 2 (at i)) (sym x) h))
     go (v, inr x, y, h) = never-parallel (at a) (at b) differ (inr (subst (λ (i : ℕ). weighted 1 (at a) 1 (at b) ≡ times 2 (at i)) (sym x) h))
@@ -110,7 +111,7 @@ no-end : (at : ℕ → ℕ × ℕ) (a b c d : ℕ) → (a ≡ c → ⊥) → (a 
 no-end at a b c d n k i j = (
   (λ h s t u w p e m. absurd (meet-apart (at a) (at b) (at c) (at d) (record { s = s; t = t; u = u; w = w; some = p; same = e; there = m }) h)),
   (λ f. true_from_ne_false (are_apart (at a) (at b) (at c) (at d)) (λ h. none (near-meet (at a) (at b) (at c) (at d) h) f)),
-  )
+)
   where
     none : DoMeet (at a) (at b) (at c) (at d) → Clear at (a, b) (c, d) → ⊥
     none m f = go (f m.s m.t m.u m.w m.some m.same m.there)
@@ -133,19 +134,26 @@ clear-told at a b c d s = go (cases_eq a c) (cases_eq a d) (cases_eq b c) (cases
     ac : a ≡ c → (b ≡ d) ⊎ (b ≡ d → ⊥) → (is_clear at (a, b) (c, d) ≡ true) ↔ Clear at (a, b) (c, d)
     ac h (inl k) = rw (eq-eqb a c h, eq-eqb b d k) ((λ x. absurd (false≢true x)), (λ f. absurd (two-ends at a b (subst (λ (i : ℕ). AreSeparate at (a, b) (i, b)) (sym h) (subst (λ (i : ℕ). AreSeparate at (a, b) (c, i)) (sym k) s)) (subst (λ (i : ℕ). Clear at (a, b) (i, b)) (sym h) (subst (λ (i : ℕ). Clear at (a, b) (c, i)) (sym k) f)))))
     ac h (inr k) = rw (eq-eqb a c h, ne_eqb b d k) (subst (λ (i : ℕ). (not (same_way (at a) (at b) (at d)) ≡ true) ↔ Clear at (a, b) (i, d)) h (one-end at a b d (subst (λ (i : ℕ). AreSeparate at (a, b) (i, d)) (sym h) s) k))
+
     ad : (a ≡ c → ⊥) → a ≡ d → (b ≡ c) ⊎ (b ≡ c → ⊥) → (is_clear at (a, b) (c, d) ≡ true) ↔ Clear at (a, b) (c, d)
-    ad n h (inl k) = rw (ne_eqb a c n, eq-eqb a d h, eq-eqb b c k) ((λ x. absurd (false≢true x)), (λ f. absurd (two-ends at a b
-        (subst (λ (i : ℕ). AreSeparate at (a, b) (i, b)) (sym h) (subst (λ (i : ℕ). AreSeparate at (a, b) (d, i)) (sym k) (separate-second at (a, b) c d s)))
-        (subst (λ (i : ℕ). Clear at (a, b) (i, b)) (sym h) (subst (λ (i : ℕ). Clear at (a, b) (d, i)) (sym k) (turn-second at (a, b) d c f))))))
+    ad n h (inl k) = rw (ne_eqb a c n, eq-eqb a d h, eq-eqb b c k) (
+      (λ x. absurd (false≢true x)),
+      (λ f. absurd (two-ends at a b
+          (subst (λ (i : ℕ). AreSeparate at (a, b) (i, b)) (sym h) (subst (λ (i : ℕ). AreSeparate at (a, b) (d, i)) (sym k) (separate-second at (a, b) c d s)))
+          (subst (λ (i : ℕ). Clear at (a, b) (i, b)) (sym h) (subst (λ (i : ℕ). Clear at (a, b) (d, i)) (sym k) (turn-second at (a, b) d c f))))),
+    )
     ad n h (inr k) = rw (ne_eqb a c n, eq-eqb a d h, ne_eqb b c k) (subst (λ (i : ℕ). (not (same_way (at a) (at b) (at c)) ≡ true) ↔ Clear at (a, b) (c, i)) h
         (iff-trans (not (same_way (at a) (at b) (at c)) ≡ true) (Clear at (a, b) (a, c)) (Clear at (a, b) (c, a)) (one-end at a b c (subst (λ (i : ℕ). AreSeparate at (a, b) (i, c)) (sym h) (separate-second at (a, b) c d s)) k) (turn-second at (a, b) c a, turn-second at (a, b) a c)))
+
     bc : (a ≡ c → ⊥) → (a ≡ d → ⊥) → b ≡ c → (is_clear at (a, b) (c, d) ≡ true) ↔ Clear at (a, b) (c, d)
     bc n k h = rw (ne_eqb a c n, ne_eqb a d k, eq-eqb b c h) (subst (λ (i : ℕ). (not (same_way (at b) (at a) (at d)) ≡ true) ↔ Clear at (a, b) (i, d)) h
         (iff-trans (not (same_way (at b) (at a) (at d)) ≡ true) (Clear at (b, a) (b, d)) (Clear at (a, b) (b, d)) (one-end at b a d (subst (λ (i : ℕ). AreSeparate at (b, a) (i, d)) (sym h) (separate-first at a b (c, d) s)) k) (turn-first at a b (b, d), turn-first at b a (b, d))))
+
     bd : (a ≡ c → ⊥) → (a ≡ d → ⊥) → (b ≡ c → ⊥) → b ≡ d → (is_clear at (a, b) (c, d) ≡ true) ↔ Clear at (a, b) (c, d)
     bd n k i h = rw (ne_eqb a c n, ne_eqb a d k, ne_eqb b c i, eq-eqb b d h) (subst (λ (j : ℕ). (not (same_way (at b) (at a) (at c)) ≡ true) ↔ Clear at (a, b) (c, j)) h
         (iff-trans (not (same_way (at b) (at a) (at c)) ≡ true) (Clear at (b, a) (b, c)) (Clear at (a, b) (c, b)) (one-end at b a c (subst (λ (j : ℕ). AreSeparate at (b, a) (j, c)) (sym h) (separate-second at (b, a) c d (separate-first at a b (c, d) s))) n)
-          ((λ f. turn-second at (a, b) c b (turn-first at a b (b, c) f)), (λ f. turn-first at b a (b, c) (turn-second at (a, b) b c f)))))
+        ((λ f. turn-second at (a, b) c b (turn-first at a b (b, c) f)), (λ f. turn-first at b a (b, c) (turn-second at (a, b) b c f)))))
+
     go : (a ≡ c) ⊎ (a ≡ c → ⊥) → (a ≡ d) ⊎ (a ≡ d → ⊥) → (b ≡ c) ⊎ (b ≡ c → ⊥) → (b ≡ d) ⊎ (b ≡ d → ⊥) → (is_clear at (a, b) (c, d) ≡ true) ↔ Clear at (a, b) (c, d)
     go (inl h) x y z = ac h z
     go (inr n) (inl h) y z = ad n h y

@@ -1,7 +1,7 @@
 // Whether points are a straight-line drawing: each condition by a loop.
 
-ghost use Rattle.std.specs.Prelude.{◌≡◌, ◌≢◌, ◌<◌, ◌↔◌, ℕ, true, length};
-ghost use Rattle.multigraph.specs.Graph.{edge_count, ends_of};
+ghost use Rattle.std.specs.Prelude.{◌≡◌, ◌≢◌, ◌<◌, ◌≤◌, ◌↔◌, ℕ, true, length};
+ghost use Rattle.multigraph.specs.Graph.{edge_count, ends_of, IsGraph};
 ghost use Rattle.rotations.specs.Rotation.{IsRotationSystem};
 ghost use Rattle.plane_points.specs.Turning.{falls_around, IsCounterclockwise};
 ghost use Rattle.grid_drawing.specs.Drawing.{point_at, points_around, AreApart, IsDrawing};
@@ -30,7 +30,8 @@ fn is_new(points: &[(u32, u32)], v: u32) -> bool
 // Whether different vertices have different points.
 fn are_different(g: &Graph, points: &[(u32, u32)]) -> bool
     requires { length points.now ≡ g.now.vertex_count }
-    ensures { (result ≡ true) ↔ AreApart g.now points.now }
+    ensures exact { (result ≡ true) ↔ AreApart g.now points.now }
+    ensures graph { IsGraph g.now }
 {
     for v in 0..g.vertex_count() {
         if !is_new(points, v) {
@@ -133,27 +134,33 @@ fn all_pass_by(g: &Graph, points: &[(u32, u32)]) -> bool
     true
 }
 
-// How many edges at v do not come before the next one in the order of the rotation system.
-fn falls_at(g: &Graph, r: &Rotation, points: &[(u32, u32)], v: u32) -> u32
+// Whether at most one edge at v does not come before the next one in the order of the rotation system.
+fn goes_around(g: &Graph, r: &Rotation, points: &[(u32, u32)], v: u32) -> bool
+    requires graph { IsGraph g.now }
     requires system { IsRotationSystem g.now r.now }
     requires each { length points.now ≡ g.now.vertex_count }
     requires vertex { v < g.now.vertex_count }
-    ensures { result ≡ falls_around (point_at points.now v) (points_around g.now r.now points.now v) }
+    ensures { (result ≡ true) ↔ (falls_around (point_at points.now v) (points_around g.now r.now points.now v) ≤ 1) }
 {
-    let Some(first) = g.incident(v).first() else {
-        return 0;
+    let mut edges = r.list(v);
+    let Some(edge) = edges.next() else {
+        return true;
     };
     let center = points[v as usize];
-    let mut falls = 0;
-    let mut before = points[g.other_end(r.pred(v, *first), v) as usize];
-    for e in r.list(v) {
+    let first = points[g.other_end(edge, v) as usize];
+    let mut before = first;
+    let mut fell = false;
+    for e in edges {
         let at = points[g.other_end(e, v) as usize];
         if !comes_before(center, before, at) {
-            falls += 1;
+            if fell {
+                return false;
+            }
+            fell = true;
         }
         before = at;
     }
-    falls
+    !fell || comes_before(center, before, first)
 }
 
 // Whether the edges around each vertex are met counterclockwise.
@@ -163,7 +170,7 @@ fn go_around(g: &Graph, r: &Rotation, points: &[(u32, u32)]) -> bool
     ensures { (result ≡ true) ↔ ((v : ℕ) → v < g.now.vertex_count → IsCounterclockwise (point_at points.now v) (points_around g.now r.now points.now v)) }
 {
     for v in 0..g.vertex_count() {
-        if falls_at(g, r, points, v) > 1 {
+        if !goes_around(g, r, points, v) {
             return false;
         }
     }
