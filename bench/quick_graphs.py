@@ -1,9 +1,12 @@
 #!/usr/bin/env python3
-"""quick_graphs.py: graphs for the quick embedder, one a line: a name, the number of vertices, and the ends of the edges.
+"""quick_graphs.py: graphs for the quick embedder and the embedder by paths, one a line: a name, the number of vertices, and the ends of the edges.
 
   quick_graphs.py large [MOST]    random triangulations and square grids with a diagonal in each square, of about 5,000, 10,000
                                   and 16,000 vertices (or MOST at most), each also with one edge more that makes it nonplanar; a
                                   wheel of 20,000, also with two more edges that cross; random graphs; and other shapes
+  quick_graphs.py shapes [MOST]   triangulations, grids, wheels, bipyramids, prisms, nests, twisted ladders and random graphs, of about
+                                  20,000 vertices (or MOST), as far as the limits allow, most also with an edge or two more that
+                                  make them nonplanar, and with their numbers mixed
   quick_graphs.py small SEED N    N random graphs of 4 to 12 vertices, connected, some planar and some not
 """
 import random
@@ -112,6 +115,44 @@ def large(most):
     tell("K33_long", *with_paths([(a, b) for a in range(3) for b in range(3, 6)], 6, 2000))
 
 
+def ring(first, count):
+    return [(first + i, first + (i + 1) % count) for i in range(count)]
+
+
+def tell_all(draw, name, vertices, ends, more):
+    for kind, all_ends in (("", ends), ("+" + str(len(more)), ends + more)):
+        if more or not kind:
+            tell(name + kind, vertices, all_ends)
+            tell(name + kind + "_mixed", vertices, mixed(draw, vertices, all_ends))
+
+
+def shapes(most):
+    draw = random.Random(most)
+    for size in (most // 4, most // 2, most * 4 // 5):
+        ends = triangulation(draw, size)
+        tell(f"triangulation_{size}", size, mixed(draw, size, ends))
+        tell(f"triangulation_{size}+1", size, mixed(draw, size, one_more(draw, size, ends, range(size))))
+    side = round((most * 4 // 5) ** 0.5)
+    inner = [y * side + x for y in range(1, side - 1) for x in range(1, side - 1)]
+    tell_all(draw, f"grid_{side}x{side}", side * side, grid(side), one_more(draw, side * side, [], inner))
+    rim = most - 1
+    wheel = ring(0, rim) + [(v, rim) for v in range(rim)]
+    tell_all(draw, f"wheel_{most}", most, wheel, [(0, rim // 2), (rim // 4, 3 * rim // 4)])
+    rim = most * 4 // 5
+    poles = ring(0, rim) + [(v, rim) for v in range(rim)] + [(v, rim + 1) for v in range(rim)]
+    tell_all(draw, f"bipyramid_{rim}", rim + 2, poles, [(0, rim // 2)])
+    side = most // 2
+    prism = ring(0, side) + ring(side, side) + [(v, side + v) for v in range(side)]
+    tell_all(draw, f"prism_{most}", most, prism, [(0, side + side // 2)])
+    ladder = ring(0, 2 * side) + [(v, side + v) for v in range(side)]
+    tell_all(draw, f"twisted_ladder_{most}", 2 * side, ladder, [])
+    depth = most // 3
+    nest = [pair for k in range(depth) for pair in ring(3 * k, 3)] + [(v, v + 3) for v in range(3 * depth - 3)]
+    tell_all(draw, f"nest_{3 * depth}", 3 * depth, nest, [(0, 3 * depth - 2)])
+    size = most // 2
+    tell(f"random_{size}", size, scattered(draw, size, 5 * size))
+
+
 def small(seed, count):
     draw = random.Random(seed)
     for number in range(count):
@@ -130,5 +171,7 @@ def small(seed, count):
 
 if sys.argv[1] == "large":
     large(int(sys.argv[2]) if len(sys.argv) > 2 else 16000)
+elif sys.argv[1] == "shapes":
+    shapes(int(sys.argv[2]) if len(sys.argv) > 2 else 20000)
 else:
     small(int(sys.argv[2]), int(sys.argv[3]))

@@ -1,4 +1,4 @@
-// Tests of plane blocks, their moves and history, lists of rotation systems, and made graphs.
+// Tests of plane blocks, their moves and history, lists of rotation systems, components of several blocks, and made graphs.
 //
 // A test shows what no contract says: worked rows, the answers to texts, and that each call succeeds where memory suffices.
 // The tests are here, above the crates that they test, so that the gate need not prove those again together with them.
@@ -20,3 +20,7 @@ mod small_blocks;
 mod summaries;
 #[cfg(test)]
 mod walks;
+#[cfg(test)]
+mod whole_graphs;
+#[cfg(test)]
+mod whole_rows;

@@ -6,7 +6,8 @@ use Rattle.multigraph.specs.Marks.{is_marked}
 use Rattle.dart_maps.specs.Map.{twin}
 use Rattle.graph_theory.specs.Path.{walk_vertices}
 use Rattle.faces.specs.Euler.{tail, dart_count}
-use Rattle.path_rotation.specs.Forced.{darts_along, IsPathDrawn}
+use Rattle.path_separation.specs.Drawn.{darts_along}
+use Rattle.path_rotation.specs.Forced.{IsPathDrawn}
 use Rattle.path_rotation.specs.Insertion.{threaded}
 use Rattle.path_rotation.proofs.Threads.{threaded-inserted, darts-from_tail}
 

@@ -9,6 +9,7 @@ use Rattle.multigraph.proofs.Below.{length-numbers_below, get_or-numbers_below}
 use Rattle.faces.specs.Euler.{dart_count}
 use Rattle.faces.proofs.Walk.{marked-set}
 use Rattle.path_rotation.specs.Fitting.{IsSketch}
+use Rattle.path_rotation.proofs.DrawingKept.{edge-drawn}
 use Rattle.path_rotation.proofs.ForcedSteps.{start-forced, start-tables}
 
 -- no mark is set at first
@@ -32,6 +33,7 @@ begun g ok l drawn on next label de oe ne le = record {
       (ap (λ (s : List Bool). length s) oe ∙ length-set (set (replicate g.vertex_count false) (ends_of g 0).0 true) (ends_of g 0).1 true ∙ long)
       ends;
   forced = start-forced g ok 0 l drawn on next marked still;
+  drawing = edge-drawn g ok 0 l drawn next marked still;
   label_each = le;
 }
   where

@@ -1,14 +1,21 @@
 -- A bridge tried: what is drawn stays right, and where no corner fits the graph has no plane rotation system.
-use Rattle.std.proofs.Common.{◌≡◌, ◌∙◌, ℕ, ◌/◌, ◌<◌, inl, inr, Bool, cond, List, ◌∷◌, length, slice_index, sym, subst}
-use Rattle.std.proofs.lemmas.Bool.{cases_Bool}
+use Rattle.std.proofs.Common.{◌≡◌, ◌∙◌, ℕ, true, ◌/◌, ◌<◌, ◌≤◌, inl, inr, Bool, cond, List, ◌∷◌, length, slice_index, sym, subst, arith}
+use Rattle.std.proofs.lemmas.Bool.{cases_Bool, or_left, or_right}
 use Rattle.permutations.specs.Members.{is_member}
+use Rattle.permutations.proofs.Count.{count-less}
+use Rattle.permutations.proofs.Members.{member-head}
 use Rattle.multigraph.specs.Graph.{Multigraph, edge_count, IsGraph}
-use Rattle.dart_maps.specs.Map.{twin}
+use Rattle.multigraph.specs.Marks.{is_marked}
+use Rattle.multigraph.proofs.DartEnds.{dart-edge}
+use Rattle.dart_maps.specs.Map.{twin, same_face}
 use Rattle.dart_maps.proofs.Darts.{twin-below}
 use Rattle.faces.specs.Euler.{dart_count, IsPlaneSystem}
 use Rattle.path_rotation.specs.Forced.{IsForced, IsPathDrawn}
-use Rattle.path_rotation.specs.Fitting.{IsBoard, IsFoot, AreLabels, AreFitting, MayDraw, IsWayTo}
+use Rattle.path_rotation.specs.Fitting.{IsBoard, IsFoot, AreLabels, AreFitting, MayDraw, IsWayTo, IsMoreDrawn, drawn_count}
+use Rattle.path_rotation.specs.declared.outcome.Tried.{Tried}
+use Rattle.path_rotation.specs.declared.outcome.Tried.TheVariants.{NotPlanar, Drawn, Passed}
 use Rattle.path_rotation.proofs.PathTables.{path-tables, path-closed}
+use Rattle.path_rotation.proofs.DrawingKept.{path-drawn}
 use Rattle.path_rotation.proofs.ForcedSteps.{no-plane, sole-forced, mirror-forced}
 use Rattle.path_rotation.proofs.Fits.{fitting-none}
 
@@ -19,7 +26,7 @@ board-none g ok drawn on next label t corners b f a e =
     no-plane g ok drawn on next label b.tables b.closed t f.dart f.undrawn f.tail_on b.forced a.attachments a.reached (fitting-none g drawn on label t corners e a)
 
 -- a path drawn where it may be
-module _ (g : Multigraph) (ok : IsGraph g) (drawn on : List Bool) (next label : List ℕ) (t c k : ℕ) (path : List ℕ) (b : IsBoard g drawn on next label) (f : IsFoot g drawn on t) (m : MayDraw g drawn on next label t c) (w : IsWayTo g drawn on label t c path k)
+module _ (g : Multigraph) (ok : IsGraph g) (drawn on : List Bool) (next label : List ℕ) (t c k : ℕ) (path : List ℕ) (b : IsBoard g drawn on next label) (f : IsFoot g drawn on t) (m : MayDraw g drawn on next label t c) (w : IsWayTo g drawn on label t c path k) (one_face : same_face (edge_count g) (slice_index next) (twin c) (twin k) ≡ true)
     (new_drawn new_on : List Bool) (new_next new_label : List ℕ) (all : (along : List ℕ) → path ≡ (t / 2) ∷ along → IsPathDrawn g t along c k drawn on next label new_drawn new_on new_next new_label) where
   -- it is drawn
   d : IsPathDrawn g t w.way.along c k drawn on next label new_drawn new_on new_next new_label
@@ -50,6 +57,24 @@ module _ (g : Multigraph) (ok : IsGraph g) (drawn on : List Bool) (next label : 
   board-more = record {
     tables = path-tables g ok drawn on next b.tables t f.dart f.undrawn f.tail_on w.way.along w.place w.way.leads c k m.at.below m.at.drawn_dart w.sole.corner.below w.sole.corner.drawn_dart label new_drawn new_on new_next new_label d;
     forced = more-forced;
+    drawing = path-drawn g ok drawn on next b.tables t f.dart f.undrawn f.tail_on w.way.along w.place w.way.leads c k m.at.below m.at.drawn_dart m.at.leaves w.sole.corner.below w.sole.corner.drawn_dart w.sole.corner.leaves one_face label new_drawn new_on new_next new_label d b.drawing;
     closed = path-closed g ok drawn on next b.tables t f.dart f.undrawn f.tail_on w.way.along w.place w.way.leads c k m.at.below m.at.drawn_dart w.sole.corner.below w.sole.corner.drawn_dart label new_drawn new_on new_next new_label d b.closed w.sole.corner.in_face;
     labels = more-labels;
   }
+
+  -- and more edges are drawn
+  pub more-drawn : drawn_count g drawn < drawn_count g new_drawn
+  more-drawn = count-less (edge_count g) (is_marked drawn) (is_marked new_drawn) (t / 2) (λ x l h. d.edges_marked x ∙ or_left (is_marked drawn x) (is_member x ((t / 2) ∷ w.way.along)) h) (dart-edge g t f.dart) f.undrawn
+      (d.edges_marked (t / 2) ∙ or_right (is_marked drawn (t / 2)) (is_member (t / 2) ((t / 2) ∷ w.way.along)) (member-head (t / 2) w.way.along))
+
+-- as many edges or more are drawn after any bridge
+pub more-least : (g : Multigraph) (before after : List Bool) (tried : Tried) → IsMoreDrawn g before after tried → drawn_count g before ≤ drawn_count g after
+more-least g before after NotPlanar h = h
+more-least g before after Drawn h = omega (arith, h)
+more-least g before after Passed h = h
+
+-- and still after more
+pub more-then : (g : Multigraph) (before after last : List Bool) (tried : Tried) → IsMoreDrawn g before after tried → drawn_count g after ≤ drawn_count g last → IsMoreDrawn g before last tried
+more-then g before after last NotPlanar h l = omega (arith, h, l)
+more-then g before after last Drawn h l = omega (arith, h, l)
+more-then g before after last Passed h l = omega (arith, h, l)

@@ -6,6 +6,8 @@ pub mod PathDarts
 pub mod PathDrawn
 pub mod PathTables
 pub mod ForcedSteps
+pub mod DrawingKept
+pub mod FaceLabels
 mod DartsAt
 mod Fits
 mod WaySteps
@@ -15,3 +17,4 @@ mod Marked
 mod Begun
 mod BoardSteps
 mod Assembled
+mod Finished

@@ -18,7 +18,7 @@ use Rattle.faces.specs.Maps.{dart_after}
 use Rattle.faces.proofs.DartLemmas.{tail-end, dart_from-edge, dart_from-below, dart_from-tail}
 use Rattle.faces.proofs.MapSteps.{tail-twin}
 use Rattle.faces.proofs.MapVertices.{vertex-tail, tail-vertex}
-use Rattle.path_rotation.specs.Forced.{darts_along}
+use Rattle.path_separation.specs.Drawn.{darts_along}
 use Rattle.path_rotation.proofs.PathInserted.{AllDarts}
 use Rattle.path_rotation.proofs.PathMore.{and_edge, and_edges, IsOff, IsRun}
 

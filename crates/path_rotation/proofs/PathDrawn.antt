@@ -28,7 +28,8 @@ use Rattle.faces.proofs.MapSteps.{map-permutes}
 use Rattle.faces.proofs.MapVertices.{vertex-tail, tail-vertex}
 use Rattle.faces.proofs.MapCounts.{plane-map}
 use Rattle.faces.proofs.RestrictedConnection.{counted-joined}
-use Rattle.path_rotation.specs.Forced.{is_drawn, Follows, AreTables, AreClosed, LeadsOff, darts_along, IsPathDrawn}
+use Rattle.path_separation.specs.Drawn.{darts_along}
+use Rattle.path_rotation.specs.Forced.{is_drawn, Follows, AreTables, AreClosed, LeadsOff, IsPathDrawn}
 use Rattle.path_rotation.proofs.Corners.{corner_of, corner-below, corner-kept, corner-orbit}
 use Rattle.path_rotation.proofs.PathMore.{and_edges, IsRun, last_corner, path-more, run-arrives, run-face}
 use Rattle.path_rotation.proofs.PathInserted.{AllDarts, inserted-ext}

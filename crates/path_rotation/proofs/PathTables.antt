@@ -16,7 +16,8 @@ use Rattle.graph_theory.proofs.Joined.{joined-other, joined-more}
 use Rattle.dart_maps.specs.Map.{twin}
 use Rattle.dart_maps.proofs.Darts.{twin-twin, twin-below, twin-edge}
 use Rattle.faces.specs.Euler.{tail, dart_count}
-use Rattle.path_rotation.specs.Forced.{is_drawn, AreTables, AreClosed, LeadsOff, darts_along, IsPathDrawn}
+use Rattle.path_separation.specs.Drawn.{darts_along}
+use Rattle.path_rotation.specs.Forced.{is_drawn, AreTables, AreClosed, LeadsOff, IsPathDrawn}
 use Rattle.path_rotation.proofs.PathInserted.{AllDarts, inserted-takes, inserted-elsewhere, inserted-labels}
 use Rattle.path_rotation.proofs.PathDarts.{darts-along}
 
@@ -75,7 +76,7 @@ module _ (g : Multigraph) (ok : IsGraph g) (drawn on : List Bool) (next : List �
       (t.on_drawn v ∙ some-from (edge_count g) (λ k. is_marked drawn k && is_end g v k) e (edge-in e m) (and_from (is_marked drawn e) (is_end g v e) h i))
 
   -- so no edge of the path is drawn
-  edge-off : (e : ℕ) → is_member e edges ≡ true → is_marked drawn e ≡ false
+  pub edge-off : (e : ℕ) → is_member e edges ≡ true → is_marked drawn e ≡ false
   edge-off e m = false_from_ne_true (is_marked drawn e) (λ h. elim (member-cases e (d / 2) along m) [
     | inl i ↦ both_ways (is_drawn drawn d) off (subst (λ (k : ℕ). is_marked drawn k ≡ true) (sym i) h)
     | inr i ↦ elim (drawn-end e (ends_of g e).0 m h (is_end-first g e)) [

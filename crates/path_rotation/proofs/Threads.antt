@@ -13,7 +13,7 @@ use Rattle.dart_maps.specs.Map.{twin}
 use Rattle.dart_maps.specs.Path.{path_inserted}
 use Rattle.graph_theory.specs.Path.{IsWalk}
 use Rattle.faces.specs.Euler.{tail, dart_from, dart_count}
-use Rattle.path_rotation.specs.Forced.{darts_along}
+use Rattle.path_separation.specs.Drawn.{darts_along}
 use Rattle.path_rotation.specs.Insertion.{threaded}
 
 -- a list with two entries exchanged

@@ -1,11 +1,12 @@
 -- The corners that may fit a bridge, the choice of one, and the path that is drawn there.
-use Rattle.std.specs.Prelude.{◌≡◌, ℕ, ◌<◌, ◌⊎◌, Bool, true, false, List, length, slice_index}
+use Rattle.std.specs.Prelude.{◌≡◌, ℕ, ◌<◌, ◌≤◌, ◌⊎◌, Bool, true, false, List, length, slice_index}
+use Rattle.permutations.specs.Count.{count}
 use Rattle.permutations.specs.Members.{is_member}
 use Rattle.multigraph.specs.Graph.{Multigraph, edge_count}
 use Rattle.multigraph.specs.Marks.{is_marked}
-use Rattle.dart_maps.specs.Map.{twin}
+use Rattle.dart_maps.specs.Map.{twin, same_face}
 use Rattle.faces.specs.Euler.{tail, dart_count, IsPlaneSystem}
-use Rattle.path_rotation.specs.Forced.{is_drawn, IsForced, AreTables, AreClosed, IsInvolution, AreAttachments, IsSoleCorner, IsAdmissible}
+use Rattle.path_rotation.specs.Forced.{is_drawn, IsForced, IsDrawingBy, AreTables, AreClosed, IsInvolution, AreAttachments, IsSoleCorner, IsAdmissible}
 use Rattle.path_rotation.specs.Search.{IsWayFound}
 use Rattle.path_rotation.specs.declared.outcome.Tried.{Tried}
 use Rattle.path_rotation.specs.declared.outcome.Tried.TheVariants.{NotPlanar, Drawn, Passed}
@@ -28,17 +29,19 @@ pub record AreLabels (g : Multigraph) (label : List ℕ) : Type 0 where
   pub each : length label ≡ dart_count g
   pub within : (d : ℕ) → d < dart_count g → slice_index label d < dart_count g
 
--- what is drawn is right: its tables, forced, with one label for the darts of a face
+-- what is drawn is right: its tables, forced, a drawing, with one label for the darts of a face
 pub record IsBoard (g : Multigraph) (drawn on : List Bool) (next label : List ℕ) : Type 0 where
   pub tables : AreTables g drawn on next
   pub forced : IsForced g drawn next
+  pub drawing : IsDrawingBy g drawn next
   pub closed : AreClosed (edge_count g) next label
   pub labels : AreLabels g label
 
--- what is drawn is forced, with right tables, and each dart has a place for a label
+-- what is drawn is forced and a drawing, with right tables, and each dart has a place for a label
 pub record IsSketch (g : Multigraph) (drawn on : List Bool) (next label : List ℕ) : Type 0 where
   pub tables : AreTables g drawn on next
   pub forced : IsForced g drawn next
+  pub drawing : IsDrawingBy g drawn next
   pub label_each : length label ≡ dart_count g
 
 -- t is an undrawn dart whose tail is on
@@ -86,8 +89,18 @@ pub record IsWayTo (g : Multigraph) (drawn on : List Bool) (label : List ℕ) (t
 -- the choice is right
 abbrev pub IsChoice : Multigraph → List Bool → List Bool → List ℕ → List ℕ → ℕ → List ℕ → Choice → Type 0
 IsChoice g drawn on next label t path Nowhere = (r : List (List ℕ)) → IsPlaneSystem g r → ⊥
-IsChoice g drawn on next label t path (Between c k) = MayDraw g drawn on next label t c × IsWayTo g drawn on label t c path k
+IsChoice g drawn on next label t path (Between c k) = MayDraw g drawn on next label t c × IsWayTo g drawn on label t c path k × (same_face (edge_count g) (slice_index next) (twin c) (twin k) ≡ true)
 IsChoice g drawn on next label t path Open = Unit {0}
+
+-- how many edges are drawn
+abbrev pub drawn_count : Multigraph → List Bool → ℕ
+drawn_count g drawn = count (edge_count g) (is_marked drawn)
+
+-- an edge more is drawn where a path was drawn, and none less otherwise
+abbrev pub IsMoreDrawn : Multigraph → List Bool → List Bool → Tried → Type 0
+IsMoreDrawn g before after NotPlanar = drawn_count g before ≤ drawn_count g after
+IsMoreDrawn g before after Drawn = drawn_count g before < drawn_count g after
+IsMoreDrawn g before after Passed = drawn_count g before ≤ drawn_count g after
 
 -- what is said of a graph after a bridge was tried is right
 abbrev pub IsTried : Multigraph → Tried → Type 0

@@ -1,6 +1,6 @@
 -- A part of a graph that is drawn: its map of darts, and what a plane rotation system of the whole graph has to do with it.
 -- The corner of a drawn dart lies between this dart and the next drawn one around its vertex, in the face of its twin.
-use Rattle.std.specs.Prelude.{◌≡◌, ℕ, ◌*◌, ◌/◌, ◌<◌, ◌⊎◌, Bool, true, false, ◌&&◌, ◌||◌, if◌then◌else◌, List, [], ◌∷◌, length, slice_index}
+use Rattle.std.specs.Prelude.{◌≡◌, ℕ, ◌*◌, ◌/◌, ◌<◌, ◌⊎◌, Bool, true, false, ◌&&◌, ◌||◌, if◌then◌else◌, List, ◌∷◌, length, slice_index}
 use Rattle.permutations.specs.Count.{some}
 use Rattle.permutations.specs.Members.{is_member}
 use Rattle.permutations.specs.Exchange.{restricted}
@@ -8,10 +8,11 @@ use Rattle.multigraph.specs.Graph.{Multigraph, edge_count, is_end, other_end}
 use Rattle.multigraph.specs.Marks.{is_marked}
 use Rattle.graph_theory.specs.Path.{walk_vertices, IsPath}
 use Rattle.graph_theory.specs.Joined.{joined_where}
-use Rattle.dart_maps.specs.Map.{twin, face}
+use Rattle.dart_maps.specs.Map.{twin, face, same_face, IsMap}
 use Rattle.dart_maps.specs.Path.{path_inserted}
-use Rattle.faces.specs.Euler.{tail, dart_from, dart_count, IsPlaneSystem}
+use Rattle.faces.specs.Euler.{tail, dart_count, IsPlaneSystem}
 use Rattle.faces.specs.Maps.{dart_after}
+use Rattle.path_separation.specs.Drawn.{IsDrawing, darts_along}
 
 -- whether the edge of a dart is drawn
 abbrev pub is_drawn : List Bool → ℕ → Bool
@@ -38,9 +39,21 @@ pub record AreTables (g : Multigraph) (drawn on : List Bool) (next : List ℕ) :
   pub on_drawn : (v : ℕ) → is_marked on v ≡ some (edge_count g) (λ e. is_marked drawn e && is_end g v e)
   pub joined : (u v : ℕ) → is_marked on u ≡ true → is_marked on v ≡ true → joined_where g (is_marked drawn) u v ≡ true
 
+-- the list is a map of darts
+abbrev pub IsMapOfDarts : ℕ → List ℕ → Type 0
+IsMapOfDarts m next = (previous : ℕ → ℕ) × IsMap m (slice_index next) previous
+
+-- by this map the drawn edges are a drawing: it is plane, and no vertex cuts them
+abbrev pub IsDrawingBy : Multigraph → List Bool → List ℕ → Type 0
+IsDrawingBy g drawn next = (previous : ℕ → ℕ) × IsDrawing g (is_marked drawn) (slice_index next) previous
+
 -- darts of one face have one label
 abbrev pub AreClosed : ℕ → List ℕ → List ℕ → Type 0
 AreClosed m next label = (d : ℕ) → d < 2 * m → slice_index label (face (slice_index next) d) ≡ slice_index label d
+
+-- and darts of one label are of one face
+abbrev pub AreExact : ℕ → List ℕ → List ℕ → Type 0
+AreExact m next label = (x y : ℕ) → x < 2 * m → y < 2 * m → slice_index label x ≡ slice_index label y → same_face m (slice_index next) x y ≡ true
 
 -- going twice to the next dart leads back
 abbrev pub IsInvolution : ℕ → List ℕ → Type 0
@@ -55,11 +68,6 @@ pub record LeadsOff (g : Multigraph) (on : List Bool) (t : ℕ) (along : List �
 -- to each of these vertices such a path leads
 abbrev pub AreAttachments : Multigraph → List Bool → ℕ → List ℕ → Type 0
 AreAttachments g on t attachments = (z : ℕ) → is_member z attachments ≡ true → (along : List ℕ) × LeadsOff g on t along z
-
--- the darts by which these edges are walked along from x on
-abbrev pub darts_along : Multigraph → ℕ → List ℕ → List ℕ
-darts_along g x [] = []
-darts_along g x (e ∷ es) = dart_from g x e ∷ darts_along g (other_end g e x) es
 
 -- k is a drawn dart that leaves z, and by the labels its corner lies in this face
 pub record IsCorner (g : Multigraph) (drawn : List Bool) (label : List ℕ) (z of_face k : ℕ) : Type 0 where

@@ -2,5 +2,6 @@
 pub mod Forced
 pub mod Fitting
 pub mod Search
+pub mod Finish
 pub mod Insertion
 pub mod Outcome

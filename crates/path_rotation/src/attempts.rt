@@ -5,11 +5,12 @@ ghost use Rattle.permutations.specs.Members.{is_member};
 ghost use Rattle.multigraph.specs.Graph.{edge_count};
 ghost use Rattle.multigraph.specs.Darts.{dart_count, tail};
 ghost use Rattle.path_rotation.specs.Forced.{AreTables, IsInvolution};
-ghost use Rattle.path_rotation.specs.Fitting.{AreLabels, HaveRoom, IsBoard, IsChoice, IsFoot, IsTried, IsWayTo};
+ghost use Rattle.path_rotation.specs.Fitting.{AreLabels, HaveRoom, IsBoard, IsChoice, IsFoot, IsMoreDrawn, IsTried, IsWayTo};
 ghost use Rattle.path_rotation.specs.declared.outcome.Tried.TheVariants.{Passed};
 
 use crate::fitting::{darts_at, exclude_all, is_attachment, keep_in_face};
 use crate::inserting::draw_path;
+use crate::labels::is_on_face;
 use crate::outcome::Tried;
 use crate::searching::gather;
 use crate::tables::{Board, Fits, Search};
@@ -160,10 +161,13 @@ fn choose(
     let Some(c) = only_or(&fits.corners, other) else {
         return Ok(Choice::Open);
     };
-    match find_way(g, board, &search.feet, fits, t, c)? {
-        Some(k) => Ok(Choice::Between(c, k)),
-        None => Ok(Choice::Open),
+    let Some(k) = find_way(g, board, &search.feet, fits, t, c)? else {
+        return Ok(Choice::Open);
+    };
+    if is_on_face(g, &board.next, twin(c), twin(k)) {
+        return Ok(Choice::Between(c, k));
     }
+    Ok(Choice::Open)
 }
 
 // Tries the bridge that begins with the undrawn dart t, whose tail is on. If `first` then what is drawn is an edge or a cycle.
@@ -182,6 +186,7 @@ pub(crate) fn attempt(
     ensures board { IfOk result (λ _. IsBoard g.now board.new.drawn.items board.new.on.items board.new.next.items board.new.label.items) }
     ensures room { IfOk result (λ _. HaveRoom g.now fits.new.notes.items fits.new.depth.items fits.new.passed.items) }
     ensures tried { IfOk result (IsTried g.now) }
+    ensures more { IfOk result (IsMoreDrawn g.now board.old.drawn.items board.new.drawn.items) }
     ensures passed { IfOk result (λ outcome. outcome ≡ Passed → board.new.next.items ≡ board.old.next.items) }
 {
     g.keeps_limits();

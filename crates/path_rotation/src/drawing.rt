@@ -7,7 +7,7 @@ ghost use Rattle.path_rotation.specs.Fitting.{IsSketch};
 ghost use Rattle.path_rotation.specs.Outcome.{IsDrawn};
 
 use crate::finishing::finish;
-use crate::labels::{are_closed, label_faces};
+use crate::labels::label_faces;
 use crate::outcome::{Drawn, Tried};
 use crate::rounds::round;
 use crate::tables::{Board, Fits, Search};
@@ -48,15 +48,13 @@ fn begin(alloc: Global, g: &Graph) -> Result<Board, AllocError>
 // Draws paths, in rounds, as long as one is drawn. Returns whether a bridge fits no face.
 fn draw_paths(alloc: Global, g: &Graph, board: &mut Board) -> Result<bool, AllocError>
     requires { IsSketch g.now board.old.drawn.items board.old.on.items board.old.next.items board.old.label.items }
-    ensures { IfOk result (λ unfit. unfit ≡ true → (r : List (List ℕ)) → IsPlaneSystem g.now r → ⊥) }
+    ensures sketch { IfOk result (λ _. IsSketch g.now board.new.drawn.items board.new.on.items board.new.next.items board.new.label.items) }
+    ensures unfit { IfOk result (λ unfit. unfit ≡ true → (r : List (List ℕ)) → IsPlaneSystem g.now r → ⊥) }
 {
     let mut search = Search::of(alloc, g.vertex_count() as usize)?;
     let mut fits = Fits::of(alloc, g)?;
     for _ in 0..g.edge_count() {
-        label_faces(&board.next, &mut board.label);
-        if !are_closed(g, &board.next, &board.label) {
-            return Ok(false);
-        }
+        label_faces(g, &board.next, &mut board.label);
         match round(g, board, &mut search, &mut fits)? {
             Tried::NotPlanar => return Ok(true),
             Tried::Drawn => {}

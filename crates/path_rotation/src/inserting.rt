@@ -6,7 +6,8 @@ ghost use Rattle.multigraph.specs.Graph.{edge_count};
 ghost use Rattle.multigraph.specs.Marks.{is_marked};
 ghost use Rattle.multigraph.specs.Darts.{dart_count, tail, twin};
 ghost use Rattle.graph_theory.specs.Path.{IsWalk, walk_vertices};
-ghost use Rattle.path_rotation.specs.Forced.{AreTables, LeadsOff, IsPathDrawn, darts_along};
+ghost use Rattle.path_separation.specs.Drawn.{darts_along};
+ghost use Rattle.path_rotation.specs.Forced.{AreTables, LeadsOff, IsPathDrawn};
 ghost use Rattle.path_rotation.specs.Fitting.{AreLabels};
 ghost use Rattle.path_rotation.specs.Insertion.{threaded};
 

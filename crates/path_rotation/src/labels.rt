@@ -1,9 +1,10 @@
-// The labels of the faces, and checks of the map.
+// The labels of the faces, and tests of the map.
 
-ghost use Rattle.std.specs.Prelude.{◌≡◌, ◌<◌, ◌^◌, ℕ, true, length, slice_index};
+ghost use Rattle.std.specs.Prelude.{◌≡◌, ◌<◌, ℕ, true, if◌then◌else◌, length, slice_index};
 ghost use Rattle.multigraph.specs.Graph.{edge_count};
 ghost use Rattle.multigraph.specs.Darts.{dart_count};
-ghost use Rattle.path_rotation.specs.Forced.{AreClosed, IsInvolution};
+ghost use Rattle.dart_maps.specs.Map.{same_face};
+ghost use Rattle.path_rotation.specs.Forced.{AreClosed, AreExact, IsInvolution, IsMapOfDarts};
 ghost use Rattle.path_rotation.specs.Fitting.{AreLabels};
 
 use multigraph::{Graph, dart_count, twin};
@@ -11,55 +12,59 @@ use multigraph::{Graph, dart_count, twin};
 // No label.
 const NONE: u32 = u32::MAX;
 
-// Gives the darts of a face the label of the dart from which it is walked along.
-fn label_face(next: &[u32], label: &mut [u32], start: u32)
-    ensures { length label.new ≡ length label.old }
+// Gives the darts of the face of `start` its number as label.
+fn label_face(g: &Graph, next: &[u32], label: &mut [u32], start: u32)
+    requires map { IsMapOfDarts (edge_count g.now) next.now }
+    requires darts { length next.now ≡ dart_count g.now }
+    requires labels { length label.old ≡ dart_count g.now }
+    requires start { start < dart_count g.now }
+    ensures size { length label.new ≡ length label.old }
+    ensures labelled { (d : ℕ) → slice_index label.new d
+        ≡ (if same_face (edge_count g.now) (slice_index next.now) start d then start else slice_index label.old d) }
 {
     let mut at = start;
-    for _ in 0..next.len() {
-        if (at as usize) < label.len() {
-            label[at as usize] = start;
-        }
-        at = match next.get(twin(at) as usize) {
-            Some(after) => *after,
-            None => start,
-        };
+    for _ in 0..dart_count(g) {
+        label[at as usize] = start;
+        at = next[twin(at) as usize];
         if at == start {
             return;
         }
     }
 }
 
-// Gives each dart the least dart of its face as label. Nothing is promised of the labels: they are checked.
-pub(crate) fn label_faces(next: &[u32], label: &mut [u32])
-    requires { length label.old < 2 ^ 32 }
-    ensures { length label.new ≡ length label.old }
+// Gives each dart the least dart of its face as label.
+pub(crate) fn label_faces(g: &Graph, next: &[u32], label: &mut [u32])
+    requires map { IsMapOfDarts (edge_count g.now) next.now }
+    requires darts { length next.now ≡ dart_count g.now }
+    requires labels { length label.old ≡ dart_count g.now }
+    ensures closed { AreClosed (edge_count g.now) next.now label.new }
+    ensures exact { AreExact (edge_count g.now) next.now label.new }
+    ensures labels { AreLabels g.now label.new }
 {
+    g.keeps_limits();
     label.fill(NONE);
-    for d in 0..label.len() {
-        if label[d] == NONE {
-            label_face(next, label, d as u32);
+    for d in 0..dart_count(g) {
+        if label[d as usize] == NONE {
+            label_face(g, next, label, d);
         }
     }
 }
 
-// Whether darts of one face have one label, which is the number of a dart.
-pub(crate) fn are_closed(g: &Graph, next: &[u32], label: &[u32]) -> bool
+// Whether a dart is met on the walk along the face of another one.
+pub(crate) fn is_on_face(g: &Graph, next: &[u32], from: u32, to: u32) -> bool
     requires darts { length next.now ≡ dart_count g.now }
     requires within { (d : ℕ) → d < dart_count g.now → slice_index next.now d < dart_count g.now }
-    requires labels { length label.now ≡ dart_count g.now }
-    ensures closed { result ≡ true → AreClosed (edge_count g.now) next.now label.now }
-    ensures labels { result ≡ true → AreLabels g.now label.now }
+    requires from { from < dart_count g.now }
+    ensures { result ≡ true → same_face (edge_count g.now) (slice_index next.now) from to ≡ true }
 {
-    let darts = dart_count(g);
-    for d in 0..darts {
-        let after = next[twin(d) as usize];
-        let face = label[d as usize];
-        if label[after as usize] != face || face >= darts {
-            return false;
+    let mut at = from;
+    for _ in 0..dart_count(g) {
+        if at == to {
+            return true;
         }
+        at = next[twin(at) as usize];
     }
-    true
+    false
 }
 
 // Whether going twice to the next dart leads back.

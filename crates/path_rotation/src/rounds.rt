@@ -3,7 +3,7 @@
 ghost use Rattle.std.specs.Prelude.{◌≡◌, ◌<◌, true, IfOk};
 ghost use Rattle.multigraph.specs.Darts.{dart_count};
 ghost use Rattle.path_rotation.specs.Forced.{AreTables};
-ghost use Rattle.path_rotation.specs.Fitting.{HaveRoom, IsBoard, IsFoot, IsTried};
+ghost use Rattle.path_rotation.specs.Fitting.{HaveRoom, IsBoard, IsFoot, IsMoreDrawn, IsTried};
 
 use crate::attempts::attempt;
 use crate::labels::is_involution;
@@ -44,6 +44,7 @@ pub(crate) fn round(
     ensures board { IfOk result (λ _. IsBoard g.now board.new.drawn.items board.new.on.items board.new.next.items board.new.label.items) }
     ensures room { IfOk result (λ _. HaveRoom g.now fits.new.notes.items fits.new.depth.items fits.new.passed.items) }
     ensures tried { IfOk result (IsTried g.now) }
+    ensures more { IfOk result (IsMoreDrawn g.now board.old.drawn.items board.new.drawn.items) }
 {
     let mut first = is_involution(g, &board.next);
     let mut outcome = Tried::Passed;

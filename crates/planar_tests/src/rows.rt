@@ -160,15 +160,20 @@ pub(crate) static TRAPS: [Row; 7] = [
     },
 ];
 
-// The graph of the row.
-pub(crate) fn graph_of(alloc: Global, row: &Row) -> Result<Graph, Fail> {
-    let mut ends = Vec::new(alloc);
-    for pair in row.ends.chunks(2) {
+// The graph of so many vertices with these ends of edges, those of an edge next to each other.
+pub(crate) fn graph_with(alloc: Global, vertices: u32, ends: &[u32]) -> Result<Graph, Fail> {
+    let mut pairs = Vec::new(alloc);
+    for pair in ends.chunks(2) {
         if let [first, second] = pair {
-            ends.push((*first, *second))?;
+            pairs.push((*first, *second))?;
         }
     }
-    Ok(Graph::build(alloc, row.vertices, &ends)?)
+    Ok(Graph::build(alloc, vertices, &pairs)?)
+}
+
+// The graph of the row.
+pub(crate) fn graph_of(alloc: Global, row: &Row) -> Result<Graph, Fail> {
+    graph_with(alloc, row.vertices, row.ends)
 }
 
 // Whether the rotation system is plane, with these numbers of vertices, edges, faces and components.

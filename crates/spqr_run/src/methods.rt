@@ -1,6 +1,7 @@
 // The methods by which blocks are split and embedded, for reports and for summaries.
 
 use contract_embed::ContractEmbedder;
+use path_embed::PathEmbedder;
 use quick_embed::QuickEmbedder;
 use split_comp::SearchSplitter as BlockSplitter;
 
@@ -9,9 +10,12 @@ pub fn block_splitter() -> BlockSplitter {
     BlockSplitter::new()
 }
 
-/// How triconnected graphs are embedded: quickly, and by contraction where a quick answer does not pass its check.
-pub fn block_embedder() -> QuickEmbedder<ContractEmbedder> {
+/// How triconnected graphs are embedded: quickly, and path by path if no quick result is accepted; small certificates by
+/// contraction.
+pub fn block_embedder() -> QuickEmbedder<PathEmbedder<ContractEmbedder>> {
     QuickEmbedder {
-        fallback: ContractEmbedder,
+        fallback: PathEmbedder {
+            other: ContractEmbedder,
+        },
     }
 }

@@ -1,8 +1,11 @@
 // Another arrangement at a cut vertex, and why a list is none.
 
-ghost use Rattle.std.specs.Prelude.{◌≡◌, ℕ, ◌<◌, true, length, slice_index, IfOk, IfErr, OnErr, Contains};
+ghost use Rattle.std.specs.Prelude.{◌≡◌, ℕ, ◌<◌, true, false, length, slice_index, IfOk, IfErr, OnErr, MatchOption, Contains, IsPermutation};
 ghost use Rattle.permutations.specs.Members.{is_member};
 ghost use Rattle.permutations.specs.Cyclic.{from_least};
+ghost use Rattle.arrangements.specs.Arranged.{cross};
+ghost use Rattle.arrangements.specs.Crossings.{IsCrossingOf};
+ghost use Rattle.arrangements.specs.Prefixes.{ForBlocks};
 ghost use Rattle.arrangements.specs.Tables.{rank_in};
 ghost use Rattle.whole_embed.specs.Component.{IsComponentInPlane};
 ghost use Rattle.whole_embed.specs.Around.{arrangements_around};
@@ -32,6 +35,21 @@ fn block_of_rank(at: &[u32], numbers: &[u32], orders: &VertexOrders, rank: u32) 
         }
     }
     unreachable!()
+}
+
+// The ranks of the least two blocks that cross in a list of all edges; `None` exactly where no two do. Takes linear time where the
+// list is an arrangement from its least edge on, since the search makes a pass for each block.
+fn crossing(orders: &mut VertexOrders, list: &[u32]) -> Option<(u32, u32)>
+    requires { IsPermutation orders.old.edges list.now }
+    ensures exact { ForBlocks orders.old (λ block order. MatchOption result ((b c : ℕ)
+        → cross block b c list.now ≡ false)
+        (λ pair. IsCrossingOf orders.old block list.now pair.0 pair.1)) }
+    ensures tables { orders.new ≡ orders.old }
+{
+    if orders.is_arranged(list) {
+        return None;
+    }
+    orders.crossing(list)
 }
 
 // The arrangement at cut vertex v that a list is from its least edge on, or why it is none.
@@ -64,7 +82,7 @@ fn arrange_at(
     if let Some(rank) = orders.changed_block(&list) {
         return Err(RegroupFault::BlockOrder(block_of_rank(&at, &numbers, orders, rank)));
     }
-    if let Some(pair) = orders.crossing(&list) {
+    if let Some(pair) = crossing(orders, &list) {
         let b = block_of_rank(&at, &numbers, orders, pair.0);
         let c = block_of_rank(&at, &numbers, orders, pair.1);
         return Err(RegroupFault::Cross(b, c));

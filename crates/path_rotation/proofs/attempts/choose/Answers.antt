@@ -1,9 +1,12 @@
 -- The corners at the tail, those that are left, and the one that is chosen.
-use Rattle.std.proofs.Common.{◌≡◌, ◌∙◌, ◌∷◌, [], ℕ, ◌⊎◌, Bool, List, Option, Some, IfSome, true, length, slice_index, sym, subst, arith}
+use Rattle.std.proofs.Common.{◌≡◌, ◌∙◌, ◌∷◌, [], ℕ, ◌<◌, ◌⊎◌, Bool, List, Option, Some, IfSome, true, length, slice_index, sym, subst, arith}
 use Rattle.std.specs.Vec.{vec_len}
 use Rattle.std.proofs.lemmas.Bool.{eqb-true}
 use Rattle.permutations.specs.Members.{is_member}
-use Rattle.faces.specs.Euler.{tail}
+use Rattle.multigraph.specs.Graph.{edge_count}
+use Rattle.dart_maps.specs.Map.{twin, same_face}
+use Rattle.dart_maps.proofs.Darts.{twin-below}
+use Rattle.faces.specs.Euler.{tail, dart_count}
 use Rattle.path_rotation.specs.Fitting.{AreDartsAt, MayDraw, IsWayTo}
 use Rattle.path_rotation.proofs.Fits.{fitting-begin, fitting-choice}
 use Rattle.path_rotation.proofs.BoardSteps.{board-none}
@@ -46,8 +49,8 @@ find_way-requires-clause-corner c =
     c.requires.turns c.one_of_two-other.ensures.wanted member two one in
     may.at.below
 
-pub returns-in-Some-2-clause-choice : goal.returns-in-Some-2-clause-choice
-returns-in-Some-2-clause-choice c =
+pub is_on_face-requires-clause-from : goal.is_on_face-requires-clause-from
+is_on_face-requires-clause-from c =
     let g = c.args.g.now in
     let board = c.args.board.now in
     let corners = c.darts_at.new.darts.items in
@@ -63,4 +66,27 @@ returns-in-Some-2-clause-choice c =
     let may : MayDraw g board.drawn.items board.on.items board.next.items board.label.items c.args.t c.in-Some.c =
     fitting-choice g board.drawn.items board.on.items board.next.items board.label.items c.args.t corners c.exclude_all.new.fits.corners.items c.args.first other c.in-Some.c at c.in_ok-exclude_all.ensures.fitting
     c.requires.turns c.one_of_two-other.ensures.wanted member two one in
-    (may, subst (λ (o : Option ℕ). IfSome o (IsWayTo g board.drawn.items board.on.items board.label.items c.args.t c.in-Some.c c.find_way.new.fits.path.items)) c.in-Some-2.is c.in_ok-k.ensures.way)
+    subst (λ (d : ℕ). d < dart_count g) (sym c.twin.ensures.is) (twin-below (edge_count g) c.in-Some.c may.at.below)
+
+pub returns-then-is_on_face-clause-choice : goal.returns-then-is_on_face-clause-choice
+returns-then-is_on_face-clause-choice c =
+    let g = c.args.g.now in
+    let board = c.args.board.now in
+    let corners = c.darts_at.new.darts.items in
+    let other = c.one_of_two-other.result in
+    let at : AreDartsAt g board.drawn.items (tail g c.args.t) corners =
+    subst (λ (l : List Bool). AreDartsAt g l (tail g c.args.t) corners) c.deref-2.ensures.value (subst (λ (v : ℕ). AreDartsAt g c.deref-2.result.now v corners) c.tail.ensures.is c.in_ok-darts_at.ensures) in
+    let member : IfSome other (λ x. is_member x corners ≡ true) = subst (λ (l : List ℕ). IfSome other (λ x. is_member x l ≡ true)) c.deref-4.ensures.value c.one_of_two-other.ensures.member in
+    let two : IfSome other (λ x. (d : ℕ) → is_member d corners ≡ true → (d ≡ x) ⊎ (d ≡ slice_index board.next.items x)) =
+    subst (λ (l : List ℕ). IfSome other (λ x. (d : ℕ) → is_member d l ≡ true → (d ≡ x) ⊎ (d ≡ slice_index board.next.items x))) c.deref-4.ensures.value
+    (subst (λ (l : List ℕ). IfSome other (λ x. (d : ℕ) → is_member d c.deref-4.result.now ≡ true → (d ≡ x) ⊎ (d ≡ slice_index l x))) c.deref-3.ensures.value c.one_of_two-other.ensures.two) in
+    let one : (c.exclude_all.new.fits.corners.items ≡ c.in-Some.c ∷ []) ⊎ (other ≡ Some c.in-Some.c) =
+    subst (λ (l : List ℕ). (l ≡ c.in-Some.c ∷ []) ⊎ (other ≡ Some c.in-Some.c)) c.deref-6.ensures.value c.in-Some.ensures in
+    let may : MayDraw g board.drawn.items board.on.items board.next.items board.label.items c.args.t c.in-Some.c =
+    fitting-choice g board.drawn.items board.on.items board.next.items board.label.items c.args.t corners c.exclude_all.new.fits.corners.items c.args.first other c.in-Some.c at c.in_ok-exclude_all.ensures.fitting
+    c.requires.turns c.one_of_two-other.ensures.wanted member two one in
+    let face : same_face (edge_count g) (slice_index board.next.items) (twin c.in-Some.c) (twin c.in-Some-2.k) ≡ true =
+    subst (λ (l : List ℕ). same_face (edge_count g) (slice_index l) (twin c.in-Some.c) (twin c.in-Some-2.k) ≡ true) c.deref-8.ensures.value
+    (subst (λ (x : ℕ). same_face (edge_count g) (slice_index c.deref-8.result.now) x (twin c.in-Some-2.k) ≡ true) c.twin.ensures.is
+    (subst (λ (x : ℕ). same_face (edge_count g) (slice_index c.deref-8.result.now) c.twin.result x ≡ true) c.twin-2.ensures.is (c.is_on_face.ensures c.if-is_on_face.true))) in
+    (may, subst (λ (o : Option ℕ). IfSome o (IsWayTo g board.drawn.items board.on.items board.label.items c.args.t c.in-Some.c c.find_way.new.fits.path.items)) c.in-Some-2.is c.in_ok-k.ensures.way, face)

@@ -9,7 +9,8 @@ use Rattle.dart_maps.proofs.Darts.{twin-below}
 use Rattle.graph_theory.specs.Path.{walk_vertices}
 use Rattle.graph_theory.proofs.Walks.{walk-edge}
 use Rattle.faces.specs.Euler.{tail}
-use Rattle.path_rotation.specs.Forced.{IsPathDrawn, darts_along}
+use Rattle.path_separation.specs.Drawn.{darts_along}
+use Rattle.path_rotation.specs.Forced.{IsPathDrawn}
 use Rattle.path_rotation.specs.Insertion.{threaded}
 use Rattle.path_rotation.proofs.Assembled.{path-assembled}
 use Rattle.path_rotation.proofs.inserting.draw_path.Goals as goal

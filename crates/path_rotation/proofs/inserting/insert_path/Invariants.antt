@@ -2,7 +2,7 @@
 use Rattle.std.proofs.Common.{◌≡◌, ◌<◌, drop, slice_index}
 use Rattle.graph_theory.specs.Path.{IsWalk}
 use Rattle.faces.specs.Euler.{dart_count}
-use Rattle.path_rotation.specs.Forced.{darts_along}
+use Rattle.path_separation.specs.Drawn.{darts_along}
 use Rattle.path_rotation.specs.Insertion.{threaded}
 use Rattle.path_rotation.proofs.inserting.insert_path.Given as goal
 

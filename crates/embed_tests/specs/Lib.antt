@@ -1,0 +1,2 @@
+-- What the helpers of tests promise each other.
+pub mod Wholes
