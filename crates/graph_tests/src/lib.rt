@@ -1,4 +1,4 @@
-// Tests of rings, graphs, rotation systems, faces and blocks.
+// Tests of rings, graphs, rotation systems, faces, blocks and drawings.
 //
 // A test shows what no contract says: worked rows, the results for texts, and that each call succeeds where there is enough memory.
 // The tests are here, above the crates that they test, so that the gate need not prove those a second time together with them.
@@ -6,6 +6,8 @@
 
 #[cfg(test)]
 mod block_structures;
+#[cfg(test)]
+mod drawings;
 #[cfg(test)]
 mod face_tracing;
 #[cfg(test)]

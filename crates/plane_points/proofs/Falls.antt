@@ -6,15 +6,15 @@ use Rattle.plane_points.proofs.Directions.{Comes, comes-true, true-comes, comes-
 use Rattle.plane_points.proofs.Rising.{Each, Rises, each-map, rises-first, rises-second, rises-across}
 use Rattle.plane_points.proofs.Cyclic.{Counter, counter-from, counter-to}
 
-abbrev last_of : ℕ × ℕ → List (ℕ × ℕ) → ℕ × ℕ
+abbrev pub last_of : ℕ × ℕ → List (ℕ × ℕ) → ℕ × ℕ
 last_of p [] = p
 last_of p (q ∷ l) = last_of q l
 
-abbrev fall : ℕ × ℕ → ℕ × ℕ → ℕ × ℕ → ℕ
+abbrev pub fall : ℕ × ℕ → ℕ × ℕ → ℕ × ℕ → ℕ
 fall c p q = cond (comes_before c p q) 0 1
 
 -- how often a list falls back, without the way from its end to its beginning
-abbrev steps : ℕ × ℕ → ℕ × ℕ → List (ℕ × ℕ) → ℕ
+abbrev pub steps : ℕ × ℕ → ℕ × ℕ → List (ℕ × ℕ) → ℕ
 steps c p [] = 0
 steps c p (q ∷ l) = fall c p q + steps c q l
 
@@ -23,21 +23,21 @@ abbrev Chain : ℕ × ℕ → ℕ × ℕ → List (ℕ × ℕ) → Type 0
 Chain c p [] = Unit {0}
 Chain c p (q ∷ l) = Comes c p q × Chain c q l
 
-fall-most : (c p q : ℕ × ℕ) → fall c p q ≤ 1
+pub fall-most : (c p q : ℕ × ℕ) → fall c p q ≤ 1
 fall-most c p q = elim (cases_Bool (comes_before c p q)) [ inl h ↦ rw h (omega arith) | inr h ↦ rw h (omega arith) ]
 
-fall-none : (c p q : ℕ × ℕ) → Comes c p q → fall c p q ≡ 0
+pub fall-none : (c p q : ℕ × ℕ) → Comes c p q → fall c p q ≡ 0
 fall-none c p q h = rw (true-comes c p q h)
 
-open-falls : (c first p : ℕ × ℕ) (l : List (ℕ × ℕ)) → falls_from c first p l ≡ steps c p l + fall c (last_of p l) first
+pub open-falls : (c first p : ℕ × ℕ) (l : List (ℕ × ℕ)) → falls_from c first p l ≡ steps c p l + fall c (last_of p l) first
 open-falls c first p [] = omega arith
 open-falls c first p (q ∷ l) = let e : falls_from c first q l ≡ steps c q l + fall c (last_of q l) first = open-falls c first q l in omega (arith, e)
 
-steps-append : (c p q : ℕ × ℕ) (a b : List (ℕ × ℕ)) → steps c p (a ++ q ∷ b) ≡ steps c p a + (fall c (last_of p a) q + steps c q b)
+pub steps-append : (c p q : ℕ × ℕ) (a b : List (ℕ × ℕ)) → steps c p (a ++ q ∷ b) ≡ steps c p a + (fall c (last_of p a) q + steps c q b)
 steps-append c p q [] b = omega arith
 steps-append c p q (z ∷ a) b = let e : steps c z (a ++ q ∷ b) ≡ steps c z a + (fall c (last_of z a) q + steps c q b) = steps-append c z q a b in omega (arith, e)
 
-last-append : (p q : ℕ × ℕ) (a b : List (ℕ × ℕ)) → last_of p (a ++ q ∷ b) ≡ last_of q b
+pub last-append : (p q : ℕ × ℕ) (a b : List (ℕ × ℕ)) → last_of p (a ++ q ∷ b) ≡ last_of q b
 last-append p q [] b = refl
 last-append p q (z ∷ a) b = last-append z q a b
 

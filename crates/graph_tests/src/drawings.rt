@@ -1,0 +1,176 @@
+// Points for the vertices of small graphs, and whether they are a straight-line drawing.
+
+use grid_drawing::{Points, is_drawing};
+use multigraph::Graph;
+use rotations::{Lists, Rotation};
+use std::alloc::{AllocError, Global};
+use std::test::Fail;
+
+// A graph, the edges around each vertex in counterclockwise order, the least first, a point for each vertex, and whether this is a
+// drawing.
+struct Row {
+    name: &'static str,
+    ends: &'static [(u32, u32)],
+    orders: &'static [&'static [u32]],
+    points: &'static [(u32, u32)],
+    is_drawing: bool,
+}
+
+const K4: &[(u32, u32)] = &[(0, 1), (0, 2), (0, 3), (1, 2), (1, 3), (2, 3)];
+
+const K4_ORDERS: &[&[u32]] = &[&[0, 1, 2], &[0, 4, 3], &[1, 3, 5], &[2, 5, 4]];
+
+const STAR: &[(u32, u32)] = &[(0, 1), (0, 2), (0, 3)];
+
+const TWO: &[(u32, u32)] = &[(0, 1), (2, 3)];
+
+const PATH: &[(u32, u32)] = &[(0, 1), (0, 2)];
+
+// Worked out by hand, on squared paper.
+static ROWS: [Row; 15] = [
+    Row {
+        name: "K4",
+        ends: K4,
+        orders: K4_ORDERS,
+        points: &[(2, 1), (0, 0), (4, 0), (2, 2)],
+        is_drawing: true,
+    },
+    Row {
+        name: "K4 with two points exchanged",
+        ends: K4,
+        orders: K4_ORDERS,
+        points: &[(2, 1), (4, 0), (0, 0), (2, 2)],
+        is_drawing: false,
+    },
+    Row {
+        name: "K4 with an edge across another",
+        ends: K4,
+        orders: K4_ORDERS,
+        points: &[(0, 2), (0, 0), (2, 0), (2, 2)],
+        is_drawing: false,
+    },
+    Row {
+        name: "a star",
+        ends: STAR,
+        orders: &[&[0, 1, 2], &[0], &[1], &[2]],
+        points: &[(1, 1), (2, 1), (1, 2), (0, 1)],
+        is_drawing: true,
+    },
+    Row {
+        name: "a star in the other order",
+        ends: STAR,
+        orders: &[&[0, 2, 1], &[0], &[1], &[2]],
+        points: &[(1, 1), (2, 1), (1, 2), (0, 1)],
+        is_drawing: false,
+    },
+    Row {
+        name: "two edges on one line",
+        ends: PATH,
+        orders: &[&[0, 1], &[0], &[1]],
+        points: &[(1, 1), (0, 0), (2, 2)],
+        is_drawing: true,
+    },
+    Row {
+        name: "two edges one over the other",
+        ends: PATH,
+        orders: &[&[0, 1], &[0], &[1]],
+        points: &[(0, 0), (1, 1), (2, 2)],
+        is_drawing: false,
+    },
+    Row {
+        name: "parallel edges",
+        ends: &[(0, 1), (0, 1)],
+        orders: &[&[0, 1], &[0, 1]],
+        points: &[(0, 0), (1, 0)],
+        is_drawing: false,
+    },
+    Row {
+        name: "equal points",
+        ends: &[],
+        orders: &[&[], &[]],
+        points: &[(3, 4), (3, 4)],
+        is_drawing: false,
+    },
+    Row {
+        name: "isolated vertices",
+        ends: &[],
+        orders: &[&[], &[]],
+        points: &[(3, 4), (4, 3)],
+        is_drawing: true,
+    },
+    Row {
+        name: "a vertex on an edge",
+        ends: &[(0, 1)],
+        orders: &[&[0], &[0], &[]],
+        points: &[(0, 0), (4, 2), (2, 1)],
+        is_drawing: false,
+    },
+    Row {
+        name: "edges that cross",
+        ends: TWO,
+        orders: &[&[0], &[0], &[1], &[1]],
+        points: &[(0, 0), (2, 2), (0, 2), (2, 0)],
+        is_drawing: false,
+    },
+    Row {
+        name: "edges whose lines cross",
+        ends: TWO,
+        orders: &[&[0], &[0], &[1], &[1]],
+        points: &[(0, 0), (2, 2), (0, 3), (1, 2)],
+        is_drawing: true,
+    },
+    Row {
+        name: "far away, a vertex beside an edge",
+        ends: &[(0, 1)],
+        orders: &[&[0], &[0], &[]],
+        points: &[(0, 0), (4294967295, 4294967294), (4294967294, 4294967293)],
+        is_drawing: true,
+    },
+    Row {
+        name: "far away, a vertex on an edge",
+        ends: &[(0, 1)],
+        orders: &[&[0], &[0], &[]],
+        points: &[(0, 0), (4294967294, 4294967292), (2147483647, 2147483646)],
+        is_drawing: false,
+    },
+];
+
+// The lists of a row.
+fn lists_of(alloc: Global, row: &Row) -> Result<Lists, AllocError> {
+    let mut lists = Lists::new(alloc);
+    for v in 0..row.orders.len() as u32 {
+        if lists.is_above(v) {
+            lists.push(v, row.orders[v as usize])?;
+        }
+    }
+    Ok(lists)
+}
+
+// Whether the check says of the row what the row says.
+fn is_as_told(alloc: Global, row: &Row) -> Result<bool, Fail> {
+    let g = Graph::build(alloc, row.points.len() as u32, row.ends)?;
+    let r = Rotation::from_lists(alloc, &g, &lists_of(alloc, row)?)?;
+    let points = Points::of(alloc, row.points)?;
+    if points.as_slice().len() != g.vertex_count() as usize {
+        return Ok(false);
+    }
+    Ok(is_drawing(&g, &r, &points) == row.is_drawing)
+}
+
+#[test]
+fn drawings_are_told_from_others(rt: HostRuntime) -> Result<(), Fail> {
+    for row in &ROWS {
+        assert!(rt; is_as_told(rt.alloc(), row)?, "{}", row.name);
+    }
+    Ok(())
+}
+
+#[test]
+fn points_by_coordinate(rt: HostRuntime) -> Result<(), Fail> {
+    let points = Points::of(rt.alloc(), &[(3, 4), (5, 6)])?;
+    if points.as_slice().len() == 2 {
+        assert_eq!(rt; (points.x(1), points.y(1)), (5, 6));
+    }
+    assert_eq!(rt; points.as_slice(), [(3, 4), (5, 6)].as_slice());
+    Ok(())
+}

@@ -1,0 +1,5 @@
+-- The lemmas on drawings.
+pub mod Pairs
+pub mod Ends
+pub mod Checked
+pub mod Around

@@ -1,0 +1,3 @@
+-- Straight-line drawings.
+pub mod Drawing
+pub mod Tests

@@ -1,0 +1,20 @@
+// Straight-line drawings of a graph with a rotation system, and the exact check of one.
+//
+// A drawing has a point with whole coordinates for each vertex, and each edge is the segment between the points of its ends. It is
+// right where different vertices have different points, edges meet in common ends only, no edge goes through a third vertex, and
+// the edges around each vertex are met counterclockwise in the order of the rotation system. `is_drawing` is true exactly there.
+// All tests are exact: twice the area of a triangle is compared as two sums of products, and nothing is divided (plane_points has
+// the theory).
+//
+// No drawing is made here.
+//
+// The lemmas (module of proofs/ in front):
+//   Pairs     clear-told: two segments meet at most in common ends exactly where the test by their ends says so
+#![tactic(auto)]
+
+mod checking;
+mod points;
+mod turning;
+
+pub use checking::is_drawing;
+pub use points::Points;
