@@ -15,6 +15,8 @@ mod node_moves;
 #[cfg(test)]
 mod plane_blocks;
 #[cfg(test)]
+mod skeleton_members;
+#[cfg(test)]
 mod small_blocks;
 #[cfg(test)]
 mod summaries;
@@ -22,5 +24,7 @@ mod summaries;
 mod walks;
 #[cfg(test)]
 mod whole_graphs;
+#[cfg(test)]
+mod whole_moves_rows;
 #[cfg(test)]
 mod whole_rows;

@@ -15,6 +15,7 @@ use skel_embed::{Outcome, plane_block};
 use spqr_tree::Tree;
 use std::alloc::{AllocError, Global};
 use std::marker::Model;
+use whole_convert::{WholeFault, WholeMove, whole_moves};
 use whole_embed::{Cuts, Member, RegroupFault, list_after, next_whole, regroup, set, whole};
 
 // Block b of a graph at its first plane rotation system; none where it is not planar.
@@ -259,6 +260,11 @@ impl Walk {
     /// The next `n` members. Fails only if memory runs out.
     pub fn after(&self, alloc: Global, n: u32) -> Result<Vec<Lists>, AllocError> {
         list_after(alloc, &self.cuts, &self.all, n)
+    }
+
+    /// The moves to another rotation system. Fails as `whole_moves` does.
+    pub fn moves(&self, alloc: Global, target: &Lists) -> Result<Vec<WholeMove>, WholeFault> {
+        whole_moves(alloc, &self.cuts, &self.all, target)
     }
 
     /// Sets the list at vertex `v` where it is an arrangement; returns false where `v` is no cut vertex.

@@ -175,10 +175,50 @@ static CHAIN_STAGES: [Stage; 3] = [
     ),
 ];
 
+static CHAIN_SET: [Stage; 3] = [
+    (true, &[(4, &[6, 5, 4], (0, 0, 0))], 1),
+    (
+        true,
+        &[
+            (0, &[0, 3, 2, 5], (17, 0, 1)),
+            (0, &[0, 5, 3, 2], (0, 0, 0)),
+        ],
+        7,
+    ),
+    (true, &[(0, &[0, 2, 3, 5], (0, 0, 0))], 1),
+];
+
 static HUB_GIVEN: [Given; 3] = [
     (0, &[0, 6, 2, 8, 3, 5], (17, 0, 2)),
     (0, &[0, 2, 3, 6, 5, 8], (17, 1, 2)),
     (0, &[6, 0, 3, 2, 8, 5], (17, 0, 1)),
+];
+
+static FOUR_GIVEN: [Given; 1] = [(0, &[0, 2, 1, 6, 8], (16, 0, 0))];
+
+static TWO_GIVEN: [Given; 5] = [
+    (0, &[0, 1, 2, 6, 8, 7], (16, 1, 0)),
+    (0, &[0, 2, 1, 6, 8, 7], (16, 0, 0)),
+    (0, &[0, 6, 1, 8, 7, 2], (16, 1, 0)),
+    (0, &[0, 6, 1, 7, 2, 8], (17, 0, 1)),
+    (0, &[7, 8, 6, 1, 2, 0], (0, 0, 0)),
+];
+
+// How often the walk advances, the place of the member that is there then, how many of those after it are wanted, and how many
+// there are.
+type Wanted = (u32, usize, u32, usize);
+
+static CHAIN_LISTED: [Wanted; 10] = [
+    (0, 0, 0, 0),
+    (0, 0, 1, 1),
+    (0, 0, 3, 3),
+    (0, 0, 6, 6),
+    (0, 0, 7, 7),
+    (0, 0, 8, 7),
+    (0, 0, 10000, 7),
+    (3, 3, 3, 3),
+    (0, 3, 5, 4),
+    (4, 7, 5, 0),
 ];
 
 // The graph of these edges with its blocks in the plane.
@@ -293,6 +333,24 @@ fn steps(walk: &mut Walk, limit: u32) -> u32 {
     limit
 }
 
+// Whether the walk lists and reaches what a table wants.
+fn lists_as(
+    alloc: Global,
+    walk: &mut Walk,
+    stretch: &'static Stretch,
+    rows: &'static [Wanted],
+) -> Result<bool, Fail> {
+    for (times, place, n, found) in rows {
+        if steps(walk, *times) != *times || !stands_at(alloc, walk, stretch, *place)? {
+            return Ok(false);
+        }
+        if listed(alloc, walk, *n, stretch, place.saturating_add(1))? != Some(*found) {
+            return Ok(false);
+        }
+    }
+    Ok(true)
+}
+
 // Whether the members of the first component of a graph, from the present one on, are those of a stretch, listed and walked through.
 fn has_members(alloc: Global, graph: &Placed, stretch: &'static Stretch) -> Result<bool, Fail> {
     let mut walk = first_of(alloc, graph, 0)?;
@@ -362,10 +420,34 @@ fn walks_through_a_chain(rt: HostRuntime) -> Result<(), Fail> {
 }
 
 #[test]
+fn lists_what_follows(rt: HostRuntime) -> Result<(), Fail> {
+    let mut walk = begin(rt.alloc(), 7, &CHAIN_ENDS)?;
+    assert!(rt; lists_as(rt.alloc(), &mut walk, &CHAIN, &CHAIN_LISTED)?);
+    Ok(())
+}
+
+#[test]
 fn takes_and_refuses_lists(rt: HostRuntime) -> Result<(), Fail> {
     let mut walk = begin(rt.alloc(), 7, &CHAIN_ENDS)?;
     assert!(rt; passes(rt.alloc(), &mut walk, &CHAIN, &CHAIN_STAGES)?);
     assert!(rt; goes_through(rt.alloc(), &mut walk, &CHAIN, 3)?);
+    Ok(())
+}
+
+#[test]
+fn sets_lists(rt: HostRuntime) -> Result<(), Fail> {
+    let mut walk = begin(rt.alloc(), 7, &CHAIN_ENDS)?;
+    assert!(rt; passes(rt.alloc(), &mut walk, &CHAIN, &CHAIN_SET)?);
+    assert!(rt; goes_through(rt.alloc(), &mut walk, &CHAIN, 1)?);
+    Ok(())
+}
+
+#[test]
+fn walks_through_the_members_of_a_block(rt: HostRuntime) -> Result<(), Fail> {
+    let mut walk = begin(rt.alloc(), 6, &FOUR_ENDS)?;
+    assert!(rt; answers(rt.alloc(), &mut walk, false, &FOUR_GIVEN));
+    assert!(rt; goes_through(rt.alloc(), &mut walk, &FOUR[0], 0)? && walk.step());
+    assert!(rt; goes_through(rt.alloc(), &mut walk, &FOUR[1], 0)? && !walk.step());
     Ok(())
 }
 
@@ -400,10 +482,29 @@ fn names_the_least_blocks(rt: HostRuntime) -> Result<(), Fail> {
 }
 
 #[test]
+fn names_the_least_changed_block(rt: HostRuntime) -> Result<(), Fail> {
+    let mut two = begin(rt.alloc(), 7, &TWO_ENDS)?;
+    assert!(rt; answers(rt.alloc(), &mut two, false, &TWO_GIVEN));
+    Ok(())
+}
+
+#[test]
 fn keeps_two_locks(rt: HostRuntime) -> Result<(), Fail> {
     let mut graph = placed(rt.alloc(), 7, &TWO_ENDS)?;
     assert_eq!(rt; count_after(rt.alloc(), &graph)?, 35);
     assert!(rt; graph.lead(0) && graph.lock(0, 0) && count_after(rt.alloc(), &graph)? == 17);
     assert!(rt; graph.lock(1, 0) && has_members(rt.alloc(), &graph, &TURNED)?);
+    Ok(())
+}
+
+// The second component of the chain has one vertex, and its one member has no edges around it.
+#[test]
+fn has_a_member_of_one_vertex(rt: HostRuntime) -> Result<(), Fail> {
+    let graph = placed(rt.alloc(), 7, &CHAIN_ENDS)?;
+    let mut walk = first_of(rt.alloc(), &graph, 1)?;
+    let lists = walk.lists(rt.alloc())?;
+    assert!(rt; walk.cut_count() == 0 && lists.len() == 1 && lists.edges(0).is_empty());
+    assert!(rt; !walk.step());
+    assert!(rt; Walk::of(rt.alloc(), &graph, 2)?.is_none());
     Ok(())
 }
