@@ -8,6 +8,7 @@ use skel_embed::{Move, PlaneBlock};
 use std::alloc::{AllocError, Global};
 
 /// The greatest length of a face, and moves to a plane rotation system with such a face.
+#[derive(Debug, Drop)]
 pub struct LongestFace {
     pub length: u32,
     pub moves: Vec<Move>,
