@@ -19,8 +19,8 @@ longest_lines-requires c =
     subst (λ (part : GraphPart). All (IsMoveOf part.graph) c.deref.result.now) (sym c.part.ensures)
     (subst (λ (l : List Move). All (IsMoveOf v.tree.part.graph) l) (sym c.deref.ensures.value) (longest-within v p seen found.found.length found.found.moves.items found.ensures))
 
-pub returns-in-Plane : goal.returns-in-Plane
-returns-in-Plane c =
+pub returns-in_ok-found-in-Plane : goal.returns-in_ok-found-in-Plane
+returns-in_ok-found-in-Plane c =
     let v = c.args.block.now in
     let p = c.in-Plane.plane in
     let found = c.in_ok-found-in-Plane in
