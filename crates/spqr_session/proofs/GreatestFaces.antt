@@ -1,7 +1,6 @@
 -- The greatest length of a face: there is one among all plane rotation systems of a block, and moves lead to it.
-use Rattle.std.proofs.Common.{◌≡◌, ℕ, zero, suc, ◌<◌, ◌≤◌, Bool, true, false, List, [], ◌∷◌, ◌++◌, length, get_or, Contains, inl, inr, refl, sym, ap, ap₂, ◌∙◌, subst, arith}
+use Rattle.std.proofs.Common.{◌≡◌, ℕ, zero, suc, ◌<◌, ◌≤◌, false, List, [], ◌∷◌, ◌++◌, length, Contains, inl, inr, refl, sym, ap₂, subst, arith}
 use Rattle.std.proofs.lemmas.Bool.{cases_lt, true≢false}
-use Rattle.std.proofs.lemmas.List.Elements.{Contains-get_or}
 use Rattle.multigraph.specs.Graph.{Multigraph}
 use Rattle.faces.specs.Euler.{tail, face_step, IsPlaneSystem}
 use Rattle.faces.specs.Trace.{face_lists}
@@ -11,7 +10,6 @@ use Rattle.faces.proofs.ListedOnce.{listed-once}
 use Rattle.pair_split.specs.Tutte.{Node}
 use Rattle.pair_split.proofs.Elements.{contains-here, contains-later, contains-cases}
 use Rattle.skeletons.specs.Items.{IsBlockTree}
-use Rattle.skeletons.specs.Lists.{IsKept}
 use Rattle.skeletons.specs.Moves.{Move, moves_below, moves_between}
 use Rattle.skeleton_choices.proofs.Listed.{list-exists}
 use Rattle.embed_convert.proofs.Between.{no-move}
