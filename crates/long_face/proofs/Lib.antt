@@ -1,0 +1,3 @@
+-- Lemmas on the longest face.
+pub mod Lengths
+pub mod Chosen

@@ -1,0 +1,2 @@
+-- The longest face of a block.
+pub mod Longest

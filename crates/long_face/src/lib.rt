@@ -1,0 +1,9 @@
+// The longest face of all plane rotation systems of a block.
+//
+// The length of a face is its number of pairs of a vertex and an edge. `longest` gives the greatest length that a face of a plane
+// rotation system of the block has, and moves that lead from the present one to one with such a face.
+#![tactic(auto)]
+
+mod finding;
+
+pub use finding::{LongestFace, longest};
