@@ -1,3 +1,7 @@
 -- Lemmas on the longest face.
 pub mod Lengths
 pub mod Chosen
+pub mod Bonds
+pub mod Possible
+pub mod Reached
+pub mod Greatest

@@ -1,2 +1,5 @@
 -- The longest face of a block.
 pub mod Longest
+pub mod Wanted
+pub mod Laws
+pub mod Moves

@@ -5,5 +5,7 @@
 #![tactic(auto)]
 
 mod finding;
+mod laws;
 
 pub use finding::{LongestFace, longest};
+pub use laws::{wanted_faces_are_reached, weights_bound_faces};

@@ -1,0 +1,15 @@
+// The laws on the longest face: each is a function without a body, whose contract is the theorem.
+
+ghost use Rattle.long_face.specs.Laws.{TableBoundsFaces, WantedIsReached};
+
+/// The law that weights of the items of a block's tree that bound the faces of the skeletons bound the faces of every plane
+/// rotation system of the block.
+pub fn weights_bound_faces()
+    ensures { TableBoundsFaces }
+{}
+
+/// The law that faces that are wanted of the skeletons, one of which weighs as much as any face can, are reached: some plane rotation
+/// system of the block has the choices that make them faces, and a face of this length.
+pub fn wanted_faces_are_reached()
+    ensures { WantedIsReached }
+{}
