@@ -5,3 +5,4 @@ pub mod Bonds
 pub mod Possible
 pub mod Reached
 pub mod Greatest
+pub mod FromTop

@@ -43,7 +43,7 @@ module _ (g : Multigraph) (nodes : List Node) (b : IsBlockTree g nodes) (r : Lis
     (plane : (k : ℕ) → k < length nodes → IsPlane (skeleton_graph nodes k) (system_at family k)) (weight : ℕ → ℕ → ℕ) (top len : ℕ) (ones : EdgesWeighOne nodes weight)
     (is_on : ℕ → Bool) (want : ℕ → Want) (rank : ℕ → ℕ) (w : AreWanted nodes family weight top len is_on want rank) where
   -- the present family
-  x : Parts g nodes b r
+  abbrev x : Parts g nodes b r
   x = record { family = family; systems = systems; follows = follows; plane = plane }
 
   -- the key of an item

@@ -2,4 +2,5 @@
 pub mod Longest
 pub mod Wanted
 pub mod Laws
+pub mod Settled
 pub mod Moves

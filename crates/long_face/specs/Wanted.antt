@@ -10,14 +10,7 @@ use Rattle.skeletons.specs.Families.{skeleton_graph, system_at}
 use Rattle.skeletons.specs.Choices.{choice}
 use Rattle.skel_embed.specs.Exchanges.{exchanged, turned_choice}
 use Rattle.skeleton_faces.specs.Faces.{on_one_face, face_weight, IsSkeletonDart, AreAcross}
-
--- what is wanted of a node: the face of a dart, in the mirror image of its skeleton if it is turned; of a bond the face of two items, on
--- which the second follows the first at the lesser pole
-pub record Want : Type 0 where
-  pub dart : ℕ
-  pub turned : Bool
-  pub first : ℕ
-  pub second : ℕ
+pub use Rattle.long_face.specs.declared.wants.Want.{Want}
 
 -- whether dart x is on the wanted face, told by the present rotation system of the skeleton
 abbrev pub on_wanted : Kind → Multigraph → List (List ℕ) → Want → ℕ → Bool

@@ -4,8 +4,13 @@
 // rotation system of the block has, and moves that lead from the present one to one with such a face.
 #![tactic(auto)]
 
+mod exchanged;
 mod finding;
 mod laws;
+mod moving;
+mod present;
+mod wants;
 
 pub use finding::{LongestFace, longest};
 pub use laws::{wanted_faces_are_reached, weights_bound_faces};
+pub use wants::Want;
