@@ -91,11 +91,13 @@ module _ (g : Multigraph) (nodes : List Node) (b : IsBlockTree g nodes) (family 
 
   -- what is across a dart is one dart
   pub across-once : (k d j e i h : ℕ) → AreAcross nodes k d j e → AreAcross nodes k d i h → (j ≡ i) × (e ≡ h)
-  across-once k d j e i h a c = let q : j ≡ i = same-far j i (sym a.to ∙ c.to) in
-      (q, same-dart e h
-      (b.tree.split.linked.once j k (e / 2) (h / 2) (stands-of g nodes b.tree j (e / 2) (Link k) (dart-item g nodes b j (a.second.0) e (a.second.1)) a.from)
-      (stands-of g nodes b.tree j (h / 2) (Link k) (subst (λ n. h / 2 < length (node_at nodes n).items) (sym q) (dart-item g nodes b i (c.second.0) h (c.second.1))) (ap (λ n. (node_item nodes n (h / 2)).what) q ∙ c.from)))
-      (sym a.end ∙ c.end))
+  across-once k d j e i h a c = let q : j ≡ i = same-far j i (sym a.to ∙ c.to) in (
+    q,
+    same-dart e h
+        (b.tree.split.linked.once j k (e / 2) (h / 2) (stands-of g nodes b.tree j (e / 2) (Link k) (dart-item g nodes b j (a.second.0) e (a.second.1)) a.from)
+        (stands-of g nodes b.tree j (h / 2) (Link k) (subst (λ n. h / 2 < length (node_at nodes n).items) (sym q) (dart-item g nodes b i (c.second.0) h (c.second.1))) (ap (λ n. (node_item nodes n (h / 2)).what) q ∙ c.from)))
+        (sym a.end ∙ c.end),
+  )
 
   -- faces chosen so
   module _ (weight : ℕ → ℕ → ℕ) (top len : ℕ) (is_on : ℕ → Bool) (dart rank : ℕ → ℕ) (c : AreChosen nodes family weight top len is_on dart rank) where

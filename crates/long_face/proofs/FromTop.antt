@@ -102,8 +102,7 @@ module _ (g : Multigraph) (nodes : List Node) (b : IsBlockTree g nodes) (family 
     up = λ k l h n. let w = (s.each k l n).source h in
         let p = parent_at parents k in
         let link = link-of p w.0 k w.1 w.2 in
-        let back = back-of p w.0 k w.1 w.2 in
-        (
+        let back = back-of p w.0 k w.1 w.2 in (
           p,
           twin w.0,
           subst (λ z. AreAcross nodes k z p (twin w.0)) (sym w.4) (turned-across g nodes b family systems plane p w.0 k w.1 w.2),

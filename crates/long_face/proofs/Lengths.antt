@@ -39,7 +39,7 @@ module _ (g : Multigraph) (r : List (List ℕ)) (ok : IsGraph g) (system : IsRot
   alike = orbit-equivalence (2 * edge_count g) (face (dart_after g r))
 
   -- what is on the face of a dart is in its ring
-  same-ring : (d x : ℕ) → d < dart_count g → on_one_face g r d x ≡ is_member x (ring (dart_count g) (face_step g r) d)
+  pub same-ring : (d x : ℕ) → d < dart_count g → on_one_face g r d x ≡ is_member x (ring (dart_count g) (face_step g r) d)
   same-ring d x l = orbit-ext (dart_count g) (face (dart_after g r)) step (λ y m. map-face g r y ok m) d x ∙ sym (ring-member (dart_count g) step (face_back g r) permutes d l x)
 
   -- the length of its list

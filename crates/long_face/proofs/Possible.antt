@@ -73,7 +73,7 @@ module _ (g : Multigraph) (nodes : List Node) (b : IsBlockTree g nodes) where
         subst (IsPossible nodes k) (flip-turns g nodes k r f.0 b p.system contiguous is f.1) (choice-possible g nodes f.0 b q k is.0)
 
     -- which differs
-    turned-differs : (k : ℕ) → IsNodeOfKind nodes k R → turned_choice (choice nodes r k) ≢ choice nodes r k
+    pub turned-differs : (k : ℕ) → IsNodeOfKind nodes k R → turned_choice (choice nodes r k) ≢ choice nodes r k
     turned-differs k is =
         let u : ℕ = least_vertex nodes k in
         let h = least-has g nodes b k is.0 in
@@ -124,14 +124,14 @@ module _ (g : Multigraph) (nodes : List Node) (b : IsBlockTree g nodes) where
       keys-distinct : is_distinct (node_keys nodes k) ≡ true
       keys-distinct = rises-distinct (node_keys nodes k) (b.tree.in_order.keys_rise k is.0)
 
-      once : is_distinct (choice nodes r k) ≡ true
+      pub once : is_distinct (choice nodes r k) ≡ true
       once = permutation-distinct (node_keys nodes k) keys arranged keys-distinct
 
-      key-in : (i : ℕ) → i < length (node_at nodes k).items → is_member (node_item nodes k i).key (choice nodes r k) ≡ true
+      pub key-in : (i : ℕ) → i < length (node_at nodes k).items → is_member (node_item nodes k i).key (choice nodes r k) ≡ true
       key-in i m = permutation-member (node_keys nodes k) keys (key i) arranged
           ∙ subst (λ z. is_member z (node_keys nodes k) ≡ true) (get_or-map item_key (node_at nodes k).items i no_item 0 m) (member-at (node_keys nodes k) i 0 (subst (λ n. i < n) (sym (length-map (node_at nodes k).items item_key)) m))
 
-      after-in : is_member after (choice nodes r k) ≡ true
+      pub after-in : is_member after (choice nodes r k) ≡ true
       after-in = successor-member keys (key a) (key-in a la)
 
       -- exchanging twice changes nothing

@@ -3,4 +3,6 @@ pub mod Longest
 pub mod Wanted
 pub mod Laws
 pub mod Settled
+pub mod Numbers
+pub mod Heaviest
 pub mod Moves

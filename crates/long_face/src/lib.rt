@@ -8,7 +8,9 @@ mod exchanged;
 mod finding;
 mod laws;
 mod moving;
+mod numbers;
 mod present;
+mod wanting;
 mod wants;
 
 pub use finding::{LongestFace, longest};

@@ -15,7 +15,11 @@ pub(crate) fn following(keys: &[u32], key: u32) -> u32
     ensures { result ≡ successor keys.now key }
 {
     let next = place_of(keys, key) + 1;
-    if next == keys.len() { keys[0] } else { keys[next] }
+    if next == keys.len() {
+        keys[0]
+    } else {
+        keys[next]
+    }
 }
 
 // The other one of a and b, and each other key itself.

@@ -38,7 +38,7 @@ fn move_for(alloc: Global, p: &PlaneBlock, k: u32, want: Want) -> Result<Option<
         → IsPair (length (node_at p.now.tree k).items) want }
     ensures { IfOk result (λ found. as_moves (option_to_list found)
         ≡ move_towards p.now.tree p.now.rotation k (wanted_choice (node_at p.now.tree k).kind
-            (λ i. (node_item p.now.tree k i).key) (choice p.now.tree p.now.rotation k) want)) }
+        (λ i. (node_item p.now.tree k i).key) (choice p.now.tree p.now.rotation k) want)) }
 {
     p.belongs();
     match p.tree().kind(k) {
@@ -49,7 +49,13 @@ fn move_for(alloc: Global, p: &PlaneBlock, k: u32, want: Want) -> Result<Option<
             }
             Ok(Some(Move::Permute(k, Keys::of(alloc, &keys)?)))
         }
-        Kind::R => { if want.turned { Ok(Some(Move::Flip(k))) } else { Ok(None) } }
+        Kind::R => {
+            if want.turned {
+                Ok(Some(Move::Flip(k)))
+            } else {
+                Ok(None)
+            }
+        }
         Kind::S | Kind::B => Ok(None),
     }
 }
@@ -66,9 +72,9 @@ fn move_at(
         → IsPair (length (node_at p.now.tree k).items) (want_or own) }
     ensures { IfOk result (λ found. as_moves (option_to_list found)
         ≡ move_towards p.now.tree p.now.rotation k (cond (has_want own)
-            (wanted_choice (node_at p.now.tree k).kind (λ i. (node_item p.now.tree k i).key)
-                (choice p.now.tree p.now.rotation k) (want_or own))
-            (choice p.now.tree p.now.rotation k))) }
+        (wanted_choice (node_at p.now.tree k).kind (λ i. (node_item p.now.tree k i).key)
+        (choice p.now.tree p.now.rotation k) (want_or own))
+        (choice p.now.tree p.now.rotation k))) }
 {
     match own {
         Some(want) => move_for(alloc, p, k, want),
@@ -98,7 +104,7 @@ pub(crate) fn moves_for(
         → IsPair (length (node_at p.now.tree k).items) (want_or (want_at wants.now k)) }
     ensures { IfOk result (λ list. as_moves list.items ≡ moves_towards p.now.tree p.now.rotation
         (choice_wanted p.now.tree p.now.rotation (λ k. has_want (want_at wants.now k))
-            (λ k. want_or (want_at wants.now k))) (length p.now.tree)) }
+        (λ k. want_or (want_at wants.now k))) (length p.now.tree)) }
 {
     let mut list = Vec::new(alloc);
     for k in 0..p.tree().node_count() {
