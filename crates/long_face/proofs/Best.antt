@@ -31,6 +31,10 @@ is_bond P = true
 is_bond R = false
 is_bond B = false
 
+-- a bond is not triconnected
+pub two-kinds : (kind : Kind) → kind ≡ P → kind ≡ R → ⊥
+two-kinds kind e q = true≢false (sym (ap is_bond e) ∙ ap is_bond q)
+
 module _ (g : Multigraph) (nodes : List Node) (b : IsBlockTree g nodes) (family : List (List (List ℕ))) (systems : AreSkeletonSystems nodes family) (plane : (k : ℕ) → k < length nodes → IsPlane (skeleton_graph nodes k) (system_at family k))
     (weight : ℕ → ℕ → ℕ) (most : ℕ) (table : IsTable nodes family weight most) where
   -- both faces of an edge of a polygon or a small node weigh the same

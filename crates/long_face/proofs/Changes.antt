@@ -1,6 +1,6 @@
 -- The key that follows another, and the move of a node.
 use Rattle.std.proofs.Common.{◌≡◌, ◌≢◌, ℕ, ◌+◌, ◌<◌, ◌≤◌, true, cond, List, [], ◌∷◌, ◌++◌, length, get_or, map, take, refl, sym, ap, ◌∙◌, subst, arith}
-use Rattle.std.proofs.lemmas.List.{length-append, map-append}
+use Rattle.std.proofs.lemmas.List.{length-append, get_or-append-add}
 use Rattle.permutations.specs.Cyclic.{first_or, successor}
 use Rattle.permutations.specs.Members.{is_distinct}
 use Rattle.permutations.proofs.CyclicSame.{outside}
@@ -14,8 +14,7 @@ use Rattle.long_face.specs.Moves.{move_towards}
 
 -- what stands after a list and one more
 after-all : (front : List ℕ) (key z : ℕ) (back : List ℕ) (i : ℕ) → i ≡ length front + 1 → get_or (front ++ key ∷ z ∷ back) i 0 ≡ z
-after-all [] key z back i e = ap (λ n. get_or (key ∷ z ∷ back) n 0) e
-after-all (x ∷ front) key z back i e = ap (λ n. get_or ((x ∷ front) ++ key ∷ z ∷ back) n 0) (e ∙ refl) ∙ after-all front key z back (length front + 1) refl
+after-all front key z back i e = ap (λ n. get_or (front ++ key ∷ z ∷ back) n 0) e ∙ get_or-append-add front (key ∷ z ∷ back) 1 0
 
 -- after the last key comes the first
 pub follow-end : (keys : List ℕ) (place key : ℕ) → is_distinct keys ≡ true → StandsAt keys place key → place + 1 ≡ length keys → successor keys key ≡ get_or keys 0 0

@@ -9,3 +9,4 @@ pub mod FromTop
 pub mod Numbered
 pub mod Changes
 pub mod Best
+pub mod Asked

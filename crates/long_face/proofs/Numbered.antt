@@ -36,7 +36,7 @@ module _ (g : Multigraph) (r : List (List ℕ)) (ok : IsGraph g) (system : IsRot
   alike = orbit-equivalence (2 * edge_count g) (face (dart_after g r))
 
   -- a listed face is that of some dart
-  of-dart : (i : ℕ) → i < length (face_lists g r) → (d : ℕ) × (d < dart_count g) × (face_at g r i ≡ map (pair_of g) (ring (dart_count g) (face_step g r) d))
+  pub of-dart : (i : ℕ) → i < length (face_lists g r) → (d : ℕ) × (d < dart_count g) × (face_at g r i ≡ map (pair_of g) (ring (dart_count g) (face_step g r) d))
   of-dart i l = let w = listed-orbit g step ok (face_back g r, permutes) i l in
       (w.0, w.1, w.2 ∙ along-images g step w.0 (orbit_length (dart_count g) step w.0))
 
@@ -124,12 +124,10 @@ module _ (g : Multigraph) (r : List (List ℕ)) (ok : IsGraph g) (system : IsRot
       listed : (d : ℕ) (l : d < dart_count g) → on_one_face g r (of-dart (once d l).list (once d l).list_in).0 d ≡ true
       listed d l = subst (λ z. on_one_face g r (of-dart (once d l).list (once d l).list_in).0 z ≡ true) (once-dart d l) (dart-on (once d l).list (once d l).place (once d l).list_in (once d l).place_in)
 
-      from : (i j : ℕ) (l : i < length (face_lists g r)) (m : j < length (face_lists g r)) (y : ℕ) → i ≡ j → on_one_face g r (of-dart j m).0 y ≡ true → on_one_face g r (of-dart i l).0 y ≡ true
-      from i j l m y e = subst (λ z. (m : z < length (face_lists g r)) → on_one_face g r (of-dart z m).0 y ≡ true → on_one_face g r (of-dart i l).0 y ≡ true) e (λ m h. h) m
-
       together : (x y : ℕ) (lx : x < dart_count g) (ly : y < dart_count g) → (once x lx).list ≡ (once y ly).list → on_one_face g r x y ≡ true
-      together x y lx ly e = alike.transitive x ((of-dart (once x lx).list (once x lx).list_in).0) y (alike.symmetric ((of-dart (once x lx).list (once x lx).list_in).0) x (listed x lx))
-          (from (once x lx).list (once y ly).list (once x lx).list_in (once y ly).list_in y e (listed y ly))
+      together x y lx ly e = alike.transitive x (of-dart (once x lx).list (once x lx).list_in).0 y (alike.symmetric (of-dart (once x lx).list (once x lx).list_in).0 x (listed x lx))
+          (subst (λ z. on_one_face g r (of-dart (once x lx).list (once x lx).list_in).0 z ≡ true) (ap (λ z. dart_at g (face_at g r z) (once y ly).place) e ∙ once-dart y ly)
+          (dart-on (once x lx).list (once y ly).place (once x lx).list_in (subst (λ z. (once y ly).place < length (face_at g r z)) (sym e) (once y ly).place_in)))
 
       alone : (x y : ℕ) (lx : x < dart_count g) (ly : y < dart_count g) → on_one_face g r x y ≡ true → (once x lx).list ≡ (once y ly).list
       alone x y lx ly t = only-list (once x lx).list place y ly (once x lx).list_in inside there

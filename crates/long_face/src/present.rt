@@ -1,6 +1,6 @@
 // Whether a rotation system has a face of a given length.
 
-ghost use Rattle.std.specs.Prelude.{◌≡◌, ◌≢◌, ◌<◌, ℕ, ⊥, [], true, false, length, slice_index_or, IfOk};
+ghost use Rattle.std.specs.Prelude.{◌≡◌, ◌≢◌, ◌<◌, ℕ, [], true, false, length, slice_index_or, IfOk};
 ghost use Rattle.multigraph.specs.Graph.{IsGraph};
 ghost use Rattle.rotations.specs.Rotation.{IsRotationSystem};
 ghost use Rattle.long_face.specs.Longest.{HasFace};
