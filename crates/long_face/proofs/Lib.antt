@@ -10,3 +10,6 @@ pub mod Numbered
 pub mod Changes
 pub mod Best
 pub mod Asked
+pub mod Walked
+pub mod Steps
+pub mod RowLemmas

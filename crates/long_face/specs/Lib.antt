@@ -5,4 +5,6 @@ pub mod Laws
 pub mod Settled
 pub mod Numbers
 pub mod Heaviest
+pub mod Ready
+pub mod Walk
 pub mod Moves

@@ -10,6 +10,8 @@ mod laws;
 mod moving;
 mod numbers;
 mod present;
+mod rows;
+mod walking;
 mod wanting;
 mod wants;
 

@@ -116,8 +116,7 @@ pub(crate) fn is_wanted(kind: Kind, numbers: &[u32], want: Want, dart: u32) -> b
     requires faces { (g : Multigraph) × (r : List (List ℕ)) × AreFaceNumbers g r numbers.now }
     requires few { length numbers.now < 2 ^ 32 }
     requires wanted { want.dart < length numbers.now }
-    requires first { 2 * want.first < 2 ^ 32 - 1 }
-    requires second { 2 * want.second < 2 ^ 32 }
+    requires pair { kind ≡ P → (2 * want.first < 2 ^ 32 - 1) × (2 * want.second < 2 ^ 32) }
     requires dart { dart < length numbers.now }
     ensures { (g : Multigraph) (r : List (List ℕ)) → AreFaceNumbers g r numbers.now
         → result ≡ on_wanted kind g r want dart }
