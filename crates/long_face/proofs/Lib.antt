@@ -13,3 +13,4 @@ pub mod Asked
 pub mod Walked
 pub mod Steps
 pub mod RowLemmas
+pub mod Final

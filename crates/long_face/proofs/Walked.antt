@@ -12,14 +12,14 @@ use Rattle.pair_split.specs.declared.components.Kind.TheVariants.{P}
 use Rattle.pair_split.specs.declared.components.What.TheVariants.{Link}
 use Rattle.skeletons.specs.Families.{skeleton_graph, system_at}
 use Rattle.skeleton_planes.proofs.SkeletonDarts.{dart-item}
-use Rattle.skeleton_faces.specs.Faces.{AreAcross}
+use Rattle.skeleton_faces.specs.Faces.{IsSkeletonDart, AreAcross}
 use Rattle.long_face.specs.Wanted.{Want, IsPair, on_wanted}
-use Rattle.long_face.specs.Heaviest.{IsHeaviest, number_in}
+use Rattle.long_face.specs.Heaviest.{IsGreatest, IsHeaviest, number_in}
 use Rattle.long_face.specs.Ready.{NodeRows, AreRowsOf, IsReady, rows_at}
-use Rattle.long_face.specs.Settled.{has_want, want_or, IsWantedAt, IsSettled}
+use Rattle.long_face.specs.Settled.{has_want, want_or, IsBest, IsWantedAt, IsSettled}
 use Rattle.long_face.specs.Walk.{IsAskable, IsAsked}
 use Rattle.long_face.proofs.Asked.{across-first, across-second, across-cases, one-side}
-use Rattle.long_face.proofs.Best.{best-below}
+use Rattle.long_face.proofs.Best.{best-below, best-top, top-dart}
 
 -- something is not nothing
 is_there : Option ℕ → Bool
@@ -126,3 +126,25 @@ module _ (g : Multigraph) (nodes : List Node) (family : List (List (List ℕ))) 
 
           item : dart / 2 < length (node_at nodes k).items
           item = subst (λ z. z < length (node_at nodes k).items) (sym (ap (λ z. z / 2) q ∙ twin-edge e)) (dart-item g nodes y.block k a.far e l)
+
+-- the heaviest face of the top
+pub greatest-top : (g : Multigraph) (nodes : List Node) (family : List (List (List ℕ))) (weight : ℕ → ℕ → ℕ) (top most : ℕ) (rows : List NodeRows) → IsReady g nodes family weight top most rows → (w : Want)
+    → IsGreatest (node_at nodes top).kind (length (rows_at rows top).weights) (number_in (rows_at rows top).weights) (number_in (rows_at rows top).sums) w → IsSkeletonDart nodes top w.dart × IsBest nodes family weight top w most
+greatest-top g nodes family weight top most rows y w o =
+    (top-dart g nodes y.block family y.systems y.plane weight most y.table top y.top_in w (number_in (rows_at rows top).sums) row.sums y.face y.pair exact, best-top g nodes y.block family y.systems y.plane weight most y.table top y.top_in w (number_in (rows_at rows top).sums) row.sums y.face y.pair exact)
+  where
+    row : AreRowsOf nodes family weight top (rows_at rows top)
+    row = y.each top y.top_in
+
+    pair : (node_at nodes top).kind ≡ P → IsPair (length (node_at nodes top).items) w
+    pair b = subst (λ z. IsPair z w) row.items (o.pair b)
+
+    exact : IsGreatest (node_at nodes top).kind (length (node_at nodes top).items) (weight top) (number_in (rows_at rows top).sums) w
+    exact = record {
+      pair = pair;
+      pairs = λ b i h u v n. let c = o.pairs b i h (subst (λ z. i < z) (sym row.items) u) (subst (λ z. h < z) (sym row.items) v) n in
+          omega (arith, c, row.weights i u, row.weights h v, row.weights w.first ((pair b).first_in), row.weights w.second ((pair b).second_in));
+      dart_in = subst (λ z. w.dart < 2 * z) row.items o.dart_in;
+      flat = o.flat;
+      heaviest = λ n d u. o.heaviest n d (subst (λ z. d < 2 * z) (sym row.items) u);
+    }

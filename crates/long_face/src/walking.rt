@@ -45,7 +45,8 @@ fn asked(tree: &Tree, rows: &[Rows], p: u32, k: u32, above: Want) -> Option<u32>
     let there = link_to(tree.items(p), k);
     let here = link_to(tree.items(k), p);
     let kind = tree.kind(p);
-    let numbers = rows[p as usize].numbers.as_slice();
+    let row = &rows[p as usize];
+    let numbers = row.numbers.as_slice();
     if is_wanted(kind, numbers, above, 2 * there) {
         return Some(2 * here + 1);
     }
