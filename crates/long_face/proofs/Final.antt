@@ -10,6 +10,7 @@ use Rattle.skeletons.specs.Families.{FollowsFamily}
 use Rattle.skeleton_faces.specs.Faces.{EdgesWeighOne}
 use Rattle.spqr_tree.specs.Keys.{AreOrdered}
 use Rattle.long_face.specs.Longest.{HasFace, NoneLonger, IsLongest}
+use Rattle.long_face.specs.Laws.{WalkLeadsToLongest}
 use Rattle.long_face.specs.Moves.{moves_towards}
 use Rattle.long_face.specs.Ready.{NodeRows, IsReady}
 use Rattle.long_face.specs.Settled.{has_want, want_or, want_at, AreSettled}
@@ -33,3 +34,7 @@ module _ (g : Multigraph) (nodes : List Node) (family : List (List (List ℕ))) 
   walked-longest r p follows ones lacks = wanted-longest g nodes r most (choice_wanted nodes r (λ k. has_want (want_at wants k)) (λ k. want_or (want_at wants k)))
       (table-bounds g nodes family weight most y.block y.systems y.plane ones y.table) lacks
       (wanted-reached g nodes r family weight top most (λ k. has_want (want_at wants k)) (λ k. want_or (want_at wants k)) (place_of order) y.block p y.systems follows ones y.table wanted)
+
+-- the law
+pub walk-longest : WalkLeadsToLongest
+walk-longest g nodes r family weight top most rows parents order wants y p follows ones o once s lacks = walked-longest g nodes family weight top most rows y parents order o once wants s r p follows ones lacks

@@ -8,7 +8,9 @@
 // next to the link. So wanted faces fit together, and the block has a face as long as the top's weighs in the plane
 // rotation system with these choices and the present ones elsewhere.
 //
-// The laws: weights bound the faces of a block, and wanted faces are reached.
+// The laws: weights bound the faces of a block, wanted faces are reached, and a walk from the top leads to a longest face. The functions
+// are the steps of that walk: what is wanted of a node, which darts are on a wanted face, the moves to the wanted choices, and whether
+// there is a face of the length already. They are not joined yet.
 //
 // The lemmas (module of proofs/ in front):
 //   Lengths    listed-dart, dart-listed: the faces that are listed are those of the darts
@@ -20,16 +22,16 @@
 #![tactic(auto)]
 
 mod exchanged;
-mod finding;
 mod laws;
 mod moving;
 mod numbers;
 mod present;
-mod rows;
-mod walking;
 mod wanting;
 mod wants;
 
-pub use finding::{LongestFace, longest};
-pub use laws::{wanted_faces_are_reached, weights_bound_faces};
+pub use laws::{walk_leads_to_longest, wanted_faces_are_reached, weights_bound_faces};
+pub use moving::moves_for;
+pub use numbers::face_numbers;
+pub use present::has_face;
+pub use wanting::{greatest_want, is_wanted, want_of};
 pub use wants::Want;
