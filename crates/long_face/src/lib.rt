@@ -26,6 +26,8 @@ mod laws;
 mod moving;
 mod numbers;
 mod present;
+mod rows;
+mod walking;
 mod wanting;
 mod wants;
 
@@ -33,5 +35,7 @@ pub use laws::{walk_leads_to_longest, wanted_faces_are_reached, weights_bound_fa
 pub use moving::moves_for;
 pub use numbers::face_numbers;
 pub use present::has_face;
+pub use rows::Rows;
+pub use walking::wants_from;
 pub use wanting::{greatest_want, is_wanted, want_of};
 pub use wants::Want;
