@@ -23,6 +23,7 @@
 
 mod exchanged;
 mod laws;
+mod links;
 mod moving;
 mod numbers;
 mod present;

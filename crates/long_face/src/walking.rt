@@ -1,38 +1,21 @@
 // What is wanted of the nodes, from the top on.
 
-ghost use Rattle.std.specs.Prelude.{◌≡◌, ◌<◌, ◌^◌, ℕ, true, List, Some, length, IfOk};
+ghost use Rattle.std.specs.Prelude.{◌≡◌, ◌<◌, ℕ, true, List, Some, length, IfOk};
 ghost use Rattle.permutations.specs.Members.{is_distinct};
 ghost use Rattle.multigraph.specs.Graph.{Multigraph};
 ghost use Rattle.pair_split.specs.Tutte.{components};
-ghost use Rattle.pair_split.specs.declared.components.What.TheVariants.{Link};
-ghost use Rattle.skeletons.specs.Items.{nth_item};
 ghost use Rattle.skeleton_faces.specs.Faces.{IsSkeletonDart};
 ghost use Rattle.spqr_tree.specs.Keys.{AreOrdered};
 ghost use Rattle.long_face.specs.Ready.{IsReady};
 ghost use Rattle.long_face.specs.Settled.{AreSettled, IsBest, IsSettled, has_want, want_at, want_or};
 ghost use Rattle.long_face.specs.Walk.{IsAskable, IsAsked, IsSomeReady};
 
+use crate::links::{link_back, link_to};
 use crate::rows::Rows;
 use crate::wanting::{greatest_want, is_wanted, want_of};
 use crate::wants::Want;
-use pair_split::{Item, What};
 use spqr_tree::Tree;
 use std::alloc::{AllocError, Global};
-
-// The place of the item that is a link to node j.
-fn link_to(items: &[Item], j: u32) -> u32
-    requires few { length items.now < 2 ^ 31 }
-    requires held { (i : ℕ) × (i < length items.now) × ((nth_item items.now i).what ≡ Link j) }
-    ensures within { result < length items.now }
-    ensures is { (nth_item items.now result).what ≡ Link j }
-{
-    for i in 0..items.len() {
-        if items[i].what == What::Link(j) {
-            return i as u32;
-        }
-    }
-    unreachable!()
-}
 
 // The dart of node k that is asked for by what its parent p wants: that of the link to p opposite a wanted dart of p.
 fn asked(tree: &Tree, rows: &[Rows], p: u32, k: u32, above: Want) -> Option<u32>
@@ -42,8 +25,8 @@ fn asked(tree: &Tree, rows: &[Rows], p: u32, k: u32, above: Want) -> Option<u32>
         → IsReady g tree.now family weight top most rows.now
         → IsAsked tree.now family p above k result }
 {
-    let there = link_to(tree.items(p), k);
     let here = link_to(tree.items(k), p);
+    let there = link_back(tree, k, here, p);
     let kind = tree.kind(p);
     let row = &rows[p as usize];
     let numbers = row.numbers.as_slice();
@@ -103,8 +86,8 @@ fn want_at_top(tree: &Tree, rows: &[Rows], top: u32) -> Want
 }
 
 /// What is wanted of the nodes, in an order in which each is after its parent, and the top is first: of the top its heaviest face, of a
-/// node of which its parent wants a dart of the link the heaviest face of the opposite dart, and nothing of others. Takes a time in
-/// proportion to the items of the nodes, for each link once those of its two nodes. Fails only if memory runs out.
+/// node of which its parent wants a dart of the link the heaviest face of the opposite dart, and nothing of others. In time n log n for n items.
+/// Fails only if memory runs out.
 pub fn wants_from(
     alloc: Global,
     tree: &Tree,

@@ -14,58 +14,65 @@ use Rattle.long_face.proofs.RowLemmas.{items-few, numbers-places}
 use Rattle.long_face.proofs.Walked.{asked-first, asked-second, asked-none}
 use Rattle.long_face.proofs.walking.asked.Goals as goal
 
-pub link_to-there-requires-clause-few : goal.link_to-there-requires-clause-few
-link_to-there-requires-clause-few c =
-    let y = c.requires.ready in
-    let a = c.requires.askable in
-    omega (arith, ap length c.items.ensures, items-few y.0 c.args.tree.now y.1 y.2 y.3 y.4 c.args.rows.now y.5 c.args.p a.near)
-
 pub link_to-here-requires-clause-few : goal.link_to-here-requires-clause-few
 link_to-here-requires-clause-few c =
     let y = c.requires.ready in
     let a = c.requires.askable in
-    omega (arith, ap length c.items-2.ensures, items-few y.0 c.args.tree.now y.1 y.2 y.3 y.4 c.args.rows.now y.5 c.args.k a.far)
+    omega (arith, ap length c.items.ensures, items-few y.0 c.args.tree.now y.1 y.2 y.3 y.4 c.args.rows.now y.5 c.args.k a.far)
+
+pub link_back-there-requires-clause-block : goal.link_back-there-requires-clause-block
+link_back-there-requires-clause-block c =
+    let y = c.requires.ready in
+    (y.0, y.5.block, y.5.limits)
+
+pub link_back-there-requires-clause-item : goal.link_back-there-requires-clause-item
+link_back-there-requires-clause-item c =
+    subst (λ (z : List Item). c.link_to-here.result < length z) c.items.ensures c.link_to-here.ensures.within
+
+pub link_back-there-requires-clause-link : goal.link_back-there-requires-clause-link
+link_back-there-requires-clause-link c =
+    subst (λ (z : List Item). (nth_item z c.link_to-here.result).what ≡ Link c.args.p) c.items.ensures c.link_to-here.ensures.is
 
 pub overflow_mul-there : goal.overflow_mul-there
 overflow_mul-there c =
     let y = c.requires.ready in
     let a = c.requires.askable in
-    let h : 2 * c.link_to-there.result ≤ 100001 = omega (arith, c.link_to-there.ensures.within, ap length c.items.ensures, items-few y.0 c.args.tree.now y.1 y.2 y.3 y.4 c.args.rows.now y.5 c.args.p a.near) in
+    let h : 2 * c.link_back-there.result ≤ 100001 = omega (arith, c.link_back-there.ensures.item, items-few y.0 c.args.tree.now y.1 y.2 y.3 y.4 c.args.rows.now y.5 c.args.p a.near) in
     Fits-le h (Fits-lit tt)
 
 pub overflow_mul-there-2 : goal.overflow_mul-there-2
 overflow_mul-there-2 c =
     let y = c.requires.ready in
     let a = c.requires.askable in
-    let h : 2 * c.link_to-there.result ≤ 100001 = omega (arith, c.link_to-there.ensures.within, ap length c.items.ensures, items-few y.0 c.args.tree.now y.1 y.2 y.3 y.4 c.args.rows.now y.5 c.args.p a.near) in
+    let h : 2 * c.link_back-there.result ≤ 100001 = omega (arith, c.link_back-there.ensures.item, items-few y.0 c.args.tree.now y.1 y.2 y.3 y.4 c.args.rows.now y.5 c.args.p a.near) in
     Fits-le h (Fits-lit tt)
 
 pub overflow_add-there : goal.overflow_add-there
 overflow_add-there c =
     let y = c.requires.ready in
     let a = c.requires.askable in
-    let h : 2 * c.link_to-there.result + 1 ≤ 100001 = omega (arith, c.link_to-there.ensures.within, ap length c.items.ensures, items-few y.0 c.args.tree.now y.1 y.2 y.3 y.4 c.args.rows.now y.5 c.args.p a.near) in
+    let h : 2 * c.link_back-there.result + 1 ≤ 100001 = omega (arith, c.link_back-there.ensures.item, items-few y.0 c.args.tree.now y.1 y.2 y.3 y.4 c.args.rows.now y.5 c.args.p a.near) in
     Fits-le h (Fits-lit tt)
 
 pub overflow_mul-result : goal.overflow_mul-result
 overflow_mul-result c =
     let y = c.requires.ready in
     let a = c.requires.askable in
-    let h : 2 * c.link_to-here.result ≤ 100001 = omega (arith, c.link_to-here.ensures.within, ap length c.items-2.ensures, items-few y.0 c.args.tree.now y.1 y.2 y.3 y.4 c.args.rows.now y.5 c.args.k a.far) in
+    let h : 2 * c.link_to-here.result ≤ 100001 = omega (arith, c.link_to-here.ensures.within, ap length c.items.ensures, items-few y.0 c.args.tree.now y.1 y.2 y.3 y.4 c.args.rows.now y.5 c.args.k a.far) in
     Fits-le h (Fits-lit tt)
 
 pub overflow_add-result : goal.overflow_add-result
 overflow_add-result c =
     let y = c.requires.ready in
     let a = c.requires.askable in
-    let h : 2 * c.link_to-here.result + 1 ≤ 100001 = omega (arith, c.link_to-here.ensures.within, ap length c.items-2.ensures, items-few y.0 c.args.tree.now y.1 y.2 y.3 y.4 c.args.rows.now y.5 c.args.k a.far) in
+    let h : 2 * c.link_to-here.result + 1 ≤ 100001 = omega (arith, c.link_to-here.ensures.within, ap length c.items.ensures, items-few y.0 c.args.tree.now y.1 y.2 y.3 y.4 c.args.rows.now y.5 c.args.k a.far) in
     Fits-le h (Fits-lit tt)
 
 pub overflow_mul-result-then-is_wanted-2 : goal.overflow_mul-result-then-is_wanted-2
 overflow_mul-result-then-is_wanted-2 c =
     let y = c.requires.ready in
     let a = c.requires.askable in
-    let h : 2 * c.link_to-here.result ≤ 100001 = omega (arith, c.link_to-here.ensures.within, ap length c.items-2.ensures, items-few y.0 c.args.tree.now y.1 y.2 y.3 y.4 c.args.rows.now y.5 c.args.k a.far) in
+    let h : 2 * c.link_to-here.result ≤ 100001 = omega (arith, c.link_to-here.ensures.within, ap length c.items.ensures, items-few y.0 c.args.tree.now y.1 y.2 y.3 y.4 c.args.rows.now y.5 c.args.k a.far) in
     Fits-le h (Fits-lit tt)
 
 pub is_wanted-requires-clause-few : goal.is_wanted-requires-clause-few
@@ -96,7 +103,7 @@ is_wanted-requires-clause-dart c =
     let numbers : c.as_slice-numbers.result.now ≡ (rows_at c.args.rows.now c.args.p).numbers = c.as_slice-numbers.ensures.value ∙ ap (λ (z : NodeRows). z.numbers) (c.row.view_is ∙ row) in
     let places : length c.as_slice-numbers.result.now ≡ 2 * length (node_at c.args.tree.now c.args.p).items =
     ap length numbers ∙ numbers-places y.0 c.args.tree.now y.1 y.2 y.3 y.4 c.args.rows.now y.5 c.args.p a.near in
-    omega (arith, places, c.link_to-there.ensures.within, ap length c.items.ensures)
+    omega (arith, places, c.link_back-there.ensures.item)
 
 pub is_wanted-requires-2-clause-few : goal.is_wanted-requires-2-clause-few
 is_wanted-requires-2-clause-few c =
@@ -126,7 +133,7 @@ is_wanted-requires-2-clause-dart c =
     let numbers : c.as_slice-numbers.result.now ≡ (rows_at c.args.rows.now c.args.p).numbers = c.as_slice-numbers.ensures.value ∙ ap (λ (z : NodeRows). z.numbers) (c.row.view_is ∙ row) in
     let places : length c.as_slice-numbers.result.now ≡ 2 * length (node_at c.args.tree.now c.args.p).items =
     ap length numbers ∙ numbers-places y.0 c.args.tree.now y.1 y.2 y.3 y.4 c.args.rows.now y.5 c.args.p a.near in
-    omega (arith, places, c.link_to-there.ensures.within, ap length c.items.ensures)
+    omega (arith, places, c.link_back-there.ensures.item)
 
 pub returns-then-is_wanted : goal.returns-then-is_wanted
 returns-then-is_wanted c = λ g family weight top most ready.
@@ -137,12 +144,12 @@ returns-then-is_wanted c = λ g family weight top most ready.
     let numbers : c.as_slice-numbers.result.now ≡ (rows_at c.args.rows.now c.args.p).numbers = c.as_slice-numbers.ensures.value ∙ ap (λ (z : NodeRows). z.numbers) (c.row.view_is ∙ row) in
     let places : length c.as_slice-numbers.result.now ≡ 2 * length (node_at c.args.tree.now c.args.p).items =
     ap length numbers ∙ numbers-places y.0 c.args.tree.now y.1 y.2 y.3 y.4 c.args.rows.now y.5 c.args.p a.near in
-    let there = c.link_to-there.result in
+    let there = c.link_back-there.result in
     let here = c.link_to-here.result in
-    let within : there < length (node_at c.args.tree.now c.args.p).items = subst (λ (z : List Item). there < length z) c.items.ensures c.link_to-there.ensures.within in
-    let within_too : here < length (node_at c.args.tree.now c.args.k).items = subst (λ (z : List Item). here < length z) c.items-2.ensures c.link_to-here.ensures.within in
-    let to = subst (λ (z : List Item). (nth_item z there).what ≡ Link c.args.k) c.items.ensures c.link_to-there.ensures.is in
-    let from = subst (λ (z : List Item). (nth_item z here).what ≡ Link c.args.p) c.items-2.ensures c.link_to-here.ensures.is in
+    let within = c.link_back-there.ensures.item in
+    let within_too : here < length (node_at c.args.tree.now c.args.k).items = subst (λ (z : List Item). here < length z) c.items.ensures c.link_to-here.ensures.within in
+    let to = c.link_back-there.ensures.link in
+    let from = subst (λ (z : List Item). (nth_item z here).what ≡ Link c.args.p) c.items.ensures c.link_to-here.ensures.is in
     let known : AreFaceNumbers (skeleton_graph c.args.tree.now c.args.p) (system_at family c.args.p) c.as_slice-numbers.result.now =
     subst (AreFaceNumbers (skeleton_graph c.args.tree.now c.args.p) (system_at family c.args.p)) (sym numbers) (ready.each c.args.p a.near).numbers in
     let told : on_wanted (node_at c.args.tree.now c.args.p).kind (skeleton_graph c.args.tree.now c.args.p) (system_at family c.args.p) c.args.above (2 * there) ≡ true =
@@ -158,12 +165,12 @@ returns-then-is_wanted-2 c = λ g family weight top most ready.
     let numbers : c.as_slice-numbers.result.now ≡ (rows_at c.args.rows.now c.args.p).numbers = c.as_slice-numbers.ensures.value ∙ ap (λ (z : NodeRows). z.numbers) (c.row.view_is ∙ row) in
     let places : length c.as_slice-numbers.result.now ≡ 2 * length (node_at c.args.tree.now c.args.p).items =
     ap length numbers ∙ numbers-places y.0 c.args.tree.now y.1 y.2 y.3 y.4 c.args.rows.now y.5 c.args.p a.near in
-    let there = c.link_to-there.result in
+    let there = c.link_back-there.result in
     let here = c.link_to-here.result in
-    let within : there < length (node_at c.args.tree.now c.args.p).items = subst (λ (z : List Item). there < length z) c.items.ensures c.link_to-there.ensures.within in
-    let within_too : here < length (node_at c.args.tree.now c.args.k).items = subst (λ (z : List Item). here < length z) c.items-2.ensures c.link_to-here.ensures.within in
-    let to = subst (λ (z : List Item). (nth_item z there).what ≡ Link c.args.k) c.items.ensures c.link_to-there.ensures.is in
-    let from = subst (λ (z : List Item). (nth_item z here).what ≡ Link c.args.p) c.items-2.ensures c.link_to-here.ensures.is in
+    let within = c.link_back-there.ensures.item in
+    let within_too : here < length (node_at c.args.tree.now c.args.k).items = subst (λ (z : List Item). here < length z) c.items.ensures c.link_to-here.ensures.within in
+    let to = c.link_back-there.ensures.link in
+    let from = subst (λ (z : List Item). (nth_item z here).what ≡ Link c.args.p) c.items.ensures c.link_to-here.ensures.is in
     let known : AreFaceNumbers (skeleton_graph c.args.tree.now c.args.p) (system_at family c.args.p) c.as_slice-numbers.result.now =
     subst (AreFaceNumbers (skeleton_graph c.args.tree.now c.args.p) (system_at family c.args.p)) (sym numbers) (ready.each c.args.p a.near).numbers in
     let told_2 : on_wanted (node_at c.args.tree.now c.args.p).kind (skeleton_graph c.args.tree.now c.args.p) (system_at family c.args.p) c.args.above (2 * there + 1) ≡ true =
@@ -179,12 +186,12 @@ returns c = λ g family weight top most ready.
     let numbers : c.as_slice-numbers.result.now ≡ (rows_at c.args.rows.now c.args.p).numbers = c.as_slice-numbers.ensures.value ∙ ap (λ (z : NodeRows). z.numbers) (c.row.view_is ∙ row) in
     let places : length c.as_slice-numbers.result.now ≡ 2 * length (node_at c.args.tree.now c.args.p).items =
     ap length numbers ∙ numbers-places y.0 c.args.tree.now y.1 y.2 y.3 y.4 c.args.rows.now y.5 c.args.p a.near in
-    let there = c.link_to-there.result in
+    let there = c.link_back-there.result in
     let here = c.link_to-here.result in
-    let within : there < length (node_at c.args.tree.now c.args.p).items = subst (λ (z : List Item). there < length z) c.items.ensures c.link_to-there.ensures.within in
-    let within_too : here < length (node_at c.args.tree.now c.args.k).items = subst (λ (z : List Item). here < length z) c.items-2.ensures c.link_to-here.ensures.within in
-    let to = subst (λ (z : List Item). (nth_item z there).what ≡ Link c.args.k) c.items.ensures c.link_to-there.ensures.is in
-    let from = subst (λ (z : List Item). (nth_item z here).what ≡ Link c.args.p) c.items-2.ensures c.link_to-here.ensures.is in
+    let within = c.link_back-there.ensures.item in
+    let within_too : here < length (node_at c.args.tree.now c.args.k).items = subst (λ (z : List Item). here < length z) c.items.ensures c.link_to-here.ensures.within in
+    let to = c.link_back-there.ensures.link in
+    let from = subst (λ (z : List Item). (nth_item z here).what ≡ Link c.args.p) c.items.ensures c.link_to-here.ensures.is in
     let known : AreFaceNumbers (skeleton_graph c.args.tree.now c.args.p) (system_at family c.args.p) c.as_slice-numbers.result.now =
     subst (AreFaceNumbers (skeleton_graph c.args.tree.now c.args.p) (system_at family c.args.p)) (sym numbers) (ready.each c.args.p a.near).numbers in
     let told : on_wanted (node_at c.args.tree.now c.args.p).kind (skeleton_graph c.args.tree.now c.args.p) (system_at family c.args.p) c.args.above (2 * there) ≡ false =
