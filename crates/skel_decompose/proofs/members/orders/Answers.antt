@@ -1,0 +1,8 @@
+use Rattle.std.proofs.Common.{ℕ, List, sym, subst}
+use Rattle.rotations.specs.Entries.{IsAbove}
+use Rattle.skeletons.specs.Families.{system_at}
+use Rattle.skel_compose.proofs.Rounds.{entries-above}
+use Rattle.skel_decompose.proofs.members.orders.Goals as goal
+
+pub push-requires : goal.push-requires
+push-requires c = let w = c.requires.family in subst (λ (z : List (ℕ × List ℕ)). IsAbove z c.loop-p.p) (sym (c.loop-p.invariant w.0 w.1 w.2)) (entries-above (system_at w.0 c.args.k) c.loop-p.p)

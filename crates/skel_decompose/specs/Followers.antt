@@ -1,0 +1,87 @@
+-- What follows each item of each node around its ends, as a table: a list for each node, with two places for each of its items.
+use Rattle.std.specs.Prelude.{◌≡◌, ℕ, ◌+◌, ◌*◌, ◌<◌, ◌==◌, ◌⊎◌, if◌then◌else◌, true, List, [], length, map, slice_index_or}
+use Rattle.permutations.specs.Cyclic.{successor}
+use Rattle.permutations.specs.Members.{place_of}
+use Rattle.multigraph.specs.Graph.{Multigraph, is_end, numbers_below, IsWithinLimits}
+use Rattle.rotations.specs.Rotation.{order_at, IsRotationSystem}
+use Rattle.pair_split.specs.Split.{is_beyond}
+use Rattle.pair_split.specs.Tutte.{Node, components, node_at, node_item, group}
+use Rattle.pair_split.specs.declared.components.What.TheVariants.{Real, Link}
+use Rattle.skeletons.specs.Items.{ends_item, IsBlockTree}
+use Rattle.skeletons.specs.Round.{IsContiguous}
+use Rattle.skeletons.specs.Families.{system_at, AreSkeletonSystems, FollowsFamily}
+use Rattle.skel_compose.specs.Homes.{IsHome}
+
+-- r is a rotation system of the block with this tree, and the groups of each node are in runs
+pub record IsInRuns (g : Multigraph) (nodes : List Node) (r : List (List ℕ)) : Type 0 where
+  pub block : IsBlockTree g nodes
+  pub limits : IsWithinLimits g
+  pub system : IsRotationSystem g r
+  pub runs : IsContiguous nodes r
+
+-- the family that r follows
+pub record IsFamily (nodes : List Node) (r : List (List ℕ)) (family : List (List (List ℕ))) : Type 0 where
+  pub systems : AreSkeletonSystems nodes family
+  pub follows : FollowsFamily nodes family r
+
+-- v is an end of item i of node k
+pub record IsItemEnd (nodes : List Node) (k i v : ℕ) : Type 0 where
+  pub is_node : k < length nodes
+  pub is_item : i < length (node_at nodes k).items
+  pub end : ends_item v (node_item nodes k i) ≡ true
+
+-- the place of item i of node k around v, one of its ends
+abbrev pub item_place : List Node → ℕ → ℕ → ℕ → ℕ
+item_place nodes k i v = (if (node_item nodes k i).a == v then 2 * i else 2 * i + 1)
+
+-- the list of node k
+abbrev pub row_at : List (List ℕ) → ℕ → List ℕ
+row_at table k = slice_index_or table k []
+
+-- the item that follows item i of node k around v in the family
+abbrev pub follower : List Node → List (List (List ℕ)) → ℕ → ℕ → ℕ → ℕ
+follower nodes family k i v = successor (order_at (system_at family k) (place_of (node_at nodes k).vertices v)) i
+
+-- the table has it
+abbrev pub HasFollower : List Node → List (List (List ℕ)) → List (List ℕ) → ℕ → ℕ → ℕ → Type 0
+HasFollower nodes family table k i v = slice_index_or (row_at table k) (item_place nodes k i v) 0 ≡ follower nodes family k i v
+
+-- for all items
+abbrev pub HasFollowers : List Node → List (List (List ℕ)) → List (List ℕ) → Type 0
+HasFollowers nodes family table = (k i v : ℕ) → IsItemEnd nodes k i v → HasFollower nodes family table k i v
+
+-- the table has all places
+pub record IsTable (nodes : List Node) (table : List (List ℕ)) : Type 0 where
+  pub each : length table ≡ length nodes
+  pub places : (k : ℕ) → k < length nodes → length (row_at table k) ≡ 2 * length (node_at nodes k).items
+
+-- what the old table has of the family, the new one has too
+abbrev pub Keeps : List Node → List (List (List ℕ)) → List (List ℕ) → List (List ℕ) → Type 0
+Keeps nodes family old new = (k i v : ℕ) → IsItemEnd nodes k i v → HasFollower nodes family old k i v → HasFollower nodes family new k i v
+
+-- item i of node k has edge e of v in its group as the last one before another group, or is e
+pub record IsLastOf (nodes : List Node) (r : List (List ℕ)) (v e k i : ℕ) : Type 0 where
+  pub place : IsItemEnd nodes k i v
+  pub own : group nodes k e ≡ (node_item nodes k i).key
+  pub apart : group nodes k (successor (order_at r v) e) ≡ (node_item nodes k i).key → (node_item nodes k i).what ≡ Real e
+
+-- the table has what follows such items
+abbrev pub HasLast : List Node → List (List ℕ) → List (List (List ℕ)) → List (List ℕ) → ℕ → ℕ → Type 0
+HasLast nodes r family table v e = (k i : ℕ) → IsLastOf nodes r v e k i → HasFollower nodes family table k i v
+
+-- for the edges that the nodes before k and the first n items of node k have, at both ends
+pub record HasLasts (g : Multigraph) (nodes : List Node) (r : List (List ℕ)) (family : List (List (List ℕ))) (k n : ℕ) (table : List (List ℕ)) : Type 0 where
+  pub before : (j i e v : ℕ) → j < k → IsHome nodes j i e → is_end g v e ≡ true → HasLast nodes r family table v e
+  pub here : (i e v : ℕ) → i < n → IsHome nodes k i e → is_end g v e ≡ true → HasLast nodes r family table v e
+
+-- the members of the family for the nodes below n
+abbrev pub members_below : List (List (List ℕ)) → ℕ → List (List (List ℕ))
+members_below family n = map (system_at family) (numbers_below n)
+
+-- node j is not beyond the item of node k that has edge e in its group
+abbrev pub IsOpen : List Node → ℕ → ℕ → ℕ → Type 0
+IsOpen nodes e k j = (j ≡ k → ⊥) → (p h : ℕ) → p < length (node_at nodes k).items → (node_item nodes k p).what ≡ Link h → is_beyond (components nodes) k h j ≡ true → group nodes k e ≡ (node_item nodes k p).key → ⊥
+
+-- what a walk from edge e around v that has come to node k has still to write is ahead of it
+abbrev pub IsAhead : List Node → List (List ℕ) → List (List (List ℕ)) → List (List ℕ) → ℕ → ℕ → ℕ → Type 0
+IsAhead nodes r family table v e k = (j h : ℕ) → IsLastOf nodes r v e j h → HasFollower nodes family table j h v ⊎ IsOpen nodes e k j

@@ -1,0 +1,2 @@
+-- What follows each item around its ends: tables of it, and how far they are filled.
+pub mod Followers

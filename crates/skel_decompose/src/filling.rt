@@ -1,0 +1,51 @@
+// The table filled by walks from all edges.
+
+ghost use Rattle.std.specs.Prelude.{◌+◌, ◌<◌, List, ℕ, length, IfOk};
+ghost use Rattle.skel_decompose.specs.Followers.{IsInRuns, IsFamily, IsTable, Keeps, HasLasts, HasFollowers};
+
+use crate::table::{Row, blank_table};
+use crate::walking::walk;
+use multigraph::Graph;
+use pair_split::What;
+use rotations::Rotation;
+use spqr_tree::Tree;
+use std::alloc::{AllocError, Global};
+
+// Walks from the edges that node k has, at both ends.
+fn fill_from(g: &Graph, tree: &Tree, r: &Rotation, k: u32, table: &mut [Row])
+    requires runs { IsInRuns g.now tree.now r.now }
+    requires node { k < length tree.now }
+    requires table { IsTable tree.now table.old }
+    ensures table { IsTable tree.now table.new }
+    ensures lasts { (family : List (List (List ℕ))) → IsFamily tree.now r.now family
+        → HasLasts g.now tree.now r.now family k 0 table.old
+        → HasLasts g.now tree.now r.now family (k + 1) 0 table.new }
+{
+    let items = tree.items(k);
+    for i in 0..items.len() as u32 {
+        if let What::Real(e) = items[i as usize].what {
+            let (a, b) = g.ends(e);
+            walk(tree, r, table, (k, i), a, e);
+            walk(tree, r, table, (k, i), b, e);
+        }
+    }
+}
+
+// What follows each item of each node around its ends.
+pub(crate) fn followers(
+    alloc: Global,
+    g: &Graph,
+    tree: &Tree,
+    r: &Rotation,
+) -> Result<Vec<Row>, AllocError>
+    requires runs { IsInRuns g.now tree.now r.now }
+    ensures table { IfOk result (λ table. IsTable tree.now table.items) }
+    ensures followers { IfOk result (λ table. (family : List (List (List ℕ)))
+        → IsFamily tree.now r.now family → HasFollowers tree.now family table.items) }
+{
+    let mut table = blank_table(alloc, tree)?;
+    for k in 0..tree.node_count() {
+        fill_from(g, tree, r, k, &mut table);
+    }
+    Ok(table)
+}

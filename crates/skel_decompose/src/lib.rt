@@ -1,0 +1,28 @@
+// Rotation systems of the skeletons of a block, read off one of the block: the inverse of `skel_compose::compose`.
+//
+// Where the groups of each node of the tree are in runs, as in every plane rotation system, the runs around a vertex of a node
+// are the items of its skeleton there, in their cyclic order (Di Battista and Tamassia 1996). So where edge f follows edge e
+// around v, and a node has them in the groups of two items, the one item follows the other there. The nodes that have them in two
+// groups are those on the way in the tree from the node that has e to the one that has f. A walk along it, for each edge at each
+// of its ends, writes what follows into a table. Every item of every node is written once at each of its ends: there the last edge
+// of its run is followed by one of another group, or the item is an edge that is alone at the vertex.
+//
+// `decompose` gives the one family that a rotation system follows, and fails only if memory runs out. All walks together take
+// as many steps as the skeletons have items, twice, and each step takes a binary search in a node. Nothing recurses.
+//
+// The lemmas, by their modules in proofs/:
+//   Searched  searched: a binary search by key
+//   Written   written, kept: what a table has after an entry is written; put-table, put-has, put-keeps
+//   Ahead     follows-here: what is written is right; ahead-starts, ahead-goes, ahead-ends: what a walk has still to write
+//   Complete  all-followers: with what follows the last edges of all runs a table has what follows each item
+//   Gathered  items-start, item-next: items gone around in the table; member-made, members-all: the members made of them
+#![tactic(auto)]
+
+mod decomposing;
+mod filling;
+mod members;
+mod searching;
+mod table;
+mod walking;
+
+pub use decomposing::decompose;

@@ -1,0 +1,39 @@
+// A walk in the tree from an edge to the one that follows it around a vertex.
+
+ghost use Rattle.std.specs.Prelude.{◌≡◌, ◌<◌, true, List, ℕ, length};
+ghost use Rattle.multigraph.specs.Graph.{Multigraph, edge_count, is_end};
+ghost use Rattle.skel_compose.specs.Homes.{IsHome};
+ghost use Rattle.skel_decompose.specs.Followers.{IsInRuns, IsFamily, IsTable, Keeps, HasLast};
+
+use crate::searching::item_of;
+use crate::table::{Row, item_place};
+use pair_split::What;
+use rotations::Rotation;
+use spqr_tree::Tree;
+
+// Writes at the nodes on the way that the item of the next edge around v follows that of e, `home` is the node and the item that e is.
+pub(crate) fn walk(tree: &Tree, r: &Rotation, table: &mut [Row], home: (u32, u32), v: u32, e: u32)
+    requires edge { (g : Multigraph) × IsInRuns g tree.now r.now × (e < edge_count g) × (is_end g v e ≡ true) }
+    requires node { home.0 < length tree.now }
+    requires home { IsHome tree.now home.0 home.1 e }
+    requires table { IsTable tree.now table.old }
+    ensures table { IsTable tree.now table.new }
+    ensures keeps { (family : List (List (List ℕ))) → IsFamily tree.now r.now family
+        → Keeps tree.now family table.old table.new }
+    ensures last { (family : List (List (List ℕ))) → IsFamily tree.now r.now family
+        → HasLast tree.now r.now family table.new v e }
+{
+    let next = r.succ(v, e);
+    let (mut k, mut i) = home;
+    for _links in 0..tree.node_count() {
+        let behind = item_of(tree, k, next);
+        table[k as usize].put(item_place(tree, k, i, v), behind);
+        match tree.items(k)[behind as usize].what {
+            What::Real(_) => return,
+            What::Link(j) => {
+                i = item_of(tree, j, e);
+                k = j;
+            }
+        }
+    }
+}
