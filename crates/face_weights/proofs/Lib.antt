@@ -1,0 +1,14 @@
+-- Lemmas on the weights of faces.
+pub mod FaceTotals
+pub mod Terms
+pub mod LinkFaces
+pub mod FaceBounds
+pub mod RestLemmas
+pub mod GroupSizes
+pub mod InOrder
+pub mod UpSteps
+pub mod DownSteps
+pub mod Weighed
+pub mod Steps
+pub mod OrderCode
+pub mod NodeCode

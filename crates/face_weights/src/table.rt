@@ -1,0 +1,68 @@
+// The weights of the links of a tree.
+
+ghost use Rattle.std.specs.Prelude.{◌≡◌, ◌<◌, ℕ, length, IfOk};
+ghost use Rattle.multigraph.specs.Graph.{Multigraph, IsWithinLimits};
+ghost use Rattle.skeletons.specs.Items.{IsBlockTree};
+ghost use Rattle.pair_split.specs.Tutte.{node_at};
+ghost use Rattle.face_weights.specs.Weights.{weight_of, IsSized};
+ghost use Rattle.face_weights.specs.Sums.{weight_in};
+
+use crate::weighing::weights_of;
+use spqr_tree::Tree;
+use std::alloc::{AllocError, Global};
+use std::marker::Model;
+
+/// The weights of the items of a tree, the greatest weight of a face, and a node that reaches it.
+#[derive(Debug, Drop)]
+pub struct Weights {
+    pub(crate) parents: Vec<u32>,
+    pub(crate) below: Vec<u32>,
+    pub(crate) above: Vec<u32>,
+    pub(crate) most: u32,
+    pub(crate) top: u32,
+}
+
+impl Model for Weights {
+    ghost use Rattle.face_weights.specs.Weights.{Weighing};
+
+    ghost Value = { Weighing };
+
+    ghost view = { λ w. record {
+      parents = w.parents.items;
+      below = w.below.items;
+      above = w.above.items;
+      most = w.most;
+      top = w.top;
+    } };
+}
+
+impl Weights {
+    /// The greatest weight of a face.
+    pub fn most(&self) -> u32
+        ensures { result ≡ self.now.most }
+    {
+        self.most
+    }
+
+    /// A node with a face of the greatest weight.
+    pub fn top(&self) -> u32
+        ensures { result ≡ self.now.top }
+    {
+        self.top
+    }
+
+    /// The weights of the items of node `k`, in their order. Fails only if memory runs out.
+    pub fn of_node(&self, alloc: Global, tree: &Tree, k: u32) -> Result<Vec<u32>, AllocError>
+        requires block { (g : Multigraph) × IsBlockTree g tree.now × IsWithinLimits g }
+        requires sized { IsSized tree.now self.now }
+        requires node { k < length tree.now }
+        ensures number { IfOk result (λ weights. length weights.items
+            ≡ length (node_at tree.now k).items) }
+        ensures each { IfOk result (λ weights. (i : ℕ) → i < length (node_at tree.now k).items
+            → weight_in weights.items i ≡ weight_of tree.now self.now k i) }
+    {
+        let parent = self.parents[k as usize];
+        let above = self.above[k as usize];
+        weights_of(alloc, tree.items(k), parent, &self.below, above)
+    }
+}

@@ -1,0 +1,200 @@
+// The weights of the items of a tree, by two passes over its nodes.
+
+ghost use Rattle.std.specs.Prelude.{◌≡◌, ◌<◌, ◌≤◌, ◌*◌, ◌+◌, ℕ, List, [], length, IfOk};
+ghost use Rattle.multigraph.specs.Graph.{Multigraph, IsWithinLimits, max_edges};
+ghost use Rattle.faces.specs.Euler.{IsPlane};
+ghost use Rattle.pair_split.specs.declared.components.What.TheVariants.{Link};
+ghost use Rattle.skeletons.specs.Items.{nth_item, IsBlockTree};
+ghost use Rattle.skeletons.specs.Families.{skeleton_graph, system_at, AreSkeletonSystems};
+ghost use Rattle.face_weights.specs.Weights.{weight_by};
+ghost use Rattle.face_weights.specs.Reached.{AreWeights};
+ghost use Rattle.face_weights.specs.Rests.{IsRest};
+ghost use Rattle.face_weights.specs.Sums.{weight_in};
+ghost use Rattle.face_weights.specs.Passes.{LinkOnce, IsOrderOf, AreBelow, AreDone, AreLight, AreHandedDown};
+
+use crate::ordering::{ABSENT, order_of};
+use crate::rests::rests_of;
+use crate::table::Weights;
+use pair_split::{Item, What};
+use rotations::Rotation;
+use spqr_tree::Tree;
+use std::alloc::{AllocError, Global};
+
+// The weights of the items of a node with this parent.
+pub(crate) fn weights_of(
+    alloc: Global,
+    items: &[Item],
+    parent: u32,
+    below: &[u32],
+    above: u32,
+) -> Result<Vec<u32>, AllocError>
+    requires within { (i j : ℕ) → i < length items.now
+        → (nth_item items.now i).what ≡ Link j → j < length below.now }
+    ensures number { IfOk result (λ weights. length weights.items ≡ length items.now) }
+    ensures each { IfOk result (λ weights. (i : ℕ) → i < length items.now
+        → weight_in weights.items i
+        ≡ weight_by parent (weight_in below.now) above (nth_item items.now i).what) }
+{
+    let mut weights = Vec::with_capacity(alloc, items.len())?;
+    for item in items {
+        weights.push(match item.what {
+            What::Real(_) => 1,
+            What::Link(j) => {
+                if j == parent {
+                    above
+                } else {
+                    below[j as usize]
+                }
+            }
+        })?;
+    }
+    Ok(weights)
+}
+
+// The rest at the link to the parent; none at the root.
+fn rest_at_parent(items: &[Item], parent: u32, rests: &[u32]) -> u32
+    requires number { length rests.now ≡ length items.now }
+    requires once { LinkOnce items.now }
+    ensures { (h : ℕ) → h < length items.now → (nth_item items.now h).what ≡ Link parent
+        → result ≡ weight_in rests.now h }
+{
+    for h in 0..items.len() {
+        if items[h].what == What::Link(parent) {
+            return rests[h];
+        }
+    }
+    0
+}
+
+// The weights of the links to the nodes from their parents.
+fn pass_up(
+    alloc: Global,
+    tree: &Tree,
+    members: &[Rotation],
+    parents: &[u32],
+    order: &[u32],
+) -> Result<Vec<u32>, AllocError>
+    requires block { (g : Multigraph) × IsBlockTree g tree.now × IsWithinLimits g }
+    requires systems { AreSkeletonSystems tree.now members.now }
+    requires plane { (k : ℕ) → k < length tree.now
+        → IsPlane (skeleton_graph tree.now k) (system_at members.now k) }
+    requires order { IsOrderOf tree.now parents.now order.now }
+    ensures number { IfOk result (λ below. length below.items ≡ length tree.now) }
+    ensures light { IfOk result
+        (λ below. AreLight tree.now parents.now below.items []) }
+    ensures below { IfOk result
+        (λ below. AreBelow tree.now members.now parents.now order.now 0 below.items) }
+{
+    let mut below = vec![in alloc; 0; tree.node_count() as usize]?;
+    let mut p = order.len();
+    while p > 0 {
+        p -= 1;
+        let k = order[p];
+        let items = tree.items(k);
+        let parent = parents[k as usize];
+        let weights = weights_of(alloc, items, parent, &below, 0)?;
+        let rests = rests_of(alloc, tree, members, k, &weights)?;
+        below[k as usize] = rest_at_parent(items, parent, &rests);
+    }
+    Ok(below)
+}
+
+// Notes the rest at each link to a child as the weight of the child's link to its parent.
+fn hand_down(items: &[Item], parent: u32, rests: &[u32], above: &mut [u32])
+    requires number { length rests.now ≡ length items.now }
+    requires once { LinkOnce items.now }
+    requires within { (i j : ℕ) → i < length items.now
+        → (nth_item items.now i).what ≡ Link j → j < length above.old }
+    ensures { AreHandedDown items.now parent rests.now (length items.now) above.old above.new }
+{
+    for i in 0..items.len() {
+        if let What::Link(j) = items[i].what {
+            if j != parent {
+                above[j as usize] = rests[i];
+            }
+        }
+    }
+}
+
+// The greatest sum of a weight and a rest.
+fn greatest_sum(weights: &[u32], rests: &[u32]) -> u32
+    requires some { 0 < length weights.now }
+    requires number { length rests.now ≡ length weights.now }
+    requires few { (i : ℕ) → i < length weights.now
+        → weight_in weights.now i + weight_in rests.now i ≤ 4 * max_edges }
+    ensures most { (i : ℕ) → i < length weights.now
+        → weight_in weights.now i + weight_in rests.now i ≤ result }
+    ensures reached { (i : ℕ) × (i < length weights.now)
+        × (weight_in weights.now i + weight_in rests.now i ≡ result) }
+{
+    let mut most = 0;
+    for i in 0..weights.len() {
+        most = most.max(weights[i] + rests[i]);
+    }
+    most
+}
+
+// The weights of the links from the nodes to their parents, the greatest weight of a face, and a node that reaches it.
+fn pass_down(
+    alloc: Global,
+    tree: &Tree,
+    members: &[Rotation],
+    parents: &[u32],
+    order: &[u32],
+    below: &[u32],
+) -> Result<(Vec<u32>, u32, u32), AllocError>
+    requires block { (g : Multigraph) × IsBlockTree g tree.now × IsWithinLimits g }
+    requires systems { AreSkeletonSystems tree.now members.now }
+    requires plane { (k : ℕ) → k < length tree.now
+        → IsPlane (skeleton_graph tree.now k) (system_at members.now k) }
+    requires order { IsOrderOf tree.now parents.now order.now }
+    requires number { length below.now ≡ length tree.now }
+    requires light { AreLight tree.now parents.now below.now [] }
+    ensures number { IfOk result (λ r. length r.0.items ≡ length tree.now) }
+    ensures done { IfOk result (λ r. AreDone tree.now members.now parents.now order.now below.now
+        r.0.items (length order.now) r.1 r.2) }
+{
+    let mut above = vec![in alloc; 0; tree.node_count() as usize]?;
+    let mut most = 0;
+    let mut top = 0;
+    for p in 0..order.len() {
+        let k = order[p];
+        let items = tree.items(k);
+        let parent = parents[k as usize];
+        let weights = weights_of(alloc, items, parent, below, above[k as usize])?;
+        let rests = rests_of(alloc, tree, members, k, &weights)?;
+        hand_down(items, parent, &rests, &mut above);
+        let sum = greatest_sum(&weights, &rests);
+        if most <= sum {
+            most = sum;
+            top = k;
+        }
+    }
+    Ok((above, most, top))
+}
+
+/// The weights of the items of a tree, one for each edge and two for each link, one in each direction: a link weighs as much as the
+/// heaviest face of the node beyond it that has the link back, without the link back; of a bond, as much as the heaviest other
+/// item. And the greatest weight of a face of a node, of a bond that of two items.
+///
+/// The members are plane rotation systems of the skeletons, one for each node. Takes time n log n for n items.
+/// Fails only if memory runs out.
+pub fn weigh(alloc: Global, tree: &Tree, members: &[Rotation]) -> Result<Weights, AllocError>
+    requires block { (g : Multigraph) × IsBlockTree g tree.now × IsWithinLimits g }
+    requires systems { AreSkeletonSystems tree.now members.now }
+    requires plane { (k : ℕ) → k < length tree.now
+        → IsPlane (skeleton_graph tree.now k) (system_at members.now k) }
+    ensures { IfOk result (AreWeights tree.now members.now) }
+{
+    let mut parents = vec![in alloc; ABSENT; tree.node_count() as usize]?;
+    let order = order_of(alloc, tree, &mut parents)?;
+    let below = pass_up(alloc, tree, members, &parents, &order)?;
+    let (above, most, top) = pass_down(alloc, tree, members, &parents, &order, &below)?;
+    Ok(Weights {
+        parents,
+        below,
+        above,
+        most,
+        top,
+    })
+}
