@@ -14,3 +14,4 @@ pub mod Walked
 pub mod Steps
 pub mod RowLemmas
 pub mod Final
+pub mod RowsMade

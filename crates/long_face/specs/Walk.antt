@@ -2,14 +2,15 @@
 use Rattle.std.specs.Prelude.{◌≡◌, ◌≢◌, ℕ, ◌<◌, true, List, length, slice_index_or, Option, Some}
 use Rattle.multigraph.specs.Graph.{Multigraph}
 use Rattle.dart_maps.specs.Map.{twin}
-use Rattle.pair_split.specs.Tutte.{Node, node_at, node_item}
+use Rattle.pair_split.specs.Tutte.{Node, components, node_at, node_item}
 use Rattle.pair_split.specs.declared.components.Kind.TheVariants.{P}
 use Rattle.pair_split.specs.declared.components.What.TheVariants.{Link}
 use Rattle.skeleton_faces.specs.Faces.{IsSkeletonDart, AreAcross}
-use Rattle.spqr_tree.specs.Keys.{parent_at}
+use Rattle.spqr_tree.specs.Keys.{parent_at, AreOrdered}
 use Rattle.long_face.specs.Wanted.{Want, IsPair}
 use Rattle.long_face.specs.Ready.{NodeRows, IsReady}
-use Rattle.long_face.specs.Settled.{has_want, want_or, want_at, IsBest, IsWantedAt, IsSettled}
+use Rattle.long_face.specs.Settled.{has_want, want_or, want_at, IsBest, IsWantedAt, IsSettled, AreSettled}
+use Rattle.permutations.specs.Members.{is_distinct}
 
 -- all is ready, for some family and weights
 abbrev pub IsSomeReady : List Node → List NodeRows → Type 0
@@ -38,3 +39,14 @@ pub record IsSettledAt (nodes : List Node) (family : List (List (List ℕ))) (we
 pub record AreSettledUpTo (nodes : List Node) (family : List (List (List ℕ))) (weight : ℕ → ℕ → ℕ) (top most : ℕ) (parents order : List ℕ) (n : ℕ) (wants : List (Option Want)) : Type 0 where
   pub places : length wants ≡ length nodes
   pub each : (q : ℕ) → q < n → q < length order → IsSettledAt nodes family weight top most parents wants (slice_index_or order q 0)
+
+-- what is wanted of the nodes, after the walk from the top
+pub record IsWalked (nodes : List Node) (family : List (List (List ℕ))) (weight : ℕ → ℕ → ℕ) (top most : ℕ) (wants : List (Option Want)) : Type 0 where
+  pub rows : List NodeRows
+  pub block : Multigraph
+  pub ready : IsReady block nodes family weight top most rows
+  pub parents : List ℕ
+  pub order : List ℕ
+  pub ordered : AreOrdered (components nodes) top parents order
+  pub once : is_distinct order ≡ true
+  pub settled : AreSettled nodes family weight top most parents wants

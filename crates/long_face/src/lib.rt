@@ -8,9 +8,10 @@
 // next to the link. So wanted faces fit together, and the block has a face as long as the top's weighs in the plane
 // rotation system with these choices and the present ones elsewhere.
 //
-// The laws: weights bound the faces of a block, wanted faces are reached, and a walk from the top leads to a longest face. The functions
-// are the steps of that walk: what is wanted of a node, which darts are on a wanted face, the moves to the wanted choices, and whether
-// there is a face of the length already. They are not joined yet.
+// `longest` gives the greatest length and the moves. It reads the family of the present rotation system (skel_decompose) and the weights
+// (face_weights), walks over the nodes from the top, each after its parent, and compares no rotation systems: no copy of the block is made,
+// and no ring is moved. The laws are its three parts: weights bound the faces of a block, wanted faces are reached, and a walk from the
+// top leads to a longest face.
 //
 // The lemmas (module of proofs/ in front):
 //   Lengths    listed-dart, dart-listed: the faces that are listed are those of the darts
@@ -18,10 +19,12 @@
 //   Bonds      bond-next, bond-face, bond-sum: the faces of a bond by its choice; Possible: choices that are possible
 //   Reached    reached: wanted faces are faces of some plane rotation system; Greatest table-bounds, wanted-reached
 //   FromTop    are-wanted: each node wants what its parent asks for; Best best-below: the heaviest face weighs enough
-//   Numbered   numbered-all: faces told apart by numbers; Asked one-side; Walked, Steps: the walk from the top
+//   Numbered   numbered-all: faces told apart by numbers; Asked one-side; Walked, Steps: the walk from the top; RowsMade all-ready; Final
 #![tactic(auto)]
 
 mod exchanged;
+mod finding;
+mod joining;
 mod laws;
 mod links;
 mod moving;
@@ -32,11 +35,6 @@ mod walking;
 mod wanting;
 mod wants;
 
+pub use finding::{LongestFace, longest};
 pub use laws::{walk_leads_to_longest, wanted_faces_are_reached, weights_bound_faces};
-pub use moving::moves_for;
-pub use numbers::face_numbers;
-pub use present::has_face;
-pub use rows::Rows;
-pub use walking::wants_from;
-pub use wanting::{greatest_want, is_wanted, want_of};
 pub use wants::Want;

@@ -92,10 +92,10 @@ fn add(list: &mut Vec<Move>, found: Option<Move>) -> Result<(), AllocError>
     }
 }
 
-/// The moves that make wanted faces faces, from the present rotation system of `p`, in order of the nodes: a flip of each triconnected node
-/// that is to be turned, and a permute of each bond in which another item is to follow an item (Di Battista and Tamassia 1996).
-/// Locks are not looked at. Fails only if memory runs out.
-pub fn moves_for(
+// The moves that make wanted faces faces, from the present rotation system of `p`, in order of the nodes: a flip of each triconnected node
+// that is to be turned, and a permute of each bond in which another item is to follow an item (Di Battista and Tamassia 1996).
+// Locks are not looked at. Fails only if memory runs out.
+pub(crate) fn moves_for(
     alloc: Global,
     p: &PlaneBlock,
     wants: &[Option<Want>],

@@ -22,9 +22,9 @@ fn note(graph: &Graph, pairs: &[(u32, u32)], number: u32, numbers: &mut [u32])
     }
 }
 
-/// The numbers of the faces of the rotation system `r` of the graph `g`, by their darts: darts have one number exactly where they are on
-/// one face. In linear time. Fails only if memory runs out.
-pub fn face_numbers(alloc: Global, g: &Graph, r: &Rotation) -> Result<Vec<u32>, AllocError>
+// The numbers of the faces of the rotation system `r` of the graph `g`, by their darts: darts have one number exactly where they are on
+// one face. In linear time. Fails only if memory runs out.
+pub(crate) fn face_numbers(alloc: Global, g: &Graph, r: &Rotation) -> Result<Vec<u32>, AllocError>
     requires { IsRotationSystem g.now r.now }
     ensures { IfOk result (λ numbers. AreFaceNumbers g.now r.now numbers.items) }
 {

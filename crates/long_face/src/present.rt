@@ -25,8 +25,8 @@ fn has_length(faces: &Faces, len: u32) -> bool
     false
 }
 
-/// Whether the rotation system `r` of the graph `g` has a face of this length. In linear time. Fails only if memory runs out.
-pub fn has_face(alloc: Global, g: &Graph, r: &Rotation, len: u32) -> Result<bool, AllocError>
+// Whether the rotation system `r` of the graph `g` has a face of this length. In linear time. Fails only if memory runs out.
+pub(crate) fn has_face(alloc: Global, g: &Graph, r: &Rotation, len: u32) -> Result<bool, AllocError>
     requires { IsRotationSystem g.now r.now }
     ensures found { IfOk result (λ has. has ≡ true → HasFace g.now r.now len) }
     ensures none { IfOk result (λ has. has ≡ false → HasFace g.now r.now len → ⊥) }

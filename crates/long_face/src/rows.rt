@@ -2,12 +2,12 @@
 
 use std::marker::Model;
 
-/// The weights of the items of a node, the weights of the faces of its darts, and the numbers of these faces.
+// The weights of the items of a node, the weights of the faces of its darts, and the numbers of these faces.
 #[derive(Debug, Drop)]
-pub struct Rows {
-    pub weights: Vec<u32>,
-    pub sums: Vec<u32>,
-    pub numbers: Vec<u32>,
+pub(crate) struct Rows {
+    pub(crate) weights: Vec<u32>,
+    pub(crate) sums: Vec<u32>,
+    pub(crate) numbers: Vec<u32>,
 }
 
 impl Model for Rows {

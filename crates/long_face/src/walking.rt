@@ -85,10 +85,10 @@ fn want_at_top(tree: &Tree, rows: &[Rows], top: u32) -> Want
     greatest_want(tree.kind(top), &row.weights, &row.sums)
 }
 
-/// What is wanted of the nodes, in an order in which each is after its parent, and the top is first: of the top its heaviest face, of a
-/// node of which its parent wants a dart of the link the heaviest face of the opposite dart, and nothing of others. In time n log n for n items.
-/// Fails only if memory runs out.
-pub fn wants_from(
+// What is wanted of the nodes, in an order in which each is after its parent, and the top is first: of the top its heaviest face, of a
+// node of which its parent wants a dart of the link the heaviest face of the opposite dart, and nothing of others. In time n log n for n items.
+// Fails only if memory runs out.
+pub(crate) fn wants_from(
     alloc: Global,
     tree: &Tree,
     rows: &[Rows],

@@ -42,8 +42,8 @@ fn other_greatest(numbers: &[u32], place: usize) -> usize
     other
 }
 
-/// The heaviest face of the dart: of a node of this kind with items of these weights, the darts of which have faces of these sums.
-pub fn want_of(kind: Kind, weights: &[u32], sums: &[u32], dart: u32) -> Want
+// The heaviest face of the dart: of a node of this kind with items of these weights, the darts of which have faces of these sums.
+pub(crate) fn want_of(kind: Kind, weights: &[u32], sums: &[u32], dart: u32) -> Want
     requires few { length weights.now < 2 ^ 31 }
     requires several { kind ≡ P → 2 ≤ length weights.now }
     requires sums { length sums.now ≡ 2 * length weights.now }
@@ -82,8 +82,8 @@ pub fn want_of(kind: Kind, weights: &[u32], sums: &[u32], dart: u32) -> Want
     }
 }
 
-/// The heaviest face of all: of a node of this kind with items of these weights, the darts of which have faces of these sums.
-pub fn greatest_want(kind: Kind, weights: &[u32], sums: &[u32]) -> Want
+// The heaviest face of all: of a node of this kind with items of these weights, the darts of which have faces of these sums.
+pub(crate) fn greatest_want(kind: Kind, weights: &[u32], sums: &[u32]) -> Want
     requires few { length weights.now < 2 ^ 31 }
     requires some { 0 < length weights.now }
     requires several { kind ≡ P → 2 ≤ length weights.now }
@@ -111,8 +111,8 @@ pub fn greatest_want(kind: Kind, weights: &[u32], sums: &[u32]) -> Want
     }
 }
 
-/// Whether the dart is on the wanted face, of a node of this kind the faces of which have these numbers by their darts.
-pub fn is_wanted(kind: Kind, numbers: &[u32], want: Want, dart: u32) -> bool
+// Whether the dart is on the wanted face, of a node of this kind the faces of which have these numbers by their darts.
+pub(crate) fn is_wanted(kind: Kind, numbers: &[u32], want: Want, dart: u32) -> bool
     requires faces { (g : Multigraph) × (r : List (List ℕ)) × AreFaceNumbers g r numbers.now }
     requires few { length numbers.now < 2 ^ 32 }
     requires wanted { want.dart < length numbers.now }
