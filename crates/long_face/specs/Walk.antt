@@ -41,10 +41,9 @@ pub record AreSettledUpTo (nodes : List Node) (family : List (List (List ℕ))) 
   pub each : (q : ℕ) → q < n → q < length order → IsSettledAt nodes family weight top most parents wants (slice_index_or order q 0)
 
 -- what is wanted of the nodes, after the walk from the top
-pub record IsWalked (nodes : List Node) (family : List (List (List ℕ))) (weight : ℕ → ℕ → ℕ) (top most : ℕ) (wants : List (Option Want)) : Type 0 where
+pub record IsWalked (g : Multigraph) (nodes : List Node) (family : List (List (List ℕ))) (weight : ℕ → ℕ → ℕ) (top most : ℕ) (wants : List (Option Want)) : Type 0 where
   pub rows : List NodeRows
-  pub block : Multigraph
-  pub ready : IsReady block nodes family weight top most rows
+  pub ready : IsReady g nodes family weight top most rows
   pub parents : List ℕ
   pub order : List ℕ
   pub ordered : AreOrdered (components nodes) top parents order

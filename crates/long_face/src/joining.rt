@@ -79,8 +79,9 @@ pub(crate) fn wants_of(
         → IsPlane (skeleton_graph tree.now k) (system_at members.now k) }
     requires weights { AreWeights tree.now members.now weights.now }
     ensures number { IfOk result (λ wants. length wants.items ≡ length tree.now) }
-    ensures walked { IfOk result (λ wants. IsWalked tree.now members.now
-        (weight_of tree.now weights.now) weights.now.top weights.now.most wants.items) }
+    ensures walked { IfOk result (λ wants. (g : Multigraph) → IsBlockTree g tree.now
+        → IsWithinLimits g → IsWalked g tree.now members.now (weight_of tree.now weights.now)
+        weights.now.top weights.now.most wants.items) }
 {
     let rows = rows_of(alloc, tree, members, weights)?;
     let top = weights.top();
