@@ -1,5 +1,7 @@
 -- The rows of the nodes, and that all is ready for the walk.
-use Rattle.std.proofs.Common.{◌≡◌, ◌≢◌, ℕ, ◌+◌, ◌*◌, ◌/◌, ◌<◌, ◌≤◌, cond, List, length, slice_index_or, refl, sym, ap, ◌∙◌, subst, arith}
+use Rattle.std.proofs.Common.{◌≡◌, ◌≢◌, ℕ, ◌+◌, ◌*◌, ◌/◌, ◌<◌, ◌≤◌, cond, List, [], ◌∷◌, ◌++◌, length, slice_index_or, inl, inr, refl, sym, ap, ◌∙◌, subst, arith}
+use Rattle.std.proofs.lemmas.Bool.{cases_eq}
+use Rattle.std.proofs.lemmas.List.{length-append, get_or_push, get_or_append_left}
 use Rattle.permutations.specs.Count.{sum_below}
 use Rattle.permutations.proofs.Sums.{sum_below-ext}
 use Rattle.multigraph.specs.Graph.{Multigraph, IsWithinLimits, edge_count, max_edges}
@@ -58,3 +60,14 @@ module _ (g : Multigraph) (nodes : List Node) (b : IsBlockTree g nodes) (limits 
     places = places;
     each = each;
   }
+
+-- one row more
+pub rows-more : (IsRow : ℕ → NodeRows → Type 0) (rows new : List NodeRows) (row : NodeRows) (k : ℕ) → (length rows ≡ k) × ((j : ℕ) → j < k → IsRow j (rows_at rows j)) → new ≡ rows ++ row ∷ [] → IsRow k row → (length new ≡ k + 1) × ((j : ℕ) → j < k + 1 → IsRow j (rows_at new j))
+rows-more IsRow rows new row k old e is = (ap length e ∙ length-append rows (row ∷ []) ∙ ap (λ n. n + 1) old.0, each)
+  where
+    each : (j : ℕ) → j < k + 1 → IsRow j (rows_at new j)
+    each j l = elim (cases_eq j k) [
+      | inl q ↦ subst (λ z. IsRow z (rows_at new z)) (sym q) (subst (IsRow k) (sym (ap (λ (z : List NodeRows). rows_at z k) e ∙ get_or_push rows row (record { weights = []; sums = []; numbers = [] }) k old.0)) is)
+      | inr n ↦ let m : j < k = omega (arith, l, n) in
+          subst (IsRow j) (sym (ap (λ (z : List NodeRows). rows_at z j) e ∙ get_or_append_left rows (row ∷ []) (record { weights = []; sums = []; numbers = [] }) j (omega (arith, m, old.0)))) (old.1 j m)
+    ]

@@ -1,7 +1,7 @@
 use Rattle.std.proofs.Common.{Ok, Err, rules}
 use Rattle.std.proofs.lemmas.List.Sorted.{answers_always}
 use Rattle.pair_split.specs.declared.components.Item.{Item}
-use Rattle.skel_compose.proofs.Found.{searched}
+use Rattle.long_face.proofs.LinkSearch.{searched}
 use Rattle.long_face.proofs.links.item_with_key.Goals as goal
 
 -- the closure gives an item's key, and the item that is found has the key
