@@ -14,7 +14,6 @@ use Rattle.skeletons.specs.Items.{item_key, IsBlockTree}
 use Rattle.skeletons.proofs.NodeItems.{no_item, nth_item}
 use Rattle.skeleton_runs.proofs.SkeletonGraph.{skeleton-limits, graph-edges}
 use Rattle.skel_compose.proofs.Back.{items-rise}
-use Rattle.skel_compose.proofs.Back.{items-rise}
 
 -- a binary search by key, among items in increasing order of their keys, one of which has the key
 module _ (items : List Item) (key : ℕ) (r : Rises (map item_key items)) where
