@@ -1,12 +1,12 @@
 -- The dart of a node that is asked for by what its parent wants.
-use Rattle.std.proofs.Common.{◌≡◌, ◌≢◌, ℕ, ◌+◌, ◌*◌, ◌/◌, ◌%◌, ◌<◌, ◌⊎◌, Bool, true, false, ◌||◌, ◌==◌, cond, List, length, inl, inr, refl, sym, ap, ◌∙◌, subst, arith, eqb-true}
+use Rattle.std.proofs.Common.{◌≡◌, ℕ, ◌+◌, ◌*◌, ◌/◌, ◌%◌, ◌<◌, ◌⊎◌, Bool, true, false, ◌==◌, cond, List, length, inl, inr, refl, sym, ap, ◌∙◌, subst, arith, eqb-true}
 use Rattle.std.specs.Prelude.{Option}
 use Rattle.std.proofs.lemmas.Bool.{cases_Bool, both_ways, or_cases}
 use Rattle.permutations.specs.Relation.{IsEquivalence}
 use Rattle.permutations.proofs.Orbits.{orbit-equivalence}
 use Rattle.multigraph.specs.Graph.{Multigraph, edge_count}
 use Rattle.dart_maps.specs.Map.{twin, face}
-use Rattle.dart_maps.proofs.Darts.{twin-even, twin-edge, twin-twin}
+use Rattle.dart_maps.proofs.Darts.{twin-even, twin-twin}
 use Rattle.faces.specs.Euler.{IsPlane}
 use Rattle.faces.specs.Maps.{dart_after}
 use Rattle.pair_split.specs.Tutte.{Node, node_at, node_item}
@@ -20,7 +20,7 @@ use Rattle.skeleton_planes.proofs.SkeletonDarts.{dart-item, item-dart}
 use Rattle.skeleton_faces.specs.Faces.{on_one_face, AreAcross}
 use Rattle.long_face.specs.Wanted.{Want, IsPair, on_wanted}
 use Rattle.long_face.specs.Settled.{has_want, want_or, IsWantedAt}
-use Rattle.long_face.proofs.Chosen.{link-two, turned-across}
+use Rattle.long_face.proofs.Chosen.{link-two}
 
 -- a number doubled, and one more
 half : (n : ℕ) → (2 * n) / 2 ≡ n

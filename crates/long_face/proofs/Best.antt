@@ -1,11 +1,11 @@
 -- The heaviest face of a dart that is asked for weighs as much as the link and the link back.
-use Rattle.std.proofs.Common.{◌≡◌, ◌≢◌, ℕ, ◌+◌, ◌*◌, ◌/◌, ◌%◌, ◌<◌, ◌≤◌, ◌⊎◌, Bool, true, false, cond, List, length, inl, inr, refl, sym, ap, ◌∙◌, subst, arith}
+use Rattle.std.proofs.Common.{◌≡◌, ◌≢◌, ℕ, ◌+◌, ◌*◌, ◌/◌, ◌<◌, ◌≤◌, ◌⊎◌, Bool, true, false, cond, List, length, inl, inr, refl, sym, ap, ◌∙◌, subst, arith}
 use Rattle.std.proofs.lemmas.Bool.{cases_Bool, true≢false}
-use Rattle.multigraph.specs.Graph.{Multigraph, edge_count}
+use Rattle.multigraph.specs.Graph.{Multigraph}
 use Rattle.rotations.specs.Rotation.{IsRotationSystem}
 use Rattle.rotations.specs.Runs.{mirror_image}
 use Rattle.dart_maps.specs.Map.{twin}
-use Rattle.dart_maps.proofs.Darts.{twin-below, twin-edge, twin-twin, edge-twin}
+use Rattle.dart_maps.proofs.Darts.{twin-edge, twin-twin, edge-twin}
 use Rattle.faces.specs.Euler.{IsPlane, dart_count}
 use Rattle.faces.proofs.MapMirror.{mirror-system}
 use Rattle.pair_split.specs.Tutte.{Node, node_at}

@@ -1,8 +1,8 @@
 -- The faces of a bond, by its choice: where a key follows another at the lesser pole, two darts of the two items are a face.
-use Rattle.std.proofs.Common.{◌≡◌, ◌≢◌, ℕ, ◌+◌, ◌*◌, ◌/◌, ◌%◌, ◌<◌, ◌≤◌, ◌⊎◌, Bool, true, false, not, ◌&&◌, ◌||◌, ◌==◌, List, length, map, inl, inr, refl, sym, ap, ap₂, ◌∙◌, subst, arith, eq-eqb, eqb-true}
-use Rattle.std.proofs.lemmas.Bool.{cases_eq, ne_eqb, and_from, or_cases, or_left, or_right, not_from_false}
-use Rattle.permutations.specs.Cyclic.{from_least, successor}
-use Rattle.permutations.specs.Members.{is_member, is_distinct, place_of}
+use Rattle.std.proofs.Common.{◌≡◌, ◌≢◌, ℕ, ◌+◌, ◌*◌, ◌/◌, ◌<◌, ◌≤◌, ◌⊎◌, Bool, true, not, ◌&&◌, ◌||◌, ◌==◌, List, length, map, inl, inr, refl, sym, ap, ap₂, ◌∙◌, subst, arith, eq-eqb, eqb-true}
+use Rattle.std.proofs.lemmas.Bool.{ne_eqb, and_from, or_cases, or_left, or_right, not_from_false}
+use Rattle.permutations.specs.Cyclic.{successor}
+use Rattle.permutations.specs.Members.{is_member, place_of}
 use Rattle.permutations.specs.Permutation.{Permutes, orbit_links}
 use Rattle.permutations.specs.Relation.{IsEquivalence, connected}
 use Rattle.permutations.proofs.Relation.{same-tests}
@@ -13,7 +13,7 @@ use Rattle.permutations.proofs.Successor.{successor-member}
 use Rattle.multigraph.specs.Graph.{Multigraph, edge_count}
 use Rattle.rotations.specs.Rotation.{order_at, IsRotationSystem}
 use Rattle.dart_maps.specs.Map.{twin, face, IsMap}
-use Rattle.dart_maps.proofs.Darts.{twin-below, twin-twin, twin-edge, edge-twin, face-permutes}
+use Rattle.dart_maps.proofs.Darts.{twin-twin, twin-edge, edge-twin, face-permutes}
 use Rattle.faces.specs.Euler.{dart_count, IsPlane}
 use Rattle.faces.specs.Maps.{dart_after, dart_before}
 use Rattle.faces.proofs.MapLists.{successor-map}

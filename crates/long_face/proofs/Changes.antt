@@ -1,12 +1,12 @@
 -- The key that follows another, and the move of a node.
-use Rattle.std.proofs.Common.{◌≡◌, ◌≢◌, ℕ, ◌+◌, ◌<◌, ◌≤◌, true, cond, List, [], ◌∷◌, ◌++◌, length, get_or, map, take, refl, sym, ap, ◌∙◌, subst, arith}
+use Rattle.std.proofs.Common.{◌≡◌, ◌≢◌, ℕ, ◌+◌, ◌≤◌, true, cond, List, [], ◌∷◌, ◌++◌, length, get_or, sym, ap, ◌∙◌, subst, arith}
 use Rattle.std.proofs.lemmas.List.{length-append, get_or-append-add}
-use Rattle.permutations.specs.Cyclic.{first_or, successor}
+use Rattle.permutations.specs.Cyclic.{successor}
 use Rattle.permutations.specs.Members.{is_distinct}
 use Rattle.permutations.proofs.CyclicSame.{outside}
 use Rattle.pair_split.specs.Tutte.{Node, node_at}
 use Rattle.skeletons.specs.Choices.{choice}
-use Rattle.skeletons.specs.Moves.{Move, move_of_kind}
+use Rattle.skeletons.specs.Moves.{move_of_kind}
 use Rattle.skeletons.proofs.Leading.{is-same}
 use Rattle.skel_embed.specs.Exchanges.{StandsAt}
 use Rattle.embed_convert.proofs.Between.{same-no}

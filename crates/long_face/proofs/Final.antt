@@ -1,5 +1,5 @@
 -- The moves that the walk from the top gives lead to a longest face.
-use Rattle.std.proofs.Common.{◌≡◌, ◌≢◌, ℕ, ◌+◌, ◌/◌, ◌<◌, true, List, length, sym, ap, ◌∙◌, subst}
+use Rattle.std.proofs.Common.{◌≡◌, ℕ, ◌<◌, true, List, length}
 use Rattle.std.specs.Prelude.{Option}
 use Rattle.permutations.specs.Members.{is_distinct, place_of}
 use Rattle.multigraph.specs.Graph.{Multigraph}
@@ -9,14 +9,14 @@ use Rattle.pair_split.specs.declared.components.Kind.TheVariants.{P}
 use Rattle.skeletons.specs.Families.{FollowsFamily}
 use Rattle.skeleton_faces.specs.Faces.{EdgesWeighOne}
 use Rattle.spqr_tree.specs.Keys.{AreOrdered}
-use Rattle.long_face.specs.Longest.{HasFace, NoneLonger, IsLongest}
+use Rattle.long_face.specs.Longest.{HasFace, IsLongest}
 use Rattle.long_face.specs.Laws.{WalkLeadsToLongest}
 use Rattle.long_face.specs.Moves.{moves_towards}
 use Rattle.long_face.specs.Ready.{NodeRows, IsReady}
 use Rattle.long_face.specs.Settled.{has_want, want_or, want_at, AreSettled}
 use Rattle.long_face.specs.Wanted.{Want, IsPair, AreWanted, choice_wanted}
 use Rattle.long_face.proofs.FromTop.{are-wanted}
-use Rattle.long_face.proofs.Greatest.{table-bounds, wanted-reached, present-longest, wanted-longest}
+use Rattle.long_face.proofs.Greatest.{table-bounds, wanted-reached, wanted-longest}
 
 module _ (g : Multigraph) (nodes : List Node) (family : List (List (List ℕ))) (weight : ℕ → ℕ → ℕ) (top most : ℕ) (rows : List NodeRows) (y : IsReady g nodes family weight top most rows) (parents order : List ℕ) (o : AreOrdered (components nodes) top parents order)
     (once : is_distinct order ≡ true) (wants : List (Option Want)) (s : AreSettled nodes family weight top most parents wants) where

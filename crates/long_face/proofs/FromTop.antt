@@ -1,5 +1,5 @@
 -- Where each node wants what its parent asks for, from the top on, the wanted faces fit together.
-use Rattle.std.proofs.Common.{◌≡◌, ◌≢◌, ℕ, ◌+◌, ◌*◌, ◌/◌, ◌<◌, ◌≤◌, ◌⊎◌, Bool, true, false, not, List, length, slice_index_or, inl, inr, refl, sym, ap, ◌∙◌, subst, arith}
+use Rattle.std.proofs.Common.{◌≡◌, ◌≢◌, ℕ, ◌+◌, ◌*◌, ◌/◌, ◌<◌, ◌⊎◌, Bool, true, not, List, length, inl, inr, refl, sym, ap, ◌∙◌, subst, arith}
 use Rattle.std.specs.Prelude.{Option}
 use Rattle.std.proofs.lemmas.Bool.{cases_eq, both_ways}
 use Rattle.permutations.specs.Members.{is_distinct, place_of}
@@ -9,18 +9,18 @@ use Rattle.dart_maps.specs.Map.{twin}
 use Rattle.dart_maps.proofs.Darts.{twin-below, twin-edge, twin-twin}
 use Rattle.faces.specs.Euler.{IsPlane}
 use Rattle.pair_split.specs.Split.{LinksTo, is_beyond}
-use Rattle.pair_split.specs.Tutte.{Node, components, node_at, node_item}
+use Rattle.pair_split.specs.Tutte.{Node, components, node_at}
 use Rattle.pair_split.specs.declared.components.Kind.TheVariants.{P}
 use Rattle.pair_split.specs.declared.components.What.TheVariants.{Link}
 use Rattle.pair_split.proofs.TreeSides.{beyond-other, beyond-near}
 use Rattle.skeletons.specs.Items.{IsBlockTree}
 use Rattle.skeletons.specs.Families.{skeleton_graph, system_at, AreSkeletonSystems}
-use Rattle.skeletons.proofs.NodeItems.{stands-of, comp-in, node-in}
+use Rattle.skeletons.proofs.NodeItems.{stands-of, comp-in}
 use Rattle.skeleton_planes.proofs.SkeletonDarts.{dart-item}
 use Rattle.skeleton_faces.specs.Faces.{IsSkeletonDart, AreAcross}
 use Rattle.spqr_tree.specs.Keys.{parent_at, AreOrdered}
-use Rattle.long_face.specs.Wanted.{Want, IsPair, AreWanted, is_wanted, weight_wanted}
-use Rattle.long_face.specs.Settled.{has_want, want_or, want_at, IsBest, IsWantedAt, IsSettled, AreSettled}
+use Rattle.long_face.specs.Wanted.{Want, IsPair, AreWanted, is_wanted}
+use Rattle.long_face.specs.Settled.{has_want, want_or, want_at, IsSettled, AreSettled}
 use Rattle.long_face.proofs.Chosen.{turned-across}
 
 module _ (g : Multigraph) (nodes : List Node) (b : IsBlockTree g nodes) (family : List (List (List ℕ))) (systems : AreSkeletonSystems nodes family) (plane : (k : ℕ) → k < length nodes → IsPlane (skeleton_graph nodes k) (system_at family k))

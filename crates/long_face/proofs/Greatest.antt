@@ -1,10 +1,10 @@
 -- The greatest length of a face, and the moves to a plane rotation system that has one.
-use Rattle.std.proofs.Common.{◌≡◌, ◌≢◌, ℕ, zero, suc, ◌+◌, ◌<◌, ◌≤◌, Bool, true, cond, List, [], ◌++◌, length, refl, sym, ap, ap₂, ◌∙◌, subst, arith, add-one}
+use Rattle.std.proofs.Common.{◌≡◌, ℕ, zero, suc, ◌+◌, ◌<◌, ◌≤◌, cond, List, [], ◌++◌, length, refl, sym, ap, ap₂, ◌∙◌, subst, arith, add-one}
 use Rattle.multigraph.specs.Graph.{Multigraph}
-use Rattle.faces.specs.Euler.{dart_count, IsPlaneSystem}
+use Rattle.faces.specs.Euler.{IsPlaneSystem}
 use Rattle.pair_split.specs.Tutte.{Node, node_at}
 use Rattle.skeletons.specs.Choices.{choice}
-use Rattle.skeletons.specs.Moves.{Move, is_same, move_of_kind, move_at, moves_below, moves_between}
+use Rattle.skeletons.specs.Moves.{Move, move_of_kind, moves_below}
 use Rattle.skeletons.proofs.Leading.{is-same}
 use Rattle.skeleton_planes.proofs.Followed.{follows-plane_back}
 use Rattle.skeleton_faces.specs.Faces.{face_length}

@@ -1,11 +1,10 @@
 -- The faces that are listed, by the darts: the length of a list is that of the face of a dart.
-use Rattle.std.proofs.Common.{◌≡◌, ℕ, ◌+◌, ◌*◌, ◌/◌, ◌<◌, ◌≤◌, true, List, [], length, get_or, map, refl, sym, ap, ap₂, ◌∙◌, subst, arith, Contains}
+use Rattle.std.proofs.Common.{◌≡◌, ℕ, ◌*◌, ◌/◌, ◌<◌, true, List, [], length, get_or, map, sym, ap, ap₂, ◌∙◌, subst}
 use Rattle.std.proofs.lemmas.List.{length-map, get_or-map, get_or_default}
 use Rattle.std.proofs.lemmas.List.Elements.{Contains-get_or}
-use Rattle.permutations.specs.Count.{count}
-use Rattle.permutations.specs.Permutation.{Permutes, same_orbit}
+use Rattle.permutations.specs.Permutation.{Permutes}
 use Rattle.permutations.specs.Members.{is_member}
-use Rattle.permutations.specs.Ring.{images, ring, orbit_length}
+use Rattle.permutations.specs.Ring.{ring, orbit_length}
 use Rattle.permutations.specs.Relation.{IsEquivalence}
 use Rattle.permutations.proofs.Count.{count-ext}
 use Rattle.permutations.proofs.Relation.{same-tests}

@@ -1,7 +1,7 @@
 -- The number of the list that has a dart tells its face.
-use Rattle.std.proofs.Common.{◌≡◌, ◌≢◌, ℕ, ◌+◌, ◌*◌, ◌/◌, ◌<◌, ◌≤◌, ◌⊎◌, ◌==◌, true, List, [], length, get_or, map, inl, inr, refl, sym, ap, ap₂, ◌∙◌, subst, arith, eq-eqb, eqb-true}
+use Rattle.std.proofs.Common.{◌≡◌, ℕ, ◌+◌, ◌*◌, ◌/◌, ◌<◌, ◌≤◌, ◌==◌, true, List, length, get_or, map, inl, inr, refl, sym, ap, ◌∙◌, subst, arith, eq-eqb, eqb-true}
 use Rattle.std.proofs.lemmas.Bool.{cases_eq}
-use Rattle.std.proofs.lemmas.List.{length-map, get_or-map, length-set, get_or-set_same}
+use Rattle.std.proofs.lemmas.List.{length-map, get_or-map}
 use Rattle.permutations.specs.Permutation.{Permutes}
 use Rattle.permutations.specs.Members.{is_member, place_of}
 use Rattle.permutations.specs.Ring.{ring, orbit_length}
@@ -16,7 +16,7 @@ use Rattle.rotations.specs.Rotation.{IsRotationSystem}
 use Rattle.dart_maps.specs.Map.{face}
 use Rattle.faces.specs.Euler.{tail, dart_from, dart_count, face_step}
 use Rattle.faces.specs.Maps.{dart_after}
-use Rattle.faces.specs.Trace.{pair_of, orbit_pairs, face_lists}
+use Rattle.faces.specs.Trace.{pair_of, face_lists}
 use Rattle.faces.specs.FaceLists.{IsListedOnce}
 use Rattle.faces.proofs.DartLemmas.{dart-edge, tail-end, dart_from-of_dart, face_back, face_step-permutes}
 use Rattle.faces.proofs.ListedOnce.{along-images, listed-orbit, listed-once}

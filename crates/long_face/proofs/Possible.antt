@@ -1,5 +1,5 @@
 -- The choices that make wanted faces are possible, and what they say of the rotation systems of the skeletons.
-use Rattle.std.proofs.Common.{◌≡◌, ◌≢◌, ℕ, ◌*◌, ◌/◌, ◌<◌, ◌≤◌, ◌⊎◌, true, List, length, map, reverse, inl, inr, refl, sym, ap, ◌∙◌, subst, arith, IsPermutation}
+use Rattle.std.proofs.Common.{◌≡◌, ◌≢◌, ℕ, ◌*◌, ◌/◌, ◌<◌, ◌⊎◌, true, List, length, reverse, inl, inr, sym, ap, ◌∙◌, subst, arith, IsPermutation}
 use Rattle.std.proofs.lemmas.List.{length-map, get_or-map}
 use Rattle.permutations.specs.Cyclic.{from_least, successor}
 use Rattle.permutations.specs.Members.{is_member, is_distinct}
@@ -21,7 +21,7 @@ use Rattle.faces.proofs.MapSteps.{map-permutes}
 use Rattle.planarity.proofs.TwoSystems.{two-systems}
 use Rattle.pair_split.specs.Tutte.{Node, node_at, node_item}
 use Rattle.pair_split.specs.declared.components.Kind.TheVariants.{P, R}
-use Rattle.skeletons.specs.Items.{item_key, node_keys, has_vertex, least_vertex, IsBlockTree}
+use Rattle.skeletons.specs.Items.{item_key, node_keys, least_vertex, IsBlockTree}
 use Rattle.skeletons.specs.Round.{keys_round, IsContiguous}
 use Rattle.skeletons.specs.Choices.{choice}
 use Rattle.skeletons.specs.Families.{skeleton_graph, system_at, IsPossible}

@@ -1,22 +1,19 @@
 -- Where faces are wanted of the skeletons, some plane rotation system of the block has a face as long as the top's weighs.
-use Rattle.std.proofs.Common.{◌≡◌, ◌≢◌, ℕ, ◌*◌, ◌/◌, ◌<◌, ◌≤◌, Bool, true, false, ◌||◌, ◌==◌, cond, List, length, inl, inr, refl, sym, ap, ◌∙◌, subst, arith}
+use Rattle.std.proofs.Common.{◌≡◌, ℕ, ◌*◌, ◌<◌, ◌≤◌, Bool, true, false, cond, List, length, inl, inr, refl, sym, ap, ◌∙◌, subst}
 use Rattle.std.proofs.lemmas.Bool.{cases_Bool}
 use Rattle.permutations.specs.Cyclic.{from_least, successor}
-use Rattle.multigraph.specs.Graph.{Multigraph, edge_count}
-use Rattle.rotations.specs.Rotation.{IsRotationSystem}
-use Rattle.rotations.specs.Runs.{mirror_image}
+use Rattle.multigraph.specs.Graph.{Multigraph}
 use Rattle.dart_maps.specs.Map.{twin}
 use Rattle.faces.specs.Euler.{dart_count, IsPlane, IsPlaneSystem}
 use Rattle.faces.specs.Maps.{dart_after}
 use Rattle.pair_split.specs.Tutte.{Node, node_at, node_item}
 use Rattle.pair_split.specs.declared.components.Kind.{Kind}
 use Rattle.pair_split.specs.declared.components.Kind.TheVariants.{S, P, R, B}
-use Rattle.skeletons.specs.Items.{least_vertex, IsBlockTree}
+use Rattle.skeletons.specs.Items.{IsBlockTree}
 use Rattle.skeletons.specs.Choices.{choice}
 use Rattle.skeletons.specs.Families.{skeleton_graph, system_at, AreSkeletonSystems, FollowsFamily, IsPossible}
 use Rattle.skeleton_runs.proofs.SkeletonGraph.{skeleton-graph}
 use Rattle.skeleton_planes.proofs.OneSystem.{polygon-law, small-law}
-use Rattle.skeleton_choices.proofs.Rounds.{skeleton_round}
 use Rattle.skeleton_choices.proofs.Plane.{Parts, parts}
 use Rattle.skeleton_choices.proofs.Told.{selection-exists}
 use Rattle.skel_embed.specs.Exchanges.{exchanged, turned_choice}

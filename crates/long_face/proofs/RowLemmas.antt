@@ -1,7 +1,7 @@
 -- How many items a node has, and the numbers that are kept for it.
-use Rattle.std.proofs.Common.{◌≡◌, ℕ, ◌*◌, ◌/◌, ◌<◌, ◌≤◌, ◌^◌, List, length, sym, ap, ◌∙◌, subst, arith}
+use Rattle.std.proofs.Common.{◌≡◌, ℕ, ◌*◌, ◌<◌, ◌≤◌, List, length, ap, ◌∙◌, subst, arith}
 use Rattle.std.proofs.lemmas.List.{length-map}
-use Rattle.multigraph.specs.Graph.{Multigraph, edge_count, max_edges}
+use Rattle.multigraph.specs.Graph.{Multigraph}
 use Rattle.pair_split.specs.Split.{items_of, piece_ends}
 use Rattle.pair_split.specs.Tutte.{Node, components, node_at, piece_of}
 use Rattle.pair_split.specs.declared.components.Kind.TheVariants.{P}

@@ -1,23 +1,21 @@
 -- The rows of the nodes, and that all is ready for the walk.
-use Rattle.std.proofs.Common.{◌≡◌, ◌≢◌, ℕ, ◌+◌, ◌*◌, ◌/◌, ◌<◌, ◌≤◌, cond, List, [], ◌∷◌, ◌++◌, length, slice_index_or, inl, inr, refl, sym, ap, ◌∙◌, subst, arith}
+use Rattle.std.proofs.Common.{◌≡◌, ℕ, ◌+◌, ◌*◌, ◌/◌, ◌<◌, ◌≤◌, cond, List, [], ◌∷◌, ◌++◌, length, slice_index_or, inl, inr, refl, sym, ap, ◌∙◌, subst, arith}
 use Rattle.std.proofs.lemmas.Bool.{cases_eq}
 use Rattle.std.proofs.lemmas.List.{length-append, get_or_push, get_or_append_left}
 use Rattle.permutations.specs.Count.{sum_below}
 use Rattle.permutations.proofs.Sums.{sum_below-ext}
 use Rattle.multigraph.specs.Graph.{Multigraph, IsWithinLimits, edge_count, max_edges}
-use Rattle.rotations.specs.Rotation.{IsRotationSystem}
-use Rattle.faces.specs.Euler.{dart_count, IsPlane, IsPlaneSystem}
+use Rattle.faces.specs.Euler.{dart_count, IsPlane}
 use Rattle.pair_split.specs.Tutte.{Node, node_at}
 use Rattle.skeletons.specs.Items.{IsBlockTree}
 use Rattle.skeletons.specs.Families.{skeleton_graph, system_at, AreSkeletonSystems}
 use Rattle.skeleton_runs.proofs.SkeletonGraph.{graph-edges}
 use Rattle.skeleton_planes.proofs.SkeletonDarts.{dart-item}
-use Rattle.skeleton_faces.specs.Faces.{on_one_face, face_weight}
+use Rattle.skeleton_faces.specs.Faces.{on_one_face}
 use Rattle.face_weights.specs.Weights.{Weighing, weight_of}
 use Rattle.face_weights.specs.Sums.{weight_in, AreFaceSums}
 use Rattle.face_weights.specs.Reached.{AreWeights}
 use Rattle.face_weights.proofs.NodeCode.{weights-few}
-use Rattle.long_face.specs.Heaviest.{number_in}
 use Rattle.long_face.specs.Numbers.{AreFaceNumbers}
 use Rattle.long_face.specs.Ready.{NodeRows, rows_at, AreRowsOf, IsReady}
 

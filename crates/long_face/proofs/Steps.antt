@@ -1,12 +1,11 @@
 -- One node more of the order, each after its parent.
-use Rattle.std.proofs.Common.{◌≡◌, ◌≢◌, ℕ, ◌+◌, ◌*◌, ◌/◌, ◌<◌, ◌≤◌, Bool, true, not, List, length, slice_index_or, slice_set, inl, inr, refl, sym, ap, ◌∙◌, subst, arith}
-use Rattle.std.specs.Prelude.{Option, None, Some}
+use Rattle.std.proofs.Common.{◌≡◌, ◌≢◌, ℕ, ◌+◌, ◌*◌, ◌<◌, ◌≤◌, true, not, List, length, slice_index_or, slice_set, inl, inr, refl, sym, ap, ◌∙◌, subst, arith}
+use Rattle.std.specs.Prelude.{Option, None}
 use Rattle.std.proofs.lemmas.Bool.{cases_eq, both_ways}
 use Rattle.std.proofs.lemmas.List.{length-set, get_or-set_same, get_or-set_other}
 use Rattle.permutations.specs.Members.{is_distinct}
 use Rattle.permutations.proofs.Places.{same-place}
 use Rattle.multigraph.specs.Graph.{Multigraph, edge_count}
-use Rattle.dart_maps.specs.Map.{twin}
 use Rattle.dart_maps.proofs.Darts.{twin-below}
 use Rattle.pair_split.specs.Split.{LinksTo, is_beyond}
 use Rattle.pair_split.specs.Tutte.{Node, components, node_at, node_item}
@@ -20,7 +19,6 @@ use Rattle.skeletons.proofs.Towards.{toward, toward-link}
 use Rattle.skeleton_faces.specs.Faces.{IsSkeletonDart}
 use Rattle.spqr_tree.specs.Keys.{parent_at, AreOrdered}
 use Rattle.long_face.specs.Wanted.{Want, IsPair}
-use Rattle.long_face.specs.Ready.{NodeRows, IsReady}
 use Rattle.long_face.specs.Settled.{has_want, want_or, want_at, IsBest, IsSettled, AreSettled}
 use Rattle.long_face.specs.Walk.{IsAskable, IsSettledAt, AreSettledUpTo}
 

@@ -1,5 +1,5 @@
 -- What is asked of a node by its parent, and the want that answers it.
-use Rattle.std.proofs.Common.{◌≡◌, ◌≢◌, ℕ, ◌+◌, ◌*◌, ◌/◌, ◌<◌, ◌≤◌, ◌⊎◌, Bool, true, false, cond, List, length, inl, inr, refl, sym, ap, ap₂, ◌∙◌, subst, arith}
+use Rattle.std.proofs.Common.{◌≡◌, ℕ, ◌+◌, ◌*◌, ◌/◌, ◌<◌, ◌⊎◌, Bool, true, false, List, length, inl, inr, refl, sym, ap, ◌∙◌, subst, arith}
 use Rattle.std.specs.Prelude.{Option, None, Some}
 use Rattle.std.proofs.lemmas.Bool.{both_ways, true≢false}
 use Rattle.multigraph.specs.Graph.{Multigraph}
@@ -7,7 +7,6 @@ use Rattle.dart_maps.specs.Map.{twin}
 use Rattle.dart_maps.proofs.Darts.{twin-even, twin-edge, twin-twin}
 use Rattle.faces.specs.Euler.{dart_count}
 use Rattle.pair_split.specs.Tutte.{Node, node_at, node_item}
-use Rattle.pair_split.specs.declared.components.Kind.{Kind}
 use Rattle.pair_split.specs.declared.components.Kind.TheVariants.{P}
 use Rattle.pair_split.specs.declared.components.What.TheVariants.{Link}
 use Rattle.skeletons.specs.Families.{skeleton_graph, system_at}
@@ -16,7 +15,7 @@ use Rattle.skeleton_faces.specs.Faces.{IsSkeletonDart, AreAcross}
 use Rattle.long_face.specs.Wanted.{Want, IsPair, on_wanted}
 use Rattle.long_face.specs.Heaviest.{IsGreatest, IsHeaviest, number_in}
 use Rattle.long_face.specs.Ready.{NodeRows, AreRowsOf, IsReady, rows_at}
-use Rattle.long_face.specs.Settled.{has_want, want_or, IsBest, IsWantedAt, IsSettled}
+use Rattle.long_face.specs.Settled.{IsBest, IsSettled}
 use Rattle.long_face.specs.Walk.{IsAskable, IsAsked}
 use Rattle.long_face.proofs.Asked.{across-first, across-second, across-cases, one-side}
 use Rattle.long_face.proofs.Best.{best-below, best-top, top-dart}

@@ -1,5 +1,5 @@
 -- The faces that are wanted of the skeletons, and the choices of the nodes that make them faces.
-use Rattle.std.specs.Prelude.{◌≡◌, ◌≢◌, ℕ, ◌+◌, ◌*◌, ◌/◌, ◌<◌, ◌⊎◌, Bool, true, false, ◌||◌, ◌==◌, cond, List, length}
+use Rattle.std.specs.Prelude.{◌≡◌, ◌≢◌, ℕ, ◌+◌, ◌*◌, ◌/◌, ◌<◌, ◌⊎◌, Bool, true, ◌||◌, ◌==◌, cond, List, length}
 use Rattle.permutations.specs.Cyclic.{from_least, successor}
 use Rattle.multigraph.specs.Graph.{Multigraph}
 use Rattle.dart_maps.specs.Map.{twin}

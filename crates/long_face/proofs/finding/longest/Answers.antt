@@ -1,4 +1,4 @@
-use Rattle.std.proofs.Common.{◌≡◌, ℕ, ◌<◌, List, [], length, sym, ◌∙◌, subst}
+use Rattle.std.proofs.Common.{ℕ, ◌<◌, List, length, sym, subst}
 use Rattle.multigraph.specs.Graph.{Multigraph}
 use Rattle.faces.specs.Euler.{IsPlane}
 use Rattle.pair_split.specs.Tutte.{Node}

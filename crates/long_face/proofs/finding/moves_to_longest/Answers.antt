@@ -1,5 +1,4 @@
-use Rattle.std.proofs.Common.{◌≡◌, ℕ, ◌<◌, List, length, sym, subst}
-use Rattle.std.specs.Prelude.{Option}
+use Rattle.std.proofs.Common.{ℕ, ◌<◌, List, length, sym, subst}
 use Rattle.std.proofs.lemmas.Result.{IfOk-weaker}
 use Rattle.multigraph.specs.Graph.{Multigraph, IsWithinLimits}
 use Rattle.faces.specs.Euler.{IsPlane}
@@ -11,7 +10,6 @@ use Rattle.face_weights.specs.Weights.{weight_of}
 use Rattle.long_face.specs.Longest.{IsLongest}
 use Rattle.long_face.specs.Settled.{AreSettled}
 use Rattle.long_face.specs.Walk.{IsWalked}
-use Rattle.long_face.specs.Wanted.{Want}
 use Rattle.long_face.proofs.Final.{wanted-pairs, walked-longest}
 use Rattle.long_face.proofs.finding.moves_to_longest.Goals as goal
 

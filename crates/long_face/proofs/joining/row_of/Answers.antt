@@ -1,4 +1,4 @@
-use Rattle.std.proofs.Common.{◌≡◌, ℕ, ◌*◌, ◌<◌, ◌≤◌, List, [], sym, ◌∙◌, subst}
+use Rattle.std.proofs.Common.{◌≡◌, ℕ, ◌*◌, ◌<◌, ◌≤◌, List, [], sym, subst}
 use Rattle.std.proofs.lemmas.List.{get_or_read}
 use Rattle.permutations.specs.Count.{sum_below}
 use Rattle.multigraph.specs.Graph.{Multigraph, edge_count, max_edges}

@@ -1,4 +1,4 @@
-use Rattle.std.proofs.Common.{◌≡◌, ℕ, true, List, sym, ap, ap₂, ◌∙◌}
+use Rattle.std.proofs.Common.{ℕ, List, sym, ap, ap₂, ◌∙◌}
 use Rattle.permutations.specs.Cyclic.{from_least, successor}
 use Rattle.permutations.specs.Members.{is_member, is_distinct}
 use Rattle.pair_split.specs.Tutte.{Node, node_at}

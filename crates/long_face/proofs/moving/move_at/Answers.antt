@@ -1,4 +1,4 @@
-use Rattle.std.proofs.Common.{◌≡◌, ℕ, cond, List, sym, ap}
+use Rattle.std.proofs.Common.{ℕ, cond, List, sym, ap}
 use Rattle.std.specs.Prelude.{Option}
 use Rattle.pair_split.specs.Tutte.{node_at, node_item}
 use Rattle.skeletons.specs.Choices.{choice}

@@ -1,4 +1,4 @@
-use Rattle.std.proofs.Common.{◌≡◌, ℕ}
+use Rattle.std.proofs.Common.{◌≡◌}
 use Rattle.skel_embed.specs.Values.{as_moves}
 use Rattle.long_face.specs.Moves.{moves_towards}
 use Rattle.long_face.specs.Settled.{has_want, want_or, want_at}

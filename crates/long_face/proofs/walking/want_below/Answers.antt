@@ -1,8 +1,7 @@
-use Rattle.std.proofs.Common.{◌≡◌, ℕ, ◌*◌, ◌/◌, ◌<◌, ◌≤◌, List, [], length, sym, ap, ◌∙◌, subst, arith}
+use Rattle.std.proofs.Common.{◌≡◌, ℕ, ◌/◌, ◌<◌, List, [], length, sym, ap, ◌∙◌, subst, arith}
 use Rattle.std.specs.Prelude.{Option}
 use Rattle.std.proofs.lemmas.List.{get_or_read}
 use Rattle.dart_maps.proofs.Darts.{twin-edge}
-use Rattle.pair_split.specs.Tutte.{node_at}
 use Rattle.pair_split.specs.declared.components.Kind.{Kind}
 use Rattle.skeleton_planes.proofs.SkeletonDarts.{dart-item}
 use Rattle.long_face.specs.Heaviest.{IsHeaviest, number_in}

@@ -1,5 +1,4 @@
-use Rattle.std.proofs.Common.{◌≡◌, ◌≢◌, ℕ, ◌+◌, ◌*◌, ◌/◌, ◌%◌, ◌<◌, ◌≤◌, length, inl, refl, sym, ◌∙◌, subst, arith}
-use Rattle.dart_maps.specs.Map.{twin}
+use Rattle.std.proofs.Common.{◌≡◌, ◌+◌, ◌*◌, ◌/◌, ◌%◌, ◌<◌, ◌≤◌, length, inl, refl, sym, ◌∙◌, subst, arith}
 use Rattle.dart_maps.proofs.Darts.{twin-even}
 use Rattle.long_face.specs.Heaviest.{number_in}
 use Rattle.long_face.proofs.Best.{two-kinds}
