@@ -12,7 +12,7 @@ use Rattle.skel_embed.specs.Exchanges.{StandsAt}
 use Rattle.embed_convert.proofs.Between.{same-no}
 use Rattle.long_face.specs.Moves.{move_towards}
 
--- what stands after a list and one more
+-- the member after a list and one more
 after-all : (front : List ℕ) (key z : ℕ) (back : List ℕ) (i : ℕ) → i ≡ length front + 1 → get_or (front ++ key ∷ z ∷ back) i 0 ≡ z
 after-all front key z back i e = ap (λ n. get_or (front ++ key ∷ z ∷ back) n 0) e ∙ get_or-append-add front (key ∷ z ∷ back) 1 0
 

@@ -101,7 +101,7 @@ module _ (g : Multigraph) (nodes : List Node) (b : IsBlockTree g nodes) (top : �
         other-at : (j : ℕ) → j ≢ slice_index_or order q 0 → want_at (slice_set wants (slice_index_or order q 0) own) j ≡ want_at wants j
         other-at j n = get_or-set_other wants k j own None n
 
-        -- what stands before is another node
+        -- before it are other nodes
         before : (p : ℕ) → p < q → p < length order → slice_index_or order p 0 ≢ slice_index_or order q 0
         before p a c e = let f : p ≡ q = same-place order p q once c m e in omega (arith, a, f)
 

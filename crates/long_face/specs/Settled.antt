@@ -1,4 +1,4 @@
--- State of a loop over the nodes from the top on: what each node wants, told by what its parent wants.
+-- State of a loop over the nodes from the top on: what each node wants, by what its parent wants.
 use Rattle.std.specs.Prelude.{◌≡◌, ◌≢◌, ℕ, ◌+◌, ◌/◌, ◌<◌, Bool, true, false, List, length, slice_index_or, Option, None, Some}
 use Rattle.dart_maps.specs.Map.{twin}
 use Rattle.pair_split.specs.Tutte.{Node, node_at}

@@ -12,7 +12,7 @@ use Rattle.skel_embed.specs.Exchanges.{exchanged, turned_choice}
 use Rattle.skeleton_faces.specs.Faces.{on_one_face, face_weight, IsSkeletonDart, AreAcross}
 pub use Rattle.long_face.specs.declared.wants.Want.{Want}
 
--- whether dart x is on the wanted face, told by the present rotation system of the skeleton
+-- whether dart x is on the wanted face, by the present rotation system of the skeleton
 abbrev pub on_wanted : Kind → Multigraph → List (List ℕ) → Want → ℕ → Bool
 on_wanted S graph r w x = on_one_face graph r w.dart x
 on_wanted B graph r w x = on_one_face graph r w.dart x
