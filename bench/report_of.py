@@ -249,6 +249,9 @@ class FreeMoves:
     def __init__(self, block, now, length):
         self.block, self.now, self.length = block, now, length
 
+    def __eq__(self, other):
+        return isinstance(other, FreeMoves) and (self.block.edges, self.now, self.length) == (other.block.edges, other.now, other.length)
+
     def read(self, printed):
         """What is printed after such moves; None where they are not such."""
         match = re.match(rb"moves ([1-9][0-9]*)\n((?:(?:flip [0-9]+|permute [0-9]+(?: [0-9]+)+)\n)+)", printed)
