@@ -9,6 +9,8 @@ mod conversions;
 #[cfg(test)]
 mod histories;
 #[cfg(test)]
+mod longest_faces;
+#[cfg(test)]
 mod made_graphs;
 #[cfg(test)]
 mod node_moves;
