@@ -1,14 +1,15 @@
 -- A point stacked on a contour: what is over the old contour, and under the new one.
-use Rattle.std.proofs.Common.{◌≡◌, ℕ, ◌⊎◌, inl, inr, ◌<◌, ◌≤◌, ◌+◌, ◌*◌, true, false, List, [], ◌∷◌, ◌++◌, arith, refl, sym, ◌∙◌, ap, ap₂, subst}
+use Rattle.std.proofs.Common.{append-nil, ◌≡◌, ℕ, ◌⊎◌, inl, inr, ◌<◌, ◌≤◌, ◌+◌, ◌*◌, true, false, List, [], ◌∷◌, ◌++◌, arith, refl, sym, ◌∙◌, ap, ap₂, subst}
 use Rattle.std.proofs.lemmas.Bool.{cases_lt, false≢true}
 use Rattle.std.proofs.lemmas.Nat.{mul-le}
 use Rattle.plane_points.specs.Turning.{turns_left}
 use Rattle.plane_points.specs.Segments.{weighted, times, same_way}
 use Rattle.plane_points.proofs.Turns.{Left, left-true, true-left, left-false, left-around}
-use Rattle.plane_points.proofs.Directions.{lower-turns}
+use Rattle.plane_points.proofs.Directions.{Comes, lower-turns}
+use Rattle.plane_points.proofs.Cyclic.{counter-to}
 use Rattle.plane_points.proofs.Rising.{Each, Rises, each-map, rises-map, rises-pairs, pairs-rises, each-append, each-second, rises-second, rises-across}
 use Rattle.stacked_points.specs.Contours.{Successive, IsContour, IsBetween, is_over, IsUnder, IsSegmentUnder, stretch, contour_of, Overlooks}
-use Rattle.stacked_points.specs.Laws.{FanTurns, FanIsApart, NewIsOver, NewMeetsOld, NewMeetsSegments, NewIsNotUnder}
+use Rattle.stacked_points.specs.Laws.{FanTurns, FanIsApart, FanGoesAround, NewIsOver, NewMeetsOld, NewMeetsSegments, NewIsNotUnder}
 use Rattle.stacked_points.proofs.Chains.{chain-map, chain-both, chain-each, rises-chain, chain-first, chain-second, chain-join, all-each, each-all, each-cut, each-both, rises-short}
 use Rattle.stacked_points.proofs.Overs.{After, Before, new-right, new-left, old-right, old-left}
 
@@ -40,6 +41,14 @@ fan_turns v l below c = rises-pairs (λ a b. turns_left v a b ≡ true) l (rises
 
 pub fan_is_apart : FanIsApart
 fan_is_apart v l below c = rises-pairs (λ a b. same_way v a b ≡ false) l (rises-map (Left v) (λ a b. same_way v a b ≡ false) (λ a b h. rw (true-left v a b h)) l (fan v l (all-each (λ a. a.1 < v.1) l below) c))
+
+-- below v, a turn to the left is a step on
+comes-below : (v : ℕ × ℕ) (l : List (ℕ × ℕ)) → Each (λ a. a.1 < v.1) l → Rises (Left v) l → Rises (Comes v) l
+comes-below v [] e r = tt
+comes-below v (a ∷ l) e r = (each-map (λ b. (b.1 < v.1) × Left v a b) (Comes v a) (λ b y. inr (inr (inl e.0, inl y.0), y.1)) l (each-both (λ b. b.1 < v.1) (Left v a) l e.1 r.0), comes-below v l e.1 r.1)
+
+pub fan_goes_around : FanGoesAround
+fan_goes_around v l below c = let e : Each (λ a. a.1 < v.1) l = all-each (λ a. a.1 < v.1) l below in counter-to v l (l, [], sym (append-nil l), comes-below v l e (fan v l e c))
 
 -- the points of a list to the right of one of them, and to its left
 after-each : (v : ℕ × ℕ) (f : List (ℕ × ℕ)) (w : ℕ × ℕ) (g : List (ℕ × ℕ)) → Rises Across (f ++ w ∷ g) → Rises (Left v) (f ++ w ∷ g) → Each (After v w) (w ∷ g)

@@ -1,6 +1,6 @@
 -- What is proved of a point v stacked on a contour, as statements.
-use Rattle.std.specs.Prelude.{◌≡◌, ℕ, ◌+◌, ◌<◌, true, false, List, [], ◌∷◌, All, AllPairs}
-use Rattle.plane_points.specs.Turning.{turns_left}
+use Rattle.std.specs.Prelude.{◌≡◌, ◌⊎◌, ℕ, ◌+◌, ◌<◌, true, false, List, [], ◌∷◌, All, AllPairs}
+use Rattle.plane_points.specs.Turning.{turns_left, comes_before, IsCounterclockwise}
 use Rattle.plane_points.specs.Segments.{weighted, times, same_way}
 use Rattle.stacked_points.specs.Contours.{Successive, IsContour, IsBetween, is_over, IsUnder, IsSegmentUnder, stretch, contour_of, Overlooks, TwoTurnLeft}
 
@@ -11,6 +11,10 @@ FanTurns = (v : ℕ × ℕ) (points : List (ℕ × ℕ)) → All (λ a. a.1 < v.
 -- so no two of them lie in one direction
 abbrev pub FanIsApart : Type 0
 FanIsApart = (v : ℕ × ℕ) (points : List (ℕ × ℕ)) → All (λ a. a.1 < v.1) points → Successive (λ a b. turns_left a b v ≡ true) points → AllPairs (λ a b. same_way v a b ≡ false) points
+
+-- and the list goes counterclockwise around v
+abbrev pub FanGoesAround : Type 0
+FanGoesAround = (v : ℕ × ℕ) (points : List (ℕ × ℕ)) → All (λ a. a.1 < v.1) points → Successive (λ a b. turns_left a b v ≡ true) points → IsCounterclockwise v points
 
 -- a point of the segment from v to a point w of the stretch, other than w, is over each edge between whose ends it lies
 abbrev pub NewIsOver : Type 0
@@ -64,3 +68,13 @@ FirstTurns = (c x v y : ℕ × ℕ) → y.1 ≡ c.1 → c.0 < y.0 → c.1 < x.1 
 -- at the last point, where x is the first one
 abbrev pub LastTurns : Type 0
 LastTurns = (c x v y : ℕ × ℕ) → x.1 ≡ c.1 → x.0 < c.0 → c.1 < y.1 → turns_left y c v ≡ true → TwoTurnLeft c x v y
+
+-- the directions to x and y differ, one of them coming first: to the two sides of c, and from the first and the last point of the contour
+abbrev pub SidesDiffer : Type 0
+SidesDiffer = (c x y : ℕ × ℕ) → y.0 < c.0 → c.0 < x.0 → (comes_before c x y ≡ true) ⊎ (comes_before c y x ≡ true)
+
+abbrev pub FirstDiffer : Type 0
+FirstDiffer = (c x y : ℕ × ℕ) → y.1 ≡ c.1 → c.0 < y.0 → c.1 < x.1 → comes_before c y x ≡ true
+
+abbrev pub LastDiffer : Type 0
+LastDiffer = (c x y : ℕ × ℕ) → x.1 ≡ c.1 → x.0 < c.0 → c.1 < y.1 → comes_before c y x ≡ true

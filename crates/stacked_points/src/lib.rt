@@ -19,19 +19,22 @@
 //   Thirds    right-third, left-third: two turns make a third, all points on one side; near-, far-right and -left: over an edge
 //   Overs     new-, old-right and -left: the same k-fold, of a point of a new segment, and of one over a new edge
 //   Chains    lists whose members are related to the next ones
-//   Stacking  fan; overs, no-span, meets; Under  old, new; Corners  the order around the old points
+//   Stacking  fan: around v; overs, no-span, meets: new segments and the old contour; Under  old, new: under the new contour
+//   Corners   right-across, left-across: the order around the points of the old contour
 #![tactic(auto)]
 
-ghost use Rattle.stacked_points.specs.Laws.{FanIsApart, FanTurns};
+ghost use Rattle.stacked_points.specs.Laws.{FanGoesAround, FanIsApart, FanTurns};
+ghost use Rattle.stacked_points.specs.Laws.{FirstDiffer, LastDiffer, SidesDiffer};
 ghost use Rattle.stacked_points.specs.Laws.{FirstTurns, InnerTurns, LastTurns, LeftEndTurns, RightEndTurns};
 ghost use Rattle.stacked_points.specs.Laws.{NewIsNotUnder, NewIsOver, NewMeetsOld, NewMeetsSegments};
 ghost use Rattle.stacked_points.specs.Laws.{NewIsUnder, OldStaysUnder, StaysContour};
 
 /// The laws that points below v, with v over each edge from one to the next, come counterclockwise around v: each two make a turn
-/// to the left, so no two lie in one direction.
+/// to the left, so no two lie in one direction, and the list goes counterclockwise.
 pub fn points_fan_out()
     ensures turn { FanTurns }
     ensures apart { FanIsApart }
+    ensures around { FanGoesAround }
 {}
 
 /// The laws that a point of a new segment is over each edge of the stretch that spans it, unless it is the lower end; so it is on
@@ -60,4 +63,11 @@ pub fn corners_turn()
     ensures right { RightEndTurns }
     ensures first { FirstTurns }
     ensures last { LastTurns }
+{}
+
+/// The laws that the directions to the two neighbours differ, as one more point at the end of a counterclockwise list asks.
+pub fn neighbours_differ()
+    ensures sides { SidesDiffer }
+    ensures first { FirstDiffer }
+    ensures last { LastDiffer }
 {}
