@@ -2,7 +2,8 @@
 """report_of.py: the report that the program must print for a GML file and a script, by the slow definitions of embeddings.py.
 
   report_of.py GRAPH SCRIPT              prints the report; for a certificate, which is free, there is a line `nonplanar B ?`
-  report_of.py GRAPH SCRIPT REPORT       compares a printed report with it, and checks its certificates
+                                         and for moves that are free, of `longest`, a line `moves ?`
+  report_of.py GRAPH SCRIPT REPORT       compares a printed report with it, and checks its certificates and free moves
   --composed                             finds the lists by composing skeletons even where all rotation systems could be tried
 
 Small blocks are listed by trying all their rotation systems, others by composing those of their skeletons. A graph file that
@@ -12,7 +13,7 @@ import re
 import sys
 
 import head_of
-from embeddings import (OVER, Block, Composed, choice, choices, faces, flip, from_least, full_list, is_plane, mirror, moves_between,
+from embeddings import (OVER, Block, Composed, choice, choices, faces, flip, from_least, full_list, is_plane, mirror, move, moves_between,
                         numbered, permute, rotation_total, runs, text_of)
 
 TRIED = 20000
@@ -140,7 +141,7 @@ def command(line):
         return ("euler", rotation_of(after(1)))
     if name in ("undo", "redo", "gml") and not rest:
         return (name,)
-    if name in ("show", "faces", "mirror", "first", "next", "count", "rank") and len(rest) == 1:
+    if name in ("show", "faces", "mirror", "first", "next", "count", "rank", "longest") and len(rest) == 1:
         return (name, number(rest[0]))
     if name in ("flip", "lock", "unlock") and len(rest) == 2:
         return (name, number(rest[0]), number(rest[1]))
@@ -195,6 +196,9 @@ class Tried:
     def first(self):
         return self.members[0]
 
+    def every(self):
+        return self.members
+
     def count(self, now, locked):
         return len(self.kept(now, locked))
 
@@ -215,6 +219,11 @@ class Made:
     def first(self):
         return self.way.compose(self.way.choices_at(0, [()] * len(self.block.nodes)))
 
+    def every(self):
+        if self.way.count() > TRIED:
+            sys.exit(f"a block has {self.way.count()} members, too many to try them all")
+        return (self.way.compose(self.way.choices_at(rank, [()] * len(self.block.nodes))) for rank in range(self.way.count()))
+
     def count(self, now, locked):
         return self.way.count(locked)
 
@@ -227,6 +236,39 @@ class Made:
 
 class Refused(Exception):
     """A code with its numbers."""
+
+
+def longest(block, rotation):
+    """The length of the longest face."""
+    return max(map(len, faces(block.edges, rotation)))
+
+
+class FreeMoves:
+    """Any moves of a block from `now` to a plane rotation system with a face of this length."""
+
+    def __init__(self, block, now, length):
+        self.block, self.now, self.length = block, now, length
+
+    def __eq__(self, other):
+        return isinstance(other, FreeMoves) and (self.block.edges, self.now, self.length) == (other.block.edges, other.now, other.length)
+
+    def read(self, printed):
+        """What is printed after such moves; None where they are not such."""
+        match = re.match(rb"moves ([1-9][0-9]*)\n((?:(?:flip [0-9]+|permute [0-9]+(?: [0-9]+)+)\n)+)", printed)
+        if not match or int(match[1]) != match[2].count(b"\n"):
+            return None
+        found = [line.split() for line in match[2].decode().splitlines()]
+        found = [(m[0], int(m[1])) if m[0] == "flip" else (m[0], int(m[1]), tuple(map(int, m[2:]))) for m in found]
+        for m in found:
+            if m[1] >= len(self.block.nodes) or self.block.nodes[m[1]].kind != {"flip": "R", "permute": "P"}[m[0]]:
+                return None
+            if m[0] == "permute" and sorted(m[2]) != self.block.nodes[m[1]].keys:
+                return None
+        there = self.now
+        for m in found:
+            there = move(self.block, m, there)
+        right = is_plane(self.block, there) and longest(self.block, there) == self.length and moves_between(self.block, self.now, there) == found
+        return printed[match.end():] if right else None
 
 
 def bad_vertex(at, entries):
@@ -425,6 +467,11 @@ class Session:
         self.set(b, wanted, locked)
         return [f"moves {len(found)}"] + [f"flip {m[1]}" if m[0] == "flip" else f"permute {m[1]} {' '.join(map(str, m[2]))}" for m in found]
 
+    def do_longest(self, b, block, lists, now, locked):
+        """By trying all members, whatever is locked."""
+        length = max(longest(block, member) for member in lists.every())
+        return [f"longest {length}", "moves 0" if longest(block, now) == length else FreeMoves(block, now, length)]
+
     def do_convert(self, b, block, lists, now, locked, rank):
         count = self.total(lists, now, locked)
         if rank >= count:
@@ -455,7 +502,7 @@ def report(graph, script, composed):
 
 
 def as_bytes(lines):
-    return b"".join(line if isinstance(line, bytes) else line.encode() + b"\n" for line in lines)
+    return b"".join(line if isinstance(line, bytes) else b"moves ?\n" if isinstance(line, FreeMoves) else line.encode() + b"\n" for line in lines)
 
 
 # Certificates.
@@ -505,6 +552,12 @@ def compare(wanted, printed, graph):
             if not is_certificate(match[1].decode(), branch, paths, ends, {e for e, _, _ in found[b]}):
                 return f"the certificate of block {b} is none"
             printed = printed[match.end():]
+            continue
+        if isinstance(line, FreeMoves):
+            rest = line.read(printed)
+            if rest is None:
+                return f"wanted moves to a face of length {line.length}, printed {printed[:60]!r}"
+            printed = rest
             continue
         text = line if isinstance(line, bytes) else line.encode() + b"\n"
         if not printed.startswith(text):

@@ -12,6 +12,7 @@ FORMS = {
     "euler": "euler ROT", "show": "show B", "faces": "faces B", "flip": "flip B K", "permute": "permute B K KEYS", "mirror": "mirror B",
     "first": "first B", "next": "next B", "list": "list B N", "lock": "lock B K", "goto": "goto B R", "convert": "convert B rank R, or convert B to ROT",
     "take": "take B ROT", "undo": "undo", "redo": "redo", "gml": "gml", "count": "count B", "rank": "rank B", "unlock": "unlock B K",
+    "longest": "longest B",
 }
 ARGUMENTS = {"B": ("a block", 2 ** 32), "K": ("a node", 2 ** 32), "N": ("the number of members", 10_001), "R": ("a rank", 2 ** 128)}
 CODES = {

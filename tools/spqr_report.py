@@ -140,6 +140,13 @@ class Moves:
 
 
 @dataclass(frozen=True)
+class Longest:
+    """The answer of `longest`: the greatest length of a face, and moves that lead to one; they are not made."""
+    length: int
+    moves: tuple[Move, ...]
+
+
+@dataclass(frozen=True)
 class Document:
     """The answer of `gml`: the graph file in the written layout."""
     text: bytes
@@ -162,7 +169,7 @@ class Error:
     numbers: tuple[int, ...]
 
 
-Answer = Union[Euler, Rotation, Faces, Listed, Count, Rank, Moves, Document, Ok, End, Error]
+Answer = Union[Euler, Rotation, Faces, Listed, Count, Rank, Moves, Longest, Document, Ok, End, Error]
 
 
 @dataclass(frozen=True)
@@ -373,6 +380,11 @@ def _moves(reader: _Reader, command: Command) -> Moves:
     return Moves(tuple(_move(reader.line().split(" "), command.block) for _ in range(total)))
 
 
+def _longest(reader: _Reader, command: Command) -> Longest:
+    length = int(reader.words("longest")[0])
+    return Longest(length, _moves(reader, command).moves)
+
+
 def _move(words: list[str], block: Optional[int]) -> Move:
     if block is None:
         raise ReportError("moves answer a command without a block")
@@ -400,6 +412,7 @@ _ANSWERS: dict[str, Callable[[_Reader, Command], Answer]] = {
     "count": lambda reader, _: Count(int(reader.words("count")[0])),
     "rank": lambda reader, _: Rank(int(reader.words("rank")[0])),
     "moves": _moves,
+    "longest": _longest,
     "gml": lambda reader, _: Document(reader.take(int(reader.words("gml")[0]))),
     "ok": _bare(Ok()),
     "end": _bare(End()),

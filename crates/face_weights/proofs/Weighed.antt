@@ -16,14 +16,14 @@ use Rattle.spqr_tree.specs.Keys.{parent_at}
 use Rattle.face_weights.specs.Weights.{Weighing, weight_of}
 use Rattle.face_weights.specs.Reached.{AreWeights}
 use Rattle.face_weights.specs.Rests.{IsRest}
-use Rattle.face_weights.specs.Passes.{IsOrderOf, weights_at, AreBelow, IsDone, IsMost, AreDone}
+use Rattle.face_weights.specs.Passes.{IsOrderOf, AreLight, weights_at, AreBelow, IsDone, IsMost, AreDone}
 use Rattle.face_weights.proofs.RestLemmas.{rest-once, rest-other}
 use Rattle.face_weights.proofs.InOrder.{weight-edge, weight-up, weight-down, place-of, some, once, child-parent, parent-one}
 
 -- a block with its tree, a plane family, an order of the nodes, and what the passes made
 module _ (g : Multigraph) (nodes : List Node) (b : IsBlockTree g nodes) (family : List (List (List ℕ))) (systems : AreSkeletonSystems nodes family)
     (plane : (k : ℕ) → k < length nodes → IsPlane (skeleton_graph nodes k) (system_at family k)) (parents order : List ℕ) (o : IsOrderOf nodes parents order) (below above : List ℕ) (most top : ℕ)
-    (number : length below ≡ length nodes) (also : length above ≡ length nodes) (up : AreBelow nodes family parents order 0 below) (down : AreDone nodes family parents order below above (length order) most top) where
+    (number : length below ≡ length nodes) (also : length above ≡ length nodes) (up : AreBelow nodes family parents order 0 below) (down : AreDone nodes family parents order below above (length order) most top) (light : AreLight nodes parents below above) where
   -- all weights
   abbrev all : Weighing
   all = record { parents = parents; below = below; above = above; most = most; top = top }
@@ -86,6 +86,7 @@ module _ (g : Multigraph) (nodes : List Node) (b : IsBlockTree g nodes) (family 
   pub weighed : AreWeights nodes family all
   weighed = record {
     sized = record { parents = o.ordered.places ∙ length-map nodes (λ node. record { kind = node.kind; items = map piece_of node.items }); below = number; above = also };
+    light = light;
     edges = λ k i e w. weight-edge (parent_at parents k) (λ j. slice_index_or below j 0) (slice_index_or above k 0) (node_item nodes k i).what e w;
     table = record {
       links = λ k d j e a n.

@@ -4,6 +4,7 @@ use Rattle.pair_split.specs.Tutte.{Node, node_at}
 use Rattle.pair_split.specs.declared.components.Kind.TheVariants.{P}
 use Rattle.skeleton_faces.specs.Faces.{skeleton_weight, IsSkeletonDart, AreAcross, EdgesWeighOne}
 use Rattle.skeleton_faces.specs.Tables.{IsTable}
+use Rattle.face_weights.specs.Passes.{AreLight}
 use Rattle.face_weights.specs.Weights.{Weighing, weight_of, IsSized}
 
 -- each link weighs as much as some face of the node at its other end that has the link back, without the link back: of a bond, where
@@ -23,6 +24,7 @@ pub record IsTop (nodes : List Node) (family : List (List (List ℕ))) (weight :
 -- the weights bound the faces, and each is reached
 pub record AreWeights (nodes : List Node) (family : List (List (List ℕ))) (w : Weighing) : Type 0 where
   pub sized : IsSized nodes w
+  pub light : AreLight nodes w.parents w.below w.above
   pub edges : EdgesWeighOne nodes (weight_of nodes w)
   pub table : IsTable nodes family (weight_of nodes w) w.most
   pub reached : AreReached nodes family (weight_of nodes w)

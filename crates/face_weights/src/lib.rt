@@ -35,6 +35,7 @@ mod sums;
 mod table;
 mod weighing;
 
+pub use ordering::{ABSENT, order_from};
 pub use sums::face_sums;
 pub use table::Weights;
 pub use weighing::weigh;

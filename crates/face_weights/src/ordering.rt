@@ -1,22 +1,22 @@
 // The nodes of a tree in an order in which each is after its parent.
 
-ghost use Rattle.std.specs.Prelude.{◌≡◌, ◌<◌, ◌++◌, ℕ, cond, length, map, IfOk};
-ghost use Rattle.permutations.specs.Members.{is_member};
+ghost use Rattle.std.specs.Prelude.{◌≡◌, ◌<◌, ◌++◌, ℕ, true, cond, length, map, IfOk};
+ghost use Rattle.permutations.specs.Members.{is_distinct, is_member};
 ghost use Rattle.multigraph.specs.Graph.{Multigraph, IsWithinLimits};
 ghost use Rattle.pair_split.specs.Split.{items_of};
 ghost use Rattle.pair_split.specs.Tutte.{components, piece_of};
 ghost use Rattle.pair_split.specs.declared.components.What.TheVariants.{Link};
 ghost use Rattle.skeletons.specs.Items.{IsBlockTree};
 ghost use Rattle.spqr_tree.specs.Absent.{absent};
-ghost use Rattle.spqr_tree.specs.Keys.{parent_at, child, AreWithin, AddsChildren};
+ghost use Rattle.spqr_tree.specs.Keys.{parent_at, child, AreOrdered, AreWithin, AddsChildren};
 ghost use Rattle.face_weights.specs.Passes.{IsOrderOf};
 
 use pair_split::{Item, What};
 use spqr_tree::Tree;
 use std::alloc::{AllocError, Global};
 
-// No node: the parent of the root.
-pub(crate) const ABSENT: u32 = u32::MAX;
+/// No node: the parent of the root.
+pub const ABSENT: u32 = u32::MAX;
 
 // Notes k as the parent of the node to which a link leads, and puts that one on the list, unless it is k's parent.
 fn add_child(
@@ -59,6 +59,33 @@ fn add_children(
     Ok(())
 }
 
+/// The nodes of a tree, each after its parent, from the root on, and the parents. In time in proportion to the items. Fails only if
+/// memory runs out.
+pub fn order_from(
+    alloc: Global,
+    tree: &Tree,
+    root: u32,
+    parents: &mut [u32],
+) -> Result<Vec<u32>, AllocError>
+    requires block { (g : Multigraph) × IsBlockTree g tree.now × IsWithinLimits g }
+    requires root { root < length tree.now }
+    requires places { length parents.old ≡ length tree.now }
+    requires none { parent_at parents.old root ≡ absent }
+    ensures ordered { IfOk result (λ order. AreOrdered (components tree.now) root parents.new
+        order.items) }
+    ensures distinct { IfOk result (λ order. is_distinct order.items ≡ true) }
+{
+    let mut order = Vec::with_capacity(alloc, tree.node_count() as usize)?;
+    order.push(root)?;
+    for i in 0..tree.node_count() as usize {
+        if i < order.len() {
+            let k = order[i];
+            add_children(tree.items(k), k, parents, &mut order)?;
+        }
+    }
+    Ok(order)
+}
+
 // The nodes, each after its parent, from node 0 on, which is the root.
 pub(crate) fn order_of(
     alloc: Global,
@@ -70,13 +97,5 @@ pub(crate) fn order_of(
     requires none { parent_at parents.old 0 ≡ absent }
     ensures { IfOk result (λ order. IsOrderOf tree.now parents.new order.items) }
 {
-    let mut order = Vec::with_capacity(alloc, tree.node_count() as usize)?;
-    order.push(0)?;
-    for i in 0..tree.node_count() as usize {
-        if i < order.len() {
-            let k = order[i];
-            add_children(tree.items(k), k, parents, &mut order)?;
-        }
-    }
-    Ok(order)
+    Ok(order_from(alloc, tree, 0, parents)?)
 }

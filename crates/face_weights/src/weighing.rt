@@ -151,6 +151,7 @@ fn pass_down(
     requires number { length below.now ≡ length tree.now }
     requires light { AreLight tree.now parents.now below.now [] }
     ensures number { IfOk result (λ r. length r.0.items ≡ length tree.now) }
+    ensures light { IfOk result (λ r. AreLight tree.now parents.now below.now r.0.items) }
     ensures done { IfOk result (λ r. AreDone tree.now members.now parents.now order.now below.now
         r.0.items (length order.now) r.1 r.2) }
 {

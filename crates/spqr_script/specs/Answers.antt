@@ -9,3 +9,4 @@ pub mod Rank
 pub mod Rotation
 pub mod Faces
 pub mod Moves
+pub mod Longest

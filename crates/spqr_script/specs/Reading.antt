@@ -16,7 +16,7 @@ use Rattle.spqr_script.specs.declared.word.Word.{Word}
 use Rattle.spqr_script.specs.declared.word.Word.TheVariants as word
 use Rattle.spqr_script.specs.declared.command.Command.{Command}
 use Rattle.spqr_script.specs.declared.command.Command.TheVariants as command
-use Rattle.spqr_script.specs.declared.command.Command.TheVariants.{Euler, Show, Faces, Flip, Permute, Mirror, First, Next, Goto, ConvertRank, ConvertTo, Take, Undo, Redo, Gml, Count, Rank, Lock, Unlock}
+use Rattle.spqr_script.specs.declared.command.Command.TheVariants.{Euler, Show, Faces, Flip, Permute, Mirror, First, Next, Goto, ConvertRank, ConvertTo, Take, Undo, Redo, Gml, Count, Rank, Longest, Lock, Unlock}
 
 -- the number of a vertex, an edge, a block, a node or a key
 abbrev pub index_of : List ℕ → Option ℕ
@@ -127,6 +127,7 @@ arguments_of word.Redo tokens = alone Redo tokens
 arguments_of word.Gml tokens = alone Gml tokens
 arguments_of word.Count tokens = index_then (λ b. alone (Count b)) tokens
 arguments_of word.Rank tokens = index_then (λ b. alone (Rank b)) tokens
+arguments_of word.Longest tokens = index_then (λ b. alone (Longest b)) tokens
 arguments_of word.Lock tokens = index_then (λ b. index_then (λ k. alone (Lock b k))) tokens
 arguments_of word.Unlock tokens = index_then (λ b. index_then (λ k. alone (Unlock b k))) tokens
 

@@ -98,6 +98,7 @@ pub(crate) fn read_arguments(
         Word::Gml => Ok(alone(Command::Gml, text)),
         Word::Count => Ok(block(text).map(Command::Count)),
         Word::Rank => Ok(block(text).map(Command::Rank)),
+        Word::Longest => Ok(block(text).map(Command::Longest)),
         Word::Lock => Ok(read_lock(text)),
         Word::Unlock => Ok(read_unlock(text)),
     }

@@ -45,6 +45,8 @@ pub enum Command {
     Count(u32),
     /// `rank B`: print the place of the present member in it.
     Rank(u32),
+    /// `longest B`: print the length of the longest face that block B can have, and moves that lead to one.
+    Longest(u32),
     /// `lock B K`: keep the choice of node K of block B.
     Lock(u32, u32),
     /// `unlock B K`: let the choice of node K of block B change again.

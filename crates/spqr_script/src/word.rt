@@ -39,6 +39,8 @@ pub enum Word {
     Count,
     /// `rank`.
     Rank,
+    /// `longest`.
+    Longest,
     /// `lock`.
     Lock,
     /// `unlock`.
@@ -46,7 +48,7 @@ pub enum Word {
 }
 
 // Every word, each once.
-static WORDS: [Word; 19] = [
+static WORDS: [Word; 20] = [
     Word::Euler,
     Word::Show,
     Word::Faces,
@@ -64,6 +66,7 @@ static WORDS: [Word; 19] = [
     Word::Gml,
     Word::Count,
     Word::Rank,
+    Word::Longest,
     Word::Lock,
     Word::Unlock,
 ];
@@ -90,6 +93,7 @@ fn spelling(word: Word) -> &'static [u8]
         Word::Gml => b"gml",
         Word::Count => b"count",
         Word::Rank => b"rank",
+        Word::Longest => b"longest",
         Word::Lock => b"lock",
         Word::Unlock => b"unlock",
     }

@@ -1,12 +1,12 @@
 -- Commands that name a block: the codes of their ladders, that they do one thing, and what they leave.
-use Rattle.std.proofs.Common.{◌≡◌, ℕ, ◌<◌, ◌≤◌, Bool, true, false, not, nat_lt, List, [], ◌∷◌, ◌++◌, length, map, Option, None, Some, Result, IfOk, inl, inr, refl, sym, ap, ◌∙◌, subst, arith}
+use Rattle.std.proofs.Common.{◌≡◌, ℕ, ◌<◌, ◌≤◌, Bool, true, false, not, List, [], ◌∷◌, ◌++◌, length, map, Option, None, Some, Result, IfOk, inl, inr, refl, sym, ap, ◌∙◌, subst, arith}
 use Rattle.std.specs.Global.{Vec}
-use Rattle.std.proofs.lemmas.Bool.{cases_Bool, ltb-true, lt-ltb, true≢false, not_from_false, not_from_true}
+use Rattle.std.proofs.lemmas.Bool.{cases_Bool, ltb-true, lt-ltb, true≢false}
 use Rattle.std.proofs.lemmas.List.{length-map}
 use Rattle.spqr_session.specs.Trees.{BlockTree, tree_at}
 use Rattle.spqr_session.specs.State.{Embedding, State, entry_at}
 use Rattle.spqr_session.specs.Codes.{code_text, Ladder, rises_above, first_code}
-use Rattle.spqr_session.specs.BlockCodes.{is_block, is_planar, block_ladder, of_entry, ReadsBlock, ChangesBlock, changed, read_ladder, ReadStep, Answered, TellsBlock}
+use Rattle.spqr_session.specs.BlockCodes.{is_block, is_planar, block_ladder, of_entry, ReadsBlock, read_ladder, ReadStep, Answered, TellsBlock}
 use Rattle.spqr_session.specs.Embedded.{BlockView, view_tree, view_entry, view_at}
 use Rattle.spqr_session.specs.declared.code.Code.{Code}
 use Rattle.spqr_session.specs.declared.code.Code.TheVariants.{NoBlock, NonPlanar}

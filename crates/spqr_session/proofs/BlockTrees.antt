@@ -3,8 +3,7 @@ use Rattle.std.proofs.Common.{◌≡◌, ℕ, ◌+◌, ◌<◌, List, [], ◌∷
 use Rattle.std.proofs.lemmas.Bool.{cases_eq}
 use Rattle.std.proofs.lemmas.List.{get_or_default, get_or_append_left, length-map}
 use Rattle.std.proofs.Math.Seq.{get_or-append_seam}
-use Rattle.multigraph.specs.Graph.{Multigraph, IsGraph}
-use Rattle.multigraph.specs.Part.{GraphPart}
+use Rattle.multigraph.specs.Graph.{Multigraph}
 use Rattle.blocks.specs.Blocks.{block_at}
 use Rattle.kuratowski.specs.declared.subdivision.Subdivision.{Subdivision}
 use Rattle.spqr_script.specs.Head.{block_text}

@@ -1,25 +1,22 @@
 -- Commands that change a block: they do one thing, and lead from a state to a state.
-use Rattle.std.proofs.Common.{◌≡◌, ◌≢◌, ℕ, ◌<◌, ◌≤◌, Bool, true, false, not, nat_lt, List, [], ◌∷◌, ◌++◌, length, set, slice_index_or, Option, None, Some, All, inl, inr, refl, sym, ap, ◌∙◌, subst, arith}
-use Rattle.std.proofs.lemmas.Bool.{cases_eq, cases_lt, ltb-true, lt-ltb, true≢false}
+use Rattle.std.proofs.Common.{◌≡◌, ℕ, ◌<◌, ◌≤◌, Bool, true, not, List, ◌∷◌, ◌++◌, length, set, slice_index_or, Option, None, Some, inl, inr, refl, sym, ap, ◌∙◌, subst, arith}
+use Rattle.std.proofs.lemmas.Bool.{cases_eq, cases_lt, ltb-true, true≢false}
 use Rattle.std.proofs.lemmas.List.{length-set, get_or-set_same, get_or-set_other, get_or_past}
 use Rattle.std.proofs.lemmas.List.Elements.{All-cons, All-nil}
-use Rattle.pair_split.specs.Tutte.{node_at}
 use Rattle.pair_split.specs.declared.components.Kind.{Kind}
 use Rattle.pair_split.specs.declared.components.Kind.TheVariants.{S, P, R, B}
 use Rattle.kuratowski.specs.declared.subdivision.Subdivision.{Subdivision}
-use Rattle.spqr_script.specs.Answers.Change.{ok_text}
 use Rattle.spqr_session.specs.Trees.{BlockTree, tree_at}
 use Rattle.spqr_session.specs.Certificates.{certificate_at}
-use Rattle.spqr_session.specs.Setting.{Setting, IsSetting}
+use Rattle.spqr_session.specs.Setting.{Setting}
 use Rattle.spqr_session.specs.State.{Embedding, Family, State, entry_at, IsEntry, IsFamily, IsState}
-use Rattle.spqr_session.specs.Codes.{Ladder, Applies, Carries, rises_above, first_code}
-use Rattle.spqr_session.specs.declared.code.Code.{Code}
+use Rattle.spqr_session.specs.Codes.{Ladder, first_code}
 use Rattle.spqr_session.specs.declared.code.Code.TheVariants.{NoBlock, NoNode, WrongKind, NonPlanar}
-use Rattle.spqr_session.specs.BlockCodes.{is_block, is_node, kind_of, is_planar, node_ladder, of_entry, lock_codes, ChangesBlock, with_entry, changed, Silently}
-use Rattle.pair_split.specs.Kinds.{is_rigid, is_bond, has_choices}
+use Rattle.spqr_session.specs.BlockCodes.{is_block, is_node, kind_of, is_planar, node_ladder, ChangesBlock, with_entry, changed, Silently}
+use Rattle.pair_split.specs.Kinds.{is_rigid, is_bond}
 use Rattle.spqr_session.proofs.Carried.{DoesOne}
-use Rattle.spqr_session.proofs.Ladders.{rung-hit, rung-missed, rung-none}
-use Rattle.spqr_session.proofs.BlockCarried.{held, in-block, block-in, block-out, planar-entry, entry-same}
+use Rattle.spqr_session.proofs.Ladders.{rung-none}
+use Rattle.spqr_session.proofs.BlockCarried.{held, in-block, planar-entry, entry-same}
 
 -- ---- kinds
 

@@ -26,7 +26,7 @@ use Rattle.spqr_session.proofs.Moved.{between-made}
 use Rattle.spqr_session.proofs.Planes.{seen_embedding, SeenPlane}
 
 -- a value that stands for a move is that of the move
-values-back : (moves : List Move) → map value_of (as_moves moves) ≡ moves
+pub values-back : (moves : List Move) → map value_of (as_moves moves) ≡ moves
 values-back [] = refl
 values-back (Flip k ∷ moves) = ap (λ (l : List Move). Flip k ∷ l) (values-back moves)
 values-back (Permute k keys ∷ moves) = ap (λ (l : List Move). Permute k keys ∷ l) (values-back moves)
@@ -44,7 +44,7 @@ module _ (part : GraphPart) (nodes : List Node) (tree : items.IsBlockTree part.g
   move-within (Permute k keys) h =
       All-permutation (λ e. e < edge_count part.graph) (items.node_keys nodes k) keys h.1 (keys-of part (node_at nodes k).items (node-of_part part nodes k tree.graph tree.tree h.0.0).items)
 
-  moves-within : (moves : List Move) → All (Fits nodes) (as_moves moves) → All (IsMoveOf part.graph) moves
+  pub moves-within : (moves : List Move) → All (Fits nodes) (as_moves moves) → All (IsMoveOf part.graph) moves
   moves-within [] h = All-nil (IsMoveOf part.graph)
   moves-within (move ∷ moves) h =
       All-cons (IsMoveOf part.graph) move moves (move-within move (All-head (Fits nodes) (as_move move) (as_moves moves) h)) (moves-within moves (All-tail (Fits nodes) (as_move move) (as_moves moves) h))

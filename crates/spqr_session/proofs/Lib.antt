@@ -34,6 +34,8 @@ pub mod WalkPlans
 pub mod MemberLines
 pub mod TakePlans
 pub mod ConvertPlans
+pub mod GreatestFaces
+pub mod LongestCarried
 pub mod Chains
 pub mod Steps
 pub mod DisjointLists

@@ -1,5 +1,5 @@
 -- Plans that are told by the lowest code that applies: what comes of them, with `ok` or with the moves told.
-use Rattle.std.proofs.Common.{◌≡◌, ℕ, true, List, map, Result, Ok, Err, IfOk, OnErr, inl, inr, refl, sym, ap, ◌∙◌, subst}
+use Rattle.std.proofs.Common.{◌≡◌, ℕ, true, List, Result, Ok, Err, IfOk, OnErr, inl, inr, refl, sym, ap, ◌∙◌, subst}
 use Rattle.std.specs.Global.{Vec}
 use Rattle.spqr_session.specs.Trees.{BlockTree}
 use Rattle.spqr_session.specs.State.{Embedding}

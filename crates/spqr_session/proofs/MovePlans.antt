@@ -1,25 +1,24 @@
 -- The plans of moves and of mirror images of a block that is seen in the plane.
-use Rattle.std.proofs.Common.{◌≡◌, ℕ, ◌<◌, Bool, true, false, not, ◌&&◌, List, [], ◌∷◌, ◌++◌, length, Option, None, Some, refl, sym, ap, ◌∙◌, subst, arith}
+use Rattle.std.proofs.Common.{◌≡◌, ℕ, ◌<◌, Bool, true, false, not, ◌&&◌, List, [], ◌∷◌, length, Option, None, Some, refl, sym, ap, ◌∙◌, subst}
 use Rattle.std.proofs.lemmas.Bool.{lt-ltb}
 use Rattle.permutations.specs.Count.{some, least}
 use Rattle.permutations.proofs.Search.{least-is, some-from, none-some}
 use Rattle.multigraph.specs.Graph.{Multigraph}
 use Rattle.pair_split.specs.Tutte.{Node, node_at}
 use Rattle.pair_split.specs.declared.components.Kind.{Kind}
-use Rattle.pair_split.specs.declared.components.Kind.TheVariants.{P, R}
-use Rattle.skeletons.specs.Moves.{Move, flip, permute, MoveLeads}
+use Rattle.pair_split.specs.declared.components.Kind.TheVariants.{R}
+use Rattle.skeletons.specs.Moves.{Move, flip, MoveLeads}
 use Rattle.skel_embed.specs.Block.{BlockState, lock_at}
 use Rattle.embed_moves.specs.Made.{IsMade, IsLeastHeld, NoneHeld}
 use Rattle.embed_moves.specs.Made as made
-use Rattle.spqr_session.specs.Trees.{BlockTree}
 use Rattle.spqr_session.specs.State.{Embedding}
 use Rattle.spqr_session.specs.Embedded.{BlockView}
 use Rattle.spqr_session.specs.Codes.{Ladder, first_code}
-use Rattle.spqr_session.specs.BlockCodes.{is_node, is_planar, kind_of, planar_codes, node_codes, entry_codes, of_entry, lock_codes}
-use Rattle.pair_split.specs.Kinds.{is_rigid, is_bond, has_choices}
+use Rattle.spqr_session.specs.BlockCodes.{is_node, is_planar, kind_of, entry_codes, of_entry, lock_codes}
+use Rattle.pair_split.specs.Kinds.{is_rigid, has_choices}
 use Rattle.spqr_session.specs.Commands.Flip.{flip_codes, IsFlipped}
 use Rattle.spqr_session.specs.Commands.Mirror.{is_held, mirror_codes, IsMirrored}
-use Rattle.spqr_session.specs.Planned.{embedding_of, FitsBlock, IsChangeOf, IsPlan, IsMovePlan, IsMirrorPlan}
+use Rattle.spqr_session.specs.Planned.{FitsBlock, IsPlan, IsMovePlan, IsMirrorPlan}
 use Rattle.spqr_session.specs.declared.code.Code.{Code}
 use Rattle.spqr_session.specs.declared.code.Code.TheVariants.{NoNode, WrongKind, NonPlanar, Locked}
 use Rattle.spqr_session.specs.declared.planned.Planned.{Planned}

@@ -1,5 +1,5 @@
 -- A block that is seen in the plane, and what its calls say of the list in which it stands.
-use Rattle.std.proofs.Common.{◌≡◌, ℕ, ◌+◌, ◌<◌, ◌≤◌, ◌^◌, Bool, true, false, not, nat_lt, List, [], ◌∷◌, length, Option, None, Some, Result, Ok, Err, IfOk, refl, sym, ap, ◌∙◌, subst, arith}
+use Rattle.std.proofs.Common.{◌≡◌, ℕ, ◌<◌, ◌≤◌, ◌^◌, true, false, not, nat_lt, List, [], length, Option, None, Some, refl, sym, ap, ◌∙◌, subst, arith}
 use Rattle.std.proofs.lemmas.Bool.{lt-ltb, false_from_ne_true, ltb-true}
 use Rattle.multigraph.specs.Graph.{Multigraph}
 use Rattle.pair_split.specs.Tutte.{Node}
@@ -20,9 +20,9 @@ use Rattle.spqr_session.specs.Members.{AreMembers, is_over}
 use Rattle.spqr_session.specs.Products.{member_count, product_count_codes}
 use Rattle.spqr_session.specs.Commands.Count.{IsCounted, IsRanked}
 use Rattle.spqr_session.specs.declared.code.Code.{Code}
-use Rattle.spqr_session.specs.declared.code.Code.TheVariants.{CountOver, NonPlanar}
+use Rattle.spqr_session.specs.declared.code.Code.TheVariants.{CountOver}
 use Rattle.spqr_session.proofs.Ladders.{rung-hit, rung-missed}
-use Rattle.spqr_session.proofs.MembersCarried.{Listed, listed, lists-one, ranks-one}
+use Rattle.spqr_session.proofs.MembersCarried.{Listed, listed, ranks-one}
 
 -- the embedding that it stands at
 abbrev pub seen_embedding : BlockState → Embedding

@@ -1,30 +1,23 @@
 -- Plans of commands that change a block: how they are found, and what comes of them.
-use Rattle.std.proofs.Common.{◌≡◌, ◌≢◌, ℕ, zero, suc, ◌<◌, Bool, true, false, not, List, [], ◌∷◌, ◌++◌, length, map, set, slice_index_or, Option, None, Some, Result, Ok, Err, IfOk, OnErr, refl, sym, ap, ◌∙◌, subst, arith}
+use Rattle.std.proofs.Common.{◌≡◌, ℕ, ◌<◌, true, not, List, [], ◌∷◌, length, map, Option, None, Some, Result, Ok, Err, IfOk, OnErr, refl, sym, ap, ◌∙◌, subst, arith}
 use Rattle.std.specs.Global.{Vec}
 use Rattle.std.proofs.lemmas.List.{length-map, map-set}
 use Rattle.std.proofs.Math.Seq.{map-set_same}
-use Rattle.pair_split.specs.Tutte.{Node}
-use Rattle.skeletons.specs.Moves.{Move, MoveLeads}
-use Rattle.skel_embed.specs.Block.{BlockState, lock_at}
-use Rattle.embed_moves.specs.Made.{IsMade}
-use Rattle.spqr_script.specs.Answers.Change.{ok_text}
-use Rattle.kuratowski.specs.declared.subdivision.Subdivision.{Subdivision}
-use Rattle.spqr_session.specs.Trees.{BlockTree, no_tree, tree_at}
+use Rattle.spqr_session.specs.Trees.{BlockTree, tree_at}
 use Rattle.spqr_session.specs.Setting.{Setting}
 use Rattle.spqr_session.specs.Scene.{setting_on}
 use Rattle.spqr_session.specs.declared.scene.Scene.{Scene}
 use Rattle.spqr_session.specs.State.{Embedding, Family, State, entry_at}
 use Rattle.spqr_session.specs.Embedded.{BlockView, view_tree, view_certificate, view_entry, view_at, no_view}
 use Rattle.spqr_session.specs.Board.{BoardView, family_on, board_state, embedded_at, board_with_entry, changed_board, IsCarried}
-use Rattle.spqr_session.specs.Codes.{Ladder, rises_above, first_code, code_text, Applies, Carries}
+use Rattle.spqr_session.specs.Codes.{Ladder, rises_above, first_code}
 use Rattle.spqr_session.specs.BlockCodes.{is_block, ChangesBlock, with_entry, changed, Silently, ChangeStep}
-use Rattle.spqr_session.specs.Planned.{embedding_of, FitsBlock, IsChangeOf, IsPlan, IsPlanAt, IsMovePlan, MayStand, IsSettled}
+use Rattle.spqr_session.specs.Planned.{embedding_of, IsPlan, IsPlanAt, MayStand, IsSettled}
 use Rattle.spqr_session.specs.declared.code.Code.{Code}
 use Rattle.spqr_session.specs.declared.code.Code.TheVariants.{NoBlock}
 use Rattle.spqr_session.specs.declared.planned.Planned.{Planned}
 use Rattle.spqr_session.specs.declared.planned.Planned.TheVariants.{Refused, End, Change}
-use Rattle.spqr_session.proofs.Views.{trees-at, certificates-at, entries-at}
-use Rattle.spqr_session.proofs.Steps.{text-map}
+use Rattle.spqr_session.proofs.Views.{trees-at, entries-at}
 use Rattle.spqr_session.proofs.Ladders.{rung-missed, refused-first, carried-out}
 use Rattle.spqr_session.proofs.BlockCarried.{block-in}
 

@@ -1,5 +1,5 @@
 -- What a session's call says of a step.
-use Rattle.std.proofs.Common.{◌≡◌, ℕ, List, map, Result, Ok, Err, IfOk, sym, subst}
+use Rattle.std.proofs.Common.{◌≡◌, ℕ, List, Result, Ok, Err, IfOk, sym, subst}
 use Rattle.std.specs.Global.{Vec}
 use Rattle.spqr_script.specs.declared.command.Command.{Command}
 use Rattle.spqr_session.specs.Setting.{Setting}

@@ -1,25 +1,23 @@
 -- The plans of ways along the list of a block that is seen in the plane, and what comes of them.
-use Rattle.std.proofs.Common.{◌≡◌, ℕ, ◌+◌, ◌<◌, ◌≤◌, ◌^◌, ◌⊎◌, Bool, true, false, not, nat_lt, List, [], ◌∷◌, length, map, Option, None, Some, inl, inr, refl, sym, ap, ◌∙◌, subst, arith}
+use Rattle.std.proofs.Common.{◌≡◌, ℕ, ◌<◌, ◌≤◌, ◌^◌, ◌⊎◌, true, false, not, nat_lt, List, [], ◌∷◌, length, map, Option, None, Some, inl, inr, refl, sym, ap, ◌∙◌, subst, arith}
 use Rattle.std.proofs.lemmas.Bool.{lt-ltb, ltb-true, false_from_ne_true}
 use Rattle.std.proofs.lemmas.List.{length-map}
-use Rattle.skeletons.specs.Lists.{IsRank}
 use Rattle.skel_embed.specs.Block.{BlockState}
-use Rattle.embed_enum.specs.Walk.{IsMemberList, KeepsRest}
-use Rattle.spqr_script.specs.Answers.Change.{ok_text, end_text}
-use Rattle.spqr_session.specs.Trees.{BlockTree, tree_at}
+use Rattle.embed_enum.specs.Walk.{KeepsRest}
+use Rattle.spqr_session.specs.Trees.{BlockTree}
 use Rattle.spqr_session.specs.State.{Embedding, State, entry_at}
 use Rattle.spqr_session.specs.Embedded.{BlockView, view_tree, view_at}
 use Rattle.spqr_session.specs.Scene.{setting_on}
 use Rattle.spqr_session.specs.declared.scene.Scene.{Scene}
 use Rattle.spqr_session.specs.Board.{BoardView, family_on, board_state}
-use Rattle.spqr_session.specs.Codes.{Ladder, first_code, code_text, Applies, Carries}
-use Rattle.spqr_session.specs.BlockCodes.{is_block, is_planar, planar_codes, block_ladder, entry_codes, of_entry, Silently}
-use Rattle.spqr_session.specs.Members.{AreMembers, is_over, StandsAt, StandsBehind, StandsLast}
+use Rattle.spqr_session.specs.Codes.{Ladder, first_code}
+use Rattle.spqr_session.specs.BlockCodes.{is_block, planar_codes, block_ladder, entry_codes, of_entry}
+use Rattle.spqr_session.specs.Members.{is_over, StandsAt, StandsBehind, StandsLast}
 use Rattle.spqr_session.specs.Products.{member_count, product_rank_codes}
 use Rattle.spqr_session.specs.Commands.Walk.{NextDoes, NextStep}
-use Rattle.spqr_session.specs.Planned.{embedding_of, FitsBlock, IsChangeOf, IsPlan, IsFirstPlan, IsRankPlan, IsStepPlan, IsAtEnd, IsNextPlan, IsNextPlanAt, MayStand, IsSettled}
+use Rattle.spqr_session.specs.Planned.{embedding_of, FitsBlock, IsPlan, IsFirstPlan, IsRankPlan, IsStepPlan, IsNextPlan, IsNextPlanAt, MayStand, IsSettled}
 use Rattle.spqr_session.specs.declared.code.Code.{Code}
-use Rattle.spqr_session.specs.declared.code.Code.TheVariants.{NoBlock, NonPlanar, CountOver, RankOut}
+use Rattle.spqr_session.specs.declared.code.Code.TheVariants.{NoBlock, CountOver, RankOut}
 use Rattle.spqr_session.specs.declared.planned.Planned.{Planned}
 use Rattle.spqr_session.specs.declared.planned.Planned.TheVariants.{Refused, End, Change}
 use Rattle.spqr_session.proofs.Views.{trees-at, entries-at}

@@ -6,7 +6,7 @@ use Rattle.skel_embed.specs.Block.{lock_at}
 use Rattle.spqr_script.specs.Answers.Change.{ok_text}
 use Rattle.spqr_session.specs.Trees.{BlockTree, tree_at}
 use Rattle.spqr_session.specs.Setting.{Setting}
-use Rattle.spqr_session.specs.State.{Embedding, Family, State, entry_at}
+use Rattle.spqr_session.specs.State.{Embedding, State, entry_at}
 use Rattle.spqr_session.specs.Codes.{Ladder, Applies, Carries, code_text, first_code}
 use Rattle.spqr_session.specs.declared.code.Code.{Code}
 use Rattle.spqr_session.specs.declared.code.Code.TheVariants.{NoBlock, NoNode, WrongKind, NonPlanar, Locked}

@@ -13,3 +13,4 @@ pub mod Walk
 pub mod Listing
 pub mod Take
 pub mod Convert
+pub mod Longest

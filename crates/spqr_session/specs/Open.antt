@@ -1,9 +1,11 @@
 -- What the definitions of commands may leave open: which of several texts a command answers, and whether it has an answer.
 use Rattle.std.specs.Prelude.{◌≡◌, ℕ, Bool, true, false, List, [], ◌∷◌, All, ⊤}
 use Rattle.spqr_script.specs.declared.command.Command.{Command}
+use Rattle.spqr_script.specs.declared.command.Command.TheVariants as command
 
--- whether a command may have several texts in one state: no command has
+-- whether a command may have several texts in one state: `longest` has, since other moves may lead to a face of the same length
 abbrev pub leaves_open : Command → Bool
+leaves_open (command.Longest b) = true
 leaves_open command = false
 
 -- whether a command may have no answer in a state: each command has one

@@ -1,5 +1,5 @@
 -- What a command that changes a block has planned, and what is made of it.
-use Rattle.std.specs.Prelude.{◌≡◌, ℕ, ◌+◌, ◌<◌, ◌≤◌, ◌^◌, ◌⊎◌, Bool, true, false, List, length, Option, None, Some, ⊤}
+use Rattle.std.specs.Prelude.{◌≡◌, ℕ, ◌+◌, ◌<◌, ◌≤◌, ◌^◌, ◌⊎◌, true, false, List, length, Option, None, Some, ⊤}
 use Rattle.multigraph.specs.Part.{GraphPart}
 use Rattle.rotations.specs.PartLists.{IsFirstBadInPart}
 use Rattle.skeletons.specs.Moves.{Move}

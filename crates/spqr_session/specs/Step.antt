@@ -18,6 +18,7 @@ use Rattle.spqr_session.specs.Commands.Walk.{FirstStep, NextStep, GotoStep}
 use Rattle.spqr_session.specs.Commands.Listing.{ListStep}
 use Rattle.spqr_session.specs.Commands.Take.{TakeStep}
 use Rattle.spqr_session.specs.Commands.Convert.{ConvertRankStep, ConvertToStep}
+use Rattle.spqr_session.specs.Commands.Longest.{LongestStep}
 
 -- a command gives this text and leads to this state
 abbrev pub Step : Setting → State → Command → List ℕ → State → Type 0
@@ -37,6 +38,7 @@ Step setting before (command.Next b) text after = NextStep setting b before text
 Step setting before (command.List b n) text after = ListStep setting b n before text after
 Step setting before (command.Count b) text after = CountStep setting b before text after
 Step setting before (command.Rank b) text after = RankStep setting b before text after
+Step setting before (command.Longest b) text after = LongestStep setting b before text after
 Step setting before (command.Goto b r) text after = GotoStep setting b r before text after
 Step setting before (command.ConvertRank b r) text after = ConvertRankStep setting b r before text after
 Step setting before (command.ConvertTo b entries) text after = ConvertToStep setting b entries before text after

@@ -28,7 +28,7 @@ fn outcome(alloc: Global, script: &str) -> Result<(usize, u32), AllocError> {
 }
 
 // Lines that are commands, each alone.
-static COMMANDS: [&str; 41] = [
+static COMMANDS: [&str; 42] = [
     "euler",
     "euler 0:",
     "euler 0: 0 1 2; 1: 0 4 3; 2: 1 3 5; 3: 2 5 4",
@@ -59,6 +59,7 @@ static COMMANDS: [&str; 41] = [
     "list 0 0010000",
     "goto 0 340282366920938463463374607431768211455",
     "count 0",
+    "longest 0",
     "rank 0",
     "convert 0 rank 7",
     "convert 0 rank 0340282366920938463463374607431768211455",
@@ -83,7 +84,7 @@ fn lines_that_are_commands(rt: HostRuntime) -> Result<(), Fail> {
 }
 
 // Lines that are nearly commands.
-static NO_COMMANDS: [&str; 76] = [
+static NO_COMMANDS: [&str; 78] = [
     "EULER",
     "eule",
     "euler 0",
@@ -141,6 +142,8 @@ static NO_COMMANDS: [&str; 76] = [
     "goto 0 1 2",
     "count",
     "count 0 0",
+    "longest",
+    "longest 0 0",
     "rank 0 0",
     "convert 0",
     "convert 0 rank",
@@ -580,6 +583,10 @@ fn lines_of_moves(rt: HostRuntime) -> Result<(), Fail> {
     assert_eq!(rt;
         moves_lines(alloc, &part, &[])?.as_slice(),
         b"moves 0\n".as_slice()
+    );
+    assert_eq!(rt;
+        longest_lines(alloc, 5, &part, &[])?.as_slice(),
+        b"longest 5\nmoves 0\n".as_slice()
     );
     Ok(())
 }

@@ -308,7 +308,7 @@ static MOVES: [Row; 10] = [
 ];
 
 // Graphs with scripts, and the answers to them.
-static LISTS: [Row; 16] = [
+static LISTS: [Row; 18] = [
     // One edge.
     Row {
         vertices: &[b"0", b"1"],
@@ -663,6 +663,75 @@ static LISTS: [Row; 16] = [
             error 1\n\
             error 1\n\
             error 1\n",
+    },
+    // The longest face of three paths of 1, 2 and 3 edges, of one edge, and the codes; nothing changes, and locks are not looked at.
+    Row {
+        vertices: &[
+            b"0", b"1", b"2", b"3", b"4", b"5", b"6", b"7", b"8", b"9", b"10",
+        ],
+        edges: &[
+            (b"0", b"1"),
+            (b"0", b"2"),
+            (b"2", b"1"),
+            (b"0", b"3"),
+            (b"3", b"4"),
+            (b"4", b"1"),
+            (b"1", b"5"),
+            (b"5", b"8"),
+            (b"5", b"9"),
+            (b"5", b"10"),
+            (b"6", b"8"),
+            (b"6", b"9"),
+            (b"6", b"10"),
+            (b"7", b"8"),
+            (b"7", b"9"),
+            (b"7", b"10"),
+        ],
+        times: 1,
+        script: b"longest 0\n\
+            longest 1\n\
+            longest 2\n\
+            longest 3\n\
+            undo\n\
+            lock 0 0\n\
+            longest 0\n\
+            undo\n",
+        answers: b"longest 5\n\
+            moves 0\n\
+            longest 2\n\
+            moves 0\n\
+            error 5\n\
+            error 1\n\
+            error 8\n\
+            ok\n\
+            longest 5\n\
+            moves 0\n\
+            ok\n",
+    },
+    // Two edges and two paths of 3 edges: with the paths side by side there is a face of length 6.
+    Row {
+        vertices: &[b"0", b"1", b"2", b"3", b"4", b"5"],
+        edges: &[
+            (b"0", b"2"),
+            (b"2", b"3"),
+            (b"3", b"1"),
+            (b"0", b"1"),
+            (b"0", b"4"),
+            (b"4", b"5"),
+            (b"5", b"1"),
+            (b"0", b"1"),
+        ],
+        times: 1,
+        script: b"permute 0 0 0 4 3 7\n\
+            longest 0\n\
+            permute 0 0 0 3 7 4\n\
+            longest 0\n",
+        answers: b"ok\n\
+            longest 6\n\
+            moves 0\n\
+            ok\n\
+            longest 6\n\
+            moves 0\n",
     },
 ];
 

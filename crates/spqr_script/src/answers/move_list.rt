@@ -38,15 +38,28 @@ fn push_moves(out: &mut Vec<u8>, part: &Part, ms: &[Move]) -> Result<(), AllocEr
     Ok(())
 }
 
+// Appends the line of how many moves there are to a text, and theirs.
+pub(crate) fn push_moves_lines(
+    out: &mut Vec<u8>,
+    part: &Part,
+    ms: &[Move],
+) -> Result<(), AllocError>
+    requires { All (IsMoveOf part.now.graph) ms.now }
+    ensures { OnOk result (out.new.items ≡ out.old.items ++ moves_text part.now ms.now) }
+{
+    push_word(out, b"moves ")?;
+    push_number(out, ms.len() as u128)?;
+    push_word(out, b"\n")?;
+    push_moves(out, part, ms)
+}
+
 /// The line `moves T` and a line `flip K` or `permute K KEY ..` for each of the T moves of a block, the keys in the numbers of the
 /// whole graph. Fails only if memory runs out.
 pub fn moves_lines(alloc: Global, part: &Part, ms: &[Move]) -> Result<Vec<u8>, AllocError>
     requires { All (IsMoveOf part.now.graph) ms.now }
     ensures { IfOk result (λ text. text.items ≡ moves_text part.now ms.now) }
 {
-    let mut out = Vec::from_slice(alloc, b"moves ")?;
-    push_number(&mut out, ms.len() as u128)?;
-    push_word(&mut out, b"\n")?;
-    push_moves(&mut out, part, ms)?;
+    let mut out = Vec::new(alloc);
+    push_moves_lines(&mut out, part, ms)?;
     Ok(out)
 }

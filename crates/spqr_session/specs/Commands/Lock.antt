@@ -1,5 +1,5 @@
 -- `lock B K` and `unlock B K`: a node of a block is locked, or its lock is taken away.
-use Rattle.std.specs.Prelude.{◌≡◌, ℕ, Bool, true, false, List, slice_set, Some}
+use Rattle.std.specs.Prelude.{◌≡◌, ℕ, Bool, List, slice_set, Some}
 use Rattle.pair_split.specs.Kinds.{has_choices}
 use Rattle.spqr_script.specs.Answers.Change.{ok_text}
 use Rattle.spqr_session.specs.Setting.{Setting}

@@ -1,5 +1,5 @@
 -- `take B ROT`: lists of edges become the rotation system of a block.
-use Rattle.std.specs.Prelude.{◌≡◌, ◌≢◌, ℕ, ◌<◌, ◌≤◌, true, List, length, Option, None, Some}
+use Rattle.std.specs.Prelude.{◌≡◌, ◌≢◌, ℕ, ◌<◌, ◌≤◌, true, List, length, None, Some}
 use Rattle.rotations.specs.PartLists.{IsFirstBadInPart}
 use Rattle.faces.specs.Euler.{IsPlaneSystem}
 use Rattle.skeletons.specs.Choices.{choice}

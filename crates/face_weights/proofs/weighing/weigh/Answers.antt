@@ -1,7 +1,7 @@
 use Rattle.std.proofs.Common.{◌≡◌, ◌++◌, ℕ, List, length, take, drop, sym, subst, arith}
 use Rattle.std.proofs.lemmas.Grind.{common_steps}
 use Rattle.face_weights.specs.Reached.{AreWeights}
-use Rattle.face_weights.specs.Passes.{AreBelow, AreDone}
+use Rattle.face_weights.specs.Passes.{AreBelow, AreDone, AreLight}
 use Rattle.face_weights.proofs.Weighed.{weighed}
 use Rattle.face_weights.proofs.weighing.weigh.Goals as goal
 
@@ -18,4 +18,6 @@ returns c =
     (subst (λ (z : List ℕ). AreBelow c.args.tree.now c.args.members.now z order 0 below) one (subst (λ (z : List ℕ). AreBelow c.args.tree.now c.args.members.now c.deref.result.now z 0 below) c.deref-2.ensures.value c.in_ok-below.ensures.below))
     (subst (λ (z : List ℕ). AreDone c.args.tree.now c.args.members.now z order below c.in_ok-above.above.items (length order) c.in_ok-above.most c.in_ok-above.top) two
     (subst (λ (z : List ℕ). AreDone c.args.tree.now c.args.members.now c.deref-3.result.now z below c.in_ok-above.above.items (length z) c.in_ok-above.most c.in_ok-above.top) c.deref-4.ensures.value
-    (subst (λ (z : List ℕ). AreDone c.args.tree.now c.args.members.now c.deref-3.result.now c.deref-4.result.now z c.in_ok-above.above.items (length c.deref-4.result.now) c.in_ok-above.most c.in_ok-above.top) c.deref-5.ensures.value c.in_ok-above.ensures.done))))
+    (subst (λ (z : List ℕ). AreDone c.args.tree.now c.args.members.now c.deref-3.result.now c.deref-4.result.now z c.in_ok-above.above.items (length c.deref-4.result.now) c.in_ok-above.most c.in_ok-above.top) c.deref-5.ensures.value c.in_ok-above.ensures.done)))
+    (subst (λ (z : List ℕ). AreLight c.args.tree.now z below c.in_ok-above.above.items) two
+    (subst (λ (z : List ℕ). AreLight c.args.tree.now c.deref-3.result.now z c.in_ok-above.above.items) c.deref-5.ensures.value c.in_ok-above.ensures.light)))

@@ -25,3 +25,6 @@ returns-in-Count c = made_as command.Count c.block-in-Count.result c.map-in-Coun
 
 pub returns-in-Rank : goal.returns-in-Rank
 returns-in-Rank c = made_as command.Rank c.block-in-Rank.result c.map-in-Rank.result _ (c.block-in-Rank.ensures command.Rank) c.map-in-Rank.ensures.cases ∙ sym (ap (λ w. arguments_of w (tokens_of c.args.text.now)) c.in-Rank.is)
+
+pub returns-in-Longest : goal.returns-in-Longest
+returns-in-Longest c = made_as command.Longest c.block-in-Longest.result c.map-in-Longest.result _ (c.block-in-Longest.ensures command.Longest) c.map-in-Longest.ensures.cases ∙ sym (ap (λ w. arguments_of w (tokens_of c.args.text.now)) c.in-Longest.is)

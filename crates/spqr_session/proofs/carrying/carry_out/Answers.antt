@@ -12,6 +12,7 @@ use Rattle.spqr_session.specs.Commands.Gml.{GmlStep}
 use Rattle.spqr_session.specs.Commands.Show.{IsShown}
 use Rattle.spqr_session.specs.Commands.Faces.{IsFaced}
 use Rattle.spqr_session.specs.Commands.Listing.{IsListing}
+use Rattle.spqr_session.specs.Commands.Longest.{IsLongestAnswer}
 use Rattle.spqr_session.specs.Commands.Permute.{PermuteStep}
 use Rattle.spqr_session.specs.Commands.Walk.{GotoStep}
 use Rattle.spqr_session.specs.Commands.Convert.{ConvertRankStep}
@@ -167,3 +168,13 @@ returns-in-ConvertRank-clause-step c =
     let r = c.in-ConvertRank.r in
     step-is setting s new c.args.command.now (command.ConvertRank b r) c.carry_convert_rank.result c.in-ConvertRank.is
     (text-map c.carry_convert_rank.result (λ text. ConvertByProduct setting b r s text new) (λ text. ConvertRankStep setting b r s text new) (λ text h. convert-is_step setting b s c.requires.setting c.requires.state r text new h) (c.carry_convert_rank.ensures.step c.args.scene.now))
+
+pub returns-in-Longest-clause-step : goal.returns-in-Longest-clause-step
+returns-in-Longest-clause-step c =
+    let views = c.args.board.now.views in
+    let setting = setting_on c.args.scene.now views in
+    let s = board_state c.args.board.now in
+    let seen = c.blocks-in-Longest.result.now in
+    let b = c.in-Longest.b in
+    step-of setting s s c.args.command.now (command.Longest b) (map view_tree views) (map view_tree seen) (λ (ts : List BlockTree) text. ReadStep no_more IsLongestAnswer ts b s text s) c.carry_longest.result c.in-Longest.is
+    (ap (λ (vs : List BlockView). map view_tree vs) (sym c.blocks-in-Longest.ensures)) (λ text h. h) (c.carry_longest.ensures s (ap (λ (vs : List BlockView). map view_entry vs) (sym c.blocks-in-Longest.ensures)))

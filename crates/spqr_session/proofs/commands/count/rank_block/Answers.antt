@@ -1,4 +1,4 @@
-use Rattle.std.proofs.Common.{◌≡◌, List, ℕ}
+use Rattle.std.proofs.Common.{◌≡◌}
 use Rattle.spqr_script.specs.Answers.Rank.{rank_text}
 use Rattle.spqr_session.specs.Codes.{code_text}
 use Rattle.spqr_session.specs.BlockCodes.{TellsBlock}

@@ -1,4 +1,4 @@
-use Rattle.spqr_session.specs.Embedded.{view_tree, no_view, view_at}
+use Rattle.spqr_session.specs.Embedded.{view_tree, no_view}
 use Rattle.spqr_session.specs.Commands.Flip.{flip_codes, flip_ladder, IsFlipped}
 use Rattle.spqr_session.specs.Planned.{IsPlan, IsPlanAt}
 use Rattle.std.proofs.Common.{map}

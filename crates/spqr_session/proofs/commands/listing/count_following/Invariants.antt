@@ -1,4 +1,4 @@
-use Rattle.std.proofs.Common.{◌≡◌, ℕ, ◌+◌, List}
+use Rattle.std.proofs.Common.{ℕ, ◌+◌, List}
 use Rattle.skeletons.specs.Lists.{IsRank}
 use Rattle.embed_enum.specs.Walk.{IsMemberList}
 use Rattle.spqr_session.proofs.commands.listing.count_following.Given as goal

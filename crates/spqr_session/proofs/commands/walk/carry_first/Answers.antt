@@ -3,7 +3,7 @@ use Rattle.spqr_session.specs.State.{State}
 use Rattle.spqr_session.specs.Embedded.{BlockView, view_tree}
 use Rattle.spqr_session.specs.Scene.{setting_on}
 use Rattle.spqr_session.specs.Board.{family_on, board_state}
-use Rattle.spqr_session.specs.Planned.{IsPlanAt, IsNextPlanAt, IsSettled}
+use Rattle.spqr_session.specs.Planned.{IsPlanAt, IsSettled}
 use Rattle.spqr_session.specs.BlockCodes.{block_ladder}
 use Rattle.spqr_session.specs.Members.{StandsAt}
 use Rattle.spqr_session.specs.Commands.Walk.{FirstStep}

@@ -3,12 +3,12 @@ use Rattle.spqr_session.specs.State.{State}
 use Rattle.spqr_session.specs.Embedded.{BlockView, view_tree}
 use Rattle.spqr_session.specs.Scene.{setting_on}
 use Rattle.spqr_session.specs.Board.{family_on, board_state}
-use Rattle.spqr_session.specs.Planned.{IsPlanAt, IsNextPlanAt, IsSettled}
+use Rattle.spqr_session.specs.Planned.{IsNextPlanAt, IsSettled}
 use Rattle.spqr_session.specs.BlockCodes.{block_ladder}
 use Rattle.spqr_session.specs.Commands.Walk.{NextStep}
 use Rattle.spqr_session.proofs.WalkPlans.{next-stands, next-settled}
 use Rattle.spqr_session.proofs.Steps.{text-map}
-use Rattle.spqr_session.proofs.Plans.{plan-stands, settled-step, either-carried}
+use Rattle.spqr_session.proofs.Plans.{either-carried}
 use Rattle.spqr_session.proofs.commands.walk.carry_next.Goals as goal
 
 pub settle-requires : goal.settle-requires

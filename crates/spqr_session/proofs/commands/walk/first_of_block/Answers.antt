@@ -1,6 +1,6 @@
 use Rattle.spqr_session.specs.BlockCodes.{planar_codes}
 use Rattle.spqr_session.specs.Members.{StandsAt}
-use Rattle.spqr_session.specs.Planned.{IsPlan, IsFirstPlan, IsRankPlan, IsStepPlan, IsNextPlan}
+use Rattle.spqr_session.specs.Planned.{IsPlan, IsFirstPlan}
 use Rattle.spqr_session.proofs.Steps.{ok-map}
 use Rattle.spqr_session.proofs.Planes.{seen-plane}
 use Rattle.spqr_session.proofs.WalkPlans.{first-plan}

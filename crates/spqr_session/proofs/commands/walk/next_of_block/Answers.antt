@@ -1,4 +1,4 @@
-use Rattle.spqr_session.specs.Planned.{IsPlan, IsFirstPlan, IsRankPlan, IsStepPlan, IsNextPlan}
+use Rattle.spqr_session.specs.Planned.{IsStepPlan, IsNextPlan}
 use Rattle.spqr_session.proofs.Steps.{ok-map}
 use Rattle.spqr_session.proofs.Planes.{seen-plane}
 use Rattle.spqr_session.proofs.WalkPlans.{next-plan}

@@ -2,7 +2,7 @@ use Rattle.std.proofs.Common.{map}
 use Rattle.spqr_session.specs.Embedded.{view_tree, no_view}
 use Rattle.spqr_session.specs.BlockCodes.{planar_codes, block_ladder}
 use Rattle.spqr_session.specs.Members.{StandsAt}
-use Rattle.spqr_session.specs.Planned.{IsPlan, IsPlanAt, IsNextPlan, IsNextPlanAt}
+use Rattle.spqr_session.specs.Planned.{IsPlan, IsPlanAt}
 use Rattle.spqr_session.proofs.Steps.{ok-map}
 use Rattle.spqr_session.proofs.Plans.{plan-found}
 use Rattle.spqr_session.proofs.commands.walk.plan_first.Goals as goal

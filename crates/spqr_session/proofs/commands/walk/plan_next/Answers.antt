@@ -1,7 +1,7 @@
 use Rattle.std.proofs.Common.{map}
 use Rattle.spqr_session.specs.Embedded.{view_tree, no_view}
 use Rattle.spqr_session.specs.BlockCodes.{block_ladder}
-use Rattle.spqr_session.specs.Planned.{IsPlan, IsPlanAt, IsNextPlan, IsNextPlanAt}
+use Rattle.spqr_session.specs.Planned.{IsNextPlan, IsNextPlanAt}
 use Rattle.spqr_session.proofs.Steps.{ok-map}
 use Rattle.spqr_session.proofs.WalkPlans.{next-found}
 use Rattle.spqr_session.proofs.commands.walk.plan_next.Goals as goal

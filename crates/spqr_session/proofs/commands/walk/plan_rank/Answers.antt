@@ -3,7 +3,7 @@ use Rattle.spqr_session.specs.Embedded.{view_tree, no_view}
 use Rattle.spqr_session.specs.BlockCodes.{entry_codes, read_ladder}
 use Rattle.spqr_session.specs.Members.{StandsAt}
 use Rattle.spqr_session.specs.Products.{product_rank_codes}
-use Rattle.spqr_session.specs.Planned.{IsPlan, IsPlanAt, IsNextPlan, IsNextPlanAt}
+use Rattle.spqr_session.specs.Planned.{IsPlan, IsPlanAt}
 use Rattle.spqr_session.proofs.Steps.{ok-map}
 use Rattle.spqr_session.proofs.Plans.{plan-found}
 use Rattle.spqr_session.proofs.commands.walk.plan_rank.Goals as goal

@@ -1,7 +1,7 @@
 use Rattle.spqr_session.specs.BlockCodes.{entry_codes}
 use Rattle.spqr_session.specs.Members.{StandsAt}
 use Rattle.spqr_session.specs.Products.{product_rank_codes}
-use Rattle.spqr_session.specs.Planned.{IsPlan, IsFirstPlan, IsRankPlan, IsStepPlan, IsNextPlan}
+use Rattle.spqr_session.specs.Planned.{IsPlan, IsRankPlan}
 use Rattle.spqr_session.proofs.Steps.{ok-map}
 use Rattle.spqr_session.proofs.Planes.{seen-plane}
 use Rattle.spqr_session.proofs.WalkPlans.{rank-plan}

@@ -1,10 +1,9 @@
-use Rattle.std.proofs.Common.{◌≡◌, ℕ, ◌≤◌, ◌<◌, ◌^◌, List, length, inl, inr, refl, sym, ap, ◌∙◌, subst, arith}
+use Rattle.std.proofs.Common.{ℕ, inl, inr, refl, sym, ap, subst, arith}
 use Rattle.skel_embed.specs.Block.{BlockState}
 use Rattle.embed_enum.specs.Walk.{IsMemberList, IsGotoRefusal}
 use Rattle.embed_enum.specs.declared.walking.GotoFault.{GotoFault}
 use Rattle.spqr_session.specs.Planned.{IsRankPlan}
 use Rattle.spqr_session.specs.declared.code.Code.TheVariants.{RankOut}
-use Rattle.spqr_session.specs.declared.planned.Planned.{Planned}
 use Rattle.spqr_session.proofs.commands.walk.rank_of_plane.Goals as goal
 
 pub returns-in-CountOver : goal.returns-in-CountOver

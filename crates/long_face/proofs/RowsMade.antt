@@ -1,0 +1,71 @@
+-- The rows of the nodes, and that all is ready for the walk.
+use Rattle.std.proofs.Common.{◌≡◌, ℕ, ◌+◌, ◌*◌, ◌/◌, ◌<◌, ◌≤◌, cond, List, [], ◌∷◌, ◌++◌, length, slice_index_or, inl, inr, refl, sym, ap, ◌∙◌, subst, arith}
+use Rattle.std.proofs.lemmas.Bool.{cases_eq}
+use Rattle.std.proofs.lemmas.List.{length-append, get_or_push, get_or_append_left}
+use Rattle.permutations.specs.Count.{sum_below}
+use Rattle.permutations.proofs.Sums.{sum_below-ext}
+use Rattle.multigraph.specs.Graph.{Multigraph, IsWithinLimits, edge_count, max_edges}
+use Rattle.faces.specs.Euler.{dart_count, IsPlane}
+use Rattle.pair_split.specs.Tutte.{Node, node_at}
+use Rattle.skeletons.specs.Items.{IsBlockTree}
+use Rattle.skeletons.specs.Families.{skeleton_graph, system_at, AreSkeletonSystems}
+use Rattle.skeleton_runs.proofs.SkeletonGraph.{graph-edges}
+use Rattle.skeleton_planes.proofs.SkeletonDarts.{dart-item}
+use Rattle.skeleton_faces.specs.Faces.{on_one_face}
+use Rattle.face_weights.specs.Weights.{Weighing, weight_of}
+use Rattle.face_weights.specs.Sums.{weight_in, AreFaceSums}
+use Rattle.face_weights.specs.Reached.{AreWeights}
+use Rattle.face_weights.proofs.NodeCode.{weights-few}
+use Rattle.long_face.specs.Numbers.{AreFaceNumbers}
+use Rattle.long_face.specs.Ready.{NodeRows, rows_at, AreRowsOf, IsReady}
+
+module _ (g : Multigraph) (nodes : List Node) (b : IsBlockTree g nodes) (limits : IsWithinLimits g) (family : List (List (List ℕ))) (systems : AreSkeletonSystems nodes family) (w : Weighing) (a : AreWeights nodes family w) where
+  module _ (k : ℕ) (l : k < length nodes) (weights : List ℕ) (number : length weights ≡ length (node_at nodes k).items) (each : (i : ℕ) → i < length (node_at nodes k).items → weight_in weights i ≡ weight_of nodes w k i) where
+    -- as many weights as edges
+    pub row-number : length weights ≡ edge_count (skeleton_graph nodes k)
+    row-number = number ∙ sym (graph-edges g nodes b k l)
+
+    -- which are small together
+    pub row-few : sum_below (edge_count (skeleton_graph nodes k)) (weight_in weights) ≤ 2 * max_edges
+    row-few = subst (λ n. sum_below n (weight_in weights) ≤ 2 * max_edges) (sym (graph-edges g nodes b k l)) (weights-few g nodes b k l limits w.parents w.below w.above (slice_index_or w.above k 0) (weight_in weights) refl each a.light)
+
+    -- the rows
+    pub row-are : (sums numbers : List ℕ) → AreFaceSums (skeleton_graph nodes k) (system_at family k) weights sums → AreFaceNumbers (skeleton_graph nodes k) (system_at family k) numbers
+        → AreRowsOf nodes family (weight_of nodes w) k (record { weights = weights; sums = sums; numbers = numbers })
+    row-are sums numbers s n = record {
+      items = number;
+      weights = each;
+      darts = s.number ∙ ap (λ z. 2 * z) (sym row-number);
+      sums = λ d m. s.each d m ∙ sum_below-ext (dart_count (skeleton_graph nodes k)) (λ y. cond (on_one_face (skeleton_graph nodes k) (system_at family k) d y) (weight_in weights (y / 2)) 0) (λ y. cond (on_one_face (skeleton_graph nodes k) (system_at family k) d y) (weight_of nodes w k (y / 2)) 0)
+          (λ y c. ap (λ z. cond (on_one_face (skeleton_graph nodes k) (system_at family k) d y) z 0) (each (y / 2) (dart-item g nodes b k l y c)));
+      numbers = n;
+    }
+
+  -- all is ready
+  pub all-ready : ((k : ℕ) → k < length nodes → IsPlane (skeleton_graph nodes k) (system_at family k)) → (rows : List NodeRows) → length rows ≡ length nodes → ((k : ℕ) → k < length nodes → AreRowsOf nodes family (weight_of nodes w) k (rows_at rows k))
+      → IsReady g nodes family (weight_of nodes w) w.top w.most rows
+  all-ready plane rows places each = record {
+    block = b;
+    limits = limits;
+    systems = systems;
+    plane = plane;
+    table = a.table;
+    links = λ k d j e c n. a.reached.links k d j e c n;
+    bond_links = λ k d j e c p. a.reached.bond_links k d j e c p;
+    top_in = a.top.node;
+    face = a.top.face;
+    pair = a.top.pair;
+    places = places;
+    each = each;
+  }
+
+-- one row more
+pub rows-more : (IsRow : ℕ → NodeRows → Type 0) (rows new : List NodeRows) (row : NodeRows) (k : ℕ) → (length rows ≡ k) × ((j : ℕ) → j < k → IsRow j (rows_at rows j)) → new ≡ rows ++ row ∷ [] → IsRow k row → (length new ≡ k + 1) × ((j : ℕ) → j < k + 1 → IsRow j (rows_at new j))
+rows-more IsRow rows new row k old e is = (ap length e ∙ length-append rows (row ∷ []) ∙ ap (λ n. n + 1) old.0, each)
+  where
+    each : (j : ℕ) → j < k + 1 → IsRow j (rows_at new j)
+    each j l = elim (cases_eq j k) [
+      | inl q ↦ subst (λ z. IsRow z (rows_at new z)) (sym q) (subst (IsRow k) (sym (ap (λ (z : List NodeRows). rows_at z k) e ∙ get_or_push rows row (record { weights = []; sums = []; numbers = [] }) k old.0)) is)
+      | inr n ↦ let m : j < k = omega (arith, l, n) in
+          subst (IsRow j) (sym (ap (λ (z : List NodeRows). rows_at z j) e ∙ get_or_append_left rows (row ∷ []) (record { weights = []; sums = []; numbers = [] }) j (omega (arith, m, old.0)))) (old.1 j m)
+    ]
