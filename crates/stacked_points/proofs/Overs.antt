@@ -20,7 +20,7 @@ Before v w c = (w ≡ c) ⊎ ((c.0 < w.0) × Left v c w)
 mul-lt : (k m n : ℕ) → 0 < k → m < n → k * m < k * n
 mul-lt k m n p l = mul-lt-mul_of_pos_left {m = m} {n = n} {k = k} l p
 
-mul-both : (k m n : ℕ) → m ≤ n → k * m ≤ k * n
+pub mul-both : (k m n : ℕ) → m ≤ n → k * m ≤ k * n
 mul-both k m n h = mul-le k m k n (omega arith) h
 
 -- all k times

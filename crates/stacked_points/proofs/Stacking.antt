@@ -1,7 +1,6 @@
 -- A point stacked on a contour: what is over the old contour, and under the new one.
 use Rattle.std.proofs.Common.{append-nil, ◌≡◌, ℕ, ◌⊎◌, inl, inr, ◌<◌, ◌≤◌, ◌+◌, ◌*◌, true, false, List, [], ◌∷◌, ◌++◌, arith, refl, sym, ◌∙◌, ap, ap₂, subst}
 use Rattle.std.proofs.lemmas.Bool.{cases_lt, false≢true}
-use Rattle.std.proofs.lemmas.Nat.{mul-le}
 use Rattle.plane_points.specs.Turning.{turns_left}
 use Rattle.plane_points.specs.Segments.{weighted, times, same_way}
 use Rattle.plane_points.proofs.Turns.{Left, left-true, true-left, left-false, left-around}
@@ -11,7 +10,7 @@ use Rattle.plane_points.proofs.Rising.{Each, Rises, each-map, rises-map, rises-p
 use Rattle.stacked_points.specs.Contours.{Successive, IsContour, IsBetween, is_over, IsUnder, IsSegmentUnder, stretch, contour_of, Overlooks}
 use Rattle.stacked_points.specs.Laws.{FanTurns, FanIsApart, FanGoesAround, NewIsOver, NewMeetsOld, NewMeetsSegments, NewIsNotUnder}
 use Rattle.stacked_points.proofs.Chains.{chain-map, chain-both, chain-each, rises-chain, chain-first, chain-second, chain-join, all-each, each-all, each-cut, each-both, rises-short}
-use Rattle.stacked_points.proofs.Overs.{After, Before, new-right, new-left, old-right, old-left}
+use Rattle.stacked_points.proofs.Overs.{mul-both, After, Before, new-right, new-left, old-right, old-left}
 
 -- from left to right
 abbrev pub Across : ℕ × ℕ → ℕ × ℕ → Type 0
@@ -20,9 +19,6 @@ Across a b = a.0 < b.0
 -- v is over the edge
 abbrev pub Seen : ℕ × ℕ → ℕ × ℕ → ℕ × ℕ → Type 0
 Seen v a b = turns_left a b v ≡ true
-
-pub mul-both : (k m n : ℕ) → m ≤ n → k * m ≤ k * n
-mul-both k m n h = mul-le k m k n (omega arith) h
 
 -- from a by b on to those after b
 through : (v a b : ℕ × ℕ) (l : List (ℕ × ℕ)) → a.1 < v.1 → b.1 < v.1 → Left v a b → Each (λ c. c.1 < v.1) l → Each (Left v b) l → Each (Left v a) l

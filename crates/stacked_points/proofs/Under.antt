@@ -5,16 +5,16 @@ use Rattle.plane_points.proofs.Rising.{Each, Rises, each-map, rises-pairs, each-
 use Rattle.stacked_points.specs.Contours.{Successive, IsContour, IsBetween, is_over, IsUnder, IsSegmentUnder, stretch, contour_of, Overlooks}
 use Rattle.stacked_points.specs.Laws.{StaysContour, OldStaysUnder, NewIsUnder}
 use Rattle.stacked_points.proofs.Chains.{chain-map, chain-each, rises-chain, chain-first, chain-second, chain-join, each-all, Found, any-found, found-any, each-cut, rises-short, found-each, found-parts, found-first, found-second}
-use Rattle.stacked_points.proofs.Overs.{After, Before, not-over-first, not-over-second, not-over-left, not-over-right}
-use Rattle.stacked_points.proofs.Stacking.{Across, mul-both, after-first, before-last, pick, from-first, from-last, low-end, high-end, under-first, under-second, whole, second, part, last, chain-part}
+use Rattle.stacked_points.proofs.Overs.{mul-both, After, Before, not-over-first, not-over-second, not-over-left, not-over-right}
+use Rattle.stacked_points.proofs.Stacking.{Across, after-first, before-last, pick, from-first, from-last, low-end, high-end, under-first, under-second, whole, second, part, last, chain-part}
 
--- points that each one to the right is to the left of
+-- a is to the left of all that b is to the left of, where it is not to the right of b
 farther : (a b : ℕ × ℕ) (l : List (ℕ × ℕ)) → a.0 ≤ b.0 → Each (Across b) l → Each (Across a) l
 farther a b l h e = each-map (Across b) (Across a) (λ c y. omega (arith, h, y)) l e
 
 module _ (v a b : ℕ × ℕ) (before inner after : List (ℕ × ℕ)) (contour : IsContour (contour_of before a inner b after)) (o : Overlooks v a inner b) where
-  abbrev Old : List (ℕ × ℕ)
-  Old = contour_of before a inner b after
+  abbrev OldContour : List (ℕ × ℕ)
+  OldContour = contour_of before a inner b after
 
   -- the points before a are to its left
   before-a : Each (λ x. x.0 < a.0) before
@@ -36,44 +36,44 @@ module _ (v a b : ℕ × ℕ) (before inner after : List (ℕ × ℕ)) (contour 
       ((o.between.0, farther a v (b ∷ after) (omega (arith, o.between.0)) end.0), end)
       (each-map (λ x. x.0 < a.0) (λ x. Each (Across x) (a ∷ v ∷ b ∷ after)) (λ x y. (y, farther x a (v ∷ b ∷ after) (omega (arith, y)) (o.between.0, farther a v (b ∷ after) (omega (arith, o.between.0)) end.0))) before before-a)
 
-  abbrev New : List (ℕ × ℕ)
-  New = contour_of before a (v ∷ []) b after
+  abbrev NewContour : List (ℕ × ℕ)
+  NewContour = contour_of before a (v ∷ []) b after
 
-  found-a : (P : ℕ × ℕ → Type 0) → P a → Found P New
+  found-a : (P : ℕ × ℕ → Type 0) → P a → Found P NewContour
   found-a P p = found-second P before (a ∷ v ∷ b ∷ after) (inl p)
 
-  found-b : (P : ℕ × ℕ → Type 0) → P b → Found P New
+  found-b : (P : ℕ × ℕ → Type 0) → P b → Found P NewContour
   found-b P p = found-second P before (a ∷ v ∷ b ∷ after) (inr (inr (inl p)))
 
-  right-of : (k : ℕ) (q : ℕ × ℕ) → Found (λ c. k * c.0 ≤ q.0) Old → Found (λ c. k * c.0 ≤ q.0) New
+  right-of : (k : ℕ) (q : ℕ × ℕ) → Found (λ c. k * c.0 ≤ q.0) OldContour → Found (λ c. k * c.0 ≤ q.0) NewContour
   right-of k q s = go (found-parts P before (a ∷ (inner ++ b ∷ after)) s)
     where
       P : ℕ × ℕ → Type 0
       P c = k * c.0 ≤ q.0
 
-      go : Found P before ⊎ Found P (a ∷ (inner ++ b ∷ after)) → Found P New
+      go : Found P before ⊎ Found P (a ∷ (inner ++ b ∷ after)) → Found P NewContour
       go (inl t) = found-first P before (a ∷ v ∷ b ∷ after) t
       go (inr (inl t)) = found-a P t
       go (inr (inr t)) = found-a P (found-each (Across a) P (P a) (λ x y z. omega (arith, z, mul-both k a.0 x.0 (omega (arith, y)))) (inner ++ b ∷ after) (second v a b before inner after contour o).0 t)
 
-  left-of : (k : ℕ) (q : ℕ × ℕ) → Found (λ c. q.0 ≤ k * c.0) Old → Found (λ c. q.0 ≤ k * c.0) New
+  left-of : (k : ℕ) (q : ℕ × ℕ) → Found (λ c. q.0 ≤ k * c.0) OldContour → Found (λ c. q.0 ≤ k * c.0) NewContour
   left-of k q s = go (found-parts P before (a ∷ (inner ++ b ∷ after)) s)
     where
       P : ℕ × ℕ → Type 0
       P c = q.0 ≤ k * c.0
 
-      next : Found P (a ∷ inner) ⊎ Found P (b ∷ after) → Found P New
+      next : Found P (a ∷ inner) ⊎ Found P (b ∷ after) → Found P NewContour
       next (inl t) = found-b P (found-each (λ x. x.0 < b.0) P (P b) (λ x y z. omega (arith, z, mul-both k x.0 b.0 (omega (arith, y)))) (a ∷ inner) before-b t)
       next (inr t) = found-second P before (a ∷ v ∷ b ∷ after) (inr (inr t))
 
-      go : Found P before ⊎ Found P (a ∷ (inner ++ b ∷ after)) → Found P New
+      go : Found P before ⊎ Found P (a ∷ (inner ++ b ∷ after)) → Found P NewContour
       go (inl t) = found-first P before (a ∷ v ∷ b ∷ after) t
       go (inr t) = next (found-parts P (a ∷ inner) (b ∷ after) t)
 
-  old : (k : ℕ) (q : ℕ × ℕ) → 0 < k → IsUnder Old k q → IsUnder New k q
+  old : (k : ℕ) (q : ℕ × ℕ) → 0 < k → IsUnder OldContour k q → IsUnder NewContour k q
   old k q p u = record {
-    right = found-any (λ c. k * c.0 ≤ q.0) New (right-of k q (any-found (λ c. k * c.0 ≤ q.0) Old u.right));
-    left = found-any (λ c. q.0 ≤ k * c.0) New (left-of k q (any-found (λ c. q.0 ≤ k * c.0) Old u.left));
+    right = found-any (λ c. k * c.0 ≤ q.0) NewContour (right-of k q (any-found (λ c. k * c.0 ≤ q.0) OldContour u.right));
+    left = found-any (λ c. q.0 ≤ k * c.0) NewContour (left-of k q (any-found (λ c. q.0 ≤ k * c.0) OldContour u.left));
     under = chain-join R before a (v ∷ b ∷ after) (chain-first R before a (inner ++ b ∷ after) u.under)
         (under-first v a b inner (part v a b before inner after contour o) o k q p inside, (under-second v a b inner (part v a b before inner after contour o) o k q p inside, chain-second R (a ∷ inner) b after (chain-second R before a (inner ++ b ∷ after) u.under)));
   }
@@ -84,10 +84,10 @@ module _ (v a b : ℕ × ℕ) (before inner after : List (ℕ × ℕ)) (contour 
       inside : Successive R (stretch a inner b)
       inside = chain-part v a b before inner after contour o R u.under
 
-  new : (f : List (ℕ × ℕ)) (w : ℕ × ℕ) (g : List (ℕ × ℕ)) → f ++ w ∷ g ≡ stretch a inner b → IsSegmentUnder New v w
+  new : (f : List (ℕ × ℕ)) (w : ℕ × ℕ) (g : List (ℕ × ℕ)) → f ++ w ∷ g ≡ stretch a inner b → IsSegmentUnder NewContour v w
   new f w g e s t n = record {
-    right = found-any (λ c. (s + t) * c.0 ≤ s * v.0 + t * w.0) New (found-a (λ c. (s + t) * c.0 ≤ s * v.0 + t * w.0) (low-end v a b inner increasing o w s t (from-first v a b inner increasing o w first)));
-    left = found-any (λ c. s * v.0 + t * w.0 ≤ (s + t) * c.0) New (found-b (λ c. s * v.0 + t * w.0 ≤ (s + t) * c.0) (high-end v a b inner increasing o w s t (from-last v a b inner increasing o w final)));
+    right = found-any (λ c. (s + t) * c.0 ≤ s * v.0 + t * w.0) NewContour (found-a (λ c. (s + t) * c.0 ≤ s * v.0 + t * w.0) (low-end v a b inner increasing o w s t (from-first v a b inner increasing o w first)));
+    left = found-any (λ c. s * v.0 + t * w.0 ≤ (s + t) * c.0) NewContour (found-b (λ c. s * v.0 + t * w.0 ≤ (s + t) * c.0) (high-end v a b inner increasing o w s t (from-last v a b inner increasing o w final)));
     under = chain-join R before a (v ∷ b ∷ after) lefts ((λ m. not-over-first v w a s t first), ((λ m. not-over-second v w b s t final), rights));
   }
     where
