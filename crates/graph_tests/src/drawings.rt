@@ -1,24 +1,31 @@
 // Points for the vertices of small graphs, and whether they are a straight-line drawing.
 
+use crate::rotation_systems::lists_of;
 use grid_drawing::{Points, is_drawing};
 use multigraph::Graph;
-use rotations::{Lists, Rotation};
-use std::alloc::{AllocError, Global};
+use rotations::Rotation;
+use std::alloc::Global;
 use std::test::Fail;
 
 // A graph, the edges around each vertex in counterclockwise order, the least first, a point for each vertex, and whether this is a
 // drawing.
 struct Row {
     name: &'static str,
+    vertices: u32,
     ends: &'static [(u32, u32)],
-    orders: &'static [&'static [u32]],
+    orders: &'static [(u32, &'static [u32])],
     points: &'static [(u32, u32)],
     is_drawing: bool,
 }
 
 const K4: &[(u32, u32)] = &[(0, 1), (0, 2), (0, 3), (1, 2), (1, 3), (2, 3)];
 
-const K4_ORDERS: &[&[u32]] = &[&[0, 1, 2], &[0, 4, 3], &[1, 3, 5], &[2, 5, 4]];
+const K4_ORDERS: &[(u32, &[u32])] = &[
+    (0, &[0, 1, 2]),
+    (1, &[0, 4, 3]),
+    (2, &[1, 3, 5]),
+    (3, &[2, 5, 4]),
+];
 
 const STAR: &[(u32, u32)] = &[(0, 1), (0, 2), (0, 3)];
 
@@ -30,6 +37,7 @@ const PATH: &[(u32, u32)] = &[(0, 1), (0, 2)];
 static ROWS: [Row; 15] = [
     Row {
         name: "K4",
+        vertices: 4,
         ends: K4,
         orders: K4_ORDERS,
         points: &[(2, 1), (0, 0), (4, 0), (2, 2)],
@@ -37,6 +45,7 @@ static ROWS: [Row; 15] = [
     },
     Row {
         name: "K4 with two points exchanged",
+        vertices: 4,
         ends: K4,
         orders: K4_ORDERS,
         points: &[(2, 1), (4, 0), (0, 0), (2, 2)],
@@ -44,6 +53,7 @@ static ROWS: [Row; 15] = [
     },
     Row {
         name: "K4 with an edge across another",
+        vertices: 4,
         ends: K4,
         orders: K4_ORDERS,
         points: &[(0, 2), (0, 0), (2, 0), (2, 2)],
@@ -51,105 +61,106 @@ static ROWS: [Row; 15] = [
     },
     Row {
         name: "a star",
+        vertices: 4,
         ends: STAR,
-        orders: &[&[0, 1, 2], &[0], &[1], &[2]],
+        orders: &[(0, &[0, 1, 2]), (1, &[0]), (2, &[1]), (3, &[2])],
         points: &[(1, 1), (2, 1), (1, 2), (0, 1)],
         is_drawing: true,
     },
     Row {
         name: "a star in the other order",
+        vertices: 4,
         ends: STAR,
-        orders: &[&[0, 2, 1], &[0], &[1], &[2]],
+        orders: &[(0, &[0, 2, 1]), (1, &[0]), (2, &[1]), (3, &[2])],
         points: &[(1, 1), (2, 1), (1, 2), (0, 1)],
         is_drawing: false,
     },
     Row {
         name: "two edges on one line",
+        vertices: 3,
         ends: PATH,
-        orders: &[&[0, 1], &[0], &[1]],
+        orders: &[(0, &[0, 1]), (1, &[0]), (2, &[1])],
         points: &[(1, 1), (0, 0), (2, 2)],
         is_drawing: true,
     },
     Row {
         name: "two edges one over the other",
+        vertices: 3,
         ends: PATH,
-        orders: &[&[0, 1], &[0], &[1]],
+        orders: &[(0, &[0, 1]), (1, &[0]), (2, &[1])],
         points: &[(0, 0), (1, 1), (2, 2)],
         is_drawing: false,
     },
     Row {
         name: "parallel edges",
+        vertices: 2,
         ends: &[(0, 1), (0, 1)],
-        orders: &[&[0, 1], &[0, 1]],
+        orders: &[(0, &[0, 1]), (1, &[0, 1])],
         points: &[(0, 0), (1, 0)],
         is_drawing: false,
     },
     Row {
         name: "equal points",
+        vertices: 2,
         ends: &[],
-        orders: &[&[], &[]],
+        orders: &[(0, &[]), (1, &[])],
         points: &[(3, 4), (3, 4)],
         is_drawing: false,
     },
     Row {
         name: "isolated vertices",
+        vertices: 2,
         ends: &[],
-        orders: &[&[], &[]],
+        orders: &[(0, &[]), (1, &[])],
         points: &[(3, 4), (4, 3)],
         is_drawing: true,
     },
     Row {
         name: "a vertex on an edge",
+        vertices: 3,
         ends: &[(0, 1)],
-        orders: &[&[0], &[0], &[]],
+        orders: &[(0, &[0]), (1, &[0]), (2, &[])],
         points: &[(0, 0), (4, 2), (2, 1)],
         is_drawing: false,
     },
     Row {
         name: "edges that cross",
+        vertices: 4,
         ends: TWO,
-        orders: &[&[0], &[0], &[1], &[1]],
+        orders: &[(0, &[0]), (1, &[0]), (2, &[1]), (3, &[1])],
         points: &[(0, 0), (2, 2), (0, 2), (2, 0)],
         is_drawing: false,
     },
     Row {
         name: "edges whose lines cross",
+        vertices: 4,
         ends: TWO,
-        orders: &[&[0], &[0], &[1], &[1]],
+        orders: &[(0, &[0]), (1, &[0]), (2, &[1]), (3, &[1])],
         points: &[(0, 0), (2, 2), (0, 3), (1, 2)],
         is_drawing: true,
     },
     Row {
         name: "far away, a vertex beside an edge",
+        vertices: 3,
         ends: &[(0, 1)],
-        orders: &[&[0], &[0], &[]],
+        orders: &[(0, &[0]), (1, &[0]), (2, &[])],
         points: &[(0, 0), (4294967295, 4294967294), (4294967294, 4294967293)],
         is_drawing: true,
     },
     Row {
         name: "far away, a vertex on an edge",
+        vertices: 3,
         ends: &[(0, 1)],
-        orders: &[&[0], &[0], &[]],
+        orders: &[(0, &[0]), (1, &[0]), (2, &[])],
         points: &[(0, 0), (4294967294, 4294967292), (2147483647, 2147483646)],
         is_drawing: false,
     },
 ];
 
-// The lists of a row.
-fn lists_of(alloc: Global, row: &Row) -> Result<Lists, AllocError> {
-    let mut lists = Lists::new(alloc);
-    for v in 0..row.orders.len() as u32 {
-        if lists.is_above(v) {
-            lists.push(v, row.orders[v as usize])?;
-        }
-    }
-    Ok(lists)
-}
-
 // Whether the check says of the row what the row says.
 fn is_as_told(alloc: Global, row: &Row) -> Result<bool, Fail> {
-    let g = Graph::build(alloc, row.points.len() as u32, row.ends)?;
-    let r = Rotation::from_lists(alloc, &g, &lists_of(alloc, row)?)?;
+    let g = Graph::build(alloc, row.vertices, row.ends)?;
+    let r = Rotation::from_lists(alloc, &g, &lists_of(alloc, row.orders)?)?;
     let points = Points::of(alloc, row.points)?;
     if points.as_slice().len() != g.vertex_count() as usize {
         return Ok(false);

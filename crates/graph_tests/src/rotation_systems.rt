@@ -11,10 +11,10 @@ use std::test::Fail;
 
 const K4: [(u32, u32); 6] = [(0, 1), (0, 2), (0, 3), (1, 2), (1, 3), (2, 3)];
 
-type Row<'a> = (u32, &'a [u32]);
+pub(crate) type Row<'a> = (u32, &'a [u32]);
 
 // The lists of these rows, without those whose vertex is not above the one before.
-fn lists_of(alloc: Global, rows: &[Row<'_>]) -> Result<Lists, AllocError> {
+pub(crate) fn lists_of(alloc: Global, rows: &[Row<'_>]) -> Result<Lists, AllocError> {
     let mut lists = Lists::new(alloc);
     for row in rows {
         let (v, edges) = *row;

@@ -1,0 +1,3 @@
+-- Contours, and points stacked on them.
+pub mod Contours
+pub mod Laws
