@@ -1,5 +1,7 @@
 // Moves between the plane rotation systems of small components, worked out by hand.
 
+ghost use Rattle.std.specs.Prelude.{◌<◌};
+
 use crate::whole_graphs::{Placed, Walk};
 use rotations::Lists;
 use skel_embed::Move;
