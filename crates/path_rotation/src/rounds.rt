@@ -51,7 +51,6 @@ pub(crate) fn round(
     search.seen.fill(false);
     fits.passed.fill(0);
     fits.stamp = 0;
-    fits.dirty.fill(false);
     for t in 0..dart_count(g) {
         if is_waiting(g, board, &search.seen, t) {
             match attempt(g, board, search, fits, t, first)? {
