@@ -12,7 +12,7 @@ use crate::fitting::{darts_at, exclude_all, is_attachment, keep_in_face};
 use crate::inserting::draw_path;
 use crate::labels::{is_on_face, label_face};
 use crate::outcome::Tried;
-use crate::searching::gather;
+use crate::searching::{gather, unmark};
 use crate::tables::{Board, Fits, Search};
 use crate::ways::way_back;
 use multigraph::{Graph, tail, twin};
@@ -151,7 +151,7 @@ fn choose(
 }
 
 // Tries the bridge that begins with the undrawn dart t, whose tail is on. If `first` then what is drawn is an edge or a cycle. A path
-// that is drawn cuts its face in two: the one of t is labelled anew.
+// that is drawn cuts its face in two, and the one of t is labelled anew; what is left of the bridge may be tried again.
 pub(crate) fn attempt(
     g: &Graph,
     board: &mut Board,
@@ -176,6 +176,7 @@ pub(crate) fn attempt(
         Choice::Between(c, k) => {
             draw_path(g, board, c, t, &fits.path, k);
             label_face(g, &board.next, &mut board.label, t);
+            unmark(&mut search.seen, &search.list);
             Ok(Tried::Drawn)
         }
         Choice::Open => Ok(Tried::Passed),
