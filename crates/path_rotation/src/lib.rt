@@ -14,7 +14,7 @@
 // The search for attachments is not promised to be right: each path back to an attachment is checked edge by edge. In a round each
 // bridge is tried once, in time linear in its edges and in the degrees of the attachments; each round but the last draws a path.
 // After a path, in time linear in the graph, one of the two faces that it makes has a label of its own, and what is left of its
-// bridge is tried in the same round: most graphs take few rounds. All tables are reserved before the first one, and nothing recurses.
+// bridge is tried in the same round. All tables are reserved before the first round, and nothing recurses.
 //
 // The lemmas that are used most (module of proofs/ in front):
 //   PathDrawn    one-face, still-follows: the path of a plane rotation system, drawn into a face
