@@ -5,3 +5,4 @@ pub mod Covered
 pub mod Without
 pub mod Sides
 pub mod Minimal
+mod ReadOff

@@ -38,8 +38,11 @@ pub record IsWhole (g : Multigraph) (kind : Pattern) (branch : List ℕ) (paths 
 abbrev pub IsPattern : Multigraph → Type 0
 IsPattern g = (kind : Pattern) × (branch : List ℕ) × (paths : List (List ℕ)) × IsWhole g kind branch paths
 
--- path k is an edge between the branch vertices that it should join
+-- this path is an edge between the branch vertices that path k should join
+abbrev pub IsEdgePath : Multigraph → Pattern → List ℕ → ℕ → List ℕ → Type 0
+IsEdgePath g kind branch k path = (e : ℕ) × (e < edge_count g) × (joins g (branch_at branch (pair_at kind k).0) (branch_at branch (pair_at kind k).1) e ≡ true) × (path ≡ e ∷ [])
+
+-- each path is an edge between the branch vertices that it should join
 pub record AreEdges (g : Multigraph) (kind : Pattern) (branch : List ℕ) (paths : List (List ℕ)) : Type 0 where
   pub one_each : length paths ≡ length (pattern_edges kind)
-  pub edges : (k : ℕ) → k < length (pattern_edges kind)
-      → (e : ℕ) × (e < edge_count g) × (joins g (branch_at branch (pair_at kind k).0) (branch_at branch (pair_at kind k).1) e ≡ true) × (path_at paths k ≡ e ∷ [])
+  pub edges : (k : ℕ) → k < length (pattern_edges kind) → IsEdgePath g kind branch k (path_at paths k)

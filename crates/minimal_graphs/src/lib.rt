@@ -11,7 +11,8 @@
 // and an end of e; and the end of e that was removed has an edge to a third vertex.
 //
 // In the written form of the subdivision, which is the whole graph, the vertices that no edge joins with the vertex 0 are the side
-// of the first branch vertex: one of K5, three of K3,3. So K5 and K3,3 can be read off.
+// of the first branch vertex: one of K5, three of K3,3. So `read_off` finds the branch vertices without a search, and an edge for
+// each path.
 //
 // The lemmas that are used most (preceded by their module of proofs/):
 //   Renamed  renamed-path, renamed-subdivision: walks, paths and subdivisions along edges that have other numbers in another graph
@@ -19,9 +20,14 @@
 //   Without  without-block, needed-edge: the part of all edges but one
 //   Covered  path-one, vertex-branch: a subdivision that has all edges
 //   Sides    sides-branch, pair-joined, edges-written: the branch vertices by sides, and an edge for each path
+//   ReadOff  read-branch, read-written: what is read off
 #![tactic(auto)]
 
+mod reading;
+
 ghost use Rattle.minimal_graphs.specs.Laws.{MinimalIsPattern, OneEdgeLessIsBlock, SidesAreBranches};
+
+pub use reading::read_off;
 
 /// The law that the part of a triconnected graph that all edges but one make is one block.
 pub fn one_edge_less_is_a_block()

@@ -1,5 +1,5 @@
 -- A bridge tried: what is drawn stays right, and where no corner fits the graph has no plane rotation system.
-use Rattle.std.proofs.Common.{◌≡◌, ◌∙◌, ℕ, true, ◌/◌, ◌<◌, ◌≤◌, inl, inr, Bool, cond, List, ◌∷◌, length, slice_index, sym, subst, arith}
+use Rattle.std.proofs.Common.{◌≡◌, ◌∙◌, ℕ, true, ◌/◌, ◌<◌, ◌≤◌, inl, inr, Bool, cond, if◌then◌else◌, List, ◌∷◌, length, slice_index, sym, subst, arith}
 use Rattle.std.proofs.lemmas.Bool.{cases_Bool, or_left, or_right}
 use Rattle.permutations.specs.Members.{is_member}
 use Rattle.permutations.proofs.Count.{count-less}
@@ -7,14 +7,15 @@ use Rattle.permutations.proofs.Members.{member-head}
 use Rattle.multigraph.specs.Graph.{Multigraph, edge_count, IsGraph}
 use Rattle.multigraph.specs.Marks.{is_marked}
 use Rattle.multigraph.proofs.DartEnds.{dart-edge}
-use Rattle.dart_maps.specs.Map.{twin, same_face}
+use Rattle.dart_maps.specs.Map.{twin, face, same_face}
 use Rattle.dart_maps.proofs.Darts.{twin-below}
 use Rattle.faces.specs.Euler.{dart_count, IsPlaneSystem}
-use Rattle.path_rotation.specs.Forced.{IsForced, IsPathDrawn}
+use Rattle.path_rotation.specs.Forced.{IsForced, IsPathDrawn, IsMapOfDarts}
 use Rattle.path_rotation.specs.Fitting.{IsBoard, IsFoot, AreLabels, AreFitting, MayDraw, IsWayTo, IsMoreDrawn, drawn_count}
 use Rattle.path_rotation.specs.declared.outcome.Tried.{Tried}
 use Rattle.path_rotation.specs.declared.outcome.Tried.TheVariants.{NotPlanar, Drawn, Passed}
-use Rattle.path_rotation.proofs.PathTables.{path-tables, path-closed}
+use Rattle.path_rotation.proofs.FaceLabels.{label-anew}
+use Rattle.path_rotation.proofs.PathTables.{path-tables, path-closed, if-true, if-false}
 use Rattle.path_rotation.proofs.DrawingKept.{path-drawn}
 use Rattle.path_rotation.proofs.ForcedSteps.{no-plane, sole-forced, mirror-forced}
 use Rattle.path_rotation.proofs.Fits.{fitting-none}
@@ -66,6 +67,27 @@ module _ (g : Multigraph) (ok : IsGraph g) (drawn on : List Bool) (next label : 
   pub more-drawn : drawn_count g drawn < drawn_count g new_drawn
   more-drawn = count-less (edge_count g) (is_marked drawn) (is_marked new_drawn) (t / 2) (λ x l h. d.edges_marked x ∙ or_left (is_marked drawn x) (is_member x ((t / 2) ∷ w.way.along)) h) (dart-edge g t f.dart) f.undrawn
       (d.edges_marked (t / 2) ∙ or_right (is_marked drawn (t / 2)) (is_member (t / 2) ((t / 2) ∷ w.way.along)) (member-head (t / 2) w.way.along))
+
+-- it is by a map of darts
+pub board-map : (g : Multigraph) (drawn on : List Bool) (next label : List ℕ) → IsBoard g drawn on next label → IsMapOfDarts (edge_count g) next
+board-map g drawn on next label b = (b.drawing.0, b.drawing.1.map.permutes)
+
+-- and when a face is labelled anew, by the number of one of its darts
+pub board-anew : (g : Multigraph) (drawn on : List Bool) (next label : List ℕ) (t : ℕ) (new : List ℕ) → IsBoard g drawn on next label → t < dart_count g → length new ≡ length label
+    → ((d : ℕ) → slice_index new d ≡ (if same_face (edge_count g) (slice_index next) t d then t else slice_index label d)) → IsBoard g drawn on next new
+board-anew g drawn on next label t new b l size e = record {
+  tables = b.tables;
+  forced = b.forced;
+  drawing = b.drawing;
+  closed = label-anew (dart_count g) (face (slice_index next)) t label new b.closed e;
+  labels = record {
+    each = size ∙ b.labels.each;
+    within = λ x i. elim (cases_Bool (same_face (edge_count g) (slice_index next) t x)) [
+      | inl h ↦ subst (λ (z : ℕ). z < dart_count g) (sym (e x ∙ if-true (same_face (edge_count g) (slice_index next) t x) t (slice_index label x) h)) l
+      | inr h ↦ subst (λ (z : ℕ). z < dart_count g) (sym (e x ∙ if-false (same_face (edge_count g) (slice_index next) t x) t (slice_index label x) h)) (b.labels.within x i)
+    ];
+  };
+}
 
 -- as many edges or more are drawn after any bridge
 pub more-least : (g : Multigraph) (before after : List Bool) (tried : Tried) → IsMoreDrawn g before after tried → drawn_count g before ≤ drawn_count g after

@@ -87,13 +87,26 @@ label-skip n f unwritten d label h w = record {
   ];
 }
 
+-- labels of whole orbits, and an orbit labelled anew
+pub label-anew : (n : ℕ) (f : ℕ → ℕ) (d : ℕ) (label new : List ℕ) → ((x : ℕ) → x < n → slice_index label (f x) ≡ slice_index label x) → ((x : ℕ) → slice_index new x ≡ (if same_orbit n f d x then d else slice_index label x)) → (x : ℕ) → x < n → slice_index new (f x) ≡ slice_index new x
+label-anew n f d label new whole e x i = elim (cases_Bool (same_orbit n f d x)) [
+  | inl t ↦ here (f x) (o.transitive d x (f x) t (orbit-step n f x i)) ∙ sym (here x t)
+  | inr t ↦ there (f x) (false_from_ne_true (same_orbit n f d (f x)) (λ u. both_ways (same_orbit n f d x) t (o.transitive d (f x) x u (o.symmetric x (f x) (orbit-step n f x i))))) ∙ whole x i ∙ sym (there x t)
+]
+  where
+    o : IsEquivalence (same_orbit n f)
+    o = orbit-equivalence n f
+
+    here : (y : ℕ) → same_orbit n f d y ≡ true → slice_index new y ≡ d
+    here y t = e y ∙ if-true (same_orbit n f d y) d (slice_index label y) t
+
+    there : (y : ℕ) → same_orbit n f d y ≡ false → slice_index new y ≡ slice_index label y
+    there y t = e y ∙ if-false (same_orbit n f d y) d (slice_index label y) t
+
 -- else its orbit is labelled
 pub label-orbit : (n : ℕ) (f g : ℕ → ℕ) → Permutes n f g → (unwritten d : ℕ) (label new : List ℕ) → LabelOrbits n f unwritten d label → d < n → n ≤ unwritten → ((x : ℕ) → slice_index new x ≡ (if same_orbit n f d x then d else slice_index label x)) → LabelOrbits n f unwritten (d + 1) new
 label-orbit n f g p unwritten d label new h l top e = record {
-  whole = λ x i. elim (cases_Bool (same_orbit n f d x)) [
-    | inl t ↦ here (f x) (o.transitive d x (f x) t (orbit-step n f x i)) ∙ sym (here x t)
-    | inr t ↦ there (f x) (false_from_ne_true (same_orbit n f d (f x)) (λ u. both_ways (same_orbit n f d x) t (o.transitive d (f x) x u (o.symmetric x (f x) (orbit-step n f x i))))) ∙ h.whole x i ∙ sym (there x t)
-  ];
+  whole = label-anew n f d label new h.whole e;
   right = λ x i w. elim (cases_Bool (same_orbit n f d x)) [
     | inl t ↦ subst (λ (y : ℕ). (y < n) × (same_orbit n f y x ≡ true)) (sym (here x t)) (l, t)
     | inr t ↦ subst (λ (y : ℕ). (y < n) × (same_orbit n f y x ≡ true)) (sym (there x t)) (h.right x i (λ q. w (there x t ∙ q)))

@@ -10,9 +10,9 @@ ghost use Rattle.path_rotation.specs.declared.outcome.Tried.TheVariants.{Passed}
 
 use crate::fitting::{darts_at, exclude_all, is_attachment, keep_in_face};
 use crate::inserting::draw_path;
-use crate::labels::is_on_face;
+use crate::labels::{is_on_face, label_face};
 use crate::outcome::Tried;
-use crate::searching::gather;
+use crate::searching::{gather, unmark};
 use crate::tables::{Board, Fits, Search};
 use crate::ways::way_back;
 use multigraph::{Graph, tail, twin};
@@ -61,24 +61,7 @@ fn way_to(
     Ok(None)
 }
 
-// Whether the place has a mark.
-fn has_mark(marks: &[bool], place: u32) -> bool {
-    match marks.get(place as usize) {
-        Some(mark) => *mark,
-        None => false,
-    }
-}
-
-// Marks the place, if there is one.
-fn put_mark(marks: &mut [bool], place: u32) {
-    let place = place as usize;
-    if place < marks.len() {
-        marks[place] = true;
-    }
-}
-
-// The only dart in the face of the corner of c at the first attachment to which there is such a path. None where a path was drawn
-// into this face in this round: its label is then that of several faces.
+// The only dart in the face of the corner of c at the first attachment to which there is such a path.
 fn find_way(
     g: &Graph,
     board: &Board,
@@ -95,9 +78,6 @@ fn find_way(
     ensures room { IfOk result (λ _. HaveRoom g.now fits.new.notes.items fits.new.depth.items fits.new.passed.items) }
     ensures way { IfOk result (λ answer. IfSome answer (IsWayTo g.now board.now.drawn.items board.now.on.items board.now.label.items t c fits.new.path.items)) }
 {
-    if has_mark(&fits.dirty, board.label[twin(c) as usize]) {
-        return Ok(None);
-    }
     for z in feet {
         if let Some(k) = way_to(g, board, fits, t, c, *z)? {
             return Ok(Some(k));
@@ -170,7 +150,8 @@ fn choose(
     Ok(Choice::Open)
 }
 
-// Tries the bridge that begins with the undrawn dart t, whose tail is on. If `first` then what is drawn is an edge or a cycle.
+// Tries the bridge that begins with the undrawn dart t, whose tail is on. If `first` then what is drawn is an edge or a cycle. A path
+// that is drawn cuts its face in two, and the one of t is labelled anew; what is left of the bridge may be tried again.
 pub(crate) fn attempt(
     g: &Graph,
     board: &mut Board,
@@ -193,8 +174,9 @@ pub(crate) fn attempt(
     match choose(g, board, search, fits, t, first)? {
         Choice::Nowhere => Ok(Tried::NotPlanar),
         Choice::Between(c, k) => {
-            let face = draw_path(g, board, c, t, &fits.path, k);
-            put_mark(&mut fits.dirty, face);
+            draw_path(g, board, c, t, &fits.path, k);
+            label_face(g, &board.next, &mut board.label, t);
+            unmark(&mut search.seen, &search.list);
             Ok(Tried::Drawn)
         }
         Choice::Open => Ok(Tried::Passed),

@@ -67,9 +67,9 @@ fn draw_paths(alloc: Global, g: &Graph, board: &mut Board) -> Result<bool, Alloc
 /// A plane rotation system of the graph, which may be any, or that it has none, found by drawing one path after another into
 /// faces (Demoucron, Malgrange and Pertuiset 1964); or `Stuck`, which says nothing of the graph.
 ///
-/// Not promised: that the result is not `Stuck` where the graph is triconnected. A round takes time linear in the graph and in the
-/// degrees of the vertices at which bridges are attached, and there are at most as many rounds as edges. Fails only if memory runs
-/// out.
+/// Not promised: that the result is not `Stuck` where the graph is triconnected. Each path that is drawn takes time linear in the
+/// graph. In a round each bridge at which none is drawn takes time linear in its edges and in the degrees of the vertices at which it
+/// is attached, and there are at most as many rounds as edges. Fails only if memory runs out.
 pub fn draw(alloc: Global, g: &Graph) -> Result<Drawn, AllocError>
     ensures { IfOk result (IsDrawn g.now) }
 {

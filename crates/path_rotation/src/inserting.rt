@@ -78,9 +78,9 @@ fn paint(label: &mut [u32], path: &[u32], face: u32)
     }
 }
 
-// Draws the path that begins with the dart t between the corners of c, at its tail, and of k, at its end. Returns the label of the
-// face that it is drawn into.
-pub(crate) fn draw_path(g: &Graph, board: &mut Board, c: u32, t: u32, path: &[u32], k: u32) -> u32
+// Draws the path that begins with the dart t between the corners of c, at its tail, and of k, at its end. Its darts get the label of
+// the face that it is drawn into.
+pub(crate) fn draw_path(g: &Graph, board: &mut Board, c: u32, t: u32, path: &[u32], k: u32)
     requires tables { AreTables g.now board.old.drawn.items board.old.on.items board.old.next.items }
     requires labels { AreLabels g.now board.old.label.items }
     requires dart { t < dart_count g.now }
@@ -99,5 +99,4 @@ pub(crate) fn draw_path(g: &Graph, board: &mut Board, c: u32, t: u32, path: &[u3
     mark_edges(&mut board.drawn, path);
     mark_vertices(g, &mut board.on, x, path);
     paint(&mut board.label, path, face);
-    face
 }

@@ -13,7 +13,7 @@ use multigraph::{Graph, dart_count, twin};
 const NONE: u32 = u32::MAX;
 
 // Gives the darts of the face of `start` its number as label.
-fn label_face(g: &Graph, next: &[u32], label: &mut [u32], start: u32)
+pub(crate) fn label_face(g: &Graph, next: &[u32], label: &mut [u32], start: u32)
     requires map { IsMapOfDarts (edge_count g.now) next.now }
     requires darts { length next.now ≡ dart_count g.now }
     requires labels { length label.old ≡ dart_count g.now }

@@ -12,8 +12,9 @@
 // they are of one face when a round begins, and a path is drawn only between two corners that are found to be of one face. Each path
 // draws an edge or more, and the lists at the end are those of the map: `finish` is never stuck with that of a plane rotation system.
 // The search for attachments is not promised to be right: each path back to an attachment is checked edge by edge. In a round each
-// bridge is tried once, in time linear in the graph and in the degrees of the attachments; each round but the last draws a path. All
-// tables are reserved before the first round, and nothing recurses.
+// bridge is tried once, in time linear in its edges and in the degrees of the attachments; each round but the last draws a path.
+// After a path, in time linear in the graph, one of the two faces that it makes has a label of its own, and what is left of its
+// bridge is tried in the same round. All tables are reserved before the first round, and nothing recurses.
 //
 // The lemmas that are used most (module of proofs/ in front):
 //   PathDrawn    one-face, still-follows: the path of a plane rotation system, drawn into a face

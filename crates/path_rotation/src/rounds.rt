@@ -1,4 +1,4 @@
-// A round: each bridge is tried once.
+// A round: each bridge is tried, and what is left of it after a path was drawn.
 
 ghost use Rattle.std.specs.Prelude.{◌≡◌, ◌<◌, true, IfOk};
 ghost use Rattle.multigraph.specs.Darts.{dart_count};
@@ -12,8 +12,8 @@ use crate::tables::{Board, Fits, Search};
 use multigraph::{Graph, dart_count, head, tail};
 use std::alloc::AllocError;
 
-// Whether t is an undrawn dart whose tail is on, the first of a bridge that was not tried in this round. An edge both ends of which
-// are on is tried by its first dart.
+// Whether t is an undrawn dart whose tail is on, the first of a bridge that was not tried in this round since a path of it was drawn.
+// An edge both ends of which are on is tried by its first dart.
 fn is_waiting(g: &Graph, board: &Board, seen: &[bool], t: u32) -> bool
     requires dart { t < dart_count g.now }
     requires tables { AreTables g.now board.now.drawn.items board.now.on.items board.now.next.items }
@@ -32,7 +32,7 @@ fn is_waiting(g: &Graph, board: &Board, seen: &[bool], t: u32) -> bool
     }
 }
 
-// Tries each bridge once.
+// Tries each bridge, and what is left of it after a path was drawn.
 pub(crate) fn round(
     g: &Graph,
     board: &mut Board,
@@ -51,7 +51,6 @@ pub(crate) fn round(
     search.seen.fill(false);
     fits.passed.fill(0);
     fits.stamp = 0;
-    fits.dirty.fill(false);
     for t in 0..dart_count(g) {
         if is_waiting(g, board, &search.seen, t) {
             match attempt(g, board, search, fits, t, first)? {

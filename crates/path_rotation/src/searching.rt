@@ -8,7 +8,7 @@ use multigraph::{Graph, head};
 use std::alloc::AllocError;
 
 // Takes the marks from these places.
-fn unmark(marks: &mut [bool], places: &[u32]) {
+pub(crate) fn unmark(marks: &mut [bool], places: &[u32]) {
     for place in places {
         let place = *place as usize;
         if place < marks.len() {

@@ -27,15 +27,14 @@ pub(crate) struct Search {
 }
 
 // The corners that may fit a bridge: for each vertex reached the edge by which it was and how many edges away it is; stamps on the
-// labels of the faces at one attachment, and marks on those of the faces that a path was drawn into in this round; the corners at
-// the tail, those that are kept, the drawn darts at an attachment, and the path to it.
+// labels of the faces at one attachment; the corners at the tail, those that are kept, the drawn darts at an attachment, and the
+// path to it.
 #[derive(Drop)]
 pub(crate) struct Fits {
     pub notes: Vec<u32>,
     pub depth: Vec<u32>,
     pub passed: Vec<u32>,
     pub stamp: u32,
-    pub dirty: Vec<bool>,
     pub corners: Vec<u32>,
     pub kept: Vec<u32>,
     pub there: Vec<u32>,
@@ -66,7 +65,6 @@ impl Fits {
             depth: vec![in alloc; 0; n]?,
             passed: vec![in alloc; 0; 2 * m]?,
             stamp: 0,
-            dirty: vec![in alloc; false; 2 * m]?,
             corners: Vec::with_capacity(alloc, m)?,
             kept: Vec::with_capacity(alloc, m)?,
             there: Vec::with_capacity(alloc, m)?,
