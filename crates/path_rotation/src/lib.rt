@@ -10,7 +10,7 @@
 // `draw` returns a plane rotation system, or that the graph has none; or that it is stuck, each bridge that is left fitting several
 // faces. What is drawn is always a drawing: a plane map, which no vertex cuts (path_separation). Darts have one label just where
 // they are of one face when a round begins, and a path is drawn only between two corners that are found to be of one face. Each path
-// draws an edge or more, and the lists at the end are those of the map: `finish` is never stuck with that of a plane rotation system.
+// draws an edge or more, and the lists at the end are those of the map: where all edges are drawn, they are a plane rotation system.
 // The search for attachments is not promised to be right: each path back to an attachment is checked edge by edge. In a round each
 // bridge is tried once, in time linear in its edges and in the degrees of the attachments; each round but the last draws a path.
 // After a path, in time linear in the graph, one of the two faces that it makes has a label of its own, and what is left of its
@@ -20,7 +20,7 @@
 //   PathDrawn    one-face, still-follows: the path of a plane rotation system, drawn into a face
 //   ForcedSteps  no-plane, sole-forced, mirror-forced: what is forced where a bridge fits no face, or one, or two that a mirror exchanges
 //   PathTables   path-tables, path-closed: the tables and labels after a path is drawn
-//   DrawingKept  edge-drawn, path-drawn: what is drawn is a drawing
+//   DrawingKept  edge-drawn, path-drawn, drawn-order: what is drawn is a drawing
 //   FaceLabels   label-orbit, labels-tell: the labels of the faces
 //   Finished     around, none-bad, same-system: the lists of a map
 #![tactic(auto)]
@@ -34,6 +34,7 @@ mod labels;
 mod outcome;
 mod rounds;
 mod searching;
+mod settling;
 mod tables;
 mod ways;
 
