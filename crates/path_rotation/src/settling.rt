@@ -10,7 +10,7 @@ ghost use Rattle.path_separation.specs.Feet.{IsAttached};
 ghost use Rattle.path_rotation.specs.Forced.{AreExact, AreTables, IsAdmissible, IsCorner, IsInvolution};
 ghost use Rattle.path_rotation.specs.Fitting.{AreDartsAt, AreLabels, IsBoard, IsChoice, IsFoot, IsMoreDrawn, IsSketch, IsTried};
 ghost use Rattle.path_rotation.specs.Search.{IsWayFound};
-ghost use Rattle.path_rotation.specs.Settling.{AreAllAttached, AreFreeLabels, AreOpen, IsOpen, IsStep, IsTouched, is_way_edge};
+ghost use Rattle.path_rotation.specs.Settling.{AreAllAttached, AreFreeLabels, AreOpen, IsOpen, IsStep, IsTouched, is_off_edge, is_way_edge};
 ghost use Rattle.path_rotation.specs.declared.attempts.Choice.TheVariants.{Open};
 ghost use Rattle.path_rotation.specs.declared.outcome.Tried.TheVariants.{Passed};
 
@@ -25,6 +25,16 @@ use graph_theory::labels::{merge, own_labels};
 use multigraph::{Graph, dart_count, head, tail, twin};
 use std::alloc::{AllocError, Global};
 
+// Whether both ends of the edge are off.
+fn is_off_edge(g: &Graph, on: &[bool], e: u32) -> bool
+    requires on_each { length on.now ≡ g.now.vertex_count }
+    requires edge { e < edge_count g.now }
+    ensures { result ≡ is_off_edge g.now on.now e }
+{
+    let (a, b) = g.ends(e);
+    !on[a as usize] && !on[b as usize]
+}
+
 // Labels of the vertices, equal just where edges between vertices that are off join them.
 fn free_labels(alloc: Global, g: &Graph, on: &[bool]) -> Result<Vec<u32>, AllocError>
     requires { length on.now ≡ g.now.vertex_count }
@@ -32,8 +42,8 @@ fn free_labels(alloc: Global, g: &Graph, on: &[bool]) -> Result<Vec<u32>, AllocE
 {
     let mut labels = own_labels(alloc, g.vertex_count())?;
     for e in 0..g.edge_count() {
-        let (a, b) = g.ends(e);
-        if !on[a as usize] && !on[b as usize] {
+        if is_off_edge(g, on, e) {
+            let (a, b) = g.ends(e);
             merge(&mut labels, &[], a, b);
         }
     }
@@ -156,6 +166,16 @@ fn find_fit(
     Ok(None)
 }
 
+// Whether both ends of the edge are off or z.
+fn is_way_edge(g: &Graph, on: &[bool], z: u32, e: u32) -> bool
+    requires on_each { length on.now ≡ g.now.vertex_count }
+    requires edge { e < edge_count g.now }
+    ensures { result ≡ is_way_edge g.now on.now z e }
+{
+    let (a, b) = g.ends(e);
+    (!on[a as usize] || z == a) && (!on[b as usize] || z == b)
+}
+
 // The edges both ends of which are off or z.
 fn way_edges(g: &Graph, on: &[bool], z: u32, edges: &mut Vec<u32>) -> Result<(), AllocError>
     requires { length on.now ≡ g.now.vertex_count }
@@ -163,8 +183,7 @@ fn way_edges(g: &Graph, on: &[bool], z: u32, edges: &mut Vec<u32>) -> Result<(),
 {
     edges.clear();
     for e in 0..g.edge_count() {
-        let (a, b) = g.ends(e);
-        if (!on[a as usize] || z == a) && (!on[b as usize] || z == b) {
+        if is_way_edge(g, on, z, e) {
             edges.push(e)?;
         }
     }
@@ -314,6 +333,18 @@ fn next_step(
     Ok(Step::Rest)
 }
 
+// Whether each edge is drawn.
+fn is_complete(drawn: &[bool]) -> bool
+    ensures { result ≡ true → (e : ℕ) → e < length drawn.now → is_marked drawn.now e ≡ true }
+{
+    for is_drawn in drawn {
+        if !*is_drawn {
+            return false;
+        }
+    }
+    true
+}
+
 // Looks at each foot once more: draws a path at the first one where there is no choice. Where nothing is drawn, there is a choice at
 // each foot.
 pub(crate) fn settle(alloc: Global, g: &Graph, board: &mut Board) -> Result<Tried, AllocError>
@@ -323,6 +354,9 @@ pub(crate) fn settle(alloc: Global, g: &Graph, board: &mut Board) -> Result<Trie
     ensures more { IfOk result (IsMoreDrawn g.now board.old.drawn.items board.new.drawn.items) }
     ensures rest { IfOk result (λ tried. tried ≡ Passed → AreOpen g.now board.new.drawn.items board.new.on.items board.new.next.items) }
 {
+    if is_complete(&board.drawn) {
+        return Ok(Tried::Passed);
+    }
     g.keeps_limits();
     label_faces(g, &board.next, &mut board.label);
     let mut looks = Looks {
