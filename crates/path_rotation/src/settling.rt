@@ -204,6 +204,7 @@ fn way(
     requires attached { IsAttached g.now (is_marked board.now.drawn.items) t z }
     ensures { IfOk result (λ _. IsWayFound g.now board.now.on.items t path.new.items z) }
 {
+    g.keeps_limits();
     path.clear();
     path.push(t / 2)?;
     let first = head(g, t);

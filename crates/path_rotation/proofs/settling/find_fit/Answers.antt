@@ -10,6 +10,7 @@ use Rattle.dart_maps.proofs.Darts.{twin-below}
 use Rattle.path_rotation.specs.Forced.{IsCorner, IsAdmissible}
 use Rattle.path_rotation.proofs.Stamps.{at-members}
 use Rattle.path_rotation.proofs.settling.find_fit.Goals as goal
+use Rattle.path_rotation.proofs.settling.find_fit.Goals.{then-c-skip+in_ok-passes_all+else-branch, else-c-skip}
 
 pub index-face-requires : goal.index-face-requires
 index-face-requires c =
@@ -34,7 +35,25 @@ returns-then-branch-clause-found c =
     }
 
 pub loop-c-preserved : goal.loop-c-preserved
-loop-c-preserved c = ?
+loop-c-preserved c = λ j l n h.
+    let g = c.args.g.now in
+    let label = c.args.board.now.label.items in
+    let x = slice_index c.args.corners.now c.loop-c.c-index in
+    elim (cases_lt j c.loop-c.c-index) [
+      | inl b ↦ c.loop-c.invariant j b n h
+      | inr b ↦
+          let e : j ≡ c.loop-c.c-index = omega (arith, b, l) in
+          let here : IsAdmissible g c.args.board.now.drawn.items label c.args.feet.now c.args.t x = subst (λ (i : ℕ). IsAdmissible g c.args.board.now.drawn.items label c.args.feet.now c.args.t (slice_index c.args.corners.now i)) e h in
+          elim c.if-c-skip.branch [
+            | then-c-skip+in_ok-passes_all+else-branch w ↦
+                let face : w.index-face.result.now ≡ slice_index label (twin x) =
+                get_or_read label w.twin.result w.index-face.result.now (omega (arith, twin-below (edge_count g) x here.below, w.twin.ensures.is, c.requires.labels.each)) w.index-face.ensures 0 ∙ ap (slice_index label) w.twin.ensures.is in
+                let m = w.in_ok-passes_all.ensures.missed w.if-branch.false in
+                let k = here.passes m.0 m.1 in
+                m.2 k.0 (subst (λ (f : ℕ). IsCorner g c.args.board.now.drawn.items label m.0 f k.0) (sym face) k.1)
+            | else-c-skip w ↦ n (ap (slice_index c.args.corners.now) e ∙ w.if-c-skip.false)
+          ]
+    ]
 
 pub returns-clause-none : goal.returns-clause-none
 returns-clause-none c = λ _ x n h.
