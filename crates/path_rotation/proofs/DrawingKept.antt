@@ -57,11 +57,13 @@ path-drawn g ok drawn on next tables t l off start along z p c k lc hc tc lk hk 
       arrives = sym (tables.on_drawn z) ∙ p.arrives;
       inner = λ v m h. p.inner v m (tables.on_drawn v ∙ h);
       undrawn = edge-off g ok drawn on next tables t l off start along z p;
-    }) w.edges_marked c k (lc, hc, tc) (lk, hk, tk) f in
-    (more.0, drawing-agree g (is_marked new_drawn) (is_marked new_drawn) (path_inserted c (dart_from g (tail g t) (t / 2)) (darts_along g (other_end g (t / 2) (tail g t)) along) k (slice_index next)) (slice_index new_next) more.0
-    (λ e. refl)
-    (λ d i. w.darts_inserted d i ∙ ap (λ (y : ℕ). path_inserted c y (darts_along g (other_end g (t / 2) (tail g t)) along) k (slice_index next) d) (sym (dart_from-of_dart g t ok l)))
-    more.1)
+    }) w.edges_marked c k (lc, hc, tc) (lk, hk, tk) f in (
+      more.0,
+      drawing-agree g (is_marked new_drawn) (is_marked new_drawn) (path_inserted c (dart_from g (tail g t) (t / 2)) (darts_along g (other_end g (t / 2) (tail g t)) along) k (slice_index next)) (slice_index new_next) more.0
+          (λ e. refl)
+          (λ d i. w.darts_inserted d i ∙ ap (λ (y : ℕ). path_inserted c y (darts_along g (other_end g (t / 2) (tail g t)) along) k (slice_index next) d) (sym (dart_from-of_dart g t ok l)))
+          more.1,
+    )
 
 -- where all edges are drawn, the map is that of a plane rotation system
 pub drawn-order : (g : Multigraph) → IsGraph g → (drawn : List Bool) (next : List ℕ) → IsDrawingBy g drawn next → ((e : ℕ) → e < edge_count g → is_marked drawn e ≡ true) → IsPlaneOrder g next

@@ -101,22 +101,33 @@ module _ (g : Multigraph) (ok : IsGraph g) (drawn on : List Bool) (next : List �
     -- who is touched by an edge from a vertex of the head's label is attached
     pub touched-attached : (z : ℕ) → is_marked on z ≡ true → z ≢ tail g t → (e : ℕ) → IsTouched g on labels (slice_index labels head_of) z e → IsAttached g D t z
     touched-attached z h n e w = touch-attached g ok D t z (sym (tables.on_drawn head_of) ∙ off) (sym (tables.on_drawn z) ∙ h) n
-        (touches-from g ok D head_of z (e, w.is_edge, w.arrives, sym (tables.on_drawn (other_end g e z)) ∙ w.off,
-        sym (off-joined head_of (other_end g e z)) ∙ f.only head_of (other_end g e z) head-in (other_end-in g e z ok w.is_edge) (sym w.labelled)))
+        (touches-from g ok D head_of z (
+          e,
+          w.is_edge,
+          w.arrives,
+          sym (tables.on_drawn (other_end g e z)) ∙ w.off,
+          sym (off-joined head_of (other_end g e z)) ∙ f.only head_of (other_end g e z) head-in (other_end-in g e z ok w.is_edge) (sym w.labelled),
+        ))
 
     -- and an attachment is touched by one
     pub attached-touched : (z : ℕ) → IsAttached g D t z → (is_marked on z ≡ true) × (z ≢ tail g t) × ((e : ℕ) × IsTouched g on labels (slice_index labels head_of) z e)
-    attached-touched z a = (tables.on_drawn z ∙ a.arrives, a.elsewhere, elim a.reached [
-      | inl w ↦ absurd (both_ways (is_marked on head_of) off (tables.on_drawn head_of ∙ w.0))
-      | inr w ↦
-          let e = touches-edge g ok D head_of z w.1 in
-          (e.0, record {
-            is_edge = e.1;
-            arrives = e.2;
-            off = tables.on_drawn (other_end g e.0 z) ∙ e.3;
-            labelled = sym (f.agree head_of (other_end g e.0 z) head-in (other_end-in g e.0 z ok e.1) (off-joined head_of (other_end g e.0 z) ∙ e.4));
-          })
-    ])
+    attached-touched z a = (
+      tables.on_drawn z ∙ a.arrives,
+      a.elsewhere,
+      elim a.reached [
+        | inl w ↦ absurd (both_ways (is_marked on head_of) off (tables.on_drawn head_of ∙ w.0))
+        | inr w ↦
+            let e = touches-edge g ok D head_of z w.1 in (
+              e.0,
+              record {
+                is_edge = e.1;
+                arrives = e.2;
+                off = tables.on_drawn (other_end g e.0 z) ∙ e.3;
+                labelled = sym (f.agree head_of (other_end g e.0 z) head-in (other_end-in g e.0 z ok e.1) (off-joined head_of (other_end g e.0 z) ∙ e.4));
+              },
+            )
+      ],
+    )
 
   pub found-none : (feet : List ℕ) → feet ≡ [] → AreFoundBelow g drawn t 0 feet
   found-none feet e = record { each = λ z m. absurd (false≢true (subst (λ (x : List ℕ). is_member z x ≡ true) e m)); all = λ z i. absurd (omega arith) }

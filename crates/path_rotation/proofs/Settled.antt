@@ -34,8 +34,8 @@ module _ (g : Multigraph) (ok : IsGraph g) (tri : IsTriconnected g) (drawn on : 
     | inr h ↦
         let d = on-dart g D (tail g t) f.2 in
         let w = touches-another g ok D tri (tail g (twin t)) (tail g t) (tail g (twin d.0)) (tail-in g (twin t) ok (twin-below (edge_count g) t f.0)) h f.2
-            (tail-in g (twin d.0) ok (twin-below (edge_count g) d.0 d.1)) (dart-on g D (twin d.0) (twin-below (edge_count g) d.0 d.1) (drawn-twin D d.0 ∙ d.2))
-            (λ e. arrives-elsewhere g ok d.0 d.1 (e ∙ sym d.3)) in
+        (tail-in g (twin d.0) ok (twin-below (edge_count g) d.0 d.1)) (dart-on g D (twin d.0) (twin-below (edge_count g) d.0 d.1) (drawn-twin D d.0 ∙ d.2))
+        (λ e. arrives-elsewhere g ok d.0 d.1 (e ∙ sym d.3)) in
         (w.0, touch-attached g ok D t w.0 h w.1 w.2 w.3)
   ]
 

@@ -49,7 +49,7 @@ fn begin(alloc: Global, g: &Graph) -> Result<Board, AllocError>
     })
 }
 
-// Draws paths, in rounds, as long as one is drawn. Returns whether a bridge fits no face.
+// Draws paths, in rounds, as long as one is drawn in a round or at a last look. Returns whether a bridge fits no face.
 fn draw_paths(alloc: Global, g: &Graph, board: &mut Board) -> Result<bool, AllocError>
     requires sketch { IsSketch g.now board.old.drawn.items board.old.on.items board.old.next.items board.old.label.items }
     requires begun { 0 < drawn_count g.now board.old.drawn.items }
@@ -76,11 +76,12 @@ fn draw_paths(alloc: Global, g: &Graph, board: &mut Board) -> Result<bool, Alloc
 }
 
 /// A plane rotation system of the graph, which may be any, or that it has none, found by drawing one path after another into
-/// faces (Demoucron, Malgrange and Pertuiset 1964); or `Stuck`, which says nothing of the graph.
+/// faces (Demoucron, Malgrange and Pertuiset 1964); or `Stuck`, and then the graph is not triconnected.
 ///
-/// Not promised: that the result is not `Stuck` where the graph is triconnected. Each path that is drawn takes time linear in the
-/// graph. In a round each bridge at which none is drawn takes time linear in its edges and in the degrees of the vertices at which it
-/// is attached, and there are at most as many rounds as edges. Fails only if memory runs out.
+/// Each path that is drawn takes time linear in the graph. In a round each bridge at which none is drawn takes time linear in its
+/// edges and in the degrees of the vertices at which it is attached, and there are at most as many rounds as edges. A round that
+/// leaves an edge undrawn and draws no path is followed by a last look, which takes time linear in the graph for each edge off what is
+/// drawn and for each corner that it tries at an undrawn dart. Fails only if memory runs out.
 pub fn draw(alloc: Global, g: &Graph) -> Result<Drawn, AllocError>
     ensures { IfOk result (IsDrawn g.now) }
 {

@@ -1,5 +1,5 @@
 // A last look at each foot, after a round in which nothing was drawn: all its attachments are found, and whether it fits two corners.
-// A foot is an undrawn dart of a vertex that is on. A look takes time linear in the graph for each corner that it tries.
+// A foot is an undrawn dart whose tail is on. A look takes time linear in the graph for each corner that it tries.
 
 ghost use Rattle.std.specs.Prelude.{◌≡◌, ◌≢◌, ◌<◌, ◌⊎◌, ℕ, Option, None, true, false, length, filter, slice_index, IfOk, IfSome};
 ghost use Rattle.permutations.specs.Members.{is_member};
@@ -285,7 +285,16 @@ fn examine(
     }
     let z = looks.feet[0];
     darts_at(g, &board.drawn, tail(g, t), &mut looks.corners)?;
-    let Some(c) = find_fit(g, board, &looks.feet, &looks.corners, &mut spare, t, u32::MAX)? else {
+    let Some(c) = find_fit(
+        g,
+        board,
+        &looks.feet,
+        &looks.corners,
+        &mut spare,
+        t,
+        u32::MAX,
+    )?
+    else {
         return Ok(Choice::Nowhere);
     };
     if has_choice(g, board, looks, &mut spare, t, c, first)? {
@@ -305,17 +314,12 @@ pub(crate) enum Step {
     Never,
     // A path that begins with the first of these darts is to be drawn between the corners of the two others.
     Path(u32, u32, u32),
-    // Nothing: there is a choice at each foot.
+    // Nothing: each foot has no attachment or a choice.
     Rest,
 }
 
 // The first foot where there is no choice.
-fn next_step(
-    alloc: Global,
-    g: &Graph,
-    board: &Board,
-    looks: &mut Looks,
-) -> Result<Step, AllocError>
+fn next_step(alloc: Global, g: &Graph, board: &Board, looks: &mut Looks) -> Result<Step, AllocError>
     requires board { IsBoard g.now board.now.drawn.items board.now.on.items board.now.next.items board.now.label.items }
     requires exact { AreExact (edge_count g.now) board.now.next.items board.now.label.items }
     ensures { IfOk result (IsStep g.now board.now.drawn.items board.now.on.items board.now.next.items board.now.label.items looks.new.path.items) }
@@ -346,8 +350,8 @@ fn is_complete(drawn: &[bool]) -> bool
     true
 }
 
-// Looks at each foot once more: draws a path at the first one where there is no choice. Where nothing is drawn, there is a choice at
-// each foot.
+// Looks at each foot once more: draws a path at the first one where there is no choice. Where nothing is drawn, each foot has no
+// attachment or a choice. Returns at once where all edges are drawn.
 pub(crate) fn settle(alloc: Global, g: &Graph, board: &mut Board) -> Result<Tried, AllocError>
     requires { IsSketch g.now board.old.drawn.items board.old.on.items board.old.next.items board.old.label.items }
     ensures sketch { IfOk result (λ _. IsSketch g.now board.new.drawn.items board.new.on.items board.new.next.items board.new.label.items) }

@@ -159,7 +159,8 @@ returns-clause-choice c =
     elim (c.in_ok-has_choice.ensures.none c.if-branch.false) [
       | inl first ↦ mirror-fits g c.keeps_limits.ensures.graph b.drawn.items b.on.items b.next.items b.label.items c.requires.board c.requires.exact t c.requires.foot feet all x fits (c.requires.turns first)
       | inr none ↦ one-fits g c.keeps_limits.ensures.graph b.drawn.items b.on.items b.next.items b.label.items c.requires.board c.requires.exact t c.requires.foot feet all x fits none
-    ] in
-    (may,
-    subst (λ (d : ℕ). IsWayTo g b.drawn.items b.on.items b.label.items t x c.way.new.path.items d) (sym k) look.1,
-    subst (λ (d : ℕ). same_face (edge_count g) (slice_index b.next.items) (twin x) (twin d) ≡ true) (sym k) look.2)
+    ] in (
+      may,
+      subst (λ (d : ℕ). IsWayTo g b.drawn.items b.on.items b.label.items t x c.way.new.path.items d) (sym k) look.1,
+      subst (λ (d : ℕ). same_face (edge_count g) (slice_index b.next.items) (twin x) (twin d) ≡ true) (sym k) look.2,
+    )

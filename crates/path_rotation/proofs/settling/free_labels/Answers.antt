@@ -22,10 +22,11 @@ loop-e-preserved c =
           let joined : IsLabelling (off_links g on e ++ w.ends-a.result ∷ []) [] (label_at new) = w.merge.ensures.merged (off_links g on e) started in
           let kept =
           subst (λ (l : List ℕ). IsLabelling (off_links g on (e + 1)) [] (label_at l) × AreLabelsBelow g.vertex_count l × (length l ≡ g.vertex_count))
-          (sym (take_at new (drop (length new) old.items) old.len (w.merge.auto.labels ∙ w.deref_mut.ensures.len)))
-          (subst (λ (k : List (ℕ × ℕ)). IsLabelling k [] (label_at new)) (ap (λ (p : ℕ × ℕ). off_links g on e ++ p ∷ []) w.ends-a.ensures.value ∙ off-more g on e (sym c.is_off_edge.ensures ∙ w.if-is_off_edge.true)) joined,
-          subst (λ (n : ℕ). AreLabelsBelow n new) size w.merge.ensures.within,
-          w.merge.auto.labels ∙ size) in
+          (sym (take_at new (drop (length new) old.items) old.len (w.merge.auto.labels ∙ w.deref_mut.ensures.len))) (
+            subst (λ (k : List (ℕ × ℕ)). IsLabelling k [] (label_at new)) (ap (λ (p : ℕ × ℕ). off_links g on e ++ p ∷ []) w.ends-a.ensures.value ∙ off-more g on e (sym c.is_off_edge.ensures ∙ w.if-is_off_edge.true)) joined,
+            subst (λ (n : ℕ). AreLabelsBelow n new) size w.merge.ensures.within,
+            w.merge.auto.labels ∙ size,
+          ) in
           rw w.labels-is (record { labelling = kept.0; below = kept.1; size = kept.2 })
       | else-is_off_edge w ↦
           rw w.labels-is

@@ -26,13 +26,15 @@ pub returns-then-labels-y-clause-touched : goal.returns-then-labels-y-clause-tou
 returns-then-labels-y-clause-touched c = λ _.
     let g = c.args.g.now in
     let edges = c.incident-edge-items.ensures.value in
-    let l : c.loop-edge.edge-index < length (incident_edges g c.args.z) = subst (λ s. c.loop-edge.edge-index < length s) edges c.loop-edge-test.true in
-    (slice_index c.incident-edge-items.result.now c.loop-edge.edge-index, record {
-      is_edge = subst (λ s. slice_index s c.loop-edge.edge-index < edge_count g) (sym edges) (incident_at-edge g c.args.z c.loop-edge.edge-index 0 l);
-      arrives = subst (λ s. is_end g c.args.z (slice_index s c.loop-edge.edge-index) ≡ true) (sym edges) (incident_at-end g c.args.z c.loop-edge.edge-index 0 l);
-      off = subst (λ (y : ℕ). is_marked c.args.on.now y ≡ false) c.other_end-y.ensures c.if-not-on-y.true;
-      labelled = subst (λ (y : ℕ). slice_index c.args.labels.now y ≡ c.args.root) c.other_end-y.ensures c.if-labels-y.true;
-    })
+    let l : c.loop-edge.edge-index < length (incident_edges g c.args.z) = subst (λ s. c.loop-edge.edge-index < length s) edges c.loop-edge-test.true in (
+      slice_index c.incident-edge-items.result.now c.loop-edge.edge-index,
+      record {
+        is_edge = subst (λ s. slice_index s c.loop-edge.edge-index < edge_count g) (sym edges) (incident_at-edge g c.args.z c.loop-edge.edge-index 0 l);
+        arrives = subst (λ s. is_end g c.args.z (slice_index s c.loop-edge.edge-index) ≡ true) (sym edges) (incident_at-end g c.args.z c.loop-edge.edge-index 0 l);
+        off = subst (λ (y : ℕ). is_marked c.args.on.now y ≡ false) c.other_end-y.ensures c.if-not-on-y.true;
+        labelled = subst (λ (y : ℕ). slice_index c.args.labels.now y ≡ c.args.root) c.other_end-y.ensures c.if-labels-y.true;
+      },
+    )
 
 pub returns-clause-none : goal.returns-clause-none
 returns-clause-none c = λ _ _ _ e w.
