@@ -5,8 +5,8 @@ use Rattle.permutations.specs.Members.{is_member}
 use Rattle.permutations.specs.Relation.{connected}
 use Rattle.permutations.proofs.Members.{no_member-cons}
 use Rattle.permutations.proofs.Relation.{connected-reflexive, connected-symmetric, connected-transitive}
-use Rattle.multigraph.specs.Graph.{Multigraph, IsGraph, edge_count}
-use Rattle.multigraph.specs.Part.{GraphPart, IsPart}
+use Rattle.multigraph.specs.Graph.{Multigraph, IsGraph}
+use Rattle.multigraph.specs.Part.{GraphPart}
 use Rattle.rotations.specs.Rotation.{IsRotationSystem}
 use Rattle.graph_theory.specs.Connected.{IsConnected}
 use Rattle.graph_theory.specs.Triconnected.{IsTriconnected}

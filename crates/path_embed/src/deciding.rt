@@ -2,13 +2,14 @@
 
 ghost use Rattle.std.specs.Prelude.{◌<◌, ℕ, length, IfOk, IfSome, MatchOption};
 ghost use Rattle.multigraph.specs.Graph.{Multigraph, IsWithinLimits};
+ghost use Rattle.graph_theory.specs.Block.{IsOneBlock};
 ghost use Rattle.graph_theory.specs.Triconnected.{IsTriconnected};
 ghost use Rattle.blocks.specs.Blocks.{IsBlockStructure, block_at};
 ghost use Rattle.pair_split.specs.declared.components.Kind.TheVariants.{R};
 ghost use Rattle.skeletons.specs.Items.{IsBlockTree};
 ghost use Rattle.skeletons.specs.Moves.{IsNodeOfKind};
-ghost use Rattle.path_embed.specs.Planar.{HasNoPlaneSystem, IsDecided, IsPlanarNode, IsNonplanarNode, IsPlanarPart, HasPlanarBlocks};
-ghost use Rattle.path_embed.specs.Found.{IsObstacle};
+ghost use Rattle.path_embed.specs.Planar.{HasPlaneSystem, HasNoPlaneSystem, IsDecided, IsPlanarNode, IsNonplanarNode, IsPlanarPart, HasPlanarBlocks};
+ghost use Rattle.path_embed.specs.Found.{IsPartOf, IsObstacle, IsObstacleIn};
 
 use blocks::{Blocks, split};
 use multigraph::{Graph, Part};
@@ -117,6 +118,33 @@ fn nonplanar_node<E: Embedder>(
     Ok(None)
 }
 
+// The block, its tree and a node, if it has no plane rotation system.
+pub(crate) fn obstacle_in<E: Embedder>(
+    alloc: Global,
+    g: &Graph,
+    block: Part,
+    other: &mut E,
+) -> Result<Option<Obstacle>, AllocError>
+    requires part { IsPartOf g.now block }
+    requires one { IsOneBlock block.graph }
+    ensures { IfOk result (λ answer. MatchOption answer (HasPlaneSystem block.graph)
+        (IsObstacleIn g.now block)) }
+{
+    let _ = g; // for the contract alone
+    let comps = SearchSplitter::new().split(alloc, block.graph())?;
+    let tree = Tree::assemble(alloc, block.graph(), comps)?;
+    let answer = nonplanar_node(alloc, &tree, other)?;
+    match answer {
+        Some(found) => Ok(Some(Obstacle {
+            block,
+            tree,
+            node: found.0,
+            skeleton: found.1,
+        })),
+        None => Ok(None),
+    }
+}
+
 // Block b of the graph, if it has no plane rotation system.
 fn nonplanar_block<E: Embedder>(
     alloc: Global,
@@ -131,18 +159,8 @@ fn nonplanar_block<E: Embedder>(
         (IsPlanarPart g.now (block_at blocks.now.blocks b)) (IsObstacle g.now)) }
 {
     let block = g.part(alloc, blocks.edges(b))?;
-    let comps = SearchSplitter::new().split(alloc, block.graph())?;
-    let tree = Tree::assemble(alloc, block.graph(), comps)?;
-    let answer = nonplanar_node(alloc, &tree, other)?;
-    match answer {
-        Some(found) => Ok(Some(Obstacle {
-            block,
-            tree,
-            node: found.0,
-            skeleton: found.1,
-        })),
-        None => Ok(None),
-    }
+    let answer = obstacle_in(alloc, g, block, other)?;
+    Ok(answer)
 }
 
 // The first of the blocks that has no plane rotation system.

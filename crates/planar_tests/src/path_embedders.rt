@@ -29,8 +29,8 @@ impl Embedder for Measured {
     }
 }
 
-// What is returned for the graph, and the most edges that the other embedder was asked for; nothing where the graph is not
-// triconnected.
+// What is returned for the graph, and the most edges that the other embedder was asked for, zero where it was not called; nothing
+// where the graph is not triconnected.
 fn answer_for(alloc: Global, graph: &Graph) -> Result<Option<(Embedded, u32)>, AllocError>
     ensures { IfOk result (λ answer. IfSome answer (λ found. IsEmbedding graph.now found.0)) }
 {
@@ -47,7 +47,7 @@ fn answer_for(alloc: Global, graph: &Graph) -> Result<Option<(Embedded, u32)>, A
     Ok(Some((answer, embedder.other.most)))
 }
 
-// Whether the answer is as expected, and the other embedder was asked for graphs of ten edges at most.
+// Whether the answer is as expected, and the other embedder was not called.
 fn is_answered(alloc: Global, graph: &Graph, expected: &Expected) -> Result<bool, Fail> {
     let Some((answer, most)) = answer_for(alloc, graph)? else {
         return Ok(false);
@@ -57,20 +57,20 @@ fn is_answered(alloc: Global, graph: &Graph, expected: &Expected) -> Result<bool
             Ok(most == 0 && is_plane(alloc, graph, &r, *numbers)?)
         }
         (Embedded::Not(s), Expected::Not(pattern)) => {
-            Ok(most <= 10 && s.kind == *pattern && check(alloc, graph, &s)?)
+            Ok(most == 0 && s.kind == *pattern && check(alloc, graph, &s)?)
         }
         _ => Ok(false),
     }
 }
 
-// Whether the graph has a certificate, and the other embedder was asked for graphs of ten edges at most.
+// Whether the graph has a certificate, and the other embedder was not called.
 fn is_refuted(alloc: Global, graph: &Graph) -> Result<bool, Fail> {
     let Some((answer, most)) = answer_for(alloc, graph)? else {
         return Ok(false);
     };
     match answer {
         Embedded::Plane(_) => Ok(false),
-        Embedded::Not(s) => Ok(most <= 10 && check(alloc, graph, &s)?),
+        Embedded::Not(s) => Ok(most == 0 && check(alloc, graph, &s)?),
     }
 }
 

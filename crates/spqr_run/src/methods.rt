@@ -10,8 +10,8 @@ pub fn block_splitter() -> BlockSplitter {
     BlockSplitter::new()
 }
 
-/// How triconnected graphs are embedded: quickly, and path by path if no quick result is accepted; small certificates by
-/// contraction.
+/// How triconnected graphs are embedded: quickly, and path by path if no quick result is accepted; by contraction where a drawing
+/// is stuck.
 pub fn block_embedder() -> QuickEmbedder<PathEmbedder<ContractEmbedder>> {
     QuickEmbedder {
         fallback: PathEmbedder {

@@ -1,4 +1,4 @@
-use Rattle.std.proofs.Common.{◌<◌, ℕ, length, subst, arith, below_more}
+use Rattle.std.proofs.Common.{arith, below_more}
 use Rattle.std.proofs.lemmas.Option.{MatchOption-at_none, MatchOption-at_some}
 use Rattle.path_embed.specs.Planar.{IsPlanarNode, IsNonplanarNode}
 use Rattle.path_embed.proofs.deciding.nonplanar_node.Goals as goal

@@ -1,7 +1,6 @@
 use Rattle.std.proofs.Common.{◌<◌, ℕ, length}
 use Rattle.blocks.specs.Blocks.{block_at}
 use Rattle.path_embed.specs.Planar.{IsPlanarPart}
-use Rattle.path_embed.specs.Found.{IsObstacle}
 use Rattle.path_embed.proofs.Decisions.{decided-blocks, decided-excludes}
 use Rattle.path_embed.proofs.deciding.obstacle_of.Goals as goal
 

@@ -1,4 +1,4 @@
-use Rattle.std.proofs.Common.{◌≡◌, ◌<◌, ℕ, List, length, slice_index, sym, subst}
+use Rattle.std.proofs.Common.{◌<◌, ℕ, List, length, slice_index, sym, subst}
 use Rattle.std.proofs.lemmas.Option.{MatchOption-at_some}
 use Rattle.multigraph.specs.Graph.{Multigraph, edge_count}
 use Rattle.multigraph.specs.Part.{IsPart}
