@@ -38,13 +38,6 @@ not-rigid kind h e = elim h [
   ]
 ]
 
--- what is decided, at each answer
-pub decided-yes : (g : Multigraph) (answer : Bool) → IsDecided g answer → answer ≡ true → HasPlaneSystem g
-decided-yes g answer d e = subst (IsDecided g) e d
-
-pub decided-no : (g : Multigraph) (answer : Bool) → IsDecided g answer → answer ≡ false → HasNoPlaneSystem g
-decided-no g answer d e = subst (IsDecided g) e d
-
 -- each part of a graph with a plane rotation system has one
 pub part-planar : (g : Multigraph) → IsGraph g → (part : GraphPart) → IsPartOf g part → HasPlaneSystem g → HasPlaneSystem part.graph
 part-planar g ok part h w =

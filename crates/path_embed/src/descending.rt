@@ -15,7 +15,6 @@ use block_obstruct::obstruct_block;
 use kuratowski::Subdivision;
 use minimal_graphs::read_off;
 use multigraph::Graph;
-use planarity::Embedder;
 use std::alloc::{AllocError, Global};
 
 // A graph, and an obstacle of it.
@@ -33,7 +32,7 @@ struct Descent {
 }
 
 // Leaves out edges of a copy of the graph, one at a time, until what is left is K5 or K3,3.
-fn descend<E: Embedder>(alloc: Global, g: &Graph, other: &mut E) -> Result<Descent, AllocError>
+fn descend(alloc: Global, g: &Graph) -> Result<Descent, AllocError>
     requires triconnected { IsTriconnected g.now }
     requires nonplanar { HasNoPlaneSystem g.now }
     ensures chain { IfOk result (λ descent. IsChain g.now descent.levels.items descent.bottom) }
@@ -41,7 +40,7 @@ fn descend<E: Embedder>(alloc: Global, g: &Graph, other: &mut E) -> Result<Desce
 {
     let mut levels = Vec::new(alloc);
     let mut bottom = g.copy(alloc)?;
-    'down: while let Some(obstacle) = smaller_obstacle(alloc, &bottom, other)? {
+    'down: while let Some(obstacle) = smaller_obstacle(alloc, &bottom)? {
         let skeleton = obstacle.skeleton.copy(alloc)?;
         levels.push(Level {
             outer: bottom,
@@ -89,16 +88,12 @@ fn ascend(
 }
 
 // A subdivision of K5 or K3,3 in a triconnected graph that has no plane rotation system.
-pub(crate) fn subdivision_of<E: Embedder>(
-    alloc: Global,
-    g: &Graph,
-    other: &mut E,
-) -> Result<Subdivision, AllocError>
+pub(crate) fn subdivision_of(alloc: Global, g: &Graph) -> Result<Subdivision, AllocError>
     requires triconnected { IsTriconnected g.now }
     requires nonplanar { HasNoPlaneSystem g.now }
     ensures { IfOk result (λ w. IsWritten g.now w.kind w.branch w.paths) }
 {
-    let descent = descend(alloc, g, other)?;
+    let descent = descend(alloc, g)?;
     let s = read_off(alloc, &descent.bottom)?;
     ascend(alloc, g, descent, s)
 }

@@ -9,7 +9,6 @@ ghost use Rattle.path_embed.specs.Found.{IsSmaller};
 
 use crate::deciding::{Obstacle, obstacle_in};
 use multigraph::Graph;
-use planarity::Embedder;
 use std::alloc::{AllocError, Global};
 
 // The edges of a graph of so many but one.
@@ -26,12 +25,7 @@ fn others_than(alloc: Global, count: u32, edge: u32) -> Result<Vec<u32>, AllocEr
 }
 
 // An obstacle of the part without this edge, which is one block. It has fewer edges.
-fn obstacle_without<E: Embedder>(
-    alloc: Global,
-    g: &Graph,
-    edge: u32,
-    other: &mut E,
-) -> Result<Option<Obstacle>, AllocError>
+fn obstacle_without(alloc: Global, g: &Graph, edge: u32) -> Result<Option<Obstacle>, AllocError>
     requires triconnected { IsTriconnected g.now }
     requires edge { edge < edge_count g.now }
     ensures { IfOk result (λ answer. MatchOption answer (IsPlaneWithout g.now edge)
@@ -40,22 +34,18 @@ fn obstacle_without<E: Embedder>(
     g.keeps_limits();
     let edges = others_than(alloc, g.edge_count(), edge)?;
     let part = g.part(alloc, &edges)?;
-    let answer = obstacle_in(alloc, g, part, other)?;
+    let answer = obstacle_in(alloc, g, part)?;
     Ok(answer)
 }
 
 // An obstacle of the part without one of the edges, for the first edge for which there is one.
-pub(crate) fn smaller_obstacle<E: Embedder>(
-    alloc: Global,
-    g: &Graph,
-    other: &mut E,
-) -> Result<Option<Obstacle>, AllocError>
+pub(crate) fn smaller_obstacle(alloc: Global, g: &Graph) -> Result<Option<Obstacle>, AllocError>
     requires { IsTriconnected g.now }
     ensures { IfOk result (λ answer. MatchOption answer
         ((e : ℕ) → e < edge_count g.now → IsPlaneWithout g.now e) (IsSmaller g.now)) }
 {
     for e in 0..g.edge_count() {
-        let answer = obstacle_without(alloc, g, e, other)?;
+        let answer = obstacle_without(alloc, g, e)?;
         match answer {
             Some(found) => return Ok(Some(found)),
             None => {}

@@ -9,7 +9,6 @@ use crate::marks::mark;
 use crate::orders::{Order, items_in};
 use crate::rest::Rest;
 use multigraph::Graph;
-use planarity::Embedder;
 use std::alloc::{AllocError, Global};
 
 // How many pieces may be needed one after another before the order is given up, and how few items are tried alone at once.
@@ -75,13 +74,7 @@ impl Walk {
 }
 
 // Leaves out pieces of the items in this order. Returns whether some were.
-fn phase<E: Embedder>(
-    alloc: Global,
-    g: &Graph,
-    rest: &mut Rest,
-    order: Order,
-    other: &mut E,
-) -> Result<bool, AllocError>
+fn phase(alloc: Global, g: &Graph, rest: &mut Rest, order: Order) -> Result<bool, AllocError>
     requires triconnected { IsTriconnected g.now }
     requires rest { IsRest g.now rest.old }
     ensures { IfOk result (λ _. IsRest g.now rest.new) }
@@ -94,7 +87,7 @@ fn phase<E: Embedder>(
             break;
         }
         let left_out = marks_of(alloc, rest.count(), &list, walk.piece)?;
-        if leave_out(alloc, g, rest, &left_out, other)? {
+        if leave_out(alloc, g, rest, &left_out)? {
             list = items_in(alloc, g, rest, order)?;
             walk = walk.anew(list.len());
             any = true;
@@ -106,12 +99,7 @@ fn phase<E: Embedder>(
 }
 
 // Leaves out pieces in both orders by turns, as long as some can be.
-fn leave_out_pieces<E: Embedder>(
-    alloc: Global,
-    g: &Graph,
-    rest: &mut Rest,
-    other: &mut E,
-) -> Result<(), AllocError>
+fn leave_out_pieces(alloc: Global, g: &Graph, rest: &mut Rest) -> Result<(), AllocError>
     requires triconnected { IsTriconnected g.now }
     requires rest { IsRest g.now rest.old }
     ensures { IfOk result (λ _. IsRest g.now rest.new) }
@@ -120,8 +108,8 @@ fn leave_out_pieces<E: Embedder>(
         if rest.count() <= FEW {
             break;
         }
-        let fronds = phase(alloc, g, rest, Order::Fronds, other)?;
-        let others = phase(alloc, g, rest, Order::OffTree, other)?;
+        let fronds = phase(alloc, g, rest, Order::Fronds)?;
+        let others = phase(alloc, g, rest, Order::OffTree)?;
         if !fronds && !others {
             break;
         }
@@ -130,12 +118,7 @@ fn leave_out_pieces<E: Embedder>(
 }
 
 // Leaves out item after item, until each one is needed.
-fn leave_out_items<E: Embedder>(
-    alloc: Global,
-    g: &Graph,
-    rest: &mut Rest,
-    other: &mut E,
-) -> Result<(), AllocError>
+fn leave_out_items(alloc: Global, g: &Graph, rest: &mut Rest) -> Result<(), AllocError>
     requires { IsRest g.now rest.old }
     ensures { IfOk result (λ _. IsRest g.now rest.new) }
 {
@@ -150,7 +133,7 @@ fn leave_out_items<E: Embedder>(
         }
         let mut left_out = vec![in alloc; false; rest.count()]?;
         mark(&mut left_out, item);
-        if leave_out(alloc, g, rest, &left_out, other)? {
+        if leave_out(alloc, g, rest, &left_out)? {
             needed = 0;
         } else {
             item = item.saturating_add(1);
@@ -161,16 +144,12 @@ fn leave_out_items<E: Embedder>(
 }
 
 // What is left of a triconnected graph without plane rotation system when all is left out that can be.
-pub(crate) fn shorten<E: Embedder>(
-    alloc: Global,
-    g: &Graph,
-    other: &mut E,
-) -> Result<Rest, AllocError>
+pub(crate) fn shorten(alloc: Global, g: &Graph) -> Result<Rest, AllocError>
     requires { IsTriconnected g.now }
     ensures { IfOk result (IsRest g.now) }
 {
     let mut rest = Rest::all(alloc, g)?;
-    leave_out_pieces(alloc, g, &mut rest, other)?;
-    leave_out_items(alloc, g, &mut rest, other)?;
+    leave_out_pieces(alloc, g, &mut rest)?;
+    leave_out_items(alloc, g, &mut rest)?;
     Ok(rest)
 }

@@ -8,13 +8,13 @@ use Rattle.path_embed.proofs.Decisions.{block-planar}
 use Rattle.path_embed.proofs.deciding.obstacle_in.Goals as goal
 
 pub split-requires : goal.split-requires
-split-requires e c = subst IsOneBlock (sym c.graph.ensures.value) c.requires.one
+split-requires c = subst IsOneBlock (sym c.graph.ensures.value) c.requires.one
 
 pub assemble-requires-clause-block : goal.assemble-requires-clause-block
-assemble-requires-clause-block e c = subst IsOneBlock (sym c.graph-2.ensures.value) c.requires.one
+assemble-requires-clause-block c = subst IsOneBlock (sym c.graph-2.ensures.value) c.requires.one
 
 pub nonplanar_node-requires : goal.nonplanar_node-requires
-nonplanar_node-requires e c =
+nonplanar_node-requires c =
     let is = c.requires.part.is_part in
     record {
       block = (
@@ -29,7 +29,7 @@ nonplanar_node-requires e c =
     }
 
 pub returns-in-Some : goal.returns-in-Some
-returns-in-Some e c =
+returns-in-Some c =
     let is = c.requires.part.is_part in (
       record {
         block = c.requires.part;
@@ -44,7 +44,7 @@ returns-in-Some e c =
     )
 
 pub returns-in-None : goal.returns-in-None
-returns-in-None e c =
+returns-in-None c =
     let is = c.requires.part.is_part in
     block-planar c.args.block.graph c.in_ok-tree.tree (record {
       graph = is.numbered.is_graph;

@@ -12,7 +12,7 @@ use Rattle.path_embed.proofs.Chain.{chain-push}
 use Rattle.path_embed.proofs.descending.descend.Goals as goal
 
 pub down-preserved : goal.down-preserved
-down-preserved e c =
+down-preserved c =
     let g = c.args.g.now in
     let found : IsSmaller c.down.bottom c.in-Some.obstacle = MatchOption-at_some ((f : ℕ) → f < edge_count c.down.bottom → IsPlaneWithout c.down.bottom f) (IsSmaller c.down.bottom) c.in-Some.obstacle c.in-Some.is c.in_ok-obstacle.ensures in
     record {
@@ -24,6 +24,6 @@ down-preserved e c =
     }
 
 pub returns-clause-pattern : goal.returns-clause-pattern
-returns-clause-pattern e c =
+returns-clause-pattern c =
     minimal-pattern c.down.bottom c.keeps_limits.ensures.graph c.down.invariant.triconnected c.down.invariant.nonplanar
     (MatchOption-at_none ((f : ℕ) → f < edge_count c.down.bottom → IsPlaneWithout c.down.bottom f) (IsSmaller c.down.bottom) c.in_default.is c.in_ok-obstacle.ensures)

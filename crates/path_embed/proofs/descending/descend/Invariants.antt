@@ -5,11 +5,11 @@ use Rattle.path_embed.specs.Chain.{IsChain}
 use Rattle.path_embed.proofs.descending.descend.Given as goal
 
 abbrev pub invariant-down : goal.invariant-down
-invariant-down e l = record {
+invariant-down l = record {
   chain : IsChain l.g l.levels.items l.bottom;
   triconnected : IsTriconnected l.bottom;
   nonplanar : HasNoPlaneSystem l.bottom;
 }
 
 abbrev pub decreases-down : goal.decreases-down
-decreases-down e l = edge_count l.bottom
+decreases-down l = edge_count l.bottom

@@ -5,10 +5,10 @@ use Rattle.path_embed.specs.Found.{IsSmaller}
 use Rattle.path_embed.proofs.edges_left.smaller_obstacle.Goals as goal
 
 pub loop-e-preserved : goal.loop-e-preserved
-loop-e-preserved e c = below_more (IsPlaneWithout c.args.g.now) c.loop-e.e c.loop-e.invariant (MatchOption-at_none (IsPlaneWithout c.args.g.now c.loop-e.e) (IsSmaller c.args.g.now) c.in-None.is c.in_ok-answer.ensures)
+loop-e-preserved c = below_more (IsPlaneWithout c.args.g.now) c.loop-e.e c.loop-e.invariant (MatchOption-at_none (IsPlaneWithout c.args.g.now c.loop-e.e) (IsSmaller c.args.g.now) c.in-None.is c.in_ok-answer.ensures)
 
 pub returns-in-Some : goal.returns-in-Some
-returns-in-Some e c = MatchOption-at_some (IsPlaneWithout c.args.g.now c.loop-e.e) (IsSmaller c.args.g.now) c.in-Some.found c.in-Some.is c.in_ok-answer.ensures
+returns-in-Some c = MatchOption-at_some (IsPlaneWithout c.args.g.now c.loop-e.e) (IsSmaller c.args.g.now) c.in-Some.found c.in-Some.is c.in_ok-answer.ensures
 
 pub returns : goal.returns
-returns e c = λ f l. c.loop-e.invariant f (omega (arith, l, c.loop-e-test.false, c.edge_count-e-end.ensures.value))
+returns c = λ f l. c.loop-e.invariant f (omega (arith, l, c.loop-e-test.false, c.edge_count-e-end.ensures.value))

@@ -7,7 +7,7 @@ use Rattle.path_embed.specs.Found.{IsObstacle}
 use Rattle.path_embed.proofs.rest.find.Goals as goal
 
 pub returns-in-Some : goal.returns-in-Some
-returns-in-Some e c =
+returns-in-Some c =
     let is = c.in_ok-whole.ensures in
     record {
       whole = record {
