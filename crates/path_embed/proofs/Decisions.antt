@@ -1,5 +1,5 @@
 -- A graph with an obstacle has no plane rotation system.
-use Rattle.std.proofs.Common.{◌≡◌, ℕ, ◌<◌, ◌⊎◌, inl, inr, Bool, true, false, List, [], ◌∷◌, length, slice_index, refl, sym, ap, ◌∙◌, subst, arith, Option, None, Some, IfSome, MatchOption}
+use Rattle.std.proofs.Common.{◌≡◌, ℕ, ◌<◌, ◌⊎◌, inl, inr, true, false, List, [], ◌∷◌, length, slice_index, refl, sym, ap, ◌∙◌, subst, arith, Option, None, Some, IfSome, MatchOption}
 use Rattle.std.proofs.lemmas.Bool.{true≢false}
 use Rattle.permutations.specs.Members.{is_member}
 use Rattle.permutations.specs.Relation.{connected}
@@ -24,7 +24,7 @@ use Rattle.pair_split.specs.declared.components.Kind.{Kind}
 use Rattle.pair_split.specs.declared.components.Kind.TheVariants.{S, P, R, B}
 use Rattle.skeletons.specs.Items.{IsBlockTree}
 use Rattle.skeleton_planes.proofs.Planar.{planar-skeletons}
-use Rattle.path_embed.specs.Planar.{HasPlaneSystem, HasNoPlaneSystem, IsDecided, IsPlanarNode, IsPlanarPart, HasPlanarBlocks}
+use Rattle.path_embed.specs.Planar.{HasPlaneSystem, HasNoPlaneSystem, IsPlanarNode, IsPlanarPart, HasPlanarBlocks}
 use Rattle.path_embed.specs.Found.{IsPartOf, IsObstacle}
 use Rattle.path_embed.specs.declared.deciding.Obstacle.{Obstacle}
 

@@ -11,8 +11,11 @@ use crate::rest::Rest;
 use multigraph::Graph;
 use std::alloc::{AllocError, Global};
 
-// How many pieces may be needed one after another before the order is given up, and how few items are tried alone at once.
-const NEEDED: u32 = 24;
+// How many pieces may be needed one after another before an order is given up: at first, so that the other order is soon tried,
+// and once nothing is left out in either. How few items are tried alone at once.
+const BRIEF: u32 = 2;
+
+const LONG: u32 = 24;
 
 const FEW: usize = 12;
 
@@ -67,14 +70,20 @@ impl Walk {
         }
     }
 
-    // Whether there is nothing more to try.
-    fn is_over(self) -> bool {
-        self.piece.size == 0 || self.needed >= NEEDED
+    // Whether there is nothing more to try, or so many pieces were needed one after another.
+    fn is_over(self, patience: u32) -> bool {
+        self.piece.size == 0 || self.needed >= patience
     }
 }
 
-// Leaves out pieces of the items in this order. Returns whether some were.
-fn phase(alloc: Global, g: &Graph, rest: &mut Rest, order: Order) -> Result<bool, AllocError>
+// Leaves out pieces of the items in this order, until so many were needed one after another. Returns whether some were left out.
+fn phase(
+    alloc: Global,
+    g: &Graph,
+    rest: &mut Rest,
+    order: Order,
+    patience: u32,
+) -> Result<bool, AllocError>
     requires triconnected { IsTriconnected g.now }
     requires rest { IsRest g.now rest.old }
     ensures { IfOk result (λ _. IsRest g.now rest.new) }
@@ -83,7 +92,7 @@ fn phase(alloc: Global, g: &Graph, rest: &mut Rest, order: Order) -> Result<bool
     let mut walk = Walk::over(list.len());
     let mut any = false;
     for _turn in 0..u64::MAX {
-        if walk.is_over() {
+        if walk.is_over(patience) {
             break;
         }
         let left_out = marks_of(alloc, rest.count(), &list, walk.piece)?;
@@ -104,13 +113,18 @@ fn leave_out_pieces(alloc: Global, g: &Graph, rest: &mut Rest) -> Result<(), All
     requires rest { IsRest g.now rest.old }
     ensures { IfOk result (λ _. IsRest g.now rest.new) }
 {
+    let mut patience = BRIEF;
     for _turn in 0..u64::MAX {
         if rest.count() <= FEW {
             break;
         }
-        let fronds = phase(alloc, g, rest, Order::Fronds)?;
-        let others = phase(alloc, g, rest, Order::OffTree)?;
-        if !fronds && !others {
+        let fronds = phase(alloc, g, rest, Order::Fronds, patience)?;
+        let others = phase(alloc, g, rest, Order::OffTree, patience)?;
+        if fronds || others {
+            patience = BRIEF;
+        } else if patience < LONG {
+            patience = LONG;
+        } else {
             break;
         }
     }

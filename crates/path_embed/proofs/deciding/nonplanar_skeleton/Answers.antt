@@ -1,4 +1,4 @@
-use Rattle.std.proofs.Common.{List, ℕ, subst}
+use Rattle.std.proofs.Common.{subst}
 use Rattle.std.proofs.lemmas.Option.{MatchOption-at_none, MatchOption-at_some}
 use Rattle.faces.specs.Euler.{IsPlaneSystem}
 use Rattle.path_embed.specs.Planar.{HasPlaneSystem, HasNoPlaneSystem}
