@@ -1,16 +1,14 @@
 -- To each attachment of a foot a path leads off what is drawn; and where the labels tell the faces, the corners that a foot fits are
 -- its admissible ones.
-use Rattle.std.proofs.Common.{◌≡◌, ◌≢◌, ◌∙◌, ℕ, ◌/◌, ◌<◌, ◌⊎◌, inl, inr, Bool, true, false, not, ◌&&◌, ◌||◌, ◌==◌, List, [], ◌∷◌, slice_index, refl, sym, ap, subst}
-use Rattle.std.proofs.lemmas.Bool.{cases_Bool, cases_eq, both_ways, and_from, and_parts, or_left, or_right, or_cases, not-true, not_from_false, eq-eqb, eqb-true, false_from_ne_true, false≢true}
-use Rattle.permutations.specs.Count.{some}
+use Rattle.std.proofs.Common.{◌≡◌, ◌≢◌, ◌∙◌, ℕ, ◌/◌, ◌<◌, inl, inr, Bool, true, false, not, ◌||◌, ◌==◌, List, [], ◌∷◌, slice_index, refl, sym, ap, subst}
+use Rattle.std.proofs.lemmas.Bool.{cases_eq, both_ways, and_from, and_parts, or_left, or_right, or_cases, not-true, not_from_false, eq-eqb, eqb-true, false_from_ne_true, false≢true}
 use Rattle.permutations.specs.Members.{is_member}
 use Rattle.permutations.proofs.Members.{member-head, member-tail, member-cases}
 use Rattle.permutations.proofs.Relation.{connected-symmetric, connected-transitive}
-use Rattle.permutations.proofs.Search.{some-from, some-witness}
 use Rattle.multigraph.specs.Graph.{Multigraph, edge_count, ends_of, is_end, other_end, IsGraph}
 use Rattle.multigraph.specs.Marks.{is_marked}
 use Rattle.multigraph.proofs.DartEnds.{dart-edge, tail-end}
-use Rattle.multigraph.proofs.OtherEnd.{is_end-cases, is_end-first, is_end-second, other_end-is_end, other_end-of_first, other_end-of_second}
+use Rattle.multigraph.proofs.OtherEnd.{is_end-cases, other_end-is_end, other_end-of_first, other_end-of_second}
 use Rattle.dart_maps.specs.Map.{twin, same_face}
 use Rattle.dart_maps.proofs.Darts.{twin-below}
 use Rattle.graph_theory.specs.Path.{walk_vertices, IsPath}
@@ -19,13 +17,13 @@ use Rattle.graph_theory.proofs.Joined.{joined-more, joined-other, joined-path}
 use Rattle.graph_theory.proofs.Paths.{path-none, path-cons}
 use Rattle.faces.specs.Euler.{tail, dart_count}
 use Rattle.faces.proofs.MapSteps.{tail-twin}
-use Rattle.path_separation.specs.Drawn.{is_on, IsDrawing, passes}
+use Rattle.path_separation.specs.Drawn.{is_on, IsDrawing}
 use Rattle.path_separation.specs.Feet.{is_free, touches, IsAttached, FitsCorner}
-use Rattle.path_separation.proofs.Feet.{touches-edge, arrives-elsewhere}
+use Rattle.path_separation.proofs.Feet.{touches-edge}
 use Rattle.path_separation.proofs.DrawnMap.{passes-corner, corner-passes, corners-apart}
 use Rattle.path_separation.proofs.Uncut.{drawn-map}
 use Rattle.path_rotation.specs.Settling.{AreAllAttached, is_way_edge}
-use Rattle.path_rotation.specs.Forced.{is_drawn, AreTables, AreExact, LeadsOff, IsCorner, IsSoleCorner, IsAdmissible}
+use Rattle.path_rotation.specs.Forced.{AreTables, AreExact, LeadsOff, IsCorner, IsSoleCorner, IsAdmissible}
 
 -- whether a vertex is off what is drawn, or z
 abbrev pub is_way : List Bool → ℕ → ℕ → Bool

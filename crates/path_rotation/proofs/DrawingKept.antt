@@ -1,18 +1,17 @@
 -- What is drawn is a drawing, by its tables: one edge at first, and still with a path more.
-use Rattle.std.proofs.Common.{◌≡◌, ◌∙◌, ℕ, ◌/◌, ◌<◌, Bool, true, false, ◌&&◌, ◌==◌, List, ◌∷◌, slice_index, refl, sym, ap, subst, arith}
+use Rattle.std.proofs.Common.{◌≡◌, ◌∙◌, ℕ, ◌/◌, ◌<◌, Bool, true, false, ◌&&◌, ◌==◌, List, slice_index, refl, sym, ap, subst, arith}
 use Rattle.permutations.specs.Permutation.{Permutes}
-use Rattle.permutations.specs.Members.{is_member}
 use Rattle.permutations.proofs.Orbits.{orbit-ext}
 use Rattle.permutations.proofs.Search.{some-witness}
 use Rattle.multigraph.specs.Graph.{Multigraph, edge_count, is_end, other_end, IsGraph}
 use Rattle.multigraph.specs.Marks.{is_marked}
 use Rattle.multigraph.proofs.DartEnds.{dart_from-of_dart}
-use Rattle.dart_maps.specs.Map.{twin, same_vertex, same_face, IsMap}
+use Rattle.dart_maps.specs.Map.{twin, same_face}
 use Rattle.dart_maps.specs.Path.{path_inserted}
 use Rattle.dart_maps.proofs.Euler.{plane-ext, still-plane}
 use Rattle.faces.specs.Euler.{tail, dart_from, dart_count}
 use Rattle.std.proofs.Math.Path.{fun_ext}
-use Rattle.path_separation.specs.Drawn.{IsMapOfDrawn, IsDrawing, IsUncut, darts_along}
+use Rattle.path_separation.specs.Drawn.{IsDrawing, IsUncut, darts_along}
 use Rattle.path_separation.proofs.Drawings.{edge-drawing, path-drawing, finished-drawing}
 use Rattle.path_rotation.specs.Forced.{is_drawn, AreTables, LeadsOff, IsPathDrawn, IsDrawingBy}
 use Rattle.path_rotation.specs.Finish.{IsPlaneOrder}

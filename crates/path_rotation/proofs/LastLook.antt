@@ -1,24 +1,21 @@
 -- What is known of a foot, all of whose attachments and fitting corners are listed.
-use Rattle.std.proofs.Common.{◌≡◌, ◌≢◌, ◌∙◌, ℕ, zero, suc, ◌*◌, ◌<◌, ◌⊎◌, ◌==◌, inl, inr, Bool, true, false, List, [], ◌∷◌, length, filter, slice_index, refl, sym, ap, subst, arith}
+use Rattle.std.proofs.Common.{◌≡◌, ◌≢◌, ◌∙◌, ℕ, zero, suc, ◌*◌, ◌<◌, ◌⊎◌, ◌==◌, inl, inr, Bool, true, List, [], ◌∷◌, length, filter, slice_index, refl, sym, ap, subst, arith}
 use Rattle.std.proofs.lemmas.Bool.{cases_eq, eqb-true, eq-eqb, false≢true}
 use Rattle.permutations.specs.Members.{is_member}
-use Rattle.permutations.specs.Permutation.{iterate, same_orbit}
+use Rattle.permutations.specs.Permutation.{iterate}
 use Rattle.permutations.proofs.Arrangements.{member-at}
 use Rattle.permutations.proofs.Iterates.{orbit-steps}
-use Rattle.permutations.proofs.Members.{member-head, member-cases}
 use Rattle.permutations.proofs.Filter.{filter-member, member-filter_parts}
 use Rattle.permutations.proofs.Orbits.{orbit-least}
 use Rattle.permutations.proofs.Relation.{kernel-equivalence}
 use Rattle.multigraph.specs.Graph.{Multigraph, edge_count, IsGraph}
-use Rattle.multigraph.specs.Marks.{is_marked}
 use Rattle.dart_maps.specs.Map.{twin, face, same_face}
 use Rattle.dart_maps.proofs.Darts.{twin-below}
-use Rattle.faces.specs.Euler.{tail, dart_count, IsPlaneSystem}
-use Rattle.path_separation.specs.Feet.{IsAttached}
-use Rattle.path_rotation.specs.Forced.{AreClosed, AreExact, IsInvolution, IsAdmissible, IsCorner, IsSoleCorner}
+use Rattle.faces.specs.Euler.{dart_count, IsPlaneSystem}
+use Rattle.path_rotation.specs.Forced.{AreClosed, AreExact, IsInvolution, IsAdmissible, IsCorner}
 use Rattle.path_rotation.specs.Search.{IsWayFound}
 use Rattle.path_rotation.specs.Settling.{AreAllAttached, FitsTwo}
-use Rattle.path_rotation.specs.Fitting.{IsBoard, IsFoot, IsDartAt, AreDartsAt, MayDraw, IsWayTo}
+use Rattle.path_rotation.specs.Fitting.{IsBoard, IsFoot, AreDartsAt, MayDraw, IsWayTo}
 use Rattle.path_rotation.proofs.Attached.{attached-leads, admissible-fits, sole-admissible}
 use Rattle.path_rotation.proofs.ForcedSteps.{no-plane}
 

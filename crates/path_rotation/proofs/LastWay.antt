@@ -1,5 +1,5 @@
 -- The path from a foot to an attachment, along edges both ends of which are off or the attachment.
-use Rattle.std.proofs.Common.{◌≡◌, ◌≢◌, ◌∙◌, ℕ, ◌/◌, ◌<◌, inl, inr, Bool, true, false, not, ◌||◌, ◌==◌, List, [], ◌∷◌, length, filter, slice_index, refl, sym, ap, subst, arith}
+use Rattle.std.proofs.Common.{◌≡◌, ◌≢◌, ◌∙◌, ℕ, ◌/◌, ◌<◌, inl, inr, Bool, true, not, ◌||◌, ◌==◌, List, [], ◌∷◌, length, filter, slice_index, sym, subst}
 use Rattle.std.proofs.lemmas.Bool.{or_left, or_right, not_from_false, eq-eqb, false≢true}
 use Rattle.permutations.specs.Members.{is_member}
 use Rattle.permutations.proofs.Arrangements.{member-from_contains}
@@ -10,7 +10,6 @@ use Rattle.multigraph.specs.Part.{Rises}
 use Rattle.multigraph.proofs.Below.{filter_below-rises, filter_below-at, filter_below-has}
 use Rattle.dart_maps.specs.Map.{twin}
 use Rattle.graph_theory.specs.Path.{IsPath}
-use Rattle.graph_theory.specs.Joined.{PathWhere}
 use Rattle.graph_theory.proofs.Paths.{path-none}
 use Rattle.graph_theory.proofs.Walks.{walk-edge}
 use Rattle.graph_paths.specs.Along.{PathAlong}

@@ -1,9 +1,9 @@
 -- Where no foot of a triconnected graph has a next step, all edges are drawn.
-use Rattle.std.proofs.Common.{◌≡◌, ◌≢◌, ◌∙◌, ℕ, ◌/◌, ◌*◌, ◌+◌, ◌<◌, ◌⊎◌, inl, inr, Bool, true, false, ◌==◌, not, List, slice_index, refl, sym, ap, subst, arith}
-use Rattle.std.proofs.lemmas.Bool.{cases_Bool, cases_eq, both_ways, eqb-true, eq-eqb, not-true}
+use Rattle.std.proofs.Common.{◌≡◌, ◌≢◌, ◌∙◌, ℕ, ◌/◌, ◌*◌, ◌<◌, ◌⊎◌, inl, inr, Bool, true, false, ◌==◌, not, List, slice_index, refl, sym, ap, subst, arith}
+use Rattle.std.proofs.lemmas.Bool.{cases_Bool, both_ways, eqb-true, eq-eqb, not-true}
 use Rattle.permutations.specs.Count.{some}
 use Rattle.permutations.proofs.Count.{last-passing}
-use Rattle.permutations.proofs.Search.{some-from, some-witness, some-none}
+use Rattle.permutations.proofs.Search.{some-witness, some-none}
 use Rattle.multigraph.specs.Graph.{Multigraph, edge_count, IsGraph}
 use Rattle.multigraph.specs.Marks.{is_marked}
 use Rattle.dart_maps.specs.Map.{twin}
@@ -11,17 +11,17 @@ use Rattle.dart_maps.proofs.Darts.{twin-below}
 use Rattle.graph_theory.specs.Triconnected.{IsTriconnected}
 use Rattle.faces.specs.Euler.{tail, dart_count}
 use Rattle.faces.proofs.MapSteps.{tail-in}
-use Rattle.path_separation.specs.Drawn.{is_on, IsDrawing}
+use Rattle.path_separation.specs.Drawn.{is_on}
 use Rattle.path_separation.specs.Feet as feet
 use Rattle.path_separation.specs.Feet.{IsAttached}
 use Rattle.path_separation.proofs.DrawnMap.{on-dart, dart-on, drawn-twin}
 use Rattle.path_separation.proofs.Feet.{arrives-elsewhere, head-attached, touch-attached, touches-another, some-foot}
 use Rattle.path_separation.proofs.Separation.{some-foot_is_forced}
-use Rattle.path_rotation.specs.Forced.{is_drawn, AreTables, IsInvolution, IsDrawingBy}
+use Rattle.path_rotation.specs.Forced.{AreTables, IsInvolution, IsDrawingBy}
 use Rattle.path_rotation.specs.Fitting.{IsFoot, drawn_count}
 use Rattle.path_rotation.specs.Finish.{IsPlaneOrder}
 use Rattle.path_rotation.proofs.DrawingKept.{drawn-order}
-use Rattle.path_rotation.specs.Settling.{AreOpen, FitsTwo}
+use Rattle.path_rotation.specs.Settling.{AreOpen}
 
 module _ (g : Multigraph) (ok : IsGraph g) (tri : IsTriconnected g) (drawn on : List Bool) (next : List ℕ) (tables : AreTables g drawn on next) where
   abbrev D : ℕ → Bool

@@ -5,7 +5,7 @@ use Rattle.multigraph.specs.Graph.{Multigraph, edge_count, ends_of, is_end, othe
 use Rattle.multigraph.specs.Marks.{is_marked}
 use Rattle.graph_theory.specs.Joined.{joined_where}
 use Rattle.path_separation.specs.Feet.{IsAttached, FitsCorner}
-use Rattle.path_rotation.specs.Forced.{IsInvolution, IsAdmissible, IsCorner}
+use Rattle.path_rotation.specs.Forced.{IsInvolution}
 use Rattle.path_rotation.specs.Fitting.{IsFoot, IsChoice}
 use Rattle.path_rotation.specs.declared.attempts.Choice.TheVariants.{Between}
 use Rattle.path_rotation.specs.declared.settling.Step.{Step}

@@ -1,5 +1,5 @@
 -- Where the map is that of a plane rotation system, the lists are this rotation system.
-use Rattle.std.proofs.Common.{◌≡◌, List, ℕ, sym, subst}
+use Rattle.std.proofs.Common.{sym, subst}
 use Rattle.std.proofs.lemmas.Bool.{both_ways}
 use Rattle.rotations.specs.Given.{IsFirstBad, IsRefusal}
 use Rattle.faces.specs.Euler.{IsPlane}

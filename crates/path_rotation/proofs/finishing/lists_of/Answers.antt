@@ -1,4 +1,4 @@
-use Rattle.std.proofs.Common.{List, ℕ, ◌+◌, ◌<◌, sym, subst, arith}
+use Rattle.std.proofs.Common.{ℕ, ◌+◌, ◌<◌, sym, subst, arith}
 use Rattle.permutations.specs.Cyclic.{first_or}
 use Rattle.multigraph.specs.Graph.{incident_edges}
 use Rattle.faces.specs.Euler.{dart_from, dart_count}

@@ -1,4 +1,4 @@
-use Rattle.std.proofs.Common.{◌≡◌, ◌<◌, true, slice_index, refl, arith}
+use Rattle.std.proofs.Common.{slice_index, arith}
 use Rattle.permutations.proofs.Orbits.{orbit-equivalence, orbit-step}
 use Rattle.multigraph.specs.Graph.{edge_count}
 use Rattle.dart_maps.specs.Map.{twin, face}

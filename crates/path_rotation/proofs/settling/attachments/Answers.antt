@@ -1,12 +1,11 @@
 -- The head of the foot where it is on, or else the vertices that are touched.
-use Rattle.std.proofs.Common.{◌≡◌, ◌∙◌, ℕ, ◌<◌, Bool, true, false, List, [], ◌∷◌, ◌++◌, length, slice_index, sym, ap, subst, arith}
+use Rattle.std.proofs.Common.{◌≡◌, ◌∙◌, ℕ, Bool, true, false, List, [], ◌∷◌, ◌++◌, slice_index, sym, ap, subst, arith}
 use Rattle.std.proofs.lemmas.List.{get_or_read}
-use Rattle.multigraph.specs.Graph.{edge_count}
 use Rattle.multigraph.specs.Marks.{is_marked}
 use Rattle.dart_maps.specs.Map.{twin}
 use Rattle.faces.specs.Euler.{tail}
-use Rattle.path_rotation.specs.Settling.{AreAllAttached, IsTouched}
-use Rattle.path_rotation.proofs.FreeLabels.{AreFoundBelow, attached-head, touched-attached, attached-touched, found-yes, found-no, found-all}
+use Rattle.path_rotation.specs.Settling.{IsTouched}
+use Rattle.path_rotation.proofs.FreeLabels.{attached-head, touched-attached, attached-touched, found-yes, found-no, found-all}
 use Rattle.path_rotation.proofs.settling.attachments.Goals as goal
 use Rattle.path_rotation.proofs.settling.attachments.Goals.{then-is_touched+in_ok-push-2, else-is_touched}
 

@@ -1,15 +1,13 @@
 -- The attachments, the corners that fit, and the corner at the first attachment.
-use Rattle.std.proofs.Common.{◌≡◌, ◌≢◌, ◌∙◌, ◌==◌, ◌<◌, ◌⊎◌, inl, inr, ℕ, Bool, List, Option, IfSome, true, false, length, filter, slice_index, sym, ap, subst, arith}
+use Rattle.std.proofs.Common.{◌≡◌, ◌∙◌, ◌==◌, ◌<◌, inl, inr, ℕ, Bool, List, Option, IfSome, true, length, filter, slice_index, sym, ap, subst, arith}
 use Rattle.std.specs.Vec.{vec_len}
 use Rattle.std.proofs.lemmas.Bool.{eqb-false}
 use Rattle.std.proofs.lemmas.List.{get_or_read}
 use Rattle.permutations.specs.Members.{is_member}
 use Rattle.permutations.proofs.Arrangements.{member-at}
 use Rattle.multigraph.specs.Graph.{edge_count}
-use Rattle.multigraph.specs.Marks.{is_marked}
 use Rattle.dart_maps.specs.Map.{twin, same_face}
 use Rattle.dart_maps.proofs.Darts.{twin-below}
-use Rattle.path_separation.specs.Feet.{IsAttached}
 use Rattle.path_rotation.specs.Forced.{IsAdmissible}
 use Rattle.path_rotation.specs.Fitting.{AreDartsAt, MayDraw, IsWayTo}
 use Rattle.path_rotation.specs.Settling.{AreAllAttached}

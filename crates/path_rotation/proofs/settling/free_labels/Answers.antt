@@ -1,5 +1,5 @@
 -- One edge more, or none.
-use Rattle.std.proofs.Common.{◌≡◌, ◌∙◌, ℕ, ◌+◌, List, [], ◌∷◌, ◌++◌, length, take, drop, sym, ap, subst, arith}
+use Rattle.std.proofs.Common.{◌≡◌, ◌∙◌, ℕ, ◌+◌, List, [], ◌∷◌, ◌++◌, length, drop, sym, ap, subst, arith}
 use Rattle.std.proofs.lemmas.List.{take_at}
 use Rattle.multigraph.specs.Graph.{edge_count}
 use Rattle.graph_theory.specs.Labels.{label_at, IsLabelling, AreLabelsBelow}

@@ -1,5 +1,5 @@
 -- There is a choice at the foot of this turn, or it is none.
-use Rattle.std.proofs.Common.{◌≡◌, ◌∙◌, ◌+◌, ◌/◌, ◌<◌, ℕ, inl, inr, Bool, List, true, false, sym, ap, subst, arith}
+use Rattle.std.proofs.Common.{◌≡◌, ◌∙◌, ◌/◌, ℕ, inl, inr, List, true, false, sym, ap, subst, arith}
 use Rattle.std.proofs.lemmas.Bool.{cases_lt, both_ways}
 use Rattle.std.proofs.lemmas.List.{get_or_read}
 use Rattle.multigraph.specs.Graph.{edge_count}

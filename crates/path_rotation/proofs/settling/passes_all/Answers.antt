@@ -1,5 +1,5 @@
 -- Some drawn dart at the vertex of this turn is in the face, or none is.
-use Rattle.std.proofs.Common.{◌≡◌, ◌∙◌, ◌==◌, ◌+◌, ◌<◌, ℕ, inl, inr, Bool, List, true, false, length, filter, slice_index, sym, subst, arith}
+use Rattle.std.proofs.Common.{◌≡◌, ◌∙◌, ◌==◌, ◌<◌, ℕ, inl, inr, Bool, List, true, length, filter, slice_index, sym, subst, arith}
 use Rattle.std.specs.Vec.{vec_len}
 use Rattle.std.proofs.lemmas.Bool.{cases_lt, both_ways, eqb-true, eq-eqb}
 use Rattle.permutations.specs.Members.{is_member}

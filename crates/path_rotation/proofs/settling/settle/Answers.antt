@@ -1,5 +1,5 @@
 -- What is drawn, with the labels of its faces, and the path more.
-use Rattle.std.proofs.Common.{◌≡◌, ◌∙◌, ◌/◌, ◌<◌, ◌++◌, ℕ, Bool, List, true, length, take, drop, refl, sym, ap, subst, arith}
+use Rattle.std.proofs.Common.{◌≡◌, ◌∙◌, ◌/◌, ◌++◌, ℕ, Bool, List, true, length, take, drop, refl, sym, ap, subst, arith}
 use Rattle.std.proofs.lemmas.Bool.{both_ways}
 use Rattle.std.proofs.lemmas.List.{take_at}
 use Rattle.multigraph.specs.Graph.{edge_count}
