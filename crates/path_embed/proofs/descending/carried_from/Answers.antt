@@ -1,8 +1,8 @@
-use Rattle.std.proofs.Common.{◌≡◌, ap, sym, ◌∙◌, subst}
+use Rattle.std.proofs.Common.{sym, subst}
 use Rattle.multigraph.specs.Graph.{Multigraph}
 use Rattle.skeletons.specs.Items.{IsBlockTree}
 use Rattle.kuratowski.specs.Subdivision.{IsWritten}
-use Rattle.path_embed.proofs.embedder.carried_from.Goals as goal
+use Rattle.path_embed.proofs.descending.carried_from.Goals as goal
 
 pub obstruct_block-requires-clause-node : goal.obstruct_block-requires-clause-node
 obstruct_block-requires-clause-node c = c.requires.obstacle.node.node.0
