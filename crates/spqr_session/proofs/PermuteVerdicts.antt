@@ -1,4 +1,4 @@
--- The plans of permutes.
+-- The codes that apply to permutes.
 use Rattle.std.proofs.Common.{◌≡◌, ℕ, ◌<◌, Bool, true, false, not, List, ◌∷◌, length, Option, None, Some, All, IsPermutation, sym, ap, ◌∙◌, subst}
 use Rattle.std.specs.Prelude.{◌↔◌, IsTrue}
 use Rattle.std.proofs.lemmas.Bool.{both_ways, lt-ltb}
@@ -10,27 +10,20 @@ use Rattle.pair_split.specs.Tutte.{node_at}
 use Rattle.pair_split.specs.declared.components.Kind.{Kind}
 use Rattle.pair_split.specs.declared.components.Kind.TheVariants.{P}
 use Rattle.skeletons.specs.Items.{node_keys, IsBlockTree}
-use Rattle.skeletons.specs.Moves.{permute, MoveLeads}
-use Rattle.skel_embed.specs.Block.{BlockState}
 use Rattle.skel_embed.specs.declared.planes.Outcome.{Outcome}
-use Rattle.spqr_session.specs.State.{Embedding}
 use Rattle.spqr_session.specs.Embedded.{BlockView, block_view, IsEmbedded}
 use Rattle.spqr_session.specs.Codes.{Ladder, first_code}
-use Rattle.spqr_session.specs.BlockCodes.{is_node, is_planar, kind_of, of_entry, lock_codes}
+use Rattle.spqr_session.specs.BlockCodes.{is_node, is_planar, kind_of, entry_codes, of_entry, lock_codes}
 use Rattle.pair_split.specs.Kinds.{is_bond}
 use Rattle.gml_graph.specs.Arranged.{is_arrangement}
-use Rattle.spqr_session.specs.Commands.Permute.{outer_edges, inner_edges, permute_codes, IsPermuted}
-use Rattle.spqr_session.specs.Planned.{IsPlan, IsMovePlan}
+use Rattle.spqr_session.specs.Commands.Permute.{outer_edges, inner_edges, permute_codes}
+use Rattle.spqr_session.specs.Planned.{IsVerdict, AreArranged, IsPermuteVerdict}
 use Rattle.spqr_session.specs.declared.code.Code.{Code}
 use Rattle.spqr_session.specs.declared.code.Code.TheVariants.{NoNode, WrongKind, BadOrder, NonPlanar}
-use Rattle.spqr_session.specs.declared.planned.Planned.{Planned}
-use Rattle.spqr_session.specs.declared.planned.Planned.TheVariants.{Refused, End, Change}
 use Rattle.spqr_script.proofs.PartNodes.{node-of_part}
 use Rattle.spqr_session.proofs.InnerKeys.{order-right, order-wrong}
 use Rattle.spqr_session.proofs.Ladders.{rung-hit, rung-missed}
-use Rattle.spqr_session.proofs.MovePlans.{planar-missed, lock-hit, lock-missed, made-fits, made-leads}
 use Rattle.spqr_session.proofs.MovesCarried.{keys-within}
-use Rattle.spqr_session.proofs.Planes.{SeenPlane}
 
 -- the tree of a block that is seen
 pub seen-tree : (v : BlockView) (o : Outcome) → block_view v.tree.part o ≡ v → IsEmbedded v.tree.part o → IsBlockTree v.tree.part.graph v.tree.nodes
@@ -84,29 +77,10 @@ module _ (v : BlockView) (k : ℕ) (keys : List ℕ) (l : k < length v.tree.node
   pub order-refused : good ≡ false → first_code (permute_codes k keys v.tree v.entry) ≡ Some BadOrder
   order-refused f = past-kind (Some BadOrder) (rung-hit BadOrder (not good) behind (ap not f))
 
+  -- codes 5 and 12
   past-order : good ≡ true → (o : Option Code) → first_code behind ≡ o → first_code (permute_codes k keys v.tree v.entry) ≡ o
   past-order t o e = past-kind o (rung-missed BadOrder (not good) behind o (ap not t) e)
 
-  -- code 5
-  pub plane-refused : good ≡ true → v.entry ≡ None → first_code (permute_codes k keys v.tree v.entry) ≡ Some NonPlanar
-  plane-refused t n = past-order t (Some NonPlanar) (rung-hit NonPlanar (not (is_planar v.entry)) (of_entry (lock_codes k) v.entry) (ap (λ (x : Option Embedding). not (is_planar x)) n))
-
-  -- ---- of a block in the plane
-
-  module _ (p : BlockState) (seen : SeenPlane v p) (t : good ≡ true) where
-    past-plane : (o : Option Code) → first_code (of_entry (lock_codes k) v.entry) ≡ o → first_code (permute_codes k keys v.tree v.entry) ≡ o
-    past-plane o e = past-order t o (planar-missed v p seen (of_entry (lock_codes k) v.entry) o e)
-
-    pub permute-plan : (inner : List ℕ) (planned : Planned) → inner ≡ inner_edges v.tree keys → IsMovePlan (permute k inner) k p planned → IsPlan (permute_codes k keys v.tree v.entry) (IsPermuted k keys) v planned
-    permute-plan inner (Refused code) same h = past-plane (Some code) (lock-hit v p seen k h.0 ∙ ap (λ (c : Code). Some c) (sym h.1))
-    permute-plan inner End same h = absurd h
-    permute-plan inner (Change q) same h = (
-      past-plane None (lock-missed v p seen k h.0),
-      (
-        made-fits v p seen (permute k inner) q h.1,
-        record {
-          leads = subst (λ (xs : List ℕ). MoveLeads v.tree.part.graph v.tree.nodes (permute k xs) p.rotation q.rotation) same (made-leads v p seen (permute k inner) q h.1);
-          locks = ap (λ (x : BlockState). x.locks) h.1.rest;
-        },
-      ),
-    )
+  pub bond-verdict : good ≡ true → AreArranged k keys v.tree → (o : Option Code) → IsVerdict (entry_codes (λ tree. lock_codes k) v.tree v.entry) o → IsPermuteVerdict k keys v o
+  bond-verdict t arranged None h = (past-order t None h, arranged)
+  bond-verdict t arranged (Some code) h = past-order t (Some code) h
