@@ -1,0 +1,3 @@
+-- Canonical orders of triangulations.
+pub mod Contours
+pub mod Order

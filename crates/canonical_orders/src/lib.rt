@@ -1,0 +1,2 @@
+// Canonical orders of triangulations (de Fraysseix, Pach and Pollack 1990).
+#![tactic(auto)]

@@ -1,0 +1,2 @@
+-- Triangulations of plane maps.
+pub mod Triangulation

@@ -1,0 +1,2 @@
+// Triangulations: edges are added to a connected simple graph with a plane rotation system until each face is a triangle.
+#![tactic(auto)]
