@@ -13,8 +13,12 @@
 #![tactic(auto)]
 
 mod checking;
+mod drawing;
+mod parallel;
 mod points;
 mod turning;
 
 pub use checking::is_drawing;
+pub use drawing::{draw, DrawFault};
+pub use parallel::first_parallel;
 pub use points::Points;
