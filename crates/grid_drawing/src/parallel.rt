@@ -46,7 +46,7 @@ fn later_parallel(g: &Graph, a: u32) -> Option<u32>
 pub fn first_parallel(g: &Graph) -> Option<(u32, u32)>
     ensures { MatchOption result (parallel.has_parallel g.now ≡ false)
         (λ pair. (parallel.has_parallel g.now ≡ true)
-            × (pair.0 ≡ parallel.first_parallel g.now) × (pair.1 ≡ parallel.second_parallel g.now)) }
+        × (pair.0 ≡ parallel.first_parallel g.now) × (pair.1 ≡ parallel.second_parallel g.now)) }
 {
     for a in 0..g.edge_count() {
         if let Some(b) = later_parallel(g, a) {
