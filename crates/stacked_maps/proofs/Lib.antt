@@ -1,0 +1,4 @@
+-- The lemmas on drawings of maps under contours.
+pub mod Lists
+pub mod Darts
+pub mod Corners
