@@ -2,3 +2,5 @@
 pub mod Lists
 pub mod Darts
 pub mod Corners
+pub mod Cuts
+pub mod Heads

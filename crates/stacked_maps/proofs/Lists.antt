@@ -1,5 +1,5 @@
 -- Lists of numbers and their images as points: ends, members one by one and two by two, and lists that go counterclockwise.
-use Rattle.std.proofs.Common.{◌≡◌, ◌≢◌, ℕ, zero, suc, ◌+◌, ◌<◌, ◌⊎◌, inl, inr, true, List, [], ◌∷◌, ◌++◌, length, reverse, map, All, arith, refl, sym, ap, ◌∙◌, subst, append_assoc}
+use Rattle.std.proofs.Common.{◌≡◌, ◌≢◌, ℕ, zero, suc, ◌+◌, ◌<◌, ◌⊎◌, inl, inr, true, List, [], ◌∷◌, ◌++◌, length, reverse, map, All, arith, refl, sym, ap, ap₂, ◌∙◌, subst, append_assoc}
 use Rattle.std.proofs.lemmas.Bool.{true≢false, both_ways}
 use Rattle.std.proofs.lemmas.List.{map-append, reverse-append, length-append}
 use Rattle.permutations.specs.Members.{is_member, is_distinct}
@@ -19,6 +19,35 @@ last-cut x (y ∷ l) = let w = last-cut y l in (x ∷ w.0, w.1, ap (λ (t : List
 
 pub last_or-end : (d : ℕ) (k : List ℕ) (z : ℕ) → last_or d (k ++ z ∷ []) ≡ z
 last_or-end d k z = ap (first_or d) (reverse-append k (z ∷ []))
+
+pub last_or-cons : (d y : ℕ) (l : List ℕ) → last_or d (y ∷ l) ≡ last_or y l
+last_or-cons d y [] = refl
+last_or-cons d y (x ∷ l) = let w : (k : List ℕ) × (z : ℕ) × (x ∷ l ≡ k ++ z ∷ []) = last-cut x l in
+    ap (λ (t : List ℕ). last_or d (y ∷ t)) w.2 ∙ last_or-end d (y ∷ w.0) w.1 ∙ sym (ap (last_or y) w.2 ∙ last_or-end y w.0 w.1)
+
+pub last_or-member : (x : ℕ) (l : List ℕ) → is_member (last_or x l) (x ∷ l) ≡ true
+last_or-member x l = let w : (k : List ℕ) × (z : ℕ) × (x ∷ l ≡ k ++ z ∷ []) = last-cut x l in
+    ap (is_member (last_or x l)) w.2 ∙ subst (λ (y : ℕ). is_member y (w.0 ++ w.1 ∷ []) ≡ true) (sym (sym (last_or-cons x x l) ∙ ap (last_or x) w.2 ∙ last_or-end x w.0 w.1)) (member-append_right w.1 w.0 (w.1 ∷ []) (member-head w.1 []))
+
+-- the parts of equal lists
+pub cons-first : {X : Type 0} (x y : X) (l k : List X) → x ∷ l ≡ y ∷ k → x ≡ y
+cons-first {X} x y l k e = ap first e
+  where
+    first : List X → X
+    first [] = x
+    first (z ∷ s) = z
+
+pub cons-rest : {X : Type 0} (x y : X) (l k : List X) → x ∷ l ≡ y ∷ k → l ≡ k
+cons-rest {X} x y l k e = ap rest e
+  where
+    rest : List X → List X
+    rest [] = []
+    rest (z ∷ s) = s
+
+-- functions that agree on the members
+pub map-alike : {X : Type 0} (f g : ℕ → X) (l : List ℕ) → ((x : ℕ) → is_member x l ≡ true → f x ≡ g x) → map f l ≡ map g l
+map-alike f g [] h = refl
+map-alike f g (x ∷ l) h = ap₂ ◌∷◌ (h x (member-head x l)) (map-alike f g l (λ y n. h y (member-tail y x l n)))
 
 -- one last member, in two ways
 pub last-same : {X : Type 0} (a : List X) (z : X) (k : List X) (x : X) → a ++ z ∷ [] ≡ k ++ x ∷ [] → z ≡ x
