@@ -1,11 +1,11 @@
 -- Around the points of a stretch of a contour: the turns to a point that is stacked on it, between the neighbours on the contour.
-use Rattle.std.proofs.Common.{◌≡◌, ℕ, ◌⊎◌, inl, inr, ◌<◌, ◌≤◌, true, List, [], ◌∷◌, ◌++◌, arith, refl, sym, ap, ◌∙◌, subst, append_assoc}
+use Rattle.std.proofs.Common.{◌≡◌, ℕ, ◌⊎◌, inl, inr, ◌<◌, ◌≤◌, true, List, [], ◌∷◌, ◌++◌, arith, refl, sym, ◌∙◌, subst, append_assoc}
 use Rattle.std.proofs.lemmas.Bool.{cases_lt}
 use Rattle.plane_points.specs.Turning.{turns_left, comes_before}
-use Rattle.plane_points.proofs.Rising.{Each, Rises, each-map, each-append, each-first, rises-first, rises-second, rises-across}
+use Rattle.plane_points.proofs.Rising.{Each, Rises, each-map, each-append, each-first, rises-second, rises-across}
 use Rattle.stacked_points.specs.Contours.{Successive, IsContour, stretch, contour_of, Overlooks, TwoTurnLeft}
-use Rattle.stacked_points.proofs.Chains.{chain-map, chain-both, chain-each, rises-chain, chain-first, chain-second, chain-join, rises-short, Found, found-each, found-parts, found-second}
-use Rattle.stacked_points.proofs.Stacking.{Across, Seen, whole, second, part, last}
+use Rattle.stacked_points.proofs.Chains.{chain-map, chain-each, rises-chain, chain-second, chain-join, rises-short, Found, found-each, found-parts, found-second}
+use Rattle.stacked_points.proofs.Stacking.{Across, Seen, whole, part, last}
 use Rattle.stacked_points.proofs.Corners.{inner_turns, left_end_turns, right_end_turns, first_turns, last_turns, sides_differ, first_differ, last_differ}
 
 -- seen from c, v comes between x and y, whose directions differ

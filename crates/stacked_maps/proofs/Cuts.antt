@@ -4,7 +4,6 @@ use Rattle.std.proofs.lemmas.Bool.{true≢false}
 use Rattle.std.proofs.lemmas.List.{map-append}
 use Rattle.std.proofs.lemmas.Simd.{map-map}
 use Rattle.permutations.specs.Members.{is_member}
-use Rattle.permutations.specs.Cyclic.{last_or}
 use Rattle.permutations.specs.Exchange.{restricted}
 use Rattle.permutations.proofs.Members.{member-head, member-tail, member-cases, member-append_left, member-append_right, member-append_cases}
 use Rattle.permutations.proofs.Mapped.{member-map, map-member}

@@ -1,5 +1,5 @@
 -- Darts of a triangulated map: their vertices, those that stay around a vertex, and the first and the last of these.
-use Rattle.std.proofs.Common.{◌≡◌, ℕ, ◌*◌, ◌/◌, ◌<◌, inl, inr, Bool, true, ◌==◌, List, ◌∷◌, ◌++◌, [], filter, arith, refl, sym, ap, ◌∙◌, subst, le_refl}
+use Rattle.std.proofs.Common.{◌≡◌, ℕ, ◌*◌, ◌/◌, ◌<◌, inl, inr, Bool, true, List, ◌∷◌, ◌++◌, [], filter, arith, refl, sym, ap, ◌∙◌, subst, le_refl}
 use Rattle.std.proofs.lemmas.Bool.{and_parts, eqb-true, eq-eqb}
 use Rattle.permutations.specs.Members.{is_member, is_distinct}
 use Rattle.permutations.specs.Cyclic.{successor, turned, IsTurn}
@@ -14,7 +14,7 @@ use Rattle.permutations.proofs.Restriction.{restricted-taken-out, restricted-per
 use Rattle.permutations.proofs.Rings.{ring-first, ring-below, ring-member, ring-distinct, ring-successor, ring-turn}
 use Rattle.permutations.proofs.Removal.{ring-taken_out}
 use Rattle.dart_maps.specs.Map.{twin}
-use Rattle.dart_maps.proofs.Darts.{twin-twin, twin-below, twin-cases, twin-edge}
+use Rattle.dart_maps.proofs.Darts.{twin-twin, twin-cases, twin-edge}
 use Rattle.multigraph.specs.Graph.{Multigraph, edge_count, ends_of}
 use Rattle.faces.specs.Euler.{tail}
 use Rattle.faces.proofs.DartLemmas.{tail-even, tail-odd}
@@ -126,5 +126,5 @@ module _ (m : ℕ) (h : Multigraph) (next previous : ℕ → ℕ) (t : IsTriangu
         let f : (r : List ℕ) × (around y ≡ y ∷ r) = around-first y l k in
         let s : tail h y ≡ tail h z = sym (ap (tail h) e) ∙ on-tail z j i in
         let w : (k : List ℕ) × (y ∷ f.0 ≡ k ++ z ∷ []) = before-first y z f.0 (subst (λ (r : List ℕ). is_distinct r ≡ true) f.1 (around-distinct y l))
-            (sym (ap (is_member z) f.1) ∙ member-around y z l j s i) (sym (ap (λ (r : List ℕ). successor r z) f.1) ∙ around-next y z l k j i s ∙ e) in
+        (sym (ap (is_member z) f.1) ∙ member-around y z l j s i) (sym (ap (λ (r : List ℕ). successor r z) f.1) ∙ around-next y z l k j i s ∙ e) in
         (f.0, w.0, f.1, f.1 ∙ w.1)

@@ -1,5 +1,5 @@
 -- Around a vertex of a contour, with one more edge to a point that is stacked there.
-use Rattle.std.proofs.Common.{◌≡◌, ◌≢◌, ℕ, ◌⊎◌, inl, inr, ◌*◌, ◌<◌, ◌≤◌, Bool, true, List, [], ◌∷◌, ◌++◌, map, arith, refl, sym, ap, ◌∙◌, subst, subst₂, append_assoc}
+use Rattle.std.proofs.Common.{◌≡◌, ℕ, ◌⊎◌, inl, inr, ◌*◌, ◌<◌, ◌≤◌, Bool, true, List, [], ◌∷◌, ◌++◌, map, arith, sym, ap, ◌∙◌, subst, subst₂, append_assoc}
 use Rattle.std.proofs.lemmas.List.{map-append}
 use Rattle.permutations.specs.Members.{is_member, is_distinct}
 use Rattle.permutations.specs.Cyclic.{last_or}
@@ -11,7 +11,7 @@ use Rattle.dart_maps.proofs.Darts.{twin-twin, twin-below}
 use Rattle.multigraph.specs.Graph.{Multigraph}
 use Rattle.faces.specs.Euler.{tail}
 use Rattle.plane_points.specs.Turning.{comes_before, IsCounterclockwise}
-use Rattle.plane_points.proofs.Rising.{Rises, Each, pairs-rises, rises-second}
+use Rattle.plane_points.proofs.Rising.{Rises, pairs-rises, rises-second}
 use Rattle.plane_points.proofs.Laws.{one_more_goes_around}
 use Rattle.triangulations.specs.Triangulation.{IsTriangulated}
 use Rattle.canonical_orders.specs.Contours.{stays_dart, Successive, IsContour, darts_around}

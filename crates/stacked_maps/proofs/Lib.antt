@@ -4,3 +4,6 @@ pub mod Darts
 pub mod Corners
 pub mod Cuts
 pub mod Heads
+pub mod Meetings
+pub mod Base
+pub mod Stacked
