@@ -3,3 +3,4 @@ pub mod Pairs
 pub mod Ends
 pub mod Checked
 pub mod Around
+pub mod SameEnds

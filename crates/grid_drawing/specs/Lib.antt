@@ -1,3 +1,5 @@
 -- Straight-line drawings.
 pub mod Drawing
+pub mod Grid
+pub mod Parallel
 pub mod Tests

@@ -6,15 +6,21 @@
 // All tests are exact: twice the area of a triangle is compared as two sums of products, and nothing is divided (plane_points has
 // the theory).
 //
-// No drawing is made here.
+// Parallel edges are not drawn: `first_parallel` returns the least pair, and `draw` refuses it.
 //
 // The lemmas (module of proofs/ in front):
 //   Pairs     clear-told: two segments meet at most in common ends exactly where the test by their ends says so
+//   SameEnds  met-one, met-none: a later edge with the same ends, found among the edges at one of them
+//   SameEnds  pair-first: the least edge that has one, and the least such one, are the least pair
 #![tactic(auto)]
 
 mod checking;
+mod drawing;
+mod parallel;
 mod points;
 mod turning;
 
 pub use checking::is_drawing;
+pub use drawing::{DrawFault, draw};
+pub use parallel::first_parallel;
 pub use points::Points;
