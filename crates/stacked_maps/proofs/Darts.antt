@@ -33,6 +33,15 @@ pub stays-twin : (h : Multigraph) (stays : ℕ → Bool) (d : ℕ) → stays_dar
 stays-twin h stays d k = let p : (stays (tail h d) ≡ true) × (stays (tail h (twin d)) ≡ true) = stays-parts h stays d k in
     stays-from h stays (twin d) p.1 (subst (λ (z : ℕ). stays (tail h z) ≡ true) (sym (twin-twin d)) p.0)
 
+-- the members of a ring that stay are followed by the next ones that stay
+pub ring-next : (n : ℕ) (keep : ℕ → Bool) (f g : ℕ → ℕ) → Permutes n f g → (x z : ℕ) → x < n → keep x ≡ true → is_member z (filter keep (ring n f x)) ≡ true → successor (filter keep (ring n f x)) z ≡ restricted n keep f z
+ring-next n keep f g b x z l k i = ap (λ (r : List ℕ). successor r z) (sym same)
+    ∙ ring-successor n (taken_out keep n f) (taken_out keep n g) (taken-out-permutes n keep f g b n (le_refl n)) x l z (ap (is_member z) same ∙ i)
+    ∙ sym (restricted-taken-out n keep f g b z (ring-below n f g b x l z (member-filter_parts keep (ring n f x) z i).0))
+  where
+    same : ring n (taken_out keep n f) x ≡ filter keep (ring n f x)
+    same = ring-taken_out n keep f g b x l k
+
 module _ (m : ℕ) (h : Multigraph) (next previous : ℕ → ℕ) (t : IsTriangulated m h next previous) where
   pub permutes : Permutes (2 * m) next previous
   permutes = t.map.drawn.map
@@ -105,20 +114,9 @@ module _ (m : ℕ) (h : Multigraph) (next previous : ℕ → ℕ) (t : IsTriangu
         (sym (ring-turn (2 * m) next previous permutes y d l (ring-member (2 * m) next previous permutes y l d ∙ tail-orbit y d l k e)))
         (IsTurn-filter keep (ring (2 * m) next y) (turned (ring (2 * m) next y) d) (turned-turn (ring (2 * m) next y) d))
 
-    abbrev left : ℕ → ℕ
-    left = taken_out keep (2 * m) next
-
-    left-permutes : Permutes (2 * m) left (taken_out keep (2 * m) previous)
-    left-permutes = taken-out-permutes (2 * m) keep next previous permutes (2 * m) (le_refl (2 * m))
-
     -- in it each dart is followed by the next one that stays
     pub around-next : (y z : ℕ) → y < 2 * m → keep y ≡ true → z < 2 * m → keep z ≡ true → tail h y ≡ tail h z → successor (around y) z ≡ on z
-    around-next y z l k j i e = ap (λ (r : List ℕ). successor r z) (sym same)
-        ∙ ring-successor (2 * m) left (taken_out keep (2 * m) previous) left-permutes y l z (ap (is_member z) same ∙ member-around y z l j e i)
-        ∙ sym (restricted-taken-out (2 * m) keep next previous permutes z j)
-      where
-        same : ring (2 * m) left y ≡ around y
-        same = ring-taken_out (2 * m) keep next previous permutes y l k
+    around-next y z l k j i e = ring-next (2 * m) keep next previous permutes y z l k (member-around y z l j e i)
 
     -- the last one is the one that y follows
     pub around-last : (y z : ℕ) → y < 2 * m → keep y ≡ true → z < 2 * m → keep z ≡ true → on z ≡ y → (r : List ℕ) × (k : List ℕ) × (around y ≡ y ∷ r) × (around y ≡ k ++ z ∷ [])
