@@ -4,3 +4,4 @@ pub mod Ends
 pub mod Checked
 pub mod Around
 pub mod SameEnds
+pub mod OfMaps
