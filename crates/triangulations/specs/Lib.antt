@@ -1,2 +1,3 @@
 -- Triangulations of plane maps.
 pub mod Triangulation
+pub mod Listed
