@@ -1,1 +1,4 @@
 -- The lemmas on triangulations.
+pub mod SimpleMaps
+pub mod Turns
+pub mod TwoTriangles
