@@ -2,3 +2,5 @@
 pub mod SimpleMaps
 pub mod Turns
 pub mod TwoTriangles
+pub mod Progress
+pub mod Bounded
