@@ -4,3 +4,5 @@ pub mod Turns
 pub mod TwoTriangles
 pub mod Progress
 pub mod Bounded
+pub mod Cut
+pub mod Filled
