@@ -6,3 +6,5 @@ pub mod Progress
 pub mod Bounded
 pub mod Cut
 pub mod Filled
+pub mod Inserted
+pub mod CutLists

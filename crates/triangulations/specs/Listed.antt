@@ -1,9 +1,11 @@
 -- A graph with a map of its darts, kept as lists.
-use Rattle.std.specs.Prelude.{◌≡◌, ℕ, ◌^◌, ◌<◌, List, length, slice_index}
+use Rattle.std.specs.Prelude.{◌≡◌, ◌≢◌, ℕ, ◌+◌, ◌^◌, ◌<◌, List, length, slice_index}
 use Rattle.multigraph.specs.Graph.{Multigraph, edge_count}
 use Rattle.multigraph.specs.Build.{multigraph_of}
+use Rattle.dart_maps.specs.Map.{twin, face, IsMap}
 use Rattle.faces.specs.Euler.{dart_count}
-use Rattle.triangulations.specs.Triangulation.{IsTriangulation}
+use Rattle.triangulations.specs.Triangulation.{IsSimpleMap, IsTriangulation}
+use Rattle.triangulations.specs.Cutting.{cut_graph}
 
 -- a graph, the dart that follows each dart, and the one that each dart follows
 pub record ListedMap : Type 0 where
@@ -24,3 +26,22 @@ pub record IsListed (t : ListedMap) : Type 0 where
 -- it adds edges to the graph g with the rotation system r until each face is a triangle
 abbrev pub IsTriangulationOf : Multigraph → List (List ℕ) → ListedMap → Type 0
 IsTriangulationOf g r t = IsTriangulation g r (edge_count t.graph) t.graph (slice_index t.next) (slice_index t.previous)
+
+-- the lists are a map of the graph's darts
+abbrev pub IsMapOf : ListedMap → Type 0
+IsMapOf t = IsMap (edge_count t.graph) (slice_index t.next) (slice_index t.previous)
+
+-- and the map is simple
+abbrev pub IsSimpleMapOf : ListedMap → Type 0
+IsSimpleMapOf t = IsSimpleMap (edge_count t.graph) t.graph (slice_index t.next) (slice_index t.previous)
+
+-- an edge was added between the vertex that dart d leaves and the one where two steps along the face lead. Its first dart comes before d, its
+-- second after the twin of the next dart along the face
+pub record IsCut (old : ListedMap) (d : ℕ) (new : ListedMap) : Type 0 where
+  pub graph : new.graph ≡ cut_graph old.graph (slice_index old.next) d
+  pub map : IsMapOf new
+  pub corner : slice_index new.next (slice_index old.previous d) ≡ dart_count old.graph
+  pub second_corner : slice_index new.next (twin (face (slice_index old.next) d)) ≡ dart_count old.graph + 1
+  pub first : slice_index new.next (dart_count old.graph) ≡ d
+  pub second : slice_index new.next (dart_count old.graph + 1) ≡ slice_index old.next (twin (face (slice_index old.next) d))
+  pub others : (c : ℕ) → c < dart_count old.graph → c ≢ slice_index old.previous d → c ≢ twin (face (slice_index old.next) d) → slice_index new.next c ≡ slice_index old.next c

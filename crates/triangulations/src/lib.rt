@@ -3,6 +3,7 @@
 
 mod filling;
 mod map;
+mod pairs;
 
 pub use filling::triangulate;
 pub use map::DartMap;
