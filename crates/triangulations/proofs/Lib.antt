@@ -8,3 +8,4 @@ pub mod Cut
 pub mod Filled
 pub mod Inserted
 pub mod CutLists
+pub mod JoinedPairs

@@ -1,6 +1,7 @@
 -- A set of pairs of vertices, each with the lesser one first.
 use Rattle.std.specs.Prelude.{◌≡◌, ℕ, ◌*◌, Bool, ◌&&◌, ◌||◌, ◌==◌, min, max}
-use Rattle.std.specs.Ordering.{Ordering, nat_cmp, ordering_then}
+use Rattle.std.specs.Ordering.{nat_cmp, ordering_then}
+use Rattle.std.specs.declared.cmp.Ordering.{Ordering}
 use Rattle.std.specs.BTreeSet.{BTreeSet, contains}
 use Rattle.permutations.specs.Count.{some}
 use Rattle.dart_maps.specs.Map.{twin}

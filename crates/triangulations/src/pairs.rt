@@ -1,8 +1,7 @@
 // Which vertices are joined.
 
 ghost use Rattle.std.specs.Prelude.{◌≡◌, IfOk, OnOk};
-ghost use Rattle.multigraph.specs.Graph.{edge_count};
-ghost use Rattle.triangulations.specs.Pairs.{AddsPair, KnowsEdges, has_pair, ordered};
+ghost use Rattle.triangulations.specs.Pairs.{AddsPair, KnowsPairs, has_pair, ordered};
 
 use multigraph::Graph;
 use std::alloc::{AllocError, Global};
@@ -24,7 +23,7 @@ fn ordered(a: u32, b: u32) -> (u32, u32)
 impl Pairs {
     // Those that the edges of the graph join.
     pub(crate) fn of(alloc: Global, g: &Graph) -> Result<Pairs, AllocError>
-        ensures { IfOk result (λ pairs. KnowsEdges g.now (edge_count g.now) pairs.held) }
+        ensures { IfOk result (λ pairs. KnowsPairs g.now pairs.held) }
     {
         let mut pairs = Pairs {
             held: BTreeSet::new(alloc),
