@@ -9,3 +9,5 @@ pub mod Filled
 pub mod Inserted
 pub mod CutLists
 pub mod JoinedPairs
+pub mod Start
+pub mod FillLoop

@@ -4,6 +4,7 @@
 mod filling;
 mod map;
 mod pairs;
+mod starting;
 
 pub use filling::triangulate;
 pub use map::DartMap;
