@@ -1,14 +1,18 @@
 -- The loop that fills a face, over the lists of the map.
-use Rattle.std.proofs.Common.{◌≡◌, ◌≢◌, ℕ, ◌+◌, ◌*◌, ◌^◌, ◌<◌, ◌≤◌, true, false, List, slice_index, refl, sym, ap, ◌∙◌, subst, arith}
+use Rattle.std.proofs.Common.{◌≡◌, ◌≢◌, ℕ, ◌+◌, ◌*◌, ◌^◌, ◌<◌, ◌≤◌, Bool, true, false, not, ◌&&◌, List, slice_index, refl, sym, ap, ap₂, ◌∙◌, subst, arith}
+use Rattle.std.specs.BTreeSet.{BTreeSet}
+use Rattle.std.proofs.lemmas.Bool.{ne_eqb}
 use Rattle.std.proofs.lemmas.Nat.{mul-le}
 use Rattle.dart_maps.specs.Map.{twin, face, IsMap}
 use Rattle.multigraph.specs.Graph.{Multigraph, edge_count, max_vertices}
 use Rattle.faces.specs.Euler.{tail, dart_count}
 use Rattle.drawn_maps.proofs.Drawn.{more-edges}
 use Rattle.triangulations.specs.Triangulation.{IsSimpleMap}
-use Rattle.triangulations.specs.Cutting.{is_triangle, can_cut, second_head, cut_graph, cut_next, IsFilled, IsFilling}
+use Rattle.triangulations.specs.Cutting.{is_triangle, are_joined, can_cut, second_head, cut_graph, cut_next, IsFilled, IsFilling}
 use Rattle.triangulations.specs.Listed.{ListedMap, IsMapOf, IsSimpleMapOf, IsCut, IsFilledMap, IsFillingMap, Fills}
+use Rattle.triangulations.specs.Pairs.{AddsPair, KnowsPairs}
 use Rattle.triangulations.proofs.SimpleMaps.{face-in}
+use Rattle.triangulations.proofs.JoinedPairs.{knows-cut}
 use Rattle.triangulations.proofs.Cut.{pq, made-from, cut-map}
 use Rattle.triangulations.proofs.Filled.{left_over, filling-start, filling-end, filling-onward, filling-cut, onward-less, cut-room, cut-less}
 
@@ -109,3 +113,13 @@ module _ (start : ℕ) (old : ListedMap) (d : ℕ) (now : ListedMap) (f : IsFill
     vertices = f.vertices;
     filled = λ g r i. filling-end g r start (edge_count now.graph) now.graph (slice_index now.next) (slice_index now.previous) d (f.filling g r i) t;
   }
+
+-- the test in the code is whether an edge can be added
+pub can-cut-told : (t : ListedMap) (d a b : ℕ) (j : Bool) → a ≡ tail t.graph d → b ≡ second_head t.graph (slice_index t.next) d → (a ≡ b → ⊥) → j ≡ are_joined t.graph a b → not j ≡ can_cut t.graph (slice_index t.next) d
+can-cut-told t d a b j ia ib n i =
+    ap not (i ∙ ap₂ (are_joined t.graph) ia ib) ∙ sym (ap (λ w. not w && not (are_joined t.graph (tail t.graph d) (second_head t.graph (slice_index t.next) d))) (ne_eqb (tail t.graph d) (second_head t.graph (slice_index t.next) d) (λ e. n (ia ∙ e ∙ sym ib))))
+
+-- the pairs of the new map are known
+pub pairs-cut : (old : ListedMap) (d a b : ℕ) (new : ListedMap) (before after : BTreeSet (ℕ × ℕ)) → KnowsPairs old.graph before → a ≡ tail old.graph d → b ≡ second_head old.graph (slice_index old.next) d → AddsPair before a b after → IsCut old d new → KnowsPairs new.graph after
+pairs-cut old d a b new before after k ia ib adds cut = subst (λ h. KnowsPairs h after) (sym cut.graph)
+    (knows-cut (edge_count old.graph) old.graph (slice_index old.next) d before after refl k (subst (λ z. AddsPair before (tail old.graph d) z after) ib (subst (λ z. AddsPair before z b after) ia adds)))

@@ -83,6 +83,7 @@ pub fn triangulate(alloc: Global, g: &Graph, r: &Rotation) -> Result<DartMap, Al
     requires simple { IsSimple g.now }
     ensures { IfOk result (IsTriangulationOf g.now r.now) }
 {
+    g.keeps_limits();
     let mut map = map_of(alloc, g, r)?;
     let mut pairs = Pairs::of(alloc, g)?;
     for dart in 0..dart_count(g) {

@@ -7,4 +7,6 @@ pub face-requires-2 : goal.face-requires-2
 face-requires-2 c = subst (λ z. z < dart_count c.args.map.now.graph) (sym c.face.ensures) (face-below c.args.map.now c.args.dart c.requires.map c.requires.dart)
 
 pub face-requires-3 : goal.face-requires-3
-face-requires-3 c = subst (λ z. z < dart_count c.args.map.now.graph) (sym c.face-2.ensures) (face-below c.args.map.now c.face.result c.requires.map (face-requires-2 _))
+face-requires-3 c =
+    let first = subst (λ z. z < dart_count c.args.map.now.graph) (sym c.face.ensures) (face-below c.args.map.now c.args.dart c.requires.map c.requires.dart) in
+    subst (λ z. z < dart_count c.args.map.now.graph) (sym c.face-2.ensures) (face-below c.args.map.now c.face.result c.requires.map first)
