@@ -1,7 +1,7 @@
 -- Small maps, computed: a path, a star, and two triangles with a common vertex.
 use Rattle.std.proofs.Common.{◌≡◌, ℕ, true, false, ltb, List, [], ◌∷◌, map, get_or, refl}
 use Rattle.permutations.specs.Exchange.{swapped, exchange, restricted}
-use Rattle.dart_maps.specs.Map.{twin, face}
+use Rattle.dart_maps.specs.Map.{twin}
 use Rattle.multigraph.specs.Graph.{Multigraph}
 use Rattle.triangulations.specs.Cutting.{is_triangle, can_cut, cut_graph, cut_next, wait}
 

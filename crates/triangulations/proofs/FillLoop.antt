@@ -8,8 +8,8 @@ use Rattle.multigraph.specs.Graph.{Multigraph, edge_count, max_vertices}
 use Rattle.faces.specs.Euler.{tail, dart_count}
 use Rattle.drawn_maps.proofs.Drawn.{more-edges}
 use Rattle.triangulations.specs.Triangulation.{IsSimpleMap}
-use Rattle.triangulations.specs.Cutting.{is_triangle, are_joined, can_cut, second_head, cut_graph, cut_next, IsFilled, IsFilling}
-use Rattle.triangulations.specs.Listed.{ListedMap, IsMapOf, IsSimpleMapOf, IsCut, IsFilledMap, IsFillingMap, Fills, AreTriangles, FillsAll, IsTriangulationOf}
+use Rattle.triangulations.specs.Cutting.{is_triangle, are_joined, can_cut, second_head, cut_graph, cut_next, IsFilling}
+use Rattle.triangulations.specs.Listed.{ListedMap, IsSimpleMapOf, IsCut, IsFilledMap, IsFillingMap, Fills, AreTriangles, FillsAll, IsTriangulationOf}
 use Rattle.triangulations.specs.Pairs.{AddsPair, KnowsPairs}
 use Rattle.triangulations.proofs.SimpleMaps.{face-in}
 use Rattle.triangulations.proofs.JoinedPairs.{knows-cut}

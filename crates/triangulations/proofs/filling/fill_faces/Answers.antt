@@ -1,4 +1,4 @@
-use Rattle.std.proofs.Common.{◌≡◌, ◌≤◌, ◌<◌, ◌∙◌, ap, subst, sym, arith}
+use Rattle.std.proofs.Common.{◌≡◌, ◌≤◌, ◌∙◌, ap, subst, sym, arith}
 use Rattle.multigraph.specs.Graph.{Multigraph, max_vertices}
 use Rattle.faces.specs.Euler.{dart_count}
 use Rattle.triangulations.specs.Pairs.{KnowsPairs}
