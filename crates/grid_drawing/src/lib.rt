@@ -16,11 +16,13 @@
 
 mod checking;
 mod drawing;
+mod laws;
 mod parallel;
 mod points;
 mod turning;
 
 pub use checking::is_drawing;
 pub use drawing::{DrawFault, draw};
+pub use laws::triangulations_draw_graphs;
 pub use parallel::first_parallel;
 pub use points::Points;
