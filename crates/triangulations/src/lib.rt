@@ -1,2 +1,10 @@
 // Triangulations: edges are added to a connected simple graph with a plane rotation system until each face is a triangle.
 #![tactic(auto)]
+
+mod filling;
+mod map;
+mod pairs;
+mod starting;
+
+pub use filling::triangulate;
+pub use map::DartMap;
