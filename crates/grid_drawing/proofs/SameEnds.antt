@@ -7,22 +7,19 @@ use Rattle.permutations.proofs.Search.{some-from, none-some, least-is}
 use Rattle.multigraph.specs.Graph.{Multigraph, edge_count, ends_of, is_end, other_end, incident_edges, IsGraph}
 use Rattle.multigraph.proofs.OtherEnd.{is_end-cases, is_end-first, is_end-second, other_end-of_first, other_end-of_second}
 use Rattle.multigraph.proofs.Incident.{incident-has, incident_at-edge, incident_at-end, incident-rises}
+use Rattle.graph_theory.specs.Triconnected.{AreParallel}
 use Rattle.grid_drawing.specs.Parallel.{same_ends, is_later, has_later, has_parallel, first_parallel, second_parallel}
-
--- the ends are the same, in one order or the other
-abbrev pub Same : Multigraph → ℕ → ℕ → Type 0
-Same g a b = (((ends_of g a).0 ≡ (ends_of g b).0) × ((ends_of g a).1 ≡ (ends_of g b).1)) ⊎ (((ends_of g a).0 ≡ (ends_of g b).1) × ((ends_of g a).1 ≡ (ends_of g b).0))
 
 both : (p q x y : ℕ) → ((p == q) && (x == y)) ≡ true → (p ≡ q) × (x ≡ y)
 both p q x y h = let w = and_parts (p == q) (x == y) h in (eqb-true p q w.0, eqb-true x y w.1)
 
-pub same-cases : (g : Multigraph) (a b : ℕ) → same_ends g a b ≡ true → Same g a b
+pub same-cases : (g : Multigraph) (a b : ℕ) → same_ends g a b ≡ true → AreParallel g a b
 same-cases g a b h = elim (or_cases (((ends_of g a).0 == (ends_of g b).0) && ((ends_of g a).1 == (ends_of g b).1)) (((ends_of g a).0 == (ends_of g b).1) && ((ends_of g a).1 == (ends_of g b).0)) h) [
   | inl s ↦ inl (both (ends_of g a).0 (ends_of g b).0 (ends_of g a).1 (ends_of g b).1 s)
   | inr s ↦ inr (both (ends_of g a).0 (ends_of g b).1 (ends_of g a).1 (ends_of g b).0 s)
 ]
 
-pub same-from : (g : Multigraph) (a b : ℕ) → Same g a b → same_ends g a b ≡ true
+pub same-from : (g : Multigraph) (a b : ℕ) → AreParallel g a b → same_ends g a b ≡ true
 same-from g a b (inl s) = or_left (((ends_of g a).0 == (ends_of g b).0) && ((ends_of g a).1 == (ends_of g b).1)) (((ends_of g a).0 == (ends_of g b).1) && ((ends_of g a).1 == (ends_of g b).0))
     (and_from ((ends_of g a).0 == (ends_of g b).0) ((ends_of g a).1 == (ends_of g b).1) (eq-eqb (ends_of g a).0 (ends_of g b).0 s.0) (eq-eqb (ends_of g a).1 (ends_of g b).1 s.1))
 same-from g a b (inr s) = or_right (((ends_of g a).0 == (ends_of g b).0) && ((ends_of g a).1 == (ends_of g b).1)) (((ends_of g a).0 == (ends_of g b).1) && ((ends_of g a).1 == (ends_of g b).0))
@@ -32,7 +29,7 @@ same-from g a b (inr s) = or_right (((ends_of g a).0 == (ends_of g b).0) && ((en
 pub same-end : (g : Multigraph) (v a b : ℕ) → same_ends g a b ≡ true → is_end g v a ≡ true → is_end g v b ≡ true
 same-end g v a b h k = go (same-cases g a b h) (is_end-cases g v a k)
   where
-    go : Same g a b → ((ends_of g a).0 ≡ v) ⊎ ((ends_of g a).1 ≡ v) → is_end g v b ≡ true
+    go : AreParallel g a b → ((ends_of g a).0 ≡ v) ⊎ ((ends_of g a).1 ≡ v) → is_end g v b ≡ true
     go (inl s) (inl e) = subst (λ (w : ℕ). is_end g w b ≡ true) (sym s.0 ∙ e) (is_end-first g b)
     go (inl s) (inr e) = subst (λ (w : ℕ). is_end g w b ≡ true) (sym s.1 ∙ e) (is_end-second g b)
     go (inr s) (inl e) = subst (λ (w : ℕ). is_end g w b ≡ true) (sym s.0 ∙ e) (is_end-second g b)
@@ -54,7 +51,7 @@ module _ (g : Multigraph) (graph : IsGraph g) where
   pub other-same : (v a b : ℕ) → a < edge_count g → b < edge_count g → is_end g v a ≡ true → is_end g v b ≡ true → other_end g b v ≡ other_end g a v → same_ends g a b ≡ true
   other-same v a b la lb ha hb e = same-from g a b (go (is_end-cases g v a ha) (is_end-cases g v b hb))
     where
-      go : ((ends_of g a).0 ≡ v) ⊎ ((ends_of g a).1 ≡ v) → ((ends_of g b).0 ≡ v) ⊎ ((ends_of g b).1 ≡ v) → Same g a b
+      go : ((ends_of g a).0 ≡ v) ⊎ ((ends_of g a).1 ≡ v) → ((ends_of g b).0 ≡ v) ⊎ ((ends_of g b).1 ≡ v) → AreParallel g a b
       go (inl x) (inl y) = inl (x ∙ sym y, sym (other_end-of_first g a v x) ∙ (sym e ∙ other_end-of_first g b v y))
       go (inl x) (inr y) = inr (x ∙ sym y, sym (other_end-of_first g a v x) ∙ (sym e ∙ other_end-of_second g b v y (graph.no_loop b lb)))
       go (inr x) (inl y) = inr (sym (other_end-of_second g a v x (graph.no_loop a la)) ∙ (sym e ∙ other_end-of_first g b v y), x ∙ sym y)
@@ -64,7 +61,7 @@ module _ (g : Multigraph) (graph : IsGraph g) where
   pub same-other : (v a b : ℕ) → a < edge_count g → b < edge_count g → is_end g v a ≡ true → same_ends g a b ≡ true → other_end g b v ≡ other_end g a v
   same-other v a b la lb ha h = go (same-cases g a b h) (is_end-cases g v a ha)
     where
-      go : Same g a b → ((ends_of g a).0 ≡ v) ⊎ ((ends_of g a).1 ≡ v) → other_end g b v ≡ other_end g a v
+      go : AreParallel g a b → ((ends_of g a).0 ≡ v) ⊎ ((ends_of g a).1 ≡ v) → other_end g b v ≡ other_end g a v
       go (inl s) (inl x) = other_end-of_first g b v (sym s.0 ∙ x) ∙ (sym s.1 ∙ sym (other_end-of_first g a v x))
       go (inl s) (inr x) = other_end-of_second g b v (sym s.1 ∙ x) (graph.no_loop b lb) ∙ (sym s.0 ∙ sym (other_end-of_second g a v x (graph.no_loop a la)))
       go (inr s) (inl x) = other_end-of_second g b v (sym s.0 ∙ x) (graph.no_loop b lb) ∙ (sym s.1 ∙ sym (other_end-of_first g a v x))

@@ -1,9 +1,8 @@
 -- `draw`: the state stays, a block can be drawn, and what is found is an answer.
-use Rattle.std.proofs.Common.{◌≡◌, ◌≢◌, ℕ, ◌<◌, ◌≤◌, Bool, true, false, List, [], ◌∷◌, length, slice_index, Option, None, Some, refl, sym, ap, ap₂, ◌∙◌, subst, arith}
+use Rattle.std.proofs.Common.{◌≡◌, ◌≢◌, ℕ, ◌<◌, ◌≤◌, Bool, true, false, List, [], ◌∷◌, slice_index, Option, None, Some, refl, sym, ap₂, ◌∙◌, subst, arith}
 use Rattle.permutations.proofs.Search.{least-below, least-passes}
 use Rattle.multigraph.specs.Graph.{Multigraph, edge_count, ends_of, IsGraph}
 use Rattle.multigraph.specs.Part.{GraphPart}
-use Rattle.graph_theory.specs.Block.{IsOneBlock}
 use Rattle.graph_theory.specs.Connected.{IsConnected}
 use Rattle.graph_theory.proofs.Connected.{block-connected}
 use Rattle.faces.specs.Euler.{IsPlaneSystem}

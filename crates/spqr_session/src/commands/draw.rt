@@ -38,7 +38,7 @@ pub(crate) fn carry_draw(
 ) -> Result<Vec<u8>, AllocError>
     ensures { (s : State) → s.present.entries ≡ map view_entry blocks.now
         → IfOk result (λ text. ReadStep parallel_codes (IsDrawingAnswer b) (map view_tree blocks.now)
-            b s text.items s) }
+        b s text.items s) }
 {
     match blocks.get(b as usize) {
         Some(block) => draw_block(alloc, b, block),

@@ -1,5 +1,5 @@
-use Rattle.std.proofs.Common.{◌≡◌, ◌∙◌, ◌<◌, ◌≤◌, ℕ, List, length, false, refl, sym, ap, ap₂, subst, arith}
-use Rattle.multigraph.specs.Graph.{Multigraph, edge_count}
+use Rattle.std.proofs.Common.{◌≡◌, ◌∙◌, ◌≤◌, ℕ, List, length, false, sym, ap, ap₂, subst}
+use Rattle.multigraph.specs.Graph.{Multigraph}
 use Rattle.multigraph.specs.Part.{GraphPart}
 use Rattle.graph_theory.specs.Connected.{IsConnected}
 use Rattle.faces.specs.Euler.{IsPlaneSystem}
@@ -80,4 +80,4 @@ returns-in-Err-Parallel c =
     let seen = seen-plane v c.outcome.result.now p c.outcome.ensures.view c.outcome.ensures.right c.in-Plane.is in
     text-map c.line.result (λ text. text ≡ code_text (Parallel c.edge.result c.edge-in-Err-Parallel.result)) (λ text. TellsBlock v.tree v.entry parallel_codes (IsDrawingAnswer c.args.b) text)
     (λ text e. parallel-told v p seen c.args.b c.part-part.result.now f.first f.second c.edge.result c.edge-in-Err-Parallel.result text c.part-part.ensures
-        (found-pair v p seen c.graph.result.now f.field-0 f.first f.second c.graph.ensures.value f.field-0-is f.ensures.fault) c.edge.ensures c.edge-in-Err-Parallel.ensures e) c.line.ensures
+    (found-pair v p seen c.graph.result.now f.field-0 f.first f.second c.graph.ensures.value f.field-0-is f.ensures.fault) c.edge.ensures c.edge-in-Err-Parallel.ensures e) c.line.ensures
