@@ -5,3 +5,4 @@ pub mod Checked
 pub mod Around
 pub mod SameEnds
 pub mod OfMaps
+pub mod TwoVertices

@@ -1,5 +1,5 @@
 -- The points of a triangulation that is drawn under its contour are a drawing of the graph that it extends.
-use Rattle.std.proofs.Common.{◌≡◌, ◌≢◌, ℕ, ◌+◌, ◌*◌, ◌/◌, ◌%◌, ◌<◌, ◌≤◌, ◌⊎◌, inl, inr, Bool, true, false, ◌==◌, if◌then◌else◌, nat_lt, get_or, List, [], ◌∷◌, ◌++◌, length, map, filter, All, arith, refl, sym, ap, ap₂, ◌∙◌, subst}
+use Rattle.std.proofs.Common.{◌≡◌, ◌≢◌, ℕ, ◌+◌, ◌*◌, ◌/◌, ◌%◌, ◌<◌, ◌≤◌, ◌⊎◌, inl, inr, Bool, true, false, ◌==◌, if◌then◌else◌, nat_lt, get_or, not, take, List, [], ◌∷◌, ◌++◌, length, map, filter, All, arith, refl, sym, ap, ap₂, ◌∙◌, subst}
 use Rattle.std.proofs.lemmas.Bool.{cases_Bool, cases_eq, both_ways, eqb-true, eqb-false, eq-eqb, ne_eqb, lt-ltb, ltb-true}
 use Rattle.std.proofs.lemmas.List.{get_or_default, get_or_append_left, length-append}
 use Rattle.std.proofs.lemmas.Simd.{map-map}
@@ -30,11 +30,13 @@ use Rattle.plane_points.specs.Segments.{weighted, times}
 use Rattle.plane_points.proofs.Laws.{parts_go_around}
 use Rattle.triangulations.specs.Triangulation.{IsTriangulated, Extends, IsTriangulation}
 use Rattle.canonical_orders.specs.Contours.{stays_dart, darts_around}
+use Rattle.canonical_orders.specs.Order.{Removed, stays_after}
 use Rattle.stacked_maps.specs.Drawn.{start_of, end_of, IsEndOf, IsDrawnUnder}
 use Rattle.stacked_maps.proofs.Lists.{map-alike, counter-none}
 use Rattle.stacked_maps.proofs.Darts.{permutes, ring-next, stays-from}
 use Rattle.stacked_maps.proofs.Meetings.{passes}
 use Rattle.grid_drawing.specs.Drawing.{point_at, along, IsCommonEnd, points_around, IsDrawing}
+use Rattle.grid_drawing.specs.Grid.{IsGridDrawing}
 use Rattle.grid_drawing.specs.Laws.{DrawnIsDrawing}
 
 -- each vertex of a triangulation has a dart
@@ -190,3 +192,19 @@ module _ (g : Multigraph) (r : List (List ℕ)) (m : ℕ) (h : Multigraph) (next
 
 pub drawn_is_drawing : DrawnIsDrawing
 drawn_is_drawing g r m h next previous base stays contour points graph system t all w each = of-map g r m h next previous base stays contour points graph system t all w each
+
+-- the drawing of a triangulation in which no vertex was removed yet, on the grid
+pub grid-drawn : (g : Multigraph) (r : List (List ℕ)) (m : ℕ) (h : Multigraph) (next previous : ℕ → ℕ) (order : List Removed) (contour : List ℕ) (points : List (ℕ × ℕ)) → IsGraph g → IsRotationSystem g r → 3 ≤ g.vertex_count
+    → IsTriangulation g r m h next previous → IsDrawnUnder m h next 0 (stays_after h order 0) contour (point_at points) → length points ≡ g.vertex_count
+    → ((v : ℕ) → v < g.vertex_count → (point_at points v).0 + 4 ≤ 2 * g.vertex_count) → ((v : ℕ) → v < g.vertex_count → (point_at points v).1 + 2 ≤ g.vertex_count) → IsGridDrawing g r points
+grid-drawn g r m h next previous order contour points graph system three t w each wide high = record {
+  drawing = drawn_is_drawing g r m h next previous 0 (stays_after h order 0) contour points graph system t stays w each;
+  grid = record { wide = λ _. wide; high = λ _. high; two = λ e. absurd (omega (arith, three, e)) };
+}
+  where
+    stays : (v : ℕ) → v < g.vertex_count → stays_after h order 0 v ≡ true
+    stays v l = rw (lt-ltb v h.vertex_count (subst (λ (n : ℕ). v < n) (sym t.extends.vertices) l)) (ap (λ (k : List Removed). not (is_member v (map (λ w. w.0) k))) (take_zero order))
+      where
+        take_zero : (l : List Removed) → take 0 l ≡ []
+        take_zero [] = refl
+        take_zero (x ∷ l) = refl

@@ -5,7 +5,7 @@
 // it higher; all points of segments are under it; segments meet in common ends only; and the darts around each vertex that stay are met
 // counterclockwise. The base alone is such a drawing. A vertex that overlooks its neighbours, which are a stretch of the contour, is
 // stacked on it (de Fraysseix, Pach and Pollack 1990), and all this is kept. What stacked_points proves of one point over a contour of
-// points is led over to the darts of the map here.
+// points is carried over to the darts of the map here.
 //
 // Why it is kept: a new segment meets an old one only where its lower end is, and no old segment goes through the point of a third
 // vertex, so this end is one of the old segment. New segments lie in different directions. Around a neighbour, the darts that stay begin
