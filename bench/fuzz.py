@@ -223,7 +223,7 @@ def graph_of(pairs):
 # The script. In the forms N is a number below 2^32, T one from 1 to 10,000, R one below 2^128, _ blanks.
 
 FORMS = ["euler", "euler_ROT", "take_N", "take_N_ROT", "convert_N_to", "convert_N_to_ROT", "convert_N_rank_R", "goto_N_R", "list_N_T", "undo",
-         "redo", "gml"] + [word + "_N" for word in ("show", "faces", "mirror", "first", "next", "count", "rank")] + [
+         "redo", "gml"] + [word + "_N" for word in ("show", "faces", "mirror", "first", "next", "count", "rank", "longest", "draw")] + [
              word + "_N_N" for word in ("flip", "lock", "unlock")] + [r"permute_N_N(?:_N)+"]
 ENTRY = r"\d+~:~(?:\d+(?:_\d+)*)?"
 
@@ -286,7 +286,7 @@ def due(graph, script):
     return 0, run[0], *found, words
 
 
-ANSWERS = {"euler": "euler", "show": "rotation", "faces": "faces", "list": "list", "count": "count", "rank": "rank", "convert": "moves", "gml": "gml"}
+ANSWERS = {"euler": "euler", "show": "rotation", "faces": "faces", "list": "list", "count": "count", "rank": "rank", "convert": "moves", "longest": "longest", "draw": "draw", "gml": "gml"}
 HEAD = "cut ", "block ", "node ", "planar ", "nonplanar ", "path "
 
 
@@ -313,8 +313,9 @@ def wrong_report(out, pairs, ids, ends, words):
             text, place = out[place:place + int(answer[1])], place + int(answer[1])
             if wrong := wrong_start(pairs, text, ends):
                 return wrong
-        elif answer[0] in ("faces", "list", "moves"):
-            kinds = {"faces": ("face",), "list": ("rotation",), "moves": ("flip", "permute")}[answer[0]]
+        elif answer[0] in ("faces", "list", "moves", "longest", "draw"):
+            answer = line().split() if word == "longest" else answer
+            kinds = {"faces": ("face",), "list": ("rotation",), "moves": ("flip", "permute"), "draw": ("point",)}[answer[0]]
             if not all(line().split()[0] in kinds for _ in range(int(answer[-1]))):
                 return f"command {number}, {word}, has too few lines"
             if word == "list" and line() not in ("more", "end"):

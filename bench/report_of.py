@@ -2,8 +2,8 @@
 """report_of.py: the report that the program must print for a GML file and a script, by the slow definitions of embeddings.py.
 
   report_of.py GRAPH SCRIPT              prints the report; for a certificate, which is free, there is a line `nonplanar B ?`
-                                         and for moves that are free, of `longest`, a line `moves ?`
-  report_of.py GRAPH SCRIPT REPORT       compares a printed report with it, and checks its certificates and free moves
+                                         and for moves and points that are free, of `longest` and `draw`, a line `moves ?` or `point ?`
+  report_of.py GRAPH SCRIPT REPORT       compares a printed report with it, and checks its certificates, free moves and free points
   --composed                             finds the lists by composing skeletons even where all rotation systems could be tried
 
 Small blocks are listed by trying all their rotation systems, others by composing those of their skeletons. A graph file that
@@ -13,6 +13,7 @@ import re
 import sys
 
 import head_of
+from drawn import least_parallel, points_of, wrong_drawing
 from embeddings import (OVER, Block, Composed, choice, choices, faces, flip, from_least, full_list, is_plane, mirror, move, moves_between,
                         numbered, permute, rotation_total, runs, text_of)
 
@@ -141,7 +142,7 @@ def command(line):
         return ("euler", rotation_of(after(1)))
     if name in ("undo", "redo", "gml") and not rest:
         return (name,)
-    if name in ("show", "faces", "mirror", "first", "next", "count", "rank", "longest") and len(rest) == 1:
+    if name in ("show", "faces", "mirror", "first", "next", "count", "rank", "longest", "draw") and len(rest) == 1:
         return (name, number(rest[0]))
     if name in ("flip", "lock", "unlock") and len(rest) == 2:
         return (name, number(rest[0]), number(rest[1]))
@@ -245,6 +246,7 @@ def longest(block, rotation):
 
 class FreeMoves:
     """Any moves of a block from `now` to a plane rotation system with a face of this length."""
+    shown = b"moves ?\n"
 
     def __init__(self, block, now, length):
         self.block, self.now, self.length = block, now, length
@@ -269,6 +271,24 @@ class FreeMoves:
             there = move(self.block, m, there)
         right = is_plane(self.block, there) and longest(self.block, there) == self.length and moves_between(self.block, self.now, there) == found
         return printed[match.end():] if right else None
+
+
+class FreePoints:
+    """Any points of a block that draw it in the order `now`."""
+
+    def __init__(self, b, block, now):
+        self.b, self.block, self.now = b, block, now
+        self.shown = b"draw %d %d\npoint ?\n" % (b, len(block.vertices))
+
+    def __eq__(self, other):
+        return isinstance(other, FreePoints) and (self.b, self.block.edges, self.now) == (other.b, other.block.edges, other.now)
+
+    def read(self, printed):
+        """What is printed after such points; None where they are not such."""
+        lines = printed.split(b"\n", len(self.block.vertices) + 1)
+        points = points_of([line.decode("latin-1") for line in lines[:-1]])
+        right = lines[0] == b"draw %d %d" % (self.b, len(self.block.vertices)) and points and wrong_drawing(self.block.edges, self.now, points) is None
+        return lines[-1] if right else None
 
 
 def bad_vertex(at, entries):
@@ -472,6 +492,15 @@ class Session:
         length = max(longest(block, member) for member in lists.every())
         return [f"longest {length}", "moves 0" if longest(block, now) == length else FreeMoves(block, now, length)]
 
+    def do_draw(self, b, block, lists, now, locked):
+        """Of one edge the points are determined; locks do not matter."""
+        pair = least_parallel(block.edges)
+        if pair:
+            raise Refused(13, *pair)
+        if len(block.vertices) == 2:
+            return [f"draw {b} 2"] + [f"point {v} {place} 0" for place, v in enumerate(sorted(block.vertices))]
+        return [FreePoints(b, block, now)]
+
     def do_convert(self, b, block, lists, now, locked, rank):
         count = self.total(lists, now, locked)
         if rank >= count:
@@ -502,7 +531,7 @@ def report(graph, script, composed):
 
 
 def as_bytes(lines):
-    return b"".join(line if isinstance(line, bytes) else b"moves ?\n" if isinstance(line, FreeMoves) else line.encode() + b"\n" for line in lines)
+    return b"".join(line if isinstance(line, bytes) else line.shown if isinstance(line, (FreeMoves, FreePoints)) else line.encode() + b"\n" for line in lines)
 
 
 # Certificates.
@@ -553,10 +582,10 @@ def compare(wanted, printed, graph):
                 return f"the certificate of block {b} is none"
             printed = printed[match.end():]
             continue
-        if isinstance(line, FreeMoves):
+        if isinstance(line, (FreeMoves, FreePoints)):
             rest = line.read(printed)
             if rest is None:
-                return f"wanted moves to a face of length {line.length}, printed {printed[:60]!r}"
+                return f"wanted {line.shown!r}, printed {printed[:60]!r}"
             printed = rest
             continue
         text = line if isinstance(line, bytes) else line.encode() + b"\n"

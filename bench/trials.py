@@ -18,7 +18,7 @@ import report_of
 from embeddings import is_block, numbered, rotation_total, text_of
 
 # Each as often as it is to be drawn.
-NAMES = "show faces flip flip permute permute mirror first next next list count rank goto convert convert_to take lock lock unlock undo undo redo longest longest euler gml gml".split()
+NAMES = "show faces flip flip permute permute mirror first next next list count rank goto convert convert_to take lock lock unlock undo undo redo longest longest draw draw euler gml gml".split()
 # Commands on a block that is not there, where more than the block is named.
 NO_BLOCK = {"flip": "flip {} 0", "lock": "lock {} 0", "unlock": "unlock {} 0", "permute": "permute {} 0 0", "list": "list {} 1",
             "goto": "goto {} 0", "convert": "convert {} rank 0", "convert_to": "convert {} to 0: 0", "take": "take {} 0: 0"}

@@ -1,4 +1,4 @@
-# Two complete graphs on four vertices with the common edge 0-1; at vertex 5 the graph K3,3 on 5 to 10; and a loose vertex 11.
+# Two complete graphs on four vertices with the common edge 0-1; at vertex 5 the graph K3,3 on 5 to 10; a loose vertex 11; and two edges between 12 and 13.
 graph [
   node [ id 0 ]
   node [ id 1 ]
@@ -12,6 +12,8 @@ graph [
   node [ id 9 ]
   node [ id 10 ]
   node [ id 11 ]
+  node [ id 12 ]
+  node [ id 13 ]
   edge [ source 0 target 1 ]
   edge [ source 0 target 2 ]
   edge [ source 0 target 3 ]
@@ -32,4 +34,6 @@ graph [
   edge [ source 10 target 6 ]
   edge [ source 10 target 7 ]
   edge [ source 10 target 8 ]
+  edge [ source 12 target 13 ]
+  edge [ source 13 target 12 ]
 ]

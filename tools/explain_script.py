@@ -12,7 +12,7 @@ FORMS = {
     "euler": "euler ROT", "show": "show B", "faces": "faces B", "flip": "flip B K", "permute": "permute B K KEYS", "mirror": "mirror B",
     "first": "first B", "next": "next B", "list": "list B N", "lock": "lock B K", "goto": "goto B R", "convert": "convert B rank R, or convert B to ROT",
     "take": "take B ROT", "undo": "undo", "redo": "redo", "gml": "gml", "count": "count B", "rank": "rank B", "unlock": "unlock B K",
-    "longest": "longest B",
+    "longest": "longest B", "draw": "draw B",
 }
 ARGUMENTS = {"B": ("a block", 2 ** 32), "K": ("a node", 2 ** 32), "N": ("the number of members", 10_001), "R": ("a rank", 2 ** 128)}
 CODES = {
@@ -28,6 +28,7 @@ CODES = {
     10: "the list of the block has 2^128 members or more",
     11: "the ranks are from 0, and the list has {0} members",
     12: "node {0} is locked: unlock it first",
+    13: "edges {0} and {1} have the same ends, so straight lines cannot draw both",
 }
 
 

@@ -23,11 +23,11 @@ from typing import Any, Hashable, Iterable, Optional, Sequence, Union
 import networkx as nx
 
 from spqr_program import ProgramError, Ran, Refused, program_path, run_bytes, run_files
-from spqr_report import (Answer, Answered, Block, Certificate, Command, Count, Document, End, Ends, Error, Euler, Faces, Item, Listed,
+from spqr_report import (Answer, Answered, Block, Certificate, Command, Count, Document, Drawing, End, Ends, Error, Euler, Faces, Item, Listed,
                          Lists, Longest, Move, Moves, Node, Ok, Path, Rank, Report, ReportError, Rotation, commands_of, lists_of_text,
                          read_report, text_of_lists)
 
-__all__ = ["Answer", "Answered", "Block", "Certificate", "Command", "Count", "Document", "End", "Ends", "Error", "Euler", "Faces",
+__all__ = ["Answer", "Answered", "Block", "Certificate", "Command", "Count", "Document", "Drawing", "End", "Ends", "Error", "Euler", "Faces",
            "Item", "Listed", "Lists", "Longest", "Move", "Moves", "Named", "Node", "NotPlanar", "Ok", "Path", "ProgramError", "Ran", "Rank",
            "Refused", "Report", "ReportError", "Rotation", "block_cut_tree", "block_graph", "commands_of", "drop_vertex", "embed",
            "face_with", "gml_of", "gml_of_ends", "lists_of", "lists_of_text", "planar_embedding", "program_path", "read_report", "run", "run_bytes", "run_files",

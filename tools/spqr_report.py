@@ -147,6 +147,13 @@ class Longest:
 
 
 @dataclass(frozen=True)
+class Drawing:
+    """The answer of `draw`: the point of each vertex of the block, x to the right and y upwards."""
+    block: int
+    points: dict[int, tuple[int, int]]
+
+
+@dataclass(frozen=True)
 class Document:
     """The answer of `gml`: the graph file in the written layout."""
     text: bytes
@@ -169,7 +176,7 @@ class Error:
     numbers: tuple[int, ...]
 
 
-Answer = Union[Euler, Rotation, Faces, Listed, Count, Rank, Moves, Longest, Document, Ok, End, Error]
+Answer = Union[Euler, Rotation, Faces, Listed, Count, Rank, Moves, Longest, Drawing, Document, Ok, End, Error]
 
 
 @dataclass(frozen=True)
@@ -385,6 +392,12 @@ def _longest(reader: _Reader, command: Command) -> Longest:
     return Longest(length, _moves(reader, command).moves)
 
 
+def _drawing(reader: _Reader, _: Command) -> Drawing:
+    block, total = map(int, reader.words("draw"))
+    lines = [tuple(map(int, reader.words("point"))) for _ in range(total)]
+    return Drawing(block, {vertex: (x, y) for vertex, x, y in lines})
+
+
 def _move(words: list[str], block: Optional[int]) -> Move:
     if block is None:
         raise ReportError("moves answer a command without a block")
@@ -413,6 +426,7 @@ _ANSWERS: dict[str, Callable[[_Reader, Command], Answer]] = {
     "rank": lambda reader, _: Rank(int(reader.words("rank")[0])),
     "moves": _moves,
     "longest": _longest,
+    "draw": _drawing,
     "gml": lambda reader, _: Document(reader.take(int(reader.words("gml")[0]))),
     "ok": _bare(Ok()),
     "end": _bare(End()),

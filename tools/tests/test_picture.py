@@ -14,7 +14,7 @@ from typing import Iterator
 import networkx as nx
 
 import spqr_client as spqr
-from drawing import layout, layout_of_points, svg
+from drawing import MARGIN, UNIT, layout, layout_of_points, svg
 from graphs import graphs
 
 TOOLS = Path(__file__).resolve().parent.parent
@@ -152,6 +152,15 @@ class Pictures(unittest.TestCase):
         self.assertLess(heights["3"], heights["0"], "y is upwards")
         drawn = layout_of_points("point 0 0 0\npoint 1 8 0\n", {0: (0, 1), 1: (0, 1), 2: (0, 1)})
         self.assertEqual(len(set(drawn.bends.values())), 2)
+
+    def test_points_of_the_program(self) -> None:
+        graph = (EXAMPLES / "k4.gml").read_bytes()
+        answer = spqr.run(graph, "draw 0").answers[0]
+        picture = ET.fromstring(tool("picture", EXAMPLES / "k4.gml").stdout)
+        self.check(picture, spqr.run(graph).ends(), 4)
+        places = {int(circle.attrib["data-vertex"]): (int(circle.attrib["cx"]), int(circle.attrib["cy"])) for circle in picture.iter(f"{SPACE}circle")}
+        left, top = min(x for x, _ in answer.points.values()), max(y for _, y in answer.points.values())
+        self.assertEqual(places, {vertex: ((x - left) * UNIT[0] + MARGIN, (top - y) * UNIT[1] + MARGIN) for vertex, (x, y) in answer.points.items()})
 
     def test_what_cannot_be_drawn(self) -> None:
         for words, said in [((EXAMPLES / "k5_certificate.gml",), b"subdivision of K5 at"), ((EXAMPLES / "loop.gml",), b"refused graph loop 2"),

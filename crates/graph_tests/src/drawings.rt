@@ -1,7 +1,7 @@
 // Points for the vertices of small graphs, and whether they are a straight-line drawing.
 
 use crate::rotation_systems::lists_of;
-use grid_drawing::{Points, is_drawing};
+use grid_drawing::{Points, first_parallel, is_drawing};
 use multigraph::Graph;
 use rotations::Rotation;
 use std::alloc::Global;
@@ -183,5 +183,54 @@ fn points_by_coordinate(rt: HostRuntime) -> Result<(), Fail> {
         assert_eq!(rt; (points.x(1), points.y(1)), (5, 6));
     }
     assert_eq!(rt; points.as_slice(), [(3, 4), (5, 6)].as_slice());
+    Ok(())
+}
+
+// A graph, and its least pair of edges with the same ends.
+struct Parallels {
+    vertices: u32,
+    ends: &'static [(u32, u32)],
+    pair: Option<(u32, u32)>,
+}
+
+static PARALLELS: [Parallels; 6] = [
+    Parallels {
+        vertices: 3,
+        ends: &[(0, 1), (1, 2), (1, 2), (0, 1)],
+        pair: Some((0, 3)),
+    },
+    Parallels {
+        vertices: 2,
+        ends: &[(0, 1), (1, 0), (0, 1)],
+        pair: Some((0, 1)),
+    },
+    Parallels {
+        vertices: 4,
+        ends: &[(0, 1), (0, 2), (0, 3), (3, 0)],
+        pair: Some((2, 3)),
+    },
+    Parallels {
+        vertices: 3,
+        ends: &[(0, 1), (2, 0), (0, 2), (1, 2), (1, 0)],
+        pair: Some((0, 4)),
+    },
+    Parallels {
+        vertices: 3,
+        ends: &[(0, 1), (1, 2), (2, 0)],
+        pair: None,
+    },
+    Parallels {
+        vertices: 1,
+        ends: &[],
+        pair: None,
+    },
+];
+
+#[test]
+fn least_pairs_of_parallel_edges(rt: HostRuntime) -> Result<(), Fail> {
+    for row in &PARALLELS {
+        let g = Graph::build(rt.alloc(), row.vertices, row.ends)?;
+        assert_eq!(rt; first_parallel(&g), row.pair);
+    }
     Ok(())
 }

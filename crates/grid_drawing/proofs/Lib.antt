@@ -3,3 +3,6 @@ pub mod Pairs
 pub mod Ends
 pub mod Checked
 pub mod Around
+pub mod SameEnds
+pub mod OfMaps
+pub mod TwoVertices

@@ -11,7 +11,7 @@ use Rattle.spqr_script.specs.declared.word.Word.{Word}
 use Rattle.spqr_script.specs.declared.word.Word.TheVariants as word
 use Rattle.spqr_script.specs.declared.command.Command.{Command}
 use Rattle.spqr_script.specs.declared.command.Command.TheVariants as command
-use Rattle.spqr_script.specs.declared.command.Command.TheVariants.{Euler, Show, Faces, Flip, Permute, Mirror, First, Next, Goto, ConvertRank, ConvertTo, Take, Undo, Redo, Gml, Count, Rank, Longest, Lock, Unlock}
+use Rattle.spqr_script.specs.declared.command.Command.TheVariants.{Euler, Show, Faces, Flip, Permute, Mirror, First, Next, Goto, ConvertRank, ConvertTo, Take, Undo, Redo, Gml, Count, Rank, Longest, Draw, Lock, Unlock}
 use Rattle.spqr_script.proofs.Words.{found_spelled, word_found}
 use Rattle.spqr_script.proofs.Forms.{alone_spelled, alone_read, with_rotation_spelled, with_rotation_read, block_spelled, block_read, node_spelled, node_read, keys_spelled, keys_read, listed_spelled, listed_read, rank_spelled, rank_read, rotation_behind_spelled, rotation_read_behind, convert_spelled, convert_rank_read, convert_to_read}
 
@@ -79,6 +79,9 @@ arguments_spelled word.Rank tokens c e =
 arguments_spelled word.Longest tokens c e =
     let p = block_spelled Longest tokens c e in
     subst (IsSpelled word.Longest tokens) p.1 (refl, p.2)
+arguments_spelled word.Draw tokens c e =
+    let p = block_spelled Draw tokens c e in
+    subst (IsSpelled word.Draw tokens) p.1 (refl, p.2)
 arguments_spelled word.Lock tokens c e =
     let p = node_spelled Lock tokens c e in
     subst (IsSpelled word.Lock tokens) p.2 (refl, p.3)
@@ -107,6 +110,7 @@ arguments_read tokens Gml s = alone_read Gml tokens s
 arguments_read tokens (Count b) s = block_read Count tokens b s
 arguments_read tokens (Rank b) s = block_read Rank tokens b s
 arguments_read tokens (Longest b) s = block_read Longest tokens b s
+arguments_read tokens (Draw b) s = block_read Draw tokens b s
 arguments_read tokens (Lock b k) s = node_read Lock tokens b k s
 arguments_read tokens (Unlock b k) s = node_read Unlock tokens b k s
 

@@ -15,5 +15,6 @@ mod Rotations
 pub mod Scripts
 pub mod Within
 mod RotationText
+mod PointText
 pub mod PartNodes
 mod Printed

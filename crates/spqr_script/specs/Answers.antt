@@ -10,3 +10,4 @@ pub mod Rotation
 pub mod Faces
 pub mod Moves
 pub mod Longest
+pub mod Draw

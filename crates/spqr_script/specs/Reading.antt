@@ -1,7 +1,6 @@
 -- Reading as functions on lists: what the functions of the reader return. proofs/ shows that it agrees with `Script`.
-use Rattle.std.specs.Prelude.{◌≡◌, ℕ, ◌+◌, ◌-◌, ◌*◌, Bool, not, ◌&&◌, ◌||◌, ◌==◌, nat_lt, if◌then◌else◌, List, [], ◌∷◌, ◌++◌, length, Option, Some, None, option_map, Result, Ok, Err, bytes_eq, codes}
+use Rattle.std.specs.Prelude.{◌≡◌, ℕ, ◌+◌, ◌-◌, Bool, not, ◌&&◌, ◌||◌, ◌==◌, nat_lt, if◌then◌else◌, List, [], ◌∷◌, ◌++◌, length, Option, Some, None, option_map, Result, Ok, Err, bytes_eq, codes}
 use Rattle.std.specs.Option.{option_and_then}
-use Rattle.std.specs.Char.{is_ascii_digit}
 use Rattle.std.specs.List.{slice_split}
 use Rattle.gml_graph.specs.Start.{with_first}
 use Rattle.rotations.specs.Entries.{entry}
@@ -16,7 +15,7 @@ use Rattle.spqr_script.specs.declared.word.Word.{Word}
 use Rattle.spqr_script.specs.declared.word.Word.TheVariants as word
 use Rattle.spqr_script.specs.declared.command.Command.{Command}
 use Rattle.spqr_script.specs.declared.command.Command.TheVariants as command
-use Rattle.spqr_script.specs.declared.command.Command.TheVariants.{Euler, Show, Faces, Flip, Permute, Mirror, First, Next, Goto, ConvertRank, ConvertTo, Take, Undo, Redo, Gml, Count, Rank, Longest, Lock, Unlock}
+use Rattle.spqr_script.specs.declared.command.Command.TheVariants.{Euler, Show, Faces, Flip, Permute, Mirror, First, Next, Goto, ConvertRank, ConvertTo, Take, Undo, Redo, Gml, Count, Rank, Longest, Draw, Lock, Unlock}
 
 -- the number of a vertex, an edge, a block, a node or a key
 abbrev pub index_of : List ℕ → Option ℕ
@@ -128,6 +127,7 @@ arguments_of word.Gml tokens = alone Gml tokens
 arguments_of word.Count tokens = index_then (λ b. alone (Count b)) tokens
 arguments_of word.Rank tokens = index_then (λ b. alone (Rank b)) tokens
 arguments_of word.Longest tokens = index_then (λ b. alone (Longest b)) tokens
+arguments_of word.Draw tokens = index_then (λ b. alone (Draw b)) tokens
 arguments_of word.Lock tokens = index_then (λ b. index_then (λ k. alone (Lock b k))) tokens
 arguments_of word.Unlock tokens = index_then (λ b. index_then (λ k. alone (Unlock b k))) tokens
 

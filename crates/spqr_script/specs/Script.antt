@@ -9,7 +9,7 @@ use Rattle.spqr_script.specs.declared.word.Word.{Word}
 use Rattle.spqr_script.specs.declared.word.Word.TheVariants as word
 use Rattle.spqr_script.specs.declared.command.Command.{Command}
 use Rattle.spqr_script.specs.declared.command.Command.TheVariants as command
-use Rattle.spqr_script.specs.declared.command.Command.TheVariants.{Euler, Show, Faces, Flip, Permute, Mirror, First, Next, Goto, ConvertRank, ConvertTo, Take, Undo, Redo, Gml, Count, Rank, Longest, Lock, Unlock}
+use Rattle.spqr_script.specs.declared.command.Command.TheVariants.{Euler, Show, Faces, Flip, Permute, Mirror, First, Next, Goto, ConvertRank, ConvertTo, Take, Undo, Redo, Gml, Count, Rank, Longest, Draw, Lock, Unlock}
 
 -- the number of a vertex, an edge, a block, a node or a key
 abbrev pub SpellsIndex : List ℕ → ℕ → Type 0
@@ -71,6 +71,7 @@ word_of Gml = word.Gml
 word_of (Count b) = word.Count
 word_of (Rank b) = word.Rank
 word_of (Longest b) = word.Longest
+word_of (Draw b) = word.Draw
 word_of (Lock b k) = word.Lock
 word_of (Unlock b k) = word.Unlock
 
@@ -96,6 +97,7 @@ SpellsArguments tokens Gml = tokens ≡ []
 SpellsArguments tokens (Count b) = SpellsIndices tokens (b ∷ [])
 SpellsArguments tokens (Rank b) = SpellsIndices tokens (b ∷ [])
 SpellsArguments tokens (Longest b) = SpellsIndices tokens (b ∷ [])
+SpellsArguments tokens (Draw b) = SpellsIndices tokens (b ∷ [])
 SpellsArguments tokens (Lock b k) = SpellsIndices tokens (b ∷ k ∷ [])
 SpellsArguments tokens (Unlock b k) = SpellsIndices tokens (b ∷ k ∷ [])
 

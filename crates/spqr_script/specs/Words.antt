@@ -2,7 +2,7 @@
 use Rattle.std.specs.Prelude.{ℕ, if◌then◌else◌, List, [], ◌∷◌, Option, Some, None, bytes_eq, codes}
 use Rattle.spqr_script.specs.declared.word.Word.{Word}
 use Rattle.spqr_script.specs.declared.word.Word.TheVariants as word
-use Rattle.spqr_script.specs.declared.word.Word.TheVariants.{Euler, Show, Faces, Flip, Permute, Mirror, First, Next, Goto, Convert, Take, Undo, Redo, Gml, Count, Rank, Longest, Lock, Unlock}
+use Rattle.spqr_script.specs.declared.word.Word.TheVariants.{Euler, Show, Faces, Flip, Permute, Mirror, First, Next, Goto, Convert, Take, Undo, Redo, Gml, Count, Rank, Longest, Draw, Lock, Unlock}
 
 -- how a word is spelled
 abbrev pub spelling : Word → List ℕ
@@ -24,6 +24,7 @@ spelling Gml = codes "gml"
 spelling Count = codes "count"
 spelling Rank = codes "rank"
 spelling Longest = codes "longest"
+spelling Draw = codes "draw"
 spelling Lock = codes "lock"
 spelling Unlock = codes "unlock"
 
@@ -31,7 +32,7 @@ spelling Unlock = codes "unlock"
 abbrev pub all_words : List Word
 all_words =
     Euler ∷ Show ∷ Faces ∷ Flip ∷ Permute ∷ Mirror ∷ First ∷ Next ∷ word.List ∷ Goto
-    ∷ Convert ∷ Take ∷ Undo ∷ Redo ∷ Gml ∷ Count ∷ Rank ∷ Longest ∷ Lock ∷ Unlock ∷ []
+    ∷ Convert ∷ Take ∷ Undo ∷ Redo ∷ Gml ∷ Count ∷ Rank ∷ Longest ∷ Draw ∷ Lock ∷ Unlock ∷ []
 
 -- the first of some words that is spelled so
 unfoldable pub word_among : List Word → List ℕ → Option Word

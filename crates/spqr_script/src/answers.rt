@@ -1,6 +1,7 @@
 // The texts of the answers to commands, each in a file of its own.
 mod change;
 mod count;
+mod draw;
 mod error;
 mod euler;
 mod face_list;
@@ -13,6 +14,7 @@ mod rotation;
 
 pub use change::{end_line, ok_line};
 pub use count::count_line;
+pub use draw::draw_lines;
 pub use error::error_line;
 pub use euler::euler_line;
 pub use face_list::faces_lines;

@@ -99,6 +99,7 @@ pub(crate) fn read_arguments(
         Word::Count => Ok(block(text).map(Command::Count)),
         Word::Rank => Ok(block(text).map(Command::Rank)),
         Word::Longest => Ok(block(text).map(Command::Longest)),
+        Word::Draw => Ok(block(text).map(Command::Draw)),
         Word::Lock => Ok(read_lock(text)),
         Word::Unlock => Ok(read_unlock(text)),
     }

@@ -47,6 +47,8 @@ pub enum Command {
     Rank(u32),
     /// `longest B`: print the length of the longest face that block B can have, and moves that lead to one.
     Longest(u32),
+    /// `draw B`: print points for the vertices of block B that draw it with straight edges.
+    Draw(u32),
     /// `lock B K`: keep the choice of node K of block B.
     Lock(u32, u32),
     /// `unlock B K`: let the choice of node K of block B change again.

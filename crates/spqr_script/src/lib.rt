@@ -24,8 +24,8 @@ mod tokens;
 mod word;
 
 pub use answers::{
-    count_line, end_line, error_line, euler_line, faces_lines, gml_lines, list_line, longest_lines,
-    more_line, moves_lines, ok_line, push_rotation_line, rank_line, rotation_line,
+    count_line, draw_lines, end_line, error_line, euler_line, faces_lines, gml_lines, list_line,
+    longest_lines, more_line, moves_lines, ok_line, push_rotation_line, rank_line, rotation_line,
 };
 pub use command::{Command, ScriptFault};
 pub use decimals::number;

@@ -41,6 +41,8 @@ pub enum Word {
     Rank,
     /// `longest`.
     Longest,
+    /// `draw`.
+    Draw,
     /// `lock`.
     Lock,
     /// `unlock`.
@@ -48,7 +50,7 @@ pub enum Word {
 }
 
 // Every word, each once.
-static WORDS: [Word; 20] = [
+static WORDS: [Word; 21] = [
     Word::Euler,
     Word::Show,
     Word::Faces,
@@ -67,6 +69,7 @@ static WORDS: [Word; 20] = [
     Word::Count,
     Word::Rank,
     Word::Longest,
+    Word::Draw,
     Word::Lock,
     Word::Unlock,
 ];
@@ -94,6 +97,7 @@ fn spelling(word: Word) -> &'static [u8]
         Word::Count => b"count",
         Word::Rank => b"rank",
         Word::Longest => b"longest",
+        Word::Draw => b"draw",
         Word::Lock => b"lock",
         Word::Unlock => b"unlock",
     }

@@ -30,6 +30,7 @@ use Rattle.spqr_session.proofs.ConvertCarried.{convert_to-answers, convert_to-on
 use Rattle.spqr_session.proofs.CountSteps.{count_step-answers, count_step-one, count_step-keeps, rank_step-answers, rank_step-one, rank_step-keeps, goto_step-answers, goto_step-one, goto_step-keeps, convert_step-answers, convert_step-one, convert_step-keeps}
 use Rattle.spqr_session.proofs.TakeCarried.{take-answers, take-one, take-keeps}
 use Rattle.spqr_session.proofs.LongestCarried.{longest-answers, longest-stays}
+use Rattle.spqr_session.proofs.DrawCarried.{draw-stays}
 
 -- each command that may not lack an answer has one in each state
 pub has-answer : (setting : Setting) (before : State) (command : Command) → IsSetting setting → IsState setting before → may_lack_answer command ≡ false → (text : List ℕ) × (after : State) × Step setting before command text after
@@ -50,6 +51,7 @@ has-answer setting before (command.List b n) is right sure = list-answers settin
 has-answer setting before (command.Count b) is right sure = count_step-answers setting b before is right
 has-answer setting before (command.Rank b) is right sure = rank_step-answers setting b before is right
 has-answer setting before (command.Longest b) is right sure = longest-answers setting b before is right
+has-answer setting before (command.Draw b) is right sure = absurd (true≢false sure)
 has-answer setting before (command.Goto b r) is right sure = goto_step-answers setting b before is right r
 has-answer setting before (command.ConvertRank b r) is right sure = convert_step-answers setting b before is right r
 has-answer setting before (command.ConvertTo b entries) is right sure = convert_to-answers setting b entries before is right
@@ -79,6 +81,7 @@ one-answer setting before (command.List b n) s t after other is right p q = told
 one-answer setting before (command.Count b) s t after other is right p q = told (count_step-one setting b before is right s t after other p q)
 one-answer setting before (command.Rank b) s t after other is right p q = told (rank_step-one setting b before is right s t after other p q)
 one-answer setting before (command.Longest b) s t after other is right p q = (λ closed. absurd (true≢false closed), longest-stays setting b before s after p ∙ sym (longest-stays setting b before t other q))
+one-answer setting before (command.Draw b) s t after other is right p q = (λ closed. absurd (true≢false closed), draw-stays setting b before s after p ∙ sym (draw-stays setting b before t other q))
 one-answer setting before (command.Goto b r) s t after other is right p q = told (goto_step-one setting b before is right r s t after other p q)
 one-answer setting before (command.ConvertRank b r) s t after other is right p q = told (convert_step-one setting b before is right r s t after other p q)
 one-answer setting before (command.ConvertTo b entries) s t after other is right p q = told (convert_to-one setting b entries before is right s t after other p q)
@@ -103,6 +106,7 @@ step-keeps setting before (command.List b n) text after is right p = list-keeps 
 step-keeps setting before (command.Count b) text after is right p = count_step-keeps setting b before is right text after p
 step-keeps setting before (command.Rank b) text after is right p = rank_step-keeps setting b before is right text after p
 step-keeps setting before (command.Longest b) text after is right p = subst (IsState setting) (sym (longest-stays setting b before text after p)) right
+step-keeps setting before (command.Draw b) text after is right p = subst (IsState setting) (sym (draw-stays setting b before text after p)) right
 step-keeps setting before (command.Goto b r) text after is right p = goto_step-keeps setting b before is right r text after p
 step-keeps setting before (command.ConvertRank b r) text after is right p = convert_step-keeps setting b before is right r text after p
 step-keeps setting before (command.ConvertTo b entries) text after is right p = convert_to-keeps setting b entries before is right text after p

@@ -36,6 +36,7 @@ pub mod TakePlans
 pub mod ConvertPlans
 pub mod GreatestFaces
 pub mod LongestCarried
+pub mod DrawCarried
 pub mod Chains
 pub mod Steps
 pub mod DisjointLists

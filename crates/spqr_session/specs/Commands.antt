@@ -14,3 +14,4 @@ pub mod Listing
 pub mod Take
 pub mod Convert
 pub mod Longest
+pub mod Draw

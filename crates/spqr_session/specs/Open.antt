@@ -3,13 +3,17 @@ use Rattle.std.specs.Prelude.{◌≡◌, ℕ, Bool, true, false, List, [], ◌�
 use Rattle.spqr_script.specs.declared.command.Command.{Command}
 use Rattle.spqr_script.specs.declared.command.Command.TheVariants as command
 
--- whether a command may have several texts in one state: `longest` has, since other moves may lead to a face of the same length
+-- whether a command may have several texts in one state: `longest` has, since other moves may lead to a face of the same length, and
+-- `draw` has, since other points may be a drawing
 abbrev pub leaves_open : Command → Bool
 leaves_open (command.Longest b) = true
+leaves_open (command.Draw b) = true
 leaves_open command = false
 
--- whether a command may have no answer in a state: each command has one
+-- whether a command may have no answer in a state: `draw` may, since no clause says that each block without parallel edges has a
+-- drawing on the grid; each other command has one
 abbrev pub may_lack_answer : Command → Bool
+may_lack_answer (command.Draw b) = true
 may_lack_answer command = false
 
 -- none of the commands leaves its text open

@@ -19,6 +19,7 @@ use Rattle.spqr_session.specs.Commands.Listing.{ListStep}
 use Rattle.spqr_session.specs.Commands.Take.{TakeStep}
 use Rattle.spqr_session.specs.Commands.Convert.{ConvertRankStep, ConvertToStep}
 use Rattle.spqr_session.specs.Commands.Longest.{LongestStep}
+use Rattle.spqr_session.specs.Commands.Draw.{DrawStep}
 
 -- a command gives this text and leads to this state
 abbrev pub Step : Setting → State → Command → List ℕ → State → Type 0
@@ -39,6 +40,7 @@ Step setting before (command.List b n) text after = ListStep setting b n before 
 Step setting before (command.Count b) text after = CountStep setting b before text after
 Step setting before (command.Rank b) text after = RankStep setting b before text after
 Step setting before (command.Longest b) text after = LongestStep setting b before text after
+Step setting before (command.Draw b) text after = DrawStep setting b before text after
 Step setting before (command.Goto b r) text after = GotoStep setting b r before text after
 Step setting before (command.ConvertRank b r) text after = ConvertRankStep setting b r before text after
 Step setting before (command.ConvertTo b entries) text after = ConvertToStep setting b entries before text after

@@ -8,9 +8,10 @@ ghost use Rattle.spqr_session.specs.Step.{Step};
 
 use crate::board::Board;
 use crate::commands::{
-    carry_convert_rank, carry_convert_to, carry_count, carry_euler, carry_faces, carry_first,
-    carry_flip, carry_gml, carry_goto, carry_list, carry_lock, carry_longest, carry_mirror,
-    carry_next, carry_permute, carry_rank, carry_redo, carry_show, carry_take, carry_undo,
+    carry_convert_rank, carry_convert_to, carry_count, carry_draw, carry_euler, carry_faces,
+    carry_first, carry_flip, carry_gml, carry_goto, carry_list, carry_lock, carry_longest,
+    carry_mirror, carry_next, carry_permute, carry_rank, carry_redo, carry_show, carry_take,
+    carry_undo,
 };
 use crate::scene::Scene;
 use spqr_script::Command;
@@ -52,6 +53,7 @@ pub(crate) fn carry_out(
         Command::Count(b) => carry_count(alloc, board.blocks(), *b),
         Command::Rank(b) => carry_rank(alloc, board.blocks(), *b),
         Command::Longest(b) => carry_longest(alloc, board.blocks(), *b),
+        Command::Draw(b) => carry_draw(alloc, board.blocks(), *b),
         Command::Lock(b, k) => carry_lock(alloc, board, *b, *k, true),
         Command::Unlock(b, k) => carry_lock(alloc, board, *b, *k, false),
     }

@@ -33,6 +33,8 @@ pub enum Code {
     RankOut(u128),
     /// 12: the choice of a locked node would change. The number is the node, the least where there are several.
     Locked(u32),
+    /// 13: two edges of the block have the same ends. The numbers are the least pair of such edges.
+    Parallel(u32, u32),
 }
 
 impl Code {
@@ -55,6 +57,7 @@ impl Code {
             Code::CountOver => error_line(alloc, 10, &[]),
             Code::RankOut(count) => error_line(alloc, 11, &[count]),
             Code::Locked(k) => error_line(alloc, 12, &[u128::from(k)]),
+            Code::Parallel(a, b) => error_line(alloc, 13, &[u128::from(a), u128::from(b)]),
         }
     }
 }

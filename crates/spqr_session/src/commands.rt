@@ -1,6 +1,7 @@
 // The commands: a file for each, or for a few that are alike, with the functions that carry them out.
 mod convert;
 mod count;
+mod draw;
 mod euler;
 mod flip;
 mod gml;
@@ -17,6 +18,7 @@ mod walk;
 
 pub(crate) use convert::{carry_convert_rank, carry_convert_to};
 pub(crate) use count::{carry_count, carry_rank};
+pub(crate) use draw::carry_draw;
 pub(crate) use euler::carry_euler;
 pub(crate) use flip::carry_flip;
 pub(crate) use gml::carry_gml;

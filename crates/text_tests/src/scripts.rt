@@ -28,7 +28,7 @@ fn outcome(alloc: Global, script: &str) -> Result<(usize, u32), AllocError> {
 }
 
 // Lines that are commands, each alone.
-static COMMANDS: [&str; 42] = [
+static COMMANDS: [&str; 43] = [
     "euler",
     "euler 0:",
     "euler 0: 0 1 2; 1: 0 4 3; 2: 1 3 5; 3: 2 5 4",
@@ -60,6 +60,7 @@ static COMMANDS: [&str; 42] = [
     "goto 0 340282366920938463463374607431768211455",
     "count 0",
     "longest 0",
+    "draw 0",
     "rank 0",
     "convert 0 rank 7",
     "convert 0 rank 0340282366920938463463374607431768211455",
@@ -84,7 +85,7 @@ fn lines_that_are_commands(rt: HostRuntime) -> Result<(), Fail> {
 }
 
 // Lines that are nearly commands.
-static NO_COMMANDS: [&str; 78] = [
+static NO_COMMANDS: [&str; 80] = [
     "EULER",
     "eule",
     "euler 0",
@@ -144,6 +145,8 @@ static NO_COMMANDS: [&str; 78] = [
     "count 0 0",
     "longest",
     "longest 0 0",
+    "draw",
+    "draw 0 0",
     "rank 0 0",
     "convert 0",
     "convert 0 rank",
@@ -587,6 +590,28 @@ fn lines_of_moves(rt: HostRuntime) -> Result<(), Fail> {
     assert_eq!(rt;
         longest_lines(alloc, 5, &part, &[])?.as_slice(),
         b"longest 5\nmoves 0\n".as_slice()
+    );
+    Ok(())
+}
+
+// The lines of a drawing; nothing where there is not one point for each vertex.
+fn points_text(alloc: Global, part: &Part, points: &[(u32, u32)]) -> Result<Vec<u8>, AllocError> {
+    if points.len() != part.graph().vertex_count() as usize {
+        return Ok(Vec::new(alloc));
+    }
+    draw_lines(alloc, 7, part, points)
+}
+
+#[test]
+fn lines_of_points(rt: HostRuntime) -> Result<(), Fail> {
+    let alloc = rt.alloc();
+    // An edge, and a triangle after it.
+    let g = Graph::build(alloc, 4, &[(0, 1), (1, 2), (2, 3), (3, 1)])?;
+    let part = g.part(alloc, &[1, 2, 3])?;
+    let lines = points_text(alloc, &part, &[(0, 0), (2, 0), (1, 4294967295)])?;
+    assert_eq!(rt;
+        lines.as_slice(),
+        b"draw 7 3\npoint 1 0 0\npoint 2 2 0\npoint 3 1 4294967295\n".as_slice()
     );
     Ok(())
 }

@@ -308,7 +308,7 @@ static MOVES: [Row; 10] = [
 ];
 
 // Graphs with scripts, and the answers to them.
-static LISTS: [Row; 18] = [
+static LISTS: [Row; 20] = [
     // One edge.
     Row {
         vertices: &[b"0", b"1"],
@@ -732,6 +732,51 @@ static LISTS: [Row; 18] = [
             ok\n\
             longest 6\n\
             moves 0\n",
+    },
+    // A drawing of one edge, and the codes; nothing changes.
+    Row {
+        vertices: &[b"0", b"1", b"2", b"3", b"4", b"5", b"6", b"7", b"8"],
+        edges: &[
+            (b"0", b"1"),
+            (b"1", b"2"),
+            (b"2", b"1"),
+            (b"3", b"6"),
+            (b"3", b"7"),
+            (b"3", b"8"),
+            (b"4", b"6"),
+            (b"4", b"7"),
+            (b"4", b"8"),
+            (b"5", b"6"),
+            (b"5", b"7"),
+            (b"5", b"8"),
+        ],
+        times: 1,
+        script: b"draw 0\n\
+            draw 1\n\
+            draw 2\n\
+            draw 3\n\
+            undo\n",
+        answers: b"draw 0 2\n\
+            point 0 0 0\n\
+            point 1 1 0\n\
+            error 13 1 2\n\
+            error 5\n\
+            error 1\n\
+            error 8\n",
+    },
+    // A triangle with two doubled edges: of the two pairs the one with the least edge is reported.
+    Row {
+        vertices: &[b"0", b"1", b"2"],
+        edges: &[
+            (b"0", b"1"),
+            (b"1", b"2"),
+            (b"2", b"0"),
+            (b"2", b"1"),
+            (b"1", b"0"),
+        ],
+        times: 1,
+        script: b"draw 0\n",
+        answers: b"error 13 0 4\n",
     },
 ];
 

@@ -1,4 +1,4 @@
-use Rattle.std.proofs.Common.{◌≡◌, sym, ap, ◌∙◌}
+use Rattle.std.proofs.Common.{sym, ap, ◌∙◌}
 use Rattle.spqr_script.specs.Line.{tokens_of}
 use Rattle.spqr_script.specs.Reading.{arguments_of}
 use Rattle.spqr_script.specs.declared.command.Command.TheVariants as command
@@ -28,3 +28,6 @@ returns-in-Rank c = made_as command.Rank c.block-in-Rank.result c.map-in-Rank.re
 
 pub returns-in-Longest : goal.returns-in-Longest
 returns-in-Longest c = made_as command.Longest c.block-in-Longest.result c.map-in-Longest.result _ (c.block-in-Longest.ensures command.Longest) c.map-in-Longest.ensures.cases ∙ sym (ap (λ w. arguments_of w (tokens_of c.args.text.now)) c.in-Longest.is)
+
+pub returns-in-Draw : goal.returns-in-Draw
+returns-in-Draw c = made_as command.Draw c.block-in-Draw.result c.map-in-Draw.result _ (c.block-in-Draw.ensures command.Draw) c.map-in-Draw.ensures.cases ∙ sym (ap (λ w. arguments_of w (tokens_of c.args.text.now)) c.in-Draw.is)

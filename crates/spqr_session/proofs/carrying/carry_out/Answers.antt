@@ -13,6 +13,7 @@ use Rattle.spqr_session.specs.Commands.Show.{IsShown}
 use Rattle.spqr_session.specs.Commands.Faces.{IsFaced}
 use Rattle.spqr_session.specs.Commands.Listing.{IsListing}
 use Rattle.spqr_session.specs.Commands.Longest.{IsLongestAnswer}
+use Rattle.spqr_session.specs.Commands.Draw.{parallel_codes, IsDrawingAnswer}
 use Rattle.spqr_session.specs.Commands.Permute.{PermuteStep}
 use Rattle.spqr_session.specs.Commands.Walk.{GotoStep}
 use Rattle.spqr_session.specs.Commands.Convert.{ConvertRankStep}
@@ -178,3 +179,13 @@ returns-in-Longest-clause-step c =
     let b = c.in-Longest.b in
     step-of setting s s c.args.command.now (command.Longest b) (map view_tree views) (map view_tree seen) (λ (ts : List BlockTree) text. ReadStep no_more IsLongestAnswer ts b s text s) c.carry_longest.result c.in-Longest.is
     (ap (λ (vs : List BlockView). map view_tree vs) (sym c.blocks-in-Longest.ensures)) (λ text h. h) (c.carry_longest.ensures s (ap (λ (vs : List BlockView). map view_entry vs) (sym c.blocks-in-Longest.ensures)))
+
+pub returns-in-Draw-clause-step : goal.returns-in-Draw-clause-step
+returns-in-Draw-clause-step c =
+    let views = c.args.board.now.views in
+    let setting = setting_on c.args.scene.now views in
+    let s = board_state c.args.board.now in
+    let seen = c.blocks-in-Draw.result.now in
+    let b = c.in-Draw.b in
+    step-of setting s s c.args.command.now (command.Draw b) (map view_tree views) (map view_tree seen) (λ (ts : List BlockTree) text. ReadStep parallel_codes (IsDrawingAnswer b) ts b s text s) c.carry_draw.result c.in-Draw.is
+    (ap (λ (vs : List BlockView). map view_tree vs) (sym c.blocks-in-Draw.ensures)) (λ text h. h) (c.carry_draw.ensures s (ap (λ (vs : List BlockView). map view_entry vs) (sym c.blocks-in-Draw.ensures)))

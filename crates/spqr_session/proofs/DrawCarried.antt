@@ -1,0 +1,93 @@
+-- `draw`: the state stays, a block can be drawn, and what is found is an answer.
+use Rattle.std.proofs.Common.{◌≡◌, ◌≢◌, ℕ, ◌<◌, ◌≤◌, Bool, true, false, List, [], ◌∷◌, slice_index, Option, None, Some, refl, sym, ap₂, ◌∙◌, subst, arith}
+use Rattle.permutations.proofs.Search.{least-below, least-passes}
+use Rattle.multigraph.specs.Graph.{Multigraph, edge_count, ends_of, IsGraph}
+use Rattle.multigraph.specs.Part.{GraphPart}
+use Rattle.graph_theory.specs.Connected.{IsConnected}
+use Rattle.graph_theory.proofs.Connected.{block-connected}
+use Rattle.faces.specs.Euler.{IsPlaneSystem}
+use Rattle.skel_embed.specs.Block.{BlockState}
+use Rattle.grid_drawing.specs.Grid.{IsGridDrawing, IsDrawRefusal}
+use Rattle.grid_drawing.specs.declared.drawing.DrawFault.{DrawFault}
+use Rattle.grid_drawing.specs.declared.drawing.DrawFault.TheVariants as faults
+use Rattle.grid_drawing.specs.Parallel.{is_later, has_later, has_parallel, first_parallel, second_parallel}
+use Rattle.spqr_script.specs.Answers.Draw.{draw_text}
+use Rattle.spqr_session.specs.Setting.{Setting}
+use Rattle.spqr_session.specs.State.{State}
+use Rattle.spqr_session.specs.Embedded.{BlockView}
+use Rattle.spqr_session.specs.Codes.{code_text, first_code}
+use Rattle.spqr_session.specs.BlockCodes.{Answered, TellsBlock}
+use Rattle.spqr_session.specs.Commands.Draw.{parallel_codes, IsDrawingAnswer, DrawStep}
+use Rattle.spqr_session.specs.declared.code.Code.{Code}
+use Rattle.spqr_session.specs.declared.code.Code.TheVariants.{Parallel}
+use Rattle.spqr_session.proofs.BlockCarried.{read-stays}
+use Rattle.spqr_session.proofs.Ladders.{rung-hit, rung-missed}
+use Rattle.spqr_session.proofs.Planes.{seen_embedding, SeenPlane, told-entry}
+
+-- the state stays
+pub draw-stays : (setting : Setting) (b : ℕ) (s : State) (text : List ℕ) (after : State) → DrawStep setting b s text after → after ≡ s
+draw-stays setting b s text after p = read-stays parallel_codes (λ tree e. refl) (IsDrawingAnswer b) setting.trees b s text after p
+
+-- a graph with an edge has two vertices
+two-vertices : (g : Multigraph) → IsGraph g → 1 ≤ edge_count g → 2 ≤ g.vertex_count
+two-vertices g graph some = two (ends_of g 0).0 (ends_of g 0).1 g.vertex_count (graph.no_loop 0 some) (graph.first_in 0 some) (graph.second_in 0 some)
+  where
+    two : (u v n : ℕ) → u ≢ v → u < n → v < n → 2 ≤ n
+    two u v n d a b = omega (arith, d, a, b)
+
+-- the least pair of parallel edges is a pair of edges
+module _ (g : Multigraph) (h : has_parallel g ≡ true) where
+  pub first-within : first_parallel g < edge_count g
+  first-within = least-below (edge_count g) (has_later g) h
+
+  pub second-within : second_parallel g < edge_count g
+  second-within = least-below (edge_count g) (is_later g (first_parallel g)) (least-passes (edge_count g) (has_later g) h)
+
+module _ (v : BlockView) (p : BlockState) (seen : SeenPlane v p) where
+  -- a block in the plane can be drawn
+  pub seen-connected : IsConnected p.graph
+  seen-connected = subst IsConnected (sym seen.graph) (let tree = seen.tree in block-connected v.tree.part.graph tree.block)
+
+  pub seen-two : 2 ≤ p.graph.vertex_count
+  seen-two = subst (λ (g : Multigraph). 2 ≤ g.vertex_count) (sym seen.graph) (let tree = seen.tree in let block = tree.block in two-vertices v.tree.part.graph tree.graph block.has_edge)
+
+  pub seen-system : IsPlaneSystem p.graph p.rotation
+  seen-system = subst (λ (g : Multigraph). IsPlaneSystem g p.rotation) (sym seen.graph) seen.right.0
+
+  -- the code of the least pair of parallel edges, and whether it applies
+  abbrev least_pair : Code
+  least_pair = Parallel (slice_index v.tree.part.edges (first_parallel v.tree.part.graph)) (slice_index v.tree.part.edges (second_parallel v.tree.part.graph))
+
+  abbrev are_parallel : Bool
+  are_parallel = has_parallel v.tree.part.graph
+
+  -- the lines of a drawing are an answer, where no edges are parallel
+  pub drawing-told : (b : ℕ) (points : List (ℕ × ℕ)) (text : List ℕ) → IsGridDrawing p.graph p.rotation points → has_parallel p.graph ≡ false → text ≡ draw_text v.tree.part b points → TellsBlock v.tree v.entry parallel_codes (IsDrawingAnswer b) text
+  drawing-told b points text d simple e = told-entry v p seen parallel_codes (IsDrawingAnswer b) text
+      (subst (λ (c : Option Code). Answered c text (IsDrawingAnswer b v.tree (seen_embedding p) text)) (sym none) (points, subst (λ (g : Multigraph). IsGridDrawing g p.rotation points) seen.graph d, e))
+    where
+      none : first_code ((least_pair, are_parallel) ∷ []) ≡ None
+      none = rung-missed least_pair are_parallel [] None (subst (λ (g : Multigraph). has_parallel g ≡ false) seen.graph simple) refl
+
+  -- the edges that are found are the least pair
+  abbrev pub IsPair : ℕ → ℕ → Type 0
+  IsPair i j = (are_parallel ≡ true) × (i ≡ first_parallel v.tree.part.graph) × (j ≡ second_parallel v.tree.part.graph)
+
+  pub found-pair : (g : Multigraph) (fault : DrawFault) (i j : ℕ) → g ≡ p.graph → fault ≡ faults.Parallel i j → IsDrawRefusal g fault → IsPair i j
+  found-pair g fault i j e f r = subst (λ (h : Multigraph). IsDrawRefusal h (faults.Parallel i j)) (e ∙ seen.graph) (subst (IsDrawRefusal g) f r)
+
+  pub pair-within : (part : GraphPart) (i j : ℕ) → part ≡ v.tree.part → IsPair i j → (i < edge_count part.graph) × (j < edge_count part.graph)
+  pair-within part i j e f = subst (λ (q : GraphPart). (i < edge_count q.graph) × (j < edge_count q.graph)) (sym e) (
+    subst (λ (k : ℕ). k < edge_count v.tree.part.graph) (sym f.1) (first-within v.tree.part.graph f.0),
+    subst (λ (k : ℕ). k < edge_count v.tree.part.graph) (sym f.2) (second-within v.tree.part.graph f.0),
+  )
+
+  -- and their line is an answer
+  pub parallel-told : (b : ℕ) (part : GraphPart) (i j x y : ℕ) (text : List ℕ) → part ≡ v.tree.part → IsPair i j → x ≡ slice_index part.edges i → y ≡ slice_index part.edges j → text ≡ code_text (Parallel x y)
+      → TellsBlock v.tree v.entry parallel_codes (IsDrawingAnswer b) text
+  parallel-told b part i j x y text q f first second e = told-entry v p seen parallel_codes (IsDrawingAnswer b) text
+      (subst (λ (c : Option Code). Answered c text (IsDrawingAnswer b v.tree (seen_embedding p) text)) (sym hit)
+      (e ∙ ap₂ (λ (i j : ℕ). code_text (Parallel i j)) (first ∙ ap₂ (λ (r : GraphPart) (k : ℕ). slice_index r.edges k) q f.1) (second ∙ ap₂ (λ (r : GraphPart) (k : ℕ). slice_index r.edges k) q f.2)))
+    where
+      hit : first_code ((least_pair, are_parallel) ∷ []) ≡ Some least_pair
+      hit = rung-hit least_pair are_parallel [] f.0
