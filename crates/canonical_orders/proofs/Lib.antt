@@ -1,0 +1,5 @@
+-- Lemmas on contours, removals and canonical orders.
+mod Lists
+mod Walks
+pub mod Triangles
+pub mod ContourParts
