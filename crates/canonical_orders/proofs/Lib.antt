@@ -3,3 +3,4 @@ mod Lists
 mod Walks
 pub mod Triangles
 pub mod ContourParts
+pub mod Arms
