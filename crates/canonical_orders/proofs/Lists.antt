@@ -1,7 +1,8 @@
 -- Lists: the last member, members in turn, and images of the members.
-use Rattle.std.proofs.Common.{◌≡◌, ◌≢◌, ◌⊎◌, ℕ, inl, inr, Bool, true, false, List, [], ◌∷◌, ◌++◌, map, reverse, refl, sym, ap, ◌∙◌, subst, append_assoc}
+use Rattle.std.proofs.Common.{◌≡◌, ◌≢◌, ◌⊎◌, ℕ, inl, inr, Bool, true, false, List, [], ◌∷◌, ◌++◌, All, map, reverse, refl, sym, ap, ◌∙◌, subst, append_assoc}
 use Rattle.std.proofs.lemmas.Bool.{both_ways, true≢false, false_from_ne_true}
 use Rattle.std.proofs.lemmas.List.{reverse-append}
+use Rattle.std.proofs.lemmas.List.Elements.{All-nil, All-cons}
 use Rattle.permutations.specs.Members.{is_member, is_distinct}
 use Rattle.permutations.specs.Cyclic.{first_or, last_or}
 use Rattle.permutations.proofs.Members.{member-head, member-tail, member-cases, member-append_left, member-append_right, no_member-head, no_member-tail, distinct-head, distinct-tail, distinct-cons}
@@ -153,3 +154,8 @@ cut-rest x [] b [] d h i e = ap rest_of e
 cut-rest x [] b (y ∷ k) d h i e = absurd (no_member-head x y k i (sym (ap (first_or 0) e)))
 cut-rest x (y ∷ a) b [] d h i e = absurd (no_member-head x y a h (ap (first_or 0) e))
 cut-rest x (y ∷ a) b (z ∷ k) d h i e = cut-rest x a b k d (no_member-tail x y a h) (no_member-tail x z k i) (ap rest_of e)
+
+-- what holds of each member holds of all
+pub member-all : (P : ℕ → Type 0) (l : List ℕ) → ((x : ℕ) → is_member x l ≡ true → P x) → All P l
+member-all P [] f = All-nil P
+member-all P (x ∷ l) f = All-cons P x l (f x (member-head x l)) (member-all P l (λ z m. f z (member-tail z x l m)))
