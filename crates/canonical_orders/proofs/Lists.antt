@@ -77,6 +77,13 @@ turn-map R S (a ∷ []) f s = tt
 turn-map R S (a ∷ b ∷ l) f s = (f a b (member-head a (b ∷ l)) (member-tail b a (b ∷ l) (member-head b l)) s.0,
     turn-map R S (b ∷ l) (λ x y p q. f x y (member-tail x a (b ∷ l) p) (member-tail y a (b ∷ l) q)) s.1)
 
+-- images of members in turn
+pub turn-image : (R S : ℕ → ℕ → Type 0) (f : ℕ → ℕ) (l : List ℕ) → ((x y : ℕ) → is_member x l ≡ true → is_member y l ≡ true → R x y → S (f x) (f y)) → Successive R l → Successive S (map f l)
+turn-image R S f [] g s = tt
+turn-image R S f (a ∷ []) g s = tt
+turn-image R S f (a ∷ b ∷ l) g s = (g a b (member-head a (b ∷ l)) (member-tail b a (b ∷ l) (member-head b l)) s.0,
+    turn-image R S f (b ∷ l) (λ x y p q. g x y (member-tail x a (b ∷ l) p) (member-tail y a (b ∷ l) q)) s.1)
+
 -- a member after the first has one before it
 pub turn-before : (R : ℕ → ℕ → Type 0) (x : ℕ) (l : List ℕ) (e : ℕ) → Successive R (x ∷ l) → is_member e l ≡ true → (c : ℕ) × (is_member c (x ∷ l) ≡ true) × R c e
 turn-before R x [] e s h = absurd (true≢false (sym h))

@@ -1,4 +1,5 @@
 -- Canonical orders of triangulations.
 pub mod Contours
 pub mod Order
+pub mod Free
 pub mod Laws

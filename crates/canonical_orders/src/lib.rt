@@ -3,4 +3,4 @@
 
 mod laws;
 
-pub use laws::{contours_go_around, removals_stack};
+pub use laws::{contours_begin_and_end, contours_go_around, removals_keep_contours, removals_stack};
