@@ -1,2 +1,4 @@
 -- Triangulations of plane maps.
 pub mod Triangulation
+pub mod Listed
+pub mod Cutting

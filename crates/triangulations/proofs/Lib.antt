@@ -1,0 +1,8 @@
+-- The lemmas on triangulations.
+pub mod SimpleMaps
+pub mod Turns
+pub mod TwoTriangles
+pub mod Progress
+pub mod Bounded
+pub mod Cut
+pub mod Filled
