@@ -80,13 +80,18 @@ pub around-turn : (R : ℕ → ℕ → Type 0) (a : ℕ) (l : List ℕ) → Arou
 around-turn R a [] s = s
 around-turn R a (b ∷ l) s = successive-join R (b ∷ l) a b [] s.1 s.0 tt
 
+-- the last member of a list that ends with x
+pub last-append : (d : ℕ) (l : List ℕ) (x : ℕ) → last_or d (l ++ x ∷ []) ≡ x
+last-append d l x = ap (first_or d) (reverse-append l (x ∷ []))
+
 -- a list that is not empty, cut before its last member
 pub last-cut : (a : ℕ) (l : List ℕ) → (front : List ℕ) × (a ∷ l ≡ front ++ last_or a (a ∷ l) ∷ [])
 last-cut a [] = ([], refl)
-last-cut a (b ∷ l) = let w = last-cut b l in (a ∷ w.0, ap (λ (k : List ℕ). a ∷ k) (w.1 ∙ ap (λ (z : ℕ). w.0 ++ z ∷ []) (sym (here w.0 (last_or b (b ∷ l)) w.1))))
-  where
-    here : (front : List ℕ) (z : ℕ) → b ∷ l ≡ front ++ z ∷ [] → last_or a (a ∷ b ∷ l) ≡ z
-    here front z e = ap (λ (k : List ℕ). last_or a (a ∷ k)) e ∙ ap (first_or a) (reverse-append (a ∷ front) (z ∷ []))
+last-cut a (b ∷ l) = let w = last-cut b l in (a ∷ w.0, ap (λ (k : List ℕ). a ∷ k) (w.1 ∙ ap (λ (z : ℕ). w.0 ++ z ∷ []) (sym (ap (λ (k : List ℕ). last_or a (a ∷ k)) w.1 ∙ last-append a (a ∷ w.0) (last_or b (b ∷ l))))))
+
+-- the same for what follows a first member
+pub last-cut_rest : (a b : ℕ) (l : List ℕ) → (front : List ℕ) × (b ∷ l ≡ front ++ last_or a (a ∷ b ∷ l) ∷ [])
+last-cut_rest a b l = let w = last-cut b l in (w.0, w.1 ∙ ap (λ (z : ℕ). w.0 ++ z ∷ []) (sym (ap (λ (k : List ℕ). last_or a (a ∷ k)) w.1 ∙ last-append a (a ∷ w.0) (last_or b (b ∷ l)))))
 
 -- from its last member to its first a cyclic list
 pub around-closed : (R : ℕ → ℕ → Type 0) (a : ℕ) (l : List ℕ) → Successive R (a ∷ l) → R (last_or a (a ∷ l)) a → Around R (a ∷ l)
