@@ -160,12 +160,6 @@ between-ends : (m : ℕ) (h : Multigraph) (next previous : ℕ → ℕ) (base : 
     → (w : ℕ) × IsFree h base (base ∷ (mid ++ v ∷ [])) w
 between-ends m h next previous base stays mid v tri c last n = (tail h found.x, no-chord-free m h next previous base stays tri.map.drawn mid v last c.once found)
   where
-    f : ℕ → ℕ
-    f = restricted (2 * m) (stays_dart h stays) next
-
-    on : ℕ → Bool
-    on = on_contour h (base ∷ (mid ++ v ∷ []))
-
     round : IsRound m (restricted (2 * m) (stays_dart h stays) next) (stays_dart h stays) (tail h) (on_contour h (base ∷ (mid ++ v ∷ []))) (mid ++ v ∷ ([] ++ base ∷ []))
     round = subst (IsRound m (restricted (2 * m) (stays_dart h stays) next) (stays_dart h stays) (tail h) (on_contour h (base ∷ (mid ++ v ∷ [])))) (append_assoc mid (v ∷ []) (base ∷ []))
         (round-turn m (restricted (2 * m) (stays_dart h stays) next) (stays_dart h stays) (tail h) (on_contour h (base ∷ (mid ++ v ∷ []))) base (mid ++ v ∷ []) (contour-round m h next base stays (mid ++ v ∷ []) c))
@@ -199,9 +193,6 @@ pub free-at : (m : ℕ) (h : Multigraph) (next previous : ℕ → ℕ) (base : �
 free-at m h next previous base stays contour tri l c w free = subst (λ (k : List ℕ). IsFreeAt m h k w) (sym c.begins)
     (at c.rest (subst (IsContour m h next base stays) c.begins c) (subst (λ (k : List ℕ). IsFree h base k w) c.begins free))
   where
-    f : ℕ → ℕ
-    f = restricted (2 * m) (stays_dart h stays) next
-
     -- cut at its dart to the left
     cut : (front : List ℕ) (x : ℕ) (back : List ℕ) → tail h x ≡ w → IsContour m h next base stays (base ∷ (front ++ x ∷ back)) → IsFree h base (base ∷ (front ++ x ∷ back)) w → IsFreeAt m h (base ∷ (front ++ x ∷ back)) w
     cut front x [] e d o = absurd (o.not_last (sym e ∙ ap (tail h) (sym (last-append base (base ∷ front) x)) ∙ d.closes))
