@@ -1,11 +1,11 @@
 -- Lists in which each member and the next one are related, and cyclic lists of this kind.
-use Rattle.std.proofs.Common.{◌≡◌, ◌≢◌, ℕ, inl, inr, Bool, true, false, List, [], ◌∷◌, ◌++◌, reverse, map, refl, sym, ap, ◌∙◌, subst, append_assoc}
+use Rattle.std.proofs.Common.{◌≡◌, ◌≢◌, ℕ, inl, inr, Bool, true, List, [], ◌∷◌, ◌++◌, map, refl, sym, ap, ◌∙◌, subst, append_assoc}
 use Rattle.std.proofs.lemmas.List.{map-append, reverse-append}
 use Rattle.std.proofs.lemmas.Bool.{both_ways, true≢false}
 use Rattle.permutations.specs.Members.{is_member, is_distinct}
 use Rattle.permutations.specs.Cyclic.{first_or, last_or}
 use Rattle.permutations.specs.Relation.{IsEquivalence}
-use Rattle.permutations.proofs.Members.{member-head, member-tail, member-cases, member-append_left, distinct-append_apart}
+use Rattle.permutations.proofs.Members.{member-head, member-tail, member-cases, distinct-append_apart}
 use Rattle.permutations.proofs.Mapped.{member-map}
 use Rattle.canonical_orders.specs.Contours.{Successive}
 

@@ -1,16 +1,15 @@
 -- Between two vertices of a contour, if no dart leads from those between to a vertex outside, one of those between has no chord: the first of them,
 -- or one between the two ends of a chord of the first.
-use Rattle.std.proofs.Common.{◌≡◌, ◌≢◌, ◌⊎◌, ℕ, zero, suc, ◌+◌, ◌*◌, ◌<◌, ◌≤◌, inl, inr, Bool, true, false, not, ◌&&◌, ◌||◌, ◌==◌, List, [], ◌∷◌, ◌++◌, map, length, refl, sym, ap, ◌∙◌, subst, append_assoc, length-append, arith}
-use Rattle.std.proofs.lemmas.Bool.{cases_Bool, cases_eq, both_ways, true≢false, eq-eqb, ne_eqb, eqb-true, eqb-false, and_parts, and_from, not-true, not_from_false}
+use Rattle.std.proofs.Common.{◌≡◌, ◌≢◌, ◌⊎◌, ℕ, zero, suc, ◌*◌, ◌<◌, ◌≤◌, inl, inr, Bool, true, false, not, ◌&&◌, ◌==◌, List, [], ◌∷◌, ◌++◌, map, length, refl, sym, ap, ◌∙◌, subst, append_assoc, length-append, arith}
+use Rattle.std.proofs.lemmas.Bool.{cases_Bool, cases_eq, both_ways, true≢false, eq-eqb, ne_eqb, eqb-true, and_parts, and_from, not-true, not_from_false}
 use Rattle.std.proofs.lemmas.List.{map-append}
 use Rattle.permutations.specs.Members.{is_member, is_distinct}
 use Rattle.permutations.specs.Count.{some}
 use Rattle.permutations.specs.Cyclic.{first_or}
 use Rattle.permutations.proofs.Search.{some-witness, some-none}
-use Rattle.permutations.proofs.Members.{member-head, member-tail, member-cases, member-append, member-append_comm, member-append_left, member-append_right, member-append_cases, distinct-append_comm, distinct-append_right, CutAt, cut_at}
+use Rattle.permutations.proofs.Members.{member-head, member-tail, member-cases, member-append_comm, member-append_left, member-append_right, member-append_cases, distinct-append_comm, CutAt, cut_at}
 use Rattle.permutations.proofs.Mapped.{member-map, map-member}
 use Rattle.dart_maps.specs.Map.{twin}
-use Rattle.canonical_orders.specs.Contours.{Successive}
 use Rattle.canonical_orders.proofs.ChordLists.{Around, successive-first, around-successive, around-closing, around-turn, first-append, first-member, values-apart}
 use Rattle.canonical_orders.proofs.Chords.{IsKeptMap, IsKept, FaceStep, step-tail, chords-apart}
 
@@ -26,8 +25,8 @@ abbrev pub StaysWithin : ℕ → (ℕ → ℕ) → (ℕ → Bool) → List ℕ �
 StaysWithin m t on mid v u = (d : ℕ) → d < 2 * m → is_member (t d) (map t mid) ≡ true → on (t (twin d)) ≡ true
     → (is_member (t (twin d)) (map t mid) ≡ true) ⊎ ((t (twin d) ≡ t v) ⊎ (t (twin d) ≡ t u))
 
--- a dart x among those of mid, and the dart y after it on the contour: besides where x leads and whence y comes, no dart of x's vertex
--- leads to the contour
+-- a dart x among those of mid, and the dart y after it on the contour: the darts of x's vertex that lead to the contour lead to the head of x
+-- or to the tail of y
 pub record HasNoChord (m : ℕ) (f : ℕ → ℕ) (keep : ℕ → Bool) (t : ℕ → ℕ) (on : ℕ → Bool) (mid : List ℕ) : Type 0 where
   pub x : ℕ
   pub y : ℕ
@@ -134,8 +133,8 @@ module _ (m : ℕ) (f g : ℕ → ℕ) (keep : ℕ → Bool) (t : ℕ → ℕ) (
 
   -- with a chord from y to z, darts that leave the vertices between lead to these, to those of y and z, or to none of the contour
   chord-within : (p : ℕ) (mid : List ℕ) (z : ℕ) (out : List ℕ) (y : ℕ) → IsRound m f keep t on ((p ∷ mid) ++ z ∷ (out ++ y ∷ []))
-      → (D : ℕ) → IsKept m keep D → t D ≡ t y → t (twin D) ≡ t z → StaysWithin m t on (p ∷ mid) z y
-  chord-within p mid z out y r D chord at_y at_z d i n o = elim (member-append_cases (t (twin d)) (map t (p ∷ mid)) (map t (z ∷ (out ++ y ∷ []))) (ap (is_member (t (twin d))) (sym (map-append t (p ∷ mid) (z ∷ (out ++ y ∷ [])))) ∙ sym (r.all (t (twin d))) ∙ o)) [
+      → (chord : ℕ) → IsKept m keep chord → t chord ≡ t y → t (twin chord) ≡ t z → StaysWithin m t on (p ∷ mid) z y
+  chord-within p mid z out y r chord kept_chord at_y at_z d i n o = elim (member-append_cases (t (twin d)) (map t (p ∷ mid)) (map t (z ∷ (out ++ y ∷ []))) (ap (is_member (t (twin d))) (sym (map-append t (p ∷ mid) (z ∷ (out ++ y ∷ [])))) ∙ sym (r.all (t (twin d))) ∙ o)) [
     | inl a ↦ inl a
     | inr a ↦ elim (member-cases (t (twin d)) (t z) (map t (out ++ y ∷ [])) a) [
       | inl q ↦ inr (inl (sym q))
@@ -157,51 +156,50 @@ module _ (m : ℕ) (f g : ℕ → ℕ) (keep : ℕ → Bool) (t : ℕ → ℕ) (
       across (q ∷ out) r w = chords-apart m f g keep t k p mid z q out y
           (around-successive (FaceStep f) ((p ∷ mid) ++ z ∷ ((q ∷ out) ++ y ∷ [])) r.around)
           (around-closing (FaceStep f) ((p ∷ mid) ++ z ∷ q ∷ out) y (subst (Around (FaceStep f)) (sym (append_assoc (p ∷ mid) (z ∷ q ∷ out) (y ∷ []))) r.around))
-          r.darts r.once D chord at_y at_z d from.0 w.0
+          r.darts r.once chord kept_chord at_y at_z d from.0 w.0
           (chord-kept ((p ∷ mid) ++ z ∷ ((q ∷ out) ++ y ∷ [])) r from.0 (member-append_left from.0 (p ∷ mid) (z ∷ ((q ∷ out) ++ y ∷ [])) from.1) d i (sym from.2) o)
           from.1 from.2 w.1 w.2
 
   -- a vertex without a chord between the ends of a chord of the first vertex
   inner-free : (y : ℕ) (rest : List ℕ) (v : ℕ) (out : List ℕ) (u : ℕ) → IsRound m f keep t on ((y ∷ rest) ++ v ∷ (out ++ u ∷ []))
       → ((mid : List ℕ) (z : ℕ) (beyond : List ℕ) (w : ℕ) → length mid ≤ length rest → 0 < length mid → IsRound m f keep t on (mid ++ z ∷ (beyond ++ w ∷ [])) → StaysWithin m t on mid z w → HasNoChord m f keep t on mid)
-      → (D : ℕ) → D < 2 * m → t D ≡ t y → on (t (twin D)) ≡ true → t (twin D) ≢ t (first_or v rest)
-      → (front : List ℕ) (z : ℕ) (more : List ℕ) → rest ++ v ∷ [] ≡ front ++ z ∷ more → t z ≡ t (twin D) → HasNoChord m f keep t on front
-  inner-free y rest v out u r again D i at_y o far [] z more e at_z = absurd (far (sym at_z ∙ ap t (sym (ap (first_or z) e) ∙ first-append rest v [] z)))
-  inner-free y rest v out u r again D i at_y o far (p ∷ mid) z more e at_z =
+      → (chord : ℕ) → chord < 2 * m → t chord ≡ t y → on (t (twin chord)) ≡ true → t (twin chord) ≢ t (first_or v rest)
+      → (front : List ℕ) (z : ℕ) (more : List ℕ) → rest ++ v ∷ [] ≡ front ++ z ∷ more → t z ≡ t (twin chord) → HasNoChord m f keep t on front
+  inner-free y rest v out u r again chord i at_y o far [] z more e at_z = absurd (far (sym at_z ∙ ap t (sym (ap (first_or z) e) ∙ first-append rest v [] z)))
+  inner-free y rest v out u r again chord i at_y o far (p ∷ mid) z more e at_z =
       let turned = round-from y rest v out u (p ∷ mid) z more e r in
-      let chord = chord-kept ((y ∷ rest) ++ v ∷ (out ++ u ∷ [])) r y (member-head y (rest ++ v ∷ (out ++ u ∷ []))) D i at_y o in
+      let kept_chord = chord-kept ((y ∷ rest) ++ v ∷ (out ++ u ∷ [])) r y (member-head y (rest ++ v ∷ (out ++ u ∷ []))) chord i at_y o in
       let size : length (rest ++ v ∷ []) ≡ length ((p ∷ mid) ++ z ∷ more) = ap length e in
       again (p ∷ mid) z (more ++ (out ++ u ∷ [])) y
       (omega (arith, size, length-append rest (v ∷ []), length-append (p ∷ mid) (z ∷ more))) (omega arith) turned
-      (chord-within p mid z (more ++ (out ++ u ∷ [])) y turned D chord at_y (sym at_z))
+      (chord-within p mid z (more ++ (out ++ u ∷ [])) y turned chord kept_chord at_y (sym at_z))
 
   -- a vertex without a chord, where the first vertex has one
   chord-inside : (y : ℕ) (rest : List ℕ) (v : ℕ) (out : List ℕ) (u : ℕ) → IsRound m f keep t on ((y ∷ rest) ++ v ∷ (out ++ u ∷ [])) → StaysWithin m t on (y ∷ rest) v u
       → ((mid : List ℕ) (z : ℕ) (beyond : List ℕ) (w : ℕ) → length mid ≤ length rest → 0 < length mid → IsRound m f keep t on (mid ++ z ∷ (beyond ++ w ∷ [])) → StaysWithin m t on mid z w → HasNoChord m f keep t on mid)
-      → (D : ℕ) → D < 2 * m → t D ≡ t y → on (t (twin D)) ≡ true → t (twin D) ≢ t u → t (twin D) ≢ t (first_or v rest) → HasNoChord m f keep t on (y ∷ rest)
-  chord-inside y rest v out u r within again D i at_y o other far = elim (within D i (subst (λ (x : ℕ). is_member x (map t (y ∷ rest)) ≡ true) (sym at_y) (member-head (t y) (map t rest))) o) [
-    | inl a ↦ elim (member-cases (t (twin D)) (t y) (map t rest) a) [
-      | inl q ↦ absurd (loopless D i (at_y ∙ q))
-      | inr q ↦ let w = map-member t rest (t (twin D)) q in at_cut w.0 w.2 (cut_at w.0 rest w.1)
+      → (chord : ℕ) → chord < 2 * m → t chord ≡ t y → on (t (twin chord)) ≡ true → t (twin chord) ≢ t u → t (twin chord) ≢ t (first_or v rest) → HasNoChord m f keep t on (y ∷ rest)
+  chord-inside y rest v out u r within again chord i at_y o other far = elim (within chord i (subst (λ (x : ℕ). is_member x (map t (y ∷ rest)) ≡ true) (sym at_y) (member-head (t y) (map t rest))) o) [
+    | inl a ↦ elim (member-cases (t (twin chord)) (t y) (map t rest) a) [
+      | inl q ↦ absurd (loopless chord i (at_y ∙ q))
+      | inr q ↦ let w = map-member t rest (t (twin chord)) q in at_cut w.0 w.2 (cut_at w.0 rest w.1)
     ]
     | inr a ↦ elim a [
-      | inl q ↦ chord-wider m f keep t on rest (y ∷ rest) (λ e n. member-tail e y rest n) (inner-free y rest v out u r again D i at_y o far rest v [] refl (sym q))
+      | inl q ↦ chord-wider m f keep t on rest (y ∷ rest) (λ e n. member-tail e y rest n) (inner-free y rest v out u r again chord i at_y o far rest v [] refl (sym q))
       | inr q ↦ absurd (other q)
     ]
   ]
     where
-      at_cut : (z : ℕ) → t z ≡ t (twin D) → CutAt z rest → HasNoChord m f keep t on (y ∷ rest)
+      at_cut : (z : ℕ) → t z ≡ t (twin chord) → CutAt z rest → HasNoChord m f keep t on (y ∷ rest)
       at_cut z q c = chord-wider m f keep t on c.front (y ∷ rest)
           (λ e n. member-tail e y rest (subst (λ (l : List ℕ). is_member e l ≡ true) (sym c.is) (member-append_left e c.front (z ∷ c.back) n)))
-          (inner-free y rest v out u r again D i at_y o far c.front z (c.back ++ v ∷ []) (ap (λ (l : List ℕ). l ++ v ∷ []) c.is ∙ append_assoc c.front (z ∷ c.back) (v ∷ [])) q)
+          (inner-free y rest v out u r again chord i at_y o far c.front z (c.back ++ v ∷ []) (ap (λ (l : List ℕ). l ++ v ∷ []) c.is ∙ append_assoc c.front (z ∷ c.back) (v ∷ [])) q)
 
   -- what a chord is
   chord-parts : (y u p d : ℕ) → is_chord y u p d ≡ true → (t d ≡ t y) × (on (t (twin d)) ≡ true) × (t (twin d) ≢ t u) × (t (twin d) ≢ t p)
   chord-parts y u p d c =
       let a = and_parts (t d == t y) (on (t (twin d)) && (not (t (twin d) == t u) && not (t (twin d) == t p))) c in
       let b = and_parts (on (t (twin d))) (not (t (twin d) == t u) && not (t (twin d) == t p)) a.1 in
-      let e = and_parts (not (t (twin d) == t u)) (not (t (twin d) == t p)) b.1 in
-      (
+      let e = and_parts (not (t (twin d) == t u)) (not (t (twin d) == t p)) b.1 in (
         eqb-true (t d) (t y) a.0,
         b.0,
         λ q. both_ways (t (twin d) == t u) (not-true (t (twin d) == t u) e.0) (eq-eqb (t (twin d)) (t u) q),

@@ -1,12 +1,11 @@
 -- A contour has three vertices or more while a vertex stays that is no end of the base. For if the contour were the base alone, no other dart that
 -- stays would leave an end of the base; so no edge would lead from the vertices that stay, without these ends, to others, but the graph is connected.
-use Rattle.std.proofs.Common.{◌≡◌, ◌≢◌, ℕ, suc, ◌+◌, ◌*◌, ◌/◌, ◌<◌, ◌≤◌, inl, inr, Bool, true, false, not, ◌&&◌, ◌==◌, List, [], ◌∷◌, All, map, length, refl, sym, ap, ◌∙◌, subst, arith}
-use Rattle.std.proofs.lemmas.Bool.{cases_Bool, both_ways, true≢false, eq-eqb, ne_eqb, eqb-true, and_parts, and_from, not-true, not_from_false, false_from_ne_true}
+use Rattle.std.proofs.Common.{◌≡◌, ◌≢◌, ℕ, ◌+◌, ◌*◌, ◌<◌, ◌≤◌, Bool, true, not, ◌&&◌, ◌==◌, List, [], ◌∷◌, All, length, refl, sym, ap, ◌∙◌, subst, arith}
+use Rattle.std.proofs.lemmas.Bool.{both_ways, eq-eqb, ne_eqb, and_parts, and_from, not-true, not_from_false}
 use Rattle.std.proofs.lemmas.List.Elements.{All-from_get_or}
-use Rattle.permutations.specs.Members.{is_member}
 use Rattle.permutations.specs.Exchange.{restricted}
 use Rattle.permutations.proofs.Relation.{same-tests, connected-closed}
-use Rattle.permutations.proofs.Members.{member-head, member-tail, member-cases, no_member-cons}
+use Rattle.permutations.proofs.Members.{member-head, member-tail, no_member-cons}
 use Rattle.permutations.proofs.Unlinking.{alone-orbit}
 use Rattle.dart_maps.specs.Map.{twin}
 use Rattle.dart_maps.proofs.Darts.{twin-twin, twin-below, twin-even}
@@ -65,8 +64,7 @@ module _ (m : ℕ) (h : Multigraph) (next previous : ℕ → ℕ) (base : ℕ) (
   inner-parts : (x : ℕ) → is_inner x ≡ true → (stays x ≡ true) × (x ≢ tail h base) × (x ≢ tail h (twin base))
   inner-parts x i =
       let a = and_parts (stays x) (not (x == tail h base) && not (x == tail h (twin base))) i in
-      let b = and_parts (not (x == tail h base)) (not (x == tail h (twin base))) a.1 in
-      (
+      let b = and_parts (not (x == tail h base)) (not (x == tail h (twin base))) a.1 in (
         a.0,
         λ q. both_ways (x == tail h base) (not-true (x == tail h base) b.0) (eq-eqb x (tail h base) q),
         λ q. both_ways (x == tail h (twin base)) (not-true (x == tail h (twin base)) b.1) (eq-eqb x (tail h (twin base)) q),

@@ -1,26 +1,26 @@
 -- A contour of three or more vertices has a free vertex: the theorem that an order of the vertices rests on. And what the darts of a free vertex are.
-use Rattle.std.proofs.Common.{◌≡◌, ◌≢◌, ◌⊎◌, ℕ, zero, suc, ◌+◌, ◌*◌, ◌/◌, ◌%◌, ◌<◌, ◌≤◌, inl, inr, Bool, true, false, not, ◌&&◌, ◌||◌, ◌==◌, List, [], ◌∷◌, ◌++◌, All, map, length, refl, sym, ap, ◌∙◌, subst, append_assoc, length-append, arith}
+use Rattle.std.proofs.Common.{◌≡◌, ◌≢◌, ◌⊎◌, ℕ, suc, ◌*◌, ◌/◌, ◌<◌, ◌≤◌, inl, inr, Bool, true, false, not, ◌&&◌, ◌==◌, List, [], ◌∷◌, ◌++◌, All, map, length, refl, sym, ap, ◌∙◌, subst, append_assoc, length-append, arith}
 use Rattle.std.proofs.lemmas.Bool.{cases_Bool, cases_eq, both_ways, true≢false, eq-eqb, ne_eqb, eqb-true, and_parts, and_from, not_from_false}
 use Rattle.std.proofs.lemmas.List.Elements.{All-head, All-tail}
 use Rattle.permutations.specs.Members.{is_member, is_distinct}
-use Rattle.permutations.specs.Count.{count, some}
+use Rattle.permutations.specs.Count.{count}
 use Rattle.permutations.specs.Cyclic.{last_or}
 use Rattle.permutations.specs.Exchange.{restricted}
 use Rattle.permutations.proofs.Count.{count-remove, count-none, count-zero}
 use Rattle.permutations.proofs.Search.{some-witness, some-from}
-use Rattle.permutations.proofs.Members.{member-head, member-tail, member-cases, member-append_left, member-append_right, member-append_cases, CutAt, cut_at}
+use Rattle.permutations.proofs.Members.{member-head, member-tail, member-cases, member-append_left, member-append_right, member-append_cases, cut_at}
 use Rattle.permutations.proofs.Mapped.{member-map, map-member}
 use Rattle.permutations.proofs.Restriction.{restricted-permutes, restricted-goes, restricted-alone, restricted-orbit}
 use Rattle.dart_maps.specs.Map.{twin}
 use Rattle.dart_maps.proofs.Darts.{twin-twin, twin-below, twin-cases, twin-edge}
 use Rattle.dart_maps.proofs.Plane.{restricted-plane}
 use Rattle.multigraph.specs.Graph.{Multigraph, IsGraph, edge_count, ends_of}
-use Rattle.multigraph.proofs.DartEnds.{dart-edge, tail-even, tail-odd}
+use Rattle.multigraph.proofs.DartEnds.{tail-even, tail-odd}
 use Rattle.faces.specs.Euler.{tail, dart_count}
 use Rattle.drawn_maps.specs.Drawn.{IsDrawn}
 use Rattle.triangulations.specs.Triangulation.{IsTriangulated}
-use Rattle.canonical_orders.specs.Contours.{stays_dart, Successive, IsContour}
-use Rattle.canonical_orders.specs.Free.{is_adjacent, on_contour, contour_neighbours, IsFree, IsFreeAt}
+use Rattle.canonical_orders.specs.Contours.{stays_dart, IsContour}
+use Rattle.canonical_orders.specs.Free.{is_adjacent, on_contour, IsFree, IsFreeAt}
 use Rattle.canonical_orders.proofs.ChordLists.{successive-before, successive-at, around-closed, last-append, last-cut_rest, values-apart}
 use Rattle.canonical_orders.proofs.Chords.{IsKeptMap, IsKept, FaceStep, step-tail}
 use Rattle.canonical_orders.proofs.ChordSearch.{IsRound, StaysWithin, HasNoChord, round-turn, between-free}
@@ -31,7 +31,7 @@ count-two n p a b l k d h i only = omega (
   arith,
   count-remove n p a l h,
   count-remove n (λ x. p x && not (x == a)) b k (and_from (p b) (not (b == a)) i (not_from_false (b == a) (ne_eqb b a (λ e. d (sym e))))),
-  count-none n (λ x. (p x && not (x == a)) && not (x == b)) (λ x j. neither x (only x j))
+  count-none n (λ x. (p x && not (x == a)) && not (x == b)) (λ x j. neither x (only x j)),
 )
   where
     neither : (x : ℕ) → (p x ≡ true → (x ≡ a) ⊎ (x ≡ b)) → ((p x && not (x == a)) && not (x == b)) ≡ false
@@ -56,7 +56,7 @@ two-only n p a b l k d h i two x j t = elim (cases_eq x a) [
       arith,
       two,
       count-remove n p a l h,
-      count-remove n (λ z. p z && not (z == a)) b k (and_from (p b) (not (b == a)) i (not_from_false (b == a) (ne_eqb b a (λ e. d (sym e)))))
+      count-remove n (λ z. p z && not (z == a)) b k (and_from (p b) (not (b == a)) i (not_from_false (b == a) (ne_eqb b a (λ e. d (sym e))))),
     )
 
 -- what holds of all members holds of a member
@@ -211,9 +211,9 @@ free-at m h next previous base stays contour tri l c w free = subst (λ (k : Lis
           (and_from (on_contour h whole (tail h y)) (is_adjacent h w (tail h y)) (member-map (tail h) whole y y_member) (dart-adjacent m h tri.map.drawn.edges (twin y) (twin-below m y second.0) w (tail h y) right_is (ap (tail h) (twin-twin y))))
           o.two (tail h (twin a)) (tri.map.drawn.inside (twin a) (twin-below m a i))
           (and_from (on_contour h whole (tail h (twin a))) (is_adjacent h w (tail h (twin a))) k (dart-adjacent m h tri.map.drawn.edges a i w (tail h (twin a)) j refl))) [
-        | inl q ↦ inl (tri.map.simple a x i first.0 (j ∙ sym e) q)
-        | inr q ↦ inr (tri.map.simple a (twin y) i (twin-below m y second.0) (j ∙ sym right_is) (q ∙ ap (tail h) (sym (twin-twin y))))
-      ];
+            | inl q ↦ inl (tri.map.simple a x i first.0 (j ∙ sym e) q)
+            | inr q ↦ inr (tri.map.simple a (twin y) i (twin-below m y second.0) (j ∙ sym right_is) (q ∙ ap (tail h) (sym (twin-twin y))))
+          ];
     }
       where
         whole : List ℕ

@@ -4,3 +4,4 @@ pub mod Chords
 pub mod ChordSearch
 pub mod FreeVertex
 pub mod ChordThree
+mod ChordExamples
