@@ -1,11 +1,11 @@
 -- Lists in which each member and the next one are related, and cyclic lists of this kind.
-use Rattle.std.proofs.Common.{◌≡◌, ◌≢◌, ℕ, inl, inr, Bool, true, false, List, [], ◌∷◌, ◌++◌, reverse, map, refl, sym, ap, ◌∙◌, subst, append_assoc}
+use Rattle.std.proofs.Common.{◌≡◌, ◌≢◌, ℕ, inl, inr, Bool, true, List, [], ◌∷◌, ◌++◌, map, refl, sym, ap, ◌∙◌, subst, append_assoc}
 use Rattle.std.proofs.lemmas.List.{map-append, reverse-append}
 use Rattle.std.proofs.lemmas.Bool.{both_ways, true≢false}
 use Rattle.permutations.specs.Members.{is_member, is_distinct}
 use Rattle.permutations.specs.Cyclic.{first_or, last_or}
 use Rattle.permutations.specs.Relation.{IsEquivalence}
-use Rattle.permutations.proofs.Members.{member-head, member-tail, member-cases, member-append_left, distinct-append_apart}
+use Rattle.permutations.proofs.Members.{member-head, member-tail, member-cases, distinct-append_apart}
 use Rattle.permutations.proofs.Mapped.{member-map}
 use Rattle.canonical_orders.specs.Contours.{Successive}
 
@@ -80,13 +80,18 @@ pub around-turn : (R : ℕ → ℕ → Type 0) (a : ℕ) (l : List ℕ) → Arou
 around-turn R a [] s = s
 around-turn R a (b ∷ l) s = successive-join R (b ∷ l) a b [] s.1 s.0 tt
 
+-- the last member of a list that ends with x
+pub last-append : (d : ℕ) (l : List ℕ) (x : ℕ) → last_or d (l ++ x ∷ []) ≡ x
+last-append d l x = ap (first_or d) (reverse-append l (x ∷ []))
+
 -- a list that is not empty, cut before its last member
 pub last-cut : (a : ℕ) (l : List ℕ) → (front : List ℕ) × (a ∷ l ≡ front ++ last_or a (a ∷ l) ∷ [])
 last-cut a [] = ([], refl)
-last-cut a (b ∷ l) = let w = last-cut b l in (a ∷ w.0, ap (λ (k : List ℕ). a ∷ k) (w.1 ∙ ap (λ (z : ℕ). w.0 ++ z ∷ []) (sym (here w.0 (last_or b (b ∷ l)) w.1))))
-  where
-    here : (front : List ℕ) (z : ℕ) → b ∷ l ≡ front ++ z ∷ [] → last_or a (a ∷ b ∷ l) ≡ z
-    here front z e = ap (λ (k : List ℕ). last_or a (a ∷ k)) e ∙ ap (first_or a) (reverse-append (a ∷ front) (z ∷ []))
+last-cut a (b ∷ l) = let w = last-cut b l in (a ∷ w.0, ap (λ (k : List ℕ). a ∷ k) (w.1 ∙ ap (λ (z : ℕ). w.0 ++ z ∷ []) (sym (ap (λ (k : List ℕ). last_or a (a ∷ k)) w.1 ∙ last-append a (a ∷ w.0) (last_or b (b ∷ l))))))
+
+-- the same for what follows a first member
+pub last-cut_rest : (a b : ℕ) (l : List ℕ) → (front : List ℕ) × (b ∷ l ≡ front ++ last_or a (a ∷ b ∷ l) ∷ [])
+last-cut_rest a b l = let w = last-cut b l in (w.0, w.1 ∙ ap (λ (z : ℕ). w.0 ++ z ∷ []) (sym (ap (λ (k : List ℕ). last_or a (a ∷ k)) w.1 ∙ last-append a (a ∷ w.0) (last_or b (b ∷ l)))))
 
 -- from its last member to its first a cyclic list
 pub around-closed : (R : ℕ → ℕ → Type 0) (a : ℕ) (l : List ℕ) → Successive R (a ∷ l) → R (last_or a (a ∷ l)) a → Around R (a ∷ l)

@@ -1,9 +1,8 @@
 -- Chords of a face of a plane map do not cross. The chord is contracted, and the map is split at the two corners of the face that were
 -- at its ends: so it falls apart, and what is on one side of the chord is not connected with what is on the other.
-use Rattle.std.proofs.Common.{◌≡◌, ◌≢◌, ℕ, ◌*◌, ◌<◌, inl, inr, Bool, true, false, ◌&&◌, ◌||◌, ◌==◌, List, [], ◌∷◌, ◌++◌, map, refl, sym, ap, ◌∙◌, subst, append_assoc, arith}
-use Rattle.std.proofs.lemmas.Bool.{cases_Bool, both_ways, true≢false, eq-eqb, ne_eqb, eqb-true, or_from, false_from_ne_true}
+use Rattle.std.proofs.Common.{◌≡◌, ◌≢◌, ℕ, ◌*◌, ◌<◌, inl, inr, Bool, true, false, ◌||◌, ◌==◌, List, [], ◌∷◌, ◌++◌, map, refl, sym, ap, ◌∙◌, subst, append_assoc, arith}
+use Rattle.std.proofs.lemmas.Bool.{cases_Bool, both_ways, true≢false, eq-eqb, ne_eqb, eqb-true, or_from}
 use Rattle.permutations.specs.Members.{is_member, is_distinct}
-use Rattle.permutations.specs.Relation.{IsEquivalence, join}
 use Rattle.permutations.specs.Exchange.{exchange}
 use Rattle.std.proofs.lemmas.List.{map-append}
 use Rattle.permutations.proofs.Members.{member-head, member-tail, member-cases, member-append_left, member-append_right, member-append_cases, distinct-append_right}
@@ -53,61 +52,61 @@ twin-kept m f g keep t k d i = (twin-below m d i.0, k.twins d ∙ i.1)
 pub step-tail : (m : ℕ) (f g : ℕ → ℕ) (keep : ℕ → Bool) (t : ℕ → ℕ) → IsKeptMap m f g keep t → (x y : ℕ) → IsKept m keep y → FaceStep f x y → t (twin y) ≡ t x
 step-tail m f g keep t k x y i s = sym (turn-tail m f g keep t k (twin y) (twin-kept m f g keep t k y i)) ∙ ap t s
 
--- a chord D, and darts P and Q, the twins of which leave its two ends
+-- a chord, and two darts of the face, start and finish, whose twins leave its two ends
 module _ (m : ℕ) (f g : ℕ → ℕ) (keep : ℕ → Bool) (t : ℕ → ℕ) (k : IsKeptMap m f g keep t)
-    (D : ℕ) (chord : IsKept m keep D) (ends : t D ≢ t (twin D))
-    (P Q : ℕ) (first : IsKept m keep P) (second : IsKept m keep Q) (at_first : t (twin P) ≡ t D) (at_second : t (twin Q) ≡ t (twin D))
-    (P_other : P ≢ D) (P_twin : P ≢ twin D) (Q_other : Q ≢ D) (Q_twin : Q ≢ twin D) where
+    (chord : ℕ) (kept_chord : IsKept m keep chord) (ends : t chord ≢ t (twin chord))
+    (start finish : ℕ) (first : IsKept m keep start) (second : IsKept m keep finish) (at_first : t (twin start) ≡ t chord) (at_second : t (twin finish) ≡ t (twin chord))
+    (start_other : start ≢ chord) (start_twin : start ≢ twin chord) (finish_other : finish ≢ chord) (finish_twin : finish ≢ twin chord) where
   -- the map with the chord contracted
   abbrev short : ℕ → ℕ
-  short = contracted D f
+  short = contracted chord f
 
   -- and split at the two corners
   abbrev split : ℕ → ℕ
-  split = exchange (twin P) (twin Q) (contracted D f)
+  split = exchange (twin start) (twin finish) (contracted chord f)
 
   -- the chord joins two vertices
-  two-vertices : same_vertex m f D (twin D) ≡ false
-  two-vertices = k.told D (twin D) chord.0 (twin-below m D chord.0) chord.1 (k.twins D ∙ chord.1) ∙ ne_eqb (t D) (t (twin D)) ends
+  two-vertices : same_vertex m f chord (twin chord) ≡ false
+  two-vertices = k.told chord (twin chord) kept_chord.0 (twin-below m chord kept_chord.0) kept_chord.1 (k.twins chord ∙ kept_chord.1) ∙ ne_eqb (t chord) (t (twin chord)) ends
 
-  -- the twin of P leaves the first end of the chord
-  first-end : same_vertex m f (twin P) (g D) ≡ true
+  -- the twin of start leaves the first end of the chord
+  first-end : same_vertex m f (twin start) (g chord) ≡ true
   first-end =
       let e = orbit-equivalence (2 * m) f in
-      e.transitive (twin P) D (g D)
-      (k.told (twin P) D (twin-below m P first.0) chord.0 (k.twins P ∙ first.1) chord.1 ∙ eq-eqb (t (twin P)) (t D) at_first)
-      (e.symmetric (g D) D (before-orbit (2 * m) D f g k.map chord.0))
+      e.transitive (twin start) chord (g chord)
+      (k.told (twin start) chord (twin-below m start first.0) kept_chord.0 (k.twins start ∙ first.1) kept_chord.1 ∙ eq-eqb (t (twin start)) (t chord) at_first)
+      (e.symmetric (g chord) chord (before-orbit (2 * m) chord f g k.map kept_chord.0))
 
-  -- the twin of Q leaves the second
-  second-end : same_vertex m f (twin D) (twin Q) ≡ true
-  second-end = k.told (twin D) (twin Q) (twin-below m D chord.0) (twin-below m Q second.0) (k.twins D ∙ chord.1) (k.twins Q ∙ second.1) ∙ eq-eqb (t (twin D)) (t (twin Q)) (sym at_second)
+  -- the twin of finish leaves the second
+  second-end : same_vertex m f (twin chord) (twin finish) ≡ true
+  second-end = k.told (twin chord) (twin finish) (twin-below m chord kept_chord.0) (twin-below m finish second.0) (k.twins chord ∙ kept_chord.1) (k.twins finish ∙ second.1) ∙ eq-eqb (t (twin chord)) (t (twin finish)) (sym at_second)
 
   -- so both leave the vertex that the chord is contracted to
-  one-vertex : same_vertex m short (twin P) (twin Q) ≡ true
-  one-vertex = contracted-vertex m f g k.map D chord.0 two-vertices (twin P) (twin Q)
-      (λ e. P_twin (twin-back P D e)) (λ e. P_other (twin-back P (twin D) e ∙ twin-twin D)) (λ e. Q_twin (twin-back Q D e)) (λ e. Q_other (twin-back Q (twin D) e ∙ twin-twin D))
-      ∙ join-across (same_vertex m f) (g D) (twin D) (twin P) (twin Q) first-end second-end
+  one-vertex : same_vertex m short (twin start) (twin finish) ≡ true
+  one-vertex = contracted-vertex m f g k.map chord kept_chord.0 two-vertices (twin start) (twin finish)
+      (λ e. start_twin (twin-back start chord e)) (λ e. start_other (twin-back start (twin chord) e ∙ twin-twin chord)) (λ e. finish_twin (twin-back finish chord e)) (λ e. finish_other (twin-back finish (twin chord) e ∙ twin-twin chord))
+      ∙ join-across (same_vertex m f) (g chord) (twin chord) (twin start) (twin finish) first-end second-end
 
-  -- where P and Q are on one face, the split map falls apart
-  falls-apart : same_face m short P Q ≡ true → same_component m split (twin P) (twin Q) ≡ false
-  falls-apart w = corner-cut m short (dropped D (back_after (g D) (twin D) g)) (contracted-map m f g k.map D chord.0 two-vertices) (contract-plane m f g k.map D chord.0 two-vertices k.plane)
-      (twin P) (twin Q) (twin-below m P first.0) (twin-below m Q second.0) (λ e. ends (sym at_first ∙ ap t e ∙ at_second)) one-vertex
-      (subst (λ (z : ℕ). same_face m short z (twin (twin Q)) ≡ true) (sym (twin-twin P)) (subst (λ (z : ℕ). same_face m short P z ≡ true) (sym (twin-twin Q)) w))
+  -- where start and finish are on one face, the split map falls apart
+  falls-apart : same_face m short start finish ≡ true → same_component m split (twin start) (twin finish) ≡ false
+  falls-apart w = corner-cut m short (dropped chord (back_after (g chord) (twin chord) g)) (contracted-map m f g k.map chord kept_chord.0 two-vertices) (contract-plane m f g k.map chord kept_chord.0 two-vertices k.plane)
+      (twin start) (twin finish) (twin-below m start first.0) (twin-below m finish second.0) (λ e. ends (sym at_first ∙ ap t e ∙ at_second)) one-vertex
+      (subst (λ (z : ℕ). same_face m short z (twin (twin finish)) ≡ true) (sym (twin-twin start)) (subst (λ (z : ℕ). same_face m short start z ≡ true) (sym (twin-twin finish)) w))
 
   -- a dart that leaves an end of the chord
   abbrev at_end : ℕ → Bool
-  at_end d = (t d == t D) || (t d == t (twin D))
+  at_end d = (t d == t chord) || (t d == t (twin chord))
 
-  -- a dart that leaves none
-  not_at_end : (d : ℕ) → t d ≢ t D → t d ≢ t (twin D) → at_end d ≡ false
-  not_at_end d a c = or_from (t d == t D) (t d == t (twin D)) (ne_eqb (t d) (t D) a) (ne_eqb (t d) (t (twin D)) c)
+  -- a dart that leaves no end
+  not_at_end : (d : ℕ) → t d ≢ t chord → t d ≢ t (twin chord) → at_end d ≡ false
+  not_at_end d a c = or_from (t d == t chord) (t d == t (twin chord)) (ne_eqb (t d) (t chord) a) (ne_eqb (t d) (t (twin chord)) c)
 
   -- a dart with the number of an end leaves this end
-  first_at_end : (d : ℕ) → t d ≡ t D → at_end d ≡ true
-  first_at_end d e = grind (arith, eq-eqb (t d) (t D) e)
+  first_at_end : (d : ℕ) → t d ≡ t chord → at_end d ≡ true
+  first_at_end d e = grind (arith, eq-eqb (t d) (t chord) e)
 
-  second_at_end : (d : ℕ) → t d ≡ t (twin D) → at_end d ≡ true
-  second_at_end d e = grind (arith, eq-eqb (t d) (t (twin D)) e)
+  second_at_end : (d : ℕ) → t d ≡ t (twin chord) → at_end d ≡ true
+  second_at_end d e = grind (arith, eq-eqb (t d) (t (twin chord)) e)
 
   -- a dart that leaves no end differs from one that does
   end-differs : (d e : ℕ) → at_end d ≡ false → at_end e ≡ true → d ≢ e
@@ -116,16 +115,16 @@ module _ (m : ℕ) (f g : ℕ → ℕ) (keep : ℕ → Bool) (t : ℕ → ℕ) (
   -- the steps around vertices keep to these and to the others
   end-turn : (d : ℕ) → d < 2 * m → at_end (f d) ≡ at_end d
   end-turn d l = elim (cases_Bool (keep d)) [
-    | inl a ↦ ap (λ v. (v == t D) || (v == t (twin D))) (turn-tail m f g keep t k d (l, a))
+    | inl a ↦ ap (λ v. (v == t chord) || (v == t (twin chord))) (turn-tail m f g keep t k d (l, a))
     | inr a ↦ ap at_end (k.alone d a)
   ]
 
   -- elsewhere the split map is as before
   split-other : (d : ℕ) → d < 2 * m → at_end d ≡ false → split d ≡ f d
   split-other d l a =
-      exchange-other (twin P) (twin Q) short d (end-differs d (twin P) a (first_at_end (twin P) at_first)) (end-differs d (twin Q) a (second_at_end (twin Q) at_second))
-      ∙ contracted-other D f d (end-differs d D a (first_at_end D refl)) (end-differs d (twin D) a (second_at_end (twin D) refl))
-      (end-differs (f d) D (end-turn d l ∙ a) (first_at_end D refl)) (end-differs (f d) (twin D) (end-turn d l ∙ a) (second_at_end (twin D) refl))
+      exchange-other (twin start) (twin finish) short d (end-differs d (twin start) a (first_at_end (twin start) at_first)) (end-differs d (twin finish) a (second_at_end (twin finish) at_second))
+      ∙ contracted-other chord f d (end-differs d chord a (first_at_end chord refl)) (end-differs d (twin chord) a (second_at_end (twin chord) refl))
+      (end-differs (f d) chord (end-turn d l ∙ a) (first_at_end chord refl)) (end-differs (f d) (twin chord) (end-turn d l ∙ a) (second_at_end (twin chord) refl))
 
   -- what is connected without passing the ends of the chord is connected in the split map
   opened-split : (x y : ℕ) → same_component m (frozen at_end f) x y ≡ true → same_component m split x y ≡ true
@@ -151,122 +150,119 @@ module _ (m : ℕ) (f g : ℕ → ℕ) (keep : ℕ → Bool) (t : ℕ → ℕ) (
   stretch-split a l s h = successive-related (FaceStep f) (same_component m split) (component-equivalence m split) a l (λ x y i j r. step-split x y (h y j).0 r (h x i).1) s
 
   -- the contraction leaves a stretch of the face that does not hold the chord as it is
-  stretch-short : (a : ℕ) (l : List ℕ) → Successive (FaceStep f) (a ∷ l) → ((e : ℕ) → is_member e (a ∷ l) ≡ true → IsKept m keep e × ((e ≢ D) × (e ≢ twin D))) → (e : ℕ) → is_member e (a ∷ l) ≡ true → same_face m short a e ≡ true
+  stretch-short : (a : ℕ) (l : List ℕ) → Successive (FaceStep f) (a ∷ l) → ((e : ℕ) → is_member e (a ∷ l) ≡ true → IsKept m keep e × ((e ≢ chord) × (e ≢ twin chord))) → (e : ℕ) → is_member e (a ∷ l) ≡ true → same_face m short a e ≡ true
   stretch-short a l s h = successive-related (FaceStep f) (same_face m short) (orbit-equivalence (2 * m) (face short)) a l
       (λ x y i j r. (orbit-equivalence (2 * m) (face short)).symmetric y x
       (subst (λ (z : ℕ). same_face m short y z ≡ true)
-      (contracted-other D f (twin y) (λ e. (h y j).1.1 (twin-back y D e)) (λ e. (h y j).1.0 (twin-back y (twin D) e ∙ twin-twin D)) (λ e. (h x i).1.0 (sym r ∙ e)) (λ e. (h x i).1.1 (sym r ∙ e)) ∙ r)
+      (contracted-other chord f (twin y) (λ e. (h y j).1.1 (twin-back y chord e)) (λ e. (h y j).1.0 (twin-back y (twin chord) e ∙ twin-twin chord)) (λ e. (h x i).1.0 (sym r ∙ e)) (λ e. (h x i).1.1 (sym r ∙ e)) ∙ r)
       (orbit-step (2 * m) (face short) y (h y j).0.0))) s
 
-  -- a dart from the one stretch between P and Q to the other would connect the two
-  pub not-across : (mid : List ℕ) (z : ℕ) (out : List ℕ) → Successive (FaceStep f) ((P ∷ mid) ++ z ∷ Q ∷ out) → IsKept m keep z → z ≢ D → z ≢ twin D
-      → ((e : ℕ) → is_member e (P ∷ mid) ≡ true → IsKept m keep e × (at_end e ≡ false))
-      → ((e : ℕ) → is_member e (Q ∷ out) ≡ true → IsKept m keep e × (at_end e ≡ false))
-      → (B c d : ℕ) → IsKept m keep B → is_member c (P ∷ mid) ≡ true → t c ≡ t B → is_member d (Q ∷ out) ≡ true → t d ≡ t (twin B) → ⊥
-  not-across mid z out s i z_other z_twin inside outside B c d kept m_c at_c m_d at_d = both_ways (same_component m split (twin P) (twin Q)) (falls-apart one-face) around
+  -- a dart from the one stretch between start and finish to the other would connect the two
+  pub not-across : (mid : List ℕ) (z : ℕ) (out : List ℕ) → Successive (FaceStep f) ((start ∷ mid) ++ z ∷ finish ∷ out) → IsKept m keep z → z ≢ chord → z ≢ twin chord
+      → ((e : ℕ) → is_member e (start ∷ mid) ≡ true → IsKept m keep e × (at_end e ≡ false))
+      → ((e : ℕ) → is_member e (finish ∷ out) ≡ true → IsKept m keep e × (at_end e ≡ false))
+      → (across c d : ℕ) → IsKept m keep across → is_member c (start ∷ mid) ≡ true → t c ≡ t across → is_member d (finish ∷ out) ≡ true → t d ≡ t (twin across) → ⊥
+  not-across mid z out s i z_other z_twin inside outside across c d kept m_c at_c m_d at_d = both_ways (same_component m split (twin start) (twin finish)) (falls-apart one-face) around
     where
-      differs : (e : ℕ) → at_end e ≡ false → (e ≢ D) × (e ≢ twin D)
-      differs e a = (end-differs e D a (first_at_end D refl), end-differs e (twin D) a (second_at_end (twin D) refl))
+      differs : (e : ℕ) → at_end e ≡ false → (e ≢ chord) × (e ≢ twin chord)
+      differs e a = (end-differs e chord a (first_at_end chord refl), end-differs e (twin chord) a (second_at_end (twin chord) refl))
 
-      between : (e : ℕ) → is_member e ((P ∷ mid) ++ z ∷ Q ∷ []) ≡ true → IsKept m keep e × ((e ≢ D) × (e ≢ twin D))
-      between e n = elim (member-append_cases e (P ∷ mid) (z ∷ Q ∷ []) n) [
+      between : (e : ℕ) → is_member e ((start ∷ mid) ++ z ∷ finish ∷ []) ≡ true → IsKept m keep e × ((e ≢ chord) × (e ≢ twin chord))
+      between e n = elim (member-append_cases e (start ∷ mid) (z ∷ finish ∷ []) n) [
         | inl a ↦ let w = inside e a in (w.0, differs e w.1)
-        | inr a ↦ elim (member-cases e z (Q ∷ []) a) [
-          | inl q ↦ subst (λ (x : ℕ). IsKept m keep x × ((x ≢ D) × (x ≢ twin D))) q (i, (z_other, z_twin))
-          | inr q ↦ elim (member-cases e Q [] q) [
-            | inl o ↦ subst (λ (x : ℕ). IsKept m keep x × ((x ≢ D) × (x ≢ twin D))) o (second, (Q_other, Q_twin))
+        | inr a ↦ elim (member-cases e z (finish ∷ []) a) [
+          | inl q ↦ subst (λ (x : ℕ). IsKept m keep x × ((x ≢ chord) × (x ≢ twin chord))) q (i, (z_other, z_twin))
+          | inr q ↦ elim (member-cases e finish [] q) [
+            | inl o ↦ subst (λ (x : ℕ). IsKept m keep x × ((x ≢ chord) × (x ≢ twin chord))) o (second, (finish_other, finish_twin))
             | inr o ↦ absurd (true≢false (sym o))
           ]
         ]
       ]
 
-      front : Successive (FaceStep f) ((P ∷ mid) ++ z ∷ Q ∷ [])
-      front = successive-left (FaceStep f) ((P ∷ mid) ++ z ∷ Q ∷ []) out (subst (Successive (FaceStep f)) (sym (append_assoc (P ∷ mid) (z ∷ Q ∷ []) out)) s)
+      front : Successive (FaceStep f) ((start ∷ mid) ++ z ∷ finish ∷ [])
+      front = successive-left (FaceStep f) ((start ∷ mid) ++ z ∷ finish ∷ []) out (subst (Successive (FaceStep f)) (sym (append_assoc (start ∷ mid) (z ∷ finish ∷ []) out)) s)
 
-      one-face : same_face m short P Q ≡ true
-      one-face = stretch-short P (mid ++ z ∷ Q ∷ []) front between Q (member-append_right Q (P ∷ mid) (z ∷ Q ∷ []) (member-tail Q z (Q ∷ []) (member-head Q [])))
+      one-face : same_face m short start finish ≡ true
+      one-face = stretch-short start (mid ++ z ∷ finish ∷ []) front between finish (member-append_right finish (start ∷ mid) (z ∷ finish ∷ []) (member-tail finish z (finish ∷ []) (member-head finish [])))
 
-      back : Successive (FaceStep f) (Q ∷ out)
-      back = successive-tail (FaceStep f) z (Q ∷ out) (successive-right (FaceStep f) (P ∷ mid) (z ∷ Q ∷ out) s)
+      back : Successive (FaceStep f) (finish ∷ out)
+      back = successive-tail (FaceStep f) z (finish ∷ out) (successive-right (FaceStep f) (start ∷ mid) (z ∷ finish ∷ out) s)
 
-      around : same_component m split (twin P) (twin Q) ≡ true
+      around : same_component m split (twin start) (twin finish) ≡ true
       around =
           let e = component-equivalence m split in
-          e.transitive (twin P) P (twin Q) (e.symmetric P (twin P) (component-twin m split P first.0))
-          (e.transitive P c (twin Q) (stretch-split P mid (successive-left (FaceStep f) (P ∷ mid) (z ∷ Q ∷ out) s) inside c m_c)
-          (e.transitive c B (twin Q) (vertex-split c B (inside c m_c).0 kept at_c (inside c m_c).1)
-          (e.transitive B (twin B) (twin Q) (component-twin m split B kept.0)
-          (e.transitive (twin B) d (twin Q) (e.symmetric d (twin B) (vertex-split d (twin B) (outside d m_d).0 (twin-kept m f g keep t k B kept) at_d (outside d m_d).1))
-          (e.transitive d Q (twin Q) (e.symmetric Q d (stretch-split Q out back outside d m_d))
-          (component-twin m split Q second.0))))))
+          e.transitive (twin start) start (twin finish) (e.symmetric start (twin start) (component-twin m split start first.0))
+          (e.transitive start c (twin finish) (stretch-split start mid (successive-left (FaceStep f) (start ∷ mid) (z ∷ finish ∷ out) s) inside c m_c)
+          (e.transitive c across (twin finish) (vertex-split c across (inside c m_c).0 kept at_c (inside c m_c).1)
+          (e.transitive across (twin across) (twin finish) (component-twin m split across kept.0)
+          (e.transitive (twin across) d (twin finish) (e.symmetric d (twin across) (vertex-split d (twin across) (outside d m_d).0 (twin-kept m f g keep t k across kept) at_d (outside d m_d).1))
+          (e.transitive d finish (twin finish) (e.symmetric finish d (stretch-split finish out back outside d m_d))
+          (component-twin m split finish second.0))))))
 
--- the face of a plane map passes P, .., z, Q, .., y, and no vertex twice. A chord leads from y's vertex to z's. So no dart leads from the vertices
--- of P, .. to those of Q, ..
+-- the face of a plane map passes start, .., z, finish, .., y, and no vertex twice. A chord leads from y's vertex to z's. So no dart leads from the vertices
+-- of start, .. to those of finish, ..
 pub chords-apart : (m : ℕ) (f g : ℕ → ℕ) (keep : ℕ → Bool) (t : ℕ → ℕ) → IsKeptMap m f g keep t
-    → (P : ℕ) (mid : List ℕ) (z Q : ℕ) (out : List ℕ) (y : ℕ)
-    → Successive (FaceStep f) ((P ∷ mid) ++ z ∷ ((Q ∷ out) ++ y ∷ [])) → FaceStep f y P
-    → ((e : ℕ) → is_member e ((P ∷ mid) ++ z ∷ ((Q ∷ out) ++ y ∷ [])) ≡ true → IsKept m keep e)
-    → is_distinct (map t ((P ∷ mid) ++ z ∷ ((Q ∷ out) ++ y ∷ []))) ≡ true
-    → (D : ℕ) → IsKept m keep D → t D ≡ t y → t (twin D) ≡ t z
-    → (B c d : ℕ) → IsKept m keep B → is_member c (P ∷ mid) ≡ true → t c ≡ t B → is_member d (Q ∷ out) ≡ true → t d ≡ t (twin B) → ⊥
-chords-apart m f g keep t k P mid z Q out y s closing darts once D chord at_y at_z = 
-    not-across m f g keep t k D chord (λ e. y_z (sym at_y ∙ e ∙ at_z)) P Q first second
-    (step-tail m f g keep t k y P first closing ∙ sym at_y)
-    (step-tail m f g keep t k z Q second next ∙ sym at_z)
-    (λ e. (inside P (member-head P mid)).1.0 (ap t e)) (λ e. (inside P (member-head P mid)).1.1 (ap t e))
-    (λ e. (outside Q (member-head Q out)).1.0 (ap t e)) (λ e. (outside Q (member-head Q out)).1.1 (ap t e))
+    → (start : ℕ) (mid : List ℕ) (z finish : ℕ) (out : List ℕ) (y : ℕ)
+    → Successive (FaceStep f) ((start ∷ mid) ++ z ∷ ((finish ∷ out) ++ y ∷ [])) → FaceStep f y start
+    → ((e : ℕ) → is_member e ((start ∷ mid) ++ z ∷ ((finish ∷ out) ++ y ∷ [])) ≡ true → IsKept m keep e)
+    → is_distinct (map t ((start ∷ mid) ++ z ∷ ((finish ∷ out) ++ y ∷ []))) ≡ true
+    → (chord : ℕ) → IsKept m keep chord → t chord ≡ t y → t (twin chord) ≡ t z
+    → (across c d : ℕ) → IsKept m keep across → is_member c (start ∷ mid) ≡ true → t c ≡ t across → is_member d (finish ∷ out) ≡ true → t d ≡ t (twin across) → ⊥
+chords-apart m f g keep t k start mid z finish out y s closing darts once chord kept_chord at_y at_z =
+    not-across m f g keep t k chord kept_chord (λ e. y_z (sym at_y ∙ e ∙ at_z)) start finish first second
+    (step-tail m f g keep t k y start first closing ∙ sym at_y)
+    (step-tail m f g keep t k z finish second next ∙ sym at_z)
+    (λ e. (inside start (member-head start mid)).1.0 (ap t e)) (λ e. (inside start (member-head start mid)).1.1 (ap t e))
+    (λ e. (outside finish (member-head finish out)).1.0 (ap t e)) (λ e. (outside finish (member-head finish out)).1.1 (ap t e))
     mid z out front third (λ e. y_z (sym at_y ∙ ap t (sym e))) z_twin
     (λ e n. ((inside e n).0, neither e (inside e n).1)) (λ e n. ((outside e n).0, neither e (outside e n).1))
   where
-    rest : List ℕ
-    rest = (Q ∷ out) ++ y ∷ []
+    y_rest : is_member y ((finish ∷ out) ++ y ∷ []) ≡ true
+    y_rest = member-append_right y (finish ∷ out) (y ∷ []) (member-head y [])
 
-    y_rest : is_member y ((Q ∷ out) ++ y ∷ []) ≡ true
-    y_rest = member-append_right y (Q ∷ out) (y ∷ []) (member-head y [])
-
-    once_back : is_distinct (map t (z ∷ ((Q ∷ out) ++ y ∷ []))) ≡ true
-    once_back = distinct-append_right (map t (P ∷ mid)) (map t (z ∷ ((Q ∷ out) ++ y ∷ []))) (ap is_distinct (sym (map-append t (P ∷ mid) (z ∷ ((Q ∷ out) ++ y ∷ [])))) ∙ once)
+    once_back : is_distinct (map t (z ∷ ((finish ∷ out) ++ y ∷ []))) ≡ true
+    once_back = distinct-append_right (map t (start ∷ mid)) (map t (z ∷ ((finish ∷ out) ++ y ∷ []))) (ap is_distinct (sym (map-append t (start ∷ mid) (z ∷ ((finish ∷ out) ++ y ∷ [])))) ∙ once)
 
     y_z : t y ≢ t z
-    y_z e = values-apart t (z ∷ []) ((Q ∷ out) ++ y ∷ []) once_back z y (member-head z []) y_rest (sym e)
+    y_z e = values-apart t (z ∷ []) ((finish ∷ out) ++ y ∷ []) once_back z y (member-head z []) y_rest (sym e)
 
-    inside : (e : ℕ) → is_member e (P ∷ mid) ≡ true → IsKept m keep e × ((t e ≢ t D) × (t e ≢ t (twin D)))
+    inside : (e : ℕ) → is_member e (start ∷ mid) ≡ true → IsKept m keep e × ((t e ≢ t chord) × (t e ≢ t (twin chord)))
     inside e n = (
-      darts e (member-append_left e (P ∷ mid) (z ∷ ((Q ∷ out) ++ y ∷ [])) n),
+      darts e (member-append_left e (start ∷ mid) (z ∷ ((finish ∷ out) ++ y ∷ [])) n),
       (
-        λ q. values-apart t (P ∷ mid) (z ∷ ((Q ∷ out) ++ y ∷ [])) once e y n (member-tail y z ((Q ∷ out) ++ y ∷ []) y_rest) (q ∙ at_y),
-        λ q. values-apart t (P ∷ mid) (z ∷ ((Q ∷ out) ++ y ∷ [])) once e z n (member-head z ((Q ∷ out) ++ y ∷ [])) (q ∙ at_z),
+        λ q. values-apart t (start ∷ mid) (z ∷ ((finish ∷ out) ++ y ∷ [])) once e y n (member-tail y z ((finish ∷ out) ++ y ∷ []) y_rest) (q ∙ at_y),
+        λ q. values-apart t (start ∷ mid) (z ∷ ((finish ∷ out) ++ y ∷ [])) once e z n (member-head z ((finish ∷ out) ++ y ∷ [])) (q ∙ at_z),
       ),
     )
 
-    outside : (e : ℕ) → is_member e (Q ∷ out) ≡ true → IsKept m keep e × ((t e ≢ t D) × (t e ≢ t (twin D)))
+    outside : (e : ℕ) → is_member e (finish ∷ out) ≡ true → IsKept m keep e × ((t e ≢ t chord) × (t e ≢ t (twin chord)))
     outside e n = (
-      darts e (member-append_right e (P ∷ mid) (z ∷ ((Q ∷ out) ++ y ∷ [])) (member-tail e z ((Q ∷ out) ++ y ∷ []) (member-append_left e (Q ∷ out) (y ∷ []) n))),
+      darts e (member-append_right e (start ∷ mid) (z ∷ ((finish ∷ out) ++ y ∷ [])) (member-tail e z ((finish ∷ out) ++ y ∷ []) (member-append_left e (finish ∷ out) (y ∷ []) n))),
       (
-        λ q. values-apart t (z ∷ Q ∷ out) (y ∷ []) once_back e y (member-tail e z (Q ∷ out) n) (member-head y []) (q ∙ at_y),
-        λ q. values-apart t (z ∷ []) ((Q ∷ out) ++ y ∷ []) once_back z e (member-head z []) (member-append_left e (Q ∷ out) (y ∷ []) n) (sym (q ∙ at_z)),
+        λ q. values-apart t (z ∷ finish ∷ out) (y ∷ []) once_back e y (member-tail e z (finish ∷ out) n) (member-head y []) (q ∙ at_y),
+        λ q. values-apart t (z ∷ []) ((finish ∷ out) ++ y ∷ []) once_back z e (member-head z []) (member-append_left e (finish ∷ out) (y ∷ []) n) (sym (q ∙ at_z)),
       ),
     )
 
-    neither : (e : ℕ) → (t e ≢ t D) × (t e ≢ t (twin D)) → ((t e == t D) || (t e == t (twin D))) ≡ false
-    neither e n = or_from (t e == t D) (t e == t (twin D)) (ne_eqb (t e) (t D) n.0) (ne_eqb (t e) (t (twin D)) n.1)
+    neither : (e : ℕ) → (t e ≢ t chord) × (t e ≢ t (twin chord)) → ((t e == t chord) || (t e == t (twin chord))) ≡ false
+    neither e n = or_from (t e == t chord) (t e == t (twin chord)) (ne_eqb (t e) (t chord) n.0) (ne_eqb (t e) (t (twin chord)) n.1)
 
-    first : IsKept m keep P
-    first = darts P (member-head P (mid ++ z ∷ ((Q ∷ out) ++ y ∷ [])))
+    first : IsKept m keep start
+    first = darts start (member-head start (mid ++ z ∷ ((finish ∷ out) ++ y ∷ [])))
 
-    second : IsKept m keep Q
-    second = (outside Q (member-head Q out)).0
+    second : IsKept m keep finish
+    second = (outside finish (member-head finish out)).0
 
     third : IsKept m keep z
-    third = darts z (member-append_right z (P ∷ mid) (z ∷ ((Q ∷ out) ++ y ∷ [])) (member-head z ((Q ∷ out) ++ y ∷ [])))
+    third = darts z (member-append_right z (start ∷ mid) (z ∷ ((finish ∷ out) ++ y ∷ [])) (member-head z ((finish ∷ out) ++ y ∷ [])))
 
-    front : Successive (FaceStep f) ((P ∷ mid) ++ z ∷ Q ∷ out)
-    front = successive-left (FaceStep f) ((P ∷ mid) ++ z ∷ Q ∷ out) (y ∷ []) (subst (Successive (FaceStep f)) (sym (append_assoc (P ∷ mid) (z ∷ Q ∷ out) (y ∷ []))) s)
+    front : Successive (FaceStep f) ((start ∷ mid) ++ z ∷ finish ∷ out)
+    front = successive-left (FaceStep f) ((start ∷ mid) ++ z ∷ finish ∷ out) (y ∷ []) (subst (Successive (FaceStep f)) (sym (append_assoc (start ∷ mid) (z ∷ finish ∷ out) (y ∷ []))) s)
 
-    next : FaceStep f z Q
-    next = (successive-right (FaceStep f) (P ∷ mid) (z ∷ Q ∷ out) front).0
+    next : FaceStep f z finish
+    next = (successive-right (FaceStep f) (start ∷ mid) (z ∷ finish ∷ out) front).0
 
-    z_twin : z ≢ twin D
+    z_twin : z ≢ twin chord
     z_twin e =
-        let w = successive-before (FaceStep f) P mid z (Q ∷ out) front in
-        (inside w.0 w.1).1.0 (sym (step-tail m f g keep t k w.0 z third w.2) ∙ ap t (ap twin e ∙ twin-twin D))
+        let w = successive-before (FaceStep f) start mid z (finish ∷ out) front in
+        (inside w.0 w.1).1.0 (sym (step-tail m f g keep t k w.0 z third w.2) ∙ ap t (ap twin e ∙ twin-twin chord))

@@ -12,3 +12,4 @@ pub mod Arms
 pub mod Stacking
 pub mod Removing
 pub mod Starting
+mod ChordExamples
