@@ -13,3 +13,6 @@ pub mod Stacking
 pub mod Removing
 pub mod Starting
 mod ChordExamples
+pub mod RingWalks
+pub mod Counting
+pub mod Maps

@@ -2,4 +2,5 @@
 pub mod Contours
 pub mod Order
 pub mod Free
+pub mod State
 pub mod Laws
