@@ -1,6 +1,7 @@
 -- One more, or one less, at each vertex of a list, step by step.
 use Rattle.std.proofs.Common.{◌≡◌, ◌≢◌, ℕ, ◌+◌, ◌-◌, ◌<◌, ◌≤◌, inl, inr, Bool, true, false, ◌||◌, ◌==◌, cond, List, [], ◌∷◌, ◌++◌, length, map, take, drop, slice_index, slice_set, refl, sym, ap, ◌∙◌, subst, arith}
 use Rattle.std.proofs.lemmas.Bool.{cases_Bool, cases_eq, eq-eqb, ne_eqb, both_ways}
+use Rattle.std.proofs.Math.Seq.{take-append_seam}
 use Rattle.std.proofs.lemmas.List.{map-append, take_more, take-append-drop, get_or-set_same, get_or-set_other, length-set}
 use Rattle.permutations.specs.Members.{is_member, is_distinct}
 use Rattle.permutations.proofs.Members.{member-append, member-head, member-append_left, member-append_right, distinct-append_left}
@@ -82,3 +83,7 @@ pub image-in : (f : ℕ → ℕ) (l : List ℕ) (k : ℕ) → k < length l → i
 image-in f l k h = ap (λ (v : List ℕ). is_member (f (slice_index l k)) v) (ap (map f) (sym (take-append-drop (k + 1) l)) ∙ map-append f (take (k + 1) l) (drop (k + 1) l))
     ∙ member-append_left (f (slice_index l k)) (map f (take (k + 1) l)) (map f (drop (k + 1) l))
     (ap (is_member (f (slice_index l k))) (images-take f l k h) ∙ member-append_right (f (slice_index l k)) (map f (take k l)) (f (slice_index l k) ∷ []) (member-head (f (slice_index l k)) []))
+
+-- a part that is as long as the whole is the whole
+pub whole-again : (n : ℕ) (a b : List ℕ) → n ≡ length a → take n (a ++ b) ≡ a
+whole-again n a b e = ap (λ (k : ℕ). take k (a ++ b)) e ∙ take-append_seam a b

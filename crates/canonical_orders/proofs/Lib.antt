@@ -16,3 +16,6 @@ mod ChordExamples
 pub mod RingWalks
 pub mod Counting
 pub mod Maps
+pub mod Marking
+pub mod Entering
+pub mod Taking

@@ -1,5 +1,5 @@
 -- State of the loops: the contour kept in arrays, with an entry for each vertex, and an order so far.
-use Rattle.std.specs.Prelude.{◌≡◌, ℕ, suc, ◌+◌, ◌*◌, ◌<◌, ◌≤◌, Bool, true, not, ◌&&◌, ◌==◌, false, List, [], ◌∷◌, length, map, slice_index, slice_index_or}
+use Rattle.std.specs.Prelude.{◌≡◌, ℕ, suc, ◌+◌, ◌*◌, ◌^◌, ◌<◌, ◌≤◌, Bool, true, not, ◌&&◌, ◌==◌, false, List, [], ◌∷◌, length, map, slice_index, slice_index_or}
 use Rattle.permutations.specs.Count.{count, least, some}
 use Rattle.permutations.specs.Members.{is_member, is_distinct}
 use Rattle.permutations.specs.Permutation.{iterate}
@@ -54,6 +54,7 @@ can_leave h on met v = is_marked on v && not (v == tail h 0) && not (v == tail h
 pub record IsMet (h : Multigraph) (on : List Bool) (met : List ℕ) : Type 0 where
   pub on_each : length on ≡ h.vertex_count
   pub met_each : length met ≡ h.vertex_count
+  pub few : h.vertex_count < 2 ^ 32
   pub counts : (v : ℕ) → v < h.vertex_count → slice_index met v ≡ count h.vertex_count (λ x. is_marked on x && is_adjacent h v x)
 
 -- the arrays keep the contour: `left` has the dart of each vertex on it, and these vertices are marked

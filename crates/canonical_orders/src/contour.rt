@@ -1,6 +1,6 @@
 // The contour in arrays, while vertices are removed.
 
-ghost use Rattle.std.specs.Prelude.{◌≡◌, ◌<◌, ℕ, not, ◌&&◌, ◌||◌, ◌==◌, true, IfOk, IfSome, length, slice_index, slice_set};
+ghost use Rattle.std.specs.Prelude.{◌≡◌, ◌<◌, ℕ, not, ◌&&◌, ◌||◌, ◌==◌, false, true, IfOk, IfSome, length, slice_index, slice_set};
 ghost use Rattle.permutations.specs.Count.{some};
 ghost use Rattle.permutations.specs.Members.{is_distinct, is_member};
 ghost use Rattle.multigraph.specs.Darts.{dart_count, tail};
@@ -71,7 +71,7 @@ impl Contour {
         requires triangulated { IsTriangulatedMap map.now }
         requires dart_in { dart < dart_count map.now.graph }
         requires met { IsMet map.now.graph self.old.on.items self.old.met.items }
-        requires unmarked { not (is_marked self.old.on.items (tail map.now.graph dart)) ≡ true }
+        requires unmarked { is_marked self.old.on.items (tail map.now.graph dart) ≡ false }
         ensures left { IfOk result (λ _. self.new.left.items ≡ self.old.left.items) }
         ensures marked { IfOk result (λ _. (v : ℕ) → is_marked self.new.on.items v
             ≡ (is_marked self.old.on.items v || (v == tail map.now.graph dart))) }

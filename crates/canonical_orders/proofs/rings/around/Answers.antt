@@ -15,13 +15,13 @@ pub loop-dart-smaller : goal.loop-dart-smaller
 loop-dart-smaller c =
     let t = c.args.map.now in
     let short = around-short (dart_count t.graph) (slice_index t.next) (slice_index t.previous) c.requires.triangulated.map.drawn.map c.args.first c.loop-dart.dart c.loop-dart.darts.items c.requires.first_in c.loop-dart.invariant c.loop-dart-test.true in
-    omega (arith, short, c.in_ok-push-in-loop-dart.ensures.len)
+    omega (arith, short, c.in_ok-push-2.ensures.len)
 
 pub loop-dart-preserved : goal.loop-dart-preserved
 loop-dart-preserved c =
     let t = c.args.map.now in
     let more = around-more (dart_count t.graph) (slice_index t.next) (slice_index t.previous) c.requires.triangulated.map.drawn.map c.args.first c.loop-dart.dart c.loop-dart.darts.items c.requires.first_in c.loop-dart.invariant c.loop-dart-test.true in
-    rw (c.in_ok-push-in-loop-dart.ensures.items, c.next-dart-in-loop-dart.ensures) more
+    rw (c.in_ok-push-2.ensures.items, c.next-dart-in-loop-dart.ensures) more
 
 pub returns : goal.returns
 returns c =
