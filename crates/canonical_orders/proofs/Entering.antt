@@ -17,7 +17,7 @@ use Rattle.canonical_orders.proofs.Triangles.{face-below, tail-face}
 use Rattle.canonical_orders.proofs.Counting.{images-take, image-new}
 
 -- the test of equality has no side
-eqb-sides : (a b : ℕ) → (a == b) ≡ (b == a)
+pub eqb-sides : (a b : ℕ) → (a == b) ≡ (b == a)
 eqb-sides a b = elim (cases_eq a b) [ inl e ↦ eq-eqb a b e ∙ sym (eq-eqb b a (sym e)) | inr n ↦ ne_eqb a b n ∙ sym (ne_eqb b a (λ e. n (sym e))) ]
 
 -- no dart yet

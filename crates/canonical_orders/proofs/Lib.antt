@@ -19,3 +19,5 @@ pub mod Maps
 pub mod Marking
 pub mod Entering
 pub mod Taking
+pub mod PartOrders
+pub mod OrderStart

@@ -24,7 +24,7 @@ pub(crate) struct Contour {
 
 impl Contour {
     // Whether the vertex can be removed next.
-    pub(crate) fn is_free(&self, map: &DartMap, vertex: u32) -> bool
+    fn is_free(&self, map: &DartMap, vertex: u32) -> bool
         requires triangulated { IsTriangulatedMap map.now }
         requires met { IsMet map.now.graph self.now.on.items self.now.met.items }
         ensures { result ≡ can_leave map.now.graph self.now.on.items self.now.met.items vertex }
@@ -37,7 +37,7 @@ impl Contour {
     }
 
     // The last of the waiting vertices that can be removed; those after it are dropped.
-    pub(crate) fn waiting_free(&self, map: &DartMap, waiting: &mut Vec<u32>) -> Option<u32>
+    fn waiting_free(&self, map: &DartMap, waiting: &mut Vec<u32>) -> Option<u32>
         requires triangulated { IsTriangulatedMap map.now }
         requires met { IsMet map.now.graph self.now.on.items self.now.met.items }
         ensures { IfSome result (λ v. can_leave map.now.graph self.now.on.items self.now.met.items v ≡ true) }
@@ -51,7 +51,7 @@ impl Contour {
     }
 
     // The first vertex that can be removed, where there is one.
-    pub(crate) fn some_free(&self, map: &DartMap) -> u32
+    fn some_free(&self, map: &DartMap) -> u32
         requires triangulated { IsTriangulatedMap map.now }
         requires met { IsMet map.now.graph self.now.on.items self.now.met.items }
         requires some_free { some map.now.graph.vertex_count
@@ -64,6 +64,20 @@ impl Contour {
             }
         }
         unreachable!()
+    }
+
+    // A vertex that can be removed, where there is one: one that waits, else the first.
+    pub(crate) fn next_free(&self, map: &DartMap, waiting: &mut Vec<u32>) -> u32
+        requires triangulated { IsTriangulatedMap map.now }
+        requires met { IsMet map.now.graph self.now.on.items self.now.met.items }
+        requires some_free { some map.now.graph.vertex_count
+            (can_leave map.now.graph self.now.on.items self.now.met.items) ≡ true }
+        ensures { can_leave map.now.graph self.now.on.items self.now.met.items result ≡ true }
+    {
+        match self.waiting_free(map, waiting) {
+            Some(vertex) => vertex,
+            None => self.some_free(map),
+        }
     }
 
     // Puts the vertex that `dart` leaves on the contour.

@@ -38,10 +38,7 @@ pub fn peel(alloc: Global, map: &DartMap) -> Result<Vec<Removal>, AllocError>
     waiting.push(map.head(map.face(0)))?;
     let mut order = Vec::new(alloc);
     for _ in 2..map.vertex_count() {
-        let vertex = match contour.waiting_free(map, &mut waiting) {
-            Some(vertex) => vertex,
-            None => contour.some_free(map),
-        };
+        let vertex = contour.next_free(map, &mut waiting);
         let removal = contour.remove(alloc, map, vertex)?;
         waiting.extend_from_slice(removal.heads())?;
         order.push(removal)?;
