@@ -1,18 +1,18 @@
 -- The loops that fill faces: what they keep, and the number that decreases.
-use Rattle.std.proofs.Common.{◌≡◌, ◌≢◌, ℕ, ◌+◌, ◌-◌, ◌*◌, ◌<◌, ◌≤◌, ◌⊎◌, inl, inr, Bool, true, false, ◌||◌, List, refl, sym, ap, ◌∙◌, subst, arith}
-use Rattle.std.proofs.lemmas.Bool.{cases_Bool, cases_lt, cases_eq, both_ways, eq-eqb, eqb-true, or_cases, or_left, or_right, cond-true, cond-false}
+use Rattle.std.proofs.Common.{◌≡◌, ◌≢◌, ℕ, ◌+◌, ◌-◌, ◌*◌, ◌<◌, ◌≤◌, ◌⊎◌, inl, inr, true, false, List, refl, sym, ap, ◌∙◌, subst, arith}
+use Rattle.std.proofs.lemmas.Bool.{cases_Bool, cases_lt, cases_eq, eq-eqb, eqb-true, or_cases, or_left, or_right, cond-true, cond-false}
 use Rattle.permutations.proofs.Orbits.{orbit-equivalence, orbit-step, orbit-kept}
 use Rattle.dart_maps.specs.Map.{twin, face, IsMap, same_face}
 use Rattle.dart_maps.proofs.Darts.{face-permutes}
-use Rattle.multigraph.specs.Graph.{Multigraph, edge_count}
-use Rattle.faces.specs.Euler.{dart_count}
-use Rattle.drawn_maps.proofs.Drawn.{dart-cases}
-use Rattle.triangulations.specs.Triangulation.{IsSimpleMap, Extends, IsTriangulation}
-use Rattle.triangulations.specs.Cutting.{is_triangle, can_cut, cut_graph, cut_next, wait, IsFilled, IsFilling}
+use Rattle.multigraph.specs.Graph.{Multigraph}
+use Rattle.faces.specs.Euler.{tail, dart_count}
+use Rattle.drawn_maps.proofs.Drawn.{dart-cases, more-edges, joined_back}
+use Rattle.triangulations.specs.Triangulation.{IsSimpleMap, IsTriangulation}
+use Rattle.triangulations.specs.Cutting.{is_triangle, second_head, can_cut, cut_graph, cut_next, wait, IsFilled, IsFilling}
 use Rattle.triangulations.proofs.SimpleMaps.{face-in}
 use Rattle.triangulations.proofs.Progress.{third-cut}
 use Rattle.triangulations.proofs.Bounded.{darts-bounded}
-use Rattle.triangulations.proofs.Cut.{cut-map, cut-extends, face-kept, new-kept}
+use Rattle.triangulations.proofs.Cut.{cut-map, cut-permutes, cut-extends, face-kept, new-kept}
 
 -- what is still to be done at dart d: no step of the loop increases it
 abbrev pub left_over : Multigraph → (ℕ → ℕ) → ℕ → ℕ
@@ -80,13 +80,6 @@ module _ (g : Multigraph) (r : List (List ℕ)) (start m : ℕ) (h : Multigraph)
       ];
     }
 
-    -- then there is less to be done
-    pub onward-less : is_triangle next d ≡ false → can_cut h next d ≡ false → left_over h next (face next d) < left_over h next d
-    onward-less long not_here = elim (cases_Bool (can_cut h next (face next d))) [
-      | inl t ↦ omega (arith, wait-one h next d not_here t, wait-none h next (face next d) t)
-      | inr n ↦ let last = third-cut m h next previous f.map d f.dart long not_here n in omega (arith, wait-two h next d not_here n, wait-one h next (face next d) n last)
-    ]
-
     -- a triangle is cut off
     module _ (long : is_triangle next d ≡ false) (can : can_cut h next d ≡ true) (after back : ℕ → ℕ) (made : (c : ℕ) → c < 2 * (m + 1) → after c ≡ cut_next m next previous d c) (map : IsMap (m + 1) after back) where
       pub filling-cut : IsFilling g r start (2 * m) (m + 1) (cut_graph h next d) after back
@@ -100,12 +93,24 @@ module _ (g : Multigraph) (r : List (List ℕ)) (start m : ℕ) (h : Multigraph)
         ];
       }
 
-      pub cut-less : left_over (cut_graph h next d) after (2 * m) < left_over h next d
-      cut-less =
-          let e = f.map.drawn.edges in
-          let e' = filling-cut.map.drawn.edges in
-          let l = darts-bounded (m + 1) (cut_graph h next d) after back filling-cut.map in
-          omega (arith, e, e', l, wait-few (cut_graph h next d) after (2 * m))
+-- one dart on, where no edge can be added, there is less to be done
+pub onward-less : (m : ℕ) (h : Multigraph) (next previous : ℕ → ℕ) → IsSimpleMap m h next previous → (d : ℕ) → d < 2 * m → is_triangle next d ≡ false → can_cut h next d ≡ false → left_over h next (face next d) < left_over h next d
+onward-less m h next previous s d l long not_here = elim (cases_Bool (can_cut h next (face next d))) [
+  | inl t ↦ omega (arith, wait-one h next d not_here t, wait-none h next (face next d) t)
+  | inr n ↦ let last = third-cut m h next previous s d l long not_here n in omega (arith, wait-two h next d not_here n, wait-one h next (face next d) n last)
+]
+
+-- there is room for two darts more, where an edge can be added
+pub cut-room : (m : ℕ) (h : Multigraph) (next previous : ℕ → ℕ) → IsSimpleMap m h next previous → (d : ℕ) → d < 2 * m → can_cut h next d ≡ true → 2 * (m + 1) ≤ h.vertex_count * h.vertex_count
+cut-room m h next previous s d l can = darts-bounded (m + 1) (cut_graph h next d) (cut_next m next previous d) (joined_back m (previous d) (twin (face next d)) previous)
+    (cut-map m h next previous s d l can (cut_next m next previous d) (joined_back m (previous d) (twin (face next d)) previous) (λ c k. refl) (cut-permutes m h next previous s d l can))
+
+-- and with the edge there is less to be done
+pub cut-less : (m : ℕ) (h : Multigraph) (next previous : ℕ → ℕ) → IsSimpleMap m h next previous → (d : ℕ) → d < 2 * m → can_cut h next d ≡ true → (after : ℕ → ℕ) (e : ℕ) → left_over (cut_graph h next d) after e < left_over h next d
+cut-less m h next previous s d l can after e =
+    let i = s.drawn.edges in
+    let i' = more-edges m h h.vertex_count (tail h d, second_head h next d) s.drawn.edges in
+    omega (arith, i, i', cut-room m h next previous s d l can, wait-few (cut_graph h next d) after e)
 
 -- when all faces are filled the map is a triangulation
 pub filled-all : (g : Multigraph) (r : List (List ℕ)) (m : ℕ) (h : Multigraph) (next previous : ℕ → ℕ) → IsFilled g r (dart_count g) m h next previous → IsTriangulation g r m h next previous

@@ -1,4 +1,5 @@
 -- Triangulations of plane maps.
 pub mod Triangulation
-pub mod Listed
 pub mod Cutting
+pub mod Listed
+pub mod Pairs
