@@ -1,30 +1,29 @@
 -- An edge is added that cuts a triangle off a face: the map stays simple, and the other faces stay.
-use Rattle.std.proofs.Common.{◌≡◌, ◌≢◌, ℕ, zero, suc, ◌+◌, ◌*◌, ◌<◌, ◌≤◌, ◌⊎◌, inl, inr, Bool, true, false, not, ◌&&◌, ◌||◌, ◌==◌, ltb, List, [], ◌∷◌, ◌++◌, length, All, refl, sym, ap, ◌∙◌, subst, arith}
+use Rattle.std.proofs.Common.{◌≡◌, ◌≢◌, ℕ, suc, ◌+◌, ◌*◌, ◌<◌, ◌≤◌, ◌⊎◌, inl, inr, Bool, true, false, not, ◌||◌, ◌==◌, ltb, List, [], ◌∷◌, ◌++◌, length, sym, ap, ◌∙◌, subst, arith}
 use Rattle.std.specs.List.{Contains}
-use Rattle.std.proofs.lemmas.Bool.{cases_Bool, cases_eq, both_ways, eq-eqb, eqb-true, ne_eqb, lt-ltb, le-ltb, ltb-true, or_cases, or_left, or_right, and_parts, not-true}
+use Rattle.std.proofs.lemmas.Bool.{cases_eq, both_ways, eq-eqb, eqb-true, lt-ltb, le-ltb, ltb-true, or_cases, or_left, or_right, and_parts, not-true}
 use Rattle.std.proofs.lemmas.List.{append_assoc, length-append}
 use Rattle.std.proofs.lemmas.List.Elements.{All-weaker, All-contains_itself, Contains-append_left}
-use Rattle.permutations.specs.Permutation.{Permutes, iterate, same_orbit}
+use Rattle.permutations.specs.Permutation.{Permutes, iterate}
 use Rattle.permutations.specs.Relation.{connected}
-use Rattle.permutations.specs.Exchange.{restricted, exchange}
+use Rattle.permutations.specs.Exchange.{restricted}
 use Rattle.permutations.proofs.Relation.{connected-link, connected-subset}
-use Rattle.permutations.proofs.Permutations.{permutes-one-to-one, exchange-right}
+use Rattle.permutations.proofs.Permutations.{exchange-right}
 use Rattle.permutations.proofs.Orbits.{orbit-equivalence, orbit-step, orbit-kept, orbit-ext}
 use Rattle.permutations.proofs.Iterates.{iterate-ext}
 use Rattle.permutations.proofs.Restriction.{goes-restricted, restricted-goes, restricted-next, restricted-permutes, restricted-twice}
-use Rattle.dart_maps.specs.Map.{twin, face, IsMap, IsPlane, same_vertex, same_face}
+use Rattle.dart_maps.specs.Map.{twin, face, IsMap, same_face}
 use Rattle.dart_maps.proofs.Darts.{twin-twin, twin-below, twin-back, face-permutes, face-twin}
 use Rattle.dart_maps.proofs.Euler.{plane-ext}
-use Rattle.multigraph.specs.Graph.{Multigraph, IsGraph, edge_count, ends_of}
+use Rattle.multigraph.specs.Graph.{Multigraph, IsGraph, edge_count}
 use Rattle.graph_theory.specs.Connected.{IsConnected}
 use Rattle.faces.specs.Euler.{tail, dart_count}
-use Rattle.faces.specs.Maps.{dart_after}
 use Rattle.faces.proofs.DartLemmas.{tail-first, tail-second}
 use Rattle.drawn_maps.specs.Drawn.{IsDrawn, with_edge, hung, joined}
 use Rattle.drawn_maps.proofs.Drawn.{dart-cases, twin-last, tail-old, tail-new, tail-new_second, hung-old, joined-second_corner, joined-corner, joined-first, joined-old, joined_back, cross}
 use Rattle.triangulations.specs.Triangulation.{IsSimpleMap, Extends}
 use Rattle.triangulations.specs.Cutting.{is_triangle, are_joined, second_head, can_cut, cut_graph, cut_next}
-use Rattle.triangulations.proofs.SimpleMaps.{twin-in, next-in, face-in, tail-next, tail-previous, tail-face, no-loop, face-one, face-moves, joined-from}
+use Rattle.triangulations.proofs.SimpleMaps.{twin-in, next-in, face-in, tail-previous, no-loop, face-one, face-moves, joined-from}
 
 -- maps that agree on all darts draw the same graphs
 pub drawn-same : (m : ℕ) (h : Multigraph) (f b f' b' : ℕ → ℕ) → IsDrawn m h f b → ((d : ℕ) → d < 2 * m → f' d ≡ f d) → IsMap m f' b' → IsDrawn m h f' b'

@@ -1,11 +1,10 @@
 -- The lists of a map after an edge was added.
-use Rattle.std.proofs.Common.{◌≡◌, ◌≢◌, ℕ, ◌+◌, ◌*◌, ◌<◌, List, [], ◌∷◌, ◌++◌, length, slice_index, slice_set, refl, sym, ap, ◌∙◌, subst, arith}
+use Rattle.std.proofs.Common.{◌≡◌, ◌≢◌, ℕ, ◌+◌, ◌*◌, ◌<◌, List, [], ◌∷◌, ◌++◌, length, slice_index, slice_set, sym, ap, ◌∙◌, subst, arith}
 use Rattle.std.proofs.lemmas.List.{length-append}
 use Rattle.permutations.specs.Permutation.{Permutes}
-use Rattle.permutations.proofs.Permutations.{permutes-inverse}
-use Rattle.dart_maps.specs.Map.{twin, face, IsMap}
+use Rattle.dart_maps.specs.Map.{twin, face}
 use Rattle.dart_maps.proofs.Darts.{twin-below}
-use Rattle.multigraph.specs.Graph.{Multigraph, edge_count}
+use Rattle.multigraph.specs.Graph.{edge_count}
 use Rattle.multigraph.specs.Build.{multigraph_of}
 use Rattle.faces.specs.Euler.{tail, dart_count}
 use Rattle.triangulations.specs.Listed.{ListedMap, IsListed, IsMapOf, IsCut, listed}

@@ -8,13 +8,13 @@ use Rattle.multigraph.specs.Graph.{Multigraph, edge_count, max_vertices}
 use Rattle.faces.specs.Euler.{tail, dart_count}
 use Rattle.drawn_maps.proofs.Drawn.{more-edges}
 use Rattle.triangulations.specs.Triangulation.{IsSimpleMap}
-use Rattle.triangulations.specs.Cutting.{is_triangle, are_joined, can_cut, second_head, cut_graph, cut_next, IsFilled, IsFilling}
-use Rattle.triangulations.specs.Listed.{ListedMap, IsMapOf, IsSimpleMapOf, IsCut, IsFilledMap, IsFillingMap, Fills}
+use Rattle.triangulations.specs.Cutting.{is_triangle, are_joined, can_cut, second_head, cut_graph, cut_next, IsFilling}
+use Rattle.triangulations.specs.Listed.{ListedMap, IsSimpleMapOf, IsCut, IsFilledMap, IsFillingMap, Fills, AreTriangles, FillsAll, IsTriangulationOf}
 use Rattle.triangulations.specs.Pairs.{AddsPair, KnowsPairs}
 use Rattle.triangulations.proofs.SimpleMaps.{face-in}
 use Rattle.triangulations.proofs.JoinedPairs.{knows-cut}
 use Rattle.triangulations.proofs.Cut.{pq, made-from, cut-map}
-use Rattle.triangulations.proofs.Filled.{left_over, filling-start, filling-end, filling-onward, filling-cut, onward-less, cut-room, cut-less}
+use Rattle.triangulations.proofs.Filled.{left_over, filling-start, filling-end, filling-onward, filling-cut, onward-less, cut-room, cut-less, filled-all}
 
 -- what is still to be done
 abbrev pub left_in : ListedMap → ℕ → ℕ
@@ -25,6 +25,7 @@ pub record IsFillingFrom (start : ℕ) (old : ListedMap) (d : ℕ) (now : Listed
   pub map : IsSimpleMapOf now
   pub dart : d < dart_count now.graph
   pub vertices : now.graph.vertex_count ≡ old.graph.vertex_count
+  pub larger : dart_count old.graph ≤ dart_count now.graph
   pub filling : (g : Multigraph) (r : List (List ℕ)) → IsFilledMap g r start old → IsFillingMap g r start d now
 
 -- a step along the face leads to a dart
@@ -78,6 +79,7 @@ module _ (old : ListedMap) (d : ℕ) (s : IsSimpleMapOf old) (ld : d < dart_coun
       map = new-simple;
       dart = omega (arith, edges);
       vertices = ap (λ (h : Multigraph). h.vertex_count) cut.graph ∙ f.vertices;
+      larger = omega (arith, edges, f.larger);
       filling = λ g r i. new-filling long g r start (f.filling g r i);
     }
 
@@ -90,6 +92,7 @@ from-start start old s l = record {
   map = s;
   dart = l;
   vertices = refl;
+  larger = omega arith;
   filling = λ g r i. filling-start g r start (edge_count old.graph) old.graph (slice_index old.next) (slice_index old.previous) i l;
 }
 
@@ -100,6 +103,7 @@ module _ (start : ℕ) (old : ListedMap) (d : ℕ) (now : ListedMap) (f : IsFill
     map = f.map;
     dart = face-below now d f.map f.dart;
     vertices = f.vertices;
+    larger = f.larger;
     filling = λ g r i. filling-onward g r start (edge_count now.graph) now.graph (slice_index now.next) (slice_index now.previous) d (f.filling g r i);
   }
 
@@ -111,6 +115,7 @@ module _ (start : ℕ) (old : ListedMap) (d : ℕ) (now : ListedMap) (f : IsFill
   from-end t = record {
     map = f.map;
     vertices = f.vertices;
+    larger = f.larger;
     filled = λ g r i. filling-end g r start (edge_count now.graph) now.graph (slice_index now.next) (slice_index now.previous) d (f.filling g r i) t;
   }
 
@@ -123,3 +128,23 @@ can-cut-told t d a b j ia ib n i =
 pub pairs-cut : (old : ListedMap) (d a b : ℕ) (new : ListedMap) (before after : BTreeSet (ℕ × ℕ)) → KnowsPairs old.graph before → a ≡ tail old.graph d → b ≡ second_head old.graph (slice_index old.next) d → AddsPair before a b after → IsCut old d new → KnowsPairs new.graph after
 pairs-cut old d a b new before after k ia ib adds cut = subst (λ h. KnowsPairs h after) (sym cut.graph)
     (knows-cut (edge_count old.graph) old.graph (slice_index old.next) d before after refl k (subst (λ z. AddsPair before (tail old.graph d) z after) ib (subst (λ z. AddsPair before z b after) ia adds)))
+
+-- a map in which nothing was to be filled
+pub from-triangles : (g : Multigraph) (r : List (List ℕ)) (t : ListedMap) → IsFilledMap g r 0 t → AreTriangles t → IsTriangulationOf g r t
+from-triangles g r t f all = filled-all g r (edge_count t.graph) t.graph (slice_index t.next) (slice_index t.previous) (record { map = f.map; extends = f.extends; triangles = λ d l w. all d l })
+
+-- while the faces of a map are filled, those of the darts of g below k were
+pub record AreFilled (g : Multigraph) (k : ℕ) (old now : ListedMap) : Type 0 where
+  pub map : IsSimpleMapOf now
+  pub vertices : now.graph.vertex_count ≡ old.graph.vertex_count
+  pub larger : dart_count old.graph ≤ dart_count now.graph
+  pub filled : (r : List (List ℕ)) → IsFilledMap g r 0 old → IsFilledMap g r k now
+
+pub filled-start : (g : Multigraph) (old : ListedMap) → IsSimpleMapOf old → AreFilled g 0 old old
+filled-start g old s = record { map = s; vertices = refl; larger = omega arith; filled = λ r f. f }
+
+pub filled-more : (g : Multigraph) (k : ℕ) (old now new : ListedMap) → AreFilled g k old now → Fills k now new → AreFilled g (k + 1) old new
+filled-more g k old now new a f = record { map = f.map; vertices = f.vertices ∙ a.vertices; larger = omega (arith, a.larger, f.larger); filled = λ r i. f.filled g r (a.filled r i) }
+
+pub filled-end : (g : Multigraph) (old now : ListedMap) → AreFilled g (dart_count g) old now → FillsAll g old now
+filled-end g old now a r f = filled-all g r (edge_count now.graph) now.graph (slice_index now.next) (slice_index now.previous) (a.filled r f)

@@ -1,13 +1,13 @@
 -- The loops that fill faces: what they keep, and the number that decreases.
-use Rattle.std.proofs.Common.{◌≡◌, ◌≢◌, ℕ, ◌+◌, ◌-◌, ◌*◌, ◌<◌, ◌≤◌, ◌⊎◌, inl, inr, Bool, true, false, ◌||◌, List, refl, sym, ap, ◌∙◌, subst, arith}
-use Rattle.std.proofs.lemmas.Bool.{cases_Bool, cases_lt, cases_eq, both_ways, eq-eqb, eqb-true, or_cases, or_left, or_right, cond-true, cond-false}
+use Rattle.std.proofs.Common.{◌≡◌, ◌≢◌, ℕ, ◌+◌, ◌-◌, ◌*◌, ◌<◌, ◌≤◌, ◌⊎◌, inl, inr, true, false, List, refl, sym, ap, ◌∙◌, subst, arith}
+use Rattle.std.proofs.lemmas.Bool.{cases_Bool, cases_lt, cases_eq, eq-eqb, eqb-true, or_cases, or_left, or_right, cond-true, cond-false}
 use Rattle.permutations.proofs.Orbits.{orbit-equivalence, orbit-step, orbit-kept}
 use Rattle.dart_maps.specs.Map.{twin, face, IsMap, same_face}
 use Rattle.dart_maps.proofs.Darts.{face-permutes}
-use Rattle.multigraph.specs.Graph.{Multigraph, edge_count}
+use Rattle.multigraph.specs.Graph.{Multigraph}
 use Rattle.faces.specs.Euler.{tail, dart_count}
 use Rattle.drawn_maps.proofs.Drawn.{dart-cases, more-edges, joined_back}
-use Rattle.triangulations.specs.Triangulation.{IsSimpleMap, Extends, IsTriangulation}
+use Rattle.triangulations.specs.Triangulation.{IsSimpleMap, IsTriangulation}
 use Rattle.triangulations.specs.Cutting.{is_triangle, second_head, can_cut, cut_graph, cut_next, wait, IsFilled, IsFilling}
 use Rattle.triangulations.proofs.SimpleMaps.{face-in}
 use Rattle.triangulations.proofs.Progress.{third-cut}

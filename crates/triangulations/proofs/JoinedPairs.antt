@@ -1,5 +1,5 @@
 -- The set of the pairs of vertices that are joined, while edges are added.
-use Rattle.std.proofs.Common.{◌≡◌, ◌≢◌, ℕ, ◌+◌, ◌*◌, ◌<◌, ◌⊎◌, inl, inr, Bool, true, false, cond, ◌&&◌, ◌||◌, ◌==◌, List, [], ◌∷◌, ◌++◌, min, max, refl, sym, ap, ap₂, ◌∙◌, subst, arith}
+use Rattle.std.proofs.Common.{◌≡◌, ℕ, ◌+◌, ◌*◌, ◌<◌, inl, inr, Bool, true, cond, ◌&&◌, ◌||◌, ◌==◌, [], min, max, refl, sym, ap, ap₂, ◌∙◌, arith}
 use Rattle.std.specs.Ordering.{nat_cmp, ordering_then, is_eq}
 use Rattle.std.specs.declared.cmp.Ordering.{Ordering}
 use Rattle.std.specs.BTreeSet.{BTreeSet, contains}
@@ -9,13 +9,13 @@ use Rattle.std.proofs.lemmas.Bool.{cases_Bool, cases_eq, cases_order, lt-ltb, le
 use Rattle.permutations.specs.Count.{some}
 use Rattle.permutations.proofs.Search.{some-more, some-ext}
 use Rattle.permutations.proofs.Relation.{same-tests}
-use Rattle.dart_maps.specs.Map.{twin, face}
+use Rattle.dart_maps.specs.Map.{twin}
 use Rattle.dart_maps.proofs.Darts.{twin-below, twin-back}
 use Rattle.multigraph.specs.Graph.{Multigraph, edge_count, ends_of}
-use Rattle.faces.specs.Euler.{tail, dart_count}
+use Rattle.faces.specs.Euler.{tail}
 use Rattle.faces.proofs.DartLemmas.{tail-first, tail-second}
 use Rattle.drawn_maps.proofs.Drawn.{twin-last, tail-old, tail-new, tail-new_second, more-edges}
-use Rattle.triangulations.specs.Cutting.{are_joined, second_head, cut_graph}
+use Rattle.triangulations.specs.Cutting.{second_head, cut_graph}
 use Rattle.triangulations.specs.Pairs.{pair_cmp, ordered, has_pair, is_pair, AddsPair, KnowsEdges, KnowsPairs}
 
 -- numbers compare as equal where they are

@@ -11,3 +11,4 @@ pub mod CutLists
 pub mod JoinedPairs
 pub mod Start
 pub mod FillLoop
+mod Examples

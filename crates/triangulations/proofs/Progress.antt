@@ -1,13 +1,13 @@
 -- Of any three consecutive darts of a face with more than three darts, one can have an edge added that cuts off a triangle.
-use Rattle.std.proofs.Common.{◌≡◌, ◌≢◌, ℕ, ◌*◌, ◌<◌, inl, inr, true, false, refl, sym, ap, ◌∙◌, subst}
-use Rattle.std.proofs.lemmas.Bool.{cases_Bool, cases_eq, both_ways, eq-eqb}
-use Rattle.dart_maps.specs.Map.{twin, face, IsMap}
+use Rattle.std.proofs.Common.{◌≡◌, ◌≢◌, ℕ, ◌*◌, ◌<◌, inl, inr, true, false, refl, sym, ap, ◌∙◌}
+use Rattle.std.proofs.lemmas.Bool.{cases_eq, both_ways, eq-eqb}
+use Rattle.dart_maps.specs.Map.{twin, face}
 use Rattle.dart_maps.specs.Order.{MetInTurn}
 use Rattle.dart_maps.proofs.Darts.{twin-twin}
 use Rattle.multigraph.specs.Graph.{Multigraph}
 use Rattle.faces.specs.Euler.{tail}
 use Rattle.triangulations.specs.Triangulation.{IsSimpleMap}
-use Rattle.triangulations.specs.Cutting.{is_triangle, are_joined, second_head, can_cut}
+use Rattle.triangulations.specs.Cutting.{is_triangle, second_head, can_cut}
 use Rattle.triangulations.proofs.SimpleMaps.{twin-in, face-in, one-vertex, tail-face, no-loop, only-dart, joined-dart, can-cut, cannot-cut, spur-cut}
 use Rattle.triangulations.proofs.Turns.{turn-after, turn-before}
 use Rattle.triangulations.proofs.TwoTriangles.{two-triangles}

@@ -1,22 +1,20 @@
 -- Connected simple plane maps with three vertices or more: the darts at a vertex, and no face with fewer than three darts.
-use Rattle.std.proofs.Common.{◌≡◌, ◌≢◌, ℕ, ◌+◌, ◌*◌, ◌/◌, ◌<◌, ◌≤◌, inl, inr, Bool, true, false, not, ◌&&◌, ◌||◌, ◌==◌, List, All, refl, sym, ap, ◌∙◌, subst, arith}
-use Rattle.std.proofs.lemmas.Bool.{cases_Bool, cases_eq, both_ways, eq-eqb, eqb-true, ne_eqb, or_cases, or_left, or_right, or_from, and_from, and_parts, not_from_false, not-true, false_from_ne_true, true_from_ne_false}
+use Rattle.std.proofs.Common.{◌≡◌, ◌≢◌, ℕ, ◌*◌, ◌/◌, ◌<◌, ◌≤◌, inl, inr, Bool, true, false, not, ◌&&◌, ◌||◌, ◌==◌, All, refl, sym, ap, ◌∙◌, subst, arith}
+use Rattle.std.proofs.lemmas.Bool.{cases_eq, both_ways, eq-eqb, eqb-true, ne_eqb, or_cases, or_left, or_right, or_from, and_from, and_parts, not_from_false, false_from_ne_true, true_from_ne_false}
 use Rattle.std.proofs.lemmas.List.Elements.{All-from_get_or}
-use Rattle.permutations.specs.Permutation.{same_orbit}
-use Rattle.permutations.specs.Relation.{connected}
 use Rattle.permutations.proofs.Relation.{same-tests, connected-closed}
 use Rattle.permutations.proofs.Search.{some-from, some-witness}
 use Rattle.permutations.proofs.Permutations.{permutes-one-to-one}
 use Rattle.permutations.proofs.Orbits.{orbit-step, orbit-kept}
-use Rattle.dart_maps.specs.Map.{twin, face, IsMap, same_vertex}
-use Rattle.dart_maps.proofs.Darts.{twin-twin, twin-below, twin-even, twin-back, face-permutes}
-use Rattle.multigraph.specs.Graph.{Multigraph, IsGraph, edge_count, ends_of}
+use Rattle.dart_maps.specs.Map.{twin, face, same_vertex}
+use Rattle.dart_maps.proofs.Darts.{twin-twin, twin-below, twin-even, face-permutes}
+use Rattle.multigraph.specs.Graph.{Multigraph, ends_of}
 use Rattle.multigraph.proofs.OtherEnd.{other_end-differs}
 use Rattle.faces.specs.Euler.{tail, dart_count}
 use Rattle.faces.proofs.DartLemmas.{dart-edge, tail-end, tail-first, tail-second}
 use Rattle.faces.proofs.MapSteps.{tail-twin}
 use Rattle.triangulations.specs.Triangulation.{IsSimpleMap}
-use Rattle.triangulations.specs.Cutting.{is_triangle, are_joined, second_head, can_cut}
+use Rattle.triangulations.specs.Cutting.{are_joined, second_head, can_cut}
 
 -- a number below n, which is 3 or more, that is neither of two
 pub third-number : (a b n : ℕ) → 3 ≤ n → (w : ℕ) × (w < n) × (w ≢ a) × (w ≢ b)

@@ -1,14 +1,12 @@
 -- The map of a plane rotation system of a connected simple graph, from which a triangulation is made.
-use Rattle.std.proofs.Common.{◌≡◌, ◌≢◌, ℕ, ◌+◌, ◌*◌, ◌/◌, ◌<◌, ◌≤◌, ◌⊎◌, inl, inr, true, ltb, List, [], ◌∷◌, ◌++◌, length, get_or, take, slice_index, refl, sym, ap, ◌∙◌, subst, arith}
+use Rattle.std.proofs.Common.{◌≡◌, ℕ, ◌+◌, ◌/◌, ◌<◌, ◌≤◌, ◌⊎◌, inl, inr, ltb, List, [], ◌∷◌, ◌++◌, length, slice_index, refl, sym, ap, ◌∙◌, subst, arith}
 use Rattle.std.proofs.lemmas.Bool.{cases_eq, lt-ltb}
 use Rattle.std.proofs.lemmas.List.{append-nil, length-append, get_or_append_left, get_or_push}
-use Rattle.permutations.specs.Permutation.{Permutes}
 use Rattle.permutations.proofs.Permutations.{permutes-ext}
 use Rattle.permutations.proofs.Restriction.{restricted-next}
 use Rattle.dart_maps.specs.Map.{twin, IsMap}
 use Rattle.dart_maps.proofs.Darts.{twin-cases, twin-edge, edge-twin}
 use Rattle.multigraph.specs.Graph.{Multigraph, IsGraph, edge_count, ends_of}
-use Rattle.rotations.specs.Rotation.{IsRotationSystem}
 use Rattle.graph_theory.specs.Connected.{IsConnected}
 use Rattle.graph_theory.specs.Triconnected.{AreParallel, IsSimple}
 use Rattle.faces.specs.Euler.{tail, dart_count, IsPlaneSystem}
@@ -17,7 +15,6 @@ use Rattle.faces.proofs.DartLemmas.{dart-edge, tail-end, tail-even, tail-odd}
 use Rattle.faces.proofs.MapSteps.{tail-twin, map-permutes}
 use Rattle.multigraph.proofs.OtherEnd.{other_end-differs}
 use Rattle.drawn_maps.proofs.Systems.{to-drawn}
-use Rattle.triangulations.specs.Triangulation.{IsSimpleMap, Extends}
 use Rattle.triangulations.specs.Cutting.{IsFilled}
 use Rattle.triangulations.specs.Listed.{ListedMap, IsTable, IsMapFrom, IsFilledMap}
 use Rattle.triangulations.proofs.Cut.{drawn-same}

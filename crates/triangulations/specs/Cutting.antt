@@ -1,8 +1,8 @@
 -- State of the loops: which triangles can be cut off, and the map in which one is.
-use Rattle.std.specs.Prelude.{◌≡◌, ℕ, ◌+◌, ◌-◌, ◌*◌, ◌<◌, ◌≤◌, ◌⊎◌, Bool, true, false, not, ◌&&◌, ◌||◌, ◌==◌, if◌then◌else◌, List}
+use Rattle.std.specs.Prelude.{◌≡◌, ℕ, ◌+◌, ◌*◌, ◌<◌, ◌≤◌, ◌⊎◌, Bool, true, not, ◌&&◌, ◌||◌, ◌==◌, if◌then◌else◌, List}
 use Rattle.permutations.specs.Count.{some}
 use Rattle.dart_maps.specs.Map.{twin, face, same_face}
-use Rattle.multigraph.specs.Graph.{Multigraph, edge_count}
+use Rattle.multigraph.specs.Graph.{Multigraph}
 use Rattle.faces.specs.Euler.{tail, dart_count}
 use Rattle.drawn_maps.specs.Drawn.{with_edge, joined}
 use Rattle.triangulations.specs.Triangulation.{IsSimpleMap, Extends}

@@ -1,12 +1,12 @@
 -- A graph with a map of its darts, kept as lists.
-use Rattle.std.specs.Prelude.{◌≡◌, ◌≢◌, ℕ, ◌+◌, ◌^◌, ◌<◌, List, length, slice_index}
+use Rattle.std.specs.Prelude.{◌≡◌, ◌≢◌, ℕ, ◌+◌, ◌^◌, ◌<◌, ◌≤◌, true, List, length, slice_index}
 use Rattle.multigraph.specs.Graph.{Multigraph, edge_count}
 use Rattle.multigraph.specs.Build.{multigraph_of}
 use Rattle.dart_maps.specs.Map.{twin, face, IsMap}
 use Rattle.faces.specs.Euler.{dart_count}
 use Rattle.faces.specs.Maps.{dart_after, dart_before}
 use Rattle.triangulations.specs.Triangulation.{IsSimpleMap, IsTriangulation}
-use Rattle.triangulations.specs.Cutting.{cut_graph, IsFilled, IsFilling}
+use Rattle.triangulations.specs.Cutting.{is_triangle, cut_graph, IsFilled, IsFilling}
 
 -- a graph, the dart that follows each dart, and the one that each dart follows
 pub record ListedMap : Type 0 where
@@ -70,4 +70,13 @@ IsFillingMap g r start d t = IsFilling g r start d (edge_count t.graph) t.graph 
 pub record Fills (start : ℕ) (old new : ListedMap) : Type 0 where
   pub map : IsSimpleMapOf new
   pub vertices : new.graph.vertex_count ≡ old.graph.vertex_count
+  pub larger : dart_count old.graph ≤ dart_count new.graph
   pub filled : (g : Multigraph) (r : List (List ℕ)) → IsFilledMap g r start old → IsFilledMap g r (start + 1) new
+
+-- each face is a triangle
+abbrev pub AreTriangles : ListedMap → Type 0
+AreTriangles t = (d : ℕ) → d < dart_count t.graph → is_triangle (slice_index t.next) d ≡ true
+
+-- a map of g, where nothing was filled, was filled: it is a triangulation of g with whatever rotation system the old map had
+abbrev pub FillsAll : Multigraph → ListedMap → ListedMap → Type 0
+FillsAll g old new = (r : List (List ℕ)) → IsFilledMap g r 0 old → IsTriangulationOf g r new

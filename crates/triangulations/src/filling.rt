@@ -1,13 +1,13 @@
 // Edges are added until each face is a triangle.
 
-ghost use Rattle.std.specs.Prelude.{◌≡◌, ◌<◌, ◌≤◌, true, slice_index, IfOk};
+ghost use Rattle.std.specs.Prelude.{◌≡◌, ◌<◌, ◌≤◌, ◌↔◌, true, slice_index, IfOk};
 ghost use Rattle.multigraph.specs.Darts.{dart_count};
 ghost use Rattle.multigraph.specs.Graph.{max_vertices};
 ghost use Rattle.graph_theory.specs.Connected.{IsConnected};
 ghost use Rattle.graph_theory.specs.Triconnected.{IsSimple};
 ghost use Rattle.faces.specs.Euler.{IsPlaneSystem};
 ghost use Rattle.triangulations.specs.Cutting.{can_cut, is_triangle};
-ghost use Rattle.triangulations.specs.Listed.{Fills, IsCut, IsSimpleMapOf, IsTriangulationOf};
+ghost use Rattle.triangulations.specs.Listed.{AreTriangles, Fills, FillsAll, IsCut, IsSimpleMapOf, IsTriangulationOf};
 ghost use Rattle.triangulations.specs.Pairs.{KnowsPairs};
 
 use crate::map::DartMap;
@@ -73,9 +73,39 @@ fn fill(map: &mut DartMap, pairs: &mut Pairs, start: u32) -> Result<(), AllocErr
     Ok(())
 }
 
+// Whether each face of the map is a triangle.
+fn is_triangulated(map: &DartMap) -> bool
+    requires { IsSimpleMapOf map.now }
+    ensures { (result ≡ true) ↔ AreTriangles map.now }
+{
+    for dart in 0..map.dart_count() {
+        if !is_triangle(map, dart) {
+            return false;
+        }
+    }
+    true
+}
+
+// Fills each face of the map, which is one of the graph.
+fn fill_faces(alloc: Global, g: &Graph, map: &mut DartMap) -> Result<(), AllocError>
+    requires few { g.now.vertex_count ≤ max_vertices }
+    requires map { IsSimpleMapOf map.old }
+    requires graph { map.old.graph ≡ g.now }
+    ensures { IfOk result (λ _. FillsAll g.now map.old map.new) }
+{
+    let mut pairs = Pairs::of(alloc, g)?;
+    for dart in 0..dart_count(g) {
+        fill(map, &mut pairs, dart)?;
+    }
+    Ok(())
+}
+
 /// A triangulation of a connected graph of three vertices or more, without parallel edges, with a plane rotation system: edges are
-/// added to the graph, which keep its rotation system and add no parallel edge, until each face has three darts.
-/// Fails only if memory runs out.
+/// added to the graph, none of them a loop or parallel to another one, until each face has three darts. The darts of the graph keep
+/// their numbers, and their order around each vertex. Fails only if memory runs out.
+///
+/// It takes linear time, and for each edge a look-up in an ordered set of pairs of vertices; a graph all faces of which are triangles
+/// takes no look-up.
 pub fn triangulate(alloc: Global, g: &Graph, r: &Rotation) -> Result<DartMap, AllocError>
     requires connected { IsConnected g.now }
     requires three { 3 ≤ g.now.vertex_count }
@@ -85,9 +115,9 @@ pub fn triangulate(alloc: Global, g: &Graph, r: &Rotation) -> Result<DartMap, Al
 {
     g.keeps_limits();
     let mut map = map_of(alloc, g, r)?;
-    let mut pairs = Pairs::of(alloc, g)?;
-    for dart in 0..dart_count(g) {
-        fill(&mut map, &mut pairs, dart)?;
+    if is_triangulated(&map) {
+        return Ok(map);
     }
+    fill_faces(alloc, g, &mut map)?;
     Ok(map)
 }

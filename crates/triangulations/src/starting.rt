@@ -35,12 +35,7 @@ fn dart_before(g: &Graph, r: &Rotation, dart: u32) -> u32
 }
 
 // For each dart the one that follows, with room for `room` darts.
-fn darts_after(
-    alloc: Global,
-    g: &Graph,
-    r: &Rotation,
-    room: usize,
-) -> Result<Vec<u32>, AllocError>
+fn darts_after(alloc: Global, g: &Graph, r: &Rotation, room: usize) -> Result<Vec<u32>, AllocError>
     requires { IsRotationSystem g.now r.now }
     ensures { IfOk result (λ table. IsTable (dart_after g.now r.now) (dart_count g.now) table.items) }
 {
@@ -52,12 +47,7 @@ fn darts_after(
 }
 
 // For each dart the one that it follows, with room for `room` darts.
-fn darts_before(
-    alloc: Global,
-    g: &Graph,
-    r: &Rotation,
-    room: usize,
-) -> Result<Vec<u32>, AllocError>
+fn darts_before(alloc: Global, g: &Graph, r: &Rotation, room: usize) -> Result<Vec<u32>, AllocError>
     requires { IsRotationSystem g.now r.now }
     ensures { IfOk result (λ table. IsTable (dart_before g.now r.now) (dart_count g.now) table.items) }
 {

@@ -1,5 +1,4 @@
-use Rattle.std.proofs.Common.{◌≡◌, ◌<◌, ◌∙◌, ℕ, true, false, slice_index, subst, sym, ap}
-use Rattle.std.proofs.lemmas.Bool.{not-true}
+use Rattle.std.proofs.Common.{◌≡◌, ◌<◌, ◌∙◌, true, false, slice_index, subst, sym}
 use Rattle.triangulations.specs.Cutting.{is_triangle, can_cut}
 use Rattle.triangulations.specs.Listed.{ListedMap}
 use Rattle.triangulations.proofs.FillLoop.{IsFillingFrom, left_in, from-start, from-cut, from-onward, from-end, less-cut, less-onward}

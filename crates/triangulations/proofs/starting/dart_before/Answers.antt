@@ -1,4 +1,4 @@
-use Rattle.std.proofs.Common.{ℕ, ◌/◌, ◌<◌, ap, subst, sym, ◌∙◌}
+use Rattle.std.proofs.Common.{◌/◌, ◌<◌, ap, subst, sym, ◌∙◌}
 use Rattle.permutations.proofs.Arrangements.{contains-from_member}
 use Rattle.multigraph.specs.Graph.{edge_count, is_end}
 use Rattle.rotations.specs.Rotation.{order_at}

@@ -1,6 +1,6 @@
-use Rattle.std.proofs.Common.{◌≡◌, ◌<◌, ◌+◌, ℕ, List, [], ◌∷◌, ◌++◌, length, slice_index, slice_set, ap, ap₂, ◌∙◌, subst, sym, arith}
+use Rattle.std.proofs.Common.{◌<◌, ◌+◌, ℕ, List, [], ◌∷◌, ◌++◌, slice_set, ap, ◌∙◌, subst, sym, arith}
 use Rattle.std.proofs.lemmas.Grind.{common_steps}
-use Rattle.multigraph.specs.Darts.{dart_count, tail, twin}
+use Rattle.multigraph.specs.Darts.{dart_count, twin}
 use Rattle.triangulations.specs.Listed.{ListedMap}
 use Rattle.triangulations.proofs.CutLists.{last-in, cut-listed}
 use Rattle.triangulations.proofs.map.DartMap.cut.Goals as goal
