@@ -1,0 +1,2 @@
+-- The shift method of straight-line drawing.
+pub mod Shapes

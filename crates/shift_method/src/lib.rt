@@ -1,0 +1,2 @@
+// The shift method of straight-line drawing (de Fraysseix, Pach and Pollack 1990).
+#![tactic(auto)]
