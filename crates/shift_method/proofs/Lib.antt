@@ -1,2 +1,4 @@
 mod Stretches
 mod Overlooked
+mod Rows
+mod Orders

@@ -1,0 +1,36 @@
+-- Triangulations whose vertices are removed one after the other, and their contours by vertices.
+use Rattle.std.specs.Prelude.{◌≡◌, ℕ, true, List, [], ◌∷◌, ◌++◌, map, slice_index_or}
+use Rattle.permutations.specs.Members.{is_member}
+use Rattle.dart_maps.specs.Map.{twin}
+use Rattle.multigraph.specs.Graph.{Multigraph}
+use Rattle.faces.specs.Euler.{tail}
+use Rattle.triangulations.specs.Triangulation.{IsTriangulated}
+use Rattle.canonical_orders.specs.Order.{Removed, IsCanonicalOrder}
+
+-- a triangulation with n vertices, from which they are removed in this order, but for `left` and `right`, the ends of dart 0
+pub record IsPeeled (n left right : ℕ) (order : List Removed) : Type 0 where
+  pub m : ℕ
+  pub h : Multigraph
+  pub next : ℕ → ℕ
+  pub previous : ℕ → ℕ
+  pub triangulated : IsTriangulated m h next previous
+  pub number : h.vertex_count ≡ n
+  pub first : tail h 0 ≡ left
+  pub last : tail h (twin 0) ≡ right
+  pub canonical : IsCanonicalOrder m h next 0 order
+
+-- the vertex that is removed as number k, with its heads
+abbrev pub removed_at : List Removed → ℕ → Removed
+removed_at order k = slice_index_or order k (0, [])
+
+-- the contours, by their darts, before the first removal, and after each
+abbrev pub contour_at : {n left right : ℕ} {order : List Removed} → IsPeeled n left right order → ℕ → List ℕ
+contour_at p k = slice_index_or p.canonical.contours k []
+
+-- v is among the heads, and neither the first nor the last
+pub record IsInnerHead (heads : List ℕ) (v : ℕ) : Type 0 where
+  pub left : ℕ
+  pub inner : List ℕ
+  pub right : ℕ
+  pub cut : heads ≡ left ∷ (inner ++ right ∷ [])
+  pub among : is_member v inner ≡ true
