@@ -2,3 +2,4 @@ mod Stretches
 mod Overlooked
 mod Rows
 mod Orders
+mod Placing
