@@ -3,3 +3,4 @@ mod Overlooked
 mod Rows
 mod Orders
 mod Placing
+mod Placed

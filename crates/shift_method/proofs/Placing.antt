@@ -67,8 +67,8 @@ module _ (n : ℕ) (s : ShapeState) (z : IsShapeOf n s) (w left : ℕ) (inner : 
   (within : (v : ℕ) → is_member v (w ∷ left ∷ (inner ++ right ∷ [])) ≡ true → v < n) (rest : ℕ)
   (even : total (slice_index s.gap) (inner ++ right ∷ []) + slice_index s.height right ≡ slice_index s.height left + 2 * rest) (slow : rest ≤ total (slice_index s.gap) (inner ++ right ∷ []))
   (fits : total (slice_index s.gap) (inner ++ right ∷ []) + slice_index s.height right + slice_index s.height left + 6 ≤ 2 * n) where
-  abbrev heads : List ℕ
-  heads = left ∷ (inner ++ right ∷ [])
+  abbrev whole : List ℕ
+  whole = left ∷ (inner ++ right ∷ [])
 
   abbrev row : List ℕ
   row = inner ++ right ∷ []
@@ -82,15 +82,15 @@ module _ (n : ℕ) (s : ShapeState) (z : IsShapeOf n s) (w left : ℕ) (inner : 
   twice : List ℕ
   twice = one_more once right
 
-  widened-is : widened s.gap heads ≡ twice
+  widened-is : widened s.gap whole ≡ twice
   unfolding once a twice
   widened-is = ap₂ (λ (i j : ℕ). one_more (one_more s.gap i) j) (second-of left inner right) (last-of left inner right)
 
   row-distinct : is_distinct row ≡ true
-  row-distinct = distinct-tail left row (distinct-tail w heads distinct)
+  row-distinct = distinct-tail left row (distinct-tail w whole distinct)
 
   row-within : (v : ℕ) → is_member v row ≡ true → v < n
-  row-within v i = within v (member-tail v w heads (member-tail v left row i))
+  row-within v i = within v (member-tail v w whole (member-tail v left row i))
 
   right-in : is_member right row ≡ true
   right-in = member-append_right right inner (right ∷ []) (member-head right [])
@@ -134,39 +134,39 @@ module _ (n : ℕ) (s : ShapeState) (z : IsShapeOf n s) (w left : ℕ) (inner : 
   unfolding width
   total-twice = omega (arith, total-more (slice_index s.gap) (slice_index once) a row row-distinct a-in once-at once-else, total-more (slice_index once) (slice_index twice) right row row-distinct right-in twice-at twice-else)
 
-  width-is : width_of s heads ≡ width
+  width-is : width_of s whole ≡ width
   width-is = ap (λ (l : List ℕ). total (slice_index l) row) widened-is ∙ total-twice
 
   half : ℕ
   half = rest + 1
 
-  half-is : half_of s heads ≡ half
+  half-is : half_of s whole ≡ half
   unfolding half width
   half-is = ap₂ (λ (d i : ℕ). (d + slice_index s.height i - slice_index s.height left) / 2) width-is (last-of left inner right) ∙ omega (arith, even)
 
-  gap-is : (placed s w heads).gap ≡ slice_set (slice_set twice w half) right (width - half)
+  gap-is : (placed s w whole).gap ≡ slice_set (slice_set twice w half) right (width - half)
   unfolding placed
-  gap-is = ap₂ (λ (l : List ℕ) (h : ℕ). slice_set (slice_set l w h) (last_head heads) (width_of s heads - h)) widened-is half-is ∙ ap₂ (λ (d i : ℕ). slice_set (slice_set twice w half) i (d - half)) width-is (last-of left inner right)
+  gap-is = ap₂ (λ (l : List ℕ) (h : ℕ). slice_set (slice_set l w h) (last_head whole) (width_of s whole - h)) widened-is half-is ∙ ap₂ (λ (d i : ℕ). slice_set (slice_set twice w half) i (d - half)) width-is (last-of left inner right)
 
-  height-is : (placed s w heads).height ≡ slice_set s.height w (slice_index s.height left + half)
+  height-is : (placed s w whole).height ≡ slice_set s.height w (slice_index s.height left + half)
   unfolding placed
   height-is = ap (λ (h : ℕ). slice_set s.height w (slice_index s.height left + h)) half-is
 
-  halves-are : (placed s w heads).half ≡ slice_set s.half w half
+  halves-are : (placed s w whole).half ≡ slice_set s.half w half
   unfolding placed
   halves-are = ap (λ (h : ℕ). slice_set s.half w h) half-is
 
-  offset-is : (placed s w heads).offset ≡ covered (slice_index twice) 0 row s.offset
+  offset-is : (placed s w whole).offset ≡ covered (slice_index twice) 0 row s.offset
   unfolding placed
   offset-is = ap (λ (l : List ℕ). covered (slice_index l) 0 row s.offset) widened-is
 
   w-within : w < n
-  w-within = within w (member-head w heads)
+  w-within = within w (member-head w whole)
 
   w-right : w ≢ right
-  w-right e = both_ways (is_member w heads) (distinct-head w heads distinct) (subst (λ (v : ℕ). is_member v heads ≡ true) (sym e) (member-tail right left row right-in))
+  w-right e = both_ways (is_member w whole) (distinct-head w whole distinct) (subst (λ (v : ℕ). is_member v whole ≡ true) (sym e) (member-tail right left row right-in))
 
-  height-top : slice_index (placed s w heads).height w ≡ slice_index s.height left + half
+  height-top : slice_index (placed s w whole).height w ≡ slice_index s.height left + half
   height-top = ap (λ (l : List ℕ). slice_index l w) height-is ∙ same-at s.height w (slice_index s.height left + half) (subst (λ (k : ℕ). w < k) (sym z.heights) w-within)
 
   -- the widened gaps of the inner vertices: the first one has one more
@@ -186,7 +186,7 @@ module _ (n : ℕ) (s : ShapeState) (z : IsShapeOf n s) (w left : ℕ) (inner : 
       first : 0 + slice_index twice u ≡ 1 + slice_index s.gap u
       first = omega (arith, twice-else u (not_right u (member-head u l)), subst (λ (k : ℕ). slice_index once k ≡ slice_index s.gap k + 1) e once-at)
 
-  pub placing : IsPlacing n s (placed s w heads) w left inner right
+  pub placing : IsPlacing n s (placed s w whole) w left inner right
   unfolding half width a
   placing = record {
     half = half;
@@ -197,7 +197,7 @@ module _ (n : ℕ) (s : ShapeState) (z : IsShapeOf n s) (w left : ℕ) (inner : 
     top = height-top;
     peak = omega (arith, height-top, even);
     high = omega (arith, height-top, even, fits);
-    offsets = inner-offsets inner row-distinct refl (slice_index (placed s w heads).offset)
+    offsets = inner-offsets inner row-distinct refl (slice_index (placed s w whole).offset)
         (subst (λ (l : List ℕ). Offsets (slice_index twice) (slice_index l) 0 row) (sym offset-is) (covered-offsets (slice_index twice) 0 row s.offset row-distinct (λ v i. subst (λ (k : ℕ). v < k) (sym z.offsets) (row-within v i))));
     half_here = ap (λ (l : List ℕ). slice_index l w) halves-are ∙ same-at s.half w half (subst (λ (k : ℕ). w < k) (sym z.halves) w-within);
     gap_here = ap (λ (l : List ℕ). slice_index l w) gap-is ∙ other-at (slice_set twice w half) right (width - half) w w-right ∙ same-at twice w half (subst (λ (k : ℕ). w < k) (sym twice-length) w-within);
