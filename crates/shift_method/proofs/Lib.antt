@@ -4,3 +4,4 @@ mod Rows
 mod Orders
 mod Placing
 mod Placed
+mod Spread

@@ -11,7 +11,7 @@ use Rattle.shift_method.specs.Shapes.{ShapeState, IsShapeOf, total, placed, CanS
 use Rattle.shift_method.specs.Peeled.{IsPeeled, removed_at, contour_at, IsInnerHead}
 use Rattle.shift_method.proofs.Stretches.{Sloped, Reaches, succ-first, succ-second, succ-join, succ-after, total-append, total-same, ends-reach, height-left, height-right}
 use Rattle.shift_method.proofs.Rows.{IsStretched}
-use Rattle.shift_method.proofs.Orders.{row_at, vertex_at, heads_at, stays_at, number-order, stays-below, stays-differs, row-stays, row-distinct, row-begins, row-ends, left-on, right-on, stretched, heads-apart, among-inner, inner-off, row-later}
+use Rattle.shift_method.proofs.Orders.{row_at, vertex_at, heads_at, stays_at, number-order, stays-below, stays-differs, row-stays, row-distinct, row-begins, row-ends, left-on, right-on, stretched, heads-apart, among-inner, inner-among, inner-off, row-later}
 use Rattle.shift_method.proofs.Placing.{IsPlacing, placing-of}
 
 -- the numbers while k removals are left: along the contour the slopes are 1 and -1, from height 0 to height 0, and the gaps add up to twice
@@ -56,6 +56,10 @@ module _ (n left right : ℕ) (order : List Removed) (p : IsPeeled n left right 
   unfolding cut
   not-inner v i = false_from_ne_true (is_member v cut.inner) (λ j. both_ways (is_member v row) (inner-off n left right order p k l v (among-inner n left right order p k l v j)) i)
 
+  pub inner-cut : (v : ℕ) → IsInnerHead heads v → is_member v cut.inner ≡ true
+  unfolding cut
+  inner-cut v i = inner-among n left right order p k l v i
+
   -- the vertices to the left of w, and those to the right of its last head
   row-cut : row ≡ (cut.front ++ cut.left ∷ []) ++ w ∷ cut.right ∷ cut.back
   row-cut = cut.row_is ∙ sym (cut-between cut.front cut.left (w ∷ cut.right ∷ cut.back))
@@ -63,22 +67,22 @@ module _ (n left right : ℕ) (order : List Removed) (p : IsPeeled n left right 
   cut-distinct : is_distinct ((cut.front ++ cut.left ∷ []) ++ w ∷ cut.right ∷ cut.back) ≡ true
   cut-distinct = subst (λ (z : List ℕ). is_distinct z ≡ true) row-cut (row-distinct n left right order p k (omega arith))
 
-  first-row : (v : ℕ) → is_member v (cut.front ++ cut.left ∷ []) ≡ true → is_member v row ≡ true
+  pub first-row : (v : ℕ) → is_member v (cut.front ++ cut.left ∷ []) ≡ true → is_member v row ≡ true
   first-row v i = ap (is_member v) row-cut ∙ member-append_left v (cut.front ++ cut.left ∷ []) (w ∷ cut.right ∷ cut.back) i
 
-  last-row : (v : ℕ) → is_member v (w ∷ cut.right ∷ cut.back) ≡ true → is_member v row ≡ true
+  pub last-row : (v : ℕ) → is_member v (w ∷ cut.right ∷ cut.back) ≡ true → is_member v row ≡ true
   last-row v i = ap (is_member v) row-cut ∙ member-append_right v (cut.front ++ cut.left ∷ []) (w ∷ cut.right ∷ cut.back) i
 
-  first-apart : (v u : ℕ) → is_member v (cut.front ++ cut.left ∷ []) ≡ true → is_member u (w ∷ cut.right ∷ cut.back) ≡ true → v ≢ u
+  pub first-apart : (v u : ℕ) → is_member v (cut.front ++ cut.left ∷ []) ≡ true → is_member u (w ∷ cut.right ∷ cut.back) ≡ true → v ≢ u
   first-apart v u i j e = both_ways (is_member v (w ∷ cut.right ∷ cut.back)) (distinct-append_apart (cut.front ++ cut.left ∷ []) (w ∷ cut.right ∷ cut.back) cut-distinct v i) (subst (λ (z : ℕ). is_member z (w ∷ cut.right ∷ cut.back) ≡ true) (sym e) j)
 
-  w-in : is_member w (w ∷ cut.right ∷ cut.back) ≡ true
+  pub w-in : is_member w (w ∷ cut.right ∷ cut.back) ≡ true
   w-in = member-head w (cut.right ∷ cut.back)
 
-  right-in : is_member cut.right (w ∷ cut.right ∷ cut.back) ≡ true
+  pub right-in : is_member cut.right (w ∷ cut.right ∷ cut.back) ≡ true
   right-in = member-tail cut.right w (cut.right ∷ cut.back) (member-head cut.right cut.back)
 
-  left-in : is_member cut.left (cut.front ++ cut.left ∷ []) ≡ true
+  pub left-in : is_member cut.left (cut.front ++ cut.left ∷ []) ≡ true
   left-in = member-append_right cut.left cut.front (cut.left ∷ []) (member-head cut.left [])
 
   rest-distinct : is_distinct (w ∷ cut.right ∷ cut.back) ≡ true
@@ -91,7 +95,7 @@ module _ (n left right : ℕ) (order : List Removed) (p : IsPeeled n left right 
   right-apart : cut.right ≢ w
   right-apart e = both_ways (is_member w (cut.right ∷ cut.back)) (distinct-head w (cut.right ∷ cut.back) rest-distinct) (subst (λ (z : ℕ). is_member z (cut.right ∷ cut.back) ≡ true) e (member-head cut.right cut.back))
 
-  heads-later : (v : ℕ) → is_member v heads ≡ true → is_member v later ≡ true
+  pub heads-later : (v : ℕ) → is_member v heads ≡ true → is_member v later ≡ true
   heads-later v i = ap (is_member v) cut.later_is ∙ member-append_right v cut.front (cut.left ∷ (cut.inner ++ cut.right ∷ cut.back)) (longer (sym (ap (is_member v) cut.stretch) ∙ i))
     where
       longer : is_member v (cut.left ∷ (cut.inner ++ cut.right ∷ [])) ≡ true → is_member v (cut.left ∷ (cut.inner ++ cut.right ∷ cut.back)) ≡ true
@@ -172,10 +176,10 @@ module _ (n left right : ℕ) (order : List Removed) (p : IsPeeled n left right 
       pub kept-gap : (v : ℕ) → is_member v row ≡ true → v ≢ w → v ≢ cut.right → h v ≡ g v
       kept-gap v i e f = q.gap_else v (no_member-append v cut.inner (cut.right ∷ []) (not-inner v i) (no_member-cons v cut.right [] (λ b. f (sym b)) refl)) e
 
-      first-kept : (v : ℕ) → is_member v (cut.front ++ cut.left ∷ []) ≡ true → (h v ≡ g v) × (z v ≡ y v)
+      pub first-kept : (v : ℕ) → is_member v (cut.front ++ cut.left ∷ []) ≡ true → (h v ≡ g v) × (z v ≡ y v)
       first-kept v i = (kept-gap v (first-row v i) (first-apart v w i w-in) (first-apart v cut.right i right-in), q.height_else v (first-apart v w i w-in))
 
-      back-kept : (v : ℕ) → is_member v cut.back ≡ true → (h v ≡ g v) × (z v ≡ y v)
+      pub back-kept : (v : ℕ) → is_member v cut.back ≡ true → (h v ≡ g v) × (z v ≡ y v)
       back-kept v i = let a = back-apart v i in
           (kept-gap v (last-row v (member-tail v w (cut.right ∷ cut.back) (member-tail v cut.right cut.back i))) a.0 a.1, q.height_else v a.0)
 

@@ -1,11 +1,12 @@
 -- Triangulations whose vertices are removed one after the other, and their contours by vertices.
-use Rattle.std.specs.Prelude.{◌≡◌, ℕ, true, List, [], ◌∷◌, ◌++◌, map, slice_index_or}
+use Rattle.std.specs.Prelude.{◌≡◌, ℕ, ◌+◌, ◌<◌, ◌≤◌, true, List, [], ◌∷◌, ◌++◌, length, map, slice_index, slice_index_or}
 use Rattle.permutations.specs.Members.{is_member}
 use Rattle.dart_maps.specs.Map.{twin}
 use Rattle.multigraph.specs.Graph.{Multigraph}
 use Rattle.faces.specs.Euler.{tail}
 use Rattle.triangulations.specs.Triangulation.{IsTriangulated}
 use Rattle.canonical_orders.specs.Order.{Removed, IsCanonicalOrder}
+use Rattle.shift_method.specs.Shapes.{ShapeState}
 
 -- a triangulation with n vertices, from which they are removed in this order, but for `left` and `right`, the ends of dart 0
 pub record IsPeeled (n left right : ℕ) (order : List Removed) : Type 0 where
@@ -34,3 +35,11 @@ pub record IsInnerHead (heads : List ℕ) (v : ℕ) : Type 0 where
   pub right : ℕ
   pub cut : heads ≡ left ∷ (inner ++ right ∷ [])
   pub among : is_member v inner ≡ true
+
+-- at the positions x, the inner heads of a vertex lie where their offsets say
+abbrev pub KeepsOffsets : (ℕ → ℕ) → ShapeState → Removed → Type 0
+KeepsOffsets x s r = (v : ℕ) → IsInnerHead r.1 v → x v + slice_index s.half r.0 ≡ x r.0 + slice_index s.offset v
+
+-- so it is for all vertices that are removed as number k or later
+abbrev pub KeepsAll : (ℕ → ℕ) → ShapeState → List Removed → ℕ → Type 0
+KeepsAll x s order k = (i : ℕ) → k ≤ i → i < length order → KeepsOffsets x s (removed_at order i)
