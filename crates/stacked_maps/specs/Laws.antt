@@ -1,6 +1,6 @@
 -- What is proved of drawings under a contour, as statements.
-use Rattle.std.specs.Prelude.{◌≡◌, ℕ, ◌*◌, ◌<◌, Bool, true, List, [], ◌∷◌, map, ◌||◌, ◌==◌}
-use Rattle.dart_maps.specs.Map.{twin, IsMap}
+use Rattle.std.specs.Prelude.{◌≡◌, ℕ, ◌*◌, ◌<◌, Bool, List, [], ◌∷◌, map, ◌||◌, ◌==◌}
+use Rattle.dart_maps.specs.Map.{twin}
 use Rattle.multigraph.specs.Graph.{Multigraph}
 use Rattle.faces.specs.Euler.{tail}
 use Rattle.triangulations.specs.Triangulation.{IsTriangulated}
