@@ -2,6 +2,9 @@ mod Stretches
 mod Overlooked
 mod Rows
 mod Orders
-mod Placing
+mod Steps
 mod Placed
 mod Spread
+mod Stages
+mod Writes
+mod Reached

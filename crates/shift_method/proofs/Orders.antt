@@ -250,7 +250,7 @@ module _ (n left right : ℕ) (order : List Removed) (p : IsPeeled n left right 
       without : (x : ℕ) → (stays_at k x && not (x == vertex_at k)) ≡ stays_at (suc k) x
       without x = bare (stays_at k x) (stays_at (suc k) x) (x == vertex_at k) (one-gone k short x) (λ s. ne_eqb x (vertex_at k) (stays-differs k short x s))
 
-  left-right : left ≢ right
+  pub left-right : left ≢ right
   left-right e = both_ways (is_member left (tail p.h (twin 0) ∷ [])) (distinct-head left (tail p.h (twin 0) ∷ []) (subst (λ (z : ℕ). is_distinct (z ∷ tail p.h (twin 0) ∷ []) ≡ true) p.first last)) (subst (λ (z : ℕ). is_member left (z ∷ []) ≡ true) (e ∙ sym p.last) (member-head left []))
     where
       last : is_distinct (tail p.h 0 ∷ tail p.h (twin 0) ∷ []) ≡ true

@@ -12,7 +12,7 @@ use Rattle.shift_method.specs.Peeled.{IsPeeled, removed_at, contour_at, IsInnerH
 use Rattle.shift_method.proofs.Stretches.{Sloped, Reaches, succ-first, succ-second, succ-join, succ-after, total-append, total-same, ends-reach, height-left, height-right}
 use Rattle.shift_method.proofs.Rows.{IsStretched}
 use Rattle.shift_method.proofs.Orders.{row_at, vertex_at, heads_at, stays_at, number-order, stays-below, stays-differs, row-stays, row-distinct, row-begins, row-ends, left-on, right-on, stretched, heads-apart, among-inner, inner-among, inner-off, row-later}
-use Rattle.shift_method.proofs.Placing.{IsPlacing, placing-of}
+use Rattle.shift_method.proofs.Steps.{IsPlacing, placing-of}
 
 -- the numbers while k removals are left: along the contour the slopes are 1 and -1, from height 0 to height 0, and the gaps add up to twice
 -- the number of vertices that were placed; they are positive, but for the last one where there is no vertex between

@@ -15,7 +15,7 @@ use Rattle.shift_method.specs.Peeled.{IsPeeled, removed_at, contour_at, IsInnerH
 use Rattle.shift_method.proofs.Stretches.{Sloped, Wide, Offsets, succ-first, succ-second, succ-join, succ-after, each-by, each-of, climbs, descends, pull-back}
 use Rattle.shift_method.proofs.Overlooked.{spot, IsInner, overlooks}
 use Rattle.shift_method.proofs.Orders.{row_at, vertex_at, heads_at, stays_at, zero-below, one-gone, is-gone, stays-before, stays-differs, row-stays, left-on, right-on, among-inner, inner-among, inner-later, inner-off, covered-off, stays-long}
-use Rattle.shift_method.proofs.Placing.{IsPlacing}
+use Rattle.shift_method.proofs.Steps.{IsPlacing}
 use Rattle.shift_method.proofs.Placed.{IsPlaced, cut, inner-cut, w-apart, on-later, not-inner, heads-later, first-row, first-apart, w-in, right-in, last-row, left-in, stretch-slopes, first-kept, back-kept}
 
 -- positions z of all vertices that agree with x on the contour, where those that are covered keep their offsets

@@ -1,5 +1,5 @@
 -- Triangulations whose vertices are removed one after the other, and their contours by vertices.
-use Rattle.std.specs.Prelude.{◌≡◌, ℕ, ◌+◌, ◌<◌, ◌≤◌, true, List, [], ◌∷◌, ◌++◌, length, map, slice_index, slice_index_or}
+use Rattle.std.specs.Prelude.{◌≡◌, ℕ, ◌+◌, ◌*◌, ◌<◌, ◌≤◌, true, List, [], ◌∷◌, ◌++◌, length, map, slice_index, slice_index_or}
 use Rattle.permutations.specs.Members.{is_member}
 use Rattle.dart_maps.specs.Map.{twin}
 use Rattle.multigraph.specs.Graph.{Multigraph}
@@ -43,3 +43,13 @@ KeepsOffsets x s r = (v : ℕ) → IsInnerHead r.1 v → x v + slice_index s.hal
 -- so it is for all vertices that are removed as number k or later
 abbrev pub KeepsAll : (ℕ → ℕ) → ShapeState → List Removed → ℕ → Type 0
 KeepsAll x s order k = (i : ℕ) → k ≤ i → i < length order → KeepsOffsets x s (removed_at order i)
+
+-- positions x of all of n vertices, with the numbers s after all were placed: the two ends and the vertex above them, which is the first
+-- that is removed, have their gaps, and the vertices that are covered their offsets
+pub record ArePositions (n left right : ℕ) (order : List Removed) (s : ShapeState) (x : ℕ → ℕ) : Type 0 where
+  pub at_left : x left ≡ 0
+  pub at_top : x (removed_at order 0).0 ≡ slice_index s.gap (removed_at order 0).0
+  pub at_right : x right ≡ slice_index s.gap (removed_at order 0).0 + slice_index s.gap right
+  pub kept : KeepsAll x s order 0
+  pub room : (i : ℕ) → i < length order → slice_index s.half (removed_at order i).0 ≤ x (removed_at order i).0
+  pub wide : (v : ℕ) → v < n → x v + 4 ≤ 2 * n
