@@ -8,3 +8,4 @@ mod Spread
 mod Stages
 mod Writes
 mod Reached
+mod Fitting

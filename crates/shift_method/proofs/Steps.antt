@@ -6,7 +6,7 @@ use Rattle.std.proofs.lemmas.List.{get_or-set_same, get_or-set_other}
 use Rattle.permutations.specs.Members.{is_member, is_distinct}
 use Rattle.permutations.specs.Cyclic.{first_or}
 use Rattle.permutations.proofs.Members.{member-head, member-tail, member-cases, member-append_left, member-append_right, no_member-head, no_member-tail, distinct-head, distinct-tail, distinct-append_left, distinct-append_apart}
-use Rattle.shift_method.specs.Shapes.{ShapeState, IsShapeOf, total, one_more, last_head, widened, covered, width_of, half_of, placed, CanStack}
+use Rattle.shift_method.specs.Shapes.{ShapeState, IsShapeOf, total, one_more, last_of, widened, covered, width_of, half_of, placed, CanStack}
 use Rattle.shift_method.proofs.Stretches.{Offsets, total-more, offsets-same, offsets-first}
 
 -- w was placed over its heads: t are the numbers after s
@@ -36,17 +36,18 @@ same-at l i x h = get_or-set_same l i x 0 h
 other-at : (l : List ℕ) (i x j : ℕ) → j ≢ i → slice_index (slice_set l i x) j ≡ slice_index l j
 other-at l i x j h = get_or-set_other l i j x 0 h
 
--- the last of a list with two members or more
-last-of : (a : ℕ) (l : List ℕ) (r : ℕ) → last_head (a ∷ (l ++ r ∷ [])) ≡ r
-last-of a [] r = refl
-last-of a (b ∷ l) r = ap (λ (i : ℕ). slice_index (a ∷ b ∷ (l ++ r ∷ [])) i) one ∙ last-of b l r
+-- the last member, and the first
+pub last-is : (l : List ℕ) (r : ℕ) → last_of (l ++ r ∷ []) ≡ r
+last-is [] r = refl
+last-is (b ∷ l) r = ap (λ (i : ℕ). slice_index (b ∷ (l ++ r ∷ [])) i) (one l) ∙ last-is l r
   where
-    one : suc (length (b ∷ (l ++ r ∷ []))) - 1 ≡ suc (length (b ∷ (l ++ r ∷ [])) - 1)
-    one = omega arith
+    one : (l : List ℕ) → suc (length (l ++ r ∷ [])) - 1 ≡ suc (length (l ++ r ∷ []) - 1)
+    one [] = refl
+    one (c ∷ l) = omega arith
 
-second-of : (a : ℕ) (l : List ℕ) (r : ℕ) → slice_index (a ∷ (l ++ r ∷ [])) 1 ≡ first_or r l
-second-of a [] r = refl
-second-of a (b ∷ l) r = refl
+first-is : (l : List ℕ) (r : ℕ) → slice_index (l ++ r ∷ []) 0 ≡ first_or r l
+first-is [] r = refl
+first-is (b ∷ l) r = refl
 
 -- covering
 covered-length : (g : ℕ → ℕ) (c : ℕ) (l off : List ℕ) → length (covered g c l off) ≡ length off
@@ -82,9 +83,9 @@ module _ (n : ℕ) (s : ShapeState) (z : IsShapeOf n s) (w left : ℕ) (inner : 
   twice : List ℕ
   twice = one_more once right
 
-  widened-is : widened s.gap whole ≡ twice
+  widened-is : widened s.gap row ≡ twice
   unfolding once a twice
-  widened-is = ap₂ (λ (i j : ℕ). one_more (one_more s.gap i) j) (second-of left inner right) (last-of left inner right)
+  widened-is = ap₂ (λ (i j : ℕ). one_more (one_more s.gap i) j) (first-is inner right) (last-is inner right)
 
   row-distinct : is_distinct row ≡ true
   row-distinct = distinct-tail left row (distinct-tail w whole distinct)
@@ -134,30 +135,31 @@ module _ (n : ℕ) (s : ShapeState) (z : IsShapeOf n s) (w left : ℕ) (inner : 
   unfolding width
   total-twice = omega (arith, total-more (slice_index s.gap) (slice_index once) a row row-distinct a-in once-at once-else, total-more (slice_index once) (slice_index twice) right row row-distinct right-in twice-at twice-else)
 
-  width-is : width_of s whole ≡ width
+  pub width-is : width_of s whole ≡ total (slice_index s.gap) row + 2
+  unfolding width
   width-is = ap (λ (l : List ℕ). total (slice_index l) row) widened-is ∙ total-twice
 
   half : ℕ
   half = rest + 1
 
-  half-is : half_of s whole ≡ half
+  pub half-is : half_of s whole ≡ rest + 1
   unfolding half width
-  half-is = ap₂ (λ (d i : ℕ). (d + slice_index s.height i - slice_index s.height left) / 2) width-is (last-of left inner right) ∙ omega (arith, even)
+  half-is = ap₂ (λ (d i : ℕ). (d + slice_index s.height i - slice_index s.height left) / 2) width-is (last-is inner right) ∙ omega (arith, even)
 
   gap-is : (placed s w whole).gap ≡ slice_set (slice_set twice w half) right (width - half)
-  unfolding placed
-  gap-is = ap₂ (λ (l : List ℕ) (h : ℕ). slice_set (slice_set l w h) (last_head whole) (width_of s whole - h)) widened-is half-is ∙ ap₂ (λ (d i : ℕ). slice_set (slice_set twice w half) i (d - half)) width-is (last-of left inner right)
+  unfolding placed half width
+  gap-is = ap₂ (λ (l : List ℕ) (h : ℕ). slice_set (slice_set l w h) (last_of row) (width_of s whole - h)) widened-is half-is ∙ ap₂ (λ (d i : ℕ). slice_set (slice_set twice w half) i (d - half)) width-is (last-is inner right)
 
   height-is : (placed s w whole).height ≡ slice_set s.height w (slice_index s.height left + half)
-  unfolding placed
+  unfolding placed half width
   height-is = ap (λ (h : ℕ). slice_set s.height w (slice_index s.height left + h)) half-is
 
   halves-are : (placed s w whole).half ≡ slice_set s.half w half
-  unfolding placed
+  unfolding placed half width
   halves-are = ap (λ (h : ℕ). slice_set s.half w h) half-is
 
   offset-is : (placed s w whole).offset ≡ covered (slice_index twice) 0 row s.offset
-  unfolding placed
+  unfolding placed half width
   offset-is = ap (λ (l : List ℕ). covered (slice_index l) 0 row s.offset) widened-is
 
   w-within : w < n

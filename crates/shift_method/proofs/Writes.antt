@@ -2,8 +2,8 @@
 use Rattle.std.proofs.Common.{◌≡◌, ◌≢◌, ◌⊎◌, inl, inr, ℕ, zero, suc, ◌+◌, ◌*◌, ◌-◌, ◌<◌, ◌≤◌, ◌^◌, Bool, true, false, List, [], ◌∷◌, ◌++◌, length, take, drop, get_or, slice_index, slice_set, add-one, arith, refl, sym, ap, ap₂, ◌∙◌, subst}
 use Rattle.std.proofs.Math.ListN.{length-set}
 use Rattle.std.proofs.Math.Seq.{take-suc, drop-cons, drop-length}
-use Rattle.std.proofs.lemmas.Bool.{both_ways, cases_eq, cases_Bool, false≢true}
-use Rattle.std.proofs.lemmas.List.{get_or-set_same, get_or-set_other, length-append}
+use Rattle.std.proofs.lemmas.Bool.{both_ways, cases_eq, cases_Bool, false_from_ne_true, false≢true}
+use Rattle.std.proofs.lemmas.List.{get_or-set_same, get_or-set_other, length-append, take_more, take_all}
 use Rattle.permutations.specs.Members.{is_member}
 use Rattle.permutations.proofs.Members.{member-head, member-tail, member-cases, member-append_left, member-append_right, member-append_cases}
 use Rattle.shift_method.specs.Shapes.{total, covered}
@@ -73,7 +73,7 @@ written-step members first offset base i x l b w = record { size = length-set x 
     u = slice_index members i
 
     more : take (i + 1) members ≡ take i members ++ u ∷ []
-    more = ap (λ (k : ℕ). take k members) (omega arith) ∙ take-suc members i 0 l
+    more = take_more members i 0 l
 
     done : (v : ℕ) → is_member v (take (i + 1) members) ≡ true → slice_index (slice_set x u (base + slice_index offset u)) v ≡ base + slice_index offset v
     done v j = elim (cases_eq v u) [
@@ -96,5 +96,58 @@ written-step members first offset base i x l b w = record { size = length-set x 
         not_yet (inr k) = k
 
 -- the members of a list but the first and the last
-pub between-ends : (heads : List ℕ) → 2 ≤ length heads → (left right : ℕ) × (heads ≡ left ∷ (take (length heads - 2) (drop 1 heads) ++ right ∷ []))
-between-ends heads h = ?
+last-split : (b : ℕ) (l : List ℕ) → (r : ℕ) × (b ∷ l ≡ take (length l) (b ∷ l) ++ r ∷ [])
+last-split b [] = (b, refl)
+last-split b (c ∷ l) = ((last-split c l).0, ap (λ (k : List ℕ). b ∷ k) (last-split c l).1)
+
+between-ends : (heads : List ℕ) → 2 ≤ length heads → (left : ℕ) × (right : ℕ) × (heads ≡ left ∷ (take (length heads - 1 - 1) (drop 1 heads) ++ right ∷ []))
+between-ends [] h = absurd (omega (arith, h))
+between-ends (a ∷ []) h = absurd (omega (arith, h))
+between-ends (a ∷ b ∷ l) h = (a, (last-split b l).0, ap (λ (k : List ℕ). a ∷ k) (last-split b l).1 ∙ ap (λ (i : ℕ). a ∷ (take i (b ∷ l) ++ (last-split b l).0 ∷ [])) few)
+  where
+    few : length l ≡ length (a ∷ b ∷ l) - 1 - 1
+    few = omega arith
+
+pub between-inner : (heads : List ℕ) → 2 ≤ length heads → (v : ℕ) → is_member v (take (length heads - 1 - 1) (drop 1 heads)) ≡ true → IsInnerHead heads v
+between-inner heads h v i = let e = between-ends heads h in record { left = e.0; inner = take (length heads - 1 - 1) (drop 1 heads); right = e.1; cut = e.2; among = i; }
+
+pub inner-between : (heads : List ℕ) → 2 ≤ length heads → (v : ℕ) → IsInnerHead heads v → is_member v (take (length heads - 1 - 1) (drop 1 heads)) ≡ true
+inner-between heads h v j = let e = between-ends heads h in
+    subst (λ (k : List ℕ). is_member v k ≡ true) (same-inner j.left e.0 j.inner (take (length heads - 1 - 1) (drop 1 heads)) j.right e.1 (sym j.cut ∙ e.2)) j.among
+
+-- the inner head at a place
+pub inner-at : (h heads : List ℕ) → h ≡ heads → 2 ≤ length heads → (i : ℕ) → i < length (take (length h - 1 - 1) (drop 1 h)) → IsInnerHead heads (slice_index (take (length h - 1 - 1) (drop 1 h)) i)
+inner-at h heads e b i l = subst (λ (k : List ℕ). IsInnerHead k (slice_index (take (length h - 1 - 1) (drop 1 h)) i)) e
+    (between-inner h (subst (λ (k : List ℕ). 2 ≤ length k) (sym e) b) (slice_index (take (length h - 1 - 1) (drop 1 h)) i) (place-member (take (length h - 1 - 1) (drop 1 h)) i l))
+
+take-member : (i : ℕ) (l : List ℕ) (v : ℕ) → is_member v (take i l) ≡ true → is_member v l ≡ true
+take-member zero l v j = absurd (false≢true j)
+take-member (suc i) [] v j = absurd (false≢true j)
+take-member (suc i) (a ∷ l) v j = elim (member-cases v a (take i l) j) [ inl e ↦ subst (λ (k : ℕ). is_member k (a ∷ l) ≡ true) e (member-head a l) | inr k ↦ member-tail v a l (take-member i l v k) ]
+
+-- once all inner heads are written
+pub written-inner : (h heads first offset : List ℕ) (base i : ℕ) (x : List ℕ) → h ≡ heads → 2 ≤ length heads → length (take (length h - 1 - 1) (drop 1 h)) ≤ i
+    → AreWritten (take (length h - 1 - 1) (drop 1 h)) first offset base i x → (v : ℕ) → IsInnerHead heads v → slice_index x v ≡ base + slice_index offset v
+written-inner h heads first offset base i x e b l w v j = w.done v (subst (λ (k : List ℕ). is_member v k ≡ true) (sym (take_all i (take (length h - 1 - 1) (drop 1 h)) l))
+    (inner-between h (subst (λ (k : List ℕ). 2 ≤ length k) (sym e) b) v (subst (λ (k : List ℕ). IsInnerHead k v) (sym e) j)))
+
+pub written-others : (h heads first offset : List ℕ) (base i : ℕ) (x : List ℕ) → h ≡ heads → 2 ≤ length heads
+    → AreWritten (take (length h - 1 - 1) (drop 1 h)) first offset base i x → (v : ℕ) → (IsInnerHead heads v → ⊥) → slice_index x v ≡ slice_index first v
+written-others h heads first offset base i x e b w v n = w.same v (false_from_ne_true (is_member v (take i (take (length h - 1 - 1) (drop 1 h)))) (λ j. n (subst (λ (k : List ℕ). IsInnerHead k v) e
+    (between-inner h (subst (λ (k : List ℕ). 2 ≤ length k) (sym e) b) v (take-member i (take (length h - 1 - 1) (drop 1 h)) v j)))))
+
+-- all members but the first
+pub tail-is : (l : List ℕ) → take (length l - 1) (drop 1 l) ≡ drop 1 l
+tail-is [] = refl
+tail-is (a ∷ l) = take_all (length (a ∷ l) - 1) l (omega arith)
+
+-- an element in range, whatever the default
+pub same-default : {X : Type 0} (l : List X) (i : ℕ) (d e : X) → i < length l → get_or l i d ≡ get_or l i e
+same-default [] i d e h = absurd (omega (arith, h))
+same-default (y ∷ l) zero d e h = refl
+same-default (y ∷ l) (suc i) d e h = same-default l i d e (omega (arith, h))
+
+-- each gap is within the sum
+pub total-member : (g : ℕ → ℕ) (l : List ℕ) (v : ℕ) → is_member v l ≡ true → g v ≤ total g l
+total-member g [] v i = absurd (false≢true i)
+total-member g (a ∷ l) v i = elim (member-cases v a l i) [ inl e ↦ omega (arith, ap g e) | inr j ↦ omega (arith, total-member g l v j) ]

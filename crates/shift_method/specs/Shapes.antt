@@ -32,34 +32,47 @@ total g (v ∷ l) = g v + total g l
 abbrev pub one_more : List ℕ → ℕ → List ℕ
 one_more l v = slice_set l v (slice_index l v + 1)
 
-abbrev pub last_head : List ℕ → ℕ
-last_head heads = slice_index heads (length heads - 1)
+abbrev pub last_of : List ℕ → ℕ
+last_of l = slice_index l (length l - 1)
 
--- the gaps before the second and before the last head are one more
+-- the gaps before the first and before the last of these vertices are one more
 abbrev pub widened : List ℕ → List ℕ → List ℕ
-widened gap heads = one_more (one_more gap (slice_index heads 1)) (last_head heads)
+widened gap l = one_more (one_more gap (slice_index l 0)) (last_of l)
 
 -- the offset of each of these vertices is the sum of the gaps up to it, from `sum` on
 abbrev pub covered : (ℕ → ℕ) → ℕ → List ℕ → List ℕ → List ℕ
 covered g sum [] offset = offset
 covered g sum (v ∷ l) offset = covered g (sum + g v) l (slice_set offset v (sum + g v))
 
--- from the first head to the last
+abbrev pub with_widened : ShapeState → List ℕ → ShapeState
+with_widened s l = record s { gap = widened s.gap l }
+
+abbrev pub with_covered : ShapeState → List ℕ → ShapeState
+with_covered s l = record s { offset = covered (slice_index s.gap) 0 l s.offset }
+
+-- the vertex has this height, and lies this far to the right of its left neighbour
+abbrev pub raised : ShapeState → ℕ → ℕ → ℕ → ShapeState
+raised s v half height = record s {
+  gap = slice_set s.gap v half;
+  height = slice_set s.height v height;
+  half = slice_set s.half v half;
+}
+
+abbrev pub with_gap : ShapeState → ℕ → ℕ → ShapeState
+with_gap s v x = record s { gap = slice_set s.gap v x }
+
+-- from the first head to the last, once there is room
 abbrev pub width_of : ShapeState → List ℕ → ℕ
-width_of s heads = total (slice_index (widened s.gap heads)) (drop 1 heads)
+width_of s heads = total (slice_index (widened s.gap (drop 1 heads))) (drop 1 heads)
 
 -- from the first head to the vertex that is placed
 abbrev pub half_of : ShapeState → List ℕ → ℕ
-half_of s heads = (width_of s heads + slice_index s.height (last_head heads) - slice_index s.height (slice_index heads 0)) / 2
+half_of s heads = (width_of s heads + slice_index s.height (last_of (drop 1 heads)) - slice_index s.height (slice_index heads 0)) / 2
 
 -- the numbers after vertex w was placed over its heads
 unfoldable pub placed : ShapeState → ℕ → List ℕ → ShapeState
-placed s w heads = record {
-  gap = slice_set (slice_set (widened s.gap heads) w (half_of s heads)) (last_head heads) (width_of s heads - half_of s heads);
-  height = slice_set s.height w (slice_index s.height (slice_index heads 0) + half_of s heads);
-  half = slice_set s.half w (half_of s heads);
-  offset = covered (slice_index (widened s.gap heads)) 0 (drop 1 heads) s.offset;
-}
+placed s w heads = with_gap (raised (with_covered (with_widened s (drop 1 heads)) (drop 1 heads)) w (half_of s heads) (slice_index s.height (slice_index heads 0) + half_of s heads))
+    (last_of (drop 1 heads)) (width_of s heads - half_of s heads)
 
 -- the numbers after these vertices were placed, the last one first
 abbrev pub all_placed : ShapeState → List Removed → ShapeState

@@ -2,22 +2,22 @@
 
 ghost use Rattle.std.specs.Prelude.{◌≡◌, ◌+◌, ◌*◌, ◌<◌, ◌≤◌, ◌^◌, ℕ, true, List, length, IfOk, slice_index};
 ghost use Rattle.permutations.specs.Members.{is_member};
-ghost use Rattle.shift_method.specs.Shapes.{ShapeState, IsShapeOf, fresh, total, widened, covered, placed, all_placed, CanStack};
+ghost use Rattle.shift_method.specs.Shapes.{ShapeState, IsShapeOf, fresh, total, widened, covered, with_widened, with_covered, raised, with_gap, placed, all_placed, CanStack};
 ghost use Rattle.shift_method.specs.Peeled.{IsPeeled};
 
 use crate::removal::Removal;
 use std::alloc::{AllocError, Global};
 use std::marker::Model;
 
-// One more before the second head and one more before the last.
-fn widen(gap: &mut [u32], heads: &[u32])
-    requires two { 2 ≤ length heads.now }
-    requires within { (v : ℕ) → is_member v heads.now ≡ true → v < length gap.old }
-    requires fits { (v : ℕ) → is_member v heads.now ≡ true → slice_index gap.old v + 2 < 2 ^ 32 }
-    ensures { gap.new ≡ widened gap.old heads.now }
+// One more before the first and one more before the last of these vertices.
+fn widen(gap: &mut [u32], vertices: &[u32])
+    requires some { 0 < length vertices.now }
+    requires within { (v : ℕ) → is_member v vertices.now ≡ true → v < length gap.old }
+    requires fits { (v : ℕ) → is_member v vertices.now ≡ true → slice_index gap.old v + 2 < 2 ^ 32 }
+    ensures { gap.new ≡ widened gap.old vertices.now }
 {
-    gap[heads[1] as usize] += 1;
-    gap[heads[heads.len() - 1] as usize] += 1;
+    gap[vertices[0] as usize] += 1;
+    gap[vertices[vertices.len() - 1] as usize] += 1;
 }
 
 // Notes for each of these vertices the sum of the gaps up to it; returns the sum of all.
@@ -106,23 +106,63 @@ impl Shape {
         self.offset[vertex as usize]
     }
 
-    // Places one vertex over its heads: to the right of the first head and to the left of the last one as far as it is higher.
-    fn place(&mut self, removal: &Removal)
-        requires stack { (n : ℕ) × IsShapeOf n self.old × (2 * n ≤ 2 ^ 32)
-            × CanStack n (slice_index self.old.gap) (slice_index self.old.height) removal.now.0 removal.now.1 }
-        ensures { self.new ≡ placed self.old removal.now.0 removal.now.1 }
+    // One more before the first and one more before the last of these vertices.
+    fn widen(&mut self, vertices: &[u32])
+        requires some { 0 < length vertices.now }
+        requires within { (v : ℕ) → is_member v vertices.now ≡ true → v < length self.old.gap }
+        requires fits { (v : ℕ) → is_member v vertices.now ≡ true
+            → slice_index self.old.gap v + 2 < 2 ^ 32 }
+        ensures { self.new ≡ with_widened self.old vertices.now }
     {
-        let heads = removal.heads();
-        let left = self.height[heads[0] as usize];
-        let last = heads[heads.len() - 1] as usize;
-        widen(&mut self.gap, heads);
-        let width = cover(&mut self.offset, &self.gap, &heads[1..]);
-        let half = (width + self.height[last] - left) / 2;
-        let w = removal.vertex() as usize;
-        self.gap[w] = half;
-        self.gap[last] = width - half;
-        self.height[w] = left + half;
-        self.half[w] = half;
+        widen(&mut self.gap, vertices);
+    }
+
+    // Notes for each of these vertices the sum of the gaps up to it; returns the sum of all.
+    fn cover(&mut self, vertices: &[u32]) -> u32
+        requires gap_within { (v : ℕ) → is_member v vertices.now ≡ true → v < length self.old.gap }
+        requires offset_within { (v : ℕ) → is_member v vertices.now ≡ true → v < length self.old.offset }
+        requires fits { total (slice_index self.old.gap) vertices.now < 2 ^ 32 }
+        ensures sum { result ≡ total (slice_index self.old.gap) vertices.now }
+        ensures offset { self.new ≡ with_covered self.old vertices.now }
+    {
+        cover(&mut self.offset, &self.gap, vertices)
+    }
+
+    // The vertex has this height, and lies `half` to the right of its left neighbour.
+    fn raise(&mut self, vertex: u32, half: u32, height: u32)
+        requires gap_within { vertex < length self.old.gap }
+        requires height_within { vertex < length self.old.height }
+        requires half_within { vertex < length self.old.half }
+        ensures { self.new ≡ raised self.old vertex half height }
+    {
+        self.gap[vertex as usize] = half;
+        self.height[vertex as usize] = height;
+        self.half[vertex as usize] = half;
+    }
+
+    // The vertex lies `gap` to the right of its left neighbour.
+    fn set_gap(&mut self, vertex: u32, gap: u32)
+        requires { vertex < length self.old.gap }
+        ensures { self.new ≡ with_gap self.old vertex gap }
+    {
+        self.gap[vertex as usize] = gap;
+    }
+
+    // Places one vertex over its heads, so that the edges to the first and to the last one have slopes 1 and -1.
+    fn place(&mut self, vertex: u32, heads: &[u32])
+        requires stack { (n : ℕ) × IsShapeOf n self.old × (2 * n ≤ 2 ^ 32)
+            × CanStack n (slice_index self.old.gap) (slice_index self.old.height) vertex heads.now }
+        ensures { self.new ≡ placed self.old vertex heads.now }
+    {
+        let rest = &heads[1..];
+        let last = rest[rest.len() - 1];
+        let left = self.height(heads[0]);
+        let right = self.height(last);
+        self.widen(rest);
+        let width = self.cover(rest);
+        let half = (width + right - left) / 2;
+        self.raise(vertex, half, left + half);
+        self.set_gap(last, width - half);
     }
 
     // Places the vertices, the last one first.
@@ -135,7 +175,7 @@ impl Shape {
         let mut k = removals.len();
         while k > 0 {
             k -= 1;
-            self.place(&removals[k]);
+            self.place(removals[k].vertex(), removals[k].heads());
         }
     }
 }
