@@ -10,7 +10,6 @@ use Rattle.canonical_orders.specs.Order.{Removed, stays_after}
 use Rattle.canonical_orders.specs.State.{IsCanonicalOrderOf}
 use Rattle.stacked_maps.specs.Drawn.{IsDrawnUnder}
 use Rattle.shift_method.specs.Peeled.{IsPeeled}
-use Rattle.grid_drawing.specs.Drawing.{point_at}
 use Rattle.grid_drawing.specs.Grid.{IsGridDrawing}
 use Rattle.grid_drawing.proofs.OfMaps.{dart-at, grid-drawn}
 
