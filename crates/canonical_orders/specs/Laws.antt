@@ -1,12 +1,13 @@
 -- What is proved of contours and removals, as statements.
-use Rattle.std.specs.Prelude.{◌≡◌, ◌≢◌, ◌⊎◌, ℕ, ◌*◌, ◌<◌, Bool, true, false, ◌||◌, ◌==◌, nat_lt, List, [], ◌∷◌, ◌++◌, map}
-use Rattle.permutations.specs.Members.{is_member}
+use Rattle.std.specs.Prelude.{◌≡◌, ◌⊎◌, ℕ, ◌*◌, ◌<◌, Bool, true, false, ◌||◌, ◌==◌, List, [], ◌∷◌, ◌++◌}
+use Rattle.permutations.specs.Members.{is_distinct}
 use Rattle.permutations.specs.Cyclic.{first_or, last_or}
 use Rattle.dart_maps.specs.Map.{twin, face}
 use Rattle.multigraph.specs.Graph.{Multigraph}
 use Rattle.faces.specs.Euler.{tail}
 use Rattle.triangulations.specs.Triangulation.{IsTriangulated}
 use Rattle.canonical_orders.specs.Contours.{darts_around, IsContour, IsRemoval}
+use Rattle.canonical_orders.specs.Free.{IsFreeAt}
 use Rattle.canonical_orders.specs.Order.{IsStacked}
 
 -- the list has members, x is the first and z the last
@@ -14,13 +15,6 @@ pub record GoesFromTo (x z : ℕ) (l : List ℕ) : Type 0 where
   pub rest : List ℕ
   pub begins : l ≡ x ∷ rest
   pub ends : last_or x rest ≡ z
-
--- vertex w is on the contour, at neither of its ends, and its edges to vertices on the contour are edges of the contour
-pub record IsFree (m : ℕ) (h : Multigraph) (base : ℕ) (contour : List ℕ) (w : ℕ) : Type 0 where
-  pub on : is_member w (map (tail h) contour) ≡ true
-  pub not_first : w ≢ tail h base
-  pub not_last : w ≢ tail h (twin base)
-  pub no_chord : (d : ℕ) → d < 2 * m → tail h d ≡ w → is_member (tail h (twin d)) (map (tail h) contour) ≡ true → (is_member d contour ≡ true) ⊎ (is_member (twin d) contour ≡ true)
 
 -- around the vertex of a contour dart x, the darts that stay go from x, the dart to the left neighbour, to the dart to the right neighbour,
 -- the twin of the next contour dart; around the last vertex of the contour they end with the twin of the base
@@ -33,10 +27,15 @@ abbrev pub TriangleIsContour : Type 0
 TriangleIsContour = (m : ℕ) (h : Multigraph) (next previous : ℕ → ℕ) (base : ℕ) (stays : ℕ → Bool) → IsTriangulated m h next previous → base < 2 * m
     → ((d : ℕ) → d < 2 * m → stays (tail h d) ≡ true) → IsContour m h next base stays (base ∷ face next (face next base) ∷ face next base ∷ [])
 
--- where a free vertex of a contour is removed, a contour is left
+-- where only the two ends of the base stay, the contour is the base and its twin
+abbrev pub LastContourIsBase : Type 0
+LastContourIsBase = (m : ℕ) (h : Multigraph) (next previous : ℕ → ℕ) (base : ℕ) (stays : ℕ → Bool) (contour : List ℕ) → IsTriangulated m h next previous → base < 2 * m
+    → IsContour m h next base stays contour → ((v : ℕ) → stays v ≡ true → (v ≡ tail h base) ⊎ (v ≡ tail h (twin base))) → contour ≡ base ∷ twin base ∷ []
+
+-- where a free vertex of a contour is removed, and its arms lead to different vertices, a contour is left
 abbrev pub RemovalKeepsContours : Type 0
 RemovalKeepsContours = (m : ℕ) (h : Multigraph) (next previous : ℕ → ℕ) (base : ℕ) (before after : ℕ → Bool) (contour later : List ℕ) (w : ℕ) (heads : List ℕ)
-    → IsTriangulated m h next previous → base < 2 * m → IsContour m h next base before contour → IsFree m h base contour w → IsRemoval h next contour later w heads
+    → IsTriangulated m h next previous → base < 2 * m → IsContour m h next base before contour → IsFreeAt m h contour w → IsRemoval h next contour later w heads → is_distinct heads ≡ true
     → ((v : ℕ) → before v ≡ (after v || (v == w))) → after w ≡ false → IsContour m h next base after later
 
 -- where both before and after a removal there is a contour, the removed vertex is stacked on the contour after it

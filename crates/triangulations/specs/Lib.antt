@@ -1,2 +1,5 @@
 -- Triangulations of plane maps.
 pub mod Triangulation
+pub mod Cutting
+pub mod Listed
+pub mod Pairs
