@@ -1,12 +1,13 @@
-mod Stretches
-mod Overlooked
-mod Rows
-mod Orders
-mod Steps
-mod Placed
-mod Spread
-mod Stages
-mod Writes
-mod Reached
-mod Fitting
-mod Drawings
+-- The lemmas on the shift method.
+pub mod Stretches
+pub mod Overlooked
+pub mod Rows
+pub mod Orders
+pub mod Steps
+pub mod Placed
+pub mod Spread
+pub mod Stages
+pub mod Writes
+pub mod Reached
+pub mod Fitting
+pub mod Drawings

@@ -6,9 +6,9 @@ ghost use Rattle.stacked_maps.specs.Drawn.{IsDrawnUnder};
 ghost use Rattle.shift_method.specs.Shapes.{ShapeState};
 ghost use Rattle.shift_method.specs.Peeled.{IsPeeled, contour_at};
 
-use canonical_orders::Removal;
 use crate::shape::Shape;
 use crate::spreading::positions;
+use canonical_orders::Removal;
 use std::alloc::{AllocError, Global};
 
 // The point of each vertex, from its position and its height.
