@@ -106,9 +106,9 @@ module _ (g : Multigraph) (ok : IsGraph g) (drawn on : List Bool) (next : List �
     | inr w ↦ let p = touch-way head_of z w.1 in (p.along, leads-off z a.arrives a.elsewhere (or_left (not (is_marked on head_of)) (z == head_of) (not_from_false (is_marked on head_of) (tables.on_drawn head_of ∙ w.0))) p.along p.path p.passes)
   ]
 
-  module _ (label : List ℕ) (closed : (c k : ℕ) → same_face (edge_count g) (slice_index next) c k ≡ true → slice_index label c ≡ slice_index label k) (exact : AreExact (edge_count g) next label) (feet : List ℕ) (a : AreAllAttached g drawn t feet) where
+  module _ (label : List ℕ) (closed : (c k : ℕ) → same_face (edge_count g) (slice_index next) c k ≡ true → slice_index label c ≡ slice_index label k) (exact : AreExact (edge_count g) next label) (attached : List ℕ) (a : AreAllAttached g drawn t attached) where
     -- an admissible corner fits
-    pub admissible-fits : (c : ℕ) → IsAdmissible g drawn label feet t c → FitsCorner g D (slice_index next) t c
+    pub admissible-fits : (c : ℕ) → IsAdmissible g drawn label attached t c → FitsCorner g D (slice_index next) t c
     admissible-fits c h = record {
       below = h.below;
       in_map = h.drawn_dart;
@@ -119,7 +119,7 @@ module _ (g : Multigraph) (ok : IsGraph g) (drawn on : List Bool) (next : List �
     }
 
     -- and one that fits is admissible
-    pub fits-admissible : (c : ℕ) → FitsCorner g D (slice_index next) t c → IsAdmissible g drawn label feet t c
+    pub fits-admissible : (c : ℕ) → FitsCorner g D (slice_index next) t c → IsAdmissible g drawn label attached t c
     fits-admissible c h = record {
       below = h.below;
       drawn_dart = h.in_map;

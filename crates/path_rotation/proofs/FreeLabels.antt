@@ -63,9 +63,9 @@ free-labelled g on labels size h = record {
     at x i = label-within labels x 0 (omega (arith, i, size))
 
 -- those attachments are found that are below k
-pub record AreFoundBelow (g : Multigraph) (drawn : List Bool) (t k : ℕ) (feet : List ℕ) : Type 0 where
-  pub each : (z : ℕ) → is_member z feet ≡ true → IsAttached g (is_marked drawn) t z
-  pub all : (z : ℕ) → z < k → IsAttached g (is_marked drawn) t z → is_member z feet ≡ true
+pub record AreFoundBelow (g : Multigraph) (drawn : List Bool) (t k : ℕ) (attached : List ℕ) : Type 0 where
+  pub each : (z : ℕ) → is_member z attached ≡ true → IsAttached g (is_marked drawn) t z
+  pub all : (z : ℕ) → z < k → IsAttached g (is_marked drawn) t z → is_member z attached ≡ true
 
 module _ (g : Multigraph) (ok : IsGraph g) (drawn on : List Bool) (next : List ℕ) (tables : AreTables g drawn on next) (t : ℕ) (l : t < dart_count g) where
   abbrev D : ℕ → Bool
@@ -85,8 +85,8 @@ module _ (g : Multigraph) (ok : IsGraph g) (drawn on : List Bool) (next : List �
   head-in = tail-in g (twin t) ok (twin-below (edge_count g) t l)
 
   -- the head alone, where it is on
-  pub attached-head : is_marked on head_of ≡ true → (feet : List ℕ) → feet ≡ head_of ∷ [] → AreAllAttached g drawn t feet
-  attached-head h feet e = subst (AreAllAttached g drawn t) (sym e) (record {
+  pub attached-head : is_marked on head_of ≡ true → (attached : List ℕ) → attached ≡ head_of ∷ [] → AreAllAttached g drawn t attached
+  attached-head h attached e = subst (AreAllAttached g drawn t) (sym e) (record {
     each = λ z m. elim (member-cases z head_of [] m) [
       | inl q ↦ subst (λ (y : ℕ). IsAttached g D t y) q (head-attached g ok D t l (sym (tables.on_drawn head_of) ∙ h))
       | inr n ↦ absurd (false≢true n)
@@ -129,25 +129,25 @@ module _ (g : Multigraph) (ok : IsGraph g) (drawn on : List Bool) (next : List �
       ],
     )
 
-  pub found-none : (feet : List ℕ) → feet ≡ [] → AreFoundBelow g drawn t 0 feet
-  found-none feet e = record { each = λ z m. absurd (false≢true (subst (λ (x : List ℕ). is_member z x ≡ true) e m)); all = λ z i. absurd (omega arith) }
+  pub found-none : (attached : List ℕ) → attached ≡ [] → AreFoundBelow g drawn t 0 attached
+  found-none attached e = record { each = λ z m. absurd (false≢true (subst (λ (x : List ℕ). is_member z x ≡ true) e m)); all = λ z i. absurd (omega arith) }
 
   -- one more is attached
-  pub found-yes : (k : ℕ) (feet : List ℕ) → AreFoundBelow g drawn t k feet → IsAttached g D t k → AreFoundBelow g drawn t (k + 1) (feet ++ k ∷ [])
-  found-yes k feet s a = record {
-    each = λ z m. elim (member-append_cases z feet (k ∷ []) m) [
+  pub found-yes : (k : ℕ) (attached : List ℕ) → AreFoundBelow g drawn t k attached → IsAttached g D t k → AreFoundBelow g drawn t (k + 1) (attached ++ k ∷ [])
+  found-yes k attached s a = record {
+    each = λ z m. elim (member-append_cases z attached (k ∷ []) m) [
       | inl i ↦ s.each z i
       | inr i ↦ elim (member-cases z k [] i) [ inl q ↦ subst (λ (y : ℕ). IsAttached g D t y) q a | inr n ↦ absurd (false≢true n) ]
     ];
     all = λ z i b. elim (cases_lt z k) [
-      | inl c ↦ member-append_left z feet (k ∷ []) (s.all z c b)
-      | inr c ↦ let e : z ≡ k = omega arith in subst (λ (y : ℕ). is_member y (feet ++ k ∷ []) ≡ true) (sym e) (member-append_right k feet (k ∷ []) (member-head k []))
+      | inl c ↦ member-append_left z attached (k ∷ []) (s.all z c b)
+      | inr c ↦ let e : z ≡ k = omega arith in subst (λ (y : ℕ). is_member y (attached ++ k ∷ []) ≡ true) (sym e) (member-append_right k attached (k ∷ []) (member-head k []))
     ];
   }
 
   -- or it is not
-  pub found-no : (k : ℕ) (feet : List ℕ) → AreFoundBelow g drawn t k feet → (IsAttached g D t k → ⊥) → AreFoundBelow g drawn t (k + 1) feet
-  found-no k feet s n = record {
+  pub found-no : (k : ℕ) (attached : List ℕ) → AreFoundBelow g drawn t k attached → (IsAttached g D t k → ⊥) → AreFoundBelow g drawn t (k + 1) attached
+  found-no k attached s n = record {
     each = s.each;
     all = λ z i b. elim (cases_lt z k) [
       | inl c ↦ s.all z c b
@@ -160,5 +160,5 @@ module _ (g : Multigraph) (ok : IsGraph g) (drawn on : List Bool) (next : List �
   attached-in z a = let d = on-dart g D z a.arrives in subst (λ (y : ℕ). y < g.vertex_count) d.3 (tail-in g d.0 ok d.1)
 
   -- at the end all are found
-  pub found-all : (k : ℕ) (feet : List ℕ) → g.vertex_count ≤ k → AreFoundBelow g drawn t k feet → AreAllAttached g drawn t feet
-  found-all k feet h s = record { each = s.each; all = λ z a. s.all z (omega (arith, attached-in z a, h)) a }
+  pub found-all : (k : ℕ) (attached : List ℕ) → g.vertex_count ≤ k → AreFoundBelow g drawn t k attached → AreAllAttached g drawn t attached
+  found-all k attached h s = record { each = s.each; all = λ z a. s.all z (omega (arith, attached-in z a, h)) a }

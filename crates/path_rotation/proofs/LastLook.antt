@@ -30,24 +30,24 @@ turns-two : (f : ℕ → ℕ) (n : ℕ) → ((x : ℕ) → x < n → f (f x) ≡
 turns-two f n h c l zero = inl refl
 turns-two f n h c l (suc k) = elim (turns-two f n h c l k) [ inl e ↦ inr (ap f e) | inr e ↦ inl (ap f e ∙ h c l) ]
 
-module _ (g : Multigraph) (ok : IsGraph g) (drawn on : List Bool) (next label : List ℕ) (b : IsBoard g drawn on next label) (exact : AreExact (edge_count g) next label) (t : ℕ) (f : IsFoot g drawn on t) (feet : List ℕ) (a : AreAllAttached g drawn t feet) where
+module _ (g : Multigraph) (ok : IsGraph g) (drawn on : List Bool) (next label : List ℕ) (b : IsBoard g drawn on next label) (exact : AreExact (edge_count g) next label) (t : ℕ) (f : IsFoot g drawn on t) (attached : List ℕ) (a : AreAllAttached g drawn t attached) where
   -- no corner fits
-  pub none-fit : ((c : ℕ) → IsAdmissible g drawn label feet t c → ⊥) → (r : List (List ℕ)) → IsPlaneSystem g r → ⊥
-  none-fit none = no-plane g ok drawn on next label b.tables b.closed t f.dart f.undrawn f.tail_on b.forced feet (λ z m. attached-leads g ok drawn on next b.tables t f.dart f.tail_on z (a.each z m)) none
+  pub none-fit : ((c : ℕ) → IsAdmissible g drawn label attached t c → ⊥) → (r : List (List ℕ)) → IsPlaneSystem g r → ⊥
+  none-fit none = no-plane g ok drawn on next label b.tables b.closed t f.dart f.undrawn f.tail_on b.forced attached (λ z m. attached-leads g ok drawn on next b.tables t f.dart f.tail_on z (a.each z m)) none
 
   -- one corner alone fits
-  pub one-fits : (c : ℕ) → IsAdmissible g drawn label feet t c → ((d : ℕ) → d ≢ c → IsAdmissible g drawn label feet t d → ⊥) → MayDraw g drawn on next label t c
+  pub one-fits : (c : ℕ) → IsAdmissible g drawn label attached t c → ((d : ℕ) → d ≢ c → IsAdmissible g drawn label attached t d → ⊥) → MayDraw g drawn on next label t c
   one-fits c h none = record {
     at = record { below = h.below; drawn_dart = h.drawn_dart; leaves = h.leaves };
     certain = inl (record {
-      attachments = feet;
+      attachments = attached;
       reached = λ z m. attached-leads g ok drawn on next b.tables t f.dart f.tail_on z (a.each z m);
       only = λ d k. elim (cases_eq d c) [ inl e ↦ e | inr n ↦ absurd (none d n k) ];
     });
   }
 
   -- one fits, and what is drawn is an edge or a cycle
-  pub mirror-fits : (c : ℕ) → IsAdmissible g drawn label feet t c → IsInvolution (edge_count g) next → MayDraw g drawn on next label t c
+  pub mirror-fits : (c : ℕ) → IsAdmissible g drawn label attached t c → IsInvolution (edge_count g) next → MayDraw g drawn on next label t c
   mirror-fits c h i = record {
     at = record { below = h.below; drawn_dart = h.drawn_dart; leaves = h.leaves };
     certain = inr (record {
@@ -60,17 +60,17 @@ module _ (g : Multigraph) (ok : IsGraph g) (drawn on : List Bool) (next label : 
   }
 
   -- two fit
-  pub two-fit : (c d : ℕ) → IsAdmissible g drawn label feet t c → IsAdmissible g drawn label feet t d → d ≢ c → FitsTwo g drawn next t
+  pub two-fit : (c d : ℕ) → IsAdmissible g drawn label attached t c → IsAdmissible g drawn label attached t d → d ≢ c → FitsTwo g drawn next t
   two-fit c d h k n = record {
     first = c;
     second = d;
-    first_fits = admissible-fits g ok drawn on next b.tables t f.dart f.tail_on label (face-label (edge_count g) next label b.closed) exact feet a c h;
-    second_fits = admissible-fits g ok drawn on next b.tables t f.dart f.tail_on label (face-label (edge_count g) next label b.closed) exact feet a d k;
+    first_fits = admissible-fits g ok drawn on next b.tables t f.dart f.tail_on label (face-label (edge_count g) next label b.closed) exact attached a c h;
+    second_fits = admissible-fits g ok drawn on next b.tables t f.dart f.tail_on label (face-label (edge_count g) next label b.closed) exact attached a d k;
     different = λ e. n (sym e);
   }
 
   -- the corner at an attachment
-  pub look-way : (c : ℕ) → IsAdmissible g drawn label feet t c → (z : ℕ) → is_member z feet ≡ true → (path there near : List ℕ) → IsWayFound g on t path z → AreDartsAt g drawn z there
+  pub look-way : (c : ℕ) → IsAdmissible g drawn label attached t c → (z : ℕ) → is_member z attached ≡ true → (path there near : List ℕ) → IsWayFound g on t path z → AreDartsAt g drawn z there
       → near ≡ filter (λ d. slice_index label (twin d) == slice_index label (twin c)) there
       → (0 < length near) × (IsWayTo g drawn on label t c path (slice_index near 0)) × (same_face (edge_count g) (slice_index next) (twin c) (twin (slice_index near 0)) ≡ true)
   look-way c h z m path there near w d e =
@@ -85,7 +85,7 @@ module _ (g : Multigraph) (ok : IsGraph g) (drawn on : List Bool) (next label : 
         record {
           place = z;
           way = w;
-          sole = sole-admissible g ok drawn on next b.tables t f.dart f.tail_on label (face-label (edge_count g) next label b.closed) exact feet a b.drawing.0 b.drawing.1 c z (slice_index near 0)
+          sole = sole-admissible g ok drawn on next b.tables t f.dart f.tail_on label (face-label (edge_count g) next label b.closed) exact attached a b.drawing.0 b.drawing.1 c z (slice_index near 0)
               (record { below = at.below; drawn_dart = at.drawn_dart; leaves = at.leaves; in_face = face });
         },
         exact (twin c) (twin (slice_index near 0)) (twin-below (edge_count g) c h.below) (twin-below (edge_count g) (slice_index near 0) at.below) (sym face),

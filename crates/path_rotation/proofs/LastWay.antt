@@ -32,7 +32,7 @@ module _ (g : Multigraph) (ok : IsGraph g) (drawn on : List Bool) (next : List �
   abbrev head_of : ℕ
   head_of = tail g (twin t)
 
-  -- the head is off, or is z
+  -- where the head is z: the edge of the foot alone
   pub way-alone : head_of ≡ z → (path : List ℕ) → path ≡ (t / 2) ∷ [] → IsWayFound g on t path z
   way-alone q path e = record {
     along = [];

@@ -13,9 +13,9 @@ use Rattle.path_rotation.specs.declared.settling.Step.TheVariants.{Never, Path, 
 use Rattle.faces.specs.Euler.{IsPlaneSystem}
 
 -- the list holds the attachments of the foot t
-pub record AreAllAttached (g : Multigraph) (drawn : List Bool) (t : ℕ) (feet : List ℕ) : Type 0 where
-  pub each : (z : ℕ) → is_member z feet ≡ true → IsAttached g (is_marked drawn) t z
-  pub all : (z : ℕ) → IsAttached g (is_marked drawn) t z → is_member z feet ≡ true
+pub record AreAllAttached (g : Multigraph) (drawn : List Bool) (t : ℕ) (attached : List ℕ) : Type 0 where
+  pub each : (z : ℕ) → is_member z attached ≡ true → IsAttached g (is_marked drawn) t z
+  pub all : (z : ℕ) → IsAttached g (is_marked drawn) t z → is_member z attached ≡ true
 
 -- the foot t fits two corners
 pub record FitsTwo (g : Multigraph) (drawn : List Bool) (next : List ℕ) (t : ℕ) : Type 0 where

@@ -79,24 +79,24 @@ fn attachments(
     board: &Board,
     labels: &[u32],
     t: u32,
-    feet: &mut Vec<u32>,
+    attached: &mut Vec<u32>,
 ) -> Result<(), AllocError>
     requires tables { AreTables g.now board.now.drawn.items board.now.on.items board.now.next.items }
     requires labels { AreFreeLabels g.now board.now.on.items labels.now }
     requires foot { IsFoot g.now board.now.drawn.items board.now.on.items t }
-    ensures { IfOk result (λ _. AreAllAttached g.now board.now.drawn.items t feet.new.items) }
+    ensures { IfOk result (λ _. AreAllAttached g.now board.now.drawn.items t attached.new.items) }
 {
     g.keeps_limits();
-    feet.clear();
+    attached.clear();
     let first = head(g, t);
     if board.on[first as usize] {
-        feet.push(first)?;
+        attached.push(first)?;
         return Ok(());
     }
     let root = labels[first as usize];
     for z in 0..g.vertex_count() {
         if is_touched(g, &board.on, labels, root, tail(g, t), z) {
-            feet.push(z)?;
+            attached.push(z)?;
         }
     }
     Ok(())
@@ -113,19 +113,19 @@ struct Spare {
 fn passes_all(
     g: &Graph,
     board: &Board,
-    feet: &[u32],
+    attached: &[u32],
     face: u32,
     spare: &mut Spare,
 ) -> Result<bool, AllocError>
     requires tables { AreTables g.now board.now.drawn.items board.now.on.items board.now.next.items }
     requires labels { AreLabels g.now board.now.label.items }
-    requires feet { (z : ℕ) → is_member z feet.now ≡ true → z < g.now.vertex_count }
-    ensures passed { IfOk result (λ all. all ≡ true → (z : ℕ) → is_member z feet.now ≡ true
+    requires attached { (z : ℕ) → is_member z attached.now ≡ true → z < g.now.vertex_count }
+    ensures passed { IfOk result (λ all. all ≡ true → (z : ℕ) → is_member z attached.now ≡ true
         → (k : ℕ) × IsCorner g.now board.now.drawn.items board.now.label.items z face k) }
-    ensures missed { IfOk result (λ all. all ≡ false → (z : ℕ) × (is_member z feet.now ≡ true)
+    ensures missed { IfOk result (λ all. all ≡ false → (z : ℕ) × (is_member z attached.now ≡ true)
         × ((k : ℕ) → IsCorner g.now board.now.drawn.items board.now.label.items z face k → ⊥)) }
 {
-    for z in feet {
+    for z in attached {
         darts_at(g, &board.drawn, *z, &mut spare.there)?;
         keep_in_face(&board.label, face, &spare.there, &mut spare.near)?;
         if spare.near.is_empty() {
@@ -139,7 +139,7 @@ fn passes_all(
 fn find_fit(
     g: &Graph,
     board: &Board,
-    feet: &[u32],
+    attached: &[u32],
     corners: &[u32],
     spare: &mut Spare,
     t: u32,
@@ -147,18 +147,18 @@ fn find_fit(
 ) -> Result<Option<u32>, AllocError>
     requires tables { AreTables g.now board.now.drawn.items board.now.on.items board.now.next.items }
     requires labels { AreLabels g.now board.now.label.items }
-    requires feet { (z : ℕ) → is_member z feet.now ≡ true → z < g.now.vertex_count }
+    requires attached { (z : ℕ) → is_member z attached.now ≡ true → z < g.now.vertex_count }
     requires corners { AreDartsAt g.now board.now.drawn.items (tail g.now t) corners.now }
     ensures apart { IfOk result (λ found. IfSome found (λ c. c ≢ skip)) }
     ensures found { IfOk result (λ found. IfSome found
-        (IsAdmissible g.now board.now.drawn.items board.now.label.items feet.now t)) }
+        (IsAdmissible g.now board.now.drawn.items board.now.label.items attached.now t)) }
     ensures none { IfOk result (λ found. found ≡ None → (c : ℕ) → c ≢ skip
-        → IsAdmissible g.now board.now.drawn.items board.now.label.items feet.now t c → ⊥) }
+        → IsAdmissible g.now board.now.drawn.items board.now.label.items attached.now t c → ⊥) }
 {
     for c in corners {
         if *c != skip {
             let face = board.label[twin(*c) as usize];
-            if passes_all(g, board, feet, face, spare)? {
+            if passes_all(g, board, attached, face, spare)? {
                 return Ok(Some(*c));
             }
         }
@@ -221,7 +221,7 @@ fn way(
 // Lists that are used at one foot after the other: its attachments, the drawn darts at its tail, and the path.
 #[derive(Drop)]
 struct Looks {
-    feet: Vec<u32>,
+    attached: Vec<u32>,
     corners: Vec<u32>,
     path: Vec<u32>,
 }
@@ -238,17 +238,17 @@ fn has_choice(
 ) -> Result<bool, AllocError>
     requires tables { AreTables g.now board.now.drawn.items board.now.on.items board.now.next.items }
     requires labels { AreLabels g.now board.now.label.items }
-    requires feet { (z : ℕ) → is_member z looks.now.feet.items ≡ true → z < g.now.vertex_count }
+    requires attached { (z : ℕ) → is_member z looks.now.attached.items ≡ true → z < g.now.vertex_count }
     requires corners { AreDartsAt g.now board.now.drawn.items (tail g.now t) looks.now.corners.items }
     ensures choice { IfOk result (λ has. has ≡ true → (first ≡ false) × ((d : ℕ) × (d ≢ c)
-        × IsAdmissible g.now board.now.drawn.items board.now.label.items looks.now.feet.items t d)) }
+        × IsAdmissible g.now board.now.drawn.items board.now.label.items looks.now.attached.items t d)) }
     ensures none { IfOk result (λ has. has ≡ false → (first ≡ true) ⊎ ((d : ℕ) → d ≢ c
-        → IsAdmissible g.now board.now.drawn.items board.now.label.items looks.now.feet.items t d → ⊥)) }
+        → IsAdmissible g.now board.now.drawn.items board.now.label.items looks.now.attached.items t d → ⊥)) }
 {
     if first {
         return Ok(false);
     }
-    match find_fit(g, board, &looks.feet, &looks.corners, spare, t, c)? {
+    match find_fit(g, board, &looks.attached, &looks.corners, spare, t, c)? {
         Some(_other) => Ok(true),
         None => Ok(false),
     }
@@ -279,16 +279,16 @@ fn examine(
         there: Vec::new(alloc),
         near: Vec::new(alloc),
     };
-    attachments(g, board, labels, t, &mut looks.feet)?;
-    if looks.feet.is_empty() {
+    attachments(g, board, labels, t, &mut looks.attached)?;
+    if looks.attached.is_empty() {
         return Ok(Choice::Open);
     }
-    let z = looks.feet[0];
+    let z = looks.attached[0];
     darts_at(g, &board.drawn, tail(g, t), &mut looks.corners)?;
     let Some(c) = find_fit(
         g,
         board,
-        &looks.feet,
+        &looks.attached,
         &looks.corners,
         &mut spare,
         t,
@@ -365,7 +365,7 @@ pub(crate) fn settle(alloc: Global, g: &Graph, board: &mut Board) -> Result<Trie
     g.keeps_limits();
     label_faces(g, &board.next, &mut board.label);
     let mut looks = Looks {
-        feet: Vec::new(alloc),
+        attached: Vec::new(alloc),
         corners: Vec::new(alloc),
         path: Vec::new(alloc),
     };

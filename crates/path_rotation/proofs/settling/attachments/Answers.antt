@@ -33,15 +33,15 @@ loop-z-preserved c =
     elim c.if-is_touched.branch [
       | then-is_touched+in_ok-push-2 w ↦
           let m = c.is_touched.ensures.touched w.if-is_touched.true in
-          rw (w.feet-is, w.in_ok-push-2.ensures.items)
-          (found-yes g c.keeps_limits.ensures.graph board.drawn.items on board.next.items c.requires.tables c.args.t c.requires.foot.dart z c.loop-z.feet.items c.loop-z.invariant
+          rw (w.attached-is, w.in_ok-push-2.ensures.items)
+          (found-yes g c.keeps_limits.ensures.graph board.drawn.items on board.next.items c.requires.tables c.args.t c.requires.foot.dart z c.loop-z.attached.items c.loop-z.invariant
           (touched-attached g c.keeps_limits.ensures.graph board.drawn.items on board.next.items c.requires.tables c.args.t c.requires.foot.dart labels c.requires.labels off z
           (subst (λ (l : List Bool). is_marked l z ≡ true) c.deref.ensures.value (c.is_touched.ensures.on w.if-is_touched.true))
           (λ e. c.is_touched.ensures.apart w.if-is_touched.true (e ∙ sym c.tail.ensures.is))
           m.0 (subst (λ (v : ℕ). IsTouched g on labels (slice_index labels v) z m.0) c.head-first.ensures.is (subst (λ (l : List Bool). IsTouched g l labels (slice_index labels c.head-first.result) z m.0) c.deref.ensures.value m.1))))
       | else-is_touched w ↦
-          rw w.feet-is
-          (found-no g c.keeps_limits.ensures.graph board.drawn.items on board.next.items c.requires.tables c.args.t c.requires.foot.dart z c.loop-z.feet.items c.loop-z.invariant (λ a.
+          rw w.attached-is
+          (found-no g c.keeps_limits.ensures.graph board.drawn.items on board.next.items c.requires.tables c.args.t c.requires.foot.dart z c.loop-z.attached.items c.loop-z.invariant (λ a.
           let p = attached-touched g c.keeps_limits.ensures.graph board.drawn.items on board.next.items c.requires.tables c.args.t c.requires.foot.dart labels c.requires.labels off z a in
           c.is_touched.ensures.none w.if-is_touched.false (subst (λ (l : List Bool). is_marked l z ≡ true) (sym c.deref.ensures.value) p.0) (λ e. p.1 (e ∙ c.tail.ensures.is))
           p.2.0 (subst (λ (l : List Bool). IsTouched g l labels (slice_index labels c.head-first.result) z p.2.0) (sym c.deref.ensures.value) (subst (λ (v : ℕ). IsTouched g on labels (slice_index labels v) z p.2.0) (sym c.head-first.ensures.is) p.2.1))))
@@ -51,5 +51,5 @@ pub returns : goal.returns
 returns c =
     let g = c.args.g.now in
     let board = c.args.board.now in
-    found-all g c.keeps_limits.ensures.graph board.drawn.items board.on.items board.next.items c.requires.tables c.args.t c.requires.foot.dart c.loop-z.z c.loop-z.feet.items
+    found-all g c.keeps_limits.ensures.graph board.drawn.items board.on.items board.next.items c.requires.tables c.args.t c.requires.foot.dart c.loop-z.z c.loop-z.attached.items
     (omega (arith, c.loop-z-test.false, c.vertex_count-z-end.ensures.value)) c.loop-z.invariant

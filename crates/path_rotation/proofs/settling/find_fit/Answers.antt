@@ -42,7 +42,7 @@ loop-c-preserved c = λ j l n h.
       | inl b ↦ c.loop-c.invariant j b n h
       | inr b ↦
           let e : j ≡ c.loop-c.c-index = omega (arith, b, l) in
-          let here : IsAdmissible g c.args.board.now.drawn.items label c.args.feet.now c.args.t x = subst (λ (i : ℕ). IsAdmissible g c.args.board.now.drawn.items label c.args.feet.now c.args.t (slice_index c.args.corners.now i)) e h in
+          let here : IsAdmissible g c.args.board.now.drawn.items label c.args.attached.now c.args.t x = subst (λ (i : ℕ). IsAdmissible g c.args.board.now.drawn.items label c.args.attached.now c.args.t (slice_index c.args.corners.now i)) e h in
           elim c.if-c-skip.branch [
             | then-c-skip+in_ok-passes_all+else-branch w ↦
                 let face : w.index-face.result.now ≡ slice_index label (twin x) =
@@ -57,5 +57,5 @@ loop-c-preserved c = λ j l n h.
 pub returns-clause-none : goal.returns-clause-none
 returns-clause-none c = λ _ x n h.
     let board = c.args.board.now in
-    at-members c.args.corners.now (λ y. y ≢ c.args.skip → IsAdmissible c.args.g.now board.drawn.items board.label.items c.args.feet.now c.args.t y → ⊥) (λ j l. c.loop-c.invariant j (omega (arith, l, c.loop-c-test.false)))
+    at-members c.args.corners.now (λ y. y ≢ c.args.skip → IsAdmissible c.args.g.now board.drawn.items board.label.items c.args.attached.now c.args.t y → ⊥) (λ j l. c.loop-c.invariant j (omega (arith, l, c.loop-c-test.false)))
     x (c.requires.corners.all x (record { below = h.below; drawn_dart = h.drawn_dart; leaves = h.leaves })) n h
