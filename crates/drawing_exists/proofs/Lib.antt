@@ -1,0 +1,3 @@
+-- Drawings exist.
+pub mod Tables
+pub mod Triangulated

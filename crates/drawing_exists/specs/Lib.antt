@@ -1,0 +1,1 @@
+-- Drawings on the grid exist.

@@ -1,0 +1,2 @@
+// Drawings on the grid exist: theory without code that runs.
+#![tactic(auto)]
