@@ -1,0 +1,11 @@
+mod Stretches
+mod Overlooked
+mod Rows
+mod Orders
+mod Steps
+mod Placed
+mod Spread
+mod Stages
+mod Writes
+mod Reached
+mod Fitting

@@ -1,0 +1,10 @@
+// The shift method of straight-line drawing (de Fraysseix, Pach and Pollack 1990).
+#![tactic(auto)]
+
+mod placing;
+mod removal;
+mod shape;
+mod spreading;
+
+pub use placing::place_vertices;
+pub use removal::Removal;
