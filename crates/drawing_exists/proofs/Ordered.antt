@@ -1,5 +1,5 @@
 -- Each triangulated map with fewer than 2^32 vertices has a canonical order.
-use Rattle.std.proofs.Common.{◌≡◌, ◌≢◌, ℕ, zero, suc, ◌+◌, ◌*◌, ◌^◌, ◌<◌, ◌≤◌, inl, inr, Bool, true, false, not, ◌&&◌, ◌||◌, ◌==◌, List, [], ◌∷◌, ◌++◌, length, map, slice_index, slice_set, replicate, refl, sym, ap, ap₂, ◌∙◌, subst, arith}
+use Rattle.std.proofs.Common.{◌≡◌, ◌≢◌, ℕ, zero, suc, ◌+◌, ◌-◌, ◌*◌, ◌^◌, ◌<◌, ◌≤◌, inl, inr, Bool, true, false, not, ◌&&◌, ◌||◌, ◌==◌, List, [], ◌∷◌, ◌++◌, length, map, slice_index, slice_set, replicate, refl, sym, ap, ap₂, ◌∙◌, subst, arith}
 use Rattle.std.proofs.lemmas.Bool.{cases_lt, cases_eq, cases_Bool, ne_eqb, both_ways, false_from_ne_true}
 use Rattle.std.proofs.lemmas.List.{length-append, length-set, length-replicate, get_or_past, get_or-set_same, get_or-set_other}
 use Rattle.permutations.specs.Count.{count, some}
@@ -19,29 +19,29 @@ use Rattle.canonical_orders.specs.State.{IsTriangulatedMap, IsCanonicalOrderOf, 
 use Rattle.canonical_orders.proofs.Maps.{head-inside}
 use Rattle.canonical_orders.proofs.Entering.{third-tails}
 use Rattle.canonical_orders.proofs.Taking.{first-dart, arms-in, arms-differ, found-arms, found-leaves, found-all}
-use Rattle.canonical_orders.proofs.PartOrders.{part-free, part-ready, part-more, part-end}
+use Rattle.canonical_orders.proofs.PartOrders.{leave-free, part-free, part-ready, part-more, part-end}
 use Rattle.canonical_orders.proofs.OrderStart.{base-in, second-in, third-in, part-start}
 use Rattle.drawing_exists.proofs.Tables.{table, table-length, table-at}
+
+-- one dart is entered, and then others
+entered-first : (h : Multigraph) (d : ℕ) (darts before : List ℕ) → is_distinct (tails_of h (d ∷ darts)) ≡ true → tail h d < length before → (after : List ℕ) → AreEntered h darts (slice_set before (tail h d) d) after → AreEntered h (d ∷ darts) before after
+entered-first h d darts before apart l after rest = record { each = rest.each ∙ length-set before (tail h d) d; new = new; old = old }
+  where
+    new : (e : ℕ) → is_member e (d ∷ darts) ≡ true → slice_index after (tail h e) ≡ e
+    new e m = elim (member-cases e d darts m) [
+      | inl s ↦ ap (λ (z : ℕ). slice_index after (tail h z)) s ∙ rest.old (tail h d) (distinct-head (tail h d) (tails_of h darts) apart) ∙ get_or-set_same before (tail h d) d 0 l ∙ sym s
+      | inr n ↦ rest.new e n
+    ]
+
+    old : (v : ℕ) → is_member v (tails_of h (d ∷ darts)) ≡ false → slice_index after v ≡ slice_index before v
+    old v m = rest.old v (no_member-tail v (tail h d) (tails_of h darts) m) ∙ get_or-set_other before (tail h d) v d 0 (λ e. no_member-head v (tail h d) (tails_of h darts) m e)
 
 -- darts that leave different vertices can be entered
 entered : (h : Multigraph) (darts before : List ℕ) → is_distinct (tails_of h darts) ≡ true → ((d : ℕ) → is_member d darts ≡ true → tail h d < length before) → (after : List ℕ) × AreEntered h darts before after
 entered h [] before apart within = (before, record { each = refl; new = λ d m. absurd (both_ways (is_member d []) refl m); old = λ v m. refl })
-entered h (d ∷ darts) before apart within = (rest.0, record { each = rest.1.each ∙ length-set before (tail h d) d; new = new; old = old })
-  where
-    first : List ℕ
-    first = slice_set before (tail h d) d
-
-    rest : (after : List ℕ) × AreEntered h darts first after
-    rest = entered h darts first (distinct-tail (tail h d) (tails_of h darts) apart) (λ e m. omega (arith, within e (member-tail e d darts m), length-set before (tail h d) d))
-
-    new : (e : ℕ) → is_member e (d ∷ darts) ≡ true → slice_index rest.0 (tail h e) ≡ e
-    new e m = elim (member-cases e d darts m) [
-      | inl s ↦ ap (λ (z : ℕ). slice_index rest.0 (tail h z)) (sym s) ∙ rest.1.old (tail h d) (distinct-head (tail h d) (tails_of h darts) apart) ∙ get_or-set_same before (tail h d) d 0 (within d (member-head d darts)) ∙ s
-      | inr n ↦ rest.1.new e n
-    ]
-
-    old : (v : ℕ) → is_member v (tails_of h (d ∷ darts)) ≡ false → slice_index rest.0 v ≡ slice_index before v
-    old v m = rest.1.old v (no_member-tail v (tail h d) (tails_of h darts) m) ∙ get_or-set_other before (tail h d) v d 0 (λ e. no_member-head v (tail h d) (tails_of h darts) m (sym e))
+entered h (d ∷ darts) before apart within =
+    let rest = entered h darts (slice_set before (tail h d) d) (distinct-tail (tail h d) (tails_of h darts) apart) (λ e m. omega (arith, within e (member-tail e d darts m), length-set before (tail h d) d)) in
+    (rest.0, entered-first h d darts before apart (within d (member-head d darts)) rest.0 rest.1)
 
 module _ (t : ListedMap) (i : IsTriangulatedMap t) (few : t.graph.vertex_count < 2 ^ 32) where
   abbrev n : ℕ
@@ -169,16 +169,20 @@ module _ (t : ListedMap) (i : IsTriangulatedMap t) (few : t.graph.vertex_count <
 
     removal : Part (order ++ removed ∷ [])
     unfolding removed
-    removal = (new_left.0, new_on, met_by new_on, part-more t i order left on counts p w can (w, heads_of t.graph (first ∷ found)) new_left.0 new_on (met_by new_on)
+    removal = (new_left.0, new_on, met_by new_on, part-more t i order left on counts p w (w, heads_of t.graph (first ∷ found)) new_left.0 new_on (met_by new_on) (leave-free t i order left on counts p w can)
         (found-all t i left on counts w ready first found (heads_of t.graph (first ∷ found)) new_left.0 mid new_on (met_by new_on) (w, heads_of t.graph (first ∷ found)) refl refl refl new_left.1 mid-at new-at (met new_on new-length) refl))
+
+  step : (order : List Removed) → Part order → length order + 2 < n → (one : Removed) × Part (order ++ one ∷ [])
+  step order (left, on, counts, p) l =
+      let w = some-witness n (can_leave t.graph on counts) (part-free t i order left on counts p l) in
+      (removed order left on counts p w.0 w.2, removal order left on counts p w.0 w.2)
 
   -- and so on, until two are left
   rest : (d : ℕ) (order : List Removed) → Part order → length order + 2 + d ≡ n → (whole : List Removed) × IsCanonicalOrderOf t whole
   rest zero order (left, on, counts, p) e = (order, part-end t i order left on counts p (omega (arith, e)))
-  rest (suc d) order (left, on, counts, p) e = go (some-witness n (can_leave t.graph on counts) (part-free t i order left on counts p (omega (arith, e))))
-    where
-      go : (w : ℕ) × (w < n) × (can_leave t.graph on counts w ≡ true) → (whole : List Removed) × IsCanonicalOrderOf t whole
-      go (w, _, can) = rest d (order ++ removed order left on counts p w can ∷ []) (removal order left on counts p w can) (omega (arith, e, length-append order (removed order left on counts p w can ∷ [])))
+  rest (suc d) order part e =
+      let s = step order part (omega (arith, e)) in
+      rest d (order ++ s.0 ∷ []) s.1 (omega (arith, e, length-append order (s.0 ∷ [])))
 
   pub ordered : (order : List Removed) × IsCanonicalOrderOf t order
   ordered = rest (n - 2) [] start (omega (arith, i.map.three))
