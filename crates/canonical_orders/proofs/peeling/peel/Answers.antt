@@ -32,7 +32,14 @@ remove-requires-clause-ready c =
     part-ready c.args.map.now c.requires c.loop.order.items s.left.items s.on.items s.met.items c.loop.invariant.0 c.next_free-vertex.result c.next_free-vertex.ensures
 
 pub loop-preserved : goal.loop-preserved
-loop-preserved c = ?
+loop-preserved c =
+    let t = c.args.map.now in
+    let s = c.loop.contour in
+    let new = c.remove.new.self in (
+      subst (λ (order : List Removed). IsPartOrder t order new.left.items new.on.items new.met.items) (sym c.in_ok-push-2.ensures.items)
+      (part-step t c.requires c.loop.order.items s.left.items s.on.items s.met.items c.loop.invariant.0 c.next_free-vertex.result c.in_ok-removal.removal new.left.items new.on.items new.met.items c.next_free-vertex.ensures c.in_ok-removal.ensures),
+      omega (arith, c.in_ok-push-2.ensures.len, c.loop.invariant.1),
+    )
 
 pub returns : goal.returns
 returns c =
