@@ -2,5 +2,3 @@
 pub mod Tables
 pub mod Triangulated
 pub mod Ordered
-pub mod Positioned
-pub mod Existence

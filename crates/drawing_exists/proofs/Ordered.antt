@@ -19,7 +19,7 @@ use Rattle.canonical_orders.specs.State.{IsTriangulatedMap, IsCanonicalOrderOf, 
 use Rattle.canonical_orders.proofs.Maps.{head-inside}
 use Rattle.canonical_orders.proofs.Entering.{third-tails}
 use Rattle.canonical_orders.proofs.Taking.{first-dart, arms-in, arms-differ, found-arms, found-leaves, found-all}
-use Rattle.canonical_orders.proofs.PartOrders.{leave-free, part-free, part-ready, part-more, part-end}
+use Rattle.canonical_orders.proofs.PartOrders.{part-free, part-ready, part-step, part-end}
 use Rattle.canonical_orders.proofs.OrderStart.{base-in, second-in, third-in, part-start}
 use Rattle.drawing_exists.proofs.Tables.{table, table-length, table-at}
 
@@ -29,12 +29,12 @@ entered-first h d darts before apart l after rest = record { each = rest.each �
   where
     new : (e : ℕ) → is_member e (d ∷ darts) ≡ true → slice_index after (tail h e) ≡ e
     new e m = elim (member-cases e d darts m) [
-      | inl s ↦ ap (λ (z : ℕ). slice_index after (tail h z)) s ∙ rest.old (tail h d) (distinct-head (tail h d) (tails_of h darts) apart) ∙ get_or-set_same before (tail h d) d 0 l ∙ sym s
+      | inl s ↦ ap (λ (z : ℕ). slice_index after (tail h z)) (sym s) ∙ rest.old (tail h d) (distinct-head (tail h d) (tails_of h darts) apart) ∙ get_or-set_same before (tail h d) d 0 l ∙ s
       | inr n ↦ rest.new e n
     ]
 
     old : (v : ℕ) → is_member v (tails_of h (d ∷ darts)) ≡ false → slice_index after v ≡ slice_index before v
-    old v m = rest.old v (no_member-tail v (tail h d) (tails_of h darts) m) ∙ get_or-set_other before (tail h d) v d 0 (λ e. no_member-head v (tail h d) (tails_of h darts) m e)
+    old v m = rest.old v (no_member-tail v (tail h d) (tails_of h darts) m) ∙ get_or-set_other before (tail h d) v d 0 (λ e. no_member-head v (tail h d) (tails_of h darts) m (sym e))
 
 -- darts that leave different vertices can be entered
 entered : (h : Multigraph) (darts before : List ℕ) → is_distinct (tails_of h darts) ≡ true → ((d : ℕ) → is_member d darts ≡ true → tail h d < length before) → (after : List ℕ) × AreEntered h darts before after
@@ -169,8 +169,8 @@ module _ (t : ListedMap) (i : IsTriangulatedMap t) (few : t.graph.vertex_count <
 
     removal : Part (order ++ removed ∷ [])
     unfolding removed
-    removal = (new_left.0, new_on, met_by new_on, part-more t i order left on counts p w (w, heads_of t.graph (first ∷ found)) new_left.0 new_on (met_by new_on) (leave-free t i order left on counts p w can)
-        (found-all t i left on counts w ready first found (heads_of t.graph (first ∷ found)) new_left.0 mid new_on (met_by new_on) (w, heads_of t.graph (first ∷ found)) refl refl refl new_left.1 mid-at new-at (met new_on new-length) refl))
+    removal = (new_left.0, new_on, met_by new_on, part-step t i order left on counts p w (w, heads_of t.graph (first ∷ found)) new_left.0 new_on (met_by new_on) can
+        (λ q. found-all t i left on counts w q first found (heads_of t.graph (first ∷ found)) new_left.0 mid new_on (met_by new_on) (w, heads_of t.graph (first ∷ found)) refl refl refl new_left.1 mid-at new-at (met new_on new-length) refl))
 
   step : (order : List Removed) → Part order → length order + 2 < n → (one : Removed) × Part (order ++ one ∷ [])
   step order (left, on, counts, p) l =

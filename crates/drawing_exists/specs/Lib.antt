@@ -1,2 +1,1 @@
 -- Drawings on the grid exist.
-pub mod Laws
