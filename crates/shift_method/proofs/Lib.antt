@@ -9,3 +9,4 @@ mod Stages
 mod Writes
 mod Reached
 mod Fitting
+mod Drawings

@@ -20,7 +20,7 @@ use Rattle.shift_method.specs.Peeled.{IsPeeled, removed_at, contour_at, IsInnerH
 use Rattle.shift_method.proofs.Stretches.{Sloped, Wide}
 use Rattle.shift_method.proofs.Overlooked.{spot}
 use Rattle.shift_method.proofs.Rows.{IsStretched}
-use Rattle.shift_method.proofs.Orders.{row_at, vertex_at, heads_at, stays_at, zero-below, number-order, row-distinct, row-begins, row-ends, row-last, stays-last, left-right}
+use Rattle.shift_method.proofs.Orders.{row_at, vertex_at, heads_at, stays_at, zero-below, number-order, row-distinct, row-begins, row-ends, row-last, stays-below, stays-last, left-right}
 use Rattle.shift_method.proofs.Placed.{IsPlaced, cut, can-stack, placing-here, next-placed}
 use Rattle.shift_method.proofs.Spread.{IsExtension, Extends, Draws, extends-on, draws-on}
 
@@ -198,18 +198,19 @@ module _ (n left right : ℕ) (order : List Removed) (p : IsPeeled n left right 
   module _ (base_law : BaseIsDrawn) (law : StackingKeepsDrawings) where
     -- at all positions with these gaps and offsets the vertices are drawn
     pub all-drawn : (x y : ℕ → ℕ) → x left ≡ 0 → x (removed_at order 0).0 ≡ slice_index whole.gap (removed_at order 0).0
-        → x right ≡ slice_index whole.gap (removed_at order 0).0 + slice_index whole.gap right → KeepsAll x whole order 0 → ((v : ℕ) → y v ≡ slice_index whole.height v)
+        → x right ≡ slice_index whole.gap (removed_at order 0).0 + slice_index whole.gap right → KeepsAll x whole order 0 → ((v : ℕ) → v < n → y v ≡ slice_index whole.height v)
         → IsDrawnUnder p.m p.h p.next 0 (stays_after p.h order 0) (contour_at p 0) (spot x y)
     unfolding g top
-    all-drawn x y a b c kept same = stage-draws base_law law (length order) 0 (omega arith) x y (wide-first x a b c) kept (λ v i. same v)
+    all-drawn x y a b c kept same = stage-draws base_law law (length order) 0 (omega arith) x y (wide-first x a b c) kept (λ v i. same v (stays-below n left right order p 0 v i))
 
     -- and none is to the right of the right end
-    within : (x : ℕ → ℕ) → x left ≡ 0 → x top ≡ g top → x right ≡ g top + g right → KeepsAll x whole order 0 → (v : ℕ) → v < n → x v + 4 ≤ 2 * n
+    pub all-within : (x : ℕ → ℕ) → x left ≡ 0 → x (removed_at order 0).0 ≡ slice_index whole.gap (removed_at order 0).0
+        → x right ≡ slice_index whole.gap (removed_at order 0).0 + slice_index whole.gap right → KeepsAll x whole order 0 → (v : ℕ) → v < n → x v + 4 ≤ 2 * n
     unfolding g top
-    within x a b c kept v l = found-each (λ (q : ℕ × ℕ). q.0 + 4 ≤ 2 * n) (λ (q : ℕ × ℕ). x v ≤ 1 * q.0) (x v + 4 ≤ 2 * n) (λ q i j. omega (arith, i, j)) (contour_points p.h (spot x (slice_index whole.height)) (contour_at p 0))
+    all-within x a b c kept v l = found-each (λ (q : ℕ × ℕ). q.0 + 4 ≤ 2 * n) (λ (q : ℕ × ℕ). x v ≤ 1 * q.0) (x v + 4 ≤ 2 * n) (λ q i j. omega (arith, i, j)) (contour_points p.h (spot x (slice_index whole.height)) (contour_at p 0))
         (each-tails (λ (q : ℕ × ℕ). q.0 + 4 ≤ 2 * n) (spot x (slice_index whole.height)) (tail p.h) (contour_at p 0)
             (subst (Each (λ u. x u + 4 ≤ 2 * n)) (sym row-first) (omega (arith, a, gaps-fit), (omega (arith, b, gaps-fit), (omega (arith, c, gaps-fit), tt)))))
-        (any-found (λ (q : ℕ × ℕ). x v ≤ 1 * q.0) (contour_points p.h (spot x (slice_index whole.height)) (contour_at p 0)) ((all-drawn x (slice_index whole.height) a b c kept (λ u. refl)).inside v stays).left)
+        (any-found (λ (q : ℕ × ℕ). x v ≤ 1 * q.0) (contour_points p.h (spot x (slice_index whole.height)) (contour_at p 0)) ((all-drawn x (slice_index whole.height) a b c kept (λ u i. refl)).inside v stays).left)
       where
         stays : stays_after p.h order 0 v ≡ true
         stays = ap (λ (b : Bool). b && true) (lt-ltb v p.h.vertex_count (subst (λ (z : ℕ). v < z) (sym p.number) l))
@@ -223,7 +224,7 @@ module _ (n left right : ℕ) (order : List Removed) (p : IsPeeled n left right 
       at_right = at_right;
       kept = e.1.kept;
       room = λ i l. e.1.room i (omega arith) l;
-      wide = within e.0 at_left at_top at_right e.1.kept;
+      wide = all-within e.0 at_left at_top at_right e.1.kept;
     })
       where
         ends : ℕ → ℕ

@@ -63,7 +63,7 @@ impl Model for Shape {
 impl Shape {
     // The numbers before any vertex was placed on the base.
     pub(crate) fn new(alloc: Global, vertices: u32) -> Result<Shape, AllocError>
-        ensures { IfOk result (λ s. s ≡ fresh vertices) }
+        ensures fresh { IfOk result (λ s. s ≡ fresh vertices) }
     {
         let n = vertices as usize;
         Ok(Shape {
