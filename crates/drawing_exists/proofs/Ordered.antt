@@ -1,24 +1,24 @@
 -- Each triangulated map with fewer than 2^32 vertices has a canonical order.
-use Rattle.std.proofs.Common.{◌≡◌, ◌≢◌, ℕ, zero, suc, ◌+◌, ◌-◌, ◌*◌, ◌^◌, ◌<◌, ◌≤◌, inl, inr, Bool, true, false, not, ◌&&◌, ◌||◌, ◌==◌, List, [], ◌∷◌, ◌++◌, length, map, slice_index, slice_set, replicate, refl, sym, ap, ap₂, ◌∙◌, subst, arith}
-use Rattle.std.proofs.lemmas.Bool.{cases_lt, cases_eq, cases_Bool, ne_eqb, both_ways, false_from_ne_true}
+use Rattle.std.proofs.Common.{◌≡◌, ℕ, zero, suc, ◌+◌, ◌-◌, ◌^◌, ◌<◌, ◌≤◌, inl, inr, Bool, true, false, not, ◌&&◌, ◌||◌, ◌==◌, List, [], ◌∷◌, ◌++◌, length, slice_index, slice_set, replicate, refl, sym, ap, ap₂, ◌∙◌, subst, arith}
+use Rattle.std.proofs.lemmas.Bool.{cases_lt, ne_eqb, both_ways, false_from_ne_true}
 use Rattle.std.proofs.lemmas.List.{length-append, length-set, length-replicate, get_or_past, get_or-set_same, get_or-set_other}
-use Rattle.permutations.specs.Count.{count, some}
+use Rattle.permutations.specs.Count.{count}
 use Rattle.permutations.specs.Members.{is_member, is_distinct}
 use Rattle.permutations.proofs.Search.{some-witness}
 use Rattle.permutations.proofs.Members.{member-head, member-tail, member-cases, no_member-head, no_member-tail, distinct-head, distinct-tail}
 use Rattle.permutations.proofs.Mapped.{member-map, map-member}
 use Rattle.permutations.proofs.Places.{place-of}
 use Rattle.dart_maps.specs.Map.{twin, face}
-use Rattle.multigraph.specs.Graph.{Multigraph, edge_count}
+use Rattle.multigraph.specs.Graph.{Multigraph}
 use Rattle.multigraph.specs.Marks.{is_marked}
 use Rattle.faces.specs.Euler.{tail, dart_count}
 use Rattle.triangulations.specs.Listed.{ListedMap}
 use Rattle.canonical_orders.specs.Free.{is_adjacent}
 use Rattle.canonical_orders.specs.Order.{Removed}
-use Rattle.canonical_orders.specs.State.{IsTriangulatedMap, IsCanonicalOrderOf, IsMet, AreEntered, IsReady, IsTakenOff, IsPartOrder, can_leave, arms_after, heads_of, tails_of, third_darts}
+use Rattle.canonical_orders.specs.State.{IsTriangulatedMap, IsCanonicalOrderOf, IsMet, AreEntered, IsReady, IsPartOrder, can_leave, arms_after, heads_of, tails_of, third_darts}
 use Rattle.canonical_orders.proofs.Maps.{head-inside}
 use Rattle.canonical_orders.proofs.Entering.{third-tails}
-use Rattle.canonical_orders.proofs.Taking.{first-dart, arms-in, arms-differ, found-arms, found-leaves, found-all}
+use Rattle.canonical_orders.proofs.Taking.{arms-in, arms-differ, found-arms, found-all}
 use Rattle.canonical_orders.proofs.PartOrders.{part-free, part-ready, part-step, part-end}
 use Rattle.canonical_orders.proofs.OrderStart.{base-in, second-in, third-in, part-start}
 use Rattle.drawing_exists.proofs.Tables.{table, table-length, table-at}
@@ -88,11 +88,16 @@ module _ (t : ListedMap) (i : IsTriangulatedMap t) (few : t.graph.vertex_count <
 
   -- before the first removal
   start : Part []
-  start = (_, on3, met_by on3, part-start t i (replicate n 0) none on1 on2 on3 (met_by on3) (length-replicate n 0) (marks-at (λ v. false) (λ v l. refl))
-      (one-at none (tail t.graph 0) none-length (i.map.drawn.inside 0 (base-in t i)))
-      (one-at on1 (tail t.graph (face (slice_index t.next) 0)) (with-length none (tail t.graph 0)) (i.map.drawn.inside (face (slice_index t.next) 0) (second-in t i)))
-      (one-at on2 (tail t.graph (face (slice_index t.next) (face (slice_index t.next) 0))) (with-length on1 (tail t.graph (face (slice_index t.next) 0))) (i.map.drawn.inside (face (slice_index t.next) (face (slice_index t.next) 0)) (third-in t i)))
-      (met on3 (with-length on2 (tail t.graph (face (slice_index t.next) (face (slice_index t.next) 0))))))
+  start = (
+    _,
+    on3,
+    met_by on3,
+    part-start t i (replicate n 0) none on1 on2 on3 (met_by on3) (length-replicate n 0) (marks-at (λ v. false) (λ v l. refl))
+        (one-at none (tail t.graph 0) none-length (i.map.drawn.inside 0 (base-in t i)))
+        (one-at on1 (tail t.graph (face (slice_index t.next) 0)) (with-length none (tail t.graph 0)) (i.map.drawn.inside (face (slice_index t.next) 0) (second-in t i)))
+        (one-at on2 (tail t.graph (face (slice_index t.next) (face (slice_index t.next) 0))) (with-length on1 (tail t.graph (face (slice_index t.next) 0))) (i.map.drawn.inside (face (slice_index t.next) (face (slice_index t.next) 0)) (third-in t i)))
+        (met on3 (with-length on2 (tail t.graph (face (slice_index t.next) (face (slice_index t.next) 0))))),
+  )
     where
       none : List Bool
       none = table (λ v. false) n
@@ -169,8 +174,13 @@ module _ (t : ListedMap) (i : IsTriangulatedMap t) (few : t.graph.vertex_count <
 
     removal : Part (order ++ removed ∷ [])
     unfolding removed
-    removal = (new_left.0, new_on, met_by new_on, part-step t i order left on counts p w (w, heads_of t.graph (first ∷ found)) new_left.0 new_on (met_by new_on) can
-        (λ q. found-all t i left on counts w q first found (heads_of t.graph (first ∷ found)) new_left.0 mid new_on (met_by new_on) (w, heads_of t.graph (first ∷ found)) refl refl refl new_left.1 mid-at new-at (met new_on new-length) refl))
+    removal = (
+      new_left.0,
+      new_on,
+      met_by new_on,
+      part-step t i order left on counts p w (w, heads_of t.graph (first ∷ found)) new_left.0 new_on (met_by new_on) can
+          (λ q. found-all t i left on counts w q first found (heads_of t.graph (first ∷ found)) new_left.0 mid new_on (met_by new_on) (w, heads_of t.graph (first ∷ found)) refl refl refl new_left.1 mid-at new-at (met new_on new-length) refl),
+    )
 
   step : (order : List Removed) → Part order → length order + 2 < n → (one : Removed) × Part (order ++ one ∷ [])
   step order (left, on, counts, p) l =

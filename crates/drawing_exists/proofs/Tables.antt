@@ -1,5 +1,5 @@
 -- Functions as lists of their values below a bound.
-use Rattle.std.proofs.Common.{◌≡◌, ℕ, ◌<◌, List, length, map, get_or, ap, ◌∙◌, subst, sym, arith}
+use Rattle.std.proofs.Common.{◌≡◌, ℕ, ◌<◌, List, length, map, get_or, ap, ◌∙◌, subst, sym}
 use Rattle.std.proofs.lemmas.List.{length-map, get_or-map}
 use Rattle.multigraph.specs.Graph.{numbers_below}
 use Rattle.multigraph.proofs.Below.{length-numbers_below, get_or-numbers_below}

@@ -1,5 +1,5 @@
 -- Each connected graph without parallel edges that has a plane rotation system has a triangulation.
-use Rattle.std.proofs.Common.{◌≡◌, ℕ, zero, suc, ◌+◌, ◌*◌, ◌<◌, ◌≤◌, true, false, List, ◌++◌, length, slice_index, inl, inr, refl, sym, ap, ◌∙◌, subst, arith, add-one, le_refl}
+use Rattle.std.proofs.Common.{◌≡◌, ℕ, zero, suc, ◌+◌, ◌*◌, ◌<◌, ◌≤◌, true, false, List, length, slice_index, inl, inr, refl, sym, ap, subst, arith, le_refl}
 use Rattle.std.proofs.lemmas.Bool.{cases_Bool}
 use Rattle.std.proofs.lemmas.List.{length-append}
 use Rattle.permutations.proofs.Permutations.{permutes-ext}
@@ -92,7 +92,7 @@ module _ (g : Multigraph) (r : List (List ℕ)) (graph : IsGraph g) (connected :
       more : (t : ListedMap) × IsFilledMap g r k t → (t : ListedMap) × IsFilledMap g r (suc k) t
       more (t, f) =
           let u = fill g r k (suc (left_over t.graph (slice_index t.next) k)) t k
-              (filling-start g r k (edge_count t.graph) t.graph (slice_index t.next) (slice_index t.previous) f (omega (arith, l, at-least g r (edge_count t.graph) t.graph (slice_index t.next) f.extends))) (omega arith) in
+          (filling-start g r k (edge_count t.graph) t.graph (slice_index t.next) (slice_index t.previous) f (omega (arith, l, at-least g r (edge_count t.graph) t.graph (slice_index t.next) f.extends))) (omega arith) in
           (u.0, subst (λ (j : ℕ). IsFilledMap g r j u.0) (omega arith) u.1)
 
   -- so all faces are

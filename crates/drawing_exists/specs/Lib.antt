@@ -1,1 +1,2 @@
 -- Drawings on the grid exist.
+pub mod Laws

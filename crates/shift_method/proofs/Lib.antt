@@ -1,12 +1,12 @@
-mod Stretches
-mod Overlooked
+pub mod Stretches
+pub mod Overlooked
 mod Rows
-mod Orders
+pub mod Orders
 mod Steps
-mod Placed
-mod Spread
-mod Stages
+pub mod Placed
+pub mod Spread
+pub mod Stages
 mod Writes
-mod Reached
+pub mod Reached
 mod Fitting
 mod Drawings
