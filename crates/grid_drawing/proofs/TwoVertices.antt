@@ -1,18 +1,18 @@
 -- Graphs without parallel edges; and the drawing of two vertices.
-use Rattle.std.proofs.Common.{◌≡◌, ◌≢◌, ℕ, ◌<◌, ◌⊎◌, inl, inr, true, false, nat_lt, List, [], ◌∷◌, map, arith, refl, sym, ap, ◌∙◌, subst}
+use Rattle.std.proofs.Common.{◌≡◌, ℕ, ◌<◌, ◌⊎◌, inl, inr, true, false, nat_lt, List, [], ◌∷◌, map, arith, refl, sym, ap, ◌∙◌, subst}
 use Rattle.std.proofs.lemmas.Bool.{both_ways, cases_order, lt-ltb, and_from}
 use Rattle.permutations.specs.Members.{is_member, is_distinct}
 use Rattle.permutations.proofs.Members.{member-head, member-tail, distinct-head}
 use Rattle.permutations.proofs.Search.{some-from}
 use Rattle.multigraph.specs.Graph.{Multigraph, IsGraph, edge_count, ends_of, is_end, other_end}
 use Rattle.multigraph.proofs.OtherEnd.{is_end-from_first, is_end-from_second}
-use Rattle.graph_theory.specs.Triconnected.{IsSimple, AreParallel}
+use Rattle.graph_theory.specs.Triconnected.{AreParallel, IsSimple}
 use Rattle.rotations.specs.Rotation.{order_at, IsRotationSystem}
 use Rattle.rotations.proofs.Membership.{member-edge}
 use Rattle.faces.proofs.DartLemmas.{member-incident, order-distinct}
 use Rattle.plane_points.specs.Turning.{IsCounterclockwise}
 use Rattle.stacked_maps.proofs.Lists.{counter-none, counter-one}
-use Rattle.grid_drawing.specs.Drawing.{point_at, points_around, IsDrawing}
+use Rattle.grid_drawing.specs.Drawing.{point_at, points_around}
 use Rattle.grid_drawing.specs.Grid.{IsGridDrawing}
 use Rattle.grid_drawing.specs.Parallel.{same_ends, is_later, has_later, has_parallel}
 use Rattle.grid_drawing.proofs.SameEnds.{same-from}

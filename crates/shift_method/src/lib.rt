@@ -2,9 +2,7 @@
 #![tactic(auto)]
 
 mod placing;
-mod removal;
 mod shape;
 mod spreading;
 
 pub use placing::place_vertices;
-pub use removal::Removal;

@@ -6,7 +6,7 @@ ghost use Rattle.stacked_maps.specs.Drawn.{IsDrawnUnder};
 ghost use Rattle.shift_method.specs.Shapes.{ShapeState};
 ghost use Rattle.shift_method.specs.Peeled.{IsPeeled, contour_at};
 
-use crate::removal::Removal;
+use canonical_orders::Removal;
 use crate::shape::Shape;
 use crate::spreading::positions;
 use std::alloc::{AllocError, Global};

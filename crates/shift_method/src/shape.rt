@@ -5,7 +5,7 @@ ghost use Rattle.permutations.specs.Members.{is_member};
 ghost use Rattle.shift_method.specs.Shapes.{ShapeState, IsShapeOf, fresh, total, widened, covered, with_widened, with_covered, raised, with_gap, placed, all_placed, CanStack};
 ghost use Rattle.shift_method.specs.Peeled.{IsPeeled};
 
-use crate::removal::Removal;
+use canonical_orders::Removal;
 use std::alloc::{AllocError, Global};
 use std::marker::Model;
 

@@ -4,7 +4,7 @@ ghost use Rattle.std.specs.Prelude.{◌≡◌, ◌+◌, ◌*◌, ◌<◌, ◌≤
 ghost use Rattle.shift_method.specs.Shapes.{ShapeState, IsShapeOf};
 ghost use Rattle.shift_method.specs.Peeled.{IsPeeled, IsInnerHead, KeepsAll, removed_at, ArePositions};
 
-use crate::removal::Removal;
+use canonical_orders::Removal;
 use crate::shape::Shape;
 use std::alloc::{AllocError, Global};
 
