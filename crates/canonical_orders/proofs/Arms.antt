@@ -1,6 +1,6 @@
 -- A removal: its arms are the darts of the removed vertex that stay, and what stays without the vertex.
-use Rattle.std.proofs.Common.{◌≡◌, ◌≢◌, ◌⊎◌, ℕ, ◌*◌, ◌<◌, inl, inr, Bool, true, false, ◌||◌, ◌==◌, List, [], ◌∷◌, ◌++◌, map, filter, refl, sym, ap, ◌∙◌, subst, arith}
-use Rattle.std.proofs.lemmas.Bool.{both_ways, cases_Bool, false_from_ne_true, or_cases, eqb-true, eq-eqb, true≢false}
+use Rattle.std.proofs.Common.{◌≡◌, ◌≢◌, ◌⊎◌, ℕ, ◌*◌, ◌<◌, inl, inr, Bool, true, false, ◌||◌, ◌==◌, List, [], ◌∷◌, ◌++◌, map, sym, ap, ◌∙◌, subst, arith}
+use Rattle.std.proofs.lemmas.Bool.{both_ways, false_from_ne_true, or_cases, eqb-true}
 use Rattle.std.proofs.lemmas.List.{map-append}
 use Rattle.permutations.specs.Members.{is_member, is_distinct}
 use Rattle.permutations.specs.Cyclic.{first_or, last_or}
@@ -15,10 +15,11 @@ use Rattle.dart_maps.proofs.Darts.{twin-twin, twin-below}
 use Rattle.multigraph.specs.Graph.{Multigraph}
 use Rattle.faces.specs.Euler.{tail}
 use Rattle.triangulations.specs.Triangulation.{IsTriangulated}
-use Rattle.canonical_orders.specs.Contours.{stays_dart, darts_around, Successive, IsContour, IsRemoval}
-use Rattle.canonical_orders.proofs.Lists.{ends-with, image-distinct, map-through, turn-before, turn-after, turn-backward, turn-forward, cut-between}
+use Rattle.canonical_orders.specs.Contours.{stays_dart, darts_around, IsContour, IsRemoval}
+use Rattle.canonical_orders.proofs.Lists.{ends-with, image-distinct, map-through, turn-backward, turn-forward, cut-between}
 use Rattle.canonical_orders.proofs.Walks.{passing-is}
-use Rattle.canonical_orders.proofs.Triangles.{stays-both, stays-tail, stays-head, stays-twin, next-below, tail-next, tail-face, tail-orbit, third, third-vertex}
+use Rattle.triangulations.proofs.SimpleMaps.{next-in, tail-next, tail-face, one-vertex}
+use Rattle.canonical_orders.proofs.Triangles.{stays-both, stays-tail, stays-head, stays-twin, third-vertex}
 use Rattle.canonical_orders.proofs.ContourParts.{contour-dart, same-dart, contour-distinct, goes-to, leads-to, leads-once}
 
 -- the vertices that stay before and after w is removed
@@ -97,16 +98,20 @@ module _ (m : ℕ) (h : Multigraph) (next previous : ℕ → ℕ) (t : IsTriangu
 
   -- x is none of the others, and nor is y
   pub front-differs : (d : ℕ) → is_member d (r.first ∷ r.front) ≡ true → (d ≢ r.x) × (d ≢ r.y)
-  front-differs d i = (λ e. no (subst (λ (z : ℕ). is_member z (r.x ∷ r.y ∷ r.back) ≡ true) (sym e) (member-head r.x (r.y ∷ r.back))),
-      λ e. no (subst (λ (z : ℕ). is_member z (r.x ∷ r.y ∷ r.back) ≡ true) (sym e) (member-tail r.y r.x (r.y ∷ r.back) (member-head r.y r.back))))
+  front-differs d i = (
+    λ e. no (subst (λ (z : ℕ). is_member z (r.x ∷ r.y ∷ r.back) ≡ true) (sym e) (member-head r.x (r.y ∷ r.back))),
+    λ e. no (subst (λ (z : ℕ). is_member z (r.x ∷ r.y ∷ r.back) ≡ true) (sym e) (member-tail r.y r.x (r.y ∷ r.back) (member-head r.y r.back))),
+  )
     where
       no : is_member d (r.x ∷ r.y ∷ r.back) ≡ true → ⊥
       no k = both_ways (is_member d (r.x ∷ r.y ∷ r.back)) (distinct-append_apart (r.first ∷ r.front) (r.x ∷ r.y ∷ r.back)
           (subst (λ (s : List ℕ). is_distinct s ≡ true) r.cut (contour-distinct m h next previous t base l before contour c)) d i) k
 
   pub back-differs : (d : ℕ) → is_member d r.back ≡ true → (d ≢ r.x) × (d ≢ r.y)
-  back-differs d i = (λ e. both_ways (is_member r.x (r.y ∷ r.back)) (distinct-head r.x (r.y ∷ r.back) apart) (subst (λ (z : ℕ). is_member z (r.y ∷ r.back) ≡ true) e (member-tail d r.y r.back i)),
-      λ e. both_ways (is_member r.y r.back) (distinct-head r.y r.back (distinct-tail r.x (r.y ∷ r.back) apart)) (subst (λ (z : ℕ). is_member z r.back ≡ true) e i))
+  back-differs d i = (
+    λ e. both_ways (is_member r.x (r.y ∷ r.back)) (distinct-head r.x (r.y ∷ r.back) apart) (subst (λ (z : ℕ). is_member z (r.y ∷ r.back) ≡ true) e (member-tail d r.y r.back i)),
+    λ e. both_ways (is_member r.y r.back) (distinct-head r.y r.back (distinct-tail r.x (r.y ∷ r.back) apart)) (subst (λ (z : ℕ). is_member z r.back ≡ true) e i),
+  )
     where
       apart : is_distinct (r.x ∷ r.y ∷ r.back) ≡ true
       apart = distinct-append_right (r.first ∷ r.front) (r.x ∷ r.y ∷ r.back) (subst (λ (s : List ℕ). is_distinct s ≡ true) r.cut (contour-distinct m h next previous t base l before contour c))
@@ -146,11 +151,11 @@ module _ (m : ℕ) (h : Multigraph) (next previous : ℕ → ℕ) (t : IsTriangu
   -- the arms leave w
   pub arm-leaves : (e : ℕ) → is_member e (r.x ∷ r.arms) ≡ true → (e < 2 * m) × (tail h e ≡ w)
   arm-leaves = turn-forward (λ u v. next u ≡ v) (λ e. (e < 2 * m) × (tail h e ≡ w)) r.x r.arms r.in_turn ((contour-dart m h next previous t base l before contour c r.x x-on).0, r.leaves)
-      (λ u v q p. (subst (λ (z : ℕ). z < 2 * m) q (next-below m h next previous t u p.0), ap (tail h) (sym q) ∙ tail-next m h next previous t u p.0 ∙ p.1))
+      (λ u v q p. (subst (λ (z : ℕ). z < 2 * m) q (next-in m h next previous t.map u p.0), ap (tail h) (sym q) ∙ tail-next m h next previous t.map u p.0 ∙ p.1))
 
   -- the dart of the new contour for an arm leaves the vertex where the arm leads
   pub new-leaves : (e : ℕ) → is_member e (r.x ∷ r.arms) ≡ true → tail h (face next e) ≡ tail h (twin e)
-  new-leaves e i = tail-face m h next previous t e (arm-leaves e i).0
+  new-leaves e i = tail-face m h next previous t.map e (arm-leaves e i).0
 
   -- the vertices of the contour after the removal
   pub later-tails : map (tail h) later ≡ (map (tail h) (r.first ∷ r.front) ++ map (λ e. tail h (twin e)) r.arms) ++ map (tail h) r.back
@@ -205,7 +210,7 @@ module _ (m : ℕ) (h : Multigraph) (next previous : ℕ → ℕ) (t : IsTriangu
     pub is-arm : (e : ℕ) → e < 2 * m → tail h e ≡ w → stays_dart h before e ≡ true → is_member e (r.x ∷ r.arms) ≡ true
     is-arm e k q s = let w = contour-dart m h next previous t base l before contour c r.x x-on in
         subst (λ (v : List ℕ). is_member e v ≡ true) own-arms (filter-member (stays_dart h before) (ring (2 * m) next r.x) e
-        (ring-member (2 * m) next previous t.map.drawn.map r.x w.0 e ∙ tail-orbit m h next previous t r.x e w.0 k (r.leaves ∙ sym q)) s)
+        (ring-member (2 * m) next previous t.map.drawn.map r.x w.0 e ∙ one-vertex m h next previous t.map r.x e w.0 k (r.leaves ∙ sym q)) s)
 
     -- a vertex with a dart to w that stays is one of the heads
     pub is-head : (e : ℕ) → e < 2 * m → tail h (twin e) ≡ w → stays_dart h before e ≡ true → is_member (tail h e) heads ≡ true

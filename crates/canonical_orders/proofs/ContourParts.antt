@@ -1,22 +1,22 @@
 -- Contours: their darts, neighbours on them, and what goes on to each dart.
-use Rattle.std.proofs.Common.{◌≡◌, ◌≢◌, ◌⊎◌, ℕ, ◌*◌, ◌<◌, inl, inr, Bool, true, false, List, [], ◌∷◌, ◌++◌, map, filter, refl, sym, ap, ◌∙◌, subst, append_assoc}
-use Rattle.std.proofs.lemmas.Bool.{both_ways, cases_Bool}
+use Rattle.std.proofs.Common.{◌≡◌, ℕ, ◌*◌, ◌<◌, Bool, true, false, List, [], ◌∷◌, ◌++◌, map, refl, sym, ap, ◌∙◌, subst}
+use Rattle.std.proofs.lemmas.Bool.{both_ways}
 use Rattle.permutations.specs.Members.{is_member, is_distinct}
-use Rattle.permutations.specs.Cyclic.{first_or, last_or, successor}
+use Rattle.permutations.specs.Cyclic.{first_or, last_or}
 use Rattle.permutations.specs.Exchange.{restricted}
-use Rattle.permutations.specs.Ring.{ring}
 use Rattle.permutations.proofs.Arrangements.{all-member}
 use Rattle.permutations.proofs.Members.{member-head, member-append_right, distinct-head, distinct-append_right, CutAt, cut_at}
-use Rattle.permutations.proofs.Mapped.{map-member, member-map}
+use Rattle.permutations.proofs.Mapped.{map-member}
 use Rattle.permutations.proofs.Chains.{apart-front}
-use Rattle.dart_maps.specs.Map.{twin, face}
-use Rattle.dart_maps.proofs.Darts.{twin-twin, twin-below}
+use Rattle.dart_maps.specs.Map.{twin}
+use Rattle.dart_maps.proofs.Darts.{twin-below}
 use Rattle.multigraph.specs.Graph.{Multigraph}
 use Rattle.faces.specs.Euler.{tail}
 use Rattle.triangulations.specs.Triangulation.{IsTriangulated}
 use Rattle.canonical_orders.specs.Contours.{stays_dart, darts_around, Successive, IsContour}
 use Rattle.canonical_orders.specs.Laws.{GoesFromTo}
-use Rattle.canonical_orders.proofs.Lists.{last-cons, last-cut, last-member, ends-with, image-once, image-distinct, turn-at, cut-between, cut-rest}
+use Rattle.canonical_orders.proofs.ChordLists.{successive-at}
+use Rattle.canonical_orders.proofs.Lists.{last-cons, last-cut, last-member, ends-with, image-once, image-distinct, cut-between, cut-rest}
 use Rattle.canonical_orders.proofs.Walks.{passing-goes}
 use Rattle.canonical_orders.proofs.Triangles.{stays-twin, restricted-tail}
 
@@ -44,7 +44,7 @@ module _ (m : ℕ) (h : Multigraph) (next previous : ℕ → ℕ) (t : IsTriangu
   -- the twin of the next dart, at the last vertex of the base, goes on to the dart
   pub goes-to : (front : List ℕ) (x : ℕ) (back : List ℕ) → contour ≡ front ++ x ∷ back → restricted (2 * m) (stays_dart h stays) next (twin (first_or base back)) ≡ x
   goes-to front x [] e = c.around ∙ ap (last_or base) e ∙ last-cut base front x []
-  goes-to front x (y ∷ back) e = turn-at (λ u v. restricted (2 * m) (stays_dart h stays) next (twin v) ≡ u) front x y back (subst (Successive (λ u v. restricted (2 * m) (stays_dart h stays) next (twin v) ≡ u)) e c.along)
+  goes-to front x (y ∷ back) e = successive-at (λ u v. restricted (2 * m) (stays_dart h stays) next (twin v) ≡ u) front x y back (subst (Successive (λ u v. restricted (2 * m) (stays_dart h stays) next (twin v) ≡ u)) e c.along)
 
   -- the next dart is on the contour
   next-on : (front : List ℕ) (x : ℕ) (back : List ℕ) → contour ≡ front ++ x ∷ back → is_member (first_or base back) contour ≡ true

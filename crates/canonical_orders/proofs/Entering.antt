@@ -1,5 +1,5 @@
 -- Darts entered as the contour's darts at the vertices that they leave, one after the other.
-use Rattle.std.proofs.Common.{◌≡◌, ◌≢◌, ℕ, ◌+◌, ◌<◌, inl, inr, Bool, true, false, ◌||◌, ◌==◌, List, [], ◌∷◌, ◌++◌, length, map, take, drop, slice_index, slice_set, refl, sym, ap, ◌∙◌, subst, arith}
+use Rattle.std.proofs.Common.{◌≡◌, ℕ, ◌+◌, ◌<◌, inl, inr, Bool, true, false, ◌||◌, ◌==◌, List, [], ◌∷◌, ◌++◌, length, take, drop, slice_index, slice_set, refl, sym, ap, ◌∙◌, subst, arith}
 use Rattle.std.proofs.lemmas.Bool.{cases_Bool, cases_eq, eq-eqb, ne_eqb, both_ways, true≢false}
 use Rattle.std.proofs.lemmas.List.{get_or-set_same, get_or-set_other, get_or_default, length-set, map-append, take-append-drop}
 use Rattle.permutations.specs.Members.{is_member, is_distinct}
@@ -13,7 +13,7 @@ use Rattle.faces.specs.Euler.{tail, dart_count}
 use Rattle.triangulations.specs.Listed.{ListedMap}
 use Rattle.canonical_orders.specs.State.{IsTriangulatedMap, IsMet, AreEntered, heads_of, tails_of, third_darts}
 use Rattle.canonical_orders.proofs.Lists.{map-through}
-use Rattle.canonical_orders.proofs.Triangles.{face-below, tail-face}
+use Rattle.triangulations.proofs.SimpleMaps.{face-in, tail-face}
 use Rattle.canonical_orders.proofs.Counting.{images-take, image-new}
 
 -- the test of equality has no side
@@ -42,7 +42,7 @@ entered-more h d darts before now n l k = record {
 
 -- where arms lead: the third darts of their triangles leave these vertices
 pub third-tails : (t : ListedMap) → IsTriangulatedMap t → (arms : List ℕ) → ((e : ℕ) → is_member e arms ≡ true → e < dart_count t.graph) → tails_of t.graph (third_darts t arms) ≡ heads_of t.graph arms
-third-tails t i arms inside = map-through (tail t.graph) (face (slice_index t.next)) (λ e. tail t.graph (twin e)) arms (λ e m. tail-face (edge_count t.graph) t.graph (slice_index t.next) (slice_index t.previous) i e (inside e m))
+third-tails t i arms inside = map-through (tail t.graph) (face (slice_index t.next)) (λ e. tail t.graph (twin e)) arms (λ e m. tail-face (edge_count t.graph) t.graph (slice_index t.next) (slice_index t.previous) i.map e (inside e m))
 
 -- the loop so far: the third darts of the first k arms are entered
 pub record IsEntering (t : ListedMap) (arms : List ℕ) (k : ℕ) (left : List ℕ) (on : List Bool) (left_now : List ℕ) (on_now : List Bool) (met_now : List ℕ) : Type 0 where
@@ -77,10 +77,10 @@ entering-more t i arms k left on left_now on_now met_now on_new met_new l inside
     d = face (slice_index t.next) (slice_index arms k)
 
     leaves : tail t.graph d ≡ tail t.graph (twin (slice_index arms k))
-    leaves = tail-face (edge_count t.graph) t.graph (slice_index t.next) (slice_index t.previous) i (slice_index arms k) (inside k l)
+    leaves = tail-face (edge_count t.graph) t.graph (slice_index t.next) (slice_index t.previous) i.map (slice_index arms k) (inside k l)
 
     within : tail t.graph d < t.graph.vertex_count
-    within = i.map.drawn.inside d (face-below (edge_count t.graph) t.graph (slice_index t.next) (slice_index t.previous) i (slice_index arms k) (inside k l))
+    within = i.map.drawn.inside d (face-in (edge_count t.graph) t.graph (slice_index t.next) (slice_index t.previous) i.map (slice_index arms k) (inside k l))
 
     fresh : is_member (tail t.graph d) (tails_of t.graph (third_darts t (take k arms))) ≡ false
     fresh = ap (is_member (tail t.graph d)) (third-tails t i (take k arms) (take-in arms (dart_count t.graph) k l inside)) ∙ ap (λ (z : ℕ). is_member z (heads_of t.graph (take k arms))) leaves

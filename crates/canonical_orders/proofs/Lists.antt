@@ -1,11 +1,11 @@
 -- Lists: the last member, members in turn, and images of the members.
-use Rattle.std.proofs.Common.{◌≡◌, ◌≢◌, ◌⊎◌, ℕ, inl, inr, Bool, true, false, List, [], ◌∷◌, ◌++◌, All, map, reverse, refl, sym, ap, ◌∙◌, subst, append_assoc}
+use Rattle.std.proofs.Common.{◌≡◌, ◌⊎◌, ℕ, inl, inr, true, false, List, [], ◌∷◌, ◌++◌, All, map, reverse, refl, sym, ap, ◌∙◌, subst, append_assoc}
 use Rattle.std.proofs.lemmas.Bool.{both_ways, true≢false, false_from_ne_true}
 use Rattle.std.proofs.lemmas.List.{reverse-append}
 use Rattle.std.proofs.lemmas.List.Elements.{All-nil, All-cons}
 use Rattle.permutations.specs.Members.{is_member, is_distinct}
 use Rattle.permutations.specs.Cyclic.{first_or, last_or}
-use Rattle.permutations.proofs.Members.{member-head, member-tail, member-cases, member-append_left, member-append_right, no_member-head, no_member-tail, distinct-head, distinct-tail, distinct-cons}
+use Rattle.permutations.proofs.Members.{member-head, member-tail, member-cases, no_member-head, no_member-tail, distinct-head, distinct-tail, distinct-cons}
 use Rattle.permutations.proofs.Mapped.{member-map}
 use Rattle.permutations.proofs.Successor.{first_or-append}
 use Rattle.canonical_orders.specs.Contours.{Successive}
@@ -38,51 +38,23 @@ pub first-member : (z : ℕ) (a : List ℕ) → is_member (first_or z a) (a ++ z
 first-member z [] = member-head z []
 first-member z (x ∷ a) = member-head x (a ++ z ∷ [])
 
--- members in turn, without the first
-pub turn-tail : (R : ℕ → ℕ → Type 0) (a : ℕ) (l : List ℕ) → Successive R (a ∷ l) → Successive R l
-turn-tail R a [] s = tt
-turn-tail R a (b ∷ l) s = s.1
-
--- two members in turn
-pub turn-at : (R : ℕ → ℕ → Type 0) (front : List ℕ) (x y : ℕ) (back : List ℕ) → Successive R (front ++ x ∷ y ∷ back) → R x y
-turn-at R [] x y back s = s.0
-turn-at R (a ∷ front) x y back s = turn-at R front x y back (turn-tail R a (front ++ x ∷ y ∷ back) s)
-
--- one more in front
-pub turn-cons : (R : ℕ → ℕ → Type 0) (a : ℕ) (l : List ℕ) → ((b : ℕ) (k : List ℕ) → l ≡ b ∷ k → R a b) → Successive R l → Successive R (a ∷ l)
-turn-cons R a [] h s = tt
-turn-cons R a (b ∷ l) h s = (h b l refl, s)
-
--- the part before a cut
-pub turn-left : (R : ℕ → ℕ → Type 0) (a b : List ℕ) → Successive R (a ++ b) → Successive R a
-turn-left R [] b s = tt
-turn-left R (x ∷ []) b s = tt
-turn-left R (x ∷ y ∷ a) b s = (s.0, turn-left R (y ∷ a) b s.1)
-
--- the part after it
-pub turn-right : (R : ℕ → ℕ → Type 0) (a b : List ℕ) → Successive R (a ++ b) → Successive R b
-turn-right R [] b s = s
-turn-right R (x ∷ a) b s = turn-right R a b (turn-tail R x (a ++ b) s)
-
--- two parts joined
-pub turn-join : (R : ℕ → ℕ → Type 0) (a : List ℕ) (x y : ℕ) (b : List ℕ) → Successive R (a ++ x ∷ []) → R x y → Successive R (y ∷ b) → Successive R ((a ++ x ∷ []) ++ y ∷ b)
-turn-join R [] x y b s r q = (r, q)
-turn-join R (c ∷ []) x y b s r q = (s.0, (r, q))
-turn-join R (c ∷ d ∷ a) x y b s r q = (s.0, turn-join R (d ∷ a) x y b s.1 r q)
-
 -- another relation of the members in turn
 pub turn-map : (R S : ℕ → ℕ → Type 0) (l : List ℕ) → ((x y : ℕ) → is_member x l ≡ true → is_member y l ≡ true → R x y → S x y) → Successive R l → Successive S l
 turn-map R S [] f s = tt
 turn-map R S (a ∷ []) f s = tt
-turn-map R S (a ∷ b ∷ l) f s = (f a b (member-head a (b ∷ l)) (member-tail b a (b ∷ l) (member-head b l)) s.0,
-    turn-map R S (b ∷ l) (λ x y p q. f x y (member-tail x a (b ∷ l) p) (member-tail y a (b ∷ l) q)) s.1)
+turn-map R S (a ∷ b ∷ l) f s = (
+  f a b (member-head a (b ∷ l)) (member-tail b a (b ∷ l) (member-head b l)) s.0,
+  turn-map R S (b ∷ l) (λ x y p q. f x y (member-tail x a (b ∷ l) p) (member-tail y a (b ∷ l) q)) s.1,
+)
 
 -- images of members in turn
 pub turn-image : (R S : ℕ → ℕ → Type 0) (f : ℕ → ℕ) (l : List ℕ) → ((x y : ℕ) → is_member x l ≡ true → is_member y l ≡ true → R x y → S (f x) (f y)) → Successive R l → Successive S (map f l)
 turn-image R S f [] g s = tt
 turn-image R S f (a ∷ []) g s = tt
-turn-image R S f (a ∷ b ∷ l) g s = (g a b (member-head a (b ∷ l)) (member-tail b a (b ∷ l) (member-head b l)) s.0,
-    turn-image R S f (b ∷ l) (λ x y p q. g x y (member-tail x a (b ∷ l) p) (member-tail y a (b ∷ l) q)) s.1)
+turn-image R S f (a ∷ b ∷ l) g s = (
+  g a b (member-head a (b ∷ l)) (member-tail b a (b ∷ l) (member-head b l)) s.0,
+  turn-image R S f (b ∷ l) (λ x y p q. g x y (member-tail x a (b ∷ l) p) (member-tail y a (b ∷ l) q)) s.1,
+)
 
 -- a member after the first has one before it
 pub turn-before : (R : ℕ → ℕ → Type 0) (x : ℕ) (l : List ℕ) (e : ℕ) → Successive R (x ∷ l) → is_member e l ≡ true → (c : ℕ) × (is_member c (x ∷ l) ≡ true) × R c e

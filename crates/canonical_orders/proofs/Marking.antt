@@ -1,6 +1,6 @@
 -- How many neighbours of each vertex are marked, when a vertex is marked or no longer marked.
-use Rattle.std.proofs.Common.{◌≡◌, ◌≢◌, ℕ, ◌+◌, ◌*◌, ◌^◌, ◌<◌, ◌≤◌, inl, inr, Bool, true, false, not, ◌&&◌, ◌||◌, ◌==◌, cond, List, length, map, slice_index, slice_index_or, slice_set, refl, sym, ap, ◌∙◌, subst, arith}
-use Rattle.std.proofs.lemmas.Bool.{cases_Bool, cases_eq, cases_lt, eq-eqb, eqb-true, ne_eqb, both_ways, and_parts, false_from_ne_true}
+use Rattle.std.proofs.Common.{◌≡◌, ◌≢◌, ℕ, ◌+◌, ◌^◌, ◌<◌, inl, inr, Bool, true, false, not, ◌&&◌, ◌==◌, cond, List, length, slice_index, slice_set, refl, sym, ap, ◌∙◌, subst, arith}
+use Rattle.std.proofs.lemmas.Bool.{cases_Bool, cases_eq, cases_lt, eq-eqb, ne_eqb}
 use Rattle.std.proofs.lemmas.List.{get_or-set_same, get_or-set_other, get_or_past, length-set}
 use Rattle.permutations.specs.Count.{count}
 use Rattle.permutations.specs.Members.{is_member, is_distinct}
@@ -17,7 +17,7 @@ use Rattle.faces.specs.Euler.{tail, dart_count}
 use Rattle.triangulations.specs.Listed.{ListedMap}
 use Rattle.canonical_orders.specs.Free.{is_adjacent}
 use Rattle.canonical_orders.specs.State.{IsTriangulatedMap, IsMet, heads_of, ring_of}
-use Rattle.canonical_orders.proofs.Triangles.{orbit-tail, tail-orbit}
+use Rattle.triangulations.proofs.SimpleMaps.{one-tail, one-vertex}
 use Rattle.canonical_orders.proofs.FreeVertex.{dart-adjacent, adjacent-dart}
 use Rattle.canonical_orders.proofs.Maps.{head-inside}
 
@@ -43,7 +43,7 @@ pub met-small : (h : Multigraph) (on : List Bool) (met : List ℕ) (u : ℕ) →
 met-small h on met u k l off v = elim (cases_lt v h.vertex_count) [
   | inl i ↦
       let fewer : count h.vertex_count (λ x. is_marked on x && is_adjacent h v x) < count h.vertex_count (λ x. true)
-          = count-less h.vertex_count (λ x. is_marked on x && is_adjacent h v x) (λ x. true) u (λ x m t. refl) l (ap (λ (b : Bool). b && is_adjacent h v u) off) refl in
+      = count-less h.vertex_count (λ x. is_marked on x && is_adjacent h v x) (λ x. true) u (λ x m t. refl) l (ap (λ (b : Bool). b && is_adjacent h v u) off) refl in
       omega (arith, fewer, count-all h.vertex_count (λ x. true) (λ x m. refl), k.counts v i, k.few)
   | inr i ↦ let z : slice_index met v ≡ 0 = get_or_past met v 0 (omega (arith, i, k.met_each)) in omega (arith, z)
 ]
@@ -93,7 +93,7 @@ module _ (t : ListedMap) (i : IsTriangulatedMap t) (x : ℕ) (l : x < dart_count
   -- and leave it
   pub ring-leaves : (z : ℕ) → is_member z (ring_of t x) ≡ true → (z < dart_count t.graph) × (tail t.graph z ≡ tail t.graph x)
   ring-leaves z m = let b = ring-below (dart_count t.graph) (slice_index t.next) (slice_index t.previous) i.map.drawn.map x l z m in
-      (b, sym (orbit-tail (edge_count t.graph) t.graph (slice_index t.next) (slice_index t.previous) i x z l b (sym (ring-member (dart_count t.graph) (slice_index t.next) (slice_index t.previous) i.map.drawn.map x l z) ∙ m)))
+      (b, sym (one-tail (edge_count t.graph) t.graph (slice_index t.next) (slice_index t.previous) i.map x z l b (sym (ring-member (dart_count t.graph) (slice_index t.next) (slice_index t.previous) i.map.drawn.map x l z) ∙ m)))
 
   -- they lead to different vertices
   pub ring-differ : is_distinct (heads_of t.graph (ring_of t x)) ≡ true
@@ -114,7 +114,7 @@ module _ (t : ListedMap) (i : IsTriangulatedMap t) (x : ℕ) (l : x < dart_count
           subst (λ (z : ℕ). is_member z (heads_of t.graph (ring_of t x)) ≡ true) (ap (tail t.graph) (twin-twin d.0) ∙ d.2)
           (member-map (λ d. tail t.graph (twin d)) (ring_of t x) (twin d.0)
           (ring-member (dart_count t.graph) (slice_index t.next) (slice_index t.previous) i.map.drawn.map x l (twin d.0)
-          ∙ tail-orbit (edge_count t.graph) t.graph (slice_index t.next) (slice_index t.previous) i x (twin d.0) l (twin-below (edge_count t.graph) d.0 d.1) (sym d.3)))
+          ∙ one-vertex (edge_count t.graph) t.graph (slice_index t.next) (slice_index t.previous) i.map x (twin d.0) l (twin-below (edge_count t.graph) d.0 d.1) (sym d.3)))
 
   -- the neighbours of a marked vertex have met it
   pub ring-met : (on : List Bool) (met : List ℕ) → IsMet t.graph on met → is_marked on (tail t.graph x) ≡ true → (v : ℕ) → is_member v (heads_of t.graph (ring_of t x)) ≡ true → 0 < slice_index met v

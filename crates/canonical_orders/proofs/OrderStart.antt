@@ -1,12 +1,10 @@
 -- The order before the first removal: the arrays keep the triangle of dart 0.
-use Rattle.std.proofs.Common.{◌≡◌, ◌≢◌, ℕ, ◌+◌, ◌^◌, ◌<◌, ◌≤◌, inl, inr, Bool, true, false, not, ◌&&◌, ◌||◌, ◌==◌, nat_lt, List, [], ◌∷◌, ◌++◌, length, slice_index, slice_index_or, slice_set, replicate, refl, sym, ap, ◌∙◌, subst, arith}
+use Rattle.std.proofs.Common.{◌≡◌, ◌≢◌, ℕ, ◌^◌, ◌<◌, inl, inr, Bool, true, false, not, ◌&&◌, ◌||◌, ◌==◌, List, [], ◌∷◌, length, slice_index, slice_index_or, slice_set, replicate, refl, sym, ap, ◌∙◌, subst, arith}
 use Rattle.std.proofs.lemmas.Bool.{cases_Bool, cases_lt, lt-ltb}
 use Rattle.std.proofs.lemmas.List.{get_or-replicate, get_or_past, length-replicate}
-use Rattle.permutations.specs.Count.{count}
 use Rattle.permutations.specs.Members.{is_member, is_distinct}
 use Rattle.permutations.proofs.Count.{count-all, count-none}
-use Rattle.permutations.proofs.Members.{member-cases, no_member-cons, no_member-head, no_member-tail, distinct-head, distinct-tail}
-use Rattle.permutations.proofs.Relation.{same-tests}
+use Rattle.permutations.proofs.Members.{no_member-cons, no_member-head, no_member-tail, distinct-head, distinct-tail}
 use Rattle.dart_maps.specs.Map.{face}
 use Rattle.multigraph.specs.Graph.{Multigraph, edge_count}
 use Rattle.multigraph.specs.Marks.{is_marked}
@@ -15,8 +13,8 @@ use Rattle.triangulations.specs.Listed.{ListedMap}
 use Rattle.canonical_orders.specs.Contours.{IsContour}
 use Rattle.canonical_orders.specs.Free.{is_adjacent, on_contour}
 use Rattle.canonical_orders.specs.Order.{stays_after}
-use Rattle.canonical_orders.specs.State.{IsTriangulatedMap, IsMet, IsKept, AreEntered, IsPartOrder}
-use Rattle.canonical_orders.proofs.Triangles.{face-below}
+use Rattle.canonical_orders.specs.State.{IsTriangulatedMap, IsMet, AreEntered, IsPartOrder}
+use Rattle.triangulations.proofs.SimpleMaps.{face-in}
 use Rattle.canonical_orders.proofs.Starting.{triangle-contour}
 use Rattle.canonical_orders.proofs.Entering.{eqb-sides, entered-none, entered-more}
 use Rattle.canonical_orders.proofs.Maps.{some-dart}
@@ -58,10 +56,10 @@ module _ (t : ListedMap) (i : IsTriangulatedMap t) where
   base-in = some-dart t i
 
   pub second-in : face next 0 < dart_count t.graph
-  second-in = face-below m t.graph next (slice_index t.previous) i 0 base-in
+  second-in = face-in m t.graph next (slice_index t.previous) i.map 0 base-in
 
   pub third-in : face next (face next 0) < dart_count t.graph
-  third-in = face-below m t.graph next (slice_index t.previous) i b second-in
+  third-in = face-in m t.graph next (slice_index t.previous) i.map b second-in
 
   -- all vertices stay
   all-stay : (v : ℕ) → v < t.graph.vertex_count → stays_after t.graph [] 0 v ≡ true

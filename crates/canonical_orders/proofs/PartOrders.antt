@@ -1,24 +1,22 @@
 -- Canonical orders so far: one more vertex removed, a vertex that can be removed next, and the order when two vertices are left.
-use Rattle.std.proofs.Common.{◌≡◌, ◌≢◌, ℕ, zero, suc, ◌+◌, ◌*◌, ◌<◌, ◌≤◌, ◌⊎◌, inl, inr, Bool, true, false, not, ◌&&◌, ◌||◌, ◌==◌, nat_lt, List, [], ◌∷◌, ◌++◌, length, map, take, slice_index, slice_index_or, arith, refl, sym, ap, ◌∙◌, subst, le_refl}
-use Rattle.std.proofs.lemmas.Bool.{cases_Bool, cases_eq, cases_order, both_ways, and_parts, eq-eqb, ne_eqb, eqb-true, eqb-false, not-true, lt-ltb, ltb-true}
+use Rattle.std.proofs.Common.{◌≡◌, ◌≢◌, ℕ, suc, ◌+◌, ◌*◌, ◌<◌, ◌≤◌, ◌⊎◌, inl, inr, Bool, true, false, not, ◌&&◌, ◌||◌, ◌==◌, nat_lt, List, [], ◌∷◌, ◌++◌, length, map, take, slice_index, slice_index_or, arith, refl, sym, ap, ◌∙◌, subst, le_refl}
+use Rattle.std.proofs.lemmas.Bool.{cases_Bool, cases_eq, cases_order, both_ways, and_parts, eq-eqb, ne_eqb, eqb-true, eqb-false, not-true, ltb-true}
 use Rattle.std.proofs.lemmas.List.{get_or_append_left, take-append-le, take_all, length-append, map-append}
 use Rattle.std.proofs.Math.Seq.{get_or-append_seam}
 use Rattle.permutations.specs.Count.{count, some}
-use Rattle.permutations.specs.Members.{is_member, is_distinct}
+use Rattle.permutations.specs.Members.{is_member}
 use Rattle.permutations.proofs.Count.{count-ext, count-remove, count-zero, last-passing}
 use Rattle.permutations.proofs.Search.{some-from}
-use Rattle.permutations.proofs.Members.{member-head, member-append, member-append_right}
-use Rattle.dart_maps.specs.Map.{twin, face}
-use Rattle.dart_maps.proofs.Darts.{twin-below}
+use Rattle.permutations.proofs.Members.{member-head, member-append}
+use Rattle.dart_maps.specs.Map.{twin}
 use Rattle.multigraph.specs.Graph.{Multigraph, edge_count}
 use Rattle.multigraph.specs.Marks.{is_marked}
-use Rattle.faces.specs.Euler.{tail, dart_count}
+use Rattle.faces.specs.Euler.{tail}
 use Rattle.triangulations.specs.Listed.{ListedMap}
-use Rattle.triangulations.specs.Triangulation.{IsTriangulated}
 use Rattle.canonical_orders.specs.Contours.{stays_dart, IsContour, IsRemoval}
 use Rattle.canonical_orders.specs.Free.{is_adjacent, on_contour, contour_neighbours, IsFree}
-use Rattle.canonical_orders.specs.Order.{Removed, stays_after, IsCanonicalOrder}
-use Rattle.canonical_orders.specs.State.{IsTriangulatedMap, IsCanonicalOrderOf, can_leave, IsMet, IsKept, IsReady, IsTakenOff, IsPartOrder}
+use Rattle.canonical_orders.specs.Order.{Removed, stays_after}
+use Rattle.canonical_orders.specs.State.{IsTriangulatedMap, IsCanonicalOrderOf, can_leave, IsKept, IsReady, IsTakenOff, IsPartOrder}
 use Rattle.canonical_orders.proofs.FreeVertex.{all-member, dart-loopless, contour-stays, free-vertex, free-at}
 use Rattle.canonical_orders.proofs.ChordThree.{contour-three}
 use Rattle.canonical_orders.proofs.Removing.{removal-keeps}
@@ -145,7 +143,8 @@ module _ (t : ListedMap) (tri : IsTriangulatedMap t) (order : List Removed) (lef
   between v = (stays v && not (v == tail h 0)) && not (v == tail h (twin 0))
 
   count-between : count h.vertex_count stays ≡ count h.vertex_count between + 2
-  count-between = omega (arith,
+  count-between = omega (
+    arith,
     count-remove h.vertex_count stays (tail h 0) (stays-below h order (length order) (tail h 0) first-stays) first-stays,
     count-remove h.vertex_count (λ v. stays v && not (v == tail h 0)) (tail h (twin 0)) (stays-below h order (length order) (tail h (twin 0)) last-stays) (rw (last-stays, ne_eqb (tail h (twin 0)) (tail h 0) ends-apart) refl),
   )
@@ -279,8 +278,13 @@ module _ (t : ListedMap) (tri : IsTriangulatedMap t) (order : List Removed) (lef
     ]
 
     more-left : count h.vertex_count (stays_after h more (length more)) + length more ≡ h.vertex_count
-    more-left = omega (arith, longer, p.left_over, count-remove h.vertex_count stays removed.0 (stays-below h order (length order) removed.0 removed-stays) removed-stays,
-        count-ext h.vertex_count (stays_after h more (length more)) (λ x. stays x && not (x == removed.0)) (λ x _. stays-less h order removed (length more) x longer))
+    more-left = omega (
+      arith,
+      longer,
+      p.left_over,
+      count-remove h.vertex_count stays removed.0 (stays-below h order (length order) removed.0 removed-stays) removed-stays,
+      count-ext h.vertex_count (stays_after h more (length more)) (λ x. stays x && not (x == removed.0)) (λ x _. stays-less h order removed (length more) x longer),
+    )
 
     -- the order with one more vertex
     pub part-more : IsPartOrder t more left2 on2 met2

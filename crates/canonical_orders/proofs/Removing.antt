@@ -1,6 +1,6 @@
 -- Where a free vertex is removed from a contour, a contour is left.
-use Rattle.std.proofs.Common.{◌≡◌, ◌≢◌, ◌⊎◌, ℕ, ◌*◌, ◌<◌, inl, inr, Bool, true, false, ◌||◌, ◌==◌, List, [], ◌∷◌, ◌++◌, map, refl, sym, ap, ◌∙◌, subst, arith, append-nil, append_assoc}
-use Rattle.std.proofs.lemmas.Bool.{both_ways, cases_Bool, false_from_ne_true, true≢false}
+use Rattle.std.proofs.Common.{◌≡◌, ◌≢◌, ◌⊎◌, ℕ, ◌*◌, ◌<◌, inl, inr, Bool, true, false, ◌||◌, ◌==◌, List, [], ◌∷◌, ◌++◌, map, refl, sym, ap, ◌∙◌, subst, append-nil, append_assoc}
+use Rattle.std.proofs.lemmas.Bool.{both_ways, false_from_ne_true}
 use Rattle.std.proofs.lemmas.List.{map-append}
 use Rattle.permutations.specs.Members.{is_member, is_distinct}
 use Rattle.permutations.specs.Cyclic.{first_or, last_or}
@@ -15,10 +15,12 @@ use Rattle.triangulations.specs.Triangulation.{IsTriangulated}
 use Rattle.canonical_orders.specs.Contours.{stays_dart, Successive, IsContour, IsRemoval}
 use Rattle.canonical_orders.specs.Free.{on_contour, IsFreeAt}
 use Rattle.canonical_orders.specs.Laws.{RemovalKeepsContours}
-use Rattle.canonical_orders.proofs.Lists.{last-cons, last-cut, last-member, ends-with, turn-tail, turn-left, turn-right, turn-join, turn-map, turn-image, turn-before, turn-after, cut-between, member-all}
+use Rattle.canonical_orders.proofs.ChordLists.{successive-tail, successive-left, successive-right, successive-join}
+use Rattle.canonical_orders.proofs.Lists.{last-cons, last-cut, last-member, ends-with, turn-map, turn-image, turn-before, turn-after, cut-between, member-all}
 use Rattle.canonical_orders.proofs.Walks.{restricted-step, restricted-fewer, restricted-over, restricted-after, restricted-two}
-use Rattle.canonical_orders.proofs.Triangles.{stays-both, stays-tail, stays-head, stays-twin, face-below, tail-face, third, third-vertex, no-loop}
-use Rattle.canonical_orders.proofs.ContourParts.{contour-dart, same-dart, vertex-dart, leads-to, base-on}
+use Rattle.triangulations.proofs.SimpleMaps.{face-in, tail-face, no-loop}
+use Rattle.canonical_orders.proofs.Triangles.{stays-both, stays-tail, stays-head, stays-twin, third, third-vertex}
+use Rattle.canonical_orders.proofs.ContourParts.{contour-dart, same-dart, vertex-dart, leads-to}
 use Rattle.canonical_orders.proofs.Arms.{after-before, before-after, not-removed, darts-before, darts-after, gone-from, gone-to, dart-left, lefts, x-on, y-on, front-on, back-on, contour-cases, front-differs, back-differs, x-leads, y-leads, left-follows, x-follows, y-follows, x-only, y-only, arm-leaves, new-leaves, later-tails, arms-distinct, arm-stays, is-arm, is-head}
 
 module _ (m : ℕ) (h : Multigraph) (next previous : ℕ → ℕ) (base : ℕ) (before after : ℕ → Bool) (contour later : List ℕ) (w : ℕ) (heads : List ℕ) (t : IsTriangulated m h next previous) (l : base < 2 * m)
@@ -35,7 +37,7 @@ module _ (m : ℕ) (h : Multigraph) (next previous : ℕ → ℕ) (base : ℕ) (
 
   -- no dart leads from w to w
   w-loop : (e : ℕ) → is_member e (r.x ∷ r.arms) ≡ true → tail h (twin e) ≢ w
-  w-loop e i q = no-loop m h next previous t e (arm-leaves m h next previous t base l before contour c later w heads r e i).0 ((arm-leaves m h next previous t base l before contour c later w heads r e i).1 ∙ sym q)
+  w-loop e i q = no-loop m h next previous t.map e (arm-leaves m h next previous t base l before contour c later w heads r e i).0 ((arm-leaves m h next previous t base l before contour c later w heads r e i).1 ∙ sym q)
 
   -- an arm other than x leads to the contour only where it is the twin of y
   arm-on : (e : ℕ) → is_member e r.arms ≡ true → on_contour h contour (tail h (twin e)) ≡ true → e ≡ twin r.y
@@ -126,9 +128,12 @@ module _ (m : ℕ) (h : Multigraph) (next previous : ℕ → ℕ) (base : ℕ) (
       from = subst (λ (z : ℕ). after z ≡ true) (sym (new-leaves m h next previous t base l before contour c later w heads r e j)) (before-after h before after w others absent (tail h (twin e)) (stays-head h before e (arm-stays m h next previous t base l before contour c later w heads r differ e j)) (w-loop e j))
 
       at : (u : ℕ) → is_member u (r.x ∷ r.arms) ≡ true → next u ≡ e → (face next e < 2 * m) × (stays_dart h after (face next e) ≡ true)
-      at u k q = (face-below m h next previous t e (arm-leaves m h next previous t base l before contour c later w heads r e j).0, stays-both h after (face next e) from
-          (subst (λ (z : ℕ). after z ≡ true) (sym (third-vertex m h next previous t u (arm-leaves m h next previous t base l before contour c later w heads r u k).0) ∙ ap (λ (z : ℕ). tail h (twin (face next z))) q)
-          (before-after h before after w others absent (tail h (twin u)) (stays-head h before u (arm-stays m h next previous t base l before contour c later w heads r differ u k)) (w-loop u k))))
+      at u k q = (
+        face-in m h next previous t.map e (arm-leaves m h next previous t base l before contour c later w heads r e j).0,
+        stays-both h after (face next e) from
+            (subst (λ (z : ℕ). after z ≡ true) (sym (third-vertex m h next previous t u (arm-leaves m h next previous t base l before contour c later w heads r u k).0) ∙ ap (λ (z : ℕ). tail h (twin (face next z))) q)
+            (before-after h before after w others absent (tail h (twin u)) (stays-head h before u (arm-stays m h next previous t base l before contour c later w heads r differ u k)) (w-loop u k))),
+      )
 
   -- a dart of the contour after the removal is old or new
   later-cases : (d : ℕ) → is_member d later ≡ true → (is_member d F ≡ true) ⊎ (((e : ℕ) × (is_member e r.arms ≡ true) × (face next e ≡ d)) ⊎ (is_member d r.back ≡ true))
@@ -239,21 +244,21 @@ module _ (m : ℕ) (h : Multigraph) (next previous : ℕ → ℕ) (base : ℕ) (
 
   -- the darts of the contour are in turn
   front-turns : Successive After F
-  front-turns = turn-map Before After F (λ u v i j q. old-turn u v (front-later u i) (front-later v j) q) (turn-left Before F (r.x ∷ r.y ∷ r.back) (subst (Successive Before) r.cut c.along))
+  front-turns = turn-map Before After F (λ u v i j q. old-turn u v (front-later u i) (front-later v j) q) (successive-left Before F (r.x ∷ r.y ∷ r.back) (subst (Successive Before) r.cut c.along))
 
   back-turns : Successive After r.back
   back-turns = turn-map Before After r.back (λ u v i j q. old-turn u v (back-later u i) (back-later v j) q)
-      (turn-tail Before r.y r.back (turn-tail Before r.x (r.y ∷ r.back) (turn-right Before F (r.x ∷ r.y ∷ r.back) (subst (Successive Before) r.cut c.along))))
+      (successive-tail Before r.y r.back (successive-tail Before r.x (r.y ∷ r.back) (successive-right Before F (r.x ∷ r.y ∷ r.back) (subst (Successive Before) r.cut c.along))))
 
   new-turns : Successive After G
-  new-turns = turn-image (λ u v. next u ≡ v) After (face next) r.arms new-turn (turn-tail (λ u v. next u ≡ v) r.x r.arms r.in_turn)
+  new-turns = turn-image (λ u v. next u ≡ v) After (face next) r.arms new-turn (successive-tail (λ u v. next u ≡ v) r.x r.arms r.in_turn)
 
   turns : Successive After later
   turns = subst (Successive After) (sym r.makes) (with-back r.back back-turns right-turn)
     where
       with-new : (e : ℕ) (s : List ℕ) → r.arms ≡ e ∷ s → Successive After (F ++ G)
       with-new e s q = subst (λ (f : List ℕ). Successive After (f ++ G)) (sym (lefts m h next previous t base l before contour c later w heads r).1) (subst (λ (a : List ℕ). Successive After (((lefts m h next previous t base l before contour c later w heads r).0 ++ dart-left m h next previous t base l before contour c later w heads r ∷ []) ++ map (face next) a)) (sym q)
-          (turn-join After (lefts m h next previous t base l before contour c later w heads r).0 (dart-left m h next previous t base l before contour c later w heads r) (face next e) (map (face next) s) (subst (Successive After) (lefts m h next previous t base l before contour c later w heads r).1 front-turns)
+          (successive-join After (lefts m h next previous t base l before contour c later w heads r).0 (dart-left m h next previous t base l before contour c later w heads r) (face next e) (map (face next) s) (subst (Successive After) (lefts m h next previous t base l before contour c later w heads r).1 front-turns)
           (left-turn e (ap (is_member e) q ∙ member-head e s) (subst (Successive (λ u v. next u ≡ v)) (ap (λ (a : List ℕ). r.x ∷ a) q) r.in_turn).0)
           (subst (λ (a : List ℕ). Successive After (map (face next) a)) q new-turns)))
 
@@ -266,7 +271,7 @@ module _ (m : ℕ) (h : Multigraph) (next previous : ℕ → ℕ) (base : ℕ) (
       with-back : (s : List ℕ) → Successive After s → After g (first_or base s) → Successive After ((F ++ G) ++ s)
       with-back [] b q = subst (Successive After) (sym (append-nil (F ++ G))) joined
       with-back (z ∷ s) b q = subst (λ (a : List ℕ). Successive After (a ++ z ∷ s)) (sym shape)
-          (turn-join After (F ++ map (face next) last-arm.0) g z s (subst (Successive After) shape joined) q b)
+          (successive-join After (F ++ map (face next) last-arm.0) g z s (subst (Successive After) shape joined) q b)
 
   -- and the last one is followed by the base
   around-base : restricted (2 * m) (stays_dart h after) next (twin base) ≡ last_or base later
@@ -301,7 +306,7 @@ module _ (m : ℕ) (h : Multigraph) (next previous : ℕ → ℕ) (base : ℕ) (
   ]
     where
       arm : is_member (twin (face next d)) (r.x ∷ r.arms) ≡ true
-      arm = is-arm m h next previous t base l before contour c later w heads r differ (twin (face next d)) (twin-below m (face next d) (face-below m h next previous t d k)) q (stays-twin h before (face next d) f)
+      arm = is-arm m h next previous t base l before contour c later w heads r differ (twin (face next d)) (twin-below m (face next d) (face-in m h next previous t.map d k)) q (stays-twin h before (face next d) f)
 
       b : stays_dart h before d ≡ true
       b = darts-before h before after w others absent d s
@@ -319,8 +324,8 @@ module _ (m : ℕ) (h : Multigraph) (next previous : ℕ → ℕ) (base : ℕ) (
           back = ap (λ (z : ℕ). face next (face next z)) (sym e) ∙ t.triangles d k
 
           stays : stays_dart h before (face next r.y) ≡ true
-          stays = stays-both h before (face next r.y) (subst (λ (z : ℕ). before z ≡ true) (sym (tail-face m h next previous t r.y y.0)) (stays-head h before r.y y.1))
-              (subst (λ (z : ℕ). before z ≡ true) (ap (tail h) (sym back) ∙ tail-face m h next previous t (face next r.y) (face-below m h next previous t r.y y.0)) (stays-tail h before d b))
+          stays = stays-both h before (face next r.y) (subst (λ (z : ℕ). before z ≡ true) (sym (tail-face m h next previous t.map r.y y.0)) (stays-head h before r.y y.1))
+              (subst (λ (z : ℕ). before z ≡ true) (ap (tail h) (sym back) ∙ tail-face m h next previous t.map (face next r.y) (face-in m h next previous t.map r.y y.0)) (stays-tail h before d b))
 
           to-x : face next r.y ≡ r.x
           to-x = sym (restricted-step (2 * m) (stays_dart h before) next previous t.map.drawn.map (twin r.y) (face next r.y) (twin-below m r.y y.0) (stays-twin h before r.y y.1) stays refl) ∙ x-follows m h next previous t base l before contour c later w heads r
@@ -331,7 +336,7 @@ module _ (m : ℕ) (h : Multigraph) (next previous : ℕ → ℕ) (base : ℕ) (
   -- all darts that stay and are not on the contour lie on triangles that stay
   triangles-stay : (d : ℕ) → d < 2 * m → stays_dart h after d ≡ true → is_member d later ≡ false → stays_dart h after (face next d) ≡ true
   triangles-stay d k s n = darts-after h before after w others absent (face next d) f
-      (λ e. not-removed h before after w others absent (tail h (twin d)) (stays-head h after d s) (sym (tail-face m h next previous t d k) ∙ e)) (not-at d k s n f)
+      (λ e. not-removed h before after w others absent (tail h (twin d)) (stays-head h after d s) (sym (tail-face m h next previous t.map d k) ∙ e)) (not-at d k s n f)
     where
       f : stays_dart h before (face next d) ≡ true
       f = c.faces d k (darts-before h before after w others absent d s) (off-before d s n)

@@ -1,12 +1,11 @@
 -- What stacking a removed vertex back on the contour does to the darts that stay.
-use Rattle.std.proofs.Common.{◌≡◌, ◌≢◌, ℕ, ◌*◌, ◌<◌, inl, inr, Bool, true, false, ◌&&◌, ◌||◌, ◌==◌, List, [], ◌∷◌, ◌++◌, map, filter, refl, sym, ap, ◌∙◌, subst, arith, append-nil}
-use Rattle.std.proofs.lemmas.Bool.{both_ways, cases_Bool, cases_eq, false_from_ne_true}
+use Rattle.std.proofs.Common.{◌≡◌, ℕ, ◌*◌, ◌<◌, inl, inr, Bool, true, false, ◌&&◌, ◌||◌, ◌==◌, List, [], ◌∷◌, ◌++◌, map, filter, refl, sym, ap, ◌∙◌, subst, arith, append-nil}
+use Rattle.std.proofs.lemmas.Bool.{both_ways, cases_Bool, false_from_ne_true}
 use Rattle.std.proofs.lemmas.List.Elements.{filter-append}
 use Rattle.permutations.specs.Members.{is_member, is_distinct}
-use Rattle.permutations.specs.Permutation.{same_orbit}
 use Rattle.permutations.specs.Exchange.{restricted}
 use Rattle.permutations.specs.Ring.{ring}
-use Rattle.permutations.proofs.Members.{member-head, member-tail, member-cases, member-append_left, member-append_right, distinct-append_apart}
+use Rattle.permutations.proofs.Members.{member-head, member-cases, member-append_left, member-append_right, distinct-append_apart}
 use Rattle.permutations.proofs.Mapped.{member-map}
 use Rattle.permutations.proofs.Filter.{filter-no, filter-all, filter-ext, filter-filter, distinct-filter, member-filter_parts}
 use Rattle.permutations.proofs.Rings.{ring-member, ring-below, ring-distinct}
@@ -16,13 +15,13 @@ use Rattle.multigraph.specs.Graph.{Multigraph}
 use Rattle.faces.specs.Euler.{tail}
 use Rattle.triangulations.specs.Triangulation.{IsTriangulated}
 use Rattle.canonical_orders.specs.Contours.{stays_dart, darts_around, IsContour, IsRemoval}
-use Rattle.canonical_orders.specs.Order.{IsStacked}
 use Rattle.canonical_orders.specs.Laws.{RemovalIsStacked}
 use Rattle.canonical_orders.proofs.Lists.{member-all}
 use Rattle.canonical_orders.proofs.Walks.{restricted-step, passing-last}
-use Rattle.canonical_orders.proofs.Triangles.{stays-tail, stays-head, stays-twin, orbit-tail}
+use Rattle.triangulations.proofs.SimpleMaps.{one-tail}
+use Rattle.canonical_orders.proofs.Triangles.{stays-tail, stays-twin}
 use Rattle.canonical_orders.proofs.ContourParts.{contour-dart, same-dart}
-use Rattle.canonical_orders.proofs.Arms.{before-after, not-removed, darts-before, darts-after, gone-to, dart-left, lefts, x-leads, left-follows, arm-leaves, new-leaves, heads-distinct, arm-stays, own-arms, is-head}
+use Rattle.canonical_orders.proofs.Arms.{not-removed, darts-before, darts-after, gone-to, dart-left, lefts, x-leads, left-follows, arm-leaves, new-leaves, heads-distinct, arm-stays, own-arms, is-head}
 
 module _ (m : ℕ) (h : Multigraph) (next previous : ℕ → ℕ) (base : ℕ) (before after : ℕ → Bool) (contour later : List ℕ) (w : ℕ) (heads : List ℕ) (t : IsTriangulated m h next previous) (l : base < 2 * m)
     (c : IsContour m h next base before contour) (a : IsContour m h next base after later) (r : IsRemoval h next contour later w heads)
@@ -34,7 +33,7 @@ module _ (m : ℕ) (h : Multigraph) (next previous : ℕ → ℕ) (base : ℕ) (
   -- a dart around the vertex of y leaves this vertex
   same-vertex : (y z : ℕ) → y < 2 * m → is_member z (ring (2 * m) next y) ≡ true → (z < 2 * m) × (tail h z ≡ tail h y)
   same-vertex y z k i = let b = ring-below (2 * m) next previous t.map.drawn.map y k z i in
-      (b, sym (orbit-tail m h next previous t y z k b (sym (ring-member (2 * m) next previous t.map.drawn.map y k z) ∙ i)))
+      (b, sym (one-tail m h next previous t.map y z k b (sym (ring-member (2 * m) next previous t.map.drawn.map y k z) ∙ i)))
 
   -- the left dart is on the contour after the removal
   left-later : is_member (dart-left m h next previous t base l before contour c later w heads r) later ≡ true

@@ -1,5 +1,5 @@
 -- The first contour, a triangle, and the last one, the two darts of the base.
-use Rattle.std.proofs.Common.{◌≡◌, ◌≢◌, ◌⊎◌, ℕ, ◌*◌, ◌<◌, inl, inr, Bool, true, false, List, [], ◌∷◌, ◌++◌, map, refl, sym, ap, ◌∙◌, subst}
+use Rattle.std.proofs.Common.{◌≡◌, ◌≢◌, ◌⊎◌, ℕ, ◌*◌, ◌<◌, inl, inr, true, List, [], ◌∷◌, refl, sym, ap, ◌∙◌, subst}
 use Rattle.std.proofs.lemmas.Bool.{both_ways, true≢false}
 use Rattle.permutations.specs.Members.{is_member, is_distinct}
 use Rattle.permutations.specs.Cyclic.{last_or}
@@ -7,14 +7,13 @@ use Rattle.permutations.specs.Exchange.{restricted}
 use Rattle.permutations.proofs.Members.{member-head, member-tail, member-cases, distinct-head, distinct-tail, distinct-three}
 use Rattle.dart_maps.specs.Map.{twin, face}
 use Rattle.dart_maps.proofs.Darts.{twin-twin, twin-below}
-use Rattle.multigraph.specs.Graph.{Multigraph}
 use Rattle.faces.specs.Euler.{tail}
-use Rattle.triangulations.specs.Triangulation.{IsTriangulated}
-use Rattle.canonical_orders.specs.Contours.{stays_dart, IsContour}
+use Rattle.canonical_orders.specs.Contours.{stays_dart}
 use Rattle.canonical_orders.specs.Laws.{TriangleIsContour, LastContourIsBase}
 use Rattle.canonical_orders.proofs.Lists.{member-all}
 use Rattle.canonical_orders.proofs.Walks.{restricted-step}
-use Rattle.canonical_orders.proofs.Triangles.{stays-both, stays-tail, face-below, tail-face, no-loop}
+use Rattle.triangulations.proofs.SimpleMaps.{face-in, tail-face, no-loop}
+use Rattle.canonical_orders.proofs.Triangles.{stays-both, stays-tail}
 use Rattle.canonical_orders.proofs.ContourParts.{contour-dart, base-on, same-dart, contour-distinct, leads-to}
 
 -- where all vertices stay, the contour is the triangle of the base
@@ -22,12 +21,12 @@ pub triangle-contour : TriangleIsContour
 triangle-contour m h next previous base stays t l all = record {
   rest = c ∷ b ∷ [];
   begins = refl;
-  closes = tail-face m h next previous t base l;
+  closes = tail-face m h next previous t.map base l;
   darts = member-all (λ d. (d < 2 * m) × (stays_dart h stays d ≡ true)) (base ∷ c ∷ b ∷ []) inside;
   once = distinct-three (tail h base) (tail h c) (tail h b) first-third first-second third-second;
   along = (goes c base lc l (t.triangles base l), (goes b c lb lc refl, tt));
   around = restricted-step (2 * m) (stays_dart h stays) next previous t.map.drawn.map (twin base) b (twin-below m base l) (stay (twin base) (twin-below m base l)) (stay b lb) refl;
-  faces = λ d k s n. stay (face next d) (face-below m h next previous t d k);
+  faces = λ d k s n. stay (face next d) (face-in m h next previous t.map d k);
   inner = λ d k s n. stay d k;
 }
   where
@@ -38,10 +37,10 @@ triangle-contour m h next previous base stays t l all = record {
     c = face next (face next base)
 
     lb : face next base < 2 * m
-    lb = face-below m h next previous t base l
+    lb = face-in m h next previous t.map base l
 
     lc : face next (face next base) < 2 * m
-    lc = face-below m h next previous t b lb
+    lc = face-in m h next previous t.map b lb
 
     stay : (d : ℕ) → d < 2 * m → stays_dart h stays d ≡ true
     stay d k = stays-both h stays d (all d k) (all (twin d) (twin-below m d k))
@@ -50,16 +49,16 @@ triangle-contour m h next previous base stays t l all = record {
     goes x y k j e = restricted-step (2 * m) (stays_dart h stays) next previous t.map.drawn.map (twin x) y (twin-below m x k) (stay (twin x) (twin-below m x k)) (stay y j) e
 
     third : tail h (twin c) ≡ tail h base
-    third = sym (tail-face m h next previous t c lc) ∙ ap (tail h) (t.triangles base l)
+    third = sym (tail-face m h next previous t.map c lc) ∙ ap (tail h) (t.triangles base l)
 
     first-third : tail h base ≢ tail h c
-    first-third e = no-loop m h next previous t c lc (sym e ∙ sym third)
+    first-third e = no-loop m h next previous t.map c lc (sym e ∙ sym third)
 
     first-second : tail h base ≢ tail h b
-    first-second e = no-loop m h next previous t base l (e ∙ tail-face m h next previous t base l)
+    first-second e = no-loop m h next previous t.map base l (e ∙ tail-face m h next previous t.map base l)
 
     third-second : tail h c ≢ tail h b
-    third-second e = no-loop m h next previous t b lb (sym e ∙ tail-face m h next previous t b lb)
+    third-second e = no-loop m h next previous t.map b lb (sym e ∙ tail-face m h next previous t.map b lb)
 
     inside : (d : ℕ) → is_member d (base ∷ c ∷ b ∷ []) ≡ true → (d < 2 * m) × (stays_dart h stays d ≡ true)
     inside d i = elim (member-cases d base (c ∷ b ∷ []) i) [
@@ -87,7 +86,7 @@ last-contour m h next previous base stays contour t l c ends = at c.rest c.begin
     apart s e = subst (λ (r : List ℕ). is_distinct r ≡ true) e (contour-distinct m h next previous t base l stays contour c)
 
     at : (s : List ℕ) → contour ≡ base ∷ s → contour ≡ base ∷ twin base ∷ []
-    at [] e = absurd (no-loop m h next previous t base l (ap (λ (r : List ℕ). tail h (last_or base r)) (sym e) ∙ c.closes))
+    at [] e = absurd (no-loop m h next previous t.map base l (ap (λ (r : List ℕ). tail h (last_or base r)) (sym e) ∙ c.closes))
     at (z ∷ []) e = e ∙ ap (λ (u : ℕ). base ∷ u ∷ []) (t.map.simple z (twin base) (contour-dart m h next previous t base l stays contour c z on).0 (twin-below m base l)
         (ap (λ (r : List ℕ). tail h (last_or base r)) (sym e) ∙ c.closes) (leads-to m h next previous t base l stays contour c [] base (z ∷ []) e ∙ ap (tail h) (sym (twin-twin base))))
       where

@@ -1,5 +1,5 @@
 -- A free vertex is taken off the contour that the arrays keep.
-use Rattle.std.proofs.Common.{◌≡◌, ◌≢◌, ◌⊎◌, ℕ, zero, suc, ◌+◌, ◌-◌, ◌*◌, ◌<◌, ◌≤◌, inl, inr, Bool, true, false, not, ◌&&◌, ◌||◌, ◌==◌, List, [], ◌∷◌, ◌++◌, length, map, slice_index, slice_index_or, refl, sym, ap, ◌∙◌, subst, arith}
+use Rattle.std.proofs.Common.{◌≡◌, ◌≢◌, ℕ, zero, suc, ◌+◌, ◌-◌, ◌*◌, ◌<◌, inl, inr, Bool, true, false, not, ◌&&◌, ◌||◌, ◌==◌, List, [], ◌∷◌, ◌++◌, length, map, slice_index, slice_index_or, refl, sym, ap, ◌∙◌, subst, arith}
 use Rattle.std.proofs.lemmas.Bool.{cases_Bool, cases_eq, cases_lt, eq-eqb, eqb-true, ne_eqb, both_ways, and_parts, or_cases, false_from_ne_true}
 use Rattle.std.proofs.lemmas.List.{get_or_default}
 use Rattle.permutations.specs.Count.{some, least}
@@ -10,7 +10,7 @@ use Rattle.permutations.specs.Ring.{images}
 use Rattle.permutations.proofs.Search.{some-from, least-passes, least-first, least-before}
 use Rattle.permutations.proofs.Iterates.{iterate-below, iterate-first, iterate-more, iterate-sum, iterate-between, iterate-orbit, orbit-steps}
 use Rattle.permutations.proofs.Relation.{same-tests}
-use Rattle.permutations.proofs.Members.{member-head, member-tail, member-cases, member-append_left, member-append_right, member-append_cases, distinct-tail, distinct-append_left, distinct-append_apart}
+use Rattle.permutations.proofs.Members.{member-head, member-tail, member-append_left, member-append_right, member-append_cases, distinct-tail, distinct-append_left, distinct-append_apart}
 use Rattle.permutations.proofs.Mapped.{member-map, map-member, distinct-map}
 use Rattle.permutations.proofs.Arrangements.{member-at}
 use Rattle.permutations.proofs.Rings.{images-append, images-distinct}
@@ -18,14 +18,15 @@ use Rattle.dart_maps.specs.Map.{twin, face}
 use Rattle.dart_maps.proofs.Darts.{twin-twin, twin-below}
 use Rattle.multigraph.specs.Graph.{edge_count}
 use Rattle.multigraph.specs.Marks.{is_marked}
-use Rattle.faces.specs.Euler.{tail, dart_count}
+use Rattle.faces.specs.Euler.{tail}
 use Rattle.triangulations.specs.Listed.{ListedMap}
 use Rattle.canonical_orders.specs.Contours.{Successive, IsContour, IsRemoval}
 use Rattle.canonical_orders.specs.Free.{on_contour, IsFreeAt}
 use Rattle.canonical_orders.specs.Order.{Removed}
 use Rattle.canonical_orders.specs.State.{IsTriangulatedMap, IsMet, IsKept, AreEntered, IsReady, IsTakenOff, heads_of, tails_of, third_darts, leads_on, arms_after}
-use Rattle.canonical_orders.proofs.Lists.{last-append, last-cons, last-member, ends-with, cut-between}
-use Rattle.canonical_orders.proofs.Triangles.{stays-tail, next-below, tail-next, orbit-tail, tail-orbit}
+use Rattle.canonical_orders.proofs.Lists.{last-append, last-member, ends-with, cut-between}
+use Rattle.triangulations.proofs.SimpleMaps.{next-in, tail-next, one-tail, one-vertex}
+use Rattle.canonical_orders.proofs.Triangles.{stays-tail}
 use Rattle.canonical_orders.proofs.ContourParts.{contour-dart, same-dart, contour-distinct, vertex-dart, leads-to}
 use Rattle.canonical_orders.proofs.FreeVertex.{free-at}
 use Rattle.canonical_orders.proofs.Arms.{contour-cases, front-on, back-on, front-differs, back-differs, x-only, arm-leaves, new-leaves}
@@ -89,9 +90,12 @@ module _ (t : ListedMap) (i : IsTriangulatedMap t) (left : List ℕ) (on : List 
 
   -- the dart before x
   before-x : (z : ℕ) × (is_member z (at.first ∷ at.front) ≡ true) × (tail t.graph (twin at.x) ≡ tail t.graph z)
-  before-x = let k = ends-with at.first at.front in (last_or at.first at.front, last-member at.first at.front,
-      leads-to m t.graph next previous i 0 base-in p.stays p.contour p.is k.0 (last_or at.first at.front) (at.x ∷ at.y ∷ at.back)
-      (at.cut ∙ ap (λ (s : List ℕ). s ++ at.x ∷ at.y ∷ at.back) k.1 ∙ cut-between k.0 (last_or at.first at.front) (at.x ∷ at.y ∷ at.back)))
+  before-x = let k = ends-with at.first at.front in (
+    last_or at.first at.front,
+    last-member at.first at.front,
+    leads-to m t.graph next previous i 0 base-in p.stays p.contour p.is k.0 (last_or at.first at.front) (at.x ∷ at.y ∷ at.back)
+        (at.cut ∙ ap (λ (s : List ℕ). s ++ at.x ∷ at.y ∷ at.back) k.1 ∙ cut-between k.0 (last_or at.first at.front) (at.x ∷ at.y ∷ at.back)),
+  )
 
   before-on : (z : ℕ) → is_member z (at.first ∷ at.front) ≡ true → is_member z p.contour ≡ true
   before-on z n = ap (is_member z) at.cut ∙ member-append_left z (at.first ∷ at.front) (at.x ∷ at.y ∷ at.back) n
@@ -121,18 +125,18 @@ module _ (t : ListedMap) (i : IsTriangulatedMap t) (left : List ℕ) (on : List 
   abbrev walk : ℕ → ℕ
   walk k = iterate next k (next at.x)
 
-  next-in : next at.x < 2 * m
-  next-in = next-below m t.graph next previous i at.x x-in
+  start-in : next at.x < 2 * m
+  start-in = next-in m t.graph next previous i.map at.x x-in
 
   walk-in : (k : ℕ) → (walk k < 2 * m) × (tail t.graph (walk k) ≡ w)
-  walk-in k = let b = iterate-below (2 * m) next previous i.map.drawn.map k (next at.x) next-in in
-      (b, sym (orbit-tail m t.graph next previous i (next at.x) (walk k) next-in b (iterate-orbit (2 * m) next previous i.map.drawn.map k (next at.x) next-in)) ∙ tail-next m t.graph next previous i at.x x-in ∙ at.leaves)
+  walk-in k = let b = iterate-below (2 * m) next previous i.map.drawn.map k (next at.x) start-in in
+      (b, sym (one-tail m t.graph next previous i.map (next at.x) (walk k) start-in b (iterate-orbit (2 * m) next previous i.map.drawn.map k (next at.x) start-in)) ∙ tail-next m t.graph next previous i.map at.x x-in ∙ at.leaves)
 
   -- it comes to the twin of y
   y-steps : (k : ℕ) × (k < 2 * m) × (walk k ≡ twin at.y)
-  y-steps = orbit-steps (2 * m) next previous i.map.drawn.map (next at.x) (twin at.y) next-in
-      (tail-orbit m t.graph next previous i (next at.x) (twin at.y) next-in (twin-below m at.y y-in)
-      (tail-next m t.graph next previous i at.x x-in ∙ sym (leads-to m t.graph next previous i 0 base-in p.stays p.contour p.is (at.first ∷ at.front) at.x (at.y ∷ at.back) at.cut)))
+  y-steps = orbit-steps (2 * m) next previous i.map.drawn.map (next at.x) (twin at.y) start-in
+      (one-vertex m t.graph next previous i.map (next at.x) (twin at.y) start-in (twin-below m at.y y-in)
+      (tail-next m t.graph next previous i.map at.x x-in ∙ sym (leads-to m t.graph next previous i 0 base-in p.stays p.contour p.is (at.first ∷ at.front) at.x (at.y ∷ at.back) at.cut)))
 
   y-passes : (k : ℕ) → walk k ≡ twin at.y → test k ≡ true
   y-passes k e = ap (λ (z : ℕ). is_marked on (tail t.graph (twin z))) e ∙ ap (λ (z : ℕ). is_marked on (tail t.graph z)) (twin-twin at.y) ∙ dart-marked at.y y-on
@@ -142,7 +146,7 @@ module _ (t : ListedMap) (i : IsTriangulatedMap t) (left : List ℕ) (on : List 
 
   -- it doesn't end at x
   not-back : walk steps ≢ at.x
-  not-back e = both_ways (is_y early) (least-before (2 * m) is_y early (omega (arith, past)) ) (eq-eqb (walk early) (twin at.y) back)
+  not-back e = both_ways (is_y early) (least-before (2 * m) is_y early (omega (arith, past))) (eq-eqb (walk early) (twin at.y) back)
     where
       is_y : ℕ → Bool
       is_y k = walk k == twin at.y

@@ -1,5 +1,5 @@
 -- Walks along a permutation when fewer numbers pass, one lemma for each way in which a walk changes; and the members of a ring that pass.
-use Rattle.std.proofs.Common.{◌≡◌, ℕ, suc, ◌+◌, ◌-◌, ◌<◌, ◌≤◌, inl, inr, Bool, true, false, List, [], ◌∷◌, ◌++◌, filter, refl, sym, ap, ◌∙◌, subst, arith, le_refl}
+use Rattle.std.proofs.Common.{◌≡◌, ℕ, suc, ◌+◌, ◌-◌, ◌<◌, inl, inr, Bool, true, false, List, [], ◌∷◌, ◌++◌, filter, sym, ap, ◌∙◌, subst, arith, le_refl}
 use Rattle.std.proofs.lemmas.Bool.{false_from_ne_true, both_ways, cases_order}
 use Rattle.permutations.specs.Members.{is_member, is_distinct}
 use Rattle.permutations.specs.Cyclic.{first_or, last_or, successor}
@@ -18,7 +18,8 @@ use Rattle.permutations.proofs.Rings.{ring-first, ring-distinct, ring-member, ri
 use Rattle.permutations.proofs.Removal.{ring-taken_out}
 use Rattle.canonical_orders.specs.Contours.{Successive}
 use Rattle.canonical_orders.specs.Laws.{GoesFromTo}
-use Rattle.canonical_orders.proofs.Lists.{last-append, last-cons, last-cut, first-member, turn-at, cut-between}
+use Rattle.canonical_orders.proofs.ChordLists.{successive-at}
+use Rattle.canonical_orders.proofs.Lists.{last-append, last-cons, last-cut, first-member, cut-between}
 
 -- one step, to a number that passes
 pub goes-step : (keep : ℕ → Bool) (f : ℕ → ℕ) (x y : ℕ) → f x ≡ y → keep y ≡ true → GoesOn keep f x y
@@ -151,7 +152,7 @@ module _ (n : ℕ) (keep : ℕ → Bool) (f g : ℕ → ℕ) (b : Permutes n f g
                   end : c ≡ last_or x s
                   end = sym (last-cut x k.front c []) ∙ ap (last_or x) (sym i) ∙ last-cons x x s
               here (y ∷ r) i = ap (λ (v : List ℕ). successor v c) i ∙ successor-cut k.front c (y ∷ r) k.first
-                  ∙ sym (left-is c (stay c m).0 ∙ restricted-step n keep f g b c y (stay c m).0 (stay c m).1 (stay y inside).1 (turn-at (λ u v. f u ≡ v) k.front c y r (subst (Successive (λ u v. f u ≡ v)) i turn)))
+                  ∙ sym (left-is c (stay c m).0 ∙ restricted-step n keep f g b c y (stay c m).0 (stay c m).1 (stay y inside).1 (successive-at (λ u v. f u ≡ v) k.front c y r (subst (Successive (λ u v. f u ≡ v)) i turn)))
                 where
                   inside : is_member y (x ∷ s) ≡ true
                   inside = ap (is_member y) (i ∙ sym (cut-between k.front c (y ∷ r))) ∙ member-append_right y (k.front ++ c ∷ []) (y ∷ r) (member-head y r)

@@ -1,6 +1,6 @@
 -- State of the loops: the contour kept in arrays, with an entry for each vertex, and an order so far.
-use Rattle.std.specs.Prelude.{◌≡◌, ℕ, suc, ◌+◌, ◌*◌, ◌^◌, ◌<◌, ◌≤◌, Bool, true, not, ◌&&◌, ◌==◌, false, List, [], ◌∷◌, length, map, slice_index, slice_index_or}
-use Rattle.permutations.specs.Count.{count, least, some}
+use Rattle.std.specs.Prelude.{◌≡◌, ℕ, suc, ◌+◌, ◌^◌, ◌<◌, ◌≤◌, Bool, true, not, ◌&&◌, ◌==◌, false, List, [], ◌∷◌, length, map, slice_index, slice_index_or}
+use Rattle.permutations.specs.Count.{count, least}
 use Rattle.permutations.specs.Members.{is_member, is_distinct}
 use Rattle.permutations.specs.Permutation.{iterate}
 use Rattle.permutations.specs.Ring.{images, ring}

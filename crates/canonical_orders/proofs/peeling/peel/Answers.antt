@@ -1,5 +1,5 @@
 -- One vertex more is removed, until two are left.
-use Rattle.std.proofs.Common.{◌≡◌, ◌<◌, ◌+◌, ◌++◌, ◌∷◌, [], ℕ, List, length, slice_index, ap, ◌∙◌, sym, subst, arith}
+use Rattle.std.proofs.Common.{◌<◌, ℕ, List, sym, subst, arith}
 use Rattle.faces.specs.Euler.{dart_count}
 use Rattle.canonical_orders.specs.Order.{Removed}
 use Rattle.canonical_orders.specs.State.{IsPartOrder}
@@ -37,7 +37,7 @@ loop-preserved c =
     let s = c.loop.contour in
     let new = c.remove.new.self in (
       subst (λ (order : List Removed). IsPartOrder t order new.left.items new.on.items new.met.items) (sym c.in_ok-push-2.ensures.items)
-      (part-step t c.requires c.loop.order.items s.left.items s.on.items s.met.items c.loop.invariant.0 c.next_free-vertex.result c.in_ok-removal.removal new.left.items new.on.items new.met.items c.next_free-vertex.ensures c.in_ok-removal.ensures),
+          (part-step t c.requires c.loop.order.items s.left.items s.on.items s.met.items c.loop.invariant.0 c.next_free-vertex.result c.in_ok-removal.removal new.left.items new.on.items new.met.items c.next_free-vertex.ensures c.in_ok-removal.ensures),
       omega (arith, c.in_ok-push-2.ensures.len, c.loop.invariant.1),
     )
 

@@ -1,5 +1,5 @@
 -- The triangle of dart 0 is entered.
-use Rattle.std.proofs.Common.{◌≡◌, ◌<◌, ◌||◌, ◌==◌, ℕ, Bool, List, [], false, length, slice_index, slice_set, replicate, ap, ◌∙◌, sym, subst, arith}
+use Rattle.std.proofs.Common.{◌≡◌, ◌<◌, ◌||◌, ◌==◌, ℕ, List, [], false, length, slice_index, slice_set, replicate, ap, ◌∙◌, sym, subst, arith}
 use Rattle.std.proofs.lemmas.List.{length-replicate}
 use Rattle.dart_maps.specs.Map.{face}
 use Rattle.multigraph.specs.Marks.{is_marked}

@@ -1,15 +1,8 @@
 -- Steps of the walk, and its end.
-use Rattle.std.proofs.Common.{◌≡◌, ◌<◌, false, true, length, slice_index, ap, ◌∙◌, sym, subst, arith}
-use Rattle.std.proofs.lemmas.List.{length-append}
-use Rattle.permutations.specs.Permutation.{iterate}
-use Rattle.permutations.proofs.Iterates.{iterate-below}
-use Rattle.dart_maps.specs.Map.{twin}
-use Rattle.dart_maps.proofs.Darts.{twin-below}
-use Rattle.multigraph.specs.Graph.{edge_count}
-use Rattle.multigraph.specs.Marks.{is_marked}
-use Rattle.faces.specs.Euler.{tail, dart_count}
+use Rattle.std.proofs.Common.{◌≡◌, false, true, length, slice_index, ◌∙◌, arith}
+use Rattle.faces.specs.Euler.{dart_count}
 use Rattle.canonical_orders.specs.State.{leads_on}
-use Rattle.canonical_orders.proofs.RingWalks.{IsOnTheWay, way-short, way-more, way-all}
+use Rattle.canonical_orders.proofs.RingWalks.{way-short, way-more, way-all}
 use Rattle.canonical_orders.proofs.Maps.{walk-below, leads-at}
 use Rattle.canonical_orders.proofs.rings.arms.Goals as goal
 

@@ -1,5 +1,5 @@
 -- Steps of the walk, and its end.
-use Rattle.std.proofs.Common.{◌≡◌, ◌<◌, length, slice_index, ap, ◌∙◌, sym, arith}
+use Rattle.std.proofs.Common.{length, slice_index, arith}
 use Rattle.faces.specs.Euler.{dart_count}
 use Rattle.canonical_orders.proofs.RingWalks.{around-start, around-short, around-more, around-all}
 use Rattle.canonical_orders.proofs.Maps.{walk-below}

@@ -1,10 +1,9 @@
 -- One vertex more is counted.
-use Rattle.std.proofs.Common.{◌≡◌, ◌<◌, false, length, slice_index, take, ap, ◌∙◌, sym, subst, arith}
-use Rattle.permutations.specs.Members.{is_member}
+use Rattle.std.proofs.Common.{slice_index, take, arith}
 use Rattle.dart_maps.specs.Map.{twin}
 use Rattle.faces.specs.Euler.{tail}
 use Rattle.canonical_orders.specs.State.{heads_of}
-use Rattle.canonical_orders.proofs.Counting.{IsRaised, images-take, image-new, raised-more, raised-at}
+use Rattle.canonical_orders.proofs.Counting.{images-take, image-new, raised-more, raised-at}
 use Rattle.canonical_orders.proofs.Maps.{head-inside}
 use Rattle.canonical_orders.proofs.rings.count_up.Goals as goal
 

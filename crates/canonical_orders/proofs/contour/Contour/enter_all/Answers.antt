@@ -1,10 +1,10 @@
 -- One arm more is entered.
-use Rattle.std.proofs.Common.{◌≡◌, ◌<◌, ◌+◌, ◌||◌, ◌==◌, ℕ, List, length, slice_index, slice_set, ap, ◌∙◌, sym, subst, arith}
+use Rattle.std.proofs.Common.{◌≡◌, ◌<◌, ◌+◌, ◌||◌, ◌==◌, ℕ, List, slice_index, slice_set, ap, ◌∙◌, sym, subst}
 use Rattle.multigraph.specs.Graph.{edge_count}
 use Rattle.dart_maps.specs.Map.{face}
 use Rattle.multigraph.specs.Marks.{is_marked}
 use Rattle.faces.specs.Euler.{tail, dart_count}
-use Rattle.canonical_orders.proofs.Triangles.{face-below}
+use Rattle.triangulations.proofs.SimpleMaps.{face-in}
 use Rattle.canonical_orders.proofs.Entering.{IsEntering, entering-none, entering-more}
 use Rattle.canonical_orders.proofs.contour.Contour.enter_all.Goals as goal
 
@@ -14,7 +14,7 @@ loop-arm-init c = entering-none c.args.map.now c.args.arms.now c.args.self.now.l
 pub enter-requires-clause-dart_in : goal.enter-requires-clause-dart_in
 enter-requires-clause-dart_in c =
     let t = c.args.map.now in
-    subst (λ (d : _). d < dart_count t.graph) (sym c.face.ensures) (face-below (edge_count t.graph) t.graph (slice_index t.next) (slice_index t.previous) c.requires.triangulated (slice_index c.args.arms.now c.loop-arm.arm-index) (c.requires.arms_in c.loop-arm.arm-index c.loop-arm-test.true))
+    subst (λ (d : _). d < dart_count t.graph) (sym c.face.ensures) (face-in (edge_count t.graph) t.graph (slice_index t.next) (slice_index t.previous) c.requires.triangulated.map (slice_index c.args.arms.now c.loop-arm.arm-index) (c.requires.arms_in c.loop-arm.arm-index c.loop-arm-test.true))
 
 pub enter-requires-clause-left_each : goal.enter-requires-clause-left_each
 enter-requires-clause-left_each c = c.loop-arm.invariant.entered.each ∙ c.requires.left_each

@@ -3,7 +3,7 @@ use Rattle.std.proofs.Common.{◌≡◌, ◌<◌, ◌||◌, ◌∷◌, ℕ, Bool
 use Rattle.permutations.specs.Count.{some}
 use Rattle.permutations.specs.Members.{is_distinct, is_member}
 use Rattle.multigraph.specs.Marks.{is_marked}
-use Rattle.faces.specs.Euler.{tail, dart_count}
+use Rattle.faces.specs.Euler.{dart_count}
 use Rattle.canonical_orders.specs.State.{AreEntered, heads_of, third_darts, arms_after, leads_on}
 use Rattle.canonical_orders.proofs.Taking.{x-in, w-marked, some-on, arms-in, arms-differ, found-index, found-first, found-leaves, found-arms, found-all}
 use Rattle.canonical_orders.proofs.contour.Contour.remove.Goals as goal
@@ -97,9 +97,9 @@ returns c =
     let found : arms ≡ arms_after t s.on.items first = c.in_ok-arms.ensures ∙ ap (λ (on : List Bool). arms_after t on first) c.deref.ensures.value in
     let leads : c.in_ok-heads.heads.items ≡ heads_of t.graph (first ∷ arms) = c.in_ok-heads.ensures ∙ ap (λ (l : List ℕ). heads_of t.graph (first ∷ l)) c.deref-2.ensures.value in
     let entered : AreEntered t.graph (third_darts t arms) s.left.items new.left.items
-        = subst (λ (l : List ℕ). AreEntered t.graph (third_darts t arms) l new.left.items) c.in_ok-unmark.ensures.left
-            (subst (λ (l : List ℕ). AreEntered t.graph (third_darts t l) c.unmark.new.self.left.items new.left.items) c.deref-3.ensures.value c.in_ok-enter_all.ensures.left) in
+    = subst (λ (l : List ℕ). AreEntered t.graph (third_darts t arms) l new.left.items) c.in_ok-unmark.ensures.left
+    (subst (λ (l : List ℕ). AreEntered t.graph (third_darts t l) c.unmark.new.self.left.items new.left.items) c.deref-3.ensures.value c.in_ok-enter_all.ensures.left) in
     let marked : (v : ℕ) → is_marked new.on.items v ≡ (is_marked c.unmark.new.self.on.items v || is_member v (heads_of t.graph arms))
-        = subst (λ (l : List ℕ). (v : ℕ) → is_marked new.on.items v ≡ (is_marked c.unmark.new.self.on.items v || is_member v (heads_of t.graph l))) c.deref-3.ensures.value c.in_ok-enter_all.ensures.marked in
+    = subst (λ (l : List ℕ). (v : ℕ) → is_marked new.on.items v ≡ (is_marked c.unmark.new.self.on.items v || is_member v (heads_of t.graph l))) c.deref-3.ensures.value c.in_ok-enter_all.ensures.marked in
     λ p. found-all t c.requires.triangulated s.left.items s.on.items s.met.items c.args.vertex p first arms c.in_ok-heads.heads.items new.left.items c.unmark.new.self.on.items new.on.items new.met.items c.of.result
-        (found-index t c.requires.triangulated s.left.items s.on.items s.met.items c.args.vertex p first c.index-first.ensures) found leads entered c.in_ok-unmark.ensures.marked marked c.in_ok-enter_all.ensures.met c.of.ensures
+    (found-index t c.requires.triangulated s.left.items s.on.items s.met.items c.args.vertex p first c.index-first.ensures) found leads entered c.in_ok-unmark.ensures.marked marked c.in_ok-enter_all.ensures.met c.of.ensures
