@@ -1,17 +1,16 @@
 -- A vertex that can be placed: all indexes are in range, and all sums fit.
-use Rattle.std.proofs.Common.{◌≡◌, ℕ, zero, suc, ◌+◌, ◌*◌, ◌-◌, ◌/◌, ◌<◌, ◌≤◌, ◌^◌, true, List, [], ◌∷◌, ◌++◌, length, drop, slice_index, slice_set, arith, refl, sym, ap, ap₂, ◌∙◌, subst}
+use Rattle.std.proofs.Common.{◌≡◌, ℕ, suc, ◌+◌, ◌*◌, ◌-◌, ◌/◌, ◌<◌, ◌≤◌, ◌^◌, true, List, [], ◌∷◌, ◌++◌, length, drop, slice_index, arith, sym, ap, ap₂, ◌∙◌, subst}
 use Rattle.std.proofs.Math.ListN.{length-set}
 use Rattle.std.proofs.Math.Seq.{drop-cons}
 use Rattle.std.proofs.lemmas.List.{length-append}
 use Rattle.permutations.specs.Members.{is_member, is_distinct}
 use Rattle.permutations.proofs.Members.{member-head, member-tail, member-append_right}
 use Rattle.canonical_orders.specs.Order.{Removed}
-use Rattle.shift_method.specs.Shapes.{ShapeState, IsShapeOf, fresh, total, one_more, last_of, widened, covered, with_widened, with_covered, raised, with_gap, width_of, half_of, placed, all_placed, CanStack}
+use Rattle.shift_method.specs.Shapes.{ShapeState, IsShapeOf, fresh, total, one_more, last_of, widened, with_widened, with_covered, raised, with_gap, width_of, half_of, placed, all_placed, CanStack}
 use Rattle.shift_method.specs.Peeled.{IsPeeled, removed_at}
-use Rattle.shift_method.proofs.Writes.{total-member, same-default}
+use Rattle.shift_method.proofs.Writes.{total-member}
 use Rattle.shift_method.proofs.Steps.{last-is, width-is, half-is}
-use Rattle.shift_method.proofs.Placed.{IsPlaced}
-use Rattle.shift_method.proofs.Stages.{stage, stage-step, placed-at, can-stack-at}
+use Rattle.shift_method.proofs.Stages.{stage, placed-at, can-stack-at}
 
 pub widened-length : (gap l : List ℕ) → length (widened gap l) ≡ length gap
 widened-length gap l = length-set (one_more gap (slice_index l 0)) (last_of l) (slice_index (one_more gap (slice_index l 0)) (last_of l) + 1) ∙ length-set gap (slice_index l 0) (slice_index gap (slice_index l 0) + 1)
@@ -101,10 +100,14 @@ placed-told s t u v r w heads l width half left e a b c d f g h = h ∙ ap (λ (
 pub stack-told : (n : ℕ) (s : ShapeState) → s ≡ fresh n → 2 * n ≤ 2 ^ 32 → (left right : ℕ) (order : List Removed) → IsPeeled n left right order → (k : ℕ) → 0 < k → k ≤ length order
     → (t : ShapeState) → t ≡ all_placed s (drop k order) → (w : ℕ) (heads : List ℕ) → w ≡ (removed_at order (k - 1)).0 → heads ≡ (removed_at order (k - 1)).1
     → (x : ℕ) × IsShapeOf x t × (2 * x ≤ 2 ^ 32) × CanStack x (slice_index t.gap) (slice_index t.height) w heads
-stack-told n s e small left right order p k b l t f w heads g h = (n, subst (IsShapeOf n) (sym at) (placed-at n left right order p k l).sizes, small,
-    subst (λ (u : ShapeState). CanStack n (slice_index u.gap) (slice_index u.height) w heads) (sym at) (subst (λ (v : ℕ). CanStack n (slice_index (stage n order k).gap) (slice_index (stage n order k).height) v heads) (sym g)
-    (subst (CanStack n (slice_index (stage n order k).gap) (slice_index (stage n order k).height) (removed_at order (k - 1)).0) (sym h)
-    (subst (λ (i : ℕ). CanStack n (slice_index (stage n order i).gap) (slice_index (stage n order i).height) (removed_at order (k - 1)).0 (removed_at order (k - 1)).1) more (can-stack-at n left right order p (k - 1) (omega (arith, b, l)))))))
+stack-told n s e small left right order p k b l t f w heads g h = (
+  n,
+  subst (IsShapeOf n) (sym at) (placed-at n left right order p k l).sizes,
+  small,
+  subst (λ (u : ShapeState). CanStack n (slice_index u.gap) (slice_index u.height) w heads) (sym at) (subst (λ (v : ℕ). CanStack n (slice_index (stage n order k).gap) (slice_index (stage n order k).height) v heads) (sym g)
+      (subst (CanStack n (slice_index (stage n order k).gap) (slice_index (stage n order k).height) (removed_at order (k - 1)).0) (sym h)
+      (subst (λ (i : ℕ). CanStack n (slice_index (stage n order i).gap) (slice_index (stage n order i).height) (removed_at order (k - 1)).0 (removed_at order (k - 1)).1) more (can-stack-at n left right order p (k - 1) (omega (arith, b, l)))))),
+)
   where
     at : t ≡ stage n order k
     at = f ∙ ap (λ (u : ShapeState). all_placed u (drop k order)) e

@@ -1,21 +1,20 @@
 -- Canonical orders by vertices: which stay, which are on the contour, and which are covered.
-use Rattle.std.proofs.Common.{◌≡◌, ◌≢◌, ◌⊎◌, inl, inr, ℕ, zero, suc, ◌+◌, ◌*◌, ◌-◌, ◌<◌, ◌≤◌, Bool, true, false, not, ◌&&◌, ◌||◌, ◌==◌, nat_lt, List, [], ◌∷◌, ◌++◌, length, map, take, slice_index_or, arith, refl, sym, ap, ap₂, ◌∙◌, subst, append_assoc}
-use Rattle.std.proofs.lemmas.Bool.{both_ways, cases_Bool, false_from_ne_true, or_cases, eqb-true, eq-eqb, ne_eqb, true≢false, and_parts, ltb-true, lt-ltb, le-ltb, cases_eq, cases_lt}
+use Rattle.std.proofs.Common.{◌≡◌, ◌≢◌, ◌⊎◌, inl, inr, ℕ, zero, suc, ◌+◌, ◌*◌, ◌<◌, ◌≤◌, Bool, true, false, not, ◌&&◌, ◌||◌, ◌==◌, nat_lt, List, [], ◌∷◌, ◌++◌, length, map, take, arith, refl, sym, ap, ap₂, ◌∙◌, subst}
+use Rattle.std.proofs.lemmas.Bool.{both_ways, cases_Bool, false_from_ne_true, eqb-true, eq-eqb, ne_eqb, and_parts, ltb-true, lt-ltb, le-ltb, cases_eq, cases_lt}
 use Rattle.std.proofs.lemmas.List.{map-append}
 use Rattle.std.proofs.Math.Seq.{take-suc}
 use Rattle.permutations.specs.Count.{count}
 use Rattle.permutations.specs.Members.{is_member, is_distinct}
-use Rattle.permutations.specs.Cyclic.{first_or, last_or}
+use Rattle.permutations.specs.Cyclic.{last_or}
 use Rattle.permutations.proofs.Arrangements.{all-member, count-list}
 use Rattle.permutations.proofs.Count.{count-ext, count-all, count-remove, count-same}
-use Rattle.permutations.proofs.Members.{member-head, member-tail, member-cases, member-append, member-append_left, member-append_right, member-append_cases, no_member-cons, no_member-append, distinct-head, distinct-tail, distinct-cons, distinct-append_left, distinct-append_right, distinct-append_apart}
-use Rattle.dart_maps.specs.Map.{twin, face}
-use Rattle.multigraph.specs.Graph.{Multigraph}
+use Rattle.permutations.proofs.Members.{member-head, member-tail, member-cases, member-append, member-append_left, member-append_right, member-append_cases, no_member-cons, no_member-append, distinct-head, distinct-tail, distinct-cons, distinct-append_right, distinct-append_apart}
+use Rattle.dart_maps.specs.Map.{twin}
 use Rattle.faces.specs.Euler.{tail}
-use Rattle.canonical_orders.specs.Contours.{stays_dart, IsContour, IsRemoval}
-use Rattle.canonical_orders.specs.Order.{Removed, stays_after, IsCanonicalOrder}
-use Rattle.canonical_orders.proofs.Lists.{ends-with, last-cons, last-cut, last-append}
-use Rattle.canonical_orders.proofs.Triangles.{stays-tail, tail-face}
+use Rattle.canonical_orders.specs.Contours.{stays_dart, IsContour}
+use Rattle.canonical_orders.specs.Order.{Removed, stays_after}
+use Rattle.canonical_orders.proofs.Lists.{ends-with, last-cons}
+use Rattle.canonical_orders.proofs.Triangles.{stays-tail}
 use Rattle.canonical_orders.proofs.ContourParts.{contour-dart, vertex-dart}
 use Rattle.canonical_orders.proofs.Arms.{heads-distinct}
 use Rattle.shift_method.specs.Peeled.{IsPeeled, removed_at, contour_at, IsInnerHead}
@@ -144,7 +143,7 @@ module _ (n left right : ℕ) (order : List Removed) (p : IsPeeled n left right 
   inner-among k l v i = let s = stretched k l in subst (λ (z : List ℕ). is_member v z ≡ true) (same-inner i.left s.left i.inner s.inner i.right s.right (sym i.cut ∙ s.stretch)) i.among
 
   pub among-inner : (k : ℕ) (l : k < length order) (v : ℕ) → is_member v (stretched k l).inner ≡ true → IsInnerHead (heads_at k) v
-  among-inner k l v i = let s = stretched k l in record { left = s.left; inner = s.inner; right = s.right; cut = s.stretch; among = i; }
+  among-inner k l v i = let s = stretched k l in record { left = s.left; inner = s.inner; right = s.right; cut = s.stretch; among = i }
 
   -- inner heads are on the later row, and not on the row
   pub inner-later : (k : ℕ) → k < length order → (v : ℕ) → IsInnerHead (heads_at k) v → is_member v (row_at (suc k)) ≡ true
@@ -280,6 +279,10 @@ module _ (n left right : ℕ) (order : List Removed) (p : IsPeeled n left right 
       far u i b e = omega (arith, stays-below (length order) u (row-stays (length order) (omega arith) u i), b, e)
 
       few : count n (stays_at (length order)) ≤ count n (λ x. is_member x (left ∷ right ∷ []))
-      few = omega (arith, count-stays (length order) (omega arith), number-order,
-          count-list n (λ x. is_member x (left ∷ right ∷ [])) (left ∷ right ∷ []) (distinct-cons left (right ∷ []) (no_member-cons left right [] (λ e. left-right (sym e)) refl) refl)
-          (λ x i. stays-below (length order) x (row-stays (length order) (omega arith) x (subst (λ (z : List ℕ). is_member x z ≡ true) (sym row-last) i))) (λ x b. refl))
+      few = omega (
+        arith,
+        count-stays (length order) (omega arith),
+        number-order,
+        count-list n (λ x. is_member x (left ∷ right ∷ [])) (left ∷ right ∷ []) (distinct-cons left (right ∷ []) (no_member-cons left right [] (λ e. left-right (sym e)) refl) refl)
+            (λ x i. stays-below (length order) x (row-stays (length order) (omega arith) x (subst (λ (z : List ℕ). is_member x z ≡ true) (sym row-last) i))) (λ x b. refl),
+      )

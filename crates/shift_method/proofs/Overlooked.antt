@@ -1,9 +1,9 @@
 -- The new vertex overlooks its heads, at all positions with these gaps and offsets.
-use Rattle.std.proofs.Common.{◌≡◌, ◌⊎◌, inl, inr, ℕ, ◌+◌, ◌*◌, ◌-◌, ◌<◌, ◌≤◌, true, List, [], ◌∷◌, ◌++◌, map, arith, refl, sym, ap, ◌∙◌, subst, All}
+use Rattle.std.proofs.Common.{◌≡◌, inl, inr, ℕ, ◌+◌, ◌*◌, ◌-◌, ◌<◌, ◌≤◌, true, List, [], ◌∷◌, ◌++◌, map, arith, sym, ap, subst}
 use Rattle.std.proofs.lemmas.Nat.{mul-le}
 use Rattle.std.proofs.lemmas.List.{map-append}
 use Rattle.plane_points.specs.Turning.{turns_left}
-use Rattle.plane_points.proofs.Turns.{Left, true-left}
+use Rattle.plane_points.proofs.Turns.{true-left}
 use Rattle.plane_points.proofs.Rising.{Each, each-map, each-append}
 use Rattle.stacked_points.specs.Contours as points
 use Rattle.stacked_points.proofs.Chains.{each-all}
@@ -47,7 +47,7 @@ each-points P f [] e = tt
 each-points P f (a ∷ l) e = (e.0, each-points P f l e.1)
 
 module _ (x y g off : ℕ → ℕ) (w left right h d : ℕ) (top : y w ≡ y left + h) (peak : y w + h ≡ y right + d) (some : 0 < h) (more : h < d)
-  (on_left : x left + h ≤ x w) (on_right : x w + d ≤ x right + h) where
+    (on_left : x left + h ≤ x w) (on_right : x w + d ≤ x right + h) where
   -- an inner head, by its position, and its height as seen from both ends
   abbrev pub IsInner : ℕ → Type 0
   IsInner u = (x u + h ≡ x w + off u) × (y u + 1 ≤ y left + off u) × (y u + off u + 1 ≤ y right + d)

@@ -1,14 +1,14 @@
 -- The stages of the shift method: the numbers while k removals are left.
-use Rattle.std.proofs.Common.{◌≡◌, ◌≢◌, ◌⊎◌, inl, inr, ℕ, zero, suc, ◌+◌, ◌*◌, ◌-◌, ◌<◌, ◌≤◌, Bool, true, false, List, [], ◌∷◌, ◌++◌, length, map, take, drop, slice_index, slice_index_or, replicate, arith, refl, sym, ap, ap₂, ◌∙◌, subst}
+use Rattle.std.proofs.Common.{◌≡◌, ◌≢◌, inl, inr, ℕ, suc, ◌+◌, ◌*◌, ◌-◌, ◌<◌, ◌≤◌, true, false, List, [], ◌∷◌, ◌++◌, length, slice_index, arith, refl, sym, ap, ◌∙◌, subst}
 use Rattle.std.proofs.lemmas.Bool.{both_ways, cases_eq, false_from_ne_true}
 use Rattle.permutations.specs.Members.{is_member, is_distinct}
 use Rattle.permutations.specs.Cyclic.{last_or}
-use Rattle.permutations.proofs.Members.{member-head, member-tail, member-cases, member-append_left, member-append_right, no_member-cons, no_member-append, distinct-head, distinct-tail, distinct-cons, distinct-append_left, distinct-append_right, distinct-append_apart}
+use Rattle.permutations.proofs.Members.{member-head, member-tail, member-cases, member-append_left, member-append_right, no_member-cons, no_member-append, distinct-head, distinct-tail, distinct-cons, distinct-append_right, distinct-append_apart}
 use Rattle.canonical_orders.specs.Contours.{Successive}
-use Rattle.canonical_orders.specs.Order.{Removed, stays_after}
+use Rattle.canonical_orders.specs.Order.{Removed}
 use Rattle.canonical_orders.proofs.Lists.{last-cut, last-append, cut-between, turn-map}
 use Rattle.shift_method.specs.Shapes.{ShapeState, IsShapeOf, total, placed, CanStack}
-use Rattle.shift_method.specs.Peeled.{IsPeeled, removed_at, contour_at, IsInnerHead}
+use Rattle.shift_method.specs.Peeled.{IsPeeled, IsInnerHead}
 use Rattle.shift_method.proofs.Stretches.{Sloped, Reaches, succ-first, succ-second, succ-join, succ-after, total-append, total-same, ends-reach, height-left, height-right}
 use Rattle.shift_method.proofs.Rows.{IsStretched}
 use Rattle.shift_method.proofs.Orders.{row_at, vertex_at, heads_at, stays_at, number-order, stays-below, stays-differs, row-stays, row-distinct, row-begins, row-ends, left-on, right-on, stretched, heads-apart, among-inner, inner-among, inner-off, row-later}
@@ -89,8 +89,10 @@ module _ (n left right : ℕ) (order : List Removed) (p : IsPeeled n left right 
   rest-distinct = distinct-append_right (cut.front ++ cut.left ∷ []) (w ∷ cut.right ∷ cut.back) cut-distinct
 
   back-apart : (v : ℕ) → is_member v cut.back ≡ true → (v ≢ w) × (v ≢ cut.right)
-  back-apart v i = (λ e. both_ways (is_member w (cut.right ∷ cut.back)) (distinct-head w (cut.right ∷ cut.back) rest-distinct) (subst (λ (z : ℕ). is_member z (cut.right ∷ cut.back) ≡ true) e (member-tail v cut.right cut.back i)),
-      λ e. both_ways (is_member cut.right cut.back) (distinct-head cut.right cut.back (distinct-tail w (cut.right ∷ cut.back) rest-distinct)) (subst (λ (z : ℕ). is_member z cut.back ≡ true) e i))
+  back-apart v i = (
+    λ e. both_ways (is_member w (cut.right ∷ cut.back)) (distinct-head w (cut.right ∷ cut.back) rest-distinct) (subst (λ (z : ℕ). is_member z (cut.right ∷ cut.back) ≡ true) e (member-tail v cut.right cut.back i)),
+    λ e. both_ways (is_member cut.right cut.back) (distinct-head cut.right cut.back (distinct-tail w (cut.right ∷ cut.back) rest-distinct)) (subst (λ (z : ℕ). is_member z cut.back ≡ true) e i),
+  )
 
   right-apart : cut.right ≢ w
   right-apart e = both_ways (is_member w (cut.right ∷ cut.back)) (distinct-head w (cut.right ∷ cut.back) rest-distinct) (subst (λ (z : ℕ). is_member z (cut.right ∷ cut.back) ≡ true) e (member-head cut.right cut.back))
@@ -134,8 +136,15 @@ module _ (n left right : ℕ) (order : List Removed) (p : IsPeeled n left right 
         last = sym (last-cut cut.left cut.inner cut.right cut.back) ∙ sym (last-cut 0 cut.front cut.left (cut.inner ++ cut.right ∷ cut.back)) ∙ ap (last_or 0) (sym cut.later_is ∙ ends.1) ∙ last-append 0 ends.0 right
 
     sums : total g (cut.front ++ cut.left ∷ []) + total g (cut.inner ++ cut.right ∷ []) + total g cut.back + 2 * (k + 1) ≡ 2 * length order
-    sums = omega (arith, old.sum, ap (total g) cut.later_is, total-append g cut.front (cut.left ∷ (cut.inner ++ cut.right ∷ cut.back)), total-append g cut.front (cut.left ∷ []),
-        total-append g cut.inner (cut.right ∷ cut.back), total-append g cut.inner (cut.right ∷ []))
+    sums = omega (
+      arith,
+      old.sum,
+      ap (total g) cut.later_is,
+      total-append g cut.front (cut.left ∷ (cut.inner ++ cut.right ∷ cut.back)),
+      total-append g cut.front (cut.left ∷ []),
+      total-append g cut.inner (cut.right ∷ cut.back),
+      total-append g cut.inner (cut.right ∷ []),
+    )
 
     -- w can be placed
     pub can-stack : CanStack n g y w heads
@@ -188,13 +197,26 @@ module _ (n left right : ℕ) (order : List Removed) (p : IsPeeled n left right 
 
       new-slopes : Successive (Sloped h z) (cut.front ++ cut.left ∷ w ∷ cut.right ∷ cut.back)
       new-slopes = succ-join (Sloped h z) cut.front cut.left (w ∷ cut.right ∷ cut.back)
-          (turn-map (Sloped g y) (Sloped h z) (cut.front ++ cut.left ∷ []) (λ u v i j r. sloped-move g h y z u v (first-kept v j).0 (first-kept u i).1 (first-kept v j).1 r) front-slopes)
-          (inl (omega (arith, q.top, q.gap_here, (first-kept cut.left left-in).1)), (inr (omega (arith, q.peak, q.gap_right, q.height_else cut.right right-apart)),
-          succ-after (Sloped g y) (Sloped h z) cut.right cut.back (λ u v i j r. sloped-move g h y z u v (back-kept v j).0 (right-kept u i) (back-kept v j).1 r) back-slopes))
+          (turn-map (Sloped g y) (Sloped h z) (cut.front ++ cut.left ∷ []) (λ u v i j r. sloped-move g h y z u v (first-kept v j).0 (first-kept u i).1 (first-kept v j).1 r) front-slopes) (
+            inl (omega (arith, q.top, q.gap_here, (first-kept cut.left left-in).1)),
+            (
+              inr (omega (arith, q.peak, q.gap_right, q.height_else cut.right right-apart)),
+              succ-after (Sloped g y) (Sloped h z) cut.right cut.back (λ u v i j r. sloped-move g h y z u v (back-kept v j).0 (right-kept u i) (back-kept v j).1 r) back-slopes,
+            ),
+          )
 
       new-sum : total h row + 2 * k ≡ 2 * length order
-      new-sum = omega (arith, sums, q.wide, q.gap_here, q.gap_right, ap (total h) row-cut, total-append h (cut.front ++ cut.left ∷ []) (w ∷ cut.right ∷ cut.back),
-          total-same h g (cut.front ++ cut.left ∷ []) (λ v i. (first-kept v i).0), total-same h g cut.back (λ v i. (back-kept v i).0))
+      new-sum = omega (
+        arith,
+        sums,
+        q.wide,
+        q.gap_here,
+        q.gap_right,
+        ap (total h) row-cut,
+        total-append h (cut.front ++ cut.left ∷ []) (w ∷ cut.right ∷ cut.back),
+        total-same h g (cut.front ++ cut.left ∷ []) (λ v i. (first-kept v i).0),
+        total-same h g cut.back (λ v i. (back-kept v i).0),
+      )
 
       pub next-placed : IsPlaced n left right order p k t
       next-placed = record {

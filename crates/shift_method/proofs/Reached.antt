@@ -1,15 +1,14 @@
 -- Positions that were written for all vertices that are on one of the first contours.
-use Rattle.std.proofs.Common.{◌≡◌, ◌≢◌, ◌⊎◌, inl, inr, ℕ, zero, suc, ◌+◌, ◌*◌, ◌-◌, ◌<◌, ◌≤◌, ◌^◌, Bool, true, false, List, [], ◌∷◌, ◌++◌, length, replicate, take, drop, slice_index, slice_set, append-nil, arith, refl, sym, ap, ap₂, ◌∙◌, subst}
+use Rattle.std.proofs.Common.{◌≡◌, ◌≢◌, inl, inr, ℕ, suc, ◌+◌, ◌*◌, ◌<◌, ◌≤◌, ◌^◌, true, List, [], ◌∷◌, ◌++◌, length, take, drop, slice_index, slice_set, append-nil, arith, sym, ap, ap₂, ◌∙◌, subst}
 use Rattle.std.proofs.Math.ListN.{length-set}
-use Rattle.std.proofs.lemmas.List.{length-replicate, length-append, drop_all, take_all}
-use Rattle.std.proofs.lemmas.Bool.{both_ways, cases_Bool, cases_eq, cases_lt, false≢true}
+use Rattle.std.proofs.lemmas.List.{length-append, drop_all, take_all}
+use Rattle.std.proofs.lemmas.Bool.{both_ways, cases_Bool, cases_lt, false≢true}
 use Rattle.permutations.specs.Members.{is_member}
 use Rattle.permutations.proofs.Members.{member-head, member-tail, member-cases, member-append_right}
 use Rattle.canonical_orders.specs.Order.{Removed}
-use Rattle.shift_method.specs.Shapes.{ShapeState, IsShapeOf}
+use Rattle.shift_method.specs.Shapes.{ShapeState}
 use Rattle.shift_method.specs.Peeled.{IsPeeled, removed_at, IsInnerHead, KeepsAll, ArePositions}
-use Rattle.shift_method.proofs.Rows.{IsStretched}
-use Rattle.shift_method.proofs.Orders.{row_at, vertex_at, heads_at, stays-below, row-stays, left-on, right-on, among-inner, inner-among, inner-later, later-row, stretched, left-right}
+use Rattle.shift_method.proofs.Orders.{row_at, vertex_at, stays-below, row-stays, left-on, right-on, among-inner, inner-among, inner-later, later-row, stretched, left-right}
 use Rattle.shift_method.proofs.Stages.{row-first, top-apart, some-order}
 use Rattle.shift_method.proofs.Writes.{same-at, other-at}
 
@@ -105,7 +104,7 @@ module _ (n left right : ℕ) (order : List Removed) (p : IsPeeled n left right 
       pub reached-on : (m : List ℕ) → length m ≡ length l
           → ((v : ℕ) → IsInnerHead (removed_at order k).1 v → slice_index m v + slice_index s.half (removed_at order k).0 ≡ slice_index l (removed_at order k).0 + slice_index s.offset v)
           → ((v : ℕ) → (IsInnerHead (removed_at order k).1 v → ⊥) → slice_index m v ≡ slice_index l v) → AreReached n left right order p x (k + 1) m
-      reached-on m e inner others = record { size = e ∙ r.size; there = there; }
+      reached-on m e inner others = record { size = e ∙ r.size; there = there }
         where
           new : (v : ℕ) → IsInnerHead (removed_at order k).1 v → slice_index m v ≡ x v
           new v i = omega (arith, inner v i, vertex-there, a.kept k (omega arith) h v i)
@@ -173,7 +172,7 @@ module _ (n left right : ℕ) (order : List Removed) (p : IsPeeled n left right 
           → ((v : ℕ) → (IsInnerHead r.1 v → ⊥) → slice_index o v ≡ slice_index m v) → AreReached n left right order p x (k + 1) o
       reached-told o b inner others = reached-on k h l here o (b ∙ ap (λ (q : List ℕ). length q) f)
           (λ v j. subst (λ (q : List ℕ). slice_index o v + slice_index s.half (removed_at order k).0 ≡ slice_index q (removed_at order k).0 + slice_index s.offset v) f
-              (subst (λ (q : Removed). slice_index o v + slice_index s.half q.0 ≡ slice_index m q.0 + slice_index s.offset v) e (inner v (subst (λ (q : Removed). IsInnerHead q.1 v) (sym e) j))))
+          (subst (λ (q : Removed). slice_index o v + slice_index s.half q.0 ≡ slice_index m q.0 + slice_index s.offset v) e (inner v (subst (λ (q : Removed). IsInnerHead q.1 v) (sym e) j))))
           (λ v j. others v (λ i. j (subst (λ (q : Removed). IsInnerHead q.1 v) e i)) ∙ ap (λ (q : List ℕ). slice_index q v) f)
 
 -- a list that was lent as a whole and given back

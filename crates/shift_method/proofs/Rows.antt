@@ -1,24 +1,16 @@
 -- The contours of a canonical order by their vertices, here called rows: what a removal does to them.
-use Rattle.std.proofs.Common.{◌≡◌, ◌≢◌, ◌⊎◌, inl, inr, ℕ, zero, suc, ◌+◌, ◌*◌, ◌-◌, ◌<◌, ◌≤◌, Bool, true, false, not, ◌&&◌, ◌||◌, ◌==◌, nat_lt, List, [], ◌∷◌, ◌++◌, length, map, take, slice_index_or, arith, refl, sym, ap, ◌∙◌, subst, append_assoc}
-use Rattle.std.proofs.lemmas.Bool.{both_ways, cases_Bool, false_from_ne_true, or_cases, eqb-true, eq-eqb, true≢false, and_parts, ltb-true, cases_eq}
+use Rattle.std.proofs.Common.{◌≡◌, ℕ, ◌*◌, ◌<◌, Bool, List, [], ◌∷◌, ◌++◌, map, sym, ap, ◌∙◌, append_assoc}
 use Rattle.std.proofs.lemmas.List.{map-append}
-use Rattle.std.proofs.Math.Seq.{take-suc}
-use Rattle.permutations.specs.Members.{is_member, is_distinct}
-use Rattle.permutations.specs.Cyclic.{first_or, last_or}
-use Rattle.permutations.proofs.Members.{member-head, member-tail, member-cases, member-append, member-append_left, member-append_right, member-append_cases, no_member-cons, no_member-append, distinct-head, distinct-tail, distinct-cons, distinct-append_left, distinct-append_right, distinct-append_apart}
-use Rattle.permutations.proofs.Mapped.{map-member, member-map}
-use Rattle.dart_maps.specs.Map.{twin, face}
-use Rattle.dart_maps.proofs.Darts.{twin-twin, twin-below}
+use Rattle.permutations.specs.Cyclic.{last_or}
+use Rattle.dart_maps.specs.Map.{twin}
+use Rattle.dart_maps.proofs.Darts.{twin-twin}
 use Rattle.multigraph.specs.Graph.{Multigraph}
 use Rattle.faces.specs.Euler.{tail}
 use Rattle.triangulations.specs.Triangulation.{IsTriangulated}
-use Rattle.canonical_orders.specs.Contours.{stays_dart, IsContour, IsRemoval, Successive}
-use Rattle.canonical_orders.specs.Order.{Removed, stays_after, IsCanonicalOrder}
-use Rattle.canonical_orders.proofs.Lists.{ends-with, last-cons, last-cut, last-append, last-member}
-use Rattle.canonical_orders.proofs.Triangles.{stays-tail}
-use Rattle.canonical_orders.proofs.ContourParts.{contour-dart, same-dart, vertex-dart}
+use Rattle.canonical_orders.specs.Contours.{IsContour, IsRemoval}
+use Rattle.canonical_orders.proofs.Lists.{ends-with, last-cons, last-member}
+use Rattle.canonical_orders.proofs.ContourParts.{same-dart}
 use Rattle.canonical_orders.proofs.Arms.{lefts, cut-left, left-on, y-on, front-differs, x-leads, later-tails}
-use Rattle.shift_method.specs.Peeled.{IsPeeled, removed_at, contour_at}
 
 -- w stands between left and right in the row, and the inner vertices stand there in the later row
 pub record IsStretched (row later : List ℕ) (w : ℕ) (heads : List ℕ) : Type 0 where

@@ -1,22 +1,22 @@
 -- Positions of all vertices, from those on the contour: the vertices that are covered keep their offsets.
-use Rattle.std.proofs.Common.{◌≡◌, ◌≢◌, ◌⊎◌, inl, inr, ℕ, zero, suc, ◌+◌, ◌*◌, ◌-◌, ◌<◌, ◌≤◌, ◌==◌, Bool, true, false, cond, List, [], ◌∷◌, ◌++◌, length, map, slice_index, arith, refl, sym, ap, ap₂, ◌∙◌, subst}
-use Rattle.std.proofs.lemmas.Bool.{both_ways, cases_Bool, cases_eq, eq-eqb, ne_eqb, false_from_ne_true}
-use Rattle.permutations.specs.Members.{is_member, is_distinct}
-use Rattle.permutations.proofs.Members.{member-head, member-tail, member-cases, member-append_left, member-append_right, no_member-cons, no_member-append}
-use Rattle.plane_points.proofs.Rising.{Each, each-map, each-first}
+use Rattle.std.proofs.Common.{◌≡◌, ◌≢◌, inl, inr, ℕ, suc, ◌+◌, ◌-◌, ◌<◌, ◌≤◌, ◌==◌, Bool, true, false, cond, List, [], ◌∷◌, ◌++◌, length, map, slice_index, arith, refl, sym, ap, ◌∙◌, subst}
+use Rattle.std.proofs.lemmas.Bool.{both_ways, cases_eq, eq-eqb, ne_eqb, false_from_ne_true}
+use Rattle.permutations.specs.Members.{is_member}
+use Rattle.permutations.proofs.Members.{member-head, member-tail, member-append_right}
+use Rattle.plane_points.proofs.Rising.{Each}
 use Rattle.canonical_orders.specs.Contours.{Successive}
-use Rattle.canonical_orders.specs.Order.{Removed, stays_after}
-use Rattle.canonical_orders.proofs.Lists.{cut-between, turn-map}
+use Rattle.canonical_orders.specs.Order.{Removed}
+use Rattle.canonical_orders.proofs.Lists.{turn-map}
 use Rattle.canonical_orders.proofs.Stacking.{removal-stacked}
 use Rattle.stacked_maps.specs.Drawn.{IsDrawnUnder, OverlooksAll}
 use Rattle.stacked_maps.specs.Laws.{StackingKeepsDrawings}
-use Rattle.shift_method.specs.Shapes.{ShapeState, IsShapeOf, total}
+use Rattle.shift_method.specs.Shapes.{ShapeState, total}
 use Rattle.shift_method.specs.Peeled.{IsPeeled, removed_at, contour_at, IsInnerHead, KeepsOffsets, KeepsAll}
-use Rattle.shift_method.proofs.Stretches.{Sloped, Wide, Offsets, succ-first, succ-second, succ-join, succ-after, each-by, each-of, climbs, descends, pull-back}
+use Rattle.shift_method.proofs.Stretches.{Sloped, Wide, succ-first, succ-second, succ-join, succ-after, each-by, each-of, climbs, descends, pull-back}
 use Rattle.shift_method.proofs.Overlooked.{spot, IsInner, overlooks}
-use Rattle.shift_method.proofs.Orders.{row_at, vertex_at, heads_at, stays_at, zero-below, one-gone, is-gone, stays-before, stays-differs, row-stays, left-on, right-on, among-inner, inner-among, inner-later, inner-off, covered-off, stays-long}
+use Rattle.shift_method.proofs.Orders.{row_at, vertex_at, heads_at, stays_at, zero-below, one-gone, is-gone, stays-before, stays-differs, row-stays, left-on, right-on, inner-later, inner-off, covered-off, stays-long}
 use Rattle.shift_method.proofs.Steps.{IsPlacing}
-use Rattle.shift_method.proofs.Placed.{IsPlaced, cut, inner-cut, w-apart, on-later, not-inner, heads-later, first-row, first-apart, w-in, right-in, last-row, left-in, stretch-slopes, first-kept, back-kept}
+use Rattle.shift_method.proofs.Placed.{IsPlaced, cut, inner-cut, w-apart, on-later, not-inner, heads-later, w-in, last-row, stretch-slopes, first-kept, back-kept}
 
 -- positions z of all vertices that agree with x on the contour, where those that are covered keep their offsets
 pub record IsExtension (n left right : ℕ) (order : List Removed) (p : IsPeeled n left right order) (k : ℕ) (s : ShapeState) (x z : ℕ → ℕ) : Type 0 where
@@ -38,7 +38,7 @@ wide-move : (g h x z : ℕ → ℕ) (u v : ℕ) → h v ≡ g v → z u ≡ x u 
 wide-move g h x z u v a b c e = (omega (arith, a, b, c, e.0), omega (arith, b, c, e.1))
 
 module _ (n left right : ℕ) (order : List Removed) (p : IsPeeled n left right order) (k : ℕ) (l : k < length order) (s : ShapeState) (old : IsPlaced n left right order p (suc k) s)
-  (t : ShapeState) (q : IsPlacing n s t (vertex_at n left right order p k) (cut n left right order p k l).left (cut n left right order p k l).inner (cut n left right order p k l).right) where
+    (t : ShapeState) (q : IsPlacing n s t (vertex_at n left right order p k) (cut n left right order p k l).left (cut n left right order p k l).inner (cut n left right order p k l).right) where
   abbrev row : List ℕ
   row = row_at n left right order p k
 
@@ -76,7 +76,7 @@ module _ (n left right : ℕ) (order : List Removed) (p : IsPeeled n left right 
   off = slice_index t.offset
 
   inner-head : (v : ℕ) → is_member v inner ≡ true → IsInnerHead heads v
-  inner-head v i = record { left = a; inner = inner; right = b; cut = (cut n left right order p k l).stretch; among = i; }
+  inner-head v i = record { left = a; inner = inner; right = b; cut = (cut n left right order p k l).stretch; among = i }
 
   w-row : is_member w row ≡ true
   w-row = last-row n left right order p k l w (w-in n left right order p k l)
@@ -145,18 +145,25 @@ module _ (n left right : ℕ) (order : List Removed) (p : IsPeeled n left right 
 
   -- positions of the row extend to those of the vertices that are covered
   pub extends-on : Extends n left right order p (suc k) s → Extends n left right order p k t
-  extends-on extends x wide = (z, record {
-    agrees = agrees;
-    kept = λ i e d. elim (cases_eq i k) [
-      | inl f ↦ subst (λ (u : ℕ). KeepsOffsets z t (removed_at order u)) (sym f) kept-here
-      | inr f ↦ λ v j. kept-there i (omega (arith, e, f)) d v j
-    ];
-    room = λ i e d. elim (cases_eq i k) [
-      | inl f ↦ subst (λ (u : ℕ). slice_index t.half (vertex_at n left right order p u) ≤ z (vertex_at n left right order p u)) (sym f) (omega (arith, q.half_here, z-here, on-left x wide))
-      | inr f ↦ omega (arith, q.half_else (vertex_at n left right order p i) (placed-before i (omega (arith, e, f)) d), z-else (vertex_at n left right order p i) (placed-before i (omega (arith, e, f)) d),
-          extension.1.room i (omega (arith, e, f)) d)
-    ];
-  })
+  extends-on extends x wide = (
+    z,
+    record {
+      agrees = agrees;
+      kept = λ i e d. elim (cases_eq i k) [
+        | inl f ↦ subst (λ (u : ℕ). KeepsOffsets z t (removed_at order u)) (sym f) kept-here
+        | inr f ↦ λ v j. kept-there i (omega (arith, e, f)) d v j
+      ];
+      room = λ i e d. elim (cases_eq i k) [
+        | inl f ↦ subst (λ (u : ℕ). slice_index t.half (vertex_at n left right order p u) ≤ z (vertex_at n left right order p u)) (sym f) (omega (arith, q.half_here, z-here, on-left x wide))
+        | inr f ↦ omega (
+          arith,
+          q.half_else (vertex_at n left right order p i) (placed-before i (omega (arith, e, f)) d),
+          z-else (vertex_at n left right order p i) (placed-before i (omega (arith, e, f)) d),
+          extension.1.room i (omega (arith, e, f)) d,
+        )
+      ];
+    },
+  )
     where
       guess : ℕ → ℕ
       guess v = cond (is_member v inner) ((x w + off v) - q.half) (x v)
@@ -210,7 +217,7 @@ module _ (n left right : ℕ) (order : List Removed) (p : IsPeeled n left right 
   draws-on law draws x y wide kept same = law p.m p.h p.next p.previous 0 (stays_at n left right order p k) (stays_at n left right order p (suc k)) (contour_at p k) (contour_at p (suc k)) w heads (spot x y)
       p.triangulated (p.canonical.contour k (omega arith)) (p.canonical.contour (suc k) (omega arith)) (p.canonical.removal k l)
       (removal-stacked p.m p.h p.next p.previous 0 (stays_at n left right order p k) (stays_at n left right order p (suc k)) (contour_at p k) (contour_at p (suc k)) w heads p.triangulated (zero-below n left right order p)
-          (p.canonical.contour k (omega arith)) (p.canonical.contour (suc k) (omega arith)) (p.canonical.removal k l) (one-gone n left right order p k l) (is-gone n left right order p k l) (p.canonical.present k l))
+      (p.canonical.contour k (omega arith)) (p.canonical.contour (suc k) (omega arith)) (p.canonical.removal k l) (one-gone n left right order p k l) (is-gone n left right order p k l) (p.canonical.present k l))
       (draws x y (pull x wide (keeps-inner x kept)) (keeps-before x kept) (λ v i. heights v i))
       (subst (λ (r : List ℕ). OverlooksAll (x w, y w) (map (spot x y) r)) (sym (cut n left right order p k l).stretch) seen)
       (omega (arith, ap y p.first, heights left (row-stays n left right order p (suc k) (omega arith) left (left-on n left right order p (suc k) (omega arith))), old.low_left, top, q.some))

@@ -1,6 +1,6 @@
 -- All stages of the shift method, from the two ends alone to all vertices.
-use Rattle.std.proofs.Common.{◌≡◌, ◌≢◌, ◌⊎◌, inl, inr, ℕ, zero, suc, ◌+◌, ◌*◌, ◌-◌, ◌<◌, ◌≤◌, ◌==◌, ◌&&◌, ◌||◌, Bool, true, false, cond, List, [], ◌∷◌, ◌++◌, length, map, take, drop, get_or, slice_index, slice_index_or, replicate, arith, refl, sym, ap, ap₂, ◌∙◌, subst}
-use Rattle.std.proofs.lemmas.Bool.{both_ways, cases_eq, cases_lt, eq-eqb, ne_eqb, lt-ltb}
+use Rattle.std.proofs.Common.{◌≡◌, ◌≢◌, inl, inr, ℕ, zero, suc, ◌+◌, ◌*◌, ◌-◌, ◌<◌, ◌≤◌, ◌==◌, ◌&&◌, ◌||◌, Bool, true, cond, List, [], ◌∷◌, ◌++◌, length, map, drop, slice_index, replicate, arith, refl, sym, ap, ap₂, ◌∙◌, subst}
+use Rattle.std.proofs.lemmas.Bool.{both_ways, cases_lt, eq-eqb, ne_eqb, lt-ltb}
 use Rattle.std.proofs.lemmas.List.{get_or-replicate, length-replicate, get_or_past, length-append}
 use Rattle.std.proofs.Math.Seq.{drop-cons, drop-length}
 use Rattle.permutations.specs.Members.{is_member, is_distinct}
@@ -8,19 +8,18 @@ use Rattle.permutations.proofs.Members.{member-head, member-tail, member-cases, 
 use Rattle.dart_maps.specs.Map.{twin}
 use Rattle.faces.specs.Euler.{tail}
 use Rattle.plane_points.proofs.Rising.{Each}
-use Rattle.stacked_points.proofs.Chains.{Found, any-found, found-each}
+use Rattle.stacked_points.proofs.Chains.{any-found, found-each}
 use Rattle.canonical_orders.specs.Contours.{Successive}
 use Rattle.canonical_orders.specs.Order.{Removed, stays_after}
 use Rattle.canonical_orders.proofs.Triangles.{tail-face}
-use Rattle.canonical_orders.proofs.Lists.{last-append}
 use Rattle.stacked_maps.specs.Drawn.{IsDrawnUnder, contour_points}
 use Rattle.stacked_maps.specs.Laws.{BaseIsDrawn, StackingKeepsDrawings}
-use Rattle.shift_method.specs.Shapes.{ShapeState, IsShapeOf, fresh, total, placed, all_placed, CanStack}
-use Rattle.shift_method.specs.Peeled.{IsPeeled, removed_at, contour_at, IsInnerHead, KeepsOffsets, KeepsAll, ArePositions}
+use Rattle.shift_method.specs.Shapes.{ShapeState, fresh, total, placed, all_placed, CanStack}
+use Rattle.shift_method.specs.Peeled.{IsPeeled, removed_at, contour_at, KeepsAll, ArePositions}
 use Rattle.shift_method.proofs.Stretches.{Sloped, Wide}
 use Rattle.shift_method.proofs.Overlooked.{spot}
 use Rattle.shift_method.proofs.Rows.{IsStretched}
-use Rattle.shift_method.proofs.Orders.{row_at, vertex_at, heads_at, stays_at, zero-below, number-order, row-distinct, row-begins, row-ends, row-last, stays-below, stays-last, left-right}
+use Rattle.shift_method.proofs.Orders.{row_at, vertex_at, heads_at, stays_at, zero-below, number-order, row-distinct, row-last, stays-below, stays-last, left-right}
 use Rattle.shift_method.proofs.Placed.{IsPlaced, cut, can-stack, placing-here, next-placed}
 use Rattle.shift_method.proofs.Spread.{IsExtension, Extends, Draws, extends-on, draws-on}
 
@@ -49,7 +48,7 @@ each-tails P f t (d ∷ l) e = (e.0, each-tails P f t l e.1)
 module _ (n left right : ℕ) (order : List Removed) (p : IsPeeled n left right order) where
   fresh-placed : IsPlaced n left right order p (length order) (fresh n)
   fresh-placed = record {
-    sizes = record { gaps = length-replicate {A = ℕ} n 0; heights = length-replicate {A = ℕ} n 0; halves = length-replicate {A = ℕ} n 0; offsets = length-replicate {A = ℕ} n 0; };
+    sizes = record { gaps = length-replicate {A = ℕ} n 0; heights = length-replicate {A = ℕ} n 0; halves = length-replicate {A = ℕ} n 0; offsets = length-replicate {A = ℕ} n 0 };
     slopes = subst (Successive (Sloped (slice_index (replicate n 0)) (slice_index (replicate n 0)))) (sym (row-last n left right order p)) (inl (omega (arith, zeros-at n left, zeros-at n right)), tt);
     positive = λ v i a b. absurd (ends v (subst (λ (z : List ℕ). is_member v z ≡ true) (row-last n left right order p) i) a b);
     sum = omega (arith, ap (total (slice_index (replicate n 0))) (row-last n left right order p), zeros-at n left, zeros-at n right);
@@ -84,7 +83,7 @@ module _ (n left right : ℕ) (order : List Removed) (p : IsPeeled n left right 
   can-stack-at k l = can-stack n left right order p k l (stage n order (suc k)) (placed-at (suc k) (omega arith))
 
   stage-extends : (d k : ℕ) → k + d ≡ length order → Extends n left right order p k (stage n order k)
-  stage-extends zero k e = at-end k e (λ i s. Extends n left right order p i s) (λ x wide. (x, record { agrees = λ v i. refl; kept = λ i a b v j. absurd (omega (arith, a, b)); room = λ i a b. absurd (omega (arith, a, b)); }))
+  stage-extends zero k e = at-end k e (λ i s. Extends n left right order p i s) (λ x wide. (x, record { agrees = λ v i. refl; kept = λ i a b v j. absurd (omega (arith, a, b)); room = λ i a b. absurd (omega (arith, a, b)) }))
   stage-extends (suc d) k e = let l : k < length order = omega (arith, e) in step l (stage-extends d (suc k) (omega (arith, e)))
     where
       step : k < length order → Extends n left right order p (suc k) (stage n order (suc k)) → Extends n left right order p k (stage n order k)
@@ -209,7 +208,7 @@ module _ (n left right : ℕ) (order : List Removed) (p : IsPeeled n left right 
     unfolding g top
     all-within x a b c kept v l = found-each (λ (q : ℕ × ℕ). q.0 + 4 ≤ 2 * n) (λ (q : ℕ × ℕ). x v ≤ 1 * q.0) (x v + 4 ≤ 2 * n) (λ q i j. omega (arith, i, j)) (contour_points p.h (spot x (slice_index whole.height)) (contour_at p 0))
         (each-tails (λ (q : ℕ × ℕ). q.0 + 4 ≤ 2 * n) (spot x (slice_index whole.height)) (tail p.h) (contour_at p 0)
-            (subst (Each (λ u. x u + 4 ≤ 2 * n)) (sym row-first) (omega (arith, a, gaps-fit), (omega (arith, b, gaps-fit), (omega (arith, c, gaps-fit), tt)))))
+        (subst (Each (λ u. x u + 4 ≤ 2 * n)) (sym row-first) (omega (arith, a, gaps-fit), (omega (arith, b, gaps-fit), (omega (arith, c, gaps-fit), tt)))))
         (any-found (λ (q : ℕ × ℕ). x v ≤ 1 * q.0) (contour_points p.h (spot x (slice_index whole.height)) (contour_at p 0)) ((all-drawn x (slice_index whole.height) a b c kept (λ u i. refl)).inside v stays).left)
       where
         stays : stays_after p.h order 0 v ≡ true
@@ -218,14 +217,17 @@ module _ (n left right : ℕ) (order : List Removed) (p : IsPeeled n left right 
     -- there are such positions
     pub positions : (x : ℕ → ℕ) × ArePositions n left right order whole x
     unfolding g top
-    positions = (e.0, record {
-      at_left = at_left;
-      at_top = at_top;
-      at_right = at_right;
-      kept = e.1.kept;
-      room = λ i l. e.1.room i (omega arith) l;
-      wide = all-within e.0 at_left at_top at_right e.1.kept;
-    })
+    positions = (
+      e.0,
+      record {
+        at_left = at_left;
+        at_top = at_top;
+        at_right = at_right;
+        kept = e.1.kept;
+        room = λ i l. e.1.room i (omega arith) l;
+        wide = all-within e.0 at_left at_top at_right e.1.kept;
+      },
+    )
       where
         ends : ℕ → ℕ
         ends v = cond (v == left) 0 (cond (v == top) (g top) (g top + g right))

@@ -1,11 +1,11 @@
 -- What placing one vertex does to the numbers.
-use Rattle.std.proofs.Common.{◌≡◌, ◌≢◌, ◌⊎◌, inl, inr, ℕ, suc, ◌+◌, ◌*◌, ◌-◌, ◌/◌, ◌<◌, ◌≤◌, true, false, List, [], ◌∷◌, ◌++◌, length, drop, slice_index, slice_set, get_or, arith, refl, sym, ap, ap₂, ◌∙◌, subst}
+use Rattle.std.proofs.Common.{◌≡◌, ◌≢◌, ℕ, suc, ◌+◌, ◌*◌, ◌-◌, ◌/◌, ◌<◌, ◌≤◌, true, false, List, [], ◌∷◌, ◌++◌, length, slice_index, slice_set, arith, refl, sym, ap, ap₂, ◌∙◌, subst}
 use Rattle.std.proofs.Math.ListN.{length-set}
-use Rattle.std.proofs.lemmas.Bool.{both_ways, cases_eq, false_from_ne_true}
+use Rattle.std.proofs.lemmas.Bool.{both_ways}
 use Rattle.std.proofs.lemmas.List.{get_or-set_same, get_or-set_other}
 use Rattle.permutations.specs.Members.{is_member, is_distinct}
 use Rattle.permutations.specs.Cyclic.{first_or}
-use Rattle.permutations.proofs.Members.{member-head, member-tail, member-cases, member-append_left, member-append_right, no_member-head, no_member-tail, distinct-head, distinct-tail, distinct-append_left, distinct-append_apart}
+use Rattle.permutations.proofs.Members.{member-head, member-tail, member-append_left, member-append_right, no_member-head, no_member-tail, distinct-head, distinct-tail, distinct-append_apart}
 use Rattle.shift_method.specs.Shapes.{ShapeState, IsShapeOf, total, one_more, last_of, widened, covered, width_of, half_of, placed, CanStack}
 use Rattle.shift_method.proofs.Stretches.{Offsets, total-more, offsets-same, offsets-first}
 
@@ -60,14 +60,15 @@ covered-else g c (v ∷ l) off u i = covered-else g (c + g v) l (slice_set off v
 
 covered-offsets : (g : ℕ → ℕ) (c : ℕ) (l off : List ℕ) → is_distinct l ≡ true → ((v : ℕ) → is_member v l ≡ true → v < length off) → Offsets g (slice_index (covered g c l off)) c l
 covered-offsets g c [] off d b = tt
-covered-offsets g c (v ∷ l) off d b =
-    (covered-else g (c + g v) l (slice_set off v (c + g v)) v (distinct-head v l d) ∙ same-at off v (c + g v) (b v (member-head v l)),
-    covered-offsets g (c + g v) l (slice_set off v (c + g v)) (distinct-tail v l d) (λ u i. subst (λ (z : ℕ). u < z) (sym (length-set off v (c + g v))) (b u (member-tail u v l i))))
+covered-offsets g c (v ∷ l) off d b = (
+  covered-else g (c + g v) l (slice_set off v (c + g v)) v (distinct-head v l d) ∙ same-at off v (c + g v) (b v (member-head v l)),
+  covered-offsets g (c + g v) l (slice_set off v (c + g v)) (distinct-tail v l d) (λ u i. subst (λ (z : ℕ). u < z) (sym (length-set off v (c + g v))) (b u (member-tail u v l i))),
+)
 
 module _ (n : ℕ) (s : ShapeState) (z : IsShapeOf n s) (w left : ℕ) (inner : List ℕ) (right : ℕ) (distinct : is_distinct (w ∷ left ∷ (inner ++ right ∷ [])) ≡ true)
-  (within : (v : ℕ) → is_member v (w ∷ left ∷ (inner ++ right ∷ [])) ≡ true → v < n) (rest : ℕ)
-  (even : total (slice_index s.gap) (inner ++ right ∷ []) + slice_index s.height right ≡ slice_index s.height left + 2 * rest) (slow : rest ≤ total (slice_index s.gap) (inner ++ right ∷ []))
-  (fits : total (slice_index s.gap) (inner ++ right ∷ []) + slice_index s.height right + slice_index s.height left + 6 ≤ 2 * n) where
+    (within : (v : ℕ) → is_member v (w ∷ left ∷ (inner ++ right ∷ [])) ≡ true → v < n) (rest : ℕ)
+    (even : total (slice_index s.gap) (inner ++ right ∷ []) + slice_index s.height right ≡ slice_index s.height left + 2 * rest) (slow : rest ≤ total (slice_index s.gap) (inner ++ right ∷ []))
+    (fits : total (slice_index s.gap) (inner ++ right ∷ []) + slice_index s.height right + slice_index s.height left + 6 ≤ 2 * n) where
   abbrev whole : List ℕ
   whole = left ∷ (inner ++ right ∷ [])
 
@@ -203,8 +204,12 @@ module _ (n : ℕ) (s : ShapeState) (z : IsShapeOf n s) (w left : ℕ) (inner : 
         (subst (λ (l : List ℕ). Offsets (slice_index twice) (slice_index l) 0 row) (sym offset-is) (covered-offsets (slice_index twice) 0 row s.offset row-distinct (λ v i. subst (λ (k : ℕ). v < k) (sym z.offsets) (row-within v i))));
     half_here = ap (λ (l : List ℕ). slice_index l w) halves-are ∙ same-at s.half w half (subst (λ (k : ℕ). w < k) (sym z.halves) w-within);
     gap_here = ap (λ (l : List ℕ). slice_index l w) gap-is ∙ other-at (slice_set twice w half) right (width - half) w w-right ∙ same-at twice w half (subst (λ (k : ℕ). w < k) (sym twice-length) w-within);
-    gap_right = omega (arith, slow, ap (λ (l : List ℕ). slice_index l right) gap-is,
-        same-at (slice_set twice w half) right (width - half) (subst (λ (k : ℕ). right < k) (sym (length-set twice w half ∙ twice-length)) (row-within right right-in)));
+    gap_right = omega (
+      arith,
+      slow,
+      ap (λ (l : List ℕ). slice_index l right) gap-is,
+      same-at (slice_set twice w half) right (width - half) (subst (λ (k : ℕ). right < k) (sym (length-set twice w half ∙ twice-length)) (row-within right right-in)),
+    );
     offset_else = λ v i. ap (λ (l : List ℕ). slice_index l v) offset-is ∙ covered-else (slice_index twice) 0 row s.offset v i;
     height_else = λ v i. ap (λ (l : List ℕ). slice_index l v) height-is ∙ other-at s.height w (slice_index s.height left + half) v i;
     half_else = λ v i. ap (λ (l : List ℕ). slice_index l v) halves-are ∙ other-at s.half w half v i;

@@ -1,9 +1,9 @@
 -- Lists in which numbers are written: what each turn of a loop keeps.
-use Rattle.std.proofs.Common.{◌≡◌, ◌≢◌, ◌⊎◌, inl, inr, ℕ, zero, suc, ◌+◌, ◌*◌, ◌-◌, ◌<◌, ◌≤◌, ◌^◌, Bool, true, false, List, [], ◌∷◌, ◌++◌, length, take, drop, get_or, slice_index, slice_set, add-one, arith, refl, sym, ap, ap₂, ◌∙◌, subst}
+use Rattle.std.proofs.Common.{◌≡◌, ◌≢◌, ◌⊎◌, inl, inr, ℕ, zero, suc, ◌+◌, ◌-◌, ◌<◌, ◌≤◌, true, false, List, [], ◌∷◌, ◌++◌, length, take, drop, get_or, slice_index, slice_set, arith, refl, sym, ap, ◌∙◌, subst}
 use Rattle.std.proofs.Math.ListN.{length-set}
-use Rattle.std.proofs.Math.Seq.{take-suc, drop-cons, drop-length}
+use Rattle.std.proofs.Math.Seq.{drop-cons, drop-length}
 use Rattle.std.proofs.lemmas.Bool.{both_ways, cases_eq, cases_Bool, false_from_ne_true, false≢true}
-use Rattle.std.proofs.lemmas.List.{get_or-set_same, get_or-set_other, length-append, take_more, take_all}
+use Rattle.std.proofs.lemmas.List.{get_or-set_same, get_or-set_other, take_more, take_all}
 use Rattle.permutations.specs.Members.{is_member}
 use Rattle.permutations.proofs.Members.{member-head, member-tail, member-cases, member-append_left, member-append_right, member-append_cases}
 use Rattle.shift_method.specs.Shapes.{total, covered}
@@ -36,7 +36,7 @@ pub record IsCovering (g : ℕ → ℕ) (vertices first : List ℕ) (i sum : ℕ
   pub size : length offset ≡ length first
 
 pub covering-start : (g : ℕ → ℕ) (vertices first : List ℕ) → IsCovering g vertices first 0 0 first
-covering-start g vertices first = record { sums = omega arith; rest = refl; size = refl; }
+covering-start g vertices first = record { sums = omega arith; rest = refl; size = refl }
 
 pub covering-fits : (g : ℕ → ℕ) (vertices first : List ℕ) (i sum : ℕ) (offset : List ℕ) → i < length vertices → IsCovering g vertices first i sum offset → sum + g (slice_index vertices i) ≤ total g vertices
 covering-fits g vertices first i sum offset l c = omega (arith, c.sums, ap (total g) (drop-cons vertices i 0 l))
@@ -63,11 +63,11 @@ pub record AreWritten (members first offset : List ℕ) (base i : ℕ) (x : List
   pub same : (v : ℕ) → is_member v (take i members) ≡ false → slice_index x v ≡ slice_index first v
 
 pub written-start : (members first offset : List ℕ) (base : ℕ) → AreWritten members first offset base 0 first
-written-start members first offset base = record { size = refl; done = λ v i. absurd (false≢true i); same = λ v i. refl; }
+written-start members first offset base = record { size = refl; done = λ v i. absurd (false≢true i); same = λ v i. refl }
 
 pub written-step : (members first offset : List ℕ) (base i : ℕ) (x : List ℕ) → i < length members → slice_index members i < length x → AreWritten members first offset base i x
     → AreWritten members first offset base (i + 1) (slice_set x (slice_index members i) (base + slice_index offset (slice_index members i)))
-written-step members first offset base i x l b w = record { size = length-set x u (base + slice_index offset u) ∙ w.size; done = done; same = same; }
+written-step members first offset base i x l b w = record { size = length-set x u (base + slice_index offset u) ∙ w.size; done = done; same = same }
   where
     u : ℕ
     u = slice_index members i
@@ -109,7 +109,7 @@ between-ends (a ∷ b ∷ l) h = (a, (last-split b l).0, ap (λ (k : List ℕ). 
     few = omega arith
 
 pub between-inner : (heads : List ℕ) → 2 ≤ length heads → (v : ℕ) → is_member v (take (length heads - 1 - 1) (drop 1 heads)) ≡ true → IsInnerHead heads v
-between-inner heads h v i = let e = between-ends heads h in record { left = e.0; inner = take (length heads - 1 - 1) (drop 1 heads); right = e.1; cut = e.2; among = i; }
+between-inner heads h v i = let e = between-ends heads h in record { left = e.0; inner = take (length heads - 1 - 1) (drop 1 heads); right = e.1; cut = e.2; among = i }
 
 pub inner-between : (heads : List ℕ) → 2 ≤ length heads → (v : ℕ) → IsInnerHead heads v → is_member v (take (length heads - 1 - 1) (drop 1 heads)) ≡ true
 inner-between heads h v j = let e = between-ends heads h in

@@ -1,5 +1,5 @@
 -- Triangulations whose vertices are removed one after the other, and their contours by vertices.
-use Rattle.std.specs.Prelude.{◌≡◌, ℕ, ◌+◌, ◌*◌, ◌<◌, ◌≤◌, true, List, [], ◌∷◌, ◌++◌, length, map, slice_index, slice_index_or}
+use Rattle.std.specs.Prelude.{◌≡◌, ℕ, ◌+◌, ◌*◌, ◌<◌, ◌≤◌, true, List, [], ◌∷◌, ◌++◌, length, slice_index, slice_index_or}
 use Rattle.permutations.specs.Members.{is_member}
 use Rattle.dart_maps.specs.Map.{twin}
 use Rattle.multigraph.specs.Graph.{Multigraph}

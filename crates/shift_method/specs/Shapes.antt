@@ -1,6 +1,6 @@
 -- The numbers that the shift method keeps of each vertex, and what one step does to them (Chrobak and Payne 1995). The heads of a vertex
 -- are its neighbours on the contour on which it is placed, from left to right.
-use Rattle.std.specs.Prelude.{◌≡◌, ◌⊎◌, ℕ, ◌+◌, ◌-◌, ◌*◌, ◌/◌, ◌<◌, ◌≤◌, true, List, [], ◌∷◌, ◌++◌, length, drop, replicate, slice_index, slice_set}
+use Rattle.std.specs.Prelude.{◌≡◌, ℕ, ◌+◌, ◌-◌, ◌*◌, ◌/◌, ◌<◌, ◌≤◌, true, List, [], ◌∷◌, ◌++◌, length, drop, replicate, slice_index, slice_set}
 use Rattle.permutations.specs.Members.{is_member, is_distinct}
 use Rattle.canonical_orders.specs.Order.{Removed}
 
@@ -21,7 +21,7 @@ pub record IsShapeOf (n : ℕ) (s : ShapeState) : Type 0 where
 
 -- nothing is placed yet but the two ends, both at the height 0
 abbrev pub fresh : ℕ → ShapeState
-fresh n = record { gap = replicate n 0; height = replicate n 0; half = replicate n 0; offset = replicate n 0; }
+fresh n = record { gap = replicate n 0; height = replicate n 0; half = replicate n 0; offset = replicate n 0 }
 
 -- the sum of the gaps of these vertices
 abbrev pub total : (ℕ → ℕ) → List ℕ → ℕ

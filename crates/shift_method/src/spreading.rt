@@ -4,8 +4,8 @@ ghost use Rattle.std.specs.Prelude.{◌≡◌, ◌+◌, ◌*◌, ◌<◌, ◌≤
 ghost use Rattle.shift_method.specs.Shapes.{ShapeState, IsShapeOf};
 ghost use Rattle.shift_method.specs.Peeled.{IsPeeled, IsInnerHead, KeepsAll, removed_at, ArePositions};
 
-use canonical_orders::Removal;
 use crate::shape::Shape;
+use canonical_orders::Removal;
 use std::alloc::{AllocError, Global};
 
 // Gives the inner heads of a vertex their positions, from its own.

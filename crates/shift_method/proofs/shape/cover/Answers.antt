@@ -1,5 +1,5 @@
-use Rattle.std.proofs.Common.{ℕ, slice_index, length, arith}
-use Rattle.shift_method.proofs.Writes.{place-member, covering-fits, covering-step, covering-start, covering-end}
+use Rattle.std.proofs.Common.{slice_index, arith}
+use Rattle.shift_method.proofs.Writes.{place-member}
 use Rattle.shift_method.proofs.shape.cover.Goals as goal
 
 pub bounds-gap-v : goal.bounds-gap-v

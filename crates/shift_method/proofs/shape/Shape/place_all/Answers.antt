@@ -1,4 +1,4 @@
-use Rattle.std.proofs.Common.{◌≡◌, ◌-◌, ℕ, [], length, arith, ap, ◌∙◌}
+use Rattle.std.proofs.Common.{◌-◌, [], length, arith, ap, ◌∙◌}
 use Rattle.std.proofs.lemmas.List.{get_or_default}
 use Rattle.canonical_orders.specs.Order.{Removed}
 use Rattle.shift_method.proofs.Fitting.{stack-told, placed-on}
