@@ -6,10 +6,6 @@ ghost use Rattle.stacked_maps.specs.Drawn.{IsDrawnUnder};
 ghost use Rattle.shift_method.specs.Shapes.{ShapeState};
 ghost use Rattle.shift_method.specs.Peeled.{IsPeeled, contour_at};
 
-<<<<<<< HEAD
-use canonical_orders::Removal;
-=======
->>>>>>> f6b16549cf29664511f84cc54ab89b1531b1d629
 use crate::shape::Shape;
 use crate::spreading::positions;
 use canonical_orders::Removal;
