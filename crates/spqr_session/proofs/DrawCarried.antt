@@ -48,7 +48,7 @@ draw-answers setting b s is right = read-answers parallel_codes (λ tree e. refl
     let numbered = setting-numbered setting is b l in
     let limits = numbered.limits in
     let found = drawing_exists tree.part.graph e.rotation block.graph (omega (arith, limits.few_vertices)) (block-connected tree.part.graph one) (two-vertices tree.part.graph block.graph one.has_edge)
-        (entry-right setting s b e right l p).0 (rung-none least (has_parallel tree.part.graph) [] n).0 in
+    (entry-right setting s b e right l p).0 (rung-none least (has_parallel tree.part.graph) [] n).0 in
     (draw_text tree.part b found.0, (found.0, found.1, refl)))
   where
     least : Code
