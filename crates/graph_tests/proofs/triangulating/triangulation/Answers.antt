@@ -1,6 +1,6 @@
 use Rattle.std.proofs.Common.{◌<◌, ◌∙◌, sym, arith}
 use Rattle.graph_tests.proofs.Triangulated.{one-connected}
-use Rattle.graph_tests.proofs.triangulating.dart_count.Goals as goal
+use Rattle.graph_tests.proofs.triangulating.triangulation.Goals as goal
 
 pub triangulate-requires-clause-connected : goal.triangulate-requires-clause-connected
 triangulate-requires-clause-connected c =
