@@ -80,6 +80,12 @@ def scattered(draw, vertices, edges):
     return sorted(present)
 
 
+def one_block(draw, vertices, edges):
+    # with a ring, so that it is one block; some edges fewer, where the ring has them already
+    rim = {tuple(sorted(pair)) for pair in ring(0, vertices)}
+    return mixed(draw, vertices, sorted(rim | set(scattered(draw, vertices, edges - vertices))))
+
+
 def with_paths(pattern, branch, length):
     ends, vertices = [], branch
     for a, b in pattern:
@@ -128,10 +134,10 @@ def tell_all(draw, name, vertices, ends, more):
 
 def shapes(most):
     draw = random.Random(most)
-    for size in (most // 4, most // 2, most * 4 // 5):
-        ends = triangulation(draw, size)
-        tell(f"triangulation_{size}", size, mixed(draw, size, ends))
-        tell(f"triangulation_{size}+1", size, mixed(draw, size, one_more(draw, size, ends, range(size))))
+    size = most * 4 // 5
+    ends = triangulation(draw, size)
+    tell(f"triangulation_{size}", size, mixed(draw, size, ends))
+    tell(f"triangulation_{size}+1", size, mixed(draw, size, one_more(draw, size, ends, range(size))))
     side = round((most * 4 // 5) ** 0.5)
     inner = [y * side + x for y in range(1, side - 1) for x in range(1, side - 1)]
     tell_all(draw, f"grid_{side}x{side}", side * side, grid(side), one_more(draw, side * side, [], inner))
@@ -150,7 +156,7 @@ def shapes(most):
     nest = [pair for k in range(depth) for pair in ring(3 * k, 3)] + [(v, v + 3) for v in range(3 * depth - 3)]
     tell_all(draw, f"nest_{3 * depth}", 3 * depth, nest, [(0, 3 * depth - 2)])
     size = most // 2
-    tell(f"random_{size}", size, scattered(draw, size, 5 * size))
+    tell(f"random_{size}", size, one_block(draw, size, 5 * size))
 
 
 def small(seed, count):

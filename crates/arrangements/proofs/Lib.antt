@@ -19,4 +19,5 @@ pub mod Walked
 pub mod Ranked
 pub mod RankPasses
 pub mod Passed
+pub mod Grouped
 mod Examples

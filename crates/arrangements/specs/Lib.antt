@@ -9,3 +9,4 @@ pub mod Tables
 pub mod Prefixes
 pub mod Crossings
 pub mod Changed
+pub mod Groups

@@ -5,8 +5,10 @@ ghost use Rattle.arrangements.specs.Arranged.{cross};
 ghost use Rattle.arrangements.specs.Refused.{IsLeastCrossing};
 ghost use Rattle.arrangements.specs.Tables.{rank_in};
 ghost use Rattle.arrangements.specs.Prefixes.{ForBlocks};
+ghost use Rattle.arrangements.specs.Groups.{AreNoted, HaveRoom};
 ghost use Rattle.arrangements.specs.Crossings.{count_rank, cross_ranks, IsPassed, IsLeastCrossed, IsCrossingOf};
 
+use crate::groups::Groups;
 use crate::tables::Tables;
 
 // Noted of a rank of which no edge was met.
@@ -90,9 +92,12 @@ fn crossed(met: &mut [u32], ranks: &[u32], rank: u32) -> Option<u32>
     }
 }
 
-// The ranks, all below `bound`, of the least two blocks that cross.
-fn crossing(met: &mut [u32], ranks: &[u32], bound: u32) -> Option<(u32, u32)>
+// The ranks, all below `bound`, of the least two blocks that cross. Only a block that is noted can be the first of them.
+fn crossing(groups: &Groups, met: &mut [u32], ranks: &[u32], bound: u32) -> Option<(u32, u32)>
     requires few { length ranks.now < 2 ^ 32 }
+    requires room { HaveRoom groups.now (length ranks.now) }
+    requires noted { AreNoted ranks.now groups.now.noted.items }
+    requires each { bound ≤ length ranks.now }
     requires size { length met.old < 2 ^ 32 }
     requires bound { bound ≤ length met.old }
     requires below { (i : ℕ) → i < length ranks.now → slice_index ranks.now i < bound }
@@ -101,6 +106,9 @@ fn crossing(met: &mut [u32], ranks: &[u32], bound: u32) -> Option<(u32, u32)>
     ensures size { length met.new ≡ length met.old }
 {
     for rank in 0..bound {
+        if !groups.is_noted(rank) {
+            continue;
+        }
         if let Some(other) = crossed(met, ranks, rank) {
             return Some((rank, other));
         }
@@ -132,20 +140,24 @@ fn write_ranks(tables: &Tables, ranks: &mut [u32], list: &[u32]) -> u32
 // for numbers.
 pub(crate) fn crossing_ranks(
     tables: &Tables,
+    groups: &mut Groups,
     ranks: &mut [u32],
     met: &mut [u32],
     list: &[u32],
 ) -> Option<(u32, u32)>
     requires list { IsPermutation tables.now.edges list.now }
+    requires groups { HaveRoom groups.old (length tables.now.edges) }
     requires ranks { length ranks.old ≡ length tables.now.edges }
     requires met { length met.old ≡ length tables.now.edges }
     ensures least { ForBlocks tables.now (λ block order. MatchOption result ((b c : ℕ)
         → cross block b c list.now ≡ false)
         (λ pair. IsCrossingOf tables.now block list.now pair.0 pair.1)) }
+    ensures groups { HaveRoom groups.new (length tables.now.edges) }
     ensures ranks { length ranks.new ≡ length ranks.old }
     ensures met { length met.new ≡ length met.old }
 {
     tables.keeps();
     let bound = write_ranks(tables, ranks, list);
-    crossing(met, ranks, bound)
+    groups.note_crossing(ranks);
+    crossing(groups, met, ranks, bound)
 }

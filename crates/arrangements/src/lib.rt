@@ -23,9 +23,12 @@
 // The calls work on tables of one vertex, which say of each edge the rank of its block and the edge that follows it there. What is
 // noted of a prefix is which edges are in it, which blocks are opened, and a stack of the edges that come next in the unfinished
 // blocks. To lay an edge takes a search for it among the edges of the vertex, and all else is constant on average, so the first
-// arrangement and the next take time in proportion to d log d for d edges. All room is taken when the tables are made. Two blocks
-// that cross are searched for only in a list that is rejected: a pass through the list for each block, up to the first that
-// crosses another, so blocks times d at worst.
+// arrangement and the next take time in proportion to d log d for d edges. All room is taken when the tables are made.
+//
+// The least two blocks that cross in a list that is rejected are found in two passes. In the first the unfinished blocks lie on a
+// stack of groups, in the order in which they begin. Where an edge comes of a block that has begun before, the groups above its own
+// are unfinished, so it crosses a block of each: all these become one group, and their blocks are noted. So each block that crosses
+// another is noted, and no others; the contract promises the former alone. The second pass is for the least block that is noted.
 //
 // The lemmas that are used most (module of proofs/ in front):
 //   Changes    cross-interleaved, four-cross: blocks cross where their edges alternate along the list; cross-is_alternate: around
@@ -45,9 +48,11 @@
 //   Gaps       gaps-cross, cross-gaps: two blocks cross where edges of the one are in two gaps of the other
 //   Ranked     answer-ranked: blocks cross where their ranks do
 //   RankPasses passed-first, passed-again, passed-other, passed-found, passed-none: a pass through the list of ranks
+//   Grouped    groups-closed, groups-opened, groups-joined, all-noted: the groups of blocks that cross, place by place
 #![tactic(auto)]
 
 mod crossings;
+mod groups;
 mod kept;
 mod making;
 mod prefixes;

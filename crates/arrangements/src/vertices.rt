@@ -11,6 +11,7 @@ ghost use Rattle.arrangements.specs.Changed.{AreKept, IsLeastChangedRank};
 ghost use Rattle.arrangements.specs.Crossings.{IsCrossingOf};
 
 use crate::crossings::crossing_ranks;
+use crate::groups::Groups;
 use crate::kept::changed_rank;
 use crate::making;
 use crate::prefixes::Prefix;
@@ -27,12 +28,14 @@ pub struct VertexOrders {
     expected: Vec<Option<u32>>,
     listed: Vec<u32>,
     met: Vec<u32>,
+    groups: Groups,
 }
 
 impl Model for VertexOrders {
     ghost use Rattle.std.specs.Prelude.{◌≡◌, length};
     ghost use Rattle.arrangements.specs.Tables.{VertexTables};
     ghost use Rattle.arrangements.specs.Prefixes.{HasRoom};
+    ghost use Rattle.arrangements.specs.Groups.{HaveRoom};
 
     ghost Value = { VertexTables };
 
@@ -41,7 +44,8 @@ impl Model for VertexOrders {
     ghost invariant = { λ v. HasRoom v.tables v.prefix
         × (length v.expected.items ≡ length v.tables.edges)
         × (length v.listed.items ≡ length v.tables.edges)
-        × (length v.met.items ≡ length v.tables.edges) };
+        × (length v.met.items ≡ length v.tables.edges)
+        × HaveRoom v.groups (length v.tables.edges) };
 }
 
 impl VertexOrders {
@@ -63,6 +67,7 @@ impl VertexOrders {
         let expected = vec![in alloc; None; edges.len()]?;
         let listed = vec![in alloc; 0; edges.len()]?;
         let met = vec![in alloc; 0; edges.len()]?;
+        let groups = Groups::new(alloc, edges.len())?;
         let followers = Vec::from_slice(alloc, &edges)?;
         Ok(VertexOrders {
             tables: Tables::of(edges, ranks, followers),
@@ -70,6 +75,7 @@ impl VertexOrders {
             expected,
             listed,
             met,
+            groups,
         })
     }
 
@@ -156,7 +162,7 @@ impl VertexOrders {
     }
 
     /// The ranks of the least two blocks that cross in the list; `None` exactly where no two do. The list may begin with any edge.
-    /// Takes no memory; a pass through the list for each block up to the first one that crosses another.
+    /// Takes no memory, and time in proportion to the list, but for a search for each edge.
     pub fn crossing(&mut self, list: &[u32]) -> Option<(u32, u32)>
         requires { IsPermutation self.old.edges list.now }
         ensures exact { ForBlocks self.old (λ block order. MatchOption result ((b c : ℕ)
@@ -164,6 +170,12 @@ impl VertexOrders {
             (λ pair. IsCrossingOf self.old block list.now pair.0 pair.1)) }
         ensures tables { self.new ≡ self.old }
     {
-        crossing_ranks(&self.tables, &mut self.listed, &mut self.met, list)
+        crossing_ranks(
+            &self.tables,
+            &mut self.groups,
+            &mut self.listed,
+            &mut self.met,
+            list,
+        )
     }
 }

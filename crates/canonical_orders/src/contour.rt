@@ -66,7 +66,9 @@ impl Contour {
         unreachable!()
     }
 
-    // A vertex that can be removed, where there is one: one that waits, else the first.
+    // A vertex that can be removed, where there is one: one that waits, else the first. A vertex can come to be one only when a neighbour
+    // is removed or when it comes onto the contour, and waits since then; so the first is not looked for. No proof rests on this, and
+    // it is all that linear time rests on.
     pub(crate) fn next_free(&self, map: &DartMap, waiting: &mut Vec<u32>) -> u32
         requires triangulated { IsTriangulatedMap map.now }
         requires met { IsMet map.now.graph self.now.on.items self.now.met.items }

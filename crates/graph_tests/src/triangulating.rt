@@ -1,9 +1,10 @@
 // Triangulations of small graphs, and of a long path and a large star: how many edges they have.
 
 ghost use Rattle.std.specs.Bool.{OnTrue};
-ghost use Rattle.std.specs.Prelude.{◌≡◌, ◌<◌, ℕ, true};
+ghost use Rattle.std.specs.Prelude.{◌≡◌, ◌<◌, ℕ, true, IfOk, IfSome};
 ghost use Rattle.multigraph.specs.Graph.{IsGraph, edge_count, ends_of};
 ghost use Rattle.graph_theory.specs.Triconnected.{IsSimple, SameEnds};
+ghost use Rattle.canonical_orders.specs.State.{IsTriangulatedMap};
 
 use crate::rotation_systems::lists_of;
 use faces::euler;
@@ -11,7 +12,7 @@ use multigraph::Graph;
 use rotations::{Lists, Rotation};
 use std::alloc::{AllocError, Global};
 use std::test::Fail;
-use triangulations::triangulate;
+use triangulations::{DartMap, triangulate};
 
 // A graph, the edges around each vertex, the least first, and how many darts its triangulation has: 6n - 12 with n vertices.
 struct Row {
@@ -142,14 +143,16 @@ fn is_simple(g: &Graph) -> bool
     true
 }
 
-// How many darts the triangulation of the graph has, with the edges around each vertex in the order of the lists; none where the
-// graph or the order is not as `triangulate` requires.
-fn dart_count(
+// The triangulation of the graph, with the edges around each vertex in the order of the lists; none where the graph or the order is
+// not as `triangulate` requires.
+pub(crate) fn triangulation(
     alloc: Global,
     vertices: u32,
     ends: &[(u32, u32)],
     lists: &Lists,
-) -> Result<Option<u32>, Fail> {
+) -> Result<Option<DartMap>, Fail>
+    ensures { IfOk result (λ found. IfSome found IsTriangulatedMap) }
+{
     let g = Graph::build(alloc, vertices, ends)?;
     let r = Rotation::from_lists(alloc, &g, lists)?;
     let numbers = euler(alloc, &g, &r)?;
@@ -163,7 +166,20 @@ fn dart_count(
         return Ok(None);
     }
     let map = triangulate(alloc, &g, &r)?;
-    Ok(Some(map.dart_count()))
+    Ok(Some(map))
+}
+
+// How many darts this triangulation has.
+fn dart_count(
+    alloc: Global,
+    vertices: u32,
+    ends: &[(u32, u32)],
+    lists: &Lists,
+) -> Result<Option<u32>, Fail> {
+    match triangulation(alloc, vertices, ends, lists)? {
+        Some(map) => Ok(Some(map.dart_count())),
+        None => Ok(None),
+    }
 }
 
 #[test]

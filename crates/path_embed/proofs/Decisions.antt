@@ -1,12 +1,12 @@
 -- A graph with an obstacle has no plane rotation system.
-use Rattle.std.proofs.Common.{◌≡◌, ℕ, ◌<◌, ◌⊎◌, inl, inr, Bool, true, false, List, [], ◌∷◌, length, slice_index, refl, sym, ap, ◌∙◌, subst, arith, Option, None, Some, IfSome, MatchOption}
+use Rattle.std.proofs.Common.{◌≡◌, ℕ, ◌<◌, ◌⊎◌, inl, inr, true, false, List, [], ◌∷◌, length, slice_index, refl, sym, ap, ◌∙◌, subst, arith, Option, None, Some, IfSome, MatchOption}
 use Rattle.std.proofs.lemmas.Bool.{true≢false}
 use Rattle.permutations.specs.Members.{is_member}
 use Rattle.permutations.specs.Relation.{connected}
 use Rattle.permutations.proofs.Members.{no_member-cons}
 use Rattle.permutations.proofs.Relation.{connected-reflexive, connected-symmetric, connected-transitive}
-use Rattle.multigraph.specs.Graph.{Multigraph, IsGraph, edge_count}
-use Rattle.multigraph.specs.Part.{GraphPart, IsPart}
+use Rattle.multigraph.specs.Graph.{Multigraph, IsGraph}
+use Rattle.multigraph.specs.Part.{GraphPart}
 use Rattle.rotations.specs.Rotation.{IsRotationSystem}
 use Rattle.graph_theory.specs.Connected.{IsConnected}
 use Rattle.graph_theory.specs.Triconnected.{IsTriconnected}
@@ -24,7 +24,7 @@ use Rattle.pair_split.specs.declared.components.Kind.{Kind}
 use Rattle.pair_split.specs.declared.components.Kind.TheVariants.{S, P, R, B}
 use Rattle.skeletons.specs.Items.{IsBlockTree}
 use Rattle.skeleton_planes.proofs.Planar.{planar-skeletons}
-use Rattle.path_embed.specs.Planar.{HasPlaneSystem, HasNoPlaneSystem, IsDecided, IsPlanarNode, IsPlanarPart, HasPlanarBlocks}
+use Rattle.path_embed.specs.Planar.{HasPlaneSystem, HasNoPlaneSystem, IsPlanarNode, IsPlanarPart, HasPlanarBlocks}
 use Rattle.path_embed.specs.Found.{IsPartOf, IsObstacle}
 use Rattle.path_embed.specs.declared.deciding.Obstacle.{Obstacle}
 
@@ -37,13 +37,6 @@ not-rigid kind h e = elim h [
     | inr q ↦ true≢false (sym (ap is_rigid (sym q ∙ e)))
   ]
 ]
-
--- what is decided, at each answer
-pub decided-yes : (g : Multigraph) (answer : Bool) → IsDecided g answer → answer ≡ true → HasPlaneSystem g
-decided-yes g answer d e = subst (IsDecided g) e d
-
-pub decided-no : (g : Multigraph) (answer : Bool) → IsDecided g answer → answer ≡ false → HasNoPlaneSystem g
-decided-no g answer d e = subst (IsDecided g) e d
 
 -- each part of a graph with a plane rotation system has one
 pub part-planar : (g : Multigraph) → IsGraph g → (part : GraphPart) → IsPartOf g part → HasPlaneSystem g → HasPlaneSystem part.graph

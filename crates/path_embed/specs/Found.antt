@@ -1,5 +1,5 @@
 -- What is found in a graph that has no plane rotation system.
-use Rattle.std.specs.Prelude.{ℕ, ◌<◌, List, length, slice_index, IfSome}
+use Rattle.std.specs.Prelude.{◌≡◌, ℕ, ◌<◌, length, slice_index, IfSome}
 use Rattle.multigraph.specs.Graph.{Multigraph, edge_count}
 use Rattle.multigraph.specs.Part.{GraphPart, IsPart}
 use Rattle.skeletons.specs.Items.{IsBlockTree}
@@ -18,6 +18,14 @@ pub record IsObstacle (g : Multigraph) (o : Obstacle) : Type 0 where
   pub block : IsPartOf g o.block
   pub tree : IsBlockTree o.block.graph o.tree
   pub node : IsNonplanarNode o.tree o.node o.skeleton
+
+-- an obstacle whose part is this one
+abbrev pub IsObstacleIn : Multigraph → GraphPart → Obstacle → Type 0
+IsObstacleIn g part o = IsObstacle g o × (o.block ≡ part)
+
+-- an obstacle whose skeleton has fewer edges than g
+abbrev pub IsSmaller : Multigraph → Obstacle → Type 0
+IsSmaller g o = IsObstacle g o × (edge_count o.skeleton < edge_count g)
 
 -- a part of g, and an obstacle of it
 pub record IsFound (g : Multigraph) (f : Found) : Type 0 where

@@ -2,3 +2,4 @@
 pub mod Planar
 pub mod Found
 pub mod Carrying
+pub mod Chain

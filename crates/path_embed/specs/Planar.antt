@@ -1,5 +1,5 @@
 -- Graphs that have a plane rotation system, graphs that have none, and the nodes and blocks of either kind.
-use Rattle.std.specs.Prelude.{◌≡◌, ℕ, ◌<◌, Bool, true, false, List, length}
+use Rattle.std.specs.Prelude.{◌≡◌, ℕ, ◌<◌, List, length}
 use Rattle.multigraph.specs.Graph.{Multigraph}
 use Rattle.multigraph.specs.Part.{GraphPart, IsPart}
 use Rattle.faces.specs.Euler.{IsPlaneSystem}
@@ -17,11 +17,6 @@ HasPlaneSystem g = (r : List (List ℕ)) × IsPlaneSystem g r
 -- g has no plane rotation system
 abbrev pub HasNoPlaneSystem : Multigraph → Type 0
 HasNoPlaneSystem g = (r : List (List ℕ)) → IsPlaneSystem g r → ⊥
-
--- the answer says whether g has a plane rotation system
-abbrev pub IsDecided : Multigraph → Bool → Type 0
-IsDecided g true = HasPlaneSystem g
-IsDecided g false = HasNoPlaneSystem g
 
 -- if node k is triconnected, its skeleton has a plane rotation system
 abbrev pub IsPlanarNode : List Node → ℕ → Type 0

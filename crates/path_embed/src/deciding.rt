@@ -2,19 +2,21 @@
 
 ghost use Rattle.std.specs.Prelude.{◌<◌, ℕ, length, IfOk, IfSome, MatchOption};
 ghost use Rattle.multigraph.specs.Graph.{Multigraph, IsWithinLimits};
+ghost use Rattle.faces.specs.Euler.{IsPlaneSystem};
+ghost use Rattle.graph_theory.specs.Block.{IsOneBlock};
 ghost use Rattle.graph_theory.specs.Triconnected.{IsTriconnected};
 ghost use Rattle.blocks.specs.Blocks.{IsBlockStructure, block_at};
 ghost use Rattle.pair_split.specs.declared.components.Kind.TheVariants.{R};
 ghost use Rattle.skeletons.specs.Items.{IsBlockTree};
 ghost use Rattle.skeletons.specs.Moves.{IsNodeOfKind};
-ghost use Rattle.path_embed.specs.Planar.{HasNoPlaneSystem, IsDecided, IsPlanarNode, IsNonplanarNode, IsPlanarPart, HasPlanarBlocks};
-ghost use Rattle.path_embed.specs.Found.{IsObstacle};
+ghost use Rattle.path_embed.specs.Planar.{HasPlaneSystem, HasNoPlaneSystem, IsPlanarNode, IsNonplanarNode, IsPlanarPart, HasPlanarBlocks};
+ghost use Rattle.path_embed.specs.Found.{IsPartOf, IsObstacle, IsObstacleIn};
 
 use blocks::{Blocks, split};
 use multigraph::{Graph, Part};
 use pair_split::{Kind, Splitter};
 use path_rotation::{Drawn, draw};
-use planarity::{Embedded, Embedder};
+use rotations::Rotation;
 use split_comp::SearchSplitter;
 use spqr_tree::Tree;
 use std::alloc::{AllocError, Global};
@@ -32,83 +34,57 @@ pub struct Obstacle {
     pub skeleton: Graph,
 }
 
-// Whether a triconnected graph has a plane rotation system, by the other embedder.
-fn is_embedded<E: Embedder>(alloc: Global, g: &Graph, other: &mut E) -> Result<bool, AllocError>
+// A plane rotation system of a triconnected graph, if it has one.
+pub(crate) fn plane_system(alloc: Global, g: &Graph) -> Result<Option<Rotation>, AllocError>
     requires { IsTriconnected g.now }
-    ensures { IfOk result (IsDecided g.now) }
-{
-    g.keeps_limits();
-    let answer = other.embed(alloc, g)?;
-    match answer {
-        Embedded::Plane(_) => Ok(true),
-        Embedded::Not(_) => Ok(false),
-    }
-}
-
-// Whether a triconnected graph has a plane rotation system: it is drawn, and if that is stuck, the other embedder is called.
-fn is_planar<E: Embedder>(alloc: Global, g: &Graph, other: &mut E) -> Result<bool, AllocError>
-    requires { IsTriconnected g.now }
-    ensures { IfOk result (IsDecided g.now) }
+    ensures { IfOk result (λ answer. MatchOption answer (HasNoPlaneSystem g.now)
+        (IsPlaneSystem g.now)) }
 {
     let drawn = draw(alloc, g)?;
     match drawn {
-        Drawn::Plane(_) => Ok(true),
-        Drawn::NotPlanar => Ok(false),
-        Drawn::Stuck => is_embedded(alloc, g, other),
+        Drawn::Plane(r) => Ok(Some(r)),
+        Drawn::NotPlanar => Ok(None),
+        Drawn::Stuck => unreachable!(),
     }
 }
 
 // The skeleton of the triconnected node k, if it has no plane rotation system.
-fn nonplanar_skeleton<E: Embedder>(
-    alloc: Global,
-    tree: &Tree,
-    k: u32,
-    other: &mut E,
-) -> Result<Option<Graph>, AllocError>
+fn nonplanar_skeleton(alloc: Global, tree: &Tree, k: u32) -> Result<Option<Graph>, AllocError>
     requires node { IsNodeOfKind tree.now k R }
     requires block { (g : Multigraph) × IsBlockTree g tree.now × IsWithinLimits g }
     ensures { IfOk result (λ answer. MatchOption answer (IsPlanarNode tree.now k)
         (IsNonplanarNode tree.now k)) }
 {
     let skeleton = tree.skeleton(alloc, k)?;
-    let planar = is_planar(alloc, &skeleton, other)?;
-    if planar {
-        return Ok(None);
+    let system = plane_system(alloc, &skeleton)?;
+    match system {
+        Some(_) => Ok(None),
+        None => Ok(Some(skeleton)),
     }
-    Ok(Some(skeleton))
 }
 
 // The skeleton of node k, if the node is triconnected and the skeleton has no plane rotation system.
-fn skeleton_if_nonplanar<E: Embedder>(
-    alloc: Global,
-    tree: &Tree,
-    k: u32,
-    other: &mut E,
-) -> Result<Option<Graph>, AllocError>
+fn skeleton_if_nonplanar(alloc: Global, tree: &Tree, k: u32) -> Result<Option<Graph>, AllocError>
     requires node { k < length tree.now }
     requires block { (g : Multigraph) × IsBlockTree g tree.now × IsWithinLimits g }
     ensures { IfOk result (λ answer. MatchOption answer (IsPlanarNode tree.now k)
         (IsNonplanarNode tree.now k)) }
 {
     match tree.kind(k) {
-        Kind::R => nonplanar_skeleton(alloc, tree, k, other),
+        Kind::R => nonplanar_skeleton(alloc, tree, k),
         Kind::S | Kind::P | Kind::B => Ok(None),
     }
 }
 
 // The first triconnected node whose skeleton has no plane rotation system, and the skeleton.
-fn nonplanar_node<E: Embedder>(
-    alloc: Global,
-    tree: &Tree,
-    other: &mut E,
-) -> Result<Option<(u32, Graph)>, AllocError>
+fn nonplanar_node(alloc: Global, tree: &Tree) -> Result<Option<(u32, Graph)>, AllocError>
     requires block { (g : Multigraph) × IsBlockTree g tree.now × IsWithinLimits g }
     ensures { IfOk result (λ answer. MatchOption answer
         ((k : ℕ) → k < length tree.now → IsPlanarNode tree.now k)
         (λ found. IsNonplanarNode tree.now found.0 found.1)) }
 {
     for k in 0..tree.node_count() {
-        let answer = skeleton_if_nonplanar(alloc, tree, k, other)?;
+        let answer = skeleton_if_nonplanar(alloc, tree, k)?;
         match answer {
             Some(skeleton) => return Ok(Some((k, skeleton))),
             None => {}
@@ -117,23 +93,21 @@ fn nonplanar_node<E: Embedder>(
     Ok(None)
 }
 
-// Block b of the graph, if it has no plane rotation system.
-fn nonplanar_block<E: Embedder>(
+// The block, its tree and a node, if it has no plane rotation system.
+pub(crate) fn obstacle_in(
     alloc: Global,
     g: &Graph,
-    blocks: &Blocks,
-    b: u32,
-    other: &mut E,
+    block: Part,
 ) -> Result<Option<Obstacle>, AllocError>
-    requires structure { IsBlockStructure g.now blocks.now }
-    requires block { b < length blocks.now.blocks }
-    ensures { IfOk result (λ answer. MatchOption answer
-        (IsPlanarPart g.now (block_at blocks.now.blocks b)) (IsObstacle g.now)) }
+    requires part { IsPartOf g.now block }
+    requires one { IsOneBlock block.graph }
+    ensures { IfOk result (λ answer. MatchOption answer (HasPlaneSystem block.graph)
+        (IsObstacleIn g.now block)) }
 {
-    let block = g.part(alloc, blocks.edges(b))?;
+    let _ = g; // for the contract alone
     let comps = SearchSplitter::new().split(alloc, block.graph())?;
     let tree = Tree::assemble(alloc, block.graph(), comps)?;
-    let answer = nonplanar_node(alloc, &tree, other)?;
+    let answer = nonplanar_node(alloc, &tree)?;
     match answer {
         Some(found) => Ok(Some(Obstacle {
             block,
@@ -145,12 +119,28 @@ fn nonplanar_block<E: Embedder>(
     }
 }
 
-// The first of the blocks that has no plane rotation system.
-fn first_nonplanar<E: Embedder>(
+// Block b of the graph, if it has no plane rotation system.
+fn nonplanar_block(
     alloc: Global,
     g: &Graph,
     blocks: &Blocks,
-    other: &mut E,
+    b: u32,
+) -> Result<Option<Obstacle>, AllocError>
+    requires structure { IsBlockStructure g.now blocks.now }
+    requires block { b < length blocks.now.blocks }
+    ensures { IfOk result (λ answer. MatchOption answer
+        (IsPlanarPart g.now (block_at blocks.now.blocks b)) (IsObstacle g.now)) }
+{
+    let block = g.part(alloc, blocks.edges(b))?;
+    let answer = obstacle_in(alloc, g, block)?;
+    Ok(answer)
+}
+
+// The first of the blocks that has no plane rotation system.
+fn first_nonplanar(
+    alloc: Global,
+    g: &Graph,
+    blocks: &Blocks,
 ) -> Result<Option<Obstacle>, AllocError>
     requires { IsBlockStructure g.now blocks.now }
     ensures { IfOk result (λ answer. MatchOption answer
@@ -158,7 +148,7 @@ fn first_nonplanar<E: Embedder>(
         (IsObstacle g.now)) }
 {
     for b in 0..blocks.block_count() {
-        let answer = nonplanar_block(alloc, g, blocks, b, other)?;
+        let answer = nonplanar_block(alloc, g, blocks, b)?;
         match answer {
             Some(found) => return Ok(Some(found)),
             None => {}
@@ -171,18 +161,14 @@ fn first_nonplanar<E: Embedder>(
 /// triconnected skeletons of its tree have (Di Battista and Tamassia 1996), and each of these is drawn. Returns the first block that
 /// has none, with such a skeleton; the graph then has none. `None`: each block has one.
 ///
-/// The other embedder is called only for skeletons whose drawing is stuck. Fails only if memory runs out.
-pub fn obstacle_of<E: Embedder>(
-    alloc: Global,
-    g: &Graph,
-    other: &mut E,
-) -> Result<Option<Obstacle>, AllocError>
+/// Fails only if memory runs out.
+pub fn obstacle_of(alloc: Global, g: &Graph) -> Result<Option<Obstacle>, AllocError>
     ensures decided { IfOk result (λ answer. MatchOption answer (HasPlanarBlocks g.now)
         (IsObstacle g.now)) }
     ensures nonplanar { IfOk result (λ answer. IfSome answer (λ _. HasNoPlaneSystem g.now)) }
 {
     g.keeps_limits();
     let blocks = split(alloc, g)?;
-    let answer = first_nonplanar(alloc, g, &blocks, other)?;
+    let answer = first_nonplanar(alloc, g, &blocks)?;
     Ok(answer)
 }

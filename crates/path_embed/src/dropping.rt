@@ -8,7 +8,6 @@ ghost use Rattle.path_embed.specs.Found.{IsRest};
 use crate::marks::{mark, mark_all, marked_below};
 use crate::rest::{Rest, find};
 use multigraph::{Graph, Numbers};
-use planarity::Embedder;
 use std::alloc::{AllocError, Global};
 
 // A piece of a list: up to so many of its numbers, from a place on.
@@ -60,18 +59,17 @@ fn edges_without(
 }
 
 // Leaves out the items that are marked, if what is left has no plane rotation system. Returns whether it is done.
-pub(crate) fn leave_out<E: Embedder>(
+pub(crate) fn leave_out(
     alloc: Global,
     g: &Graph,
     rest: &mut Rest,
     left_out: &[bool],
-    other: &mut E,
 ) -> Result<bool, AllocError>
     requires { IsRest g.now rest.old }
     ensures { IfOk result (λ _. IsRest g.now rest.new) }
 {
     let edges = edges_without(alloc, g, &rest.routes, left_out)?;
-    let answer = find(alloc, g, &edges, other)?;
+    let answer = find(alloc, g, &edges)?;
     match answer {
         Some(found) => {
             *rest = Rest::of(alloc, g, found)?;

@@ -9,7 +9,6 @@ use crate::carrying::edge_route;
 use crate::deciding::{Obstacle, obstacle_of};
 use block_obstruct::item_routes;
 use multigraph::{Graph, Numbers, Part};
-use planarity::Embedder;
 use std::alloc::{AllocError, Global};
 
 // A part of a graph without plane rotation system, and an obstacle of the part.
@@ -28,18 +27,13 @@ pub(crate) struct Rest {
 }
 
 // Whether the part that these edges make has an obstacle: the part and the obstacle.
-pub(crate) fn find<E: Embedder>(
-    alloc: Global,
-    g: &Graph,
-    edges: &[u32],
-    other: &mut E,
-) -> Result<Option<Found>, AllocError>
+pub(crate) fn find(alloc: Global, g: &Graph, edges: &[u32]) -> Result<Option<Found>, AllocError>
     requires rising { Rises edges.now }
     requires within { (i : ℕ) → i < length edges.now → slice_index edges.now i < edge_count g.now }
     ensures { IfOk result (λ answer. IfSome answer (IsFound g.now)) }
 {
     let whole = g.part(alloc, edges)?;
-    let answer = obstacle_of(alloc, whole.graph(), other)?;
+    let answer = obstacle_of(alloc, whole.graph())?;
     match answer {
         Some(obstacle) => Ok(Some(Found { whole, obstacle })),
         None => Ok(None),

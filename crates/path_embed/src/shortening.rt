@@ -1,6 +1,6 @@
 // Items left out as long as the rest has no plane rotation system: pieces first, and last each item alone.
 
-ghost use Rattle.std.specs.Prelude.{IfOk};
+ghost use Rattle.std.specs.Prelude.{◌<◌, IfOk};
 ghost use Rattle.graph_theory.specs.Triconnected.{IsTriconnected};
 ghost use Rattle.path_embed.specs.Found.{IsRest};
 
@@ -9,133 +9,95 @@ use crate::marks::mark;
 use crate::orders::{Order, items_in};
 use crate::rest::Rest;
 use multigraph::Graph;
-use planarity::Embedder;
 use std::alloc::{AllocError, Global};
 
-// How many pieces may be needed one after another before the order is given up, and how few items are tried alone at once.
-const NEEDED: u32 = 24;
-
+// How few items are tried alone at once.
 const FEW: usize = 12;
 
-// A walk over the pieces of a list: where it is, and how many pieces were needed since one was left out.
-#[derive(Clone, Copy)]
-struct Walk {
-    piece: Piece,
-    needed: u32,
-}
-
-impl Walk {
-    // A walk over a list of this length, by halves.
-    fn over(count: usize) -> Walk {
-        Walk {
-            piece: Piece {
-                from: 0,
-                size: count / 2,
-            },
-            needed: 0,
+impl Piece {
+    // The first of so many pieces of a list of this length. It begins half a piece after the list: edges near the root of a search,
+    // which are the first of an order, are often needed.
+    fn first(count: usize, pieces: usize) -> Piece
+        requires { 0 < pieces }
+    {
+        let size = count / pieces;
+        Piece {
+            from: size / 2,
+            size,
         }
     }
 
-    // The walk after a piece was left out: it goes on at the same place of the new list, with pieces no larger.
-    fn anew(self, count: usize) -> Walk {
-        let Piece { from, size } = self.piece;
-        Walk {
-            piece: Piece {
-                from: if from < count { from } else { 0 },
-                size: size.min(count / 2),
-            },
-            needed: 0,
+    // The piece after it.
+    fn next(self) -> Piece {
+        Piece {
+            from: self.from.saturating_add(self.size),
+            size: self.size,
         }
     }
 
-    // The walk after a piece was needed: at the next one, of half the size from the beginning of the list on if that was the last.
-    fn next(self, count: usize) -> Walk {
-        let Piece { from, size } = self.piece;
-        let piece = if count.saturating_sub(from) > size {
-            Piece {
-                from: from.saturating_add(size),
-                size,
-            }
-        } else {
-            Piece {
-                from: 0,
-                size: size / 2,
-            }
-        };
-        Walk {
-            piece,
-            needed: self.needed.saturating_add(1),
+    // The piece at the same place, of no more items than these.
+    fn at_most(self, size: usize) -> Piece {
+        Piece {
+            from: self.from,
+            size: self.size.min(size),
         }
-    }
-
-    // Whether there is nothing more to try.
-    fn is_over(self) -> bool {
-        self.piece.size == 0 || self.needed >= NEEDED
     }
 }
 
-// Leaves out pieces of the items in this order. Returns whether some were.
-fn phase<E: Embedder>(
+// Goes once over so many pieces of the items in this order, and leaves out those that can be. Returns whether some were.
+fn pass(
     alloc: Global,
     g: &Graph,
     rest: &mut Rest,
     order: Order,
-    other: &mut E,
+    pieces: usize,
 ) -> Result<bool, AllocError>
     requires triconnected { IsTriconnected g.now }
     requires rest { IsRest g.now rest.old }
+    requires pieces { 0 < pieces }
     ensures { IfOk result (λ _. IsRest g.now rest.new) }
 {
     let mut list = items_in(alloc, g, rest, order)?;
-    let mut walk = Walk::over(list.len());
+    let mut piece = Piece::first(list.len(), pieces);
     let mut any = false;
     for _turn in 0..u64::MAX {
-        if walk.is_over() {
+        if piece.size == 0 || piece.from >= list.len() {
             break;
         }
-        let left_out = marks_of(alloc, rest.count(), &list, walk.piece)?;
-        if leave_out(alloc, g, rest, &left_out, other)? {
+        let left_out = marks_of(alloc, rest.count(), &list, piece)?;
+        if leave_out(alloc, g, rest, &left_out)? {
             list = items_in(alloc, g, rest, order)?;
-            walk = walk.anew(list.len());
+            piece = piece.at_most(list.len() / pieces);
             any = true;
         } else {
-            walk = walk.next(list.len());
+            piece = piece.next();
         }
     }
     Ok(any)
 }
 
-// Leaves out pieces in both orders by turns, as long as some can be.
-fn leave_out_pieces<E: Embedder>(
-    alloc: Global,
-    g: &Graph,
-    rest: &mut Rest,
-    other: &mut E,
-) -> Result<(), AllocError>
+// Leaves out pieces in both orders by turns: halves, and smaller ones where none of these can be left out.
+fn leave_out_pieces(alloc: Global, g: &Graph, rest: &mut Rest) -> Result<(), AllocError>
     requires triconnected { IsTriconnected g.now }
     requires rest { IsRest g.now rest.old }
     ensures { IfOk result (λ _. IsRest g.now rest.new) }
 {
+    let mut pieces: usize = 2;
     for _turn in 0..u64::MAX {
-        if rest.count() <= FEW {
+        if rest.count() <= FEW || pieces > rest.count() {
             break;
         }
-        let fronds = phase(alloc, g, rest, Order::Fronds, other)?;
-        let others = phase(alloc, g, rest, Order::OffTree, other)?;
+        let fronds = pass(alloc, g, rest, Order::Fronds, pieces)?;
+        let others = pass(alloc, g, rest, Order::OffTree, pieces)?;
         if !fronds && !others {
-            break;
+            pieces = pieces.saturating_mul(2);
         }
     }
     Ok(())
 }
 
 // Leaves out item after item, until each one is needed.
-fn leave_out_items<E: Embedder>(
-    alloc: Global,
-    g: &Graph,
-    rest: &mut Rest,
-    other: &mut E,
-) -> Result<(), AllocError>
+fn leave_out_items(alloc: Global, g: &Graph, rest: &mut Rest) -> Result<(), AllocError>
     requires { IsRest g.now rest.old }
     ensures { IfOk result (λ _. IsRest g.now rest.new) }
 {
@@ -150,7 +112,7 @@ fn leave_out_items<E: Embedder>(
         }
         let mut left_out = vec![in alloc; false; rest.count()]?;
         mark(&mut left_out, item);
-        if leave_out(alloc, g, rest, &left_out, other)? {
+        if leave_out(alloc, g, rest, &left_out)? {
             needed = 0;
         } else {
             item = item.saturating_add(1);
@@ -161,16 +123,12 @@ fn leave_out_items<E: Embedder>(
 }
 
 // What is left of a triconnected graph without plane rotation system when all is left out that can be.
-pub(crate) fn shorten<E: Embedder>(
-    alloc: Global,
-    g: &Graph,
-    other: &mut E,
-) -> Result<Rest, AllocError>
+pub(crate) fn shorten(alloc: Global, g: &Graph) -> Result<Rest, AllocError>
     requires { IsTriconnected g.now }
     ensures { IfOk result (IsRest g.now) }
 {
     let mut rest = Rest::all(alloc, g)?;
-    leave_out_pieces(alloc, g, &mut rest, other)?;
-    leave_out_items(alloc, g, &mut rest, other)?;
+    leave_out_pieces(alloc, g, &mut rest)?;
+    leave_out_items(alloc, g, &mut rest)?;
     Ok(rest)
 }

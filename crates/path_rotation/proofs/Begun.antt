@@ -3,12 +3,13 @@ use Rattle.std.proofs.Common.{◌≡◌, ◌∙◌, ℕ, ◌<◌, inl, inr, Bool
 use Rattle.std.proofs.Math.ListN.{set}
 use Rattle.std.proofs.lemmas.Bool.{cases_lt}
 use Rattle.std.proofs.lemmas.List.{get_or-replicate, get_or_past, length-replicate, length-set}
+use Rattle.permutations.proofs.Count.{count-positive}
 use Rattle.multigraph.specs.Graph.{Multigraph, edge_count, ends_of, is_end, IsGraph, numbers_below}
 use Rattle.multigraph.specs.Marks.{is_marked}
 use Rattle.multigraph.proofs.Below.{length-numbers_below, get_or-numbers_below}
 use Rattle.faces.specs.Euler.{dart_count}
 use Rattle.faces.proofs.Walk.{marked-set}
-use Rattle.path_rotation.specs.Fitting.{IsSketch}
+use Rattle.path_rotation.specs.Fitting.{IsSketch, drawn_count}
 use Rattle.path_rotation.proofs.DrawingKept.{edge-drawn}
 use Rattle.path_rotation.proofs.ForcedSteps.{start-forced, start-tables}
 
@@ -49,3 +50,7 @@ begun g ok l drawn on next label de oe ne le = record {
 
     still : (d : ℕ) → d < dart_count g → slice_index next d ≡ d
     still d i = ap (λ (s : List ℕ). slice_index s d) ne ∙ get_or-numbers_below (dart_count g) d 0 i
+
+-- so an edge is drawn
+pub begun-count : (g : Multigraph) → 0 < edge_count g → (drawn : List Bool) → drawn ≡ set (replicate (edge_count g) false) 0 true → 0 < drawn_count g drawn
+begun-count g l drawn e = count-positive (edge_count g) (is_marked drawn) 0 l (ap (λ (s : List Bool). is_marked s 0) e ∙ one-marked (edge_count g) 0 0 l)

@@ -1,18 +1,20 @@
 -- What is drawn is a drawing, by its tables: one edge at first, and still with a path more.
-use Rattle.std.proofs.Common.{◌≡◌, ◌∙◌, ℕ, ◌/◌, ◌<◌, Bool, true, false, ◌==◌, List, slice_index, refl, sym, ap, subst}
+use Rattle.std.proofs.Common.{◌≡◌, ◌∙◌, ℕ, ◌/◌, ◌<◌, Bool, true, false, ◌&&◌, ◌==◌, List, slice_index, refl, sym, ap, subst, arith}
 use Rattle.permutations.specs.Permutation.{Permutes}
 use Rattle.permutations.proofs.Orbits.{orbit-ext}
-use Rattle.multigraph.specs.Graph.{Multigraph, edge_count, other_end, IsGraph}
+use Rattle.permutations.proofs.Search.{some-witness}
+use Rattle.multigraph.specs.Graph.{Multigraph, edge_count, is_end, other_end, IsGraph}
 use Rattle.multigraph.specs.Marks.{is_marked}
 use Rattle.multigraph.proofs.DartEnds.{dart_from-of_dart}
 use Rattle.dart_maps.specs.Map.{twin, same_face}
 use Rattle.dart_maps.specs.Path.{path_inserted}
-use Rattle.dart_maps.proofs.Euler.{plane-ext}
+use Rattle.dart_maps.proofs.Euler.{plane-ext, still-plane}
 use Rattle.faces.specs.Euler.{tail, dart_from, dart_count}
 use Rattle.std.proofs.Math.Path.{fun_ext}
 use Rattle.path_separation.specs.Drawn.{IsDrawing, IsUncut, darts_along}
-use Rattle.path_separation.proofs.Drawings.{edge-drawing, path-drawing}
+use Rattle.path_separation.proofs.Drawings.{edge-drawing, path-drawing, finished-drawing}
 use Rattle.path_rotation.specs.Forced.{is_drawn, AreTables, LeadsOff, IsPathDrawn, IsDrawingBy}
+use Rattle.path_rotation.specs.Finish.{IsPlaneOrder}
 use Rattle.path_rotation.proofs.PathTables.{edge-off}
 
 -- a permutation below n is one by the same values
@@ -61,3 +63,20 @@ path-drawn g ok drawn on next tables t l off start along z p c k lc hc tc lk hk 
           (λ d i. w.darts_inserted d i ∙ ap (λ (y : ℕ). path_inserted c y (darts_along g (other_end g (t / 2) (tail g t)) along) k (slice_index next) d) (sym (dart_from-of_dart g t ok l)))
           more.1,
     )
+
+-- where all edges are drawn, the map is that of a plane rotation system
+pub drawn-order : (g : Multigraph) → IsGraph g → (drawn : List Bool) (next : List ℕ) → IsDrawingBy g drawn next → ((e : ℕ) → e < edge_count g → is_marked drawn e ≡ true) → IsPlaneOrder g next
+drawn-order g ok drawn next s all = finished-drawing g ok (is_marked drawn) (slice_index next) s.0 s.1 all
+
+-- and where there is no edge
+pub none-order : (g : Multigraph) → IsGraph g → edge_count g ≡ 0 → (next : List ℕ) → IsPlaneOrder g next
+none-order g ok z next = finished-drawing g ok (λ e. false) (slice_index next) (slice_index next) (record {
+  map = record {
+    permutes = record { forth = λ x l. absurd (omega (arith, l, z)); back = λ x l. absurd (omega (arith, l, z)); back_forth = λ x l. absurd (omega (arith, l, z)); forth_back = λ x l. absurd (omega (arith, l, z)) };
+    alone = λ d l. absurd (omega (arith, l, z));
+    tails = λ d l. absurd (omega (arith, l, z));
+    vertices = λ c d l. absurd (omega (arith, l, z));
+  };
+  plane = still-plane (edge_count g) (slice_index next) (λ d l. absurd (omega (arith, l, z)));
+  uncut = λ u v w h. let e = some-witness (edge_count g) (λ e. false && is_end g v e) h in absurd (omega (arith, e.1, z));
+}) (λ e l. absurd (omega (arith, l, z)))

@@ -18,3 +18,8 @@ mod Begun
 mod BoardSteps
 mod Assembled
 mod Finished
+mod Attached
+mod Settled
+mod LastLook
+mod FreeLabels
+mod LastWay

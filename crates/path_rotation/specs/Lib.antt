@@ -4,4 +4,5 @@ pub mod Fitting
 pub mod Search
 pub mod Finish
 pub mod Insertion
+pub mod Settling
 pub mod Outcome

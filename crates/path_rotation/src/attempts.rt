@@ -65,7 +65,7 @@ fn way_to(
 fn find_way(
     g: &Graph,
     board: &Board,
-    feet: &[u32],
+    attached: &[u32],
     fits: &mut Fits,
     t: u32,
     c: u32,
@@ -78,7 +78,7 @@ fn find_way(
     ensures room { IfOk result (λ _. HaveRoom g.now fits.new.notes.items fits.new.depth.items fits.new.passed.items) }
     ensures way { IfOk result (λ answer. IfSome answer (IsWayTo g.now board.now.drawn.items board.now.on.items board.now.label.items t c fits.new.path.items)) }
 {
-    for z in feet {
+    for z in attached {
         if let Some(k) = way_to(g, board, fits, t, c, *z)? {
             return Ok(Some(k));
         }
@@ -134,14 +134,14 @@ fn choose(
     gather(g, &board.on, search, &mut fits.notes, &mut fits.depth, t)?;
     darts_at(g, &board.drawn, tail(g, t), &mut fits.corners)?;
     let other = one_of_two(&board.next, &fits.corners, first);
-    exclude_all(g, board, &search.feet, fits, t)?;
+    exclude_all(g, board, &search.attached, fits, t)?;
     if fits.corners.is_empty() {
         return Ok(Choice::Nowhere);
     }
     let Some(c) = only_or(&fits.corners, other) else {
         return Ok(Choice::Open);
     };
-    let Some(k) = find_way(g, board, &search.feet, fits, t, c)? else {
+    let Some(k) = find_way(g, board, &search.attached, fits, t, c)? else {
         return Ok(Choice::Open);
     };
     if is_on_face(g, &board.next, twin(c), twin(k)) {

@@ -4,9 +4,9 @@ ghost use Rattle.std.specs.Prelude.{◌≡◌, ◌<◌, ℕ, length, slice_index
 ghost use Rattle.permutations.specs.Cyclic.{first_or};
 ghost use Rattle.multigraph.specs.Graph.{incident_edges};
 ghost use Rattle.multigraph.specs.Darts.{dart_count, dart_from};
+ghost use Rattle.graph_theory.specs.Triconnected.{IsTriconnected};
 ghost use Rattle.path_rotation.specs.Finish.{AreListed, ArePassed, IsPlaneOrder};
 ghost use Rattle.path_rotation.specs.Outcome.{IsDrawn};
-ghost use Rattle.path_rotation.specs.declared.outcome.Drawn.TheVariants.{Stuck};
 
 use crate::outcome::Drawn;
 use faces::euler;
@@ -67,8 +67,8 @@ fn lists_of(alloc: Global, g: &Graph, next: &[u32]) -> Result<Lists, AllocError>
 pub(crate) fn finish(alloc: Global, g: &Graph, next: &[u32]) -> Result<Drawn, AllocError>
     requires darts { length next.now ≡ dart_count g.now }
     requires within { (d : ℕ) → d < dart_count g.now → slice_index next.now d < dart_count g.now }
-    ensures drawn { IfOk result (IsDrawn g.now) }
-    ensures whole { IfOk result (λ drawn. IsPlaneOrder g.now next.now → drawn ≡ Stuck → ⊥) }
+    requires whole { IsTriconnected g.now → IsPlaneOrder g.now next.now }
+    ensures { IfOk result (IsDrawn g.now) }
 {
     g.keeps_limits();
     let lists = lists_of(alloc, g, next)?;

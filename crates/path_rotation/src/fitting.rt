@@ -141,7 +141,7 @@ fn exclude(g: &Graph, board: &Board, fits: &mut Fits, t: u32, z: u32) -> Result<
 pub(crate) fn exclude_all(
     g: &Graph,
     board: &Board,
-    feet: &[u32],
+    attached: &[u32],
     fits: &mut Fits,
     t: u32,
 ) -> Result<(), AllocError>
@@ -153,7 +153,7 @@ pub(crate) fn exclude_all(
     ensures room { IfOk result (λ _. HaveRoom g.now fits.new.notes.items fits.new.depth.items fits.new.passed.items) }
     ensures fitting { IfOk result (λ _. AreFitting g.now board.now.drawn.items board.now.on.items board.now.label.items t fits.new.corners.items) }
 {
-    for z in feet {
+    for z in attached {
         if fits.corners.is_empty() {
             break;
         }

@@ -1,6 +1,6 @@
 // The labels of the faces, and tests of the map.
 
-ghost use Rattle.std.specs.Prelude.{◌≡◌, ◌<◌, ℕ, true, if◌then◌else◌, length, slice_index};
+ghost use Rattle.std.specs.Prelude.{◌≡◌, ◌<◌, ℕ, true, false, if◌then◌else◌, length, slice_index};
 ghost use Rattle.multigraph.specs.Graph.{edge_count};
 ghost use Rattle.multigraph.specs.Darts.{dart_count};
 ghost use Rattle.dart_maps.specs.Map.{same_face};
@@ -71,7 +71,8 @@ pub(crate) fn is_on_face(g: &Graph, next: &[u32], from: u32, to: u32) -> bool
 pub(crate) fn is_involution(g: &Graph, next: &[u32]) -> bool
     requires darts { length next.now ≡ dart_count g.now }
     requires within { (d : ℕ) → d < dart_count g.now → slice_index next.now d < dart_count g.now }
-    ensures { result ≡ true → IsInvolution (edge_count g.now) next.now }
+    ensures turns { result ≡ true → IsInvolution (edge_count g.now) next.now }
+    ensures moves { result ≡ false → IsInvolution (edge_count g.now) next.now → ⊥ }
 {
     for d in 0..dart_count(g) {
         let after = next[d as usize];

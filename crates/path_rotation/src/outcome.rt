@@ -9,7 +9,7 @@ pub enum Drawn {
     Plane(Rotation),
     /// It has no plane rotation system.
     NotPlanar,
-    /// Neither was found: each path that is left fits several faces. This says nothing of the graph.
+    /// Neither was found: each path that is left fits several faces. The graph is not triconnected.
     Stuck,
 }
 

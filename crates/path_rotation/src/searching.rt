@@ -43,7 +43,7 @@ fn meet(on: &[bool], search: &mut Search, v: u32) -> Result<bool, AllocError> {
         return Ok(false);
     };
     if *is_on {
-        enlist(&mut search.met, &mut search.feet, v)
+        enlist(&mut search.met, &mut search.attached, v)
     } else {
         enlist(&mut search.seen, &mut search.list, v)
     }
@@ -87,9 +87,9 @@ pub(crate) fn gather(
 ) -> Result<(), AllocError>
     requires { t < dart_count g.now }
 {
-    unmark(&mut search.met, &search.feet);
+    unmark(&mut search.met, &search.attached);
     search.list.clear();
-    search.feet.clear();
+    search.attached.clear();
     let first = head(g, t);
     if meet(on, search, first)? {
         note(notes, depths, first, t / 2, 0);

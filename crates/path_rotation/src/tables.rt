@@ -23,7 +23,7 @@ pub(crate) struct Search {
     pub seen: Vec<bool>,
     pub met: Vec<bool>,
     pub list: Vec<u32>,
-    pub feet: Vec<u32>,
+    pub attached: Vec<u32>,
 }
 
 // The corners that may fit a bridge: for each vertex reached the edge by which it was and how many edges away it is; stamps on the
@@ -48,7 +48,7 @@ impl Search {
             seen: vec![in alloc; false; n]?,
             met: vec![in alloc; false; n]?,
             list: Vec::with_capacity(alloc, n)?,
-            feet: Vec::with_capacity(alloc, n)?,
+            attached: Vec::with_capacity(alloc, n)?,
         })
     }
 }

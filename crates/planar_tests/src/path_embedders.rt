@@ -15,62 +15,41 @@ use quick_embed::embed_by;
 use std::alloc::{AllocError, Global};
 use std::test::Fail;
 
-// An embedder that notes the most edges that it was asked for.
-#[derive(Debug, Drop)]
-struct Measured {
-    most: u32,
-    embedder: ContractEmbedder,
-}
-
-impl Embedder for Measured {
-    fn embed(&mut self, alloc: Global, g: &Graph) -> Result<Embedded, AllocError> {
-        self.most = self.most.max(g.edge_count());
-        self.embedder.embed(alloc, g)
-    }
-}
-
-// What is returned for the graph, and the most edges that the other embedder was asked for; nothing where the graph is not
-// triconnected.
-fn answer_for(alloc: Global, graph: &Graph) -> Result<Option<(Embedded, u32)>, AllocError>
-    ensures { IfOk result (λ answer. IfSome answer (λ found. IsEmbedding graph.now found.0)) }
+// What is returned for the graph; nothing where it is not triconnected.
+fn answer_for(alloc: Global, graph: &Graph) -> Result<Option<Embedded>, AllocError>
+    ensures { IfOk result (λ answer. IfSome answer (IsEmbedding graph.now)) }
 {
     if !is_triconnected(alloc, graph)? {
         return Ok(None);
     }
-    let mut embedder = PathEmbedder {
-        other: Measured {
-            most: 0,
-            embedder: ContractEmbedder,
-        },
-    };
-    let answer = embedder.embed(alloc, graph)?;
-    Ok(Some((answer, embedder.other.most)))
+    let answer = PathEmbedder.embed(alloc, graph)?;
+    Ok(Some(answer))
 }
 
-// Whether the answer is as expected, and the other embedder was asked for graphs of ten edges at most.
+// Whether the answer is as expected.
 fn is_answered(alloc: Global, graph: &Graph, expected: &Expected) -> Result<bool, Fail> {
-    let Some((answer, most)) = answer_for(alloc, graph)? else {
+    let Some(answer) = answer_for(alloc, graph)? else {
         return Ok(false);
     };
     match (answer, expected) {
         (Embedded::Plane(r), Expected::Plane(numbers)) => {
-            Ok(most == 0 && is_plane(alloc, graph, &r, *numbers)?)
+            Ok(is_plane(alloc, graph, &r, *numbers)?)
         }
         (Embedded::Not(s), Expected::Not(pattern)) => {
-            Ok(most <= 10 && s.kind == *pattern && check(alloc, graph, &s)?)
+            Ok(s.kind == *pattern && check(alloc, graph, &s)?)
         }
         _ => Ok(false),
     }
 }
 
-// Whether the graph has a certificate, and the other embedder was asked for graphs of ten edges at most.
+// Whether the graph has a certificate.
 fn is_refuted(alloc: Global, graph: &Graph) -> Result<bool, Fail> {
-    let Some((answer, most)) = answer_for(alloc, graph)? else {
+    let Some(answer) = answer_for(alloc, graph)? else {
         return Ok(false);
     };
     match answer {
         Embedded::Plane(_) => Ok(false),
-        Embedded::Not(s) => Ok(most <= 10 && check(alloc, graph, &s)?),
+        Embedded::Not(s) => Ok(check(alloc, graph, &s)?),
     }
 }
 
@@ -181,10 +160,7 @@ fn is_answered_after(alloc: Global, mistake: Mistake, row: &Row) -> Result<bool,
     if !is_triconnected(alloc, &graph)? {
         return Ok(false);
     }
-    let mut fallback = PathEmbedder {
-        other: ContractEmbedder,
-    };
-    let answer = embed_by(alloc, &mut Mistaken { mistake }, &mut fallback, &graph)?;
+    let answer = embed_by(alloc, &mut Mistaken { mistake }, &mut PathEmbedder, &graph)?;
     match (answer, &row.expected) {
         (Embedded::Plane(r), Expected::Plane(numbers)) => {
             Ok(is_plane(alloc, &graph, &r, *numbers)?)
@@ -231,7 +207,7 @@ fn random_graph(alloc: Global, seed: &mut u64, vertices: u32) -> Result<Graph, F
 
 // Whether both embedders find that the graph is planar, or both that it is not; nothing where it is not triconnected.
 fn planar_for_both(alloc: Global, graph: &Graph) -> Result<Option<(bool, bool)>, AllocError> {
-    let Some((answer, _)) = answer_for(alloc, graph)? else {
+    let Some(answer) = answer_for(alloc, graph)? else {
         return Ok(None);
     };
     if !is_triconnected(alloc, graph)? {
@@ -316,7 +292,7 @@ static PLANAR: [(u32, &[u32]); 3] = [
 // The skeleton that is found in the graph of these ends.
 fn found_in(alloc: Global, vertices: u32, ends: &'static [u32]) -> Result<Option<[u32; 2]>, Fail> {
     let graph = graph_with(alloc, vertices, ends)?;
-    match obstacle_of(alloc, &graph, &mut ContractEmbedder)? {
+    match obstacle_of(alloc, &graph)? {
         None => Ok(None),
         Some(found) => Ok(Some([found.skeleton.vertex_count(), found.skeleton.edge_count()])),
     }

@@ -1,6 +1,5 @@
 // The methods by which blocks are split and embedded, for reports and for summaries.
 
-use contract_embed::ContractEmbedder;
 use path_embed::PathEmbedder;
 use quick_embed::QuickEmbedder;
 use split_comp::SearchSplitter as BlockSplitter;
@@ -10,12 +9,9 @@ pub fn block_splitter() -> BlockSplitter {
     BlockSplitter::new()
 }
 
-/// How triconnected graphs are embedded: quickly, and path by path if no quick result is accepted; small certificates by
-/// contraction.
-pub fn block_embedder() -> QuickEmbedder<PathEmbedder<ContractEmbedder>> {
+/// How triconnected graphs are embedded: quickly, and path by path if no quick result is accepted.
+pub fn block_embedder() -> QuickEmbedder<PathEmbedder> {
     QuickEmbedder {
-        fallback: PathEmbedder {
-            other: ContractEmbedder,
-        },
+        fallback: PathEmbedder,
     }
 }

@@ -7,7 +7,9 @@ use Rattle.multigraph.specs.Graph.{Multigraph}
 use Rattle.multigraph.specs.Part.{GraphPart}
 use Rattle.pair_split.specs.Tutte.{Node}
 use Rattle.skeletons.specs.Items.{IsBlockTree}
+use Rattle.rotations.specs.Runs.{mirror_image}
 use Rattle.faces.specs.Euler.{IsPlaneSystem}
+use Rattle.faces.proofs.MapMirror.{mirror-system, mirror-image-plane}
 use Rattle.skeletons.specs.Moves.{Move, moves_between}
 use Rattle.skel_embed.specs.Block.{BlockState, lock_at, IsBlockState}
 use Rattle.skel_embed.specs.declared.planes.Outcome.{Outcome}
@@ -21,7 +23,7 @@ use Rattle.spqr_session.specs.Trees.{BlockTree, tree_at}
 use Rattle.spqr_session.specs.State.{Embedding, Family, entry_at}
 use Rattle.spqr_session.specs.Embedded.{BlockView, view_tree, view_entry, view_at, block_view, IsEmbedded}
 use Rattle.embed_moves.specs.Made.{Fits}
-use Rattle.spqr_session.specs.Moved.{all_moved}
+use Rattle.spqr_session.specs.Moved.{all_moved, LeadBack}
 use Rattle.spqr_session.specs.History.{entry_moved, entry_locked, family_moved, family_locked, walk, redone, undone, steps_before, steps_after}
 use Rattle.spqr_session.specs.Commands.History.{is_none}
 use Rattle.spqr_session.specs.Board.{BoardView, family_on, embedded_at, changed_board, board_view, IsBoard, IsCarried, LeadsTo, StandsAt, CanReplace}
@@ -75,6 +77,22 @@ carried-right part p new moves h a e = record {
     nodes : new.tree ≡ p.tree
     nodes = ap (λ (x : BlockState). x.tree) e
 
+-- and one that was mirrored
+pub mirrored-right : (part : GraphPart) (p new : BlockState) → IsEmbedded part (Plane p) → new.rotation ≡ mirror_image p.rotation
+    → new ≡ record { graph = p.graph; tree = p.tree; rotation = new.rotation; choices = new.choices; locks = p.locks } → IsEmbedded part (Plane new)
+mirrored-right part p new h m e = record {
+  graph = ap (λ (x : BlockState). x.graph) e ∙ h.graph;
+  tree = subst (IsBlockTree part.graph) (sym nodes) h.tree;
+  certificate = h.certificate;
+  entry = (
+    subst (IsPlaneSystem part.graph) (sym m) (record { system = mirror-system part.graph p.rotation h.entry.0.system; plane = mirror-image-plane part.graph p.rotation h.tree.graph h.entry.0.system h.entry.0.plane }),
+    ap (λ (x : BlockState). length x.locks) e ∙ h.entry.1 ∙ sym (ap (λ (t : List Node). length t) nodes),
+  );
+}
+  where
+    nodes : new.tree ≡ p.tree
+    nodes = ap (λ (x : BlockState). x.tree) e
+
 module _ (views : List BlockView) (b : ℕ) (e : Embedding) (at : StandsAt views b e) where
   within : b < length (map view_entry views)
   within = omega (arith, at.within, length-map views view_entry)
@@ -99,16 +117,14 @@ module _ (views : List BlockView) (b : ℕ) (e : Embedding) (at : StandsAt views
       after : BlockView
       after = record { tree = (view_at views b).tree; certificate = (view_at views b).certificate; entry = Some new }
 
-  -- the moves between two plane rotation systems lead from the one to the other
-  pub moves-lead : (q : List (List ℕ)) (locks : List Bool) (forth back : List kept.Move) → locks ≡ e.locks → IsBlockTree (view_at views b).tree.part.graph (view_at views b).tree.nodes
-      → IsPlaneSystem (view_at views b).tree.part.graph e.rotation → IsPlaneSystem (view_at views b).tree.part.graph q
-      → as_moves forth ≡ moves_between (view_at views b).tree.nodes e.rotation q → as_moves back ≡ moves_between (view_at views b).tree.nodes q e.rotation
-      → LeadsTo views b (record { rotation = q; locks = locks }) (Moves b forth back)
-  moves-lead q locks forth back same tree p s f g = record {
-    is_step = (there, rights forth e.rotation q f ahead.0, rights back q e.rotation g behind.0);
-    forth = moves-forth (map view_tree views) (family_on views) b e new within stands (as_moves forth) (leads forth e.rotation q f ahead.1) same ∙ sym (family-set views b after);
+  -- moves that lead to another rotation system, and back
+  pub made-leads : (q : List (List ℕ)) (locks : List Bool) (forth back : List kept.Move) → locks ≡ e.locks → All (Fits (view_at views b).tree.nodes) (as_moves forth) → All (Fits (view_at views b).tree.nodes) (as_moves back)
+      → all_moved (view_at views b).tree.nodes (as_moves forth) e.rotation ≡ q → all_moved (view_at views b).tree.nodes (as_moves back) q ≡ e.rotation → LeadsTo views b (record { rotation = q; locks = locks }) (Moves b forth back)
+  made-leads q locks forth back same fit_forth fit_back to from = record {
+    is_step = (there, rights forth fit_forth, rights back fit_back);
+    forth = moves-forth (map view_tree views) (family_on views) b e new within stands (as_moves forth) (leads forth e.rotation q to) same ∙ sym (family-set views b after);
     back = ap (family_moved (map view_tree views) b (as_moves back)) (family-set views b after)
-        ∙ moves-back (map view_tree views) (family_on views) b e new within stands (as_moves back) (leads back q e.rotation g behind.1) same;
+        ∙ moves-back (map view_tree views) (family_on views) b e new within stands (as_moves back) (leads back q e.rotation from) same;
   }
     where
       new : Embedding
@@ -117,6 +133,20 @@ module _ (views : List BlockView) (b : ℕ) (e : Embedding) (at : StandsAt views
       after : BlockView
       after = record { tree = (view_at views b).tree; certificate = (view_at views b).certificate; entry = Some new }
 
+      rights : (moves : List kept.Move) → All (Fits (view_at views b).tree.nodes) (as_moves moves) → All (Fits (tree_at (map view_tree views) b).nodes) (as_moves moves)
+      rights moves a = subst (λ (x : BlockTree). All (Fits x.nodes) (as_moves moves)) (sym (trees-at views b)) a
+
+      leads : (moves : List kept.Move) (r t : List (List ℕ)) → all_moved (view_at views b).tree.nodes (as_moves moves) r ≡ t → all_moved (tree_at (map view_tree views) b).nodes (as_moves moves) r ≡ t
+      leads moves r t a = ap (λ (x : BlockTree). all_moved x.nodes (as_moves moves) r) (trees-at views b) ∙ a
+
+  -- the moves between two plane rotation systems lead from the one to the other
+  pub moves-lead : (q : List (List ℕ)) (locks : List Bool) (forth back : List kept.Move) → locks ≡ e.locks → IsBlockTree (view_at views b).tree.part.graph (view_at views b).tree.nodes
+      → IsPlaneSystem (view_at views b).tree.part.graph e.rotation → IsPlaneSystem (view_at views b).tree.part.graph q
+      → as_moves forth ≡ moves_between (view_at views b).tree.nodes e.rotation q → as_moves back ≡ moves_between (view_at views b).tree.nodes q e.rotation
+      → LeadsTo views b (record { rotation = q; locks = locks }) (Moves b forth back)
+  moves-lead q locks forth back same tree p s f g = made-leads q locks forth back same (subst (All (Fits nodes)) (sym f) ahead.0) (subst (All (Fits nodes)) (sym g) behind.0)
+      (ap (λ (l : List Move). all_moved nodes l e.rotation) f ∙ ahead.1) (ap (λ (l : List Move). all_moved nodes l q) g ∙ behind.1)
+    where
       nodes : List Node
       nodes = (view_at views b).tree.nodes
 
@@ -125,12 +155,6 @@ module _ (views : List BlockView) (b : ℕ) (e : Embedding) (at : StandsAt views
 
       behind : All (Fits nodes) (moves_between nodes q e.rotation) × (all_moved nodes (moves_between nodes q e.rotation) q ≡ e.rotation)
       behind = between-made (view_at views b).tree.part.graph nodes tree q e.rotation s p
-
-      rights : (moves : List kept.Move) (r t : List (List ℕ)) → as_moves moves ≡ moves_between nodes r t → All (Fits nodes) (moves_between nodes r t) → All (Fits (tree_at (map view_tree views) b).nodes) (as_moves moves)
-      rights moves r t h a = subst (λ (x : BlockTree). All (Fits x.nodes) (as_moves moves)) (sym (trees-at views b)) (subst (All (Fits nodes)) (sym h) a)
-
-      leads : (moves : List kept.Move) (r t : List (List ℕ)) → as_moves moves ≡ moves_between nodes r t → all_moved nodes (moves_between nodes r t) r ≡ t → all_moved (tree_at (map view_tree views) b).nodes (as_moves moves) r ≡ t
-      leads moves r t h a = ap (λ (x : BlockTree). all_moved x.nodes (as_moves moves) r) (trees-at views b) ∙ ap (λ (l : List Move). all_moved nodes l r) h ∙ a
 
   -- so it is between the block that stands and one that can take its place
   pub plane-leads : (present q : BlockState) (forth back : List kept.Move) → block_view (view_at views b).tree.part (Plane present) ≡ view_at views b → IsEmbedded (view_at views b).tree.part (Plane present)
@@ -185,6 +209,19 @@ module _ (views : List BlockView) (b : ℕ) (e : Embedding) (v w : BlockView) (o
   pub put-done : (board : BoardView) → board_view views old ≡ board → board_view (slice_set views b v) new ≡ changed_board board b e
   put-done board is = ap (λ (x : BlockView). board_view (slice_set views b x) new) same ∙ board-changed views (embedded_at views b e) old new s (trees-kept views b after refl) h added leads.is_step leads.back leads.forth
       ∙ ap (λ (x : BoardView). changed_board x b e) is
+
+-- moves made of a block that stands on the board, or what they lead to, with a step of them
+module _ (views : List BlockView) (b : ℕ) (e : Embedding) (v w : BlockView) (old new : UndoHistory) (forth back : List kept.Move) (q : List (List ℕ)) (h : IsBoard views old) (stands : StandsAt views b e) (at : w ≡ get_or views b w)
+    (is : v ≡ record { tree = w.tree; certificate = w.certificate; entry = Some (record { rotation = q; locks = e.locks }) }) (fit : All (Fits (view_at views b).tree.nodes) (as_moves forth)) (to : all_moved (view_at views b).tree.nodes (as_moves forth) e.rotation ≡ q)
+    (returns : LeadBack (view_at views b).tree.nodes e.rotation (as_moves forth) (as_moves back)) (added : IsAdded old new (Moves b forth back)) where
+  leads : LeadsTo views b (record { rotation = q; locks = e.locks }) (Moves b forth back)
+  leads = made-leads views b e stands q e.locks forth back refl fit returns.fit to (ap (all_moved (view_at views b).tree.nodes (as_moves back)) (sym to) ∙ returns.returns)
+
+  pub made-right : IsBoard (slice_set views b v) new
+  made-right = put-right views b (record { rotation = q; locks = e.locks }) v w old new (Moves b forth back) h stands.within at is leads added
+
+  pub made-done : board_view (slice_set views b v) new ≡ changed_board (board_view views old) b (record { rotation = q; locks = e.locks })
+  made-done = put-done views b (record { rotation = q; locks = e.locks }) v w old new (Moves b forth back) h stands.within at is leads added (board_view views old) refl
 
 -- the part of a block with what was found of it
 pub view-part : (part : GraphPart) (outcome : Outcome) → (block_view part outcome).tree.part ≡ part

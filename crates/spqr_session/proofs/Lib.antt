@@ -27,9 +27,9 @@ pub mod TakeCarried
 pub mod ConvertCarried
 mod CountSteps
 pub mod Planes
-pub mod MovePlans
+pub mod MoveVerdicts
 pub mod InnerKeys
-pub mod PermutePlans
+pub mod PermuteVerdicts
 pub mod WalkPlans
 pub mod MemberLines
 pub mod TakePlans
@@ -53,7 +53,9 @@ pub mod Walks
 mod MovedExamples
 pub mod Families
 pub mod Boards
+pub mod WaysBack
 pub mod BoardSteps
 pub mod BoardStates
+pub mod MovesMade
 pub mod Sessions
 pub mod ReadBack

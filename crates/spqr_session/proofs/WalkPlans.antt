@@ -25,7 +25,7 @@ use Rattle.spqr_session.proofs.Ladders.{rung-hit, rung-missed, refused-first, ca
 use Rattle.spqr_session.proofs.BlockCarried.{block-in}
 use Rattle.spqr_session.proofs.Plans.{present-at, changed-seen}
 use Rattle.spqr_session.proofs.Planes.{seen_embedding, SeenPlane, same-list, its-list, own-list, not-over, over}
-use Rattle.spqr_session.proofs.MovePlans.{planar-missed, entry-own}
+use Rattle.spqr_session.proofs.MoveVerdicts.{planar-missed, entry-own}
 
 module _ (v : BlockView) (p : BlockState) (seen : SeenPlane v p) where
   abbrev here : Embedding

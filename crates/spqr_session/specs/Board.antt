@@ -1,10 +1,14 @@
 -- The blocks of a session with the families that were before and after: what commands change.
 use Rattle.std.specs.Prelude.{◌≡◌, ℕ, ◌<◌, List, [], ◌∷◌, length, map, slice_set, Some}
+use Rattle.rotations.specs.Runs.{mirror_image}
+use Rattle.faces.specs.Euler.{IsPlaneSystem}
+use Rattle.skeletons.specs.Moves.{Move, Lead}
 use Rattle.skel_embed.specs.Block.{BlockState}
 use Rattle.undo_log.specs.History as undo_log
 use Rattle.undo_log.specs.declared.step.Step.{Step}
 use Rattle.spqr_session.specs.State.{Embedding, Family, State}
 use Rattle.spqr_session.specs.Embedded.{BlockView, view_tree, view_certificate, view_entry, view_at}
+use Rattle.spqr_session.specs.Moved.{AreOfNodes}
 use Rattle.spqr_session.specs.History.{walk, redone, undone, steps_before, steps_after, IsStepOf, IsHistory}
 
 -- the view of the blocks, and the earlier and the later families, of each the nearest first
@@ -86,3 +90,24 @@ pub record CanReplace (views : List BlockView) (b : ℕ) (e : Embedding) (plane 
   pub graph : plane.graph ≡ (view_at views b).tree.part.graph
   pub tree : plane.tree ≡ (view_at views b).tree.nodes
   pub locks : plane.locks ≡ e.locks
+
+-- moves of block b can be made: it is there and planar, and they are moves of its tree, each of another node
+pub record CanMake (views : List BlockView) (b : ℕ) (moves : List Move) : Type 0 where
+  pub entry : Embedding
+  pub stands : StandsAt views b entry
+  pub are : AreOfNodes (view_at views b).tree.nodes moves
+
+-- moves of block b were made: one after the other, and through plane rotation systems, they lead from its embedding before to the one
+-- after; the locks stay
+pub record AreMade (before : BoardView) (b : ℕ) (moves : List Move) (after : BoardView) : Type 0 where
+  pub old : Embedding
+  pub stands : StandsAt before.views b old
+  pub rotation : List (List ℕ)
+  pub lead : Lead (view_at before.views b).tree.part.graph (view_at before.views b).tree.nodes (IsPlaneSystem (view_at before.views b).tree.part.graph) moves old.rotation rotation
+  pub after_is : after ≡ changed_board before b (record { rotation = rotation; locks = old.locks })
+
+-- block b has the mirror image of its embedding; the locks stay
+pub record IsMirroredAt (before : BoardView) (b : ℕ) (after : BoardView) : Type 0 where
+  pub old : Embedding
+  pub stands : StandsAt before.views b old
+  pub after_is : after ≡ changed_board before b (record { rotation = mirror_image old.rotation; locks = old.locks })

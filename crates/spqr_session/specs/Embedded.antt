@@ -7,6 +7,7 @@ use Rattle.kuratowski.specs.declared.subdivision.Subdivision.{Subdivision}
 use Rattle.multigraph.specs.Graph.{Multigraph}
 use Rattle.multigraph.specs.Part.{GraphPart}
 use Rattle.skeletons.specs.Items as items
+use Rattle.faces.specs.Euler.{IsPlaneSystem}
 use Rattle.skel_embed.specs.Block.{lock_at, IsBlockState}
 use Rattle.skel_embed.specs.declared.planes.Outcome.{Outcome}
 use Rattle.skel_embed.specs.declared.planes.Outcome.TheVariants.{Plane, Not}
@@ -56,6 +57,10 @@ pub record IsEmbedded (part : GraphPart) (outcome : Outcome) : Type 0 where
   pub tree : items.IsBlockTree part.graph (block_view part outcome).tree.nodes
   pub certificate : IsCertificate part.graph (block_view part outcome).certificate
   pub entry : IsEntry (block_view part outcome).tree (block_view part outcome).certificate (block_view part outcome).entry
+
+-- the nodes are the tree of the part, and the embedding of a planar block is a plane rotation system of it
+abbrev pub IsInPlane : BlockView → Type 0
+IsInPlane v = (e : Embedding) → v.entry ≡ Some e → items.IsBlockTree v.tree.part.graph v.tree.nodes × IsPlaneSystem v.tree.part.graph e.rotation
 
 -- a block of these edges at the start of a session, where the file has this start
 pub record IsStartBlock (start : Option (List (List ℕ))) (g : Multigraph) (edges : List ℕ) (v : BlockView) : Type 0 where

@@ -1,5 +1,6 @@
 -- What changes of a block make of a family, families along a list of changes, and the steps of the history as such changes.
 use Rattle.std.specs.Prelude.{◌≡◌, ℕ, ◌<◌, ◌≤◌, Bool, List, [], ◌∷◌, length, take, drop, reverse, slice_set, Option, None, Some, All, ⊤}
+use Rattle.rotations.specs.Runs.{mirror_image}
 use Rattle.pair_split.specs.Tutte.{Node}
 use Rattle.skeletons.specs.Moves.{Move}
 use Rattle.skel_embed.specs.Values.{as_moves}
@@ -20,6 +21,11 @@ entry_moved nodes moves (Some e) = Some (record { rotation = all_moved nodes mov
 abbrev pub entry_locked : ℕ → Bool → Option Embedding → Option Embedding
 entry_locked k on None = None
 entry_locked k on (Some e) = Some (record { rotation = e.rotation; locks = slice_set e.locks k on })
+
+-- the mirror image of a rotation system; the locks stay
+abbrev pub entry_mirrored : Option Embedding → Option Embedding
+entry_mirrored None = None
+entry_mirrored (Some e) = Some (record { rotation = mirror_image e.rotation; locks = e.locks })
 
 -- the family with this entry of block b
 abbrev pub entry_set : Family → ℕ → Option Embedding → Family

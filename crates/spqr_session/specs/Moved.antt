@@ -1,13 +1,17 @@
--- What moves make of a rotation system: flips and permutes as functions.
-use Rattle.std.specs.Prelude.{ℕ, ◌==◌, not, cond, List, [], ◌∷◌, length, map, filter, reverse}
+-- What moves make of a rotation system: flips and permutes as functions; and moves that lead back, or to the mirror image.
+use Rattle.std.specs.Prelude.{◌≡◌, ℕ, ◌==◌, true, not, cond, List, [], ◌∷◌, length, map, filter, reverse, All}
 use Rattle.std.specs.List.{concat}
 use Rattle.permutations.specs.Cyclic.{first_or, turned, from_least}
+use Rattle.permutations.specs.Members.{is_distinct}
 use Rattle.multigraph.specs.Graph.{numbers_below}
 use Rattle.rotations.specs.Rotation.{order_at}
-use Rattle.pair_split.specs.Tutte.{Node, group}
+use Rattle.rotations.specs.Runs.{mirror_image}
+use Rattle.pair_split.specs.Tutte.{Node, node_at, group}
 use Rattle.skeletons.specs.Items.{has_vertex, least_vertex}
 use Rattle.skeletons.specs.Round.{keys_met}
-use Rattle.skeletons.specs.Moves.{Move, flip, permute, moved_node}
+use Rattle.skeletons.specs.Choices.{choice}
+use Rattle.skeletons.specs.Moves.{Move, flip, permute, moved_node, move_of_kind}
+use Rattle.embed_moves.specs.Made.{Fits}
 
 -- the group with the key k, in the order in which it is visited on the way around from a member with another key
 abbrev pub group_round : (ℕ → ℕ) → List ℕ → ℕ → List ℕ
@@ -36,3 +40,27 @@ moved nodes move r = map (λ v. order_moved nodes move v (order_at r v)) (number
 abbrev pub all_moved : List Node → List Move → List (List ℕ) → List (List ℕ)
 all_moved nodes [] r = r
 all_moved nodes (move ∷ moves) r = all_moved nodes moves (moved nodes move r)
+
+-- moves of the tree, each of another node
+pub record AreOfNodes (nodes : List Node) (moves : List Move) : Type 0 where
+  pub fit : All (Fits nodes) moves
+  pub apart : is_distinct (map moved_node moves) ≡ true
+
+-- the move that leads back to r from where a move leads: the same flip, or a permute to the choice that r has
+abbrev pub way_back : List Node → List (List ℕ) → Move → Move
+way_back nodes r (flip k) = flip k
+way_back nodes r (permute k keys) = permute k (choice nodes r k)
+
+-- moves of the tree lead back to r from where others lead
+pub record LeadBack (nodes : List Node) (r : List (List ℕ)) (forth back : List Move) : Type 0 where
+  pub fit : All (Fits nodes) back
+  pub returns : all_moved nodes back (all_moved nodes forth r) ≡ r
+
+-- the move of node k towards the mirror image of r: a flip, or a permute to the reversed choice; none where it has no choices
+abbrev pub mirror_move : List Node → List (List ℕ) → ℕ → List Move
+mirror_move nodes r k = move_of_kind (node_at nodes k).kind k (reverse (choice nodes r k))
+
+-- moves of the tree, each of another node, lead from r to its mirror image
+pub record LeadToMirror (nodes : List Node) (r : List (List ℕ)) (moves : List Move) : Type 0 where
+  pub are : AreOfNodes nodes moves
+  pub mirror : all_moved nodes moves r ≡ mirror_image r

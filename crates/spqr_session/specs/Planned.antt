@@ -1,14 +1,13 @@
 -- What a command that changes a block has planned, and what is made of it.
-use Rattle.std.specs.Prelude.{◌≡◌, ℕ, ◌+◌, ◌<◌, ◌≤◌, ◌^◌, ◌⊎◌, true, false, List, length, Option, None, Some, ⊤}
+use Rattle.std.specs.Prelude.{◌≡◌, ℕ, ◌+◌, ◌<◌, ◌≤◌, ◌^◌, ◌⊎◌, Bool, true, false, List, length, Option, None, Some, ⊤, IsPermutation}
 use Rattle.multigraph.specs.Part.{GraphPart}
 use Rattle.rotations.specs.PartLists.{IsFirstBadInPart}
-use Rattle.skeletons.specs.Moves.{Move}
+use Rattle.skeletons.specs.Items.{node_keys}
 use Rattle.skeletons.specs.Lists.{IsRank}
 use Rattle.skel_embed.specs.Block.{BlockState, lock_at}
 use Rattle.skel_embed.specs.Taken.{IsNotPlane}
 use Rattle.embed_enum.specs.Walk.{IsMemberList, KeepsRest}
-use Rattle.embed_moves.specs.Made.{IsMade, IsLeastHeld, NoneHeld}
-use Rattle.embed_moves.specs.Made as made
+use Rattle.embed_moves.specs.Made.{IsLeastHeld, NoneHeld}
 use Rattle.spqr_script.specs.Answers.Change.{ok_text, end_text}
 use Rattle.spqr_session.specs.Trees.{BlockTree}
 use Rattle.spqr_session.specs.State.{Embedding}
@@ -21,6 +20,7 @@ use Rattle.spqr_session.specs.BlockCodes.{planar_codes}
 use Rattle.spqr_session.specs.Members.{StandsBehind, StandsLast}
 use Rattle.spqr_session.specs.Commands.Take.{IsLockedOut, IsTaken}
 use Rattle.spqr_session.specs.Commands.Convert.{conversion_text}
+use Rattle.spqr_session.specs.Commands.Permute.{inner_edges, permute_codes}
 use Rattle.spqr_session.specs.declared.planned.Planned.{Planned}
 use Rattle.spqr_session.specs.declared.planned.Planned.TheVariants.{Refused, End, Change}
 
@@ -52,17 +52,10 @@ IsPlanAt ladder IsChange views b (Refused code) = first_code ladder ≡ Some cod
 IsPlanAt ladder IsChange views b End = ⊥
 IsPlanAt ladder IsChange views b (Change p) = (b < length views) × (first_code ladder ≡ None) × IsChangeOf IsChange (view_at views b) p
 
--- the plan of a move of node k: refused where it is locked, or made
-abbrev pub IsMovePlan : Move → ℕ → BlockState → Planned → Type 0
-IsMovePlan move k p (Refused code) = (lock_at p.locks k ≡ true) × (code ≡ Locked k)
-IsMovePlan move k p End = ⊥
-IsMovePlan move k p (Change q) = (lock_at p.locks k ≡ false) × IsMade move p q
-
--- the plan of a mirror image: refused by the least locked node with choices, or made
-abbrev pub IsMirrorPlan : BlockState → Planned → Type 0
-IsMirrorPlan p (Refused code) = (k : ℕ) × IsLeastHeld p k × (code ≡ Locked k)
-IsMirrorPlan p End = ⊥
-IsMirrorPlan p (Change q) = NoneHeld p × made.IsMirrored p q
+-- code 12 of a mirror image: the least locked node with choices
+abbrev pub IsMirrorVerdict : BlockState → Option Code → Type 0
+IsMirrorVerdict p None = NoneHeld p
+IsMirrorVerdict p (Some code) = (k : ℕ) × IsLeastHeld p k × (code ≡ Locked k)
 
 -- graph, tree and locks stay
 abbrev pub KeepsBlock : BlockState → BlockState → Type 0
@@ -108,6 +101,20 @@ IsNextPlanAt ladder views b (Change p) = (b < length views) × (first_code ladde
 -- the first code of a ladder, where one applies
 abbrev pub IsVerdict : Ladder → Option Code → Type 0
 IsVerdict ladder found = first_code ladder ≡ found
+
+-- code 12, where node k is locked
+abbrev pub IsLockVerdict : ℕ → Bool → Option Code → Type 0
+IsLockVerdict k locked None = locked ≡ false
+IsLockVerdict k locked (Some code) = (locked ≡ true) × (code ≡ Locked k)
+
+-- the keys, in the numbers of the block, are an ordering of those of node k
+abbrev pub AreArranged : ℕ → List ℕ → BlockTree → Type 0
+AreArranged k keys tree = IsPermutation (node_keys tree.nodes k) (inner_edges tree keys)
+
+-- the first code of a permute of a block, and where none applies the keys are an ordering
+abbrev pub IsPermuteVerdict : ℕ → List ℕ → BlockView → Option Code → Type 0
+IsPermuteVerdict k keys v None = IsVerdict (permute_codes k keys v.tree v.entry) None × AreArranged k keys v.tree
+IsPermuteVerdict k keys v (Some code) = IsVerdict (permute_codes k keys v.tree v.entry) (Some code)
 
 -- what is planned may be put on the board
 abbrev pub MayStand : List BlockView → ℕ → Planned → Type 0

@@ -4,11 +4,12 @@ ghost use Rattle.skeletons.specs.Moves.{moves_between};
 ghost use Rattle.skel_embed.specs.Values.{as_moves};
 ghost use Rattle.embed_moves.specs.Made.{Fits};
 ghost use Rattle.spqr_session.specs.State.{Embedding};
-ghost use Rattle.spqr_session.specs.Embedded.{view_tree, view_certificate, view_at};
+ghost use Rattle.spqr_session.specs.Embedded.{view_tree, view_certificate, view_at, IsInPlane};
+ghost use Rattle.spqr_session.specs.Moved.{LeadBack};
 ghost use Rattle.spqr_session.specs.History.{IsStepOf, family_moved, family_locked, redone, undone};
 ghost use Rattle.spqr_session.specs.Commands.History.{is_none};
 ghost use Rattle.spqr_session.specs.Commands.Lock.{with_lock};
-ghost use Rattle.spqr_session.specs.Board.{StandsAt, CanReplace, LeadsTo, IsCarried, family_on, board_with_entry, changed_board, IsUndone, IsRedone};
+ghost use Rattle.spqr_session.specs.Board.{StandsAt, CanReplace, CanMake, AreMade, IsMirroredAt, LeadsTo, IsCarried, family_on, board_with_entry, changed_board, IsUndone, IsRedone};
 
 use crate::embedded::EmbeddedBlock;
 use embed_convert::moves;
@@ -80,6 +81,41 @@ impl Board {
         self.log.reserve()?;
         self.log.note(step);
         self.blocks[b as usize].replace(plane);
+        Ok(())
+    }
+
+    /// Makes moves of block `b`, one after the other, each of another node. If memory runs out, everything is as before.
+    pub fn make(&mut self, alloc: Global, b: u32, forth: MoveList) -> Result<(), AllocError>
+        requires { CanMake self.old.views b (as_moves forth) }
+        ensures done { IfOk result (λ _. AreMade self.old b (as_moves forth) self.new) }
+        ensures memory { OnErr result (self.new ≡ self.old) }
+    {
+        let back = moves_back(alloc, &self.blocks, b, &forth)?;
+        self.log.reserve()?;
+        self.blocks[b as usize].carry(&forth);
+        self.log.note(Step::Moves {
+            block: b,
+            forth,
+            back,
+        });
+        Ok(())
+    }
+
+    /// Reverses every rotation of block `b`. If memory runs out, everything is as before.
+    pub fn mirror(&mut self, alloc: Global, b: u32) -> Result<(), AllocError>
+        requires { (e : Embedding) × StandsAt self.old.views b e }
+        ensures done { IfOk result (λ _. IsMirroredAt self.old b self.new) }
+        ensures memory { OnErr result (self.new ≡ self.old) }
+    {
+        let forth = self.blocks[b as usize].moves_to_mirror(alloc)?;
+        let back = moves_back(alloc, &self.blocks, b, &forth)?;
+        self.log.reserve()?;
+        self.blocks[b as usize].mirror();
+        self.log.note(Step::Moves {
+            block: b,
+            forth,
+            back,
+        });
         Ok(())
     }
 
@@ -157,6 +193,23 @@ fn step_to(
         }),
         Outcome::Not(_, _, _) => unreachable!(),
     }
+}
+
+// Moves that lead back from where these lead.
+fn moves_back(
+    alloc: Global,
+    blocks: &[EmbeddedBlock],
+    b: u32,
+    forth: &MoveList,
+) -> Result<MoveList, AllocError>
+    requires { CanMake blocks.now b (as_moves forth.now) }
+    ensures back { (e : Embedding) → StandsAt blocks.now b e → IfOk result (λ back.
+        LeadBack (view_at blocks.now b).tree.nodes e.rotation (as_moves forth.now) (as_moves back)) }
+    ensures plane { IsInPlane (view_at blocks.now b) }
+{
+    let block = &blocks[b as usize];
+    block.belongs();
+    block.back(alloc, forth)
 }
 
 // The step that locks node k of block b, or takes its lock away.

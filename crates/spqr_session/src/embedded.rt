@@ -1,9 +1,10 @@
 // The blocks of a graph, each with its tree, and its embedding or its certificate.
 ghost use Rattle.std.specs.Prelude.{◌≡◌, ◌<◌, length, None, IfOk};
 ghost use Rattle.blocks.specs.Blocks.{IsBlockStructure, block_at};
-ghost use Rattle.spqr_session.specs.Embedded.{block_view, KeepsTogether, IsEmbedded, IsStartBlock, AreStartBlocks};
+ghost use Rattle.spqr_session.specs.Embedded.{block_view, KeepsTogether, IsEmbedded, IsInPlane, IsStartBlock, AreStartBlocks};
 
 mod changing;
+mod returning;
 
 use blocks::Blocks;
 use multigraph::{Graph, Part};
@@ -46,6 +47,13 @@ impl EmbeddedBlock {
         ensures right { IsEmbedded self.now.tree.part result.now }
     {
         &self.outcome
+    }
+
+    /// The embedding of a planar block is a plane rotation system of it. For proofs alone: does nothing.
+    pub fn belongs(&self)
+        ensures { IsInPlane self.now }
+    {
+        let _ = self.outcome();
     }
 
     /// The tree.

@@ -23,6 +23,8 @@ mod embedded;
 mod fault;
 mod head;
 pub mod laws;
+mod lines;
+mod making;
 mod planned;
 mod scene;
 mod session;

@@ -37,21 +37,6 @@ fn block_of_rank(at: &[u32], numbers: &[u32], orders: &VertexOrders, rank: u32) 
     unreachable!()
 }
 
-// The ranks of the least two blocks that cross in a list of all edges; `None` exactly where no two do. Takes linear time where the
-// list is an arrangement from its least edge on, since the search makes a pass for each block.
-fn crossing(orders: &mut VertexOrders, list: &[u32]) -> Option<(u32, u32)>
-    requires { IsPermutation orders.old.edges list.now }
-    ensures exact { ForBlocks orders.old (λ block order. MatchOption result ((b c : ℕ)
-        → cross block b c list.now ≡ false)
-        (λ pair. IsCrossingOf orders.old block list.now pair.0 pair.1)) }
-    ensures tables { orders.new ≡ orders.old }
-{
-    if orders.is_arranged(list) {
-        return None;
-    }
-    orders.crossing(list)
-}
-
 // The arrangement at cut vertex v that a list is from its least edge on, or why it is none.
 fn arrange_at(
     alloc: Global,
@@ -82,7 +67,7 @@ fn arrange_at(
     if let Some(rank) = orders.changed_block(&list) {
         return Err(RegroupFault::BlockOrder(block_of_rank(&at, &numbers, orders, rank)));
     }
-    if let Some(pair) = crossing(orders, &list) {
+    if let Some(pair) = orders.crossing(&list) {
         let b = block_of_rank(&at, &numbers, orders, pair.0);
         let c = block_of_rank(&at, &numbers, orders, pair.1);
         return Err(RegroupFault::Cross(b, c));
@@ -96,7 +81,7 @@ fn arrange_at(
 /// Fails with `BadRotation(v)` exactly where the list is not an ordering of the edges at `v`; else with `BlockOrder(b)` exactly
 /// where it changes the cyclic order that a block has around `v`, b the least such block; else with `Cross(b, c)` exactly where
 /// edges of two blocks alternate, b and c the least such pair; fails with `Memory` only if memory runs out. Nothing changes then.
-/// Takes n log n time for n edges at `v`; where two blocks cross, n times the number of blocks at `v`.
+/// Takes n log n time for n edges at `v`.
 pub fn regroup(
     alloc: Global,
     cuts: &mut Cuts,

@@ -1,77 +1,42 @@
 // `flip B K`: a triconnected node of a block is flipped.
-ghost use Rattle.std.specs.Prelude.{◌≡◌, ◌<◌, length, map, IfOk, OnErr};
-ghost use Rattle.pair_split.specs.Tutte.{node_at};
-ghost use Rattle.pair_split.specs.declared.components.Kind.TheVariants.{R};
-ghost use Rattle.skeletons.specs.Moves.{flip};
+ghost use Rattle.std.specs.Prelude.{◌≡◌, map, IfOk, OnErr};
 ghost use Rattle.spqr_session.specs.State.{State};
 ghost use Rattle.spqr_session.specs.Embedded.{view_tree};
 ghost use Rattle.spqr_session.specs.Scene.{setting_on};
 ghost use Rattle.spqr_session.specs.declared.scene.Scene.{Scene};
-ghost use Rattle.spqr_session.specs.BlockCodes.{kind_of};
 ghost use Rattle.spqr_session.specs.Board.{family_on, board_state, IsCarried};
-ghost use Rattle.spqr_session.specs.Planned.{IsMovePlan, IsPlan, IsPlanAt};
-ghost use Rattle.spqr_session.specs.Commands.Flip.{flip_codes, flip_ladder, IsFlipped, FlipStep};
+ghost use Rattle.spqr_session.specs.Planned.{IsVerdict};
+ghost use Rattle.spqr_session.specs.Commands.Flip.{flip_codes, flip_ladder, FlipStep};
 
 use crate::board::Board;
 use crate::code::Code;
 use crate::embedded::EmbeddedBlock;
-use crate::planned::{Planned, settle};
-use embed_moves::{FlipFault, flip};
+use crate::making::{code_of_move, make_move};
 use pair_split::Kind;
-use skel_embed::{Outcome, PlaneBlock};
+use skel_embed::Move;
 use std::alloc::{AllocError, Global};
 
-// The plan for a block in the plane with this triconnected node: made on a copy.
-fn plan_plane(alloc: Global, plane: &PlaneBlock, k: u32) -> Result<Planned, AllocError>
-    requires node { k < length plane.now.tree }
-    requires kind { (node_at plane.now.tree k).kind ≡ R }
-    ensures { IfOk result (IsMovePlan (flip k) k plane.now) }
-{
-    let mut copy = plane.copy(alloc)?;
-    match flip(&mut copy, k) {
-        Ok(()) => Ok(Planned::Change(copy)),
-        Err(fault) => match fault {
-            FlipFault::WrongKind => Ok(Planned::Refused(Code::WrongKind)),
-            FlipFault::Locked(node) => Ok(Planned::Refused(Code::Locked(node))),
-        },
-    }
-}
-
-// The plan for a block with this triconnected node.
-fn plan_rigid(alloc: Global, block: &EmbeddedBlock, k: u32) -> Result<Planned, AllocError>
-    requires node { k < length block.now.tree.nodes }
-    requires kind { kind_of block.now.tree k ≡ R }
-    ensures { IfOk result (IsPlan (flip_codes k block.now.tree block.now.entry)
-        (IsFlipped k) block.now) }
-{
-    match block.outcome() {
-        Outcome::Plane(plane) => plan_plane(alloc, plane, k),
-        Outcome::Not(_, _, _) => Ok(Planned::Refused(Code::NonPlanar)),
-    }
-}
-
-// The plan for a block.
-fn plan_block(alloc: Global, block: &EmbeddedBlock, k: u32) -> Result<Planned, AllocError>
-    ensures { IfOk result (IsPlan (flip_codes k block.now.tree block.now.entry)
-        (IsFlipped k) block.now) }
+// The code that applies to a flip of node k of a block.
+fn code_of_block(block: &EmbeddedBlock, k: u32) -> Option<Code>
+    ensures { IsVerdict (flip_codes k block.now.tree block.now.entry) result }
 {
     if k >= block.tree().node_count() {
-        return Ok(Planned::Refused(Code::NoNode));
+        return Some(Code::NoNode);
     }
     match block.tree().kind(k) {
-        Kind::R => plan_rigid(alloc, block, k),
-        Kind::S | Kind::P | Kind::B => Ok(Planned::Refused(Code::WrongKind)),
+        Kind::R => code_of_move(block, k),
+        Kind::S | Kind::P | Kind::B => Some(Code::WrongKind),
     }
 }
 
-// The plan for block `b`.
-fn plan(alloc: Global, blocks: &[EmbeddedBlock], b: u32, k: u32) -> Result<Planned, AllocError>
+// The code that applies to a flip of node k of block b.
+fn code_of(blocks: &[EmbeddedBlock], b: u32, k: u32) -> Option<Code>
     ensures { (s : State) → s.present ≡ family_on blocks.now
-        → IfOk result (IsPlanAt (flip_ladder (map view_tree blocks.now) b k s) (IsFlipped k) blocks.now b) }
+        → IsVerdict (flip_ladder (map view_tree blocks.now) b k s) result }
 {
     match blocks.get(b as usize) {
-        Some(block) => plan_block(alloc, block, k),
-        None => Ok(Planned::Refused(Code::NoBlock)),
+        Some(block) => code_of_block(block, k),
+        None => Some(Code::NoBlock),
     }
 }
 
@@ -87,6 +52,8 @@ pub(crate) fn carry_flip(
     ensures setting { IsCarried board.old.views board.new.views }
     ensures memory { OnErr result (board.new ≡ board.old) }
 {
-    let planned = plan(alloc, board.blocks(), b, k)?;
-    settle(alloc, board, b, planned)
+    match code_of(board.blocks(), b, k) {
+        Some(code) => code.line(alloc),
+        None => make_move(alloc, board, b, Move::Flip(k)),
+    }
 }

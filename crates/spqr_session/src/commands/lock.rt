@@ -19,7 +19,7 @@ use spqr_script::ok_line;
 use std::alloc::{AllocError, Global};
 
 // Whether a node of this kind has choices.
-fn has_choices(kind: Kind) -> bool
+pub(super) fn has_choices(kind: Kind) -> bool
     ensures { result ≡ has_choices kind }
 {
     match kind {

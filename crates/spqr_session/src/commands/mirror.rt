@@ -1,52 +1,63 @@
 // `mirror B`: the mirror image of the present rotation system of a block.
-ghost use Rattle.std.specs.Prelude.{◌≡◌, map, IfOk, OnErr};
+ghost use Rattle.std.specs.Prelude.{◌≡◌, map, IfOk, OnErr, MatchOption};
+ghost use Rattle.embed_moves.specs.Made.{NoneHeld, IsLeastHeld};
 ghost use Rattle.spqr_session.specs.State.{State};
 ghost use Rattle.spqr_session.specs.Embedded.{view_tree};
 ghost use Rattle.spqr_session.specs.Scene.{setting_on};
 ghost use Rattle.spqr_session.specs.declared.scene.Scene.{Scene};
 ghost use Rattle.spqr_session.specs.BlockCodes.{entry_codes, read_ladder};
 ghost use Rattle.spqr_session.specs.Board.{family_on, board_state, IsCarried};
-ghost use Rattle.spqr_session.specs.Planned.{IsPlan, IsPlanAt, IsMirrorPlan};
-ghost use Rattle.spqr_session.specs.Commands.Mirror.{mirror_codes, IsMirrored, MirrorStep};
+ghost use Rattle.spqr_session.specs.Planned.{IsVerdict, IsMirrorVerdict};
+ghost use Rattle.spqr_session.specs.Commands.Mirror.{mirror_codes, MirrorStep};
 
+use super::lock::has_choices;
 use crate::board::Board;
 use crate::code::Code;
 use crate::embedded::EmbeddedBlock;
-use crate::planned::{Planned, settle};
-use embed_moves::mirror;
 use skel_embed::{Outcome, PlaneBlock};
+use spqr_script::ok_line;
 use std::alloc::{AllocError, Global};
 
-// The plan for a block in the plane: made on a copy.
-fn plan_plane(alloc: Global, plane: &PlaneBlock) -> Result<Planned, AllocError>
-    ensures { IfOk result (IsMirrorPlan plane.now) }
+// The least locked node that has choices.
+fn least_held(plane: &PlaneBlock) -> Option<u32>
+    ensures { MatchOption result (NoneHeld plane.now) (IsLeastHeld plane.now) }
 {
-    let mut copy = plane.copy(alloc)?;
-    match mirror(&mut copy) {
-        Ok(()) => Ok(Planned::Change(copy)),
-        Err(locked) => Ok(Planned::Refused(Code::Locked(locked.0))),
+    for k in 0..plane.tree().node_count() {
+        if plane.locked(k) && has_choices(plane.tree().kind(k)) {
+            return Some(k);
+        }
+    }
+    None
+}
+
+// Code 12, where it applies to the mirror image of a block in the plane.
+fn code_of_plane(plane: &PlaneBlock) -> Option<Code>
+    ensures { IsMirrorVerdict plane.now result }
+{
+    match least_held(plane) {
+        Some(k) => Some(Code::Locked(k)),
+        None => None,
     }
 }
 
-// The plan for a block.
-fn plan_block(alloc: Global, block: &EmbeddedBlock) -> Result<Planned, AllocError>
-    ensures { IfOk result
-        (IsPlan (entry_codes mirror_codes block.now.tree block.now.entry) IsMirrored block.now) }
+// The code that applies to the mirror image of a block.
+fn code_of_block(block: &EmbeddedBlock) -> Option<Code>
+    ensures { IsVerdict (entry_codes mirror_codes block.now.tree block.now.entry) result }
 {
     match block.outcome() {
-        Outcome::Plane(plane) => plan_plane(alloc, plane),
-        Outcome::Not(_, _, _) => Ok(Planned::Refused(Code::NonPlanar)),
+        Outcome::Plane(plane) => code_of_plane(plane),
+        Outcome::Not(_, _, _) => Some(Code::NonPlanar),
     }
 }
 
-// The plan for block `b`.
-fn plan(alloc: Global, blocks: &[EmbeddedBlock], b: u32) -> Result<Planned, AllocError>
+// The code that applies to the mirror image of block b.
+fn code_of(blocks: &[EmbeddedBlock], b: u32) -> Option<Code>
     ensures { (s : State) → s.present ≡ family_on blocks.now
-        → IfOk result (IsPlanAt (read_ladder mirror_codes (map view_tree blocks.now) b s) IsMirrored blocks.now b) }
+        → IsVerdict (read_ladder mirror_codes (map view_tree blocks.now) b s) result }
 {
     match blocks.get(b as usize) {
-        Some(block) => plan_block(alloc, block),
-        None => Ok(Planned::Refused(Code::NoBlock)),
+        Some(block) => code_of_block(block),
+        None => Some(Code::NoBlock),
     }
 }
 
@@ -57,6 +68,12 @@ pub(crate) fn carry_mirror(alloc: Global, board: &mut Board, b: u32) -> Result<V
     ensures setting { IsCarried board.old.views board.new.views }
     ensures memory { OnErr result (board.new ≡ board.old) }
 {
-    let planned = plan(alloc, board.blocks(), b)?;
-    settle(alloc, board, b, planned)
+    match code_of(board.blocks(), b) {
+        Some(code) => code.line(alloc),
+        None => {
+            let text = ok_line(alloc)?;
+            board.mirror(alloc, b)?;
+            Ok(text)
+        }
+    }
 }

@@ -1,27 +1,26 @@
 // `permute B K KEYS`: the groups of a bond of a block are put in the order of keys.
-ghost use Rattle.std.specs.Prelude.{◌≡◌, ◌<◌, ◌==◌, ◌↔◌, length, map, slice_index, IfOk, OnErr, IsTrue, IsPermutation};
+ghost use Rattle.std.specs.Prelude.{◌≡◌, ◌<◌, ◌==◌, ◌↔◌, length, map, slice_index, None, IfOk, OnErr, IsTrue, IsPermutation};
 ghost use Rattle.permutations.specs.Count.{least};
 ghost use Rattle.multigraph.specs.Part.{Rises};
-ghost use Rattle.pair_split.specs.Tutte.{node_at};
 ghost use Rattle.pair_split.specs.declared.components.Kind.TheVariants.{P};
-ghost use Rattle.skeletons.specs.Items.{item_key, node_keys};
+ghost use Rattle.skeletons.specs.Items.{item_key};
 ghost use Rattle.skeletons.specs.Moves.{permute};
+ghost use Rattle.skel_embed.specs.Values.{as_move};
 ghost use Rattle.spqr_session.specs.State.{State};
-ghost use Rattle.spqr_session.specs.Embedded.{view_tree};
+ghost use Rattle.spqr_session.specs.Embedded.{view_tree, view_at};
 ghost use Rattle.spqr_session.specs.Scene.{setting_on};
 ghost use Rattle.spqr_session.specs.declared.scene.Scene.{Scene};
 ghost use Rattle.spqr_session.specs.BlockCodes.{kind_of};
 ghost use Rattle.spqr_session.specs.Board.{family_on, board_state, IsCarried};
-ghost use Rattle.spqr_session.specs.Planned.{IsMovePlan, IsPlan, IsPlanAt};
-ghost use Rattle.spqr_session.specs.Commands.Permute.{inner_edges, permute_codes, permute_ladder, IsPermuted, PermuteStep};
+ghost use Rattle.spqr_session.specs.Planned.{IsVerdict, AreArranged, IsPermuteVerdict};
+ghost use Rattle.spqr_session.specs.Commands.Permute.{inner_edges, permute_ladder, PermuteStep};
 
 use crate::board::Board;
 use crate::code::Code;
 use crate::embedded::EmbeddedBlock;
-use crate::planned::{Planned, settle};
-use embed_moves::{PermuteFault, permute};
+use crate::making::{code_of_move, make_move};
 use pair_split::{Item, Kind};
-use skel_embed::{Outcome, PlaneBlock};
+use skel_embed::{Keys, Move};
 use std::alloc::{AllocError, Global};
 
 // ---- the test of the keys
@@ -75,86 +74,72 @@ fn are_arranged(alloc: Global, items: &[Item], keys: &[u32]) -> Result<bool, All
     Ok(are_keys(items, &sorted))
 }
 
-// ---- the plan
+// ---- the command
 
-// The plan for a block in the plane with this bond, and a permutation of its keys in the block's numbers: made on a copy.
-fn plan_plane(alloc: Global, plane: &PlaneBlock, k: u32, own: &[u32]) -> Result<Planned, AllocError>
-    requires node { k < length plane.now.tree }
-    requires kind { (node_at plane.now.tree k).kind ≡ P }
-    requires arrangement { IsPermutation (node_keys plane.now.tree k) own.now }
-    ensures { IfOk result (IsMovePlan (permute k own.now) k plane.now) }
-{
-    let mut copy = plane.copy(alloc)?;
-    match permute(&mut copy, k, own) {
-        Ok(()) => Ok(Planned::Change(copy)),
-        Err(fault) => match fault {
-            PermuteFault::WrongKind => Ok(Planned::Refused(Code::WrongKind)),
-            PermuteFault::BadOrder => Ok(Planned::Refused(Code::BadOrder)),
-            PermuteFault::Locked(node) => Ok(Planned::Refused(Code::Locked(node))),
-        },
-    }
-}
-
-// The plan for a block with this bond. The keys are compared with those of its tree, which is there also where the block is not
-// planar.
-fn plan_bond(
+// The code that applies to a permute of this bond of a block. The keys are compared with those of its tree, which is there also where the
+// block is not planar.
+fn code_of_bond(
     alloc: Global,
     block: &EmbeddedBlock,
     k: u32,
     keys: &[u32],
-) -> Result<Planned, AllocError>
+) -> Result<Option<Code>, AllocError>
     requires node { k < length block.now.tree.nodes }
     requires kind { kind_of block.now.tree k ≡ P }
-    ensures { IfOk result (IsPlan (permute_codes k keys.now block.now.tree block.now.entry)
-        (IsPermuted k keys.now) block.now) }
+    ensures { IfOk result (IsPermuteVerdict k keys.now block.now) }
 {
-    let outcome = block.outcome();
+    let _ = block.outcome();
     // The part has the number of each of its edges.
     let _ = block.part().graph();
     let own = inner_keys(alloc, block, keys)?;
     if !are_arranged(alloc, block.tree().items(k), &own)? {
-        return Ok(Planned::Refused(Code::BadOrder));
+        return Ok(Some(Code::BadOrder));
     }
-    match outcome {
-        Outcome::Plane(plane) => plan_plane(alloc, plane, k, &own),
-        Outcome::Not(_, _, _) => Ok(Planned::Refused(Code::NonPlanar)),
-    }
+    Ok(code_of_move(block, k))
 }
 
-// The plan for a block.
-fn plan_block(
+// The code that applies to a permute of node k of a block.
+fn code_of_block(
     alloc: Global,
     block: &EmbeddedBlock,
     k: u32,
     keys: &[u32],
-) -> Result<Planned, AllocError>
-    ensures { IfOk result (IsPlan (permute_codes k keys.now block.now.tree block.now.entry)
-        (IsPermuted k keys.now) block.now) }
+) -> Result<Option<Code>, AllocError>
+    ensures { IfOk result (IsPermuteVerdict k keys.now block.now) }
 {
     if k >= block.tree().node_count() {
-        return Ok(Planned::Refused(Code::NoNode));
+        return Ok(Some(Code::NoNode));
     }
     match block.tree().kind(k) {
-        Kind::P => plan_bond(alloc, block, k, keys),
-        Kind::S | Kind::R | Kind::B => Ok(Planned::Refused(Code::WrongKind)),
+        Kind::P => code_of_bond(alloc, block, k, keys),
+        Kind::S | Kind::R | Kind::B => Ok(Some(Code::WrongKind)),
     }
 }
 
-// The plan for block `b`.
-fn plan(
+// The code that applies to a permute of node k of block b.
+fn code_of(
     alloc: Global,
     blocks: &[EmbeddedBlock],
     b: u32,
     k: u32,
     keys: &[u32],
-) -> Result<Planned, AllocError>
-    ensures { (s : State) → s.present ≡ family_on blocks.now
-        → IfOk result (IsPlanAt (permute_ladder (map view_tree blocks.now) b k keys.now s) (IsPermuted k keys.now) blocks.now b) }
+) -> Result<Option<Code>, AllocError>
+    ensures verdict { (s : State) → s.present ≡ family_on blocks.now
+        → IfOk result (IsVerdict (permute_ladder (map view_tree blocks.now) b k keys.now s)) }
+    ensures arranged { IfOk result (λ code. code ≡ None → AreArranged k keys.now (view_at blocks.now b).tree) }
 {
     match blocks.get(b as usize) {
-        Some(block) => plan_block(alloc, block, k, keys),
-        None => Ok(Planned::Refused(Code::NoBlock)),
+        Some(block) => code_of_block(alloc, block, k, keys),
+        None => Ok(Some(Code::NoBlock)),
     }
+}
+
+// The permute of node k of a block to the keys.
+fn move_of(alloc: Global, block: &EmbeddedBlock, k: u32, keys: &[u32]) -> Result<Move, AllocError>
+    ensures { IfOk result (λ one. as_move one ≡ permute k (inner_edges block.now.tree keys.now)) }
+{
+    let own = inner_keys(alloc, block, keys)?;
+    Ok(Move::Permute(k, Keys::of(alloc, &own)?))
 }
 
 /// Carries out `permute`: the bond is permuted to the keys, or code 1, 2, 3, 4, 5 or 12. Without memory the board stays as it
@@ -171,6 +156,11 @@ pub(crate) fn carry_permute(
     ensures setting { IsCarried board.old.views board.new.views }
     ensures memory { OnErr result (board.new ≡ board.old) }
 {
-    let planned = plan(alloc, board.blocks(), b, k, keys)?;
-    settle(alloc, board, b, planned)
+    match code_of(alloc, board.blocks(), b, k, keys)? {
+        Some(code) => code.line(alloc),
+        None => {
+            let one = move_of(alloc, &board.blocks()[b as usize], k, keys)?;
+            make_move(alloc, board, b, one)
+        }
+    }
 }

@@ -7,7 +7,7 @@ ghost use Rattle.spqr_session.specs.State.{Embedding};
 ghost use Rattle.embed_moves.specs.Made.{Fits};
 ghost use Rattle.spqr_session.specs.Moved.{moved, all_moved};
 ghost use Rattle.skel_embed.specs.Values.{as_move, as_moves};
-ghost use Rattle.spqr_session.specs.History.{entry_moved, entry_locked};
+ghost use Rattle.spqr_session.specs.History.{entry_moved, entry_locked, entry_mirrored};
 ghost use Rattle.spqr_session.specs.Embedded.{entry_lock};
 
 use super::EmbeddedBlock;
@@ -49,6 +49,15 @@ impl EmbeddedBlock {
     {
         if let Outcome::Plane(plane) = &mut self.outcome {
             carry_all(plane, moves);
+        }
+    }
+
+    /// Reverses every rotation of a planar block.
+    pub(crate) fn mirror(&mut self)
+        ensures { self.new ≡ record self.old { entry = entry_mirrored self.old.entry } }
+    {
+        if let Outcome::Plane(plane) = &mut self.outcome {
+            plane.mirror();
         }
     }
 

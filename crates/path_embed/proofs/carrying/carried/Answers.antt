@@ -1,7 +1,6 @@
 use Rattle.std.proofs.Common.{List, ℕ, ◌∙◌, sym, subst}
 use Rattle.multigraph.specs.Graph.{Multigraph}
 use Rattle.kuratowski.specs.Routes.{AreRoutes}
-use Rattle.path_embed.specs.Carrying.{edge_routes}
 use Rattle.path_embed.proofs.PartRoutes.{part-routes}
 use Rattle.path_embed.proofs.carrying.carried.Goals as goal
 

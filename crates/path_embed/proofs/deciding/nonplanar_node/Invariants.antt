@@ -3,4 +3,4 @@ use Rattle.path_embed.specs.Planar.{IsPlanarNode}
 use Rattle.path_embed.proofs.deciding.nonplanar_node.Given as goal
 
 abbrev pub invariant-loop-k : goal.invariant-loop-k
-invariant-loop-k e l = (j : ℕ) → j < l.k → IsPlanarNode l.tree j
+invariant-loop-k l = (j : ℕ) → j < l.k → IsPlanarNode l.tree j

@@ -1,4 +1,4 @@
-use Rattle.std.proofs.Common.{◌<◌, ℕ, List, length, slice_index, subst}
+use Rattle.std.proofs.Common.{◌<◌, ℕ, length, slice_index, subst}
 use Rattle.std.proofs.lemmas.Result.{IfOk-weaker}
 use Rattle.multigraph.specs.Marks.{is_marked}
 use Rattle.path_embed.proofs.Listed.{listed-rises, listed-below}

@@ -1,4 +1,4 @@
-use Rattle.std.proofs.Common.{◌≡◌, ◌<◌, ℕ, List, length, slice_index, sym, subst}
+use Rattle.std.proofs.Common.{◌<◌, ℕ, List, length, slice_index, sym, subst}
 use Rattle.std.proofs.lemmas.Option.{MatchOption-at_some}
 use Rattle.multigraph.specs.Graph.{Multigraph, edge_count}
 use Rattle.multigraph.specs.Part.{IsPart}
@@ -7,7 +7,7 @@ use Rattle.path_embed.specs.Found.{IsObstacle}
 use Rattle.path_embed.proofs.rest.find.Goals as goal
 
 pub returns-in-Some : goal.returns-in-Some
-returns-in-Some e c =
+returns-in-Some c =
     let is = c.in_ok-whole.ensures in
     record {
       whole = record {

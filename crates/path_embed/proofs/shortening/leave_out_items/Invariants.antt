@@ -2,4 +2,4 @@ use Rattle.path_embed.specs.Found.{IsRest}
 use Rattle.path_embed.proofs.shortening.leave_out_items.Given as goal
 
 abbrev pub invariant-loop-turn : goal.invariant-loop-turn
-invariant-loop-turn e l = IsRest l.g l.rest
+invariant-loop-turn l = IsRest l.g l.rest

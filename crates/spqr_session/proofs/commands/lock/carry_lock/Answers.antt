@@ -12,12 +12,13 @@ use Rattle.spqr_session.specs.Commands.Lock.{with_lock, LockStep}
 use Rattle.spqr_session.proofs.Steps.{text-map}
 use Rattle.spqr_session.proofs.Plans.{changed-carried}
 use Rattle.spqr_session.proofs.BoardStates.{lock-refused, lock-stands, lock-node, lock-done}
+use Rattle.spqr_session.proofs.MovesMade.{verdict-on}
 use Rattle.spqr_session.proofs.commands.lock.carry_lock.Goals as goal
 
 -- what was found of the blocks holds in the state of the board
 verdict : (seen : List BlockView) (board : BoardView) (b k : ℕ) (o : Option Code) → seen ≡ board.views → ((s : State) → s.present ≡ family_on seen → IsVerdict (node_ladder has_choices (map view_tree seen) b k s) o)
     → IsVerdict (node_ladder has_choices (map view_tree board.views) b k (board_state board)) o
-verdict seen board b k o e h = (subst (λ (x : List BlockView). (s : State) → s.present ≡ family_on x → IsVerdict (node_ladder has_choices (map view_tree x) b k s) o) e h) (board_state board) refl
+verdict seen board b k o e h = verdict-on (λ trees s. node_ladder has_choices trees b k s) seen board o e h
 
 pub set_lock-requires-clause-stands : goal.set_lock-requires-clause-stands
 set_lock-requires-clause-stands c =

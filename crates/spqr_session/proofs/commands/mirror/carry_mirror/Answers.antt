@@ -1,31 +1,34 @@
-use Rattle.std.proofs.Common.{◌≡◌, List, map, refl, subst}
-use Rattle.spqr_session.specs.State.{State}
-use Rattle.spqr_session.specs.Embedded.{BlockView, view_tree}
+use Rattle.std.proofs.Common.{◌≡◌, List, map, None, Some}
+use Rattle.spqr_session.specs.Embedded.{view_tree}
 use Rattle.spqr_session.specs.Scene.{setting_on}
-use Rattle.spqr_session.specs.Board.{family_on, board_state}
-use Rattle.spqr_session.specs.Planned.{IsPlanAt, IsSettled}
-use Rattle.spqr_session.specs.BlockCodes.{read_ladder}
+use Rattle.spqr_session.specs.Codes.{code_text}
+use Rattle.spqr_session.specs.BlockCodes.{ChangesBlock, Silently, read_ladder}
+use Rattle.spqr_session.specs.Board.{board_state}
 use Rattle.spqr_session.specs.Commands.Mirror.{mirror_codes, IsMirrored, MirrorStep}
 use Rattle.spqr_session.proofs.MovesCarried.{mirror-rises}
+use Rattle.spqr_session.proofs.Ladders.{refused-first}
 use Rattle.spqr_session.proofs.Steps.{text-map}
-use Rattle.spqr_session.proofs.Plans.{plan-stands, settled-step, either-carried}
+use Rattle.spqr_session.proofs.MovesMade.{verdict-on, mirrored-carried, mirror-stands, mirror-done}
 use Rattle.spqr_session.proofs.commands.mirror.carry_mirror.Goals as goal
 
-pub settle-requires : goal.settle-requires
-settle-requires c =
+pub mirror-requires : goal.mirror-requires
+mirror-requires c =
     let old = c.args.board.now in
-    let x = c.in_ok-planned.planned in
-    let at = (subst (λ (views : List BlockView). (s : State) → s.present ≡ family_on views → IsPlanAt (read_ladder mirror_codes (map view_tree views) c.args.b s) (IsMirrored) views c.args.b x) c.blocks-2.ensures c.in_ok-planned.ensures) (board_state old) refl in
-    plan-stands (read_ladder mirror_codes (map view_tree old.views) c.args.b (board_state old)) (IsMirrored) old.views c.args.b x at
+    mirror-stands old c.args.b (verdict-on (λ trees s. read_ladder mirror_codes trees c.args.b s) c.blocks-2.result.now old None c.blocks-2.ensures c.in-None.ensures)
 
-pub returns-clause-step : goal.returns-clause-step
-returns-clause-step c = λ scene.
+pub returns-in-Some-clause-step : goal.returns-in-Some-clause-step
+returns-in-Some-clause-step c = λ scene.
     let old = c.args.board.now in
-    let new = c.settle.new.board in
-    let x = c.in_ok-planned.planned in
-    let at = (subst (λ (views : List BlockView). (s : State) → s.present ≡ family_on views → IsPlanAt (read_ladder mirror_codes (map view_tree views) c.args.b s) (IsMirrored) views c.args.b x) c.blocks-2.ensures c.in_ok-planned.ensures) (board_state old) refl in
-    text-map c.settle.result (λ text. IsSettled c.args.b x old text new) (λ text. MirrorStep (setting_on scene old.views) c.args.b (board_state old) text (board_state new))
-    (λ text h. settled-step scene (read_ladder mirror_codes (map view_tree old.views) c.args.b (board_state old)) (mirror-rises (map view_tree old.views) c.args.b (board_state old)) (IsMirrored) c.args.b old new x text at h) c.settle.ensures.done
+    let ladder = read_ladder mirror_codes (map view_tree old.views) c.args.b (board_state old) in
+    let first = verdict-on (λ trees s. read_ladder mirror_codes trees c.args.b s) c.blocks-2.result.now old (Some c.in-Some.code) c.blocks-2.ensures c.in-Some.ensures in
+    text-map c.line.result (λ text. text ≡ code_text c.in-Some.code) (λ text. MirrorStep (setting_on scene old.views) c.args.b (board_state old) text (board_state old))
+    (λ text line. refused-first ladder (mirror-rises (map view_tree old.views) c.args.b (board_state old)) (ChangesBlock (setting_on scene old.views) c.args.b (Silently IsMirrored)) (board_state old) c.in-Some.code text first line) c.line.ensures
 
-pub returns-clause-setting : goal.returns-clause-setting
-returns-clause-setting c = either-carried c.settle.result c.args.b c.in_ok-planned.planned c.args.board.now c.settle.new.board c.settle.ensures.done c.settle.ensures.memory
+pub returns-in_ok-mirror-in-None-clause-step : goal.returns-in_ok-mirror-in-None-clause-step
+returns-in_ok-mirror-in-None-clause-step c = λ scene.
+    let old = c.args.board.now in
+    mirror-done old c.args.b scene c.mirror.new.self c.in_ok-text-in-None.text.items (verdict-on (λ trees s. read_ladder mirror_codes trees c.args.b s) c.blocks-2.result.now old None c.blocks-2.ensures c.in-None.ensures)
+    c.in_ok-text-in-None.ensures c.in_ok-mirror-in-None.ensures.done
+
+pub returns-in_ok-mirror-in-None-clause-setting : goal.returns-in_ok-mirror-in-None-clause-setting
+returns-in_ok-mirror-in-None-clause-setting c = mirrored-carried c.args.board.now c.args.b c.mirror.new.self c.in_ok-mirror-in-None.ensures.done

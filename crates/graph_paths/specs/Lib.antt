@@ -1,0 +1,4 @@
+-- Paths in graphs.
+pub mod Along
+pub mod Listing
+pub mod Search

@@ -1,5 +1,0 @@
-use Rattle.path_embed.specs.Found.{IsRest}
-use Rattle.path_embed.proofs.shortening.phase.Given as goal
-
-abbrev pub invariant-loop-turn : goal.invariant-loop-turn
-invariant-loop-turn e l = IsRest l.g l.rest
