@@ -1,3 +1,6 @@
 -- Canonical orders of triangulations.
 pub mod Contours
 pub mod Order
+pub mod Free
+pub mod State
+pub mod Laws

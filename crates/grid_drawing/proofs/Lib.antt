@@ -6,3 +6,4 @@ pub mod Around
 pub mod SameEnds
 pub mod OfMaps
 pub mod TwoVertices
+pub mod Shifted

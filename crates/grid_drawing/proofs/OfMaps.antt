@@ -1,12 +1,11 @@
 -- The points of a triangulation that is drawn under its contour are a drawing of the graph that it extends.
-use Rattle.std.proofs.Common.{◌≡◌, ◌≢◌, ℕ, ◌+◌, ◌*◌, ◌/◌, ◌%◌, ◌<◌, ◌≤◌, ◌⊎◌, inl, inr, Bool, true, false, ◌==◌, if◌then◌else◌, nat_lt, get_or, not, take, List, [], ◌∷◌, ◌++◌, length, map, filter, All, arith, refl, sym, ap, ap₂, ◌∙◌, subst}
-use Rattle.std.proofs.lemmas.Bool.{cases_Bool, cases_eq, both_ways, eqb-true, eqb-false, eq-eqb, ne_eqb, lt-ltb, ltb-true}
+use Rattle.std.proofs.Common.{◌≡◌, ◌≢◌, ℕ, ◌+◌, ◌*◌, ◌/◌, ◌%◌, ◌<◌, ◌≤◌, ◌⊎◌, inl, inr, Bool, true, false, ◌==◌, if◌then◌else◌, nat_lt, get_or, not, take, List, [], ◌∷◌, length, map, filter, All, arith, refl, sym, ap, ap₂, ◌∙◌, subst}
+use Rattle.std.proofs.lemmas.Bool.{cases_Bool, cases_eq, both_ways, eqb-true, eq-eqb, ne_eqb, lt-ltb, ltb-true}
 use Rattle.std.proofs.lemmas.List.{get_or_default, get_or_append_left, length-append}
 use Rattle.std.proofs.lemmas.Simd.{map-map}
 use Rattle.permutations.specs.Count.{some}
-use Rattle.permutations.specs.Members.{is_member, is_distinct}
-use Rattle.permutations.specs.Cyclic.{successor, turned}
-use Rattle.permutations.specs.Relation.{connected}
+use Rattle.permutations.specs.Members.{is_member}
+use Rattle.permutations.specs.Cyclic.{turned}
 use Rattle.permutations.specs.Ring.{ring}
 use Rattle.permutations.proofs.Search.{some-witness, some-none}
 use Rattle.permutations.proofs.Relation.{connected-closed}
@@ -28,7 +27,7 @@ use Rattle.faces.proofs.MapRestricted.{round-ring}
 use Rattle.plane_points.specs.Turning.{IsCounterclockwise}
 use Rattle.plane_points.specs.Segments.{weighted, times}
 use Rattle.plane_points.proofs.Laws.{parts_go_around}
-use Rattle.triangulations.specs.Triangulation.{IsTriangulated, Extends, IsTriangulation}
+use Rattle.triangulations.specs.Triangulation.{IsTriangulated, IsTriangulation}
 use Rattle.canonical_orders.specs.Contours.{stays_dart, darts_around}
 use Rattle.canonical_orders.specs.Order.{Removed, stays_after}
 use Rattle.stacked_maps.specs.Drawn.{start_of, end_of, IsEndOf, IsDrawnUnder}

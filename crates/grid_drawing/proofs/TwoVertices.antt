@@ -1,21 +1,21 @@
 -- Graphs without parallel edges; and the drawing of two vertices.
-use Rattle.std.proofs.Common.{◌≡◌, ◌≢◌, ℕ, ◌<◌, ◌⊎◌, inl, inr, true, false, nat_lt, List, [], ◌∷◌, map, arith, refl, sym, ap, ◌∙◌, subst}
+use Rattle.std.proofs.Common.{◌≡◌, ℕ, ◌<◌, ◌⊎◌, inl, inr, true, false, nat_lt, List, [], ◌∷◌, map, arith, refl, sym, ap, ◌∙◌, subst}
 use Rattle.std.proofs.lemmas.Bool.{both_ways, cases_order, lt-ltb, and_from}
 use Rattle.permutations.specs.Members.{is_member, is_distinct}
 use Rattle.permutations.proofs.Members.{member-head, member-tail, distinct-head}
 use Rattle.permutations.proofs.Search.{some-from}
 use Rattle.multigraph.specs.Graph.{Multigraph, IsGraph, edge_count, ends_of, is_end, other_end}
 use Rattle.multigraph.proofs.OtherEnd.{is_end-from_first, is_end-from_second}
-use Rattle.graph_theory.specs.Triconnected.{IsSimple}
+use Rattle.graph_theory.specs.Triconnected.{AreParallel, IsSimple}
 use Rattle.rotations.specs.Rotation.{order_at, IsRotationSystem}
 use Rattle.rotations.proofs.Membership.{member-edge}
 use Rattle.faces.proofs.DartLemmas.{member-incident, order-distinct}
 use Rattle.plane_points.specs.Turning.{IsCounterclockwise}
 use Rattle.stacked_maps.proofs.Lists.{counter-none, counter-one}
-use Rattle.grid_drawing.specs.Drawing.{point_at, points_around, IsDrawing}
+use Rattle.grid_drawing.specs.Drawing.{point_at, points_around}
 use Rattle.grid_drawing.specs.Grid.{IsGridDrawing}
 use Rattle.grid_drawing.specs.Parallel.{same_ends, is_later, has_later, has_parallel}
-use Rattle.grid_drawing.proofs.SameEnds.{Same, same-from}
+use Rattle.grid_drawing.proofs.SameEnds.{same-from}
 
 -- where no edge has a later one with the same ends, no two edges have the same ends
 pub none-parallel : (g : Multigraph) → has_parallel g ≡ false → IsSimple g
@@ -25,7 +25,7 @@ none-parallel g n e f k l s = elim (cases_order e f) [
   | inr (inr i) ↦ absurd (never f e k i (same-from g f e (turned s)))
 ]
   where
-    turned : Same g e f → Same g f e
+    turned : AreParallel g e f → AreParallel g f e
     turned (inl p) = inl (sym p.0, sym p.1)
     turned (inr p) = inr (sym p.1, sym p.0)
 
@@ -60,7 +60,7 @@ module _ (g : Multigraph) (r : List (List ℕ)) (graph : IsGraph g) (system : Is
   one-edge : (e f : ℕ) → e < edge_count g → f < edge_count g → e ≡ f
   one-edge e f k l = none-parallel g n e f k l (go (ends-two e k) (ends-two f l))
     where
-      go : (((ends_of g e).0 ≡ 0) × ((ends_of g e).1 ≡ 1)) ⊎ (((ends_of g e).0 ≡ 1) × ((ends_of g e).1 ≡ 0)) → (((ends_of g f).0 ≡ 0) × ((ends_of g f).1 ≡ 1)) ⊎ (((ends_of g f).0 ≡ 1) × ((ends_of g f).1 ≡ 0)) → Same g e f
+      go : (((ends_of g e).0 ≡ 0) × ((ends_of g e).1 ≡ 1)) ⊎ (((ends_of g e).0 ≡ 1) × ((ends_of g e).1 ≡ 0)) → (((ends_of g f).0 ≡ 0) × ((ends_of g f).1 ≡ 1)) ⊎ (((ends_of g f).0 ≡ 1) × ((ends_of g f).1 ≡ 0)) → AreParallel g e f
       go (inl p) (inl q) = inl (p.0 ∙ sym q.0, p.1 ∙ sym q.1)
       go (inr p) (inr q) = inl (p.0 ∙ sym q.0, p.1 ∙ sym q.1)
       go (inl p) (inr q) = inr (p.0 ∙ sym q.1, p.1 ∙ sym q.0)

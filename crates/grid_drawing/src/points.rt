@@ -31,6 +31,13 @@ impl Points {
         })
     }
 
+    // These points, kept as they are.
+    pub(crate) fn from_vec(points: Vec<(u32, u32)>) -> Points
+        ensures { result ≡ points.items }
+    {
+        Points { held: points }
+    }
+
     /// How far vertex `v` lies to the right.
     pub fn x(&self, v: u32) -> u32
         requires { v < length self.now }

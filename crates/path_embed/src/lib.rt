@@ -9,8 +9,8 @@
 // that all edges but one make is one block, and is decided by its tree. If none of these parts has an obstacle, the graph is K5 or
 // K3,3 (minimal_graphs), and its certificate is read off; it is carried into the graph along the paths.
 //
-// `PathEmbedder` is an `Embedder`. Which items are left out first is not proved, as any order is right: pieces of the fronds of a
-// palm tree, then of the edges off a breadth-first tree, large ones first, and last each item alone.
+// `PathEmbedder` is an `Embedder`. Which items are left out first is not proved, as any order is right: by turns pieces of the fronds
+// of a palm tree and of the edges off a breadth-first tree, large ones first, and last each item alone.
 //
 // The lemmas that are used most (preceded by their module of proofs/):
 //   Decisions   part-planar, obstacle-excludes: what has an obstacle has no plane rotation system

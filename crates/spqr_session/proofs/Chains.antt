@@ -30,7 +30,7 @@ use Rattle.spqr_session.proofs.ConvertCarried.{convert_to-answers, convert_to-on
 use Rattle.spqr_session.proofs.CountSteps.{count_step-answers, count_step-one, count_step-keeps, rank_step-answers, rank_step-one, rank_step-keeps, goto_step-answers, goto_step-one, goto_step-keeps, convert_step-answers, convert_step-one, convert_step-keeps}
 use Rattle.spqr_session.proofs.TakeCarried.{take-answers, take-one, take-keeps}
 use Rattle.spqr_session.proofs.LongestCarried.{longest-answers, longest-stays}
-use Rattle.spqr_session.proofs.DrawCarried.{draw-stays}
+use Rattle.spqr_session.proofs.DrawCarried.{draw-answers, draw-stays}
 
 -- each command that may not lack an answer has one in each state
 pub has-answer : (setting : Setting) (before : State) (command : Command) → IsSetting setting → IsState setting before → may_lack_answer command ≡ false → (text : List ℕ) × (after : State) × Step setting before command text after
@@ -51,7 +51,7 @@ has-answer setting before (command.List b n) is right sure = list-answers settin
 has-answer setting before (command.Count b) is right sure = count_step-answers setting b before is right
 has-answer setting before (command.Rank b) is right sure = rank_step-answers setting b before is right
 has-answer setting before (command.Longest b) is right sure = longest-answers setting b before is right
-has-answer setting before (command.Draw b) is right sure = absurd (true≢false sure)
+has-answer setting before (command.Draw b) is right sure = draw-answers setting b before is right
 has-answer setting before (command.Goto b r) is right sure = goto_step-answers setting b before is right r
 has-answer setting before (command.ConvertRank b r) is right sure = convert_step-answers setting b before is right r
 has-answer setting before (command.ConvertTo b entries) is right sure = convert_to-answers setting b entries before is right

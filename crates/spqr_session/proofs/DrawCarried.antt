@@ -1,4 +1,4 @@
--- `draw`: the state stays, a block can be drawn, and what is found is an answer.
+-- `draw`: there is an answer, the state stays, and what is found is an answer.
 use Rattle.std.proofs.Common.{◌≡◌, ◌≢◌, ℕ, ◌<◌, ◌≤◌, Bool, true, false, List, [], ◌∷◌, slice_index, Option, None, Some, refl, sym, ap₂, ◌∙◌, subst, arith}
 use Rattle.permutations.proofs.Search.{least-below, least-passes}
 use Rattle.multigraph.specs.Graph.{Multigraph, edge_count, ends_of, IsGraph}
@@ -12,16 +12,20 @@ use Rattle.grid_drawing.specs.declared.drawing.DrawFault.{DrawFault}
 use Rattle.grid_drawing.specs.declared.drawing.DrawFault.TheVariants as faults
 use Rattle.grid_drawing.specs.Parallel.{is_later, has_later, has_parallel, first_parallel, second_parallel}
 use Rattle.spqr_script.specs.Answers.Draw.{draw_text}
-use Rattle.spqr_session.specs.Setting.{Setting}
-use Rattle.spqr_session.specs.State.{State}
+use Rattle.drawing_exists.proofs.Existence.{drawing_exists}
+use Rattle.spqr_session.specs.Trees.{tree_at}
+use Rattle.spqr_session.specs.Setting.{Setting, IsSetting}
+use Rattle.spqr_session.specs.State.{State, IsState}
 use Rattle.spqr_session.specs.Embedded.{BlockView}
 use Rattle.spqr_session.specs.Codes.{code_text, first_code}
 use Rattle.spqr_session.specs.BlockCodes.{Answered, TellsBlock}
 use Rattle.spqr_session.specs.Commands.Draw.{parallel_codes, IsDrawingAnswer, DrawStep}
 use Rattle.spqr_session.specs.declared.code.Code.{Code}
 use Rattle.spqr_session.specs.declared.code.Code.TheVariants.{Parallel}
-use Rattle.spqr_session.proofs.BlockCarried.{read-stays}
-use Rattle.spqr_session.proofs.Ladders.{rung-hit, rung-missed}
+use Rattle.spqr_session.proofs.BlockCarried.{read-answers, read-stays}
+use Rattle.spqr_session.proofs.Changes.{entry-right}
+use Rattle.spqr_session.proofs.SettingTrees.{setting-tree, setting-numbered}
+use Rattle.spqr_session.proofs.Ladders.{rung-hit, rung-missed, rung-none}
 use Rattle.spqr_session.proofs.Planes.{seen_embedding, SeenPlane, told-entry}
 
 -- the state stays
@@ -34,6 +38,21 @@ two-vertices g graph some = two (ends_of g 0).0 (ends_of g 0).1 g.vertex_count (
   where
     two : (u v n : ℕ) → u ≢ v → u < n → v < n → 2 ≤ n
     two u v n d a b = omega (arith, d, a, b)
+
+-- there is an answer
+pub draw-answers : (setting : Setting) (b : ℕ) (s : State) → IsSetting setting → IsState setting s → (text : List ℕ) × (after : State) × DrawStep setting b s text after
+draw-answers setting b s is right = read-answers parallel_codes (λ tree e. refl) (IsDrawingAnswer b) setting.trees b s (λ l e p n.
+    let tree = tree_at setting.trees b in
+    let block = setting-tree setting is b l in
+    let one = block.block in
+    let numbered = setting-numbered setting is b l in
+    let limits = numbered.limits in
+    let found = drawing_exists tree.part.graph e.rotation block.graph (omega (arith, limits.few_vertices)) (block-connected tree.part.graph one) (two-vertices tree.part.graph block.graph one.has_edge)
+    (entry-right setting s b e right l p).0 (rung-none least (has_parallel tree.part.graph) [] n).0 in
+    (draw_text tree.part b found.0, (found.0, found.1, refl)))
+  where
+    least : Code
+    least = Parallel (slice_index (tree_at setting.trees b).part.edges (first_parallel (tree_at setting.trees b).part.graph)) (slice_index (tree_at setting.trees b).part.edges (second_parallel (tree_at setting.trees b).part.graph))
 
 -- the least pair of parallel edges is a pair of edges
 module _ (g : Multigraph) (h : has_parallel g ≡ true) where

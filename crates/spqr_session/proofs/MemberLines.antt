@@ -60,13 +60,14 @@ module _ (l : List (List (List ℕ))) (i : ℕ) where
 
 -- ---- the whole text
 
--- head, members and last line
-pub members-whole : (b n t : ℕ) (part : GraphPart) (ahead : List (List (List ℕ))) (more : Bool) (last head front text : List ℕ) → t ≡ length (take n ahead) → more ≡ nat_lt n (length ahead)
-    → last ≡ (if more then more_text else end_text) → head ≡ list_text b t → front ≡ head ++ concat (map (rotation_text part b) (take n ahead)) → text ≡ front ++ last
+-- the members and the last line, and the first line put before them
+pub members-whole : (b n t : ℕ) (part : GraphPart) (ahead : List (List (List ℕ))) (more : Bool) (last head lines rest text : List ℕ) → t ≡ length (take n ahead) → more ≡ nat_lt n (length ahead)
+    → last ≡ (if more then more_text else end_text) → head ≡ list_text b t → lines ≡ concat (map (rotation_text part b) (take n ahead)) → rest ≡ lines ++ last → text ≡ head ++ rest
     → text ≡ list_text b (length (take n ahead)) ++ concat (map (rotation_text part b) (take n ahead)) ++ (if nat_lt n (length ahead) then more_text else end_text)
-members-whole b n t part ahead more last head front text count follows end first second third =
-    third ∙ ap (λ (x : List ℕ). x ++ last) (second ∙ ap (λ (x : List ℕ). x ++ concat (map (rotation_text part b) (take n ahead))) (first ∙ ap (list_text b) count))
-    ∙ ap (λ (x : List ℕ). list_text b (length (take n ahead)) ++ concat (map (rotation_text part b) (take n ahead)) ++ x) (end ∙ ap (λ (x : Bool). if x then more_text else end_text) follows)
+members-whole b n t part ahead more last head lines rest text count follows end first second third whole =
+    whole ∙ ap (λ (x : List ℕ). x ++ rest) (first ∙ ap (list_text b) count) ∙ ap (λ (x : List ℕ). list_text b (length (take n ahead)) ++ x) (third
+    ∙ ap (λ (x : List ℕ). x ++ last) second ∙ ap (λ (x : List ℕ). concat (map (rotation_text part b) (take n ahead)) ++ x) (end ∙ ap (λ (x : Bool). if x then more_text else end_text) follows))
+    ∙ sym (append_assoc (list_text b (length (take n ahead))) (concat (map (rotation_text part b) (take n ahead))) (if nat_lt n (length ahead) then more_text else end_text))
 
 -- what is told of a block that is seen in the plane
 pub listing-told : {E : Type 0} (v : BlockView) (p : BlockState) (seen : SeenPlane v p) (b n : ℕ) (part : GraphPart) (r : Result (Vec ℕ) E) → part ≡ v.tree.part

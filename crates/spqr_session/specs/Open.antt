@@ -10,10 +10,8 @@ leaves_open (command.Longest b) = true
 leaves_open (command.Draw b) = true
 leaves_open command = false
 
--- whether a command may have no answer in a state: `draw` may, since no clause says that each block without parallel edges has a
--- drawing on the grid; each other command has one
+-- whether a command may have no answer in a state: each command has one
 abbrev pub may_lack_answer : Command → Bool
-may_lack_answer (command.Draw b) = true
 may_lack_answer command = false
 
 -- none of the commands leaves its text open

@@ -10,9 +10,9 @@
 // edges at each vertex; where the file gives none it is the first of the plane ones, by the choices of the nodes of its tree
 // (Di Battista and Tamassia 1996). A file is refused exactly where what it gives for a planar block is not plane. The head says of
 // each block that it is planar exactly where it has a plane rotation system. A command is refused exactly where a code applies, by
-// the lowest that does, and then changes nothing. Each command but `draw` has an answer in each state, and each has one only but for
-// `longest`, whose moves may lead to any of the longest faces, and `draw`, whose points may be any drawing on the grid; there is one
-// report on a setting and commands as far as these agree. Without memory a session stays as it was.
+// the lowest that does, and then changes nothing. Each command has an answer in each state, and one only but for `longest`, whose
+// moves may lead to any of the longest faces, and `draw`, whose points may be any drawing on the grid; there is one report on a
+// setting and commands as far as these agree. Without memory a session stays as it was.
 #![tactic(auto)]
 
 mod board;
@@ -23,6 +23,7 @@ mod embedded;
 mod fault;
 mod head;
 pub mod laws;
+mod lines;
 mod making;
 mod planned;
 mod scene;

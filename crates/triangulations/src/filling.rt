@@ -53,7 +53,7 @@ fn cut(map: &mut DartMap, pairs: &mut Pairs, dart: u32) -> Result<u32, AllocErro
     map.cut(dart)
 }
 
-// Cuts off triangles of the face of dart `start` until each face in its place is a triangle.
+// Cuts off triangles of the face of dart `start`, until what is left of it is a triangle.
 fn fill(map: &mut DartMap, pairs: &mut Pairs, start: u32) -> Result<(), AllocError>
     requires few { map.old.graph.vertex_count ≤ max_vertices }
     requires map { IsSimpleMapOf map.old }
@@ -86,7 +86,7 @@ fn is_triangulated(map: &DartMap) -> bool
     true
 }
 
-// Fills each face of the map, which is one of the graph.
+// Cuts off triangles of all faces of a map of the graph, until each face is a triangle.
 fn fill_faces(alloc: Global, g: &Graph, map: &mut DartMap) -> Result<(), AllocError>
     requires few { g.now.vertex_count ≤ max_vertices }
     requires map { IsSimpleMapOf map.old }

@@ -4,10 +4,10 @@
 // darts, an edge is added within it, from the vertex that a dart d leaves to the one where two steps along the face lead: these steps
 // and the edge are a triangle then, and the rest of the face has one dart less. The edge may be added where the two vertices differ
 // and no edge joins them; so the graph stays simple. A connected simple graph of three vertices or more has no face of one or two
-// darts. Of any three consecutive darts of a face that is no triangle the edge may be added at one: else there were two triangles on
-// one edge that come in the same order, after the edge, at both of its ends, and in the plane these orders are opposite. So the loop
-// that fills a face takes at most two steps along it for each edge, and ends, since a simple graph of n vertices has at most n * n
-// darts.
+// darts. Of any three consecutive darts of a face that is no triangle the edge may be added at one: else there would be two triangles
+// on one edge that come in the same order, after the edge, at both of its ends, and in the plane these orders are opposite. So the
+// loop that fills a face takes at most two steps along it before it adds an edge, and ends, since a simple graph of n vertices has at
+// most n * n darts.
 //
 // `triangulate` returns such a map: its darts are those of the graph, in the order of the rotation system around each vertex, and the
 // new ones. Triangulating first, by any edges, is how de Fraysseix, Pach and Pollack (1990) come to a straight-line drawing of each

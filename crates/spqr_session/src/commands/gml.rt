@@ -1,5 +1,7 @@
 // `gml`: the document with the present embedding.
-ghost use Rattle.std.specs.Prelude.{◌≡◌, ℕ, List, map, IfOk};
+ghost use Rattle.std.specs.Prelude.{◌≡◌, ℕ, List, ◌++◌, codes, decimal, map, IfOk};
+ghost use Rattle.spqr_script.specs.Text.{line_end};
+ghost use Rattle.spqr_script.specs.Answers.Gml.{document_text};
 ghost use Rattle.spqr_session.specs.Trees.{AreBlockTrees};
 ghost use Rattle.spqr_session.specs.Setting.{Setting};
 ghost use Rattle.spqr_session.specs.State.{State};
@@ -8,12 +10,32 @@ ghost use Rattle.spqr_session.specs.Board.{family_on};
 ghost use Rattle.spqr_session.specs.Commands.Gml.{GmlStep};
 
 use crate::embedded::EmbeddedBlock;
+use crate::lines::put_first;
 use crate::texts::present_texts;
+use decimals::{push_number, push_word};
 use gml_graph::marked;
 use gml_text::{Doc, write};
 use multigraph::Graph;
-use spqr_script::gml_lines;
 use std::alloc::{AllocError, Global};
+
+// The line `gml T`.
+fn length_line(alloc: Global, length: usize) -> Result<Vec<u8>, AllocError>
+    ensures { IfOk result (λ line. line.items ≡ codes "gml " ++ decimal length ++ line_end) }
+{
+    let mut line = Vec::from_slice(alloc, b"gml ")?;
+    push_number(&mut line, length as u128)?;
+    push_word(&mut line, b"\n")?;
+    Ok(line)
+}
+
+// The line with the length of a written document, and the document after it.
+fn with_length(alloc: Global, mut text: Vec<u8>) -> Result<Vec<u8>, AllocError>
+    ensures { IfOk result (λ out. out.items ≡ document_text text.items) }
+{
+    let line = length_line(alloc, text.len())?;
+    put_first(&mut text, &line)?;
+    Ok(text)
+}
 
 /// Carries out `gml`: the document in the written layout, with the present embedding in its nodes. Nothing changes.
 pub(crate) fn carry_gml(
@@ -29,6 +51,5 @@ pub(crate) fn carry_gml(
 {
     let texts = present_texts(alloc, graph.vertex_count(), blocks)?;
     let document = marked(alloc, doc, &texts)?;
-    let written = write(alloc, &document)?;
-    gml_lines(alloc, &written)
+    with_length(alloc, write(alloc, &document)?)
 }

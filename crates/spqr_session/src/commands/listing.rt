@@ -13,25 +13,12 @@ ghost use Rattle.spqr_session.specs.Commands.Listing.{members_text, IsListing};
 
 use crate::code::Code;
 use crate::embedded::EmbeddedBlock;
+use crate::lines::put_first;
 use embed_enum::next;
 use multigraph::Part;
 use skel_embed::{Outcome, PlaneBlock};
 use spqr_script::{end_line, list_line, more_line, push_rotation_line};
 use std::alloc::{AllocError, Global};
-
-// How many members follow, up to n: a copy of the block walks.
-fn count_following(alloc: Global, n: u32, plane: &PlaneBlock) -> Result<u32, AllocError>
-    ensures { IfOk result (λ t. (l : List (List (List ℕ))) (i : ℕ) → IsMemberList plane.now l → IsRank l plane.now.rotation i
-        → t ≡ length (take n (drop (i + 1) l))) }
-{
-    let mut walker = plane.copy(alloc)?;
-    for turn in 0..n {
-        if !next(&mut walker) {
-            return Ok(turn);
-        }
-    }
-    Ok(n)
-}
 
 // Goes to the next members, n of them or all where they are fewer, appends the line of each to a text, and returns how many they
 // are.
@@ -70,8 +57,8 @@ fn last_line(alloc: Global, more: bool) -> Result<Vec<u8>, AllocError>
     }
 }
 
-// The lines of the next n members of a block in the plane. They are counted first, so that each line is written once and in its
-// place; then a copy of the block walks.
+// The lines of the next n members of a block in the plane, by a walk of a copy. It counts them, so the first line is put before the
+// others when they are written.
 fn list_plane(
     alloc: Global,
     b: u32,
@@ -83,12 +70,13 @@ fn list_plane(
     ensures { IfOk result (λ text. (l : List (List (List ℕ))) (i : ℕ) → IsMemberList plane.now l → IsRank l plane.now.rotation i
         → text.items ≡ members_text b n (record { part = part.now; nodes = plane.now.tree }) (drop (i + 1) l)) }
 {
-    let count = count_following(alloc, n, plane)?;
-    let mut text = list_line(alloc, b, count)?;
     let mut walker = plane.copy(alloc)?;
-    push_members(&mut text, b, n, part, &mut walker)?;
+    let mut text = Vec::new(alloc);
+    let count = push_members(&mut text, b, n, part, &mut walker)?;
     let last = last_line(alloc, next(&mut walker))?;
     text.extend_from_slice(&last)?;
+    let first = list_line(alloc, b, count)?;
+    put_first(&mut text, &first)?;
     Ok(text)
 }
 

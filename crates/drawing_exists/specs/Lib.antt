@@ -1,0 +1,2 @@
+-- Drawings on the grid exist.
+pub mod Laws

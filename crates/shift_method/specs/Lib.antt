@@ -1,0 +1,3 @@
+-- The shift method of straight-line drawing.
+pub mod Shapes
+pub mod Peeled
