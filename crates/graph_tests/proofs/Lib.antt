@@ -1,2 +1,3 @@
 -- Lemmas of the tests.
 mod Triangulated
+mod Peeled

@@ -19,4 +19,6 @@ mod rings;
 #[cfg(test)]
 mod rotation_systems;
 #[cfg(test)]
+mod shifting;
+#[cfg(test)]
 mod triangulating;
