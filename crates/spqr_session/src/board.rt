@@ -184,7 +184,7 @@ fn step_to(
       locks = plane.now.locks;
     })) }
 {
-    let _ = plane.graph();
+    plane.belongs();
     match blocks[b as usize].outcome() {
         Outcome::Plane(present) => Ok(Step::Moves {
             block: b,
