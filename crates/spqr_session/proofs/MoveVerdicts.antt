@@ -1,24 +1,21 @@
 -- The codes that apply to moves and mirror images of a block.
 use Rattle.std.proofs.Common.{◌≡◌, ℕ, ◌<◌, Bool, true, false, not, ◌&&◌, List, [], ◌∷◌, length, Option, None, Some, refl, sym, ap, ◌∙◌, subst}
-use Rattle.std.proofs.lemmas.Bool.{lt-ltb}
 use Rattle.permutations.specs.Count.{some, least}
 use Rattle.permutations.proofs.Search.{least-is, some-from, none-some}
 use Rattle.pair_split.specs.Tutte.{Node, node_at}
 use Rattle.pair_split.specs.declared.components.Kind.{Kind}
-use Rattle.pair_split.specs.declared.components.Kind.TheVariants.{R}
 use Rattle.skel_embed.specs.Block.{BlockState, lock_at}
 use Rattle.embed_moves.specs.Made.{IsLeastHeld, NoneHeld}
 use Rattle.embed_moves.specs.Made as made
 use Rattle.spqr_session.specs.State.{Embedding}
 use Rattle.spqr_session.specs.Embedded.{BlockView}
 use Rattle.spqr_session.specs.Codes.{Ladder, first_code}
-use Rattle.spqr_session.specs.BlockCodes.{is_node, is_planar, kind_of, entry_codes, of_entry, lock_codes}
-use Rattle.pair_split.specs.Kinds.{is_rigid, has_choices}
-use Rattle.spqr_session.specs.Commands.Flip.{flip_codes}
+use Rattle.spqr_session.specs.BlockCodes.{is_planar, kind_of, entry_codes, of_entry}
+use Rattle.pair_split.specs.Kinds.{has_choices}
 use Rattle.spqr_session.specs.Commands.Mirror.{is_held, mirror_codes}
-use Rattle.spqr_session.specs.Planned.{IsVerdict, IsLockVerdict, IsMirrorVerdict}
+use Rattle.spqr_session.specs.Planned.{IsVerdict, IsMirrorVerdict}
 use Rattle.spqr_session.specs.declared.code.Code.{Code}
-use Rattle.spqr_session.specs.declared.code.Code.TheVariants.{NoNode, WrongKind, NonPlanar, Locked}
+use Rattle.spqr_session.specs.declared.code.Code.TheVariants.{NonPlanar, Locked}
 use Rattle.spqr_session.proofs.Ladders.{rung-hit, rung-missed}
 use Rattle.spqr_session.proofs.Planes.{seen_embedding, SeenPlane}
 

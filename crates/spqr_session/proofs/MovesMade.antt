@@ -1,10 +1,9 @@
 -- `flip`, `permute` and `mirror`: where no code applies the moves can be made, and what is made is a step.
-use Rattle.std.proofs.Common.{◌≡◌, ℕ, ◌<◌, List, [], ◌∷◌, length, map, Option, None, Some, Result, Ok, Err, IfOk, OnErr, IsPermutation, refl, sym, ap, ◌∙◌, subst, arith}
+use Rattle.std.proofs.Common.{◌≡◌, ℕ, ◌<◌, List, [], ◌∷◌, length, map, Option, None, Result, Ok, Err, IfOk, OnErr, refl, sym, ap, ◌∙◌, subst, arith}
 use Rattle.std.specs.Global.{Vec}
 use Rattle.std.proofs.lemmas.List.{length-map}
 use Rattle.std.proofs.lemmas.List.Elements.{All-nil, All-cons}
 use Rattle.rotations.specs.Runs.{mirror_image}
-use Rattle.pair_split.specs.Tutte.{node_at}
 use Rattle.pair_split.specs.Kinds.{is_rigid, is_bond}
 use Rattle.skeletons.specs.Moves.{Move, flip, permute, MoveLeads}
 use Rattle.embed_moves.specs.Made.{Fits}
@@ -14,7 +13,7 @@ use Rattle.spqr_session.specs.State.{Embedding, State, entry_at}
 use Rattle.spqr_session.specs.Scene.{setting_on}
 use Rattle.spqr_session.specs.declared.scene.Scene.{Scene}
 use Rattle.spqr_session.specs.Embedded.{BlockView, view_tree, view_at}
-use Rattle.spqr_session.specs.Codes.{Ladder, first_code, code_text}
+use Rattle.spqr_session.specs.Codes.{Ladder}
 use Rattle.spqr_session.specs.BlockCodes.{block_ladder, read_ladder, of_entry, lock_codes, kind_of}
 use Rattle.spqr_session.specs.Board.{BoardView, family_on, board_state, IsCarried, StandsAt, CanMake, AreMade, IsMirroredAt}
 use Rattle.spqr_session.specs.Planned.{IsVerdict, AreArranged}

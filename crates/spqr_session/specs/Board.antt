@@ -91,7 +91,7 @@ pub record CanReplace (views : List BlockView) (b : ℕ) (e : Embedding) (plane 
   pub tree : plane.tree ≡ (view_at views b).tree.nodes
   pub locks : plane.locks ≡ e.locks
 
--- moves of block b can be made: it is there and planar, and they are moves of its tree, each of another node
+-- moves of block b can be made: it is there and planar, and they are moves of its tree, no two of one node
 pub record CanMake (views : List BlockView) (b : ℕ) (moves : List Move) : Type 0 where
   pub entry : Embedding
   pub stands : StandsAt views b entry

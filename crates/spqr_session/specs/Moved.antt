@@ -41,7 +41,7 @@ abbrev pub all_moved : List Node → List Move → List (List ℕ) → List (Lis
 all_moved nodes [] r = r
 all_moved nodes (move ∷ moves) r = all_moved nodes moves (moved nodes move r)
 
--- moves of the tree, each of another node
+-- moves of the tree, no two of one node
 pub record AreOfNodes (nodes : List Node) (moves : List Move) : Type 0 where
   pub fit : All (Fits nodes) moves
   pub apart : is_distinct (map moved_node moves) ≡ true
@@ -60,7 +60,7 @@ pub record LeadBack (nodes : List Node) (r : List (List ℕ)) (forth back : List
 abbrev pub mirror_move : List Node → List (List ℕ) → ℕ → List Move
 mirror_move nodes r k = move_of_kind (node_at nodes k).kind k (reverse (choice nodes r k))
 
--- moves of the tree, each of another node, lead from r to its mirror image
+-- moves of the tree, no two of one node, lead from r to its mirror image
 pub record LeadToMirror (nodes : List Node) (r : List (List ℕ)) (moves : List Move) : Type 0 where
   pub are : AreOfNodes nodes moves
   pub mirror : all_moved nodes moves r ≡ mirror_image r

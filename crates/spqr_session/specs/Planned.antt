@@ -4,7 +4,7 @@ use Rattle.multigraph.specs.Part.{GraphPart}
 use Rattle.rotations.specs.PartLists.{IsFirstBadInPart}
 use Rattle.skeletons.specs.Items.{node_keys}
 use Rattle.skeletons.specs.Lists.{IsRank}
-use Rattle.skel_embed.specs.Block.{BlockState, lock_at}
+use Rattle.skel_embed.specs.Block.{BlockState}
 use Rattle.skel_embed.specs.Taken.{IsNotPlane}
 use Rattle.embed_enum.specs.Walk.{IsMemberList, KeepsRest}
 use Rattle.embed_moves.specs.Made.{IsLeastHeld, NoneHeld}

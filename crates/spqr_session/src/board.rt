@@ -84,7 +84,7 @@ impl Board {
         Ok(())
     }
 
-    /// Makes moves of block `b`, one after the other, each of another node. If memory runs out, everything is as before.
+    /// Makes moves of block `b`, one after the other, no two of one node. If memory runs out, everything is as before.
     pub fn make(&mut self, alloc: Global, b: u32, forth: MoveList) -> Result<(), AllocError>
         requires { CanMake self.old.views b (as_moves forth) }
         ensures done { IfOk result (λ _. AreMade self.old b (as_moves forth) self.new) }
@@ -184,7 +184,7 @@ fn step_to(
       locks = plane.now.locks;
     })) }
 {
-    let _ = plane.graph();
+    plane.belongs();
     match blocks[b as usize].outcome() {
         Outcome::Plane(present) => Ok(Step::Moves {
             block: b,

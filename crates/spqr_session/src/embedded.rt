@@ -72,7 +72,7 @@ fn keeps_together(outcome: &Outcome)
     ensures { KeepsTogether outcome.now }
 {
     if let Outcome::Plane(plane) = outcome {
-        let _ = plane.graph();
+        plane.belongs();
     }
 }
 

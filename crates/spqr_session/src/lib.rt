@@ -13,6 +13,10 @@
 // the lowest that does, and then changes nothing. Each command has an answer in each state, and one only but for `longest`, whose
 // moves may lead to any of the longest faces, and `draw`, whose points may be any drawing on the grid; there is one report on a
 // setting and commands as far as these agree. Without memory a session stays as it was.
+//
+// `flip`, `permute` and `mirror` change a block in place. Their moves are of different nodes, and a move changes the choice of its
+// node alone, so each is taken back by one move to the choice that was there before, in any order: room for these is reserved
+// before anything changes.
 #![tactic(auto)]
 
 mod board;

@@ -23,7 +23,7 @@ fn lines_to(alloc: Global, block: &EmbeddedBlock, plane: &PlaneBlock) -> Result<
     requires { FitsBlock block.now plane.now }
     ensures { IfOk result (λ text. TellsMoves block.now plane.now text.items) }
 {
-    let _ = plane.graph();
+    plane.belongs();
     match block.outcome() {
         Outcome::Plane(present) => {
             let list = moves(alloc, present, plane)?;

@@ -30,7 +30,7 @@ fn take_of_plane(
     let mut copy = plane.copy(alloc)?;
     match copy.take(alloc, part, lists) {
         Ok(()) => {
-            let _ = copy.graph();
+            copy.belongs();
             Ok(Planned::Change(copy))
         }
         Err(fault) => match fault {

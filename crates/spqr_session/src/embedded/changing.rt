@@ -84,7 +84,7 @@ impl EmbeddedBlock {
               (record { rotation = plane.rotation; locks = plane.locks });
         } }
     {
-        let _ = plane.graph();
+        plane.belongs();
         self.outcome = Outcome::Plane(plane);
     }
 }
@@ -121,7 +121,7 @@ fn take_in(
         × (plane.new ≡ plane.old)) }
 {
     let taken = plane.take(alloc, part, lists);
-    let _ = plane.graph();
+    plane.belongs();
     taken
 }
 
@@ -134,6 +134,6 @@ fn carry_one(plane: &mut PlaneBlock, one: &Move)
       choices = plane.new.choices;
     } }
 {
-    let _ = plane.graph();
+    plane.belongs();
     carry_out(plane, one);
 }

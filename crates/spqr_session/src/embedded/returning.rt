@@ -11,7 +11,7 @@ use skel_embed::{Keys, Move, MoveList, Outcome, PlaneBlock};
 use std::alloc::{AllocError, Global};
 
 impl EmbeddedBlock {
-    /// Moves that lead back from where these moves of a planar block lead, each of another node.
+    /// Moves that lead back from where these moves of a planar block lead, no two of one node.
     pub(crate) fn back(&self, alloc: Global, forth: &MoveList) -> Result<MoveList, AllocError>
         requires planar { (e : Embedding) × (self.now.entry ≡ Some e) }
         requires moves { AreOfNodes self.now.tree.nodes (as_moves forth.now) }

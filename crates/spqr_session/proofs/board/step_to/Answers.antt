@@ -16,4 +16,4 @@ returns c =
     let right = subst (λ (o : Outcome). IsEmbedded v.tree.part o) c.in-Plane.is c.outcome.ensures.right in
     plane-leads views c.args.b c.requires.0 can.stands c.in-Plane.present c.args.plane.now c.in_ok-moves_to-in-Plane.field-0 c.in_ok-moves_to-in-Plane-2.field-0
     (subst (λ (x : BlockView). block_view x.tree.part (Plane c.in-Plane.present) ≡ x) found seen) (subst (λ (x : BlockView). IsEmbedded x.tree.part (Plane c.in-Plane.present)) found right)
-    can c.graph.ensures.state c.in_ok-moves_to-in-Plane.ensures c.in_ok-moves_to-in-Plane-2.ensures
+    can c.belongs.ensures c.in_ok-moves_to-in-Plane.ensures c.in_ok-moves_to-in-Plane-2.ensures

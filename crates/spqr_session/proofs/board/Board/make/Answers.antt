@@ -4,7 +4,7 @@ use Rattle.undo_log.specs.declared.step.Step.TheVariants.{Moves}
 use Rattle.spqr_session.specs.State.{Embedding}
 use Rattle.spqr_session.specs.Moved.{all_moved, LeadBack}
 use Rattle.spqr_session.specs.History.{entry_moved}
-use Rattle.spqr_session.specs.Embedded.{BlockView, view_at, view_entry, IsInPlane}
+use Rattle.spqr_session.specs.Embedded.{BlockView, view_at, IsInPlane}
 use Rattle.spqr_session.specs.Board.{BoardView, board_view, StandsAt, CanMake, AreMade}
 use Rattle.spqr_session.proofs.BlockTrees.{view-at}
 use Rattle.spqr_session.proofs.Boards.{noted-added}

@@ -1,4 +1,4 @@
-use Rattle.std.proofs.Common.{List, Option, Some, ap, sym, ◌∙◌, subst, slice_set}
+use Rattle.std.proofs.Common.{List, Option, ap, sym, ◌∙◌, subst, slice_set}
 use Rattle.rotations.specs.Runs.{mirror_image}
 use Rattle.skel_embed.specs.Values.{as_moves}
 use Rattle.undo_log.specs.declared.step.Step.TheVariants.{Moves}

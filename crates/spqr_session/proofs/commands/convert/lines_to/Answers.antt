@@ -15,7 +15,7 @@ moves_lines-requires c =
     let list = c.in_ok-list-in-Plane in
     let seen = seen-plane v c.outcome.result.now p c.outcome.ensures.view c.outcome.ensures.right c.in-Plane.is in
     subst (λ (part : GraphPart). All (IsMoveOf part.graph) c.deref.result.now) (sym c.part.ensures)
-    (subst (λ (l : List Move). All (IsMoveOf v.tree.part.graph) l) (sym c.deref.ensures.value) (between-within v p c.args.plane.now seen c.requires c.graph.ensures.state list.list.items list.ensures.moves))
+    (subst (λ (l : List Move). All (IsMoveOf v.tree.part.graph) l) (sym c.deref.ensures.value) (between-within v p c.args.plane.now seen c.requires c.belongs.ensures list.list.items list.ensures.moves))
 
 pub returns : goal.returns
 returns c =
@@ -24,4 +24,4 @@ returns c =
     let list = c.in_ok-list-in-Plane in
     let seen = seen-plane v c.outcome.result.now p c.outcome.ensures.view c.outcome.ensures.right c.in-Plane.is in
     text-map c.moves_lines.result (λ text. text ≡ moves_text c.part.result.now c.deref.result.now) (λ text. TellsMoves v c.args.plane.now text)
-    (λ text e. between-told v p c.args.plane.now seen c.requires c.graph.ensures.state list.list.items list.ensures.moves text (e ∙ ap₂ moves_text c.part.ensures c.deref.ensures.value)) c.moves_lines.ensures
+    (λ text e. between-told v p c.args.plane.now seen c.requires c.belongs.ensures list.list.items list.ensures.moves text (e ∙ ap₂ moves_text c.part.ensures c.deref.ensures.value)) c.moves_lines.ensures

@@ -1,4 +1,4 @@
-use Rattle.std.proofs.Common.{◌≡◌, [], ◌∷◌, List, map, None, Some}
+use Rattle.std.proofs.Common.{◌≡◌, [], ◌∷◌, map, None, Some}
 use Rattle.skeletons.specs.Moves.{flip}
 use Rattle.spqr_script.specs.Answers.Change.{ok_text}
 use Rattle.spqr_session.specs.Embedded.{view_tree}

@@ -1,4 +1,4 @@
-use Rattle.std.proofs.Common.{◌≡◌, List, map, None, Some}
+use Rattle.std.proofs.Common.{◌≡◌, map, None, Some}
 use Rattle.spqr_session.specs.Embedded.{view_tree}
 use Rattle.spqr_session.specs.Scene.{setting_on}
 use Rattle.spqr_session.specs.Codes.{code_text}

@@ -14,7 +14,7 @@ returns-in-Ok c =
     let same : c.in_ok-copy.copy ≡ p = c.in_ok-copy.ensures in
     taken-plane c.args.lists.now c.args.part.now p q c.requires
     (subst (λ (x : BlockState). q ≡ record x { rotation = q.rotation; choices = q.choices }) same c.in-Ok.ensures.rest)
-    c.graph.ensures.state c.in-Ok.ensures.given
+    c.belongs.ensures c.in-Ok.ensures.given
     (subst (λ (x : BlockState). KeepsChoices x.tree (λ k. lock_at x.locks k) x.rotation q.rotation) same c.in-Ok.ensures.keeps)
 
 pub returns-in-BadRotation : goal.returns-in-BadRotation

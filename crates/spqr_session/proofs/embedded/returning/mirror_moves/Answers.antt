@@ -1,7 +1,6 @@
-use Rattle.std.proofs.Common.{◌≡◌, List, length, map, sym, ap, ◌∙◌, subst, arith}
+use Rattle.std.proofs.Common.{◌≡◌, length, map, sym, ap, ◌∙◌, subst, arith}
 use Rattle.std.specs.Prelude.{option_to_list}
 use Rattle.std.proofs.lemmas.List.{map-append}
-use Rattle.skeletons.specs.Moves.{Move}
 use Rattle.skel_embed.specs.Values.{as_move, as_moves}
 use Rattle.embed_moves.proofs.Arranging.{choice-arranged}
 use Rattle.spqr_session.specs.Moved.{LeadToMirror}

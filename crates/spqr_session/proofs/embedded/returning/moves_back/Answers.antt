@@ -1,9 +1,6 @@
-use Rattle.std.proofs.Common.{◌≡◌, ◌<◌, List, length, map, take, get_or, sym, ap, ◌∙◌, subst, arith, All}
+use Rattle.std.proofs.Common.{◌≡◌, ◌<◌, List, length, map, take, get_or, sym, ap, ◌∙◌, subst, arith}
 use Rattle.std.proofs.lemmas.List.{take_all}
-use Rattle.pair_split.specs.Tutte.{Node}
-use Rattle.skeletons.specs.Moves.{Move}
 use Rattle.moves.specs.declared.values.Move as kept
-use Rattle.embed_moves.specs.Made.{Fits}
 use Rattle.skel_embed.specs.Values.{as_move, as_moves}
 use Rattle.embed_moves.proofs.Arranging.{choice-arranged}
 use Rattle.spqr_session.specs.Moved.{way_back, LeadBack}
