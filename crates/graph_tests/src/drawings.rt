@@ -34,7 +34,7 @@ const TWO: &[(u32, u32)] = &[(0, 1), (2, 3)];
 const PATH: &[(u32, u32)] = &[(0, 1), (0, 2)];
 
 // Worked out by hand, on squared paper.
-static ROWS: [Row; 15] = [
+static ROWS: [Row; 17] = [
     Row {
         name: "K4",
         vertices: 4,
@@ -124,6 +124,22 @@ static ROWS: [Row; 15] = [
         is_drawing: false,
     },
     Row {
+        name: "an edge that ends on another",
+        vertices: 4,
+        ends: TWO,
+        orders: &[(0, &[0]), (1, &[0]), (2, &[1]), (3, &[1])],
+        points: &[(0, 0), (4, 2), (2, 1), (1, 3)],
+        is_drawing: false,
+    },
+    Row {
+        name: "an edge that ends beside another",
+        vertices: 4,
+        ends: TWO,
+        orders: &[(0, &[0]), (1, &[0]), (2, &[1]), (3, &[1])],
+        points: &[(0, 0), (4, 2), (1, 1), (1, 3)],
+        is_drawing: true,
+    },
+    Row {
         name: "edges that cross",
         vertices: 4,
         ends: TWO,
@@ -193,11 +209,16 @@ struct Parallels {
     pair: Option<(u32, u32)>,
 }
 
-static PARALLELS: [Parallels; 6] = [
+static PARALLELS: [Parallels; 7] = [
     Parallels {
         vertices: 3,
         ends: &[(0, 1), (1, 2), (1, 2), (0, 1)],
         pair: Some((0, 3)),
+    },
+    Parallels {
+        vertices: 2,
+        ends: &[(0, 1), (0, 1)],
+        pair: Some((0, 1)),
     },
     Parallels {
         vertices: 2,

@@ -9,6 +9,8 @@ mod block_structures;
 #[cfg(test)]
 mod drawings;
 #[cfg(test)]
+mod drawn;
+#[cfg(test)]
 mod face_tracing;
 #[cfg(test)]
 mod graphs;

@@ -193,7 +193,7 @@ fn triangulations_have_three_edges_a_vertex(rt: HostRuntime) -> Result<(), Fail>
 }
 
 // Appends the edges around vertex v, which is above the last one.
-fn append(lists: &mut Lists, v: u32, edges: &[u32]) -> Result<(), AllocError> {
+pub(crate) fn append(lists: &mut Lists, v: u32, edges: &[u32]) -> Result<(), AllocError> {
     if lists.is_above(v) {
         lists.push(v, edges)?;
     }
