@@ -84,6 +84,12 @@ def hub(spokes):
     return spokes + 1, [(0, v) for v in range(1, spokes + 1) for _ in range(2)] + [(v, v % spokes + 1) for v in range(1, spokes + 1)]
 
 
+def rigid_nodes(name):
+    """The triconnected nodes of block 0, read off the head."""
+    head = subprocess.run([PROGRAM, "run", f"{DATA}/{name}.gml", f"{DATA}/{name}_head.spqr"], capture_output=True, text=True, check=True).stdout
+    return [line.split()[1] for line in head.split("block 1")[0].splitlines() if line.startswith("node ") and line.split()[2] == "R"]
+
+
 def main():
     os.makedirs(DATA, exist_ok=True)
     print(f"{'input':<24}{'head s':>9}{'whole s':>9}{'lines':>8}{'us/line':>11}{'MiB':>8}")
@@ -101,6 +107,11 @@ def main():
                         ("convert_20000", [f"convert 0 rank {draw.randrange(2**64)}" for _ in range(100)]), ("next_20000", ["next 0"] * 100)):
         write(name, vertices, ends, lines)
         row(name, 100)
+    write("moves_20000", vertices, ends, [])
+    rigid = rigid_nodes("moves_20000")
+    for name, lines in (("flip_20000", [f"flip 0 {k}" for k in rigid[:2000]]), ("undo_20000", [f"flip 0 {rigid[-1]}"] + ["undo", "redo"] * 500), ("mirror_20000", ["mirror 0"] * 100)):
+        write(name, vertices, ends, lines)
+        row(name, len(lines))
     vertices, ends = hub(5000)
     write("hub_list", vertices, ends, ["list 0 1000"])
     row("hub_list", 1)

@@ -60,14 +60,16 @@ module _ (l : List (List (List ℕ))) (i : ℕ) where
 
 -- ---- the whole text
 
--- the members and the last line, and the first line put before them
+-- the first line, the members and the last line
 pub members-whole : (b n t : ℕ) (part : GraphPart) (ahead : List (List (List ℕ))) (more : Bool) (last head lines rest text : List ℕ) → t ≡ length (take n ahead) → more ≡ nat_lt n (length ahead)
-    → last ≡ (if more then more_text else end_text) → head ≡ list_text b t → lines ≡ concat (map (rotation_text part b) (take n ahead)) → rest ≡ lines ++ last → text ≡ head ++ rest
+    → last ≡ (if more then more_text else end_text) → head ≡ list_text b n → lines ≡ head ++ concat (map (rotation_text part b) (take n ahead)) → rest ≡ lines ++ last
+    → ((tail : List ℕ) → rest ≡ list_text b n ++ tail → text ≡ list_text b t ++ tail)
     → text ≡ list_text b (length (take n ahead)) ++ concat (map (rotation_text part b) (take n ahead)) ++ (if nat_lt n (length ahead) then more_text else end_text)
-members-whole b n t part ahead more last head lines rest text count follows end first second third whole =
-    whole ∙ ap (λ (x : List ℕ). x ++ rest) (first ∙ ap (list_text b) count) ∙ ap (λ (x : List ℕ). list_text b (length (take n ahead)) ++ x) (third
-    ∙ ap (λ (x : List ℕ). x ++ last) second ∙ ap (λ (x : List ℕ). concat (map (rotation_text part b) (take n ahead)) ++ x) (end ∙ ap (λ (x : Bool). if x then more_text else end_text) follows))
-    ∙ sym (append_assoc (list_text b (length (take n ahead))) (concat (map (rotation_text part b) (take n ahead))) (if nat_lt n (length ahead) then more_text else end_text))
+members-whole b n t part ahead more last head lines rest text count follows end first second third changed =
+    let members = concat (map (rotation_text part b) (take n ahead)) in
+    let whole : rest ≡ list_text b n ++ (members ++ last) = third ∙ ap (λ (x : List ℕ). x ++ last) (second ∙ ap (λ (x : List ℕ). x ++ members) first) ∙ append_assoc (list_text b n) members last in
+    changed (members ++ last) whole ∙ ap (λ (k : ℕ). list_text b k ++ (members ++ last)) count ∙ sym (append_assoc (list_text b (length (take n ahead))) members last)
+    ∙ ap (λ (x : List ℕ). list_text b (length (take n ahead)) ++ members ++ x) (end ∙ ap (λ (x : Bool). if x then more_text else end_text) follows)
 
 -- what is told of a block that is seen in the plane
 pub listing-told : {E : Type 0} (v : BlockView) (p : BlockState) (seen : SeenPlane v p) (b n : ℕ) (part : GraphPart) (r : Result (Vec ℕ) E) → part ≡ v.tree.part

@@ -1,10 +1,10 @@
 // `list B N`: the members that follow the present one in a block's list.
-ghost use Rattle.std.specs.Prelude.{◌≡◌, ℕ, ◌+◌, if◌then◌else◌, List, ◌++◌, length, take, drop, map, IfOk};
+ghost use Rattle.std.specs.Prelude.{◌≡◌, ℕ, ◌+◌, if◌then◌else◌, List, ◌++◌, length, take, drop, map, IfOk, OnOk};
 ghost use Rattle.std.specs.List.{concat};
 ghost use Rattle.skeletons.specs.Lists.{IsRank};
 ghost use Rattle.embed_enum.specs.Walk.{IsMemberList};
 ghost use Rattle.spqr_script.specs.Answers.Change.{end_text};
-ghost use Rattle.spqr_script.specs.Answers.List.{more_text};
+ghost use Rattle.spqr_script.specs.Answers.List.{list_text, more_text};
 ghost use Rattle.spqr_script.specs.Answers.Rotation.{rotation_text};
 ghost use Rattle.spqr_session.specs.State.{State};
 ghost use Rattle.spqr_session.specs.Embedded.{view_tree, view_entry};
@@ -57,8 +57,29 @@ fn last_line(alloc: Global, more: bool) -> Result<Vec<u8>, AllocError>
     }
 }
 
-// The lines of the next n members of a block in the plane, by a walk of a copy. It counts them, so the first line is put before the
-// others when they are written.
+// Puts the line `list B T` in the place of the line `list B N` with which a text begins. The text is moved only where T is not N.
+fn set_count(
+    alloc: Global,
+    text: &mut Vec<u8>,
+    b: u32,
+    n: u32,
+    count: u32,
+) -> Result<(), AllocError>
+    ensures { (rest : List ℕ) → text.old.items ≡ list_text b n ++ rest
+        → OnOk result (text.new.items ≡ list_text b count ++ rest) }
+{
+    if count == n {
+        return Ok(());
+    }
+    let front = list_line(alloc, b, n)?.len().min(text.len());
+    let line = list_line(alloc, b, count)?;
+    text.rotate_left(front);
+    text.truncate(text.len() - front);
+    put_first(text, &line)
+}
+
+// The lines of the next n members of a block in the plane, by a walk of a copy. The first line says that n follow, until the walk has
+// counted them.
 fn list_plane(
     alloc: Global,
     b: u32,
@@ -71,12 +92,11 @@ fn list_plane(
         → text.items ≡ members_text b n (record { part = part.now; nodes = plane.now.tree }) (drop (i + 1) l)) }
 {
     let mut walker = plane.copy(alloc)?;
-    let mut text = Vec::new(alloc);
+    let mut text = list_line(alloc, b, n)?;
     let count = push_members(&mut text, b, n, part, &mut walker)?;
     let last = last_line(alloc, next(&mut walker))?;
     text.extend_from_slice(&last)?;
-    let first = list_line(alloc, b, count)?;
-    put_first(&mut text, &first)?;
+    set_count(alloc, &mut text, b, n, count)?;
     Ok(text)
 }
 

@@ -88,8 +88,8 @@ fn code_of_bond(
     requires kind { kind_of block.now.tree k ≡ P }
     ensures { IfOk result (IsPermuteVerdict k keys.now block.now) }
 {
+    // The nodes are the tree of the part, and the part has the number of each of its edges.
     let _ = block.outcome();
-    // The part has the number of each of its edges.
     let _ = block.part().graph();
     let own = inner_keys(alloc, block, keys)?;
     if !are_arranged(alloc, block.tree().items(k), &own)? {

@@ -1,6 +1,4 @@
-use Rattle.std.proofs.Common.{ℕ, ◌+◌, List, ◌++◌, map, take, drop, sym, ap, ◌∙◌, subst}
-use Rattle.std.specs.List.{concat}
-use Rattle.spqr_script.specs.Answers.Rotation.{rotation_text}
+use Rattle.std.proofs.Common.{ℕ, ◌+◌, List, ◌++◌, drop, sym, ap, ◌∙◌, subst}
 use Rattle.skeletons.specs.Lists.{IsRank}
 use Rattle.skel_embed.specs.Block.{BlockState}
 use Rattle.embed_enum.specs.Walk.{IsMemberList}
@@ -18,7 +16,5 @@ returns c = λ l i m k.
     let stands = c.in_ok-count.ensures.stands l i m0 k0 in
     let lines = c.in_ok-count.ensures.lines l i m0 k0 in
     let more = follows-is l i t c.args.n c.next.new.p.rotation c.next.result count (c.next.ensures.next l (i + t) stands.0 stands.1) (c.next.ensures.last l (i + t) stands.0 stands.1) in
-    members-whole c.args.b c.args.n t c.args.part.now ahead c.next.result c.in_ok-last.last.items c.in_ok-first.first.items c.push_members.new.out.items c.extend_from_slice.new.self.items c.put_first.new.text.items
-    count more c.in_ok-last.ensures c.in_ok-first.ensures (lines ∙ ap (λ (x : List ℕ). x ++ concat (map (rotation_text c.args.part.now c.args.b) (take c.args.n ahead))) c.new-text.ensures.items)
-    (c.in_ok-extend_from_slice.ensures.items ∙ ap (λ (x : List ℕ). c.push_members.new.out.items ++ x) c.deref.ensures.value)
-    (c.in_ok-put_first.ensures ∙ ap (λ (x : List ℕ). x ++ c.extend_from_slice.new.self.items) c.deref-2.ensures.value)
+    members-whole c.args.b c.args.n t c.args.part.now ahead c.next.result c.in_ok-last.last.items c.in_ok-text.text.items c.push_members.new.out.items c.extend_from_slice.new.self.items c.set_count.new.text.items
+    count more c.in_ok-last.ensures c.in_ok-text.ensures lines (c.in_ok-extend_from_slice.ensures.items ∙ ap (λ (x : List ℕ). c.push_members.new.out.items ++ x) c.deref.ensures.value) c.in_ok-set_count.ensures
