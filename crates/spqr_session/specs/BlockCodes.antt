@@ -1,12 +1,16 @@
 -- Commands that name a block: when the codes apply that speak of a block and a node, and what such commands do.
-use Rattle.std.specs.Prelude.{◌≡◌, ℕ, Bool, true, false, not, nat_lt, List, [], ◌∷◌, ◌++◌, length, slice_set, Option, None, Some}
+use Rattle.std.specs.Prelude.{◌≡◌, ℕ, Bool, true, false, not, nat_lt, if◌then◌else◌, List, [], ◌∷◌, ◌++◌, length, map, slice_index, slice_index_or, slice_set, Option, None, Some}
+use Rattle.permutations.specs.Members.{is_member}
+use Rattle.multigraph.specs.Graph.{numbers_below}
 use Rattle.pair_split.specs.Tutte.{node_at}
 use Rattle.pair_split.specs.declared.components.Kind.{Kind}
 use Rattle.skel_embed.specs.Block.{lock_at}
 use Rattle.spqr_script.specs.Answers.Change.{ok_text}
 use Rattle.spqr_session.specs.Trees.{BlockTree, tree_at}
 use Rattle.spqr_session.specs.Setting.{Setting}
-use Rattle.spqr_session.specs.State.{Embedding, State, entry_at}
+use Rattle.whole_embed.specs.Component.{Component, BlockInPlane}
+use Rattle.whole_embed.specs.Walk.{first_around}
+use Rattle.spqr_session.specs.State.{Embedding, Family, State, entry_at, arrangements_in, component_at, blocks_with}
 use Rattle.spqr_session.specs.Codes.{Ladder, Applies, Carries, code_text, first_code}
 use Rattle.spqr_session.specs.declared.code.Code.{Code}
 use Rattle.spqr_session.specs.declared.code.Code.TheVariants.{NoBlock, NoNode, WrongKind, NonPlanar, Locked}
@@ -60,13 +64,39 @@ pub record ReadsBlock (trees : List BlockTree) (b : ℕ) (IsAbout : BlockTree �
   pub answer : IsAbout (tree_at trees b) embedding text
   pub stays : after ≡ before
 
--- block b has this embedding now, the family from before is the nearest earlier one, and none is later
-abbrev pub with_entry : State → ℕ → Embedding → State
-with_entry s b e = record { present = record { entries = slice_set s.present.entries b (Some e) }; earlier = s.present ∷ s.earlier; later = [] }
+-- this family is the present one, the one from before is the nearest earlier one, and none is later
+abbrev pub with_family : State → Family → State
+with_family s family = record { present = family; earlier = s.present ∷ s.earlier; later = [] }
 
--- the state after a change of block b on a setting: nothing but its embedding is changed
+-- the family with this embedding of block b, and all else as it was
+abbrev pub entry_put : Family → ℕ → Embedding → Family
+entry_put family b e = record { entries = slice_set family.entries b (Some e); arrangements = family.arrangements }
+
+-- block b has this embedding now, and all else of the family is as before
+abbrev pub with_entry : State → ℕ → Embedding → State
+with_entry s b e = with_family s (entry_put s.present b e)
+
+-- lists at the cut vertices of a component: the first arrangement at each that is one of these vertices, and the others as they were
+abbrev pub lists_reset : Component → (ℕ → BlockInPlane) → List ℕ → List (List ℕ) → List (List ℕ)
+lists_reset k block vertices lists = map (λ i. (if is_member (slice_index k.cuts i) vertices then first_around k block i else slice_index_or lists i [])) (numbers_below (length lists))
+
+-- the same, if there are any
+abbrev pub lists_reset_in : Component → (ℕ → BlockInPlane) → List ℕ → Option (List (List ℕ)) → Option (List (List ℕ))
+lists_reset_in k block vertices None = None
+lists_reset_in k block vertices (Some lists) = Some (lists_reset k block vertices lists)
+
+-- the family with this embedding of block b and, for it, the first arrangement at each cut vertex of the block
+abbrev pub family_changed : Setting → Family → ℕ → Embedding → Family
+family_changed setting family b e = record {
+  entries = slice_set family.entries b (Some e);
+  arrangements = map
+      (λ c. lists_reset_in (component_at setting c) (blocks_with setting.trees (slice_set family.entries b (Some e))) (tree_at setting.trees b).part.vertices (arrangements_in family c))
+      (numbers_below (length family.arrangements));
+}
+
+-- the state after a change of block b on a setting: nothing but its embedding and the arrangements at its cut vertices is changed
 abbrev pub changed : Setting → State → ℕ → Embedding → State
-changed setting s b e = with_entry s b e
+changed setting s b e = with_family s (family_changed setting s.present b e)
 
 -- the embedding of the block is changed, and the answer is one about the old and the new one
 pub record ChangesBlock (setting : Setting) (b : ℕ) (IsChange : BlockTree → Embedding → Embedding → List ℕ → Type 0) (before : State) (text : List ℕ) (after : State) : Type 0 where

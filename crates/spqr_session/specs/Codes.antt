@@ -3,7 +3,7 @@ use Rattle.std.specs.Prelude.{◌≡◌, ℕ, ◌≤◌, ◌⊎◌, Bool, true, 
 use Rattle.spqr_script.specs.Answers.Error.{error_text}
 use Rattle.spqr_session.specs.State.{State}
 use Rattle.spqr_session.specs.declared.code.Code.{Code}
-use Rattle.spqr_session.specs.declared.code.Code.TheVariants.{NoBlock, NoNode, WrongKind, BadOrder, NonPlanar, BadRotation, NotGenusZero, NothingToUndo, NothingToRedo, CountOver, RankOut, Locked, Parallel}
+use Rattle.spqr_session.specs.declared.code.Code.TheVariants.{NoBlock, NoNode, WrongKind, BadOrder, NonPlanar, BadRotation, NotGenusZero, NothingToUndo, NothingToRedo, CountOver, RankOut, Locked, LockedIn, Parallel, NoComponent, NoCut, BlockOrder, Cross}
 
 -- the number of a code
 abbrev pub code_number : Code → ℕ
@@ -19,7 +19,12 @@ code_number NothingToRedo = 9
 code_number CountOver = 10
 code_number (RankOut n) = 11
 code_number (Locked k) = 12
+code_number (LockedIn b k) = 12
 code_number (Parallel a b) = 13
+code_number NoComponent = 14
+code_number NoCut = 15
+code_number (BlockOrder b) = 16
+code_number (Cross b c) = 17
 
 -- the numbers that are reported with it
 abbrev pub code_numbers : Code → List ℕ
@@ -35,7 +40,12 @@ code_numbers NothingToRedo = []
 code_numbers CountOver = []
 code_numbers (RankOut n) = n ∷ []
 code_numbers (Locked k) = k ∷ []
+code_numbers (LockedIn b k) = b ∷ k ∷ []
 code_numbers (Parallel a b) = a ∷ b ∷ []
+code_numbers NoComponent = []
+code_numbers NoCut = []
+code_numbers (BlockOrder b) = b ∷ []
+code_numbers (Cross b c) = b ∷ c ∷ []
 
 -- the line of a code: `error CODE N ..`
 abbrev pub code_text : Code → List ℕ

@@ -33,8 +33,19 @@ pub enum Code {
     RankOut(u128),
     /// 12: the choice of a locked node would change. The number is the node, the least where there are several.
     Locked(u32),
+    /// 12, of a component: in this block the choice of this node, which is locked, would change. They are the least block and the least
+    /// such node of it.
+    LockedIn(u32, u32),
     /// 13: two edges of the block have the same ends. The numbers are the least pair of such edges.
     Parallel(u32, u32),
+    /// 14: a number is not that of a component.
+    NoComponent,
+    /// 15: a number is not that of a cut vertex.
+    NoCut,
+    /// 16: a list changes the cyclic order of a block around the vertex. The number is the least such block.
+    BlockOrder(u32),
+    /// 17: two blocks cross in a list. The numbers are the least pair of such blocks.
+    Cross(u32, u32),
 }
 
 impl Code {
@@ -57,7 +68,12 @@ impl Code {
             Code::CountOver => error_line(alloc, 10, &[]),
             Code::RankOut(count) => error_line(alloc, 11, &[count]),
             Code::Locked(k) => error_line(alloc, 12, &[u128::from(k)]),
+            Code::LockedIn(b, k) => error_line(alloc, 12, &[u128::from(b), u128::from(k)]),
             Code::Parallel(a, b) => error_line(alloc, 13, &[u128::from(a), u128::from(b)]),
+            Code::NoComponent => error_line(alloc, 14, &[]),
+            Code::NoCut => error_line(alloc, 15, &[]),
+            Code::BlockOrder(b) => error_line(alloc, 16, &[u128::from(b)]),
+            Code::Cross(b, c) => error_line(alloc, 17, &[u128::from(b), u128::from(c)]),
         }
     }
 }

@@ -1,15 +1,17 @@
 // A step of the history.
 
-use moves::MoveList;
+use moves::Move;
+use multigraph::{Numbers, Sequence};
+use std::rc::Rc;
 
 /// What one command changed.
 #[derive(Debug, Drop)]
 pub enum Step {
-    /// Moves of a block, in order, and the moves that lead back.
+    /// Moves of blocks, in order, the moves that lead back, and what changed at cut vertices.
     Moves {
-        block: u32,
-        forth: MoveList,
-        back: MoveList,
+        forth: BlockMoves,
+        back: BlockMoves,
+        cuts: CutChanges,
     },
     /// A node of a block locked or not before, and after.
     Lock {
@@ -19,3 +21,28 @@ pub enum Step {
         after: bool,
     },
 }
+
+/// A move of a block in the plane.
+#[derive(Debug, Drop)]
+pub struct BlockMove {
+    pub block: u32,
+    pub one: Move,
+}
+
+/// A list of moves of blocks.
+pub type BlockMoves = Sequence<BlockMove>;
+
+/// The edges around a cut vertex in the order that was set there, which several steps share; `None` where it has the first arrangement
+/// for the present blocks.
+pub type Arrangement = Option<Rc<Numbers>>;
+
+/// What a cut vertex had before, and after.
+#[derive(Debug, Drop)]
+pub struct CutChange {
+    pub vertex: u32,
+    pub before: Arrangement,
+    pub after: Arrangement,
+}
+
+/// Changes of cut vertices.
+pub type CutChanges = Sequence<CutChange>;
