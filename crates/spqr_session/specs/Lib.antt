@@ -4,6 +4,7 @@ pub mod Certificates
 pub mod Setting
 pub mod Start
 pub mod State
+pub mod Kept
 pub mod Embedded
 pub mod Scene
 pub mod Starting
@@ -12,6 +13,7 @@ pub mod History
 pub mod Board
 pub mod Codes
 pub mod BlockCodes
+pub mod Components
 pub mod Members
 pub mod Planned
 pub mod Commands
