@@ -21,7 +21,7 @@ use Rattle.skeletons.proofs.KeyRuns.{met-runs}
 use Rattle.skeletons.proofs.Vertices.{least-has}
 use Rattle.skeletons.proofs.Moved.{move-others, flip-turns, permute-sets, mirror-turns}
 use Rattle.skeleton_runs.proofs.Contiguous.{plane-contiguous}
-use Rattle.skeleton_choices.proofs.Plane.{choice-round, move-plane}
+use Rattle.skeleton_choices.proofs.Plane.{move-plane}
 use Rattle.skeleton_choices.proofs.Told.{rigid-three}
 use Rattle.skeleton_choices.proofs.Listed.{choice-normal}
 use Rattle.skel_embed.specs.Block.{BlockState, IsBlockState}

@@ -21,6 +21,7 @@ use rotations::Rotation;
 use skel_compose::compose;
 use spqr_tree::Tree;
 use std::alloc::{AllocError, Global};
+use std::rc::Rc;
 
 /// A block in the plane, or why it has no plane rotation system: a skeleton that has none.
 #[derive(Debug, Drop)]
@@ -102,7 +103,9 @@ fn in_plane(
     let rotation = compose(alloc, &g, &t, members)?;
     let choices = choices_of(alloc, &t, members)?;
     let locks = vec![in alloc; false; t.node_count() as usize]?;
-    Ok(PlaneBlock::of(g, t, rotation, choices, locks))
+    let graph = Rc::new(alloc, g)?;
+    let tree = Rc::new(alloc, t)?;
+    Ok(PlaneBlock::of(graph, tree, rotation, choices, locks))
 }
 
 /// Embeds a block by the skeletons of its tree. Its rotation system is then the first plane one, in the order by the first

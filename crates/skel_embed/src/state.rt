@@ -23,12 +23,14 @@ use rotations::{Lists, Rotation};
 use spqr_tree::Tree;
 use std::alloc::{AllocError, Global};
 use std::marker::Model;
+use std::rc::Rc;
 
-/// A block with its tree, a plane rotation system, the choice of each node, and locks on nodes. Contracts see all five.
+/// A block with its tree, a plane rotation system, the choice of each node, and locks on nodes. Contracts see all five. Copies
+/// share graph and tree, which never change.
 #[derive(Debug, Drop)]
 pub struct PlaneBlock {
-    pub(crate) graph: Graph,
-    pub(crate) tree: Tree,
+    pub(crate) graph: Rc<Graph>,
+    pub(crate) tree: Rc<Tree>,
     pub(crate) rotation: Rotation,
     pub(crate) choices: Vec<Kept>,
     pub(crate) locks: Vec<bool>,
@@ -40,16 +42,16 @@ impl Model for PlaneBlock {
     ghost Value = { BlockState };
 
     ghost view = { λ p. record {
-      graph = p.graph;
-      tree = p.tree;
+      graph = p.graph.value;
+      tree = p.tree.value;
       rotation = p.rotation;
       choices = p.choices.items;
       locks = p.locks.items;
     } };
 
     ghost invariant = { λ p. IsBlockState (record {
-      graph = p.graph;
-      tree = p.tree;
+      graph = p.graph.value;
+      tree = p.tree.value;
       rotation = p.rotation;
       choices = p.choices.items;
       locks = p.locks.items;
@@ -59,22 +61,22 @@ impl Model for PlaneBlock {
 impl PlaneBlock {
     // A block of these parts. Takes no memory.
     pub(crate) fn of(
-        graph: Graph,
-        tree: Tree,
+        graph: Rc<Graph>,
+        tree: Rc<Tree>,
         rotation: Rotation,
         choices: Vec<Kept>,
         locks: Vec<bool>,
     ) -> PlaneBlock
         requires { IsBlockState (record {
-          graph = graph;
-          tree = tree;
+          graph = graph.value;
+          tree = tree.value;
           rotation = rotation;
           choices = choices.items;
           locks = locks.items;
         }) }
         ensures { result ≡ record {
-          graph = graph;
-          tree = tree;
+          graph = graph.value;
+          tree = tree.value;
           rotation = rotation;
           choices = choices.items;
           locks = locks.items;
@@ -245,8 +247,8 @@ impl PlaneBlock {
         ensures { IfOk result (λ p. p ≡ self.now) }
     {
         Ok(PlaneBlock {
-            graph: self.graph.copy(alloc)?,
-            tree: self.tree.copy(alloc)?,
+            graph: self.graph.clone()?,
+            tree: self.tree.clone()?,
             rotation: self.rotation.copy(alloc)?,
             choices: copies(alloc, &self.choices)?,
             locks: Vec::from_slice(alloc, &self.locks)?,
