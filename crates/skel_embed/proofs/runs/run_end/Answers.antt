@@ -6,14 +6,7 @@ use Rattle.permutations.proofs.Successor.{successor-member}
 use Rattle.permutations.proofs.Arrangements.{contains-from_member}
 use Rattle.pair_split.specs.Tutte.{group}
 use Rattle.skel_embed.proofs.RunSteps.{IsWalking, walk-start, walk-in, walk-stop, walk-on, walk-short, edge-below, order-length}
-use Rattle.skel_embed.proofs.runs.run_last.Goals as goal
-
-pub group-key-requires-clause-tree : goal.group-key-requires-clause-tree
-group-key-requires-clause-tree c =
-    let l = order_at c.args.r.now c.args.v in
-    let w = walk-start (group c.args.t.now c.args.k) l c.args.e c.requires.ends.0 c.requires.ends.1 in
-    edge-below c.args.g.now c.args.t.now c.args.r.now c.args.v c.args.e c.requires.block c.requires.system c.requires.vertex
-    (walk-in (group c.args.t.now c.args.k) l c.args.e c.args.e 0 (order-distinct c.args.g.now c.args.r.now c.args.v c.requires.system c.requires.vertex) w)
+use Rattle.skel_embed.proofs.runs.run_end.Goals as goal
 
 pub loop-step-init : goal.loop-step-init
 loop-step-init c = walk-start (group c.args.t.now c.args.k) (order_at c.args.r.now c.args.v) c.args.e c.requires.ends.0 c.requires.ends.1
@@ -23,18 +16,18 @@ succ-next-requires c =
     let l = order_at c.args.r.now c.args.v in
     contains-from_member l c.loop-step.at (walk-in (group c.args.t.now c.args.k) l c.args.e c.loop-step.at c.loop-step._step (order-distinct c.args.g.now c.args.r.now c.args.v c.requires.system c.requires.vertex) c.loop-step.invariant)
 
-pub group-requires-clause-tree : goal.group-requires-clause-tree
-group-requires-clause-tree c =
+pub group-next_key-requires-clause-tree : goal.group-next_key-requires-clause-tree
+group-next_key-requires-clause-tree c =
     let l = order_at c.args.r.now c.args.v in
     let m = walk-in (group c.args.t.now c.args.k) l c.args.e c.loop-step.at c.loop-step._step (order-distinct c.args.g.now c.args.r.now c.args.v c.requires.system c.requires.vertex) c.loop-step.invariant in
     edge-below c.args.g.now c.args.t.now c.args.r.now c.args.v c.succ-next.result c.requires.block c.requires.system c.requires.vertex
     (subst (λ z. is_member z l ≡ true) (sym c.succ-next.ensures) (successor-member l c.loop-step.at m))
 
-pub returns-then-group-key : goal.returns-then-group-key
-returns-then-group-key c =
+pub returns-then-next_key-key-clause-ends : goal.returns-then-next_key-key-clause-ends
+returns-then-next_key-key-clause-ends c =
     let l = order_at c.args.r.now c.args.v in
     walk-stop (group c.args.t.now c.args.k) l c.args.e c.loop-step.at c.loop-step._step (order-distinct c.args.g.now c.args.r.now c.args.v c.requires.system c.requires.vertex) c.loop-step.invariant
-    (λ q. c.if-group-key.true (c.group.ensures ∙ ap (group c.args.t.now c.args.k) c.succ-next.ensures ∙ q ∙ sym c.group-key.ensures))
+    (λ q. c.if-next_key-key.true (c.group-next_key.ensures ∙ ap (group c.args.t.now c.args.k) c.succ-next.ensures ∙ q ∙ sym c.requires.key))
 
 pub loop-step-preserved : goal.loop-step-preserved
 loop-step-preserved c =
@@ -42,10 +35,10 @@ loop-step-preserved c =
     let key = group c.args.t.now c.args.k in
     subst (λ z. IsWalking key l c.args.e z (c.loop-step._step + 1)) (sym c.succ-next.ensures)
     (walk-on key l c.args.e c.loop-step.at c.loop-step._step (order-distinct c.args.g.now c.args.r.now c.args.v c.requires.system c.requires.vertex) c.loop-step.invariant
-    (ap key (sym c.succ-next.ensures) ∙ sym c.group.ensures ∙ c.if-group-key.false ∙ c.group-key.ensures))
+    (ap key (sym c.succ-next.ensures) ∙ sym c.group-next_key.ensures ∙ c.if-next_key-key.false ∙ c.requires.key))
 
-pub returns : goal.returns
-returns c =
+pub unreachable-requires : goal.unreachable-requires
+unreachable-requires c =
     let l = order_at c.args.r.now c.args.v in
     let short = walk-short (group c.args.t.now c.args.k) l c.args.e c.loop-step.at c.loop-step._step (order-distinct c.args.g.now c.args.r.now c.args.v c.requires.system c.requires.vertex) c.loop-step.invariant in
     absurd (omega (arith, short, c.loop-step-test.false, c.degree-step-end.ensures, order-length c.args.g.now c.args.r.now c.args.v c.requires.system c.requires.vertex))
