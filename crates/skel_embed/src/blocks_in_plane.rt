@@ -10,6 +10,7 @@ ghost use Rattle.skeletons.proofs.NodeItems.{nth_item};
 ghost use Rattle.skel_embed.specs.First.{choice_in, AreFirstMembers, IsFirst};
 ghost use Rattle.skel_embed.specs.Outcomes.{IsFoundBySkeletons, AreChoicesIn};
 
+use crate::choices::Choices;
 use crate::kept::Kept;
 use crate::members::{Members, members_of};
 use crate::state::PlaneBlock;
@@ -101,7 +102,8 @@ fn in_plane(
     ensures locks { IfOk result (λ p. p.locks ≡ replicate (length t) false) }
 {
     let rotation = compose(alloc, &g, &t, members)?;
-    let choices = choices_of(alloc, &t, members)?;
+    let lists = choices_of(alloc, &t, members)?;
+    let choices = Choices::from_lists(alloc, &lists)?;
     let locks = vec![in alloc; false; t.node_count() as usize]?;
     let graph = Rc::new(alloc, g)?;
     let tree = Rc::new(alloc, t)?;
