@@ -49,8 +49,8 @@ fn meet(on: &[bool], search: &mut Search, v: u32) -> Result<bool, AllocError> {
     }
 }
 
-// Meets the neighbours of a vertex.
-fn visit(
+// Meets the neighbours of a vertex, and notes for each the edge by which it was reached and how many edges away it is.
+pub(crate) fn visit(
     g: &Graph,
     on: &[bool],
     search: &mut Search,
@@ -75,9 +75,8 @@ fn visit(
     Ok(())
 }
 
-// Searches the bridge that begins with the undrawn dart t: its attachments, and for each vertex the edge by which it was reached and
-// how many edges away it is.
-pub(crate) fn gather(
+// Begins the search through the bridge of the undrawn dart t.
+pub(crate) fn begin(
     g: &Graph,
     on: &[bool],
     search: &mut Search,
@@ -93,13 +92,6 @@ pub(crate) fn gather(
     let first = head(g, t);
     if meet(on, search, first)? {
         note(notes, depths, first, t / 2, 0);
-    }
-    for q in 0..g.vertex_count() {
-        let Some(x) = search.list.get(q as usize) else {
-            break;
-        };
-        let x = *x;
-        visit(g, on, search, notes, depths, x)?;
     }
     Ok(())
 }
