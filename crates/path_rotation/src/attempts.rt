@@ -10,7 +10,7 @@ ghost use Rattle.path_rotation.specs.declared.outcome.Tried.TheVariants.{Passed}
 
 use crate::fitting::{darts_at, is_attachment, keep_in_face, narrow};
 use crate::inserting::draw_path;
-use crate::labels::{is_on_face, label_face};
+use crate::labels::{in_shorter_face, is_on_face, label_face};
 use crate::outcome::Tried;
 use crate::searching::unmark;
 use crate::tables::{Board, Fits, Search};
@@ -150,7 +150,7 @@ fn choose(
 }
 
 // Tries the bridge that begins with the undrawn dart t, whose tail is on. If `first` then what is drawn is an edge or a cycle. A path
-// that is drawn cuts its face in two, and the one of t is labelled anew; what is left of the bridge may be tried again.
+// that is drawn cuts its face in two, and the shorter one is labelled anew; what is left of the bridge may be tried again.
 pub(crate) fn attempt(
     g: &Graph,
     board: &mut Board,
@@ -174,7 +174,8 @@ pub(crate) fn attempt(
         Choice::Nowhere => Ok(Tried::NotPlanar),
         Choice::Between(c, k) => {
             draw_path(g, board, c, t, &fits.path, k);
-            label_face(g, &board.next, &mut board.label, t);
+            let d = in_shorter_face(g, &board.next, t);
+            label_face(g, &board.next, &mut board.label, d);
             unmark(&mut search.seen, &search.list);
             Ok(Tried::Drawn)
         }

@@ -68,6 +68,13 @@ is_on_face-requires-clause-from c =
     c.requires.turns c.one_of_two-other.ensures.wanted member two one in
     subst (λ (d : ℕ). d < dart_count g) (sym c.twin.ensures.is) (twin-below (edge_count g) c.in-Some.c may.at.below)
 
+pub is_on_face-requires-clause-to : goal.is_on_face-requires-clause-to
+is_on_face-requires-clause-to c =
+    let g = c.args.g.now in
+    let board = c.args.board.now in
+    let way = subst (λ (o : Option ℕ). IfSome o (IsWayTo g board.drawn.items board.on.items board.label.items c.args.t c.in-Some.c c.find_way.new.fits.path.items)) c.in-Some-2.is c.in_ok-k.ensures.way in
+    subst (λ (d : ℕ). d < dart_count g) (sym c.twin-2.ensures.is) (twin-below (edge_count g) c.in-Some-2.k way.sole.corner.below)
+
 pub returns-then-is_on_face-clause-choice : goal.returns-then-is_on_face-clause-choice
 returns-then-is_on_face-clause-choice c =
     let g = c.args.g.now in
