@@ -18,7 +18,7 @@ loop-init c =
     let label = c.label_faces.new.label in
     record {
       board = subst (λ (l : List ℕ). IsBoard g board.drawn.items board.on.items board.next.items l) (sym (take_at label (drop (length label) board.label.items) board.label.len (c.label_faces.auto.label ∙ c.deref_mut.ensures.len)))
-      (board-labelled g board.drawn.items board.on.items board.next.items board.label.items label c.requires.sketch (subst (λ (l : List ℕ). AreClosed (edge_count g) l label) c.deref.ensures.value c.label_faces.ensures.closed) c.label_faces.ensures.labels);
+          (board-labelled g board.drawn.items board.on.items board.next.items board.label.items label c.requires.sketch (subst (λ (l : List ℕ). AreClosed (edge_count g) l label) c.deref.ensures.value c.label_faces.ensures.closed) c.label_faces.ensures.labels);
       more = c.requires.begun;
       room = c.in_ok-fits.ensures;
     }
@@ -40,9 +40,9 @@ loop-preserved c =
           rw w.board-is
           (record {
             board = subst (λ (l : List ℕ). IsBoard g w.settle.new.board.drawn.items w.settle.new.board.on.items w.settle.new.board.next.items l)
-            (sym (take_at w.label_faces-in-Drawn-2.new.label (drop (length w.label_faces-in-Drawn-2.new.label) w.settle.new.board.label.items) w.settle.new.board.label.len (w.label_faces-in-Drawn-2.auto.label ∙ w.deref_mut-in-Drawn-2.ensures.len)))
-            (board-labelled g w.settle.new.board.drawn.items w.settle.new.board.on.items w.settle.new.board.next.items w.settle.new.board.label.items w.label_faces-in-Drawn-2.new.label w.in_ok-settle-in-Passed.ensures.sketch
-            (subst (λ (l : List ℕ). AreClosed (edge_count g) l w.label_faces-in-Drawn-2.new.label) w.deref-in-Drawn-2.ensures.value w.label_faces-in-Drawn-2.ensures.closed) w.label_faces-in-Drawn-2.ensures.labels);
+                (sym (take_at w.label_faces-in-Drawn-2.new.label (drop (length w.label_faces-in-Drawn-2.new.label) w.settle.new.board.label.items) w.settle.new.board.label.len (w.label_faces-in-Drawn-2.auto.label ∙ w.deref_mut-in-Drawn-2.ensures.len)))
+                (board-labelled g w.settle.new.board.drawn.items w.settle.new.board.on.items w.settle.new.board.next.items w.settle.new.board.label.items w.label_faces-in-Drawn-2.new.label w.in_ok-settle-in-Passed.ensures.sketch
+                (subst (λ (l : List ℕ). AreClosed (edge_count g) l w.label_faces-in-Drawn-2.new.label) w.deref-in-Drawn-2.ensures.value w.label_faces-in-Drawn-2.ensures.closed) w.label_faces-in-Drawn-2.ensures.labels);
             more = omega (arith, c.loop.invariant.more, more-least g old passed _ c.in_ok-round.ensures.more, subst (IsMoreDrawn g passed w.settle.new.board.drawn.items) w.in-Drawn-2.is w.in_ok-settle-in-Passed.ensures.more);
             room = c.in_ok-round.ensures.room;
           })

@@ -1,8 +1,6 @@
-use Rattle.std.proofs.Common.{◌<◌, ℕ, sym, subst, arith}
+use Rattle.std.proofs.Common.{arith}
 use Rattle.multigraph.specs.Graph.{edge_count}
-use Rattle.dart_maps.specs.Map.{twin}
 use Rattle.dart_maps.proofs.Darts.{twin-below}
-use Rattle.faces.specs.Euler.{dart_count}
 use Rattle.path_rotation.proofs.labels.in_shorter_face.Goals as goal
 
 pub loop-init : goal.loop-init
