@@ -1,7 +1,7 @@
 // A round: each bridge is tried, and what is left of it after a path was drawn. The vertices at which bridges are to be tried wait in a
 // stack, and those of a path that is drawn wait anew.
 
-ghost use Rattle.std.specs.Prelude.{◌≡◌, ◌<◌, true, IfOk};
+ghost use Rattle.std.specs.Prelude.{◌≡◌, ◌<◌, true, length, IfOk};
 ghost use Rattle.multigraph.specs.Graph.{edge_count};
 ghost use Rattle.multigraph.specs.Darts.{dart_count};
 ghost use Rattle.path_rotation.specs.Forced.{AreTables, IsInvolution};
@@ -11,13 +11,13 @@ ghost use Rattle.path_rotation.specs.declared.outcome.Tried.TheVariants.{Passed}
 use crate::attempts::attempt;
 use crate::labels::is_involution;
 use crate::outcome::Tried;
+use crate::searching::mark;
 use crate::tables::{Board, Fits, Search};
 use multigraph::{Graph, dart_from, head, tail};
 use std::alloc::AllocError;
 
-// Whether t is an undrawn dart whose tail is on, and its head is on or in a bridge that was not tried in this round since a path of
-// it was drawn.
-fn is_waiting(g: &Graph, board: &Board, seen: &[bool], t: u32) -> bool
+// Whether t is an undrawn dart whose tail is on, the first of a bridge that was not tried in this round since a path of it was drawn.
+fn is_waiting(g: &Graph, board: &Board, search: &Search, t: u32) -> bool
     requires dart { t < dart_count g.now }
     requires tables { AreTables g.now board.now.drawn.items board.now.on.items board.now.next.items }
     ensures { result ≡ true → IsFoot g.now board.now.drawn.items board.now.on.items t }
@@ -26,11 +26,13 @@ fn is_waiting(g: &Graph, board: &Board, seen: &[bool], t: u32) -> bool
         return false;
     }
     let v = head(g, t) as usize;
-    if board.on[v] {
-        return true;
-    }
-    match seen.get(v) {
-        Some(is_seen) => !*is_seen,
+    let marked = if board.on[v] {
+        search.tried.get(t as usize / 2)
+    } else {
+        search.seen.get(v)
+    };
+    match marked {
+        Some(is_marked) => !*is_marked,
         None => false,
     }
 }
@@ -46,9 +48,8 @@ fn enlist_on(on: &[bool], list: &mut Vec<u32>) -> Result<(), AllocError> {
     Ok(())
 }
 
-// Appends the vertices of a path from u on.
+// Appends the vertices after u of a path from there.
 fn enlist_path(g: &Graph, path: &[u32], u: u32, list: &mut Vec<u32>) -> Result<(), AllocError> {
-    list.push(u)?;
     let mut at = u;
     for edge in path {
         if let Some(next) = g.far_end(*edge, at) {
@@ -59,7 +60,17 @@ fn enlist_path(g: &Graph, path: &[u32], u: u32, list: &mut Vec<u32>) -> Result<(
     Ok(())
 }
 
-// Tries each bridge that waits at v; the vertices of a path that is drawn wait then. If `first` then what is drawn is an edge or a
+// Marks the edge if both its ends are on.
+fn mark_tried(g: &Graph, on: &[bool], tried: &mut [bool], t: u32)
+    requires dart { t < dart_count g.now }
+    requires on_each { length on.now ≡ g.now.vertex_count }
+{
+    if on[head(g, t) as usize] {
+        mark(tried, t / 2);
+    }
+}
+
+// Tries each bridge that waits at v; the other vertices of a path that is drawn wait then. If `first` then what is drawn is an edge or a
 // cycle.
 fn try_bridges(
     g: &Graph,
@@ -83,7 +94,7 @@ fn try_bridges(
     let mut outcome = Tried::Passed;
     for edge in g.incident(v) {
         let t = dart_from(g, v, *edge);
-        if is_waiting(g, board, &search.seen, t) {
+        if is_waiting(g, board, search, t) {
             match attempt(g, board, search, fits, t, first)? {
                 Tried::NotPlanar => return Ok(Tried::NotPlanar),
                 Tried::Drawn => {
@@ -91,7 +102,7 @@ fn try_bridges(
                     outcome = Tried::Drawn;
                     enlist_path(g, &fits.path, v, &mut search.waiting)?;
                 }
-                Tried::Passed => {}
+                Tried::Passed => mark_tried(g, &board.on, &mut search.tried, t),
             }
         }
     }
@@ -115,6 +126,7 @@ pub(crate) fn round(
     let mut first = is_involution(g, &board.next);
     let mut outcome = Tried::Passed;
     search.seen.fill(false);
+    search.tried.fill(false);
     fits.passed.fill(0);
     fits.stamp = 0;
     enlist_on(&board.on, &mut search.waiting)?;

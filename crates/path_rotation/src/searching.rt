@@ -17,6 +17,14 @@ pub(crate) fn unmark(marks: &mut [bool], places: &[u32]) {
     }
 }
 
+// Marks a place.
+pub(crate) fn mark(marks: &mut [bool], place: u32) {
+    let place = place as usize;
+    if place < marks.len() {
+        marks[place] = true;
+    }
+}
+
 // Notes the edge and the depth of a vertex.
 fn note(notes: &mut [u32], depths: &mut [u32], v: u32, edge: u32, depth: u32) {
     let v = v as usize;
