@@ -13,6 +13,7 @@ mod Fits
 mod WaySteps
 mod Threads
 mod Stamps
+mod Kept
 mod Marked
 mod Begun
 mod BoardSteps
