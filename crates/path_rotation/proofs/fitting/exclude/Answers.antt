@@ -1,6 +1,5 @@
 -- The drawn darts have labels, and those corners are kept whose faces have the stamp.
-use Rattle.std.proofs.Common.{◌≡◌, ◌∙◌, ◌==◌, ◌<◌, ℕ, Bool, List, true, length, drop, filter, slice_index, sym, subst}
-use Rattle.std.proofs.lemmas.List.{take_at}
+use Rattle.std.proofs.Common.{◌≡◌, ◌<◌, ℕ, Bool, List, true, length, sym, subst}
 use Rattle.permutations.specs.Members.{is_member}
 use Rattle.dart_maps.specs.Map.{twin}
 use Rattle.faces.specs.Euler.{tail}

@@ -1,7 +1,6 @@
-use Rattle.std.proofs.Common.{◌≡◌, ◌∙◌, ℕ, ◌<◌, length, slice_index, sym, ap, subst, arith}
+use Rattle.std.proofs.Common.{◌∙◌, ℕ, ◌<◌, length, slice_index, sym, ap, subst, arith}
 use Rattle.permutations.proofs.Arrangements.{member-at}
-use Rattle.dart_maps.specs.Map.{twin}
-use Rattle.path_rotation.proofs.Kept.{kept-none, kept-more, kept-skip, kept-all}
+use Rattle.path_rotation.proofs.Kept.{kept-more, kept-skip, kept-all}
 use Rattle.path_rotation.proofs.fitting.keep_near.Goals as goal
 use Rattle.path_rotation.proofs.fitting.keep_near.Goals.{then-is_any_in_face+in_ok-push, else-is_any_in_face}
 
