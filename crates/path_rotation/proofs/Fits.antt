@@ -11,7 +11,7 @@ use Rattle.dart_maps.proofs.Darts.{twin-below}
 use Rattle.faces.specs.Euler.{tail}
 use Rattle.path_rotation.specs.Forced.{LeadsOff, IsSoleCorner, IsAdmissible, IsInvolution}
 use Rattle.path_rotation.specs.Search.{IsWayFound}
-use Rattle.path_rotation.specs.Fitting.{IsDartAt, AreDartsAt, AreLabels, AreFitting, AreKept, MayDraw}
+use Rattle.path_rotation.specs.Fitting.{IsDartAt, AreDartsAt, AreLabels, AreFitting, MayDraw}
 
 -- at first all drawn darts at the tail
 pub fitting-begin : (g : Multigraph) (drawn on : List Bool) (label : List ℕ) (t : ℕ) (corners : List ℕ) → AreDartsAt g drawn (tail g t) corners → AreFitting g drawn on label t corners
@@ -23,23 +23,12 @@ fitting-begin g drawn on label t corners a = record {
 }
 
 -- a stamp on the label of the face of each corner at one more attachment, and those kept whose faces have one
-pub kept-stamped : (label there corners passed : List ℕ) (stamp : ℕ) (kept : List ℕ) → ((d : ℕ) → is_member d there ≡ true → slice_index passed (slice_index label (twin d)) ≡ stamp)
-    → kept ≡ filter (λ d. slice_index passed (slice_index label (twin d)) == stamp) corners → AreKept label there corners kept
-kept-stamped label there corners passed stamp kept stamped e = record {
-  each = λ c m. (member-filter_parts passes corners c (subst (λ (l : List ℕ). is_member c l ≡ true) e m)).0;
-  all = λ c k m n i.
-      let mark : slice_index passed (slice_index label (twin c)) ≡ stamp = ap (slice_index passed) (sym i) ∙ stamped k n in
-      subst (λ (l : List ℕ). is_member c l ≡ true) (sym e) (filter-member passes corners c m (eq-eqb (slice_index passed (slice_index label (twin c))) stamp mark));
-}
-  where
-    passes : ℕ → Bool
-    passes d = slice_index passed (slice_index label (twin d)) == stamp
-
--- one more attachment, and those corners kept that lie in its faces
-pub fitting-more : (g : Multigraph) (drawn on : List Bool) (label : List ℕ) (t : ℕ) (corners : List ℕ) (z : ℕ) (path there kept : List ℕ)
-    → AreFitting g drawn on label t corners → IsWayFound g on t path z → AreDartsAt g drawn z there → AreKept label there corners kept → AreFitting g drawn on label t kept
-fitting-more g drawn on label t corners z path there kept a w at q = record {
-  each = λ c m. a.each c (q.each c m);
+pub fitting-more : (g : Multigraph) (drawn on : List Bool) (label : List ℕ) (t : ℕ) (corners : List ℕ) (z : ℕ) (path there passed : List ℕ) (stamp : ℕ) (kept : List ℕ)
+    → AreFitting g drawn on label t corners → IsWayFound g on t path z → AreDartsAt g drawn z there
+    → ((d : ℕ) → is_member d there ≡ true → slice_index passed (slice_index label (twin d)) ≡ stamp)
+    → kept ≡ filter (λ d. slice_index passed (slice_index label (twin d)) == stamp) corners → AreFitting g drawn on label t kept
+fitting-more g drawn on label t corners z path there passed stamp kept a w at stamped e = record {
+  each = λ c m. a.each c (member-filter_parts passes corners c (subst (λ (l : List ℕ). is_member c l ≡ true) e m)).0;
   attachments = z ∷ a.attachments;
   reached = λ y m. elim (member-cases y z a.attachments m) [
     | inl i ↦ subst (λ (x : ℕ). (along : List ℕ) × LeadsOff g on t along x) i (w.along, w.leads)
@@ -49,8 +38,12 @@ fitting-more g drawn on label t corners z path there kept a w at q = record {
       let old : IsAdmissible g drawn label a.attachments t c = record { below = f.below; drawn_dart = f.drawn_dart; leaves = f.leaves; passes = λ y m. f.passes y (member-tail y z a.attachments m) } in
       let k = f.passes z (member-head z a.attachments) in
       let here : is_member k.0 there ≡ true = at.all k.0 (record { below = k.1.below; drawn_dart = k.1.drawn_dart; leaves = k.1.leaves }) in
-      q.all c k.0 (a.fits c old) here k.1.in_face;
+      let mark : slice_index passed (slice_index label (twin c)) ≡ stamp = ap (slice_index passed) (sym k.1.in_face) ∙ stamped k.0 here in
+      subst (λ (l : List ℕ). is_member c l ≡ true) (sym e) (filter-member passes corners c (a.fits c old) (eq-eqb (slice_index passed (slice_index label (twin c))) stamp mark));
 }
+  where
+    passes : ℕ → Bool
+    passes d = slice_index passed (slice_index label (twin d)) == stamp
 
 -- where none is left, none is admissible
 pub fitting-none : (g : Multigraph) (drawn on : List Bool) (label : List ℕ) (t : ℕ) (corners : List ℕ) → length corners ≡ 0 → (a : AreFitting g drawn on label t corners) → (c : ℕ) → IsAdmissible g drawn label a.attachments t c → ⊥

@@ -13,7 +13,6 @@ mod Fits
 mod WaySteps
 mod Threads
 mod Stamps
-mod Kept
 mod Marked
 mod Begun
 mod BoardSteps

@@ -63,11 +63,6 @@ pub record AreFitting (g : Multigraph) (drawn on : List Bool) (label : List ℕ)
   pub reached : AreAttachments g on t attachments
   pub fits : (c : ℕ) → IsAdmissible g drawn label attachments t c → is_member c corners ≡ true
 
--- of the corners those are kept, at least, that by the labels lie in a face of one of these darts
-pub record AreKept (label there corners kept : List ℕ) : Type 0 where
-  pub each : (c : ℕ) → is_member c kept ≡ true → is_member c corners ≡ true
-  pub all : (c k : ℕ) → is_member c corners ≡ true → is_member k there ≡ true → slice_index label (twin k) ≡ slice_index label (twin c) → is_member c kept ≡ true
-
 -- no other corner than that of c is in a face that passes some of the attachments
 pub record IsOnlyFit (g : Multigraph) (drawn on : List Bool) (label : List ℕ) (t c : ℕ) : Type 0 where
   pub attachments : List ℕ

@@ -1,13 +1,13 @@
 // The corners that fit a bridge. The corner of a drawn dart lies between this dart and the next drawn one around its vertex, in the
 // face of its twin.
 
-ghost use Rattle.std.specs.Prelude.{◌≡◌, ◌≢◌, ◌==◌, ◌<◌, ℕ, true, false, length, filter, slice_index, IfOk, IsTrue};
+ghost use Rattle.std.specs.Prelude.{◌≡◌, ◌≢◌, ◌==◌, ◌<◌, ℕ, true, length, filter, slice_index, IfOk, IsTrue};
 ghost use Rattle.permutations.specs.Members.{is_member};
 ghost use Rattle.multigraph.specs.Graph.{edge_count};
 ghost use Rattle.multigraph.specs.Marks.{is_marked};
 ghost use Rattle.multigraph.specs.Darts.{dart_count, tail, twin};
 ghost use Rattle.path_rotation.specs.Forced.{AreTables};
-ghost use Rattle.path_rotation.specs.Fitting.{AreDartsAt, AreFitting, AreKept, AreLabels, IsFoot, HaveRoom};
+ghost use Rattle.path_rotation.specs.Fitting.{AreDartsAt, AreFitting, AreLabels, IsFoot, HaveRoom};
 
 use crate::searching::{begin, visit};
 use crate::tables::{Board, Fits, Search};
@@ -15,9 +15,6 @@ use crate::ways::way_back;
 use multigraph::{Graph, dart_from, tail, twin};
 use std::alloc::AllocError;
 use std::mem::swap;
-
-// How few darts are compared with each of others.
-const FEW: usize = 4;
 
 // The drawn darts that leave v.
 pub(crate) fn darts_at(
@@ -76,64 +73,6 @@ fn keep_passing(
     Ok(())
 }
 
-// Whether the corner of one of the darts lies in this face.
-fn is_any_in_face(label: &[u32], darts: &[u32], face: u32) -> bool
-    requires within { (d : ℕ) → is_member d darts.now ≡ true → twin d < length label.now }
-    ensures { result ≡ false → (d : ℕ) → is_member d darts.now ≡ true
-        → slice_index label.now (twin d) ≡ face → ⊥ }
-{
-    for d in darts {
-        if label[twin(*d) as usize] == face {
-            return true;
-        }
-    }
-    false
-}
-
-// Those of the corners that lie in a face of one of these darts, each compared with each.
-fn keep_near(
-    label: &[u32],
-    there: &[u32],
-    corners: &[u32],
-    kept: &mut Vec<u32>,
-) -> Result<(), AllocError>
-    requires there { (d : ℕ) → is_member d there.now ≡ true → twin d < length label.now }
-    requires corners { (d : ℕ) → is_member d corners.now ≡ true → twin d < length label.now }
-    ensures { IfOk result (λ _. AreKept label.now there.now corners.now kept.new.items) }
-{
-    kept.clear();
-    for c in corners {
-        let face = label[twin(*c) as usize];
-        if is_any_in_face(label, there, face) {
-            kept.push(*c)?;
-        }
-    }
-    Ok(())
-}
-
-// Those of the corners that lie in a face of one of these darts: where corners or darts are few, each is compared with each, so that
-// the tables are read in order; else the faces are stamped.
-fn keep_fitting(
-    label: &[u32],
-    there: &[u32],
-    corners: &[u32],
-    passed: &mut [u32],
-    stamp: u32,
-    kept: &mut Vec<u32>,
-) -> Result<(), AllocError>
-    requires there { (d : ℕ) → is_member d there.now ≡ true → twin d < length label.now }
-    requires corners { (d : ℕ) → is_member d corners.now ≡ true → twin d < length label.now }
-    requires labels { (d : ℕ) → d < length label.now → slice_index label.now d < length passed.old }
-    ensures { IfOk result (λ _. AreKept label.now there.now corners.now kept.new.items) }
-{
-    if corners.len() <= FEW || there.len() <= FEW {
-        return keep_near(label, there, corners, kept);
-    }
-    stamp_faces(label, there, passed, stamp);
-    keep_passing(label, passed, stamp, corners, kept)?;
-    Ok(())
-}
-
 // Those of the darts whose corners lie in this face.
 pub(crate) fn keep_in_face(
     label: &[u32],
@@ -181,12 +120,12 @@ fn exclude(g: &Graph, board: &Board, fits: &mut Fits, t: u32, z: u32) -> Result<
     }
     darts_at(g, &board.drawn, z, &mut fits.there)?;
     fits.stamp = fits.stamp.saturating_add(1);
-    keep_fitting(
+    stamp_faces(&board.label, &fits.there, &mut fits.passed, fits.stamp);
+    keep_passing(
         &board.label,
-        &fits.there,
-        &fits.corners,
-        &mut fits.passed,
+        &fits.passed,
         fits.stamp,
+        &fits.corners,
         &mut fits.kept,
     )?;
     if fits.kept.len() == fits.corners.len() {
