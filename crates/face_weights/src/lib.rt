@@ -29,12 +29,14 @@
 //   Terms, Steps sums over numbers, and the steps of the loops
 #![tactic(auto)]
 
+mod numbers;
 mod ordering;
 mod rests;
 mod sums;
 mod table;
 mod weighing;
 
+pub use numbers::number_faces;
 pub use ordering::{ABSENT, order_from};
 pub use sums::face_sums;
 pub use table::Weights;
