@@ -4,4 +4,4 @@ mod Written
 mod Ahead
 mod Complete
 mod Gathered
-mod Stepped
+pub mod Stepped
