@@ -15,3 +15,4 @@ pub mod RowLemmas
 pub mod Final
 pub mod RowsMade
 pub mod LinkSearch
+pub mod FaceLengths

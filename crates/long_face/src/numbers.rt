@@ -16,11 +16,7 @@ use spqr_tree::Tree;
 use std::alloc::{AllocError, Global};
 
 // The numbers of the darts of each node, from the face steps of the skeletons. In linear time. Fails only if memory runs out.
-fn numbers_of(
-    alloc: Global,
-    tree: &Tree,
-    steps: &[Numbers],
-) -> Result<Vec<Numbers>, AllocError>
+fn numbers_of(alloc: Global, tree: &Tree, steps: &[Numbers]) -> Result<Vec<Numbers>, AllocError>
     requires block { (g : Multigraph) × IsBlockTree g tree.now × IsWithinLimits g }
     requires steps { (family : List (List (List ℕ))) × AreSkeletonSystems tree.now family
         × AreStepsOf tree.now family steps.now }

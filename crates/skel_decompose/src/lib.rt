@@ -22,6 +22,7 @@
 mod decomposing;
 mod filling;
 mod members;
+mod neighbors;
 mod searching;
 mod steps;
 mod table;

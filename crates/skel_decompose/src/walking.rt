@@ -4,8 +4,9 @@ ghost use Rattle.std.specs.Prelude.{◌≡◌, ◌<◌, true, List, ℕ, length}
 ghost use Rattle.multigraph.specs.Graph.{Multigraph, edge_count, is_end};
 ghost use Rattle.skel_compose.specs.Homes.{IsHome, HasHomes};
 ghost use Rattle.skel_decompose.specs.Followers.{IsInRuns, IsFamily, IsTable, Keeps, HasLast};
+ghost use Rattle.skel_decompose.specs.Neighbors.{AreNeighbors};
 
-use crate::searching::{item_beyond, item_of};
+use crate::searching::item_of;
 use crate::table::{Row, item_place};
 use pair_split::What;
 use rotations::Rotation;
@@ -16,6 +17,7 @@ pub(crate) fn walk(
     tree: &Tree,
     r: &Rotation,
     homes: &[(u32, u32)],
+    neighbors: &[Option<(u32, u32, u32)>],
     table: &mut [Row],
     home: (u32, u32),
     v: u32,
@@ -23,6 +25,7 @@ pub(crate) fn walk(
 )
     requires edge { (g : Multigraph) × IsInRuns g tree.now r.now × (e < edge_count g) × (is_end g v e ≡ true)
         × HasHomes g tree.now (length tree.now) 0 homes.now }
+    requires neighbors { AreNeighbors tree.now neighbors.now }
     requires node { home.0 < length tree.now }
     requires home { IsHome tree.now home.0 home.1 e }
     requires table { IsTable tree.now table.old }
@@ -35,12 +38,12 @@ pub(crate) fn walk(
     let next = r.succ(v, e);
     let (mut k, mut i) = home;
     for _links in 0..tree.node_count() {
-        let behind = item_of(tree, homes, k, next);
+        let behind = item_of(tree, homes, neighbors, k, next);
         table[k as usize].put(item_place(tree, k, i, v), behind);
         match tree.items(k)[behind as usize].what {
             What::Real(_) => return,
             What::Link(j) => {
-                i = item_beyond(tree, j, e);
+                i = item_of(tree, homes, neighbors, j, e);
                 k = j;
             }
         }

@@ -52,17 +52,17 @@ returns-in-Real-clause-keeps c = λ family m. keeps-on c.args.tree.now family c.
 pub returns-in-Real-clause-last : goal.returns-in-Real-clause-last
 returns-in-Real-clause-last c = λ family m. ahead-ends c.requires.edge.0 c.args.tree.now c.args.r.now c.requires.edge.1 family m c.args.v c.args.e c.requires.edge.2 c.requires.edge.3 c.loop-links.k c.loop-links.i c.item_of-behind.result ((c.loop-links.invariant.1 family m).0) c.item_of-behind.ensures.item (c.item_of-behind.ensures.key ∙ ap (group c.args.tree.now c.loop-links.k) c.succ-next.ensures) c.loop-links.table (slice_set c.loop-links.table c.loop-links.k c.put.new.self) (put-keeps c.args.tree.now c.loop-links.table c.loop-links.invariant.0 c.loop-links.k c.loop-links.i c.args.v c.item_of-behind.result (leads-end c.args.tree.now family c.args.v c.args.e (successor (order_at c.args.r.now c.args.v) c.args.e) c.loop-links.k c.loop-links.i (c.loop-links.invariant.1 family m).0) c.index-table-k.result c.put.new.self c.item_place.result c.put.ensures c.item_place.ensures family (follows-here c.requires.edge.0 c.args.tree.now c.args.r.now c.requires.edge.1 family m c.args.v c.args.e c.requires.edge.2 c.requires.edge.3 c.loop-links.k c.loop-links.i c.item_of-behind.result ((c.loop-links.invariant.1 family m).0) c.item_of-behind.ensures.item (c.item_of-behind.ensures.key ∙ ap (group c.args.tree.now c.loop-links.k) c.succ-next.ensures))) (put-has c.args.tree.now c.loop-links.table c.loop-links.invariant.0 c.loop-links.k c.loop-links.i c.args.v c.item_of-behind.result (leads-end c.args.tree.now family c.args.v c.args.e (successor (order_at c.args.r.now c.args.v) c.args.e) c.loop-links.k c.loop-links.i (c.loop-links.invariant.1 family m).0) c.index-table-k.result c.put.new.self c.item_place.result c.put.ensures c.item_place.ensures family (follows-here c.requires.edge.0 c.args.tree.now c.args.r.now c.requires.edge.1 family m c.args.v c.args.e c.requires.edge.2 c.requires.edge.3 c.loop-links.k c.loop-links.i c.item_of-behind.result ((c.loop-links.invariant.1 family m).0) c.item_of-behind.ensures.item (c.item_of-behind.ensures.key ∙ ap (group c.args.tree.now c.loop-links.k) c.succ-next.ensures))) (c.loop-links.invariant.1 family m).3 c.in-Real.field-0 (sym (ap (λ (z : List Item). (nth_item z c.item_of-behind.result).what) c.items.ensures) ∙ c.in-Real.is)
 
-pub item_beyond-i-requires-clause-node : goal.item_beyond-i-requires-clause-node
-item_beyond-i-requires-clause-node c = link-node c.requires.edge.0 c.args.tree.now c.requires.edge.1.block.tree c.loop-links.k c.item_of-behind.result c.in-Link.j c.item_of-behind.ensures.item (sym (ap (λ (z : List Item). (nth_item z c.item_of-behind.result).what) c.items.ensures) ∙ c.in-Link.is)
+pub item_of-i-requires-clause-node : goal.item_of-i-requires-clause-node
+item_of-i-requires-clause-node c = link-node c.requires.edge.0 c.args.tree.now c.requires.edge.1.block.tree c.loop-links.k c.item_of-behind.result c.in-Link.j c.item_of-behind.ensures.item (sym (ap (λ (z : List Item). (nth_item z c.item_of-behind.result).what) c.items.ensures) ∙ c.in-Link.is)
 
 -- and goes on at a link
 pub loop-links-preserved : goal.loop-links-preserved
 loop-links-preserved c = (
   (let w = some-family c.requires.edge.0 c.args.tree.now c.args.r.now c.requires.edge.1 in let family = w.0 in let m = w.1 in put-table c.args.tree.now c.loop-links.table c.loop-links.invariant.0 c.loop-links.k c.loop-links.i c.args.v c.item_of-behind.result (leads-end c.args.tree.now family c.args.v c.args.e (successor (order_at c.args.r.now c.args.v) c.args.e) c.loop-links.k c.loop-links.i (c.loop-links.invariant.1 family m).0) c.index-table-k.result c.put.new.self c.item_place.result c.put.ensures c.item_place.ensures),
   λ family m. (
-    walk-goes c.requires.edge.0 c.args.tree.now c.args.r.now c.requires.edge.1 family m c.args.v c.args.e c.requires.edge.2 c.requires.edge.3 c.loop-links.k c.loop-links.i c.item_of-behind.result ((c.loop-links.invariant.1 family m).0) c.item_of-behind.ensures.item (c.item_of-behind.ensures.key ∙ ap (group c.args.tree.now c.loop-links.k) c.succ-next.ensures) c.loop-links.table (slice_set c.loop-links.table c.loop-links.k c.put.new.self) (put-keeps c.args.tree.now c.loop-links.table c.loop-links.invariant.0 c.loop-links.k c.loop-links.i c.args.v c.item_of-behind.result (leads-end c.args.tree.now family c.args.v c.args.e (successor (order_at c.args.r.now c.args.v) c.args.e) c.loop-links.k c.loop-links.i (c.loop-links.invariant.1 family m).0) c.index-table-k.result c.put.new.self c.item_place.result c.put.ensures c.item_place.ensures family (follows-here c.requires.edge.0 c.args.tree.now c.args.r.now c.requires.edge.1 family m c.args.v c.args.e c.requires.edge.2 c.requires.edge.3 c.loop-links.k c.loop-links.i c.item_of-behind.result ((c.loop-links.invariant.1 family m).0) c.item_of-behind.ensures.item (c.item_of-behind.ensures.key ∙ ap (group c.args.tree.now c.loop-links.k) c.succ-next.ensures))) (put-has c.args.tree.now c.loop-links.table c.loop-links.invariant.0 c.loop-links.k c.loop-links.i c.args.v c.item_of-behind.result (leads-end c.args.tree.now family c.args.v c.args.e (successor (order_at c.args.r.now c.args.v) c.args.e) c.loop-links.k c.loop-links.i (c.loop-links.invariant.1 family m).0) c.index-table-k.result c.put.new.self c.item_place.result c.put.ensures c.item_place.ensures family (follows-here c.requires.edge.0 c.args.tree.now c.args.r.now c.requires.edge.1 family m c.args.v c.args.e c.requires.edge.2 c.requires.edge.3 c.loop-links.k c.loop-links.i c.item_of-behind.result ((c.loop-links.invariant.1 family m).0) c.item_of-behind.ensures.item (c.item_of-behind.ensures.key ∙ ap (group c.args.tree.now c.loop-links.k) c.succ-next.ensures))) (c.loop-links.invariant.1 family m).3 c.in-Link.j c.item_beyond-i.result (sym (ap (λ (z : List Item). (nth_item z c.item_of-behind.result).what) c.items.ensures) ∙ c.in-Link.is) c.item_beyond-i.ensures.item c.item_beyond-i.ensures.key,
-    walk-near c.requires.edge.0 c.args.tree.now c.args.r.now c.requires.edge.1 family m c.args.v c.args.e c.requires.edge.2 c.requires.edge.3 c.loop-links.k c.loop-links.i c.item_of-behind.result ((c.loop-links.invariant.1 family m).0) c.item_of-behind.ensures.item (c.item_of-behind.ensures.key ∙ ap (group c.args.tree.now c.loop-links.k) c.succ-next.ensures) c.loop-links.table (slice_set c.loop-links.table c.loop-links.k c.put.new.self) (put-keeps c.args.tree.now c.loop-links.table c.loop-links.invariant.0 c.loop-links.k c.loop-links.i c.args.v c.item_of-behind.result (leads-end c.args.tree.now family c.args.v c.args.e (successor (order_at c.args.r.now c.args.v) c.args.e) c.loop-links.k c.loop-links.i (c.loop-links.invariant.1 family m).0) c.index-table-k.result c.put.new.self c.item_place.result c.put.ensures c.item_place.ensures family (follows-here c.requires.edge.0 c.args.tree.now c.args.r.now c.requires.edge.1 family m c.args.v c.args.e c.requires.edge.2 c.requires.edge.3 c.loop-links.k c.loop-links.i c.item_of-behind.result ((c.loop-links.invariant.1 family m).0) c.item_of-behind.ensures.item (c.item_of-behind.ensures.key ∙ ap (group c.args.tree.now c.loop-links.k) c.succ-next.ensures))) (put-has c.args.tree.now c.loop-links.table c.loop-links.invariant.0 c.loop-links.k c.loop-links.i c.args.v c.item_of-behind.result (leads-end c.args.tree.now family c.args.v c.args.e (successor (order_at c.args.r.now c.args.v) c.args.e) c.loop-links.k c.loop-links.i (c.loop-links.invariant.1 family m).0) c.index-table-k.result c.put.new.self c.item_place.result c.put.ensures c.item_place.ensures family (follows-here c.requires.edge.0 c.args.tree.now c.args.r.now c.requires.edge.1 family m c.args.v c.args.e c.requires.edge.2 c.requires.edge.3 c.loop-links.k c.loop-links.i c.item_of-behind.result ((c.loop-links.invariant.1 family m).0) c.item_of-behind.ensures.item (c.item_of-behind.ensures.key ∙ ap (group c.args.tree.now c.loop-links.k) c.succ-next.ensures))) (c.loop-links.invariant.1 family m).3 c.in-Link.j c.item_beyond-i.result (sym (ap (λ (z : List Item). (nth_item z c.item_of-behind.result).what) c.items.ensures) ∙ c.in-Link.is) c.item_beyond-i.ensures.item c.item_beyond-i.ensures.key c.loop-links._links (c.loop-links.invariant.1 family m).1,
+    walk-goes c.requires.edge.0 c.args.tree.now c.args.r.now c.requires.edge.1 family m c.args.v c.args.e c.requires.edge.2 c.requires.edge.3 c.loop-links.k c.loop-links.i c.item_of-behind.result ((c.loop-links.invariant.1 family m).0) c.item_of-behind.ensures.item (c.item_of-behind.ensures.key ∙ ap (group c.args.tree.now c.loop-links.k) c.succ-next.ensures) c.loop-links.table (slice_set c.loop-links.table c.loop-links.k c.put.new.self) (put-keeps c.args.tree.now c.loop-links.table c.loop-links.invariant.0 c.loop-links.k c.loop-links.i c.args.v c.item_of-behind.result (leads-end c.args.tree.now family c.args.v c.args.e (successor (order_at c.args.r.now c.args.v) c.args.e) c.loop-links.k c.loop-links.i (c.loop-links.invariant.1 family m).0) c.index-table-k.result c.put.new.self c.item_place.result c.put.ensures c.item_place.ensures family (follows-here c.requires.edge.0 c.args.tree.now c.args.r.now c.requires.edge.1 family m c.args.v c.args.e c.requires.edge.2 c.requires.edge.3 c.loop-links.k c.loop-links.i c.item_of-behind.result ((c.loop-links.invariant.1 family m).0) c.item_of-behind.ensures.item (c.item_of-behind.ensures.key ∙ ap (group c.args.tree.now c.loop-links.k) c.succ-next.ensures))) (put-has c.args.tree.now c.loop-links.table c.loop-links.invariant.0 c.loop-links.k c.loop-links.i c.args.v c.item_of-behind.result (leads-end c.args.tree.now family c.args.v c.args.e (successor (order_at c.args.r.now c.args.v) c.args.e) c.loop-links.k c.loop-links.i (c.loop-links.invariant.1 family m).0) c.index-table-k.result c.put.new.self c.item_place.result c.put.ensures c.item_place.ensures family (follows-here c.requires.edge.0 c.args.tree.now c.args.r.now c.requires.edge.1 family m c.args.v c.args.e c.requires.edge.2 c.requires.edge.3 c.loop-links.k c.loop-links.i c.item_of-behind.result ((c.loop-links.invariant.1 family m).0) c.item_of-behind.ensures.item (c.item_of-behind.ensures.key ∙ ap (group c.args.tree.now c.loop-links.k) c.succ-next.ensures))) (c.loop-links.invariant.1 family m).3 c.in-Link.j c.item_of-i.result (sym (ap (λ (z : List Item). (nth_item z c.item_of-behind.result).what) c.items.ensures) ∙ c.in-Link.is) c.item_of-i.ensures.item c.item_of-i.ensures.key,
+    walk-near c.requires.edge.0 c.args.tree.now c.args.r.now c.requires.edge.1 family m c.args.v c.args.e c.requires.edge.2 c.requires.edge.3 c.loop-links.k c.loop-links.i c.item_of-behind.result ((c.loop-links.invariant.1 family m).0) c.item_of-behind.ensures.item (c.item_of-behind.ensures.key ∙ ap (group c.args.tree.now c.loop-links.k) c.succ-next.ensures) c.loop-links.table (slice_set c.loop-links.table c.loop-links.k c.put.new.self) (put-keeps c.args.tree.now c.loop-links.table c.loop-links.invariant.0 c.loop-links.k c.loop-links.i c.args.v c.item_of-behind.result (leads-end c.args.tree.now family c.args.v c.args.e (successor (order_at c.args.r.now c.args.v) c.args.e) c.loop-links.k c.loop-links.i (c.loop-links.invariant.1 family m).0) c.index-table-k.result c.put.new.self c.item_place.result c.put.ensures c.item_place.ensures family (follows-here c.requires.edge.0 c.args.tree.now c.args.r.now c.requires.edge.1 family m c.args.v c.args.e c.requires.edge.2 c.requires.edge.3 c.loop-links.k c.loop-links.i c.item_of-behind.result ((c.loop-links.invariant.1 family m).0) c.item_of-behind.ensures.item (c.item_of-behind.ensures.key ∙ ap (group c.args.tree.now c.loop-links.k) c.succ-next.ensures))) (put-has c.args.tree.now c.loop-links.table c.loop-links.invariant.0 c.loop-links.k c.loop-links.i c.args.v c.item_of-behind.result (leads-end c.args.tree.now family c.args.v c.args.e (successor (order_at c.args.r.now c.args.v) c.args.e) c.loop-links.k c.loop-links.i (c.loop-links.invariant.1 family m).0) c.index-table-k.result c.put.new.self c.item_place.result c.put.ensures c.item_place.ensures family (follows-here c.requires.edge.0 c.args.tree.now c.args.r.now c.requires.edge.1 family m c.args.v c.args.e c.requires.edge.2 c.requires.edge.3 c.loop-links.k c.loop-links.i c.item_of-behind.result ((c.loop-links.invariant.1 family m).0) c.item_of-behind.ensures.item (c.item_of-behind.ensures.key ∙ ap (group c.args.tree.now c.loop-links.k) c.succ-next.ensures))) (c.loop-links.invariant.1 family m).3 c.in-Link.j c.item_of-i.result (sym (ap (λ (z : List Item). (nth_item z c.item_of-behind.result).what) c.items.ensures) ∙ c.in-Link.is) c.item_of-i.ensures.item c.item_of-i.ensures.key c.loop-links._links (c.loop-links.invariant.1 family m).1,
     keeps-on c.args.tree.now family c.args.table.now c.loop-links.table (slice_set c.loop-links.table c.loop-links.k c.put.new.self) (c.loop-links.invariant.1 family m).2 (put-keeps c.args.tree.now c.loop-links.table c.loop-links.invariant.0 c.loop-links.k c.loop-links.i c.args.v c.item_of-behind.result (leads-end c.args.tree.now family c.args.v c.args.e (successor (order_at c.args.r.now c.args.v) c.args.e) c.loop-links.k c.loop-links.i (c.loop-links.invariant.1 family m).0) c.index-table-k.result c.put.new.self c.item_place.result c.put.ensures c.item_place.ensures family (follows-here c.requires.edge.0 c.args.tree.now c.args.r.now c.requires.edge.1 family m c.args.v c.args.e c.requires.edge.2 c.requires.edge.3 c.loop-links.k c.loop-links.i c.item_of-behind.result ((c.loop-links.invariant.1 family m).0) c.item_of-behind.ensures.item (c.item_of-behind.ensures.key ∙ ap (group c.args.tree.now c.loop-links.k) c.succ-next.ensures))),
-    ahead-goes c.requires.edge.0 c.args.tree.now c.args.r.now c.requires.edge.1 family m c.args.v c.args.e c.requires.edge.2 c.requires.edge.3 c.loop-links.k c.loop-links.i c.item_of-behind.result ((c.loop-links.invariant.1 family m).0) c.item_of-behind.ensures.item (c.item_of-behind.ensures.key ∙ ap (group c.args.tree.now c.loop-links.k) c.succ-next.ensures) c.loop-links.table (slice_set c.loop-links.table c.loop-links.k c.put.new.self) (put-keeps c.args.tree.now c.loop-links.table c.loop-links.invariant.0 c.loop-links.k c.loop-links.i c.args.v c.item_of-behind.result (leads-end c.args.tree.now family c.args.v c.args.e (successor (order_at c.args.r.now c.args.v) c.args.e) c.loop-links.k c.loop-links.i (c.loop-links.invariant.1 family m).0) c.index-table-k.result c.put.new.self c.item_place.result c.put.ensures c.item_place.ensures family (follows-here c.requires.edge.0 c.args.tree.now c.args.r.now c.requires.edge.1 family m c.args.v c.args.e c.requires.edge.2 c.requires.edge.3 c.loop-links.k c.loop-links.i c.item_of-behind.result ((c.loop-links.invariant.1 family m).0) c.item_of-behind.ensures.item (c.item_of-behind.ensures.key ∙ ap (group c.args.tree.now c.loop-links.k) c.succ-next.ensures))) (put-has c.args.tree.now c.loop-links.table c.loop-links.invariant.0 c.loop-links.k c.loop-links.i c.args.v c.item_of-behind.result (leads-end c.args.tree.now family c.args.v c.args.e (successor (order_at c.args.r.now c.args.v) c.args.e) c.loop-links.k c.loop-links.i (c.loop-links.invariant.1 family m).0) c.index-table-k.result c.put.new.self c.item_place.result c.put.ensures c.item_place.ensures family (follows-here c.requires.edge.0 c.args.tree.now c.args.r.now c.requires.edge.1 family m c.args.v c.args.e c.requires.edge.2 c.requires.edge.3 c.loop-links.k c.loop-links.i c.item_of-behind.result ((c.loop-links.invariant.1 family m).0) c.item_of-behind.ensures.item (c.item_of-behind.ensures.key ∙ ap (group c.args.tree.now c.loop-links.k) c.succ-next.ensures))) (c.loop-links.invariant.1 family m).3 c.in-Link.j c.item_beyond-i.result (sym (ap (λ (z : List Item). (nth_item z c.item_of-behind.result).what) c.items.ensures) ∙ c.in-Link.is) c.item_beyond-i.ensures.item c.item_beyond-i.ensures.key,
+    ahead-goes c.requires.edge.0 c.args.tree.now c.args.r.now c.requires.edge.1 family m c.args.v c.args.e c.requires.edge.2 c.requires.edge.3 c.loop-links.k c.loop-links.i c.item_of-behind.result ((c.loop-links.invariant.1 family m).0) c.item_of-behind.ensures.item (c.item_of-behind.ensures.key ∙ ap (group c.args.tree.now c.loop-links.k) c.succ-next.ensures) c.loop-links.table (slice_set c.loop-links.table c.loop-links.k c.put.new.self) (put-keeps c.args.tree.now c.loop-links.table c.loop-links.invariant.0 c.loop-links.k c.loop-links.i c.args.v c.item_of-behind.result (leads-end c.args.tree.now family c.args.v c.args.e (successor (order_at c.args.r.now c.args.v) c.args.e) c.loop-links.k c.loop-links.i (c.loop-links.invariant.1 family m).0) c.index-table-k.result c.put.new.self c.item_place.result c.put.ensures c.item_place.ensures family (follows-here c.requires.edge.0 c.args.tree.now c.args.r.now c.requires.edge.1 family m c.args.v c.args.e c.requires.edge.2 c.requires.edge.3 c.loop-links.k c.loop-links.i c.item_of-behind.result ((c.loop-links.invariant.1 family m).0) c.item_of-behind.ensures.item (c.item_of-behind.ensures.key ∙ ap (group c.args.tree.now c.loop-links.k) c.succ-next.ensures))) (put-has c.args.tree.now c.loop-links.table c.loop-links.invariant.0 c.loop-links.k c.loop-links.i c.args.v c.item_of-behind.result (leads-end c.args.tree.now family c.args.v c.args.e (successor (order_at c.args.r.now c.args.v) c.args.e) c.loop-links.k c.loop-links.i (c.loop-links.invariant.1 family m).0) c.index-table-k.result c.put.new.self c.item_place.result c.put.ensures c.item_place.ensures family (follows-here c.requires.edge.0 c.args.tree.now c.args.r.now c.requires.edge.1 family m c.args.v c.args.e c.requires.edge.2 c.requires.edge.3 c.loop-links.k c.loop-links.i c.item_of-behind.result ((c.loop-links.invariant.1 family m).0) c.item_of-behind.ensures.item (c.item_of-behind.ensures.key ∙ ap (group c.args.tree.now c.loop-links.k) c.succ-next.ensures))) (c.loop-links.invariant.1 family m).3 c.in-Link.j c.item_of-i.result (sym (ap (λ (z : List Item). (nth_item z c.item_of-behind.result).what) c.items.ensures) ∙ c.in-Link.is) c.item_of-i.ensures.item c.item_of-i.ensures.key,
   ),
 )
