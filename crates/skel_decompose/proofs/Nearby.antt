@@ -1,7 +1,7 @@
 -- The item of a neighbor that is the link to a node has the edges of the node in its group.
-use Rattle.std.proofs.Common.{◌≡◌, ℕ, ◌<◌, zero, suc, inl, inr, List, length, slice_index_or, slice_set, replicate, Option, None, Some, refl, sym, ap, ◌∙◌, subst}
+use Rattle.std.proofs.Common.{◌≡◌, ℕ, ◌<◌, zero, suc, inl, inr, List, [], ◌∷◌, ◌++◌, length, slice_index_or, slice_set, Option, None, Some, refl, sym, ap, ◌∙◌, subst}
 use Rattle.std.proofs.lemmas.Bool.{cases_eq}
-use Rattle.std.proofs.lemmas.List.{get_or-set_same, get_or-set_other, length-set, length-replicate}
+use Rattle.std.proofs.lemmas.List.{get_or-set_same, get_or-set_other, length-set}
 use Rattle.multigraph.specs.Graph.{Multigraph, edge_count}
 use Rattle.pair_split.specs.Tutte.{Node, components, node_at, node_item, group}
 use Rattle.pair_split.specs.declared.components.Item.{Item}
@@ -15,24 +15,26 @@ use Rattle.skel_compose.proofs.Found.{home-is}
 use Rattle.skel_decompose.specs.Neighbors.{IsLinkTo, IsNeighbor, AreNeighbors}
 
 -- the parts of what is known
-parts : Option (ℕ × ℕ × ℕ) → ℕ × ℕ × ℕ
+abbrev parts : Option (ℕ × ℕ × ℕ) → ℕ × ℕ × ℕ
 parts None = (0, 0, 0)
 parts (Some t) = t
 
 none-some : (t : ℕ × ℕ × ℕ) → None ≡ Some t → ⊥
 none-some t q = absurd (cc)
 
--- at first nothing is known
-nothing : (n x : ℕ) → slice_index_or (replicate n None) x None ≡ None
-nothing zero x = refl
-nothing (suc n) zero = refl
-nothing (suc n) (suc x) = nothing n x
+-- one node more of which nothing is known
+pub unknown-push : (items : List (Option (ℕ × ℕ × ℕ))) → ((x : ℕ) → slice_index_or items x None ≡ None) → (x : ℕ) → slice_index_or (items ++ None ∷ []) x None ≡ None
+unknown-push [] h zero = refl
+unknown-push [] h (suc x) = refl
+unknown-push (y ∷ items) h zero = h 0
+unknown-push (y ∷ items) h (suc x) = unknown-push items (λ z. h (suc z)) x
 
-pub neighbors-none : (nodes : List Node) (n : ℕ) (neighbors : List (Option (ℕ × ℕ × ℕ))) → n ≡ length nodes → neighbors ≡ replicate n None → AreNeighbors nodes neighbors
-neighbors-none nodes n neighbors e q = subst (AreNeighbors nodes) (sym q) (record {
-  each = length-replicate n None ∙ e;
-  known = λ x k i size h. absurd (none-some (k, i, size) (sym (nothing n x) ∙ h));
-})
+-- at first nothing is known
+pub neighbors-none : (nodes : List Node) (neighbors : List (Option (ℕ × ℕ × ℕ))) → length neighbors ≡ length nodes → ((x : ℕ) → slice_index_or neighbors x None ≡ None) → AreNeighbors nodes neighbors
+neighbors-none nodes neighbors e h = record {
+  each = e;
+  known = λ x k i size q. absurd (none-some (k, i, size) (sym (h x) ∙ q));
+}
 
 -- a neighbor more
 pub neighbors-put : (nodes : List Node) (old : List (Option (ℕ × ℕ × ℕ))) (k i size x : ℕ) → AreNeighbors nodes old → x < length nodes → IsLinkTo nodes k i x → AreNeighbors nodes (slice_set old x (Some (k, i, size)))

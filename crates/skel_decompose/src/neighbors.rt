@@ -1,7 +1,7 @@
 // For each node a neighbor in the tree, with most items, and where the link to the node is among them. The item of a large node that has
 // an edge of a small neighbor is found so without a search.
 
-ghost use Rattle.std.specs.Prelude.{◌≡◌, ◌<◌, ◌⊎◌, Some, length, slice_set, IfOk};
+ghost use Rattle.std.specs.Prelude.{◌≡◌, ◌<◌, ◌⊎◌, ℕ, None, Some, length, slice_index_or, slice_set, IfOk};
 ghost use Rattle.multigraph.specs.Graph.{Multigraph, IsWithinLimits};
 ghost use Rattle.skeletons.specs.Items.{IsBlockTree};
 ghost use Rattle.skel_decompose.specs.Neighbors.{AreNeighbors};
@@ -40,6 +40,18 @@ fn note_neighbors(tree: &Tree, k: u32, neighbors: &mut [Option<(u32, u32, u32)>]
     }
 }
 
+// A list of as many nodes of which no neighbor is known.
+fn unknown(alloc: Global, count: u32) -> Result<Vec<Option<(u32, u32, u32)>>, AllocError>
+    ensures each { IfOk result (λ neighbors. length neighbors.items ≡ count) }
+    ensures none { IfOk result (λ neighbors. (x : ℕ) → slice_index_or neighbors.items x None ≡ None) }
+{
+    let mut neighbors = Vec::with_capacity(alloc, count as usize)?;
+    for _node in 0..count {
+        neighbors.push(None)?;
+    }
+    Ok(neighbors)
+}
+
 // For each node a neighbor, its item that is the link to the node, and how many items it has.
 pub(crate) fn neighbors_of(
     alloc: Global,
@@ -48,7 +60,7 @@ pub(crate) fn neighbors_of(
     requires block { (g : Multigraph) × IsBlockTree g tree.now × IsWithinLimits g }
     ensures { IfOk result (λ neighbors. AreNeighbors tree.now neighbors.items) }
 {
-    let mut neighbors = vec![in alloc; None; tree.node_count() as usize]?;
+    let mut neighbors = unknown(alloc, tree.node_count())?;
     for k in 0..tree.node_count() {
         note_neighbors(tree, k, &mut neighbors);
     }

@@ -8,6 +8,3 @@ returns-then-node-k-clause-item c = let b = c.requires.block in (home-own b.0 c.
 
 pub returns-then-node-k-clause-key : goal.returns-then-node-k-clause-key
 returns-then-node-k-clause-key c = let b = c.requires.block in (home-own b.0 c.args.tree.now b.1 c.args.homes.now c.args.e b.4 b.3 c.args.k c.if-node-k.true).1
-
-pub bounds-neighbors-node : goal.bounds-neighbors-node
-bounds-neighbors-node c = let b = c.requires.block in home-within b.0 c.args.tree.now b.1 c.args.homes.now c.args.e _ b.4 b.3 c.requires.neighbors.each
