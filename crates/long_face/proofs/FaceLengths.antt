@@ -1,13 +1,13 @@
 -- The lengths of the faces of a rotation system, as sums of ones, and whether one of them is a given number.
-use Rattle.std.proofs.Common.{◌≡◌, ℕ, zero, suc, ◌*◌, ◌/◌, ◌<◌, ◌≤◌, ◌==◌, ◌||◌, Bool, true, false, cond, inl, inr, List, [], ◌∷◌, length, replicate, sym, ap, ◌∙◌, subst, arith, refl, eq-eqb, eqb-true}
+use Rattle.std.proofs.Common.{◌≡◌, ℕ, zero, suc, ◌*◌, ◌/◌, ◌<◌, ◌≤◌, ◌==◌, true, false, cond, inl, inr, List, [], ◌∷◌, length, replicate, sym, ap, ◌∙◌, subst, arith, refl, eq-eqb, eqb-true}
 use Rattle.std.specs.List.{list_any}
-use Rattle.std.proofs.lemmas.Bool.{cases_Bool, both_ways, or_left, or_right, or_cases}
-use Rattle.permutations.specs.Count.{count, sum_below}
+use Rattle.std.proofs.lemmas.Bool.{both_ways, or_left, or_right, or_cases}
+use Rattle.permutations.specs.Count.{sum_below}
 use Rattle.permutations.proofs.Sums.{sum_below-ext, sum_below-const, count-sum}
-use Rattle.multigraph.specs.Graph.{Multigraph, IsGraph, IsWithinLimits, edge_count, max_edges}
+use Rattle.multigraph.specs.Graph.{Multigraph, IsGraph, edge_count, max_edges}
 use Rattle.rotations.specs.Rotation.{IsRotationSystem}
 use Rattle.faces.specs.Euler.{dart_count}
-use Rattle.skeleton_faces.specs.Faces.{on_one_face, face_length, face_weight}
+use Rattle.skeleton_faces.specs.Faces.{on_one_face, face_length}
 use Rattle.face_weights.specs.Sums.{weight_in, AreFaceSums}
 use Rattle.long_face.specs.Longest.{HasFace}
 use Rattle.long_face.proofs.Lengths.{listed-dart, dart-listed}
