@@ -12,7 +12,7 @@ use Rattle.skeletons.specs.Items.{IsBlockTree}
 use Rattle.skeletons.proofs.NodeItems.{nth_item, stands-of, group-is}
 use Rattle.skel_compose.specs.Homes.{home_at, IsHome, HasHomes}
 use Rattle.skel_compose.proofs.Found.{home-is}
-use Rattle.skel_decompose.specs.Neighbors.{IsLinkTo, IsNeighbor, AreNeighbors}
+use Rattle.skel_decompose.specs.Neighbors.{IsLinkTo, AreNeighbors}
 
 -- the parts of what is known
 abbrev parts : Option (ℕ × ℕ × ℕ) → ℕ × ℕ × ℕ

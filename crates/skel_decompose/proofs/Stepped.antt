@@ -1,9 +1,8 @@
 -- The face steps of a skeleton, told by what follows its items.
 use Rattle.std.proofs.Common.{◌≡◌, ℕ, ◌+◌, ◌*◌, ◌<◌, ◌==◌, if◌then◌else◌, inl, inr, Bool, true, List, [], ◌∷◌, ◌++◌, length, slice_index_or, refl, sym, ap, ap₂, ◌∙◌, subst, arith, eq-eqb, eqb-true}
 use Rattle.std.proofs.lemmas.Bool.{cases_eq, or_left, or_right}
-use Rattle.std.proofs.lemmas.List.{length-append, get_or_push, get_or_append_left}
-use Rattle.permutations.specs.Cyclic.{successor}
-use Rattle.permutations.specs.Members.{is_member, place_of}
+use Rattle.std.proofs.lemmas.List.{get_or_push, get_or_append_left}
+use Rattle.permutations.specs.Members.{place_of}
 use Rattle.permutations.proofs.Relation.{same-tests}
 use Rattle.permutations.proofs.Successor.{successor-member}
 use Rattle.multigraph.specs.Graph.{Multigraph, ends_of}
@@ -11,7 +10,7 @@ use Rattle.rotations.specs.Rotation.{order_at}
 use Rattle.faces.specs.Euler.{dart_from}
 use Rattle.faces.proofs.DartLemmas.{onward}
 use Rattle.pair_split.specs.Tutte.{Node, node_at, node_item}
-use Rattle.skeletons.specs.Items.{ends_item, has_vertex, IsBlockTree}
+use Rattle.skeletons.specs.Items.{has_vertex, IsBlockTree}
 use Rattle.skeletons.specs.Families.{skeleton_graph, system_at, AreSkeletonSystems}
 use Rattle.skeletons.proofs.NodeItems.{item-vertex}
 use Rattle.skeletons.proofs.Places.{round-item, item-round}

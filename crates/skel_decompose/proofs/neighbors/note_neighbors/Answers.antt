@@ -1,6 +1,4 @@
-use Rattle.std.proofs.Common.{ℕ, ◌<◌, inl, inr, List, Option, length, sym, ap, subst, arith}
-use Rattle.pair_split.specs.declared.components.Item.{Item}
-use Rattle.skeletons.proofs.NodeItems.{nth_item}
+use Rattle.std.proofs.Common.{◌<◌, inl, inr, length, sym, ap, subst, arith}
 use Rattle.skel_compose.proofs.Back.{link-node}
 use Rattle.skel_decompose.specs.Neighbors.{AreNeighbors}
 use Rattle.skel_decompose.proofs.Searched.{items-few}

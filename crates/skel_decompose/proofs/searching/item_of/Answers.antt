@@ -1,6 +1,4 @@
-use Rattle.std.proofs.Common.{ap}
 use Rattle.skel_decompose.proofs.Searched.{home-own}
-use Rattle.skel_decompose.proofs.Nearby.{home-within, near-found}
 use Rattle.skel_decompose.proofs.searching.item_of.Goals as goal
 
 pub returns-then-node-k-clause-item : goal.returns-then-node-k-clause-item

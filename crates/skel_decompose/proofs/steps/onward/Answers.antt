@@ -1,7 +1,5 @@
-use Rattle.std.proofs.Common.{◌≡◌, ◌<◌, ℕ, List, length, slice_index_or, sym, ap₂, ◌∙◌, subst, arith}
+use Rattle.std.proofs.Common.{◌<◌, length, sym, ◌∙◌, subst, arith}
 use Rattle.pair_split.specs.Tutte.{node_at}
-use Rattle.skeletons.specs.Families.{AreSkeletonSystems}
-use Rattle.skel_decompose.specs.Followers.{follower, HasFollowers}
 use Rattle.skel_decompose.proofs.Searched.{items-few}
 use Rattle.skel_decompose.proofs.Written.{place-below}
 use Rattle.skel_decompose.proofs.Stepped.{next-is, follower-in, follower-dart}

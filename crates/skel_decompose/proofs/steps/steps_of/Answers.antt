@@ -1,5 +1,5 @@
-use Rattle.std.proofs.Common.{◌≡◌, ◌<◌, ◌*◌, ℕ, List, length, sym, ap, ◌∙◌, subst, arith}
-use Rattle.multigraph.specs.Graph.{Multigraph, edge_count}
+use Rattle.std.proofs.Common.{◌≡◌, ◌<◌, ◌*◌, List, length, sym, ap, subst, arith}
+use Rattle.multigraph.specs.Graph.{edge_count}
 use Rattle.faces.specs.Steps.{AreStepsBelow}
 use Rattle.faces.proofs.FaceSteps.{steps-more}
 use Rattle.pair_split.specs.Tutte.{node_at}
