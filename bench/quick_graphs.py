@@ -4,9 +4,11 @@
   quick_graphs.py large [MOST]    random triangulations and square grids with a diagonal in each square, of about 5,000, 10,000
                                   and 16,000 vertices (or MOST at most), each also with one edge more that makes it nonplanar; a
                                   wheel of 20,000, also with two more edges that cross; random graphs; and other shapes
-  quick_graphs.py shapes [MOST]   triangulations, grids, wheels, bipyramids, prisms, nests, twisted ladders and random graphs, of about
+  quick_graphs.py shapes [MOST [SEED]]
+                                  triangulations, grids, wheels, bipyramids, prisms, nests, twisted ladders and random graphs, of about
                                   20,000 vertices (or MOST), as far as the limits allow, most also with an edge or two more that
-                                  make them nonplanar, and with their numbers mixed
+                                  make them nonplanar, and with their numbers mixed; of one SEED these edges are at the same relative
+                                  place at all sizes
   quick_graphs.py small SEED N    N random graphs of 4 to 12 vertices, connected, some planar and some not
 """
 import random
@@ -132,18 +134,25 @@ def tell_all(draw, name, vertices, ends, more):
             tell(name + kind + "_mixed", vertices, mixed(draw, vertices, all_ends))
 
 
-def shapes(most):
-    draw = random.Random(most)
+def across(place, side):
+    """An edge of a grid between inner vertices of two rows and two columns, at a relative place."""
+    first, second = place.uniform(0.1, 0.4), place.uniform(0.6, 0.9)
+    third, fourth = place.uniform(0.1, 0.4), place.uniform(0.6, 0.9)
+    return round(side * first) * side + round(side * third), round(side * second) * side + round(side * fourth)
+
+
+def shapes(most, seed):
+    draw, place = random.Random(seed), random.Random(seed)
     size = most * 4 // 5
     ends = triangulation(draw, size)
     tell(f"triangulation_{size}", size, mixed(draw, size, ends))
     tell(f"triangulation_{size}+1", size, mixed(draw, size, one_more(draw, size, ends, range(size))))
     side = round((most * 4 // 5) ** 0.5)
-    inner = [y * side + x for y in range(1, side - 1) for x in range(1, side - 1)]
-    tell_all(draw, f"grid_{side}x{side}", side * side, grid(side), one_more(draw, side * side, [], inner))
+    tell_all(draw, f"grid_{side}x{side}", side * side, grid(side), [across(place, side)])
     rim = most - 1
     wheel = ring(0, rim) + [(v, rim) for v in range(rim)]
-    tell_all(draw, f"wheel_{most}", most, wheel, [(0, rim // 2), (rim // 4, 3 * rim // 4)])
+    turn = int(rim * place.random() / 4)
+    tell_all(draw, f"wheel_{most}", most, wheel, [(turn, turn + rim // 2), (turn + rim // 4, turn + 3 * rim // 4)])
     rim = most * 4 // 5
     poles = ring(0, rim) + [(v, rim) for v in range(rim)] + [(v, rim + 1) for v in range(rim)]
     tell_all(draw, f"bipyramid_{rim}", rim + 2, poles, [(0, rim // 2)])
@@ -178,6 +187,6 @@ def small(seed, count):
 if sys.argv[1] == "large":
     large(int(sys.argv[2]) if len(sys.argv) > 2 else 16000)
 elif sys.argv[1] == "shapes":
-    shapes(int(sys.argv[2]) if len(sys.argv) > 2 else 20000)
+    shapes(int(sys.argv[2]) if len(sys.argv) > 2 else 20000, int(sys.argv[3]) if len(sys.argv) > 3 else 1)
 else:
     small(int(sys.argv[2]), int(sys.argv[3]))

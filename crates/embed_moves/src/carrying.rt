@@ -1,6 +1,7 @@
 // Moves carried out when it is known that they fit, and the moves that lead back.
 
-ghost use Rattle.std.specs.Prelude.{IfOk};
+ghost use Rattle.std.specs.Prelude.{◌≡◌, IfOk};
+ghost use Rattle.skeletons.specs.Moves.{moved_node};
 ghost use Rattle.skel_embed.specs.Values.{as_move};
 ghost use Rattle.embed_moves.specs.Made.{IsMade, Fits, LeadsBack};
 
@@ -23,7 +24,8 @@ pub fn carry_out(p: &mut PlaneBlock, m: &Move)
 /// choice. Fails only if memory runs out.
 pub fn back(alloc: Global, p: &PlaneBlock, m: &Move) -> Result<Move, AllocError>
     requires { Fits p.now.tree (as_move m.now) }
-    ensures { IfOk result (λ b. LeadsBack p.now (as_move m.now) (as_move b)) }
+    ensures leads { IfOk result (λ b. LeadsBack p.now (as_move m.now) (as_move b)) }
+    ensures node { IfOk result (λ b. moved_node (as_move b) ≡ moved_node (as_move m.now)) }
 {
     p.belongs();
     match m {

@@ -1,5 +1,4 @@
 -- Lemmas on the weights of faces.
-pub mod FaceTotals
 pub mod Terms
 pub mod LinkFaces
 pub mod FaceBounds
@@ -12,3 +11,5 @@ pub mod Weighed
 pub mod Steps
 pub mod OrderCode
 pub mod NodeCode
+pub mod Numbering
+pub mod Totals

@@ -1,7 +1,7 @@
 -- The rests of one node, as the code has them.
-use Rattle.std.proofs.Common.{◌≡◌, ◌≢◌, ℕ, ◌+◌, ◌*◌, ◌/◌, ◌<◌, ◌≤◌, ◌⊎◌, false, List, length, slice_index_or, max, inl, inr, refl, sym, ap, ◌∙◌, subst, arith}
+use Rattle.std.proofs.Common.{◌≡◌, ◌≢◌, ℕ, ◌+◌, ◌*◌, ◌/◌, ◌<◌, ◌≤◌, ◌⊎◌, false, List, [], length, slice_index_or, max, inl, inr, refl, sym, ap, ◌∙◌, subst, arith}
 use Rattle.std.proofs.lemmas.Bool.{both_ways}
-use Rattle.std.proofs.lemmas.List.{length-map}
+use Rattle.std.proofs.lemmas.List.{length-map, get_or_default}
 use Rattle.permutations.specs.Count.{sum_below}
 use Rattle.permutations.proofs.Sums.{sum_below-le}
 use Rattle.multigraph.specs.Graph.{Multigraph, edge_count, max_edges, IsWithinLimits}
@@ -19,6 +19,7 @@ use Rattle.pair_split.specs.declared.components.What.TheVariants.{Link}
 use Rattle.spqr_tree.specs.Keys.{parent_at}
 use Rattle.spqr_tree.proofs.UpLinks.{first-in, link-within, link-to, link-once}
 use Rattle.face_weights.specs.Weights.{weight_by}
+use Rattle.face_weights.specs.Numbers.{NumberFaces, KnowFaces}
 use Rattle.face_weights.specs.Rests.{IsOtherMost, IsRest}
 use Rattle.face_weights.specs.Sums.{weight_in, AreFaceSums}
 use Rattle.face_weights.specs.Passes.{weights_at, group_size, AreLight, LinkOnce}
@@ -39,6 +40,11 @@ other-kind kind h = elim h [
     | inr b ↦ not-bond kind B b refl
   ]
 ]
+
+-- the numbers of a node as they are read
+pub row-numbers : (nodes : List Node) (family : List (List (List ℕ))) (rows : List (List ℕ)) → KnowFaces nodes family rows → (k : ℕ) → k < length nodes → (row : List ℕ) → row ≡ slice_index_or rows k row → (seen : List ℕ) → seen ≡ row
+    → NumberFaces (skeleton_graph nodes k) (system_at family k) seen
+row-numbers nodes family rows know k l row e seen q = subst (NumberFaces (skeleton_graph nodes k) (system_at family k)) (sym (q ∙ e ∙ get_or_default rows k row [] (subst (λ n. k < n) (sym know.each) l))) (know.numbers k l)
 
 -- a block with its tree
 module _ (g : Multigraph) (nodes : List Node) (b : IsBlockTree g nodes) (k : ℕ) (l : k < length nodes) where

@@ -4,3 +4,4 @@ pub mod Reached
 pub mod Rests
 pub mod Sums
 pub mod Passes
+pub mod Numbers

@@ -18,7 +18,8 @@
 // running out of memory is an error.
 //
 // The lemmas (module of proofs/ in front):
-//   FaceTotals   listed-sum, each-listed: the sum along a listed face is the weight of the face of each of its darts
+//   Numbering    upto-more, orbits-more, steps-tell: orbits numbered along their steps, and that the numbers tell the faces
+//   Totals       totals-more, total-face: the weights of the darts that have one number, which is the weight of a face
 //   FaceBounds   face-twice, face-other: how heavy a face is, and that an edge on two faces adds its weight once
 //   LinkFaces    link-faces: the darts of a link lie on two faces
 //   RestLemmas   rest-once, rest-other, rest-light: there is one rest, it does not depend on the item, and it is small
@@ -29,12 +30,14 @@
 //   Terms, Steps sums over numbers, and the steps of the loops
 #![tactic(auto)]
 
+mod numbers;
 mod ordering;
 mod rests;
 mod sums;
 mod table;
 mod weighing;
 
+pub use numbers::number_faces;
 pub use ordering::{ABSENT, order_from};
 pub use sums::face_sums;
 pub use table::Weights;

@@ -1,17 +1,17 @@
 // What a node adds to the weight of each of its items: the rest of the heaviest face that has it.
 
-ghost use Rattle.std.specs.Prelude.{◌≡◌, ◌<◌, ◌≤◌, ◌*◌, ◌+◌, ◌/◌, ℕ, length, max, IfOk};
+ghost use Rattle.std.specs.Prelude.{◌≡◌, ◌<◌, ◌≤◌, ◌*◌, ◌+◌, ◌/◌, ℕ, List, length, max, IfOk};
 ghost use Rattle.permutations.specs.Count.{sum_below};
 ghost use Rattle.multigraph.specs.Graph.{Multigraph, IsWithinLimits, max_edges};
 ghost use Rattle.pair_split.specs.Tutte.{node_at};
 ghost use Rattle.skeletons.specs.Items.{IsBlockTree};
-ghost use Rattle.skeletons.specs.Families.{AreSkeletonSystems};
+ghost use Rattle.face_weights.specs.Numbers.{KnowFaces};
 ghost use Rattle.face_weights.specs.Sums.{weight_in};
 ghost use Rattle.face_weights.specs.Rests.{IsOtherMost, IsRest};
 
 use crate::sums::face_sums;
+use multigraph::Numbers;
 use pair_split::Kind;
-use rotations::Rotation;
 use spqr_tree::Tree;
 use std::alloc::{AllocError, Global};
 
@@ -80,26 +80,26 @@ fn pair_rests(alloc: Global, weights: &[u32]) -> Result<Vec<u32>, AllocError>
 pub(crate) fn rests_of(
     alloc: Global,
     tree: &Tree,
-    members: &[Rotation],
+    faces: &[Numbers],
     k: u32,
     weights: &[u32],
 ) -> Result<Vec<u32>, AllocError>
     requires block { (g : Multigraph) × IsBlockTree g tree.now × IsWithinLimits g }
-    requires systems { AreSkeletonSystems tree.now members.now }
+    requires faces { (family : List (List (List ℕ))) × KnowFaces tree.now family faces.now }
     requires node { k < length tree.now }
     requires number { length weights.now ≡ length (node_at tree.now k).items }
     requires few { sum_below (length (node_at tree.now k).items) (weight_in weights.now)
         ≤ 2 * max_edges }
     ensures number { IfOk result (λ rests. length rests.items
         ≡ length (node_at tree.now k).items) }
-    ensures each { IfOk result (λ rests. (i : ℕ) → i < length (node_at tree.now k).items
-        → IsRest tree.now members.now k (weight_in weights.now) i (weight_in rests.items i)) }
+    ensures each { IfOk result (λ rests. (family : List (List (List ℕ))) → KnowFaces tree.now family faces.now
+        → (i : ℕ) → i < length (node_at tree.now k).items
+        → IsRest tree.now family k (weight_in weights.now) i (weight_in rests.items i)) }
 {
     match tree.kind(k) {
         Kind::P => pair_rests(alloc, weights),
         Kind::S | Kind::R | Kind::B => {
-            let graph = tree.skeleton(alloc, k)?;
-            let sums = face_sums(alloc, &graph, &members[k as usize], weights)?;
+            let sums = face_sums(alloc, faces[k as usize].as_slice(), weights)?;
             face_rests(alloc, &sums, weights)
         }
     }

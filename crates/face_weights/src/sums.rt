@@ -1,61 +1,44 @@
 // The weights of the faces of a rotation system, by their darts.
 
-ghost use Rattle.std.specs.Prelude.{◌≡◌, ◌<◌, ◌≤◌, ◌*◌, ◌^◌, ℕ, length, slice_index_or, IfOk};
+ghost use Rattle.std.specs.Prelude.{◌≡◌, ◌<◌, ◌≤◌, ◌*◌, ◌/◌, ◌==◌, ℕ, List, cond, length, IfOk};
 ghost use Rattle.permutations.specs.Count.{sum_below};
-ghost use Rattle.multigraph.specs.Graph.{edge_count, max_edges};
-ghost use Rattle.faces.specs.Euler.{dart_count};
-ghost use Rattle.rotations.specs.Rotation.{IsRotationSystem};
-ghost use Rattle.face_weights.specs.Sums.{weight_in, weight_along, IsNotedFor, AreFaceSums};
+ghost use Rattle.multigraph.specs.Graph.{Multigraph, edge_count, max_edges};
+ghost use Rattle.face_weights.specs.Numbers.{number_at, NumberFaces};
+ghost use Rattle.face_weights.specs.Sums.{weight_in, AreFaceSums};
 
-use faces::{dart_from, trace};
-use multigraph::Graph;
-use rotations::Rotation;
 use std::alloc::{AllocError, Global};
 
-// The sum of the weights of the edges of these pairs.
-fn total(pairs: &[(u32, u32)], weights: &[u32]) -> u32
-    requires edges { (p : ℕ) → p < length pairs.now
-        → (slice_index_or pairs.now p (0, 0)).1 < length weights.now }
-    requires few { weight_along weights.now pairs.now < 2 ^ 32 }
-    ensures { result ≡ weight_along weights.now pairs.now }
+// For each number the sum of the weights of the darts that have it.
+fn totals_of(alloc: Global, numbers: &[u32], weights: &[u32]) -> Result<Vec<u32>, AllocError>
+    requires number { length numbers.now ≡ 2 * length weights.now }
+    requires within { (d : ℕ) → d < length numbers.now → number_at numbers.now d
+        < length numbers.now }
+    requires few { sum_below (length weights.now) (weight_in weights.now) ≤ 2 * max_edges }
+    ensures number { IfOk result (λ totals. length totals.items ≡ length numbers.now) }
+    ensures each { IfOk result (λ totals. (t : ℕ) → t < length numbers.now
+        → weight_in totals.items t ≡ sum_below (length numbers.now)
+        (λ d. cond (t == number_at numbers.now d) (weight_in weights.now (d / 2)) 0)) }
 {
-    let mut sum = 0u32;
-    for pair in pairs {
-        sum += weights[pair.1 as usize];
+    let mut totals = vec![in alloc; 0; numbers.len()]?;
+    for d in 0..numbers.len() {
+        totals[numbers[d] as usize] += weights[d / 2];
     }
-    sum
+    Ok(totals)
 }
 
-// Notes the sum for the darts of these pairs.
-fn note(graph: &Graph, pairs: &[(u32, u32)], total: u32, sums: &mut [u32])
-    requires edges { (p : ℕ) → p < length pairs.now
-        → (slice_index_or pairs.now p (0, 0)).1 < edge_count graph.now }
-    requires number { length sums.old ≡ dart_count graph.now }
-    ensures { IsNotedFor graph.now pairs.now (length pairs.now) total sums.old sums.new }
+/// The weight of the face of each dart, where the faces are told by the numbers of the darts: the sum of the weights of the edges along
+/// it, an edge with both sides on the face counted twice. In linear time. Fails only if memory runs out.
+pub fn face_sums(alloc: Global, numbers: &[u32], weights: &[u32]) -> Result<Vec<u32>, AllocError>
+    requires faces { (g : Multigraph) × (r : List (List ℕ)) × NumberFaces g r numbers.now
+        × (length weights.now ≡ edge_count g) }
+    requires few { sum_below (length weights.now) (weight_in weights.now) ≤ 2 * max_edges }
+    ensures { IfOk result (λ sums. (g : Multigraph) (r : List (List ℕ))
+        → NumberFaces g r numbers.now → AreFaceSums g r weights.now sums.items) }
 {
-    for pair in pairs {
-        sums[dart_from(graph, pair.0, pair.1) as usize] = total;
-    }
-}
-
-/// The weight of the face of each dart of the rotation system `r` of the graph `g`: the sum of the weights of the edges along it,
-/// an edge with both sides on the face counted twice. In linear time. Fails only if memory runs out.
-pub fn face_sums(
-    alloc: Global,
-    g: &Graph,
-    r: &Rotation,
-    weights: &[u32],
-) -> Result<Vec<u32>, AllocError>
-    requires system { IsRotationSystem g.now r.now }
-    requires number { length weights.now ≡ edge_count g.now }
-    requires few { sum_below (edge_count g.now) (weight_in weights.now) ≤ 2 * max_edges }
-    ensures { IfOk result (λ sums. AreFaceSums g.now r.now weights.now sums.items) }
-{
-    let faces = trace(alloc, g, r)?;
-    let mut sums = vec![in alloc; 0; 2 * g.edge_count() as usize]?;
-    for i in 0..faces.count() {
-        let pairs = faces.face(i);
-        note(g, pairs, total(pairs, weights), &mut sums);
+    let totals = totals_of(alloc, numbers, weights)?;
+    let mut sums = Vec::with_capacity(alloc, numbers.len())?;
+    for number in numbers {
+        sums.push(totals[*number as usize])?;
     }
     Ok(sums)
 }

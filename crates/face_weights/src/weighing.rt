@@ -2,10 +2,9 @@
 
 ghost use Rattle.std.specs.Prelude.{◌≡◌, ◌<◌, ◌≤◌, ◌*◌, ◌+◌, ℕ, List, [], length, IfOk};
 ghost use Rattle.multigraph.specs.Graph.{Multigraph, IsWithinLimits, max_edges};
-ghost use Rattle.faces.specs.Euler.{IsPlane};
 ghost use Rattle.pair_split.specs.declared.components.What.TheVariants.{Link};
 ghost use Rattle.skeletons.specs.Items.{nth_item, IsBlockTree};
-ghost use Rattle.skeletons.specs.Families.{skeleton_graph, system_at, AreSkeletonSystems};
+ghost use Rattle.face_weights.specs.Numbers.{KnowFaces};
 ghost use Rattle.face_weights.specs.Weights.{weight_by};
 ghost use Rattle.face_weights.specs.Reached.{AreWeights};
 ghost use Rattle.face_weights.specs.Rests.{IsRest};
@@ -15,8 +14,8 @@ ghost use Rattle.face_weights.specs.Passes.{LinkOnce, IsOrderOf, AreBelow, AreDo
 use crate::ordering::{ABSENT, order_of};
 use crate::rests::rests_of;
 use crate::table::Weights;
+use multigraph::Numbers;
 use pair_split::{Item, What};
-use rotations::Rotation;
 use spqr_tree::Tree;
 use std::alloc::{AllocError, Global};
 
@@ -70,20 +69,18 @@ fn rest_at_parent(items: &[Item], parent: u32, rests: &[u32]) -> u32
 fn pass_up(
     alloc: Global,
     tree: &Tree,
-    members: &[Rotation],
+    faces: &[Numbers],
     parents: &[u32],
     order: &[u32],
 ) -> Result<Vec<u32>, AllocError>
     requires block { (g : Multigraph) × IsBlockTree g tree.now × IsWithinLimits g }
-    requires systems { AreSkeletonSystems tree.now members.now }
-    requires plane { (k : ℕ) → k < length tree.now
-        → IsPlane (skeleton_graph tree.now k) (system_at members.now k) }
+    requires faces { (family : List (List (List ℕ))) × KnowFaces tree.now family faces.now }
     requires order { IsOrderOf tree.now parents.now order.now }
     ensures number { IfOk result (λ below. length below.items ≡ length tree.now) }
     ensures light { IfOk result
         (λ below. AreLight tree.now parents.now below.items []) }
-    ensures below { IfOk result
-        (λ below. AreBelow tree.now members.now parents.now order.now 0 below.items) }
+    ensures below { IfOk result (λ below. (family : List (List (List ℕ))) → KnowFaces tree.now family faces.now
+        → AreBelow tree.now family parents.now order.now 0 below.items) }
 {
     let mut below = vec![in alloc; 0; tree.node_count() as usize]?;
     let mut p = order.len();
@@ -93,7 +90,7 @@ fn pass_up(
         let items = tree.items(k);
         let parent = parents[k as usize];
         let weights = weights_of(alloc, items, parent, &below, 0)?;
-        let rests = rests_of(alloc, tree, members, k, &weights)?;
+        let rests = rests_of(alloc, tree, faces, k, &weights)?;
         below[k as usize] = rest_at_parent(items, parent, &rests);
     }
     Ok(below)
@@ -138,22 +135,20 @@ fn greatest_sum(weights: &[u32], rests: &[u32]) -> u32
 fn pass_down(
     alloc: Global,
     tree: &Tree,
-    members: &[Rotation],
+    faces: &[Numbers],
     parents: &[u32],
     order: &[u32],
     below: &[u32],
 ) -> Result<(Vec<u32>, u32, u32), AllocError>
     requires block { (g : Multigraph) × IsBlockTree g tree.now × IsWithinLimits g }
-    requires systems { AreSkeletonSystems tree.now members.now }
-    requires plane { (k : ℕ) → k < length tree.now
-        → IsPlane (skeleton_graph tree.now k) (system_at members.now k) }
+    requires faces { (family : List (List (List ℕ))) × KnowFaces tree.now family faces.now }
     requires order { IsOrderOf tree.now parents.now order.now }
     requires number { length below.now ≡ length tree.now }
     requires light { AreLight tree.now parents.now below.now [] }
     ensures number { IfOk result (λ r. length r.0.items ≡ length tree.now) }
     ensures light { IfOk result (λ r. AreLight tree.now parents.now below.now r.0.items) }
-    ensures done { IfOk result (λ r. AreDone tree.now members.now parents.now order.now below.now
-        r.0.items (length order.now) r.1 r.2) }
+    ensures done { IfOk result (λ r. (family : List (List (List ℕ))) → KnowFaces tree.now family faces.now
+        → AreDone tree.now family parents.now order.now below.now r.0.items (length order.now) r.1 r.2) }
 {
     let mut above = vec![in alloc; 0; tree.node_count() as usize]?;
     let mut most = 0;
@@ -163,7 +158,7 @@ fn pass_down(
         let items = tree.items(k);
         let parent = parents[k as usize];
         let weights = weights_of(alloc, items, parent, below, above[k as usize])?;
-        let rests = rests_of(alloc, tree, members, k, &weights)?;
+        let rests = rests_of(alloc, tree, faces, k, &weights)?;
         hand_down(items, parent, &rests, &mut above);
         let sum = greatest_sum(&weights, &rests);
         if most <= sum {
@@ -178,19 +173,18 @@ fn pass_down(
 /// heaviest face of the node beyond it that has the link back, without the link back; of a bond, as much as the heaviest other
 /// item. And the greatest weight of a face of a node, of a bond that of two items.
 ///
-/// The members are plane rotation systems of the skeletons, one for each node. Takes time n log n for n items.
+/// The faces are those of the skeletons in a family of plane rotation systems, by the numbers of their darts. In linear time.
 /// Fails only if memory runs out.
-pub fn weigh(alloc: Global, tree: &Tree, members: &[Rotation]) -> Result<Weights, AllocError>
+pub fn weigh(alloc: Global, tree: &Tree, faces: &[Numbers]) -> Result<Weights, AllocError>
     requires block { (g : Multigraph) × IsBlockTree g tree.now × IsWithinLimits g }
-    requires systems { AreSkeletonSystems tree.now members.now }
-    requires plane { (k : ℕ) → k < length tree.now
-        → IsPlane (skeleton_graph tree.now k) (system_at members.now k) }
-    ensures { IfOk result (AreWeights tree.now members.now) }
+    requires faces { (family : List (List (List ℕ))) × KnowFaces tree.now family faces.now }
+    ensures { IfOk result (λ w. (family : List (List (List ℕ))) → KnowFaces tree.now family faces.now
+        → AreWeights tree.now family w) }
 {
     let mut parents = vec![in alloc; ABSENT; tree.node_count() as usize]?;
     let order = order_of(alloc, tree, &mut parents)?;
-    let below = pass_up(alloc, tree, members, &parents, &order)?;
-    let (above, most, top) = pass_down(alloc, tree, members, &parents, &order, &below)?;
+    let below = pass_up(alloc, tree, faces, &parents, &order)?;
+    let (above, most, top) = pass_down(alloc, tree, faces, &parents, &order, &below)?;
     Ok(Weights {
         parents,
         below,

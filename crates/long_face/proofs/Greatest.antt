@@ -4,6 +4,8 @@ use Rattle.multigraph.specs.Graph.{Multigraph}
 use Rattle.faces.specs.Euler.{IsPlaneSystem}
 use Rattle.pair_split.specs.Tutte.{Node, node_at}
 use Rattle.skeletons.specs.Choices.{choice}
+use Rattle.skeletons.specs.Families.{AreSkeletonSystems, FollowsFamily}
+use Rattle.skeletons.specs.Items.{IsBlockTree}
 use Rattle.skeletons.specs.Moves.{Move, move_of_kind, moves_below}
 use Rattle.skeletons.proofs.Leading.{is-same}
 use Rattle.skeleton_planes.proofs.Followed.{follows-plane_back}
@@ -14,6 +16,8 @@ use Rattle.long_face.specs.Laws.{TableBoundsFaces, WantedIsReached}
 use Rattle.long_face.specs.Moves.{move_towards, moves_towards}
 use Rattle.long_face.proofs.Lengths.{listed-dart, dart-listed}
 use Rattle.long_face.proofs.Reached.{IsReached, reached}
+use Rattle.skeletons.proofs.Places.{contiguous-follows}
+use Rattle.skeleton_runs.proofs.Contiguous.{plane-contiguous}
 
 -- no face is longer
 pub table-bounds : TableBoundsFaces
@@ -55,3 +59,7 @@ present-longest g nodes r most p none has = record { system = r; plane = p; reac
 pub wanted-longest : (g : Multigraph) (nodes : List Node) (r : List (List ℕ)) (most : ℕ) (keys : ℕ → List ℕ) → NoneLonger g most → (HasFace g r most → ⊥)
     → (q : List (List ℕ)) × IsPlaneSystem g q × HasFace g q most × ((k : ℕ) → k < length nodes → choice nodes q k ≡ keys k) → IsLongest g nodes r most (moves_towards nodes r keys (length nodes))
 wanted-longest g nodes r most keys none lacks w = record { system = w.0; plane = w.1; reached = w.2; none_longer = none; moves_are = sym (moves-same nodes r w.0 keys (length nodes) w.3); stays = λ h. absurd (lacks h) }
+
+-- a plane rotation system follows a family, of plane rotation systems
+pub present-family : (g : Multigraph) (nodes : List Node) (r : List (List ℕ)) → IsBlockTree g nodes → IsPlaneSystem g r → (family : List (List (List ℕ))) × AreSkeletonSystems nodes family × FollowsFamily nodes family r
+present-family g nodes r b p = contiguous-follows g nodes r b p.system (plane-contiguous g nodes r b p)

@@ -6,7 +6,6 @@ pub mod Possible
 pub mod Reached
 pub mod Greatest
 pub mod FromTop
-pub mod Numbered
 pub mod Changes
 pub mod Best
 pub mod Asked
@@ -16,3 +15,4 @@ pub mod RowLemmas
 pub mod Final
 pub mod RowsMade
 pub mod LinkSearch
+pub mod FaceLengths

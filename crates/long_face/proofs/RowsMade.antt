@@ -1,19 +1,22 @@
 -- The rows of the nodes, and that all is ready for the walk.
 use Rattle.std.proofs.Common.{◌≡◌, ℕ, ◌+◌, ◌*◌, ◌/◌, ◌<◌, ◌≤◌, cond, List, [], ◌∷◌, ◌++◌, length, slice_index_or, inl, inr, refl, sym, ap, ◌∙◌, subst, arith}
 use Rattle.std.proofs.lemmas.Bool.{cases_eq}
-use Rattle.std.proofs.lemmas.List.{length-append, get_or_push, get_or_append_left}
+use Rattle.std.proofs.lemmas.List.{get_or_default, length-append, get_or_push, get_or_append_left}
 use Rattle.permutations.specs.Count.{sum_below}
 use Rattle.permutations.proofs.Sums.{sum_below-ext}
 use Rattle.multigraph.specs.Graph.{Multigraph, IsWithinLimits, edge_count, max_edges}
 use Rattle.faces.specs.Euler.{dart_count, IsPlane}
 use Rattle.pair_split.specs.Tutte.{Node, node_at}
 use Rattle.skeletons.specs.Items.{IsBlockTree}
+use Rattle.faces.specs.Steps.{AreFaceSteps}
+use Rattle.skel_decompose.specs.Followers.{AreStepsOf}
 use Rattle.skeletons.specs.Families.{skeleton_graph, system_at, AreSkeletonSystems}
 use Rattle.skeleton_runs.proofs.SkeletonGraph.{graph-edges}
 use Rattle.skeleton_planes.proofs.SkeletonDarts.{dart-item}
 use Rattle.skeleton_faces.specs.Faces.{on_one_face}
 use Rattle.face_weights.specs.Weights.{Weighing, weight_of}
 use Rattle.face_weights.specs.Sums.{weight_in, AreFaceSums}
+use Rattle.face_weights.specs.Numbers.{NumberFaces}
 use Rattle.face_weights.specs.Reached.{AreWeights}
 use Rattle.face_weights.proofs.NodeCode.{weights-few}
 use Rattle.long_face.specs.Numbers.{AreFaceNumbers}
@@ -28,6 +31,9 @@ module _ (g : Multigraph) (nodes : List Node) (b : IsBlockTree g nodes) (limits 
     -- which are small together
     pub row-few : sum_below (edge_count (skeleton_graph nodes k)) (weight_in weights) ≤ 2 * max_edges
     row-few = subst (λ n. sum_below n (weight_in weights) ≤ 2 * max_edges) (sym (graph-edges g nodes b k l)) (weights-few g nodes b k l limits w.parents w.below w.above (slice_index_or w.above k 0) (weight_in weights) refl each a.light)
+
+    pub row-light : sum_below (length weights) (weight_in weights) ≤ 2 * max_edges
+    row-light = subst (λ n. sum_below n (weight_in weights) ≤ 2 * max_edges) (sym row-number) row-few
 
     -- the rows
     pub row-are : (sums numbers : List ℕ) → AreFaceSums (skeleton_graph nodes k) (system_at family k) weights sums → AreFaceNumbers (skeleton_graph nodes k) (system_at family k) numbers
@@ -58,6 +64,15 @@ module _ (g : Multigraph) (nodes : List Node) (b : IsBlockTree g nodes) (limits 
     places = places;
     each = each;
   }
+
+-- the steps of a node as they are read
+pub row-steps : (nodes : List Node) (family : List (List (List ℕ))) (rows : List (List ℕ)) → AreStepsOf nodes family rows → (k : ℕ) → k < length nodes → (row : List ℕ) → row ≡ slice_index_or rows k row → (seen : List ℕ) → seen ≡ row
+    → AreFaceSteps (skeleton_graph nodes k) (system_at family k) seen
+row-steps nodes family rows steps k l row e seen q = subst (AreFaceSteps (skeleton_graph nodes k) (system_at family k)) (sym (q ∙ e ∙ get_or_default rows k row [] (subst (λ n. k < n) (sym steps.each) l))) (steps.steps k l)
+
+-- they are numbers of faces
+pub row-tells : (g : Multigraph) (r : List (List ℕ)) (numbers copy : List ℕ) → NumberFaces g r numbers → copy ≡ numbers → AreFaceNumbers g r copy
+row-tells g r numbers copy n e = subst (AreFaceNumbers g r) (sym e) (record { places = n.darts; same = n.same })
 
 -- one row more
 pub rows-more : (IsRow : ℕ → NodeRows → Type 0) (rows new : List NodeRows) (row : NodeRows) (k : ℕ) → (length rows ≡ k) × ((j : ℕ) → j < k → IsRow j (rows_at rows j)) → new ≡ rows ++ row ∷ [] → IsRow k row → (length new ≡ k + 1) × ((j : ℕ) → j < k + 1 → IsRow j (rows_at new j))

@@ -1,17 +1,18 @@
 // The longest face and the moves to it.
 
-ghost use Rattle.std.specs.Prelude.{IfOk};
-ghost use Rattle.skeletons.specs.Families.{AreSkeletonSystems, FollowsFamily};
+ghost use Rattle.std.specs.Prelude.{ℕ, List, IfOk};
+ghost use Rattle.skeletons.specs.Families.{FollowsFamily};
 ghost use Rattle.skel_embed.specs.Values.{as_moves};
+ghost use Rattle.face_weights.specs.Numbers.{KnowFaces};
 ghost use Rattle.face_weights.specs.Reached.{AreWeights};
 ghost use Rattle.long_face.specs.Longest.{HasFace, IsLongest};
 
 use crate::joining::wants_of;
 use crate::moving::moves_for;
+use crate::numbers::present_faces;
 use crate::present::has_face;
 use face_weights::{Weights, weigh};
-use rotations::Rotation;
-use skel_decompose::decompose;
+use multigraph::Numbers;
 use skel_embed::{Move, PlaneBlock};
 use std::alloc::{AllocError, Global};
 
@@ -26,19 +27,18 @@ pub struct LongestFace {
 fn moves_to_longest(
     alloc: Global,
     p: &PlaneBlock,
-    members: &[Rotation],
+    faces: &[Numbers],
     weights: &Weights,
 ) -> Result<Vec<Move>, AllocError>
-    requires systems { AreSkeletonSystems p.now.tree members.now }
-    requires follows { FollowsFamily p.now.tree members.now p.now.rotation }
-    requires weights { AreWeights p.now.tree members.now weights.now }
+    requires known { (family : List (List (List ℕ))) × KnowFaces p.now.tree family faces.now
+        × FollowsFamily p.now.tree family p.now.rotation × AreWeights p.now.tree family weights.now }
     requires lacks { HasFace p.now.graph p.now.rotation weights.now.most → ⊥ }
     ensures { IfOk result (λ moves. IsLongest p.now.graph p.now.tree p.now.rotation weights.now.most
         (as_moves moves.items)) }
 {
     p.belongs();
     p.graph().keeps_limits();
-    let wants = wants_of(alloc, p.tree(), members, weights)?;
+    let wants = wants_of(alloc, p.tree(), faces, weights)?;
     moves_for(alloc, p, &wants)
 }
 
@@ -52,8 +52,8 @@ pub fn longest(alloc: Global, p: &PlaneBlock) -> Result<LongestFace, AllocError>
 {
     p.belongs();
     p.graph().keeps_limits();
-    let members = decompose(alloc, p.graph(), p.tree(), p.rotation())?;
-    let weights = weigh(alloc, p.tree(), &members)?;
+    let faces = present_faces(alloc, p)?;
+    let weights = weigh(alloc, p.tree(), &faces)?;
     let length = weights.most();
     if has_face(alloc, p.graph(), p.rotation(), length)? {
         return Ok(LongestFace {
@@ -61,6 +61,6 @@ pub fn longest(alloc: Global, p: &PlaneBlock) -> Result<LongestFace, AllocError>
             moves: Vec::new(alloc),
         });
     }
-    let moves = moves_to_longest(alloc, p, &members, &weights)?;
+    let moves = moves_to_longest(alloc, p, &faces, &weights)?;
     Ok(LongestFace { length, moves })
 }

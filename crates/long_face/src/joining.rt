@@ -1,21 +1,19 @@
 // What is known of the nodes, and what is wanted of them.
 
-ghost use Rattle.std.specs.Prelude.{◌≡◌, ◌<◌, ℕ, length, IfOk};
+ghost use Rattle.std.specs.Prelude.{◌≡◌, ◌<◌, ℕ, List, length, IfOk};
 ghost use Rattle.multigraph.specs.Graph.{IsWithinLimits, Multigraph};
-ghost use Rattle.faces.specs.Euler.{IsPlane};
-ghost use Rattle.skeletons.specs.Families.{AreSkeletonSystems, skeleton_graph, system_at};
 ghost use Rattle.skeletons.specs.Items.{IsBlockTree};
+ghost use Rattle.face_weights.specs.Numbers.{KnowFaces};
 ghost use Rattle.face_weights.specs.Reached.{AreWeights};
 ghost use Rattle.face_weights.specs.Weights.{weight_of};
 ghost use Rattle.long_face.specs.Ready.{AreRowsOf, rows_at};
 ghost use Rattle.long_face.specs.Walk.{IsWalked};
 
-use crate::numbers::face_numbers;
 use crate::rows::Rows;
 use crate::walking::wants_from;
 use crate::wants::Want;
 use face_weights::{ABSENT, Weights, face_sums, order_from};
-use rotations::Rotation;
+use multigraph::Numbers;
 use spqr_tree::Tree;
 use std::alloc::{AllocError, Global};
 
@@ -23,25 +21,25 @@ use std::alloc::{AllocError, Global};
 fn row_of(
     alloc: Global,
     tree: &Tree,
-    members: &[Rotation],
+    faces: &[Numbers],
     weights: &Weights,
     k: u32,
 ) -> Result<Rows, AllocError>
     requires block { (g : Multigraph) × IsBlockTree g tree.now × IsWithinLimits g }
-    requires systems { AreSkeletonSystems tree.now members.now }
-    requires weights { AreWeights tree.now members.now weights.now }
+    requires known { (family : List (List (List ℕ))) × KnowFaces tree.now family faces.now
+        × AreWeights tree.now family weights.now }
     requires node { k < length tree.now }
-    ensures { IfOk result (AreRowsOf tree.now members.now (weight_of tree.now weights.now) k) }
+    ensures { IfOk result (λ row. (family : List (List (List ℕ))) → KnowFaces tree.now family faces.now
+        → AreWeights tree.now family weights.now
+        → AreRowsOf tree.now family (weight_of tree.now weights.now) k row) }
 {
-    let graph = tree.skeleton(alloc, k)?;
-    let member = &members[k as usize];
+    let numbers = faces[k as usize].as_slice();
     let items = weights.of_node(alloc, tree, k)?;
-    let sums = face_sums(alloc, &graph, member, &items)?;
-    let numbers = face_numbers(alloc, &graph, member)?;
+    let sums = face_sums(alloc, numbers, &items)?;
     Ok(Rows {
         weights: items,
         sums,
-        numbers,
+        numbers: Vec::from_slice(alloc, numbers)?,
     })
 }
 
@@ -49,19 +47,20 @@ fn row_of(
 fn rows_of(
     alloc: Global,
     tree: &Tree,
-    members: &[Rotation],
+    faces: &[Numbers],
     weights: &Weights,
 ) -> Result<Vec<Rows>, AllocError>
     requires block { (g : Multigraph) × IsBlockTree g tree.now × IsWithinLimits g }
-    requires systems { AreSkeletonSystems tree.now members.now }
-    requires weights { AreWeights tree.now members.now weights.now }
+    requires known { (family : List (List (List ℕ))) × KnowFaces tree.now family faces.now
+        × AreWeights tree.now family weights.now }
     ensures places { IfOk result (λ rows. length rows.items ≡ length tree.now) }
-    ensures each { IfOk result (λ rows. (k : ℕ) → k < length tree.now → AreRowsOf tree.now members.now
+    ensures each { IfOk result (λ rows. (family : List (List (List ℕ))) → KnowFaces tree.now family faces.now
+        → AreWeights tree.now family weights.now → (k : ℕ) → k < length tree.now → AreRowsOf tree.now family
         (weight_of tree.now weights.now) k (rows_at rows.items k)) }
 {
     let mut rows = Vec::with_capacity(alloc, tree.node_count() as usize)?;
     for k in 0..tree.node_count() {
-        rows.push(row_of(alloc, tree, members, weights, k)?)?;
+        rows.push(row_of(alloc, tree, faces, weights, k)?)?;
     }
     Ok(rows)
 }
@@ -70,20 +69,20 @@ fn rows_of(
 pub(crate) fn wants_of(
     alloc: Global,
     tree: &Tree,
-    members: &[Rotation],
+    faces: &[Numbers],
     weights: &Weights,
 ) -> Result<Vec<Option<Want>>, AllocError>
     requires block { (g : Multigraph) × IsBlockTree g tree.now × IsWithinLimits g }
-    requires systems { AreSkeletonSystems tree.now members.now }
-    requires plane { (k : ℕ) → k < length tree.now
-        → IsPlane (skeleton_graph tree.now k) (system_at members.now k) }
-    requires weights { AreWeights tree.now members.now weights.now }
+    requires known { (family : List (List (List ℕ))) × KnowFaces tree.now family faces.now
+        × AreWeights tree.now family weights.now }
     ensures number { IfOk result (λ wants. length wants.items ≡ length tree.now) }
-    ensures walked { IfOk result (λ wants. (g : Multigraph) → IsBlockTree g tree.now
-        → IsWithinLimits g → IsWalked g tree.now members.now (weight_of tree.now weights.now)
-        weights.now.top weights.now.most wants.items) }
+    ensures walked { IfOk result (λ wants. (family : List (List (List ℕ)))
+        → KnowFaces tree.now family faces.now → AreWeights tree.now family weights.now
+        → (g : Multigraph) → IsBlockTree g tree.now → IsWithinLimits g
+        → IsWalked g tree.now family (weight_of tree.now weights.now) weights.now.top
+        weights.now.most wants.items) }
 {
-    let rows = rows_of(alloc, tree, members, weights)?;
+    let rows = rows_of(alloc, tree, faces, weights)?;
     let top = weights.top();
     let mut parents = vec![in alloc; ABSENT; tree.node_count() as usize]?;
     let order = order_from(alloc, tree, top, &mut parents)?;

@@ -8,7 +8,7 @@
 // next to the link. So wanted faces fit together, and the block has a face as long as the top's weighs in the plane
 // rotation system with these choices and the present ones elsewhere.
 //
-// `longest` gives the greatest length and the moves. It reads the family of the present rotation system (skel_decompose) and the weights
+// `longest` gives the greatest length and the moves. It reads the faces of the skeletons off the present rotation system (skel_decompose), numbered by their darts, and the weights
 // (face_weights), walks over the nodes from the top, each after its parent, and compares no rotation systems: no copy of the block is made,
 // and no ring is moved. The laws are its three parts: weights bound the faces of a block, wanted faces are reached, and a walk from the
 // top leads to a longest face.
@@ -19,7 +19,7 @@
 //   Bonds      bond-next, bond-face, bond-sum: the faces of a bond by its choice; Possible: choices that are possible
 //   Reached    reached: wanted faces are faces of some plane rotation system; Greatest table-bounds, wanted-reached
 //   FromTop    are-wanted: each node wants what its parent asks for; Best best-below: the heaviest face weighs enough
-//   Numbered   numbered-all: the numbers of faces; Asked one-side; Walked, Steps: the walk from the top; RowsMade all-ready; Final
+//   FaceLengths has-found, has-none: whether a face has a length; Asked one-side; Walked, Steps: the walk from the top; RowsMade all-ready; Final
 #![tactic(auto)]
 
 mod exchanged;

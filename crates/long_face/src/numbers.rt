@@ -1,37 +1,44 @@
-// The faces of a rotation system, numbered, by their darts.
+// The faces of the skeletons, by the numbers of their darts.
 
-ghost use Rattle.std.specs.Prelude.{◌≡◌, ◌<◌, ℕ, length, slice_index_or, IfOk};
-ghost use Rattle.multigraph.specs.Graph.{edge_count};
-ghost use Rattle.faces.specs.Euler.{dart_count};
-ghost use Rattle.rotations.specs.Rotation.{IsRotationSystem};
-ghost use Rattle.long_face.specs.Numbers.{AreFaceNumbers, IsNoted, pair_at};
+ghost use Rattle.std.specs.Prelude.{◌<◌, ℕ, List, length, IfOk};
+ghost use Rattle.multigraph.specs.Graph.{IsWithinLimits, Multigraph};
+ghost use Rattle.faces.specs.Euler.{IsPlane};
+ghost use Rattle.skeletons.specs.Families.{AreSkeletonSystems, FollowsFamily, skeleton_graph, system_at};
+ghost use Rattle.skeletons.specs.Items.{IsBlockTree};
+ghost use Rattle.skel_decompose.specs.Followers.{AreStepsOf};
+ghost use Rattle.face_weights.specs.Numbers.{KnowFaces};
 
-use faces::{dart_from, trace};
-use multigraph::Graph;
-use rotations::Rotation;
+use face_weights::number_faces;
+use multigraph::Numbers;
+use skel_decompose::face_steps;
+use skel_embed::PlaneBlock;
+use spqr_tree::Tree;
 use std::alloc::{AllocError, Global};
 
-// Notes the number for the darts of these pairs.
-fn note(graph: &Graph, pairs: &[(u32, u32)], number: u32, numbers: &mut [u32])
-    requires edges { (p : ℕ) → p < length pairs.now → (pair_at pairs.now p).1 < edge_count graph.now }
-    requires places { length numbers.old ≡ dart_count graph.now }
-    ensures { IsNoted graph.now pairs.now (length pairs.now) number numbers.old numbers.new }
+// The numbers of the darts of each node, from the face steps of the skeletons. In linear time. Fails only if memory runs out.
+fn numbers_of(alloc: Global, tree: &Tree, steps: &[Numbers]) -> Result<Vec<Numbers>, AllocError>
+    requires block { (g : Multigraph) × IsBlockTree g tree.now × IsWithinLimits g }
+    requires steps { (family : List (List (List ℕ))) × AreSkeletonSystems tree.now family
+        × AreStepsOf tree.now family steps.now }
+    ensures { IfOk result (λ faces. (family : List (List (List ℕ))) → AreSkeletonSystems tree.now family
+        → ((k : ℕ) → k < length tree.now → IsPlane (skeleton_graph tree.now k) (system_at family k))
+        → AreStepsOf tree.now family steps.now → KnowFaces tree.now family faces.items) }
 {
-    for pair in pairs {
-        numbers[dart_from(graph, pair.0, pair.1) as usize] = number;
+    let mut faces = Vec::with_capacity(alloc, steps.len())?;
+    for k in 0..tree.node_count() {
+        let numbers = number_faces(alloc, steps[k as usize].as_slice())?;
+        faces.push(Numbers::of(numbers))?;
     }
+    Ok(faces)
 }
 
-// The numbers of the faces of the rotation system `r` of the graph `g`, by their darts: darts have one number exactly where they are on
-// one face. In linear time. Fails only if memory runs out.
-pub(crate) fn face_numbers(alloc: Global, g: &Graph, r: &Rotation) -> Result<Vec<u32>, AllocError>
-    requires { IsRotationSystem g.now r.now }
-    ensures { IfOk result (λ numbers. AreFaceNumbers g.now r.now numbers.items) }
+// The faces of the skeletons, in the family that the present rotation system follows.
+pub(crate) fn present_faces(alloc: Global, p: &PlaneBlock) -> Result<Vec<Numbers>, AllocError>
+    ensures { IfOk result (λ faces. (family : List (List (List ℕ))) → AreSkeletonSystems p.now.tree family
+        → FollowsFamily p.now.tree family p.now.rotation → KnowFaces p.now.tree family faces.items) }
 {
-    let faces = trace(alloc, g, r)?;
-    let mut numbers = vec![in alloc; 0; 2 * g.edge_count() as usize]?;
-    for i in 0..faces.count() {
-        note(g, faces.face(i), i, &mut numbers);
-    }
-    Ok(numbers)
+    p.belongs();
+    p.graph().keeps_limits();
+    let steps = face_steps(alloc, p.graph(), p.tree(), p.rotation())?;
+    numbers_of(alloc, p.tree(), &steps)
 }

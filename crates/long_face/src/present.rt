@@ -1,28 +1,42 @@
 // Whether a rotation system has a face of a given length.
 
-ghost use Rattle.std.specs.Prelude.{◌≡◌, ◌≢◌, ◌<◌, ℕ, [], true, false, length, slice_index_or, IfOk};
-ghost use Rattle.multigraph.specs.Graph.{IsGraph};
-ghost use Rattle.rotations.specs.Rotation.{IsRotationSystem};
+ghost use Rattle.std.specs.Prelude.{◌≡◌, ◌<◌, true, false, IfOk};
+ghost use Rattle.permutations.specs.Cyclic.{successor};
+ghost use Rattle.multigraph.specs.Graph.{IsGraph, edge_count, is_end};
+ghost use Rattle.rotations.specs.Rotation.{IsRotationSystem, order_at};
+ghost use Rattle.faces.specs.Euler.{dart_from};
+ghost use Rattle.faces.specs.Steps.{AreFaceSteps};
 ghost use Rattle.long_face.specs.Longest.{HasFace};
 
-use faces::{Faces, trace};
-use multigraph::Graph;
+use face_weights::{face_sums, number_faces};
+use multigraph::{Graph, dart_from};
 use rotations::Rotation;
 use std::alloc::{AllocError, Global};
 
-// Whether one of the faces has this length.
-fn has_length(faces: &Faces, len: u32) -> bool
-    ensures found { result ≡ true → (i : ℕ) × (i < length faces.now)
-        × (length (slice_index_or faces.now i []) ≡ len) }
-    ensures none { result ≡ false → (i : ℕ) → i < length faces.now
-        → length (slice_index_or faces.now i []) ≢ len }
+// The dart by which a face that arrives at `vertex` by `edge` continues.
+fn onward(g: &Graph, r: &Rotation, vertex: u32, edge: u32) -> u32
+    requires graph { IsGraph g.now }
+    requires system { IsRotationSystem g.now r.now }
+    requires edge { edge < edge_count g.now }
+    requires end { is_end g.now vertex edge ≡ true }
+    ensures { result ≡ dart_from g.now vertex (successor (order_at r.now vertex) edge) }
 {
-    for i in 0..faces.count() {
-        if faces.face(i).len() == len as usize {
-            return true;
-        }
+    dart_from(g, vertex, r.succ(vertex, edge))
+}
+
+// For each dart the next one of its face.
+fn steps_of(alloc: Global, g: &Graph, r: &Rotation) -> Result<Vec<u32>, AllocError>
+    requires { IsRotationSystem g.now r.now }
+    ensures { IfOk result (λ steps. AreFaceSteps g.now r.now steps.items) }
+{
+    let edges = g.edge_count();
+    let mut steps = Vec::with_capacity(alloc, 2 * edges as usize)?;
+    for edge in 0..edges {
+        let (first, second) = g.ends(edge);
+        steps.push(onward(g, r, second, edge))?;
+        steps.push(onward(g, r, first, edge))?;
     }
-    false
+    Ok(steps)
 }
 
 // Whether the rotation system `r` of the graph `g` has a face of this length. In linear time. Fails only if memory runs out.
@@ -31,6 +45,10 @@ pub(crate) fn has_face(alloc: Global, g: &Graph, r: &Rotation, len: u32) -> Resu
     ensures found { IfOk result (λ has. has ≡ true → HasFace g.now r.now len) }
     ensures none { IfOk result (λ has. has ≡ false → HasFace g.now r.now len → ⊥) }
 {
-    let faces = trace(alloc, g, r)?;
-    Ok(has_length(&faces, len))
+    g.keeps_limits();
+    let steps = steps_of(alloc, g, r)?;
+    let numbers = number_faces(alloc, &steps)?;
+    let ones = vec![in alloc; 1; g.edge_count() as usize]?;
+    let lengths = face_sums(alloc, &numbers, &ones)?;
+    Ok(lengths.contains(&len))
 }

@@ -10,8 +10,8 @@ use Rattle.multigraph.proofs.DartEnds.{dart-edge}
 use Rattle.dart_maps.specs.Map.{twin, face, same_face}
 use Rattle.dart_maps.proofs.Darts.{twin-below}
 use Rattle.faces.specs.Euler.{dart_count, IsPlaneSystem}
-use Rattle.path_rotation.specs.Forced.{IsForced, IsPathDrawn, IsMapOfDarts}
-use Rattle.path_rotation.specs.Fitting.{IsBoard, IsFoot, AreLabels, AreFitting, MayDraw, IsWayTo, IsMoreDrawn, drawn_count}
+use Rattle.path_rotation.specs.Forced.{IsForced, IsPathDrawn, IsMapOfDarts, AreClosed}
+use Rattle.path_rotation.specs.Fitting.{IsBoard, IsSketch, IsFoot, AreLabels, AreFitting, MayDraw, IsWayTo, IsMoreDrawn, drawn_count}
 use Rattle.path_rotation.specs.declared.outcome.Tried.{Tried}
 use Rattle.path_rotation.specs.declared.outcome.Tried.TheVariants.{NotPlanar, Drawn, Passed}
 use Rattle.path_rotation.proofs.FaceLabels.{label-anew}
@@ -72,6 +72,10 @@ module _ (g : Multigraph) (ok : IsGraph g) (drawn on : List Bool) (next label : 
 pub board-map : (g : Multigraph) (drawn on : List Bool) (next label : List ℕ) → IsBoard g drawn on next label → IsMapOfDarts (edge_count g) next
 board-map g drawn on next label b = (b.drawing.0, b.drawing.1.map.permutes)
 
+-- and when all faces are labelled
+pub board-labelled : (g : Multigraph) (drawn on : List Bool) (next label new : List ℕ) → IsSketch g drawn on next label → AreClosed (edge_count g) next new → AreLabels g new → IsBoard g drawn on next new
+board-labelled g drawn on next label new s c l = record { tables = s.tables; forced = s.forced; drawing = s.drawing; closed = c; labels = l }
+
 -- and when a face is labelled anew, by the number of one of its darts
 pub board-anew : (g : Multigraph) (drawn on : List Bool) (next label : List ℕ) (t : ℕ) (new : List ℕ) → IsBoard g drawn on next label → t < dart_count g → length new ≡ length label
     → ((d : ℕ) → slice_index new d ≡ (if same_face (edge_count g) (slice_index next) t d then t else slice_index label d)) → IsBoard g drawn on next new
@@ -100,3 +104,12 @@ pub more-then : (g : Multigraph) (before after last : List Bool) (tried : Tried)
 more-then g before after last NotPlanar h l = omega (arith, h, l)
 more-then g before after last Drawn h l = omega (arith, h, l)
 more-then g before after last Passed h l = omega (arith, h, l)
+
+-- a path that is drawn is not passed over
+pub drawn-passed : Drawn ≡ Passed → ⊥
+drawn-passed e = subst is e tt
+  where
+    is : Tried → Type 0
+    is NotPlanar = Unit {0}
+    is Drawn = Unit {0}
+    is Passed = ⊥

@@ -8,11 +8,11 @@ ghost use Rattle.path_rotation.specs.Forced.{AreTables, IsInvolution};
 ghost use Rattle.path_rotation.specs.Fitting.{AreLabels, HaveRoom, IsBoard, IsChoice, IsFoot, IsMoreDrawn, IsTried, IsWayTo};
 ghost use Rattle.path_rotation.specs.declared.outcome.Tried.TheVariants.{Passed};
 
-use crate::fitting::{darts_at, exclude_all, is_attachment, keep_in_face};
+use crate::fitting::{darts_at, is_attachment, keep_in_face, narrow};
 use crate::inserting::draw_path;
-use crate::labels::{is_on_face, label_face};
+use crate::labels::{in_shorter_face, is_on_face, label_face};
 use crate::outcome::Tried;
-use crate::searching::{gather, unmark};
+use crate::searching::unmark;
 use crate::tables::{Board, Fits, Search};
 use crate::ways::way_back;
 use multigraph::{Graph, tail, twin};
@@ -61,7 +61,7 @@ fn way_to(
     Ok(None)
 }
 
-// The only dart in the face of the corner of c at the first attachment to which there is such a path.
+// The only dart in the face of the corner of c at the attachment met last to which there is such a path.
 fn find_way(
     g: &Graph,
     board: &Board,
@@ -78,7 +78,7 @@ fn find_way(
     ensures room { IfOk result (λ _. HaveRoom g.now fits.new.notes.items fits.new.depth.items fits.new.passed.items) }
     ensures way { IfOk result (λ answer. IfSome answer (IsWayTo g.now board.now.drawn.items board.now.on.items board.now.label.items t c fits.new.path.items)) }
 {
-    for z in attached {
+    for z in attached.iter().rev() {
         if let Some(k) = way_to(g, board, fits, t, c, *z)? {
             return Ok(Some(k));
         }
@@ -131,10 +131,9 @@ fn choose(
     ensures choice { IfOk result (IsChoice g.now board.now.drawn.items board.now.on.items board.now.next.items board.now.label.items t fits.new.path.items) }
 {
     g.keeps_limits();
-    gather(g, &board.on, search, &mut fits.notes, &mut fits.depth, t)?;
     darts_at(g, &board.drawn, tail(g, t), &mut fits.corners)?;
     let other = one_of_two(&board.next, &fits.corners, first);
-    exclude_all(g, board, &search.attached, fits, t)?;
+    narrow(g, board, search, fits, t, other.is_some())?;
     if fits.corners.is_empty() {
         return Ok(Choice::Nowhere);
     }
@@ -151,7 +150,7 @@ fn choose(
 }
 
 // Tries the bridge that begins with the undrawn dart t, whose tail is on. If `first` then what is drawn is an edge or a cycle. A path
-// that is drawn cuts its face in two, and the one of t is labelled anew; what is left of the bridge may be tried again.
+// that is drawn cuts its face in two, and the shorter one is labelled anew; what is left of the bridge may be tried again.
 pub(crate) fn attempt(
     g: &Graph,
     board: &mut Board,
@@ -175,7 +174,8 @@ pub(crate) fn attempt(
         Choice::Nowhere => Ok(Tried::NotPlanar),
         Choice::Between(c, k) => {
             draw_path(g, board, c, t, &fits.path, k);
-            label_face(g, &board.next, &mut board.label, t);
+            let d = in_shorter_face(g, &board.next, t);
+            label_face(g, &board.next, &mut board.label, d);
             unmark(&mut search.seen, &search.list);
             Ok(Tried::Drawn)
         }

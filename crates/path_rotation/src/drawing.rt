@@ -58,16 +58,16 @@ fn draw_paths(alloc: Global, g: &Graph, board: &mut Board) -> Result<bool, Alloc
     ensures whole { IfOk result (λ unfit. unfit ≡ false → IsTriconnected g.now → IsPlaneOrder g.now board.new.next.items) }
 {
     g.keeps_limits();
-    let mut search = Search::of(alloc, g.vertex_count() as usize)?;
+    let mut search = Search::of(alloc, g)?;
     let mut fits = Fits::of(alloc, g)?;
+    label_faces(g, &board.next, &mut board.label);
     for _ in 0..g.edge_count() {
-        label_faces(g, &board.next, &mut board.label);
         match round(g, board, &mut search, &mut fits)? {
             Tried::NotPlanar => return Ok(true),
             Tried::Drawn => {}
             Tried::Passed => match settle(alloc, g, board)? {
                 Tried::NotPlanar => return Ok(true),
-                Tried::Drawn => {}
+                Tried::Drawn => label_faces(g, &board.next, &mut board.label),
                 Tried::Passed => return Ok(false),
             },
         }

@@ -9,7 +9,8 @@ ghost use Rattle.multigraph.specs.Darts.{dart_count, tail, twin};
 ghost use Rattle.path_rotation.specs.Forced.{AreTables};
 ghost use Rattle.path_rotation.specs.Fitting.{AreDartsAt, AreFitting, AreLabels, IsFoot, HaveRoom};
 
-use crate::tables::{Board, Fits};
+use crate::searching::{begin, visit};
+use crate::tables::{Board, Fits, Search};
 use crate::ways::way_back;
 use multigraph::{Graph, dart_from, tail, twin};
 use std::alloc::AllocError;
@@ -137,11 +138,12 @@ fn exclude(g: &Graph, board: &Board, fits: &mut Fits, t: u32, z: u32) -> Result<
     Ok(())
 }
 
-// Takes those corners out whose faces do not pass each attachment.
-pub(crate) fn exclude_all(
+// Takes those corners out whose faces do not pass the attachments after the first `known`, as long as several are left.
+fn exclude_more(
     g: &Graph,
     board: &Board,
     attached: &[u32],
+    known: usize,
     fits: &mut Fits,
     t: u32,
 ) -> Result<(), AllocError>
@@ -153,11 +155,59 @@ pub(crate) fn exclude_all(
     ensures room { IfOk result (λ _. HaveRoom g.now fits.new.notes.items fits.new.depth.items fits.new.passed.items) }
     ensures fitting { IfOk result (λ _. AreFitting g.now board.now.drawn.items board.now.on.items board.now.label.items t fits.new.corners.items) }
 {
-    for z in attached {
-        if fits.corners.is_empty() {
+    for z in attached.iter().skip(known) {
+        if fits.corners.len() <= 1 {
             break;
         }
         exclude(g, board, fits, t, *z)?;
+    }
+    Ok(())
+}
+
+// Whether one of these vertices, which differ, is not u.
+fn has_other(attached: &[u32], u: u32) -> bool {
+    match attached.last() {
+        Some(z) => attached.len() > 1 || *z != u,
+        None => false,
+    }
+}
+
+// Searches the bridge that begins with the undrawn dart t, and takes those corners out whose faces do not pass an attachment, until
+// none is left, or until an attachment is met and one corner is left or there is `no_choice`.
+pub(crate) fn narrow(
+    g: &Graph,
+    board: &Board,
+    search: &mut Search,
+    fits: &mut Fits,
+    t: u32,
+    no_choice: bool,
+) -> Result<(), AllocError>
+    requires tables { AreTables g.now board.now.drawn.items board.now.on.items board.now.next.items }
+    requires labels { AreLabels g.now board.now.label.items }
+    requires foot { IsFoot g.now board.now.drawn.items board.now.on.items t }
+    requires room { HaveRoom g.now fits.old.notes.items fits.old.depth.items fits.old.passed.items }
+    requires fitting { AreFitting g.now board.now.drawn.items board.now.on.items board.now.label.items t fits.old.corners.items }
+    ensures room { IfOk result (λ _. HaveRoom g.now fits.new.notes.items fits.new.depth.items fits.new.passed.items) }
+    ensures fitting { IfOk result (λ _. AreFitting g.now board.now.drawn.items board.now.on.items board.now.label.items t fits.new.corners.items) }
+{
+    g.keeps_limits();
+    begin(g, &board.on, search, &mut fits.notes, &mut fits.depth, t)?;
+    let u = tail(g, t);
+    let mut known: usize = 0;
+    for q in 0..g.vertex_count() {
+        exclude_more(g, board, &search.attached, known, fits, t)?;
+        known = search.attached.len();
+        if fits.corners.is_empty() {
+            break;
+        }
+        if (no_choice || fits.corners.len() == 1) && has_other(&search.attached, u) {
+            break;
+        }
+        let Some(x) = search.list.get(q as usize) else {
+            break;
+        };
+        let x = *x;
+        visit(g, &board.on, search, &mut fits.notes, &mut fits.depth, x)?;
     }
     Ok(())
 }

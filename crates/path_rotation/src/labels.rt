@@ -50,19 +50,48 @@ pub(crate) fn label_faces(g: &Graph, next: &[u32], label: &mut [u32])
     }
 }
 
-// Whether a dart is met on the walk along the face of another one.
+// One of a dart and its twin: that in the shorter face. Both faces are walked along at once.
+pub(crate) fn in_shorter_face(g: &Graph, next: &[u32], t: u32) -> u32
+    requires map { IsMapOfDarts (edge_count g.now) next.now }
+    requires darts { length next.now ≡ dart_count g.now }
+    requires dart { t < dart_count g.now }
+    ensures { result < dart_count g.now }
+{
+    let other = twin(t);
+    let mut here = t;
+    let mut there = other;
+    for _ in 0..dart_count(g) {
+        here = next[twin(here) as usize];
+        if here == t {
+            return t;
+        }
+        there = next[twin(there) as usize];
+        if there == other {
+            return other;
+        }
+    }
+    t
+}
+
+// Whether one of two darts is met on the walk along the face of the other one. Both walks are taken at once.
 pub(crate) fn is_on_face(g: &Graph, next: &[u32], from: u32, to: u32) -> bool
     requires darts { length next.now ≡ dart_count g.now }
     requires within { (d : ℕ) → d < dart_count g.now → slice_index next.now d < dart_count g.now }
     requires from { from < dart_count g.now }
+    requires to { to < dart_count g.now }
     ensures { result ≡ true → same_face (edge_count g.now) (slice_index next.now) from to ≡ true }
 {
-    let mut at = from;
+    let mut here = from;
+    let mut there = to;
     for _ in 0..dart_count(g) {
-        if at == to {
+        if here == to {
             return true;
         }
-        at = next[twin(at) as usize];
+        if there == from {
+            return true;
+        }
+        here = next[twin(here) as usize];
+        there = next[twin(there) as usize];
     }
     false
 }

@@ -8,13 +8,15 @@
 // path is drawn into either.
 //
 // `draw` returns a plane rotation system, or that the graph has none, or that it is stuck; then the graph is not triconnected. What
-// is drawn is always a drawing: a plane map, which no vertex cuts (path_separation). Darts have one label just where they are of one
-// face when a round begins, and a path is drawn only between two corners that are found to be of one face. Each path draws an edge
-// or more, and the lists at the end are those of the map: where all edges are drawn, they are a plane rotation system. In a round the
-// search for attachments is not promised to be right: each path back to an attachment is checked edge by edge. Each bridge is tried
-// once, in time linear in its edges and in the degrees of the attachments; each round but the last draws a path. After a path, in
-// time linear in the graph, one of the two faces that it makes has a label of its own, and what is left of its bridge is tried in the
-// same round.
+// is drawn is always a drawing: a plane map, which no vertex cuts (path_separation). Darts of one face have one label, and a path is
+// drawn only between two corners that are found to be of one face. Each path draws an edge or more, and the lists at the end are those
+// of the map: where all edges are drawn, they are a plane rotation system. In a round the search for attachments is not promised to be
+// right: each path back to an attachment is checked edge by edge. The search through a bridge ends where one corner is left, and the
+// path to the attachment met last is drawn there: mostly the one that left no choice, so that the search is hardly longer than the path.
+// The vertices at which bridges are to be tried wait in a stack, and those of a new path wait anew; a bridge is tried once in a round,
+// and what is left of it again after a path of it was drawn. A bridge at which no path is drawn takes time linear in its edges and in
+// the degrees of the attachments. Of the two faces that a path makes the shorter one has a new label; all faces are labelled at first
+// and after a last look alone. Each round but the last draws a path.
 //
 // Where a round draws nothing and some edge is not drawn, each foot is looked at once more (a foot is an undrawn dart whose tail is
 // in the part): all its attachments and all corners that it fits are found. At the first foot that fits one corner alone, or none,

@@ -17,6 +17,14 @@ pub(crate) fn unmark(marks: &mut [bool], places: &[u32]) {
     }
 }
 
+// Marks a place.
+pub(crate) fn mark(marks: &mut [bool], place: u32) {
+    let place = place as usize;
+    if place < marks.len() {
+        marks[place] = true;
+    }
+}
+
 // Notes the edge and the depth of a vertex.
 fn note(notes: &mut [u32], depths: &mut [u32], v: u32, edge: u32, depth: u32) {
     let v = v as usize;
@@ -49,8 +57,8 @@ fn meet(on: &[bool], search: &mut Search, v: u32) -> Result<bool, AllocError> {
     }
 }
 
-// Meets the neighbours of a vertex.
-fn visit(
+// Meets the neighbours of a vertex, and notes for each the edge by which it was reached and how many edges away it is.
+pub(crate) fn visit(
     g: &Graph,
     on: &[bool],
     search: &mut Search,
@@ -75,9 +83,8 @@ fn visit(
     Ok(())
 }
 
-// Searches the bridge that begins with the undrawn dart t: its attachments, and for each vertex the edge by which it was reached and
-// how many edges away it is.
-pub(crate) fn gather(
+// Begins the search through the bridge of the undrawn dart t.
+pub(crate) fn begin(
     g: &Graph,
     on: &[bool],
     search: &mut Search,
@@ -93,13 +100,6 @@ pub(crate) fn gather(
     let first = head(g, t);
     if meet(on, search, first)? {
         note(notes, depths, first, t / 2, 0);
-    }
-    for q in 0..g.vertex_count() {
-        let Some(x) = search.list.get(q as usize) else {
-            break;
-        };
-        let x = *x;
-        visit(g, on, search, notes, depths, x)?;
     }
     Ok(())
 }

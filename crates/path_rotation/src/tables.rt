@@ -16,10 +16,13 @@ pub(crate) struct Board {
     pub on: Vec<bool>,
 }
 
-// The search through a bridge: the vertices seen in this round and the attachments met in this search; the vertices off the drawn
+// The search through a bridge: the vertices on the drawn part whose edges are to be tried in this round, and the edges between such
+// vertices that were tried in vain; the vertices seen in this round and the attachments met in this search; the vertices off the drawn
 // part, in the order in which they were reached, and the attachments.
 #[derive(Drop)]
 pub(crate) struct Search {
+    pub waiting: Vec<u32>,
+    pub tried: Vec<bool>,
     pub seen: Vec<bool>,
     pub met: Vec<bool>,
     pub list: Vec<u32>,
@@ -42,9 +45,13 @@ pub(crate) struct Fits {
 }
 
 impl Search {
-    // A search through a graph of n vertices.
-    pub(crate) fn of(alloc: Global, n: usize) -> Result<Search, AllocError> {
+    // Room for searches through a graph. In a round a vertex waits once at first, and again for each edge that is drawn to it.
+    pub(crate) fn of(alloc: Global, g: &Graph) -> Result<Search, AllocError> {
+        let n = g.vertex_count() as usize;
+        let m = g.edge_count() as usize;
         Ok(Search {
+            waiting: Vec::with_capacity(alloc, n + m)?,
+            tried: vec![in alloc; false; m]?,
             seen: vec![in alloc; false; n]?,
             met: vec![in alloc; false; n]?,
             list: Vec::with_capacity(alloc, n)?,

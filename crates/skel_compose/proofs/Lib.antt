@@ -2,4 +2,4 @@
 pub mod Back
 pub mod Walk
 pub mod Rounds
-mod Found
+pub mod Found

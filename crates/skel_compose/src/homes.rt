@@ -26,8 +26,9 @@ fn put_homes(g: &Graph, tree: &Tree, k: u32, homes: &mut [(u32, u32)])
     }
 }
 
-// The homes of all edges.
-pub(crate) fn homes_of(alloc: Global, g: &Graph, tree: &Tree) -> Result<Vec<(u32, u32)>, AllocError>
+/// The homes of the edges of a block: of each edge the node of the tree and the item that it is. In linear time. Fails only if
+/// memory runs out.
+pub fn homes_of(alloc: Global, g: &Graph, tree: &Tree) -> Result<Vec<(u32, u32)>, AllocError>
     requires block { IsBlockTree g.now tree.now }
     ensures { IfOk result (λ homes. HasHomes g.now tree.now (length tree.now) 0 homes.items) }
 {

@@ -22,3 +22,4 @@ mod searching;
 mod walking;
 
 pub use composing::compose;
+pub use homes::homes_of;

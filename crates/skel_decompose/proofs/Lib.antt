@@ -1,6 +1,8 @@
 -- Lemmas on the table of what follows each item, and on the walks that fill it.
 mod Searched
+mod Nearby
 mod Written
 mod Ahead
 mod Complete
 mod Gathered
+pub mod Stepped

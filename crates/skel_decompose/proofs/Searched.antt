@@ -1,5 +1,5 @@
 -- A binary search by key among the items of a node.
-use Rattle.std.proofs.Common.{◌≡◌, ℕ, ◌<◌, ◌≤◌, inl, inr, Result, Ok, Err, IfOk, IfErr, List, length, map, sym, ap, subst, arith}
+use Rattle.std.proofs.Common.{◌≡◌, ℕ, ◌<◌, ◌≤◌, inl, inr, Result, Ok, Err, IfOk, IfErr, List, length, map, refl, sym, ap, ◌∙◌, subst, arith, eq-eqb}
 use Rattle.std.specs.List.Sorted.{IsSearchInRange, IsBinarySearchResult, IsNonDecreasingBy}
 use Rattle.std.specs.Ordering.{nat_cmp, ordering_index}
 use Rattle.std.proofs.lemmas.Cmp.{ranked}
@@ -8,12 +8,14 @@ use Rattle.std.proofs.lemmas.Bool.Decides.{nat_tests}
 use Rattle.std.proofs.lemmas.Bool.{cases_eq, cases_lt}
 use Rattle.multigraph.specs.Part.{Rises}
 use Rattle.multigraph.specs.Graph.{Multigraph, edge_count, max_edges, IsWithinLimits}
-use Rattle.pair_split.specs.Tutte.{Node, node_at, group}
+use Rattle.pair_split.specs.Tutte.{Node, components, node_at, node_item, has_in_group, group}
 use Rattle.pair_split.specs.declared.components.Item.{Item}
 use Rattle.skeletons.specs.Items.{item_key, IsBlockTree}
 use Rattle.skeletons.proofs.NodeItems.{no_item, nth_item, edge-item, group-is}
 use Rattle.skeleton_runs.proofs.SkeletonGraph.{skeleton-limits, graph-edges}
+use Rattle.skel_compose.specs.Homes.{home_at, IsHome, HasHomes}
 use Rattle.skel_compose.proofs.Back.{items-rise}
+use Rattle.skel_compose.proofs.Found.{home-is}
 
 module _ (items : List Item) (key : ℕ) (r : Rises (map item_key items)) where
   comparisons-rise : IsNonDecreasingBy (λ (item : Item). ordering_index (nat_cmp item.key key)) items
@@ -53,3 +55,13 @@ module _ (g : Multigraph) (nodes : List Node) (b : IsBlockTree g nodes) (k : ℕ
   -- they are in order of their keys
   pub keys-rise : (items : List Item) → items ≡ (node_at nodes k).items → Rises (map item_key items)
   keys-rise items q = subst (λ (z : List Item). Rises (map item_key z)) (sym q) (b.tree.in_order.keys_rise k d)
+
+-- in the node where an edge is an item, it is in the group of this item
+pub home-own : (g : Multigraph) (nodes : List Node) (b : IsBlockTree g nodes) (homes : List (ℕ × ℕ)) (e : ℕ) → HasHomes g nodes (length nodes) 0 homes → e < edge_count g → (k : ℕ) → (home_at homes e).0 ≡ k
+    → ((home_at homes e).1 < length (node_at nodes k).items) × ((node_item nodes k (home_at homes e).1).key ≡ group nodes k e)
+home-own g nodes b homes e h l k q = subst (λ (p : ℕ × ℕ). p.0 ≡ k → (p.1 < length (node_at nodes k).items) × ((node_item nodes k p.1).key ≡ group nodes k e)) (sym w.4)
+    (λ same. subst (λ z. (w.1 < length (node_at nodes z).items) × ((node_item nodes z w.1).key ≡ group nodes z e)) same
+    (w.3.is_item, sym (group-is g nodes b.tree w.0 w.1 e w.3.is_item l (ap (has_in_group (components nodes) w.0 e) w.3.is_edge ∙ eq-eqb e e refl)))) q
+  where
+    w : (k : ℕ) × (i : ℕ) × (k < length nodes) × IsHome nodes k i e × (home_at homes e ≡ (k, i))
+    w = home-is g nodes b.tree homes e h l

@@ -1,14 +1,16 @@
 // The rotation systems of the skeletons that a rotation system of the block follows.
 
-ghost use Rattle.std.specs.Prelude.{IfOk};
+ghost use Rattle.std.specs.Prelude.{ℕ, List, IfOk};
 ghost use Rattle.rotations.specs.Rotation.{IsRotationSystem};
 ghost use Rattle.skeletons.specs.Items.{IsBlockTree};
 ghost use Rattle.skeletons.specs.Round.{IsContiguous};
 ghost use Rattle.skeletons.specs.Families.{AreSkeletonSystems, FollowsFamily};
+ghost use Rattle.skel_decompose.specs.Followers.{AreStepsOf};
 
 use crate::filling::followers;
 use crate::members::member_of;
-use multigraph::Graph;
+use crate::steps::steps_of;
+use multigraph::{Graph, Numbers};
 use rotations::Rotation;
 use spqr_tree::Tree;
 use std::alloc::{AllocError, Global};
@@ -37,4 +39,29 @@ pub fn decompose(
         members.push(member_of(alloc, tree, &table, k)?)?;
     }
     Ok(members)
+}
+
+/// The face steps of the skeletons, of each node those of the rotation system that the family of a rotation system of the block has
+/// there: for each dart of the skeleton the next one of its face. No skeleton is made as a graph of its own.
+///
+/// Fails only if memory runs out.
+pub fn face_steps(
+    alloc: Global,
+    g: &Graph,
+    tree: &Tree,
+    r: &Rotation,
+) -> Result<Vec<Numbers>, AllocError>
+    requires block { IsBlockTree g.now tree.now }
+    requires system { IsRotationSystem g.now r.now }
+    requires runs { IsContiguous tree.now r.now }
+    ensures { IfOk result (λ steps. (family : List (List (List ℕ))) → AreSkeletonSystems tree.now family
+        → FollowsFamily tree.now family r.now → AreStepsOf tree.now family steps.items) }
+{
+    g.keeps_limits();
+    let table = followers(alloc, g, tree, r)?;
+    let mut steps = Vec::with_capacity(alloc, tree.node_count() as usize)?;
+    for k in 0..tree.node_count() {
+        steps.push(steps_of(alloc, tree, &table, k)?)?;
+    }
+    Ok(steps)
 }

@@ -1,19 +1,33 @@
 // The table filled by walks from all edges.
 
 ghost use Rattle.std.specs.Prelude.{◌+◌, ◌<◌, List, ℕ, length, IfOk};
+ghost use Rattle.skel_compose.specs.Homes.{HasHomes};
 ghost use Rattle.skel_decompose.specs.Followers.{IsInRuns, IsFamily, IsTable, Keeps, HasLasts, HasFollowers};
+ghost use Rattle.skel_decompose.specs.Neighbors.{AreNeighbors};
 
+use crate::neighbors::neighbors_of;
 use crate::table::{Row, blank_table};
 use crate::walking::walk;
 use multigraph::Graph;
 use pair_split::What;
 use rotations::Rotation;
+use skel_compose::homes_of;
 use spqr_tree::Tree;
 use std::alloc::{AllocError, Global};
 
 // Walks from the edges that node k has, at both ends.
-fn fill_from(g: &Graph, tree: &Tree, r: &Rotation, k: u32, table: &mut [Row])
+fn fill_from(
+    g: &Graph,
+    tree: &Tree,
+    r: &Rotation,
+    homes: &[(u32, u32)],
+    neighbors: &[Option<(u32, u32, u32)>],
+    k: u32,
+    table: &mut [Row],
+)
     requires runs { IsInRuns g.now tree.now r.now }
+    requires homes { HasHomes g.now tree.now (length tree.now) 0 homes.now }
+    requires neighbors { AreNeighbors tree.now neighbors.now }
     requires node { k < length tree.now }
     requires table { IsTable tree.now table.old }
     ensures table { IsTable tree.now table.new }
@@ -25,8 +39,8 @@ fn fill_from(g: &Graph, tree: &Tree, r: &Rotation, k: u32, table: &mut [Row])
     for i in 0..items.len() as u32 {
         if let What::Real(e) = items[i as usize].what {
             let (a, b) = g.ends(e);
-            walk(tree, r, table, (k, i), a, e);
-            walk(tree, r, table, (k, i), b, e);
+            walk(tree, r, homes, neighbors, table, (k, i), a, e);
+            walk(tree, r, homes, neighbors, table, (k, i), b, e);
         }
     }
 }
@@ -43,9 +57,11 @@ pub(crate) fn followers(
     ensures followers { IfOk result (λ table. (family : List (List (List ℕ)))
         → IsFamily tree.now r.now family → HasFollowers tree.now family table.items) }
 {
+    let homes = homes_of(alloc, g, tree)?;
+    let neighbors = neighbors_of(alloc, tree)?;
     let mut table = blank_table(alloc, tree)?;
     for k in 0..tree.node_count() {
-        fill_from(g, tree, r, k, &mut table);
+        fill_from(g, tree, r, &homes, &neighbors, k, &mut table);
     }
     Ok(table)
 }

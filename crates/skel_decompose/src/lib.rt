@@ -7,22 +7,27 @@
 // of its ends, writes what follows into a table. Every item of every node is written once at each of its ends: there the last edge
 // of its run is followed by one of another group, or the item is an edge that is alone at the vertex.
 //
-// `decompose` gives the one family that a rotation system follows, and fails only if memory runs out. All walks together take
-// as many steps as the skeletons have items, twice, and each step takes a binary search in a node. Nothing recurses.
+// `decompose` gives the one family that a rotation system follows, and `face_steps` the face steps of its members without making them
+// or the skeletons; both fail only if memory runs out. All walks together take as many steps as the skeletons have items, twice, and
+// each step takes a look at where an edge is, or a binary search in a node. Nothing recurses.
 //
 // The lemmas, by their modules in proofs/:
-//   Searched  searched: a binary search by key
+//   Searched  searched: a binary search by key; home-own: the item of an edge in its own node
+//   Nearby    near-found: the item of an edge of a neighbor; neighbors-put: neighbors noted
 //   Written   written, kept: what a table has after an entry is written; put-table, put-has, put-keeps
 //   Ahead     follows-here: what is written is right; ahead-starts, ahead-goes, ahead-ends: what a walk has still to write
 //   Complete  all-followers: with what follows the last edges of all runs a table has what follows each item
+//   Stepped   follower-dart: what follows an item tells the face step; steps-push: the steps of one node more
 //   Gathered  items-start, item-next: items gone around in the table; member-made, members-all: the members made of them
 #![tactic(auto)]
 
 mod decomposing;
 mod filling;
 mod members;
+mod neighbors;
 mod searching;
+mod steps;
 mod table;
 mod walking;
 
-pub use decomposing::decompose;
+pub use decomposing::{decompose, face_steps};

@@ -2,8 +2,9 @@
 
 ghost use Rattle.std.specs.Prelude.{◌≡◌, ◌<◌, true, List, ℕ, length};
 ghost use Rattle.multigraph.specs.Graph.{Multigraph, edge_count, is_end};
-ghost use Rattle.skel_compose.specs.Homes.{IsHome};
+ghost use Rattle.skel_compose.specs.Homes.{IsHome, HasHomes};
 ghost use Rattle.skel_decompose.specs.Followers.{IsInRuns, IsFamily, IsTable, Keeps, HasLast};
+ghost use Rattle.skel_decompose.specs.Neighbors.{AreNeighbors};
 
 use crate::searching::item_of;
 use crate::table::{Row, item_place};
@@ -12,8 +13,19 @@ use rotations::Rotation;
 use spqr_tree::Tree;
 
 // Writes at the nodes on the way that the item of the next edge around v follows that of e, `home` is the node and the item that e is.
-pub(crate) fn walk(tree: &Tree, r: &Rotation, table: &mut [Row], home: (u32, u32), v: u32, e: u32)
-    requires edge { (g : Multigraph) × IsInRuns g tree.now r.now × (e < edge_count g) × (is_end g v e ≡ true) }
+pub(crate) fn walk(
+    tree: &Tree,
+    r: &Rotation,
+    homes: &[(u32, u32)],
+    neighbors: &[Option<(u32, u32, u32)>],
+    table: &mut [Row],
+    home: (u32, u32),
+    v: u32,
+    e: u32,
+)
+    requires edge { (g : Multigraph) × IsInRuns g tree.now r.now × (e < edge_count g) × (is_end g v e ≡ true)
+        × HasHomes g tree.now (length tree.now) 0 homes.now }
+    requires neighbors { AreNeighbors tree.now neighbors.now }
     requires node { home.0 < length tree.now }
     requires home { IsHome tree.now home.0 home.1 e }
     requires table { IsTable tree.now table.old }
@@ -26,12 +38,12 @@ pub(crate) fn walk(tree: &Tree, r: &Rotation, table: &mut [Row], home: (u32, u32
     let next = r.succ(v, e);
     let (mut k, mut i) = home;
     for _links in 0..tree.node_count() {
-        let behind = item_of(tree, k, next);
+        let behind = item_of(tree, homes, neighbors, k, next);
         table[k as usize].put(item_place(tree, k, i, v), behind);
         match tree.items(k)[behind as usize].what {
             What::Real(_) => return,
             What::Link(j) => {
-                i = item_of(tree, j, e);
+                i = item_of(tree, homes, neighbors, j, e);
                 k = j;
             }
         }

@@ -1,15 +1,15 @@
 -- Choices changed in their place.
-use Rattle.std.proofs.Common.{◌≡◌, ◌≢◌, ℕ, zero, suc, ◌+◌, ◌<◌, ◌≤◌, Bool, true, false, not, ◌||◌, ◌==◌, cond, nat_lt, List, [], ◌∷◌, ◌++◌, length, map, reverse, take, drop, slice_index_or, slice_set, Option, Some, None, refl, sym, ap, ◌∙◌, subst, inl, inr, arith}
+use Rattle.std.proofs.Common.{◌≡◌, ℕ, zero, suc, ◌+◌, ◌<◌, Bool, true, not, ◌||◌, ◌==◌, cond, nat_lt, List, [], ◌∷◌, ◌++◌, length, map, reverse, take, drop, slice_index_or, slice_set, Some, None, refl, sym, ap, ◌∙◌, subst, inl, inr, arith}
 use Rattle.std.specs.List.{position, position_or_len}
 use Rattle.std.proofs.lemmas.Bool.{cases_Bool, cases_eq, true≢false, eqb-true, lt-ltb, cond-true}
 use Rattle.std.proofs.lemmas.Option.{cond_some, none-some}
-use Rattle.std.proofs.lemmas.List.{length-append}
+use Rattle.std.proofs.lemmas.List.{length-append, length-map, length-reverse}
 use Rattle.permutations.specs.Cyclic.{first_or, from_least, turned}
 use Rattle.permutations.specs.Members.{is_member, is_distinct}
 use Rattle.permutations.proofs.Members.{member-head, member-tail, member-cases}
-use Rattle.permutations.proofs.NormalForm.{least-same, from_least-first_or}
+use Rattle.permutations.proofs.NormalForm.{least-same, from_least-first_or, from_least-turn}
 use Rattle.permutations.proofs.Relation.{same-tests}
-use Rattle.permutations.proofs.Turned.{turned-cut}
+use Rattle.permutations.proofs.Turned.{turned-cut, IsTurn-length}
 use Rattle.choice_lists.specs.Choices.{mirror_choice}
 use Rattle.skeleton_choices.proofs.Listed.{mirror-same}
 use Rattle.skel_embed.specs.Exchanges.{other_of, exchanged, turned_choice, StandsAt}
@@ -145,3 +145,10 @@ exchanged-first a b (x ∷ l) ma mb = exchanged-members a b (x ∷ l) x ma mb �
 pub member-filled : (l : List ℕ) (x : ℕ) → is_member x l ≡ true → 0 < length l
 member-filled [] x m = absurd (true≢false (sym m))
 member-filled (y ∷ l) x m = omega arith
+
+-- neither change of a choice changes its length
+pub turned-length : (l : List ℕ) → length (turned_choice l) ≡ length l
+turned-length l = omega (arith, IsTurn-length (reverse l) (from_least (reverse l)) (from_least-turn (reverse l)), length-reverse l)
+
+pub exchanged-length : (a b : ℕ) (l : List ℕ) → length (from_least (exchanged a b l)) ≡ length l
+exchanged-length a b l = omega (arith, IsTurn-length (exchanged a b l) (from_least (exchanged a b l)) (from_least-turn (exchanged a b l)), length-map l (other_of a b))

@@ -7,6 +7,7 @@ pub mod RunSteps
 pub mod TurnSteps
 pub mod ExchangeSteps
 pub mod KeptLists
+mod Flat
 pub mod BondMoves
 pub mod States
 pub mod RunKeys

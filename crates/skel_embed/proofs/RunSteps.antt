@@ -438,6 +438,10 @@ some-last key l e s m = let w = seen-from key l e s m in let q = ends-run key l 
 pub run-last_in : (key : ℕ → ℕ) (l : List ℕ) (first last : ℕ) → EndsRun key l first last → is_member last l ≡ true
 run-last_in key l first last w = sym (IsTurn-member l (w.run ++ w.next ∷ w.others) last w.round) ∙ member-append_left last w.run (w.next ∷ w.others) (end-member w.run last (w.is_run.ahead, w.is_run.ends))
 
+-- the last edge of a run has the key of the first
+pub last-key : (key : ℕ → ℕ) (l : List ℕ) (first last : ℕ) → EndsRun key l first last → key last ≡ key first
+last-key key l first last w = w.alike last (end-member w.run last (w.is_run.ahead, w.is_run.ends))
+
 -- it has members
 pub two-filled : (key : ℕ → ℕ) (l : List ℕ) → StandInTwoRuns key l → 0 < length l
 two-filled key l s = at s.groups s.runs s.two

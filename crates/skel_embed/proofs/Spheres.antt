@@ -1,8 +1,7 @@
 -- A block is connected, so a rotation system of it is plane exactly where V - E + F is 2.
-use Rattle.std.proofs.Common.{◌≡◌, ◌≢◌, ℕ, ◌+◌, ◌*◌, ◌<◌, ◌≤◌, inl, inr, Bool, true, false, ltb, ◌==◌, List, refl, sym, ap, ◌∙◌, subst, arith}
+use Rattle.std.proofs.Common.{◌≡◌, ℕ, ◌+◌, ◌*◌, ◌<◌, inl, inr, Bool, true, ltb, ◌==◌, List, sym, ap, ◌∙◌, subst, arith}
 use Rattle.std.proofs.lemmas.Bool.{both_ways, cases_lt, or_cases, eqb-true, lt-ltb, le-ltb}
-use Rattle.permutations.specs.Count.{count}
-use Rattle.permutations.specs.Relation.{connected, leads, class_count}
+use Rattle.permutations.specs.Relation.{connected, leads}
 use Rattle.permutations.proofs.Count.{count-ext}
 use Rattle.permutations.proofs.Leaders.{leads-from, not-leads}
 use Rattle.permutations.proofs.Relation.{same-tests, connected-reflexive, connected-symmetric, connected-transitive}

@@ -1,7 +1,7 @@
 -- A block in the plane after a move: its kept choices are right again.
 use Rattle.std.proofs.Common.{◌≡◌, ℕ, ◌<◌, inl, inr, true, List, [], length, map, reverse, slice_index_or, slice_set, sym, ap, ◌∙◌, subst, arith}
 use Rattle.std.proofs.lemmas.Bool.{cases_eq}
-use Rattle.std.proofs.lemmas.List.{get_or_read, length-set, length-map, get_or-map, get_or-set_same, get_or-set_other}
+use Rattle.std.proofs.lemmas.List.{length-set, length-map, get_or-map, get_or-set_same, get_or-set_other}
 use Rattle.permutations.specs.Cyclic.{from_least}
 use Rattle.permutations.specs.Members.{is_member, is_distinct}
 use Rattle.permutations.specs.Runs.{group_keys}
@@ -21,7 +21,7 @@ use Rattle.skeletons.proofs.KeyRuns.{met-runs}
 use Rattle.skeletons.proofs.Vertices.{least-has}
 use Rattle.skeletons.proofs.Moved.{move-others, flip-turns, permute-sets, mirror-turns}
 use Rattle.skeleton_runs.proofs.Contiguous.{plane-contiguous}
-use Rattle.skeleton_choices.proofs.Plane.{choice-round, move-plane}
+use Rattle.skeleton_choices.proofs.Plane.{move-plane}
 use Rattle.skeleton_choices.proofs.Told.{rigid-three}
 use Rattle.skeleton_choices.proofs.Listed.{choice-normal}
 use Rattle.skel_embed.specs.Block.{BlockState, IsBlockState}
@@ -31,14 +31,14 @@ use Rattle.skel_embed.proofs.BondMoves.{least-groups, runs-arranged}
 
 module _ (s : BlockState) (is : IsBlockState s) (k : ℕ) (l : k < length s.tree) where
   -- the kept choice of a node
-  pub kept-is : (x : List ℕ) → x ≡ slice_index_or s.choices k x → x ≡ choice s.tree s.rotation k
-  kept-is x e = get_or_read s.choices k x (subst (λ z. k < z) (sym is.choices.each) l) e [] ∙ is.choices.is k l
+  pub kept-once : is_distinct (slice_index_or s.choices k []) ≡ true
+  kept-once = ap is_distinct (is.choices.is k l) ∙ (choice-normal s.graph s.tree is.block s.rotation k is.plane l).0
 
-  pub kept-once : (x : List ℕ) → x ≡ slice_index_or s.choices k x → is_distinct x ≡ true
-  kept-once x e = ap is_distinct (kept-is x e) ∙ (choice-normal s.graph s.tree is.block s.rotation k is.plane l).0
+  pub kept-written : from_least (slice_index_or s.choices k []) ≡ slice_index_or s.choices k []
+  kept-written = ap from_least (is.choices.is k l) ∙ (choice-normal s.graph s.tree is.block s.rotation k is.plane l).1 ∙ sym (is.choices.is k l)
 
-  pub kept-written : (x : List ℕ) → x ≡ slice_index_or s.choices k x → from_least x ≡ x
-  kept-written x e = ap from_least (kept-is x e) ∙ (choice-normal s.graph s.tree is.block s.rotation k is.plane l).1 ∙ sym (kept-is x e)
+  pub kept-within : k < length s.choices
+  kept-within = subst (λ z. k < z) (sym is.choices.each) l
 
 module _ (s : BlockState) (is : IsBlockState s) (k : ℕ) (node : IsNodeOfKind s.tree k R) where
   -- a triconnected node has three groups at each vertex
@@ -50,11 +50,11 @@ module _ (s : BlockState) (is : IsBlockState s) (k : ℕ) (node : IsNodeOfKind s
       record { groups = w.0; runs = w.1; two = omega (arith, three, ap length met, IsTurn-length (group_keys w.0) (from_least (group_keys w.0)) (from_least-turn (group_keys w.0)), length-map w.0 (λ (h : ℕ × List ℕ). h.0)) }
 
 -- a key of a bond is one of its choice
-pub bond-member : (s : BlockState) → IsBlockState s → (k a : ℕ) → IsNodeOfKind s.tree k P → (x : List ℕ) → x ≡ slice_index_or s.choices k x → is_member a (node_keys s.tree k) ≡ true → is_member a x ≡ true
-bond-member s is k a node x e m =
+pub bond-member : (s : BlockState) → IsBlockState s → (k a : ℕ) → IsNodeOfKind s.tree k P → is_member a (node_keys s.tree k) ≡ true → is_member a (slice_index_or s.choices k []) ≡ true
+bond-member s is k a node m =
     let w = least-groups s.graph s.tree is.block s.rotation is.plane k node in
     let p = runs-arranged s.graph s.tree is.block s.rotation is.plane k node (least_vertex s.tree k) w.0 (least-has s.graph s.tree is.block k node.0) w.1 in
-    ap (is_member a) (kept-is s is k node.0 x e ∙ sym w.2) ∙ permutation-member (node_keys s.tree k) (group_keys w.0) a p ∙ m
+    ap (is_member a) (is.choices.is k node.0 ∙ sym w.2) ∙ permutation-member (node_keys s.tree k) (group_keys w.0) a p ∙ m
 
 -- a block with another rotation system, and another choice of one node
 abbrev pub with_move : BlockState → List (List ℕ) → ℕ → List ℕ → BlockState
@@ -76,14 +76,14 @@ state-moved s is move q keys l m c = record {
     ]
 
 -- after a flip
-pub state-flipped : (s : BlockState) → IsBlockState s → (k : ℕ) (q : List (List ℕ)) (old new : List ℕ) → IsNodeOfKind s.tree k R → FlipLeads s.graph s.tree k s.rotation q → old ≡ slice_index_or s.choices k old → new ≡ from_least (reverse old) → IsBlockState (with_move s q k new)
-state-flipped s is k q old new node f e n = state-moved s is (flip k) q new node.0 (node, f)
-    (flip-turns s.graph s.tree k s.rotation q is.block is.plane.system (plane-contiguous s.graph s.tree s.rotation is.block is.plane) node f ∙ ap (λ (z : List ℕ). from_least (reverse z)) (sym (kept-is s is k node.0 old e)) ∙ sym n)
+pub state-flipped : (s : BlockState) → IsBlockState s → (k : ℕ) (q : List (List ℕ)) → IsNodeOfKind s.tree k R → FlipLeads s.graph s.tree k s.rotation q → IsBlockState (with_move s q k (from_least (reverse (slice_index_or s.choices k []))))
+state-flipped s is k q node f = state-moved s is (flip k) q (from_least (reverse (slice_index_or s.choices k []))) node.0 (node, f)
+    (flip-turns s.graph s.tree k s.rotation q is.block is.plane.system (plane-contiguous s.graph s.tree s.rotation is.block is.plane) node f ∙ ap (λ (z : List ℕ). from_least (reverse z)) (sym (is.choices.is k node.0)))
 
 -- after a permute
-pub state-permuted : (s : BlockState) → IsBlockState s → (k a b : ℕ) (q : List (List ℕ)) (old new : List ℕ) → IsNodeOfKind s.tree k P → PermuteLeads s.graph s.tree k (exchanged a b (choice s.tree s.rotation k)) s.rotation q → old ≡ slice_index_or s.choices k old → new ≡ from_least (exchanged a b old) → IsBlockState (with_move s q k new)
-state-permuted s is k a b q old new node f e n = state-moved s is (permute k (exchanged a b (choice s.tree s.rotation k))) q new node.0 (node, f)
-    (permute-sets s.graph s.tree k (exchanged a b (choice s.tree s.rotation k)) s.rotation q is.block is.plane.system (plane-contiguous s.graph s.tree s.rotation is.block is.plane) node f ∙ ap (λ (z : List ℕ). from_least (exchanged a b z)) (sym (kept-is s is k node.0 old e)) ∙ sym n)
+pub state-permuted : (s : BlockState) → IsBlockState s → (k a b : ℕ) (q : List (List ℕ)) → IsNodeOfKind s.tree k P → PermuteLeads s.graph s.tree k (exchanged a b (choice s.tree s.rotation k)) s.rotation q → IsBlockState (with_move s q k (from_least (exchanged a b (slice_index_or s.choices k []))))
+state-permuted s is k a b q node f = state-moved s is (permute k (exchanged a b (choice s.tree s.rotation k))) q (from_least (exchanged a b (slice_index_or s.choices k []))) node.0 (node, f)
+    (permute-sets s.graph s.tree k (exchanged a b (choice s.tree s.rotation k)) s.rotation q is.block is.plane.system (plane-contiguous s.graph s.tree s.rotation is.block is.plane) node f ∙ ap (λ (z : List ℕ). from_least (exchanged a b z)) (sym (is.choices.is k node.0)))
 
 -- the kept choices are written from their least keys on
 pub kept-all : (s : BlockState) → IsBlockState s → AreWritten s.choices

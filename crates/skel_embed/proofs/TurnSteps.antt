@@ -4,7 +4,7 @@ use Rattle.std.proofs.lemmas.Bool.{cases_eq, both_ways}
 use Rattle.std.proofs.lemmas.List.{length-append, reverse-append, reverse-reverse}
 use Rattle.std.proofs.lemmas.List.Elements.{All-head, All-tail}
 use Rattle.std.proofs.lemmas.List.Sorted.{IsPermutation-trans, IsPermutation-append_comm, IsPermutation-append_left}
-use Rattle.permutations.specs.Cyclic.{successor, IsTurn}
+use Rattle.permutations.specs.Cyclic.{first_or, successor, IsTurn}
 use Rattle.permutations.specs.Members.{is_member, is_distinct}
 use Rattle.permutations.specs.Runs.{joined, IsGroup, InRuns}
 use Rattle.permutations.proofs.Members.{member-append_left, member-append_right, no_member-head, no_member-tail, no_member-cons, distinct-head, distinct-tail}
@@ -33,6 +33,12 @@ pub record IsTurning (key : ℕ → ℕ) (l m : List ℕ) (front back steps : �
   pub ends_second : Ends back second.1
   pub moved_length : length moved ≡ steps
 
+-- the same, with the edge after the second group
+pub record IsTurningAt (key : ℕ → ℕ) (l m : List ℕ) (front steps next : ℕ) : Type 0 where
+  pub back : ℕ
+  pub turning : IsTurning key l m front back steps
+  pub is : next ≡ successor m back
+
 pub turning-start : (key : ℕ → ℕ) (l : List ℕ) (e front back : ℕ) → is_distinct l ≡ true → StandInTwoRuns key l → is_member e l ≡ true → EndsRun key l e front → EndsRun key l (successor l front) back → IsTurning key l l front back 0
 turning-start key l e front back d s m x y = record {
   first = w.own;
@@ -59,6 +65,15 @@ turning-start key l e front back d s m x y = record {
     second (h ∷ hs) r =
         let b = group-next key l w.own w.next (h ∷ hs) r front d at-front in
         ends-last key l w.next h (hs ++ w.own ∷ []) (runs-turn key l (w.own ∷ w.next ∷ h ∷ hs) (w.next ∷ h ∷ (hs ++ w.own ∷ [])) r (record { front = w.own ∷ []; back = w.next ∷ h ∷ hs; before = refl; after = refl })) (successor l front) back d (begin-member w.next.1 (successor l front) b) y
+
+-- the first of a list with one more
+some-head : (gs : List (ℕ × List ℕ)) (x : ℕ × List ℕ) → (h : ℕ × List ℕ) × (hs : List (ℕ × List ℕ)) × (gs ++ x ∷ [] ≡ h ∷ hs)
+some-head [] x = (x, [], refl)
+some-head (g ∷ gs) x = (g, gs ++ x ∷ [], refl)
+
+-- a list has one first member
+begin-once : (l : List ℕ) (a b : ℕ) → Begins a l → Begins b l → a ≡ b
+begin-once l a b x y = ap (first_or a) (sym x.1 ∙ y.1)
 
 -- there are no more groups than members
 groups-few : (key : ℕ → ℕ) (gs : List (ℕ × List ℕ)) → All (IsGroup key) gs → length gs ≤ length (joined gs)
@@ -171,6 +186,33 @@ module _ (key : ℕ → ℕ) (l m : List ℕ) (front back steps : ℕ) (w : IsTu
             where
               passed : reverse w.moved ++ w.rest ≡ reverse (g ∷ w.moved) ++ gs
               passed = ap (λ (z : List (ℕ × List ℕ)). reverse w.moved ++ z) e ∙ sym (append_assoc (reverse w.moved) (g ∷ []) gs) ∙ ap (λ (z : List (ℕ × List ℕ)). z ++ gs) (sym (reverse-append (g ∷ []) w.moved))
+
+      -- then what was after that run is after the second
+      pub turning-next : (n : List ℕ) → is_distinct n ≡ true → IsRunMoved m n (successor m back) last front → successor n back ≡ successor m last
+      turning-next n c y = at w.rest refl
+        where
+          at : (rest : List (ℕ × List ℕ)) → w.rest ≡ rest → successor n back ≡ successor m last
+          at [] e = absurd (q (begins-none e))
+          at (g ∷ gs) e = begin-once f.0.1 (successor n back) (successor m last) after-second after-run
+            where
+              f : (h : ℕ × List ℕ) × (hs : List (ℕ × List ℕ)) × (gs ++ w.first ∷ [] ≡ h ∷ hs)
+              f = some-head gs w.first
+
+              run : IsRun (successor m back) last g.1
+              run = run-of g gs e
+
+              after-run : Begins (successor m last) f.0.1
+              after-run = group-next key m g f.0 (f.1 ++ (w.moved ++ w.second ∷ [])) (subst (λ (z : List (ℕ × List ℕ)). InRuns key m (g ∷ (z ++ (w.moved ++ w.second ∷ [])))) f.2 (from g gs e)) last d (run.ahead, run.ends)
+
+              put : InRuns key n ((gs ++ w.first ∷ []) ++ g ∷ (w.moved ++ w.second ∷ []))
+              put = moved-groups key m g (gs ++ w.first ∷ []) (w.moved ++ w.second ∷ []) (successor m back) last front (from g gs e) run n d (front-ends gs) y
+
+              second : InRuns key n (w.second ∷ ((gs ++ w.first ∷ []) ++ g ∷ w.moved))
+              second = runs-turn key n ((gs ++ w.first ∷ []) ++ g ∷ (w.moved ++ w.second ∷ [])) (w.second ∷ ((gs ++ w.first ∷ []) ++ g ∷ w.moved)) put
+                  (record { front = (gs ++ w.first ∷ []) ++ g ∷ w.moved; back = w.second ∷ []; before = sym (append_assoc (gs ++ w.first ∷ []) (g ∷ w.moved) (w.second ∷ [])); after = refl })
+
+              after-second : Begins (successor n back) f.0.1
+              after-second = group-next key n w.second f.0 (f.1 ++ g ∷ w.moved) (subst (λ (z : List (ℕ × List ℕ)). InRuns key n (w.second ∷ (z ++ g ∷ w.moved))) f.2 second) back c w.ends_second
 
 -- a run that is moved leaves a rotation system
 pub moved-system : (g : Multigraph) (r q : List (List ℕ)) (v first last edge : ℕ) → IsRotationSystem g r → v < g.vertex_count → IsRunMoved (order_at r v) (order_at q v) first last edge → IsKeptElsewhere r q v → IsRotationSystem g q

@@ -9,3 +9,4 @@ pub mod Steps
 pub mod Exchanges
 pub mod Values
 pub mod Taken
+pub mod Flat

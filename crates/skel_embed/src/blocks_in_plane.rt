@@ -10,6 +10,7 @@ ghost use Rattle.skeletons.proofs.NodeItems.{nth_item};
 ghost use Rattle.skel_embed.specs.First.{choice_in, AreFirstMembers, IsFirst};
 ghost use Rattle.skel_embed.specs.Outcomes.{IsFoundBySkeletons, AreChoicesIn};
 
+use crate::choices::Choices;
 use crate::kept::Kept;
 use crate::members::{Members, members_of};
 use crate::state::PlaneBlock;
@@ -21,6 +22,7 @@ use rotations::Rotation;
 use skel_compose::compose;
 use spqr_tree::Tree;
 use std::alloc::{AllocError, Global};
+use std::rc::Rc;
 
 /// A block in the plane, or why it has no plane rotation system: a skeleton that has none.
 #[derive(Debug, Drop)]
@@ -100,9 +102,12 @@ fn in_plane(
     ensures locks { IfOk result (λ p. p.locks ≡ replicate (length t) false) }
 {
     let rotation = compose(alloc, &g, &t, members)?;
-    let choices = choices_of(alloc, &t, members)?;
+    let lists = choices_of(alloc, &t, members)?;
+    let choices = Choices::from_lists(alloc, &lists)?;
     let locks = vec![in alloc; false; t.node_count() as usize]?;
-    Ok(PlaneBlock::of(g, t, rotation, choices, locks))
+    let graph = Rc::new(alloc, g)?;
+    let tree = Rc::new(alloc, t)?;
+    Ok(PlaneBlock::of(graph, tree, rotation, choices, locks))
 }
 
 /// Embeds a block by the skeletons of its tree. Its rotation system is then the first plane one, in the order by the first

@@ -1,6 +1,8 @@
 // The choices of another plane rotation system of a block.
 
-ghost use Rattle.std.specs.Prelude.{◌≡◌, ◌≢◌, ◌<◌, ◌↔◌, ◌⊎◌, ℕ, List, length, map, filter, IfOk, IsTrue, MatchOption};
+ghost use Rattle.std.specs.Prelude.{◌≡◌, ◌≢◌, ◌<◌, ◌↔◌, ◌⊎◌, ℕ, List, true, length, map, filter, IfOk, IsTrue, MatchOption};
+ghost use Rattle.permutations.specs.Cyclic.{turned};
+ghost use Rattle.permutations.specs.Members.{is_member};
 ghost use Rattle.rotations.specs.Rotation.{order_at};
 ghost use Rattle.pair_split.specs.Tutte.{node_at, group};
 ghost use Rattle.pair_split.specs.declared.components.Kind.TheVariants.{P, R};
@@ -10,7 +12,8 @@ ghost use Rattle.skeletons.specs.Choices.{choice};
 ghost use Rattle.skel_embed.specs.Block.{AreChoices};
 ghost use Rattle.skel_embed.specs.Taken.{begins_run, IsFirstOther, NoneOther};
 
-use crate::kept::{Kept, turn_to};
+use crate::choices::Choices;
+use crate::kept::{Kept, place_of};
 use multigraph::Graph;
 use pair_split::Kind;
 use rotations::Rotation;
@@ -44,6 +47,14 @@ fn keys_of_runs(
     Ok(keys)
 }
 
+// Writes the cyclic order of the keys from this one on.
+fn begin_with(keys: &mut Vec<u32>, first: u32)
+    requires { is_member first keys.old.items ≡ true }
+    ensures { keys.new.items ≡ turned keys.old.items first }
+{
+    keys.rotate_left(place_of(keys, first));
+}
+
 // The choice of node k, which has one; `old` is the one in some plane rotation system.
 fn keys_from(
     alloc: Global,
@@ -61,7 +72,7 @@ fn keys_from(
     ensures { IfOk result (λ keys. keys.items ≡ choice t.now r.now k) }
 {
     let mut keys = keys_of_runs(alloc, g, t, r, k)?;
-    turn_to(&mut keys, old[0]);
+    begin_with(&mut keys, old[0]);
     Ok(keys)
 }
 
@@ -92,7 +103,7 @@ pub(crate) fn choices_of(
     g: &Graph,
     t: &Tree,
     r: &Rotation,
-    old: &[Kept],
+    old: &Choices,
 ) -> Result<Vec<Kept>, AllocError>
     requires block { IsBlockTree g.now t.now }
     requires plane { IsPlaneSystem g.now r.now }
@@ -100,9 +111,9 @@ pub(crate) fn choices_of(
         × AreChoices t.now q (length t.now) old.now }
     ensures { IfOk result (λ choices. AreChoices t.now r.now (length t.now) choices.items) }
 {
-    let mut choices = Vec::with_capacity(alloc, old.len())?;
+    let mut choices = Vec::new(alloc);
     for k in 0..t.node_count() {
-        let keys = choice_of(alloc, g, t, r, k, old[k as usize].as_slice())?;
+        let keys = choice_of(alloc, g, t, r, k, old.at(k as usize))?;
         choices.push(Kept::of(keys))?;
     }
     Ok(choices)
@@ -116,7 +127,7 @@ fn differ(a: &[u32], b: &[u32]) -> bool
 }
 
 // The least locked node whose choices differ.
-pub(crate) fn first_other(n: u32, locks: &[bool], old: &[Kept], new: &[Kept]) -> Option<u32>
+pub(crate) fn first_other(n: u32, locks: &[bool], old: &Choices, new: &[Kept]) -> Option<u32>
     requires old { length old.now ≡ length locks.now }
     requires new { length new.now ≡ length locks.now }
     requires few { length locks.now ≡ n }
@@ -124,7 +135,7 @@ pub(crate) fn first_other(n: u32, locks: &[bool], old: &[Kept], new: &[Kept]) ->
         (IsFirstOther locks.now old.now new.now) }
 {
     for k in 0..n {
-        if locks[k as usize] && differ(old[k as usize].as_slice(), new[k as usize].as_slice()) {
+        if locks[k as usize] && differ(old.at(k as usize), new[k as usize].as_slice()) {
             return Some(k);
         }
     }

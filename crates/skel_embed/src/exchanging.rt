@@ -12,7 +12,7 @@ ghost use Rattle.skeletons.specs.Moves.{IsNodeOfKind, PermuteLeads};
 ghost use Rattle.skel_embed.specs.Exchanges.{AreExchanged, HasKeys, exchanged};
 ghost use Rattle.permutations.specs.Members.{is_member};
 
-use crate::runs::{put_run, run_first, run_last};
+use crate::runs::{put_run, run_end, run_first};
 use multigraph::Graph;
 use rotations::Rotation;
 use spqr_tree::Tree;
@@ -32,13 +32,13 @@ fn exchange_round(g: &Graph, t: &Tree, r: &mut Rotation, k: u32, v: u32, a: u32,
         return;
     }
     let first_a = run_first(g, t, r, k, v, a);
-    let last_a = run_last(g, t, r, k, v, first_a);
+    let end_a = run_end(g, t, r, k, v, first_a, a);
     let first_b = run_first(g, t, r, k, v, b);
-    let last_b = run_last(g, t, r, k, v, first_b);
+    let end_b = run_end(g, t, r, k, v, first_b, b);
     let before_a = r.pred(v, first_a);
     let before_b = r.pred(v, first_b);
-    put_run(r, v, first_b, last_b, before_a);
-    put_run(r, v, first_a, last_a, before_b);
+    put_run(r, v, first_b, end_b.last, before_a);
+    put_run(r, v, first_a, end_a.last, before_b);
 }
 
 // Exchanges the groups of the bond k with the keys a and b at both poles.

@@ -1,4 +1,4 @@
-// A choice as it is kept: its keys, from the least on. It is changed in place.
+// A choice as it is kept: its keys, from the least on. It is changed in place, as a part of a list.
 
 ghost use Rattle.std.specs.Prelude.{◌≡◌, ◌≤◌, ◌++◌, ◌==◌, true, length, map, reverse, take, drop};
 ghost use Rattle.std.specs.List.{position};
@@ -36,47 +36,37 @@ impl Kept {
     {
         self.held.as_slice()
     }
-
-    // Reverses the cyclic order.
-    pub(crate) fn turn_round(&mut self)
-        requires once { is_distinct self.old ≡ true }
-        requires written { from_least self.old ≡ self.old }
-        ensures { self.new ≡ turned_choice self.old }
-    {
-        if self.held.is_empty() {
-            return;
-        }
-        reverse_from(&mut self.held, 1);
-    }
-
-    // Exchanges two keys of the cyclic order.
-    pub(crate) fn exchange(&mut self, a: u32, b: u32)
-        requires once { is_distinct self.old ≡ true }
-        requires written { from_least self.old ≡ self.old }
-        requires first { is_member a self.old ≡ true }
-        requires second { is_member b self.old ≡ true }
-        ensures { self.new ≡ from_least (exchanged a b self.old) }
-    {
-        let least = self.held[0];
-        exchange_all(&mut self.held, a, b);
-        turn_to(&mut self.held, least);
-    }
 }
 
-// Reverses each choice.
-pub(crate) fn turn_all(choices: &mut Vec<Kept>)
-    requires { AreWritten choices.old.items }
-    ensures { choices.new.items ≡ map turned_choice choices.old.items }
+// Reverses the cyclic order.
+pub(crate) fn turn_round(keys: &mut [u32])
+    requires once { is_distinct keys.old ≡ true }
+    requires written { from_least keys.old ≡ keys.old }
+    ensures { keys.new ≡ turned_choice keys.old }
 {
-    for k in 0..choices.len() {
-        choices[k].turn_round();
+    if keys.is_empty() {
+        return;
     }
+    reverse_from(keys, 1);
+}
+
+// Exchanges two keys of the cyclic order.
+pub(crate) fn exchange(keys: &mut [u32], a: u32, b: u32)
+    requires once { is_distinct keys.old ≡ true }
+    requires written { from_least keys.old ≡ keys.old }
+    requires first { is_member a keys.old ≡ true }
+    requires second { is_member b keys.old ≡ true }
+    ensures { keys.new ≡ from_least (exchanged a b keys.old) }
+{
+    let least = keys[0];
+    exchange_all(keys, a, b);
+    turn_to(keys, least);
 }
 
 // Reverses the keys from a place on.
-fn reverse_from(keys: &mut Vec<u32>, place: usize)
-    requires { place ≤ length keys.old.items }
-    ensures { keys.new.items ≡ take place keys.old.items ++ reverse (drop place keys.old.items) }
+fn reverse_from(keys: &mut [u32], place: usize)
+    requires { place ≤ length keys.old }
+    ensures { keys.new ≡ take place keys.old ++ reverse (drop place keys.old) }
 {
     let end = keys.len();
     keys[place..end].reverse();
@@ -96,8 +86,8 @@ fn other_of(a: u32, b: u32, key: u32) -> u32
 }
 
 // Puts a for b and b for a.
-fn exchange_all(keys: &mut Vec<u32>, a: u32, b: u32)
-    ensures { keys.new.items ≡ exchanged a b keys.old.items }
+fn exchange_all(keys: &mut [u32], a: u32, b: u32)
+    ensures { keys.new ≡ exchanged a b keys.old }
 {
     for i in 0..keys.len() {
         keys[i] = other_of(a, b, keys[i]);
@@ -105,9 +95,9 @@ fn exchange_all(keys: &mut Vec<u32>, a: u32, b: u32)
 }
 
 // Writes the cyclic order of the keys from this one on.
-pub(crate) fn turn_to(keys: &mut Vec<u32>, first: u32)
-    requires { is_member first keys.old.items ≡ true }
-    ensures { keys.new.items ≡ turned keys.old.items first }
+fn turn_to(keys: &mut [u32], first: u32)
+    requires { is_member first keys.old ≡ true }
+    ensures { keys.new ≡ turned keys.old first }
 {
     keys.rotate_left(place_of(keys, first));
 }

@@ -22,11 +22,13 @@
 //   ExchangeSteps  cut-groups, put-both: two groups exchanged
 //   BondMoves      least-groups, exchange-leads: the groups at both poles in the order of the choice
 //   KeptLists      turned-round, exchanged-least: choices changed in place
+//   Flat           flat-view, piece-is, flat-set: choices kept as one list
 //   RunKeys        choice-from: a choice read off a cyclic order
 //   States         state-moved, state-mirrored: the invariant after a move
 #![tactic(auto)]
 
 mod blocks_in_plane;
+mod choices;
 mod choosing;
 mod exchanging;
 mod kept;

@@ -1,6 +1,7 @@
 // Runs of edges of one group around a vertex of a node, found and moved elsewhere. No memory is taken.
 
-ghost use Rattle.std.specs.Prelude.{◌≢◌, ◌<◌, ℕ, length};
+ghost use Rattle.std.specs.Prelude.{◌≡◌, ◌≢◌, ◌<◌, ℕ, length};
+ghost use Rattle.permutations.specs.Cyclic.{successor};
 ghost use Rattle.rotations.specs.Rotation.{order_at, IsRotationSystem};
 ghost use Rattle.rotations.specs.Runs.{IsOutside, IsKeptElsewhere};
 ghost use Rattle.pair_split.specs.Tutte.{group};
@@ -11,25 +12,40 @@ use multigraph::Graph;
 use rotations::Rotation;
 use spqr_tree::Tree;
 
-// The last edge of the run around v, by the groups of node k, that e is in.
-pub(crate) fn run_last(g: &Graph, t: &Tree, r: &Rotation, k: u32, v: u32, e: u32) -> u32
+// The end of a run around a vertex: its last edge, and the edge after it with the key of its group.
+#[derive(Clone, Copy)]
+pub(crate) struct RunEnd {
+    pub(crate) last: u32,
+    pub(crate) next: u32,
+    pub(crate) next_key: u32,
+}
+
+// The end of the run around v, by the groups of node k, that e is in, whose edges have this key.
+pub(crate) fn run_end(g: &Graph, t: &Tree, r: &Rotation, k: u32, v: u32, e: u32, key: u32) -> RunEnd
     requires block { IsBlockTree g.now t.now }
     requires node { k < length t.now }
     requires system { IsRotationSystem g.now r.now }
     requires vertex { v < g.now.vertex_count }
+    requires key { key ≡ group t.now k e }
     requires ends { (last : ℕ) × EndsRun (group t.now k) (order_at r.now v) e last }
-    ensures { EndsRun (group t.now k) (order_at r.now v) e result }
+    ensures ends { EndsRun (group t.now k) (order_at r.now v) e result.last }
+    ensures next { result.next ≡ successor (order_at r.now v) result.last }
+    ensures key { result.next_key ≡ group t.now k result.next }
 {
-    let key = t.group(k, e);
     let mut at = e;
     for _step in 0..g.degree(v) {
         let next = r.succ(v, at);
-        if t.group(k, next) != key {
-            return at;
+        let next_key = t.group(k, next);
+        if next_key != key {
+            return RunEnd {
+                last: at,
+                next,
+                next_key,
+            };
         }
         at = next;
     }
-    at
+    unreachable!()
 }
 
 // The first edge of the run around v whose edges have this key.

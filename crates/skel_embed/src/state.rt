@@ -13,9 +13,9 @@ ghost use Rattle.skeletons.specs.Lists.{KeepsChoices};
 ghost use Rattle.skel_embed.specs.Block.{BlockState, lock_at, IsBlockState};
 ghost use Rattle.skel_embed.specs.Taken.{IsGiven, IsTakeRefusal};
 
+use crate::choices::Choices;
 use crate::choosing::{choices_of, first_other};
 use crate::exchanging::exchange_node;
-use crate::kept::{Kept, turn_all};
 use crate::taking::{TakeFault, given};
 use crate::turning::turn_node;
 use multigraph::{Graph, Part};
@@ -23,14 +23,16 @@ use rotations::{Lists, Rotation};
 use spqr_tree::Tree;
 use std::alloc::{AllocError, Global};
 use std::marker::Model;
+use std::rc::Rc;
 
-/// A block with its tree, a plane rotation system, the choice of each node, and locks on nodes. Contracts see all five.
+/// A block with its tree, a plane rotation system, the choice of each node, and locks on nodes. Contracts see all five. Copies
+/// share graph and tree, which never change.
 #[derive(Debug, Drop)]
 pub struct PlaneBlock {
-    pub(crate) graph: Graph,
-    pub(crate) tree: Tree,
+    pub(crate) graph: Rc<Graph>,
+    pub(crate) tree: Rc<Tree>,
     pub(crate) rotation: Rotation,
-    pub(crate) choices: Vec<Kept>,
+    pub(crate) choices: Choices,
     pub(crate) locks: Vec<bool>,
 }
 
@@ -40,18 +42,18 @@ impl Model for PlaneBlock {
     ghost Value = { BlockState };
 
     ghost view = { λ p. record {
-      graph = p.graph;
-      tree = p.tree;
+      graph = p.graph.value;
+      tree = p.tree.value;
       rotation = p.rotation;
-      choices = p.choices.items;
+      choices = p.choices;
       locks = p.locks.items;
     } };
 
     ghost invariant = { λ p. IsBlockState (record {
-      graph = p.graph;
-      tree = p.tree;
+      graph = p.graph.value;
+      tree = p.tree.value;
       rotation = p.rotation;
-      choices = p.choices.items;
+      choices = p.choices;
       locks = p.locks.items;
     }) };
 }
@@ -59,24 +61,24 @@ impl Model for PlaneBlock {
 impl PlaneBlock {
     // A block of these parts. Takes no memory.
     pub(crate) fn of(
-        graph: Graph,
-        tree: Tree,
+        graph: Rc<Graph>,
+        tree: Rc<Tree>,
         rotation: Rotation,
-        choices: Vec<Kept>,
+        choices: Choices,
         locks: Vec<bool>,
     ) -> PlaneBlock
         requires { IsBlockState (record {
-          graph = graph;
-          tree = tree;
+          graph = graph.value;
+          tree = tree.value;
           rotation = rotation;
-          choices = choices.items;
+          choices = choices;
           locks = locks.items;
         }) }
         ensures { result ≡ record {
-          graph = graph;
-          tree = tree;
+          graph = graph.value;
+          tree = tree.value;
           rotation = rotation;
-          choices = choices.items;
+          choices = choices;
           locks = locks.items;
         } }
     {
@@ -119,7 +121,7 @@ impl PlaneBlock {
         requires { k < length self.now.tree }
         ensures { IfOk result (λ keys. keys.items ≡ choice self.now.tree self.now.rotation k) }
     {
-        Vec::from_slice(alloc, self.choices[k as usize].as_slice())
+        Vec::from_slice(alloc, self.choices.at(k as usize))
     }
 
     /// The present choice of node `k`, as it is kept. Takes no memory.
@@ -127,7 +129,7 @@ impl PlaneBlock {
         requires { k < length self.now.tree }
         ensures { result.now ≡ choice self.now.tree self.now.rotation k }
     {
-        self.choices[k as usize].as_slice()
+        self.choices.at(k as usize)
     }
 
     /// The parts belong together. For proofs alone: does nothing.
@@ -167,7 +169,7 @@ impl PlaneBlock {
         } }
     {
         turn_node(&self.graph, &self.tree, &mut self.rotation, k);
-        self.choices[k as usize].turn_round();
+        self.choices.turn_round(k as usize);
     }
 
     /// Exchanges the groups of the bond `k` with the keys `a` and `b` at both poles, each group as it was (Di Battista and
@@ -188,7 +190,7 @@ impl PlaneBlock {
         } }
     {
         exchange_node(&self.graph, &self.tree, &mut self.rotation, k, a, b);
-        self.choices[k as usize].exchange(a, b);
+        self.choices.exchange(k as usize, a, b);
     }
 
     /// Reverses every rotation: the mirror image of the block, in which each choice is reversed. All else stays. Takes no
@@ -202,7 +204,7 @@ impl PlaneBlock {
         } }
     {
         self.rotation.mirror();
-        turn_all(&mut self.choices);
+        self.choices.turn_all();
     }
 
     /// Makes lists the rotation system of the block. `part` is the part of a graph that the block is, and the lists are in the
@@ -226,18 +228,18 @@ impl PlaneBlock {
             × (self.new ≡ self.old)) }
     {
         let rotation = given(alloc, &self.graph, part, lists)?;
-        let Ok(choices) = choices_of(alloc, &self.graph, &self.tree, &rotation, &self.choices)
-        else {
+        let Ok(lists) = choices_of(alloc, &self.graph, &self.tree, &rotation, &self.choices) else {
             return Err(TakeFault::Memory);
         };
-        match first_other(self.tree.node_count(), &self.locks, &self.choices, &choices) {
-            Some(k) => Err(TakeFault::Locked(k)),
-            None => {
-                self.rotation = rotation;
-                self.choices = choices;
-                Ok(())
-            }
+        if let Some(k) = first_other(self.tree.node_count(), &self.locks, &self.choices, &lists) {
+            return Err(TakeFault::Locked(k));
         }
+        let Ok(choices) = Choices::from_lists(alloc, &lists) else {
+            return Err(TakeFault::Memory);
+        };
+        self.rotation = rotation;
+        self.choices = choices;
+        Ok(())
     }
 
     /// A copy of the block. Fails only if memory runs out.
@@ -245,22 +247,11 @@ impl PlaneBlock {
         ensures { IfOk result (λ p. p ≡ self.now) }
     {
         Ok(PlaneBlock {
-            graph: self.graph.copy(alloc)?,
-            tree: self.tree.copy(alloc)?,
+            graph: self.graph.clone()?,
+            tree: self.tree.clone()?,
             rotation: self.rotation.copy(alloc)?,
-            choices: copies(alloc, &self.choices)?,
+            choices: self.choices.copy(alloc)?,
             locks: Vec::from_slice(alloc, &self.locks)?,
         })
     }
-}
-
-// A copy of the lists.
-fn copies(alloc: Global, lists: &[Kept]) -> Result<Vec<Kept>, AllocError>
-    ensures { IfOk result (λ copies. copies.items ≡ lists.now) }
-{
-    let mut copies = Vec::with_capacity(alloc, lists.len())?;
-    for list in lists {
-        copies.push(Kept::of(Vec::from_slice(alloc, list.as_slice())?))?;
-    }
-    Ok(copies)
 }

@@ -8,7 +8,7 @@ ghost use Rattle.skeletons.specs.Items.{has_vertex, IsBlockTree};
 ghost use Rattle.skeletons.specs.Moves.{AreReversed, FlipLeads};
 ghost use Rattle.skel_embed.specs.Steps.{StandInTwoRuns};
 
-use crate::runs::run_last;
+use crate::runs::run_end;
 use multigraph::Graph;
 use rotations::Rotation;
 use spqr_tree::Tree;
@@ -24,16 +24,17 @@ fn turn_round(g: &Graph, t: &Tree, r: &mut Rotation, k: u32, v: u32)
     ensures turned { AreReversed (group t.now k) (order_at r.old v) (order_at r.new v) }
     ensures elsewhere { IsKeptElsewhere r.old r.new v }
 {
-    let front = run_last(g, t, r, k, v, g.incident(v)[0]);
-    let key = t.group(k, front);
-    let back = run_last(g, t, r, k, v, r.succ(v, front));
+    let first = g.incident(v)[0];
+    let key = t.group(k, first);
+    let front = run_end(g, t, r, k, v, first, key);
+    let mut ahead = run_end(g, t, r, k, v, front.next, front.next_key);
     for _turn in 0..g.degree(v) {
-        let first = r.succ(v, back);
-        if t.group(k, first) == key {
+        if ahead.next_key == key {
             return;
         }
-        let last = run_last(g, t, r, k, v, first);
-        r.move_run(v, first, last, front);
+        let run = run_end(g, t, r, k, v, ahead.next, ahead.next_key);
+        r.move_run(v, ahead.next, run.last, front.last);
+        ahead = run;
     }
 }
 

@@ -15,7 +15,7 @@ use crate::board::Board;
 use crate::code::Code;
 use crate::embedded::EmbeddedBlock;
 use crate::planned::{Planned, settle};
-use embed_enum::{GotoFault, first, goto, next};
+use embed_enum::{GotoFault, count, first, goto, next};
 use skel_embed::{Outcome, PlaneBlock};
 use std::alloc::{AllocError, Global};
 
@@ -72,8 +72,8 @@ fn rank_out(count: u128) -> Planned
     Planned::Refused(Code::RankOut(count))
 }
 
-// The plan for a block in the plane: made on a copy.
-fn rank_of_plane(alloc: Global, plane: &PlaneBlock, r: u128) -> Result<Planned, AllocError>
+// The plan for a block in the plane that has a member of this rank: made on a copy.
+fn plane_at_rank(alloc: Global, plane: &PlaneBlock, r: u128) -> Result<Planned, AllocError>
     ensures { IfOk result (IsRankPlan r plane.now) }
 {
     let mut copy = plane.copy(alloc)?;
@@ -83,6 +83,21 @@ fn rank_of_plane(alloc: Global, plane: &PlaneBlock, r: u128) -> Result<Planned, 
             GotoFault::CountOver => Ok(Planned::Refused(Code::CountOver)),
             GotoFault::RankOut(count) => Ok(rank_out(count)),
         },
+    }
+}
+
+// The plan for a block in the plane. A refusal takes no copy.
+fn rank_of_plane(alloc: Global, plane: &PlaneBlock, r: u128) -> Result<Planned, AllocError>
+    ensures { IfOk result (IsRankPlan r plane.now) }
+{
+    match count(plane) {
+        Err(_) => Ok(Planned::Refused(Code::CountOver)),
+        Ok(members) => {
+            if r < members {
+                return plane_at_rank(alloc, plane, r);
+            }
+            Ok(rank_out(members))
+        }
     }
 }
 

@@ -6,6 +6,7 @@ use Rattle.permutations.specs.Count.{sum_below}
 use Rattle.multigraph.specs.Graph.{max_edges}
 use Rattle.pair_split.specs.declared.components.Item.{Item}
 use Rattle.face_weights.specs.Sums.{weight_in}
+use Rattle.face_weights.specs.Numbers.{KnowFaces}
 use Rattle.face_weights.specs.Rests.{IsRest}
 use Rattle.face_weights.specs.Passes.{weights_at, AreLight, AreHandedDown, AreDone}
 use Rattle.spqr_tree.specs.Keys.{parent_at}
@@ -67,7 +68,7 @@ greatest_sum-sum-requires-clause-few c = λ i m.
     c.loop-p.invariant.1 in
     let l : i < length (node_at c.args.tree.now k).items = omega (arith, m, ap (λ (z : List ℕ). length z) c.deref-in-loop-p-2.ensures.value, c.in_ok-weights.ensures.number, ap (λ (z : List Item). length z) c.items-items.ensures) in
     let total : weight_in c.deref.result.now i + weight_in c.in_ok-rests.rests.items i ≤ 2 * sum_below (length (node_at c.args.tree.now k).items) (weight_in c.deref.result.now) =
-    rest-total c.requires.block.0 c.args.tree.now c.requires.block.1 c.args.members.now c.requires.systems c.requires.plane k n (weight_in c.deref.result.now) i (weight_in c.in_ok-rests.rests.items i) l (c.in_ok-rests.ensures.each i l) in
+    rest-total c.requires.block.0 c.args.tree.now c.requires.block.1 c.requires.faces.0 c.requires.faces.1.systems c.requires.faces.1.plane k n (weight_in c.deref.result.now) i (weight_in c.in_ok-rests.rests.items i) l (c.in_ok-rests.ensures.each c.requires.faces.0 c.requires.faces.1 i l) in
     omega (arith, total, few, ap (λ (z : List ℕ). weight_in z i) c.deref.ensures.value, ap (λ (z : List ℕ). weight_in z i) c.deref-in-loop-p-2.ensures.value, ap (λ (z : List ℕ). weight_in z i) c.deref-in-loop-p-3.ensures.value)
 
 pub loop-p-preserved : goal.loop-p-preserved
@@ -86,7 +87,7 @@ loop-p-preserved c =
     items-weights c.requires.block.0 c.args.tree.now c.requires.block.1 k n c.items-items.result.now c.items-items.ensures c.args.parents.now c.args.below.now c.args.below.now weights c.in_ok-weights.weights.items c.index.result.now refl c.deref.ensures.value c.in_ok-weights.ensures.each in
     let weigh : (i : ℕ) → i < length (node_at nodes k).items → weight_in weights i ≡ weights_at nodes c.args.parents.now c.args.below.now (slice_index_or above k 0) k i =
     λ i a. made i a ∙ ap (λ z. weights_at nodes c.args.parents.now c.args.below.now z k i) value in
-    let rest : (i : ℕ) → i < length (node_at nodes k).items → IsRest nodes c.args.members.now k (weight_in weights) i (weight_in rests i) = c.in_ok-rests.ensures.each in
+    let rest : (family : List (List (List ℕ))) → KnowFaces nodes family c.args.faces.now → (i : ℕ) → i < length (node_at nodes k).items → IsRest nodes family k (weight_in weights) i (weight_in rests i) = c.in_ok-rests.ensures.each in
     let handed : AreHandedDown (node_at nodes k).items (parent_at c.args.parents.now k) rests (length (node_at nodes k).items) above next =
     subst (λ (z : List Item). AreHandedDown z (parent_at c.args.parents.now k) rests (length z) above next) c.items-items.ensures
     (subst (λ (z : List ℕ). AreHandedDown c.items-items.result.now (parent_at c.args.parents.now k) z (length c.items-items.result.now) above next) c.deref-in-loop-p.ensures.value
@@ -99,15 +100,15 @@ loop-p-preserved c =
     let r = c.greatest_sum-sum.ensures.reached in (r.0, subst (λ z. r.0 < z) (sym number) r.1, sym (same r.0) ∙ r.2) in
     let s : take c.loop-p.above.len (c.hand_down.new.above ++ drop (length c.hand_down.new.above) c.loop-p.above.items) ≡ c.hand_down.new.above = grind (arith, common_steps) in (
       ap (λ (z : List ℕ). length z) s ∙ handed.number ∙ c.loop-p.invariant.0,
-      subst (λ (z : List ℕ). AreLight nodes c.args.parents.now c.args.below.now z) (sym s) (light-down c.requires.block.0 c.args.tree.now c.requires.block.1 c.args.members.now c.requires.systems c.requires.plane c.args.parents.now c.args.order.now c.requires.order c.args.below.now p c.loop-p-test.true above next weights rests weigh rest handed c.loop-p.invariant.1),
-      subst (λ (z : List ℕ). AreDone nodes c.args.members.now c.args.parents.now c.args.order.now c.args.below.now z (p + 1) c.if-most-sum.most c.if-most-sum.top) (sym s) (elim c.if-most-sum.branch [
-        | then-most-sum w ↦ subst (λ z. AreDone nodes c.args.members.now c.args.parents.now c.args.order.now c.args.below.now next (p + 1) z c.if-most-sum.top) (sym w.most-is)
-            (subst (λ z. AreDone nodes c.args.members.now c.args.parents.now c.args.order.now c.args.below.now next (p + 1) sum z) (sym w.top-is)
-            (done-greater c.requires.block.0 c.args.tree.now c.requires.block.1 c.args.members.now c.requires.systems c.requires.plane c.args.parents.now c.args.order.now c.requires.order c.args.below.now p c.loop-p-test.true above next weights rests weigh rest handed c.loop-p.most c.loop-p.top sum bounds (omega (arith, w.if-most-sum.true)) reached c.loop-p.invariant.2))
-        | else-most-sum w ↦ subst (λ z. AreDone nodes c.args.members.now c.args.parents.now c.args.order.now c.args.below.now next (p + 1) z c.if-most-sum.top) (sym w.most-is)
-            (subst (λ z. AreDone nodes c.args.members.now c.args.parents.now c.args.order.now c.args.below.now next (p + 1) c.loop-p.most z) (sym w.top-is)
-            (done-less c.requires.block.0 c.args.tree.now c.requires.block.1 c.args.members.now c.requires.systems c.requires.plane c.args.parents.now c.args.order.now c.requires.order c.args.below.now p c.loop-p-test.true above next weights rests weigh rest handed c.loop-p.most c.loop-p.top sum bounds (omega (arith, w.if-most-sum.false))
-            (elim (cases_eq c.loop-p.p 0) [ inl e ↦ absurd (omega (arith, w.if-most-sum.false, c.loop-p.invariant.3 e)) | inr e ↦ omega (arith, e) ]) c.loop-p.invariant.2))
+      subst (λ (z : List ℕ). AreLight nodes c.args.parents.now c.args.below.now z) (sym s) (light-down c.requires.block.0 c.args.tree.now c.requires.block.1 c.requires.faces.0 c.requires.faces.1.systems c.requires.faces.1.plane c.args.parents.now c.args.order.now c.requires.order c.args.below.now p c.loop-p-test.true above next weights rests weigh (rest c.requires.faces.0 c.requires.faces.1) handed c.loop-p.invariant.1),
+      λ family know. subst (λ (z : List ℕ). AreDone nodes family c.args.parents.now c.args.order.now c.args.below.now z (p + 1) c.if-most-sum.most c.if-most-sum.top) (sym s) (elim c.if-most-sum.branch [
+        | then-most-sum w ↦ subst (λ z. AreDone nodes family c.args.parents.now c.args.order.now c.args.below.now next (p + 1) z c.if-most-sum.top) (sym w.most-is)
+            (subst (λ z. AreDone nodes family c.args.parents.now c.args.order.now c.args.below.now next (p + 1) sum z) (sym w.top-is)
+            (done-greater c.requires.block.0 c.args.tree.now c.requires.block.1 family know.systems know.plane c.args.parents.now c.args.order.now c.requires.order c.args.below.now p c.loop-p-test.true above next weights rests weigh (rest family know) handed c.loop-p.most c.loop-p.top sum bounds (omega (arith, w.if-most-sum.true)) reached (c.loop-p.invariant.2 family know)))
+        | else-most-sum w ↦ subst (λ z. AreDone nodes family c.args.parents.now c.args.order.now c.args.below.now next (p + 1) z c.if-most-sum.top) (sym w.most-is)
+            (subst (λ z. AreDone nodes family c.args.parents.now c.args.order.now c.args.below.now next (p + 1) c.loop-p.most z) (sym w.top-is)
+            (done-less c.requires.block.0 c.args.tree.now c.requires.block.1 family know.systems know.plane c.args.parents.now c.args.order.now c.requires.order c.args.below.now p c.loop-p-test.true above next weights rests weigh (rest family know) handed c.loop-p.most c.loop-p.top sum bounds (omega (arith, w.if-most-sum.false))
+            (elim (cases_eq c.loop-p.p 0) [ inl e ↦ absurd (omega (arith, w.if-most-sum.false, c.loop-p.invariant.3 e)) | inr e ↦ omega (arith, e) ]) (c.loop-p.invariant.2 family know)))
       ]),
       λ e. absurd (omega (arith, e)),
     )

@@ -16,7 +16,7 @@ loop-p-init c =
       ap (λ (z : List ℕ). length z) e ∙ length-replicate c.node_count.result 0 ∙ c.node_count.ensures,
       omega arith,
       light-first c.args.tree.now c.args.parents.now c.in_ok-below.below.items [] (λ k. ap (λ (z : List ℕ). slice_index_or z k 0) e ∙ zeros c.node_count.result k 0) (λ k. refl),
-      λ q h k s m. absurd (omega (arith, s, m)),
+      λ family know q h k s m. absurd (omega (arith, s, m)),
     )
 
 pub weights_of-requires : goal.weights_of-requires
@@ -54,7 +54,7 @@ loop-p-preserved c =
     let noted = items-noted c.requires.block.0 c.args.tree.now c.requires.block.1 k n c.items-items.result.now c.items-items.ensures (parent_at c.args.parents.now k) c.rest_at_parent.result c.deref-in-loop-p-2.result.now c.in_ok-rests.rests.items c.deref-in-loop-p-2.ensures.value c.rest_at_parent.ensures in (
       length-set c.loop-p.below.items k c.rest_at_parent.result ∙ c.loop-p.invariant.0,
       omega (arith, c.loop-p.invariant.1),
-      light-more c.requires.block.0 c.args.tree.now c.requires.block.1 c.args.members.now c.requires.systems c.requires.plane c.args.parents.now c.args.order.now c.requires.order p l c.loop-p.below.items c.loop-p.invariant.0 (weight_in c.deref-in-loop-p.result.now) (weight_in c.in_ok-rests.rests.items) c.rest_at_parent.result weigh c.in_ok-rests.ensures.each noted c.loop-p.invariant.2,
-      below-more c.requires.block.0 c.args.tree.now c.requires.block.1 c.args.members.now c.requires.systems c.requires.plane c.args.parents.now c.args.order.now c.requires.order p l c.loop-p.below.items c.loop-p.invariant.0 (weight_in c.deref-in-loop-p.result.now) (weight_in c.in_ok-rests.rests.items) c.rest_at_parent.result weigh c.in_ok-rests.ensures.each noted
-          (subst (λ z. AreBelow c.args.tree.now c.args.members.now c.args.parents.now c.args.order.now z c.loop-p.below.items) (omega (arith, c.loop-p-test.true)) c.loop-p.invariant.3),
+      let family = c.requires.faces.0 in let know = c.requires.faces.1 in light-more c.requires.block.0 c.args.tree.now c.requires.block.1 family know.systems know.plane c.args.parents.now c.args.order.now c.requires.order p l c.loop-p.below.items c.loop-p.invariant.0 (weight_in c.deref-in-loop-p.result.now) (weight_in c.in_ok-rests.rests.items) c.rest_at_parent.result weigh (c.in_ok-rests.ensures.each family know) noted c.loop-p.invariant.2,
+      λ family know. below-more c.requires.block.0 c.args.tree.now c.requires.block.1 family know.systems know.plane c.args.parents.now c.args.order.now c.requires.order p l c.loop-p.below.items c.loop-p.invariant.0 (weight_in c.deref-in-loop-p.result.now) (weight_in c.in_ok-rests.rests.items) c.rest_at_parent.result weigh (c.in_ok-rests.ensures.each family know) noted
+          (subst (λ z. AreBelow c.args.tree.now family c.args.parents.now c.args.order.now z c.loop-p.below.items) (omega (arith, c.loop-p-test.true)) (c.loop-p.invariant.3 family know)),
     )

@@ -6,18 +6,18 @@ use Rattle.face_weights.proofs.Weighed.{weighed}
 use Rattle.face_weights.proofs.weighing.weigh.Goals as goal
 
 pub returns : goal.returns
-returns c =
+returns c = λ family know.
     let parents : List ℕ = c.order_of.new.parents in
     let order : List ℕ = c.in_ok-order.order.items in
     let below : List ℕ = c.in_ok-below.below.items in
     let one : c.deref.result.now ≡ parents = grind (arith, common_steps) in
     let two : c.deref-3.result.now ≡ parents = grind (arith, common_steps) in
     let whole : take c.in_ok-parents.parents.len (c.order_of.new.parents ++ drop (length c.order_of.new.parents) c.in_ok-parents.parents.items) ≡ c.order_of.new.parents = grind (arith, common_steps) in
-    subst (λ (z : List ℕ). AreWeights c.args.tree.now c.args.members.now (record { parents = z; below = c.in_ok-below.below.items; above = c.in_ok-above.above.items; most = c.in_ok-above.most; top = c.in_ok-above.top })) (sym whole)
-    (weighed c.requires.block.0 c.args.tree.now c.requires.block.1 c.args.members.now c.requires.systems c.requires.plane parents order c.in_ok-order.ensures below c.in_ok-above.above.items c.in_ok-above.most c.in_ok-above.top c.in_ok-below.ensures.number c.in_ok-above.ensures.number
-    (subst (λ (z : List ℕ). AreBelow c.args.tree.now c.args.members.now z order 0 below) one (subst (λ (z : List ℕ). AreBelow c.args.tree.now c.args.members.now c.deref.result.now z 0 below) c.deref-2.ensures.value c.in_ok-below.ensures.below))
-    (subst (λ (z : List ℕ). AreDone c.args.tree.now c.args.members.now z order below c.in_ok-above.above.items (length order) c.in_ok-above.most c.in_ok-above.top) two
-    (subst (λ (z : List ℕ). AreDone c.args.tree.now c.args.members.now c.deref-3.result.now z below c.in_ok-above.above.items (length z) c.in_ok-above.most c.in_ok-above.top) c.deref-4.ensures.value
-    (subst (λ (z : List ℕ). AreDone c.args.tree.now c.args.members.now c.deref-3.result.now c.deref-4.result.now z c.in_ok-above.above.items (length c.deref-4.result.now) c.in_ok-above.most c.in_ok-above.top) c.deref-5.ensures.value c.in_ok-above.ensures.done)))
+    subst (λ (z : List ℕ). AreWeights c.args.tree.now family (record { parents = z; below = c.in_ok-below.below.items; above = c.in_ok-above.above.items; most = c.in_ok-above.most; top = c.in_ok-above.top })) (sym whole)
+    (weighed c.requires.block.0 c.args.tree.now c.requires.block.1 family know.systems know.plane parents order c.in_ok-order.ensures below c.in_ok-above.above.items c.in_ok-above.most c.in_ok-above.top c.in_ok-below.ensures.number c.in_ok-above.ensures.number
+    (subst (λ (z : List ℕ). AreBelow c.args.tree.now family z order 0 below) one (subst (λ (z : List ℕ). AreBelow c.args.tree.now family c.deref.result.now z 0 below) c.deref-2.ensures.value (c.in_ok-below.ensures.below family know)))
+    (subst (λ (z : List ℕ). AreDone c.args.tree.now family z order below c.in_ok-above.above.items (length order) c.in_ok-above.most c.in_ok-above.top) two
+    (subst (λ (z : List ℕ). AreDone c.args.tree.now family c.deref-3.result.now z below c.in_ok-above.above.items (length z) c.in_ok-above.most c.in_ok-above.top) c.deref-4.ensures.value
+    (subst (λ (z : List ℕ). AreDone c.args.tree.now family c.deref-3.result.now c.deref-4.result.now z c.in_ok-above.above.items (length c.deref-4.result.now) c.in_ok-above.most c.in_ok-above.top) c.deref-5.ensures.value (c.in_ok-above.ensures.done family know))))
     (subst (λ (z : List ℕ). AreLight c.args.tree.now z below c.in_ok-above.above.items) two
     (subst (λ (z : List ℕ). AreLight c.args.tree.now c.deref-3.result.now z c.in_ok-above.above.items) c.deref-5.ensures.value c.in_ok-above.ensures.light)))

@@ -1,34 +1,37 @@
-use Rattle.std.proofs.Common.{◌≡◌, ℕ, ◌*◌, ◌<◌, ◌≤◌, List, [], sym, subst}
-use Rattle.std.proofs.lemmas.List.{get_or_read}
+use Rattle.std.proofs.Common.{◌*◌, ◌≤◌, ℕ, List, length, sym, ap, ◌∙◌, subst}
 use Rattle.permutations.specs.Count.{sum_below}
-use Rattle.multigraph.specs.Graph.{Multigraph, edge_count, max_edges}
+use Rattle.multigraph.specs.Graph.{max_edges}
 use Rattle.skeletons.specs.Families.{skeleton_graph, system_at}
 use Rattle.face_weights.specs.Sums.{weight_in, AreFaceSums}
-use Rattle.long_face.specs.Numbers.{AreFaceNumbers}
-use Rattle.long_face.proofs.RowsMade.{row-few, row-are}
+use Rattle.face_weights.proofs.NodeCode.{row-numbers}
+use Rattle.long_face.proofs.RowsMade.{row-number, row-light, row-are, row-tells}
 use Rattle.long_face.proofs.joining.row_of.Goals as goal
+
+pub face_sums-requires-clause-faces : goal.face_sums-requires-clause-faces
+face_sums-requires-clause-faces c =
+    let y = c.requires.block in
+    let w = c.requires.known in (
+      skeleton_graph c.args.tree.now c.args.k,
+      system_at w.0 c.args.k,
+      row-numbers c.args.tree.now w.0 c.args.faces.now w.1 c.args.k c.requires.node c.index-faces-k.result c.index-faces-k.is c.as_slice-numbers.result.now c.as_slice-numbers.ensures,
+      ap (λ (z : List ℕ). length z) c.deref.ensures.value
+          ∙ row-number y.0 c.args.tree.now y.1 y.2 w.0 w.1.systems c.args.weights.now w.2 c.args.k c.requires.node c.in_ok-items.items.items c.in_ok-items.ensures.number c.in_ok-items.ensures.each,
+    )
 
 pub face_sums-requires-clause-few : goal.face_sums-requires-clause-few
 face_sums-requires-clause-few c =
     let y = c.requires.block in
-    subst (λ (z : Multigraph). sum_below (edge_count z) (weight_in c.deref.result.now) ≤ 2 * max_edges) (sym c.in_ok-graph.ensures.skeleton)
-    (subst (λ (z : List ℕ). sum_below (edge_count (skeleton_graph c.args.tree.now c.args.k)) (weight_in z) ≤ 2 * max_edges) (sym c.deref.ensures.value)
-    (row-few y.0 c.args.tree.now y.1 y.2 c.args.members.now c.requires.systems c.args.weights.now c.requires.weights c.args.k c.requires.node c.in_ok-items.items.items c.in_ok-items.ensures.number c.in_ok-items.ensures.each))
+    let w = c.requires.known in
+    subst (λ (z : List ℕ). sum_below (length z) (weight_in z) ≤ 2 * max_edges) (sym c.deref.ensures.value)
+    (row-light y.0 c.args.tree.now y.1 y.2 w.0 w.1.systems c.args.weights.now w.2 c.args.k c.requires.node c.in_ok-items.items.items c.in_ok-items.ensures.number c.in_ok-items.ensures.each)
 
 pub returns : goal.returns
-returns c =
+returns c = λ family know weights.
     let y = c.requires.block in
     let tree = c.args.tree.now in
     let k = c.args.k in
-    let graph = c.in_ok-graph.graph in
-    let own = skeleton_graph tree k in
-    let is = system_at c.args.members.now k in
-    let member : c.index-members-k.result ≡ is = get_or_read c.args.members.now k c.index-members-k.result (subst (λ n. k < n) (sym c.requires.systems.each) c.requires.node) c.index-members-k.is [] in
-    let sums : AreFaceSums own is c.in_ok-items.items.items c.in_ok-sums.sums.items =
-    subst (λ (z : List ℕ). AreFaceSums own is z c.in_ok-sums.sums.items) c.deref.ensures.value
-    (subst (λ (z : List (List ℕ)). AreFaceSums own z c.deref.result.now c.in_ok-sums.sums.items) member
-    (subst (λ (z : Multigraph). AreFaceSums z c.index-members-k.result c.deref.result.now c.in_ok-sums.sums.items) c.in_ok-graph.ensures.skeleton c.in_ok-sums.ensures)) in
-    let numbers : AreFaceNumbers own is c.in_ok-numbers.numbers.items =
-    subst (λ (z : List (List ℕ)). AreFaceNumbers own z c.in_ok-numbers.numbers.items) member
-    (subst (λ (z : Multigraph). AreFaceNumbers z c.index-members-k.result c.in_ok-numbers.numbers.items) c.in_ok-graph.ensures.skeleton c.in_ok-numbers.ensures) in
-    row-are y.0 tree y.1 y.2 c.args.members.now c.requires.systems c.args.weights.now c.requires.weights k c.requires.node c.in_ok-items.items.items c.in_ok-items.ensures.number c.in_ok-items.ensures.each c.in_ok-sums.sums.items c.in_ok-numbers.numbers.items sums numbers
+    let read = row-numbers tree family c.args.faces.now know k c.requires.node c.index-faces-k.result c.index-faces-k.is c.as_slice-numbers.result.now c.as_slice-numbers.ensures in
+    let sums : AreFaceSums (skeleton_graph tree k) (system_at family k) c.in_ok-items.items.items c.in_ok-sums.sums.items =
+    subst (λ (z : List ℕ). AreFaceSums (skeleton_graph tree k) (system_at family k) z c.in_ok-sums.sums.items) c.deref.ensures.value (c.in_ok-sums.ensures (skeleton_graph tree k) (system_at family k) read) in
+    row-are y.0 tree y.1 y.2 family know.systems c.args.weights.now weights k c.requires.node c.in_ok-items.items.items c.in_ok-items.ensures.number c.in_ok-items.ensures.each c.in_ok-sums.sums.items c.in_ok-from_slice.field-0.items sums
+    (row-tells (skeleton_graph tree k) (system_at family k) c.as_slice-numbers.result.now c.in_ok-from_slice.field-0.items read c.in_ok-from_slice.ensures.items)

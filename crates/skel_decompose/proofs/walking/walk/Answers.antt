@@ -32,6 +32,7 @@ item_of-behind-requires-clause-block c = (
   c.requires.edge.1.block,
   c.requires.edge.1.limits,
   subst (λ z. z < edge_count c.requires.edge.0) (sym c.succ-next.ensures) (next-edge c.requires.edge.0 c.args.tree.now c.args.r.now c.requires.edge.1 c.args.v c.args.e c.requires.edge.2 c.requires.edge.3).1,
+  c.requires.edge.4,
 )
 
 pub item_place-requires-clause-item : goal.item_place-requires-clause-item

@@ -1,8 +1,6 @@
-use Rattle.std.proofs.Common.{ℕ, List, ◌∙◌, subst}
-use Rattle.skel_embed.specs.Exchanges.{StandsAt}
+use Rattle.std.proofs.Common.{◌∙◌}
 use Rattle.skel_embed.proofs.KeptLists.{turned-at}
 use Rattle.skel_embed.proofs.kept.turn_to.Goals as goal
 
 pub returns : goal.returns
-returns c = c.rotate_left.ensures.items ∙ turned-at c.args.keys.now.items c.place_of.result c.args.first
-    (subst (λ (z : List ℕ). StandsAt z c.place_of.result c.args.first) c.deref.ensures.value c.place_of.ensures)
+returns c = c.rotate_left.ensures.after ∙ turned-at c.args.keys.now c.place_of.result c.args.first c.place_of.ensures

@@ -1,8 +1,7 @@
-use Rattle.std.proofs.Common.{◌≡◌, ◌≢◌, ℕ, ◌+◌, List, sym, ap, ◌∙◌, subst, true, false}
+use Rattle.std.proofs.Common.{sym, ap, ◌∙◌, subst}
 use Rattle.std.proofs.lemmas.Bool.{true≢false}
 use Rattle.multigraph.specs.Graph.{Multigraph, edge_count, IsGraph}
 use Rattle.faces.specs.Euler.{face_count}
-use Rattle.skel_embed.specs.Taken.{IsGiven, IsNotPlane}
 use Rattle.skel_embed.proofs.Spheres.{not-plane}
 use Rattle.skel_embed.proofs.taking.given.Goals as goal
 
