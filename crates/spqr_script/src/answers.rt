@@ -11,6 +11,7 @@ mod longest;
 mod move_list;
 mod rank;
 mod rotation;
+mod whole;
 
 pub use change::{end_line, ok_line};
 pub use count::count_line;
@@ -24,3 +25,6 @@ pub use longest::longest_lines;
 pub use move_list::moves_lines;
 pub use rank::rank_line;
 pub use rotation::{push_rotation_line, rotation_line};
+pub use whole::{
+    list_whole_line, push_block_move_line, push_move_count_line, push_regroup_line, push_whole_line,
+};

@@ -1,4 +1,4 @@
-// The arguments of `list`: a block, and how many of its members are printed.
+// The arguments of `list` and `listwhole`: a block or a component, and how many of its members are printed.
 ghost use Rattle.std.specs.Prelude.{◌≡◌};
 ghost use Rattle.spqr_script.specs.Line.{tokens_of};
 ghost use Rattle.spqr_script.specs.Reading.{can_list, arguments_of};
@@ -7,7 +7,7 @@ use crate::arguments::{alone, next_index};
 use crate::command::Command;
 use crate::word::Word;
 
-// The most members that one `list` prints.
+// The most members that one command prints.
 const MAX_LISTED: u32 = 10_000;
 
 // Whether this many members can be listed at once.
@@ -25,6 +25,19 @@ pub(crate) fn read_list(text: &[u8]) -> Option<Command>
     let (n, rest) = next_index(rest)?;
     if can_list(n) {
         alone(Command::List(b, n), rest)
+    } else {
+        None
+    }
+}
+
+// The command, where the text is the number of a component and how many members are printed.
+pub(crate) fn read_list_whole(text: &[u8]) -> Option<Command>
+    ensures { result ≡ arguments_of Word.ListWhole (tokens_of text.now) }
+{
+    let (c, rest) = next_index(text)?;
+    let (n, rest) = next_index(rest)?;
+    if can_list(n) {
+        alone(Command::ListWhole(c, n), rest)
     } else {
         None
     }
