@@ -14,10 +14,6 @@ whole_text c entries = codes "whole " ++ decimal c ++ codes " |" ++ entries_text
 abbrev pub list_whole_text : ℕ → ℕ → List ℕ
 list_whole_text c t = codes "listwhole " ++ decimal c ++ codes " " ++ decimal t ++ line_end
 
--- `moves T`: how many moves follow, each on a line
-abbrev pub move_count_text : ℕ → List ℕ
-move_count_text t = codes "moves " ++ decimal t ++ line_end
-
 -- `flip B K` or `permute B K KEY ..`: a move of a node of block b, its keys in the numbers of the whole graph
 abbrev pub block_move_text : GraphPart → ℕ → Move → List ℕ
 block_move_text part b (Flip k) = codes "flip " ++ decimal b ++ codes " " ++ decimal k ++ line_end

@@ -3,7 +3,7 @@ ghost use Rattle.std.specs.Prelude.{◌≡◌, ◌++◌, codes, IfOk, OnOk};
 ghost use Rattle.spqr_script.specs.Answers.Rotation.{entry_text, entries_text};
 ghost use Rattle.spqr_script.specs.Answers.Moves.{IsMoveOf};
 ghost use Rattle.rotations.specs.Entries.{entry};
-ghost use Rattle.spqr_script.specs.Answers.Whole.{whole_text, list_whole_text, move_count_text, block_move_text, regroup_text};
+ghost use Rattle.spqr_script.specs.Answers.Whole.{whole_text, list_whole_text, block_move_text, regroup_text};
 
 use crate::outer::push_edges;
 use decimals::{push_number, push_spaced, push_word};
@@ -49,16 +49,6 @@ pub fn list_whole_line(alloc: Global, c: u32, t: u32) -> Result<Vec<u8>, AllocEr
     push_number(&mut out, u128::from(t))?;
     push_word(&mut out, b"\n")?;
     Ok(out)
-}
-
-/// Appends the line `moves T` to a text: how many moves follow. Fails only if memory runs out; the text may then end in a part of
-/// the line.
-pub fn push_move_count_line(out: &mut Vec<u8>, t: usize) -> Result<(), AllocError>
-    ensures { OnOk result (out.new.items ≡ out.old.items ++ move_count_text t) }
-{
-    push_word(out, b"moves ")?;
-    push_number(out, t as u128)?;
-    push_word(out, b"\n")
 }
 
 /// Appends the line `flip B K` or `permute B K KEY ..` to a text: a move of a node of block `b`, the keys in the numbers of the whole
