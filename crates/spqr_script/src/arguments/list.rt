@@ -38,18 +38,14 @@ fn number_and_count(text: &[u8]) -> Option<(u32, u32)>
 pub(crate) fn read_list(text: &[u8]) -> Option<Command>
     ensures { result ≡ arguments_of Word.List (tokens_of text.now) }
 {
-    match number_and_count(text) {
-        Some((b, n)) => Some(Command::List(b, n)),
-        None => None,
-    }
+    let (b, n) = number_and_count(text)?;
+    Some(Command::List(b, n))
 }
 
 // The command `listwhole`, if the text is the number of a component and how many members are printed.
 pub(crate) fn read_list_whole(text: &[u8]) -> Option<Command>
     ensures { result ≡ arguments_of Word.ListWhole (tokens_of text.now) }
 {
-    match number_and_count(text) {
-        Some((c, n)) => Some(Command::ListWhole(c, n)),
-        None => None,
-    }
+    let (c, n) = number_and_count(text)?;
+    Some(Command::ListWhole(c, n))
 }

@@ -1,9 +1,9 @@
+use Rattle.std.proofs.Common.{◌∙◌}
 use Rattle.spqr_script.specs.declared.command.Command.TheVariants as command
-use Rattle.spqr_script.proofs.Shapes.{made_from, none_from}
 use Rattle.spqr_script.proofs.arguments.list.read_list.Goals as goal
 
-pub returns-in-Some : goal.returns-in-Some
-returns-in-Some c = made_from (λ pair. command.List pair.0 pair.1) _ _ _ (c.number_and_count.ensures command.List) c.in-Some.is
+pub returns : goal.returns
+returns c = c.in_ok-b.ensures command.List
 
-pub returns-in-None : goal.returns-in-None
-returns-in-None c = none_from (λ pair. command.List pair.0 pair.1) _ _ (c.number_and_count.ensures command.List) c.in-None.is
+pub returns-in_err-b : goal.returns-in_err-b
+returns-in_err-b c = c.from_residual.ensures ∙ c.in_err-b.ensures command.List

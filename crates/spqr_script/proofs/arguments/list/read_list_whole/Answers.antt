@@ -1,9 +1,9 @@
+use Rattle.std.proofs.Common.{◌∙◌}
 use Rattle.spqr_script.specs.declared.command.Command.TheVariants as command
-use Rattle.spqr_script.proofs.Shapes.{made_from, none_from}
 use Rattle.spqr_script.proofs.arguments.list.read_list_whole.Goals as goal
 
-pub returns-in-Some : goal.returns-in-Some
-returns-in-Some c = made_from (λ pair. command.ListWhole pair.0 pair.1) _ _ _ (c.number_and_count.ensures command.ListWhole) c.in-Some.is
+pub returns : goal.returns
+returns c = c.in_ok-c.ensures command.ListWhole
 
-pub returns-in-None : goal.returns-in-None
-returns-in-None c = none_from (λ pair. command.ListWhole pair.0 pair.1) _ _ (c.number_and_count.ensures command.ListWhole) c.in-None.is
+pub returns-in_err-c : goal.returns-in_err-c
+returns-in_err-c c = c.from_residual.ensures ∙ c.in_err-c.ensures command.ListWhole
