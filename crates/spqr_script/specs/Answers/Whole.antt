@@ -1,8 +1,11 @@
 -- The texts of the answers to commands on whole components.
-use Rattle.std.specs.Prelude.{ℕ, List, ◌++◌, map, slice_index, codes, decimal}
+use Rattle.std.specs.Prelude.{ℕ, ◌<◌, List, ◌++◌, length, map, slice_index, codes, decimal, All}
 use Rattle.multigraph.specs.Part.{GraphPart}
 use Rattle.moves.specs.declared.values.Move.{Move}
 use Rattle.moves.specs.declared.values.Move.TheVariants.{Flip, Permute}
+use Rattle.spqr_script.specs.declared.command.Command.{Command}
+use Rattle.spqr_script.specs.declared.command.Command.TheVariants as command
+use Rattle.spqr_script.specs.Number.{index_limit}
 use Rattle.spqr_script.specs.Text.{spaced_numbers, line_end}
 use Rattle.spqr_script.specs.Answers.Rotation.{entries_text}
 
@@ -19,6 +22,16 @@ abbrev pub block_move_text : GraphPart → ℕ → Move → List ℕ
 block_move_text part b (Flip k) = codes "flip " ++ decimal b ++ codes " " ++ decimal k ++ line_end
 block_move_text part b (Permute k keys) =
     codes "permute " ++ decimal b ++ codes " " ++ decimal k ++ spaced_numbers (map (slice_index part.edges) keys) ++ line_end
+
+-- that move as a command
+abbrev pub move_command : GraphPart → ℕ → Move → Command
+move_command part b (Flip k) = command.Flip b k
+move_command part b (Permute k keys) = command.Permute b k (map (slice_index part.edges) keys)
+
+-- the node and the keys of a move are numbers that the script can name, and a permutation has a key
+abbrev pub IsIndexMove : GraphPart → Move → Type 0
+IsIndexMove part (Flip k) = k < index_limit
+IsIndexMove part (Permute k keys) = (k < index_limit) × All (λ e. e < index_limit) (map (slice_index part.edges) keys) × (0 < length keys)
 
 -- `regroup V E ..`: edges, in the cyclic order that a cut vertex gets
 abbrev pub regroup_text : ℕ → List ℕ → List ℕ
