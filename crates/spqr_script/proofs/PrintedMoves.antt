@@ -1,5 +1,5 @@
 -- The line of a move is read back as the command that makes it.
-use Rattle.std.proofs.Common.{◌≡◌, ℕ, ◌-◌, ◌<◌, Bool, true, false, ◌==◌, List, [], ◌∷◌, ◌++◌, length, get_or, map, slice_index, refl, sym, ap, subst, ◌∙◌, inl, inr, codes, decimal, append_assoc, arith}
+use Rattle.std.proofs.Common.{◌≡◌, ℕ, ◌-◌, ◌<◌, Bool, true, false, ◌==◌, List, [], ◌∷◌, ◌++◌, length, map, slice_index, refl, sym, ap, subst, ◌∙◌, inl, inr, codes, decimal, append_assoc, arith}
 use Rattle.std.specs.List.{All, AllZip, list_any, list_all}
 use Rattle.std.proofs.lemmas.Bool.{both_ways, cases_Bool, or_from}
 use Rattle.std.proofs.lemmas.List.{append-nil, length-append, length-map}
