@@ -12,8 +12,9 @@ ghost use Rattle.spqr_script.specs.declared.command.Command.{Command};
 ghost use Rattle.spqr_script.specs.declared.command.Command.TheVariants.{Regroup};
 
 /// Each script spells commands or has a first bad line, and not both; it spells one list of commands at most, and has one
-/// first bad line at most. What is printed after the bar of the line of a rotation system, of a block or of a component, spells its entries;
-/// and the line of each move to another member of a component's list spells the command that makes it.
+/// first bad line at most. What is printed after the bar of the line of a rotation system, of a block or of a component, spells
+/// its entries; and each line of the moves that `convertwhole` prints, before a script, spells the command that makes the move,
+/// before the commands of the script.
 pub fn script_laws()
     ensures decided { (bytes : List ℕ) → ((commands : List Command) × Commands bytes commands)
         ⊎ ((line : ℕ) × IsFirstBadLine bytes line) }

@@ -27,8 +27,8 @@ fn push_lists(out: &mut Vec<u8>, lists: &Lists) -> Result<(), AllocError>
     Ok(())
 }
 
-/// Appends the line `whole C | V: E ..; V: E ..` to a text: a rotation system of component `c`, given by its lists in the numbers of
-/// the whole graph, an entry for each vertex. Fails only if memory runs out; the text may then end in a part of the line.
+/// Appends the line `whole C | V: E ..; V: E ..` to a text: a rotation system of component `c`, given as an entry for each vertex
+/// in the numbers of the whole graph. Fails only if memory runs out; the text may then end in a part of the line.
 pub fn push_whole_line(out: &mut Vec<u8>, c: u32, lists: &Lists) -> Result<(), AllocError>
     ensures { OnOk result (out.new.items ≡ out.old.items ++ whole_text c lists.now) }
 {
@@ -51,8 +51,8 @@ pub fn list_whole_line(alloc: Global, c: u32, t: u32) -> Result<Vec<u8>, AllocEr
     Ok(out)
 }
 
-/// Appends the line `flip B K` or `permute B K KEY ..` to a text: a move of a node of block `b`, the keys in the numbers of the whole
-/// graph. Fails only if memory runs out; the text may then end in a part of the line.
+/// Appends the line `flip B K` or `permute B K KEY ..` to a text: a move of a node of block `b`, the keys in the numbers of the
+/// whole graph. Fails only if memory runs out; the text may then end in a part of the line.
 pub fn push_block_move_line(
     out: &mut Vec<u8>,
     b: u32,
