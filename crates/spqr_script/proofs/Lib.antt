@@ -18,3 +18,4 @@ mod RotationText
 mod PointText
 pub mod PartNodes
 mod Printed
+mod PrintedMoves

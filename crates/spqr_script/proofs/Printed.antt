@@ -1,5 +1,5 @@
 -- What stands behind the bar of a rotation line is read back as its entries.
-use Rattle.std.proofs.Common.{◌≡◌, ℕ, ◌<◌, ◌^◌, true, false, ◌==◌, List, [], ◌∷◌, ◌++◌, length, map, refl, sym, ap, subst, ◌∙◌, inl, inr, codes, decimal, append_assoc, arith}
+use Rattle.std.proofs.Common.{◌≡◌, ℕ, ◌<◌, ◌^◌, Bool, true, false, ◌==◌, List, [], ◌∷◌, ◌++◌, length, map, refl, sym, ap, subst, ◌∙◌, inl, inr, codes, decimal, append_assoc, arith}
 use Rattle.std.specs.Char.{is_ascii_digit}
 use Rattle.std.specs.Int.{IsInRange}
 use Rattle.std.specs.List.{All, AllZip, list_any, list_all, slice_split}
@@ -44,51 +44,63 @@ index_printed n small =
     let narrow : n < 2 ^ 64 = omega arith in
     (filled (decimal n) (decimal_is_IsNumeral n narrow).0.0 (digits_decimal numerals n narrow), digits_value-decimal numerals n narrow, small)
 
--- a digit is a byte of words and no semicolon
-digit_is : (c : ℕ) → IsInRange 48 57 c → (is_word_byte c ≡ true) × ((c == 59) ≡ false)
-digit_is c r = grind (arith, r.0, r.1)
-
-digits_are : (ds : List ℕ) → AreDigits ds → (list_all is_word_byte ds ≡ true) × (list_any (λ b. b == 59) ds ≡ false)
-digits_are [] e = (refl, refl)
+-- a digit is a byte of words
+digits_are : (ds : List ℕ) → AreDigits ds → list_all is_word_byte ds ≡ true
+digits_are [] e = refl
 digits_are (d ∷ ds) e =
     let p = digit_parts d ds e in
-    let here = digit_is d p.0 in
-    let rest = digits_are ds p.1 in
-    (and_from (is_word_byte d) (list_all is_word_byte ds) here.0 rest.0, or_from (d == 59) (list_any (λ b. b == 59) ds) here.1 rest.1)
+    and_from (is_word_byte d) (list_all is_word_byte ds) (grind (arith, p.0)) (digits_are ds p.1)
 
-decimal_is : (n : ℕ) → n < index_limit → (0 < length (decimal n)) × (list_all is_word_byte (decimal n) ≡ true) × (list_any (λ b. b == 59) (decimal n) ≡ false)
+-- a test that no digit passes
+abbrev pub PassesNoDigit : (ℕ → Bool) → Type 0
+PassesNoDigit p = (c : ℕ) → IsInRange 48 57 c → p c ≡ false
+
+digits_without : (p : ℕ → Bool) → PassesNoDigit p → (ds : List ℕ) → AreDigits ds → list_any p ds ≡ false
+digits_without p fails [] e = refl
+digits_without p fails (d ∷ ds) e =
+    let q = digit_parts d ds e in
+    or_from (p d) (list_any p ds) (fails d q.0) (digits_without p fails ds q.1)
+
+decimal_is : (n : ℕ) → n < index_limit → (0 < length (decimal n)) × (list_all is_word_byte (decimal n) ≡ true)
 decimal_is n small =
     let narrow : n < 2 ^ 64 = omega arith in
-    let p = digits_are (decimal n) (digits_decimal numerals n narrow) in
-    ((decimal_is_IsNumeral n narrow).0.0, p.0, p.1)
+    ((decimal_is_IsNumeral n narrow).0.0, digits_are (decimal n) (digits_decimal numerals n narrow))
+
+decimal_without : (p : ℕ → Bool) → PassesNoDigit p → (n : ℕ) → n < index_limit → list_any p (decimal n) ≡ false
+decimal_without p fails n small = digits_without p fails (decimal n) (digits_decimal numerals n (omega arith))
+
+-- a digit is no semicolon
+no_semicolon : PassesNoDigit (λ b. b == 59)
+no_semicolon c r = grind (arith, r.0, r.1)
 
 -- ---- numbers with spaces before them
 
-abbrev AreIndices : List ℕ → Type 0
+abbrev pub AreIndices : List ℕ → Type 0
 AreIndices ns = All (λ n. n < index_limit) ns
 
-no_word : (ns : List ℕ) → begins_word (spaced_numbers ns) ≡ false
+pub no_word : (ns : List ℕ) → begins_word (spaced_numbers ns) ≡ false
 no_word [] = refl
 no_word (n ∷ ns) = refl
 
-numbers_tokens : (ns : List ℕ) → AreIndices ns → tokens_of (spaced_numbers ns) ≡ map decimal ns
+pub numbers_tokens : (ns : List ℕ) → AreIndices ns → tokens_of (spaced_numbers ns) ≡ map decimal ns
 numbers_tokens [] small = no_tokens
 numbers_tokens (n ∷ ns) small =
     let here = decimal_is n (All-head (λ n. n < index_limit) n ns small) in
     blank_skipped 32 (decimal n ++ spaced_numbers ns) refl ∙ word_token (decimal n) (spaced_numbers ns) here.0 here.1 (no_word ns)
     ∙ ap (λ (ts : List (List ℕ)). decimal n ∷ ts) (numbers_tokens ns (All-tail (λ n. n < index_limit) n ns small))
 
-numbers_spelled : (ns : List ℕ) → AreIndices ns → SpellsIndices (map decimal ns) ns
+pub numbers_spelled : (ns : List ℕ) → AreIndices ns → SpellsIndices (map decimal ns) ns
 numbers_spelled [] small = tt
 numbers_spelled (n ∷ ns) small =
     (index_printed n (All-head (λ n. n < index_limit) n ns small), numbers_spelled ns (All-tail (λ n. n < index_limit) n ns small))
 
-numbers_unmarked : (ns : List ℕ) → AreIndices ns → list_any (λ b. b == 59) (spaced_numbers ns) ≡ false
-numbers_unmarked [] small = refl
-numbers_unmarked (n ∷ ns) small =
-    let here = decimal_is n (All-head (λ n. n < index_limit) n ns small) in
-    list_any-append (λ b. b == 59) (decimal n) (spaced_numbers ns)
-    ∙ or_from (list_any (λ b. b == 59) (decimal n)) (list_any (λ b. b == 59) (spaced_numbers ns)) here.2 (numbers_unmarked ns (All-tail (λ n. n < index_limit) n ns small))
+pub numbers_without : (p : ℕ → Bool) → PassesNoDigit p → p 32 ≡ false → (ns : List ℕ) → AreIndices ns → list_any p (spaced_numbers ns) ≡ false
+numbers_without p fails blank [] small = refl
+numbers_without p fails blank (n ∷ ns) small =
+    let here = decimal_without p fails n (All-head (λ n. n < index_limit) n ns small) in
+    let rest = numbers_without p fails blank ns (All-tail (λ n. n < index_limit) n ns small) in
+    or_from (p 32) (list_any p (decimal n ++ spaced_numbers ns)) blank
+    (list_any-append p (decimal n) (spaced_numbers ns) ∙ or_from (list_any p (decimal n)) (list_any p (spaced_numbers ns)) here rest)
 
 -- ---- an entry
 
@@ -109,10 +121,10 @@ entry_spelled entry small =
 
 entry_unmarked : (entry : ℕ × List ℕ) → IsIndexEntry entry → list_any (λ b. b == 59) (spaced_entry entry) ≡ false
 entry_unmarked entry small =
-    let here = decimal_is entry.0 small.0 in
+    let here = decimal_without (λ b. b == 59) no_semicolon entry.0 small.0 in
     ap (λ (t : List ℕ). list_any (λ b. b == 59) t) (append_assoc (decimal entry.0) (codes ":") (spaced_numbers entry.1))
     ∙ list_any-append (λ b. b == 59) (decimal entry.0) (58 ∷ spaced_numbers entry.1)
-    ∙ or_from (list_any (λ b. b == 59) (decimal entry.0)) (list_any (λ b. b == 59) (58 ∷ spaced_numbers entry.1)) here.2 (numbers_unmarked entry.1 small.1)
+    ∙ or_from (list_any (λ b. b == 59) (decimal entry.0)) (list_any (λ b. b == 59) (58 ∷ spaced_numbers entry.1)) here (numbers_without (λ b. b == 59) no_semicolon refl entry.1 small.1)
 
 -- ---- the entries
 

@@ -5,7 +5,7 @@ use Rattle.spqr_script.specs.Line.{cut_lines, lines_of, is_passed_over, tokens_o
 use Rattle.spqr_script.specs.Words.{word_among}
 use Rattle.spqr_script.specs.Reading.{indices_of, entry_of, entries_after, rotation_of, command_of, commands_from}
 use Rattle.spqr_script.specs.declared.command.Command.{Command}
-use Rattle.spqr_script.specs.declared.command.Command.TheVariants.{Euler, Show, Flip, Permute, ConvertRank, ConvertTo, Gml}
+use Rattle.spqr_script.specs.declared.command.Command.TheVariants.{Euler, Show, Flip, Permute, ConvertRank, ConvertTo, Gml, Whole, Regroup, ListWhole, ConvertWhole}
 
 -- a last line without a line feed is a line, and nothing behind the last line feed is none
 two_lines : lines_of (codes "gml\neuler") ≡ codes "gml" ∷ codes "euler" ∷ []
@@ -108,6 +108,30 @@ to_a_rank = refl
 to_a_rotation : spelled (codes "convert 0 to 0:7") ≡ Some (ConvertTo 0 ((0, 7 ∷ []) ∷ []))
 unfolding spelled tokens_of command_of word_among rotation_of entries_after entry_of indices_of
 to_a_rotation = refl
+
+a_component : spelled (codes "whole 2") ≡ Some (Whole 2)
+unfolding spelled tokens_of command_of word_among
+a_component = refl
+
+edges_in_order : spelled (codes "regroup 0 3 2 5") ≡ Some (Regroup 0 (3 ∷ 2 ∷ 5 ∷ []))
+unfolding spelled tokens_of command_of word_among indices_of
+edges_in_order = refl
+
+no_edges : spelled (codes "regroup 0") ≡ None
+unfolding spelled tokens_of command_of word_among indices_of
+no_edges = refl
+
+members_listed : spelled (codes "listwhole 0 10000") ≡ Some (ListWhole 0 10000)
+unfolding spelled tokens_of command_of word_among
+members_listed = refl
+
+too_many_members : spelled (codes "listwhole 0 10001") ≡ None
+unfolding spelled tokens_of command_of word_among
+too_many_members = refl
+
+to_a_lone_vertex : spelled (codes "convertwhole 1 6:") ≡ Some (ConvertWhole 1 ((6, []) ∷ []))
+unfolding spelled tokens_of command_of word_among rotation_of entries_after entry_of indices_of
+to_a_lone_vertex = refl
 
 second_line_bad : commands_from 1 (lines_of (codes "# c\nlist 0 10001")) ≡ Err 2
 unfolding cut_lines is_passed_over tokens_of command_of word_among commands_from

@@ -9,6 +9,8 @@ use Rattle.spqr_script.specs.Answers.Faces.{faces_text}
 use Rattle.spqr_script.specs.Answers.Euler.{euler_text}
 use Rattle.spqr_script.specs.Answers.Gml.{document_text}
 use Rattle.spqr_script.specs.Answers.Error.{error_text}
+use Rattle.spqr_script.specs.Answers.Whole.{whole_text, list_whole_text, block_move_text, regroup_text}
+use Rattle.moves.specs.declared.values.Move.TheVariants.{Flip, Permute}
 use Rattle.spqr_script.specs.Refusal.{read_text, long_text, script_text}
 use Rattle.spqr_script.specs.declared.refusals.Which.TheVariants.{GraphFile, ScriptFile}
 
@@ -85,6 +87,31 @@ edge_faces = refl
 edge_path : path_text edge_part 1 0 (0 ∷ []) ≡ codes "path 7 4: 9\n"
 unfolding digits
 edge_path = refl
+
+lone_component : whole_text 1 ((6, []) ∷ []) ≡ codes "whole 1 | 6:\n"
+unfolding digits
+lone_component = refl
+
+edge_component : whole_text 0 ((4, 9 ∷ []) ∷ (7, 9 ∷ []) ∷ []) ≡ codes "whole 0 | 4: 9; 7: 9\n"
+unfolding digits
+edge_component = refl
+
+no_member_follows : list_whole_text 1 0 ≡ codes "listwhole 1 0\n"
+unfolding digits
+no_member_follows = refl
+
+-- the number of the block comes first
+flip_in_block : block_move_text edge_part 3 (Flip 2) ≡ codes "flip 3 2\n"
+unfolding digits
+flip_in_block = refl
+
+permute_in_block : block_move_text edge_part 3 (Permute 2 (0 ∷ [])) ≡ codes "permute 3 2 9\n"
+unfolding digits
+permute_in_block = refl
+
+edges_around : regroup_text 4 (4 ∷ 6 ∷ 5 ∷ []) ≡ codes "regroup 4 4 6 5\n"
+unfolding digits
+edges_around = refl
 
 unread_graph : read_text GraphFile ≡ codes "refused read graph\n"
 unread_graph = refl

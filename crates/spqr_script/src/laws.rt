@@ -1,14 +1,20 @@
 // Laws on scripts: each is either a list of commands, and one only, or has one first bad line.
-ghost use Rattle.std.specs.Prelude.{◌≡◌, ℕ, ◌⊎◌, List, Some, ◌↔◌, All, codes};
-ghost use Rattle.spqr_script.specs.Number.{SpellsNumber, number_below};
+ghost use Rattle.std.specs.Prelude.{◌≡◌, ℕ, ◌<◌, ◌⊎◌, List, ◌∷◌, ◌++◌, length, Some, ◌↔◌, All, codes};
+ghost use Rattle.multigraph.specs.Part.{GraphPart};
+ghost use Rattle.moves.specs.declared.values.Move.{Move};
+ghost use Rattle.spqr_script.specs.Number.{SpellsNumber, number_below, index_limit};
 ghost use Rattle.rotations.specs.Entries.{IsRising};
 ghost use Rattle.spqr_script.specs.Line.{tokens_of};
 ghost use Rattle.spqr_script.specs.Answers.Rotation.{IsIndexEntry, entries_text};
+ghost use Rattle.spqr_script.specs.Answers.Whole.{block_move_text, move_command, IsIndexMove, regroup_text};
 ghost use Rattle.spqr_script.specs.Script.{SpellsRotation, Commands, IsFirstBadLine};
 ghost use Rattle.spqr_script.specs.declared.command.Command.{Command};
+ghost use Rattle.spqr_script.specs.declared.command.Command.TheVariants.{Regroup};
 
 /// Each script spells commands or has a first bad line, and not both; it spells one list of commands at most, and has one
-/// first bad line at most. What is printed after the bar of a rotation line spells its entries.
+/// first bad line at most. What is printed after the bar of the line of a rotation system, of a block or of a component, spells
+/// its entries; and each line of the moves that `convertwhole` prints, before a script, spells the command that makes the move,
+/// before the commands of the script.
 pub fn script_laws()
     ensures decided { (bytes : List ℕ) → ((commands : List Command) × Commands bytes commands)
         ⊎ ((line : ℕ) × IsFirstBadLine bytes line) }
@@ -22,4 +28,10 @@ pub fn script_laws()
         (number_below limit text ≡ Some n) ↔ SpellsNumber limit text n }
     ensures printed { (entries : List (ℕ × List ℕ)) → IsRising entries → All IsIndexEntry entries →
         SpellsRotation (tokens_of (entries_text (codes " ") entries)) entries }
+    ensures printed_moves { (part : GraphPart) (b : ℕ) (move : Move) (rest : List ℕ) (commands : List Command)
+        → b < index_limit → IsIndexMove part move → Commands rest commands
+        → Commands (block_move_text part b move ++ rest) (move_command part b move ∷ commands) }
+    ensures printed_arrangements { (v : ℕ) (edges rest : List ℕ) (commands : List Command)
+        → v < index_limit → All (λ e. e < index_limit) edges → 0 < length edges → Commands rest commands
+        → Commands (regroup_text v edges ++ rest) (Regroup v edges ∷ commands) }
 {}
