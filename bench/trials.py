@@ -9,7 +9,7 @@ A graph has one to three blocks, some sharing a vertex, and lone vertices; or co
 rotation systems are tried, some with a block that is not planar. Two of three files have a text at each node or at most nodes: a start
 in the plane, one that is not, one that is no list of the edges, or none. A script has all commands on embeddings and on components, most
 with numbers and lists that fit, and now and then a line that is no command; what `gml` writes after it is read back as the same
-session. How often each line was printed is told at the end. Files go to bench/data; the first that differs stays there."""
+session. How often each line was printed is the last line of the output. Files go to bench/data; the first that differs stays there."""
 import os
 import random
 import subprocess
@@ -284,6 +284,20 @@ def same_session(session, text):
     return same and other.step(("gml",))[1] == text
 
 
+def step(session, c, path):
+    """Makes a step. The lines that `convertwhole` answers lead to the same rotation system, as commands."""
+    before = session.family, session.cuts, session.earlier[:], session.later[:]
+    lines = session.step(c)
+    if c[0] == "convertwhole":
+        after, shown = (session.family, session.cuts, session.earlier, session.later), session.step(("whole", c[1]))
+        session.family, session.cuts, session.earlier, session.later = before
+        for text in lines[1:]:
+            session.step(report_of.command(text))
+        if session.step(("whole", c[1])) != shown:
+            sys.exit(f"the lines of convertwhole lead elsewhere: {path}")
+        session.family, session.cuts, session.earlier, session.later = after
+
+
 def script(chance, path, names):
     pairs = report_of.document(open(path, "rb").read())
     try:
@@ -295,7 +309,7 @@ def script(chance, path, names):
         text = line(chance, session, names)
         lines.append(text)
         try:
-            session.step(report_of.command(text))
+            step(session, report_of.command(text), path)
         except report_of.Refused:
             pass
     if not same_session(session, session.step(("gml",))[1]):
