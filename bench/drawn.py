@@ -131,7 +131,7 @@ def answers(report, script):
         more = 0
         if words[0] in (b"faces", b"draw"):
             more = int(words[2])
-        elif words[0] == b"list":
+        elif words[0] in (b"list", b"listwhole"):
             more = int(words[2]) + 1
         elif words[0] == b"moves":
             more = int(words[1])
@@ -167,7 +167,7 @@ def judged(ends, blocks, planar, script, found):
     orders, drawn = {}, []
     for number, (command, lines) in enumerate(zip(script, found)):
         done = not lines[0].startswith("error") and lines[0] != "end"
-        if command[0] in ("undo", "redo") and done:
+        if command[0] in ("undo", "redo", "nextwhole", "convertwhole") and done:
             every += 1
         elif command[0] in CHANGES and done:
             changes[command[1]] += 1

@@ -223,8 +223,9 @@ def graph_of(pairs):
 # The script. In the forms N is a number below 2^32, T one from 1 to 10,000, R one below 2^128, _ blanks.
 
 FORMS = ["euler", "euler_ROT", "take_N", "take_N_ROT", "convert_N_to", "convert_N_to_ROT", "convert_N_rank_R", "goto_N_R", "list_N_T", "undo",
-         "redo", "gml"] + [word + "_N" for word in ("show", "faces", "mirror", "first", "next", "count", "rank", "longest", "draw")] + [
-             word + "_N_N" for word in ("flip", "lock", "unlock")] + [r"permute_N_N(?:_N)+"]
+         "redo", "gml", "listwhole_N_T", "convertwhole_N", "convertwhole_N_ROT"] + [
+             word + "_N" for word in ("show", "faces", "mirror", "first", "next", "count", "rank", "longest", "draw", "whole", "nextwhole")] + [
+                 word + "_N_N" for word in ("flip", "lock", "unlock")] + [r"permute_N_N(?:_N)+", r"regroup_N(?:_N)+"]
 ENTRY = r"\d+~:~(?:\d+(?:_\d+)*)?"
 
 
@@ -286,7 +287,8 @@ def due(graph, script):
     return 0, run[0], *found, words
 
 
-ANSWERS = {"euler": "euler", "show": "rotation", "faces": "faces", "list": "list", "count": "count", "rank": "rank", "convert": "moves", "longest": "longest", "draw": "draw", "gml": "gml"}
+ANSWERS = {"euler": "euler", "show": "rotation", "faces": "faces", "list": "list", "count": "count", "rank": "rank", "convert": "moves", "longest": "longest", "draw": "draw", "gml": "gml",
+           "whole": "whole", "listwhole": "listwhole", "convertwhole": "moves"}
 HEAD = "cut ", "block ", "node ", "planar ", "nonplanar ", "path "
 
 
@@ -307,18 +309,19 @@ def wrong_report(out, pairs, ids, ends, words):
         line()
     for number, word in enumerate(words):
         answer = line().split()
-        if answer[0] not in (ANSWERS.get(word, "ok"), "error") and (word, answer[0]) != ("next", "end"):
+        if answer[0] not in (ANSWERS.get(word, "ok"), "error") and not (word in ("next", "nextwhole") and answer[0] == "end"):
             return f"command {number}, {word}, is answered by {answer[0]}"
         if answer[0] == "gml":
             text, place = out[place:place + int(answer[1])], place + int(answer[1])
             if wrong := wrong_start(pairs, text, ends):
                 return wrong
-        elif answer[0] in ("faces", "list", "moves", "longest", "draw"):
+        elif answer[0] in ("faces", "list", "listwhole", "moves", "longest", "draw"):
             answer = line().split() if word == "longest" else answer
-            kinds = {"faces": ("face",), "list": ("rotation",), "moves": ("flip", "permute"), "draw": ("point",)}[answer[0]]
+            kinds = {"faces": ("face",), "list": ("rotation",), "listwhole": ("whole",), "draw": ("point",),
+                     "moves": ("flip", "permute", "regroup") if word == "convertwhole" else ("flip", "permute")}[answer[0]]
             if not all(line().split()[0] in kinds for _ in range(int(answer[-1]))):
                 return f"command {number}, {word}, has too few lines"
-            if word == "list" and line() not in ("more", "end"):
+            if word in ("list", "listwhole") and line() not in ("more", "end"):
                 return f"command {number}, {word}, does not end"
     return None if place == len(out) else "more is printed"
 
@@ -336,6 +339,7 @@ TOKENS = {
               b"node [ ]", b"node 5", b"edge [ ]", b"edge [ source 0 ]", b"inf", b"-NaN", b"+InF", b"in", b"1.5e", b"1.5e3", b".5", b"5.", b".", b"1e+",
               b"+", b"-0", b"+007", b"0.0", b"a", b"a_1", b"a-1", b"\xef\xbb\xbf", b"a " * 400 + b"1"],
     "script": [b":", b";", b"0:", b"0: 0", b"; 9:", b"rank", b"to", b"#", b"\r", b"euler", b"take", b"convert", b"permute", b"list", b"shwo", b"Show",
+               b"whole 0", b"regroup", b"nextwhole 0", b"listwhole", b"convertwhole",
                b"show 0 0", b" ", b"\t"] + SCRIPT_LINES,
 }
 TOKEN = re.compile(rb'"[^"]*"|[\[\]:;]|#[^\r\n]*|[ \t]+|[\r\n]+|[^ \t\r\n\[\]"#:;]+')

@@ -13,6 +13,7 @@ import re
 import sys
 
 import head_of
+from components import components
 from drawn import least_parallel, points_of, wrong_drawing
 from embeddings import (OVER, Block, Composed, choice, choices, faces, flip, from_least, full_list, is_plane, mirror, move, moves_between,
                         numbered, permute, rotation_total, runs, text_of)
@@ -142,13 +143,15 @@ def command(line):
         return ("euler", rotation_of(after(1)))
     if name in ("undo", "redo", "gml") and not rest:
         return (name,)
-    if name in ("show", "faces", "mirror", "first", "next", "count", "rank", "longest", "draw") and len(rest) == 1:
+    if name in ("show", "faces", "mirror", "first", "next", "count", "rank", "longest", "draw", "whole", "nextwhole") and len(rest) == 1:
         return (name, number(rest[0]))
     if name in ("flip", "lock", "unlock") and len(rest) == 2:
         return (name, number(rest[0]), number(rest[1]))
     if name == "permute" and len(rest) >= 3:
         return (name, number(rest[0]), number(rest[1]), [number(word) for word in rest[2:]])
-    if name == "list" and len(rest) == 2 and 1 <= number(rest[1]) <= 10000:
+    if name == "regroup" and len(rest) >= 2:
+        return (name, number(rest[0]), [number(word) for word in rest[1:]])
+    if name in ("list", "listwhole") and len(rest) == 2 and 1 <= number(rest[1]) <= 10000:
         return (name, number(rest[0]), number(rest[1]))
     if name == "goto" and len(rest) == 2:
         return (name, number(rest[0]), number(rest[1], OVER))
@@ -156,8 +159,8 @@ def command(line):
         return ("convert", number(rest[0]), number(rest[2], OVER))
     if name == "convert" and len(rest) >= 2 and rest[1] == "to":
         return ("convert_to", number(rest[0]), rotation_of(after(3)))
-    if name == "take" and rest:
-        return ("take", number(rest[0]), rotation_of(after(2)))
+    if name in ("take", "convertwhole") and rest:
+        return (name, number(rest[0]), rotation_of(after(2)))
     raise NoCommand
 
 
@@ -298,6 +301,11 @@ def bad_vertex(at, entries):
     return min(wrong) if wrong else None
 
 
+def move_line(m, *block):
+    """The line of a move, with the number of its block where that is to be named."""
+    return " ".join(map(str, (m[0], *block, m[1], *(m[2] if m[0] == "permute" else ()))))
+
+
 class Session:
     def __init__(self, ids, ends, pairs, composed):
         self.ids, self.ends, self.pairs = ids, ends, pairs
@@ -309,7 +317,11 @@ class Session:
             self.at[a].append(e)
             self.at[b].append(e)
         self.family = tuple((rotation, frozenset()) for rotation in self.starts(start_of(pairs, ends)))
+        # The arrangements at cut vertices; at those that are not here it is the first one for the present family.
+        self.cuts = {}
         self.earlier, self.later = [], []
+        self.components = components(self, composed)
+        self.component_of = {v: whole for whole in self.components for v in whole.vertices}
 
     def starts(self, start):
         """The rotation system from which each block sets out: that of the file, or the first; None for a block that is not planar."""
@@ -342,10 +354,18 @@ class Session:
             yield from head_of.node_lines([(e, *block.edges[e]) for e in block.edges], self.ends)
             yield f"planar {number}" if self.lists[number].planar else f"nonplanar {number} ?"
 
-    def set(self, b, rotation, locked):
-        self.earlier.append(self.family)
+    def change(self, family, cuts):
+        self.earlier.append((self.family, self.cuts))
         self.later = []
-        self.family = self.family[:b] + ((rotation, locked),) + self.family[b + 1:]
+        self.family, self.cuts = family, cuts
+
+    def set(self, b, rotation, locked):
+        """Another rotation system of a block; the arrangements at its cut vertices become the first ones."""
+        cuts = {v: edges for v, edges in self.cuts.items() if v not in self.blocks[b].at}
+        self.change(self.family[:b] + ((rotation, locked),) + self.family[b + 1:], cuts)
+
+    def set_locks(self, b, locked):
+        self.change(self.family[:b] + ((self.family[b][0], locked),) + self.family[b + 1:], self.cuts)
 
     def euler(self, entries):
         v = bad_vertex(self.at, entries)
@@ -376,9 +396,13 @@ class Session:
             here, there = (self.earlier, self.later) if c[0] == "undo" else (self.later, self.earlier)
             if not here:
                 raise Refused(8 if c[0] == "undo" else 9)
-            there.append(self.family)
-            self.family = here.pop()
+            there.append((self.family, self.cuts))
+            self.family, self.cuts = here.pop()
             return ["ok"]
+        if c[0] == "regroup":
+            return self.regroup(*c[1:])
+        if c[0] in ("whole", "nextwhole", "listwhole", "convertwhole"):
+            return self.on_component(*c)
         b = c[1]
         if b >= len(self.blocks):
             raise Refused(1)
@@ -421,11 +445,11 @@ class Session:
         return ["ok"]
 
     def do_lock(self, b, block, lists, now, locked, k):
-        self.set(b, now, locked | {k})
+        self.set_locks(b, locked | {k})
         return ["ok"]
 
     def do_unlock(self, b, block, lists, now, locked, k):
-        self.set(b, now, locked - {k})
+        self.set_locks(b, locked - {k})
         return ["ok"]
 
     def do_first(self, b, block, lists, now, locked):
@@ -485,7 +509,7 @@ class Session:
     def led(self, b, block, now, locked, wanted):
         found = moves_between(block, now, wanted)
         self.set(b, wanted, locked)
-        return [f"moves {len(found)}"] + [f"flip {m[1]}" if m[0] == "flip" else f"permute {m[1]} {' '.join(map(str, m[2]))}" for m in found]
+        return [f"moves {len(found)}"] + [move_line(m) for m in found]
 
     def do_longest(self, b, block, lists, now, locked):
         """By trying all members, whatever is locked."""
@@ -509,6 +533,81 @@ class Session:
 
     def do_convert_to(self, b, block, lists, now, locked, entries):
         return self.led(b, block, now, locked, self.given(block, now, locked, entries))
+
+
+    # Whole components.
+
+    def state_of(self, whole):
+        """The rotation systems of its blocks, the arrangements at its cut vertices, and the locks."""
+        parts = {b: self.family[b][0] for b in whole.blocks}
+        cuts = {v: self.cuts.get(v) or whole.first(v, parts) for v in whole.cuts}
+        return parts, cuts, {b: self.family[b][1] for b in whole.blocks}
+
+    def lead(self, parts, cuts):
+        """Another state of a component; locks stay."""
+        self.change(tuple((parts.get(b, rotation), locked) for b, (rotation, locked) in enumerate(self.family)), {**self.cuts, **cuts})
+
+    def regroup(self, v, edges):
+        whole = self.component_of.get(v)
+        if whole and not whole.planar:
+            raise Refused(5)
+        if whole and sorted(edges) != sorted(self.at[v]):
+            raise Refused(6, v)
+        if whole is None or v not in whole.cuts:
+            raise Refused(15)
+        parts, cuts, _ = self.state_of(whole)
+        wrong = whole.wrong(v, edges, parts, cuts)
+        if wrong:
+            raise Refused(*wrong)
+        self.lead({}, {v: from_least(edges)})
+        return ["ok"]
+
+    def on_component(self, word, c, *rest):
+        if c >= len(self.components):
+            raise Refused(14)
+        whole = self.components[c]
+        if not whole.planar:
+            raise Refused(5)
+        return getattr(self, word)(whole, *self.state_of(whole), *rest)
+
+    def whole(self, whole, parts, cuts, locks):
+        return [f"whole {whole.number} | {text_of(whole.system(parts, cuts))}"]
+
+    def nextwhole(self, whole, parts, cuts, locks):
+        after = whole.after(parts, cuts, locks)
+        if after is None:
+            return ["end"]
+        self.lead(*after)
+        return ["ok"]
+
+    def listwhole(self, whole, parts, cuts, locks, n):
+        found, after = [], whole.after(parts, cuts, locks)
+        while after and len(found) < n:
+            found += self.whole(whole, *after, locks)
+            after = whole.after(*after, locks)
+        return [f"listwhole {whole.number} {len(found)}"] + found + ["more" if after else "end"]
+
+    def convertwhole(self, whole, parts, cuts, locks, entries):
+        v = bad_vertex(whole.at, entries)
+        if v is not None:
+            raise Refused(6, v)
+        wanted = {v: () for v in whole.vertices} | {v: from_least(order) for v, order in entries}
+        count = len(faces(whole.edges, wanted)) if whole.edges else 1
+        if len(whole.vertices) - len(whole.edges) + count != 2:
+            raise Refused(7, len(whole.vertices), len(whole.edges), count)
+        target = {b: whole.part(b, wanted) for b in whole.blocks}
+        for b in whole.blocks:
+            for k in sorted(locks[b]):
+                if choice(self.blocks[b].nodes[k], target[b]) != choice(self.blocks[b].nodes[k], parts[b]):
+                    raise Refused(12, b, k)
+        lines = [move_line(m, b) for b in whole.blocks for m in moves_between(self.blocks[b], parts[b], target[b])]
+        moved = [b for b in whole.blocks if target[b] != parts[b]]
+        for v in whole.cuts:
+            there = whole.first(v, target) if set(moved) & set(whole.around(v)) else cuts[v]
+            if there != wanted[v]:
+                lines.append(f"regroup {v} {' '.join(map(str, wanted[v]))}")
+        self.lead(target, {v: wanted[v] for v in whole.cuts})
+        return [f"moves {len(lines)}"] + lines
 
 
 def report(graph, script, composed):

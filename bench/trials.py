@@ -5,23 +5,31 @@
   trials.py N SEED PROGRAM..     runs the program's words with `run GRAPH SCRIPT` on each too, and compares what it prints
   trials.py --commands show,gml N SEED ..   the same, with scripts of these commands alone
 
-A graph has one to three blocks, some sharing a vertex, and lone vertices. Two of three files have a text at each node or at most
-nodes: a start in the plane, one that is not, one that is no list of the edges, or none. A script has all commands on embeddings,
-most with numbers that fit; what `gml` writes after it is read back as the same session. How often each line was printed is told
-at the end. Files go to bench/data; the first that differs stays there."""
+A graph has one to three blocks, some sharing a vertex, and lone vertices; or components of up to five blocks, so small that all their
+rotation systems are tried, some with a block that is not planar. Two of three files have a text at each node or at most nodes: a start
+in the plane, one that is not, one that is no list of the edges, or none. A script has all commands on embeddings and on components, most
+with numbers and lists that fit, and now and then a line that is no command; what `gml` writes after it is read back as the same
+session. How often each line was printed is the last line of the output. Files go to bench/data; the first that differs stays there."""
 import os
 import random
 import subprocess
 import sys
 
 import report_of
+from components import options
 from embeddings import is_block, numbered, rotation_total, text_of
+from whole_lists import random_graph
 
 # Each as often as it is to be drawn.
-NAMES = "show faces flip flip permute permute mirror first next next list count rank goto convert convert_to take lock lock unlock undo undo redo longest longest draw draw euler gml gml".split()
+NAMES = ("show faces flip flip permute permute mirror first next next list count rank goto convert convert_to take lock lock unlock undo undo redo longest longest draw draw euler gml gml "
+         "whole whole whole whole regroup regroup regroup regroup nextwhole nextwhole nextwhole listwhole convertwhole convertwhole convertwhole").split()
+ON_VERTICES = "whole", "regroup", "nextwhole", "listwhole", "convertwhole"
 # Commands on a block that is not there, where more than the block is named.
 NO_BLOCK = {"flip": "flip {} 0", "lock": "lock {} 0", "unlock": "unlock {} 0", "permute": "permute {} 0 0", "list": "list {} 1",
             "goto": "goto {} 0", "convert": "convert {} rank 0", "convert_to": "convert {} to 0: 0", "take": "take {} 0: 0"}
+NO_COMMAND = ["whole", "whole 0 0", "whole 4294967296", "whole -1", "Whole 0", "regroup", "regroup 0", "regroup 0 0,1", "regroup 0: 0 1", "regroup 0 4294967296",
+              "nextwhole", "nextwhole 0 1", "listwhole 0", "listwhole 0 0", "listwhole 0 10001", "listwhole 0 1 1", "convertwhole", "convertwhole 0 to 0: 0",
+              "convertwhole 0 0 1", "convertwhole 0 1: 0; 0: 0", "convertwhole 0 0: 0;", "convertwhole 0: 0", "list 0 0", "regroupwhole 0", "next whole 0"]
 DATA = os.path.join(os.path.dirname(os.path.abspath(__file__)), "data")
 HARD = ["01 02 03 04 12 13 14 23 24 34", "03 04 05 13 14 15 23 24 25", "03 04 05 13 14 15 23 24 26 65",
         "01 02 03 12 13 23 04 05 14 15 45", "02 03 12 13 23 04 05 14 15 45", "01 02 03 12 13 23", "02 12 03 13 04 14 01", "01 01 01 01"]
@@ -39,7 +47,21 @@ def block(chance):
                 return pairs
 
 
-def graph(chance):
+def small_components(chance):
+    """Components that are tried as a whole; some have K5 or K3,3 on a vertex."""
+    n, edges = random_graph(chance)
+    if n < 60 and chance.random() < 0.15:
+        pairs = [(int(pair[0]), int(pair[1])) for pair in chance.choice(HARD[:2]).split()]
+        places = list(range(n, n + 1 + max(max(pair) for pair in pairs)))
+        if chance.random() < 0.7:
+            places[chance.randrange(len(places))] = chance.randrange(n)
+        edges = edges + [(places[a], places[b]) for a, b in pairs]
+        left = sorted({x for pair in edges for x in pair} | set(range(n)))
+        edges, n = [(left.index(a), left.index(b)) for a, b in edges], len(left)
+    return edges, n
+
+
+def few_blocks(chance):
     edges, n = [], 0
     for _ in range(chance.randint(1, 3)):
         pairs = block(chance)
@@ -49,7 +71,11 @@ def graph(chance):
             places[chance.randrange(size)] = chance.randrange(n)
         edges += [(places[a], places[b]) for a, b in pairs]
         n += size
-    n += chance.randint(0, 1)
+    return edges, n + chance.randint(0, 1)
+
+
+def graph(chance):
+    edges, n = few_blocks(chance) if chance.random() < 0.4 else small_components(chance)
     chance.shuffle(edges)
     ids = chance.sample(range(-50, 50), n)
     text = "graph [\n" + "".join(f"  node [ id {i} ]\n" for i in ids)
@@ -144,13 +170,79 @@ def given(chance, session, b):
     return "; ".join(f"{v}: {' '.join(map(str, at))}".rstrip() for v, at in sorted(order.items()))
 
 
+def turned(chance, order):
+    place = chance.randrange(max(len(order), 1))
+    return list(order[place:]) + list(order[:place])
+
+
+def arrangement(chance, orders):
+    """Any arrangement of the edges of these blocks."""
+    found = []
+    while len(found) < sum(map(len, orders.values())):
+        found.append(chance.choice(options(found, orders)))
+    return found
+
+
+def numbers_at(chance, session, v):
+    """A list for `regroup`: an arrangement, edges mixed or blocks mixed, or wrong numbers."""
+    whole = session.component_of.get(v)
+    here = session.at.get(v, [])
+    if whole and whole.planar and v in whole.cuts and chance.random() < 0.6:
+        edges = arrangement(chance, whole.orders(v, session.state_of(whole)[0]))
+    elif whole and whole.planar and chance.random() < 0.7:
+        orders = whole.orders(v, session.state_of(whole)[0])
+        if chance.random() < 0.5:
+            edges = merged(chance, [turned(chance, order) for order in orders.values()])
+        else:
+            edges = arrangement(chance, {b: tuple(reversed(order)) if chance.random() < 0.5 else order for b, order in orders.items()})
+    else:
+        edges = chance.sample(here, len(here))
+    if edges and chance.random() < 0.1:
+        edges[chance.randrange(len(edges))] = chance.randrange(len(session.ends) + 1)
+    if chance.random() < 0.05:
+        edges = chance.choice([edges[:-1], edges + edges[:1], edges + [0]])
+    return turned(chance, edges) or [chance.choice([0, 7])]
+
+
+def system(chance, session, whole):
+    """A rotation system for `convertwhole`: a member, a random one, or a wrong one."""
+    entries = {v: chance.sample(at, len(at)) for v, at in whole.at.items()}
+    if whole.planar and chance.random() < 0.7:
+        parts, _, locks = session.state_of(whole)
+        for b in whole.blocks if chance.random() < 0.8 else []:
+            held = chance.choice([locks[b], frozenset()])
+            parts[b] = whole.lists[b].member(chance.randrange(whole.lists[b].count(parts[b], held)), parts[b], held)
+        entries = whole.system(parts, {v: arrangement(chance, whole.orders(v, parts)) for v in whole.cuts})
+    if chance.random() < 0.1:
+        entries[chance.choice([chance.choice(whole.vertices), len(session.ids)])] = [chance.randrange(12)]
+    if chance.random() < 0.05 or len(whole.vertices) == 1 and chance.random() < 0.5:
+        del entries[chance.choice(list(entries))]
+    return "; ".join(f"{v}: {' '.join(map(str, turned(chance, at)))}".rstrip() for v, at in sorted(entries.items()))
+
+
+def on_vertices(chance, session, name):
+    """A command on a component, or at a vertex."""
+    if name == "regroup":
+        cuts = [v for whole in session.components for v in whole.cuts]
+        v = chance.choice(cuts) if cuts and chance.random() < 0.8 else chance.randrange(len(session.ids) + 1)
+        return f"regroup {v} {' '.join(map(str, numbers_at(chance, session, v)))}"
+    c = chance.randrange(len(session.components))
+    cut = [whole.number for whole in session.components if whole.cuts]
+    c = len(session.components) if chance.random() < 0.03 else chance.choice(cut) if cut and chance.random() < 0.6 else c
+    if name == "convertwhole":
+        return f"convertwhole {c} {system(chance, session, session.components[c]) if c < len(session.components) else '0: 0'}".rstrip()
+    return f"{name} {c}" + (f" {chance.choice([1, 2, 3, 5, 40])}" if name == "listwhole" else "")
+
+
 def line(chance, session, names):
     """A command for the session's state."""
     blocks = len(session.blocks)
-    b = chance.randrange(blocks) if chance.random() < 0.97 else blocks
+    b = chance.randrange(blocks) if blocks and chance.random() < 0.97 else blocks
     name = chance.choice(names)
     if name in ("undo", "redo", "gml"):
         return name
+    if name in ON_VERTICES:
+        return on_vertices(chance, session, name)
     if name == "euler":
         order = {v: chance.sample(at, len(at)) for v, at in session.at.items()}
         if chance.random() < 0.1:
@@ -192,6 +284,20 @@ def same_session(session, text):
     return same and other.step(("gml",))[1] == text
 
 
+def step(session, c, path):
+    """Makes a step. The lines that `convertwhole` answers lead to the same rotation system, as commands."""
+    before = session.family, session.cuts, session.earlier[:], session.later[:]
+    lines = session.step(c)
+    if c[0] == "convertwhole":
+        after, shown = (session.family, session.cuts, session.earlier, session.later), session.step(("whole", c[1]))
+        session.family, session.cuts, session.earlier, session.later = before
+        for text in lines[1:]:
+            session.step(report_of.command(text))
+        if session.step(("whole", c[1])) != shown:
+            sys.exit(f"the lines of convertwhole lead elsewhere: {path}")
+        session.family, session.cuts, session.earlier, session.later = after
+
+
 def script(chance, path, names):
     pairs = report_of.document(open(path, "rb").read())
     try:
@@ -203,11 +309,13 @@ def script(chance, path, names):
         text = line(chance, session, names)
         lines.append(text)
         try:
-            session.step(report_of.command(text))
+            step(session, report_of.command(text), path)
         except report_of.Refused:
             pass
     if not same_session(session, session.step(("gml",))[1]):
         sys.exit(f"what gml writes is not read back: {path}")
+    if chance.random() < 0.02:
+        lines.insert(chance.randrange(len(lines) + 1), chance.choice(NO_COMMAND))
     return "".join(text + "\n" for text in lines)
 
 

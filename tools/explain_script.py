@@ -12,15 +12,17 @@ FORMS = {
     "euler": "euler ROT", "show": "show B", "faces": "faces B", "flip": "flip B K", "permute": "permute B K KEYS", "mirror": "mirror B",
     "first": "first B", "next": "next B", "list": "list B N", "lock": "lock B K", "goto": "goto B R", "convert": "convert B rank R, or convert B to ROT",
     "take": "take B ROT", "undo": "undo", "redo": "redo", "gml": "gml", "count": "count B", "rank": "rank B", "unlock": "unlock B K",
-    "longest": "longest B", "draw": "draw B",
+    "longest": "longest B", "draw": "draw B", "whole": "whole C", "regroup": "regroup V EDGES", "nextwhole": "nextwhole C",
+    "listwhole": "listwhole C N", "convertwhole": "convertwhole C ROT",
 }
-ARGUMENTS = {"B": ("a block", 2 ** 32), "K": ("a node", 2 ** 32), "N": ("the number of members", 10_001), "R": ("a rank", 2 ** 128)}
+ARGUMENTS = {"B": ("a block", 2 ** 32), "K": ("a node", 2 ** 32), "N": ("the number of members", 10_001), "R": ("a rank", 2 ** 128),
+             "C": ("a component", 2 ** 32), "V": ("a vertex", 2 ** 32), "E": ("an edge", 2 ** 32)}
 CODES = {
     1: "this block does not exist: the lines `block B:` of the head have the blocks",
     2: "this node does not exist: the lines `node K ..` after the block's line have its nodes",
     3: "the node is of another kind: `flip` takes an R, `permute` a P, `lock` and `unlock` take either",
     4: "the keys are not a permutation of the keys of the node's items; in a script the block comes first: permute B K KEYS",
-    5: "the block is not planar: the line `nonplanar B ..` of the head has a certificate",
+    5: "the block, or one of the component, is not planar: the line `nonplanar B ..` of the head has a certificate",
     6: "the list of vertex {0} is not a permutation of its edges, or {0} is not a vertex; a vertex that is not named has the empty list",
     7: "the rotation system is not plane: it has {0} vertices, {1} edges and {2} faces",
     8: "there is no earlier change to take back",
@@ -29,7 +31,12 @@ CODES = {
     11: "the ranks are from 0, and the list has {0} members",
     12: "node {0} is locked: unlock it first",
     13: "edges {0} and {1} have the same ends, so straight lines cannot draw both",
+    14: "this component does not exist: they are numbered from 0, in the order of their least vertices",
+    15: "this is not a cut vertex: the lines `cut V` of the head have these",
+    16: "the list changes the order of the edges of block {0}: `show {0}` prints it",
+    17: "blocks {0} and {1} cross: edges of the one and of the other alternate around the vertex",
 }
+LOCKED_IN_BLOCK = "node {1} of block {0} is locked: unlock it first"
 
 
 def line_at(data: bytes, line: int) -> int:
@@ -85,7 +92,7 @@ def _by_word(text: bytes, start: int) -> Optional[Finding]:
         return Finding(start + words[1][0], f"`{name}` takes nothing more", _form(text)) if len(words) > 1 else None
     if name == "euler":
         return _rotation(text, start, words[0][0] + 5)
-    if name in ("take", "convert"):
+    if name in ("take", "convert", "convertwhole"):
         return _with_rotation(text, start, words)
     return _numbers(text, start, words, FORMS[name].split()[1:])
 
@@ -108,10 +115,10 @@ def _word_hint(name: str) -> str:
 
 
 def _numbers(text: bytes, start: int, words: list[tuple[int, str]], wanted: list[str]) -> Optional[Finding]:
-    """The first argument that is not as the form wants it. KEYS stands for one or more."""
+    """The first argument that is not as the form wants it. KEYS and EDGES stand for one or more."""
     given = words[1:]
-    if wanted[-1] == "KEYS":
-        wanted = wanted[:-1] + ["K"] * max(1, len(given) - len(wanted) + 1)
+    if wanted[-1] in ("KEYS", "EDGES"):
+        wanted = wanted[:-1] + [wanted[-1][0]] * max(1, len(given) - len(wanted) + 1)
     for (at, word), kind in zip(given, wanted):
         what, limit = ARGUMENTS[kind]
         if not re.fullmatch("[0-9]+", word):
@@ -131,8 +138,9 @@ def _with_rotation(text: bytes, start: int, words: list[tuple[int, str]]) -> Opt
     block = re.match(rb"[ \t]*[a-z]+[ \t]+([0-9]+)(?![0-9])", text)
     if not block or not _is_below(block.group(1).decode(), 2 ** 32):
         at = words[1][0] if len(words) > 1 else len(text.rstrip())
-        return Finding(start + at, "a block is missing here", _form(text))
-    if words[0][1] == "take":
+        what = "a component" if words[0][1] == "convertwhole" else "a block"
+        return Finding(start + at, f"{what} is missing here", _form(text))
+    if words[0][1] in ("take", "convertwhole"):
         return _rotation(text, start, block.end())
     word = words[2][1] if len(words) > 2 else ""
     if word == "rank":
@@ -163,5 +171,7 @@ def _rotation(text: bytes, start: int, after: int) -> Optional[Finding]:
 
 
 def code_hint(code: int, numbers: tuple[int, ...]) -> str:
-    """What `error CODE ..` means."""
+    """What `error CODE ..` means. Code 12 has a second form, with a block before the node."""
+    if code == 12 and len(numbers) == 2:
+        return LOCKED_IN_BLOCK.format(*numbers)
     return CODES.get(code, "docs/COMMANDS.md has the codes").format(*numbers, "", "", "")

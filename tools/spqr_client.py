@@ -24,12 +24,12 @@ import networkx as nx
 
 from spqr_program import ProgramError, Ran, Refused, program_path, run_bytes, run_files
 from spqr_report import (Answer, Answered, Block, Certificate, Command, Count, Document, Drawing, End, Ends, Error, Euler, Faces, Item, Listed,
-                         Lists, Longest, Move, Moves, Node, Ok, Path, Rank, Report, ReportError, Rotation, commands_of, lists_of_text,
-                         read_report, text_of_lists)
+                         ListedWhole, Lists, Longest, Move, Moves, Node, Ok, Path, Rank, Regroup, Report, ReportError, Rotation, Whole,
+                         commands_of, lists_of_text, read_report, text_of_lists)
 
 __all__ = ["Answer", "Answered", "Block", "Certificate", "Command", "Count", "Document", "Drawing", "End", "Ends", "Error", "Euler", "Faces",
-           "Item", "Listed", "Lists", "Longest", "Move", "Moves", "Named", "Node", "NotPlanar", "Ok", "Path", "ProgramError", "Ran", "Rank",
-           "Refused", "Report", "ReportError", "Rotation", "block_cut_tree", "block_graph", "commands_of", "drop_vertex", "embed",
+           "Item", "Listed", "ListedWhole", "Lists", "Longest", "Move", "Moves", "Named", "Node", "NotPlanar", "Ok", "Path", "ProgramError", "Ran", "Rank",
+           "Refused", "Regroup", "Report", "ReportError", "Rotation", "Whole", "block_cut_tree", "block_graph", "commands_of", "drop_vertex", "embed",
            "face_with", "gml_of", "gml_of_ends", "lists_of", "lists_of_text", "planar_embedding", "program_path", "read_report", "run", "run_bytes", "run_files",
            "run_graph", "skeleton", "text_of_lists", "tree_of", "whole_graph", "whole_lists"]
 

@@ -14,6 +14,8 @@ from typing import Callable, Optional, Union
 Lists = dict[int, tuple[int, ...]]
 Ends = dict[int, tuple[int, int]]
 
+ON_COMPONENTS = ("whole", "nextwhole", "listwhole", "convertwhole")
+
 
 class ReportError(ValueError):
     """The bytes are not a report that this module knows, or not one on this script."""
@@ -110,6 +112,21 @@ class Listed:
 
 
 @dataclass(frozen=True)
+class Whole:
+    """The answer of `whole`, and a member that `listwhole` prints: the rotation system of a component."""
+    component: int
+    lists: Lists
+
+
+@dataclass(frozen=True)
+class ListedWhole:
+    """The answer of `listwhole`; `more` where another member follows these."""
+    component: int
+    members: tuple[Whole, ...]
+    more: bool
+
+
+@dataclass(frozen=True)
 class Count:
     members: int
 
@@ -134,9 +151,20 @@ class Move:
 
 
 @dataclass(frozen=True)
+class Regroup:
+    """The edges around a cut vertex in another order. `command` is the line of a script that makes it."""
+    vertex: int
+    edges: tuple[int, ...]
+
+    @property
+    def command(self) -> str:
+        return " ".join(map(str, ("regroup", self.vertex, *self.edges)))
+
+
+@dataclass(frozen=True)
 class Moves:
-    """The answer of `convert`."""
-    moves: tuple[Move, ...]
+    """The answer of `convert` and of `convertwhole`; only the latter has lines that regroup."""
+    moves: tuple[Union[Move, Regroup], ...]
 
 
 @dataclass(frozen=True)
@@ -166,7 +194,7 @@ class Ok:
 
 @dataclass(frozen=True)
 class End:
-    """The answer of `next` at the last member."""
+    """The answer of `next` and `nextwhole` at the last member."""
 
 
 @dataclass(frozen=True)
@@ -176,7 +204,7 @@ class Error:
     numbers: tuple[int, ...]
 
 
-Answer = Union[Euler, Rotation, Faces, Listed, Count, Rank, Moves, Longest, Drawing, Document, Ok, End, Error]
+Answer = Union[Euler, Rotation, Faces, Listed, Whole, ListedWhole, Count, Rank, Moves, Longest, Drawing, Document, Ok, End, Error]
 
 
 @dataclass(frozen=True)
@@ -188,7 +216,13 @@ class Command:
     @property
     def block(self) -> Optional[int]:
         """The block that the command names, where it names one."""
-        named = len(self.words) > 1 and self.words[0] != "euler"
+        named = len(self.words) > 1 and self.words[0] not in ("euler", "regroup", *ON_COMPONENTS)
+        return int(self.words[1]) if named else None
+
+    @property
+    def component(self) -> Optional[int]:
+        """The component that the command names, where it names one."""
+        named = len(self.words) > 1 and self.words[0] in ON_COMPONENTS
         return int(self.words[1]) if named else None
 
 
@@ -243,7 +277,7 @@ def lists_of_text(text: str) -> Lists:
 
 
 def text_of_lists(lists: Lists) -> str:
-    """The text of a rotation system, for `euler`, `take` and `convert .. to`."""
+    """The text of a rotation system, for `euler`, `take`, `convert .. to` and `convertwhole`."""
     return "; ".join(" ".join([f"{vertex}:", *map(str, lists[vertex])]) for vertex in sorted(lists))
 
 
@@ -362,6 +396,11 @@ def _rotation(reader: _Reader) -> Rotation:
     return Rotation(int(before.split()[1]), lists_of_text(text))
 
 
+def _whole(reader: _Reader) -> Whole:
+    before, _, text = reader.line().partition("|")
+    return Whole(int(before.split()[1]), lists_of_text(text))
+
+
 def _euler(reader: _Reader, _: Command) -> Euler:
     *numbers, plane = reader.words("euler")
     return Euler(*map(int, numbers), plane == "plane")
@@ -382,14 +421,31 @@ def _listed(reader: _Reader, _: Command) -> Listed:
     return Listed(block, members, reader.line() == "more")
 
 
+def _listed_whole(reader: _Reader, _: Command) -> ListedWhole:
+    component, total = map(int, reader.words("listwhole"))
+    members = tuple(_whole(reader) for _ in range(total))
+    return ListedWhole(component, members, reader.line() == "more")
+
+
 def _moves(reader: _Reader, command: Command) -> Moves:
     total = int(reader.words("moves")[0])
-    return Moves(tuple(_move(reader.line().split(" "), command.block) for _ in range(total)))
+    lines = [reader.line().split(" ") for _ in range(total)]
+    if command.component is not None:
+        return Moves(tuple(_whole_move(words) for words in lines))
+    return Moves(tuple(_move(words, command.block) for words in lines))
+
+
+def _whole_move(words: list[str]) -> Union[Move, Regroup]:
+    """A line of `convertwhole`: a move with its block, or the edges around a vertex."""
+    if words[0] == "regroup":
+        return Regroup(int(words[1]), tuple(map(int, words[2:])))
+    return _move([words[0], *words[2:]], int(words[1]))
 
 
 def _longest(reader: _Reader, command: Command) -> Longest:
     length = int(reader.words("longest")[0])
-    return Longest(length, _moves(reader, command).moves)
+    total = int(reader.words("moves")[0])
+    return Longest(length, tuple(_move(reader.line().split(" "), command.block) for _ in range(total)))
 
 
 def _drawing(reader: _Reader, _: Command) -> Drawing:
@@ -422,6 +478,8 @@ _ANSWERS: dict[str, Callable[[_Reader, Command], Answer]] = {
     "rotation": lambda reader, _: _rotation(reader),
     "faces": _faces,
     "list": _listed,
+    "whole": lambda reader, _: _whole(reader),
+    "listwhole": _listed_whole,
     "count": lambda reader, _: Count(int(reader.words("count")[0])),
     "rank": lambda reader, _: Rank(int(reader.words("rank")[0])),
     "moves": _moves,

@@ -12,11 +12,12 @@ import networkx as nx
 import spqr_client as spqr
 from drawing import layout
 from graphs import graphs
-from spqr_client import Block, Document, Ends, Faces, Listed, Lists, Named, Node, Report
+from spqr_client import Block, Document, Ends, Faces, Listed, ListedWhole, Lists, Named, Node, Report, Whole
 
 TOTAL = 200
 SEED = 44
 LISTED = 12
+LISTED_WHOLE = 60
 EXAMPLES = Path(__file__).resolve().parent.parent.parent / "examples"
 
 
@@ -164,6 +165,26 @@ class OnGraphs(unittest.TestCase):
             choices = [2 if node.kind == "R" else math.factorial(len(node.items) - 1) if node.kind == "P" else 1 for node in block.nodes]
             self.assertEqual(answers[spqr.Count].members, math.prod(choices))
 
+    def test_components(self) -> None:
+        """The members of a component are plane, different, and as many as blocks and arrangements have together."""
+        for graph, named in self.each():
+            if not named.report.is_planar:
+                continue
+            parts = sorted(nx.connected_components(spqr.whole_graph(named.report)), key=min)
+            script = [f"whole {c}\nlistwhole {c} {LISTED_WHOLE}" for c in range(len(parts))] + [f"whole {len(parts)}"]
+            *answers, last = spqr.run_graph(graph, "\n".join(script)).report.answers
+            self.assertEqual(last, spqr.Error(14, ()))
+            for place, part in enumerate(parts):
+                first, listed = answers[2 * place:2 * place + 2]
+                self.assertEqual((type(first), type(listed), first.component), (Whole, ListedWhole, place))
+                texts = [spqr.text_of_lists(member.lists) for member in (first, *listed.members)]
+                count = _members(named.report, part)
+                ends = {edge: pair for edge, pair in named.report.ends().items() if pair[0] in part}
+                self.assertEqual((len(set(texts)), len(texts), listed.more), (len(texts), min(count, LISTED_WHOLE + 1), count > LISTED_WHOLE + 1))
+                for member in (first, *listed.members):
+                    self.assertEqual(set(member.lists), part)
+                    spqr.planar_embedding(member.lists, ends, subdivide=True).check_structure()
+
     def test_document_is_the_graph(self) -> None:
         for graph, named in self.each():
             text = next(answer.text for answer in named.report.answers if isinstance(answer, Document))
@@ -204,6 +225,19 @@ class OnGraphs(unittest.TestCase):
                 angles = [math.atan2(y - here[1], x - here[0]) for x, y in toward]
                 falls = sum(angles[place] <= angles[place - 1] for place in range(len(angles)))
                 self.assertEqual(falls, 1)
+
+
+def _members(report: Report, part: set[int]) -> int:
+    """How many plane rotation systems a component has: of its blocks, and of each the arrangements at its cut vertices. k blocks with d1,
+    .., dk of the D edges at a vertex have d1 * .. * dk * (D - 1) * .. * (D - k + 2) arrangements there."""
+    total = 1
+    blocks = [block for block in report.blocks if set(block.vertices()) <= part]
+    for node in (node for block in blocks for node in block.nodes):
+        total *= 2 if node.kind == "R" else math.factorial(len(node.items) - 1) if node.kind == "P" else 1
+    for vertex in part:
+        degrees = [sum(vertex in pair for pair in block.ends().values()) for block in blocks if vertex in block.vertices()]
+        total *= math.prod(degrees) * math.prod(sum(degrees) - 1 - place for place in range(len(degrees) - 2)) if len(degrees) > 1 else 1
+    return total
 
 
 def _is_of_kind(node: Node, graph: nx.MultiGraph) -> bool:
@@ -322,6 +356,24 @@ class Alone(unittest.TestCase):
         moves = spqr.run(data, "convert 0 rank 47").answers[0].moves
         script = "\n".join([*(move.command for move in moves), "rank 0"])
         self.assertEqual(spqr.run(data, script).answers[-1], spqr.Rank(47))
+
+    def test_moves_of_components_are_commands(self) -> None:
+        """From the start of an example to each other member, by the lines of `convertwhole`."""
+        data = (EXAMPLES / "components_converted.gml").read_bytes()
+        members = spqr.run(data, "listwhole 0 10000").answers[0].members
+        self.assertEqual(len(members), 23)
+        kinds = set()
+        for member in members:
+            moves = spqr.run(data, f"convertwhole 0 {spqr.text_of_lists(member.lists)}").answers[0].moves
+            kinds |= set(map(type, moves))
+            answers = spqr.run(data, "\n".join([*(move.command for move in moves), "whole 0"])).answers
+            self.assertEqual(answers, (*[spqr.Ok()] * len(moves), member))
+        self.assertEqual(kinds, {spqr.Move, spqr.Regroup})
+
+    def test_components_and_blocks_of_commands(self) -> None:
+        script = b"show 3\nwhole 1\nregroup 4 0 1\nlistwhole 2 5\neuler\nundo\n"
+        self.assertEqual([(one.block, one.component) for one in spqr.commands_of(script)],
+                         [(3, None), (None, 1), (None, None), (None, 2), (None, None), (None, None)])
 
     def test_a_face_with_vertices(self) -> None:
         """For all pairs and some triples of the house: the face is there, or no member of the whole list has it."""

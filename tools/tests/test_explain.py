@@ -62,6 +62,16 @@ SCRIPTS = [
     (b"convert 0 to 0: 4294967296", 1, 14, "out of range"),
     ("show\u00a00".encode(), 1, 5, "no-break space"),
     (b"count " + b"9" * 5000, 1, 7, "out of range"),
+    (b"whole", 1, 6, "the form is: whole C"),
+    (b"whole 0 1", 1, 9, "takes nothing more"),
+    (b"nextwole 0", 1, 1, "is it `nextwhole`?"),
+    (b"regroup 0", 1, 10, "the form is: regroup V EDGES"),
+    (b"regroup 0 1,2", 1, 11, "no commas"),
+    (b"regroup 0 1 4294967296", 1, 13, "an edge is from 0"),
+    (b"listwhole 0 0", 1, 13, "from 1 to 10000"),
+    (b"convertwhole", 1, 13, "a component is missing"),
+    (b"convertwhole 0: 1", 1, 15, "not an entry"),
+    (b"convertwhole 0 1: 1 2; 0: 0", 1, 24, "not above the one before"),
 ]
 
 
@@ -119,12 +129,13 @@ class Explained(unittest.TestCase):
             self.assertIn("1,048,577 bytes", text)
 
     def test_refused_commands_have_their_lines(self) -> None:
-        status, text = explained(f"{EXAMPLES}/each_code_in_order.gml", f"{EXAMPLES}/each_code_in_order.spqr")
-        self.assertEqual(status, 0)
-        errors = [line for line in (EXAMPLES / "each_code_in_order.out").read_text().splitlines() if line.startswith("error ")]
-        for error in errors:
-            self.assertIn(f": {error}\n", text)
-        self.assertEqual(text.count("  hint: "), len(errors))
+        for name in ("each_code_in_order", "codes_of_components"):
+            status, text = explained(f"{EXAMPLES}/{name}.gml", f"{EXAMPLES}/{name}.spqr")
+            self.assertEqual(status, 0)
+            errors = [line for line in (EXAMPLES / f"{name}.out").read_text().splitlines() if line.startswith("error ")]
+            for error in errors:
+                self.assertIn(f": {error}\n", text)
+            self.assertEqual(text.count("  hint: "), len(errors))
 
     def test_a_quote_that_is_read_silently(self) -> None:
         with tempfile.TemporaryDirectory() as folder:

@@ -4,7 +4,11 @@ ghost use Rattle.std.specs.Prelude.{◌<◌};
 mod commands;
 mod devices;
 mod hostile;
+mod rows;
 mod starts;
+mod whole;
+mod whole_graphs;
+mod whole_history;
 
 use spqr_edge::{MemFile, MemShelf, MemSink};
 use spqr_run::run::run;

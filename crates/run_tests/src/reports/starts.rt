@@ -35,7 +35,7 @@ const K4_AT_THREE: &[u8] =
     edge [ source 1 target 2 ] edge [ source 1 target 3 ] edge [ source 2 target 3 ] ]";
 
 // Two K4 at vertex 3. There the edges of the two blocks are mixed; the second block is not plane in the second file.
-const TWO_K4: &[u8] =
+pub(crate) const TWO_K4: &[u8] =
     b"graph [ node [ id 0 spqrRotation \"1 2 0\" ] node [ id 1 spqrRotation \"0 4 3\" ] \
     node [ id 2 spqrRotation \"1 3 5\" ] node [ id 3 spqrRotation \"6 2 8 5 7 4\" ] \
     node [ id 4 spqrRotation \"6 9 10\" ] node [ id 5 spqrRotation \"7 11 9\" ] node [ id 6 spqrRotation \"8 10 11\" ] \
