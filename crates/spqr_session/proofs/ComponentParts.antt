@@ -20,7 +20,7 @@ use Rattle.arrangements.proofs.Lists.{all-passes}
 use Rattle.kuratowski.specs.declared.subdivision.Subdivision.{Subdivision}
 use Rattle.faces.specs.Euler.{IsPlaneSystem}
 use Rattle.skeletons.specs.Items as items
-use Rattle.whole_embed.specs.Component.{Component, BlockInPlane, component_vertices, component_of, IsComponentInPlane}
+use Rattle.whole_embed.specs.Component.{Component, BlockInPlane, component_vertices, component_of, AreInPlane, IsComponentInPlane}
 use Rattle.whole_embed.specs.Around.{edges_around}
 use Rattle.whole_embed.specs.Whole.{AreArranged}
 use Rattle.whole_embed.proofs.Components.{block-in, vertex-in, in-vertex, edge-in, edge-component, in-cut, cut-in}
@@ -120,7 +120,22 @@ module _ (setting : Setting) (is : IsSetting setting) where
         → (e : Embedding) × (slice_index_or entries b None ≡ Some e) × IsPlaneSystem (tree_at setting.trees b).part.graph e.rotation × (length e.locks ≡ length (tree_at setting.trees b).nodes)
     block-embedding b m = planar-embedding (tree_at setting.trees b) (certificate_at setting.certificates b) (slice_index_or entries b None) (block-planar c b planar m) (each b (block-there c b m))
 
-    -- so the component is one in the plane
+    -- what holds of a block with its embedding
+    seen : (b : ℕ) → is_member b (component_at setting c).blocks ≡ true → (P : BlockInPlane → Type 0)
+        → ((e : Embedding) → slice_index_or entries b None ≡ Some e → IsPlaneSystem (tree_at setting.trees b).part.graph e.rotation → length e.locks ≡ length (tree_at setting.trees b).nodes → P (block_with_entry (tree_at setting.trees b) (Some e)))
+        → P (blocks_with setting.trees entries b)
+    seen b m P f = let w = block-embedding b m in subst (λ (o : Option Embedding). P (block_with_entry (tree_at setting.trees b) o)) (sym w.1) (f w.0 w.1 w.2 w.3)
+
+    -- so its blocks are in the plane
+    pub blocks-in_plane : AreInPlane setting.named.graph setting.structure c (blocks_with setting.trees entries)
+    blocks-in_plane = record {
+      parts = λ b m. seen b m (λ k. IsPart g (block_at s.blocks b) k.part) (λ e p h n. let w = block-in g s c is.structure b m in let t = is.trees.each b w.0 in t.part);
+      trees = λ b m. seen b m (λ k. items.IsBlockTree k.part.graph k.nodes) (λ e p h n. setting-tree setting is b (block-there c b m));
+      planes = λ b m. seen b m (λ k. IsPlaneSystem k.part.graph k.rotation) (λ e p h n. h);
+      locks = λ b m. seen b m (λ k. length k.locks ≡ length k.nodes) (λ e p h n. n);
+    }
+
+    -- and the component is one in the plane
     pub component-in_plane : c < setting.structure.component_count → IsComponentInPlane (component_at setting c) (blocks_with setting.trees entries)
     component-in_plane l = record {
       graph = g;
@@ -131,22 +146,8 @@ module _ (setting : Setting) (is : IsSetting setting) where
       is_structure = is.structure;
       within = l;
       component = refl;
-      blocks = record {
-        parts = λ b m.
-            let w = block-in g s c is.structure b m in
-            let t = is.trees.each b w.0 in
-            seen b m (λ k. IsPart g (block_at s.blocks b) k.part) (λ e p h n. t.part);
-        trees = λ b m. seen b m (λ k. items.IsBlockTree k.part.graph k.nodes) (λ e p h n. setting-tree setting is b (block-there c b m));
-        planes = λ b m. seen b m (λ k. IsPlaneSystem k.part.graph k.rotation) (λ e p h n. h);
-        locks = λ b m. seen b m (λ k. length k.locks ≡ length k.nodes) (λ e p h n. n);
-      };
+      blocks = blocks-in_plane;
     }
-      where
-        -- what holds of a block with its embedding
-        seen : (b : ℕ) → is_member b (component_at setting c).blocks ≡ true → (P : BlockInPlane → Type 0)
-            → ((e : Embedding) → slice_index_or entries b None ≡ Some e → IsPlaneSystem (tree_at setting.trees b).part.graph e.rotation → length e.locks ≡ length (tree_at setting.trees b).nodes → P (block_with_entry (tree_at setting.trees b) (Some e)))
-            → P (blocks_with setting.trees entries b)
-        seen b m P f = let w = block-embedding b m in subst (λ (o : Option Embedding). P (block_with_entry (tree_at setting.trees b) o)) (sym w.1) (f w.0 w.1 w.2 w.3)
 
 -- lists at the cut vertices of a component whose blocks are planar
 pub lists-there : (k : Component) (block : ℕ → BlockInPlane) (planar : Bool) (o : Option (List (List ℕ))) → planar ≡ true → AreArrangements k block planar o → (lists : List (List ℕ)) × (o ≡ Some lists) × AreArranged k block lists
