@@ -15,8 +15,3 @@ pub mod Take
 pub mod Convert
 pub mod Longest
 pub mod Draw
-pub mod Whole
-pub mod Regroup
-pub mod NextWhole
-pub mod ListWhole
-pub mod ConvertWhole

@@ -26,6 +26,7 @@ mod commands;
 mod embedded;
 mod fault;
 mod head;
+mod kept;
 pub mod laws;
 mod lines;
 mod making;
