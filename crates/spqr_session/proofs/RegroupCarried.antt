@@ -65,12 +65,12 @@ put-family setting family v l is right m t has = record {
 
 module _ (setting : Setting) (v : ℕ) (edges : List ℕ) (s : State) (is : IsSetting setting) (right : IsState setting s) where
   pub regroup-answers : (text : List ℕ) × (after : State) × RegroupStep setting v edges s text after
-  regroup-answers = elim (regroup-found setting v edges s is right.present) [
+  regroup-answers = elim (regroup-found setting v edges s is right.present.each) [
     | inl found ↦ (code_text found.0, s, inl (record { code = found.0; lowest = found.1; line = refl; stays = refl }))
     | inr found ↦ (
       ok_text,
       with_family s (list_put setting v (from_least edges) s.present),
-      inr (arranged-none setting v edges s is right.present found.0 found.1, record { orders = found.0; arranged = found.1; after_is = refl; answer = refl }),
+      inr (arranged-none setting v edges s is right.present.each found.0 found.1, record { orders = found.0; arranged = found.1; after_is = refl; answer = refl }),
     )
   ]
 

@@ -18,14 +18,15 @@ use Rattle.whole_embed.specs.Around.{edges_around, block_with, block_order, arra
 use Rattle.whole_embed.proofs.Assembly.{assembled}
 use Rattle.whole_embed.proofs.Reasons.{around-order}
 use Rattle.spqr_session.specs.Setting.{Setting, IsSetting}
-use Rattle.spqr_session.specs.State.{Family, State, IsFamily, component_at, is_planar_component}
+use Rattle.spqr_session.specs.State.{Family, State, component_at, is_planar_component}
 use Rattle.spqr_session.specs.Codes.{code_number, code_numbers, IsLowest, NoneApplies}
 use Rattle.spqr_session.specs.Components.{blocks_of}
 use Rattle.spqr_session.specs.Commands.Regroup.{component_number, OrdersEdges, KeepsOrders, RegroupApplies}
+use Rattle.spqr_session.specs.Wholes.{AreEntries}
 use Rattle.spqr_session.specs.declared.code.Code.{Code}
 use Rattle.spqr_session.specs.declared.code.Code.TheVariants.{NoBlock, NoNode, WrongKind, BadOrder, NonPlanar, BadRotation, NotGenusZero, NothingToUndo, NothingToRedo, CountOver, RankOut, Locked, LockedIn, Parallel, NoComponent, NoCut, BlockOrder, Cross}
 use Rattle.spqr_session.proofs.Carried.{TellsOne}
-use Rattle.spqr_session.proofs.ComponentParts.{component-below, cut-there, around-rises, around-cut, family-in_plane}
+use Rattle.spqr_session.proofs.ComponentParts.{component-below, cut-there, around-rises, around-cut, component-in_plane}
 
 -- there is one least block whose cyclic order is changed
 pub changed-one : (block : ℕ → ℕ) (order : ℕ → List ℕ) (l : List ℕ) (b c : ℕ) → IsLeastChanged block order l b → IsLeastChanged block order l c → b ≡ c
@@ -208,10 +209,10 @@ module _ (setting : Setting) (v : ℕ) (edges : List ℕ) (s : State) where
 
   -- ---- on a setting
 
-  module _ (is : IsSetting setting) (right : IsFamily setting s.present) where
+  module _ (is : IsSetting setting) (right : AreEntries setting s.present.entries) where
     -- with its blocks the component is in the plane
     pub regroup-in_plane : v < setting.named.graph.vertex_count → is_planar_component setting (component_number setting v) ≡ true → IsComponentInPlane (component_at setting (component_number setting v)) (blocks_of setting s.present)
-    regroup-in_plane l t = family-in_plane setting s.present right (component_number setting v) (component-below setting is v l) t is
+    regroup-in_plane l t = component-in_plane setting is s.present.entries right (component_number setting v) t (component-below setting is v l)
 
     module _ (h : OrdersEdges setting v edges) where
       inside : v < setting.named.graph.vertex_count

@@ -1,6 +1,6 @@
 -- The blocks on the board as calls on components have them, and components with these and with the lists that are kept.
 use mathlib.Core.Path.{fun_ext}
-use Rattle.std.proofs.Common.{◌≡◌, ◌≢◌, ℕ, ◌+◌, ◌<◌, ◌≤◌, Bool, true, false, List, [], ◌∷◌, ◌++◌, length, map, get_or, slice_index, slice_index_or, slice_set, Option, None, Some, inl, inr, refl, sym, ap, ◌∙◌, subst, arith, length-append, eq-eqb, eqb-true}
+use Rattle.std.proofs.Common.{◌≡◌, ◌≢◌, ℕ, zero, suc, ◌+◌, ◌<◌, ◌≤◌, Bool, true, false, List, [], ◌∷◌, ◌++◌, length, map, get_or, slice_index, slice_index_or, slice_set, Option, None, Some, inl, inr, refl, sym, ap, ◌∙◌, subst, arith, length-append, eq-eqb, eqb-true}
 use Rattle.std.proofs.Math.Seq.{get_or-append_seam}
 use Rattle.std.proofs.lemmas.Bool.{cases_eq, cases_lt, true≢false, false_from_ne_true}
 use Rattle.std.proofs.lemmas.List.{get_or_append_left, get_or_past, length-map, length-set, get_or-set_same, get_or-set_other, get_or-map}
@@ -31,7 +31,7 @@ use Rattle.spqr_session.specs.State.{Embedding, IsFamily, component_at, lacks_ce
 use Rattle.spqr_session.specs.Embedded.{BlockView, view_tree, view_entry, block_view, IsEmbedded, no_view, view_at}
 use Rattle.spqr_session.specs.Kept.{Kept, list_or_first, lists_kept, family_of}
 use Rattle.spqr_session.specs.Wholes.{IsMemberOf, AreMembersOf, AreEntries, ArePlanarBelow, HasBlocks, IsFirstComponent, IsPresentComponent, AreOrdersKept, AreSetTo}
-use Rattle.spqr_session.proofs.Views.{trees-at, entries-at}
+use Rattle.spqr_session.proofs.Views.{trees-at}
 use Rattle.spqr_session.proofs.ComponentParts.{block-there, block-embedding, blocks-in_plane, component-in_plane, family-arranged, family-in_plane, kept-lists}
 use Rattle.spqr_session.proofs.KeptLists.{lists-are, lists-at, kept-is, kept-order}
 
@@ -81,19 +81,22 @@ members-more views n all more m f is e = subst (AreMembersOf views (n + 1)) (sym
     last : (k : ℕ) → length all ≡ k → member_at (all ++ m ∷ []) k ≡ m
     last k c = subst (λ (k : ℕ). member_at (all ++ m ∷ []) k ≡ m) c (get_or-append_seam all m [] (record { part = no_part; plane = None }))
 
+-- the entry of block b
+pub entry-seen : (views : List BlockView) (b : ℕ) → slice_index_or (map view_entry views) b None ≡ (view_at views b).entry
+entry-seen [] b = refl
+entry-seen (v ∷ views) zero = refl
+entry-seen (v ∷ views) (suc b) = entry-seen views b
+
 module _ (views : List BlockView) (all : List Member) (are : AreMembersOf views (length views) all) where
   -- block b of the list of all blocks is the one on the board
   pub block-same : (b : ℕ) → blocks_in all b ≡ blocks_with (map view_tree views) (map view_entry views) b
   block-same b = elim (cases_lt b (length views)) [
     | inl l ↦
         (are.each b l).block
-        ∙ (λ i. block_with_entry (sym (trees-at views b) i) (sym (entry-seen b) i))
+        ∙ (λ i. block_with_entry (sym (trees-at views b) i) (sym (entry-seen views b) i))
     | inr n ↦ outside b (omega (arith, n))
   ]
     where
-      entry-seen : (b : ℕ) → slice_index_or (map view_entry views) b None ≡ (view_at views b).entry
-      entry-seen b = entries-at views b
-
       outside : (b : ℕ) → length views ≤ b → blocks_in all b ≡ blocks_with (map view_tree views) (map view_entry views) b
       outside b l =
           ap (λ (m : Member). in_plane m.part m.plane) (get_or_past all b (record { part = no_part; plane = None }) (omega (arith, l, are.one_each)))
@@ -109,7 +112,7 @@ module _ (views : List BlockView) (all : List Member) (are : AreMembersOf views 
     plane = λ b m.
         let w = block-embedding setting is (map view_entry views) each c t b m in
         let v = are.each b (below b m) in
-        v.plane w.0 (sym (entries-at views b) ∙ w.1);
+        v.plane w.0 (sym (entry-seen views b) ∙ w.1);
   }
     where
       below : (b : ℕ) → is_member b (component_at setting c).blocks ≡ true → b < length views

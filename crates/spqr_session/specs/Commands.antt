@@ -15,3 +15,5 @@ pub mod Take
 pub mod Convert
 pub mod Longest
 pub mod Draw
+pub mod Whole
+pub mod Regroup

@@ -1,6 +1,7 @@
 -- Components with the blocks and the lists on the board, as calls on components have them. Contracts of private functions cite these.
-use Rattle.std.specs.Prelude.{◌≡◌, ℕ, ◌<◌, ◌≤◌, true, List, length, map, slice_index, slice_index_or, Option, None, Some, Contains}
+use Rattle.std.specs.Prelude.{◌≡◌, ℕ, ◌<◌, ◌≤◌, ◌⊎◌, true, List, [], length, map, slice_index, slice_index_or, slice_set, Option, None, Some, Contains, IsPermutation}
 use Rattle.permutations.specs.Cyclic.{from_least}
+use Rattle.multigraph.specs.Graph.{Multigraph, incident_edges}
 use Rattle.rotations.specs.Rotation.{IsCyclicOrder}
 use Rattle.blocks.specs.Blocks.{block_at}
 use Rattle.skel_embed.specs.Block.{BlockState}
@@ -15,12 +16,15 @@ use Rattle.spqr_session.specs.Certificates.{certificate_at}
 use Rattle.spqr_session.specs.Setting.{Setting}
 use Rattle.spqr_session.specs.State.{Embedding, Family, State, arrangements_in, IsEntry, component_at, lacks_certificate, is_planar_component, block_with_entry, blocks_with, first_lists}
 use Rattle.spqr_session.specs.Kept.{Kept, list_or_first, family_of}
+use Rattle.spqr_script.specs.Answers.Change.{ok_text}
 use Rattle.spqr_session.specs.Embedded.{BlockView, view_at}
-use Rattle.spqr_session.specs.Codes.{IsLowest, NoneApplies}
+use Rattle.spqr_session.specs.Board.{BoardView, kept_on, GoesTo}
+use Rattle.spqr_session.specs.Codes.{IsLowest, NoneApplies, code_text}
 use Rattle.spqr_session.specs.Components.{blocks_of}
 use Rattle.spqr_session.specs.Commands.Regroup.{component_number, OrdersEdges, RegroupApplies}
 use Rattle.spqr_session.specs.Commands.Whole.{IsWhole}
 use Rattle.spqr_session.specs.declared.code.Code.{Code}
+use Rattle.spqr_session.specs.declared.code.Code.TheVariants.{BadRotation, NoCut}
 use Rattle.spqr_session.specs.declared.commands.regroup.Regrouping.{Regrouping}
 use Rattle.spqr_session.specs.declared.commands.regroup.Regrouping.TheVariants.{Refused, Arranged}
 
@@ -89,3 +93,16 @@ pub record IsWholeTold (setting : Setting) (c : ℕ) (family : Family) (text : L
 abbrev pub IsRegrouping : Setting → ℕ → List ℕ → State → Regrouping → Type 0
 IsRegrouping setting v edges s (Refused code) = IsLowest (RegroupApplies setting v edges s) code
 IsRegrouping setting v edges s (Arranged list) = IsArrangementFor setting v edges s list
+
+-- what is kept with this list at vertex v
+abbrev pub kept_arranged : List BlockView → List (Option (List ℕ)) → ℕ → List ℕ → Kept
+kept_arranged views lists v l = kept_on views (slice_set lists v (Some l))
+
+-- this is done: the line of the code, and nothing changes; or `ok`, and the list is kept at vertex v
+abbrev pub IsRegrouped : ℕ → Regrouping → BoardView → List ℕ → BoardView → Type 0
+IsRegrouped v (Refused code) before text after = (text ≡ code_text code) × (after ≡ before)
+IsRegrouped v (Arranged list) before text after = (text ≡ ok_text) × GoesTo before (kept_arranged before.views before.lists v list) after
+
+-- code 6 of a list for a vertex that is no ordering of its edges, and else code 15
+abbrev pub IsElsewhere : Multigraph → ℕ → List ℕ → Code → Type 0
+IsElsewhere g v edges code = ((IsPermutation (incident_edges g v) edges → ⊥) × (code ≡ BadRotation v)) ⊎ (IsPermutation (incident_edges g v) edges × (code ≡ NoCut))

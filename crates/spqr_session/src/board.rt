@@ -6,16 +6,18 @@ ghost use Rattle.undo_log.specs.History.{IsStepAt};
 ghost use Rattle.undo_log.specs.declared.step.Step.{Step};
 ghost use Rattle.spqr_session.specs.State.{Embedding};
 ghost use Rattle.spqr_session.specs.Kept.{Kept};
-ghost use Rattle.spqr_session.specs.Embedded.{view_tree, view_certificate, view_entry, view_at, IsInPlane};
+ghost use Rattle.spqr_session.specs.Embedded.{BlockView, view_tree, view_certificate, view_entry, view_at, IsInPlane};
 ghost use Rattle.spqr_session.specs.Moved.{all_moved, LeadBack};
 ghost use Rattle.spqr_session.specs.History.{as_pairs, IsMoveOf, IsStepOf, pairs_moved, node_locked, entries_redone, entries_undone, lists_before, lists_after};
 ghost use Rattle.spqr_session.specs.Commands.History.{is_none};
 ghost use Rattle.spqr_session.specs.Commands.Lock.{with_lock};
 ghost use Rattle.spqr_session.specs.Board.{StandsAt, CanReplace, CanMake, AreMade, IsMirroredAt, IsChangedTo, GoesTo, LeadsTo, IsCarried, kept_with_entry, kept_changed, IsUndone, IsRedone};
+ghost use Rattle.spqr_session.specs.Wholes.{kept_arranged};
 
 use crate::embedded::EmbeddedBlock;
 use crate::kept::{KeptLists, lists_after, lists_before};
 use embed_convert::moves;
+use multigraph::Numbers;
 use skel_embed::{MoveList, Outcome, PlaneBlock};
 use std::alloc::{AllocError, Global};
 use std::marker::Model;
@@ -154,6 +156,16 @@ impl Board {
         self.carry(alloc, step)
     }
 
+    /// Keeps a list at vertex `v`. If memory runs out, everything is as before.
+    pub fn arrange(&mut self, alloc: Global, v: u32, list: Numbers) -> Result<(), AllocError>
+        ensures done { IfOk result (λ _. GoesTo self.old
+            (kept_arranged self.old.views self.old.lists v list) self.new) }
+        ensures memory { OnErr result (self.new ≡ self.old) }
+    {
+        let step = arranging(alloc, &self.lists, v, list)?;
+        self.carry(alloc, step)
+    }
+
     /// Goes back to what was nearest earlier. If memory runs out, everything is as before.
     pub fn undo(&mut self, alloc: Global) -> Result<(), AllocError>
         requires { is_none self.old.earlier ≡ false }
@@ -279,6 +291,23 @@ fn lock_step(blocks: &[EmbeddedBlock], b: u32, k: u32, on: bool) -> Step
         before: blocks[b as usize].locked(k),
         after: on,
     }
+}
+
+// The step that keeps a list at vertex v.
+fn arranging(
+    alloc: Global,
+    lists: &KeptLists,
+    v: u32,
+    list: Numbers,
+) -> Result<Step, AllocError>
+    ensures { (views : List BlockView) → IfOk result
+        (LeadsTo views lists.now (kept_arranged views lists.now v list)) }
+{
+    Ok(Step::Moves {
+        forth: BlockMoves::of(Vec::new(alloc)),
+        back: BlockMoves::of(Vec::new(alloc)),
+        cuts: lists.changed(alloc, v, list)?,
+    })
 }
 
 // ---- steps carried out

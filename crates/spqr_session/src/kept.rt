@@ -1,10 +1,10 @@
 // The lists that are kept at cut vertices.
-ghost use Rattle.std.specs.Prelude.{◌≡◌, ◌++◌, length, map, replicate, slice_index_or, slice_set, None, Some, IfOk, MatchOption};
+ghost use Rattle.std.specs.Prelude.{◌≡◌, ◌∷◌, ◌++◌, [], length, map, replicate, slice_index_or, slice_set, None, Some, IfOk, MatchOption};
 ghost use Rattle.std.specs.List.{concat};
 ghost use Rattle.spqr_session.specs.History.{list_after, list_before, lists_after, lists_before, lists_set};
 ghost use Rattle.spqr_session.specs.Board.{clearing, Clears};
 
-use multigraph::Part;
+use multigraph::{Numbers, Part};
 use std::alloc::{AllocError, Global};
 use std::marker::Model;
 use undo_log::{Arrangement, CutChange, CutChanges, SharedNumbers, Step};
@@ -61,6 +61,24 @@ impl KeptLists {
         if self.some {
             self.clear_all(&mut cuts, part)?;
         }
+        Ok(CutChanges::of(cuts))
+    }
+
+    /// The change that keeps a list at vertex `v`.
+    pub fn changed(&self, alloc: Global, v: u32, list: Numbers) -> Result<CutChanges, AllocError>
+        ensures { IfOk result (λ cuts. cuts ≡ record {
+          vertex = v;
+          before = slice_index_or self.now v None;
+          after = Some list;
+        } ∷ []) }
+    {
+        let before = self.shared(v)?;
+        let after = Some(SharedNumbers::of(alloc, list)?);
+        let cuts = vec![in alloc; CutChange {
+            vertex: v,
+            before,
+            after,
+        }]?;
         Ok(CutChanges::of(cuts))
     }
 

@@ -36,6 +36,7 @@ mod session;
 mod sorting;
 mod starting;
 mod texts;
+mod wholes;
 
 pub use fault::StartFault;
 pub use session::Session;

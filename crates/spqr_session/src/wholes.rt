@@ -115,6 +115,7 @@ pub(crate) fn first_component(
 {
     let all = members(alloc, blocks)?;
     let cuts = Cuts::first(alloc, scene.named.graph(), &scene.blocks, c, &all)?;
+    cuts.keeps();
     Ok((cuts, all))
 }
 

@@ -1,15 +1,14 @@
 // `regroup V EDGES`: another arrangement at a cut vertex.
-ghost use Rattle.std.specs.Prelude.{◌≡◌, ◌↔◌, ◌<◌, true, length, map, IfOk, OnErr, IsTrue, IsPermutation};
-ghost use Rattle.permutations.specs.Members.{is_member};
+ghost use Rattle.std.specs.Prelude.{◌≡◌, ◌↔◌, ◌<◌, true, [], length, map, slice_index_or, IfOk, OnErr, IsTrue, IsPermutation};
+ghost use Rattle.permutations.specs.Members.{is_member, place_of};
 ghost use Rattle.multigraph.specs.Graph.{incident_edges};
 ghost use Rattle.multigraph.specs.Part.{Rises};
 ghost use Rattle.spqr_session.specs.Setting.{IsSetting};
-ghost use Rattle.spqr_session.specs.State.{State, IsFamily, IsState, is_planar_component};
-ghost use Rattle.spqr_session.specs.Kept.{family_of};
+ghost use Rattle.spqr_session.specs.State.{State, is_planar_component};
 ghost use Rattle.spqr_session.specs.Embedded.{view_entry};
 ghost use Rattle.spqr_session.specs.Scene.{setting_on};
-ghost use Rattle.spqr_session.specs.Board.{board_state, kept_now, IsCarried};
-ghost use Rattle.spqr_session.specs.Wholes.{AreEntries, IsElsewhere, IsRegrouping};
+ghost use Rattle.spqr_session.specs.Board.{state_on, IsCarried, BelongTogether};
+ghost use Rattle.spqr_session.specs.Wholes.{AreEntries, IsElsewhere, IsRegrouping, IsRegrouped};
 ghost use Rattle.spqr_session.specs.Commands.Regroup.{component_number, RegroupStep};
 
 use crate::board::Board;
@@ -131,7 +130,6 @@ fn plan_regroup(
 
 // Carries out what is to be done.
 fn settle(alloc: Global, board: &mut Board, v: u32, planned: Regrouping) -> Result<Vec<u8>, AllocError>
-    requires { v < length board.old.lists }
     ensures done { IfOk result (λ text. IsRegrouped v planned board.old text.items board.new) }
     ensures memory { OnErr result (board.new ≡ board.old) }
 {
@@ -154,12 +152,10 @@ pub(crate) fn carry_regroup(
     v: u32,
     edges: &[u32],
 ) -> Result<Vec<u8>, AllocError>
-    requires setting { IsSetting (setting_on scene.now board.old.views) }
-    requires state { IsState (setting_on scene.now board.old.views)
-        (board_state (setting_on scene.now board.old.views) board.old) }
+    requires { BelongTogether scene.now board.old }
     ensures step { IfOk result (λ text. RegroupStep (setting_on scene.now board.old.views) v edges.now
-        (board_state (setting_on scene.now board.old.views) board.old) text.items
-        (board_state (setting_on scene.now board.old.views) board.new)) }
+        (state_on scene.now board.old.views board.old) text.items
+        (state_on scene.now board.old.views board.new)) }
     ensures setting { IsCarried board.old.views board.new.views }
     ensures memory { OnErr result (board.new ≡ board.old) }
 {

@@ -1,10 +1,10 @@
 // `whole C`: the present rotation system of a component.
 ghost use Rattle.std.specs.Prelude.{◌≡◌, ◌<◌, true, IfOk};
 ghost use Rattle.spqr_session.specs.Setting.{IsSetting};
-ghost use Rattle.spqr_session.specs.State.{IsFamily, IsState, is_planar_component};
+ghost use Rattle.spqr_session.specs.State.{IsFamily, is_planar_component};
 ghost use Rattle.spqr_session.specs.Kept.{family_of};
 ghost use Rattle.spqr_session.specs.Scene.{setting_on};
-ghost use Rattle.spqr_session.specs.Board.{board_state, kept_now};
+ghost use Rattle.spqr_session.specs.Board.{state_on, kept_now, BelongTogether};
 ghost use Rattle.spqr_session.specs.Wholes.{IsWholeTold};
 ghost use Rattle.spqr_session.specs.Commands.Whole.{WholeStep};
 
@@ -39,12 +39,10 @@ pub(crate) fn carry_whole(
     board: &Board,
     c: u32,
 ) -> Result<Vec<u8>, AllocError>
-    requires setting { IsSetting (setting_on scene.now board.now.views) }
-    requires state { IsState (setting_on scene.now board.now.views)
-        (board_state (setting_on scene.now board.now.views) board.now) }
+    requires { BelongTogether scene.now board.now }
     ensures { IfOk result (λ text. WholeStep (setting_on scene.now board.now.views) c
-        (board_state (setting_on scene.now board.now.views) board.now) text.items
-        (board_state (setting_on scene.now board.now.views) board.now)) }
+        (state_on scene.now board.now.views board.now) text.items
+        (state_on scene.now board.now.views board.now)) }
 {
     match component_code(scene, board.blocks(), c) {
         Some(code) => code.line(alloc),
