@@ -5,7 +5,6 @@ use Rattle.std.proofs.lemmas.List.{get_or-map, length-map}
 use Rattle.permutations.specs.Count.{count}
 use Rattle.permutations.specs.Members.{is_member, place_of}
 use Rattle.permutations.specs.Relation.{connected, leads, leader}
-use Rattle.permutations.proofs.Count.{count-yes, count-no}
 use Rattle.permutations.proofs.Leaders.{leader-related, leader-le, leader-leads}
 use Rattle.permutations.proofs.Relation.{connected-equivalence}
 use Rattle.multigraph.specs.Graph.{Multigraph, incident_edges, numbers_below, is_end, IsGraph, IsWithinLimits}
@@ -50,10 +49,12 @@ entry-part tree (Some e) = refl
 count-below : (n l : ℕ) (p : ℕ → Bool) → l < n → p l ≡ true → count l p < count n p
 count-below zero l p h t = absurd (omega (arith, h))
 count-below (suc n) l p h t = elim (cases_eq l n) [
-  | inl q ↦ omega (arith, ap (λ (z : ℕ). count z p) q, count-yes n p (subst (λ (z : ℕ). p z ≡ true) q t))
+  | inl q ↦
+      let last : p n ≡ true = subst (λ (z : ℕ). p z ≡ true) q t in
+      omega (arith, ap (λ (z : ℕ). count z p) q, cond-true (p n) (count n p + 1) (count n p) last)
   | inr d ↦ let below : count l p < count n p = count-below n l p (omega (arith, h, d)) t in elim (cases_Bool (p n)) [
-    | inl y ↦ omega (arith, below, count-yes n p y)
-    | inr y ↦ omega (arith, below, count-no n p y)
+    | inl y ↦ omega (arith, below, cond-true (p n) (count n p + 1) (count n p) y)
+    | inr y ↦ omega (arith, below, cond-false (p n) (count n p + 1) (count n p) y)
   ]
 ]
 

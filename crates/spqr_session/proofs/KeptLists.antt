@@ -1,5 +1,5 @@
 -- What is kept of arrangements: another list at a cut vertex, and lists that are arrangements.
-use Rattle.std.proofs.Common.{◌≡◌, ◌≢◌, ℕ, ◌<◌, Bool, true, List, [], length, map, get_or, slice_index, slice_index_or, slice_set, Option, None, Some, inl, inr, refl, sym, ap, ◌∙◌, subst, arith, Contains}
+use Rattle.std.proofs.Common.{◌≡◌, ◌≢◌, ℕ, ◌<◌, Bool, true, false, List, [], length, map, get_or, slice_index, slice_index_or, slice_set, Option, None, Some, inl, inr, refl, sym, ap, ◌∙◌, subst, arith, Contains}
 use Rattle.std.specs.Prelude.{if◌then◌else◌}
 use Rattle.std.proofs.lemmas.Bool.{cases_eq, both_ways, false_from_ne_true}
 use Rattle.std.proofs.lemmas.List.{length-map, length-set, get_or-map, get_or-set_same, get_or-set_other, ext_get_or}
@@ -66,15 +66,15 @@ module _ (k : Component) (block : ℕ → BlockInPlane) (lists : List (Option (L
   pub kept-there : Rises k.cuts → is_member v k.cuts ≡ true → v < length lists → lists_kept k block (slice_set lists v (Some l)) ≡ slice_set (lists_kept k block lists) (place_of k.cuts v) l
   kept-there rise m within = sym (kept-is k block (slice_set lists v (Some l)) (slice_set (lists_kept k block lists) (place_of k.cuts v) l)
       (length-set (lists_kept k block lists) (place_of k.cuts v) l ∙ kept-count k block lists) (λ i h. elim (cases_eq i (place_of k.cuts v)) [
-    | inl e ↦
-        ap (λ (z : ℕ). slice_index_or (slice_set (lists_kept k block lists) (place_of k.cuts v) l) z []) e
-        ∙ get_or-set_same (lists_kept k block lists) (place_of k.cuts v) l [] (omega (arith, place-below k.cuts v m, kept-count k block lists))
-        ∙ sym (ap (λ (o : Option (List ℕ)). list_or_first o (first_around k block i)) (here i e))
-    | inr n ↦
-        get_or-set_other (lists_kept k block lists) (place_of k.cuts v) i l [] n
-        ∙ kept-at k block lists i h
-        ∙ sym (ap (λ (o : Option (List ℕ)). list_or_first o (first_around k block i)) (get_or-set_other lists v (slice_index k.cuts i) (Some l) None (other i h n)))
-  ]))
+        | inl e ↦
+            ap (λ (z : ℕ). slice_index_or (slice_set (lists_kept k block lists) (place_of k.cuts v) l) z []) e
+            ∙ get_or-set_same (lists_kept k block lists) (place_of k.cuts v) l [] (omega (arith, place-below k.cuts v m, kept-count k block lists))
+            ∙ sym (ap (λ (o : Option (List ℕ)). list_or_first o (first_around k block i)) (here i e))
+        | inr n ↦
+            get_or-set_other (lists_kept k block lists) (place_of k.cuts v) i l [] n
+            ∙ kept-at k block lists i h
+            ∙ sym (ap (λ (o : Option (List ℕ)). list_or_first o (first_around k block i)) (get_or-set_other lists v (slice_index k.cuts i) (Some l) None (other i h n)))
+      ]))
     where
       here : (i : ℕ) → i ≡ place_of k.cuts v → slice_index_or (slice_set lists v (Some l)) (slice_index k.cuts i) None ≡ Some l
       here i e =

@@ -243,11 +243,11 @@ module _ (setting : Setting) (v : ℕ) (edges : List ℕ) (s : State) where
         | inl kept ↦ elim (apart-or_crossing (block_with k) (from_least edges)) [
           | inr x ↦ inl (Cross x.0 x.1, lowest-crossing h (λ e m. kept e (from_least-member edges e ∙ m)) x.0 x.1 x.2)
           | inl apart ↦ inr (
-            let w = assembled k block in-plane in
-            let round = around-order k v edges (around-rises setting is (component_number setting v) v (w.cuts_in v among)) orders-around in
-            ((arrangements_are_listed (block_with k) (block_order block v) (edges_around k v) (w.orders v (w.cuts_in v among))).exactly (from_least edges)).1
-            (record { all = round.arranged; least_first = round.least_first; kept = kept; apart = apart })
-            )
+              let w = assembled k block in-plane in
+              let round = around-order k v edges (around-rises setting is (component_number setting v) v (w.cuts_in v among)) orders-around in
+              ((arrangements_are_listed (block_with k) (block_order block v) (edges_around k v) (w.orders v (w.cuts_in v among))).exactly (from_least edges)).1
+              (record { all = round.arranged; least_first = round.least_first; kept = kept; apart = apart })
+              )
         ]
       ]
 

@@ -212,12 +212,7 @@ fn in_block(alloc: Global, b: u32, moves: MoveList) -> Result<BlockMoves, AllocE
 }
 
 // The moves from block b in the plane to another of the same graph and tree.
-fn moves_to(
-    alloc: Global,
-    b: u32,
-    p: &PlaneBlock,
-    q: &PlaneBlock,
-) -> Result<BlockMoves, AllocError>
+fn moves_to(alloc: Global, b: u32, p: &PlaneBlock, q: &PlaneBlock) -> Result<BlockMoves, AllocError>
     requires graph { q.now.graph ≡ p.now.graph }
     requires tree { q.now.tree ≡ p.now.tree }
     ensures { IfOk result (λ pairs. as_pairs pairs
@@ -294,12 +289,7 @@ fn lock_step(blocks: &[EmbeddedBlock], b: u32, k: u32, on: bool) -> Step
 }
 
 // The step that keeps a list at vertex v.
-fn arranging(
-    alloc: Global,
-    lists: &KeptLists,
-    v: u32,
-    list: Numbers,
-) -> Result<Step, AllocError>
+fn arranging(alloc: Global, lists: &KeptLists, v: u32, list: Numbers) -> Result<Step, AllocError>
     ensures { (views : List BlockView) → IfOk result
         (LeadsTo views lists.now (kept_arranged views lists.now v list)) }
 {

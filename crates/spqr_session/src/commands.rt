@@ -34,5 +34,5 @@ pub(crate) use regroup::carry_regroup;
 pub(crate) use show::carry_show;
 pub(crate) use take::carry_take;
 pub(crate) use traced::carry_faces;
-pub(crate) use whole::carry_whole;
 pub(crate) use walk::{carry_first, carry_goto, carry_next, plan_rank};
+pub(crate) use whole::carry_whole;

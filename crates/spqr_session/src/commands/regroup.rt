@@ -129,7 +129,12 @@ fn plan_regroup(
 }
 
 // Carries out what is to be done.
-fn settle(alloc: Global, board: &mut Board, v: u32, planned: Regrouping) -> Result<Vec<u8>, AllocError>
+fn settle(
+    alloc: Global,
+    board: &mut Board,
+    v: u32,
+    planned: Regrouping,
+) -> Result<Vec<u8>, AllocError>
     ensures done { IfOk result (λ text. IsRegrouped v planned board.old text.items board.new) }
     ensures memory { OnErr result (board.new ≡ board.old) }
 {
