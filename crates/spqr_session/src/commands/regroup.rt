@@ -1,5 +1,5 @@
 // `regroup V EDGES`: another arrangement at a cut vertex.
-ghost use Rattle.std.specs.Prelude.{◌≡◌, ◌↔◌, ◌<◌, true, [], length, map, slice_index_or, IfOk, OnErr, IsTrue, IsPermutation};
+ghost use Rattle.std.specs.Prelude.{◌≡◌, ◌↔◌, ◌<◌, true, false, [], length, map, slice_index_or, IfOk, OnErr, MatchOption, IsTrue, IsPermutation};
 ghost use Rattle.permutations.specs.Members.{is_member, place_of};
 ghost use Rattle.multigraph.specs.Graph.{incident_edges};
 ghost use Rattle.multigraph.specs.Part.{Rises};
@@ -65,16 +65,24 @@ fn is_cut(scene: &Scene, v: u32) -> bool
     }
 }
 
-// The place of a cut vertex.
+// The place of a cut vertex; none where it is not one of the component.
+fn find_cut(cuts: &Cuts, v: u32) -> Option<usize>
+    ensures { MatchOption result (is_member v cuts.now.component.cuts ≡ false)
+        (λ i. (is_member v cuts.now.component.cuts ≡ true) × (i ≡ place_of cuts.now.component.cuts v)) }
+{
+    match cuts.frame().cuts().binary_search(&v) {
+        Ok(i) => Some(i),
+        Err(_) => None,
+    }
+}
+
+// The place of cut vertex v.
 fn place_in(cuts: &Cuts, v: u32) -> usize
     requires { is_member v cuts.now.component.cuts ≡ true }
     ensures is { result ≡ place_of cuts.now.component.cuts v }
     ensures within { result < length cuts.now.component.cuts }
 {
-    match cuts.frame().cuts().binary_search(&v) {
-        Ok(i) => i,
-        Err(_) => unreachable!(),
-    }
+    find_cut(cuts, v).unwrap()
 }
 
 // The list at cut vertex v.

@@ -13,11 +13,11 @@ loop-i-preserved c =
     let views = c.args.blocks.now in
     let i = c.loop-i.i in
     let v = c.index-blocks-i.result in
-    let within : c.loop-i.i < length c.args.blocks.now = omega (arith, c.loop-i-test.true, c.len-i-end.ensures) in
+    let within : c.loop-i.i < length c.args.blocks.now = c.loop-i-test.true in
     let at : v ≡ view_at views i = view-at views i v within c.index-blocks-i.is in
     members-more views i c.loop-i.all.items c.push.new.self.items c.in_ok-member_of.field-0 c.loop-i.invariant (subst (λ (x : BlockView). IsMemberOf x c.in_ok-member_of.field-0) at (c.in_ok-member_of.ensures {u = tt})) (c.in_ok-push.ensures {u = tt}).items
 
 pub returns : goal.returns
 returns c =
-    let end : c.loop-i.i ≡ length c.args.blocks.now = omega (arith, c.loop-i-test.false, c.loop-i.auto.i, c.len-i-end.ensures) in
+    let end : c.loop-i.i ≡ length c.args.blocks.now = omega (arith, c.loop-i-test.false, c.loop-i.auto.i-end) in
     subst (λ (n : ℕ). AreMembersOf c.args.blocks.now n c.loop-i.all.items) end c.loop-i.invariant

@@ -29,5 +29,5 @@ loop-i-preserved c =
 
 pub returns-clause-set : goal.returns-clause-set
 returns-clause-set c =
-    let end : c.loop-i.i ≡ length c.args.cuts.now.component.cuts = omega (arith, c.loop-i-test.false, c.loop-i.auto.i, c.count-i-end.ensures) in
+    let end : c.loop-i.i ≡ length c.args.cuts.now.component.cuts = omega (arith, c.loop-i-test.false, c.loop-i.auto.i-end, c.count-i-end.ensures) in
     subst (λ (n : ℕ). AreSetTo n c.args.board.now.lists c.args.cuts.now c.loop-i.cuts) end c.loop-i.invariant
