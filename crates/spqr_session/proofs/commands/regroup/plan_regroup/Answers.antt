@@ -17,7 +17,7 @@ returns-then-not-is_planar_component c = λ s e.
     let setting = setting_on c.args.scene.now c.args.blocks.now in
     lowest-not_planar setting c.args.v c.args.edges.now s
     (omega (arith, c.if-v-vertex_count.false, c.vertex_count.ensures, ap (λ (g : Multigraph). g.vertex_count) c.graph-graph.ensures.value))
-    (ap (is_planar_component setting) (sym c.component_of-c.ensures) ∙ sym c.is_planar_component.ensures ∙ c.if-not-is_planar_component.false)
+    (ap (is_planar_component setting) (sym c.component_of-c.ensures) ∙ sym c.is_planar_component.ensures ∙ c.if-not-is_planar_component.true)
 
 pub is_cut-requires : goal.is_cut-requires
 is_cut-requires c = let cuts = c.requires.setting.structure.cut_vertices in cuts.rising
@@ -28,8 +28,9 @@ code_elsewhere-requires c = omega (arith, c.if-v-vertex_count.false, c.vertex_co
 pub returns : goal.returns
 returns c = λ s e.
     let setting = setting_on c.args.scene.now c.args.blocks.now in
+    let planar : c.is_planar_component.result ≡ true = grind (arith, c.if-not-is_planar_component.false) in
     elsewhere-lowest setting c.args.v c.args.edges.now s c.in_ok-code.code
     (omega (arith, c.if-v-vertex_count.false, c.vertex_count.ensures, ap (λ (g : Multigraph). g.vertex_count) c.graph-graph.ensures.value))
-    (ap (is_planar_component setting) (sym c.component_of-c.ensures) ∙ sym c.is_planar_component.ensures ∙ c.if-not-is_planar_component.true)
+    (ap (is_planar_component setting) (sym c.component_of-c.ensures) ∙ sym c.is_planar_component.ensures ∙ planar)
     (sym c.is_cut.ensures ∙ c.if-is_cut.false)
     (subst (λ (g : Multigraph). IsElsewhere g c.args.v c.args.edges.now c.in_ok-code.code) c.graph-graph.ensures.value (c.in_ok-code.ensures {u = tt}))
