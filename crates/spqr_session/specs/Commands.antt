@@ -15,3 +15,4 @@ pub mod Take
 pub mod Convert
 pub mod Longest
 pub mod Draw
+pub mod Regroup
