@@ -25,12 +25,13 @@ use Rattle.spqr_session.specs.Kept.{Kept}
 use Rattle.spqr_session.specs.Embedded.{BlockView, view_tree, view_certificate, view_entry, view_at, block_view, IsEmbedded}
 use Rattle.embed_moves.specs.Made.{Fits}
 use Rattle.spqr_session.specs.Moved.{all_moved, LeadBack}
-use Rattle.spqr_session.specs.History.{entry_moved, entry_locked, as_pair, as_pairs, pairs_moved, node_locked, list_after, list_before, lists_set, lists_cleared, lists_after, walk, redone, undone, steps_before, steps_after, IsMoveOf}
+use Rattle.spqr_session.specs.History.{entry_moved, entry_locked, as_pair, as_pairs, pairs_moved, node_locked, list_after, list_before, lists_set, lists_cleared, lists_after, entries_redone, walk, redone, undone, steps_before, steps_after, IsMoveOf}
 use Rattle.spqr_session.specs.Commands.History.{is_none}
-use Rattle.spqr_session.specs.Board.{kept_on, kept_with_entry, kept_changed, Clears, IsCarried, LeadsTo, StandsAt, CanReplace}
+use Rattle.spqr_session.specs.Board.{BoardView, kept_on, kept_with_entry, kept_changed, board_view, Clears, GoesTo, IsBoard, IsCarried, IsChangedTo, LeadsTo, StandsAt, CanReplace}
 use Rattle.spqr_session.proofs.Views.{trees-at, entries-at}
 use Rattle.spqr_session.proofs.BlockTrees.{view-at}
 use Rattle.spqr_session.proofs.Moved.{moves-keep, between-made}
+use Rattle.spqr_session.proofs.Boards.{IsAdded, board-noted, board-goes}
 use Rattle.spqr_session.proofs.Families.{trees-kept, certificates-kept, entries-set, of_block, pairs-fit, moves-forth, moves-back, lock-forth, lock-back}
 
 -- something is passed for each step
@@ -216,7 +217,30 @@ module _ (views : List BlockView) (lists new_lists : List (Option (List ℕ))) (
       after : new_lists ≡ lists_cleared (view_at views b).tree.part.vertices lists
       after = set ∙ ap (λ (k : Kept). k.lists) leads.forth
 
+  -- so it is on the board
+  module _ (old new : UndoHistory) (seen : BoardView) (h : IsBoard views lists old) (board : board_view views lists old ≡ seen) (added : IsAdded old new s) (leads : LeadsTo views lists (kept_changed views lists b e) s) (set : new_lists ≡ lists_set (lists_after s) lists) where
+    pub put-right : IsBoard (slice_set views b v) new_lists new
+    put-right = board-noted views (slice_set views b v) lists new_lists old new s put-carried h (kept_changed views lists b e) added leads (put-kept leads set)
+
+    pub put-changed : IsPlaneSystem (view_at views b).tree.part.graph e.rotation → IsChangedTo seen b e (board_view (slice_set views b v) new_lists new)
+    put-changed plane = subst (λ (x : BoardView). IsChangedTo x b e (board_view (slice_set views b v) new_lists new)) board
+        (record { plane = plane; goes = board-goes views (slice_set views b v) lists new_lists old new s put-carried h (kept_changed views lists b e) added leads (put-kept leads set) })
+
 -- the part of a block with what was found of it
 pub view-part : (part : GraphPart) (outcome : Outcome) → (block_view part outcome).tree.part ≡ part
 view-part part (Plane p) = refl
 view-part part (Not g t s) = refl
+
+-- what a board goes on to with a step that is noted: its history belongs to it
+module _ (views other : List BlockView) (lists new_lists : List (Option (List ℕ))) (old new : UndoHistory) (s : Step) (kept : Kept) (seen : BoardView) (h : IsBoard views lists old) (is : board_view views lists old ≡ seen) (c : IsCarried views other)
+    (added : IsAdded old new s) (leads : LeadsTo views lists kept s) (e : kept_on other new_lists ≡ kept) where
+  pub on-right : IsBoard other new_lists new
+  on-right = board-noted views other lists new_lists old new s c h kept added leads e
+
+  pub on-goes : GoesTo seen kept (board_view other new_lists new)
+  on-goes = subst (λ (v : BoardView). GoesTo v kept (board_view other new_lists new)) is (board-goes views other lists new_lists old new s c h kept added leads e)
+
+-- what is kept after a step was carried out
+pub step-kept : (views other : List BlockView) (lists new_lists : List (Option (List ℕ))) (s : Step) (kept : Kept) → LeadsTo views lists kept s → map view_entry other ≡ entries_redone (map view_tree views) s (map view_entry views) → new_lists ≡ lists_set (lists_after s) lists
+    → kept_on other new_lists ≡ kept
+step-kept views other lists new_lists s kept leads entries set = (λ i. record { entries = entries i; lists = set i }) ∙ leads.forth
