@@ -59,6 +59,10 @@ pub mod Grouped
 pub mod Moved
 pub mod Walks
 mod MovedExamples
+pub mod ListsSet
+pub mod ComponentParts
+pub mod KeptFamilies
+pub mod Started
 pub mod Families
 pub mod Boards
 pub mod WaysBack
