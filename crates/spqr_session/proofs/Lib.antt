@@ -60,7 +60,6 @@ pub mod Moved
 pub mod Walks
 mod MovedExamples
 pub mod ListsSet
-pub mod ComponentParts
 pub mod KeptFamilies
 pub mod Started
 pub mod Families
