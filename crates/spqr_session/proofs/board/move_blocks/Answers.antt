@@ -17,7 +17,7 @@ index_mut-requires c =
     let items = c.as_slice-pair-items.result.now in
     let i = c.loop-pair.pair-index in
     let m = c.pair-item.result in
-    pair-within c.args.blocks.now.items c.loop-pair.blocks.items items i m c.loop-pair-test.true c.pair-item.is c.loop-pair.invariant.carried.trees c.loop-pair.invariant.right
+    omega (arith, c.loop-pair.blocks.ok.0, pair-within c.args.blocks.now.items c.loop-pair.blocks.items items i m c.loop-pair-test.true c.pair-item.is c.loop-pair.invariant.carried.trees c.loop-pair.invariant.right)
 
 pub carry-requires : goal.carry-requires
 carry-requires c =
