@@ -44,6 +44,7 @@ pub mod RegroupCodes
 pub mod RegroupCarried
 pub mod KeptLists
 pub mod WholesMade
+pub mod VertexPlaces
 pub mod RegroupMade
 pub mod Chains
 pub mod Steps

@@ -19,7 +19,7 @@ use Rattle.spqr_session.specs.State.{Embedding, Family, State, IsFamily, IsState
 use Rattle.spqr_session.specs.Kept.{Kept, family_of}
 use Rattle.spqr_session.specs.Codes.{IsLowest, NoneApplies}
 use Rattle.spqr_session.specs.BlockCodes.{with_family}
-use Rattle.spqr_session.specs.Board.{BoardView, kept_now, board_state, GoesTo}
+use Rattle.spqr_session.specs.Board.{BoardView, kept_now, board_state, GoesTo, HavePlaces}
 use Rattle.spqr_session.specs.Components.{blocks_of}
 use Rattle.spqr_session.specs.Commands.Regroup.{component_number, OrdersEdges, RegroupApplies, list_put, RegroupStep}
 use Rattle.spqr_session.specs.Wholes.{AreEntries, HasBlocks, IsArrangementFor, IsRefusedIn, IsRegroupedIn, IsRegrouping, IsRegrouped, IsElsewhere}
@@ -28,6 +28,7 @@ use Rattle.spqr_session.specs.declared.code.Code.TheVariants.{NoBlock, NoNode, W
 use Rattle.spqr_session.specs.declared.commands.regroup.Regrouping.{Regrouping}
 use Rattle.spqr_session.specs.declared.commands.regroup.Regrouping.TheVariants.{Refused, Arranged}
 use Rattle.spqr_session.proofs.ComponentParts.{cut-there, around-cut}
+use Rattle.spqr_session.proofs.VertexPlaces.{cut-place}
 use Rattle.spqr_session.proofs.KeptLists.{arranged-order, kept-put}
 use Rattle.spqr_session.proofs.RegroupCodes.{lowest-no_order, lowest-no_cut, lowest-changed, lowest-crossing, arranged-none}
 
@@ -117,14 +118,14 @@ module _ (setting : Setting) (v : ℕ) (edges : List ℕ) (s : State) where
 
 -- ---- the step
 
-module _ (setting : Setting) (v : ℕ) (edges : List ℕ) (before after : BoardView) (is : IsSetting setting) (places : length before.lists ≡ setting.named.graph.vertex_count) where
+module _ (setting : Setting) (v : ℕ) (edges : List ℕ) (before after : BoardView) (is : IsSetting setting) (places : HavePlaces setting.trees (length before.lists)) where
   abbrev s : State
   s = board_state setting before
 
   -- the state after a list was kept
   state-arranged : (l : List ℕ) → OrdersEdges setting v edges → GoesTo before (record { entries = (kept_now before).entries; lists = slice_set before.lists v (Some l) }) after → board_state setting after ≡ with_family (board_state setting before) (list_put setting v l (family_of setting (kept_now before)))
   state-arranged l o goes =
-      let within : v < length before.lists = omega (arith, is.structure.cut_vertices.vertices v o.cut, places) in
+      let within : v < length before.lists = cut-place setting (length before.lists) v is places o.cut in
       let present : family_of setting (kept_now after) ≡ list_put setting v l (family_of setting (kept_now before)) = ap (family_of setting) goes.present ∙ kept-put setting (kept_now before) v l is o.cut o.planar within in
       λ i. record { present = present i; earlier = map (family_of setting) (goes.earlier i); later = map (family_of setting) (goes.later i) }
 

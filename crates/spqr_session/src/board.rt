@@ -11,7 +11,7 @@ ghost use Rattle.spqr_session.specs.Moved.{all_moved, LeadBack};
 ghost use Rattle.spqr_session.specs.History.{as_pairs, IsMoveOf, IsStepOf, pairs_moved, node_locked, entries_redone, entries_undone, lists_before, lists_after};
 ghost use Rattle.spqr_session.specs.Commands.History.{is_none};
 ghost use Rattle.spqr_session.specs.Commands.Lock.{with_lock};
-ghost use Rattle.spqr_session.specs.Board.{StandsAt, CanReplace, CanMake, AreMade, IsMirroredAt, IsChangedTo, GoesTo, LeadsTo, IsCarried, kept_with_entry, kept_changed, IsUndone, IsRedone};
+ghost use Rattle.spqr_session.specs.Board.{HavePlaces, StandsAt, CanReplace, CanMake, AreMade, IsMirroredAt, IsChangedTo, GoesTo, LeadsTo, IsCarried, kept_with_entry, kept_changed, IsUndone, IsRedone};
 ghost use Rattle.spqr_session.specs.Wholes.{kept_arranged};
 
 use crate::embedded::EmbeddedBlock;
@@ -46,6 +46,7 @@ impl Model for Board {
 impl Board {
     /// The blocks of a graph with `n` vertices, each cut vertex with its first arrangement, and no change before or after.
     pub fn of(alloc: Global, n: u32, blocks: Vec<EmbeddedBlock>) -> Result<Board, AllocError>
+        requires { HavePlaces (map view_tree blocks.items) n }
         ensures { IfOk result (λ board. board ≡ record { views = blocks.items; lists = replicate n None; earlier = []; later = [] }) }
     {
         Ok(Board {
@@ -60,6 +61,13 @@ impl Board {
         ensures { result.now ≡ self.now.views }
     {
         &self.blocks
+    }
+
+    /// A list may be kept at each vertex of a block. For proofs alone: does nothing.
+    pub fn keeps_places(&self)
+        ensures { HavePlaces (map view_tree self.now.views) (length self.now.lists) }
+    {
+        let _ = self.blocks();
     }
 
     /// The list that is kept at vertex `v`.

@@ -210,6 +210,7 @@ pub(crate) fn carry_regroup(
     ensures setting { IsCarried board.old.views board.new.views }
     ensures memory { OnErr result (board.new ≡ board.old) }
 {
+    board.keeps_places();
     let planned = plan_regroup(alloc, scene, board.blocks(), v, edges)?;
     settle(alloc, board, v, planned)
 }

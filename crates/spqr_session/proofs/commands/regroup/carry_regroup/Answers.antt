@@ -28,4 +28,4 @@ returns-clause-step c =
     let setting = setting_on scene old.views in
     let found = (subst (λ (views : List BlockView). (s : State) → s.present.entries ≡ map view_entry views → IsRegrouping (setting_on scene views) c.args.v edges s planned) c.blocks-2.ensures (c.in_ok-planned.ensures {u = tt})) (board_state setting old) refl in
     text-map c.settle.result (λ text. IsRegrouped c.args.v planned old text new) (λ text. RegroupStep setting c.args.v edges (board_state setting old) text (board_state setting new))
-    (λ text h. regroup-done setting c.args.v edges old new c.requires.setting c.requires.lists planned text found h) c.settle.ensures.done
+    (λ text h. regroup-done setting c.args.v edges old new c.requires.setting c.keeps_places.ensures planned text found h) c.settle.ensures.done
