@@ -45,6 +45,7 @@ pub mod RegroupCarried
 pub mod KeptLists
 pub mod WholesMade
 pub mod VertexPlaces
+pub mod BoardArranged
 pub mod RegroupMade
 pub mod Chains
 pub mod Steps

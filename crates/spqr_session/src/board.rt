@@ -296,16 +296,27 @@ fn lock_step(blocks: &[EmbeddedBlock], b: u32, k: u32, on: bool) -> Step
     }
 }
 
+// No moves.
+fn no_moves(alloc: Global) -> BlockMoves
+    ensures { result ≡ [] }
+{
+    BlockMoves::of(Vec::new(alloc))
+}
+
 // The step that keeps a list at vertex v.
-fn arranging(alloc: Global, lists: &KeptLists, v: u32, list: Numbers) -> Result<Step, AllocError>
+fn arranging(
+    alloc: Global,
+    lists: &KeptLists,
+    v: u32,
+    list: Numbers,
+) -> Result<Step, AllocError>
     ensures { (views : List BlockView) → IfOk result
         (LeadsTo views lists.now (kept_arranged views lists.now v list)) }
 {
-    Ok(Step::Moves {
-        forth: BlockMoves::of(Vec::new(alloc)),
-        back: BlockMoves::of(Vec::new(alloc)),
-        cuts: lists.changed(alloc, v, list)?,
-    })
+    let cuts = lists.changed(alloc, v, list)?;
+    let forth = no_moves(alloc);
+    let back = no_moves(alloc);
+    Ok(Step::Moves { forth, back, cuts })
 }
 
 // ---- steps carried out
