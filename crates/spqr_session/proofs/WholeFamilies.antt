@@ -165,10 +165,10 @@ with-family setting family c q is right within planar member = record {
   ];
 }
   where
-    abbrev new : ℕ → BlockInPlane
+    new : ℕ → BlockInPlane
     new = blocks_with setting.trees (entries_with (component_at setting c) setting.trees q family.entries)
 
-    abbrev lists : List (List ℕ)
+    lists : List (List ℕ)
     lists = map (outer_at (component_at setting c).part q) (component_at setting c).cuts
 
     here : AreArrangements (component_at setting c) new (is_planar_component setting c) (arrangements_in (family_with setting c q family) c)

@@ -109,17 +109,14 @@ module _ (setting : Setting) (c : ℕ) (entries : List (ℕ × List ℕ)) (s : S
 
   -- ---- the codes that apply
 
-  abbrev IsCode : ℕ → Code → Code → Type 0
-  IsCode n code other = (other ≡ code) × (code_number other ≡ n)
-
   -- why a code applies
   abbrev Reason : Code → Type 0
   Reason code =
-      ((c < setting.structure.component_count) × (is_planar_component setting c ≡ false) × IsCode 5 NonPlanar code)
-      ⊎ (((v : ℕ) × IsFirstBadInPart k.part entries v × IsCode 6 (BadRotation v) code)
-      ⊎ (((v : ℕ) × (e : ℕ) × (f : ℕ) × IsNotPlane k.part entries v e f × IsCode 7 (NotGenusZero v e f) code)
-      ⊎ (((b : ℕ) × (j : ℕ) × (is_planar_component setting c ≡ true) × IsLockedAt k block entries b j × IsCode 12 (LockedIn b j) code)
-      ⊎ ((setting.structure.component_count ≤ c) × IsCode 14 NoComponent code))))
+      ((c < setting.structure.component_count) × (is_planar_component setting c ≡ false) × (code ≡ NonPlanar) × (code_number code ≡ 5))
+      ⊎ (((v : ℕ) × IsFirstBadInPart k.part entries v × (code ≡ (BadRotation v)) × (code_number code ≡ 6))
+      ⊎ (((v : ℕ) × (e : ℕ) × (f : ℕ) × IsNotPlane k.part entries v e f × (code ≡ (NotGenusZero v e f)) × (code_number code ≡ 7))
+      ⊎ (((b : ℕ) × (j : ℕ) × (is_planar_component setting c ≡ true) × IsLockedAt k block entries b j × (code ≡ (LockedIn b j)) × (code_number code ≡ 12))
+      ⊎ ((setting.structure.component_count ≤ c) × (code ≡ NoComponent) × (code_number code ≡ 14)))))
 
   reason : (code : Code) → applies code → Reason code
   reason NoBlock a = absurd a
@@ -198,11 +195,27 @@ module _ (setting : Setting) (c : ℕ) (entries : List (ℕ × List ℕ)) (s : S
   -- ---- the lowest
 
   pub outside-lowest : setting.structure.component_count ≤ c → IsLowest (ConvertWholeApplies setting c entries s) NoComponent
-  outside-lowest out = record { met = out; least = λ other a. by other (reason other a) }
+  outside-lowest out = record { met = out; least = by }
     where
-      by : (other : Code) → Reason other → 14 ≤ code_number other
-      by other (inl w) = absurd (omega (arith, w.0, out))
-      by other (inr w) = absurd (omega arith)
+      by : (other : Code) → applies other → 14 ≤ code_number other
+      by NoBlock a = absurd a
+      by NoNode a = absurd a
+      by WrongKind a = absurd a
+      by BadOrder a = absurd a
+      by NonPlanar a = absurd (omega (arith, a.0, out))
+      by (BadRotation v) a = absurd (omega (arith, a.0, out))
+      by (NotGenusZero v e f) a = absurd (omega (arith, a.0, out))
+      by NothingToUndo a = absurd a
+      by NothingToRedo a = absurd a
+      by CountOver a = absurd a
+      by (RankOut n) a = absurd a
+      by (Locked j) a = absurd a
+      by (LockedIn b j) a = absurd (omega (arith, a.0, out))
+      by (Parallel x y) a = absurd a
+      by NoComponent a = omega arith
+      by NoCut a = absurd a
+      by (BlockOrder b) a = absurd a
+      by (Cross b d) a = absurd a
 
   pub nonplanar-lowest : c < setting.structure.component_count → is_planar_component setting c ≡ false → IsLowest (ConvertWholeApplies setting c entries s) NonPlanar
   nonplanar-lowest l f = record { met = (l, f); least = λ other a. by other (reason other a) }

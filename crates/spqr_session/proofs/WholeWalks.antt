@@ -189,21 +189,21 @@ module _ (setting : Setting) (c : ℕ) (s : State) (is : IsSetting setting) (rig
   next-one t u after other (inr p) (inr q) =
       let m = placed-lists q.lists q.present in
       let same : p.lists ≡ q.lists = one-some p.lists q.lists (arrangements_in s.present c) p.present q.present in
-      let a : IsRank m.list p.system (m.place + 1) = subst (λ (z : List (List ℕ)). IsWholeNext setting c s.present z p.system t) same p.change .0 m.list m.place m.are m.rank in
+      let a : IsRank m.list p.system (m.place + 1) = (subst (λ (z : List (List ℕ)). IsWholeNext setting c s.present z p.system t) same p.change).0 m.list m.place m.are m.rank in
       let b : IsRank m.list q.system (m.place + 1) = q.change.0 m.list m.place m.are m.rank in
       let system : p.system ≡ q.system = sym a.is_there ∙ b.is_there in
       (p.change.1 ∙ sym q.change.1, p.after_is ∙ ap (λ (z : List (List ℕ)). with_family s (family_with setting c z s.present)) system ∙ sym q.after_is)
   next-one t u after other (inl p) (inr q) =
       let m = placed-lists q.lists q.present in
       let same : p.lists ≡ q.lists = one-some p.lists q.lists (arrangements_in s.present c) p.present q.present in
-      absurd (end-next m.list m.place q.system (subst (λ (z : List (List ℕ)). IsWholeEnd setting c s.present z t) same p.answer .0 m.list m.place m.are m.rank) (q.change.0 m.list m.place m.are m.rank))
+      absurd (end-next m.list m.place q.system ((subst (λ (z : List (List ℕ)). IsWholeEnd setting c s.present z t) same p.answer).0 m.list m.place m.are m.rank) (q.change.0 m.list m.place m.are m.rank))
     where
       end-next : (l : List (List (List ℕ))) (i : ℕ) (q : List (List ℕ)) → length l ≡ i + 1 → IsRank l q (i + 1) → ⊥
       end-next l i q e r = omega (arith, e, r.within)
   next-one t u after other (inr p) (inl q) =
       let m = placed-lists p.lists p.present in
       let same : q.lists ≡ p.lists = one-some q.lists p.lists (arrangements_in s.present c) q.present p.present in
-      absurd (end-next m.list m.place p.system (subst (λ (z : List (List ℕ)). IsWholeEnd setting c s.present z u) same q.answer .0 m.list m.place m.are m.rank) (p.change.0 m.list m.place m.are m.rank))
+      absurd (end-next m.list m.place p.system ((subst (λ (z : List (List ℕ)). IsWholeEnd setting c s.present z u) same q.answer).0 m.list m.place m.are m.rank) (p.change.0 m.list m.place m.are m.rank))
     where
       end-next : (l : List (List (List ℕ))) (i : ℕ) (q : List (List ℕ)) → length l ≡ i + 1 → IsRank l q (i + 1) → ⊥
       end-next l i q e r = omega (arith, e, r.within)

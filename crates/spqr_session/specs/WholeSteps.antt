@@ -1,0 +1,75 @@
+-- A step of the history that changes blocks and lists at cut vertices of a component. Contracts of private functions cite these.
+use Rattle.std.specs.Prelude.{◌≡◌, ℕ, zero, suc, ◌<◌, Bool, true, false, if◌then◌else◌, List, [], ◌∷◌, ◌++◌, length, map, flat_map, slice_index, slice_index_or, Option, None, Some}
+use Rattle.permutations.specs.Members.{is_member}
+use Rattle.arrangements.specs.Arranged.{same_list}
+use Rattle.skeletons.specs.Moves.{Move}
+use Rattle.skel_embed.specs.Block.{BlockState}
+use Rattle.undo_log.specs.declared.step.CutChange.{CutChange}
+use Rattle.undo_log.specs.declared.step.Step.{Step}
+use Rattle.whole_embed.specs.declared.members.Member.{Member}
+use Rattle.whole_embed.specs.Component.{Component, BlockInPlane}
+use Rattle.whole_embed.specs.Cuts.{CutState, member_at, blocks_in}
+use Rattle.whole_embed.specs.Walk.{first_around}
+use Rattle.spqr_session.specs.State.{Embedding, blocks_with}
+use Rattle.spqr_session.specs.Kept.{Kept}
+use Rattle.spqr_session.specs.Embedded.{BlockView, view_tree, view_entry, view_at}
+use Rattle.spqr_session.specs.Board.{StandsAt, LeadsTo}
+
+-- the blocks as they are seen
+abbrev pub blocks_seen : List BlockView → ℕ → BlockInPlane
+blocks_seen views b = blocks_with (map view_tree views) (map view_entry views) b
+
+-- moves of blocks, of one block after the other, as pairs of a block and a move
+abbrev pub pairs_of : (ℕ → List Move) → List ℕ → List (ℕ × Move)
+pairs_of moves blocks = flat_map (λ b. map (λ (m : Move). (b, m)) (moves b)) blocks
+
+-- what is kept of a list at a cut vertex: nothing where it is the first arrangement
+abbrev pub list_kept : List ℕ → List ℕ → Option (List ℕ)
+list_kept first list = (if same_list list first then None else Some list)
+
+-- whether the same is kept
+abbrev pub same_kept : Option (List ℕ) → Option (List ℕ) → Bool
+same_kept None None = true
+same_kept None (Some l) = false
+same_kept (Some l) None = false
+same_kept (Some l) (Some m) = same_list l m
+
+-- the change at the vertex at place i, if what is to be kept there is not what is kept
+abbrev pub change_at : List ℕ → List (Option (List ℕ)) → (ℕ → Option (List ℕ)) → ℕ → List CutChange
+change_at vertices lists wanted i =
+    (if same_kept (slice_index_or lists (slice_index vertices i) None) (wanted i) then []
+    else record { vertex = slice_index vertices i; before = slice_index_or lists (slice_index vertices i) None; after = wanted i } ∷ [])
+
+-- those at the first n of them
+abbrev pub changes_below : List ℕ → List (Option (List ℕ)) → (ℕ → Option (List ℕ)) → ℕ → List CutChange
+changes_below vertices lists wanted zero = []
+changes_below vertices lists wanted (suc n) = changes_below vertices lists wanted n ++ change_at vertices lists wanted n
+
+-- what is to be kept of the lists at the cut vertices of a component, where these are its first arrangements
+abbrev pub wanted_in : CutState → CutState → ℕ → Option (List ℕ)
+wanted_in first cuts i = list_kept (slice_index_or first.lists i []) (slice_index_or cuts.lists i [])
+
+-- block b is in the plane, and a member of a list of all blocks can take its place: part, tree and locks are the same
+pub record FitsMember (views : List BlockView) (all : List Member) (b : ℕ) : Type 0 where
+  pub embedding : Embedding
+  pub stands : StandsAt views b embedding
+  pub plane : BlockState
+  pub present : (member_at all b).plane ≡ Some plane
+  pub graph : plane.graph ≡ (view_at views b).tree.part.graph
+  pub tree : plane.tree ≡ (view_at views b).tree.nodes
+  pub locks : plane.locks ≡ embedding.locks
+
+-- the blocks of the component have the rotation systems of these members, its cut vertices these lists, and all else is as it was
+pub record KeepsWhole (k : Component) (views : List BlockView) (lists : List (Option (List ℕ))) (block : ℕ → BlockInPlane) (wanted : ℕ → Option (List ℕ)) (kept : Kept) : Type 0 where
+  pub count : length kept.entries ≡ length views
+  pub entries : (b : ℕ) (e : Embedding) → is_member b k.blocks ≡ true → StandsAt views b e → slice_index_or kept.entries b None ≡ Some (record { rotation = (block b).rotation; locks = e.locks })
+  pub others : (b : ℕ) → is_member b k.blocks ≡ false → slice_index_or kept.entries b None ≡ slice_index_or (map view_entry views) b None
+  pub each : length kept.lists ≡ length lists
+  pub lists_at : (i : ℕ) → i < length k.cuts → slice_index_or kept.lists (slice_index k.cuts i) None ≡ wanted i
+  pub elsewhere : (v : ℕ) → is_member v k.cuts ≡ false → slice_index_or kept.lists v None ≡ slice_index_or lists v None
+
+-- the step leads to these blocks and lists of a component, and back
+pub record LeadsToWhole (k : Component) (views : List BlockView) (lists : List (Option (List ℕ))) (block : ℕ → BlockInPlane) (wanted : ℕ → Option (List ℕ)) (step : Step) : Type 0 where
+  pub kept : Kept
+  pub leads : LeadsTo views lists kept step
+  pub keeps : KeepsWhole k views lists block wanted kept
