@@ -2,22 +2,35 @@
 use Rattle.std.specs.Prelude.{◌≡◌, ℕ, zero, suc, ◌<◌, Bool, true, false, if◌then◌else◌, List, [], ◌∷◌, ◌++◌, length, map, flat_map, slice_index, slice_index_or, Option, None, Some}
 use Rattle.permutations.specs.Members.{is_member}
 use Rattle.arrangements.specs.Arranged.{same_list}
-use Rattle.skeletons.specs.Moves.{Move}
+use Rattle.skeletons.specs.Moves.{Move, moves_between}
 use Rattle.skel_embed.specs.Block.{BlockState}
 use Rattle.undo_log.specs.declared.step.CutChange.{CutChange}
 use Rattle.undo_log.specs.declared.step.Step.{Step}
 use Rattle.whole_embed.specs.declared.members.Member.{Member}
-use Rattle.whole_embed.specs.Component.{Component, BlockInPlane}
-use Rattle.whole_embed.specs.Cuts.{CutState, member_at, blocks_in}
+use Rattle.whole_embed.specs.Component.{Component, BlockInPlane, IsComponentInPlane}
+use Rattle.whole_embed.specs.Around.{outer_at}
+use Rattle.whole_embed.specs.Cuts.{CutState, member_at, blocks_in, HavePlanes}
+use Rattle.whole_embed.specs.Whole.{IsWholeMember}
 use Rattle.whole_embed.specs.Walk.{first_around}
-use Rattle.spqr_session.specs.State.{Embedding, blocks_with}
+use Rattle.whole_convert.specs.Between.{blocks_to}
+use Rattle.spqr_session.specs.Setting.{Setting}
+use Rattle.spqr_session.specs.State.{Embedding, Family, component_at}
 use Rattle.spqr_session.specs.Kept.{Kept}
-use Rattle.spqr_session.specs.Embedded.{BlockView, view_tree, view_entry, view_at}
-use Rattle.spqr_session.specs.Board.{StandsAt, LeadsTo}
+use Rattle.spqr_session.specs.Embedded.{BlockView, view_entry, view_at}
+use Rattle.spqr_session.specs.Board.{BoardView, StandsAt, LeadsTo, GoesTo}
+use Rattle.spqr_session.specs.Components.{blocks_of}
 
--- the blocks as they are seen
-abbrev pub blocks_seen : List BlockView → ℕ → BlockInPlane
-blocks_seen views b = blocks_with (map view_tree views) (map view_entry views) b
+-- the rotation system of an entry; none where there is none
+abbrev pub rotation_in : Option Embedding → List (List ℕ)
+rotation_in None = []
+rotation_in (Some e) = e.rotation
+
+-- the moves from the rotation system that block b has to the one that it has among others, and those back
+abbrev pub moves_forth : List BlockView → (ℕ → BlockInPlane) → ℕ → List Move
+moves_forth views block b = moves_between (view_at views b).tree.nodes (rotation_in (view_at views b).entry) (block b).rotation
+
+abbrev pub moves_back : List BlockView → (ℕ → BlockInPlane) → ℕ → List Move
+moves_back views block b = moves_between (view_at views b).tree.nodes (block b).rotation (rotation_in (view_at views b).entry)
 
 -- moves of blocks, of one block after the other, as pairs of a block and a move
 abbrev pub pairs_of : (ℕ → List Move) → List ℕ → List (ℕ × Move)
@@ -73,3 +86,22 @@ pub record LeadsToWhole (k : Component) (views : List BlockView) (lists : List (
   pub kept : Kept
   pub leads : LeadsTo views lists kept step
   pub keeps : KeepsWhole k views lists block wanted kept
+
+-- the blocks and the lists are those of a component of a family with the rotation system q, a member of its list
+pub record IsWholeTarget (setting : Setting) (c : ℕ) (family : Family) (q : List (List ℕ)) (cuts : CutState) (all : List Member) : Type 0 where
+  pub member : IsWholeMember (component_at setting c) (blocks_of setting family) q
+  pub component : cuts.component ≡ component_at setting c
+  pub blocks : blocks_in all ≡ blocks_to (component_at setting c) (blocks_of setting family) q
+  pub lists : cuts.lists ≡ map (outer_at (component_at setting c).part q) (component_at setting c).cuts
+  pub in_plane : IsComponentInPlane cuts.component (blocks_in all)
+  pub planes : HavePlanes cuts.component all
+
+-- what is to be kept of these lists, for these blocks
+abbrev pub wanted_for : CutState → List Member → ℕ → Option (List ℕ)
+wanted_for cuts all i = list_kept (first_around cuts.component (blocks_in all) i) (slice_index_or cuts.lists i [])
+
+-- the board goes on to these blocks and lists of a component
+pub record GoesToWhole (before : BoardView) (cuts : CutState) (all : List Member) (after : BoardView) : Type 0 where
+  pub kept : Kept
+  pub goes : GoesTo before kept after
+  pub keeps : KeepsWhole cuts.component before.views before.lists (blocks_in all) (wanted_for cuts all) kept

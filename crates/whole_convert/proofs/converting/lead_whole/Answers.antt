@@ -12,7 +12,7 @@ use Rattle.whole_convert.proofs.Connected.{component-connected}
 use Rattle.whole_convert.proofs.LedAll.{led-component, led-planes}
 use Rattle.whole_convert.proofs.Pieces.{blocks-within}
 use Rattle.whole_convert.proofs.Converted.{found-moves}
-use Rattle.whole_convert.proofs.converting.whole_moves.Goals as goal
+use Rattle.whole_convert.proofs.converting.lead_whole.Goals as goal
 
 pub system_of-requires : goal.system_of-requires
 system_of-requires c =
@@ -46,11 +46,11 @@ cuts_then-requires-clause-within c x l =
     let inside : slice_index k.edge_blocks x < length all = blocks-within k all (assembled k (blocks_in all) c.requires.component) (subst IsFrame c.frame-frame.ensures.value c.part.ensures.frame) c.requires.planes x l in
     omega (arith, inside, ap length marks, (c.in_ok-list.ensures {u = tt}).long, c.deref_mut.ensures.len, (c.in_ok-marks.ensures {u = tt}).len)
 
-pub returns-clause-moves : goal.returns-clause-moves
-returns-clause-moves c =
-    let new : List Bool = c.all_moves.new.marks in
-    let marks : c.deref-3.result.now ≡ c.all_moves.new.marks = c.deref-3.ensures.value ∙ take_at new (drop (length new) c.in_ok-marks.marks.items) c.in_ok-marks.marks.len ((c.in_ok-list.ensures {u = tt}).long ∙ c.deref_mut.ensures.len) in
-    found-moves c.args.cuts.now.component c.frame-frame.result.now c.in_ok-after.after.component c.part.result.now c.args.all.now c.in_ok-new.new.items c.deref.result.now c.deref-2.result.now c.args.cuts.now.lists c.in_ok-after.after.lists c.in_ok-q.q
-    c.all_moves.new.marks c.deref-3.result.now c.args.target.now (as_steps c.in_ok-list.list.items) (as_steps c.add_arrangements.new.list.items) c.requires.component c.requires.planes c.requires.arranged c.frame-frame.ensures.value
-    (c.in_ok-after.ensures {u = tt}).component c.part.ensures.value c.deref.ensures.value c.deref-2.ensures.value marks (c.in_ok-q.ensures {u = tt}).plane (c.in_ok-q.ensures {u = tt}).given (c.in_ok-new.ensures {u = tt}).led (c.in_ok-list.ensures {u = tt}).moves
-    (c.in_ok-list.ensures {u = tt}).marked (c.in_ok-after.ensures {u = tt}).lists (c.in_ok-add_arrangements.ensures {u = tt})
+pub arrange_all-requires-clause-system : goal.arrange_all-requires-clause-system
+arrange_all-requires-clause-system c = ?
+
+pub arrange_all-requires-clause-orders : goal.arrange_all-requires-clause-orders
+arrange_all-requires-clause-orders c = ?
+
+pub returns-clause-led : goal.returns-clause-led
+returns-clause-led c = ?
