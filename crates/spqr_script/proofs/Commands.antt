@@ -11,9 +11,9 @@ use Rattle.spqr_script.specs.declared.word.Word.{Word}
 use Rattle.spqr_script.specs.declared.word.Word.TheVariants as word
 use Rattle.spqr_script.specs.declared.command.Command.{Command}
 use Rattle.spqr_script.specs.declared.command.Command.TheVariants as command
-use Rattle.spqr_script.specs.declared.command.Command.TheVariants.{Euler, Show, Faces, Flip, Permute, Mirror, First, Next, Goto, ConvertRank, ConvertTo, Take, Undo, Redo, Gml, Count, Rank, Longest, Draw, Lock, Unlock}
+use Rattle.spqr_script.specs.declared.command.Command.TheVariants.{Euler, Show, Faces, Flip, Permute, Mirror, First, Next, Goto, ConvertRank, ConvertTo, Take, Undo, Redo, Gml, Count, Rank, Longest, Draw, Lock, Unlock, Whole, Regroup, NextWhole, ListWhole, ConvertWhole}
 use Rattle.spqr_script.proofs.Words.{found_spelled, word_found}
-use Rattle.spqr_script.proofs.Forms.{alone_spelled, alone_read, with_rotation_spelled, with_rotation_read, block_spelled, block_read, node_spelled, node_read, keys_spelled, keys_read, listed_spelled, listed_read, rank_spelled, rank_read, rotation_behind_spelled, rotation_read_behind, convert_spelled, convert_rank_read, convert_to_read}
+use Rattle.spqr_script.proofs.Forms.{alone_spelled, alone_read, with_rotation_spelled, with_rotation_read, block_spelled, block_read, node_spelled, node_read, numbers_spelled, numbers_read, keys_spelled, keys_read, listed_spelled, listed_read, rank_spelled, rank_read, rotation_behind_spelled, rotation_read_behind, convert_spelled, convert_rank_read, convert_to_read}
 
 -- ---- one command
 
@@ -48,7 +48,7 @@ arguments_spelled word.Next tokens c e =
     let p = block_spelled Next tokens c e in
     subst (IsSpelled word.Next tokens) p.1 (refl, p.2)
 arguments_spelled word.List tokens c e =
-    let p = listed_spelled tokens c e in
+    let p = listed_spelled command.List tokens c e in
     subst (IsSpelled word.List tokens) p.2 (refl, p.3)
 arguments_spelled word.Goto tokens c e =
     let p = rank_spelled Goto tokens c e in
@@ -88,6 +88,21 @@ arguments_spelled word.Lock tokens c e =
 arguments_spelled word.Unlock tokens c e =
     let p = node_spelled Unlock tokens c e in
     subst (IsSpelled word.Unlock tokens) p.2 (refl, p.3)
+arguments_spelled word.Whole tokens c e =
+    let p = block_spelled Whole tokens c e in
+    subst (IsSpelled word.Whole tokens) p.1 (refl, p.2)
+arguments_spelled word.Regroup tokens c e =
+    let p = numbers_spelled Regroup tokens c e in
+    subst (IsSpelled word.Regroup tokens) p.2 (refl, p.3)
+arguments_spelled word.NextWhole tokens c e =
+    let p = block_spelled NextWhole tokens c e in
+    subst (IsSpelled word.NextWhole tokens) p.1 (refl, p.2)
+arguments_spelled word.ListWhole tokens c e =
+    let p = listed_spelled ListWhole tokens c e in
+    subst (IsSpelled word.ListWhole tokens) p.2 (refl, p.3)
+arguments_spelled word.ConvertWhole tokens c e =
+    let p = rotation_behind_spelled ConvertWhole tokens c e in
+    subst (IsSpelled word.ConvertWhole tokens) p.2 (refl, p.3)
 
 -- and what is spelled behind the word of a command is read
 arguments_read : (tokens : List (List ℕ)) (c : Command) → SpellsArguments tokens c → arguments_of (word_of c) tokens ≡ Some c
@@ -99,7 +114,7 @@ arguments_read tokens (Permute b k keys) s = keys_read Permute tokens b k keys s
 arguments_read tokens (Mirror b) s = block_read Mirror tokens b s
 arguments_read tokens (First b) s = block_read First tokens b s
 arguments_read tokens (Next b) s = block_read Next tokens b s
-arguments_read tokens (command.List b n) s = listed_read tokens b n s
+arguments_read tokens (command.List b n) s = listed_read command.List tokens b n s
 arguments_read tokens (Goto b r) s = rank_read Goto tokens b r s
 arguments_read tokens (ConvertRank b r) s = convert_rank_read tokens b r s
 arguments_read tokens (ConvertTo b entries) s = convert_to_read tokens b entries s
@@ -113,6 +128,11 @@ arguments_read tokens (Longest b) s = block_read Longest tokens b s
 arguments_read tokens (Draw b) s = block_read Draw tokens b s
 arguments_read tokens (Lock b k) s = node_read Lock tokens b k s
 arguments_read tokens (Unlock b k) s = node_read Unlock tokens b k s
+arguments_read tokens (Whole c) s = block_read Whole tokens c s
+arguments_read tokens (Regroup v edges) s = numbers_read Regroup tokens v edges s
+arguments_read tokens (NextWhole c) s = block_read NextWhole tokens c s
+arguments_read tokens (ListWhole c n) s = listed_read ListWhole tokens c n s
+arguments_read tokens (ConvertWhole c entries) s = rotation_read_behind ConvertWhole tokens c entries s
 
 -- a command has a word
 with_word : (o : Option Word) (tokens : List (List ℕ)) (c : Command) → command_with o tokens ≡ Some c → (w : Word) × (o ≡ Some w) × (arguments_of w tokens ≡ Some c)

@@ -9,7 +9,6 @@ use Rattle.spqr_script.specs.Number.{SpellsNumber, number_below, index_limit, ra
 use Rattle.spqr_script.specs.Script.{SpellsIndex, SpellsIndices, SpellsRotation, SpellsRank, SpellsBlockThen, SpellsWordThen}
 use Rattle.spqr_script.specs.Reading.{rotation_of, alone, number_then, index_then, keys_of, can_list, list_of, with_rank, with_rotation, convert_of}
 use Rattle.spqr_script.specs.declared.command.Command.{Command}
-use Rattle.spqr_script.specs.declared.command.Command.TheVariants as command
 use Rattle.spqr_script.specs.declared.command.Command.TheVariants.{ConvertRank, ConvertTo}
 use Rattle.spqr_script.proofs.Options.{cond_some_of, map_some}
 use Rattle.spqr_script.proofs.Entries.{number_spelled, number_read, indices_spelled, indices_read, rotation_spelled, rotation_read}
@@ -72,7 +71,7 @@ pub node_read : (make : ℕ → ℕ → Command) (tokens : List (List ℕ)) (b k
 node_read make [] b k s = absurd s
 node_read make (token ∷ tokens) b k s = number_read_first index_limit (λ b. index_then (λ k. alone (make b k))) token tokens b s.0 ∙ block_read (make b) tokens k s.1
 
--- ---- a block, a node and keys
+-- ---- a number, and one or more behind it
 
 some_keys : (tokens : List (List ℕ)) (keys : List ℕ) → keys_of tokens ≡ Some keys → SpellsIndices tokens keys × (0 < length keys)
 some_keys [] keys e = absurd (none-some keys e)
@@ -80,31 +79,43 @@ some_keys (token ∷ tokens) keys e =
     let s = indices_spelled (token ∷ tokens) keys e in
     (s, omega (arith, AllZip-long SpellsIndex (token ∷ tokens) keys s))
 
-pub keys_spelled : (make : ℕ → ℕ → List ℕ → Command) (tokens : List (List ℕ)) (c : Command) → index_then (λ b. index_then (λ k others. option_map (λ keys. make b k keys) (keys_of others))) tokens ≡ Some c
-    → (b k : ℕ) × (keys : List ℕ) × (make b k keys ≡ c) × (SpellsIndices tokens (b ∷ k ∷ keys) × (0 < length keys))
-keys_spelled make tokens c e =
-    let p = number_first index_limit (λ b. index_then (λ k others. option_map (λ keys. make b k keys) (keys_of others))) tokens c e in
-    let q = number_first index_limit (λ k others. option_map (λ keys. make p.number k keys) (keys_of others)) p.others c p.more in
-    let r = map_some (λ keys. make p.number q.number keys) (keys_of q.others) c q.more in
-    let s = some_keys q.others r.0 r.1 in
-    let t = subst (λ (ts : List (List ℕ)). SpellsIndices ts (q.number ∷ r.0)) (sym q.cut) (q.spelled, s.0) in
-    (p.number, q.number, r.0, r.2, (subst (λ (ts : List (List ℕ)). SpellsIndices ts (p.number ∷ q.number ∷ r.0)) (sym p.cut) (p.spelled, t), s.1))
+pub numbers_spelled : (make : ℕ → List ℕ → Command) (tokens : List (List ℕ)) (c : Command) → index_then (λ v others. option_map (λ ns. make v ns) (keys_of others)) tokens ≡ Some c
+    → (v : ℕ) × (ns : List ℕ) × (make v ns ≡ c) × (SpellsIndices tokens (v ∷ ns) × (0 < length ns))
+numbers_spelled make tokens c e =
+    let p = number_first index_limit (λ v others. option_map (λ ns. make v ns) (keys_of others)) tokens c e in
+    let q = map_some (λ ns. make p.number ns) (keys_of p.others) c p.more in
+    let s = some_keys p.others q.0 q.1 in
+    (p.number, q.0, q.2, (subst (λ (ts : List (List ℕ)). SpellsIndices ts (p.number ∷ q.0)) (sym p.cut) (p.spelled, s.0), s.1))
 
 keys_there : (tokens : List (List ℕ)) (keys : List ℕ) → SpellsIndices tokens keys → 0 < length keys → keys_of tokens ≡ Some keys
 keys_there [] [] s some = absurd (omega arith)
 keys_there [] (key ∷ keys) s some = absurd s
 keys_there (token ∷ tokens) keys s some = indices_read (token ∷ tokens) keys s
 
+pub numbers_read : (make : ℕ → List ℕ → Command) (tokens : List (List ℕ)) (v : ℕ) (ns : List ℕ) → SpellsIndices tokens (v ∷ ns) × (0 < length ns)
+    → index_then (λ v others. option_map (λ ns. make v ns) (keys_of others)) tokens ≡ Some (make v ns)
+numbers_read make [] v ns s = absurd s.0
+numbers_read make (token ∷ tokens) v ns s =
+    number_read_first index_limit (λ v others. option_map (λ ns. make v ns) (keys_of others)) token tokens v s.0.0
+    ∙ ap (λ (o : Option (List ℕ)). option_map (λ ns. make v ns) o) (keys_there tokens ns s.0.1 s.1)
+
+-- ---- a block, a node and keys
+
+pub keys_spelled : (make : ℕ → ℕ → List ℕ → Command) (tokens : List (List ℕ)) (c : Command) → index_then (λ b. index_then (λ k others. option_map (λ keys. make b k keys) (keys_of others))) tokens ≡ Some c
+    → (b k : ℕ) × (keys : List ℕ) × (make b k keys ≡ c) × (SpellsIndices tokens (b ∷ k ∷ keys) × (0 < length keys))
+keys_spelled make tokens c e =
+    let p = number_first index_limit (λ b. index_then (λ k others. option_map (λ keys. make b k keys) (keys_of others))) tokens c e in
+    let q = numbers_spelled (make p.number) p.others c p.more in
+    (p.number, q.0, q.1, q.2, (subst (λ (ts : List (List ℕ)). SpellsIndices ts (p.number ∷ q.0 ∷ q.1)) (sym p.cut) (p.spelled, q.3.0), q.3.1))
+
 pub keys_read : (make : ℕ → ℕ → List ℕ → Command) (tokens : List (List ℕ)) (b k : ℕ) (keys : List ℕ) → SpellsIndices tokens (b ∷ k ∷ keys) × (0 < length keys)
     → index_then (λ b. index_then (λ k others. option_map (λ keys. make b k keys) (keys_of others))) tokens ≡ Some (make b k keys)
 keys_read make [] b k keys s = absurd s.0
-keys_read make (token ∷ []) b k keys s = absurd s.0.1
-keys_read make (token ∷ node ∷ tokens) b k keys s =
-    number_read_first index_limit (λ b. index_then (λ k others. option_map (λ keys. make b k keys) (keys_of others))) token (node ∷ tokens) b s.0.0
-    ∙ number_read_first index_limit (λ k others. option_map (λ keys. make b k keys) (keys_of others)) node tokens k s.0.1.0
-    ∙ ap (λ (o : Option (List ℕ)). option_map (λ keys. make b k keys) o) (keys_there tokens keys s.0.1.1 s.1)
+keys_read make (token ∷ tokens) b k keys s =
+    number_read_first index_limit (λ b. index_then (λ k others. option_map (λ keys. make b k keys) (keys_of others))) token tokens b s.0.0
+    ∙ numbers_read (make b) tokens k keys (s.0.1, s.1)
 
--- ---- a block, and how many members are listed
+-- ---- a block or a component, and how many members are listed
 
 list_length : (n : ℕ) → can_list n ≡ true → (0 < n) × (n ≤ max_listed)
 list_length n e = grind (arith, and_parts (ltb 0 n) (not (ltb max_listed n)) e)
@@ -112,24 +123,24 @@ list_length n e = grind (arith, and_parts (ltb 0 n) (not (ltb max_listed n)) e)
 list_length_from : (n : ℕ) → 0 < n → n ≤ max_listed → can_list n ≡ true
 list_length_from n some few = grind arith
 
-pub listed_spelled : (tokens : List (List ℕ)) (c : Command) → index_then (λ b. index_then (list_of b)) tokens ≡ Some c
-    → (b n : ℕ) × (command.List b n ≡ c) × (SpellsIndices tokens (b ∷ n ∷ []) × ((0 < n) × (n ≤ max_listed)))
-listed_spelled tokens c e =
-    let p = number_first index_limit (λ b. index_then (list_of b)) tokens c e in
-    let q = number_first index_limit (list_of p.number) p.others c p.more in
-    let r = cond_some_of (can_list q.number) (alone (command.List p.number q.number) q.others) c q.more in
-    let t = alone_spelled (command.List p.number q.number) q.others c r.1 in
+pub listed_spelled : (make : ℕ → ℕ → Command) (tokens : List (List ℕ)) (c : Command) → index_then (λ b. index_then (list_of (make b))) tokens ≡ Some c
+    → (b n : ℕ) × (make b n ≡ c) × (SpellsIndices tokens (b ∷ n ∷ []) × ((0 < n) × (n ≤ max_listed)))
+listed_spelled make tokens c e =
+    let p = number_first index_limit (λ b. index_then (list_of (make b))) tokens c e in
+    let q = number_first index_limit (list_of (make p.number)) p.others c p.more in
+    let r = cond_some_of (can_list q.number) (alone (make p.number q.number) q.others) c q.more in
+    let t = alone_spelled (make p.number q.number) q.others c r.1 in
     let none : SpellsIndices q.others [] = subst (λ (ts : List (List ℕ)). SpellsIndices ts []) (sym t.0) tt in
     let one : SpellsIndices p.others (q.number ∷ []) = subst (λ (ts : List (List ℕ)). SpellsIndices ts (q.number ∷ [])) (sym q.cut) (q.spelled, none) in
     (p.number, q.number, t.1, (subst (λ (ts : List (List ℕ)). SpellsIndices ts (p.number ∷ q.number ∷ [])) (sym p.cut) (p.spelled, one), list_length q.number r.0))
 
-pub listed_read : (tokens : List (List ℕ)) (b n : ℕ) → SpellsIndices tokens (b ∷ n ∷ []) × ((0 < n) × (n ≤ max_listed)) → index_then (λ b. index_then (list_of b)) tokens ≡ Some (command.List b n)
-listed_read [] b n s = absurd s.0
-listed_read (token ∷ []) b n s = absurd s.0.1
-listed_read (token ∷ count ∷ []) b n s =
-    number_read_first index_limit (λ b. index_then (list_of b)) token (count ∷ []) b s.0.0 ∙ number_read_first index_limit (list_of b) count [] n s.0.1.0
-    ∙ cond-true (can_list n) (Some (command.List b n)) None (list_length_from n s.1.0 s.1.1)
-listed_read (token ∷ count ∷ other ∷ tokens) b n s = absurd s.0.1.1
+pub listed_read : (make : ℕ → ℕ → Command) (tokens : List (List ℕ)) (b n : ℕ) → SpellsIndices tokens (b ∷ n ∷ []) × ((0 < n) × (n ≤ max_listed)) → index_then (λ b. index_then (list_of (make b))) tokens ≡ Some (make b n)
+listed_read make [] b n s = absurd s.0
+listed_read make (token ∷ []) b n s = absurd s.0.1
+listed_read make (token ∷ count ∷ []) b n s =
+    number_read_first index_limit (λ b. index_then (list_of (make b))) token (count ∷ []) b s.0.0 ∙ number_read_first index_limit (list_of (make b)) count [] n s.0.1.0
+    ∙ cond-true (can_list n) (Some (make b n)) None (list_length_from n s.1.0 s.1.1)
+listed_read make (token ∷ count ∷ other ∷ tokens) b n s = absurd s.0.1.1
 
 -- ---- a rank
 

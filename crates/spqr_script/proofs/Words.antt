@@ -8,7 +8,7 @@ use Rattle.std.proofs.Math.Seq.{drop-cons}
 use Rattle.spqr_script.specs.Words.{spelling, all_words, word_among}
 use Rattle.spqr_script.specs.declared.word.Word.{Word}
 use Rattle.spqr_script.specs.declared.word.Word.TheVariants as word
-use Rattle.spqr_script.specs.declared.word.Word.TheVariants.{Euler, Show, Faces, Flip, Permute, Mirror, First, Next, Goto, Convert, Take, Undo, Redo, Gml, Count, Rank, Longest, Draw, Lock, Unlock}
+use Rattle.spqr_script.specs.declared.word.Word.TheVariants.{Euler, Show, Faces, Flip, Permute, Mirror, First, Next, Goto, Convert, Take, Undo, Redo, Gml, Count, Rank, Longest, Draw, Lock, Unlock, Whole, Regroup, NextWhole, ListWhole, ConvertWhole}
 
 -- what is found is spelled so
 pub found_spelled : (words : List Word) (name : List ℕ) (w : Word) → word_among words name ≡ Some w → name ≡ spelling w
@@ -44,6 +44,11 @@ word_found Longest = refl
 word_found Draw = refl
 word_found Lock = refl
 word_found Unlock = refl
+word_found Whole = refl
+word_found Regroup = refl
+word_found NextWhole = refl
+word_found ListWhole = refl
+word_found ConvertWhole = refl
 
 -- ---- the search word by word
 

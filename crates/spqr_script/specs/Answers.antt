@@ -11,3 +11,4 @@ pub mod Faces
 pub mod Moves
 pub mod Longest
 pub mod Draw
+pub mod Whole

@@ -15,9 +15,9 @@ use Rattle.spqr_script.specs.declared.word.Word.{Word}
 use Rattle.spqr_script.specs.declared.word.Word.TheVariants as word
 use Rattle.spqr_script.specs.declared.command.Command.{Command}
 use Rattle.spqr_script.specs.declared.command.Command.TheVariants as command
-use Rattle.spqr_script.specs.declared.command.Command.TheVariants.{Euler, Show, Faces, Flip, Permute, Mirror, First, Next, Goto, ConvertRank, ConvertTo, Take, Undo, Redo, Gml, Count, Rank, Longest, Draw, Lock, Unlock}
+use Rattle.spqr_script.specs.declared.command.Command.TheVariants.{Euler, Show, Faces, Flip, Permute, Mirror, First, Next, Goto, ConvertRank, ConvertTo, Take, Undo, Redo, Gml, Count, Rank, Longest, Draw, Lock, Unlock, Whole, Regroup, NextWhole, ListWhole, ConvertWhole}
 
--- the number of a vertex, an edge, a block, a node or a key
+-- the number of a vertex, an edge, a block, a component, a node or a key
 abbrev pub index_of : List ℕ → Option ℕ
 index_of token = number_below index_limit token
 
@@ -88,8 +88,8 @@ abbrev pub can_list : ℕ → Bool
 can_list n = nat_lt 0 n && not (nat_lt max_listed n)
 
 -- the command that is read with how many members are listed, and those that remain
-abbrev pub list_of : ℕ → ℕ → List (List ℕ) → Option Command
-list_of b n tokens = (if can_list n then alone (command.List b n) tokens else None)
+abbrev pub list_of : (ℕ → Command) → ℕ → List (List ℕ) → Option Command
+list_of make n tokens = (if can_list n then alone (make n) tokens else None)
 
 -- the command that is read with a rank, which is all tokens
 abbrev pub with_rank : (ℕ → Command) → List (List ℕ) → Option Command
@@ -117,7 +117,7 @@ arguments_of word.Permute tokens = index_then (λ b. index_then (λ k others. op
 arguments_of word.Mirror tokens = index_then (λ b. alone (Mirror b)) tokens
 arguments_of word.First tokens = index_then (λ b. alone (First b)) tokens
 arguments_of word.Next tokens = index_then (λ b. alone (Next b)) tokens
-arguments_of word.List tokens = index_then (λ b. index_then (list_of b)) tokens
+arguments_of word.List tokens = index_then (λ b. index_then (list_of (command.List b))) tokens
 arguments_of word.Goto tokens = index_then (λ b. with_rank (Goto b)) tokens
 arguments_of word.Convert tokens = index_then convert_of tokens
 arguments_of word.Take tokens = index_then (λ b. with_rotation (Take b)) tokens
@@ -130,6 +130,11 @@ arguments_of word.Longest tokens = index_then (λ b. alone (Longest b)) tokens
 arguments_of word.Draw tokens = index_then (λ b. alone (Draw b)) tokens
 arguments_of word.Lock tokens = index_then (λ b. index_then (λ k. alone (Lock b k))) tokens
 arguments_of word.Unlock tokens = index_then (λ b. index_then (λ k. alone (Unlock b k))) tokens
+arguments_of word.Whole tokens = index_then (λ c. alone (Whole c)) tokens
+arguments_of word.Regroup tokens = index_then (λ v others. option_map (λ edges. Regroup v edges) (keys_of others)) tokens
+arguments_of word.NextWhole tokens = index_then (λ c. alone (NextWhole c)) tokens
+arguments_of word.ListWhole tokens = index_then (λ c. index_then (list_of (ListWhole c))) tokens
+arguments_of word.ConvertWhole tokens = index_then (λ c. with_rotation (ConvertWhole c)) tokens
 
 -- the same, where there is a word
 abbrev pub command_with : Option Word → List (List ℕ) → Option Command

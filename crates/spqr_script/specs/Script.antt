@@ -9,9 +9,9 @@ use Rattle.spqr_script.specs.declared.word.Word.{Word}
 use Rattle.spqr_script.specs.declared.word.Word.TheVariants as word
 use Rattle.spqr_script.specs.declared.command.Command.{Command}
 use Rattle.spqr_script.specs.declared.command.Command.TheVariants as command
-use Rattle.spqr_script.specs.declared.command.Command.TheVariants.{Euler, Show, Faces, Flip, Permute, Mirror, First, Next, Goto, ConvertRank, ConvertTo, Take, Undo, Redo, Gml, Count, Rank, Longest, Draw, Lock, Unlock}
+use Rattle.spqr_script.specs.declared.command.Command.TheVariants.{Euler, Show, Faces, Flip, Permute, Mirror, First, Next, Goto, ConvertRank, ConvertTo, Take, Undo, Redo, Gml, Count, Rank, Longest, Draw, Lock, Unlock, Whole, Regroup, NextWhole, ListWhole, ConvertWhole}
 
--- the number of a vertex, an edge, a block, a node or a key
+-- the number of a vertex, an edge, a block, a component, a node or a key
 abbrev pub SpellsIndex : List ℕ → ℕ → Type 0
 SpellsIndex token n = SpellsNumber index_limit token n
 
@@ -40,7 +40,7 @@ SpellsRank [] r = ⊥
 SpellsRank (token ∷ []) r = SpellsNumber rank_limit token r
 SpellsRank (token ∷ other ∷ tokens) r = ⊥
 
--- the number of a block, and after it tokens of which `Others` holds
+-- the number of a block or a component, and after it tokens of which `Others` holds
 abbrev pub SpellsBlockThen : ℕ → (List (List ℕ) → Type 0) → List (List ℕ) → Type 0
 SpellsBlockThen b Others [] = ⊥
 SpellsBlockThen b Others (token ∷ tokens) = SpellsIndex token b × Others tokens
@@ -74,9 +74,15 @@ word_of (Longest b) = word.Longest
 word_of (Draw b) = word.Draw
 word_of (Lock b k) = word.Lock
 word_of (Unlock b k) = word.Unlock
+word_of (Whole c) = word.Whole
+word_of (Regroup v edges) = word.Regroup
+word_of (NextWhole c) = word.NextWhole
+word_of (ListWhole c n) = word.ListWhole
+word_of (ConvertWhole c entries) = word.ConvertWhole
 
 -- the arguments of a command, which are all tokens after its word: none, a rotation, or the number of a block, and after it a
--- node, a node and one or more keys, how many members, a rank, `rank` and a rank, a rotation, or `to` and a rotation
+-- node, a node and one or more keys, how many members, a rank, `rank` and a rank, a rotation, or `to` and a rotation; the number of
+-- a component, and after it how many members, or a rotation; or the number of a vertex and one or more edges
 abbrev pub SpellsArguments : List (List ℕ) → Command → Type 0
 SpellsArguments tokens (Euler entries) = SpellsRotation tokens entries
 SpellsArguments tokens (Show b) = SpellsIndices tokens (b ∷ [])
@@ -100,6 +106,11 @@ SpellsArguments tokens (Longest b) = SpellsIndices tokens (b ∷ [])
 SpellsArguments tokens (Draw b) = SpellsIndices tokens (b ∷ [])
 SpellsArguments tokens (Lock b k) = SpellsIndices tokens (b ∷ k ∷ [])
 SpellsArguments tokens (Unlock b k) = SpellsIndices tokens (b ∷ k ∷ [])
+SpellsArguments tokens (Whole c) = SpellsIndices tokens (c ∷ [])
+SpellsArguments tokens (Regroup v edges) = SpellsIndices tokens (v ∷ edges) × (0 < length edges)
+SpellsArguments tokens (NextWhole c) = SpellsIndices tokens (c ∷ [])
+SpellsArguments tokens (ListWhole c n) = SpellsIndices tokens (c ∷ n ∷ []) × ((0 < n) × (n ≤ max_listed))
+SpellsArguments tokens (ConvertWhole c entries) = SpellsBlockThen c (λ others. SpellsRotation others entries) tokens
 
 -- the tokens of a line are a command: its word, and after it its arguments
 abbrev pub SpellsCommand : List (List ℕ) → Command → Type 0

@@ -2,7 +2,7 @@
 use Rattle.std.specs.Prelude.{ℕ, if◌then◌else◌, List, [], ◌∷◌, Option, Some, None, bytes_eq, codes}
 use Rattle.spqr_script.specs.declared.word.Word.{Word}
 use Rattle.spqr_script.specs.declared.word.Word.TheVariants as word
-use Rattle.spqr_script.specs.declared.word.Word.TheVariants.{Euler, Show, Faces, Flip, Permute, Mirror, First, Next, Goto, Convert, Take, Undo, Redo, Gml, Count, Rank, Longest, Draw, Lock, Unlock}
+use Rattle.spqr_script.specs.declared.word.Word.TheVariants.{Euler, Show, Faces, Flip, Permute, Mirror, First, Next, Goto, Convert, Take, Undo, Redo, Gml, Count, Rank, Longest, Draw, Lock, Unlock, Whole, Regroup, NextWhole, ListWhole, ConvertWhole}
 
 -- how a word is spelled
 abbrev pub spelling : Word → List ℕ
@@ -27,12 +27,18 @@ spelling Longest = codes "longest"
 spelling Draw = codes "draw"
 spelling Lock = codes "lock"
 spelling Unlock = codes "unlock"
+spelling Whole = codes "whole"
+spelling Regroup = codes "regroup"
+spelling NextWhole = codes "nextwhole"
+spelling ListWhole = codes "listwhole"
+spelling ConvertWhole = codes "convertwhole"
 
 -- every word, in the order of the table
 abbrev pub all_words : List Word
 all_words =
     Euler ∷ Show ∷ Faces ∷ Flip ∷ Permute ∷ Mirror ∷ First ∷ Next ∷ word.List ∷ Goto
-    ∷ Convert ∷ Take ∷ Undo ∷ Redo ∷ Gml ∷ Count ∷ Rank ∷ Longest ∷ Draw ∷ Lock ∷ Unlock ∷ []
+    ∷ Convert ∷ Take ∷ Undo ∷ Redo ∷ Gml ∷ Count ∷ Rank ∷ Longest ∷ Draw ∷ Lock ∷ Unlock
+    ∷ Whole ∷ Regroup ∷ NextWhole ∷ ListWhole ∷ ConvertWhole ∷ []
 
 -- the first of some words that is spelled so
 unfoldable pub word_among : List Word → List ℕ → Option Word

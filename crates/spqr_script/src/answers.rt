@@ -11,6 +11,7 @@ mod longest;
 mod move_list;
 mod rank;
 mod rotation;
+mod whole;
 
 pub use change::{end_line, ok_line};
 pub use count::count_line;
@@ -21,6 +22,7 @@ pub use face_list::faces_lines;
 pub use gml::gml_lines;
 pub use list::{list_line, more_line};
 pub use longest::longest_lines;
-pub use move_list::moves_lines;
+pub use move_list::{moves_lines, push_move_count_line};
 pub use rank::rank_line;
 pub use rotation::{push_rotation_line, rotation_line};
+pub use whole::{list_whole_line, push_block_move_line, push_regroup_line, push_whole_line};

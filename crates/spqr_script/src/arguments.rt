@@ -12,6 +12,7 @@ mod goto;
 mod list;
 mod nodes;
 mod permute;
+mod regroup;
 mod take;
 
 use crate::command::Command;
@@ -22,11 +23,12 @@ use convert::read_convert;
 use decimals::number;
 use euler::read_euler;
 use goto::read_goto;
-use list::read_list;
+use list::{read_list, read_list_whole};
 use nodes::{read_flip, read_lock, read_unlock};
 use permute::read_permute;
+use regroup::read_regroup;
 use std::alloc::{AllocError, Global};
-use take::read_take;
+use take::{read_convert_whole, read_take};
 
 // The command, if no token comes after its word.
 pub(crate) fn alone(command: Command, text: &[u8]) -> Option<Command>
@@ -60,7 +62,7 @@ pub(crate) fn next_rank(text: &[u8]) -> Option<(u128, &[u8])>
     Some((number, rest))
 }
 
-// The number of a block that is the whole text.
+// The number of a block or a component that is the whole text.
 fn block(text: &[u8]) -> Option<u32>
     ensures { (make : ℕ → Command) → option_map make result
         ≡ index_then (λ b. alone (make b)) (tokens_of text.now) }
@@ -102,5 +104,10 @@ pub(crate) fn read_arguments(
         Word::Draw => Ok(block(text).map(Command::Draw)),
         Word::Lock => Ok(read_lock(text)),
         Word::Unlock => Ok(read_unlock(text)),
+        Word::Whole => Ok(block(text).map(Command::Whole)),
+        Word::Regroup => read_regroup(alloc, text),
+        Word::NextWhole => Ok(block(text).map(Command::NextWhole)),
+        Word::ListWhole => Ok(read_list_whole(text)),
+        Word::ConvertWhole => read_convert_whole(alloc, text),
     }
 }

@@ -53,6 +53,16 @@ pub enum Command {
     Lock(u32, u32),
     /// `unlock B K`: let the choice of node K of block B change again.
     Unlock(u32, u32),
+    /// `whole C`: print the rotation system of component C.
+    Whole(u32),
+    /// `regroup V EDGES`: put these edges in this cyclic order around vertex V.
+    Regroup(u32, Numbers),
+    /// `nextwhole C`: take the member of the list of component C that follows.
+    NextWhole(u32),
+    /// `listwhole C N`: print the N members that follow; N is from 1 to 10,000.
+    ListWhole(u32, u32),
+    /// `convertwhole C ROT`: print the moves that lead to this rotation system of the component, and make them.
+    ConvertWhole(u32, Lists),
 }
 
 /// Why bytes are not a script.

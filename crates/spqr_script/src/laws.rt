@@ -8,7 +8,7 @@ ghost use Rattle.spqr_script.specs.Script.{SpellsRotation, Commands, IsFirstBadL
 ghost use Rattle.spqr_script.specs.declared.command.Command.{Command};
 
 /// Each script spells commands or has a first bad line, and not both; it spells one list of commands at most, and has one
-/// first bad line at most. What is printed after the bar of a rotation line spells its entries.
+/// first bad line at most. What is printed after the bar of the line of a rotation system, of a block or of a component, spells its entries.
 pub fn script_laws()
     ensures decided { (bytes : List ℕ) → ((commands : List Command) × Commands bytes commands)
         ⊎ ((line : ℕ) × IsFirstBadLine bytes line) }

@@ -5,7 +5,7 @@
 // arguments. `read` returns the commands exactly where the bytes spell some, and else the number of the first line that is not a
 // command. Each text has one definition, its bytes, and one function, which returns just these bytes or runs out of memory. A
 // text on a block takes the block as a part of the graph, with values in the part's own numbers, and prints the numbers of the
-// graph; what comes after the bar of a rotation line is read back as its entries.
+// graph; what comes after the bar of the line of a rotation system is read back as its entries.
 #![tactic(auto)]
 
 mod answers;
@@ -25,7 +25,9 @@ mod word;
 
 pub use answers::{
     count_line, draw_lines, end_line, error_line, euler_line, faces_lines, gml_lines, list_line,
-    longest_lines, more_line, moves_lines, ok_line, push_rotation_line, rank_line, rotation_line,
+    list_whole_line, longest_lines, more_line, moves_lines, ok_line, push_block_move_line,
+    push_move_count_line, push_regroup_line, push_rotation_line, push_whole_line, rank_line,
+    rotation_line,
 };
 pub use command::{Command, ScriptFault};
 pub use decimals::number;

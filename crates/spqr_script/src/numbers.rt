@@ -1,13 +1,14 @@
 // Numbers as the script spells them.
 ghost use Rattle.std.specs.Prelude.{◌≡◌, IfOk, if◌then◌else◌, Some, None};
 ghost use Rattle.spqr_script.specs.Line.{tokens_of};
-ghost use Rattle.spqr_script.specs.Reading.{index_of, put_behind, indices_of};
+ghost use Rattle.spqr_script.specs.Reading.{index_of, put_behind, indices_of, keys_of};
 
 use crate::tokens::next_token;
 use decimals::number;
-use std::alloc::AllocError;
+use multigraph::Numbers;
+use std::alloc::{AllocError, Global};
 
-// The number of a vertex, an edge, a block, a node or a key.
+// The number of a vertex, an edge, a block, a component, a node or a key.
 pub(crate) fn index(token: &[u8]) -> Option<u32>
     ensures { result ≡ index_of token.now }
 {
@@ -33,4 +34,19 @@ pub(crate) fn read_indices(line: &[u8], numbers: &mut Vec<u32>) -> Result<bool, 
         rest = after;
     }
     Ok(true)
+}
+
+// The numbers that the text is, where it is one or more.
+pub(crate) fn read_keys(alloc: Global, text: &[u8]) -> Result<Option<Numbers>, AllocError>
+    ensures { IfOk result (λ keys. keys ≡ keys_of (tokens_of text.now)) }
+{
+    let mut keys = Vec::new(alloc);
+    if next_token(text).is_none() {
+        return Ok(None);
+    }
+    if read_indices(text, &mut keys)? {
+        Ok(Some(Numbers::of(keys)))
+    } else {
+        Ok(None)
+    }
 }

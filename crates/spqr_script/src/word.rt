@@ -47,10 +47,20 @@ pub enum Word {
     Lock,
     /// `unlock`.
     Unlock,
+    /// `whole`.
+    Whole,
+    /// `regroup`.
+    Regroup,
+    /// `nextwhole`.
+    NextWhole,
+    /// `listwhole`.
+    ListWhole,
+    /// `convertwhole`.
+    ConvertWhole,
 }
 
 // Every word, each once.
-static WORDS: [Word; 21] = [
+static WORDS: [Word; 26] = [
     Word::Euler,
     Word::Show,
     Word::Faces,
@@ -72,6 +82,11 @@ static WORDS: [Word; 21] = [
     Word::Draw,
     Word::Lock,
     Word::Unlock,
+    Word::Whole,
+    Word::Regroup,
+    Word::NextWhole,
+    Word::ListWhole,
+    Word::ConvertWhole,
 ];
 
 // How a word is spelled.
@@ -100,6 +115,11 @@ fn spelling(word: Word) -> &'static [u8]
         Word::Draw => b"draw",
         Word::Lock => b"lock",
         Word::Unlock => b"unlock",
+        Word::Whole => b"whole",
+        Word::Regroup => b"regroup",
+        Word::NextWhole => b"nextwhole",
+        Word::ListWhole => b"listwhole",
+        Word::ConvertWhole => b"convertwhole",
     }
 }
 

@@ -37,6 +37,14 @@ pub mod ConvertPlans
 pub mod GreatestFaces
 pub mod LongestCarried
 pub mod DrawCarried
+pub mod ComponentParts
+pub mod ComponentCarried
+pub mod WholeCarried
+pub mod RegroupCodes
+pub mod RegroupCarried
+pub mod KeptLists
+pub mod WholesMade
+pub mod RegroupMade
 pub mod Chains
 pub mod Steps
 pub mod DisjointLists

@@ -17,6 +17,3 @@ pub mod Longest
 pub mod Draw
 pub mod Whole
 pub mod Regroup
-pub mod NextWhole
-pub mod ListWhole
-pub mod ConvertWhole

@@ -16,6 +16,7 @@ pub mod BlockCodes
 pub mod Components
 pub mod Members
 pub mod Planned
+pub mod Wholes
 pub mod Commands
 pub mod Products
 pub mod Step

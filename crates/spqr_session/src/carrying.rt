@@ -3,7 +3,7 @@ ghost use Rattle.std.specs.Prelude.{◌≡◌, IfOk, OnErr};
 ghost use Rattle.spqr_session.specs.Setting.{IsSetting};
 ghost use Rattle.spqr_session.specs.State.{IsState};
 ghost use Rattle.spqr_session.specs.Scene.{setting_on};
-ghost use Rattle.spqr_session.specs.Board.{board_state, IsCarried};
+ghost use Rattle.spqr_session.specs.Board.{state_on, IsCarried};
 ghost use Rattle.spqr_session.specs.Step.{Step};
 
 use crate::board::Board;
@@ -26,9 +26,9 @@ pub(crate) fn carry_out(
     command: &Command,
 ) -> Result<Vec<u8>, AllocError>
     requires setting { IsSetting (setting_on scene.now board.old.views) }
-    requires state { IsState (setting_on scene.now board.old.views) (board_state board.old) }
+    requires state { IsState (setting_on scene.now board.old.views) (state_on scene.now board.old.views board.old) }
     ensures step { IfOk result (λ text. Step (setting_on scene.now board.old.views)
-        (board_state board.old) command.now text.items (board_state board.new)) }
+        (state_on scene.now board.old.views board.old) command.now text.items (state_on scene.now board.old.views board.new)) }
     ensures setting { IsCarried board.old.views board.new.views }
     ensures memory { OnErr result (board.new ≡ board.old) }
 {

@@ -26,6 +26,7 @@ mod commands;
 mod embedded;
 mod fault;
 mod head;
+mod kept;
 pub mod laws;
 mod lines;
 mod making;
@@ -35,6 +36,7 @@ mod session;
 mod sorting;
 mod starting;
 mod texts;
+mod wholes;
 
 pub use fault::StartFault;
 pub use session::Session;

@@ -28,7 +28,7 @@ fn outcome(alloc: Global, script: &str) -> Result<(usize, u32), AllocError> {
 }
 
 // Lines that are commands, each alone.
-static COMMANDS: [&str; 43] = [
+static COMMANDS: [&str; 53] = [
     "euler",
     "euler 0:",
     "euler 0: 0 1 2; 1: 0 4 3; 2: 1 3 5; 3: 2 5 4",
@@ -71,6 +71,16 @@ static COMMANDS: [&str; 43] = [
     "take 00 0: 0 2 1; 1: 0 3 4",
     "lock 0 4294967295",
     "unlock 1 1",
+    "whole 0",
+    "whole\t4294967295 ",
+    "regroup 0 3",
+    "regroup 07 3 5 0002 3",
+    "nextwhole 1",
+    "listwhole 0 1",
+    "listwhole 3 010000\r",
+    "convertwhole 1",
+    "convertwhole 1 6:",
+    " convertwhole 0 0: 0 5 3 2;1:0 1",
     "\n \t\n\r\n#\n\t# euler 0\ngml\n",
 ];
 
@@ -85,7 +95,7 @@ fn lines_that_are_commands(rt: HostRuntime) -> Result<(), Fail> {
 }
 
 // Lines that are nearly commands.
-static NO_COMMANDS: [&str; 80] = [
+static NO_COMMANDS: [&str; 112] = [
     "EULER",
     "eule",
     "euler 0",
@@ -166,6 +176,38 @@ static NO_COMMANDS: [&str; 80] = [
     "lock 0",
     "unlock 0 0 0",
     "unlocks 0 0",
+    "whole",
+    "whole 0 0",
+    "whole 4294967296",
+    "whole 0:",
+    "whole x",
+    "Whole 0",
+    "whole0",
+    "regroup",
+    "regroup 0",
+    "regroup 0 1 x",
+    "regroup 0: 1 2",
+    "regroup 0 1; 2",
+    "regroup 4294967296 1",
+    "regroup 0 4294967296",
+    "regroup 0 -1",
+    "nextwhole",
+    "nextwhole 0 1",
+    "next whole 0",
+    "nextWhole 0",
+    "listwhole",
+    "listwhole 0",
+    "listwhole 0 0",
+    "listwhole 0 10001",
+    "listwhole 0 1 1",
+    "listwhole 0 4294967297",
+    "list whole 0 1",
+    "convertwhole",
+    "convertwhole 0: 0",
+    "convertwhole 0 0: 0;",
+    "convertwhole 0 1: 0; 0: 1",
+    "convertwhole 0 to 0: 0",
+    "convertwhole 4294967296",
 ];
 
 #[test]
@@ -231,6 +273,33 @@ fn numbers_in_order(rt: HostRuntime) -> Result<(), Fail> {
     assert!(rt; matches!(commands[4], Command::Goto(6, 8)));
     assert!(rt; matches!(commands[5], Command::ConvertRank(7, 0)));
     assert!(rt; matches!(commands[6], Command::Unlock(8, 9)));
+    Ok(())
+}
+
+#[test]
+fn components_in_order(rt: HostRuntime) -> Result<(), Fail> {
+    let script =
+        b"whole 07\nregroup 4 6 0 6\nnextwhole 1\nlistwhole 5 10\nconvertwhole 2 6:;8: 9 7";
+    let commands = read(rt.alloc(), script)
+        .ok()
+        .ok_or("the bytes are five commands")?;
+    assert_eq!(rt; commands.len(), 5);
+    assert!(rt; matches!(commands[0], Command::Whole(7)));
+    if let Command::Regroup(v, edges) = &commands[1] {
+        assert_eq!(rt; *v, 4);
+        assert_eq!(rt; edges.as_slice(), [6, 0, 6].as_slice());
+    } else {
+        return Err("the second is `regroup`".into());
+    }
+    assert!(rt; matches!(commands[2], Command::NextWhole(1)));
+    assert!(rt; matches!(commands[3], Command::ListWhole(5, 10)));
+    if let Command::ConvertWhole(c, lists) = &commands[4] {
+        assert_eq!(rt; (*c, lists.len()), (2, 2));
+        assert_eq!(rt; (lists.vertex(0), lists.edges(0).len()), (6, 0));
+        assert_eq!(rt; (lists.vertex(1), lists.edges(1).len()), (8, 2));
+    } else {
+        return Err("the fifth is `convertwhole`".into());
+    }
     Ok(())
 }
 
@@ -590,6 +659,77 @@ fn lines_of_moves(rt: HostRuntime) -> Result<(), Fail> {
     assert_eq!(rt;
         longest_lines(alloc, 5, &part, &[])?.as_slice(),
         b"longest 5\nmoves 0\n".as_slice()
+    );
+    Ok(())
+}
+
+// The line of a move of a block; nothing where the keys are no edges.
+fn block_move_line(
+    alloc: Global,
+    b: u32,
+    part: &Part,
+    keys: &[u32],
+) -> Result<Vec<u8>, AllocError> {
+    let mut out = Vec::new(alloc);
+    if are_edges(part.graph(), keys) {
+        let step = Move::Permute(0, Keys::of(alloc, keys)?);
+        push_block_move_line(&mut out, b, part, &step)?;
+    }
+    Ok(out)
+}
+
+#[test]
+fn lines_of_whole_moves(rt: HostRuntime) -> Result<(), Fail> {
+    let alloc = rt.alloc();
+    // An edge, and three parallel edges after it.
+    let g = Graph::build(alloc, 3, &[(0, 1), (1, 2), (1, 2), (1, 2)])?;
+    let part = g.part(alloc, &[1, 2, 3])?;
+    let mut out = Vec::new(alloc);
+    push_move_count_line(&mut out, 3)?;
+    push_block_move_line(&mut out, 10, &part, &Move::Flip(2))?;
+    out.extend_from_slice(&block_move_line(alloc, 1, &part, &[0, 2, 1])?)?;
+    push_regroup_line(&mut out, 1, &[0, 1, 3, 2])?;
+    assert_eq!(rt;
+        out.as_slice(),
+        b"moves 3\nflip 10 2\npermute 1 0 1 3 2\nregroup 1 0 1 3 2\n".as_slice()
+    );
+    Ok(())
+}
+
+// The line of a component with these lists.
+fn whole_line(alloc: Global, c: u32, rows: &[(u32, &[u32])]) -> Result<Vec<u8>, AllocError> {
+    let mut out = Vec::new(alloc);
+    push_whole_line(&mut out, c, &lists_of(alloc, rows)?)?;
+    Ok(out)
+}
+
+// A rotation system of two triangles with a common vertex.
+static TWO_TRIANGLES: [(u32, &[u32]); 5] = [
+    (0, &[0, 2, 3, 5]),
+    (1, &[0, 1]),
+    (2, &[1, 2]),
+    (3, &[3, 4]),
+    (4, &[4, 5]),
+];
+
+#[test]
+fn lines_of_components(rt: HostRuntime) -> Result<(), Fail> {
+    let alloc = rt.alloc();
+    assert_eq!(rt;
+        whole_line(alloc, 0, &TWO_TRIANGLES)?.as_slice(),
+        b"whole 0 | 0: 0 2 3 5; 1: 0 1; 2: 1 2; 3: 3 4; 4: 4 5\n".as_slice()
+    );
+    assert_eq!(rt;
+        whole_line(alloc, 1, &[(6, &[])])?.as_slice(),
+        b"whole 1 | 6:\n".as_slice()
+    );
+    assert_eq!(rt;
+        whole_line(alloc, 2, &[])?.as_slice(),
+        b"whole 2 |\n".as_slice()
+    );
+    assert_eq!(rt;
+        list_whole_line(alloc, 0, 10000)?.as_slice(),
+        b"listwhole 0 10000\n".as_slice()
     );
     Ok(())
 }

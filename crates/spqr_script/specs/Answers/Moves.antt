@@ -16,9 +16,13 @@ abbrev pub move_texts : GraphPart → List Move → List ℕ
 move_texts part [] = []
 move_texts part (move ∷ moves) = move_text part move ++ move_texts part moves
 
+-- `moves T`: how many moves follow, each on a line
+abbrev pub move_count_text : ℕ → List ℕ
+move_count_text t = codes "moves " ++ decimal t ++ line_end
+
 -- `moves T` and a line for each of the T moves
 abbrev pub moves_text : GraphPart → List Move → List ℕ
-moves_text part moves = codes "moves " ++ decimal (length moves) ++ line_end ++ move_texts part moves
+moves_text part moves = move_count_text (length moves) ++ move_texts part moves
 
 -- the keys of a move are edges of g
 abbrev pub IsMoveOf : Multigraph → Move → Type 0

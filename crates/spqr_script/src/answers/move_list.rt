@@ -1,6 +1,6 @@
 // The text of the answer to `convert`.
 ghost use Rattle.std.specs.Prelude.{◌≡◌, ◌++◌, IfOk, OnOk, All};
-ghost use Rattle.spqr_script.specs.Answers.Moves.{move_text, move_texts, moves_text, IsMoveOf};
+ghost use Rattle.spqr_script.specs.Answers.Moves.{move_text, move_texts, move_count_text, moves_text, IsMoveOf};
 
 use crate::outer::push_edges;
 use decimals::{push_number, push_word};
@@ -38,6 +38,16 @@ fn push_moves(out: &mut Vec<u8>, part: &Part, ms: &[Move]) -> Result<(), AllocEr
     Ok(())
 }
 
+/// Appends the line `moves T` to a text: how many moves follow. Fails only if memory runs out; the text may then end in a part of
+/// the line.
+pub fn push_move_count_line(out: &mut Vec<u8>, t: usize) -> Result<(), AllocError>
+    ensures { OnOk result (out.new.items ≡ out.old.items ++ move_count_text t) }
+{
+    push_word(out, b"moves ")?;
+    push_number(out, t as u128)?;
+    push_word(out, b"\n")
+}
+
 // Appends the line of how many moves there are to a text, and theirs.
 pub(crate) fn push_moves_lines(
     out: &mut Vec<u8>,
@@ -47,9 +57,7 @@ pub(crate) fn push_moves_lines(
     requires { All (IsMoveOf part.now.graph) ms.now }
     ensures { OnOk result (out.new.items ≡ out.old.items ++ moves_text part.now ms.now) }
 {
-    push_word(out, b"moves ")?;
-    push_number(out, ms.len() as u128)?;
-    push_word(out, b"\n")?;
+    push_move_count_line(out, ms.len())?;
     push_moves(out, part, ms)
 }
 

@@ -1,30 +1,13 @@
 // The arguments of `permute`: a block, a node of its tree, and one or more keys.
 ghost use Rattle.std.specs.Prelude.{◌≡◌, IfOk};
 ghost use Rattle.spqr_script.specs.Line.{tokens_of};
-ghost use Rattle.spqr_script.specs.Reading.{keys_of, arguments_of};
+ghost use Rattle.spqr_script.specs.Reading.{arguments_of};
 
 use crate::arguments::next_index;
 use crate::command::Command;
-use crate::numbers::read_indices;
-use crate::tokens::next_token;
+use crate::numbers::read_keys;
 use crate::word::Word;
-use multigraph::Numbers;
 use std::alloc::{AllocError, Global};
-
-// The numbers that the text is, where it is one or more.
-fn read_keys(alloc: Global, text: &[u8]) -> Result<Option<Numbers>, AllocError>
-    ensures { IfOk result (λ keys. keys ≡ keys_of (tokens_of text.now)) }
-{
-    let mut keys = Vec::new(alloc);
-    if next_token(text).is_none() {
-        return Ok(None);
-    }
-    if read_indices(text, &mut keys)? {
-        Ok(Some(Numbers::of(keys)))
-    } else {
-        Ok(None)
-    }
-}
 
 // The command, where the text is the numbers of a block and a node, and one or more keys.
 pub(crate) fn read_permute(alloc: Global, text: &[u8]) -> Result<Option<Command>, AllocError>

@@ -31,3 +31,9 @@ returns-in-Longest c = made_as command.Longest c.block-in-Longest.result c.map-i
 
 pub returns-in-Draw : goal.returns-in-Draw
 returns-in-Draw c = made_as command.Draw c.block-in-Draw.result c.map-in-Draw.result _ (c.block-in-Draw.ensures command.Draw) c.map-in-Draw.ensures.cases ∙ sym (ap (λ w. arguments_of w (tokens_of c.args.text.now)) c.in-Draw.is)
+
+pub returns-in-Whole : goal.returns-in-Whole
+returns-in-Whole c = made_as command.Whole c.block-in-Whole.result c.map-in-Whole.result _ (c.block-in-Whole.ensures command.Whole) c.map-in-Whole.ensures.cases ∙ sym (ap (λ w. arguments_of w (tokens_of c.args.text.now)) c.in-Whole.is)
+
+pub returns-in-NextWhole : goal.returns-in-NextWhole
+returns-in-NextWhole c = made_as command.NextWhole c.block-in-NextWhole.result c.map-in-NextWhole.result _ (c.block-in-NextWhole.ensures command.NextWhole) c.map-in-NextWhole.ensures.cases ∙ sym (ap (λ w. arguments_of w (tokens_of c.args.text.now)) c.in-NextWhole.is)
