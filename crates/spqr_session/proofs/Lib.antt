@@ -45,6 +45,13 @@ pub mod RegroupCarried
 pub mod KeptLists
 pub mod WholesMade
 pub mod RegroupMade
+pub mod WholeFamilies
+pub mod WholeWalks
+pub mod WholeTakings
+pub mod WholeConverted
+pub mod VertexLists
+pub mod WholeSteps
+pub mod KeptWholes
 pub mod Chains
 pub mod Steps
 pub mod DisjointLists
@@ -59,6 +66,9 @@ pub mod Grouped
 pub mod Moved
 pub mod Walks
 mod MovedExamples
+pub mod ListsSet
+pub mod KeptFamilies
+pub mod Started
 pub mod Families
 pub mod Boards
 pub mod WaysBack

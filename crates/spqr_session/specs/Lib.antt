@@ -14,6 +14,7 @@ pub mod Board
 pub mod Codes
 pub mod BlockCodes
 pub mod Components
+pub mod WholeSteps
 pub mod Members
 pub mod Planned
 pub mod Wholes

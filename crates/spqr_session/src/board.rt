@@ -1,5 +1,5 @@
 // The blocks of a session with the history of their changes.
-ghost use Rattle.std.specs.Prelude.{◌≡◌, ◌<◌, ◌-◌, ◌×◌, false, not, [], length, map, replicate, slice_index_or, slice_set, None, Some, IfOk, OnErr, MatchOption, All};
+ghost use Rattle.std.specs.Prelude.{◌≡◌, ◌<◌, ◌-◌, ℕ, List, Option, false, not, [], length, map, replicate, slice_index_or, slice_set, None, Some, IfOk, OnErr, MatchOption, All};
 ghost use Rattle.skeletons.specs.Moves.{moves_between};
 ghost use Rattle.skel_embed.specs.Values.{as_moves};
 ghost use Rattle.undo_log.specs.History.{IsStepAt};
@@ -68,6 +68,13 @@ impl Board {
             (λ list. slice_index_or self.now.lists v None ≡ Some list.now) }
     {
         self.lists.at(v)
+    }
+
+    /// The lists that are kept.
+    pub fn kept(&self) -> &KeptLists
+        ensures { result.now ≡ self.now.lists }
+    {
+        &self.lists
     }
 
     /// Whether something is earlier.

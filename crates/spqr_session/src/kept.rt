@@ -1,8 +1,7 @@
 // The lists that are kept at cut vertices.
 ghost use Rattle.std.specs.Prelude.{◌≡◌, ◌∷◌, ◌++◌, [], length, map, replicate, slice_index_or, slice_set, None, Some, IfOk, MatchOption};
-ghost use Rattle.std.specs.List.{concat};
 ghost use Rattle.spqr_session.specs.History.{list_after, list_before, lists_after, lists_before, lists_set};
-ghost use Rattle.spqr_session.specs.Board.{clearing, Clears};
+ghost use Rattle.spqr_session.specs.Board.{clearing, clearings, Clears};
 
 use multigraph::{Numbers, Part};
 use std::alloc::{AllocError, Global};
@@ -97,7 +96,7 @@ impl KeptLists {
     fn clear_all(&self, cuts: &mut Vec<CutChange>, part: &Part) -> Result<(), AllocError>
         requires { length part.now.vertices ≡ part.now.graph.vertex_count }
         ensures { IfOk result (λ _. cuts.new.items ≡ cuts.old.items
-            ++ concat (map (clearing self.now) part.now.vertices)) }
+            ++ clearings self.now part.now.vertices) }
     {
         for i in 0..part.graph().vertex_count() {
             self.clear(cuts, part.vertex(i))?;
@@ -120,8 +119,8 @@ impl KeptLists {
         Ok(())
     }
 
-    // The list at vertex v for one more owner.
-    fn shared(&self, v: u32) -> Result<Arrangement, AllocError>
+    /// The list at vertex `v` for one more owner.
+    pub fn shared(&self, v: u32) -> Result<Arrangement, AllocError>
         ensures { IfOk result (λ list. list ≡ slice_index_or self.now v None) }
     {
         match self.lists.get(v as usize) {

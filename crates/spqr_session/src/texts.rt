@@ -5,7 +5,7 @@
 ghost use Rattle.std.specs.Prelude.{◌≡◌, ◌<◌, ℕ, List, [], length, map, replicate, slice_index, slice_index_or, slice_set, IfOk, OnOk, All};
 ghost use Rattle.multigraph.specs.Graph.{Multigraph, IsGraph, edge_count};
 ghost use Rattle.spqr_session.specs.Trees.{AreBlockTrees};
-ghost use Rattle.spqr_session.specs.Embedded.{view_tree};
+ghost use Rattle.spqr_session.specs.Embedded.{view_tree, view_entry};
 ghost use Rattle.spqr_session.specs.State.{Family};
 ghost use Rattle.spqr_session.specs.Commands.Gml.{block_numbers, marks};
 ghost use Rattle.spqr_session.specs.Texts.{AreExtended, bytes_of, own_numbers, with_number, with_numbers};

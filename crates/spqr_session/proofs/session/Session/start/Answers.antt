@@ -1,10 +1,12 @@
-use Rattle.std.proofs.Common.{length, None, sym, subst}
+use Rattle.std.proofs.Common.{[], length, replicate, None, sym, subst}
 use Rattle.multigraph.specs.Graph.{Multigraph}
 use Rattle.blocks.specs.Blocks.{IsBlockStructure}
-use Rattle.spqr_session.specs.Embedded.{AreStartBlocks, setting_of, state_of}
+use Rattle.spqr_session.specs.Embedded.{AreStartBlocks, setting_of}
 use Rattle.spqr_session.specs.Board.{BoardView, board_state}
 use Rattle.spqr_session.specs.Machine.{IsStarted, IsMachine}
-use Rattle.spqr_session.proofs.Views.{started, started-machine}
+use Rattle.spqr_session.proofs.Views.{started-machine}
+use Rattle.spqr_session.proofs.Started.{started}
+use Rattle.spqr_session.proofs.Sessions.{machine_on}
 use Rattle.spqr_session.proofs.session.Session.start.Goals as goal
 
 pub take_starts-requires : goal.take_starts-requires
@@ -22,8 +24,8 @@ invariant_of-result g c =
     let structure = c.in_ok-blocks.blocks in
     let views = c.take_starts.new.embedded.items in
     let is = subst (λ (x : Multigraph). IsBlockStructure x structure) c.graph.ensures.value c.in_ok-blocks.ensures in
-    subst (λ (x : BoardView). IsMachine (record { setting = setting_of d n structure x.views; state = board_state x })) (sym c.of.ensures)
-    (started-machine (record { setting = setting_of d n structure views; state = state_of views }) (started d n structure views c.requires is c.in_ok-take_starts.ensures.started))
+    subst (λ (x : BoardView). IsMachine (record { setting = setting_of d n structure x.views; state = board_state (setting_of d n structure x.views) x })) (sym c.in_ok-board.ensures)
+    (started-machine (machine_on d n structure (record { views = views; lists = replicate c.vertex_count.result None; earlier = []; later = [] })) (started d n structure views c.vertex_count.result c.requires is c.in_ok-take_starts.ensures.started))
 
 pub returns-clause-started : goal.returns-clause-started
 returns-clause-started g c =
@@ -32,5 +34,5 @@ returns-clause-started g c =
     let structure = c.in_ok-blocks.blocks in
     let views = c.take_starts.new.embedded.items in
     let is = subst (λ (x : Multigraph). IsBlockStructure x structure) c.graph.ensures.value c.in_ok-blocks.ensures in
-    subst (λ (x : BoardView). IsStarted (record { setting = setting_of d n structure x.views; state = board_state x })) (sym c.of.ensures)
-    (started d n structure views c.requires is c.in_ok-take_starts.ensures.started)
+    subst (λ (x : BoardView). IsStarted (record { setting = setting_of d n structure x.views; state = board_state (setting_of d n structure x.views) x })) (sym c.in_ok-board.ensures)
+    (started d n structure views c.vertex_count.result c.requires is c.in_ok-take_starts.ensures.started)
