@@ -14,11 +14,11 @@ pub mod Board
 pub mod Codes
 pub mod BlockCodes
 pub mod Components
-pub mod WholeSteps
 pub mod Members
 pub mod Planned
 pub mod Wholes
 pub mod Commands
+pub mod WholeSteps
 pub mod Products
 pub mod Step
 pub mod Open
