@@ -52,6 +52,7 @@ pub mod WholeConverted
 pub mod VertexLists
 pub mod WholeSteps
 pub mod KeptWholes
+pub mod WholesWalked
 pub mod Chains
 pub mod Steps
 pub mod DisjointLists
