@@ -53,6 +53,7 @@ pub mod VertexLists
 pub mod WholeSteps
 pub mod KeptWholes
 pub mod WholesWalked
+pub mod WholesPut
 pub mod Chains
 pub mod Steps
 pub mod DisjointLists

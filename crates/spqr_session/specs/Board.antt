@@ -1,5 +1,5 @@
 -- The blocks of a session and the lists at its cut vertices, with what was kept before and after: what commands change.
-use Rattle.std.specs.Prelude.{◌≡◌, ℕ, ◌<◌, List, [], ◌∷◌, ◌++◌, length, map, slice_index_or, slice_set, Option, None, Some}
+use Rattle.std.specs.Prelude.{◌≡◌, ℕ, ◌<◌, List, [], ◌∷◌, length, map, slice_index_or, slice_set, Option, None, Some}
 use Rattle.rotations.specs.Runs.{mirror_image}
 use Rattle.faces.specs.Euler.{IsPlaneSystem}
 use Rattle.skeletons.specs.Moves.{Move, Lead}
@@ -46,11 +46,6 @@ removal v (Some list) = record { vertex = v; before = Some list; after = None } 
 -- the change that removes the list at vertex v, if there is one
 abbrev pub clearing : List (Option (List ℕ)) → ℕ → List CutChange
 clearing lists v = removal v (slice_index_or lists v None)
-
--- those at several vertices
-abbrev pub clearings : List (Option (List ℕ)) → List ℕ → List CutChange
-clearings lists [] = []
-clearings lists (v ∷ vs) = clearing lists v ++ clearings lists vs
 
 -- the changes remove the lists at these vertices, and lead back
 pub record Clears (vertices : List ℕ) (lists : List (Option (List ℕ))) (cuts : List CutChange) : Type 0 where
@@ -157,7 +152,8 @@ pub record IsMirroredAt (before : BoardView) (b : ℕ) (after : BoardView) : Typ
 abbrev pub state_on : Scene → List BlockView → BoardView → State
 state_on scene views board = board_state (setting_on scene views) board
 
--- a scene and a board belong together: they are a setting, and a state on it
+-- a scene and a board belong together: they are a setting, and a state on it, and the board has a list for each vertex, or none
 pub record BelongTogether (scene : Scene) (board : BoardView) : Type 0 where
   pub setting : IsSetting (setting_on scene board.views)
   pub state : IsState (setting_on scene board.views) (state_on scene board.views board)
+  pub lists : length board.lists ≡ scene.named.graph.vertex_count

@@ -132,7 +132,8 @@ fn push_change(
         vertex: v,
         before,
         after,
-    })
+    })?;
+    Ok(())
 }
 
 // The changes that keep the lists at the cut vertices of a component, where these are its first arrangements.
