@@ -54,6 +54,8 @@ pub mod WholeSteps
 pub mod KeptWholes
 pub mod WholesWalked
 pub mod WholesPut
+pub mod WholesConverted
+pub mod WholesFirst
 pub mod Chains
 pub mod Steps
 pub mod DisjointLists
