@@ -47,6 +47,17 @@ pub mod WholesMade
 pub mod VertexPlaces
 pub mod BoardArranged
 pub mod RegroupMade
+pub mod WholeFamilies
+pub mod WholeWalks
+pub mod WholeTakings
+pub mod WholeConverted
+pub mod VertexLists
+pub mod WholeSteps
+pub mod KeptWholes
+pub mod WholesWalked
+pub mod WholesPut
+pub mod WholesConverted
+pub mod WholesFirst
 pub mod Chains
 pub mod Steps
 pub mod DisjointLists

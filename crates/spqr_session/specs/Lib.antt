@@ -18,6 +18,7 @@ pub mod Members
 pub mod Planned
 pub mod Wholes
 pub mod Commands
+pub mod WholeSteps
 pub mod Products
 pub mod Step
 pub mod Open

@@ -22,6 +22,9 @@ use Rattle.spqr_session.specs.Commands.Longest.{LongestStep}
 use Rattle.spqr_session.specs.Commands.Draw.{DrawStep}
 use Rattle.spqr_session.specs.Commands.Whole.{WholeStep}
 use Rattle.spqr_session.specs.Commands.Regroup.{RegroupStep}
+use Rattle.spqr_session.specs.Commands.NextWhole.{NextWholeStep}
+use Rattle.spqr_session.specs.Commands.ListWhole.{ListWholeStep}
+use Rattle.spqr_session.specs.Commands.ConvertWhole.{ConvertWholeStep}
 
 -- a command gives this text and leads to this state
 abbrev pub Step : Setting → State → Command → List ℕ → State → Type 0
@@ -49,9 +52,9 @@ Step setting before (command.ConvertTo b entries) text after = ConvertToStep set
 Step setting before (command.Take b entries) text after = TakeStep setting b entries before text after
 Step setting before (command.Whole c) text after = WholeStep setting c before text after
 Step setting before (command.Regroup v edges) text after = RegroupStep setting v edges before text after
-Step setting before (command.NextWhole c) text after = ⊥
-Step setting before (command.ListWhole c n) text after = ⊥
-Step setting before (command.ConvertWhole c entries) text after = ⊥
+Step setting before (command.NextWhole c) text after = NextWholeStep setting c before text after
+Step setting before (command.ListWhole c n) text after = ListWholeStep setting c n before text after
+Step setting before (command.ConvertWhole c entries) text after = ConvertWholeStep setting c entries before text after
 
 -- the commands give these texts, one after another, from the one state to the other
 abbrev pub IsChain : Setting → State → List Command → List (List ℕ) → State → Type 0

@@ -78,6 +78,13 @@ impl Board {
         self.lists.at(v)
     }
 
+    /// The lists that are kept.
+    pub fn kept(&self) -> &KeptLists
+        ensures { result.now ≡ self.now.lists }
+    {
+        &self.lists
+    }
+
     /// Whether something is earlier.
     pub fn can_undo(&self) -> bool
         ensures { result ≡ not (is_none self.now.earlier) }

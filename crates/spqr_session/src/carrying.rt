@@ -8,10 +8,7 @@ ghost use Rattle.spqr_session.specs.Step.{Step};
 
 use crate::board::Board;
 use crate::commands::{
-    carry_convert_rank, carry_convert_to, carry_count, carry_draw, carry_euler, carry_faces,
-    carry_first, carry_flip, carry_gml, carry_goto, carry_list, carry_lock, carry_longest,
-    carry_mirror, carry_next, carry_permute, carry_rank, carry_redo, carry_regroup, carry_show,
-    carry_take, carry_undo, carry_whole,
+    carry_convert_rank, carry_convert_to, carry_convert_whole, carry_count, carry_draw, carry_euler, carry_faces, carry_first, carry_flip, carry_gml, carry_goto, carry_list, carry_list_whole, carry_lock, carry_longest, carry_mirror, carry_next, carry_next_whole, carry_permute, carry_rank, carry_redo, carry_regroup, carry_show, carry_take, carry_undo, carry_whole,
 };
 use crate::scene::Scene;
 use spqr_script::Command;
@@ -58,8 +55,8 @@ pub(crate) fn carry_out(
         Command::Unlock(b, k) => carry_lock(alloc, board, *b, *k, false),
         Command::Whole(c) => carry_whole(alloc, scene, board, *c),
         Command::Regroup(v, edges) => carry_regroup(alloc, scene, board, *v, edges.as_slice()),
-        Command::NextWhole(_) | Command::ListWhole(_, _) | Command::ConvertWhole(_, _) => {
-            Err(AllocError)
-        }
+        Command::NextWhole(c) => carry_next_whole(alloc, scene, board, *c),
+        Command::ListWhole(c, n) => carry_list_whole(alloc, scene, board, *c, *n),
+        Command::ConvertWhole(c, lists) => carry_convert_whole(alloc, scene, board, *c, lists),
     }
 }

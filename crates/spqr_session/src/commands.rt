@@ -1,15 +1,18 @@
 // The commands: a file for each, or for a few that are alike, with the functions that carry them out.
 mod convert;
+mod convert_whole;
 mod count;
 mod draw;
 mod euler;
 mod flip;
 mod gml;
 mod history;
+mod list_whole;
 mod listing;
 mod lock;
 mod longest;
 mod mirror;
+mod next_whole;
 mod permute;
 mod regroup;
 mod show;
@@ -19,16 +22,19 @@ mod walk;
 mod whole;
 
 pub(crate) use convert::{carry_convert_rank, carry_convert_to};
+pub(crate) use convert_whole::carry_convert_whole;
 pub(crate) use count::{carry_count, carry_rank};
 pub(crate) use draw::carry_draw;
 pub(crate) use euler::carry_euler;
 pub(crate) use flip::carry_flip;
 pub(crate) use gml::carry_gml;
 pub(crate) use history::{carry_redo, carry_undo};
+pub(crate) use list_whole::carry_list_whole;
 pub(crate) use listing::carry_list;
 pub(crate) use lock::carry_lock;
 pub(crate) use longest::carry_longest;
 pub(crate) use mirror::carry_mirror;
+pub(crate) use next_whole::carry_next_whole;
 pub(crate) use permute::carry_permute;
 pub(crate) use regroup::carry_regroup;
 pub(crate) use show::carry_show;

@@ -119,8 +119,8 @@ impl KeptLists {
         Ok(())
     }
 
-    // The list at vertex v for one more owner.
-    fn shared(&self, v: u32) -> Result<Arrangement, AllocError>
+    /// The list at vertex `v` for one more owner.
+    pub fn shared(&self, v: u32) -> Result<Arrangement, AllocError>
         ensures { IfOk result (λ list. list ≡ slice_index_or self.now v None) }
     {
         match self.lists.get(v as usize) {

@@ -36,6 +36,7 @@ mod session;
 mod sorting;
 mod starting;
 mod texts;
+mod whole_steps;
 mod wholes;
 
 pub use fault::StartFault;
