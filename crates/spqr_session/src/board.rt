@@ -67,7 +67,7 @@ impl Board {
     pub fn keeps_places(&self)
         ensures { HavePlaces (map view_tree self.now.views) (length self.now.lists) }
     {
-        let _ = self.blocks();
+        let _ = self.blocks.len();
     }
 
     /// The list that is kept at vertex `v`.
