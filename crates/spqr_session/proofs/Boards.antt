@@ -1,6 +1,6 @@
 -- The history on a board: a step back, a step forth, and a step more.
-use Rattle.std.proofs.Common.{◌≡◌, ℕ, suc, ◌+◌, ◌≤◌, List, Option, [], ◌∷◌, ◌++◌, length, map, take, drop, reverse, sym, ap, ap₂, ◌∙◌, subst, arith, add-one, All}
-use Rattle.std.proofs.lemmas.List.{take_all, drop_all, reverse-append, length-append, length-take-le}
+use Rattle.std.proofs.Common.{◌≡◌, ℕ, suc, ◌+◌, ◌≤◌, List, Option, [], ◌∷◌, ◌++◌, length, map, slice_index_or, take, drop, reverse, sym, ap, ap₂, ◌∙◌, subst, arith, add-one, All}
+use Rattle.std.proofs.lemmas.List.{get_or_default, take_all, drop_all, reverse-append, length-append, length-take-le}
 use Rattle.std.proofs.lemmas.List.Elements.{All-nil, All-cons, All-take, All-append}
 use Rattle.std.proofs.Math.Seq.{take-suc, drop-cons}
 use Rattle.undo_log.specs.History.{History as UndoHistory, Noted, IsStepAt, WentBack, WentOn}
@@ -21,6 +21,10 @@ pub record IsAdded (old new : UndoHistory) (s : Step) : Type 0 where
 -- so it is where first room was made
 pub noted-added : (old room new : UndoHistory) (s : Step) → room.steps ≡ old.steps → room.cursor ≡ old.cursor → Noted room s new → IsAdded old new s
 noted-added old room new s e c w = record { steps = w.steps ∙ ap₂ (λ (n : ℕ) (l : List Step). take n l ++ s ∷ []) c e; cursor = w.cursor ∙ ap (λ (n : ℕ). n + 1) c }
+
+-- there is one step at a place
+pub step-one : (steps : List Step) (i j : ℕ) (s t : Step) → i ≡ j → IsStepAt steps i s → IsStepAt steps j t → s ≡ t
+step-one steps i j s t e h k = sym h.is ∙ get_or_default steps i s t h.within ∙ ap (λ (n : ℕ). slice_index_or steps n t) e ∙ k.is
 
 -- the step at a place, on both sides of it
 taken-to : (steps : List Step) (c : ℕ) (s : Step) → IsStepAt steps c s → reverse (take (c + 1) steps) ≡ s ∷ reverse (take c steps)

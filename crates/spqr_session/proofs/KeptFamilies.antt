@@ -1,6 +1,6 @@
 -- The families of what is kept: after a change of a block, a lock, and at the start; and that a change of a block leads from a family to a
 -- family.
-use Rattle.std.proofs.Common.{◌≡◌, ◌≢◌, ℕ, zero, suc, ◌<◌, inl, inr, Bool, true, false, List, [], ◌∷◌, ◌++◌, length, map, replicate, slice_index, slice_index_or, slice_set, Option, None, Some, Contains, refl, sym, ap, ◌∙◌, subst, arith}
+use Rattle.std.proofs.Common.{◌≡◌, ◌≢◌, ℕ, zero, suc, ◌<◌, inl, inr, Bool, true, false, List, [], ◌∷◌, ◌++◌, length, map, replicate, slice_index, slice_index_or, slice_set, Option, None, Some, Contains, refl, sym, ap, ap₂, ◌∙◌, subst, arith}
 use Rattle.std.specs.Prelude.{if◌then◌else◌}
 use Rattle.std.proofs.Math.Path.{fun_ext}
 use Rattle.std.proofs.lemmas.Bool.{cases_Bool, cases_eq, cases_lt, cond-true, cond-false, true≢false}
@@ -33,10 +33,8 @@ use Rattle.spqr_session.proofs.ComponentParts.{component-in_plane, kept-arrangem
 -- functions that are the same below a number have the same images
 pub same-below : {X : Type 0} (f g : ℕ → X) (n : ℕ) → ((i : ℕ) → i < n → f i ≡ g i) → map f (numbers_below n) ≡ map g (numbers_below n)
 same-below f g zero h = refl
-same-below f g (suc n) h = map-append f (numbers_below n) (n ∷ []) ∙ last ∙ sym (map-append g (numbers_below n) (n ∷ []))
-  where
-    last : map f (numbers_below n) ++ f n ∷ [] ≡ map g (numbers_below n) ++ g n ∷ []
-    last = λ i. same-below f g n (λ j l. h j (omega (arith, l))) i ++ h n (omega arith) i ∷ []
+same-below f g (suc n) h =
+    map-append f (numbers_below n) (n ∷ []) ∙ ap₂ (λ xs x. xs ++ x ∷ []) (same-below f g n (λ j l. h j (omega (arith, l)))) (h n (omega arith)) ∙ sym (map-append g (numbers_below n) (n ∷ []))
 
 -- the image at a place
 pub image-at : {X : Type 0} (f : ℕ → X) (n i : ℕ) (d : X) → i < n → slice_index_or (map f (numbers_below n)) i d ≡ f i

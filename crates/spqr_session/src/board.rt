@@ -1,5 +1,5 @@
 // The blocks of a session with the history of their changes.
-ghost use Rattle.std.specs.Prelude.{◌≡◌, ◌<◌, ◌-◌, ℕ, List, Option, false, not, [], length, map, replicate, slice_index_or, slice_set, None, Some, IfOk, OnErr, MatchOption, All};
+ghost use Rattle.std.specs.Prelude.{◌≡◌, ◌<◌, ◌+◌, ℕ, List, Option, false, not, [], length, map, replicate, slice_index_or, slice_set, None, Some, IfOk, OnErr, MatchOption, All};
 ghost use Rattle.skeletons.specs.Moves.{moves_between};
 ghost use Rattle.skel_embed.specs.Values.{as_moves};
 ghost use Rattle.undo_log.specs.History.{IsStepAt};
@@ -330,7 +330,7 @@ fn arranging(
 
 // The lists that the step before the cursor sets when it is taken back.
 fn earlier_lists(alloc: Global, log: &UndoLog) -> Result<Vec<(u32, Arrangement)>, AllocError>
-    ensures { (s : Step) → IsStepAt log.now.steps (log.now.cursor - 1) s
+    ensures { (i : ℕ) (s : Step) → i + 1 ≡ log.now.cursor → IsStepAt log.now.steps i s
         → IfOk result (λ lists. lists.items ≡ lists_before s) }
 {
     match log.step_before() {
