@@ -49,6 +49,11 @@ removal v (Some list) = record { vertex = v; before = Some list; after = None } 
 abbrev pub clearing : List (Option (List ℕ)) → ℕ → List CutChange
 clearing lists v = removal v (slice_index_or lists v None)
 
+-- those at several vertices
+abbrev pub clearings : List (Option (List ℕ)) → List ℕ → List CutChange
+clearings lists [] = []
+clearings lists (v ∷ vs) = clearing lists v ++ clearings lists vs
+
 -- the changes remove the lists at these vertices, and lead back
 pub record Clears (vertices : List ℕ) (lists : List (Option (List ℕ))) (cuts : List CutChange) : Type 0 where
   pub forth : lists_set (map list_after cuts) lists ≡ lists_cleared vertices lists
@@ -158,8 +163,7 @@ pub record IsMirroredAt (before : BoardView) (b : ℕ) (after : BoardView) : Typ
 abbrev pub state_on : Scene → List BlockView → BoardView → State
 state_on scene views board = board_state (setting_on scene views) board
 
--- a scene and a board belong together: they are a setting, and a state on it, and the board has a list for each vertex, or none
+-- a scene and a board belong together: they are a setting, and a state on it
 pub record BelongTogether (scene : Scene) (board : BoardView) : Type 0 where
   pub setting : IsSetting (setting_on scene board.views)
   pub state : IsState (setting_on scene board.views) (state_on scene board.views board)
-  pub lists : length board.lists ≡ scene.named.graph.vertex_count
