@@ -38,9 +38,9 @@ first-more old now new block i long l h e = record {
 
 -- ---- changes
 
-pub changes-more : (vertices : List ℕ) (lists : List (Option (List ℕ))) (wanted : ℕ → Option (List ℕ)) (n v : ℕ) (now then : Option (List ℕ)) (old new : List CutChange) → old ≡ changes_below vertices lists wanted n → v ≡ slice_index vertices n → now ≡ slice_index_or lists v None
-    → then ≡ wanted n → new ≡ old ++ change_kept v now then → new ≡ changes_below vertices lists wanted (n + 1)
-changes-more vertices lists wanted n v now then old new h at a b e =
+pub changes-more : (vertices : List ℕ) (lists : List (Option (List ℕ))) (wanted : ℕ → Option (List ℕ)) (n v : ℕ) (now next : Option (List ℕ)) (old new : List CutChange) → old ≡ changes_below vertices lists wanted n → v ≡ slice_index vertices n → now ≡ slice_index_or lists v None
+    → next ≡ wanted n → new ≡ old ++ change_kept v now next → new ≡ changes_below vertices lists wanted (n + 1)
+changes-more vertices lists wanted n v now next old new h at a b e =
     e ∙ (λ i. h i ++ change_kept (at i) ((a ∙ ap (λ z. slice_index_or lists z None) at) i) (b i)) ∙ ap (changes_below vertices lists wanted) (sym (add-one n))
 
 -- what a test of two lists tells

@@ -1,5 +1,5 @@
 -- The blocks of a session and the lists at its cut vertices, with what was kept before and after: what commands change.
-use Rattle.std.specs.Prelude.{◌≡◌, ℕ, ◌<◌, List, [], ◌∷◌, length, map, slice_index_or, slice_set, Option, None, Some}
+use Rattle.std.specs.Prelude.{◌≡◌, ℕ, ◌<◌, List, [], ◌∷◌, ◌++◌, length, map, slice_index_or, slice_set, Option, None, Some}
 use Rattle.rotations.specs.Runs.{mirror_image}
 use Rattle.faces.specs.Euler.{IsPlaneSystem}
 use Rattle.skeletons.specs.Moves.{Move, Lead}
@@ -46,6 +46,11 @@ removal v (Some list) = record { vertex = v; before = Some list; after = None } 
 -- the change that removes the list at vertex v, if there is one
 abbrev pub clearing : List (Option (List ℕ)) → ℕ → List CutChange
 clearing lists v = removal v (slice_index_or lists v None)
+
+-- those at several vertices
+abbrev pub clearings : List (Option (List ℕ)) → List ℕ → List CutChange
+clearings lists [] = []
+clearings lists (v ∷ vs) = clearing lists v ++ clearings lists vs
 
 -- the changes remove the lists at these vertices, and lead back
 pub record Clears (vertices : List ℕ) (lists : List (Option (List ℕ))) (cuts : List CutChange) : Type 0 where

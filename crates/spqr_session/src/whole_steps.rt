@@ -1,5 +1,5 @@
 // Steps that change several blocks and cut vertices of a component.
-ghost use Rattle.std.specs.Prelude.{◌≡◌, ◌++◌, ◌<◌, ℕ, true, length, map, slice_index, slice_index_or, None, IfOk, OnErr};
+ghost use Rattle.std.specs.Prelude.{◌≡◌, ◌++◌, ◌<◌, ℕ, true, [], length, map, slice_index, slice_index_or, None, IfOk, OnErr};
 ghost use Rattle.permutations.specs.Members.{is_member};
 ghost use Rattle.multigraph.specs.Part.{Rises};
 ghost use Rattle.skel_embed.specs.Values.{as_moves};
