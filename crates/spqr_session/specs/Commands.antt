@@ -15,8 +15,8 @@ pub mod Take
 pub mod Convert
 pub mod Longest
 pub mod Draw
-<<<<<<< HEAD
 pub mod Whole
-=======
->>>>>>> ae8f0e1fa1f055d5cdb2e3c97a66200c8906c52d
 pub mod Regroup
+pub mod NextWhole
+pub mod ListWhole
+pub mod ConvertWhole
