@@ -98,27 +98,33 @@ module _ (all : List (Option (List ℕ))) where
       by : (o : Option (List ℕ)) → slice_index_or all v None ≡ o → slice_index_or (lists_set (map list_before (removal v o ++ clearings all vs)) lists) u None ≡ slice_index_or all u None
       by None e = elim (cases_eq u v) [
         | inl q ↦ back-of vs lists u l (inl (elim h [
-            | inl s ↦ s
-            | inr t ↦ t.1 ∙ sym (ap (λ (z : ℕ). slice_index_or all z None) q ∙ e)
-          ]))
+          | inl s ↦ s
+          | inr t ↦ t.1 ∙ sym (ap (λ (z : ℕ). slice_index_or all z None) q ∙ e)
+        ]))
         | inr n ↦ back-of vs lists u l (elim h [
-            | inl s ↦ inl s
-            | inr t ↦ inr (elim (member-cases u v vs t.0) [
-                | inl q ↦ absurd (n (sym q))
-                | inr m ↦ m
-              ], t.1)
-          ])
+          | inl s ↦ inl s
+          | inr t ↦ inr (
+            elim (member-cases u v vs t.0) [
+              | inl q ↦ absurd (n (sym q))
+              | inr m ↦ m
+            ],
+            t.1,
+          )
+        ])
       ]
       by (Some k) e = elim (cases_eq u v) [
         | inl q ↦ back-of vs (slice_set lists v (Some k)) u (omega (arith, l, length-set lists v (Some k)))
             (inl (ap (λ (z : ℕ). slice_index_or (slice_set lists v (Some k)) z None) q ∙ get_or-set_same lists v (Some k) None (subst (λ (z : ℕ). z < length lists) q l) ∙ sym (ap (λ (z : ℕ). slice_index_or all z None) q ∙ e)))
         | inr n ↦ back-of vs (slice_set lists v (Some k)) u (omega (arith, l, length-set lists v (Some k))) (elim h [
-            | inl s ↦ inl (get_or-set_other lists v u (Some k) None n ∙ s)
-            | inr t ↦ inr (elim (member-cases u v vs t.0) [
-                | inl q ↦ absurd (n (sym q))
-                | inr m ↦ m
-              ], get_or-set_other lists v u (Some k) None n ∙ t.1)
-          ])
+          | inl s ↦ inl (get_or-set_other lists v u (Some k) None n ∙ s)
+          | inr t ↦ inr (
+            elim (member-cases u v vs t.0) [
+              | inl q ↦ absurd (n (sym q))
+              | inr m ↦ m
+            ],
+            get_or-set_other lists v u (Some k) None n ∙ t.1,
+          )
+        ])
       ]
 
   -- they remove the lists at the vertices, and lead back

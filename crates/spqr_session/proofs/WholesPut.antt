@@ -39,8 +39,7 @@ module _ (setting : Setting) (is : IsSetting setting) (board : BoardView) (right
   put-right b m e p =
       let w = block-embedding setting is (map view_entry board.views) right.each c planar b (here b m) in
       let same : w.0 ≡ e = (let both : Some w.0 ≡ Some e = sym w.1 ∙ entries-at board.views b ∙ p in cc) in
-      let tree : tree_at setting.trees b ≡ (view_at board.views b).tree = ap (λ (t : List BlockTree). tree_at t b) seen ∙ trees-at board.views b in
-      (
+      let tree : tree_at setting.trees b ≡ (view_at board.views b).tree = ap (λ (t : List BlockTree). tree_at t b) seen ∙ trees-at board.views b in (
         subst (λ (t : BlockTree). items.IsBlockTree t.part.graph t.nodes) tree (setting-tree setting is b (block-there setting is c b (here b m))),
         subst (λ (t : BlockTree). IsPlaneSystem t.part.graph e.rotation) tree (subst (λ (x : Embedding). IsPlaneSystem (tree_at setting.trees b).part.graph x.rotation) same w.2),
       )
