@@ -156,8 +156,8 @@ module _ (setting : Setting) (is : IsSetting setting) (views : List BlockView) (
         kept-at (component_at setting d) (blocks_with setting.trees kept.entries) kept.lists i l
         ∙ ap (λ (o : Option (List ℕ)). list_or_first o (first_around (component_at setting d) (blocks_with setting.trees kept.entries) i)) (keeps.elsewhere v (subst (λ (z : Component). is_member v z.cuts ≡ false) (sym target.component) out))
         ∙ ap (λ (z : List ℕ). list_or_first (slice_index_or lists v None) z)
-            (ap (λ (es : List (Option Embedding)). first_around (component_at setting d) (blocks_with setting.trees es) i) entries-are
-            ∙ sym (first-along (component_at setting d) block (blocks_with setting.trees changed) i (orders-other setting is entries right.one_each right.each c within planar q target.member d i n l))))
+        (ap (λ (es : List (Option Embedding)). first_around (component_at setting d) (blocks_with setting.trees es) i) entries-are
+        ∙ sym (first-along (component_at setting d) block (blocks_with setting.trees changed) i (orders-other setting is entries right.one_each right.each c within planar q target.member d i n l))))
 
     abbrev before : Family
     before = family_of setting (kept_on views lists)

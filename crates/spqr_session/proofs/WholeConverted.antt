@@ -64,8 +64,7 @@ module _ (setting : Setting) (c : ℕ) (entries : List (ℕ × List ℕ)) (s : S
   converted-one : DoesOne (ChangesComponent setting c (IsWholeConverted setting c entries s.present)) s
   converted-one t u after other p q =
       let lists : p.lists ≡ q.lists = one-some p.lists q.lists (arrangements_in s.present c) p.present q.present in
-      let system : p.system ≡ q.system = given-same setting c entries s is p.system q.system p.change.given q.change.given in
-      (
+      let system : p.system ≡ q.system = given-same setting c entries s is p.system q.system p.change.given q.change.given in (
         p.change.answer ∙ (λ i. steps_text setting (whole_moves_between (component_at setting c) (blocks_of setting s.present) (lists i) (system i))) ∙ sym q.change.answer,
         p.after_is ∙ ap (λ (z : List (List ℕ)). with_family s (family_with setting c z s.present)) system ∙ sym q.after_is,
       )

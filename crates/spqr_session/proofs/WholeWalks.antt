@@ -166,9 +166,12 @@ module _ (setting : Setting) (c : ℕ) (s : State) (is : IsSetting setting) (rig
                 lists = lists;
                 present = e;
                 system = slice_index_or m.list (m.place + 1) [];
-                change = (λ l i a x.
-                    let one = same l i a x in
-                    subst (λ (z : List (List (List ℕ))). IsRank z (slice_index_or m.list (m.place + 1) []) (i + 1)) one.0 (subst (λ (z : ℕ). IsRank m.list (slice_index_or m.list (m.place + 1) []) (z + 1)) one.1 (record { within = more; is_there = refl })), refl);
+                change = (
+                  λ l i a x.
+                      let one = same l i a x in
+                      subst (λ (z : List (List (List ℕ))). IsRank z (slice_index_or m.list (m.place + 1) []) (i + 1)) one.0 (subst (λ (z : ℕ). IsRank m.list (slice_index_or m.list (m.place + 1) []) (z + 1)) one.1 (record { within = more; is_there = refl })),
+                  refl,
+                );
                 after_is = refl;
               }),
             )

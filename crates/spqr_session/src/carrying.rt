@@ -8,7 +8,11 @@ ghost use Rattle.spqr_session.specs.Step.{Step};
 
 use crate::board::Board;
 use crate::commands::{
-    carry_convert_rank, carry_convert_to, carry_convert_whole, carry_count, carry_draw, carry_euler, carry_faces, carry_first, carry_flip, carry_gml, carry_goto, carry_list, carry_list_whole, carry_lock, carry_longest, carry_mirror, carry_next, carry_next_whole, carry_permute, carry_rank, carry_redo, carry_regroup, carry_show, carry_take, carry_undo, carry_whole,
+    carry_convert_rank, carry_convert_to, carry_convert_whole, carry_count, carry_draw,
+    carry_euler, carry_faces, carry_first, carry_flip, carry_gml, carry_goto, carry_list,
+    carry_list_whole, carry_lock, carry_longest, carry_mirror, carry_next, carry_next_whole,
+    carry_permute, carry_rank, carry_redo, carry_regroup, carry_show, carry_take, carry_undo,
+    carry_whole,
 };
 use crate::scene::Scene;
 use spqr_script::Command;

@@ -1,5 +1,5 @@
 // Steps that change several blocks and cut vertices of a component.
-ghost use Rattle.std.specs.Prelude.{◌≡◌, ◌++◌, ◌<◌, ℕ, true, length, map, slice_index, slice_index_or, None, IfOk, OnErr};
+ghost use Rattle.std.specs.Prelude.{◌≡◌, ◌++◌, ◌<◌, ℕ, true, [], length, map, slice_index, slice_index_or, None, IfOk, OnErr};
 ghost use Rattle.permutations.specs.Members.{is_member};
 ghost use Rattle.multigraph.specs.Part.{Rises};
 ghost use Rattle.skel_embed.specs.Values.{as_moves};
@@ -22,13 +22,6 @@ use whole_embed::{Cuts, Member};
 
 // ---- moves of blocks
 
-// Moves of blocks, in order, and those that lead back.
-#[derive(Drop)]
-struct Ways {
-    forth: Vec<BlockMove>,
-    back: Vec<BlockMove>,
-}
-
 // Appends moves of block b.
 fn push_moves(list: &mut Vec<BlockMove>, b: u32, moves: Vec<Move>) -> Result<(), AllocError>
     ensures { IfOk result (λ _. as_pairs list.new.items
@@ -40,52 +33,78 @@ fn push_moves(list: &mut Vec<BlockMove>, b: u32, moves: Vec<Move>) -> Result<(),
     Ok(())
 }
 
-// Appends the moves from block b to the one that takes its place, and those back.
-fn push_ways(
+// The moves from block b to the one that takes its place.
+fn forth_of(
     alloc: Global,
-    ways: &mut Ways,
     blocks: &[EmbeddedBlock],
     all: &[Member],
     b: u32,
-) -> Result<(), AllocError>
+) -> Result<Vec<Move>, AllocError>
     requires fits { FitsMember blocks.now all.now b }
     requires within { b < length all.now }
-    ensures forth { IfOk result (λ _. as_pairs ways.new.forth.items ≡ as_pairs ways.old.forth.items
-        ++ map (λ move. (b, move)) (moves_forth blocks.now (blocks_in all.now) b)) }
-    ensures back { IfOk result (λ _. as_pairs ways.new.back.items ≡ as_pairs ways.old.back.items
-        ++ map (λ move. (b, move)) (moves_back blocks.now (blocks_in all.now) b)) }
+    ensures { IfOk result (λ list. as_moves list.items
+        ≡ moves_forth blocks.now (blocks_in all.now) b) }
 {
     match (blocks[b as usize].outcome(), &all[b as usize].plane) {
-        (Outcome::Plane(old), Some(new)) => {
-            push_moves(&mut ways.forth, b, moves(alloc, old, new)?)?;
-            push_moves(&mut ways.back, b, moves(alloc, new, old)?)
-        }
+        (Outcome::Plane(old), Some(new)) => moves(alloc, old, new),
         _ => unreachable!(),
     }
 }
 
-// The moves from blocks to those that take their places, and those back.
-fn all_ways(
+// The moves back.
+fn back_of(
+    alloc: Global,
+    blocks: &[EmbeddedBlock],
+    all: &[Member],
+    b: u32,
+) -> Result<Vec<Move>, AllocError>
+    requires fits { FitsMember blocks.now all.now b }
+    requires within { b < length all.now }
+    ensures { IfOk result (λ list. as_moves list.items
+        ≡ moves_back blocks.now (blocks_in all.now) b) }
+{
+    match (blocks[b as usize].outcome(), &all[b as usize].plane) {
+        (Outcome::Plane(old), Some(new)) => moves(alloc, new, old),
+        _ => unreachable!(),
+    }
+}
+
+// The moves from blocks to those that take their places, block by block.
+fn all_forth(
     alloc: Global,
     blocks: &[EmbeddedBlock],
     all: &[Member],
     numbers: &[u32],
-) -> Result<Ways, AllocError>
+) -> Result<BlockMoves, AllocError>
     requires fits { (b : ℕ) → is_member b numbers.now ≡ true → FitsMember blocks.now all.now b }
     requires within { (b : ℕ) → is_member b numbers.now ≡ true → b < length all.now }
-    ensures forth { IfOk result (λ ways. as_pairs ways.forth.items
+    ensures { IfOk result (λ list. as_pairs list
         ≡ pairs_of (moves_forth blocks.now (blocks_in all.now)) numbers.now) }
-    ensures back { IfOk result (λ ways. as_pairs ways.back.items
+{
+    let mut list = Vec::new(alloc);
+    for b in numbers {
+        push_moves(&mut list, *b, forth_of(alloc, blocks, all, *b)?)?;
+    }
+    Ok(BlockMoves::of(list))
+}
+
+// The moves back.
+fn all_back(
+    alloc: Global,
+    blocks: &[EmbeddedBlock],
+    all: &[Member],
+    numbers: &[u32],
+) -> Result<BlockMoves, AllocError>
+    requires fits { (b : ℕ) → is_member b numbers.now ≡ true → FitsMember blocks.now all.now b }
+    requires within { (b : ℕ) → is_member b numbers.now ≡ true → b < length all.now }
+    ensures { IfOk result (λ list. as_pairs list
         ≡ pairs_of (moves_back blocks.now (blocks_in all.now)) numbers.now) }
 {
-    let mut ways = Ways {
-        forth: Vec::new(alloc),
-        back: Vec::new(alloc),
-    };
+    let mut list = Vec::new(alloc);
     for b in numbers {
-        push_ways(alloc, &mut ways, blocks, all, *b)?;
+        push_moves(&mut list, *b, back_of(alloc, blocks, all, *b)?)?;
     }
-    Ok(ways)
+    Ok(BlockMoves::of(list))
 }
 
 // ---- lists at cut vertices
@@ -195,12 +214,8 @@ pub(crate) fn put_whole(
     ensures memory { OnErr result (board.new ≡ board.old) }
 {
     let first = first_cuts(alloc, cuts, all)?;
-    let ways = all_ways(alloc, board.blocks(), all, cuts.blocks())?;
-    let changes = all_changes(alloc, board.kept(), &first, cuts)?;
-    let step = Step::Moves {
-        forth: BlockMoves::of(ways.forth),
-        back: BlockMoves::of(ways.back),
-        cuts: changes,
-    };
-    board.carry(alloc, step)
+    let forth = all_forth(alloc, board.blocks(), all, cuts.blocks())?;
+    let back = all_back(alloc, board.blocks(), all, cuts.blocks())?;
+    let cuts = all_changes(alloc, board.kept(), &first, cuts)?;
+    board.carry(alloc, Step::Moves { forth, back, cuts })
 }

@@ -1,8 +1,0 @@
-use Rattle.std.proofs.Common.{◌≡◌, take}
-use Rattle.whole_embed.specs.Cuts.{blocks_in}
-use Rattle.spqr_session.specs.History.{as_pairs}
-use Rattle.spqr_session.specs.WholeSteps.{moves_forth, moves_back, pairs_of}
-use Rattle.spqr_session.proofs.whole_steps.all_ways.Given as goal
-
-abbrev pub invariant-loop-b : goal.invariant-loop-b
-invariant-loop-b l = (as_pairs l.ways.forth.items ≡ pairs_of (moves_forth l.blocks (blocks_in l.all)) (take l.b-index l.numbers)) × (as_pairs l.ways.back.items ≡ pairs_of (moves_back l.blocks (blocks_in l.all)) (take l.b-index l.numbers))
