@@ -1,13 +1,14 @@
 -- The step that keeps a list at a vertex, and a board at its start.
-use Rattle.std.proofs.Common.{◌≡◌, ℕ, List, [], ◌∷◌, length, map, slice_index_or, slice_set, Option, None, Some, refl, sym, ap, ◌∙◌, subst, All}
-use Rattle.std.proofs.lemmas.List.{set-set, set-get_or}
+use Rattle.std.proofs.Common.{◌≡◌, ℕ, List, [], ◌∷◌, length, map, slice_index_or, slice_set, replicate, Option, None, Some, refl, sym, ap, ◌∙◌, subst, arith}
+use Rattle.std.proofs.lemmas.List.{set-set, set-get_or, length-replicate}
 use Rattle.std.proofs.lemmas.List.Elements.{All-nil}
+use Rattle.undo_log.specs.History.{History as UndoHistory}
 use Rattle.undo_log.specs.declared.step.BlockMove.{BlockMove}
 use Rattle.undo_log.specs.declared.step.CutChange.{CutChange}
 use Rattle.undo_log.specs.declared.step.Step.TheVariants.{Moves}
 use Rattle.spqr_session.specs.Embedded.{BlockView, view_tree}
-use Rattle.spqr_session.specs.History.{IsMoveOf}
-use Rattle.spqr_session.specs.Board.{kept_on, LeadsTo}
+use Rattle.spqr_session.specs.History.{IsMoveOf, IsStepOf, IsHistory}
+use Rattle.spqr_session.specs.Board.{HavePlaces, IsBoard, kept_on, LeadsTo}
 use Rattle.spqr_session.specs.Wholes.{kept_arranged}
 
 -- it leads from what is kept to what is kept with the list
@@ -21,3 +22,13 @@ arranged-leads views lists v l forth back cuts ef eb ec =
   where
     change : List CutChange
     change = record { vertex = v; before = slice_index_or lists v None; after = Some l } ∷ []
+
+-- a board without changes
+pub board-start : (views : List BlockView) (n : ℕ) (lists : List (Option (List ℕ))) (log : UndoHistory) → log.steps ≡ [] → log.cursor ≡ 0 → lists ≡ replicate n None → HavePlaces (map view_tree views) n → IsBoard views lists log
+board-start views n lists log es ec el places = (
+  subst (IsHistory (map view_tree views) (kept_on views lists)) (sym same) (record { cursor = omega arith; steps = All-nil (IsStepOf (map view_tree views)); between = record { before_returns = tt; after_returns = tt } }),
+  subst (HavePlaces (map view_tree views)) (sym (ap (λ (l : List (Option (List ℕ))). length l) el ∙ length-replicate n None)) places,
+)
+  where
+    same : log ≡ record { steps = []; cursor = 0; room = log.room }
+    same = λ i. record { steps = es i; cursor = ec i; room = log.room }

@@ -49,11 +49,9 @@ impl Board {
         requires { HavePlaces (map view_tree blocks.items) n }
         ensures { IfOk result (λ board. board ≡ record { views = blocks.items; lists = replicate n None; earlier = []; later = [] }) }
     {
-        Ok(Board {
-            blocks,
-            lists: KeptLists::none(alloc, n)?,
-            log: UndoLog::new(alloc),
-        })
+        let lists = KeptLists::none(alloc, n)?;
+        let log = UndoLog::new(alloc);
+        Ok(Board { blocks, lists, log })
     }
 
     /// The blocks.

@@ -1,8 +1,5 @@
-use Rattle.std.proofs.Common.{ℕ, List, Option, map, length, replicate, None, sym, ap, ◌∙◌, subst}
-use Rattle.std.proofs.lemmas.List.{length-replicate}
-use Rattle.spqr_session.specs.Embedded.{view_tree}
-use Rattle.spqr_session.specs.Board.{HavePlaces}
+use Rattle.spqr_session.proofs.BoardArranged.{board-start}
 use Rattle.spqr_session.proofs.board.Board.of.Goals as goal
 
 pub invariant_of-result : goal.invariant_of-result
-invariant_of-result c = ?
+invariant_of-result c = board-start c.args.blocks.items c.args.n c.in_ok-lists.lists c.new-log.result c.new-log.ensures.steps c.new-log.ensures.cursor (c.in_ok-lists.ensures {u = tt}) c.requires
