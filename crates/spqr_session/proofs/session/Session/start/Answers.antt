@@ -25,7 +25,7 @@ of-requires g c =
     let structure = c.in_ok-blocks.blocks in
     let views = c.take_starts.new.embedded.items in
     let graph = sound_graph c.args.doc n c.requires in
-    subst (HavePlaces (map view_tree views)) (sym (c.vertex_count.ensures ∙ ap (λ (x : Multigraph). x.vertex_count) c.graph-3.ensures.value))
+    subst (HavePlaces (map view_tree views)) (sym (c.vertex_count.ensures.value ∙ ap (λ (x : Multigraph). x.vertex_count) c.graph-3.ensures.value))
     (places-start n.graph structure.blocks (map view_tree views) graph.0 (start-trees n.start n.graph structure.blocks views c.in_ok-take_starts.ensures.started))
 
 pub invariant_of-result : goal.invariant_of-result
