@@ -200,12 +200,7 @@ fn in_block(alloc: Global, b: u32, moves: MoveList) -> Result<BlockMoves, AllocE
 }
 
 // The moves from block b in the plane to another of the same graph and tree.
-fn moves_to(
-    alloc: Global,
-    b: u32,
-    p: &PlaneBlock,
-    q: &PlaneBlock,
-) -> Result<BlockMoves, AllocError>
+fn moves_to(alloc: Global, b: u32, p: &PlaneBlock, q: &PlaneBlock) -> Result<BlockMoves, AllocError>
     requires graph { q.now.graph ≡ p.now.graph }
     requires tree { q.now.tree ≡ p.now.tree }
     ensures { IfOk result (λ pairs. as_pairs pairs

@@ -131,10 +131,7 @@ fn share(list: &Arrangement) -> Result<Arrangement, AllocError>
 }
 
 // The lists that changes leave at their vertices.
-fn afters(
-    alloc: Global,
-    cuts: &CutChanges,
-) -> Result<Vec<(u32, Arrangement)>, AllocError>
+fn afters(alloc: Global, cuts: &CutChanges) -> Result<Vec<(u32, Arrangement)>, AllocError>
     ensures { IfOk result (λ lists. lists.items ≡ map list_after cuts.now) }
 {
     let mut lists = Vec::new(alloc);
@@ -145,10 +142,7 @@ fn afters(
 }
 
 // The lists that were there before changes.
-fn befores(
-    alloc: Global,
-    cuts: &CutChanges,
-) -> Result<Vec<(u32, Arrangement)>, AllocError>
+fn befores(alloc: Global, cuts: &CutChanges) -> Result<Vec<(u32, Arrangement)>, AllocError>
     ensures { IfOk result (λ lists. lists.items ≡ map list_before cuts.now) }
 {
     let mut lists = Vec::new(alloc);
@@ -159,10 +153,7 @@ fn befores(
 }
 
 /// The lists that a step sets at vertices.
-pub(crate) fn lists_after(
-    alloc: Global,
-    step: &Step,
-) -> Result<Vec<(u32, Arrangement)>, AllocError>
+pub(crate) fn lists_after(alloc: Global, step: &Step) -> Result<Vec<(u32, Arrangement)>, AllocError>
     ensures { IfOk result (λ lists. lists.items ≡ lists_after step.now) }
 {
     match step {
