@@ -9,11 +9,12 @@
 //
 // What is promised: at the start the current rotation system of each planar block is the one that the file gives, by the order of the
 // edges at each vertex; where the file gives none it is the first of the plane ones, by the choices of the nodes of its tree
-// (Di Battista and Tamassia 1996), and each cut vertex has its first arrangement. A file is refused exactly where what it gives for a planar block is not plane. The head says of
-// each block that it is planar exactly where it has a plane rotation system. A command is refused exactly where a code applies, by
-// the lowest that does, and then changes nothing. Each command has an answer in each state, and one only but for `longest`, whose
-// moves may lead to any of the longest faces, and `draw`, whose points may be any drawing on the grid; there is one report on a
-// setting and commands as far as these agree. Without memory a session stays as it was.
+// (Di Battista and Tamassia 1996), and each cut vertex has its first arrangement. A file is refused exactly where what it gives
+// for a planar block is not plane. The head says of each block that it is planar exactly where it has a plane rotation system. A
+// command is refused exactly where a code applies, by the lowest that does, and then changes nothing. Each command has an answer
+// in each state, and one only but for `longest`, whose moves may lead to any of the longest faces, and `draw`, whose points may
+// be any drawing on the grid; there is one report on a setting and commands as far as these agree. Without memory a session stays
+// as it was.
 //
 // `flip`, `permute` and `mirror` change a block in place. Their moves are of different nodes, and a move changes the choice of its
 // node alone, so each is taken back by one move to the choice that was there before, in any order: room for these is reserved
