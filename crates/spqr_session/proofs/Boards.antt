@@ -9,7 +9,7 @@ use Rattle.spqr_session.specs.Trees.{BlockTree}
 use Rattle.spqr_session.specs.Kept.{Kept}
 use Rattle.spqr_session.specs.Embedded.{BlockView, view_tree}
 use Rattle.spqr_session.specs.History.{walk, IsBetween, redone, undone, lists_before, lists_after, steps_before, steps_after, IsStepOf, IsHistory}
-use Rattle.spqr_session.specs.Board.{kept_on, kept_now, board_view, HavePlaces, IsBoard, IsCarried, GoesTo, LeadsTo, IsUndone, IsRedone}
+use Rattle.spqr_session.specs.Board.{kept_on, board_view, HavePlaces, IsBoard, IsCarried, GoesTo, LeadsTo, IsUndone, IsRedone}
 use Rattle.spqr_session.proofs.ListsSet.{set-length}
 use Rattle.spqr_session.proofs.Walks.{step-back, step-forth, step-new, walk-new}
 

@@ -309,12 +309,7 @@ fn no_moves(alloc: Global) -> BlockMoves
 }
 
 // The step that keeps a list at vertex v.
-fn arranging(
-    alloc: Global,
-    lists: &KeptLists,
-    v: u32,
-    list: Numbers,
-) -> Result<Step, AllocError>
+fn arranging(alloc: Global, lists: &KeptLists, v: u32, list: Numbers) -> Result<Step, AllocError>
     ensures { (views : List BlockView) → IfOk result
         (LeadsTo views lists.now (kept_arranged views lists.now v list)) }
 {
